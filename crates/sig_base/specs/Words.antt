@@ -1,0 +1,33 @@
+-- Which bytes make words, and which words are names.
+use Rattle.std.specs.Prelude.{ℕ, Bool, true, false, List, [], ◌∷◌, length, codes, not, nat_le, ◌==◌, ◌&&◌, ◌||◌}
+use Rattle.std.specs.Char.{is_ascii_alphabetic, is_ascii_alphanumeric}
+use Rattle.std.specs.List.{list_all, list_any}
+use Rattle.std.specs.Str.{bytes_eq}
+
+-- what may stand between the words of a line: a space or a tab
+abbrev pub is_blank : ℕ → Bool
+is_blank b = b == 32 || b == 9
+
+-- a letter or `_`
+abbrev pub begins_word : ℕ → Bool
+begins_word b = is_ascii_alphabetic b || b == 95
+
+-- a letter, a digit or `_`
+abbrev pub in_word : ℕ → Bool
+in_word b = is_ascii_alphanumeric b || b == 95
+
+-- words of formulas and commands that are no names
+unfoldable pub is_reserved : List ℕ → Bool
+is_reserved w = bytes_eq w (codes "and") || bytes_eq w (codes "or") || bytes_eq w (codes "not") || bytes_eq w (codes "if")
+    || bytes_eq w (codes "then") || bytes_eq w (codes "else") || bytes_eq w (codes "true") || bytes_eq w (codes "false")
+    || bytes_eq w (codes "count") || bytes_eq w (codes "sum") || bytes_eq w (codes "keep") || bytes_eq w (codes "it")
+    || bytes_eq w (codes "untrack") || bytes_eq w (codes "host") || bytes_eq w (codes "in") || bytes_eq w (codes "equals")
+
+-- a word: a letter or `_`, then letters, digits and `_`
+abbrev pub is_word : List ℕ → Bool
+is_word [] = false
+is_word (b ∷ bs) = begins_word b && list_all in_word (b ∷ bs)
+
+-- a word of at most 32 bytes that isn't reserved
+unfoldable pub is_name : List ℕ → Bool
+is_name w = is_word w && nat_le (length w) 32 && not (is_reserved w)

@@ -1,0 +1,163 @@
+// The names of a script.
+ghost use Rattle.std.specs.Hash as fed;
+ghost use Rattle.std.specs.Prelude.{◌≡◌, IfOk, IsErrOf, true, false};
+ghost use Rattle.std.specs.List.{list_all};
+ghost use Rattle.std.specs.Str.{bytes_eq};
+ghost use Rattle.std.specs.Cmp.Rules.{comparing, hashing};
+ghost use Rattle.std.proofs.Common.{rules};
+ghost use Rattle.sig_base.specs.declared.name.NameFault.TheVariants as fault;
+ghost use Rattle.sig_base.specs.Words.{in_word as word_byte, begins_word as word_start, is_name as name_test, is_reserved as reserved_test};
+
+use crate::NoMemory;
+use std::alloc::{AllocError, Global};
+use std::hash::{Hash, Hasher};
+use std::marker::Model;
+use std::rc::RcStr;
+use thiserror::Error;
+
+/// The most bytes that a name has.
+pub const MOST_NAME: usize = 32;
+
+/// Why there is no such name.
+#[derive(Clone, Copy, Debug, PartialEq, Eq, Error)]
+pub enum NameFault {
+    #[error("the text is no name")]
+    Bad,
+    #[error(transparent)]
+    NoMemory(NoMemory),
+}
+
+impl From<AllocError> for NameFault {
+    ghost from_gives = { λ _ e. e ≡ fault.NoMemory (record {}) };
+
+    fn from(_: AllocError) -> Self {
+        NameFault::NoMemory(NoMemory)
+    }
+}
+
+/// A name of a script. Its copies share the bytes.
+#[derive(Debug, Drop)]
+pub struct Name {
+    shared: RcStr,
+}
+
+impl Model for Name {
+    ghost use Rattle.std.specs.Prelude.{List, ℕ};
+    ghost use Rattle.std.specs.Rc.{rc_str_bytes};
+
+    ghost Value = { List ℕ };
+
+    ghost view = { λ n. rc_str_bytes n.shared };
+}
+
+fn begins_word(b: u8) -> bool
+    ensures { result ≡ word_start b }
+{
+    b.is_ascii_alphabetic() || b == b'_'
+}
+
+fn in_word(b: u8) -> bool
+    ensures { result ≡ word_byte b }
+{
+    b.is_ascii_alphanumeric() || b == b'_'
+}
+
+fn are_in_word(bytes: &[u8]) -> bool
+    ensures { result ≡ list_all word_byte bytes.now }
+{
+    bytes.iter().all(|b| in_word(*b))
+}
+
+#[tactic(auto, unfolding(crate::specs::Words::is_reserved))]
+fn is_reserved(text: &str) -> bool
+    ensures { result ≡ reserved_test text.now }
+{
+    matches!(
+        text,
+        "and"
+            | "or"
+            | "not"
+            | "if"
+            | "then"
+            | "else"
+            | "true"
+            | "false"
+            | "count"
+            | "sum"
+            | "keep"
+            | "it"
+            | "untrack"
+            | "host"
+            | "in"
+            | "equals"
+    )
+}
+
+// Whether the text is a name.
+#[tactic(auto, unfolding(crate::specs::Words::is_name))]
+fn is_name(text: &str) -> bool
+    ensures { result ≡ name_test text.now }
+{
+    let bytes = text.as_bytes();
+    !bytes.is_empty()
+        && begins_word(bytes[0])
+        && are_in_word(bytes)
+        && bytes.len() <= MOST_NAME
+        && !is_reserved(text)
+}
+
+impl Name {
+    /// The name of these characters: a word of at most 32 bytes that isn't reserved; otherwise `Bad`.
+    pub fn new(alloc: Global, text: &str) -> Result<Name, NameFault>
+        ensures ok { IfOk result (λ n. n ≡ text.now) }
+        ensures good { IfOk result (λ n. name_test text.now ≡ true) }
+        ensures bad { IsErrOf result NameFault.Bad → name_test text.now ≡ false }
+    {
+        if !is_name(text) {
+            return Err(NameFault::Bad);
+        }
+        Ok(Name {
+            shared: RcStr::from_str(alloc, text)?,
+        })
+    }
+
+    /// Its characters.
+    pub fn as_str(&self) -> &str
+        ensures { result.now ≡ self.now }
+    {
+        self.shared.as_str()
+    }
+
+    /// The same name, which shares the bytes.
+    pub fn copy(&self) -> Result<Name, NoMemory>
+        ensures { IfOk result (λ n. n ≡ self.now) }
+    {
+        Ok(Name {
+            shared: self.shared.clone()?,
+        })
+    }
+}
+
+impl PartialEq for Name {
+    ghost eq = { λ a b. bytes_eq a b };
+
+    ghost laws = { Prim.search (comparing, rules) };
+
+    fn eq(&self, other: &Name) -> bool {
+        self.shared == other.shared
+    }
+}
+
+impl Eq for Name {
+    ghost laws = { Prim.search (comparing, rules) };
+}
+
+impl Hash for Name {
+    ghost hash_input = { λ a. fed.str a };
+
+    ghost respects_eq = { Prim.search (hashing, rules) };
+
+    fn hash<H: Hasher>(&self, state: &mut H) {
+        self.shared.hash(state);
+    }
+}

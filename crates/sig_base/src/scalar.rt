@@ -1,0 +1,43 @@
+// Values of one piece.
+ghost use Rattle.std.specs.Prelude.{◌≡◌, ◌++◌, IfOk, OnOk};
+ghost use Rattle.sig_base.specs.Scalars.{shown_text};
+
+use crate::{NoMemory, Text};
+use std::alloc::Global;
+
+/// A truth, a whole number or a text.
+#[derive(Debug, Drop)]
+pub enum Scalar {
+    Bool(bool),
+    Int(i64),
+    Text(Text),
+}
+
+impl Scalar {
+    /// The same value.
+    pub fn copy(&self) -> Result<Scalar, NoMemory>
+        ensures { IfOk result (λ s. s ≡ self.now) }
+    {
+        match self {
+            Scalar::Bool(b) => Ok(Scalar::Bool(*b)),
+            Scalar::Int(n) => Ok(Scalar::Int(*n)),
+            Scalar::Text(text) => Ok(Scalar::Text(text.copy()?)),
+        }
+    }
+}
+
+/// Appends the shown text: `true` or `false`, the decimal digits, the text itself.
+pub fn put_shown(alloc: Global, out: &mut Vec<u8>, scalar: &Scalar) -> Result<(), NoMemory>
+    ensures { OnOk result (out.new.items ≡ out.old.items ++ shown_text scalar.now) }
+{
+    match scalar {
+        Scalar::Bool(true) => out.extend_from_slice(b"true")?,
+        Scalar::Bool(false) => out.extend_from_slice(b"false")?,
+        Scalar::Int(n) => {
+            let digits = n.to_string(alloc)?;
+            out.extend_from_slice(digits.as_bytes())?;
+        }
+        Scalar::Text(text) => out.extend_from_slice(text.as_str().as_bytes())?,
+    }
+    Ok(())
+}

@@ -1,0 +1,105 @@
+// A text that shares its bytes.
+ghost use Rattle.std.specs.Hash as fed;
+ghost use Rattle.std.specs.Prelude.{◌≡◌, ◌<◌, ◌≤◌, ◌↔◌, length, IfOk, IsErrOf};
+ghost use Rattle.std.specs.Str.{bytes_eq};
+ghost use Rattle.std.specs.Cmp.Rules.{comparing, hashing};
+ghost use Rattle.std.proofs.Common.{rules};
+ghost use Rattle.sig_base.specs.declared.text.TextFault.TheVariants as fault;
+
+use crate::NoMemory;
+use std::alloc::{AllocError, Global};
+use std::hash::{Hash, Hasher};
+use std::marker::Model;
+use std::rc::RcStr;
+use thiserror::Error;
+
+/// The most bytes that a text has.
+pub const MOST_TEXT: usize = 1024;
+
+/// Why there is no such text.
+#[derive(Clone, Copy, Debug, PartialEq, Eq, Error)]
+pub enum TextFault {
+    #[error("a text has more than 1,024 bytes")]
+    Long,
+    #[error(transparent)]
+    NoMemory(NoMemory),
+}
+
+impl From<AllocError> for TextFault {
+    ghost from_gives = { λ _ e. e ≡ fault.NoMemory (record {}) };
+
+    fn from(_: AllocError) -> Self {
+        TextFault::NoMemory(NoMemory)
+    }
+}
+
+/// A text of at most 1,024 bytes of UTF-8. Its copies share them.
+#[derive(Debug, Drop)]
+pub struct Text {
+    shared: RcStr,
+}
+
+impl Model for Text {
+    ghost use Rattle.std.specs.Prelude.{List, ℕ};
+    ghost use Rattle.std.specs.Rc.{rc_str_bytes};
+
+    ghost Value = { List ℕ };
+
+    ghost view = { λ t. rc_str_bytes t.shared };
+}
+
+impl Text {
+    /// The text of these characters; `Long` exactly where they are more than 1,024 bytes.
+    pub fn new(alloc: Global, text: &str) -> Result<Text, TextFault>
+        ensures ok { IfOk result (λ t. t ≡ text.now) }
+        ensures short { IfOk result (λ t. length text.now ≤ 1024) }
+        ensures long { IsErrOf result TextFault.Long → 1024 < length text.now }
+    {
+        if text.len() > MOST_TEXT {
+            return Err(TextFault::Long);
+        }
+        Ok(Text {
+            shared: RcStr::from_str(alloc, text)?,
+        })
+    }
+
+    /// Its characters.
+    pub fn as_str(&self) -> &str
+        ensures { result.now ≡ self.now }
+    {
+        self.shared.as_str()
+    }
+
+    /// The same text, which shares the bytes.
+    pub fn copy(&self) -> Result<Text, NoMemory>
+        ensures { IfOk result (λ t. t ≡ self.now) }
+    {
+        Ok(Text {
+            shared: self.shared.clone()?,
+        })
+    }
+}
+
+impl PartialEq for Text {
+    ghost eq = { λ a b. bytes_eq a b };
+
+    ghost laws = { Prim.search (comparing, rules) };
+
+    fn eq(&self, other: &Text) -> bool {
+        self.shared == other.shared
+    }
+}
+
+impl Eq for Text {
+    ghost laws = { Prim.search (comparing, rules) };
+}
+
+impl Hash for Text {
+    ghost hash_input = { λ a. fed.str a };
+
+    ghost respects_eq = { Prim.search (hashing, rules) };
+
+    fn hash<H: Hasher>(&self, state: &mut H) {
+        self.shared.hash(state);
+    }
+}
