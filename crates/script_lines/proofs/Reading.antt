@@ -5,7 +5,7 @@ use Rattle.std.specs.List.{onto_first, position_or_len}
 use Rattle.std.proofs.lemmas.Bool.{cases_Bool, eq-eqb, ne_eqb}
 use Rattle.std.proofs.lemmas.List.{drop-drop, drop_all}
 use Rattle.script_lines.specs.Lines.{NumberedLine, lines, numbered, is_line_feed}
-use Rattle.script_lines.specs.Pieces.{Piece, outside, inside, begins_block, opens, closes, level_after, pieces, pieces_of}
+use Rattle.script_lines.specs.Pieces.{outside, inside, begins_block, opens, closes, level_after, pieces}
 
 -- no bytes have no lines
 pub lines_nil : lines [] ≡ []

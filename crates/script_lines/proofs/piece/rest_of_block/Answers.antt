@@ -1,4 +1,4 @@
-use Rattle.std.proofs.Common.{◌≡◌, arith, ◌+◌, ℕ, List, [], ◌∷◌, ◌++◌, true, drop, length, length-append, map, sym, ap, ◌∙◌}
+use Rattle.std.proofs.Common.{arith, ◌+◌, ℕ, List, [], ◌∷◌, ◌++◌, true, drop, length, length-append, map, sym, ap, ◌∙◌}
 use Rattle.std.proofs.lemmas.List.{map-append}
 use Rattle.script_lines.specs.Lines.{NumberedLine, lines, numbered}
 use Rattle.script_lines.specs.Pieces.{Piece, inside, outside, pieces}
