@@ -1,0 +1,4 @@
+pub mod Machine
+pub mod Output
+pub mod Pages
+pub mod Uses

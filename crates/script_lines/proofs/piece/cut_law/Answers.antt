@@ -1,0 +1,5 @@
+use Rattle.script_lines.proofs.Cutting.{script_cut}
+use Rattle.script_lines.proofs.piece.cut_law.Goals as goal
+
+pub returns : goal.returns
+returns c = script_cut

@@ -1,0 +1,139 @@
+// The lines of each command of a script.
+ghost use Rattle.std.specs.Prelude.{◌≡◌, ℕ, List, ◌∷◌, ◌++◌, ◌+◌, ◌-◌, ◌<◌, ◌≤◌, ◌^◌, [], length, drop, map, MatchOption, IfSome, IfOk};
+ghost use Rattle.script_lines.specs.Lines.{EndsLine, lines, numbered};
+ghost use Rattle.script_lines.specs.Pieces.{outside, inside, level_after, pieces, pieces_of, place_after};
+ghost use Rattle.script_lines.specs.Views.{line_of, piece_of};
+
+use crate::line::{NumberedLine, next_line};
+use crate::word::{begins_block, closes, opens};
+use sig_base::NoMemory;
+use std::alloc::Global;
+
+/// The lines of a command, and whether its end is there.
+#[derive(Debug, Drop)]
+pub struct Piece<'a> {
+    pub ended: bool,
+    pub lines: Vec<NumberedLine<'a>>,
+}
+
+fn level_after(level: usize, line: &[u8]) -> usize
+    requires some { 0 < level }
+    requires few { level < 2 ^ 63 }
+    ensures { result ≡ level_after level line.now }
+{
+    if opens(line) {
+        level + 1
+    } else if closes(line) {
+        level - 1
+    } else {
+        level
+    }
+}
+
+// The block whose first line came last: its lines, the place after it, and the number of the line there.
+fn rest_of_block<'a>(
+    script: &'a [u8],
+    start: usize,
+    number: u32,
+    begun: Vec<NumberedLine<'a>>,
+) -> Result<(Piece<'a>, usize, u32), NoMemory>
+    requires at { start ≤ length script.now }
+    requires count { number + (length script.now - start) < 2 ^ 32 }
+    ensures within { IfOk result (λ x. (start ≤ x.1) × (x.1 ≤ length script.now)) }
+    ensures count { IfOk result (λ x. x.2 ≤ number + (x.1 - start)) }
+    ensures lines { IfOk result (λ x. length begun.entry.items ≤ length x.0.lines.items) }
+    ensures piece { IfOk result (λ x. pieces (inside 1 (map line_of begun.entry.items)) (numbered number (lines (drop start script.now)))
+        ≡ piece_of x.0 ∷ pieces_of x.2 (drop x.1 script.now)) }
+{
+    let mut lines = begun;
+    let mut at = start;
+    let mut line = number;
+    let mut level: usize = 1;
+    while let Some((text, next)) = next_line(script, at) {
+        lines.push(NumberedLine { number: line, text })?;
+        level = level_after(level, text);
+        at = next;
+        line += 1;
+        if level == 0 {
+            return Ok((Piece { ended: true, lines }, at, line));
+        }
+    }
+    Ok((
+        Piece {
+            ended: false,
+            lines,
+        },
+        at,
+        line,
+    ))
+}
+
+/// The lines of the command that begins at a byte, the place after them, and the number of the line there. The byte
+/// begins a line of this number; `None` exactly where nothing is left.
+///
+/// A command is one line, or a block: from a line whose first word is `effect` or `template` to the `end` that closes
+/// it, where `effect`, `when`, `tag`, `if` and `each` open a level and `end` closes one, whatever the rest of the line
+/// says. A block that the script's end cuts off isn't `ended`. `NoMemory` where the lines find no room.
+pub fn next_piece(
+    alloc: Global,
+    script: &[u8],
+    at: usize,
+    line: u32,
+) -> Result<Option<(Piece<'_>, usize, u32)>, NoMemory>
+    requires at { at ≤ length script.now }
+    requires count { line + (length script.now - at) < 2 ^ 32 }
+    ensures within { IfOk result (λ found. IfSome found (λ x. (at < x.1) × (x.1 ≤ length script.now))) }
+    ensures count { IfOk result (λ found. IfSome found (λ x. x.2 ≤ line + (x.1 - at))) }
+    ensures lines { IfOk result (λ found. IfSome found (λ x. 0 < length x.0.lines.items)) }
+    ensures piece { IfOk result (λ found. MatchOption found (pieces_of line (drop at script.now) ≡ [])
+        (λ x. pieces_of line (drop at script.now) ≡ piece_of x.0 ∷ pieces_of x.2 (drop x.1 script.now))) }
+{
+    let Some((text, next)) = next_line(script, at) else {
+        return Ok(None);
+    };
+    let mut lines = Vec::new(alloc);
+    lines.push(NumberedLine { number: line, text })?;
+    if begins_block(text) {
+        return Ok(Some(rest_of_block(script, next, line + 1, lines)?));
+    }
+    Ok(Some((Piece { ended: true, lines }, next, line + 1)))
+}
+
+/// A script may be cut after a line, outside a block: its pieces are those of the two parts in turn.
+pub fn cut_law()
+    ensures { (n : ℕ) (x y : List ℕ) → EndsLine x → place_after outside (numbered n (lines x)) ≡ outside
+        → pieces_of n (x ++ y) ≡ pieces_of n x ++ pieces_of (n + length (lines x)) y }
+{}
+
+#[cfg(test)]
+mod tests {
+    use super::next_piece;
+    use sig_base::NoMemory;
+    use std::alloc::Global;
+
+    // Whether the first command has its end, how many lines it has, and what stands after it.
+    fn shape(alloc: Global, script: &[u8]) -> Result<Option<(bool, usize, usize, u32)>, NoMemory> {
+        if script.len() > 100 {
+            return Ok(None);
+        }
+        let found = next_piece(alloc, script, 0, 1)?;
+        Ok(found.map(|(piece, at, line)| (piece.ended, piece.lines.len(), at, line)))
+    }
+
+    #[test]
+    fn reads_a_nested_block(rt: HostRuntime) {
+        let script = b"template t\n  tag p\n    text a\n  end\nend\nflush\n";
+        assert!(rt; shape(rt.alloc(), script) == Ok(Some((true, 5, 40, 6))));
+    }
+
+    #[test]
+    fn reads_an_unended_block(rt: HostRuntime) {
+        assert!(rt; shape(rt.alloc(), b"effect e\nwhen a") == Ok(Some((false, 2, 15, 3))));
+    }
+
+    #[test]
+    fn reads_lines_alone(rt: HostRuntime) {
+        assert!(rt; shape(rt.alloc(), b"\nflush") == Ok(Some((true, 1, 1, 2))));
+        assert!(rt; shape(rt.alloc(), b"") == Ok(None));
+    }
+}

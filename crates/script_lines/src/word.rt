@@ -1,0 +1,88 @@
+// The first word of a line, and what it says of blocks.
+ghost use Rattle.std.specs.Prelude.{◌≡◌, ◌≤◌, length};
+ghost use Rattle.std.specs.List.{prefix_len};
+ghost use Rattle.sig_base.specs.Words.{is_blank, begins_word, in_word};
+ghost use Rattle.script_lines.specs.Lines.{behind_blanks, first_word};
+ghost use Rattle.script_lines.specs.Pieces.{begins_block, opens, closes};
+
+fn is_blank(b: u8) -> bool
+    ensures { result ≡ is_blank b }
+{
+    b == b' ' || b == b'\t'
+}
+
+fn begins_word(b: u8) -> bool
+    ensures { result ≡ begins_word b }
+{
+    b.is_ascii_alphabetic() || b == b'_'
+}
+
+fn in_word(b: u8) -> bool
+    ensures { result ≡ in_word b }
+{
+    b.is_ascii_alphanumeric() || b == b'_'
+}
+
+// The bytes behind the blanks at the front.
+fn behind_blanks(line: &[u8]) -> &[u8]
+    ensures { result.now ≡ behind_blanks line.now }
+{
+    let mut rest = line;
+    while !rest.is_empty() && is_blank(rest[0]) {
+        rest = &rest[1..];
+    }
+    rest
+}
+
+// How many bytes at the front may stand in a word.
+fn word_len(bytes: &[u8]) -> usize
+    ensures within { result ≤ length bytes.now }
+    ensures count { result ≡ prefix_len in_word bytes.now }
+{
+    let mut n = 0;
+    while n < bytes.len() && in_word(bytes[n]) {
+        n += 1;
+    }
+    n
+}
+
+// The line's first word, behind blanks; nothing where it begins with none.
+fn first_word(line: &[u8]) -> &[u8]
+    ensures { result.now ≡ first_word line.now }
+{
+    let rest = behind_blanks(line);
+    if rest.is_empty() || !begins_word(rest[0]) {
+        return &[];
+    }
+    &rest[..word_len(rest)]
+}
+
+// Whether a line outside a block begins one.
+#[tactic(auto, unfolding(crate::specs::Pieces::begins_block))]
+pub(crate) fn begins_block(line: &[u8]) -> bool
+    ensures { result ≡ begins_block line.now }
+{
+    let word = first_word(line);
+    word == b"effect".as_slice() || word == b"template".as_slice()
+}
+
+// Whether a line inside a block opens a level.
+#[tactic(auto, unfolding(crate::specs::Pieces::opens))]
+pub(crate) fn opens(line: &[u8]) -> bool
+    ensures { result ≡ opens line.now }
+{
+    let word = first_word(line);
+    word == b"effect".as_slice()
+        || word == b"when".as_slice()
+        || word == b"tag".as_slice()
+        || word == b"if".as_slice()
+        || word == b"each".as_slice()
+}
+
+// Whether a line inside a block closes a level.
+#[tactic(auto, unfolding(crate::specs::Pieces::closes))]
+pub(crate) fn closes(line: &[u8]) -> bool
+    ensures { result ≡ closes line.now }
+{
+    first_word(line) == b"end".as_slice()
+}
