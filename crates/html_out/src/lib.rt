@@ -1,0 +1,10 @@
+//! HTML's names and the escaping of texts and of attribute values.
+#![tactic(auto)]
+
+mod escaping;
+mod names;
+#[cfg(test)]
+mod tests;
+
+pub use escaping::{put_attr, put_text};
+pub use names::{MOST_HTML_NAME, good_name, is_raw, is_void};
