@@ -1,2 +1,5 @@
+pub mod Printing
 pub mod Scalars
+pub mod Tables
+pub mod Values
 pub mod Words

@@ -1,6 +1,8 @@
 // Values of one piece.
 ghost use Rattle.std.specs.Prelude.{◌≡◌, ◌++◌, IfOk, OnOk};
-ghost use Rattle.sig_base.specs.Scalars.{shown_text};
+ghost use Rattle.sig_base.specs.Scalars.{same_scalar, shown_text};
+ghost use Rattle.std.specs.Cmp.{decided, partial_equiv_from_equiv};
+ghost use Rattle.sig_base.specs.Scalars.{same_scalar-Decides};
 
 use crate::{NoMemory, Text};
 use std::alloc::Global;
@@ -24,6 +26,25 @@ impl Scalar {
             Scalar::Text(text) => Ok(Scalar::Text(text.copy()?)),
         }
     }
+}
+
+impl PartialEq for Scalar {
+    ghost eq = { same_scalar };
+
+    ghost laws = { partial_equiv_from_equiv (decided same_scalar same_scalar-Decides) };
+
+    fn eq(&self, other: &Scalar) -> bool {
+        match (self, other) {
+            (Scalar::Bool(p), Scalar::Bool(q)) => p == q,
+            (Scalar::Int(m), Scalar::Int(n)) => m == n,
+            (Scalar::Text(s), Scalar::Text(t)) => s == t,
+            _ => false,
+        }
+    }
+}
+
+impl Eq for Scalar {
+    ghost laws = { decided same_scalar same_scalar-Decides };
 }
 
 /// Appends the shown text: `true` or `false`, the decimal digits, the text itself.
