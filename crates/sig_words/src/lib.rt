@@ -1,0 +1,11 @@
+//! The tokens of one line of a script: words, tags, numbers, texts and symbols.
+#![tactic(auto)]
+
+mod bytes;
+mod line;
+mod number;
+mod scan;
+mod token;
+
+pub use line::{LineFault, MOST_LINE, one_cutting, tokens};
+pub use token::{Token, TokenKind};
