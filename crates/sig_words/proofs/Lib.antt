@@ -1,3 +1,5 @@
 pub mod Cuttings
+pub mod EachToken
 pub mod Fronts
+pub mod LexemeLaws
 pub mod Numbers

@@ -94,6 +94,13 @@ pub record StandsAt (line : List ℕ) (from : ℕ) (t : Token) : Type 0 where
   pub blanks : list_all is_blank (take (t.start - from) (drop from line)) ≡ true
   pub token : IsToken (may_sign line t.start) t.kind (text_at line t) (drop t.end line)
 
+-- a token of this line, which is UTF-8
+pub record IsTokenOf (line : List ℕ) (t : Token) : Type 0 where
+  pub utf8 : IsUtf8 line
+  pub some : t.start < t.end
+  pub within : t.end ≤ length line
+  pub token : IsToken (may_sign line t.start) t.kind (text_at line t) (drop t.end line)
+
 -- the tokens from a place on, up to a place where the last one ended
 abbrev pub Cuts : List ℕ → ℕ → List Token → ℕ → Type 0
 Cuts line from [] to = from ≡ to

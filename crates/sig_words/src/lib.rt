@@ -8,4 +8,4 @@ mod scan;
 mod token;
 
 pub use line::{LineFault, MOST_LINE, one_cutting, tokens};
-pub use token::{Token, TokenKind};
+pub use token::{Token, TokenKind, token_bytes};
