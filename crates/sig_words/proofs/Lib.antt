@@ -2,4 +2,5 @@ pub mod Cuttings
 pub mod EachToken
 pub mod Fronts
 pub mod LexemeLaws
+pub mod LiteralLaws
 pub mod Numbers

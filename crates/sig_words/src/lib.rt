@@ -4,8 +4,10 @@
 mod bytes;
 mod line;
 mod number;
+mod quotes;
 mod scan;
 mod token;
 
 pub use line::{LineFault, MOST_LINE, one_cutting, tokens};
+pub use quotes::{each_character_is_written, literal};
 pub use token::{Token, TokenKind, token_bytes};
