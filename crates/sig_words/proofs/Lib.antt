@@ -1,0 +1,6 @@
+pub mod Cuttings
+pub mod EachToken
+pub mod Fronts
+pub mod LexemeLaws
+pub mod LiteralLaws
+pub mod Numbers

@@ -1,0 +1,74 @@
+// The texts that literals stand for.
+ghost use Rattle.std.specs.Prelude.{◌≡◌, ◌<◌, ◌≤◌, ℕ, List, IfOk, IsErrOf, length, string_bytes, false};
+ghost use Rattle.std.specs.List.{flat_map};
+ghost use Rattle.sig_words.specs.Lexemes.{text_at};
+ghost use Rattle.sig_words.specs.Literals.{between_quotes as inner_of, meaning, plain, quoted, text_of};
+ghost use Rattle.sig_words.specs.Tokens.{IsTokenOf};
+
+use crate::token::{Token, TokenKind, token_bytes};
+use sig_base::{Text, TextFault};
+use std::alloc::{AllocError, Global};
+use std::str;
+
+// The character that stands behind a backslash for another.
+fn meaning(c: char) -> char
+    ensures { result ≡ meaning c }
+{
+    match c {
+        'n' => '\n',
+        'r' => '\r',
+        't' => '\t',
+        _ => c,
+    }
+}
+
+// What the text between quotes stands for.
+#[tactic(auto, using(std::proofs::lemmas::Str::chars_from_encodes), unfolding(crate::specs::Literals::text_of))]
+fn unescape(alloc: Global, inner: &str) -> Result<String, AllocError>
+    ensures { IfOk result (λ s. string_bytes s ≡ text_of inner.now) }
+{
+    let mut out = String::new(alloc);
+    let mut behind = false;
+    for c in inner.chars() {
+        if behind {
+            out.push(meaning(c))?;
+            behind = false;
+        } else if c == '\\' {
+            behind = true;
+        } else {
+            out.push(c)?;
+        }
+    }
+    Ok(out)
+}
+
+#[tactic(auto, unfolding(crate::specs::Literals::between_quotes))]
+fn between_quotes(text: &[u8]) -> &[u8]
+    ensures { result.now ≡ inner_of text.now }
+{
+    match text {
+        [_, inner @ .., _] => inner,
+        _ => &[],
+    }
+}
+
+/// The text that a literal of this line stands for: `\\`, `\"`, `\n`, `\r` and `\t` between the quotes stand for a backslash,
+/// a quote, LF, CR and a tab, and each other character stands for itself. `Long` where it has more than 1,024 bytes.
+pub fn literal(alloc: Global, line: &[u8], token: &Token) -> Result<Text, TextFault>
+    requires of_line { IsTokenOf line.now token.now }
+    requires is_literal { token.now.kind ≡ TokenKind.Literal }
+    ensures ok { IfOk result (λ t. t ≡ text_of (inner_of (text_at line.now token.now))) }
+    ensures short { IfOk result (λ t. length (text_of (inner_of (text_at line.now token.now))) ≤ 1024) }
+    ensures long { IsErrOf result TextFault.Long → 1024 < length (text_of (inner_of (text_at line.now token.now))) }
+{
+    let Ok(inner) = str::from_utf8(between_quotes(token_bytes(line, token))) else {
+        unreachable!()
+    };
+    let value = unescape(alloc, inner)?;
+    Text::new(alloc, value.as_str())
+}
+
+/// Each character can be written between quotes: a backslash, a quote, LF, CR and a tab with a backslash, any other as it is.
+pub fn each_character_is_written()
+    ensures { (cs : List ℕ) → plain false (flat_map quoted cs) ≡ cs }
+{}

@@ -1,0 +1,36 @@
+// The tokens that a line is cut into.
+ghost use Rattle.std.specs.Prelude.{◌≡◌};
+ghost use Rattle.sig_words.specs.Lexemes.{text_at};
+
+/// What a token is.
+#[derive(Clone, Copy, Debug, PartialEq, Eq)]
+pub enum TokenKind {
+    /// A letter or `_`, then letters, digits and `_`.
+    Word,
+    /// `@`, then the name of a tag.
+    Tag,
+    /// A whole number, in decimal.
+    Number(i64),
+    /// A text between quotes.
+    Literal,
+    /// A mark of one or two bytes.
+    Symbol,
+}
+
+/// A token of a line: the bytes from `start` up to `end`.
+#[derive(Clone, Copy, Debug, PartialEq, Eq)]
+pub struct Token {
+    pub kind: TokenKind,
+    pub start: usize,
+    pub end: usize,
+}
+
+/// The bytes of a token of this line; of a token of another line those that the line has there.
+pub fn token_bytes<'a>(line: &'a [u8], token: &Token) -> &'a [u8]
+    ensures { result.now ≡ text_at line.now token.now }
+{
+    let (_, rest) = line.split_at(token.start.min(line.len()));
+    let len = token.end.saturating_sub(token.start);
+    let (text, _) = rest.split_at(len.min(rest.len()));
+    text
+}
