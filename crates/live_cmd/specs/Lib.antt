@@ -1,1 +1,4 @@
+pub mod Grammar
+pub mod Items
+pub mod Places
 pub mod Printed

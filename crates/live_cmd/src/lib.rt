@@ -3,8 +3,10 @@
 
 mod command;
 mod entry;
+mod line;
 mod refusal;
 
 pub use command::{Command, Item, Names};
 pub use entry::{Entry, PageBytes, entry_line};
+pub use line::Line;
 pub use refusal::Refusal;

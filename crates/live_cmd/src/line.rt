@@ -1,0 +1,22 @@
+// What one line of a script says.
+
+use sig_base::{Name, Scalar};
+
+/// What a line says, by itself: where it may stand is another matter.
+#[derive(Debug, Drop)]
+pub enum Line {
+    /// `cell N = LIT`
+    Cell { name: Name, value: Scalar },
+    /// `set N LIT`
+    Set { name: Name, value: Scalar },
+    /// `template T`, the first line of a block
+    Template(Name),
+    /// `text N`, in a template
+    Text(Name),
+    /// `end`, the last line of a block
+    End,
+    /// `mount P T`
+    Mount { name: Name, template: Name },
+    /// `flush`
+    Flush,
+}
