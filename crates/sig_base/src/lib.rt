@@ -7,6 +7,8 @@ mod name;
 mod print;
 mod rows;
 mod scalar;
+#[cfg(test)]
+mod tests;
 mod text;
 mod value;
 

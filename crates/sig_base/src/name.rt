@@ -1,6 +1,6 @@
 // The names of a script.
 ghost use Rattle.std.specs.Hash as fed;
-ghost use Rattle.std.specs.Prelude.{◌≡◌, IfOk, IsErrOf, true, false};
+ghost use Rattle.std.specs.Prelude.{◌≡◌, length, IfOk, IsErrOf, true, false};
 ghost use Rattle.std.specs.List.{list_all};
 ghost use Rattle.std.specs.Str.{bytes_eq};
 ghost use Rattle.std.specs.Cmp.Rules.{comparing, hashing};
@@ -42,12 +42,15 @@ pub struct Name {
 }
 
 impl Model for Name {
-    ghost use Rattle.std.specs.Prelude.{List, ℕ};
+    ghost use Rattle.std.specs.Prelude.{◌≡◌, List, ℕ, true};
     ghost use Rattle.std.specs.Rc.{rc_str_bytes};
+    ghost use Rattle.sig_base.specs.Words.{is_name};
 
     ghost Value = { List ℕ };
 
     ghost view = { λ n. rc_str_bytes n.shared };
+
+    ghost invariant = { λ n. is_name (rc_str_bytes n.shared) ≡ true };
 }
 
 fn begins_word(b: u8) -> bool
@@ -119,6 +122,14 @@ impl Name {
         Ok(Name {
             shared: RcStr::from_str(alloc, text)?,
         })
+    }
+
+    /// How many bytes it has.
+    pub fn len(&self) -> usize
+        ensures count { result ≡ length self.now }
+        ensures good { name_test self.now ≡ true }
+    {
+        self.shared.as_str().len()
     }
 
     /// Its characters.

@@ -40,12 +40,14 @@ pub struct Text {
 }
 
 impl Model for Text {
-    ghost use Rattle.std.specs.Prelude.{List, ℕ};
+    ghost use Rattle.std.specs.Prelude.{List, ℕ, ◌≤◌, length};
     ghost use Rattle.std.specs.Rc.{rc_str_bytes};
 
     ghost Value = { List ℕ };
 
     ghost view = { λ t. rc_str_bytes t.shared };
+
+    ghost invariant = { λ t. length (rc_str_bytes t.shared) ≤ 1024 };
 }
 
 impl Text {
@@ -61,6 +63,14 @@ impl Text {
         Ok(Text {
             shared: RcStr::from_str(alloc, text)?,
         })
+    }
+
+    /// How many bytes it has.
+    pub fn len(&self) -> usize
+        ensures count { result ≡ length self.now }
+        ensures short { length self.now ≤ 1024 }
+    {
+        self.shared.as_str().len()
     }
 
     /// Its characters.
