@@ -1,9 +1,10 @@
 -- How the lines and the pieces of a script are read from its front.
 use Rattle.std.proofs.Common.{◌≡◌, ℕ, suc, ◌+◌, ◌<◌, ◌≤◌, true, false, List, [], ◌∷◌, ◌++◌, length, take, drop, refl, sym, ap, ◌∙◌, arith, inl, inr}
-use Rattle.std.specs.Prelude.{◌==◌}
-use Rattle.std.specs.List.{onto_first, position_or_len}
-use Rattle.std.proofs.lemmas.Bool.{cases_Bool, eq-eqb, ne_eqb}
+use Rattle.std.specs.Prelude.{◌==◌, not, nat_lt, Some, None}
+use Rattle.std.specs.List.{onto_first, position, position_or_len}
+use Rattle.std.proofs.lemmas.Bool.{cases_Bool, eq-eqb, ne_eqb, ltb-true, ltb-false}
 use Rattle.std.proofs.lemmas.List.{drop-drop, drop_all}
+use Rattle.std.proofs.lemmas.List.Sums.{prefix_len-le-length}
 use Rattle.script_lines.specs.Lines.{NumberedLine, lines, numbered, is_line_feed}
 use Rattle.script_lines.specs.Pieces.{outside, inside, begins_block, opens, closes, level_after, pieces}
 
@@ -36,22 +37,37 @@ first_line (b ∷ bs) h = elim (cases_Bool (b == 10)) [
       rw (e, one) (ap (onto_first b) (first_line bs (omega arith)))
 ]
 
+-- where the first LF stands
+placed : (r : List ℕ) (n : ℕ) → Some n ≡ position is_line_feed r → (position_or_len is_line_feed r ≡ n) × (position_or_len is_line_feed r < length r)
+placed r n h = elim (cases_Bool (nat_lt (position_or_len is_line_feed r) (length r))) [
+  | inl e ↦ let same = rw e at h in (cc, ltb-true _ _ e)
+  | inr e ↦ let bad = rw e at h in absurd cc
+]
+
+-- where none stands
+not_placed : (r : List ℕ) → None ≡ position is_line_feed r → position_or_len is_line_feed r ≡ length r
+not_placed r h = elim (cases_Bool (nat_lt (position_or_len is_line_feed r) (length r))) [
+  | inl e ↦ let bad = rw e at h in absurd cc
+  | inr e ↦ let most = ltb-false _ _ e in let least = prefix_len-le-length (λ b. not (is_line_feed b)) r in omega arith
+]
+
 drop_past : (s : List ℕ) (at n : ℕ) → drop (suc n) (drop at s) ≡ drop (at + n + 1) s
 drop_past s at n = let i : at + suc n ≡ at + n + 1 = omega arith in drop-drop (suc n) at s ∙ ap (λ (k : ℕ). drop k s) i
 
 -- the line that begins at a place, where an LF ends it
-pub line_at : (s r : List ℕ) (at n : ℕ) → r ≡ drop at s → n ≡ position_or_len is_line_feed r → n < length r → lines (drop at s) ≡ take n r ∷ lines (drop (at + n + 1) s)
-line_at s r at n is e h =
-    let cut = first_line r (rw (← e) h) in
-    ap lines (sym is) ∙ (rw (← e) at cut) ∙ ap (λ (t : List ℕ). take n r ∷ lines t) (ap (drop (suc n)) is ∙ drop_past s at n)
+pub line_at : (s r : List ℕ) (at n : ℕ) → r ≡ drop at s → Some n ≡ position is_line_feed r → lines (drop at s) ≡ take n r ∷ lines (drop (at + n + 1) s)
+line_at s r at n is found =
+    let place = placed r n found in
+    let cut = first_line r place.1 in
+    ap lines (sym is) ∙ (rw place.0 at cut) ∙ ap (λ (t : List ℕ). take n r ∷ lines t) (ap (drop (suc n)) is ∙ drop_past s at n)
 
 last_of : (r : List ℕ) → 0 < length r → position_or_len is_line_feed r ≡ length r → lines r ≡ r ∷ []
 last_of [] h e = absurd (omega arith)
 last_of (b ∷ bs) h e = last_line b bs e
 
 -- the line that begins at a place, where no LF ends it
-pub last_at : (s r : List ℕ) (at n : ℕ) → r ≡ drop at s → n ≡ position_or_len is_line_feed r → n ≡ length r → 0 < length r → lines (drop at s) ≡ r ∷ lines (drop (length s) s)
-last_at s r at n is e f h = ap lines (sym is) ∙ last_of r h (sym e ∙ f) ∙ ap (λ (ls : List (List ℕ)). r ∷ ls) (sym (ap lines (drop_all (length s) s (omega arith)) ∙ lines_nil))
+pub last_at : (s r : List ℕ) (at : ℕ) → r ≡ drop at s → None ≡ position is_line_feed r → 0 < length r → lines (drop at s) ≡ r ∷ lines (drop (length s) s)
+last_at s r at is none h = ap lines (sym is) ∙ last_of r h (not_placed r none) ∙ ap (λ (ls : List (List ℕ)). r ∷ ls) (sym (ap lines (drop_all (length s) s (omega arith)) ∙ lines_nil))
 
 -- nothing is left outside a block
 pub none_left : (n : ℕ) → pieces outside (numbered n []) ≡ []

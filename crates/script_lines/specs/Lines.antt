@@ -1,6 +1,6 @@
 -- The lines of a script, their numbers, and the first word of a line.
-use Rattle.std.specs.Prelude.{ℕ, ◌≡◌, ◌+◌, Bool, ◌==◌, if◌then◌else◌, List, [], ◌∷◌}
-use Rattle.std.specs.List.{onto_first, take_while}
+use Rattle.std.specs.Prelude.{ℕ, ◌≡◌, ◌+◌, Bool, ◌==◌, if◌then◌else◌, List, [], ◌∷◌, drop}
+use Rattle.std.specs.List.{onto_first, prefix_len, take_while}
 use Rattle.sig_base.specs.Words.{is_blank, begins_word, in_word}
 
 -- the byte that ends a line
@@ -29,8 +29,7 @@ EndsLine (b ∷ c ∷ bs) = EndsLine (c ∷ bs)
 
 -- what comes after the blanks
 abbrev pub behind_blanks : List ℕ → List ℕ
-behind_blanks [] = []
-behind_blanks (b ∷ bs) = if is_blank b then behind_blanks bs else b ∷ bs
+behind_blanks l = drop (prefix_len is_blank l) l
 
 -- the word that stands at the front; none where another byte does
 abbrev pub front_word : List ℕ → List ℕ

@@ -1,6 +1,6 @@
 // The lines of a script.
 ghost use Rattle.std.specs.Prelude.{◌≡◌, ◌∷◌, ◌<◌, ◌≤◌, [], length, drop, MatchOption, IfSome};
-ghost use Rattle.std.specs.List.{position_or_len};
+ghost use Rattle.std.specs.List.{position};
 ghost use Rattle.script_lines.specs.Lines.{lines, is_line_feed};
 
 /// A line of a script and its number, counted from 1.
@@ -10,16 +10,11 @@ pub struct NumberedLine<'a> {
     pub text: &'a [u8],
 }
 
-// How many bytes stand before the first LF.
-fn line_len(bytes: &[u8]) -> usize
-    ensures within { result ≤ length bytes.now }
-    ensures count { result ≡ position_or_len is_line_feed bytes.now }
+// Where the first LF stands.
+fn line_feed(bytes: &[u8]) -> Option<usize>
+    ensures { result ≡ position is_line_feed bytes.now }
 {
-    let mut n = 0;
-    while n < bytes.len() && bytes[n] != b'\n' {
-        n += 1;
-    }
-    n
+    bytes.iter().position(|b| *b == b'\n')
 }
 
 // The first line from a place on, and the place after its LF; none where nothing is left.
@@ -32,9 +27,8 @@ pub(crate) fn next_line(script: &[u8], at: usize) -> Option<(&[u8], usize)>
     if rest.is_empty() {
         return None;
     }
-    let end = line_len(rest);
-    if end == rest.len() {
-        return Some((rest, script.len()));
+    match line_feed(rest) {
+        Some(end) => Some((&rest[..end], at + end + 1)),
+        None => Some((rest, script.len())),
     }
-    Some((&rest[..end], at + end + 1))
 }

@@ -2,7 +2,7 @@
 ghost use Rattle.std.specs.Prelude.{◌≡◌, ◌≤◌, length};
 ghost use Rattle.std.specs.List.{prefix_len};
 ghost use Rattle.sig_base.specs.Words.{is_blank, begins_word, in_word};
-ghost use Rattle.script_lines.specs.Lines.{behind_blanks, first_word};
+ghost use Rattle.script_lines.specs.Lines.{first_word};
 ghost use Rattle.script_lines.specs.Pieces.{begins_block, opens, closes};
 
 fn is_blank(b: u8) -> bool
@@ -23,15 +23,12 @@ fn in_word(b: u8) -> bool
     b.is_ascii_alphanumeric() || b == b'_'
 }
 
-// The bytes behind the blanks at the front.
-fn behind_blanks(line: &[u8]) -> &[u8]
-    ensures { result.now ≡ behind_blanks line.now }
+// How many blanks stand at the front.
+fn blanks_len(line: &[u8]) -> usize
+    ensures within { result ≤ length line.now }
+    ensures count { result ≡ prefix_len is_blank line.now }
 {
-    let mut rest = line;
-    while !rest.is_empty() && is_blank(rest[0]) {
-        rest = &rest[1..];
-    }
-    rest
+    line.iter().take_while(|b| is_blank(**b)).count()
 }
 
 // How many bytes at the front may stand in a word.
@@ -39,18 +36,14 @@ fn word_len(bytes: &[u8]) -> usize
     ensures within { result ≤ length bytes.now }
     ensures count { result ≡ prefix_len in_word bytes.now }
 {
-    let mut n = 0;
-    while n < bytes.len() && in_word(bytes[n]) {
-        n += 1;
-    }
-    n
+    bytes.iter().take_while(|b| in_word(**b)).count()
 }
 
 // The line's first word, behind blanks; nothing where it begins with none.
 fn first_word(line: &[u8]) -> &[u8]
     ensures { result.now ≡ first_word line.now }
 {
-    let rest = behind_blanks(line);
+    let (_, rest) = line.split_at(blanks_len(line));
     if rest.is_empty() || !begins_word(rest[0]) {
         return &[];
     }

@@ -10,14 +10,11 @@ returns-then-is_empty-clause-line c =
     let rest = c.split_at.result.1.now in
     ap lines (sym c.split_at.ensures.back ∙ nil_from_length rest (eqb-true (length rest) 0 (sym c.if-is_empty.ensures))) ∙ lines_nil
 
-pub returns-then-end-rest-clause-line : goal.returns-then-end-rest-clause-line
-returns-then-end-rest-clause-line c =
+pub returns-in-Some-clause-line : goal.returns-in-Some-clause-line
+returns-in-Some-clause-line c = line_at c.args.script.now c.split_at.result.1.now c.args.at c.in-Some.end c.split_at.ensures.back c.in-Some.ensures
+
+pub returns-in-None-clause-line : goal.returns-in-None-clause-line
+returns-in-None-clause-line c =
     let rest = c.split_at.result.1.now in
     let some = eqb-false (length rest) 0 (sym c.if-is_empty.ensures) in
-    last_at c.args.script.now rest c.args.at c.line_len-end.result c.split_at.ensures.back c.line_len-end.ensures.count c.if-end-rest.true (omega arith)
-
-pub returns-clause-line : goal.returns-clause-line
-returns-clause-line c =
-    let a = c.line_len-end.ensures.within in
-    let b = c.if-end-rest.false in
-    line_at c.args.script.now c.split_at.result.1.now c.args.at c.line_len-end.result c.split_at.ensures.back c.line_len-end.ensures.count (omega arith)
+    last_at c.args.script.now rest c.args.at c.split_at.ensures.back c.in-None.ensures (omega arith)
