@@ -1,17 +1,16 @@
 -- What is known of each token of a line.
-use Rattle.std.proofs.Common.{◌≡◌, ℕ, zero, suc, ◌+◌, ◌-◌, ◌<◌, ◌≤◌, Bool, true, false, List, [], ◌∷◌, ◌++◌, length, take, drop, get_or, All, refl, sym, ap, ◌∙◌, arith, append_assoc}
+use Rattle.std.proofs.Common.{◌≡◌, ℕ, zero, suc, ◌+◌, ◌<◌, ◌≤◌, true, List, [], ◌∷◌, length, All, arith}
 use Rattle.std.specs.List.{list_all}
 use Rattle.std.specs.Str.{IsUtf8, IsAscii}
 use Rattle.std.proofs.lemmas.Bool.{and_parts}
 use Rattle.std.proofs.lemmas.Bool.Decides.{nat_tests}
-use Rattle.std.proofs.lemmas.List.{take_at, take-append-drop, drop-drop, get_or-drop}
-use Rattle.std.proofs.lemmas.Str.{IsUtf8-from_ascii, IsUtf8-drop, IsUtf8-take, IsUtf8-past_char, IsCharBoundary-before_ascii}
+use Rattle.std.proofs.lemmas.Str.{IsUtf8-from_ascii}
 use Rattle.sig_base.specs.Words.{in_word, is_word}
 use Rattle.sig_words.specs.declared.token.TokenKind.{TokenKind}
 use Rattle.sig_words.specs.declared.token.TokenKind.TheVariants.{Word, Tag, Number, Literal, Symbol}
 use Rattle.sig_words.specs.declared.token.Token.{Token}
 use Rattle.sig_words.specs.Lexemes.{text_at}
-use Rattle.sig_words.specs.Tokens.{Form, StandsAt, Cuts, AreTokens, IsTokenOf}
+use Rattle.sig_words.specs.Tokens.{Form, Cuts, AreTokens, IsTokenOf}
 use Rattle.sig_words.proofs.Fronts.{word_all}
 
 each_cut : (line : List ℕ) (from to : ℕ) (ts : List Token) → IsUtf8 line → Cuts line from ts to → All (IsTokenOf line) ts

@@ -4,7 +4,7 @@ use Rattle.sig_words.specs.declared.token.TokenKind.{TokenKind}
 use Rattle.sig_words.specs.declared.token.TokenKind.TheVariants as kind
 use Rattle.sig_words.specs.declared.token.Token.{Token}
 use Rattle.sig_words.specs.Literals.{text_of, between_quotes}
-use Rattle.sig_words.specs.Lexemes.{Lexeme, word, tag, number, literal, symbol, text_at, lexeme_of, lexeme}
+use Rattle.sig_words.specs.Lexemes.{word, tag, number, literal, symbol, text_at, lexeme_of, lexeme}
 
 pub lexeme-Word : (line : List ℕ) (t : Token) → t.kind ≡ kind.Word → lexeme line t ≡ word (text_at line t)
 lexeme-Word line t e = ap (λ (k : TokenKind). lexeme_of k (text_at line t)) e

@@ -11,3 +11,6 @@ mod token;
 pub use line::{LineFault, MOST_LINE, one_cutting, tokens};
 pub use quotes::{each_character_is_written, literal};
 pub use token::{Token, TokenKind, token_bytes};
+
+#[cfg(test)]
+mod tests;

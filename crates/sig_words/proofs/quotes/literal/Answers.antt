@@ -1,4 +1,4 @@
-use Rattle.std.proofs.Common.{ap, ◌∙◌, sym}
+use Rattle.std.proofs.Common.{ap, ◌∙◌}
 use Rattle.sig_words.specs.Literals.{between_quotes}
 use Rattle.sig_words.proofs.LiteralLaws.{literal_utf8}
 use Rattle.sig_words.proofs.quotes.literal.Goals as goal
