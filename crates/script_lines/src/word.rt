@@ -5,23 +5,7 @@ ghost use Rattle.sig_base.specs.Words.{is_blank, begins_word, in_word};
 ghost use Rattle.script_lines.specs.Lines.{first_word};
 ghost use Rattle.script_lines.specs.Pieces.{begins_block, opens, closes};
 
-fn is_blank(b: u8) -> bool
-    ensures { result ≡ is_blank b }
-{
-    b == b' ' || b == b'\t'
-}
-
-fn begins_word(b: u8) -> bool
-    ensures { result ≡ begins_word b }
-{
-    b.is_ascii_alphabetic() || b == b'_'
-}
-
-fn in_word(b: u8) -> bool
-    ensures { result ≡ in_word b }
-{
-    b.is_ascii_alphanumeric() || b == b'_'
-}
+use sig_base::{begins_word, in_word, is_blank};
 
 // How many blanks stand at the front.
 fn blanks_len(line: &[u8]) -> usize

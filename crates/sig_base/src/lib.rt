@@ -1,6 +1,7 @@
 //! Values, names and numbers of things, and the two errors that every layer speaks of.
 #![tactic(auto)]
 
+mod bytes;
 mod errors;
 mod ids;
 mod name;
@@ -12,6 +13,7 @@ mod tests;
 mod text;
 mod value;
 
+pub use bytes::{begins_word, in_word, is_blank};
 pub use errors::{Failed, NoMemory};
 pub use ids::{EffectId, NodeId, OwnerId, PageId, PlaceId, WatcherId};
 pub use name::{MOST_NAME, Name, NameFault};

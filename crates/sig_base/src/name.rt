@@ -6,9 +6,10 @@ ghost use Rattle.std.specs.Str.{bytes_eq};
 ghost use Rattle.std.specs.Cmp.Rules.{comparing, hashing};
 ghost use Rattle.std.proofs.Common.{rules};
 ghost use Rattle.sig_base.specs.declared.name.NameFault.TheVariants as fault;
-ghost use Rattle.sig_base.specs.Words.{in_word as word_byte, begins_word as word_start, is_name as name_test, is_reserved as reserved_test};
+ghost use Rattle.sig_base.specs.Words.{in_word as word_byte, is_name as name_test, is_reserved as reserved_test};
 
 use crate::NoMemory;
+use crate::bytes::{begins_word, in_word};
 use std::alloc::{AllocError, Global};
 use std::hash::{Hash, Hasher};
 use std::marker::Model;
@@ -51,18 +52,6 @@ impl Model for Name {
     ghost view = { λ n. rc_str_bytes n.shared };
 
     ghost invariant = { λ n. is_name (rc_str_bytes n.shared) ≡ true };
-}
-
-fn begins_word(b: u8) -> bool
-    ensures { result ≡ word_start b }
-{
-    b.is_ascii_alphabetic() || b == b'_'
-}
-
-fn in_word(b: u8) -> bool
-    ensures { result ≡ word_byte b }
-{
-    b.is_ascii_alphanumeric() || b == b'_'
 }
 
 fn are_in_word(bytes: &[u8]) -> bool

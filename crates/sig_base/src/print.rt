@@ -5,7 +5,6 @@ ghost use Rattle.sig_base.specs.Printing.{fault_name, in_quotes, printed, printe
 
 use crate::scalar::put_shown;
 use crate::{Fault, NoMemory, Row, Scalar, Value};
-use std::alloc::Global;
 
 fn put_in_quotes(out: &mut Vec<u8>, byte: u8) -> Result<(), NoMemory>
     ensures { OnOk result (out.new.items ≡ out.old.items ++ in_quotes byte) }
@@ -35,79 +34,79 @@ pub fn put_quoted(out: &mut Vec<u8>, text: &str) -> Result<(), NoMemory>
 }
 
 /// Appends a scalar's printed form: a text in double quotes, every other as it is shown.
-pub fn put_scalar(alloc: Global, out: &mut Vec<u8>, scalar: &Scalar) -> Result<(), NoMemory>
+pub fn put_scalar(out: &mut Vec<u8>, scalar: &Scalar) -> Result<(), NoMemory>
     ensures { OnOk result (out.new.items ≡ out.old.items ++ printed_scalar scalar.now) }
 {
     match scalar {
         Scalar::Text(text) => put_quoted(out, text.as_str()),
-        _ => put_shown(alloc, out, scalar),
+        _ => put_shown(out, scalar),
     }
 }
 
-fn put_scalars(alloc: Global, out: &mut Vec<u8>, values: &[Scalar]) -> Result<(), NoMemory>
+fn put_scalars(out: &mut Vec<u8>, values: &[Scalar]) -> Result<(), NoMemory>
     ensures { OnOk result (out.new.items ≡ out.old.items ++ join_by printed_scalar (codes ", ") values.now) }
 {
     let Some((first, others)) = values.split_first() else {
         return Ok(());
     };
-    put_scalar(alloc, out, first)?;
+    put_scalar(out, first)?;
     for scalar in others {
         out.extend_from_slice(b", ")?;
-        put_scalar(alloc, out, scalar)?;
+        put_scalar(out, scalar)?;
     }
     Ok(())
 }
 
 #[tactic(auto, unfolding(crate::specs::Printing::printed_row))]
-fn put_row(alloc: Global, out: &mut Vec<u8>, row: &Row) -> Result<(), NoMemory>
+fn put_row(out: &mut Vec<u8>, row: &Row) -> Result<(), NoMemory>
     ensures { OnOk result (out.new.items ≡ out.old.items ++ printed_row row.now) }
 {
     put_quoted(out, row.key.as_str())?;
     out.extend_from_slice(b" (")?;
-    put_scalars(alloc, out, row.values.as_slice())?;
+    put_scalars(out, row.values.as_slice())?;
     out.push(b')')?;
     Ok(())
 }
 
-fn put_each_row(alloc: Global, out: &mut Vec<u8>, rows: &[Row]) -> Result<(), NoMemory>
+fn put_each_row(out: &mut Vec<u8>, rows: &[Row]) -> Result<(), NoMemory>
     ensures { OnOk result (out.new.items ≡ out.old.items ++ join_by printed_row (codes ", ") rows.now) }
 {
     let Some((first, others)) = rows.split_first() else {
         return Ok(());
     };
-    put_row(alloc, out, first)?;
+    put_row(out, first)?;
     for row in others {
         out.extend_from_slice(b", ")?;
-        put_row(alloc, out, row)?;
+        put_row(out, row)?;
     }
     Ok(())
 }
 
 #[tactic(auto, unfolding(crate::specs::Printing::printed_rows))]
-fn put_rows(alloc: Global, out: &mut Vec<u8>, rows: &[Row]) -> Result<(), NoMemory>
+fn put_rows(out: &mut Vec<u8>, rows: &[Row]) -> Result<(), NoMemory>
     ensures { OnOk result (out.new.items ≡ out.old.items ++ printed_rows rows.now) }
 {
     out.push(b'[')?;
-    put_each_row(alloc, out, rows)?;
+    put_each_row(out, rows)?;
     out.push(b']')?;
     Ok(())
 }
 
 /// Appends a value's printed form: `true` or `false`, the decimal digits, a text in double quotes, rows as
 /// `["k1" (1, "x"), "k2" (2, "y")]`.
-pub fn put_value(alloc: Global, out: &mut Vec<u8>, value: &Value) -> Result<(), NoMemory>
+pub fn put_value(out: &mut Vec<u8>, value: &Value) -> Result<(), NoMemory>
     ensures { OnOk result (out.new.items ≡ out.old.items ++ printed value.now) }
 {
     match value {
-        Value::Bool(b) => put_shown(alloc, out, &Scalar::Bool(*b)),
-        Value::Int(n) => put_shown(alloc, out, &Scalar::Int(*n)),
+        Value::Bool(b) => put_shown(out, &Scalar::Bool(*b)),
+        Value::Int(n) => put_shown(out, &Scalar::Int(*n)),
         Value::Text(text) => put_quoted(out, text.as_str()),
-        Value::Rows(rows) => put_rows(alloc, out, rows.rows()),
+        Value::Rows(rows) => put_rows(out, rows.rows()),
     }
 }
 
 /// Appends a fault's name, such as `overflow` or `host 3`.
-pub fn put_fault(alloc: Global, out: &mut Vec<u8>, fault: Fault) -> Result<(), NoMemory>
+pub fn put_fault(out: &mut Vec<u8>, fault: Fault) -> Result<(), NoMemory>
     ensures { OnOk result (out.new.items ≡ out.old.items ++ fault_name fault) }
 {
     match fault {
@@ -119,7 +118,7 @@ pub fn put_fault(alloc: Global, out: &mut Vec<u8>, fault: Fault) -> Result<(), N
         Fault::Absent => out.extend_from_slice(b"absent")?,
         Fault::Cycle => out.extend_from_slice(b"cycle")?,
         Fault::Host(n) => {
-            let digits = n.to_string(alloc)?;
+            let digits = n.to_string(*out.allocator())?;
             out.extend_from_slice(b"host ")?;
             out.extend_from_slice(digits.as_bytes())?;
         }

@@ -5,7 +5,6 @@ ghost use Rattle.std.specs.Cmp.{decided, partial_equiv_from_equiv};
 ghost use Rattle.sig_base.specs.Scalars.{same_scalar-Decides};
 
 use crate::{NoMemory, Text};
-use std::alloc::Global;
 
 /// A truth, a whole number or a text.
 #[derive(Debug, Drop)]
@@ -48,14 +47,14 @@ impl Eq for Scalar {
 }
 
 /// Appends the shown text: `true` or `false`, the decimal digits, the text itself.
-pub fn put_shown(alloc: Global, out: &mut Vec<u8>, scalar: &Scalar) -> Result<(), NoMemory>
+pub fn put_shown(out: &mut Vec<u8>, scalar: &Scalar) -> Result<(), NoMemory>
     ensures { OnOk result (out.new.items ≡ out.old.items ++ shown_text scalar.now) }
 {
     match scalar {
         Scalar::Bool(true) => out.extend_from_slice(b"true")?,
         Scalar::Bool(false) => out.extend_from_slice(b"false")?,
         Scalar::Int(n) => {
-            let digits = n.to_string(alloc)?;
+            let digits = n.to_string(*out.allocator())?;
             out.extend_from_slice(digits.as_bytes())?;
         }
         Scalar::Text(text) => out.extend_from_slice(text.as_str().as_bytes())?,

@@ -11,14 +11,14 @@ use std::test::Fail;
 // Whether the value is printed so.
 fn prints(alloc: Global, value: &Value, want: &str) -> Result<bool, NoMemory> {
     let mut out = Vec::new(alloc);
-    put_value(alloc, &mut out, value)?;
+    put_value(&mut out, value)?;
     Ok(out.as_slice() == want.as_bytes())
 }
 
 // Whether the fault has this name.
 fn is_named(alloc: Global, fault: Fault, want: &str) -> Result<bool, NoMemory> {
     let mut out = Vec::new(alloc);
-    put_fault(alloc, &mut out, fault)?;
+    put_fault(&mut out, fault)?;
     Ok(out.as_slice() == want.as_bytes())
 }
 

@@ -1,30 +1,11 @@
 // Which bytes stand where in a token.
 ghost use Rattle.std.specs.Prelude.{◌≡◌};
-ghost use Rattle.sig_base.specs.Words.{begins_word, in_word, is_blank};
 ghost use Rattle.sig_words.specs.Tokens.{in_tag, is_escape, is_one, is_two};
-
-pub fn begins_word(b: u8) -> bool
-    ensures { result ≡ begins_word b }
-{
-    b.is_ascii_alphabetic() || b == b'_'
-}
-
-pub fn in_word(b: u8) -> bool
-    ensures { result ≡ in_word b }
-{
-    b.is_ascii_alphanumeric() || b == b'_'
-}
 
 pub fn in_tag(b: u8) -> bool
     ensures { result ≡ in_tag b }
 {
     b.is_ascii_lowercase() || b.is_ascii_digit() || b == b'-'
-}
-
-pub fn is_blank(b: u8) -> bool
-    ensures { result ≡ is_blank b }
-{
-    b == b' ' || b == b'\t'
 }
 
 pub fn is_escape(b: u8) -> bool

@@ -7,10 +7,9 @@ ghost use Rattle.sig_words.specs.Tokens.{may_sign as sign_before, AreTokens, IsB
 ghost use Rattle.sig_words.specs.declared.token.Token.{Token as AToken};
 ghost use Rattle.sig_words.specs.declared.line.LineFault.TheVariants as fault;
 
-use crate::bytes::is_blank;
 use crate::scan::scan;
 use crate::token::Token;
-use sig_base::NoMemory;
+use sig_base::{NoMemory, is_blank};
 use std::alloc::{AllocFailed, Global};
 use std::str;
 use thiserror::Error;

@@ -5,9 +5,10 @@ ghost use Rattle.sig_base.specs.Words.{begins_word as word_start, in_word as wor
 ghost use Rattle.sig_words.specs.Scanning.{closing, opens_as};
 ghost use Rattle.sig_words.specs.Tokens.{in_tag as tag_byte, IsSymbol, Form, Ends, IsToken, NoToken};
 
-use crate::bytes::{begins_word, in_tag, in_word, is_escape, is_one, is_two};
+use crate::bytes::{in_tag, is_escape, is_one, is_two};
 use crate::number::integer;
 use crate::token::TokenKind;
+use sig_base::{begins_word, in_word};
 
 /// The most bytes that the name of a tag has.
 pub const MOST_TAG: usize = 32;
