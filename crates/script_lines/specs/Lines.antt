@@ -7,7 +7,7 @@ use Rattle.sig_base.specs.Words.{is_blank, begins_word, in_word}
 abbrev pub is_line_feed : ℕ → Bool
 is_line_feed b = b == 10
 
--- the lines of a script without the LF that ends each and that the last may lack
+-- the lines of a script: an LF ends each and is no part of it; the last may lack it
 unfoldable pub lines : List ℕ → List (List ℕ)
 lines [] = []
 lines (b ∷ bs) = if is_line_feed b then [] ∷ lines bs else onto_first b (lines bs)

@@ -16,6 +16,7 @@ pub struct Piece<'a> {
     pub lines: Vec<NumberedLine<'a>>,
 }
 
+// How many levels are open after a line of a block.
 fn level_after(level: usize, line: &[u8]) -> usize
     requires some { 0 < level }
     requires few { level < 2 ^ 63 }
@@ -30,7 +31,7 @@ fn level_after(level: usize, line: &[u8]) -> usize
     }
 }
 
-// The block whose first line came last: its lines, the place after it, and the number of the line there.
+// The block that these lines begin: all its lines, the place after it, and the number of the line there.
 fn rest_of_block<'a>(
     script: &'a [u8],
     start: usize,
