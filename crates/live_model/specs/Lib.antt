@@ -1,3 +1,4 @@
+pub mod Jobs
 pub mod Machine
 pub mod Output
 pub mod Pages

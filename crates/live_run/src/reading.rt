@@ -1,0 +1,63 @@
+// All the bytes of a source, up to a limit.
+ghost use Rattle.std.specs.Prelude.{◌≡◌, ◌≤◌, ◌<◌, length, IfOk, OnErr, OnOk, IsErrOf, IfSome};
+ghost use Rattle.std.specs.Io.KnownBytes.{Consumes, IsAtEnd};
+ghost use Rattle.sig_io.specs.Counts.{Rose};
+ghost use Rattle.live_run.specs.Running.{ConsumesFront, GaveTooMuch, most_read};
+ghost use Rattle.live_run.specs.declared.reading.ReadEnd.TheVariants.{Memory};
+
+use sig_base::Failed;
+use sig_io::Source;
+use std::alloc::{AllocError, Global};
+use thiserror::Error;
+
+/// The most bytes that a script has.
+pub const MOST_READ: usize = 4_194_304;
+
+/// Why reading stopped before the end.
+#[derive(Clone, Copy, Debug, PartialEq, Eq, Error)]
+pub enum ReadEnd {
+    #[error("reading failed")]
+    Fault,
+    #[error("the script has more than 4,194,304 bytes")]
+    TooLong,
+    #[error("out of memory")]
+    Memory,
+}
+
+impl From<AllocError> for ReadEnd {
+    ghost from_gives = { λ _ e. e ≡ Memory };
+
+    fn from(_: AllocError) -> Self {
+        ReadEnd::Memory
+    }
+}
+
+/// Reads the source to its end. `Fault` only where the source failed, and `TooLong` only once more
+/// than 4,194,304 bytes came; where the source tells its bytes, `TooLong` only where it had more than
+/// these. After an error a front of its bytes is gone.
+pub fn read_all<S: Source>(alloc: Global, source: &mut S) -> Result<Vec<u8>, ReadEnd>
+    ensures bytes { IfOk result (λ bytes. Consumes (S.left source.old) (S.left source.new) bytes.items) }
+    ensures end { OnOk result (IsAtEnd (S.left source.new)) }
+    ensures short { IfOk result (λ bytes. length bytes.items ≤ most_read) }
+    ensures fault { IsErrOf result ReadEnd.Fault → Rose (S.faults source.old) (S.faults source.new) }
+    ensures long { IsErrOf result ReadEnd.TooLong → GaveTooMuch (S.given source.old) (S.given source.new) }
+    ensures told { IsErrOf result ReadEnd.TooLong → IfSome (S.left source.old) (λ bytes. most_read < length bytes) }
+    ensures front { OnErr result (ConsumesFront (S.left source.old) (S.left source.new)) }
+    ensures later { S.faults source.old ≤ S.faults source.new }
+{
+    let mut bytes = Vec::new(alloc);
+    let mut buf = [0u8; 8_192];
+    loop {
+        let count = match source.take(&mut buf) {
+            Ok(count) => count,
+            Err(Failed) => return Err(ReadEnd::Fault),
+        };
+        if count == 0 {
+            return Ok(bytes);
+        }
+        if count > MOST_READ - bytes.len() {
+            return Err(ReadEnd::TooLong);
+        }
+        bytes.extend_from_slice(&buf[..count])?;
+    }
+}

@@ -1,0 +1,169 @@
+// The top call: a script from a source, done command by command, its output to a sink.
+ghost use Rattle.std.specs.Prelude.{◌≡◌, ◌≤◌, ◌<◌, ◌++◌, ◌⊎◌, ◌↔◌, ◌+◌, ◌-◌, ◌^◌, [], None, Some, List, ℕ, map, length, drop, flat_map, string_bytes, IfOk, OnOk, IfSome, IsErrOf, MatchOption};
+ghost use Rattle.std.specs.Io.KnownBytes.{Appends, IsAtEnd, Keeps};
+ghost use Rattle.sig_io.specs.Counts.{HasCause, Rose};
+ghost use Rattle.live_cmd.specs.declared.command.Item.{Item as AnItem};
+ghost use Rattle.live_cmd.specs.Items.{Begins, ItemsFrom};
+ghost use Rattle.live_cmd.specs.Printed.{printed};
+ghost use Rattle.script_lines.specs.Pieces.{pieces_of};
+ghost use Rattle.live_model.specs.Jobs.{job_of};
+ghost use Rattle.live_model.specs.Machine.{empty};
+ghost use Rattle.live_model.specs.Output.{is_traced_job, output_from, output_of};
+ghost use Rattle.live_run.specs.Running.{GaveTooMuch, most_read};
+ghost use Rattle.live_run.specs.declared.running.RunEnd.TheVariants as run_end;
+
+use crate::{Machine, ReadEnd, read_all, read_job};
+use live_cmd::{Entry, entry_line, next_item};
+use live_model::Job;
+use sig_base::{Failed, NoMemory};
+use sig_io::{Sink, Source, put_all};
+use std::alloc::Global;
+
+/// How a run ended. The number is the program's exit status.
+#[derive(Clone, Copy, Debug, PartialEq, Eq)]
+pub enum Status {
+    /// The script was read to its end, and all output was written.
+    Done = 0,
+    /// The words ask for nothing that the program does.
+    Usage = 2,
+    /// The source failed.
+    ReadFault = 3,
+    /// The sink failed.
+    WriteFault = 4,
+    /// Memory ran out.
+    NoMemory = 5,
+    /// The script has more than 4,194,304 bytes.
+    TooLong = 6,
+}
+
+/// From so many bytes on, output is handed on to the sink.
+const LARGE: usize = 65_536;
+
+// Why a run ended early.
+#[derive(Clone, Copy, Debug, PartialEq, Eq)]
+enum RunEnd {
+    Memory,
+    Write,
+}
+
+impl From<NoMemory> for RunEnd {
+    ghost from_gives = { λ _ e. e ≡ run_end.Memory };
+
+    fn from(_: NoMemory) -> Self {
+        RunEnd::Memory
+    }
+}
+
+impl From<Failed> for RunEnd {
+    ghost from_gives = { λ _ e. e ≡ run_end.Write };
+
+    fn from(_: Failed) -> Self {
+        RunEnd::Write
+    }
+}
+
+fn put_entries(out: &mut Vec<u8>, entries: &[Entry], trace: bool) -> Result<(), NoMemory>
+    ensures { OnOk result (out.new.items ≡ out.old.items ++ flat_map (printed trace) entries.now) }
+{
+    for entry in entries {
+        entry_line(out, entry, trace)?;
+    }
+    Ok(())
+}
+
+// Hands the output on where there is much of it.
+fn hand_on<K: Sink>(sink: &mut K, out: &mut Vec<u8>) -> Result<(), Failed>
+    ensures ok { OnOk result ((written : List ℕ) × Appends (K.held sink.old) (K.held sink.new) written × (out.old.items ≡ written ++ out.new.items)) }
+    ensures cause { HasCause (K.faults sink.old) (K.faults sink.new) result }
+{
+    if out.len() < LARGE {
+        return Ok(());
+    }
+    put_all(sink, out)?;
+    out.clear();
+    Ok(())
+}
+
+// Runs a script: reads its items one by one, does them, and prints what they tell.
+fn run_script<K: Sink>(
+    alloc: Global,
+    job: Job,
+    script: &[u8],
+    sink: &mut K,
+) -> Result<(), RunEnd>
+    requires { length script.now ≤ most_read }
+    ensures done { OnOk result ((items : List AnItem) × ItemsFrom 1 script.now items × Appends (K.held sink.old) (K.held sink.new) (output_of job items)) }
+    ensures write { IsErrOf result RunEnd.Write → Rose (K.faults sink.old) (K.faults sink.new) }
+    ensures later { K.faults sink.old ≤ K.faults sink.new }
+{
+    let trace = is_traced(job);
+    let mut machine = Machine::new(alloc);
+    let mut out = Vec::new(alloc);
+    let mut at = 0;
+    let mut line: u32 = 1;
+    while let Some((item, next, after)) = next_item(alloc, script, at, line)? {
+        let told = machine.act(item)?;
+        put_entries(&mut out, &told, trace)?;
+        hand_on(sink, &mut out)?;
+        at = next;
+        line = after;
+    }
+    put_all(sink, &out)?;
+    Ok(())
+}
+
+// Whether a job prints the trace too.
+fn is_traced(job: Job) -> bool
+    ensures { result ≡ is_traced_job job }
+{
+    match job {
+        Job::Run => false,
+    }
+}
+
+/// Runs the script of the source, where the words ask for it, and writes its output to the sink. `words[0]` is the
+/// program's name.
+///
+/// `Usage` comes exactly where the words ask for nothing; then the source and the sink are as before. `ReadFault` and
+/// `WriteFault` come only where the source or the sink failed in this call, and `TooLong` only once more than 4,194,304
+/// bytes came. Nothing is written with `Usage`, `ReadFault` and `TooLong`, and a front of the output with `WriteFault`
+/// and `NoMemory`.
+pub fn run_live<S: Source, K: Sink>(
+    alloc: Global,
+    words: &[String],
+    source: &mut S,
+    sink: &mut K,
+) -> Status
+    // What is printed is the output of the plain machine over the script's items.
+    ensures output { result ≡ Status.Done → IfSome (job_of (map string_bytes words.now)) (λ job. IfSome (S.left source.old) (λ script.
+        (items : List AnItem) × ItemsFrom 1 script items × Appends (K.held sink.old) (K.held sink.new) (output_of job items))) }
+    ensures read { result ≡ Status.Done → IsAtEnd (S.left source.new) }
+    ensures fits { result ≡ Status.Done → IfSome (S.left source.old) (λ script. length script ≤ most_read) }
+    ensures usage { (result ≡ Status.Usage) ↔ (job_of (map string_bytes words.now) ≡ None) }
+    ensures untouched { result ≡ Status.Usage → Keeps (S.left source.old) (S.left source.new)
+        × (S.given source.new ≡ S.given source.old) × (S.faults source.new ≡ S.faults source.old) }
+    ensures read_fault { result ≡ Status.ReadFault → Rose (S.faults source.old) (S.faults source.new) }
+    ensures write_fault { result ≡ Status.WriteFault → Rose (K.faults sink.old) (K.faults sink.new) }
+    ensures too_long { result ≡ Status.TooLong → GaveTooMuch (S.given source.old) (S.given source.new) }
+    ensures too_long_told { result ≡ Status.TooLong → IfSome (S.left source.old) (λ script. most_read < length script) }
+    ensures nothing { (result ≡ Status.Usage) ⊎ ((result ≡ Status.ReadFault) ⊎ (result ≡ Status.TooLong)) → Keeps (K.held sink.old) (K.held sink.new) }
+    // It gives up only for memory, where neither failed and not too much came.
+    ensures complete { (job_of (map string_bytes words.now) ≡ None → ⊥)
+        → (Rose (S.faults source.old) (S.faults source.new) → ⊥) → (Rose (K.faults sink.old) (K.faults sink.new) → ⊥)
+        → (GaveTooMuch (S.given source.old) (S.given source.new) → ⊥) → (result ≡ Status.Done) ⊎ (result ≡ Status.NoMemory) }
+{
+    let Some(job) = read_job(words) else {
+        return Status::Usage;
+    };
+    let script = match read_all(alloc, source) {
+        Ok(script) => script,
+        Err(ReadEnd::Fault) => return Status::ReadFault,
+        Err(ReadEnd::TooLong) => return Status::TooLong,
+        Err(ReadEnd::Memory) => return Status::NoMemory,
+    };
+    match run_script(alloc, job, &script, sink) {
+        Ok(()) => Status::Done,
+        Err(RunEnd::Memory) => Status::NoMemory,
+        Err(RunEnd::Write) => Status::WriteFault,
+    }
+}
