@@ -2,8 +2,8 @@
 ghost use Rattle.std.specs.Prelude.{◌≡◌, ◌∷◌, [], length, IfOk};
 
 use crate::{
-    Fault, Name, NoMemory, Outcome, Row, Rows, Scalar, Scalars, Text, Value, alike, put_fault,
-    put_value,
+    Fault, Known, Name, NoMemory, Outcome, Row, Rows, Scalar, Scalars, Text, Value, alike,
+    put_fault, put_value,
 };
 use std::alloc::Global;
 use std::test::Fail;
@@ -102,6 +102,21 @@ fn compares_values(rt: HostRuntime) -> Result<(), Fail> {
     assert!(rt; !alike(u64::MAX, &near, &word));
     assert!(rt; Outcome::Bad(Fault::Host(3)).same(&Outcome::Bad(Fault::Host(3)).copy()?));
     assert!(rt; !Outcome::Good(near).same(&Outcome::Bad(Fault::Zero)));
+    Ok(())
+}
+
+#[test]
+fn copies(rt: HostRuntime) -> Result<(), Fail> {
+    let alloc = rt.alloc();
+    let known = Known {
+        slot: 4,
+        value: Value::Int(5),
+    };
+    assert_eq!(rt; known.copy()?.slot, 4);
+    assert_eq!(rt; Name::new(alloc, "cell_1")?.copy()?.as_str(), "cell_1");
+    assert!(rt;
+        Scalar::Text(Text::new(alloc, "a")?).copy()? == Scalar::Text(Text::new(alloc, "a")?)
+    );
     Ok(())
 }
 

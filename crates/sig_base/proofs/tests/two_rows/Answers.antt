@@ -1,9 +1,9 @@
-use Rattle.std.proofs.Common.{◌≡◌, ℕ, List, [], ◌∷◌, length, map, codes, false, refl, arith}
-use Rattle.std.specs.List.{All, AllByRecursion, IsDistinct, list_any}
+use Rattle.std.proofs.Common.{◌≡◌, ℕ, List, [], ◌∷◌, length, codes, false, refl, arith}
+use Rattle.std.specs.List.{IsDistinct}
 use Rattle.std.specs.Str.{bytes_eq}
 use Rattle.std.proofs.lemmas.List.Elements.{All-cons, All-nil}
 use Rattle.sig_base.specs.declared.rows.Row.{Row}
-use Rattle.sig_base.specs.Tables.{AreRows, keys_of}
+use Rattle.sig_base.specs.Tables.{AreRows}
 use Rattle.sig_base.proofs.tests.two_rows.Goals as goal
 
 two-distinct : (x y : List ℕ) → bytes_eq x y ≡ false → IsDistinct bytes_eq (x ∷ y ∷ [])

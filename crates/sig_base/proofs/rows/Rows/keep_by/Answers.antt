@@ -1,5 +1,3 @@
-use Rattle.std.proofs.Common.{◌≡◌, List, refl}
-use Rattle.sig_base.specs.Tables.{AreRows, marked}
 use Rattle.sig_base.proofs.Marks.{AreRows-marked}
 use Rattle.sig_base.proofs.rows.Rows.keep_by.Goals as goal
 

@@ -1,4 +1,3 @@
-use Rattle.std.proofs.Common.{◌≡◌, sym, ◌∙◌, ap}
 use Rattle.sig_base.specs.Values.{same_value-told}
 use Rattle.sig_base.specs.declared.value.Value.TheVariants.{Rows}
 use Rattle.sig_base.proofs.value.Value.same.Goals as goal
