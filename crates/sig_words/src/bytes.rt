@@ -3,37 +3,42 @@ ghost use Rattle.std.specs.Prelude.{◌≡◌};
 ghost use Rattle.sig_base.specs.Words.{begins_word, in_word, is_blank};
 ghost use Rattle.sig_words.specs.Tokens.{in_tag, is_escape, is_one, is_two};
 
+/// A letter or `_`.
 pub fn begins_word(b: u8) -> bool
     ensures { result ≡ begins_word b }
 {
     b.is_ascii_alphabetic() || b == b'_'
 }
 
+/// A letter, a digit or `_`.
 pub fn in_word(b: u8) -> bool
     ensures { result ≡ in_word b }
 {
     b.is_ascii_alphanumeric() || b == b'_'
 }
 
+/// What the name of a tag has behind its first letter.
 pub fn in_tag(b: u8) -> bool
     ensures { result ≡ in_tag b }
 {
     b.is_ascii_lowercase() || b.is_ascii_digit() || b == b'-'
 }
 
+/// A space or a tab.
 pub fn is_blank(b: u8) -> bool
     ensures { result ≡ is_blank b }
 {
     b == b' ' || b == b'\t'
 }
 
+/// What may stand behind a backslash.
 pub fn is_escape(b: u8) -> bool
     ensures { result ≡ is_escape b }
 {
     b == b'\\' || b == b'"' || b == b'n' || b == b'r' || b == b't'
 }
 
-// A symbol of one byte.
+/// A symbol of one byte.
 pub fn is_one(b: u8) -> bool
     ensures { result ≡ is_one b }
 {
@@ -43,7 +48,7 @@ pub fn is_one(b: u8) -> bool
     )
 }
 
-// A symbol of two bytes.
+/// A symbol of two bytes.
 pub fn is_two(b: u8, c: u8) -> bool
     ensures { result ≡ is_two b c }
 {
