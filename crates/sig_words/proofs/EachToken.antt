@@ -1,5 +1,5 @@
 -- What is known of each token of a line.
-use Rattle.std.proofs.Common.{◌≡◌, ℕ, zero, suc, ◌+◌, ◌<◌, ◌≤◌, true, List, [], ◌∷◌, length, All, arith}
+use Rattle.std.proofs.Common.{◌≡◌, ℕ, zero, suc, ◌+◌, ◌<◌, ◌≤◌, true, List, [], ◌∷◌, length, drop, All, refl, arith}
 use Rattle.std.specs.List.{list_all}
 use Rattle.std.specs.Str.{IsUtf8, IsAscii}
 use Rattle.std.proofs.lemmas.Bool.{and_parts}
@@ -10,8 +10,8 @@ use Rattle.sig_words.specs.declared.token.TokenKind.{TokenKind}
 use Rattle.sig_words.specs.declared.token.TokenKind.TheVariants.{Word, Tag, Number, Literal, Symbol}
 use Rattle.sig_words.specs.declared.token.Token.{Token}
 use Rattle.sig_words.specs.Lexemes.{text_at}
-use Rattle.sig_words.specs.Tokens.{Form, Cuts, AreTokens, IsTokenOf}
-use Rattle.sig_words.proofs.Fronts.{word_all}
+use Rattle.sig_words.specs.Tokens.{in_tag, is_tag, Form, Cuts, AreTokens, IsTokenOf}
+use Rattle.sig_words.proofs.Fronts.{word_all, tag_all}
 
 each_cut : (line : List ℕ) (from to : ℕ) (ts : List Token) → IsUtf8 line → Cuts line from ts to → All (IsTokenOf line) ts
 each_cut line from to [] u c k d h = absurd (omega arith)
@@ -63,3 +63,27 @@ word_utf8 w h = IsUtf8-from_ascii w (word_ascii w h)
 -- the bytes of a word token are UTF-8
 pub token_word_utf8 : (line : List ℕ) (t : Token) → IsTokenOf line t → t.kind ≡ Word → IsUtf8 (text_at line t)
 token_word_utf8 line t i e = word_utf8 (text_at line t) (token_word line t i e)
+
+tag_form : (k : TokenKind) (text : List ℕ) → k ≡ Tag → Form k text → (text ≡ 64 ∷ drop 1 text) × (is_tag (drop 1 text) ≡ true) × (length (drop 1 text) ≤ 32)
+tag_form Word text e f = absurd cc
+tag_form Tag text e f = rw f.1 (refl, f.2, f.3)
+tag_form (Number z) text e f = absurd cc
+tag_form Literal text e f = absurd cc
+tag_form Symbol text e f = absurd cc
+
+-- a tag token is `@` and the name of a tag, of at most 32 bytes
+pub token_tag : (line : List ℕ) (t : Token) → IsTokenOf line t → t.kind ≡ Tag
+    → (text_at line t ≡ 64 ∷ drop 1 (text_at line t)) × (is_tag (drop 1 (text_at line t)) ≡ true) × (length (drop 1 (text_at line t)) ≤ 32)
+token_tag line t i e = tag_form t.kind (text_at line t) e i.token.form
+
+tag_byte_ascii : (b : ℕ) → in_tag b ≡ true → b < 128
+tag_byte_ascii b h = grind (arith, nat_tests)
+
+tag_bytes_ascii : (bs : List ℕ) → list_all in_tag bs ≡ true → IsAscii bs
+tag_bytes_ascii [] h i = omega arith
+tag_bytes_ascii (b ∷ bs) h zero = tag_byte_ascii b (and_parts (in_tag b) (list_all in_tag bs) h).0
+tag_bytes_ascii (b ∷ bs) h (suc i) = tag_bytes_ascii bs (and_parts (in_tag b) (list_all in_tag bs) h).1 i
+
+-- the name of a tag is UTF-8
+pub tag_utf8 : (name : List ℕ) → is_tag name ≡ true → IsUtf8 name
+tag_utf8 name h = IsUtf8-from_ascii name (tag_bytes_ascii name (tag_all name h))

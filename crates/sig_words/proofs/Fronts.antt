@@ -51,7 +51,8 @@ pub word_all : (w : List ℕ) → is_word w ≡ true → list_all in_word w ≡ 
 word_all [] h = refl
 word_all (b ∷ bs) h = (and_parts (begins_word b) (list_all in_word (b ∷ bs)) h).1
 
-tag_all : (name : List ℕ) → is_tag name ≡ true → list_all in_tag name ≡ true
+-- the bytes of a tag's name are all a tag's
+pub tag_all : (name : List ℕ) → is_tag name ≡ true → list_all in_tag name ≡ true
 tag_all [] h = refl
 tag_all (b ∷ bs) h = let q = and_parts (is_ascii_lowercase b) (list_all in_tag bs) h in and_from _ _ (lower_in_tag b q.0) q.1
 

@@ -105,7 +105,7 @@ pub fn tokens(alloc: Global, line: &[u8]) -> Result<Vec<Token>, LineFault>
     cut(alloc, line)
 }
 
-/// A line is cut into tokens in one way, and one that is refused as `Bad` in none.
+/// A line is cut into tokens in one way; one that is refused as `Bad` in none, and it is refused at one place.
 pub fn one_cutting()
     ensures one { (line : List ℕ) (ts us : List AToken) → AreTokens line ts → AreTokens line us → ts ≡ us }
     ensures none { (line : List ℕ) (at : ℕ) (ts : List AToken) → IsBad line at → AreTokens line ts → ⊥ }

@@ -9,7 +9,9 @@ use std::str;
 
 /// The number whose decimal text this is.
 pub fn integer(text: &[u8]) -> Option<i64>
-    ensures { MatchOption result ((z : ℤ) → FitsSigned w64 z → text.now ≡ signed_decimal z → ⊥) (λ z. text.now ≡ signed_decimal z) }
+    ensures { MatchOption result
+        ((z : ℤ) → FitsSigned w64 z → text.now ≡ signed_decimal z → ⊥)
+        (λ z. text.now ≡ signed_decimal z) }
 {
     if !is_plain(text) {
         return None;

@@ -58,7 +58,7 @@ pub fn literal(alloc: Global, line: &[u8], token: &Token) -> Result<Text, TextFa
     requires of_line { IsTokenOf line.now token.now }
     requires is_literal { token.now.kind ≡ TokenKind.Literal }
     ensures ok { IfOk result (λ t. t ≡ text_of (inner_of (text_at line.now token.now))) }
-    ensures short { IfOk result (λ t. length (text_of (inner_of (text_at line.now token.now))) ≤ 1024) }
+    ensures short { IfOk result (λ t. length t ≤ 1024) }
     ensures long { IsErrOf result TextFault.Long → 1024 < length (text_of (inner_of (text_at line.now token.now))) }
 {
     let Ok(inner) = str::from_utf8(between_quotes(token_bytes(line, token))) else {

@@ -117,7 +117,9 @@ fn tag(bytes: &[u8]) -> Option<usize>
     requires some { 0 < length bytes.now }
     requires begins { slice_index bytes.now 0 ≡ 64 }
     ensures within { IfSome result (λ n. (0 < n) × (n ≤ length bytes.now)) }
-    ensures token { MatchOption result ((text next : List ℕ) → bytes.now ≡ text ++ next → Form TokenKind.Tag text → Ends TokenKind.Tag text next → ⊥)
+    ensures token { MatchOption result
+        ((text next : List ℕ) → bytes.now ≡ text ++ next
+        → Form TokenKind.Tag text → Ends TokenKind.Tag text next → ⊥)
         (λ n. Form TokenKind.Tag (take n bytes.now) × Ends TokenKind.Tag (take n bytes.now) (drop n bytes.now)) }
 {
     if !second(bytes).is_ascii_lowercase() {
@@ -133,8 +135,11 @@ fn tag(bytes: &[u8]) -> Option<usize>
 fn number(bytes: &[u8]) -> Option<(i64, usize)>
     requires { 0 < length bytes.now }
     ensures within { IfSome result (λ x. (0 < x.1) × (x.1 ≤ length bytes.now)) }
-    ensures token { MatchOption result ((z : ℤ) (text next : List ℕ) → bytes.now ≡ text ++ next → Form (TokenKind.Number z) text → Ends (TokenKind.Number z) text next → ⊥)
-        (λ x. Form (TokenKind.Number x.0) (take x.1 bytes.now) × Ends (TokenKind.Number x.0) (take x.1 bytes.now) (drop x.1 bytes.now)) }
+    ensures token { MatchOption result
+        ((z : ℤ) (text next : List ℕ) → bytes.now ≡ text ++ next
+        → Form (TokenKind.Number z) text → Ends (TokenKind.Number z) text next → ⊥)
+        (λ x. Form (TokenKind.Number x.0) (take x.1 bytes.now)
+        × Ends (TokenKind.Number x.0) (take x.1 bytes.now) (drop x.1 bytes.now)) }
 {
     let n = word_run(bytes);
     let (text, _) = bytes.split_at(n);
@@ -167,7 +172,8 @@ fn begins_as(sign: bool, bytes: &[u8]) -> Start
 pub fn scan(bytes: &[u8], sign: bool) -> Option<(TokenKind, usize)>
     requires { 0 < length bytes.now }
     ensures within { IfSome result (λ x. (0 < x.1) × (x.1 ≤ length bytes.now)) }
-    ensures token { MatchOption result (NoToken sign bytes.now) (λ x. IsToken sign x.0 (take x.1 bytes.now) (drop x.1 bytes.now)) }
+    ensures token { MatchOption result (NoToken sign bytes.now)
+        (λ x. IsToken sign x.0 (take x.1 bytes.now) (drop x.1 bytes.now)) }
 {
     match begins_as(sign, bytes) {
         Start::Words => Some((TokenKind::Word, word(bytes))),

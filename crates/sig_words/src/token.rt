@@ -5,15 +5,16 @@ ghost use Rattle.sig_words.specs.Lexemes.{text_at};
 /// What a token is.
 #[derive(Clone, Copy, Debug, PartialEq, Eq)]
 pub enum TokenKind {
-    /// A letter or `_`, then letters, digits and `_`.
+    /// An ASCII letter or `_`, then letters, digits and `_`.
     Word,
-    /// `@`, then the name of a tag.
+    /// `@`, a lower-case letter, then lower-case letters, digits and `-`; at most 32 bytes behind the `@`.
     Tag,
-    /// A whole number, in decimal.
+    /// A whole number in decimal with no zero to spare, and no letter or `_` right behind it. A `-` right before a digit is its
+    /// sign where a space, a tab, `(`, `,` or nothing stands before the `-`, and a symbol elsewhere.
     Number(i64),
-    /// A text between quotes.
+    /// A text between quotes, in which a backslash stands before `\`, `"`, `n`, `r` or `t` and nothing else.
     Literal,
-    /// A mark of one or two bytes.
+    /// The longest that fits of `( ) , . = == != < <= > >= + - * / % ++`.
     Symbol,
 }
 
