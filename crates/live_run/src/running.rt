@@ -85,12 +85,7 @@ fn hand_on<K: Sink>(sink: &mut K, out: &mut Vec<u8>) -> Result<(), Failed>
 }
 
 // Runs a script: reads its items one by one, does them, and prints what they tell.
-fn run_script<K: Sink>(
-    alloc: Global,
-    job: Job,
-    script: &[u8],
-    sink: &mut K,
-) -> Result<(), RunEnd>
+fn run_script<K: Sink>(alloc: Global, job: Job, script: &[u8], sink: &mut K) -> Result<(), RunEnd>
     requires { length script.now ≤ most_read }
     ensures done { OnOk result ((items : List AnItem) × ItemsFrom 1 script.now items × Appends (K.held sink.old) (K.held sink.new) (output_of job items)) }
     ensures write { IsErrOf result RunEnd.Write → Rose (K.faults sink.old) (K.faults sink.new) }

@@ -1,0 +1,64 @@
+-- What is written and told so far, and what the rest of a script tells.
+use Rattle.std.proofs.Common.{◌≡◌, ℕ, Bool, List, [], ◌∷◌, ◌++◌, flat_map, refl, sym, ◌∙◌, ap, subst, append_assoc}
+use Rattle.std.specs.declared.option.Option.{Option}
+use Rattle.std.specs.declared.option.Option.TheVariants.{Some, None}
+use Rattle.std.specs.Option.{MatchOption}
+use Rattle.std.specs.Io.KnownBytes.{Appends}
+use Rattle.std.proofs.KnownBytes.{Appends-trans, Appends-nil}
+use Rattle.std.proofs.lemmas.List.{append-nil}
+use Rattle.std.proofs.lemmas.List.Concat.{flat_map-append}
+use Rattle.script_lines.specs.Pieces.{Piece, pieces_of}
+use Rattle.live_cmd.specs.declared.command.Item.{Item}
+use Rattle.live_cmd.specs.declared.entry.Entry.{Entry}
+use Rattle.live_cmd.specs.Printed.{printed}
+use Rattle.live_cmd.specs.Items.{AreItems, IsItem, ItemsFrom, Begins}
+use Rattle.live_model.specs.declared.jobs.Job.{Job}
+use Rattle.live_model.specs.Machine.{Machine, told, step}
+use Rattle.live_model.specs.Output.{entries_from, output_from, output_of}
+
+-- whatever items the rest has, the script has some whose output is what is written, what is told, and that of the rest
+pub record SoFar (first held : Option (List ℕ)) (script : List ℕ) (j : Job) (line : ℕ) (left : List ℕ) (trace : Bool) (m : Machine) (out : List ℕ) : Type 0 where
+  pub written : List ℕ
+  pub appended : Appends first held written
+  pub whole : (rest : List Item) → ItemsFrom line left rest → (items : List Item) × ItemsFrom 1 script items × (written ++ (out ++ output_from trace m rest) ≡ output_of j items)
+
+-- some of the output is handed on
+pub record HandedOn (held next : Option (List ℕ)) (out left : List ℕ) : Type 0 where
+  pub written : List ℕ
+  pub appended : Appends held next written
+  pub whole : out ≡ written ++ left
+
+-- one item done: its entries are told, and the rest goes on from the machine that it leaves
+told_more : (trace : Bool) (out now : List ℕ) (m next : Machine) (i : Item) (es : List Entry) (rest : List Item) → now ≡ out ++ flat_map (printed trace) es → told next es ≡ step m i → now ++ output_from trace next rest ≡ out ++ output_from trace m (i ∷ rest)
+told_more trace out now m next i es rest e d =
+    ap (λ t. t ++ output_from trace next rest) e ∙ append_assoc out (flat_map (printed trace) es) (output_from trace next rest)
+    ∙ ap (λ t. out ++ t) (sym (flat_map-append (printed trace) es (entries_from next rest)))
+    ∙ ap (λ t. out ++ flat_map (printed trace) (t.entries ++ entries_from t.machine rest)) d
+
+pub next_so_far : (first held next_held : Option (List ℕ)) (script : List ℕ) (j : Job) (line after : ℕ) (left after_left : List ℕ) (trace : Bool) (m next : Machine) (i : Item) (es : List Entry) (out now rest_out : List ℕ) (p : Piece) → pieces_of line left ≡ p ∷ pieces_of after after_left → IsItem p i → told next es ≡ step m i → now ≡ out ++ flat_map (printed trace) es → HandedOn held next_held now rest_out → SoFar first held script j line left trace m out → SoFar first next_held script j after after_left trace next rest_out
+next_so_far first held next_held script j line after left after_left trace m next i es out now rest_out p front is d e h s = record {
+  written = s.written ++ h.written;
+  appended = Appends-trans first held next_held s.written h.written s.appended h.appended;
+  whole = λ rest are.
+      let all = s.whole (i ∷ rest) (subst (λ ps. AreItems ps (i ∷ rest)) (sym front) (is, are)) in
+      let o : List ℕ = output_from trace next rest in
+      (all.0, all.1,
+        append_assoc s.written h.written (rest_out ++ o)
+        ∙ ap (λ t. s.written ++ t) (sym (append_assoc h.written rest_out o) ∙ ap (λ t. t ++ o) (sym h.whole) ∙ told_more trace out now m next i es rest e d)
+        ∙ all.2);
+}
+
+-- nothing is left, and all that was told is written
+pub all_written : (first held next_held : Option (List ℕ)) (script : List ℕ) (j : Job) (line : ℕ) (left : List ℕ) (trace : Bool) (m : Machine) (out : List ℕ) → pieces_of line left ≡ [] → Appends held next_held out → SoFar first held script j line left trace m out → (items : List Item) × ItemsFrom 1 script items × Appends first next_held (output_of j items)
+all_written first held next_held script j line left trace m out none more s =
+    let all = s.whole [] (subst (λ ps. AreItems ps []) (sym none) tt) in
+    (all.0, all.1, subst (λ t. Appends first next_held t) (ap (λ t. s.written ++ t) (sym (append-nil out)) ∙ all.2) (Appends-trans first held next_held s.written out s.appended more))
+
+-- nothing is written yet
+pub nothing_so_far : (held : Option (List ℕ)) (script : List ℕ) (j : Job) (trace : Bool) (m : Machine) → ((rest : List Item) → output_from trace m rest ≡ output_of j rest) → SoFar held held script j 1 script trace m []
+nothing_so_far held script j trace m same = record { written = []; appended = Appends-nil held; whole = λ rest are. (rest, are, same rest) }
+
+-- what is said of none, where there is none
+pub said_of_none : {X : Type 0} (o : Option X) (P : Type 0) (Q : X → Type 0) → ((x : X) → o ≡ Some x → ⊥) → MatchOption o P Q → P
+said_of_none None P Q h m = m
+said_of_none (Some x) P Q h m = absurd (h x refl)

@@ -1,0 +1,14 @@
+use Rattle.std.proofs.Common.{◌≤◌, ◌+◌, ◌-◌, length, drop}
+use Rattle.live_run.proofs.Output.{SoFar}
+use Rattle.live_run.proofs.running.run_script.Given as goal
+
+abbrev pub invariant-loop-out : goal.invariant-loop-out
+invariant-loop-out g l = record {
+  told : SoFar (g.K.Sink.held l.fn.sink) (g.K.Sink.held l.sink) l.script l.fn.job l.line (drop l.at l.script) l.trace l.machine l.out.items;
+  within : l.at ≤ length l.script;
+  few : l.line ≤ 1 + l.at;
+  later : g.K.Sink.faults l.fn.sink ≤ g.K.Sink.faults l.sink;
+}
+
+abbrev pub decreases-loop-out : goal.decreases-loop-out
+decreases-loop-out g l = length l.script - l.at
