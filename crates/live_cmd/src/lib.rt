@@ -3,10 +3,14 @@
 
 mod command;
 mod entry;
+mod item;
 mod line;
+mod place;
+mod reading;
 mod refusal;
 
 pub use command::{Command, Item, Names};
 pub use entry::{Entry, PageBytes, entry_line};
+pub use item::next_item;
 pub use line::Line;
 pub use refusal::Refusal;
