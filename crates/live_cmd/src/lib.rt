@@ -4,6 +4,7 @@
 mod command;
 mod entry;
 mod item;
+mod laws;
 mod line;
 mod place;
 mod reading;
@@ -12,5 +13,6 @@ mod refusal;
 pub use command::{Command, Item, Names};
 pub use entry::{Entry, PageBytes, entry_line};
 pub use item::next_item;
+pub use laws::{items_cut, one_item, one_list, one_meaning};
 pub use line::Line;
 pub use refusal::Refusal;
