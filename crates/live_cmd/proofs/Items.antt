@@ -8,7 +8,6 @@ use Rattle.live_cmd.specs.declared.command.Command.{Command}
 use Rattle.live_cmd.specs.declared.command.Item.{Item}
 use Rattle.live_cmd.specs.declared.command.Item.TheVariants as item
 use Rattle.live_cmd.specs.declared.refusal.Refusal.TheVariants as refusal
-use Rattle.live_cmd.specs.Grammar.{Writes}
 use Rattle.live_cmd.specs.Places.{Place, first, moved}
 use Rattle.live_cmd.specs.Items.{Say, IsFaulty, IsItem, unended, faulty, said, first_number, item_or, command_of, AreItems, ItemsFrom}
 use Rattle.live_cmd.proofs.Spellings.{one_writing}

@@ -138,12 +138,12 @@ sound_one k x e = elim (chosen (says (codes "end") k) _ _ (Some x) e) [
 sound_two : (k n : Lexeme) (x : Line) → of_two k n ≡ Some x → Spells x (k ∷ n ∷ [])
 sound_two k n x e = elim (chosen (says (codes "template") k) _ _ (Some x) e) [
   | inl h ↦
-    let m = mapped (λ (t : List ℕ). line.Template t) (name_of n) x h.1 in
-    rw (is_said (codes "template") k h.0) (subst (λ (y : Line). Spells y (word (codes "template") ∷ n ∷ [])) m.2 (template m.0 n (name_read n m.0 m.1)))
+      let m = mapped (λ (t : List ℕ). line.Template t) (name_of n) x h.1 in
+      rw (is_said (codes "template") k h.0) (subst (λ (y : Line). Spells y (word (codes "template") ∷ n ∷ [])) m.2 (template m.0 n (name_read n m.0 m.1)))
   | inr h ↦ elim (chosen (says (codes "text") k) _ None (Some x) h.1) [
     | inl g ↦
-      let m = mapped (λ (t : List ℕ). line.Text t) (name_of n) x g.1 in
-      rw (is_said (codes "text") k g.0) (subst (λ (y : Line). Spells y (word (codes "text") ∷ n ∷ [])) m.2 (text m.0 n (name_read n m.0 m.1)))
+        let m = mapped (λ (t : List ℕ). line.Text t) (name_of n) x g.1 in
+        rw (is_said (codes "text") k g.0) (subst (λ (y : Line). Spells y (word (codes "text") ∷ n ∷ [])) m.2 (text m.0 n (name_read n m.0 m.1)))
     | inr g ↦ let f = g.1 in absurd cc
   ]
 ]
@@ -151,12 +151,12 @@ sound_two k n x e = elim (chosen (says (codes "template") k) _ _ (Some x) e) [
 sound_three : (k n v : Lexeme) (x : Line) → of_three k n v ≡ Some x → Spells x (k ∷ n ∷ v ∷ [])
 sound_three k n v x e = elim (chosen (says (codes "set") k) _ _ (Some x) e) [
   | inl h ↦
-    let m = with_value_read (λ (t : List ℕ) (u : Scalar). line.Set t u) (name_of n) (scalar_of v) x h.1 in
-    rw (is_said (codes "set") k h.0) (subst (λ (y : Line). Spells y (word (codes "set") ∷ n ∷ v ∷ [])) m.4 (set m.0 m.1 n v (name_read n m.0 m.2) (scalar_read v m.1 m.3)))
+      let m = with_value_read (λ (t : List ℕ) (u : Scalar). line.Set t u) (name_of n) (scalar_of v) x h.1 in
+      rw (is_said (codes "set") k h.0) (subst (λ (y : Line). Spells y (word (codes "set") ∷ n ∷ v ∷ [])) m.4 (set m.0 m.1 n v (name_read n m.0 m.2) (scalar_read v m.1 m.3)))
   | inr h ↦ elim (chosen (says (codes "mount") k) _ None (Some x) h.1) [
     | inl g ↦
-      let m = mount_read (name_of n) (name_of v) x g.1 in
-      rw (is_said (codes "mount") k g.0) (subst (λ (y : Line). Spells y (word (codes "mount") ∷ n ∷ v ∷ [])) m.4 (mount m.0 m.1 n v (name_read n m.0 m.2) (name_read v m.1 m.3)))
+        let m = mount_read (name_of n) (name_of v) x g.1 in
+        rw (is_said (codes "mount") k g.0) (subst (λ (y : Line). Spells y (word (codes "mount") ∷ n ∷ v ∷ [])) m.4 (mount m.0 m.1 n v (name_read n m.0 m.2) (name_read v m.1 m.3)))
     | inr g ↦ let f = g.1 in absurd cc
   ]
 ]
@@ -164,10 +164,10 @@ sound_three k n v x e = elim (chosen (says (codes "set") k) _ _ (Some x) e) [
 sound_four : (k n e v : Lexeme) (x : Line) → of_four k n e v ≡ Some x → Spells x (k ∷ n ∷ e ∷ v ∷ [])
 sound_four k n e v x h = elim (chosen (says (codes "cell") k && marks (codes "=") e) _ None (Some x) h) [
   | inl g ↦
-    let both = and_parts (says (codes "cell") k) (marks (codes "=") e) g.0 in
-    let m = with_value_read (λ (t : List ℕ) (u : Scalar). line.Cell t u) (name_of n) (scalar_of v) x g.1 in
-    rw (is_said (codes "cell") k both.0, is_marked (codes "=") e both.1)
-    (subst (λ (y : Line). Spells y (word (codes "cell") ∷ n ∷ symbol (codes "=") ∷ v ∷ [])) m.4 (cell m.0 m.1 n v (name_read n m.0 m.2) (scalar_read v m.1 m.3)))
+      let both = and_parts (says (codes "cell") k) (marks (codes "=") e) g.0 in
+      let m = with_value_read (λ (t : List ℕ) (u : Scalar). line.Cell t u) (name_of n) (scalar_of v) x g.1 in
+      rw (is_said (codes "cell") k both.0, is_marked (codes "=") e both.1)
+      (subst (λ (y : Line). Spells y (word (codes "cell") ∷ n ∷ symbol (codes "=") ∷ v ∷ [])) m.4 (cell m.0 m.1 n v (name_read n m.0 m.2) (scalar_read v m.1 m.3)))
   | inr g ↦ let f = g.1 in absurd cc
 ]
 

@@ -177,3 +177,141 @@ pub fn next_item(
     let found = item_of(alloc, &piece)?;
     Ok(Some((found, next, after)))
 }
+
+#[cfg(test)]
+mod tests {
+    use super::next_item;
+    use crate::{Command, Item, Refusal};
+    use sig_base::Scalar;
+    use std::alloc::{AllocError, Global};
+    use std::test::Fail;
+
+    // The first item of a short script whose first line has the number 5.
+    fn item(alloc: Global, script: &[u8]) -> Option<Item> {
+        if script.len() > 100_000 {
+            return None;
+        }
+        match next_item(alloc, script, 0, 5) {
+            Ok(Some((item, _, _))) => Some(item),
+            _ => None,
+        }
+    }
+
+    // The line at which the first item is refused.
+    fn refused_at(alloc: Global, script: &[u8]) -> Option<u32> {
+        match item(alloc, script) {
+            Some(Item::Refused(Refusal::Syntax(number))) => Some(number),
+            _ => None,
+        }
+    }
+
+    // The names of the first item's texts, one after the other.
+    fn texts(alloc: Global, script: &[u8]) -> Result<Option<String>, AllocError> {
+        let Some(Item::Do(Command::Template { name, texts })) = item(alloc, script) else {
+            return Ok(None);
+        };
+        let mut out = String::new(alloc);
+        out.push_str(name.as_str())?;
+        for text in texts.as_slice() {
+            out.push(' ')?;
+            out.push_str(text.as_str())?;
+        }
+        Ok(Some(out))
+    }
+
+    // The value that the first item gives a cell.
+    fn value(alloc: Global, script: &[u8]) -> Option<Scalar> {
+        match item(alloc, script) {
+            Some(Item::Do(Command::Cell { name: _, value })) => Some(value),
+            _ => None,
+        }
+    }
+
+    // The number that it gives a cell.
+    fn number(alloc: Global, script: &[u8]) -> Option<i64> {
+        match value(alloc, script) {
+            Some(Scalar::Int(n)) => Some(n),
+            _ => None,
+        }
+    }
+
+    // How many bytes the text has that it gives a cell.
+    fn text_len(alloc: Global, script: &[u8]) -> Option<usize> {
+        match value(alloc, script) {
+            Some(Scalar::Text(text)) => Some(text.len()),
+            _ => None,
+        }
+    }
+
+    fn cell_of(alloc: Global, bytes: usize) -> Result<Vec<u8>, AllocError> {
+        let mut script = Vec::new(alloc);
+        script.extend_from_slice(b"cell a = \"")?;
+        for _ in 0..bytes {
+            script.push(b'x')?;
+        }
+        script.push(b'"')?;
+        Ok(script)
+    }
+
+    fn template_of(alloc: Global, lines: usize) -> Result<Vec<u8>, AllocError> {
+        let mut script = Vec::new(alloc);
+        script.extend_from_slice(b"template t\n")?;
+        for _ in 0..lines {
+            script.extend_from_slice(b"text a\n")?;
+        }
+        script.extend_from_slice(b"end\n")?;
+        Ok(script)
+    }
+
+    #[test]
+    fn reads_commands(rt: HostRuntime) -> Result<(), Fail> {
+        let alloc = rt.alloc();
+        assert!(rt; matches!(next_item(alloc, b"", 0, 1), Ok(None)));
+        assert!(rt;
+            matches!(
+                next_item(alloc, b"\nflush\nset a true", 1, 2),
+                Ok(Some((Item::Do(Command::Flush), 7, 3)))
+            )
+        );
+        assert_eq!(rt; number(alloc, b" cell\ta= -5 \nend"), Some(-5));
+        assert_eq!(rt;
+            texts(alloc, b"template t\n text b\ntext a\nend\nflush")?,
+            Some("t b a".to_string(alloc)?)
+        );
+        Ok(())
+    }
+
+    #[test]
+    fn refuses_lines(rt: HostRuntime) -> Result<(), Fail> {
+        let alloc = rt.alloc();
+        for (script, number) in [
+            ("", None),
+            ("\n", Some(5)),
+            ("# x", Some(5)),
+            ("flush\r\n", Some(5)),
+            ("end", Some(5)),
+            ("text a", Some(5)),
+            ("cell true = 1", Some(5)),
+            ("template t\ntext a\ntext\nset a\nend", Some(7)),
+            ("template t\ntext a\n", Some(5)),
+            ("template t\nflush\nend", Some(6)),
+        ] {
+            assert_eq!(rt; refused_at(alloc, script.as_bytes()), number, "at {script}");
+        }
+        Ok(())
+    }
+
+    #[test]
+    fn keeps_limits(rt: HostRuntime) -> Result<(), Fail> {
+        let alloc = rt.alloc();
+        let longest = cell_of(alloc, 1024)?;
+        assert_eq!(rt; text_len(alloc, &longest), Some(1024));
+        let longer = cell_of(alloc, 1025)?;
+        assert_eq!(rt; refused_at(alloc, &longer), Some(5));
+        let largest = template_of(alloc, 128)?;
+        assert!(rt; matches!(item(alloc, &largest), Some(Item::Do(_))));
+        let larger = template_of(alloc, 129)?;
+        assert_eq!(rt; refused_at(alloc, &larger), Some(134));
+        Ok(())
+    }
+}

@@ -121,12 +121,7 @@ fn of_one(line: &[u8], first: &Token) -> Option<Line>
     }
 }
 
-fn of_two(
-    alloc: Global,
-    line: &[u8],
-    first: &Token,
-    name: &Token,
-) -> Result<Option<Line>, NoMemory>
+fn of_two(alloc: Global, line: &[u8], first: &Token, name: &Token) -> Result<Option<Line>, NoMemory>
     ensures { IfOk result (λ found. found ≡ of_two (lexeme line.now first.now) (lexeme line.now name.now)) }
 {
     if is_word(line, first, b"template") {

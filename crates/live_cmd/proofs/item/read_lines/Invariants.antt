@@ -1,4 +1,4 @@
-use Rattle.std.proofs.Common.{◌≡◌, ◌++◌, ℕ, List, map, drop}
+use Rattle.std.proofs.Common.{◌++◌, ℕ, List, map, drop}
 use Rattle.script_lines.specs.Views.{line_of}
 use Rattle.live_cmd.specs.declared.line.Line.{Line}
 use Rattle.live_cmd.specs.Places.{first}

@@ -1,4 +1,4 @@
-use Rattle.std.proofs.Common.{◌≡◌, ◌++◌, List, ℕ, option_map}
+use Rattle.std.proofs.Common.{◌≡◌, ◌++◌, option_map}
 use Rattle.std.specs.Vec.Iter.{into_iter_items, into_iter_len}
 use Rattle.live_cmd.specs.Items.{texts_of}
 use Rattle.live_cmd.proofs.item.texts_of.Given as goal

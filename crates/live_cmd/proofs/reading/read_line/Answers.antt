@@ -1,4 +1,3 @@
-use Rattle.std.proofs.Common.{length}
 use Rattle.sig_words.proofs.EachToken.{each_token}
 use Rattle.live_cmd.proofs.Spellings.{from_tokens, bad_none}
 use Rattle.live_cmd.proofs.reading.read_line.Goals as goal
