@@ -1,5 +1,5 @@
 -- What the pieces of a script are: commands, or refused.
-use Rattle.std.specs.Prelude.{◌≡◌, ◌⊎◌, ℕ, true, false, List, [], ◌∷◌, Option, Some, None, option_map, IsTrue}
+use Rattle.std.specs.Prelude.{◌≡◌, ◌⊎◌, ℕ, true, false, List, [], ◌∷◌, Option, Some, None, option_map, IsTrue, drop}
 use Rattle.script_lines.specs.Lines.{NumberedLine}
 use Rattle.script_lines.specs.Pieces.{Piece, pieces_of}
 use Rattle.live_cmd.specs.declared.line.Line.{Line}
@@ -64,3 +64,9 @@ AreItems _ _ = ⊥
 -- the items of a script whose first line has this number
 abbrev pub ItemsFrom : ℕ → List ℕ → List Item → Type 0
 ItemsFrom n script is = AreItems (pieces_of n script) is
+
+-- the item that begins at a byte, which begins a line of this number; what comes after it begins there, with that number
+pub record Begins (script : List ℕ) (at line : ℕ) (i : Item) (next after : ℕ) : Type 0 where
+  pub piece : Piece
+  pub front : pieces_of line (drop at script) ≡ piece ∷ pieces_of after (drop next script)
+  pub item : IsItem piece i

@@ -2,3 +2,5 @@ pub mod Grammar
 pub mod Items
 pub mod Places
 pub mod Printed
+pub mod Reading
+pub mod Views

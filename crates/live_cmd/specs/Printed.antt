@@ -1,5 +1,5 @@
 -- The lines in which entries are printed.
-use Rattle.std.specs.Prelude.{ℕ, Bool, false, List, [], ◌∷◌, ◌++◌, ◌&&◌, not, length, codes, if◌then◌else◌}
+use Rattle.std.specs.Prelude.{ℕ, Bool, false, List, [], ◌++◌, ◌&&◌, not, length, codes, if◌then◌else◌}
 use Rattle.std.specs.Fmt.{decimal}
 use Rattle.live_cmd.specs.declared.refusal.Refusal.{Refusal}
 use Rattle.live_cmd.specs.declared.refusal.Refusal.TheVariants as refusal

@@ -3,10 +3,16 @@
 
 mod command;
 mod entry;
+mod item;
+mod laws;
 mod line;
+mod place;
+mod reading;
 mod refusal;
 
 pub use command::{Command, Item, Names};
 pub use entry::{Entry, PageBytes, entry_line};
+pub use item::next_item;
+pub use laws::{items_cut, one_item, one_list, one_meaning};
 pub use line::Line;
 pub use refusal::Refusal;
