@@ -1,0 +1,65 @@
+// Reads and writes that fail, each call in turn.
+
+use crate::run::{FIRST_OUTPUT, FIRST_PAGE, Run, run_over, run_whole};
+use live_run::{MOST_READ, Status};
+use sig_io::{MemSink, MemSource};
+use std::alloc::Global;
+use std::test::Fail;
+
+// A run of the first page in pieces of four bytes, of which a read or a write fails.
+fn first_page(alloc: Global, takes: &[u64], puts: &[u64]) -> Result<Run, Fail> {
+    run_over(
+        alloc,
+        "live run",
+        FIRST_PAGE,
+        4,
+        takes.to_vec(alloc)?,
+        puts.to_vec(alloc)?,
+    )
+}
+
+#[test]
+fn tells_each_failed_read(rt: HostRuntime) -> Result<(), Fail> {
+    let reads = (FIRST_PAGE.len() as u64 + 3) / 4 + 1;
+    for call in 1..reads + 1 {
+        let run = first_page(rt.alloc(), &[call], &[])?;
+        assert_eq!(rt; run.status, Status::ReadFault, "at read {call}");
+        assert!(rt; run.held.is_empty(), "at read {call}");
+    }
+    let run = first_page(rt.alloc(), &[reads + 1], &[])?;
+    assert_eq!(rt; run.status, Status::Done);
+    Ok(())
+}
+
+#[test]
+fn tells_each_failed_write(rt: HostRuntime) -> Result<(), Fail> {
+    let writes = (FIRST_OUTPUT.len() as u64 + 3) / 4;
+    for call in 1..writes + 1 {
+        let run = first_page(rt.alloc(), &[], &[call])?;
+        assert_eq!(rt; run.status, Status::WriteFault, "at write {call}");
+        assert!(rt;
+            FIRST_OUTPUT.as_bytes().starts_with(run.held.as_slice()),
+            "at write {call}"
+        );
+        assert_eq!(rt; run.held.len() as u64, 4 * (call - 1), "at write {call}");
+    }
+    let run = first_page(rt.alloc(), &[], &[writes + 1])?;
+    assert_eq!(rt; run.status, Status::Done);
+    assert_eq!(rt; run.held.as_slice(), FIRST_OUTPUT.as_bytes());
+    Ok(())
+}
+
+#[test]
+fn refuses_a_script_that_is_too_long(rt: HostRuntime) -> Result<(), Fail> {
+    let alloc = rt.alloc();
+    let words = crate::run::words_of(alloc, "live run")?;
+    let script = vec![in alloc; b'x'; MOST_READ + 1]?;
+    let mut source = MemSource::new(script, usize::MAX, Vec::new(alloc));
+    let mut sink = MemSink::new(alloc, 100, 100, Vec::new(alloc))?;
+    let status = live_run::run_live(alloc, &words, &mut source, &mut sink);
+    assert_eq!(rt; status, Status::TooLong);
+    assert!(rt; sink.held().is_empty());
+    let run = run_whole(alloc, "live run", "x")?;
+    assert_eq!(rt; run.held.as_slice(), b"error 1 1\n".as_slice());
+    Ok(())
+}

@@ -1,0 +1,9 @@
+//! Worked scripts and what they print, over sources and sinks in memory.
+#![tactic(auto)]
+
+#[cfg(test)]
+mod faults;
+#[cfg(test)]
+mod rows;
+#[cfg(test)]
+mod run;
