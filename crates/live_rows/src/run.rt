@@ -7,21 +7,21 @@ use std::alloc::{AllocError, Global};
 use std::test::Fail;
 
 /// The script of the first page: two cells, a template of both, a page, a set and a flush.
-pub const FIRST_PAGE: &str =
+pub(crate) const FIRST_PAGE: &str =
     "cell a = 1\ncell b = \"x<y\"\ntemplate t\ntext a\ntext b\nend\nmount p t\nset a 2\nflush\n";
 
 /// What it prints.
-pub const FIRST_OUTPUT: &str = "page p 7\n1x&lt;y\npage p 7\n2x&lt;y\n";
+pub(crate) const FIRST_OUTPUT: &str = "page p 7\n1x&lt;y\npage p 7\n2x&lt;y\n";
 
 /// A run: its status and what the sink holds after it.
 #[derive(Debug, Drop)]
-pub struct Run {
-    pub status: Status,
-    pub held: Vec<u8>,
+pub(crate) struct Run {
+    pub(crate) status: Status,
+    pub(crate) held: Vec<u8>,
 }
 
 /// The words of a command line, which blanks separate.
-pub fn words_of(alloc: Global, line: &str) -> Result<Vec<String>, AllocError> {
+pub(crate) fn words_of(alloc: Global, line: &str) -> Result<Vec<String>, AllocError> {
     let mut words = Vec::new(alloc);
     for word in line.split(' ') {
         words.push(String::from_str(alloc, word)?)?;
@@ -31,7 +31,7 @@ pub fn words_of(alloc: Global, line: &str) -> Result<Vec<String>, AllocError> {
 
 /// Runs a script. The source gives at most `most` bytes a call and fails at the calls of `takes`; the sink takes as many
 /// and fails at the calls of `puts`.
-pub fn run_over(
+pub(crate) fn run_over(
     alloc: Global,
     line: &str,
     script: &str,
@@ -53,6 +53,6 @@ pub fn run_over(
 }
 
 /// Runs a script over a source and a sink that never fail.
-pub fn run_whole(alloc: Global, line: &str, script: &str) -> Result<Run, Fail> {
+pub(crate) fn run_whole(alloc: Global, line: &str, script: &str) -> Result<Run, Fail> {
     run_over(alloc, line, script, 4096, Vec::new(alloc), Vec::new(alloc))
 }
