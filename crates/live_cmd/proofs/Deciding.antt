@@ -1,5 +1,5 @@
 -- Each piece of a script is some item.
-use Rattle.std.proofs.Common.{◌≡◌, ◌<◌, ◌≤◌, ℕ, true, false, List, [], ◌∷◌, length, Option, Some, None, refl, sym, ap, ◌∙◌, inl, inr, arith, ◌⊎◌}
+use Rattle.std.proofs.Common.{◌≡◌, ◌<◌, ◌≤◌, ℕ, true, List, [], ◌∷◌, length, Option, Some, None, refl, ap, ◌∙◌, inl, inr, arith, ◌⊎◌}
 use Rattle.std.specs.Prelude.{nat_le, IsTrue}
 use Rattle.std.proofs.lemmas.Bool.{cases_Bool}
 use Rattle.std.proofs.lemmas.Bool.Decides.{nat_tests}
@@ -28,14 +28,14 @@ of_tokens bytes ts (Some x) a short e = inl (x, writes bytes ts x a short e)
 pub line_or_none : (bytes : List ℕ) → ((x : Line) × Writes x bytes) ⊎ ((x : Line) → Writes x bytes → ⊥)
 line_or_none bytes = elim (cases_Bool (nat_le (length bytes) 4096)) [
   | inl e ↦
-    let short : length bytes ≤ 4096 = grind (arith, nat_tests) in
-    elim (tokens_or_none bytes) [
-      | inl t ↦ of_tokens bytes t.0 (line_of (lexemes bytes t.0)) t.1 short refl
-      | inr none ↦ inr (λ x w. none w.tokens w.cut)
-    ]
+      let short : length bytes ≤ 4096 = grind (arith, nat_tests) in
+      elim (tokens_or_none bytes) [
+        | inl t ↦ of_tokens bytes t.0 (line_of (lexemes bytes t.0)) t.1 short refl
+        | inr none ↦ inr (λ x w. none w.tokens w.cut)
+      ]
   | inr e ↦
-    let long : 4096 < length bytes = grind (arith, nat_tests) in
-    inr (λ x w. let short = w.short in omega arith)
+      let long : 4096 < length bytes = grind (arith, nat_tests) in
+      inr (λ x w. let short = w.short in omega arith)
 ]
 
 -- a line says something that may stand there, or nothing

@@ -1,6 +1,6 @@
 -- Each line has tokens or has none.
-use Rattle.std.proofs.Common.{◌≡◌, ℕ, zero, suc, ◌+◌, ◌-◌, ◌<◌, ◌≤◌, ◌^◌, Bool, true, false, cond, List, [], ◌∷◌, ◌++◌, length, take, drop, refl, sym, ap, ◌∙◌, arith, inl, inr, ◌⊎◌, Option, Some, None, Err, rules}
-use Rattle.std.specs.Prelude.{◌==◌, ◌||◌, ◌&&◌, ℤ, pos, negsuc, slice_index, option_map, nat_lt, nat_le}
+use Rattle.std.proofs.Common.{◌≡◌, ℕ, zero, suc, ◌+◌, ◌-◌, ◌<◌, ◌≤◌, ◌^◌, Bool, true, false, List, [], ◌∷◌, ◌++◌, length, take, drop, refl, sym, ap, ◌∙◌, arith, inl, inr, ◌⊎◌, Option, Some, None, rules}
+use Rattle.std.specs.Prelude.{◌==◌, ℤ, pos, negsuc, slice_index, option_map, nat_lt, nat_le}
 use Rattle.std.specs.List.{list_all, prefix_len}
 use Rattle.std.specs.Char.{is_ascii_lowercase}
 use Rattle.std.specs.Cmp.Lexicographic.{same_text}
@@ -8,7 +8,7 @@ use Rattle.std.specs.Fmt.{signed_decimal}
 use Rattle.std.specs.Int.{w64}
 use Rattle.std.specs.Int.Signed.{mag}
 use Rattle.std.specs.Int.RustNames.{FitsSigned}
-use Rattle.std.specs.Str.{IsUtf8, is_utf8, bytes_eq}
+use Rattle.std.specs.Str.{is_utf8, bytes_eq}
 use Rattle.std.specs.Str.Parse.{signed_digits_value}
 use Rattle.std.proofs.lemmas.Bool.{cases_Bool, and_parts, and_from}
 use Rattle.std.proofs.lemmas.Bool.Decides.{nat_tests}
@@ -21,7 +21,7 @@ use Rattle.sig_words.specs.declared.token.Token.{Token}
 use Rattle.sig_words.specs.declared.scan.Start.{Start}
 use Rattle.sig_words.specs.declared.scan.Start.TheVariants.{Words, Tags, Numbers, Literals, Symbols}
 use Rattle.sig_words.specs.Scanning.{closing, is_plain, opens_as}
-use Rattle.sig_words.specs.Tokens.{in_tag, is_tag, is_escape, is_one, is_two, IsSymbol, Form, Ends, IsToken, NoToken, Cuts, AreTokens, NoneBegins, no_token, may_sign}
+use Rattle.sig_words.specs.Tokens.{in_tag, is_tag, is_escape, is_one, is_two, IsSymbol, Form, IsToken, NoToken, Cuts, AreTokens, NoneBegins, no_token, may_sign}
 use Rattle.sig_words.proofs.Numbers.{small, not_plain, not_parsed, parsed}
 use Rattle.sig_words.proofs.Fronts.{index_drop, word_token, opens_begins, opens_at, tag_front, tag_size, tag_token, no_tag, number_run, number_token, no_number, literal_token, no_literal, symbol_token, no_symbol, cuts_more, stands}
 use Rattle.sig_words.proofs.Cuttings.{no_cutting}
@@ -102,17 +102,17 @@ tag_or_none sign bytes some start =
       | inr e ↦ inr (no_tag sign bytes start (λ text next is form ends. let h = form_lower text next bytes is form in absurd cc))
       | inl e ↦ elim (cases_Bool (nat_le r.len 33)) [
         | inl f ↦
-          let few : r.len ≤ 33 = grind (arith, nat_tests) in
-          inl (record {
-            kind = Tag;
-            len = r.len;
-            some = r.some;
-            within = r.within;
-            token = tag_token sign bytes r.len (tag_front bytes r.len (opens_at sign (slice_index bytes 0) (slice_index bytes 1) start) e r.some r.within few r.all r.ends);
-          })
+            let few : r.len ≤ 33 = grind (arith, nat_tests) in
+            inl (record {
+              kind = Tag;
+              len = r.len;
+              some = r.some;
+              within = r.within;
+              token = tag_token sign bytes r.len (tag_front bytes r.len (opens_at sign (slice_index bytes 0) (slice_index bytes 1) start) e r.some r.within few r.all r.ends);
+            })
         | inr f ↦
-          let many : 33 < r.len = grind (arith, nat_tests) in
-          inr (no_tag sign bytes start (λ text next is form ends. let h = tag_size text next bytes r.len is form ends r.some r.within r.all r.ends in absurd (omega arith)))
+            let many : 33 < r.len = grind (arith, nat_tests) in
+            inr (no_tag sign bytes start (λ text next is form ends. let h = tag_size text next bytes r.len is form ends r.some r.within r.all r.ends in absurd (omega arith)))
       ]
     ]
 
@@ -135,6 +135,7 @@ number_or_none text = elim (cases_Bool (is_plain text)) [
   where
     own_bytes : (a : List ℕ) → bytes_eq a a ≡ true
     own_bytes a = search rules
+
     no_text : (a b : List ℕ) → a ≡ b → bytes_eq a b ≡ false → ⊥
     no_text a b e f = let g : bytes_eq b b ≡ false = rw e at f in let h = own_bytes b in absurd cc
 
@@ -143,14 +144,14 @@ number_or_no sign bytes some start =
     let r = run_of in_word bytes refl some in
     elim (number_or_none (take r.len bytes)) [
       | inl n ↦
-        let stops : in_word (slice_index (drop r.len bytes) 0) ≡ false = ap in_word (index_drop r.len bytes) ∙ r.ends in
-        inl (record {
-          kind = Number n.0;
-          len = r.len;
-          some = r.some;
-          within = r.within;
-          token = number_token sign bytes r.len n.0 r.some start (n.1, n.2) stops;
-        })
+          let stops : in_word (slice_index (drop r.len bytes) 0) ≡ false = ap in_word (index_drop r.len bytes) ∙ r.ends in
+          inl (record {
+            kind = Number n.0;
+            len = r.len;
+            some = r.some;
+            within = r.within;
+            token = number_token sign bytes r.len n.0 r.some start (n.1, n.2) stops;
+          })
       | inr none ↦ inr (no_number sign bytes start (λ z text next e form ends. none z form.0 (number_run z text next bytes r.len e form ends r.some r.all r.ends)))
     ]
 
@@ -200,6 +201,7 @@ symbol_or_none sign (b ∷ []) some start = elim (cases_Bool (is_one b)) [
   where
     one_alone : (b : ℕ) → is_two b 0 ≡ false
     one_alone b = grind (arith, nat_tests)
+
     no_alone : (b : ℕ) → is_one b ≡ false → (text next : List ℕ) → b ∷ [] ≡ text ++ next → IsSymbol text → ⊥
     no_alone b e [] next is s = s
     no_alone b e (c ∷ []) next is s = let h = ap (λ (l : List ℕ). slice_index l 0) is in absurd cc
@@ -265,28 +267,28 @@ next_cut line before from start cuts within is =
     let blanks : list_all is_blank (take (start - from) (drop from line)) ≡ true = rw gone (front_all is_blank (drop from line)) in
     elim (cases_Bool (nat_lt start (length line))) [
       | inr e ↦
-        let all : length line ≤ start = grind (arith, nat_tests) in
-        inl (record { tokens = before; last = from; cuts = cuts; blanks = all_blank (drop from line) (omega arith) })
+          let all : length line ≤ start = grind (arith, nat_tests) in
+          inl (record { tokens = before; last = from; cuts = cuts; blanks = all_blank (drop from line) (omega arith) })
       | inl e ↦
-        let inside : start < length line = grind (arith, nat_tests) in
-        let rest = length-drop start line in
-        let at : is_blank (slice_index line start) ≡ false = rw (get_or-drop from line (prefix_len is_blank (drop from line)) 0, ← is) at (front_ends is_blank (drop from line) refl) in
-        elim (token_or_none (may_sign line start) (drop start line) (omega arith)) [
-          | inr none ↦ inr (inl (record {
-            at = start;
-            none = record { before = before; last = from; cuts = cuts; after = omega arith; within = inside; blanks = blanks; no_blank = at; none = none };
-          }))
-          | inl f ↦
-            let some = f.some in let most = f.within in
-            let t : Token = record { kind = f.kind; start = start; end = start + f.len } in
-            inr (inr (record {
-              tokens = before ++ t ∷ [];
-              to = start + f.len;
-              cuts = cuts_more line 0 from before t cuts (stands line (drop start line) from start f.len f.kind (may_sign line start) (omega arith) (omega arith) blanks refl refl f.some f.within f.token);
-              after = omega arith;
-              within = omega arith;
+          let inside : start < length line = grind (arith, nat_tests) in
+          let rest = length-drop start line in
+          let at : is_blank (slice_index line start) ≡ false = rw (get_or-drop from line (prefix_len is_blank (drop from line)) 0, ← is) at (front_ends is_blank (drop from line) refl) in
+          elim (token_or_none (may_sign line start) (drop start line) (omega arith)) [
+            | inr none ↦ inr (inl (record {
+              at = start;
+              none = record { before = before; last = from; cuts = cuts; after = omega arith; within = inside; blanks = blanks; no_blank = at; none = none };
             }))
-        ]
+            | inl f ↦
+                let some = f.some in let most = f.within in
+                let t : Token = record { kind = f.kind; start = start; end = start + f.len } in
+                inr (inr (record {
+                  tokens = before ++ t ∷ [];
+                  to = start + f.len;
+                  cuts = cuts_more line 0 from before t cuts (stands line (drop start line) from start f.len f.kind (may_sign line start) (omega arith) (omega arith) blanks refl refl f.some f.within f.token);
+                  after = omega arith;
+                  within = omega arith;
+                }))
+          ]
     ]
 
 cut_or_stop : (fuel : ℕ) (line : List ℕ) (before : List Token) (from : ℕ) → Cuts line 0 before from → from ≤ length line → length line < from + fuel → Whole line ⊎ Stops line
@@ -304,9 +306,9 @@ pub tokens_or_none : (line : List ℕ) → ((ts : List Token) × AreTokens line 
 tokens_or_none line = elim (cases_Bool (is_utf8 line)) [
   | inr e ↦ inr (λ ts a. let h = is_utf8-from_IsUtf8 line a.utf8 in absurd cc)
   | inl e ↦
-    let utf8 = IsUtf8-from_is_utf8 line e in
-    elim (cut_or_stop (length line + 1) line [] 0 refl (omega arith) (omega arith)) [
-      | inl w ↦ inl (w.tokens, record { utf8 = utf8; last = w.last; cuts = w.cuts; blanks = w.blanks })
-      | inr s ↦ inr (λ ts a. no_cutting line s.at ts (no_token utf8 s.none) a)
-    ]
+      let utf8 = IsUtf8-from_is_utf8 line e in
+      elim (cut_or_stop (length line + 1) line [] 0 refl (omega arith) (omega arith)) [
+        | inl w ↦ inl (w.tokens, record { utf8 = utf8; last = w.last; cuts = w.cuts; blanks = w.blanks })
+        | inr s ↦ inr (λ ts a. no_cutting line s.at ts (no_token utf8 s.none) a)
+      ]
 ]
