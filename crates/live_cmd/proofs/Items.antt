@@ -1,5 +1,5 @@
 -- What a piece of a script is.
-use Rattle.std.proofs.Common.{◌≡◌, ℕ, ◌+◌, true, false, List, [], ◌∷◌, ◌++◌, length, Option, refl, sym, ap, subst, ◌∙◌, inl, inr}
+use Rattle.std.proofs.Common.{◌≡◌, ℕ, ◌+◌, true, false, List, [], ◌∷◌, ◌++◌, length, drop, Option, refl, sym, ap, subst, ◌∙◌, inl, inr}
 use Rattle.script_lines.specs.Lines.{NumberedLine, EndsLine, lines, numbered}
 use Rattle.script_lines.specs.Pieces.{Piece, outside, pieces_of, place_after}
 use Rattle.script_lines.proofs.Cutting.{script_cut}
@@ -9,7 +9,7 @@ use Rattle.live_cmd.specs.declared.command.Item.{Item}
 use Rattle.live_cmd.specs.declared.command.Item.TheVariants as item
 use Rattle.live_cmd.specs.declared.refusal.Refusal.TheVariants as refusal
 use Rattle.live_cmd.specs.Places.{Place, first, moved}
-use Rattle.live_cmd.specs.Items.{Say, IsFaulty, IsItem, unended, faulty, said, first_number, item_or, command_of, AreItems, ItemsFrom}
+use Rattle.live_cmd.specs.Items.{Say, IsFaulty, IsItem, unended, faulty, said, first_number, item_or, command_of, AreItems, ItemsFrom, Begins}
 use Rattle.live_cmd.proofs.Spellings.{one_writing}
 
 -- a block without its end is refused at its first line
@@ -94,3 +94,10 @@ pub items_cut : (n : ℕ) (x y : List ℕ) (is js : List Item) → EndsLine x �
     → ItemsFrom n x is → ItemsFrom (n + length (lines x)) y js → ItemsFrom n (x ++ y) (is ++ js)
 items_cut n x y is js ends closed a b =
     subst (λ (ps : List Piece). AreItems ps (is ++ js)) (sym (script_cut n x y ends closed)) (are_append (pieces_of n x) (pieces_of (n + length (lines x)) y) is js a b)
+
+-- ---- one item after another
+
+-- the items from a byte on are the one that begins there and those that follow it
+pub items_in_turn : (script : List ℕ) (at line next after : ℕ) (i : Item) (is : List Item) → Begins script at line i next after
+    → ItemsFrom after (drop next script) is → ItemsFrom line (drop at script) (i ∷ is)
+items_in_turn script at line next after i is b rest = subst (λ (ps : List Piece). AreItems ps (i ∷ is)) (sym b.front) (b.item, rest)

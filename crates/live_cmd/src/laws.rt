@@ -1,29 +1,37 @@
 // What holds of every line and every script.
-ghost use Rattle.std.specs.Prelude.{◌≡◌, ◌+◌, ◌++◌, ℕ, List, length};
+ghost use Rattle.std.specs.Prelude.{◌≡◌, ◌∷◌, ◌+◌, ◌++◌, ℕ, List, length, drop};
 ghost use Rattle.script_lines.specs.Lines.{EndsLine, lines, numbered};
 ghost use Rattle.script_lines.specs.Pieces.{Piece, outside, place_after};
 ghost use Rattle.live_cmd.specs.declared.line.Line.{Line};
 ghost use Rattle.live_cmd.specs.declared.command.Item.{Item};
 ghost use Rattle.live_cmd.specs.Grammar.{Writes};
-ghost use Rattle.live_cmd.specs.Items.{IsItem, ItemsFrom};
+ghost use Rattle.live_cmd.specs.Items.{Begins, IsItem, ItemsFrom};
 
 /// The bytes of a line say one thing.
 pub fn one_meaning()
     ensures { (bytes : List ℕ) (x y : Line) → Writes x bytes → Writes y bytes → x ≡ y }
 {}
 
-/// A piece of a script is one item.
+/// A piece of a script is exactly one item.
 pub fn one_item()
-    ensures { (piece : Piece) (i j : Item) → IsItem piece i → IsItem piece j → i ≡ j }
+    ensures some { (piece : Piece) → (i : Item) × IsItem piece i }
+    ensures one { (piece : Piece) (i j : Item) → IsItem piece i → IsItem piece j → i ≡ j }
 {}
 
-/// A script has one list of items.
+/// A script has exactly one list of items.
 pub fn one_list()
-    ensures { (n : ℕ) (script : List ℕ) (is js : List Item) → ItemsFrom n script is → ItemsFrom n script js → is ≡ js }
+    ensures some { (n : ℕ) (script : List ℕ) → (is : List Item) × ItemsFrom n script is }
+    ensures one { (n : ℕ) (script : List ℕ) (is js : List Item) → ItemsFrom n script is → ItemsFrom n script js → is ≡ js }
 {}
 
 /// A script may be cut after a line, outside a block: its items are those of the two parts in turn.
 pub fn items_cut()
     ensures { (n : ℕ) (x y : List ℕ) (is js : List Item) → EndsLine x → place_after outside (numbered n (lines x)) ≡ outside
         → ItemsFrom n x is → ItemsFrom (n + length (lines x)) y js → ItemsFrom n (x ++ y) (is ++ js) }
+{}
+
+/// The items of a script from a byte on are the one that begins there and those that follow it.
+pub fn items_in_turn()
+    ensures { (script : List ℕ) (at line next after : ℕ) (i : Item) (is : List Item) → Begins script at line i next after
+        → ItemsFrom after (drop next script) is → ItemsFrom line (drop at script) (i ∷ is) }
 {}

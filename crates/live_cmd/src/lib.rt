@@ -13,6 +13,6 @@ mod refusal;
 pub use command::{Command, Item, Names};
 pub use entry::{Entry, PageBytes, entry_line};
 pub use item::next_item;
-pub use laws::{items_cut, one_item, one_list, one_meaning};
+pub use laws::{items_cut, items_in_turn, one_item, one_list, one_meaning};
 pub use line::Line;
 pub use refusal::Refusal;

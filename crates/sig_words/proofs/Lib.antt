@@ -1,4 +1,5 @@
 pub mod Cuttings
+pub mod Deciding
 pub mod EachToken
 pub mod Fronts
 pub mod LexemeLaws
