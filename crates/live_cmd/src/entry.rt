@@ -130,3 +130,31 @@ pub fn entry_line(out: &mut Vec<u8>, entry: &Entry, trace: bool) -> Result<(), N
         Entry::Error(refusal) => put_refusal(out, refusal),
     }
 }
+
+#[cfg(test)]
+mod tests {
+    use super::{Entry, PageBytes, entry_line};
+    use crate::Refusal;
+    use sig_base::Name;
+    use std::test::Fail;
+
+    #[test]
+    fn prints_entries(rt: HostRuntime) -> Result<(), Fail> {
+        let alloc = rt.alloc();
+        let page = PageBytes::of(alloc, Vec::from_slice(alloc, b"1x&lt;y")?)?;
+        let mut out = Vec::new(alloc);
+        for entry in [
+            Entry::Page(Name::new(alloc, "p")?, page.copy()?),
+            Entry::Error(Refusal::Syntax(10)),
+            Entry::Error(Refusal::Unknown(Name::new(alloc, "z")?)),
+            Entry::Error(Refusal::Taken(Name::new(alloc, "a")?)),
+            Entry::Error(Refusal::Kind(Name::new(alloc, "t_1")?)),
+        ] {
+            entry_line(&mut out, &entry, false)?;
+        }
+        let expected = b"page p 7\n1x&lt;y\nerror 1 10\nerror 2 z\nerror 3 a\nerror 4 t_1\n";
+        assert_eq!(rt; out.as_slice(), expected.as_slice());
+        assert_eq!(rt; page.as_slice(), b"1x&lt;y".as_slice());
+        Ok(())
+    }
+}

@@ -2,8 +2,9 @@
 use Rattle.std.proofs.Common.{◌≡◌, ℕ, Bool, List, [], ◌∷◌, ◌++◌, flat_map, refl, sym, ◌∙◌, ap, subst, append_assoc}
 use Rattle.std.specs.declared.option.Option.{Option}
 use Rattle.std.specs.declared.option.Option.TheVariants.{Some, None}
-use Rattle.std.specs.Option.{MatchOption}
+use Rattle.std.specs.Option.{MatchOption, IfSome}
 use Rattle.std.specs.Io.KnownBytes.{Appends}
+use Rattle.sig_io.specs.Counts.{AppendsFront}
 use Rattle.std.proofs.KnownBytes.{Appends-trans, Appends-nil}
 use Rattle.std.proofs.lemmas.List.{append-nil}
 use Rattle.std.proofs.lemmas.List.Concat.{flat_map-append}
@@ -11,7 +12,8 @@ use Rattle.script_lines.specs.Pieces.{Piece, pieces_of}
 use Rattle.live_cmd.specs.declared.command.Item.{Item}
 use Rattle.live_cmd.specs.declared.entry.Entry.{Entry}
 use Rattle.live_cmd.specs.Printed.{printed}
-use Rattle.live_cmd.specs.Items.{AreItems, IsItem, ItemsFrom, Begins}
+use Rattle.live_cmd.specs.Items.{AreItems, IsItem, ItemsFrom}
+use Rattle.live_cmd.proofs.Deciding.{some_items}
 use Rattle.live_model.specs.declared.jobs.Job.{Job}
 use Rattle.live_model.specs.Machine.{Machine, told, step}
 use Rattle.live_model.specs.Output.{entries_from, output_from, output_of}
@@ -41,11 +43,13 @@ next_so_far first held next_held script j line after left after_left trace m nex
   appended = Appends-trans first held next_held s.written h.written s.appended h.appended;
   whole = λ rest are.
       let all = s.whole (i ∷ rest) (subst (λ ps. AreItems ps (i ∷ rest)) (sym front) (is, are)) in
-      let o : List ℕ = output_from trace next rest in
-      (all.0, all.1,
+      let o : List ℕ = output_from trace next rest in (
+        all.0,
+        all.1,
         append_assoc s.written h.written (rest_out ++ o)
-        ∙ ap (λ t. s.written ++ t) (sym (append_assoc h.written rest_out o) ∙ ap (λ t. t ++ o) (sym h.whole) ∙ told_more trace out now m next i es rest e d)
-        ∙ all.2);
+            ∙ ap (λ t. s.written ++ t) (sym (append_assoc h.written rest_out o) ∙ ap (λ t. t ++ o) (sym h.whole) ∙ told_more trace out now m next i es rest e d)
+            ∙ all.2,
+      );
 }
 
 -- nothing is left, and all that was told is written
@@ -62,3 +66,38 @@ nothing_so_far held script j trace m same = record { written = []; appended = Ap
 pub said_of_none : {X : Type 0} (o : Option X) (P : Type 0) (Q : X → Type 0) → ((x : X) → o ≡ Some x → ⊥) → MatchOption o P Q → P
 said_of_none None P Q h m = m
 said_of_none (Some x) P Q h m = absurd (h x refl)
+
+-- the script's items, of whose output a front is written
+abbrev pub FrontWritten : Option (List ℕ) → Option (List ℕ) → List ℕ → Job → Type 0
+FrontWritten first held script j = (items : List Item) × ItemsFrom 1 script items × AppendsFront first held (output_of j items)
+
+-- what is written so far is a front
+pub front_so_far : (first held : Option (List ℕ)) (script : List ℕ) (j : Job) (line : ℕ) (left : List ℕ) (trace : Bool) (m : Machine) (out : List ℕ) → SoFar first held script j line left trace m out → FrontWritten first held script j
+front_so_far first held script j line left trace m out s =
+    let rest = some_items line left in
+    let all = s.whole rest.0 rest.1 in
+    (all.0, all.1, (s.written, out ++ output_from trace m rest.0, sym all.2, s.appended))
+
+-- and so it is with a front of what is told
+pub front_more : (first held next_held : Option (List ℕ)) (script : List ℕ) (j : Job) (line : ℕ) (left : List ℕ) (trace : Bool) (m : Machine) (out : List ℕ) → AppendsFront held next_held out → SoFar first held script j line left trace m out → FrontWritten first next_held script j
+front_more first held next_held script j line left trace m out f s =
+    let rest = some_items line left in
+    let all = s.whole rest.0 rest.1 in
+    let o : List ℕ = output_from trace m rest.0 in (
+      all.0,
+      all.1,
+      (
+        s.written ++ f.0,
+        f.1 ++ o,
+        sym all.2 ∙ ap (λ t. s.written ++ (t ++ o)) f.2 ∙ ap (λ t. s.written ++ t) (append_assoc f.0 f.1 o) ∙ sym (append_assoc s.written f.0 (f.1 ++ o)),
+        Appends-trans first held next_held s.written f.0 s.appended f.3,
+      ),
+    )
+
+-- nothing is a front of any output
+pub nothing_written : (job : Option Job) (left held : Option (List ℕ)) → IfSome job (λ j. IfSome left (λ script. FrontWritten held held script j))
+nothing_written None left held = tt
+nothing_written (Some j) None held = tt
+nothing_written (Some j) (Some script) held =
+    let is = some_items 1 script in
+    (is.0, is.1, ([], output_of j is.0, refl, Appends-nil held))

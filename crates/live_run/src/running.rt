@@ -1,11 +1,10 @@
 // The top call: a script from a source, done command by command, its output to a sink.
-ghost use Rattle.std.specs.Prelude.{◌≡◌, ◌≤◌, ◌<◌, ◌++◌, ◌⊎◌, ◌↔◌, ◌+◌, ◌-◌, ◌^◌, [], None, Some, List, ℕ, map, length, drop, flat_map, string_bytes, IfOk, OnOk, IfSome, IsErrOf, MatchOption};
+ghost use Rattle.std.specs.Prelude.{◌≡◌, ◌≤◌, ◌<◌, ◌++◌, ◌⊎◌, ◌↔◌, ◌+◌, ◌-◌, ◌^◌, [], None, Some, List, ℕ, map, length, drop, flat_map, string_bytes, IfOk, OnOk, IfSome, IsErrOf, OnErr};
 ghost use Rattle.std.specs.Io.KnownBytes.{Appends, IsAtEnd, Keeps};
-ghost use Rattle.sig_io.specs.Counts.{HasCause, Rose};
+ghost use Rattle.sig_io.specs.Counts.{AppendsFront, HasCause, Rose};
 ghost use Rattle.live_cmd.specs.declared.command.Item.{Item as AnItem};
-ghost use Rattle.live_cmd.specs.Items.{Begins, ItemsFrom};
+ghost use Rattle.live_cmd.specs.Items.{ItemsFrom};
 ghost use Rattle.live_cmd.specs.Printed.{printed};
-ghost use Rattle.script_lines.specs.Pieces.{pieces_of};
 ghost use Rattle.live_model.specs.Jobs.{job_of};
 ghost use Rattle.live_model.specs.Machine.{empty};
 ghost use Rattle.live_model.specs.Output.{is_traced_job, output_from, output_of};
@@ -74,6 +73,7 @@ fn put_entries(out: &mut Vec<u8>, entries: &[Entry], trace: bool) -> Result<(), 
 // Hands the output on where there is much of it.
 fn hand_on<K: Sink>(sink: &mut K, out: &mut Vec<u8>) -> Result<(), Failed>
     ensures ok { OnOk result ((written : List ℕ) × Appends (K.held sink.old) (K.held sink.new) written × (out.old.items ≡ written ++ out.new.items)) }
+    ensures err { OnErr result (AppendsFront (K.held sink.old) (K.held sink.new) out.old.items) }
     ensures cause { HasCause (K.faults sink.old) (K.faults sink.new) result }
 {
     if out.len() < LARGE {
@@ -88,6 +88,7 @@ fn hand_on<K: Sink>(sink: &mut K, out: &mut Vec<u8>) -> Result<(), Failed>
 fn run_script<K: Sink>(alloc: Global, job: Job, script: &[u8], sink: &mut K) -> Result<(), RunEnd>
     requires { length script.now ≤ most_read }
     ensures done { OnOk result ((items : List AnItem) × ItemsFrom 1 script.now items × Appends (K.held sink.old) (K.held sink.new) (output_of job items)) }
+    ensures front { OnErr result ((items : List AnItem) × ItemsFrom 1 script.now items × AppendsFront (K.held sink.old) (K.held sink.new) (output_of job items)) }
     ensures write { IsErrOf result RunEnd.Write → Rose (K.faults sink.old) (K.faults sink.new) }
     ensures later { K.faults sink.old ≤ K.faults sink.new }
 {
@@ -142,6 +143,9 @@ pub fn run_live<S: Source, K: Sink>(
     ensures too_long { result ≡ Status.TooLong → GaveTooMuch (S.given source.old) (S.given source.new) }
     ensures too_long_told { result ≡ Status.TooLong → IfSome (S.left source.old) (λ script. most_read < length script) }
     ensures nothing { (result ≡ Status.Usage) ⊎ ((result ≡ Status.ReadFault) ⊎ (result ≡ Status.TooLong)) → Keeps (K.held sink.old) (K.held sink.new) }
+    // A front of the output was written where it ends early.
+    ensures front { (result ≡ Status.WriteFault) ⊎ (result ≡ Status.NoMemory) → IfSome (job_of (map string_bytes words.now)) (λ job. IfSome (S.left source.old) (λ script.
+        (items : List AnItem) × ItemsFrom 1 script items × AppendsFront (K.held sink.old) (K.held sink.new) (output_of job items))) }
     // It gives up only for memory, where neither failed and not too much came.
     ensures complete { (job_of (map string_bytes words.now) ≡ None → ⊥)
         → (Rose (S.faults source.old) (S.faults source.new) → ⊥) → (Rose (K.faults sink.old) (K.faults sink.new) → ⊥)

@@ -1,7 +1,9 @@
-use Rattle.std.proofs.Common.{◌≡◌, ◌∙◌, ◌++◌, ◌<◌, ◌≤◌, length, drop, flat_map, ap, sym, arith}
+use Rattle.std.proofs.Common.{◌≡◌, [], refl, ◌∙◌, ◌++◌, ◌<◌, ◌≤◌, length, drop, flat_map, ap, sym, arith}
 use Rattle.live_cmd.specs.Items.{Begins}
 use Rattle.live_cmd.specs.Printed.{printed}
-use Rattle.live_run.proofs.Output.{HandedOn, next_so_far, all_written, said_of_none}
+use Rattle.std.proofs.KnownBytes.{Appends-nil}
+use Rattle.std.proofs.lemmas.Result.{err_from_is_err_and}
+use Rattle.live_run.proofs.Output.{HandedOn, SoFar, next_so_far, all_written, front_so_far, front_more, said_of_none}
 use Rattle.live_run.proofs.running.run_script.Goals as goal
 
 pub loop-out-preserved : goal.loop-out-preserved
@@ -24,3 +26,33 @@ returns-clause-done g c =
     let none = said_of_none c.in_ok-item.field-0 _ _ c.in_default.not-Some c.in_ok-item.ensures.item in
     let put = rw c.deref-2.ensures.value at c.in_ok-put_all.ensures.ok in
     all_written _ _ _ _ _ _ _ _ _ _ none put c.loop-out.invariant.told
+
+pub returns-in_err-item-clause-front : goal.returns-in_err-item-clause-front
+returns-in_err-item-clause-front g c =
+    let p = err_from_is_err_and c.from_residual.result c.from_residual.ensures.1 in
+    rw p.1 (front_so_far _ _ _ _ _ _ _ _ _ c.loop-out.invariant.told)
+
+pub returns-in_err-told-clause-front : goal.returns-in_err-told-clause-front
+returns-in_err-told-clause-front g c =
+    let p = err_from_is_err_and c.from_residual-in_err-told.result c.from_residual-in_err-told.ensures.1 in
+    rw p.1 (front_so_far _ _ _ _ _ _ _ _ _ c.loop-out.invariant.told)
+
+pub returns-in_err-put_entries-clause-front : goal.returns-in_err-put_entries-clause-front
+returns-in_err-put_entries-clause-front g c =
+    let p = err_from_is_err_and c.from_residual-in_err-put_entries.result c.from_residual-in_err-put_entries.ensures.1 in
+    rw p.1 (front_so_far _ _ _ _ _ _ _ _ _ c.loop-out.invariant.told)
+
+pub returns-in_err-hand_on-clause-front : goal.returns-in_err-hand_on-clause-front
+returns-in_err-hand_on-clause-front g c =
+    let p = err_from_is_err_and c.from_residual-in_err-hand_on.result c.from_residual-in_err-hand_on.ensures.1 in
+    let begins : Begins c.args.script.now c.loop-out.at c.loop-out.line c.in-Some.item c.in-Some.next c.in-Some.after = rw c.in-Some.is at c.in_ok-item.ensures.item in
+    let put = c.in_ok-put_entries.ensures ∙ ap (λ es. c.loop-out.out.items ++ flat_map (printed c.is_traced-trace.result) es) c.deref.ensures.value in
+    let none : HandedOn (g.K.Sink.held c.loop-out.sink) (g.K.Sink.held c.loop-out.sink) c.put_entries.new.out.items c.put_entries.new.out.items = record { written = []; appended = Appends-nil _; whole = refl } in
+    let told = next_so_far _ _ _ _ _ c.loop-out.line c.in-Some.after _ (drop c.in-Some.next c.args.script.now) _ c.loop-out.machine c.act.new.self c.in-Some.item c.in_ok-told.told.items _ _ _ begins.piece begins.front begins.item c.in_ok-told.ensures put none c.loop-out.invariant.told in
+    rw p.1 (front_more _ _ _ _ _ _ _ _ _ _ c.in_err-hand_on.ensures.err told)
+
+pub returns-in_err-put_all-clause-front : goal.returns-in_err-put_all-clause-front
+returns-in_err-put_all-clause-front g c =
+    let p = err_from_is_err_and c.from_residual-in_err-put_all.result c.from_residual-in_err-put_all.ensures.1 in
+    let put = rw c.deref-2.ensures.value at c.in_err-put_all.ensures.err in
+    rw p.1 (front_more _ _ _ _ _ _ _ _ _ _ put c.loop-out.invariant.told)
