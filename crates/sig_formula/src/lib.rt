@@ -3,7 +3,9 @@
 
 mod evaluate;
 mod formula;
+mod laws;
 mod operate;
 
 pub use evaluate::step;
 pub use formula::{BinOp, Formula, RowRef};
+pub use laws::formulas_ask_own_unknown_slots;
