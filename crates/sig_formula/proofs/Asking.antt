@@ -1,5 +1,5 @@
 -- A formula asks only for slots of its own that aren't known.
-use Rattle.std.proofs.Common.{◌≡◌, ◌⊎◌, ◌||◌, ℕ, ℤ, pos, ◌+ℤ◌, ◌-ℤ◌, ◌*ℤ◌, int_div, int_rem, nat_le, Bool, true, false, not, cond, List, ◌++◌, length, Option, Some, None, option_map, unwrap_or, inl, inr, refl, sym, ap, ◌∙◌}
+use Rattle.std.proofs.Common.{◌≡◌, ◌⊎◌, ◌||◌, ℕ, ℤ, pos, ◌+ℤ◌, ◌-ℤ◌, ◌*ℤ◌, int_div, int_rem, nat_le, Bool, true, false, not, cond, List, ◌++◌, length, Option, Some, None, option_map, unwrap_or, inl, inr, refl}
 use Rattle.std.specs.Ordering.{int_eq, is_lt, is_le, is_gt, is_ge}
 use Rattle.std.proofs.lemmas.Bool.{or_left, or_right}
 use Rattle.std.proofs.lemmas.Bool.Decides.{Decides-eqb}
@@ -12,7 +12,6 @@ use Rattle.sig_base.specs.declared.value.Step.{Step}
 use Rattle.sig_base.specs.declared.value.Step.TheVariants.{Read, Done, Fail}
 use Rattle.sig_formula.specs.declared.formula.BinOp.{BinOp}
 use Rattle.sig_formula.specs.declared.formula.BinOp.TheVariants as op
-use Rattle.sig_formula.specs.declared.formula.RowRef.{RowRef}
 use Rattle.sig_formula.specs.Answering.{answer_of, calculated, calculation, chosen, compared, decided, equality, fits_i64, joined, known_at, negated, number_answer, operated, order, shown, slot_answer, truth, with_value}
 use Rattle.sig_formula.specs.Laws.{IsAskable, AsksAskable}
 use Rattle.sig_formula.specs.Trees.{Tree, literal, slot, negation, binary, choice, untracked, has_slot}
