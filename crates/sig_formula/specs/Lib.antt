@@ -1,0 +1,4 @@
+pub mod Answering
+pub mod Coding
+pub mod Laws
+pub mod Trees

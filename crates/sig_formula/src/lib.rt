@@ -1,0 +1,11 @@
+//! Formulas, and what they answer to the values known so far.
+#![tactic(auto)]
+
+mod evaluate;
+mod formula;
+mod laws;
+mod operate;
+
+pub use evaluate::step;
+pub use formula::{BinOp, Formula, RowRef};
+pub use laws::formulas_ask_own_unknown_slots;

@@ -1,0 +1,211 @@
+// What operators make of their operands.
+ghost use Rattle.std.specs.Prelude.{◌≡◌, ◌++◌, IfOk, OnOk, option_map, string_bytes};
+ghost use Rattle.sig_base.specs.Scalars.{shown_text};
+ghost use Rattle.sig_formula.specs.Answering.{calculated, calculation, compared, decided, equality, joined, negated, operated, order, shown, text_answer, truth};
+
+use crate::BinOp;
+use sig_base::{Fault, NoMemory, Scalar, Step, Text, TextFault, Value};
+use std::alloc::Global;
+use std::cmp::Ordering;
+
+// A truth, and no other kind.
+fn truth(value: Value) -> Step
+    ensures { result ≡ truth value }
+{
+    match value {
+        Value::Bool(b) => Step::Done(Value::Bool(b)),
+        _ => Step::Fail(Fault::Kind),
+    }
+}
+
+/// The other truth.
+pub fn negated(value: &Value) -> Step
+    ensures { result ≡ negated value.now }
+{
+    match value {
+        Value::Bool(b) => Step::Done(Value::Bool(!*b)),
+        _ => Step::Fail(Fault::Kind),
+    }
+}
+
+/// What the left operand decides alone: that of `or` and `and` must be a truth.
+pub fn decided(op: BinOp, left: &Value) -> Option<Step>
+    ensures { result ≡ decided op left.now }
+{
+    match (op, left) {
+        (BinOp::Or, Value::Bool(true)) => Some(Step::Done(Value::Bool(true))),
+        (BinOp::Or, Value::Bool(false)) => None,
+        (BinOp::And, Value::Bool(true)) => None,
+        (BinOp::And, Value::Bool(false)) => Some(Step::Done(Value::Bool(false))),
+        (BinOp::Or | BinOp::And, _) => Some(Step::Fail(Fault::Kind)),
+        _ => None,
+    }
+}
+
+// Whether two scalars of one kind are equal.
+fn equality(left: &Value, right: &Value) -> Option<bool>
+    ensures { result ≡ equality left.now right.now }
+{
+    match (left, right) {
+        (Value::Bool(p), Value::Bool(q)) => Some(p == q),
+        (Value::Int(m), Value::Int(n)) => Some(m == n),
+        (Value::Text(s), Value::Text(t)) => Some(s == t),
+        _ => None,
+    }
+}
+
+// How two whole numbers, or two texts by their bytes, are ordered.
+fn order(left: &Value, right: &Value) -> Option<Ordering>
+    ensures { result ≡ order left.now right.now }
+{
+    match (left, right) {
+        (Value::Int(m), Value::Int(n)) => Some(m.cmp(n)),
+        (Value::Text(s), Value::Text(t)) => Some(s.as_str().as_bytes().cmp(t.as_str().as_bytes())),
+        _ => None,
+    }
+}
+
+// The answer of a comparison.
+fn compared(holds: Option<bool>) -> Step
+    ensures { result ≡ compared holds }
+{
+    match holds {
+        Some(b) => Step::Done(Value::Bool(b)),
+        None => Step::Fail(Fault::Kind),
+    }
+}
+
+// The scalar of a value that isn't rows.
+fn scalar_of(value: Value) -> Option<Scalar>
+    ensures { option_map shown_text result ≡ shown value }
+{
+    match value {
+        Value::Bool(b) => Some(Scalar::Bool(b)),
+        Value::Int(n) => Some(Scalar::Int(n)),
+        Value::Text(text) => Some(Scalar::Text(text)),
+        Value::Rows(_) => None,
+    }
+}
+
+fn push_shown(alloc: Global, out: &mut String, scalar: &Scalar) -> Result<(), NoMemory>
+    ensures { OnOk result (string_bytes out.new ≡ string_bytes out.old ++ shown_text scalar.now) }
+{
+    match scalar {
+        Scalar::Bool(true) => out.push_str("true")?,
+        Scalar::Bool(false) => out.push_str("false")?,
+        Scalar::Int(n) => {
+            let digits = n.to_string(alloc)?;
+            out.push_str(digits.as_str())?;
+        }
+        Scalar::Text(text) => out.push_str(text.as_str())?,
+    }
+    Ok(())
+}
+
+// A text of at most 1,024 bytes.
+fn text_answer(alloc: Global, text: &str) -> Result<Step, NoMemory>
+    ensures { IfOk result (λ s. s ≡ text_answer text.now) }
+{
+    match Text::new(alloc, text) {
+        Ok(text) => Ok(Step::Done(Value::Text(text))),
+        Err(TextFault::Long) => Ok(Step::Fail(Fault::Long)),
+        Err(TextFault::NoMemory(error)) => Err(error),
+    }
+}
+
+// Two scalars as they are shown, one after the other.
+fn joined(alloc: Global, left: Value, right: Value) -> Result<Step, NoMemory>
+    ensures { IfOk result (λ s. s ≡ joined (shown left) (shown right)) }
+{
+    let (Some(first), Some(second)) = (scalar_of(left), scalar_of(right)) else {
+        return Ok(Step::Fail(Fault::Kind));
+    };
+    let mut text = String::new(alloc);
+    push_shown(alloc, &mut text, &first)?;
+    push_shown(alloc, &mut text, &second)?;
+    text_answer(alloc, text.as_str())
+}
+
+fn sum(m: i64, n: i64) -> Step
+    ensures { result ≡ calculated BinOp.Add m n }
+{
+    match m.checked_add(n) {
+        Some(number) => Step::Done(Value::Int(number)),
+        None => Step::Fail(Fault::Overflow),
+    }
+}
+
+fn difference(m: i64, n: i64) -> Step
+    ensures { result ≡ calculated BinOp.Sub m n }
+{
+    match m.checked_sub(n) {
+        Some(number) => Step::Done(Value::Int(number)),
+        None => Step::Fail(Fault::Overflow),
+    }
+}
+
+fn product(m: i64, n: i64) -> Step
+    ensures { result ≡ calculated BinOp.Mul m n }
+{
+    match m.checked_mul(n) {
+        Some(number) => Step::Done(Value::Int(number)),
+        None => Step::Fail(Fault::Overflow),
+    }
+}
+
+// The quotient, truncated towards zero.
+fn quotient(m: i64, n: i64) -> Step
+    ensures { result ≡ calculated BinOp.Div m n }
+{
+    if n == 0 {
+        return Step::Fail(Fault::Zero);
+    }
+    match m.checked_div(n) {
+        Some(number) => Step::Done(Value::Int(number)),
+        None => Step::Fail(Fault::Overflow),
+    }
+}
+
+// The remainder of that quotient.
+fn remainder(m: i64, n: i64) -> Step
+    ensures { result ≡ calculated BinOp.Rem m n }
+{
+    if n == 0 {
+        return Step::Fail(Fault::Zero);
+    }
+    Step::Done(Value::Int(m.wrapping_rem(n)))
+}
+
+// What an operator of whole numbers makes of two values.
+fn calculation(op: BinOp, left: &Value, right: &Value) -> Step
+    ensures { result ≡ calculation op left.now right.now }
+{
+    let (Value::Int(m), Value::Int(n)) = (left, right) else {
+        return Step::Fail(Fault::Kind);
+    };
+    match op {
+        BinOp::Add => sum(*m, *n),
+        BinOp::Sub => difference(*m, *n),
+        BinOp::Mul => product(*m, *n),
+        BinOp::Div => quotient(*m, *n),
+        BinOp::Rem => remainder(*m, *n),
+        _ => Step::Fail(Fault::Kind),
+    }
+}
+
+/// What an operator makes of two operands.
+pub fn operated(alloc: Global, op: BinOp, left: Value, right: Value) -> Result<Step, NoMemory>
+    ensures { IfOk result (λ s. s ≡ operated op left right) }
+{
+    match op {
+        BinOp::Or | BinOp::And => Ok(truth(right)),
+        BinOp::Eq => Ok(compared(equality(&left, &right))),
+        BinOp::Ne => Ok(compared(equality(&left, &right).map(|same| !same))),
+        BinOp::Lt => Ok(compared(order(&left, &right).map(|o| o.is_lt()))),
+        BinOp::Le => Ok(compared(order(&left, &right).map(|o| o.is_le()))),
+        BinOp::Gt => Ok(compared(order(&left, &right).map(|o| o.is_gt()))),
+        BinOp::Ge => Ok(compared(order(&left, &right).map(|o| o.is_ge()))),
+        BinOp::Join => joined(alloc, left, right),
+        _ => Ok(calculation(op, &left, &right)),
+    }
+}
