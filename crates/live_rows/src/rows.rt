@@ -2,7 +2,17 @@
 
 use crate::run::{FIRST_OUTPUT, FIRST_PAGE, run_whole};
 use live_run::Status;
+use std::alloc::Global;
+use std::process::Abort;
 use std::test::Fail;
+
+// Runs a script, which is to print this.
+fn assert_prints(rt: &impl Abort, alloc: Global, script: &str, output: &str) -> Result<(), Fail> {
+    let run = run_whole(alloc, "live run", script)?;
+    assert_eq!(rt; run.status, Status::Done, "of {script}");
+    assert_eq!(rt; run.held.as_slice(), output.as_bytes(), "of {script}");
+    Ok(())
+}
 
 #[test]
 fn prints_pages(rt: HostRuntime) -> Result<(), Fail> {
@@ -27,9 +37,7 @@ fn prints_pages(rt: HostRuntime) -> Result<(), Fail> {
             "page m 23\na&lt;b&gt;&amp;\"c&nbsp;\n",
         ),
     ] {
-        let run = run_whole(rt.alloc(), "live run", script)?;
-        assert_eq!(rt; run.status, Status::Done, "of {script}");
-        assert_eq!(rt; run.held.as_slice(), output.as_bytes(), "of {script}");
+        assert_prints(&rt, rt.alloc(), script, output)?;
     }
     Ok(())
 }
@@ -59,9 +67,7 @@ fn prints_refusals(rt: HostRuntime) -> Result<(), Fail> {
             "error 1 1\nerror 1 2\nerror 1 3\nerror 1 4\nerror 1 5\n",
         ),
     ] {
-        let run = run_whole(rt.alloc(), "live run", script)?;
-        assert_eq!(rt; run.status, Status::Done, "of {script}");
-        assert_eq!(rt; run.held.as_slice(), output.as_bytes(), "of {script}");
+        assert_prints(&rt, rt.alloc(), script, output)?;
     }
     Ok(())
 }
