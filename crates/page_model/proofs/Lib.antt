@@ -23,3 +23,4 @@ pub mod Carrying
 pub mod Quiet
 pub mod Serial
 pub mod Pairs
+mod Examples
