@@ -2,8 +2,7 @@
 use Rattle.std.proofs.Common.{◌≡◌, ℕ, suc, ◌+◌, ◌==◌, true, false, ◌||◌, refl, sym, ap, ◌∙◌, arith, Some, leb, ltb, if◌then◌else◌, eqb-true, eq-eqb, inl, inr}
 use Rattle.std.proofs.lemmas.Bool.{cases_Bool, false≢true, le-leb, lt-ltb}
 use Rattle.page_model.specs.Forest.{Forest, none, node, after, count, has, only, without, stands}
-use Rattle.page_model.specs.Edits.{steps}
-use Rattle.page_model.proofs.Facts.{take_steps, led, Apart}
+use Rattle.page_model.proofs.Facts.{take_steps, led, Apart, steps}
 use Rattle.page_model.proofs.Siblings.{after_assoc, count_after, has_after, put_after, stands_after, only_after, without_after, count_only, has_only, has_without, only_without, front_again, some_there}
 
 pub later_has : {A : Type 0} (n m : ℕ) (x : A) (k r : Forest A) → has m r ≡ true → has m (node n x k r) ≡ true

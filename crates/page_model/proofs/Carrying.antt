@@ -5,7 +5,7 @@ use Rattle.page_model.specs.Forest.{Forest, none, node, on, tally, keys, kids, p
 use Rattle.page_model.specs.Labels.{Root, Look, Alike}
 use Rattle.page_model.specs.Replay.{Done, replay}
 use Rattle.page_model.specs.Pages.{Page, looks, by_number, shape_of, tree_of, number_of, newcomers, those, ascending_by, new_order, place_in, carried, with_numbers, renumbered, edits_between, IsPage, IsShape, SameOrigin}
-use Rattle.page_model.proofs.Facts.{listed}
+use Rattle.page_model.specs.Edits.{listed}
 use Rattle.page_model.proofs.Tally.{tally_off}
 use Rattle.page_model.proofs.Linked.{has_parent, knows}
 use Rattle.page_model.proofs.Whole.{off_has}

@@ -4,8 +4,7 @@ use Rattle.std.proofs.lemmas.Bool.{cases_Bool, false≢true}
 use Rattle.page_model.specs.Forest.{Forest, none, node, after, count, has, only, without, put, stands, moved, on, kids, label_in, depth, at}
 use Rattle.page_model.specs.Labels.{Root, Kind, holds}
 use Rattle.page_model.specs.Replay.{first_deep}
-use Rattle.page_model.specs.Edits.{Step, Insert, Move, steps, led_by}
-use Rattle.page_model.proofs.Facts.{take_step}
+use Rattle.page_model.proofs.Facts.{take_step, Step, Insert, Move, steps, led_by}
 use Rattle.page_model.proofs.Everywhere.{or_left, or_right}
 use Rattle.page_model.proofs.Lists.{when, not_ltb}
 

@@ -2,8 +2,8 @@
 use Rattle.std.proofs.Common.{◌≡◌, ℕ, ◌==◌, Bool, true, false, ◌||◌, refl, sym, ap, ◌∙◌, if◌then◌else◌, eqb-true, eq-eqb, inl, inr, List, [], ◌∷◌}
 use Rattle.std.proofs.lemmas.Bool.{cases_Bool, false≢true, true≢false}
 use Rattle.page_model.specs.Forest.{Forest, none, node, after, only, on, at}
-use Rattle.page_model.specs.Edits.{led_by}
-use Rattle.page_model.proofs.Facts.{listed, arrange, as_was, Single, Knows, Clear, Matches, Once}
+use Rattle.page_model.specs.Edits.{listed}
+use Rattle.page_model.proofs.Facts.{arrange, as_was, Single, Knows, Clear, Matches, Once, led_by}
 
 -- the parents in `ds` led to their new children
 abbrev step : {A : Type 0} → (ℕ → Bool) → (ℕ → Forest A) → List ℕ → ℕ → Forest A → Forest A

@@ -1,11 +1,9 @@
 -- What the proofs of the replay law speak of.
-use Rattle.std.specs.Prelude.{ℕ, ◌+◌, ◌≤◌, ◌==◌, Bool, true, false, ◌&&◌, ◌||◌, not, leb, ltb, if◌then◌else◌, List, [], ◌∷◌, ◌≡◌, Option, Some, None}
-use Rattle.page_model.specs.Forest.{Forest, none, node, after, count, has, only, put, moved, on, tally, parent, at}
-use Rattle.page_model.specs.Edits.{Step, Insert, Move, led_by}
-
-abbrev pub listed : ℕ → List ℕ → Bool
-listed n [] = false
-listed n (m ∷ ms) = m == n || listed n ms
+use Rattle.std.specs.Prelude.{ℕ, suc, ◌+◌, ◌≤◌, ◌==◌, Bool, true, false, ◌&&◌, ◌||◌, not, leb, ltb, if◌then◌else◌, List, [], ◌∷◌, ◌++◌, ◌≡◌, Option, Some, None, map}
+use Rattle.page_model.specs.Forest.{Forest, none, node, after, count, has, only, put, stands, moved, on, tally, kids, parent, at}
+use Rattle.page_model.specs.Labels.{Kind}
+use Rattle.page_model.specs.Replay.{Op, OpInsert, OpMove}
+use Rattle.page_model.specs.Edits.{listed}
 
 -- each number once
 abbrev pub Once : List ℕ → Type 0
@@ -16,6 +14,33 @@ Once (p ∷ ps) = (listed p ps ≡ false) × Once ps
 abbrev pub Apart : {A : Type 0} → Forest A → Type 0
 Apart none = Unit {0}
 Apart (node n x k r) = (has n r ≡ false) × Apart r
+
+-- a new child put at a place, or a kept one moved there
+pub data Step (A : Type 0) : Type 0 where
+  Insert : (place key : ℕ) (label : A) (below : Forest A) → Step A
+  Move : (key place : ℕ) → Step A
+
+-- the steps from the children as they are now to the new ones, from place i on
+abbrev pub steps : {A : Type 0} → ℕ → Forest A → Forest A → List (Step A)
+steps i now none = []
+steps i now (node n x k r) =
+    if has n now
+    then (if stands n i now then steps (suc i) now r else Move n i ∷ steps (suc i) (moved n i now) r)
+    else Insert i n x k ∷ steps (suc i) (put i (node n x k none) now) r
+
+abbrev pub op_at : ℕ → Step Kind → Op
+op_at p (Insert i n x k) = OpInsert p i n x k
+op_at p (Move n i) = OpMove n i
+
+-- the new children, each kept one with what stands below it now
+abbrev pub led_by : {A : Type 0} → (ℕ → Bool) → Forest A → Forest A → Forest A
+led_by kept now none = none
+led_by kept now (node n x k r) = after (if kept n then only n now else node n x k none) (led_by kept now r)
+
+-- the operations of one parent after the other, on the tree as the earlier ones left it
+abbrev pub plan : (ℕ → Bool) → (ℕ → Forest Kind) → List ℕ → Forest Kind → List Op
+plan kept new [] now = []
+plan kept new (p ∷ ps) now = map (op_at p) (steps 0 (kids p now) (new p)) ++ plan kept new ps (at p (λ k. led_by kept k (new p)) now)
 
 -- what a step makes of the children, or none where it can't be taken
 abbrev pub take_step : {A : Type 0} → Step A → Forest A → Option (Forest A)

@@ -4,8 +4,7 @@ use Rattle.std.proofs.lemmas.Bool.{cases_Bool, false≢true, and_parts}
 use Rattle.page_model.specs.Forest.{Forest, none, node, after, count, has, only, without, put, moved, on, at, tally, kids, parent, label_in, depth}
 use Rattle.page_model.specs.Labels.{Root, Kind, holds}
 use Rattle.page_model.specs.Replay.{Done, first_used, first_deep, do_op, replay}
-use Rattle.page_model.specs.Edits.{Step, Insert, Move, op_at}
-use Rattle.page_model.proofs.Facts.{take_step, take_steps}
+use Rattle.page_model.proofs.Facts.{take_step, take_steps, Step, Insert, Move, op_at}
 use Rattle.page_model.proofs.Lists.{when, split, not_ltb}
 use Rattle.page_model.proofs.Everywhere.{or_left, or_right}
 use Rattle.page_model.proofs.Tally.{tally_off, parent_is, at_at, at_id, on_at, kids_at, at_named, tally_at}

@@ -4,7 +4,8 @@ use Rattle.std.specs.List.{flat_map}
 use Rattle.std.proofs.lemmas.Bool.{cases_Bool, false≢true, or_cases}
 use Rattle.page_model.specs.Forest.{Forest, none, node, on, keys, kids}
 use Rattle.page_model.specs.Pages.{into_by, ascending_by, newcomers, those}
-use Rattle.page_model.proofs.Facts.{listed, Knows}
+use Rattle.page_model.specs.Edits.{listed}
+use Rattle.page_model.proofs.Facts.{Knows}
 use Rattle.page_model.proofs.Everywhere.{or_left, or_right}
 use Rattle.page_model.proofs.Removals.{in_both}
 use Rattle.page_model.proofs.Orders.{in_keys, swapped}

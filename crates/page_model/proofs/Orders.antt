@@ -2,9 +2,9 @@
 use Rattle.std.proofs.Common.{◌≡◌, ℕ, suc, ◌<◌, ◌≤◌, ◌==◌, Bool, true, false, ◌||◌, refl, sym, ap, ◌∙◌, arith, leb, eqb-true, eq-eqb, inl, inr, List, [], ◌∷◌, ◌++◌, length}
 use Rattle.std.proofs.lemmas.Bool.{cases_Bool, false≢true, true≢false, or_cases}
 use Rattle.page_model.specs.Forest.{Forest, none, node, on, tally, keys, tops}
-use Rattle.page_model.specs.Edits.{into, ascending}
+use Rattle.page_model.specs.Edits.{into, ascending, listed}
+use Rattle.page_model.proofs.Facts.{Once}
 use Rattle.page_model.specs.Pages.{place_in}
-use Rattle.page_model.proofs.Facts.{listed, Once}
 use Rattle.page_model.proofs.Everywhere.{flipped, or_right, or_left}
 use Rattle.page_model.proofs.Tally.{on_tally, tally_off}
 use Rattle.page_model.proofs.Removals.{in_both}

@@ -1,11 +1,12 @@
 -- All parents' operations are replayed.
-use Rattle.std.proofs.Common.{◌≡◌, ℕ, suc, ◌+◌, ◌<◌, ◌≤◌, ◌==◌, Bool, true, false, ◌||◌, refl, sym, ap, subst, ◌∙◌, arith, if◌then◌else◌, eqb-true, eq-eqb, inl, inr, List, [], ◌∷◌, ◌++◌, map, Some}
+use Rattle.std.proofs.Common.{◌≡◌, ℕ, zero, suc, ◌+◌, ◌<◌, ◌≤◌, ◌==◌, Bool, true, false, ◌||◌, refl, sym, ap, subst, ◌∙◌, arith, if◌then◌else◌, eqb-true, eq-eqb, inl, inr, List, [], ◌∷◌, ◌++◌, map, Some}
 use Rattle.std.proofs.lemmas.Bool.{cases_Bool, false≢true}
+use Rattle.std.specs.List.{flat_map}
 use Rattle.page_model.specs.Labels.{Kind}
-use Rattle.page_model.specs.Replay.{Op, Answer, Done, Refused, then_on, do_op, replay}
-use Rattle.page_model.specs.Forest.{Forest, none, node, after, count, has, only, without, on, at, tally, kids}
-use Rattle.page_model.specs.Edits.{steps, led_by, op_at, plan}
-use Rattle.page_model.proofs.Facts.{led, Apart, listed, arrange, Clear, Once, newly, all_newly, Ready}
+use Rattle.page_model.specs.Replay.{Op, OpInsert, OpMove, Answer, Done, Refused, then_on, do_op, replay}
+use Rattle.page_model.specs.Forest.{Forest, none, node, after, count, has, only, without, put, stands, moved, on, at, tally, kids}
+use Rattle.page_model.specs.Edits.{listed, placed, put_at, taken, siblings, child_edits}
+use Rattle.page_model.proofs.Facts.{led, Apart, arrange, Clear, Once, newly, all_newly, Ready, steps, led_by, op_at, plan}
 use Rattle.page_model.proofs.Siblings.{has_without, only_without}
 use Rattle.page_model.proofs.Arrive.{other, later_has, gone, apart_without, empty, arrive}
 use Rattle.page_model.proofs.Everywhere.{or_false, at_away, not_same, or_right}
@@ -245,6 +246,29 @@ pub record Waiting (lev : ℕ → ℕ) (hold : ℕ → Bool) (kept : ℕ → Boo
   pub low : (p j : ℕ) → listed p ps ≡ true → on j (new p) ≡ true → lev j ≤ 32
   pub open_new : (p : ℕ) → listed p ps ≡ true → 0 < count (new p) → hold p ≡ true
 
+-- the first parent has its new children
+next_waiting : (lev : ℕ → ℕ) (hold : ℕ → Bool) (kept : ℕ → Bool) (new : ℕ → Forest Kind) (p : ℕ) (ps : List ℕ) (t : Forest Kind) → Once (p ∷ ps) → Waiting lev hold kept new (p ∷ ps) t → Waiting lev hold kept new ps (at p (λ k. led_by kept k (new p)) t)
+next_waiting lev hold kept new p ps t o w =
+    let here : listed p (p ∷ ps) ≡ true = rw (eq-eqb p p refl) refl in
+    let ns = new p in
+    let op = w.there p here in
+    let y = w.ready p here in
+    let lp : tally p t ≤ 1 = (let i = w.once p in omega arith) in
+    record {
+      there = λ q h. (let h' = or_right (p == q) (listed q ps) h in still_on kept p q ns t (w.clear q p h') op lp y ∙ w.there q h');
+      ready = λ q h. (
+          let h' = or_right (p == q) (listed q ps) h in
+          let e = other_kids kept p q ns t (not_same p q ps o.0 h) (w.clear q p h') op (w.there q h') lp (let i = w.once q in omega arith) y in
+          let z = ready_at kept p (λ k. led_by kept k ns) (kids q t) (new q) (w.ready q h') in
+          subst (λ zs. Ready kept zs (new q)) (sym e) z);
+      clear = λ q m h. w.clear q m (or_right (p == q) (listed q ps) h);
+      once = λ j. (let i = w.once j in let q = tally_at_led kept p j ns t op lp y in omega arith);
+      fits = fits_at lev hold 0 p (λ k. led_by kept k ns) t (λ k g. fits_led lev hold (suc (lev p)) kept k ns g (w.fits_new p here)) w.fits;
+      fits_new = λ q h. w.fits_new q (or_right (p == q) (listed q ps) h);
+      low = λ q j h e. w.low q j (or_right (p == q) (listed q ps) h) e;
+      open_new = λ q h e. w.open_new q (or_right (p == q) (listed q ps) h) e;
+    }
+
 pub replayed : (lev : ℕ → ℕ) (hold : ℕ → Bool) (kept : ℕ → Bool) (new : ℕ → Forest Kind) (ps : List ℕ) (t : Forest Kind) → lev 0 ≡ 0 → Once ps → Waiting lev hold kept new ps t → replay (plan kept new ps t) t ≡ Done (arrange kept new ps t)
 replayed lev hold kept new [] t z o w = refl
 replayed lev hold kept new (p ∷ ps) t z o w =
@@ -261,18 +285,65 @@ replayed lev hold kept new (p ∷ ps) t z o w =
     (λ j. (let i = w.once j in let q = tally_led kept j ks ns y in omega arith)) in
     let named : at p (λ k. led_by kept k ns) t ≡ at p (λ _. led_by kept ks ns) t = at_named p (λ k. led_by kept k ns) t lp in
     let first = lift ∙ ap Done (sym named) in
-    let next : Waiting lev hold kept new ps t1 = record {
-      there = λ q h. (let h' = or_right (p == q) (listed q ps) h in still_on kept p q ns t (w.clear q p h') op lp y ∙ w.there q h');
-      ready = λ q h. (
-          let h' = or_right (p == q) (listed q ps) h in
-          let e = other_kids kept p q ns t (not_same p q ps o.0 h) (w.clear q p h') op (w.there q h') lp (let i = w.once q in omega arith) y in
-          let z = ready_at kept p (λ k. led_by kept k ns) (kids q t) (new q) (w.ready q h') in
-          subst (λ zs. Ready kept zs (new q)) (sym e) z);
-      clear = λ q m h. w.clear q m (or_right (p == q) (listed q ps) h);
-      once = λ j. (let i = w.once j in let q = tally_at_led kept p j ns t op lp y in omega arith);
-      fits = fits_at lev hold 0 p (λ k. led_by kept k ns) t (λ k g. fits_led lev hold (suc (lev p)) kept k ns g (w.fits_new p here)) w.fits;
-      fits_new = λ q h. w.fits_new q (or_right (p == q) (listed q ps) h);
-      low = λ q j h e. w.low q j (or_right (p == q) (listed q ps) h) e;
-      open_new = λ q h e. w.open_new q (or_right (p == q) (listed q ps) h) e;
-    } in
-    replay_more (map (op_at p) (steps 0 ks ns)) (plan kept new ps t1) t t1 first ∙ replayed lev hold kept new ps t1 z o.1 next
+    replay_more (map (op_at p) (steps 0 ks ns)) (plan kept new ps t1) t t1 first ∙ replayed lev hold kept new ps t1 z o.1 (next_waiting lev hold kept new p ps t o w)
+
+-- ---- the steps look at the numbers of the children alone
+
+has_listed : {A : Type 0} (n : ℕ) (t : Forest A) → has n t ≡ listed n (siblings t)
+has_listed n none = refl
+has_listed n (node m x k r) = ap (λ b. (m == n) || b) (has_listed n r)
+
+stands_placed : {A : Type 0} (n i : ℕ) (t : Forest A) → stands n i t ≡ placed n i (siblings t)
+stands_placed n i none = refl
+stands_placed n zero (node m x k r) = refl
+stands_placed n (suc i) (node m x k r) = stands_placed n i r
+
+siblings_without : {A : Type 0} (n : ℕ) (t : Forest A) → siblings (without n t) ≡ taken n (siblings t)
+siblings_without n none = refl
+siblings_without n (node m x k r) = elim (cases_Bool (m == n)) [ inl e ↦ rw e refl | inr e ↦ rw e (ap (λ z. m ∷ z) (siblings_without n r)) ]
+
+siblings_put : {A : Type 0} (i n : ℕ) (x : A) (k t : Forest A) → siblings (put i (node n x k none) t) ≡ put_at i n (siblings t)
+siblings_put zero n x k t = refl
+siblings_put (suc i) n x k none = refl
+siblings_put (suc i) n x k (node m y l r) = ap (λ z. m ∷ z) (siblings_put i n x k r)
+
+one_only : {A : Type 0} (n : ℕ) (t : Forest A) → has n t ≡ true → (x : A) × (k : Forest A) × (only n t ≡ node n x k none)
+one_only n none h = absurd (false≢true h)
+one_only n (node m x k r) h = elim (cases_Bool (m == n)) [
+  | inl e ↦ (let q : m ≡ n = eqb-true m n e in (x, k, rw e (ap (λ i. node i x k none) q)))
+  | inr e ↦ (let i = one_only n r (rw e at h) in (i.0, i.1, rw e i.2))
+]
+
+siblings_moved : {A : Type 0} (n i : ℕ) (t : Forest A) → has n t ≡ true → siblings (moved n i t) ≡ put_at i n (taken n (siblings t))
+siblings_moved n i t h =
+    let o = one_only n t h in
+    ap (λ z. siblings (put i z (without n t))) o.2 ∙ (siblings_put i n o.0 o.1 (without n t) ∙ ap (put_at i n) (siblings_without n t))
+
+siblings_at : {A : Type 0} (p : ℕ) (f : Forest A → Forest A) (t : Forest A) → siblings (at p f t) ≡ siblings t
+siblings_at p f none = refl
+siblings_at p f (node m x k r) = ap (λ z. m ∷ z) (siblings_at p f r)
+
+steps_edits : (p i : ℕ) (now new : Forest Kind) → map (op_at p) (steps i now new) ≡ child_edits p i (siblings now) new
+steps_edits p i now none = refl
+steps_edits p i now (node n x k r) = rw (sym (has_listed n now), sym (stands_placed n i now)) (elim (cases_Bool (has n now)) [
+  | inl e ↦ elim (cases_Bool (stands n i now)) [
+    | inl s ↦ rw (e, s) (steps_edits p (suc i) now r)
+    | inr s ↦ rw (e, s) (ap (λ z. OpMove n i ∷ z) (steps_edits p (suc i) (moved n i now) r ∙ ap (λ z. child_edits p (suc i) z r) (siblings_moved n i now e)))
+  ]
+  | inr e ↦ rw e (ap (λ z. OpInsert p i n x k ∷ z) (steps_edits p (suc i) (put i (node n x k none) now) r ∙ ap (λ z. child_edits p (suc i) z r) (siblings_put i n x k now)))
+])
+
+pub plan_edits : (lev : ℕ → ℕ) (hold : ℕ → Bool) (kept : ℕ → Bool) (new : ℕ → Forest Kind) (ps : List ℕ) (left t : Forest Kind) → Once ps → Waiting lev hold kept new ps t → ((p : ℕ) → listed p ps ≡ true → siblings (kids p t) ≡ siblings (kids p left)) → flat_map (λ p. child_edits p 0 (siblings (kids p left)) (new p)) ps ≡ plan kept new ps t
+plan_edits lev hold kept new [] left t o w h = refl
+plan_edits lev hold kept new (p ∷ ps) left t o w h =
+    let here : listed p (p ∷ ps) ≡ true = rw (eq-eqb p p refl) refl in
+    let op = w.there p here in
+    let lp : tally p t ≤ 1 = (let i = w.once p in omega arith) in
+    let first : child_edits p 0 (siblings (kids p left)) (new p) ≡ map (op_at p) (steps 0 (kids p t) (new p)) = ap (λ z. child_edits p 0 z (new p)) (sym (h p here)) ∙ sym (steps_edits p 0 (kids p t) (new p)) in
+    let f : Forest Kind → Forest Kind = λ k. led_by kept k (new p) in
+    let rest = plan_edits lev hold kept new ps left (at p f t) o.1 (next_waiting lev hold kept new p ps t o w)
+    (λ q e. (
+    let e' = or_right (p == q) (listed q ps) e in
+    let k = other_kids kept p q (new p) t (not_same p q ps o.0 e) (w.clear q p e') op (w.there q e') lp (let i = w.once q in omega arith) (w.ready p here) in
+    ap siblings k ∙ (siblings_at p f (kids q t) ∙ h q e'))) in
+    rw (first, rest) refl

@@ -4,7 +4,8 @@ use Rattle.std.proofs.lemmas.Bool.{cases_Bool, false≢true, or_cases}
 use Rattle.page_model.specs.Labels.{Kind}
 use Rattle.page_model.specs.Replay.{OpRemove, Done, replay}
 use Rattle.page_model.specs.Forest.{Forest, none, node, on, pruned, tops}
-use Rattle.page_model.proofs.Facts.{listed, Once}
+use Rattle.page_model.specs.Edits.{listed}
+use Rattle.page_model.proofs.Facts.{Once}
 use Rattle.page_model.proofs.Everywhere.{flipped, not_same, or_right, or_left}
 
 pub same_test : (m n : ℕ) → (m == n) ≡ (n == m)

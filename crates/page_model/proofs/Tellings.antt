@@ -5,7 +5,8 @@ use Rattle.std.proofs.lemmas.Bool.{cases_Bool, false≢true, true≢false}
 use Rattle.page_model.specs.Labels.{Root, Kind}
 use Rattle.page_model.specs.Replay.{Op, Done, replay}
 use Rattle.page_model.specs.Forest.{Forest, none, node, on, tally, label_in, relabelled}
-use Rattle.page_model.proofs.Facts.{listed, as_was, Once, Labelled}
+use Rattle.page_model.specs.Edits.{listed}
+use Rattle.page_model.proofs.Facts.{as_was, Once, Labelled}
 use Rattle.page_model.proofs.Everywhere.{not_same, or_right, or_left}
 use Rattle.page_model.proofs.Removals.{same_test}
 use Rattle.page_model.proofs.Told.{relabelled_off}

@@ -5,11 +5,11 @@ use Rattle.std.proofs.lemmas.Bool.{cases_Bool, false≢true, true≢false, or_ca
 use Rattle.page_model.specs.Labels.{Root, Kind, holds}
 use Rattle.page_model.specs.Replay.{Op, OpRemove, Done, replay}
 use Rattle.page_model.specs.Forest.{Forest, none, node, count, has, on, tally, kids, parent, pruned, label_in, tops, depth, height}
-use Rattle.page_model.specs.Edits.{plan}
-use Rattle.page_model.proofs.Facts.{listed, as_was, Knows, Clear, Once, newly, all_newly, Labelled, Linked}
+use Rattle.page_model.specs.Edits.{listed, siblings, child_edits}
+use Rattle.page_model.proofs.Facts.{as_was, Knows, Clear, Once, newly, all_newly, Labelled, Linked, plan}
 use Rattle.page_model.proofs.Everywhere.{or_false, flipped, not_same, or_right, or_left, arranged}
 use Rattle.page_model.proofs.Tally.{off_tally, on_tally, tally_off}
-use Rattle.page_model.proofs.Parents.{Waiting, newly_clear, replay_more, replayed}
+use Rattle.page_model.proofs.Parents.{Waiting, newly_clear, replay_more, replayed, plan_edits}
 use Rattle.page_model.proofs.Removals.{removed}
 use Rattle.page_model.proofs.Tellings.{Says, told_all}
 use Rattle.page_model.proofs.Depths.{Fits, fits_kids}
@@ -143,7 +143,7 @@ waiting_of x y os ns ps l st o e =
     }
 
 -- from what the removals leave to the new tree
-from_left : (tell : ℕ → List Op) (x y : Kind) (os ns : Forest Kind) (ps : List ℕ) → let old = node 0 x os none in let new = node 0 y ns none in Linked old new → Steady old new → Once ps → ((m : ℕ) → listed m ps ≡ on m old) → ((n : ℕ) → on n old ≡ true → Says tell (λ m. label_in Root m old) (λ m. label_in Root m new) n) → replay (plan (λ n. on n old) (λ n. kids n new) ps old ++ flat_map tell ps) old ≡ Done new
+from_left : (tell : ℕ → List Op) (x y : Kind) (os ns : Forest Kind) (ps : List ℕ) → let old = node 0 x os none in let new = node 0 y ns none in Linked old new → Steady old new → Once ps → ((m : ℕ) → listed m ps ≡ on m old) → ((n : ℕ) → on n old ≡ true → Says tell (λ m. label_in Root m old) (λ m. label_in Root m new) n) → replay (flat_map (λ n. child_edits n 0 (siblings (kids n old)) (kids n new)) ps ++ flat_map tell ps) old ≡ Done new
 from_left tell x y os ns ps l st o e says =
     let old = node 0 x os none in
     let new = node 0 y ns none in
@@ -154,7 +154,8 @@ from_left tell x y os ns ps l st o e says =
     (matches_at old new (λ n. label_in Root n old) ns 0 l (tells Root old l.old_once) refl (λ n h. h) kn.1) in
     let c = told_all tell (λ n. on n old) (λ n. label_in Root n old) (λ n. label_in Root n new) ps new o
     (λ n h. (let i = sym (e n) ∙ h in (i, l.within n i, says n i))) (λ n h. e n ∙ h) l.new_once (labelled_of Root old new l) in
-    replay_more (plan (λ n. on n old) (λ n. kids n new) ps old) (flat_map tell ps) old (as_was (λ n. on n old) (λ n. label_in Root n old) new) (a ∙ ap Done b) ∙ c
+    let same = plan_edits (λ n. depth n new) (λ n. holds (label_in Root n new)) (λ n. on n old) (λ n. kids n new) ps old old o w (λ p h. refl) in
+    ap (λ z. replay (z ++ flat_map tell ps) old) same ∙ replay_more (plan (λ n. on n old) (λ n. kids n new) ps old) (flat_map tell ps) old (as_was (λ n. on n old) (λ n. label_in Root n old) new) (a ∙ ap Done b) ∙ c
 
 -- ---- what the removals leave
 
@@ -276,7 +277,7 @@ pub record Fit (tell : ℕ → List Op) (old new : Forest Kind) : Type 0 where
 says_at : (tell : ℕ → List Op) (f g h : ℕ → Kind) (n : ℕ) → f n ≡ g n → Says tell g h n → Says tell f h n
 says_at tell f g h n e s = λ t o l q. s t o l (q ∙ e)
 
-pub whole : (tell : ℕ → List Op) (x y : Kind) (os ns : Forest Kind) (rs ps : List ℕ) → let old = node 0 x os none in let new = node 0 y ns none in let left = pruned (λ m. on m new) old in Fit tell old new → Once rs → ((n : ℕ) → listed n rs ≡ listed n (tops (λ m. on m new) old)) → Once ps → ((n : ℕ) → listed n ps ≡ on n left) → replay ((map OpRemove rs ++ plan (λ n. on n left) (λ n. kids n new) ps left) ++ flat_map tell ps) old ≡ Done new
+pub whole : (tell : ℕ → List Op) (x y : Kind) (os ns : Forest Kind) (rs ps : List ℕ) → let old = node 0 x os none in let new = node 0 y ns none in let left = pruned (λ m. on m new) old in Fit tell old new → Once rs → ((n : ℕ) → listed n rs ≡ listed n (tops (λ m. on m new) old)) → Once ps → ((n : ℕ) → listed n ps ≡ on n left) → replay ((map OpRemove rs ++ flat_map (λ n. child_edits n 0 (siblings (kids n left)) (kids n new)) ps) ++ flat_map tell ps) old ≡ Done new
 whole tell x y os ns rs ps f orr er op ep =
     let old = node 0 x os none in
     let new = node 0 y ns none in
@@ -298,6 +299,6 @@ whole tell x y os ns rs ps f orr er op ep =
     } in
     let a = removed keep rs old refl orr er in
     let b = from_left tell x y (pruned keep os) ns ps l st op ep (λ n h. (let i = kept_on keep n old h in says_at tell (λ m. label_in Root m left) (λ m. label_in Root m old) (λ m. label_in Root m new) n (lab n h) (f.says n i.0 i.1))) in
-    let p = plan (λ n. on n left) (λ n. kids n new) ps left in
+    let p = flat_map (λ n. child_edits n 0 (siblings (kids n left)) (kids n new)) ps in
     let t = flat_map tell ps in
     ap (λ zs. replay zs old) (append_assoc (map OpRemove rs) p t) ∙ (replay_more (map OpRemove rs) (p ++ t) old left a ∙ b)

@@ -1,40 +1,48 @@
 -- The edits that lead from one numbered tree to another.
-use Rattle.std.specs.Prelude.{ℕ, suc, Bool, false, leb, if◌then◌else◌, List, [], ◌∷◌, ◌++◌, map, Option, Some, None}
+use Rattle.std.specs.Prelude.{ℕ, zero, suc, ◌==◌, Bool, true, false, ◌||◌, leb, if◌then◌else◌, List, [], ◌∷◌, ◌++◌, map, Option, Some, None}
 use Rattle.std.specs.List.{flat_map}
 use Rattle.std.specs.Str.{bytes_eq}
-use Rattle.page_model.specs.Forest.{Forest, none, node, after, has, only, put, stands, moved, on, keys, kids, label_in, at, pruned, tops}
+use Rattle.page_model.specs.Forest.{Forest, none, node, on, keys, kids, label_in, pruned, tops}
 use Rattle.page_model.specs.Labels.{Root, Text, Element, Kind, Look, shown}
 use Rattle.page_model.specs.Replay.{Op, OpRemove, OpInsert, OpMove, OpText, OpAttr, OpUnattr}
 
 -- ---- the children of one node
 
--- a new child put at a place, or a kept one moved there
-pub data Step (A : Type 0) : Type 0 where
-  Insert : (place key : ℕ) (label : A) (below : Forest A) → Step A
-  Move : (key place : ℕ) → Step A
+-- the number is in the list
+abbrev pub listed : ℕ → List ℕ → Bool
+listed n [] = false
+listed n (m ∷ ms) = m == n || listed n ms
 
--- the steps that lead from the children as they are now to the new ones, from place i on:
--- each place is judged on the children as the earlier steps left them
-abbrev pub steps : {A : Type 0} → ℕ → Forest A → Forest A → List (Step A)
-steps i now none = []
-steps i now (node n x k r) =
-    if has n now
-    then (if stands n i now then steps (suc i) now r else Move n i ∷ steps (suc i) (moved n i now) r)
-    else Insert i n x k ∷ steps (suc i) (put i (node n x k none) now) r
+-- it stands at that place
+abbrev pub placed : ℕ → ℕ → List ℕ → Bool
+placed n i [] = false
+placed n zero (m ∷ ms) = m == n
+placed n (suc i) (m ∷ ms) = placed n i ms
 
-abbrev pub op_at : ℕ → Step Kind → Op
-op_at p (Insert i n x k) = OpInsert p i n x k
-op_at p (Move n i) = OpMove n i
+-- the list with a number put in so that it stands at a place
+abbrev pub put_at : ℕ → ℕ → List ℕ → List ℕ
+put_at zero n ms = n ∷ ms
+put_at (suc i) n [] = n ∷ []
+put_at (suc i) n (m ∷ ms) = m ∷ put_at i n ms
 
--- the new children, each kept one with what stands below it now
-abbrev pub led_by : {A : Type 0} → (ℕ → Bool) → Forest A → Forest A → Forest A
-led_by kept now none = none
-led_by kept now (node n x k r) = after (if kept n then only n now else node n x k none) (led_by kept now r)
+-- the list without it
+abbrev pub taken : ℕ → List ℕ → List ℕ
+taken n [] = []
+taken n (m ∷ ms) = if m == n then ms else m ∷ taken n ms
 
--- the operations of one parent after the other, each judged on the tree as the earlier ones left it
-abbrev pub plan : (ℕ → Bool) → (ℕ → Forest Kind) → List ℕ → Forest Kind → List Op
-plan kept new [] now = []
-plan kept new (p ∷ ps) now = map (op_at p) (steps 0 (kids p now) (new p)) ++ plan kept new ps (at p (λ k. led_by kept k (new p)) now)
+-- the numbers of siblings
+abbrev pub siblings : {A : Type 0} → Forest A → List ℕ
+siblings none = []
+siblings (node n x k r) = n ∷ siblings r
+
+-- the operations that lead from the numbers of the children as they are now to the new children of a node, from place i on:
+-- each place is judged on the list as the earlier ones left it
+abbrev pub child_edits : ℕ → ℕ → List ℕ → Forest Kind → List Op
+child_edits p i now none = []
+child_edits p i now (node n x k r) =
+    if listed n now
+    then (if placed n i now then child_edits p (suc i) now r else OpMove n i ∷ child_edits p (suc i) (put_at i n (taken n now)) r)
+    else OpInsert p i n x k ∷ child_edits p (suc i) (put_at i n now) r
 
 -- ---- what one kept node says
 
@@ -77,5 +85,5 @@ abbrev pub edits : Forest Look → Forest Look → List Op
 edits old new =
     let left = pruned (λ n. on n (shown new)) (shown old) in
     let kept = ascending (keys left) in
-    (map OpRemove (ascending (tops (λ n. on n (shown new)) (shown old))) ++ plan (λ n. on n left) (λ n. kids n (shown new)) kept left)
+    (map OpRemove (ascending (tops (λ n. on n (shown new)) (shown old))) ++ flat_map (λ n. child_edits n 0 (siblings (kids n left)) (kids n (shown new))) kept)
     ++ flat_map (λ n. told n (label_in Root n old) (label_in Root n new)) kept

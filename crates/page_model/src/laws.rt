@@ -42,7 +42,7 @@ pub fn html_law()
 
 /// There are no edits where nothing differs.
 pub fn quiet_law()
-    ensures { (t : Forest Look) → ((j : ℕ) → tally j t ≤ 1) → edits t t ≡ [] }
+    ensures { (t : Forest Look) → edits t t ≡ [] }
 {}
 
 /// An address stands for one line and one row, and the root's is none of them.

@@ -2,4 +2,4 @@ use Rattle.page_model.proofs.Quiet.{edits_none}
 use Rattle.page_model.proofs.laws.quiet_law.Goals as goal
 
 pub returns : goal.returns
-returns c = λ t l. edits_none t l
+returns c = λ t. edits_none t
