@@ -24,3 +24,6 @@ pub mod Quiet
 pub mod Serial
 pub mod Pairs
 mod Examples
+mod Listing
+mod Joined
+mod Renewed

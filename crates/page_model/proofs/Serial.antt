@@ -4,13 +4,13 @@ use Rattle.html_out.specs.Html.{escaped, is_raw}
 use Rattle.page_model.specs.Forest.{Forest, none, node, numbered}
 use Rattle.page_model.specs.Labels.{Root, Text, Element, Look, shown}
 use Rattle.page_model.specs.Pages.{Page, tree_of, carried, renumbered}
-use Rattle.page_model.specs.Html.{html_in, html_of}
+use Rattle.page_model.specs.Html.{characters, html_in, html_of}
 use Rattle.page_model.proofs.Looks.{by_number_with}
 
 html_num : (raw : Bool) (num : ℕ → ℕ) (s : Forest Look) → html_in raw (shown (numbered num s)) ≡ html_in raw (shown s)
 html_num raw num none = refl
 html_num raw num (node m Root k r) = html_num raw num r
-html_num raw num (node m (Text t) k r) = ap (λ z. (if raw then t else escaped t) ++ z) (html_num raw num r)
+html_num raw num (node m (Text t) k r) = ap (λ z. characters raw t ++ z) (html_num raw num r)
 html_num raw num (node m (Element name lines) k r) = rw (html_num (is_raw name) num k, html_num raw num r) refl
 
 html_root : (num : ℕ → ℕ) (s : Forest Look) → html_of (shown (numbered num s)) ≡ html_of (shown s)

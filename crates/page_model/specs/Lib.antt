@@ -5,3 +5,4 @@ pub mod Replay
 pub mod Addresses
 pub mod Pages
 pub mod Html
+pub mod Views

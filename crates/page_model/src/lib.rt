@@ -2,3 +2,6 @@
 #![tactic(auto)]
 
 pub mod laws;
+mod plain;
+
+pub use plain::{Attribute, Lines, Look, Nodes, Op, Page, Tree, edits, edits_between, on, put_html, renumbered, tree_of};

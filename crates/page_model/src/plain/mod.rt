@@ -1,0 +1,11 @@
+// The definitions as a plain program, for small trees: it goes over whole trees again and again.
+mod editing;
+mod html;
+mod numbers;
+mod page;
+mod tree;
+
+pub use editing::{Op, edits};
+pub use html::put_html;
+pub use page::{Nodes, Page, edits_between, renumbered, tree_of};
+pub use tree::{Attribute, Lines, Look, Tree, on};
