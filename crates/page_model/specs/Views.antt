@@ -17,6 +17,10 @@ use Rattle.page_model.specs.declared.plain.tree.Tree.TheVariants as tree
 use Rattle.page_model.specs.declared.plain.page.Nodes.{Nodes}
 use Rattle.page_model.specs.declared.plain.page.Nodes.TheVariants as nodes
 use Rattle.page_model.specs.declared.plain.page.Page.{Page}
+use Rattle.page_model.specs.declared.plain.replaying.Refusal.{Refusal}
+use Rattle.page_model.specs.declared.plain.replaying.Refusal.TheVariants as refusal
+use Rattle.page_model.specs.declared.plain.replaying.Answer.{Answer}
+use Rattle.page_model.specs.declared.plain.replaying.Answer.TheVariants as answer
 use Rattle.page_model.specs.declared.plain.editing.Op.{Op}
 use Rattle.page_model.specs.declared.plain.editing.Op.TheVariants as op
 
@@ -72,3 +76,13 @@ order_in nodes old shape =
 -- the number that an address gets, from the old page, its shape and the order of the new addresses
 abbrev pub carried_in : pages.Page → Forest label.Look → List ℕ → ℕ → ℕ
 carried_in page old order a = if on a old then number_in page.nodes a else page.next + pages.place_in a order
+
+abbrev pub refusal_of : Refusal → replay.Refusal
+refusal_of (refusal.NoSuchNode n) = replay.NoSuchNode n
+refusal_of (refusal.NoSuchPlace i) = replay.NoSuchPlace i
+refusal_of (refusal.NumberUsed n) = replay.NumberUsed n
+refusal_of (refusal.TooDeep n) = replay.TooDeep n
+
+abbrev pub answer_of : Answer → replay.Answer
+answer_of (answer.Done t) = replay.Done (kinds_of t)
+answer_of (answer.Refused why) = replay.Refused (refusal_of why)

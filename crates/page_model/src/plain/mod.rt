@@ -3,9 +3,11 @@ mod editing;
 mod html;
 mod numbers;
 mod page;
+mod replaying;
 mod tree;
 
 pub use editing::{Op, edits};
 pub use html::put_html;
 pub use page::{Nodes, Page, edits_between, renumbered, tree_of};
+pub use replaying::{Answer, Refusal};
 pub use tree::{Attribute, Lines, Look, Tree, on};

@@ -47,7 +47,7 @@ fn copy_value(value: &Option<Text>) -> Result<Option<Text>, NoMemory>
     }
 }
 
-fn copy_lines(alloc: Global, lines: &Lines) -> Result<Lines, NoMemory>
+pub fn copy_lines(alloc: Global, lines: &Lines) -> Result<Lines, NoMemory>
     ensures { IfOk result (λ r. lines_of r ≡ lines_of lines.now) }
 {
     match lines {
@@ -178,7 +178,7 @@ pub fn siblings(alloc: Global, tree: &Tree) -> Result<Numbers, NoMemory>
 }
 
 // A node with the same look.
-fn node_like(alloc: Global, key: u64, look: &Look, kids: Tree, rest: Tree) -> Result<Tree, NoMemory>
+pub fn node_like(alloc: Global, key: u64, look: &Look, kids: Tree, rest: Tree) -> Result<Tree, NoMemory>
     ensures { IfOk result (λ t. kinds_of t ≡ node_of key (seen (look_of look.now)) (kinds_of kids) (kinds_of rest)) }
 {
     let look = look.copy(alloc)?;
