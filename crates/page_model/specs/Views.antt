@@ -1,7 +1,7 @@
 -- The values of the plain program as what the definitions speak of.
-use Rattle.std.specs.Prelude.{ℕ, ◌+◌, List, [], ◌∷◌, Option, if◌then◌else◌}
+use Rattle.std.specs.Prelude.{ℕ, suc, ◌+◌, ◌&&◌, leb, List, [], ◌∷◌, Option, if◌then◌else◌}
 use Rattle.std.specs.List.{flat_map}
-use Rattle.page_model.specs.Forest.{Forest, none, node, on, keys, kids, label_in}
+use Rattle.page_model.specs.Forest.{Forest, none, node, count, put, on, keys, kids, label_in, depth, at}
 use Rattle.page_model.specs.Labels as label
 use Rattle.page_model.specs.Pages as pages
 use Rattle.page_model.specs.Replay as replay
@@ -86,3 +86,16 @@ refusal_of (refusal.TooDeep n) = replay.TooDeep n
 abbrev pub answer_of : Answer → replay.Answer
 answer_of (answer.Done t) = replay.Done (kinds_of t)
 answer_of (answer.Refused why) = replay.Refused (refusal_of why)
+
+-- an insertion of which the parent and the place are good
+abbrev pub brought : ℕ → ℕ → Forest label.Kind → Forest label.Kind → replay.Answer
+brought p i sub now =
+    replay.unless_found replay.NumberUsed (replay.first_used sub sub now)
+    (replay.unless_found replay.TooDeep (replay.first_deep (suc (depth p now)) sub) (replay.Done (at p (put i sub) now)))
+
+-- an insertion below a node with this label
+abbrev pub inserted : ℕ → ℕ → Forest label.Kind → label.Kind → Forest label.Kind → replay.Answer
+inserted p i sub above now =
+    if on p now && label.holds above
+    then (if leb i (count (kids p now)) then brought p i sub now else replay.Refused (replay.NoSuchPlace i))
+    else replay.Refused (replay.NoSuchNode p)

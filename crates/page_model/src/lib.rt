@@ -4,4 +4,4 @@
 pub mod laws;
 mod plain;
 
-pub use plain::{Answer, Attribute, Lines, Look, Nodes, Op, Page, Refusal, Tree, edits, edits_between, on, put_html, renumbered, tree_of};
+pub use plain::{Answer, Attribute, Lines, Look, Nodes, Op, Page, Refusal, Tree, do_op, edits, edits_between, on, put_html, renumbered, replay, tree_of};

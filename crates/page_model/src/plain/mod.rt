@@ -9,5 +9,5 @@ mod tree;
 pub use editing::{Op, edits};
 pub use html::put_html;
 pub use page::{Nodes, Page, edits_between, renumbered, tree_of};
-pub use replaying::{Answer, Refusal};
+pub use replaying::{Answer, Refusal, do_op, replay};
 pub use tree::{Attribute, Lines, Look, Tree, on};

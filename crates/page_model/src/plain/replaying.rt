@@ -1,9 +1,9 @@
 // Operations on a numbered tree, done one after the other.
-ghost use Rattle.std.specs.Prelude.{◌≡◌, ◌+◌, ◌==◌, IfOk, length, map, not};
+ghost use Rattle.std.specs.Prelude.{◌≡◌, ◌+◌, ◌∷◌, ◌==◌, IfOk, length, map, not};
 ghost use Rattle.page_model.specs.Forest as forest;
-ghost use Rattle.page_model.specs.Labels.{Element as element_of, holds as can_hold, present, seen};
+ghost use Rattle.page_model.specs.Labels.{holds as can_hold, present, seen};
 ghost use Rattle.page_model.specs.Replay as replayed;
-ghost use Rattle.page_model.specs.Views.{answer_of, kinds_of, lines_of, look_of, op_of};
+ghost use Rattle.page_model.specs.Views.{answer_of, brought, inserted, kinds_of, lines_of, look_of, op_of};
 
 use crate::plain::editing::Op;
 use crate::plain::tree::{Attribute, Lines, Look, Tree, copy_lines, kids, look_at, node_like, on};
@@ -301,4 +301,225 @@ fn relabelled(alloc: Global, tree: &Tree, number: u64, look: &Look) -> Result<Tr
             node_like(alloc, *n, old, kids, rest)
         }
     }
+}
+// ---- attributes
+
+fn length_of(lines: &Lines) -> Result<u64, NoMemory>
+    ensures { IfOk result (λ n. n ≡ length (present (lines_of lines.now))) }
+{
+    match lines {
+        Lines::End => Ok(0),
+        Lines::Next(line, rest) => {
+            let later = length_of(rest)?;
+            if line.value.is_some() {
+                plus(later, 1)
+            } else {
+                Ok(later)
+            }
+        }
+    }
+}
+
+fn line(alloc: Global, name: &Text, value: &Text, rest: Lines) -> Result<Lines, NoMemory>
+    ensures { IfOk result (λ r. present (lines_of r) ≡ (name.now, value.now) ∷ present (lines_of rest)) }
+{
+    let attribute = Attribute {
+        name: name.copy()?,
+        value: Some(value.copy()?),
+    };
+    Ok(Lines::Next(attribute, Box::new(alloc, rest)?))
+}
+
+// The present attributes of other names.
+fn others(alloc: Global, lines: &Lines, name: &Text) -> Result<Lines, NoMemory>
+    ensures { IfOk result (λ r. present (lines_of r) ≡ replayed.others name.now (present (lines_of lines.now))) }
+{
+    match lines {
+        Lines::End => Ok(Lines::End),
+        Lines::Next(first, rest) => match &first.value {
+            None => others(alloc, rest, name),
+            Some(value) => {
+                if first.name == *name {
+                    return copy_lines(alloc, rest);
+                }
+                let rest = others(alloc, rest, name)?;
+                line(alloc, &first.name, value, rest)
+            }
+        },
+    }
+}
+
+// The present attributes with one put in so that it stands at a place.
+#[tactic(auto, using(crate::proofs::Listing::put_in_first, crate::proofs::Listing::put_in_end, crate::proofs::Listing::put_in_past))]
+fn put_in(alloc: Global, lines: &Lines, place: u64, name: &Text, value: &Text) -> Result<Lines, NoMemory>
+    ensures { IfOk result (λ r. present (lines_of r) ≡ replayed.put_in place (name.now, value.now) (present (lines_of lines.now))) }
+{
+    match lines {
+        Lines::End => line(alloc, name, value, Lines::End),
+        Lines::Next(first, rest) => match &first.value {
+            None => put_in(alloc, rest, place, name, value),
+            Some(old) => {
+                if place == 0 {
+                    let rest = copy_lines(alloc, rest)?;
+                    let later = line(alloc, &first.name, old, rest)?;
+                    return line(alloc, name, value, later);
+                }
+                let rest = put_in(alloc, rest, place - 1, name, value)?;
+                line(alloc, &first.name, old, rest)
+            }
+        },
+    }
+}
+
+// ---- operations
+
+fn holds(look: &Look) -> bool
+    ensures { result ≡ can_hold (seen (look_of look.now)) }
+{
+    match look {
+        Look::Root => true,
+        Look::Text(_) => false,
+        Look::Element(name, _) => !is_void(name.as_str()),
+    }
+}
+
+fn below_root(tree: &Tree, number: u64) -> bool
+    ensures { result ≡ replayed.below_root number (kinds_of tree.now) }
+{
+    on(tree, number) && number != 0
+}
+
+fn do_text(alloc: Global, tree: &Tree, number: u64, text: &Text, look: &Look) -> Result<Answer, NoMemory>
+    ensures { IfOk result (λ a. answer_of a ≡ replayed.do_text number text.now (seen (look_of look.now)) (kinds_of tree.now)) }
+{
+    match look {
+        Look::Text(_) => {
+            let new = Look::Text(text.copy()?);
+            Ok(Answer::Done(relabelled(alloc, tree, number, &new)?))
+        }
+        _ => Ok(Answer::Refused(Refusal::NoSuchNode(number))),
+    }
+}
+
+fn do_attr(
+    alloc: Global,
+    tree: &Tree,
+    number: u64,
+    place: u64,
+    name: &Text,
+    value: &Text,
+    look: &Look,
+) -> Result<Answer, NoMemory>
+    ensures { IfOk result (λ a. answer_of a ≡ replayed.do_attr number place name.now value.now (seen (look_of look.now)) (kinds_of tree.now)) }
+{
+    let Look::Element(element, lines) = look else {
+        return Ok(Answer::Refused(Refusal::NoSuchNode(number)));
+    };
+    let rest = others(alloc, lines, name)?;
+    if place > length_of(&rest)? {
+        return Ok(Answer::Refused(Refusal::NoSuchPlace(place)));
+    }
+    let lines = put_in(alloc, &rest, place, name, value)?;
+    let new = Look::Element(element.copy()?, lines);
+    Ok(Answer::Done(relabelled(alloc, tree, number, &new)?))
+}
+
+fn do_unattr(alloc: Global, tree: &Tree, number: u64, name: &Text, look: &Look) -> Result<Answer, NoMemory>
+    ensures { IfOk result (λ a. answer_of a ≡ replayed.do_unattr number name.now (seen (look_of look.now)) (kinds_of tree.now)) }
+{
+    let Look::Element(element, lines) = look else {
+        return Ok(Answer::Refused(Refusal::NoSuchNode(number)));
+    };
+    let rest = others(alloc, lines, name)?;
+    let new = Look::Element(element.copy()?, rest);
+    Ok(Answer::Done(relabelled(alloc, tree, number, &new)?))
+}
+
+// The insertion of a node, of which the parent and the place are good.
+fn do_fresh(alloc: Global, tree: &Tree, parent: u64, place: u64, sub: &Tree) -> Result<Answer, NoMemory>
+    ensures { IfOk result (λ a. answer_of a ≡ brought parent place (kinds_of sub.now) (kinds_of tree.now)) }
+{
+    if let Some(number) = first_used(sub, sub, tree)? {
+        return Ok(Answer::Refused(Refusal::NumberUsed(number)));
+    }
+    if let Some(number) = first_deep(sub, plus(depth(tree, parent)?, 1)?)? {
+        return Ok(Answer::Refused(Refusal::TooDeep(number)));
+    }
+    Ok(Answer::Done(put_below(alloc, tree, parent, place, sub)?))
+}
+
+fn do_insert(alloc: Global, tree: &Tree, parent: u64, place: u64, sub: &Tree, look: &Look) -> Result<Answer, NoMemory>
+    ensures { IfOk result (λ a. answer_of a ≡ inserted parent place (kinds_of sub.now) (seen (look_of look.now)) (kinds_of tree.now)) }
+{
+    if !on(tree, parent) || !holds(look) {
+        return Ok(Answer::Refused(Refusal::NoSuchNode(parent)));
+    }
+    if place > count(kids(tree, parent))? {
+        return Ok(Answer::Refused(Refusal::NoSuchPlace(place)));
+    }
+    do_fresh(alloc, tree, parent, place, sub)
+}
+
+fn do_remove(alloc: Global, tree: &Tree, number: u64) -> Result<Answer, NoMemory>
+    ensures { IfOk result (λ a. answer_of a ≡ replayed.do_op (replayed.OpRemove number) (kinds_of tree.now)) }
+{
+    if !below_root(tree, number) {
+        return Ok(Answer::Refused(Refusal::NoSuchNode(number)));
+    }
+    Ok(Answer::Done(removed(alloc, tree, number)?))
+}
+
+fn do_move(alloc: Global, tree: &Tree, number: u64, place: u64) -> Result<Answer, NoMemory>
+    ensures { IfOk result (λ a. answer_of a ≡ replayed.do_op (replayed.OpMove number place) (kinds_of tree.now)) }
+{
+    if !below_root(tree, number) {
+        return Ok(Answer::Refused(Refusal::NoSuchNode(number)));
+    }
+    let above = parent(tree, number);
+    if place >= count(kids(tree, above))? {
+        return Ok(Answer::Refused(Refusal::NoSuchPlace(place)));
+    }
+    Ok(Answer::Done(moved_below(alloc, tree, above, number, place)?))
+}
+
+/// What an operation makes of a numbered tree: the tree after, or the refusal.
+pub fn do_op(alloc: Global, op: &Op, tree: &Tree) -> Result<Answer, NoMemory>
+    ensures { IfOk result (λ a. answer_of a ≡ replayed.do_op (op_of op.now) (kinds_of tree.now)) }
+{
+    match op {
+        Op::Remove(number) => do_remove(alloc, tree, *number),
+        Op::Insert(parent, place, number, look, below) => {
+            let above = look_at(alloc, tree, *parent)?;
+            let below = copied(alloc, below)?;
+            let sub = node_like(alloc, *number, look, below, Tree::Empty)?;
+            do_insert(alloc, tree, *parent, *place, &sub, &above)
+        }
+        Op::Move(number, place) => do_move(alloc, tree, *number, *place),
+        Op::Text(number, text) => {
+            let look = look_at(alloc, tree, *number)?;
+            do_text(alloc, tree, *number, text, &look)
+        }
+        Op::Attr(number, place, name, value) => {
+            let look = look_at(alloc, tree, *number)?;
+            do_attr(alloc, tree, *number, *place, name, value, &look)
+        }
+        Op::Unattr(number, name) => {
+            let look = look_at(alloc, tree, *number)?;
+            do_unattr(alloc, tree, *number, name, &look)
+        }
+    }
+}
+
+/// The operations one after the other, up to a refusal.
+pub fn replay(alloc: Global, ops: &[Op], tree: Tree) -> Result<Answer, NoMemory>
+    ensures { IfOk result (λ a. answer_of a ≡ replayed.replay (map op_of ops.now) (kinds_of tree)) }
+{
+    let mut now = tree;
+    for op in ops {
+        match do_op(alloc, op, &now)? {
+            Answer::Done(next) => now = next,
+            Answer::Refused(why) => return Ok(Answer::Refused(why)),
+        }
+    }
+    Ok(Answer::Done(now))
 }

@@ -148,7 +148,8 @@ pub fn kids(tree: &Tree, key: u64) -> &Tree
 
 // What the node of a key is, and a root where there is none.
 pub fn look_at(alloc: Global, tree: &Tree, key: u64) -> Result<Look, NoMemory>
-    ensures { IfOk result (λ x. look_of x ≡ label_in Root key (forest_of tree.now)) }
+    ensures by_key { IfOk result (λ x. look_of x ≡ label_in Root key (forest_of tree.now)) }
+    ensures on_page { IfOk result (λ x. seen (look_of x) ≡ label_in Root key (kinds_of tree.now)) }
 {
     match tree {
         Tree::Empty => Ok(Look::Root),
