@@ -24,6 +24,3 @@ pub mod Quiet
 pub mod Serial
 pub mod Pairs
 mod Examples
-mod Listing
-mod Joined
-mod Renewed

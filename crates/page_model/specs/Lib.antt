@@ -5,4 +5,3 @@ pub mod Replay
 pub mod Addresses
 pub mod Pages
 pub mod Html
-pub mod Views

@@ -5,24 +5,24 @@ use Rattle.page_model.specs.Forest.{Forest, none, node, count, put, on, keys, ki
 use Rattle.page_model.specs.Labels as label
 use Rattle.page_model.specs.Pages as pages
 use Rattle.page_model.specs.Replay as replay
-use Rattle.page_model.specs.declared.plain.numbers.Numbers.{Numbers}
-use Rattle.page_model.specs.declared.plain.numbers.Numbers.TheVariants as numbers
-use Rattle.page_model.specs.declared.plain.tree.Attribute.{Attribute}
-use Rattle.page_model.specs.declared.plain.tree.Lines.{Lines}
-use Rattle.page_model.specs.declared.plain.tree.Lines.TheVariants as lines
-use Rattle.page_model.specs.declared.plain.tree.Look.{Look}
-use Rattle.page_model.specs.declared.plain.tree.Look.TheVariants as look
-use Rattle.page_model.specs.declared.plain.tree.Tree.{Tree}
-use Rattle.page_model.specs.declared.plain.tree.Tree.TheVariants as tree
-use Rattle.page_model.specs.declared.plain.page.Nodes.{Nodes}
-use Rattle.page_model.specs.declared.plain.page.Nodes.TheVariants as nodes
-use Rattle.page_model.specs.declared.plain.page.Page.{Page}
-use Rattle.page_model.specs.declared.plain.replaying.Refusal.{Refusal}
-use Rattle.page_model.specs.declared.plain.replaying.Refusal.TheVariants as refusal
-use Rattle.page_model.specs.declared.plain.replaying.Answer.{Answer}
-use Rattle.page_model.specs.declared.plain.replaying.Answer.TheVariants as answer
-use Rattle.page_model.specs.declared.plain.editing.Op.{Op}
-use Rattle.page_model.specs.declared.plain.editing.Op.TheVariants as op
+use Rattle.page_plain.specs.declared.numbers.Numbers.{Numbers}
+use Rattle.page_plain.specs.declared.numbers.Numbers.TheVariants as numbers
+use Rattle.page_plain.specs.declared.tree.Attribute.{Attribute}
+use Rattle.page_plain.specs.declared.tree.Lines.{Lines}
+use Rattle.page_plain.specs.declared.tree.Lines.TheVariants as lines
+use Rattle.page_plain.specs.declared.tree.Look.{Look}
+use Rattle.page_plain.specs.declared.tree.Look.TheVariants as look
+use Rattle.page_plain.specs.declared.tree.Tree.{Tree}
+use Rattle.page_plain.specs.declared.tree.Tree.TheVariants as tree
+use Rattle.page_plain.specs.declared.page.Nodes.{Nodes}
+use Rattle.page_plain.specs.declared.page.Nodes.TheVariants as nodes
+use Rattle.page_plain.specs.declared.page.Page.{Page}
+use Rattle.page_plain.specs.declared.replaying.Refusal.{Refusal}
+use Rattle.page_plain.specs.declared.replaying.Refusal.TheVariants as refusal
+use Rattle.page_plain.specs.declared.replaying.Answer.{Answer}
+use Rattle.page_plain.specs.declared.replaying.Answer.TheVariants as answer
+use Rattle.page_plain.specs.declared.editing.Op.{Op}
+use Rattle.page_plain.specs.declared.editing.Op.TheVariants as op
 
 abbrev pub numbers_of : Numbers → List ℕ
 numbers_of numbers.End = []

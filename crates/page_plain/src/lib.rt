@@ -1,9 +1,13 @@
-// The definitions as a plain program, for small trees: it goes over whole trees again and again.
+//! The definitions of pages as a plain program, for small trees: it goes over whole trees again and again.
+#![tactic(auto)]
+
 mod editing;
 mod html;
 mod numbers;
 mod page;
 mod replaying;
+#[cfg(test)]
+mod tests;
 mod tree;
 
 pub use editing::{Op, edits};

@@ -1,7 +1,7 @@
 use Rattle.std.proofs.Common.{ap, map}
-use Rattle.page_model.specs.Views.{forest_of, numbers_of, op_of}
-use Rattle.page_model.proofs.Joined.{edits_are}
-use Rattle.page_model.proofs.plain.editing.edits.Goals as goal
+use Rattle.page_plain.specs.Views.{forest_of, numbers_of, op_of}
+use Rattle.page_plain.proofs.Joined.{edits_are}
+use Rattle.page_plain.proofs.editing.edits.Goals as goal
 
 pub returns : goal.returns
 returns c =

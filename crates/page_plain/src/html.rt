@@ -4,9 +4,9 @@ ghost use Rattle.std.specs.List.{flat_map};
 ghost use Rattle.html_out.specs.Html.{attribute};
 ghost use Rattle.page_model.specs.Html.{characters, closing, html_in, html_of, opening};
 ghost use Rattle.page_model.specs.Labels.{present};
-ghost use Rattle.page_model.specs.Views.{kinds_of, lines_of};
+ghost use Rattle.page_plain.specs.Views.{kinds_of, lines_of};
 
-use crate::plain::tree::{Lines, Look, Tree};
+use crate::tree::{Lines, Look, Tree};
 use html_out::{is_raw, is_void, put_attr, put_text};
 use sig_base::NoMemory;
 

@@ -3,9 +3,9 @@ ghost use Rattle.std.specs.Prelude.{◌≡◌, ◌++◌, ◌∷◌, IfOk};
 ghost use Rattle.page_model.specs.Edits.{siblings as siblings_in};
 ghost use Rattle.page_model.specs.Forest.{keys as keys_in, kids as kids_in, label_in, node as node_of, on as stands_in, pruned, tops};
 ghost use Rattle.page_model.specs.Labels.{Root, seen};
-ghost use Rattle.page_model.specs.Views.{forest_of, kinds_of, lines_of, look_of, numbers_of};
+ghost use Rattle.page_plain.specs.Views.{forest_of, kinds_of, lines_of, look_of, numbers_of};
 
-use crate::plain::numbers::{Numbers, next};
+use crate::numbers::{Numbers, next};
 use sig_base::{NoMemory, Text};
 use std::alloc::Global;
 

@@ -5,10 +5,10 @@ ghost use Rattle.page_model.specs.Edits as edit;
 ghost use Rattle.page_model.specs.Forest.{kids as kids_in, label_in};
 ghost use Rattle.page_model.specs.Labels.{Root};
 ghost use Rattle.page_model.specs.Replay.{OpRemove};
-ghost use Rattle.page_model.specs.Views.{forest_of, kinds_of, lines_of, look_of, numbers_of, op_of};
+ghost use Rattle.page_plain.specs.Views.{forest_of, kinds_of, lines_of, look_of, numbers_of, op_of};
 
-use crate::plain::numbers::{Numbers, ascending, listed, placed, put_at, taken};
-use crate::plain::tree::{Lines, Look, Tree, gone, kept, keys, kids, look_at, siblings};
+use crate::numbers::{Numbers, ascending, listed, placed, put_at, taken};
+use crate::tree::{Lines, Look, Tree, gone, kept, keys, kids, look_at, siblings};
 use sig_base::{NoMemory, Text};
 use std::alloc::Global;
 

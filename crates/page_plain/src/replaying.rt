@@ -3,10 +3,10 @@ ghost use Rattle.std.specs.Prelude.{◌≡◌, ◌+◌, ◌∷◌, ◌==◌, IfO
 ghost use Rattle.page_model.specs.Forest as forest;
 ghost use Rattle.page_model.specs.Labels.{holds as can_hold, present, seen};
 ghost use Rattle.page_model.specs.Replay as replayed;
-ghost use Rattle.page_model.specs.Views.{answer_of, brought, inserted, kinds_of, lines_of, look_of, op_of};
+ghost use Rattle.page_plain.specs.Views.{answer_of, brought, inserted, kinds_of, lines_of, look_of, op_of};
 
-use crate::plain::editing::Op;
-use crate::plain::tree::{Attribute, Lines, Look, Tree, copy_lines, kids, look_at, node_like, on};
+use crate::editing::Op;
+use crate::tree::{Attribute, Lines, Look, Tree, copy_lines, kids, look_at, node_like, on};
 use html_out::is_void;
 use sig_base::{NoMemory, Text};
 use std::alloc::Global;
