@@ -1,11 +1,10 @@
 -- Pages, computed.
-use Rattle.std.proofs.Common.{◌≡◌, ℕ, ◌+◌, List, [], ◌∷◌, refl, Option, Some, None}
+use Rattle.std.proofs.Common.{◌≡◌, ℕ, ◌+◌, List, [], ◌∷◌, refl}
 use Rattle.std.specs.Prelude.{codes}
 use Rattle.page_model.specs.Forest.{Forest, none, node}
 use Rattle.page_model.specs.Labels.{Root, Text, Element, Kind, Look}
-use Rattle.page_model.specs.Replay.{OpRemove, OpInsert, OpMove, OpText, OpAttr, OpUnattr}
-use Rattle.page_model.specs.Pages.{Page, renumbered, edits_between, tree_of}
-use Rattle.page_model.specs.Html.{html_of}
+use Rattle.page_model.specs.Replay.{OpRemove, OpInsert, OpMove, OpText}
+use Rattle.page_model.specs.Pages.{Page, renumbered, edits_between}
 
 abbrev bare : Page
 bare = record { nodes = node 0 (0, Root) none none; next = 1 }

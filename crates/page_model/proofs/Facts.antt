@@ -1,5 +1,5 @@
 -- What the proofs of the replay law speak of.
-use Rattle.std.specs.Prelude.{ℕ, suc, ◌+◌, ◌≤◌, ◌==◌, Bool, true, false, ◌&&◌, ◌||◌, not, leb, ltb, if◌then◌else◌, List, [], ◌∷◌, ◌++◌, ◌≡◌, Option, Some, None, map}
+use Rattle.std.specs.Prelude.{ℕ, suc, ◌+◌, ◌≤◌, Bool, true, false, ◌&&◌, not, leb, ltb, if◌then◌else◌, List, [], ◌∷◌, ◌++◌, ◌≡◌, Option, Some, None, map}
 use Rattle.page_model.specs.Forest.{Forest, none, node, after, count, has, only, put, stands, moved, on, tally, kids, parent, at}
 use Rattle.page_model.specs.Labels.{Kind}
 use Rattle.page_model.specs.Replay.{Op, OpInsert, OpMove}

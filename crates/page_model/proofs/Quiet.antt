@@ -1,5 +1,5 @@
 -- Where nothing differs there are no edits.
-use Rattle.std.proofs.Common.{◌≡◌, ℕ, suc, ◌+◌, ◌==◌, Bool, true, ◌||◌, refl, ap, ◌∙◌, arith, eq-eqb, List, [], ◌∷◌, ◌++◌, map, length, length-append, append_assoc, Option, Some, None}
+use Rattle.std.proofs.Common.{◌≡◌, ℕ, suc, ◌==◌, Bool, true, ◌||◌, refl, ap, ◌∙◌, arith, eq-eqb, List, [], ◌∷◌, ◌++◌, map, length, length-append, append_assoc, Option, Some, None}
 use Rattle.std.specs.List.{flat_map}
 use Rattle.std.specs.Str.{bytes_eq}
 use Rattle.std.proofs.lemmas.Slice.Eq.{bytes_eq-Decides}

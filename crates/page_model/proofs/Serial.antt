@@ -1,6 +1,6 @@
 -- The bytes of a page don't depend on its numbers.
-use Rattle.std.proofs.Common.{◌≡◌, ℕ, Bool, false, refl, ap, ◌∙◌, ◌++◌, if◌then◌else◌}
-use Rattle.html_out.specs.Html.{escaped, is_raw}
+use Rattle.std.proofs.Common.{◌≡◌, ℕ, Bool, false, refl, ap, ◌∙◌, ◌++◌}
+use Rattle.html_out.specs.Html.{is_raw}
 use Rattle.page_model.specs.Forest.{Forest, none, node, numbered}
 use Rattle.page_model.specs.Labels.{Root, Text, Element, Look, shown}
 use Rattle.page_model.specs.Pages.{Page, tree_of, carried, renumbered}
