@@ -1,0 +1,5 @@
+use Rattle.page_model.proofs.Carrying.{kept_number}
+use Rattle.page_model.proofs.laws.kept_number_law.Goals as goal
+
+pub returns : goal.returns
+returns c = λ old shape a h g. kept_number old shape a h g

@@ -1,0 +1,5 @@
+use Rattle.page_model.proofs.Carrying.{page_after}
+use Rattle.page_model.proofs.laws.page_law.Goals as goal
+
+pub returns : goal.returns
+returns c = λ old shape p s. page_after old shape p s

@@ -1,0 +1,5 @@
+use Rattle.page_model.proofs.Quiet.{edits_none}
+use Rattle.page_model.proofs.laws.quiet_law.Goals as goal
+
+pub returns : goal.returns
+returns c = λ t. edits_none t
