@@ -1,0 +1,4 @@
+pub mod Complete
+pub mod Laws
+pub mod Places
+pub mod Sound

@@ -1,0 +1,6 @@
+pub mod Grammar
+pub mod Judging
+pub mod Reading
+pub mod Rough
+pub mod Signs
+pub mod Wiring
