@@ -185,7 +185,7 @@ one_meaning ts x y a b =
 
 -- ---- a formula before something else
 
-reads_front : (ts rest : List Sign) (x : Draft) → Spells ts x → Stops 1 rest → (own : ℕ) × (expr (length (ts ++ rest)) 0 (ts ++ rest) ≡ Some (x, own, rest))
+pub reads_front : (ts rest : List Sign) (x : Draft) → Spells ts x → Stops 1 rest → (own : ℕ) × (expr (length (ts ++ rest)) 0 (ts ++ rest) ≡ Some (x, own, rest))
 reads_front ts rest x s stops =
     let is : ts ++ rest ≡ spelled s.form ++ rest = ap (λ (us : List Sign). us ++ rest) s.tokens in
     let n = length (ts ++ rest) in

@@ -1,4 +1,5 @@
 pub mod Complete
 pub mod Laws
+pub mod Minimal
 pub mod Places
 pub mod Sound

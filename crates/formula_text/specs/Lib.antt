@@ -1,3 +1,4 @@
+pub mod Canonical
 pub mod Grammar
 pub mod Judging
 pub mod Reading

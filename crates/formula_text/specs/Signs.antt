@@ -1,5 +1,5 @@
 -- What tokens are in a formula.
-use Rattle.std.specs.Prelude.{ℕ, Bool, true, false, List, map, codes, if◌then◌else◌}
+use Rattle.std.specs.Prelude.{ℕ, Bool, true, false, List, [], ◌∷◌, map, codes, if◌then◌else◌}
 use Rattle.std.specs.Str.{bytes_eq}
 use Rattle.sig_base.specs.Words.{is_name}
 use Rattle.sig_base.specs.declared.scalar.Scalar.{Scalar}
@@ -70,3 +70,9 @@ sign (symbol s) = symbol_sign s
 
 abbrev pub signs : List Lexeme → List Sign
 signs ls = map sign ls
+
+-- no operator stands first
+abbrev pub NoOperator : List Sign → Type 0
+NoOperator [] = Unit {0}
+NoOperator (operator o ∷ ss) = ⊥
+NoOperator (s ∷ ss) = Unit {0}

@@ -13,9 +13,9 @@ use sig_words::Token;
 use std::alloc::Global;
 
 // The rules of the grammar from the loosest on, by number.
-const CHOICE: u8 = 0;
+pub const CHOICE: u8 = 0;
 
-const NEGATION: u8 = 3;
+pub const NEGATION: u8 = 3;
 
 const PRIMARY: u8 = 8;
 
