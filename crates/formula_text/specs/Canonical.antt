@@ -43,11 +43,11 @@ leaf_text (constant s) = printed_scalar s
 -- the text: one space on each side of an operator and behind `not`, `if`, `then` and `else`, and none inside parentheses
 abbrev pub written : Written → List ℕ
 written (single l) = leaf_text l
-written (group w) = codes "(" ++ written w ++ codes ")"
-written (untrack w) = codes "untrack(" ++ written w ++ codes ")"
+written (group w) = codes "(" ++ (written w ++ codes ")")
+written (untrack w) = codes "untrack(" ++ (written w ++ codes ")")
 written (negated w) = codes "not " ++ written w
-written (chain o a b) = written a ++ codes " " ++ operator_text o ++ codes " " ++ written b
-written (pick w a b) = codes "if " ++ written w ++ codes " then " ++ written a ++ codes " else " ++ written b
+written (chain o a b) = written a ++ (codes " " ++ (operator_text o ++ (codes " " ++ written b)))
+written (pick w a b) = codes "if " ++ (written w ++ (codes " then " ++ (written a ++ (codes " else " ++ written b))))
 
 -- the canonical text
 abbrev pub canonical_text : Draft → List ℕ
