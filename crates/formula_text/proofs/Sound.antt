@@ -1,0 +1,227 @@
+-- What is read is spelled so.
+use Rattle.std.proofs.Common.{◌≡◌, ℕ, zero, suc, ◌+◌, ◌≤◌, List, [], ◌∷◌, ◌++◌, length, Option, Some, None, refl, sym, ap, subst, ◌∙◌, append_assoc, arith, inl, inr}
+use Rattle.std.specs.Prelude.{nat_le, option_map, option_and_then}
+use Rattle.std.proofs.lemmas.Bool.{leb-true, and_parts, cases_Bool}
+use Rattle.std.proofs.lemmas.Option.{same_Some}
+use Rattle.formula_text.specs.Signs.{Sign}
+use Rattle.formula_text.specs.Signs as t
+use Rattle.sig_formula.specs.declared.formula.BinOp.{BinOp}
+use Rattle.sig_formula.specs.declared.formula.BinOp.TheVariants as op
+use Rattle.formula_text.specs.Grammar.{Draft, negation, untracked, binary, choice, Written, single, group, untrack, negated, chain, pick, spelled, meant, level, before, rule, Fits}
+use Rattle.formula_text.specs.Reading.{Part, Reader, closed_at, closed, untrack_closed, untrack_at, negate, chosen, else_at, after_branch, then_at, after_test, choice_at, head, goes_on, extended, tail_at, tail, expr}
+
+pub record Took (least : ℕ) (ts : List Sign) (p : Part) : Type 0 where
+  pub form : Written
+  pub fits : Fits form
+  pub in_place : least ≤ rule form
+  pub rule_is : rule form ≡ p.1
+  pub meaning : meant form ≡ p.0
+  pub tokens : ts ≡ spelled form ++ p.2
+
+abbrev pub IsSound : Reader → Type 0
+IsSound read = (least : ℕ) (ts : List Sign) (p : Part) → least ≤ 8 → read least ts ≡ Some p → Took least ts p
+
+and_then_some : {A B : Type 0} (o : Option A) (f : A → Option B) (y : B) → option_and_then f o ≡ Some y → (x : A) × (o ≡ Some x) × (f x ≡ Some y)
+and_then_some None f y e = absurd cc
+and_then_some (Some x) f y e = (x, refl, e)
+
+map_some : {A B : Type 0} (o : Option A) (f : A → B) (y : B) → option_map f o ≡ Some y → (x : A) × (o ≡ Some x) × (f x ≡ y)
+map_some None f y e = absurd cc
+map_some (Some x) f y e = (x, refl, same_Some _ _ e)
+
+pub level_small : (o : BinOp) → level o + 1 ≤ 8
+level_small op.Or = omega arith
+level_small op.And = omega arith
+level_small op.Eq = omega arith
+level_small op.Ne = omega arith
+level_small op.Lt = omega arith
+level_small op.Le = omega arith
+level_small op.Gt = omega arith
+level_small op.Ge = omega arith
+level_small op.Join = omega arith
+level_small op.Add = omega arith
+level_small op.Sub = omega arith
+level_small op.Mul = omega arith
+level_small op.Div = omega arith
+level_small op.Rem = omega arith
+
+closed_some : (x : Draft) (ts : List Sign) (p : Part) → closed_at x ts ≡ Some p → (after : List Sign) × (ts ≡ t.closing ∷ after) × (p ≡ (x, 8, after))
+closed_some x (t.closing ∷ ts) p e = (ts, refl, sym (same_Some _ _ e))
+closed_some x [] p e = absurd cc
+closed_some x (t.leaf n ∷ ts) p e = absurd cc
+closed_some x (t.operator o ∷ ts) p e = absurd cc
+closed_some x (t.not_word ∷ ts) p e = absurd cc
+closed_some x (t.untrack_word ∷ ts) p e = absurd cc
+closed_some x (t.opening ∷ ts) p e = absurd cc
+closed_some x (t.other ∷ ts) p e = absurd cc
+closed_some x (t.if_word ∷ ts) p e = absurd cc
+closed_some x (t.then_word ∷ ts) p e = absurd cc
+closed_some x (t.else_word ∷ ts) p e = absurd cc
+
+untrack_sound : (read : Reader) → IsSound read → (least : ℕ) (ts : List Sign) (p : Part) → least ≤ 8 → untrack_at read ts ≡ Some p → Took least (t.untrack_word ∷ ts) p
+untrack_sound read sound least (t.opening ∷ ts) p small e =
+    let a = and_then_some (read 0 ts) untrack_closed p e in
+    let inner = sound 0 ts a.0 (omega arith) a.1 in
+    let b = closed_some (untracked a.0.0) a.0.2 p a.2 in
+    subst (λ (q : Part). Took least (t.untrack_word ∷ t.opening ∷ ts) q) (sym b.2)
+    (record {
+      form = untrack inner.form;
+      fits = inner.fits;
+      in_place = small;
+      rule_is = refl;
+      meaning = ap untracked inner.meaning;
+      tokens = ap (λ (x : List Sign). t.untrack_word ∷ t.opening ∷ x) (inner.tokens ∙ ap (λ (x : List Sign). spelled inner.form ++ x) b.1 ∙ sym (append_assoc (spelled inner.form) (t.closing ∷ []) b.0));
+    })
+untrack_sound read sound least [] p small e = absurd cc
+untrack_sound read sound least (t.leaf n ∷ ts) p small e = absurd cc
+untrack_sound read sound least (t.operator o ∷ ts) p small e = absurd cc
+untrack_sound read sound least (t.not_word ∷ ts) p small e = absurd cc
+untrack_sound read sound least (t.untrack_word ∷ ts) p small e = absurd cc
+untrack_sound read sound least (t.closing ∷ ts) p small e = absurd cc
+untrack_sound read sound least (t.other ∷ ts) p small e = absurd cc
+untrack_sound read sound least (t.if_word ∷ ts) p small e = absurd cc
+untrack_sound read sound least (t.then_word ∷ ts) p small e = absurd cc
+untrack_sound read sound least (t.else_word ∷ ts) p small e = absurd cc
+
+else_some : (read : Reader) (x y : Draft) (ts : List Sign) (p : Part) → else_at read x y ts ≡ Some p
+    → (us : List Sign) × (q : Part) × (ts ≡ t.else_word ∷ us) × (read 0 us ≡ Some q) × (chosen x y q ≡ Some p)
+else_some read x y (t.else_word ∷ ts) p e = let a = and_then_some (read 0 ts) (chosen x y) p e in (ts, a.0, refl, a.1, a.2)
+else_some read x y [] p e = absurd cc
+else_some read x y (t.leaf n ∷ ts) p e = absurd cc
+else_some read x y (t.operator o ∷ ts) p e = absurd cc
+else_some read x y (t.not_word ∷ ts) p e = absurd cc
+else_some read x y (t.if_word ∷ ts) p e = absurd cc
+else_some read x y (t.then_word ∷ ts) p e = absurd cc
+else_some read x y (t.untrack_word ∷ ts) p e = absurd cc
+else_some read x y (t.opening ∷ ts) p e = absurd cc
+else_some read x y (t.closing ∷ ts) p e = absurd cc
+else_some read x y (t.other ∷ ts) p e = absurd cc
+
+then_some : (read : Reader) (x : Draft) (ts : List Sign) (p : Part) → then_at read x ts ≡ Some p
+    → (us : List Sign) × (q : Part) × (ts ≡ t.then_word ∷ us) × (read 0 us ≡ Some q) × (after_branch read x q ≡ Some p)
+then_some read x (t.then_word ∷ ts) p e = let a = and_then_some (read 0 ts) (after_branch read x) p e in (ts, a.0, refl, a.1, a.2)
+then_some read x [] p e = absurd cc
+then_some read x (t.leaf n ∷ ts) p e = absurd cc
+then_some read x (t.operator o ∷ ts) p e = absurd cc
+then_some read x (t.not_word ∷ ts) p e = absurd cc
+then_some read x (t.if_word ∷ ts) p e = absurd cc
+then_some read x (t.else_word ∷ ts) p e = absurd cc
+then_some read x (t.untrack_word ∷ ts) p e = absurd cc
+then_some read x (t.opening ∷ ts) p e = absurd cc
+then_some read x (t.closing ∷ ts) p e = absurd cc
+then_some read x (t.other ∷ ts) p e = absurd cc
+
+-- the tokens of a choice, with what stands behind it
+pub pick_tokens : (a b c rest : List Sign) → (a ++ (t.then_word ∷ (b ++ (t.else_word ∷ c)))) ++ rest ≡ a ++ (t.then_word ∷ (b ++ (t.else_word ∷ (c ++ rest))))
+pick_tokens a b c rest =
+    append_assoc a (t.then_word ∷ (b ++ (t.else_word ∷ c))) rest
+    ∙ ap (λ (x : List Sign). a ++ (t.then_word ∷ x)) (append_assoc b (t.else_word ∷ c) rest)
+
+choice_sound : (read : Reader) → IsSound read → (least : ℕ) (ts : List Sign) (p : Part) → least ≤ 0 → choice_at read ts ≡ Some p → Took least (t.if_word ∷ ts) p
+choice_sound read sound least ts p small e =
+    let a = and_then_some (read 0 ts) (after_test read) p e in
+    let b = then_some read a.0.0 a.0.2 p a.2 in
+    let c = else_some read a.0.0 b.1.0 b.1.2 p b.4 in
+    let test = sound 0 ts a.0 (omega arith) a.1 in
+    let held = sound 0 b.0 b.1 (omega arith) b.3 in
+    let last = sound 0 c.0 c.1 (omega arith) c.3 in
+    subst (λ (q : Part). Took least (t.if_word ∷ ts) q) (same_Some _ _ c.4)
+    (record {
+      form = pick test.form held.form last.form;
+      fits = (test.fits, held.fits, last.fits);
+      in_place = small;
+      rule_is = refl;
+      meaning = let f = test.meaning in let g = held.meaning in let h = last.meaning in cc;
+      tokens = ap (λ (x : List Sign). t.if_word ∷ x)
+          (test.tokens ∙ ap (λ (x : List Sign). spelled test.form ++ x) (b.2 ∙ ap (λ (x : List Sign). t.then_word ∷ x) (held.tokens ∙ ap (λ (x : List Sign). spelled held.form ++ x) (c.2 ∙ ap (λ (x : List Sign). t.else_word ∷ x) last.tokens)))
+          ∙ sym (pick_tokens (spelled test.form) (spelled held.form) (spelled last.form) c.1.2));
+    })
+
+head_sound : (read : Reader) → IsSound read → (least : ℕ) (ts : List Sign) (p : Part) → least ≤ 8 → head read least ts ≡ Some p → Took least ts p
+head_sound read sound least (t.leaf n ∷ ts) p small e =
+    subst (λ (q : Part). Took least (t.leaf n ∷ ts) q) (same_Some _ _ e)
+    (record { form = single n; fits = tt; in_place = small; rule_is = refl; meaning = refl; tokens = refl })
+head_sound read sound least (t.opening ∷ ts) p small e =
+    let a = and_then_some (read 0 ts) closed p e in
+    let inner = sound 0 ts a.0 (omega arith) a.1 in
+    let b = closed_some a.0.0 a.0.2 p a.2 in
+    subst (λ (q : Part). Took least (t.opening ∷ ts) q) (sym b.2)
+    (record {
+      form = group inner.form;
+      fits = inner.fits;
+      in_place = small;
+      rule_is = refl;
+      meaning = inner.meaning;
+      tokens = ap (λ (x : List Sign). t.opening ∷ x) (inner.tokens ∙ ap (λ (x : List Sign). spelled inner.form ++ x) b.1 ∙ sym (append_assoc (spelled inner.form) (t.closing ∷ []) b.0));
+    })
+head_sound read sound least (t.untrack_word ∷ ts) p small e = untrack_sound read sound least ts p small e
+head_sound read sound least (t.not_word ∷ ts) p small e = elim (cases_Bool (nat_le least 3)) [
+  | inl holds ↦
+      let a = and_then_some (read 3 ts) negate p (rw holds at e) in
+      let inner = sound 3 ts a.0 (omega arith) a.1 in
+      subst (λ (q : Part). Took least (t.not_word ∷ ts) q) (same_Some _ _ a.2)
+      (record {
+        form = negated inner.form;
+        fits = (inner.in_place, inner.fits);
+        in_place = leb-true least 3 holds;
+        rule_is = refl;
+        meaning = ap negation inner.meaning;
+        tokens = ap (λ (x : List Sign). t.not_word ∷ x) inner.tokens;
+      })
+  | inr fails ↦ let bad = rw fails at e in absurd cc
+]
+head_sound read sound least (t.if_word ∷ ts) p small e = elim (cases_Bool (nat_le least 0)) [
+  | inl holds ↦ choice_sound read sound least ts p (leb-true least 0 holds) (rw holds at e)
+  | inr fails ↦ let bad = rw fails at e in absurd cc
+]
+head_sound read sound least [] p small e = absurd cc
+head_sound read sound least (t.operator o ∷ ts) p small e = absurd cc
+head_sound read sound least (t.closing ∷ ts) p small e = absurd cc
+head_sound read sound least (t.other ∷ ts) p small e = absurd cc
+head_sound read sound least (t.then_word ∷ ts) p small e = absurd cc
+head_sound read sound least (t.else_word ∷ ts) p small e = absurd cc
+
+extended_sound : (again : Part → Part) (least : ℕ) (ts : List Sign) (o : BinOp) (p : Part) (rest : List Sign) (r : Option Part) →
+    ((q : Part) → Took least ts q → Took least ts (again q)) → Took least ts p → p.2 ≡ t.operator o ∷ rest → least ≤ level o → before o ≤ p.1
+    → ((q : Part) → r ≡ Some q → Took (level o + 1) rest q) → Took least ts (extended again o p r)
+extended_sound again least ts o p rest None more took is low high right = took
+extended_sound again least ts o p rest (Some q) more took is low high right =
+    let b = right q refl in
+    more (binary o p.0 q.0, level o, q.2) (record {
+      form = chain o took.form b.form;
+      fits = (rw (sym took.rule_is) at high, omega (arith, b.in_place), took.fits, b.fits);
+      in_place = low;
+      rule_is = refl;
+      meaning = cc;
+      tokens = took.tokens ∙ ap (λ (x : List Sign). spelled took.form ++ x) (is ∙ ap (λ (x : List Sign). t.operator o ∷ x) b.tokens) ∙ sym (append_assoc (spelled took.form) (t.operator o ∷ spelled b.form) q.2);
+    })
+
+tail_at_sound : (read : Reader) → IsSound read → (again : Part → Part) (least : ℕ) (ts : List Sign) (p : Part) (rest : List Sign) → ((q : Part) → Took least ts q → Took least ts (again q)) → p.2 ≡ rest → Took least ts p → Took least ts (tail_at read again least p rest)
+tail_at_sound read sound again least ts p [] more is took = took
+tail_at_sound read sound again least ts p (t.leaf n ∷ rest) more is took = took
+tail_at_sound read sound again least ts p (t.not_word ∷ rest) more is took = took
+tail_at_sound read sound again least ts p (t.untrack_word ∷ rest) more is took = took
+tail_at_sound read sound again least ts p (t.opening ∷ rest) more is took = took
+tail_at_sound read sound again least ts p (t.closing ∷ rest) more is took = took
+tail_at_sound read sound again least ts p (t.other ∷ rest) more is took = took
+tail_at_sound read sound again least ts p (t.if_word ∷ rest) more is took = took
+tail_at_sound read sound again least ts p (t.then_word ∷ rest) more is took = took
+tail_at_sound read sound again least ts p (t.else_word ∷ rest) more is took = took
+tail_at_sound read sound again least ts p (t.operator o ∷ rest) more is took = elim (cases_Bool (goes_on o least p.1)) [
+  | inl holds ↦
+      let parts = and_parts (nat_le least (level o)) (nat_le (before o) p.1) holds in
+      rw holds (extended_sound again least ts o p rest (read (level o + 1) rest) more took is (leb-true _ _ parts.0) (leb-true _ _ parts.1) (λ q e. sound (level o + 1) rest q (level_small o) e))
+  | inr fails ↦ rw fails took
+]
+
+tail_sound : (read : Reader) → IsSound read → (k least : ℕ) (ts : List Sign) (p : Part) → Took least ts p → Took least ts (tail read k least p)
+unfolding tail
+tail_sound read sound zero least ts p took = took
+tail_sound read sound (suc k) least ts p took = tail_at_sound read sound (tail read k least) least ts p p.2 (λ q h. tail_sound read sound k least ts q h) refl took
+
+pub expr_sound : (n least : ℕ) (ts : List Sign) (p : Part) → least ≤ 8 → expr n least ts ≡ Some p → Took least ts p
+unfolding expr
+expr_sound zero least ts p small e = absurd cc
+expr_sound (suc n) least ts p small e =
+    let a = map_some (head (expr n) least ts) (tail (expr n) (length ts) least) p e in
+    subst (λ (q : Part). Took least ts q) a.2 (tail_sound (expr n) (λ l us q. expr_sound n l us q) (length ts) least ts a.0 (head_sound (expr n) (λ l us q. expr_sound n l us q) least ts a.0 small a.1))

@@ -1,0 +1,73 @@
+-- Formulas with the fewest parentheses, and how they are written.
+use Rattle.std.specs.Prelude.{ℕ, ◌+◌, nat_lt, if◌then◌else◌, Bool, List, [], ◌++◌, codes, unwrap_or, slice_get}
+use Rattle.sig_base.specs.Printing.{printed_scalar}
+use Rattle.sig_formula.specs.declared.formula.BinOp.{BinOp}
+use Rattle.sig_formula.specs.declared.formula.BinOp.TheVariants as op
+use Rattle.sig_formula.specs.Trees.{Tree}
+use Rattle.sig_formula.specs.Trees as tree
+use Rattle.formula_text.specs.Signs.{Leaf, name, constant}
+use Rattle.formula_text.specs.Grammar.{Draft, leaf, negation, binary, choice, untracked, Written, single, group, untrack, negated, chain, pick, level, before}
+
+-- parentheses where a part's rule stands earlier in the grammar than its place asks for
+abbrev pub grouped : ℕ → ℕ → Written → Written
+grouped own asked w = if nat_lt own asked then group w else w
+
+-- the formula as it is written at a place that asks for a rule
+abbrev pub minimal : ℕ → Draft → Written
+minimal asked (leaf l) = single l
+minimal asked (negation x) = grouped 3 asked (negated (minimal 3 x))
+minimal asked (binary o x y) = grouped (level o) asked (chain o (minimal (before o) x) (minimal (level o + 1) y))
+minimal asked (choice w x y) = grouped 0 asked (pick (minimal 0 w) (minimal 0 x) (minimal 0 y))
+minimal asked (untracked x) = untrack (minimal 0 x)
+
+abbrev pub operator_text : BinOp → List ℕ
+operator_text op.Or = codes "or"
+operator_text op.And = codes "and"
+operator_text op.Eq = codes "=="
+operator_text op.Ne = codes "!="
+operator_text op.Lt = codes "<"
+operator_text op.Le = codes "<="
+operator_text op.Gt = codes ">"
+operator_text op.Ge = codes ">="
+operator_text op.Join = codes "++"
+operator_text op.Add = codes "+"
+operator_text op.Sub = codes "-"
+operator_text op.Mul = codes "*"
+operator_text op.Div = codes "/"
+operator_text op.Rem = codes "%"
+
+abbrev pub leaf_text : Leaf → List ℕ
+leaf_text (name n) = n
+leaf_text (constant s) = printed_scalar s
+
+-- the text: one space on each side of an operator and behind `not`, `if`, `then` and `else`, and none inside parentheses
+abbrev pub written : Written → List ℕ
+written (single l) = leaf_text l
+written (group w) = codes "(" ++ (written w ++ codes ")")
+written (untrack w) = codes "untrack(" ++ (written w ++ codes ")")
+written (negated w) = codes "not " ++ written w
+written (chain o a b) = written a ++ (codes " " ++ (operator_text o ++ (codes " " ++ written b)))
+written (pick w a b) = codes "if " ++ (written w ++ (codes " then " ++ (written a ++ (codes " else " ++ written b))))
+
+-- the canonical text
+abbrev pub canonical_text : Draft → List ℕ
+canonical_text x = written (minimal 0 x)
+
+-- the name of a slot
+abbrev pub named : List (List ℕ) → ℕ → List ℕ
+named ns n = unwrap_or (slice_get ns n) []
+
+-- the formula with names in place of its slots
+abbrev pub unslotted : List (List ℕ) → Tree → Draft
+unslotted ns (tree.literal s) = leaf (constant s)
+unslotted ns (tree.slot n) = leaf (name (named ns n))
+unslotted ns (tree.negation x) = negation (unslotted ns x)
+unslotted ns (tree.binary o x y) = binary o (unslotted ns x) (unslotted ns y)
+unslotted ns (tree.choice w x y) = choice (unslotted ns w) (unslotted ns x) (unslotted ns y)
+unslotted ns (tree.untracked x) = untracked (unslotted ns x)
+
+abbrev pub opened : Bool → List ℕ
+opened b = if b then codes "(" else []
+
+abbrev pub shut : Bool → List ℕ
+shut b = if b then codes ")" else []

@@ -1,0 +1,116 @@
+-- Formulas as they are written.
+use Rattle.std.specs.Prelude.{◌≡◌, ℕ, ◌<◌, ◌≤◌, List, [], ◌∷◌, ◌++◌, length, take}
+use Rattle.sig_formula.specs.declared.formula.BinOp.{BinOp}
+use Rattle.sig_formula.specs.declared.formula.BinOp.TheVariants as op
+use Rattle.sig_words.specs.Lexemes.{Lexeme}
+use Rattle.formula_text.specs.Signs.{Leaf, Sign, signs}
+use Rattle.formula_text.specs.Signs as t
+
+-- a formula with its names, and with texts of any length
+pub data Draft : Type 0 where
+  leaf : Leaf → Draft
+  negation : Draft → Draft
+  binary : BinOp → Draft → Draft → Draft
+  choice : Draft → Draft → Draft → Draft
+  untracked : Draft → Draft
+
+-- a formula as it is written, with each pair of parentheses
+pub data Written : Type 0 where
+  single : Leaf → Written
+  group : Written → Written
+  untrack : Written → Written
+  negated : Written → Written
+  chain : BinOp → Written → Written → Written
+  pick : Written → Written → Written → Written
+
+-- its tokens
+abbrev pub spelled : Written → List Sign
+spelled (single l) = t.leaf l ∷ []
+spelled (group w) = t.opening ∷ (spelled w ++ t.closing ∷ [])
+spelled (untrack w) = t.untrack_word ∷ t.opening ∷ (spelled w ++ t.closing ∷ [])
+spelled (negated w) = t.not_word ∷ spelled w
+spelled (chain o a b) = spelled a ++ (t.operator o ∷ spelled b)
+spelled (pick w a b) = t.if_word ∷ (spelled w ++ (t.then_word ∷ (spelled a ++ (t.else_word ∷ spelled b))))
+
+-- the formula that it stands for
+abbrev pub meant : Written → Draft
+meant (single l) = leaf l
+meant (group w) = meant w
+meant (untrack w) = untracked (meant w)
+meant (negated w) = negation (meant w)
+meant (chain o a b) = binary o (meant a) (meant b)
+meant (pick w a b) = choice (meant w) (meant a) (meant b)
+
+-- The rules of the grammar by number, from the loosest on: 0 if, 1 or, 2 and, 3 not, 4 comparisons, 5 `++`, 6 `+` and `-`,
+-- 7 `*`, `/` and `%`, 8 a leaf, parentheses and `untrack`. This is the rule of an operator.
+abbrev pub level : BinOp → ℕ
+level op.Or = 1
+level op.And = 2
+level op.Eq = 4
+level op.Ne = 4
+level op.Lt = 4
+level op.Le = 4
+level op.Gt = 4
+level op.Ge = 4
+level op.Join = 5
+level op.Add = 6
+level op.Sub = 6
+level op.Mul = 7
+level op.Div = 7
+level op.Rem = 7
+
+-- the loosest rule of what stands before the operator: chains group to the left, and comparisons make no chain
+abbrev pub before : BinOp → ℕ
+before op.Or = 1
+before op.And = 2
+before op.Eq = 5
+before op.Ne = 5
+before op.Lt = 5
+before op.Le = 5
+before op.Gt = 5
+before op.Ge = 5
+before op.Join = 5
+before op.Add = 6
+before op.Sub = 6
+before op.Mul = 7
+before op.Div = 7
+before op.Rem = 7
+
+-- the rule by which it is written
+abbrev pub rule : Written → ℕ
+rule (single l) = 8
+rule (group w) = 8
+rule (untrack w) = 8
+rule (negated w) = 3
+rule (chain o a b) = level o
+rule (pick w a b) = 0
+
+-- each part is of a rule that may stand in its place
+abbrev pub Fits : Written → Type 0
+Fits (single l) = Unit {0}
+Fits (group w) = Fits w
+Fits (untrack w) = Fits w
+Fits (negated w) = (3 ≤ rule w) × Fits w
+Fits (chain o a b) = (before o ≤ rule a) × (level o < rule b) × Fits a × Fits b
+Fits (pick w a b) = Fits w × Fits a × Fits b
+
+-- the signs spell the formula
+pub record Spells (ss : List Sign) (x : Draft) : Type 0 where
+  pub form : Written
+  pub fits : Fits form
+  pub tokens : ss ≡ spelled form
+  pub meaning : meant form ≡ x
+
+-- the tokens spell the formula
+abbrev pub IsFormula : List Lexeme → Draft → Type 0
+IsFormula ls x = Spells (signs ls) x
+
+-- the first n tokens spell the formula, and no more of them spell any
+pub record IsLongest (ls : List Lexeme) (n : ℕ) (x : Draft) : Type 0 where
+  pub within : n ≤ length ls
+  pub spells : IsFormula (take n ls) x
+  pub longest : (m : ℕ) (y : Draft) → m ≤ length ls → IsFormula (take m ls) y → m ≤ n
+
+-- no tokens at the front spell a formula
+abbrev pub HasNone : List Lexeme → Type 0
+HasNone ls = (m : ℕ) (y : Draft) → IsFormula (take m ls) y → ⊥

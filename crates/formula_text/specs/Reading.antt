@@ -1,0 +1,85 @@
+-- One pass over the tokens, from left to right.
+use Rattle.std.specs.Prelude.{ℕ, zero, suc, ◌+◌, nat_le, Bool, ◌&&◌, if◌then◌else◌, List, ◌∷◌, length, Option, Some, None, option_map, option_and_then}
+use Rattle.sig_formula.specs.declared.formula.BinOp.{BinOp}
+use Rattle.formula_text.specs.Signs.{Sign}
+use Rattle.formula_text.specs.Signs as t
+use Rattle.formula_text.specs.Grammar.{Draft, leaf, negation, binary, choice, untracked, level, before}
+
+-- what was read: the formula, its rule, and the signs after it
+abbrev pub Part : Type 0
+Part = Draft × ℕ × List Sign
+
+abbrev pub Reader : Type 0
+Reader = ℕ → List Sign → Option Part
+
+abbrev pub closed_at : Draft → List Sign → Option Part
+closed_at x (t.closing ∷ ts) = Some (x, 8, ts)
+closed_at x _ = None
+
+abbrev pub closed : Part → Option Part
+closed p = closed_at p.0 p.2
+
+abbrev pub untrack_closed : Part → Option Part
+untrack_closed p = closed_at (untracked p.0) p.2
+
+-- what follows `untrack`
+abbrev pub untrack_at : Reader → List Sign → Option Part
+untrack_at read (t.opening ∷ ts) = option_and_then untrack_closed (read 0 ts)
+untrack_at read _ = None
+
+abbrev pub negate : Part → Option Part
+negate p = Some (negation p.0, 3, p.2)
+
+abbrev pub chosen : Draft → Draft → Part → Option Part
+chosen x y p = Some (choice x y p.0, 0, p.2)
+
+-- what follows the branch for truth
+abbrev pub else_at : Reader → Draft → Draft → List Sign → Option Part
+else_at read x y (t.else_word ∷ ts) = option_and_then (chosen x y) (read 0 ts)
+else_at read x y _ = None
+
+abbrev pub after_branch : Reader → Draft → Part → Option Part
+after_branch read x p = else_at read x p.0 p.2
+
+-- what follows the test
+abbrev pub then_at : Reader → Draft → List Sign → Option Part
+then_at read x (t.then_word ∷ ts) = option_and_then (after_branch read x) (read 0 ts)
+then_at read x _ = None
+
+abbrev pub after_test : Reader → Part → Option Part
+after_test read p = then_at read p.0 p.2
+
+-- what follows `if`
+abbrev pub choice_at : Reader → List Sign → Option Part
+choice_at read ts = option_and_then (after_test read) (read 0 ts)
+
+-- what begins a formula
+abbrev pub head : Reader → Reader
+head read least (t.leaf l ∷ ts) = Some (leaf l, 8, ts)
+head read least (t.opening ∷ ts) = option_and_then closed (read 0 ts)
+head read least (t.untrack_word ∷ ts) = untrack_at read ts
+head read least (t.not_word ∷ ts) = if nat_le least 3 then option_and_then negate (read 3 ts) else None
+head read least (t.if_word ∷ ts) = if nat_le least 0 then choice_at read ts else None
+head read least _ = None
+
+abbrev pub goes_on : BinOp → ℕ → ℕ → Bool
+goes_on o least so_far = nat_le least (level o) && nat_le (before o) so_far
+
+-- the operator and its right side, or what there was before
+abbrev pub extended : (Part → Part) → BinOp → Part → Option Part → Part
+extended again o p None = p
+extended again o p (Some q) = again (binary o p.0 q.0, level o, q.2)
+
+-- the operators that follow, as long as each has its right side
+abbrev pub tail_at : Reader → (Part → Part) → ℕ → Part → List Sign → Part
+tail_at read again least p (t.operator o ∷ ts) = if goes_on o least p.1 then extended again o p (read (level o + 1) ts) else p
+tail_at read again least p _ = p
+
+unfoldable pub tail : Reader → ℕ → ℕ → Part → Part
+tail read zero least p = p
+tail read (suc n) least p = tail_at read (tail read n least) least p p.2
+
+-- The first number bounds the parts within parts. The count of the signs is always enough.
+unfoldable pub expr : ℕ → Reader
+expr zero least ts = None
+expr (suc n) least ts = option_map (tail (expr n) (length ts) least) (head (expr n) least ts)

@@ -1,0 +1,78 @@
+-- What tokens are in a formula.
+use Rattle.std.specs.Prelude.{ℕ, Bool, true, false, List, [], ◌∷◌, map, codes, if◌then◌else◌}
+use Rattle.std.specs.Str.{bytes_eq}
+use Rattle.sig_base.specs.Words.{is_name}
+use Rattle.sig_base.specs.declared.scalar.Scalar.{Scalar}
+use Rattle.sig_base.specs.declared.scalar.Scalar.TheVariants as scalar
+use Rattle.sig_formula.specs.declared.formula.BinOp.{BinOp}
+use Rattle.sig_formula.specs.declared.formula.BinOp.TheVariants as op
+use Rattle.sig_words.specs.Lexemes.{Lexeme, word, tag, number, literal, symbol}
+
+-- what stands for itself; a text may be of any length
+pub data Leaf : Type 0 where
+  name : List ℕ → Leaf
+  constant : Scalar → Leaf
+
+pub data Sign : Type 0 where
+  leaf : Leaf → Sign
+  operator : BinOp → Sign
+  not_word : Sign
+  if_word : Sign
+  then_word : Sign
+  else_word : Sign
+  untrack_word : Sign
+  opening : Sign
+  closing : Sign
+  -- what stands in no formula
+  other : Sign
+
+-- what a word is
+unfoldable pub word_sign : List ℕ → Sign
+word_sign w =
+    if bytes_eq w (codes "or") then operator op.Or
+    else if bytes_eq w (codes "and") then operator op.And
+    else if bytes_eq w (codes "not") then not_word
+    else if bytes_eq w (codes "if") then if_word
+    else if bytes_eq w (codes "then") then then_word
+    else if bytes_eq w (codes "else") then else_word
+    else if bytes_eq w (codes "untrack") then untrack_word
+    else if bytes_eq w (codes "true") then leaf (constant (scalar.Bool true))
+    else if bytes_eq w (codes "false") then leaf (constant (scalar.Bool false))
+    else if is_name w then leaf (name w)
+    else other
+
+-- what a symbol is
+unfoldable pub symbol_sign : List ℕ → Sign
+symbol_sign s =
+    if bytes_eq s (codes "(") then opening
+    else if bytes_eq s (codes ")") then closing
+    else if bytes_eq s (codes "==") then operator op.Eq
+    else if bytes_eq s (codes "!=") then operator op.Ne
+    else if bytes_eq s (codes "<") then operator op.Lt
+    else if bytes_eq s (codes "<=") then operator op.Le
+    else if bytes_eq s (codes ">") then operator op.Gt
+    else if bytes_eq s (codes ">=") then operator op.Ge
+    else if bytes_eq s (codes "++") then operator op.Join
+    else if bytes_eq s (codes "+") then operator op.Add
+    else if bytes_eq s (codes "-") then operator op.Sub
+    else if bytes_eq s (codes "*") then operator op.Mul
+    else if bytes_eq s (codes "/") then operator op.Div
+    else if bytes_eq s (codes "%") then operator op.Rem
+    else other
+
+-- what is said by a token is in a formula
+abbrev pub sign : Lexeme → Sign
+sign (word w) = word_sign w
+sign (tag n) = other
+sign (number z) = leaf (constant (scalar.Int z))
+sign (literal t) = leaf (constant (scalar.Text t))
+sign (symbol s) = symbol_sign s
+
+abbrev pub signs : List Lexeme → List Sign
+signs ls = map sign ls
+
+-- no operator stands first
+abbrev pub NoOperator : List Sign → Type 0
+NoOperator [] = Unit {0}
+NoOperator (operator o ∷ ss) = ⊥
+NoOperator (s ∷ ss) = Unit {0}

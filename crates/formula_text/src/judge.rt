@@ -1,0 +1,170 @@
+// What a formula is refused for, and its names.
+ghost use Rattle.std.specs.Prelude.{◌≡◌, ◌<◌, ◌≤◌, ℕ, List, true, false, Some, length, position, slice_get, nat_lt, IfOk, IsErrOf, OnOk};
+ghost use Rattle.std.specs.List.{list_any};
+ghost use Rattle.std.specs.Str.{bytes_eq};
+ghost use Rattle.sig_base.specs.Words.{is_name};
+ghost use Rattle.sig_words.specs.declared.token.Token.{Token as AToken};
+ghost use Rattle.sig_words.specs.Tokens.{AreTokens};
+ghost use Rattle.formula_text.specs.Rough.{bytes_at, draft, inside, HasLeaves, IsLiteralAt};
+ghost use Rattle.formula_text.specs.Judging.{has_long_text as long_test, has_untrack as untrack_test, is_above as above_test, with_name, with_names};
+
+use crate::rough::Rough;
+use sig_base::{Name, NameFault, NoMemory, Text, TextFault};
+use sig_words::{Token, literal, token_bytes};
+use std::alloc::Global;
+use std::str;
+
+/// Whether an `untrack` stands in it.
+pub fn has_untrack(rough: &Rough) -> bool
+    ensures { (line : List ℕ) (tokens : List AToken) → result ≡ untrack_test (draft line tokens rough.now) }
+{
+    match rough {
+        Rough::Name(_) | Rough::Text(_) | Rough::Number(_) | Rough::Truth(_) => false,
+        Rough::Not(inner) => has_untrack(inner),
+        Rough::Bin(_, left, right) => has_untrack(left) || has_untrack(right),
+        Rough::If(test, held, other) => {
+            has_untrack(test) || has_untrack(held) || has_untrack(other)
+        }
+        Rough::Untrack(_) => true,
+    }
+}
+
+/// Whether it is higher than that: a leaf has height 1, every other form one more than its highest part.
+#[tactic(auto, unfolding(crate::specs::Judging::is_above))]
+pub fn is_above(rough: &Rough, most: u32) -> bool
+    ensures { (line : List ℕ) (tokens : List AToken) → result ≡ above_test most (draft line tokens rough.now) }
+{
+    match rough {
+        Rough::Name(_) | Rough::Text(_) | Rough::Number(_) | Rough::Truth(_) => most == 0,
+        Rough::Not(inner) | Rough::Untrack(inner) => most == 0 || is_above(inner, most - 1),
+        Rough::Bin(_, left, right) => {
+            most == 0 || is_above(left, most - 1) || is_above(right, most - 1)
+        }
+        Rough::If(test, held, other) => {
+            most == 0
+                || is_above(test, most - 1)
+                || is_above(held, most - 1)
+                || is_above(other, most - 1)
+        }
+    }
+}
+
+/// The text of the literal at a place; `Long` where it has more than 1,024 bytes.
+pub fn text_at(
+    alloc: Global,
+    line: &[u8],
+    tokens: &[Token],
+    place: usize,
+) -> Result<Text, TextFault>
+    requires of_line { AreTokens line.now tokens.now }
+    requires within { place < length tokens.now }
+    requires is_literal { IsLiteralAt tokens.now place }
+    ensures ok { IfOk result (λ t. t ≡ inside (bytes_at line.now tokens.now place)) }
+    ensures short { IfOk result (λ t. length (inside (bytes_at line.now tokens.now place)) ≤ 1024) }
+    ensures long { IsErrOf result TextFault.Long → 1024 < length (inside (bytes_at line.now tokens.now place)) }
+{
+    match literal(alloc, line, &tokens[place]) {
+        Ok(text) => Ok(text),
+        Err(e) => Err(e),
+    }
+}
+
+/// Whether a literal of more than 1,024 bytes stands in it.
+pub fn has_long_text(
+    alloc: Global,
+    line: &[u8],
+    tokens: &[Token],
+    rough: &Rough,
+) -> Result<bool, NoMemory>
+    requires of_line { AreTokens line.now tokens.now }
+    requires leaves { HasLeaves line.now tokens.now rough.now }
+    ensures { IfOk result (λ b. b ≡ long_test (draft line.now tokens.now rough.now)) }
+{
+    match rough {
+        Rough::Text(place) => match text_at(alloc, line, tokens, *place) {
+            Ok(_) => Ok(false),
+            Err(TextFault::Long) => Ok(true),
+            Err(TextFault::NoMemory(e)) => Err(e),
+        },
+        Rough::Name(_) | Rough::Number(_) | Rough::Truth(_) => Ok(false),
+        Rough::Not(inner) | Rough::Untrack(inner) => has_long_text(alloc, line, tokens, inner),
+        Rough::Bin(_, left, right) => Ok(
+            has_long_text(alloc, line, tokens, left)? || has_long_text(alloc, line, tokens, right)?,
+        ),
+        Rough::If(test, held, other) => Ok(
+            has_long_text(alloc, line, tokens, test)?
+                || has_long_text(alloc, line, tokens, held)?
+                || has_long_text(alloc, line, tokens, other)?,
+        ),
+    }
+}
+
+fn is_among(names: &[Name], text: &[u8]) -> bool
+    ensures { result ≡ list_any (λ m. bytes_eq m text.now) names.now }
+{
+    names.iter().any(|n| n.as_str().as_bytes() == text)
+}
+
+// The name at a place.
+fn name_at(alloc: Global, line: &[u8], tokens: &[Token], place: usize) -> Result<Name, NoMemory>
+    requires of_line { AreTokens line.now tokens.now }
+    requires within { place < length tokens.now }
+    requires good { is_name (bytes_at line.now tokens.now place) ≡ true }
+    ensures { IfOk result (λ n. n ≡ bytes_at line.now tokens.now place) }
+{
+    let Ok(text) = str::from_utf8(token_bytes(line, &tokens[place])) else {
+        unreachable!()
+    };
+    match Name::new(alloc, text) {
+        Ok(name) => Ok(name),
+        Err(NameFault::Bad) => unreachable!(),
+        Err(NameFault::NoMemory(e)) => Err(e),
+    }
+}
+
+fn put_name(
+    alloc: Global,
+    names: &mut Vec<Name>,
+    line: &[u8],
+    tokens: &[Token],
+    place: usize,
+) -> Result<(), NoMemory>
+    requires of_line { AreTokens line.now tokens.now }
+    requires within { place < length tokens.now }
+    requires good { is_name (bytes_at line.now tokens.now place) ≡ true }
+    ensures { OnOk result (names.new.items ≡ with_name names.old.items (bytes_at line.now tokens.now place)) }
+{
+    if is_among(names, token_bytes(line, &tokens[place])) {
+        return Ok(());
+    }
+    names.push(name_at(alloc, line, tokens, place)?)?;
+    Ok(())
+}
+
+/// Appends the names that aren't there yet, in the order of the text.
+pub fn put_names(
+    alloc: Global,
+    names: &mut Vec<Name>,
+    line: &[u8],
+    tokens: &[Token],
+    rough: &Rough,
+) -> Result<(), NoMemory>
+    requires of_line { AreTokens line.now tokens.now }
+    requires leaves { HasLeaves line.now tokens.now rough.now }
+    ensures { OnOk result (names.new.items ≡ with_names names.old.items (draft line.now tokens.now rough.now)) }
+{
+    match rough {
+        Rough::Name(place) => put_name(alloc, names, line, tokens, *place),
+        Rough::Text(_) | Rough::Number(_) | Rough::Truth(_) => Ok(()),
+        Rough::Not(inner) | Rough::Untrack(inner) => put_names(alloc, names, line, tokens, inner),
+        Rough::Bin(_, left, right) => {
+            put_names(alloc, names, line, tokens, left)?;
+            put_names(alloc, names, line, tokens, right)
+        }
+        Rough::If(test, held, other) => {
+            put_names(alloc, names, line, tokens, test)?;
+            put_names(alloc, names, line, tokens, held)?;
+            put_names(alloc, names, line, tokens, other)
+        }
+    }
+}

@@ -1,0 +1,196 @@
+// Reads the longest formula from a place on.
+ghost use Rattle.std.specs.Prelude.{◌≡◌, ◌<◌, ◌≤◌, ℕ, length, IfOk, IfSome, MatchOption, option_map};
+ghost use Rattle.formula_text.specs.Wiring.{IsRead, ReadsNone};
+ghost use Rattle.formula_text.specs.Grammar.{level as level_of, before as before_of};
+ghost use Rattle.formula_text.specs.Reading.{expr as reads, head as begins, choice_at};
+ghost use Rattle.formula_text.specs.Rough.{draft, HasLeaves, signs_from};
+
+use crate::rough::Rough;
+use crate::sign::{Sign, sign_at};
+use sig_base::NoMemory;
+use sig_formula::BinOp;
+use sig_words::Token;
+use std::alloc::Global;
+
+// The rules of the grammar from the loosest on, by number.
+pub const CHOICE: u8 = 0;
+
+pub const NEGATION: u8 = 3;
+
+const PRIMARY: u8 = 8;
+
+/// The rule of an operator.
+pub fn level(o: BinOp) -> u8
+    ensures { result ≡ level_of o }
+{
+    match o {
+        BinOp::Or => 1,
+        BinOp::And => 2,
+        BinOp::Eq | BinOp::Ne | BinOp::Lt | BinOp::Le | BinOp::Gt | BinOp::Ge => 4,
+        BinOp::Join => 5,
+        BinOp::Add | BinOp::Sub => 6,
+        BinOp::Mul | BinOp::Div | BinOp::Rem => 7,
+    }
+}
+
+/// The loosest rule of what stands before an operator.
+pub fn before(o: BinOp) -> u8
+    ensures { result ≡ before_of o }
+{
+    match o {
+        BinOp::Or => 1,
+        BinOp::And => 2,
+        BinOp::Eq | BinOp::Ne | BinOp::Lt | BinOp::Le | BinOp::Gt | BinOp::Ge => 5,
+        BinOp::Join => 5,
+        BinOp::Add | BinOp::Sub => 6,
+        BinOp::Mul | BinOp::Div | BinOp::Rem => 7,
+    }
+}
+
+// A formula, its rule, and the place after it.
+type Part = (Rough, u8, usize);
+
+#[cycle(reading)]
+fn choice(alloc: Global, line: &[u8], tokens: &[Token], at: usize) -> Result<Option<Part>, NoMemory>
+    ensures shorter { IfOk result (λ found. IfSome found (λ p. length (signs_from line.now tokens.now p.2) < length (signs_from line.now tokens.now at))) }
+    ensures within { IfOk result (λ found. IfSome found (λ p. p.2 ≤ length tokens.now)) }
+    ensures leaves { IfOk result (λ found. IfSome found (λ p. HasLeaves line.now tokens.now p.0)) }
+    ensures exact { IfOk result (λ found. (n : ℕ) → length (signs_from line.now tokens.now at) < n →
+        option_map (λ p. (draft line.now tokens.now p.0, p.1, signs_from line.now tokens.now p.2)) found
+        ≡ choice_at (reads n) (signs_from line.now tokens.now at)) }
+{
+    let Some((test, _, rest)) = expr(alloc, line, tokens, at, CHOICE)? else {
+        return Ok(None);
+    };
+    let Some(Sign::Then) = sign_at(line, tokens, rest) else {
+        return Ok(None);
+    };
+    let Some((held, _, rest)) = expr(alloc, line, tokens, rest + 1, CHOICE)? else {
+        return Ok(None);
+    };
+    let Some(Sign::Else) = sign_at(line, tokens, rest) else {
+        return Ok(None);
+    };
+    let Some((other, _, rest)) = expr(alloc, line, tokens, rest + 1, CHOICE)? else {
+        return Ok(None);
+    };
+    let test = Box::new(alloc, test)?;
+    let held = Box::new(alloc, held)?;
+    Ok(Some((Rough::If(test, held, Box::new(alloc, other)?), CHOICE, rest)))
+}
+
+#[cycle(reading)]
+fn head(
+    alloc: Global,
+    line: &[u8],
+    tokens: &[Token],
+    at: usize,
+    least: u8,
+) -> Result<Option<Part>, NoMemory>
+    ensures shorter { IfOk result (λ found. IfSome found (λ p. length (signs_from line.now tokens.now p.2) < length (signs_from line.now tokens.now at))) }
+    ensures within { IfOk result (λ found. IfSome found (λ p. p.2 ≤ length tokens.now)) }
+    ensures leaves { IfOk result (λ found. IfSome found (λ p. HasLeaves line.now tokens.now p.0)) }
+    ensures exact { IfOk result (λ found. (n : ℕ) → length (signs_from line.now tokens.now at) ≤ n →
+        option_map (λ p. (draft line.now tokens.now p.0, p.1, signs_from line.now tokens.now p.2)) found
+        ≡ begins (reads n) least (signs_from line.now tokens.now at)) }
+{
+    let Some(sign) = sign_at(line, tokens, at) else {
+        return Ok(None);
+    };
+    match sign {
+        Sign::Name => Ok(Some((Rough::Name(at), PRIMARY, at + 1))),
+        Sign::Text => Ok(Some((Rough::Text(at), PRIMARY, at + 1))),
+        Sign::Number(n) => Ok(Some((Rough::Number(n), PRIMARY, at + 1))),
+        Sign::Truth(b) => Ok(Some((Rough::Truth(b), PRIMARY, at + 1))),
+        Sign::If => {
+            if least > CHOICE {
+                return Ok(None);
+            }
+            choice(alloc, line, tokens, at + 1)
+        }
+        Sign::Not => {
+            if least > NEGATION {
+                return Ok(None);
+            }
+            let Some((inner, _, rest)) = expr(alloc, line, tokens, at + 1, NEGATION)? else {
+                return Ok(None);
+            };
+            Ok(Some((Rough::Not(Box::new(alloc, inner)?), NEGATION, rest)))
+        }
+        Sign::Untrack => {
+            let Some(Sign::Open) = sign_at(line, tokens, at + 1) else {
+                return Ok(None);
+            };
+            let Some((inner, _, rest)) = expr(alloc, line, tokens, at + 2, CHOICE)? else {
+                return Ok(None);
+            };
+            let Some(Sign::Close) = sign_at(line, tokens, rest) else {
+                return Ok(None);
+            };
+            Ok(Some((Rough::Untrack(Box::new(alloc, inner)?), PRIMARY, rest + 1)))
+        }
+        Sign::Open => {
+            let Some((inner, _, rest)) = expr(alloc, line, tokens, at + 1, CHOICE)? else {
+                return Ok(None);
+            };
+            let Some(Sign::Close) = sign_at(line, tokens, rest) else {
+                return Ok(None);
+            };
+            Ok(Some((inner, PRIMARY, rest + 1)))
+        }
+        _ => Ok(None),
+    }
+}
+
+#[cycle(reading)]
+fn expr(
+    alloc: Global,
+    line: &[u8],
+    tokens: &[Token],
+    at: usize,
+    least: u8,
+) -> Result<Option<Part>, NoMemory>
+    ensures shorter { IfOk result (λ found. IfSome found (λ p. length (signs_from line.now tokens.now p.2) < length (signs_from line.now tokens.now at))) }
+    ensures within { IfOk result (λ found. IfSome found (λ p. p.2 ≤ length tokens.now)) }
+    ensures leaves { IfOk result (λ found. IfSome found (λ p. HasLeaves line.now tokens.now p.0)) }
+    ensures exact { IfOk result (λ found. (n : ℕ) → length (signs_from line.now tokens.now at) < n →
+        option_map (λ p. (draft line.now tokens.now p.0, p.1, signs_from line.now tokens.now p.2)) found
+        ≡ reads n least (signs_from line.now tokens.now at)) }
+{
+    let Some((mut left, mut own, mut rest)) = head(alloc, line, tokens, at, least)? else {
+        return Ok(None);
+    };
+    while let Some(sign) = sign_at(line, tokens, rest) {
+        let Sign::Operator(o) = sign else {
+            return Ok(Some((left, own, rest)));
+        };
+        if level(o) < least || own < before(o) {
+            return Ok(Some((left, own, rest)));
+        }
+        let Some((right, _, more)) = expr(alloc, line, tokens, rest + 1, level(o) + 1)? else {
+            return Ok(Some((left, own, rest)));
+        };
+        left = Rough::Bin(o, Box::new(alloc, left)?, Box::new(alloc, right)?);
+        own = level(o);
+        rest = more;
+    }
+    Ok(Some((left, own, rest)))
+}
+
+/// The longest formula from a place on, with any height, texts and names, and the place of the token after it; none where no
+/// formula begins there.
+pub fn read_rough(
+    alloc: Global,
+    line: &[u8],
+    tokens: &[Token],
+    from: usize,
+) -> Result<Option<(Rough, usize)>, NoMemory>
+    ensures { IfOk result (λ found. MatchOption found
+        (ReadsNone line.now tokens.now from)
+        (λ p. IsRead line.now tokens.now from p.1 p.0)) }
+{
+    let Some((rough, _, to)) = expr(alloc, line, tokens, from, CHOICE)? else {
+        return Ok(None);
+    };
+    Ok(Some((rough, to)))
+}

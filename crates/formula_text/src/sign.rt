@@ -1,0 +1,169 @@
+// What tokens are in a formula.
+ghost use Rattle.std.specs.Prelude.{◌≡◌, ◌∷◌, ◌+◌, ◌<◌, [], length, true, IfSome, MatchOption};
+ghost use Rattle.std.specs.List.{list_all};
+ghost use Rattle.sig_base.specs.Words.{in_word as word_byte, is_name as name_test, is_reserved as reserved_test};
+ghost use Rattle.sig_words.specs.Lexemes.{lexeme as said, text_at};
+ghost use Rattle.formula_text.specs.Signs.{sign as sign_said, word_sign as word_test, symbol_sign as symbol_test};
+ghost use Rattle.formula_text.specs.Rough.{bytes_at, sign_of, IsSeen, IsSeenAt, signs_from};
+
+use sig_base::{MOST_NAME, begins_word, in_word};
+use sig_formula::BinOp;
+use sig_words::{Token, TokenKind, token_bytes};
+
+#[derive(Clone, Copy)]
+pub enum Sign {
+    Name,
+    Text,
+    Number(i64),
+    Truth(bool),
+    Operator(BinOp),
+    Not,
+    If,
+    Then,
+    Else,
+    Untrack,
+    Open,
+    Close,
+    /// What stands in no formula.
+    Other,
+}
+
+fn are_in_word(bytes: &[u8]) -> bool
+    ensures { result ≡ list_all word_byte bytes.now }
+{
+    bytes.iter().all(|b| in_word(*b))
+}
+
+#[tactic(auto, unfolding(sig_base::specs::Words::is_reserved))]
+fn is_reserved(text: &[u8]) -> bool
+    ensures { result ≡ reserved_test text.now }
+{
+    text == b"and".as_slice()
+        || text == b"or".as_slice()
+        || text == b"not".as_slice()
+        || text == b"if".as_slice()
+        || text == b"then".as_slice()
+        || text == b"else".as_slice()
+        || text == b"true".as_slice()
+        || text == b"false".as_slice()
+        || text == b"count".as_slice()
+        || text == b"sum".as_slice()
+        || text == b"keep".as_slice()
+        || text == b"it".as_slice()
+        || text == b"untrack".as_slice()
+        || text == b"host".as_slice()
+        || text == b"in".as_slice()
+        || text == b"equals".as_slice()
+}
+
+// Whether the bytes are a name.
+#[tactic(auto, unfolding(sig_base::specs::Words::is_name))]
+fn is_name(text: &[u8]) -> bool
+    ensures { result ≡ name_test text.now }
+{
+    !text.is_empty()
+        && begins_word(text[0])
+        && are_in_word(text)
+        && text.len() <= MOST_NAME
+        && !is_reserved(text)
+}
+
+#[tactic(auto, unfolding(crate::specs::Signs::word_sign))]
+fn word_sign(text: &[u8]) -> Sign
+    ensures sign { sign_of text.now result ≡ word_test text.now }
+    ensures name { result ≡ Sign.Name → name_test text.now ≡ true }
+    ensures no_text { result ≡ Sign.Text → ⊥ }
+{
+    if text == b"or".as_slice() {
+        Sign::Operator(BinOp::Or)
+    } else if text == b"and".as_slice() {
+        Sign::Operator(BinOp::And)
+    } else if text == b"not".as_slice() {
+        Sign::Not
+    } else if text == b"if".as_slice() {
+        Sign::If
+    } else if text == b"then".as_slice() {
+        Sign::Then
+    } else if text == b"else".as_slice() {
+        Sign::Else
+    } else if text == b"untrack".as_slice() {
+        Sign::Untrack
+    } else if text == b"true".as_slice() {
+        Sign::Truth(true)
+    } else if text == b"false".as_slice() {
+        Sign::Truth(false)
+    } else if is_name(text) {
+        Sign::Name
+    } else {
+        Sign::Other
+    }
+}
+
+#[tactic(auto, unfolding(crate::specs::Signs::symbol_sign))]
+fn symbol_sign(text: &[u8]) -> Sign
+    ensures sign { sign_of text.now result ≡ symbol_test text.now }
+    ensures no_name { result ≡ Sign.Name → ⊥ }
+    ensures no_text { result ≡ Sign.Text → ⊥ }
+{
+    if text == b"(".as_slice() {
+        Sign::Open
+    } else if text == b")".as_slice() {
+        Sign::Close
+    } else if text == b"==".as_slice() {
+        Sign::Operator(BinOp::Eq)
+    } else if text == b"!=".as_slice() {
+        Sign::Operator(BinOp::Ne)
+    } else if text == b"<".as_slice() {
+        Sign::Operator(BinOp::Lt)
+    } else if text == b"<=".as_slice() {
+        Sign::Operator(BinOp::Le)
+    } else if text == b">".as_slice() {
+        Sign::Operator(BinOp::Gt)
+    } else if text == b">=".as_slice() {
+        Sign::Operator(BinOp::Ge)
+    } else if text == b"++".as_slice() {
+        Sign::Operator(BinOp::Join)
+    } else if text == b"+".as_slice() {
+        Sign::Operator(BinOp::Add)
+    } else if text == b"-".as_slice() {
+        Sign::Operator(BinOp::Sub)
+    } else if text == b"*".as_slice() {
+        Sign::Operator(BinOp::Mul)
+    } else if text == b"/".as_slice() {
+        Sign::Operator(BinOp::Div)
+    } else if text == b"%".as_slice() {
+        Sign::Operator(BinOp::Rem)
+    } else {
+        Sign::Other
+    }
+}
+
+// What a token of the line is.
+fn token_sign(line: &[u8], token: &Token) -> Sign
+    ensures sign { sign_of (text_at line.now token.now) result ≡ sign_said (said line.now token.now) }
+    ensures seen { IsSeen line.now token.now result }
+{
+    match token.kind {
+        TokenKind::Word => word_sign(token_bytes(line, token)),
+        TokenKind::Tag => Sign::Other,
+        TokenKind::Number(n) => Sign::Number(n),
+        TokenKind::Literal => Sign::Text,
+        TokenKind::Symbol => symbol_sign(token_bytes(line, token)),
+    }
+}
+
+/// What the token at a place is, if there is one.
+#[tactic(auto, using(crate::proofs::Places::from_none))]
+pub fn sign_at(line: &[u8], tokens: &[Token], at: usize) -> Option<Sign>
+    ensures found { MatchOption result
+        (signs_from line.now tokens.now at ≡ [])
+        (λ s. signs_from line.now tokens.now at ≡ sign_of (bytes_at line.now tokens.now at) s ∷ signs_from line.now tokens.now (at + 1)) }
+    ensures within { IfSome result (λ s. at < length tokens.now) }
+    ensures seen { IfSome result (λ s. IsSeenAt line.now tokens.now at s) }
+{
+    if at < tokens.len() {
+        Some(token_sign(line, &tokens[at]))
+    } else {
+        None
+    }
+}

@@ -1,0 +1,200 @@
+// Formulas with slots and names.
+ghost use Rattle.std.specs.Prelude.{◌≡◌, ◌<◌, ◌≤◌, ℕ, List, true, false, None, Some, length, map, position, unwrap_or, IfOk, IfErr, IfSome, IsErrOf};
+ghost use Rattle.std.specs.Str.{bytes_eq};
+ghost use Rattle.sig_base.specs.declared.text.TextFault.TheVariants as text_fault;
+ghost use Rattle.sig_formula.specs.Trees.{tree};
+ghost use Rattle.sig_words.specs.Tokens.{AreTokens};
+ghost use Rattle.formula_text.specs.declared.wired.FormulaFault.TheVariants as fault;
+ghost use Rattle.formula_text.specs.Judging.{has_long_text as long_test, slot_of, slotted};
+ghost use Rattle.formula_text.specs.Rough.{bytes_at, draft, HasLeaves};
+ghost use Rattle.formula_text.specs.Wiring.{of_text_fault, refusal, wired as wired_so, wiring, IsCause, IsLongCause, IsWired, Refuses};
+
+use crate::judge::{has_long_text, has_untrack, is_above, put_names, text_at};
+use crate::reader::read_rough;
+use crate::rough::Rough;
+use sig_base::{Name, NoMemory, Scalar, TextFault};
+use sig_formula::Formula;
+use sig_words::{Token, token_bytes};
+use std::alloc::{AllocFailed, Global};
+use thiserror::Error;
+
+/// The most height of a formula.
+pub const MOST_HEIGHT: u32 = 64;
+
+/// The most distinct names of a formula.
+pub const MOST_SOURCES: usize = 64;
+
+/// A formula over slots, and the names that the slots stand for, in the order of their first places.
+#[derive(Debug, Drop)]
+pub struct Wired {
+    pub formula: Formula,
+    pub names: Vec<Name>,
+}
+
+/// What may stand in a formula at its place: the fields of a row, and reads that aren't tracked.
+#[derive(Clone, Copy, Debug, PartialEq, Eq)]
+pub struct Allow {
+    pub row: bool,
+    pub untrack: bool,
+}
+
+/// Why there is no formula.
+#[derive(Clone, Copy, Debug, PartialEq, Eq, Error)]
+pub enum FormulaFault {
+    #[error("no formula begins here")]
+    Syntax,
+    #[error("untrack isn't allowed here")]
+    UntrackHere,
+    #[error("a formula is higher than 64")]
+    Nest,
+    #[error("a text has more than 1,024 bytes")]
+    TextLong,
+    #[error("a formula has more than 64 names")]
+    Sources,
+    #[error(transparent)]
+    NoMemory(NoMemory),
+}
+
+impl From<NoMemory> for FormulaFault {
+    ghost from_gives = { λ e f. f ≡ fault.NoMemory e };
+
+    fn from(e: NoMemory) -> Self {
+        FormulaFault::NoMemory(e)
+    }
+}
+
+impl From<TextFault> for FormulaFault {
+    ghost from_gives = { λ e f. f ≡ of_text_fault e };
+
+    fn from(e: TextFault) -> Self {
+        match e {
+            TextFault::Long => FormulaFault::TextLong,
+            TextFault::NoMemory(e) => FormulaFault::NoMemory(e),
+        }
+    }
+}
+
+impl<T: Drop> From<AllocFailed<T>> for FormulaFault {
+    ghost from_gives = { λ _ f. f ≡ fault.NoMemory (record {}) };
+
+    fn from(_: AllocFailed<T>) -> Self {
+        FormulaFault::NoMemory(NoMemory)
+    }
+}
+
+// The place of a name.
+fn place_of(names: &[Name], text: &[u8]) -> Option<usize>
+    ensures place { result ≡ position (λ m. bytes_eq m text.now) names.now }
+    ensures within { IfSome result (λ i. i < length names.now) }
+{
+    names.iter().position(|n| n.as_str().as_bytes() == text)
+}
+
+// The slot of a name.
+fn slot_of(names: &[Name], text: &[u8]) -> u32
+    requires { length names.now ≤ 64 }
+    ensures { result ≡ slot_of names.now text.now }
+{
+    match place_of(names, text) {
+        Some(place) => place as u32,
+        None => 0,
+    }
+}
+
+// The formula whose slots are the places of its names.
+fn slotted(
+    alloc: Global,
+    line: &[u8],
+    tokens: &[Token],
+    rough: &Rough,
+    names: &[Name],
+) -> Result<Formula, FormulaFault>
+    requires of_line { AreTokens line.now tokens.now }
+    requires leaves { HasLeaves line.now tokens.now rough.now }
+    requires few { length names.now ≤ 64 }
+    ensures ok { IfOk result (λ f. tree f ≡ slotted names.now (draft line.now tokens.now rough.now)) }
+    ensures failed { IfErr result (λ e. IsLongCause (long_test (draft line.now tokens.now rough.now)) e) }
+{
+    match rough {
+        Rough::Name(place) => Ok(Formula::Slot(slot_of(names, token_bytes(line, &tokens[*place])))),
+        Rough::Text(place) => Ok(Formula::Lit(Scalar::Text(text_at(alloc, line, tokens, *place)?))),
+        Rough::Number(n) => Ok(Formula::Lit(Scalar::Int(*n))),
+        Rough::Truth(b) => Ok(Formula::Lit(Scalar::Bool(*b))),
+        Rough::Not(inner) => {
+            let inner = slotted(alloc, line, tokens, inner, names)?;
+            Ok(Formula::Not(Box::new(alloc, inner)?))
+        }
+        Rough::Bin(o, left, right) => {
+            let left = slotted(alloc, line, tokens, left, names)?;
+            let right = slotted(alloc, line, tokens, right, names)?;
+            let left = Box::new(alloc, left)?;
+            Ok(Formula::Bin(*o, left, Box::new(alloc, right)?))
+        }
+        Rough::If(test, held, other) => {
+            let test = slotted(alloc, line, tokens, test, names)?;
+            let held = slotted(alloc, line, tokens, held, names)?;
+            let other = slotted(alloc, line, tokens, other, names)?;
+            let test = Box::new(alloc, test)?;
+            let held = Box::new(alloc, held)?;
+            Ok(Formula::If(test, held, Box::new(alloc, other)?))
+        }
+        Rough::Untrack(inner) => {
+            let inner = slotted(alloc, line, tokens, inner, names)?;
+            Ok(Formula::Untrack(Box::new(alloc, inner)?))
+        }
+    }
+}
+
+/// A formula that was read, with slots for its names. A formula is refused, in this order, for an `untrack` where none is
+/// allowed, for a height of more than 64, for a text of more than 1,024 bytes and for more than 64 distinct names.
+pub fn wire(
+    alloc: Global,
+    line: &[u8],
+    tokens: &[Token],
+    rough: &Rough,
+    allow: Allow,
+) -> Result<Wired, FormulaFault>
+    requires of_line { AreTokens line.now tokens.now }
+    requires leaves { HasLeaves line.now tokens.now rough.now }
+    ensures ok { IfOk result (λ w. wiring w ≡ wired_so (draft line.now tokens.now rough.now)) }
+    ensures accepted { IfOk result (λ w. refusal allow (draft line.now tokens.now rough.now) ≡ None) }
+    ensures refused { IfErr result (λ e. IsCause allow (draft line.now tokens.now rough.now) e) }
+{
+    if has_untrack(rough) && !allow.untrack {
+        return Err(FormulaFault::UntrackHere);
+    }
+    if is_above(rough, MOST_HEIGHT) {
+        return Err(FormulaFault::Nest);
+    }
+    if has_long_text(alloc, line, tokens, rough)? {
+        return Err(FormulaFault::TextLong);
+    }
+    let mut names = Vec::new(alloc);
+    put_names(alloc, &mut names, line, tokens, rough)?;
+    if names.len() > MOST_SOURCES {
+        return Err(FormulaFault::Sources);
+    }
+    let formula = slotted(alloc, line, tokens, rough, &names)?;
+    Ok(Wired { formula, names })
+}
+
+/// The longest formula from a place on, and the place of the token after it. `Syntax` where no formula begins there; the
+/// other faults are those of `wire`.
+pub fn read_formula(
+    alloc: Global,
+    line: &[u8],
+    tokens: &[Token],
+    from: usize,
+    allow: Allow,
+) -> Result<(Wired, usize), FormulaFault>
+    requires of_line { AreTokens line.now tokens.now }
+    requires inside { from ≤ length tokens.now }
+    ensures ok { IfOk result (λ p. IsWired line.now tokens.now from p.1 allow (wiring p.0)) }
+    ensures refused { IfErr result (λ e. Refuses line.now tokens.now from allow e) }
+{
+    let Some((rough, to)) = read_rough(alloc, line, tokens, from)? else {
+        return Err(FormulaFault::Syntax);
+    };
+    let wired = wire(alloc, line, tokens, &rough, allow)?;
+    Ok((wired, to))
+}
