@@ -1,0 +1,11 @@
+pub mod Recipes
+pub mod Standing
+pub mod Values
+pub mod Orders
+pub mod Memos
+pub mod Settling
+pub mod Marks
+pub mod Sound
+pub mod Changes
+pub mod Asks
+pub mod Examples

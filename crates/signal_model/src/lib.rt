@@ -1,0 +1,2 @@
+//! What the signal graph is: values from scratch, what is kept of them, and when a computed runs.
+#![tactic(auto)]
