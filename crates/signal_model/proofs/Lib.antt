@@ -1,0 +1,5 @@
+pub mod Asking
+pub mod Depth
+pub mod Paths
+pub mod Visits
+pub mod Formulas

@@ -1,5 +1,5 @@
 -- How the signals and what is kept of them change between evaluations.
-use Rattle.std.specs.Prelude.{ℕ, ◌+◌, true, List, [], ◌∷◌, ◌++◌, Option, Some, None}
+use Rattle.std.specs.Prelude.{ℕ, ◌+◌, true, [], ◌∷◌, ◌++◌, Option, Some, None}
 use Rattle.sig_base.specs.declared.value.Value.{Value}
 use Rattle.signal_model.specs.Recipes.{Recipe}
 use Rattle.signal_model.specs.Standing.{Signals, Cell, Computed, changed, without}

@@ -9,3 +9,4 @@ pub mod Sound
 pub mod Changes
 pub mod Asks
 pub mod Examples
+pub mod Laws

@@ -1,2 +1,4 @@
 //! What the signal graph is: values from scratch, what is kept of them, and when a computed runs.
 #![tactic(auto)]
+
+pub mod laws;
