@@ -12,6 +12,7 @@ use Rattle.sig_base.specs.declared.value.Outcome.{Outcome}
 use Rattle.sig_base.specs.declared.value.Outcome.TheVariants.{Good, Bad}
 use Rattle.signal_model.specs.Recipes.{is_known, judged, given_answer, answer_of}
 use Rattle.signal_model.specs.Values.{learnt, read_first, after_read, after_step, asked_within, asked_from, unknown_slots}
+use Rattle.signal_model.specs.Plain.{IsNew}
 use Rattle.signal_model.specs.Laws.{AskedBySteps}
 
 -- one more slot is known, and no other
@@ -27,11 +28,7 @@ known_more n s v (k ∷ ks) = go (k.slot == n) (known_more n s v ks)
     go true e = refl
     go false e = e
 
--- what a recipe reads is a slot of its own that isn't known
-pub record IsNew (count s : ℕ) (known : List Known) : Type 0 where
-  pub inside : s < count
-  pub unknown : is_known s known ≡ false
-
+-- what a recipe reads is a slot of its own that is not known
 pub read_new : (count : ℕ) (known : List Known) (st : Step) (s : ℕ) → judged count known st ≡ Read s → IsNew count s known
 read_new count known (Done v) s h = cc
 read_new count known (Fail e) s h = cc

@@ -3,3 +3,4 @@ pub mod Depth
 pub mod Paths
 pub mod Visits
 pub mod Formulas
+pub mod Turns
