@@ -112,7 +112,7 @@ impl Model for Signals {
     ghost view = { λ w. record { cells = w.cells.items; computeds = w.computeds.items } };
 }
 
-fn is_in(n: NodeId, names: &[NodeId]) -> bool
+pub(crate) fn is_in(n: NodeId, names: &[NodeId]) -> bool
     ensures { result ≡ is_in n names.now }
 {
     for name in names {
