@@ -1,0 +1,447 @@
+-- A change keeps memos sound.
+use Rattle.std.proofs.Common.{◌≡◌, ℕ, ◌+◌, ◌<◌, ◌≤◌, ◌==◌, ◌||◌, not, Bool, true, false, cond, List, [], ◌∷◌, Option, Some, None, refl, sym, ap, ◌∙◌, subst, arith, ◌⊎◌, inl, inr}
+use Rattle.std.proofs.lemmas.Bool.{eqb-true}
+use Rattle.std.proofs.lemmas.Bool.Decides.{nat_tests}
+use Rattle.sig_base.specs.declared.value.Value.{Value}
+use Rattle.sig_base.specs.declared.value.Outcome.{Outcome}
+use Rattle.sig_base.specs.declared.value.Outcome.TheVariants.{Good, Bad}
+use Rattle.sig_base.specs.declared.value.Known.{Known}
+use Rattle.signal_model.specs.Recipes.{Hosts, Recipe}
+use Rattle.signal_model.specs.Standing.{Signals, Computed, Cell, Stands, IsGone, IsCell, IsComputed, is_in, standing, changed, cell_at, computed_at, or_computed}
+use Rattle.signal_model.specs.Values.{learnt, value_of, reads_of}
+use Rattle.signal_model.specs.Memos.{Source, Memo, Entry, Memos, entry_at, number_in, memo_in, number_of, memo_of, source_names, same_number, is_cycle, differs, some_moved, must_run_by, must_run}
+use Rattle.signal_model.specs.Sound.{outcome_here, standing_outcome, AfterSource, Unless, Follows, IsPast, ArePast, names_of, Keeps, IsKeptPath, IsSound}
+use Rattle.signal_model.specs.Changes.{no_signals, no_memos, with_value, raised, after_change, with_recipe, memo_rewired, entry_rewired, after_rewiring, without_signal, after_disposal}
+use Rattle.signal_model.proofs.Paths.{tested}
+use Rattle.signal_laws.specs.Keeping.{HaveEntries, AreKept, EmptyLaw, SetLaw, RewireLaw, DisposeLaw}
+use Rattle.signal_laws.proofs.Entries.{entry_other, entry_same, cell_other, computed_other, cell_there, entry_out, entry_left, cell_left, computed_left, cell_out, computed_out}
+
+pub or_fst : (a b : Bool) → (a || b) ≡ false → a ≡ false
+or_fst true b h = cc
+or_fst false b h = refl
+
+pub or_snd : (a b : Bool) → (a || b) ≡ false → b ≡ false
+or_snd true b h = cc
+or_snd false b h = h
+
+not_false : (a : Bool) → not a ≡ false → a ≡ true
+not_false true h = refl
+not_false false h = cc
+
+pub some_is : (x y : Memo) → Some x ≡ Some y → x ≡ y
+some_is x y e = cc
+
+-- a computed that needn't run
+pub record Calm (k : Memos) (n : ℕ) : Type 0 where
+  pub memo : Memo
+  pub at : memo_of k n ≡ Some memo
+  pub case : ((is_cycle memo.outcome ≡ true) × (memo.generation ≡ k.generation)) ⊎ ((is_cycle memo.outcome ≡ false) × (memo.rewired ≡ false) × (some_moved k [] memo.sources ≡ false))
+
+pub calm_of : (k : Memos) (n : ℕ) → must_run k n [] ≡ false → Calm k n
+calm_of k n h = go (memo_of k n) refl h
+  where
+    go : (x : Option Memo) → memo_of k n ≡ x → must_run_by k x [] ≡ false → Calm k n
+    go None e q = cc
+    go (Some e) at q = by (is_cycle e.outcome) refl q
+      where
+        by : (b : Bool) → is_cycle e.outcome ≡ b → cond b (not (e.generation == k.generation)) (e.rewired || some_moved k [] e.sources) ≡ false → Calm k n
+        by true z y = record { memo = e; at = at; case = inl (z, eqb-true e.generation k.generation (not_false (e.generation == k.generation) y)) }
+        by false z y = record { memo = e; at = at; case = inr (z, or_fst e.rewired (some_moved k [] e.sources) y, or_snd e.rewired (some_moved k [] e.sources) y) }
+
+-- a source differs now, or it stands as before
+abbrev pub Stays : Signals → Memos → Signals → Memos → Source → Type 0
+Stays w k w' k' s = (differs k' s ≡ true) ⊎ ((differs k' s ≡ differs k s) × (standing_outcome w' k' s.name ≡ standing_outcome w k s.name))
+
+-- each of the sources does
+abbrev pub AllStay : Signals → Memos → Signals → Memos → List Source → Type 0
+AllStay w k w' k' [] = Unit {0}
+AllStay w k w' k' (s ∷ ss) = Stays w k w' k' s × AllStay w k w' k' ss
+
+-- the memo before, but for the mark of a rewiring
+pub record Before (k : Memos) (n : ℕ) (m' : Memo) : Type 0 where
+  pub memo : Memo
+  pub at : memo_of k n ≡ Some memo
+  pub outcome : memo.outcome ≡ m'.outcome
+  pub sources : memo.sources ≡ m'.sources
+  pub generation : memo.generation ≡ m'.generation
+  pub rewired : m'.rewired ≡ false → memo.rewired ≡ false
+
+-- what a change of the signals leaves of the memos
+pub record IsChange (hosts : Hosts) (w : Signals) (k : Memos) (w' : Signals) (k' : Memos) : Type 0 where
+  pub cycles : (n : ℕ) (c : Computed) (m : Memo) → standing w' n ≡ IsComputed c → memo_of k' n ≡ Some m → is_cycle m.outcome ≡ true → m.generation ≡ k'.generation →
+      (value_of hosts w' n [] ≡ m.outcome) × (source_names m.sources ≡ names_of (reads_of hosts w' c))
+  pub later : k.generation ≤ k'.generation
+  pub before : (m : ℕ) (e' : Memo) → memo_of k' m ≡ Some e' → Before k m e'
+  pub kind : (m : ℕ) (c : Computed) (e' : Memo) → standing w' m ≡ IsComputed c → memo_of k' m ≡ Some e' → (d : Computed) × (standing w m ≡ IsComputed d)
+  pub same : (m : ℕ) (c : Computed) (e' : Memo) → standing w' m ≡ IsComputed c → memo_of k' m ≡ Some e' → e'.rewired ≡ false → standing w m ≡ IsComputed c
+  pub stay : (m : ℕ) (e : Memo) → memo_of k m ≡ Some e → AllStay w k w' k' e.sources
+  pub past : (m : ℕ) (e : Memo) → memo_of k m ≡ Some e → ArePast k' e.sources
+
+after_source : (hosts : Hosts) (w : Signals) (k : Memos) (w' : Signals) (k' : Memos) (r : Recipe) (o x : Outcome) (slot : ℕ) (known : List Known) (ss : List Source) →
+    ((v : Value) → Follows hosts w k r o (learnt known slot v) ss → Follows hosts w' k' r o (learnt known slot v) ss) →
+    AfterSource x ss o (λ v. Follows hosts w k r o (learnt known slot v) ss) → AfterSource x ss o (λ v. Follows hosts w' k' r o (learnt known slot v) ss)
+after_source hosts w k w' k' r o (Good v) slot known ss f h = f v h
+after_source hosts w k w' k' r o (Bad x) slot known ss f h = h
+
+-- what sources say lasts where each stays
+pub follows_on : (hosts : Hosts) (w : Signals) (k : Memos) (w' : Signals) (k' : Memos) (r : Recipe) (o : Outcome) (known : List Known) (ss : List Source) → AllStay w k w' k' ss → Follows hosts w k r o known ss → Follows hosts w' k' r o known ss
+follows_on hosts w k w' k' r o known [] st f = f
+follows_on hosts w k w' k' r o known (s ∷ ss) st f = (
+  f.0,
+  f.1,
+  f.2,
+  elim st.0 [
+    | inl now ↦ subst (λ b. Unless b (AfterSource (standing_outcome w' k' s.name) ss o (λ v. Follows hosts w' k' r o (learnt known f.0 v) ss))) (sym now) tt
+    | inr same ↦
+        subst (λ b. Unless b (AfterSource (standing_outcome w' k' s.name) ss o (λ v. Follows hosts w' k' r o (learnt known f.0 v) ss))) (sym same.0)
+        (go (differs k s) f.3 (λ h. subst (λ x. AfterSource x ss o (λ v. Follows hosts w' k' r o (learnt known f.0 v) ss)) (sym same.1)
+        (after_source hosts w k w' k' r o (standing_outcome w k s.name) f.0 known ss (λ v g. follows_on hosts w k w' k' r o (learnt known f.0 v) ss st.1 g) h)))
+  ],
+)
+  where
+    go : {P Q : Type 0} (b : Bool) → Unless b P → (P → Q) → Unless b Q
+    go true h g = tt
+    go false h g = g h
+
+-- what doesn't differ after the change didn't before
+pub moved_back : (w : Signals) (k : Memos) (w' : Signals) (k' : Memos) (ss : List Source) → AllStay w k w' k' ss → some_moved k' [] ss ≡ false → some_moved k [] ss ≡ false
+moved_back w k w' k' [] st h = refl
+moved_back w k w' k' (s ∷ ss) st h =
+    let now : differs k' s ≡ false = or_fst (differs k' s) false (or_fst (differs k' s || false) (some_moved k' [] ss) h) in
+    let was : differs k s ≡ false = elim st.0 [ inl d ↦ cc (sym d ∙ now) | inr e ↦ sym e.0 ∙ now ] in
+    let rest : some_moved k [] ss ≡ false = moved_back w k w' k' ss st.1 (or_snd (differs k' s || false) (some_moved k' [] ss) h) in
+    (λ i. (was i || false) || rest i)
+
+module _ (hosts : Hosts) (w : Signals) (k : Memos) (w' : Signals) (k' : Memos) where
+  calm_back : (n : ℕ) (e' : Memo) → IsChange hosts w k w' k' → memo_of k' n ≡ Some e' → is_cycle e'.outcome ≡ false → must_run k' n [] ≡ false → must_run k n [] ≡ false
+  calm_back n e' ch at fine h = go (calm_of k' n h)
+    where
+      b : Before k n e'
+      b = ch.before n e' at
+
+      go : Calm k' n → must_run k n [] ≡ false
+      go q =
+          let is : q.memo ≡ e' = some_is q.memo e' (sym q.at ∙ at) in
+          elim q.case [
+            | inl cy ↦ cc (sym (ap (λ (x : Memo). is_cycle x.outcome) is ∙ fine) ∙ cy.0)
+            | inr ok ↦
+                let rw0 : b.memo.rewired ≡ false = b.rewired (sym (ap (λ (x : Memo). x.rewired) is) ∙ ok.1) in
+                let mv : some_moved k [] b.memo.sources ≡ false =
+                moved_back w k w' k' b.memo.sources (ch.stay n b.memo b.at) (ap (some_moved k' []) (b.sources ∙ sym (ap (λ (x : Memo). x.sources) is)) ∙ ok.2) in
+                let fn : is_cycle b.memo.outcome ≡ false = ap is_cycle b.outcome ∙ fine in
+                ap (λ x. must_run_by k x []) b.at ∙ (λ i. cond (fn i) (not (b.memo.generation == k.generation)) (rw0 i || mv i))
+          ]
+
+  keeps_back : (p n : ℕ) → IsChange hosts w k w' k' → Keeps w' k' p n → Keeps w k p n
+  keeps_back p n ch x =
+      let b : Before k p x.memo = ch.before p x.memo x.at in
+      let d : (d : Computed) × (standing w p ≡ IsComputed d) = ch.kind p x.computed x.memo x.stands x.at in
+      record {
+        computed = d.0;
+        stands = d.1;
+        memo = b.memo;
+        at = b.at;
+        fine = ap is_cycle b.outcome ∙ x.fine;
+        calm = calm_back p x.memo ch x.at x.fine x.calm;
+        kept = ap (λ (rs : List Source). is_in n (source_names rs)) b.sources ∙ x.kept;
+      }
+
+  path_back : (n : ℕ) (path : List ℕ) → IsChange hosts w k w' k' → IsKeptPath w' k' n path → IsKeptPath w k n path
+  path_back n [] ch c = tt
+  path_back n (p ∷ ps) ch c = (keeps_back p n ch c.0, path_back p ps ch c.1)
+
+  -- such a change keeps memos sound
+  pub change_keeps : IsChange hosts w k w' k' → IsSound hosts w k → IsSound hosts w' k'
+  change_keeps ch s = record {
+    cycles = ch.cycles;
+    follows = λ n c e st at fine rw0.
+        let b : Before k n e = ch.before n e at in
+        let st' : standing w n ≡ IsComputed c = ch.same n c e st at rw0 in
+        subst (λ (rs : List Source). Follows hosts w' k' c.recipe e.outcome [] rs) b.sources (subst (λ o. Follows hosts w' k' c.recipe o [] b.memo.sources) b.outcome
+        (follows_on hosts w k w' k' c.recipe b.memo.outcome [] b.memo.sources (ch.stay n b.memo b.at) (s.follows n c b.memo st' b.at (ap is_cycle b.outcome ∙ fine) (b.rewired rw0))));
+    acyclic = λ n path chain on. s.acyclic n path (path_back n path ch chain) on;
+    present = λ n e at. let b : Before k n e = ch.before n e at in let le : b.memo.generation ≤ k.generation = s.present n b.memo b.at in omega (arith, le, b.generation, ch.later);
+    past = λ n e at.
+        let b : Before k n e = ch.before n e at in
+        subst (ArePast k') b.sources (ch.past n b.memo b.at);
+  }
+
+  -- where each source stays, all do
+  pub all_stay : ((s : Source) → IsPast s.number (number_of k s.name) → Stays w k w' k' s) → (ss : List Source) → ArePast k ss → AllStay w k w' k' ss
+  all_stay f [] p = tt
+  all_stay f (s ∷ ss) p = (f s p.0, all_stay f ss p.1)
+
+-- where no number falls, what was past is past
+pub all_past : (k k' : Memos) → ((x : Option ℕ) (m : ℕ) → IsPast x (number_of k m) → IsPast x (number_of k' m)) → (ss : List Source) → ArePast k ss → ArePast k' ss
+all_past k k' f [] p = tt
+all_past k k' f (s ∷ ss) p = (f s.number s.name p.0, all_past k k' f ss p.1)
+
+-- ---- a change of one entry
+
+pub above : (x : Option ℕ) (m : ℕ) → IsPast x (Some m) → not (same_number (Some (m + 1)) x) ≡ true
+above None m h = refl
+above (Some y) m h = let ne : (m + 1 == y) ≡ false = grind (arith, nat_tests) in rw ne refl
+
+pub past_up : (x : Option ℕ) (m : ℕ) → IsPast x (Some m) → IsPast x (Some (m + 1))
+past_up None m h = cc
+past_up (Some y) m h = omega (arith, h)
+
+pub same_memo : (e : Memo) (k : Memos) (m : ℕ) (x : Option Memo) → memo_of k m ≡ x → x ≡ Some e → Before k m e
+same_memo e k m x p q = record { memo = e; at = p ∙ q; outcome = refl; sources = refl; generation = refl; rewired = λ h. h }
+
+-- the entry of n goes by g, which raises the number and keeps the memo but for its mark
+record Raises (g : Entry → Entry) : Type 0 where
+  name : (r : Entry) → (g r).name ≡ r.name
+  number : (r : Entry) → (g r).number ≡ r.number + 1
+  memo : (r : Entry) → ((g r).memo ≡ r.memo) ⊎ ((g r).memo ≡ memo_rewired r.memo)
+
+abbrev raise : Memos → ℕ → (Entry → Entry) → Memos
+raise k n g = record { generation = k.generation + 1; entries = changed (λ (r : Entry). r.name) n g k.entries }
+
+memo_before : (k : Memos) (n : ℕ) (x : Option Memo) (e' : Memo) → memo_of k n ≡ x → memo_rewired x ≡ Some e' → Before k n e'
+memo_before k n None e' p q = cc
+memo_before k n (Some e) e' p q = subst (Before k n) (out (record e { rewired = true }) e' q) (record { memo = e; at = p; outcome = refl; sources = refl; generation = refl; rewired = λ h. cc h })
+  where
+    out : (x y : Memo) → Some x ≡ Some y → x ≡ y
+    out x y z = cc
+
+memo_set : (x : Option Memo) (e' : Memo) → memo_rewired x ≡ Some e' → e'.rewired ≡ true
+memo_set None e' q = cc
+memo_set (Some e) e' q = sym (out (record e { rewired = true }) e' q)
+  where
+    out : (x y : Memo) → Some x ≡ Some y → x.rewired ≡ y.rewired
+    out x y z = cc
+
+raise_before : (k : Memos) (n : ℕ) (g : Entry → Entry) (r : Entry) → Raises g → entry_at n k.entries ≡ Some r → (m : ℕ) (e' : Memo) → memo_of (raise k n g) m ≡ Some e' → Before k m e'
+raise_before k n g r gs at m e' q = elim (tested (m == n)) [
+  | inr off ↦ same_memo e' k m (memo_of (raise k n g) m) (sym (ap memo_in (entry_other m n g k.entries gs.name off))) q
+  | inl on ↦
+      let e : m ≡ n = eqb-true m n on in
+      let new : memo_of (raise k n g) n ≡ (g r).memo = ap memo_in (entry_same n g k.entries r gs.name at) in
+      let q' : (g r).memo ≡ Some e' = sym new ∙ ap (memo_of (raise k n g)) (sym e) ∙ q in
+      subst (λ x. Before k x e') (sym e) (elim (gs.memo r) [
+        | inl plain ↦ same_memo e' k n r.memo (ap memo_in at) (sym plain ∙ q')
+        | inr mark ↦ memo_before k n r.memo e' (ap memo_in at) (sym mark ∙ q')
+      ])
+]
+
+raise_past : (k : Memos) (n : ℕ) (g : Entry → Entry) (r : Entry) → Raises g → entry_at n k.entries ≡ Some r → (x : Option ℕ) (m : ℕ) → IsPast x (number_of k m) → IsPast x (number_of (raise k n g) m)
+raise_past k n g r gs at x m p = elim (tested (m == n)) [
+  | inr off ↦ subst (IsPast x) (sym (ap number_in (entry_other m n g k.entries gs.name off))) p
+  | inl on ↦
+      let e : m ≡ n = eqb-true m n on in
+      let new : number_of (raise k n g) n ≡ Some (r.number + 1) = ap number_in (entry_same n g k.entries r gs.name at) ∙ ap (λ y. Some y) (gs.number r) in
+      subst (λ y. IsPast x (number_of (raise k n g) y)) (sym e) (subst (IsPast x) (sym new) (past_up x r.number (subst (IsPast x) (ap (number_of k) e ∙ ap number_in at) p)))
+]
+
+raise_stays : (w w' : Signals) (k : Memos) (n : ℕ) (g : Entry → Entry) (r : Entry) → Raises g → entry_at n k.entries ≡ Some r → ((m : ℕ) → (m == n) ≡ false → standing w' m ≡ standing w m) →
+    (s : Source) → IsPast s.number (number_of k s.name) → Stays w k w' (raise k n g) s
+raise_stays w w' k n g r gs at other s p = elim (tested (s.name == n)) [
+  | inr off ↦
+      let a : entry_at s.name (raise k n g).entries ≡ entry_at s.name k.entries = entry_other s.name n g k.entries gs.name off in
+      let o : standing w' s.name ≡ standing w s.name = other s.name off in
+      inr (ap (λ x. not (same_number (number_in x) s.number)) a, (λ i. outcome_here (o i) (memo_in (a i))))
+  | inl on ↦
+      let e : s.name ≡ n = eqb-true s.name n on in
+      let new : number_of (raise k n g) n ≡ Some (r.number + 1) = ap number_in (entry_same n g k.entries r gs.name at) ∙ ap (λ y. Some y) (gs.number r) in
+      inl (ap (λ x. not (same_number x s.number)) (ap (number_of (raise k n g)) e ∙ new) ∙ above s.number r.number (subst (IsPast s.number) (ap (number_of k) e ∙ ap number_in at) p))
+]
+
+raise_entries : (w w' : Signals) (k : Memos) (n : ℕ) (g : Entry → Entry) (r : Entry) → Raises g → entry_at n k.entries ≡ Some r → ((m : ℕ) → (m == n) ≡ false → standing w' m ≡ standing w m) → HaveEntries w k → HaveEntries w' (raise k n g)
+raise_entries w w' k n g r gs at other h m none = elim (tested (m == n)) [
+  | inr off ↦ other m off ∙ h m (sym (entry_other m n g k.entries gs.name off) ∙ none)
+  | inl on ↦ cc (sym (ap (λ x. entry_at x (raise k n g).entries) (eqb-true m n on) ∙ entry_same n g k.entries r gs.name at) ∙ none)
+]
+
+-- the generation has moved past each memo
+no_cycles : (hosts : Hosts) (w : Signals) (k : Memos) (w' : Signals) (k' : Memos) → IsSound hosts w k → k.generation < k'.generation → ((m : ℕ) (e' : Memo) → memo_of k' m ≡ Some e' → Before k m e') →
+    (n : ℕ) (c : Computed) (m : Memo) → standing w' n ≡ IsComputed c → memo_of k' n ≡ Some m → is_cycle m.outcome ≡ true → m.generation ≡ k'.generation →
+    (value_of hosts w' n [] ≡ m.outcome) × (source_names m.sources ≡ names_of (reads_of hosts w' c))
+no_cycles hosts w k w' k' s later before n c e st at cy gen =
+    let b : Before k n e = before n e at in
+    let le : b.memo.generation ≤ k.generation = s.present n b.memo b.at in
+    absurd (omega (arith, le, b.generation, gen, later))
+
+-- what stands has an entry
+pub entry_there : (w : Signals) (k : Memos) (n : ℕ) → HaveEntries w k → (standing w n ≡ IsGone → ⊥) → (r : Entry) × (entry_at n k.entries ≡ Some r)
+entry_there w k n h there = go (entry_at n k.entries) refl
+  where
+    go : (x : Option Entry) → entry_at n k.entries ≡ x → (r : Entry) × (entry_at n k.entries ≡ Some r)
+    go None e = absurd (there (h n e))
+    go (Some r) e = (r, e)
+
+-- ---- the signals
+
+no_cell : (x : Option Cell) (y : Option Computed) (c : Computed) → or_computed x y ≡ IsComputed c → x ≡ None
+no_cell None y c h = refl
+no_cell (Some z) y c h = cc
+
+cell_stands : (x : Option Cell) (y : Option Computed) (c : Cell) → or_computed x y ≡ IsCell c → x ≡ Some c
+cell_stands None None c h = cc
+cell_stands None (Some z) c h = cc
+cell_stands (Some z) y c h = out z c h
+  where
+    cell_of : Stands → Option Cell
+    cell_of (IsCell u) = Some u
+    cell_of _ = None
+
+    out : (u v : Cell) → IsCell u ≡ IsCell v → Some u ≡ Some v
+    out u v e = ap cell_of e
+
+set_kind : (w : Signals) (n : ℕ) (c : Cell) (v : Value) → standing w n ≡ IsCell c → (m : ℕ) (d : Computed) → standing (with_value w n v) m ≡ IsComputed d → standing w m ≡ IsComputed d
+set_kind w n c v stands m d st = elim (tested (m == n)) [
+  | inr off ↦ sym (ap (λ x. or_computed x (computed_at m w.computeds)) (cell_other m n (λ e. record e { value = v }) w.cells (λ e. refl) off)) ∙ st
+  | inl on ↦
+      let e : m ≡ n = eqb-true m n on in
+      let st' : or_computed (cell_at n (with_value w n v).cells) (computed_at n w.computeds) ≡ IsComputed d = ap (standing (with_value w n v)) (sym e) ∙ st in
+      let none : cell_at n w.cells ≡ None = cell_there n (λ d'. record d' { value = v }) w.cells (λ d'. refl) (no_cell (cell_at n (with_value w n v).cells) (computed_at n w.computeds) d st') in
+      cc (sym none ∙ cell_stands (cell_at n w.cells) (computed_at n w.computeds) c stands)
+]
+
+pub set_law : SetLaw
+set_law hosts w k n c v stands kept =
+    let w' : Signals = with_value w n v in
+    let k' : Memos = after_change k n in
+    let r : (r : Entry) × (entry_at n k.entries ≡ Some r) = entry_there w k n kept.entries (λ gone. cc (sym gone ∙ stands)) in
+    let g : Raises raised = record { name = λ q. refl; number = λ q. refl; memo = λ q. inl refl } in
+    let other : (m : ℕ) → (m == n) ≡ false → standing w' m ≡ standing w m = λ m off. ap (λ x. or_computed x (computed_at m w.computeds)) (cell_other m n (λ d. record d { value = v }) w.cells (λ d. refl) off) in
+    let comp : (m : ℕ) (d : Computed) → standing w' m ≡ IsComputed d → standing w m ≡ IsComputed d = set_kind w n c v stands in
+    let lt : k.generation < k.generation + 1 = omega arith in
+    let le : k.generation ≤ k.generation + 1 = omega arith in
+    let before : (m : ℕ) (e' : Memo) → memo_of k' m ≡ Some e' → Before k m e' = raise_before k n raised r.0 g r.1 in
+    record {
+      sound = change_keeps hosts w k w' k' (record {
+        cycles = no_cycles hosts w k w' k' kept.sound lt before;
+        later = le;
+        before = before;
+        kind = λ m d e st q. (d, comp m d st);
+        same = λ m d e st q z. comp m d st;
+        stay = λ m e q. all_stay hosts w k w' k' (raise_stays w w' k n raised r.0 g r.1 other) e.sources (kept.sound.past m e q);
+        past = λ m e q. all_past k k' (raise_past k n raised r.0 g r.1) e.sources (kept.sound.past m e q);
+      }) kept.sound;
+      entries = raise_entries w w' k n raised r.0 g r.1 other kept.entries;
+    }
+
+pub rewire_law : RewireLaw
+rewire_law hosts w k n c recipe stands kept =
+    let w' : Signals = with_recipe w n recipe in
+    let k' : Memos = after_rewiring k n in
+    let r : (r : Entry) × (entry_at n k.entries ≡ Some r) = entry_there w k n kept.entries (λ gone. cc (sym gone ∙ stands)) in
+    let g : Raises entry_rewired = record { name = λ q. refl; number = λ q. refl; memo = λ q. inr refl } in
+    let other : (m : ℕ) → (m == n) ≡ false → standing w' m ≡ standing w m = λ m off. ap (λ x. or_computed (cell_at m w.cells) x) (computed_other m n (λ d. record d { recipe = recipe }) w.computeds (λ d. refl) off) in
+    let lt : k.generation < k.generation + 1 = omega arith in
+    let le : k.generation ≤ k.generation + 1 = omega arith in
+    let before : (m : ℕ) (e' : Memo) → memo_of k' m ≡ Some e' → Before k m e' = raise_before k n entry_rewired r.0 g r.1 in
+    record {
+      sound = change_keeps hosts w k w' k' (record {
+        cycles = no_cycles hosts w k w' k' kept.sound lt before;
+        later = le;
+        before = before;
+        kind = λ m d e st q. elim (tested (m == n)) [
+          | inr off ↦ (d, sym (other m off) ∙ st)
+          | inl on ↦ (c, ap (standing w) (eqb-true m n on) ∙ stands)
+        ];
+        same = λ m d e st q z. elim (tested (m == n)) [
+          | inr off ↦ sym (other m off) ∙ st
+          | inl on ↦
+              let is : m ≡ n = eqb-true m n on in
+              let new : memo_of k' n ≡ memo_rewired r.0.memo = ap memo_in (entry_same n entry_rewired k.entries r.0 (λ x. refl) r.1) in
+              let set : e.rewired ≡ true = memo_set r.0.memo e (sym new ∙ ap (memo_of k') (sym is) ∙ q) in
+              cc (sym z ∙ set)
+        ];
+        stay = λ m e q. all_stay hosts w k w' k' (raise_stays w w' k n entry_rewired r.0 g r.1 other) e.sources (kept.sound.past m e q);
+        past = λ m e q. all_past k k' (raise_past k n entry_rewired r.0 g r.1) e.sources (kept.sound.past m e q);
+      }) kept.sound;
+      entries = raise_entries w w' k n entry_rewired r.0 g r.1 other kept.entries;
+    }
+
+-- ---- disposal
+
+some_computed : (x : Option Cell) (y : Option Computed) (c : Computed) → or_computed x y ≡ IsComputed c → y ≡ None → ⊥
+some_computed (Some z) y c h e = cc
+some_computed None (Some z) c h e = cc
+some_computed None None c h e = cc
+
+pub dispose_law : DisposeLaw
+dispose_law hosts w k n there kept =
+    let w' : Signals = without_signal w n in
+    let k' : Memos = after_disposal k n in
+    let r : (r : Entry) × (entry_at n k.entries ≡ Some r) = entry_there w k n kept.entries there in
+    let other : (m : ℕ) → (m == n) ≡ false → standing w' m ≡ standing w m = λ m off.
+    let a : cell_at m w'.cells ≡ cell_at m w.cells = cell_left m n w.cells off in
+    let b : computed_at m w'.computeds ≡ computed_at m w.computeds = computed_left m n w.computeds off in
+    (λ i. or_computed (a i) (b i)) in
+    let comp : (m : ℕ) (d : Computed) → standing w' m ≡ IsComputed d → standing w m ≡ IsComputed d = λ m d st. elim (tested (m == n)) [
+      | inr off ↦ sym (other m off) ∙ st
+      | inl on ↦
+          let e : m ≡ n = eqb-true m n on in
+          absurd (some_computed (cell_at m w'.cells) (computed_at m w'.computeds) d st (ap (λ x. computed_at x w'.computeds) e ∙ computed_out n w.computeds))
+    ] in
+    let gone : number_of k' n ≡ None = ap number_in (entry_out n k.entries) in
+    let lt : k.generation < k.generation + 1 = omega arith in
+    let le : k.generation ≤ k.generation + 1 = omega arith in
+    let before : (m : ℕ) (e' : Memo) → memo_of k' m ≡ Some e' → Before k m e' = λ m e q. elim (tested (m == n)) [
+      | inr off ↦ same_memo e k m (memo_of k' m) (sym (ap memo_in (entry_left m n k.entries off))) q
+      | inl on ↦
+          let none : memo_of k' m ≡ None = ap (memo_of k') (eqb-true m n on) ∙ ap memo_in (entry_out n k.entries) in
+          cc (sym none ∙ q)
+    ] in
+    let past : (x : Option ℕ) (m : ℕ) → IsPast x (number_of k m) → IsPast x (number_of k' m) = λ x m p. elim (tested (m == n)) [
+      | inr off ↦ subst (IsPast x) (sym (ap number_in (entry_left m n k.entries off))) p
+      | inl on ↦
+          let e : m ≡ n = eqb-true m n on in
+          subst (λ y. IsPast x y) (sym (ap (number_of k') e ∙ gone)) (lost x)
+    ] in
+    let stays : (s : Source) → IsPast s.number (number_of k s.name) → Stays w k w' k' s = λ x p. elim (tested (x.name == n)) [
+      | inr off ↦
+          let a : entry_at x.name k'.entries ≡ entry_at x.name k.entries = entry_left x.name n k.entries off in
+          let o : standing w' x.name ≡ standing w x.name = other x.name off in
+          inr (ap (λ y. not (same_number (number_in y) x.number)) a, (λ i. outcome_here (o i) (memo_in (a i))))
+      | inl on ↦
+          let e : x.name ≡ n = eqb-true x.name n on in
+          inl (ap (λ y. not (same_number y x.number)) (ap (number_of k') e ∙ gone) ∙ never r.0.number x.number (subst (IsPast x.number) (ap (number_of k) e ∙ ap number_in r.1) p))
+    ] in
+    record {
+      sound = change_keeps hosts w k w' k' (record {
+        cycles = no_cycles hosts w k w' k' kept.sound lt before;
+        later = le;
+        before = before;
+        kind = λ m d e st q. (d, comp m d st);
+        same = λ m d e st q z. comp m d st;
+        stay = λ m e q. all_stay hosts w k w' k' stays e.sources (kept.sound.past m e q);
+        past = λ m e q. all_past k k' past e.sources (kept.sound.past m e q);
+      }) kept.sound;
+      entries = λ m none. elim (tested (m == n)) [
+        | inr off ↦ other m off ∙ kept.entries m (sym (entry_left m n k.entries off) ∙ none)
+        | inl on ↦
+            let a : cell_at n w'.cells ≡ None = cell_out n w.cells in
+            let b : computed_at n w'.computeds ≡ None = computed_out n w.computeds in
+            ap (standing w') (eqb-true m n on) ∙ (λ i. or_computed (a i) (b i))
+      ];
+    }
+  where
+    never : (m : ℕ) (x : Option ℕ) → IsPast x (Some m) → not (same_number None x) ≡ true
+    never m None h = cc
+    never m (Some y) h = refl
+
+    lost : (x : Option ℕ) → IsPast x None
+    lost None = refl
+    lost (Some y) = tt
+
+-- ---- nothing at all
+
+no_keeper : (n : ℕ) (path : List ℕ) → IsKeptPath no_signals no_memos n path → is_in n path ≡ true → ⊥
+no_keeper n [] c on = cc
+no_keeper n (p ∷ ps) c on = cc (c.0.at)
+
+pub empty_law : EmptyLaw
+empty_law hosts = record {
+  sound = record {
+    cycles = λ n c m st at cy gen. cc at;
+    follows = λ n c m st at fine rw0. cc at;
+    acyclic = no_keeper;
+    present = λ n m at. cc at;
+    past = λ n m at. cc at;
+  };
+  entries = λ n none. refl;
+}

@@ -1,0 +1,5 @@
+use Rattle.signal_laws.proofs.Changing.{dispose_law}
+use Rattle.signal_laws.proofs.laws.dispose_law.Goals as goal
+
+pub returns : goal.returns
+returns c = dispose_law

@@ -1,0 +1,5 @@
+use Rattle.signal_laws.proofs.Changing.{rewire_law}
+use Rattle.signal_laws.proofs.laws.rewire_law.Goals as goal
+
+pub returns : goal.returns
+returns c = rewire_law

@@ -1,0 +1,5 @@
+use Rattle.signal_laws.proofs.Changing.{set_law}
+use Rattle.signal_laws.proofs.laws.set_law.Goals as goal
+
+pub returns : goal.returns
+returns c = set_law

@@ -1,0 +1,22 @@
+// Laws of the memos, for all hosts, signals and names.
+ghost use Rattle.signal_laws.specs.Keeping.{DisposeLaw, EmptyLaw, RewireLaw, SetLaw};
+
+/// Where nothing stands, no memos are sound.
+pub fn empty_law()
+    ensures { EmptyLaw }
+{}
+
+/// A set of a cell, or an edit of its rows, keeps the memos sound.
+pub fn set_law()
+    ensures { SetLaw }
+{}
+
+/// So does another recipe of a computed.
+pub fn rewire_law()
+    ensures { RewireLaw }
+{}
+
+/// And the disposal of a signal.
+pub fn dispose_law()
+    ensures { DisposeLaw }
+{}

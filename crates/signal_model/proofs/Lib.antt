@@ -1,0 +1,6 @@
+pub mod Asking
+pub mod Depth
+pub mod Paths
+pub mod Visits
+pub mod Formulas
+pub mod Turns

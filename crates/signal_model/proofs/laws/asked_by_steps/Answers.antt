@@ -1,0 +1,5 @@
+use Rattle.signal_model.proofs.Asking.{asked_by_steps}
+use Rattle.signal_model.proofs.laws.asked_by_steps.Goals as goal
+
+pub returns : goal.returns
+returns c = asked_by_steps

@@ -1,0 +1,65 @@
+-- Laws over the definitions.
+use Rattle.std.specs.Prelude.{◌≡◌, ℕ, ◌<◌, true, false, List, [], ◌∷◌, length, ◌⊎◌, None}
+use Rattle.sig_base.specs.declared.value.Known.{Known}
+use Rattle.sig_base.specs.declared.value.Outcome.{Outcome}
+use Rattle.sig_base.specs.declared.value.Outcome.TheVariants.{Bad}
+use Rattle.sig_base.specs.declared.value.Fault.TheVariants.{Cycle}
+use Rattle.sig_formula.specs.Trees.{Tree, has_slot}
+use Rattle.sig_formula.specs.Answering as formulas
+use Rattle.signal_model.specs.Recipes.{Hosts, Recipe, formula, answer_of}
+use Rattle.signal_model.specs.Standing.{Signals, Computed, IsComputed, is_in, standing}
+use Rattle.signal_model.specs.Values.{Seen, learnt, after_step, asked_from, value_of, value_case, evaluated, reads_of}
+use Rattle.signal_model.specs.Orders.{visited, evaluation_order}
+
+-- a recipe is asked as far as its answers say, with no bound in sight
+abbrev pub AskedBySteps : Type 0
+AskedBySteps = (hosts : Hosts) (r : Recipe) (source : ℕ → Outcome) (known : List Known) →
+    asked_from hosts r source known ≡ after_step (answer_of hosts r known) r.slots source (λ s v. asked_from hosts r source (learnt known s v))
+
+-- the four cases of a value, with no bound in sight
+abbrev pub ValueByCases : Type 0
+ValueByCases = (hosts : Hosts) (w : Signals) (n : ℕ) (path : List ℕ) →
+    value_of hosts w n path ≡ value_case (standing w n) (is_in n path) (λ c. (evaluated hosts w c path).outcome)
+
+-- a name is among the reads
+abbrev pub IsRead : ℕ → List Seen → Type 0
+IsRead n [] = ⊥
+IsRead n (s ∷ ss) = (n ≡ s.name) ⊎ IsRead n ss
+
+-- a computed reads a name from scratch
+pub record Reads (hosts : Hosts) (w : Signals) (p n : ℕ) : Type 0 where
+  pub computed : Computed
+  pub stands : standing w p ≡ IsComputed computed
+  pub read : IsRead n (reads_of hosts w computed)
+
+-- each member of the path, the innermost first, reads the one before it, and the innermost reads n
+abbrev pub IsChain : Hosts → Signals → ℕ → List ℕ → Type 0
+IsChain hosts w n [] = Unit {0}
+IsChain hosts w n (p ∷ ps) = Reads hosts w p n × IsChain hosts w p ps
+
+-- along a path of reads a value is that with no path
+abbrev pub PathLaw : Type 0
+PathLaw = (hosts : Hosts) (w : Signals) (n : ℕ) (path : List ℕ) → IsChain hosts w n path → value_of hosts w n path ≡ value_of hosts w n []
+
+-- one name reads the next, and so on to the last
+pub data Leads (hosts : Hosts) (w : Signals) : ℕ → ℕ → Type 0 where
+  one : {a b : ℕ} → Reads hosts w a b → Leads hosts w a b
+  more : {a b c : ℕ} → Reads hosts w a b → Leads hosts w b c → Leads hosts w a c
+
+-- what stands on a cycle of reads, or leads to one, has the fault `cycle`, by whatever path it is read
+abbrev pub CycleLaw : Type 0
+CycleLaw = (hosts : Hosts) (w : Signals) (n m : ℕ) (path : List ℕ) → (n ≡ m) ⊎ Leads hosts w n m → Leads hosts w m m → value_of hosts w n path ≡ Bad Cycle
+
+-- no name stands twice
+abbrev pub AreDistinct : List ℕ → Type 0
+AreDistinct [] = Unit {0}
+AreDistinct (n ∷ ns) = (is_in n ns ≡ false) × AreDistinct ns
+
+-- the order of evaluation names each computed once
+abbrev pub OrderLaw : Type 0
+OrderLaw = (hosts : Hosts) (w : Signals) (asked : List ℕ) → AreDistinct (visited (evaluation_order hosts w asked))
+
+-- a formula whose slots have names answers as it is written: it asks for no slot outside, and for none that is known
+abbrev pub FormulaLaw : Type 0
+FormulaLaw = (hosts : Hosts) (t : Tree) (slots : List ℕ) (known : List Known) → ((s : ℕ) → has_slot s t ≡ true → s < length slots) →
+    answer_of hosts (record { asked = formula t; slots = slots }) known ≡ formulas.answer_of t None known

@@ -1,0 +1,14 @@
+pub mod Recipes
+pub mod Standing
+pub mod Values
+pub mod Orders
+pub mod Memos
+pub mod Settling
+pub mod Marks
+pub mod Sound
+pub mod Changes
+pub mod Asks
+pub mod Coding
+pub mod Plain
+pub mod Examples
+pub mod Laws
