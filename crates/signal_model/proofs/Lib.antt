@@ -4,3 +4,5 @@ pub mod Paths
 pub mod Visits
 pub mod Formulas
 pub mod Turns
+pub mod Walks
+pub mod Settles

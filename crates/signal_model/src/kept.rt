@@ -1,5 +1,6 @@
 // What the plain program keeps of evaluations, and when a computed must run.
-ghost use Rattle.std.specs.Prelude.{◌≡◌, ◌+◌, ◌^◌, ◌<◌, None, Some, IfOk, IfSome, IfNone, map, if◌then◌else◌};
+ghost use Rattle.std.specs.Prelude.{◌≡◌, ◌+◌, ◌^◌, ◌<◌, None, Some, IfOk, IfSome, IfNone, map, if◌then◌else◌, nat_eq};
+ghost use Rattle.signal_model.specs.Standing.{changed};
 ghost use Rattle.signal_model.specs.Memos.{differs, entry_at, is_cycle, is_moved, must_run, must_run_by, number_of, same_number, some_moved};
 ghost use Rattle.signal_model.specs.Settling.{has_outcome, ran_entry, source_now, with_run};
 
@@ -173,4 +174,102 @@ fn has_outcome(memo: &Option<Memo>, outcome: &Outcome) -> bool
         Some(memo) => memo.outcome.same(outcome),
         None => false,
     }
+}
+
+fn risen(number: u128, same: bool) -> Result<u128, NoMemory>
+    ensures { IfOk result (λ m. m ≡ number + (if same then 0 else 1)) }
+{
+    if same {
+        return Ok(number);
+    }
+    match number.checked_add(1) {
+        Some(next) => Ok(next),
+        None => Err(NoMemory),
+    }
+}
+
+fn copied(alloc: Global, sources: &[Source]) -> Result<Vec<Source>, NoMemory>
+    ensures { IfOk result (λ v. v.items ≡ sources.now) }
+{
+    let mut copies = Vec::new(alloc);
+    for source in sources {
+        copies.push(Source {
+            name: source.name,
+            number: source.number,
+        })?;
+    }
+    Ok(copies)
+}
+
+impl Memo {
+    /// The same memo.
+    pub fn copy(&self, alloc: Global) -> Result<Memo, NoMemory>
+        ensures { IfOk result (λ m. m ≡ self.now) }
+    {
+        Ok(Memo {
+            outcome: self.outcome.copy()?,
+            sources: copied(alloc, &self.sources)?,
+            generation: self.generation,
+            rewired: self.rewired,
+        })
+    }
+}
+
+fn ran_entry(alloc: Global, memo: &Memo, entry: Entry) -> Result<Entry, NoMemory>
+    ensures { IfOk result (λ e. e ≡ ran_entry memo.now entry) }
+{
+    let same = has_outcome(&entry.memo, &memo.outcome);
+    let number = risen(entry.number, same)?;
+    Ok(Entry {
+        name: entry.name,
+        number,
+        memo: Some(memo.copy(alloc)?),
+    })
+}
+
+fn ran_entry_at(alloc: Global, n: NodeId, memo: &Memo, entry: Entry) -> Result<Entry, NoMemory>
+    ensures { IfOk result (λ e. e ≡ (if nat_eq n entry.name then ran_entry memo.now entry else entry)) }
+{
+    if n == entry.name {
+        ran_entry(alloc, memo, entry)
+    } else {
+        Ok(entry)
+    }
+}
+
+fn ran_entries(
+    alloc: Global,
+    n: NodeId,
+    memo: &Memo,
+    entries: Vec<Entry>,
+) -> Result<Vec<Entry>, NoMemory>
+    ensures { IfOk result (λ v. v.items ≡ changed (λ e. e.name) n (ran_entry memo.now) entries.items) }
+{
+    let mut changed = Vec::new(alloc);
+    for entry in entries {
+        changed.push(ran_entry_at(alloc, n, memo, entry)?)?;
+    }
+    Ok(changed)
+}
+
+/// What is kept after a run. A number that would pass 128 bits counts as want of memory.
+pub fn with_run(
+    alloc: Global,
+    memos: Memos,
+    n: NodeId,
+    evaluation: &Evaluation,
+) -> Result<Memos, NoMemory>
+    ensures { IfOk result (λ k. k ≡ with_run memos n evaluation.now) }
+{
+    let sources = sources_now(alloc, &memos, &evaluation.reads)?;
+    let memo = Memo {
+        outcome: evaluation.outcome.copy()?,
+        sources,
+        generation: memos.generation,
+        rewired: false,
+    };
+    Ok(Memos {
+        generation: memos.generation,
+        entries: ran_entries(alloc, n, &memo, memos.entries)?,
+    })
 }

@@ -4,3 +4,5 @@
 pub mod laws;
 pub mod plain;
 pub mod kept;
+pub mod order;
+pub mod settle;

@@ -208,7 +208,7 @@ impl Model for Evaluation {
     ghost view = { λ e. record { reads = e.reads.items; outcome = e.outcome } };
 }
 
-fn cell_at(cells: &[Cell], n: NodeId) -> Option<&Cell>
+pub(crate) fn cell_at(cells: &[Cell], n: NodeId) -> Option<&Cell>
     ensures some { IfSome result (λ c. cell_at n cells.now ≡ Some c.now) }
     ensures none { IfNone result (cell_at n cells.now ≡ None) }
 {
@@ -220,7 +220,7 @@ fn cell_at(cells: &[Cell], n: NodeId) -> Option<&Cell>
     None
 }
 
-fn computed_at(computeds: &[Computed], n: NodeId) -> Option<&Computed>
+pub(crate) fn computed_at(computeds: &[Computed], n: NodeId) -> Option<&Computed>
     ensures some { IfSome result (λ c. computed_at n computeds.now ≡ Some c.now) }
     ensures none { IfNone result (computed_at n computeds.now ≡ None) }
 {
@@ -232,7 +232,7 @@ fn computed_at(computeds: &[Computed], n: NodeId) -> Option<&Computed>
     None
 }
 
-fn path_below(alloc: Global, n: NodeId, path: &[NodeId]) -> Result<Vec<NodeId>, NoMemory>
+pub(crate) fn path_below(alloc: Global, n: NodeId, path: &[NodeId]) -> Result<Vec<NodeId>, NoMemory>
     ensures { IfOk result (λ v. v.items ≡ n ∷ path.now) }
 {
     let mut below = Vec::new(alloc);
