@@ -7,7 +7,6 @@ use Rattle.page_model.specs.Pages as pages
 use Rattle.page_model.specs.Replay as replay
 use Rattle.page_plain.specs.declared.numbers.Numbers.{Numbers}
 use Rattle.page_plain.specs.declared.numbers.Numbers.TheVariants as numbers
-use Rattle.page_plain.specs.declared.tree.Attribute.{Attribute}
 use Rattle.page_plain.specs.declared.tree.Lines.{Lines}
 use Rattle.page_plain.specs.declared.tree.Lines.TheVariants as lines
 use Rattle.page_plain.specs.declared.tree.Look.{Look}

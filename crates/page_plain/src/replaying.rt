@@ -253,7 +253,13 @@ fn moved(alloc: Global, tree: &Tree, number: u64, place: u64) -> Result<Tree, No
     put(alloc, place, &one, &others)
 }
 
-fn put_below(alloc: Global, tree: &Tree, parent: u64, place: u64, sub: &Tree) -> Result<Tree, NoMemory>
+fn put_below(
+    alloc: Global,
+    tree: &Tree,
+    parent: u64,
+    place: u64,
+    sub: &Tree,
+) -> Result<Tree, NoMemory>
     ensures { IfOk result (λ t. kinds_of t ≡ forest.at parent (forest.put place (kinds_of sub.now)) (kinds_of tree.now)) }
 {
     match tree {
@@ -270,7 +276,13 @@ fn put_below(alloc: Global, tree: &Tree, parent: u64, place: u64, sub: &Tree) ->
     }
 }
 
-fn moved_below(alloc: Global, tree: &Tree, parent: u64, number: u64, place: u64) -> Result<Tree, NoMemory>
+fn moved_below(
+    alloc: Global,
+    tree: &Tree,
+    parent: u64,
+    number: u64,
+    place: u64,
+) -> Result<Tree, NoMemory>
     ensures { IfOk result (λ t. kinds_of t ≡ forest.at parent (forest.moved number place) (kinds_of tree.now)) }
 {
     match tree {
@@ -351,7 +363,13 @@ fn others(alloc: Global, lines: &Lines, name: &Text) -> Result<Lines, NoMemory>
 
 // The present attributes with one put in so that it stands at a place.
 #[tactic(auto, using(crate::proofs::Listing::put_in_first, crate::proofs::Listing::put_in_end, crate::proofs::Listing::put_in_past))]
-fn put_in(alloc: Global, lines: &Lines, place: u64, name: &Text, value: &Text) -> Result<Lines, NoMemory>
+fn put_in(
+    alloc: Global,
+    lines: &Lines,
+    place: u64,
+    name: &Text,
+    value: &Text,
+) -> Result<Lines, NoMemory>
     ensures { IfOk result (λ r. present (lines_of r) ≡ replayed.put_in place (name.now, value.now) (present (lines_of lines.now))) }
 {
     match lines {
@@ -389,7 +407,13 @@ fn below_root(tree: &Tree, number: u64) -> bool
     on(tree, number) && number != 0
 }
 
-fn do_text(alloc: Global, tree: &Tree, number: u64, text: &Text, look: &Look) -> Result<Answer, NoMemory>
+fn do_text(
+    alloc: Global,
+    tree: &Tree,
+    number: u64,
+    text: &Text,
+    look: &Look,
+) -> Result<Answer, NoMemory>
     ensures { IfOk result (λ a. answer_of a ≡ replayed.do_text number text.now (seen (look_of look.now)) (kinds_of tree.now)) }
 {
     match look {
@@ -424,7 +448,13 @@ fn do_attr(
     Ok(Answer::Done(relabelled(alloc, tree, number, &new)?))
 }
 
-fn do_unattr(alloc: Global, tree: &Tree, number: u64, name: &Text, look: &Look) -> Result<Answer, NoMemory>
+fn do_unattr(
+    alloc: Global,
+    tree: &Tree,
+    number: u64,
+    name: &Text,
+    look: &Look,
+) -> Result<Answer, NoMemory>
     ensures { IfOk result (λ a. answer_of a ≡ replayed.do_unattr number name.now (seen (look_of look.now)) (kinds_of tree.now)) }
 {
     let Look::Element(element, lines) = look else {
@@ -436,7 +466,13 @@ fn do_unattr(alloc: Global, tree: &Tree, number: u64, name: &Text, look: &Look) 
 }
 
 // The insertion of a node, of which the parent and the place are good.
-fn do_fresh(alloc: Global, tree: &Tree, parent: u64, place: u64, sub: &Tree) -> Result<Answer, NoMemory>
+fn do_fresh(
+    alloc: Global,
+    tree: &Tree,
+    parent: u64,
+    place: u64,
+    sub: &Tree,
+) -> Result<Answer, NoMemory>
     ensures { IfOk result (λ a. answer_of a ≡ brought parent place (kinds_of sub.now) (kinds_of tree.now)) }
 {
     if let Some(number) = first_used(sub, sub, tree)? {
@@ -448,7 +484,14 @@ fn do_fresh(alloc: Global, tree: &Tree, parent: u64, place: u64, sub: &Tree) -> 
     Ok(Answer::Done(put_below(alloc, tree, parent, place, sub)?))
 }
 
-fn do_insert(alloc: Global, tree: &Tree, parent: u64, place: u64, sub: &Tree, look: &Look) -> Result<Answer, NoMemory>
+fn do_insert(
+    alloc: Global,
+    tree: &Tree,
+    parent: u64,
+    place: u64,
+    sub: &Tree,
+    look: &Look,
+) -> Result<Answer, NoMemory>
     ensures { IfOk result (λ a. answer_of a ≡ inserted parent place (kinds_of sub.now) (seen (look_of look.now)) (kinds_of tree.now)) }
 {
     if !on(tree, parent) || !holds(look) {

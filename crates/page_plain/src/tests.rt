@@ -162,10 +162,7 @@ fn line(alloc: Global, name: &str, value: Option<&str>, rest: Lines) -> Result<L
         Some(characters) => Some(text(alloc, characters)?),
     };
     let name = text(alloc, name)?;
-    Ok(Lines::Next(
-        Attribute { name, value },
-        Box::new(alloc, rest)?,
-    ))
+    Ok(Lines::Next(Attribute { name, value }, Box::new(alloc, rest)?))
 }
 
 fn element(
@@ -186,7 +183,19 @@ fn row(alloc: Global, address: u64, characters: &str, rest: Tree) -> Result<Tree
     element(alloc, address, "li", Lines::End, kids, rest)
 }
 
-fn list(alloc: Global, rows: Tree) -> Result<Tree, NoMemory> {
+// A list of three rows.
+fn list(
+    alloc: Global,
+    first: u64,
+    one: &str,
+    second: u64,
+    two: &str,
+    third: u64,
+    three: &str,
+) -> Result<Tree, NoMemory> {
+    let rows = row(alloc, third, three, Tree::Empty)?;
+    let rows = row(alloc, second, two, rows)?;
+    let rows = row(alloc, first, one, rows)?;
     let list = element(alloc, 1, "ul", Lines::End, rows, Tree::Empty)?;
     root(alloc, list)
 }
@@ -197,12 +206,12 @@ fn a_text_and_an_attribute_are_escaped(rt: HostRuntime) -> Result<(), NoMemory> 
     let mut out = Vec::new(alloc);
     let lines = line(alloc, "title", Some("a<b>&\"c\u{a0}"), Lines::End)?;
     let kids = words(alloc, 2, "a<b>&\"c\u{a0}", Tree::Empty)?;
-    let shape = root(
-        alloc,
-        element(alloc, 1, "p", lines, kids, Tree::Empty)?,
-    )?;
+    let shape = root(alloc, element(alloc, 1, "p", lines, kids, Tree::Empty)?)?;
     let _page = step(alloc, &mut out, &bare(alloc)?, &shape)?;
-    assert_eq!(rt; out.as_slice(), "insert 0 0 (1 p title=\"a<b>&\\\"c\u{a0}\" (2 \"a<b>&\\\"c\u{a0}\"))\n<p title=\"a&lt;b&gt;&amp;&quot;c&nbsp;\">a&lt;b&gt;&amp;\"c&nbsp;</p>\n".as_bytes());
+    assert_eq!(rt;
+        out.as_slice(),
+        "insert 0 0 (1 p title=\"a<b>&\\\"c\u{a0}\" (2 \"a<b>&\\\"c\u{a0}\"))\n<p title=\"a&lt;b&gt;&amp;&quot;c&nbsp;\">a&lt;b&gt;&amp;\"c&nbsp;</p>\n".as_bytes()
+    );
     Ok(())
 }
 
@@ -210,19 +219,16 @@ fn a_text_and_an_attribute_are_escaped(rt: HostRuntime) -> Result<(), NoMemory> 
 fn rows_keep_their_numbers(rt: HostRuntime) -> Result<(), NoMemory> {
     let alloc = rt.alloc();
     let mut out = Vec::new(alloc);
-    let rows = row(alloc, 31, "C", Tree::Empty)?;
-    let rows = row(alloc, 21, "B", rows)?;
-    let rows = row(alloc, 11, "A", rows)?;
-    let first = step(alloc, &mut out, &bare(alloc)?, &list(alloc, rows)?)?;
-    let rows = row(alloc, 41, "D", Tree::Empty)?;
-    let rows = row(alloc, 11, "Z", rows)?;
-    let rows = row(alloc, 31, "C", rows)?;
-    let second = step(alloc, &mut out, &first, &list(alloc, rows)?)?;
-    let rows = row(alloc, 41, "D", Tree::Empty)?;
-    let rows = row(alloc, 31, "C", rows)?;
-    let rows = row(alloc, 11, "Q", rows)?;
-    let _third = step(alloc, &mut out, &second, &list(alloc, rows)?)?;
-    assert_eq!(rt; out.as_slice(), "insert 0 0 (1 ul (2 li (3 \"A\")) (4 li (5 \"B\")) (6 li (7 \"C\")))\n<ul><li>A</li><li>B</li><li>C</li></ul>\nremove 4\nmove 6 0\ninsert 1 2 (8 li (9 \"D\"))\ntext 3 \"Z\"\n<ul><li>C</li><li>Z</li><li>D</li></ul>\nmove 2 0\ntext 3 \"Q\"\n<ul><li>Q</li><li>C</li><li>D</li></ul>\n".as_bytes());
+    let shape = list(alloc, 11, "A", 21, "B", 31, "C")?;
+    let first = step(alloc, &mut out, &bare(alloc)?, &shape)?;
+    let shape = list(alloc, 31, "C", 11, "Z", 41, "D")?;
+    let second = step(alloc, &mut out, &first, &shape)?;
+    let shape = list(alloc, 11, "Q", 31, "C", 41, "D")?;
+    let _third = step(alloc, &mut out, &second, &shape)?;
+    assert_eq!(rt;
+        out.as_slice(),
+        "insert 0 0 (1 ul (2 li (3 \"A\")) (4 li (5 \"B\")) (6 li (7 \"C\")))\n<ul><li>A</li><li>B</li><li>C</li></ul>\nremove 4\nmove 6 0\ninsert 1 2 (8 li (9 \"D\"))\ntext 3 \"Z\"\n<ul><li>C</li><li>Z</li><li>D</li></ul>\nmove 2 0\ntext 3 \"Q\"\n<ul><li>Q</li><li>C</li><li>D</li></ul>\n".as_bytes()
+    );
     Ok(())
 }
 
@@ -239,7 +245,10 @@ fn an_attribute_comes_and_goes(rt: HostRuntime) -> Result<(), NoMemory> {
     let first = step(alloc, &mut out, &bare(alloc)?, &form(alloc, Some(""))?)?;
     let second = step(alloc, &mut out, &first, &form(alloc, Some(""))?)?;
     let _third = step(alloc, &mut out, &second, &form(alloc, None)?)?;
-    assert_eq!(rt; out.as_slice(), "insert 0 0 (1 \"yes\")\ninsert 0 1 (2 input disabled=\"\")\nyes<input disabled=\"\">\nyes<input disabled=\"\">\nunattr 2 disabled\nyes<input>\n".as_bytes());
+    assert_eq!(rt;
+        out.as_slice(),
+        "insert 0 0 (1 \"yes\")\ninsert 0 1 (2 input disabled=\"\")\nyes<input disabled=\"\">\nyes<input disabled=\"\">\nunattr 2 disabled\nyes<input>\n".as_bytes()
+    );
     Ok(())
 }
 
@@ -286,6 +295,9 @@ fn a_page_of_things_to_do(rt: HostRuntime) -> Result<(), NoMemory> {
     let second = step(alloc, &mut out, &first, &shape)?;
     let shape = to_do(alloc, Tree::Empty, true, "0 open")?;
     let _third = step(alloc, &mut out, &second, &shape)?;
-    assert_eq!(rt; out.as_slice(), "insert 0 0 (1 section class=\"todo\" (2 ul (3 li data-key=\"a\" (4 \"Milk\")) (5 li data-key=\"b\" (6 \"Tea\")) (7 li data-key=\"c\" (8 \"Bread\"))) (9 p (10 \"2 open\")))\n<section class=\"todo\"><ul><li data-key=\"a\">Milk</li><li data-key=\"b\">Tea</li><li data-key=\"c\">Bread</li></ul><p>2 open</p></section>\nremove 3\nremove 5\ntext 10 \"1 open\"\n<section class=\"todo\"><ul><li data-key=\"c\">Bread</li></ul><p>1 open</p></section>\nremove 7\ninsert 1 1 (11 p (12 \"Nothing here.\"))\ntext 10 \"0 open\"\n<section class=\"todo\"><ul></ul><p>Nothing here.</p><p>0 open</p></section>\n".as_bytes());
+    assert_eq!(rt;
+        out.as_slice(),
+        "insert 0 0 (1 section class=\"todo\" (2 ul (3 li data-key=\"a\" (4 \"Milk\")) (5 li data-key=\"b\" (6 \"Tea\")) (7 li data-key=\"c\" (8 \"Bread\"))) (9 p (10 \"2 open\")))\n<section class=\"todo\"><ul><li data-key=\"a\">Milk</li><li data-key=\"b\">Tea</li><li data-key=\"c\">Bread</li></ul><p>2 open</p></section>\nremove 3\nremove 5\ntext 10 \"1 open\"\n<section class=\"todo\"><ul><li data-key=\"c\">Bread</li></ul><p>1 open</p></section>\nremove 7\ninsert 1 1 (11 p (12 \"Nothing here.\"))\ntext 10 \"0 open\"\n<section class=\"todo\"><ul></ul><p>Nothing here.</p><p>0 open</p></section>\n".as_bytes()
+    );
     Ok(())
 }

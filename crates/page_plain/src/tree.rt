@@ -79,7 +79,13 @@ impl Look {
 
 impl Tree {
     /// A node before its siblings.
-    pub fn node(alloc: Global, key: u64, look: Look, kids: Tree, rest: Tree) -> Result<Tree, NoMemory>
+    pub fn node(
+        alloc: Global,
+        key: u64,
+        look: Look,
+        kids: Tree,
+        rest: Tree,
+    ) -> Result<Tree, NoMemory>
         ensures { IfOk result (λ t. forest_of t ≡ node_of key (look_of look) (forest_of kids) (forest_of rest)) }
     {
         let kids = Box::new(alloc, kids)?;
@@ -179,7 +185,13 @@ pub fn siblings(alloc: Global, tree: &Tree) -> Result<Numbers, NoMemory>
 }
 
 // A node with the same look.
-pub fn node_like(alloc: Global, key: u64, look: &Look, kids: Tree, rest: Tree) -> Result<Tree, NoMemory>
+pub fn node_like(
+    alloc: Global,
+    key: u64,
+    look: &Look,
+    kids: Tree,
+    rest: Tree,
+) -> Result<Tree, NoMemory>
     ensures { IfOk result (λ t. kinds_of t ≡ node_of key (seen (look_of look.now)) (kinds_of kids) (kinds_of rest)) }
 {
     let look = look.copy(alloc)?;
