@@ -47,6 +47,7 @@ fn copy_value(value: &Option<Text>) -> Result<Option<Text>, NoMemory>
     }
 }
 
+/// The same lines of attributes.
 pub fn copy_lines(alloc: Global, lines: &Lines) -> Result<Lines, NoMemory>
     ensures { IfOk result (λ r. lines_of r ≡ lines_of lines.now) }
 {
@@ -119,7 +120,7 @@ pub fn on(tree: &Tree, key: u64) -> bool
     }
 }
 
-// The keys in document order, before a list.
+/// The keys in document order, before a list.
 pub fn keys(alloc: Global, tree: &Tree, after: Numbers) -> Result<Numbers, NoMemory>
     ensures { IfOk result (λ r. numbers_of r ≡ keys_in (forest_of tree.now) ++ numbers_of after) }
 {
@@ -133,7 +134,7 @@ pub fn keys(alloc: Global, tree: &Tree, after: Numbers) -> Result<Numbers, NoMem
     }
 }
 
-// The children of the node of a key.
+/// The children of the node of a key.
 pub fn kids(tree: &Tree, key: u64) -> &Tree
     ensures by_key { forest_of result.now ≡ kids_in key (forest_of tree.now) }
     ensures on_page { kinds_of result.now ≡ kids_in key (kinds_of tree.now) }
@@ -152,7 +153,7 @@ pub fn kids(tree: &Tree, key: u64) -> &Tree
     }
 }
 
-// What the node of a key is, and a root where there is none.
+/// What the node of a key is, and a root where there is none.
 pub fn look_at(alloc: Global, tree: &Tree, key: u64) -> Result<Look, NoMemory>
     ensures by_key { IfOk result (λ x. look_of x ≡ label_in Root key (forest_of tree.now)) }
     ensures on_page { IfOk result (λ x. seen (look_of x) ≡ label_in Root key (kinds_of tree.now)) }
@@ -171,7 +172,7 @@ pub fn look_at(alloc: Global, tree: &Tree, key: u64) -> Result<Look, NoMemory>
     }
 }
 
-// The numbers of siblings.
+/// The numbers of siblings.
 pub fn siblings(alloc: Global, tree: &Tree) -> Result<Numbers, NoMemory>
     ensures { IfOk result (λ r. numbers_of r ≡ siblings_in (kinds_of tree.now)) }
 {
@@ -184,7 +185,7 @@ pub fn siblings(alloc: Global, tree: &Tree) -> Result<Numbers, NoMemory>
     }
 }
 
-// A node with the same look.
+/// A node with the same look.
 pub fn node_like(
     alloc: Global,
     key: u64,
@@ -198,7 +199,7 @@ pub fn node_like(
     Tree::node(alloc, key, look, kids, rest)
 }
 
-// The nodes that stand on another tree too.
+/// The nodes that stand on another tree too.
 pub fn kept(alloc: Global, tree: &Tree, other: &Tree) -> Result<Tree, NoMemory>
     ensures { IfOk result (λ r. kinds_of r ≡ pruned (λ n. stands_in n (kinds_of other.now)) (kinds_of tree.now)) }
 {
@@ -216,7 +217,7 @@ pub fn kept(alloc: Global, tree: &Tree, other: &Tree) -> Result<Tree, NoMemory>
     }
 }
 
-// The topmost nodes that don't stand on another tree, before a list.
+/// The topmost nodes that don't stand on another tree, before a list.
 pub fn gone(alloc: Global, tree: &Tree, other: &Tree, after: Numbers) -> Result<Numbers, NoMemory>
     ensures { IfOk result (λ r. numbers_of r ≡ tops (λ n. stands_in n (kinds_of other.now)) (kinds_of tree.now) ++ numbers_of after) }
 {
