@@ -22,10 +22,10 @@ use Rattle.formula_text.specs.Canonical.{written, operator_text, leaf_text}
 use Rattle.formula_text.specs.Lexing.{IsPlain, IsOneToken, HasTokens, CutsInto}
 
 -- blanks alone stand between the places
-abbrev Gap : List ℕ → ℕ → ℕ → Type 0
+abbrev pub Gap : List ℕ → ℕ → ℕ → Type 0
 Gap line f s = (f ≤ s) × (list_all is_blank (take (s - f) (drop f line)) ≡ true)
 
-no_gap : (line : List ℕ) (s : ℕ) → Gap line s s
+pub no_gap : (line : List ℕ) (s : ℕ) → Gap line s s
 no_gap line s = let z : s - s ≡ 0 = omega arith in (omega arith, rw z refl)
 
 move : (line p rest : List ℕ) (s : ℕ) → drop s line ≡ p ++ rest → drop (s + length p) line ≡ rest

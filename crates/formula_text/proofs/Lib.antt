@@ -5,3 +5,4 @@ pub mod Minimal
 pub mod Places
 pub mod Slots
 pub mod Sound
+pub mod Texts

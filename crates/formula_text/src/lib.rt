@@ -12,7 +12,9 @@ mod wired;
 mod writer;
 
 pub use judge::{has_long_text, has_untrack, is_above, put_names};
-pub use meaning::{fewest_parentheses, names_for_slots, one_formula};
+pub use meaning::{
+    canonical_text_reads, fewest_parentheses, leaves_are_tokens, names_for_slots, one_formula,
+};
 pub use reader::read_rough;
 pub use rough::Rough;
 pub use wired::{Allow, FormulaFault, MOST_HEIGHT, MOST_SOURCES, Wired, read_formula, wire};

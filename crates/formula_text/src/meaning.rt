@@ -1,10 +1,17 @@
 // What holds of the texts of formulas.
-ghost use Rattle.std.specs.Prelude.{◌≡◌, ◌≤◌, ℕ, List, length, take, drop};
-ghost use Rattle.sig_words.specs.Lexemes.{Lexeme};
-ghost use Rattle.formula_text.specs.Canonical.{minimal, unslotted};
+ghost use Rattle.std.specs.Prelude.{◌≡◌, ◌≤◌, ◌+◌, ◌++◌, ℕ, ℤ, Bool, List, true, false, length, slice_index, take, drop};
+ghost use Rattle.std.specs.Int.{w64};
+ghost use Rattle.std.specs.Int.RustNames.{FitsSigned};
+ghost use Rattle.sig_base.specs.declared.scalar.Scalar.TheVariants as scalar;
+ghost use Rattle.sig_base.specs.Words.{in_word, is_name};
+ghost use Rattle.sig_words.specs.Lexemes.{Lexeme, lexemes};
+ghost use Rattle.sig_words.specs.Tokens.{AreTokens, may_sign};
+ghost use Rattle.sig_words.specs.declared.token.Token.{Token as AToken};
+ghost use Rattle.formula_text.specs.Canonical.{canonical_text, minimal, unslotted};
 ghost use Rattle.formula_text.specs.Grammar.{Draft, IsFormula, IsLongest, Spells, spelled};
 ghost use Rattle.formula_text.specs.Judging.{names, slotted};
-ghost use Rattle.formula_text.specs.Signs.{NoOperator, signs};
+ghost use Rattle.formula_text.specs.Lexing.{CutsInto, HasTokens, IsOneToken};
+ghost use Rattle.formula_text.specs.Signs.{NoOperator, constant, name, signs};
 
 /// A text spells one formula.
 pub fn one_formula()
@@ -22,4 +29,21 @@ pub fn fewest_parentheses()
     ensures spells { (x : Draft) → Spells (spelled (minimal 0 x)) x }
     ensures reads { (x : Draft) (ls : List Lexeme) (n : ℕ) → n ≤ length ls → signs (take n ls) ≡ spelled (minimal 0 x)
         → NoOperator (signs (drop n ls)) → IsLongest ls n x }
+{}
+
+/// The tokens of the canonical text of a formula spell the formula, where the text of each leaf is one token; so they do in a
+/// longer line, where a `-` may be a sign before them and nothing that lengthens a word stands behind them.
+pub fn canonical_text_reads()
+    ensures alone { (x : Draft) (ts : List AToken) → HasTokens (minimal 0 x) → AreTokens (canonical_text x) ts
+        → IsFormula (lexemes (canonical_text x) ts) x }
+    ensures in_line { (x : Draft) (line : List ℕ) (from : ℕ) (back : List ℕ) → HasTokens (minimal 0 x)
+        → drop from line ≡ canonical_text x ++ back → may_sign line from ≡ true → in_word (slice_index back 0) ≡ false
+        → CutsInto line from (from + length (canonical_text x)) (spelled (minimal 0 x)) }
+{}
+
+/// A name, `true`, `false` and a number are written as one token, which says them.
+pub fn leaves_are_tokens()
+    ensures names { (n : List ℕ) → is_name n ≡ true → IsOneToken (name n) }
+    ensures truths { (b : Bool) → IsOneToken (constant (scalar.Bool b)) }
+    ensures numbers { (z : ℤ) → FitsSigned w64 z → IsOneToken (constant (scalar.Int z)) }
 {}
