@@ -54,11 +54,11 @@ fn answers(
 ) -> Result<bool, NoMemory> {
     let mut out = Vec::new(alloc);
     match step(alloc, formula, None, known)? {
-        Step::Done(value) => put_value(alloc, &mut out, &value)?,
-        Step::Fail(fault) => put_fault(alloc, &mut out, fault)?,
+        Step::Done(value) => put_value(&mut out, &value)?,
+        Step::Fail(fault) => put_fault(&mut out, fault)?,
         Step::Read(slot) => {
             out.extend_from_slice(b"read ")?;
-            put_value(alloc, &mut out, &Value::Int(slot as i64))?;
+            put_value(&mut out, &Value::Int(slot as i64))?;
         }
     }
     Ok(out.as_slice() == want.as_bytes())
