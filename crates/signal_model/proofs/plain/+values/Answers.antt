@@ -34,10 +34,10 @@ evaluated-asking-smaller g t c =
     let new : IsNew (length c.computed.inside.recipe.slots) c.in-Read.slot c.asking.known.items =
     subst (IsNew (length c.computed.inside.recipe.slots) c.in-Read.slot) c.deref.ensures.value (c.in_ok-slot.ensures.read c.in-Read.slot asks) in
     let fewer : unknown_slots (length c.computed.inside.recipe.slots) c.asking.known.items
-        ≡ suc (unknown_slots (length c.computed.inside.recipe.slots) (learnt c.asking.known.items c.in-Read.slot c.in-Good.value)) =
+    ≡ suc (unknown_slots (length c.computed.inside.recipe.slots) (learnt c.asking.known.items c.in-Read.slot c.in-Good.value)) =
     unknown_less (length c.computed.inside.recipe.slots) c.in-Read.slot c.in-Good.value c.asking.known.items new in
     let now : unknown_slots (length c.computed.inside.recipe.slots) c.learn.new.known.items
-        ≡ unknown_slots (length c.computed.inside.recipe.slots) (learnt c.asking.known.items c.in-Read.slot c.in-Good.value) =
+    ≡ unknown_slots (length c.computed.inside.recipe.slots) (learnt c.asking.known.items c.in-Read.slot c.in-Good.value) =
     ap (unknown_slots (length c.computed.inside.recipe.slots)) c.in_ok-learn-in-Good.ensures.known in
     omega (arith, fewer, now)
 
