@@ -1,2 +1,4 @@
 pub mod Entries
 pub mod Changing
+pub mod Following
+pub mod Cleaning

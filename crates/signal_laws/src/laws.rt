@@ -1,5 +1,6 @@
 // Laws of the memos, for all hosts, signals and names.
 ghost use Rattle.signal_laws.specs.Keeping.{DisposeLaw, EmptyLaw, RewireLaw, SetLaw};
+ghost use Rattle.signal_laws.specs.Settled.{CleanLaw};
 
 /// Where nothing stands, no memos are sound.
 pub fn empty_law()
@@ -19,4 +20,9 @@ pub fn rewire_law()
 /// And the disposal of a signal.
 pub fn dispose_law()
     ensures { DisposeLaw }
+{}
+
+/// Where a clean computed is asked for, nothing runs, and what is kept of it is that from scratch.
+pub fn clean_law()
+    ensures { CleanLaw }
 {}
