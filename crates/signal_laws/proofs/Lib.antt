@@ -2,3 +2,4 @@ pub mod Entries
 pub mod Changing
 pub mod Following
 pub mod Cleaning
+pub mod Making

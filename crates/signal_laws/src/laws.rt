@@ -1,10 +1,20 @@
 // Laws of the memos, for all hosts, signals and names.
-ghost use Rattle.signal_laws.specs.Keeping.{DisposeLaw, EmptyLaw, RewireLaw, SetLaw};
+ghost use Rattle.signal_laws.specs.Keeping.{CellLaw, ComputedLaw, DisposeLaw, EmptyLaw, RewireLaw, SetLaw};
 ghost use Rattle.signal_laws.specs.Settled.{CleanLaw};
 
 /// Where nothing stands, no memos are sound.
 pub fn empty_law()
     ensures { EmptyLaw }
+{}
+
+/// The making of a cell keeps the memos sound.
+pub fn cell_law()
+    ensures { CellLaw }
+{}
+
+/// So does the making of a computed.
+pub fn computed_law()
+    ensures { ComputedLaw }
 {}
 
 /// A set of a cell, or an edit of its rows, keeps the memos sound.
