@@ -3,3 +3,4 @@ pub mod Changing
 pub mod Following
 pub mod Cleaning
 pub mod Making
+pub mod Ordering
