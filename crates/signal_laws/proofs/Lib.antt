@@ -4,3 +4,4 @@ pub mod Following
 pub mod Cleaning
 pub mod Making
 pub mod Ordering
+pub mod Running
