@@ -163,11 +163,11 @@ module _ (hosts : Hosts) (w : Signals) where
 
   -- ---- nothing runs
 
-  abbrev Quiet : Memos → Visit → Type 0
+  abbrev pub Quiet : Memos → Visit → Type 0
   Quiet k v = must_run k v.computed.name v.path ≡ false
 
   -- a right computed that needn't run needn't by any path of reads
-  quiet_here : (k : Memos) (n : ℕ) (c : Computed) (path : List ℕ) → standing w n ≡ IsComputed c → must_run k n [] ≡ false → IsRight hosts w k n c → IsChain hosts w n path → must_run k n path ≡ false
+  pub quiet_here : (k : Memos) (n : ℕ) (c : Computed) (path : List ℕ) → standing w n ≡ IsComputed c → must_run k n [] ≡ false → IsRight hosts w k n c → IsChain hosts w n path → must_run k n path ≡ false
   quiet_here k n c path e dirty right chain = go (calm_of k n dirty)
     where
       go : Calm k n → must_run k n path ≡ false
@@ -244,7 +244,7 @@ module _ (hosts : Hosts) (w : Signals) where
           right_at : (x : ℕ) (d : Computed) → x ≡ n → IsComputed d ≡ IsComputed c → IsRight hosts w k n c → IsRight hosts w k x d
           right_at x d xn dc r = subst (λ y. IsRight hosts w k y d) (sym xn) (subst (λ y. IsRight hosts w k n y) (sym (ap (λ s. comp_of s c) dc)) r)
 
-  quiet_settle : (vs : List Visit) (s : Settled) → AllByRecursion (Quiet s.memos) vs → settle_visits hosts w vs s ≡ s
+  pub quiet_settle : (vs : List Visit) (s : Settled) → AllByRecursion (Quiet s.memos) vs → settle_visits hosts w vs s ≡ s
   quiet_settle [] s h = refl
   quiet_settle (v ∷ vs) s h =
       ap (λ (x : Settled). settle_visits hosts w vs x) (ap (λ b. cond b (record {

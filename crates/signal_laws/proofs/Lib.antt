@@ -5,3 +5,4 @@ pub mod Cleaning
 pub mod Making
 pub mod Ordering
 pub mod Running
+pub mod Settling

@@ -1,6 +1,7 @@
 // Laws of the memos, for all hosts, signals and names.
 ghost use Rattle.signal_laws.specs.Keeping.{CellLaw, ComputedLaw, DisposeLaw, EmptyLaw, RewireLaw, SetLaw};
 ghost use Rattle.signal_laws.specs.Settled.{CleanLaw};
+ghost use Rattle.signal_laws.specs.Settling.{AgainLaw, AskedLaw, SettleLaw};
 
 /// Where nothing stands, no memos are sound.
 pub fn empty_law()
@@ -35,4 +36,19 @@ pub fn dispose_law()
 /// Where a clean computed is asked for, nothing runs, and what is kept of it is that from scratch.
 pub fn clean_law()
     ensures { CleanLaw }
+{}
+
+/// Settling keeps the memos sound.
+pub fn settle_law()
+    ensures { SettleLaw }
+{}
+
+/// After settling, each name that was asked for stands with its value from scratch.
+pub fn asked_law()
+    ensures { AskedLaw }
+{}
+
+/// Settling the same names again runs nothing.
+pub fn again_law()
+    ensures { AgainLaw }
 {}
