@@ -6,3 +6,5 @@ pub mod Making
 pub mod Ordering
 pub mod Running
 pub mod Settling
+pub mod Keepers
+pub mod Currency

@@ -1,4 +1,6 @@
 // Laws of the memos, for all hosts, signals and names.
+ghost use Rattle.signal_laws.specs.Currency.{CurrencyLaw};
+ghost use Rattle.signal_laws.specs.Keepers.{EvaluatedSourceLaw, KeptCycleLaw, KeptPathLaw};
 ghost use Rattle.signal_laws.specs.Keeping.{CellLaw, ComputedLaw, DisposeLaw, EmptyLaw, RewireLaw, SetLaw};
 ghost use Rattle.signal_laws.specs.Settled.{CleanLaw};
 ghost use Rattle.signal_laws.specs.Settling.{AgainLaw, AskedLaw, SettleLaw};
@@ -51,4 +53,24 @@ pub fn asked_law()
 /// Settling the same names again runs nothing.
 pub fn again_law()
     ensures { AgainLaw }
+{}
+
+/// Each recorded run read only what is current at its moment, and its outcome is the value from scratch.
+pub fn currency_law()
+    ensures { CurrencyLaw }
+{}
+
+/// Each cycle of kept sources has a member that must run or holds `cycle`.
+pub fn kept_cycle_law()
+    ensures { KeptCycleLaw }
+{}
+
+/// What is come to along computeds that neither must run nor hold `cycle` isn't among them.
+pub fn kept_path_law()
+    ensures { KeptPathLaw }
+{}
+
+/// Where a kept source is being evaluated, its keeper must run, unless it holds `cycle`.
+pub fn evaluated_source_law()
+    ensures { EvaluatedSourceLaw }
 {}
