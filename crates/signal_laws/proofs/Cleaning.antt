@@ -1,22 +1,22 @@
 -- A clean computed's memo is from scratch, and where it is asked for nothing runs.
-use Rattle.std.proofs.Common.{◌≡◌, ℕ, zero, suc, ◌+◌, ◌<◌, ◌≤◌, ◌==◌, ◌||◌, ◌&&◌, not, Bool, true, false, cond, List, [], ◌∷◌, ◌++◌, map, Option, Some, None, length, refl, sym, ap, ◌∙◌, subst, arith, ◌⊎◌, inl, inr}
+use Rattle.std.proofs.Common.{◌≡◌, ℕ, zero, suc, ◌+◌, ◌<◌, ◌≤◌, ◌==◌, ◌||◌, ◌&&◌, not, Bool, true, false, cond, List, [], ◌∷◌, ◌++◌, Some, length, refl, sym, ap, ◌∙◌, subst, arith, ◌⊎◌, inl, inr}
 use Rattle.std.specs.List.{AllByRecursion}
 use Rattle.std.proofs.lemmas.Bool.{eqb-true, eq-eqb}
-use Rattle.sig_base.specs.declared.value.Outcome.{Outcome}
 use Rattle.signal_model.specs.Recipes.{Hosts}
 use Rattle.signal_model.specs.Standing.{Signals, Computed, Stands, IsGone, IsCell, IsComputed, is_computed, is_in, standing, computed_at, or_gone}
-use Rattle.signal_model.specs.Values.{Seen, Evaluation, value_of, evaluated, reads_of, names_left}
+use Rattle.signal_model.specs.Values.{Seen, value_of, evaluated, reads_of, names_left}
 use Rattle.signal_model.specs.Orders.{Visit, visited, visits, visit_case, visit}
 use Rattle.signal_model.specs.Memos.{Source, Memo, Memos, memo_of, sources_in, source_names, sources_of, is_cycle, differs, is_moved, some_moved, must_run_by, must_run}
 use Rattle.signal_model.specs.Settling.{Settled, with_run, settle_visits}
-use Rattle.signal_model.specs.Marks.{Mark, Clean, Checked, Dirty, mark_of, is_due, some_source, due_below}
+use Rattle.signal_model.specs.Marks.{Clean, Checked, Dirty, mark_of, is_due, some_source, due_below}
 use Rattle.signal_model.specs.Sound.{outcome_here, standing_outcome, names_of, IsKeptPath, IsSound}
 use Rattle.signal_model.specs.Laws.{IsRead, Reads, IsChain, one}
 use Rattle.signal_model.proofs.Paths.{tested, name_is, left_less, value_run, value_gone, value_cell, path_law, no_loop, goes_on, chain_goes}
 use Rattle.signal_model.proofs.Visits.{visit_by_cases}
 use Rattle.signal_laws.specs.Settled.{IsRight, CleanLaw}
-use Rattle.signal_laws.proofs.Changing.{Calm, calm_of, or_fst, or_snd, some_is}
-use Rattle.signal_laws.proofs.Following.{IsRun, StandAs, follows_run, in_head, in_tail}
+use Rattle.signal_laws.proofs.Changing.{Calm, calm_of, some_is}
+use Rattle.signal_laws.proofs.Following.{IsRun, follows_run, in_head, in_tail}
+use Rattle.signal_laws.proofs.Bools.{or_fst, or_snd, or_none}
 
 -- ---- below what is clean
 
@@ -57,9 +57,11 @@ below_source w k n far m e at h on =
     let q : (is_due w k m || due_below far w k m) ≡ false = some_off (λ x. is_due w k x || due_below far w k x) e.sources m h' on in
     (or_fst (is_due w k m) (due_below far w k m) q, or_snd (is_due w k m) (due_below far w k m) q)
 
+-- a kept computed that isn't due needn't run
 source_calm : (w : Signals) (k : Memos) (m : ℕ) (d : Computed) → standing w m ≡ IsComputed d → is_due w k m ≡ false → must_run k m [] ≡ false
 source_calm w k m d e h = sym (ap (λ s. is_computed s && must_run k m []) e) ∙ h
 
+-- what is in two lists
 in_append : (m : ℕ) (xs ys : List ℕ) → is_in m (xs ++ ys) ≡ (is_in m xs || is_in m ys)
 in_append m [] ys = refl
 in_append m (x ∷ xs) ys = ap (λ b. m == x || b) (in_append m xs ys) ∙ shift (m == x) (is_in m xs) (is_in m ys)
@@ -68,9 +70,7 @@ in_append m (x ∷ xs) ys = ap (λ b. m == x || b) (in_append m xs ys) ∙ shift
     shift true b c = refl
     shift false b c = refl
 
-pub or_none : (a b : Bool) → a ≡ false → b ≡ false → (a || b) ≡ false
-or_none a b g h = rw (g, h) refl
-
+-- what is read is among the names
 pub is_read-in : (n : ℕ) (ss : List Seen) → IsRead n ss → is_in n (names_of ss) ≡ true
 is_read-in n [] r = absurd r
 is_read-in n (s ∷ ss) r = elim r [
@@ -78,6 +78,7 @@ is_read-in n (s ∷ ss) r = elim r [
   | inr t ↦ in_tail n s.name (names_of ss) (is_read-in n ss t)
 ]
 
+-- and what is among the names is read
 pub is_in-read : (n : ℕ) (ss : List Seen) → is_in n (names_of ss) ≡ true → IsRead n ss
 is_in-read n [] h = cc
 is_in-read n (s ∷ ss) h = go (n == s.name) refl h (is_in-read n ss)
@@ -127,6 +128,7 @@ module _ (hosts : Hosts) (w : Signals) where
       (λ m on isin. ok m on isin ∙ sym (read_value n c m st on)) in
       record { memo = e; at = at; outcome = sym r.outcome ∙ sym (value_run hosts w n [] c st refl); names = sym r.names }
 
+  -- the memos of these names are right
   abbrev Told : Memos → List ℕ → Type 0
   Told k Q = (x : ℕ) → is_in x Q ≡ true → (d : Computed) → standing w x ≡ IsComputed d → IsRight hosts w k x d
 
@@ -163,6 +165,7 @@ module _ (hosts : Hosts) (w : Signals) where
 
   -- ---- nothing runs
 
+  -- a visit that doesn't run
   abbrev pub Quiet : Memos → Visit → Type 0
   Quiet k v = must_run k v.computed.name v.path ≡ false
 
@@ -189,18 +192,22 @@ module _ (hosts : Hosts) (w : Signals) where
             ap (λ x. must_run_by k x path) q.at ∙ (λ i. cond (fine.0 i) (not (q.memo.generation == k.generation)) (fine.1 i || moved i))
       ]
 
+  -- one more has it too
   all_snoc : (P : Visit → Type 0) (vs : List Visit) (v : Visit) → AllByRecursion P vs → P v → AllByRecursion P (vs ++ v ∷ [])
   all_snoc P [] v h p = (p, tt)
   all_snoc P (u ∷ us) v h p = (h.0, all_snoc P us v h.1 p)
 
+  -- nothing is due here or below
   abbrev Below : Memos → List ℕ → ℕ → Type 0
   Below k path n = (c : Computed) → standing w n ≡ IsComputed c → (must_run k n [] ≡ false) × (due_below (names_left w.computeds path) w k n ≡ false)
 
+  -- the visits of all reads run nothing
   quiet_visits : (k : Memos) (c : Computed) (path : List ℕ) → ((m : ℕ) (done : List Visit) → IsRead m (reads_of hosts w c) → AllByRecursion (Quiet k) done → AllByRecursion (Quiet k) (visit hosts w path m done)) →
       (ss : List Seen) → ((m : ℕ) → IsRead m ss → IsRead m (reads_of hosts w c)) → (done : List Visit) → AllByRecursion (Quiet k) done → AllByRecursion (Quiet k) (visits (visit hosts w path) ss done)
   quiet_visits k c path f [] sub done h = h
   quiet_visits k c path f (s ∷ ss) sub done h = quiet_visits k c path f ss (λ m r. sub m (inr r)) (visit hosts w path s.name done) (f s.name done (sub s.name (inl refl)) h)
 
+  -- the visit of what is clean runs nothing
   quiet_visit : (far : ℕ) (k : Memos) (n : ℕ) (path : List ℕ) (done : List Visit) → IsSound hosts w k → Below k path n → IsChain hosts w n path → Told k path →
       names_left w.computeds path < far → AllByRecursion (Quiet k) done → AllByRecursion (Quiet k) (visit hosts w path n done)
   quiet_visit zero k n path done sound below chain told lt h = absurd (omega arith)
@@ -244,6 +251,7 @@ module _ (hosts : Hosts) (w : Signals) where
           right_at : (x : ℕ) (d : Computed) → x ≡ n → IsComputed d ≡ IsComputed c → IsRight hosts w k n c → IsRight hosts w k x d
           right_at x d xn dc r = subst (λ y. IsRight hosts w k y d) (sym xn) (subst (λ y. IsRight hosts w k n y) (sym (ap (λ s. comp_of s c) dc)) r)
 
+  -- where no visit runs, settling leaves all as it was
   pub quiet_settle : (vs : List Visit) (s : Settled) → AllByRecursion (Quiet s.memos) vs → settle_visits hosts w vs s ≡ s
   quiet_settle [] s h = refl
   quiet_settle (v ∷ vs) s h =
@@ -252,6 +260,7 @@ module _ (hosts : Hosts) (w : Signals) where
         runs = s.runs ++ record { name = v.computed.name; evaluation = evaluated hosts w v.computed [] } ∷ [];
       }) s) h.0) ∙ quiet_settle vs s h.1
 
+-- what the mark says
 clean_mark : (w : Signals) (k : Memos) (n : ℕ) → mark_of w k n ≡ Clean → (must_run k n [] ≡ false) × (due_below (length w.computeds) w k n ≡ false)
 clean_mark w k n h = go (must_run k n []) (due_below (length w.computeds) w k n) h
   where
@@ -260,6 +269,7 @@ clean_mark w k n h = go (must_run k n []) (due_below (length w.computeds) w k n)
     go false true q = cc
     go false false q = (refl, refl)
 
+-- the law of clean computeds
 pub clean_law : CleanLaw
 clean_law hosts w k n c sound stands h =
     let m : (must_run k n [] ≡ false) × (due_below (length w.computeds) w k n ≡ false) = clean_mark w k n h in

@@ -1,5 +1,5 @@
 -- Each run reads only what is current.
-use Rattle.std.proofs.Common.{◌≡◌, ℕ, zero, suc, ◌==◌, ◌||◌, Bool, true, false, cond, List, [], ◌∷◌, ◌++◌, length, append_assoc, append-nil, refl, sym, ap, ◌∙◌, subst, ◌⊎◌, inl, inr}
+use Rattle.std.proofs.Common.{◌≡◌, ℕ, zero, suc, ◌==◌, ◌||◌, Bool, true, false, cond, List, [], ◌∷◌, ◌++◌, length, append_assoc, refl, sym, ◌∙◌, subst, ◌⊎◌, inl, inr}
 use Rattle.std.specs.Prelude.{slice_index}
 use Rattle.std.specs.List.{AllByRecursion}
 use Rattle.std.proofs.lemmas.Bool.{eqb-true}
@@ -11,49 +11,51 @@ use Rattle.sig_base.specs.declared.value.Step.{Step}
 use Rattle.sig_base.specs.declared.value.Step.TheVariants.{Read, Done, Fail}
 use Rattle.sig_base.specs.declared.value.Known.{Known}
 use Rattle.signal_model.specs.Recipes.{Hosts, Recipe, answer_of}
-use Rattle.signal_model.specs.Standing.{Signals, Computed, Stands, IsGone, IsCell, IsComputed, is_in, standing}
+use Rattle.signal_model.specs.Standing.{Signals, Stands, IsGone, IsCell, IsComputed, is_in, standing}
 use Rattle.signal_model.specs.Values.{Seen, Evaluation, learnt, after_read, after_step, asked_within, unknown_slots, value_of, evaluated, reads_of}
 use Rattle.signal_model.specs.Orders.{Visit, evaluation_order}
 use Rattle.signal_model.specs.Memos.{Memos, must_run}
-use Rattle.signal_model.specs.Settling.{Run, Settled, with_run, settle_visit, settle_visits, settled}
+use Rattle.signal_model.specs.Settling.{Run, Settled, with_run, settle_visit, settle_visits}
 use Rattle.signal_model.specs.Sound.{standing_outcome}
 use Rattle.signal_model.specs.Laws.{IsRead, Reads, Leads, one}
 use Rattle.signal_model.proofs.Paths.{cycle_law, value_run, goes_on, chain_goes}
-use Rattle.signal_laws.specs.Keeping.{AreKept}
 use Rattle.signal_laws.specs.Currency.{IsCurrent, settled_first, IsCurrentRun, CurrencyLaw}
 use Rattle.signal_laws.proofs.Cleaning.{right_source, read_value}
 use Rattle.signal_laws.proofs.Ordering.{Placed, AreOrdered, seen_after, order_is}
-use Rattle.signal_laws.proofs.Settling.{IsDone, State, visit_state, first_state}
-
-either : (a b : Bool) → (a || b) ≡ true → (a ≡ true) ⊎ (b ≡ true)
-either true b h = inl refl
-either false b h = inr h
+use Rattle.signal_laws.proofs.Settling.{State, visit_state, first_state}
+use Rattle.signal_laws.proofs.Bools.{either}
 
 -- each read has the outcome of its source
 abbrev AreOf : (ℕ → Outcome) → List Seen → Type 0
 AreOf source ss = AllByRecursion (λ (s : Seen). s.outcome ≡ source s.name) ss
 
+-- after a read
 read_of : (source : ℕ → Outcome) (m : ℕ) (o : Outcome) (f : Value → Evaluation) → source m ≡ o → ((v : Value) → AreOf source (f v).reads) → AreOf source (after_read m o f).reads
 read_of source m (Good v) f e k = (sym e, k v)
 read_of source m (Bad x) f e k = (sym e, tt)
 
+-- after an answer
 step_of : (source : ℕ → Outcome) (st : Step) (slots : List ℕ) (f : ℕ → Value → Evaluation) → ((s : ℕ) (v : Value) → AreOf source (f s v).reads) → AreOf source (after_step st slots source f).reads
 step_of source (Done v) slots f k = tt
 step_of source (Fail x) slots f k = tt
 step_of source (Read s) slots f k = read_of source (slice_index slots s) (source (slice_index slots s)) (f s) refl (k s)
 
+-- and of a whole evaluation
 asked_of : (t : ℕ) (hosts : Hosts) (r : Recipe) (source : ℕ → Outcome) (known : List Known) → AreOf source (asked_within t hosts r source known).reads
 asked_of zero hosts r source known = tt
 asked_of (suc t) hosts r source known = step_of source (answer_of hosts r known) r.slots (λ s v. asked_within t hosts r source (learnt known s v)) (λ s v. asked_of t hosts r source (learnt known s v))
 
+-- one run more has it too
 all_snoc : (P : Run → Type 0) (rs : List Run) (r : Run) → AllByRecursion P rs → P r → AllByRecursion P (rs ++ r ∷ [])
 all_snoc P [] r h p = (p, tt)
 all_snoc P (u ∷ us) r h p = (h.0, all_snoc P us r h.1 p)
 
+-- one name more is seen
 seen_snoc : (seen : List ℕ) (vs : List Visit) (v : Visit) → seen_after seen (vs ++ v ∷ []) ≡ v.computed.name ∷ seen_after seen vs
 seen_snoc seen [] v = refl
 seen_snoc seen (u ∷ us) v = seen_snoc (u.computed.name ∷ seen) us v
 
+-- one visit more is settled
 settle_snoc : (hosts : Hosts) (w : Signals) (vs : List Visit) (v : Visit) (s : Settled) → settle_visits hosts w (vs ++ v ∷ []) s ≡ settle_visit hosts w v (settle_visits hosts w vs s)
 settle_snoc hosts w [] v s = refl
 settle_snoc hosts w (u ∷ us) v s = settle_snoc hosts w us v (settle_visit hosts w u s)
@@ -84,6 +86,7 @@ module _ (hosts : Hosts) (w : Signals) where
       ]
 
   module _ (k : Memos) (asked : List ℕ) where
+    -- the recorded runs are current
     runs_current : (before vs : List Visit) → evaluation_order hosts w asked ≡ before ++ vs → State hosts w (settled_first hosts w k before).memos (seen_after [] before) → AreOrdered hosts w (seen_after [] before) vs →
         AllByRecursion (IsCurrentRun hosts w k asked) (settled_first hosts w k before).runs → AllByRecursion (IsCurrentRun hosts w k asked) (settle_visits hosts w vs (settled_first hosts w k before)).runs
     runs_current before [] order st o all = all
@@ -120,5 +123,6 @@ module _ (hosts : Hosts) (w : Signals) where
           outcome = sym (value_run hosts w v.computed.name [] v.computed o.0.stands refl);
         })
 
+-- each recorded run reads what is current
 pub currency_law : CurrencyLaw
 currency_law hosts w k asked kept = runs_current hosts w k asked [] (evaluation_order hosts w asked) refl (first_state hosts w k kept) (order_is hosts w asked).ordered tt

@@ -1,7 +1,7 @@
 -- A recipe that follows its kept sources goes as from scratch where they stand as from scratch.
-use Rattle.std.proofs.Common.{◌≡◌, ℕ, ◌==◌, ◌||◌, Bool, true, false, List, [], ◌∷◌, map, refl, sym, ap, ◌∙◌, subst, ◌⊎◌, inl, inr}
+use Rattle.std.proofs.Common.{◌≡◌, ℕ, ◌==◌, ◌||◌, Bool, true, false, List, [], ◌∷◌, refl, sym, ap, ◌∙◌, subst, inl, inr}
 use Rattle.std.specs.Prelude.{slice_index}
-use Rattle.std.proofs.lemmas.Bool.{eqb-true, eq-eqb}
+use Rattle.std.proofs.lemmas.Bool.{eq-eqb}
 use Rattle.sig_base.specs.declared.value.Value.{Value}
 use Rattle.sig_base.specs.declared.value.Outcome.{Outcome}
 use Rattle.sig_base.specs.declared.value.Outcome.TheVariants.{Good, Bad}
@@ -10,12 +10,12 @@ use Rattle.sig_base.specs.declared.value.Step.TheVariants.{Read, Done, Fail}
 use Rattle.sig_base.specs.declared.value.Known.{Known}
 use Rattle.signal_model.specs.Recipes.{Hosts, Recipe, answer_of}
 use Rattle.signal_model.specs.Standing.{Signals, is_in}
-use Rattle.signal_model.specs.Values.{Seen, Evaluation, learnt, after_read, after_step, asked_from}
+use Rattle.signal_model.specs.Values.{Evaluation, learnt, after_read, after_step, asked_from}
 use Rattle.signal_model.specs.Memos.{Source, Memos, source_names, differs, some_moved}
 use Rattle.signal_model.specs.Sound.{standing_outcome, EndsWith, AfterSource, Unless, Follows, names_of}
 use Rattle.signal_model.specs.Laws.{IsRead}
 use Rattle.signal_model.proofs.Asking.{asked_by_steps}
-use Rattle.signal_laws.proofs.Changing.{or_fst, or_snd}
+use Rattle.signal_laws.proofs.Bools.{or_fst, or_snd, or_right}
 
 -- an evaluation read these sources and no other, and came to the outcome
 pub record IsRun (e : Evaluation) (ss : List Source) (o : Outcome) : Type 0 where
@@ -27,24 +27,24 @@ head_read : (m : ℕ) (x : Outcome) (f : Value → Evaluation) → IsRead m (aft
 head_read m (Good v) f = inl refl
 head_read m (Bad e) f = inl refl
 
-or_later : (a b : Bool) → b ≡ true → (a || b) ≡ true
-or_later true b q = refl
-or_later false b q = q
-
+-- a head is in its list
 pub in_head : (m : ℕ) (ms : List ℕ) → is_in m (m ∷ ms) ≡ true
 in_head m ms = let e : (m == m) ≡ true = eq-eqb m m refl in rw e refl
 
+-- what is in the tail is in the list
 pub in_tail : (m x : ℕ) (ms : List ℕ) → is_in m ms ≡ true → is_in m (x ∷ ms) ≡ true
-in_tail m x ms h = or_later (m == x) (is_in m ms) h
+in_tail m x ms h = or_right (m == x) (is_in m ms) h
 
 -- the sources stand as the evaluation finds them
 abbrev pub StandAs : Signals → Memos → (ℕ → Outcome) → Evaluation → List Source → Type 0
 StandAs w k source e ss = (m : ℕ) → IsRead m e.reads → is_in m (source_names ss) ≡ true → standing_outcome w k m ≡ source m
 
 module _ (hosts : Hosts) (w : Signals) (k : Memos) (r : Recipe) (source : ℕ → Outcome) where
+  -- the evaluation by its next answer
   step_is : (known : List Known) (st : Step) → answer_of hosts r known ≡ st → asked_from hosts r source known ≡ after_step st r.slots source (λ s v. asked_from hosts r source (learnt known s v))
   step_is known st e = asked_by_steps hosts r source known ∙ (λ i. after_step (e i) r.slots source (λ s v. asked_from hosts r source (learnt known s v)))
 
+  -- the recipe goes as from scratch
   pub follows_run : (o : Outcome) (known : List Known) (ss : List Source) → Follows hosts w k r o known ss → some_moved k [] ss ≡ false → StandAs w k source (asked_from hosts r source known) ss → IsRun (asked_from hosts r source known) ss o
   follows_run o known [] f calm ok = go (answer_of hosts r known) refl f
     where

@@ -1,14 +1,14 @@
 -- Ways along kept sources that come back.
-use Rattle.std.proofs.Common.{◌≡◌, ℕ, ◌==◌, ◌||◌, not, Bool, true, false, cond, List, [], ◌∷◌, Option, Some, None, refl, sym, ap, ◌∙◌, subst, ◌⊎◌, inl, inr}
+use Rattle.std.proofs.Common.{◌≡◌, ℕ, ◌==◌, ◌||◌, not, Bool, true, false, cond, List, [], ◌∷◌, refl, sym, ap, ◌∙◌, ◌⊎◌, inl, inr}
 use Rattle.std.proofs.lemmas.Bool.{eqb-true}
-use Rattle.signal_model.specs.Recipes.{Hosts}
 use Rattle.signal_model.specs.Standing.{Signals, is_in}
-use Rattle.signal_model.specs.Memos.{Source, Memo, Memos, memo_of, sources_in, source_names, is_cycle, differs, some_moved, must_run_by, must_run}
-use Rattle.signal_model.specs.Sound.{kept_outcome, Keeps, IsKeptPath, IsSound}
+use Rattle.signal_model.specs.Memos.{Source, Memos, memo_of, sources_in, source_names, is_cycle, differs, some_moved, must_run_by, must_run}
+use Rattle.signal_model.specs.Sound.{kept_outcome, Keeps, IsKeptPath}
 use Rattle.signal_model.proofs.Paths.{tested}
 use Rattle.signal_laws.specs.Keepers.{HasSource, IsSourcePath, IsBroken, KeptCycleLaw, KeptPathLaw, EvaluatedSourceLaw}
 use Rattle.signal_laws.proofs.Changing.{Calm, calm_of}
 use Rattle.signal_laws.proofs.Following.{in_head, in_tail}
+use Rattle.signal_laws.proofs.Bools.{either, or_left, or_right}
 
 -- a keeper that neither must run nor holds the fault cycle, or why not
 keeper : (w : Signals) (k : Memos) (p n : ℕ) → HasSource w k p n → ((must_run k p [] ≡ true) ⊎ (is_cycle (kept_outcome (memo_of k p)) ≡ true)) ⊎ Keeps w k p n
@@ -41,23 +41,13 @@ broken_or w k n (p ∷ ps) c = elim (keeper w k p n c.0) [
   ]
 ]
 
+-- a cycle of kept sources is broken
 pub kept_cycle_law : KeptCycleLaw
 kept_cycle_law hosts w k n path sound c on = elim (broken_or w k n path c) [ inl b ↦ b | inr good ↦ absurd (sound.acyclic n path good on) ]
 
+-- a path of calm keepers comes to nothing of its own
 pub kept_path_law : KeptPathLaw
 kept_path_law hosts w k n path sound c = elim (tested (is_in n path)) [ inl on ↦ absurd (sound.acyclic n path c on) | inr off ↦ off ]
-
-either : (a b : Bool) → (a || b) ≡ true → (a ≡ true) ⊎ (b ≡ true)
-either true b h = inl refl
-either false b h = inr h
-
-or_left : (a b : Bool) → a ≡ true → (a || b) ≡ true
-or_left true b h = refl
-or_left false b h = cc
-
-or_right : (a b : Bool) → b ≡ true → (a || b) ≡ true
-or_right true b h = refl
-or_right false b h = h
 
 -- a source on the path has moved
 moved_on : (k : Memos) (path : List ℕ) (ss : List Source) (m : ℕ) → is_in m (source_names ss) ≡ true → is_in m path ≡ true → some_moved k path ss ≡ true
@@ -67,6 +57,7 @@ moved_on k path (s ∷ ss) m h on = elim (either (m == s.name) (is_in m (source_
   | inr t ↦ or_right (differs k s || is_in s.name path) (some_moved k path ss) (moved_on k path ss m t on)
 ]
 
+-- a keeper of what is being evaluated must run
 pub evaluated_source_law : EvaluatedSourceLaw
 evaluated_source_law k n m path memo at fine kept on =
     ap (λ x. must_run_by k x path) at ∙ ap (λ b. cond b (not (memo.generation == k.generation)) (memo.rewired || some_moved k path memo.sources)) fine

@@ -1,9 +1,9 @@
 -- A making keeps memos sound.
-use Rattle.std.proofs.Common.{◌≡◌, ℕ, zero, suc, ◌+◌, ◌<◌, ◌≤◌, ◌==◌, ◌||◌, not, Bool, true, false, cond, List, [], ◌∷◌, ◌++◌, Option, Some, None, length, refl, sym, ap, ◌∙◌, subst, arith, ◌⊎◌, inl, inr}
+use Rattle.std.proofs.Common.{◌≡◌, ℕ, zero, suc, ◌<◌, ◌≤◌, ◌==◌, not, Bool, true, false, cond, List, [], ◌∷◌, ◌++◌, Some, None, length, refl, sym, ap, ◌∙◌, subst, arith, ◌⊎◌, inl, inr}
 use Rattle.std.specs.Prelude.{slice_index}
 use Rattle.std.proofs.lemmas.Bool.{eqb-true, eq-eqb}
 use Rattle.sig_base.specs.declared.value.Value.{Value}
-use Rattle.sig_base.specs.declared.value.Fault.TheVariants.{Gone, Cycle}
+use Rattle.sig_base.specs.declared.value.Fault.TheVariants.{Gone}
 use Rattle.sig_base.specs.declared.value.Outcome.{Outcome}
 use Rattle.sig_base.specs.declared.value.Outcome.TheVariants.{Good, Bad}
 use Rattle.sig_base.specs.declared.value.Step.{Step}
@@ -12,15 +12,17 @@ use Rattle.sig_base.specs.declared.value.Known.{Known}
 use Rattle.signal_model.specs.Recipes.{Hosts, Recipe, answer_of}
 use Rattle.signal_model.specs.Standing.{Signals, Computed, Cell, Stands, IsGone, IsCell, IsComputed, is_in, standing, cell_at, computed_at, or_computed}
 use Rattle.signal_model.specs.Values.{Evaluation, learnt, read_first, after_read, after_step, asked_within, unknown_slots, value_of, evaluated, reads_of, names_left}
-use Rattle.signal_model.specs.Memos.{Source, Memo, Entry, Memos, entry_at, number_in, memo_in, number_of, memo_of, source_names, same_number, is_cycle}
-use Rattle.signal_model.specs.Sound.{outcome_here, IsPast, ArePast, names_of, IsSound}
+use Rattle.signal_model.specs.Memos.{Source, Memo, Entry, Memos, entry_at, number_in, memo_in, number_of, memo_of, source_names, same_number}
+use Rattle.signal_model.specs.Sound.{outcome_here, IsPast, ArePast, names_of}
 use Rattle.signal_model.specs.Changes.{with_cell, with_computed, after_making}
-use Rattle.signal_model.proofs.Paths.{tested, is_cycle-true, name_is, left_less, value_run, value_in, value_gone, value_cell}
-use Rattle.signal_laws.specs.Keeping.{HaveEntries, AreKept, IsNew, CellLaw, ComputedLaw}
-use Rattle.signal_laws.proofs.Changing.{Stays, AllStay, Before, IsChange, change_keeps, same_memo, or_fst, or_snd}
+use Rattle.signal_model.proofs.Paths.{tested, is_cycle-true, left_less, value_run, value_in, value_gone, value_cell}
+use Rattle.signal_laws.specs.Keeping.{AreKept, IsNew, CellLaw, ComputedLaw}
+use Rattle.signal_laws.proofs.Changing.{AllStay, change_keeps, same_memo}
+use Rattle.signal_laws.proofs.Bools.{or_fst, or_snd}
 
 -- ---- what is read of a name that is gone, and its fault
 
+-- whether it is the fault gone
 abbrev is_gone : Outcome → Bool
 is_gone (Bad Gone) = true
 is_gone _ = false
@@ -29,24 +31,29 @@ is_gone _ = false
 abbrev OrGone : Evaluation → Evaluation → Type 0
 OrGone a b = (is_gone a.outcome ≡ true) ⊎ (a ≡ b)
 
+-- after one read with one outcome
 read_same : (m : ℕ) (a : Outcome) (F G : Value → Evaluation) → ((v : Value) → OrGone (F v) (G v)) → OrGone (after_read m a F) (after_read m a G)
 read_same m (Bad x) F G k = inr refl
 read_same m (Good v) F G k = elim (k v) [ inl c ↦ inl c | inr e ↦ inr (ap (read_first (record { name = m; outcome = Good v })) e) ]
 
+-- a read that is gone ends with gone
 read_gone : (m : ℕ) (a : Outcome) (F : Value → Evaluation) → is_gone a ≡ true → is_gone (after_read m a F).outcome ≡ true
 read_gone m (Bad x) F c = c
 read_gone m (Good v) F c = cc
 
+-- after one read
 read_or : (m : ℕ) (a b : Outcome) (F G : Value → Evaluation) → (is_gone a ≡ true) ⊎ (a ≡ b) → ((v : Value) → OrGone (F v) (G v)) → OrGone (after_read m a F) (after_read m b G)
 read_or m a b F G (inl c) k = inl (read_gone m a F c)
 read_or m a b F G (inr e) k = subst (λ x. OrGone (after_read m a F) (after_read m x G)) e (read_same m a F G k)
 
+-- after one answer
 step_or : (st : Step) (slots : List ℕ) (f g : ℕ → Outcome) (F G : ℕ → Value → Evaluation) → ((m : ℕ) → (is_gone (f m) ≡ true) ⊎ (f m ≡ g m)) →
     ((s : ℕ) (v : Value) → OrGone (F s v) (G s v)) → OrGone (after_step st slots f F) (after_step st slots g G)
 step_or (Done v) slots f g F G h k = inr refl
 step_or (Fail x) slots f g F G h k = inr refl
 step_or (Read s) slots f g F G h k = read_or (slice_index slots s) (f (slice_index slots s)) (g (slice_index slots s)) (F s) (G s) (h (slice_index slots s)) (k s)
 
+-- and of a whole evaluation
 asked_or : (t : ℕ) (hosts : Hosts) (r : Recipe) (f g : ℕ → Outcome) → ((m : ℕ) → (is_gone (f m) ≡ true) ⊎ (f m ≡ g m)) → (known : List Known) →
     OrGone (asked_within t hosts r f known) (asked_within t hosts r g known)
 asked_or zero hosts r f g h known = inr refl
@@ -97,10 +104,12 @@ module _ (hosts : Hosts) (w w' : Signals) (n : ℕ) where
 
 -- ---- the entries
 
+-- an entry more leaves another
 entry_more : (m : ℕ) (es : List Entry) (e : Entry) → (m == e.name) ≡ false → entry_at m (es ++ e ∷ []) ≡ entry_at m es
 entry_more m [] e off = rw off refl
 entry_more m (x ∷ xs) e off = ap (λ o. cond (m == x.name) (Some x) o) (entry_more m xs e off)
 
+-- and is found
 entry_new : (es : List Entry) (e : Entry) → entry_at e.name es ≡ None → entry_at e.name (es ++ e ∷ []) ≡ Some e
 entry_new [] e h = let q : (e.name == e.name) ≡ true = eq-eqb e.name e.name refl in rw q refl
 entry_new (x ∷ xs) e h = go (e.name == x.name) h (entry_new xs e)
@@ -109,10 +118,12 @@ entry_new (x ∷ xs) e h = go (e.name == x.name) h (entry_new xs e)
     go true q f = cc
     go false q f = f q
 
+-- a cell more leaves another
 cell_more : (m : ℕ) (cs : List Cell) (c : Cell) → (m == c.name) ≡ false → cell_at m (cs ++ c ∷ []) ≡ cell_at m cs
 cell_more m [] c off = rw off refl
 cell_more m (x ∷ xs) c off = ap (λ o. cond (m == x.name) (Some x) o) (cell_more m xs c off)
 
+-- a computed more leaves another
 computed_more : (m : ℕ) (cs : List Computed) (c : Computed) → (m == c.name) ≡ false → computed_at m (cs ++ c ∷ []) ≡ computed_at m cs
 computed_more m [] c off = rw off refl
 computed_more m (x ∷ xs) c off = ap (λ o. cond (m == x.name) (Some x) o) (computed_more m xs c off)
@@ -129,6 +140,7 @@ unread_stay w w' k n (s ∷ ss) x h =
       unread_stay w w' k n ss x (or_snd (n == s.name) (is_in n (source_names ss)) h),
     )
 
+-- and is past still
 unread_past : (k : Memos) (n : ℕ) (ss : List Source) → is_in n (source_names ss) ≡ false → ArePast k ss → ArePast (after_making k n) ss
 unread_past k n [] h p = tt
 unread_past k n (s ∷ ss) h p =
@@ -173,11 +185,13 @@ making_keeps hosts w w' k n x new kept =
       ];
     }
 
+-- the making of a cell keeps memos sound
 pub cell_law : CellLaw
 cell_law hosts w k c new kept =
     let more : IsMore w (with_cell w c) c.name = record { gone = new.gone; other = λ m off. ap (λ x. or_computed x (computed_at m w.computeds)) (cell_more m w.cells c off) } in
     making_keeps hosts w (with_cell w c) k c.name more new kept
 
+-- the making of a computed keeps memos sound
 pub computed_law : ComputedLaw
 computed_law hosts w k c new kept =
     let more : IsMore w (with_computed w c) c.name = record { gone = new.gone; other = λ m off. ap (λ x. or_computed (cell_at m w.cells) x) (computed_more m w.computeds c off) } in

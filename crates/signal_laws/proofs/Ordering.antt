@@ -1,15 +1,16 @@
 -- In the order of evaluation what a computed reads comes before it, or is being evaluated.
-use Rattle.std.proofs.Common.{◌≡◌, ℕ, zero, suc, ◌+◌, ◌<◌, ◌==◌, ◌||◌, Bool, true, false, cond, List, [], ◌∷◌, ◌++◌, refl, sym, ap, ◌∙◌, subst, arith, ◌⊎◌, inl, inr}
+use Rattle.std.proofs.Common.{◌≡◌, ℕ, zero, suc, ◌<◌, ◌==◌, ◌||◌, Bool, true, false, cond, List, [], ◌∷◌, ◌++◌, refl, sym, ap, ◌∙◌, subst, arith, ◌⊎◌, inl, inr}
 use Rattle.std.proofs.lemmas.Bool.{eqb-true, eq-eqb}
 use Rattle.signal_model.specs.Recipes.{Hosts}
 use Rattle.signal_model.specs.Standing.{Signals, Computed, Stands, IsGone, IsCell, IsComputed, is_in, standing}
 use Rattle.signal_model.specs.Values.{Seen, reads_of, names_left}
 use Rattle.signal_model.specs.Orders.{Visit, visited, visits, visit_case, visit, order_after}
-use Rattle.signal_model.specs.Laws.{IsRead, Reads, IsChain}
+use Rattle.signal_model.specs.Laws.{IsRead, IsChain}
 use Rattle.signal_model.proofs.Paths.{tested, name_is, left_less}
 use Rattle.signal_model.proofs.Visits.{visit_by_cases}
-use Rattle.signal_laws.proofs.Changing.{or_fst, or_snd}
-use Rattle.signal_laws.proofs.Following.{in_head, in_tail}
+
+use Rattle.signal_laws.proofs.Following.{in_head}
+use Rattle.signal_laws.proofs.Bools.{or_fst, or_snd, either, or_left, or_right}
 
 -- a visit after the visits of some names
 pub record Placed (hosts : Hosts) (w : Signals) (seen : List ℕ) (v : Visit) : Type 0 where
@@ -28,6 +29,7 @@ abbrev pub seen_after : List ℕ → List Visit → List ℕ
 seen_after seen [] = seen
 seen_after seen (v ∷ vs) = seen_after (v.computed.name ∷ seen) vs
 
+-- what is seen was seen before or is visited
 pub seen_is : (x : ℕ) (seen : List ℕ) (vs : List Visit) → is_in x (seen_after seen vs) ≡ (is_in x seen || is_in x (visited vs))
 seen_is x seen [] = go (is_in x seen)
   where
@@ -40,18 +42,6 @@ seen_is x seen (v ∷ vs) = seen_is x (v.computed.name ∷ seen) vs ∙ go (x ==
     go true true c = refl
     go true false c = refl
     go false b c = refl
-
-either : (a b : Bool) → (a || b) ≡ true → (a ≡ true) ⊎ (b ≡ true)
-either true b h = inl refl
-either false b h = inr h
-
-or_left : (a b : Bool) → a ≡ true → (a || b) ≡ true
-or_left true b h = refl
-or_left false b h = cc
-
-or_right : (a b : Bool) → b ≡ true → (a || b) ≡ true
-or_right true b h = refl
-or_right false b h = h
 
 -- what is among the visits and one more
 in_more : (x : ℕ) (vs : List Visit) (v : Visit) → is_in x (visited (vs ++ v ∷ [])) ≡ (is_in x (visited vs) || x == v.computed.name)
@@ -67,6 +57,7 @@ in_more x (u ∷ us) v = ap (λ b. x == u.computed.name || b) (in_more x us v) �
     go false b c = refl
 
 module _ (hosts : Hosts) (w : Signals) where
+  -- one visit more in its place
   ordered_snoc : (seen : List ℕ) (vs : List Visit) (v : Visit) → AreOrdered hosts w seen vs → Placed hosts w (seen_after seen vs) v → AreOrdered hosts w seen (vs ++ v ∷ [])
   ordered_snoc seen [] v o p = (p, tt)
   ordered_snoc seen (u ∷ us) v o p = (o.0, ordered_snoc (u.computed.name ∷ seen) us v o.1 p)
@@ -77,29 +68,36 @@ module _ (hosts : Hosts) (w : Signals) where
     more : (x : ℕ) → is_in x (visited done) ≡ true → is_in x (visited out) ≡ true
     old : (x : ℕ) → is_in x (visited out) ≡ true → (is_in x (visited done) ≡ true) ⊎ (is_in x path ≡ false)
 
+  -- a computed is on the path or visited
   abbrev Came : List ℕ → ℕ → List Visit → Type 0
   Came path n out = (c : Computed) → standing w n ≡ IsComputed c → (is_in n path || is_in n (visited out)) ≡ true
 
+  -- the list grew by the visit of a name
   record GrownBy (path : List ℕ) (n : ℕ) (done out : List Visit) : Type 0 where
     grown : Grown path done out
     came : Came path n out
 
+  -- the list grew by the visits of all reads
   record GrownByAll (path : List ℕ) (ss : List Seen) (done out : List Visit) : Type 0 where
     grown : Grown path done out
     came : (m : ℕ) → IsRead m ss → Came path m out
 
+  -- a list that stays
   no_growth : (path : List ℕ) (done : List Visit) → AreOrdered hosts w [] done → Grown path done done
   no_growth path done d = record { ordered = d; more = λ x h. h; old = λ x h. inl h }
 
+  -- growth after growth
   grown_on : (path : List ℕ) (a b c : List Visit) → Grown path a b → Grown path b c → Grown path a c
   grown_on path a b c f g = record { ordered = g.ordered; more = λ x h. g.more x (f.more x h); old = λ x h. elim (g.old x h) [ inl in_b ↦ f.old x in_b | inr off ↦ inr off ] }
 
+  -- what was visited stays visited
   came_on : (path : List ℕ) (n : ℕ) (a b : List Visit) → Grown path a b → Came path n a → Came path n b
   came_on path n a b g f = λ c st. elim (either (is_in n path) (is_in n (visited a)) (f c st)) [
     | inl on ↦ or_left (is_in n path) (is_in n (visited b)) on
     | inr was ↦ or_right (is_in n path) (is_in n (visited b)) (g.more n was)
   ]
 
+  -- all reads are visited in order
   visits_grow : (path : List ℕ) (all : List Seen) → ((m : ℕ) (done : List Visit) → IsRead m all → AreOrdered hosts w [] done → GrownBy path m done (visit hosts w path m done)) →
       (ss : List Seen) → ((m : ℕ) → IsRead m ss → IsRead m all) → (done : List Visit) → AreOrdered hosts w [] done → GrownByAll path ss done (visits (visit hosts w path) ss done)
   visits_grow path all f [] sub done d = record { grown = no_growth path done d; came = λ m r. absurd r }
@@ -115,6 +113,7 @@ module _ (hosts : Hosts) (w : Signals) where
         ];
       }
 
+  -- a name is visited in order
   visit_grows : (far : ℕ) (path : List ℕ) (n : ℕ) (done : List Visit) → IsChain hosts w n path → names_left w.computeds path < far → AreOrdered hosts w [] done → GrownBy path n done (visit hosts w path n done)
   visit_grows zero path n done chain lt d = absurd (omega arith)
   visit_grows (suc far) path n done chain lt d =
@@ -169,6 +168,7 @@ module _ (hosts : Hosts) (w : Signals) where
     pub ordered : AreOrdered hosts w [] out
     pub came : (n : ℕ) (c : Computed) → is_in n asked ≡ true → standing w n ≡ IsComputed c → is_in n (visited out) ≡ true
 
+  -- all that is asked for is visited in order
   order_grows : (asked : List ℕ) (done : List Visit) → AreOrdered hosts w [] done →
       IsOrder asked (order_after hosts w asked done) × ((x : ℕ) → is_in x (visited done) ≡ true → is_in x (visited (order_after hosts w asked done)) ≡ true)
   order_grows [] done d = (record { ordered = d; came = λ n c on st. cc on }, λ x h. h)
@@ -187,5 +187,6 @@ module _ (hosts : Hosts) (w : Signals) where
         λ x h. r.1 x (g.grown.more x h),
       )
 
+  -- the order has each visit in its place
   pub order_is : (asked : List ℕ) → IsOrder asked (order_after hosts w asked [])
   order_is asked = (order_grows asked [] tt).0

@@ -1,10 +1,8 @@
 -- What one run leaves of the memos.
-use Rattle.std.proofs.Common.{◌≡◌, ℕ, zero, suc, ◌+◌, ◌<◌, ◌≤◌, ◌==◌, ◌||◌, not, Bool, true, false, cond, List, [], ◌∷◌, map, Option, Some, None, length, refl, sym, ap, ◌∙◌, subst, arith, ◌⊎◌, inl, inr}
+use Rattle.std.proofs.Common.{◌≡◌, ℕ, zero, suc, ◌+◌, ◌==◌, ◌||◌, not, Bool, true, false, cond, List, [], ◌∷◌, map, Option, Some, None, refl, sym, ap, ◌∙◌, subst, arith, ◌⊎◌, inl, inr}
 use Rattle.std.specs.Prelude.{slice_index}
-use Rattle.std.specs.List.{AllByRecursion}
 use Rattle.std.proofs.lemmas.Bool.{eqb-true, eq-eqb}
-use Rattle.std.proofs.lemmas.Bool.Decides.{nat_tests}
-use Rattle.sig_base.specs.Values.{same_outcome, same_outcome-Decides}
+use Rattle.sig_base.specs.Values.{same_outcome-Decides}
 use Rattle.sig_base.specs.declared.value.Value.{Value}
 use Rattle.sig_base.specs.declared.value.Outcome.{Outcome}
 use Rattle.sig_base.specs.declared.value.Outcome.TheVariants.{Good, Bad}
@@ -12,16 +10,16 @@ use Rattle.sig_base.specs.declared.value.Step.{Step}
 use Rattle.sig_base.specs.declared.value.Step.TheVariants.{Read, Done, Fail}
 use Rattle.sig_base.specs.declared.value.Known.{Known}
 use Rattle.signal_model.specs.Recipes.{Hosts, Recipe, answer_of}
-use Rattle.signal_model.specs.Standing.{Signals, Computed, IsGone, IsComputed, is_in, standing, changed}
+use Rattle.signal_model.specs.Standing.{Signals, Computed, IsComputed, is_in, standing}
 use Rattle.signal_model.specs.Values.{Seen, Evaluation, learnt, after_read, after_step, asked_within}
-use Rattle.signal_model.specs.Memos.{Source, Memo, Entry, Memos, entry_at, number_in, memo_in, number_of, memo_of, source_names, same_number, is_cycle, differs, some_moved, must_run_by, must_run}
+use Rattle.signal_model.specs.Memos.{Source, Memo, Entry, Memos, entry_at, number_in, memo_in, number_of, memo_of, source_names, same_number, is_cycle, differs, some_moved, must_run_by}
 use Rattle.signal_model.specs.Settling.{source_now, has_outcome, ran_entry, with_memo}
 use Rattle.signal_model.specs.Sound.{kept_outcome, outcome_here, standing_outcome, EndsWith, AfterSource, Unless, Follows, IsPast, ArePast, names_of, Keeps, IsKeptPath, IsSound}
 use Rattle.signal_model.specs.Laws.{IsRead}
 use Rattle.signal_model.proofs.Paths.{tested}
 use Rattle.signal_laws.specs.Keeping.{HaveEntries}
 use Rattle.signal_laws.proofs.Entries.{entry_other, entry_same}
-use Rattle.signal_laws.proofs.Changing.{Calm, calm_of, Stays, AllStay, all_stay, all_past, above, moved_back, some_is, or_fst, or_snd}
+use Rattle.signal_laws.proofs.Changing.{Calm, calm_of, Stays, all_stay, above, moved_back, some_is}
 use Rattle.signal_laws.proofs.Following.{in_head, in_tail}
 
 -- the memo that a run leaves
@@ -30,12 +28,15 @@ new_memo k o ss = record { outcome = o; sources = ss; generation = k.generation;
 
 -- ---- the entries after a run
 
+-- a run leaves the entry of another
 pub run_other : (k : Memos) (n : ℕ) (o : Outcome) (ss : List Source) (m : ℕ) → (m == n) ≡ false → entry_at m (with_memo k n o ss).entries ≡ entry_at m k.entries
 run_other k n o ss m off = entry_other m n (ran_entry (new_memo k o ss)) k.entries (λ q. refl) off
 
+-- and changes its own
 pub run_here : (k : Memos) (n : ℕ) (o : Outcome) (ss : List Source) (r : Entry) → entry_at n k.entries ≡ Some r → entry_at n (with_memo k n o ss).entries ≡ Some (ran_entry (new_memo k o ss) r)
 run_here k n o ss r at = entry_same n (ran_entry (new_memo k o ss)) k.entries r (λ q. refl) at
 
+-- which has the new memo
 pub run_memo : (k : Memos) (n : ℕ) (o : Outcome) (ss : List Source) (r : Entry) → entry_at n k.entries ≡ Some r → memo_of (with_memo k n o ss) n ≡ Some (new_memo k o ss)
 run_memo k n o ss r at = ap memo_in (run_here k n o ss r at)
 
@@ -69,6 +70,7 @@ run_stays w k n d r o ss stands at s past = go (s.name == n) refl
         let e : s.name ≡ n = eqb-true s.name n on in
         rises (has_outcome r.memo o) refl (subst (λ x. IsPast s.number x) (ap (number_of k) e ∙ ap number_in at) past) e
 
+-- what is past is past a greater number
 past_more : (x : Option ℕ) (a b : ℕ) → IsPast x (Some a) → IsPast x (Some (a + b))
 past_more None a b h = cc
 past_more (Some y) a b h = omega (arith, h)
@@ -83,6 +85,7 @@ run_past k n o ss r at x m p = elim (tested (m == n)) [
       (past_more x r.number (cond (has_outcome r.memo o) 0 1) (subst (IsPast x) (ap (number_of k) e ∙ ap number_in at) p)))
 ]
 
+-- each number is past itself
 pub past_self : (x : Option ℕ) → IsPast x x
 past_self None = refl
 past_self (Some n) = omega arith
@@ -96,10 +99,12 @@ run_entries w k n o ss r at h m none = elim (tested (m == n)) [
 
 -- ---- the sources of a run
 
+-- the names of sources are those that were read
 pub names_now : (k : Memos) (ss : List Seen) → source_names (map (source_now k) ss) ≡ names_of ss
 names_now k [] = refl
 names_now k (s ∷ ss) = ap (λ ns. s.name ∷ ns) (names_now k ss)
 
+-- a number is the same as itself
 same_self : (x : Option ℕ) → same_number x x ≡ true
 same_self None = refl
 same_self (Some n) = eq-eqb n n refl
@@ -121,10 +126,12 @@ same_moved k n o all (s ∷ ss) f =
     let b : some_moved (with_memo k n o all) [] ss ≡ some_moved k [] ss = same_moved k n o all ss (λ m on. f m (in_tail m s.name (source_names ss) on)) in
     (λ i. (not (same_number (a i) s.number) || false) || b i)
 
+-- what was read just now is past
 pub now_past : (k k' : Memos) → ((x : Option ℕ) (m : ℕ) → IsPast x (number_of k m) → IsPast x (number_of k' m)) → (ss : List Seen) → ArePast k' (map (source_now k) ss)
 now_past k k' f [] = tt
 now_past k k' f (s ∷ ss) = (f (number_of k s.name) s.name (past_self (number_of k s.name)), now_past k k' f ss)
 
+-- what holds holds unless
 unless : {P : Type 0} (b : Bool) → P → Unless b P
 unless true p = tt
 unless false p = p
@@ -166,10 +173,12 @@ data KeepsOn (w : Signals) (k : Memos) : ℕ → ℕ → Type 0 where
   here : {a b : ℕ} → Keeps w k a b → KeepsOn w k a b
   onward : {a b c : ℕ} → Keeps w k a b → KeepsOn w k b c → KeepsOn w k a c
 
+-- way after way
 keeps_on : {w : Signals} {k : Memos} {a b c : ℕ} → KeepsOn w k a b → KeepsOn w k b c → KeepsOn w k a c
 keeps_on (here r) h = onward r h
 keeps_on (onward r g) h = onward r (keeps_on g h)
 
+-- along a path of keepers each leads to the end
 path_keeps : (w : Signals) (k : Memos) (path : List ℕ) (n x : ℕ) → IsKeptPath w k n path → is_in x path ≡ true → KeepsOn w k x n
 path_keeps w k [] n x c h = cc
 path_keeps w k (p ∷ ps) n x c h = go (x == p) refl h (λ on. keeps_on (path_keeps w k ps p x c.1 on) (here c.0))
@@ -184,10 +193,12 @@ record Way (w : Signals) (k : Memos) (a b : ℕ) : Type 0 where
   chain : IsKeptPath w k b path
   on : is_in a path ≡ true
 
+-- a way goes on
 way_more : {w : Signals} {k : Memos} {a b c : ℕ} → Way w k a b → KeepsOn w k b c → Way w k a c
 way_more {w} {k} {a} {b} v (here r) = record { path = b ∷ v.path; chain = (r, v.chain); on = in_tail a b v.path v.on }
 way_more {w} {k} {a} {b} v (onward r g) = way_more (record { path = b ∷ v.path; chain = (r, v.chain); on = in_tail a b v.path v.on }) g
 
+-- a way has its path
 way : {w : Signals} {k : Memos} {a b : ℕ} → KeepsOn w k a b → Way w k a b
 way {w} {k} {a} (here r) = record { path = a ∷ []; chain = (r, tt); on = in_head a [] }
 way {w} {k} {a} (onward r g) = way_more (record { path = a ∷ []; chain = (r, tt); on = in_head a [] }) g
@@ -224,10 +235,12 @@ record AfterRun (w : Signals) (k : Memos) (n : ℕ) (seen : List ℕ) (k' : Memo
   own : (m : ℕ) (d : Computed) → Keeps w k' n m → standing w m ≡ IsComputed d → is_in m seen ≡ true
   closed : (p m : ℕ) (d : Computed) → is_in p seen ≡ true → Keeps w k p m → standing w m ≡ IsComputed d → is_in m seen ≡ true
 
+-- what keeps is a computed
 computed_first : {w : Signals} {k : Memos} {a b : ℕ} → KeepsOn w k a b → (d : Computed) × (standing w a ≡ IsComputed d)
 computed_first (here r) = (r.computed, r.stands)
 computed_first (onward r g) = (r.computed, r.stands)
 
+-- one step leads to what is seen
 step_seen : (w : Signals) (k k' : Memos) (a b n : ℕ) (seen : List ℕ) → AfterRun w k n seen k' → Keeps w k' a b → (is_in a seen ≡ true) ⊎ (a ≡ n) → (d : Computed) → standing w b ≡ IsComputed d → is_in b seen ≡ true
 step_seen w k k' a b n seen x r (inr e) d st = x.own b d (subst (λ y. Keeps w k' y b) e r) st
 step_seen w k k' a b n seen x r (inl s) d st = elim (tested (a == n)) [

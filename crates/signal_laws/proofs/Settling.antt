@@ -1,54 +1,29 @@
 -- Settling in order keeps memos sound and leaves each visited computed with its value from scratch.
-use Rattle.std.proofs.Common.{◌≡◌, ℕ, zero, suc, ◌+◌, ◌<◌, ◌≤◌, ◌==◌, ◌||◌, not, Bool, true, false, cond, List, [], ◌∷◌, ◌++◌, map, Option, Some, None, length, refl, sym, ap, ◌∙◌, subst, arith, ◌⊎◌, inl, inr}
+use Rattle.std.proofs.Common.{◌≡◌, ℕ, suc, ◌≤◌, ◌==◌, ◌||◌, not, Bool, true, false, cond, List, [], ◌∷◌, ◌++◌, map, Option, Some, None, length, refl, sym, ap, ◌∙◌, subst, arith, ◌⊎◌, inl, inr}
 use Rattle.std.specs.List.{AllByRecursion}
 use Rattle.std.proofs.lemmas.Bool.{eqb-true, eq-eqb}
-use Rattle.sig_base.specs.declared.value.Outcome.{Outcome}
 use Rattle.signal_model.specs.Recipes.{Hosts}
-use Rattle.signal_model.specs.Standing.{Signals, Computed, Stands, IsGone, IsCell, IsComputed, is_in, standing}
-use Rattle.signal_model.specs.Values.{Seen, Evaluation, unknown_slots, value_of, evaluated, reads_of}
+use Rattle.signal_model.specs.Standing.{Signals, Computed, IsComputed, is_in, standing}
+use Rattle.signal_model.specs.Values.{Evaluation, unknown_slots, value_of, evaluated, reads_of}
 use Rattle.signal_model.specs.Orders.{Visit, visited, evaluation_order}
 use Rattle.signal_model.specs.Memos.{Source, Memo, Entry, Memos, entry_at, memo_in, memo_of, source_names, is_cycle, differs, is_moved, some_moved, must_run_by, must_run}
 use Rattle.signal_model.specs.Settling.{Settled, source_now, with_run, settle_visit, settle_visits, settled}
-use Rattle.signal_model.specs.Sound.{standing_outcome, Follows, ArePast, names_of, Keeps, IsSound}
+use Rattle.signal_model.specs.Sound.{Follows, ArePast, names_of, Keeps, IsSound}
 use Rattle.signal_model.specs.Laws.{IsRead, Reads, Leads, one}
 use Rattle.signal_model.proofs.Paths.{tested, value_run, no_loop, goes_on, chain_goes}
 use Rattle.signal_laws.specs.Keeping.{AreKept}
 use Rattle.signal_laws.specs.Settled.{IsRight}
 use Rattle.signal_laws.specs.Settling.{SettleLaw, AskedLaw, AgainLaw}
-use Rattle.signal_laws.proofs.Changing.{Calm, calm_of, all_stay, all_past, follows_on, entry_there, some_is, or_fst, or_snd}
+use Rattle.signal_laws.proofs.Changing.{CalmOn, calm_on, Calm, calm_of, all_stay, all_past, follows_on, entry_there, some_is}
 use Rattle.signal_laws.proofs.Following.{in_head, in_tail}
 use Rattle.signal_laws.proofs.Cleaning.{right_source, read_value, right_memo, is_in-read, Quiet, quiet_here, quiet_settle}
-use Rattle.signal_laws.proofs.Ordering.{Placed, AreOrdered, seen_after, seen_is, IsOrder, order_is}
+use Rattle.signal_laws.proofs.Ordering.{Placed, AreOrdered, seen_after, seen_is, order_is}
 use Rattle.signal_laws.proofs.Running.{new_memo, run_other, run_memo, run_stays, run_past, run_entries, names_now, now_calm, same_moved, now_past, now_follows, run_acyclic}
-
-either : (a b : Bool) → (a || b) ≡ true → (a ≡ true) ⊎ (b ≡ true)
-either true b h = inl refl
-either false b h = inr h
+use Rattle.signal_laws.proofs.Bools.{or_fst, or_snd, either, not_false}
 
 -- what stands is one computed
 abbrev comp_is : (y z : Computed) → IsComputed y ≡ IsComputed z → y ≡ z
 comp_is y z q = cc q
-
--- a computed that needn't run along a path
-record CalmOn (k : Memos) (n : ℕ) (path : List ℕ) : Type 0 where
-  memo : Memo
-  at : memo_of k n ≡ Some memo
-  case : ((is_cycle memo.outcome ≡ true) × (memo.generation ≡ k.generation)) ⊎ ((is_cycle memo.outcome ≡ false) × (memo.rewired ≡ false) × (some_moved k path memo.sources ≡ false))
-
-not_false : (a : Bool) → not a ≡ false → a ≡ true
-not_false true h = refl
-not_false false h = cc
-
-calm_on : (k : Memos) (n : ℕ) (path : List ℕ) → must_run k n path ≡ false → CalmOn k n path
-calm_on k n path h = go (memo_of k n) refl h
-  where
-    go : (x : Option Memo) → memo_of k n ≡ x → must_run_by k x path ≡ false → CalmOn k n path
-    go None e q = cc
-    go (Some e) at q = by (is_cycle e.outcome) refl q
-      where
-        by : (b : Bool) → is_cycle e.outcome ≡ b → cond b (not (e.generation == k.generation)) (e.rewired || some_moved k path e.sources) ≡ false → CalmOn k n path
-        by true z y = record { memo = e; at = at; case = inl (z, eqb-true e.generation k.generation (not_false (e.generation == k.generation) y)) }
-        by false z y = record { memo = e; at = at; case = inr (z, or_fst e.rewired (some_moved k path e.sources) y, or_snd e.rewired (some_moved k path e.sources) y) }
 
 -- what hasn't moved along a path hasn't without it
 moved_less : (k : Memos) (path : List ℕ) (ss : List Source) → some_moved k path ss ≡ false → some_moved k [] ss ≡ false
@@ -72,6 +47,7 @@ module _ (hosts : Hosts) (w : Signals) where
     pub right : IsRight hosts w k x d
     pub calm : must_run k x [] ≡ false
 
+  -- each of these names is done
   abbrev pub AllDone : Memos → List ℕ → Type 0
   AllDone k seen = (x : ℕ) (d : Computed) → is_in x seen ≡ true → standing w x ≡ IsComputed d → IsDone k x d
 
@@ -98,6 +74,7 @@ module _ (hosts : Hosts) (w : Signals) where
         ]))
       ]
 
+  -- one name more
   closed_more : (seen : List ℕ) (v : Visit) → Placed hosts w seen v → IsClosed seen → IsClosed (v.computed.name ∷ seen)
   closed_more seen v p closed x m c d on st fine read std =
       let n : ℕ = v.computed.name in
@@ -146,18 +123,23 @@ module _ (hosts : Hosts) (w : Signals) where
   -- ---- a run at its place
 
   module _ (k : Memos) (seen : List ℕ) (v : Visit) where
+    -- its evaluation
     abbrev ev : Evaluation
     ev = evaluated hosts w v.computed []
 
+    -- its name
     abbrev name : ℕ
     name = v.computed.name
 
+    -- the memos after its run
     abbrev after : Memos
     after = with_run k v.computed.name (evaluated hosts w v.computed [])
 
+    -- its value is what the evaluation came to
     value_is : Placed hosts w seen v → value_of hosts w name [] ≡ ev.outcome
     value_is p = value_run hosts w name [] v.computed p.stands refl
 
+    -- what it reads is seen
     own : Placed hosts w seen v → is_cycle ev.outcome ≡ false → (m : ℕ) (d : Computed) → IsRead m ev.reads → standing w m ≡ IsComputed d → is_in m seen ≡ true
     own p fine m d read st = fine_seen seen v p (ap is_cycle (value_is p) ∙ fine) m d read st
 
@@ -217,6 +199,7 @@ module _ (hosts : Hosts) (w : Signals) where
               ];
             }
 
+    -- so all are done
     all_done : (r : Entry) → entry_at name k.entries ≡ Some r → Placed hosts w seen v → State k seen → AllDone after (v.computed.name ∷ seen)
     all_done r at p s x d on st = elim (tested (x == name)) [
       | inl is ↦
@@ -226,6 +209,7 @@ module _ (hosts : Hosts) (w : Signals) where
       | inr off ↦ let on' : is_in x seen ≡ true = sym (ap (λ b. b || is_in x seen) off) ∙ on in other_done p s.closed x d on' st (s.done x d on' st)
     ]
 
+    -- the memos are sound after the run
     run_sound : (r : Entry) → entry_at name k.entries ≡ Some r → Placed hosts w seen v → State k seen → IsSound hosts w after
     run_sound r at p s =
         let ss : List Source = map (source_now k) ev.reads in
@@ -237,9 +221,10 @@ module _ (hosts : Hosts) (w : Signals) where
         record {
           cycles = λ m c e st q cy gen. elim (tested (m == name)) [
             | inr off ↦ s.kept.sound.cycles m c e st (was m e off q) cy gen
-            | inl on ↦
-                (ap (λ y. value_of hosts w y []) (eqb-true m name on) ∙ value_is p ∙ ap (λ (y : Memo). y.outcome) (memo_is m e on q),
-                ap (λ (y : Memo). source_names y.sources) (sym (memo_is m e on q)) ∙ names_now k ev.reads ∙ ap (λ y. names_of (reads_of hosts w y)) (comp m c on st))
+            | inl on ↦ (
+              ap (λ y. value_of hosts w y []) (eqb-true m name on) ∙ value_is p ∙ ap (λ (y : Memo). y.outcome) (memo_is m e on q),
+              ap (λ (y : Memo). source_names y.sources) (sym (memo_is m e on q)) ∙ names_now k ev.reads ∙ ap (λ y. names_of (reads_of hosts w y)) (comp m c on st),
+            )
           ];
           follows = λ m c e st q fine rw0. elim (tested (m == name)) [
             | inr off ↦
@@ -268,6 +253,7 @@ module _ (hosts : Hosts) (w : Signals) where
           ];
         }
 
+    -- the state after a run
     run_state : Placed hosts w seen v → State k seen → State after (v.computed.name ∷ seen)
     run_state p s =
         let r : (r : Entry) × (entry_at name k.entries ≡ Some r) = entry_there w k name s.kept.entries (λ gone. cc (sym gone ∙ p.stands)) in
@@ -277,6 +263,7 @@ module _ (hosts : Hosts) (w : Signals) where
           closed = closed_more seen v p s.closed;
         }
 
+    -- the state where nothing runs
     calm_state : Placed hosts w seen v → State k seen → must_run k name v.path ≡ false → State k (v.computed.name ∷ seen)
     calm_state p s h = record {
       kept = s.kept;
@@ -301,13 +288,16 @@ module _ (hosts : Hosts) (w : Signals) where
       go true e = run_state s.memos seen v p st
       go false e = calm_state s.memos seen v p st e
 
+  -- visits at their places
   pub visits_state : (seen : List ℕ) (vs : List Visit) (s : Settled) → AreOrdered hosts w seen vs → State s.memos seen → State (settle_visits hosts w vs s).memos (seen_after seen vs)
   visits_state seen [] s o st = st
   visits_state seen (v ∷ vs) s o st = visits_state (v.computed.name ∷ seen) vs (settle_visit hosts w v s) o.1 (visit_state seen v s o.0 st)
 
+  -- the state before the first visit
   pub first_state : (k : Memos) → AreKept hosts w k → State k []
   first_state k kept = record { kept = kept; done = λ x d on st. cc on; closed = λ x m c d on st fine r std. cc on }
 
+  -- the state after settling
   settled_state : (k : Memos) (asked : List ℕ) → AreKept hosts w k → State (settled hosts w k asked).memos (seen_after [] (evaluation_order hosts w asked))
   settled_state k asked kept = visits_state [] (evaluation_order hosts w asked) (record { memos = k; runs = [] }) (order_is hosts w asked).ordered (first_state k kept)
 
@@ -315,6 +305,7 @@ module _ (hosts : Hosts) (w : Signals) where
   in_order : (vs : List Visit) (x : ℕ) → is_in x (visited vs) ≡ true → is_in x (seen_after [] vs) ≡ true
   in_order vs x h = seen_is x [] vs ∙ h
 
+  -- what is done doesn't run again
   all_quiet : (k : Memos) (seen : List ℕ) (vs : List Visit) → AreOrdered hosts w seen vs → ((x : ℕ) (d : Computed) → is_in x (visited vs) ≡ true → standing w x ≡ IsComputed d → IsDone k x d) → AllByRecursion (Quiet hosts w k) vs
   all_quiet k seen [] o f = tt
   all_quiet k seen (v ∷ vs) o f =
@@ -323,14 +314,17 @@ module _ (hosts : Hosts) (w : Signals) where
         all_quiet k (v.computed.name ∷ seen) vs o.1 (λ x e on st. f x e (in_tail x v.computed.name (visited vs) on) st),
       )
 
+-- settling keeps memos sound
 pub settle_law : SettleLaw
 settle_law hosts w k asked kept = (settled_state hosts w k asked kept).kept
 
+-- what is asked for stands as from scratch
 pub asked_law : AskedLaw
 asked_law hosts w k asked n kept on =
     let s : State hosts w (settled hosts w k asked).memos (seen_after [] (evaluation_order hosts w asked)) = settled_state hosts w k asked kept in
     right_source hosts w (settled hosts w k asked).memos n (λ d st. (s.done n d (in_order hosts w (evaluation_order hosts w asked) n ((order_is hosts w asked).came n d on st)) st).right)
 
+-- settling again runs nothing
 pub again_law : AgainLaw
 again_law hosts w k asked kept =
     let k' : Memos = (settled hosts w k asked).memos in
