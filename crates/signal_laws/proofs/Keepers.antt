@@ -1,5 +1,5 @@
 -- Ways along kept sources that come back.
-use Rattle.std.proofs.Common.{◌≡◌, ℕ, ◌==◌, ◌||◌, not, Bool, true, false, cond, List, [], ◌∷◌, refl, sym, ap, ◌∙◌, ◌⊎◌, inl, inr}
+use Rattle.std.proofs.Common.{◌≡◌, ℕ, ◌==◌, ◌||◌, not, true, cond, List, [], ◌∷◌, sym, ap, ◌∙◌, ◌⊎◌, inl, inr}
 use Rattle.std.proofs.lemmas.Bool.{eqb-true}
 use Rattle.signal_model.specs.Standing.{Signals, is_in}
 use Rattle.signal_model.specs.Memos.{Source, Memos, memo_of, sources_in, source_names, is_cycle, differs, some_moved, must_run_by, must_run}

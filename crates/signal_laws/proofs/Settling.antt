@@ -1,5 +1,5 @@
 -- Settling in order keeps memos sound and leaves each visited computed with its value from scratch.
-use Rattle.std.proofs.Common.{◌≡◌, ℕ, suc, ◌≤◌, ◌==◌, ◌||◌, not, Bool, true, false, cond, List, [], ◌∷◌, ◌++◌, map, Option, Some, None, length, refl, sym, ap, ◌∙◌, subst, arith, ◌⊎◌, inl, inr}
+use Rattle.std.proofs.Common.{◌≡◌, ℕ, suc, ◌≤◌, ◌==◌, ◌||◌, not, Bool, true, false, cond, List, [], ◌∷◌, ◌++◌, map, Some, length, refl, sym, ap, ◌∙◌, subst, arith, inl, inr}
 use Rattle.std.specs.List.{AllByRecursion}
 use Rattle.std.proofs.lemmas.Bool.{eqb-true, eq-eqb}
 use Rattle.signal_model.specs.Recipes.{Hosts}
@@ -19,7 +19,7 @@ use Rattle.signal_laws.proofs.Following.{in_head, in_tail}
 use Rattle.signal_laws.proofs.Cleaning.{right_source, read_value, right_memo, is_in-read, Quiet, quiet_here, quiet_settle}
 use Rattle.signal_laws.proofs.Ordering.{Placed, AreOrdered, seen_after, seen_is, order_is}
 use Rattle.signal_laws.proofs.Running.{new_memo, run_other, run_memo, run_stays, run_past, run_entries, names_now, now_calm, same_moved, now_past, now_follows, run_acyclic}
-use Rattle.signal_laws.proofs.Bools.{or_fst, or_snd, either, not_false}
+use Rattle.signal_laws.proofs.Bools.{or_fst, or_snd, either}
 
 -- what stands is one computed
 abbrev comp_is : (y z : Computed) → IsComputed y ≡ IsComputed z → y ≡ z
