@@ -13,40 +13,39 @@ use Rattle.signal_model.specs.Memos.{Source, Memo, Entry, Memos, entry_at, numbe
 use Rattle.signal_model.specs.Sound.{outcome_here, standing_outcome, AfterSource, Unless, Follows, IsPast, ArePast, names_of, Keeps, IsKeptPath, IsSound}
 use Rattle.signal_model.specs.Changes.{no_signals, no_memos, with_value, raised, after_change, with_recipe, memo_rewired, entry_rewired, after_rewiring, without_signal, after_disposal}
 use Rattle.signal_model.proofs.Paths.{tested}
-use Rattle.signal_laws.specs.Keeping.{HaveEntries, AreKept, EmptyLaw, SetLaw, RewireLaw, DisposeLaw}
+use Rattle.signal_laws.specs.Keeping.{HaveEntries, EmptyLaw, SetLaw, RewireLaw, DisposeLaw}
 use Rattle.signal_laws.proofs.Entries.{entry_other, entry_same, cell_other, computed_other, cell_there, entry_out, entry_left, cell_left, computed_left, cell_out, computed_out}
+use Rattle.signal_laws.proofs.Bools.{or_fst, or_snd, not_false}
 
-pub or_fst : (a b : Bool) → (a || b) ≡ false → a ≡ false
-or_fst true b h = cc
-or_fst false b h = refl
-
-pub or_snd : (a b : Bool) → (a || b) ≡ false → b ≡ false
-or_snd true b h = cc
-or_snd false b h = h
-
-not_false : (a : Bool) → not a ≡ false → a ≡ true
-not_false true h = refl
-not_false false h = cc
-
+-- one memo is no other
 pub some_is : (x y : Memo) → Some x ≡ Some y → x ≡ y
 some_is x y e = cc
 
--- a computed that needn't run
-pub record Calm (k : Memos) (n : ℕ) : Type 0 where
+-- a computed that needn't run along a path
+pub record CalmOn (k : Memos) (n : ℕ) (path : List ℕ) : Type 0 where
   pub memo : Memo
   pub at : memo_of k n ≡ Some memo
-  pub case : ((is_cycle memo.outcome ≡ true) × (memo.generation ≡ k.generation)) ⊎ ((is_cycle memo.outcome ≡ false) × (memo.rewired ≡ false) × (some_moved k [] memo.sources ≡ false))
+  pub case : ((is_cycle memo.outcome ≡ true) × (memo.generation ≡ k.generation)) ⊎ ((is_cycle memo.outcome ≡ false) × (memo.rewired ≡ false) × (some_moved k path memo.sources ≡ false))
 
-pub calm_of : (k : Memos) (n : ℕ) → must_run k n [] ≡ false → Calm k n
-calm_of k n h = go (memo_of k n) refl h
+-- what it is that needn't run
+pub calm_on : (k : Memos) (n : ℕ) (path : List ℕ) → must_run k n path ≡ false → CalmOn k n path
+calm_on k n path h = go (memo_of k n) refl h
   where
-    go : (x : Option Memo) → memo_of k n ≡ x → must_run_by k x [] ≡ false → Calm k n
+    go : (x : Option Memo) → memo_of k n ≡ x → must_run_by k x path ≡ false → CalmOn k n path
     go None e q = cc
     go (Some e) at q = by (is_cycle e.outcome) refl q
       where
-        by : (b : Bool) → is_cycle e.outcome ≡ b → cond b (not (e.generation == k.generation)) (e.rewired || some_moved k [] e.sources) ≡ false → Calm k n
+        by : (b : Bool) → is_cycle e.outcome ≡ b → cond b (not (e.generation == k.generation)) (e.rewired || some_moved k path e.sources) ≡ false → CalmOn k n path
         by true z y = record { memo = e; at = at; case = inl (z, eqb-true e.generation k.generation (not_false (e.generation == k.generation) y)) }
-        by false z y = record { memo = e; at = at; case = inr (z, or_fst e.rewired (some_moved k [] e.sources) y, or_snd e.rewired (some_moved k [] e.sources) y) }
+        by false z y = record { memo = e; at = at; case = inr (z, or_fst e.rewired (some_moved k path e.sources) y, or_snd e.rewired (some_moved k path e.sources) y) }
+
+-- a computed that needn't run while nothing is being evaluated
+abbrev pub Calm : Memos → ℕ → Type 0
+Calm k n = CalmOn k n []
+
+-- and it is one
+pub calm_of : (k : Memos) (n : ℕ) → must_run k n [] ≡ false → Calm k n
+calm_of k n h = calm_on k n [] h
 
 -- a source differs now, or it stands as before
 abbrev pub Stays : Signals → Memos → Signals → Memos → Source → Type 0
@@ -77,6 +76,7 @@ pub record IsChange (hosts : Hosts) (w : Signals) (k : Memos) (w' : Signals) (k'
   pub stay : (m : ℕ) (e : Memo) → memo_of k m ≡ Some e → AllStay w k w' k' e.sources
   pub past : (m : ℕ) (e : Memo) → memo_of k m ≡ Some e → ArePast k' e.sources
 
+-- after a source the rest lasts
 after_source : (hosts : Hosts) (w : Signals) (k : Memos) (w' : Signals) (k' : Memos) (r : Recipe) (o x : Outcome) (slot : ℕ) (known : List Known) (ss : List Source) →
     ((v : Value) → Follows hosts w k r o (learnt known slot v) ss → Follows hosts w' k' r o (learnt known slot v) ss) →
     AfterSource x ss o (λ v. Follows hosts w k r o (learnt known slot v) ss) → AfterSource x ss o (λ v. Follows hosts w' k' r o (learnt known slot v) ss)
@@ -113,6 +113,7 @@ moved_back w k w' k' (s ∷ ss) st h =
     (λ i. (was i || false) || rest i)
 
 module _ (hosts : Hosts) (w : Signals) (k : Memos) (w' : Signals) (k' : Memos) where
+  -- what needn't run after the change needn't before
   calm_back : (n : ℕ) (e' : Memo) → IsChange hosts w k w' k' → memo_of k' n ≡ Some e' → is_cycle e'.outcome ≡ false → must_run k' n [] ≡ false → must_run k n [] ≡ false
   calm_back n e' ch at fine h = go (calm_of k' n h)
     where
@@ -132,6 +133,7 @@ module _ (hosts : Hosts) (w : Signals) (k : Memos) (w' : Signals) (k' : Memos) w
                 ap (λ x. must_run_by k x []) b.at ∙ (λ i. cond (fn i) (not (b.memo.generation == k.generation)) (rw0 i || mv i))
           ]
 
+  -- what keeps a source after the change kept it before
   keeps_back : (p n : ℕ) → IsChange hosts w k w' k' → Keeps w' k' p n → Keeps w k p n
   keeps_back p n ch x =
       let b : Before k p x.memo = ch.before p x.memo x.at in
@@ -146,6 +148,7 @@ module _ (hosts : Hosts) (w : Signals) (k : Memos) (w' : Signals) (k' : Memos) w
         kept = ap (λ (rs : List Source). is_in n (source_names rs)) b.sources ∙ x.kept;
       }
 
+  -- the same of a whole path
   path_back : (n : ℕ) (path : List ℕ) → IsChange hosts w k w' k' → IsKeptPath w' k' n path → IsKeptPath w k n path
   path_back n [] ch c = tt
   path_back n (p ∷ ps) ch c = (keeps_back p n ch c.0, path_back p ps ch c.1)
@@ -178,14 +181,17 @@ all_past k k' f (s ∷ ss) p = (f s.number s.name p.0, all_past k k' f ss p.1)
 
 -- ---- a change of one entry
 
+-- a raised number differs from each past one
 pub above : (x : Option ℕ) (m : ℕ) → IsPast x (Some m) → not (same_number (Some (m + 1)) x) ≡ true
 above None m h = refl
 above (Some y) m h = let ne : (m + 1 == y) ≡ false = grind (arith, nat_tests) in rw ne refl
 
+-- what was past is past a raised number
 pub past_up : (x : Option ℕ) (m : ℕ) → IsPast x (Some m) → IsPast x (Some (m + 1))
 past_up None m h = cc
 past_up (Some y) m h = omega (arith, h)
 
+-- a memo that stays was there before
 pub same_memo : (e : Memo) (k : Memos) (m : ℕ) (x : Option Memo) → memo_of k m ≡ x → x ≡ Some e → Before k m e
 same_memo e k m x p q = record { memo = e; at = p ∙ q; outcome = refl; sources = refl; generation = refl; rewired = λ h. h }
 
@@ -195,9 +201,11 @@ record Raises (g : Entry → Entry) : Type 0 where
   number : (r : Entry) → (g r).number ≡ r.number + 1
   memo : (r : Entry) → ((g r).memo ≡ r.memo) ⊎ ((g r).memo ≡ memo_rewired r.memo)
 
+-- the memos after that
 abbrev raise : Memos → ℕ → (Entry → Entry) → Memos
 raise k n g = record { generation = k.generation + 1; entries = changed (λ (r : Entry). r.name) n g k.entries }
 
+-- a marked memo was there before
 memo_before : (k : Memos) (n : ℕ) (x : Option Memo) (e' : Memo) → memo_of k n ≡ x → memo_rewired x ≡ Some e' → Before k n e'
 memo_before k n None e' p q = cc
 memo_before k n (Some e) e' p q = subst (Before k n) (out (record e { rewired = true }) e' q) (record { memo = e; at = p; outcome = refl; sources = refl; generation = refl; rewired = λ h. cc h })
@@ -205,6 +213,7 @@ memo_before k n (Some e) e' p q = subst (Before k n) (out (record e { rewired = 
     out : (x y : Memo) → Some x ≡ Some y → x ≡ y
     out x y z = cc
 
+-- and it is marked
 memo_set : (x : Option Memo) (e' : Memo) → memo_rewired x ≡ Some e' → e'.rewired ≡ true
 memo_set None e' q = cc
 memo_set (Some e) e' q = sym (out (record e { rewired = true }) e' q)
@@ -212,6 +221,7 @@ memo_set (Some e) e' q = sym (out (record e { rewired = true }) e' q)
     out : (x y : Memo) → Some x ≡ Some y → x.rewired ≡ y.rewired
     out x y z = cc
 
+-- each memo was there before
 raise_before : (k : Memos) (n : ℕ) (g : Entry → Entry) (r : Entry) → Raises g → entry_at n k.entries ≡ Some r → (m : ℕ) (e' : Memo) → memo_of (raise k n g) m ≡ Some e' → Before k m e'
 raise_before k n g r gs at m e' q = elim (tested (m == n)) [
   | inr off ↦ same_memo e' k m (memo_of (raise k n g) m) (sym (ap memo_in (entry_other m n g k.entries gs.name off))) q
@@ -225,6 +235,7 @@ raise_before k n g r gs at m e' q = elim (tested (m == n)) [
       ])
 ]
 
+-- no number falls
 raise_past : (k : Memos) (n : ℕ) (g : Entry → Entry) (r : Entry) → Raises g → entry_at n k.entries ≡ Some r → (x : Option ℕ) (m : ℕ) → IsPast x (number_of k m) → IsPast x (number_of (raise k n g) m)
 raise_past k n g r gs at x m p = elim (tested (m == n)) [
   | inr off ↦ subst (IsPast x) (sym (ap number_in (entry_other m n g k.entries gs.name off))) p
@@ -234,6 +245,7 @@ raise_past k n g r gs at x m p = elim (tested (m == n)) [
       subst (λ y. IsPast x (number_of (raise k n g) y)) (sym e) (subst (IsPast x) (sym new) (past_up x r.number (subst (IsPast x) (ap (number_of k) e ∙ ap number_in at) p)))
 ]
 
+-- the source of that name differs, and each other stays
 raise_stays : (w w' : Signals) (k : Memos) (n : ℕ) (g : Entry → Entry) (r : Entry) → Raises g → entry_at n k.entries ≡ Some r → ((m : ℕ) → (m == n) ≡ false → standing w' m ≡ standing w m) →
     (s : Source) → IsPast s.number (number_of k s.name) → Stays w k w' (raise k n g) s
 raise_stays w w' k n g r gs at other s p = elim (tested (s.name == n)) [
@@ -247,6 +259,7 @@ raise_stays w w' k n g r gs at other s p = elim (tested (s.name == n)) [
       inl (ap (λ x. not (same_number x s.number)) (ap (number_of (raise k n g)) e ∙ new) ∙ above s.number r.number (subst (IsPast s.number) (ap (number_of k) e ∙ ap number_in at) p))
 ]
 
+-- each signal has its entry still
 raise_entries : (w w' : Signals) (k : Memos) (n : ℕ) (g : Entry → Entry) (r : Entry) → Raises g → entry_at n k.entries ≡ Some r → ((m : ℕ) → (m == n) ≡ false → standing w' m ≡ standing w m) → HaveEntries w k → HaveEntries w' (raise k n g)
 raise_entries w w' k n g r gs at other h m none = elim (tested (m == n)) [
   | inr off ↦ other m off ∙ h m (sym (entry_other m n g k.entries gs.name off) ∙ none)
@@ -272,10 +285,12 @@ entry_there w k n h there = go (entry_at n k.entries) refl
 
 -- ---- the signals
 
+-- where a computed stands no cell does
 no_cell : (x : Option Cell) (y : Option Computed) (c : Computed) → or_computed x y ≡ IsComputed c → x ≡ None
 no_cell None y c h = refl
 no_cell (Some z) y c h = cc
 
+-- the cell that stands is in its list
 cell_stands : (x : Option Cell) (y : Option Computed) (c : Cell) → or_computed x y ≡ IsCell c → x ≡ Some c
 cell_stands None None c h = cc
 cell_stands None (Some z) c h = cc
@@ -288,6 +303,7 @@ cell_stands (Some z) y c h = out z c h
     out : (u v : Cell) → IsCell u ≡ IsCell v → Some u ≡ Some v
     out u v e = ap cell_of e
 
+-- a set makes no computed
 set_kind : (w : Signals) (n : ℕ) (c : Cell) (v : Value) → standing w n ≡ IsCell c → (m : ℕ) (d : Computed) → standing (with_value w n v) m ≡ IsComputed d → standing w m ≡ IsComputed d
 set_kind w n c v stands m d st = elim (tested (m == n)) [
   | inr off ↦ sym (ap (λ x. or_computed x (computed_at m w.computeds)) (cell_other m n (λ e. record e { value = v }) w.cells (λ e. refl) off)) ∙ st
@@ -298,6 +314,7 @@ set_kind w n c v stands m d st = elim (tested (m == n)) [
       cc (sym none ∙ cell_stands (cell_at n w.cells) (computed_at n w.computeds) c stands)
 ]
 
+-- a set keeps memos sound
 pub set_law : SetLaw
 set_law hosts w k n c v stands kept =
     let w' : Signals = with_value w n v in
@@ -322,6 +339,7 @@ set_law hosts w k n c v stands kept =
       entries = raise_entries w w' k n raised r.0 g r.1 other kept.entries;
     }
 
+-- a rewiring keeps memos sound
 pub rewire_law : RewireLaw
 rewire_law hosts w k n c recipe stands kept =
     let w' : Signals = with_recipe w n recipe in
@@ -357,11 +375,13 @@ rewire_law hosts w k n c recipe stands kept =
 
 -- ---- disposal
 
+-- where a computed stands there is one
 some_computed : (x : Option Cell) (y : Option Computed) (c : Computed) → or_computed x y ≡ IsComputed c → y ≡ None → ⊥
 some_computed (Some z) y c h e = cc
 some_computed None (Some z) c h e = cc
 some_computed None None c h e = cc
 
+-- a disposal keeps memos sound
 pub dispose_law : DisposeLaw
 dispose_law hosts w k n there kept =
     let w' : Signals = without_signal w n in
@@ -430,10 +450,12 @@ dispose_law hosts w k n there kept =
 
 -- ---- nothing at all
 
+-- nobody keeps anything
 no_keeper : (n : ℕ) (path : List ℕ) → IsKeptPath no_signals no_memos n path → is_in n path ≡ true → ⊥
 no_keeper n [] c on = cc
 no_keeper n (p ∷ ps) c on = cc (c.0.at)
 
+-- no memos of no signals are sound
 pub empty_law : EmptyLaw
 empty_law hosts = record {
   sound = record {

@@ -1,5 +1,5 @@
 -- What stands under a name after a change of another, and of this one.
-use Rattle.std.proofs.Common.{◌≡◌, ℕ, ◌==◌, ◌||◌, Bool, true, false, cond, List, [], ◌∷◌, ◌++◌, Option, Some, None, refl, sym, ap, ◌∙◌}
+use Rattle.std.proofs.Common.{◌≡◌, ℕ, ◌==◌, Bool, true, false, cond, List, [], ◌∷◌, Some, None, refl, sym, ap, ◌∙◌}
 use Rattle.std.proofs.lemmas.Bool.{eqb-true}
 use Rattle.signal_model.specs.Standing.{Computed, Cell, changed, without, cell_at, computed_at}
 use Rattle.signal_model.specs.Memos.{Entry, entry_at}

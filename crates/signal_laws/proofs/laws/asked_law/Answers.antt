@@ -1,0 +1,5 @@
+use Rattle.signal_laws.proofs.Settling.{asked_law}
+use Rattle.signal_laws.proofs.laws.asked_law.Goals as goal
+
+pub returns : goal.returns
+returns c = asked_law

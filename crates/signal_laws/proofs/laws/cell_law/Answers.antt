@@ -1,0 +1,5 @@
+use Rattle.signal_laws.proofs.Making.{cell_law}
+use Rattle.signal_laws.proofs.laws.cell_law.Goals as goal
+
+pub returns : goal.returns
+returns c = cell_law

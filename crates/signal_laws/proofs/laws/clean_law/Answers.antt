@@ -1,0 +1,5 @@
+use Rattle.signal_laws.proofs.Cleaning.{clean_law}
+use Rattle.signal_laws.proofs.laws.clean_law.Goals as goal
+
+pub returns : goal.returns
+returns c = clean_law

@@ -1,0 +1,5 @@
+use Rattle.signal_laws.proofs.Making.{computed_law}
+use Rattle.signal_laws.proofs.laws.computed_law.Goals as goal
+
+pub returns : goal.returns
+returns c = computed_law
