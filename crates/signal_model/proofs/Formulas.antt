@@ -52,7 +52,7 @@ calculated_read op.Add m n = number_read (m +ℤ n)
 calculated_read op.Sub m n = number_read (m -ℤ n)
 calculated_read op.Mul m n = number_read (m *ℤ n)
 calculated_read op.Div m n = chosen_read (int_eq n (pos 0)) (Fail Zero) (formulas.number_answer (int_div m n)) refl (number_read (int_div m n))
-calculated_read op.Rem m n = chosen_read (int_eq n (pos 0)) (Fail Zero) (formulas.number_answer (int_rem m n)) refl (number_read (int_rem m n))
+calculated_read op.Rem m n = chosen_read (int_eq n (pos 0)) (Fail Zero) (Done (value.Int (int_rem m n))) refl refl
 calculated_read _ m n = refl
 
 calculation_read : (o : BinOp) (v u : Value) → is_read (formulas.calculation o v u) ≡ false
