@@ -88,3 +88,7 @@ evaluated hosts w c path = asked_from hosts c.recipe (λ m. value_of hosts w m (
 -- the sources that a computed reads from scratch, in order, each with its outcome
 abbrev pub reads_of : Hosts → Signals → Computed → List Seen
 reads_of hosts w c = (evaluated hosts w c []).reads
+
+-- what a recipe comes to that belongs to no signal, such as the formula of a line of a template
+abbrev pub recipe_value : Hosts → Signals → Recipe → Outcome
+recipe_value hosts w r = (asked_from hosts r (λ m. value_of hosts w m []) []).outcome
