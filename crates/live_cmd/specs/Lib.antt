@@ -1,5 +1,6 @@
 pub mod Grammar
 pub mod Items
+pub mod Judging
 pub mod Places
 pub mod Printed
 pub mod Reading

@@ -2,37 +2,53 @@
 ghost use Rattle.std.specs.Prelude.{◌≡◌};
 
 use crate::Refusal;
+use formula_text::Wired;
 use sig_base::{Name, Scalar};
 use std::marker::Model;
 
-/// A list of names.
+/// A list of formulas.
 #[derive(Debug, Drop)]
-pub struct Names {
-    names: Vec<Name>,
+pub struct Formulas {
+    formulas: Vec<Wired>,
 }
 
-impl Model for Names {
-    ghost use Rattle.std.specs.Prelude.{List, ℕ};
+impl Model for Formulas {
+    ghost use Rattle.std.specs.Prelude.{List};
+    ghost use Rattle.formula_text.specs.Wiring.{Wiring};
 
-    ghost Value = { List (List ℕ) };
+    ghost Value = { List Wiring };
 
-    ghost view = { λ n. n.names.items };
+    ghost view = { λ f. f.formulas.items };
 }
 
-impl Names {
-    /// These names in this order.
-    pub fn of(names: Vec<Name>) -> Names
-        ensures { result ≡ names.items }
+impl Formulas {
+    /// These formulas in this order.
+    pub fn of(formulas: Vec<Wired>) -> Formulas
+        ensures { result ≡ formulas.items }
     {
-        Names { names }
+        Formulas { formulas }
     }
 
-    /// The names in their order.
-    pub fn as_slice(&self) -> &[Name]
+    /// The formulas in their order.
+    pub fn as_slice(&self) -> &[Wired]
         ensures { result.now ≡ self.now }
     {
-        &self.names
+        &self.formulas
     }
+
+    /// The formulas in their order, given back.
+    pub fn into_vec(self) -> Vec<Wired>
+        ensures { result.items ≡ self }
+    {
+        self.formulas
+    }
+}
+
+/// What a computed is computed by.
+#[derive(Debug, Drop)]
+pub enum SourceText {
+    /// A formula with the names of its slots.
+    Formula(Wired),
 }
 
 /// A command of a script.
@@ -42,10 +58,16 @@ pub enum Command {
     Cell { name: Name, value: Scalar },
     /// `set N LIT` gives a cell another value.
     Set { name: Name, value: Scalar },
-    /// `template T` to `end` makes a template that shows these cells one after the other.
-    Template { name: Name, texts: Names },
+    /// `computed N = FORMULA` makes a computed.
+    Computed { name: Name, source: SourceText },
+    /// `get N` tells the outcome of a cell or a computed.
+    Get(Name),
+    /// `template T` to `end` makes a template that shows what these formulas come to, one after the other.
+    Template { name: Name, texts: Formulas },
     /// `mount P T` makes a page from a template.
     Mount { name: Name, template: Name },
+    /// `show P` tells the HTML of a page as it was last brought up to date.
+    Show(Name),
     /// `flush` brings the pages up to date.
     Flush,
 }

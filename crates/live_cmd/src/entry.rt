@@ -54,6 +54,8 @@ impl PageBytes {
 /// Something that a command tells.
 #[derive(Debug, Drop)]
 pub enum Entry {
+    /// What a name comes to.
+    Outcome(Name, Outcome),
     /// The HTML of a page, at its making or where it differs from what was told last.
     Page(Name, PageBytes),
     /// A refused item.

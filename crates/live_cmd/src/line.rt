@@ -1,5 +1,6 @@
 // What one line of a script says.
 
+use formula_text::Wired;
 use sig_base::{Name, Scalar};
 
 /// What a line says, by itself: where it may stand is another matter.
@@ -9,14 +10,20 @@ pub enum Line {
     Cell { name: Name, value: Scalar },
     /// `set N LIT`
     Set { name: Name, value: Scalar },
+    /// `computed N = FORMULA`
+    Computed { name: Name, formula: Wired },
+    /// `get N`
+    Get(Name),
     /// `template T`, the first line of a block
     Template(Name),
-    /// `text N`, in a template
-    Text(Name),
+    /// `text FORMULA`, in a template
+    Text(Wired),
     /// `end`, the last line of a block
     End,
     /// `mount P T`
     Mount { name: Name, template: Name },
+    /// `show P`
+    Show(Name),
     /// `flush`
     Flush,
 }

@@ -13,4 +13,29 @@ pub enum Refusal {
     Taken(Name),
     /// The name is of another kind than its place needs.
     Kind(Name),
+    /// There would be too much of something.
+    Limit(LimitWord),
+    /// The line of this number has an `untrack`, and no effect stands around it.
+    UntrackHere(u32),
+    /// The line of this number has a formula of a height above 64.
+    Nest(u32),
+}
+
+/// What there may not be too much of.
+#[derive(Clone, Copy, Debug, PartialEq, Eq)]
+pub enum LimitWord {
+    /// A line has at most 4,096 bytes.
+    Line,
+    /// A text that is written in the script has at most 1,024 bytes.
+    Text,
+    /// A formula has at most 64 distinct names.
+    Sources,
+    /// A template has at most 128 lines between its first line and its `end`.
+    Template,
+    /// At most 512 cells and computeds live.
+    Nodes,
+    /// At most 64 templates are made.
+    Templates,
+    /// At most 8 pages live.
+    Pages,
 }

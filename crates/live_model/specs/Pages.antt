@@ -1,19 +1,30 @@
--- The HTML of pages, from scratch on the cells' values.
-use Rattle.std.specs.Prelude.{ℕ, List, [], Option, Some, None, slice_get}
+-- The HTML of pages, from scratch on the signals.
+use Rattle.std.specs.Prelude.{ℕ, List, [], ◌++◌, codes, unwrap_or}
 use Rattle.std.specs.List.{flat_map}
-use Rattle.sig_base.specs.declared.scalar.Scalar.{Scalar}
-use Rattle.sig_base.specs.Scalars.{shown_text}
+use Rattle.sig_base.specs.declared.value.Fault.TheVariants.{Slot}
+use Rattle.sig_base.specs.declared.value.Outcome.{Outcome}
+use Rattle.sig_base.specs.declared.value.Outcome.TheVariants.{Good, Bad}
+use Rattle.sig_base.specs.declared.value.Step.TheVariants.{Fail}
+use Rattle.sig_base.specs.Printing.{fault_name}
+use Rattle.sig_formula.specs.Answering.{shown}
 use Rattle.html_out.specs.Html.{escaped}
+use Rattle.signal_model.specs.Recipes.{Hosts, Recipe}
+use Rattle.signal_model.specs.Standing.{Signals}
+use Rattle.signal_model.specs.Values.{recipe_value}
 
--- a value as a text node; nothing where there is none
-abbrev pub html_of_value : Option Scalar → List ℕ
-html_of_value None = []
-html_of_value (Some v) = escaped (shown_text v)
+-- no formulas are lent
+abbrev pub no_hosts : Hosts
+no_hosts place known = Fail Slot
 
--- the text node of the cell of this number
-abbrev pub html_at : List Scalar → ℕ → List ℕ
-html_at cells k = html_of_value (slice_get cells k)
+-- the text of a text node: the shown text of a scalar, and for rows and faults `#ERR` with the name of the fault
+abbrev pub node_text : Outcome → List ℕ
+node_text (Good v) = unwrap_or (shown v) (codes "#ERR kind")
+node_text (Bad f) = codes "#ERR " ++ fault_name f
 
--- the texts of these cells, one after the other
-abbrev pub html_of : List Scalar → List ℕ → List ℕ
-html_of cells links = flat_map (html_at cells) links
+-- the text node of a formula
+abbrev pub text_html : Signals → Recipe → List ℕ
+text_html w r = escaped (node_text (recipe_value no_hosts w r))
+
+-- the texts of a template, one after the other
+abbrev pub html_of : Signals → List Recipe → List ℕ
+html_of w texts = flat_map (text_html w) texts

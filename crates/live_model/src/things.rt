@@ -1,62 +1,51 @@
 // What the names of a script stand for.
-ghost use Rattle.std.specs.Prelude.{◌≡◌, IfOk};
-ghost use Rattle.std.specs.Rc.{rc_value};
+ghost use Rattle.std.specs.Prelude.{◌≡◌};
 
 use live_cmd::PageBytes;
-use sig_base::{Name, NoMemory, NodeId, PageId};
-use std::alloc::Global;
+use sig_base::{Name, NodeId, PageId};
+use signal_scratch::Linked;
 use std::marker::Model;
-use std::rc::Rc;
 
-/// The cells that a template's texts show, in its order. Its copies share them.
+/// The formulas of a template's texts, in its order.
 #[derive(Debug, Drop)]
-pub struct Links {
-    shared: Rc<Vec<NodeId>>,
+pub struct Texts {
+    formulas: Vec<Linked>,
 }
 
-impl Model for Links {
-    ghost use Rattle.std.specs.Prelude.{List, ℕ};
-    ghost use Rattle.std.specs.Rc.{rc_value};
+impl Model for Texts {
+    ghost use Rattle.std.specs.Prelude.{List};
+    ghost use Rattle.signal_model.specs.Recipes.{Recipe};
 
-    ghost Value = { List ℕ };
+    ghost Value = { List Recipe };
 
-    ghost view = { λ l. (rc_value l.shared).items };
+    ghost view = { λ t. t.formulas.items };
 }
 
-impl Links {
-    /// These cells in this order.
-    pub fn of(alloc: Global, cells: Vec<NodeId>) -> Result<Links, NoMemory>
-        ensures { IfOk result (λ l. l ≡ cells.items) }
+impl Texts {
+    /// These formulas in this order.
+    pub fn of(formulas: Vec<Linked>) -> Texts
+        ensures { result ≡ formulas.items }
     {
-        Ok(Links {
-            shared: Rc::new(alloc, cells)?,
-        })
+        Texts { formulas }
     }
 
-    /// The cells in their order.
-    pub fn as_slice(&self) -> &[NodeId]
+    /// The formulas in their order.
+    pub fn as_slice(&self) -> &[Linked]
         ensures { result.now ≡ self.now }
     {
-        &self.shared
-    }
-
-    /// The same cells, shared.
-    pub fn copy(&self) -> Result<Links, NoMemory>
-        ensures { IfOk result (λ l. l ≡ self.now) }
-    {
-        Ok(Links {
-            shared: self.shared.clone()?,
-        })
+        &self.formulas
     }
 }
 
 /// What a name stands for.
-#[derive(Debug, Drop)]
+#[derive(Clone, Copy, Debug, PartialEq, Eq)]
 pub enum Thing {
     /// The cell of this number.
     Cell(NodeId),
-    /// A template, by the cells that it shows.
-    Template(Links),
+    /// The computed of this number.
+    Computed(NodeId),
+    /// The template of this number.
+    Template(usize),
     /// The page of this number.
     Page(PageId),
 }
@@ -68,14 +57,18 @@ pub enum Need {
     New,
     /// A cell.
     Cell,
+    /// A cell or a computed.
+    Signal,
     /// A template.
     Template,
+    /// A page.
+    Page,
 }
 
-/// A page, the cells that it shows, and its HTML as it was told last.
+/// A page, the number of its template, and its HTML as it was told last.
 #[derive(Debug, Drop)]
 pub struct Page {
     pub name: Name,
-    pub links: Links,
+    pub template: usize,
     pub shown: PageBytes,
 }

@@ -1,0 +1,62 @@
+-- What is refused of lines that say something.
+use Rattle.std.specs.Prelude.{ℕ, nat_lt, false, if◌then◌else◌, List, [], ◌∷◌, length, Option, Some, None}
+use Rattle.std.specs.Option.{option_or}
+use Rattle.sig_base.specs.declared.scalar.Scalar.{Scalar}
+use Rattle.formula_text.specs.declared.wired.Allow.{Allow}
+use Rattle.formula_text.specs.declared.wired.FormulaFault.{FormulaFault}
+use Rattle.formula_text.specs.declared.wired.FormulaFault.TheVariants as fault
+use Rattle.formula_text.specs.Signs.{constant}
+use Rattle.formula_text.specs.Judging.{is_long}
+use Rattle.formula_text.specs.Wiring as formula
+use Rattle.live_cmd.specs.declared.refusal.LimitWord.TheVariants as limit
+use Rattle.live_cmd.specs.declared.refusal.Refusal.{Refusal}
+use Rattle.live_cmd.specs.declared.refusal.Refusal.TheVariants as refusal
+use Rattle.live_cmd.specs.Grammar.{Said, cell, set, computed, text}
+
+-- what lines say, each with its number
+abbrev pub Sayings : Type 0
+Sayings = List (ℕ × Said)
+
+-- in the formulas of computeds and of templates there is no row, and every read is tracked
+abbrev pub tracked : Allow
+tracked = record { row = false; untrack = false }
+
+abbrev pub fault_of_scalar : Scalar → Option FormulaFault
+fault_of_scalar v = if is_long (constant v) then Some fault.TextLong else None
+
+-- what is wrong with a line that says something: an `untrack`, a formula's height, a text's length, a formula's names, the first of these
+abbrev pub fault_of : Said → Option FormulaFault
+fault_of (cell n v) = fault_of_scalar v
+fault_of (set n v) = fault_of_scalar v
+fault_of (computed n f) = formula.refusal tracked f
+fault_of (text f) = formula.refusal tracked f
+fault_of _ = None
+
+-- a line that has something where it may not stand, by its number
+abbrev pub misplacing : ℕ → Option FormulaFault → Option Refusal
+misplacing k (Some fault.UntrackHere) = Some (refusal.UntrackHere k)
+misplacing k (Some fault.Nest) = Some (refusal.Nest k)
+misplacing k _ = None
+
+-- a line that has too much of something
+abbrev pub excess : Option FormulaFault → Option Refusal
+excess (Some fault.TextLong) = Some (refusal.Limit limit.Text)
+excess (Some fault.Sources) = Some (refusal.Limit limit.Sources)
+excess _ = None
+
+abbrev pub first_misplaced : Sayings → Option Refusal
+first_misplaced [] = None
+first_misplaced (x ∷ xs) = option_or (misplacing x.0 (fault_of x.1)) (first_misplaced xs)
+
+abbrev pub first_excess : Sayings → Option Refusal
+first_excess [] = None
+first_excess (x ∷ xs) = option_or (excess (fault_of x.1)) (first_excess xs)
+
+-- a template has at most 128 lines between its first and its `end`
+abbrev pub many_lines : Sayings → Option Refusal
+many_lines xs = if nat_lt 130 (length xs) then Some (refusal.Limit limit.Template) else None
+
+-- What the lines of a command are refused for: first what may not stand where it does, at the first such line, then too much of
+-- something, at the first such line, then too many lines.
+abbrev pub refusal_of : Sayings → Option Refusal
+refusal_of xs = option_or (first_misplaced xs) (option_or (first_excess xs) (many_lines xs))
