@@ -1,45 +1,38 @@
 -- Each piece of a script is some item.
-use Rattle.std.proofs.Common.{◌≡◌, ◌<◌, ◌≤◌, ℕ, true, List, [], ◌∷◌, length, Option, Some, None, refl, ap, ◌∙◌, inl, inr, arith, ◌⊎◌}
-use Rattle.std.specs.Prelude.{nat_le, IsTrue}
+use Rattle.std.proofs.Common.{◌≡◌, ℕ, true, false, List, [], ◌∷◌, Option, Some, None, refl, ap, ◌∙◌, inl, inr, ◌⊎◌}
+use Rattle.std.specs.Prelude.{IsTrue}
 use Rattle.std.proofs.lemmas.Bool.{cases_Bool}
-use Rattle.std.proofs.lemmas.Bool.Decides.{nat_tests}
 use Rattle.sig_words.specs.declared.token.Token.{Token}
 use Rattle.sig_words.specs.Lexemes.{lexemes}
 use Rattle.sig_words.specs.Tokens.{AreTokens}
 use Rattle.sig_words.proofs.Deciding.{tokens_or_none}
 use Rattle.script_lines.specs.Lines.{NumberedLine}
 use Rattle.script_lines.specs.Pieces.{Piece, pieces_of}
-use Rattle.live_cmd.specs.declared.line.Line.{Line}
 use Rattle.live_cmd.specs.declared.command.Item.{Item}
 use Rattle.live_cmd.specs.declared.command.Item.TheVariants as item
+use Rattle.live_cmd.specs.declared.refusal.LimitWord.TheVariants as limit
 use Rattle.live_cmd.specs.declared.refusal.Refusal.TheVariants as refusal
-use Rattle.live_cmd.specs.Grammar.{Writes}
+use Rattle.live_cmd.specs.Grammar.{Said, Writes}
 use Rattle.live_cmd.specs.Places.{Place, first, fits, moved}
-use Rattle.live_cmd.specs.Reading.{line_of}
-use Rattle.live_cmd.specs.Items.{Say, IsFaulty, IsItem, unended, faulty, said, first_number, item_or, command_of, AreItems, ItemsFrom}
+use Rattle.live_cmd.specs.Judging.{Sayings}
+use Rattle.live_cmd.specs.Reading.{said_of}
+use Rattle.live_cmd.specs.Items.{Say, IsFaulty, IsItem, long, unended, faulty, says, any_long, first_number, item_of, AreItems, ItemsFrom}
 use Rattle.live_cmd.proofs.Spellings.{writes, writes_none, one_writing}
 
-of_tokens : (bytes : List ℕ) (ts : List Token) (found : Option Line) → AreTokens bytes ts → length bytes ≤ 4096 → found ≡ line_of (lexemes bytes ts)
-    → ((x : Line) × Writes x bytes) ⊎ ((x : Line) → Writes x bytes → ⊥)
-of_tokens bytes ts None a short e = inr (writes_none bytes ts a e)
-of_tokens bytes ts (Some x) a short e = inl (x, writes bytes ts x a short e)
+of_tokens : (bytes : List ℕ) (ts : List Token) (o : Option Said) → AreTokens bytes ts → said_of (lexemes bytes ts) ≡ o
+    → ((x : Said) × Writes x bytes) ⊎ ((x : Said) → Writes x bytes → ⊥)
+of_tokens bytes ts None a e = inr (writes_none bytes ts a e)
+of_tokens bytes ts (Some x) a e = inl (x, writes bytes ts x a e)
 
 -- bytes write a line, or none
-pub line_or_none : (bytes : List ℕ) → ((x : Line) × Writes x bytes) ⊎ ((x : Line) → Writes x bytes → ⊥)
-line_or_none bytes = elim (cases_Bool (nat_le (length bytes) 4096)) [
-  | inl e ↦
-      let short : length bytes ≤ 4096 = grind (arith, nat_tests) in
-      elim (tokens_or_none bytes) [
-        | inl t ↦ of_tokens bytes t.0 (line_of (lexemes bytes t.0)) t.1 short refl
-        | inr none ↦ inr (λ x w. none w.tokens w.cut)
-      ]
-  | inr e ↦
-      let long : 4096 < length bytes = grind (arith, nat_tests) in
-      inr (λ x w. let short = w.short in omega arith)
+pub line_or_none : (bytes : List ℕ) → ((x : Said) × Writes x bytes) ⊎ ((x : Said) → Writes x bytes → ⊥)
+line_or_none bytes = elim (tokens_or_none bytes) [
+  | inl t ↦ of_tokens bytes t.0 (said_of (lexemes bytes t.0)) t.1 refl
+  | inr none ↦ inr (λ x w. none w.tokens w.cut)
 ]
 
 -- a line says something that may stand there, or nothing
-line_at : (p : Place) (bytes : List ℕ) → ((x : Line) × Writes x bytes × IsTrue (fits p x)) ⊎ ((x : Line) → Writes x bytes → IsTrue (fits p x) → ⊥)
+line_at : (p : Place) (bytes : List ℕ) → ((x : Said) × Writes x bytes × IsTrue (fits p x)) ⊎ ((x : Said) → Writes x bytes → IsTrue (fits p x) → ⊥)
 line_at p bytes = elim (line_or_none bytes) [
   | inr none ↦ inr (λ x w f. none x w)
   | inl l ↦ elim (cases_Bool (fits p l.0)) [
@@ -49,23 +42,26 @@ line_at p bytes = elim (line_or_none bytes) [
 ]
 
 -- lines say something each where it stands, or one is the first that doesn't
-lines_or_fault : (p : Place) (ls : List NumberedLine) → ((xs : List Line) × Say p ls xs) ⊎ ((k : ℕ) × IsFaulty p ls k)
+lines_or_fault : (p : Place) (ls : List NumberedLine) → ((xs : Sayings) × Say p ls xs) ⊎ ((k : ℕ) × IsFaulty p ls k)
 lines_or_fault p [] = inl ([], tt)
 lines_or_fault p (l ∷ ls) = elim (line_at p l.1) [
   | inr none ↦ inr (l.0, inl (refl, none))
   | inl x ↦ elim (lines_or_fault (moved p x.0) ls) [
-    | inl r ↦ inl (x.0 ∷ r.0, (x.1, x.2, r.1))
+    | inl r ↦ inl ((l.0, x.0) ∷ r.0, (refl, x.1, x.2, r.1))
     | inr r ↦ inr (r.0, inr (x.0, x.1, x.2, r.1))
   ]
 ]
 
 -- each piece is some item
 pub some_item : (p : Piece) → (i : Item) × IsItem p i
-some_item p = elim (cases_Bool p.ended) [
-  | inr e ↦ (item.Refused (refusal.Syntax (first_number p.lines)), unended e)
-  | inl e ↦ elim (lines_or_fault first p.lines) [
-    | inl s ↦ (item_or (first_number p.lines) (command_of s.0), said s.0 e s.1)
-    | inr f ↦ (item.Refused (refusal.Syntax f.0), faulty f.0 e f.1)
+some_item p = elim (cases_Bool (any_long p.lines)) [
+  | inl a ↦ (item.Refused (refusal.Limit limit.Line), long a)
+  | inr a ↦ elim (cases_Bool p.ended) [
+    | inr e ↦ (item.Refused (refusal.Syntax (first_number p.lines)), unended a e)
+    | inl e ↦ elim (lines_or_fault first p.lines) [
+      | inl s ↦ (item_of (first_number p.lines) s.0, says s.0 a e s.1)
+      | inr f ↦ (item.Refused (refusal.Syntax f.0), faulty f.0 a e f.1)
+    ]
   ]
 ]
 

@@ -2,14 +2,13 @@
 ghost use Rattle.std.specs.Prelude.{◌≡◌, ◌∷◌, ◌+◌, ◌++◌, ℕ, List, length, drop};
 ghost use Rattle.script_lines.specs.Lines.{EndsLine, lines, numbered};
 ghost use Rattle.script_lines.specs.Pieces.{Piece, outside, place_after};
-ghost use Rattle.live_cmd.specs.declared.line.Line.{Line};
 ghost use Rattle.live_cmd.specs.declared.command.Item.{Item};
-ghost use Rattle.live_cmd.specs.Grammar.{Writes};
+ghost use Rattle.live_cmd.specs.Grammar.{Said, Writes};
 ghost use Rattle.live_cmd.specs.Items.{Begins, IsItem, ItemsFrom};
 
 /// The bytes of a line say one thing.
 pub fn one_meaning()
-    ensures { (bytes : List ℕ) (x y : Line) → Writes x bytes → Writes y bytes → x ≡ y }
+    ensures { (bytes : List ℕ) (x y : Said) → Writes x bytes → Writes y bytes → x ≡ y }
 {}
 
 /// A piece of a script is exactly one item.

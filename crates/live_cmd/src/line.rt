@@ -1,6 +1,6 @@
 // What one line of a script says.
 
-use formula_text::Wired;
+use formula_text::{FormulaFault, Wired};
 use sig_base::{Name, Scalar};
 
 /// What a line says, by itself: where it may stand is another matter.
@@ -26,4 +26,24 @@ pub enum Line {
     Show(Name),
     /// `flush`
     Flush,
+}
+
+/// What a line is for the place where it stands.
+#[derive(Clone, Copy, Debug, PartialEq, Eq)]
+pub enum LineKind {
+    /// A command by itself.
+    Alone,
+    /// The first line of a template.
+    Template,
+    /// A text of a template.
+    Text,
+    /// The end of a block.
+    End,
+}
+
+/// What a line says: what it is for its place, and the line, or what is wrong with it.
+#[derive(Debug, Drop)]
+pub struct Found {
+    pub kind: LineKind,
+    pub line: Result<Line, FormulaFault>,
 }

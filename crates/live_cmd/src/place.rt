@@ -1,57 +1,38 @@
 // Where a line may stand among the lines of a command.
-ghost use Rattle.std.specs.Prelude.{◌≡◌, IsTrue};
-ghost use Rattle.live_cmd.specs.Places.{fits, moved};
-ghost use Rattle.live_cmd.specs.Views.{place_of};
+ghost use Rattle.std.specs.Prelude.{◌≡◌};
+ghost use Rattle.live_cmd.specs.Views.{kind_fits, kind_moved, place_of};
 
-use crate::Line;
-
-/// The most lines that a template has before its end.
-pub const MOST_LINES: usize = 128;
+use crate::line::LineKind;
 
 /// A place among the lines of a command.
 #[derive(Clone, Copy, Debug)]
 pub enum Place {
     /// At the first line.
     First,
-    /// In a template, after so many lines of it.
-    InTemplate(usize),
+    /// In a template.
+    InTemplate,
     /// Behind the last line.
     Behind,
 }
 
-/// Whether a line may stand there.
-pub fn fits(at: Place, line: &Line) -> bool
-    ensures { result ≡ fits (place_of at) line.now }
+/// Whether a line of this kind may stand there.
+pub fn fits(at: Place, kind: LineKind) -> bool
+    ensures { result ≡ kind_fits (place_of at) kind }
 {
     match at {
-        Place::First => match line {
-            Line::Cell { .. } | Line::Set { .. } | Line::Mount { .. } => true,
-            Line::Template(_) | Line::Flush => true,
-            Line::Text(_) | Line::End => false,
-        },
-        Place::InTemplate(count) => match line {
-            Line::Text(_) => count < MOST_LINES,
-            Line::End => true,
-            _ => false,
-        },
+        Place::First => matches!(kind, LineKind::Alone | LineKind::Template),
+        Place::InTemplate => matches!(kind, LineKind::Text | LineKind::End),
         Place::Behind => false,
     }
 }
 
-/// The place after a line that may stand there.
-pub fn moved(at: Place, line: &Line) -> Place
-    requires { IsTrue (fits (place_of at) line.now) }
-    ensures { place_of result ≡ moved (place_of at) line.now }
+/// The place after a line of this kind.
+pub fn moved(at: Place, kind: LineKind) -> Place
+    ensures { place_of result ≡ kind_moved (place_of at) kind }
 {
-    match at {
-        Place::First => match line {
-            Line::Template(_) => Place::InTemplate(0),
-            _ => Place::Behind,
-        },
-        Place::InTemplate(count) => match line {
-            Line::Text(_) => Place::InTemplate(count + 1),
-            _ => Place::Behind,
-        },
-        Place::Behind => Place::Behind,
+    match (at, kind) {
+        (Place::First, LineKind::Template) => Place::InTemplate,
+        (Place::InTemplate, LineKind::Text) => Place::InTemplate,
+        _ => Place::Behind,
     }
 }

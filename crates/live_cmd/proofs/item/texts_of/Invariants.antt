@@ -4,7 +4,7 @@ use Rattle.live_cmd.specs.Items.{texts_of}
 use Rattle.live_cmd.proofs.item.texts_of.Given as goal
 
 abbrev pub invariant-loop-line : goal.invariant-loop-line
-invariant-loop-line l = option_map (λ ns. l.names.items ++ ns) (texts_of (into_iter_items l.rest)) ≡ texts_of l.fn.lines.items
+invariant-loop-line l = option_map (λ ws. l.formulas.items ++ ws) (texts_of (into_iter_items l.rest)) ≡ texts_of l.fn.lines.items
 
 abbrev pub decreases-loop-line : goal.decreases-loop-line
 decreases-loop-line l = into_iter_len l.rest
