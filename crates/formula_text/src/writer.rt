@@ -11,8 +11,7 @@ use sig_formula::{BinOp, Formula};
 /// Appends the canonical text of a formula whose slots have names: one space on each side of an operator and behind `not`,
 /// `if`, `then` and `else`, and parentheses exactly where the grammar needs them. A slot without a name is written as nothing.
 pub fn put_formula(out: &mut Vec<u8>, wired: &Wired) -> Result<(), NoMemory>
-    ensures { OnOk result (out.new.items
-        ≡ out.old.items ++ canonical_text (unslotted wired.now.names.items (tree wired.now.formula))) }
+    ensures { OnOk result (out.new.items ≡ out.old.items ++ canonical_text (unslotted wired.now.1 wired.now.0)) }
 {
     put_at(out, &wired.names, &wired.formula, CHOICE)
 }
