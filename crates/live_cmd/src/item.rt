@@ -152,8 +152,8 @@ fn item_of(alloc: Global, piece: &Piece) -> Result<Item, NoMemory>
     }
 }
 
-/// The item at a byte, the place after it, and the number of the line there. The byte begins a line of this number;
-/// `None` exactly where nothing is left.
+/// The first item from a byte on, the place after it, and the number of the line there. The byte begins a line of this
+/// number; `None` exactly where nothing is left but empty lines and comments.
 ///
 /// An item is a line or, from a `template` line to the `end` that closes it, a block. It is refused as `Syntax` with the
 /// number of its first line where its end is missing, otherwise with that of its first line which isn't in the grammar or
@@ -286,9 +286,10 @@ mod tests {
         let alloc = rt.alloc();
         for (script, number) in [
             ("", None),
-            ("\n", Some(5)),
-            ("# x", Some(5)),
-            ("flush\r\n", Some(5)),
+            ("\n", None),
+            ("# x", None),
+            ("flush\r", Some(5)),
+            ("\n# x\r\n\tend\r\n", Some(7)),
             ("end", Some(5)),
             ("text a", Some(5)),
             ("cell true = 1", Some(5)),
