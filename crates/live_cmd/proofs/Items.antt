@@ -8,7 +8,7 @@ use Rattle.std.proofs.lemmas.Bool.Decides.{nat_tests}
 use Rattle.std.proofs.lemmas.List.{length-map}
 use Rattle.formula_text.specs.declared.wired.FormulaFault.{FormulaFault}
 use Rattle.formula_text.specs.declared.wired.FormulaFault.TheVariants as fault
-use Rattle.script_lines.specs.Lines.{NumberedLine, EndsLine, lines, numbered}
+use Rattle.script_lines.specs.Lines.{NumberedLine, EndsLine, kept_lines, lines}
 use Rattle.script_lines.specs.Pieces.{Piece, outside, pieces_of, place_after}
 use Rattle.script_lines.proofs.Cutting.{script_cut}
 use Rattle.live_cmd.specs.declared.line.Line.{Line}
@@ -219,7 +219,7 @@ are_append (p ∷ ps) qs [] js a b = absurd a
 are_append (p ∷ ps) qs (i ∷ is) js a b = (a.0, are_append ps qs is js a.1 b)
 
 -- the items of a script are those of both parts in turn
-pub items_cut : (n : ℕ) (x y : List ℕ) (is js : List Item) → EndsLine x → place_after outside (numbered n (lines x)) ≡ outside
+pub items_cut : (n : ℕ) (x y : List ℕ) (is js : List Item) → EndsLine x → place_after outside (kept_lines n x) ≡ outside
     → ItemsFrom n x is → ItemsFrom (n + length (lines x)) y js → ItemsFrom n (x ++ y) (is ++ js)
 items_cut n x y is js ends closed a b =
     subst (λ (ps : List Piece). AreItems ps (is ++ js)) (sym (script_cut n x y ends closed)) (are_append (pieces_of n x) (pieces_of (n + length (lines x)) y) is js a b)

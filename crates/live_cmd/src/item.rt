@@ -212,8 +212,8 @@ fn item_of(alloc: Global, piece: &Piece) -> Result<Item, NoMemory>
     }
 }
 
-/// The item at a byte, the place after it, and the number of the line there. The byte begins a line of this number;
-/// `None` exactly where nothing is left.
+/// The first item from a byte on, the place after it, and the number of the line there. The byte begins a line of this
+/// number; `None` exactly where nothing is left but empty lines and comments.
 ///
 /// An item is a line or, from a `template` line to the `end` that closes it, a block. It is refused for the first of these
 /// causes: a line of more than 4,096 bytes; an end that is missing, as `Syntax` with the number of its first line; a line that
@@ -238,4 +238,242 @@ pub fn next_item(
     };
     let found = item_of(alloc, &piece)?;
     Ok(Some((found, next, after)))
+}
+
+#[cfg(test)]
+mod tests {
+    use super::next_item;
+    use crate::{Command, Entry, Item, SourceText, entry_line};
+    use formula_text::put_formula;
+    use sig_base::Scalar;
+    use std::alloc::{AllocError, Global};
+    use std::test::Fail;
+
+    // The first item of a short script whose first line has the number 5.
+    fn item(alloc: Global, script: &[u8]) -> Option<Item> {
+        if script.len() > 100_000 {
+            return None;
+        }
+        match next_item(alloc, script, 0, 5) {
+            Ok(Some((item, _, _))) => Some(item),
+            _ => None,
+        }
+    }
+
+    // What is printed of the first item where it is refused; nothing where it isn't.
+    fn refused(alloc: Global, script: &[u8]) -> Result<Vec<u8>, Fail> {
+        let mut out = Vec::new(alloc);
+        if let Some(Item::Refused(refusal)) = item(alloc, script) {
+            entry_line(&mut out, &Entry::Error(refusal), false)?;
+        }
+        Ok(out)
+    }
+
+    // The formulas of the first item, one after the other, each behind `|`.
+    fn formulas(alloc: Global, script: &[u8]) -> Result<Vec<u8>, Fail> {
+        let mut out = Vec::new(alloc);
+        match item(alloc, script) {
+            Some(Item::Do(Command::Computed { name: _, source })) => {
+                let SourceText::Formula(wired) = source;
+                out.push(b'|')?;
+                put_formula(&mut out, &wired)?;
+            }
+            Some(Item::Do(Command::Template { name: _, texts })) => {
+                for wired in texts.as_slice() {
+                    out.push(b'|')?;
+                    put_formula(&mut out, wired)?;
+                }
+            }
+            _ => (),
+        }
+        Ok(out)
+    }
+
+    // The number that the first item gives a cell.
+    fn number(alloc: Global, script: &[u8]) -> Option<i64> {
+        match item(alloc, script) {
+            Some(
+                Item::Do(
+                    Command::Cell {
+                        name: _,
+                        value: Scalar::Int(n),
+                    },
+                ),
+            ) => Some(n),
+            _ => None,
+        }
+    }
+
+    fn repeated(
+        alloc: Global,
+        front: &[u8],
+        part: &[u8],
+        times: usize,
+        back: &[u8],
+    ) -> Result<Vec<u8>, AllocError> {
+        let mut script = Vec::new(alloc);
+        script.extend_from_slice(front)?;
+        for _ in 0..times {
+            script.extend_from_slice(part)?;
+        }
+        script.extend_from_slice(back)?;
+        Ok(script)
+    }
+
+    // A computed that reads so many names, in groups of sixteen.
+    fn sum_of(alloc: Global, names: u32) -> Result<Vec<u8>, AllocError> {
+        let mut script = Vec::new(alloc);
+        script.extend_from_slice(b"computed x = (0")?;
+        for i in 0..names {
+            if i % 16 == 0 {
+                script.extend_from_slice(b") + (0")?;
+            }
+            let part = format!(in alloc; " + a{i}")?;
+            script.extend_from_slice(part.as_bytes())?;
+        }
+        script.extend_from_slice(b")")?;
+        Ok(script)
+    }
+
+    // Whether this is what is printed of the first item of a script.
+    fn prints(
+        alloc: Global,
+        script: Result<Vec<u8>, AllocError>,
+        printed: &str,
+    ) -> Result<bool, Fail> {
+        let script = script?;
+        let found = refused(alloc, &script)?;
+        Ok(found.as_slice() == printed.as_bytes())
+    }
+
+    #[test]
+    fn reads_commands(rt: HostRuntime) -> Result<(), Fail> {
+        let alloc = rt.alloc();
+        assert!(rt; matches!(next_item(alloc, b"\n # x", 0, 1), Ok(None)));
+        assert!(rt;
+            matches!(
+                next_item(alloc, b"\n# x\r\nflush\r\nset a true", 0, 1),
+                Ok(Some((Item::Do(Command::Flush), 13, 4)))
+            )
+        );
+        assert!(rt; matches!(item(alloc, b"get a"), Some(Item::Do(Command::Get(_)))));
+        assert!(rt; matches!(item(alloc, b"show p"), Some(Item::Do(Command::Show(_)))));
+        assert_eq!(rt; number(alloc, b" cell\ta= -5 \nend"), Some(-5));
+        let computed = formulas(alloc, b"computed c = (a+1)*b")?;
+        assert_eq!(rt; computed.as_slice(), b"|(a + 1) * b".as_slice());
+        let template = formulas(
+            alloc,
+            b"template t\n text b\r\n\n# x\ntext (\"x\")\nend\nflush",
+        )?;
+        assert_eq!(rt; template.as_slice(), b"|b|\"x\"".as_slice());
+        Ok(())
+    }
+
+    #[test]
+    fn refuses_lines(rt: HostRuntime) -> Result<(), Fail> {
+        let alloc = rt.alloc();
+        for (script, printed) in [
+            ("", ""),
+            ("\n# x\r\n\tend\r\n", "error 1 7\n"),
+            ("flush\r", "error 1 5\n"),
+            ("text a", "error 1 5\n"),
+            ("get a b", "error 1 5\n"),
+            ("cell true = 1", "error 1 5\n"),
+            ("computed a = 1 +", "error 1 5\n"),
+            ("computed b = untrack(a)", "error 15 5\n"),
+            ("computed b = untrack(a) )", "error 1 5\n"),
+            ("template t\ntext a b\nend", "error 1 6\n"),
+            ("template t\ntext a\n", "error 1 5\n"),
+            ("template t\nflush\nend", "error 1 6\n"),
+            ("template t\ntext untrack(a)\ntext )\nend", "error 1 7\n"),
+            ("template t\ntext a\n\ntext untrack(a)\nend", "error 15 8\n"),
+        ] {
+            let found = refused(alloc, script.as_bytes())?;
+            assert_eq!(rt; found.as_slice(), printed.as_bytes(), "at {script}");
+        }
+        Ok(())
+    }
+
+    #[test]
+    fn keeps_limits(rt: HostRuntime) -> Result<(), Fail> {
+        let alloc = rt.alloc();
+        let line = "error 5 line\n";
+        assert!(rt; prints(alloc, repeated(alloc, b"flush", b" ", 4091, b""), "")?);
+        assert!(rt; prints(alloc, repeated(alloc, b"flush", b" ", 4092, b""), line)?);
+        let text = "error 5 text\n";
+        assert!(rt; prints(alloc, repeated(alloc, b"set a \"", b"x", 1024, b"\""), "")?);
+        assert!(rt; prints(alloc, repeated(alloc, b"set a \"", b"x", 1025, b"\""), text)?);
+        assert!(rt; prints(alloc, sum_of(alloc, 64), "")?);
+        assert!(rt; prints(alloc, sum_of(alloc, 65), "error 5 sources\n")?);
+        let template = "error 5 template\n";
+        assert!(rt;
+            prints(
+                alloc,
+                repeated(alloc, b"template t\n", b"text a\n", 128, b"end"),
+                ""
+            )?
+        );
+        assert!(rt;
+            prints(
+                alloc,
+                repeated(alloc, b"template t\n", b"text a\n", 129, b"end"),
+                template
+            )?
+        );
+        Ok(())
+    }
+
+    #[test]
+    fn refuses_in_order(rt: HostRuntime) -> Result<(), Fail> {
+        let alloc = rt.alloc();
+        let nest = "error 19 5\n";
+        assert!(rt;
+            prints(
+                alloc,
+                repeated(alloc, b"computed x = ", b"not ", 63, b"true"),
+                ""
+            )?
+        );
+        assert!(rt;
+            prints(
+                alloc,
+                repeated(alloc, b"computed x = ", b"not ", 64, b"true"),
+                nest
+            )?
+        );
+        let line = "error 5 line\n";
+        assert!(rt;
+            prints(
+                alloc,
+                repeated(alloc, b"template t\ntext ", b"x", 4092, b"\n"),
+                line
+            )?
+        );
+        let begun = b"template t\ntext \"";
+        let untracked = b"\"\ntext untrack(a)\nend";
+        assert!(rt;
+            prints(
+                alloc,
+                repeated(alloc, begun, b"x", 1025, untracked),
+                "error 15 7\n"
+            )?
+        );
+        let unread = b"\"\ntext a b\nend";
+        assert!(rt;
+            prints(
+                alloc,
+                repeated(alloc, begun, b"x", 1025, unread),
+                "error 1 7\n"
+            )?
+        );
+        let many = b"template t\ntext untrack(a)\n";
+        assert!(rt;
+            prints(
+                alloc,
+                repeated(alloc, many, b"text a\n", 128, b"end"),
+                "error 15 6\n"
+            )?
+        );
+        Ok(())
+    }
 }

@@ -1,6 +1,6 @@
 // What holds of every line and every script.
 ghost use Rattle.std.specs.Prelude.{◌≡◌, ◌∷◌, ◌+◌, ◌++◌, ℕ, List, length, drop};
-ghost use Rattle.script_lines.specs.Lines.{EndsLine, lines, numbered};
+ghost use Rattle.script_lines.specs.Lines.{EndsLine, kept_lines, lines};
 ghost use Rattle.script_lines.specs.Pieces.{Piece, outside, place_after};
 ghost use Rattle.live_cmd.specs.declared.command.Item.{Item};
 ghost use Rattle.live_cmd.specs.Grammar.{Said, Writes};
@@ -25,7 +25,7 @@ pub fn one_list()
 
 /// A script may be cut after a line, outside a block: its items are those of the two parts in turn.
 pub fn items_cut()
-    ensures { (n : ℕ) (x y : List ℕ) (is js : List Item) → EndsLine x → place_after outside (numbered n (lines x)) ≡ outside
+    ensures { (n : ℕ) (x y : List ℕ) (is js : List Item) → EndsLine x → place_after outside (kept_lines n x) ≡ outside
         → ItemsFrom n x is → ItemsFrom (n + length (lines x)) y js → ItemsFrom n (x ++ y) (is ++ js) }
 {}
 

@@ -11,7 +11,7 @@ fn first_page(alloc: Global, takes: &[u64], puts: &[u64]) -> Result<Run, Fail> {
     run_over(
         alloc,
         "live run",
-        FIRST_PAGE,
+        FIRST_PAGE.as_bytes(),
         4,
         takes.to_vec(alloc)?,
         puts.to_vec(alloc)?,

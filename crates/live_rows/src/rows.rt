@@ -6,8 +6,13 @@ use std::alloc::Global;
 use std::process::Abort;
 use std::test::Fail;
 
-// Runs a script, which is to print this.
-fn assert_prints(rt: &impl Abort, alloc: Global, script: &str, output: &str) -> Result<(), Fail> {
+/// Runs a script, which is to print this.
+pub(crate) fn assert_prints(
+    rt: &impl Abort,
+    alloc: Global,
+    script: &str,
+    output: &str,
+) -> Result<(), Fail> {
     let run = run_whole(alloc, "live run", script)?;
     assert_eq!(rt; run.status, Status::Done, "of {script}");
     assert_eq!(rt; run.held.as_slice(), output.as_bytes(), "of {script}");
@@ -43,11 +48,58 @@ fn prints_pages(rt: HostRuntime) -> Result<(), Fail> {
 }
 
 #[test]
+fn prints_outcomes(rt: HostRuntime) -> Result<(), Fail> {
+    for (script, output) in [
+        // the edges of whole numbers
+        (
+            "cell a = 9223372036854775807\ncomputed b = a + 1\ncomputed c = -9223372036854775808 / -1\ncomputed r = -9223372036854775808 % -1\nget b\nget c\nget r\nset a 1\nget b\n",
+            "b ! overflow\nc ! overflow\nr = 0\nb = 2\n",
+        ),
+        // values as they are printed, and computeds over computeds
+        (
+            "cell price = 12\ncell number = 3\ncomputed total = price * number\ncomputed big = total > 30\ncomputed label = \"total \" ++ total\nget total\nget big\nget label\nset number 2\nget total\nget big\nset price \"x\"\nget total\nget label\nget price\n",
+            "total = 36\nbig = true\nlabel = \"total 36\"\ntotal = 24\nbig = false\ntotal ! kind\nlabel ! kind\nprice = \"x\"\n",
+        ),
+        (
+            "computed r = \"q\\\"\\\\\\n\\t\\r\"\nget r",
+            "r = \"q\\\"\\\\\\n\\t\\r\"\n",
+        ),
+        // binding, and what isn't evaluated
+        (
+            "computed f = 1 + 2 * 3\ncomputed h = not true or false and true\ncomputed m = if 1 < 2 then \"y\" else 1 / 0\ncomputed o = true and 1\ncomputed q = false and 1\nget f\nget h\nget m\nget o\nget q",
+            "f = 7\nh = false\nm = \"y\"\no ! kind\nq = false\n",
+        ),
+    ] {
+        assert_prints(&rt, rt.alloc(), script, output)?;
+    }
+    Ok(())
+}
+
+#[test]
+fn shows_pages_of_formulas(rt: HostRuntime) -> Result<(), Fail> {
+    for (script, output) in [
+        // `show` prints a page as it was last brought up to date
+        (
+            "cell a = 1\ncomputed b = a + 1\ntemplate t\ntext b\ntext \"<\" ++ a ++ \">\"\ntext 1 / 0\ntext if b > 2 then \"many\" else \"few\"\nend\nmount p t\nset a 2\nshow p\nflush\nshow p\nset a true\nflush\n",
+            "page p 22\n2&lt;1&gt;#ERR zerofew\npage p 22\n2&lt;1&gt;#ERR zerofew\npage p 23\n3&lt;2&gt;#ERR zeromany\npage p 23\n3&lt;2&gt;#ERR zeromany\npage p 39\n#ERR kind&lt;true&gt;#ERR zero#ERR kind\n",
+        ),
+        // CR before LF, comments and blank lines, in a block too
+        (
+            "cell a = 1\r\n\r\n# a comment\r\n  \t\ntemplate t\n# text x\n\n  text a\r\n   # end\nend\nmount p t\nget b\nget\n",
+            "page p 1\n1\nerror 2 b\nerror 1 13\n",
+        ),
+    ] {
+        assert_prints(&rt, rt.alloc(), script, output)?;
+    }
+    Ok(())
+}
+
+#[test]
 fn prints_refusals(rt: HostRuntime) -> Result<(), Fail> {
     for (script, output) in [
         (
             "cell a = 1\ncell a = 2\nset z 1\nmount a a\nmount p a\nget a\n",
-            "error 3 a\nerror 2 z\nerror 3 a\nerror 4 a\nerror 1 6\n",
+            "error 3 a\nerror 2 z\nerror 3 a\nerror 4 a\na = 1\n",
         ),
         // a block that is refused is passed over whole, with one line
         (
@@ -56,15 +108,32 @@ fn prints_refusals(rt: HostRuntime) -> Result<(), Fail> {
         ),
         // a template's names in their order: its own first
         (
-            "cell a = 1\ntemplate a\ntext b\nend\ntemplate t\ntext a\ntext b\nend\ntemplate t\ntext t\nend",
+            "cell a = 1\ntemplate a\ntext b\nend\ntemplate t\ntext a\ntext b + c\nend\ntemplate t\ntext t\nend",
             "error 3 a\nerror 2 b\nerror 2 t\n",
         ),
         // the script's end inside a block
         ("cell a = 1\ntemplate t\ntext a\n", "error 1 2\n"),
+        ("template t\ntext 1", "error 1 1\n"),
+        // an `untrack`, in a line that is whole otherwise; a faulty line of the block comes first
+        (
+            "computed b = untrack(a)\ncomputed b = untrack(a) )\ntemplate t\ntext untrack(a)\ntext\nend\ntemplate t\ntext a\ntext untrack(a)\nend",
+            "error 15 1\nerror 1 2\nerror 1 5\nerror 15 9\n",
+        ),
+        // the names of a formula in their order, the new one first; a computed that names itself
+        (
+            "cell a = 1\ncomputed a = zz\ncomputed c = c\ncomputed d = a + zz + yy\ntemplate t\ntext a\nend\ncomputed e = t + zz\nset d 1\nget t\nshow a\nmount p a",
+            "error 3 a\nerror 2 c\nerror 2 zz\nerror 4 t\nerror 2 d\nerror 4 t\nerror 4 a\nerror 4 a\n",
+        ),
+        // a computed isn't set
+        ("computed b = 1\nset b 2\nget b", "error 4 b\nb = 1\n"),
         // what this language doesn't have yet
         (
-            "\n# words\ncell a = 1\r\ncell not = 1\ncell b = -0",
-            "error 1 1\nerror 1 2\nerror 1 3\nerror 1 4\nerror 1 5\n",
+            "computed x = host 0 (a)\ncomputed x = it.a\ncomputed x = count(a)\ncell e = 1 equals 0\ncell e = 1 in o\nstate e\neffect e\nlog 1\nend\nget e",
+            "error 1 1\nerror 1 2\nerror 1 3\nerror 1 4\nerror 1 5\nerror 1 6\nerror 1 7\nerror 2 e\n",
+        ),
+        (
+            "cell not = 1\ncell b = -0\nget b\r",
+            "error 1 1\nerror 1 2\nerror 1 3\n",
         ),
     ] {
         assert_prints(&rt, rt.alloc(), script, output)?;
@@ -75,12 +144,14 @@ fn prints_refusals(rt: HostRuntime) -> Result<(), Fail> {
 #[test]
 fn tells_its_usage(rt: HostRuntime) -> Result<(), Fail> {
     for line in [
-        "live",
         "live run --x",
         "live run --trace",
         "live runs",
         "live run run",
         "live --help",
+        "live",
+        "live bench 0",
+        "live bench 01",
     ] {
         let run = run_whole(rt.alloc(), line, FIRST_PAGE)?;
         assert_eq!(rt; run.status, Status::Usage, "of {line}");

@@ -34,7 +34,7 @@ pub(crate) fn words_of(alloc: Global, line: &str) -> Result<Vec<String>, AllocEr
 pub(crate) fn run_over(
     alloc: Global,
     line: &str,
-    script: &str,
+    script: &[u8],
     most: usize,
     takes: Vec<u64>,
     puts: Vec<u64>,
@@ -42,7 +42,7 @@ pub(crate) fn run_over(
     requires { 0 < most }
 {
     let words = words_of(alloc, line)?;
-    let bytes = script.as_bytes().to_vec(alloc)?;
+    let bytes = script.to_vec(alloc)?;
     let mut source = MemSource::new(bytes, most, takes);
     let mut sink = MemSink::new(alloc, 100_000, most, puts)?;
     let status = run_live(alloc, &words, &mut source, &mut sink);
@@ -54,5 +54,12 @@ pub(crate) fn run_over(
 
 /// Runs a script over a source and a sink that never fail.
 pub(crate) fn run_whole(alloc: Global, line: &str, script: &str) -> Result<Run, Fail> {
-    run_over(alloc, line, script, 4096, Vec::new(alloc), Vec::new(alloc))
+    run_over(
+        alloc,
+        line,
+        script.as_bytes(),
+        4096,
+        Vec::new(alloc),
+        Vec::new(alloc),
+    )
 }

@@ -1,9 +1,10 @@
 -- A script may be cut after a line that stands outside a block.
 use Rattle.std.proofs.Common.{◌≡◌, ℕ, suc, ◌+◌, true, List, [], ◌∷◌, ◌++◌, length, refl, add-zero, sym, ap, ◌∙◌, arith, inl, inr}
-use Rattle.std.specs.Prelude.{◌==◌}
+use Rattle.std.specs.Prelude.{◌==◌, ◌&&◌, not}
 use Rattle.std.specs.List.{onto_first}
 use Rattle.std.proofs.lemmas.Bool.{cases_Bool}
-use Rattle.script_lines.specs.Lines.{NumberedLine, EndsLine, lines, numbered}
+use Rattle.std.proofs.lemmas.List.Elements.{filter-append}
+use Rattle.script_lines.specs.Lines.{NumberedLine, EndsLine, lines, numbered, is_passed, kept, kept_lines}
 use Rattle.script_lines.specs.Pieces.{Piece, Place, outside, inside, begins_block, level_after, pieces, pieces_of, place_after}
 
 -- bytes that end with LF have a first line
@@ -14,7 +15,10 @@ some_line b (c ∷ cs) h =
     let r = some_line c cs h in
     elim (cases_Bool (b == 10)) [
       | inl e ↦ ([], lines (c ∷ cs), rw e refl)
-      | inr e ↦ (b ∷ r.0, r.1, rw e (ap (onto_first b) r.2))
+      | inr e ↦ elim (cases_Bool (b == 13 && c == 10)) [
+        | inl f ↦ (r.0, r.1, rw (e, f) r.2)
+        | inr f ↦ (b ∷ r.0, r.1, rw (e, f) (ap (onto_first b) r.2))
+      ]
     ]
 
 -- the lines of two parts, of which the first ends with LF
@@ -27,7 +31,10 @@ lines_append (b ∷ c ∷ x) y h =
     let again : lines ((c ∷ x) ++ y) ≡ lines (c ∷ x) ++ lines y = lines_append (c ∷ x) y h in
     elim (cases_Bool (b == 10)) [
       | inl e ↦ rw e (ap (λ (ls : List (List ℕ)). [] ∷ ls) again)
-      | inr e ↦ rw e (ap (onto_first b) (again ∙ ap (λ (ls : List (List ℕ)). ls ++ lines y) some.2) ∙ ap (λ (ls : List (List ℕ)). onto_first b ls ++ lines y) (sym some.2))
+      | inr e ↦ elim (cases_Bool (b == 13 && c == 10)) [
+        | inl f ↦ rw (e, f) again
+        | inr f ↦ rw (e, f) (ap (onto_first b) (again ∙ ap (λ (ls : List (List ℕ)). ls ++ lines y) some.2) ∙ ap (λ (ls : List (List ℕ)). onto_first b ls ++ lines y) (sym some.2))
+      ]
     ]
 
 -- numbers go on from one part to the next
@@ -37,6 +44,14 @@ numbered_append n [] ys = rw add-zero refl
 numbered_append n (l ∷ xs) ys =
     let count : n + suc (length xs) ≡ (n + 1) + length xs = omega arith in
     rw count (ap (λ (ls : List NumberedLine). (n, l) ∷ ls) (numbered_append (n + 1) xs ys))
+
+-- the lines of two parts that aren't passed over
+kept_append : (n : ℕ) (x y : List ℕ) → EndsLine x → kept_lines n (x ++ y) ≡ kept_lines n x ++ kept_lines (n + length (lines x)) y
+unfolding kept_lines
+kept_append n x y ends =
+    ap (λ (ls : List (List ℕ)). kept (numbered n ls)) (lines_append x y ends)
+    ∙ ap kept (numbered_append n (lines x) (lines y))
+    ∙ filter-append (λ (l : NumberedLine). not (is_passed l.1)) (numbered n (lines x)) (numbered (n + length (lines x)) (lines y))
 
 -- the pieces of two parts, of which the first ends outside a block
 pieces_append : (p : Place) (xs ys : List NumberedLine) → place_after p xs ≡ outside → pieces p (xs ++ ys) ≡ pieces p xs ++ pieces outside ys
@@ -53,8 +68,6 @@ pieces_append (inside level got) (l ∷ xs) ys h = elim (cases_Bool (level_after
 ]
 
 -- the pieces of a script are those of both parts in turn
-pub script_cut : (n : ℕ) (x y : List ℕ) → EndsLine x → place_after outside (numbered n (lines x)) ≡ outside → pieces_of n (x ++ y) ≡ pieces_of n x ++ pieces_of (n + length (lines x)) y
+pub script_cut : (n : ℕ) (x y : List ℕ) → EndsLine x → place_after outside (kept_lines n x) ≡ outside → pieces_of n (x ++ y) ≡ pieces_of n x ++ pieces_of (n + length (lines x)) y
 script_cut n x y ends closed =
-    ap (λ (ls : List (List ℕ)). pieces outside (numbered n ls)) (lines_append x y ends)
-    ∙ ap (pieces outside) (numbered_append n (lines x) (lines y))
-    ∙ pieces_append outside (numbered n (lines x)) (numbered (n + length (lines x)) (lines y)) closed
+    ap (pieces outside) (kept_append n x y ends) ∙ pieces_append outside (kept_lines n x) (kept_lines (n + length (lines x)) y) closed

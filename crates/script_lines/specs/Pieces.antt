@@ -1,7 +1,7 @@
 -- The lines of each command: a line alone, or a block with its end.
 use Rattle.std.specs.Prelude.{ℕ, ◌+◌, ◌-◌, Bool, ◌||◌, ◌==◌, if◌then◌else◌, List, [], ◌∷◌, ◌++◌, true, false, codes}
 use Rattle.std.specs.Str.{bytes_eq}
-use Rattle.script_lines.specs.Lines.{NumberedLine, lines, numbered, first_word}
+use Rattle.script_lines.specs.Lines.{NumberedLine, kept_lines, first_word}
 
 -- whether a line's first word is this one
 abbrev pub has_word : List ℕ → List ℕ → Bool
@@ -45,9 +45,9 @@ pieces (inside level got) (l ∷ ls) =
     if level_after level l.1 == 0 then record { ended = true; lines = got ++ l ∷ [] } ∷ pieces outside ls
     else pieces (inside (level_after level l.1) (got ++ l ∷ [])) ls
 
--- the pieces of a script whose first line has the number n
+-- the pieces of a script whose first line has the number n; lines that are passed over count for numbers alone
 abbrev pub pieces_of : ℕ → List ℕ → List Piece
-pieces_of n script = pieces outside (numbered n (lines script))
+pieces_of n script = pieces outside (kept_lines n script)
 
 -- where the line after these stands
 unfoldable pub place_after : Place → List NumberedLine → Place

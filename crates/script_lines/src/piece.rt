@@ -1,10 +1,10 @@
 // The lines of each command of a script.
 ghost use Rattle.std.specs.Prelude.{◌≡◌, ℕ, List, ◌∷◌, ◌++◌, ◌+◌, ◌-◌, ◌<◌, ◌≤◌, ◌^◌, [], length, drop, map, MatchOption, IfSome, IfOk};
-ghost use Rattle.script_lines.specs.Lines.{EndsLine, lines, numbered};
+ghost use Rattle.script_lines.specs.Lines.{EndsLine, kept_lines, lines};
 ghost use Rattle.script_lines.specs.Pieces.{outside, inside, level_after, pieces, pieces_of, place_after};
 ghost use Rattle.script_lines.specs.Views.{line_of, piece_of};
 
-use crate::line::{NumberedLine, next_line};
+use crate::line::{NumberedLine, next_kept};
 use crate::word::{begins_block, closes, opens};
 use sig_base::NoMemory;
 use std::alloc::Global;
@@ -43,18 +43,18 @@ fn rest_of_block<'a>(
     ensures within { IfOk result (λ x. (start ≤ x.1) × (x.1 ≤ length script.now)) }
     ensures count { IfOk result (λ x. x.2 ≤ number + (x.1 - start)) }
     ensures lines { IfOk result (λ x. length begun.entry.items ≤ length x.0.lines.items) }
-    ensures piece { IfOk result (λ x. pieces (inside 1 (map line_of begun.entry.items)) (numbered number (lines (drop start script.now)))
+    ensures piece { IfOk result (λ x. pieces (inside 1 (map line_of begun.entry.items)) (kept_lines number (drop start script.now))
         ≡ piece_of x.0 ∷ pieces_of x.2 (drop x.1 script.now)) }
 {
     let mut lines = begun;
     let mut at = start;
     let mut line = number;
     let mut level: usize = 1;
-    while let Some((text, next)) = next_line(script, at) {
-        lines.push(NumberedLine { number: line, text })?;
-        level = level_after(level, text);
+    while let Some((found, next, after)) = next_kept(script, at, line) {
+        level = level_after(level, found.text);
+        lines.push(found)?;
         at = next;
-        line += 1;
+        line = after;
         if level == 0 {
             return Ok((Piece { ended: true, lines }, at, line));
         }
@@ -69,8 +69,11 @@ fn rest_of_block<'a>(
     ))
 }
 
-/// The lines of the command that begins at a byte, the place after them, and the number of the line there. The byte
-/// begins a line of this number; `None` exactly where nothing is left.
+/// The lines of the first command from a byte on, the place after them, and the number of the line there. The byte
+/// begins a line of this number; `None` exactly where nothing is left but lines that are passed over.
+///
+/// An LF ends a line, and a CR just before it is no part of the line. A line of nothing but blanks, and one that begins
+/// with `#` behind blanks, is passed over, in a block too: it counts for line numbers and for nothing else.
 ///
 /// A command is one line, or a block: from a line whose first word is `effect` or `template` to the `end` that closes
 /// it, where `effect`, `when`, `tag`, `if` and `each` open a level and `end` closes one, whatever the rest of the line
@@ -89,20 +92,21 @@ pub fn next_piece(
     ensures piece { IfOk result (λ found. MatchOption found (pieces_of line (drop at script.now) ≡ [])
         (λ x. pieces_of line (drop at script.now) ≡ piece_of x.0 ∷ pieces_of x.2 (drop x.1 script.now))) }
 {
-    let Some((text, next)) = next_line(script, at) else {
+    let Some((found, next, after)) = next_kept(script, at, line) else {
         return Ok(None);
     };
+    let begins = begins_block(found.text);
     let mut lines = Vec::new(alloc);
-    lines.push(NumberedLine { number: line, text })?;
-    if begins_block(text) {
-        return Ok(Some(rest_of_block(script, next, line + 1, lines)?));
+    lines.push(found)?;
+    if begins {
+        return Ok(Some(rest_of_block(script, next, after, lines)?));
     }
-    Ok(Some((Piece { ended: true, lines }, next, line + 1)))
+    Ok(Some((Piece { ended: true, lines }, next, after)))
 }
 
 /// A script may be cut after a line, outside a block: its pieces are those of the two parts in turn.
 pub fn cut_law()
-    ensures { (n : ℕ) (x y : List ℕ) → EndsLine x → place_after outside (numbered n (lines x)) ≡ outside
+    ensures { (n : ℕ) (x y : List ℕ) → EndsLine x → place_after outside (kept_lines n x) ≡ outside
         → pieces_of n (x ++ y) ≡ pieces_of n x ++ pieces_of (n + length (lines x)) y }
 {}
 
@@ -110,15 +114,42 @@ pub fn cut_law()
 mod tests {
     use super::next_piece;
     use sig_base::NoMemory;
-    use std::alloc::Global;
+    use std::alloc::{AllocError, Global};
+    use std::test::Fail;
 
     // Whether the first command has its end, how many lines it has, and what stands after it.
     fn shape(alloc: Global, script: &[u8]) -> Result<Option<(bool, usize, usize, u32)>, NoMemory> {
-        if script.len() > 100 {
+        if script.len() > 100_000 {
             return Ok(None);
         }
         let found = next_piece(alloc, script, 0, 1)?;
         Ok(found.map(|(piece, at, line)| (piece.ended, piece.lines.len(), at, line)))
+    }
+
+    // The number and the length of the last line of the first command.
+    fn last_line(alloc: Global, script: &[u8]) -> Result<Option<(u32, usize)>, NoMemory> {
+        if script.len() > 100_000 {
+            return Ok(None);
+        }
+        match next_piece(alloc, script, 0, 1)? {
+            Some((piece, _, _)) => Ok(
+                piece
+                    .lines
+                    .last()
+                    .map(|line| (line.number, line.text.len())),
+            ),
+            None => Ok(None),
+        }
+    }
+
+    // A comment of many bytes, and then a command.
+    fn long_comment(alloc: Global) -> Result<Vec<u8>, AllocError> {
+        let mut script = Vec::new(alloc);
+        for _ in 0..50_000 {
+            script.push(b'#')?;
+        }
+        script.extend_from_slice(b"\nflush")?;
+        Ok(script)
     }
 
     #[test]
@@ -129,12 +160,26 @@ mod tests {
 
     #[test]
     fn reads_an_unended_block(rt: HostRuntime) {
-        assert!(rt; shape(rt.alloc(), b"effect e\nwhen a") == Ok(Some((false, 2, 15, 3))));
+        assert!(rt; shape(rt.alloc(), b"effect e\nwhen a\n#\n") == Ok(Some((false, 2, 16, 3))));
     }
 
     #[test]
-    fn reads_lines_alone(rt: HostRuntime) {
-        assert!(rt; shape(rt.alloc(), b"\nflush") == Ok(Some((true, 1, 1, 2))));
-        assert!(rt; shape(rt.alloc(), b"") == Ok(None));
+    fn passes_lines_over(rt: HostRuntime) {
+        let alloc = rt.alloc();
+        let script =
+            b"\r\n# one\n \t\ntemplate t\r\n\n  # end\r\n text a\r\r\nend\r\n# two\nflush\r";
+        assert!(rt; shape(alloc, script) == Ok(Some((true, 3, 48, 9))));
+        assert!(rt; last_line(alloc, script) == Ok(Some((8, 3))));
+        assert!(rt; last_line(alloc, b"#\n text a#\r\r\n") == Ok(Some((2, 9))));
+        assert!(rt; last_line(alloc, b"\nflush\r") == Ok(Some((2, 6))));
+        assert!(rt; shape(alloc, b" \n#x\r\n\t") == Ok(None));
+    }
+
+    #[test]
+    fn passes_a_long_comment_over(rt: HostRuntime) -> Result<(), Fail> {
+        let alloc = rt.alloc();
+        let script = long_comment(alloc)?;
+        assert!(rt; shape(alloc, &script) == Ok(Some((true, 1, 50_006, 3))));
+        Ok(())
     }
 }

@@ -2,7 +2,7 @@
 ghost use Rattle.std.specs.Prelude.{◌≡◌, ◌≤◌, length};
 ghost use Rattle.std.specs.List.{prefix_len};
 ghost use Rattle.sig_base.specs.Words.{is_blank, begins_word, in_word};
-ghost use Rattle.script_lines.specs.Lines.{first_word};
+ghost use Rattle.script_lines.specs.Lines.{behind_blanks, first_word, is_passed};
 ghost use Rattle.script_lines.specs.Pieces.{begins_block, opens, closes};
 
 use sig_base::{begins_word, in_word, is_blank};
@@ -13,6 +13,25 @@ fn blanks_len(line: &[u8]) -> usize
     ensures count { result ≡ prefix_len is_blank line.now }
 {
     line.iter().take_while(|b| is_blank(**b)).count()
+}
+
+// What comes after the blanks.
+fn behind_blanks(line: &[u8]) -> &[u8]
+    ensures { result.now ≡ behind_blanks line.now }
+{
+    let (_, rest) = line.split_at(blanks_len(line));
+    rest
+}
+
+// Whether a line is passed over: it has nothing but blanks, or begins with `#` behind them.
+#[tactic(auto, unfolding(crate::specs::Lines::is_passed))]
+pub(crate) fn is_passed(line: &[u8]) -> bool
+    ensures { result ≡ is_passed line.now }
+{
+    match behind_blanks(line) {
+        [] => true,
+        [first, ..] => *first == b'#',
+    }
 }
 
 // How many bytes at the front may stand in a word.
@@ -27,7 +46,7 @@ fn word_len(bytes: &[u8]) -> usize
 fn first_word(line: &[u8]) -> &[u8]
     ensures { result.now ≡ first_word line.now }
 {
-    let (_, rest) = line.split_at(blanks_len(line));
+    let rest = behind_blanks(line);
     if rest.is_empty() || !begins_word(rest[0]) {
         return &[];
     }

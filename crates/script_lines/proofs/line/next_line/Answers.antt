@@ -1,4 +1,4 @@
-use Rattle.std.proofs.Common.{arith, length, sym, ap, ◌∙◌}
+use Rattle.std.proofs.Common.{arith, ℕ, List, ◌+◌, ◌∷◌, drop, length, sym, ap, ◌∙◌}
 use Rattle.std.proofs.lemmas.Bool.{eqb-true, eqb-false}
 use Rattle.std.proofs.lemmas.List.{nil_from_length}
 use Rattle.script_lines.specs.Lines.{lines}
@@ -11,7 +11,9 @@ returns-then-is_empty-clause-line c =
     ap lines (sym c.split_at.ensures.back ∙ nil_from_length rest (eqb-true (length rest) 0 (sym c.if-is_empty.ensures))) ∙ lines_nil
 
 pub returns-in-Some-clause-line : goal.returns-in-Some-clause-line
-returns-in-Some-clause-line c = line_at c.args.script.now c.split_at.result.1.now c.args.at c.in-Some.end c.split_at.ensures.back c.in-Some.ensures
+returns-in-Some-clause-line c =
+    line_at c.args.script.now c.split_at.result.1.now c.args.at c.in-Some.end c.split_at.ensures.back c.in-Some.ensures
+    ∙ ap (λ (l : List ℕ). l ∷ lines (drop (c.args.at + c.in-Some.end + 1) c.args.script.now)) (sym c.without_return.ensures)
 
 pub returns-in-None-clause-line : goal.returns-in-None-clause-line
 returns-in-None-clause-line c =

@@ -1,0 +1,221 @@
+// Each limit, reached and passed by one.
+
+use crate::rows::assert_prints;
+use crate::run::{run_over, run_whole};
+use live_run::{MOST_READ, Status};
+use std::alloc::{AllocError, Global};
+use std::test::Fail;
+
+// A line with a number for each number below the count.
+fn numbered(alloc: Global, count: u32, before: &str, after: &str) -> Result<String, AllocError> {
+    let mut lines = String::new(alloc);
+    for number in 0..count {
+        lines.push_str(before)?;
+        lines.push_str(number.to_string(alloc)?.as_str())?;
+        lines.push_str(after)?;
+    }
+    Ok(lines)
+}
+
+// The text so often, one after the other.
+fn repeated(alloc: Global, text: &str, count: u32) -> Result<String, AllocError> {
+    let mut out = String::new(alloc);
+    for _ in 0..count {
+        out.push_str(text)?;
+    }
+    Ok(out)
+}
+
+// `flush` with so many blanks behind it that the line has this many bytes.
+fn flush_of(alloc: Global, length: u32) -> Result<String, AllocError> {
+    let blanks = repeated(alloc, " ", length.saturating_sub(5))?;
+    format!(in alloc; "flush{blanks}\n")
+}
+
+#[test]
+fn bounds_a_line(rt: HostRuntime) -> Result<(), Fail> {
+    let alloc = rt.alloc();
+    let longest = flush_of(alloc, 4096)?;
+    let longer = flush_of(alloc, 4097)?;
+    let comment = repeated(alloc, "#", 5000)?;
+    for (script, output) in [
+        (format!(in alloc; "{longest}")?, ""),
+        (format!(in alloc; "{longer}")?, "error 5 line\n"),
+        // a block with such a line, also one without its end
+        (
+            format!(in alloc; "template t\ntext\n{longer}end\nget t")?,
+            "error 5 line\nerror 2 t\n",
+        ),
+        (format!(in alloc; "template t\n{longer}")?, "error 5 line\n"),
+        // a passed-over line has any length
+        (format!(in alloc; "{comment}\nget a")?, "error 2 a\n"),
+    ] {
+        assert_prints(&rt, alloc, script.as_str(), output)?;
+    }
+    Ok(())
+}
+
+#[test]
+fn bounds_a_text(rt: HostRuntime) -> Result<(), Fail> {
+    let alloc = rt.alloc();
+    let longest = repeated(alloc, "\u{a0}", 512)?;
+    for (script, output) in [
+        (
+            format!(in alloc; "cell c = \"{longest}\"\ncomputed x = c ++ \"\"\ncomputed y = c ++ \"y\"\ncomputed z = x == c\nget z\nget y")?,
+            "z = true\ny ! long\n",
+        ),
+        (
+            format!(in alloc; "cell c = \"{longest}y\"\nset c \"{longest}y\"\ncomputed x = 1 ++ \"{longest}y\"")?,
+            "error 5 text\nerror 5 text\nerror 5 text\n",
+        ),
+        // a text that is too long comes after an `untrack` on a later line
+        (
+            format!(in alloc; "template t\ntext \"{longest}y\"\ntext untrack(1)\nend")?,
+            "error 15 3\n",
+        ),
+    ] {
+        assert_prints(&rt, alloc, script.as_str(), output)?;
+    }
+    Ok(())
+}
+
+// `computed s` as the sum of c0 up to one less than the count, in two parts, so that it isn't too high.
+fn sum_of(alloc: Global, count: u32) -> Result<String, AllocError> {
+    let parts = numbered(alloc, 32, "c", " + ")?;
+    let mut out = format!(in alloc; "computed s = ({parts}0) + (0")?;
+    for number in 32..count {
+        out.push_str(" + c")?;
+        out.push_str(number.to_string(alloc)?.as_str())?;
+    }
+    out.push_str(")\n")?;
+    Ok(out)
+}
+
+#[test]
+fn bounds_a_formula(rt: HostRuntime) -> Result<(), Fail> {
+    let alloc = rt.alloc();
+    let cells = numbered(alloc, 65, "cell c", " = 1\n")?;
+    let most = sum_of(alloc, 64)?;
+    let more = sum_of(alloc, 65)?;
+    let highest = repeated(alloc, "not ", 63)?;
+    let higher = repeated(alloc, "not ", 64)?;
+    for (script, output) in [
+        (format!(in alloc; "{cells}{most}get s")?, "s = 64\n"),
+        (
+            format!(in alloc; "{cells}{more}get s")?,
+            "error 5 sources\nerror 2 s\n",
+        ),
+        (
+            format!(in alloc; "computed x = {highest}true\nget x")?,
+            "x = false\n",
+        ),
+        (
+            format!(in alloc; "computed x = {higher}true\nget x")?,
+            "error 19 1\nerror 2 x\n",
+        ),
+    ] {
+        assert_prints(&rt, alloc, script.as_str(), output)?;
+    }
+    Ok(())
+}
+
+#[test]
+fn bounds_a_template(rt: HostRuntime) -> Result<(), Fail> {
+    let alloc = rt.alloc();
+    let most = repeated(alloc, "text 1\n# a comment\n", 128)?;
+    let more = repeated(alloc, "text 1\n", 129)?;
+    for (script, output) in [
+        (format!(in alloc; "template t\n{most}end\nget t")?, "error 4 t\n"),
+        (
+            format!(in alloc; "template t\n{more}end\nget t")?,
+            "error 5 template\nerror 2 t\n",
+        ),
+        // at the block's end, and before names
+        (
+            format!(in alloc; "cell t = 1\ntemplate t\n{more}text untrack(1)\nend\ntemplate t\n{more}text a\nend")?,
+            "error 15 132\nerror 5 template\n",
+        ),
+    ] {
+        assert_prints(&rt, alloc, script.as_str(), output)?;
+    }
+    Ok(())
+}
+
+#[test]
+fn bounds_what_is_made(rt: HostRuntime) -> Result<(), Fail> {
+    let alloc = rt.alloc();
+    let cells = numbered(alloc, 511, "cell c", " = 1\n")?;
+    let templates = numbered(alloc, 64, "template t", "\ntext 1\nend\n")?;
+    let pages = numbered(alloc, 8, "mount p", " t0\n")?;
+    let mounted = numbered(alloc, 8, "page p", " 1\n1\n")?;
+    for (script, output) in [
+        (
+            format!(in alloc; "{cells}computed x = c0 + c510\nget x\ncell y = 1\ncomputed y = zz\ncomputed y = 1\ncell x = 1\nget y")?,
+            String::from_str(alloc, "x = 2\nerror 5 nodes\nerror 2 zz\nerror 5 nodes\nerror 3 x\nerror 2 y\n")?,
+        ),
+        (
+            format!(in alloc; "{templates}template u\nend\ntemplate t0\nend\nget t63\nget u")?,
+            String::from_str(alloc, "error 5 templates\nerror 3 t0\nerror 4 t63\nerror 2 u\n")?,
+        ),
+        (
+            format!(in alloc; "template t0\ntext 1\nend\n{pages}mount q t0\nmount p0 t0\nmount q t1\nshow q")?,
+            format!(in alloc; "{mounted}error 5 pages\nerror 3 p0\nerror 2 t1\nerror 2 q\n")?,
+        ),
+    ] {
+        assert_prints(&rt, alloc, script.as_str(), output.as_str())?;
+    }
+    Ok(())
+}
+
+#[test]
+fn bounds_a_script(rt: HostRuntime) -> Result<(), Fail> {
+    let alloc = rt.alloc();
+    let dashes = repeated(alloc, "-", 1022)?;
+    let line = format!(in alloc; "#{dashes}\n")?;
+    let script = repeated(alloc, line.as_str(), 4096)?;
+    assert_eq!(rt; script.len(), MOST_READ);
+    let run = run_whole(alloc, "live run", script.as_str())?;
+    assert_eq!(rt; run.status, Status::Done);
+    assert!(rt; run.held.is_empty());
+    let longer = format!(in alloc; "{script}#")?;
+    let run = run_whole(alloc, "live run", longer.as_str())?;
+    assert_eq!(rt; run.status, Status::TooLong);
+    assert!(rt; run.held.is_empty());
+    Ok(())
+}
+
+#[test]
+fn refuses_bytes_that_are_no_text(rt: HostRuntime) -> Result<(), Fail> {
+    let alloc = rt.alloc();
+    for (script, output) in [
+        (b"get \xff\n".as_slice(), "error 1 1\n"),
+        // a sequence of two bytes that the line's end cuts off
+        (b"cell a = \"x\"\nget \xc2\nget a".as_slice(), "error 1 2\na = \"x\"\n"),
+        // a passed-over line has any bytes
+        (b"# \xff\nget a".as_slice(), "error 2 a\n"),
+    ] {
+        let run = run_over(alloc, "live run", script, 4096, Vec::new(alloc), Vec::new(alloc))?;
+        assert_eq!(rt; run.status, Status::Done);
+        assert_eq!(rt; run.held.as_slice(), output.as_bytes());
+    }
+    Ok(())
+}
+
+// Eighty computeds, each the sum of the two before it, are evaluated once each.
+#[test]
+fn evaluates_each_computed_once(rt: HostRuntime) -> Result<(), Fail> {
+    let alloc = rt.alloc();
+    let mut script = String::from_str(alloc, "cell c0 = 1\ncell c1 = 1\n")?;
+    for number in 2..82u32 {
+        let (one, two) = (number - 1, number - 2);
+        let line = format!(in alloc; "computed c{number} = c{one} + c{two}\n")?;
+        script.push_str(line.as_str())?;
+    }
+    script.push_str("get c81\nset c1 0\nget c81\n")?;
+    assert_prints(
+        &rt,
+        alloc,
+        script.as_str(),
+        "c81 = 61305790721611591\nc81 = 23416728348467685\n",
+    )
+}
