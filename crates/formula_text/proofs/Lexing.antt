@@ -57,7 +57,7 @@ behind_blank line rest s h =
       sign_is = sign_after line s 32 (first_at line rest s 32 h) refl;
     }
 
-cuts_append : (line : List ℕ) (a b c : ℕ) (ts us : List Token) → Cuts line a ts b → Cuts line b us c → Cuts line a (ts ++ us) c
+pub cuts_append : (line : List ℕ) (a b c : ℕ) (ts us : List Token) → Cuts line a ts b → Cuts line b us c → Cuts line a (ts ++ us) c
 cuts_append line a b c [] us x y = rw x y
 cuts_append line a b c (t ∷ ts) us x y = (x.0, cuts_append line t.end b c ts us x.1 y)
 

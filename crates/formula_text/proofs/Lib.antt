@@ -3,6 +3,8 @@ pub mod Laws
 pub mod Lexing
 pub mod Minimal
 pub mod Places
+pub mod Quoting
 pub mod Slots
+pub mod Rereading
 pub mod Sound
 pub mod Texts

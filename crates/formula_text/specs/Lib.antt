@@ -3,6 +3,7 @@ pub mod Grammar
 pub mod Judging
 pub mod Lexing
 pub mod Reading
+pub mod Rereading
 pub mod Rough
 pub mod Signs
 pub mod Wiring

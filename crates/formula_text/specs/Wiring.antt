@@ -2,13 +2,12 @@
 use Rattle.std.specs.Prelude.{◌≡◌, ℕ, ◌-◌, ◌<◌, ◌≤◌, nat_lt, Bool, true, not, ◌&&◌, if◌then◌else◌, List, length, drop, Option, Some, None}
 use Rattle.sig_base.specs.declared.text.TextFault.{TextFault}
 use Rattle.sig_base.specs.declared.text.TextFault.TheVariants as text_fault
-use Rattle.sig_formula.specs.Trees.{Tree, tree}
+use Rattle.sig_formula.specs.Trees.{Tree}
 use Rattle.sig_words.specs.declared.token.Token.{Token}
 use Rattle.sig_words.specs.Lexemes.{lexemes}
 use Rattle.formula_text.specs.declared.wired.Allow.{Allow}
 use Rattle.formula_text.specs.declared.wired.FormulaFault.{FormulaFault}
 use Rattle.formula_text.specs.declared.wired.FormulaFault.TheVariants as fault
-use Rattle.formula_text.specs.declared.wired.Wired.{Wired}
 use Rattle.formula_text.specs.declared.rough.Rough.{Rough}
 use Rattle.formula_text.specs.Rough.{draft, HasLeaves}
 use Rattle.formula_text.specs.Grammar.{Draft, IsLongest, HasNone}
@@ -17,10 +16,6 @@ use Rattle.formula_text.specs.Judging.{has_untrack, is_above, has_long_text, nam
 -- a formula over slots, and the names that they stand for
 abbrev pub Wiring : Type 0
 Wiring = Tree × List (List ℕ)
-
--- the wiring apart from where it lies in memory
-abbrev pub wiring : Wired → Wiring
-wiring w = (tree w.formula, w.names.items)
 
 -- the slots of a formula are its distinct names in the order of the text
 abbrev pub wired : Draft → Wiring

@@ -14,6 +14,7 @@ mod writer;
 pub use judge::{has_long_text, has_untrack, is_above, put_names};
 pub use meaning::{
     canonical_text_reads, fewest_parentheses, leaves_are_tokens, names_for_slots, one_formula,
+    written_formulas_read_back,
 };
 pub use reader::read_rough;
 pub use rough::Rough;

@@ -2,16 +2,20 @@
 ghost use Rattle.std.specs.Prelude.{◌≡◌, ◌≤◌, ◌+◌, ◌++◌, ℕ, ℤ, Bool, List, true, false, length, slice_index, take, drop};
 ghost use Rattle.std.specs.Int.{w64};
 ghost use Rattle.std.specs.Int.RustNames.{FitsSigned};
+ghost use Rattle.std.specs.Str.{IsUtf8};
 ghost use Rattle.sig_base.specs.declared.scalar.Scalar.TheVariants as scalar;
 ghost use Rattle.sig_base.specs.Words.{in_word, is_name};
 ghost use Rattle.sig_words.specs.Lexemes.{Lexeme, lexemes};
 ghost use Rattle.sig_words.specs.Tokens.{AreTokens, may_sign};
 ghost use Rattle.sig_words.specs.declared.token.Token.{Token as AToken};
+ghost use Rattle.formula_text.specs.declared.wired.Allow.{Allow};
 ghost use Rattle.formula_text.specs.Canonical.{canonical_text, minimal, unslotted};
 ghost use Rattle.formula_text.specs.Grammar.{Draft, IsFormula, IsLongest, Spells, spelled};
 ghost use Rattle.formula_text.specs.Judging.{names, slotted};
-ghost use Rattle.formula_text.specs.Lexing.{CutsInto, HasTokens, IsOneToken};
+ghost use Rattle.formula_text.specs.Lexing.{CutsInto, IsOneToken};
+ghost use Rattle.formula_text.specs.Rereading.{text_of_wiring, IsPrintable, ReadsAmong, ReadsWhole, StandsAmong};
 ghost use Rattle.formula_text.specs.Signs.{NoOperator, constant, name, signs};
+ghost use Rattle.formula_text.specs.Wiring.{IsWired, Wiring};
 
 /// A text spells one formula.
 pub fn one_formula()
@@ -31,19 +35,31 @@ pub fn fewest_parentheses()
         → NoOperator (signs (drop n ls)) → IsLongest ls n x }
 {}
 
-/// The tokens of the canonical text of a formula spell the formula, where the text of each leaf is one token; so they do in a
-/// longer line, where a `-` may be a sign before them and nothing that lengthens a word stands behind them.
+/// The tokens of the canonical text of a formula spell the formula, where its names are names, its numbers have 64 bits and its
+/// texts are UTF-8; so they do in a longer line, where a `-` may be a sign before them and nothing that lengthens a word stands
+/// behind them.
 pub fn canonical_text_reads()
-    ensures alone { (x : Draft) (ts : List AToken) → HasTokens (minimal 0 x) → AreTokens (canonical_text x) ts
+    ensures alone { (x : Draft) (ts : List AToken) → IsPrintable x → AreTokens (canonical_text x) ts
         → IsFormula (lexemes (canonical_text x) ts) x }
-    ensures in_line { (x : Draft) (line : List ℕ) (from : ℕ) (back : List ℕ) → HasTokens (minimal 0 x)
+    ensures in_line { (x : Draft) (line : List ℕ) (from : ℕ) (back : List ℕ) → IsPrintable x
         → drop from line ≡ canonical_text x ++ back → may_sign line from ≡ true → in_word (slice_index back 0) ≡ false
         → CutsInto line from (from + length (canonical_text x)) (spelled (minimal 0 x)) }
 {}
 
-/// A name, `true`, `false` and a number are written as one token, which says them.
+/// What `put_formula` writes of a formula that was read is read back as the same formula: alone to its end, and in a longer line
+/// where a `-` may be a sign before it, nothing that lengthens a word stands behind it and no operator comes next.
+pub fn written_formulas_read_back()
+    ensures alone { (line : List ℕ) (ts : List AToken) (from to : ℕ) (allow : Allow) (w : Wiring) → AreTokens line ts
+        → IsWired line ts from to allow w → ReadsWhole (text_of_wiring w) allow w }
+    ensures in_line { (line : List ℕ) (ts : List AToken) (from to : ℕ) (allow : Allow) (w : Wiring) → AreTokens line ts
+        → IsWired line ts from to allow w → (other : List ℕ) (at : ℕ) (front others : List AToken)
+        → StandsAmong other (text_of_wiring w) at front others → ReadsAmong other front others allow w }
+{}
+
+/// A name, `true`, `false`, a number and a text are written as one token, which says them.
 pub fn leaves_are_tokens()
     ensures names { (n : List ℕ) → is_name n ≡ true → IsOneToken (name n) }
     ensures truths { (b : Bool) → IsOneToken (constant (scalar.Bool b)) }
     ensures numbers { (z : ℤ) → FitsSigned w64 z → IsOneToken (constant (scalar.Int z)) }
+    ensures texts { (t : List ℕ) → IsUtf8 t → IsOneToken (constant (scalar.Text t)) }
 {}

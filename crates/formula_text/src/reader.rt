@@ -2,7 +2,7 @@
 ghost use Rattle.std.specs.Prelude.{◌≡◌, ◌<◌, ◌≤◌, ℕ, length, IfOk, IfSome, MatchOption, option_map};
 ghost use Rattle.formula_text.specs.Wiring.{IsRead, ReadsNone};
 ghost use Rattle.formula_text.specs.Grammar.{level as level_of, before as before_of};
-ghost use Rattle.formula_text.specs.Reading.{expr as reads, head as begins, choice_at};
+ghost use Rattle.formula_text.specs.Reading.{expr as reads, head as begins, choice_at, untrack_at};
 ghost use Rattle.formula_text.specs.Rough.{draft, HasLeaves, signs_from};
 
 use crate::rough::Rough;
@@ -50,6 +50,7 @@ pub fn before(o: BinOp) -> u8
 // A formula, its rule, and the place after it.
 type Part = (Rough, u8, usize);
 
+// What follows `if`.
 #[cycle(reading)]
 fn choice(alloc: Global, line: &[u8], tokens: &[Token], at: usize) -> Result<Option<Part>, NoMemory>
     ensures shorter { IfOk result (λ found. IfSome found (λ p. length (signs_from line.now tokens.now p.2) < length (signs_from line.now tokens.now at))) }
@@ -77,6 +78,33 @@ fn choice(alloc: Global, line: &[u8], tokens: &[Token], at: usize) -> Result<Opt
     let test = Box::new(alloc, test)?;
     let held = Box::new(alloc, held)?;
     Ok(Some((Rough::If(test, held, Box::new(alloc, other)?), CHOICE, rest)))
+}
+
+// What follows `untrack`.
+#[cycle(reading)]
+fn untrack(
+    alloc: Global,
+    line: &[u8],
+    tokens: &[Token],
+    at: usize,
+) -> Result<Option<Part>, NoMemory>
+    ensures shorter { IfOk result (λ found. IfSome found (λ p. length (signs_from line.now tokens.now p.2) < length (signs_from line.now tokens.now at))) }
+    ensures within { IfOk result (λ found. IfSome found (λ p. p.2 ≤ length tokens.now)) }
+    ensures leaves { IfOk result (λ found. IfSome found (λ p. HasLeaves line.now tokens.now p.0)) }
+    ensures exact { IfOk result (λ found. (n : ℕ) → length (signs_from line.now tokens.now at) < n →
+        option_map (λ p. (draft line.now tokens.now p.0, p.1, signs_from line.now tokens.now p.2)) found
+        ≡ untrack_at (reads n) (signs_from line.now tokens.now at)) }
+{
+    let Some(Sign::Open) = sign_at(line, tokens, at) else {
+        return Ok(None);
+    };
+    let Some((inner, _, rest)) = expr(alloc, line, tokens, at + 1, CHOICE)? else {
+        return Ok(None);
+    };
+    let Some(Sign::Close) = sign_at(line, tokens, rest) else {
+        return Ok(None);
+    };
+    Ok(Some((Rough::Untrack(Box::new(alloc, inner)?), PRIMARY, rest + 1)))
 }
 
 #[cycle(reading)]
@@ -117,18 +145,7 @@ fn head(
             };
             Ok(Some((Rough::Not(Box::new(alloc, inner)?), NEGATION, rest)))
         }
-        Sign::Untrack => {
-            let Some(Sign::Open) = sign_at(line, tokens, at + 1) else {
-                return Ok(None);
-            };
-            let Some((inner, _, rest)) = expr(alloc, line, tokens, at + 2, CHOICE)? else {
-                return Ok(None);
-            };
-            let Some(Sign::Close) = sign_at(line, tokens, rest) else {
-                return Ok(None);
-            };
-            Ok(Some((Rough::Untrack(Box::new(alloc, inner)?), PRIMARY, rest + 1)))
-        }
+        Sign::Untrack => untrack(alloc, line, tokens, at + 1),
         Sign::Open => {
             let Some((inner, _, rest)) = expr(alloc, line, tokens, at + 1, CHOICE)? else {
                 return Ok(None);

@@ -7,7 +7,7 @@ ghost use Rattle.sig_words.specs.Tokens.{AreTokens};
 ghost use Rattle.formula_text.specs.declared.wired.FormulaFault.TheVariants as fault;
 ghost use Rattle.formula_text.specs.Judging.{has_long_text as long_test, slot_of, slotted};
 ghost use Rattle.formula_text.specs.Rough.{bytes_at, draft, HasLeaves};
-ghost use Rattle.formula_text.specs.Wiring.{of_text_fault, refusal, wired as wired_so, wiring, IsCause, IsLongCause, IsWired, Refuses};
+ghost use Rattle.formula_text.specs.Wiring.{of_text_fault, refusal, wired as wired_so, IsCause, IsLongCause, IsWired, Refuses};
 
 use crate::judge::{has_long_text, has_untrack, is_above, put_names, text_at};
 use crate::reader::read_rough;
@@ -16,6 +16,7 @@ use sig_base::{Name, NoMemory, Scalar, TextFault};
 use sig_formula::Formula;
 use sig_words::{Token, token_bytes};
 use std::alloc::{AllocFailed, Global};
+use std::marker::Model;
 use thiserror::Error;
 
 /// The most height of a formula.
@@ -29,6 +30,19 @@ pub const MOST_SOURCES: usize = 64;
 pub struct Wired {
     pub formula: Formula,
     pub names: Vec<Name>,
+}
+
+impl Model for Wired {
+    ghost use Rattle.sig_formula.specs.Trees.{tree};
+    ghost use Rattle.sig_formula.specs.Coding.{tree_code};
+    ghost use Rattle.std.specs.Coded.{codes};
+    ghost use Rattle.formula_text.specs.Wiring.{Wiring};
+
+    ghost Value = { Wiring };
+
+    ghost coded = { Prim.hlevel (codes, tree_code) };
+
+    ghost view = { λ w. (tree w.formula, w.names.items) };
 }
 
 /// What may stand in a formula at its place: the fields of a row, and reads that aren't tracked.
@@ -156,7 +170,7 @@ pub fn wire(
 ) -> Result<Wired, FormulaFault>
     requires of_line { AreTokens line.now tokens.now }
     requires leaves { HasLeaves line.now tokens.now rough.now }
-    ensures ok { IfOk result (λ w. wiring w ≡ wired_so (draft line.now tokens.now rough.now)) }
+    ensures ok { IfOk result (λ w. w ≡ wired_so (draft line.now tokens.now rough.now)) }
     ensures accepted { IfOk result (λ w. refusal allow (draft line.now tokens.now rough.now) ≡ None) }
     ensures refused { IfErr result (λ e. IsCause allow (draft line.now tokens.now rough.now) e) }
 {
@@ -189,7 +203,7 @@ pub fn read_formula(
 ) -> Result<(Wired, usize), FormulaFault>
     requires of_line { AreTokens line.now tokens.now }
     requires inside { from ≤ length tokens.now }
-    ensures ok { IfOk result (λ p. IsWired line.now tokens.now from p.1 allow (wiring p.0)) }
+    ensures ok { IfOk result (λ p. IsWired line.now tokens.now from p.1 allow p.0) }
     ensures refused { IfErr result (λ e. Refuses line.now tokens.now from allow e) }
 {
     let Some((rough, to)) = read_rough(alloc, line, tokens, from)? else {

@@ -1,7 +1,8 @@
 // The canonical text of a formula.
 ghost use Rattle.std.specs.Prelude.{◌≡◌, ◌++◌, OnOk};
 ghost use Rattle.sig_formula.specs.Trees.{tree};
-ghost use Rattle.formula_text.specs.Canonical.{canonical_text, minimal, named, opened, operator_text, shut, unslotted, written};
+ghost use Rattle.formula_text.specs.Canonical.{minimal, named, opened, operator_text, shut, unslotted, written};
+ghost use Rattle.formula_text.specs.Rereading.{text_of_wiring};
 
 use crate::reader::{CHOICE, NEGATION, before, level};
 use crate::wired::Wired;
@@ -11,8 +12,7 @@ use sig_formula::{BinOp, Formula};
 /// Appends the canonical text of a formula whose slots have names: one space on each side of an operator and behind `not`,
 /// `if`, `then` and `else`, and parentheses exactly where the grammar needs them. A slot without a name is written as nothing.
 pub fn put_formula(out: &mut Vec<u8>, wired: &Wired) -> Result<(), NoMemory>
-    ensures { OnOk result (out.new.items
-        ≡ out.old.items ++ canonical_text (unslotted wired.now.names.items (tree wired.now.formula))) }
+    ensures { OnOk result (out.new.items ≡ out.old.items ++ text_of_wiring wired.now) }
 {
     put_at(out, &wired.names, &wired.formula, CHOICE)
 }

@@ -1,3 +1,4 @@
+use Rattle.formula_text.proofs.Quoting.{text_token}
 use Rattle.formula_text.proofs.Texts.{name_token, number_token, truth_token}
 use Rattle.formula_text.proofs.meaning.leaves_are_tokens.Goals as goal
 
@@ -9,3 +10,6 @@ returns-clause-truths c = truth_token
 
 pub returns-clause-numbers : goal.returns-clause-numbers
 returns-clause-numbers c = number_token
+
+pub returns-clause-texts : goal.returns-clause-texts
+returns-clause-texts c = text_token

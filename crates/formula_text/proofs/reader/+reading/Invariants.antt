@@ -22,3 +22,6 @@ invariant-expr-loop-sign l = record {
 
 abbrev pub decreases-expr-loop-sign : goal.decreases-expr-loop-sign
 decreases-expr-loop-sign l = length (signs_from l.line l.tokens l.rest)
+
+abbrev pub decreases-untrack : goal.decreases-untrack
+decreases-untrack l = 3 * length (signs_from l.line.now l.tokens.now l.at) + 3
