@@ -1,0 +1,5 @@
+pub mod Links
+pub mod Made
+pub mod Stores
+pub mod Outcomes
+pub mod Asking

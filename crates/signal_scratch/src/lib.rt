@@ -1,0 +1,12 @@
+//! Signals that keep nothing: cells and computeds, and the values of both from scratch, each evaluated at most once.
+#![tactic(auto)]
+
+mod evaluate;
+mod linked;
+mod store;
+mod table;
+mod values;
+
+pub use linked::Linked;
+pub use store::Store;
+pub use values::Values;
