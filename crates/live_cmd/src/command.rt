@@ -14,9 +14,13 @@ pub struct Formulas {
 
 impl Model for Formulas {
     ghost use Rattle.std.specs.Prelude.{List};
+    ghost use Rattle.std.specs.Coded.{codes};
+    ghost use Rattle.sig_formula.specs.Coding.{tree_code};
     ghost use Rattle.formula_text.specs.Wiring.{Wiring};
 
     ghost Value = { List Wiring };
+
+    ghost coded = { Prim.hlevel (codes, tree_code) };
 
     ghost view = { λ f. f.formulas.items };
 }

@@ -1,10 +1,11 @@
 // What the commands tell, and its lines.
 ghost use Rattle.std.specs.Prelude.{◌≡◌, ◌++◌, IfOk, OnOk};
 ghost use Rattle.std.specs.Rc.{rc_value};
-ghost use Rattle.live_cmd.specs.Printed.{is_traced as traced_test, line_of_entry, line_of_page, line_of_refusal, printed};
+ghost use Rattle.std.specs.Fmt.{decimal};
+ghost use Rattle.live_cmd.specs.Printed.{is_traced as traced_test, limit_word, line_of_entry, line_of_outcome, line_of_page, line_of_refusal, printed, refusal_text};
 
-use crate::Refusal;
-use sig_base::{Name, NoMemory};
+use crate::{LimitWord, Refusal};
+use sig_base::{Name, NoMemory, Outcome, put_fault, put_value};
 use std::alloc::Global;
 use std::marker::Model;
 use std::rc::Rc;
@@ -67,7 +68,7 @@ fn is_traced(entry: &Entry) -> bool
     ensures { result ≡ traced_test entry.now }
 {
     match entry {
-        Entry::Page(_, _) | Entry::Error(_) => false,
+        Entry::Outcome(_, _) | Entry::Page(_, _) | Entry::Error(_) => false,
     }
 }
 
@@ -78,29 +79,75 @@ fn put(out: &mut Vec<u8>, bytes: &[u8]) -> Result<(), NoMemory>
     Ok(())
 }
 
+// The word of a limit.
+fn limit_word(limit: LimitWord) -> &'static str
+    ensures { result.now ≡ limit_word limit }
+{
+    match limit {
+        LimitWord::Line => "line",
+        LimitWord::Text => "text",
+        LimitWord::Sources => "sources",
+        LimitWord::Template => "template",
+        LimitWord::Nodes => "nodes",
+        LimitWord::Templates => "templates",
+        LimitWord::Pages => "pages",
+    }
+}
+
+fn put_with_line(out: &mut Vec<u8>, rule: &[u8], line: u32) -> Result<(), NoMemory>
+    ensures { OnOk result (out.new.items ≡ out.old.items ++ (rule.now ++ decimal line)) }
+{
+    put(out, rule)?;
+    let digits = line.to_string(*out.allocator())?;
+    put(out, digits.as_bytes())
+}
+
+fn put_with_word(out: &mut Vec<u8>, rule: &[u8], word: &str) -> Result<(), NoMemory>
+    ensures { OnOk result (out.new.items ≡ out.old.items ++ (rule.now ++ word.now)) }
+{
+    put(out, rule)?;
+    put(out, word.as_bytes())
+}
+
+// The number of a refusal and its detail.
+fn put_rule(out: &mut Vec<u8>, refusal: &Refusal) -> Result<(), NoMemory>
+    ensures { OnOk result (out.new.items ≡ out.old.items ++ refusal_text refusal.now) }
+{
+    match refusal {
+        Refusal::Syntax(line) => put_with_line(out, b"1 ", *line),
+        Refusal::Unknown(name) => put_with_word(out, b"2 ", name.as_str()),
+        Refusal::Taken(name) => put_with_word(out, b"3 ", name.as_str()),
+        Refusal::Kind(name) => put_with_word(out, b"4 ", name.as_str()),
+        Refusal::Limit(limit) => put_with_word(out, b"5 ", limit_word(*limit)),
+        Refusal::UntrackHere(line) => put_with_line(out, b"15 ", *line),
+        Refusal::Nest(line) => put_with_line(out, b"19 ", *line),
+    }
+}
+
 fn put_refusal(out: &mut Vec<u8>, refusal: &Refusal) -> Result<(), NoMemory>
     ensures { OnOk result (out.new.items ≡ out.old.items ++ line_of_refusal refusal.now) }
 {
-    match refusal {
-        Refusal::Syntax(number) => {
-            put(out, b"error 1 ")?;
-            let digits = number.to_string(*out.allocator())?;
-            put(out, digits.as_bytes())?;
+    put(out, b"error ")?;
+    put_rule(out, refusal)?;
+    put(out, b"\n")
+}
+
+fn put_outcome(out: &mut Vec<u8>, name: &Name, outcome: &Outcome) -> Result<(), NoMemory>
+    ensures { OnOk result (out.new.items ≡ out.old.items ++ line_of_outcome name.now outcome.now) }
+{
+    put(out, name.as_str().as_bytes())?;
+    match outcome {
+        Outcome::Good(value) => {
+            put(out, b" = ")?;
+            put_value(out, value)?;
+            put(out, b"\n")
         }
-        Refusal::Unknown(name) => {
-            put(out, b"error 2 ")?;
-            put(out, name.as_str().as_bytes())?;
-        }
-        Refusal::Taken(name) => {
-            put(out, b"error 3 ")?;
-            put(out, name.as_str().as_bytes())?;
-        }
-        Refusal::Kind(name) => {
-            put(out, b"error 4 ")?;
-            put(out, name.as_str().as_bytes())?;
+        Outcome::Bad(fault) => {
+            put(out, b" ! ")?;
+            put_fault(out, *fault)?;
+            put(out, b"\n")
         }
     }
-    put(out, b"\n")
 }
 
 fn put_page(out: &mut Vec<u8>, name: &Name, page: &PageBytes) -> Result<(), NoMemory>
@@ -119,8 +166,8 @@ fn put_page(out: &mut Vec<u8>, name: &Name, page: &PageBytes) -> Result<(), NoMe
 
 /// Appends the lines of an entry, each ended by LF; nothing for an entry of a trace where none is asked for.
 ///
-/// A page is `page`, its name and the number of its bytes, and on the next line the bytes; a refusal is
-/// `error`, its number and its detail.
+/// An outcome is the name with ` = ` and the printed value, or with ` ! ` and the name of the fault. A page is `page`, its
+/// name and the number of its bytes, and on the next line the bytes; a refusal is `error`, its number and its detail.
 pub fn entry_line(out: &mut Vec<u8>, entry: &Entry, trace: bool) -> Result<(), NoMemory>
     ensures { OnOk result (out.new.items ≡ out.old.items ++ printed trace entry.now) }
 {
@@ -128,6 +175,7 @@ pub fn entry_line(out: &mut Vec<u8>, entry: &Entry, trace: bool) -> Result<(), N
         return Ok(());
     }
     match entry {
+        Entry::Outcome(name, outcome) => put_outcome(out, name, outcome),
         Entry::Page(name, page) => put_page(out, name, page),
         Entry::Error(refusal) => put_refusal(out, refusal),
     }
@@ -136,27 +184,48 @@ pub fn entry_line(out: &mut Vec<u8>, entry: &Entry, trace: bool) -> Result<(), N
 #[cfg(test)]
 mod tests {
     use super::{Entry, PageBytes, entry_line};
-    use crate::Refusal;
-    use sig_base::Name;
+    use crate::{LimitWord, Refusal};
+    use sig_base::{Fault, Name, Outcome, Text, Value};
     use std::test::Fail;
 
     #[test]
     fn prints_entries(rt: HostRuntime) -> Result<(), Fail> {
         let alloc = rt.alloc();
         let page = PageBytes::of(alloc, Vec::from_slice(alloc, b"1x&lt;y")?)?;
+        let text = Value::Text(Text::new(alloc, "a\"b")?);
         let mut out = Vec::new(alloc);
         for entry in [
+            Entry::Outcome(Name::new(alloc, "a")?, Outcome::Good(Value::Int(-7))),
+            Entry::Outcome(Name::new(alloc, "b")?, Outcome::Good(text)),
+            Entry::Outcome(Name::new(alloc, "c")?, Outcome::Bad(Fault::Zero)),
             Entry::Page(Name::new(alloc, "p")?, page.copy()?),
-            Entry::Error(Refusal::Syntax(10)),
-            Entry::Error(Refusal::Unknown(Name::new(alloc, "z")?)),
-            Entry::Error(Refusal::Taken(Name::new(alloc, "a")?)),
-            Entry::Error(Refusal::Kind(Name::new(alloc, "t_1")?)),
         ] {
             entry_line(&mut out, &entry, false)?;
         }
-        let expected = b"page p 7\n1x&lt;y\nerror 1 10\nerror 2 z\nerror 3 a\nerror 4 t_1\n";
+        let expected = b"a = -7\nb = \"a\\\"b\"\nc ! zero\npage p 7\n1x&lt;y\n";
         assert_eq!(rt; out.as_slice(), expected.as_slice());
         assert_eq!(rt; page.as_slice(), b"1x&lt;y".as_slice());
+        Ok(())
+    }
+
+    #[test]
+    fn prints_refusals(rt: HostRuntime) -> Result<(), Fail> {
+        let alloc = rt.alloc();
+        let mut out = Vec::new(alloc);
+        for refusal in [
+            Refusal::Syntax(10),
+            Refusal::Unknown(Name::new(alloc, "z")?),
+            Refusal::Taken(Name::new(alloc, "a")?),
+            Refusal::Kind(Name::new(alloc, "t_1")?),
+            Refusal::Limit(LimitWord::Sources),
+            Refusal::UntrackHere(3),
+            Refusal::Nest(4_294_967_295),
+        ] {
+            entry_line(&mut out, &Entry::Error(refusal), true)?;
+        }
+        let expected =
+            b"error 1 10\nerror 2 z\nerror 3 a\nerror 4 t_1\nerror 5 sources\nerror 15 3\nerror 19 4294967295\n";
+        assert_eq!(rt; out.as_slice(), expected.as_slice());
         Ok(())
     }
 }

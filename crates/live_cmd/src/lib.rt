@@ -10,9 +10,9 @@ mod place;
 mod reading;
 mod refusal;
 
-pub use command::{Command, Item, Names};
+pub use command::{Command, Formulas, Item, SourceText};
 pub use entry::{Entry, PageBytes, entry_line};
 pub use item::next_item;
 pub use laws::{items_cut, items_in_turn, one_item, one_list, one_meaning};
 pub use line::Line;
-pub use refusal::Refusal;
+pub use refusal::{LimitWord, Refusal};
