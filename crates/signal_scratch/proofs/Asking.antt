@@ -1,9 +1,8 @@
 -- One asking of a recipe.
-use Rattle.std.proofs.Common.{◌≡◌, ℕ, zero, suc, ◌+◌, ◌<◌, ◌≤◌, ◌==◌, ◌||◌, Bool, true, false, cond, List, [], ◌∷◌, length, get_or, None, refl, sym, ap, subst, ◌∙◌, arith, ◌⊎◌, inl, inr}
-use Rattle.std.specs.Prelude.{nat_lt, slice_index}
+use Rattle.std.proofs.Common.{◌≡◌, ℕ, ◌≤◌, List, [], length, None, refl, sym, ap, subst, ◌∙◌, arith, inl, inr}
+use Rattle.std.specs.Prelude.{slice_index}
 use Rattle.sig_base.specs.declared.value.Value.{Value}
 use Rattle.sig_base.specs.declared.value.Fault.{Fault}
-use Rattle.sig_base.specs.declared.value.Fault.TheVariants.{Slot, Twice}
 use Rattle.sig_base.specs.declared.value.Known.{Known}
 use Rattle.sig_base.specs.declared.value.Outcome.{Outcome}
 use Rattle.sig_base.specs.declared.value.Outcome.TheVariants.{Good, Bad}
@@ -13,9 +12,9 @@ use Rattle.sig_formula.specs.Trees.{Tree}
 use Rattle.sig_formula.specs.Answering as formulas
 use Rattle.signal_model.specs.Laws.{IsChain, IsRead}
 use Rattle.signal_model.specs.Plain.{IsNew}
-use Rattle.signal_model.specs.Recipes.{Hosts, Recipe, answer_of, given_answer, is_known, judged}
+use Rattle.signal_model.specs.Recipes.{Hosts, Recipe, answer_of, given_answer, judged}
 use Rattle.signal_model.specs.Standing.{Signals}
-use Rattle.signal_model.specs.Values.{Evaluation, after_read, after_step, asked_from, learnt, value_of}
+use Rattle.signal_model.specs.Values.{Evaluation, after_read, after_step, asked_from, learnt}
 use Rattle.signal_model.proofs.Asking.{asked_by_steps, read_new}
 use Rattle.signal_model.proofs.Formulas.{AreOpen, IsOpen, reads_open}
 use Rattle.signal_scratch.specs.Asking.{AreRight, AreSources, Comes, Gives, Goes, IsRest, waiting, within}
