@@ -1,13 +1,12 @@
 -- A formula asks only for slots that it has and that aren't known.
-use Rattle.std.proofs.Common.{◌≡◌, ℕ, ◌<◌, ◌==◌, ◌||◌, Bool, true, false, cond, List, [], ◌∷◌, length, Option, Some, None, refl, arith}
+use Rattle.std.proofs.Common.{◌≡◌, ℕ, ◌<◌, ◌==◌, ◌||◌, Bool, true, false, cond, List, [], ◌∷◌, length, Some, None, refl, arith}
 use Rattle.std.specs.Prelude.{nat_lt}
 use Rattle.std.proofs.lemmas.Bool.Decides.{nat_tests}
 use Rattle.sig_base.specs.declared.value.Known.{Known}
 use Rattle.sig_base.specs.declared.value.Step.{Step}
 use Rattle.sig_base.specs.declared.value.Step.TheVariants.{Read, Done, Fail}
-use Rattle.sig_formula.specs.Trees.{Tree, has_slot}
+use Rattle.sig_formula.specs.Trees.{Tree}
 use Rattle.sig_formula.specs.Answering as formulas
-use Rattle.sig_formula.specs.Laws.{IsAskable}
 use Rattle.sig_formula.proofs.Asking.{asks_askable}
 use Rattle.signal_model.specs.Recipes.{is_known, judged}
 use Rattle.signal_model.specs.Laws.{FormulaLaw}

@@ -4,7 +4,9 @@ ghost use Rattle.signal_model.specs.Standing.{is_in};
 ghost use Rattle.signal_model.specs.Orders.{evaluation_order, order_after, visit};
 ghost use Rattle.signal_model.specs.Plain.{IsOpen, Places, Stays, place_names, places};
 
-use crate::plain::{HostFormulas, Computed, Signals, cell_at, computed_at, evaluated, is_in, path_below};
+use crate::plain::{
+    Computed, HostFormulas, Signals, cell_at, computed_at, evaluated, is_in, path_below,
+};
 use sig_base::{NoMemory, NodeId};
 use std::alloc::Global;
 use std::marker::Model;

@@ -5,7 +5,7 @@ ghost use Rattle.signal_model.specs.Plain.{AfterPlace, ran};
 
 use crate::kept::{Memos, must_run, with_run};
 use crate::order::{Place, evaluation_order};
-use crate::plain::{HostFormulas, Computed, Evaluation, Signals, computed_at, evaluated};
+use crate::plain::{Computed, Evaluation, HostFormulas, Signals, computed_at, evaluated};
 use sig_base::{NoMemory, NodeId};
 use std::alloc::Global;
 use std::marker::Model;

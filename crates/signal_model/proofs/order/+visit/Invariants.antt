@@ -1,4 +1,4 @@
-use Rattle.std.proofs.Common.{◌≡◌, ◌∷◌, take}
+use Rattle.std.proofs.Common.{◌∷◌, take}
 use Rattle.signal_model.specs.Values.{names_left}
 use Rattle.signal_model.specs.Orders.{visit, visits}
 use Rattle.signal_model.specs.Plain.{Places}

@@ -1,4 +1,4 @@
-use Rattle.std.proofs.Common.{◌≡◌, ℕ, [], ◌∷◌, length, ◌+◌, ◌*◌}
+use Rattle.std.proofs.Common.{◌≡◌, [], ◌∷◌, length, ◌+◌, ◌*◌}
 use Rattle.signal_model.specs.Values.{asked_from, names_left, unknown_slots, value_of}
 use Rattle.signal_model.specs.Plain.{prefixed}
 use Rattle.signal_model.proofs.plain.+values.Given as goal

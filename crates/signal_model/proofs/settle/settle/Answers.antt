@@ -1,4 +1,4 @@
-use Rattle.std.proofs.Common.{[], sym, ◌∙◌}
+use Rattle.std.proofs.Common.{[], ◌∙◌}
 use Rattle.signal_model.specs.Orders.{evaluation_order}
 use Rattle.signal_model.proofs.Settles.{order_stands, settle_on}
 use Rattle.signal_model.proofs.settle.settle.Goals as goal
