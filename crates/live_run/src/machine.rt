@@ -45,7 +45,7 @@ pub struct Machine {
 
 impl Model for Machine {
     ghost use Rattle.std.specs.Coded.{codes};
-    ghost use Rattle.signal_model.specs.Coding.{tree_code};
+    ghost use Rattle.sig_formula.specs.Coding.{tree_code};
     ghost use Rattle.live_model.specs.Machine.{Machine as PlainMachine};
 
     ghost Value = { PlainMachine };

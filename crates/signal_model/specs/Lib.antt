@@ -8,7 +8,6 @@ pub mod Marks
 pub mod Sound
 pub mod Changes
 pub mod Asks
-pub mod Coding
 pub mod Plain
 pub mod Examples
 pub mod Laws

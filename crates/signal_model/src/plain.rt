@@ -40,7 +40,7 @@ pub struct Recipe {
 impl Model for Recipe {
     ghost use Rattle.signal_model.specs.Recipes.{Recipe};
     ghost use Rattle.signal_model.specs.Plain.{asked_of};
-    ghost use Rattle.signal_model.specs.Coding.{tree_code};
+    ghost use Rattle.sig_formula.specs.Coding.{tree_code};
     ghost use Rattle.std.specs.Coded.{codes};
 
     ghost Value = { Recipe };
@@ -75,7 +75,7 @@ pub struct Computed {
 
 impl Model for Computed {
     ghost use Rattle.signal_model.specs.Standing.{Computed};
-    ghost use Rattle.signal_model.specs.Coding.{tree_code};
+    ghost use Rattle.sig_formula.specs.Coding.{tree_code};
     ghost use Rattle.std.specs.Coded.{codes};
 
     ghost Value = { Computed };
@@ -94,7 +94,7 @@ pub struct Signals {
 
 impl Model for Signals {
     ghost use Rattle.signal_model.specs.Standing.{Signals};
-    ghost use Rattle.signal_model.specs.Coding.{tree_code};
+    ghost use Rattle.sig_formula.specs.Coding.{tree_code};
     ghost use Rattle.std.specs.Coded.{codes};
 
     ghost Value = { Signals };

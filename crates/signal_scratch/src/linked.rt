@@ -15,7 +15,7 @@ impl Model for Linked {
     ghost use Rattle.sig_formula.specs.Trees.{tree};
     ghost use Rattle.signal_scratch.specs.Links.{recipe_of};
     ghost use Rattle.signal_model.specs.Recipes.{Recipe};
-    ghost use Rattle.signal_model.specs.Coding.{tree_code};
+    ghost use Rattle.sig_formula.specs.Coding.{tree_code};
     ghost use Rattle.std.specs.Coded.{codes};
 
     ghost Value = { Recipe };

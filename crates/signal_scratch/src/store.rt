@@ -26,7 +26,7 @@ pub struct Store {
 
 impl Model for Store {
     ghost use Rattle.signal_model.specs.Standing.{Signals};
-    ghost use Rattle.signal_model.specs.Coding.{tree_code};
+    ghost use Rattle.sig_formula.specs.Coding.{tree_code};
     ghost use Rattle.std.specs.Coded.{codes};
 
     ghost Value = { Signals };
