@@ -1,5 +1,5 @@
 -- The reader finds the longest formula, and a text spells one formula.
-use Rattle.std.proofs.Common.{◌≡◌, ◌<◌, take, drop, ℕ, zero, suc, ◌+◌, ◌≤◌, true, List, [], ◌∷◌, ◌++◌, length, Option, Some, None, refl, sym, ap, subst, ◌∙◌, append_assoc, arith, inl, inr}
+use Rattle.std.proofs.Common.{◌≡◌, take, drop, ℕ, zero, suc, ◌+◌, ◌≤◌, true, List, [], ◌∷◌, ◌++◌, length, Option, Some, None, refl, sym, ap, ◌∙◌, append_assoc, arith, inl, inr}
 use Rattle.std.specs.Prelude.{nat_le}
 use Rattle.std.proofs.lemmas.Bool.{le-leb, cases_Bool}
 use Rattle.std.proofs.lemmas.Option.{same_Some}
@@ -8,11 +8,10 @@ use Rattle.sig_words.specs.Lexemes.{Lexeme}
 use Rattle.formula_text.specs.Signs.{Sign, sign, signs}
 use Rattle.formula_text.specs.Signs as t
 use Rattle.sig_formula.specs.declared.formula.BinOp.{BinOp}
-use Rattle.sig_formula.specs.declared.formula.BinOp.TheVariants as op
 use Rattle.formula_text.specs.Grammar.{Draft, negation, binary, choice, Written, single, group, untrack, negated, chain, pick, spelled, meant, level, before, rule, Fits, Spells, IsLongest, HasNone}
 use Rattle.formula_text.specs.Reading.{Part, Reader, goes_on, extended, tail_at, tail, expr}
 use Rattle.formula_text.proofs.Sound.{expr_sound, level_small, pick_tokens}
-use Rattle.formula_text.proofs.Complete.{Stops, Stops-more, Leads, exact, ended, level_before, level_some, Stops-zero, step_chain, pick_reads}
+use Rattle.formula_text.proofs.Complete.{Stops, Stops-more, Leads, exact, ended, level_before, Stops-zero, step_chain, pick_reads}
 
 Stops-any : (rest : List Sign) → Stops 9 rest
 Stops-any [] = tt

@@ -1,5 +1,5 @@
 -- The text of a form is cut into its tokens.
-use Rattle.std.proofs.Common.{◌≡◌, ℕ, zero, suc, ◌+◌, ◌-◌, ◌<◌, ◌≤◌, Bool, true, false, List, [], ◌∷◌, ◌++◌, length, take, drop, refl, sym, ap, subst, ◌∙◌, append_assoc, arith, inl, inr}
+use Rattle.std.proofs.Common.{◌≡◌, ℕ, suc, ◌+◌, ◌-◌, ◌<◌, ◌≤◌, Bool, true, false, List, [], ◌∷◌, ◌++◌, length, take, drop, refl, sym, ap, subst, ◌∙◌, append_assoc, arith, inl, inr}
 use Rattle.std.specs.Prelude.{◌||◌, ◌&&◌, ◌==◌, codes, slice_index}
 use Rattle.std.specs.Char.{is_ascii_digit}
 use Rattle.std.specs.List.{list_all}
@@ -12,7 +12,7 @@ use Rattle.sig_formula.specs.declared.formula.BinOp.TheVariants as op
 use Rattle.sig_words.specs.declared.token.Token.{Token}
 use Rattle.sig_words.specs.declared.token.TokenKind.{TokenKind}
 use Rattle.sig_words.specs.declared.token.TokenKind.TheVariants as kind
-use Rattle.sig_words.specs.Lexemes.{lexeme, lexeme_of, lexemes, text_at}
+use Rattle.sig_words.specs.Lexemes.{lexeme, lexeme_of, lexemes}
 use Rattle.sig_words.specs.Tokens.{is_two, Form, IsToken, Cuts, may_sign}
 use Rattle.sig_words.proofs.Fronts.{index_drop}
 use Rattle.formula_text.specs.Signs.{Leaf, Sign, sign, signs, word_sign, symbol_sign}

@@ -1,15 +1,15 @@
 -- Formulas with the fewest parentheses.
-use Rattle.std.proofs.Common.{◌≡◌, ℕ, ◌+◌, ◌<◌, ◌≤◌, Bool, true, false, cond, List, [], ◌∷◌, ◌++◌, length, take, drop, Some, refl, sym, ap, subst, ◌∙◌, arith, inl, inr}
+use Rattle.std.proofs.Common.{◌≡◌, ℕ, ◌+◌, ◌≤◌, Bool, true, false, cond, List, [], ◌∷◌, ◌++◌, length, take, drop, Some, refl, sym, ap, subst, ◌∙◌, arith, inl, inr}
 use Rattle.std.specs.Prelude.{nat_lt}
 use Rattle.std.proofs.lemmas.Bool.{ltb-false, cases_Bool}
-use Rattle.std.proofs.lemmas.List.{append-nil, length-append, length-map, take-append-drop, map-append}
+use Rattle.std.proofs.lemmas.List.{append-nil, length-map, take-append-drop, map-append}
 use Rattle.sig_words.specs.Lexemes.{Lexeme}
 use Rattle.sig_formula.specs.declared.formula.BinOp.{BinOp}
 use Rattle.sig_formula.specs.declared.formula.BinOp.TheVariants as op
 use Rattle.formula_text.specs.Signs.{Sign, NoOperator, signs}
 use Rattle.formula_text.specs.Signs as t
-use Rattle.formula_text.specs.Grammar.{Draft, leaf, negation, binary, choice, untracked, Written, single, group, untrack, negated, chain, pick, spelled, meant, level, before, rule, Fits, Spells, IsFormula, IsLongest}
-use Rattle.formula_text.specs.Reading.{Part, expr}
+use Rattle.formula_text.specs.Grammar.{Draft, leaf, negation, binary, choice, untracked, Written, group, negated, chain, pick, spelled, meant, level, before, rule, Fits, Spells, IsFormula, IsLongest}
+use Rattle.formula_text.specs.Reading.{expr}
 use Rattle.formula_text.specs.Canonical.{grouped, minimal, written, opened, shut}
 use Rattle.formula_text.proofs.Sound.{level_small}
 use Rattle.formula_text.proofs.Complete.{Stops}

@@ -20,7 +20,7 @@ use Rattle.formula_text.specs.Signs.{Sign, sign, signs}
 use Rattle.sig_words.specs.Lexemes.{text_at}
 use Rattle.formula_text.specs.declared.sign.Sign.{Sign as Seen}
 use Rattle.formula_text.specs.declared.sign.Sign.TheVariants as seen
-use Rattle.formula_text.specs.Rough.{IsLiteralAt, bytes_at, bytes_of, sign_of, IsSeen, IsSeenAt, signs_from}
+use Rattle.formula_text.specs.Rough.{IsLiteralAt, bytes_at, sign_of, IsSeen, IsSeenAt, signs_from}
 
 -- the sign of the token at a place stands first
 pub from_some : (line : List ℕ) (ts : List Token) (i : ℕ) (t : Token) → slice_get ts i ≡ Some t → signs_from line ts i ≡ sign (lexeme line t) ∷ signs_from line ts (i + 1)

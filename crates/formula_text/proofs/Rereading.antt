@@ -1,10 +1,8 @@
 -- What is written of a formula that was read is read back.
-use Rattle.std.proofs.Common.{◌≡◌, ℕ, ℤ, None, zero, suc, ◌+◌, ◌-◌, ◌<◌, ◌≤◌, Bool, true, false, cond, List, [], ◌∷◌, ◌++◌, length, take, drop, refl, sym, ap, subst, ◌∙◌, arith, inl, inr}
+use Rattle.std.proofs.Common.{◌≡◌, ℕ, None, zero, suc, ◌+◌, ◌-◌, ◌<◌, Bool, true, false, cond, List, [], ◌∷◌, ◌++◌, length, take, drop, refl, sym, ap, subst, ◌∙◌, arith, inl, inr}
 use Rattle.std.specs.Prelude.{◌==◌, ◌&&◌, nat_lt, codes}
 use Rattle.std.specs.Char.{is_ascii_digit}
 use Rattle.std.specs.Fmt.{signed_decimal}
-use Rattle.std.specs.Int.{w64}
-use Rattle.std.specs.Int.RustNames.{FitsSigned}
 use Rattle.std.specs.List.{All, list_all}
 use Rattle.std.specs.Str.{IsUtf8, IsAscii, bytes_eq, chars}
 use Rattle.std.proofs.Math.Seq.{drop-append_seam, drop-length}
@@ -22,7 +20,7 @@ use Rattle.sig_words.specs.declared.token.TokenKind.{TokenKind}
 use Rattle.sig_words.specs.declared.token.TokenKind.TheVariants as kind
 use Rattle.sig_words.specs.Lexemes.{Lexeme, lexeme, lexeme_of, lexemes, text_at}
 use Rattle.sig_words.specs.Literals.{meaning, plain, text_of, between_quotes}
-use Rattle.sig_words.specs.Tokens.{Form, AreTokens, Cuts, IsTokenOf}
+use Rattle.sig_words.specs.Tokens.{Form, AreTokens, IsTokenOf}
 use Rattle.sig_words.proofs.EachToken.{each_token}
 use Rattle.sig_words.proofs.Fronts.{IsNumeric, numeric}
 use Rattle.sig_words.proofs.LiteralLaws.{literal_utf8}
@@ -30,8 +28,7 @@ use Rattle.formula_text.specs.declared.wired.Allow.{Allow}
 use Rattle.formula_text.specs.Signs.{Leaf, Sign, name, constant, sign, signs, word_sign, symbol_sign, NoOperator}
 use Rattle.formula_text.specs.Signs as t
 use Rattle.formula_text.specs.Grammar.{IsLongest, Draft, leaf, negation, binary, choice, untracked, Written, single, group, untrack, negated, chain, pick, spelled, meant, level, before, Spells}
-use Rattle.formula_text.specs.Judging.{names, slotted}
-use Rattle.formula_text.specs.Canonical.{grouped, minimal, written, canonical_text, unslotted, operator_text, leaf_text}
+use Rattle.formula_text.specs.Canonical.{minimal, written, canonical_text, operator_text, leaf_text}
 use Rattle.formula_text.specs.Lexing.{IsOneToken}
 use Rattle.formula_text.specs.Wiring.{Wiring, wired, refusal, Reads, IsWired}
 use Rattle.formula_text.specs.Rereading.{IsPrintableLeaf, IsPrintable, text_of_wiring, StandsAmong, ReadsAmong, ReadsWhole}

@@ -1,16 +1,15 @@
 -- A wired formula with its names back in place of its slots.
-use Rattle.std.proofs.Common.{◌≡◌, ℕ, suc, ◌+◌, ◌<◌, Bool, true, false, get_or, List, [], ◌∷◌, ◌++◌, length, Some, refl, sym, ap, ◌∙◌, arith, inl, inr}
-use Rattle.std.specs.Prelude.{nat_lt, ◌||◌, not, position}
+use Rattle.std.proofs.Common.{◌≡◌, ℕ, suc, ◌+◌, ◌<◌, Bool, true, get_or, List, [], ◌∷◌, ◌++◌, length, refl, ap, arith, inl, inr}
+use Rattle.std.specs.Prelude.{nat_lt}
 use Rattle.std.specs.List.{list_any, position_or_len}
 use Rattle.std.specs.Str.{bytes_eq}
 use Rattle.std.proofs.lemmas.Bool.{cases_Bool, lt-ltb}
 use Rattle.std.proofs.lemmas.List.Folds.{list_any-append}
 use Rattle.std.proofs.lemmas.Option.{slice_get-get_or}
 use Rattle.std.proofs.lemmas.Slice.Eq.{bytes_eq-Decides}
-use Rattle.sig_formula.specs.Trees as tree
-use Rattle.formula_text.specs.Signs.{Leaf, name, constant}
+use Rattle.formula_text.specs.Signs.{name, constant}
 use Rattle.formula_text.specs.Grammar.{Draft, leaf, negation, binary, choice, untracked}
-use Rattle.formula_text.specs.Judging.{with_name, with_leaf, with_names, names, slot_of, slotted}
+use Rattle.formula_text.specs.Judging.{with_name, with_names, names, slot_of, slotted}
 use Rattle.formula_text.specs.Canonical.{named, unslotted}
 
 first_found : {X : Type 0} (p : X → Bool) (xs : List X) (d : X) → list_any p xs ≡ true → (position_or_len p xs < length xs) × (p (get_or xs (position_or_len p xs) d) ≡ true)

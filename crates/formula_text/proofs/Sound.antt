@@ -7,7 +7,7 @@ use Rattle.formula_text.specs.Signs.{Sign}
 use Rattle.formula_text.specs.Signs as t
 use Rattle.sig_formula.specs.declared.formula.BinOp.{BinOp}
 use Rattle.sig_formula.specs.declared.formula.BinOp.TheVariants as op
-use Rattle.formula_text.specs.Grammar.{Draft, negation, untracked, binary, choice, Written, single, group, untrack, negated, chain, pick, spelled, meant, level, before, rule, Fits}
+use Rattle.formula_text.specs.Grammar.{Draft, negation, untracked, binary, Written, single, group, untrack, negated, chain, pick, spelled, meant, level, before, rule, Fits}
 use Rattle.formula_text.specs.Reading.{Part, Reader, closed_at, closed, untrack_closed, untrack_at, negate, chosen, else_at, after_branch, then_at, after_test, choice_at, head, goes_on, extended, tail_at, tail, expr}
 
 pub record Took (least : ℕ) (ts : List Sign) (p : Part) : Type 0 where

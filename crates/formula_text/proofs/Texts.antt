@@ -1,5 +1,5 @@
 -- The canonical text is read back.
-use Rattle.std.proofs.Common.{◌≡◌, ℕ, ℤ, zero, suc, ◌+◌, ◌<◌, Bool, true, false, List, [], ◌∷◌, ◌++◌, length, take, drop, refl, sym, ap, subst, ◌∙◌, arith}
+use Rattle.std.proofs.Common.{◌≡◌, ℕ, ℤ, ◌+◌, ◌<◌, Bool, true, false, List, [], ◌∷◌, ◌++◌, length, drop, refl, sym, ap, subst, ◌∙◌, arith}
 use Rattle.std.specs.Prelude.{◌||◌, ◌&&◌, not, nat_le, codes, slice_index}
 use Rattle.std.specs.Str.{bytes_eq}
 use Rattle.std.specs.Int.{w64}
@@ -12,7 +12,7 @@ use Rattle.sig_base.specs.declared.scalar.Scalar.TheVariants as scalar
 use Rattle.sig_words.specs.declared.token.Token.{Token}
 use Rattle.sig_words.specs.declared.token.TokenKind.TheVariants as kind
 use Rattle.sig_words.specs.Lexemes.{lexemes}
-use Rattle.sig_words.specs.Tokens.{AreTokens, Cuts, may_sign, is_inner}
+use Rattle.sig_words.specs.Tokens.{AreTokens, Cuts, may_sign}
 use Rattle.sig_words.proofs.Fronts.{numeric}
 use Rattle.sig_words.proofs.Cuttings.{one_cutting}
 use Rattle.formula_text.specs.Signs.{Leaf, Sign, name, constant, signs, word_sign}

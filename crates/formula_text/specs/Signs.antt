@@ -1,5 +1,5 @@
 -- What tokens are in a formula.
-use Rattle.std.specs.Prelude.{ℕ, Bool, true, false, List, [], ◌∷◌, map, codes, if◌then◌else◌}
+use Rattle.std.specs.Prelude.{ℕ, true, false, List, [], ◌∷◌, map, codes, if◌then◌else◌}
 use Rattle.std.specs.Str.{bytes_eq}
 use Rattle.sig_base.specs.Words.{is_name}
 use Rattle.sig_base.specs.declared.scalar.Scalar.{Scalar}

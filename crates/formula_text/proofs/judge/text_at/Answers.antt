@@ -1,11 +1,6 @@
-use Rattle.std.proofs.Common.{◌≡◌, sym, ◌∙◌, refl, true, false, get_or}
-use Rattle.std.specs.Str.{IsUtf8}
-use Rattle.sig_base.specs.Words.{is_name}
-use Rattle.sig_words.specs.Lexemes.{text_at}
-use Rattle.sig_words.specs.declared.token.Token.{Token}
 use Rattle.sig_words.specs.declared.token.TokenKind.TheVariants as kind
 use Rattle.sig_words.proofs.EachToken.{each_token}
-use Rattle.formula_text.proofs.Places.{at_place, literal_place, name_utf8}
+use Rattle.formula_text.proofs.Places.{at_place, literal_place}
 use Rattle.formula_text.proofs.judge.text_at.Goals as goal
 
 pub literal-requires-clause-of_line : goal.literal-requires-clause-of_line

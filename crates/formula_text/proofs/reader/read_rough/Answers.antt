@@ -1,4 +1,3 @@
-use Rattle.std.proofs.Common.{arith}
 use Rattle.formula_text.specs.Rough.{draft}
 use Rattle.formula_text.proofs.Places.{none_read, some_read}
 use Rattle.formula_text.proofs.reader.read_rough.Goals as goal
