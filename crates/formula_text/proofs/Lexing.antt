@@ -19,7 +19,16 @@ use Rattle.formula_text.specs.Signs.{Leaf, Sign, sign, signs, word_sign, symbol_
 use Rattle.formula_text.specs.Signs as t
 use Rattle.formula_text.specs.Grammar.{Written, single, group, untrack, negated, chain, pick, spelled}
 use Rattle.formula_text.specs.Canonical.{written, operator_text, leaf_text}
-use Rattle.formula_text.specs.Lexing.{IsPlain, IsOneToken, HasTokens, CutsInto}
+use Rattle.formula_text.specs.Lexing.{IsPlain, IsOneToken, CutsInto}
+
+-- the text of each leaf is one token
+abbrev pub HasTokens : Written → Type 0
+HasTokens (single l) = IsOneToken l
+HasTokens (group w) = HasTokens w
+HasTokens (untrack w) = HasTokens w
+HasTokens (negated w) = HasTokens w
+HasTokens (chain o a b) = HasTokens a × HasTokens b
+HasTokens (pick w a b) = HasTokens w × HasTokens a × HasTokens b
 
 -- blanks alone stand between the places
 abbrev pub Gap : List ℕ → ℕ → ℕ → Type 0

@@ -32,10 +32,10 @@ use Rattle.formula_text.specs.Signs as t
 use Rattle.formula_text.specs.Grammar.{IsLongest, Draft, leaf, negation, binary, choice, untracked, Written, single, group, untrack, negated, chain, pick, spelled, meant, level, before, Spells}
 use Rattle.formula_text.specs.Judging.{names, slotted}
 use Rattle.formula_text.specs.Canonical.{grouped, minimal, written, canonical_text, unslotted, operator_text, leaf_text}
-use Rattle.formula_text.specs.Lexing.{IsOneToken, HasTokens, CutsInto}
+use Rattle.formula_text.specs.Lexing.{IsOneToken}
 use Rattle.formula_text.specs.Wiring.{Wiring, wired, refusal, Reads, IsWired}
 use Rattle.formula_text.specs.Rereading.{IsPrintableLeaf, IsPrintable, text_of_wiring, StandsAmong, ReadsAmong, ReadsWhole}
-use Rattle.formula_text.proofs.Lexing.{cuts_append, cut_written}
+use Rattle.formula_text.proofs.Lexing.{HasTokens, cuts_append, cut_written}
 use Rattle.formula_text.proofs.Minimal.{minimal_longest}
 use Rattle.formula_text.proofs.Places.{name_utf8}
 use Rattle.formula_text.proofs.Quoting.{text_token, quoted_utf8}

@@ -19,8 +19,8 @@ use Rattle.formula_text.specs.Signs.{Leaf, Sign, name, constant, signs, word_sig
 use Rattle.formula_text.specs.Signs as t
 use Rattle.formula_text.specs.Grammar.{Draft, Spells, IsFormula, spelled}
 use Rattle.formula_text.specs.Canonical.{canonical_text, minimal}
-use Rattle.formula_text.specs.Lexing.{IsOneToken, HasTokens, CutsInto}
-use Rattle.formula_text.proofs.Lexing.{no_gap, cut_written}
+use Rattle.formula_text.specs.Lexing.{IsOneToken, CutsInto}
+use Rattle.formula_text.proofs.Lexing.{HasTokens, no_gap, cut_written}
 use Rattle.formula_text.proofs.Minimal.{minimal_spells}
 
 pub text_in_line : (x : Draft) (line : List ℕ) (from : ℕ) (back : List ℕ) → HasTokens (minimal 0 x) → drop from line ≡ canonical_text x ++ back

@@ -1,4 +1,4 @@
--- How the text of a form is cut into tokens.
+-- How texts are cut into tokens.
 use Rattle.std.specs.Prelude.{◌≡◌, ℕ, ◌<◌, List, length}
 use Rattle.sig_words.specs.declared.token.Token.{Token}
 use Rattle.sig_words.specs.declared.token.TokenKind.{TokenKind}
@@ -7,7 +7,6 @@ use Rattle.sig_words.specs.Lexemes.{lexeme_of, lexemes}
 use Rattle.sig_words.specs.Tokens.{Form, Cuts}
 use Rattle.formula_text.specs.Signs.{Leaf, Sign, sign, signs}
 use Rattle.formula_text.specs.Signs as t
-use Rattle.formula_text.specs.Grammar.{Written, single, group, untrack, negated, chain, pick}
 use Rattle.formula_text.specs.Canonical.{leaf_text}
 
 -- a word, a number or a literal
@@ -25,15 +24,6 @@ pub record IsOneToken (l : Leaf) : Type 0 where
   pub form : Form kind_is (leaf_text l)
   pub some : 0 < length (leaf_text l)
   pub says : sign (lexeme_of kind_is (leaf_text l)) ≡ t.leaf l
-
--- the text of each leaf is one token
-abbrev pub HasTokens : Written → Type 0
-HasTokens (single l) = IsOneToken l
-HasTokens (group w) = HasTokens w
-HasTokens (untrack w) = HasTokens w
-HasTokens (negated w) = HasTokens w
-HasTokens (chain o a b) = HasTokens a × HasTokens b
-HasTokens (pick w a b) = HasTokens w × HasTokens a × HasTokens b
 
 -- tokens of the line from one place up to another, with these signs
 pub record CutsInto (line : List ℕ) (from to : ℕ) (ss : List Sign) : Type 0 where

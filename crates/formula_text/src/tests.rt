@@ -56,13 +56,13 @@ fn is_syntax(alloc: Global, line: &str) -> bool {
     fault(alloc, line.as_bytes(), ANY) == Some(FormulaFault::Syntax)
 }
 
-// So many `not`, and a name.
+// So many `not`, and a truth.
 fn negations(alloc: Global, count: usize) -> Result<Vec<u8>, NoMemory> {
     let mut out = Vec::new(alloc);
     for _ in 0..count {
         out.extend_from_slice(b"not ")?;
     }
-    out.push(b'a')?;
+    out.extend_from_slice(b"true")?;
     Ok(out)
 }
 
@@ -109,11 +109,20 @@ fn keeps_canonical_texts(rt: HostRuntime) {
     assert!(rt; keeps(alloc, "-1"));
     assert!(rt; keeps(alloc, "-9223372036854775808"));
     assert!(rt; keeps(alloc, "\"x \\\" \\n \u{e9}\""));
+    assert!(rt; keeps(alloc, "\"\\\\ \\t \\r\""));
+    assert!(rt; keeps(alloc, "\"\""));
     assert!(rt; keeps(alloc, "true"));
     assert!(rt; keeps(alloc, "false and truth"));
     assert!(rt; keeps(alloc, "a - -1"));
     assert!(rt; keeps(alloc, "a - b - c"));
     assert!(rt; keeps(alloc, "a - (b - c)"));
+    assert!(rt; keeps(alloc, "a - b + c"));
+    assert!(rt; keeps(alloc, "a + (b - c)"));
+    assert!(rt; keeps(alloc, "a / (b * c)"));
+    assert!(rt; keeps(alloc, "a ++ (b ++ c)"));
+    assert!(rt; keeps(alloc, "a or (b or c)"));
+    assert!(rt; keeps(alloc, "a and (b and c)"));
+    assert!(rt; keeps(alloc, "a == (b == c)"));
     assert!(rt; keeps(alloc, "not not a"));
     assert!(rt; keeps(alloc, "not a == b"));
     assert!(rt; keeps(alloc, "(not a) == b"));
@@ -146,6 +155,14 @@ fn drops_what_is_needless(rt: HostRuntime) {
     assert!(rt; reads_as(alloc, "(a)", "a"));
     assert!(rt; reads_as(alloc, "((a))*(b+c)", "a * (b + c)"));
     assert!(rt; reads_as(alloc, "(a-b)-(c)", "a - b - c"));
+    assert!(rt; reads_as(alloc, "(a ++ b) ++ c", "a ++ b ++ c"));
+    assert!(rt; reads_as(alloc, "(a or b) or (c and d)", "a or b or c and d"));
+    assert!(rt; reads_as(alloc, "not (not (a))", "not not a"));
+    assert!(rt; reads_as(alloc, "(a * b) + (c % d)", "a * b + c % d"));
+    assert!(rt; reads_as(alloc, "(-1)", "-1"));
+    assert!(rt; reads_as(alloc, "a-1", "a - 1"));
+    assert!(rt; reads_as(alloc, "a- 1", "a - 1"));
+    assert!(rt; reads_as(alloc, "(untrack(a))", "untrack(a)"));
     assert!(rt; reads_as(alloc, "untrack ( (a) )", "untrack(a)"));
     assert!(rt; reads_as(alloc, "not (a == b)", "not a == b"));
     assert!(rt;
@@ -162,6 +179,9 @@ fn ends_where_nothing_goes_on(rt: HostRuntime) {
     let alloc = rt.alloc();
     assert!(rt; reads_as(alloc, "a < b == c", "a < b|== c"));
     assert!(rt; reads_as(alloc, "a + )", "a|+ )"));
+    assert!(rt; reads_as(alloc, "a -1", "a|-1"));
+    assert!(rt; reads_as(alloc, "a+-1", "a|+-1"));
+    assert!(rt; reads_as(alloc, "not a == b == c", "not a == b|== c"));
     assert!(rt;
         reads_as(
             alloc,

@@ -76,19 +76,19 @@ with_name m n t = record m { names = m.names ++ (n, t) ∷ [] }
 -- what a command does that isn't refused
 abbrev pub done : Machine → Command → Told
 done m (command.Cell n v) = told
-  (with_name (record m { signals = with_cell m.signals (record { name = made m.signals; value = scalar_value v; rule = None }) }) n (thing.Cell (made m.signals)))
-  []
+    (with_name (record m { signals = with_cell m.signals (record { name = made m.signals; value = scalar_value v; rule = None }) }) n (thing.Cell (made m.signals)))
+    []
 done m (command.Set n v) = told (record m { signals = with_value m.signals (number_of m.names n) (scalar_value v) }) []
 done m (command.Computed n s) = told
-  (with_name (record m { signals = with_computed m.signals (record { name = made m.signals; recipe = recipe_of m.names s }) }) n (thing.Computed (made m.signals)))
-  []
+    (with_name (record m { signals = with_computed m.signals (record { name = made m.signals; recipe = recipe_of m.names s }) }) n (thing.Computed (made m.signals)))
+    []
 done m (command.Get n) = told m (entry.Outcome n (value_of no_hosts m.signals (number_of m.names n) []) ∷ [])
 done m (command.Template n texts) = told
-  (with_name (record m { templates = m.templates ++ map (linked m.names) texts ∷ [] }) n (thing.Template (length m.templates)))
-  []
+    (with_name (record m { templates = m.templates ++ map (linked m.names) texts ∷ [] }) n (thing.Template (length m.templates)))
+    []
 done m (command.Mount n t) = told
-  (with_name (record m { pages = m.pages ++ record { name = n; template = number_of m.names t; shown = template_html m (number_of m.names t) } ∷ [] }) n (thing.Page (length m.pages)))
-  (entry.Page n (template_html m (number_of m.names t)) ∷ [])
+    (with_name (record m { pages = m.pages ++ record { name = n; template = number_of m.names t; shown = template_html m (number_of m.names t) } ∷ [] }) n (thing.Page (length m.pages)))
+    (entry.Page n (template_html m (number_of m.names t)) ∷ [])
 done m (command.Show n) = told m (entry.Page n (shown_of m (number_of m.names n)) ∷ [])
 done m command.Flush = told (record m { pages = map (brought_up m) m.pages }) (flat_map (news_of m) m.pages)
 

@@ -5,22 +5,32 @@ mod jobs;
 mod things;
 
 pub use jobs::Job;
-pub use things::{Links, Need, Page, Thing};
+pub use things::{Need, Page, Texts, Thing};
 
 #[cfg(test)]
 mod tests {
     use super::*;
     use sig_base::NodeId;
+    use sig_formula::Formula;
+    use signal_scratch::Linked;
     use std::test::Fail;
 
     #[test]
-    fn links_are_shared(rt: HostRuntime) -> Result<(), Fail> {
+    fn texts_keep_their_order(rt: HostRuntime) -> Result<(), Fail> {
         let alloc = rt.alloc();
-        let cells = Vec::from_array(alloc, [NodeId::of(2), NodeId::of(0)])?;
-        let links = Links::of(alloc, cells)?;
-        let copy = links.copy()?;
-        assert_eq!(rt; links.as_slice(), copy.as_slice());
-        assert_eq!(rt; copy.as_slice(), [NodeId::of(2), NodeId::of(0)].as_slice());
+        let mut formulas = Vec::new(alloc);
+        for cell in [2, 0] {
+            formulas.push(Linked {
+                formula: Formula::Slot(0),
+                slots: Vec::from_array(alloc, [NodeId::of(cell)])?,
+            })?;
+        }
+        let texts = Texts::of(formulas);
+        let [first, second] = texts.as_slice() else {
+            return Err("two texts".into());
+        };
+        assert_eq!(rt; first.slots.as_slice(), [NodeId::of(2)].as_slice());
+        assert_eq!(rt; second.slots.as_slice(), [NodeId::of(0)].as_slice());
         Ok(())
     }
 }

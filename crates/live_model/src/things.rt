@@ -14,9 +14,13 @@ pub struct Texts {
 
 impl Model for Texts {
     ghost use Rattle.std.specs.Prelude.{List};
+    ghost use Rattle.std.specs.Coded.{codes};
+    ghost use Rattle.signal_model.specs.Coding.{tree_code};
     ghost use Rattle.signal_model.specs.Recipes.{Recipe};
 
     ghost Value = { List Recipe };
+
+    ghost coded = { Prim.hlevel (codes, tree_code) };
 
     ghost view = { λ t. t.formulas.items };
 }

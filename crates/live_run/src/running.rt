@@ -122,7 +122,7 @@ fn is_traced(job: Job) -> bool
 ///
 /// `Usage` comes exactly where the words ask for nothing; then the source and the sink are as before. `ReadFault` and
 /// `WriteFault` come only where the source or the sink failed in this call, and `TooLong` only once more than 4,194,304
-/// bytes came. Nothing is written with `Usage`, `ReadFault` and `TooLong`, and a front of the output with `WriteFault`
+/// bytes came; a source that has more of them and doesn't fail ends it with `TooLong`, unless memory runs out first. Nothing is written with `Usage`, `ReadFault` and `TooLong`, and a front of the output with `WriteFault`
 /// and `NoMemory`.
 pub fn run_live<S: Source, K: Sink>(
     alloc: Global,
@@ -150,6 +150,13 @@ pub fn run_live<S: Source, K: Sink>(
     ensures complete { (job_of (map string_bytes words.now) ≡ None → ⊥)
         → (Rose (S.faults source.old) (S.faults source.new) → ⊥) → (Rose (K.faults sink.old) (K.faults sink.new) → ⊥)
         → (GaveTooMuch (S.given source.old) (S.given source.new) → ⊥) → (result ≡ Status.Done) ⊎ (result ≡ Status.NoMemory) }
+    // The same of a source that tells its bytes, by these alone.
+    ensures complete_told { (job_of (map string_bytes words.now) ≡ None → ⊥)
+        → (Rose (S.faults source.old) (S.faults source.new) → ⊥) → (Rose (K.faults sink.old) (K.faults sink.new) → ⊥)
+        → IfSome (S.left source.old) (λ script. length script ≤ most_read → (result ≡ Status.Done) ⊎ (result ≡ Status.NoMemory)) }
+    ensures too_long_exact { (job_of (map string_bytes words.now) ≡ None → ⊥)
+        → (Rose (S.faults source.old) (S.faults source.new) → ⊥)
+        → IfSome (S.left source.old) (λ script. most_read < length script → (result ≡ Status.TooLong) ⊎ (result ≡ Status.NoMemory)) }
 {
     let Some(job) = read_job(words) else {
         return Status::Usage;

@@ -1,10 +1,10 @@
 -- Settling place by place.
-use Rattle.std.proofs.Common.{◌≡◌, ℕ, zero, suc, ◌<◌, ◌+◌, ◌||◌, Bool, true, false, List, [], ◌∷◌, ◌++◌, length, get_or, take, map, Option, None, Some, refl, sym, ap, ◌∙◌, subst, arith}
+use Rattle.std.proofs.Common.{◌≡◌, ℕ, zero, suc, ◌<◌, ◌+◌, ◌||◌, Bool, true, false, List, [], ◌∷◌, ◌++◌, length, get_or, take, Some, refl, sym, ap, ◌∙◌, subst, arith}
 use Rattle.std.proofs.lemmas.List.{take_more}
-use Rattle.signal_model.specs.Recipes.{Hosts, host}
+use Rattle.signal_model.specs.Recipes.{Hosts}
 use Rattle.signal_model.specs.Standing.{Signals, Computed, Stands, IsGone, IsCell, IsComputed, is_in, computed_at, standing}
 use Rattle.signal_model.specs.Values.{Seen, reads_of, names_left}
-use Rattle.signal_model.specs.Orders.{Visit, visited, visits, visit_case, visit_within, visit, order_after, evaluation_order}
+use Rattle.signal_model.specs.Orders.{Visit, visited, visits, visit_case, visit_within, visit, order_after}
 use Rattle.signal_model.specs.Settling.{Settled, settle_visit, settle_visits}
 use Rattle.signal_model.specs.Plain.{Place, AfterPlace, place_of, places}
 use Rattle.signal_model.proofs.Depth.{computed_at-name, stands-computed}

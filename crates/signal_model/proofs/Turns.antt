@@ -1,16 +1,15 @@
 -- What the plain program's steps come to.
-use Rattle.std.proofs.Common.{◌≡◌, ℕ, suc, ◌+◌, ◌*◌, ◌<◌, Bool, true, false, List, [], ◌∷◌, ◌++◌, Option, None, Some, length, append_assoc, refl, sym, ap, ◌∙◌, subst, arith}
+use Rattle.std.proofs.Common.{◌≡◌, ℕ, suc, ◌+◌, ◌*◌, ◌<◌, false, List, [], ◌∷◌, ◌++◌, None, Some, append_assoc, sym, ap, ◌∙◌, arith}
 use Rattle.std.specs.Prelude.{slice_index}
 use Rattle.sig_base.specs.declared.value.Value.{Value}
 use Rattle.sig_base.specs.declared.value.Fault.{Fault}
 use Rattle.sig_base.specs.declared.value.Known.{Known}
-use Rattle.sig_base.specs.declared.value.Step.{Step}
 use Rattle.sig_base.specs.declared.value.Step.TheVariants.{Read}
 use Rattle.sig_base.specs.declared.value.Outcome.{Outcome}
 use Rattle.sig_base.specs.declared.value.Outcome.TheVariants.{Good, Bad}
 use Rattle.signal_model.specs.Recipes.{Hosts, Recipe, answer_of}
-use Rattle.signal_model.specs.Standing.{Signals, Computed, Cell, Stands, IsGone, IsCell, IsComputed, is_in, cell_at, computed_at, or_computed, standing}
-use Rattle.signal_model.specs.Values.{Seen, Evaluation, learnt, after_step, after_read, asked_from, value_of, value_case, evaluated, names_left}
+use Rattle.signal_model.specs.Standing.{Signals, Computed, is_in, cell_at, computed_at, or_computed}
+use Rattle.signal_model.specs.Values.{Seen, learnt, after_step, after_read, asked_from, value_of, value_case, evaluated, names_left}
 use Rattle.signal_model.specs.Plain.{prefixed}
 use Rattle.signal_model.proofs.Asking.{asked_by_steps}
 use Rattle.signal_model.proofs.Depth.{value_by_cases, computed_at-name, left-here}

@@ -1,8 +1,7 @@
 -- Places and visits.
-use Rattle.std.proofs.Common.{◌≡◌, ℕ, suc, ◌<◌, ◌==◌, ◌||◌, Bool, true, false, cond, List, [], ◌∷◌, ◌++◌, map, Option, None, Some, refl, sym, ap, ◌∙◌, subst, arith}
-use Rattle.std.specs.Prelude.{if◌then◌else◌}
+use Rattle.std.proofs.Common.{◌≡◌, ℕ, suc, ◌<◌, ◌==◌, ◌||◌, Bool, true, false, cond, List, [], ◌∷◌, ◌++◌, None, Some, refl, sym, ap, ◌∙◌, arith}
 use Rattle.signal_model.specs.Recipes.{Hosts}
-use Rattle.signal_model.specs.Standing.{Signals, Computed, Cell, Stands, IsComputed, is_in, cell_at, computed_at, changed, or_computed, standing}
+use Rattle.signal_model.specs.Standing.{Signals, Computed, Cell, is_in, cell_at, computed_at, changed, or_computed}
 use Rattle.signal_model.specs.Values.{Seen, reads_of, names_left}
 use Rattle.signal_model.specs.Orders.{Visit, visited, visits, visit_case, visit, order_after}
 use Rattle.signal_model.specs.Plain.{Place, Places, Stays, IsOpen, place_of, place_names, places}

@@ -4,7 +4,9 @@ ghost use Rattle.signal_model.specs.Standing.{is_in};
 ghost use Rattle.signal_model.specs.Orders.{evaluation_order, order_after, visit};
 ghost use Rattle.signal_model.specs.Plain.{IsOpen, Places, Stays, place_names, places};
 
-use crate::plain::{Asker, Computed, Signals, cell_at, computed_at, evaluated, is_in, path_below};
+use crate::plain::{
+    Computed, HostFormulas, Signals, cell_at, computed_at, evaluated, is_in, path_below,
+};
 use sig_base::{NoMemory, NodeId};
 use std::alloc::Global;
 use std::marker::Model;
@@ -76,42 +78,42 @@ fn to_visit<'a>(
     Some(computed)
 }
 
-fn visit<A: Asker>(
+fn visit<H: HostFormulas>(
     alloc: Global,
-    asker: &A,
+    hosts: &H,
     signals: &Signals,
     path: &[NodeId],
     n: NodeId,
     done: &mut Vec<Place>,
 ) -> Result<(), NoMemory>
-    ensures { OnOk result (Places (visit (A.hosts asker.now) signals.now path.now n) done.old.items done.new.items) }
+    ensures { OnOk result (Places (visit (H.hosts hosts.now) signals.now path.now n) done.old.items done.new.items) }
 {
     let Some(computed) = to_visit(signals, path, n, done) else {
         return Ok(());
     };
     let no_path: Vec<NodeId> = Vec::new(alloc);
-    let evaluation = evaluated(alloc, asker, signals, computed, &no_path)?;
+    let evaluation = evaluated(alloc, hosts, signals, computed, &no_path)?;
     let below = path_below(alloc, n, path)?;
     for seen in &evaluation.reads {
-        visit(alloc, asker, signals, &below, seen.name, done)?;
+        visit(alloc, hosts, signals, &below, seen.name, done)?;
     }
     put_place(alloc, done, computed.name, path)?;
     Ok(())
 }
 
 /// The computeds that asking for these names evaluates, in order, each once.
-pub fn evaluation_order<A: Asker>(
+pub fn evaluation_order<H: HostFormulas>(
     alloc: Global,
-    asker: &A,
+    hosts: &H,
     signals: &Signals,
     asked: &[NodeId],
 ) -> Result<Vec<Place>, NoMemory>
-    ensures { IfOk result (λ v. v.items ≡ places (evaluation_order (A.hosts asker.now) signals.now asked.now)) }
+    ensures { IfOk result (λ v. v.items ≡ places (evaluation_order (H.hosts hosts.now) signals.now asked.now)) }
 {
     let mut done = Vec::new(alloc);
     let no_path: Vec<NodeId> = Vec::new(alloc);
     for n in asked {
-        visit(alloc, asker, signals, &no_path, *n, &mut done)?;
+        visit(alloc, hosts, signals, &no_path, *n, &mut done)?;
     }
     Ok(done)
 }

@@ -1,9 +1,5 @@
 // A plain program that computes the definitions on small worlds.
 ghost use Rattle.std.specs.Prelude.{◌≡◌, ◌<◌, ℕ, List, [], ◌∷◌, ◌++◌, length, slice_index, None, Some, IfOk, OnOk, IfSome, IfNone};
-ghost use Rattle.sig_base.specs.declared.value.Known.{Known};
-ghost use Rattle.sig_base.specs.declared.value.Step.{Step};
-ghost use Rattle.sig_formula.specs.Trees.{tree};
-ghost use Rattle.sig_formula.specs.Answering as formulas;
 ghost use Rattle.signal_model.specs.Recipes.{Hosts, answer_of, given_answer, is_known, judged};
 ghost use Rattle.sig_base.specs.declared.value.Step.TheVariants.{Read};
 ghost use Rattle.sig_base.specs.declared.value.Outcome.TheVariants.{Good, Bad};
@@ -12,21 +8,17 @@ ghost use Rattle.signal_model.specs.Standing.{cell_at, computed_at, is_in};
 ghost use Rattle.signal_model.specs.Values.{evaluated, learnt, value_of};
 
 use sig_base::{Fault, Known, NoMemory, NodeId, Outcome, Step, Value};
-use sig_formula::Formula;
+use sig_formula::{Formula, step};
 use std::alloc::Global;
 use std::marker::Model;
 
-/// What answers for formulas and for host formulas.
-pub trait Asker {
+/// What answers for host formulas.
+pub trait HostFormulas {
     /// What the host formula at each place answers to the values known so far.
     ghost hosts: { Self → Hosts };
 
-    /// What a formula answers to the values known so far.
-    fn formula(&self, alloc: Global, formula: &Formula, known: &[Known]) -> Result<Step, NoMemory>
-        ensures { IfOk result (λ s. s ≡ formulas.answer_of (tree formula.now) None known.now) };
-
-    /// What the host formula at a place answers to them.
-    fn host(&self, alloc: Global, place: u32, known: &[Known]) -> Result<Step, NoMemory>
+    /// Asks the host formula at a place with the values known so far.
+    fn ask(&self, alloc: Global, place: u32, known: &[Known]) -> Result<Step, NoMemory>
         ensures { IfOk result (λ s. s ≡ hosts self.now place known.now) };
 }
 
@@ -151,30 +143,30 @@ fn judged(count: usize, known: &[Known], step: Step) -> Step
     }
 }
 
-fn given_answer<A: Asker>(
+fn given_answer<H: HostFormulas>(
     alloc: Global,
-    asker: &A,
+    hosts: &H,
     asked: &Asked,
     known: &[Known],
 ) -> Result<Step, NoMemory>
-    ensures { IfOk result (λ s. s ≡ given_answer (A.hosts asker.now) (asked_of asked.now) known.now) }
+    ensures { IfOk result (λ s. s ≡ given_answer (H.hosts hosts.now) (asked_of asked.now) known.now) }
 {
     match asked {
-        Asked::Formula(formula) => asker.formula(alloc, formula, known),
-        Asked::Host(place) => asker.host(alloc, *place, known),
+        Asked::Formula(formula) => step(alloc, formula, None, known),
+        Asked::Host(place) => hosts.ask(alloc, *place, known),
     }
 }
 
-fn answer<A: Asker>(
+fn answer<H: HostFormulas>(
     alloc: Global,
-    asker: &A,
+    hosts: &H,
     recipe: &Recipe,
     known: &[Known],
 ) -> Result<Step, NoMemory>
-    ensures answer { IfOk result (λ s. s ≡ answer_of (A.hosts asker.now) recipe.now known.now) }
+    ensures answer { IfOk result (λ s. s ≡ answer_of (H.hosts hosts.now) recipe.now known.now) }
     ensures read { IfOk result (λ s. (slot : ℕ) → s ≡ Read slot → IsNew (length recipe.now.slots) slot known.now) }
 {
-    let step = given_answer(alloc, asker, &recipe.asked, known)?;
+    let step = given_answer(alloc, hosts, &recipe.asked, known)?;
     Ok(judged(recipe.slots.len(), known, step))
 }
 
@@ -284,14 +276,14 @@ fn ended_by(mut reads: Vec<Seen>, name: NodeId, fault: Fault) -> Result<Evaluati
 
 /// The value of a signal from scratch, read along a path of computeds that are being evaluated, the innermost first.
 #[cycle(values)]
-pub fn value_of<A: Asker>(
+pub fn value_of<H: HostFormulas>(
     alloc: Global,
-    asker: &A,
+    hosts: &H,
     signals: &Signals,
     n: NodeId,
     path: &[NodeId],
 ) -> Result<Outcome, NoMemory>
-    ensures { IfOk result (λ o. o ≡ value_of (A.hosts asker.now) signals.now n path.now) }
+    ensures { IfOk result (λ o. o ≡ value_of (H.hosts hosts.now) signals.now n path.now) }
 {
     if let Some(cell) = cell_at(&signals.cells, n) {
         return Ok(Outcome::Good(cell.value.copy()?));
@@ -302,33 +294,33 @@ pub fn value_of<A: Asker>(
     if is_in(n, path) {
         return Ok(Outcome::Bad(Fault::Cycle));
     }
-    let evaluation = evaluated(alloc, asker, signals, computed, path)?;
+    let evaluation = evaluated(alloc, hosts, signals, computed, path)?;
     Ok(evaluation.outcome)
 }
 
 /// The evaluation of a computed from scratch along such a path.
 #[cycle(values)]
-pub fn evaluated<A: Asker>(
+pub fn evaluated<H: HostFormulas>(
     alloc: Global,
-    asker: &A,
+    hosts: &H,
     signals: &Signals,
     computed: &Computed,
     path: &[NodeId],
 ) -> Result<Evaluation, NoMemory>
-    ensures { IfOk result (λ e. e ≡ evaluated (A.hosts asker.now) signals.now computed.now path.now) }
+    ensures { IfOk result (λ e. e ≡ evaluated (H.hosts hosts.now) signals.now computed.now path.now) }
 {
     let below = path_below(alloc, computed.name, path)?;
     let recipe = &computed.recipe;
     let mut reads: Vec<Seen> = Vec::new(alloc);
     let mut known: Vec<Known> = Vec::new(alloc);
     'asking: loop {
-        let slot = match answer(alloc, asker, recipe, &known)? {
+        let slot = match answer(alloc, hosts, recipe, &known)? {
             Step::Read(slot) => slot,
             Step::Done(value) => return Ok(ended(reads, Outcome::Good(value))),
             Step::Fail(fault) => return Ok(ended(reads, Outcome::Bad(fault))),
         };
         let name = slot_name(recipe, slot);
-        match value_of(alloc, asker, signals, name, &below)? {
+        match value_of(alloc, hosts, signals, name, &below)? {
             Outcome::Good(value) => learn(&mut reads, &mut known, name, slot, value)?,
             Outcome::Bad(fault) => return ended_by(reads, name, fault),
         }

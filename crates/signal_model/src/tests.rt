@@ -1,13 +1,9 @@
 // Small graphs under lists of changes, and the runs that settling them takes.
-ghost use Rattle.std.specs.Prelude.{◌≡◌, None, IfOk};
 ghost use Rattle.sig_base.specs.declared.value.Step.TheVariants.{Fail};
 ghost use Rattle.sig_base.specs.declared.value.Fault.TheVariants.{Slot};
-ghost use Rattle.sig_formula.specs.declared.formula.BinOp.TheVariants.{Add, Mul};
-ghost use Rattle.sig_formula.specs.Trees.{tree};
-ghost use Rattle.sig_formula.specs.Answering.{answer_of, calculation, known_at, scalar_value, slot_answer};
 
 use crate::kept::{Entry, Memos};
-use crate::plain::{Asked, Asker, Cell, Computed, Recipe, Seen, Signals};
+use crate::plain::{Asked, Cell, Computed, HostFormulas, Recipe, Seen, Signals};
 use crate::settle::{Run, settle};
 use sig_base::{
     Fault, Known, NoMemory, NodeId, Outcome, Scalar, Step, Value, put_fault, put_value,
@@ -16,98 +12,14 @@ use sig_formula::{BinOp, Formula};
 use std::alloc::Global;
 use std::test::Fail;
 
-// Answers literals, slots, choices, sums and products, and gives up on the rest.
-struct Formulas;
+// The host formulas of graphs that have none.
+struct NoHosts;
 
-impl Asker for Formulas {
+impl HostFormulas for NoHosts {
     ghost hosts = { λ _ _ _. Fail Slot };
 
-    fn formula(&self, _: Global, formula: &Formula, known: &[Known]) -> Result<Step, NoMemory> {
-        answer(formula, known)
-    }
-
-    fn host(&self, _: Global, _: u32, _: &[Known]) -> Result<Step, NoMemory> {
-        Err(NoMemory)
-    }
-}
-
-fn literal(scalar: &Scalar) -> Result<Value, NoMemory>
-    ensures { IfOk result (λ v. v ≡ scalar_value scalar.now) }
-{
-    match scalar {
-        Scalar::Bool(b) => Ok(Value::Bool(*b)),
-        Scalar::Int(n) => Ok(Value::Int(*n)),
-        Scalar::Text(text) => Ok(Value::Text(text.copy()?)),
-    }
-}
-
-fn of_slot(slot: u32, known: &[Known]) -> Result<Step, NoMemory>
-    ensures { IfOk result (λ s. s ≡ slot_answer slot (known_at slot known.now)) }
-{
-    for one in known {
-        if one.slot == slot {
-            return Ok(Step::Done(one.value.copy()?));
-        }
-    }
-    Ok(Step::Read(slot))
-}
-
-fn answer(formula: &Formula, known: &[Known]) -> Result<Step, NoMemory>
-    ensures { IfOk result (λ s. s ≡ answer_of (tree formula.now) None known.now) }
-{
-    match formula {
-        Formula::Lit(scalar) => Ok(Step::Done(literal(scalar)?)),
-        Formula::Slot(slot) => of_slot(*slot, known),
-        Formula::If(test, held, failed) => match answer(test, known)? {
-            Step::Done(Value::Bool(holds)) => {
-                if holds {
-                    answer(held, known)
-                } else {
-                    answer(failed, known)
-                }
-            }
-            Step::Done(_) => Ok(Step::Fail(Fault::Kind)),
-            other => Ok(other),
-        },
-        Formula::Bin(BinOp::Add, left, right) => match answer(left, known)? {
-            Step::Done(a) => match answer(right, known)? {
-                Step::Done(b) => Ok(sum(a, b)),
-                other => Ok(other),
-            },
-            other => Ok(other),
-        },
-        Formula::Bin(BinOp::Mul, left, right) => match answer(left, known)? {
-            Step::Done(a) => match answer(right, known)? {
-                Step::Done(b) => Ok(product(a, b)),
-                other => Ok(other),
-            },
-            other => Ok(other),
-        },
-        _ => Err(NoMemory),
-    }
-}
-
-fn sum(a: Value, b: Value) -> Step
-    ensures { result ≡ calculation Add a b }
-{
-    match (a, b) {
-        (Value::Int(m), Value::Int(n)) => match m.checked_add(n) {
-            Some(whole) => Step::Done(Value::Int(whole)),
-            None => Step::Fail(Fault::Overflow),
-        },
-        _ => Step::Fail(Fault::Kind),
-    }
-}
-
-fn product(a: Value, b: Value) -> Step
-    ensures { result ≡ calculation Mul a b }
-{
-    match (a, b) {
-        (Value::Int(m), Value::Int(n)) => match m.checked_mul(n) {
-            Some(whole) => Step::Done(Value::Int(whole)),
-            None => Step::Fail(Fault::Overflow),
-        },
-        _ => Step::Fail(Fault::Kind),
+    fn ask(&self, _: Global, _: u32, _: &[Known]) -> Result<Step, NoMemory> {
+        Ok(Step::Fail(Fault::Slot))
     }
 }
 
@@ -289,7 +201,7 @@ impl Graph {
         } = self;
         let mut asked = Vec::new(alloc);
         asked.push(NodeId::of(name))?;
-        let after = settle(alloc, &Formulas, &signals, memos, &asked)?;
+        let after = settle(alloc, &NoHosts, &signals, memos, &asked)?;
         for run in &after.runs {
             print_run(&mut printed, run)?;
         }

@@ -1,9 +1,8 @@
 -- One asking of a recipe.
-use Rattle.std.proofs.Common.{◌≡◌, ℕ, zero, suc, ◌+◌, ◌<◌, ◌≤◌, ◌==◌, ◌||◌, Bool, true, false, cond, List, [], ◌∷◌, length, get_or, None, refl, sym, ap, subst, ◌∙◌, arith, ◌⊎◌, inl, inr}
-use Rattle.std.specs.Prelude.{nat_lt, slice_index}
+use Rattle.std.proofs.Common.{◌≡◌, ℕ, ◌≤◌, List, [], length, None, refl, sym, ap, subst, ◌∙◌, arith, inl, inr}
+use Rattle.std.specs.Prelude.{slice_index}
 use Rattle.sig_base.specs.declared.value.Value.{Value}
 use Rattle.sig_base.specs.declared.value.Fault.{Fault}
-use Rattle.sig_base.specs.declared.value.Fault.TheVariants.{Slot, Twice}
 use Rattle.sig_base.specs.declared.value.Known.{Known}
 use Rattle.sig_base.specs.declared.value.Outcome.{Outcome}
 use Rattle.sig_base.specs.declared.value.Outcome.TheVariants.{Good, Bad}
@@ -13,25 +12,23 @@ use Rattle.sig_formula.specs.Trees.{Tree}
 use Rattle.sig_formula.specs.Answering as formulas
 use Rattle.signal_model.specs.Laws.{IsChain, IsRead}
 use Rattle.signal_model.specs.Plain.{IsNew}
-use Rattle.signal_model.specs.Recipes.{Hosts, Recipe, answer_of, given_answer, is_known, judged}
+use Rattle.signal_model.specs.Recipes.{Hosts, Recipe, answer_of, given_answer, judged}
 use Rattle.signal_model.specs.Standing.{Signals}
-use Rattle.signal_model.specs.Values.{Evaluation, after_read, after_step, asked_from, learnt, value_of}
+use Rattle.signal_model.specs.Values.{Evaluation, after_read, after_step, asked_from, learnt}
 use Rattle.signal_model.proofs.Asking.{asked_by_steps, read_new}
-use Rattle.signal_model.proofs.Formulas.{AreOpen, IsOpen, reads_open}
+use Rattle.signal_model.proofs.Formulas.{asks_unknown}
 use Rattle.signal_scratch.specs.Asking.{AreRight, AreSources, Comes, Gives, Goes, IsRest, waiting, within}
 use Rattle.signal_scratch.specs.Links.{recipe_of}
 use Rattle.signal_scratch.specs.declared.values.Progress.{Progress}
 
 -- a formula asks for no slot that is known, so only slots outside are faults
 pub answered : (hosts : Hosts) (t : Tree) (slots : List ℕ) (known : List Known) → within (length slots) (formulas.answer_of t None known) ≡ answer_of hosts (recipe_of t slots) known
-answered hosts t slots known = go (formulas.answer_of t None known) (reads_open t None known)
+answered hosts t slots known = go (formulas.answer_of t None known) refl
   where
-    go : (st : Step) → AreOpen t known st → within (length slots) st ≡ judged (length slots) known st
+    go : (st : Step) → formulas.answer_of t None known ≡ st → within (length slots) st ≡ judged (length slots) known st
     go (Done v) h = refl
     go (Fail e) h = refl
-    go (Read s) h =
-        let o : IsOpen t known s = h s refl in
-        rw o.unknown refl
+    go (Read s) h = rw (asks_unknown t known s h) refl
 
 -- a slot that is asked for is one of the recipe's, and it isn't known
 pub asks_new : (hosts : Hosts) (r : Recipe) (known : List Known) (s : ℕ) → answer_of hosts r known ≡ Read s → IsNew (length r.slots) s known

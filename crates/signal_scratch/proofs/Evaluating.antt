@@ -1,10 +1,8 @@
 -- The evaluation of one signal along the path of those that are being evaluated.
-use Rattle.std.proofs.Common.{◌≡◌, ℕ, zero, suc, ◌+◌, ◌<◌, ◌≤◌, ◌==◌, ◌||◌, Bool, true, false, cond, List, [], ◌∷◌, length, get_or, None, Some, refl, sym, ap, subst, ◌∙◌, arith, ◌⊎◌, inl, inr}
+use Rattle.std.proofs.Common.{◌≡◌, ℕ, zero, suc, ◌<◌, ◌≤◌, ◌==◌, ◌||◌, Bool, true, false, List, [], ◌∷◌, length, get_or, None, Some, refl, sym, ap, subst, ◌∙◌, arith, ◌⊎◌, inl, inr}
 use Rattle.std.specs.Prelude.{slice_set}
-use Rattle.std.proofs.lemmas.Bool.{eqb-true, eqb-false, eq-eqb}
+use Rattle.std.proofs.lemmas.Bool.{eqb-true, eqb-false}
 use Rattle.std.proofs.lemmas.List.{get_or-set_same, get_or-set_other}
-use Rattle.sig_base.specs.declared.value.Value.{Value}
-use Rattle.sig_base.specs.declared.value.Fault.{Fault}
 use Rattle.sig_base.specs.declared.value.Fault.TheVariants.{Cycle, Gone, Slot}
 use Rattle.sig_base.specs.declared.value.Outcome.{Outcome}
 use Rattle.sig_base.specs.declared.value.Outcome.TheVariants.{Good, Bad}
@@ -12,7 +10,7 @@ use Rattle.sig_base.specs.declared.value.Step.TheVariants.{Fail}
 use Rattle.signal_model.specs.Laws.{IsChain, IsRead, Reads}
 use Rattle.signal_model.specs.Recipes.{Hosts, Recipe}
 use Rattle.signal_model.specs.Standing.{Signals, Cell, Computed, IsGone, IsCell, IsComputed, is_in, standing}
-use Rattle.signal_model.specs.Values.{Evaluation, asked_from, recipe_value, value_of}
+use Rattle.signal_model.specs.Values.{asked_from, recipe_value, value_of}
 use Rattle.signal_model.proofs.Paths.{path_law, tested, value_cell, value_gone, value_in, value_run}
 use Rattle.signal_scratch.specs.Asking.{AreRight, AreSources, Comes, Gives, IsRightAlong, reached, waiting}
 use Rattle.signal_scratch.specs.Made.{made}

@@ -1,12 +1,12 @@
 -- A store's signals under their numbers.
-use Rattle.std.proofs.Common.{◌≡◌, ℕ, zero, suc, ◌+◌, ◌<◌, ◌≤◌, ◌==◌, Bool, true, false, List, [], ◌∷◌, ◌++◌, length, get_or, None, Some, refl, sym, ap, ◌∙◌, arith}
+use Rattle.std.proofs.Common.{◌≡◌, ℕ, zero, suc, ◌+◌, ◌<◌, ◌≤◌, ◌==◌, true, false, List, [], ◌∷◌, ◌++◌, length, get_or, None, refl, sym, ap, arith}
 use Rattle.std.specs.Prelude.{slice_set}
 use Rattle.std.proofs.lemmas.Bool.{eq-eqb}
 use Rattle.std.proofs.lemmas.Bool.Decides.{nat_tests}
 use Rattle.sig_base.specs.declared.value.Value.{Value}
 use Rattle.signal_model.specs.Changes.{with_cell, with_computed, with_value}
 use Rattle.signal_model.specs.Recipes.{Recipe}
-use Rattle.signal_model.specs.Standing.{Signals, Cell, Computed, Stands, IsGone, changed, cell_at, computed_at, or_computed, standing}
+use Rattle.signal_model.specs.Standing.{Cell, IsGone, changed, cell_at, computed_at, or_computed, standing}
 use Rattle.signal_scratch.specs.Made.{made}
 use Rattle.signal_scratch.specs.Stores.{cells_from, computeds_from, signals_of, stands_as, is_cell}
 use Rattle.signal_scratch.specs.declared.store.Signal.{Signal}

@@ -1,5 +1,5 @@
 -- How a store is seen: its signals, each with its place as its name.
-use Rattle.std.specs.Prelude.{ℕ, ◌+◌, ◌==◌, Bool, false, true, List, [], ◌∷◌, None, if◌then◌else◌}
+use Rattle.std.specs.Prelude.{ℕ, ◌+◌, Bool, false, true, List, [], ◌∷◌, None}
 use Rattle.signal_model.specs.Standing.{Signals, Cell, Computed, Stands, IsCell, IsComputed}
 use Rattle.signal_scratch.specs.declared.store.Signal.{Signal}
 use Rattle.signal_scratch.specs.declared.store.Signal.TheVariants as signal

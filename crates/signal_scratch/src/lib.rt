@@ -5,6 +5,8 @@ mod evaluate;
 mod linked;
 mod store;
 mod table;
+#[cfg(test)]
+mod tests;
 mod values;
 
 pub use linked::Linked;

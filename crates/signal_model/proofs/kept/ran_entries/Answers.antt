@@ -1,4 +1,4 @@
-use Rattle.std.proofs.Common.{◌≡◌, ◌++◌, [], ◌∷◌, sym, ap, ◌∙◌}
+use Rattle.std.proofs.Common.{◌++◌, [], ◌∷◌, sym, ◌∙◌}
 use Rattle.signal_model.specs.Memos.{Entry}
 use Rattle.signal_model.specs.Settling.{ran_entry}
 use Rattle.signal_model.proofs.Walks.{changed_more}

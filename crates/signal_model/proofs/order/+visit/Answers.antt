@@ -11,14 +11,14 @@ use Rattle.signal_model.proofs.order.+visit.Goals as goal
 pub visit-requires : goal.visit-requires
 visit-requires g t c κs within =
     let less : names_left c.args.signals.now.computeds (c.args.n ∷ c.args.path.now) < names_left c.args.signals.now.computeds c.args.path.now =
-    open_less (g.A.Asker.hosts c.args.asker.now) c.args.signals.now c.args.path.now c.args.n c.in-Some.computed.now c.deref.result.now c.in-Some.ensures.some in
+    open_less (g.H.HostFormulas.hosts c.args.hosts.now) c.args.signals.now c.args.path.now c.args.n c.in-Some.computed.now c.deref.result.now c.in-Some.ensures.some in
     let same : names_left c.args.signals.now.computeds c.deref-in-loop-seen.result.now ≡ names_left c.args.signals.now.computeds (c.args.n ∷ c.args.path.now) =
     ap (names_left c.args.signals.now.computeds) (c.deref-in-loop-seen.ensures.value ∙ c.in_ok-below.ensures) in
     (omega (arith, less, same, c.decreases), within)
 
 pub loop-seen-preserved : goal.loop-seen-preserved
 loop-seen-preserved g t c =
-    let hosts : Hosts = g.A.Asker.hosts c.args.asker.now in
+    let hosts : Hosts = g.H.HostFormulas.hosts c.args.hosts.now in
     let go : ℕ → List Visit → List Visit = visit hosts c.args.signals.now (c.args.n ∷ c.args.path.now) in
     let inner : Places (go c.seen-item.result.name) c.loop-seen.done.items c.visit.new.done.items =
     subst (λ (s : Seen). Places (go s.name) c.loop-seen.done.items c.visit.new.done.items) c.seen.view_is
@@ -31,7 +31,7 @@ loop-seen-preserved g t c =
 
 pub returns : goal.returns
 returns g t c =
-    let hosts : Hosts = g.A.Asker.hosts c.args.asker.now in
+    let hosts : Hosts = g.H.HostFormulas.hosts c.args.hosts.now in
     let go : ℕ → List Visit → List Visit = visit hosts c.args.signals.now (c.args.n ∷ c.args.path.now) in
     let free : IsOpen c.args.signals.now c.args.path.now c.args.done.now.items c.args.n c.in-Some.computed.now =
     subst (λ (ps : List Place). IsOpen c.args.signals.now c.args.path.now ps c.args.n c.in-Some.computed.now) c.deref.ensures.value c.in-Some.ensures.some in

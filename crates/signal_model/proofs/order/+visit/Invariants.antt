@@ -1,4 +1,4 @@
-use Rattle.std.proofs.Common.{◌≡◌, ◌∷◌, take}
+use Rattle.std.proofs.Common.{◌∷◌, take}
 use Rattle.signal_model.specs.Values.{names_left}
 use Rattle.signal_model.specs.Orders.{visit, visits}
 use Rattle.signal_model.specs.Plain.{Places}
@@ -9,4 +9,4 @@ decreases-visit g l = names_left l.signals.now.computeds l.path.now
 
 abbrev pub invariant-loop-seen : goal.invariant-loop-seen
 invariant-loop-seen g l =
-    Places (visits (visit (g.A.Asker.hosts l.asker) l.signals (l.fn.n ∷ l.path)) (take l.seen-index l.seen-items)) l.initial.done.items l.done.items
+    Places (visits (visit (g.H.HostFormulas.hosts l.hosts) l.signals (l.fn.n ∷ l.path)) (take l.seen-index l.seen-items)) l.initial.done.items l.done.items

@@ -8,7 +8,7 @@ use Rattle.signal_model.proofs.order.evaluation_order.Goals as goal
 
 pub loop-n-preserved : goal.loop-n-preserved
 loop-n-preserved g c =
-    let hosts : Hosts = g.A.Asker.hosts c.args.asker.now in
+    let hosts : Hosts = g.H.HostFormulas.hosts c.args.hosts.now in
     let next : take (c.loop-n.n-index + 1) c.args.asked.now ≡ take c.loop-n.n-index c.args.asked.now ++ c.n-item.result ∷ [] =
     take_more c.args.asked.now c.loop-n.n-index c.n-item.result c.loop-n-test.true ∙ ap (λ (n : ℕ). take c.loop-n.n-index c.args.asked.now ++ n ∷ []) (sym c.n-item.is) in
     let inner : Places (visit hosts c.args.signals.now [] c.n-item.result) c.loop-n.done.items c.visit.new.done.items =

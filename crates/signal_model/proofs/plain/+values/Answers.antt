@@ -1,4 +1,4 @@
-use Rattle.std.proofs.Common.{◌≡◌, ℕ, suc, ◌<◌, ◌*◌, ◌+◌, false, List, [], ◌∷◌, ◌++◌, length, None, Some, sym, ap, subst, ◌∙◌, rules, arith}
+use Rattle.std.proofs.Common.{◌≡◌, ℕ, suc, ◌<◌, ◌*◌, ◌+◌, [], ◌∷◌, ◌++◌, length, None, Some, sym, ap, subst, ◌∙◌, arith}
 use Rattle.std.specs.Prelude.{slice_index, IfOk}
 use Rattle.sig_base.specs.declared.value.Outcome.{Outcome}
 use Rattle.sig_base.specs.declared.value.Outcome.TheVariants.{Good, Bad}
@@ -26,7 +26,7 @@ value_of-returns g t c =
     let found : computed_at c.args.n c.args.signals.now.computeds ≡ Some c.in-Some-computed_at.computed.now =
     ap (computed_at c.args.n) (sym (c.deref-2.ensures.value ∙ ap (λ (w : Signals). w.computeds) c.signals.view_is)) ∙ c.in-Some-computed_at.ensures.some in
     ap (λ (e : Evaluation). e.outcome) (c.evaluation.view_is ∙ c.in_ok-evaluation.ensures)
-    ∙ sym (found_value (g.A.Asker.hosts c.args.asker.now) c.args.signals.now c.args.n c.args.path.now c.in-Some-computed_at.computed.now no_cell found (sym c.is_in.ensures ∙ c.if-is_in.false))
+    ∙ sym (found_value (g.H.HostFormulas.hosts c.args.hosts.now) c.args.signals.now c.args.n c.args.path.now c.in-Some-computed_at.computed.now no_cell found (sym c.is_in.ensures ∙ c.if-is_in.false))
 
 pub evaluated-asking-smaller : goal.evaluated-asking-smaller
 evaluated-asking-smaller g t c =
@@ -43,7 +43,7 @@ evaluated-asking-smaller g t c =
 
 pub evaluated-asking-preserved : goal.evaluated-asking-preserved
 evaluated-asking-preserved g t c =
-    let hosts : Hosts = g.A.Asker.hosts c.args.asker.now in
+    let hosts : Hosts = g.H.HostFormulas.hosts c.args.hosts.now in
     let r : Recipe = c.computed.inside.recipe in
     let source : ℕ → Outcome = λ m. value_of hosts c.args.signals.now m (c.args.computed.now.name ∷ c.args.path.now) in
     let asks : answer_of hosts r c.asking.known.items ≡ Read c.in-Read.slot =
@@ -58,7 +58,7 @@ evaluated-asking-preserved g t c =
 
 pub evaluated-returns-in-Bad : goal.evaluated-returns-in-Bad
 evaluated-returns-in-Bad g t c =
-    let hosts : Hosts = g.A.Asker.hosts c.args.asker.now in
+    let hosts : Hosts = g.H.HostFormulas.hosts c.args.hosts.now in
     let r : Recipe = c.computed.inside.recipe in
     let source : ℕ → Outcome = λ m. value_of hosts c.args.signals.now m (c.args.computed.now.name ∷ c.args.path.now) in
     let asks : answer_of hosts r c.asking.known.items ≡ Read c.in-Read.slot =

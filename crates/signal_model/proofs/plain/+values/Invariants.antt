@@ -1,4 +1,4 @@
-use Rattle.std.proofs.Common.{◌≡◌, ℕ, [], ◌∷◌, length, ◌+◌, ◌*◌}
+use Rattle.std.proofs.Common.{◌≡◌, [], ◌∷◌, length, ◌+◌, ◌*◌}
 use Rattle.signal_model.specs.Values.{asked_from, names_left, unknown_slots, value_of}
 use Rattle.signal_model.specs.Plain.{prefixed}
 use Rattle.signal_model.proofs.plain.+values.Given as goal
@@ -14,5 +14,5 @@ decreases-evaluated-asking g l = unknown_slots (length l.recipe.slots) l.known.i
 
 abbrev pub invariant-evaluated-asking : goal.invariant-evaluated-asking
 invariant-evaluated-asking g l =
-    prefixed l.reads.items (asked_from (g.A.Asker.hosts l.asker) l.recipe (λ m. value_of (g.A.Asker.hosts l.asker) l.signals m (l.computed.name ∷ l.path)) l.known.items)
-    ≡ asked_from (g.A.Asker.hosts l.asker) l.recipe (λ m. value_of (g.A.Asker.hosts l.asker) l.signals m (l.computed.name ∷ l.path)) []
+    prefixed l.reads.items (asked_from (g.H.HostFormulas.hosts l.hosts) l.recipe (λ m. value_of (g.H.HostFormulas.hosts l.hosts) l.signals m (l.computed.name ∷ l.path)) l.known.items)
+    ≡ asked_from (g.H.HostFormulas.hosts l.hosts) l.recipe (λ m. value_of (g.H.HostFormulas.hosts l.hosts) l.signals m (l.computed.name ∷ l.path)) []

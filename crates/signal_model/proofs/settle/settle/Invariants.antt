@@ -5,4 +5,4 @@ use Rattle.signal_model.proofs.settle.settle.Given as goal
 
 abbrev pub invariant-loop-place : goal.invariant-loop-place
 invariant-loop-place g l =
-    l.now ≡ settle_visits (g.A.Asker.hosts l.asker) l.signals (take l.place-index (evaluation_order (g.A.Asker.hosts l.asker) l.signals l.asked)) (record { memos = l.fn.memos; runs = [] })
+    l.now ≡ settle_visits (g.H.HostFormulas.hosts l.hosts) l.signals (take l.place-index (evaluation_order (g.H.HostFormulas.hosts l.hosts) l.signals l.asked)) (record { memos = l.fn.memos; runs = [] })

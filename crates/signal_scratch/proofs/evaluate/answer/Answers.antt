@@ -1,6 +1,5 @@
-use Rattle.std.proofs.Common.{◌≡◌, length, None, sym, ap, ◌∙◌, arith}
+use Rattle.std.proofs.Common.{◌≡◌, length, ap, ◌∙◌, arith}
 use Rattle.sig_formula.specs.Trees.{tree}
-use Rattle.sig_formula.specs.Answering as formulas
 use Rattle.signal_model.specs.Recipes.{Recipe, answer_of}
 use Rattle.signal_scratch.specs.Asking.{within}
 use Rattle.signal_scratch.proofs.Asking.{answered}
