@@ -186,24 +186,38 @@ mod tests {
     use super::{Entry, PageBytes, entry_line};
     use crate::{LimitWord, Refusal};
     use sig_base::{Fault, Name, Outcome, Text, Value};
+    use std::alloc::Global;
     use std::test::Fail;
 
+    // What is printed of an entry.
+    fn printed(alloc: Global, entry: &Entry) -> Result<Vec<u8>, Fail> {
+        let mut out = Vec::new(alloc);
+        entry_line(&mut out, entry, false)?;
+        Ok(out)
+    }
+
     #[test]
-    fn prints_entries(rt: HostRuntime) -> Result<(), Fail> {
+    fn prints_outcomes(rt: HostRuntime) -> Result<(), Fail> {
+        let alloc = rt.alloc();
+        let number = Outcome::Good(Value::Int(-7));
+        let found = printed(alloc, &Entry::Outcome(Name::new(alloc, "a")?, number))?;
+        assert_eq!(rt; found.as_slice(), b"a = -7\n".as_slice());
+        let text = Outcome::Good(Value::Text(Text::new(alloc, "a\"b")?));
+        let found = printed(alloc, &Entry::Outcome(Name::new(alloc, "b")?, text))?;
+        assert_eq!(rt; found.as_slice(), b"b = \"a\\\"b\"\n".as_slice());
+        let fault = Outcome::Bad(Fault::Zero);
+        let found = printed(alloc, &Entry::Outcome(Name::new(alloc, "c")?, fault))?;
+        assert_eq!(rt; found.as_slice(), b"c ! zero\n".as_slice());
+        Ok(())
+    }
+
+    #[test]
+    fn prints_pages(rt: HostRuntime) -> Result<(), Fail> {
         let alloc = rt.alloc();
         let page = PageBytes::of(alloc, Vec::from_slice(alloc, b"1x&lt;y")?)?;
-        let text = Value::Text(Text::new(alloc, "a\"b")?);
-        let mut out = Vec::new(alloc);
-        for entry in [
-            Entry::Outcome(Name::new(alloc, "a")?, Outcome::Good(Value::Int(-7))),
-            Entry::Outcome(Name::new(alloc, "b")?, Outcome::Good(text)),
-            Entry::Outcome(Name::new(alloc, "c")?, Outcome::Bad(Fault::Zero)),
-            Entry::Page(Name::new(alloc, "p")?, page.copy()?),
-        ] {
-            entry_line(&mut out, &entry, false)?;
-        }
-        let expected = b"a = -7\nb = \"a\\\"b\"\nc ! zero\npage p 7\n1x&lt;y\n";
-        assert_eq!(rt; out.as_slice(), expected.as_slice());
+        let entry = Entry::Page(Name::new(alloc, "p")?, page.copy()?);
+        let found = printed(alloc, &entry)?;
+        assert_eq!(rt; found.as_slice(), b"page p 7\n1x&lt;y\n".as_slice());
         assert_eq!(rt; page.as_slice(), b"1x&lt;y".as_slice());
         Ok(())
     }

@@ -269,22 +269,25 @@ mod tests {
         Ok(out)
     }
 
-    // The formulas of the first item, one after the other, each behind `|`.
-    fn formulas(alloc: Global, script: &[u8]) -> Result<Vec<u8>, Fail> {
+    // The formula of a computed as it is printed; nothing where the first item is none.
+    fn formula(alloc: Global, script: &[u8]) -> Result<Vec<u8>, Fail> {
         let mut out = Vec::new(alloc);
-        match item(alloc, script) {
-            Some(Item::Do(Command::Computed { name: _, source })) => {
-                let SourceText::Formula(wired) = source;
-                out.push(b'|')?;
-                put_formula(&mut out, &wired)?;
-            }
-            Some(Item::Do(Command::Template { name: _, texts })) => {
-                for wired in texts.as_slice() {
-                    out.push(b'|')?;
-                    put_formula(&mut out, wired)?;
-                }
-            }
-            _ => (),
+        if let Some(Item::Do(Command::Computed { name: _, source })) = item(alloc, script) {
+            let SourceText::Formula(wired) = source;
+            put_formula(&mut out, &wired)?;
+        }
+        Ok(out)
+    }
+
+    // The formulas of a template, each behind `|`.
+    fn texts(alloc: Global, script: &[u8]) -> Result<Vec<u8>, Fail> {
+        let mut out = Vec::new(alloc);
+        let Some(Item::Do(Command::Template { name: _, texts })) = item(alloc, script) else {
+            return Ok(out);
+        };
+        for wired in texts.as_slice() {
+            out.push(b'|')?;
+            put_formula(&mut out, wired)?;
         }
         Ok(out)
     }
@@ -359,9 +362,9 @@ mod tests {
         assert!(rt; matches!(item(alloc, b"get a"), Some(Item::Do(Command::Get(_)))));
         assert!(rt; matches!(item(alloc, b"show p"), Some(Item::Do(Command::Show(_)))));
         assert_eq!(rt; number(alloc, b" cell\ta= -5 \nend"), Some(-5));
-        let computed = formulas(alloc, b"computed c = (a+1)*b")?;
-        assert_eq!(rt; computed.as_slice(), b"|(a + 1) * b".as_slice());
-        let template = formulas(
+        let computed = formula(alloc, b"computed c = (a+1)*b")?;
+        assert_eq!(rt; computed.as_slice(), b"(a + 1) * b".as_slice());
+        let template = texts(
             alloc,
             b"template t\n text b\r\n\n# x\ntext (\"x\")\nend\nflush",
         )?;

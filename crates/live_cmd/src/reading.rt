@@ -80,7 +80,7 @@ fn truth_of(word: &[u8]) -> Option<Scalar>
     }
 }
 
-// A value that nothing is wrong with.
+// A value, or what is wrong with it.
 type Value = Result<Scalar, FormulaFault>;
 
 // The text that a literal writes.
@@ -173,6 +173,7 @@ fn text(formula: Result<Wired, FormulaFault>) -> Found
     }
 }
 
+// A line of one token.
 #[tactic(auto, unfolding(crate::specs::Views::told))]
 fn of_one(line: &[u8], first: &Token) -> Option<Found>
     ensures { result ≡ option_map found_of (of_one (lexeme line.now first.now)) }
@@ -209,7 +210,7 @@ fn of_two(
     }
 }
 
-// `N LIT`: what a line gives of a name and a value.
+// The line `cell N = LIT` of its name and its value.
 #[tactic(auto, using(crate::proofs::Told::value_lacks, crate::proofs::Told::value_found))]
 fn of_cell(
     alloc: Global,
@@ -229,6 +230,7 @@ fn of_cell(
     Ok(Some(cell(name, value)))
 }
 
+// The line `set N LIT` of its name and its value.
 #[tactic(auto, using(crate::proofs::Told::value_lacks, crate::proofs::Told::value_found))]
 fn of_set(
     alloc: Global,
