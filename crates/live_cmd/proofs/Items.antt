@@ -1,10 +1,7 @@
 -- What a piece of a script is.
-use Rattle.std.proofs.Common.{◌≡◌, ◌<◌, ◌≤◌, ℕ, ◌+◌, Bool, true, false, cond, List, [], ◌∷◌, ◌++◌, length, map, drop, get_or, Option, Some, None, refl, sym, ap, subst, ◌∙◌, inl, inr, arith}
-use Rattle.std.specs.Prelude.{nat_lt, Result, Ok, Err, IfOk, IsTrue}
+use Rattle.std.proofs.Common.{◌≡◌, ℕ, ◌+◌, Bool, true, false, cond, List, [], ◌∷◌, ◌++◌, length, map, drop, Option, Some, None, refl, sym, ap, subst, ◌∙◌, inl, inr}
+use Rattle.std.specs.Prelude.{nat_lt, Result, Ok, Err, IfOk}
 use Rattle.std.specs.Option.{option_or}
-use Rattle.std.specs.List.{list_any, All}
-use Rattle.std.proofs.lemmas.Bool.{cases_Bool}
-use Rattle.std.proofs.lemmas.Bool.Decides.{nat_tests}
 use Rattle.std.proofs.lemmas.List.{length-map}
 use Rattle.formula_text.specs.declared.wired.FormulaFault.{FormulaFault}
 use Rattle.formula_text.specs.declared.wired.FormulaFault.TheVariants as fault
@@ -20,7 +17,7 @@ use Rattle.live_cmd.specs.declared.refusal.Refusal.{Refusal}
 use Rattle.live_cmd.specs.declared.refusal.Refusal.TheVariants as refusal
 use Rattle.live_cmd.specs.Grammar.{Said, Writes}
 use Rattle.live_cmd.specs.Grammar as said
-use Rattle.live_cmd.specs.Places.{Place, first, fits, moved}
+use Rattle.live_cmd.specs.Places.{Place, first, moved}
 use Rattle.live_cmd.specs.Judging.{Sayings, fault_of, misplacing, excess, first_misplaced, first_excess, many_lines, refusal_of}
 use Rattle.live_cmd.specs.Items.{Say, IsFaulty, IsItem, long, unended, faulty, says, any_long, first_number, line_of, command_of, item_or, unless_refused, item_of, AreItems, ItemsFrom, Begins}
 use Rattle.live_cmd.specs.Views.{unless_faulty, told, read_of, fault_read, first_misplaced_read, first_excess_read, many_read, refusal_read, with_line, sound_lines, item_read, AreRead}

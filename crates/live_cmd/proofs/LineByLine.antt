@@ -15,7 +15,6 @@ use Rattle.live_cmd.specs.declared.refusal.LimitWord.TheVariants as limit
 use Rattle.live_cmd.specs.declared.refusal.Refusal.TheVariants as refusal
 use Rattle.live_cmd.specs.declared.line.Line.{Line}
 use Rattle.live_cmd.specs.declared.judge.ReadLine.{ReadLine}
-use Rattle.script_lines.specs.Lines.{NumberedLine}
 use Rattle.live_cmd.specs.declared.line.Found.{Found}
 use Rattle.live_cmd.specs.Grammar.{Said, Writes}
 use Rattle.live_cmd.specs.Places.{Place, fits, moved}

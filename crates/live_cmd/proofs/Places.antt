@@ -1,10 +1,9 @@
 -- Where lines may stand, by what they are for their places.
-use Rattle.std.proofs.Common.{◌≡◌, ℕ, true, false, List, Option, refl, sym, ap, subst, ◌∙◌}
+use Rattle.std.proofs.Common.{◌≡◌, ℕ, true, false, List, refl, sym, ap, ◌∙◌}
 use Rattle.std.specs.Prelude.{IsTrue}
 use Rattle.live_cmd.specs.Grammar.{Said, Writes}
 use Rattle.live_cmd.specs.Grammar as said
 use Rattle.live_cmd.specs.Places.{Place, first, in_template, behind, fits, moved}
-use Rattle.live_cmd.specs.declared.line.LineKind.{LineKind}
 use Rattle.live_cmd.specs.declared.line.Found.{Found}
 use Rattle.live_cmd.specs.Views.{kind_of, kind_fits, kind_moved, found_of}
 use Rattle.live_cmd.proofs.Spellings.{one_writing}

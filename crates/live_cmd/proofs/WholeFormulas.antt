@@ -1,5 +1,5 @@
 -- Whether tokens spell a formula.
-use Rattle.std.proofs.Common.{◌≡◌, ◌<◌, ◌≤◌, ℕ, ◌-◌, List, [], ◌∷◌, ◌++◌, length, take, drop, Option, Some, None, option_map, refl, sym, ap, subst, ◌∙◌, arith}
+use Rattle.std.proofs.Common.{◌≡◌, ◌<◌, ◌≤◌, ℕ, ◌-◌, List, [], ◌∷◌, ◌++◌, length, drop, Option, Some, None, option_map, refl, sym, ap, subst, ◌∙◌, arith}
 use Rattle.std.specs.Prelude.{option_and_then, Result, Ok, Err}
 use Rattle.std.proofs.lemmas.List.{append-nil, drop-map, length-drop, length-map, take_all}
 use Rattle.std.proofs.Math.Seq.{take-length}
@@ -9,8 +9,8 @@ use Rattle.formula_text.specs.declared.wired.FormulaFault.{FormulaFault}
 use Rattle.formula_text.specs.declared.wired.FormulaFault.TheVariants as fault
 use Rattle.formula_text.specs.Signs.{Sign, signs}
 use Rattle.formula_text.specs.Grammar.{Draft, Spells, spelled, IsFormula, IsLongest, HasNone}
-use Rattle.formula_text.specs.Reading.{Part, expr}
-use Rattle.formula_text.specs.Wiring.{Wiring, Reads, ReadsNone, IsRead, IsCause, refusal, wired}
+use Rattle.formula_text.specs.Reading.{expr}
+use Rattle.formula_text.specs.Wiring.{Wiring, ReadsNone, IsRead, IsCause, refusal, wired}
 use Rattle.formula_text.specs.declared.rough.Rough.{Rough}
 use Rattle.formula_text.specs.Rough.{draft}
 use Rattle.formula_text.proofs.Sound.{expr_sound}

@@ -1,5 +1,5 @@
 -- What the program's own values stand for.
-use Rattle.std.specs.Prelude.{◌≡◌, ℕ, Bool, true, false, List, [], ◌∷◌, Option, Some, None, Result, Ok, Err, IsTrue, ◌==◌, nat_lt, length, if◌then◌else◌}
+use Rattle.std.specs.Prelude.{◌≡◌, ℕ, Bool, true, false, List, [], ◌∷◌, Option, Some, None, Result, Ok, Err, IsTrue, nat_lt, length, if◌then◌else◌}
 use Rattle.std.specs.Option.{option_or}
 use Rattle.sig_base.specs.declared.scalar.Scalar.{Scalar}
 use Rattle.formula_text.specs.declared.wired.FormulaFault.{FormulaFault}
@@ -12,7 +12,7 @@ use Rattle.live_cmd.specs.Grammar as said
 use Rattle.live_cmd.specs.Places.{Place, first, in_template, behind, fits, moved}
 use Rattle.live_cmd.specs.Judging.{tracked, fault_of, fault_of_scalar, misplacing, excess}
 use Rattle.live_cmd.specs.declared.command.Item.{Item}
-use Rattle.live_cmd.specs.Items.{line_of, any_long, command_of, item_or, unless_refused, IsFaulty}
+use Rattle.live_cmd.specs.Items.{line_of, command_of, item_or, unless_refused, IsFaulty}
 use Rattle.live_cmd.specs.declared.line.Line.{Line}
 use Rattle.live_cmd.specs.declared.line.LineKind.{LineKind}
 use Rattle.live_cmd.specs.declared.line.LineKind.TheVariants as kind

@@ -1,8 +1,7 @@
-use Rattle.std.proofs.Common.{[], ◌∷◌, map, drop, append_assoc, sym, arith}
+use Rattle.std.proofs.Common.{[], ◌∷◌, map, drop, append_assoc, arith}
 use Rattle.std.proofs.lemmas.List.{append-nil, drop_all}
 use Rattle.script_lines.specs.declared.line.NumberedLine.{NumberedLine}
 use Rattle.script_lines.specs.Views.{line_of}
-use Rattle.live_cmd.specs.declared.judge.ReadLine.{ReadLine}
 use Rattle.live_cmd.specs.Views.{place_of, AreRead}
 use Rattle.live_cmd.proofs.LineByLine.{found_at, faulty_later, read_later}
 use Rattle.live_cmd.proofs.item.read_lines.Goals as goal
