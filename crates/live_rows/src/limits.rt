@@ -61,11 +61,15 @@ fn bounds_a_text(rt: HostRuntime) -> Result<(), Fail> {
     let longest = repeated(alloc, "\u{a0}", 512)?;
     for (script, output) in [
         (
-            format!(in alloc; "cell c = \"{longest}\"\ncomputed x = c ++ \"\"\ncomputed y = c ++ \"y\"\ncomputed z = x == c\nget z\nget y")?,
+            format!(in alloc;
+                "cell c = \"{longest}\"\ncomputed x = c ++ \"\"\ncomputed y = c ++ \"y\"\ncomputed z = x == c\nget z\nget y"
+            )?,
             "z = true\ny ! long\n",
         ),
         (
-            format!(in alloc; "cell c = \"{longest}y\"\nset c \"{longest}y\"\ncomputed x = 1 ++ \"{longest}y\"")?,
+            format!(in alloc;
+                "cell c = \"{longest}y\"\nset c \"{longest}y\"\ncomputed x = 1 ++ \"{longest}y\""
+            )?,
             "error 5 text\nerror 5 text\nerror 5 text\n",
         ),
         // a text that is too long comes after an `untrack` on a later line
@@ -125,14 +129,19 @@ fn bounds_a_template(rt: HostRuntime) -> Result<(), Fail> {
     let most = repeated(alloc, "text 1\n# a comment\n", 128)?;
     let more = repeated(alloc, "text 1\n", 129)?;
     for (script, output) in [
-        (format!(in alloc; "template t\n{most}end\nget t")?, "error 4 t\n"),
+        (
+            format!(in alloc; "template t\n{most}end\nget t")?,
+            "error 4 t\n",
+        ),
         (
             format!(in alloc; "template t\n{more}end\nget t")?,
             "error 5 template\nerror 2 t\n",
         ),
         // at the block's end, and before names
         (
-            format!(in alloc; "cell t = 1\ntemplate t\n{more}text untrack(1)\nend\ntemplate t\n{more}text a\nend")?,
+            format!(in alloc;
+                "cell t = 1\ntemplate t\n{more}text untrack(1)\nend\ntemplate t\n{more}text a\nend"
+            )?,
             "error 15 132\nerror 5 template\n",
         ),
     ] {
@@ -150,15 +159,25 @@ fn bounds_what_is_made(rt: HostRuntime) -> Result<(), Fail> {
     let mounted = numbered(alloc, 8, "page p", " 1\n1\n")?;
     for (script, output) in [
         (
-            format!(in alloc; "{cells}computed x = c0 + c510\nget x\ncell y = 1\ncomputed y = zz\ncomputed y = 1\ncell x = 1\nget y")?,
-            String::from_str(alloc, "x = 2\nerror 5 nodes\nerror 2 zz\nerror 5 nodes\nerror 3 x\nerror 2 y\n")?,
+            format!(in alloc;
+                "{cells}computed x = c0 + c510\nget x\ncell y = 1\ncomputed y = zz\ncomputed y = 1\ncell x = 1\nget y"
+            )?,
+            String::from_str(
+                alloc,
+                "x = 2\nerror 5 nodes\nerror 2 zz\nerror 5 nodes\nerror 3 x\nerror 2 y\n",
+            )?,
         ),
         (
             format!(in alloc; "{templates}template u\nend\ntemplate t0\nend\nget t63\nget u")?,
-            String::from_str(alloc, "error 5 templates\nerror 3 t0\nerror 4 t63\nerror 2 u\n")?,
+            String::from_str(
+                alloc,
+                "error 5 templates\nerror 3 t0\nerror 4 t63\nerror 2 u\n",
+            )?,
         ),
         (
-            format!(in alloc; "template t0\ntext 1\nend\n{pages}mount q t0\nmount p0 t0\nmount q t1\nshow q")?,
+            format!(in alloc;
+                "template t0\ntext 1\nend\n{pages}mount q t0\nmount p0 t0\nmount q t1\nshow q"
+            )?,
             format!(in alloc; "{mounted}error 5 pages\nerror 3 p0\nerror 2 t1\nerror 2 q\n")?,
         ),
     ] {
@@ -190,11 +209,21 @@ fn refuses_bytes_that_are_no_text(rt: HostRuntime) -> Result<(), Fail> {
     for (script, output) in [
         (b"get \xff\n".as_slice(), "error 1 1\n"),
         // a sequence of two bytes that the line's end cuts off
-        (b"cell a = \"x\"\nget \xc2\nget a".as_slice(), "error 1 2\na = \"x\"\n"),
+        (
+            b"cell a = \"x\"\nget \xc2\nget a".as_slice(),
+            "error 1 2\na = \"x\"\n",
+        ),
         // a passed-over line has any bytes
         (b"# \xff\nget a".as_slice(), "error 2 a\n"),
     ] {
-        let run = run_over(alloc, "live run", script, 4096, Vec::new(alloc), Vec::new(alloc))?;
+        let run = run_over(
+            alloc,
+            "live run",
+            script,
+            4096,
+            Vec::new(alloc),
+            Vec::new(alloc),
+        )?;
         assert_eq!(rt; run.status, Status::Done);
         assert_eq!(rt; run.held.as_slice(), output.as_bytes());
     }
