@@ -1,4 +1,4 @@
-use Rattle.std.proofs.Common.{◌≡◌, ◌+◌, drop, flat_map, ◌∙◌, sym, ap}
+use Rattle.std.proofs.Common.{◌+◌, drop, flat_map, ◌∙◌, sym, ap}
 use Rattle.std.specs.Option.{option_or}
 use Rattle.live_model.specs.Uses.{first_refusal, uses_of_formula}
 use Rattle.live_run.proofs.Refusals.{first_refusal-drop}

@@ -1,9 +1,9 @@
-use Rattle.std.proofs.Common.{◌≡◌, [], refl, ◌∙◌, ◌++◌, ◌<◌, ◌≤◌, length, drop, flat_map, ap, sym, arith}
+use Rattle.std.proofs.Common.{[], refl, ◌∙◌, ◌++◌, ◌<◌, ◌≤◌, length, drop, flat_map, ap, arith}
 use Rattle.live_cmd.specs.Items.{Begins}
 use Rattle.live_cmd.specs.Printed.{printed}
 use Rattle.std.proofs.KnownBytes.{Appends-nil}
 use Rattle.std.proofs.lemmas.Result.{err_from_is_err_and}
-use Rattle.live_run.proofs.Output.{HandedOn, SoFar, next_so_far, all_written, front_so_far, front_more, said_of_none}
+use Rattle.live_run.proofs.Output.{HandedOn, next_so_far, all_written, front_so_far, front_more, said_of_none}
 use Rattle.live_run.proofs.running.run_script.Goals as goal
 
 pub loop-out-preserved : goal.loop-out-preserved
