@@ -11,7 +11,7 @@ use Rattle.sig_base.specs.declared.value.Fault.{Fault}
 use Rattle.sig_base.specs.declared.value.Fault.TheVariants as fault
 use Rattle.sig_base.specs.Scalars.{shown_text}
 
--- a byte of a text between double quotes: `\\`, `\"`, `\n`, `\r`, `\t`, or as it is
+-- a character of a text between double quotes, or a byte of one: `\\`, `\"`, `\n`, `\r`, `\t`, or as it is
 abbrev pub in_quotes : ℕ → List ℕ
 in_quotes b =
     if b == 92 then 92 ∷ 92 ∷ []

@@ -37,5 +37,6 @@ same_scalar-refl (scalar.Bool p) = (booleans_Decides p p).1 refl
 same_scalar-refl (scalar.Int n) = (signed_Decides n n).1 refl
 same_scalar-refl (scalar.Text t) = (bytes_eq-Decides t t).1 refl
 
+-- the same scalars are equal, and the others are not
 pub same_scalar-Decides : (a b : Scalar) → Decides (same_scalar a b) (a ≡ b)
 same_scalar-Decides a b = (same_scalar-true a b, λ (e : a ≡ b). rw (← e) (same_scalar-refl a))

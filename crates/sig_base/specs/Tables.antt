@@ -7,6 +7,7 @@ use Rattle.std.proofs.lemmas.Slice.Eq.{bytes_eq-Decides, slice_eq-Decides}
 use Rattle.std.specs.List.{All, IsDistinct, list_any}
 use Rattle.std.specs.Str.{bytes_eq}
 use lib.Pointwise.{pointwise}
+use Rattle.sig_base.specs.declared.limits.TheConstants.{MOST_FIELDS, MOST_ROWS}
 use Rattle.sig_base.specs.declared.rows.Row.{Row}
 use Rattle.sig_base.specs.declared.scalar.Scalar.{Scalar}
 use Rattle.sig_base.specs.Scalars.{same_scalar, same_scalar-Decides}
@@ -22,10 +23,10 @@ keys_of rows = map (λ (r : Row). r.key) rows
 
 -- what holds of fields and rows that stand together
 pub record AreRows (fields : List (List ℕ)) (rows : List Row) : Type 0 where
-  pub few_fields : length fields ≤ 8
+  pub few_fields : length fields ≤ MOST_FIELDS
   pub distinct_fields : IsDistinct bytes_eq fields
   pub no_key_field : list_any (bytes_eq (codes "key")) fields ≡ false
-  pub few_rows : length rows ≤ 512
+  pub few_rows : length rows ≤ MOST_ROWS
   pub distinct_keys : IsDistinct bytes_eq (keys_of rows)
   pub one_value_each : All (λ (r : Row). length r.values ≡ length fields) rows
 
@@ -44,6 +45,7 @@ same_row r s = bytes_eq r.key s.key && pointwise same_scalar r.values s.values
 abbrev pub same_table : Table → Table → Bool
 same_table t u = pointwise bytes_eq t.fields u.fields && pointwise same_row t.rows u.rows
 
+-- rows of one key and the same values are equal
 same_rowed : (r s : Row) → (r.key ≡ s.key) × (r.values ≡ s.values) → r ≡ s
 same_rowed r s h =
     ap {A = List ℕ} {B = Row} (λ k. record { key = k; values = r.values }) h.0 ∙ ap {A = List Scalar} {B = Row} (λ v. record { key = s.key; values = v }) h.1
@@ -54,6 +56,7 @@ same_row-Decides r s =
     let d = Decides-and (bytes_eq r.key s.key) (pointwise same_scalar r.values s.values) (bytes_eq-Decides r.key s.key) (slice_eq-Decides same_scalar-Decides r.values s.values _ refl) in
     (λ h. same_rowed r s (d.0 h), λ (e : r ≡ s). d.1 (ap (λ (x : Row). x.key) e, ap (λ (x : Row). x.values) e))
 
+-- tables of the same fields and rows are equal
 same_tabled : (t u : Table) → (t.fields ≡ u.fields) × (t.rows ≡ u.rows) → t ≡ u
 same_tabled t u h =
     ap {A = List (List ℕ)} {B = Table} (λ f. record { fields = f; rows = t.rows }) h.0 ∙ ap {A = List Row} {B = Table} (λ r. record { fields = u.fields; rows = r }) h.1

@@ -1,8 +1,9 @@
--- Which bytes make words, and which words are names.
+-- Which bytes make words, names and tags.
 use Rattle.std.specs.Prelude.{ℕ, Bool, false, List, [], ◌∷◌, length, codes, not, nat_le, ◌==◌, ◌&&◌, ◌||◌}
-use Rattle.std.specs.Char.{is_ascii_alphabetic, is_ascii_alphanumeric}
+use Rattle.std.specs.Char.{is_ascii_alphabetic, is_ascii_alphanumeric, is_ascii_digit, is_ascii_lowercase}
 use Rattle.std.specs.List.{list_all}
 use Rattle.std.specs.Str.{bytes_eq}
+use Rattle.sig_base.specs.declared.limits.TheConstants.{MOST_NAME}
 
 -- what may stand between the words of a line: a space or a tab
 abbrev pub is_blank : ℕ → Bool
@@ -28,6 +29,15 @@ abbrev pub is_word : List ℕ → Bool
 is_word [] = false
 is_word (b ∷ bs) = begins_word b && list_all in_word (b ∷ bs)
 
--- a word of at most 32 bytes that isn't reserved
+-- a word of at most `MOST_NAME` bytes that isn't reserved
 unfoldable pub is_name : List ℕ → Bool
-is_name w = is_word w && nat_le (length w) 32 && not (is_reserved w)
+is_name w = is_word w && nat_le (length w) MOST_NAME && not (is_reserved w)
+
+-- a lower-case letter, a digit or `-`
+abbrev pub in_tag : ℕ → Bool
+in_tag b = is_ascii_lowercase b || is_ascii_digit b || b == 45
+
+-- the name of a tag: a lower-case letter, then lower-case letters, digits and `-`
+abbrev pub is_tag : List ℕ → Bool
+is_tag [] = false
+is_tag (b ∷ bs) = is_ascii_lowercase b && list_all in_tag bs

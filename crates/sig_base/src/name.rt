@@ -1,23 +1,18 @@
 // The names of a script.
 ghost use Rattle.std.specs.Hash as fed;
 ghost use Rattle.std.specs.Prelude.{◌≡◌, length, IfOk, IsErrOf, true, false};
-ghost use Rattle.std.specs.List.{list_all};
 ghost use Rattle.std.specs.Str.{bytes_eq};
 ghost use Rattle.std.specs.Cmp.Rules.{comparing, hashing};
 ghost use Rattle.std.proofs.Common.{rules};
 ghost use Rattle.sig_base.specs.declared.name.NameFault.TheVariants as fault;
-ghost use Rattle.sig_base.specs.Words.{in_word as word_byte, is_name as name_test, is_reserved as reserved_test};
+ghost use Rattle.sig_base.specs.Words.{is_name};
 
-use crate::NoMemory;
-use crate::bytes::{begins_word, in_word};
+use crate::{NoMemory, is_name};
 use std::alloc::{AllocError, Global};
 use std::hash::{Hash, Hasher};
 use std::marker::Model;
 use std::rc::RcStr;
 use thiserror::Error;
-
-/// The most bytes that a name has.
-pub const MOST_NAME: usize = 32;
 
 /// Why there is no such name.
 #[derive(Clone, Copy, Debug, PartialEq, Eq, Error)]
@@ -54,58 +49,14 @@ impl Model for Name {
     ghost invariant = { λ n. is_name (rc_str_bytes n.shared) ≡ true };
 }
 
-fn are_in_word(bytes: &[u8]) -> bool
-    ensures { result ≡ list_all word_byte bytes.now }
-{
-    bytes.iter().all(|b| in_word(*b))
-}
-
-#[tactic(auto, unfolding(crate::specs::Words::is_reserved))]
-fn is_reserved(text: &str) -> bool
-    ensures { result ≡ reserved_test text.now }
-{
-    matches!(
-        text,
-        "and"
-            | "or"
-            | "not"
-            | "if"
-            | "then"
-            | "else"
-            | "true"
-            | "false"
-            | "count"
-            | "sum"
-            | "keep"
-            | "it"
-            | "untrack"
-            | "host"
-            | "in"
-            | "equals"
-    )
-}
-
-// Whether the text is a name.
-#[tactic(auto, unfolding(crate::specs::Words::is_name))]
-fn is_name(text: &str) -> bool
-    ensures { result ≡ name_test text.now }
-{
-    let bytes = text.as_bytes();
-    !bytes.is_empty()
-        && begins_word(bytes[0])
-        && are_in_word(bytes)
-        && bytes.len() <= MOST_NAME
-        && !is_reserved(text)
-}
-
 impl Name {
-    /// The name of these characters: a word of at most 32 bytes that isn't reserved; otherwise `Bad`.
+    /// The name of these characters: a word of at most `MOST_NAME` bytes that isn't reserved; otherwise `Bad`.
     pub fn new(alloc: Global, text: &str) -> Result<Name, NameFault>
         ensures ok { IfOk result (λ n. n ≡ text.now) }
-        ensures good { IfOk result (λ n. name_test text.now ≡ true) }
-        ensures bad { IsErrOf result NameFault.Bad → name_test text.now ≡ false }
+        ensures good { IfOk result (λ n. is_name text.now ≡ true) }
+        ensures bad { IsErrOf result NameFault.Bad → is_name text.now ≡ false }
     {
-        if !is_name(text) {
+        if !is_name(text.as_bytes()) {
             return Err(NameFault::Bad);
         }
         Ok(Name {
@@ -116,7 +67,7 @@ impl Name {
     /// How many bytes it has.
     pub fn len(&self) -> usize
         ensures count { result ≡ length self.now }
-        ensures good { name_test self.now ≡ true }
+        ensures good { is_name self.now ≡ true }
     {
         self.shared.as_str().len()
     }

@@ -109,21 +109,7 @@ pub fn put_value(out: &mut Vec<u8>, value: &Value) -> Result<(), NoMemory>
 pub fn put_fault(out: &mut Vec<u8>, fault: Fault) -> Result<(), NoMemory>
     ensures { OnOk result (out.new.items ≡ out.old.items ++ fault_name fault) }
 {
-    match fault {
-        Fault::Overflow => out.extend_from_slice(b"overflow")?,
-        Fault::Zero => out.extend_from_slice(b"zero")?,
-        Fault::Kind => out.extend_from_slice(b"kind")?,
-        Fault::Long => out.extend_from_slice(b"long")?,
-        Fault::Gone => out.extend_from_slice(b"gone")?,
-        Fault::Absent => out.extend_from_slice(b"absent")?,
-        Fault::Cycle => out.extend_from_slice(b"cycle")?,
-        Fault::Host(n) => {
-            let digits = n.to_string(*out.allocator())?;
-            out.extend_from_slice(b"host ")?;
-            out.extend_from_slice(digits.as_bytes())?;
-        }
-        Fault::Slot => out.extend_from_slice(b"slot")?,
-        Fault::Twice => out.extend_from_slice(b"twice")?,
-    }
+    let name = fault.to_string(*out.allocator())?;
+    out.extend_from_slice(name.as_bytes())?;
     Ok(())
 }

@@ -10,12 +10,6 @@ use std::alloc::Global;
 use std::marker::Model;
 use std::rc::Rc;
 
-/// The most fields that rows have.
-pub const MOST_FIELDS: usize = 8;
-
-/// The most rows that stand together.
-pub const MOST_ROWS: usize = 512;
-
 /// A list of scalars. Its copies share it.
 #[derive(Debug, Drop)]
 pub struct Scalars {
@@ -111,8 +105,8 @@ impl Model for Rows {
 }
 
 impl Rows {
-    /// These rows, for at most 8 distinct fields other than `key` and at most 512 rows with distinct keys and one value for
-    /// each field.
+    /// These rows, for at most `MOST_FIELDS` distinct fields other than `key` and at most `MOST_ROWS` rows with distinct keys
+    /// and one value for each field.
     pub fn of(alloc: Global, fields: Vec<Name>, rows: Vec<Row>) -> Result<Rows, NoMemory>
         requires { AreRows fields.items rows.items }
         ensures { IfOk result (λ r. r ≡ record { fields = fields.items; rows = rows.items }) }
@@ -125,15 +119,15 @@ impl Rows {
 
     /// The names of the fields.
     pub fn fields(&self) -> &[Name]
-        ensures fields { result.now ≡ self.now.fields }
-        ensures rows { AreRows self.now.fields self.now.rows }
+        ensures { result.now ≡ self.now.fields }
     {
         self.fields.as_slice()
     }
 
     /// The rows in order.
     pub fn rows(&self) -> &[Row]
-        ensures { result.now ≡ self.now.rows }
+        ensures rows { result.now ≡ self.now.rows }
+        ensures sound { AreRows self.now.fields self.now.rows }
     {
         self.rows.as_slice()
     }
@@ -153,16 +147,25 @@ impl Rows {
         &self.rows[place]
     }
 
+    /// These rows under the same fields, which are shared, where `Rows::of` would take them.
+    pub fn with_rows(&self, alloc: Global, rows: Vec<Row>) -> Result<Rows, NoMemory>
+        requires { AreRows self.now.fields rows.items }
+        ensures { IfOk result (λ r. r ≡ record { fields = self.now.fields; rows = rows.items }) }
+    {
+        Ok(Rows {
+            fields: self.fields.clone()?,
+            rows: Rc::new(alloc, rows)?,
+        })
+    }
+
     /// The rows whose mark is true, in order, for as many marks as rows.
     pub fn keep_by(&self, alloc: Global, marks: &[bool]) -> Result<Rows, NoMemory>
         requires { length marks.now ≡ length self.now.rows }
         ensures { IfOk result (λ r. r ≡ record { fields = self.now.fields; rows = marked marks.now self.now.rows }) }
     {
-        let rows = marked_rows(alloc, &self.rows, marks)?;
-        Ok(Rows {
-            fields: self.fields.clone()?,
-            rows: Rc::new(alloc, rows)?,
-        })
+        let rows = marked_rows(alloc, self.rows(), marks)?;
+        let kept = self.with_rows(alloc, rows)?;
+        Ok(kept)
     }
 
     /// The same rows, which are shared.

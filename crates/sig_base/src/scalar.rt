@@ -5,6 +5,7 @@ ghost use Rattle.std.specs.Cmp.{decided, partial_equiv_from_equiv};
 ghost use Rattle.sig_base.specs.Scalars.{same_scalar-Decides};
 
 use crate::{NoMemory, Text};
+use std::fmt;
 
 /// A truth, a whole number or a text.
 #[derive(Debug, Drop)]
@@ -46,18 +47,26 @@ impl Eq for Scalar {
     ghost laws = { decided same_scalar same_scalar-Decides };
 }
 
+impl fmt::Display for Scalar {
+    ghost use Rattle.std.specs.Prelude.{Some};
+
+    ghost output = { λ s. Some (shown_text s) };
+
+    fn fmt<W: fmt::Write>(&self, f: &mut fmt::Formatter<W>) -> fmt::Result {
+        match self {
+            Scalar::Bool(true) => f.write_str("true"),
+            Scalar::Bool(false) => f.write_str("false"),
+            Scalar::Int(n) => write!(f, "{n}"),
+            Scalar::Text(text) => f.write_str(text.as_str()),
+        }
+    }
+}
+
 /// Appends the shown text: `true` or `false`, the decimal digits, the text itself.
 pub fn put_shown(out: &mut Vec<u8>, scalar: &Scalar) -> Result<(), NoMemory>
     ensures { OnOk result (out.new.items ≡ out.old.items ++ shown_text scalar.now) }
 {
-    match scalar {
-        Scalar::Bool(true) => out.extend_from_slice(b"true")?,
-        Scalar::Bool(false) => out.extend_from_slice(b"false")?,
-        Scalar::Int(n) => {
-            let digits = n.to_string(*out.allocator())?;
-            out.extend_from_slice(digits.as_bytes())?;
-        }
-        Scalar::Text(text) => out.extend_from_slice(text.as_str().as_bytes())?,
-    }
+    let text = scalar.to_string(*out.allocator())?;
+    out.extend_from_slice(text.as_bytes())?;
     Ok(())
 }

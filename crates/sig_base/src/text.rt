@@ -6,20 +6,17 @@ ghost use Rattle.std.specs.Cmp.Rules.{comparing, hashing};
 ghost use Rattle.std.proofs.Common.{rules};
 ghost use Rattle.sig_base.specs.declared.text.TextFault.TheVariants as fault;
 
-use crate::NoMemory;
+use crate::{MOST_TEXT, NoMemory};
 use std::alloc::{AllocError, Global};
 use std::hash::{Hash, Hasher};
 use std::marker::Model;
 use std::rc::RcStr;
 use thiserror::Error;
 
-/// The most bytes that a text has.
-pub const MOST_TEXT: usize = 1024;
-
 /// Why there is no such text.
 #[derive(Clone, Copy, Debug, PartialEq, Eq, Error)]
 pub enum TextFault {
-    #[error("a text has more than 1,024 bytes")]
+    #[error("a text is too long")]
     Long,
     #[error(transparent)]
     NoMemory(NoMemory),
@@ -33,7 +30,7 @@ impl From<AllocError> for TextFault {
     }
 }
 
-/// A text of at most 1,024 bytes of UTF-8. Its copies share them.
+/// A text of at most `MOST_TEXT` bytes of UTF-8. Its copies share them.
 #[derive(Debug, Drop)]
 pub struct Text {
     shared: RcStr,
@@ -42,20 +39,21 @@ pub struct Text {
 impl Model for Text {
     ghost use Rattle.std.specs.Prelude.{List, ℕ, ◌≤◌, length};
     ghost use Rattle.std.specs.Rc.{rc_str_bytes};
+    ghost use Rattle.sig_base.specs.declared.limits.TheConstants.{MOST_TEXT};
 
     ghost Value = { List ℕ };
 
     ghost view = { λ t. rc_str_bytes t.shared };
 
-    ghost invariant = { λ t. length (rc_str_bytes t.shared) ≤ 1024 };
+    ghost invariant = { λ t. length (rc_str_bytes t.shared) ≤ MOST_TEXT };
 }
 
 impl Text {
-    /// The text of these characters; `Long` exactly where they are more than 1,024 bytes.
+    /// The text of these characters; `Long` exactly where they have more than `MOST_TEXT` bytes.
     pub fn new(alloc: Global, text: &str) -> Result<Text, TextFault>
         ensures ok { IfOk result (λ t. t ≡ text.now) }
-        ensures short { IfOk result (λ t. length text.now ≤ 1024) }
-        ensures long { IsErrOf result TextFault.Long → 1024 < length text.now }
+        ensures short { IfOk result (λ t. length text.now ≤ MOST_TEXT) }
+        ensures long { IsErrOf result TextFault.Long → MOST_TEXT < length text.now }
     {
         if text.len() > MOST_TEXT {
             return Err(TextFault::Long);
@@ -68,7 +66,7 @@ impl Text {
     /// How many bytes it has.
     pub fn len(&self) -> usize
         ensures count { result ≡ length self.now }
-        ensures short { length self.now ≤ 1024 }
+        ensures short { length self.now ≤ MOST_TEXT }
     {
         self.shared.as_str().len()
     }

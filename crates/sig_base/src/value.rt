@@ -1,8 +1,9 @@
 // Values, faults, and what a formula asks and answers.
 ghost use Rattle.std.specs.Prelude.{◌≡◌, ◌↔◌, IfOk, IsTrue};
-ghost use Rattle.sig_base.specs.Values.{is_alike, same_outcome, same_value};
+ghost use Rattle.sig_base.specs.Values.{is_alike, same_outcome, same_value, scalar_of, scalar_value};
 
 use crate::{NoMemory, Rows, Scalar, Text};
+use std::fmt;
 
 /// The value of a signal or a formula.
 #[derive(Debug, Drop)]
@@ -22,7 +23,7 @@ pub enum Fault {
     Zero,
     /// An operand of the wrong kind, or two kinds compared.
     Kind,
-    /// A text of more than 1,024 bytes.
+    /// A text of more than `MOST_TEXT` bytes.
     Long,
     /// A read of a disposed signal.
     Gone,
@@ -73,6 +74,18 @@ impl Value {
         }
     }
 
+    /// The value as a scalar; none where it is rows.
+    pub fn into_scalar(self) -> Option<Scalar>
+        ensures { result ≡ scalar_of self }
+    {
+        match self {
+            Value::Bool(b) => Some(Scalar::Bool(b)),
+            Value::Int(n) => Some(Scalar::Int(n)),
+            Value::Text(text) => Some(Scalar::Text(text)),
+            Value::Rows(_) => None,
+        }
+    }
+
     /// Whether the two are one value: rows by their fields, their order, their keys and their scalars.
     pub fn same(&self, other: &Value) -> bool
         ensures value { result ≡ same_value self.now other.now }
@@ -84,6 +97,40 @@ impl Value {
             (Value::Text(s), Value::Text(t)) => s == t,
             (Value::Rows(t), Value::Rows(u)) => t == u,
             _ => false,
+        }
+    }
+}
+
+impl From<Scalar> for Value {
+    ghost from_gives = { λ s v. v ≡ scalar_value s };
+
+    fn from(scalar: Scalar) -> Value {
+        match scalar {
+            Scalar::Bool(b) => Value::Bool(b),
+            Scalar::Int(n) => Value::Int(n),
+            Scalar::Text(text) => Value::Text(text),
+        }
+    }
+}
+
+impl fmt::Display for Fault {
+    ghost use Rattle.std.specs.Prelude.{Some};
+    ghost use Rattle.sig_base.specs.Printing.{fault_name};
+
+    ghost output = { λ f. Some (fault_name f) };
+
+    fn fmt<W: fmt::Write>(&self, f: &mut fmt::Formatter<W>) -> fmt::Result {
+        match self {
+            Fault::Overflow => f.write_str("overflow"),
+            Fault::Zero => f.write_str("zero"),
+            Fault::Kind => f.write_str("kind"),
+            Fault::Long => f.write_str("long"),
+            Fault::Gone => f.write_str("gone"),
+            Fault::Absent => f.write_str("absent"),
+            Fault::Cycle => f.write_str("cycle"),
+            Fault::Host(n) => write!(f, "host {n}"),
+            Fault::Slot => f.write_str("slot"),
+            Fault::Twice => f.write_str("twice"),
         }
     }
 }

@@ -1,7 +1,5 @@
 use Rattle.sig_base.proofs.Marks.{AreRows-marked}
 use Rattle.sig_base.proofs.rows.Rows.keep_by.Goals as goal
 
-pub invariant_of-result : goal.invariant_of-result
-invariant_of-result c =
-    rw (c.in_ok-new.ensures.ok, c.in_ok-rows.ensures, c.deref-2.ensures.value, c.deref.ensures, c.in_ok-clone.ensures.cases)
-    (AreRows-marked c.self.inside.fields.value.items c.self.inside.rows.value.items c.args.marks.now c.self.invariant)
+pub with_rows-requires : goal.with_rows-requires
+with_rows-requires c = rw (c.in_ok-rows.ensures, c.rows.ensures.rows) (AreRows-marked c.args.self.now.fields c.args.self.now.rows c.args.marks.now c.rows.ensures.sound)
