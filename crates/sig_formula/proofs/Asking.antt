@@ -12,7 +12,8 @@ use Rattle.sig_base.specs.declared.value.Step.{Step}
 use Rattle.sig_base.specs.declared.value.Step.TheVariants.{Read, Done, Fail}
 use Rattle.sig_formula.specs.declared.formula.BinOp.{BinOp}
 use Rattle.sig_formula.specs.declared.formula.BinOp.TheVariants as op
-use Rattle.sig_formula.specs.Answering.{answer_of, calculated, calculation, chosen, compared, decided, equality, fits_i64, joined, known_at, negated, number_answer, operated, order, shown, slot_answer, truth, with_value}
+use Rattle.sig_base.specs.Values.{shown}
+use Rattle.sig_formula.specs.Answering.{answer_of, calculated, calculation, chosen, compared, decided, equality, fits_i64, joined, known_at, negated, number_answer, operated, order, slot_answer, truth, with_value}
 use Rattle.sig_formula.specs.Laws.{IsAskable, AsksAskable}
 use Rattle.sig_formula.specs.Trees.{Tree, literal, slot, negation, binary, choice, untracked, has_slot}
 

@@ -5,9 +5,8 @@ use Rattle.std.specs.Cmp.Lexicographic.{slice_cmp}
 use Rattle.std.specs.Ordering.{int_cmp, int_eq, nat_cmp, is_lt, is_le, is_gt, is_ge}
 use Rattle.std.specs.Str.{bytes_eq}
 use Rattle.std.specs.declared.cmp.Ordering.{Ordering}
-use Rattle.sig_base.specs.Scalars.{shown_text}
-use Rattle.sig_base.specs.declared.scalar.Scalar.{Scalar}
-use Rattle.sig_base.specs.declared.scalar.Scalar.TheVariants as scalar
+use Rattle.sig_base.specs.Values.{scalar_value, shown}
+use Rattle.sig_base.specs.declared.limits.TheConstants.{MOST_TEXT}
 use Rattle.sig_base.specs.declared.value.Value.{Value}
 use Rattle.sig_base.specs.declared.value.Value.TheVariants as value
 use Rattle.sig_base.specs.declared.value.Fault.TheVariants.{Overflow, Zero, Kind, Long}
@@ -18,12 +17,6 @@ use Rattle.sig_formula.specs.declared.formula.BinOp.{BinOp}
 use Rattle.sig_formula.specs.declared.formula.BinOp.TheVariants as op
 use Rattle.sig_formula.specs.declared.formula.RowRef.{RowRef}
 use Rattle.sig_formula.specs.Trees.{Tree, literal, slot, negation, binary, choice, untracked}
-
--- a scalar as a value
-abbrev pub scalar_value : Scalar → Value
-scalar_value (scalar.Bool b) = value.Bool b
-scalar_value (scalar.Int n) = value.Int n
-scalar_value (scalar.Text t) = value.Text t
 
 -- the value of a slot, where it is known
 abbrev pub known_at : ℕ → List Known → Option Value
@@ -46,6 +39,7 @@ abbrev pub truth : Value → Step
 truth (value.Bool b) = Done (value.Bool b)
 truth _ = Fail Kind
 
+-- the other truth
 abbrev pub negated : Value → Step
 negated (value.Bool b) = Done (value.Bool (not b))
 negated _ = Fail Kind
@@ -83,26 +77,21 @@ abbrev pub compared : Option Bool → Step
 compared None = Fail Kind
 compared (Some b) = Done (value.Bool b)
 
--- the shown text of a scalar
-abbrev pub shown : Value → Option (List ℕ)
-shown (value.Bool b) = Some (shown_text (scalar.Bool b))
-shown (value.Int n) = Some (shown_text (scalar.Int n))
-shown (value.Text t) = Some t
-shown (value.Rows t) = None
-
--- a text of at most 1,024 bytes
+-- a text, which is long where it has more than `MOST_TEXT` bytes
 abbrev pub text_answer : List ℕ → Step
-text_answer t = if nat_le (length t) 1024 then Done (value.Text t) else Fail Long
+text_answer t = if nat_le (length t) MOST_TEXT then Done (value.Text t) else Fail Long
 
+-- two shown texts, one after the other
 abbrev pub joined : Option (List ℕ) → Option (List ℕ) → Step
 joined (Some s) (Some t) = text_answer (s ++ t)
 joined _ _ = Fail Kind
 
+-- whether a whole number has 64 bits
 abbrev pub fits_i64 : ℤ → Bool
 fits_i64 (pos n) = nat_lt n (2 ^ 63)
 fits_i64 (negsuc n) = nat_lt n (2 ^ 63)
 
--- a whole number of 64 bits
+-- a whole number, which must have 64 bits
 abbrev pub number_answer : ℤ → Step
 number_answer n = if fits_i64 n then Done (value.Int n) else Fail Overflow
 

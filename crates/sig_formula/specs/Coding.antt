@@ -28,24 +28,29 @@ with_other (Some true) (b ∷ a ∷ t ∷ stack) = choice t a b ∷ stack
 with_other (Some false) (a ∷ stack) = untracked a ∷ stack
 with_other o stack = stack
 
+-- the trees of a stack, once an operator is put on
 abbrev with_operator : BinOp → List Tree → List Tree
 with_operator o (b ∷ a ∷ stack) = binary o a b ∷ stack
 with_operator o stack = stack
 
+-- the trees of a stack, once a part is put on
 abbrev with_part : Part → List Tree → List Tree
 with_part (inl s) stack = literal s ∷ stack
 with_part (inr (inl n)) stack = slot n ∷ stack
 with_part (inr (inr (inl o))) stack = with_operator o stack
 with_part (inr (inr (inr n))) stack = with_other n stack
 
+-- the trees of a stack, once all parts are put on
 abbrev stack_of : List Part → List Tree → List Tree
 stack_of [] stack = stack
 stack_of (p ∷ ps) stack = stack_of ps (with_part p stack)
 
+-- the tree on top
 abbrev first_of : List Tree → Tree
 first_of [] = slot 0
 first_of (t ∷ ts) = t
 
+-- the parts of a tree put it on the stack
 pub stack_of-parts_of : (t : Tree) (rest : List Part) (stack : List Tree) → stack_of (parts_of t rest) stack ≡ stack_of rest (t ∷ stack)
 stack_of-parts_of (literal s) rest stack = refl
 stack_of-parts_of (slot n) rest stack = refl

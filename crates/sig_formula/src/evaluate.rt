@@ -1,23 +1,13 @@
 // What a formula answers to the values known so far.
 ghost use Rattle.std.specs.Prelude.{◌≡◌, ◌<◌, length, IfOk, IfSome};
 ghost use Rattle.std.specs.Option.{option_copied};
-ghost use Rattle.sig_formula.specs.Answering.{answer_of, known_at, scalar_value, slot_answer};
+ghost use Rattle.sig_formula.specs.Answering.{answer_of, known_at, slot_answer};
 ghost use Rattle.sig_formula.specs.Trees.{tree};
 
 use crate::operate::{decided, negated, operated};
 use crate::{Formula, RowRef};
-use sig_base::{Fault, Known, NoMemory, Scalar, Step, Value};
+use sig_base::{Fault, Known, NoMemory, Step, Value};
 use std::alloc::Global;
-
-fn scalar_value(scalar: &Scalar) -> Result<Value, NoMemory>
-    ensures { IfOk result (λ v. v ≡ scalar_value scalar.now) }
-{
-    match scalar {
-        Scalar::Bool(b) => Ok(Value::Bool(*b)),
-        Scalar::Int(n) => Ok(Value::Int(*n)),
-        Scalar::Text(text) => Ok(Value::Text(text.copy()?)),
-    }
-}
 
 // The value of a slot, or that it is needed.
 fn slot_answer(slot: u32, known: &[Known]) -> Result<Step, NoMemory>
@@ -43,7 +33,7 @@ pub fn step(
     ensures { IfOk result (λ s. s ≡ answer_of (tree f.now) (option_copied row.entry) known.now) }
 {
     match f {
-        Formula::Lit(scalar) => Ok(Step::Done(scalar_value(scalar)?)),
+        Formula::Lit(scalar) => Ok(Step::Done(Value::from(scalar.copy()?))),
         Formula::Slot(slot) => slot_answer(*slot, known),
         Formula::Not(inner) => match step(alloc, inner, row, known)? {
             Step::Done(value) => Ok(negated(&value)),

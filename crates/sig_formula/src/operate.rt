@@ -1,10 +1,10 @@
 // What operators make of their operands.
-ghost use Rattle.std.specs.Prelude.{◌≡◌, ◌++◌, IfOk, OnOk, option_map, string_bytes};
-ghost use Rattle.sig_base.specs.Scalars.{shown_text};
-ghost use Rattle.sig_formula.specs.Answering.{calculated, calculation, compared, decided, equality, joined, negated, operated, order, shown, text_answer, truth};
+ghost use Rattle.std.specs.Prelude.{◌≡◌, IfOk};
+ghost use Rattle.sig_base.specs.Values.{shown};
+ghost use Rattle.sig_formula.specs.Answering.{calculated, calculation, compared, decided, equality, joined, negated, operated, order, text_answer, truth};
 
 use crate::BinOp;
-use sig_base::{Fault, NoMemory, Scalar, Step, Text, TextFault, Value};
+use sig_base::{Fault, NoMemory, Step, Text, TextFault, Value};
 use std::alloc::Global;
 use std::cmp::Ordering;
 
@@ -75,34 +75,7 @@ fn compared(holds: Option<bool>) -> Step
     }
 }
 
-// The scalar of a value that isn't rows.
-fn scalar_of(value: Value) -> Option<Scalar>
-    ensures { option_map shown_text result ≡ shown value }
-{
-    match value {
-        Value::Bool(b) => Some(Scalar::Bool(b)),
-        Value::Int(n) => Some(Scalar::Int(n)),
-        Value::Text(text) => Some(Scalar::Text(text)),
-        Value::Rows(_) => None,
-    }
-}
-
-fn push_shown(alloc: Global, out: &mut String, scalar: &Scalar) -> Result<(), NoMemory>
-    ensures { OnOk result (string_bytes out.new ≡ string_bytes out.old ++ shown_text scalar.now) }
-{
-    match scalar {
-        Scalar::Bool(true) => out.push_str("true")?,
-        Scalar::Bool(false) => out.push_str("false")?,
-        Scalar::Int(n) => {
-            let digits = n.to_string(alloc)?;
-            out.push_str(digits.as_str())?;
-        }
-        Scalar::Text(text) => out.push_str(text.as_str())?,
-    }
-    Ok(())
-}
-
-// A text of at most 1,024 bytes.
+// A text of at most `MOST_TEXT` bytes.
 fn text_answer(alloc: Global, text: &str) -> Result<Step, NoMemory>
     ensures { IfOk result (λ s. s ≡ text_answer text.now) }
 {
@@ -117,12 +90,10 @@ fn text_answer(alloc: Global, text: &str) -> Result<Step, NoMemory>
 fn joined(alloc: Global, left: Value, right: Value) -> Result<Step, NoMemory>
     ensures { IfOk result (λ s. s ≡ joined (shown left) (shown right)) }
 {
-    let (Some(first), Some(second)) = (scalar_of(left), scalar_of(right)) else {
+    let (Some(first), Some(second)) = (left.into_scalar(), right.into_scalar()) else {
         return Ok(Step::Fail(Fault::Kind));
     };
-    let mut text = String::new(alloc);
-    push_shown(alloc, &mut text, &first)?;
-    push_shown(alloc, &mut text, &second)?;
+    let text = format!(in alloc; "{first}{second}")?;
     text_answer(alloc, text.as_str())
 }
 

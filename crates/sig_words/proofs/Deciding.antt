@@ -14,14 +14,14 @@ use Rattle.std.proofs.lemmas.Bool.{cases_Bool, and_parts, and_from}
 use Rattle.std.proofs.lemmas.Bool.Decides.{nat_tests}
 use Rattle.std.proofs.lemmas.List.{length-drop, get_or-drop, take_all}
 use Rattle.std.proofs.lemmas.Str.{IsUtf8-from_is_utf8, is_utf8-from_IsUtf8}
-use Rattle.sig_base.specs.Words.{is_blank, in_word}
+use Rattle.sig_base.specs.Words.{in_tag, in_word, is_blank, is_tag}
 use Rattle.sig_words.specs.declared.token.TokenKind.{TokenKind}
 use Rattle.sig_words.specs.declared.token.TokenKind.TheVariants.{Word, Tag, Number, Literal, Symbol}
 use Rattle.sig_words.specs.declared.token.Token.{Token}
 use Rattle.sig_words.specs.declared.scan.Start.{Start}
 use Rattle.sig_words.specs.declared.scan.Start.TheVariants.{Words, Tags, Numbers, Literals, Symbols}
 use Rattle.sig_words.specs.Scanning.{closing, is_plain, opens_as}
-use Rattle.sig_words.specs.Tokens.{in_tag, is_tag, is_escape, is_one, is_two, IsSymbol, Form, IsToken, NoToken, Cuts, AreTokens, NoneBegins, no_token, may_sign}
+use Rattle.sig_words.specs.Tokens.{is_escape, is_one, is_two, IsSymbol, Form, IsToken, NoToken, Cuts, AreTokens, NoneBegins, no_token, may_sign}
 use Rattle.sig_words.proofs.Numbers.{small, not_plain, not_parsed, parsed}
 use Rattle.sig_words.proofs.Fronts.{index_drop, word_token, opens_begins, opens_at, tag_front, tag_size, tag_token, no_tag, number_run, number_token, no_number, literal_token, no_literal, symbol_token, no_symbol, cuts_more, stands}
 use Rattle.sig_words.proofs.Cuttings.{no_cutting}

@@ -5,12 +5,12 @@ use Rattle.std.specs.Str.{IsUtf8, IsAscii}
 use Rattle.std.proofs.lemmas.Bool.{and_parts}
 use Rattle.std.proofs.lemmas.Bool.Decides.{nat_tests}
 use Rattle.std.proofs.lemmas.Str.{IsUtf8-from_ascii}
-use Rattle.sig_base.specs.Words.{in_word, is_word}
+use Rattle.sig_base.specs.Words.{in_tag, in_word, is_tag, is_word}
 use Rattle.sig_words.specs.declared.token.TokenKind.{TokenKind}
 use Rattle.sig_words.specs.declared.token.TokenKind.TheVariants.{Word, Tag, Number, Literal, Symbol}
 use Rattle.sig_words.specs.declared.token.Token.{Token}
 use Rattle.sig_words.specs.Lexemes.{text_at}
-use Rattle.sig_words.specs.Tokens.{in_tag, is_tag, Form, Cuts, AreTokens, IsTokenOf}
+use Rattle.sig_words.specs.Tokens.{Form, Cuts, AreTokens, IsTokenOf}
 use Rattle.sig_words.proofs.Fronts.{word_all, tag_all}
 
 each_cut : (line : List ℕ) (from to : ℕ) (ts : List Token) → IsUtf8 line → Cuts line from ts to → All (IsTokenOf line) ts

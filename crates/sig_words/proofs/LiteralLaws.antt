@@ -9,8 +9,9 @@ use Rattle.std.proofs.lemmas.Str.{IsUtf8-drop, IsUtf8-take, IsCharBoundary-befor
 use Rattle.sig_words.specs.declared.token.TokenKind.{TokenKind}
 use Rattle.sig_words.specs.declared.token.TokenKind.TheVariants.{Word, Tag, Number, Literal, Symbol}
 use Rattle.sig_words.specs.declared.token.Token.{Token}
+use Rattle.sig_base.specs.Printing.{in_quotes}
 use Rattle.sig_words.specs.Lexemes.{text_at}
-use Rattle.sig_words.specs.Literals.{plain, quoted, between_quotes}
+use Rattle.sig_words.specs.Literals.{plain, between_quotes}
 use Rattle.sig_words.specs.Tokens.{Form, IsTokenOf}
 use Rattle.sig_words.proofs.Fronts.{index_drop}
 
@@ -18,7 +19,7 @@ use Rattle.sig_words.proofs.Fronts.{index_drop}
 bare : (c : ℕ) (rest : List ℕ) → (c == 92) ≡ false → plain false (c ∷ rest) ≡ c ∷ plain false rest
 bare c rest e = rw e refl
 
-step : (c : ℕ) (rest : List ℕ) → plain false (quoted c ++ rest) ≡ c ∷ plain false rest
+step : (c : ℕ) (rest : List ℕ) → plain false (in_quotes c ++ rest) ≡ c ∷ plain false rest
 step c rest = elim (cases_Bool (c == 92)) [
   | inl e ↦ rw (eqb-true c 92 e) refl
   | inr e ↦ elim (cases_Bool (c == 34)) [
@@ -34,9 +35,9 @@ step c rest = elim (cases_Bool (c == 92)) [
 ]
 
 -- what is written of characters stands for them
-pub each_written : (cs : List ℕ) → plain false (flat_map quoted cs) ≡ cs
+pub each_written : (cs : List ℕ) → plain false (flat_map in_quotes cs) ≡ cs
 each_written [] = refl
-each_written (c ∷ cs) = step c (flat_map quoted cs) ∙ ap (λ (l : List ℕ). c ∷ l) (each_written cs)
+each_written (c ∷ cs) = step c (flat_map in_quotes cs) ∙ ap (λ (l : List ℕ). c ∷ l) (each_written cs)
 
 literal_form : (k : TokenKind) (text : List ℕ) → k ≡ Literal → Form k text → Form Literal text
 literal_form Word text e f = absurd cc

@@ -12,16 +12,6 @@ plain behind [] = []
 plain true (c ∷ cs) = meaning c ∷ plain false cs
 plain false (c ∷ cs) = if c == 92 then plain true cs else c ∷ plain false cs
 
--- a character as it may stand between quotes
-abbrev pub quoted : ℕ → List ℕ
-quoted c =
-    if c == 92 then 92 ∷ 92 ∷ []
-    else if c == 34 then 92 ∷ 34 ∷ []
-    else if c == 10 then 92 ∷ 110 ∷ []
-    else if c == 13 then 92 ∷ 114 ∷ []
-    else if c == 9 then 92 ∷ 116 ∷ []
-    else c ∷ []
-
 -- the bytes of the text that the bytes between the quotes stand for
 unfoldable pub text_of : List ℕ → List ℕ
 text_of inner = encode_utf8_all (plain false (chars inner))

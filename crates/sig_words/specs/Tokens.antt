@@ -1,27 +1,19 @@
 -- The tokens of a line.
 use Rattle.std.specs.Prelude.{◌≡◌, ℕ, zero, suc, ◌-◌, ◌<◌, ◌≤◌, Bool, true, false, ◌||◌, ◌&&◌, not, ◌==◌, if◌then◌else◌, List, [], ◌∷◌, ◌++◌, length, take, drop, slice_index}
-use Rattle.std.specs.Char.{is_ascii_digit, is_ascii_lowercase}
+use Rattle.std.specs.Char.{is_ascii_digit}
 use Rattle.std.specs.List.{list_all}
 use Rattle.std.specs.Fmt.{signed_decimal}
 use Rattle.std.specs.Int.{w64}
 use Rattle.std.specs.Int.RustNames.{FitsSigned}
 use Rattle.std.specs.Str.{IsUtf8, IsValidUpTo}
-use Rattle.sig_base.specs.Words.{is_blank, in_word, is_word}
+use Rattle.sig_base.specs.declared.limits.TheConstants.{MOST_LINE, MOST_TAG}
+use Rattle.sig_base.specs.Words.{in_tag, in_word, is_blank, is_tag, is_word}
 use Rattle.sig_words.specs.Lexemes.{text_at}
 use Rattle.sig_words.specs.declared.token.TokenKind.{TokenKind}
 use Rattle.sig_words.specs.declared.token.TokenKind.TheVariants.{Word, Tag, Number, Literal, Symbol}
 use Rattle.sig_words.specs.declared.token.Token.{Token}
 use Rattle.sig_words.specs.declared.line.LineFault.{LineFault}
 use Rattle.sig_words.specs.declared.line.LineFault.TheVariants.{Bad, TooLong, NoMemory}
-
--- a lower-case letter, a digit or `-`
-abbrev pub in_tag : ℕ → Bool
-in_tag b = is_ascii_lowercase b || is_ascii_digit b || b == 45
-
--- the name of a tag: a lower-case letter, then lower-case letters, digits and `-`
-abbrev pub is_tag : List ℕ → Bool
-is_tag [] = false
-is_tag (b ∷ bs) = is_ascii_lowercase b && list_all in_tag bs
 
 -- n, r and t, \ and "
 abbrev pub is_escape : ℕ → Bool
@@ -41,6 +33,7 @@ is_one b = b == 40 || b == 41 || b == 44 || b == 46 || b == 61 || b == 60 || b =
 abbrev pub is_two : ℕ → ℕ → Bool
 is_two b c = (c == 61 && (b == 61 || b == 33 || b == 60 || b == 62)) || (b == 43 && c == 43)
 
+-- a symbol, of one byte or of two
 abbrev pub IsSymbol : List ℕ → Type 0
 IsSymbol [] = ⊥
 IsSymbol (b ∷ []) = is_one b ≡ true
@@ -50,7 +43,7 @@ IsSymbol (b ∷ c ∷ d ∷ bs) = ⊥
 -- the bytes are a token of this kind
 abbrev pub Form : TokenKind → List ℕ → Type 0
 Form Word text = is_word text ≡ true
-Form Tag text = (name : List ℕ) × (text ≡ 64 ∷ name) × (is_tag name ≡ true) × (length name ≤ 32)
+Form Tag text = (name : List ℕ) × (text ≡ 64 ∷ name) × (is_tag name ≡ true) × (length name ≤ MOST_TAG)
 Form (Number z) text = FitsSigned w64 z × (text ≡ signed_decimal z)
 Form Literal text = (inner : List ℕ) × (text ≡ 34 ∷ (inner ++ 34 ∷ [])) × (is_inner false inner ≡ true)
 Form Symbol text = IsSymbol text
@@ -132,5 +125,5 @@ pub data IsBad (line : List ℕ) (at : ℕ) : Type 0 where
 -- the cause of a refusal
 abbrev pub Refuses : List ℕ → LineFault → Type 0
 Refuses line (Bad at) = IsBad line at
-Refuses line TooLong = 4096 < length line
+Refuses line TooLong = MOST_LINE < length line
 Refuses line (NoMemory e) = Unit {0}

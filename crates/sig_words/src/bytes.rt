@@ -1,13 +1,6 @@
 // Which bytes stand where in a token.
 ghost use Rattle.std.specs.Prelude.{◌≡◌};
-ghost use Rattle.sig_words.specs.Tokens.{in_tag, is_escape, is_one, is_two};
-
-/// What the name of a tag has behind its first letter.
-pub fn in_tag(b: u8) -> bool
-    ensures { result ≡ in_tag b }
-{
-    b.is_ascii_lowercase() || b.is_ascii_digit() || b == b'-'
-}
+ghost use Rattle.sig_words.specs.Tokens.{is_escape, is_one, is_two};
 
 /// What may stand behind a backslash.
 pub fn is_escape(b: u8) -> bool

@@ -8,7 +8,7 @@ mod quotes;
 mod scan;
 mod token;
 
-pub use line::{LineFault, MOST_LINE, one_cutting, tokens};
+pub use line::{LineFault, one_cutting, tokens};
 pub use quotes::{each_character_is_written, literal};
 pub use token::{Token, TokenKind, token_bytes};
 

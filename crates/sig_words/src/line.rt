@@ -1,28 +1,24 @@
 // Cuts a line into tokens.
 ghost use Rattle.std.specs.Prelude.{◌≡◌, ◌+◌, ◌-◌, ◌<◌, ◌≤◌, ◌↔◌, ℕ, List, true, false, length, take, drop, IfOk, IfErr, IsErrOf, slice_index};
 ghost use Rattle.std.specs.List.{list_all};
-ghost use Rattle.sig_base.specs.Words.{is_blank as blank_byte};
+ghost use Rattle.sig_base.specs.Words.{is_blank};
 ghost use Rattle.std.specs.Str.{IsUtf8};
-ghost use Rattle.sig_words.specs.Tokens.{may_sign as sign_before, AreTokens, IsBad, Refuses};
-ghost use Rattle.sig_words.specs.declared.token.Token.{Token as AToken};
+ghost use Rattle.sig_words.specs.Tokens.{may_sign, AreTokens, IsBad, Refuses};
 ghost use Rattle.sig_words.specs.declared.line.LineFault.TheVariants as fault;
 
 use crate::scan::scan;
 use crate::token::Token;
-use sig_base::{NoMemory, is_blank};
+use sig_base::{MOST_LINE, NoMemory, is_blank};
 use std::alloc::{AllocFailed, Global};
 use std::str;
 use thiserror::Error;
-
-/// The most bytes that a line has.
-pub const MOST_LINE: usize = 4096;
 
 /// Why a line has no tokens.
 #[derive(Clone, Copy, Debug, PartialEq, Eq, Error)]
 pub enum LineFault {
     #[error("no token begins at byte {0}")]
     Bad(usize),
-    #[error("a line has more than 4,096 bytes")]
+    #[error("a line is too long")]
     TooLong,
     #[error(transparent)]
     NoMemory(NoMemory),
@@ -38,7 +34,7 @@ impl From<AllocFailed<Token>> for LineFault {
 
 fn may_sign(line: &[u8], at: usize) -> bool
     requires { at ≤ length line.now }
-    ensures { result ≡ sign_before line.now at }
+    ensures { result ≡ may_sign line.now at }
 {
     if at == 0 {
         return true;
@@ -52,8 +48,8 @@ fn past_blanks(line: &[u8], from: usize) -> usize
     requires { from ≤ length line.now }
     ensures after { from ≤ result }
     ensures within { result ≤ length line.now }
-    ensures blanks { list_all blank_byte (take (result - from) (drop from line.now)) ≡ true }
-    ensures ends { result < length line.now → blank_byte (slice_index line.now result) ≡ false }
+    ensures blanks { list_all is_blank (take (result - from) (drop from line.now)) ≡ true }
+    ensures ends { result < length line.now → is_blank (slice_index line.now result) ≡ false }
 {
     let mut at = from;
     while at < line.len() && is_blank(line[at]) {
@@ -89,12 +85,12 @@ fn cut(alloc: Global, line: &[u8]) -> Result<Vec<Token>, LineFault>
 
 /// The tokens of a line, which are separated by spaces and tabs where they don't touch.
 ///
-/// Refused are a line of more than 4,096 bytes, with `TooLong`, and one that has no tokens, with `Bad` and the place
+/// Refused are a line of more than `MOST_LINE` bytes, with `TooLong`, and one that has no tokens, with `Bad` and the place
 /// where no token begins; in a line that isn't UTF-8 that place is the end of its longest front of UTF-8.
 pub fn tokens(alloc: Global, line: &[u8]) -> Result<Vec<Token>, LineFault>
     ensures ok { IfOk result (λ ts. AreTokens line.now ts.items) }
     ensures refused { IfErr result (λ e. Refuses line.now e) }
-    ensures long { IsErrOf result LineFault.TooLong ↔ (4096 < length line.now) }
+    ensures long { IsErrOf result LineFault.TooLong ↔ (MOST_LINE < length line.now) }
 {
     if line.len() > MOST_LINE {
         return Err(LineFault::TooLong);
@@ -107,7 +103,7 @@ pub fn tokens(alloc: Global, line: &[u8]) -> Result<Vec<Token>, LineFault>
 
 /// A line is cut into tokens in one way; one that is refused as `Bad` in none, and it is refused at one place.
 pub fn one_cutting()
-    ensures one { (line : List ℕ) (ts us : List AToken) → AreTokens line ts → AreTokens line us → ts ≡ us }
-    ensures none { (line : List ℕ) (at : ℕ) (ts : List AToken) → IsBad line at → AreTokens line ts → ⊥ }
+    ensures one { (line : List ℕ) (ts us : List Token) → AreTokens line ts → AreTokens line us → ts ≡ us }
+    ensures none { (line : List ℕ) (at : ℕ) (ts : List Token) → IsBad line at → AreTokens line ts → ⊥ }
     ensures one_place { (line : List ℕ) (at to : ℕ) → IsBad line at → IsBad line to → at ≡ to }
 {}

@@ -1,12 +1,13 @@
 // The texts that literals stand for.
 ghost use Rattle.std.specs.Prelude.{◌≡◌, ◌<◌, ◌≤◌, ℕ, List, IfOk, IsErrOf, length, string_bytes, false};
 ghost use Rattle.std.specs.List.{flat_map};
+ghost use Rattle.sig_base.specs.Printing.{in_quotes};
 ghost use Rattle.sig_words.specs.Lexemes.{text_at};
-ghost use Rattle.sig_words.specs.Literals.{between_quotes as inner_of, meaning, plain, quoted, text_of};
+ghost use Rattle.sig_words.specs.Literals.{between_quotes, meaning, plain, text_of};
 ghost use Rattle.sig_words.specs.Tokens.{IsTokenOf};
 
 use crate::token::{Token, TokenKind, token_bytes};
-use sig_base::{Text, TextFault};
+use sig_base::{MOST_TEXT, Text, TextFault};
 use std::alloc::{AllocError, Global};
 use std::str;
 
@@ -44,7 +45,7 @@ fn unescape(alloc: Global, inner: &str) -> Result<String, AllocError>
 
 #[tactic(auto, unfolding(crate::specs::Literals::between_quotes))]
 fn between_quotes(text: &[u8]) -> &[u8]
-    ensures { result.now ≡ inner_of text.now }
+    ensures { result.now ≡ between_quotes text.now }
 {
     match text {
         [_, inner @ .., _] => inner,
@@ -53,13 +54,13 @@ fn between_quotes(text: &[u8]) -> &[u8]
 }
 
 /// The text that a literal of this line stands for: `\\`, `\"`, `\n`, `\r` and `\t` between the quotes stand for a backslash,
-/// a quote, LF, CR and a tab, and each other character stands for itself. `Long` where it has more than 1,024 bytes.
+/// a quote, LF, CR and a tab, and each other character stands for itself. `Long` where it has more than `MOST_TEXT` bytes.
 pub fn literal(alloc: Global, line: &[u8], token: &Token) -> Result<Text, TextFault>
     requires of_line { IsTokenOf line.now token.now }
     requires is_literal { token.now.kind ≡ TokenKind.Literal }
-    ensures ok { IfOk result (λ t. t ≡ text_of (inner_of (text_at line.now token.now))) }
-    ensures short { IfOk result (λ t. length t ≤ 1024) }
-    ensures long { IsErrOf result TextFault.Long → 1024 < length (text_of (inner_of (text_at line.now token.now))) }
+    ensures ok { IfOk result (λ t. t ≡ text_of (between_quotes (text_at line.now token.now))) }
+    ensures short { IfOk result (λ t. length t ≤ MOST_TEXT) }
+    ensures long { IsErrOf result TextFault.Long → MOST_TEXT < length (text_of (between_quotes (text_at line.now token.now))) }
 {
     let Ok(inner) = str::from_utf8(between_quotes(token_bytes(line, token))) else {
         unreachable!()
@@ -70,5 +71,5 @@ pub fn literal(alloc: Global, line: &[u8], token: &Token) -> Result<Text, TextFa
 
 /// Each character can be written between quotes: a backslash, a quote, LF, CR and a tab with a backslash, any other as it is.
 pub fn each_character_is_written()
-    ensures { (cs : List ℕ) → plain false (flat_map quoted cs) ≡ cs }
+    ensures { (cs : List ℕ) → plain false (flat_map in_quotes cs) ≡ cs }
 {}

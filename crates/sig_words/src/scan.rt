@@ -1,25 +1,22 @@
 // The token at the front of bytes.
 ghost use Rattle.std.specs.Prelude.{◌≡◌, ◌∷◌, ◌++◌, ◌+◌, ◌<◌, ◌≤◌, ℕ, ℤ, Bool, List, true, false, length, take, drop, MatchOption, IfSome, slice_index, option_map};
 ghost use Rattle.std.specs.List.{list_all};
-ghost use Rattle.sig_base.specs.Words.{begins_word as word_start, in_word as word_byte};
+ghost use Rattle.sig_base.specs.Words.{begins_word, in_tag, in_word};
 ghost use Rattle.sig_words.specs.Scanning.{closing, opens_as};
-ghost use Rattle.sig_words.specs.Tokens.{in_tag as tag_byte, IsSymbol, Form, Ends, IsToken, NoToken};
+ghost use Rattle.sig_words.specs.Tokens.{IsSymbol, Form, Ends, IsToken, NoToken};
 
-use crate::bytes::{in_tag, is_escape, is_one, is_two};
+use crate::bytes::{is_escape, is_one, is_two};
 use crate::number::integer;
 use crate::token::TokenKind;
-use sig_base::{begins_word, in_word};
-
-/// The most bytes that the name of a tag has.
-pub const MOST_TAG: usize = 32;
+use sig_base::{MOST_TAG, begins_word, in_tag, in_word};
 
 // The length of the first byte and the bytes of a word that follow it.
 fn word_run(bytes: &[u8]) -> usize
     requires { 0 < length bytes.now }
     ensures some { 0 < result }
     ensures within { result ≤ length bytes.now }
-    ensures run { list_all word_byte (drop 1 (take result bytes.now)) ≡ true }
-    ensures ends { word_byte (slice_index bytes.now result) ≡ false }
+    ensures run { list_all in_word (drop 1 (take result bytes.now)) ≡ true }
+    ensures ends { in_word (slice_index bytes.now result) ≡ false }
 {
     let mut n = 1;
     while n < bytes.len() && in_word(bytes[n]) {
@@ -33,8 +30,8 @@ fn tag_run(bytes: &[u8]) -> usize
     requires { 0 < length bytes.now }
     ensures some { 0 < result }
     ensures within { result ≤ length bytes.now }
-    ensures run { list_all tag_byte (drop 1 (take result bytes.now)) ≡ true }
-    ensures ends { tag_byte (slice_index bytes.now result) ≡ false }
+    ensures run { list_all in_tag (drop 1 (take result bytes.now)) ≡ true }
+    ensures ends { in_tag (slice_index bytes.now result) ≡ false }
 {
     let mut n = 1;
     while n < bytes.len() && in_tag(bytes[n]) {
@@ -106,7 +103,7 @@ fn second(bytes: &[u8]) -> u8
 
 fn word(bytes: &[u8]) -> usize
     requires some { 0 < length bytes.now }
-    requires begins { word_start (slice_index bytes.now 0) ≡ true }
+    requires begins { begins_word (slice_index bytes.now 0) ≡ true }
     ensures within { (0 < result) × (result ≤ length bytes.now) }
     ensures token { (sign : Bool) → IsToken sign TokenKind.Word (take result bytes.now) (drop result bytes.now) }
 {

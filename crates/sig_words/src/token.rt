@@ -7,7 +7,7 @@ ghost use Rattle.sig_words.specs.Lexemes.{text_at};
 pub enum TokenKind {
     /// An ASCII letter or `_`, then letters, digits and `_`.
     Word,
-    /// `@`, a lower-case letter, then lower-case letters, digits and `-`; at most 32 bytes behind the `@`.
+    /// `@`, a lower-case letter, then lower-case letters, digits and `-`; at most `MOST_TAG` bytes behind the `@`.
     Tag,
     /// A whole number in decimal with no zero to spare, and no letter or `_` right behind it. A `-` right before a digit is its
     /// sign where a space, a tab, `(`, `,` or nothing stands before the `-`, and a symbol elsewhere.

@@ -1,6 +1,6 @@
 use Rattle.std.proofs.Common.{◌≡◌, ◌<◌, ◌≤◌, ◌-◌, length, take, drop, true}
 use Rattle.std.specs.List.{list_all}
-use Rattle.sig_words.specs.Tokens.{in_tag}
+use Rattle.sig_base.specs.Words.{in_tag}
 use Rattle.sig_words.proofs.scan.tag_run.Given as goal
 
 abbrev pub invariant-loop-n : goal.invariant-loop-n
