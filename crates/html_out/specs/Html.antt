@@ -1,8 +1,9 @@
 -- Names and escaping, after the HTML Standard's section on serialising fragments.
-use Rattle.std.specs.Prelude.{ℕ, Bool, false, List, [], ◌∷◌, ◌++◌, ◌==◌, ◌&&◌, ◌||◌, if◌then◌else◌, codes, encode_utf8, length, nat_le}
-use Rattle.std.specs.Char.{is_ascii_digit, is_ascii_lowercase}
-use Rattle.std.specs.List.{flat_map, list_all}
+use Rattle.std.specs.Prelude.{ℕ, Bool, List, ◌++◌, ◌==◌, ◌&&◌, ◌||◌, if◌then◌else◌, codes, encode_utf8, length, nat_le}
+use Rattle.std.specs.List.{flat_map}
 use Rattle.std.specs.Str.{bytes_eq, chars}
+use Rattle.sig_base.specs.declared.limits.TheConstants.{MOST_TAG}
+use Rattle.sig_base.specs.Words.{is_tag}
 
 -- elements that serialise without children and without an end tag
 unfoldable pub is_void : List ℕ → Bool
@@ -17,18 +18,9 @@ unfoldable pub is_raw : List ℕ → Bool
 is_raw n = bytes_eq n (codes "style") || bytes_eq n (codes "script") || bytes_eq n (codes "xmp") || bytes_eq n (codes "iframe")
     || bytes_eq n (codes "noembed") || bytes_eq n (codes "noframes") || bytes_eq n (codes "plaintext")
 
--- a small letter
-abbrev pub begins_name : ℕ → Bool
-begins_name b = is_ascii_lowercase b
-
--- a small letter, a digit or `-`
-abbrev pub in_name : ℕ → Bool
-in_name b = is_ascii_lowercase b || is_ascii_digit b || b == 45
-
--- a name of elements and attributes: a small letter first, small letters, digits and `-`, at most 32 bytes
+-- a name of elements and attributes
 unfoldable pub good_name : List ℕ → Bool
-good_name [] = false
-good_name (b ∷ bs) = begins_name b && list_all in_name (b ∷ bs) && nat_le (length (b ∷ bs)) 32
+good_name n = is_tag n && nat_le (length n) MOST_TAG
 
 -- a character in text
 abbrev pub in_text : ℕ → List ℕ

@@ -7,4 +7,4 @@ mod names;
 mod tests;
 
 pub use escaping::{put_attr, put_text};
-pub use names::{MOST_HTML_NAME, good_name, is_raw, is_void};
+pub use names::{good_name, is_raw, is_void};

@@ -1,15 +1,13 @@
 // Which names there are, and which of them serialise in a way of their own.
 ghost use Rattle.std.specs.Prelude.{◌≡◌};
-ghost use Rattle.std.specs.List.{list_all};
-ghost use Rattle.html_out.specs.Html.{begins_name as name_start, in_name as name_byte, good_name as name_test, is_raw as raw_test, is_void as void_test};
+ghost use Rattle.html_out.specs.Html.{good_name, is_raw, is_void};
 
-/// The most bytes that the name of an element or of an attribute has.
-pub const MOST_HTML_NAME: usize = 32;
+use sig_base::{MOST_TAG, is_tag};
 
 /// Whether an element of this name has neither children nor an end tag when it is serialised (WHATWG HTML, serialising fragments).
 #[tactic(auto, unfolding(crate::specs::Html::is_void))]
 pub fn is_void(name: &str) -> bool
-    ensures { result ≡ void_test name.now }
+    ensures { result ≡ is_void name.now }
 {
     matches!(
         name,
@@ -37,7 +35,7 @@ pub fn is_void(name: &str) -> bool
 /// Whether the texts in an element of this name are written as they are (WHATWG HTML, serialising fragments, scripting disabled).
 #[tactic(auto, unfolding(crate::specs::Html::is_raw))]
 pub fn is_raw(name: &str) -> bool
-    ensures { result ≡ raw_test name.now }
+    ensures { result ≡ is_raw name.now }
 {
     matches!(
         name,
@@ -45,32 +43,11 @@ pub fn is_raw(name: &str) -> bool
     )
 }
 
-fn begins_name(b: u8) -> bool
-    ensures { result ≡ name_start b }
-{
-    b.is_ascii_lowercase()
-}
-
-fn in_name(b: u8) -> bool
-    ensures { result ≡ name_byte b }
-{
-    b.is_ascii_lowercase() || b.is_ascii_digit() || b == b'-'
-}
-
-fn are_in_name(bytes: &[u8]) -> bool
-    ensures { result ≡ list_all name_byte bytes.now }
-{
-    bytes.iter().all(|b| in_name(*b))
-}
-
-/// Whether this is a name of an element or of an attribute: a small letter, then small letters, digits and `-`, at most 32 bytes.
+/// Whether this is a name of an element or of an attribute: a small letter, then small letters, digits and `-`, at most
+/// `MOST_TAG` bytes.
 #[tactic(auto, unfolding(crate::specs::Html::good_name))]
 pub fn good_name(name: &str) -> bool
-    ensures { result ≡ name_test name.now }
+    ensures { result ≡ good_name name.now }
 {
-    let bytes = name.as_bytes();
-    !bytes.is_empty()
-        && begins_name(bytes[0])
-        && are_in_name(bytes)
-        && bytes.len() <= MOST_HTML_NAME
+    is_tag(name.as_bytes()) && name.len() <= MOST_TAG
 }
