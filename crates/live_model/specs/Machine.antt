@@ -4,11 +4,11 @@ use Rattle.std.specs.Option.{option_or, option_map}
 use Rattle.std.specs.Str.{bytes_eq}
 use Rattle.sig_formula.specs.Answering.{scalar_value}
 use Rattle.formula_text.specs.Wiring.{Wiring}
-use Rattle.signal_model.specs.Recipes.{Recipe, formula}
+use Rattle.signal_model.specs.Recipes.{Recipe, formula, no_hosts}
 use Rattle.signal_model.specs.Standing.{Signals, Cell, Computed}
 use Rattle.signal_model.specs.Changes.{no_signals, with_cell, with_computed, with_value}
 use Rattle.signal_model.specs.Values.{value_of}
-use Rattle.signal_scratch.specs.Made.{made}
+use Rattle.signal_model.specs.Changes.{made}
 use Rattle.live_cmd.specs.declared.command.SourceText.{SourceText}
 use Rattle.live_cmd.specs.declared.command.SourceText.TheVariants as source
 use Rattle.live_cmd.specs.declared.command.Command.{Command}
@@ -24,7 +24,7 @@ use Rattle.live_cmd.specs.declared.refusal.Refusal.TheVariants as refusal
 use Rattle.live_model.specs.declared.things.Thing.{Thing}
 use Rattle.live_model.specs.declared.things.Thing.TheVariants as thing
 use Rattle.live_model.specs.declared.things.Page.{Page}
-use Rattle.live_model.specs.Pages.{html_of, no_hosts}
+use Rattle.live_model.specs.Pages.{html_of}
 use Rattle.live_model.specs.Uses.{Names, number_of, first_refusal, uses_of}
 
 -- what the names stand for, in order of making; the signals; the texts of each template; the pages in order of mounting

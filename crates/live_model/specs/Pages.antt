@@ -1,20 +1,14 @@
 -- The HTML of pages, from scratch on the signals.
 use Rattle.std.specs.Prelude.{ℕ, List, [], ◌++◌, codes, unwrap_or}
 use Rattle.std.specs.List.{flat_map}
-use Rattle.sig_base.specs.declared.value.Fault.TheVariants.{Slot}
 use Rattle.sig_base.specs.declared.value.Outcome.{Outcome}
 use Rattle.sig_base.specs.declared.value.Outcome.TheVariants.{Good, Bad}
-use Rattle.sig_base.specs.declared.value.Step.TheVariants.{Fail}
 use Rattle.sig_base.specs.Printing.{fault_name}
 use Rattle.sig_formula.specs.Answering.{shown}
 use Rattle.html_out.specs.Html.{escaped}
-use Rattle.signal_model.specs.Recipes.{Hosts, Recipe}
+use Rattle.signal_model.specs.Recipes.{Recipe, no_hosts}
 use Rattle.signal_model.specs.Standing.{Signals}
 use Rattle.signal_model.specs.Values.{recipe_value}
-
--- no formulas are lent
-abbrev pub no_hosts : Hosts
-no_hosts place known = Fail Slot
 
 -- the text of a text node: the shown text of a scalar, and for rows and faults `#ERR` with the name of the fault
 abbrev pub node_text : Outcome → List ℕ

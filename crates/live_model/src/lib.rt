@@ -12,7 +12,7 @@ mod tests {
     use super::*;
     use sig_base::NodeId;
     use sig_formula::Formula;
-    use signal_scratch::Linked;
+    use signal_model::Linked;
     use std::test::Fail;
 
     #[test]

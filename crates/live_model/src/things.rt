@@ -3,7 +3,7 @@ ghost use Rattle.std.specs.Prelude.{◌≡◌};
 
 use live_cmd::PageBytes;
 use sig_base::{Name, NodeId, PageId};
-use signal_scratch::Linked;
+use signal_model::Linked;
 use std::marker::Model;
 
 /// The formulas of a template's texts, in its order.

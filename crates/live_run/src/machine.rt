@@ -9,7 +9,7 @@ ghost use Rattle.live_cmd.specs.declared.command.Command.TheVariants as command;
 ghost use Rattle.live_cmd.specs.declared.entry.Entry.TheVariants as entry;
 ghost use Rattle.live_model.specs.declared.things.Need.TheVariants as need;
 ghost use Rattle.live_model.specs.Machine.{Machine as PlainMachine, brought_up, done as done_by, empty, linked, news_of, one_too_many, over_limit, recipe_of, refusal_of as refusal_of_command, shown_of, step, template_html as html_of_template, told as told_of, with_name};
-ghost use Rattle.live_model.specs.Pages.{no_hosts};
+ghost use Rattle.signal_model.specs.Recipes.{no_hosts};
 ghost use Rattle.live_model.specs.Uses.{first_refusal, is_of, number_of, refusal_at, thing_of, uses_of, uses_of_formula};
 ghost use Rattle.live_model.specs.declared.things.Thing.TheVariants as thing;
 ghost use Rattle.live_run.specs.Showing.{showing, with_page};
@@ -20,7 +20,8 @@ use indexmap::IndexMap;
 use live_cmd::{Command, Entry, Formulas, Item, LimitWord, PageBytes, Refusal, SourceText};
 use live_model::{Need, Page, Texts, Thing};
 use sig_base::{Name, NoMemory, NodeId, PageId, Scalar, Value};
-use signal_scratch::{Linked, Store, Values};
+use signal_model::Linked;
+use signal_scratch::{Store, Values};
 use std::alloc::Global;
 use std::marker::Model;
 

@@ -11,7 +11,8 @@ use html_out::put_text;
 use live_cmd::{Entry, PageBytes};
 use live_model::{Page, Texts};
 use sig_base::{Fault, NoMemory, Outcome, Value};
-use signal_scratch::{Linked, Store, Values};
+use signal_model::Linked;
+use signal_scratch::{Store, Values};
 use std::alloc::Global;
 
 /// A number as a place in a list, or the last place of all.

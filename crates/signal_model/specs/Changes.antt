@@ -1,5 +1,5 @@
 -- How the signals and what is kept of them change between evaluations.
-use Rattle.std.specs.Prelude.{ℕ, ◌+◌, true, [], ◌∷◌, ◌++◌, Option, Some, None}
+use Rattle.std.specs.Prelude.{ℕ, ◌+◌, true, [], ◌∷◌, ◌++◌, length, Option, Some, None}
 use Rattle.sig_base.specs.declared.value.Value.{Value}
 use Rattle.signal_model.specs.Recipes.{Recipe}
 use Rattle.signal_model.specs.Standing.{Signals, Cell, Computed, changed, without}
@@ -11,6 +11,10 @@ no_signals = record { cells = []; computeds = [] }
 
 abbrev pub no_memos : Memos
 no_memos = record { generation = 0; entries = [] }
+
+-- how many signals were made, where none was disposed: the number of the next one
+abbrev pub made : Signals → ℕ
+made w = length w.cells + length w.computeds
 
 -- a cell is made
 abbrev pub with_cell : Signals → Cell → Signals

@@ -10,7 +10,7 @@ use Rattle.sig_base.specs.declared.value.Step.TheVariants.{Read}
 use Rattle.sig_base.specs.declared.scalar.Scalar.TheVariants as scalar
 use Rattle.sig_formula.specs.declared.formula.BinOp.TheVariants.{Add, Mul}
 use Rattle.sig_formula.specs.Trees.{Tree, literal, slot, binary, choice}
-use Rattle.signal_model.specs.Recipes.{Hosts, Recipe, formula, host}
+use Rattle.signal_model.specs.Recipes.{Hosts, formula_recipe, host}
 use Rattle.signal_model.specs.Standing.{Signals}
 use Rattle.signal_model.specs.Values.{value_of}
 use Rattle.signal_model.specs.Memos.{Memos}
@@ -44,9 +44,6 @@ abbrev pub odd_hosts : Hosts
 odd_hosts zero known = Read 7
 odd_hosts place known = Read 0
 
-abbrev pub of_tree : Tree → List ℕ → Recipe
-of_tree t slots = record { asked = formula t; slots = slots }
-
 abbrev pub show : Run → Shown
 show r = record { name = r.name; reads = names_of r.evaluation.reads; outcome = r.evaluation.outcome }
 
@@ -55,9 +52,9 @@ after_get g s = record { signals = g.signals; memos = s.memos; shown = g.shown +
 
 abbrev pub act : Graph → Act → Graph
 act g (cell n v) = record g { signals = with_cell g.signals (record { name = n; value = v; rule = None }); memos = after_making g.memos n }
-act g (computed n t slots) = record g { signals = with_computed g.signals (record { name = n; recipe = of_tree t slots }); memos = after_making g.memos n }
+act g (computed n t slots) = record g { signals = with_computed g.signals (record { name = n; recipe = formula_recipe t slots }); memos = after_making g.memos n }
 act g (set n v) = record g { signals = with_value g.signals n v; memos = after_change g.memos n }
-act g (rewire n t slots) = record g { signals = with_recipe g.signals n (of_tree t slots); memos = after_rewiring g.memos n }
+act g (rewire n t slots) = record g { signals = with_recipe g.signals n (formula_recipe t slots); memos = after_rewiring g.memos n }
 act g (dispose n) = record g { signals = without_signal g.signals n; memos = after_disposal g.memos n }
 act g (get n) = after_get g (settled odd_hosts g.signals g.memos (n ∷ []))
 

@@ -21,6 +21,14 @@ pub record Recipe : Type 0 where
   pub asked : Asked
   pub slots : List ℕ
 
+-- a formula whose slots stand for these signals
+abbrev pub formula_recipe : Tree → List ℕ → Recipe
+formula_recipe t slots = record { asked = formula t; slots = slots }
+
+-- no host formulas
+abbrev pub no_hosts : Hosts
+no_hosts place known = Fail Slot
+
 -- the answer as it is given
 abbrev pub given_answer : Hosts → Asked → List Known → Step
 given_answer hosts (formula t) known = formulas.answer_of t None known

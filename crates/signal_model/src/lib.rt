@@ -3,8 +3,11 @@
 
 pub mod kept;
 pub mod laws;
+mod linked;
 pub mod order;
 pub mod plain;
 pub mod settle;
 #[cfg(test)]
 mod tests;
+
+pub use linked::Linked;

@@ -18,11 +18,11 @@ use Rattle.signal_model.specs.Values.{Evaluation, after_read, after_step, asked_
 use Rattle.signal_model.proofs.Asking.{asked_by_steps, read_new}
 use Rattle.signal_model.proofs.Formulas.{asks_unknown}
 use Rattle.signal_scratch.specs.Asking.{AreRight, AreSources, Comes, Gives, Goes, IsRest, waiting, within}
-use Rattle.signal_scratch.specs.Links.{recipe_of}
+use Rattle.signal_model.specs.Recipes.{formula_recipe}
 use Rattle.signal_scratch.specs.declared.values.Progress.{Progress}
 
 -- a formula asks for no slot that is known, so only slots outside are faults
-pub answered : (hosts : Hosts) (t : Tree) (slots : List ℕ) (known : List Known) → within (length slots) (formulas.answer_of t None known) ≡ answer_of hosts (recipe_of t slots) known
+pub answered : (hosts : Hosts) (t : Tree) (slots : List ℕ) (known : List Known) → within (length slots) (formulas.answer_of t None known) ≡ answer_of hosts (formula_recipe t slots) known
 answered hosts t slots known = go (formulas.answer_of t None known) refl
   where
     go : (st : Step) → formulas.answer_of t None known ≡ st → within (length slots) st ≡ judged (length slots) known st

@@ -7,7 +7,7 @@ use Rattle.sig_base.specs.declared.value.Value.{Value}
 use Rattle.signal_model.specs.Changes.{with_cell, with_computed, with_value}
 use Rattle.signal_model.specs.Recipes.{Recipe}
 use Rattle.signal_model.specs.Standing.{Cell, IsGone, changed, cell_at, computed_at, or_computed, standing}
-use Rattle.signal_scratch.specs.Made.{made}
+use Rattle.signal_model.specs.Changes.{made}
 use Rattle.signal_scratch.specs.Stores.{cells_from, computeds_from, signals_of, stands_as, is_cell}
 use Rattle.signal_scratch.specs.declared.store.Signal.{Signal}
 use Rattle.signal_scratch.specs.declared.store.Signal.TheVariants as signal

@@ -3,7 +3,7 @@ use Rattle.std.specs.Prelude.{◌≡◌, ℕ, List, [], length, slice_index_or}
 use Rattle.signal_model.specs.Recipes.{Hosts}
 use Rattle.signal_model.specs.Standing.{Signals}
 use Rattle.signal_model.specs.Values.{value_of}
-use Rattle.signal_scratch.specs.Made.{made}
+use Rattle.signal_model.specs.Changes.{made}
 use Rattle.signal_scratch.specs.declared.values.Progress.{Progress}
 use Rattle.signal_scratch.specs.declared.values.Progress.TheVariants.{Waiting, Running, Ended}
 

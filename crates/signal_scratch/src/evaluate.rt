@@ -1,16 +1,17 @@
 // The evaluation of what is asked for, along the reads.
 ghost use Rattle.std.specs.Prelude.{◌≡◌, ◌<◌, length, slice_index, slice_index_or, IfOk, OnOk};
 ghost use Rattle.signal_model.specs.Recipes.{Hosts, answer_of};
-ghost use Rattle.signal_scratch.specs.Made.{made};
+ghost use Rattle.signal_model.specs.Changes.{made};
 ghost use Rattle.signal_scratch.specs.declared.values.Progress.TheVariants.{Waiting};
 ghost use Rattle.signal_scratch.specs.Asking.{Comes, Gives, reached, within};
 
+use crate::Store;
 use crate::store::Signal;
 use crate::table::put;
 use crate::values::Progress;
-use crate::{Linked, Store};
 use sig_base::{Fault, Known, NoMemory, NodeId, Outcome, Step};
 use sig_formula::step;
+use signal_model::Linked;
 use std::alloc::Global;
 
 fn within(count: usize, step: Step) -> Step

@@ -2,13 +2,11 @@
 #![tactic(auto)]
 
 mod evaluate;
-mod linked;
 mod store;
 mod table;
 #[cfg(test)]
 mod tests;
 mod values;
 
-pub use linked::Linked;
 pub use store::Store;
 pub use values::Values;

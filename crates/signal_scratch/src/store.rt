@@ -2,12 +2,12 @@
 ghost use Rattle.std.specs.Prelude.{◌≡◌, ◌<◌, None, IfOk, OnOk, OnErr, IfSome, IfNone};
 ghost use Rattle.signal_model.specs.Changes.{no_signals, with_cell, with_computed, with_value};
 ghost use Rattle.signal_model.specs.Standing.{IsGone, standing};
-ghost use Rattle.signal_scratch.specs.Made.{made};
+ghost use Rattle.signal_model.specs.Changes.{made};
 ghost use Rattle.signal_scratch.specs.Stores.{is_cell, stands_as};
 
-use crate::Linked;
 use crate::table::put;
 use sig_base::{NoMemory, NodeId, Value};
+use signal_model::Linked;
 use std::alloc::Global;
 use std::marker::Model;
 

@@ -1,8 +1,9 @@
 // Each call with ample memory, and values that are evaluated at most once.
 
-use crate::{Linked, Store, Values};
+use crate::{Store, Values};
 use sig_base::{Fault, NoMemory, NodeId, Outcome, Value};
 use sig_formula::{BinOp, Formula};
+use signal_model::Linked;
 use std::alloc::Global;
 use std::test::Fail;
 

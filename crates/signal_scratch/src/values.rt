@@ -5,9 +5,10 @@ ghost use Rattle.signal_model.specs.Values.{recipe_value, value_of};
 ghost use Rattle.signal_scratch.specs.Outcomes.{IsOf};
 ghost use Rattle.signal_scratch.specs.declared.values.Progress.TheVariants.{Waiting};
 
+use crate::Store;
 use crate::evaluate::{ask, evaluate};
-use crate::{Linked, Store};
 use sig_base::{NoMemory, NodeId, Outcome};
+use signal_model::Linked;
 use std::alloc::Global;
 use std::marker::Model;
 

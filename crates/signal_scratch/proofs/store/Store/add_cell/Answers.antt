@@ -1,7 +1,7 @@
 use Rattle.std.proofs.Common.{◌≡◌, length, None, sym, ap, ◌∙◌, arith}
 use Rattle.signal_model.specs.Changes.{with_cell}
 use Rattle.signal_model.specs.Standing.{Signals}
-use Rattle.signal_scratch.specs.Made.{made}
+use Rattle.signal_model.specs.Changes.{made}
 use Rattle.signal_scratch.specs.Stores.{signals_of}
 use Rattle.signal_scratch.proofs.Stores.{cell_made, made_all}
 use Rattle.signal_scratch.proofs.store.Store.add_cell.Goals as goal

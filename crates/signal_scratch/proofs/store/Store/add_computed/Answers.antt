@@ -1,7 +1,7 @@
 use Rattle.std.proofs.Common.{◌≡◌, length, sym, ap, ◌∙◌, arith}
 use Rattle.signal_model.specs.Changes.{with_computed}
 use Rattle.signal_model.specs.Standing.{Signals}
-use Rattle.signal_scratch.specs.Made.{made}
+use Rattle.signal_model.specs.Changes.{made}
 use Rattle.signal_scratch.specs.Stores.{signals_of}
 use Rattle.signal_scratch.proofs.Stores.{computed_made, made_all}
 use Rattle.signal_scratch.proofs.store.Store.add_computed.Goals as goal

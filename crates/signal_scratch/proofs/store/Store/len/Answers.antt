@@ -1,5 +1,5 @@
 use Rattle.std.proofs.Common.{◌≡◌, length, sym, ap, ◌∙◌, arith}
-use Rattle.signal_scratch.specs.Made.{made}
+use Rattle.signal_model.specs.Changes.{made}
 use Rattle.signal_scratch.proofs.Stores.{made_all}
 use Rattle.signal_scratch.proofs.store.Store.len.Goals as goal
 

@@ -1,6 +1,6 @@
 use Rattle.std.proofs.Common.{◌≡◌, ◌<◌, ◌≤◌, length, get_or, sym, ap, ◌∙◌, arith}
 use Rattle.signal_model.specs.Standing.{Signals, standing}
-use Rattle.signal_scratch.specs.Made.{made}
+use Rattle.signal_model.specs.Changes.{made}
 use Rattle.signal_scratch.specs.Stores.{stands_as}
 use Rattle.signal_scratch.proofs.Stores.{gone_past, made_all, stands_at}
 use Rattle.signal_scratch.proofs.store.Store.signal.Goals as goal

@@ -13,8 +13,7 @@ pub struct Linked {
 
 impl Model for Linked {
     ghost use Rattle.sig_formula.specs.Trees.{tree};
-    ghost use Rattle.signal_scratch.specs.Links.{recipe_of};
-    ghost use Rattle.signal_model.specs.Recipes.{Recipe};
+    ghost use Rattle.signal_model.specs.Recipes.{Recipe, formula_recipe};
     ghost use Rattle.sig_formula.specs.Coding.{tree_code};
     ghost use Rattle.std.specs.Coded.{codes};
 
@@ -22,5 +21,5 @@ impl Model for Linked {
 
     ghost coded = { Prim.hlevel (codes, tree_code) };
 
-    ghost view = { λ f. recipe_of (tree f.formula) f.slots.items };
+    ghost view = { λ f. formula_recipe (tree f.formula) f.slots.items };
 }
