@@ -4,7 +4,7 @@ use Rattle.std.specs.Option.{option_or, option_map}
 use Rattle.std.specs.Str.{bytes_eq}
 use Rattle.sig_formula.specs.Answering.{scalar_value}
 use Rattle.formula_text.specs.Wiring.{Wiring}
-use Rattle.signal_model.specs.Recipes.{Recipe, formula, no_hosts}
+use Rattle.signal_model.specs.Recipes.{Recipe, formula_recipe, no_hosts}
 use Rattle.signal_model.specs.Standing.{Signals, Cell, Computed}
 use Rattle.signal_model.specs.Changes.{no_signals, with_cell, with_computed, with_value}
 use Rattle.signal_model.specs.Values.{value_of}
@@ -48,7 +48,7 @@ told m es = record { machine = m; entries = es }
 
 -- a formula whose slots stand for the signals of its names
 abbrev pub linked : Names → Wiring → Recipe
-linked names w = record { asked = formula w.0; slots = map (number_of names) w.1 }
+linked names w = formula_recipe w.0 (map (number_of names) w.1)
 
 abbrev pub recipe_of : Names → SourceText → Recipe
 recipe_of names (source.Formula w) = linked names w

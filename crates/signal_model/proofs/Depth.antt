@@ -2,12 +2,14 @@
 use Rattle.std.proofs.Common.{◌⊎◌, inl, inr, ◌≡◌, ℕ, suc, ◌==◌, Bool, true, false, cond, List, [], ◌∷◌, Option, Some, None, refl, sym, ap, ◌∙◌, arith}
 use Rattle.std.proofs.lemmas.Bool.{eqb-true, eq-eqb}
 use Rattle.std.proofs.lemmas.Bool.Decides.{nat_tests}
-use Rattle.signal_model.specs.Standing.{Signals, Computed, Cell, Stands, IsGone, IsCell, IsComputed, is_in, computed_at, cell_at, or_computed, standing}
+use Rattle.signal_model.specs.Standing.{Signals, Computed, Cell, Stands, IsGone, IsCell, IsComputed, is_in, computed_at, cell_at, or_computed}
+use Rattle.signal_model.specs.Standing.{standing}
 use Rattle.signal_model.specs.Values.{value_within, value_case, asked_from, evaluated, names_left}
 use Rattle.signal_model.specs.Laws.{ValueByCases}
 
 -- a test at a head
-chosen : {A : Type 0} (b : Bool) (x : A) (o : Option A) (c : A) → cond b (Some x) o ≡ Some c → ((b ≡ true) × (x ≡ c)) ⊎ ((b ≡ false) × (o ≡ Some c))
+pub chosen : {A : Type 0} (b : Bool) (x : A) (o : Option A) (c : A) → cond b (Some x) o ≡ Some c →
+    ((b ≡ true) × (x ≡ c)) ⊎ ((b ≡ false) × (o ≡ Some c))
 chosen true x o c h = inl (refl, cc)
 chosen false x o c h = inr (refl, h)
 
@@ -45,7 +47,9 @@ left-here n (d ∷ ds) path c h off =
           rw (f, r) (omega arith)
     ]
   where
-    again : n ≡ d.name → (o : Option Computed) → computed_at n ds ≡ o → ((x : Computed) → computed_at n ds ≡ Some x → names_left ds path ≡ suc (names_left ds (n ∷ path))) → names_left (d ∷ ds) path ≡ suc (names_left (d ∷ ds) (n ∷ path))
+    again : n ≡ d.name → (o : Option Computed) → computed_at n ds ≡ o →
+        ((x : Computed) → computed_at n ds ≡ Some x → names_left ds path ≡ suc (names_left ds (n ∷ path))) →
+        names_left (d ∷ ds) path ≡ suc (names_left (d ∷ ds) (n ∷ path))
     again e None new below =
         let r : names_left ds (n ∷ path) ≡ names_left ds path = left-other n ds path new in
         let f : (d.name == n) ≡ true = eq-eqb d.name n (sym e) in

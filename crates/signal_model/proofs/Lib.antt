@@ -1,8 +1,7 @@
+pub mod Tests
 pub mod Asking
 pub mod Depth
 pub mod Paths
 pub mod Visits
 pub mod Formulas
-pub mod Turns
-pub mod Walks
-pub mod Settles
+pub mod Marks

@@ -9,6 +9,7 @@ use Rattle.signal_model.specs.Memos.{Memo, Entry, Memos}
 abbrev pub no_signals : Signals
 no_signals = record { cells = []; computeds = [] }
 
+-- and nothing is kept
 abbrev pub no_memos : Memos
 no_memos = record { generation = 0; entries = [] }
 
@@ -32,6 +33,7 @@ after_making k n = record k { entries = k.entries ++ record { name = n; number =
 abbrev pub with_value : Signals → ℕ → Value → Signals
 with_value w n v = record w { cells = changed (λ (c : Cell). c.name) n (λ c. record c { value = v }) w.cells }
 
+-- an entry with the next number
 abbrev pub raised : Entry → Entry
 raised e = record e { number = e.number + 1 }
 
@@ -43,10 +45,12 @@ after_change k n = record { generation = k.generation + 1; entries = changed (λ
 abbrev pub with_recipe : Signals → ℕ → Recipe → Signals
 with_recipe w n r = record w { computeds = changed (λ (c : Computed). c.name) n (λ c. record c { recipe = r }) w.computeds }
 
+-- a memo, if there is one, is of an earlier recipe
 abbrev pub memo_rewired : Option Memo → Option Memo
 memo_rewired None = None
 memo_rewired (Some m) = Some (record m { rewired = true })
 
+-- an entry with the next number, and its memo
 abbrev pub entry_rewired : Entry → Entry
 entry_rewired e = record e { number = e.number + 1; memo = memo_rewired e.memo }
 

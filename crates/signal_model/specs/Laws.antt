@@ -1,20 +1,24 @@
 -- Laws over the definitions.
-use Rattle.std.specs.Prelude.{◌≡◌, ℕ, ◌<◌, true, false, List, [], ◌∷◌, length, ◌⊎◌, None}
+use Rattle.std.specs.Prelude.{◌≡◌, ℕ, ◌<◌, ◌||◌, true, false, List, [], ◌∷◌, ◌++◌, length, ◌⊎◌, Option}
 use Rattle.sig_base.specs.declared.value.Known.{Known}
 use Rattle.sig_base.specs.declared.value.Outcome.{Outcome}
 use Rattle.sig_base.specs.declared.value.Outcome.TheVariants.{Bad}
 use Rattle.sig_base.specs.declared.value.Fault.TheVariants.{Cycle}
 use Rattle.sig_formula.specs.Trees.{Tree, has_slot}
-use Rattle.sig_formula.specs.Answering as formulas
-use Rattle.signal_model.specs.Recipes.{Hosts, Recipe, formula, answer_of}
+use Rattle.sig_formula.specs.declared.formula.RowRef.{RowRef}
+use Rattle.sig_formula.specs.Answering.{answer_of}
+use Rattle.signal_model.specs.Recipes.{Hosts, Recipe, formula, recipe_answer}
 use Rattle.signal_model.specs.Standing.{Signals, Computed, IsComputed, is_in, standing}
 use Rattle.signal_model.specs.Values.{Seen, learnt, after_step, asked_from, value_of, value_case, evaluated, reads_of}
-use Rattle.signal_model.specs.Orders.{visited, evaluation_order}
+use Rattle.signal_model.specs.Orders.{Visit, visited, visits, visit_case, visit, evaluation_order}
+use Rattle.signal_model.specs.Memos.{Memos}
+use Rattle.signal_model.specs.Marks.{HasDueBelow, Mark, IsMark, due_below, mark_of}
+use Rattle.signal_model.specs.Kept.{OnlyComputedsKeep}
 
 -- a recipe is asked as far as its answers say, with no bound in sight
 abbrev pub AskedBySteps : Type 0
 AskedBySteps = (hosts : Hosts) (r : Recipe) (source : ℕ → Outcome) (known : List Known) →
-    asked_from hosts r source known ≡ after_step (answer_of hosts r known) r.slots source (λ s v. asked_from hosts r source (learnt known s v))
+    asked_from hosts r source known ≡ after_step (recipe_answer hosts r known) r.slots source (λ s v. asked_from hosts r source (learnt known s v))
 
 -- the four cases of a value, with no bound in sight
 abbrev pub ValueByCases : Type 0
@@ -48,12 +52,19 @@ pub data Leads (hosts : Hosts) (w : Signals) : ℕ → ℕ → Type 0 where
 
 -- what stands on a cycle of reads, or leads to one, has the fault `cycle`, by whatever path it is read
 abbrev pub CycleLaw : Type 0
-CycleLaw = (hosts : Hosts) (w : Signals) (n m : ℕ) (path : List ℕ) → (n ≡ m) ⊎ Leads hosts w n m → Leads hosts w m m → value_of hosts w n path ≡ Bad Cycle
+CycleLaw = (hosts : Hosts) (w : Signals) (n m : ℕ) (path : List ℕ) → (n ≡ m) ⊎ Leads hosts w n m → Leads hosts w m m →
+    value_of hosts w n path ≡ Bad Cycle
 
 -- no name stands twice
 abbrev pub AreDistinct : List ℕ → Type 0
 AreDistinct [] = Unit {0}
 AreDistinct (n ∷ ns) = (is_in n ns ≡ false) × AreDistinct ns
+
+-- the cases of a visit, with no bound in sight: first what the computed reads, and then itself
+abbrev pub VisitByCases : Type 0
+VisitByCases = (hosts : Hosts) (w : Signals) (path : List ℕ) (n : ℕ) (done : List Visit) →
+    visit hosts w path n done ≡ visit_case (standing w n) (is_in n path || is_in n (visited done)) done
+    (λ c. visits (visit hosts w (n ∷ path)) (reads_of hosts w c) done ++ record { computed = c; path = path } ∷ [])
 
 -- the order of evaluation names each computed once
 abbrev pub OrderLaw : Type 0
@@ -61,5 +72,26 @@ OrderLaw = (hosts : Hosts) (w : Signals) (asked : List ℕ) → AreDistinct (vis
 
 -- a formula whose slots have names answers as it is written: it asks for no slot outside, and for none that is known
 abbrev pub FormulaLaw : Type 0
-FormulaLaw = (hosts : Hosts) (t : Tree) (slots : List ℕ) (known : List Known) → ((s : ℕ) → has_slot s t ≡ true → s < length slots) →
-    answer_of hosts (record { asked = formula t; slots = slots }) known ≡ formulas.answer_of t None known
+FormulaLaw = (hosts : Hosts) (t : Tree) (row : Option RowRef) (slots : List ℕ) (known : List Known) →
+    ((s : ℕ) → has_slot s t ≡ true → s < length slots) →
+    recipe_answer hosts (record { expression = formula row t; slots = slots }) known ≡ answer_of t row known
+
+-- ---- what is kept below
+
+-- what the search for a computed that must run finds, it finds within as many steps as there are computeds
+abbrev pub SearchLaw : Type 0
+SearchLaw = (w : Signals) (k : Memos) (far n : ℕ) → OnlyComputedsKeep w k → due_below far w k n ≡ true → due_below (length w.computeds) w k n ≡ true
+
+-- the search answers yes exactly where one is kept below
+pub record Searches (w : Signals) (k : Memos) (n : ℕ) : Type 0 where
+  pub found : due_below (length w.computeds) w k n ≡ true → HasDueBelow w k n
+  pub finds : HasDueBelow w k n → due_below (length w.computeds) w k n ≡ true
+
+-- so it does at each name
+abbrev pub BelowLaw : Type 0
+BelowLaw = (w : Signals) (k : Memos) (n : ℕ) → OnlyComputedsKeep w k → Searches w k n
+
+-- each computed has the mark that is found, and no other
+abbrev pub MarkLaw : Type 0
+MarkLaw = (w : Signals) (k : Memos) (n : ℕ) (mark : Mark) → OnlyComputedsKeep w k →
+    IsMark w k n (mark_of w k n) × (IsMark w k n mark → mark ≡ mark_of w k n)

@@ -6,8 +6,8 @@ pub mod Memos
 pub mod Settling
 pub mod Marks
 pub mod Sound
+pub mod Kept
 pub mod Changes
 pub mod Asks
-pub mod Plain
 pub mod Examples
 pub mod Laws

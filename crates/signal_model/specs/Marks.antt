@@ -1,16 +1,36 @@
 -- How a signal stands while nothing is evaluated.
-use Rattle.std.specs.Prelude.{ℕ, zero, suc, ◌||◌, ◌&&◌, Bool, false, List, [], ◌∷◌, length, if◌then◌else◌}
+use Rattle.std.specs.Prelude.{◌≡◌, ℕ, zero, suc, ◌||◌, ◌&&◌, Bool, true, false, List, [], ◌∷◌, length, if◌then◌else◌}
 use Rattle.signal_model.specs.Standing.{Signals, is_computed, standing}
-use Rattle.signal_model.specs.Memos.{Source, Memos, must_run, sources_of}
+use Rattle.signal_model.specs.Memos.{Source, Memos, keeps, must_run, sources_of}
 
--- `Dirty` must run, `Checked` keeps something that must, perhaps far below, and `Clean` is neither
-pub data Mark : Type 0 where
-  Clean Checked Dirty : Mark
+-- what is kept below a name: the sources that it keeps, those that they keep, and so on
+pub data IsBelow (k : Memos) : ℕ → ℕ → Type 0 where
+  kept : {n m : ℕ} → keeps k n m ≡ true → IsBelow k n m
+  kept_below : {n p m : ℕ} → keeps k n p ≡ true → IsBelow k p m → IsBelow k n m
 
 -- a computed that must run
 abbrev pub is_due : Signals → Memos → ℕ → Bool
 is_due w k n = is_computed (standing w n) && must_run k n []
 
+-- a computed that must run is kept below a name
+pub record HasDueBelow (w : Signals) (k : Memos) (n : ℕ) : Type 0 where
+  pub name : ℕ
+  pub below : IsBelow k n name
+  pub due : is_due w k name ≡ true
+
+-- `Dirty` must run, `Checked` keeps something that must, perhaps far below, and `Clean` is neither
+pub data Mark : Type 0 where
+  Clean Checked Dirty : Mark
+
+-- whether a computed has the mark
+abbrev pub IsMark : Signals → Memos → ℕ → Mark → Type 0
+IsMark w k n Dirty = must_run k n [] ≡ true
+IsMark w k n Checked = (must_run k n [] ≡ false) × HasDueBelow w k n
+IsMark w k n Clean = (must_run k n [] ≡ false) × ((m : ℕ) → IsBelow k n m → is_due w k m ≡ false)
+
+-- ---- how a mark is found
+
+-- some name of the sources passes a test
 abbrev pub some_source : (ℕ → Bool) → List Source → Bool
 some_source f [] = false
 some_source f (s ∷ ss) = f s.name || some_source f ss

@@ -9,6 +9,7 @@ pub record Visit : Type 0 where
   pub computed : Computed
   pub path : List ℕ
 
+-- the names of the visited
 abbrev pub visited : List Visit → List ℕ
 visited vs = map (λ (v : Visit). v.computed.name) vs
 
@@ -29,6 +30,8 @@ visit_within (suc depth) hosts w path n done =
     visit_case (standing w n) (is_in n path || is_in n (visited done)) done
     (λ c. visits (visit_within depth hosts w (n ∷ path)) (reads_of hosts w c) done ++ record { computed = c; path = path } ∷ [])
 
+-- A visit of a name, come to by a path of computeds that are being visited. Below a computed one name fewer is left, so the bound is
+-- never met.
 abbrev pub visit : Hosts → Signals → List ℕ → ℕ → List Visit → List Visit
 visit hosts w path n done = visit_within (suc (names_left w.computeds path)) hosts w path n done
 
@@ -37,5 +40,6 @@ abbrev pub order_after : Hosts → Signals → List ℕ → List Visit → List 
 order_after hosts w [] done = done
 order_after hosts w (n ∷ ns) done = order_after hosts w ns (visit hosts w [] n done)
 
+-- the computeds that asking for these names evaluates, in order
 abbrev pub evaluation_order : Hosts → Signals → List ℕ → List Visit
 evaluation_order hosts w asked = order_after hosts w asked []

@@ -6,7 +6,7 @@ use Rattle.signal_model.specs.Recipes.{Hosts}
 use Rattle.signal_model.specs.Standing.{Signals, changed}
 use Rattle.signal_model.specs.Values.{Seen, Evaluation, evaluated}
 use Rattle.signal_model.specs.Orders.{Visit, evaluation_order}
-use Rattle.signal_model.specs.Memos.{Source, Memo, Entry, Memos, number_of, must_run}
+use Rattle.signal_model.specs.Memos.{Source, Memo, Entry, Memos, named_now, must_run}
 
 -- a computed that ran, and how
 pub record Run : Type 0 where
@@ -18,9 +18,9 @@ pub record Settled : Type 0 where
   pub memos : Memos
   pub runs : List Run
 
--- a source with its present number
+-- what was read, with its present number
 abbrev pub source_now : Memos → Seen → Source
-source_now k s = record { name = s.name; number = number_of k s.name }
+source_now k s = named_now k s.name
 
 -- whether a memo has the outcome already
 abbrev pub has_outcome : Option Memo → Outcome → Bool
@@ -31,9 +31,13 @@ has_outcome (Some m) o = same_outcome m.outcome o
 abbrev pub ran_entry : Memo → Entry → Entry
 ran_entry m e = record e { number = e.number + (if has_outcome e.memo m.outcome then 0 else 1); memo = Some m }
 
+-- the memo of a run at present
+abbrev pub memo_now : Memos → Outcome → List Source → Memo
+memo_now k o sources = record { outcome = o; sources = sources; generation = k.generation; rewired = false }
+
+-- what is kept once a computed has a new memo
 abbrev pub with_memo : Memos → ℕ → Outcome → List Source → Memos
-with_memo k n o sources =
-    record k { entries = changed (λ (e : Entry). e.name) n (ran_entry (record { outcome = o; sources = sources; generation = k.generation; rewired = false })) k.entries }
+with_memo k n o sources = record k { entries = changed (λ (e : Entry). e.name) n (ran_entry (memo_now k o sources)) k.entries }
 
 -- a run: its outcome and its sources are those from scratch
 abbrev pub with_run : Memos → ℕ → Evaluation → Memos
@@ -49,6 +53,7 @@ settle_visit hosts w v s =
     })
     else s
 
+-- the visits, one after the other
 abbrev pub settle_visits : Hosts → Signals → List Visit → Settled → Settled
 settle_visits hosts w [] s = s
 settle_visits hosts w (v ∷ vs) s = settle_visits hosts w vs (settle_visit hosts w v s)

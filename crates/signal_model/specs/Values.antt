@@ -7,7 +7,7 @@ use Rattle.sig_base.specs.declared.value.Step.{Step}
 use Rattle.sig_base.specs.declared.value.Step.TheVariants.{Read, Done, Fail}
 use Rattle.sig_base.specs.declared.value.Outcome.{Outcome}
 use Rattle.sig_base.specs.declared.value.Outcome.TheVariants.{Good, Bad}
-use Rattle.signal_model.specs.Recipes.{Hosts, Recipe, answer_of, is_known}
+use Rattle.signal_model.specs.Recipes.{Hosts, Recipe, recipe_answer, is_known}
 use Rattle.signal_model.specs.Standing.{Computed, Signals, Stands, IsGone, IsCell, IsComputed, is_computed, is_in, computed_at, or_gone, standing}
 
 -- a source that was read, and its outcome
@@ -28,6 +28,10 @@ ended o = record { reads = []; outcome = o }
 abbrev pub read_first : Seen → Evaluation → Evaluation
 read_first s rest = record { reads = s ∷ rest.reads; outcome = rest.outcome }
 
+-- an evaluation that has read some sources before
+abbrev pub prefixed : List Seen → Evaluation → Evaluation
+prefixed ss e = record { reads = ss ++ e.reads; outcome = e.outcome }
+
 -- a fault of a source ends the reader with that fault, and with a good value it goes on
 abbrev pub after_read : ℕ → Outcome → (Value → Evaluation) → Evaluation
 after_read m (Bad e) go = read_first (record { name = m; outcome = Bad e }) (ended (Bad e))
@@ -47,7 +51,7 @@ learnt known s v = known ++ record { slot = s; value = v } ∷ []
 abbrev pub asked_within : ℕ → Hosts → Recipe → (ℕ → Outcome) → List Known → Evaluation
 asked_within zero hosts r source known = ended (Bad Cycle)
 asked_within (suc turns) hosts r source known =
-    after_step (answer_of hosts r known) r.slots source (λ s v. asked_within turns hosts r source (learnt known s v))
+    after_step (recipe_answer hosts r known) r.slots source (λ s v. asked_within turns hosts r source (learnt known s v))
 
 -- how many of the first so many slots aren't known
 abbrev pub unknown_slots : ℕ → List Known → ℕ
@@ -89,6 +93,10 @@ evaluated hosts w c path = asked_from hosts c.recipe (λ m. value_of hosts w m (
 abbrev pub reads_of : Hosts → Signals → Computed → List Seen
 reads_of hosts w c = (evaluated hosts w c []).reads
 
--- what a recipe comes to that belongs to no signal, such as the formula of a line of a template
+-- the evaluation of a recipe that belongs to no signal, such as the formula of a line of a template
+abbrev pub recipe_evaluation : Hosts → Signals → Recipe → Evaluation
+recipe_evaluation hosts w r = asked_from hosts r (λ m. value_of hosts w m []) []
+
+-- what it comes to
 abbrev pub recipe_value : Hosts → Signals → Recipe → Outcome
-recipe_value hosts w r = (asked_from hosts r (λ m. value_of hosts w m []) []).outcome
+recipe_value hosts w r = (recipe_evaluation hosts w r).outcome

@@ -1,6 +1,6 @@
 // The evaluation of what is asked for, along the reads.
 ghost use Rattle.std.specs.Prelude.{◌≡◌, ◌<◌, length, slice_index, slice_index_or, IfOk, OnOk};
-ghost use Rattle.signal_model.specs.Recipes.{Hosts, answer_of};
+ghost use Rattle.signal_model.specs.Recipes.{Hosts, recipe_answer};
 ghost use Rattle.signal_model.specs.Changes.{made};
 ghost use Rattle.signal_scratch.specs.declared.values.Progress.TheVariants.{Waiting};
 ghost use Rattle.signal_scratch.specs.Asking.{Comes, Gives, reached, within};
@@ -31,7 +31,7 @@ fn within(count: usize, step: Step) -> Step
 
 // What a formula over signals answers to the values of its slots that are known so far.
 fn answer(alloc: Global, linked: &Linked, known: &[Known]) -> Result<Step, NoMemory>
-    ensures { IfOk result (λ s. (hosts : Hosts) → s ≡ answer_of hosts linked.now known.now) }
+    ensures { IfOk result (λ s. (hosts : Hosts) → s ≡ recipe_answer hosts linked.now known.now) }
 {
     let answered = step(alloc, &linked.formula, None, known)?;
     Ok(within(linked.slots.len(), answered))

@@ -5,8 +5,7 @@ use Rattle.sig_base.specs.declared.value.Known.{Known}
 use Rattle.sig_base.specs.declared.value.Outcome.{Outcome}
 use Rattle.sig_base.specs.declared.value.Outcome.TheVariants.{Good, Bad}
 use Rattle.sig_base.specs.declared.value.Step.TheVariants.{Read, Fail}
-use Rattle.signal_model.specs.Plain.{IsNew}
-use Rattle.signal_model.specs.Recipes.{Hosts, answer_of}
+use Rattle.signal_model.specs.Recipes.{Hosts, IsUnknownSlot, recipe_answer}
 use Rattle.signal_model.specs.Standing.{IsComputed, standing}
 use Rattle.signal_model.specs.Values.{learnt, unknown_slots}
 use Rattle.signal_model.proofs.Asking.{unknown_less}
@@ -21,16 +20,16 @@ use Rattle.signal_scratch.proofs.evaluate.+evaluation.Goals as goal
 pub ask-source-requires : goal.ask-source-requires
 ask-source-requires t c =
     let hosts : Hosts = λ place known. Fail Slot in
-    let asks : answer_of hosts c.args.linked.now c.asking.known.items ≡ Read c.in-Read.slot =
-    sym (sym c.in-Read.is ∙ c.in_ok-slot.ensures hosts ∙ ap (answer_of hosts c.args.linked.now) c.deref.ensures.value) in
+    let asks : recipe_answer hosts c.args.linked.now c.asking.known.items ≡ Read c.in-Read.slot =
+    sym (sym c.in-Read.is ∙ c.in_ok-slot.ensures hosts ∙ ap (recipe_answer hosts c.args.linked.now) c.deref.ensures.value) in
     (asks_new hosts c.args.linked.now c.asking.known.items c.in-Read.slot asks).inside
 
 pub ask-asking-smaller : goal.ask-asking-smaller
 ask-asking-smaller t c =
     let hosts : Hosts = λ place known. Fail Slot in
-    let asks : answer_of hosts c.args.linked.now c.asking.known.items ≡ Read c.in-Read.slot =
-    sym (sym c.in-Read.is ∙ c.in_ok-slot.ensures hosts ∙ ap (answer_of hosts c.args.linked.now) c.deref.ensures.value) in
-    let new : IsNew (length c.args.linked.now.slots) c.in-Read.slot c.asking.known.items = asks_new hosts c.args.linked.now c.asking.known.items c.in-Read.slot asks in
+    let asks : recipe_answer hosts c.args.linked.now c.asking.known.items ≡ Read c.in-Read.slot =
+    sym (sym c.in-Read.is ∙ c.in_ok-slot.ensures hosts ∙ ap (recipe_answer hosts c.args.linked.now) c.deref.ensures.value) in
+    let new : IsUnknownSlot (length c.args.linked.now.slots) c.in-Read.slot c.asking.known.items = asks_new hosts c.args.linked.now c.asking.known.items c.in-Read.slot asks in
     let fewer : unknown_slots (length c.args.linked.now.slots) c.asking.known.items
     ≡ suc (unknown_slots (length c.args.linked.now.slots) (learnt c.asking.known.items c.in-Read.slot c.in-Good.value)) =
     unknown_less (length c.args.linked.now.slots) c.in-Read.slot c.in-Good.value c.asking.known.items new in
@@ -46,7 +45,7 @@ ask-asking-preserved t c =
     (subst (λ (o : Outcome). Comes c.args.store.now c.source.result c.asking.outcomes c.evaluate.new.outcomes o) c.in-Good.is c.in_ok-value.ensures) in
     subst (λ (ks : List Known). Goes c.args.store.now c.args.linked.now ks c.args.outcomes.now c.evaluate.new.outcomes) (sym c.in_ok-push-in-Good.ensures.items)
     (goes_on c.args.store.now c.args.linked.now c.asking.known.items c.args.outcomes.now c.asking.outcomes c.evaluate.new.outcomes c.in-Read.slot c.in-Good.value c.asking.invariant
-    (λ hosts. sym c.in-Read.is ∙ c.in_ok-slot.ensures hosts ∙ ap (answer_of hosts c.args.linked.now) c.deref.ensures.value) comes)
+    (λ hosts. sym c.in-Read.is ∙ c.in_ok-slot.ensures hosts ∙ ap (recipe_answer hosts c.args.linked.now) c.deref.ensures.value) comes)
 
 pub ask-returns-in-Bad : goal.ask-returns-in-Bad
 ask-returns-in-Bad t c =
@@ -54,7 +53,7 @@ ask-returns-in-Bad t c =
     subst (λ (n : ℕ). Comes c.args.store.now n c.asking.outcomes c.evaluate.new.outcomes (Bad c.in-Bad.fault)) c.source.ensures
     (subst (λ (o : Outcome). Comes c.args.store.now c.source.result c.asking.outcomes c.evaluate.new.outcomes o) c.in-Bad.is c.in_ok-value.ensures) in
     ends_by c.args.store.now c.args.linked.now c.asking.known.items c.args.outcomes.now c.asking.outcomes c.evaluate.new.outcomes c.in-Read.slot c.in-Bad.fault c.asking.invariant
-    (λ hosts. sym c.in-Read.is ∙ c.in_ok-slot.ensures hosts ∙ ap (answer_of hosts c.args.linked.now) c.deref.ensures.value) comes
+    (λ hosts. sym c.in-Read.is ∙ c.in_ok-slot.ensures hosts ∙ ap (recipe_answer hosts c.args.linked.now) c.deref.ensures.value) comes
 
 pub evaluate-returns-in-Some : goal.evaluate-returns-in-Some
 evaluate-returns-in-Some t c =
