@@ -14,7 +14,7 @@ use Rattle.sig_words.specs.declared.token.TokenKind.{TokenKind}
 use Rattle.sig_words.specs.declared.token.TokenKind.TheVariants as kind
 use Rattle.sig_words.specs.Lexemes.{lexeme, lexeme_of, lexemes}
 use Rattle.sig_words.specs.Tokens.{is_two, Form, IsToken, Cuts, may_sign}
-use Rattle.sig_words.proofs.Fronts.{index_drop}
+use Rattle.sig_words.proofs.Shared.{index_drop}
 use Rattle.formula_text.specs.Signs.{Leaf, Sign, sign, signs, word_sign, symbol_sign}
 use Rattle.formula_text.specs.Signs as t
 use Rattle.formula_text.specs.Grammar.{Written, single, group, untrack, negated, chain, pick, spelled}

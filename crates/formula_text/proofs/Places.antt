@@ -6,7 +6,7 @@ use Rattle.std.proofs.lemmas.Option.{slice_get_within, slice_get-get_or, get_or_
 use Rattle.std.proofs.lemmas.Bool.{and_parts}
 use Rattle.std.specs.Str.{IsUtf8}
 use Rattle.sig_base.specs.Words.{is_name, is_word, is_reserved}
-use Rattle.sig_words.proofs.EachToken.{word_utf8}
+use Rattle.sig_words.proofs.Shared.{word_utf8}
 use Rattle.sig_words.specs.declared.token.TokenKind.TheVariants as kind
 use Rattle.sig_formula.specs.declared.formula.BinOp.{BinOp}
 use Rattle.formula_text.specs.Grammar.{Draft}

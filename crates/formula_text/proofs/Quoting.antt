@@ -14,7 +14,7 @@ use Rattle.sig_words.specs.declared.token.TokenKind.TheVariants as kind
 use Rattle.sig_words.specs.Literals.{plain, text_of, between_quotes}
 use Rattle.sig_words.specs.Literals as by_characters
 use Rattle.sig_words.specs.Tokens.{is_inner}
-use Rattle.sig_words.proofs.LiteralLaws.{each_written, between-quoted}
+use Rattle.sig_words.proofs.Shared.{each_written, between-quoted}
 use Rattle.formula_text.specs.Signs.{constant}
 use Rattle.formula_text.specs.Signs as t
 use Rattle.formula_text.specs.Lexing.{IsOneToken}

@@ -21,9 +21,7 @@ use Rattle.sig_words.specs.declared.token.TokenKind.TheVariants as kind
 use Rattle.sig_words.specs.Lexemes.{Lexeme, lexeme, lexeme_of, lexemes, text_at}
 use Rattle.sig_words.specs.Literals.{meaning, plain, text_of, between_quotes}
 use Rattle.sig_words.specs.Tokens.{Form, AreTokens, IsTokenOf}
-use Rattle.sig_words.proofs.EachToken.{each_token}
-use Rattle.sig_words.proofs.Fronts.{IsNumeric, numeric}
-use Rattle.sig_words.proofs.LiteralLaws.{literal_utf8}
+use Rattle.sig_words.proofs.Shared.{each_token, IsNumeric, numeric, literal_utf8}
 use Rattle.formula_text.specs.declared.wired.Allow.{Allow}
 use Rattle.formula_text.specs.Signs.{Leaf, Sign, name, constant, sign, signs, word_sign, symbol_sign, NoOperator}
 use Rattle.formula_text.specs.Signs as t

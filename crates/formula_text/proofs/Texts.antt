@@ -13,8 +13,7 @@ use Rattle.sig_words.specs.declared.token.Token.{Token}
 use Rattle.sig_words.specs.declared.token.TokenKind.TheVariants as kind
 use Rattle.sig_words.specs.Lexemes.{lexemes}
 use Rattle.sig_words.specs.Tokens.{AreTokens, Cuts, may_sign}
-use Rattle.sig_words.proofs.Fronts.{numeric}
-use Rattle.sig_words.proofs.Cuttings.{one_cutting}
+use Rattle.sig_words.proofs.Shared.{numeric, one_cutting}
 use Rattle.formula_text.specs.Signs.{Leaf, Sign, name, constant, signs, word_sign}
 use Rattle.formula_text.specs.Signs as t
 use Rattle.formula_text.specs.Grammar.{Draft, Spells, IsFormula, spelled}

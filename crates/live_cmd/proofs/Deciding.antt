@@ -5,7 +5,7 @@ use Rattle.std.proofs.lemmas.Bool.{cases_Bool}
 use Rattle.sig_words.specs.declared.token.Token.{Token}
 use Rattle.sig_words.specs.Lexemes.{lexemes}
 use Rattle.sig_words.specs.Tokens.{AreTokens}
-use Rattle.sig_words.proofs.Deciding.{tokens_or_none}
+use Rattle.sig_words.proofs.Shared.{tokens_or_none}
 use Rattle.script_lines.specs.Lines.{NumberedLine}
 use Rattle.script_lines.specs.Pieces.{Piece, pieces_of}
 use Rattle.live_cmd.specs.declared.command.Item.{Item}

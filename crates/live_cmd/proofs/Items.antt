@@ -7,7 +7,7 @@ use Rattle.formula_text.specs.declared.wired.FormulaFault.{FormulaFault}
 use Rattle.formula_text.specs.declared.wired.FormulaFault.TheVariants as fault
 use Rattle.script_lines.specs.Lines.{NumberedLine, EndsLine, kept_lines, lines}
 use Rattle.script_lines.specs.Pieces.{Piece, outside, pieces_of, place_after}
-use Rattle.script_lines.proofs.Cutting.{script_cut}
+use Rattle.script_lines.proofs.Shared.{script_cut}
 use Rattle.live_cmd.specs.declared.line.Line.{Line}
 use Rattle.live_cmd.specs.declared.judge.ReadLine.{ReadLine}
 use Rattle.live_cmd.specs.declared.command.Item.{Item}

@@ -10,8 +10,7 @@ use Rattle.sig_base.specs.Words.{is_name, is_word, is_reserved}
 use Rattle.sig_words.specs.declared.token.Token.{Token}
 use Rattle.sig_words.specs.Lexemes.{Lexeme, word, tag, number, literal, symbol, lexemes}
 use Rattle.sig_words.specs.Tokens.{AreTokens, IsBad}
-use Rattle.sig_words.proofs.Cuttings.{one_cutting, no_cutting}
-use Rattle.sig_words.proofs.EachToken.{word_utf8}
+use Rattle.sig_words.proofs.Shared.{one_cutting, no_cutting, word_utf8}
 use Rattle.formula_text.specs.Grammar.{Draft}
 use Rattle.live_cmd.specs.declared.line.Found.{Found}
 use Rattle.live_cmd.specs.Grammar.{Said, NameSpells, ScalarSpells, Spells, Writes, a_cell, a_set, a_computed, a_get, a_template, a_text, a_close, a_mount, a_show, a_flush}

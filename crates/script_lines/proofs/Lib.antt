@@ -1,2 +1,3 @@
-pub mod Cutting
-pub mod Reading
+mod Cutting
+mod Reading
+pub mod Shared

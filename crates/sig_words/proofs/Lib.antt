@@ -1,7 +1,8 @@
-pub mod Cuttings
-pub mod Deciding
-pub mod EachToken
-pub mod Fronts
-pub mod LexemeLaws
-pub mod LiteralLaws
-pub mod Numbers
+mod Cuttings
+mod Deciding
+mod EachToken
+mod Fronts
+mod LexemeLaws
+mod LiteralLaws
+mod Numbers
+pub mod Shared

@@ -12,7 +12,7 @@ use Rattle.signal_model.specs.Values.{learnt, value_of, reads_of}
 use Rattle.signal_model.specs.Memos.{Source, Memo, Entry, Memos, entry_at, number_in, memo_in, number_of, memo_of, source_names, same_number, is_cycle, differs, some_moved, must_run_by, must_run}
 use Rattle.signal_model.specs.Sound.{outcome_here, standing_outcome, AfterSource, Unless, Follows, IsPast, ArePast, names_of, Keeps, IsKeptPath, IsSound}
 use Rattle.signal_model.specs.Changes.{no_signals, no_memos, with_value, raised, after_change, with_recipe, memo_rewired, entry_rewired, after_rewiring, without_signal, after_disposal}
-use Rattle.signal_model.proofs.Paths.{tested}
+use Rattle.signal_model.proofs.Shared.{tested}
 use Rattle.signal_laws.specs.Keeping.{HaveEntries, EmptyLaw, SetLaw, RewireLaw, DisposeLaw}
 use Rattle.signal_laws.proofs.Entries.{entry_other, entry_same, cell_other, computed_other, cell_there, entry_out, entry_left, cell_left, computed_left, cell_out, computed_out}
 use Rattle.signal_laws.proofs.Bools.{or_fst, or_snd, not_false}

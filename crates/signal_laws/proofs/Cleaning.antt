@@ -11,8 +11,7 @@ use Rattle.signal_model.specs.Settling.{Settled, with_run, settle_visits}
 use Rattle.signal_model.specs.Marks.{Clean, Checked, Dirty, mark_of, is_due, some_source, due_below}
 use Rattle.signal_model.specs.Sound.{outcome_here, standing_outcome, names_of, IsKeptPath, IsSound}
 use Rattle.signal_model.specs.Laws.{IsRead, Reads, IsChain, one}
-use Rattle.signal_model.proofs.Paths.{tested, name_is, left_less, value_run, value_gone, value_cell, path_law, no_loop, goes_on, chain_goes}
-use Rattle.signal_model.proofs.Visits.{visit_by_cases}
+use Rattle.signal_model.proofs.Shared.{tested, name_is, left_less, value_run, value_gone, value_cell, path_law, no_loop, goes_on, chain_goes, visit_by_cases}
 use Rattle.signal_laws.specs.Settled.{IsRight, CleanLaw}
 use Rattle.signal_laws.proofs.Changing.{Calm, calm_of, some_is}
 use Rattle.signal_laws.proofs.Following.{IsRun, follows_run, in_head, in_tail}

@@ -18,7 +18,7 @@ use Rattle.signal_model.specs.Memos.{Memos, must_run}
 use Rattle.signal_model.specs.Settling.{Run, Settled, with_run, settle_visit, settle_visits}
 use Rattle.signal_model.specs.Sound.{standing_outcome}
 use Rattle.signal_model.specs.Laws.{IsRead, Reads, Leads, one}
-use Rattle.signal_model.proofs.Paths.{cycle_law, value_run, goes_on, chain_goes}
+use Rattle.signal_model.proofs.Shared.{cycle_law, value_run, goes_on, chain_goes}
 use Rattle.signal_laws.specs.Currency.{IsCurrent, settled_first, IsCurrentRun, CurrencyLaw}
 use Rattle.signal_laws.proofs.Cleaning.{right_source, read_value}
 use Rattle.signal_laws.proofs.Ordering.{Placed, AreOrdered, seen_after, order_is}

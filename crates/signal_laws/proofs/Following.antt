@@ -14,7 +14,7 @@ use Rattle.signal_model.specs.Values.{Evaluation, learnt, after_read, after_step
 use Rattle.signal_model.specs.Memos.{Source, Memos, source_names, differs, some_moved}
 use Rattle.signal_model.specs.Sound.{standing_outcome, EndsWith, AfterSource, Unless, Follows, names_of}
 use Rattle.signal_model.specs.Laws.{IsRead}
-use Rattle.signal_model.proofs.Asking.{asked_by_steps}
+use Rattle.signal_model.proofs.Shared.{asked_by_steps}
 use Rattle.signal_laws.proofs.Bools.{or_fst, or_snd, or_right}
 
 -- an evaluation read these sources and no other, and came to the outcome

@@ -4,7 +4,7 @@ use Rattle.std.proofs.lemmas.Bool.{eqb-true}
 use Rattle.signal_model.specs.Standing.{Signals, is_in}
 use Rattle.signal_model.specs.Memos.{Source, Memos, memo_of, sources_in, source_names, is_cycle, differs, some_moved, must_run_by, must_run}
 use Rattle.signal_model.specs.Sound.{kept_outcome, Keeps, IsKeptPath}
-use Rattle.signal_model.proofs.Paths.{tested}
+use Rattle.signal_model.proofs.Shared.{tested}
 use Rattle.signal_laws.specs.Keepers.{HasSource, IsSourcePath, IsBroken, KeptCycleLaw, KeptPathLaw, EvaluatedSourceLaw}
 use Rattle.signal_laws.proofs.Changing.{Calm, calm_of}
 use Rattle.signal_laws.proofs.Following.{in_head, in_tail}

@@ -15,7 +15,7 @@ use Rattle.signal_model.specs.Values.{Evaluation, learnt, read_first, after_read
 use Rattle.signal_model.specs.Memos.{Source, Memo, Entry, Memos, entry_at, number_in, memo_in, number_of, memo_of, source_names, same_number}
 use Rattle.signal_model.specs.Sound.{outcome_here, IsPast, ArePast, names_of}
 use Rattle.signal_model.specs.Changes.{with_cell, with_computed, after_making}
-use Rattle.signal_model.proofs.Paths.{tested, is_cycle-true, left_less, value_run, value_in, value_gone, value_cell}
+use Rattle.signal_model.proofs.Shared.{tested, is_cycle-true, left_less, value_run, value_in, value_gone, value_cell}
 use Rattle.signal_laws.specs.Keeping.{AreKept, IsNew, CellLaw, ComputedLaw}
 use Rattle.signal_laws.proofs.Changing.{AllStay, change_keeps, same_memo}
 use Rattle.signal_laws.proofs.Bools.{or_fst, or_snd}

@@ -6,8 +6,7 @@ use Rattle.signal_model.specs.Standing.{Signals, Computed, Stands, IsGone, IsCel
 use Rattle.signal_model.specs.Values.{Seen, reads_of, names_left}
 use Rattle.signal_model.specs.Orders.{Visit, visited, visits, visit_case, visit, order_after}
 use Rattle.signal_model.specs.Laws.{IsRead, IsChain}
-use Rattle.signal_model.proofs.Paths.{tested, name_is, left_less}
-use Rattle.signal_model.proofs.Visits.{visit_by_cases}
+use Rattle.signal_model.proofs.Shared.{tested, name_is, left_less, visit_by_cases}
 use Rattle.signal_laws.proofs.Following.{in_head}
 use Rattle.signal_laws.proofs.Bools.{or_fst, or_snd, either, or_left, or_right}
 

@@ -16,7 +16,7 @@ use Rattle.signal_model.specs.Memos.{Source, Memo, Entry, Memos, entry_at, numbe
 use Rattle.signal_model.specs.Settling.{source_now, has_outcome, ran_entry, with_memo}
 use Rattle.signal_model.specs.Sound.{kept_outcome, outcome_here, standing_outcome, EndsWith, AfterSource, Unless, Follows, IsPast, ArePast, names_of, Keeps, IsKeptPath, IsSound}
 use Rattle.signal_model.specs.Laws.{IsRead}
-use Rattle.signal_model.proofs.Paths.{tested}
+use Rattle.signal_model.proofs.Shared.{tested}
 use Rattle.signal_laws.specs.Keeping.{HaveEntries}
 use Rattle.signal_laws.proofs.Entries.{entry_other, entry_same}
 use Rattle.signal_laws.proofs.Changing.{Calm, calm_of, Stays, all_stay, above, moved_back, some_is}

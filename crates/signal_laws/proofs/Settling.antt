@@ -10,7 +10,7 @@ use Rattle.signal_model.specs.Memos.{Source, Memo, Entry, Memos, entry_at, memo_
 use Rattle.signal_model.specs.Settling.{Settled, source_now, with_run, settle_visit, settle_visits, settled}
 use Rattle.signal_model.specs.Sound.{Follows, ArePast, names_of, Keeps, IsSound}
 use Rattle.signal_model.specs.Laws.{IsRead, Reads, Leads, one}
-use Rattle.signal_model.proofs.Paths.{tested, value_run, no_loop, goes_on, chain_goes}
+use Rattle.signal_model.proofs.Shared.{tested, value_run, no_loop, goes_on, chain_goes}
 use Rattle.signal_laws.specs.Keeping.{AreKept}
 use Rattle.signal_laws.specs.Settled.{IsRight}
 use Rattle.signal_laws.specs.Settling.{SettleLaw, AskedLaw, AgainLaw}

@@ -1,7 +1,8 @@
-pub mod Tests
-pub mod Asking
-pub mod Depth
-pub mod Paths
-pub mod Visits
-pub mod Formulas
-pub mod Marks
+mod Tests
+mod Asking
+mod Depth
+mod Paths
+mod Visits
+mod Formulas
+mod Marks
+pub mod Shared

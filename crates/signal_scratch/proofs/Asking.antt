@@ -14,8 +14,7 @@ use Rattle.signal_model.specs.Laws.{IsChain, IsRead}
 use Rattle.signal_model.specs.Recipes.{Hosts, IsUnknownSlot, Recipe, formula_recipe, given_answer, judged, recipe_answer}
 use Rattle.signal_model.specs.Standing.{Signals}
 use Rattle.signal_model.specs.Values.{Evaluation, after_read, after_step, asked_from, learnt}
-use Rattle.signal_model.proofs.Asking.{asked_by_steps, read_new}
-use Rattle.signal_model.proofs.Formulas.{asks_unknown}
+use Rattle.signal_model.proofs.Shared.{asked_by_steps, read_new, asks_unknown}
 use Rattle.signal_scratch.specs.Asking.{AreRight, AreSources, Comes, Gives, Goes, IsRest, waiting, within}
 use Rattle.signal_scratch.specs.declared.values.Progress.{Progress}
 

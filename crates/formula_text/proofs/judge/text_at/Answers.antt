@@ -1,5 +1,5 @@
 use Rattle.sig_words.specs.declared.token.TokenKind.TheVariants as kind
-use Rattle.sig_words.proofs.EachToken.{each_token}
+use Rattle.sig_words.proofs.Shared.{each_token}
 use Rattle.formula_text.proofs.Places.{at_place, literal_place}
 use Rattle.formula_text.proofs.judge.text_at.Goals as goal
 

@@ -1,4 +1,4 @@
-use Rattle.sig_words.proofs.EachToken.{each_token}
+use Rattle.sig_words.proofs.Shared.{each_token}
 use Rattle.live_cmd.proofs.reading.spelled.Goals as goal
 
 pub of_few-requires : goal.of_few-requires

@@ -8,7 +8,7 @@ use Rattle.sig_base.specs.declared.value.Step.TheVariants.{Read, Fail}
 use Rattle.signal_model.specs.Recipes.{Hosts, IsUnknownSlot, recipe_answer}
 use Rattle.signal_model.specs.Standing.{IsComputed, standing}
 use Rattle.signal_model.specs.Values.{learnt, unknown_slots}
-use Rattle.signal_model.proofs.Asking.{unknown_less}
+use Rattle.signal_model.proofs.Shared.{unknown_less}
 use Rattle.signal_scratch.specs.Asking.{Comes, Gives, Goes, reached, waiting}
 use Rattle.signal_scratch.specs.Stores.{stands_as}
 use Rattle.signal_scratch.specs.declared.values.Progress.{Progress}
