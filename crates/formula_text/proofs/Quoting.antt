@@ -12,7 +12,6 @@ use Rattle.sig_base.specs.declared.scalar.Scalar.TheVariants as scalar
 use Rattle.sig_base.specs.Printing.{in_quotes, quoted}
 use Rattle.sig_words.specs.declared.token.TokenKind.TheVariants as kind
 use Rattle.sig_words.specs.Literals.{plain, text_of, between_quotes}
-use Rattle.sig_words.specs.Literals as by_characters
 use Rattle.sig_words.specs.Tokens.{is_inner}
 use Rattle.sig_words.proofs.Shared.{each_written, between-quoted}
 use Rattle.formula_text.specs.Signs.{constant}
@@ -47,7 +46,7 @@ high_character c big = high_bytes (encode c) (λ k within. elim (cases_lt (get_o
 ])
 
 -- what is written of an ASCII character is ASCII
-written_ascii : (c : ℕ) → c < 128 → encode_utf8_all (by_characters.quoted c) ≡ by_characters.quoted c
+written_ascii : (c : ℕ) → c < 128 → encode_utf8_all (in_quotes c) ≡ in_quotes c
 unfolding encode
 written_ascii c small = elim (cases_Bool (c == 92)) [
   | inl e ↦ rw (eqb-true c 92 e) refl
@@ -67,20 +66,20 @@ written_ascii c small = elim (cases_Bool (c == 92)) [
 ]
 
 -- by bytes and by characters the same is written of a character
-one_character : (c : ℕ) → flat_map in_quotes (encode c) ≡ encode_utf8_all (by_characters.quoted c)
+one_character : (c : ℕ) → flat_map in_quotes (encode c) ≡ encode_utf8_all (in_quotes c)
 one_character c = elim (cases_lt c 128) [
   | inl small ↦ ap (flat_map in_quotes) (encode_ascii c small) ∙ append-nil (in_quotes c) ∙ sym (written_ascii c small)
   | inr big ↦ high_character c big ∙ sym (append-nil (encode c)) ∙ ap encode_utf8_all (sym (high_byte c big))
 ]
 
-by_bytes : (cs : List ℕ) → flat_map in_quotes (encode_utf8_all cs) ≡ encode_utf8_all (flat_map by_characters.quoted cs)
+by_bytes : (cs : List ℕ) → flat_map in_quotes (encode_utf8_all cs) ≡ encode_utf8_all (flat_map in_quotes cs)
 by_bytes [] = refl
 by_bytes (c ∷ cs) =
     flat_map-append in_quotes (encode c) (encode_utf8_all cs)
     ∙ ap₂ (λ (x y : List ℕ). x ++ y) (one_character c) (by_bytes cs)
-    ∙ sym (encodes-append (by_characters.quoted c) (flat_map by_characters.quoted cs))
+    ∙ sym (encodes-append (in_quotes c) (flat_map in_quotes cs))
 
-written_scalar : (c : ℕ) (cs : List ℕ) → is_scalar c ≡ true → scalars cs ≡ true → scalars (by_characters.quoted c ++ cs) ≡ true
+written_scalar : (c : ℕ) (cs : List ℕ) → is_scalar c ≡ true → scalars cs ≡ true → scalars (in_quotes c ++ cs) ≡ true
 written_scalar c cs s r = elim (cases_Bool (c == 92)) [
   | inl e ↦ rw (eqb-true c 92 e) r
   | inr e ↦ elim (cases_Bool (c == 34)) [
@@ -95,11 +94,11 @@ written_scalar c cs s r = elim (cases_Bool (c == 92)) [
   ]
 ]
 
-written_scalars : (cs : List ℕ) → scalars cs ≡ true → scalars (flat_map by_characters.quoted cs) ≡ true
+written_scalars : (cs : List ℕ) → scalars cs ≡ true → scalars (flat_map in_quotes cs) ≡ true
 written_scalars [] h = refl
 written_scalars (c ∷ cs) h =
     let p = and_parts (is_scalar c) (scalars cs) h in
-    written_scalar c (flat_map by_characters.quoted cs) p.0 (written_scalars cs p.1)
+    written_scalar c (flat_map in_quotes cs) p.0 (written_scalars cs p.1)
 
 -- ---- what stands between the quotes
 
@@ -109,15 +108,15 @@ quote = (34 ∷ [], (refl, refl))
 
 inner_utf8 : (text : List ℕ) → IsUtf8 text → IsUtf8 (flat_map in_quotes text)
 inner_utf8 text u =
-    (flat_map by_characters.quoted u.0, (written_scalars u.0 u.1.0, sym (by_bytes u.0) ∙ ap (flat_map in_quotes) u.1.1))
+    (flat_map in_quotes u.0, (written_scalars u.0 u.1.0, sym (by_bytes u.0) ∙ ap (flat_map in_quotes) u.1.1))
 
 -- it stands for the text
 inner_says : (text : List ℕ) → IsUtf8 text → text_of (flat_map in_quotes text) ≡ text
 unfolding text_of
 inner_says text u =
-    let written : flat_map in_quotes text ≡ encode_utf8_all (flat_map by_characters.quoted u.0) = ap (flat_map in_quotes) (sym u.1.1) ∙ by_bytes u.0 in
-    let characters : chars (flat_map in_quotes text) ≡ flat_map by_characters.quoted u.0 =
-    ap chars written ∙ chars-encodes (flat_map by_characters.quoted u.0) (written_scalars u.0 u.1.0) in
+    let written : flat_map in_quotes text ≡ encode_utf8_all (flat_map in_quotes u.0) = ap (flat_map in_quotes) (sym u.1.1) ∙ by_bytes u.0 in
+    let characters : chars (flat_map in_quotes text) ≡ flat_map in_quotes u.0 =
+    ap chars written ∙ chars-encodes (flat_map in_quotes u.0) (written_scalars u.0 u.1.0) in
     ap (λ (cs : List ℕ). encode_utf8_all (plain false cs)) characters ∙ ap encode_utf8_all (each_written u.0) ∙ u.1.1
 
 bare : (b : ℕ) (bs : List ℕ) → (b == 92) ≡ false → (b == 34) ≡ false → is_inner false (b ∷ bs) ≡ is_inner false bs

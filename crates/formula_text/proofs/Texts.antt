@@ -7,6 +7,7 @@ use Rattle.std.specs.Int.RustNames.{FitsSigned}
 use Rattle.std.proofs.Math.Seq.{drop-length}
 use Rattle.std.proofs.lemmas.Bool.{and_parts}
 use Rattle.std.proofs.lemmas.List.{append-nil}
+use Rattle.sig_base.specs.declared.limits.TheConstants.{MOST_NAME}
 use Rattle.sig_base.specs.Words.{in_word, is_name, is_word, is_reserved}
 use Rattle.sig_base.specs.declared.scalar.Scalar.TheVariants as scalar
 use Rattle.sig_words.specs.declared.token.Token.{Token}
@@ -77,8 +78,8 @@ name_says n h name-is =
 pub name_token : (n : List ℕ) → is_name n ≡ true → IsOneToken (name n)
 unfolding is_name
 name_token n h =
-    let front = and_parts (is_word n && nat_le (length n) 32) (not (is_reserved n)) h in
-    let word = (and_parts (is_word n) (nat_le (length n) 32) front.0).0 in
+    let front = and_parts (is_word n && nat_le (length n) MOST_NAME) (not (is_reserved n)) h in
+    let word = (and_parts (is_word n) (nat_le (length n) MOST_NAME) front.0).0 in
     record { kind_is = kind.Word; plain = tt; form = word; some = word_long n word; says = name_says n (is_false (is_reserved n) front.1) h }
 
 pub truth_token : (b : Bool) → IsOneToken (constant (scalar.Bool b))

@@ -20,6 +20,7 @@ minimal asked (binary o x y) = grouped (level o) asked (chain o (minimal (before
 minimal asked (choice w x y) = grouped 0 asked (pick (minimal 0 w) (minimal 0 x) (minimal 0 y))
 minimal asked (untracked x) = untrack (minimal 0 x)
 
+-- how an operator is written
 abbrev pub operator_text : BinOp → List ℕ
 operator_text op.Or = codes "or"
 operator_text op.And = codes "and"
@@ -36,6 +37,7 @@ operator_text op.Mul = codes "*"
 operator_text op.Div = codes "/"
 operator_text op.Rem = codes "%"
 
+-- how a leaf is written
 abbrev pub leaf_text : Leaf → List ℕ
 leaf_text (name n) = n
 leaf_text (constant s) = printed_scalar s
@@ -66,8 +68,10 @@ unslotted ns (tree.binary o x y) = binary o (unslotted ns x) (unslotted ns y)
 unslotted ns (tree.choice w x y) = choice (unslotted ns w) (unslotted ns x) (unslotted ns y)
 unslotted ns (tree.untracked x) = untracked (unslotted ns x)
 
+-- the parenthesis before a group, where there is one
 abbrev pub opened : Bool → List ℕ
 opened b = if b then codes "(" else []
 
+-- the parenthesis behind it
 abbrev pub shut : Bool → List ℕ
 shut b = if b then codes ")" else []

@@ -9,16 +9,20 @@ use Rattle.formula_text.specs.Grammar.{Draft, leaf, negation, binary, choice, un
 abbrev pub Part : Type 0
 Part = Draft × ℕ × List Sign
 
+-- reads what is of a rule or a tighter one, from the signs that are left
 abbrev pub Reader : Type 0
 Reader = ℕ → List Sign → Option Part
 
+-- a formula in parentheses, once the closing one stands there
 abbrev pub closed_at : Draft → List Sign → Option Part
 closed_at x (t.closing ∷ ts) = Some (x, 8, ts)
 closed_at x _ = None
 
+-- the same of a part
 abbrev pub closed : Part → Option Part
 closed p = closed_at p.0 p.2
 
+-- the same of a part behind `untrack`
 abbrev pub untrack_closed : Part → Option Part
 untrack_closed p = closed_at (untracked p.0) p.2
 
@@ -27,9 +31,11 @@ abbrev pub untrack_at : Reader → List Sign → Option Part
 untrack_at read (t.opening ∷ ts) = option_and_then untrack_closed (read 0 ts)
 untrack_at read _ = None
 
+-- the part with `not` before it
 abbrev pub negate : Part → Option Part
 negate p = Some (negation p.0, 3, p.2)
 
+-- the choice, once its last branch is read
 abbrev pub chosen : Draft → Draft → Part → Option Part
 chosen x y p = Some (choice x y p.0, 0, p.2)
 
@@ -38,6 +44,7 @@ abbrev pub else_at : Reader → Draft → Draft → List Sign → Option Part
 else_at read x y (t.else_word ∷ ts) = option_and_then (chosen x y) (read 0 ts)
 else_at read x y _ = None
 
+-- the same of a part
 abbrev pub after_branch : Reader → Draft → Part → Option Part
 after_branch read x p = else_at read x p.0 p.2
 
@@ -46,6 +53,7 @@ abbrev pub then_at : Reader → Draft → List Sign → Option Part
 then_at read x (t.then_word ∷ ts) = option_and_then (after_branch read x) (read 0 ts)
 then_at read x _ = None
 
+-- the same of a part
 abbrev pub after_test : Reader → Part → Option Part
 after_test read p = then_at read p.0 p.2
 
@@ -62,6 +70,7 @@ head read least (t.not_word ∷ ts) = if nat_le least 3 then option_and_then neg
 head read least (t.if_word ∷ ts) = if nat_le least 0 then choice_at read ts else None
 head read least _ = None
 
+-- whether an operator may stand behind a part of a rule, where another rule is asked for
 abbrev pub goes_on : BinOp → ℕ → ℕ → Bool
 goes_on o least so_far = nat_le least (level o) && nat_le (before o) so_far
 
@@ -75,6 +84,7 @@ abbrev pub tail_at : Reader → (Part → Part) → ℕ → Part → List Sign �
 tail_at read again least p (t.operator o ∷ ts) = if goes_on o least p.1 then extended again o p (read (level o + 1) ts) else p
 tail_at read again least p _ = p
 
+-- as many operators as there may be turns
 unfoldable pub tail : Reader → ℕ → ℕ → Part → Part
 tail read zero least p = p
 tail read (suc n) least p = tail_at read (tail read n least) least p p.2

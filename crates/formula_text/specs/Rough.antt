@@ -1,5 +1,5 @@
 -- Formulas whose leaves are places of tokens.
-use Rattle.std.specs.Prelude.{◌≡◌, ℕ, ◌<◌, true, List, [], length, drop, slice_get, Option, Some, None, IfSome}
+use Rattle.std.specs.Prelude.{◌≡◌, ℕ, ◌<◌, ◌≤◌, true, List, [], length, drop, slice_get, Option, Some, None, IfSome}
 use Rattle.sig_base.specs.Words.{is_name}
 use Rattle.sig_base.specs.declared.scalar.Scalar.TheVariants as scalar
 use Rattle.sig_words.specs.declared.token.Token.{Token}
@@ -13,11 +13,13 @@ use Rattle.formula_text.specs.declared.sign.Sign.TheVariants as seen
 use Rattle.formula_text.specs.Signs.{Sign, name, constant, signs}
 use Rattle.formula_text.specs.Signs as t
 use Rattle.formula_text.specs.Grammar.{Draft, leaf, negation, binary, choice, untracked}
+use Rattle.formula_text.specs.Reading.{Part}
 
 -- the text between the quotes of a literal
 abbrev pub inside : List ℕ → List ℕ
 inside text = text_of (between_quotes text)
 
+-- the bytes of a token, if there is one
 abbrev pub bytes_of : List ℕ → Option Token → List ℕ
 bytes_of line None = []
 bytes_of line (Some t) = text_at line t
@@ -26,6 +28,7 @@ bytes_of line (Some t) = text_at line t
 abbrev pub bytes_at : List ℕ → List Token → ℕ → List ℕ
 bytes_at line tokens place = bytes_of line (slice_get tokens place)
 
+-- a literal stands at the place
 abbrev pub IsLiteralAt : List Token → ℕ → Type 0
 IsLiteralAt tokens place = IfSome (slice_get tokens place) (λ t. t.kind ≡ kind.Literal)
 
@@ -82,3 +85,17 @@ IsSeenAt line tokens place _ = Unit {0}
 -- the signs from a place on
 unfoldable pub signs_from : List ℕ → List Token → ℕ → List Sign
 signs_from line tokens at = signs (lexemes line (drop at tokens))
+
+-- what was read of the tokens: a formula, its rule, and the place after it
+abbrev pub RoughPart : Type 0
+RoughPart = Rough × ℕ × ℕ
+
+-- the same of the signs
+abbrev pub part_of : List ℕ → List Token → RoughPart → Part
+part_of line tokens p = (draft line tokens p.0, p.1, signs_from line tokens p.2)
+
+-- what was read from a place on ends at a later place, within the tokens, and its names and texts stand at tokens of their kinds
+pub record IsPartFrom (line : List ℕ) (tokens : List Token) (at : ℕ) (p : RoughPart) : Type 0 where
+  pub shorter : length (signs_from line tokens p.2) < length (signs_from line tokens at)
+  pub within : p.2 ≤ length tokens
+  pub leaves : HasLeaves line tokens p.0

@@ -13,6 +13,7 @@ pub data Leaf : Type 0 where
   name : List ℕ → Leaf
   constant : Scalar → Leaf
 
+-- what a token is in a formula
 pub data Sign : Type 0 where
   leaf : Leaf → Sign
   operator : BinOp → Sign
@@ -68,6 +69,7 @@ sign (number z) = leaf (constant (scalar.Int z))
 sign (literal t) = leaf (constant (scalar.Text t))
 sign (symbol s) = symbol_sign s
 
+-- the same of each token
 abbrev pub signs : List Lexeme → List Sign
 signs ls = map sign ls
 

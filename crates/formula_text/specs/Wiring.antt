@@ -1,5 +1,6 @@
 -- Formulas with slots and names, and when there are none.
 use Rattle.std.specs.Prelude.{◌≡◌, ℕ, ◌-◌, ◌<◌, ◌≤◌, nat_lt, Bool, true, not, ◌&&◌, if◌then◌else◌, List, length, drop, Option, Some, None}
+use Rattle.sig_base.specs.declared.limits.TheConstants.{MOST_HEIGHT, MOST_SOURCES}
 use Rattle.sig_base.specs.declared.text.TextFault.{TextFault}
 use Rattle.sig_base.specs.declared.text.TextFault.TheVariants as text_fault
 use Rattle.sig_formula.specs.Trees.{Tree}
@@ -25,9 +26,9 @@ wired x = (slotted (names x) x, names x)
 abbrev pub refusal : Allow → Draft → Option FormulaFault
 refusal allow x =
     if has_untrack x && not allow.untrack then Some fault.UntrackHere
-    else if is_above 64 x then Some fault.Nest
+    else if is_above MOST_HEIGHT x then Some fault.Nest
     else if has_long_text x then Some fault.TextLong
-    else if nat_lt 64 (length (names x)) then Some fault.Sources
+    else if nat_lt MOST_SOURCES (length (names x)) then Some fault.Sources
     else None
 
 -- why a formula that was read has no wiring

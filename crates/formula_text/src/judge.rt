@@ -3,20 +3,19 @@ ghost use Rattle.std.specs.Prelude.{◌≡◌, ◌<◌, ◌≤◌, ℕ, List, tr
 ghost use Rattle.std.specs.List.{list_any};
 ghost use Rattle.std.specs.Str.{bytes_eq};
 ghost use Rattle.sig_base.specs.Words.{is_name};
-ghost use Rattle.sig_words.specs.declared.token.Token.{Token as AToken};
 ghost use Rattle.sig_words.specs.Tokens.{AreTokens};
 ghost use Rattle.formula_text.specs.Rough.{bytes_at, draft, inside, HasLeaves, IsLiteralAt};
-ghost use Rattle.formula_text.specs.Judging.{has_long_text as long_test, has_untrack as untrack_test, is_above as above_test, with_name, with_names};
+ghost use Rattle.formula_text.specs.Judging.{has_untrack, is_above, with_name, with_names};
 
 use crate::rough::Rough;
-use sig_base::{Name, NameFault, NoMemory, Text, TextFault};
+use sig_base::{MOST_TEXT, Name, NameFault, NoMemory, Text, TextFault};
 use sig_words::{Token, literal, token_bytes};
 use std::alloc::Global;
 use std::str;
 
 /// Whether an `untrack` stands in it.
 pub fn has_untrack(rough: &Rough) -> bool
-    ensures { (line : List ℕ) (tokens : List AToken) → result ≡ untrack_test (draft line tokens rough.now) }
+    ensures { (line : List ℕ) (tokens : List Token) → result ≡ has_untrack (draft line tokens rough.now) }
 {
     match rough {
         Rough::Name(_) | Rough::Text(_) | Rough::Number(_) | Rough::Truth(_) => false,
@@ -31,8 +30,8 @@ pub fn has_untrack(rough: &Rough) -> bool
 
 /// Whether it is higher than that: a leaf has height 1, every other form one more than its highest part.
 #[tactic(auto, unfolding(crate::specs::Judging::is_above))]
-pub fn is_above(rough: &Rough, most: u32) -> bool
-    ensures { (line : List ℕ) (tokens : List AToken) → result ≡ above_test most (draft line tokens rough.now) }
+pub fn is_above(rough: &Rough, most: usize) -> bool
+    ensures { (line : List ℕ) (tokens : List Token) → result ≡ is_above most (draft line tokens rough.now) }
 {
     match rough {
         Rough::Name(_) | Rough::Text(_) | Rough::Number(_) | Rough::Truth(_) => most == 0,
@@ -49,7 +48,7 @@ pub fn is_above(rough: &Rough, most: u32) -> bool
     }
 }
 
-/// The text of the literal at a place; `Long` where it has more than 1,024 bytes.
+/// The text of the literal at a place; `Long` where it has more than `MOST_TEXT` bytes.
 pub fn text_at(
     alloc: Global,
     line: &[u8],
@@ -60,42 +59,12 @@ pub fn text_at(
     requires within { place < length tokens.now }
     requires is_literal { IsLiteralAt tokens.now place }
     ensures ok { IfOk result (λ t. t ≡ inside (bytes_at line.now tokens.now place)) }
-    ensures short { IfOk result (λ t. length (inside (bytes_at line.now tokens.now place)) ≤ 1024) }
-    ensures long { IsErrOf result TextFault.Long → 1024 < length (inside (bytes_at line.now tokens.now place)) }
+    ensures short { IfOk result (λ t. length (inside (bytes_at line.now tokens.now place)) ≤ MOST_TEXT) }
+    ensures long { IsErrOf result TextFault.Long → MOST_TEXT < length (inside (bytes_at line.now tokens.now place)) }
 {
     match literal(alloc, line, &tokens[place]) {
         Ok(text) => Ok(text),
         Err(e) => Err(e),
-    }
-}
-
-/// Whether a literal of more than 1,024 bytes stands in it.
-pub fn has_long_text(
-    alloc: Global,
-    line: &[u8],
-    tokens: &[Token],
-    rough: &Rough,
-) -> Result<bool, NoMemory>
-    requires of_line { AreTokens line.now tokens.now }
-    requires leaves { HasLeaves line.now tokens.now rough.now }
-    ensures { IfOk result (λ b. b ≡ long_test (draft line.now tokens.now rough.now)) }
-{
-    match rough {
-        Rough::Text(place) => match text_at(alloc, line, tokens, *place) {
-            Ok(_) => Ok(false),
-            Err(TextFault::Long) => Ok(true),
-            Err(TextFault::NoMemory(e)) => Err(e),
-        },
-        Rough::Name(_) | Rough::Number(_) | Rough::Truth(_) => Ok(false),
-        Rough::Not(inner) | Rough::Untrack(inner) => has_long_text(alloc, line, tokens, inner),
-        Rough::Bin(_, left, right) => Ok(
-            has_long_text(alloc, line, tokens, left)? || has_long_text(alloc, line, tokens, right)?,
-        ),
-        Rough::If(test, held, other) => Ok(
-            has_long_text(alloc, line, tokens, test)?
-                || has_long_text(alloc, line, tokens, held)?
-                || has_long_text(alloc, line, tokens, other)?,
-        ),
     }
 }
 

@@ -7,7 +7,7 @@ ghost use Rattle.sig_base.specs.declared.scalar.Scalar.TheVariants as scalar;
 ghost use Rattle.sig_base.specs.Words.{in_word, is_name};
 ghost use Rattle.sig_words.specs.Lexemes.{Lexeme, lexemes};
 ghost use Rattle.sig_words.specs.Tokens.{AreTokens, may_sign};
-ghost use Rattle.sig_words.specs.declared.token.Token.{Token as AToken};
+ghost use Rattle.sig_words.specs.declared.token.Token.{Token};
 ghost use Rattle.formula_text.specs.declared.wired.Allow.{Allow};
 ghost use Rattle.formula_text.specs.Canonical.{canonical_text, minimal, unslotted};
 ghost use Rattle.formula_text.specs.Grammar.{Draft, IsFormula, IsLongest, Spells, spelled};
@@ -39,7 +39,7 @@ pub fn fewest_parentheses()
 /// texts are UTF-8; so they do in a longer line, where a `-` may be a sign before them and nothing that lengthens a word stands
 /// behind them.
 pub fn canonical_text_reads()
-    ensures alone { (x : Draft) (ts : List AToken) → IsPrintable x → AreTokens (canonical_text x) ts
+    ensures alone { (x : Draft) (ts : List Token) → IsPrintable x → AreTokens (canonical_text x) ts
         → IsFormula (lexemes (canonical_text x) ts) x }
     ensures in_line { (x : Draft) (line : List ℕ) (from : ℕ) (back : List ℕ) → IsPrintable x
         → drop from line ≡ canonical_text x ++ back → may_sign line from ≡ true → in_word (slice_index back 0) ≡ false
@@ -49,10 +49,10 @@ pub fn canonical_text_reads()
 /// What `put_formula` writes of a formula that was read is read back as the same formula: alone to its end, and in a longer line
 /// where a `-` may be a sign before it, nothing that lengthens a word stands behind it and no operator comes next.
 pub fn written_formulas_read_back()
-    ensures alone { (line : List ℕ) (ts : List AToken) (from to : ℕ) (allow : Allow) (w : Wiring) → AreTokens line ts
+    ensures alone { (line : List ℕ) (ts : List Token) (from to : ℕ) (allow : Allow) (w : Wiring) → AreTokens line ts
         → IsWired line ts from to allow w → ReadsWhole (text_of_wiring w) allow w }
-    ensures in_line { (line : List ℕ) (ts : List AToken) (from to : ℕ) (allow : Allow) (w : Wiring) → AreTokens line ts
-        → IsWired line ts from to allow w → (other : List ℕ) (at : ℕ) (front others : List AToken)
+    ensures in_line { (line : List ℕ) (ts : List Token) (from to : ℕ) (allow : Allow) (w : Wiring) → AreTokens line ts
+        → IsWired line ts from to allow w → (other : List ℕ) (at : ℕ) (front others : List Token)
         → StandsAmong other (text_of_wiring w) at front others → ReadsAmong other front others allow w }
 {}
 

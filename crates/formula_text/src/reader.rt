@@ -1,9 +1,9 @@
 // Reads the longest formula from a place on.
 ghost use Rattle.std.specs.Prelude.{◌≡◌, ◌<◌, ◌≤◌, ℕ, length, IfOk, IfSome, MatchOption, option_map};
 ghost use Rattle.formula_text.specs.Wiring.{IsRead, ReadsNone};
-ghost use Rattle.formula_text.specs.Grammar.{level as level_of, before as before_of};
-ghost use Rattle.formula_text.specs.Reading.{expr as reads, head as begins, choice_at, untrack_at};
-ghost use Rattle.formula_text.specs.Rough.{draft, HasLeaves, signs_from};
+ghost use Rattle.formula_text.specs.Grammar.{before, level};
+ghost use Rattle.formula_text.specs.Reading.{choice_at, expr, head, untrack_at};
+ghost use Rattle.formula_text.specs.Rough.{IsPartFrom, part_of, signs_from};
 
 use crate::rough::Rough;
 use crate::sign::{Sign, sign_at};
@@ -21,7 +21,7 @@ const PRIMARY: u8 = 8;
 
 /// The rule of an operator.
 pub fn level(o: BinOp) -> u8
-    ensures { result ≡ level_of o }
+    ensures { result ≡ level o }
 {
     match o {
         BinOp::Or => 1,
@@ -35,7 +35,7 @@ pub fn level(o: BinOp) -> u8
 
 /// The loosest rule of what stands before an operator.
 pub fn before(o: BinOp) -> u8
-    ensures { result ≡ before_of o }
+    ensures { result ≡ before o }
 {
     match o {
         BinOp::Or => 1,
@@ -53,12 +53,9 @@ type Part = (Rough, u8, usize);
 // What follows `if`.
 #[cycle(reading)]
 fn choice(alloc: Global, line: &[u8], tokens: &[Token], at: usize) -> Result<Option<Part>, NoMemory>
-    ensures shorter { IfOk result (λ found. IfSome found (λ p. length (signs_from line.now tokens.now p.2) < length (signs_from line.now tokens.now at))) }
-    ensures within { IfOk result (λ found. IfSome found (λ p. p.2 ≤ length tokens.now)) }
-    ensures leaves { IfOk result (λ found. IfSome found (λ p. HasLeaves line.now tokens.now p.0)) }
+    ensures part { IfOk result (λ found. IfSome found (IsPartFrom line.now tokens.now at)) }
     ensures exact { IfOk result (λ found. (n : ℕ) → length (signs_from line.now tokens.now at) < n →
-        option_map (λ p. (draft line.now tokens.now p.0, p.1, signs_from line.now tokens.now p.2)) found
-        ≡ choice_at (reads n) (signs_from line.now tokens.now at)) }
+        option_map (part_of line.now tokens.now) found ≡ choice_at (expr n) (signs_from line.now tokens.now at)) }
 {
     let Some((test, _, rest)) = expr(alloc, line, tokens, at, CHOICE)? else {
         return Ok(None);
@@ -88,12 +85,9 @@ fn untrack(
     tokens: &[Token],
     at: usize,
 ) -> Result<Option<Part>, NoMemory>
-    ensures shorter { IfOk result (λ found. IfSome found (λ p. length (signs_from line.now tokens.now p.2) < length (signs_from line.now tokens.now at))) }
-    ensures within { IfOk result (λ found. IfSome found (λ p. p.2 ≤ length tokens.now)) }
-    ensures leaves { IfOk result (λ found. IfSome found (λ p. HasLeaves line.now tokens.now p.0)) }
+    ensures part { IfOk result (λ found. IfSome found (IsPartFrom line.now tokens.now at)) }
     ensures exact { IfOk result (λ found. (n : ℕ) → length (signs_from line.now tokens.now at) < n →
-        option_map (λ p. (draft line.now tokens.now p.0, p.1, signs_from line.now tokens.now p.2)) found
-        ≡ untrack_at (reads n) (signs_from line.now tokens.now at)) }
+        option_map (part_of line.now tokens.now) found ≡ untrack_at (expr n) (signs_from line.now tokens.now at)) }
 {
     let Some(Sign::Open) = sign_at(line, tokens, at) else {
         return Ok(None);
@@ -115,12 +109,9 @@ fn head(
     at: usize,
     least: u8,
 ) -> Result<Option<Part>, NoMemory>
-    ensures shorter { IfOk result (λ found. IfSome found (λ p. length (signs_from line.now tokens.now p.2) < length (signs_from line.now tokens.now at))) }
-    ensures within { IfOk result (λ found. IfSome found (λ p. p.2 ≤ length tokens.now)) }
-    ensures leaves { IfOk result (λ found. IfSome found (λ p. HasLeaves line.now tokens.now p.0)) }
+    ensures part { IfOk result (λ found. IfSome found (IsPartFrom line.now tokens.now at)) }
     ensures exact { IfOk result (λ found. (n : ℕ) → length (signs_from line.now tokens.now at) ≤ n →
-        option_map (λ p. (draft line.now tokens.now p.0, p.1, signs_from line.now tokens.now p.2)) found
-        ≡ begins (reads n) least (signs_from line.now tokens.now at)) }
+        option_map (part_of line.now tokens.now) found ≡ head (expr n) least (signs_from line.now tokens.now at)) }
 {
     let Some(sign) = sign_at(line, tokens, at) else {
         return Ok(None);
@@ -167,12 +158,9 @@ fn expr(
     at: usize,
     least: u8,
 ) -> Result<Option<Part>, NoMemory>
-    ensures shorter { IfOk result (λ found. IfSome found (λ p. length (signs_from line.now tokens.now p.2) < length (signs_from line.now tokens.now at))) }
-    ensures within { IfOk result (λ found. IfSome found (λ p. p.2 ≤ length tokens.now)) }
-    ensures leaves { IfOk result (λ found. IfSome found (λ p. HasLeaves line.now tokens.now p.0)) }
+    ensures part { IfOk result (λ found. IfSome found (IsPartFrom line.now tokens.now at)) }
     ensures exact { IfOk result (λ found. (n : ℕ) → length (signs_from line.now tokens.now at) < n →
-        option_map (λ p. (draft line.now tokens.now p.0, p.1, signs_from line.now tokens.now p.2)) found
-        ≡ reads n least (signs_from line.now tokens.now at)) }
+        option_map (part_of line.now tokens.now) found ≡ expr n least (signs_from line.now tokens.now at)) }
 {
     let Some((mut left, mut own, mut rest)) = head(alloc, line, tokens, at, least)? else {
         return Ok(None);

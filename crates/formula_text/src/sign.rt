@@ -1,12 +1,11 @@
 // What tokens are in a formula.
 ghost use Rattle.std.specs.Prelude.{◌≡◌, ◌∷◌, ◌+◌, ◌<◌, [], length, true, IfSome, MatchOption};
-ghost use Rattle.std.specs.List.{list_all};
-ghost use Rattle.sig_base.specs.Words.{in_word as word_byte, is_name as name_test, is_reserved as reserved_test};
-ghost use Rattle.sig_words.specs.Lexemes.{lexeme as said, text_at};
-ghost use Rattle.formula_text.specs.Signs.{sign as sign_said, word_sign as word_test, symbol_sign as symbol_test};
+ghost use Rattle.sig_base.specs.Words.{is_name};
+ghost use Rattle.sig_words.specs.Lexemes.{lexeme, text_at};
+ghost use Rattle.formula_text.specs.Signs.{sign, symbol_sign, word_sign};
 ghost use Rattle.formula_text.specs.Rough.{bytes_at, sign_of, IsSeen, IsSeenAt, signs_from};
 
-use sig_base::{MOST_NAME, begins_word, in_word};
+use sig_base::is_name;
 use sig_formula::BinOp;
 use sig_words::{Token, TokenKind, token_bytes};
 
@@ -28,50 +27,10 @@ pub enum Sign {
     Other,
 }
 
-fn are_in_word(bytes: &[u8]) -> bool
-    ensures { result ≡ list_all word_byte bytes.now }
-{
-    bytes.iter().all(|b| in_word(*b))
-}
-
-#[tactic(auto, unfolding(sig_base::specs::Words::is_reserved))]
-fn is_reserved(text: &[u8]) -> bool
-    ensures { result ≡ reserved_test text.now }
-{
-    text == b"and".as_slice()
-        || text == b"or".as_slice()
-        || text == b"not".as_slice()
-        || text == b"if".as_slice()
-        || text == b"then".as_slice()
-        || text == b"else".as_slice()
-        || text == b"true".as_slice()
-        || text == b"false".as_slice()
-        || text == b"count".as_slice()
-        || text == b"sum".as_slice()
-        || text == b"keep".as_slice()
-        || text == b"it".as_slice()
-        || text == b"untrack".as_slice()
-        || text == b"host".as_slice()
-        || text == b"in".as_slice()
-        || text == b"equals".as_slice()
-}
-
-// Whether the bytes are a name.
-#[tactic(auto, unfolding(sig_base::specs::Words::is_name))]
-fn is_name(text: &[u8]) -> bool
-    ensures { result ≡ name_test text.now }
-{
-    !text.is_empty()
-        && begins_word(text[0])
-        && are_in_word(text)
-        && text.len() <= MOST_NAME
-        && !is_reserved(text)
-}
-
 #[tactic(auto, unfolding(crate::specs::Signs::word_sign))]
 fn word_sign(text: &[u8]) -> Sign
-    ensures sign { sign_of text.now result ≡ word_test text.now }
-    ensures name { result ≡ Sign.Name → name_test text.now ≡ true }
+    ensures sign { sign_of text.now result ≡ word_sign text.now }
+    ensures name { result ≡ Sign.Name → is_name text.now ≡ true }
     ensures no_text { result ≡ Sign.Text → ⊥ }
 {
     if text == b"or".as_slice() {
@@ -101,7 +60,7 @@ fn word_sign(text: &[u8]) -> Sign
 
 #[tactic(auto, unfolding(crate::specs::Signs::symbol_sign))]
 fn symbol_sign(text: &[u8]) -> Sign
-    ensures sign { sign_of text.now result ≡ symbol_test text.now }
+    ensures sign { sign_of text.now result ≡ symbol_sign text.now }
     ensures no_name { result ≡ Sign.Name → ⊥ }
     ensures no_text { result ≡ Sign.Text → ⊥ }
 {
@@ -140,7 +99,7 @@ fn symbol_sign(text: &[u8]) -> Sign
 
 // What a token of the line is.
 fn token_sign(line: &[u8], token: &Token) -> Sign
-    ensures sign { sign_of (text_at line.now token.now) result ≡ sign_said (said line.now token.now) }
+    ensures sign { sign_of (text_at line.now token.now) result ≡ sign (lexeme line.now token.now) }
     ensures seen { IsSeen line.now token.now result }
 {
     match token.kind {

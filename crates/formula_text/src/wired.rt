@@ -5,25 +5,19 @@ ghost use Rattle.sig_base.specs.declared.text.TextFault.TheVariants as text_faul
 ghost use Rattle.sig_formula.specs.Trees.{tree};
 ghost use Rattle.sig_words.specs.Tokens.{AreTokens};
 ghost use Rattle.formula_text.specs.declared.wired.FormulaFault.TheVariants as fault;
-ghost use Rattle.formula_text.specs.Judging.{has_long_text as long_test, slot_of, slotted};
+ghost use Rattle.formula_text.specs.Judging.{has_long_text, slot_of, slotted};
 ghost use Rattle.formula_text.specs.Rough.{bytes_at, draft, HasLeaves};
-ghost use Rattle.formula_text.specs.Wiring.{of_text_fault, refusal, wired as wired_so, IsCause, IsLongCause, IsWired, Refuses};
+ghost use Rattle.formula_text.specs.Wiring.{of_text_fault, refusal, wired, IsCause, IsLongCause, IsWired, Refuses};
 
-use crate::judge::{has_long_text, has_untrack, is_above, put_names, text_at};
+use crate::judge::{has_untrack, is_above, put_names, text_at};
 use crate::reader::read_rough;
 use crate::rough::Rough;
-use sig_base::{Name, NoMemory, Scalar, TextFault};
+use sig_base::{MOST_HEIGHT, MOST_SOURCES, Name, NoMemory, Scalar, TextFault};
 use sig_formula::Formula;
 use sig_words::{Token, token_bytes};
 use std::alloc::{AllocFailed, Global};
 use std::marker::Model;
 use thiserror::Error;
-
-/// The most height of a formula.
-pub const MOST_HEIGHT: u32 = 64;
-
-/// The most distinct names of a formula.
-pub const MOST_SOURCES: usize = 64;
 
 /// A formula over slots, and the names that the slots stand for, in the order of their first places.
 #[derive(Debug, Drop)]
@@ -59,11 +53,11 @@ pub enum FormulaFault {
     Syntax,
     #[error("untrack isn't allowed here")]
     UntrackHere,
-    #[error("a formula is higher than 64")]
+    #[error("a formula is too high")]
     Nest,
-    #[error("a text has more than 1,024 bytes")]
+    #[error("a text is too long")]
     TextLong,
-    #[error("a formula has more than 64 names")]
+    #[error("a formula has too many names")]
     Sources,
     #[error(transparent)]
     NoMemory(NoMemory),
@@ -104,15 +98,12 @@ fn place_of(names: &[Name], text: &[u8]) -> Option<usize>
     names.iter().position(|n| n.as_str().as_bytes() == text)
 }
 
-// The slot of a name.
+// The slot of a name among few.
 fn slot_of(names: &[Name], text: &[u8]) -> u32
-    requires { length names.now ≤ 64 }
-    ensures { result ≡ slot_of names.now text.now }
+    ensures { length names.now ≤ MOST_SOURCES → result ≡ slot_of names.now text.now }
 {
-    match place_of(names, text) {
-        Some(place) => place as u32,
-        None => 0,
-    }
+    let place = place_of(names, text).unwrap_or(0);
+    u32::try_from(place).unwrap_or(u32::MAX)
 }
 
 // The formula whose slots are the places of its names.
@@ -125,9 +116,9 @@ fn slotted(
 ) -> Result<Formula, FormulaFault>
     requires of_line { AreTokens line.now tokens.now }
     requires leaves { HasLeaves line.now tokens.now rough.now }
-    requires few { length names.now ≤ 64 }
-    ensures ok { IfOk result (λ f. tree f ≡ slotted names.now (draft line.now tokens.now rough.now)) }
-    ensures failed { IfErr result (λ e. IsLongCause (long_test (draft line.now tokens.now rough.now)) e) }
+    ensures ok { length names.now ≤ MOST_SOURCES → IfOk result (λ f. tree f ≡ slotted names.now (draft line.now tokens.now rough.now)) }
+    ensures texts { IfOk result (λ f. has_long_text (draft line.now tokens.now rough.now) ≡ false) }
+    ensures failed { IfErr result (λ e. IsLongCause (has_long_text (draft line.now tokens.now rough.now)) e) }
 {
     match rough {
         Rough::Name(place) => Ok(Formula::Slot(slot_of(names, token_bytes(line, &tokens[*place])))),
@@ -160,7 +151,8 @@ fn slotted(
 }
 
 /// A formula that was read, with slots for its names. A formula is refused, in this order, for an `untrack` where none is
-/// allowed, for a height of more than 64, for a text of more than 1,024 bytes and for more than 64 distinct names.
+/// allowed, for a height of more than `MOST_HEIGHT`, for a text of more than `MOST_TEXT` bytes and for more than
+/// `MOST_SOURCES` distinct names.
 pub fn wire(
     alloc: Global,
     line: &[u8],
@@ -170,7 +162,7 @@ pub fn wire(
 ) -> Result<Wired, FormulaFault>
     requires of_line { AreTokens line.now tokens.now }
     requires leaves { HasLeaves line.now tokens.now rough.now }
-    ensures ok { IfOk result (λ w. w ≡ wired_so (draft line.now tokens.now rough.now)) }
+    ensures ok { IfOk result (λ w. w ≡ wired (draft line.now tokens.now rough.now)) }
     ensures accepted { IfOk result (λ w. refusal allow (draft line.now tokens.now rough.now) ≡ None) }
     ensures refused { IfErr result (λ e. IsCause allow (draft line.now tokens.now rough.now) e) }
 {
@@ -180,15 +172,12 @@ pub fn wire(
     if is_above(rough, MOST_HEIGHT) {
         return Err(FormulaFault::Nest);
     }
-    if has_long_text(alloc, line, tokens, rough)? {
-        return Err(FormulaFault::TextLong);
-    }
     let mut names = Vec::new(alloc);
     put_names(alloc, &mut names, line, tokens, rough)?;
+    let formula = slotted(alloc, line, tokens, rough, &names)?;
     if names.len() > MOST_SOURCES {
         return Err(FormulaFault::Sources);
     }
-    let formula = slotted(alloc, line, tokens, rough, &names)?;
     Ok(Wired { formula, names })
 }
 

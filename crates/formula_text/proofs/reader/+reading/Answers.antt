@@ -10,19 +10,15 @@ expr-returns-in_default-clause-exact t c = λ n small. none_begins n _ _ small (
 
 pub expr-loop-sign-init : goal.expr-loop-sign-init
 expr-loop-sign-init t c =
-    let shorter = rw c.in-Some.is at c.in_ok-left.ensures.shorter in
+    let part = rw c.in-Some.is at c.in_ok-left.ensures.part in
     record {
-      shorter = shorter;
-      within = rw c.in-Some.is at c.in_ok-left.ensures.within;
-      leaves = rw c.in-Some.is at c.in_ok-left.ensures.leaves;
-      leads = λ n small. begins n _ _ _ small (λ m h. let e = c.in_ok-left.ensures.exact m h in rw c.in-Some.is at e) (omega arith);
+      part = part;
+      leads = λ n small. begins n _ _ _ small (λ m h. let e = c.in_ok-left.ensures.exact m h in rw c.in-Some.is at e) (omega (arith, part.shorter));
     }
 
 pub expr-returns-in_default-sign : goal.expr-returns-in_default-sign
 expr-returns-in_default-sign t c = record {
-  shorter = c.loop-sign.invariant.shorter;
-  within = c.loop-sign.invariant.within;
-  leaves = c.loop-sign.invariant.leaves;
+  part = c.loop-sign.invariant.part;
   exact = λ n small. others n _ _ _ (others_stop _ c.in-Some-sign_at.sign _ _ c.in-Some-sign_at.ensures.found c.in_default-sign.not-Operator) (c.loop-sign.invariant.leads n small);
 }
 
@@ -40,19 +36,22 @@ pub expr-returns-in_default-2-clause-exact : goal.expr-returns-in_default-2-clau
 expr-returns-in_default-2-clause-exact t c = λ n small.
     let is = rw c.in-Operator.is at c.in-Some-sign_at.ensures.found in
     let leads = c.loop-sign.invariant.leads n small in
-    let shorter = c.loop-sign.invariant.shorter in
+    let shorter = c.loop-sign.invariant.part.shorter in
     stays c.in-Operator.o n _ _ (signs_from c.args.line.now c.args.tokens.now (c.loop-sign.rest + 1)) (draft c.args.line.now c.args.tokens.now c.loop-sign.left, c.loop-sign.own, signs_from c.args.line.now c.args.tokens.now c.loop-sign.rest) is leads (omega (arith, ap length is)) small
     (λ m h. let e = c.in_ok-right.ensures.exact m h in rw (c.in_default-2.is, c.level-in-Some-sign_at.ensures) at e)
 
 pub expr-loop-sign-preserved : goal.expr-loop-sign-preserved
 expr-loop-sign-preserved t c =
     let is = rw c.in-Operator.is at c.in-Some-sign_at.ensures.found in
-    let shorter = c.loop-sign.invariant.shorter in
-    let shorter-right = rw c.in-Some-2.is at c.in_ok-right.ensures.shorter in
+    let shorter = c.loop-sign.invariant.part.shorter in
+    let right = rw c.in-Some-2.is at c.in_ok-right.ensures.part in
+    let shorter-right = right.shorter in
     record {
-      shorter = omega (arith, ap length is);
-      within = rw c.in-Some-2.is at c.in_ok-right.ensures.within;
-      leaves = rw (c.in_ok-new.ensures.ok, c.in_ok-new-2.ensures.ok) (c.loop-sign.invariant.leaves, rw c.in-Some-2.is at c.in_ok-right.ensures.leaves);
+      part = record {
+        shorter = omega (arith, ap length is);
+        within = right.within;
+        leaves = rw (c.in_ok-new.ensures.ok, c.in_ok-new-2.ensures.ok) (c.loop-sign.invariant.part.leaves, right.leaves);
+      };
       leads = λ n small.
           let leads = rw is at (c.loop-sign.invariant.leads n small) in
           rw (c.in_ok-new.ensures.ok, c.in_ok-new-2.ensures.ok, c.level-own.ensures)

@@ -1,5 +1,5 @@
-use Rattle.std.proofs.Common.{ℕ, ◌<◌, ◌≤◌, ◌+◌, ◌*◌, length}
-use Rattle.formula_text.specs.Rough.{draft, HasLeaves, signs_from}
+use Rattle.std.proofs.Common.{ℕ, ◌<◌, ◌+◌, ◌*◌, length}
+use Rattle.formula_text.specs.Rough.{draft, IsPartFrom, signs_from}
 use Rattle.formula_text.proofs.Complete.{Leads}
 use Rattle.formula_text.proofs.reader.+reading.Given as goal
 
@@ -14,9 +14,7 @@ decreases-head l = 3 * length (signs_from l.line.now l.tokens.now l.at) + 1
 
 abbrev pub invariant-expr-loop-sign : goal.invariant-expr-loop-sign
 invariant-expr-loop-sign l = record {
-  shorter : length (signs_from l.line l.tokens l.rest) < length (signs_from l.line l.tokens l.at);
-  within : l.rest ≤ length l.tokens;
-  leaves : HasLeaves l.line l.tokens l.left;
+  part : IsPartFrom l.line l.tokens l.at (l.left, l.own, l.rest);
   leads : (n : ℕ) → length (signs_from l.line l.tokens l.at) < n → Leads n l.least (signs_from l.line l.tokens l.at) (draft l.line l.tokens l.left, l.own, signs_from l.line l.tokens l.rest);
 }
 

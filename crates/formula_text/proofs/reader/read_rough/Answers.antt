@@ -9,10 +9,8 @@ pub returns : goal.returns
 returns c =
     let line = c.args.line.now in
     let tokens = c.args.tokens.now in
-    let shorter = rw c.in-Some.is at c.in_ok-rough.ensures.shorter in
-    let within = rw c.in-Some.is at c.in_ok-rough.ensures.within in
-    let leaves = rw c.in-Some.is at c.in_ok-rough.ensures.leaves in
+    let part = rw c.in-Some.is at c.in_ok-rough.ensures.part in
     record {
-      reads = some_read line tokens c.args.from c.in-Some.to c.in-Some.field-0-1 (draft line tokens c.in-Some.rough) within shorter (λ n small. let e = c.in_ok-rough.ensures.exact n small in rw c.in-Some.is at e);
-      leaves = leaves;
+      reads = some_read line tokens c.args.from c.in-Some.to c.in-Some.field-0-1 (draft line tokens c.in-Some.rough) part.within part.shorter (λ n small. let e = c.in_ok-rough.ensures.exact n small in rw c.in-Some.is at e);
+      leaves = part.leaves;
     }
