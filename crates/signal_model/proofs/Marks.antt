@@ -5,10 +5,11 @@ use Rattle.std.specs.Prelude.{nat_le}
 use Rattle.std.proofs.lemmas.Bool.{eqb-true, eq-eqb}
 use Rattle.std.proofs.lemmas.Bool.Decides.{nat_tests}
 use Rattle.signal_model.specs.Standing.{Signals, Computed, Stands, IsGone, IsCell, IsComputed, is_computed, is_in, computed_at, standing}
-use Rattle.signal_model.specs.Memos.{Source, Memo, Memos, memo_of, must_run, source_names, sources_in, sources_of}
-use Rattle.signal_model.specs.Marks.{IsBelow, kept, kept_below, is_due, HasDueBelow, Mark, Clean, Checked, Dirty, IsMark, some_source, due_below}
+use Rattle.signal_model.specs.Memos.{Source, Memo, Memos, keeps, memo_of, must_run, source_names, sources_in, sources_of}
+use Rattle.signal_model.specs.Marks.{IsBelow, kept, kept_below, is_due, HasBelow, Mark, Clean, Checked, Dirty, IsMark, some_source, found_below}
+use Rattle.signal_model.specs.Marks.{due_below}
 use Rattle.signal_model.specs.Kept.{OnlyComputedsKeep}
-use Rattle.signal_model.specs.Laws.{SearchLaw, BelowLaw, MarkLaw}
+use Rattle.signal_model.specs.Laws.{Searches, SearchLaw, BelowLaw, MarkLaw}
 use Rattle.signal_model.proofs.Depth.{chosen, stands-computed}
 use Rattle.signal_model.proofs.Tests.{tested, either, or_left, or_right, or_weaker}
 
@@ -88,22 +89,26 @@ count-same f g le (d ∷ ds) few n c at h =
 
 -- ---- the search
 
-module _ (w : Signals) (k : Memos) where
+module _ (test : ℕ → Bool) (w : Signals) (k : Memos) where
+  -- how many computeds find something within so many steps
+  abbrev finders : ℕ → ℕ
+  finders far = count_of (found_below test far k) w.computeds
+
   -- one more step finds no less
-  more_steps : (far n : ℕ) → due_below far w k n ≡ true → due_below (suc far) w k n ≡ true
+  more_steps : (far n : ℕ) → found_below test far k n ≡ true → found_below test (suc far) k n ≡ true
   more_steps zero n h = cc
   more_steps (suc far) n h =
-      some_weaker (λ m. is_due w k m || due_below far w k m) (λ m. is_due w k m || due_below (suc far) w k m)
-      (λ m. or_weaker (is_due w k m) (due_below far w k m) (due_below (suc far) w k m) (more_steps far m)) (sources_of k n) h
+      some_weaker (λ m. test m || found_below test far k m) (λ m. test m || found_below test (suc far) k m)
+      (λ m. or_weaker (test m) (found_below test far k m) (found_below test (suc far) k m) (more_steps far m)) (sources_of k n) h
 
   -- one more step finds nothing more
   abbrev IsOver : ℕ → Type 0
-  IsOver far = (n : ℕ) → due_below (suc far) w k n ≡ true → due_below far w k n ≡ true
+  IsOver far = (n : ℕ) → found_below test (suc far) k n ≡ true → found_below test far k n ≡ true
 
   over_on : (far : ℕ) → IsOver far → IsOver (suc far)
   over_on far over n h =
-      some_weaker (λ m. is_due w k m || due_below (suc far) w k m) (λ m. is_due w k m || due_below far w k m)
-      (λ m. or_weaker (is_due w k m) (due_below (suc far) w k m) (due_below far w k m) (over m)) (sources_of k n) h
+      some_weaker (λ m. test m || found_below test (suc far) k m) (λ m. test m || found_below test far k m)
+      (λ m. or_weaker (test m) (found_below test (suc far) k m) (found_below test far k m) (over m)) (sources_of k n) h
 
   module _ (only : OnlyComputedsKeep w k) where
     computed_there : (n : ℕ) → is_computed (standing w n) ≡ true → (c : Computed) × (computed_at n w.computeds ≡ Some c)
@@ -115,33 +120,32 @@ module _ (w : Signals) (k : Memos) where
         go (IsComputed c) e i = (c, stands-computed w n c e)
 
     -- what finds something is a computed
-    finder : (far n : ℕ) → due_below far w k n ≡ true → (c : Computed) × (computed_at n w.computeds ≡ Some c)
+    finder : (far n : ℕ) → found_below test far k n ≡ true → (c : Computed) × (computed_at n w.computeds ≡ Some c)
     finder zero n h = cc
     finder (suc far) n h = computed_there n (go (memo_of k n) refl h)
       where
-        go : (o : Option Memo) → memo_of k n ≡ o → some_source (λ m. is_due w k m || due_below far w k m) (sources_in o) ≡ true →
+        go : (o : Option Memo) → memo_of k n ≡ o → some_source (λ m. test m || found_below test far k m) (sources_in o) ≡ true →
             is_computed (standing w n) ≡ true
         go None e i = cc
         go (Some memo) e i = only n memo e
 
-    -- a step finds nothing more, or every step has found another computed
-    steps : (far : ℕ) → IsOver far ⊎ (far ≤ count_of (λ n. due_below far w k n) w.computeds)
+    -- where no more computeds find something in one more step, it finds nothing more
+    over_where : (far : ℕ) → finders (suc far) ≤ finders far → IsOver far
+    over_where far few n h =
+        let c : (c : Computed) × (computed_at n w.computeds ≡ Some c) = finder (suc far) n h in
+        count-same (found_below test far k) (found_below test (suc far) k) (more_steps far) w.computeds few n c.0 c.1 h
+
+    -- a step finds nothing more, or in each step one more computed finds something
+    steps : (far : ℕ) → IsOver far ⊎ (far ≤ finders far)
     steps zero = inr (omega arith)
     steps (suc far) = elim (steps far) [
       | inl over ↦ inl (over_on far over)
-      | inr le ↦ go
-          (tested (nat_le (count_of (λ n. due_below (suc far) w k n) w.computeds) (count_of (λ n. due_below far w k n) w.computeds))) le
+      | inr le ↦ go (tested (nat_le (finders (suc far)) (finders far))) le
     ]
       where
-        go : (nat_le (count_of (λ n. due_below (suc far) w k n) w.computeds) (count_of (λ n. due_below far w k n) w.computeds) ≡ true)
-            ⊎ (nat_le (count_of (λ n. due_below (suc far) w k n) w.computeds) (count_of (λ n. due_below far w k n) w.computeds) ≡ false) →
-            far ≤ count_of (λ n. due_below far w k n) w.computeds →
-            IsOver (suc far) ⊎ (suc far ≤ count_of (λ n. due_below (suc far) w k n) w.computeds)
-        go (inl small) le =
-            let few : count_of (λ n. due_below (suc far) w k n) w.computeds ≤ count_of (λ n. due_below far w k n) w.computeds =
-            grind (arith, nat_tests) in
-            inl (over_on far (λ n h. let c : (c : Computed) × (computed_at n w.computeds ≡ Some c) = finder (suc far) n h in
-            count-same (λ n. due_below far w k n) (λ n. due_below (suc far) w k n) (more_steps far) w.computeds few n c.0 c.1 h))
+        go : (nat_le (finders (suc far)) (finders far) ≡ true) ⊎ (nat_le (finders (suc far)) (finders far) ≡ false) → far ≤ finders far →
+            IsOver (suc far) ⊎ (suc far ≤ finders (suc far))
+        go (inl small) le = let few : finders (suc far) ≤ finders far = grind (arith, nat_tests) in inl (over_on far (over_where far few))
         go (inr large) le = inr (grind (arith, nat_tests))
 
     over_at_last : IsOver (length w.computeds)
@@ -149,61 +153,64 @@ module _ (w : Signals) (k : Memos) where
       | inl over ↦ over
       | inr all ↦ λ n h.
           let c : (c : Computed) × (computed_at n w.computeds ≡ Some c) = finder (suc (length w.computeds)) n h in
-          let whole : count_of (λ m. true) w.computeds ≤ count_of (λ m. due_below (length w.computeds) w k m) w.computeds =
-          omega (arith, all, count-all w.computeds) in
-          count-same (λ m. due_below (length w.computeds) w k m) (λ m. true) (λ m e. refl) w.computeds whole n c.0 c.1 refl
+          let whole : count_of (λ m. true) w.computeds ≤ finders (length w.computeds) = omega (arith, all, count-all w.computeds) in
+          count-same (found_below test (length w.computeds) k) (λ m. true) (λ m e. refl) w.computeds whole n c.0 c.1 refl
     ]
 
-    far_enough : (far n : ℕ) → due_below far w k n ≡ true → due_below (length w.computeds) w k n ≡ true
+    far_enough : (far n : ℕ) → found_below test far k n ≡ true → found_below test (length w.computeds) k n ≡ true
     far_enough zero n h = cc
     far_enough (suc far) n h =
         over_at_last n
-        (some_weaker (λ m. is_due w k m || due_below far w k m) (λ m. is_due w k m || due_below (length w.computeds) w k m)
-        (λ m. or_weaker (is_due w k m) (due_below far w k m) (due_below (length w.computeds) w k m) (far_enough far m)) (sources_of k n) h)
+        (some_weaker (λ m. test m || found_below test far k m) (λ m. test m || found_below test (length w.computeds) k m)
+        (λ m. or_weaker (test m) (found_below test far k m) (found_below test (length w.computeds) k m) (far_enough far m)) (sources_of k n) h)
 
   -- what the search finds is kept below
-  found : (far n : ℕ) → due_below far w k n ≡ true → HasDueBelow w k n
+  found : (far n : ℕ) → found_below test far k n ≡ true → HasBelow test k n
   found zero n h = cc
   found (suc far) n h =
-      let s : (m : ℕ) × ((is_in m (source_names (sources_of k n)) ≡ true) × ((is_due w k m || due_below far w k m) ≡ true)) =
-      some_found (λ m. is_due w k m || due_below far w k m) (sources_of k n) h in
-      elim (either (is_due w k s.0) (due_below far w k s.0) s.1.1) [
-        | inl due ↦ record { name = s.0; below = kept s.1.0; due = due }
-        | inr deep ↦ let r : HasDueBelow w k s.0 = found far s.0 deep in record { name = r.name; below = kept_below s.1.0 r.below; due = r.due }
+      let s : (m : ℕ) × ((keeps k n m ≡ true) × ((test m || found_below test far k m) ≡ true)) =
+      some_found (λ m. test m || found_below test far k m) (sources_of k n) h in
+      elim (either (test s.0) (found_below test far k s.0) s.1.1) [
+        | inl here ↦ record { name = s.0; below = kept s.1.0; passes = here }
+        | inr deep ↦
+            let r : HasBelow test k s.0 = found far s.0 deep in
+            record { name = r.name; below = kept_below s.1.0 r.below; passes = r.passes }
       ]
 
   -- and what is kept below is found in some number of steps
-  finds : {n m : ℕ} → IsBelow k n m → is_due w k m ≡ true → (far : ℕ) × (due_below far w k n ≡ true)
-  finds {n} {m} (kept e) due =
-      (1, some_at (λ j. is_due w k j || due_below 0 w k j) (sources_of k n) m e (or_left (is_due w k m) (due_below 0 w k m) due))
-  finds {n} {m} (kept_below {p = p} e below) due =
-      let r : (far : ℕ) × (due_below far w k p ≡ true) = finds below due in
-      (suc r.0, some_at (λ j. is_due w k j || due_below r.0 w k j) (sources_of k n) p e (or_right (is_due w k p) (due_below r.0 w k p) r.1))
+  finds : {n m : ℕ} → IsBelow k n m → test m ≡ true → (far : ℕ) × (found_below test far k n ≡ true)
+  finds {n} {m} (kept e) h =
+      (1, some_at (λ j. test j || found_below test 0 k j) (sources_of k n) m e (or_left (test m) (found_below test 0 k m) h))
+  finds {n} {m} (kept_below {p = p} e below) h =
+      let r : (far : ℕ) × (found_below test far k p ≡ true) = finds below h in
+      (suc r.0, some_at (λ j. test j || found_below test r.0 k j) (sources_of k n) p e (or_right (test p) (found_below test r.0 k p) r.1))
 
 pub search_law : SearchLaw
-search_law w k far n only h = far_enough w k only far n h
+search_law test w k far n only h = far_enough test w k only far n h
 
 pub below_law : BelowLaw
-below_law w k n only = record {
-  found = λ h. found w k (length w.computeds) n h;
-  finds = λ d. let r : (far : ℕ) × (due_below far w k n ≡ true) = finds w k d.below d.due in far_enough w k only r.0 n r.1;
+below_law test w k n only = record {
+  found = λ h. found test w k (length w.computeds) n h;
+  finds = λ d. let r : (far : ℕ) × (found_below test far k n ≡ true) = finds test w k d.below d.passes in far_enough test w k only r.0 n r.1;
 }
 
 pub mark_law : MarkLaw
 mark_law w k n mark only = (
   is (must_run k n []) (due_below (length w.computeds) w k n) refl refl,
-  one mark (must_run k n [])
-      (due_below (length w.computeds) w k n) refl refl,
+  one mark (must_run k n []) (due_below (length w.computeds) w k n) refl refl,
 )
   where
+    search : Searches (is_due w k) w k n
+    search = below_law (is_due w k) w k n only
+
     is : (a b : Bool) → must_run k n [] ≡ a → due_below (length w.computeds) w k n ≡ b → IsMark w k n (cond a Dirty (cond b Checked Clean))
     is true b e f = e
-    is false true e f = (e, (below_law w k n only).found f)
+    is false true e f = (e, search.found f)
     is false false e f = (
       e,
       λ m below. elim (tested (is_due w k m)) [
         | inr off ↦ off
-        | inl due ↦ cc (sym f ∙ (below_law w k n only).finds (record { name = m; below = below; due = due }))
+        | inl due ↦ cc (sym f ∙ search.finds (record { name = m; below = below; passes = due }))
       ],
     )
 
@@ -213,7 +220,7 @@ mark_law w k n mark only = (
     one Dirty false b e f i = cc (sym e ∙ i)
     one Checked true b e f i = cc (sym e ∙ i.0)
     one Checked false true e f i = refl
-    one Checked false false e f i = cc (sym f ∙ (below_law w k n only).finds i.1)
+    one Checked false false e f i = cc (sym f ∙ search.finds i.1)
     one Clean true b e f i = cc (sym e ∙ i.0)
-    one Clean false true e f i = let d : HasDueBelow w k n = (below_law w k n only).found f in cc (sym (i.1 d.name d.below) ∙ d.due)
+    one Clean false true e f i = let d : HasBelow (is_due w k) k n = search.found f in cc (sym (i.1 d.name d.below) ∙ d.passes)
     one Clean false false e f i = refl

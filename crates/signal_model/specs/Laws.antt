@@ -1,5 +1,5 @@
 -- Laws over the definitions.
-use Rattle.std.specs.Prelude.{◌≡◌, ℕ, ◌<◌, ◌||◌, true, false, List, [], ◌∷◌, ◌++◌, length, ◌⊎◌, Option}
+use Rattle.std.specs.Prelude.{◌≡◌, ℕ, ◌<◌, ◌||◌, true, false, Bool, List, [], ◌∷◌, ◌++◌, length, ◌⊎◌, Option}
 use Rattle.sig_base.specs.declared.value.Known.{Known}
 use Rattle.sig_base.specs.declared.value.Outcome.{Outcome}
 use Rattle.sig_base.specs.declared.value.Outcome.TheVariants.{Bad}
@@ -12,7 +12,7 @@ use Rattle.signal_model.specs.Standing.{Signals, Computed, IsComputed, is_in, st
 use Rattle.signal_model.specs.Values.{Seen, learnt, after_step, asked_from, value_of, value_case, evaluated, reads_of}
 use Rattle.signal_model.specs.Orders.{Visit, visited, visits, visit_case, visit, evaluation_order}
 use Rattle.signal_model.specs.Memos.{Memos}
-use Rattle.signal_model.specs.Marks.{HasDueBelow, Mark, IsMark, due_below, mark_of}
+use Rattle.signal_model.specs.Marks.{HasBelow, Mark, IsMark, found_below, mark_of}
 use Rattle.signal_model.specs.Kept.{OnlyComputedsKeep}
 
 -- a recipe is asked as far as its answers say, with no bound in sight
@@ -78,18 +78,19 @@ FormulaLaw = (hosts : Hosts) (t : Tree) (row : Option RowRef) (slots : List ℕ)
 
 -- ---- what is kept below
 
--- what the search for a computed that must run finds, it finds within as many steps as there are computeds
+-- what the search for a name below finds, it finds within as many steps as there are computeds
 abbrev pub SearchLaw : Type 0
-SearchLaw = (w : Signals) (k : Memos) (far n : ℕ) → OnlyComputedsKeep w k → due_below far w k n ≡ true → due_below (length w.computeds) w k n ≡ true
+SearchLaw = (test : ℕ → Bool) (w : Signals) (k : Memos) (far n : ℕ) → OnlyComputedsKeep w k → found_below test far k n ≡ true →
+    found_below test (length w.computeds) k n ≡ true
 
--- the search answers yes exactly where one is kept below
-pub record Searches (w : Signals) (k : Memos) (n : ℕ) : Type 0 where
-  pub found : due_below (length w.computeds) w k n ≡ true → HasDueBelow w k n
-  pub finds : HasDueBelow w k n → due_below (length w.computeds) w k n ≡ true
+-- the search answers yes exactly where a name that passes the test is kept below
+pub record Searches (test : ℕ → Bool) (w : Signals) (k : Memos) (n : ℕ) : Type 0 where
+  pub found : found_below test (length w.computeds) k n ≡ true → HasBelow test k n
+  pub finds : HasBelow test k n → found_below test (length w.computeds) k n ≡ true
 
--- so it does at each name
+-- so it does for any test, and from any name
 abbrev pub BelowLaw : Type 0
-BelowLaw = (w : Signals) (k : Memos) (n : ℕ) → OnlyComputedsKeep w k → Searches w k n
+BelowLaw = (test : ℕ → Bool) (w : Signals) (k : Memos) (n : ℕ) → OnlyComputedsKeep w k → Searches test w k n
 
 -- each computed has the mark that is found, and no other
 abbrev pub MarkLaw : Type 0

@@ -12,11 +12,11 @@ pub data IsBelow (k : Memos) : ℕ → ℕ → Type 0 where
 abbrev pub is_due : Signals → Memos → ℕ → Bool
 is_due w k n = is_computed (standing w n) && must_run k n []
 
--- a computed that must run is kept below a name
-pub record HasDueBelow (w : Signals) (k : Memos) (n : ℕ) : Type 0 where
+-- a name that passes a test is kept below another
+pub record HasBelow (test : ℕ → Bool) (k : Memos) (n : ℕ) : Type 0 where
   pub name : ℕ
   pub below : IsBelow k n name
-  pub due : is_due w k name ≡ true
+  pub passes : test name ≡ true
 
 -- `Dirty` must run, `Checked` keeps something that must, perhaps far below, and `Clean` is neither
 pub data Mark : Type 0 where
@@ -25,20 +25,24 @@ pub data Mark : Type 0 where
 -- whether a computed has the mark
 abbrev pub IsMark : Signals → Memos → ℕ → Mark → Type 0
 IsMark w k n Dirty = must_run k n [] ≡ true
-IsMark w k n Checked = (must_run k n [] ≡ false) × HasDueBelow w k n
+IsMark w k n Checked = (must_run k n [] ≡ false) × HasBelow (is_due w k) k n
 IsMark w k n Clean = (must_run k n [] ≡ false) × ((m : ℕ) → IsBelow k n m → is_due w k m ≡ false)
 
 -- ---- how a mark is found
 
 -- some name of the sources passes a test
 abbrev pub some_source : (ℕ → Bool) → List Source → Bool
-some_source f [] = false
-some_source f (s ∷ ss) = f s.name || some_source f ss
+some_source test [] = false
+some_source test (s ∷ ss) = test s.name || some_source test ss
 
--- a computed that must run stands at most so many steps below along kept sources
+-- a name that passes a test stands at most so many steps below along kept sources
+abbrev pub found_below : (ℕ → Bool) → ℕ → Memos → ℕ → Bool
+found_below test zero k n = false
+found_below test (suc far) k n = some_source (λ m. test m || found_below test far k m) (sources_of k n)
+
+-- a computed that must run does
 abbrev pub due_below : ℕ → Signals → Memos → ℕ → Bool
-due_below zero w k n = false
-due_below (suc far) w k n = some_source (λ m. is_due w k m || due_below far w k m) (sources_of k n)
+due_below far w k n = found_below (is_due w k) far k n
 
 -- the mark of a computed; no way along distinct computeds is longer than there are computeds
 abbrev pub mark_of : Signals → Memos → ℕ → Mark

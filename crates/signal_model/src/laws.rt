@@ -37,12 +37,12 @@ pub fn formula_law()
     ensures { FormulaLaw }
 {}
 
-/// The search for a computed that must run, below along kept sources, finds nothing more in more steps than there are computeds.
+/// A search below, along kept sources, finds nothing more in more steps than there are computeds.
 pub fn search_law()
     ensures { SearchLaw }
 {}
 
-/// It answers yes exactly where such a computed is kept below.
+/// It answers yes exactly where a name that passes its test is kept below.
 pub fn below_law()
     ensures { BelowLaw }
 {}
