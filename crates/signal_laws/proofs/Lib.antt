@@ -1,11 +1,15 @@
-pub mod Bools
-pub mod Entries
-pub mod Changing
-pub mod Following
-pub mod Cleaning
-pub mod Making
-pub mod Ordering
-pub mod Running
-pub mod Settling
-pub mod Keepers
-pub mod Currency
+mod FailedTests
+mod Lists
+mod LookUps
+mod AfterChange
+mod FollowedSources
+mod CleanVisits
+mod AfterMaking
+mod GivenNames
+mod PlacedVisits
+mod AfterRun
+mod VisitStates
+mod CleanMoments
+mod KeptPaths
+mod RecordedRuns
+pub mod Shared

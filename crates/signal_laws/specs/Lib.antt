@@ -1,5 +1,6 @@
-pub mod Keeping
-pub mod Settled
-pub mod Settling
-pub mod Currency
-pub mod Keepers
+pub mod ChangeLaws
+pub mod OrderLaws
+pub mod CleanLaws
+pub mod SettleLaws
+pub mod RunLaws
+pub mod KeptPathLaws

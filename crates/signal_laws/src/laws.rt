@@ -1,16 +1,24 @@
 // Laws of the memos, for all hosts, signals and names.
-ghost use Rattle.signal_laws.specs.Currency.{CurrencyLaw};
-ghost use Rattle.signal_laws.specs.Keepers.{EvaluatedSourceLaw, KeptCycleLaw, KeptPathLaw};
-ghost use Rattle.signal_laws.specs.Keeping.{CellLaw, ComputedLaw, DisposeLaw, EmptyLaw, RewireLaw, SetLaw};
-ghost use Rattle.signal_laws.specs.Settled.{CleanLaw};
-ghost use Rattle.signal_laws.specs.Settling.{AgainLaw, AskedLaw, SettleLaw};
+ghost use Rattle.signal_laws.specs.ChangeLaws.{CellLaw, ComputedLaw, DisposeLaw, EmptyLaw, NoMemosLaw, RewireLaw, SetLaw};
+ghost use Rattle.signal_laws.specs.ChangeLaws.{GivenCellLaw, GivenComputedLaw, GivenDisposeLaw, GivenEmptyLaw, GivenMoreLaw, GivenNextLaw};
+ghost use Rattle.signal_laws.specs.ChangeLaws.{GivenRewireLaw, GivenSetLaw, GivenSettleLaw};
+ghost use Rattle.signal_laws.specs.CleanLaws.{CleanLaw, PassLaw};
+ghost use Rattle.signal_laws.specs.KeptPathLaws.{EvaluatedSourceLaw, KeptCycleLaw, KeptPathLaw};
+ghost use Rattle.signal_laws.specs.OrderLaws.{PlacesLaw};
+ghost use Rattle.signal_laws.specs.RunLaws.{CurrencyLaw, PlacedRunsLaw, ScratchRunsLaw};
+ghost use Rattle.signal_laws.specs.SettleLaws.{AgainLaw, AskedLaw, AskedMemoLaw, CleanMomentsLaw, KeptMomentsLaw, SettleLaw};
 
-/// Where nothing stands, no memos are sound.
+/// Where nothing has a memo, what is kept is sound, whatever stands.
+pub fn no_memos_law()
+    ensures { NoMemosLaw }
+{}
+
+/// Where nothing stands, nothing is kept.
 pub fn empty_law()
     ensures { EmptyLaw }
 {}
 
-/// The making of a cell keeps the memos sound.
+/// The making of a cell, under a name that wasn't given, keeps the memos sound.
 pub fn cell_law()
     ensures { CellLaw }
 {}
@@ -35,9 +43,33 @@ pub fn dispose_law()
     ensures { DisposeLaw }
 {}
 
+/// The names in use were all given: each change and each settling keeps this, where a new signal and the slots of a new recipe have names
+/// that were given.
+pub fn given_law()
+    ensures next { GivenNextLaw }
+    ensures empty { GivenEmptyLaw }
+    ensures more { GivenMoreLaw }
+    ensures cell { GivenCellLaw }
+    ensures computed { GivenComputedLaw }
+    ensures set { GivenSetLaw }
+    ensures rewire { GivenRewireLaw }
+    ensures dispose { GivenDisposeLaw }
+    ensures settle { GivenSettleLaw }
+{}
+
+/// Each visited computed stands after the computeds that it reads, but for those that are being evaluated, and each that is asked for is visited.
+pub fn places_law()
+    ensures { PlacesLaw }
+{}
+
 /// Where a clean computed is asked for, nothing runs, and what is kept of it is that from scratch.
 pub fn clean_law()
     ensures { CleanLaw }
+{}
+
+/// Inside a settling a clean computed may be passed over: its visit runs nothing, whatever ran before.
+pub fn pass_law()
+    ensures { PassLaw }
 {}
 
 /// Settling keeps the memos sound.
@@ -45,9 +77,14 @@ pub fn settle_law()
     ensures { SettleLaw }
 {}
 
-/// After settling, each name that was asked for stands with its value from scratch.
+/// After settling, each name that was asked for shows its value from scratch.
 pub fn asked_law()
     ensures { AskedLaw }
+{}
+
+/// And each computed that was asked for has a memo, which is that from scratch.
+pub fn asked_memo_law()
+    ensures { AskedMemoLaw }
 {}
 
 /// Settling the same names again runs nothing.
@@ -55,7 +92,27 @@ pub fn again_law()
     ensures { AgainLaw }
 {}
 
-/// Each recorded run read only what is current at its moment, and its outcome is the value from scratch.
+/// At each moment of a settling what is kept is sound.
+pub fn kept_moments_law()
+    ensures { KeptMomentsLaw }
+{}
+
+/// And what was clean before it is clean.
+pub fn clean_moments_law()
+    ensures { CleanMomentsLaw }
+{}
+
+/// Each recorded run is from scratch, whatever was kept before.
+pub fn scratch_runs_law()
+    ensures { ScratchRunsLaw }
+{}
+
+/// Each recorded run stands at its place in the order of evaluation, where it must run.
+pub fn placed_runs_law()
+    ensures { PlacedRunsLaw }
+{}
+
+/// Where what was kept is sound, each recorded run read only what stood at its moment.
 pub fn currency_law()
     ensures { CurrencyLaw }
 {}

@@ -1,4 +1,4 @@
-use Rattle.signal_laws.proofs.Settling.{again_law}
+use Rattle.signal_laws.proofs.VisitStates.{again_law}
 use Rattle.signal_laws.proofs.laws.again_law.Goals as goal
 
 pub returns : goal.returns

@@ -1,4 +1,4 @@
-use Rattle.signal_laws.proofs.Cleaning.{clean_law}
+use Rattle.signal_laws.proofs.CleanVisits.{clean_law}
 use Rattle.signal_laws.proofs.laws.clean_law.Goals as goal
 
 pub returns : goal.returns

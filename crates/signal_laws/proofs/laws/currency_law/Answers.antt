@@ -1,4 +1,4 @@
-use Rattle.signal_laws.proofs.Currency.{currency_law}
+use Rattle.signal_laws.proofs.RecordedRuns.{currency_law}
 use Rattle.signal_laws.proofs.laws.currency_law.Goals as goal
 
 pub returns : goal.returns

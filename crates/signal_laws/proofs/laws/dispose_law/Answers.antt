@@ -1,4 +1,4 @@
-use Rattle.signal_laws.proofs.Changing.{dispose_law}
+use Rattle.signal_laws.proofs.AfterChange.{dispose_law}
 use Rattle.signal_laws.proofs.laws.dispose_law.Goals as goal
 
 pub returns : goal.returns

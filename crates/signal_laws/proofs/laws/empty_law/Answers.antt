@@ -1,4 +1,4 @@
-use Rattle.signal_laws.proofs.Changing.{empty_law}
+use Rattle.signal_laws.proofs.AfterChange.{empty_law}
 use Rattle.signal_laws.proofs.laws.empty_law.Goals as goal
 
 pub returns : goal.returns

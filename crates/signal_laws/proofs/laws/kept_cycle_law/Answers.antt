@@ -1,4 +1,4 @@
-use Rattle.signal_laws.proofs.Keepers.{kept_cycle_law}
+use Rattle.signal_laws.proofs.KeptPaths.{kept_cycle_law}
 use Rattle.signal_laws.proofs.laws.kept_cycle_law.Goals as goal
 
 pub returns : goal.returns

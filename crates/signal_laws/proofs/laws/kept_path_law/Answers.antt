@@ -1,4 +1,4 @@
-use Rattle.signal_laws.proofs.Keepers.{kept_path_law}
+use Rattle.signal_laws.proofs.KeptPaths.{kept_path_law}
 use Rattle.signal_laws.proofs.laws.kept_path_law.Goals as goal
 
 pub returns : goal.returns

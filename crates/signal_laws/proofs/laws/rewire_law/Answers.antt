@@ -1,4 +1,4 @@
-use Rattle.signal_laws.proofs.Changing.{rewire_law}
+use Rattle.signal_laws.proofs.AfterChange.{rewire_law}
 use Rattle.signal_laws.proofs.laws.rewire_law.Goals as goal
 
 pub returns : goal.returns

@@ -1,4 +1,4 @@
-use Rattle.signal_laws.proofs.Changing.{set_law}
+use Rattle.signal_laws.proofs.AfterChange.{set_law}
 use Rattle.signal_laws.proofs.laws.set_law.Goals as goal
 
 pub returns : goal.returns

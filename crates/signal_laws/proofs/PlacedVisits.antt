@@ -1,31 +1,21 @@
 -- In the order of evaluation what a computed reads comes before it, or is being evaluated.
-use Rattle.std.proofs.Common.{◌≡◌, ℕ, zero, suc, ◌<◌, ◌==◌, ◌||◌, Bool, true, false, cond, List, [], ◌∷◌, ◌++◌, refl, sym, ap, ◌∙◌, subst, arith, ◌⊎◌, inl, inr}
+use Rattle.std.proofs.Common.{◌≡◌, ℕ, zero, suc, ◌<◌, ◌==◌, ◌||◌, Bool, true, false, cond, List, [], ◌∷◌, ◌++◌, refl, sym, ap, ◌∙◌, subst, arith, ◌⊎◌}
+use Rattle.std.proofs.Common.{inl, inr}
 use Rattle.std.proofs.lemmas.Bool.{eqb-true, eq-eqb}
 use Rattle.signal_model.specs.Recipes.{Hosts}
 use Rattle.signal_model.specs.Standing.{Signals, Computed, Stands, IsGone, IsCell, IsComputed, is_in, standing}
 use Rattle.signal_model.specs.Values.{Seen, reads_of, names_left}
 use Rattle.signal_model.specs.Orders.{Visit, visited, visits, visit_case, visit, order_after}
 use Rattle.signal_model.specs.Laws.{IsRead, IsChain}
-use Rattle.signal_model.proofs.Shared.{tested, name_is, left_less, visit_by_cases}
-use Rattle.signal_laws.proofs.Following.{in_head}
-use Rattle.signal_laws.proofs.Bools.{or_fst, or_snd, either, or_left, or_right}
+use Rattle.signal_laws.specs.OrderLaws.{IsPlaced, AreOrdered, seen_after, IsOrder, PlacesLaw}
+use Rattle.signal_model.proofs.Shared.{name_is, left_less, tested, visit_by_cases, either, or_left, or_right}
+use Rattle.signal_laws.proofs.FailedTests.{or_fst, or_snd}
+use Rattle.signal_laws.proofs.Lists.{in_head}
 
--- a visit after the visits of some names
-pub record Placed (hosts : Hosts) (w : Signals) (seen : List ℕ) (v : Visit) : Type 0 where
-  pub stands : standing w v.computed.name ≡ IsComputed v.computed
-  pub chain : IsChain hosts w v.computed.name v.path
-  pub new : is_in v.computed.name seen ≡ false
-  pub before : (m : ℕ) (d : Computed) → IsRead m (reads_of hosts w v.computed) → standing w m ≡ IsComputed d → (is_in m (v.computed.name ∷ v.path) ≡ true) ⊎ (is_in m seen ≡ true)
-
--- each visit has its place
-abbrev pub AreOrdered : Hosts → Signals → List ℕ → List Visit → Type 0
-AreOrdered hosts w seen [] = Unit {0}
-AreOrdered hosts w seen (v ∷ vs) = Placed hosts w seen v × AreOrdered hosts w (v.computed.name ∷ seen) vs
-
--- the names after some visits, the last one first
-abbrev pub seen_after : List ℕ → List Visit → List ℕ
-seen_after seen [] = seen
-seen_after seen (v ∷ vs) = seen_after (v.computed.name ∷ seen) vs
+-- one name more is seen
+pub seen_snoc : (seen : List ℕ) (vs : List Visit) (v : Visit) → seen_after seen (vs ++ v ∷ []) ≡ v.computed.name ∷ seen_after seen vs
+seen_snoc seen [] v = refl
+seen_snoc seen (u ∷ us) v = seen_snoc (u.computed.name ∷ seen) us v
 
 -- what is seen was seen before or is visited
 pub seen_is : (x : ℕ) (seen : List ℕ) (vs : List Visit) → is_in x (seen_after seen vs) ≡ (is_in x seen || is_in x (visited vs))
@@ -40,6 +30,12 @@ seen_is x seen (v ∷ vs) = seen_is x (v.computed.name ∷ seen) vs ∙ go (x ==
     go true true c = refl
     go true false c = refl
     go false b c = refl
+
+-- the first visits are in order
+pub ordered_first : (hosts : Hosts) (w : Signals) (seen : List ℕ) (us vs : List Visit) → AreOrdered hosts w seen (us ++ vs) →
+    AreOrdered hosts w seen us
+ordered_first hosts w seen [] vs o = tt
+ordered_first hosts w seen (u ∷ us) vs o = (o.0, ordered_first hosts w (u.computed.name ∷ seen) us vs o.1)
 
 -- what is among the visits and one more
 in_more : (x : ℕ) (vs : List Visit) (v : Visit) → is_in x (visited (vs ++ v ∷ [])) ≡ (is_in x (visited vs) || x == v.computed.name)
@@ -56,7 +52,8 @@ in_more x (u ∷ us) v = ap (λ b. x == u.computed.name || b) (in_more x us v) �
 
 module _ (hosts : Hosts) (w : Signals) where
   -- one visit more in its place
-  ordered_snoc : (seen : List ℕ) (vs : List Visit) (v : Visit) → AreOrdered hosts w seen vs → Placed hosts w (seen_after seen vs) v → AreOrdered hosts w seen (vs ++ v ∷ [])
+  ordered_snoc : (seen : List ℕ) (vs : List Visit) (v : Visit) → AreOrdered hosts w seen vs → IsPlaced hosts w (seen_after seen vs) v →
+      AreOrdered hosts w seen (vs ++ v ∷ [])
   ordered_snoc seen [] v o p = (p, tt)
   ordered_snoc seen (u ∷ us) v o p = (o.0, ordered_snoc (u.computed.name ∷ seen) us v o.1 p)
 
@@ -86,7 +83,13 @@ module _ (hosts : Hosts) (w : Signals) where
 
   -- growth after growth
   grown_on : (path : List ℕ) (a b c : List Visit) → Grown path a b → Grown path b c → Grown path a c
-  grown_on path a b c f g = record { ordered = g.ordered; more = λ x h. g.more x (f.more x h); old = λ x h. elim (g.old x h) [ inl in_b ↦ f.old x in_b | inr off ↦ inr off ] }
+  grown_on path a b c f g =
+      record {
+        ordered = g.ordered;
+        more = λ x h. g.more x (f.more x h);
+        old =
+            λ x h. elim (g.old x h) [ inl in_b ↦ f.old x in_b | inr off ↦ inr off ];
+      }
 
   -- what was visited stays visited
   came_on : (path : List ℕ) (n : ℕ) (a b : List Visit) → Grown path a b → Came path n a → Came path n b
@@ -96,8 +99,10 @@ module _ (hosts : Hosts) (w : Signals) where
   ]
 
   -- all reads are visited in order
-  visits_grow : (path : List ℕ) (all : List Seen) → ((m : ℕ) (done : List Visit) → IsRead m all → AreOrdered hosts w [] done → GrownBy path m done (visit hosts w path m done)) →
-      (ss : List Seen) → ((m : ℕ) → IsRead m ss → IsRead m all) → (done : List Visit) → AreOrdered hosts w [] done → GrownByAll path ss done (visits (visit hosts w path) ss done)
+  visits_grow : (path : List ℕ) (all : List Seen) →
+      ((m : ℕ) (done : List Visit) → IsRead m all → AreOrdered hosts w [] done → GrownBy path m done (visit hosts w path m done)) →
+      (ss : List Seen) → ((m : ℕ) → IsRead m ss → IsRead m all) → (done : List Visit) → AreOrdered hosts w [] done →
+      GrownByAll path ss done (visits (visit hosts w path) ss done)
   visits_grow path all f [] sub done d = record { grown = no_growth path done d; came = λ m r. absurd r }
   visits_grow path all f (s ∷ ss) sub done d =
       let vs : List Visit = visit hosts w path s.name done in
@@ -106,13 +111,15 @@ module _ (hosts : Hosts) (w : Signals) where
       record {
         grown = grown_on path done vs (visits (visit hosts w path) ss vs) a.grown b.grown;
         came = λ m r. elim r [
-          | inl e ↦ subst (λ j. Came path j (visits (visit hosts w path) ss vs)) (sym e) (came_on path s.name vs (visits (visit hosts w path) ss vs) b.grown a.came)
+          | inl e ↦ subst (λ j. Came path j (visits (visit hosts w path) ss vs)) (sym e)
+              (came_on path s.name vs (visits (visit hosts w path) ss vs) b.grown a.came)
           | inr t ↦ b.came m t
         ];
       }
 
   -- a name is visited in order
-  visit_grows : (far : ℕ) (path : List ℕ) (n : ℕ) (done : List Visit) → IsChain hosts w n path → names_left w.computeds path < far → AreOrdered hosts w [] done → GrownBy path n done (visit hosts w path n done)
+  visit_grows : (far : ℕ) (path : List ℕ) (n : ℕ) (done : List Visit) → IsChain hosts w n path → names_left w.computeds path < far →
+      AreOrdered hosts w [] done → GrownBy path n done (visit hosts w path n done)
   visit_grows zero path n done chain lt d = absurd (omega arith)
   visit_grows (suc far) path n done chain lt d =
       subst (GrownBy path n done) (sym (visit_by_cases hosts w path n done))
@@ -122,24 +129,33 @@ module _ (hosts : Hosts) (w : Signals) where
       stands_is s t p q = sym p ∙ q
 
       go : (s : Stands) → standing w n ≡ s → ((is_in n path || is_in n (visited done)) ≡ true) ⊎ ((is_in n path || is_in n (visited done)) ≡ false) →
-          ((m : ℕ) (us : List Visit) → IsChain hosts w m (n ∷ path) → names_left w.computeds (n ∷ path) < far → AreOrdered hosts w [] us → GrownBy (n ∷ path) m us (visit hosts w (n ∷ path) m us)) →
-          GrownBy path n done (visit_case s (is_in n path || is_in n (visited done)) done (λ c. visits (visit hosts w (n ∷ path)) (reads_of hosts w c) done ++ record { computed = c; path = path } ∷ []))
+          ((m : ℕ) (us : List Visit) → IsChain hosts w m (n ∷ path) → names_left w.computeds (n ∷ path) < far → AreOrdered hosts w [] us →
+          GrownBy (n ∷ path) m us (visit hosts w (n ∷ path) m us)) →
+          GrownBy path n done (visit_case s (is_in n path || is_in n (visited done)) done
+          (λ c. visits (visit hosts w (n ∷ path)) (reads_of hosts w c) done ++ record { computed = c; path = path } ∷ []))
       go IsGone e p next = record { grown = no_growth path done d; came = λ c st. cc (stands_is IsGone (IsComputed c) e st) }
       go (IsCell x) e p next = record { grown = no_growth path done d; came = λ c st. cc (stands_is (IsCell x) (IsComputed c) e st) }
-      go (IsComputed c) e (inl p) next = subst (λ b. GrownBy path n done (cond b done (visits (visit hosts w (n ∷ path)) (reads_of hosts w c) done ++ record { computed = c; path = path } ∷ []))) (sym p) (record { grown = no_growth path done d; came = λ c' st. p })
+      go (IsComputed c) e (inl p) next =
+          subst (λ b. GrownBy path n done
+          (cond b done (visits (visit hosts w (n ∷ path)) (reads_of hosts w c) done ++ record { computed = c; path = path } ∷ []))) (sym p)
+          (record { grown = no_growth path done d; came = λ c' st. p })
       go (IsComputed c) e (inr p) next =
           let off : is_in n path ≡ false = or_fst (is_in n path) (is_in n (visited done)) p in
           let fresh : is_in n (visited done) ≡ false = or_snd (is_in n path) (is_in n (visited done)) p in
           let name : n ≡ c.name = name_is hosts w n c e in
           let v : Visit = record { computed = c; path = path } in
           let us : List Visit = visits (visit hosts w (n ∷ path)) (reads_of hosts w c) done in
-          let less : names_left w.computeds path ≡ suc (names_left w.computeds (n ∷ path)) = left_less hosts w n path c e off ∙ ap (λ y. suc (names_left w.computeds (y ∷ path))) (sym name) in
-          let kids : GrownByAll (n ∷ path) (reads_of hosts w c) done us = visits_grow (n ∷ path) (reads_of hosts w c) (λ m ws r o. next m ws (record { computed = c; stands = e; read = r }, chain) (omega (arith, less)) o) (reads_of hosts w c) (λ m r. r) done d in
+          let less : names_left w.computeds path ≡ suc (names_left w.computeds (n ∷ path)) = left_less hosts w n path c e off
+          ∙ ap (λ y. suc (names_left w.computeds (y ∷ path))) (sym name) in
+          let kids : GrownByAll (n ∷ path) (reads_of hosts w c) done us =
+          visits_grow (n ∷ path) (reads_of hosts w c)
+          (λ m ws r o. next m ws (record { computed = c; stands = e; read = r }, chain) (omega (arith, less)) o) (reads_of hosts w c)
+          (λ m r. r) done d in
           let away : is_in n (visited us) ≡ false = elim (tested (is_in n (visited us))) [
             | inr z ↦ z
             | inl z ↦ elim (kids.grown.old n z) [ inl was ↦ cc (sym was ∙ fresh) | inr bad ↦ cc (sym bad ∙ in_head n path) ]
           ] in
-          let placed : Placed hosts w (seen_after [] us) v = record {
+          let placed : IsPlaced hosts w (seen_after [] us) v = record {
             stands = ap (standing w) (sym name) ∙ e;
             chain = subst (λ y. IsChain hosts w y path) name chain;
             new = ap (λ y. is_in y (seen_after [] us)) (sym name) ∙ seen_is n [] us ∙ away;
@@ -157,24 +173,23 @@ module _ (hosts : Hosts) (w : Signals) where
                 | inr is ↦ inr (ap (λ y. is_in y path) (eqb-true x c.name is ∙ sym name) ∙ off)
               ];
             };
-            came = λ c' st. or_right (is_in n path) (is_in n (visited (us ++ v ∷ []))) (in_more n us v ∙ or_right (is_in n (visited us)) (n == c.name) (eq-eqb n c.name name));
+            came = λ c' st. or_right (is_in n path) (is_in n (visited (us ++ v ∷ [])))
+                (in_more n us v ∙ or_right (is_in n (visited us)) (n == c.name) (eq-eqb n c.name name));
           } in
           subst (λ z. GrownBy path n done (cond z done (us ++ v ∷ []))) (sym p) out
 
-  -- the order of what is asked for
-  pub record IsOrder (asked : List ℕ) (out : List Visit) : Type 0 where
-    pub ordered : AreOrdered hosts w [] out
-    pub came : (n : ℕ) (c : Computed) → is_in n asked ≡ true → standing w n ≡ IsComputed c → is_in n (visited out) ≡ true
-
   -- all that is asked for is visited in order
   order_grows : (asked : List ℕ) (done : List Visit) → AreOrdered hosts w [] done →
-      IsOrder asked (order_after hosts w asked done) × ((x : ℕ) → is_in x (visited done) ≡ true → is_in x (visited (order_after hosts w asked done)) ≡ true)
+      IsOrder hosts w asked (order_after hosts w asked done)
+      × ((x : ℕ) → is_in x (visited done) ≡ true → is_in x (visited (order_after hosts w asked done)) ≡ true)
   order_grows [] done d = (record { ordered = d; came = λ n c on st. cc on }, λ x h. h)
   order_grows (a ∷ asked) done d =
       let vs : List Visit = visit hosts w [] a done in
       let lt : names_left w.computeds [] < suc (names_left w.computeds []) = omega arith in
       let g : GrownBy [] a done vs = visit_grows (suc (names_left w.computeds [])) [] a done tt lt d in
-      let r : IsOrder asked (order_after hosts w asked vs) × ((x : ℕ) → is_in x (visited vs) ≡ true → is_in x (visited (order_after hosts w asked vs)) ≡ true) = order_grows asked vs g.grown.ordered in (
+      let r : IsOrder hosts w asked (order_after hosts w asked vs)
+      × ((x : ℕ) → is_in x (visited vs) ≡ true → is_in x (visited (order_after hosts w asked vs)) ≡ true) =
+      order_grows asked vs g.grown.ordered in (
         record {
           ordered = r.0.ordered;
           came = λ n c on st. elim (either (n == a) (is_in n asked) on) [
@@ -185,6 +200,6 @@ module _ (hosts : Hosts) (w : Signals) where
         λ x h. r.1 x (g.grown.more x h),
       )
 
-  -- the order has each visit in its place
-  pub order_is : (asked : List ℕ) → IsOrder asked (order_after hosts w asked [])
-  order_is asked = (order_grows asked [] tt).0
+-- the order has each visit in its place
+pub places_law : PlacesLaw
+places_law hosts w asked = (order_grows hosts w asked [] tt).0

@@ -1,5 +1,6 @@
 -- What one run leaves of the memos.
-use Rattle.std.proofs.Common.{◌≡◌, ℕ, zero, suc, ◌+◌, ◌==◌, ◌||◌, not, Bool, true, false, cond, List, [], ◌∷◌, map, Option, Some, None, refl, sym, ap, ◌∙◌, subst, arith, ◌⊎◌, inl, inr}
+use Rattle.std.proofs.Common.{◌≡◌, ℕ, zero, suc, ◌+◌, ◌==◌, ◌||◌, not, Bool, true, false, cond, List, [], ◌∷◌, map, Option, Some, None, refl, sym, ap}
+use Rattle.std.proofs.Common.{◌∙◌, subst, arith, ◌⊎◌, inl, inr}
 use Rattle.std.specs.Prelude.{slice_index}
 use Rattle.std.proofs.lemmas.Bool.{eqb-true, eq-eqb}
 use Rattle.sig_base.specs.Values.{same_outcome-Decides}
@@ -9,18 +10,21 @@ use Rattle.sig_base.specs.declared.value.Outcome.TheVariants.{Good, Bad}
 use Rattle.sig_base.specs.declared.value.Step.{Step}
 use Rattle.sig_base.specs.declared.value.Step.TheVariants.{Read, Done, Fail}
 use Rattle.sig_base.specs.declared.value.Known.{Known}
-use Rattle.signal_model.specs.Recipes.{Hosts, Recipe, answer_of}
-use Rattle.signal_model.specs.Standing.{Signals, Computed, IsComputed, is_in, standing}
+use Rattle.signal_model.specs.Recipes.{Hosts, Recipe, recipe_answer}
+use Rattle.signal_model.specs.Standing.{Signals, Computed, IsComputed, is_computed, is_in, standing}
 use Rattle.signal_model.specs.Values.{Seen, Evaluation, learnt, after_read, after_step, asked_within}
-use Rattle.signal_model.specs.Memos.{Source, Memo, Entry, Memos, entry_at, number_in, memo_in, number_of, memo_of, source_names, same_number, is_cycle, differs, some_moved, must_run_by}
+use Rattle.signal_model.specs.Memos.{Source, Memo, Entry, Memos, entry_at, number_in, memo_in, number_of, memo_of, source_names, same_number}
+use Rattle.signal_model.specs.Memos.{is_cycle, differs, some_moved, must_run_by}
 use Rattle.signal_model.specs.Settling.{source_now, has_outcome, ran_entry, with_memo}
-use Rattle.signal_model.specs.Sound.{kept_outcome, outcome_here, standing_outcome, EndsWith, AfterSource, Unless, Follows, IsPast, ArePast, names_of, Keeps, IsKeptPath, IsSound}
+use Rattle.signal_model.specs.Sound.{kept_outcome, outcome_here, standing_outcome, EndsWith, AfterSource, Unless, Follows, IsPast, ArePast, names_of}
+use Rattle.signal_model.specs.Sound.{Keeps, IsKeptPath, IsSound}
 use Rattle.signal_model.specs.Laws.{IsRead}
 use Rattle.signal_model.proofs.Shared.{tested}
-use Rattle.signal_laws.specs.Keeping.{HaveEntries}
-use Rattle.signal_laws.proofs.Entries.{entry_other, entry_same}
-use Rattle.signal_laws.proofs.Changing.{Calm, calm_of, Stays, all_stay, above, moved_back, some_is}
-use Rattle.signal_laws.proofs.Following.{in_head, in_tail}
+use Rattle.signal_model.specs.Kept.{HaveEntries}
+use Rattle.signal_model.specs.Memos.{has_entry}
+use Rattle.signal_laws.proofs.LookUps.{entry_changed, entry_other, entry_same}
+use Rattle.signal_laws.proofs.AfterChange.{some_mapped, Calm, calm_of, Stays, all_stay, above, moved_back, some_is}
+use Rattle.signal_laws.proofs.Lists.{in_head, in_tail}
 
 -- the memo that a run leaves
 abbrev pub new_memo : Memos → Outcome → List Source → Memo
@@ -29,19 +33,23 @@ new_memo k o ss = record { outcome = o; sources = ss; generation = k.generation;
 -- ---- the entries after a run
 
 -- a run leaves the entry of another
-pub run_other : (k : Memos) (n : ℕ) (o : Outcome) (ss : List Source) (m : ℕ) → (m == n) ≡ false → entry_at m (with_memo k n o ss).entries ≡ entry_at m k.entries
+pub run_other : (k : Memos) (n : ℕ) (o : Outcome) (ss : List Source) (m : ℕ) → (m == n) ≡ false →
+    entry_at m (with_memo k n o ss).entries ≡ entry_at m k.entries
 run_other k n o ss m off = entry_other m n (ran_entry (new_memo k o ss)) k.entries (λ q. refl) off
 
 -- and changes its own
-pub run_here : (k : Memos) (n : ℕ) (o : Outcome) (ss : List Source) (r : Entry) → entry_at n k.entries ≡ Some r → entry_at n (with_memo k n o ss).entries ≡ Some (ran_entry (new_memo k o ss) r)
+pub run_here : (k : Memos) (n : ℕ) (o : Outcome) (ss : List Source) (r : Entry) → entry_at n k.entries ≡ Some r →
+    entry_at n (with_memo k n o ss).entries ≡ Some (ran_entry (new_memo k o ss) r)
 run_here k n o ss r at = entry_same n (ran_entry (new_memo k o ss)) k.entries r (λ q. refl) at
 
 -- which has the new memo
-pub run_memo : (k : Memos) (n : ℕ) (o : Outcome) (ss : List Source) (r : Entry) → entry_at n k.entries ≡ Some r → memo_of (with_memo k n o ss) n ≡ Some (new_memo k o ss)
+pub run_memo : (k : Memos) (n : ℕ) (o : Outcome) (ss : List Source) (r : Entry) → entry_at n k.entries ≡ Some r →
+    memo_of (with_memo k n o ss) n ≡ Some (new_memo k o ss)
 run_memo k n o ss r at = ap memo_in (run_here k n o ss r at)
 
 -- another name's sources are as they were, and its own number rises where its outcome is another
-pub run_stays : (w : Signals) (k : Memos) (n : ℕ) (d : Computed) (r : Entry) (o : Outcome) (ss : List Source) → standing w n ≡ IsComputed d → entry_at n k.entries ≡ Some r →
+pub run_stays : (w : Signals) (k : Memos) (n : ℕ) (d : Computed) (r : Entry) (o : Outcome) (ss : List Source) → standing w n ≡ IsComputed d →
+    entry_at n k.entries ≡ Some r →
     (s : Source) → IsPast s.number (number_of k s.name) → Stays w k w (with_memo k n o ss) s
 run_stays w k n d r o ss stands at s past = go (s.name == n) refl
   where
@@ -50,17 +58,23 @@ run_stays w k n d r o ss stands at s past = go (s.name == n) refl
 
     rises : (b : Bool) → has_outcome r.memo o ≡ b → (past' : IsPast s.number (Some r.number)) → s.name ≡ n → Stays w k w (with_memo k n o ss) s
     rises true same p e = inr (
-      ap (λ x. not (same_number x s.number)) (ap (λ m. number_of (with_memo k n o ss) m) e ∙ ap number_in new ∙ (λ i. Some (r.number + cond (same i) 0 1)) ∙ ap (λ m. Some m) zeroed ∙ sym (ap number_in at) ∙ sym (ap (number_of k) e)),
-      ap (λ m. standing_outcome w (with_memo k n o ss) m) e ∙ (λ i. outcome_here (stands i) (memo_in (new i))) ∙ sym (old r.memo same) ∙ sym (λ i. outcome_here (stands i) (memo_in (at i))) ∙ sym (ap (standing_outcome w k) e),
+      ap (λ x. not (same_number x s.number))
+          (ap (λ m. number_of (with_memo k n o ss) m) e ∙ ap number_in new ∙ (λ i. Some (r.number + cond (same i) 0 1)) ∙ ap (λ m. Some m) zeroed
+          ∙ sym (ap number_in at) ∙ sym (ap (number_of k) e)),
+      ap (λ m. standing_outcome w (with_memo k n o ss) m) e ∙ (λ i. outcome_here (stands i) (memo_in (new i))) ∙ sym (old r.memo same)
+          ∙ sym (λ i. outcome_here (stands i) (memo_in (at i))) ∙ sym (ap (standing_outcome w k) e),
     )
       where
         zeroed : r.number + 0 ≡ r.number
         zeroed = omega arith
 
-        old : (x : Option Memo) → has_outcome x o ≡ true → kept_outcome x ≡ o
+        old : (x : Option Memo) → has_outcome x o ≡ true → kept_outcome x ≡ Some o
         old None h = cc
-        old (Some x) h = (same_outcome-Decides x.outcome o).0 h
-    rises false other p e = inl (ap (λ x. not (same_number x s.number)) (ap (λ m. number_of (with_memo k n o ss) m) e ∙ ap number_in new ∙ (λ i. Some (r.number + cond (other i) 0 1))) ∙ above s.number r.number p)
+        old (Some x) h = ap (λ y. Some y) ((same_outcome-Decides x.outcome o).0 h)
+    rises false other p e = inl
+        (ap (λ x. not (same_number x s.number))
+        (ap (λ m. number_of (with_memo k n o ss) m) e ∙ ap number_in new ∙ (λ i. Some (r.number + cond (other i) 0 1)))
+        ∙ above s.number r.number p)
 
     go : (b : Bool) → (s.name == n) ≡ b → Stays w k w (with_memo k n o ss) s
     go false off = inr (
@@ -76,7 +90,8 @@ past_more None a b h = cc
 past_more (Some y) a b h = omega (arith, h)
 
 -- no number falls by a run
-pub run_past : (k : Memos) (n : ℕ) (o : Outcome) (ss : List Source) (r : Entry) → entry_at n k.entries ≡ Some r → (x : Option ℕ) (m : ℕ) → IsPast x (number_of k m) → IsPast x (number_of (with_memo k n o ss) m)
+pub run_past : (k : Memos) (n : ℕ) (o : Outcome) (ss : List Source) (r : Entry) → entry_at n k.entries ≡ Some r → (x : Option ℕ) (m : ℕ) →
+    IsPast x (number_of k m) → IsPast x (number_of (with_memo k n o ss) m)
 run_past k n o ss r at x m p = elim (tested (m == n)) [
   | inr off ↦ subst (IsPast x) (sym (ap number_in (run_other k n o ss m off))) p
   | inl on ↦
@@ -91,11 +106,16 @@ past_self None = refl
 past_self (Some n) = omega arith
 
 -- each signal has its entry still
-pub run_entries : (w : Signals) (k : Memos) (n : ℕ) (o : Outcome) (ss : List Source) (r : Entry) → entry_at n k.entries ≡ Some r → HaveEntries w k → HaveEntries w (with_memo k n o ss)
-run_entries w k n o ss r at h m none = elim (tested (m == n)) [
-  | inr off ↦ h m (sym (run_other k n o ss m off) ∙ none)
-  | inl on ↦ cc (sym (ap (λ x. entry_at x (with_memo k n o ss).entries) (eqb-true m n on) ∙ run_here k n o ss r at) ∙ none)
-]
+pub run_entries : (w : Signals) (k : Memos) (n : ℕ) (d : Computed) (o : Outcome) (ss : List Source) → standing w n ≡ IsComputed d → HaveEntries w k →
+    HaveEntries w (with_memo k n o ss)
+run_entries w k n d o ss stands h = record {
+  entries = λ m. ap has_entry (entry_changed m n (ran_entry (new_memo k o ss)) k.entries (λ q. refl))
+      ∙ some_mapped (λ e. cond (m == n) (ran_entry (new_memo k o ss) e) e) (entry_at m k.entries) ∙ h.entries m;
+  memos = λ m e q. elim (tested (m == n)) [
+    | inr off ↦ h.memos m e (sym (ap memo_in (run_other k n o ss m off)) ∙ q)
+    | inl on ↦ ap (λ x. is_computed (standing w x)) (eqb-true m n on) ∙ ap is_computed stands
+  ];
+}
 
 -- ---- the sources of a run
 
@@ -110,24 +130,30 @@ same_self None = refl
 same_self (Some n) = eq-eqb n n refl
 
 -- what was read just now hasn't moved, where the run's own name isn't among it
-pub now_calm : (k : Memos) (n : ℕ) (o : Outcome) (all : List Source) (ss : List Seen) → ((m : ℕ) → IsRead m ss → (m == n) ≡ false) → some_moved (with_memo k n o all) [] (map (source_now k) ss) ≡ false
+pub now_calm : (k : Memos) (n : ℕ) (o : Outcome) (all : List Source) (ss : List Seen) → ((m : ℕ) → IsRead m ss → (m == n) ≡ false) →
+    some_moved (with_memo k n o all) [] (map (source_now k) ss) ≡ false
 now_calm k n o all [] f = refl
 now_calm k n o all (s ∷ ss) f =
     let a : number_of (with_memo k n o all) s.name ≡ number_of k s.name = ap number_in (run_other k n o all s.name (f s.name (inl refl))) in
-    let d : not (same_number (number_of (with_memo k n o all) s.name) (number_of k s.name)) ≡ false = (λ i. not (same_number (a i) (number_of k s.name))) ∙ ap not (same_self (number_of k s.name)) in
+    let d : not (same_number (number_of (with_memo k n o all) s.name) (number_of k s.name)) ≡ false =
+    (λ i. not (same_number (a i) (number_of k s.name))) ∙ ap not (same_self (number_of k s.name)) in
     let b : some_moved (with_memo k n o all) [] (map (source_now k) ss) ≡ false = now_calm k n o all ss (λ m r. f m (inr r)) in
     (λ i. (d i || false) || b i)
 
 -- sources of other names have moved as before
-pub same_moved : (k : Memos) (n : ℕ) (o : Outcome) (all : List Source) (ss : List Source) → ((m : ℕ) → is_in m (source_names ss) ≡ true → (m == n) ≡ false) → some_moved (with_memo k n o all) [] ss ≡ some_moved k [] ss
+pub same_moved : (k : Memos) (n : ℕ) (o : Outcome) (all : List Source) (ss : List Source) →
+    ((m : ℕ) → is_in m (source_names ss) ≡ true → (m == n) ≡ false) → some_moved (with_memo k n o all) [] ss ≡ some_moved k [] ss
 same_moved k n o all [] f = refl
 same_moved k n o all (s ∷ ss) f =
-    let a : number_of (with_memo k n o all) s.name ≡ number_of k s.name = ap number_in (run_other k n o all s.name (f s.name (in_head s.name (source_names ss)))) in
-    let b : some_moved (with_memo k n o all) [] ss ≡ some_moved k [] ss = same_moved k n o all ss (λ m on. f m (in_tail m s.name (source_names ss) on)) in
+    let a : number_of (with_memo k n o all) s.name ≡ number_of k s.name =
+    ap number_in (run_other k n o all s.name (f s.name (in_head s.name (source_names ss)))) in
+    let b : some_moved (with_memo k n o all) [] ss ≡ some_moved k [] ss =
+    same_moved k n o all ss (λ m on. f m (in_tail m s.name (source_names ss) on)) in
     (λ i. (not (same_number (a i) s.number) || false) || b i)
 
 -- what was read just now is past
-pub now_past : (k k' : Memos) → ((x : Option ℕ) (m : ℕ) → IsPast x (number_of k m) → IsPast x (number_of k' m)) → (ss : List Seen) → ArePast k' (map (source_now k) ss)
+pub now_past : (k k' : Memos) → ((x : Option ℕ) (m : ℕ) → IsPast x (number_of k m) → IsPast x (number_of k' m)) → (ss : List Seen) →
+    ArePast k' (map (source_now k) ss)
 now_past k k' f [] = tt
 now_past k k' f (s ∷ ss) = (f (number_of k s.name) s.name (past_self (number_of k s.name)), now_past k k' f ss)
 
@@ -137,31 +163,57 @@ unless true p = tt
 unless false p = p
 
 -- an evaluation follows what it read, where this stands as it was read
-pub now_follows : (t : ℕ) (hosts : Hosts) (w : Signals) (k k' : Memos) (r : Recipe) (source : ℕ → Outcome) (known : List Known) → is_cycle (asked_within t hosts r source known).outcome ≡ false →
-    ((m : ℕ) → IsRead m (asked_within t hosts r source known).reads → standing_outcome w k' m ≡ source m) →
+pub now_follows : (t : ℕ) (hosts : Hosts) (w : Signals) (k k' : Memos) (r : Recipe) (source : ℕ → Outcome) (known : List Known) →
+    is_cycle (asked_within t hosts r source known).outcome ≡ false →
+    ((m : ℕ) → IsRead m (asked_within t hosts r source known).reads → standing_outcome w k' m ≡ Some (source m)) →
     Follows hosts w k' r (asked_within t hosts r source known).outcome known (map (source_now k) (asked_within t hosts r source known).reads)
 now_follows zero hosts w k k' r source known fine ok = cc
-now_follows (suc t) hosts w k k' r source known fine ok = go (answer_of hosts r known) refl fine ok (λ s v f g. now_follows t hosts w k k' r source (learnt known s v) f g)
+now_follows (suc t) hosts w k k' r source known fine ok =
+    go (recipe_answer hosts r known) refl fine ok (λ s v f g. now_follows t hosts w k k' r source (learnt known s v) f g)
   where
-    follow : (s : ℕ) → answer_of hosts r known ≡ Read s → (x : Outcome) → source (slice_index r.slots s) ≡ x →
+    follow : (s : ℕ) → recipe_answer hosts r known ≡ Read s → (x : Outcome) → source (slice_index r.slots s) ≡ x →
         is_cycle (after_read (slice_index r.slots s) x (λ v. asked_within t hosts r source (learnt known s v))).outcome ≡ false →
-        ((m : ℕ) → IsRead m (after_read (slice_index r.slots s) x (λ v. asked_within t hosts r source (learnt known s v))).reads → standing_outcome w k' m ≡ source m) →
-        ((v : Value) → is_cycle (asked_within t hosts r source (learnt known s v)).outcome ≡ false → ((m : ℕ) → IsRead m (asked_within t hosts r source (learnt known s v)).reads → standing_outcome w k' m ≡ source m) →
-        Follows hosts w k' r (asked_within t hosts r source (learnt known s v)).outcome (learnt known s v) (map (source_now k) (asked_within t hosts r source (learnt known s v)).reads)) →
-        Follows hosts w k' r (after_read (slice_index r.slots s) x (λ v. asked_within t hosts r source (learnt known s v))).outcome known (map (source_now k) (after_read (slice_index r.slots s) x (λ v. asked_within t hosts r source (learnt known s v))).reads)
+        ((m : ℕ) → IsRead m (after_read (slice_index r.slots s) x (λ v. asked_within t hosts r source (learnt known s v))).reads →
+        standing_outcome w k' m ≡ Some (source m)) →
+        ((v : Value) → is_cycle (asked_within t hosts r source (learnt known s v)).outcome ≡ false →
+        ((m : ℕ) → IsRead m (asked_within t hosts r source (learnt known s v)).reads → standing_outcome w k' m ≡ Some (source m)) →
+        Follows hosts w k' r (asked_within t hosts r source (learnt known s v)).outcome (learnt known s v)
+        (map (source_now k) (asked_within t hosts r source (learnt known s v)).reads)) →
+        Follows hosts w k' r (after_read (slice_index r.slots s) x (λ v. asked_within t hosts r source (learnt known s v))).outcome known
+        (map (source_now k) (after_read (slice_index r.slots s) x (λ v. asked_within t hosts r source (learnt known s v))).reads)
     follow s e (Bad b) q fn st next =
-        let m : ℕ = slice_index r.slots s in
-        (s, e, refl, unless (differs k' (source_now k (record { name = m; outcome = Bad b }))) (subst (λ y. AfterSource y [] (Bad b) (λ v. Follows hosts w k' r (Bad b) (learnt known s v) [])) (sym (st m (inl refl) ∙ q)) (refl, refl)))
+        let m : ℕ = slice_index r.slots s in (
+          s,
+          e,
+          refl,
+          unless (differs k' (source_now k (record { name = m; outcome = Bad b })))
+              (subst (λ y. AfterSource y [] (Bad b) (λ v. Follows hosts w k' r (Bad b) (learnt known s v) []))
+              (sym (st m (inl refl) ∙ ap (λ y. Some y) q))
+              (refl, refl)),
+        )
     follow s e (Good v) q fn st next =
         let m : ℕ = slice_index r.slots s in
-        let rest : Evaluation = asked_within t hosts r source (learnt known s v) in
-        (s, e, refl, unless (differs k' (source_now k (record { name = m; outcome = Good v }))) (subst (λ y. AfterSource y (map (source_now k) rest.reads) rest.outcome (λ u. Follows hosts w k' r rest.outcome (learnt known s u) (map (source_now k) rest.reads))) (sym (st m (inl refl) ∙ q)) (next v fn (λ j on. st j (inr on)))))
+        let rest : Evaluation = asked_within t hosts r source (learnt known s v) in (
+          s,
+          e,
+          refl,
+          unless (differs k' (source_now k (record { name = m; outcome = Good v })))
+              (subst (λ y. AfterSource y (map (source_now k) rest.reads) rest.outcome
+              (λ u. Follows hosts w k' r rest.outcome (learnt known s u) (map (source_now k) rest.reads)))
+              (sym (st m (inl refl) ∙ ap (λ y. Some y) q))
+              (next v fn (λ j on. st j (inr on)))),
+        )
 
-    go : (st : Step) → answer_of hosts r known ≡ st → is_cycle (after_step st r.slots source (λ s v. asked_within t hosts r source (learnt known s v))).outcome ≡ false →
-        ((m : ℕ) → IsRead m (after_step st r.slots source (λ s v. asked_within t hosts r source (learnt known s v))).reads → standing_outcome w k' m ≡ source m) →
-        ((s : ℕ) (v : Value) → is_cycle (asked_within t hosts r source (learnt known s v)).outcome ≡ false → ((m : ℕ) → IsRead m (asked_within t hosts r source (learnt known s v)).reads → standing_outcome w k' m ≡ source m) →
-        Follows hosts w k' r (asked_within t hosts r source (learnt known s v)).outcome (learnt known s v) (map (source_now k) (asked_within t hosts r source (learnt known s v)).reads)) →
-        Follows hosts w k' r (after_step st r.slots source (λ s v. asked_within t hosts r source (learnt known s v))).outcome known (map (source_now k) (after_step st r.slots source (λ s v. asked_within t hosts r source (learnt known s v))).reads)
+    go : (st : Step) → recipe_answer hosts r known ≡ st →
+        is_cycle (after_step st r.slots source (λ s v. asked_within t hosts r source (learnt known s v))).outcome ≡ false →
+        ((m : ℕ) → IsRead m (after_step st r.slots source (λ s v. asked_within t hosts r source (learnt known s v))).reads →
+        standing_outcome w k' m ≡ Some (source m)) →
+        ((s : ℕ) (v : Value) → is_cycle (asked_within t hosts r source (learnt known s v)).outcome ≡ false →
+        ((m : ℕ) → IsRead m (asked_within t hosts r source (learnt known s v)).reads → standing_outcome w k' m ≡ Some (source m)) →
+        Follows hosts w k' r (asked_within t hosts r source (learnt known s v)).outcome (learnt known s v)
+        (map (source_now k) (asked_within t hosts r source (learnt known s v)).reads)) →
+        Follows hosts w k' r (after_step st r.slots source (λ s v. asked_within t hosts r source (learnt known s v))).outcome known
+        (map (source_now k) (after_step st r.slots source (λ s v. asked_within t hosts r source (learnt known s v))).reads)
     go (Done v) e fn ok' next = subst (λ st. EndsWith st (Good v)) (sym e) refl
     go (Fail x) e fn ok' next = subst (λ st. EndsWith st (Bad x)) (sym e) refl
     go (Read s) e fn ok' next = follow s e (source (slice_index r.slots s)) refl fn ok' (next s)
@@ -204,7 +256,8 @@ way {w} {k} {a} (here r) = record { path = a ∷ []; chain = (r, tt); on = in_he
 way {w} {k} {a} (onward r g) = way_more (record { path = a ∷ []; chain = (r, tt); on = in_head a [] }) g
 
 -- what another computed keeps after the run it kept before
-run_keeps : (hosts : Hosts) (w : Signals) (k : Memos) (n : ℕ) (c : Computed) (r : Entry) (o : Outcome) (ss : List Source) → standing w n ≡ IsComputed c → entry_at n k.entries ≡ Some r → IsSound hosts w k →
+run_keeps : (hosts : Hosts) (w : Signals) (k : Memos) (n : ℕ) (c : Computed) (r : Entry) (o : Outcome) (ss : List Source) →
+    standing w n ≡ IsComputed c → entry_at n k.entries ≡ Some r → IsSound hosts w k →
     (p m : ℕ) → (p == n) ≡ false → Keeps w (with_memo k n o ss) p m → Keeps w k p m
 run_keeps hosts w k n c r o ss stands at sound p m off x =
     let k' : Memos = with_memo k n o ss in
@@ -223,7 +276,9 @@ run_keeps hosts w k n c r o ss stands at sound p m off x =
         | inr ok ↦
             let rw0 : x.memo.rewired ≡ false = sym (ap (λ (y : Memo). y.rewired) is) ∙ ok.1 in
             let mv : some_moved k [] x.memo.sources ≡ false =
-            moved_back w k w k' x.memo.sources (all_stay hosts w k w k' (run_stays w k n c r o ss stands at) x.memo.sources (sound.past p x.memo was)) (ap (some_moved k' []) (sym (ap (λ (y : Memo). y.sources) is)) ∙ ok.2) in
+            moved_back w k w k' x.memo.sources
+            (all_stay hosts w k w k' (run_stays w k n c r o ss stands at) x.memo.sources (sound.past p x.memo was))
+            (ap (some_moved k' []) (sym (ap (λ (y : Memo). y.sources) is)) ∙ ok.2) in
             ap (λ y. must_run_by k y []) was ∙ (λ i. cond (x.fine i) (not (x.memo.generation == k.generation)) (rw0 i || mv i))
       ];
       kept = x.kept;
@@ -241,7 +296,8 @@ computed_first (here r) = (r.computed, r.stands)
 computed_first (onward r g) = (r.computed, r.stands)
 
 -- one step leads to what is seen
-step_seen : (w : Signals) (k k' : Memos) (a b n : ℕ) (seen : List ℕ) → AfterRun w k n seen k' → Keeps w k' a b → (is_in a seen ≡ true) ⊎ (a ≡ n) → (d : Computed) → standing w b ≡ IsComputed d → is_in b seen ≡ true
+step_seen : (w : Signals) (k k' : Memos) (a b n : ℕ) (seen : List ℕ) → AfterRun w k n seen k' → Keeps w k' a b → (is_in a seen ≡ true) ⊎ (a ≡ n) →
+    (d : Computed) → standing w b ≡ IsComputed d → is_in b seen ≡ true
 step_seen w k k' a b n seen x r (inr e) d st = x.own b d (subst (λ y. Keeps w k' y b) e r) st
 step_seen w k k' a b n seen x r (inl s) d st = elim (tested (a == n)) [
   | inl on ↦ x.own b d (subst (λ y. Keeps w k' y b) (eqb-true a n on) r) st
@@ -249,14 +305,16 @@ step_seen w k k' a b n seen x r (inl s) d st = elim (tested (a == n)) [
 ]
 
 -- from what is seen, or from n itself, a way leads to what is seen
-to_seen : {w : Signals} {k' : Memos} {a b : ℕ} (k : Memos) (n : ℕ) (seen : List ℕ) → AfterRun w k n seen k' → KeepsOn w k' a b → (is_in a seen ≡ true) ⊎ (a ≡ n) → (d : Computed) → standing w b ≡ IsComputed d → is_in b seen ≡ true
+to_seen : {w : Signals} {k' : Memos} {a b : ℕ} (k : Memos) (n : ℕ) (seen : List ℕ) → AfterRun w k n seen k' → KeepsOn w k' a b →
+    (is_in a seen ≡ true) ⊎ (a ≡ n) → (d : Computed) → standing w b ≡ IsComputed d → is_in b seen ≡ true
 to_seen {w} {k'} {a} {b} k n seen x (here r) from d st = step_seen w k k' a b n seen x r from d st
 to_seen {w} {k'} {a} {b} k n seen x (onward {b = p} r g) from d st =
     let first : (e : Computed) × (standing w p ≡ IsComputed e) = computed_first g in
     to_seen k n seen x g (inl (step_seen w k k' a p n seen x r from first.0 first.1)) d st
 
 -- a way passes n, or it was there before
-passes : {w : Signals} {k' : Memos} {a b : ℕ} (k : Memos) (n : ℕ) (seen : List ℕ) → AfterRun w k n seen k' → KeepsOn w k' a b → KeepsOn w k a b ⊎ ((a ≡ n) ⊎ KeepsOn w k' a n) × KeepsOn w k' n b
+passes : {w : Signals} {k' : Memos} {a b : ℕ} (k : Memos) (n : ℕ) (seen : List ℕ) → AfterRun w k n seen k' → KeepsOn w k' a b →
+    KeepsOn w k a b ⊎ ((a ≡ n) ⊎ KeepsOn w k' a n) × KeepsOn w k' n b
 passes {w} {k'} {a} {b} k n seen x (here r) = elim (tested (a == n)) [
   | inl on ↦ let e : a ≡ n = eqb-true a n on in inr (inl e, subst (λ y. KeepsOn w k' y b) e (here r))
   | inr off ↦ inl (here (x.back a b off r))
@@ -270,7 +328,8 @@ passes {w} {k'} {a} {b} k n seen x (onward {b = p} r g) = elim (tested (a == n))
 ]
 
 -- a run of n, whose sources are all seen, closes no cycle
-pub run_acyclic : (hosts : Hosts) (w : Signals) (k : Memos) (n : ℕ) (c : Computed) (r : Entry) (o : Outcome) (ss : List Source) (seen : List ℕ) → standing w n ≡ IsComputed c → entry_at n k.entries ≡ Some r → IsSound hosts w k → is_in n seen ≡ false →
+pub run_acyclic : (hosts : Hosts) (w : Signals) (k : Memos) (n : ℕ) (c : Computed) (r : Entry) (o : Outcome) (ss : List Source) (seen : List ℕ) →
+    standing w n ≡ IsComputed c → entry_at n k.entries ≡ Some r → IsSound hosts w k → is_in n seen ≡ false →
     ((p m : ℕ) (d : Computed) → is_in p seen ≡ true → Keeps w k p m → standing w m ≡ IsComputed d → is_in m seen ≡ true) →
     (is_cycle o ≡ false → (m : ℕ) (d : Computed) → is_in m (source_names ss) ≡ true → standing w m ≡ IsComputed d → is_in m seen ≡ true) →
     (m : ℕ) (path : List ℕ) → IsKeptPath w (with_memo k n o ss) m path → is_in m path ≡ true → ⊥

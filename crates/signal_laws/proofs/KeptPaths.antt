@@ -2,19 +2,19 @@
 use Rattle.std.proofs.Common.{◌≡◌, ℕ, ◌==◌, ◌||◌, not, true, cond, List, [], ◌∷◌, sym, ap, ◌∙◌, ◌⊎◌, inl, inr}
 use Rattle.std.proofs.lemmas.Bool.{eqb-true}
 use Rattle.signal_model.specs.Standing.{Signals, is_in}
-use Rattle.signal_model.specs.Memos.{Source, Memos, memo_of, sources_in, source_names, is_cycle, differs, some_moved, must_run_by, must_run}
-use Rattle.signal_model.specs.Sound.{kept_outcome, Keeps, IsKeptPath}
-use Rattle.signal_model.proofs.Shared.{tested}
-use Rattle.signal_laws.specs.Keepers.{HasSource, IsSourcePath, IsBroken, KeptCycleLaw, KeptPathLaw, EvaluatedSourceLaw}
-use Rattle.signal_laws.proofs.Changing.{Calm, calm_of}
-use Rattle.signal_laws.proofs.Following.{in_head, in_tail}
-use Rattle.signal_laws.proofs.Bools.{either, or_left, or_right}
+use Rattle.signal_model.specs.Memos.{Source, Memos, memo_is_cycle, holds_cycle, sources_in, source_names, differs, some_moved, must_run_by, must_run}
+use Rattle.signal_model.specs.Sound.{Keeps, IsKeptPath}
+use Rattle.signal_model.proofs.Shared.{tested, either, or_left, or_right}
+use Rattle.signal_laws.specs.KeptPathLaws.{HasSource, IsSourcePath, IsBroken, KeptCycleLaw, KeptPathLaw, EvaluatedSourceLaw}
+use Rattle.signal_laws.proofs.AfterChange.{Calm, calm_of}
+use Rattle.signal_laws.proofs.Lists.{in_head, in_tail}
 
 -- a keeper that neither must run nor holds the fault cycle, or why not
-keeper : (w : Signals) (k : Memos) (p n : ℕ) → HasSource w k p n → ((must_run k p [] ≡ true) ⊎ (is_cycle (kept_outcome (memo_of k p)) ≡ true)) ⊎ Keeps w k p n
+keeper : (w : Signals) (k : Memos) (p n : ℕ) → HasSource w k p n →
+    ((must_run k p [] ≡ true) ⊎ (holds_cycle k p ≡ true)) ⊎ Keeps w k p n
 keeper w k p n h = elim (tested (must_run k p [])) [
   | inl due ↦ inl (inl due)
-  | inr calm ↦ elim (tested (is_cycle (kept_outcome (memo_of k p)))) [
+  | inr calm ↦ elim (tested (holds_cycle k p)) [
     | inl cy ↦ inl (inr cy)
     | inr fine ↦
         let q : Calm k p = calm_of k p calm in
@@ -23,7 +23,7 @@ keeper w k p n h = elim (tested (must_run k p [])) [
           stands = h.stands;
           memo = q.memo;
           at = q.at;
-          fine = ap (λ x. is_cycle (kept_outcome x)) (sym q.at) ∙ fine;
+          fine = ap memo_is_cycle (sym q.at) ∙ fine;
           calm = calm;
           kept = ap (λ x. is_in n (source_names (sources_in x))) (sym q.at) ∙ h.kept;
         })
@@ -50,10 +50,12 @@ pub kept_path_law : KeptPathLaw
 kept_path_law hosts w k n path sound c = elim (tested (is_in n path)) [ inl on ↦ absurd (sound.acyclic n path c on) | inr off ↦ off ]
 
 -- a source on the path has moved
-moved_on : (k : Memos) (path : List ℕ) (ss : List Source) (m : ℕ) → is_in m (source_names ss) ≡ true → is_in m path ≡ true → some_moved k path ss ≡ true
+moved_on : (k : Memos) (path : List ℕ) (ss : List Source) (m : ℕ) → is_in m (source_names ss) ≡ true → is_in m path ≡ true →
+    some_moved k path ss ≡ true
 moved_on k path [] m h on = cc
 moved_on k path (s ∷ ss) m h on = elim (either (m == s.name) (is_in m (source_names ss)) h) [
-  | inl e ↦ or_left (differs k s || is_in s.name path) (some_moved k path ss) (or_right (differs k s) (is_in s.name path) (ap (λ x. is_in x path) (sym (eqb-true m s.name e)) ∙ on))
+  | inl e ↦ or_left (differs k s || is_in s.name path) (some_moved k path ss)
+      (or_right (differs k s) (is_in s.name path) (ap (λ x. is_in x path) (sym (eqb-true m s.name e)) ∙ on))
   | inr t ↦ or_right (differs k s || is_in s.name path) (some_moved k path ss) (moved_on k path ss m t on)
 ]
 

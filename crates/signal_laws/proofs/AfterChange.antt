@@ -1,5 +1,6 @@
 -- A change keeps memos sound.
-use Rattle.std.proofs.Common.{◌≡◌, ℕ, ◌+◌, ◌<◌, ◌≤◌, ◌==◌, ◌||◌, not, Bool, true, false, cond, List, [], ◌∷◌, Option, Some, None, refl, sym, ap, ◌∙◌, subst, arith, ◌⊎◌, inl, inr}
+use Rattle.std.proofs.Common.{◌≡◌, ℕ, ◌+◌, ◌<◌, ◌≤◌, ◌==◌, ◌||◌, not, Bool, true, false, cond, List, [], ◌∷◌, Option, Some, None, option_map, refl}
+use Rattle.std.proofs.Common.{sym, ap, ◌∙◌, subst, arith, ◌⊎◌, inl, inr}
 use Rattle.std.proofs.lemmas.Bool.{eqb-true}
 use Rattle.std.proofs.lemmas.Bool.Decides.{nat_tests}
 use Rattle.sig_base.specs.declared.value.Value.{Value}
@@ -7,15 +8,23 @@ use Rattle.sig_base.specs.declared.value.Outcome.{Outcome}
 use Rattle.sig_base.specs.declared.value.Outcome.TheVariants.{Good, Bad}
 use Rattle.sig_base.specs.declared.value.Known.{Known}
 use Rattle.signal_model.specs.Recipes.{Hosts, Recipe}
-use Rattle.signal_model.specs.Standing.{Signals, Computed, Cell, Stands, IsGone, IsCell, IsComputed, is_in, standing, changed, cell_at, computed_at, or_computed}
+use Rattle.signal_model.specs.Standing.{Signals, Computed, Cell, Stands, IsComputed, is_in, is_computed, standing, changed, cell_at}
+use Rattle.signal_model.specs.Standing.{computed_at, or_computed}
 use Rattle.signal_model.specs.Values.{learnt, value_of, reads_of}
-use Rattle.signal_model.specs.Memos.{Source, Memo, Entry, Memos, entry_at, number_in, memo_in, number_of, memo_of, source_names, same_number, is_cycle, differs, some_moved, must_run_by, must_run}
-use Rattle.signal_model.specs.Sound.{outcome_here, standing_outcome, AfterSource, Unless, Follows, IsPast, ArePast, names_of, Keeps, IsKeptPath, IsSound}
-use Rattle.signal_model.specs.Changes.{no_signals, no_memos, with_value, raised, after_change, with_recipe, memo_rewired, entry_rewired, after_rewiring, without_signal, after_disposal}
+use Rattle.signal_model.specs.Memos.{Source, Memo, Entry, Memos, entry_at, number_in, memo_in, number_of, memo_of, source_names, same_number}
+use Rattle.signal_model.specs.Memos.{is_cycle, differs, some_moved, must_run_by, must_run}
+use Rattle.signal_model.specs.Sound.{outcome_here, standing_outcome, AfterSource, Unless, Follows, IsPast, ArePast, names_of, Keeps, IsKeptPath}
+use Rattle.signal_model.specs.Sound.{IsSound}
+use Rattle.signal_model.specs.Changes.{no_signals, no_memos, with_value, raised, after_change, with_recipe, memo_rewired, entry_rewired}
+use Rattle.signal_model.specs.Changes.{after_rewiring, without_signal, after_disposal}
 use Rattle.signal_model.proofs.Shared.{tested}
-use Rattle.signal_laws.specs.Keeping.{HaveEntries, EmptyLaw, SetLaw, RewireLaw, DisposeLaw}
-use Rattle.signal_laws.proofs.Entries.{entry_other, entry_same, cell_other, computed_other, cell_there, entry_out, entry_left, cell_left, computed_left, cell_out, computed_out}
-use Rattle.signal_laws.proofs.Bools.{or_fst, or_snd, not_false}
+use Rattle.signal_model.specs.Kept.{HaveEntries}
+use Rattle.signal_model.specs.Standing.{is_there}
+use Rattle.signal_model.specs.Memos.{has_entry}
+use Rattle.signal_laws.specs.ChangeLaws.{NoMemosLaw, EmptyLaw, SetLaw, RewireLaw, DisposeLaw}
+use Rattle.signal_laws.proofs.LookUps.{entry_changed, entry_other, entry_same, entry_out, entry_left}
+use Rattle.signal_laws.proofs.LookUps.{cell_changed, cell_other, cell_out, cell_left, computed_changed, computed_other, computed_out, computed_left}
+use Rattle.signal_laws.proofs.FailedTests.{or_fst, or_snd, not_false}
 
 -- one memo is no other
 pub some_is : (x y : Memo) → Some x ≡ Some y → x ≡ y
@@ -25,7 +34,8 @@ some_is x y e = cc
 pub record CalmOn (k : Memos) (n : ℕ) (path : List ℕ) : Type 0 where
   pub memo : Memo
   pub at : memo_of k n ≡ Some memo
-  pub case : ((is_cycle memo.outcome ≡ true) × (memo.generation ≡ k.generation)) ⊎ ((is_cycle memo.outcome ≡ false) × (memo.rewired ≡ false) × (some_moved k path memo.sources ≡ false))
+  pub case : ((is_cycle memo.outcome ≡ true) × (memo.generation ≡ k.generation))
+      ⊎ ((is_cycle memo.outcome ≡ false) × (memo.rewired ≡ false) × (some_moved k path memo.sources ≡ false))
 
 -- what it is that needn't run
 pub calm_on : (k : Memos) (n : ℕ) (path : List ℕ) → must_run k n path ≡ false → CalmOn k n path
@@ -35,9 +45,15 @@ calm_on k n path h = go (memo_of k n) refl h
     go None e q = cc
     go (Some e) at q = by (is_cycle e.outcome) refl q
       where
-        by : (b : Bool) → is_cycle e.outcome ≡ b → cond b (not (e.generation == k.generation)) (e.rewired || some_moved k path e.sources) ≡ false → CalmOn k n path
+        by : (b : Bool) → is_cycle e.outcome ≡ b → cond b (not (e.generation == k.generation)) (e.rewired || some_moved k path e.sources) ≡ false →
+            CalmOn k n path
         by true z y = record { memo = e; at = at; case = inl (z, eqb-true e.generation k.generation (not_false (e.generation == k.generation) y)) }
-        by false z y = record { memo = e; at = at; case = inr (z, or_fst e.rewired (some_moved k path e.sources) y, or_snd e.rewired (some_moved k path e.sources) y) }
+        by false z y = record {
+          memo = e;
+          at = at;
+          case =
+              inr (z, or_fst e.rewired (some_moved k path e.sources) y, or_snd e.rewired (some_moved k path e.sources) y);
+        }
 
 -- a computed that needn't run while nothing is being evaluated
 abbrev pub Calm : Memos → ℕ → Type 0
@@ -67,35 +83,44 @@ pub record Before (k : Memos) (n : ℕ) (m' : Memo) : Type 0 where
 
 -- what a change of the signals leaves of the memos
 pub record IsChange (hosts : Hosts) (w : Signals) (k : Memos) (w' : Signals) (k' : Memos) : Type 0 where
-  pub cycles : (n : ℕ) (c : Computed) (m : Memo) → standing w' n ≡ IsComputed c → memo_of k' n ≡ Some m → is_cycle m.outcome ≡ true → m.generation ≡ k'.generation →
+  pub cycles : (n : ℕ) (c : Computed) (m : Memo) → standing w' n ≡ IsComputed c → memo_of k' n ≡ Some m → is_cycle m.outcome ≡ true →
+      m.generation ≡ k'.generation →
       (value_of hosts w' n [] ≡ m.outcome) × (source_names m.sources ≡ names_of (reads_of hosts w' c))
   pub later : k.generation ≤ k'.generation
   pub before : (m : ℕ) (e' : Memo) → memo_of k' m ≡ Some e' → Before k m e'
-  pub kind : (m : ℕ) (c : Computed) (e' : Memo) → standing w' m ≡ IsComputed c → memo_of k' m ≡ Some e' → (d : Computed) × (standing w m ≡ IsComputed d)
-  pub same : (m : ℕ) (c : Computed) (e' : Memo) → standing w' m ≡ IsComputed c → memo_of k' m ≡ Some e' → e'.rewired ≡ false → standing w m ≡ IsComputed c
+  pub kind : (m : ℕ) (c : Computed) (e' : Memo) → standing w' m ≡ IsComputed c → memo_of k' m ≡ Some e' →
+      (d : Computed) × (standing w m ≡ IsComputed d)
+  pub same : (m : ℕ) (c : Computed) (e' : Memo) → standing w' m ≡ IsComputed c → memo_of k' m ≡ Some e' → e'.rewired ≡ false →
+      standing w m ≡ IsComputed c
   pub stay : (m : ℕ) (e : Memo) → memo_of k m ≡ Some e → AllStay w k w' k' e.sources
   pub past : (m : ℕ) (e : Memo) → memo_of k m ≡ Some e → ArePast k' e.sources
 
 -- after a source the rest lasts
-after_source : (hosts : Hosts) (w : Signals) (k : Memos) (w' : Signals) (k' : Memos) (r : Recipe) (o x : Outcome) (slot : ℕ) (known : List Known) (ss : List Source) →
+after_source : (hosts : Hosts) (w : Signals) (k : Memos) (w' : Signals) (k' : Memos) (r : Recipe) (o : Outcome) (x : Option Outcome) (slot : ℕ)
+    (known : List Known) (ss : List Source) →
     ((v : Value) → Follows hosts w k r o (learnt known slot v) ss → Follows hosts w' k' r o (learnt known slot v) ss) →
-    AfterSource x ss o (λ v. Follows hosts w k r o (learnt known slot v) ss) → AfterSource x ss o (λ v. Follows hosts w' k' r o (learnt known slot v) ss)
-after_source hosts w k w' k' r o (Good v) slot known ss f h = f v h
-after_source hosts w k w' k' r o (Bad x) slot known ss f h = h
+    AfterSource x ss o (λ v. Follows hosts w k r o (learnt known slot v) ss) →
+    AfterSource x ss o (λ v. Follows hosts w' k' r o (learnt known slot v) ss)
+after_source hosts w k w' k' r o None slot known ss f h = h
+after_source hosts w k w' k' r o (Some (Good v)) slot known ss f h = f v h
+after_source hosts w k w' k' r o (Some (Bad x)) slot known ss f h = h
 
 -- what sources say lasts where each stays
-pub follows_on : (hosts : Hosts) (w : Signals) (k : Memos) (w' : Signals) (k' : Memos) (r : Recipe) (o : Outcome) (known : List Known) (ss : List Source) → AllStay w k w' k' ss → Follows hosts w k r o known ss → Follows hosts w' k' r o known ss
+pub follows_on : (hosts : Hosts) (w : Signals) (k : Memos) (w' : Signals) (k' : Memos) (r : Recipe) (o : Outcome) (known : List Known)
+    (ss : List Source) → AllStay w k w' k' ss → Follows hosts w k r o known ss → Follows hosts w' k' r o known ss
 follows_on hosts w k w' k' r o known [] st f = f
 follows_on hosts w k w' k' r o known (s ∷ ss) st f = (
   f.0,
   f.1,
   f.2,
   elim st.0 [
-    | inl now ↦ subst (λ b. Unless b (AfterSource (standing_outcome w' k' s.name) ss o (λ v. Follows hosts w' k' r o (learnt known f.0 v) ss))) (sym now) tt
+    | inl now ↦ subst (λ b. Unless b (AfterSource (standing_outcome w' k' s.name) ss o (λ v. Follows hosts w' k' r o (learnt known f.0 v) ss)))
+        (sym now) tt
     | inr same ↦
         subst (λ b. Unless b (AfterSource (standing_outcome w' k' s.name) ss o (λ v. Follows hosts w' k' r o (learnt known f.0 v) ss))) (sym same.0)
         (go (differs k s) f.3 (λ h. subst (λ x. AfterSource x ss o (λ v. Follows hosts w' k' r o (learnt known f.0 v) ss)) (sym same.1)
-        (after_source hosts w k w' k' r o (standing_outcome w k s.name) f.0 known ss (λ v g. follows_on hosts w k w' k' r o (learnt known f.0 v) ss st.1 g) h)))
+        (after_source hosts w k w' k' r o (standing_outcome w k s.name) f.0 known ss
+        (λ v g. follows_on hosts w k w' k' r o (learnt known f.0 v) ss st.1 g) h)))
   ],
 )
   where
@@ -104,7 +129,8 @@ follows_on hosts w k w' k' r o known (s ∷ ss) st f = (
     go false h g = g h
 
 -- what doesn't differ after the change didn't before
-pub moved_back : (w : Signals) (k : Memos) (w' : Signals) (k' : Memos) (ss : List Source) → AllStay w k w' k' ss → some_moved k' [] ss ≡ false → some_moved k [] ss ≡ false
+pub moved_back : (w : Signals) (k : Memos) (w' : Signals) (k' : Memos) (ss : List Source) → AllStay w k w' k' ss → some_moved k' [] ss ≡ false →
+    some_moved k [] ss ≡ false
 moved_back w k w' k' [] st h = refl
 moved_back w k w' k' (s ∷ ss) st h =
     let now : differs k' s ≡ false = or_fst (differs k' s) false (or_fst (differs k' s || false) (some_moved k' [] ss) h) in
@@ -114,7 +140,8 @@ moved_back w k w' k' (s ∷ ss) st h =
 
 module _ (hosts : Hosts) (w : Signals) (k : Memos) (w' : Signals) (k' : Memos) where
   -- what needn't run after the change needn't before
-  calm_back : (n : ℕ) (e' : Memo) → IsChange hosts w k w' k' → memo_of k' n ≡ Some e' → is_cycle e'.outcome ≡ false → must_run k' n [] ≡ false → must_run k n [] ≡ false
+  calm_back : (n : ℕ) (e' : Memo) → IsChange hosts w k w' k' → memo_of k' n ≡ Some e' → is_cycle e'.outcome ≡ false → must_run k' n [] ≡ false →
+      must_run k n [] ≡ false
   calm_back n e' ch at fine h = go (calm_of k' n h)
     where
       b : Before k n e'
@@ -128,7 +155,8 @@ module _ (hosts : Hosts) (w : Signals) (k : Memos) (w' : Signals) (k' : Memos) w
             | inr ok ↦
                 let rw0 : b.memo.rewired ≡ false = b.rewired (sym (ap (λ (x : Memo). x.rewired) is) ∙ ok.1) in
                 let mv : some_moved k [] b.memo.sources ≡ false =
-                moved_back w k w' k' b.memo.sources (ch.stay n b.memo b.at) (ap (some_moved k' []) (b.sources ∙ sym (ap (λ (x : Memo). x.sources) is)) ∙ ok.2) in
+                moved_back w k w' k' b.memo.sources (ch.stay n b.memo b.at)
+                (ap (some_moved k' []) (b.sources ∙ sym (ap (λ (x : Memo). x.sources) is)) ∙ ok.2) in
                 let fn : is_cycle b.memo.outcome ≡ false = ap is_cycle b.outcome ∙ fine in
                 ap (λ x. must_run_by k x []) b.at ∙ (λ i. cond (fn i) (not (b.memo.generation == k.generation)) (rw0 i || mv i))
           ]
@@ -160,10 +188,13 @@ module _ (hosts : Hosts) (w : Signals) (k : Memos) (w' : Signals) (k' : Memos) w
     follows = λ n c e st at fine rw0.
         let b : Before k n e = ch.before n e at in
         let st' : standing w n ≡ IsComputed c = ch.same n c e st at rw0 in
-        subst (λ (rs : List Source). Follows hosts w' k' c.recipe e.outcome [] rs) b.sources (subst (λ o. Follows hosts w' k' c.recipe o [] b.memo.sources) b.outcome
-        (follows_on hosts w k w' k' c.recipe b.memo.outcome [] b.memo.sources (ch.stay n b.memo b.at) (s.follows n c b.memo st' b.at (ap is_cycle b.outcome ∙ fine) (b.rewired rw0))));
+        subst (λ (rs : List Source). Follows hosts w' k' c.recipe e.outcome [] rs) b.sources
+        (subst (λ o. Follows hosts w' k' c.recipe o [] b.memo.sources) b.outcome
+        (follows_on hosts w k w' k' c.recipe b.memo.outcome [] b.memo.sources (ch.stay n b.memo b.at)
+        (s.follows n c b.memo st' b.at (ap is_cycle b.outcome ∙ fine) (b.rewired rw0))));
     acyclic = λ n path chain on. s.acyclic n path (path_back n path ch chain) on;
-    present = λ n e at. let b : Before k n e = ch.before n e at in let le : b.memo.generation ≤ k.generation = s.present n b.memo b.at in omega (arith, le, b.generation, ch.later);
+    present = λ n e at. let b : Before k n e = ch.before n e at in let le : b.memo.generation ≤ k.generation =
+        s.present n b.memo b.at in omega (arith, le, b.generation, ch.later);
     past = λ n e at.
         let b : Before k n e = ch.before n e at in
         subst (ArePast k') b.sources (ch.past n b.memo b.at);
@@ -175,9 +206,15 @@ module _ (hosts : Hosts) (w : Signals) (k : Memos) (w' : Signals) (k' : Memos) w
   all_stay f (s ∷ ss) p = (f s p.0, all_stay f ss p.1)
 
 -- where no number falls, what was past is past
-pub all_past : (k k' : Memos) → ((x : Option ℕ) (m : ℕ) → IsPast x (number_of k m) → IsPast x (number_of k' m)) → (ss : List Source) → ArePast k ss → ArePast k' ss
+pub all_past : (k k' : Memos) → ((x : Option ℕ) (m : ℕ) → IsPast x (number_of k m) → IsPast x (number_of k' m)) → (ss : List Source) →
+    ArePast k ss → ArePast k' ss
 all_past k k' f [] p = tt
 all_past k k' f (s ∷ ss) p = (f s.number s.name p.0, all_past k k' f ss p.1)
+
+-- both are gone, both cells, or both computeds
+pub record SameKind (a b : Stands) : Type 0 where
+  pub there : is_there a ≡ is_there b
+  pub computed : is_computed a ≡ is_computed b
 
 -- ---- a change of one entry
 
@@ -208,7 +245,9 @@ raise k n g = record { generation = k.generation + 1; entries = changed (λ (r :
 -- a marked memo was there before
 memo_before : (k : Memos) (n : ℕ) (x : Option Memo) (e' : Memo) → memo_of k n ≡ x → memo_rewired x ≡ Some e' → Before k n e'
 memo_before k n None e' p q = cc
-memo_before k n (Some e) e' p q = subst (Before k n) (out (record e { rewired = true }) e' q) (record { memo = e; at = p; outcome = refl; sources = refl; generation = refl; rewired = λ h. cc h })
+memo_before k n (Some e) e' p q =
+    subst (Before k n) (out (record e { rewired = true }) e' q)
+    (record { memo = e; at = p; outcome = refl; sources = refl; generation = refl; rewired = λ h. cc h })
   where
     out : (x y : Memo) → Some x ≡ Some y → x ≡ y
     out x y z = cc
@@ -222,7 +261,8 @@ memo_set (Some e) e' q = sym (out (record e { rewired = true }) e' q)
     out x y z = cc
 
 -- each memo was there before
-raise_before : (k : Memos) (n : ℕ) (g : Entry → Entry) (r : Entry) → Raises g → entry_at n k.entries ≡ Some r → (m : ℕ) (e' : Memo) → memo_of (raise k n g) m ≡ Some e' → Before k m e'
+raise_before : (k : Memos) (n : ℕ) (g : Entry → Entry) (r : Entry) → Raises g → entry_at n k.entries ≡ Some r → (m : ℕ) (e' : Memo) →
+    memo_of (raise k n g) m ≡ Some e' → Before k m e'
 raise_before k n g r gs at m e' q = elim (tested (m == n)) [
   | inr off ↦ same_memo e' k m (memo_of (raise k n g) m) (sym (ap memo_in (entry_other m n g k.entries gs.name off))) q
   | inl on ↦
@@ -236,17 +276,21 @@ raise_before k n g r gs at m e' q = elim (tested (m == n)) [
 ]
 
 -- no number falls
-raise_past : (k : Memos) (n : ℕ) (g : Entry → Entry) (r : Entry) → Raises g → entry_at n k.entries ≡ Some r → (x : Option ℕ) (m : ℕ) → IsPast x (number_of k m) → IsPast x (number_of (raise k n g) m)
+raise_past : (k : Memos) (n : ℕ) (g : Entry → Entry) (r : Entry) → Raises g → entry_at n k.entries ≡ Some r → (x : Option ℕ) (m : ℕ) →
+    IsPast x (number_of k m) → IsPast x (number_of (raise k n g) m)
 raise_past k n g r gs at x m p = elim (tested (m == n)) [
   | inr off ↦ subst (IsPast x) (sym (ap number_in (entry_other m n g k.entries gs.name off))) p
   | inl on ↦
       let e : m ≡ n = eqb-true m n on in
-      let new : number_of (raise k n g) n ≡ Some (r.number + 1) = ap number_in (entry_same n g k.entries r gs.name at) ∙ ap (λ y. Some y) (gs.number r) in
-      subst (λ y. IsPast x (number_of (raise k n g) y)) (sym e) (subst (IsPast x) (sym new) (past_up x r.number (subst (IsPast x) (ap (number_of k) e ∙ ap number_in at) p)))
+      let new : number_of (raise k n g) n ≡ Some (r.number + 1) = ap number_in (entry_same n g k.entries r gs.name at)
+      ∙ ap (λ y. Some y) (gs.number r) in
+      subst (λ y. IsPast x (number_of (raise k n g) y)) (sym e)
+      (subst (IsPast x) (sym new) (past_up x r.number (subst (IsPast x) (ap (number_of k) e ∙ ap number_in at) p)))
 ]
 
 -- the source of that name differs, and each other stays
-raise_stays : (w w' : Signals) (k : Memos) (n : ℕ) (g : Entry → Entry) (r : Entry) → Raises g → entry_at n k.entries ≡ Some r → ((m : ℕ) → (m == n) ≡ false → standing w' m ≡ standing w m) →
+raise_stays : (w w' : Signals) (k : Memos) (n : ℕ) (g : Entry → Entry) (r : Entry) → Raises g → entry_at n k.entries ≡ Some r →
+    ((m : ℕ) → (m == n) ≡ false → standing w' m ≡ standing w m) →
     (s : Source) → IsPast s.number (number_of k s.name) → Stays w k w' (raise k n g) s
 raise_stays w w' k n g r gs at other s p = elim (tested (s.name == n)) [
   | inr off ↦
@@ -255,20 +299,32 @@ raise_stays w w' k n g r gs at other s p = elim (tested (s.name == n)) [
       inr (ap (λ x. not (same_number (number_in x) s.number)) a, (λ i. outcome_here (o i) (memo_in (a i))))
   | inl on ↦
       let e : s.name ≡ n = eqb-true s.name n on in
-      let new : number_of (raise k n g) n ≡ Some (r.number + 1) = ap number_in (entry_same n g k.entries r gs.name at) ∙ ap (λ y. Some y) (gs.number r) in
-      inl (ap (λ x. not (same_number x s.number)) (ap (number_of (raise k n g)) e ∙ new) ∙ above s.number r.number (subst (IsPast s.number) (ap (number_of k) e ∙ ap number_in at) p))
+      let new : number_of (raise k n g) n ≡ Some (r.number + 1) = ap number_in (entry_same n g k.entries r gs.name at)
+      ∙ ap (λ y. Some y) (gs.number r) in
+      inl (ap (λ x. not (same_number x s.number)) (ap (number_of (raise k n g)) e ∙ new)
+      ∙ above s.number r.number (subst (IsPast s.number) (ap (number_of k) e ∙ ap number_in at) p))
 ]
 
--- each signal has its entry still
-raise_entries : (w w' : Signals) (k : Memos) (n : ℕ) (g : Entry → Entry) (r : Entry) → Raises g → entry_at n k.entries ≡ Some r → ((m : ℕ) → (m == n) ≡ false → standing w' m ≡ standing w m) → HaveEntries w k → HaveEntries w' (raise k n g)
-raise_entries w w' k n g r gs at other h m none = elim (tested (m == n)) [
-  | inr off ↦ other m off ∙ h m (sym (entry_other m n g k.entries gs.name off) ∙ none)
-  | inl on ↦ cc (sym (ap (λ x. entry_at x (raise k n g).entries) (eqb-true m n on) ∙ entry_same n g k.entries r gs.name at) ∙ none)
-]
+-- a changed entry is one
+pub some_mapped : (g : Entry → Entry) (x : Option Entry) → has_entry (option_map g x) ≡ has_entry x
+some_mapped g None = refl
+some_mapped g (Some e) = refl
+
+-- what stands has its entry still, where what stands is of the same kind as before
+raise_entries : (w w' : Signals) (k : Memos) (n : ℕ) (g : Entry → Entry) → Raises g →
+    ((m : ℕ) (e' : Memo) → memo_of (raise k n g) m ≡ Some e' → Before k m e') →
+    ((m : ℕ) → SameKind (standing w m) (standing w' m)) → HaveEntries w k → HaveEntries w' (raise k n g)
+raise_entries w w' k n g gs before same h = record {
+  entries = λ m. ap has_entry (entry_changed m n g k.entries gs.name) ∙ some_mapped (λ e. cond (m == n) (g e) e) (entry_at m k.entries)
+      ∙ h.entries m ∙ (same m).there;
+  memos = λ m e q. sym (same m).computed ∙ h.memos m (before m e q).memo (before m e q).at;
+}
 
 -- the generation has moved past each memo
-no_cycles : (hosts : Hosts) (w : Signals) (k : Memos) (w' : Signals) (k' : Memos) → IsSound hosts w k → k.generation < k'.generation → ((m : ℕ) (e' : Memo) → memo_of k' m ≡ Some e' → Before k m e') →
-    (n : ℕ) (c : Computed) (m : Memo) → standing w' n ≡ IsComputed c → memo_of k' n ≡ Some m → is_cycle m.outcome ≡ true → m.generation ≡ k'.generation →
+no_cycles : (hosts : Hosts) (w : Signals) (k : Memos) (w' : Signals) (k' : Memos) → IsSound hosts w k → k.generation < k'.generation →
+    ((m : ℕ) (e' : Memo) → memo_of k' m ≡ Some e' → Before k m e') →
+    (n : ℕ) (c : Computed) (m : Memo) → standing w' n ≡ IsComputed c → memo_of k' n ≡ Some m → is_cycle m.outcome ≡ true →
+    m.generation ≡ k'.generation →
     (value_of hosts w' n [] ≡ m.outcome) × (source_names m.sources ≡ names_of (reads_of hosts w' c))
 no_cycles hosts w k w' k' s later before n c e st at cy gen =
     let b : Before k n e = before n e at in
@@ -276,53 +332,63 @@ no_cycles hosts w k w' k' s later before n c e st at cy gen =
     absurd (omega (arith, le, b.generation, gen, later))
 
 -- what stands has an entry
-pub entry_there : (w : Signals) (k : Memos) (n : ℕ) → HaveEntries w k → (standing w n ≡ IsGone → ⊥) → (r : Entry) × (entry_at n k.entries ≡ Some r)
-entry_there w k n h there = go (entry_at n k.entries) refl
+pub entry_there : (w : Signals) (k : Memos) (n : ℕ) → HaveEntries w k → is_there (standing w n) ≡ true → (r : Entry) × (entry_at n k.entries ≡ Some r)
+entry_there w k n h there = go (entry_at n k.entries) refl (h.entries n ∙ there)
   where
-    go : (x : Option Entry) → entry_at n k.entries ≡ x → (r : Entry) × (entry_at n k.entries ≡ Some r)
-    go None e = absurd (there (h n e))
-    go (Some r) e = (r, e)
+    go : (x : Option Entry) → entry_at n k.entries ≡ x → has_entry x ≡ true → (r : Entry) × (entry_at n k.entries ≡ Some r)
+    go None e some = cc
+    go (Some r) e some = (r, e)
 
 -- ---- the signals
 
--- where a computed stands no cell does
-no_cell : (x : Option Cell) (y : Option Computed) (c : Computed) → or_computed x y ≡ IsComputed c → x ≡ None
-no_cell None y c h = refl
-no_cell (Some z) y c h = cc
+-- a changed cell is one
+cell_kind : (f : Cell → Cell) (x : Option Cell) (y : Option Computed) → SameKind (or_computed x y) (or_computed (option_map f x) y)
+cell_kind f None y = record { there = refl; computed = refl }
+cell_kind f (Some c) y = record { there = refl; computed = refl }
 
--- the cell that stands is in its list
-cell_stands : (x : Option Cell) (y : Option Computed) (c : Cell) → or_computed x y ≡ IsCell c → x ≡ Some c
-cell_stands None None c h = cc
-cell_stands None (Some z) c h = cc
-cell_stands (Some z) y c h = out z c h
-  where
-    cell_of : Stands → Option Cell
-    cell_of (IsCell u) = Some u
-    cell_of _ = None
+-- and no computed
+cell_back : (f : Cell → Cell) (x : Option Cell) (y : Option Computed) (d : Computed) → or_computed (option_map f x) y ≡ IsComputed d →
+    or_computed x y ≡ IsComputed d
+cell_back f None y d h = h
+cell_back f (Some c) y d h = cc
 
-    out : (u v : Cell) → IsCell u ≡ IsCell v → Some u ≡ Some v
-    out u v e = ap cell_of e
+-- a changed computed is one
+computed_kind : (f : Computed → Computed) (x : Option Cell) (y : Option Computed) → SameKind (or_computed x y) (or_computed x (option_map f y))
+computed_kind f (Some c) y = record { there = refl; computed = refl }
+computed_kind f None None = record { there = refl; computed = refl }
+computed_kind f None (Some c) = record { there = refl; computed = refl }
 
--- a set makes no computed
-set_kind : (w : Signals) (n : ℕ) (c : Cell) (v : Value) → standing w n ≡ IsCell c → (m : ℕ) (d : Computed) → standing (with_value w n v) m ≡ IsComputed d → standing w m ≡ IsComputed d
-set_kind w n c v stands m d st = elim (tested (m == n)) [
-  | inr off ↦ sym (ap (λ x. or_computed x (computed_at m w.computeds)) (cell_other m n (λ e. record e { value = v }) w.cells (λ e. refl) off)) ∙ st
-  | inl on ↦
-      let e : m ≡ n = eqb-true m n on in
-      let st' : or_computed (cell_at n (with_value w n v).cells) (computed_at n w.computeds) ≡ IsComputed d = ap (standing (with_value w n v)) (sym e) ∙ st in
-      let none : cell_at n w.cells ≡ None = cell_there n (λ d'. record d' { value = v }) w.cells (λ d'. refl) (no_cell (cell_at n (with_value w n v).cells) (computed_at n w.computeds) d st') in
-      cc (sym none ∙ cell_stands (cell_at n w.cells) (computed_at n w.computeds) c stands)
-]
+-- a set leaves each signal its kind
+pub set_kind : (w : Signals) (n : ℕ) (v : Value) (m : ℕ) → SameKind (standing w m) (standing (with_value w n v) m)
+set_kind w n v m =
+    subst (λ x. SameKind (standing w m) (or_computed x (computed_at m w.computeds)))
+    (sym (cell_changed m n (λ c. record c { value = v }) w.cells (λ c. refl)))
+    (cell_kind (λ c. cond (m == n) (record c { value = v }) c) (cell_at m w.cells) (computed_at m w.computeds))
+
+-- and each computed
+pub set_back : (w : Signals) (n : ℕ) (v : Value) (m : ℕ) (d : Computed) → standing (with_value w n v) m ≡ IsComputed d → standing w m ≡ IsComputed d
+set_back w n v m d st =
+    cell_back (λ c. cond (m == n) (record c { value = v }) c) (cell_at m w.cells) (computed_at m w.computeds) d
+    (sym (ap (λ x. or_computed x (computed_at m w.computeds)) (cell_changed m n (λ c. record c { value = v }) w.cells (λ c. refl))) ∙ st)
+
+-- a rewiring leaves each signal its kind
+pub rewire_kind : (w : Signals) (n : ℕ) (r : Recipe) (m : ℕ) → SameKind (standing w m) (standing (with_recipe w n r) m)
+rewire_kind w n r m =
+    subst (λ x. SameKind (standing w m) (or_computed (cell_at m w.cells) x))
+    (sym (computed_changed m n (λ c. record c { recipe = r }) w.computeds (λ c. refl)))
+    (computed_kind (λ c. cond (m == n) (record c { recipe = r }) c) (cell_at m w.cells) (computed_at m w.computeds))
 
 -- a set keeps memos sound
 pub set_law : SetLaw
 set_law hosts w k n c v stands kept =
     let w' : Signals = with_value w n v in
     let k' : Memos = after_change k n in
-    let r : (r : Entry) × (entry_at n k.entries ≡ Some r) = entry_there w k n kept.entries (λ gone. cc (sym gone ∙ stands)) in
+    let r : (r : Entry) × (entry_at n k.entries ≡ Some r) = entry_there w k n kept.entries (ap is_there stands) in
     let g : Raises raised = record { name = λ q. refl; number = λ q. refl; memo = λ q. inl refl } in
-    let other : (m : ℕ) → (m == n) ≡ false → standing w' m ≡ standing w m = λ m off. ap (λ x. or_computed x (computed_at m w.computeds)) (cell_other m n (λ d. record d { value = v }) w.cells (λ d. refl) off) in
-    let comp : (m : ℕ) (d : Computed) → standing w' m ≡ IsComputed d → standing w m ≡ IsComputed d = set_kind w n c v stands in
+    let other : (m : ℕ) → (m == n) ≡ false →
+    standing w' m ≡ standing w m =
+    λ m off. ap (λ x. or_computed x (computed_at m w.computeds)) (cell_other m n (λ d. record d { value = v }) w.cells (λ d. refl) off) in
+    let comp : (m : ℕ) (d : Computed) → standing w' m ≡ IsComputed d → standing w m ≡ IsComputed d = set_back w n v in
     let lt : k.generation < k.generation + 1 = omega arith in
     let le : k.generation ≤ k.generation + 1 = omega arith in
     let before : (m : ℕ) (e' : Memo) → memo_of k' m ≡ Some e' → Before k m e' = raise_before k n raised r.0 g r.1 in
@@ -336,7 +402,7 @@ set_law hosts w k n c v stands kept =
         stay = λ m e q. all_stay hosts w k w' k' (raise_stays w w' k n raised r.0 g r.1 other) e.sources (kept.sound.past m e q);
         past = λ m e q. all_past k k' (raise_past k n raised r.0 g r.1) e.sources (kept.sound.past m e q);
       }) kept.sound;
-      entries = raise_entries w w' k n raised r.0 g r.1 other kept.entries;
+      entries = raise_entries w w' k n raised g before (set_kind w n v) kept.entries;
     }
 
 -- a rewiring keeps memos sound
@@ -344,9 +410,12 @@ pub rewire_law : RewireLaw
 rewire_law hosts w k n c recipe stands kept =
     let w' : Signals = with_recipe w n recipe in
     let k' : Memos = after_rewiring k n in
-    let r : (r : Entry) × (entry_at n k.entries ≡ Some r) = entry_there w k n kept.entries (λ gone. cc (sym gone ∙ stands)) in
+    let r : (r : Entry) × (entry_at n k.entries ≡ Some r) = entry_there w k n kept.entries (ap is_there stands) in
     let g : Raises entry_rewired = record { name = λ q. refl; number = λ q. refl; memo = λ q. inr refl } in
-    let other : (m : ℕ) → (m == n) ≡ false → standing w' m ≡ standing w m = λ m off. ap (λ x. or_computed (cell_at m w.cells) x) (computed_other m n (λ d. record d { recipe = recipe }) w.computeds (λ d. refl) off) in
+    let other : (m : ℕ) → (m == n) ≡ false →
+    standing w' m ≡ standing w m =
+    λ m off. ap (λ x. or_computed (cell_at m w.cells) x)
+    (computed_other m n (λ d. record d { recipe = recipe }) w.computeds (λ d. refl) off) in
     let lt : k.generation < k.generation + 1 = omega arith in
     let le : k.generation ≤ k.generation + 1 = omega arith in
     let before : (m : ℕ) (e' : Memo) → memo_of k' m ≡ Some e' → Before k m e' = raise_before k n entry_rewired r.0 g r.1 in
@@ -370,7 +439,7 @@ rewire_law hosts w k n c recipe stands kept =
         stay = λ m e q. all_stay hosts w k w' k' (raise_stays w w' k n entry_rewired r.0 g r.1 other) e.sources (kept.sound.past m e q);
         past = λ m e q. all_past k k' (raise_past k n entry_rewired r.0 g r.1) e.sources (kept.sound.past m e q);
       }) kept.sound;
-      entries = raise_entries w w' k n entry_rewired r.0 g r.1 other kept.entries;
+      entries = raise_entries w w' k n entry_rewired g before (rewire_kind w n recipe) kept.entries;
     }
 
 -- ---- disposal
@@ -395,7 +464,8 @@ dispose_law hosts w k n there kept =
       | inr off ↦ sym (other m off) ∙ st
       | inl on ↦
           let e : m ≡ n = eqb-true m n on in
-          absurd (some_computed (cell_at m w'.cells) (computed_at m w'.computeds) d st (ap (λ x. computed_at x w'.computeds) e ∙ computed_out n w.computeds))
+          absurd (some_computed (cell_at m w'.cells) (computed_at m w'.computeds) d st
+          (ap (λ x. computed_at x w'.computeds) e ∙ computed_out n w.computeds))
     ] in
     let gone : number_of k' n ≡ None = ap number_in (entry_out n k.entries) in
     let lt : k.generation < k.generation + 1 = omega arith in
@@ -419,7 +489,8 @@ dispose_law hosts w k n there kept =
           inr (ap (λ y. not (same_number (number_in y) x.number)) a, (λ i. outcome_here (o i) (memo_in (a i))))
       | inl on ↦
           let e : x.name ≡ n = eqb-true x.name n on in
-          inl (ap (λ y. not (same_number y x.number)) (ap (number_of k') e ∙ gone) ∙ never r.0.number x.number (subst (IsPast x.number) (ap (number_of k) e ∙ ap number_in r.1) p))
+          inl (ap (λ y. not (same_number y x.number)) (ap (number_of k') e ∙ gone)
+          ∙ never r.0.number x.number (subst (IsPast x.number) (ap (number_of k) e ∙ ap number_in r.1) p))
     ] in
     record {
       sound = change_keeps hosts w k w' k' (record {
@@ -431,13 +502,22 @@ dispose_law hosts w k n there kept =
         stay = λ m e q. all_stay hosts w k w' k' stays e.sources (kept.sound.past m e q);
         past = λ m e q. all_past k k' past e.sources (kept.sound.past m e q);
       }) kept.sound;
-      entries = λ m none. elim (tested (m == n)) [
-        | inr off ↦ other m off ∙ kept.entries m (sym (entry_left m n k.entries off) ∙ none)
-        | inl on ↦
-            let a : cell_at n w'.cells ≡ None = cell_out n w.cells in
-            let b : computed_at n w'.computeds ≡ None = computed_out n w.computeds in
-            ap (standing w') (eqb-true m n on) ∙ (λ i. or_computed (a i) (b i))
-      ];
+      entries = record {
+        entries = λ m. elim (tested (m == n)) [
+          | inr off ↦ ap has_entry (entry_left m n k.entries off) ∙ kept.entries.entries m ∙ ap is_there (sym (other m off))
+          | inl on ↦
+              let e : m ≡ n = eqb-true m n on in
+              let a : cell_at n w'.cells ≡ None = cell_out n w.cells in
+              let b : computed_at n w'.computeds ≡ None = computed_out n w.computeds in
+              ap (λ x. has_entry (entry_at x k'.entries)) e ∙ ap has_entry (entry_out n k.entries)
+              ∙ (λ i. is_there (or_computed (sym a i) (sym b i)))
+              ∙ ap (λ x. is_there (standing w' x)) (sym e)
+        ];
+        memos = λ m e q. elim (tested (m == n)) [
+          | inr off ↦ ap is_computed (other m off) ∙ kept.entries.memos m (before m e q).memo (before m e q).at
+          | inl on ↦ cc (sym (ap (memo_of k') (eqb-true m n on) ∙ ap memo_in (entry_out n k.entries)) ∙ q)
+        ];
+      };
     }
   where
     never : (m : ℕ) (x : Option ℕ) → IsPast x (Some m) → not (same_number None x) ≡ true
@@ -451,19 +531,23 @@ dispose_law hosts w k n there kept =
 -- ---- nothing at all
 
 -- nobody keeps anything
-no_keeper : (n : ℕ) (path : List ℕ) → IsKeptPath no_signals no_memos n path → is_in n path ≡ true → ⊥
-no_keeper n [] c on = cc
-no_keeper n (p ∷ ps) c on = cc (c.0.at)
+no_keeper : (w : Signals) (k : Memos) → ((m : ℕ) → memo_of k m ≡ None) → (n : ℕ) (path : List ℕ) → IsKeptPath w k n path → is_in n path ≡ true → ⊥
+no_keeper w k none n [] c on = cc
+no_keeper w k none n (p ∷ ps) c on = cc (sym (none p) ∙ c.0.at)
 
--- no memos of no signals are sound
+-- where nothing has a memo, what is kept is sound
+pub no_memos_law : NoMemosLaw
+no_memos_law hosts w k none = record {
+  cycles = λ n c m st at cy gen. cc (sym (none n) ∙ at);
+  follows = λ n c m st at fine rw0. cc (sym (none n) ∙ at);
+  acyclic = no_keeper w k none;
+  present = λ n m at. cc (sym (none n) ∙ at);
+  past = λ n m at. cc (sym (none n) ∙ at);
+}
+
+-- nothing is kept of no signals
 pub empty_law : EmptyLaw
 empty_law hosts = record {
-  sound = record {
-    cycles = λ n c m st at cy gen. cc at;
-    follows = λ n c m st at fine rw0. cc at;
-    acyclic = no_keeper;
-    present = λ n m at. cc at;
-    past = λ n m at. cc at;
-  };
-  entries = λ n none. refl;
+  sound = no_memos_law hosts no_signals no_memos (λ n. refl);
+  entries = record { entries = λ n. refl; memos = λ n m at. cc at };
 }
