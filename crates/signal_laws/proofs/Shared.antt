@@ -14,7 +14,7 @@ pub use Rattle.signal_laws.proofs.RecordedRuns.{scratch_runs_law, placed_runs_la
 pub use Rattle.signal_laws.proofs.KeptPaths.{kept_cycle_law, kept_path_law, evaluated_source_law}
 -- ---- tests, lists and look-ups
 
-pub use Rattle.signal_model.proofs.Tests.{either, or_left, or_right}
+pub use Rattle.signal_model.proofs.Shared.{either, or_left, or_right}
 pub use Rattle.signal_laws.proofs.FailedTests.{or_fst, or_snd, or_none, not_false}
 pub use Rattle.signal_laws.proofs.Lists.{all_append, all_snoc, in_head, in_tail, in_append}
 pub use Rattle.signal_laws.proofs.LookUps.{entry_changed, entry_other, entry_same, entry_out, entry_left, entry_append, entry_more, entry_new}

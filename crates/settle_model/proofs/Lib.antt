@@ -1,0 +1,5 @@
+pub mod VisitsLeft
+pub mod NextReads
+pub mod FramesLast
+pub mod StepsHold
+pub mod StepsEnd
