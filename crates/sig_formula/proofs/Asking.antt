@@ -1,137 +1,110 @@
 -- A formula asks only for slots of its own that aren't known.
-use Rattle.std.proofs.Common.{◌≡◌, ◌⊎◌, ◌||◌, ℕ, ℤ, pos, ◌+ℤ◌, ◌-ℤ◌, ◌*ℤ◌, int_div, int_rem, nat_le, Bool, true, false, not, cond, List, ◌++◌, length, Option, Some, None, option_map, unwrap_or, inl, inr, refl}
-use Rattle.std.specs.Ordering.{int_eq, is_lt, is_le, is_gt, is_ge}
+use Rattle.std.proofs.Common.{◌≡◌, ◌⊎◌, ◌||◌, ℕ, Bool, true, false, cond, List, [], Option, Some, None, inl, inr, refl}
+use Rattle.std.specs.Option.{option_or}
 use Rattle.std.proofs.lemmas.Bool.{or_left, or_right}
 use Rattle.std.proofs.lemmas.Bool.Decides.{Decides-eqb}
 use Rattle.sig_base.specs.declared.value.Value.{Value}
 use Rattle.sig_base.specs.declared.value.Value.TheVariants as value
-use Rattle.sig_base.specs.declared.value.Fault.{Fault}
-use Rattle.sig_base.specs.declared.value.Fault.TheVariants.{Overflow, Zero, Long}
 use Rattle.sig_base.specs.declared.value.Known.{Known}
-use Rattle.sig_base.specs.declared.value.Step.{Step}
-use Rattle.sig_base.specs.declared.value.Step.TheVariants.{Read, Done, Fail}
-use Rattle.sig_formula.specs.declared.formula.BinOp.{BinOp}
-use Rattle.sig_formula.specs.declared.formula.BinOp.TheVariants as op
-use Rattle.sig_base.specs.Values.{shown}
-use Rattle.sig_formula.specs.Answering.{answer_of, calculated, calculation, chosen, compared, decided, equality, fits_i64, joined, known_at, negated, number_answer, operated, order, slot_answer, truth, with_value}
-use Rattle.sig_formula.specs.Laws.{IsAskable, AsksAskable}
+use Rattle.sig_base.specs.declared.value.Outcome.{Outcome}
+use Rattle.sig_base.specs.declared.value.Outcome.TheVariants.{Good, Bad}
+use Rattle.sig_base.specs.declared.value.Step.TheVariants.{Read}
+use Rattle.sig_formula.specs.declared.evaluate.FormulaStep.{FormulaStep}
+use Rattle.sig_formula.specs.declared.evaluate.FormulaStep.TheVariants.{Ask, End}
+use Rattle.sig_formula.specs.declared.formula.RowRef.{RowRef}
+use Rattle.sig_formula.specs.Answering.{chosen, decided, formula_step, known_at, negated, operated, plain_step, served, slot_step, unless_decided, with_value}
+use Rattle.sig_formula.specs.Laws.{AsksAskable, FormulaAsks, IsAskable}
 use Rattle.sig_formula.specs.Trees.{Tree, literal, slot, negation, binary, choice, untracked, has_slot}
 
 -- a step that goes on asks for a slot before, or once it has a value
-going-on : (s : Step) (go : Value → Step) (n : ℕ) → with_value s go ≡ Read n
-    → (s ≡ Read n) ⊎ ((v : Value) × (s ≡ Done v) × (go v ≡ Read n))
-going-on (Read m) go n h = inl h
-going-on (Done v) go n h = inr (v, refl, h)
-going-on (Fail e) go n h = inl h
+going-on : (s : FormulaStep) (go : Value → FormulaStep) (n : ℕ) (b : Bool) → with_value s go ≡ Ask n b →
+    (s ≡ Ask n b) ⊎ ((v : Value) × (go v ≡ Ask n b))
+going-on (Ask m a) go n b h = inl h
+going-on (End (Good v)) go n b h = inr (v, h)
+going-on (End (Bad e)) go n b h = inl h
 
-asked-slot : (m : ℕ) (o : Option Value) (n : ℕ) → slot_answer m o ≡ Read n → (o ≡ None) × (m ≡ n)
-asked-slot m None n h = (refl, cc)
-asked-slot m (Some v) n h = absurd (cc)
-
-truth-asks : (v : Value) (n : ℕ) → truth v ≡ Read n → ⊥
-truth-asks (value.Bool b) n h = cc
-truth-asks _ n h = cc
-
-negated-asks : (v : Value) (n : ℕ) → negated v ≡ Read n → ⊥
-negated-asks (value.Bool b) n h = cc
-negated-asks _ n h = cc
-
-compared-asks : (o : Option Bool) (n : ℕ) → compared o ≡ Read n → ⊥
-compared-asks None n h = cc
-compared-asks (Some b) n h = cc
-
-either-asks : (b : Bool) (v : Value) (e : Fault) (n : ℕ) → cond b (Done v) (Fail e) ≡ Read n → ⊥
-either-asks true v e n h = cc
-either-asks false v e n h = cc
-
-joined-asks : (s t : Option (List ℕ)) (n : ℕ) → joined s t ≡ Read n → ⊥
-joined-asks (Some s) (Some t) n h = either-asks (nat_le (length (s ++ t)) 1024) (value.Text (s ++ t)) Long n h
-joined-asks None t n h = cc
-joined-asks (Some s) None n h = cc
-
-number-asks : (z : ℤ) (n : ℕ) → number_answer z ≡ Read n → ⊥
-number-asks z n h = either-asks (fits_i64 z) (value.Int z) Overflow n h
-
-quotient-asks : (b : Bool) (z : ℤ) (n : ℕ) → cond b (Fail Zero) (number_answer z) ≡ Read n → ⊥
-quotient-asks true z n h = cc
-quotient-asks false z n h = number-asks z n h
-
-remainder-asks : (b : Bool) (z : ℤ) (n : ℕ) → cond b (Fail Zero) (Done (value.Int z)) ≡ Read n → ⊥
-remainder-asks true z n h = cc
-remainder-asks false z n h = cc
-
-calculated-asks : (o : BinOp) (l r : ℤ) (n : ℕ) → calculated o l r ≡ Read n → ⊥
-calculated-asks op.Add l r n h = number-asks (l +ℤ r) n h
-calculated-asks op.Sub l r n h = number-asks (l -ℤ r) n h
-calculated-asks op.Mul l r n h = number-asks (l *ℤ r) n h
-calculated-asks op.Div l r n h = quotient-asks (int_eq r (pos 0)) (int_div l r) n h
-calculated-asks op.Rem l r n h = remainder-asks (int_eq r (pos 0)) (int_rem l r) n h
-calculated-asks _ l r n h = cc
-
-calculation-asks : (o : BinOp) (v w : Value) (n : ℕ) → calculation o v w ≡ Read n → ⊥
-calculation-asks o (value.Int l) (value.Int r) n h = calculated-asks o l r n h
-calculation-asks o _ _ n h = cc
-
--- operators ask for nothing
-operated-asks : (o : BinOp) (v w : Value) (n : ℕ) → operated o v w ≡ Read n → ⊥
-operated-asks op.Or v w n h = truth-asks w n h
-operated-asks op.And v w n h = truth-asks w n h
-operated-asks op.Eq v w n h = compared-asks (equality v w) n h
-operated-asks op.Ne v w n h = compared-asks (option_map not (equality v w)) n h
-operated-asks op.Lt v w n h = compared-asks (option_map is_lt (order v w)) n h
-operated-asks op.Le v w n h = compared-asks (option_map is_le (order v w)) n h
-operated-asks op.Gt v w n h = compared-asks (option_map is_gt (order v w)) n h
-operated-asks op.Ge v w n h = compared-asks (option_map is_ge (order v w)) n h
-operated-asks op.Join v w n h = joined-asks (shown v) (shown w) n h
-operated-asks o v w n h = calculation-asks o v w n h
+asked-slot : (a : Bool) (m : ℕ) (o : Option Value) (n : ℕ) (b : Bool) → slot_step a m o ≡ Ask n b → (o ≡ None) × (m ≡ n) × (a ≡ b)
+asked-slot a m None n b h = (refl, cc, cc)
+asked-slot a m (Some v) n b h = absurd (cc)
 
 -- what the left operand decides asks for nothing
-undecided : (o : BinOp) (v : Value) (s : Step) (n : ℕ) → unwrap_or (decided o v) s ≡ Read n → s ≡ Read n
-undecided op.Or (value.Bool true) s n h = absurd (cc)
-undecided op.Or (value.Bool false) s n h = h
-undecided op.Or _ s n h = absurd (cc)
-undecided op.And (value.Bool true) s n h = h
-undecided op.And (value.Bool false) s n h = absurd (cc)
-undecided op.And _ s n h = absurd (cc)
-undecided _ v s n h = h
+undecided : (o : Option Outcome) (s : FormulaStep) (n : ℕ) (b : Bool) → unless_decided o s ≡ Ask n b → s ≡ Ask n b
+undecided None s n b h = h
+undecided (Some o) s n b h = absurd (cc)
 
-branched : (v : Value) (x y : Step) (n : ℕ) → chosen v x y ≡ Read n → (x ≡ Read n) ⊎ (y ≡ Read n)
-branched (value.Bool true) x y n h = inl h
-branched (value.Bool false) x y n h = inr h
-branched _ x y n h = absurd (cc)
-
-right_asks : (o : BinOp) (v : Value) (s : Step) (n : ℕ) → unwrap_or (decided o v) (with_value s (operated o v)) ≡ Read n → s ≡ Read n
-right_asks o v s n h =
-    elim (going-on s (operated o v) n (undecided o v (with_value s (operated o v)) n h)) [
-      | inl e ↦ e
-      | inr p ↦ absurd (operated-asks o v p.0 n p.2)
-    ]
+branched : (v : Value) (x y : FormulaStep) (n : ℕ) (b : Bool) → chosen v x y ≡ Ask n b → (x ≡ Ask n b) ⊎ (y ≡ Ask n b)
+branched (value.Bool true) x y n b h = inl h
+branched (value.Bool false) x y n b h = inr h
+branched _ x y n b h = absurd (cc)
 
 -- the slot of a part is a slot of the whole
-of_part : (a t : Tree) (known : List Known) (n : ℕ) → IsAskable a known n → (has_slot n a ≡ true → has_slot n t ≡ true) → IsAskable t known n
-of_part a t known n k f = record { unknown = k.unknown; own = f k.own }
+of_part : (a t : Tree) (found : Option Value) (n : ℕ) → IsAskable a found n → (has_slot n a ≡ true → has_slot n t ≡ true) → IsAskable t found n
+of_part a t found n k f = record { unknown = k.unknown; own = f k.own }
 
-pub asks_askable : AsksAskable
-asks_askable (literal s) row known n h = absurd (cc)
-asks_askable (slot m) row known n h =
-    let p = asked-slot m (known_at m known) n h in
-    record { unknown = rw (← p.1) p.0; own = rw p.1 ((Decides-eqb n n).1 refl) }
-asks_askable (negation a) row known n h =
-    elim (going-on (answer_of a row known) negated n h) [
-      | inl e ↦ of_part a (negation a) known n (asks_askable a row known n e) (λ k. k)
-      | inr p ↦ absurd (negated-asks p.0 n p.2)
+-- the right operand asks, where the left doesn't decide
+right_asks : (o : Option Outcome) (s : FormulaStep) (go : Value → Outcome) (n : ℕ) (b : Bool) →
+    unless_decided o (with_value s (λ w. End (go w))) ≡ Ask n b → s ≡ Ask n b
+right_asks o s go n b h = elim (going-on s (λ w. End (go w)) n b (undecided o (with_value s (λ w. End (go w))) n b h)) [
+  | inl e ↦ e
+  | inr p ↦ absurd (no p.0 p.1)
+]
+  where
+    no : (w : Value) → End (go w) ≡ Ask n b → ⊥
+    no w e = cc
+
+pub formula_asks : FormulaAsks
+formula_asks tracking (literal s) row ts us n b h = absurd (cc)
+formula_asks tracking (slot m) row ts us n b h =
+    let p : (served tracking m ts us ≡ None) × (m ≡ n) × (tracking ≡ b) = asked-slot tracking m (served tracking m ts us) n b h in
+    record { unknown = rw (← p.2, ← p.1) p.0; own = rw p.1 ((Decides-eqb n n).1 refl) }
+formula_asks tracking (negation a) row ts us n b h =
+    elim (going-on (formula_step tracking a row ts us) (λ v. End (negated v)) n b h) [
+      | inl e ↦ of_part a (negation a) (served b n ts us) n (formula_asks tracking a row ts us n b e) (λ k. k)
+      | inr p ↦ absurd (no p.0 p.1)
     ]
-asks_askable (binary o a b) row known n h =
-    elim (going-on (answer_of a row known) (λ v. unwrap_or (decided o v) (with_value (answer_of b row known) (operated o v))) n h) [
-      | inl e ↦ of_part a (binary o a b) known n (asks_askable a row known n e) (or_left (has_slot n a) (has_slot n b))
-      | inr p ↦ of_part b (binary o a b) known n (asks_askable b row known n (right_asks o p.0 (answer_of b row known) n p.2)) (or_right (has_slot n a) (has_slot n b))
+  where
+    no : (w : Value) → End (negated w) ≡ Ask n b → ⊥
+    no w e = cc
+formula_asks tracking (binary o x y) row ts us n b h =
+    elim (going-on (formula_step tracking x row ts us)
+    (λ v. unless_decided (decided o v) (with_value (formula_step tracking y row ts us) (λ w. End (operated o v w)))) n b h) [
+      | inl e ↦ of_part x (binary o x y) (served b n ts us) n (formula_asks tracking x row ts us n b e) (or_left (has_slot n x) (has_slot n y))
+      | inr p ↦
+          let e : formula_step tracking y row ts us ≡ Ask n b
+          = right_asks (decided o p.0) (formula_step tracking y row ts us) (operated o p.0) n b p.1 in
+          of_part y (binary o x y) (served b n ts us) n (formula_asks tracking y row ts us n b e) (or_right (has_slot n x) (has_slot n y))
     ]
-asks_askable (choice t a b) row known n h =
-    elim (going-on (answer_of t row known) (λ v. chosen v (answer_of a row known) (answer_of b row known)) n h) [
-      | inl e ↦ of_part t (choice t a b) known n (asks_askable t row known n e) (or_left (has_slot n t) (has_slot n a || has_slot n b))
-      | inr p ↦ elim (branched p.0 (answer_of a row known) (answer_of b row known) n p.2) [
-        | inl e ↦ of_part a (choice t a b) known n (asks_askable a row known n e) (λ k. or_right (has_slot n t) (has_slot n a || has_slot n b) (or_left (has_slot n a) (has_slot n b) k))
-        | inr e ↦ of_part b (choice t a b) known n (asks_askable b row known n e) (λ k. or_right (has_slot n t) (has_slot n a || has_slot n b) (or_right (has_slot n a) (has_slot n b) k))
+formula_asks tracking (choice t x y) row ts us n b h =
+    elim (going-on (formula_step tracking t row ts us) (λ v. chosen v (formula_step tracking x row ts us) (formula_step tracking y row ts us)) n b h) [
+      | inl e ↦ of_part t (choice t x y) (served b n ts us) n (formula_asks tracking t row ts us n b e)
+          (or_left (has_slot n t) (has_slot n x || has_slot n y))
+      | inr p ↦ elim (branched p.0 (formula_step tracking x row ts us) (formula_step tracking y row ts us) n b p.1) [
+        | inl e ↦ of_part x (choice t x y) (served b n ts us) n (formula_asks tracking x row ts us n b e)
+            (λ k. or_right (has_slot n t) (has_slot n x || has_slot n y) (or_left (has_slot n x) (has_slot n y) k))
+        | inr e ↦ of_part y (choice t x y) (served b n ts us) n (formula_asks tracking y row ts us n b e)
+            (λ k. or_right (has_slot n t) (has_slot n x || has_slot n y) (or_right (has_slot n x) (has_slot n y) k))
       ]
     ]
-asks_askable (untracked a) row known n h = of_part a (untracked a) known n (asks_askable a row known n h) (λ k. k)
+formula_asks tracking (untracked a) row ts us n b h =
+    of_part a (untracked a) (served b n ts us) n (formula_asks false a row ts us n b h) (λ k. k)
+
+-- what a plain step reads, tracked or not
+read_step : (s : FormulaStep) (n : ℕ) → plain_step s ≡ Read n → (b : Bool) × (s ≡ Ask n b)
+read_step (Ask m b) n h = (b, cc)
+read_step (End (Good v)) n h = absurd (cc)
+read_step (End (Bad e)) n h = absurd (cc)
+
+-- where nothing is tracked apart, what isn't served isn't known
+unserved : (b : Bool) (n : ℕ) (known : List Known) → served b n known [] ≡ None → known_at n known ≡ None
+unserved true n known h = h
+unserved false n known h = go (known_at n known) h
+  where
+    go : (o : Option Value) → option_or o None ≡ None → o ≡ None
+    go None h = refl
+    go (Some v) h = cc
+
+pub asks_askable : AsksAskable
+asks_askable t row known n h =
+    let p : (b : Bool) × (formula_step false t row known [] ≡ Ask n b) = read_step (formula_step false t row known []) n h in
+    let k : IsAskable t (served p.0 n known []) n = formula_asks false t row known [] n p.0 p.1 in
+    record { unknown = unserved p.0 n known k.unknown; own = k.own }

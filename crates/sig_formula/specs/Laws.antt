@@ -1,16 +1,23 @@
 -- What holds of every answer.
-use Rattle.std.specs.Prelude.{◌≡◌, ℕ, true, List, Option, None}
+use Rattle.std.specs.Prelude.{◌≡◌, ℕ, Bool, true, List, Option, None}
 use Rattle.sig_base.specs.declared.value.Known.{Known}
+use Rattle.sig_base.specs.declared.value.Value.{Value}
 use Rattle.sig_base.specs.declared.value.Step.TheVariants.{Read}
+use Rattle.sig_formula.specs.declared.evaluate.FormulaStep.TheVariants.{Ask}
 use Rattle.sig_formula.specs.declared.formula.RowRef.{RowRef}
-use Rattle.sig_formula.specs.Answering.{answer_of, known_at}
+use Rattle.sig_formula.specs.Answering.{answer_of, formula_step, known_at, served}
 use Rattle.sig_formula.specs.Trees.{Tree, has_slot}
 
--- of a slot that a formula asks for: it isn't known, and it is a slot of the formula
-pub record IsAskable (t : Tree) (known : List Known) (n : ℕ) : Type 0 where
-  pub unknown : known_at n known ≡ None
+-- of a slot that a formula asks for: nothing that was read serves it, and it is a slot of the formula
+pub record IsAskable (t : Tree) (found : Option Value) (n : ℕ) : Type 0 where
+  pub unknown : found ≡ None
   pub own : has_slot n t ≡ true
 
 -- a formula asks only for such slots
+abbrev pub FormulaAsks : Type 0
+FormulaAsks = (tracking : Bool) (t : Tree) (row : Option RowRef) (ts us : List Known) (n : ℕ) (tracked : Bool) →
+    formula_step tracking t row ts us ≡ Ask n tracked → IsAskable t (served tracked n ts us) n
+
+-- also where nothing is tracked apart
 abbrev pub AsksAskable : Type 0
-AsksAskable = (t : Tree) (row : Option RowRef) (known : List Known) (n : ℕ) → answer_of t row known ≡ Read n → IsAskable t known n
+AsksAskable = (t : Tree) (row : Option RowRef) (known : List Known) (n : ℕ) → answer_of t row known ≡ Read n → IsAskable t (known_at n known) n

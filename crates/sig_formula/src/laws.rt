@@ -1,7 +1,8 @@
 // What holds of every answer.
-ghost use Rattle.sig_formula.specs.Laws.{AsksAskable};
+ghost use Rattle.sig_formula.specs.Laws.{AsksAskable, FormulaAsks};
 
 /// A formula asks only for slots that aren't known, and only for slots of its own.
 pub fn formulas_ask_own_unknown_slots()
-    ensures { AsksAskable }
+    ensures tracking { FormulaAsks }
+    ensures plain { AsksAskable }
 {}

@@ -6,6 +6,6 @@ mod formula;
 mod laws;
 mod operate;
 
-pub use evaluate::step;
+pub use evaluate::{FormulaStep, formula_step, step};
 pub use formula::{BinOp, Formula, RowRef};
 pub use laws::formulas_ask_own_unknown_slots;

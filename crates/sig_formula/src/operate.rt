@@ -1,43 +1,43 @@
 // What operators make of their operands.
 ghost use Rattle.std.specs.Prelude.{◌≡◌, IfOk};
 ghost use Rattle.sig_base.specs.Values.{shown};
-ghost use Rattle.sig_formula.specs.Answering.{calculated, calculation, compared, decided, equality, joined, negated, operated, order, text_answer, truth};
+ghost use Rattle.sig_formula.specs.Answering.{calculated, calculation, compared, decided, equality, joined, negated, operated, order, text_outcome, truth};
 
 use crate::BinOp;
-use sig_base::{Fault, NoMemory, Step, Text, TextFault, Value};
+use sig_base::{Fault, NoMemory, Outcome, Text, TextFault, Value};
 use std::alloc::Global;
 use std::cmp::Ordering;
 
 // A truth, and no other kind.
-fn truth(value: Value) -> Step
+fn truth(value: Value) -> Outcome
     ensures { result ≡ truth value }
 {
     match value {
-        Value::Bool(b) => Step::Done(Value::Bool(b)),
-        _ => Step::Fail(Fault::Kind),
+        Value::Bool(b) => Outcome::Good(Value::Bool(b)),
+        _ => Outcome::Bad(Fault::Kind),
     }
 }
 
 /// The other truth.
-pub fn negated(value: &Value) -> Step
+pub fn negated(value: &Value) -> Outcome
     ensures { result ≡ negated value.now }
 {
     match value {
-        Value::Bool(b) => Step::Done(Value::Bool(!*b)),
-        _ => Step::Fail(Fault::Kind),
+        Value::Bool(b) => Outcome::Good(Value::Bool(!*b)),
+        _ => Outcome::Bad(Fault::Kind),
     }
 }
 
 /// What the left operand decides alone: that of `or` and `and` must be a truth.
-pub fn decided(op: BinOp, left: &Value) -> Option<Step>
+pub fn decided(op: BinOp, left: &Value) -> Option<Outcome>
     ensures { result ≡ decided op left.now }
 {
     match (op, left) {
-        (BinOp::Or, Value::Bool(true)) => Some(Step::Done(Value::Bool(true))),
+        (BinOp::Or, Value::Bool(true)) => Some(Outcome::Good(Value::Bool(true))),
         (BinOp::Or, Value::Bool(false)) => None,
         (BinOp::And, Value::Bool(true)) => None,
-        (BinOp::And, Value::Bool(false)) => Some(Step::Done(Value::Bool(false))),
-        (BinOp::Or | BinOp::And, _) => Some(Step::Fail(Fault::Kind)),
+        (BinOp::And, Value::Bool(false)) => Some(Outcome::Good(Value::Bool(false))),
+        (BinOp::Or | BinOp::And, _) => Some(Outcome::Bad(Fault::Kind)),
         _ => None,
     }
 }
@@ -66,93 +66,93 @@ fn order(left: &Value, right: &Value) -> Option<Ordering>
 }
 
 // The answer of a comparison.
-fn compared(holds: Option<bool>) -> Step
+fn compared(holds: Option<bool>) -> Outcome
     ensures { result ≡ compared holds }
 {
     match holds {
-        Some(b) => Step::Done(Value::Bool(b)),
-        None => Step::Fail(Fault::Kind),
+        Some(b) => Outcome::Good(Value::Bool(b)),
+        None => Outcome::Bad(Fault::Kind),
     }
 }
 
 // A text of at most `MOST_TEXT` bytes.
-fn text_answer(alloc: Global, text: &str) -> Result<Step, NoMemory>
-    ensures { IfOk result (λ s. s ≡ text_answer text.now) }
+fn text_outcome(alloc: Global, text: &str) -> Result<Outcome, NoMemory>
+    ensures { IfOk result (λ o. o ≡ text_outcome text.now) }
 {
     match Text::new(alloc, text) {
-        Ok(text) => Ok(Step::Done(Value::Text(text))),
-        Err(TextFault::Long) => Ok(Step::Fail(Fault::Long)),
+        Ok(text) => Ok(Outcome::Good(Value::Text(text))),
+        Err(TextFault::Long) => Ok(Outcome::Bad(Fault::Long)),
         Err(TextFault::NoMemory(error)) => Err(error),
     }
 }
 
 // Two scalars as they are shown, one after the other.
-fn joined(alloc: Global, left: Value, right: Value) -> Result<Step, NoMemory>
-    ensures { IfOk result (λ s. s ≡ joined (shown left) (shown right)) }
+fn joined(alloc: Global, left: Value, right: Value) -> Result<Outcome, NoMemory>
+    ensures { IfOk result (λ o. o ≡ joined (shown left) (shown right)) }
 {
     let (Some(first), Some(second)) = (left.into_scalar(), right.into_scalar()) else {
-        return Ok(Step::Fail(Fault::Kind));
+        return Ok(Outcome::Bad(Fault::Kind));
     };
     let text = format!(in alloc; "{first}{second}")?;
-    text_answer(alloc, text.as_str())
+    text_outcome(alloc, text.as_str())
 }
 
-fn sum(m: i64, n: i64) -> Step
+fn sum(m: i64, n: i64) -> Outcome
     ensures { result ≡ calculated BinOp.Add m n }
 {
     match m.checked_add(n) {
-        Some(number) => Step::Done(Value::Int(number)),
-        None => Step::Fail(Fault::Overflow),
+        Some(number) => Outcome::Good(Value::Int(number)),
+        None => Outcome::Bad(Fault::Overflow),
     }
 }
 
-fn difference(m: i64, n: i64) -> Step
+fn difference(m: i64, n: i64) -> Outcome
     ensures { result ≡ calculated BinOp.Sub m n }
 {
     match m.checked_sub(n) {
-        Some(number) => Step::Done(Value::Int(number)),
-        None => Step::Fail(Fault::Overflow),
+        Some(number) => Outcome::Good(Value::Int(number)),
+        None => Outcome::Bad(Fault::Overflow),
     }
 }
 
-fn product(m: i64, n: i64) -> Step
+fn product(m: i64, n: i64) -> Outcome
     ensures { result ≡ calculated BinOp.Mul m n }
 {
     match m.checked_mul(n) {
-        Some(number) => Step::Done(Value::Int(number)),
-        None => Step::Fail(Fault::Overflow),
+        Some(number) => Outcome::Good(Value::Int(number)),
+        None => Outcome::Bad(Fault::Overflow),
     }
 }
 
 // The quotient, truncated towards zero.
-fn quotient(m: i64, n: i64) -> Step
+fn quotient(m: i64, n: i64) -> Outcome
     ensures { result ≡ calculated BinOp.Div m n }
 {
     if n == 0 {
-        return Step::Fail(Fault::Zero);
+        return Outcome::Bad(Fault::Zero);
     }
     match m.checked_div(n) {
-        Some(number) => Step::Done(Value::Int(number)),
-        None => Step::Fail(Fault::Overflow),
+        Some(number) => Outcome::Good(Value::Int(number)),
+        None => Outcome::Bad(Fault::Overflow),
     }
 }
 
 // The remainder of that quotient.
-fn remainder(m: i64, n: i64) -> Step
+fn remainder(m: i64, n: i64) -> Outcome
     ensures { result ≡ calculated BinOp.Rem m n }
 {
     if n == 0 {
-        return Step::Fail(Fault::Zero);
+        return Outcome::Bad(Fault::Zero);
     }
-    Step::Done(Value::Int(m.wrapping_rem(n)))
+    Outcome::Good(Value::Int(m.wrapping_rem(n)))
 }
 
 // What an operator of whole numbers makes of two values.
-fn calculation(op: BinOp, left: &Value, right: &Value) -> Step
+fn calculation(op: BinOp, left: &Value, right: &Value) -> Outcome
     ensures { result ≡ calculation op left.now right.now }
 {
     let (Value::Int(m), Value::Int(n)) = (left, right) else {
-        return Step::Fail(Fault::Kind);
+        return Outcome::Bad(Fault::Kind);
     };
     match op {
         BinOp::Add => sum(*m, *n),
@@ -160,13 +160,13 @@ fn calculation(op: BinOp, left: &Value, right: &Value) -> Step
         BinOp::Mul => product(*m, *n),
         BinOp::Div => quotient(*m, *n),
         BinOp::Rem => remainder(*m, *n),
-        _ => Step::Fail(Fault::Kind),
+        _ => Outcome::Bad(Fault::Kind),
     }
 }
 
 /// What an operator makes of two operands.
-pub fn operated(alloc: Global, op: BinOp, left: Value, right: Value) -> Result<Step, NoMemory>
-    ensures { IfOk result (λ s. s ≡ operated op left right) }
+pub fn operated(alloc: Global, op: BinOp, left: Value, right: Value) -> Result<Outcome, NoMemory>
+    ensures { IfOk result (λ o. o ≡ operated op left right) }
 {
     match op {
         BinOp::Or | BinOp::And => Ok(truth(right)),

@@ -1,5 +1,8 @@
-use Rattle.sig_formula.proofs.Asking.{asks_askable}
+use Rattle.sig_formula.proofs.Asking.{asks_askable, formula_asks}
 use Rattle.sig_formula.proofs.laws.formulas_ask_own_unknown_slots.Goals as goal
 
-pub returns : goal.returns
-returns c = asks_askable
+pub returns-clause-tracking : goal.returns-clause-tracking
+returns-clause-tracking c = formula_asks
+
+pub returns-clause-plain : goal.returns-clause-plain
+returns-clause-plain c = asks_askable
