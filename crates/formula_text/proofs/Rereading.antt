@@ -40,11 +40,11 @@ use lib.Utf8.{scalar as is_scalar, scalars}
 
 -- ---- what tokens say can be printed
 
-abbrev Good : Sign → Type 0
+abbrev pub Good : Sign → Type 0
 Good (t.leaf l) = IsPrintableLeaf l
 Good s = Unit {0}
 
-abbrev AllGood : List Sign → Type 0
+abbrev pub AllGood : List Sign → Type 0
 AllGood [] = Unit {0}
 AllGood (s ∷ ss) = Good s × AllGood ss
 
@@ -56,7 +56,7 @@ good_name : (w : List ℕ) (b : Bool) → is_name w ≡ b → Good (cond b (t.le
 good_name w true h = h
 good_name w false h = tt
 
-good_word : (w : List ℕ) → Good (word_sign w)
+pub good_word : (w : List ℕ) → Good (word_sign w)
 unfolding word_sign
 good_word w =
     good_if (bytes_eq w (codes "or")) _ _ tt
@@ -70,7 +70,7 @@ good_word w =
     (good_if (bytes_eq w (codes "false")) _ _ tt
     (good_name w (is_name w) refl)))))))))
 
-good_symbol : (s : List ℕ) → Good (symbol_sign s)
+pub good_symbol : (s : List ℕ) → Good (symbol_sign s)
 unfolding symbol_sign
 good_symbol s =
     good_if (bytes_eq s (codes "(")) _ _ tt
@@ -109,7 +109,7 @@ plain_scalars false (c ∷ cs) h =
       | inr e ↦ rw e (and_from (is_scalar c) (scalars (plain false cs)) p.0 (plain_scalars false cs p.1))
     ]
 
-text_utf8 : (inner : List ℕ) → IsUtf8 inner → IsUtf8 (text_of inner)
+pub text_utf8 : (inner : List ℕ) → IsUtf8 inner → IsUtf8 (text_of inner)
 unfolding text_of
 text_utf8 inner u = (plain false (chars inner), (plain_scalars false (chars inner) (scalars-chars inner u), refl))
 
@@ -154,7 +154,7 @@ good_meant (pick w a b) h =
       good_meant b (good_right (spelled a) (t.else_word ∷ spelled b) behind).1,
     )
 
-good_spelled : (ss : List Sign) (x : Draft) → AllGood ss → Spells ss x → IsPrintable x
+pub good_spelled : (ss : List Sign) (x : Draft) → AllGood ss → Spells ss x → IsPrintable x
 good_spelled ss x good s = subst IsPrintable s.meaning (good_meant s.form (subst AllGood s.tokens good))
 
 -- a formula that was read can be printed
@@ -251,7 +251,7 @@ read_back line ts from to allow w are is other at front others stands =
 
 -- ---- alone
 
-abbrev are_ascii : List ℕ → Bool
+abbrev pub are_ascii : List ℕ → Bool
 are_ascii [] = true
 are_ascii (b ∷ bs) = nat_lt b 128 && are_ascii bs
 
@@ -260,7 +260,7 @@ each_ascii [] h i = omega arith
 each_ascii (b ∷ bs) h zero = ltb-true b 128 (and_parts (nat_lt b 128) (are_ascii bs) h).0
 each_ascii (b ∷ bs) h (suc i) = each_ascii bs (and_parts (nat_lt b 128) (are_ascii bs) h).1 i
 
-ascii : (bs : List ℕ) → are_ascii bs ≡ true → IsUtf8 bs
+pub ascii : (bs : List ℕ) → are_ascii bs ≡ true → IsUtf8 bs
 ascii bs h = IsUtf8-from_ascii bs (each_ascii bs h)
 
 word_small : (b : ℕ) → in_word b ≡ true → b < 128
@@ -275,7 +275,7 @@ run_ascii (b ∷ bs) h =
     let p = and_parts (in_word b) (list_all in_word bs) h in
     and_from (nat_lt b 128) (are_ascii bs) (lt-ltb b 128 (word_small b p.0)) (run_ascii bs p.1)
 
-number_utf8 : (text : List ℕ) → IsNumeric text → IsUtf8 text
+pub number_utf8 : (text : List ℕ) → IsNumeric text → IsUtf8 text
 number_utf8 text n =
     let small : n.first < 128 = elim n.begins [ inl d ↦ digit_small n.first d | inr e ↦ omega (arith, e) ] in
     let all : are_ascii (n.first ∷ n.rest) ≡ true = and_from (nat_lt n.first 128) (are_ascii n.rest) (lt-ltb n.first 128 small) (run_ascii n.rest n.run) in
@@ -312,7 +312,7 @@ group_utf8 : (b : Bool) (w : Written) → IsUtf8 (written w) → IsUtf8 (written
 group_utf8 true w h = behind (codes "(") (written w ++ codes ")") refl (IsUtf8-append (written w) (codes ")") h (ascii (codes ")") refl))
 group_utf8 false w h = h
 
-written_utf8 : (asked : ℕ) (x : Draft) → IsPrintable x → IsUtf8 (written (minimal asked x))
+pub written_utf8 : (asked : ℕ) (x : Draft) → IsPrintable x → IsUtf8 (written (minimal asked x))
 written_utf8 asked (leaf l) h = leaf_utf8 l h
 written_utf8 asked (negation x) h =
     group_utf8 (nat_lt 3 asked) (negated (minimal 3 x)) (behind (codes "not ") (written (minimal 3 x)) refl (written_utf8 3 x h))
