@@ -1,10 +1,11 @@
-pub mod Complete
-pub mod Laws
-pub mod Lexing
-pub mod Minimal
-pub mod Places
-pub mod Quoting
-pub mod Slots
-pub mod Rereading
-pub mod Sound
-pub mod Texts
+mod Complete
+mod Laws
+mod Lexing
+mod Minimal
+mod Places
+mod Quoting
+mod Slots
+mod Rereading
+mod Sound
+mod Texts
+pub mod Shared

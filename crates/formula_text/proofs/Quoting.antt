@@ -137,7 +137,7 @@ inner_step b bs = elim (cases_Bool (b == 92)) [
   ]
 ]
 
-inner_form : (bs : List ℕ) → is_inner false (flat_map in_quotes bs) ≡ true
+pub inner_form : (bs : List ℕ) → is_inner false (flat_map in_quotes bs) ≡ true
 inner_form [] = refl
 inner_form (b ∷ bs) = inner_step b (flat_map in_quotes bs) ∙ inner_form bs
 

@@ -13,8 +13,7 @@ use Rattle.formula_text.specs.Reading.{expr}
 use Rattle.formula_text.specs.Wiring.{Wiring, ReadsNone, IsRead, IsCause, refusal, wired}
 use Rattle.formula_text.specs.declared.rough.Rough.{Rough}
 use Rattle.formula_text.specs.Rough.{draft}
-use Rattle.formula_text.proofs.Sound.{expr_sound}
-use Rattle.formula_text.proofs.Laws.{reads_front}
+use Rattle.formula_text.proofs.Shared.{expr_sound, reads_front}
 use Rattle.live_cmd.specs.Judging.{tracked}
 use Rattle.live_cmd.specs.Reading.{ended_at, ended, formula_of}
 use Rattle.live_cmd.specs.Views.{unless_faulty, formula_told}

@@ -1,0 +1,15 @@
+-- What crates above may cite of these proofs: laws of the grammar and of texts, never of a function. All else in this folder is this
+-- crate's own.
+
+-- signs that spell a formula: what may follow one, the longest, and what spells none
+pub use Rattle.formula_text.proofs.Complete.{Stops}
+pub use Rattle.formula_text.proofs.Laws.{has_none, longest, reads_front}
+pub use Rattle.formula_text.proofs.Minimal.{minimal_spells, one_formula}
+pub use Rattle.formula_text.proofs.Slots.{named_back}
+pub use Rattle.formula_text.proofs.Sound.{Took, expr_sound}
+-- the tokens of a text that was written
+pub use Rattle.formula_text.proofs.Lexing.{Gap, cut_written, cuts_append}
+pub use Rattle.formula_text.proofs.Quoting.{inner_form, quoted_says, quoted_utf8}
+-- what can be printed, and that it is UTF-8
+pub use Rattle.formula_text.proofs.Rereading.{Good, AllGood, good_spelled, good_symbol, good_word, printable_tokens}
+pub use Rattle.formula_text.proofs.Rereading.{are_ascii, ascii, number_utf8, text_utf8, written_utf8}
