@@ -24,3 +24,4 @@ pub mod Quiet
 pub mod Serial
 pub mod Pairs
 mod Examples
+mod Refusals

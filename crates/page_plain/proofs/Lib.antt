@@ -1,3 +1,0 @@
-mod Listing
-mod Joined
-mod Renewed
