@@ -4,7 +4,7 @@ use Rattle.std.proofs.lemmas.Bool.{cases_Bool, false≢true}
 use Rattle.page_model.specs.Forest.{Forest, none, node, on, tally, keys, kids, parent, label_in, numbered}
 use Rattle.page_model.specs.Labels.{Root, Look, Alike}
 use Rattle.page_model.specs.Replay.{Done, replay}
-use Rattle.page_model.specs.Pages.{Page, looks, by_number, shape_of, tree_of, number_of, newcomers, those, ascending_by, new_order, place_in, carried, with_numbers, renumbered, edits_between, IsPage, IsShape, SameOrigin}
+use Rattle.page_model.specs.Pages.{NumberedPage, looks, by_number, page_shape, tree_of, number_of, newcomers, those, ascending_by, new_order, place_in, carried, with_numbers, renumbered, edits_between, IsPage, IsShape, SameOrigin}
 use Rattle.page_model.specs.Edits.{listed}
 use Rattle.page_model.proofs.Tally.{tally_off}
 use Rattle.page_model.proofs.Linked.{has_parent, knows}
@@ -18,36 +18,36 @@ use Rattle.page_model.proofs.Newcomers.{in_ascending_by, in_those, in_flat, cove
 
 -- ---- numbers
 
-old_number : (old : Page) (shape : Forest Look) (a : ℕ) → on a (shape_of old) ≡ true → carried old shape a ≡ number_of old a
+old_number : (old : NumberedPage) (shape : Forest Look) (a : ℕ) → on a (page_shape old) ≡ true → carried old shape a ≡ number_of old a
 old_number old shape a e = rw e refl
 
-pub new_number : (old : Page) (shape : Forest Look) (a : ℕ) → on a (shape_of old) ≡ false → carried old shape a ≡ old.next + place_in a (new_order old shape)
+pub new_number : (old : NumberedPage) (shape : Forest Look) (a : ℕ) → on a (page_shape old) ≡ false → carried old shape a ≡ old.next + place_in a (new_order old shape)
 new_number old shape a e = rw e refl
 
 -- what a rooted tree gives
-root_kept : (old : Page) → IsPage old → (on 0 (shape_of old) ≡ true) × (number_of old 0 ≡ 0)
+root_kept : (old : NumberedPage) → IsPage old → (on 0 (page_shape old) ≡ true) × (number_of old 0 ≡ 0)
 root_kept old p = (ap (λ t. on 0 (looks t)) p.rooted.is, ap (λ t. (label_in {A = ℕ × Look} (0, Root) 0 t).0) p.rooted.is)
 
-pub all_covered : (old : Page) (shape : Forest Look) → IsPage old → IsShape shape → (a : ℕ) → on a shape ≡ true → on a (shape_of old) ≡ false → listed a (new_order old shape) ≡ true
+pub all_covered : (old : NumberedPage) (shape : Forest Look) → IsPage old → IsShape shape → (a : ℕ) → on a shape ≡ true → on a (page_shape old) ≡ false → listed a (new_order old shape) ≡ true
 all_covered old shape p s a h z =
-    let kept : ℕ → Bool = λ j. on j (shape_of old) in
+    let kept : ℕ → Bool = λ j. on j (page_shape old) in
     let k0 = (root_kept old p).0 in
     covered kept shape (new_order old shape)
-    (λ q o e j i. in_flat (λ b. newcomers kept (kids b shape)) j q (ascending_by (number_of old) (those (λ b. on b shape) (keys (shape_of old))))
-    (in_ascending_by (number_of old) q (those (λ b. on b shape) (keys (shape_of old))) ∙ in_those (λ b. on b shape) q (keys (shape_of old)) (in_keys q (shape_of old) ∙ e) o) i)
+    (λ q o e j i. in_flat (λ b. newcomers kept (kids b shape)) j q (ascending_by (number_of old) (those (λ b. on b shape) (keys (page_shape old))))
+    (in_ascending_by (number_of old) q (those (λ b. on b shape) (keys (page_shape old))) ∙ in_those (λ b. on b shape) q (keys (page_shape old)) (in_keys q (page_shape old) ∙ e) o) i)
     shape (knows shape s.once) (λ j e. e)
     (λ j i. (
     let nothing : newcomers kept shape ≡ [] = ap (newcomers kept) s.rooted.is ∙ (rw k0 refl) in
     absurd (false≢true (sym (ap (listed j) nothing) ∙ i))))
     a h z
 
-distinct_after : (old : Page) (shape : Forest Look) → IsPage old → IsShape shape → (a b : ℕ) → on a shape ≡ true → on b shape ≡ true → carried old shape a ≡ carried old shape b → a ≡ b
-distinct_after old shape p s a b h g e = elim (cases_Bool (on a (shape_of old))) [
-  | inl u ↦ elim (cases_Bool (on b (shape_of old))) [
+distinct_after : (old : NumberedPage) (shape : Forest Look) → IsPage old → IsShape shape → (a b : ℕ) → on a shape ≡ true → on b shape ≡ true → carried old shape a ≡ carried old shape b → a ≡ b
+distinct_after old shape p s a b h g e = elim (cases_Bool (on a (page_shape old))) [
+  | inl u ↦ elim (cases_Bool (on b (page_shape old))) [
     | inl v ↦ p.distinct a b u v (sym (old_number old shape a u) ∙ (e ∙ old_number old shape b v))
     | inr v ↦ (let q = old_number old shape a u in let w = new_number old shape b v in let z = p.below a u in absurd (omega (arith, q, w, z, e)))
   ]
-  | inr u ↦ elim (cases_Bool (on b (shape_of old))) [
+  | inr u ↦ elim (cases_Bool (on b (page_shape old))) [
     | inl v ↦ (let q = new_number old shape a u in let w = old_number old shape b v in let z = p.below b v in absurd (omega (arith, q, w, z, e)))
     | inr v ↦ (
         let q = new_number old shape a u in
@@ -57,26 +57,26 @@ distinct_after old shape p s a b h g e = elim (cases_Bool (on a (shape_of old)))
   ]
 ]
 
-below_after : (old : Page) (shape : Forest Look) → IsPage old → IsShape shape → (a : ℕ) → on a shape ≡ true → carried old shape a < old.next + length (new_order old shape)
-below_after old shape p s a h = elim (cases_Bool (on a (shape_of old))) [
+pub below_after : (old : NumberedPage) (shape : Forest Look) → IsPage old → IsShape shape → (a : ℕ) → on a shape ≡ true → carried old shape a < old.next + length (new_order old shape)
+below_after old shape p s a h = elim (cases_Bool (on a (page_shape old))) [
   | inl u ↦ (let q = old_number old shape a u in let b = p.below a u in omega (arith, q, b))
   | inr u ↦ (let q = new_number old shape a u in let b = place_below a (new_order old shape) (all_covered old shape p s a h u) in omega (arith, q, b))
 ]
 
-root_after : (old : Page) (shape : Forest Look) → IsPage old → carried old shape 0 ≡ 0
+pub root_after : (old : NumberedPage) (shape : Forest Look) → IsPage old → carried old shape 0 ≡ 0
 root_after old shape p = (let k = root_kept old p in old_number old shape 0 k.0 ∙ k.1)
 
-number_after : (old : Page) (shape : Forest Look) (a : ℕ) → on a shape ≡ true → number_of (renumbered old shape) a ≡ carried old shape a
+pub number_after : (old : NumberedPage) (shape : Forest Look) (a : ℕ) → on a shape ≡ true → number_of (renumbered old shape) a ≡ carried old shape a
 number_after old shape a h = number_with (carried old shape) a shape h
 
-pub shape_after : (old : Page) (shape : Forest Look) → shape_of (renumbered old shape) ≡ shape
+pub shape_after : (old : NumberedPage) (shape : Forest Look) → page_shape (renumbered old shape) ≡ shape
 shape_after old shape = looks_with (carried old shape) shape
 
 -- the page that comes next is a page
-pub page_after : (old : Page) (shape : Forest Look) → IsPage old → IsShape shape → IsPage (renumbered old shape)
+pub page_after : (old : NumberedPage) (shape : Forest Look) → IsPage old → IsShape shape → IsPage (renumbered old shape)
 page_after old shape p s =
     let num = carried old shape in
-    let still : (a : ℕ) → on a (shape_of (renumbered old shape)) ≡ true → on a shape ≡ true = λ a h. ap (on a) (sym (shape_after old shape)) ∙ h in
+    let still : (a : ℕ) → on a (page_shape (renumbered old shape)) ≡ true → on a shape ≡ true = λ a h. ap (on a) (sym (shape_after old shape)) ∙ h in
     record {
       rooted = record {
         below = with_numbers num s.rooted.below;
@@ -89,7 +89,7 @@ page_after old shape p s =
 
 -- ---- the edits
 
-parent_at : (b : ℕ) (t os : Forest Look) → t ≡ node 0 Root os none → ((j : ℕ) → tally j t ≤ 1) → on b t ≡ true → on (parent b t) t ≡ true
+pub parent_at : (b : ℕ) (t os : Forest Look) → t ≡ node 0 Root os none → ((j : ℕ) → tally j t ≤ 1) → on b t ≡ true → on (parent b t) t ≡ true
 parent_at b t os e l o = elim (cases_Bool (0 == b)) [
   | inl f ↦ (
       let q : 0 ≡ b = eqb-true 0 b f in
@@ -112,9 +112,9 @@ alike_at x x' y y' e f a =
     subst Q (sym f) (subst P (sym e) a)
 
 -- the two trees by number, from what is known by address
-linkable : (old : Page) (shape : Forest Look) → IsPage old → IsShape shape → SameOrigin (shape_of old) shape → Linkable (numbered (number_of old) (shape_of old)) (numbered (carried old shape) shape)
+linkable : (old : NumberedPage) (shape : Forest Look) → IsPage old → IsShape shape → SameOrigin (page_shape old) shape → Linkable (numbered (number_of old) (page_shape old)) (numbered (carried old shape) shape)
 linkable old shape p s o =
-    let before = shape_of old in
+    let before = page_shape old in
     let num = number_of old in
     let num' = carried old shape in
     let k = root_kept old p in
@@ -123,7 +123,7 @@ linkable old shape p s o =
       | inl u ↦ p.distinct a b h u (e ∙ old_number old shape b u)
       | inr u ↦ (let w = new_number old shape b u in let z = p.below a h in absurd (omega (arith, w, z, e)))
     ] in
-    let rooted : shape_of old ≡ node 0 Root (looks p.rooted.below) none = ap looks p.rooted.is in
+    let rooted : page_shape old ≡ node 0 Root (looks p.rooted.below) none = ap looks p.rooted.is in
     record {
       old_once = once_numbered num before p.once p.distinct;
       new_once = once_numbered num' shape s.once far;
@@ -155,10 +155,10 @@ linkable old shape p s o =
     }
 
 -- the replay law
-pub replay_leads : (old : Page) (shape : Forest Look) → IsPage old → IsShape shape → SameOrigin (shape_of old) shape → replay (edits_between old (renumbered old shape)) (tree_of old) ≡ Done (tree_of (renumbered old shape))
+pub replay_leads : (old : NumberedPage) (shape : Forest Look) → IsPage old → IsShape shape → SameOrigin (page_shape old) shape → replay (edits_between old (renumbered old shape)) (tree_of old) ≡ Done (tree_of (renumbered old shape))
 replay_leads old shape p s o =
     let num' = carried old shape in
-    let before : by_number old.nodes ≡ numbered (number_of old) (shape_of old) = by_number_is old p.once in
+    let before : by_number old.nodes ≡ numbered (number_of old) (page_shape old) = by_number_is old p.once in
     let after : by_number (with_numbers num' shape) ≡ numbered num' shape = by_number_with num' shape in
     let l = linkable old shape p s o in
     let P : Forest Look → Type 0 = λ t. Linkable t (numbered num' shape) in
@@ -170,8 +170,8 @@ replay_leads old shape p s o =
 
 -- ---- numbers of the next page
 
-pub kept_number : (old : Page) (shape : Forest Look) (a : ℕ) → on a (shape_of old) ≡ true → on a shape ≡ true → number_of (renumbered old shape) a ≡ number_of old a
+pub kept_number : (old : NumberedPage) (shape : Forest Look) (a : ℕ) → on a (page_shape old) ≡ true → on a shape ≡ true → number_of (renumbered old shape) a ≡ number_of old a
 kept_number old shape a h g = number_after old shape a g ∙ old_number old shape a h
 
-pub unused_number : (old : Page) (shape : Forest Look) (a : ℕ) → on a (shape_of old) ≡ false → on a shape ≡ true → number_of (renumbered old shape) a ≡ old.next + place_in a (new_order old shape)
+pub unused_number : (old : NumberedPage) (shape : Forest Look) (a : ℕ) → on a (page_shape old) ≡ false → on a shape ≡ true → number_of (renumbered old shape) a ≡ old.next + place_in a (new_order old shape)
 unused_number old shape a h g = number_after old shape a g ∙ new_number old shape a h

@@ -7,11 +7,8 @@ use Rattle.html_out.specs.Html.{attribute, escaped, escaped_value, is_raw, is_vo
 use Rattle.page_model.specs.Forest.{Forest, none, node}
 use Rattle.page_model.specs.Labels.{Root, Text, Element, Label, Kind, Look}
 use Rattle.page_model.specs.Replay.{Op, OpRemove, OpInsert, OpMove, OpText, OpAttr, OpUnattr}
-use Rattle.page_model.specs.Pages.{Page, renumbered, edits_between, tree_of}
+use Rattle.page_model.specs.Pages.{NumberedPage, bare, renumbered, edits_between, tree_of}
 use Rattle.page_model.specs.Html.{html_of}
-
-abbrev bare : Page
-bare = record { nodes = node 0 (0, Root) none none; next = 1 }
 
 -- an element without attributes
 abbrev plain : {V : Type 0} → List ℕ → Label V
@@ -25,13 +22,13 @@ item a t rest = node a (plain (codes "li")) (node (a + 1) (Text t) none none) re
 abbrev list : Forest Look → Forest Look
 list items = node 0 Root (node 1 (plain (codes "ul")) items none) none
 
-abbrev abc : Page
+abbrev abc : NumberedPage
 abc = renumbered bare (list (item 11 (codes "A") (item 21 (codes "B") (item 31 (codes "C") none))))
 
-abbrev czd : Page
+abbrev czd : NumberedPage
 czd = renumbered abc (list (item 31 (codes "C") (item 11 (codes "Z") (item 41 (codes "D") none))))
 
-abbrev qcd : Page
+abbrev qcd : NumberedPage
 qcd = renumbered czd (list (item 11 (codes "Q") (item 31 (codes "C") (item 41 (codes "D") none))))
 
 abbrev shown_item : ℕ → List ℕ → Forest Kind → Forest Kind
@@ -58,7 +55,7 @@ flushed_html = refl
 abbrev awkward : List ℕ
 awkward = codes "a<b>&\"c" ++ (194 ∷ 160 ∷ [])
 
-abbrev titled : Page
+abbrev titled : NumberedPage
 titled = renumbered bare (node 0 Root (node 1 (Element (codes "p") ((codes "title", Some awkward) ∷ [])) (node 2 (Text awkward) none none) none) none)
 
 escaped_twice : html_of (tree_of titled) ≡ codes "<p title=\"a&lt;b&gt;&amp;&quot;c&nbsp;\">a&lt;b&gt;&amp;\"c&nbsp;</p>"
@@ -71,10 +68,10 @@ abbrev yes_input : Option (List ℕ) → Forest Look
 yes_input disabled =
     node 0 Root (node 1 (Text (codes "yes")) none (node 4 (Element (codes "input") ((codes "disabled", disabled) ∷ [])) none none)) none
 
-abbrev disabled : Page
+abbrev disabled : NumberedPage
 disabled = renumbered bare (yes_input (Some []))
 
-abbrev enabled : Page
+abbrev enabled : NumberedPage
 enabled = renumbered disabled (yes_input None)
 
 disabled_ops : edits_between bare disabled ≡
@@ -99,13 +96,13 @@ enabled_html = refl
 abbrev abcd : (a b c d : Option (List ℕ)) → Forest Look
 abcd a b c d = node 0 Root (node 1 (Element (codes "p") ((codes "a", a) ∷ (codes "b", b) ∷ (codes "c", c) ∷ (codes "d", d) ∷ [])) none none) none
 
-abbrev ac : Page
+abbrev ac : NumberedPage
 ac = renumbered bare (abcd (Some (codes "1")) None (Some (codes "3")) None)
 
-abbrev bc : Page
+abbrev bc : NumberedPage
 bc = renumbered ac (abcd None (Some (codes "2")) (Some (codes "4")) None)
 
-abbrev abcd_all : Page
+abbrev abcd_all : NumberedPage
 abcd_all = renumbered bc (abcd (Some (codes "1")) (Some (codes "2")) (Some (codes "5")) (Some (codes "6")))
 
 -- each place is that among the attributes that are present then
@@ -136,15 +133,15 @@ abbrev section : Forest Look → Forest Look → Forest Look
 section entries below =
     node 0 Root (node 1 (Element (codes "section") ((codes "class", Some (codes "todo")) ∷ [])) (node 2 (plain (codes "ul")) entries below) none) none
 
-abbrev three : Page
+abbrev three : NumberedPage
 three =
     let entries = entry 11 (codes "a") (codes "Milk") (entry 21 (codes "b") (codes "Tea") (entry 31 (codes "c") (codes "Bread") none)) in
     renumbered bare (section entries (counted (codes "2 open")))
 
-abbrev one_left : Page
+abbrev one_left : NumberedPage
 one_left = renumbered three (section (entry 31 (codes "c") (codes "Bread") none) (counted (codes "1 open")))
 
-abbrev none_left : Page
+abbrev none_left : NumberedPage
 none_left = renumbered one_left (section none (noted (counted (codes "0 open"))))
 
 abbrev shown_entry : ℕ → List ℕ → List ℕ → Forest Kind → Forest Kind

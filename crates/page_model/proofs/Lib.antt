@@ -19,9 +19,13 @@ mod Shown
 mod Leading
 mod Looks
 mod Newcomers
-pub mod Carrying
-pub mod Quiet
-pub mod Serial
-pub mod Pairs
+mod Carrying
+mod Quiet
+mod Serial
+mod Pairs
+mod Fresh
+mod Keeping
+mod Writing
 mod Examples
 mod Refusals
+pub mod PageLaws

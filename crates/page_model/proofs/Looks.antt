@@ -3,7 +3,7 @@ use Rattle.std.proofs.Common.{◌≡◌, ℕ, ◌≤◌, ◌==◌, true, refl, s
 use Rattle.std.proofs.lemmas.Bool.{cases_Bool, false≢true}
 use Rattle.page_model.specs.Forest.{Forest, none, node, on, tally, label_in, numbered}
 use Rattle.page_model.specs.Labels.{Root, Look}
-use Rattle.page_model.specs.Pages.{Page, looks, by_number, number_of, with_numbers}
+use Rattle.page_model.specs.Pages.{NumberedPage, looks, by_number, number_of, with_numbers}
 use Rattle.page_model.proofs.Linked.{Tells, tells}
 
 pub on_looks : (a : ℕ) (t : Forest (ℕ × Look)) → on a (looks t) ≡ on a t
@@ -40,5 +40,5 @@ by_number_tells : (lab : ℕ → ℕ × Look) (t : Forest (ℕ × Look)) → Tel
 by_number_tells lab none h = refl
 by_number_tells lab (node m x k r) h = rw (by_number_tells lab k h.1, by_number_tells lab r h.2) (ap (λ z. node z x.1 (numbered (λ a. (lab a).0) (looks k)) (numbered (λ a. (lab a).0) (looks r))) (sym (ap (λ z. z.0) h.0)))
 
-pub by_number_is : (p : Page) → ((a : ℕ) → tally a (looks p.nodes) ≤ 1) → by_number p.nodes ≡ numbered (number_of p) (looks p.nodes)
+pub by_number_is : (p : NumberedPage) → ((a : ℕ) → tally a (looks p.nodes) ≤ 1) → by_number p.nodes ≡ numbered (number_of p) (looks p.nodes)
 by_number_is p l = by_number_tells (λ a. label_in (0, Root) a p.nodes) p.nodes (tells (0, Root) p.nodes (λ a. (let i = l a in let j = tally_looks a p.nodes in omega arith)))

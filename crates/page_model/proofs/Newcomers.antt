@@ -10,7 +10,7 @@ use Rattle.page_model.proofs.Everywhere.{or_left, or_right}
 use Rattle.page_model.proofs.Removals.{in_both}
 use Rattle.page_model.proofs.Orders.{in_keys, swapped}
 
-in_into_by : (num : ℕ → ℕ) (j n : ℕ) (ms : List ℕ) → listed j (into_by num n ms) ≡ (n == j || listed j ms)
+pub in_into_by : (num : ℕ → ℕ) (j n : ℕ) (ms : List ℕ) → listed j (into_by num n ms) ≡ (n == j || listed j ms)
 in_into_by num j n [] = refl
 in_into_by num j n (m ∷ ms) = elim (cases_Bool (leb (num n) (num m))) [
   | inl e ↦ rw e refl

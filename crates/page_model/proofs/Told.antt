@@ -40,7 +40,7 @@ on_relabelled : {A : Type 0} (j n : ℕ) (t : A) (xs : Forest A) → on j (relab
 on_relabelled j n t none = refl
 on_relabelled j n t (node m x k r) = rw (on_relabelled j n t k, on_relabelled j n t r) refl
 
-tally_relabelled : {A : Type 0} (j n : ℕ) (t : A) (xs : Forest A) → tally j (relabelled n t xs) ≡ tally j xs
+pub tally_relabelled : {A : Type 0} (j n : ℕ) (t : A) (xs : Forest A) → tally j (relabelled n t xs) ≡ tally j xs
 tally_relabelled j n t none = refl
 tally_relabelled j n t (node m x k r) = rw (tally_relabelled j n t k, tally_relabelled j n t r) refl
 
@@ -88,7 +88,7 @@ named_with : (name m : List ℕ) (o : Option (List ℕ)) (xs : List (List ℕ ×
 named_with name m None xs d h = h
 named_with name m (Some v) xs d h = rw d h
 
-not_present : (name : List ℕ) (xs : List (List ℕ × Option (List ℕ))) → named name xs ≡ false → named name (present xs) ≡ false
+pub not_present : (name : List ℕ) (xs : List (List ℕ × Option (List ℕ))) → named name xs ≡ false → named name (present xs) ≡ false
 not_present name [] h = refl
 not_present name (a ∷ xs) h = elim (cases_Bool (bytes_eq a.0 name)) [
   | inl e ↦ absurd (true≢false (rw e at h))

@@ -17,11 +17,11 @@ use Rattle.page_model.proofs.Levels.{depth_parent, depth_low, fits_self, fits_si
 use Rattle.page_model.proofs.Linked.{has_on, on_kids, single_of, knows, tells, sits, matches_at, ready_of, clear_of, labelled_of}
 
 -- what a number has over the kept nodes that aren't listed
-abbrev over : {A : Type 0} → (ℕ → Bool) → (ℕ → ℕ) → List ℕ → Forest A → ℕ
+abbrev pub over : {A : Type 0} → (ℕ → Bool) → (ℕ → ℕ) → List ℕ → Forest A → ℕ
 over kept w es none = 0
 over kept w es (node m x k r) = (if kept m && not (listed m es) then w m else 0) + (over kept w es k + over kept w es r)
 
-over_none : {A : Type 0} (kept : ℕ → Bool) (w : ℕ → ℕ) (es : List ℕ) (t : Forest A) → ((j : ℕ) → on j t ≡ true → kept j ≡ false) → over kept w es t ≡ 0
+pub over_none : {A : Type 0} (kept : ℕ → Bool) (w : ℕ → ℕ) (es : List ℕ) (t : Forest A) → ((j : ℕ) → on j t ≡ true → kept j ≡ false) → over kept w es t ≡ 0
 over_none kept w es none h = refl
 over_none kept w es (node m x k r) h =
     let a = h m (or_left (m == m) (on m k || on m r) (eq-eqb m m refl)) in
@@ -56,7 +56,7 @@ over_less kept w p es (node m x k r) =
       | inr a ↦ rw a (omega (arith, ik, ir))
     ]
 
-over_one : {A : Type 0} (kept : ℕ → Bool) (w : ℕ → ℕ) (p : ℕ) (es : List ℕ) (t : Forest A) → kept p ≡ true → listed p es ≡ false → on p t ≡ true → over kept w (p ∷ es) t + w p ≤ over kept w es t
+pub over_one : {A : Type 0} (kept : ℕ → Bool) (w : ℕ → ℕ) (p : ℕ) (es : List ℕ) (t : Forest A) → kept p ≡ true → listed p es ≡ false → on p t ≡ true → over kept w (p ∷ es) t + w p ≤ over kept w es t
 over_one kept w p es none e l o = absurd (false≢true o)
 over_one kept w p es (node m x k r) e l o =
     let mk = over_less kept w p es k in

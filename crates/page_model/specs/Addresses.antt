@@ -10,10 +10,12 @@ doubled (suc n) odd = 2 * doubled n odd
 abbrev pub paired : ℕ → ℕ → ℕ
 paired m n = doubled m (1 + 2 * n)
 
+-- the bytes of a key as one number
 abbrev pub key_code : List ℕ → ℕ
 key_code [] = 0
 key_code (b ∷ bs) = paired b (key_code bs)
 
+-- no row, or a row by its key, as one number
 abbrev pub row_code : Option (List ℕ) → ℕ
 row_code None = 0
 row_code (Some key) = suc (key_code key)

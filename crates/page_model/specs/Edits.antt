@@ -76,6 +76,7 @@ abbrev pub into : ℕ → List ℕ → List ℕ
 into n [] = n ∷ []
 into n (m ∷ ms) = if leb n m then n ∷ m ∷ ms else m ∷ into n ms
 
+-- the numbers in ascending order
 abbrev pub ascending : List ℕ → List ℕ
 ascending [] = []
 ascending (n ∷ ns) = into n (ascending ns)
@@ -85,5 +86,6 @@ abbrev pub edits : Forest Look → Forest Look → List Op
 edits old new =
     let left = pruned (λ n. on n (shown new)) (shown old) in
     let kept = ascending (keys left) in
-    (map OpRemove (ascending (tops (λ n. on n (shown new)) (shown old))) ++ flat_map (λ n. child_edits n 0 (siblings (kids n left)) (kids n (shown new))) kept)
+    (map OpRemove (ascending (tops (λ n. on n (shown new)) (shown old)))
+    ++ flat_map (λ n. child_edits n 0 (siblings (kids n left)) (kids n (shown new))) kept)
     ++ flat_map (λ n. told n (label_in Root n old) (label_in Root n new)) kept

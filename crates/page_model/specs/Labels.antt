@@ -1,7 +1,7 @@
 -- What the nodes of pages and of shapes are.
 use Rattle.std.specs.Prelude.{ℕ, Bool, true, false, ◌||◌, not, List, [], ◌∷◌, ◌≡◌, Option, Some, None, ◌<◌}
 use Rattle.std.specs.Str.{bytes_eq}
-use Rattle.html_out.specs.Html.{is_void}
+use Rattle.html_out.specs.Html.{good_name, is_void}
 use Rattle.page_model.specs.Forest.{Forest, none, node, count}
 
 -- the root, a text, or an element with its name and its attributes in order, each a name and V
@@ -79,3 +79,19 @@ Alike x y = ⊥
 abbrev pub Sound : {V : Type 0} → Forest (Label V) → Type 0
 Sound none = Unit {0}
 Sound (node m x k r) = (0 < count k → holds x ≡ true) × DistinctNames x × Sound k × Sound r
+
+-- attributes under names of HTML
+abbrev pub GoodNames : {V : Type 0} → List (List ℕ × V) → Type 0
+GoodNames [] = Unit {0}
+GoodNames (a ∷ rest) = (good_name a.0 ≡ true) × GoodNames rest
+
+-- a text, or an element under a name of HTML, and so are its attributes
+abbrev pub GoodLabel : {V : Type 0} → Label V → Type 0
+GoodLabel Root = ⊥
+GoodLabel (Text t) = Unit {0}
+GoodLabel (Element name attributes) = (good_name name ≡ true) × GoodNames attributes
+
+-- texts, and elements and attributes under names of HTML
+abbrev pub WellNamed : {V : Type 0} → Forest (Label V) → Type 0
+WellNamed none = Unit {0}
+WellNamed (node m x k r) = GoodLabel x × WellNamed k × WellNamed r

@@ -5,3 +5,6 @@ pub mod Replay
 pub mod Addresses
 pub mod Pages
 pub mod Html
+pub mod Trees
+pub mod Texts
+pub mod Coding

@@ -2,12 +2,12 @@
 use Rattle.std.specs.Prelude.{ℕ, suc, ◌+◌, ◌<◌, ◌≤◌, ◌==◌, leb, length, Bool, true, if◌then◌else◌, List, [], ◌∷◌, ◌++◌, ◌≡◌}
 use Rattle.std.specs.List.{flat_map}
 use Rattle.page_model.specs.Forest.{Forest, none, node, on, tally, keys, kids, parent, label_in, height}
-use Rattle.page_model.specs.Labels.{Root, Kind, Look, shown, Alike, Sound}
+use Rattle.page_model.specs.Labels.{Root, Kind, Look, shown, Alike, Sound, WellNamed}
 use Rattle.page_model.specs.Replay.{Op}
 use Rattle.page_model.specs.Edits.{edits}
 
 -- a page: its nodes by address, each with its number and its look, and its next unused number
-pub record Page : Type 0 where
+pub record NumberedPage : Type 0 where
   pub nodes : Forest (ℕ × Look)
   pub next : ℕ
 
@@ -21,16 +21,20 @@ abbrev pub by_number : Forest (ℕ × Look) → Forest Look
 by_number none = none
 by_number (node a x k r) = node x.0 x.1 (by_number k) (by_number r)
 
+-- the page before the first shape: its root alone
+abbrev pub bare : NumberedPage
+bare = record { nodes = node 0 (0, Root) none none; next = 1 }
+
 -- the shape that a page has
-abbrev pub shape_of : Page → Forest Look
-shape_of p = looks p.nodes
+abbrev pub page_shape : NumberedPage → Forest Look
+page_shape p = looks p.nodes
 
 -- the tree that operations are done on
-abbrev pub tree_of : Page → Forest Kind
+abbrev pub tree_of : NumberedPage → Forest Kind
 tree_of p = shown (by_number p.nodes)
 
 -- the number of the node of an address
-abbrev pub number_of : Page → ℕ → ℕ
+abbrev pub number_of : NumberedPage → ℕ → ℕ
 number_of p a = (label_in (0, Root) a p.nodes).0
 
 -- ---- renumbering
@@ -40,6 +44,7 @@ abbrev pub into_by : (ℕ → ℕ) → ℕ → List ℕ → List ℕ
 into_by num a [] = a ∷ []
 into_by num a (b ∷ bs) = if leb (num a) (num b) then a ∷ b ∷ bs else b ∷ into_by num a bs
 
+-- a list of addresses, ascending by number
 abbrev pub ascending_by : (ℕ → ℕ) → List ℕ → List ℕ
 ascending_by num [] = []
 ascending_by num (a ∷ xs) = into_by num a (ascending_by num xs)
@@ -55,10 +60,10 @@ those test [] = []
 those test (a ∷ xs) = if test a then a ∷ those test xs else those test xs
 
 -- the new addresses in the order of the insertions: those below each kept parent, the parents by ascending number
-abbrev pub new_order : Page → Forest Look → List ℕ
+abbrev pub new_order : NumberedPage → Forest Look → List ℕ
 new_order old shape =
-    let kept : ℕ → Bool = λ a. on a (shape_of old) in
-    flat_map (λ a. newcomers kept (kids a shape)) (ascending_by (number_of old) (those (λ a. on a shape) (keys (shape_of old))))
+    let kept : ℕ → Bool = λ a. on a (page_shape old) in
+    flat_map (λ a. newcomers kept (kids a shape)) (ascending_by (number_of old) (those (λ a. on a shape) (keys (page_shape old))))
 
 -- how many of the list stand before it
 abbrev pub place_in : ℕ → List ℕ → ℕ
@@ -66,21 +71,22 @@ place_in a [] = 0
 place_in a (b ∷ bs) = if b == a then 0 else suc (place_in a bs)
 
 -- an address that stood before keeps its number, and the new ones get the next numbers in their order
-abbrev pub carried : Page → Forest Look → ℕ → ℕ
-carried old shape a = if on a (shape_of old) then number_of old a else old.next + place_in a (new_order old shape)
+abbrev pub carried : NumberedPage → Forest Look → ℕ → ℕ
+carried old shape a = if on a (page_shape old) then number_of old a else old.next + place_in a (new_order old shape)
 
+-- a shape's nodes, each with its number
 abbrev pub with_numbers : (ℕ → ℕ) → Forest Look → Forest (ℕ × Look)
 with_numbers num none = none
 with_numbers num (node a x k r) = node a (num a, x) (with_numbers num k) (with_numbers num r)
 
 -- the page that has a new shape, numbered after the page before
-abbrev pub renumbered : Page → Forest Look → Page
+abbrev pub renumbered : NumberedPage → Forest Look → NumberedPage
 renumbered old shape = record { nodes = with_numbers (carried old shape) shape; next = old.next + length (new_order old shape) }
 
 -- ---- edits
 
 -- the operations from one page to another
-abbrev pub edits_between : Page → Page → List Op
+abbrev pub edits_between : NumberedPage → NumberedPage → List Op
 edits_between old new = edits (by_number old.nodes) (by_number new.nodes)
 
 -- ---- what pages and shapes have to be
@@ -91,17 +97,19 @@ pub record IsRooted {A : Type 0} (root : A) (tree : Forest A) : Type 0 where
   pub is : tree ≡ node 0 root below none
 
 -- a page: addresses and numbers are distinct, the root has the number 0, and the numbers are below the next unused one
-pub record IsPage (p : Page) : Type 0 where
+pub record IsPage (p : NumberedPage) : Type 0 where
   pub rooted : IsRooted (0, Root) p.nodes
-  pub once : (a : ℕ) → tally a (shape_of p) ≤ 1
-  pub below : (a : ℕ) → on a (shape_of p) ≡ true → number_of p a < p.next
-  pub distinct : (a b : ℕ) → on a (shape_of p) ≡ true → on b (shape_of p) ≡ true → number_of p a ≡ number_of p b → a ≡ b
+  pub once : (a : ℕ) → tally a (page_shape p) ≤ 1
+  pub below : (a : ℕ) → on a (page_shape p) ≡ true → number_of p a < p.next
+  pub distinct : (a b : ℕ) → on a (page_shape p) ≡ true → on b (page_shape p) ≡ true → number_of p a ≡ number_of p b → a ≡ b
 
--- a shape: addresses are distinct, only nodes that can hold children have some, and no node stands more than 32 steps below the root
+-- a shape: addresses are distinct, only nodes that can hold children have some, below the root are texts and elements under
+-- names of HTML, and no node stands more than 32 steps below the root
 pub record IsShape (shape : Forest Look) : Type 0 where
   pub rooted : IsRooted Root shape
   pub once : (a : ℕ) → tally a shape ≤ 1
   pub sound : Sound shape
+  pub names : WellNamed rooted.below
   pub low : height shape ≤ 33
 
 -- two shapes of one template: a common address has the same parent and comes from the same line

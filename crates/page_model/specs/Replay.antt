@@ -14,17 +14,18 @@ pub data Op : Type 0 where
   OpUnattr : (number : ℕ) (name : List ℕ) → Op
 
 -- why an operation is refused, in the order in which the causes are looked for
-pub data Refusal : Type 0 where
-  NoSuchNode : (number : ℕ) → Refusal
-  NoSuchPlace : (place : ℕ) → Refusal
-  NumberUsed : (number : ℕ) → Refusal
-  TooDeep : (number : ℕ) → Refusal
+pub data OpRefusal : Type 0 where
+  NoSuchNode : (number : ℕ) → OpRefusal
+  NoSuchPlace : (place : ℕ) → OpRefusal
+  NumberUsed : (number : ℕ) → OpRefusal
+  TooDeep : (number : ℕ) → OpRefusal
 
 -- the tree after, or a refusal
 pub data Answer : Type 0 where
   Done : (tree : Forest Kind) → Answer
-  Refused : (why : Refusal) → Answer
+  Refused : (why : OpRefusal) → Answer
 
+-- the first number that is there
 abbrev pub or_else : Option ℕ → Option ℕ → Option ℕ
 or_else None o = o
 or_else (Some n) o = Some n
@@ -40,11 +41,11 @@ first_deep d none = None
 first_deep d (node n x k r) = if ltb 32 d then Some n else or_else (first_deep (suc d) k) (first_deep d r)
 
 -- refused where a number is found
-abbrev pub unless_found : (ℕ → Refusal) → Option ℕ → Answer → Answer
+abbrev pub unless_found : (ℕ → OpRefusal) → Option ℕ → Answer → Answer
 unless_found why None a = a
 unless_found why (Some n) a = Refused (why n)
 
--- the attributes of other names
+-- the attributes without the first of that name
 abbrev pub others : {V : Type 0} → List ℕ → List (List ℕ × V) → List (List ℕ × V)
 others name [] = []
 others name (a ∷ rest) = if bytes_eq a.0 name then rest else a ∷ others name rest
@@ -63,7 +64,8 @@ do_text n t x now = Refused (NoSuchNode n)
 -- an attribute is taken out where it is there, and put at its place among the others
 abbrev pub do_attr : ℕ → ℕ → List ℕ → List ℕ → Kind → Forest Kind → Answer
 do_attr n i name value (Element element xs) now =
-    if leb i (length (others name xs)) then Done (relabelled n (Element element (put_in i (name, value) (others name xs))) now) else Refused (NoSuchPlace i)
+    if leb i (length (others name xs))
+    then Done (relabelled n (Element element (put_in i (name, value) (others name xs))) now) else Refused (NoSuchPlace i)
 do_attr n i name value x now = Refused (NoSuchNode n)
 
 -- an attribute is taken out where it is there
@@ -93,6 +95,7 @@ do_op (OpText n t) now = do_text n t (label_in Root n now) now
 do_op (OpAttr n i name value) now = do_attr n i name value (label_in Root n now) now
 do_op (OpUnattr n name) now = do_unattr n name (label_in Root n now) now
 
+-- what comes next on the tree after, or the refusal
 abbrev pub then_on : Answer → (Forest Kind → Answer) → Answer
 then_on (Done t) f = f t
 then_on (Refused why) f = Refused why

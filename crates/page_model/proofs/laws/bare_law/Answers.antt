@@ -1,0 +1,10 @@
+use Rattle.std.proofs.Common.{refl}
+use Rattle.page_model.proofs.PageLaws.{bare_page, bare_tree}
+use Rattle.page_model.proofs.laws.bare_law.Goals as goal
+
+pub returns : goal.returns
+returns c = record {
+  page = bare_page;
+  tree = bare_tree;
+  html = refl;
+}
