@@ -28,4 +28,4 @@ mod Keeping
 mod Writing
 mod Examples
 mod Refusals
-pub mod PageLaws
+pub mod Shared

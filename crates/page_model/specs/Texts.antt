@@ -3,6 +3,7 @@ use Rattle.std.specs.Prelude.{ℕ, ◌≡◌, ◌<◌, ◌≤◌, ◌^◌, true,
 use Rattle.std.specs.List.{flat_map}
 use Rattle.std.specs.Fmt.{decimal}
 use Rattle.std.specs.Str.{IsUtf8}
+use Rattle.sig_base.specs.declared.limits.TheConstants.{MOST_TEXT}
 use Rattle.sig_base.specs.Printing.{quoted}
 use Rattle.html_out.specs.Html.{good_name}
 use Rattle.page_model.specs.Forest.{Forest, none, node, height}
@@ -51,9 +52,9 @@ AreWritable (o ∷ os) = IsWritable o × AreWritable os
 abbrev pub IsNumber : ℕ → Type 0
 IsNumber n = n < 2 ^ 64
 
--- a text: at most 1,024 bytes of UTF-8
+-- a text: at most `MOST_TEXT` bytes of UTF-8
 abbrev pub IsText : List ℕ → Type 0
-IsText t = IsUtf8 t × (length t ≤ 1024)
+IsText t = IsUtf8 t × (length t ≤ MOST_TEXT)
 
 -- the values of attributes are texts
 abbrev pub HaveTexts : List (List ℕ × List ℕ) → Type 0

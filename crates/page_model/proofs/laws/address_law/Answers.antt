@@ -1,4 +1,4 @@
-use Rattle.page_model.proofs.PageLaws.{one_address, address_above}
+use Rattle.page_model.proofs.Shared.{one_address, address_above}
 use Rattle.page_model.proofs.laws.address_law.Goals as goal
 
 pub returns : goal.returns

@@ -1,5 +1,5 @@
 use Rattle.std.proofs.Common.{arith}
-use Rattle.page_model.proofs.PageLaws.{order_short}
+use Rattle.page_model.proofs.Shared.{order_short}
 use Rattle.page_model.proofs.laws.few_numbers_law.Goals as goal
 
 pub returns : goal.returns

@@ -1,4 +1,4 @@
-use Rattle.page_model.proofs.PageLaws.{html_after}
+use Rattle.page_model.proofs.Shared.{html_after}
 use Rattle.page_model.proofs.laws.html_law.Goals as goal
 
 pub returns : goal.returns

@@ -1,4 +1,4 @@
-use Rattle.page_model.proofs.PageLaws.{kept_number}
+use Rattle.page_model.proofs.Shared.{kept_number}
 use Rattle.page_model.proofs.laws.kept_number_law.Goals as goal
 
 pub returns : goal.returns

@@ -1,4 +1,4 @@
-use Rattle.page_model.proofs.PageLaws.{no_gaps}
+use Rattle.page_model.proofs.Shared.{no_gaps}
 use Rattle.page_model.proofs.laws.no_gaps_law.Goals as goal
 
 pub returns : goal.returns

@@ -1,4 +1,4 @@
-use Rattle.page_model.proofs.PageLaws.{page_after}
+use Rattle.page_model.proofs.Shared.{page_after}
 use Rattle.page_model.proofs.laws.page_law.Goals as goal
 
 pub returns : goal.returns

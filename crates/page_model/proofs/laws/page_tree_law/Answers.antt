@@ -1,4 +1,4 @@
-use Rattle.page_model.proofs.PageLaws.{tree_made}
+use Rattle.page_model.proofs.Shared.{tree_made}
 use Rattle.page_model.proofs.laws.page_tree_law.Goals as goal
 
 pub returns : goal.returns

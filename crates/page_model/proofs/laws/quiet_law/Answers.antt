@@ -1,4 +1,4 @@
-use Rattle.page_model.proofs.PageLaws.{edits_none}
+use Rattle.page_model.proofs.Shared.{edits_none}
 use Rattle.page_model.proofs.laws.quiet_law.Goals as goal
 
 pub returns : goal.returns

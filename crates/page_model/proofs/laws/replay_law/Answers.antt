@@ -1,4 +1,4 @@
-use Rattle.page_model.proofs.PageLaws.{replay_leads}
+use Rattle.page_model.proofs.Shared.{replay_leads}
 use Rattle.page_model.proofs.laws.replay_law.Goals as goal
 
 pub returns : goal.returns

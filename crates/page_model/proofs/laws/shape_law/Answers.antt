@@ -1,4 +1,4 @@
-use Rattle.page_model.proofs.PageLaws.{shape_after}
+use Rattle.page_model.proofs.Shared.{shape_after}
 use Rattle.page_model.proofs.laws.shape_law.Goals as goal
 
 pub returns : goal.returns

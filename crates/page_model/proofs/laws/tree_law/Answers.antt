@@ -1,4 +1,4 @@
-use Rattle.page_model.proofs.PageLaws.{tree_after}
+use Rattle.page_model.proofs.Shared.{tree_after}
 use Rattle.page_model.proofs.laws.tree_law.Goals as goal
 
 pub returns : goal.returns

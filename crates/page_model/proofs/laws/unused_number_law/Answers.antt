@@ -1,4 +1,4 @@
-use Rattle.page_model.proofs.PageLaws.{unused_number}
+use Rattle.page_model.proofs.Shared.{unused_number}
 use Rattle.page_model.proofs.laws.unused_number_law.Goals as goal
 
 pub returns : goal.returns

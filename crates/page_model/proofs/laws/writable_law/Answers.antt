@@ -1,4 +1,4 @@
-use Rattle.page_model.proofs.PageLaws.{edits_writable}
+use Rattle.page_model.proofs.Shared.{edits_writable}
 use Rattle.page_model.proofs.laws.writable_law.Goals as goal
 
 pub returns : goal.returns

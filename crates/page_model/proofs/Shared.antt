@@ -1,4 +1,5 @@
--- What other crates may cite of this one's proofs: its laws, and no other lemma.
+-- What crates above may cite of these proofs: laws of pages. All else in this folder is this crate's own.
+
 pub use Rattle.page_model.proofs.Pairs.{one_address, address_above}
 pub use Rattle.page_model.proofs.Carrying.{page_after, shape_after, replay_leads, kept_number, unused_number}
 pub use Rattle.page_model.proofs.Fresh.{no_gaps, order_short}
