@@ -1,0 +1,6 @@
+//! What effects are: what stands under what, how their bodies are evaluated, when they run, and how things end.
+#![tactic(auto)]
+
+mod laws;
+
+pub use laws::flush_by_turns;
