@@ -13,7 +13,7 @@ use Rattle.signal_model.specs.Recipes.{is_known, judged}
 use Rattle.signal_model.specs.Laws.{FormulaLaw}
 
 -- a slot with no value isn't known
-valueless : (n : ℕ) (known : List Known) → known_at n known ≡ None → is_known n known ≡ false
+pub valueless : (n : ℕ) (known : List Known) → known_at n known ≡ None → is_known n known ≡ false
 valueless n [] h = refl
 valueless n (k ∷ ks) h = go (k.slot == n) h (valueless n ks)
   where

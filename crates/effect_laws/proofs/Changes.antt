@@ -1,0 +1,341 @@
+-- What each change of the signals keeps, commands keep: one induction over all that commands and effects do.
+use Rattle.std.proofs.Common.{◌≡◌, ℕ, ◌+◌, ◌==◌, ◌||◌, Bool, true, false, cond, List, [], ◌∷◌, ◌++◌, map, slice_get, Option, Some, None}
+use Rattle.std.proofs.Common.{refl, sym, ap, ◌∙◌, subst}
+use Rattle.std.proofs.Common.{set as put_at}
+use Rattle.std.specs.Option.{option_or}
+use Rattle.std.proofs.lemmas.Bool.{eqb-true}
+use Rattle.std.proofs.lemmas.List.{append-nil}
+use Rattle.sig_base.specs.declared.value.Value.{Value}
+use Rattle.signal_model.specs.Recipes.{Recipe}
+use Rattle.signal_model.specs.Standing.{Signals, Cell, Computed, Stands, IsGone, IsCell, IsComputed, is_in, is_there, standing}
+use Rattle.signal_model.specs.Sound.{names_of}
+use Rattle.signal_model.specs.Memos.{Memos}
+use Rattle.signal_model.specs.Settling.{Settled, settled}
+use Rattle.signal_model.specs.Asks.{Moment, moments}
+use Rattle.signal_model.specs.Changes.{with_cell, with_computed, after_making, with_value, after_change, with_recipe, after_rewiring, without_signal}
+use Rattle.signal_model.specs.Changes.{after_disposal}
+use Rattle.effect_model.specs.Owning.{Thing, the_signal, the_effect, sets, logs, Undoing, cleans, ends, teardown_of, under, emptied, taken_out}
+use Rattle.effect_model.specs.Owning.{disposal_of}
+use Rattle.effect_model.specs.Bodies.{Act, to_set, to_log, to_note, to_make, to_dispose, to_rewire, BodyEvaluation, BodyResult, to_do, failed_by}
+use Rattle.effect_model.specs.Bodies.{body_evaluation}
+use Rattle.effect_model.specs.Worlds.{Environment, HostState, used, dropped, Watcher, Effect, Event, ran, logged, cleaned, gone, failed, dropped_host}
+use Rattle.effect_model.specs.Worlds.{thing_gone, host_taken, still_due, refused, World, tell, tell_all, lives, asked_by}
+use Rattle.effect_model.specs.Worlds.{settle}
+use Rattle.effect_model.specs.Acts.{notified_by, frozen_by, told_of, told_frozen, notify, are_alike, with_new_value, set_standing, host_of}
+use Rattle.effect_model.specs.Acts.{asks_so_far, with_drop, with_use, is_free, host_refused, gone_refused, some_gone, rewiring_refused}
+use Rattle.effect_model.specs.Acts.{rewire_standing, rewire_signal, end_standing, end_of, undo, undo_all, take_back}
+use Rattle.effect_model.specs.Acts.{dispose_live, dispose_thing}
+use Rattle.effect_model.specs.Running.{do_act, keep_reads, do_result, run_effect, flush}
+use Rattle.effect_model.specs.Commands.{Command, cell, computed, owner, effect, page, watcher, watch, unwatch, set, rewire, ask, dispose, flush_all}
+use Rattle.effect_model.specs.Commands.{inside_refused, with_new_computed, told_if, command_refused, done_by}
+use Rattle.effect_model.specs.Commands.{after_command, after_commands}
+use Rattle.effect_laws.specs.KeptWorlds.{runs_told}
+use Rattle.effect_laws.proofs.Names.{neither, either_way}
+use Rattle.effect_laws.proofs.Turns.{flush_keeps, acts_keep}
+
+-- ---- the part of a world that changes of signals change
+
+pub record Core : Type 0 where
+  pub signals : Signals
+  pub memos : Memos
+  pub host_states : List HostState
+  pub made : ℕ
+  pub runs : List Moment
+
+abbrev pub core_of : World → Core
+core_of w = record { signals = w.signals; memos = w.memos; host_states = w.host_states; made = w.made.signals; runs = runs_told w.told }
+
+-- a host formula is used, or dropped
+abbrev pub used_states : Option ℕ → List HostState → List HostState
+used_states None hs = hs
+used_states (Some k) hs = put_at hs k (used 0)
+
+abbrev pub dropped_states : Option ℕ → List HostState → List HostState
+dropped_states None hs = hs
+dropped_states (Some k) hs = put_at hs k (dropped (asks_so_far (slice_get hs k)))
+
+-- names are settled
+abbrev pub after_settling : Environment → List ℕ → Core → Core
+after_settling env names c =
+    let s = settled env.hosts c.signals c.memos names in
+    let runs = moments c.signals s.runs in
+    record c { memos = s.memos; host_states = asked_by runs 0 c.host_states; runs = c.runs ++ runs }
+
+-- a cell is set
+abbrev pub after_set : ℕ → Value → Core → Core
+after_set n v c = record c { signals = with_value c.signals n v; memos = after_change c.memos n }
+
+-- a computed that had a host formula, or none, gets a recipe
+abbrev pub after_rewire : ℕ → Recipe → Option ℕ → Core → Core
+after_rewire n r old c = record c {
+  signals = with_recipe c.signals n r;
+  memos = after_rewiring c.memos n;
+  host_states = dropped_states old (used_states (host_of r.expression) c.host_states);
+}
+
+-- a signal that had a host formula, or none, ends
+abbrev pub after_end : ℕ → Option ℕ → Core → Core
+after_end n old c = record c {
+  signals = without_signal c.signals n;
+  memos = after_disposal c.memos n;
+  host_states = dropped_states old c.host_states;
+}
+
+-- a cell is made, and a computed
+abbrev pub with_made_cell : Value → Option ℕ → Core → Core
+with_made_cell v rule c = record c {
+  signals = with_cell c.signals (record { name = c.made; value = v; rule = rule });
+  memos = after_making c.memos c.made;
+  made = c.made + 1;
+}
+
+abbrev pub with_made_computed : Recipe → Core → Core
+with_made_computed r c = record c {
+  signals = with_computed c.signals (record { name = c.made; recipe = r });
+  memos = after_making c.memos c.made;
+  host_states = used_states (host_of r.expression) c.host_states;
+  made = c.made + 1;
+}
+
+-- all these stand
+abbrev pub AllStand : Signals → List ℕ → Type 0
+AllStand w ns = (n : ℕ) → is_in n ns ≡ true → is_there (standing w n) ≡ true
+
+-- a host formula that can be taken
+abbrev pub IsFree : Option ℕ → List HostState → Type 0
+IsFree p hs = (k : ℕ) → p ≡ Some k → is_free (slice_get hs k) ≡ true
+
+-- the host formula of a signal, or none
+abbrev pub IsHostOf : Signals → ℕ → Option ℕ → Type 0
+IsHostOf w n p = (k : ℕ) → p ≡ Some k → (x : Computed) × (standing w n ≡ IsComputed x) × (host_of x.recipe.expression ≡ Some k)
+
+-- each change keeps it
+pub record IsKeptByChanges (env : Environment) (P : Core → Type 0) : Type 0 where
+  pub settles : (names : List ℕ) (c : Core) → P c → P (after_settling env names c)
+  pub sets : (n : ℕ) (v : Value) (x : Cell) (c : Core) → standing c.signals n ≡ IsCell x → P c → P (after_set n v c)
+  pub rewires : (n : ℕ) (r : Recipe) (x : Computed) (c : Core) → standing c.signals n ≡ IsComputed x → AllStand c.signals r.slots →
+      IsFree (host_of r.expression) c.host_states → P c → P (after_rewire n r (host_of x.recipe.expression) c)
+  pub ends : (n : ℕ) (old : Option ℕ) (c : Core) → is_there (standing c.signals n) ≡ true → IsHostOf c.signals n old → P c → P (after_end n old c)
+  pub makes_cell : (v : Value) (rule : Option ℕ) (c : Core) → P c → P (with_made_cell v rule c)
+  pub makes_computed : (r : Recipe) (c : Core) → AllStand c.signals r.slots → IsFree (host_of r.expression) c.host_states → P c →
+      P (with_made_computed r c)
+
+-- ---- what is told
+
+pub runs_append : (es fs : List Event) → runs_told (es ++ fs) ≡ runs_told es ++ runs_told fs
+runs_append [] fs = refl
+runs_append (ran m ∷ es) fs = ap (λ ms. m ∷ ms) (runs_append es fs)
+runs_append (_ ∷ es) fs = runs_append es fs
+
+-- more that was told tells of these runs too
+told_runs : (P : Core → Type 0) (w : World) (es : List Event) (ms : List Moment) → runs_told es ≡ ms →
+    P (record (core_of w) { runs = runs_told w.told ++ ms }) →
+    P (core_of (tell_all es w))
+told_runs P w es ms h p =
+    subst (λ rs. P (record (core_of w) { runs = rs })) (sym (runs_append w.told es ∙ ap (λ rs. runs_told w.told ++ rs) h)) p
+
+-- what tells of no run
+told : (P : Core → Type 0) (w : World) (es : List Event) → runs_told es ≡ [] → P (core_of w) → P (core_of (tell_all es w))
+told P w es h p = told_runs P w es [] h (subst (λ rs. P (record (core_of w) { runs = rs })) (sym (append-nil (runs_told w.told))) p)
+
+notified_runs : (xs : List Watcher) (ns : List ℕ) → runs_told (told_of xs ++ told_frozen ns) ≡ []
+notified_runs [] [] = refl
+notified_runs [] (n ∷ ns) = refl
+notified_runs (x ∷ xs) ns = notified_runs xs ns
+
+settled_runs : (ms : List Moment) → runs_told (map ran ms) ≡ ms
+settled_runs [] = refl
+settled_runs (m ∷ ms) = ap (λ rs. m ∷ rs) (settled_runs ms)
+
+-- ---- changes of a world
+
+settle_keeps : (env : Environment) (P : Core → Type 0) → IsKeptByChanges env P → (names : List ℕ) (w : World) → P (core_of w) →
+    P (core_of (settle env names w))
+settle_keeps env P k names w p =
+    let s : Settled = settled env.hosts w.signals w.memos names in
+    let runs : List Moment = moments w.signals s.runs in
+    told_runs P (record w { memos = s.memos; host_states = asked_by runs 0 w.host_states }) (map ran runs) runs (settled_runs runs)
+    (k.settles names (core_of w) p)
+
+notify_keeps : (P : Core → Type 0) (n : ℕ) (w : World) → P (core_of w) → P (core_of (notify n w))
+notify_keeps P n w p =
+    let xs : List Watcher = notified_by w.signals w.memos n w.watchers in
+    told P w (told_of xs ++ told_frozen (frozen_by xs)) (notified_runs xs (frozen_by xs)) p
+
+set_case : (env : Environment) (P : Core → Type 0) → IsKeptByChanges env P → (n : ℕ) (v : Value) (s : Stands) (w : World) → standing w.signals n ≡ s →
+    P (core_of w) → P (core_of (set_standing s env n v w))
+set_case env P k n v IsGone w e p = told P w (refused (thing_gone (the_signal n)) ∷ []) refl p
+set_case env P k n v (IsCell x) w e p = go (are_alike env.slacks x.rule x.value v)
+  where
+    go : (b : Bool) → P (core_of (cond b w (with_new_value n v w)))
+    go true = p
+    go false =
+        notify_keeps P n (record w { signals = with_value w.signals n v; memos = after_change w.memos n }) (k.sets n v x (core_of w) e p)
+set_case env P k n v (IsComputed x) w e p = p
+
+drop_keeps : (P : Core → Type 0) (old : Option ℕ) (w : World) → P (record (core_of w) { host_states = dropped_states old w.host_states }) →
+    P (core_of (with_drop old w))
+drop_keeps P None w p = p
+drop_keeps P (Some place) w p =
+    let asks : ℕ = asks_so_far (slice_get w.host_states place) in
+    told P (record w { host_states = put_at w.host_states place (dropped asks) }) (dropped_host place asks ∷ []) refl p
+
+use_keeps : (P : Core → Type 0) (new : Option ℕ) (w : World) → P (record (core_of w) { host_states = used_states new w.host_states }) →
+    P (core_of (with_use new w))
+use_keeps P None w p = p
+use_keeps P (Some place) w p = p
+
+gone_stands : (n : ℕ) (w : World) → gone_refused (the_signal n) w ≡ None → is_there (standing w.signals n) ≡ true
+gone_stands n w h = go (is_there (standing w.signals n)) h
+  where
+    go : (b : Bool) → cond b None (Some (thing_gone (the_signal n))) ≡ None → b ≡ true
+    go true h = refl
+    go false h = cc
+
+all_stand : (ns : List ℕ) (w : World) → some_gone ns w ≡ None → AllStand w.signals ns
+all_stand [] w h m i = cc
+all_stand (n ∷ ns) w h m i = go (m == n) refl i (all_stand ns w both.1 m)
+  where
+    both : (gone_refused (the_signal n) w ≡ None) × (some_gone ns w ≡ None)
+    both = neither (gone_refused (the_signal n) w) (some_gone ns w) h
+
+    go : (b : Bool) → (m == n) ≡ b → (b || is_in m ns) ≡ true → (is_in m ns ≡ true → is_there (standing w.signals m) ≡ true) →
+        is_there (standing w.signals m) ≡ true
+    go true e j rest = subst (λ x. is_there (standing w.signals x) ≡ true) (sym (eqb-true m n e)) (gone_stands n w both.0)
+    go false e j rest = rest j
+
+free_host : (new : Option ℕ) (w : World) → host_refused new w ≡ None → IsFree new w.host_states
+free_host None w h k e = cc
+free_host (Some place) w h k e = subst (λ m. is_free (slice_get w.host_states m) ≡ true) same (go (is_free (slice_get w.host_states place)) h)
+  where
+    same : place ≡ k
+    same = cc
+
+    go : (b : Bool) → cond b None (Some (host_taken place)) ≡ None → b ≡ true
+    go true h = refl
+    go false h = cc
+
+rewire_case : (env : Environment) (P : Core → Type 0) → IsKeptByChanges env P → (n : ℕ) (r : Recipe) (s : Stands) (w : World) →
+    standing w.signals n ≡ s →
+    AllStand w.signals r.slots → IsFree (host_of r.expression) w.host_states → P (core_of w) → P (core_of (rewire_standing s n r w))
+rewire_case env P k n r IsGone w e a f p = p
+rewire_case env P k n r (IsCell x) w e a f p = p
+rewire_case env P k n r (IsComputed x) w e a f p =
+    let old : Option ℕ = host_of x.recipe.expression in
+    let w' : World = record w { signals = with_recipe w.signals n r; memos = after_rewiring w.memos n } in
+    drop_keeps P old (with_use (host_of r.expression) w')
+    (use_keeps (λ c. P (record c { host_states = dropped_states old c.host_states })) (host_of r.expression) w' (k.rewires n r x (core_of w) e a f p))
+
+rewire_keeps : (env : Environment) (P : Core → Type 0) → IsKeptByChanges env P → (n : ℕ) (r : Recipe) (w : World) → P (core_of w) →
+    P (core_of (rewire_signal n r w))
+rewire_keeps env P k n r w p =
+    either_way (λ v. P (core_of v)) (rewiring_refused n r w) (rewire_standing (standing w.signals n) n r w) w
+    (λ h. let fine : (some_gone r.slots w ≡ None) × (host_refused (host_of r.expression) w ≡ None) =
+    neither (some_gone r.slots w) (host_refused (host_of r.expression) w)
+    (neither (gone_refused (the_signal n) w) (option_or (some_gone r.slots w) (host_refused (host_of r.expression) w)) h).1 in
+    rewire_case env P k n r (standing w.signals n) w refl (all_stand r.slots w fine.0) (free_host (host_of r.expression) w fine.1) p)
+    (λ why. told P w (refused why ∷ []) refl p)
+
+-- ---- ends and teardowns
+
+end_keeps : (env : Environment) (P : Core → Type 0) → IsKeptByChanges env P → (t : Thing) (w : World) → P (core_of w) → P (core_of (end_of t w))
+end_keeps env P k (the_signal n) w p = go (standing w.signals n) refl
+  where
+    go : (s : Stands) → standing w.signals n ≡ s → P (core_of (end_standing s n w))
+    go IsGone e = p
+    go (IsCell x) e = k.ends n None (core_of w) (ap is_there e) (λ j h. cc) p
+    go (IsComputed x) e =
+        drop_keeps (λ c. P (after_end n None c)) (host_of x.recipe.expression) w
+        (k.ends n (host_of x.recipe.expression) (core_of w) (ap is_there e) (λ j h. (x, e, h)) p)
+end_keeps env P k _ w p = p
+
+undo_keeps : (env : Environment) (P : Core → Type 0) → IsKeptByChanges env P → (u : Undoing) (w : World) → P (core_of w) → P (core_of (undo env u w))
+undo_keeps env P k (cleans h (sets n v)) w p =
+    set_case env P k n v (standing w.signals n) (tell (cleaned h (sets n v)) w) refl (told P w (cleaned h (sets n v) ∷ []) refl p)
+undo_keeps env P k (cleans h (logs v)) w p =
+    told P (tell (cleaned h (logs v)) w) (logged v ∷ []) refl (told P w (cleaned h (logs v) ∷ []) refl p)
+undo_keeps env P k (ends h) w p = told P (end_of h w) (gone h ∷ []) refl (end_keeps env P k h w p)
+
+undo_all_keeps : (env : Environment) (P : Core → Type 0) → IsKeptByChanges env P → (us : List Undoing) (w : World) → P (core_of w) →
+    P (core_of (undo_all env us w))
+undo_all_keeps env P k [] w p = p
+undo_all_keeps env P k (u ∷ us) w p = undo_all_keeps env P k us (undo env u w) (undo_keeps env P k u w p)
+
+dispose_keeps : (env : Environment) (P : Core → Type 0) → IsKeptByChanges env P → (t : Thing) (w : World) → P (core_of w) →
+    P (core_of (dispose_thing env t w))
+dispose_keeps env P k t w p = go (lives t w)
+  where
+    go : (b : Bool) → P (core_of (cond b (dispose_live env t w) (tell (refused (thing_gone t)) w)))
+    go true = undo_all_keeps env P k (disposal_of t w.owned) (record w { owned = taken_out t w.owned }) p
+    go false = told P w (refused (thing_gone t) ∷ []) refl p
+
+-- ---- acts, runs and commands
+
+act_keeps : (env : Environment) (P : Core → Type 0) → IsKeptByChanges env P → (e j : ℕ) (a : Act) (w : World) → P (core_of w) →
+    P (core_of (do_act env e j a w))
+act_keeps env P k e j (to_set n v) w p = set_case env P k n v (standing w.signals n) w refl p
+act_keeps env P k e j (to_log v) w p = told P w (logged v ∷ []) refl p
+act_keeps env P k e j (to_note c) w p = told P w _ refl p
+act_keeps env P k e j (to_make b) w p = told P w _ refl p
+act_keeps env P k e j (to_dispose t) w p = dispose_keeps env P k t w p
+act_keeps env P k e j (to_rewire n r) w p = rewire_keeps env P k n r w p
+
+result_keeps : (env : Environment) (P : Core → Type 0) → IsKeptByChanges env P → (e : ℕ) (r : BodyResult) (w : World) → P (core_of w) →
+    P (core_of (do_result env e r w))
+result_keeps env P k e (failed_by f) w p = told P w (failed e f ∷ []) refl p
+result_keeps env P k e (to_do as') w p = acts_keep env (λ v. P (core_of v)) e (λ j a v h q. act_keeps env P k e j a v q) 1 as' w p
+
+run_keeps : (env : Environment) (P : Core → Type 0) → IsKeptByChanges env P → (x : Effect) (w : World) → P (core_of w) →
+    P (core_of (run_effect env x w))
+run_keeps env P k x w p =
+    let e : Thing = the_effect x.number in
+    let w' : World = take_back env e w in
+    let b : BodyEvaluation = body_evaluation env.hosts w'.signals x.body in
+    let v : World = settle env (names_of b.reads) w' in
+    result_keeps env P k x.number b.result (keep_reads x.number b.tracked v)
+    (told P v _ refl (settle_keeps env P k (names_of b.reads) w'
+    (undo_all_keeps env P k (teardown_of e (under e w.owned)) (record w { owned = emptied e w.owned }) p)))
+
+-- a flush keeps it
+pub flush_keeps_core : (env : Environment) (P : Core → Type 0) → IsKeptByChanges env P → (w : World) → P (core_of w) → P (core_of (flush env w).world)
+flush_keeps_core env P k w p =
+    flush_keeps env (λ v. P (core_of v))
+    (record { settles = λ names v q. settle_keeps env P k names v q; runs = λ e x v h q. run_keeps env P k x v q }) 100 w p
+
+told_if_keeps : (P : Core → Type 0) (b : Bool) (w : World) → P (core_of w) → P (core_of (told_if b w))
+told_if_keeps P true w p = told P w (refused still_due ∷ []) refl p
+told_if_keeps P false w p = p
+
+done_keeps : (env : Environment) (P : Core → Type 0) → IsKeptByChanges env P → (c : Command) (w : World) → command_refused c w ≡ None →
+    P (core_of w) → P (core_of (done_by env c w))
+done_keeps env P k (cell v rule inside) w h p = k.makes_cell v rule (core_of w) p
+done_keeps env P k (computed r inside) w h p =
+    let fine : (some_gone r.slots w ≡ None) × (option_or (inside_refused inside w) (host_refused (host_of r.expression) w) ≡ None)
+    = neither (some_gone r.slots w) (option_or (inside_refused inside w) (host_refused (host_of r.expression) w)) h in
+    let free : host_refused (host_of r.expression) w ≡ None = (neither (inside_refused inside w) (host_refused (host_of r.expression) w) fine.1).1 in
+    use_keeps P (host_of r.expression) (with_new_computed r inside w)
+    (k.makes_computed r (core_of w) (all_stand r.slots w fine.0) (free_host (host_of r.expression) w free) p)
+done_keeps env P k (owner inside) w h p = p
+done_keeps env P k (effect b inside) w h p = p
+done_keeps env P k (page inside) w h p = p
+done_keeps env P k (watcher tries) w h p = p
+done_keeps env P k (watch n names) w h p = p
+done_keeps env P k (unwatch n m) w h p = p
+done_keeps env P k (set n v) w h p = set_case env P k n v (standing w.signals n) w refl p
+done_keeps env P k (rewire n r) w h p = rewire_keeps env P k n r w p
+done_keeps env P k (ask names) w h p = settle_keeps env P k names w p
+done_keeps env P k (dispose t) w h p = dispose_keeps env P k t w p
+done_keeps env P k flush_all w h p = told_if_keeps P (flush env w).refused (flush env w).world (flush_keeps_core env P k w p)
+
+-- one command keeps it
+pub command_keeps : (env : Environment) (P : Core → Type 0) → IsKeptByChanges env P → (w : World) (c : Command) → P (core_of w) →
+    P (core_of (after_command env w c))
+command_keeps env P k w c p =
+    either_way (λ v. P (core_of v)) (command_refused c w) (done_by env c w) w (λ h. done_keeps env P k c w h p)
+    (λ why. told P w (refused why ∷ []) refl p)
+
+-- and so do any
+pub commands_keep : (env : Environment) (P : Core → Type 0) → IsKeptByChanges env P → (cs : List Command) (w : World) → P (core_of w) →
+    P (core_of (after_commands env w cs))
+commands_keep env P k [] w p = p
+commands_keep env P k (c ∷ cs) w p = commands_keep env P k cs (after_command env w c) (command_keeps env P k w c p)

@@ -1,0 +1,16 @@
+pub mod Trees
+pub mod Ledgers
+pub mod Names
+pub mod Turns
+pub mod Steps
+pub mod Makings
+pub mod Runs
+pub mod Scripts
+pub mod Silence
+pub mod Closing
+pub mod Asking
+pub mod Changes
+pub mod KeptWorlds
+pub mod HostUse
+pub mod Notified
+pub mod Resting

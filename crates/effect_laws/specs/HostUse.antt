@@ -1,0 +1,26 @@
+-- Which computed has which host formula, and how often each is asked.
+use Rattle.std.specs.Prelude.{◌≡◌, ℕ, Bool, true, false, List, slice_get, Option, Some}
+use Rattle.signal_model.specs.Standing.{Computed, computed_at}
+use Rattle.signal_model.specs.Asks.{asks_of}
+use Rattle.effect_model.specs.Worlds.{Environment, HostState, used}
+use Rattle.effect_model.specs.Acts.{host_of, asks_so_far}
+use Rattle.effect_model.specs.Commands.{Command, new_world, after_commands}
+use Rattle.effect_laws.specs.KeptWorlds.{runs_told}
+
+-- whether a host formula is used
+abbrev pub is_used : Option HostState → Bool
+is_used (Some (used asks)) = true
+is_used _ = false
+
+-- the host formula of each computed is used, and is that of no other computed
+pub record HaveHosts (cs : List Computed) (ss : List HostState) : Type 0 where
+  pub there : (n : ℕ) (c : Computed) (k : ℕ) → computed_at n cs ≡ Some c → host_of c.recipe.expression ≡ Some k → is_used (slice_get ss k) ≡ true
+  pub own : (n m : ℕ) (c d : Computed) (k : ℕ) → computed_at n cs ≡ Some c → computed_at m cs ≡ Some d →
+      host_of c.recipe.expression ≡ Some k → host_of d.recipe.expression ≡ Some k → n ≡ m
+
+-- So it is after any commands: one that was dropped is nobody's, and isn't asked any more. The asks that are kept of each are those of all
+-- runs that were told.
+abbrev pub HostLaw : Type 0
+HostLaw = (env : Environment) (n : ℕ) (cs : List Command) →
+    let w = after_commands env (new_world n) cs in
+    HaveHosts w.signals.computeds w.host_states × ((place : ℕ) → asks_so_far (slice_get w.host_states place) ≡ asks_of place (runs_told w.told))

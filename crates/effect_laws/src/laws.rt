@@ -1,0 +1,52 @@
+// Laws of effects, for all environments and all lists of commands.
+ghost use Rattle.effect_laws.specs.Asking.{BodyLaw};
+ghost use Rattle.effect_laws.specs.Ends.{ClosingLaw, EndLaw, SilenceLaw};
+ghost use Rattle.effect_laws.specs.HostUse.{HostLaw};
+ghost use Rattle.effect_laws.specs.KeptWorlds.{CommandLaw, CommandsLaw, FlushLaw, NewWorldLaw};
+ghost use Rattle.effect_laws.specs.Notified.{NotifiedLaw};
+ghost use Rattle.effect_laws.specs.Resting.{RestLaw};
+
+/// Nothing that has ended runs, is evaluated, is notified, is cleaned up or ends again; and each cleanup that was noted is done once
+/// before its effect runs again or ends.
+pub fn end_law()
+    ensures { EndLaw }
+{}
+
+/// After its end nothing is told of a thing.
+pub fn silence_law()
+    ensures { SilenceLaw }
+{}
+
+/// Cleanups are done for a run or an end alone.
+pub fn closing_law()
+    ensures { ClosingLaw }
+{}
+
+/// A body whose slots have names is asked as far as its answers say.
+pub fn body_law()
+    ensures { BodyLaw }
+{}
+
+/// Whatever is made, set, rewired and disposed, also by acts in the middle of a flush: the memos are sound, each name in use was given, and
+/// each run that was told read only what was current at its moment.
+pub fn kept_world_law()
+    ensures new_world { NewWorldLaw }
+    ensures command { CommandLaw }
+    ensures flush { FlushLaw }
+    ensures commands { CommandsLaw }
+{}
+
+/// Each host formula is that of one computed at most, and its asks are those of all runs that were told.
+pub fn host_law()
+    ensures { HostLaw }
+{}
+
+/// A change notifies exactly the watchers that are watching and one of whose signals it reaches along kept sources.
+pub fn notified_law()
+    ensures { NotifiedLaw }
+{}
+
+/// A flush is refused only after a hundred turns that each ran an effect, where one is still due; one that isn't refused leaves none due.
+pub fn rest_law()
+    ensures { RestLaw }
+{}
