@@ -16,8 +16,7 @@ use Rattle.sig_formula.specs.Trees.{Tree}
 use Rattle.sig_formula.proofs.Shared.{formula_asks}
 use Rattle.signal_model.specs.Recipes.{IsUnknownSlot, is_known}
 use Rattle.signal_model.specs.Values.{learnt, unknown_slots}
-use Rattle.signal_model.proofs.Shared.{unknown_less}
-use Rattle.signal_model.proofs.Shared.{valueless}
+use Rattle.signal_model.proofs.Shared.{unknown_less, valueless}
 use Rattle.effect_model.specs.Bodies.{Statements, no_more, set, log, when, cleanup_set, cleanup_log, effect, dispose, rewire, Act, to_set, to_log}
 use Rattle.effect_model.specs.Bodies.{to_note}
 use Rattle.effect_model.specs.Bodies.{to_make, to_dispose, to_rewire, BodyStep, reads, acts, fails, followed_by, one_first, and_then, with_answer}

@@ -9,8 +9,7 @@ use Rattle.signal_model.specs.Recipes.{Hosts, Recipe, Expression, formula, host}
 use Rattle.signal_model.specs.Standing.{Signals, Computed, IsComputed, standing, computed_at, changed, without}
 use Rattle.signal_model.specs.Settling.{Run, settled}
 use Rattle.signal_model.specs.Asks.{Moment, moments, is_host, asks_host, good_reads, asks_of}
-use Rattle.signal_model.proofs.Shared.{tested}
-use Rattle.signal_model.proofs.Shared.{stands-computed}
+use Rattle.signal_model.proofs.Shared.{tested, stands-computed}
 use Rattle.signal_laws.specs.RunLaws.{IsScratchRun}
 use Rattle.signal_laws.proofs.Shared.{scratch_runs_law, computed_other, computed_out, computed_left}
 use Rattle.effect_model.specs.Worlds.{Environment, HostState, unused, used, dropped, asked_more, asked_by}

@@ -8,10 +8,7 @@ use Rattle.signal_model.specs.Asks.{moments}
 use Rattle.signal_model.specs.Kept.{AreKept, AreGiven}
 use Rattle.signal_laws.specs.ChangeLaws.{AllGiven, given_below, IsNext}
 use Rattle.signal_laws.specs.RunLaws.{IsCurrentRun}
-use Rattle.signal_laws.proofs.Shared.{empty_law, set_law, rewire_law, dispose_law, cell_law, computed_law, settle_law, currency_law, all_append}
-use Rattle.signal_laws.proofs.Shared.{given_next_law, given_empty_law, given_more_law, given_cell_law, given_computed_law, given_set_law}
-use Rattle.signal_laws.proofs.Shared.{given_rewire_law}
-use Rattle.signal_laws.proofs.Shared.{given_dispose_law, given_settle_law}
+use Rattle.signal_laws.proofs.Shared.{empty_law, set_law, rewire_law, dispose_law, cell_law, computed_law, settle_law, currency_law, all_append, given_next_law, given_empty_law, given_more_law, given_cell_law, given_computed_law, given_set_law, given_rewire_law, given_dispose_law, given_settle_law}
 use Rattle.effect_model.specs.Worlds.{Environment, World}
 use Rattle.effect_model.specs.Running.{flush}
 use Rattle.effect_model.specs.Commands.{new_world, after_command, after_commands}

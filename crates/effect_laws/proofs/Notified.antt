@@ -6,8 +6,7 @@ use Rattle.signal_model.specs.Memos.{Memos}
 use Rattle.signal_model.specs.Marks.{IsBelow, HasBelow, found_below}
 use Rattle.signal_model.specs.Laws.{Searches}
 use Rattle.signal_model.specs.Kept.{OnlyComputedsKeep}
-use Rattle.signal_model.proofs.Shared.{below_law}
-use Rattle.signal_model.proofs.Shared.{either, or_left, or_right}
+use Rattle.signal_model.proofs.Shared.{below_law, either, or_left, or_right}
 use Rattle.effect_model.specs.Acts.{is_reached, some_name}
 use Rattle.effect_laws.specs.Notified.{IsReached, SomeReached, NotifiedLaw}
 

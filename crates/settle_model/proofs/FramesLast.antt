@@ -16,13 +16,10 @@ use Rattle.signal_model.specs.Sound.{IsPast, ArePast, names_of, IsSound}
 use Rattle.signal_model.specs.Values.{prefixed}
 use Rattle.signal_model.specs.Laws.{IsChain}
 use Rattle.signal_model.proofs.Shared.{tested}
-use Rattle.signal_laws.proofs.Shared.{either, or_left, or_right}
-use Rattle.signal_laws.proofs.Shared.{in_head, in_tail}
-use Rattle.signal_laws.proofs.Shared.{run_other, run_stays}
+use Rattle.signal_laws.proofs.Shared.{either, or_left, or_right, in_head, in_tail, run_other, run_stays, moved_off}
 use Rattle.signal_model.specs.Memos.{is_stale_by, is_stale}
 use Rattle.settle_model.specs.Stepping.{Phase, Looking, LookedAt, Running, Waiting, Frame, frame_names, new_frame}
 use Rattle.settle_model.proofs.VisitsLeft.{ArePassed, in_snoc}
-use Rattle.signal_laws.proofs.Shared.{moved_off}
 
 module _ (hosts : Hosts) (w : Signals) where
   -- It looks: its memo isn't stale, the sources before its place are passed, and none of them has moved, unless it holds `cycle`.

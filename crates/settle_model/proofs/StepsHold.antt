@@ -22,22 +22,16 @@ use Rattle.signal_model.specs.Sound.{standing_outcome, names_of, Follows, Keeps}
 use Rattle.signal_model.specs.Values.{prefixed}
 use Rattle.signal_model.specs.Laws.{IsRead, Reads, Leads, one, IsChain}
 use Rattle.signal_model.proofs.Shared.{name_is, cycle_law, goes_on, chain_goes, tested, good_read, bad_read}
-use Rattle.signal_laws.proofs.Shared.{either, or_fst, or_snd, or_none, not_false}
-use Rattle.signal_laws.proofs.Shared.{CalmOn, calm_on, entry_there, some_is}
-use Rattle.signal_laws.proofs.Shared.{settle_append, is_read-in, right_source, read_value}
-use Rattle.signal_laws.proofs.Shared.{IsRun, follows_run, StandAs, in_head, in_tail}
+use Rattle.signal_laws.proofs.Shared.{either, or_fst, or_snd, or_none, not_false, CalmOn, calm_on, entry_there, some_is, settle_append, is_read-in, right_source, read_value, IsRun, follows_run, StandAs, in_head, in_tail, seen_is, seen_snoc, State, visit_state, first_state, asked_law, moved_less, moved_off, step_is}
 use Rattle.signal_laws.specs.OrderLaws.{IsPlaced, seen_after}
-use Rattle.signal_laws.proofs.Shared.{seen_is, seen_snoc}
 use Rattle.signal_model.specs.Kept.{AreKept}
 use Rattle.signal_model.specs.Standing.{is_there}
-use Rattle.signal_laws.proofs.Shared.{State, visit_state, first_state, asked_law}
 use Rattle.settle_model.specs.SteppingLaws.{stepped_times, IsOver, IsSettled, StepsSettleLaw}
 use Rattle.settle_model.specs.Stepping.{Phase, Looking, LookedAt, Running, Waiting, Frame, Underway, frame_names, begun, new_frame, is_ready}
 use Rattle.settle_model.specs.Stepping.{ready_outcome, GoesOn, Needs, Stops, Ends, decided, looked, told, waited, answered, move_of, frame_move}
 use Rattle.settle_model.specs.Stepping.{after_move, asked_next, stack_step, stepped}
 use Rattle.settle_model.proofs.VisitsLeft.{ArePassed, visit_passed, visits_passed, finished, visit_new, next_first, completed}
 use Rattle.settle_model.proofs.NextReads.{moved_tail, moved_append, NextKept, first_of, next_kept}
-use Rattle.signal_laws.proofs.Shared.{moved_less, moved_off, step_is}
 use Rattle.settle_model.proofs.FramesLast.{LookHolds, RunHolds, PhaseHolds, FrameHolds, StackHolds, Lasts, lasts_same, lasts_run, stack_lasts}
 use Rattle.settle_model.proofs.FramesLast.{new_frame_holds}
 

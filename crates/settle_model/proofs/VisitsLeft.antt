@@ -6,8 +6,7 @@ use Rattle.signal_model.specs.Values.{Seen, reads_of, names_left}
 use Rattle.signal_model.specs.Orders.{Visit, visited, visits, visit_case, visit_within, visit}
 use Rattle.signal_model.specs.Sound.{names_of}
 use Rattle.signal_model.proofs.Shared.{name_is, tested, visit_by_cases}
-use Rattle.signal_laws.proofs.Shared.{or_right}
-use Rattle.signal_laws.proofs.Shared.{in_head, in_tail}
+use Rattle.signal_laws.proofs.Shared.{or_right, in_head, in_tail}
 use Rattle.settle_model.specs.Stepping.{Frame, frame_names}
 
 -- one visit more forgets none
