@@ -121,7 +121,30 @@ or_last true b h = h
 or_last false true h = h
 or_last false false h = refl
 
-unused : (whole part now : Forest Kind) → first_used whole part now ≡ None → (j : ℕ) → on j part ≡ true → (on j now ≡ false) × (tally j whole ≤ 1)
+-- how often a number stands in a tree after an insertion and after a move
+pub tally_inserted : (j p i : ℕ) (s t : Forest Kind) → tally p t ≤ 1 → on p t ≡ true → tally j (at p (put i s) t) ≡ tally j t + tally j s
+tally_inserted j p i s t o there =
+    let one_name = ap (tally j) (at_named p (put i s) t o) in
+    let sum = tally_at p j (put i s (kids p t)) t o there in
+    let more = tally_put j i s (kids p t) in
+    omega (arith, one_name, sum, more)
+
+pub tally_kept : (j p n i : ℕ) (t : Forest Kind) → tally p t ≤ 1 → on p t ≡ true → tally j (at p (moved n i) t) ≡ tally j t
+tally_kept j p n i t o there =
+    let one_name = ap (tally j) (at_named p (moved n i) t o) in
+    let sum = tally_at p j (moved n i (kids p t)) t o there in
+    let same = tally_moved j n i (kids p t) in
+    omega (arith, one_name, sum, same)
+
+-- and with a child taken out
+pub tally_parted : (j p n : ℕ) (t : Forest Kind) → tally p t ≤ 1 → on p t ≡ true → tally j (at p (without n) t) + tally j (only n (kids p t)) ≡ tally j t
+tally_parted j p n t o there =
+    let one_name = ap (tally j) (at_named p (without n) t o) in
+    let sum = tally_at p j (without n (kids p t)) t o there in
+    let parts = tally_apart j n (kids p t) in
+    omega (arith, one_name, sum, parts)
+
+pub unused : (whole part now : Forest Kind) → first_used whole part now ≡ None → (j : ℕ) → on j part ≡ true → (on j now ≡ false) × (tally j whole ≤ 1)
 unused whole none now h j o = absurd (false≢true o)
 unused whole (node n x k r) now h j o = elim (cases_Bool (on n now || ltb 1 (tally n whole))) [
   | inl e ↦ (let z : Some n ≡ None = rw e at h in absurd (cc))
@@ -284,23 +307,23 @@ made_at p f b o l a o' h g e =
       | inr z ↦ rw z (nodes_at p f b (let q = o p in let w = rw z at q in omega arith) g e a)
     ])
 
-done_if : (c : Bool) (x u : Forest Kind) (w : OpRefusal) → (if c then Done x else Refused w) ≡ Done u → (c ≡ true) × (x ≡ u)
+pub done_if : (c : Bool) (x u : Forest Kind) (w : OpRefusal) → (if c then Done x else Refused w) ≡ Done u → (c ≡ true) × (x ≡ u)
 done_if true x u w e = (refl, cc)
 done_if false x u w e = cc
 
-if_done : (c : Bool) (a : Answer) (u : Forest Kind) (w : OpRefusal) → (if c then a else Refused w) ≡ Done u → (c ≡ true) × (a ≡ Done u)
+pub if_done : (c : Bool) (a : Answer) (u : Forest Kind) (w : OpRefusal) → (if c then a else Refused w) ≡ Done u → (c ≡ true) × (a ≡ Done u)
 if_done true a u w e = (refl, e)
 if_done false a u w e = cc
 
-found_none : (why : ℕ → OpRefusal) (o : Option ℕ) (a : Answer) (u : Forest Kind) → unless_found why o a ≡ Done u → (o ≡ None) × (a ≡ Done u)
+pub found_none : (why : ℕ → OpRefusal) (o : Option ℕ) (a : Answer) (u : Forest Kind) → unless_found why o a ≡ Done u → (o ≡ None) × (a ≡ Done u)
 found_none why None a u e = (refl, e)
 found_none why (Some n) a u e = cc
 
-both : (a b : Bool) → (a && b) ≡ true → (a ≡ true) × (b ≡ true)
+pub both : (a b : Bool) → (a && b) ≡ true → (a ≡ true) × (b ≡ true)
 both true b h = (refl, h)
 both false b h = absurd (false≢true h)
 
-not_zero : (n : ℕ) → not (n == 0) ≡ true → (0 == n) ≡ false
+pub not_zero : (n : ℕ) → not (n == 0) ≡ true → (0 == n) ≡ false
 not_zero n h = elim (cases_Bool (0 == n)) [
   | inl e ↦ (let q : 0 ≡ n = eqb-true 0 n e in absurd (false≢true (ap (λ b. not b) (sym (eq-eqb n 0 (sym q))) ∙ h)))
   | inr e ↦ e
@@ -329,13 +352,11 @@ inserted_tree p i n x k b o l a c there h used deep =
     let s = node n x k none in
     let low = low_brought (suc (depth p t)) s deep in
     let many : once_tree (at p (put i s) t) = λ j. (
-    let one_name = ap (tally j) (at_named p (put i s) t (o p)) in
-    let sum = tally_at p j (put i s (kids p t)) t (o p) there in
-    let more = tally_put j i s (kids p t) in
+    let sum = tally_inserted j p i s t (o p) there in
     let q = o j in
     elim (cases_Bool (on j s)) [
-      | inl e ↦ (let y = unused s s t used j e in let off = off_tally j t y.0 in let w = y.1 in omega (arith, one_name, sum, more, off, w))
-      | inr e ↦ (let off = off_tally j s e in omega (arith, one_name, sum, more, off, q))
+      | inl e ↦ (let y = unused s s t used j e in let off = off_tally j t y.0 in let w = y.1 in omega (arith, sum, off, w))
+      | inr e ↦ (let off = off_tally j s e in omega (arith, sum, off, q))
     ]) in
     made_at p (put i s) b o l a many
     (λ d z. low_put (suc (depth p t)) i s d low z)
@@ -351,11 +372,7 @@ moved_tree n i b o l a there e =
     let t = node 0 Root b none in
     let p = parent n t in
     let sits = has_parent n t o there (rw e refl) in
-    let many : once_tree (at p (moved n i) t) = λ j. (
-    let one_name = ap (tally j) (at_named p (moved n i) t (o p)) in
-    let sum = tally_at p j (moved n i (kids p t)) t (o p) sits.1 in
-    let same = tally_moved j n i (kids p t) in
-    let q = o j in omega (arith, one_name, sum, same, q)) in
+    let many : once_tree (at p (moved n i) t) = λ j. (let sum = tally_kept j p n i t (o p) sits.1 in let q = o j in omega (arith, sum, q)) in
     made_at p (moved n i) b o l a many
     (λ d z. low_put (suc (depth p t)) i (only n d) (without n d) (low_only (suc (depth p t)) n d z) (low_without (suc (depth p t)) n d z))
     (inr (none_moved n i))
@@ -369,12 +386,12 @@ told_tree n lab b o l a e h =
     (nodes_relabelled n lab b (let q = o n in let y = rw e at q in omega arith) h a) in
     rw e t
 
-text_done : (n : ℕ) (v : List ℕ) (x : Kind) (now u : Forest Kind) → do_text n v x now ≡ Done u → (s : List ℕ) × (x ≡ Text s) × (relabelled n (Text v) now ≡ u)
+pub text_done : (n : ℕ) (v : List ℕ) (x : Kind) (now u : Forest Kind) → do_text n v x now ≡ Done u → (s : List ℕ) × (x ≡ Text s) × (relabelled n (Text v) now ≡ u)
 text_done n v Root now u h = cc
 text_done n v (Text s) now u h = (s, refl, cc)
 text_done n v (Element name xs) now u h = cc
 
-attr_done : (n i : ℕ) (name value : List ℕ) (x : Kind) (now u : Forest Kind) → do_attr n i name value x now ≡ Done u → (element : List ℕ) × (xs : List (List ℕ × List ℕ)) × (x ≡ Element element xs) × (relabelled n (Element element (put_in i (name, value) (others name xs))) now ≡ u)
+pub attr_done : (n i : ℕ) (name value : List ℕ) (x : Kind) (now u : Forest Kind) → do_attr n i name value x now ≡ Done u → (element : List ℕ) × (xs : List (List ℕ × List ℕ)) × (x ≡ Element element xs) × (relabelled n (Element element (put_in i (name, value) (others name xs))) now ≡ u)
 attr_done n i name value Root now u h = cc
 attr_done n i name value (Text s) now u h = cc
 attr_done n i name value (Element element xs) now u h =
@@ -382,13 +399,13 @@ attr_done n i name value (Element element xs) now u h =
     let d = done_if (leb i (length (others name xs))) (relabelled n new now) u (NoSuchPlace i) h in
     (element, xs, refl, d.1)
 
-unattr_done : (n : ℕ) (name : List ℕ) (x : Kind) (now u : Forest Kind) → do_unattr n name x now ≡ Done u → (element : List ℕ) × (xs : List (List ℕ × List ℕ)) × (x ≡ Element element xs) × (relabelled n (Element element (others name xs)) now ≡ u)
+pub unattr_done : (n : ℕ) (name : List ℕ) (x : Kind) (now u : Forest Kind) → do_unattr n name x now ≡ Done u → (element : List ℕ) × (xs : List (List ℕ × List ℕ)) × (x ≡ Element element xs) × (relabelled n (Element element (others name xs)) now ≡ u)
 unattr_done n name Root now u h = cc
 unattr_done n name (Text s) now u h = cc
 unattr_done n name (Element element xs) now u h = (element, xs, refl, cc)
 
 -- what isn't the root's label is that of a node below it
-below_label : (n : ℕ) (b : Forest Kind) (x : Kind) → label_in Root n (node 0 Root b none) ≡ x → (x ≡ Root → ⊥) → ((0 == n) ≡ false) × (label_in Root n b ≡ x)
+pub below_label : (n : ℕ) (b : Forest Kind) (x : Kind) → label_in Root n (node 0 Root b none) ≡ x → (x ≡ Root → ⊥) → ((0 == n) ≡ false) × (label_in Root n b ≡ x)
 below_label n b x h other = elim (cases_Bool (0 == n)) [
   | inl e ↦ absurd (other (sym (rw e at h)))
   | inr e ↦ elim (cases_Bool (on n b)) [

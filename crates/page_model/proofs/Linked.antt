@@ -20,7 +20,7 @@ on_kids p n t h = elim (cases_Bool (on n t)) [ inl e ↦ e | inr e ↦ absurd (t
 pub self_on : {A : Type 0} (m : ℕ) (x : A) (k r : Forest A) → on m (node m x k r) ≡ true
 self_on m x k r = or_left (m == m) (on m k || on m r) (eq-eqb m m refl)
 
-tally_kids : {A : Type 0} (p j : ℕ) (t : Forest A) → tally j (kids p t) ≤ tally j t
+pub tally_kids : {A : Type 0} (p j : ℕ) (t : Forest A) → tally j (kids p t) ≤ tally j t
 tally_kids p j none = omega arith
 tally_kids p j (node m x k r) = elim (cases_Bool (m == p)) [
   | inl e ↦ rw e (omega arith)
@@ -228,7 +228,7 @@ matches_at old new lab (node n x k r) p l te o h kn = (
 
 -- ---- below a new node all are new
 
-kids_off : {A : Type 0} (p : ℕ) (t : Forest A) → on p t ≡ false → kids p t ≡ none
+pub kids_off : {A : Type 0} (p : ℕ) (t : Forest A) → on p t ≡ false → kids p t ≡ none
 kids_off p none h = refl
 kids_off p (node m x k r) h =
     let a = or_false (m == p) (on p k) (on p r) h in

@@ -289,7 +289,7 @@ replayed lev hold kept new (p ∷ ps) t z o w =
 
 -- ---- the steps look at the numbers of the children alone
 
-has_listed : {A : Type 0} (n : ℕ) (t : Forest A) → has n t ≡ listed n (siblings t)
+pub has_listed : {A : Type 0} (n : ℕ) (t : Forest A) → has n t ≡ listed n (siblings t)
 has_listed n none = refl
 has_listed n (node m x k r) = ap (λ b. (m == n) || b) (has_listed n r)
 
@@ -298,11 +298,11 @@ stands_placed n i none = refl
 stands_placed n zero (node m x k r) = refl
 stands_placed n (suc i) (node m x k r) = stands_placed n i r
 
-siblings_without : {A : Type 0} (n : ℕ) (t : Forest A) → siblings (without n t) ≡ taken n (siblings t)
+pub siblings_without : {A : Type 0} (n : ℕ) (t : Forest A) → siblings (without n t) ≡ taken n (siblings t)
 siblings_without n none = refl
 siblings_without n (node m x k r) = elim (cases_Bool (m == n)) [ inl e ↦ rw e refl | inr e ↦ rw e (ap (λ z. m ∷ z) (siblings_without n r)) ]
 
-siblings_put : {A : Type 0} (i n : ℕ) (x : A) (k t : Forest A) → siblings (put i (node n x k none) t) ≡ put_at i n (siblings t)
+pub siblings_put : {A : Type 0} (i n : ℕ) (x : A) (k t : Forest A) → siblings (put i (node n x k none) t) ≡ put_at i n (siblings t)
 siblings_put zero n x k t = refl
 siblings_put (suc i) n x k none = refl
 siblings_put (suc i) n x k (node m y l r) = ap (λ z. m ∷ z) (siblings_put i n x k r)
@@ -314,12 +314,12 @@ one_only n (node m x k r) h = elim (cases_Bool (m == n)) [
   | inr e ↦ (let i = one_only n r (rw e at h) in (i.0, i.1, rw e i.2))
 ]
 
-siblings_moved : {A : Type 0} (n i : ℕ) (t : Forest A) → has n t ≡ true → siblings (moved n i t) ≡ put_at i n (taken n (siblings t))
+pub siblings_moved : {A : Type 0} (n i : ℕ) (t : Forest A) → has n t ≡ true → siblings (moved n i t) ≡ put_at i n (taken n (siblings t))
 siblings_moved n i t h =
     let o = one_only n t h in
     ap (λ z. siblings (put i z (without n t))) o.2 ∙ (siblings_put i n o.0 o.1 (without n t) ∙ ap (put_at i n) (siblings_without n t))
 
-siblings_at : {A : Type 0} (p : ℕ) (f : Forest A → Forest A) (t : Forest A) → siblings (at p f t) ≡ siblings t
+pub siblings_at : {A : Type 0} (p : ℕ) (f : Forest A → Forest A) (t : Forest A) → siblings (at p f t) ≡ siblings t
 siblings_at p f none = refl
 siblings_at p f (node m x k r) = ap (λ z. m ∷ z) (siblings_at p f r)
 

@@ -36,7 +36,7 @@ relabelled_same d n t (node m x k r) o l e = elim (cases_Bool (m == n)) [
   ]
 ]
 
-on_relabelled : {A : Type 0} (j n : ℕ) (t : A) (xs : Forest A) → on j (relabelled n t xs) ≡ on j xs
+pub on_relabelled : {A : Type 0} (j n : ℕ) (t : A) (xs : Forest A) → on j (relabelled n t xs) ≡ on j xs
 on_relabelled j n t none = refl
 on_relabelled j n t (node m x k r) = rw (on_relabelled j n t k, on_relabelled j n t r) refl
 

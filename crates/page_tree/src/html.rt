@@ -1,0 +1,125 @@
+// A tree as HTML.
+ghost use Rattle.std.specs.Prelude.{◌≡◌, ◌<◌, ◌∷◌, ◌++◌, [], ℕ, List, OnOk, codes};
+ghost use Rattle.std.specs.List.{flat_map};
+ghost use Rattle.html_out.specs.Html.{attribute, is_raw, is_void};
+ghost use Rattle.page_model.specs.Html.{characters, closing, element, html_in, opening};
+ghost use Rattle.page_tree.specs.Rows.{build, look};
+
+use crate::table::{Label, Node};
+use html_out::{is_raw, is_void, put_attr, put_text};
+use indexmap::IndexMap;
+use sig_base::{NoMemory, Text};
+
+fn put(out: &mut Vec<u8>, bytes: &[u8]) -> Result<(), NoMemory>
+    ensures { OnOk result (out.new.items ≡ out.old.items ++ bytes.now) }
+{
+    out.extend_from_slice(bytes)?;
+    Ok(())
+}
+
+fn put_attributes(out: &mut Vec<u8>, attributes: &[(Text, Text)]) -> Result<(), NoMemory>
+    ensures { OnOk result (out.new.items ≡ out.old.items ++ flat_map (λ (a : List ℕ × List ℕ). attribute a.0 a.1) attributes.now) }
+{
+    for attribute in attributes {
+        put_attr(out, attribute.0.as_str(), attribute.1.as_str())?;
+    }
+    Ok(())
+}
+
+fn put_opening(out: &mut Vec<u8>, name: &str, attributes: &[(Text, Text)]) -> Result<(), NoMemory>
+    ensures { OnOk result (out.new.items ≡ out.old.items ++ opening name.now attributes.now) }
+{
+    put(out, b"<")?;
+    put(out, name.as_bytes())?;
+    put_attributes(out, attributes)?;
+    put(out, b">")
+}
+
+fn put_closing(out: &mut Vec<u8>, name: &str) -> Result<(), NoMemory>
+    ensures { OnOk result (out.new.items ≡ out.old.items ++ closing name.now) }
+{
+    put(out, b"</")?;
+    put(out, name.as_bytes())?;
+    put(out, b">")
+}
+
+// A text, as it is or escaped.
+fn put_characters(out: &mut Vec<u8>, text: &str, raw: bool) -> Result<(), NoMemory>
+    ensures { OnOk result (out.new.items ≡ out.old.items ++ characters raw text.now) }
+{
+    if raw {
+        put(out, text.as_bytes())
+    } else {
+        put_text(out, text)
+    }
+}
+
+// An element around what stands below it.
+#[cycle(html)]
+fn write_element(
+    out: &mut Vec<u8>,
+    nodes: &IndexMap<u64, Node>,
+    name: &str,
+    attributes: &[(Text, Text)],
+    children: &[u64],
+    levels: u64,
+) -> Result<(), NoMemory>
+    ensures { OnOk result (out.new.items ≡
+        out.old.items ++ element name.now attributes.now (html_in (is_raw name.now) (build levels (look nodes.now) children.now))) }
+{
+    put_opening(out, name, attributes)?;
+    if is_void(name) {
+        return Ok(());
+    }
+    write_nodes(out, nodes, children, is_raw(name), levels)?;
+    put_closing(out, name)?;
+    Ok(())
+}
+
+// One node and what stands below it.
+#[cycle(html)]
+#[tactic(auto, using(crate::proofs::Showing::shows_cons, crate::proofs::Showing::shows_one, crate::proofs::Showing::shows_none))]
+fn write_node(
+    out: &mut Vec<u8>,
+    nodes: &IndexMap<u64, Node>,
+    id: u64,
+    raw: bool,
+    levels: u64,
+) -> Result<(), NoMemory>
+    requires { 0 < levels }
+    ensures { OnOk result (out.new.items ≡ out.old.items ++ html_in raw (build levels (look nodes.now) (id ∷ []))) }
+{
+    let Some(node) = nodes.get(&id) else {
+        return Ok(());
+    };
+    match &node.label {
+        Label::Root => Ok(()),
+        Label::Text(text) => put_characters(out, text.as_str(), raw),
+        Label::Element(name, attributes) => {
+            let children = &node.children;
+            write_element(out, nodes, name.as_str(), attributes, children, levels - 1)?;
+            Ok(())
+        }
+    }
+}
+
+/// Appends the bytes of these nodes and of what stands below them, on so many levels; their texts are escaped or as they are.
+#[cycle(html)]
+#[tactic(auto, using(crate::proofs::Showing::shows_cons, crate::proofs::Showing::shows_one, crate::proofs::Showing::shows_none))]
+pub fn write_nodes(
+    out: &mut Vec<u8>,
+    nodes: &IndexMap<u64, Node>,
+    ids: &[u64],
+    raw: bool,
+    levels: u64,
+) -> Result<(), NoMemory>
+    ensures { OnOk result (out.new.items ≡ out.old.items ++ html_in raw (build levels (look nodes.now) ids.now)) }
+{
+    if levels == 0 {
+        return Ok(());
+    }
+    for id in ids {
+        write_node(out, nodes, *id, raw, levels)?;
+    }
+    Ok(())
+}

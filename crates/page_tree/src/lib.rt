@@ -1,0 +1,14 @@
+//! Numbered trees: pages as operations edit them. A tree is a table from number to node, so an edit costs by the node and
+//! its siblings, and never by the page.
+#![tactic(auto)]
+
+mod climbing;
+mod editing;
+mod html;
+mod removing;
+mod sub;
+mod table;
+mod tree;
+
+pub use sub::Sub;
+pub use tree::{NodeKind, Tree};
