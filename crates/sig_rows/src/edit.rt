@@ -1,0 +1,145 @@
+// The edits.
+ghost use Rattle.std.specs.Prelude.{◌≡◌, ◌↔◌, ◌≤◌, ◌<◌, [], length, IfErr, IfOk, OnErr, OnOk, None, false};
+ghost use Rattle.sig_base.specs.Tables.{AreRows};
+ghost use Rattle.sig_rows.specs.Edits.{changed, field_place, has_key, moved, with_row, without};
+ghost use Rattle.sig_rows.specs.Faults.{insert_fault, move_fault, put_fault, remove_fault, IsCause};
+
+use crate::RowFault;
+use crate::row::{changed, copies, field_place, has_key, other_marks, row_of, scalars};
+use sig_base::{MOST_ROWS, Name, NoMemory, Row, Rows, Scalar, Scalars, Text};
+use std::alloc::Global;
+
+/// No rows, for at most `MOST_FIELDS` distinct fields other than `key`.
+pub fn new_rows(alloc: Global, fields: Vec<Name>) -> Result<Rows, NoMemory>
+    requires { AreRows fields.items [] }
+    ensures { IfOk result (λ r. r ≡ record { fields = fields.items; rows = [] }) }
+{
+    Rows::of(alloc, fields, Vec::new(alloc))
+}
+
+// The rows with one more, which stands at a place.
+fn with_row(alloc: Global, rows: &Rows, place: usize, row: Row) -> Result<Rows, NoMemory>
+    requires within { place ≤ length rows.now.rows }
+    requires rows { AreRows rows.now.fields (with_row place row rows.now.rows) }
+    ensures { IfOk result (λ r. r ≡ record { fields = rows.now.fields; rows = with_row place row rows.now.rows }) }
+{
+    let mut list = copies(alloc, rows.rows())?;
+    list.insert(place, row)?;
+    rows.with_rows(alloc, list)
+}
+
+/// Puts a row with these values so that it stands at a place, at most the number of rows. It is refused, in this order, where
+/// a row has the key, where the place is past the end, for another number of values than there are fields, and where there are
+/// `MOST_ROWS` rows already.
+pub fn insert(
+    alloc: Global,
+    rows: &mut Rows,
+    place: usize,
+    key: &Text,
+    values: &[Scalar],
+) -> Result<(), RowFault>
+    ensures rows { OnOk result (rows.new ≡ record {
+      fields = rows.old.fields;
+      rows = with_row place (record { key = key.now; values = values.now }) rows.old.rows;
+    }) }
+    ensures accepted { OnOk result (insert_fault rows.old place key.now (length values.now) ≡ None) }
+    ensures refused { IfErr result (λ why. IsCause (insert_fault rows.old place key.now (length values.now)) why) }
+    ensures kept { OnErr result (rows.new ≡ rows.old) }
+{
+    if has_key(rows.rows(), key) {
+        return Err(RowFault::KeyTaken);
+    }
+    if place > rows.len() {
+        return Err(RowFault::Place);
+    }
+    if values.len() != rows.fields().len() {
+        return Err(RowFault::Field);
+    }
+    if rows.len() >= MOST_ROWS {
+        return Err(RowFault::Limit);
+    }
+    let row = Row {
+        key: key.copy()?,
+        values: Scalars::of(alloc, scalars(alloc, values)?)?,
+    };
+    *rows = with_row(alloc, rows, place, row)?;
+    Ok(())
+}
+
+// The rows without the one with this key.
+fn without(alloc: Global, rows: &Rows, key: &Text) -> Result<Rows, NoMemory>
+    ensures { IfOk result (λ r. r ≡ record { fields = rows.now.fields; rows = without key.now rows.now.rows }) }
+{
+    let marks = other_marks(alloc, rows.rows(), key)?;
+    rows.keep_by(alloc, &marks)
+}
+
+/// Takes the row with this key out; refused where no row has it.
+pub fn remove(alloc: Global, rows: &mut Rows, key: &Text) -> Result<(), RowFault>
+    ensures rows { OnOk result (rows.new ≡ record { fields = rows.old.fields; rows = without key.now rows.old.rows }) }
+    ensures accepted { OnOk result (remove_fault rows.old key.now ≡ None) }
+    ensures refused { IfErr result (λ why. IsCause (remove_fault rows.old key.now) why) }
+    ensures kept { OnErr result (rows.new ≡ rows.old) }
+{
+    if !has_key(rows.rows(), key) {
+        return Err(RowFault::KeyMissing);
+    }
+    *rows = without(alloc, rows, key)?;
+    Ok(())
+}
+
+/// Takes the row with this key out and puts it so that it stands at a place, below the number of rows. It is refused, in this
+/// order, where no row has the key, and where the place is past the end. `false` exactly where nothing changed.
+pub fn move_to(alloc: Global, rows: &mut Rows, key: &Text, place: usize) -> Result<bool, RowFault>
+    ensures rows { OnOk result (rows.new ≡ record { fields = rows.old.fields; rows = moved key.now place rows.old.rows }) }
+    ensures same { IfOk result (λ changed. (changed ≡ false) ↔ (rows.new ≡ rows.old)) }
+    ensures accepted { OnOk result (move_fault rows.old key.now place ≡ None) }
+    ensures refused { IfErr result (λ why. IsCause (move_fault rows.old key.now place) why) }
+    ensures kept { OnErr result (rows.new ≡ rows.old) }
+{
+    let Some(row) = row_of(rows.rows(), key) else {
+        return Err(RowFault::KeyMissing);
+    };
+    if place >= rows.len() {
+        return Err(RowFault::Place);
+    }
+    if rows.row(place).key == *key {
+        return Ok(false);
+    }
+    let row = row.copy()?;
+    let others = without(alloc, rows, key)?;
+    *rows = with_row(alloc, &others, place, row)?;
+    Ok(true)
+}
+
+/// Puts another scalar into a field of the row with this key. It is refused, in this order, where no row has the key, and where
+/// there is no such field. `false` exactly where nothing changed, since the scalar there was the same.
+pub fn put_field(
+    alloc: Global,
+    rows: &mut Rows,
+    key: &Text,
+    field: &Name,
+    value: &Scalar,
+) -> Result<bool, RowFault>
+    ensures rows { OnOk result (rows.new ≡ record {
+      fields = rows.old.fields;
+      rows = changed key.now (field_place field.now rows.old.fields) value.now rows.old.rows;
+    }) }
+    ensures same { IfOk result (λ changed. (changed ≡ false) ↔ (rows.new ≡ rows.old)) }
+    ensures accepted { OnOk result (put_fault rows.old key.now field.now ≡ None) }
+    ensures refused { IfErr result (λ why. IsCause (put_fault rows.old key.now field.now) why) }
+    ensures kept { OnErr result (rows.new ≡ rows.old) }
+{
+    let Some(row) = row_of(rows.rows(), key) else {
+        return Err(RowFault::KeyMissing);
+    };
+    let Some(at) = field_place(rows.fields(), field) else {
+        return Err(RowFault::Field);
+    };
+    if row.values.as_slice()[at] == *value {
+        return Ok(false);
+    }
+    let list = changed(alloc, rows.rows(), key, at, value)?;
+    *rows = rows.with_rows(alloc, list)?;
+    Ok(true)
+}

@@ -1,0 +1,127 @@
+// Rows and their parts, looked up and copied.
+ghost use Rattle.std.specs.Prelude.{◌≡◌, ◌<◌, length, All, IfOk, MatchOption, false, map, not, if◌then◌else◌};
+ghost use Rattle.std.specs.List.{list_any, position, IsDistinct};
+ghost use Rattle.std.specs.Str.{bytes_eq};
+ghost use Rattle.sig_base.specs.Tables.{keys_of};
+ghost use Rattle.sig_rows.specs.Edits.{changed, has_key, with_value};
+ghost use Rattle.sig_rows.specs.Found.{IsFieldPlace, IsRowOf};
+
+use sig_base::{Name, NoMemory, Row, Scalar, Scalars, Text};
+use std::alloc::Global;
+
+// Whether a row has this key.
+pub fn has_key(rows: &[Row], key: &Text) -> bool
+    ensures { result ≡ list_any (has_key key.now) rows.now }
+{
+    rows.iter().any(|row| row.key == *key)
+}
+
+// The row with this key.
+pub fn row_of<'a>(rows: &'a [Row], key: &Text) -> Option<&'a Row>
+    requires { IsDistinct bytes_eq (keys_of rows.now) }
+    ensures { MatchOption result (list_any (has_key key.now) rows.now ≡ false) (λ row. IsRowOf key.now rows.now row.now) }
+{
+    for row in rows {
+        if row.key == *key {
+            return Some(row);
+        }
+    }
+    None
+}
+
+// The first place of this name.
+fn first_place(fields: &[Name], name: &Name) -> Option<usize>
+    ensures { result ≡ position (λ f. bytes_eq f name.now) fields.now }
+{
+    fields.iter().position(|field| field == name)
+}
+
+// The place of the field of this name.
+pub fn field_place(fields: &[Name], name: &Name) -> Option<usize>
+    ensures { MatchOption result (list_any (λ f. bytes_eq f name.now) fields.now ≡ false) (IsFieldPlace name.now fields.now) }
+{
+    let found = first_place(fields, name);
+    found
+}
+
+// Of each row, whether it has another key.
+pub fn other_marks(alloc: Global, rows: &[Row], key: &Text) -> Result<Vec<bool>, NoMemory>
+    ensures { IfOk result (λ v. v.items ≡ map (λ r. not (has_key key.now r)) rows.now) }
+{
+    let mut marks = Vec::new(alloc);
+    for row in rows {
+        marks.push(row.key != *key)?;
+    }
+    Ok(marks)
+}
+
+// Copies of these rows, which share their values.
+pub fn copies(alloc: Global, rows: &[Row]) -> Result<Vec<Row>, NoMemory>
+    ensures { IfOk result (λ v. v.items ≡ rows.now) }
+{
+    let mut out = Vec::new(alloc);
+    for row in rows {
+        out.push(row.copy()?)?;
+    }
+    Ok(out)
+}
+
+// Copies of these scalars.
+pub fn scalars(alloc: Global, values: &[Scalar]) -> Result<Vec<Scalar>, NoMemory>
+    ensures { IfOk result (λ v. v.items ≡ values.now) }
+{
+    let mut out = Vec::new(alloc);
+    for value in values {
+        out.push(value.copy()?)?;
+    }
+    Ok(out)
+}
+
+// The row with another scalar at a place.
+fn with_value(alloc: Global, row: &Row, at: usize, value: &Scalar) -> Result<Row, NoMemory>
+    requires { at < length row.now.values }
+    ensures { IfOk result (λ r. r ≡ with_value at value.now row.now) }
+{
+    let mut values = scalars(alloc, row.values.as_slice())?;
+    values[at] = value.copy()?;
+    Ok(Row {
+        key: row.key.copy()?,
+        values: Scalars::of(alloc, values)?,
+    })
+}
+
+// The row, with another scalar at a place where it has this key.
+fn changed_row(
+    alloc: Global,
+    row: &Row,
+    key: &Text,
+    at: usize,
+    value: &Scalar,
+) -> Result<Row, NoMemory>
+    requires { at < length row.now.values }
+    ensures { IfOk result (λ r. r ≡ (if has_key key.now row.now then with_value at value.now row.now else row.now)) }
+{
+    if row.key == *key {
+        with_value(alloc, row, at, value)
+    } else {
+        row.copy()
+    }
+}
+
+// Copies of these rows, of which the one with this key has another scalar at a place.
+pub fn changed(
+    alloc: Global,
+    rows: &[Row],
+    key: &Text,
+    at: usize,
+    value: &Scalar,
+) -> Result<Vec<Row>, NoMemory>
+    requires { All (λ r. at < length r.values) rows.now }
+    ensures { IfOk result (λ v. v.items ≡ changed key.now at value.now rows.now) }
+{
+    let mut out = Vec::new(alloc);
+    for row in rows {
+        out.push(changed_row(alloc, row, key, at, value)?)?;
+    }
+    Ok(out)
+}
