@@ -1,0 +1,7 @@
+pub mod Sources
+pub mod Parts
+pub mod Edits
+pub mod Seating
+pub mod Holding
+pub mod Looking
+pub mod Searching

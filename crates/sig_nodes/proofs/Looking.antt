@@ -1,0 +1,110 @@
+-- What nodes answer, by what they stand for.
+use Rattle.std.proofs.Common.{◌≡◌, ℕ, zero, suc, ◌<◌, ◌==◌, ◌||◌, not, Bool, true, false, List, [], ◌∷◌, length, map, Option, Some, None, refl, sym, ap, ◌∙◌, subst, is_some, if◌then◌else◌}
+use Rattle.std.specs.Prelude.{slice_get, IfSome}
+use Rattle.std.proofs.lemmas.Bool.{eq-eqb}
+use Rattle.signal_model.specs.Standing.{is_in, is_there, standing}
+use Rattle.signal_model.specs.Memos.{Source, Memos, named_now, number_of, same_number, source_names, sources_in, sources_of}
+use Rattle.sig_nodes.specs.declared.node.Node.{Node}
+use Rattle.sig_nodes.specs.declared.node.Body.{Body}
+use Rattle.sig_nodes.specs.declared.node.Body.TheVariants.{Gone, Cell as CellBody, Computed as ComputedBody}
+use Rattle.sig_nodes.specs.Answers.{has_moved, slots_here, value_here}
+use Rattle.sig_nodes.specs.Computations.{paired}
+use Rattle.sig_nodes.specs.States.{GoesOn, State, Seen, is_given}
+use Rattle.sig_nodes.specs.Seats.{Seating, holder}
+use Rattle.sig_nodes.specs.Places.{seen, Holds}
+use Rattle.sig_nodes.specs.Nodes.{body_at, changed_at, is_computed_body, known_node, with_body_known, has_moved_body, known_body, memo_body, memos_of, number_at, signals_of, slots_body, stands_of, state_of, value_body}
+use Rattle.sig_base.specs.declared.value.Known.{Known}
+use Rattle.sig_nodes.proofs.Edits.{body_changed}
+use Rattle.sig_nodes.proofs.Parts.{memo_found, number_found, progress_found, stands}
+use Rattle.sig_nodes.proofs.Holding.{below_given, computed_below, live_here}
+
+-- the slots under an id
+pub slots_found : (xs : List Node) (n : ℕ) → slots_here (standing (signals_of xs) n) ≡ slots_body (body_at xs n)
+slots_found xs n = ap slots_here (stands xs n) ∙ go (body_at xs n)
+  where
+    go : (b : Body) → slots_here (stands_of n b) ≡ slots_body b
+    go Gone = refl
+    go (CellBody v r) = refl
+    go (ComputedBody c) = refl
+
+-- a slot's signal was given
+pub slot_below : (old : Seen) (st : State) (hs : List (Option ℕ)) (a : ℕ) (slots : List ℕ) (i : ℕ) (o : Option ℕ) → seen st hs a ≡ old → ((m : ℕ) → is_in m slots ≡ true → m < a) → o ≡ slice_get slots i →
+    IfSome o (λ m. is_given old m ≡ true)
+slot_below old st hs a slots i o view inside e = subst (λ (z : Option ℕ). IfSome z (λ m. is_given old m ≡ true)) (sym e) (go slots i inside)
+  where
+    go : (ns : List ℕ) (k : ℕ) → ((m : ℕ) → is_in m ns ≡ true → m < a) → IfSome (slice_get ns k) (λ m. is_given old m ≡ true)
+    go [] k h = tt
+    go (n ∷ ns) zero h = below_given old st hs a n view (h n (first (n == n) (is_in n ns) (eq-eqb n n refl)))
+      where
+        first : (x y : Bool) → x ≡ true → (x || y) ≡ true
+        first true y q = refl
+        first false y q = cc
+    go (n ∷ ns) (suc k) h = go ns k (λ m q. h m (later (m == n) (is_in m ns) q))
+      where
+        later : (x y : Bool) → y ≡ true → (x || y) ≡ true
+        later true y q = refl
+        later false y q = q
+
+-- who has a seat lives
+pub holder_lives : (xs : List Node) (t : Seating) (gen w s : ℕ) (o : Option ℕ) → Holds xs t gen w → o ≡ holder t.holders s → IfSome o (λ n. is_there (standing (signals_of xs) n) ≡ true)
+holder_lives xs t gen w s None h e = tt
+holder_lives xs t gen w s (Some n) h e = live_here xs n ∙ (h.living s n (sym e)).0
+
+-- whether a source has moved
+pub moved_found : (xs : List Node) (g l w n place : ℕ) → has_moved_body xs (slice_get (sources_in (memo_body (body_at xs n))) place) ≡ has_moved (state_of xs g l w) (slice_get (sources_of (memos_of g xs) n) place)
+moved_found xs g l w n place = ap (λ m. has_moved_body xs (slice_get (sources_in m) place)) (sym (memo_found xs g n)) ∙ go (slice_get (sources_of (memos_of g xs) n) place)
+  where
+    go : (o : Option Source) → has_moved_body xs o ≡ has_moved (state_of xs g l w) o
+    go None = refl
+    go (Some s) = ap (λ m. not (same_number m s.number) || is_some (known_body (body_at xs s.name))) (sym (number_found xs g s.name))
+        ∙ ap (λ k. not (same_number (number_of (memos_of g xs) s.name) s.number) || is_some k) (sym (progress_found xs s.name))
+
+-- the value of a cell
+pub value_found : (xs : List Node) (n : ℕ) → value_here (standing (signals_of xs) n) ≡ value_body (body_at xs n)
+value_found xs n = ap value_here (stands xs n) ∙ go (body_at xs n)
+  where
+    go : (b : Body) → value_here (stands_of n b) ≡ value_body b
+    go Gone = refl
+    go (CellBody v r) = refl
+    go (ComputedBody c) = refl
+
+-- sources with the present numbers of their names
+pub paired_here : (xs : List Node) (g : ℕ) (ns : List ℕ) → paired ns (map (number_at xs) ns) ≡ map (named_now (memos_of g xs)) ns
+paired_here xs g [] = refl
+paired_here xs g (n ∷ ns) =
+    ap (λ (m : Option ℕ). record { name = n; number = m } ∷ paired ns (map (number_at xs) ns)) (sym (number_found xs g n))
+    ∙ ap (λ (r : List Source). named_now (memos_of g xs) n ∷ r) (paired_here xs g ns)
+
+-- the names of such
+pub names_now : (k : Memos) (ns : List ℕ) → source_names (map (named_now k) ns) ≡ ns
+names_now k [] = refl
+names_now k (n ∷ ns) = ap (λ (r : List ℕ). n ∷ r) (names_now k ns)
+
+-- a step of an evaluation leaves what stands there
+pub known_stands : (k : Option (List Known)) (n : ℕ) (xs : List Node) → stands_of n (body_at (changed_at (known_node k) n xs) n) ≡ stands_of n (body_at xs n)
+known_stands k n xs = ap (stands_of n) (body_changed (known_node k) (λ b. with_body_known b k) n n xs (λ x. refl) refl) ∙ go (n == n) (body_at xs n)
+  where
+    go : (t : Bool) (b : Body) → stands_of n (if t then with_body_known b k else b) ≡ stands_of n b
+    go false b = refl
+    go true Gone = refl
+    go true (CellBody v r) = refl
+    go true (ComputedBody c) = refl
+
+-- and its slots
+pub known_slots : (k : Option (List Known)) (n : ℕ) (xs : List Node) → slots_body (body_at (changed_at (known_node k) n xs) n) ≡ slots_body (body_at xs n)
+known_slots k n xs = ap slots_body (body_changed (known_node k) (λ b. with_body_known b k) n n xs (λ x. refl) refl) ∙ go (n == n) (body_at xs n)
+  where
+    go : (t : Bool) (b : Body) → slots_body (if t then with_body_known b k else b) ≡ slots_body b
+    go false b = refl
+    go true Gone = refl
+    go true (CellBody v r) = refl
+    go true (ComputedBody c) = refl
+
+-- an evaluation that goes on is of a node that is there
+pub known_below : (xs : List Node) (n : ℕ) (known : List Known) → GoesOn (known_body (body_at xs n)) known → n < length xs
+known_below xs n known h = computed_below xs n (go (body_at xs n) h)
+  where
+    go : (b : Body) → GoesOn (known_body b) known → is_computed_body b ≡ true
+    go Gone q = absurd q
+    go (CellBody v r) q = absurd q
+    go (ComputedBody c) q = refl

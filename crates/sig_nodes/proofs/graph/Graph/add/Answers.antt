@@ -1,0 +1,60 @@
+use Rattle.std.proofs.Common.{◌≡◌, ◌+◌, ◌++◌, ◌∷◌, [], List, length, sym, ap, ◌∙◌, subst, arith}
+use Rattle.sig_nodes.specs.declared.node.Node.{Node}
+use Rattle.sig_nodes.specs.States.{Seen}
+use Rattle.sig_nodes.specs.Seats.{Seating}
+use Rattle.sig_nodes.specs.Places.{Holds}
+use Rattle.sig_nodes.specs.Nodes.{slots_body, state_of}
+use Rattle.sig_nodes.proofs.Holding.{became, given_below}
+use Rattle.std.proofs.Common.{length-append}
+use Rattle.sig_nodes.specs.Nodes.{new_node, with_new}
+use Rattle.sig_nodes.specs.Seats.{with_taken}
+use Rattle.sig_nodes.proofs.Edits.{new_state}
+use Rattle.sig_nodes.proofs.Holding.{gives, in_all, new_holds}
+use Rattle.sig_nodes.proofs.graph.Graph.add.Goals as goal
+
+pub invariant_of-self-2 : goal.invariant_of-self-2
+invariant_of-self-2 c =
+    let xs = c.self.inside.nodes.items in
+    let items = c.push_in.ensures.items ∙ ap (λ (ys : List Node). ys ++ new_node c.take-seat.result c.args.body ∷ []) c.in_ok-reserve.ensures.items in
+    let kept = ap length c.in_ok-reserve.ensures.items in
+    let number = c.of-id.ensures in
+    let count = c.len.ensures in
+    let id : c.of-id.result ≡ length xs = omega (arith, kept, number, count) in
+    let below = given_below c.args.self.now (state_of xs c.self.inside.generation c.self.inside.looked c.self.inside.worn) c.self.inside.seats.holders (length xs) (slots_body c.args.body) c.self.view_is c.requires.given in
+    let some = c.free.ensures in
+    let h = new_holds xs c.take-seat.result c.args.body c.self.inside.seats c.self.inside.generation c.self.inside.worn c.requires.fresh (λ m. in_all (slots_body c.args.body) (length xs) m below) (omega (arith, some))
+    c.take-seat.ensures.inside c.take-seat.ensures.free c.self.invariant in
+    let seats = c.take-seat.ensures.seats ∙ ap (with_taken c.self.inside.seats c.take-seat.result) id in
+    subst (λ (t : Seating). Holds c.push_in.new.all.items t c.self.inside.generation (c.self.inside.worn + 1)) (sym seats)
+    (subst (λ (ys : List Node). Holds ys (with_taken c.self.inside.seats c.take-seat.result (length xs)) c.self.inside.generation (c.self.inside.worn + 1)) (sym items) h)
+
+pub returns-clause-after : goal.returns-clause-after
+returns-clause-after c =
+    let xs = c.self.inside.nodes.items in
+    let ys = c.push_in.new.all.items in
+    let g = c.self.inside.generation in
+    let l = c.self.inside.looked in
+    let w = c.self.inside.worn in
+    let items = c.push_in.ensures.items ∙ ap (λ (zs : List Node). zs ++ new_node c.take-seat.result c.args.body ∷ []) c.in_ok-reserve.ensures.items in
+    let kept = ap length c.in_ok-reserve.ensures.items in
+    let number = c.of-id.ensures in
+    let count = c.len.ensures in
+    let id : length xs ≡ c.of-id.result = omega (arith, kept, number, count) in
+    let len = ap length items ∙ length-append xs (new_node c.take-seat.result c.args.body ∷ []) in
+    became c.args.self.now (state_of xs g l w) (state_of ys g l (w + 1)) (with_new c.args.self.now.state c.of-id.result c.args.body) c.self.inside.seats.holders c.take-seat.new.self.holders (length xs) (length ys) c.self.view_is (omega (arith, len))
+    (ap (λ zs. state_of zs g l (w + 1)) items ∙ new_state xs c.take-seat.result c.args.body g l w c.requires.fresh ∙ ap (λ n. with_new (state_of xs g l w) n c.args.body) id ∙ ap (λ (s : Seen). with_new s.state c.of-id.result c.args.body) c.self.view_is)
+
+pub returns-clause-gives : goal.returns-clause-gives
+returns-clause-gives c =
+    let xs = c.self.inside.nodes.items in
+    let ys = c.push_in.new.all.items in
+    let g = c.self.inside.generation in
+    let l = c.self.inside.looked in
+    let w = c.self.inside.worn in
+    let items = c.push_in.ensures.items ∙ ap (λ (zs : List Node). zs ++ new_node c.take-seat.result c.args.body ∷ []) c.in_ok-reserve.ensures.items in
+    let kept = ap length c.in_ok-reserve.ensures.items in
+    let number = c.of-id.ensures in
+    let count = c.len.ensures in
+    let id : c.of-id.result ≡ length xs = omega (arith, kept, number, count) in
+    let len = ap length items ∙ length-append xs (new_node c.take-seat.result c.args.body ∷ []) in
+    gives c.args.self.now (state_of ys g l (w + 1)) xs c.self.inside.seats c.take-seat.new.self.holders g l w (length ys) c.of-id.result c.self.view_is id (omega (arith, len)) c.self.invariant

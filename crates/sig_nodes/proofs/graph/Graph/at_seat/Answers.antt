@@ -1,0 +1,11 @@
+use Rattle.std.proofs.Common.{◌≡◌, true, subst}
+use Rattle.std.specs.Prelude.{IfSome}
+use Rattle.signal_model.specs.Standing.{is_there, standing}
+use Rattle.sig_nodes.specs.States.{Seen}
+use Rattle.sig_nodes.proofs.graph.Graph.at_seat.Goals as goal
+use Rattle.sig_nodes.proofs.Looking.{holder_lives}
+
+pub returns-clause-live : goal.returns-clause-live
+returns-clause-live c =
+    subst (λ (s : Seen). IfSome c.holder.result (λ id. is_there (standing s.state.signals id) ≡ true)) c.self.view_is
+    (holder_lives c.self.inside.nodes.items c.self.inside.seats c.self.inside.generation c.self.inside.worn c.args.seat c.holder.result c.self.invariant c.holder.ensures)

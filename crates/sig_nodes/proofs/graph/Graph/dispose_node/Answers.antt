@@ -1,0 +1,73 @@
+use Rattle.std.proofs.Common.{◌+◌, ◌<◌, List, length, refl, sym, ap, ◌∙◌, subst, arith}
+use Rattle.signal_model.specs.Standing.{is_there, standing}
+use Rattle.sig_nodes.specs.declared.node.Node.{Node}
+use Rattle.sig_nodes.specs.Answers.{host_here}
+use Rattle.sig_nodes.specs.States.{Seen, with_disposal}
+use Rattle.sig_nodes.specs.Seats.{Seating, holder}
+use Rattle.sig_nodes.specs.Places.{Holds}
+use Rattle.sig_nodes.specs.Nodes.{body_at, gone_node, is_live_body, stands_of, state_of}
+use Rattle.sig_nodes.proofs.Parts.{stands}
+use Rattle.sig_nodes.proofs.Edits.{changed_length, gone_state}
+use Rattle.sig_nodes.proofs.Holding.{became, gone_holds, live_below, live_here}
+use Rattle.sig_nodes.specs.Nodes.{seat_at}
+use Rattle.sig_nodes.specs.Seats.{with_left}
+use Rattle.std.proofs.Common.{true≢false}
+use Rattle.sig_nodes.proofs.Holding.{seats_taken}
+use Rattle.sig_nodes.proofs.graph.Graph.dispose_node.Goals as goal
+
+pub returns-then-not-is_live_at-clause-gone : goal.returns-then-not-is_live_at-clause-gone
+returns-then-not-is_live_at-clause-gone c =
+    let off = ap (λ (s : Seen). is_there (standing s.state.signals c.args.id)) (sym c.self.view_is) ∙ live_here c.self.inside.nodes.items c.args.id
+    ∙ sym (ap (λ (xs : List Node). is_live_body (body_at xs c.args.id)) c.deref.ensures.value) ∙ sym c.is_live_at.ensures ∙ c.if-not-is_live_at.true in
+    (λ q. off, λ q. refl)
+
+pub seat_at-requires : goal.seat_at-requires
+seat_at-requires c =
+    let live = sym (c.is_live_at.ensures ∙ ap (λ (xs : List Node). is_live_body (body_at xs c.args.id)) c.deref.ensures.value) ∙ c.if-not-is_live_at.false in
+    subst (λ (xs : List Node). c.args.id < length xs) (sym c.deref-3.ensures.value) (live_below c.self.inside.nodes.items c.args.id live)
+
+pub leave-requires-clause-taken : goal.leave-requires-clause-taken
+leave-requires-clause-taken c =
+    let live = sym (c.is_live_at.ensures ∙ ap (λ (xs : List Node). is_live_body (body_at xs c.args.id)) c.deref.ensures.value) ∙ c.if-not-is_live_at.false in
+    ap (holder c.self.inside.seats.holders) (c.seat_at.ensures ∙ ap (λ (xs : List Node). seat_at xs c.args.id) c.deref-3.ensures.value) ∙ c.self.invariant.seated c.args.id live
+
+pub leave-requires-clause-room : goal.leave-requires-clause-room
+leave-requires-clause-room c =
+    let live = sym (c.is_live_at.ensures ∙ ap (λ (xs : List Node). is_live_body (body_at xs c.args.id)) c.deref.ensures.value) ∙ c.if-not-is_live_at.false in
+    seats_taken c.self.inside.nodes.items c.self.inside.seats c.self.inside.generation c.self.inside.worn c.args.id live c.self.invariant
+
+pub dispose_at-requires : goal.dispose_at-requires
+dispose_at-requires c =
+    let live = sym (c.is_live_at.ensures ∙ ap (λ (xs : List Node). is_live_body (body_at xs c.args.id)) c.deref.ensures.value) ∙ c.if-not-is_live_at.false in
+    live_below c.self.inside.nodes.items c.args.id live
+
+pub invariant_of-self : goal.invariant_of-self
+invariant_of-self c =
+    let live = sym (c.is_live_at.ensures ∙ ap (λ (xs : List Node). is_live_body (body_at xs c.args.id)) c.deref.ensures.value) ∙ c.if-not-is_live_at.false in
+    let seat = c.seat_at.ensures ∙ ap (λ (xs : List Node). seat_at xs c.args.id) c.deref-3.ensures.value in
+    let seats = c.leave.ensures ∙ ap (with_left c.self.inside.seats) seat in
+    let h = gone_holds c.args.id c.self.inside.nodes.items c.self.inside.seats c.self.inside.generation c.self.inside.worn live c.self.invariant in
+    subst (λ (t : Seating). Holds c.dispose_at.new.nodes.items t (c.self.inside.generation + 1) (c.self.inside.worn + 1)) (sym seats)
+    (subst (λ (xs : List Node). Holds xs (with_left c.self.inside.seats (seat_at c.self.inside.nodes.items c.args.id)) (c.self.inside.generation + 1) (c.self.inside.worn + 1)) (sym c.dispose_at.ensures) h)
+
+pub returns-clause-after : goal.returns-clause-after
+returns-clause-after c =
+    let xs = c.self.inside.nodes.items in
+    let ys = c.dispose_at.new.nodes.items in
+    let g = c.self.inside.generation in
+    let l = c.self.inside.looked in
+    let w = c.self.inside.worn in
+    let len = ap length c.dispose_at.ensures ∙ changed_length gone_node c.args.id xs in
+    became c.args.self.now (state_of xs g l w) (state_of ys (g + 1) l (w + 1)) (with_disposal c.args.self.now.state c.args.id) c.self.inside.seats.holders c.leave.new.self.holders (length xs) (length ys) c.self.view_is (omega (arith, len))
+    (ap (λ zs. state_of zs (g + 1) l (w + 1)) c.dispose_at.ensures ∙ gone_state xs c.args.id g l w ∙ ap (λ (s : Seen). with_disposal s.state c.args.id) c.self.view_is)
+
+pub returns-clause-host : goal.returns-clause-host
+returns-clause-host c =
+    c.host_at-host.ensures ∙ ap (λ (xs : List Node). host_here (stands_of c.args.id (body_at xs c.args.id))) c.deref-2.ensures.value
+    ∙ ap host_here (sym (stands c.self.inside.nodes.items c.args.id)) ∙ ap (λ (s : Seen). host_here (standing s.state.signals c.args.id)) c.self.view_is
+
+pub returns-clause-gone : goal.returns-clause-gone
+returns-clause-gone c =
+    let live = sym (c.is_live_at.ensures ∙ ap (λ (xs : List Node). is_live_body (body_at xs c.args.id)) c.deref.ensures.value) ∙ c.if-not-is_live_at.false in
+    let there = ap (λ (s : Seen). is_there (standing s.state.signals c.args.id)) (sym c.self.view_is) ∙ live_here c.self.inside.nodes.items c.args.id ∙ live in
+    (λ q. absurd (true≢false (sym q)), λ q. absurd (true≢false (sym there ∙ q)))

@@ -1,0 +1,44 @@
+use Rattle.std.proofs.Common.{◌+◌, List, length, sym, ap, ◌∙◌, subst, arith}
+use Rattle.signal_model.specs.Standing.{standing}
+use Rattle.sig_nodes.specs.declared.node.Node.{Node}
+use Rattle.sig_nodes.specs.Answers.{value_here}
+use Rattle.sig_nodes.specs.States.{Seen, is_cell, with_set}
+use Rattle.sig_nodes.specs.Places.{Holds}
+use Rattle.sig_nodes.specs.Nodes.{set_node, state_of}
+use Rattle.sig_nodes.proofs.Edits.{changed_length, set_state}
+use Rattle.sig_nodes.proofs.Holding.{became, cell_below, cell_here, set_holds}
+use Rattle.sig_nodes.proofs.graph.Graph.replace.Goals as goal
+use Rattle.sig_nodes.proofs.Looking.{value_found}
+
+pub set_value_at-requires-clause-place : goal.set_value_at-requires-clause-place
+set_value_at-requires-clause-place c = let live = cell_here c.self.inside.nodes.items c.args.id (ap (λ (s : Seen). is_cell (standing s.state.signals c.args.id)) c.self.view_is ∙ c.requires.live) in cell_below c.self.inside.nodes.items c.args.id live
+
+pub set_value_at-requires-clause-live : goal.set_value_at-requires-clause-live
+set_value_at-requires-clause-live c = cell_here c.self.inside.nodes.items c.args.id (ap (λ (s : Seen). is_cell (standing s.state.signals c.args.id)) c.self.view_is ∙ c.requires.live)
+
+pub set_value_at-requires-clause-worn : goal.set_value_at-requires-clause-worn
+set_value_at-requires-clause-worn c =
+    let below = c.self.invariant.numbers c.args.id in
+    let wears = ap (λ (s : Seen). s.state.worn) c.self.view_is in
+    let worn = c.requires.worn in
+    omega (arith, below, wears, worn)
+
+pub invariant_of-self : goal.invariant_of-self
+invariant_of-self c =
+    subst (λ (xs : List Node). Holds xs c.self.inside.seats (c.self.inside.generation + 1) (c.self.inside.worn + 1)) (sym c.set_value_at.ensures.nodes)
+    (set_holds c.args.value c.args.id c.self.inside.nodes.items c.self.inside.seats c.self.inside.generation c.self.inside.worn c.self.invariant)
+
+pub returns-clause-after : goal.returns-clause-after
+returns-clause-after c =
+    let xs = c.self.inside.nodes.items in
+    let ys = c.set_value_at.new.nodes.items in
+    let g = c.self.inside.generation in
+    let l = c.self.inside.looked in
+    let w = c.self.inside.worn in
+    let len = ap length c.set_value_at.ensures.nodes ∙ changed_length (set_node c.args.value) c.args.id xs in
+    became c.args.self.now (state_of xs g l w) (state_of ys (g + 1) l (w + 1)) (with_set c.args.self.now.state c.args.id c.args.value) c.self.inside.seats.holders c.self.inside.seats.holders (length xs) (length ys) c.self.view_is (omega (arith, len))
+    (ap (λ zs. state_of zs (g + 1) l (w + 1)) c.set_value_at.ensures.nodes ∙ set_state xs c.args.id c.args.value g l w ∙ ap (λ (s : Seen). with_set s.state c.args.id c.args.value) c.self.view_is)
+
+pub returns-clause-before : goal.returns-clause-before
+returns-clause-before c =
+    sym (ap (λ (s : Seen). value_here (standing s.state.signals c.args.id)) c.self.view_is) ∙ value_found c.self.inside.nodes.items c.args.id ∙ c.set_value_at.ensures.before

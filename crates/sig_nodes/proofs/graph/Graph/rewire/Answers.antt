@@ -1,0 +1,62 @@
+use Rattle.std.proofs.Common.{◌+◌, ◌∷◌, List, length, refl, sym, ap, ◌∙◌, subst, arith}
+use Rattle.signal_model.specs.Standing.{standing}
+use Rattle.sig_nodes.specs.declared.node.Node.{Node}
+use Rattle.sig_nodes.specs.Answers.{expression_of, host_here}
+use Rattle.sig_nodes.specs.Computations.{recipe_made}
+use Rattle.sig_nodes.specs.States.{Seen, is_cell, with_rewiring}
+use Rattle.sig_nodes.specs.Places.{Holds}
+use Rattle.sig_nodes.specs.Nodes.{body_at, is_live_body, rewired_node, are_live_bodies, stands_of, state_of}
+use Rattle.sig_nodes.proofs.Parts.{stands}
+use Rattle.sig_nodes.proofs.Edits.{changed_length, rewired_state}
+use Rattle.sig_nodes.proofs.Holding.{became, given_below, live_below, rewired_holds}
+use Rattle.std.proofs.Common.{true≢false}
+use Rattle.sig_nodes.specs.States.{are_there}
+use Rattle.sig_nodes.proofs.Holding.{all_here, and_left, computed_left}
+use Rattle.sig_nodes.proofs.graph.Graph.rewire.Goals as goal
+
+pub returns-then-not-is_linkable_at-clause-gone : goal.returns-then-not-is_linkable_at-clause-gone
+returns-then-not-is_linkable_at-clause-gone c =
+    let all = ap (λ (s : Seen). are_there s.state.signals (c.args.id ∷ c.args.slots.items)) (sym c.self.view_is) ∙ all_here c.self.inside.nodes.items (c.args.id ∷ c.args.slots.items) ∙ sym (c.is_linkable_at.ensures ∙ (λ i. are_live_bodies (c.deref.ensures.value i) (c.args.id ∷ c.deref-2.ensures.value i)))
+    ∙ c.if-not-is_linkable_at.true in
+    (λ q. all, λ q. refl)
+
+pub rewire_at-requires-clause-place : goal.rewire_at-requires-clause-place
+rewire_at-requires-clause-place c =
+    let all = sym (c.is_linkable_at.ensures ∙ (λ i. are_live_bodies (c.deref.ensures.value i) (c.args.id ∷ c.deref-2.ensures.value i))) ∙ c.if-not-is_linkable_at.false in
+    let live = and_left (is_live_body (body_at c.self.inside.nodes.items c.args.id)) (are_live_bodies c.self.inside.nodes.items c.args.slots.items) all in
+    live_below c.self.inside.nodes.items c.args.id live
+
+pub rewire_at-requires-clause-live : goal.rewire_at-requires-clause-live
+rewire_at-requires-clause-live c =
+    let all = sym (c.is_linkable_at.ensures ∙ (λ i. are_live_bodies (c.deref.ensures.value i) (c.args.id ∷ c.deref-2.ensures.value i))) ∙ c.if-not-is_linkable_at.false in
+    let live = and_left (is_live_body (body_at c.self.inside.nodes.items c.args.id)) (are_live_bodies c.self.inside.nodes.items c.args.slots.items) all in
+    computed_left c.self.inside.nodes.items c.args.id live (ap (λ (s : Seen). is_cell (standing s.state.signals c.args.id)) c.self.view_is ∙ c.requires.kind)
+
+pub invariant_of-self : goal.invariant_of-self
+invariant_of-self c =
+    let xs = c.self.inside.nodes.items in
+    let below = given_below c.args.self.now (state_of xs c.self.inside.generation c.self.inside.looked c.self.inside.worn) c.self.inside.seats.holders (length xs) c.args.slots.items c.self.view_is c.requires.given in
+    subst (λ (ys : List Node). Holds ys c.self.inside.seats (c.self.inside.generation + 1) (c.self.inside.worn + 1)) (sym c.rewire_at.ensures)
+    (rewired_holds (recipe_made (expression_of c.args.recipe) c.args.slots.items) c.args.id xs c.self.inside.seats c.self.inside.generation c.self.inside.worn below c.self.invariant)
+
+pub returns-clause-after : goal.returns-clause-after
+returns-clause-after c =
+    let xs = c.self.inside.nodes.items in
+    let ys = c.rewire_at.new.nodes.items in
+    let g = c.self.inside.generation in
+    let l = c.self.inside.looked in
+    let w = c.self.inside.worn in
+    let len = ap length c.rewire_at.ensures ∙ changed_length (rewired_node (recipe_made (expression_of c.args.recipe) c.args.slots.items)) c.args.id xs in
+    became c.args.self.now (state_of xs g l w) (state_of ys (g + 1) l (w + 1)) (with_rewiring c.args.self.now.state c.args.id (recipe_made (expression_of c.args.recipe) c.args.slots.items)) c.self.inside.seats.holders c.self.inside.seats.holders (length xs) (length ys) c.self.view_is (omega (arith, len))
+    (ap (λ zs. state_of zs (g + 1) l (w + 1)) c.rewire_at.ensures ∙ rewired_state xs c.args.id (recipe_made (expression_of c.args.recipe) c.args.slots.items) g l w ∙ ap (λ (s : Seen). with_rewiring s.state c.args.id (recipe_made (expression_of c.args.recipe) c.args.slots.items)) c.self.view_is)
+
+pub returns-clause-host : goal.returns-clause-host
+returns-clause-host c =
+    c.host_at-host.ensures ∙ ap (λ (xs : List Node). host_here (stands_of c.args.id (body_at xs c.args.id))) c.deref-3.ensures.value
+    ∙ ap host_here (sym (stands c.self.inside.nodes.items c.args.id)) ∙ ap (λ (s : Seen). host_here (standing s.state.signals c.args.id)) c.self.view_is
+
+pub returns-clause-gone : goal.returns-clause-gone
+returns-clause-gone c =
+    let all = sym (c.is_linkable_at.ensures ∙ (λ i. are_live_bodies (c.deref.ensures.value i) (c.args.id ∷ c.deref-2.ensures.value i))) ∙ c.if-not-is_linkable_at.false in
+    let there = ap (λ (s : Seen). are_there s.state.signals (c.args.id ∷ c.args.slots.items)) (sym c.self.view_is) ∙ all_here c.self.inside.nodes.items (c.args.id ∷ c.args.slots.items) ∙ all in
+    (λ q. absurd (true≢false (sym q)), λ q. absurd (true≢false (sym there ∙ q)))

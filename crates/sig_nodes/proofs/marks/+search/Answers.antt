@@ -1,0 +1,44 @@
+use Rattle.std.proofs.Common.{ℕ, ◌<◌, true, List, length, take, sym, ap, ◌∙◌, subst, arith}
+use Rattle.std.specs.Prelude.{slice_set}
+use Rattle.signal_model.specs.Memos.{source_names, sources_in}
+use Rattle.sig_nodes.specs.Nodes.{body_at, memo_body}
+use Rattle.sig_nodes.specs.Search.{is_marked, AreSeated, Explores}
+use Rattle.sig_nodes.proofs.Searching.{due_below, explores_more, explores_new, explores_seen, flag_at, keeps_item, set_fewer, set_size, take_more}
+use Rattle.sig_nodes.proofs.marks.+search.Goals as goal
+
+pub has_due_below-returns-then-has_due_from-clause-found : goal.has_due_below-returns-then-has_due_from-clause-found
+has_due_below-returns-then-has_due_from-clause-found t c = λ q.
+    let xs = c.args.nodes.now in
+    let k = keeps_item xs c.args.generation c.args.id c.sources_at-source-items.result.now c.loop-source.source-index c.source-item.result c.sources_at-source-items.ensures c.loop-source-test.true c.source-item.is in
+    due_below xs c.args.generation c.args.id c.source-item.result k (c.has_due_from.ensures.found c.if-has_due_from.true)
+
+pub has_due_below-loop-source-preserved : goal.has_due_below-loop-source-preserved
+has_due_below-loop-source-preserved t c =
+    let xs = c.args.nodes.now in
+    let items = c.sources_at-source-items.result.now in
+    let i = c.loop-source.source-index in
+    subst (λ (ns : List ℕ). Explores xs c.args.generation c.args.seen.now c.has_due_from.new.seen ns) (sym (take_more items i c.source-item.result c.loop-source-test.true c.source-item.is))
+    (explores_more xs c.args.generation c.args.seen.now c.loop-source.seen c.has_due_from.new.seen (take i items) c.source-item.result c.loop-source.invariant (c.has_due_from.ensures.clear c.if-has_due_from.false))
+
+pub has_due_from-returns-then-seen-seat-clause-clear : goal.has_due_from-returns-then-seen-seat-clause-clear
+has_due_from-returns-then-seen-seat-clause-clear t c = λ q.
+    let up = sym (flag_at c.args.seen.now c.in-Some.seat) ∙ c.if-seen-seat.true in
+    explores_seen c.args.nodes.now c.args.generation c.args.seen.now c.args.id (ap (is_marked c.args.seen.now) (sym c.in-Some.ensures.some.1) ∙ up)
+
+pub has_due_from-has_due_below-requires : goal.has_due_from-has_due_below-requires
+has_due_from-has_due_below-requires t c =
+    let down = sym (flag_at c.args.seen.now c.in-Some.seat) ∙ c.if-seen-seat.false in
+    let some = c.in-Some.ensures.some in
+    let inside = subst (λ s. s < length c.args.seen.now) (sym some.1) (c.requires.below c.args.id some.0) in
+    let fewer = set_fewer c.args.seen.now c.in-Some.seat inside down in
+    let size = set_size c.args.seen.now c.in-Some.seat in
+    (omega (arith, fewer), subst (λ n. AreSeated c.args.nodes.now n) (sym size) c.requires)
+
+pub has_due_from-returns-clause-clear : goal.has_due_from-returns-clause-clear
+has_due_from-returns-clause-clear t c = λ q.
+    let xs = c.args.nodes.now in
+    let some = c.in-Some.ensures.some in
+    let down = sym (flag_at c.args.seen.now c.in-Some.seat) ∙ c.if-seen-seat.false in
+    let e = c.has_due_below.ensures.clear q in
+    explores_new xs c.args.generation c.args.seen.now c.has_due_below.new.seen c.args.id c.requires some.0 (ap (is_marked c.args.seen.now) (sym some.1) ∙ down) (sym c.is_due.ensures ∙ c.if-is_due.false)
+    (subst (λ s. Explores xs c.args.generation (slice_set c.args.seen.now s true) c.has_due_below.new.seen (source_names (sources_in (memo_body (body_at xs c.args.id))))) some.1 e)

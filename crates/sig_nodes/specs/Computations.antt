@@ -1,0 +1,25 @@
+-- What is kept of one computed.
+use Rattle.std.specs.Prelude.{ℕ, List, [], ◌∷◌, Option}
+use Rattle.sig_base.specs.declared.value.Known.{Known}
+use Rattle.signal_model.specs.Recipes.{Expression, Recipe}
+use Rattle.signal_model.specs.Memos.{Source, Memo, Memos}
+
+-- its recipe, its memo where it has run, and while it is computing the values that its recipe was last asked with
+pub record Computation : Type 0 where
+  pub recipe : Recipe
+  pub memo : Option Memo
+  pub known : Option (List Known)
+
+-- sources, from their names and from the numbers that were read
+abbrev pub paired : List ℕ → List (Option ℕ) → List Source
+paired [] _ = []
+paired (n ∷ ns) [] = []
+paired (n ∷ ns) (m ∷ ms) = record { name = n; number = m } ∷ paired ns ms
+
+-- a recipe of an expression and of the signals of its slots
+abbrev pub recipe_made : Expression → List ℕ → Recipe
+recipe_made e slots = record { expression = e; slots = slots }
+
+-- a generation, in which nothing is kept
+abbrev pub at_generation : ℕ → Memos
+at_generation generation = record { generation = generation; entries = [] }

@@ -1,0 +1,7 @@
+pub mod States
+pub mod Answers
+pub mod Computations
+pub mod Nodes
+pub mod Seats
+pub mod Places
+pub mod Search

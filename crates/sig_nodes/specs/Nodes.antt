@@ -1,0 +1,231 @@
+-- What the nodes of a graph stand for.
+use Rattle.std.specs.Prelude.{◌≡◌, ℕ, zero, suc, ◌+◌, ◌||◌, ◌&&◌, not, Bool, true, false, List, [], ◌∷◌, ◌++◌, Option, Some, None, is_some, if◌then◌else◌}
+use Rattle.sig_base.specs.declared.value.Value.{Value}
+use Rattle.sig_base.specs.declared.value.Known.{Known}
+use Rattle.signal_model.specs.Recipes.{Recipe}
+use Rattle.signal_model.specs.Standing.{Signals, Cell, Computed, Stands, IsGone, IsCell, IsComputed}
+use Rattle.signal_model.specs.Memos.{Source, Memo, Entry, Memos, same_number}
+use Rattle.signal_model.specs.Settling.{has_outcome}
+use Rattle.signal_model.specs.Changes.{memo_rewired}
+use Rattle.sig_nodes.specs.States.{State, Progress, with_new_cell, with_new_computed}
+use Rattle.sig_nodes.specs.declared.node.Node.{Node}
+use Rattle.sig_nodes.specs.declared.node.Body.{Body}
+use Rattle.sig_nodes.specs.declared.node.Body.TheVariants.{Gone, Cell as CellBody, Computed as ComputedBody}
+
+-- the cell in a body, under this name
+abbrev pub cell_part : ℕ → Body → List Cell
+cell_part n (CellBody v r) = record { name = n; value = v; rule = r } ∷ []
+cell_part n _ = []
+
+-- the computed in a body
+abbrev pub computed_part : ℕ → Body → List Computed
+computed_part n (ComputedBody c) = record { name = n; recipe = c.recipe } ∷ []
+computed_part n _ = []
+
+-- the entry of a body with this change number
+abbrev pub entry_part : ℕ → ℕ → Body → List Entry
+entry_part n number Gone = []
+entry_part n number (CellBody v r) = record { name = n; number = number; memo = None } ∷ []
+entry_part n number (ComputedBody c) = record { name = n; number = number; memo = c.memo } ∷ []
+
+-- how far a computed's evaluation is
+abbrev pub progress_part : ℕ → Body → List Progress
+progress_part n (ComputedBody c) = record { name = n; known = c.known } ∷ []
+progress_part n _ = []
+
+-- what the nodes from place n on give, one after the other
+abbrev pub parts : {A : Type 0} → (ℕ → Node → List A) → ℕ → List Node → List A
+parts f n [] = []
+parts f n (x ∷ xs) = f n x ++ parts f (n + 1) xs
+
+-- the cells, each under its place
+abbrev pub cells_of : List Node → List Cell
+cells_of xs = parts (λ n x. cell_part n x.body) 0 xs
+
+-- the computeds
+abbrev pub computeds_of : List Node → List Computed
+computeds_of xs = parts (λ n x. computed_part n x.body) 0 xs
+
+-- the entries
+abbrev pub entries_of : List Node → List Entry
+entries_of xs = parts (λ n x. entry_part n x.number x.body) 0 xs
+
+-- the progress of each computed
+abbrev pub progress_of : List Node → List Progress
+progress_of xs = parts (λ n x. progress_part n x.body) 0 xs
+
+-- the signals that stand
+abbrev pub signals_of : List Node → Signals
+signals_of xs = record { cells = cells_of xs; computeds = computeds_of xs }
+
+-- what is kept of them
+abbrev pub memos_of : ℕ → List Node → Memos
+memos_of g xs = record { generation = g; entries = entries_of xs }
+
+-- the state that nodes and counters make
+abbrev pub state_of : List Node → ℕ → ℕ → ℕ → State
+state_of xs generation looked worn = record {
+  signals = signals_of xs;
+  memos = memos_of generation xs;
+  progress = progress_of xs;
+  looked = looked;
+  worn = worn;
+}
+
+-- ---- one node
+
+-- the body at a place, and past the end there is none
+abbrev pub body_at : List Node → ℕ → Body
+body_at [] n = Gone
+body_at (x ∷ xs) zero = x.body
+body_at (x ∷ xs) (suc n) = body_at xs n
+
+-- the change number at a place
+abbrev pub change_at : List Node → ℕ → ℕ
+change_at [] n = 0
+change_at (x ∷ xs) zero = x.number
+change_at (x ∷ xs) (suc n) = change_at xs n
+
+-- the seat at a place
+abbrev pub seat_at : List Node → ℕ → ℕ
+seat_at [] n = 0
+seat_at (x ∷ xs) zero = x.seat
+seat_at (x ∷ xs) (suc n) = seat_at xs n
+
+-- the node at a place changes
+abbrev pub changed_at : (Node → Node) → ℕ → List Node → List Node
+changed_at f n [] = []
+changed_at f zero (x ∷ xs) = f x ∷ xs
+changed_at f (suc n) (x ∷ xs) = x ∷ changed_at f n xs
+
+-- what stands there under this name
+abbrev pub stands_of : ℕ → Body → Stands
+stands_of n Gone = IsGone
+stands_of n (CellBody v r) = IsCell (record { name = n; value = v; rule = r })
+stands_of n (ComputedBody c) = IsComputed (record { name = n; recipe = c.recipe })
+
+-- its entry
+abbrev pub entry_of : ℕ → ℕ → Body → Option Entry
+entry_of n number Gone = None
+entry_of n number (CellBody v r) = Some (record { name = n; number = number; memo = None })
+entry_of n number (ComputedBody c) = Some (record { name = n; number = number; memo = c.memo })
+
+-- whether a signal lives in the body
+abbrev pub is_live_body : Body → Bool
+is_live_body Gone = false
+is_live_body _ = true
+
+-- whether signals live at all of these places
+abbrev pub are_live_bodies : List Node → List ℕ → Bool
+are_live_bodies xs [] = true
+are_live_bodies xs (n ∷ ns) = is_live_body (body_at xs n) && are_live_bodies xs ns
+
+-- whether a cell does
+abbrev pub is_cell_body : Body → Bool
+is_cell_body (CellBody v r) = true
+is_cell_body _ = false
+
+-- whether a computed does
+abbrev pub is_computed_body : Body → Bool
+is_computed_body (ComputedBody c) = true
+is_computed_body _ = false
+
+-- a cell's value
+abbrev pub value_body : Body → Option Value
+value_body (CellBody v r) = Some v
+value_body _ = None
+
+-- a cell's rule
+abbrev pub rule_body : Body → Option ℕ
+rule_body (CellBody v r) = r
+rule_body _ = None
+
+-- a computed's memo
+abbrev pub memo_body : Body → Option Memo
+memo_body (ComputedBody c) = c.memo
+memo_body _ = None
+
+-- a computed's progress
+abbrev pub known_body : Body → Option (List Known)
+known_body (ComputedBody c) = c.known
+known_body _ = None
+
+-- the signals of a computed's slots
+abbrev pub slots_body : Body → List ℕ
+slots_body (ComputedBody c) = c.recipe.slots
+slots_body _ = []
+
+-- a signal's change number, none where it is gone
+abbrev pub number_body : ℕ → Body → Option ℕ
+number_body m Gone = None
+number_body m _ = Some m
+
+-- the change number of a place, none where nothing lives there
+abbrev pub number_at : List Node → ℕ → Option ℕ
+number_at xs n = number_body (change_at xs n) (body_at xs n)
+
+-- whether a source has another number than the one that was read
+abbrev pub has_differed : List Node → Option Source → Bool
+has_differed xs None = false
+has_differed xs (Some s) = not (same_number (number_at xs s.name) s.number)
+
+-- whether a source has another number than the one that was read, or is computing
+abbrev pub has_moved_body : List Node → Option Source → Bool
+has_moved_body xs None = false
+has_moved_body xs (Some s) = not (same_number (number_at xs s.name) s.number) || is_some (known_body (body_at xs s.name))
+
+-- a cell's body with another value
+abbrev pub with_body_value : Body → Value → Body
+with_body_value (CellBody v r) w = CellBody w r
+with_body_value b w = b
+
+-- a computed's body after a run
+abbrev pub with_body_memo : Body → Memo → Body
+with_body_memo (ComputedBody c) m = ComputedBody (record c { memo = Some m; known = None })
+with_body_memo b m = b
+
+-- a computed's body with another recipe
+abbrev pub with_body_recipe : Body → Recipe → Body
+with_body_recipe (ComputedBody c) r = ComputedBody (record c { recipe = r; memo = memo_rewired c.memo })
+with_body_recipe b r = b
+
+-- a computed's body at another point of its evaluation
+abbrev pub with_body_known : Body → Option (List Known) → Body
+with_body_known (ComputedBody c) k = ComputedBody (record c { known = k })
+with_body_known b k = b
+
+-- a set of a node
+abbrev pub set_node : Value → Node → Node
+set_node v x = record x { number = x.number + 1; body = with_body_value x.body v }
+
+-- a run of a node
+abbrev pub run_node : Memo → Node → Node
+run_node m x = record x { number = x.number + (if has_outcome (memo_body x.body) m.outcome then 0 else 1); body = with_body_memo x.body m }
+
+-- a rewiring of a node
+abbrev pub rewired_node : Recipe → Node → Node
+rewired_node r x = record x { number = x.number + 1; body = with_body_recipe x.body r }
+
+-- a step of a node's evaluation
+abbrev pub known_node : Option (List Known) → Node → Node
+known_node k x = record x { body = with_body_known x.body k }
+
+-- a node whose signal is gone
+abbrev pub gone_node : Node → Node
+gone_node x = record x { body = Gone }
+
+-- a node as it is made
+abbrev pub new_node : ℕ → Body → Node
+new_node seat b = record { number = 0; seat = seat; body = b }
+
+-- a state with one signal more
+abbrev pub with_new : State → ℕ → Body → State
+with_new s n Gone = s
+with_new s n (CellBody v r) = with_new_cell s (record { name = n; value = v; rule = r })
+with_new s n (ComputedBody c) = with_new_computed s (record { name = n; recipe = c.recipe })
+
+-- a body as it is made: a computed has not run and isn't computing
+abbrev pub IsFresh : Body → Type 0
+IsFresh Gone = ⊥
+IsFresh (CellBody v r) = Unit {0}
+IsFresh (ComputedBody c) = (c.memo ≡ None) × (c.known ≡ None)

@@ -1,0 +1,42 @@
+-- The search for a computed that must run, along kept sources.
+use Rattle.std.specs.Prelude.{◌≡◌, ℕ, zero, suc, ◌+◌, ◌<◌, ◌≤◌, ◌⊎◌, Bool, true, false, List, [], ◌∷◌, length, if◌then◌else◌}
+use Rattle.signal_model.specs.Standing.{is_in}
+use Rattle.signal_model.specs.Memos.{keeps}
+use Rattle.signal_model.specs.Marks.{HasBelow, is_due}
+use Rattle.sig_nodes.specs.declared.node.Node.{Node}
+use Rattle.sig_nodes.specs.Nodes.{body_at, is_computed_body, memos_of, seat_at, signals_of}
+
+-- whether the flag of a seat is up
+abbrev pub is_marked : List Bool → ℕ → Bool
+is_marked [] s = false
+is_marked (t ∷ ts) zero = t
+is_marked (t ∷ ts) (suc s) = is_marked ts s
+
+-- how many flags are down
+abbrev pub unmarked : List Bool → ℕ
+unmarked [] = 0
+unmarked (t ∷ ts) = (if t then 0 else 1) + unmarked ts
+
+-- whether a computed must run
+abbrev pub is_due_at : List Node → ℕ → ℕ → Bool
+is_due_at xs g n = is_due (signals_of xs) (memos_of g xs) n
+
+-- a name, or one that is kept below it, must run
+abbrev pub HasDue : List Node → ℕ → ℕ → Type 0
+HasDue xs g n = (is_due_at xs g n ≡ true) ⊎ HasBelow (is_due_at xs g) (memos_of g xs) n
+
+-- each computed has its own flag among so many
+pub record AreSeated (xs : List Node) (count : ℕ) : Type 0 where
+  pub below : (n : ℕ) → is_computed_body (body_at xs n) ≡ true → seat_at xs n < count
+  pub one : (n m : ℕ) → is_computed_body (body_at xs n) ≡ true → is_computed_body (body_at xs m) ≡ true → seat_at xs n ≡ seat_at xs m → n ≡ m
+
+-- The flags after a search that found nothing: no flag went down, those of the names' computeds are up, and each computed whose flag
+-- went up needn't run and keeps only computeds whose flags are up.
+pub record Explores (xs : List Node) (g : ℕ) (old new : List Bool) (names : List ℕ) : Type 0 where
+  pub size : length new ≡ length old
+  pub more : (s : ℕ) → is_marked old s ≡ true → is_marked new s ≡ true
+  pub here : (m : ℕ) → is_in m names ≡ true → is_computed_body (body_at xs m) ≡ true → is_marked new (seat_at xs m) ≡ true
+  pub calm : (m : ℕ) → is_computed_body (body_at xs m) ≡ true → is_marked old (seat_at xs m) ≡ false → is_marked new (seat_at xs m) ≡ true → is_due_at xs g m ≡ false
+  pub closed : (m p : ℕ) → is_computed_body (body_at xs m) ≡ true → is_marked old (seat_at xs m) ≡ false → is_marked new (seat_at xs m) ≡ true →
+      keeps (memos_of g xs) m p ≡ true → is_computed_body (body_at xs p) ≡ true → is_marked new (seat_at xs p) ≡ true
+  pub fewer : unmarked new ≤ unmarked old

@@ -1,0 +1,32 @@
+-- The seats of live signals.
+use Rattle.std.specs.Prelude.{◌≡◌, ℕ, zero, suc, ◌+◌, ◌-◌, ◌<◌, ◌≤◌, true, List, [], ◌∷◌, length, Option, Some, None, slice_set}
+use Rattle.sig_base.specs.declared.limits.TheConstants.{MOST_NODES}
+use Rattle.signal_model.specs.Standing.{is_in}
+use Rattle.signal_model.specs.Laws.{AreDistinct}
+
+-- who has each seat, and how many are free
+pub record Seating : Type 0 where
+  pub holders : List (Option ℕ)
+  pub free : ℕ
+
+-- who has a seat; past the last seat nobody
+abbrev pub holder : List (Option ℕ) → ℕ → Option ℕ
+holder [] s = None
+holder (h ∷ hs) zero = h
+holder (h ∷ hs) (suc s) = holder hs s
+
+-- a free seat is taken
+abbrev pub with_taken : Seating → ℕ → ℕ → Seating
+with_taken t s n = record { holders = slice_set t.holders s (Some n); free = t.free - 1 }
+
+-- a seat is left
+abbrev pub with_left : Seating → ℕ → Seating
+with_left t s = record { holders = slice_set t.holders s None; free = t.free + 1 }
+
+-- What holds of a table of seats and its list of free ones: nobody has those, each stands there once, and there is room for all.
+pub record AreSeats (holders : List (Option ℕ)) (free : List ℕ) (capacity : ℕ) : Type 0 where
+  pub size : length holders ≡ MOST_NODES
+  pub inside : (s : ℕ) → is_in s free ≡ true → s < length holders
+  pub nobody : (s : ℕ) → is_in s free ≡ true → holder holders s ≡ None
+  pub once : AreDistinct free
+  pub room : MOST_NODES ≤ capacity

@@ -1,0 +1,39 @@
+// What is handed in of a computed, and what a graph answers about one.
+
+use sig_base::Step;
+use sig_formula::Formula;
+
+/// What a computed asks.
+#[derive(Debug, Drop)]
+pub enum Recipe {
+    Formula(Formula),
+}
+
+/// The answer of a recipe to the values known so far.
+#[derive(Debug, Drop)]
+pub enum Asked {
+    Step(Step),
+}
+
+/// What has to be done before a computed's kept outcome may be given again.
+#[derive(Clone, Copy, Debug, PartialEq, Eq)]
+pub enum Mark {
+    /// Nothing.
+    Clean,
+    /// It doesn't have to run, but something that it keeps as a source does, perhaps far below.
+    Checked,
+    /// It has to run.
+    Dirty,
+}
+
+/// What stands under an id.
+#[derive(Clone, Copy, Debug, PartialEq, Eq)]
+pub enum Standing {
+    /// Nothing: the signal was disposed.
+    Gone,
+    Cell,
+    /// A computed that isn't being evaluated.
+    Computed,
+    /// A computed that is being evaluated.
+    Computing,
+}

@@ -1,0 +1,264 @@
+// What the nodes of a graph answer about the signal at one place. Past the last place nothing lives.
+ghost use Rattle.std.specs.Prelude.{◌≡◌, ◌<◌, ◌∷◌, ◌||◌, ◌&&◌, not, length, map, is_some, true, false, None, Some, IfOk, IfSome, IfNone, slice_get};
+ghost use Rattle.std.specs.Option.{option_copied};
+ghost use Rattle.signal_model.specs.Recipes.{Hosts};
+ghost use Rattle.signal_model.specs.Standing.{is_computed};
+ghost use Rattle.signal_model.specs.Memos.{is_stale_by, same_number, source_names, sources_in};
+ghost use Rattle.signal_model.specs.Sound.{kept_outcome};
+ghost use Rattle.sig_nodes.specs.declared.node.Body.TheVariants as body;
+ghost use Rattle.sig_nodes.specs.Answers.{answer_here, host_here, kind_here, rule_here, slots_here, value_here, IsJudged};
+ghost use Rattle.sig_nodes.specs.Nodes.{are_live_bodies, body_at, change_at, has_moved_body, is_computed_body, is_live_body, known_body, memo_body, number_at, number_body, seat_at, slots_body, stands_of};
+ghost use Rattle.sig_nodes.specs.Computations.{at_generation};
+
+use crate::answers::{Recipe, Standing};
+use crate::node::{Body, Computation, Node, Source};
+use sig_base::{Known, NoMemory, NodeId, Outcome, Step, Value};
+use std::alloc::Global;
+
+/// What lives at a place, none past the last place.
+pub(crate) fn body_at(nodes: &[Node], id: NodeId) -> Option<&Body>
+    ensures some { IfSome result (λ b. b.now ≡ body_at nodes.now id) }
+    ensures none { IfNone result (body_at nodes.now id ≡ body.Gone) }
+{
+    if id.number() < nodes.len() as u128 {
+        Some(&nodes[id.number() as usize].body)
+    } else {
+        None
+    }
+}
+
+/// The computed that lives there.
+pub(crate) fn computation_at(nodes: &[Node], id: NodeId) -> Option<&Computation>
+    ensures some { IfSome result (λ c. body_at nodes.now id ≡ body.Computed c.now) }
+    ensures none { IfNone result (is_computed_body (body_at nodes.now id) ≡ false) }
+{
+    match body_at(nodes, id) {
+        Some(Body::Computed(computation)) => Some(computation),
+        _ => None,
+    }
+}
+
+/// The seat of a live signal.
+pub(crate) fn seat_at(nodes: &[Node], id: NodeId) -> usize
+    requires { id < length nodes.now }
+    ensures { result ≡ seat_at nodes.now id }
+{
+    let _count = nodes.len();
+    nodes[id.number() as usize].seat
+}
+
+/// Whether a signal lives there.
+pub(crate) fn is_live_at(nodes: &[Node], id: NodeId) -> bool
+    ensures { result ≡ is_live_body (body_at nodes.now id) }
+{
+    match body_at(nodes, id) {
+        Some(Body::Cell(_, _)) => true,
+        Some(Body::Computed(_)) => true,
+        _ => false,
+    }
+}
+
+// Whether all of these live.
+fn are_live_at(nodes: &[Node], ids: &[NodeId]) -> bool
+    ensures { result ≡ are_live_bodies nodes.now ids.now }
+{
+    for id in ids {
+        if !is_live_at(nodes, *id) {
+            return false;
+        }
+    }
+    true
+}
+
+/// Whether a signal lives there, and all that its slots would stand for.
+pub(crate) fn is_linkable_at(nodes: &[Node], id: NodeId, slots: &[NodeId]) -> bool
+    ensures { result ≡ are_live_bodies nodes.now (id ∷ slots.now) }
+{
+    is_live_at(nodes, id) && are_live_at(nodes, slots)
+}
+
+/// What stands there.
+pub(crate) fn standing_at(nodes: &[Node], id: NodeId) -> Standing
+    ensures { result ≡ kind_here (stands_of id (body_at nodes.now id)) (is_some (known_body (body_at nodes.now id))) }
+{
+    match body_at(nodes, id) {
+        Some(Body::Cell(_, _)) => Standing::Cell,
+        Some(Body::Computed(computation)) => {
+            if computation.is_computing() {
+                Standing::Computing
+            } else {
+                Standing::Computed
+            }
+        }
+        _ => Standing::Gone,
+    }
+}
+
+/// Whether a computed there is computing.
+pub(crate) fn is_computing_at(nodes: &[Node], id: NodeId) -> bool
+    ensures { result ≡ is_some (known_body (body_at nodes.now id)) }
+{
+    match body_at(nodes, id) {
+        Some(Body::Computed(computation)) => computation.is_computing(),
+        _ => false,
+    }
+}
+
+/// A cell's value.
+pub(crate) fn value_at(nodes: &[Node], id: NodeId) -> Option<&Value>
+    ensures { option_copied result ≡ value_here (stands_of id (body_at nodes.now id)) }
+{
+    match body_at(nodes, id) {
+        Some(Body::Cell(value, _)) => Some(value),
+        _ => None,
+    }
+}
+
+/// The place of a cell's equality rule.
+pub(crate) fn rule_at(nodes: &[Node], id: NodeId) -> Option<usize>
+    ensures { result ≡ rule_here (stands_of id (body_at nodes.now id)) }
+{
+    match body_at(nodes, id) {
+        Some(Body::Cell(_, rule)) => *rule,
+        _ => None,
+    }
+}
+
+/// The place of the host formula that a computed asks.
+pub(crate) fn host_at(nodes: &[Node], id: NodeId) -> Option<usize>
+    ensures { result ≡ host_here (stands_of id (body_at nodes.now id)) }
+{
+    match body_at(nodes, id) {
+        Some(Body::Computed(computation)) => computation.host(),
+        _ => None,
+    }
+}
+
+/// The signal that a computed's slot stands for.
+pub(crate) fn slot_at(nodes: &[Node], id: NodeId, slot: u32) -> Option<NodeId>
+    ensures { result ≡ slice_get (slots_body (body_at nodes.now id)) slot }
+{
+    match body_at(nodes, id) {
+        Some(Body::Computed(computation)) => computation.slot(slot),
+        _ => None,
+    }
+}
+
+/// The outcome that a computed keeps.
+pub(crate) fn kept_at(nodes: &[Node], id: NodeId) -> Option<&Outcome>
+    ensures { option_copied result ≡ kept_outcome (memo_body (body_at nodes.now id)) }
+{
+    match body_at(nodes, id) {
+        Some(Body::Computed(computation)) => computation.kept(),
+        _ => None,
+    }
+}
+
+/// The sources that a computed keeps.
+pub(crate) fn sources_at(nodes: &[Node], id: NodeId) -> &[NodeId]
+    ensures { result.now ≡ source_names (sources_in (memo_body (body_at nodes.now id))) }
+{
+    match body_at(nodes, id) {
+        Some(Body::Computed(computation)) => computation.sources(),
+        _ => &[],
+    }
+}
+
+// The kept source at a place of a computed's.
+fn source_at(nodes: &[Node], id: NodeId, place: usize) -> Option<Source>
+    ensures { result ≡ slice_get (sources_in (memo_body (body_at nodes.now id))) place }
+{
+    match body_at(nodes, id) {
+        Some(Body::Computed(computation)) => computation.source(place),
+        _ => None,
+    }
+}
+
+/// Whether a computed has to run whatever its sources are.
+pub(crate) fn is_stale_at(nodes: &[Node], generation: u128, id: NodeId) -> bool
+    ensures { result ≡ is_stale_by (at_generation generation) (memo_body (body_at nodes.now id)) }
+{
+    match body_at(nodes, id) {
+        Some(Body::Computed(computation)) => computation.is_stale(generation),
+        _ => true,
+    }
+}
+
+/// The recipe's answer of the computed there.
+pub(crate) fn answer_at(
+    alloc: Global,
+    nodes: &[Node],
+    id: NodeId,
+    known: &[Known],
+) -> Result<Step, NoMemory>
+    requires { is_computed_body (body_at nodes.now id) ≡ true }
+    ensures answer { (hosts : Hosts) → IfOk result (λ s. s ≡ answer_here hosts (stands_of id (body_at nodes.now id)) known.now) }
+    ensures judged { IfOk result (λ s. IsJudged (length (slots_body (body_at nodes.now id))) known.now s) }
+{
+    match computation_at(nodes, id) {
+        Some(computation) => computation.answer(alloc, known),
+        None => unreachable!(),
+    }
+}
+
+// The change number of a signal, none where it is gone.
+fn number_at(nodes: &[Node], id: NodeId) -> Option<u128>
+    ensures { result ≡ number_at nodes.now id }
+{
+    if id.number() < nodes.len() as u128 {
+        number_of(&nodes[id.number() as usize])
+    } else {
+        None
+    }
+}
+
+fn number_of(node: &Node) -> Option<u128>
+    ensures { result ≡ number_body node.now.number node.now.body }
+{
+    match node.body {
+        Body::Gone => None,
+        _ => Some(node.number),
+    }
+}
+
+/// The present change numbers of these.
+pub(crate) fn numbers_now(
+    alloc: Global,
+    nodes: &[Node],
+    ids: &[NodeId],
+) -> Result<Vec<Option<u128>>, NoMemory>
+    ensures { IfOk result (λ v. v.items ≡ map (number_at nodes.now) ids.now) }
+{
+    let mut numbers = Vec::with_capacity(alloc, ids.len())?;
+    for id in ids {
+        numbers.push(number_at(nodes, *id))?;
+    }
+    Ok(numbers)
+}
+
+fn same_number(a: Option<u128>, b: Option<u128>) -> bool
+    ensures { result ≡ same_number a b }
+{
+    match (a, b) {
+        (None, None) => true,
+        (Some(m), Some(n)) => m == n,
+        _ => false,
+    }
+}
+
+/// Whether a source has another number than the one that was read.
+pub(crate) fn differs(nodes: &[Node], source: Source) -> bool
+    ensures { result ≡ not (same_number (number_at nodes.now source.name) source.number) }
+{
+    !same_number(number_at(nodes, source.name), source.number)
+}
+
+/// Whether a computed's kept source at a place has another number than the one that was read, or is computing.
+pub(crate) fn moved_at(nodes: &[Node], id: NodeId, place: usize) -> bool
+    ensures { result ≡ has_moved_body nodes.now (slice_get (sources_in (memo_body (body_at nodes.now id))) place) }
+{
+    match source_at(nodes, id, place) {
+        Some(source) => differs(nodes, source) || is_computing_at(nodes, source.name),
+        None => false,
+    }
+}

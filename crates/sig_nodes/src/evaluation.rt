@@ -1,0 +1,105 @@
+// The calls of an evaluation.
+ghost use Rattle.std.specs.Prelude.{◌≡◌, ◌<◌, [], length, take, true, false, None, Some, IfOk, IfSome, OnOk, slice_get};
+ghost use Rattle.std.specs.List.{All};
+ghost use Rattle.signal_model.specs.Recipes.{Hosts};
+ghost use Rattle.signal_model.specs.Standing.{is_computed, standing};
+ghost use Rattle.signal_model.specs.Memos.{is_stale, must_run, sources_of};
+ghost use Rattle.sig_nodes.specs.declared.answers.Asked.TheVariants as asked;
+ghost use Rattle.sig_nodes.specs.Answers.{answer_here, has_moved, slots_here, IsJudgedAnswer};
+ghost use Rattle.sig_nodes.specs.States.{counted, is_computing, is_given, progress_at, with_kept_run, with_look, with_progress, Becomes, CanWear, GoesOn};
+
+use crate::answers::Asked;
+use crate::bodies::{answer_at, is_stale_at, moved_at, numbers_now};
+use crate::graph::Graph;
+use crate::node::Memo;
+use crate::store::{begin_at, end_at, keep_memo_at, note_at};
+use sig_base::{Known, NoMemory, NodeId, Outcome};
+
+// One counted step more.
+fn counted(looked: u128) -> u128
+    ensures { result ≡ counted looked }
+{
+    if looked < u128::MAX {
+        looked + 1
+    } else {
+        looked
+    }
+}
+
+impl Graph {
+    /// Begins the evaluation of a computed, which is computing from then on.
+    pub fn begin(&mut self, id: NodeId)
+        requires live { is_computed (standing self.old.state.signals id) ≡ true }
+        requires idle { is_computing self.old.state id ≡ false }
+        ensures { Becomes self.old self.new (with_progress self.old.state id (Some [])) }
+    {
+        let _count = self.nodes.len();
+        begin_at(&mut self.nodes, id);
+    }
+
+    /// The answer of a computed's recipe to the values known so far, which begin with those of the last such call of this
+    /// evaluation. It is a counted step. Without memory the graph may only be dropped.
+    pub fn recipe(&mut self, id: NodeId, known: &[Known]) -> Result<Asked, NoMemory>
+        requires { GoesOn (progress_at id self.old.state.progress) known.now }
+        ensures answer { (hosts : Hosts) → IfOk result (λ a. a ≡ asked.Step (answer_here hosts (standing self.old.state.signals id) known.now)) }
+        ensures judged { IfOk result (λ a. IsJudgedAnswer (length (slots_here (standing self.old.state.signals id))) known.now a) }
+        ensures after { OnOk result (Becomes self.old self.new (with_look (with_progress self.old.state id (Some known.now)))) }
+    {
+        let _count = self.nodes.len();
+        self.looked = counted(self.looked);
+        note_at(&mut self.nodes, id, known)?;
+        let step = answer_at(self.alloc, &self.nodes, id, known)?;
+        Ok(Asked::Step(step))
+    }
+
+    /// Whether a computed has to run whatever its sources are: it has never run, holds `cycle` of an earlier generation, or holds
+    /// another outcome and was rewired since. It is a counted step.
+    pub fn stale(&mut self, id: NodeId) -> bool
+        ensures stale { result ≡ is_stale self.old.state.memos id }
+        ensures after { Becomes self.old self.new (with_look self.old.state) }
+    {
+        self.looked = counted(self.looked);
+        is_stale_at(&self.nodes, self.generation, id)
+    }
+
+    /// Whether the kept source at a place has another number than the one that was read, or is computing. It is a counted step.
+    pub fn moved(&mut self, id: NodeId, place: usize) -> bool
+        requires { place < length (sources_of self.old.state.memos id) }
+        ensures moved { result ≡ has_moved self.old.state (slice_get (sources_of self.old.state.memos id) place) }
+        ensures after { Becomes self.old self.new (with_look self.old.state) }
+    {
+        self.looked = counted(self.looked);
+        moved_at(&self.nodes, id, place)
+    }
+
+    /// Ends an evaluation with a run: the computed keeps its outcome, and what it read with the present numbers. Its own number
+    /// rises where it kept no such outcome. Without memory the graph may only be dropped.
+    pub fn keep_run(
+        &mut self,
+        id: NodeId,
+        outcome: Outcome,
+        reads: Vec<NodeId>,
+    ) -> Result<(), NoMemory>
+        requires computing { is_computing self.old.state id ≡ true }
+        requires given { All (λ n. is_given self.old n ≡ true) reads.items }
+        requires worn { CanWear self.old.state }
+        ensures { OnOk result (Becomes self.old self.new (with_kept_run self.old.state id outcome reads.items)) }
+    {
+        let _count = self.nodes.len();
+        let numbers = numbers_now(self.alloc, &self.nodes, &reads)?;
+        self.worn += 1;
+        let memo = Memo::new(outcome, reads, numbers, self.generation);
+        keep_memo_at(&mut self.nodes, id, memo);
+        Ok(())
+    }
+
+    /// Ends an evaluation without a run, of a computed that doesn't have to run.
+    pub fn stop(&mut self, id: NodeId)
+        requires computing { is_computing self.old.state id ≡ true }
+        requires calm { must_run self.old.state.memos id [] ≡ false }
+        ensures { Becomes self.old self.new (with_progress self.old.state id None) }
+    {
+        let _count = self.nodes.len();
+        end_at(&mut self.nodes, id);
+    }
+}

@@ -1,0 +1,181 @@
+// The graph, and how signals are made, changed and disposed.
+ghost use Rattle.std.specs.Prelude.{◌≡◌, ℕ, ◌+◌, ◌<◌, ◌↔◌, ◌∷◌, [], length, true, false, None, Some, IfOk, IfErr, IsErr, IsErrOf, OnOk, OnErr};
+ghost use Rattle.std.specs.List.{All};
+ghost use Rattle.signal_model.specs.Standing.{is_there, standing};
+ghost use Rattle.sig_nodes.specs.declared.errors.NodeFault.TheVariants as fault;
+ghost use Rattle.sig_nodes.specs.Answers.{expression_of, host_here, value_here};
+ghost use Rattle.sig_nodes.specs.Computations.{recipe_made};
+ghost use Rattle.sig_nodes.specs.Nodes.{with_new, IsFresh, slots_body};
+ghost use Rattle.sig_nodes.specs.States.{are_there, is_cell, is_computing, is_given, live_count, no_state, with_disposal, with_new_cell, with_new_computed, with_rewiring, with_set, Becomes, CanWear, Gives};
+
+use crate::answers::Recipe;
+use crate::bodies::{host_at, is_linkable_at, is_live_at, seat_at};
+use crate::errors::NodeFault;
+use crate::node::{Body, Computation, Node};
+use crate::seats::{Seats, push_in};
+use crate::store::{dispose_at, rewire_at, set_value_at};
+use sig_base::{MOST_NODES, NoMemory, NodeId, Value};
+use std::alloc::Global;
+use std::marker::Model;
+
+/// Signals: cells and computeds, with what is kept of the computeds' evaluations.
+#[derive(Debug, Drop)]
+pub struct Graph {
+    pub(crate) alloc: Global,
+    pub(crate) nodes: Vec<Node>,
+    pub(crate) seats: Seats,
+    pub(crate) generation: u128,
+    pub(crate) looked: u128,
+    pub(crate) worn: u128,
+}
+
+impl Model for Graph {
+    ghost use Rattle.std.specs.Prelude.{length};
+    ghost use Rattle.sig_formula.specs.Coding.{tree_code};
+    ghost use Rattle.std.specs.Coded.{codes};
+    ghost use Rattle.sig_nodes.specs.States.{Seen};
+
+    ghost Value = { Seen };
+
+    ghost coded = { Prim.hlevel (codes, tree_code) };
+
+    ghost use Rattle.sig_nodes.specs.Nodes.{state_of};
+    ghost use Rattle.sig_nodes.specs.Places.{seen, Holds};
+
+    ghost view = { λ g. seen (state_of g.nodes.items g.generation g.looked g.worn) g.seats.holders (length g.nodes.items) };
+
+    ghost invariant = { λ g. Holds g.nodes.items g.seats g.generation g.worn };
+}
+
+impl Graph {
+    /// No signals.
+    pub fn new(alloc: Global) -> Result<Graph, NoMemory>
+        ensures state { IfOk result (λ g. g.state ≡ no_state) }
+        ensures given { IfOk result (λ g. (n : ℕ) → is_given g n ≡ false) }
+    {
+        Ok(Graph {
+            alloc,
+            nodes: Vec::new(alloc),
+            seats: Seats::new(alloc)?,
+            generation: 0,
+            looked: 0,
+            worn: 0,
+        })
+    }
+
+    // Makes a signal of what lives in it.
+    fn add(&mut self, body: Body) -> Result<NodeId, NodeFault>
+        requires fresh { IsFresh body }
+        requires given { All (λ n. is_given self.old n ≡ true) (slots_body body) }
+        requires worn { CanWear self.old.state }
+        ensures after { IfOk result (λ id. Becomes self.old self.new (with_new self.old.state id body)) }
+        ensures gives { IfOk result (λ id. Gives self.old self.new id) }
+        ensures limit { IsErrOf result fault.Limit ↔ (live_count self.old.state.signals ≡ MOST_NODES) }
+        ensures fault { IsErrOf result fault.Gone → ⊥ }
+        ensures err { OnErr result (self.new ≡ self.old) }
+    {
+        if self.seats.free() == 0 {
+            return Err(NodeFault::Limit);
+        }
+        self.nodes.reserve(1)?;
+        let id = NodeId::of(self.nodes.len() as u128);
+        let seat = self.seats.take(id);
+        let node = Node {
+            number: 0,
+            seat,
+            body,
+        };
+        push_in(&mut self.nodes, node);
+        self.worn += 1;
+        Ok(id)
+    }
+
+    /// Makes a cell of a value and the place of an equality rule. It is refused where as many signals live as may be; after a
+    /// refusal the graph is as before.
+    pub fn add_cell(&mut self, value: Value, rule: Option<usize>) -> Result<NodeId, NodeFault>
+        requires { CanWear self.old.state }
+        ensures after { IfOk result (λ id. Becomes self.old self.new (with_new_cell self.old.state (record { name = id; value = value; rule = rule }))) }
+        ensures gives { IfOk result (λ id. Gives self.old self.new id) }
+        ensures limit { IsErrOf result fault.Limit ↔ (live_count self.old.state.signals ≡ MOST_NODES) }
+        ensures fault { IsErrOf result fault.Gone → ⊥ }
+        ensures err { OnErr result (self.new ≡ self.old) }
+    {
+        self.add(Body::Cell(value, rule))
+    }
+
+    /// Makes a computed of what it asks and of the signals that its slots stand for. It is refused where as many signals live as
+    /// may be; after a refusal the graph is as before.
+    pub fn add_computed(&mut self, recipe: Recipe, slots: Vec<NodeId>) -> Result<NodeId, NodeFault>
+        requires given { All (λ n. is_given self.old n ≡ true) slots.items }
+        requires worn { CanWear self.old.state }
+        ensures after { IfOk result (λ id. Becomes self.old self.new (with_new_computed self.old.state (record { name = id; recipe = recipe_made (expression_of recipe) slots.items }))) }
+        ensures gives { IfOk result (λ id. Gives self.old self.new id) }
+        ensures limit { IsErrOf result fault.Limit ↔ (live_count self.old.state.signals ≡ MOST_NODES) }
+        ensures fault { IsErrOf result fault.Gone → ⊥ }
+        ensures err { OnErr result (self.new ≡ self.old) }
+    {
+        self.add(Body::Computed(Computation::new(self.alloc, recipe, slots)))
+    }
+
+    /// Gives a cell another value, and gives back the one before. It takes no memory.
+    pub fn replace(&mut self, id: NodeId, value: Value) -> Value
+        requires live { is_cell (standing self.old.state.signals id) ≡ true }
+        requires worn { CanWear self.old.state }
+        ensures after { Becomes self.old self.new (with_set self.old.state id value) }
+        ensures before { value_here (standing self.old.state.signals id) ≡ Some result }
+    {
+        let _count = self.nodes.len();
+        self.generation += 1;
+        self.worn += 1;
+        set_value_at(&mut self.nodes, id, value)
+    }
+
+    /// Gives a computed another recipe, and gives the place of the host formula that it asked before. It is refused where it, or a
+    /// signal that a slot would stand for, is gone; then the graph is as before. It takes no memory.
+    pub fn rewire(
+        &mut self,
+        id: NodeId,
+        recipe: Recipe,
+        slots: Vec<NodeId>,
+    ) -> Result<Option<usize>, NodeFault>
+        requires kind { is_cell (standing self.old.state.signals id) ≡ false }
+        requires idle { is_computing self.old.state id ≡ false }
+        requires given { All (λ n. is_given self.old n ≡ true) slots.items }
+        requires worn { CanWear self.old.state }
+        ensures after { OnOk result (Becomes self.old self.new (with_rewiring self.old.state id (recipe_made (expression_of recipe) slots.items))) }
+        ensures host { IfOk result (λ place. place ≡ host_here (standing self.old.state.signals id)) }
+        ensures gone { IsErr result ↔ (are_there self.old.state.signals (id ∷ slots.items) ≡ false) }
+        ensures fault { IfErr result (λ e. e ≡ fault.Gone) }
+        ensures err { OnErr result (self.new ≡ self.old) }
+    {
+        if !is_linkable_at(&self.nodes, id, &slots) {
+            return Err(NodeFault::Gone);
+        }
+        let host = host_at(&self.nodes, id);
+        self.generation += 1;
+        self.worn += 1;
+        rewire_at(&mut self.nodes, id, recipe, slots);
+        Ok(host)
+    }
+
+    /// Disposes a signal, and gives the place of the host formula that it asked. It is refused where the signal is gone already.
+    /// It takes no memory.
+    pub fn dispose_node(&mut self, id: NodeId) -> Result<Option<usize>, NodeFault>
+        requires { CanWear self.old.state }
+        ensures after { OnOk result (Becomes self.old self.new (with_disposal self.old.state id)) }
+        ensures host { IfOk result (λ place. place ≡ host_here (standing self.old.state.signals id)) }
+        ensures gone { IsErr result ↔ (is_there (standing self.old.state.signals id) ≡ false) }
+        ensures fault { IfErr result (λ e. e ≡ fault.Gone) }
+        ensures err { OnErr result (self.new ≡ self.old) }
+    {
+        if !is_live_at(&self.nodes, id) {
+            return Err(NodeFault::Gone);
+        }
+        let host = host_at(&self.nodes, id);
+        self.seats.leave(id, seat_at(&self.nodes, id));
+        dispose_at(&mut self.nodes, id);
+        self.generation += 1;
+        self.worn += 1;
+        Ok(host)
+    }
+}

@@ -1,0 +1,17 @@
+//! The store of signals: cells and computeds by id, what is kept of their evaluations, and how each stands.
+#![tactic(auto)]
+
+mod answers;
+mod bodies;
+mod errors;
+mod evaluation;
+mod graph;
+mod looks;
+mod marks;
+mod node;
+mod seats;
+mod store;
+
+pub use answers::{Asked, Mark, Recipe, Standing};
+pub use errors::NodeFault;
+pub use graph::Graph;

@@ -1,0 +1,102 @@
+// What a graph answers without changing.
+ghost use Rattle.std.specs.Prelude.{◌≡◌, ◌<◌, true, false, Some, IfSome, slice_get};
+ghost use Rattle.std.specs.Option.{option_copied};
+ghost use Rattle.signal_model.specs.Standing.{is_computed, is_there, standing};
+ghost use Rattle.signal_model.specs.Memos.{memo_of, source_names, sources_of};
+ghost use Rattle.signal_model.specs.Sound.{kept_outcome};
+ghost use Rattle.signal_model.specs.Marks.{mark_of};
+ghost use Rattle.sig_nodes.specs.Answers.{kind_here, mark_meant, rule_here, slots_here, value_here};
+ghost use Rattle.sig_nodes.specs.Seats.{holder};
+ghost use Rattle.sig_nodes.specs.States.{is_computing, is_given, live_count};
+
+use crate::answers::{Mark, Standing};
+use crate::bodies::{kept_at, rule_at, seat_at, slot_at, sources_at, standing_at, value_at};
+use crate::graph::Graph;
+use crate::marks::mark_at;
+use sig_base::{MOST_NODES, NodeId, Outcome, Value};
+
+impl Graph {
+    /// How many signals live.
+    pub fn live(&self) -> usize
+        ensures { result ≡ live_count self.now.state.signals }
+    {
+        MOST_NODES - self.seats.free()
+    }
+
+    /// The seat of a live signal, which no other live signal has.
+    pub fn seat(&self, id: NodeId) -> usize
+        requires { is_there (standing self.now.state.signals id) ≡ true }
+        ensures below { result < MOST_NODES }
+        ensures own { holder self.now.seats result ≡ Some id }
+    {
+        let _count = self.nodes.len();
+        seat_at(&self.nodes, id)
+    }
+
+    /// The live signal that has a seat.
+    pub fn at_seat(&self, seat: usize) -> Option<NodeId>
+        ensures at { result ≡ holder self.now.seats seat }
+        ensures live { IfSome result (λ id. is_there (standing self.now.state.signals id) ≡ true) }
+    {
+        self.seats.holder(seat)
+    }
+
+    /// The number of counted steps so far, which stands still at its last value.
+    pub fn looked(&self) -> u128
+        ensures { result ≡ self.now.state.looked }
+    {
+        self.looked
+    }
+
+    /// What stands under an id.
+    pub fn standing(&self, id: NodeId) -> Standing
+        ensures { result ≡ kind_here (standing self.now.state.signals id) (is_computing self.now.state id) }
+    {
+        standing_at(&self.nodes, id)
+    }
+
+    /// A cell's value, none where no cell stands.
+    pub fn cell_value(&self, id: NodeId) -> Option<&Value>
+        ensures { option_copied result ≡ value_here (standing self.now.state.signals id) }
+    {
+        value_at(&self.nodes, id)
+    }
+
+    /// The place of a cell's equality rule, if it has one.
+    pub fn rule_of(&self, id: NodeId) -> Option<usize>
+        ensures { result ≡ rule_here (standing self.now.state.signals id) }
+    {
+        rule_at(&self.nodes, id)
+    }
+
+    /// The signal that a computed's slot stands for, none where it has no such slot.
+    pub fn slot(&self, id: NodeId, slot: u32) -> Option<NodeId>
+        ensures at { result ≡ slice_get (slots_here (standing self.now.state.signals id)) slot }
+        ensures given { IfSome result (λ m. is_given self.now m ≡ true) }
+    {
+        slot_at(&self.nodes, id, slot)
+    }
+
+    /// The outcome that a computed keeps, none where it has never run.
+    pub fn kept(&self, id: NodeId) -> Option<&Outcome>
+        ensures { option_copied result ≡ kept_outcome (memo_of self.now.state.memos id) }
+    {
+        kept_at(&self.nodes, id)
+    }
+
+    /// The sources that a computed keeps, in order of first reading.
+    pub fn sources(&self, id: NodeId) -> &[NodeId]
+        ensures { result.now ≡ source_names (sources_of self.now.state.memos id) }
+    {
+        sources_at(&self.nodes, id)
+    }
+
+    /// The mark of a computed: whether it must run, or else something below it along kept sources. It takes no memory.
+    pub fn mark_of(&self, id: NodeId) -> Mark
+        requires { is_computed (standing self.now.state.signals id) ≡ true }
+        ensures { mark_meant result ≡ mark_of self.now.state.signals self.now.state.memos id }
+    {
+        let _count = self.nodes.len();
+        mark_at(&self.nodes, self.generation, id)
+    }
+}

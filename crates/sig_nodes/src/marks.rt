@@ -1,0 +1,116 @@
+// The mark of a computed, by a search along kept sources with a flag for each seat.
+ghost use Rattle.std.specs.Prelude.{◌≡◌, ◌&&◌, ◌||◌, not, [], ◌∷◌, length, true, false, None, Some, IfSome, IfNone, slice_get};
+ghost use Rattle.signal_model.specs.Memos.{must_run_by, some_moved, source_names, sources_in};
+ghost use Rattle.signal_model.specs.Marks.{mark_of, HasBelow};
+ghost use Rattle.sig_nodes.specs.Answers.{mark_meant};
+ghost use Rattle.sig_nodes.specs.Nodes.{body_at, has_differed, is_computed_body, memo_body, memos_of, seat_at, signals_of};
+ghost use Rattle.sig_nodes.specs.Search.{is_due_at, AreSeated, Explores, HasDue};
+
+use crate::answers::Mark;
+use crate::bodies::{computation_at, differs, seat_at, sources_at};
+use crate::node::{Computation, Node};
+use sig_base::{MOST_NODES, NodeId};
+
+// Whether one of the sources that a computed keeps has another number than the one that was read.
+fn some_moved(nodes: &[Node], computation: &Computation) -> bool
+    ensures { result ≡ some_moved (memos_of 0 nodes.now) [] (sources_in computation.now.memo) }
+{
+    for place in 0..computation.sources().len() {
+        if has_moved(nodes, computation, place) {
+            return true;
+        }
+    }
+    false
+}
+
+fn has_moved(nodes: &[Node], computation: &Computation, place: usize) -> bool
+    ensures { result ≡ has_differed nodes.now (slice_get (sources_in computation.now.memo) place) }
+{
+    match computation.source(place) {
+        Some(source) => differs(nodes, source),
+        None => false,
+    }
+}
+
+// Whether a computed must run, while nothing is evaluated.
+fn must_run(nodes: &[Node], generation: u128, computation: &Computation) -> bool
+    ensures { result ≡ must_run_by (memos_of generation nodes.now) computation.now.memo [] }
+{
+    if computation.is_stale(generation) {
+        return true;
+    }
+    !computation.holds_cycle() && some_moved(nodes, computation)
+}
+
+// Whether a computed stands there that must run.
+fn is_due(nodes: &[Node], generation: u128, id: NodeId) -> bool
+    ensures { result ≡ is_due_at nodes.now generation id }
+{
+    match computation_at(nodes, id) {
+        Some(computation) => must_run(nodes, generation, computation),
+        None => false,
+    }
+}
+
+// The seat of a computed, none where no computed stands.
+fn computed_seat(nodes: &[Node], id: NodeId) -> Option<usize>
+    ensures some { IfSome result (λ s. (is_computed_body (body_at nodes.now id) ≡ true) × (s ≡ seat_at nodes.now id)) }
+    ensures none { IfNone result (is_computed_body (body_at nodes.now id) ≡ false) }
+{
+    match computation_at(nodes, id) {
+        Some(_) => Some(seat_at(nodes, id)),
+        None => None,
+    }
+}
+
+// Whether a computed that must run is kept below a name, where those whose flags are up are passed over.
+#[cycle(search)]
+fn has_due_below(nodes: &[Node], generation: u128, id: NodeId, seen: &mut [bool]) -> bool
+    requires { AreSeated nodes.now (length seen.old) }
+    ensures found { result ≡ true → HasBelow (is_due_at nodes.now generation) (memos_of generation nodes.now) id }
+    ensures clear { result ≡ false → Explores nodes.now generation seen.old seen.new (source_names (sources_in (memo_body (body_at nodes.now id)))) }
+{
+    for source in sources_at(nodes, id) {
+        if has_due_from(nodes, generation, *source, seen) {
+            return true;
+        }
+    }
+    false
+}
+
+// The same of the name itself and what is kept below it.
+#[cycle(search)]
+fn has_due_from(nodes: &[Node], generation: u128, id: NodeId, seen: &mut [bool]) -> bool
+    requires { AreSeated nodes.now (length seen.old) }
+    ensures found { result ≡ true → HasDue nodes.now generation id }
+    ensures clear { result ≡ false → Explores nodes.now generation seen.old seen.new (id ∷ []) }
+{
+    let Some(seat) = computed_seat(nodes, id) else {
+        return false;
+    };
+    if seen[seat] {
+        return false;
+    }
+    seen[seat] = true;
+    if is_due(nodes, generation, id) {
+        return true;
+    }
+    has_due_below(nodes, generation, id, seen)
+}
+
+/// The mark of a computed in a generation.
+pub(crate) fn mark_at(nodes: &[Node], generation: u128, id: NodeId) -> Mark
+    requires live { is_computed_body (body_at nodes.now id) ≡ true }
+    requires seats { AreSeated nodes.now MOST_NODES }
+    ensures { mark_meant result ≡ mark_of (signals_of nodes.now) (memos_of generation nodes.now) id }
+{
+    if is_due(nodes, generation, id) {
+        return Mark::Dirty;
+    }
+    let mut seen = [false; MOST_NODES];
+    if has_due_below(nodes, generation, id, &mut seen) {
+        Mark::Checked
+    } else {
+        Mark::Clean
+    }
+}

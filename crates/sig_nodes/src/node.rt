@@ -1,0 +1,372 @@
+// One signal's node.
+ghost use Rattle.std.specs.Prelude.{◌≡◌, ℕ, ◌+◌, ◌<◌, ◌^◌, ◌++◌, ◌∷◌, [], List, length, take, true, false, None, Some, IfOk, IfSome, IfNone, OnOk, is_some, slice_get, if◌then◌else◌};
+ghost use Rattle.std.specs.Option.{option_copied};
+ghost use Rattle.signal_model.specs.Recipes.{Hosts};
+ghost use Rattle.signal_model.specs.Recipes as recipes;
+ghost use Rattle.signal_model.specs.Memos.{is_cycle, is_stale_by, memo_is_cycle, source_names, sources_in};
+ghost use Rattle.signal_model.specs.Sound.{kept_outcome};
+ghost use Rattle.signal_model.specs.Settling.{has_outcome};
+ghost use Rattle.signal_model.specs.Changes.{memo_rewired};
+ghost use Rattle.sig_nodes.specs.States.{GoesOn};
+ghost use Rattle.sig_nodes.specs.Answers.{expression_of, host_place, IsJudged};
+ghost use Rattle.sig_nodes.specs.Computations.{at_generation, paired, recipe_made};
+
+use crate::answers::Recipe;
+use sig_base::{Fault, Known, NoMemory, NodeId, Outcome, Step, Value};
+use sig_formula::step;
+use std::alloc::Global;
+use std::marker::Model;
+
+/// A source that was read, with its change number at that time, none for gone.
+#[derive(Clone, Copy, Debug, PartialEq, Eq)]
+pub(crate) struct Source {
+    pub(crate) name: NodeId,
+    pub(crate) number: Option<u128>,
+}
+
+impl Model for Source {
+    ghost use Rattle.signal_model.specs.Memos.{Source};
+
+    ghost Value = { Source };
+
+    ghost view = { λ s. record { name = s.name; number = s.number } };
+
+    ghost inverse = { λ s. record { name = s.name; number = s.number } };
+}
+
+/// What a run left: its outcome, its sources in order and the numbers that were read of them, the generation at that time, and
+/// whether the computed was rewired since.
+#[derive(Debug, Drop)]
+pub(crate) struct Memo {
+    outcome: Outcome,
+    sources: Vec<NodeId>,
+    numbers: Vec<Option<u128>>,
+    generation: u128,
+    rewired: bool,
+}
+
+impl Model for Memo {
+    ghost use Rattle.std.specs.Prelude.{◌≡◌, length};
+    ghost use Rattle.signal_model.specs.Memos.{Memo};
+    ghost use Rattle.sig_nodes.specs.Computations.{paired};
+
+    ghost Value = { Memo };
+
+    ghost view = { λ m. record { outcome = m.outcome; sources = paired m.sources.items m.numbers.items; generation = m.generation; rewired = m.rewired } };
+
+    ghost invariant = { λ m. length m.sources.items ≡ length m.numbers.items };
+}
+
+impl Memo {
+    /// What a run leaves in this generation, by its sources and their numbers.
+    pub(crate) fn new(
+        outcome: Outcome,
+        sources: Vec<NodeId>,
+        numbers: Vec<Option<u128>>,
+        generation: u128,
+    ) -> Memo
+        requires { length sources.items ≡ length numbers.items }
+        ensures { result ≡ record { outcome = outcome; sources = paired sources.items numbers.items; generation = generation; rewired = false } }
+    {
+        Memo {
+            outcome,
+            sources,
+            numbers,
+            generation,
+            rewired: false,
+        }
+    }
+
+    pub(crate) fn outcome(&self) -> &Outcome
+        ensures { result.now ≡ self.now.outcome }
+    {
+        &self.outcome
+    }
+
+    fn sources(&self) -> &[NodeId]
+        ensures { result.now ≡ source_names self.now.sources }
+    {
+        &self.sources
+    }
+
+    fn source(&self, place: usize) -> Option<Source>
+        ensures { result ≡ slice_get self.now.sources place }
+    {
+        if place < self.sources.len() {
+            Some(Source {
+                name: self.sources[place],
+                number: self.numbers[place],
+            })
+        } else {
+            None
+        }
+    }
+
+    fn is_stale(&self, generation: u128) -> bool
+        ensures { result ≡ is_stale_by (at_generation generation) (Some self.now) }
+    {
+        if is_cycle(&self.outcome) {
+            self.generation != generation
+        } else {
+            self.rewired
+        }
+    }
+
+    fn mark_rewired(&mut self)
+        ensures { self.new ≡ record self.old { rewired = true } }
+    {
+        self.rewired = true;
+    }
+}
+
+/// Whether an outcome is the fault `cycle`.
+fn is_cycle(outcome: &Outcome) -> bool
+    ensures { result ≡ is_cycle outcome.now }
+{
+    match outcome {
+        Outcome::Bad(Fault::Cycle) => true,
+        _ => false,
+    }
+}
+
+/// What is kept of a computed, and while it is computing the values that its recipe was last asked with.
+#[derive(Debug, Drop)]
+pub(crate) struct Computation {
+    recipe: Recipe,
+    slots: Vec<NodeId>,
+    memo: Option<Memo>,
+    computing: bool,
+    known: Vec<Known>,
+}
+
+impl Model for Computation {
+    ghost use Rattle.std.specs.Prelude.{Some, None, if◌then◌else◌};
+    ghost use Rattle.sig_formula.specs.Coding.{tree_code};
+    ghost use Rattle.std.specs.Coded.{codes};
+    ghost use Rattle.sig_nodes.specs.Computations.{Computation, recipe_made};
+
+    ghost Value = { Computation };
+
+    ghost coded = { Prim.hlevel (codes, tree_code) };
+
+    ghost use Rattle.sig_nodes.specs.States.{GoesOn};
+    ghost use Rattle.sig_nodes.specs.Answers.{expression_of};
+
+    ghost view = { λ c. record { recipe = recipe_made (expression_of c.recipe) c.slots.items; memo = c.memo; known = (if c.computing then Some c.known.items else None) } };
+}
+
+impl Computation {
+    /// One that has not run.
+    pub(crate) fn new(alloc: Global, recipe: Recipe, slots: Vec<NodeId>) -> Computation
+        ensures { result ≡ record { recipe = recipe_made (expression_of recipe) slots.items; memo = None; known = None } }
+    {
+        Computation {
+            recipe,
+            slots,
+            memo: None,
+            computing: false,
+            known: Vec::new(alloc),
+        }
+    }
+
+    pub(crate) fn is_computing(&self) -> bool
+        ensures { result ≡ is_some self.now.known }
+    {
+        self.computing
+    }
+
+    /// The signal that a slot stands for.
+    pub(crate) fn slot(&self, slot: u32) -> Option<NodeId>
+        ensures { result ≡ slice_get self.now.recipe.slots slot }
+    {
+        self.slots.get(slot as usize).copied()
+    }
+
+    /// The place of the host formula that the recipe asks.
+    pub(crate) fn host(&self) -> Option<usize>
+        ensures { result ≡ host_place self.now.recipe.expression }
+    {
+        host_place(&self.recipe)
+    }
+
+    pub(crate) fn kept(&self) -> Option<&Outcome>
+        ensures { option_copied result ≡ kept_outcome self.now.memo }
+    {
+        match &self.memo {
+            Some(memo) => Some(memo.outcome()),
+            None => None,
+        }
+    }
+
+    pub(crate) fn sources(&self) -> &[NodeId]
+        ensures { result.now ≡ source_names (sources_in self.now.memo) }
+    {
+        match &self.memo {
+            Some(memo) => memo.sources(),
+            None => &[],
+        }
+    }
+
+    pub(crate) fn source(&self, place: usize) -> Option<Source>
+        ensures { result ≡ slice_get (sources_in self.now.memo) place }
+    {
+        match &self.memo {
+            Some(memo) => memo.source(place),
+            None => None,
+        }
+    }
+
+    pub(crate) fn is_stale(&self, generation: u128) -> bool
+        ensures { result ≡ is_stale_by (at_generation generation) self.now.memo }
+    {
+        match &self.memo {
+            Some(memo) => memo.is_stale(generation),
+            None => true,
+        }
+    }
+
+    /// Whether the memo is the fault `cycle`.
+    pub(crate) fn holds_cycle(&self) -> bool
+        ensures { result ≡ memo_is_cycle self.now.memo }
+    {
+        match &self.memo {
+            Some(memo) => is_cycle(memo.outcome()),
+            None => false,
+        }
+    }
+
+    /// Whether the memo has this outcome already.
+    pub(crate) fn has_outcome(&self, outcome: &Outcome) -> bool
+        ensures { result ≡ has_outcome self.now.memo outcome.now }
+    {
+        match &self.memo {
+            Some(memo) => memo.outcome().same(outcome),
+            None => false,
+        }
+    }
+
+    /// The recipe's answer to the values known so far.
+    pub(crate) fn answer(&self, alloc: Global, known: &[Known]) -> Result<Step, NoMemory>
+        ensures answer { (hosts : Hosts) → IfOk result (λ s. s ≡ recipes.recipe_answer hosts self.now.recipe known.now) }
+        ensures judged { IfOk result (λ s. IsJudged (length self.now.recipe.slots) known.now s) }
+    {
+        let step = given_answer(alloc, &self.recipe, known)?;
+        Ok(judged(self.slots.len(), known, step))
+    }
+
+    pub(crate) fn begin(&mut self)
+        ensures { self.new ≡ record self.old { known = Some [] } }
+    {
+        self.known.clear();
+        self.computing = true;
+    }
+
+    pub(crate) fn end(&mut self)
+        ensures { self.new ≡ record self.old { known = None } }
+    {
+        self.computing = false;
+    }
+
+    /// Notes the values that the recipe is asked with, of which the earlier ones are noted already.
+    pub(crate) fn note(&mut self, known: &[Known]) -> Result<(), NoMemory>
+        requires { GoesOn self.old.known known.now }
+        ensures kept { self.new ≡ record self.old { known = self.new.known } }
+        ensures noted { OnOk result (self.new.known ≡ Some known.now) }
+    {
+        note_rest(&mut self.known, known)
+    }
+
+    /// Keeps a run, which ends the evaluation.
+    pub(crate) fn keep(&mut self, memo: Memo)
+        ensures { self.new ≡ record self.old { memo = Some memo; known = None } }
+    {
+        self.memo = Some(memo);
+        self.computing = false;
+    }
+
+    /// Gives another recipe.
+    pub(crate) fn rewire(&mut self, recipe: Recipe, slots: Vec<NodeId>)
+        ensures { self.new ≡ record self.old { recipe = recipe_made (expression_of recipe) slots.items; memo = memo_rewired self.old.memo } }
+    {
+        self.recipe = recipe;
+        self.slots = slots;
+        if let Some(memo) = &mut self.memo {
+            memo.mark_rewired();
+        }
+    }
+}
+
+/// What lives in a node.
+#[derive(Debug, Drop)]
+pub(crate) enum Body {
+    Gone,
+    /// A value, and the place of an equality rule.
+    Cell(Value, Option<usize>),
+    Computed(Computation),
+}
+
+/// One signal's node: its change number, its seat, and what lives in it.
+#[derive(Debug, Drop)]
+pub(crate) struct Node {
+    pub(crate) number: u128,
+    pub(crate) seat: usize,
+    pub(crate) body: Body,
+}
+
+// Puts the values behind those that are there.
+fn note_rest(held: &mut Vec<Known>, known: &[Known]) -> Result<(), NoMemory>
+    requires { take (length held.old.items) known.now ≡ held.old.items }
+    ensures { OnOk result (held.new.items ≡ known.now) }
+{
+    let rest = known.split_at(held.len()).1;
+    for one in rest {
+        held.push(one.copy()?)?;
+    }
+    Ok(())
+}
+
+fn host_place(recipe: &Recipe) -> Option<usize>
+    ensures { result ≡ host_place (expression_of recipe.now) }
+{
+    match recipe {
+        Recipe::Formula(_) => None,
+    }
+}
+
+fn given_answer(alloc: Global, recipe: &Recipe, known: &[Known]) -> Result<Step, NoMemory>
+    ensures { (hosts : Hosts) → IfOk result (λ s. s ≡ recipes.given_answer hosts (expression_of recipe.now) known.now) }
+{
+    match recipe {
+        Recipe::Formula(formula) => step(alloc, formula, None, known),
+    }
+}
+
+fn is_known(slot: u32, known: &[Known]) -> bool
+    ensures { result ≡ recipes.is_known slot known.now }
+{
+    for one in known {
+        if one.slot == slot {
+            return true;
+        }
+    }
+    false
+}
+
+// A read outside of so many slots is the fault `slot`, and one of a known slot is `twice`.
+fn judged(count: usize, known: &[Known], step: Step) -> Step
+    ensures answer { result ≡ recipes.judged count known.now step }
+    ensures judged { IsJudged count known.now result }
+{
+    match step {
+        Step::Read(slot) => {
+            if slot as usize >= count {
+                Step::Fail(Fault::Slot)
+            } else if is_known(slot, known) {
+                Step::Fail(Fault::Twice)
+            } else {
+                Step::Read(slot)
+            }
+        }
+        other => other,
+    }
+}

@@ -1,0 +1,171 @@
+// The nodes of a graph, each at the place that is its id's number.
+ghost use Rattle.std.specs.Prelude.{◌≡◌, ℕ, ◌+◌, ◌<◌, ◌^◌, ◌++◌, ◌∷◌, [], List, length, take, true, false, None, Some, IfOk, IfSome, OnOk, slice_get};
+ghost use Rattle.std.specs.Option.{option_copied};
+ghost use Rattle.sig_nodes.specs.States.{GoesOn};
+ghost use Rattle.sig_nodes.specs.Answers.{expression_of};
+ghost use Rattle.sig_nodes.specs.Computations.{recipe_made};
+ghost use Rattle.sig_nodes.specs.Nodes.{body_at, change_at, changed_at, gone_node, is_cell_body, is_computed_body, known_body, known_node, rewired_node, run_node, set_node, value_body};
+
+use crate::answers::Recipe;
+use crate::node::{Body, Memo, Node};
+use sig_base::{Known, NoMemory, NodeId, Value};
+use std::mem;
+
+// Gives a cell's node another value, and gives back the one before.
+fn set_value(node: &mut Node, value: Value) -> Value
+    requires live { is_cell_body node.old.body ≡ true }
+    requires worn { node.old.number + 1 < 2 ^ 128 }
+    ensures node { node.new ≡ set_node value node.old }
+    ensures before { value_body node.old.body ≡ Some result }
+{
+    node.number += 1;
+    match &mut node.body {
+        Body::Cell(held, _) => mem::replace(held, value),
+        _ => unreachable!(),
+    }
+}
+
+/// Gives a cell another value, and gives back the one before.
+pub(crate) fn set_value_at(nodes: &mut Vec<Node>, id: NodeId, value: Value) -> Value
+    requires place { id < length nodes.old.items }
+    requires live { is_cell_body (body_at nodes.old.items id) ≡ true }
+    requires worn { change_at nodes.old.items id + 1 < 2 ^ 128 }
+    ensures nodes { nodes.new.items ≡ changed_at (set_node value) id nodes.old.items }
+    ensures before { value_body (body_at nodes.old.items id) ≡ Some result }
+{
+    let _count = nodes.len();
+    set_value(&mut nodes[id.number() as usize], value)
+}
+
+// Keeps a run in a computed's node, whose number rises where the outcome is another.
+fn keep_memo(node: &mut Node, memo: Memo)
+    requires live { is_computed_body node.old.body ≡ true }
+    requires worn { node.old.number + 1 < 2 ^ 128 }
+    ensures { node.new ≡ run_node memo node.old }
+{
+    match &mut node.body {
+        Body::Computed(computation) => {
+            if !computation.has_outcome(memo.outcome()) {
+                node.number += 1;
+            }
+            computation.keep(memo);
+        }
+        _ => unreachable!(),
+    }
+}
+
+/// Keeps a run of a computed, which ends its evaluation.
+pub(crate) fn keep_memo_at(nodes: &mut Vec<Node>, id: NodeId, memo: Memo)
+    requires place { id < length nodes.old.items }
+    requires live { is_computed_body (body_at nodes.old.items id) ≡ true }
+    requires worn { change_at nodes.old.items id + 1 < 2 ^ 128 }
+    ensures { nodes.new.items ≡ changed_at (run_node memo) id nodes.old.items }
+{
+    let _count = nodes.len();
+    keep_memo(&mut nodes[id.number() as usize], memo);
+}
+
+// Gives a computed's node another recipe.
+fn rewire(node: &mut Node, recipe: Recipe, slots: Vec<NodeId>)
+    requires live { is_computed_body node.old.body ≡ true }
+    requires worn { node.old.number + 1 < 2 ^ 128 }
+    ensures { node.new ≡ rewired_node (recipe_made (expression_of recipe) slots.items) node.old }
+{
+    node.number += 1;
+    match &mut node.body {
+        Body::Computed(computation) => computation.rewire(recipe, slots),
+        _ => unreachable!(),
+    }
+}
+
+/// Gives a computed another recipe.
+pub(crate) fn rewire_at(nodes: &mut Vec<Node>, id: NodeId, recipe: Recipe, slots: Vec<NodeId>)
+    requires place { id < length nodes.old.items }
+    requires live { is_computed_body (body_at nodes.old.items id) ≡ true }
+    requires worn { change_at nodes.old.items id + 1 < 2 ^ 128 }
+    ensures { nodes.new.items ≡ changed_at (rewired_node (recipe_made (expression_of recipe) slots.items)) id nodes.old.items }
+{
+    let _count = nodes.len();
+    rewire(&mut nodes[id.number() as usize], recipe, slots);
+}
+
+// Takes what lives in a node away.
+fn empty(node: &mut Node)
+    ensures { node.new ≡ gone_node node.old }
+{
+    node.body = Body::Gone;
+}
+
+/// Takes a signal away.
+pub(crate) fn dispose_at(nodes: &mut Vec<Node>, id: NodeId)
+    requires { id < length nodes.old.items }
+    ensures { nodes.new.items ≡ changed_at gone_node id nodes.old.items }
+{
+    let _count = nodes.len();
+    empty(&mut nodes[id.number() as usize]);
+}
+
+// Begins the evaluation of a computed's node.
+fn begin(node: &mut Node)
+    requires { is_computed_body node.old.body ≡ true }
+    ensures { node.new ≡ known_node (Some []) node.old }
+{
+    match &mut node.body {
+        Body::Computed(computation) => computation.begin(),
+        _ => unreachable!(),
+    }
+}
+
+/// Begins the evaluation of a computed.
+pub(crate) fn begin_at(nodes: &mut Vec<Node>, id: NodeId)
+    requires place { id < length nodes.old.items }
+    requires live { is_computed_body (body_at nodes.old.items id) ≡ true }
+    ensures { nodes.new.items ≡ changed_at (known_node (Some [])) id nodes.old.items }
+{
+    let _count = nodes.len();
+    begin(&mut nodes[id.number() as usize]);
+}
+
+// Ends the evaluation of a computed's node.
+fn end(node: &mut Node)
+    requires { is_computed_body node.old.body ≡ true }
+    ensures { node.new ≡ known_node None node.old }
+{
+    match &mut node.body {
+        Body::Computed(computation) => computation.end(),
+        _ => unreachable!(),
+    }
+}
+
+/// Ends the evaluation of a computed.
+pub(crate) fn end_at(nodes: &mut Vec<Node>, id: NodeId)
+    requires place { id < length nodes.old.items }
+    requires live { is_computed_body (body_at nodes.old.items id) ≡ true }
+    ensures { nodes.new.items ≡ changed_at (known_node None) id nodes.old.items }
+{
+    let _count = nodes.len();
+    end(&mut nodes[id.number() as usize]);
+}
+
+// Notes the values that a computed's recipe is asked with.
+fn note(node: &mut Node, known: &[Known]) -> Result<(), NoMemory>
+    requires { GoesOn (known_body node.old.body) known.now }
+    ensures kept { node.new ≡ known_node (known_body node.new.body) node.old }
+    ensures noted { OnOk result (known_body node.new.body ≡ Some known.now) }
+{
+    match &mut node.body {
+        Body::Computed(computation) => computation.note(known),
+        _ => unreachable!(),
+    }
+}
+
+/// Notes the values that a computed's recipe is asked with, of which the earlier ones are noted already.
+pub(crate) fn note_at(nodes: &mut Vec<Node>, id: NodeId, known: &[Known]) -> Result<(), NoMemory>
+    requires place { id < length nodes.old.items }
+    requires known { GoesOn (known_body (body_at nodes.old.items id)) known.now }
+    ensures kept { nodes.new.items ≡ changed_at (known_node (known_body (body_at nodes.new.items id))) id nodes.old.items }
+    ensures noted { OnOk result (known_body (body_at nodes.new.items id) ≡ Some known.now) }
+{
+    let _count = nodes.len();
+    note(&mut nodes[id.number() as usize], known)
+}
