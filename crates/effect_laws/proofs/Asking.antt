@@ -1,7 +1,6 @@
 -- Bodies ask for slots of their own that aren't known.
 use Rattle.std.proofs.Common.{if◌then◌else◌, ◌≡◌, ◌⊎◌, ◌+◌, ℕ, suc, Bool, true, false, List, [], ◌∷◌, length, slice_index, Option, Some, None, refl}
-use Rattle.std.proofs.Common.{ap}
-use Rattle.std.proofs.Common.{inl, inr, arith}
+use Rattle.std.proofs.Common.{ap, inl, inr, arith}
 use Rattle.std.specs.Option.{option_or}
 use Rattle.sig_base.specs.declared.value.Value.{Value}
 use Rattle.sig_base.specs.declared.value.Value.TheVariants as value
@@ -18,9 +17,9 @@ use Rattle.signal_model.specs.Recipes.{IsUnknownSlot, is_known}
 use Rattle.signal_model.specs.Values.{learnt, unknown_slots}
 use Rattle.signal_model.proofs.Shared.{unknown_less, valueless}
 use Rattle.effect_model.specs.Bodies.{Statements, no_more, set, log, when, cleanup_set, cleanup_log, effect, dispose, rewire, Act, to_set, to_log}
-use Rattle.effect_model.specs.Bodies.{to_note}
-use Rattle.effect_model.specs.Bodies.{to_make, to_dispose, to_rewire, BodyStep, reads, acts, fails, followed_by, one_first, and_then, with_answer}
-use Rattle.effect_model.specs.Bodies.{if_scalar, guarded, body_step, after_body_read, with_known, after_body_step, body_asked_within, body_asked_from}
+use Rattle.effect_model.specs.Bodies.{to_note, to_make, to_dispose, to_rewire, BodyStep, reads, acts, fails, followed_by, one_first, and_then}
+use Rattle.effect_model.specs.Bodies.{with_answer, if_scalar, guarded, body_step, after_body_read, with_known, after_body_step, body_asked_within}
+use Rattle.effect_model.specs.Bodies.{body_asked_from}
 use Rattle.effect_model.specs.Owning.{sets, logs}
 use Rattle.effect_laws.specs.Asking.{SlotsBelow, AreFit, BodyLaw}
 

@@ -1,7 +1,6 @@
 -- What each change of the signals keeps, commands keep: one induction over all that commands and effects do.
-use Rattle.std.proofs.Common.{◌≡◌, ℕ, ◌+◌, ◌==◌, ◌||◌, Bool, true, false, cond, List, [], ◌∷◌, ◌++◌, map, slice_get, Option, Some, None}
-use Rattle.std.proofs.Common.{refl, sym, ap, ◌∙◌, subst}
-use Rattle.std.proofs.Common.{set as put_at}
+use Rattle.std.proofs.Common.{◌≡◌, ℕ, ◌+◌, ◌==◌, ◌||◌, Bool, true, false, cond, List, [], ◌∷◌, ◌++◌, map, slice_get, Option, Some, None, refl, sym}
+use Rattle.std.proofs.Common.{ap, ◌∙◌, subst, set as put_at}
 use Rattle.std.specs.Option.{option_or}
 use Rattle.std.proofs.lemmas.Bool.{eqb-true}
 use Rattle.std.proofs.lemmas.List.{append-nil}
@@ -19,31 +18,39 @@ use Rattle.effect_model.specs.Owning.{disposal_of}
 use Rattle.effect_model.specs.Bodies.{Act, to_set, to_log, to_note, to_make, to_dispose, to_rewire, BodyEvaluation, BodyResult, to_do, failed_by}
 use Rattle.effect_model.specs.Bodies.{body_evaluation}
 use Rattle.effect_model.specs.Worlds.{Environment, HostState, used, dropped, Watcher, Effect, Event, ran, logged, cleaned, gone, failed, dropped_host}
-use Rattle.effect_model.specs.Worlds.{thing_gone, host_taken, still_due, refused, World, tell, tell_all, lives, asked_by}
-use Rattle.effect_model.specs.Worlds.{settle}
+use Rattle.effect_model.specs.Worlds.{thing_gone, host_taken, still_due, refused, World, tell, tell_all, lives, asked_by, settle}
 use Rattle.effect_model.specs.Acts.{notified_by, frozen_by, told_of, told_frozen, notify, are_alike, with_new_value, set_standing, host_of}
 use Rattle.effect_model.specs.Acts.{asks_so_far, with_drop, with_use, is_free, host_refused, gone_refused, some_gone, rewiring_refused}
-use Rattle.effect_model.specs.Acts.{rewire_standing, rewire_signal, end_standing, end_of, undo, undo_all, take_back}
-use Rattle.effect_model.specs.Acts.{dispose_live, dispose_thing}
-use Rattle.effect_model.specs.Running.{do_act, keep_reads, do_result, run_effect, flush}
+use Rattle.effect_model.specs.Acts.{rewire_standing, rewire_signal, end_standing, end_of, undo, undo_all, take_back, dispose_live, dispose_thing}
+use Rattle.effect_model.specs.Running.{do_act, keep_reads, do_result, run_effect, turn, flush}
 use Rattle.effect_model.specs.Commands.{Command, cell, computed, owner, effect, page, watcher, watch, unwatch, set, rewire, ask, dispose, flush_all}
-use Rattle.effect_model.specs.Commands.{inside_refused, with_new_computed, told_if, command_refused, done_by}
-use Rattle.effect_model.specs.Commands.{after_command, after_commands}
+use Rattle.effect_model.specs.Commands.{inside_refused, with_new_computed, told_if, command_refused, done_by, after_command, after_commands}
 use Rattle.effect_laws.specs.KeptWorlds.{runs_told}
+use Rattle.effect_laws.specs.HostUse.{Drop, drops_told}
 use Rattle.effect_laws.proofs.Names.{neither, either_way}
-use Rattle.effect_laws.proofs.Turns.{flush_keeps, acts_keep}
+use Rattle.effect_laws.proofs.Turns.{IsKeptByRuns, turn_keeps, flush_keeps, acts_keep}
 
 -- ---- the part of a world that changes of signals change
 
+-- signals, memos, host formulas, how many signals were made, and the runs and drops that were told
 pub record Core : Type 0 where
   pub signals : Signals
   pub memos : Memos
   pub host_states : List HostState
   pub made : ℕ
   pub runs : List Moment
+  pub drops : List Drop
 
+-- that of a world
 abbrev pub core_of : World → Core
-core_of w = record { signals = w.signals; memos = w.memos; host_states = w.host_states; made = w.made.signals; runs = runs_told w.told }
+core_of w = record {
+  signals = w.signals;
+  memos = w.memos;
+  host_states = w.host_states;
+  made = w.made.signals;
+  runs = runs_told w.told;
+  drops = drops_told w.told;
+}
 
 -- a host formula is used, or dropped
 abbrev pub used_states : Option ℕ → List HostState → List HostState
@@ -53,6 +60,11 @@ used_states (Some k) hs = put_at hs k (used 0)
 abbrev pub dropped_states : Option ℕ → List HostState → List HostState
 dropped_states None hs = hs
 dropped_states (Some k) hs = put_at hs k (dropped (asks_so_far (slice_get hs k)))
+
+-- the drops, with one more where there is one
+abbrev pub drops_more : Option ℕ → List HostState → List Drop → List Drop
+drops_more None hs ds = ds
+drops_more (Some k) hs ds = ds ++ record { place = k; asks = asks_so_far (slice_get hs k) } ∷ []
 
 -- names are settled
 abbrev pub after_settling : Environment → List ℕ → Core → Core
@@ -71,6 +83,7 @@ after_rewire n r old c = record c {
   signals = with_recipe c.signals n r;
   memos = after_rewiring c.memos n;
   host_states = dropped_states old (used_states (host_of r.expression) c.host_states);
+  drops = drops_more old (used_states (host_of r.expression) c.host_states) c.drops;
 }
 
 -- a signal that had a host formula, or none, ends
@@ -79,6 +92,7 @@ after_end n old c = record c {
   signals = without_signal c.signals n;
   memos = after_disposal c.memos n;
   host_states = dropped_states old c.host_states;
+  drops = drops_more old c.host_states c.drops;
 }
 
 -- a cell is made, and a computed
@@ -127,25 +141,44 @@ runs_append [] fs = refl
 runs_append (ran m ∷ es) fs = ap (λ ms. m ∷ ms) (runs_append es fs)
 runs_append (_ ∷ es) fs = runs_append es fs
 
--- more that was told tells of these runs too
-told_runs : (P : Core → Type 0) (w : World) (es : List Event) (ms : List Moment) → runs_told es ≡ ms →
-    P (record (core_of w) { runs = runs_told w.told ++ ms }) →
-    P (core_of (tell_all es w))
-told_runs P w es ms h p =
-    subst (λ rs. P (record (core_of w) { runs = rs })) (sym (runs_append w.told es ∙ ap (λ rs. runs_told w.told ++ rs) h)) p
+drops_append : (es fs : List Event) → drops_told (es ++ fs) ≡ drops_told es ++ drops_told fs
+drops_append [] fs = refl
+drops_append (dropped_host place asks ∷ es) fs = ap (λ ds. record { place = place; asks = asks } ∷ ds) (drops_append es fs)
+drops_append (_ ∷ es) fs = drops_append es fs
 
--- what tells of no run
-told : (P : Core → Type 0) (w : World) (es : List Event) → runs_told es ≡ [] → P (core_of w) → P (core_of (tell_all es w))
-told P w es h p = told_runs P w es [] h (subst (λ rs. P (record (core_of w) { runs = rs })) (sym (append-nil (runs_told w.told))) p)
+-- more that was told tells of these runs and drops too
+told_more : (P : Core → Type 0) (w : World) (es : List Event) (ms : List Moment) (ds : List Drop) → runs_told es ≡ ms → drops_told es ≡ ds →
+    P (record (core_of w) { runs = runs_told w.told ++ ms; drops = drops_told w.told ++ ds }) → P (core_of (tell_all es w))
+told_more P w es ms ds h k p =
+    subst (λ rs. P (record (core_of w) { runs = rs; drops = drops_told (w.told ++ es) }))
+    (sym (runs_append w.told es ∙ ap (λ rs. runs_told w.told ++ rs) h))
+    (subst (λ xs. P (record (core_of w) { runs = runs_told w.told ++ ms; drops = xs }))
+    (sym (drops_append w.told es ∙ ap (λ xs. drops_told w.told ++ xs) k)) p)
+
+-- what tells of neither
+told : (P : Core → Type 0) (w : World) (es : List Event) → runs_told es ≡ [] → drops_told es ≡ [] → P (core_of w) → P (core_of (tell_all es w))
+told P w es h k p =
+    told_more P w es [] [] h k
+    (subst (λ rs. P (record (core_of w) { runs = rs; drops = drops_told w.told ++ [] })) (sym (append-nil (runs_told w.told)))
+    (subst (λ ds. P (record (core_of w) { drops = ds })) (sym (append-nil (drops_told w.told))) p))
 
 notified_runs : (xs : List Watcher) (ns : List ℕ) → runs_told (told_of xs ++ told_frozen ns) ≡ []
 notified_runs [] [] = refl
 notified_runs [] (n ∷ ns) = refl
 notified_runs (x ∷ xs) ns = notified_runs xs ns
 
+notified_drops : (xs : List Watcher) (ns : List ℕ) → drops_told (told_of xs ++ told_frozen ns) ≡ []
+notified_drops [] [] = refl
+notified_drops [] (n ∷ ns) = refl
+notified_drops (x ∷ xs) ns = notified_drops xs ns
+
 settled_runs : (ms : List Moment) → runs_told (map ran ms) ≡ ms
 settled_runs [] = refl
 settled_runs (m ∷ ms) = ap (λ rs. m ∷ rs) (settled_runs ms)
+
+settled_drops : (ms : List Moment) → drops_told (map ran ms) ≡ []
+settled_drops [] = refl
+settled_drops (m ∷ ms) = settled_drops ms
 
 -- ---- changes of a world
 
@@ -154,17 +187,19 @@ settle_keeps : (env : Environment) (P : Core → Type 0) → IsKeptByChanges env
 settle_keeps env P k names w p =
     let s : Settled = settled env.hosts w.signals w.memos names in
     let runs : List Moment = moments w.signals s.runs in
-    told_runs P (record w { memos = s.memos; host_states = asked_by runs 0 w.host_states }) (map ran runs) runs (settled_runs runs)
-    (k.settles names (core_of w) p)
+    told_more P (record w { memos = s.memos; host_states = asked_by runs 0 w.host_states }) (map ran runs) runs [] (settled_runs runs)
+    (settled_drops runs)
+    (subst (λ ds. P (record (after_settling env names (core_of w)) { drops = ds })) (sym (append-nil (drops_told w.told)))
+    (k.settles names (core_of w) p))
 
 notify_keeps : (P : Core → Type 0) (n : ℕ) (w : World) → P (core_of w) → P (core_of (notify n w))
 notify_keeps P n w p =
     let xs : List Watcher = notified_by w.signals w.memos n w.watchers in
-    told P w (told_of xs ++ told_frozen (frozen_by xs)) (notified_runs xs (frozen_by xs)) p
+    told P w (told_of xs ++ told_frozen (frozen_by xs)) (notified_runs xs (frozen_by xs)) (notified_drops xs (frozen_by xs)) p
 
 set_case : (env : Environment) (P : Core → Type 0) → IsKeptByChanges env P → (n : ℕ) (v : Value) (s : Stands) (w : World) → standing w.signals n ≡ s →
     P (core_of w) → P (core_of (set_standing s env n v w))
-set_case env P k n v IsGone w e p = told P w (refused (thing_gone (the_signal n)) ∷ []) refl p
+set_case env P k n v IsGone w e p = told P w (refused (thing_gone (the_signal n)) ∷ []) refl refl p
 set_case env P k n v (IsCell x) w e p = go (are_alike env.slacks x.rule x.value v)
   where
     go : (b : Bool) → P (core_of (cond b w (with_new_value n v w)))
@@ -173,12 +208,17 @@ set_case env P k n v (IsCell x) w e p = go (are_alike env.slacks x.rule x.value 
         notify_keeps P n (record w { signals = with_value w.signals n v; memos = after_change w.memos n }) (k.sets n v x (core_of w) e p)
 set_case env P k n v (IsComputed x) w e p = p
 
-drop_keeps : (P : Core → Type 0) (old : Option ℕ) (w : World) → P (record (core_of w) { host_states = dropped_states old w.host_states }) →
+drop_keeps : (P : Core → Type 0) (old : Option ℕ) (w : World) →
+    P (record (core_of w) { host_states = dropped_states old w.host_states; drops = drops_more old w.host_states (drops_told w.told) }) →
     P (core_of (with_drop old w))
 drop_keeps P None w p = p
 drop_keeps P (Some place) w p =
     let asks : ℕ = asks_so_far (slice_get w.host_states place) in
-    told P (record w { host_states = put_at w.host_states place (dropped asks) }) (dropped_host place asks ∷ []) refl p
+    let hs : List HostState = put_at w.host_states place (dropped asks) in
+    let d : Drop = record { place = place; asks = asks } in
+    told_more P (record w { host_states = hs }) (dropped_host place asks ∷ []) [] (d ∷ []) refl refl
+    (subst (λ rs. P (record (core_of w) { host_states = hs; runs = rs; drops = drops_told w.told ++ d ∷ [] }))
+    (sym (append-nil (runs_told w.told))) p)
 
 use_keeps : (P : Core → Type 0) (new : Option ℕ) (w : World) → P (record (core_of w) { host_states = used_states new w.host_states }) →
     P (core_of (with_use new w))
@@ -224,7 +264,8 @@ rewire_case env P k n r (IsComputed x) w e a f p =
     let old : Option ℕ = host_of x.recipe.expression in
     let w' : World = record w { signals = with_recipe w.signals n r; memos = after_rewiring w.memos n } in
     drop_keeps P old (with_use (host_of r.expression) w')
-    (use_keeps (λ c. P (record c { host_states = dropped_states old c.host_states })) (host_of r.expression) w' (k.rewires n r x (core_of w) e a f p))
+    (use_keeps (λ c. P (record c { host_states = dropped_states old c.host_states; drops = drops_more old c.host_states c.drops }))
+    (host_of r.expression) w' (k.rewires n r x (core_of w) e a f p))
 
 rewire_keeps : (env : Environment) (P : Core → Type 0) → IsKeptByChanges env P → (n : ℕ) (r : Recipe) (w : World) → P (core_of w) →
     P (core_of (rewire_signal n r w))
@@ -234,7 +275,7 @@ rewire_keeps env P k n r w p =
     neither (some_gone r.slots w) (host_refused (host_of r.expression) w)
     (neither (gone_refused (the_signal n) w) (option_or (some_gone r.slots w) (host_refused (host_of r.expression) w)) h).1 in
     rewire_case env P k n r (standing w.signals n) w refl (all_stand r.slots w fine.0) (free_host (host_of r.expression) w fine.1) p)
-    (λ why. told P w (refused why ∷ []) refl p)
+    (λ why. told P w (refused why ∷ []) refl refl p)
 
 -- ---- ends and teardowns
 
@@ -251,10 +292,10 @@ end_keeps env P k _ w p = p
 
 undo_keeps : (env : Environment) (P : Core → Type 0) → IsKeptByChanges env P → (u : Undoing) (w : World) → P (core_of w) → P (core_of (undo env u w))
 undo_keeps env P k (cleans h (sets n v)) w p =
-    set_case env P k n v (standing w.signals n) (tell (cleaned h (sets n v)) w) refl (told P w (cleaned h (sets n v) ∷ []) refl p)
+    set_case env P k n v (standing w.signals n) (tell (cleaned h (sets n v)) w) refl (told P w (cleaned h (sets n v) ∷ []) refl refl p)
 undo_keeps env P k (cleans h (logs v)) w p =
-    told P (tell (cleaned h (logs v)) w) (logged v ∷ []) refl (told P w (cleaned h (logs v) ∷ []) refl p)
-undo_keeps env P k (ends h) w p = told P (end_of h w) (gone h ∷ []) refl (end_keeps env P k h w p)
+    told P (tell (cleaned h (logs v)) w) (logged v ∷ []) refl refl (told P w (cleaned h (logs v) ∷ []) refl refl p)
+undo_keeps env P k (ends h) w p = told P (end_of h w) (gone h ∷ []) refl refl (end_keeps env P k h w p)
 
 undo_all_keeps : (env : Environment) (P : Core → Type 0) → IsKeptByChanges env P → (us : List Undoing) (w : World) → P (core_of w) →
     P (core_of (undo_all env us w))
@@ -267,22 +308,22 @@ dispose_keeps env P k t w p = go (lives t w)
   where
     go : (b : Bool) → P (core_of (cond b (dispose_live env t w) (tell (refused (thing_gone t)) w)))
     go true = undo_all_keeps env P k (disposal_of t w.owned) (record w { owned = taken_out t w.owned }) p
-    go false = told P w (refused (thing_gone t) ∷ []) refl p
+    go false = told P w (refused (thing_gone t) ∷ []) refl refl p
 
 -- ---- acts, runs and commands
 
 act_keeps : (env : Environment) (P : Core → Type 0) → IsKeptByChanges env P → (e j : ℕ) (a : Act) (w : World) → P (core_of w) →
     P (core_of (do_act env e j a w))
 act_keeps env P k e j (to_set n v) w p = set_case env P k n v (standing w.signals n) w refl p
-act_keeps env P k e j (to_log v) w p = told P w (logged v ∷ []) refl p
-act_keeps env P k e j (to_note c) w p = told P w _ refl p
-act_keeps env P k e j (to_make b) w p = told P w _ refl p
+act_keeps env P k e j (to_log v) w p = told P w (logged v ∷ []) refl refl p
+act_keeps env P k e j (to_note c) w p = told P w _ refl refl p
+act_keeps env P k e j (to_make b) w p = told P w _ refl refl p
 act_keeps env P k e j (to_dispose t) w p = dispose_keeps env P k t w p
 act_keeps env P k e j (to_rewire n r) w p = rewire_keeps env P k n r w p
 
 result_keeps : (env : Environment) (P : Core → Type 0) → IsKeptByChanges env P → (e : ℕ) (r : BodyResult) (w : World) → P (core_of w) →
     P (core_of (do_result env e r w))
-result_keeps env P k e (failed_by f) w p = told P w (failed e f ∷ []) refl p
+result_keeps env P k e (failed_by f) w p = told P w (failed e f ∷ []) refl refl p
 result_keeps env P k e (to_do as') w p = acts_keep env (λ v. P (core_of v)) e (λ j a v h q. act_keeps env P k e j a v q) 1 as' w p
 
 run_keeps : (env : Environment) (P : Core → Type 0) → IsKeptByChanges env P → (x : Effect) (w : World) → P (core_of w) →
@@ -293,17 +334,21 @@ run_keeps env P k x w p =
     let b : BodyEvaluation = body_evaluation env.hosts w'.signals x.body in
     let v : World = settle env (names_of b.reads) w' in
     result_keeps env P k x.number b.result (keep_reads x.number b.tracked v)
-    (told P v _ refl (settle_keeps env P k (names_of b.reads) w'
+    (told P v _ refl refl (settle_keeps env P k (names_of b.reads) w'
     (undo_all_keeps env P k (teardown_of e (under e w.owned)) (record w { owned = emptied e w.owned }) p)))
 
--- a flush keeps it
+by_runs : (env : Environment) (P : Core → Type 0) → IsKeptByChanges env P → IsKeptByRuns env (λ v. P (core_of v))
+by_runs env P k = record { settles = λ names v q. settle_keeps env P k names v q; runs = λ e x v h q. run_keeps env P k x v q }
+
+-- a turn keeps it, and a flush
+pub turn_keeps_core : (env : Environment) (P : Core → Type 0) → IsKeptByChanges env P → (w : World) → P (core_of w) → P (core_of (turn env w).world)
+turn_keeps_core env P k w p = turn_keeps env (λ v. P (core_of v)) (by_runs env P k) w p
+
 pub flush_keeps_core : (env : Environment) (P : Core → Type 0) → IsKeptByChanges env P → (w : World) → P (core_of w) → P (core_of (flush env w).world)
-flush_keeps_core env P k w p =
-    flush_keeps env (λ v. P (core_of v))
-    (record { settles = λ names v q. settle_keeps env P k names v q; runs = λ e x v h q. run_keeps env P k x v q }) 100 w p
+flush_keeps_core env P k w p = flush_keeps env (λ v. P (core_of v)) (by_runs env P k) 100 w p
 
 told_if_keeps : (P : Core → Type 0) (b : Bool) (w : World) → P (core_of w) → P (core_of (told_if b w))
-told_if_keeps P true w p = told P w (refused still_due ∷ []) refl p
+told_if_keeps P true w p = told P w (refused still_due ∷ []) refl refl p
 told_if_keeps P false w p = p
 
 done_keeps : (env : Environment) (P : Core → Type 0) → IsKeptByChanges env P → (c : Command) (w : World) → command_refused c w ≡ None →
@@ -332,7 +377,7 @@ pub command_keeps : (env : Environment) (P : Core → Type 0) → IsKeptByChange
     P (core_of (after_command env w c))
 command_keeps env P k w c p =
     either_way (λ v. P (core_of v)) (command_refused c w) (done_by env c w) w (λ h. done_keeps env P k c w h p)
-    (λ why. told P w (refused why ∷ []) refl p)
+    (λ why. told P w (refused why ∷ []) refl refl p)
 
 -- and so do any
 pub commands_keep : (env : Environment) (P : Core → Type 0) → IsKeptByChanges env P → (cs : List Command) (w : World) → P (core_of w) →

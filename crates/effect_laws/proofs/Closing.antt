@@ -1,6 +1,6 @@
 -- Cleanups are done for a run or an end alone.
-use Rattle.std.proofs.Common.{◌≡◌, ℕ, ◌+◌, Bool, true, false, cond, List, [], ◌∷◌, ◌++◌, map, Option, Some, None, refl, sym, ap, ◌∙◌}
-use Rattle.std.proofs.Common.{subst, arith, inl, inr, if◌then◌else◌}
+use Rattle.std.proofs.Common.{◌≡◌, ℕ, ◌+◌, Bool, true, false, cond, List, [], ◌∷◌, ◌++◌, map, Option, Some, None, refl, sym, ap, ◌∙◌, subst, arith}
+use Rattle.std.proofs.Common.{inl, inr, if◌then◌else◌}
 use Rattle.std.proofs.lemmas.List.{append_assoc, append-nil}
 use Rattle.signal_model.proofs.Shared.{tested}
 use Rattle.sig_base.specs.declared.value.Value.{Value}
@@ -13,16 +13,14 @@ use Rattle.effect_model.specs.Owning.{Thing, the_signal, the_effect, same_thing,
 use Rattle.effect_model.specs.Owning.{teardown_of, under, emptied, taken_out, disposal_of}
 use Rattle.effect_model.specs.Bodies.{Act, to_set, to_log, to_note, to_make, to_dispose, to_rewire, BodyEvaluation, BodyResult, to_do, failed_by}
 use Rattle.effect_model.specs.Bodies.{body_evaluation}
-use Rattle.effect_model.specs.Worlds.{Environment, Watcher, Effect, Event, ran, cleaned, gone, refused, Refused, thing_gone, World, tell}
-use Rattle.effect_model.specs.Worlds.{lives, settle}
-use Rattle.effect_model.specs.Acts.{notified_by, frozen_by, told_of, told_frozen, notify, with_new_value, are_alike, set_standing, host_of}
-use Rattle.effect_model.specs.Acts.{with_drop, with_use, rewiring_refused, rewire_standing, or_refused, rewire_signal}
-use Rattle.effect_model.specs.Acts.{end_standing, end_of, undo, undo_all, take_back, dispose_live, dispose_thing}
-use Rattle.effect_model.specs.Running.{do_act, keep_reads, do_result, run_effect}
-use Rattle.effect_model.specs.Running.{flush}
+use Rattle.effect_model.specs.Worlds.{Environment, Watcher, Effect, Event, ran, cleaned, gone, refused, Refused, thing_gone, World, tell, lives}
+use Rattle.effect_model.specs.Worlds.{settle}
+use Rattle.effect_model.specs.Acts.{notified_by, frozen_by, told_of, told_frozen, notify, with_new_value, are_alike, set_standing, host_of, with_drop}
+use Rattle.effect_model.specs.Acts.{with_use, rewiring_refused, rewire_standing, or_refused, rewire_signal, end_standing, end_of, undo, undo_all}
+use Rattle.effect_model.specs.Acts.{take_back, dispose_live, dispose_thing}
+use Rattle.effect_model.specs.Running.{do_act, keep_reads, do_result, run_effect, flush}
 use Rattle.effect_model.specs.Commands.{Command, cell, computed, owner, effect, page, watcher, watch, unwatch, set, rewire, ask, dispose, flush_all}
-use Rattle.effect_model.specs.Commands.{new_world, with_new_computed}
-use Rattle.effect_model.specs.Commands.{told_if, command_refused, done_by, after_command, after_commands}
+use Rattle.effect_model.specs.Commands.{new_world, with_new_computed, told_if, command_refused, done_by, after_command, after_commands}
 use Rattle.effect_laws.proofs.Names.{either_way}
 use Rattle.effect_laws.proofs.Turns.{IsKeptByRuns, flush_keeps, acts_keep}
 use Rattle.signal_model.specs.Asks.{Moment, moments}

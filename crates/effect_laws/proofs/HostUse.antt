@@ -1,7 +1,6 @@
 -- Each host formula is used by one computed at most, and its asks are those of the runs that were told.
 use Rattle.std.proofs.Common.{◌≡◌, ℕ, zero, suc, ◌+◌, ◌==◌, Bool, true, false, cond, List, [], ◌∷◌, ◌++◌, slice_get, replicate, Option, Some, None}
-use Rattle.std.proofs.Common.{refl, sym, ap, ◌∙◌, subst, arith, ◌⊎◌, inl, inr}
-use Rattle.std.proofs.Common.{set as put_at}
+use Rattle.std.proofs.Common.{refl, sym, ap, ◌∙◌, subst, arith, ◌⊎◌, inl, inr, set as put_at}
 use Rattle.std.proofs.lemmas.Bool.{eqb-true, eq-eqb}
 use Rattle.std.proofs.lemmas.Bool.Decides.{nat_tests}
 use Rattle.std.specs.List.{AllByRecursion}
@@ -11,12 +10,13 @@ use Rattle.signal_model.specs.Settling.{Run, settled}
 use Rattle.signal_model.specs.Asks.{Moment, moments, is_host, asks_host, good_reads, asks_of}
 use Rattle.signal_model.proofs.Shared.{tested, stands-computed}
 use Rattle.signal_laws.specs.RunLaws.{IsScratchRun}
-use Rattle.signal_laws.proofs.Shared.{scratch_runs_law, computed_other, computed_out, computed_left}
-use Rattle.effect_model.specs.Worlds.{Environment, HostState, unused, used, dropped, asked_more, asked_by}
+use Rattle.signal_laws.proofs.Shared.{all_append, scratch_runs_law, computed_other, computed_out, computed_left}
+use Rattle.effect_model.specs.Worlds.{Environment, HostState, unused, used, dropped, World, asked_more, asked_by}
 use Rattle.effect_model.specs.Acts.{host_of, asks_so_far, is_free}
-use Rattle.effect_model.specs.Commands.{new_world}
-use Rattle.effect_laws.specs.HostUse.{is_used, HaveHosts, HostLaw}
-use Rattle.effect_laws.proofs.Changes.{Core, used_states, dropped_states, IsFree, IsKeptByChanges, commands_keep}
+use Rattle.effect_model.specs.Commands.{new_world, after_commands}
+use Rattle.effect_laws.specs.HostUse.{is_used, HaveHosts, Drop, drops_told, HostLaw}
+use Rattle.effect_laws.specs.KeptWorlds.{runs_told}
+use Rattle.effect_laws.proofs.Changes.{Core, used_states, dropped_states, drops_more, core_of, IsFree, IsHostOf, IsKeptByChanges, commands_keep}
 
 -- ---- host formulas that are used or dropped
 
@@ -298,9 +298,78 @@ used_after ms i (p ∷ ps) (suc k) = used_after ms (suc i) ps k
 
 -- ---- all changes
 
--- the computeds have their host formulas, and the asks agree
+-- ---- drops
+
+-- a host formula that was dropped stands as dropped, with the asks that were told
+abbrev IsDropped : List HostState → Drop → Type 0
+IsDropped hs d = slice_get hs d.place ≡ Some (dropped d.asks)
+
+-- settling leaves it so
+dropped_after : (ms : List Moment) (i : ℕ) (hs : List HostState) (d : Drop) → IsDropped hs d → IsDropped (asked_by ms i hs) d
+dropped_after ms i hs d h = go ms i hs d.place d.asks h
+  where
+    go : (ms : List Moment) (i : ℕ) (hs : List HostState) (k a : ℕ) → slice_get hs k ≡ Some (dropped a) →
+        slice_get (asked_by ms i hs) k ≡ Some (dropped a)
+    go ms i [] k a h = cc
+    go ms i (unused ∷ hs) zero a h = cc
+    go ms i (used b ∷ hs) zero a h = cc
+    go ms i (dropped b ∷ hs) zero a h = h
+    go ms i (p ∷ hs) (suc k) a h = go ms (suc i) hs k a h
+
+-- what is dropped is neither free nor used, so a use or a drop is of another
+use_dropped : (p : Option ℕ) (hs : List HostState) (d : Drop) → IsFree p hs → IsDropped hs d → IsDropped (used_states p hs) d
+use_dropped None hs d free h = h
+use_dropped (Some j) hs d free h = elim (tested (d.place == j)) [
+  | inr e ↦ set_other hs j (used 0) d.place e ∙ h
+  | inl e ↦ absurd (no (slice_get hs j) (ap (slice_get hs) (sym (eqb-true d.place j e)) ∙ h) (free j refl))
+]
+  where
+    no : (x : Option HostState) → x ≡ Some (dropped d.asks) → is_free x ≡ true → ⊥
+    no x e f = cc (sym (ap is_free e) ∙ f)
+
+drop_dropped : (p : Option ℕ) (hs : List HostState) (d : Drop) → ((k : ℕ) → p ≡ Some k → is_used (slice_get hs k) ≡ true) → IsDropped hs d →
+    IsDropped (dropped_states p hs) d
+drop_dropped None hs d there h = h
+drop_dropped (Some j) hs d there h = elim (tested (d.place == j)) [
+  | inr e ↦ set_other hs j (dropped (asks_so_far (slice_get hs j))) d.place e ∙ h
+  | inl e ↦ absurd (no (slice_get hs j) (ap (slice_get hs) (sym (eqb-true d.place j e)) ∙ h) (there j refl))
+]
+  where
+    no : (x : Option HostState) → x ≡ Some (dropped d.asks) → is_used x ≡ true → ⊥
+    no x e u = cc (sym (ap is_used e) ∙ u)
+
+-- one that was used stands as dropped afterwards
+now_dropped : (hs : List HostState) (j a : ℕ) → is_used (slice_get hs j) ≡ true → slice_get (put_at hs j (dropped a)) j ≡ Some (dropped a)
+now_dropped [] j a u = cc
+now_dropped (p ∷ hs) zero a u = refl
+now_dropped (p ∷ hs) (suc j) a u = now_dropped hs j a u
+
+each_so : (P Q : Drop → Type 0) (ds : List Drop) → ((d : Drop) → P d → Q d) → AllByRecursion P ds → AllByRecursion Q ds
+each_so P Q [] f h = tt
+each_so P Q (d ∷ ds) f h = (f d h.0, each_so P Q ds f h.1)
+
+-- after a drop of one that is used, if any
+drops_stand : (p : Option ℕ) (hs : List HostState) (ds : List Drop) → ((k : ℕ) → p ≡ Some k → is_used (slice_get hs k) ≡ true) →
+    AllByRecursion (IsDropped hs) ds → AllByRecursion (IsDropped (dropped_states p hs)) (drops_more p hs ds)
+drops_stand None hs ds there h = h
+drops_stand (Some k) hs ds there h =
+    all_append (IsDropped (dropped_states (Some k) hs)) ds _
+    (each_so (IsDropped hs) (IsDropped (dropped_states (Some k) hs)) ds (λ d g. drop_dropped (Some k) hs d there g) h)
+    (now_dropped hs k (asks_so_far (slice_get hs k)) (there k refl), tt)
+
+-- ---- all changes
+
+-- the computeds have their host formulas, the asks agree, and what was dropped stands so
 abbrev Hosted : Core → Type 0
 Hosted c = HaveHosts c.signals.computeds c.host_states × ((k : ℕ) → asks_so_far (slice_get c.host_states k) ≡ asks_of k c.runs)
+    × AllByRecursion (IsDropped c.host_states) c.drops
+
+-- the host formula of a computed is used
+used_host : (c : Core) (n : ℕ) (old : Option ℕ) → HaveHosts c.signals.computeds c.host_states → IsHostOf c.signals n old → (k : ℕ) → old ≡ Some k →
+    is_used (slice_get c.host_states k) ≡ true
+used_host c n old a own k e =
+    let y : (x : Computed) × (standing c.signals n ≡ IsComputed x) × (host_of x.recipe.expression ≡ Some k) = own k e in
+    a.there n y.0 k (stands-computed c.signals n y.0 y.1) y.2
 
 settled_asks : (env : Environment) (names : List ℕ) (c : Core) → Hosted c → (k : ℕ) →
     asks_so_far (slice_get (asked_by (moments c.signals (settled env.hosts c.signals c.memos names).runs) 0 c.host_states) k)
@@ -334,23 +403,34 @@ changes_host env = record {
       own = h.0.own;
     },
     settled_asks env names c h,
+    each_so (IsDropped c.host_states)
+        (IsDropped (asked_by (moments c.signals (settled env.hosts c.signals c.memos names).runs) 0 c.host_states)) c.drops
+        (λ d g. dropped_after (moments c.signals (settled env.hosts c.signals c.memos names).runs) 0 c.host_states d g) h.2,
   );
   sets = λ n v x c e h. h;
   rewires = λ n r x c e stand free h. (
     rewired n r c.signals.computeds c.host_states x (stands-computed c.signals n x e) free h.0,
     λ k. drop_asks (host_of x.recipe.expression) (used_states (host_of r.expression) c.host_states) k
         ∙ (use_asks (host_of r.expression) c.host_states k free ∙ h.1 k),
+    drops_stand (host_of x.recipe.expression) (used_states (host_of r.expression) c.host_states) c.drops
+        (λ k f. let u : is_used (slice_get c.host_states k) ≡ true = h.0.there n x k (stands-computed c.signals n x e) f in
+        ap is_used (use_stays (host_of r.expression) c.host_states k free u) ∙ u)
+        (each_so (IsDropped c.host_states) (IsDropped (used_states (host_of r.expression) c.host_states)) c.drops
+        (λ d g. use_dropped (host_of r.expression) c.host_states d free g) h.2),
   );
-  ends = λ n old c stands host h. (
+  ends = λ n old c stands whose h. (
     ends_of n c.signals.computeds c.host_states old
-        (λ k e. let y : (x : Computed) × (standing c.signals n ≡ IsComputed x) × (host_of x.recipe.expression ≡ Some k) = host k e in
+        (λ k e. let y : (x : Computed) × (standing c.signals n ≡ IsComputed x) × (host_of x.recipe.expression ≡ Some k) = whose k e in
         (y.0, stands-computed c.signals n y.0 y.1, y.2)) h.0,
     λ k. drop_asks old c.host_states k ∙ h.1 k,
+    drops_stand old c.host_states c.drops (used_host c n old h.0 whose) h.2,
   );
   makes_cell = λ v rule c h. h;
   makes_computed = λ r c stand free h. (
     more c.signals.computeds c.host_states (record { name = c.made; recipe = r }) free h.0,
     λ k. use_asks (host_of r.expression) c.host_states k free ∙ h.1 k,
+    each_so (IsDropped c.host_states) (IsDropped (used_states (host_of r.expression) c.host_states)) c.drops
+        (λ d g. use_dropped (host_of r.expression) c.host_states d free g) h.2,
   );
 }
 
@@ -361,4 +441,15 @@ unused_asks (suc n) (suc k) = unused_asks n k
 
 pub host_law : HostLaw
 host_law env n cs =
-    commands_keep env Hosted (changes_host env) cs (new_world n) (record { there = λ m x k h e. cc; own = λ m i x y k h j d e. cc }, unused_asks n)
+    let w : World = after_commands env (new_world n) cs in
+    let h : Hosted (core_of w) = commands_keep env Hosted (changes_host env) cs (new_world n)
+    (record { there = λ m x k h e. cc; own = λ m i x y k h j d e. cc }, unused_asks n, tt) in
+    let told : (d : Drop) → IsDropped w.host_states d → d.asks ≡ asks_of d.place (runs_told w.told)
+    = λ d g. ap asks_so_far (sym g) ∙ h.1 d.place in (
+      h.0,
+      record {
+        kept = h.1;
+        told =
+            each_so (IsDropped w.host_states) (λ d. d.asks ≡ asks_of d.place (runs_told w.told)) (drops_told w.told) told h.2;
+      },
+    )

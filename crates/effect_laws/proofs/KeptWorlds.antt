@@ -16,7 +16,7 @@ use Rattle.effect_laws.specs.KeptWorlds.{IsCurrentMoment, IsKeptWorld, NewWorldL
 use Rattle.effect_laws.proofs.Changes.{Core, core_of, AllStand, IsKeptByChanges, flush_keeps_core, command_keeps, commands_keep}
 
 -- the memos of the part that changes, the names in use, and the runs that were told
-abbrev Kept : Environment → Core → Type 0
+abbrev pub Kept : Environment → Core → Type 0
 Kept env c = AreKept env.hosts c.signals c.memos × AreGiven (given_below c.made) c.signals c.memos × AllByRecursion (IsCurrentMoment env) c.runs
 
 -- the runs of a settling are current at its moment
@@ -30,7 +30,7 @@ moments_current env w k asked kept (r ∷ rs) h =
 stand_given : (made : ℕ) (w : Signals) (k : Memos) (ns : List ℕ) → AreGiven (given_below made) w k → AllStand w ns → AllGiven (given_below made) ns
 stand_given made w k ns g s n i = g.names n (s n i)
 
-changes_keep : (env : Environment) → IsKeptByChanges env (Kept env)
+pub changes_keep : (env : Environment) → IsKeptByChanges env (Kept env)
 changes_keep env = record {
   settles = λ names c k. (
     settle_law env.hosts c.signals c.memos names k.0,
@@ -71,7 +71,7 @@ changes_keep env = record {
       );
 }
 
-of_world : (env : Environment) (w : World) → IsKeptWorld env w → Kept env (core_of w)
+pub of_world : (env : Environment) (w : World) → IsKeptWorld env w → Kept env (core_of w)
 of_world env w k = (k.memos, k.names, k.runs)
 
 to_world : (env : Environment) (w : World) → Kept env (core_of w) → IsKeptWorld env w

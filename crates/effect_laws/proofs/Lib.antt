@@ -1,16 +1,19 @@
-pub mod Trees
-pub mod Ledgers
-pub mod Names
-pub mod Turns
-pub mod Steps
-pub mod Makings
-pub mod Runs
-pub mod Scripts
-pub mod Silence
-pub mod Closing
-pub mod Asking
-pub mod Changes
-pub mod KeptWorlds
-pub mod HostUse
-pub mod Notified
-pub mod Resting
+mod Trees
+mod Ledgers
+mod Names
+mod Turns
+mod Steps
+mod Makings
+mod Runs
+mod Scripts
+mod Silence
+mod Closing
+mod Asking
+mod Changes
+mod KeptWorlds
+mod HostUse
+mod Notified
+mod Resting
+mod StillSettled
+mod QuietFlush
+pub mod Shared

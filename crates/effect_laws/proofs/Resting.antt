@@ -1,23 +1,22 @@
 -- A flush that isn't refused leaves no effect due, and one that is leaves one.
-use Rattle.std.proofs.Common.{◌≡◌, ◌==◌, ◌||◌, ℕ, zero, suc, Bool, true, false, cond, List, [], ◌∷◌, Option, Some, None, arith, refl, sym}
-use Rattle.std.proofs.Common.{ap, ◌∙◌, subst, inl, inr}
+use Rattle.std.proofs.Common.{◌≡◌, ◌==◌, ◌||◌, ℕ, zero, suc, Bool, true, false, cond, List, [], ◌∷◌, Option, Some, None, arith, refl, sym, ap, ◌∙◌}
+use Rattle.std.proofs.Common.{subst, inl, inr}
 use Rattle.std.proofs.lemmas.Bool.{eqb-true}
 use Rattle.signal_model.specs.Standing.{Signals, is_in}
 use Rattle.signal_model.specs.Values.{value_of}
 use Rattle.signal_model.proofs.Shared.{either}
 use Rattle.effect_model.specs.Worlds.{Environment, Effect, World, effect_at, effect_numbers}
 use Rattle.effect_model.specs.Running.{is_effect_due, value_now, look, Turned, after_look, at_place, turn_over, turn, Flushed, after_last, last_case}
-use Rattle.effect_model.specs.Running.{last_look}
-use Rattle.effect_model.specs.Running.{after_turn, flush_within}
+use Rattle.effect_model.specs.Running.{last_look, after_turn, flush_within}
 use Rattle.effect_laws.specs.Resting.{HasDue, NoneDue, EndsRightly, RestLaw}
 
 -- whether an effect is due on these signals, where there is one
-abbrev is_due_on : Environment → Signals → Option Effect → Bool
+abbrev pub is_due_on : Environment → Signals → Option Effect → Bool
 is_due_on env s None = false
 is_due_on env s (Some x) = is_effect_due (λ m. value_of env.hosts s m []) x.kept
 
 -- of these numbers none has an effect that is due
-abbrev NoneOf : Environment → Signals → List Effect → List ℕ → Type 0
+abbrev pub NoneOf : Environment → Signals → List Effect → List ℕ → Type 0
 NoneOf env s xs [] = Unit {0}
 NoneOf env s xs (e ∷ es) = (is_due_on env s (effect_at e xs) ≡ false) × NoneOf env s xs es
 
@@ -47,7 +46,7 @@ none_in : (env : Environment) (s : Signals) (xs : List Effect) → NoneOf env s 
 none_in env s xs h n x at = ap (is_due_on env s) (sym at) ∙ one_of env s xs (effect_numbers xs) n h (is_numbered n xs x at)
 
 -- the signals and effects are these still, and of these numbers none has an effect that is due
-abbrev Rests : Environment → Signals → List Effect → List ℕ → World → Type 0
+abbrev pub Rests : Environment → Signals → List Effect → List ℕ → World → Type 0
 Rests env s xs es v = (v.signals ≡ s) × (v.effects ≡ xs) × NoneOf env s xs es
 
 rests_none : (env : Environment) (w v : World) → Rests env w.signals w.effects (effect_numbers w.effects) v → NoneDue env v
@@ -56,12 +55,12 @@ rests_none env w v r =
 
 -- ---- the last look
 
-record Ends (env : Environment) (w : World) (es : List ℕ) (f : Flushed) : Type 0 where
-  turns : f.turns ≡ 0
-  refused : f.refused ≡ true → HasDue env f.world
-  rests : f.refused ≡ false → Rests env w.signals w.effects es f.world
+pub record Ends (env : Environment) (w : World) (es : List ℕ) (f : Flushed) : Type 0 where
+  pub turns : f.turns ≡ 0
+  pub refused : f.refused ≡ true → HasDue env f.world
+  pub rests : f.refused ≡ false → Rests env w.signals w.effects es f.world
 
-last_ends : (env : Environment) (es : List ℕ) (w : World) → Ends env w es (last_look env es w)
+pub last_ends : (env : Environment) (es : List ℕ) (w : World) → Ends env w es (last_look env es w)
 last_ends env [] w = record { turns = refl; refused = λ h. cc; rests = λ h. (refl, refl, tt) }
 last_ends env (e ∷ es) w = found (effect_at e w.effects) refl (λ v. last_ends env es v)
   where
@@ -87,7 +86,7 @@ last_ends env (e ∷ es) w = found (effect_at e w.effects) refl (λ v. last_ends
 -- ---- a turn
 
 -- once an effect has run, it has
-ran_stays : (env : Environment) (es : List ℕ) (t : Turned) → t.ran ≡ true → (turn_over env es t).ran ≡ true
+pub ran_stays : (env : Environment) (es : List ℕ) (t : Turned) → t.ran ≡ true → (turn_over env es t).ran ≡ true
 ran_stays env [] t h = h
 ran_stays env (e ∷ es) t h = ran_stays env es (at_place env (effect_at e t.world.effects) t) (found (effect_at e t.world.effects))
   where
@@ -99,7 +98,7 @@ ran_stays env (e ∷ es) t h = ran_stays env es (at_place env (effect_at e t.wor
         go true = refl
         go false = h
 
-turn_rests : (env : Environment) (es : List ℕ) (t : Turned) → (turn_over env es t).ran ≡ false →
+pub turn_rests : (env : Environment) (es : List ℕ) (t : Turned) → (turn_over env es t).ran ≡ false →
     Rests env t.world.signals t.world.effects es (turn_over env es t).world
 turn_rests env [] t h = (refl, refl, tt)
 turn_rests env (e ∷ es) t h = found (effect_at e t.world.effects) refl h (λ u k. turn_rests env es u k)

@@ -1,6 +1,5 @@
 -- Runs of effects, turns and a flush keep the ledger.
-use Rattle.std.proofs.Common.{◌≡◌, ℕ, ◌+◌, ◌≤◌, ◌==◌, Bool, false, List, [], Some, None, refl, sym, ap, subst}
-use Rattle.std.proofs.Common.{arith}
+use Rattle.std.proofs.Common.{◌≡◌, ℕ, ◌+◌, ◌≤◌, ◌==◌, Bool, false, List, [], Some, None, refl, sym, ap, subst, arith}
 use Rattle.std.proofs.lemmas.Bool.{eq-eqb}
 use Rattle.signal_model.specs.Standing.{standing}
 use Rattle.signal_model.specs.Values.{Seen}
@@ -8,12 +7,9 @@ use Rattle.signal_model.specs.Sound.{names_of}
 use Rattle.effect_model.specs.Owning.{Thing, the_effect, same_thing, Cleanup, Owned, teardown_of, under, emptied, put_under, alone}
 use Rattle.effect_model.specs.Bodies.{Body, Act, to_set, to_log, to_note, to_make, to_dispose, to_rewire, BodyEvaluation, BodyResult, to_do}
 use Rattle.effect_model.specs.Bodies.{failed_by, body_evaluation}
-use Rattle.effect_model.specs.Worlds.{Environment, Effect, logged, body_ran, failed, made_child, World, tell, effect_at, effect_numbers}
-use Rattle.effect_model.specs.Worlds.{settle}
+use Rattle.effect_model.specs.Worlds.{Environment, Effect, logged, body_ran, failed, made_child, World, tell, effect_at, effect_numbers, settle}
 use Rattle.effect_model.specs.Acts.{take_back}
-use Rattle.effect_model.specs.Running.{with_effect, make_child, do_act, keep_reads, do_result}
-use Rattle.effect_model.specs.Running.{run_body, run_effect}
-use Rattle.effect_model.specs.Running.{flush}
+use Rattle.effect_model.specs.Running.{with_effect, make_child, do_act, keep_reads, do_result, run_body, run_effect, flush}
 use Rattle.effect_laws.proofs.Turns.{flush_keeps, acts_keep}
 use Rattle.effect_laws.specs.Counting.{bit, times_in, roll_of, alive, times, found, waiting_under}
 use Rattle.effect_laws.proofs.Trees.{found_least, found_emptied, none_emptied}

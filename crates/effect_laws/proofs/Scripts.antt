@@ -13,10 +13,10 @@ use Rattle.effect_model.specs.Acts.{forget, host_of, host_refused, some_gone}
 use Rattle.effect_model.specs.Running.{flush}
 use Rattle.effect_model.specs.Commands.{Command, cell, computed, owner, effect, page, watcher, watch, unwatch, set, rewire, ask, dispose, flush_all}
 use Rattle.effect_model.specs.Commands.{new_world, inside_refused, with_new_cell, with_new_computed, with_new_owner, with_new_effect, with_new_page}
-use Rattle.effect_model.specs.Commands.{with_new_watcher, armed, changed_watcher, told_if, command_refused, done_by, after_command}
-use Rattle.effect_model.specs.Commands.{after_commands}
+use Rattle.effect_model.specs.Commands.{with_new_watcher, armed, changed_watcher, told_if, command_refused, done_by, after_command, after_commands}
 use Rattle.effect_laws.specs.Counting.{bit, times_in, roll_of, alive, was_made, times}
 use Rattle.effect_laws.specs.Ends.{EndLaw}
+use Rattle.effect_laws.specs.Living.{LifeLaw}
 use Rattle.effect_laws.proofs.Ledgers.{Ledger, made_thing}
 use Rattle.effect_laws.proofs.Names.{names_changed, lives_alive, count_more, neither, either_way}
 use Rattle.effect_laws.proofs.Steps.{Tidy, same_roll, tell_tidy, settle_tidy, set_tidy, use_tidy, rewire_signal_tidy, dispose_tidy}
@@ -178,8 +178,23 @@ empty_tidy hosts = record {
     held : (t : Thing) → 0 + 0 ≤ alive t (roll_of (new_world hosts))
     held t = omega arith
 
--- the law
+-- so the ledger of any commands
+tidy_after : (env : Environment) (hosts : ℕ) (cs : List Command) → Tidy (after_commands env (new_world hosts) cs) []
+tidy_after env hosts cs = steps_tidy env cs (new_world hosts) (empty_tidy hosts)
+
+-- the laws
 pub end_law : EndLaw
 end_law env hosts cs =
-    let t : Tidy (after_commands env (new_world hosts) cs) [] = steps_tidy env cs (new_world hosts) (empty_tidy hosts) in
+    let t : Tidy (after_commands env (new_world hosts) cs) [] = tidy_after env hosts cs in
     (t.timely, λ h p. let a : _ ≡ _ = t.notes h p in omega arith)
+
+pub life_law : LifeLaw
+life_law env hosts cs =
+    let t : Tidy (after_commands env (new_world hosts) cs) [] = tidy_after env hosts cs in
+    record {
+      once = t.once;
+      owned = λ h. let a : times h (after_commands env (new_world hosts) cs).owned + 0 ≤ alive h (roll_of (after_commands env (new_world hosts) cs)) =
+          t.held h in omega arith;
+      effects = λ n. let a : _ ≤ times (the_effect n) (after_commands env (new_world hosts) cs).owned + 0 = t.effects n in omega arith;
+      owners = λ n. let a : _ ≤ times (the_owner n) (after_commands env (new_world hosts) cs).owned + 0 = t.owners n in omega arith;
+    }

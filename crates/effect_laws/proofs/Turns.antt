@@ -4,8 +4,7 @@ use Rattle.effect_model.specs.Bodies.{Act}
 use Rattle.effect_model.specs.Owning.{the_effect}
 use Rattle.effect_model.specs.Worlds.{Environment, Effect, World, effect_at, effect_numbers, lives, settle}
 use Rattle.effect_model.specs.Running.{is_effect_due, looked_names, value_now, look, do_act, next_child, do_acts, run_effect, Turned, after_look}
-use Rattle.effect_model.specs.Running.{at_place}
-use Rattle.effect_model.specs.Running.{turn_over, Flushed, after_last, last_case, last_look, after_turn, turn, flush_within}
+use Rattle.effect_model.specs.Running.{at_place, turn_over, Flushed, after_last, last_case, last_look, after_turn, turn, flush_within}
 
 -- it is kept by settling, and by each run of an effect that lives
 pub record IsKeptByRuns (env : Environment) (P : World → Type 0) : Type 0 where
@@ -46,12 +45,16 @@ after : (P : World → Type 0) (b : Bool) (w : World) (go : World → Flushed) �
 after P true w go h p = h w p
 after P false w go h p = p
 
+-- a turn keeps it
+pub turn_keeps : (env : Environment) (P : World → Type 0) → IsKeptByRuns env P → (w : World) → P w → P (turn env w).world
+turn_keeps env P k w p = turned env P k (effect_numbers w.effects) (record { world = w; ran = false }) p
+
 -- a flush keeps it
 pub flush_keeps : (env : Environment) (P : World → Type 0) → IsKeptByRuns env P → (most : ℕ) (w : World) → P w → P (flush_within most env w).world
 flush_keeps env P k zero w p = last_looked env P k (effect_numbers w.effects) w p
 flush_keeps env P k (suc more) w p =
     after P (turn env w).ran (turn env w).world (flush_within more env) (λ v q. flush_keeps env P k more v q)
-    (turned env P k (effect_numbers w.effects) (record { world = w; ran = false }) p)
+    (turn_keeps env P k w p)
 
 -- where each act of a live effect keeps it, all acts do
 pub acts_keep : (env : Environment) (P : World → Type 0) (e : ℕ) →

@@ -5,3 +5,5 @@ pub mod KeptWorlds
 pub mod HostUse
 pub mod Notified
 pub mod Resting
+pub mod Living
+pub mod QuietFlush

@@ -3,13 +3,20 @@ ghost use Rattle.effect_laws.specs.Asking.{BodyLaw};
 ghost use Rattle.effect_laws.specs.Ends.{ClosingLaw, EndLaw, SilenceLaw};
 ghost use Rattle.effect_laws.specs.HostUse.{HostLaw};
 ghost use Rattle.effect_laws.specs.KeptWorlds.{CommandLaw, CommandsLaw, FlushLaw, NewWorldLaw};
+ghost use Rattle.effect_laws.specs.Living.{LifeLaw};
 ghost use Rattle.effect_laws.specs.Notified.{NotifiedLaw};
+ghost use Rattle.effect_laws.specs.QuietFlush.{QuietFlushLaw};
 ghost use Rattle.effect_laws.specs.Resting.{RestLaw};
 
 /// Nothing that has ended runs, is evaluated, is notified, is cleaned up or ends again; and each cleanup that was noted is done once
 /// before its effect runs again or ends.
 pub fn end_law()
     ensures { EndLaw }
+{}
+
+/// What was made lives or has ended, once; what is owned lives; and each owner and effect that lives stands where a teardown finds it.
+pub fn life_law()
+    ensures { LifeLaw }
 {}
 
 /// After its end nothing is told of a thing.
@@ -36,7 +43,8 @@ pub fn kept_world_law()
     ensures commands { CommandsLaw }
 {}
 
-/// Each host formula is that of one computed at most, and its asks are those of all runs that were told.
+/// Each host formula is that of one computed at most; its asks are those of all runs that were told, and once it is dropped it isn't
+/// asked again.
 pub fn host_law()
     ensures { HostLaw }
 {}
@@ -49,4 +57,9 @@ pub fn notified_law()
 /// A flush is refused only after a hundred turns that each ran an effect, where one is still due; one that isn't refused leaves none due.
 pub fn rest_law()
     ensures { RestLaw }
+{}
+
+/// A flush after one that wasn't refused does nothing at all.
+pub fn quiet_flush_law()
+    ensures { QuietFlushLaw }
 {}

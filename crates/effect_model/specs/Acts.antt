@@ -1,6 +1,6 @@
 -- What acts do, and how things end.
-use Rattle.std.specs.Prelude.{ℕ, ◌==◌, ◌||◌, ◌&&◌, Bool, true, false, List, [], ◌∷◌, ◌++◌, map, slice_index, slice_get, set, length}
-use Rattle.std.specs.Prelude.{Option, Some, None, if◌then◌else◌}
+use Rattle.std.specs.Prelude.{ℕ, ◌==◌, ◌||◌, ◌&&◌, Bool, true, false, List, [], ◌∷◌, ◌++◌, map, slice_index, slice_get, set, length, Option, Some}
+use Rattle.std.specs.Prelude.{None, if◌then◌else◌}
 use Rattle.std.specs.Option.{option_or}
 use Rattle.std.specs.List.{filter}
 use Rattle.sig_base.specs.declared.value.Value.{Value}
@@ -13,8 +13,7 @@ use Rattle.signal_model.specs.Changes.{with_value, after_change, with_recipe, af
 use Rattle.effect_model.specs.Owning.{Thing, the_signal, the_owner, the_effect, the_page, the_watcher, Cleanup, sets, logs, Undoing, cleans, ends}
 use Rattle.effect_model.specs.Owning.{teardown_of, under, emptied, taken_out, disposal_of}
 use Rattle.effect_model.specs.Worlds.{Environment, HostState, unused, used, dropped, Watcher, Effect, Refused, thing_gone, host_taken, Event}
-use Rattle.effect_model.specs.Worlds.{notified}
-use Rattle.effect_model.specs.Worlds.{frozen, logged, cleaned, gone, dropped_host, refused, World, tell, tell_all, lives}
+use Rattle.effect_model.specs.Worlds.{notified, frozen, logged, cleaned, gone, dropped_host, refused, World, tell, tell_all, lives}
 
 -- ---- notifications
 

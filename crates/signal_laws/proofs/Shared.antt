@@ -29,7 +29,8 @@ pub use Rattle.signal_laws.proofs.AfterChange.{CalmOn, calm_on, Calm, calm_of}
 pub use Rattle.signal_laws.proofs.FollowedSources.{IsRun, StandAs, step_is, follows_run}
 pub use Rattle.signal_laws.proofs.VisitStates.{moved_less, moved_off}
 -- what reads have, and what stands as from scratch
-pub use Rattle.signal_laws.proofs.CleanVisits.{comp_is, is_read-in, is_in-read, read_value, right_source, right_memo, quiet_settle, settle_append}
+pub use Rattle.signal_laws.proofs.CleanVisits.{comp_is, is_read-in, is_in-read, read_value, right_source, right_memo, quiet_here, quiet_settle}
+pub use Rattle.signal_laws.proofs.CleanVisits.{settle_append}
 -- the names that visits have seen
 pub use Rattle.signal_laws.proofs.PlacedVisits.{seen_is, seen_snoc, ordered_first}
 -- what a run leaves

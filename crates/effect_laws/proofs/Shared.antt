@@ -1,0 +1,21 @@
+-- What crates above may cite of these proofs. All else in this folder is this crate's own.
+
+-- ---- the laws
+
+pub use Rattle.effect_laws.proofs.Scripts.{end_law, life_law}
+pub use Rattle.effect_laws.proofs.Silence.{silence_law}
+pub use Rattle.effect_laws.proofs.Closing.{closing_law}
+pub use Rattle.effect_laws.proofs.Asking.{body_law}
+pub use Rattle.effect_laws.proofs.KeptWorlds.{new_world_law, command_law, flush_law, commands_law}
+pub use Rattle.effect_laws.proofs.HostUse.{host_law}
+pub use Rattle.effect_laws.proofs.Notified.{notified_law}
+pub use Rattle.effect_laws.proofs.Resting.{rest_law}
+pub use Rattle.effect_laws.proofs.QuietFlush.{quiet_flush_law}
+-- ---- what steps keep
+
+-- what looks and runs keep, turns and flushes keep
+pub use Rattle.effect_laws.proofs.Turns.{IsKeptByRuns, turn_keeps, flush_keeps, acts_keep}
+-- what each change of the signals keeps, commands keep
+pub use Rattle.effect_laws.proofs.Changes.{Core, core_of, IsKeptByChanges, turn_keeps_core, flush_keeps_core, command_keeps, commands_keep}
+-- what is settled stays so
+pub use Rattle.effect_laws.proofs.StillSettled.{IsSettled, settles, stays_settled, settled_same}
