@@ -1,5 +1,6 @@
-pub mod VisitsLeft
-pub mod NextReads
-pub mod FramesLast
-pub mod StepsHold
-pub mod StepsEnd
+mod VisitsLeft
+mod NextReads
+mod FramesLast
+mod StepsHold
+mod StepsEnd
+pub mod Shared

@@ -120,7 +120,7 @@ module _ (w : Signals) (k : Memos) (evaluating seen : List ℕ) (n : ℕ) (c : C
       less (Running known reads) (Waiting s known reads) (omega (arith, u))
 
   -- a read
-  read_lowers : (slot m : ℕ) (o : Option Outcome) (known : List Known) (reads : List Seen) →
+  pub read_lowers : (slot m : ℕ) (o : Option Outcome) (known : List Known) (reads : List Seen) →
       MoveLowers w k evaluating seen n (Waiting slot known reads) (told slot m o known reads)
   read_lowers slot m None known reads = tt
   read_lowers slot m (Some (Bad z)) known reads = tt

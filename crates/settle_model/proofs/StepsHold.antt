@@ -632,6 +632,12 @@ steps_hold hosts w start names (suc turns) m i = steps_hold hosts w start names 
 pub begun_holds : (hosts : Hosts) (w : Signals) (k : Memos) (asked : List ℕ) → AreKept hosts w k → Holds hosts w k asked (begun k asked)
 begun_holds hosts w k asked kept = record { vs = []; seen = refl; state = first_state hosts w k kept; settled = refl; frames = tt; order = refl }
 
+-- what was visited shows its value from scratch
+pub shown_visited : (hosts : Hosts) (w : Signals) (start : Memos) (names : List ℕ) (m : Underway) → Holds hosts w start names m →
+    (n : ℕ) (d : Computed) → is_in n m.visited ≡ true → standing w n ≡ IsComputed d → standing_outcome w m.memos n ≡ Some (value_of hosts w n [])
+shown_visited hosts w start names m h n d on stands =
+    right_source hosts w m.memos n (λ y st. (h.state.done n y (ap (is_in n) (sym h.seen) ∙ on) st).right)
+
 -- and at the end all is settled
 pub over_settled : (hosts : Hosts) (w : Signals) (k : Memos) (asked : List ℕ) (m : Underway) → AreKept hosts w k → Holds hosts w k asked m →
     IsOver m → IsSettled hosts w k asked m
