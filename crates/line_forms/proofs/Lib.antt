@@ -1,0 +1,9 @@
+pub mod Completing
+pub mod Longest
+pub mod NameBytes
+pub mod OneLine
+pub mod Printable
+pub mod Printing
+pub mod Reprinting
+pub mod Sounding
+pub mod Values

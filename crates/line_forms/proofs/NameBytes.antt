@@ -1,0 +1,18 @@
+-- Which bytes are names.
+use Rattle.std.proofs.Common.{◌≡◌, ℕ, ◌&&◌, true, List, None, length, not, refl, inl, inr}
+use Rattle.std.specs.Prelude.{nat_le}
+use Rattle.std.specs.Str.{IsUtf8}
+use Rattle.std.proofs.lemmas.Bool.{and_parts, cases_Bool}
+use Rattle.sig_base.specs.Words.{is_name, is_word, is_reserved}
+use Rattle.sig_words.specs.Lexemes.{word}
+use Rattle.sig_words.proofs.EachToken.{word_utf8}
+use Rattle.line_forms.specs.Reading.{name_of}
+
+-- a name is a word
+pub name_word : (w : List ℕ) → is_name w ≡ true → is_word w ≡ true
+unfolding is_name
+name_word w h = (and_parts (is_word w) (nat_le (length w) 32) (and_parts (is_word w && nat_le (length w) 32) (not (is_reserved w)) h).0).0
+
+-- bytes that aren't UTF-8 are no name
+pub no_name : (w : List ℕ) → (IsUtf8 w → ⊥) → None ≡ name_of (word w)
+no_name w bad = elim (cases_Bool (is_name w)) [ inl e ↦ absurd (bad (word_utf8 w (name_word w e))) | inr e ↦ rw e refl ]

@@ -1,0 +1,5 @@
+pub mod Forms
+pub mod Printed
+pub mod Reading
+pub mod Rows
+pub mod Told

@@ -1,0 +1,179 @@
+// The small readers: each reads one piece of a line from a place on.
+ghost use Rattle.std.specs.Prelude.{◌≡◌, ℕ, List, None, Some, [], IfOk, MatchOption, if◌then◌else◌, option_map};
+ghost use Rattle.sig_base.specs.declared.scalar.Scalar as scalar;
+ghost use Rattle.sig_words.specs.Lexemes.{lexeme, symbol, word};
+ghost use Rattle.sig_words.specs.Tokens.{AreTokens, IsTokenOf};
+ghost use Rattle.formula_text.specs.Grammar.{Draft};
+ghost use Rattle.line_forms.specs.Forms.{name, value};
+ghost use Rattle.line_forms.specs.Reading.{name_of, read_fixed, read_form, read_formula, read_one, same, scalar_of, truth_of};
+ghost use Rattle.line_forms.specs.Told.{ahead, IsToldFormula, IsToldScalar};
+
+use formula_text::{Allow, FormulaFault, Wired, read_rough, wire};
+use sig_base::{Name, NameFault, NoMemory, Scalar, TextFault};
+use sig_words::{Token, TokenKind, literal, token_bytes};
+use std::alloc::Global;
+use std::str;
+
+// Whether a token is this symbol.
+fn is_symbol(line: &[u8], token: &Token, text: &[u8]) -> bool
+    ensures { result ≡ same (symbol text.now) (lexeme line.now token.now) }
+{
+    match token.kind {
+        TokenKind::Symbol => token_bytes(line, token) == text,
+        _ => false,
+    }
+}
+
+// A word as a name.
+fn as_name(alloc: Global, text: &[u8]) -> Result<Option<Name>, NoMemory>
+    ensures { IfOk result (λ found. found ≡ name_of (word text.now)) }
+{
+    let Ok(text) = str::from_utf8(text) else {
+        return Ok(None);
+    };
+    match Name::new(alloc, text) {
+        Ok(name) => Ok(Some(name)),
+        Err(NameFault::Bad) => Ok(None),
+        Err(NameFault::NoMemory(e)) => Err(e),
+    }
+}
+
+// The name that a token says.
+fn name_of(alloc: Global, line: &[u8], token: &Token) -> Result<Option<Name>, NoMemory>
+    ensures { IfOk result (λ found. found ≡ name_of (lexeme line.now token.now)) }
+{
+    match token.kind {
+        TokenKind::Word => as_name(alloc, token_bytes(line, token)),
+        _ => Ok(None),
+    }
+}
+
+/// A name at a place, and the place after it.
+#[tactic(auto, unfolding(crate::specs::Told::ahead))]
+pub fn name_at(
+    alloc: Global,
+    line: &[u8],
+    tokens: &[Token],
+    at: usize,
+) -> Result<Option<(Name, usize)>, NoMemory>
+    ensures { IfOk result (λ found. option_map (λ p. (p.0, ahead line.now tokens.now p.1)) found ≡ read_one name (ahead line.now tokens.now at)) }
+{
+    let Some(token) = tokens.get(at) else {
+        return Ok(None);
+    };
+    match name_of(alloc, line, token)? {
+        Some(name) => Ok(Some((name, at + 1))),
+        None => Ok(None),
+    }
+}
+
+/// The place after this symbol, where it stands at a place.
+#[tactic(auto, unfolding(crate::specs::Told::ahead))]
+pub fn symbol_at(line: &[u8], tokens: &[Token], at: usize, text: &[u8]) -> Option<usize>
+    ensures { option_map (λ p. ahead line.now tokens.now p) result ≡ read_fixed (symbol text.now) (ahead line.now tokens.now at) }
+{
+    let Some(token) = tokens.get(at) else {
+        return None;
+    };
+    if is_symbol(line, token, text) {
+        Some(at + 1)
+    } else {
+        None
+    }
+}
+
+/// Whether the line has no token at a place.
+#[tactic(auto, unfolding(crate::specs::Told::ahead))]
+pub fn ends_at(tokens: &[Token], at: usize) -> bool
+    ensures { (line : List ℕ) → read_form [] (ahead line tokens.now at) ≡ (if result then Some tt else None) }
+{
+    match tokens.get(at) {
+        Some(_) => false,
+        None => true,
+    }
+}
+
+// The truth that a word says.
+fn truth_of(word: &[u8]) -> Option<Scalar>
+    ensures { result ≡ truth_of word.now }
+{
+    if word == b"true".as_slice() {
+        Some(Scalar::Bool(true))
+    } else if word == b"false".as_slice() {
+        Some(Scalar::Bool(false))
+    } else {
+        None
+    }
+}
+
+/// A value, or what is wrong with it.
+pub type ToldValue = Result<Scalar, FormulaFault>;
+
+// The value that a token says, or that its text is too long.
+fn value_of(alloc: Global, line: &[u8], token: &Token) -> Result<Option<ToldValue>, NoMemory>
+    requires { IsTokenOf line.now token.now }
+    ensures { IfOk result (λ found. MatchOption found (scalar_of (lexeme line.now token.now) ≡ None)
+        (λ r. (v : scalar.Scalar) × (scalar_of (lexeme line.now token.now) ≡ Some v) × IsToldScalar v r)) }
+{
+    match token.kind {
+        TokenKind::Word => match truth_of(token_bytes(line, token)) {
+            Some(truth) => Ok(Some(Ok(truth))),
+            None => Ok(None),
+        },
+        TokenKind::Number(n) => Ok(Some(Ok(Scalar::Int(n)))),
+        TokenKind::Literal => match literal(alloc, line, token) {
+            Ok(text) => Ok(Some(Ok(Scalar::Text(text)))),
+            Err(TextFault::Long) => Ok(Some(Err(FormulaFault::TextLong))),
+            Err(TextFault::NoMemory(e)) => Err(e),
+        },
+        TokenKind::Tag | TokenKind::Symbol => Ok(None),
+    }
+}
+
+/// A value at a place, or that its text is too long, and the place after it.
+#[tactic(auto, unfolding(crate::specs::Told::ahead))]
+pub fn value_at(
+    alloc: Global,
+    line: &[u8],
+    tokens: &[Token],
+    at: usize,
+) -> Result<Option<(ToldValue, usize)>, NoMemory>
+    requires { AreTokens line.now tokens.now }
+    ensures { IfOk result (λ found. MatchOption found (read_one value (ahead line.now tokens.now at) ≡ None)
+        (λ p. (v : scalar.Scalar) × (read_one value (ahead line.now tokens.now at) ≡ Some (v, ahead line.now tokens.now p.1)) × IsToldScalar v p.0)) }
+{
+    let Some(token) = tokens.get(at) else {
+        return Ok(None);
+    };
+    match value_of(alloc, line, token)? {
+        Some(value) => Ok(Some((value, at + 1))),
+        None => Ok(None),
+    }
+}
+
+/// A formula, or what is wrong with it.
+pub type ToldFormula = Result<Wired, FormulaFault>;
+
+/// The longest formula from a place on, or what is wrong with it where this is allowed to it, and the place after it.
+pub fn formula_at(
+    alloc: Global,
+    line: &[u8],
+    tokens: &[Token],
+    at: usize,
+    allow: Allow,
+) -> Result<Option<(ToldFormula, usize)>, NoMemory>
+    requires { AreTokens line.now tokens.now }
+    ensures { IfOk result (λ found. MatchOption found (read_formula (ahead line.now tokens.now at) ≡ None)
+        (λ p. (f : Draft) × (read_formula (ahead line.now tokens.now at) ≡ Some (f, ahead line.now tokens.now p.1)) × IsToldFormula allow f p.0)) }
+{
+    let Some((rough, to)) = read_rough(alloc, line, tokens, at)? else {
+        return Ok(None);
+    };
+    match wire(alloc, line, tokens, &rough, allow) {
+        Ok(wired) => Ok(Some((Ok(wired), to))),
+        Err(fault) => match fault {
+            FormulaFault::NoMemory(e) => Err(e),
+            fault => Ok(Some((Err(fault), to))),
+        },
+    }
+}
