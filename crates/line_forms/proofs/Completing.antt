@@ -13,8 +13,7 @@ use Rattle.formula_text.specs.Signs.{Sign, signs, sign}
 use Rattle.formula_text.specs.Signs as s
 use Rattle.formula_text.specs.Grammar.{Draft, IsFormula, Spells as FormulaSigns}
 use Rattle.formula_text.specs.Reading.{expr}
-use Rattle.formula_text.proofs.Complete.{Stops}
-use Rattle.formula_text.proofs.Laws.{reads_front}
+use Rattle.formula_text.proofs.Shared.{Stops, reads_front}
 use Rattle.line_forms.specs.Forms.{One, name, value, key, count, tagged, Part, one, perhaps, many, listed, formula, fixed, part, Form, Of, Holds, Args, Says, SayEach, SayBehind, SayListed, SayPerhaps, SpellsPart, SpellsForm, token_of}
 use Rattle.line_forms.specs.Reading.{same, scalar_of, one_of, read_perhaps, each_of, read_behind, read_opened, read_formula, read_part, read_form, is_operator, bars, avoids, is_open, is_clear, differ, is_other, apart}
 use Rattle.line_forms.proofs.Sounding.{form_sound, said_sound}

@@ -1,9 +1,10 @@
-pub mod Completing
-pub mod Longest
-pub mod NameBytes
-pub mod OneLine
-pub mod Printable
-pub mod Printing
-pub mod Reprinting
-pub mod Sounding
-pub mod Values
+mod Completing
+mod Longest
+mod NameBytes
+mod OneLine
+mod Printable
+mod Printing
+mod Reprinting
+mod Sounding
+mod Values
+pub mod Shared

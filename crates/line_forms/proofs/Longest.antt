@@ -12,9 +12,7 @@ use Rattle.formula_text.specs.Reading.{Part as Run, expr}
 use Rattle.formula_text.specs.Wiring.{Wiring, wired, IsRead, ReadsNone, IsCause, refusal}
 use Rattle.formula_text.specs.declared.rough.Rough.{Rough}
 use Rattle.formula_text.specs.Rough.{draft}
-use Rattle.formula_text.proofs.Sound.{expr_sound}
-use Rattle.formula_text.proofs.Laws.{longest, has_none}
-use Rattle.formula_text.proofs.Minimal.{one_formula}
+use Rattle.formula_text.proofs.Shared.{expr_sound, longest, has_none, one_formula}
 use Rattle.line_forms.specs.Reading.{left_of, read_formula}
 use Rattle.line_forms.specs.Told.{ahead, IsToldFormula}
 use Rattle.formula_text.specs.declared.wired.Allow.{Allow}

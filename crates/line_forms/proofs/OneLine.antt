@@ -13,7 +13,7 @@ use Rattle.sig_formula.specs.declared.formula.BinOp.{BinOp}
 use Rattle.sig_formula.specs.declared.formula.BinOp.TheVariants as op
 use Rattle.sig_words.specs.Lexemes.{Lexeme, word, tag, number, literal, symbol}
 use Rattle.sig_words.specs.Tokens.{is_one, is_two, IsSymbol}
-use Rattle.sig_words.proofs.Fronts.{IsNumeric, numeric}
+use Rattle.sig_words.proofs.Shared.{IsNumeric, numeric}
 use Rattle.formula_text.specs.Canonical.{leaf_text, minimal, operator_text, written}
 use Rattle.formula_text.specs.Grammar.{Draft, leaf, negation, binary, choice, untracked, Written, group, negated, chain, pick, level, before}
 use Rattle.formula_text.specs.Rereading.{IsPrintable, IsPrintableLeaf}

@@ -13,11 +13,10 @@ use Rattle.sig_words.specs.declared.token.TokenKind.TheVariants as kind
 use Rattle.sig_words.specs.Lexemes.{Lexeme, word, tag, number, literal, symbol, lexeme_of, lexemes, text_at}
 use Rattle.sig_words.specs.Literals.{between_quotes}
 use Rattle.sig_words.specs.Tokens.{AreTokens, Form, IsSymbol, IsTokenOf}
-use Rattle.sig_words.proofs.EachToken.{each_token}
-use Rattle.sig_words.proofs.LiteralLaws.{literal_utf8}
+use Rattle.sig_words.proofs.Shared.{each_token, literal_utf8}
 use Rattle.formula_text.specs.Rereading.{IsPrintable}
 use Rattle.formula_text.specs.Signs.{sign, signs}
-use Rattle.formula_text.proofs.Rereading.{Good, AllGood, good_word, good_symbol, good_spelled, text_utf8}
+use Rattle.formula_text.proofs.Shared.{Good, AllGood, good_word, good_symbol, good_spelled, text_utf8}
 use Rattle.line_forms.specs.Forms as forms
 use Rattle.line_forms.specs.Forms.{One, Part, one, perhaps, many, listed, formula, fixed, part, Of, Holds, Args, token_of, is_good, Says, SayEach, SayBehind, SayListed, SpellsPart, SpellsForm}
 

@@ -14,10 +14,8 @@ use Rattle.sig_words.specs.declared.token.TokenKind.{TokenKind}
 use Rattle.sig_words.specs.declared.token.TokenKind.TheVariants as kind
 use Rattle.sig_words.specs.Lexemes.{Lexeme, word, tag, number, literal, symbol, lexeme_of}
 use Rattle.sig_words.specs.Tokens.{IsToken, is_one, is_two, IsSymbol}
-use Rattle.sig_words.proofs.EachToken.{word_utf8, tag_utf8}
-use Rattle.sig_words.proofs.Fronts.{numeric}
-use Rattle.formula_text.proofs.Quoting.{inner_form, quoted_says, quoted_utf8}
-use Rattle.formula_text.proofs.Rereading.{are_ascii, ascii, number_utf8}
+use Rattle.sig_words.proofs.Shared.{word_utf8, tag_utf8, numeric}
+use Rattle.formula_text.proofs.Shared.{inner_form, quoted_says, quoted_utf8, are_ascii, ascii, number_utf8}
 use Rattle.line_forms.specs.Printed.{token_text}
 use Rattle.line_forms.proofs.Printable.{IsWritten}
 

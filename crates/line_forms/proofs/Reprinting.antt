@@ -9,14 +9,12 @@ use Rattle.sig_words.specs.declared.token.Token.{Token}
 use Rattle.sig_words.specs.declared.token.TokenKind.TheVariants as kind
 use Rattle.sig_words.specs.Lexemes.{Lexeme, word, symbol, lexeme, lexeme_of, lexemes}
 use Rattle.sig_words.specs.Tokens.{AreTokens, Cuts, may_sign}
-use Rattle.sig_words.proofs.Fronts.{index_drop}
+use Rattle.sig_words.proofs.Shared.{index_drop}
 use Rattle.formula_text.specs.Grammar.{Draft, IsFormula, Spells as FormulaSigns}
 use Rattle.formula_text.specs.Signs.{Sign}
 use Rattle.formula_text.specs.Canonical.{canonical_text, minimal}
 use Rattle.formula_text.specs.Rereading.{IsPrintable}
-use Rattle.formula_text.proofs.Lexing.{cuts_append, Gap, cut_written}
-use Rattle.formula_text.proofs.Minimal.{minimal_spells}
-use Rattle.formula_text.proofs.Rereading.{ascii, printable_tokens, written_utf8}
+use Rattle.formula_text.proofs.Shared.{cuts_append, Gap, cut_written, minimal_spells, ascii, printable_tokens, written_utf8}
 use Rattle.line_forms.specs.Forms.{One, Part, one, perhaps, many, listed, formula, Form, fixed, part, Of, Holds, Args, SayEach, SayBehind, SayListed, SpellsPart, SpellsForm, token_of}
 use Rattle.line_forms.specs.Printed.{token_text, spaced, behind_tokens, opened_tokens, part_text, form_text, line_text}
 use Rattle.line_forms.specs.Rows.{Line, Said, Spells}

@@ -12,7 +12,7 @@ use Rattle.sig_words.specs.Lexemes.{Lexeme, word, tag, number, literal, symbol}
 use Rattle.formula_text.specs.Signs.{Sign, signs, sign}
 use Rattle.formula_text.specs.Grammar.{spelled}
 use Rattle.formula_text.specs.Reading.{Part as Run, expr}
-use Rattle.formula_text.proofs.Sound.{Took as TookSigns, expr_sound}
+use Rattle.formula_text.proofs.Shared.{Took as TookSigns, expr_sound}
 use Rattle.line_forms.specs.Forms.{One, name, value, key, count, tagged, Part, one, perhaps, many, listed, formula, fixed, part, Form, Of, Says, SayEach, SayBehind, SayListed, SayPerhaps, SpellsPart, SpellsForm}
 use Rattle.line_forms.specs.Reading.{same, scalar_of, name_of, key_of, count_of, tag_of, one_of, there, read_one, read_perhaps, each_of, with_first, read_behind, read_opened, read_listed, left_of, read_formula, read_part, read_fixed, read_form}
 use Rattle.line_forms.specs.Rows.{Line, Table, rows_of, all_begin, each_begins, Said, Spells, first_of, said_of}

@@ -7,7 +7,7 @@ use Rattle.sig_words.specs.declared.token.Token.{Token}
 use Rattle.sig_words.specs.declared.token.TokenKind.TheVariants as kind
 use Rattle.sig_words.specs.Lexemes.{lexeme, text_at}
 use Rattle.sig_words.specs.Literals.{text_of, between_quotes}
-use Rattle.sig_words.proofs.LexemeLaws.{lexeme-Literal}
+use Rattle.sig_words.proofs.Shared.{lexeme-Literal}
 use Rattle.formula_text.specs.declared.wired.FormulaFault.TheVariants as fault
 use Rattle.line_forms.specs.Reading.{scalar_of}
 use Rattle.line_forms.specs.Told.{IsToldScalar}
