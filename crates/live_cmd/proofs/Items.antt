@@ -1,10 +1,8 @@
 -- What a piece of a script is.
-use Rattle.std.proofs.Common.{◌≡◌, ℕ, ◌+◌, Bool, true, false, cond, List, [], ◌∷◌, ◌++◌, length, map, drop, Option, Some, None, refl, sym, ap, subst, ◌∙◌, inl, inr}
-use Rattle.std.specs.Prelude.{nat_lt, Result, Ok, Err, IfOk}
+use Rattle.std.proofs.Common.{◌≡◌, ℕ, ◌+◌, true, false, List, [], ◌∷◌, ◌++◌, length, map, drop, Option, Some, None, refl, sym, ap, subst, ◌∙◌, inl, inr}
+use Rattle.std.specs.Prelude.{Result, Ok, Err, IfOk}
 use Rattle.std.specs.Option.{option_or}
-use Rattle.std.proofs.lemmas.List.{length-map}
 use Rattle.formula_text.specs.declared.wired.FormulaFault.{FormulaFault}
-use Rattle.formula_text.specs.declared.wired.FormulaFault.TheVariants as fault
 use Rattle.script_lines.specs.Lines.{NumberedLine, EndsLine, kept_lines, lines}
 use Rattle.script_lines.specs.Pieces.{Piece, outside, pieces_of, place_after}
 use Rattle.script_lines.proofs.Shared.{script_cut}
@@ -12,15 +10,17 @@ use Rattle.live_cmd.specs.declared.line.Line.{Line}
 use Rattle.live_cmd.specs.declared.judge.ReadLine.{ReadLine}
 use Rattle.live_cmd.specs.declared.command.Item.{Item}
 use Rattle.live_cmd.specs.declared.command.Item.TheVariants as item
-use Rattle.live_cmd.specs.declared.refusal.LimitWord.TheVariants as limit
 use Rattle.live_cmd.specs.declared.refusal.Refusal.{Refusal}
 use Rattle.live_cmd.specs.declared.refusal.Refusal.TheVariants as refusal
-use Rattle.live_cmd.specs.Grammar.{Said, Writes}
-use Rattle.live_cmd.specs.Grammar as said
-use Rattle.live_cmd.specs.Places.{Place, first, moved}
-use Rattle.live_cmd.specs.Judging.{Sayings, fault_of, misplacing, excess, first_misplaced, first_excess, many_lines, refusal_of}
-use Rattle.live_cmd.specs.Items.{Say, IsFaulty, IsItem, long, unended, faulty, says, any_long, first_number, line_of, command_of, item_or, unless_refused, item_of, AreItems, ItemsFrom, Begins}
-use Rattle.live_cmd.specs.Views.{unless_faulty, told, read_of, fault_read, first_misplaced_read, first_excess_read, many_read, refusal_read, with_line, sound_lines, item_read, AreRead}
+use Rattle.line_forms.specs.Told.{unless_faulty}
+use Rattle.live_cmd.specs.Grammar.{Said, line_of}
+use Rattle.live_cmd.specs.declared.place.Place.{Place}
+use Rattle.live_cmd.specs.declared.place.Place.TheVariants as place
+use Rattle.live_cmd.specs.Places.{kind_of, moved}
+use Rattle.live_cmd.specs.Judging.{Sayings, Faults, fault_of, faults_of, misplacing, excess, first_misplaced, first_excess, refusal_of}
+use Rattle.live_cmd.specs.Items.{Say, IsFaulty, IsItem, long, unended, faulty, says, any_long, first_number, command_of, item_or, unless_refused, item_of, AreItems, ItemsFrom, Begins}
+use Rattle.live_cmd.specs.Views.{told, read_of, fault_read, faults_read, with_line, sound_lines, item_read, AreRead}
+use Rattle.live_cmd.proofs.Refusing.{no_fault}
 use Rattle.live_cmd.proofs.Spellings.{one_writing}
 
 -- ---- what was read of lines is what they say
@@ -31,7 +31,7 @@ say_read p [] [] a = ([], tt, refl)
 say_read p [] (r ∷ rs) a = absurd a
 say_read p (l ∷ ls) [] a = absurd a
 say_read p (l ∷ ls) (r ∷ rs) a =
-    let rest = say_read (moved p a.0) ls rs a.4 in
+    let rest = say_read (moved p (kind_of a.0)) ls rs a.4 in
     let x : ℕ × Said = (l.0, a.0) in
     (x ∷ rest.0, (refl, a.1, a.2, rest.1), let e = a.3 in let f = rest.2 in cc)
 
@@ -40,85 +40,42 @@ fault_told None l = refl
 fault_told (Some f) l = refl
 
 fault_same : (x : Said) → fault_read (told x) ≡ fault_of x
-unfolding told
 fault_same x = fault_told (fault_of x) (line_of x)
 
-misplaced_same : (xs : Sayings) → first_misplaced_read (map read_of xs) ≡ first_misplaced xs
-misplaced_same [] = refl
-misplaced_same (x ∷ xs) =
-    ap (λ (o : Option FormulaFault). option_or (misplacing x.0 o) (first_misplaced_read (map read_of xs))) (fault_same x.1)
-    ∙ ap (option_or (misplacing x.0 (fault_of x.1))) (misplaced_same xs)
-
-excess_same : (xs : Sayings) → first_excess_read (map read_of xs) ≡ first_excess xs
-excess_same [] = refl
-excess_same (x ∷ xs) =
-    ap (λ (o : Option FormulaFault). option_or (excess o) (first_excess_read (map read_of xs))) (fault_same x.1)
-    ∙ ap (option_or (excess (fault_of x.1))) (excess_same xs)
-
-many_same : (xs : Sayings) → many_read (map read_of xs) ≡ many_lines xs
-many_same xs = ap (λ (n : ℕ). cond (nat_lt 130 n) (Some (refusal.Limit limit.Template)) None) (length-map xs read_of)
-
-refusal_same : (xs : Sayings) → refusal_read (map read_of xs) ≡ refusal_of xs
-refusal_same xs =
-    ap (λ (o : Option Refusal). option_or o (option_or (first_excess_read (map read_of xs)) (many_read (map read_of xs)))) (misplaced_same xs)
-    ∙ ap (λ (o : Option Refusal). option_or (first_misplaced xs) (option_or o (many_read (map read_of xs)))) (excess_same xs)
-    ∙ ap (λ (o : Option Refusal). option_or (first_misplaced xs) (option_or (first_excess xs) o)) (many_same xs)
+faults_same : (xs : Sayings) → faults_read (map read_of xs) ≡ faults_of xs
+faults_same [] = refl
+faults_same (x ∷ xs) =
+    ap (λ (o : Option FormulaFault). (x.0, o) ∷ faults_read (map read_of xs)) (fault_same x.1) ∙ ap (λ (fs : Faults). (x.0, fault_of x.1) ∷ fs) (faults_same xs)
 
 -- ---- nothing is wrong with lines that aren't refused
 
-neither : {A : Type 0} (o p : Option A) → option_or o p ≡ None → (o ≡ None) × (p ≡ None)
+pub neither : {A : Type 0} (o p : Option A) → option_or o p ≡ None → (o ≡ None) × (p ≡ None)
 neither None p e = (refl, e)
 neither (Some x) p e = absurd cc
 
-no_cause : (k : ℕ) (a b c d : Bool) (o : Option FormulaFault)
-    → cond a (Some fault.UntrackHere) (cond b (Some fault.Nest) (cond c (Some fault.TextLong) (cond d (Some fault.Sources) None))) ≡ o
-    → misplacing k o ≡ None → excess o ≡ None → o ≡ None
-no_cause k true b c d o e m x = let bad = rw (sym e) at m in absurd cc
-no_cause k false true c d o e m x = let bad = rw (sym e) at m in absurd cc
-no_cause k false false true d o e m x = let bad = rw (sym e) at x in absurd cc
-no_cause k false false false true o e m x = let bad = rw (sym e) at x in absurd cc
-no_cause k false false false false o e m x = sym e
-
-no_long : (a : Bool) (o : Option FormulaFault) → cond a (Some fault.TextLong) None ≡ o → excess o ≡ None → o ≡ None
-no_long true o e x = let bad = rw (sym e) at x in absurd cc
-no_long false o e x = sym e
-
-no_fault : (k : ℕ) (x : Said) → misplacing k (fault_of x) ≡ None → excess (fault_of x) ≡ None → fault_of x ≡ None
-no_fault k (said.cell n v) m x = no_long _ _ refl x
-no_fault k (said.set n v) m x = no_long _ _ refl x
-no_fault k (said.computed n f) m x = no_cause k _ _ _ _ _ refl m x
-no_fault k (said.get n) m x = refl
-no_fault k (said.template n) m x = refl
-no_fault k (said.text f) m x = no_cause k _ _ _ _ _ refl m x
-no_fault k said.close m x = refl
-no_fault k (said.mount n t) m x = refl
-no_fault k (said.show n) m x = refl
-no_fault k said.flush m x = refl
-
 told_sound : (x : Said) → fault_of x ≡ None → told x ≡ Ok (line_of x)
-unfolding told
 told_sound x e = ap (λ (o : Option FormulaFault). unless_faulty o (line_of x)) e
 
-sound_same : (xs : Sayings) → first_misplaced xs ≡ None → first_excess xs ≡ None → sound_lines (map read_of xs) ≡ map (λ x. line_of x.1) xs
+sound_same : (xs : Sayings) → first_misplaced (faults_of xs) ≡ None → first_excess (faults_of xs) ≡ None → sound_lines (map read_of xs) ≡ map (λ x. line_of x.1) xs
 sound_same [] m e = refl
 sound_same (x ∷ xs) m e =
-    let a = neither (misplacing x.0 (fault_of x.1)) (first_misplaced xs) m in
-    let b = neither (excess (fault_of x.1)) (first_excess xs) e in
+    let a = neither (misplacing x.0 (fault_of x.1)) (first_misplaced (faults_of xs)) m in
+    let b = neither (excess (fault_of x.1)) (first_excess (faults_of xs)) e in
     ap (λ (r : Result Line FormulaFault). with_line r (sound_lines (map read_of xs))) (told_sound x.1 (no_fault x.0 x.1 a.0 b.0))
     ∙ ap (λ (ls : List Line). line_of x.1 ∷ ls) (sound_same xs a.1 b.1)
 
-item_at : (k : ℕ) (xs : Sayings) (o : Option Refusal) → refusal_of xs ≡ o
+item_at : (k : ℕ) (xs : Sayings) (o : Option Refusal) → refusal_of (faults_of xs) ≡ o
     → unless_refused o (item_or k (command_of (sound_lines (map read_of xs)))) ≡ unless_refused o (item_or k (command_of (map (λ x. line_of x.1) xs)))
 item_at k xs (Some r) e = refl
 item_at k xs None e =
-    let a = neither (first_misplaced xs) _ e in
-    let b = neither (first_excess xs) _ a.1 in
+    let a = neither (first_misplaced (faults_of xs)) _ e in
+    let b = neither (first_excess (faults_of xs)) _ a.1 in
     ap (λ (ls : List Line). item_or k (command_of ls)) (sound_same xs a.0 b.0)
 
 item_same : (k : ℕ) (xs : Sayings) → item_read k (map read_of xs) ≡ item_of k xs
 item_same k xs =
-    ap (λ (o : Option Refusal). unless_refused o (item_or k (command_of (sound_lines (map read_of xs))))) (refusal_same xs)
-    ∙ item_at k xs (refusal_of xs) refl
+    ap (λ (fs : Faults). unless_refused (refusal_of fs) (item_or k (command_of (sound_lines (map read_of xs))))) (faults_same xs)
+    ∙ item_at k xs (refusal_of (faults_of xs)) refl
 
 -- ---- a piece is this
 
@@ -126,15 +83,15 @@ item_same k xs =
 pub is_unended : (p : Piece) (n : ℕ) → any_long p.lines ≡ false → p.ended ≡ false → n ≡ first_number p.lines → IsItem p (item.Refused (refusal.Syntax n))
 is_unended p n a e h = subst (λ (k : ℕ). IsItem p (item.Refused (refusal.Syntax k))) (sym h) (unended a e)
 
-is_said : (p : Piece) (rs : List ReadLine) (n : ℕ) (i : Item) → any_long p.lines ≡ false → p.ended ≡ true → AreRead first p.lines rs → n ≡ first_number p.lines
+is_said : (p : Piece) (rs : List ReadLine) (n : ℕ) (i : Item) → any_long p.lines ≡ false → p.ended ≡ true → AreRead place.First p.lines rs → n ≡ first_number p.lines
     → i ≡ item_read n rs → IsItem p i
 is_said p rs n i a e r h is =
-    let s = say_read first p.lines rs r in
+    let s = say_read place.First p.lines rs r in
     let whole : i ≡ item_of (first_number p.lines) s.0 = is ∙ ap (λ (k : ℕ). item_read k rs) h ∙ ap (item_read (first_number p.lines)) s.2 ∙ item_same (first_number p.lines) s.0 in
     subst (λ (j : Item). IsItem p j) (sym whole) (says s.0 a e s.1)
 
 -- lines that were read are what they say
-pub is_judged : {E : Type 0} (p : Piece) (rs : List ReadLine) (n : ℕ) (r : Result Item E) → any_long p.lines ≡ false → p.ended ≡ true → AreRead first p.lines rs → n ≡ first_number p.lines
+pub is_judged : {E : Type 0} (p : Piece) (rs : List ReadLine) (n : ℕ) (r : Result Item E) → any_long p.lines ≡ false → p.ended ≡ true → AreRead place.First p.lines rs → n ≡ first_number p.lines
     → IfOk r (λ i. i ≡ item_read n rs) → IfOk r (λ i. IsItem p i)
 is_judged p rs n (Ok i) a e s h is = is_said p rs n i a e s h is
 is_judged p rs n (Err f) a e s h is = is
@@ -150,7 +107,7 @@ one_saying p (l ∷ ls) (x ∷ xs) [] s t = absurd t
 one_saying p (l ∷ ls) (x ∷ xs) (y ∷ ys) s t =
     let same : x.1 ≡ y.1 = one_writing l.1 x.1 y.1 s.1 t.1 in
     let number : x.0 ≡ y.0 = s.0 ∙ sym t.0 in
-    let rest = one_saying (moved p x.1) ls xs ys s.3 (subst (λ (z : Said). Say (moved p z) ls ys) (sym same) t.3) in
+    let rest = one_saying (moved p (kind_of x.1)) ls xs ys s.3 (subst (λ (z : Said). Say (moved p (kind_of z)) ls ys) (sym same) t.3) in
     let pair : ℕ → Said → ℕ × Said = λ n z. (n, z) in
     let whole : x ≡ y = ap (λ (n : ℕ). pair n x.1) number ∙ ap (λ (z : Said). pair y.0 z) same in
     cc
@@ -161,7 +118,7 @@ no_both p (l ∷ ls) [] k s f = s
 no_both p (l ∷ ls) (x ∷ xs) k s (inl f) = f.1 x.1 s.1 s.2
 no_both p (l ∷ ls) (x ∷ xs) k s (inr f) =
     let same : f.0 ≡ x.1 = one_writing l.1 f.0 x.1 f.1 s.1 in
-    no_both (moved p x.1) ls xs k s.3 (subst (λ (z : Said). IsFaulty (moved p z) ls k) same f.3)
+    no_both (moved p (kind_of x.1)) ls xs k s.3 (subst (λ (z : Said). IsFaulty (moved p (kind_of z)) ls k) same f.3)
 
 one_fault : (p : Place) (ls : List NumberedLine) (k j : ℕ) → IsFaulty p ls k → IsFaulty p ls j → k ≡ j
 one_fault p [] k j f g = absurd f
@@ -170,7 +127,7 @@ one_fault p (l ∷ ls) k j (inl f) (inr g) = absurd (f.1 g.0 g.1 g.2)
 one_fault p (l ∷ ls) k j (inr f) (inl g) = absurd (g.1 f.0 f.1 f.2)
 one_fault p (l ∷ ls) k j (inr f) (inr g) =
     let same : g.0 ≡ f.0 = one_writing l.1 g.0 f.0 g.1 f.1 in
-    one_fault (moved p f.0) ls k j f.3 (subst (λ (z : Said). IsFaulty (moved p z) ls j) same g.3)
+    one_fault (moved p (kind_of f.0)) ls k j f.3 (subst (λ (z : Said). IsFaulty (moved p (kind_of z)) ls j) same g.3)
 
 -- a piece is one item
 pub one_item : (p : Piece) (i j : Item) → IsItem p i → IsItem p j → i ≡ j
@@ -184,12 +141,12 @@ one_item p _ _ (unended a e) (faulty k b f g) = absurd cc
 one_item p _ _ (unended a e) (says ys b f t) = absurd cc
 one_item p _ _ (faulty k a e f) (long b) = absurd cc
 one_item p _ _ (faulty k a e f) (unended b g) = absurd cc
-one_item p _ _ (faulty k a e f) (faulty j b g h) = ap (λ (n : ℕ). item.Refused (refusal.Syntax n)) (one_fault first p.lines k j f h)
-one_item p _ _ (faulty k a e f) (says ys b g t) = absurd (no_both first p.lines ys k t f)
+one_item p _ _ (faulty k a e f) (faulty j b g h) = ap (λ (n : ℕ). item.Refused (refusal.Syntax n)) (one_fault place.First p.lines k j f h)
+one_item p _ _ (faulty k a e f) (says ys b g t) = absurd (no_both place.First p.lines ys k t f)
 one_item p _ _ (says xs a e s) (long b) = absurd cc
 one_item p _ _ (says xs a e s) (unended b g) = absurd cc
-one_item p _ _ (says xs a e s) (faulty j b g h) = absurd (no_both first p.lines xs j s h)
-one_item p _ _ (says xs a e s) (says ys b f t) = ap (λ (zs : Sayings). item_of (first_number p.lines) zs) (one_saying first p.lines xs ys s t)
+one_item p _ _ (says xs a e s) (faulty j b g h) = absurd (no_both place.First p.lines xs j s h)
+one_item p _ _ (says xs a e s) (says ys b f t) = ap (λ (zs : Sayings). item_of (first_number p.lines) zs) (one_saying place.First p.lines xs ys s t)
 
 one_list_of : (ps : List Piece) (is js : List Item) → AreItems ps is → AreItems ps js → is ≡ js
 one_list_of [] [] [] a b = refl

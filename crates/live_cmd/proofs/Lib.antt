@@ -1,7 +1,10 @@
-pub mod Deciding
-pub mod Items
-pub mod Places
-pub mod LineByLine
-pub mod Spellings
-pub mod Told
-pub mod WholeFormulas
+mod Deciding
+mod Grammars
+mod Items
+mod LineByLine
+mod Places
+mod Refusing
+mod Rewriting
+mod Spellings
+mod Standing
+pub mod Shared

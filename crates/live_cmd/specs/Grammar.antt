@@ -1,55 +1,102 @@
--- Which bytes write a line, and what the line says.
-use Rattle.std.specs.Prelude.{◌≡◌, ℕ, true, false, List, [], ◌∷◌, codes, IsTrue}
-use Rattle.sig_base.specs.declared.scalar.Scalar.{Scalar}
-use Rattle.sig_base.specs.declared.scalar.Scalar.TheVariants as scalar
-use Rattle.sig_base.specs.Words.{is_name}
+-- The lines of the language: which bytes write each, and what it gives.
+use Rattle.std.specs.Prelude.{ℕ, List, [], ◌∷◌, codes}
 use Rattle.sig_words.specs.declared.token.Token.{Token}
+use Rattle.sig_words.specs.Lexemes.{symbol, lexemes}
 use Rattle.sig_words.specs.Tokens.{AreTokens}
-use Rattle.sig_words.specs.Lexemes.{Lexeme, word, number, literal, symbol, lexemes}
-use Rattle.formula_text.specs.Grammar.{Draft, IsFormula}
+use Rattle.formula_text.specs.Wiring.{wired}
+use Rattle.line_forms.specs.Forms.{Piece, part, fixed, one, formula, name, value}
+use Rattle.line_forms.specs.Rows as grammar
+use Rattle.line_forms.specs.Told.{Made, made}
+use Rattle.live_cmd.specs.declared.command.Command.TheVariants as command
+use Rattle.live_cmd.specs.declared.command.SourceText.TheVariants as source
+use Rattle.live_cmd.specs.declared.command.Verb.{Verb}
+use Rattle.live_cmd.specs.declared.command.Verb.TheVariants as verbs
+use Rattle.live_cmd.specs.declared.line.Line.{Line}
+use Rattle.live_cmd.specs.declared.line.Line.TheVariants as line
+
+-- the rows of the grammar
+pub data Row : Type 0 where
+  -- a verb and a name
+  verb : Verb → Row
+  cell : Row
+  set : Row
+  computed : Row
+  mount : Row
+  flush : Row
+  template : Row
+  text : Row
+  close : Row
+
+-- the word of a verb
+abbrev pub verb_word : Verb → List ℕ
+verb_word verbs.Get = codes "get"
+verb_word verbs.Show = codes "show"
+
+-- a name
+abbrev N : Piece
+N = part (one name)
+
+-- a value
+abbrev LIT : Piece
+LIT = part (one value)
+
+-- a formula
+abbrev FORMULA : Piece
+FORMULA = part formula
+
+-- a symbol
+abbrev mark : List ℕ → Piece
+mark s = fixed (symbol s)
+
+-- the first word of a row, and what follows it
+abbrev pub row : Row → grammar.Line
+row (verb v) = (verb_word v, N ∷ [])
+row cell = (codes "cell", N ∷ mark (codes "=") ∷ LIT ∷ [])
+row set = (codes "set", N ∷ LIT ∷ [])
+row computed = (codes "computed", N ∷ mark (codes "=") ∷ FORMULA ∷ [])
+row mount = (codes "mount", N ∷ N ∷ [])
+row flush = (codes "flush", [])
+row template = (codes "template", N ∷ [])
+row text = (codes "text", FORMULA ∷ [])
+row close = (codes "end", [])
+
+-- the rows that begin with each word
+abbrev pub table : grammar.Table Row
+table =
+    (codes "get", verb verbs.Get ∷ [])
+    ∷ (codes "show", verb verbs.Show ∷ [])
+    ∷ (codes "cell", cell ∷ [])
+    ∷ (codes "set", set ∷ [])
+    ∷ (codes "computed", computed ∷ [])
+    ∷ (codes "mount", mount ∷ [])
+    ∷ (codes "flush", flush ∷ [])
+    ∷ (codes "template", template ∷ [])
+    ∷ (codes "text", text ∷ [])
+    ∷ (codes "end", close ∷ [])
+    ∷ []
+
+-- what a row gives of what stands in its parts: its formula with slots for its names
+abbrev pub line_makes : (r : Row) → Made (row r).1 Line
+line_makes (verb v) = λ n. line.Alone (command.Named v n)
+line_makes cell = λ n v. line.Alone (command.Cell n v)
+line_makes set = λ n v. line.Alone (command.Set n v)
+line_makes computed = λ n f. line.Alone (command.Computed n (source.Formula (wired f)))
+line_makes mount = λ n t. line.Alone (command.Mount n t)
+line_makes flush = line.Alone command.Flush
+line_makes template = λ n. line.Template n
+line_makes text = λ f. line.Text (wired f)
+line_makes close = line.End
 
 -- what a line says by itself; its texts may be of any length, and its formulas of any height
-pub data Said : Type 0 where
-  cell : List ℕ → Scalar → Said
-  set : List ℕ → Scalar → Said
-  computed : List ℕ → Draft → Said
-  get : List ℕ → Said
-  template : List ℕ → Said
-  text : Draft → Said
-  close : Said
-  mount : List ℕ → List ℕ → Said
-  show : List ℕ → Said
-  flush : Said
+abbrev pub Said : Type 0
+Said = grammar.Said Row row
 
--- a name is written as itself
-pub record NameSpells (n : List ℕ) (x : Lexeme) : Type 0 where
-  pub written : x ≡ word n
-  pub is_name : IsTrue (is_name n)
-
--- `true` or `false`, a number, a text
-abbrev pub ScalarSpells : Scalar → Lexeme → Type 0
-ScalarSpells (scalar.Bool true) x = x ≡ word (codes "true")
-ScalarSpells (scalar.Bool false) x = x ≡ word (codes "false")
-ScalarSpells (scalar.Int z) x = x ≡ number z
-ScalarSpells (scalar.Text t) x = x ≡ literal t
-
--- the tokens that write a line, each line of the language a case
-pub data Spells : Said → List Lexeme → Type 0 where
-  a_cell : (n : List ℕ) (v : Scalar) (x y : Lexeme) → NameSpells n x → ScalarSpells v y
-      → Spells (cell n v) (word (codes "cell") ∷ x ∷ symbol (codes "=") ∷ y ∷ [])
-  a_set : (n : List ℕ) (v : Scalar) (x y : Lexeme) → NameSpells n x → ScalarSpells v y → Spells (set n v) (word (codes "set") ∷ x ∷ y ∷ [])
-  a_computed : (n : List ℕ) (f : Draft) (x : Lexeme) (ls : List Lexeme) → NameSpells n x → IsFormula ls f
-      → Spells (computed n f) (word (codes "computed") ∷ x ∷ symbol (codes "=") ∷ ls)
-  a_get : (n : List ℕ) (x : Lexeme) → NameSpells n x → Spells (get n) (word (codes "get") ∷ x ∷ [])
-  a_template : (n : List ℕ) (x : Lexeme) → NameSpells n x → Spells (template n) (word (codes "template") ∷ x ∷ [])
-  a_text : (f : Draft) (ls : List Lexeme) → IsFormula ls f → Spells (text f) (word (codes "text") ∷ ls)
-  a_close : Spells close (word (codes "end") ∷ [])
-  a_mount : (n t : List ℕ) (x y : Lexeme) → NameSpells n x → NameSpells t y → Spells (mount n t) (word (codes "mount") ∷ x ∷ y ∷ [])
-  a_show : (n : List ℕ) (x : Lexeme) → NameSpells n x → Spells (show n) (word (codes "show") ∷ x ∷ [])
-  a_flush : Spells flush (word (codes "flush") ∷ [])
+-- what a line gives
+abbrev pub line_of : Said → Line
+line_of x = made (row x.0).1 (line_makes x.0) x.1
 
 -- bytes write a line: their tokens spell it
 pub record Writes (said : Said) (bytes : List ℕ) : Type 0 where
   pub tokens : List Token
   pub cut : AreTokens bytes tokens
-  pub spelled : Spells said (lexemes bytes tokens)
+  pub spelled : grammar.Spells Row row said (lexemes bytes tokens)

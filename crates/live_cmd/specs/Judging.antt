@@ -1,17 +1,15 @@
 -- What is refused of lines that say something.
-use Rattle.std.specs.Prelude.{ℕ, nat_lt, false, if◌then◌else◌, List, [], ◌∷◌, length, Option, Some, None}
+use Rattle.std.specs.Prelude.{ℕ, ◌+◌, nat_lt, false, if◌then◌else◌, List, [], ◌∷◌, length, map, Option, Some, None}
 use Rattle.std.specs.Option.{option_or}
-use Rattle.sig_base.specs.declared.scalar.Scalar.{Scalar}
+use Rattle.sig_base.specs.declared.limits.TheConstants.{MOST_TEMPLATE_LINES}
 use Rattle.formula_text.specs.declared.wired.Allow.{Allow}
 use Rattle.formula_text.specs.declared.wired.FormulaFault.{FormulaFault}
 use Rattle.formula_text.specs.declared.wired.FormulaFault.TheVariants as fault
-use Rattle.formula_text.specs.Signs.{constant}
-use Rattle.formula_text.specs.Judging.{is_long}
-use Rattle.formula_text.specs.Wiring as formula
+use Rattle.line_forms.specs.Told.{fault_along}
 use Rattle.live_cmd.specs.declared.refusal.LimitWord.TheVariants as limit
 use Rattle.live_cmd.specs.declared.refusal.Refusal.{Refusal}
 use Rattle.live_cmd.specs.declared.refusal.Refusal.TheVariants as refusal
-use Rattle.live_cmd.specs.Grammar.{Said, cell, set, computed, text}
+use Rattle.live_cmd.specs.Grammar.{Said, row}
 
 -- what lines say, each with its number
 abbrev pub Sayings : Type 0
@@ -21,16 +19,17 @@ Sayings = List (ℕ × Said)
 abbrev pub tracked : Allow
 tracked = record { row = false; untrack = false }
 
-abbrev pub fault_of_scalar : Scalar → Option FormulaFault
-fault_of_scalar v = if is_long (constant v) then Some fault.TextLong else None
-
 -- what is wrong with a line that says something: an `untrack`, a formula's height, a text's length, a formula's names, the first of these
 abbrev pub fault_of : Said → Option FormulaFault
-fault_of (cell n v) = fault_of_scalar v
-fault_of (set n v) = fault_of_scalar v
-fault_of (computed n f) = formula.refusal tracked f
-fault_of (text f) = formula.refusal tracked f
-fault_of _ = None
+fault_of x = fault_along tracked (row x.0).1 x.1
+
+-- what is wrong with each line of a command, by its number
+abbrev pub Faults : Type 0
+Faults = List (ℕ × Option FormulaFault)
+
+-- what is wrong with lines that say something
+abbrev pub faults_of : Sayings → Faults
+faults_of xs = map (λ x. (x.0, fault_of x.1)) xs
 
 -- a line that has something where it may not stand, by its number
 abbrev pub misplacing : ℕ → Option FormulaFault → Option Refusal
@@ -44,19 +43,21 @@ excess (Some fault.TextLong) = Some (refusal.Limit limit.Text)
 excess (Some fault.Sources) = Some (refusal.Limit limit.Sources)
 excess _ = None
 
-abbrev pub first_misplaced : Sayings → Option Refusal
+-- the first line that has something where it may not stand
+abbrev pub first_misplaced : Faults → Option Refusal
 first_misplaced [] = None
-first_misplaced (x ∷ xs) = option_or (misplacing x.0 (fault_of x.1)) (first_misplaced xs)
+first_misplaced (x ∷ xs) = option_or (misplacing x.0 x.1) (first_misplaced xs)
 
-abbrev pub first_excess : Sayings → Option Refusal
+-- the first line that has too much of something
+abbrev pub first_excess : Faults → Option Refusal
 first_excess [] = None
-first_excess (x ∷ xs) = option_or (excess (fault_of x.1)) (first_excess xs)
+first_excess (x ∷ xs) = option_or (excess x.1) (first_excess xs)
 
--- a template has at most 128 lines between its first and its `end`
-abbrev pub many_lines : Sayings → Option Refusal
-many_lines xs = if nat_lt 130 (length xs) then Some (refusal.Limit limit.Template) else None
+-- a template has at most `MOST_TEMPLATE_LINES` lines between its first and its `end`
+abbrev pub many_lines : Faults → Option Refusal
+many_lines xs = if nat_lt (MOST_TEMPLATE_LINES + 2) (length xs) then Some (refusal.Limit limit.Template) else None
 
 -- What the lines of a command are refused for: first what may not stand where it does, at the first such line, then too much of
 -- something, at the first such line, then too many lines.
-abbrev pub refusal_of : Sayings → Option Refusal
+abbrev pub refusal_of : Faults → Option Refusal
 refusal_of xs = option_or (first_misplaced xs) (option_or (first_excess xs) (many_lines xs))

@@ -3,5 +3,5 @@ pub mod Items
 pub mod Judging
 pub mod Places
 pub mod Printed
-pub mod Reading
 pub mod Views
+pub mod Writing

@@ -1,27 +1,34 @@
 -- Where a line may stand among the lines of a command.
 use Rattle.std.specs.Prelude.{Bool, true, false}
-use Rattle.live_cmd.specs.Grammar.{Said}
-use Rattle.live_cmd.specs.Grammar as said
+use Rattle.live_cmd.specs.declared.line.Line.{Line}
+use Rattle.live_cmd.specs.declared.line.Line.TheVariants as line
+use Rattle.live_cmd.specs.declared.line.LineKind.{LineKind}
+use Rattle.live_cmd.specs.declared.line.LineKind.TheVariants as kind
+use Rattle.live_cmd.specs.declared.place.Place.{Place}
+use Rattle.live_cmd.specs.declared.place.Place.TheVariants as place
+use Rattle.live_cmd.specs.Grammar.{Said, line_of}
 
-pub data Place : Type 0 where
-  -- at the first line of a command
-  first : Place
-  -- in a template
-  in_template : Place
-  -- behind the last line of a command
-  behind : Place
+-- what a line is for its place
+abbrev pub kind_of_line : Line → LineKind
+kind_of_line (line.Alone c) = kind.Alone
+kind_of_line (line.Template n) = kind.Template
+kind_of_line (line.Text w) = kind.Text
+kind_of_line line.End = kind.End
 
--- whether a line may stand there
-abbrev pub fits : Place → Said → Bool
-fits first (said.text f) = false
-fits first said.close = false
-fits first x = true
-fits in_template (said.text f) = true
-fits in_template said.close = true
+-- what a line that says this is for its place
+abbrev pub kind_of : Said → LineKind
+kind_of x = kind_of_line (line_of x)
+
+-- whether a line of this kind may stand there
+abbrev pub fits : Place → LineKind → Bool
+fits place.First kind.Alone = true
+fits place.First kind.Template = true
+fits place.InTemplate kind.Text = true
+fits place.InTemplate kind.End = true
 fits _ _ = false
 
--- where the next line stands
-abbrev pub moved : Place → Said → Place
-moved first (said.template n) = in_template
-moved in_template (said.text f) = in_template
-moved _ _ = behind
+-- where the line after one of this kind stands
+abbrev pub moved : Place → LineKind → Place
+moved place.First kind.Template = place.InTemplate
+moved place.InTemplate kind.Text = place.InTemplate
+moved _ _ = place.Behind

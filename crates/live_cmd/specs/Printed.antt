@@ -31,6 +31,7 @@ refusal_text (refusal.Limit l) = codes "5 " ++ limit_word l
 refusal_text (refusal.UntrackHere k) = codes "15 " ++ decimal k
 refusal_text (refusal.Nest k) = codes "19 " ++ decimal k
 
+-- the line of a refusal
 abbrev pub line_of_refusal : Refusal → List ℕ
 line_of_refusal r = codes "error " ++ refusal_text r ++ codes "\n"
 
@@ -43,6 +44,7 @@ abbrev pub line_of_outcome : List ℕ → Outcome → List ℕ
 line_of_outcome n (Good v) = n ++ codes " = " ++ printed_value v ++ codes "\n"
 line_of_outcome n (Bad f) = n ++ codes " ! " ++ fault_name f ++ codes "\n"
 
+-- the lines of an entry
 abbrev pub line_of_entry : Entry → List ℕ
 line_of_entry (entry.Outcome n o) = line_of_outcome n o
 line_of_entry (entry.Page n bytes) = line_of_page n bytes

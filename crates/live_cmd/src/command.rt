@@ -1,5 +1,6 @@
 // Commands and the items of a script.
 ghost use Rattle.std.specs.Prelude.{◌≡◌};
+ghost use Rattle.live_cmd.specs.Grammar.{verb_word};
 
 use crate::Refusal;
 use formula_text::Wired;
@@ -48,6 +49,27 @@ impl Formulas {
     }
 }
 
+/// The verbs of the commands that are a verb and a name.
+#[derive(Clone, Copy, Debug, PartialEq, Eq)]
+pub enum Verb {
+    /// `get N` tells the outcome of a cell or a computed.
+    Get,
+    /// `show P` tells the HTML of a page as it was last brought up to date.
+    Show,
+}
+
+impl Verb {
+    /// Its word.
+    pub fn word(self) -> &'static str
+        ensures { result.now ≡ verb_word self }
+    {
+        match self {
+            Verb::Get => "get",
+            Verb::Show => "show",
+        }
+    }
+}
+
 /// What a computed is computed by.
 #[derive(Debug, Drop)]
 pub enum SourceText {
@@ -64,14 +86,12 @@ pub enum Command {
     Set { name: Name, value: Scalar },
     /// `computed N = FORMULA` makes a computed.
     Computed { name: Name, source: SourceText },
-    /// `get N` tells the outcome of a cell or a computed.
-    Get(Name),
+    /// A verb and a name.
+    Named { verb: Verb, name: Name },
     /// `template T` to `end` makes a template that shows what these formulas come to, one after the other.
     Template { name: Name, texts: Formulas },
     /// `mount P T` makes a page from a template.
     Mount { name: Name, template: Name },
-    /// `show P` tells the HTML of a page as it was last brought up to date.
-    Show(Name),
     /// `flush` brings the pages up to date.
     Flush,
 }

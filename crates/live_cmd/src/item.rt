@@ -3,11 +3,11 @@ ghost use Rattle.std.specs.Prelude.{◌≡◌, ◌∷◌, ◌+◌, ◌++◌, ◌
 ghost use Rattle.std.specs.List.{list_any};
 ghost use Rattle.script_lines.specs.Pieces.{pieces_of};
 ghost use Rattle.script_lines.specs.Views.{line_of, piece_of};
-ghost use Rattle.live_cmd.specs.declared.line.Line.{Line as ALine};
+ghost use Rattle.live_cmd.specs.declared.line.Line.TheVariants as given;
 ghost use Rattle.live_cmd.specs.Grammar.{Said, Writes};
-ghost use Rattle.live_cmd.specs.Places.{fits as fits_test};
+ghost use Rattle.live_cmd.specs.Places.{fits, kind_of};
 ghost use Rattle.live_cmd.specs.Items.{command_of, first_number, item_or, texts_of, Begins, IsItem};
-ghost use Rattle.live_cmd.specs.Views.{found_of, item_read, place_of, sound_lines, with_line, IsReading};
+ghost use Rattle.live_cmd.specs.Views.{found_of, item_read, sound_lines, with_line, IsReading};
 
 use crate::command::Formulas;
 use crate::judge::{ReadLine, refusal_of};
@@ -15,11 +15,10 @@ use crate::line::Found;
 use crate::place::{Place, fits, moved};
 use crate::reading::read_line;
 use crate::refusal::LimitWord;
-use crate::{Command, Item, Line, Refusal, SourceText};
+use crate::{Command, Item, Line, Refusal};
 use formula_text::Wired;
 use script_lines::{NumberedLine, Piece, next_piece};
-use sig_base::{Name, NoMemory};
-use sig_words::MOST_LINE;
+use sig_base::{MOST_LINE, Name, NoMemory};
 use std::alloc::Global;
 
 /// What the lines of a command say, or the number of the first that says nothing which may stand there.
@@ -31,10 +30,10 @@ pub enum Reading {
 
 // What a line says, if it may stand there.
 fn read_at(alloc: Global, at: Place, line: &[u8]) -> Result<Option<Found>, NoMemory>
-    requires { length line.now ≤ 4096 }
+    requires { length line.now ≤ MOST_LINE }
     ensures { IfOk result (λ found. MatchOption found
-        ((x : Said) → Writes x line.now → IsTrue (fits_test (place_of at) x) → ⊥)
-        (λ f. (x : Said) × Writes x line.now × IsTrue (fits_test (place_of at) x) × (f ≡ found_of x))) }
+        ((x : Said) → Writes x line.now → IsTrue (fits at (kind_of x)) → ⊥)
+        (λ f. (x : Said) × Writes x line.now × IsTrue (fits at (kind_of x)) × (f ≡ found_of x))) }
 {
     let Some(found) = read_line(alloc, line)? else {
         return Ok(None);
@@ -47,7 +46,7 @@ fn read_at(alloc: Global, at: Place, line: &[u8]) -> Result<Option<Found>, NoMem
 
 // What the lines of a command say.
 fn read_lines(alloc: Global, lines: &[NumberedLine]) -> Result<Reading, NoMemory>
-    requires { All (λ l. length l.text.now ≤ 4096) lines.now }
+    requires { All (λ l. length l.text.now ≤ MOST_LINE) lines.now }
     ensures { IfOk result (λ r. IsReading (map line_of lines.now) r) }
 {
     let mut at = Place::First;
@@ -108,28 +107,9 @@ fn texts_of(alloc: Global, lines: Vec<Line>) -> Result<Option<Vec<Wired>>, NoMem
     Ok(None)
 }
 
-// The command that one line is.
-fn alone(line: Line) -> Option<Command>
-    ensures { result ≡ command_of (line ∷ []) }
-{
-    match line {
-        Line::Cell { name, value } => Some(Command::Cell { name, value }),
-        Line::Set { name, value } => Some(Command::Set { name, value }),
-        Line::Computed { name, formula } => Some(Command::Computed {
-            name,
-            source: SourceText::Formula(formula),
-        }),
-        Line::Get(name) => Some(Command::Get(name)),
-        Line::Mount { name, template } => Some(Command::Mount { name, template }),
-        Line::Show(name) => Some(Command::Show(name)),
-        Line::Flush => Some(Command::Flush),
-        Line::Template(_) | Line::Text(_) | Line::End => None,
-    }
-}
-
 // The template of a name, where these lines are texts up to its end.
 fn template(alloc: Global, name: Name, lines: Vec<Line>) -> Result<Option<Command>, NoMemory>
-    ensures { IfOk result (λ found. found ≡ command_of (ALine.Template name ∷ lines.items)) }
+    ensures { IfOk result (λ found. found ≡ command_of (given.Template name ∷ lines.items)) }
 {
     match texts_of(alloc, lines)? {
         Some(formulas) => Ok(Some(Command::Template {
@@ -150,13 +130,8 @@ fn command_of(alloc: Global, lines: Vec<Line>) -> Result<Option<Command>, NoMemo
     }
     match rest.remove(0) {
         Line::Template(name) => template(alloc, name, rest),
-        line => {
-            if rest.is_empty() {
-                Ok(alone(line))
-            } else {
-                Ok(None)
-            }
-        }
+        Line::Alone(command) if rest.is_empty() => Ok(Some(command)),
+        _ => Ok(None),
     }
 }
 
@@ -167,9 +142,9 @@ fn first_number(lines: &[NumberedLine]) -> u32
     if lines.is_empty() { 0 } else { lines[0].number }
 }
 
-// Whether a line has more than 4,096 bytes.
+// Whether a line has more than `MOST_LINE` bytes.
 fn any_long(lines: &[NumberedLine]) -> bool
-    ensures { result ≡ list_any (λ l. nat_lt 4096 (length l.text.now)) lines.now }
+    ensures { result ≡ list_any (λ l. nat_lt MOST_LINE (length l.text.now)) lines.now }
 {
     lines.iter().any(|line| MOST_LINE < line.text.len())
 }
@@ -216,10 +191,11 @@ fn item_of(alloc: Global, piece: &Piece) -> Result<Item, NoMemory>
 /// number; `None` exactly where nothing is left but empty lines and comments.
 ///
 /// An item is a line or, from a `template` line to the `end` that closes it, a block. It is refused for the first of these
-/// causes: a line of more than 4,096 bytes; an end that is missing, as `Syntax` with the number of its first line; a line that
-/// isn't in the grammar or may not stand there, as `Syntax` with the number of the first such line; the first line with an
-/// `untrack` or a formula of a height above 64; the first line with a text of more than 1,024 bytes or a formula of more than
-/// 64 names; a template of more than 128 lines. `NoMemory` where the item finds no room.
+/// causes: a line of more than `MOST_LINE` bytes; an end that is missing, as `Syntax` with the number of its first line; a line
+/// that isn't in the grammar or may not stand there, as `Syntax` with the number of the first such line; the first line with an
+/// `untrack` or a formula that is higher than `MOST_HEIGHT`; the first line with a text of more than `MOST_TEXT` bytes or a
+/// formula of more than `MOST_SOURCES` names; a template of more than `MOST_TEMPLATE_LINES` lines. `NoMemory` where the item
+/// finds no room.
 pub fn next_item(
     alloc: Global,
     script: &[u8],
@@ -243,9 +219,7 @@ pub fn next_item(
 #[cfg(test)]
 mod tests {
     use super::next_item;
-    use crate::{Command, Entry, Item, SourceText, entry_line};
-    use formula_text::put_formula;
-    use sig_base::Scalar;
+    use crate::{Command, Entry, Item, command_line, entry_line};
     use std::alloc::{AllocError, Global};
     use std::test::Fail;
 
@@ -269,42 +243,13 @@ mod tests {
         Ok(out)
     }
 
-    // The formula of a computed as it is printed; nothing where the first item is none.
-    fn formula(alloc: Global, script: &[u8]) -> Result<Vec<u8>, Fail> {
+    // The first item as it is written where it is a command; nothing where it isn't.
+    fn written(alloc: Global, script: &[u8]) -> Result<Vec<u8>, Fail> {
         let mut out = Vec::new(alloc);
-        if let Some(Item::Do(Command::Computed { name: _, source })) = item(alloc, script) {
-            let SourceText::Formula(wired) = source;
-            put_formula(&mut out, &wired)?;
+        if let Some(Item::Do(command)) = item(alloc, script) {
+            command_line(&mut out, &command)?;
         }
         Ok(out)
-    }
-
-    // The formulas of a template, each behind `|`.
-    fn texts(alloc: Global, script: &[u8]) -> Result<Vec<u8>, Fail> {
-        let mut out = Vec::new(alloc);
-        let Some(Item::Do(Command::Template { name: _, texts })) = item(alloc, script) else {
-            return Ok(out);
-        };
-        for wired in texts.as_slice() {
-            out.push(b'|')?;
-            put_formula(&mut out, wired)?;
-        }
-        Ok(out)
-    }
-
-    // The number that the first item gives a cell.
-    fn number(alloc: Global, script: &[u8]) -> Option<i64> {
-        match item(alloc, script) {
-            Some(
-                Item::Do(
-                    Command::Cell {
-                        name: _,
-                        value: Scalar::Int(n),
-                    },
-                ),
-            ) => Some(n),
-            _ => None,
-        }
     }
 
     fn repeated(
@@ -350,7 +295,7 @@ mod tests {
     }
 
     #[test]
-    fn reads_commands(rt: HostRuntime) -> Result<(), Fail> {
+    fn reads_items_in_turn(rt: HostRuntime) -> Result<(), Fail> {
         let alloc = rt.alloc();
         assert!(rt; matches!(next_item(alloc, b"\n # x", 0, 1), Ok(None)));
         assert!(rt;
@@ -359,16 +304,30 @@ mod tests {
                 Ok(Some((Item::Do(Command::Flush), 13, 4)))
             )
         );
-        assert!(rt; matches!(item(alloc, b"get a"), Some(Item::Do(Command::Get(_)))));
-        assert!(rt; matches!(item(alloc, b"show p"), Some(Item::Do(Command::Show(_)))));
-        assert_eq!(rt; number(alloc, b" cell\ta= -5 \nend"), Some(-5));
-        let computed = formula(alloc, b"computed c = (a+1)*b")?;
-        assert_eq!(rt; computed.as_slice(), b"(a + 1) * b".as_slice());
-        let template = texts(
-            alloc,
-            b"template t\n text b\r\n\n# x\ntext (\"x\")\nend\nflush",
-        )?;
-        assert_eq!(rt; template.as_slice(), b"|b|\"x\"".as_slice());
+        Ok(())
+    }
+
+    #[test]
+    fn writes_what_it_reads(rt: HostRuntime) -> Result<(), Fail> {
+        let alloc = rt.alloc();
+        for (script, canonical) in [
+            ("get a", "get a\n"),
+            ("show\tp\nend", "show p\n"),
+            (" cell\ta= -5 \nend", "cell a = -5\n"),
+            ("set a \"\\n\\\"é\"", "set a \"\\n\\\"é\"\n"),
+            ("computed c=(a+1)*(b)", "computed c = (a + 1) * b\n"),
+            ("mount p t", "mount p t\n"),
+            ("flush ", "flush\n"),
+            (
+                "template t\n text(b)++\"x\"\r\n\n# x\ntext true\nend\nflush",
+                "template t\ntext b ++ \"x\"\ntext true\nend\n",
+            ),
+        ] {
+            let first = written(alloc, script.as_bytes())?;
+            assert_eq!(rt; first.as_slice(), canonical.as_bytes(), "at {script}");
+            let again = written(alloc, &first)?;
+            assert_eq!(rt; again.as_slice(), canonical.as_bytes(), "at {script}");
+        }
         Ok(())
     }
 

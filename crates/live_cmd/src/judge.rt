@@ -1,14 +1,12 @@
 // What the lines of a command are refused for.
 ghost use Rattle.std.specs.Prelude.{◌≡◌, ◌∷◌, [], MatchOption};
-ghost use Rattle.live_cmd.specs.Judging.{excess, misplacing};
-ghost use Rattle.live_cmd.specs.Views.{fault_read, first_excess_read, first_misplaced_read, many_read, refusal_read};
+ghost use Rattle.live_cmd.specs.Judging.{excess, first_excess, first_misplaced, many_lines, misplacing, refusal_of};
+ghost use Rattle.live_cmd.specs.Views.{fault_read, faults_read};
 
 use crate::refusal::LimitWord;
 use crate::{Line, Refusal};
 use formula_text::FormulaFault;
-
-/// The most lines that a template has, with its first and its `end`.
-pub const MOST_LINES: usize = 130;
+use sig_base::MOST_TEMPLATE_LINES;
 
 /// A line of a command that was read, or what is wrong with it, and its number.
 #[derive(Debug, Drop)]
@@ -61,7 +59,7 @@ fn first(lines: &[ReadLine]) -> Option<(&ReadLine, &[ReadLine])>
 }
 
 fn first_misplaced(lines: &[ReadLine]) -> Option<Refusal>
-    ensures { result ≡ first_misplaced_read lines.now }
+    ensures { result ≡ first_misplaced (faults_read lines.now) }
 {
     let mut rest = lines;
     while let Some((line, more)) = first(rest) {
@@ -74,7 +72,7 @@ fn first_misplaced(lines: &[ReadLine]) -> Option<Refusal>
 }
 
 fn first_excess(lines: &[ReadLine]) -> Option<Refusal>
-    ensures { result ≡ first_excess_read lines.now }
+    ensures { result ≡ first_excess (faults_read lines.now) }
 {
     let mut rest = lines;
     while let Some((line, more)) = first(rest) {
@@ -87,9 +85,9 @@ fn first_excess(lines: &[ReadLine]) -> Option<Refusal>
 }
 
 fn many_lines(lines: &[ReadLine]) -> Option<Refusal>
-    ensures { result ≡ many_read lines.now }
+    ensures { result ≡ many_lines (faults_read lines.now) }
 {
-    if MOST_LINES < lines.len() {
+    if MOST_TEMPLATE_LINES + 2 < lines.len() {
         Some(Refusal::Limit(LimitWord::Template))
     } else {
         None
@@ -99,7 +97,7 @@ fn many_lines(lines: &[ReadLine]) -> Option<Refusal>
 /// What the lines of a command are refused for: what may not stand where it does, at the first such line, then too much of
 /// something, at the first such line, then too many lines.
 pub fn refusal_of(lines: &[ReadLine]) -> Option<Refusal>
-    ensures { result ≡ refusal_read lines.now }
+    ensures { result ≡ refusal_of (faults_read lines.now) }
 {
     if let Some(refusal) = first_misplaced(lines) {
         return Some(refusal);

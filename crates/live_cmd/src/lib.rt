@@ -10,10 +10,12 @@ mod line;
 mod place;
 mod reading;
 mod refusal;
+mod writing;
 
-pub use command::{Command, Formulas, Item, SourceText};
+pub use command::{Command, Formulas, Item, SourceText, Verb};
 pub use entry::{Entry, PageBytes, entry_line};
 pub use item::next_item;
-pub use laws::{items_cut, items_in_turn, one_item, one_list, one_meaning};
+pub use laws::{commands_read_back, items_cut, items_in_turn, one_item, one_list, one_meaning};
 pub use line::Line;
 pub use refusal::{LimitWord, Refusal};
+pub use writing::command_line;

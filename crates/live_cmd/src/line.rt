@@ -1,31 +1,20 @@
 // What one line of a script says.
 
+use crate::Command;
 use formula_text::{FormulaFault, Wired};
-use sig_base::{Name, Scalar};
+use sig_base::Name;
 
 /// What a line says, by itself: where it may stand is another matter.
 #[derive(Debug, Drop)]
 pub enum Line {
-    /// `cell N = LIT`
-    Cell { name: Name, value: Scalar },
-    /// `set N LIT`
-    Set { name: Name, value: Scalar },
-    /// `computed N = FORMULA`
-    Computed { name: Name, formula: Wired },
-    /// `get N`
-    Get(Name),
+    /// A command of one line.
+    Alone(Command),
     /// `template T`, the first line of a block
     Template(Name),
     /// `text FORMULA`, in a template
     Text(Wired),
     /// `end`, the last line of a block
     End,
-    /// `mount P T`
-    Mount { name: Name, template: Name },
-    /// `show P`
-    Show(Name),
-    /// `flush`
-    Flush,
 }
 
 /// What a line is for the place where it stands.

@@ -1,6 +1,6 @@
 // Where a line may stand among the lines of a command.
 ghost use Rattle.std.specs.Prelude.{◌≡◌};
-ghost use Rattle.live_cmd.specs.Views.{kind_fits, kind_moved, place_of};
+ghost use Rattle.live_cmd.specs.Places.{fits, moved};
 
 use crate::line::LineKind;
 
@@ -17,7 +17,7 @@ pub enum Place {
 
 /// Whether a line of this kind may stand there.
 pub fn fits(at: Place, kind: LineKind) -> bool
-    ensures { result ≡ kind_fits (place_of at) kind }
+    ensures { result ≡ fits at kind }
 {
     match at {
         Place::First => matches!(kind, LineKind::Alone | LineKind::Template),
@@ -28,7 +28,7 @@ pub fn fits(at: Place, kind: LineKind) -> bool
 
 /// The place after a line of this kind.
 pub fn moved(at: Place, kind: LineKind) -> Place
-    ensures { place_of result ≡ kind_moved (place_of at) kind }
+    ensures { result ≡ moved at kind }
 {
     match (at, kind) {
         (Place::First, LineKind::Template) => Place::InTemplate,

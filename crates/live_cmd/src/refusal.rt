@@ -17,25 +17,25 @@ pub enum Refusal {
     Limit(LimitWord),
     /// The line of this number has an `untrack`, and no effect stands around it.
     UntrackHere(u32),
-    /// The line of this number has a formula of a height above 64.
+    /// The line of this number has a formula that is higher than `MOST_HEIGHT`.
     Nest(u32),
 }
 
 /// What there may not be too much of.
 #[derive(Clone, Copy, Debug, PartialEq, Eq)]
 pub enum LimitWord {
-    /// A line has at most 4,096 bytes.
+    /// A line has at most `MOST_LINE` bytes.
     Line,
-    /// A text that is written in the script has at most 1,024 bytes.
+    /// A text that is written in the script has at most `MOST_TEXT` bytes.
     Text,
-    /// A formula has at most 64 distinct names.
+    /// A formula has at most `MOST_SOURCES` distinct names.
     Sources,
-    /// A template has at most 128 lines between its first line and its `end`.
+    /// A template has at most `MOST_TEMPLATE_LINES` lines between its first line and its `end`.
     Template,
-    /// At most 512 cells and computeds live.
+    /// At most `MOST_NODES` cells and computeds live.
     Nodes,
-    /// At most 64 templates are made.
+    /// At most `MOST_TEMPLATES` templates are made.
     Templates,
-    /// At most 8 pages live.
+    /// At most `MOST_PAGES` pages live.
     Pages,
 }

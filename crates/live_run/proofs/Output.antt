@@ -13,7 +13,7 @@ use Rattle.live_cmd.specs.declared.command.Item.{Item}
 use Rattle.live_cmd.specs.declared.entry.Entry.{Entry}
 use Rattle.live_cmd.specs.Printed.{printed}
 use Rattle.live_cmd.specs.Items.{AreItems, IsItem, ItemsFrom}
-use Rattle.live_cmd.proofs.Deciding.{some_items}
+use Rattle.live_cmd.proofs.Shared.{some_items}
 use Rattle.live_model.specs.declared.jobs.Job.{Job}
 use Rattle.live_model.specs.Machine.{Machine, told, step}
 use Rattle.live_model.specs.Output.{entries_from, output_from, output_of}

@@ -2,7 +2,7 @@ use Rattle.std.proofs.Common.{[], ◌∷◌, map, drop, append_assoc, arith}
 use Rattle.std.proofs.lemmas.List.{append-nil, drop_all}
 use Rattle.script_lines.specs.declared.line.NumberedLine.{NumberedLine}
 use Rattle.script_lines.specs.Views.{line_of}
-use Rattle.live_cmd.specs.Views.{place_of, AreRead}
+use Rattle.live_cmd.specs.Views.{AreRead}
 use Rattle.live_cmd.proofs.LineByLine.{found_at, faulty_later, read_later}
 use Rattle.live_cmd.proofs.item.read_lines.Goals as goal
 
@@ -22,5 +22,5 @@ pub returns : goal.returns
 returns c =
     let h = c.loop-numbered-test.false in
     let none = drop_all c.loop-numbered.numbered-index c.args.lines.now (omega arith) in
-    let done : AreRead (place_of c.loop-numbered.at) (map line_of (drop c.loop-numbered.numbered-index c.args.lines.now)) [] = rw none tt in
+    let done : AreRead (c.loop-numbered.at) (map line_of (drop c.loop-numbered.numbered-index c.args.lines.now)) [] = rw none tt in
     rw append-nil at (c.loop-numbered.invariant.says [] done)

@@ -1,5 +1,13 @@
-use Rattle.sig_words.proofs.Shared.{each_token}
+use Rattle.std.proofs.Common.{◌∙◌}
+use Rattle.live_cmd.proofs.Spellings.{said_word, first_utf8}
 use Rattle.live_cmd.proofs.reading.spelled.Goals as goal
 
-pub of_few-requires : goal.of_few-requires
-of_few-requires c = each_token c.args.line.now c.args.tokens.now c.requires
+pub unreachable-requires : goal.unreachable-requires
+unreachable-requires c =
+    let bytes = first_utf8 c.args.line.now c.args.tokens.now c.in-Some.first.now c.requires c.in-Some.ensures.value c.in-Word.is in
+    c.in_default-from_utf8.ensures.cases.0 (rw c.token_bytes.ensures bytes)
+
+pub returns-in-Ok : goal.returns-in-Ok
+returns-in-Ok c =
+    let says = c.in-Ok.ensures.cases.0 ∙ c.token_bytes.ensures in
+    rw (said_word c.args.line.now c.args.tokens.now c.in-Some.first.now c.in-Ok.word.now c.in-Some.ensures.value c.in-Word.is says) c.behind_word.ensures

@@ -1,0 +1,17 @@
+-- The table of rows: tokens are read as a line exactly where they spell it.
+use Rattle.std.proofs.Common.{◌≡◌, true, refl, inl}
+use Rattle.line_forms.specs.Reading.{is_clear}
+use Rattle.line_forms.specs.Rows.{rows_of, Reaches, IsGrammar}
+use Rattle.live_cmd.specs.declared.command.Verb.TheVariants as verbs
+use Rattle.live_cmd.specs.Grammar.{Row, row, table, verb, flush}
+
+reached : (r : Row) → Reaches Row row r (rows_of (row r).0 table)
+reached (verb verbs.Get) = inl refl
+reached _ = inl refl
+
+clear : (r : Row) → is_clear (row r).1 ≡ true
+clear flush = refl
+clear _ = refl
+
+pub is_grammar : IsGrammar Row row table
+is_grammar = record { begins = refl; reached = reached; clear = clear }

@@ -1,0 +1,4 @@
+-- What crates above may cite of these proofs. All else in this folder is this crate's own.
+
+-- each script has items
+pub use Rattle.live_cmd.proofs.Deciding.{some_items}

@@ -1,5 +1,0 @@
-use Rattle.live_cmd.proofs.Spellings.{no_name}
-use Rattle.live_cmd.proofs.reading.as_name.Goals as goal
-
-pub returns-in_default : goal.returns-in_default
-returns-in_default c = no_name c.args.word.now c.in_default.ensures.cases.0

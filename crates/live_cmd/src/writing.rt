@@ -1,0 +1,127 @@
+// Writes commands.
+ghost use Rattle.std.specs.Prelude.{◌≡◌, ◌++◌, OnOk, flat_map};
+ghost use Rattle.live_cmd.specs.declared.command.Command.TheVariants as command;
+ghost use Rattle.live_cmd.specs.Grammar as rows;
+ghost use Rattle.live_cmd.specs.Writing.{command_text, draft_of, ended_line, text_line};
+
+use crate::command::Formulas;
+use crate::{Command, SourceText, Verb};
+use formula_text::Wired;
+use line_forms::{put_fixed, put_name, put_value, put_wired};
+use sig_base::{Name, NoMemory, Scalar};
+
+fn put_named(out: &mut Vec<u8>, verb: Verb, name: &Name) -> Result<(), NoMemory>
+    ensures { OnOk result (out.new.items ≡ out.old.items ++ ended_line (rows.verb verb, (name.now, tt))) }
+{
+    out.extend_from_slice(verb.word().as_bytes())?;
+    put_name(out, name)?;
+    out.push(b'\n')?;
+    Ok(())
+}
+
+fn put_cell(out: &mut Vec<u8>, name: &Name, value: &Scalar) -> Result<(), NoMemory>
+    ensures { OnOk result (out.new.items ≡ out.old.items ++ ended_line (rows.cell, (name.now, (value.now, tt)))) }
+{
+    out.extend_from_slice(b"cell")?;
+    put_name(out, name)?;
+    put_fixed(out, b"=")?;
+    put_value(out, value)?;
+    out.push(b'\n')?;
+    Ok(())
+}
+
+fn put_set(out: &mut Vec<u8>, name: &Name, value: &Scalar) -> Result<(), NoMemory>
+    ensures { OnOk result (out.new.items ≡ out.old.items ++ ended_line (rows.set, (name.now, (value.now, tt)))) }
+{
+    out.extend_from_slice(b"set")?;
+    put_name(out, name)?;
+    put_value(out, value)?;
+    out.push(b'\n')?;
+    Ok(())
+}
+
+fn put_computed(out: &mut Vec<u8>, name: &Name, formula: &Wired) -> Result<(), NoMemory>
+    ensures { OnOk result (out.new.items ≡ out.old.items ++ ended_line (rows.computed, (name.now, (draft_of formula.now, tt)))) }
+{
+    out.extend_from_slice(b"computed")?;
+    put_name(out, name)?;
+    put_fixed(out, b"=")?;
+    put_wired(out, formula)?;
+    out.push(b'\n')?;
+    Ok(())
+}
+
+fn put_mount(out: &mut Vec<u8>, name: &Name, template: &Name) -> Result<(), NoMemory>
+    ensures { OnOk result (out.new.items ≡ out.old.items ++ ended_line (rows.mount, (name.now, (template.now, tt)))) }
+{
+    out.extend_from_slice(b"mount")?;
+    put_name(out, name)?;
+    put_name(out, template)?;
+    out.push(b'\n')?;
+    Ok(())
+}
+
+fn put_text(out: &mut Vec<u8>, formula: &Wired) -> Result<(), NoMemory>
+    ensures { OnOk result (out.new.items ≡ out.old.items ++ ended_line (text_line formula.now)) }
+{
+    out.extend_from_slice(b"text")?;
+    put_wired(out, formula)?;
+    out.push(b'\n')?;
+    Ok(())
+}
+
+fn put_texts(out: &mut Vec<u8>, texts: &[Wired]) -> Result<(), NoMemory>
+    ensures { OnOk result (out.new.items ≡ out.old.items ++ flat_map (λ w. ended_line (text_line w)) texts.now) }
+{
+    for text in texts {
+        put_text(out, text)?;
+    }
+    Ok(())
+}
+
+fn put_title(out: &mut Vec<u8>, name: &Name) -> Result<(), NoMemory>
+    ensures { OnOk result (out.new.items ≡ out.old.items ++ ended_line (rows.template, (name.now, tt))) }
+{
+    out.extend_from_slice(b"template")?;
+    put_name(out, name)?;
+    out.push(b'\n')?;
+    Ok(())
+}
+
+fn put_end(out: &mut Vec<u8>) -> Result<(), NoMemory>
+    ensures { OnOk result (out.new.items ≡ out.old.items ++ ended_line (rows.close, tt)) }
+{
+    out.extend_from_slice(b"end\n")?;
+    Ok(())
+}
+
+fn put_template(out: &mut Vec<u8>, name: &Name, texts: &Formulas) -> Result<(), NoMemory>
+    ensures { OnOk result (out.new.items ≡ out.old.items ++ command_text (command.Template name.now texts.now)) }
+{
+    put_title(out, name)?;
+    put_texts(out, texts.as_slice())?;
+    put_end(out)?;
+    Ok(())
+}
+
+/// Appends the lines of a command, each ended by LF: one blank before each token behind the first, and formulas in their
+/// canonical text. They are read as the same command, where none has more than `MOST_LINE` bytes.
+pub fn command_line(out: &mut Vec<u8>, command: &Command) -> Result<(), NoMemory>
+    ensures { OnOk result (out.new.items ≡ out.old.items ++ command_text command.now) }
+{
+    match command {
+        Command::Named { verb, name } => put_named(out, *verb, name),
+        Command::Cell { name, value } => put_cell(out, name, value),
+        Command::Set { name, value } => put_set(out, name, value),
+        Command::Computed { name, source } => {
+            let SourceText::Formula(formula) = source;
+            put_computed(out, name, formula)
+        }
+        Command::Mount { name, template } => put_mount(out, name, template),
+        Command::Template { name, texts } => put_template(out, name, texts),
+        Command::Flush => {
+            out.extend_from_slice(b"flush\n")?;
+            Ok(())
+        }
+    }
+}
