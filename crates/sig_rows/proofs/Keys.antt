@@ -1,7 +1,7 @@
 -- Rows and fields that are looked up.
-use Rattle.std.proofs.Common.{◌≡◌, ℕ, suc, ◌+◌, ◌<◌, Bool, true, false, not, get_or, Option, Some, None, List, [], ◌∷◌, length, drop, map, refl, sym, ◌∙◌, ap, add-one, arith, inl, inr}
+use Rattle.std.proofs.Common.{◌≡◌, ℕ, suc, ◌+◌, ◌<◌, Bool, true, false, not, get_or, Option, List, [], ◌∷◌, length, drop, map, refl, sym, ◌∙◌, ap, add-one, arith, inl, inr}
 use Rattle.std.specs.Prelude.{nat_lt, MatchOption}
-use Rattle.std.specs.List.{filter, list_any, position, position_or_len, AllByRecursion, IsDistinct}
+use Rattle.std.specs.List.{list_any, position, position_or_len, AllByRecursion, IsDistinct}
 use Rattle.std.specs.Str.{bytes_eq}
 use Rattle.std.proofs.Math.Seq.{drop-cons}
 use Rattle.std.proofs.lemmas.Bool.{cases_Bool, lt-ltb, ltb-true}

@@ -1,5 +1,5 @@
 -- What edits make of rows.
-use Rattle.std.specs.Prelude.{◌≡◌, ℕ, Bool, not, List, [], ◌∷◌, ◌++◌, map, take, drop, slice_set, if◌then◌else◌}
+use Rattle.std.specs.Prelude.{ℕ, Bool, not, List, ◌∷◌, ◌++◌, map, take, drop, slice_set, if◌then◌else◌}
 use Rattle.std.specs.List.{filter, position_or_len}
 use Rattle.std.specs.Str.{bytes_eq}
 use Rattle.sig_base.specs.declared.rows.Row.{Row}

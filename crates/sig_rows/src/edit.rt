@@ -137,7 +137,7 @@ pub fn put_field(
         return Err(RowFault::Field);
     };
     if row.values.as_slice()[at] == *value {
-        return Ok(false);
+        return Ok(false); // it is there already
     }
     let list = changed(alloc, rows.rows(), key, at, value)?;
     *rows = rows.with_rows(alloc, list)?;

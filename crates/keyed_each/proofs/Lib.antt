@@ -1,0 +1,3 @@
+mod Distinct
+pub mod Keys
+mod Leads

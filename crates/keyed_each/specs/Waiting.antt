@@ -1,0 +1,35 @@
+-- The same steps, judged on the old keys that haven't had their turn.
+use Rattle.std.specs.Prelude.{◌≡◌, ℕ, suc, ◌<◌, Bool, false, if◌then◌else◌, List, [], ◌∷◌, length, slice_index_or}
+use Rattle.std.specs.Str.{bytes_eq}
+use Rattle.keyed_each.specs.declared.placing.RowStep.{RowStep}
+use Rattle.keyed_each.specs.declared.placing.RowStep.TheVariants.{Keep, Insert, Move}
+use Rattle.keyed_each.specs.Steps.{listed, spot, taken}
+
+-- whether the key comes first
+abbrev pub leads : List ℕ → List (List ℕ) → Bool
+leads k [] = false
+leads k (x ∷ xs) = bytes_eq x k
+
+-- the steps from place i on, where `rest` are the old keys that haven't had their turn
+abbrev pub judged : List (List ℕ) → ℕ → List (List ℕ) → List (List ℕ) → List RowStep
+judged old i rest [] = []
+judged old i rest (k ∷ ks) =
+    if listed k rest
+    then (if leads k rest then Keep else Move (spot k old)) ∷ judged old (suc i) (taken k rest) ks
+    else Insert i ∷ judged old (suc i) rest ks
+
+-- the keys that wait, by a mark for each
+abbrev pub left : List Bool → List (List ℕ) → List (List ℕ)
+left [] xs = []
+left (b ∷ bs) [] = []
+left (b ∷ bs) (x ∷ xs) = if b then x ∷ left bs xs else left bs xs
+
+-- the first place that waits, or the number of places
+abbrev pub first_waiting : List Bool → ℕ
+first_waiting [] = 0
+first_waiting (b ∷ bs) = if b then 0 else suc (first_waiting bs)
+
+-- the key stands at the place
+pub record IsPlaceOf (k : List ℕ) (keys : List (List ℕ)) (p : ℕ) : Type 0 where
+  pub within : p < length keys
+  pub there : slice_index_or keys p [] ≡ k
