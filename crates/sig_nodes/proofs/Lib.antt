@@ -5,3 +5,4 @@ pub mod Seating
 pub mod Holding
 pub mod Looking
 pub mod Searching
+pub mod Shared

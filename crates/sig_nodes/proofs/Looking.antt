@@ -9,10 +9,10 @@ use Rattle.sig_nodes.specs.declared.node.Body.{Body}
 use Rattle.sig_nodes.specs.declared.node.Body.TheVariants.{Gone, Cell as CellBody, Computed as ComputedBody}
 use Rattle.sig_nodes.specs.Answers.{has_moved, slots_here, value_here}
 use Rattle.sig_nodes.specs.Computations.{paired}
-use Rattle.sig_nodes.specs.States.{GoesOn, State, Seen, is_given}
+use Rattle.sig_nodes.specs.States.{GoesOn, progress_at, State, Seen, is_given}
 use Rattle.sig_nodes.specs.Seats.{Seating, holder}
 use Rattle.sig_nodes.specs.Places.{seen, Holds}
-use Rattle.sig_nodes.specs.Nodes.{body_at, changed_at, is_computed_body, known_node, with_body_known, has_moved_body, known_body, memo_body, memos_of, number_at, signals_of, slots_body, stands_of, state_of, value_body}
+use Rattle.sig_nodes.specs.Nodes.{progress_of, body_at, changed_at, is_computed_body, known_node, with_body_known, has_moved_body, known_body, memo_body, memos_of, number_at, signals_of, slots_body, stands_of, state_of, value_body}
 use Rattle.sig_base.specs.declared.value.Known.{Known}
 use Rattle.sig_nodes.proofs.Edits.{body_changed}
 use Rattle.sig_nodes.proofs.Parts.{memo_found, number_found, progress_found, stands}
@@ -107,4 +107,15 @@ known_below xs n known h = computed_below xs n (go (body_at xs n) h)
     go : (b : Body) → GoesOn (known_body b) known → is_computed_body b ≡ true
     go Gone q = absurd q
     go (CellBody v r) q = absurd q
+    go (ComputedBody c) q = refl
+
+-- a computed is at the values that its evaluation is given
+pub begun_here : (k : Option (List Known)) (n : ℕ) (xs : List Node) → is_computed_body (body_at xs n) ≡ true → progress_at n (progress_of (changed_at (known_node k) n xs)) ≡ k
+begun_here k n xs live =
+    progress_found (changed_at (known_node k) n xs) n ∙ ap known_body (body_changed (known_node k) (λ b. with_body_known b k) n n xs (λ x. refl) refl ∙ ap (λ (t : Bool). if t then with_body_known (body_at xs n) k else body_at xs n) (eq-eqb n n refl))
+    ∙ go (body_at xs n) live
+  where
+    go : (b : Body) → is_computed_body b ≡ true → known_body (with_body_known b k) ≡ k
+    go Gone q = cc
+    go (CellBody v r) q = cc
     go (ComputedBody c) q = refl

@@ -3,7 +3,7 @@ ghost use Rattle.std.specs.Prelude.{◌≡◌, ◌<◌, [], length, take, true, 
 ghost use Rattle.std.specs.List.{All};
 ghost use Rattle.signal_model.specs.Recipes.{Hosts};
 ghost use Rattle.signal_model.specs.Standing.{is_computed, standing};
-ghost use Rattle.signal_model.specs.Memos.{is_stale, must_run, sources_of};
+ghost use Rattle.signal_model.specs.Memos.{is_stale, sources_of};
 ghost use Rattle.sig_nodes.specs.declared.answers.Asked.TheVariants as asked;
 ghost use Rattle.sig_nodes.specs.Answers.{answer_here, has_moved, slots_here, IsJudgedAnswer};
 ghost use Rattle.sig_nodes.specs.States.{counted, is_computing, is_given, progress_at, with_kept_run, with_look, with_progress, Becomes, CanWear, GoesOn};
@@ -31,7 +31,9 @@ impl Graph {
     pub fn begin(&mut self, id: NodeId)
         requires live { is_computed (standing self.old.state.signals id) ≡ true }
         requires idle { is_computing self.old.state id ≡ false }
-        ensures { Becomes self.old self.new (with_progress self.old.state id (Some [])) }
+        ensures after { Becomes self.old self.new (with_progress self.old.state id (Some [])) }
+        ensures begun { progress_at id self.new.state.progress ≡ Some [] }
+        ensures seats { self.new.seats ≡ self.old.seats }
     {
         let _count = self.nodes.len();
         begin_at(&mut self.nodes, id);
@@ -44,6 +46,7 @@ impl Graph {
         ensures answer { (hosts : Hosts) → IfOk result (λ a. a ≡ asked.Step (answer_here hosts (standing self.old.state.signals id) known.now)) }
         ensures judged { IfOk result (λ a. IsJudgedAnswer (length (slots_here (standing self.old.state.signals id))) known.now a) }
         ensures after { OnOk result (Becomes self.old self.new (with_look (with_progress self.old.state id (Some known.now)))) }
+        ensures seats { OnOk result (self.new.seats ≡ self.old.seats) }
     {
         let _count = self.nodes.len();
         self.looked = counted(self.looked);
@@ -57,6 +60,7 @@ impl Graph {
     pub fn stale(&mut self, id: NodeId) -> bool
         ensures stale { result ≡ is_stale self.old.state.memos id }
         ensures after { Becomes self.old self.new (with_look self.old.state) }
+        ensures seats { self.new.seats ≡ self.old.seats }
     {
         self.looked = counted(self.looked);
         is_stale_at(&self.nodes, self.generation, id)
@@ -67,6 +71,7 @@ impl Graph {
         requires { place < length (sources_of self.old.state.memos id) }
         ensures moved { result ≡ has_moved self.old.state (slice_get (sources_of self.old.state.memos id) place) }
         ensures after { Becomes self.old self.new (with_look self.old.state) }
+        ensures seats { self.new.seats ≡ self.old.seats }
     {
         self.looked = counted(self.looked);
         moved_at(&self.nodes, id, place)
@@ -83,7 +88,8 @@ impl Graph {
         requires computing { is_computing self.old.state id ≡ true }
         requires given { All (λ n. is_given self.old n ≡ true) reads.items }
         requires worn { CanWear self.old.state }
-        ensures { OnOk result (Becomes self.old self.new (with_kept_run self.old.state id outcome reads.items)) }
+        ensures after { OnOk result (Becomes self.old self.new (with_kept_run self.old.state id outcome reads.items)) }
+        ensures seats { OnOk result (self.new.seats ≡ self.old.seats) }
     {
         let _count = self.nodes.len();
         let numbers = numbers_now(self.alloc, &self.nodes, &reads)?;
@@ -93,11 +99,11 @@ impl Graph {
         Ok(())
     }
 
-    /// Ends an evaluation without a run, of a computed that doesn't have to run.
+    /// Ends an evaluation without a run.
     pub fn stop(&mut self, id: NodeId)
-        requires computing { is_computing self.old.state id ≡ true }
-        requires calm { must_run self.old.state.memos id [] ≡ false }
-        ensures { Becomes self.old self.new (with_progress self.old.state id None) }
+        requires { is_computing self.old.state id ≡ true }
+        ensures after { Becomes self.old self.new (with_progress self.old.state id None) }
+        ensures seats { self.new.seats ≡ self.old.seats }
     {
         let _count = self.nodes.len();
         end_at(&mut self.nodes, id);

@@ -94,7 +94,8 @@ impl Graph {
     /// refusal the graph is as before.
     pub fn add_cell(&mut self, value: Value, rule: Option<usize>) -> Result<NodeId, NodeFault>
         requires { CanWear self.old.state }
-        ensures after { IfOk result (λ id. Becomes self.old self.new (with_new_cell self.old.state (record { name = id; value = value; rule = rule }))) }
+        ensures after { IfOk result (λ id.
+            Becomes self.old self.new (with_new_cell self.old.state (record { name = id; value = value; rule = rule }))) }
         ensures gives { IfOk result (λ id. Gives self.old self.new id) }
         ensures limit { IsErrOf result fault.Limit ↔ (live_count self.old.state.signals ≡ MOST_NODES) }
         ensures fault { IsErrOf result fault.Gone → ⊥ }
@@ -108,7 +109,9 @@ impl Graph {
     pub fn add_computed(&mut self, recipe: Recipe, slots: Vec<NodeId>) -> Result<NodeId, NodeFault>
         requires given { All (λ n. is_given self.old n ≡ true) slots.items }
         requires worn { CanWear self.old.state }
-        ensures after { IfOk result (λ id. Becomes self.old self.new (with_new_computed self.old.state (record { name = id; recipe = recipe_made (expression_of recipe) slots.items }))) }
+        ensures after { IfOk result (λ id.
+            Becomes self.old self.new (with_new_computed self.old.state
+            (record { name = id; recipe = recipe_made (expression_of recipe) slots.items }))) }
         ensures gives { IfOk result (λ id. Gives self.old self.new id) }
         ensures limit { IsErrOf result fault.Limit ↔ (live_count self.old.state.signals ≡ MOST_NODES) }
         ensures fault { IsErrOf result fault.Gone → ⊥ }

@@ -1,5 +1,5 @@
 // What a graph answers without changing.
-ghost use Rattle.std.specs.Prelude.{◌≡◌, ◌<◌, true, false, Some, IfSome, slice_get};
+ghost use Rattle.std.specs.Prelude.{ℕ, ◌≡◌, ◌<◌, true, false, Some, IfSome, slice_get};
 ghost use Rattle.std.specs.Option.{option_copied};
 ghost use Rattle.signal_model.specs.Standing.{is_computed, is_there, standing};
 ghost use Rattle.signal_model.specs.Memos.{memo_of, source_names, sources_of};
@@ -28,6 +28,7 @@ impl Graph {
         requires { is_there (standing self.now.state.signals id) ≡ true }
         ensures below { result < MOST_NODES }
         ensures own { holder self.now.seats result ≡ Some id }
+        ensures only { (s : ℕ) → holder self.now.seats s ≡ Some id → s ≡ result }
     {
         let _count = self.nodes.len();
         seat_at(&self.nodes, id)

@@ -68,7 +68,8 @@ fn computed_seat(nodes: &[Node], id: NodeId) -> Option<usize>
 fn has_due_below(nodes: &[Node], generation: u128, id: NodeId, seen: &mut [bool]) -> bool
     requires { AreSeated nodes.now (length seen.old) }
     ensures found { result ≡ true → HasBelow (is_due_at nodes.now generation) (memos_of generation nodes.now) id }
-    ensures clear { result ≡ false → Explores nodes.now generation seen.old seen.new (source_names (sources_in (memo_body (body_at nodes.now id)))) }
+    ensures clear { result ≡ false →
+        Explores nodes.now generation seen.old seen.new (source_names (sources_in (memo_body (body_at nodes.now id)))) }
 {
     for source in sources_at(nodes, id) {
         if has_due_from(nodes, generation, *source, seen) {

@@ -52,7 +52,12 @@ impl Model for Memo {
 
     ghost Value = { Memo };
 
-    ghost view = { λ m. record { outcome = m.outcome; sources = paired m.sources.items m.numbers.items; generation = m.generation; rewired = m.rewired } };
+    ghost view = { λ m. record {
+      outcome = m.outcome;
+      sources = paired m.sources.items m.numbers.items;
+      generation = m.generation;
+      rewired = m.rewired;
+    } };
 
     ghost invariant = { λ m. length m.sources.items ≡ length m.numbers.items };
 }
@@ -152,7 +157,11 @@ impl Model for Computation {
     ghost use Rattle.sig_nodes.specs.States.{GoesOn};
     ghost use Rattle.sig_nodes.specs.Answers.{expression_of};
 
-    ghost view = { λ c. record { recipe = recipe_made (expression_of c.recipe) c.slots.items; memo = c.memo; known = (if c.computing then Some c.known.items else None) } };
+    ghost view = { λ c. record {
+      recipe = recipe_made (expression_of c.recipe) c.slots.items;
+      memo = c.memo;
+      known = (if c.computing then Some c.known.items else None);
+    } };
 }
 
 impl Computation {

@@ -31,8 +31,8 @@ invariant_of-self c =
     let h = run_holds (memo_made c.args.outcome (map (named_now (memos_of g xs)) c.args.reads.items) g) c.args.id xs c.self.inside.seats g c.self.inside.worn named c.self.invariant in
     subst (λ (ys : List Node). Holds ys c.self.inside.seats g (c.self.inside.worn + 1)) (sym (c.keep_memo_at.ensures ∙ ap (λ (m : Memo). changed_at (run_node m) c.args.id xs) memo)) h
 
-pub returns : goal.returns
-returns c =
+pub returns-clause-after : goal.returns-clause-after
+returns-clause-after c =
     let xs = c.self.inside.nodes.items in
     let ys = c.keep_memo_at.new.nodes.items in
     let g = c.self.inside.generation in
@@ -47,3 +47,6 @@ returns c =
     let len = ap length nodes ∙ changed_length (run_node made) c.args.id xs in
     became c.args.self.now (state_of xs g l w) (state_of ys g l (w + 1)) (with_kept_run c.args.self.now.state c.args.id c.args.outcome c.args.reads.items) c.self.inside.seats.holders c.self.inside.seats.holders (length xs) (length ys) c.self.view_is (omega (arith, len))
     (ap (λ zs. state_of zs g l (w + 1)) nodes ∙ run_state xs c.args.id c.args.outcome c.args.reads.items g l w live ∙ ap (λ (s : Seen). with_kept_run s.state c.args.id c.args.outcome c.args.reads.items) c.self.view_is)
+
+pub returns-clause-seats : goal.returns-clause-seats
+returns-clause-seats c = ap (λ (s : Seen). s.seats) c.self.view_is

@@ -68,3 +68,6 @@ returns-clause-after c =
     became c.args.self.now (state_of xs g l w) (state_of ys g n w) (with_look (with_progress c.args.self.now.state c.args.id known)) c.self.inside.seats.holders c.self.inside.seats.holders (length xs) (length ys) c.self.view_is (omega (arith, len))
     (ap (λ zs. state_of zs g n w) nodes ∙ known_state xs c.args.id known g n w ∙ ap (λ m. with_progress (state_of xs g m w) c.args.id known) c.counted-self-inside.ensures
     ∙ ap (λ (s : Seen). with_look (with_progress s.state c.args.id known)) c.self.view_is)
+
+pub returns-clause-seats : goal.returns-clause-seats
+returns-clause-seats c = ap (λ (s : Seen). s.seats) c.self.view_is

@@ -28,3 +28,8 @@ returns-clause-below c =
     let at = c.seat_at.ensures ∙ ap (λ (xs : List Node). seat_at xs c.args.id) c.deref.ensures.value in
     let size = c.self.invariant.size in
     omega (arith, inside, at, size)
+
+pub returns-clause-only : goal.returns-clause-only
+returns-clause-only c = λ s held.
+    let at = c.seat_at.ensures ∙ ap (λ (xs : List Node). seat_at xs c.args.id) c.deref.ensures.value in
+    sym ((c.self.invariant.living s c.args.id (ap (λ (g : Seen). holder g.seats s) c.self.view_is ∙ held)).1) ∙ sym at

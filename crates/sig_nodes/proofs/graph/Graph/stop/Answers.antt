@@ -9,18 +9,18 @@ use Rattle.sig_nodes.proofs.Holding.{became, computed_below, computing_here, kno
 use Rattle.sig_nodes.proofs.graph.Graph.stop.Goals as goal
 
 pub end_at-requires-clause-place : goal.end_at-requires-clause-place
-end_at-requires-clause-place c = let live = computing_here (body_at c.self.inside.nodes.items c.args.id) (sym (ap is_some (progress_found c.self.inside.nodes.items c.args.id)) ∙ ap (λ (s : Seen). is_computing s.state c.args.id) c.self.view_is ∙ c.requires.computing) in computed_below c.self.inside.nodes.items c.args.id live
+end_at-requires-clause-place c = let live = computing_here (body_at c.self.inside.nodes.items c.args.id) (sym (ap is_some (progress_found c.self.inside.nodes.items c.args.id)) ∙ ap (λ (s : Seen). is_computing s.state c.args.id) c.self.view_is ∙ c.requires) in computed_below c.self.inside.nodes.items c.args.id live
 
 pub end_at-requires-clause-live : goal.end_at-requires-clause-live
-end_at-requires-clause-live c = computing_here (body_at c.self.inside.nodes.items c.args.id) (sym (ap is_some (progress_found c.self.inside.nodes.items c.args.id)) ∙ ap (λ (s : Seen). is_computing s.state c.args.id) c.self.view_is ∙ c.requires.computing)
+end_at-requires-clause-live c = computing_here (body_at c.self.inside.nodes.items c.args.id) (sym (ap is_some (progress_found c.self.inside.nodes.items c.args.id)) ∙ ap (λ (s : Seen). is_computing s.state c.args.id) c.self.view_is ∙ c.requires)
 
 pub invariant_of-self : goal.invariant_of-self
 invariant_of-self c =
     subst (λ (xs : List Node). Holds xs c.self.inside.seats c.self.inside.generation c.self.inside.worn) (sym c.end_at.ensures)
     (known_holds None c.args.id c.self.inside.nodes.items c.self.inside.seats c.self.inside.generation c.self.inside.worn c.self.invariant)
 
-pub returns : goal.returns
-returns c =
+pub returns-clause-after : goal.returns-clause-after
+returns-clause-after c =
     let xs = c.self.inside.nodes.items in
     let ys = c.end_at.new.nodes.items in
     let g = c.self.inside.generation in
@@ -29,3 +29,6 @@ returns c =
     let len = ap length c.end_at.ensures ∙ changed_length (known_node None) c.args.id xs in
     became c.args.self.now (state_of xs g l w) (state_of ys g l w) (with_progress c.args.self.now.state c.args.id None) c.self.inside.seats.holders c.self.inside.seats.holders (length xs) (length ys) c.self.view_is (omega (arith, len))
     (ap (λ zs. state_of zs g l w) c.end_at.ensures ∙ known_state xs c.args.id None g l w ∙ ap (λ (s : Seen). with_progress s.state c.args.id None) c.self.view_is)
+
+pub returns-clause-seats : goal.returns-clause-seats
+returns-clause-seats c = ap (λ (s : Seen). s.seats) c.self.view_is

@@ -1,0 +1,45 @@
+-- What crates above may cite of these proofs: how the progress of evaluations changes.
+use Rattle.std.proofs.Common.{◌≡◌, ℕ, ◌==◌, Bool, true, false, cond, List, [], ◌∷◌, Option, Some, None, refl, sym, ap, ◌∙◌}
+use Rattle.std.proofs.lemmas.Bool.{eqb-true}
+use Rattle.sig_base.specs.declared.value.Known.{Known}
+use Rattle.signal_model.specs.Standing.{changed}
+use Rattle.sig_nodes.specs.States.{Progress, State, progress_at, with_progress}
+
+-- a step of another evaluation
+pub progress_other : (s : State) (n m : ℕ) (k : Option (List Known)) → (m == n) ≡ false → progress_at m (with_progress s n k).progress ≡ progress_at m s.progress
+progress_other s n m k off = go s.progress
+  where
+    go : (ps : List Progress) → progress_at m (changed (λ (p : Progress). p.name) n (λ p. record p { known = k }) ps) ≡ progress_at m ps
+    go [] = refl
+    go (p ∷ ps) = by (n == p.name) refl (go ps)
+      where
+        by : (b : Bool) → (n == p.name) ≡ b → progress_at m (changed (λ (q : Progress). q.name) n (λ q. record q { known = k }) ps) ≡ progress_at m ps →
+            progress_at m (cond b (record p { known = k }) p ∷ changed (λ (q : Progress). q.name) n (λ q. record q { known = k }) ps) ≡ progress_at m (p ∷ ps)
+        by false e ih = ap (λ o. cond (m == p.name) p.known o) ih
+        by true e ih = let a : (m == p.name) ≡ false = ap (λ z. m == z) (sym (eqb-true n p.name e)) ∙ off in rw a ih
+
+-- an evaluation that is under way goes on
+pub progress_on : (s : State) (n : ℕ) (earlier : List Known) (k : Option (List Known)) → progress_at n s.progress ≡ Some earlier → progress_at n (with_progress s n k).progress ≡ k
+progress_on s n earlier k h = go s.progress h
+  where
+    go : (ps : List Progress) → progress_at n ps ≡ Some earlier → progress_at n (changed (λ (p : Progress). p.name) n (λ p. record p { known = k }) ps) ≡ k
+    go [] q = cc
+    go (p ∷ ps) q = by (n == p.name) refl q (go ps)
+      where
+        by : (b : Bool) → (n == p.name) ≡ b → cond b p.known (progress_at n ps) ≡ Some earlier → (progress_at n ps ≡ Some earlier → progress_at n (changed (λ (z : Progress). z.name) n (λ z. record z { known = k }) ps) ≡ k) →
+            progress_at n (cond b (record p { known = k }) p ∷ changed (λ (z : Progress). z.name) n (λ z. record z { known = k }) ps) ≡ k
+        by true e r ih = rw e refl
+        by false e r ih = rw e (ih r)
+
+-- an evaluation that ends isn't under way
+pub progress_ended : (s : State) (n : ℕ) → progress_at n (with_progress s n None).progress ≡ None
+progress_ended s n = go s.progress
+  where
+    go : (ps : List Progress) → progress_at n (changed (λ (p : Progress). p.name) n (λ p. record p { known = None }) ps) ≡ None
+    go [] = refl
+    go (p ∷ ps) = by (n == p.name) refl (go ps)
+      where
+        by : (b : Bool) → (n == p.name) ≡ b → progress_at n (changed (λ (z : Progress). z.name) n (λ z. record z { known = None }) ps) ≡ None →
+            progress_at n (cond b (record p { known = None }) p ∷ changed (λ (z : Progress). z.name) n (λ z. record z { known = None }) ps) ≡ None
+        by true e ih = rw e refl
+        by false e ih = rw e ih

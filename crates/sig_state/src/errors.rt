@@ -1,0 +1,8 @@
+// Why a set is refused.
+
+use thiserror::Error;
+
+/// The cell is gone.
+#[derive(Clone, Copy, Debug, PartialEq, Eq, Error)]
+#[error("the cell is gone")]
+pub struct Gone;

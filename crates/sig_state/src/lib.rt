@@ -1,0 +1,8 @@
+//! Sets of cells.
+#![tactic(auto)]
+
+mod errors;
+mod sets;
+
+pub use errors::Gone;
+pub use sets::{SetDone, set};
