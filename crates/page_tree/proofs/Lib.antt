@@ -6,3 +6,4 @@ mod Bringing
 mod Doing
 mod Queries
 mod Upward
+pub mod Shared

@@ -79,7 +79,7 @@ move_room n i rows t e k d r s h g =
       (let l = ap (length) at_p in let m = count_siblings (kids (parent n t) t) in let f = ltb-true i (count (kids (parent n t) t)) d2.0 in omega (arith, l, m, f)),
     )
 
-attr_fits : (n i : ℕ) (name value : List ℕ) (x : Kind) (now : Forest Kind) → IsDone (do_attr n i name value x now) → i ≤ length (others name (attributes_of x))
+pub attr_fits : (n i : ℕ) (name value : List ℕ) (x : Kind) (now : Forest Kind) → IsDone (do_attr n i name value x now) → i ≤ length (others name (attributes_of x))
 attr_fits n i name value Root now d = absurd d
 attr_fits n i name value (Text t) now d = absurd d
 attr_fits n i name value (Element e xs) now d = elim (cases_Bool (leb i (length (others name xs)))) [
@@ -99,7 +99,7 @@ one_node n none e = absurd (cc)
 one_node n (node m x k none) e = (x, k, (let q : m ≡ n = cc in ap (λ j. node j x k none) q))
 one_node n (node m x k (node j y l r)) e = absurd (cc)
 
-insert_fits : (p i n : ℕ) (x : Kind) (k t : Forest Kind) → IsDone (do_op (OpInsert p i n x k) t) → i ≤ count (kids p t)
+pub insert_fits : (p i n : ℕ) (x : Kind) (k t : Forest Kind) → IsDone (do_op (OpInsert p i n x k) t) → i ≤ count (kids p t)
 insert_fits p i n x k t d =
     let u = is_done (do_op (OpInsert p i n x k) t) d in
     let d1 = if_done (on p t && holds (label_in Root p t)) _ u.0 (NoSuchNode p) u.1 in

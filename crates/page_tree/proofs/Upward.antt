@@ -49,3 +49,12 @@ depth_is n rows t r d e k h c =
     let b = w.low in
     let i = climbed_is 33 n rows t e k there (omega (arith, low, b)) in
     rw there (ap Some (c ∙ i))
+
+pub depth_low_at : (n : ℕ) (rows : ℕ → Option Row) (t : Forest Kind) (r : Row) (d : ℕ) → tree_in rows ≡ t → IsKept rows → rows n ≡ Some r → d ≡ climbed 33 rows n → d ≤ 32
+depth_low_at n rows t r d e k h c =
+    let there = (kept_some rows t n r e k h).0 in
+    let w = tree_seen rows t e k in
+    let low = depth_low n t there in
+    let b = w.low in
+    let i = climbed_is 33 n rows t e k there (omega (arith, low, b)) in
+    omega (arith, low, b, i, c)

@@ -1,5 +1,5 @@
 // A numbered tree, and what stands in it.
-ghost use Rattle.std.specs.Prelude.{◌≡◌, ◌++◌, [], ℕ, IfOk, MatchResult, OnOk, None, true};
+ghost use Rattle.std.specs.Prelude.{◌≡◌, ◌++◌, [], ℕ, IfOk, MatchResult, OnOk, None, true, ◌≤◌, IfSome};
 ghost use Rattle.std.specs.List.{slice_get};
 ghost use Rattle.page_model.specs.Edits.{siblings};
 ghost use Rattle.page_model.specs.Forest.{kids, label_in, node, none};
@@ -166,7 +166,8 @@ impl Tree {
 
     /// How many steps a node stands below the root; None exactly where there is no such node.
     pub fn depth(&self, id: u64) -> Option<u64>
-        ensures { result ≡ reading.depth_at id self.now }
+        ensures steps { result ≡ reading.depth_at id self.now }
+        ensures low { IfSome result (λ steps. steps ≤ 32) }
     {
         let Some(_) = self.nodes.get(&id) else {
             return None;
