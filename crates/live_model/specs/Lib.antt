@@ -1,5 +1,5 @@
 pub mod Jobs
 pub mod Machine
+pub mod Names
 pub mod Output
 pub mod Pages
-pub mod Uses

@@ -5,7 +5,7 @@ use Rattle.live_cmd.specs.declared.entry.Entry.{Entry}
 use Rattle.live_cmd.specs.Printed.{printed}
 use Rattle.live_model.specs.declared.jobs.Job.{Job}
 use Rattle.live_model.specs.declared.jobs.Job.TheVariants as job
-use Rattle.live_model.specs.Machine.{Machine, Told, empty, step}
+use Rattle.live_model.specs.Machine.{Machine, empty, step}
 
 -- what the items tell, one after the other
 abbrev pub entries_from : Machine → List Item → List Entry

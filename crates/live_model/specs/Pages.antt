@@ -1,10 +1,10 @@
 -- The HTML of pages, from scratch on the signals.
-use Rattle.std.specs.Prelude.{ℕ, List, [], ◌++◌, codes, unwrap_or}
+use Rattle.std.specs.Prelude.{ℕ, List, ◌++◌, codes, unwrap_or}
 use Rattle.std.specs.List.{flat_map}
 use Rattle.sig_base.specs.declared.value.Outcome.{Outcome}
 use Rattle.sig_base.specs.declared.value.Outcome.TheVariants.{Good, Bad}
 use Rattle.sig_base.specs.Printing.{fault_name}
-use Rattle.sig_formula.specs.Answering.{shown}
+use Rattle.sig_base.specs.Values.{shown}
 use Rattle.html_out.specs.Html.{escaped}
 use Rattle.signal_model.specs.Recipes.{Recipe, no_hosts}
 use Rattle.signal_model.specs.Standing.{Signals}

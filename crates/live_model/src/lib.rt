@@ -2,10 +2,12 @@
 #![tactic(auto)]
 
 mod jobs;
-mod things;
+mod names;
+mod parts;
 
 pub use jobs::Job;
-pub use things::{Need, Page, Texts, Thing};
+pub use names::{Kind, Meaning, Need};
+pub use parts::{Page, Texts};
 
 #[cfg(test)]
 mod tests {

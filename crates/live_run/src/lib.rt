@@ -3,13 +3,11 @@
 
 mod jobs;
 mod machine;
-mod pages;
 mod reading;
 mod running;
 #[cfg(test)]
 mod tests;
 
 pub use jobs::read_job;
-pub use machine::Machine;
-pub use reading::{MOST_READ, ReadEnd, read_all};
+pub use reading::{ReadEnd, read_all};
 pub use running::{Status, run_live};

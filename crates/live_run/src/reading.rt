@@ -2,16 +2,13 @@
 ghost use Rattle.std.specs.Prelude.{◌≡◌, ◌≤◌, ◌<◌, length, IfOk, OnErr, OnOk, IsErrOf, IfSome};
 ghost use Rattle.std.specs.Io.KnownBytes.{Consumes, IsAtEnd};
 ghost use Rattle.sig_io.specs.Counts.{Rose};
-ghost use Rattle.live_run.specs.Running.{ConsumesFront, GaveTooMuch, most_read};
+ghost use Rattle.live_run.specs.Running.{ConsumesFront, GaveTooMuch};
 ghost use Rattle.live_run.specs.declared.reading.ReadEnd.TheVariants.{Memory};
 
-use sig_base::Failed;
+use sig_base::{Failed, MOST_SCRIPT};
 use sig_io::Source;
 use std::alloc::{AllocError, Global};
 use thiserror::Error;
-
-/// The most bytes that a script has.
-pub const MOST_READ: usize = 4_194_304;
 
 /// Why reading stopped before the end.
 #[derive(Clone, Copy, Debug, PartialEq, Eq, Error)]
@@ -38,10 +35,10 @@ impl From<AllocError> for ReadEnd {
 pub fn read_all<S: Source>(alloc: Global, source: &mut S) -> Result<Vec<u8>, ReadEnd>
     ensures bytes { IfOk result (λ bytes. Consumes (S.left source.old) (S.left source.new) bytes.items) }
     ensures end { OnOk result (IsAtEnd (S.left source.new)) }
-    ensures short { IfOk result (λ bytes. length bytes.items ≤ most_read) }
+    ensures short { IfOk result (λ bytes. length bytes.items ≤ MOST_SCRIPT) }
     ensures fault { IsErrOf result ReadEnd.Fault → Rose (S.faults source.old) (S.faults source.new) }
     ensures long { IsErrOf result ReadEnd.TooLong → GaveTooMuch (S.given source.old) (S.given source.new) }
-    ensures told { IsErrOf result ReadEnd.TooLong → IfSome (S.left source.old) (λ bytes. most_read < length bytes) }
+    ensures told { IsErrOf result ReadEnd.TooLong → IfSome (S.left source.old) (λ bytes. MOST_SCRIPT < length bytes) }
     ensures front { OnErr result (ConsumesFront (S.left source.old) (S.left source.new)) }
     ensures later { S.faults source.old ≤ S.faults source.new }
 {
@@ -55,7 +52,7 @@ pub fn read_all<S: Source>(alloc: Global, source: &mut S) -> Result<Vec<u8>, Rea
         if count == 0 {
             return Ok(bytes);
         }
-        if count > MOST_READ - bytes.len() {
+        if count > MOST_SCRIPT - bytes.len() {
             return Err(ReadEnd::TooLong);
         }
         bytes.extend_from_slice(&buf[..count])?;

@@ -1,20 +1,22 @@
 // The top call: a script from a source, done command by command, its output to a sink.
-ghost use Rattle.std.specs.Prelude.{◌≡◌, ◌≤◌, ◌<◌, ◌++◌, ◌⊎◌, ◌↔◌, ◌+◌, ◌-◌, ◌^◌, [], None, Some, List, ℕ, map, length, drop, flat_map, string_bytes, IfOk, OnOk, IfSome, IsErrOf, OnErr};
-ghost use Rattle.std.specs.Io.KnownBytes.{Appends, IsAtEnd, Keeps};
+ghost use Rattle.std.specs.Prelude.{◌≡◌, ◌≤◌, ◌<◌, ◌++◌, ◌⊎◌, ◌↔◌, None, List, ℕ, map, length, flat_map, string_bytes};
+ghost use Rattle.std.specs.Prelude.{OnOk, IfSome, IsErrOf, OnErr};
+ghost use Rattle.std.specs.Io.KnownBytes.{Appends, IsAtEnd};
 ghost use Rattle.sig_io.specs.Counts.{AppendsFront, HasCause, Rose};
-ghost use Rattle.live_cmd.specs.declared.command.Item.{Item as AnItem};
+ghost use Rattle.live_cmd.specs.declared.command.Item as item;
 ghost use Rattle.live_cmd.specs.Items.{ItemsFrom};
 ghost use Rattle.live_cmd.specs.Printed.{printed};
 ghost use Rattle.live_model.specs.Jobs.{job_of};
 ghost use Rattle.live_model.specs.Machine.{empty};
 ghost use Rattle.live_model.specs.Output.{is_traced_job, output_from, output_of};
-ghost use Rattle.live_run.specs.Running.{GaveTooMuch, most_read};
+ghost use Rattle.live_run.specs.Running.{GaveTooMuch};
 ghost use Rattle.live_run.specs.declared.running.RunEnd.TheVariants as run_end;
 
-use crate::{Machine, ReadEnd, read_all, read_job};
+use crate::machine::Machine;
+use crate::{ReadEnd, read_all, read_job};
 use live_cmd::{Entry, entry_line, next_item};
 use live_model::Job;
-use sig_base::{Failed, NoMemory};
+use sig_base::{Failed, MOST_SCRIPT, NoMemory};
 use sig_io::{Sink, Source, put_all};
 use std::alloc::Global;
 
@@ -86,9 +88,11 @@ fn hand_on<K: Sink>(sink: &mut K, out: &mut Vec<u8>) -> Result<(), Failed>
 
 // Runs a script: reads its items one by one, does them, and prints what they tell.
 fn run_script<K: Sink>(alloc: Global, job: Job, script: &[u8], sink: &mut K) -> Result<(), RunEnd>
-    requires { length script.now ≤ most_read }
-    ensures done { OnOk result ((items : List AnItem) × ItemsFrom 1 script.now items × Appends (K.held sink.old) (K.held sink.new) (output_of job items)) }
-    ensures front { OnErr result ((items : List AnItem) × ItemsFrom 1 script.now items × AppendsFront (K.held sink.old) (K.held sink.new) (output_of job items)) }
+    requires { length script.now ≤ MOST_SCRIPT }
+    ensures done { OnOk result ((items : List item.Item) × ItemsFrom 1 script.now items
+        × Appends (K.held sink.old) (K.held sink.new) (output_of job items)) }
+    ensures front { OnErr result ((items : List item.Item) × ItemsFrom 1 script.now items
+        × AppendsFront (K.held sink.old) (K.held sink.new) (output_of job items)) }
     ensures write { IsErrOf result RunEnd.Write → Rose (K.faults sink.old) (K.faults sink.new) }
     ensures later { K.faults sink.old ≤ K.faults sink.new }
 {
@@ -120,10 +124,11 @@ fn is_traced(job: Job) -> bool
 /// Runs the script of the source, where the words ask for it, and writes its output to the sink. `words[0]` is the
 /// program's name.
 ///
-/// `Usage` comes exactly where the words ask for nothing; then the source and the sink are as before. `ReadFault` and
-/// `WriteFault` come only where the source or the sink failed in this call, and `TooLong` only once more than 4,194,304
-/// bytes came; a source that has more of them and doesn't fail ends it with `TooLong`, unless memory runs out first. Nothing is written with `Usage`, `ReadFault` and `TooLong`, and a front of the output with `WriteFault`
-/// and `NoMemory`.
+/// `Usage` comes exactly where the words ask for nothing; then the source is as before. `ReadFault` and `WriteFault` come only
+/// where the source or the sink failed in this call (or its count of failures stands at its last value), and `TooLong` only once
+/// more than 4,194,304 bytes came (or their count stands at its last value); a source that tells its bytes, has more of them and
+/// doesn't fail ends it with `TooLong`, unless memory runs out first. With `Usage`, `ReadFault` and `TooLong` the sink is as before,
+/// and with `WriteFault` and `NoMemory` a front of the output was written, where the source tells its bytes.
 pub fn run_live<S: Source, K: Sink>(
     alloc: Global,
     words: &[String],
@@ -132,20 +137,20 @@ pub fn run_live<S: Source, K: Sink>(
 ) -> Status
     // What is printed is the output of the plain machine over the script's items.
     ensures output { result ≡ Status.Done → IfSome (job_of (map string_bytes words.now)) (λ job. IfSome (S.left source.old) (λ script.
-        (items : List AnItem) × ItemsFrom 1 script items × Appends (K.held sink.old) (K.held sink.new) (output_of job items))) }
+        (items : List item.Item) × ItemsFrom 1 script items × Appends (K.held sink.old) (K.held sink.new) (output_of job items))) }
     ensures read { result ≡ Status.Done → IsAtEnd (S.left source.new) }
-    ensures fits { result ≡ Status.Done → IfSome (S.left source.old) (λ script. length script ≤ most_read) }
+    ensures fits { result ≡ Status.Done → IfSome (S.left source.old) (λ script. length script ≤ MOST_SCRIPT) }
     ensures usage { (result ≡ Status.Usage) ↔ (job_of (map string_bytes words.now) ≡ None) }
-    ensures untouched { result ≡ Status.Usage → Keeps (S.left source.old) (S.left source.new)
-        × (S.given source.new ≡ S.given source.old) × (S.faults source.new ≡ S.faults source.old) }
+    ensures untouched { result ≡ Status.Usage → source.new ≡ source.old }
     ensures read_fault { result ≡ Status.ReadFault → Rose (S.faults source.old) (S.faults source.new) }
     ensures write_fault { result ≡ Status.WriteFault → Rose (K.faults sink.old) (K.faults sink.new) }
     ensures too_long { result ≡ Status.TooLong → GaveTooMuch (S.given source.old) (S.given source.new) }
-    ensures too_long_told { result ≡ Status.TooLong → IfSome (S.left source.old) (λ script. most_read < length script) }
-    ensures nothing { (result ≡ Status.Usage) ⊎ ((result ≡ Status.ReadFault) ⊎ (result ≡ Status.TooLong)) → Keeps (K.held sink.old) (K.held sink.new) }
+    ensures too_long_told { result ≡ Status.TooLong → IfSome (S.left source.old) (λ script. MOST_SCRIPT < length script) }
+    ensures nothing { (result ≡ Status.Usage) ⊎ ((result ≡ Status.ReadFault) ⊎ (result ≡ Status.TooLong)) → sink.new ≡ sink.old }
     // A front of the output was written where it ends early.
-    ensures front { (result ≡ Status.WriteFault) ⊎ (result ≡ Status.NoMemory) → IfSome (job_of (map string_bytes words.now)) (λ job. IfSome (S.left source.old) (λ script.
-        (items : List AnItem) × ItemsFrom 1 script items × AppendsFront (K.held sink.old) (K.held sink.new) (output_of job items))) }
+    ensures front { (result ≡ Status.WriteFault) ⊎ (result ≡ Status.NoMemory)
+        → IfSome (job_of (map string_bytes words.now)) (λ job. IfSome (S.left source.old) (λ script.
+        (items : List item.Item) × ItemsFrom 1 script items × AppendsFront (K.held sink.old) (K.held sink.new) (output_of job items))) }
     // It gives up only for memory, where neither failed and not too much came.
     ensures complete { (job_of (map string_bytes words.now) ≡ None → ⊥)
         → (Rose (S.faults source.old) (S.faults source.new) → ⊥) → (Rose (K.faults sink.old) (K.faults sink.new) → ⊥)
@@ -153,10 +158,10 @@ pub fn run_live<S: Source, K: Sink>(
     // The same of a source that tells its bytes, by these alone.
     ensures complete_told { (job_of (map string_bytes words.now) ≡ None → ⊥)
         → (Rose (S.faults source.old) (S.faults source.new) → ⊥) → (Rose (K.faults sink.old) (K.faults sink.new) → ⊥)
-        → IfSome (S.left source.old) (λ script. length script ≤ most_read → (result ≡ Status.Done) ⊎ (result ≡ Status.NoMemory)) }
+        → IfSome (S.left source.old) (λ script. length script ≤ MOST_SCRIPT → (result ≡ Status.Done) ⊎ (result ≡ Status.NoMemory)) }
     ensures too_long_exact { (job_of (map string_bytes words.now) ≡ None → ⊥)
         → (Rose (S.faults source.old) (S.faults source.new) → ⊥)
-        → IfSome (S.left source.old) (λ script. most_read < length script → (result ≡ Status.TooLong) ⊎ (result ≡ Status.NoMemory)) }
+        → IfSome (S.left source.old) (λ script. MOST_SCRIPT < length script → (result ≡ Status.TooLong) ⊎ (result ≡ Status.NoMemory)) }
 {
     let Some(job) = read_job(words) else {
         return Status::Usage;

@@ -1,7 +1,8 @@
-use crate::*;
+use crate::machine::Machine;
+use crate::{ReadEnd, read_all};
 use formula_text::Wired;
-use live_cmd::{Command, Formulas, Item, SourceText, entry_line};
-use sig_base::{Name, Scalar};
+use live_cmd::{Command, Formulas, Item, SourceText, Verb, entry_line};
+use sig_base::{MOST_SCRIPT, Name, Scalar};
 use sig_formula::{BinOp, Formula};
 use sig_io::MemSource;
 use std::alloc::Global;
@@ -21,7 +22,7 @@ fn reads_to_the_end(rt: HostRuntime) -> Result<(), Fail> {
 #[test]
 fn reads_no_more_than_allowed(rt: HostRuntime) -> Result<(), Fail> {
     let alloc = rt.alloc();
-    for (len, allowed) in [(MOST_READ, true), (MOST_READ + 1, false)] {
+    for (len, allowed) in [(MOST_SCRIPT, true), (MOST_SCRIPT + 1, false)] {
         let script = vec![in alloc; b'#'; len]?;
         let mut source = MemSource::new(script, usize::MAX, Vec::new(alloc));
         match read_all(alloc, &mut source) {
@@ -91,12 +92,18 @@ impl Session {
 
     fn get(&mut self, name: &str) -> Result<(), Fail> {
         let name = Name::new(self.alloc, name)?;
-        self.act(Command::Get(name))
+        self.act(Command::Named {
+            verb: Verb::Get,
+            name,
+        })
     }
 
     fn show(&mut self, name: &str) -> Result<(), Fail> {
         let name = Name::new(self.alloc, name)?;
-        self.act(Command::Show(name))
+        self.act(Command::Named {
+            verb: Verb::Show,
+            name,
+        })
     }
 }
 

@@ -1,16 +1,16 @@
 use Rattle.std.proofs.Common.{◌≤◌, ◌-◌, length}
 use Rattle.std.specs.Io.KnownBytes.{Consumes}
 use Rattle.sig_io.specs.Counts.{raised}
-use Rattle.live_run.specs.Running.{most_read}
+use Rattle.sig_base.specs.declared.limits.TheConstants.{MOST_SCRIPT}
 use Rattle.live_run.proofs.reading.read_all.Given as goal
 
 abbrev pub invariant-loop-count : goal.invariant-loop-count
 invariant-loop-count g l = record {
   bytes : Consumes (g.S.Source.left l.fn.source) (g.S.Source.left l.source) l.bytes.items;
-  short : length l.bytes.items ≤ most_read;
+  short : length l.bytes.items ≤ MOST_SCRIPT;
   given : raised (g.S.Source.given l.fn.source) (length l.bytes.items) ≤ g.S.Source.given l.source;
   later : g.S.Source.faults l.fn.source ≤ g.S.Source.faults l.source;
 }
 
 abbrev pub decreases-loop-count : goal.decreases-loop-count
-decreases-loop-count g l = most_read - length l.bytes.items
+decreases-loop-count g l = MOST_SCRIPT - length l.bytes.items

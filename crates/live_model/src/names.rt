@@ -1,0 +1,28 @@
+// What the names of a script stand for.
+
+/// The kinds of what a name stands for.
+#[derive(Clone, Copy, Debug, PartialEq, Eq)]
+pub enum Kind {
+    Cell,
+    Computed,
+    Template,
+    Page,
+}
+
+/// What a name stands for: that of this number among those of its kind. Cells and computeds are numbered together.
+#[derive(Clone, Copy, Debug, PartialEq, Eq)]
+pub struct Meaning {
+    pub kind: Kind,
+    pub number: u128,
+}
+
+/// What a name has to be where it is used.
+#[derive(Clone, Copy, Debug)]
+pub enum Need {
+    /// Not made yet.
+    New,
+    /// Of this kind.
+    Of(Kind),
+    /// A cell or a computed.
+    Signal,
+}
