@@ -1,8 +1,7 @@
 // Reads and writes that fail, each call in turn.
 
-use crate::run::{FIRST_OUTPUT, FIRST_PAGE, Run, run_over, run_whole};
-use live_run::{MOST_READ, Status};
-use sig_io::{MemSink, MemSource};
+use crate::run::{FIRST_OUTPUT, FIRST_PAGE, Run, run_over};
+use live_run::Status;
 use std::alloc::Global;
 use std::test::Fail;
 
@@ -46,20 +45,5 @@ fn tells_each_failed_write(rt: HostRuntime) -> Result<(), Fail> {
     let run = first_page(rt.alloc(), &[], &[writes + 1])?;
     assert_eq!(rt; run.status, Status::Done);
     assert_eq!(rt; run.held.as_slice(), FIRST_OUTPUT.as_bytes());
-    Ok(())
-}
-
-#[test]
-fn refuses_a_script_that_is_too_long(rt: HostRuntime) -> Result<(), Fail> {
-    let alloc = rt.alloc();
-    let words = crate::run::words_of(alloc, "live run")?;
-    let script = vec![in alloc; b'x'; MOST_READ + 1]?;
-    let mut source = MemSource::new(script, usize::MAX, Vec::new(alloc));
-    let mut sink = MemSink::new(alloc, 100, 100, Vec::new(alloc))?;
-    let status = live_run::run_live(alloc, &words, &mut source, &mut sink);
-    assert_eq!(rt; status, Status::TooLong);
-    assert!(rt; sink.held().is_empty());
-    let run = run_whole(alloc, "live run", "x")?;
-    assert_eq!(rt; run.held.as_slice(), b"error 1 1\n".as_slice());
     Ok(())
 }

@@ -2,7 +2,8 @@
 
 use crate::rows::assert_prints;
 use crate::run::{run_over, run_whole};
-use live_run::{MOST_READ, Status};
+use live_run::Status;
+use sig_base::MOST_SCRIPT;
 use std::alloc::{AllocError, Global};
 use std::test::Fail;
 
@@ -37,18 +38,27 @@ fn bounds_a_line(rt: HostRuntime) -> Result<(), Fail> {
     let alloc = rt.alloc();
     let longest = flush_of(alloc, 4096)?;
     let longer = flush_of(alloc, 4097)?;
-    let comment = repeated(alloc, "#", 5000)?;
+    let comment = repeated(alloc, "-", 4095)?;
+    let name = repeated(alloc, "a", 4093)?;
+    let number = repeated(alloc, "1", 4092)?;
     for (script, output) in [
-        (format!(in alloc; "{longest}")?, ""),
+        (longest, ""),
         (format!(in alloc; "{longer}")?, "error 5 line\n"),
+        (format!(in alloc; "get {name}\n")?, "error 5 line\n"),
         // a block with such a line, also one without its end
         (
             format!(in alloc; "template t\ntext\n{longer}end\nget t")?,
             "error 5 line\nerror 2 t\n",
         ),
         (format!(in alloc; "template t\n{longer}")?, "error 5 line\n"),
+        // before a line of the block that says nothing
+        (
+            format!(in alloc; "template t\ntext {number}\nfoo\nend\n")?,
+            "error 5 line\n",
+        ),
         // a passed-over line has any length
-        (format!(in alloc; "{comment}\nget a")?, "error 2 a\n"),
+        (format!(in alloc; "#{comment}\n")?, ""),
+        (format!(in alloc; "#{comment}-\nget a")?, "error 2 a\n"),
     ] {
         assert_prints(&rt, alloc, script.as_str(), output)?;
     }
@@ -59,7 +69,17 @@ fn bounds_a_line(rt: HostRuntime) -> Result<(), Fail> {
 fn bounds_a_text(rt: HostRuntime) -> Result<(), Fail> {
     let alloc = rt.alloc();
     let longest = repeated(alloc, "\u{a0}", 512)?;
+    let letters = repeated(alloc, "z", 1024)?;
     for (script, output) in [
+        (
+            format!(in alloc; "cell c = \"{letters}\"\ncomputed x = c ++ \"y\"\nget x\n")?,
+            "x ! long\n",
+        ),
+        (
+            format!(in alloc; "cell c = \"{letters}z\"\n")?,
+            "error 5 text\n",
+        ),
+        // it is counted in bytes
         (
             format!(in alloc;
                 "cell c = \"{longest}\"\ncomputed x = c ++ \"\"\ncomputed y = c ++ \"y\"\ncomputed z = x == c\nget z\nget y"
@@ -110,11 +130,11 @@ fn bounds_a_formula(rt: HostRuntime) -> Result<(), Fail> {
             "error 5 sources\nerror 2 s\n",
         ),
         (
-            format!(in alloc; "computed x = {highest}true\nget x")?,
+            format!(in alloc; "computed x = {highest}true\nget x\n")?,
             "x = false\n",
         ),
         (
-            format!(in alloc; "computed x = {higher}true\nget x")?,
+            format!(in alloc; "computed x = {higher}true\nget x\n")?,
             "error 19 1\nerror 2 x\n",
         ),
     ] {
@@ -155,7 +175,7 @@ fn bounds_what_is_made(rt: HostRuntime) -> Result<(), Fail> {
     let alloc = rt.alloc();
     let cells = numbered(alloc, 511, "cell c", " = 1\n")?;
     let templates = numbered(alloc, 64, "template t", "\ntext 1\nend\n")?;
-    let pages = numbered(alloc, 8, "mount p", " t0\n")?;
+    let pages = numbered(alloc, 9, "mount p", " t\n")?;
     let mounted = numbered(alloc, 8, "page p", " 1\n1\n")?;
     for (script, output) in [
         (
@@ -175,10 +195,13 @@ fn bounds_what_is_made(rt: HostRuntime) -> Result<(), Fail> {
             )?,
         ),
         (
-            format!(in alloc;
-                "template t0\ntext 1\nend\n{pages}mount q t0\nmount p0 t0\nmount q t1\nshow q"
-            )?,
-            format!(in alloc; "{mounted}error 5 pages\nerror 3 p0\nerror 2 t1\nerror 2 q\n")?,
+            format!(in alloc; "cell a = 1\ntemplate t\ntext a\nend\n{pages}")?,
+            format!(in alloc; "{mounted}error 5 pages\n")?,
+        ),
+        // names come before limits
+        (
+            format!(in alloc; "template t\ntext 1\nend\n{pages}mount p0 t\nmount q p0\nshow q")?,
+            format!(in alloc; "{mounted}error 5 pages\nerror 3 p0\nerror 4 p0\nerror 2 q\n")?,
         ),
     ] {
         assert_prints(&rt, alloc, script.as_str(), output.as_str())?;
@@ -192,11 +215,11 @@ fn bounds_a_script(rt: HostRuntime) -> Result<(), Fail> {
     let dashes = repeated(alloc, "-", 1022)?;
     let line = format!(in alloc; "#{dashes}\n")?;
     let script = repeated(alloc, line.as_str(), 4096)?;
-    assert_eq!(rt; script.len(), MOST_READ);
+    assert_eq!(rt; script.len(), MOST_SCRIPT);
     let run = run_whole(alloc, "live run", script.as_str())?;
     assert_eq!(rt; run.status, Status::Done);
     assert!(rt; run.held.is_empty());
-    let longer = format!(in alloc; "{script}#")?;
+    let longer = format!(in alloc; "{script}\n")?;
     let run = run_whole(alloc, "live run", longer.as_str())?;
     assert_eq!(rt; run.status, Status::TooLong);
     assert!(rt; run.held.is_empty());

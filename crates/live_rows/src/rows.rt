@@ -113,7 +113,7 @@ fn prints_refusals(rt: HostRuntime) -> Result<(), Fail> {
         ),
         // the script's end inside a block
         ("cell a = 1\ntemplate t\ntext a\n", "error 1 2\n"),
-        ("template t\ntext 1", "error 1 1\n"),
+        ("template t\ntext 1\n", "error 1 1\n"),
         // an `untrack`, in a line that is whole otherwise; a faulty line of the block comes first
         (
             "computed b = untrack(a)\ncomputed b = untrack(a) )\ntemplate t\ntext untrack(a)\ntext\nend\ntemplate t\ntext a\ntext untrack(a)\nend",
@@ -153,7 +153,7 @@ fn tells_its_usage(rt: HostRuntime) -> Result<(), Fail> {
         "live bench 0",
         "live bench 01",
     ] {
-        let run = run_whole(rt.alloc(), line, FIRST_PAGE)?;
+        let run = run_whole(rt.alloc(), line, "")?;
         assert_eq!(rt; run.status, Status::Usage, "of {line}");
         assert!(rt; run.held.is_empty(), "of {line}");
     }

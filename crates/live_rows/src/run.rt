@@ -21,7 +21,7 @@ pub(crate) struct Run {
 }
 
 /// The words of a command line, which blanks separate.
-pub(crate) fn words_of(alloc: Global, line: &str) -> Result<Vec<String>, AllocError> {
+fn words_of(alloc: Global, line: &str) -> Result<Vec<String>, AllocError> {
     let mut words = Vec::new(alloc);
     for word in line.split(' ') {
         words.push(String::from_str(alloc, word)?)?;
