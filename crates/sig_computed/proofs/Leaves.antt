@@ -1,0 +1,57 @@
+-- What stands under a name, as a graph answers it and as steps ask it.
+use Rattle.std.proofs.Common.{◌≡◌, ℕ, ◌+◌, Bool, true, false, List, [], Option, Some, refl, sym, ap, ◌∙◌}
+use Rattle.sig_base.specs.declared.value.Outcome.{Outcome}
+use Rattle.sig_base.specs.declared.value.Outcome.TheVariants.{Bad}
+use Rattle.sig_base.specs.declared.value.Fault.TheVariants.{Cycle}
+use Rattle.signal_model.specs.Standing.{Stands, IsGone, IsCell, IsComputed}
+use Rattle.signal_model.specs.Memos.{Memo}
+use Rattle.signal_model.specs.Sound.{kept_outcome, outcome_here}
+use Rattle.sig_nodes.specs.declared.answers.Standing.TheVariants.{Computed, Computing}
+use Rattle.sig_nodes.specs.Answers.{kind_here}
+use Rattle.settle_model.specs.Stepping.{Running, Looking, GoesOn, is_ready, ready_outcome, decided}
+use Rattle.sig_computed.specs.Views.{or_cycle}
+
+-- a computed that isn't being evaluated is ready where it was visited
+pub ready_computed : (st : Stands) (b e v : Bool) → Computed ≡ kind_here st b → e ≡ b → v ≡ is_ready st e v
+ready_computed IsGone b e v k same = cc
+ready_computed (IsCell c) b e v k same = cc
+ready_computed (IsComputed c) true e v k same = cc
+ready_computed (IsComputed c) false true v k same = cc
+ready_computed (IsComputed c) false false v k same = refl
+
+-- whatever else is ready
+pub ready_other : (st : Stands) (b e v : Bool) → (kind_here st b ≡ Computed → ⊥) → e ≡ b → true ≡ is_ready st e v
+ready_other IsGone b e v k same = refl
+ready_other (IsCell c) b e v k same = refl
+ready_other (IsComputed c) false e v k same = absurd (k refl)
+ready_other (IsComputed c) true true v k same = refl
+ready_other (IsComputed c) true false v k same = cc
+
+-- a computed that is being evaluated is read as `cycle`
+pub outcome_computing : (st : Stands) (b e : Bool) (o : Option Outcome) → Computing ≡ kind_here st b → e ≡ b → Bad Cycle ≡ or_cycle (ready_outcome st e o)
+outcome_computing IsGone b e o k same = cc
+outcome_computing (IsCell c) b e o k same = cc
+outcome_computing (IsComputed c) false e o k same = cc
+outcome_computing (IsComputed c) true false o k same = cc
+outcome_computing (IsComputed c) true true o k same = refl
+
+-- any other computed is read as what it keeps
+pub outcome_computed : (st : Stands) (b e : Bool) (m : Option Memo) → Computed ≡ kind_here st b → e ≡ b →
+    kept_outcome m ≡ ready_outcome st e (outcome_here st m)
+outcome_computed IsGone b e m k same = cc
+outcome_computed (IsCell c) b e m k same = cc
+outcome_computed (IsComputed c) true e m k same = cc
+outcome_computed (IsComputed c) false true m k same = cc
+outcome_computed (IsComputed c) false false m k same = refl
+
+-- a source that has moved
+pub decided_moved : (cycle moved : Bool) (place : ℕ) → cycle ≡ false → moved ≡ true → GoesOn (Running [] []) ≡ decided cycle moved place
+decided_moved true moved place c m = cc
+decided_moved false false place c m = cc
+decided_moved false true place c m = refl
+
+-- one that hasn't
+pub decided_still : (cycle moved : Bool) (place : ℕ) → moved ≡ false → GoesOn (Looking (place + 1)) ≡ decided cycle moved place
+decided_still cycle true place m = cc
+decided_still true false place m = refl
+decided_still false false place m = refl

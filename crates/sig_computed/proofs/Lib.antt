@@ -1,0 +1,9 @@
+mod Bits
+mod Progresses
+mod Sources
+mod Leaves
+mod Wholes
+mod Measure
+mod Loops
+mod Runs
+mod Fitting

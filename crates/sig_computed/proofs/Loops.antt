@@ -1,0 +1,134 @@
+-- One turn of the loop.
+use Rattle.std.proofs.Common.{◌≡◌, ℕ, ◌+◌, ◌-◌, ◌<◌, true, Bool, List, [], ◌∷◌, ◌++◌, map, reverse, take, length, Some, Option, refl, sym, ap, ◌∙◌, subst, arith}
+use Rattle.std.proofs.lemmas.List.{reverse-append, length-append, length-map}
+use Rattle.signal_model.specs.Recipes.{Hosts}
+use Rattle.signal_model.specs.Standing.{Signals, is_in, standing}
+use Rattle.signal_model.specs.Memos.{Memos}
+use Rattle.sig_nodes.specs.States as states
+use Rattle.sig_nodes.specs.States.{is_computing, is_given}
+use Rattle.settle_model.specs.Stepping.{Move, GoesOn, Needs, Stops, Ends, Frame, frame_names}
+use Rattle.sig_computed.specs.declared.frames.Open.{Open}
+use Rattle.sig_computed.specs.declared.notes.RunNote.{RunNote}
+use Rattle.sig_computed.specs.Notes.{Note, note_of}
+use Rattle.sig_computed.specs.Views.{evaluating, frame_of, phase_of, tops, Stays}
+use Rattle.sig_computed.specs.Visited.{marked}
+use Rattle.sig_computed.specs.Turns.{memos_after, move_by, move_reads, notes_of, progress_by, runs_of, stack_after, visited_after, AreReadsGiven, IsMove, IsMoved}
+use Rattle.sig_computed.proofs.Fitting.{HasMove, HasStack, after_turn, after_move, frames_are}
+use Rattle.sig_computed.proofs.Measure.{work, turn_lowers}
+use Rattle.sig_computed.proofs.Wholes.{IsWhole, step_whole}
+
+-- the last frame of a list is the innermost
+tops_last : (fs rest : List Open) (f : Open) → fs ≡ rest ++ f ∷ [] → tops fs ≡ frame_of f ∷ tops rest
+tops_last fs rest f e = ap tops e ∙ ap (map frame_of) (reverse-append rest (f ∷ []))
+
+-- where nothing could be taken off, nothing is left
+pub none_left : (xs ys : List Open) (n : ℕ) → xs ≡ ys ++ [] → ys ≡ take (n - 1) xs → n ≡ 0 → xs ≡ []
+none_left xs ys n e r z = e ∙ ap (λ l. l ++ []) (r ∙ ap (λ i. take (i - 1) xs) z)
+
+-- The innermost frame f was taken off, and has come to a move: the graph g is h by then.
+pub record IsTurn (start g h : states.Seen) (stack rest : List Open) (f : Open) (bits bits' : List Bool) (mv : Move) : Type 0 where
+  pub popped : stack ≡ rest ++ f ∷ []
+  pub signals : g.state.signals ≡ start.state.signals
+  pub seats : g.seats ≡ start.seats
+  pub frames : HasStack g (tops stack)
+  pub same : bits' ≡ bits
+  pub some : IsMove g.state.signals g.state.memos (evaluating g.state) (marked g.seats bits') f.id (phase_of f.doing) mv
+  pub given : AreReadsGiven g (move_reads mv)
+  pub stays : Stays g h (progress_by f.id (phase_of f.doing) g.state.progress)
+
+-- The move is made: h is i.
+pub record IsMade (h i : states.Seen) (rest next : List Open) (f : Open) (bits bits' : List Bool) (mv : Move) : Type 0 where
+  pub stack : tops next ≡ stack_after h.state.memos f.id mv (tops rest)
+  pub visited : (m : ℕ) → is_in m (marked h.seats bits') ≡ is_in m (visited_after f.id mv (marked h.seats bits))
+  pub graph : IsMoved h i f.id mv
+
+module _ (start g h : states.Seen) (stack rest : List Open) (f : Open) (bits bits' : List Bool) (mv : Move) (t : IsTurn start g h stack rest f bits bits' mv) where
+  top : tops stack ≡ frame_of f ∷ tops rest
+  top = tops_last stack rest f t.popped
+
+  frames : HasStack g (frame_of f ∷ tops rest)
+  frames = subst (HasStack g) top t.frames
+
+  -- what the move needs
+  pub turn_move : HasMove h f.id (tops rest) mv
+  turn_move = after_turn g h (frame_of f) (tops rest) frames.fits frames.idle (marked g.seats bits') (phase_of f.doing) refl mv t.some t.given t.stays
+
+  -- who is being evaluated
+  who : (m : ℕ) → is_in m (evaluating g.state) ≡ is_in m (f.id ∷ frame_names (tops rest))
+  who = frames_are g (frame_of f ∷ tops rest) frames
+
+  module _ (i : states.Seen) (stack' : List Open) (bits'' : List Bool) (d : IsMade h i rest stack' f bits bits'' mv) where
+    -- the frames have what they need
+    pub turn_frames : HasStack i (tops stack')
+    turn_frames = subst (HasStack i) (sym d.stack) (after_move h i h.state.memos f.id (tops rest) mv turn_move d.graph)
+
+    -- the names that were visited
+    visits : (m : ℕ) → is_in m (marked start.seats bits'') ≡ is_in m (visited_after f.id mv (marked start.seats bits'))
+    visits m =
+        let e : h.seats ≡ start.seats = t.stays.seats ∙ t.seats in
+        ap (λ x. is_in m (marked x bits'')) (sym e) ∙ d.visited m
+        ∙ (λ j. is_in m (visited_after f.id mv (marked (e j) (sym t.same j))))
+
+    -- the same stack, by what was kept before
+    stack_is : tops stack' ≡ stack_after g.state.memos f.id mv (tops rest)
+    stack_is = d.stack ∙ ap (λ k. stack_after k f.id mv (tops rest)) t.stays.memos
+
+    memos_is : i.state.memos ≡ memos_after g.state.memos f.id mv
+    memos_is = d.graph.memos ∙ ap (λ k. memos_after k f.id mv) t.stays.memos
+
+    -- the move, over the signals at the start
+    move_is : IsMove start.state.signals g.state.memos (evaluating g.state) (marked start.seats bits') f.id (phase_of f.doing) mv
+    move_is = subst (λ x. IsMove start.state.signals g.state.memos (evaluating g.state) (marked x bits') f.id (phase_of f.doing) mv) t.seats
+        (subst (λ x. IsMove x g.state.memos (evaluating g.state) (marked g.seats bits') f.id (phase_of f.doing) mv) t.signals t.some)
+
+    -- less is left to do
+    pub turn_less : work start.state.signals i.state.memos (tops stack') (marked start.seats bits'')
+        < work start.state.signals g.state.memos (tops stack) (marked start.seats bits)
+    turn_less =
+        let stands = ap (λ w. standing w f.id) (sym t.signals) ∙ frames.fits.0.stands in
+        let low : work start.state.signals (memos_after g.state.memos f.id mv) (stack_after g.state.memos f.id mv (tops rest)) (marked start.seats bits'')
+        < work start.state.signals g.state.memos (frame_of f ∷ tops rest) (marked start.seats bits') =
+        turn_lowers start.state.signals g.state.memos (evaluating g.state) (marked start.seats bits') (marked start.seats bits'') (frame_of f) (tops rest) mv
+        frames.fits.0.computed stands frames.fits.1 who move_is visits in
+        let a : work start.state.signals i.state.memos (tops stack') (marked start.seats bits'')
+        ≡ work start.state.signals (memos_after g.state.memos f.id mv) (stack_after g.state.memos f.id mv (tops rest)) (marked start.seats bits'') =
+        (λ j. work start.state.signals (memos_is j) (stack_is j) (marked start.seats bits'')) in
+        let b : work start.state.signals g.state.memos (frame_of f ∷ tops rest) (marked start.seats bits')
+        ≡ work start.state.signals g.state.memos (tops stack) (marked start.seats bits) =
+        (λ j. work start.state.signals g.state.memos (sym top j) (marked start.seats (t.same j))) in
+        omega (arith, low, a, b)
+
+    -- the whole stays the whole
+    pub turn_whole : (hosts : Hosts) (k0 : Memos) (asked : List ℕ) (before after after' : List Note) → after' ≡ after ++ notes_of f.id mv →
+        mv ≡ move_by hosts g.state.signals g.state.memos (evaluating g.state) (marked g.seats bits') f.id (phase_of f.doing) →
+        IsWhole hosts start.state.signals k0 asked g.state.memos before after (marked start.seats bits) (tops stack) →
+        IsWhole hosts start.state.signals k0 asked i.state.memos before after' (marked start.seats bits'') (tops stack')
+    turn_whole hosts k0 asked before after after' notes is x =
+        let stands = ap (λ w. standing w f.id) (sym t.signals) ∙ frames.fits.0.stands in
+        let is' : mv ≡ move_by hosts start.state.signals g.state.memos (evaluating g.state) (marked start.seats bits') f.id (phase_of f.doing) =
+        is ∙ (λ j. move_by hosts (t.signals j) g.state.memos (evaluating g.state) (marked (t.seats j) bits') f.id (phase_of f.doing)) in
+        let x' : IsWhole hosts start.state.signals k0 asked g.state.memos before after (marked start.seats bits') (frame_of f ∷ tops rest) =
+        subst (λ y. IsWhole hosts start.state.signals k0 asked g.state.memos before after (marked start.seats y) (frame_of f ∷ tops rest)) (sym t.same)
+        (subst (λ y. IsWhole hosts start.state.signals k0 asked g.state.memos before after (marked start.seats bits) y) top x) in
+        let y : IsWhole hosts start.state.signals k0 asked (memos_after g.state.memos f.id mv) before (after ++ notes_of f.id mv)
+        (marked start.seats bits'') (stack_after g.state.memos f.id mv (tops rest)) =
+        step_whole hosts start.state.signals k0 asked g.state.memos before after (evaluating g.state) (marked start.seats bits') (marked start.seats bits'')
+        (frame_of f) (tops rest) mv frames.fits.0.computed stands x' who is' visits in
+        subst (λ z. z) (λ j. IsWhole hosts start.state.signals k0 asked (sym memos_is j) before (sym notes j) (marked start.seats bits'') (sym stack_is j)) y
+
+-- as many notes as runs
+pub notes_count : (n : ℕ) (mv : Move) (before after : List RunNote) → map note_of after ≡ map note_of before ++ notes_of n mv →
+    length after ≡ length before + runs_of mv
+notes_count n mv before after e =
+    let a : length (map note_of after) ≡ length (map note_of before ++ notes_of n mv) = ap length e in
+    let b : length (map note_of before ++ notes_of n mv) ≡ length (map note_of before) + length (notes_of n mv) = length-append (map note_of before) (notes_of n mv) in
+    let x : length (map note_of after) ≡ length after = length-map after note_of in
+    let y : length (map note_of before) ≡ length before = length-map before note_of in
+    let z : length (notes_of n mv) ≡ runs_of mv = go mv in
+    omega (arith, a, b, x, y, z)
+  where
+    go : (m : Move) → length (notes_of n m) ≡ runs_of m
+    go (GoesOn p) = refl
+    go (Needs s p) = refl
+    go Stops = refl
+    go (Ends r) = refl

@@ -1,0 +1,149 @@
+use Rattle.std.proofs.Common.{◌≡◌, ◌+◌, [], ◌∷◌, map, length, refl, sym, ap, ◌∙◌, subst, arith}
+use Rattle.std.specs.Vec.{vec_len}
+use Rattle.signal_model.specs.Standing.{is_in, standing}
+use Rattle.signal_model.specs.Values.{value_of}
+use Rattle.signal_model.specs.Sound.{standing_outcome}
+use Rattle.signal_model.specs.Kept.{AreKept}
+use Rattle.settle_model.specs.Stepping.{frame_names}
+use Rattle.sig_computed.specs.Notes.{note_of}
+use Rattle.sig_computed.specs.Views.{evaluating, move_of, tops}
+use Rattle.sig_computed.specs.Visited.{marked}
+use Rattle.sig_computed.proofs.Fitting.{frames_are}
+use Rattle.sig_computed.proofs.Loops.{IsMade, IsTurn, none_left, notes_count, turn_frames, turn_less, turn_move, turn_whole}
+use Rattle.sig_computed.proofs.Wholes.{IsWhole, first_whole, last_whole, shown_value}
+use Rattle.sig_computed.proofs.settling.settle.Goals as goal
+
+pub loop-frame-init : goal.loop-frame-init
+loop-frame-init c =
+    let e = c.in_ok-stack.ensures.graph in
+    record {
+      signals = e.signals;
+      seats = e.seats;
+      given = e.given;
+      worn = ap (λ x. x + length c.args.notes.now.items) e.worn;
+      size = c.in_ok-visited.ensures.size;
+      frames = record { fits = e.fits; idle = e.idle };
+      whole = λ hosts kept.
+          let w = c.args.graph.now.state.signals in
+          let k = c.args.graph.now.state.memos in
+          subst (λ x. x)
+          (λ i. IsWhole hosts w k (c.args.id ∷ []) (sym e.memos i) (map note_of c.args.notes.now.items) (map note_of c.args.notes.now.items)
+          (marked c.args.graph.now.seats c.in_ok-visited.visited.items) (sym c.in_ok-stack.ensures.stack i))
+          (first_whole hosts w k c.args.id (map note_of c.args.notes.now.items) (marked c.args.graph.now.seats c.in_ok-visited.visited.items) kept
+          (c.in_ok-visited.ensures.none c.args.graph.now.seats));
+    }
+
+pub apply-requires-clause-computing : goal.apply-requires-clause-computing
+apply-requires-clause-computing c =
+    let i = c.loop-frame.invariant in
+    (turn_move c.args.graph.now c.loop-frame.graph c.turn_of.new.graph c.loop-frame.stack.items c.pop.new.self.items c.in-Some.frame
+    c.loop-frame.visited.items c.deref.result.now (move_of c.in_ok-turn.turn) (record {
+      popped = c.in-Some.ensures.items;
+      signals = i.signals;
+      seats = i.seats;
+      frames = i.frames;
+      same = c.deref.ensures.value;
+      some = c.in_ok-turn.ensures.some;
+      given = c.in_ok-turn.ensures.given;
+      stays = c.in_ok-turn.ensures.after;
+    })).computing
+
+pub apply-requires-clause-can : goal.apply-requires-clause-can
+apply-requires-clause-can c =
+    let i = c.loop-frame.invariant in
+    (turn_move c.args.graph.now c.loop-frame.graph c.turn_of.new.graph c.loop-frame.stack.items c.pop.new.self.items c.in-Some.frame
+    c.loop-frame.visited.items c.deref.result.now (move_of c.in_ok-turn.turn) (record {
+      popped = c.in-Some.ensures.items;
+      signals = i.signals;
+      seats = i.seats;
+      frames = i.frames;
+      same = c.deref.ensures.value;
+      some = c.in_ok-turn.ensures.some;
+      given = c.in_ok-turn.ensures.given;
+      stays = c.in_ok-turn.ensures.after;
+    })).can
+
+pub loop-frame-smaller : goal.loop-frame-smaller
+loop-frame-smaller c =
+    let i = c.loop-frame.invariant in
+    turn_less c.args.graph.now c.loop-frame.graph c.turn_of.new.graph c.loop-frame.stack.items c.pop.new.self.items c.in-Some.frame
+    c.loop-frame.visited.items c.deref.result.now (move_of c.in_ok-turn.turn) (record {
+      popped = c.in-Some.ensures.items;
+      signals = i.signals;
+      seats = i.seats;
+      frames = i.frames;
+      same = c.deref.ensures.value;
+      some = c.in_ok-turn.ensures.some;
+      given = c.in_ok-turn.ensures.given;
+      stays = c.in_ok-turn.ensures.after;
+    }) c.apply.new.graph c.apply.new.stack.items c.apply.new.visited.items
+    (record { stack = c.in_ok-apply.ensures.stack; visited = λ m. c.in_ok-apply.ensures.visited m; graph = c.in_ok-apply.ensures.graph })
+
+pub loop-frame-preserved : goal.loop-frame-preserved
+loop-frame-preserved c =
+    let i = c.loop-frame.invariant in
+    let s = c.in_ok-turn.ensures.after in
+    let m = c.in_ok-apply.ensures.graph in
+    let t : IsTurn c.args.graph.now c.loop-frame.graph c.turn_of.new.graph c.loop-frame.stack.items c.pop.new.self.items c.in-Some.frame
+    c.loop-frame.visited.items c.deref.result.now (move_of c.in_ok-turn.turn) =
+    record {
+      popped = c.in-Some.ensures.items;
+      signals = i.signals;
+      seats = i.seats;
+      frames = i.frames;
+      same = c.deref.ensures.value;
+      some = c.in_ok-turn.ensures.some;
+      given = c.in_ok-turn.ensures.given;
+      stays = s;
+    } in
+    let d : IsMade c.turn_of.new.graph c.apply.new.graph c.pop.new.self.items c.apply.new.stack.items c.in-Some.frame c.loop-frame.visited.items
+    c.apply.new.visited.items (move_of c.in_ok-turn.turn) =
+    record { stack = c.in_ok-apply.ensures.stack; visited = λ x. c.in_ok-apply.ensures.visited x; graph = m } in
+    let count = notes_count c.in-Some.frame.id (move_of c.in_ok-turn.turn) c.loop-frame.notes.items c.apply.new.notes.items c.in_ok-apply.ensures.notes in
+    record {
+      signals = m.signals ∙ s.signals ∙ i.signals;
+      seats = m.seats ∙ s.seats ∙ i.seats;
+      given = λ n on. m.given n (s.given n (i.given n on));
+      worn = let a = m.worn in let b = s.worn in let e = i.worn in omega (arith, a, b, e, count);
+      size = c.in_ok-apply.ensures.size;
+      frames = turn_frames c.args.graph.now c.loop-frame.graph c.turn_of.new.graph c.loop-frame.stack.items c.pop.new.self.items c.in-Some.frame
+          c.loop-frame.visited.items c.deref.result.now (move_of c.in_ok-turn.turn) t c.apply.new.graph c.apply.new.stack.items
+          c.apply.new.visited.items d;
+      whole = λ hosts kept. turn_whole c.args.graph.now c.loop-frame.graph c.turn_of.new.graph c.loop-frame.stack.items c.pop.new.self.items
+          c.in-Some.frame c.loop-frame.visited.items c.deref.result.now (move_of c.in_ok-turn.turn) t c.apply.new.graph c.apply.new.stack.items
+          c.apply.new.visited.items d hosts c.args.graph.now.state.memos (c.args.id ∷ []) (map note_of c.args.notes.now.items)
+          (map note_of c.loop-frame.notes.items) (map note_of c.apply.new.notes.items) c.in_ok-apply.ensures.notes
+          (c.in_ok-turn.ensures.turn hosts) (i.whole hosts kept);
+    }
+
+pub returns-clause-value : goal.returns-clause-value
+returns-clause-value c = λ hosts kept.
+    let w = c.args.graph.now.state.signals in
+    let i = c.loop-frame.invariant in
+    let none = ap tops (none_left c.loop-frame.stack.items c.pop.new.self.items (vec_len c.loop-frame.stack) c.in_default.ensures.items
+    c.in_default.ensures.rest c.in_default.ensures.cases.0) in
+    let x = last_whole hosts w c.args.graph.now.state.memos c.loop-frame.graph.state.memos c.args.id (map note_of c.args.notes.now.items)
+    (map note_of c.loop-frame.notes.items) (marked c.args.graph.now.seats c.loop-frame.visited.items) (tops c.loop-frame.stack.items) kept none
+    (i.whole hosts kept) in
+    let off = frames_are c.loop-frame.graph (tops c.loop-frame.stack.items) i.frames c.args.id ∙ ap (λ fs. is_in c.args.id (frame_names fs)) none in
+    c.in_ok-outcome.ensures
+    ∙ shown_value (standing c.loop-frame.graph.state.signals c.args.id) (is_in c.args.id (evaluating c.loop-frame.graph.state))
+    (standing_outcome c.loop-frame.graph.state.signals c.loop-frame.graph.state.memos c.args.id) (value_of hosts w c.args.id []) off
+    (ap (λ y. standing_outcome y c.loop-frame.graph.state.memos c.args.id) i.signals ∙ x.value)
+
+pub returns-clause-settled : goal.returns-clause-settled
+returns-clause-settled c = λ hosts kept.
+    let none = ap tops (none_left c.loop-frame.stack.items c.pop.new.self.items (vec_len c.loop-frame.stack) c.in_default.ensures.items
+    c.in_default.ensures.rest c.in_default.ensures.cases.0) in
+    (last_whole hosts c.args.graph.now.state.signals c.args.graph.now.state.memos c.loop-frame.graph.state.memos c.args.id
+    (map note_of c.args.notes.now.items) (map note_of c.loop-frame.notes.items) (marked c.args.graph.now.seats c.loop-frame.visited.items)
+    (tops c.loop-frame.stack.items) kept none (c.loop-frame.invariant.whole hosts kept)).settling
+
+pub returns-clause-kept : goal.returns-clause-kept
+returns-clause-kept c = λ hosts kept.
+    let none = ap tops (none_left c.loop-frame.stack.items c.pop.new.self.items (vec_len c.loop-frame.stack) c.in_default.ensures.items
+    c.in_default.ensures.rest c.in_default.ensures.cases.0) in
+    subst (λ w. AreKept hosts w c.loop-frame.graph.state.memos) (sym c.loop-frame.invariant.signals)
+    (last_whole hosts c.args.graph.now.state.signals c.args.graph.now.state.memos c.loop-frame.graph.state.memos c.args.id
+    (map note_of c.args.notes.now.items) (map note_of c.loop-frame.notes.items) (marked c.args.graph.now.seats c.loop-frame.visited.items)
+    (tops c.loop-frame.stack.items) kept none (c.loop-frame.invariant.whole hosts kept)).kept

@@ -1,0 +1,28 @@
+use Rattle.std.proofs.Common.{◌≡◌, ℕ, ◌+◌, [], ◌∷◌, length, map, true}
+use Rattle.sig_base.specs.declared.limits.TheConstants.{MOST_NODES}
+use Rattle.signal_model.specs.Recipes.{Hosts}
+use Rattle.signal_model.specs.Kept.{AreKept}
+use Rattle.sig_nodes.specs.States.{is_given}
+use Rattle.sig_computed.specs.Notes.{note_of}
+use Rattle.sig_computed.specs.Views.{tops}
+use Rattle.sig_computed.specs.Visited.{marked}
+use Rattle.sig_computed.proofs.Fitting.{HasStack}
+use Rattle.sig_computed.proofs.Measure.{work}
+use Rattle.sig_computed.proofs.Wholes.{IsWhole}
+use Rattle.sig_computed.proofs.settling.settle.Given as goal
+
+abbrev pub invariant-loop-frame : goal.invariant-loop-frame
+invariant-loop-frame l = record {
+  signals : l.graph.state.signals ≡ l.fn.graph.state.signals;
+  seats : l.graph.seats ≡ l.fn.graph.seats;
+  given : (n : ℕ) → is_given l.fn.graph n ≡ true → is_given l.graph n ≡ true;
+  worn : l.graph.state.worn + length l.fn.notes.items ≡ l.fn.graph.state.worn + length l.notes.items;
+  size : length l.visited.items ≡ MOST_NODES;
+  frames : HasStack l.graph (tops l.stack.items);
+  whole : (hosts : Hosts) → AreKept hosts l.fn.graph.state.signals l.fn.graph.state.memos →
+      IsWhole hosts l.fn.graph.state.signals l.fn.graph.state.memos (l.fn.id ∷ []) l.graph.state.memos (map note_of l.fn.notes.items)
+      (map note_of l.notes.items) (marked l.fn.graph.seats l.visited.items) (tops l.stack.items);
+}
+
+abbrev pub decreases-loop-frame : goal.decreases-loop-frame
+decreases-loop-frame l = work l.fn.graph.state.signals l.graph.state.memos (tops l.stack.items) (marked l.fn.graph.seats l.visited.items)

@@ -1,0 +1,4 @@
+pub mod Notes
+pub mod Visited
+pub mod Views
+pub mod Turns

@@ -1,0 +1,166 @@
+// Settling by a loop over a stack of frames, so its depth rests on no machine stack.
+ghost use Rattle.std.specs.Prelude.{◌≡◌, ◌+◌, ◌<◌, ◌^◌, ◌++◌, ◌∷◌, ℕ, [], List, true, false, None, Some, IfOk, IfSome, OnOk, map, reverse, length, vec_len};
+ghost use Rattle.signal_model.specs.Recipes.{Hosts};
+ghost use Rattle.signal_model.specs.Standing.{is_computed, is_in, is_there, standing};
+ghost use Rattle.signal_model.specs.Values.{value_of};
+ghost use Rattle.signal_model.specs.Kept.{AreKept};
+ghost use Rattle.signal_model.specs.Sound.{names_of};
+ghost use Rattle.sig_nodes.specs.States.{is_computing, is_given, progress_at, CanWear};
+ghost use Rattle.settle_model.specs.Stepping.{frame_names, new_frame};
+ghost use Rattle.sig_computed.specs.Notes.{note_of, HasRoom, IsIdle, IsSettling};
+ghost use Rattle.sig_computed.specs.Views.{evaluating, evaluation_of, frame_of, move_of, progressed, seen_of, tops, Stays};
+ghost use Rattle.sig_computed.specs.Visited.{marked};
+ghost use Rattle.sig_computed.specs.Turns.{evaluation_note, first_stack, notes_of, stack_after, visited_after, AreReadsGiven, CanMove, HasFirst, IsKept, IsMoved};
+
+use crate::frames::{Doing, Open, Ran, Read, Turn};
+use crate::notes::RunNote;
+use crate::turns::{outcome_of, turn_of};
+use crate::visited::{none_visited, visit};
+use sig_base::{MOST_NODES, NoMemory, NodeId, Outcome};
+use sig_nodes::{Graph, Standing};
+use std::alloc::Global;
+
+// Begins the evaluation of a computed: what is stale runs, and all else looks first.
+fn opened(alloc: Global, graph: &mut Graph, id: NodeId) -> Open
+    requires live { is_computed (standing graph.old.state.signals id) ≡ true }
+    requires idle { is_computing graph.old.state id ≡ false }
+    ensures frame { frame_of result ≡ new_frame graph.old.state.memos id }
+    ensures after { Stays graph.old graph.new (progressed id (Some []) graph.old.state.progress) }
+    ensures begun { progress_at id graph.new.state.progress ≡ Some [] }
+{
+    graph.begin(id);
+    if graph.stale(id) {
+        return Open {
+            id,
+            doing: Doing::Running(Vec::new(alloc), Vec::new(alloc)),
+        };
+    }
+    Open {
+        id,
+        doing: Doing::Looking(0),
+    }
+}
+
+// The names of what was read.
+fn names(alloc: Global, reads: &[Read]) -> Result<Vec<NodeId>, NoMemory>
+    ensures { IfOk result (λ v. v.items ≡ names_of (map seen_of reads.now)) }
+{
+    let mut all = Vec::new(alloc);
+    for read in reads {
+        all.push(read.id)?;
+    }
+    Ok(all)
+}
+
+// Keeps a run, and notes it.
+fn keep(
+    alloc: Global,
+    graph: &mut Graph,
+    notes: &mut Vec<RunNote>,
+    node: NodeId,
+    ran: Ran,
+) -> Result<(), NoMemory>
+    requires computing { is_computing graph.old.state node ≡ true }
+    requires given { AreReadsGiven graph.old (evaluation_of ran).reads }
+    requires worn { CanWear graph.old.state }
+    ensures after { OnOk result (IsKept graph.old graph.new node (evaluation_of ran)) }
+    ensures notes { OnOk result (map note_of notes.new.items ≡ map note_of notes.old.items ++ evaluation_note node (evaluation_of ran) ∷ []) }
+{
+    let outcome = ran.outcome.copy()?;
+    let reads = names(alloc, &ran.reads)?;
+    let sources = names(alloc, &ran.reads)?;
+    graph.keep_run(node, outcome, sources)?;
+    notes.push(RunNote {
+        id: node,
+        reads,
+        outcome: ran.outcome,
+    })?;
+    Ok(())
+}
+
+// Makes the move of the innermost frame, which was taken off.
+fn apply(
+    alloc: Global,
+    graph: &mut Graph,
+    stack: &mut Vec<Open>,
+    visited: &mut Vec<bool>,
+    notes: &mut Vec<RunNote>,
+    node: NodeId,
+    turn: Turn,
+) -> Result<(), NoMemory>
+    requires live { is_there (standing graph.old.state.signals node) ≡ true }
+    requires computing { is_computing graph.old.state node ≡ true }
+    requires size { length visited.old.items ≡ MOST_NODES }
+    requires worn { CanWear graph.old.state }
+    requires can { CanMove graph.old (move_of turn) }
+    ensures stack { OnOk result (tops stack.new.items ≡ stack_after graph.old.state.memos node (move_of turn) (tops stack.old.items)) }
+    ensures size { OnOk result (length visited.new.items ≡ MOST_NODES) }
+    ensures visited { (m : ℕ) → OnOk result (is_in m (marked graph.old.seats visited.new.items) ≡ is_in m (visited_after node (move_of turn) (marked graph.old.seats visited.old.items))) }
+    ensures notes { OnOk result (map note_of notes.new.items ≡ map note_of notes.old.items ++ notes_of node (move_of turn)) }
+    ensures graph { OnOk result (IsMoved graph.old graph.new node (move_of turn)) }
+{
+    match turn {
+        Turn::GoesOn(doing) => {
+            stack.push(Open { id: node, doing })?;
+            Ok(())
+        }
+        Turn::Needs(id, doing) => {
+            stack.push(Open { id: node, doing })?;
+            let first = opened(alloc, graph, id);
+            stack.push(first)?;
+            Ok(())
+        }
+        Turn::Stops => {
+            graph.stop(node);
+            visit(graph, visited, node);
+            Ok(())
+        }
+        Turn::Ends(ran) => {
+            keep(alloc, graph, notes, node, ran)?;
+            visit(graph, visited, node);
+            Ok(())
+        }
+    }
+}
+
+// The frames at the beginning: one of a computed, and none of any other signal.
+fn first(alloc: Global, graph: &mut Graph, id: NodeId) -> Result<Vec<Open>, NoMemory>
+    requires { IsIdle graph.old.state }
+    ensures stack { IfOk result (λ v. tops v.items ≡ first_stack graph.old.state.signals graph.old.state.memos id) }
+    ensures graph { IfOk result (λ v. HasFirst graph.old graph.new id (tops v.items)) }
+{
+    let mut stack = Vec::new(alloc);
+    let Standing::Computed = graph.standing(id) else {
+        return Ok(stack);
+    };
+    let frame = opened(alloc, graph, id);
+    stack.push(frame)?;
+    Ok(stack)
+}
+
+/// Settles a signal, gone ones too, and gives its outcome, which is its value from scratch. What is kept afterwards and the notes
+/// that are put behind are those of settling its name, whatever was set, rewired or disposed before. Signals stay, and nothing is
+/// being evaluated before and after. Without memory the graph may only be dropped.
+pub fn settle(graph: &mut Graph, id: NodeId, notes: &mut Vec<RunNote>) -> Result<Outcome, NoMemory>
+    requires idle { IsIdle graph.old.state }
+    requires worn { HasRoom graph.old.state }
+    ensures value { (hosts : Hosts) → AreKept hosts graph.old.state.signals graph.old.state.memos → IfOk result (λ o. o ≡ value_of hosts graph.old.state.signals id []) }
+    ensures settled { (hosts : Hosts) → AreKept hosts graph.old.state.signals graph.old.state.memos → OnOk result (IsSettling hosts graph.old.state.signals graph.old.state.memos (id ∷ []) (map note_of notes.old.items) (map note_of notes.new.items) graph.new.state.memos) }
+    ensures kept { (hosts : Hosts) → AreKept hosts graph.old.state.signals graph.old.state.memos → OnOk result (AreKept hosts graph.new.state.signals graph.new.state.memos) }
+    ensures signals { OnOk result (graph.new.state.signals ≡ graph.old.state.signals) }
+    ensures idle { OnOk result (IsIdle graph.new.state) }
+    ensures seats { OnOk result (graph.new.seats ≡ graph.old.seats) }
+    ensures given { OnOk result ((n : ℕ) → is_given graph.old n ≡ true → is_given graph.new n ≡ true) }
+    ensures worn { OnOk result (graph.new.state.worn + length notes.old.items ≡ graph.old.state.worn + length notes.new.items) }
+{
+    let alloc = *notes.allocator();
+    let mut visited = none_visited(alloc)?;
+    let mut stack = first(alloc, graph, id)?;
+    while let Some(frame) = stack.pop() {
+        let node = frame.id;
+        let turn = turn_of(alloc, graph, &visited, frame)?;
+        apply(alloc, graph, &mut stack, &mut visited, notes, node, turn)?;
+    }
+    let outcome = outcome_of(graph, id)?;
+    Ok(outcome)
+}

@@ -1,0 +1,247 @@
+// One step of a frame: a look at a kept source, an answer of the recipe, or a slot that was waited for.
+ghost use Rattle.std.specs.Prelude.{◌≡◌, ◌<◌, ℕ, ◌∷◌, [], true, false, List, Some, None, IfOk, IfSome, OnOk, map, drop, length, slice_index};
+ghost use Rattle.signal_model.specs.Recipes.{Hosts};
+ghost use Rattle.signal_model.specs.Standing.{standing, is_in};
+ghost use Rattle.signal_model.specs.Memos.{holds_cycle, memo_of, sources_of};
+ghost use Rattle.signal_model.specs.Sound.{kept_outcome, standing_outcome};
+ghost use Rattle.sig_nodes.specs.Answers.{answer_here, slots_here};
+ghost use Rattle.sig_nodes.specs.States.{is_cell, is_given, progress_at, GoesOn};
+ghost use Rattle.settle_model.specs.Stepping.{answered, decided, is_ready, Ends, looked, ready_outcome, told};
+ghost use Rattle.sig_computed.specs.Views.{evaluating, first_moved, first_name, frame_of, move_of, or_cycle, phase_of, progressed, seen_of, Stays};
+ghost use Rattle.sig_computed.specs.Visited.{marked};
+ghost use Rattle.sig_computed.specs.Turns.{move_by, move_reads, progress_by, waits, AreReadsGiven, Fits, IsAnswered, IsMove};
+
+use crate::frames::{Doing, Open, Ran, Read, Turn};
+use crate::visited::is_visited;
+use sig_base::{Fault, Known, MOST_NODES, NoMemory, NodeId, Outcome, Step};
+use sig_nodes::{Asked, Graph, Standing};
+use std::alloc::Global;
+
+// Whether a source needs no settling first: it is no computed, is being evaluated, or was visited.
+fn is_ready(graph: &Graph, visited: &[bool], id: NodeId) -> bool
+    requires { length visited.now ≡ MOST_NODES }
+    ensures { result ≡ is_ready (standing graph.now.state.signals id) (is_in id (evaluating graph.now.state)) (is_in id (marked graph.now.seats visited.now)) }
+{
+    match graph.standing(id) {
+        Standing::Computed => is_visited(graph, visited, id),
+        _ => true,
+    }
+}
+
+// The kept source at a place, none past the last.
+fn source_at(graph: &Graph, node: NodeId, place: usize) -> Option<NodeId>
+    ensures name { result ≡ first_name (drop place (sources_of graph.now.state.memos node)) }
+    ensures inside { IfSome result (λ n. place < length (sources_of graph.now.state.memos node)) }
+    ensures small { IfSome result (λ n. place < 18446744073709551615) }
+{
+    let names = graph.sources(node);
+    if place < names.len() {
+        return Some(names[place]);
+    }
+    None
+}
+
+// Whether a computed holds `cycle`.
+fn holds_cycle(graph: &Graph, node: NodeId) -> bool
+    ensures { result ≡ holds_cycle graph.now.state.memos node }
+{
+    match graph.kept(node) {
+        Some(Outcome::Bad(Fault::Cycle)) => true,
+        _ => false,
+    }
+}
+
+// A source that is ready decides whether the computed runs, or looks at the next.
+fn decide(alloc: Global, graph: &mut Graph, node: NodeId, place: usize) -> Turn
+    requires inside { place < length (sources_of graph.old.state.memos node) }
+    requires small { place < 18446744073709551615 }
+    ensures turn { move_of result ≡ decided (holds_cycle graph.old.state.memos node) (first_moved graph.old.state.memos (evaluating graph.old.state) (drop place (sources_of graph.old.state.memos node))) place }
+    ensures after { Stays graph.old graph.new graph.old.state.progress }
+{
+    if holds_cycle(graph, node) {
+        return Turn::GoesOn(Doing::Looking(place + 1));
+    }
+    if graph.moved(node, place) {
+        return Turn::GoesOn(Doing::Running(Vec::new(alloc), Vec::new(alloc)));
+    }
+    Turn::GoesOn(Doing::Looking(place + 1))
+}
+
+// A look at the kept sources from a place on.
+fn look(alloc: Global, graph: &mut Graph, visited: &[bool], node: NodeId, place: usize) -> Turn
+    requires { length visited.now ≡ MOST_NODES }
+    ensures turn { move_of result ≡ looked graph.old.state.signals graph.old.state.memos (evaluating graph.old.state) (marked graph.old.seats visited.now) (holds_cycle graph.old.state.memos node) place (drop place (sources_of graph.old.state.memos node)) }
+    ensures given { AreReadsGiven graph.old (move_reads (move_of result)) }
+    ensures after { Stays graph.old graph.new graph.old.state.progress }
+{
+    let Some(id) = source_at(graph, node, place) else {
+        return Turn::Stops;
+    };
+    if !is_ready(graph, visited, id) {
+        return Turn::Needs(id, Doing::LookedAt(place));
+    }
+    decide(alloc, graph, node, place)
+}
+
+/// What a source that is ready is read as.
+pub(crate) fn outcome_of(graph: &Graph, id: NodeId) -> Result<Outcome, NoMemory>
+    ensures { IfOk result (λ o. o ≡ or_cycle (ready_outcome (standing graph.now.state.signals id) (is_in id (evaluating graph.now.state)) (standing_outcome graph.now.state.signals graph.now.state.memos id))) }
+{
+    match graph.standing(id) {
+        Standing::Gone => Ok(Outcome::Bad(Fault::Gone)),
+        Standing::Cell => cell_outcome(graph, id),
+        Standing::Computing => Ok(Outcome::Bad(Fault::Cycle)),
+        Standing::Computed => kept_outcome(graph, id),
+    }
+}
+
+// A cell's value, as what it is read as.
+fn cell_outcome(graph: &Graph, id: NodeId) -> Result<Outcome, NoMemory>
+    requires { is_cell (standing graph.now.state.signals id) ≡ true }
+    ensures { IfOk result (λ o. Some o ≡ standing_outcome graph.now.state.signals graph.now.state.memos id) }
+{
+    match graph.cell_value(id) {
+        Some(value) => {
+            let same = value.copy()?;
+            Ok(Outcome::Good(same))
+        }
+        None => unreachable!(),
+    }
+}
+
+// What a computed keeps. One that was visited has run, so it keeps something.
+fn kept_outcome(graph: &Graph, id: NodeId) -> Result<Outcome, NoMemory>
+    ensures { IfOk result (λ o. o ≡ or_cycle (kept_outcome (memo_of graph.now.state.memos id))) }
+{
+    match graph.kept(id) {
+        Some(outcome) => outcome.copy(),
+        None => Ok(Outcome::Bad(Fault::Cycle)),
+    }
+}
+
+// A run has come to its end.
+fn ended(reads: Vec<Read>, outcome: Outcome) -> Turn
+    ensures { move_of result ≡ Ends (record { reads = map seen_of reads.items; outcome = outcome }) }
+{
+    Turn::Ends(Ran { reads, outcome })
+}
+
+// A slot is read as an outcome: a good value is told to the recipe, and a fault ends the run.
+fn tell(
+    slot: u32,
+    id: NodeId,
+    outcome: Outcome,
+    known: Vec<Known>,
+    reads: Vec<Read>,
+) -> Result<Turn, NoMemory>
+    ensures { IfOk result (λ t. move_of t ≡ told slot id (Some outcome) known.items (map seen_of reads.items)) }
+{
+    let mut known = known;
+    let mut reads = reads;
+    match outcome {
+        Outcome::Good(value) => {
+            let seen = value.copy()?;
+            known.push(Known { slot, value })?;
+            reads.push(Read {
+                id,
+                outcome: Outcome::Good(seen),
+            })?;
+            Ok(Turn::GoesOn(Doing::Running(known, reads)))
+        }
+        Outcome::Bad(fault) => {
+            reads.push(Read {
+                id,
+                outcome: Outcome::Bad(fault),
+            })?;
+            Ok(ended(reads, Outcome::Bad(fault)))
+        }
+    }
+}
+
+// The signal of a slot.
+fn slot_of(graph: &Graph, node: NodeId, slot: u32) -> NodeId
+    requires { slot < length (slots_here (standing graph.now.state.signals node)) }
+    ensures id { result ≡ slice_index (slots_here (standing graph.now.state.signals node)) slot }
+    ensures given { is_given graph.now result ≡ true }
+{
+    match graph.slot(node, slot) {
+        Some(id) => id,
+        None => unreachable!(),
+    }
+}
+
+// A slot is waited for.
+fn wait(
+    graph: &Graph,
+    visited: &[bool],
+    node: NodeId,
+    slot: u32,
+    known: Vec<Known>,
+    reads: Vec<Read>,
+) -> Result<Turn, NoMemory>
+    requires size { length visited.now ≡ MOST_NODES }
+    requires slot { slot < length (slots_here (standing graph.now.state.signals node)) }
+    requires given { AreReadsGiven graph.now (map seen_of reads.items) }
+    ensures turn { IfOk result (λ t. move_of t ≡ waits graph.now.state.signals graph.now.state.memos (evaluating graph.now.state) (marked graph.now.seats visited.now) slot (slice_index (slots_here (standing graph.now.state.signals node)) slot) known.items (map seen_of reads.items)) }
+    ensures given { IfOk result (λ t. AreReadsGiven graph.now (move_reads (move_of t))) }
+{
+    let id = slot_of(graph, node, slot);
+    if !is_ready(graph, visited, id) {
+        return Ok(Turn::Needs(id, Doing::Waiting(slot, known, reads)));
+    }
+    let outcome = outcome_of(graph, id)?;
+    let turn = tell(slot, id, outcome, known, reads)?;
+    Ok(turn)
+}
+
+// A recipe has answered.
+fn answered(answer: Step, known: Vec<Known>, reads: Vec<Read>) -> Turn
+    ensures { move_of result ≡ answered answer known.items (map seen_of reads.items) }
+{
+    match answer {
+        Step::Done(value) => ended(reads, Outcome::Good(value)),
+        Step::Fail(fault) => ended(reads, Outcome::Bad(fault)),
+        Step::Read(slot) => Turn::GoesOn(Doing::Waiting(slot, known, reads)),
+    }
+}
+
+// A recipe is asked with what is known.
+fn run(
+    graph: &mut Graph,
+    node: NodeId,
+    known: Vec<Known>,
+    reads: Vec<Read>,
+) -> Result<Turn, NoMemory>
+    requires known { GoesOn (progress_at node graph.old.state.progress) known.items }
+    requires given { AreReadsGiven graph.old (map seen_of reads.items) }
+    ensures turn { (hosts : Hosts) → IfOk result (λ t. move_of t ≡ answered (answer_here hosts (standing graph.old.state.signals node) known.items) known.items (map seen_of reads.items)) }
+    ensures some { IfOk result (λ t. IsAnswered (slots_here (standing graph.old.state.signals node)) known.items (map seen_of reads.items) (move_of t)) }
+    ensures given { IfOk result (λ t. AreReadsGiven graph.old (move_reads (move_of t))) }
+    ensures after { OnOk result (Stays graph.old graph.new (progressed node (Some known.items) graph.old.state.progress)) }
+{
+    let Asked::Step(answer) = graph.recipe(node, &known)?;
+    Ok(answered(answer, known, reads))
+}
+
+/// One step of a frame.
+pub(crate) fn turn_of(
+    alloc: Global,
+    graph: &mut Graph,
+    visited: &[bool],
+    frame: Open,
+) -> Result<Turn, NoMemory>
+    requires size { length visited.now ≡ MOST_NODES }
+    requires fits { Fits graph.old (frame_of frame) }
+    ensures turn { (hosts : Hosts) → IfOk result (λ t. move_of t ≡ move_by hosts graph.old.state.signals graph.old.state.memos (evaluating graph.old.state) (marked graph.old.seats visited.now) frame.id (phase_of frame.doing)) }
+    ensures some { IfOk result (λ t. IsMove graph.old.state.signals graph.old.state.memos (evaluating graph.old.state) (marked graph.old.seats visited.now) frame.id (phase_of frame.doing) (move_of t)) }
+    ensures given { IfOk result (λ t. AreReadsGiven graph.old (move_reads (move_of t))) }
+    ensures after { OnOk result (Stays graph.old graph.new (progress_by frame.id (phase_of frame.doing) graph.old.state.progress)) }
+{
+    let node = frame.id;
+    match frame.doing {
+        Doing::Looking(place) => Ok(look(alloc, graph, visited, node, place)),
+        Doing::LookedAt(place) => Ok(look(alloc, graph, visited, node, place)),
+        Doing::Running(known, reads) => run(graph, node, known, reads),
+        Doing::Waiting(slot, known, reads) => wait(graph, visited, node, slot, known, reads),
+    }
+}
