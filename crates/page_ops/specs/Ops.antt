@@ -1,0 +1,50 @@
+-- The operations of the program as those of the definitions, and why they are refused.
+use Rattle.std.specs.Prelude.{ℕ, ◌≡◌, List, ◌∷◌, ◌++◌, length, Option, Some, None}
+use Rattle.page_model.specs.Labels.{Element, Kind}
+use Rattle.std.specs.Fmt.{decimal}
+use Rattle.page_model.specs.Texts.{written_attributes}
+use Rattle.page_model.specs.Replay as replay
+use Rattle.page_model.specs.Replay.{Answer, Done, Refused, others}
+use Rattle.page_tree.specs.Reading.{IsDone}
+use Rattle.page_tree.specs.Subs.{insertion, sub_tree}
+use Rattle.page_ops.specs.declared.op.Op.{Op}
+use Rattle.page_ops.specs.declared.op.Op.TheVariants as op
+use Rattle.page_ops.specs.declared.op.ApplyFault.{ApplyFault}
+use Rattle.page_ops.specs.declared.op.ApplyFault.TheVariants as fault
+
+-- an operation of the program as one of the definitions
+abbrev pub op_of : Op → replay.Op
+op_of (op.Remove n) = replay.OpRemove n
+op_of (op.Insert p i s) = insertion p i (sub_tree s)
+op_of (op.Move n i) = replay.OpMove n i
+op_of (op.Text n t) = replay.OpText n t
+op_of (op.Attr n i name value) = replay.OpAttr n i name value
+op_of (op.Unattr n name) = replay.OpUnattr n name
+
+-- the fault is the cause of a refusal; want of memory is a cause of its own
+abbrev pub Causes : ApplyFault → Answer → Type 0
+Causes (fault.NoSuchNode n) answer = answer ≡ Refused (replay.NoSuchNode n)
+Causes (fault.NoSuchPlace i) answer = answer ≡ Refused (replay.NoSuchPlace i)
+Causes (fault.NumberUsed n) answer = answer ≡ Refused (replay.NumberUsed n)
+Causes (fault.TooDeep n) answer = answer ≡ Refused (replay.TooDeep n)
+Causes fault.NoMemory answer = Unit {0}
+
+-- what a judgment says of an answer: it is a tree, or it is refused for this
+abbrev pub Judges : Option ApplyFault → Answer → Type 0
+Judges None answer = IsDone answer
+Judges (Some why) answer = Causes why answer
+
+-- how many attributes of other names an element has
+abbrev pub other_count : List ℕ → Kind → Option ℕ
+other_count name (Element element attributes) = Some (length (others name attributes))
+other_count name label = None
+
+-- the fault of a subtree that comes, by the first number that is used and the first that is too deep
+abbrev pub coming_fault : Option ℕ → Option ℕ → Option ApplyFault
+coming_fault (Some n) deep = Some (fault.NumberUsed n)
+coming_fault None (Some n) = Some (fault.TooDeep n)
+coming_fault None None = None
+
+-- the text of an element's node up to its children
+abbrev pub opened : ℕ → List ℕ → List (List ℕ × List ℕ) → List ℕ
+opened n name attributes = 32 ∷ 40 ∷ (decimal n ++ (32 ∷ (name ++ written_attributes attributes)))

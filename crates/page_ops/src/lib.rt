@@ -1,0 +1,14 @@
+//! Operations on a numbered tree: doing them, and writing them.
+#![tactic(auto)]
+
+mod applying;
+mod checking;
+mod numbers;
+mod op;
+#[cfg(test)]
+mod tests;
+mod writing;
+
+pub use applying::apply;
+pub use op::{ApplyFault, Op};
+pub use writing::op_line;
