@@ -94,6 +94,7 @@ cells_after cs = map (λ (c : Cell). c.value) (world_after cs).signals.cells
 abbrev pub text : List ℕ → Value
 text s = value.Text s
 
+-- that text as a formula
 abbrev pub words : List ℕ → Tree
 words s = literal (scalar.Text s)
 
@@ -105,13 +106,15 @@ new_cell v = cell v None None
 abbrev pub effect_in : Option ℕ → Statements → List ℕ → Command
 effect_in inside ss names = effect (record { statements = ss; names = names }) inside
 
+-- an effect that stands at the top
 abbrev pub new_effect : Statements → List ℕ → Command
 new_effect ss names = effect_in None ss names
 
--- the label of an effect that a command made, and that of a child
+-- the label of an effect that a command made
 abbrev pub an_effect : ℕ → EffectLabel
 an_effect n = record { effect = n; path = [] }
 
+-- the label of the child of an effect
 abbrev pub a_child : ℕ → ℕ → EffectLabel
 a_child n k = record { effect = n; path = k ∷ [] }
 
@@ -248,6 +251,7 @@ but_bodies (l ∷ ls) = l ∷ but_bodies ls
 abbrev pub endless_twice : List Command
 endless_twice = new_cell (int 0) ∷ endless ∷ flush_all ∷ set 0 (int 7) ∷ flush_all ∷ []
 
+-- each flush is refused, and what the hundred turns set stands
 pub endless_refused : (but_bodies (printed_by endless_twice) ≡ error still_due ∷ error still_due ∷ []) × (cells_after endless_twice ≡ int 107 ∷ [])
 endless_refused = (refl, refl)
 
@@ -255,6 +259,7 @@ endless_refused = (refl, refl)
 abbrev pub just_ends : List Command
 just_ends = new_cell (int 0) ∷ bounded 99 ∷ flush_all ∷ []
 
+-- then the flush is not refused
 pub just_ended : (but_bodies (printed_by just_ends) ≡ []) × (cells_after just_ends ≡ int 99 ∷ [])
 just_ended = (refl, refl)
 
@@ -262,6 +267,7 @@ just_ended = (refl, refl)
 abbrev pub ends_too_late : List Command
 ends_too_late = new_cell (int 0) ∷ bounded 100 ∷ flush_all ∷ []
 
+-- then it is
 pub ended_too_late : (but_bodies (printed_by ends_too_late) ≡ error still_due ∷ []) × (cells_after ends_too_late ≡ int 100 ∷ [])
 ended_too_late = (refl, refl)
 
@@ -290,6 +296,7 @@ nested_owners = new_cell (int 1) ∷ new_cell (int 10) ∷ owner None ∷ owner 
     (2 ∷ 0 ∷ []) (body.log (untracked (slot 1)) no_more))) (0 ∷ 1 ∷ [])
     ∷ watcher false ∷ watch 0 (1 ∷ []) ∷ flush_all ∷ set 0 (int 2) ∷ flush_all ∷ watch 0 [] ∷ dispose (the_owner 0) ∷ dispose (the_effect 0) ∷ []
 
+-- what it tells
 pub nested_owners_told : (printed_by nested_owners
     ≡ evaluate (an_effect 0) (0 ∷ []) ∷ log (int 10) ∷ run 2 (0 ∷ 1 ∷ []) (Good (int 11)) ∷ evaluate (a_child 0 1) (2 ∷ 0 ∷ []) ∷ log (int 11)
     ∷ clean (a_child 0 1) ∷ log (int 11) ∷ end_effect (a_child 0 1) ∷ clean (an_effect 0) ∷ notify 0
@@ -308,6 +315,7 @@ cleanups_set = new_cell (int 1) ∷ owner None ∷ cell (int 0) None (Some 0)
     ∷ watcher true ∷ watch 0 (0 ∷ []) ∷ flush_all ∷ set 0 (int 2) ∷ flush_all
     ∷ watch 0 [] ∷ dispose (the_signal 1) ∷ flush_all ∷ dispose (the_owner 0) ∷ []
 
+-- what it tells
 pub cleanups_set_told : (printed_by cleanups_set
     ≡ evaluate (an_effect 0) (0 ∷ []) ∷ log (int 1) ∷ evaluate (a_child 0 1) (1 ∷ []) ∷ log (int 0) ∷ notify 0 ∷ error_frozen (0 ∷ [])
     ∷ end_effect (a_child 0 1) ∷ clean (an_effect 0) ∷ clean (an_effect 0)
@@ -328,6 +336,7 @@ three_effects = with_host ++ new_cell (int 0) ∷ owner None
     ∷ new_effect (body.log (slot 0) (body.rewire 3 (record { expression = host 0; slots = 0 ∷ 1 ∷ 2 ∷ [] }) no_more)) (3 ∷ [])
     ∷ flush_all ∷ set 4 (int 1) ∷ flush_all ∷ []
 
+-- what it tells
 pub three_effects_told : printed_by three_effects
     ≡ evaluate (an_effect 0) (4 ∷ []) ∷ log (int 0) ∷ run 3 (0 ∷ 1 ∷ []) (Good (int 1)) ∷ evaluate (an_effect 1) (3 ∷ []) ∷ log (int 1)
     ∷ evaluate (an_effect 2) (3 ∷ []) ∷ log (int 1) ∷ error (host_taken 0) ∷ evaluate (a_child 0 1) (4 ∷ [])

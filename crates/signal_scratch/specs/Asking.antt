@@ -25,6 +25,7 @@ reached Waiting = None
 reached Running = Some (Bad Cycle)
 reached (Ended o) = Some o
 
+-- whether it waits
 abbrev pub is_waiting : Progress → Bool
 is_waiting Waiting = true
 is_waiting Running = false
@@ -57,8 +58,10 @@ pub record AreSources (hosts : Hosts) (w : Signals) (r : Recipe) (path : List �
 
 -- what a recipe comes to, and what is known after it was asked
 pub record Gives (w : Signals) (r : Recipe) (old new : List Progress) (o : Outcome) : Type 0 where
-  pub to : (hosts : Hosts) (path : List ℕ) (source : ℕ → Outcome) → AreRight hosts w path old → AreSources hosts w r path source → o ≡ (asked_from hosts r source []).outcome
-  pub keeps : (hosts : Hosts) (path : List ℕ) (source : ℕ → Outcome) → AreRight hosts w path old → AreSources hosts w r path source → AreRight hosts w path new
+  pub to : (hosts : Hosts) (path : List ℕ) (source : ℕ → Outcome) → AreRight hosts w path old → AreSources hosts w r path source →
+      o ≡ (asked_from hosts r source []).outcome
+  pub keeps : (hosts : Hosts) (path : List ℕ) (source : ℕ → Outcome) → AreRight hosts w path old → AreSources hosts w r path source →
+      AreRight hosts w path new
   pub fewer : waiting new ≤ waiting old
 
 -- one evaluation is the rest of another
@@ -70,5 +73,6 @@ pub record IsRest (a b : Evaluation) : Type 0 where
 pub record Goes (w : Signals) (r : Recipe) (known : List Known) (old new : List Progress) : Type 0 where
   pub rest : (hosts : Hosts) (path : List ℕ) (source : ℕ → Outcome) → AreRight hosts w path old → AreSources hosts w r path source →
       IsRest (asked_from hosts r source known) (asked_from hosts r source [])
-  pub keeps : (hosts : Hosts) (path : List ℕ) (source : ℕ → Outcome) → AreRight hosts w path old → AreSources hosts w r path source → AreRight hosts w path new
+  pub keeps : (hosts : Hosts) (path : List ℕ) (source : ℕ → Outcome) → AreRight hosts w path old → AreSources hosts w r path source →
+      AreRight hosts w path new
   pub fewer : waiting new ≤ waiting old

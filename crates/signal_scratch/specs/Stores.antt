@@ -16,6 +16,7 @@ computeds_from n [] = []
 computeds_from n (signal.Cell v ∷ ss) = computeds_from (n + 1) ss
 computeds_from n (signal.Computed r ∷ ss) = record { name = n; recipe = r } ∷ computeds_from (n + 1) ss
 
+-- the signals that stand in a list of them
 abbrev pub signals_of : List Signal → Signals
 signals_of ss = record { cells = cells_from 0 ss; computeds = computeds_from 0 ss }
 
@@ -24,6 +25,7 @@ abbrev pub stands_as : ℕ → Signal → Stands
 stands_as n (signal.Cell v) = IsCell (record { name = n; value = v; rule = None })
 stands_as n (signal.Computed r) = IsComputed (record { name = n; recipe = r })
 
+-- whether it is a cell
 abbrev pub is_cell : Signal → Bool
 is_cell (signal.Cell v) = true
 is_cell (signal.Computed r) = false
