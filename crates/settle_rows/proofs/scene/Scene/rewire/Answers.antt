@@ -1,0 +1,23 @@
+use Rattle.std.proofs.Common.{ap, sym, ◌∙◌, arith}
+use Rattle.std.proofs.Common.{Vec, Global}
+use Rattle.sig_base.specs.declared.ids.NodeId.{NodeId}
+use Rattle.signal_model.specs.Standing.{standing}
+use Rattle.sig_nodes.specs.States.{Seen, is_computing, is_given}
+use Rattle.settle_rows.proofs.Scenes.{given_here, not_cell}
+use Rattle.settle_rows.proofs.scene.Scene.rewire.Goals as goal
+
+pub rewire-requires : goal.rewire-requires
+rewire-requires c =
+    let same = c.in_ok-count.ensures.graph in
+    let worn = ap (λ (g : Seen). g.state.worn) same in
+    let before = c.requires.worn in
+    let few = c.in_ok-count.ensures.few in
+    record {
+      kind = not_cell (standing c.count.new.self.graph.state.signals c.in_ok-id.id) (is_computing c.count.new.self.graph.state c.in_ok-id.id)
+          (λ k. c.in_default.not-Cell (c.standing.ensures ∙ k));
+      idle = ap (λ (g : Seen). is_computing g.state c.in_ok-id.id) same ∙ c.requires.idle c.in_ok-id.id;
+      given = c.in_ok-slots.ensures (is_given c.count.new.self.graph)
+          (given_here c.args.self.now.graph c.count.new.self.graph c.args.self.now.ids.items c.deref-2.result.now same
+          (c.deref-2.ensures.value ∙ ap (λ (v : Vec NodeId Global). v.items) c.in_ok-count.ensures.ids) c.requires.given);
+      worn = omega (arith, worn, before, few);
+    }

@@ -1,0 +1,7 @@
+//! Worked graphs: what settling answers, and which computeds run for it.
+#![tactic(auto)]
+
+#[cfg(test)]
+mod rows;
+#[cfg(test)]
+mod scene;
