@@ -15,7 +15,7 @@ use Rattle.signal_model.specs.Memos.{Memo, source_names, sources_in}
 use Rattle.sig_nodes.specs.declared.node.Node.{Node}
 use Rattle.sig_nodes.specs.declared.node.Body.{Body}
 use Rattle.sig_nodes.specs.declared.node.Body.TheVariants.{Gone, Cell as CellBody, Computed as ComputedBody}
-use Rattle.sig_nodes.specs.States.{State, Seen, Becomes, Gives, are_there, is_cell, is_given}
+use Rattle.sig_nodes.specs.States.{State, Seen, Becomes, Makes, are_there, is_cell, is_given}
 use Rattle.signal_model.specs.Kept.{AreGiven}
 use Rattle.sig_nodes.specs.Seats.{Seating, holder, with_left, with_taken}
 use Rattle.sig_nodes.specs.Places.{seen, Holds}
@@ -482,15 +482,8 @@ new_holds xs s b t gen w fresh slots free below nobody h = record {
 -- ---- what callers see
 
 -- an edit, by its state and by how many ids were given
-pub became : (old : Seen) (st st' after : State) (hs hs' : List (Option ℕ)) (a b : ℕ) → seen st hs a ≡ old → a ≤ b → st' ≡ after → Becomes old (seen st' hs' b) after
-unfolding is_given
-became old st st' after hs hs' a b view le e = record {
-  state = e;
-  given = λ n q. more n a b (ap (λ (g : Seen). nat_lt n g.given) view ∙ q) le;
-}
-  where
-    more : (n x y : ℕ) → nat_lt n x ≡ true → x ≤ y → nat_lt n y ≡ true
-    more n x y q l = grind (arith, nat_tests)
+pub became : (old : Seen) (st st' after : State) (hs hs' : List (Option ℕ)) (a b : ℕ) → seen st hs a ≡ old → b ≡ a → st' ≡ after → Becomes old (seen st' hs' b) after
+became old st st' after hs hs' a b view same e = record { state = e; given = same ∙ ap (λ (g : Seen). g.given) view }
 
 -- what was given is below the number of nodes
 pub given_below : (old : Seen) (st : State) (hs : List (Option ℕ)) (a : ℕ) (ns : List ℕ) → seen st hs a ≡ old → All (λ n. is_given old n ≡ true) ns → All (λ n. n < a) ns
@@ -508,12 +501,8 @@ below_given old st hs a n view l = sym (ap (λ (g : Seen). nat_lt n g.given) vie
     under : (m : ℕ) → m < a → nat_lt m a ≡ true
     under m q = grind (arith, nat_tests)
 
--- nothing was given at first
-pub none_below : (n : ℕ) → nat_lt n 0 ≡ false
-none_below n = grind (arith, nat_tests)
-
 -- each name in use was given
-used_here : (xs : List Node) (t : Seating) (g l w : ℕ) → Holds xs t g w → AreGiven (is_given (seen (state_of xs g l w) t.holders (length xs))) (signals_of xs) (memos_of g xs)
+pub used_here : (xs : List Node) (t : Seating) (g l w : ℕ) → Holds xs t g w → AreGiven (is_given (seen (state_of xs g l w) t.holders (length xs))) (signals_of xs) (memos_of g xs)
 unfolding is_given
 used_here xs t g l w h = record {
   names = λ n q. under n (live_below xs n (sym (live_here xs n) ∙ q));
@@ -532,18 +521,17 @@ used_here xs t g l w h = record {
         go (CellBody v r) q = cc
         go (ComputedBody d) q = let same : record { name = n; recipe = d.recipe } ≡ c = cc in ap (λ (z : Computed). z.recipe.slots) same
 
--- a making gives an id that wasn't given, where each name in use was
-pub gives : (old : Seen) (st' : State) (xs : List Node) (t : Seating) (hs' : List (Option ℕ)) (g l w b n : ℕ) → seen (state_of xs g l w) t.holders (length xs) ≡ old → n ≡ length xs → length xs < b → Holds xs t g w →
-    Gives old (seen st' hs' b) n
+-- a making gives the next id, where each name in use was given
+pub makes : (old : Seen) (st' after : State) (xs : List Node) (t : Seating) (hs' : List (Option ℕ)) (g l w b n : ℕ) → seen (state_of xs g l w) t.holders (length xs) ≡ old → n ≡ length xs → b ≡ length xs + 1 → st' ≡ after → Holds xs t g w →
+    Makes old (seen st' hs' b) n after
 unfolding is_given
-gives old st' xs t hs' g l w b n view id lt h = record {
-  before = sym (ap (λ (z : Seen). nat_lt n z.given) view) ∙ ap (λ m. nat_lt m (length xs)) id ∙ itself (length xs);
-  after = ap (λ m. nat_lt m b) id ∙ under (length xs) lt;
+makes old st' after xs t hs' g l w b n view is more e h = record {
+  id = is ∙ ap (λ (z : Seen). z.given) view;
+  given = more ∙ ap (λ (z : Seen). z.given + 1) view;
+  state = e;
+  fresh = sym (ap (λ (z : Seen). nat_lt n z.given) view) ∙ ap (λ m. nat_lt m (length xs)) is ∙ itself (length xs);
   used = subst (λ (o : Seen). AreGiven (is_given o) o.state.signals o.state.memos) view (used_here xs t g l w h);
 }
   where
     itself : (m : ℕ) → nat_lt m m ≡ false
     itself m = grind (arith, nat_tests)
-
-    under : (m : ℕ) → m < b → nat_lt m b ≡ true
-    under m q = grind (arith, nat_tests)

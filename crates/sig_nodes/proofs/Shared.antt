@@ -1,9 +1,40 @@
--- What crates above may cite of these proofs: how the progress of evaluations changes.
-use Rattle.std.proofs.Common.{◌≡◌, ℕ, ◌==◌, Bool, true, false, cond, List, [], ◌∷◌, Option, Some, None, refl, sym, ap, ◌∙◌}
+-- What crates above may cite of these proofs: which ids are given, and how the progress of evaluations changes.
+use Rattle.std.proofs.Common.{◌≡◌, ℕ, ◌+◌, ◌==◌, nat_lt, arith, Bool, true, false, cond, List, [], ◌∷◌, Option, Some, None, refl, sym, ap, ◌∙◌}
 use Rattle.std.proofs.lemmas.Bool.{eqb-true}
+use Rattle.std.proofs.lemmas.Bool.Decides.{nat_tests}
 use Rattle.sig_base.specs.declared.value.Known.{Known}
 use Rattle.signal_model.specs.Standing.{changed}
-use Rattle.sig_nodes.specs.States.{Progress, State, progress_at, with_progress}
+use Rattle.sig_nodes.specs.States.{Progress, Seen, State, Makes, is_given, progress_at, with_progress}
+
+-- ---- ids
+
+-- the ids that were given are the numbers below their count
+pub given_is : (g : Seen) (n : ℕ) → is_given g n ≡ nat_lt n g.given
+unfolding is_given
+given_is g n = refl
+
+-- where no id is given, the same ones were given
+pub given_same : (old new : Seen) (n : ℕ) → new.given ≡ old.given → is_given new n ≡ is_given old n
+unfolding is_given
+given_same old new n e = ap (nat_lt n) e
+
+-- an id that is made is given then
+pub given_made : (old new : Seen) (n : ℕ) (after : State) → Makes old new n after → is_given new n ≡ true
+unfolding is_given
+given_made old new n after m = go n old.given new.given m.id m.given
+  where
+    go : (i a b : ℕ) → i ≡ a → b ≡ a + 1 → nat_lt i b ≡ true
+    go i a b e more = grind (arith, nat_tests)
+
+-- and the others stay given
+pub given_more : (old new : Seen) (n : ℕ) (after : State) → Makes old new n after → (k : ℕ) → is_given old k ≡ true → is_given new k ≡ true
+unfolding is_given
+given_more old new n after m k = go k old.given new.given m.given
+  where
+    go : (i a b : ℕ) → b ≡ a + 1 → nat_lt i a ≡ true → nat_lt i b ≡ true
+    go i a b more h = grind (arith, nat_tests)
+
+-- ---- progress
 
 -- a step of another evaluation
 pub progress_other : (s : State) (n m : ℕ) (k : Option (List Known)) → (m == n) ≡ false → progress_at m (with_progress s n k).progress ≡ progress_at m s.progress

@@ -7,7 +7,7 @@ use Rattle.sig_base.specs.declared.value.Step.TheVariants.{Read, Fail}
 use Rattle.sig_base.specs.declared.value.Fault.TheVariants as fault
 use Rattle.sig_formula.specs.Trees.{tree}
 use Rattle.signal_model.specs.Recipes as recipes
-use Rattle.signal_model.specs.Recipes.{Hosts, recipe_answer, IsUnknownSlot}
+use Rattle.signal_model.specs.Recipes.{Hosts, recipe_answer, IsJudged}
 use Rattle.signal_model.specs.Standing.{Stands, IsGone, IsCell, IsComputed}
 use Rattle.signal_model.specs.Memos.{Source, differs}
 use Rattle.signal_model.specs.Marks as marks
@@ -64,11 +64,6 @@ kind_here (IsComputed c) b = computed_kind b
 abbrev pub answer_here : Hosts → Stands → List Known → Step
 answer_here hosts (IsComputed c) known = recipe_answer hosts c.recipe known
 answer_here hosts _ known = Fail fault.Gone
-
--- what is read is a slot below so many that isn't known
-abbrev pub IsJudged : ℕ → List Known → Step → Type 0
-IsJudged count known (Read s) = IsUnknownSlot count s known
-IsJudged count known _ = Unit {0}
 
 -- the same of the answer as a graph gives it
 abbrev pub IsJudgedAnswer : ℕ → List Known → Asked → Type 0

@@ -6,7 +6,7 @@ use Rattle.sig_base.specs.declared.value.Known.{Known}
 use Rattle.signal_model.specs.Recipes.{Recipe}
 use Rattle.signal_model.specs.Standing.{Signals, Cell, Computed, Stands, IsCell, is_there, standing, changed, without}
 use Rattle.signal_model.specs.Memos.{Memos, named_now}
-use Rattle.signal_model.specs.Kept.{AreGiven, StayGiven}
+use Rattle.signal_model.specs.Kept.{AreGiven}
 use Rattle.signal_model.specs.Settling.{with_memo}
 use Rattle.signal_model.specs.Changes.{no_signals, no_memos, with_cell, with_computed, after_making, with_value, after_change, with_recipe, after_rewiring, without_signal, after_disposal}
 
@@ -23,7 +23,8 @@ pub record State : Type 0 where
   pub looked : ℕ
   pub worn : ℕ
 
--- What callers see of a graph: its state; the live signal that has each seat, none where the seat is free; and which ids were given.
+-- What callers see of a graph: its state; the live signal that has each seat, none where the seat is free; and how many ids were given,
+-- which are the numbers below that.
 pub record Seen : Type 0 where
   pub state : State
   pub seats : List (Option ℕ)
@@ -32,15 +33,6 @@ pub record Seen : Type 0 where
 -- whether the graph gave this id, be the signal gone or not
 unfoldable pub is_given : Seen → ℕ → Bool
 is_given g n = nat_lt n g.given
-
--- what was given stays given
-pub stays_given : (old new : Seen) → old.given ≡ new.given → (n : ℕ) → is_given old n ≡ true → is_given new n ≡ true
-unfolding is_given
-stays_given old new e n h = rw e at h
-
--- how many signals live
-abbrev pub live_count : Signals → ℕ
-live_count w = length w.cells + length w.computeds
 
 -- whether a cell stands there
 abbrev pub is_cell : Stands → Bool
@@ -121,13 +113,16 @@ with_kept_run s n o reads =
 abbrev pub with_look : State → State
 with_look s = record s { looked = counted s.looked }
 
--- An edit: the graph's state afterwards is this one, and what was given stays given.
+-- An edit that makes nothing: the graph's state afterwards is this one, and no id is given.
 pub record Becomes (old new : Seen) (after : State) : Type 0 where
   pub state : new.state ≡ after
-  pub given : StayGiven (is_given old) (is_given new)
+  pub given : new.given ≡ old.given
 
--- A making gives an id that wasn't given before; each name in use was.
-pub record Gives (old new : Seen) (n : ℕ) : Type 0 where
-  pub before : is_given old n ≡ false
-  pub after : is_given new n ≡ true
+-- A making: the next id is given, which is the number of those before it, and the graph's state afterwards is this one. Each name in use
+-- was given before.
+pub record Makes (old new : Seen) (n : ℕ) (after : State) : Type 0 where
+  pub id : n ≡ old.given
+  pub given : new.given ≡ old.given + 1
+  pub state : new.state ≡ after
+  pub fresh : is_given old n ≡ false
   pub used : AreGiven (is_given old) old.state.signals old.state.memos

@@ -1,12 +1,12 @@
 // What the nodes of a graph answer about the signal at one place. Past the last place nothing lives.
 ghost use Rattle.std.specs.Prelude.{◌≡◌, ◌<◌, ◌∷◌, ◌||◌, ◌&&◌, not, length, map, is_some, true, false, None, Some, IfOk, IfSome, IfNone, slice_get};
 ghost use Rattle.std.specs.Option.{option_copied};
-ghost use Rattle.signal_model.specs.Recipes.{Hosts};
+ghost use Rattle.signal_model.specs.Recipes.{Hosts, IsJudged};
 ghost use Rattle.signal_model.specs.Standing.{is_computed};
 ghost use Rattle.signal_model.specs.Memos.{is_stale_by, same_number, source_names, sources_in};
 ghost use Rattle.signal_model.specs.Sound.{kept_outcome};
 ghost use Rattle.sig_nodes.specs.declared.node.Body.TheVariants as body;
-ghost use Rattle.sig_nodes.specs.Answers.{answer_here, host_here, kind_here, rule_here, slots_here, value_here, IsJudged};
+ghost use Rattle.sig_nodes.specs.Answers.{answer_here, host_here, kind_here, rule_here, slots_here, value_here};
 ghost use Rattle.sig_nodes.specs.Nodes.{are_live_bodies, body_at, change_at, has_moved_body, is_computed_body, is_live_body, known_body, memo_body, number_at, number_body, seat_at, slots_body, stands_of};
 ghost use Rattle.sig_nodes.specs.Computations.{at_generation};
 

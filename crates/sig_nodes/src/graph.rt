@@ -2,11 +2,12 @@
 ghost use Rattle.std.specs.Prelude.{◌≡◌, ℕ, ◌+◌, ◌<◌, ◌↔◌, ◌∷◌, [], length, true, false, None, Some, IfOk, IfErr, IsErr, IsErrOf, OnOk, OnErr};
 ghost use Rattle.std.specs.List.{All};
 ghost use Rattle.signal_model.specs.Standing.{is_there, standing};
+ghost use Rattle.signal_model.specs.Changes.{live_count};
 ghost use Rattle.sig_nodes.specs.declared.errors.NodeFault.TheVariants as fault;
 ghost use Rattle.sig_nodes.specs.Answers.{expression_of, host_here, value_here};
 ghost use Rattle.sig_nodes.specs.Computations.{recipe_made};
 ghost use Rattle.sig_nodes.specs.Nodes.{with_new, IsFresh, slots_body};
-ghost use Rattle.sig_nodes.specs.States.{are_there, is_cell, is_computing, is_given, live_count, no_state, with_disposal, with_new_cell, with_new_computed, with_rewiring, with_set, Becomes, CanWear, Gives};
+ghost use Rattle.sig_nodes.specs.States.{are_there, is_cell, is_computing, is_given, no_state, with_disposal, with_new_cell, with_new_computed, with_rewiring, with_set, Becomes, CanWear, Makes};
 
 use crate::answers::Recipe;
 use crate::bodies::{host_at, is_linkable_at, is_live_at, seat_at};
@@ -51,7 +52,7 @@ impl Graph {
     /// No signals.
     pub fn new(alloc: Global) -> Result<Graph, NoMemory>
         ensures state { IfOk result (λ g. g.state ≡ no_state) }
-        ensures given { IfOk result (λ g. (n : ℕ) → is_given g n ≡ false) }
+        ensures given { IfOk result (λ g. g.given ≡ 0) }
     {
         Ok(Graph {
             alloc,
@@ -68,8 +69,7 @@ impl Graph {
         requires fresh { IsFresh body }
         requires given { All (λ n. is_given self.old n ≡ true) (slots_body body) }
         requires worn { CanWear self.old.state }
-        ensures after { IfOk result (λ id. Becomes self.old self.new (with_new self.old.state id body)) }
-        ensures gives { IfOk result (λ id. Gives self.old self.new id) }
+        ensures after { IfOk result (λ id. Makes self.old self.new id (with_new self.old.state id body)) }
         ensures limit { IsErrOf result fault.Limit ↔ (live_count self.old.state.signals ≡ MOST_NODES) }
         ensures fault { IsErrOf result fault.Gone → ⊥ }
         ensures err { OnErr result (self.new ≡ self.old) }
@@ -90,13 +90,12 @@ impl Graph {
         Ok(id)
     }
 
-    /// Makes a cell of a value and the place of an equality rule. It is refused where as many signals live as may be; after a
-    /// refusal the graph is as before.
+    /// Makes a cell of a value and the place of an equality rule. Its id is the number of signals that were made before. It is
+    /// refused where as many signals live as may be; after a refusal the graph is as before.
     pub fn add_cell(&mut self, value: Value, rule: Option<usize>) -> Result<NodeId, NodeFault>
         requires { CanWear self.old.state }
         ensures after { IfOk result (λ id.
-            Becomes self.old self.new (with_new_cell self.old.state (record { name = id; value = value; rule = rule }))) }
-        ensures gives { IfOk result (λ id. Gives self.old self.new id) }
+            Makes self.old self.new id (with_new_cell self.old.state (record { name = id; value = value; rule = rule }))) }
         ensures limit { IsErrOf result fault.Limit ↔ (live_count self.old.state.signals ≡ MOST_NODES) }
         ensures fault { IsErrOf result fault.Gone → ⊥ }
         ensures err { OnErr result (self.new ≡ self.old) }
@@ -104,15 +103,14 @@ impl Graph {
         self.add(Body::Cell(value, rule))
     }
 
-    /// Makes a computed of what it asks and of the signals that its slots stand for. It is refused where as many signals live as
-    /// may be; after a refusal the graph is as before.
+    /// Makes a computed of what it asks and of the signals that its slots stand for. Its id is the number of signals that were made
+    /// before. It is refused where as many signals live as may be; after a refusal the graph is as before.
     pub fn add_computed(&mut self, recipe: Recipe, slots: Vec<NodeId>) -> Result<NodeId, NodeFault>
         requires given { All (λ n. is_given self.old n ≡ true) slots.items }
         requires worn { CanWear self.old.state }
         ensures after { IfOk result (λ id.
-            Becomes self.old self.new (with_new_computed self.old.state
+            Makes self.old self.new id (with_new_computed self.old.state
             (record { name = id; recipe = recipe_made (expression_of recipe) slots.items }))) }
-        ensures gives { IfOk result (λ id. Gives self.old self.new id) }
         ensures limit { IsErrOf result fault.Limit ↔ (live_count self.old.state.signals ≡ MOST_NODES) }
         ensures fault { IsErrOf result fault.Gone → ⊥ }
         ensures err { OnErr result (self.new ≡ self.old) }

@@ -3,11 +3,13 @@ ghost use Rattle.std.specs.Prelude.{ℕ, ◌≡◌, ◌<◌, true, false, Some, 
 ghost use Rattle.std.specs.Option.{option_copied};
 ghost use Rattle.signal_model.specs.Standing.{is_computed, is_there, standing};
 ghost use Rattle.signal_model.specs.Memos.{memo_of, source_names, sources_of};
+ghost use Rattle.signal_model.specs.Kept.{AreGiven};
 ghost use Rattle.signal_model.specs.Sound.{kept_outcome};
 ghost use Rattle.signal_model.specs.Marks.{mark_of};
+ghost use Rattle.signal_model.specs.Changes.{live_count};
 ghost use Rattle.sig_nodes.specs.Answers.{kind_here, mark_meant, rule_here, slots_here, value_here};
 ghost use Rattle.sig_nodes.specs.Seats.{holder};
-ghost use Rattle.sig_nodes.specs.States.{is_computing, is_given, live_count};
+ghost use Rattle.sig_nodes.specs.States.{is_computing, is_given};
 
 use crate::answers::{Mark, Standing};
 use crate::bodies::{kept_at, rule_at, seat_at, slot_at, sources_at, standing_at, value_at};
@@ -21,6 +23,14 @@ impl Graph {
         ensures { result ≡ live_count self.now.state.signals }
     {
         MOST_NODES - self.seats.free()
+    }
+
+    /// How many signals were made so far, gone ones too. Each id that is in use is one of theirs.
+    pub fn made(&self) -> u128
+        ensures count { result ≡ self.now.given }
+        ensures used { AreGiven (is_given self.now) self.now.state.signals self.now.state.memos }
+    {
+        self.nodes.len() as u128
     }
 
     /// The seat of a live signal, which no other live signal has.

@@ -1,19 +1,20 @@
 // One signal's node.
 ghost use Rattle.std.specs.Prelude.{◌≡◌, ℕ, ◌+◌, ◌<◌, ◌^◌, ◌++◌, ◌∷◌, [], List, length, take, true, false, None, Some, IfOk, IfSome, IfNone, OnOk, is_some, slice_get, if◌then◌else◌};
 ghost use Rattle.std.specs.Option.{option_copied};
-ghost use Rattle.signal_model.specs.Recipes.{Hosts};
+ghost use Rattle.signal_model.specs.Recipes.{Hosts, IsJudged};
 ghost use Rattle.signal_model.specs.Recipes as recipes;
 ghost use Rattle.signal_model.specs.Memos.{is_cycle, is_stale_by, memo_is_cycle, source_names, sources_in};
 ghost use Rattle.signal_model.specs.Sound.{kept_outcome};
 ghost use Rattle.signal_model.specs.Settling.{has_outcome};
 ghost use Rattle.signal_model.specs.Changes.{memo_rewired};
 ghost use Rattle.sig_nodes.specs.States.{GoesOn};
-ghost use Rattle.sig_nodes.specs.Answers.{expression_of, host_place, IsJudged};
+ghost use Rattle.sig_nodes.specs.Answers.{expression_of, host_place};
 ghost use Rattle.sig_nodes.specs.Computations.{at_generation, paired, recipe_made};
 
 use crate::answers::Recipe;
 use sig_base::{Fault, Known, NoMemory, NodeId, Outcome, Step, Value};
 use sig_formula::step;
+use signal_model::judged;
 use std::alloc::Global;
 use std::marker::Model;
 
@@ -347,35 +348,5 @@ fn given_answer(alloc: Global, recipe: &Recipe, known: &[Known]) -> Result<Step,
 {
     match recipe {
         Recipe::Formula(formula) => step(alloc, formula, None, known),
-    }
-}
-
-fn is_known(slot: u32, known: &[Known]) -> bool
-    ensures { result ≡ recipes.is_known slot known.now }
-{
-    for one in known {
-        if one.slot == slot {
-            return true;
-        }
-    }
-    false
-}
-
-// A read outside of so many slots is the fault `slot`, and one of a known slot is `twice`.
-fn judged(count: usize, known: &[Known], step: Step) -> Step
-    ensures answer { result ≡ recipes.judged count known.now step }
-    ensures judged { IsJudged count known.now result }
-{
-    match step {
-        Step::Read(slot) => {
-            if slot as usize >= count {
-                Step::Fail(Fault::Slot)
-            } else if is_known(slot, known) {
-                Step::Fail(Fault::Twice)
-            } else {
-                Step::Read(slot)
-            }
-        }
-        other => other,
     }
 }

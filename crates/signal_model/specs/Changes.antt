@@ -13,9 +13,9 @@ no_signals = record { cells = []; computeds = [] }
 abbrev pub no_memos : Memos
 no_memos = record { generation = 0; entries = [] }
 
--- how many signals were made, where none was disposed: the number of the next one
-abbrev pub made : Signals → ℕ
-made w = length w.cells + length w.computeds
+-- how many signals stand
+abbrev pub live_count : Signals → ℕ
+live_count w = length w.cells + length w.computeds
 
 -- a cell is made
 abbrev pub with_cell : Signals → Cell → Signals

@@ -54,3 +54,8 @@ recipe_answer hosts r known = judged (length r.slots) known (given_answer hosts 
 pub record IsUnknownSlot (count s : ℕ) (known : List Known) : Type 0 where
   pub inside : s < count
   pub unknown : is_known s known ≡ false
+
+-- what is read is a slot below so many that isn't known
+abbrev pub IsJudged : ℕ → List Known → Step → Type 0
+IsJudged count known (Read s) = IsUnknownSlot count s known
+IsJudged count known _ = Unit {0}

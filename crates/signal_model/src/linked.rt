@@ -1,7 +1,11 @@
 // Formulas whose slots stand for signals.
+ghost use Rattle.std.specs.Prelude.{◌≡◌, length, None, IfOk};
+ghost use Rattle.signal_model.specs.Recipes.{Hosts, given_answer, recipe_answer, IsJudged};
 
-use sig_base::NodeId;
-use sig_formula::Formula;
+use crate::answers::judged;
+use sig_base::{Known, NoMemory, NodeId, Step};
+use sig_formula::{Formula, step};
+use std::alloc::Global;
 use std::marker::Model;
 
 /// A formula over slots, and the signals that its slots stand for, in order.
@@ -22,4 +26,16 @@ impl Model for Linked {
     ghost coded = { Prim.hlevel (codes, tree_code) };
 
     ghost view = { λ f. formula_recipe (tree f.formula) f.slots.items };
+}
+
+impl Linked {
+    /// What the formula answers to the values of its slots that are known so far: a slot whose value it needs next and doesn't
+    /// know, a value, or a fault.
+    pub fn answer(&self, alloc: Global, known: &[Known]) -> Result<Step, NoMemory>
+        ensures answer { (hosts : Hosts) → IfOk result (λ s. s ≡ recipe_answer hosts self.now known.now) }
+        ensures judged { IfOk result (λ s. IsJudged (length self.now.slots) known.now s) }
+    {
+        let step = step(alloc, &self.formula, None, known)?;
+        Ok(judged(self.slots.len(), known, step))
+    }
 }

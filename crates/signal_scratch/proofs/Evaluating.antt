@@ -13,7 +13,7 @@ use Rattle.signal_model.specs.Standing.{Signals, Cell, Computed, IsGone, IsCell,
 use Rattle.signal_model.specs.Values.{asked_from, recipe_value, value_of}
 use Rattle.signal_model.proofs.Shared.{path_law, tested, value_cell, value_gone, value_in, value_run}
 use Rattle.signal_scratch.specs.Asking.{AreRight, AreSources, Comes, Gives, IsRightAlong, reached, waiting}
-use Rattle.signal_model.specs.Changes.{made}
+use Rattle.signal_model.specs.Changes.{live_count}
 use Rattle.signal_scratch.specs.Outcomes.{IsOf, IsRight}
 use Rattle.signal_scratch.specs.declared.values.Progress.{Progress}
 use Rattle.signal_scratch.specs.declared.values.Progress.TheVariants.{Waiting, Running, Ended}

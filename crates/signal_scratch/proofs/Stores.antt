@@ -7,7 +7,7 @@ use Rattle.sig_base.specs.declared.value.Value.{Value}
 use Rattle.signal_model.specs.Changes.{with_cell, with_computed, with_value}
 use Rattle.signal_model.specs.Recipes.{Recipe}
 use Rattle.signal_model.specs.Standing.{Cell, IsGone, changed, cell_at, computed_at, or_computed, standing}
-use Rattle.signal_model.specs.Changes.{made}
+use Rattle.signal_model.specs.Changes.{live_count}
 use Rattle.signal_scratch.specs.Stores.{cells_from, computeds_from, signals_of, stands_as, is_cell}
 use Rattle.signal_scratch.specs.declared.store.Signal.{Signal}
 use Rattle.signal_scratch.specs.declared.store.Signal.TheVariants as signal
@@ -18,7 +18,7 @@ counted n (signal.Cell v ∷ ss) = let h = counted (n + 1) ss in omega arith
 counted n (signal.Computed r ∷ ss) = let h = counted (n + 1) ss in omega arith
 
 -- as many were made as there are
-pub made_all : (ss : List Signal) → made (signals_of ss) ≡ length ss
+pub made_all : (ss : List Signal) → live_count (signals_of ss) ≡ length ss
 made_all ss = counted 0 ss
 
 cells_cell : (n m : ℕ) (ss : List Signal) (v : Value) → m ≡ n + length ss → cells_from n (ss ++ signal.Cell v ∷ []) ≡ cells_from n ss ++ record { name = m; value = v; rule = None } ∷ []
@@ -42,16 +42,16 @@ computeds_cell n (signal.Cell u ∷ ss) v = computeds_cell (n + 1) ss v
 computeds_cell n (signal.Computed q ∷ ss) v = ap (λ cs. record { name = n; recipe = q } ∷ cs) (computeds_cell (n + 1) ss v)
 
 -- a cell more
-pub cell_made : (ss : List Signal) (v : Value) → signals_of (ss ++ signal.Cell v ∷ []) ≡ with_cell (signals_of ss) (record { name = made (signals_of ss); value = v; rule = None })
+pub cell_made : (ss : List Signal) (v : Value) → signals_of (ss ++ signal.Cell v ∷ []) ≡ with_cell (signals_of ss) (record { name = live_count (signals_of ss); value = v; rule = None })
 cell_made ss v =
-    let e : made (signals_of ss) ≡ 0 + length ss = omega (arith, made_all ss) in
-    λ i. record { cells = cells_cell 0 (made (signals_of ss)) ss v e i; computeds = computeds_cell 0 ss v i }
+    let e : live_count (signals_of ss) ≡ 0 + length ss = omega (arith, made_all ss) in
+    λ i. record { cells = cells_cell 0 (live_count (signals_of ss)) ss v e i; computeds = computeds_cell 0 ss v i }
 
 -- a computed more
-pub computed_made : (ss : List Signal) (r : Recipe) → signals_of (ss ++ signal.Computed r ∷ []) ≡ with_computed (signals_of ss) (record { name = made (signals_of ss); recipe = r })
+pub computed_made : (ss : List Signal) (r : Recipe) → signals_of (ss ++ signal.Computed r ∷ []) ≡ with_computed (signals_of ss) (record { name = live_count (signals_of ss); recipe = r })
 computed_made ss r =
-    let e : made (signals_of ss) ≡ 0 + length ss = omega (arith, made_all ss) in
-    λ i. record { cells = cells_computed 0 ss r i; computeds = computeds_computed 0 (made (signals_of ss)) ss r e i }
+    let e : live_count (signals_of ss) ≡ 0 + length ss = omega (arith, made_all ss) in
+    λ i. record { cells = cells_computed 0 ss r i; computeds = computeds_computed 0 (live_count (signals_of ss)) ss r e i }
 
 -- a cell with another value
 abbrev valued : Value → Cell → Cell

@@ -3,7 +3,7 @@ use Rattle.std.specs.Prelude.{◌≡◌, ℕ, List, [], length, slice_index_or}
 use Rattle.signal_model.specs.Recipes.{Hosts}
 use Rattle.signal_model.specs.Standing.{Signals}
 use Rattle.signal_model.specs.Values.{value_of}
-use Rattle.signal_model.specs.Changes.{made}
+use Rattle.signal_model.specs.Changes.{live_count}
 use Rattle.signal_scratch.specs.declared.values.Progress.{Progress}
 use Rattle.signal_scratch.specs.declared.values.Progress.TheVariants.{Waiting, Running, Ended}
 
@@ -15,5 +15,5 @@ IsRight w n (Ended o) = (hosts : Hosts) → o ≡ value_of hosts w n []
 
 -- of the outcomes that are known of some signals: there is a place for each signal, and each outcome is the value from scratch
 pub record IsOf (w : Signals) (outcomes : List Progress) : Type 0 where
-  pub each : length outcomes ≡ made w
+  pub each : length outcomes ≡ live_count w
   pub right : (n : ℕ) → IsRight w n (slice_index_or outcomes n Waiting)

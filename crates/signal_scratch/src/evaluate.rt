@@ -1,7 +1,7 @@
 // The evaluation of what is asked for, along the reads.
 ghost use Rattle.std.specs.Prelude.{◌≡◌, ◌<◌, length, slice_index, slice_index_or, IfOk, OnOk};
 ghost use Rattle.signal_model.specs.Recipes.{Hosts, recipe_answer};
-ghost use Rattle.signal_model.specs.Changes.{made};
+ghost use Rattle.signal_model.specs.Changes.{live_count};
 ghost use Rattle.signal_scratch.specs.declared.values.Progress.TheVariants.{Waiting};
 ghost use Rattle.signal_scratch.specs.Asking.{Comes, Gives, reached, within};
 
@@ -64,7 +64,7 @@ pub(crate) fn evaluate(
     outcomes: &mut [Progress],
     id: NodeId,
 ) -> Result<Outcome, NoMemory>
-    requires { length outcomes.old ≡ made store.now }
+    requires { length outcomes.old ≡ live_count store.now }
     ensures { IfOk result (λ o. Comes store.now id outcomes.old outcomes.new o) }
 {
     let linked = match store.signal(id) {
@@ -90,7 +90,7 @@ pub(crate) fn ask(
     outcomes: &mut [Progress],
     linked: &Linked,
 ) -> Result<Outcome, NoMemory>
-    requires { length outcomes.old ≡ made store.now }
+    requires { length outcomes.old ≡ live_count store.now }
     ensures { IfOk result (λ o. Gives store.now linked.now outcomes.old outcomes.new o) }
 {
     let mut known: Vec<Known> = Vec::new(alloc);

@@ -2,7 +2,7 @@
 ghost use Rattle.std.specs.Prelude.{◌≡◌, ◌<◌, None, IfOk, OnOk, OnErr, IfSome, IfNone};
 ghost use Rattle.signal_model.specs.Changes.{no_signals, with_cell, with_computed, with_value};
 ghost use Rattle.signal_model.specs.Standing.{IsGone, standing};
-ghost use Rattle.signal_model.specs.Changes.{made};
+ghost use Rattle.signal_model.specs.Changes.{live_count};
 ghost use Rattle.signal_scratch.specs.Stores.{is_cell, stands_as};
 
 use crate::table::put;
@@ -50,15 +50,15 @@ impl Store {
 
     /// How many signals were made: the number of the next one.
     pub fn len(&self) -> usize
-        ensures { result ≡ made self.now }
+        ensures { result ≡ live_count self.now }
     {
         self.signals.len()
     }
 
     /// Makes a cell of a value, and gives its number. Without memory nothing changes.
     pub fn add_cell(&mut self, value: Value) -> Result<NodeId, NoMemory>
-        ensures number { IfOk result (λ id. id ≡ made self.old) }
-        ensures ok { OnOk result (self.new ≡ with_cell self.old (record { name = made self.old; value = value; rule = None })) }
+        ensures number { IfOk result (λ id. id ≡ live_count self.old) }
+        ensures ok { OnOk result (self.new ≡ with_cell self.old (record { name = live_count self.old; value = value; rule = None })) }
         ensures err { OnErr result (self.new ≡ self.old) }
     {
         let id = NodeId::of(self.signals.len() as u128);
@@ -68,8 +68,8 @@ impl Store {
 
     /// Makes a computed of a formula, and gives its number. Without memory nothing changes.
     pub fn add_computed(&mut self, linked: Linked) -> Result<NodeId, NoMemory>
-        ensures number { IfOk result (λ id. id ≡ made self.old) }
-        ensures ok { OnOk result (self.new ≡ with_computed self.old (record { name = made self.old; recipe = linked })) }
+        ensures number { IfOk result (λ id. id ≡ live_count self.old) }
+        ensures ok { OnOk result (self.new ≡ with_computed self.old (record { name = live_count self.old; recipe = linked })) }
         ensures err { OnErr result (self.new ≡ self.old) }
     {
         let id = NodeId::of(self.signals.len() as u128);
@@ -93,7 +93,7 @@ impl Store {
     // The signal under a number.
     pub(crate) fn signal(&self, id: NodeId) -> Option<&Signal>
         ensures some { IfSome result (λ s. standing self.now id ≡ stands_as id s.now) }
-        ensures below { IfSome result (λ _. id < made self.now) }
+        ensures below { IfSome result (λ _. id < live_count self.now) }
         ensures none { IfNone result (standing self.now id ≡ IsGone) }
     {
         if id.number() < self.signals.len() as u128 {

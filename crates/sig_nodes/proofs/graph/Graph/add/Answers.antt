@@ -4,12 +4,11 @@ use Rattle.sig_nodes.specs.States.{Seen}
 use Rattle.sig_nodes.specs.Seats.{Seating}
 use Rattle.sig_nodes.specs.Places.{Holds}
 use Rattle.sig_nodes.specs.Nodes.{slots_body, state_of}
-use Rattle.sig_nodes.proofs.Holding.{became, given_below}
 use Rattle.std.proofs.Common.{length-append}
 use Rattle.sig_nodes.specs.Nodes.{new_node, with_new}
 use Rattle.sig_nodes.specs.Seats.{with_taken}
 use Rattle.sig_nodes.proofs.Edits.{new_state}
-use Rattle.sig_nodes.proofs.Holding.{gives, in_all, new_holds}
+use Rattle.sig_nodes.proofs.Holding.{given_below, in_all, makes, new_holds}
 use Rattle.sig_nodes.proofs.graph.Graph.add.Goals as goal
 
 pub invariant_of-self-2 : goal.invariant_of-self-2
@@ -39,22 +38,8 @@ returns-clause-after c =
     let kept = ap length c.in_ok-reserve.ensures.items in
     let number = c.of-id.ensures in
     let count = c.len.ensures in
-    let id : length xs ≡ c.of-id.result = omega (arith, kept, number, count) in
-    let len = ap length items ∙ length-append xs (new_node c.take-seat.result c.args.body ∷ []) in
-    became c.args.self.now (state_of xs g l w) (state_of ys g l (w + 1)) (with_new c.args.self.now.state c.of-id.result c.args.body) c.self.inside.seats.holders c.take-seat.new.self.holders (length xs) (length ys) c.self.view_is (omega (arith, len))
-    (ap (λ zs. state_of zs g l (w + 1)) items ∙ new_state xs c.take-seat.result c.args.body g l w c.requires.fresh ∙ ap (λ n. with_new (state_of xs g l w) n c.args.body) id ∙ ap (λ (s : Seen). with_new s.state c.of-id.result c.args.body) c.self.view_is)
-
-pub returns-clause-gives : goal.returns-clause-gives
-returns-clause-gives c =
-    let xs = c.self.inside.nodes.items in
-    let ys = c.push_in.new.all.items in
-    let g = c.self.inside.generation in
-    let l = c.self.inside.looked in
-    let w = c.self.inside.worn in
-    let items = c.push_in.ensures.items ∙ ap (λ (zs : List Node). zs ++ new_node c.take-seat.result c.args.body ∷ []) c.in_ok-reserve.ensures.items in
-    let kept = ap length c.in_ok-reserve.ensures.items in
-    let number = c.of-id.ensures in
-    let count = c.len.ensures in
     let id : c.of-id.result ≡ length xs = omega (arith, kept, number, count) in
     let len = ap length items ∙ length-append xs (new_node c.take-seat.result c.args.body ∷ []) in
-    gives c.args.self.now (state_of ys g l (w + 1)) xs c.self.inside.seats c.take-seat.new.self.holders g l w (length ys) c.of-id.result c.self.view_is id (omega (arith, len)) c.self.invariant
+    makes c.args.self.now (state_of ys g l (w + 1)) (with_new c.args.self.now.state c.of-id.result c.args.body) xs c.self.inside.seats c.take-seat.new.self.holders g l w (length ys) c.of-id.result c.self.view_is id len
+    (ap (λ zs. state_of zs g l (w + 1)) items ∙ new_state xs c.take-seat.result c.args.body g l w c.requires.fresh ∙ ap (λ n. with_new (state_of xs g l w) n c.args.body) (sym id) ∙ ap (λ (s : Seen). with_new s.state c.of-id.result c.args.body) c.self.view_is)
+    c.self.invariant

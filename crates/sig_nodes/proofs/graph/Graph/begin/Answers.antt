@@ -28,7 +28,7 @@ returns-clause-after c =
     let l = c.self.inside.looked in
     let w = c.self.inside.worn in
     let len = ap length c.begin_at.ensures ∙ changed_length (known_node (Some [])) c.args.id xs in
-    became c.args.self.now (state_of xs g l w) (state_of ys g l w) (with_progress c.args.self.now.state c.args.id (Some [])) c.self.inside.seats.holders c.self.inside.seats.holders (length xs) (length ys) c.self.view_is (omega (arith, len))
+    became c.args.self.now (state_of xs g l w) (state_of ys g l w) (with_progress c.args.self.now.state c.args.id (Some [])) c.self.inside.seats.holders c.self.inside.seats.holders (length xs) (length ys) c.self.view_is len
     (ap (λ zs. state_of zs g l w) c.begin_at.ensures ∙ known_state xs c.args.id (Some []) g l w ∙ ap (λ (s : Seen). with_progress s.state c.args.id (Some [])) c.self.view_is)
 
 pub returns-clause-begun : goal.returns-clause-begun

@@ -58,7 +58,7 @@ returns-clause-after c =
     let l = c.self.inside.looked in
     let w = c.self.inside.worn in
     let len = ap length c.dispose_at.ensures ∙ changed_length gone_node c.args.id xs in
-    became c.args.self.now (state_of xs g l w) (state_of ys (g + 1) l (w + 1)) (with_disposal c.args.self.now.state c.args.id) c.self.inside.seats.holders c.leave.new.self.holders (length xs) (length ys) c.self.view_is (omega (arith, len))
+    became c.args.self.now (state_of xs g l w) (state_of ys (g + 1) l (w + 1)) (with_disposal c.args.self.now.state c.args.id) c.self.inside.seats.holders c.leave.new.self.holders (length xs) (length ys) c.self.view_is len
     (ap (λ zs. state_of zs (g + 1) l (w + 1)) c.dispose_at.ensures ∙ gone_state xs c.args.id g l w ∙ ap (λ (s : Seen). with_disposal s.state c.args.id) c.self.view_is)
 
 pub returns-clause-host : goal.returns-clause-host

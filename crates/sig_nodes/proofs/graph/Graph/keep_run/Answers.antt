@@ -45,7 +45,7 @@ returns-clause-after c =
     let made = memo_made c.args.outcome (map (named_now (memos_of g xs)) c.args.reads.items) g in
     let nodes = c.keep_memo_at.ensures ∙ ap (λ (m : Memo). changed_at (run_node m) c.args.id xs) memo in
     let len = ap length nodes ∙ changed_length (run_node made) c.args.id xs in
-    became c.args.self.now (state_of xs g l w) (state_of ys g l (w + 1)) (with_kept_run c.args.self.now.state c.args.id c.args.outcome c.args.reads.items) c.self.inside.seats.holders c.self.inside.seats.holders (length xs) (length ys) c.self.view_is (omega (arith, len))
+    became c.args.self.now (state_of xs g l w) (state_of ys g l (w + 1)) (with_kept_run c.args.self.now.state c.args.id c.args.outcome c.args.reads.items) c.self.inside.seats.holders c.self.inside.seats.holders (length xs) (length ys) c.self.view_is len
     (ap (λ zs. state_of zs g l (w + 1)) nodes ∙ run_state xs c.args.id c.args.outcome c.args.reads.items g l w live ∙ ap (λ (s : Seen). with_kept_run s.state c.args.id c.args.outcome c.args.reads.items) c.self.view_is)
 
 pub returns-clause-seats : goal.returns-clause-seats

@@ -1,4 +1,4 @@
-use Rattle.std.proofs.Common.{List, length, ap, ◌∙◌, arith}
+use Rattle.std.proofs.Common.{List, length, ap, ◌∙◌, refl}
 use Rattle.std.specs.Prelude.{slice_get}
 use Rattle.signal_model.specs.Memos.{sources_in, sources_of}
 use Rattle.sig_nodes.specs.declared.node.Node.{Node}
@@ -21,7 +21,7 @@ returns-clause-after c =
     let g = c.self.inside.generation in
     let w = c.self.inside.worn in
     became c.args.self.now (state_of xs g c.self.inside.looked w) (state_of xs g c.counted-self-inside.result w) (with_look c.args.self.now.state) c.self.inside.seats.holders c.self.inside.seats.holders (length xs) (length xs)
-    c.self.view_is (omega arith) (ap (λ l. state_of xs g l w) c.counted-self-inside.ensures ∙ ap (λ (s : Seen). with_look s.state) c.self.view_is)
+    c.self.view_is refl (ap (λ l. state_of xs g l w) c.counted-self-inside.ensures ∙ ap (λ (s : Seen). with_look s.state) c.self.view_is)
 
 pub returns-clause-seats : goal.returns-clause-seats
 returns-clause-seats c = ap (λ (s : Seen). s.seats) c.self.view_is

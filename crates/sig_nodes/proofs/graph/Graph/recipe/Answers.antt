@@ -10,7 +10,7 @@ use Rattle.sig_nodes.proofs.Edits.{changed_length, known_state}
 use Rattle.sig_nodes.proofs.Holding.{became, known_holds}
 use Rattle.sig_base.specs.declared.value.Known.{Known}
 use Rattle.sig_nodes.specs.declared.answers.Asked.TheVariants as asked
-use Rattle.sig_nodes.specs.Answers.{IsJudged}
+use Rattle.signal_model.specs.Recipes.{IsJudged}
 use Rattle.sig_nodes.specs.States.{GoesOn}
 use Rattle.sig_nodes.proofs.Looking.{known_below, known_slots, known_stands, slots_found}
 use Rattle.sig_nodes.proofs.graph.Graph.recipe.Goals as goal
@@ -65,7 +65,7 @@ returns-clause-after c =
     let known = Some c.args.known.now in
     let nodes = c.in_ok-note_at.ensures.kept ∙ ap (λ (k : Option (List Known)). changed_at (known_node k) c.args.id c.self.inside.nodes.items) c.in_ok-note_at.ensures.noted in
     let len = ap length nodes ∙ changed_length (known_node known) c.args.id xs in
-    became c.args.self.now (state_of xs g l w) (state_of ys g n w) (with_look (with_progress c.args.self.now.state c.args.id known)) c.self.inside.seats.holders c.self.inside.seats.holders (length xs) (length ys) c.self.view_is (omega (arith, len))
+    became c.args.self.now (state_of xs g l w) (state_of ys g n w) (with_look (with_progress c.args.self.now.state c.args.id known)) c.self.inside.seats.holders c.self.inside.seats.holders (length xs) (length ys) c.self.view_is len
     (ap (λ zs. state_of zs g n w) nodes ∙ known_state xs c.args.id known g n w ∙ ap (λ m. with_progress (state_of xs g m w) c.args.id known) c.counted-self-inside.ensures
     ∙ ap (λ (s : Seen). with_look (with_progress s.state c.args.id known)) c.self.view_is)
 

@@ -36,7 +36,7 @@ returns-clause-after c =
     let l = c.self.inside.looked in
     let w = c.self.inside.worn in
     let len = ap length c.set_value_at.ensures.nodes ∙ changed_length (set_node c.args.value) c.args.id xs in
-    became c.args.self.now (state_of xs g l w) (state_of ys (g + 1) l (w + 1)) (with_set c.args.self.now.state c.args.id c.args.value) c.self.inside.seats.holders c.self.inside.seats.holders (length xs) (length ys) c.self.view_is (omega (arith, len))
+    became c.args.self.now (state_of xs g l w) (state_of ys (g + 1) l (w + 1)) (with_set c.args.self.now.state c.args.id c.args.value) c.self.inside.seats.holders c.self.inside.seats.holders (length xs) (length ys) c.self.view_is len
     (ap (λ zs. state_of zs (g + 1) l (w + 1)) c.set_value_at.ensures.nodes ∙ set_state xs c.args.id c.args.value g l w ∙ ap (λ (s : Seen). with_set s.state c.args.id c.args.value) c.self.view_is)
 
 pub returns-clause-before : goal.returns-clause-before

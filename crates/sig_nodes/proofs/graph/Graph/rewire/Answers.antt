@@ -47,7 +47,7 @@ returns-clause-after c =
     let l = c.self.inside.looked in
     let w = c.self.inside.worn in
     let len = ap length c.rewire_at.ensures ∙ changed_length (rewired_node (recipe_made (expression_of c.args.recipe) c.args.slots.items)) c.args.id xs in
-    became c.args.self.now (state_of xs g l w) (state_of ys (g + 1) l (w + 1)) (with_rewiring c.args.self.now.state c.args.id (recipe_made (expression_of c.args.recipe) c.args.slots.items)) c.self.inside.seats.holders c.self.inside.seats.holders (length xs) (length ys) c.self.view_is (omega (arith, len))
+    became c.args.self.now (state_of xs g l w) (state_of ys (g + 1) l (w + 1)) (with_rewiring c.args.self.now.state c.args.id (recipe_made (expression_of c.args.recipe) c.args.slots.items)) c.self.inside.seats.holders c.self.inside.seats.holders (length xs) (length ys) c.self.view_is len
     (ap (λ zs. state_of zs (g + 1) l (w + 1)) c.rewire_at.ensures ∙ rewired_state xs c.args.id (recipe_made (expression_of c.args.recipe) c.args.slots.items) g l w ∙ ap (λ (s : Seen). with_rewiring s.state c.args.id (recipe_made (expression_of c.args.recipe) c.args.slots.items)) c.self.view_is)
 
 pub returns-clause-host : goal.returns-clause-host

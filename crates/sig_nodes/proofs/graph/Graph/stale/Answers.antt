@@ -1,4 +1,4 @@
-use Rattle.std.proofs.Common.{List, length, sym, ap, ◌∙◌, arith}
+use Rattle.std.proofs.Common.{List, length, sym, ap, ◌∙◌, refl}
 use Rattle.signal_model.specs.Memos.{is_stale, is_stale_by}
 use Rattle.sig_nodes.specs.declared.node.Node.{Node}
 use Rattle.sig_nodes.specs.Computations.{at_generation}
@@ -19,7 +19,7 @@ returns-clause-after c =
     let g = c.self.inside.generation in
     let w = c.self.inside.worn in
     became c.args.self.now (state_of xs g c.self.inside.looked w) (state_of xs g c.counted-self-inside.result w) (with_look c.args.self.now.state) c.self.inside.seats.holders c.self.inside.seats.holders (length xs) (length xs)
-    c.self.view_is (omega arith) (ap (λ l. state_of xs g l w) c.counted-self-inside.ensures ∙ ap (λ (s : Seen). with_look s.state) c.self.view_is)
+    c.self.view_is refl (ap (λ l. state_of xs g l w) c.counted-self-inside.ensures ∙ ap (λ (s : Seen). with_look s.state) c.self.view_is)
 
 pub returns-clause-seats : goal.returns-clause-seats
 returns-clause-seats c = ap (λ (s : Seen). s.seats) c.self.view_is

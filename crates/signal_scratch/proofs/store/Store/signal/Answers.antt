@@ -1,6 +1,6 @@
 use Rattle.std.proofs.Common.{◌≡◌, ◌<◌, ◌≤◌, length, get_or, sym, ap, ◌∙◌, arith}
 use Rattle.signal_model.specs.Standing.{Signals, standing}
-use Rattle.signal_model.specs.Changes.{made}
+use Rattle.signal_model.specs.Changes.{live_count}
 use Rattle.signal_scratch.specs.Stores.{stands_as}
 use Rattle.signal_scratch.proofs.Stores.{gone_past, made_all, stands_at}
 use Rattle.signal_scratch.proofs.store.Store.signal.Goals as goal
@@ -13,7 +13,7 @@ returns-then-number-len-clause-some c =
 
 pub returns-then-number-len-clause-below : goal.returns-then-number-len-clause-below
 returns-then-number-len-clause-below c =
-    let e : made c.args.self.now ≡ length c.self.inside.signals.items = ap made (sym c.self.view_is) ∙ made_all c.self.inside.signals.items in
+    let e : live_count c.args.self.now ≡ length c.self.inside.signals.items = ap live_count (sym c.self.view_is) ∙ made_all c.self.inside.signals.items in
     omega (arith, c.number.ensures, c.len.ensures, c.if-number-len.true, e)
 
 pub returns-else-number-len-clause-none : goal.returns-else-number-len-clause-none
