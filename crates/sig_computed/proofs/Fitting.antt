@@ -4,7 +4,7 @@ use Rattle.std.proofs.Common.{Option, Some, None, refl, sym, ap, ◌∙◌, subs
 use Rattle.std.specs.Prelude.{is_some, slice_index}
 use Rattle.std.proofs.Math.Seq.{take-length}
 use Rattle.std.proofs.lemmas.List.{length-take, take-append-le}
-use Rattle.std.proofs.lemmas.List.Elements.{All-nil, All-map}
+use Rattle.std.proofs.lemmas.List.Elements.{All-cons, All-nil, All-map, All-weaker}
 use Rattle.std.specs.List.{All}
 use Rattle.std.proofs.lemmas.Bool.{eqb-true}
 use Rattle.sig_base.specs.declared.value.Known.{Known}
@@ -12,27 +12,30 @@ use Rattle.sig_base.specs.declared.value.Step.{Step}
 use Rattle.sig_base.specs.declared.value.Step.TheVariants.{Read, Done, Fail}
 use Rattle.sig_base.specs.declared.value.Outcome.{Outcome}
 use Rattle.sig_base.specs.declared.value.Outcome.TheVariants.{Good, Bad}
+use Rattle.signal_model.specs.Recipes.{IsJudged}
 use Rattle.signal_model.specs.Standing.{Signals, Computed, Stands, IsGone, IsCell, IsComputed, is_computed, is_in, standing}
 use Rattle.signal_model.specs.Values.{Seen, learnt}
 use Rattle.signal_model.specs.Memos.{Source, Memos, holds_cycle, is_moved, is_stale}
 use Rattle.signal_model.specs.Sound.{names_of, standing_outcome}
 use Rattle.signal_model.proofs.Shared.{tested}
 use Rattle.signal_laws.proofs.Shared.{in_head, or_fst, or_snd}
-use Rattle.sig_nodes.specs.declared.answers.Standing.TheVariants.{Computed as computed_kind}
-use Rattle.sig_nodes.specs.Answers.{kind_here, slots_here, IsJudged}
+use Rattle.sig_nodes.specs.Answers.{slots_here}
 use Rattle.sig_nodes.specs.States as states
 use Rattle.sig_nodes.specs.States.{Progress, progress_at, is_computing, is_given}
+use Rattle.sig_nodes.proofs.Shared.{given_same}
 use Rattle.settle_model.specs.Stepping.{Phase, Looking, LookedAt, Running, Waiting, Frame, frame_names, new_frame, is_ready, ready_outcome}
 use Rattle.settle_model.specs.Stepping.{Move, GoesOn, Needs, Stops, Ends, decided, looked, told, answered}
 use Rattle.settle_model.proofs.Shared.{unready}
+use Rattle.sig_computed.specs.Notes.{Note, AreNotesGiven, IsNoteGiven}
 use Rattle.sig_computed.specs.Views.{evaluating, progressed, or_cycle, Stays}
-use Rattle.sig_computed.specs.Turns.{waits, phase_known, phase_reads, move_reads, progress_by, progress_after, stack_after, AreReadsGiven, HasSlot, Fits, AreFit}
+use Rattle.sig_computed.specs.Turns.{evaluation_note, notes_of, waits, phase_known, phase_reads, move_reads, progress_by, progress_after, stack_after, AreReadsGiven, HasSlot, Fits, AreFit}
 use Rattle.sig_computed.specs.Turns.{CanMove, HasBegun, IsAnswered, IsMove, IsMoved, HasFirst, first_stack}
 use Rattle.sig_computed.proofs.Progresses.{in_evaluating, progress_other, progress_same, progress_ended}
 
--- what was given stays given
-pub given_stays : (g h : states.Seen) (reads : List Seen) → ((m : ℕ) → is_given g m ≡ true → is_given h m ≡ true) → AreReadsGiven g reads → AreReadsGiven h reads
-given_stays g h reads stays all = λ k d lt. stays _ (all k d lt)
+-- reads that were given are given still
+pub given_stays : (g h : states.Seen) (reads : List Seen) → h.given ≡ g.given → AreReadsGiven g reads → AreReadsGiven h reads
+given_stays g h reads same all =
+    All-weaker (λ (r : Seen). is_given g r.name ≡ true) (λ r. is_given h r.name ≡ true) (λ r on. given_same g h r.name same ∙ on) reads all
 
 -- so were the names of what was read
 pub names_given : (g : states.Seen) (reads : List Seen) → AreReadsGiven g reads → All (λ n. is_given g n ≡ true) (names_of reads)
@@ -41,6 +44,12 @@ names_given g reads all = All-map (λ n. is_given g n ≡ true) (λ (s : Seen). 
 -- nothing was read
 none_given : (g : states.Seen) → AreReadsGiven g []
 none_given g = All-nil (λ (r : Seen). is_given g r.name ≡ true)
+
+-- the computed that stands
+computed_there : (st : Stands) → is_computed st ≡ true → (c : Computed) × (st ≡ IsComputed c)
+computed_there IsGone e = cc
+computed_there (IsCell d) e = cc
+computed_there (IsComputed d) e = (d, refl)
 
 -- a new frame fits
 pub new_fits : (g : states.Seen) (k : Memos) (n : ℕ) (c : Computed) → standing g.state.signals n ≡ IsComputed c →
@@ -53,7 +62,7 @@ new_fits g k n c stands begun = go (is_stale k n)
 
 -- ---- what stays
 
-module _ (g h : states.Seen) (signals : h.state.signals ≡ g.state.signals) (given : (m : ℕ) → is_given g m ≡ true → is_given h m ≡ true) where
+module _ (g h : states.Seen) (signals : h.state.signals ≡ g.state.signals) (given : h.given ≡ g.given) where
   -- a frame fits still where its computed's progress stays
   pub fits_stays : (f : Frame) → progress_at f.name h.state.progress ≡ progress_at f.name g.state.progress → Fits g f → Fits h f
   fits_stays f same fit = record {
@@ -197,7 +206,7 @@ module _ (g : states.Seen) (n : ℕ) (c : Computed) (stands : standing g.state.s
 
 -- a move that can be made can be made still
 can_stays : (g h : states.Seen) → h.state.signals ≡ g.state.signals → h.state.progress ≡ g.state.progress →
-    ((m : ℕ) → is_given g m ≡ true → is_given h m ≡ true) → (mv : Move) → CanMove g mv → CanMove h mv
+    h.given ≡ g.given → (mv : Move) → CanMove g mv → CanMove h mv
 can_stays g h signals progress given (GoesOn p) can = tt
 can_stays g h signals progress given (Needs s p) can =
     (ap (λ w. is_computed (standing w s)) signals ∙ can.0, ap (λ ps. is_some (progress_at s ps)) progress ∙ can.1)
@@ -206,7 +215,7 @@ can_stays g h signals progress given (Ends e) can = given_stays g h e.reads give
 
 -- and its frame fits still
 move_stays : (g h : states.Seen) → h.state.signals ≡ g.state.signals → h.state.progress ≡ g.state.progress →
-    ((m : ℕ) → is_given g m ≡ true → is_given h m ≡ true) → (n : ℕ) (mv : Move) → MoveFits g n mv → MoveFits h n mv
+    h.given ≡ g.given → (n : ℕ) (mv : Move) → MoveFits g n mv → MoveFits h n mv
 move_stays g h signals progress given n (GoesOn p) fit = fits_stays g h signals given (record { name = n; phase = p }) (ap (progress_at n) progress) fit
 move_stays g h signals progress given n (Needs s p) fit = fits_stays g h signals given (record { name = n; phase = p }) (ap (progress_at n) progress) fit
 move_stays g h signals progress given n Stops fit = tt
@@ -317,7 +326,7 @@ frames_are g fs h m = in_evaluating g.state m ∙ go (is_in m (frame_names fs)) 
 -- where the innermost computed has come to its end
 ended : (g h : states.Seen) (n : ℕ) (fs : List Frame) → is_in n (frame_names fs) ≡ false → AreFit g fs →
     ((m : ℕ) → is_in m (n ∷ frame_names fs) ≡ false → is_computing g.state m ≡ false) → h.state.signals ≡ g.state.signals →
-    ((m : ℕ) → is_given g m ≡ true → is_given h m ≡ true) → h.state.progress ≡ progressed n None g.state.progress → HasStack h fs
+    h.given ≡ g.given → h.state.progress ≡ progressed n None g.state.progress → HasStack h fs
 ended g h n fs off rest idle signals given progress = record {
   fits = stack_stays g h signals given n fs off (λ m away. ap (progress_at m) progress ∙ progress_other n m None g.state.progress away) rest;
   idle = λ m out. go m out (m == n) refl;
@@ -342,7 +351,7 @@ after_move g h k n fs (GoesOn p) x y = record {
   idle = λ m off. ap (λ ps. is_some (progress_at m ps)) y.progress ∙ x.idle m off;
 }
 after_move g h k n fs (Needs s p) x y =
-    let c = is_there_computed (standing g.state.signals s) x.can.0 in
+    let c = computed_there (standing g.state.signals s) x.can.0 in
     let other : (m : ℕ) → (m == s) ≡ false → progress_at m h.state.progress ≡ progress_at m g.state.progress =
     λ m off. ap (progress_at m) y.progress ∙ progress_other s m (Some []) g.state.progress off in
     let out : is_in s (n ∷ frame_names fs) ≡ false = not_frame in
@@ -356,11 +365,6 @@ after_move g h k n fs (Needs s p) x y =
           ∙ x.idle m (or_snd (m == s) (is_in m (n ∷ frame_names fs)) off);
     }
   where
-    is_there_computed : (st : Stands) → is_computed st ≡ true → (c : Computed) × (st ≡ IsComputed c)
-    is_there_computed IsGone e = cc
-    is_there_computed (IsCell d) e = cc
-    is_there_computed (IsComputed d) e = (d, refl)
-
     not_frame : is_in s (n ∷ frame_names fs) ≡ false
     not_frame = elim (tested (is_in s (n ∷ frame_names fs))) [
       | inr z ↦ z
@@ -370,11 +374,11 @@ after_move g h k n fs Stops x y = ended g h n fs x.off x.rest x.idle y.signals y
 after_move g h k n fs (Ends e) x y = ended g h n fs x.off x.rest x.idle y.signals y.given y.progress
 
 -- at the beginning
-pub first_move : (g h : states.Seen) (n : ℕ) (b : Bool) (fs : List Frame) → ((m : ℕ) → is_computing g.state m ≡ false) →
-    computed_kind ≡ kind_here (standing g.state.signals n) b → fs ≡ new_frame g.state.memos n ∷ [] →
+pub first_move : (g h : states.Seen) (n : ℕ) (fs : List Frame) → ((m : ℕ) → is_computing g.state m ≡ false) →
+    is_computed (standing g.state.signals n) ≡ true → fs ≡ new_frame g.state.memos n ∷ [] →
     Stays g h (progressed n (Some []) g.state.progress) → progress_at n h.state.progress ≡ Some [] → HasFirst g h n fs
-first_move g h n b fs idle kind is s begun =
-    let c = there (standing g.state.signals n) kind in
+first_move g h n fs idle live is s begun =
+    let c = computed_there (standing g.state.signals n) live in
     let stack : HasStack h (new_frame g.state.memos n ∷ []) = record {
       fits = (new_fits h g.state.memos n c.0 (ap (λ w. standing w n) s.signals ∙ c.1) begun, refl, tt);
       idle = λ m off. ap (λ ps. is_some (progress_at m ps)) s.progress
@@ -390,8 +394,23 @@ first_move g h n b fs idle kind is s begun =
       fits = stack'.fits;
       idle = stack'.idle;
     }
+
+-- ---- notes
+
+-- notes that were given are given still
+pub notes_stay : (g h : states.Seen) (ns : List Note) → h.given ≡ g.given → AreNotesGiven g ns → AreNotesGiven h ns
+notes_stay g h ns same all = All-weaker (IsNoteGiven g) (IsNoteGiven h) still ns all
   where
-    there : (st : Stands) → computed_kind ≡ kind_here st b → (c : Computed) × (st ≡ IsComputed c)
-    there IsGone e = cc
-    there (IsCell d) e = cc
-    there (IsComputed d) e = (d, refl)
+    still : (n : Note) → IsNoteGiven g n → IsNoteGiven h n
+    still n on = record {
+      name = given_same g h n.name same ∙ on.name;
+      reads = All-weaker (λ m. is_given g m ≡ true) (λ m. is_given h m ≡ true) (λ m b. given_same g h m same ∙ b) n.reads on.reads;
+    }
+
+-- the notes of a move of a computed that was given are given, where what was read was
+pub move_given : (g : states.Seen) (n : ℕ) (mv : Move) → is_given g n ≡ true → AreReadsGiven g (move_reads mv) → AreNotesGiven g (notes_of n mv)
+move_given g n (GoesOn p) on reads = All-nil (IsNoteGiven g)
+move_given g n (Needs s p) on reads = All-nil (IsNoteGiven g)
+move_given g n Stops on reads = All-nil (IsNoteGiven g)
+move_given g n (Ends e) on reads =
+    All-cons (IsNoteGiven g) (evaluation_note n e) [] (record { name = on; reads = names_given g e.reads reads }) (All-nil (IsNoteGiven g))

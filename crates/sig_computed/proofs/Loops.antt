@@ -2,18 +2,19 @@
 use Rattle.std.proofs.Common.{◌≡◌, ℕ, ◌+◌, ◌-◌, ◌<◌, true, Bool, List, [], ◌∷◌, ◌++◌, map, reverse, take, length, Some, Option, refl, sym, ap, ◌∙◌, subst, arith}
 use Rattle.std.proofs.lemmas.List.{reverse-append, length-append, length-map}
 use Rattle.signal_model.specs.Recipes.{Hosts}
-use Rattle.signal_model.specs.Standing.{Signals, is_in, standing}
+use Rattle.signal_model.specs.Kept.{AreGiven}
+use Rattle.signal_model.specs.Standing.{Signals, is_in, is_there, standing}
 use Rattle.signal_model.specs.Memos.{Memos}
 use Rattle.sig_nodes.specs.States as states
 use Rattle.sig_nodes.specs.States.{is_computing, is_given}
 use Rattle.settle_model.specs.Stepping.{Move, GoesOn, Needs, Stops, Ends, Frame, frame_names}
 use Rattle.sig_computed.specs.declared.frames.Open.{Open}
 use Rattle.sig_computed.specs.declared.notes.RunNote.{RunNote}
-use Rattle.sig_computed.specs.Notes.{Note, note_of}
+use Rattle.sig_computed.specs.Notes.{Note, note_of, AreNotesGiven}
 use Rattle.sig_computed.specs.Views.{evaluating, frame_of, phase_of, tops, Stays}
 use Rattle.sig_computed.specs.Visited.{marked}
 use Rattle.sig_computed.specs.Turns.{memos_after, move_by, move_reads, notes_of, progress_by, runs_of, stack_after, visited_after, AreReadsGiven, IsMove, IsMoved}
-use Rattle.sig_computed.proofs.Fitting.{HasMove, HasStack, after_turn, after_move, frames_are}
+use Rattle.sig_computed.proofs.Fitting.{HasMove, HasStack, after_turn, after_move, frames_are, given_stays, move_given}
 use Rattle.sig_computed.proofs.Measure.{work, turn_lowers}
 use Rattle.sig_computed.proofs.Wholes.{IsWhole, step_whole}
 
@@ -56,6 +57,12 @@ module _ (start g h : states.Seen) (stack rest : List Open) (f : Open) (bits bit
   -- who is being evaluated
   who : (m : ℕ) → is_in m (evaluating g.state) ≡ is_in m (f.id ∷ frame_names (tops rest))
   who = frames_are g (frame_of f ∷ tops rest) frames
+
+  -- the notes of the move are of what was given
+  pub turn_given : g.given ≡ start.given → AreGiven (is_given start) start.state.signals start.state.memos → AreNotesGiven start (notes_of f.id mv)
+  turn_given same used =
+      let stands = ap (λ w. standing w f.id) (sym t.signals) ∙ frames.fits.0.stands in
+      move_given start f.id mv (used.names f.id (ap is_there stands)) (given_stays g start (move_reads mv) (sym same) t.given)
 
   module _ (i : states.Seen) (stack' : List Open) (bits'' : List Bool) (d : IsMade h i rest stack' f bits bits'' mv) where
     -- the frames have what they need

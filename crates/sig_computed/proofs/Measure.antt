@@ -6,7 +6,7 @@ use Rattle.std.specs.Prelude.{slice_index}
 use Rattle.sig_base.specs.declared.value.Known.{Known}
 use Rattle.sig_base.specs.declared.value.Step.{Step}
 use Rattle.sig_base.specs.declared.value.Step.TheVariants.{Read, Done, Fail}
-use Rattle.signal_model.specs.Recipes.{IsUnknownSlot}
+use Rattle.signal_model.specs.Recipes.{IsJudged, IsUnknownSlot}
 use Rattle.signal_model.specs.Sound.{standing_outcome}
 use Rattle.signal_model.specs.Values.{Seen, unknown_slots}
 use Rattle.signal_model.specs.Memos.{Memos, holds_cycle, is_stale, memo_of, memo_in, sources_of, sources_in}
@@ -17,7 +17,7 @@ use Rattle.settle_model.specs.Stepping.{Phase, Looking, LookedAt, Running, Waiti
 use Rattle.settle_model.specs.Stepping.{Move, GoesOn, Needs, Stops, Ends, told}
 use Rattle.settle_model.specs.SteppingLaws.{phase_left, left_here}
 use Rattle.settle_model.proofs.Shared.{MoveLowers, look_lowers, answer_lowers, read_lowers, few_unknown, middle, unready}
-use Rattle.sig_nodes.specs.Answers.{slots_here, IsJudged}
+use Rattle.sig_nodes.specs.Answers.{slots_here}
 use Rattle.sig_computed.specs.Views.{or_cycle}
 use Rattle.sig_computed.specs.Turns.{stack_after, visited_after, memos_after, waits, IsAnswered, IsMove}
 

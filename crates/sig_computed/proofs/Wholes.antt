@@ -169,6 +169,13 @@ last_whole hosts w k0 k n before after visited fs kept none x =
     here : (m : ℕ) → is_in m (m ∷ []) ≡ true
     here m = in_head m []
 
+-- where nothing is asked that could run
+pub plain_ended : (hosts : Hosts) (w : Signals) (k : Memos) (n : ℕ) (before : List Note) → AreKept hosts w k → true ≡ is_ready (standing w n) false false →
+    IsEnded hosts w k k n before before
+plain_ended hosts w k n before kept ready =
+    last_whole hosts w k k n before before [] (first_stack w k n) kept (ap (λ b. cond b [] (new_frame k n ∷ [])) (sym ready))
+    (first_whole hosts w k n before [] kept refl)
+
 -- what is shown then is the value
 pub shown_value : (st : Stands) (b : Bool) (o : Option Outcome) (v : Outcome) → b ≡ false → o ≡ Some v → or_cycle (ready_outcome st b o) ≡ v
 shown_value IsGone b o v e h = ap or_cycle h

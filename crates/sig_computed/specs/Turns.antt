@@ -3,7 +3,7 @@ use Rattle.std.specs.Prelude.{◌≡◌, ℕ, ◌+◌, ◌<◌, true, false, Lis
 use Rattle.std.specs.List.{All}
 use Rattle.sig_base.specs.declared.value.Known.{Known}
 use Rattle.sig_base.specs.declared.value.Step.{Step}
-use Rattle.signal_model.specs.Recipes.{Hosts}
+use Rattle.signal_model.specs.Recipes.{Hosts, IsJudged}
 use Rattle.signal_model.specs.Standing.{Signals, Computed, IsComputed, is_computed, is_in, standing}
 use Rattle.signal_model.specs.Values.{Seen, Evaluation}
 use Rattle.signal_model.specs.Memos.{Memos, holds_cycle, sources_of}
@@ -11,7 +11,7 @@ use Rattle.signal_model.specs.Settling.{with_run}
 use Rattle.signal_model.specs.Sound.{names_of, standing_outcome}
 use Rattle.sig_nodes.specs.States as states
 use Rattle.sig_nodes.specs.States.{Progress, progress_at, is_computing, is_given}
-use Rattle.sig_nodes.specs.Answers.{answer_here, slots_here, IsJudged}
+use Rattle.sig_nodes.specs.Answers.{answer_here, slots_here}
 use Rattle.settle_model.specs.Stepping.{Phase, Looking, LookedAt, Running, Waiting, Frame, frame_names, new_frame, is_ready, ready_outcome}
 use Rattle.settle_model.specs.Stepping.{Move, GoesOn, Needs, Stops, Ends, looked, told, answered}
 use Rattle.sig_computed.specs.Notes.{Note}
@@ -78,7 +78,7 @@ pub record IsMoved (old new : states.Seen) (n : ℕ) (mv : Move) : Type 0 where
   pub begun : HasBegun mv new.state.progress
   pub worn : new.state.worn ≡ old.state.worn + runs_of mv
   pub seats : new.seats ≡ old.seats
-  pub given : (m : ℕ) → is_given old m ≡ true → is_given new m ≡ true
+  pub given : new.given ≡ old.given
 
 -- the graph once a run is kept
 pub record IsKept (old new : states.Seen) (n : ℕ) (e : Evaluation) : Type 0 where
@@ -87,7 +87,7 @@ pub record IsKept (old new : states.Seen) (n : ℕ) (e : Evaluation) : Type 0 wh
   pub progress : new.state.progress ≡ progressed n None old.state.progress
   pub worn : new.state.worn ≡ old.state.worn + 1
   pub seats : new.seats ≡ old.seats
-  pub given : (m : ℕ) → is_given old m ≡ true → is_given new m ≡ true
+  pub given : new.given ≡ old.given
 
 -- ---- the step of a frame
 
@@ -193,6 +193,6 @@ pub record HasFirst (old new : states.Seen) (n : ℕ) (fs : List Frame) : Type 0
   pub memos : new.state.memos ≡ old.state.memos
   pub worn : new.state.worn ≡ old.state.worn
   pub seats : new.seats ≡ old.seats
-  pub given : (m : ℕ) → is_given old m ≡ true → is_given new m ≡ true
+  pub given : new.given ≡ old.given
   pub fits : AreFit new fs
   pub idle : (m : ℕ) → is_in m (frame_names fs) ≡ false → is_computing new.state m ≡ false

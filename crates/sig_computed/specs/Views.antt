@@ -8,7 +8,7 @@ use Rattle.signal_model.specs.Standing.{changed, is_in}
 use Rattle.signal_model.specs.Values.{Seen, Evaluation}
 use Rattle.signal_model.specs.Memos.{Source, Memos, is_moved}
 use Rattle.sig_nodes.specs.States as states
-use Rattle.sig_nodes.specs.States.{State, Progress, is_computing, is_given}
+use Rattle.sig_nodes.specs.States.{State, Progress, is_computing}
 use Rattle.settle_model.specs.Stepping.{Phase, Looking, LookedAt, Running, Waiting, Frame, Move, GoesOn, Needs, Stops, Ends}
 use Rattle.sig_computed.specs.declared.frames.Read.{Read}
 use Rattle.sig_computed.specs.declared.frames.Doing.{Doing}
@@ -68,7 +68,7 @@ pub record Stays (old new : states.Seen) (ps : List Progress) : Type 0 where
   pub progress : new.state.progress ≡ ps
   pub worn : new.state.worn ≡ old.state.worn
   pub seats : new.seats ≡ old.seats
-  pub given : (n : ℕ) → is_given old n ≡ true → is_given new n ≡ true
+  pub given : new.given ≡ old.given
 
 -- the first name of some sources
 abbrev pub first_name : List Source → Option ℕ

@@ -5,9 +5,9 @@ ghost use Rattle.signal_model.specs.Standing.{is_computed, is_in, is_there, stan
 ghost use Rattle.signal_model.specs.Values.{value_of};
 ghost use Rattle.signal_model.specs.Kept.{AreKept};
 ghost use Rattle.signal_model.specs.Sound.{names_of};
-ghost use Rattle.sig_nodes.specs.States.{is_computing, is_given, progress_at, CanWear};
+ghost use Rattle.sig_nodes.specs.States.{is_computing, progress_at, CanWear};
 ghost use Rattle.settle_model.specs.Stepping.{frame_names, new_frame};
-ghost use Rattle.sig_computed.specs.Notes.{note_of, HasRoom, IsIdle, IsSettling};
+ghost use Rattle.sig_computed.specs.Notes.{note_of, AreNotesGiven, HasRoom, IsIdle, IsSettling};
 ghost use Rattle.sig_computed.specs.Views.{evaluating, evaluation_of, frame_of, move_of, progressed, seen_of, tops, Stays};
 ghost use Rattle.sig_computed.specs.Visited.{marked};
 ghost use Rattle.sig_computed.specs.Turns.{evaluation_note, first_stack, notes_of, stack_after, visited_after, AreReadsGiven, CanMove, HasFirst, IsKept, IsMoved};
@@ -123,24 +123,23 @@ fn apply(
     }
 }
 
-// The frames at the beginning: one of a computed, and none of any other signal.
+// The frames at the beginning: that of the computed that is asked for.
 fn first(alloc: Global, graph: &mut Graph, id: NodeId) -> Result<Vec<Open>, NoMemory>
-    requires { IsIdle graph.old.state }
+    requires live { is_computed (standing graph.old.state.signals id) ≡ true }
+    requires idle { IsIdle graph.old.state }
     ensures stack { IfOk result (λ v. tops v.items ≡ first_stack graph.old.state.signals graph.old.state.memos id) }
     ensures graph { IfOk result (λ v. HasFirst graph.old graph.new id (tops v.items)) }
 {
-    let mut stack = Vec::new(alloc);
-    let Standing::Computed = graph.standing(id) else {
-        return Ok(stack);
-    };
     let frame = opened(alloc, graph, id);
+    let mut stack = Vec::new(alloc);
     stack.push(frame)?;
     Ok(stack)
 }
 
 /// Settles a signal, gone ones too, and gives its outcome, which is its value from scratch. What is kept afterwards and the notes
 /// that are put behind are those of settling its name, whatever was set, rewired or disposed before. Signals stay, and nothing is
-/// being evaluated before and after. Without memory the graph may only be dropped.
+/// being evaluated before and after. Without memory the graph may only be dropped. What is no computed takes no memory but that of
+/// the answer.
 pub fn settle(graph: &mut Graph, id: NodeId, notes: &mut Vec<RunNote>) -> Result<Outcome, NoMemory>
     requires idle { IsIdle graph.old.state }
     requires worn { HasRoom graph.old.state }
@@ -150,9 +149,15 @@ pub fn settle(graph: &mut Graph, id: NodeId, notes: &mut Vec<RunNote>) -> Result
     ensures signals { OnOk result (graph.new.state.signals ≡ graph.old.state.signals) }
     ensures idle { OnOk result (IsIdle graph.new.state) }
     ensures seats { OnOk result (graph.new.seats ≡ graph.old.seats) }
-    ensures given { OnOk result ((n : ℕ) → is_given graph.old n ≡ true → is_given graph.new n ≡ true) }
+    ensures given { OnOk result (graph.new.given ≡ graph.old.given) }
+    ensures named { OnOk result (AreNotesGiven graph.old (map note_of notes.old.items) → AreNotesGiven graph.new (map note_of notes.new.items)) }
     ensures worn { OnOk result (graph.new.state.worn + length notes.old.items ≡ graph.old.state.worn + length notes.new.items) }
 {
+    let _made = graph.made();
+    let Standing::Computed = graph.standing(id) else {
+        let shown = outcome_of(graph, id)?;
+        return Ok(shown);
+    };
     let alloc = *notes.allocator();
     let mut visited = none_visited(alloc)?;
     let mut stack = first(alloc, graph, id)?;

@@ -1,16 +1,21 @@
-use Rattle.std.proofs.Common.{◌≡◌, ◌+◌, [], ◌∷◌, map, length, refl, sym, ap, ◌∙◌, subst, arith}
+use Rattle.std.proofs.Common.{◌≡◌, ◌+◌, ◌++◌, false, [], ◌∷◌, map, length, refl, sym, ap, ◌∙◌, subst, arith}
 use Rattle.std.specs.Vec.{vec_len}
+use Rattle.std.proofs.lemmas.List.Elements.{All-append, All-same}
 use Rattle.signal_model.specs.Standing.{is_in, standing}
 use Rattle.signal_model.specs.Values.{value_of}
 use Rattle.signal_model.specs.Sound.{standing_outcome}
 use Rattle.signal_model.specs.Kept.{AreKept}
+use Rattle.sig_nodes.specs.States.{is_computing}
 use Rattle.settle_model.specs.Stepping.{frame_names}
-use Rattle.sig_computed.specs.Notes.{note_of}
+use Rattle.sig_computed.specs.Notes.{note_of, IsNoteGiven}
+use Rattle.sig_computed.specs.Turns.{notes_of}
 use Rattle.sig_computed.specs.Views.{evaluating, move_of, tops}
 use Rattle.sig_computed.specs.Visited.{marked}
-use Rattle.sig_computed.proofs.Fitting.{frames_are}
-use Rattle.sig_computed.proofs.Loops.{IsMade, IsTurn, none_left, notes_count, turn_frames, turn_less, turn_move, turn_whole}
-use Rattle.sig_computed.proofs.Wholes.{IsWhole, first_whole, last_whole, shown_value}
+use Rattle.sig_computed.proofs.Fitting.{frames_are, notes_stay}
+use Rattle.sig_computed.proofs.Leaves.{ready_other}
+use Rattle.sig_computed.proofs.Progresses.{in_evaluating}
+use Rattle.sig_computed.proofs.Loops.{IsMade, IsTurn, none_left, notes_count, turn_frames, turn_given, turn_less, turn_move, turn_whole}
+use Rattle.sig_computed.proofs.Wholes.{IsWhole, first_whole, last_whole, plain_ended, shown_value}
 use Rattle.sig_computed.proofs.settling.settle.Goals as goal
 
 pub loop-frame-init : goal.loop-frame-init
@@ -20,6 +25,7 @@ loop-frame-init c =
       signals = e.signals;
       seats = e.seats;
       given = e.given;
+      named = λ all. all;
       worn = ap (λ x. x + length c.args.notes.now.items) e.worn;
       size = c.in_ok-visited.ensures.size;
       frames = record { fits = e.fits; idle = e.idle };
@@ -103,7 +109,13 @@ loop-frame-preserved c =
     record {
       signals = m.signals ∙ s.signals ∙ i.signals;
       seats = m.seats ∙ s.seats ∙ i.seats;
-      given = λ n on. m.given n (s.given n (i.given n on));
+      given = m.given ∙ s.given ∙ i.given;
+      named = λ all. All-same (IsNoteGiven c.args.graph.now) (map note_of c.apply.new.notes.items)
+          (map note_of c.loop-frame.notes.items ++ notes_of c.in-Some.frame.id (move_of c.in_ok-turn.turn)) c.in_ok-apply.ensures.notes
+          (All-append (IsNoteGiven c.args.graph.now) (map note_of c.loop-frame.notes.items)
+          (notes_of c.in-Some.frame.id (move_of c.in_ok-turn.turn)) (i.named all)
+          (turn_given c.args.graph.now c.loop-frame.graph c.turn_of.new.graph c.loop-frame.stack.items c.pop.new.self.items c.in-Some.frame
+          c.loop-frame.visited.items c.deref.result.now (move_of c.in_ok-turn.turn) t i.given c.made-made.ensures.used));
       worn = let a = m.worn in let b = s.worn in let e = i.worn in omega (arith, a, b, e, count);
       size = c.in_ok-apply.ensures.size;
       frames = turn_frames c.args.graph.now c.loop-frame.graph c.turn_of.new.graph c.loop-frame.stack.items c.pop.new.self.items c.in-Some.frame
@@ -116,12 +128,35 @@ loop-frame-preserved c =
           (c.in_ok-turn.ensures.turn hosts) (i.whole hosts kept);
     }
 
+pub returns-in_default : goal.returns-in_default
+returns-in_default c =
+    let w = c.args.graph.now.state.signals in
+    let k = c.args.graph.now.state.memos in
+    let notes = map note_of c.args.notes.now.items in
+    let idle = c.requires.idle c.args.id in
+    let ready = ready_other (standing w c.args.id) (is_computing c.args.graph.now.state c.args.id) false false
+    (λ e. c.in_default.not-Computed (c.standing.ensures ∙ e)) (sym idle) in
+    record {
+      value = λ hosts kept. c.in_ok-shown.ensures
+          ∙ shown_value (standing w c.args.id) (is_in c.args.id (evaluating c.args.graph.now.state)) (standing_outcome w k c.args.id)
+          (value_of hosts w c.args.id []) (in_evaluating c.args.graph.now.state c.args.id ∙ idle)
+          (plain_ended hosts w k c.args.id notes kept ready).value;
+      settled = λ hosts kept. (plain_ended hosts w k c.args.id notes kept ready).settling;
+      kept = λ hosts kept. kept;
+      signals = refl;
+      idle = c.requires.idle;
+      seats = refl;
+      given = refl;
+      named = λ all. all;
+      worn = refl;
+    }
+
 pub returns-clause-value : goal.returns-clause-value
 returns-clause-value c = λ hosts kept.
     let w = c.args.graph.now.state.signals in
     let i = c.loop-frame.invariant in
-    let none = ap tops (none_left c.loop-frame.stack.items c.pop.new.self.items (vec_len c.loop-frame.stack) c.in_default.ensures.items
-    c.in_default.ensures.rest c.in_default.ensures.cases.0) in
+    let none = ap tops (none_left c.loop-frame.stack.items c.pop.new.self.items (vec_len c.loop-frame.stack) c.in_default-pop.ensures.items
+    c.in_default-pop.ensures.rest c.in_default-pop.ensures.cases.0) in
     let x = last_whole hosts w c.args.graph.now.state.memos c.loop-frame.graph.state.memos c.args.id (map note_of c.args.notes.now.items)
     (map note_of c.loop-frame.notes.items) (marked c.args.graph.now.seats c.loop-frame.visited.items) (tops c.loop-frame.stack.items) kept none
     (i.whole hosts kept) in
@@ -133,17 +168,22 @@ returns-clause-value c = λ hosts kept.
 
 pub returns-clause-settled : goal.returns-clause-settled
 returns-clause-settled c = λ hosts kept.
-    let none = ap tops (none_left c.loop-frame.stack.items c.pop.new.self.items (vec_len c.loop-frame.stack) c.in_default.ensures.items
-    c.in_default.ensures.rest c.in_default.ensures.cases.0) in
+    let none = ap tops (none_left c.loop-frame.stack.items c.pop.new.self.items (vec_len c.loop-frame.stack) c.in_default-pop.ensures.items
+    c.in_default-pop.ensures.rest c.in_default-pop.ensures.cases.0) in
     (last_whole hosts c.args.graph.now.state.signals c.args.graph.now.state.memos c.loop-frame.graph.state.memos c.args.id
     (map note_of c.args.notes.now.items) (map note_of c.loop-frame.notes.items) (marked c.args.graph.now.seats c.loop-frame.visited.items)
     (tops c.loop-frame.stack.items) kept none (c.loop-frame.invariant.whole hosts kept)).settling
 
 pub returns-clause-kept : goal.returns-clause-kept
 returns-clause-kept c = λ hosts kept.
-    let none = ap tops (none_left c.loop-frame.stack.items c.pop.new.self.items (vec_len c.loop-frame.stack) c.in_default.ensures.items
-    c.in_default.ensures.rest c.in_default.ensures.cases.0) in
+    let none = ap tops (none_left c.loop-frame.stack.items c.pop.new.self.items (vec_len c.loop-frame.stack) c.in_default-pop.ensures.items
+    c.in_default-pop.ensures.rest c.in_default-pop.ensures.cases.0) in
     subst (λ w. AreKept hosts w c.loop-frame.graph.state.memos) (sym c.loop-frame.invariant.signals)
     (last_whole hosts c.args.graph.now.state.signals c.args.graph.now.state.memos c.loop-frame.graph.state.memos c.args.id
     (map note_of c.args.notes.now.items) (map note_of c.loop-frame.notes.items) (marked c.args.graph.now.seats c.loop-frame.visited.items)
     (tops c.loop-frame.stack.items) kept none (c.loop-frame.invariant.whole hosts kept)).kept
+
+pub returns-clause-named : goal.returns-clause-named
+returns-clause-named c = λ all.
+    notes_stay c.args.graph.now c.loop-frame.graph (map note_of c.loop-frame.notes.items) c.loop-frame.invariant.given
+    (c.loop-frame.invariant.named all)

@@ -1,9 +1,8 @@
-use Rattle.std.proofs.Common.{◌≡◌, ℕ, ◌+◌, [], ◌∷◌, length, map, true}
+use Rattle.std.proofs.Common.{◌≡◌, ℕ, ◌+◌, [], ◌∷◌, length, map}
 use Rattle.sig_base.specs.declared.limits.TheConstants.{MOST_NODES}
 use Rattle.signal_model.specs.Recipes.{Hosts}
 use Rattle.signal_model.specs.Kept.{AreKept}
-use Rattle.sig_nodes.specs.States.{is_given}
-use Rattle.sig_computed.specs.Notes.{note_of}
+use Rattle.sig_computed.specs.Notes.{note_of, AreNotesGiven}
 use Rattle.sig_computed.specs.Views.{tops}
 use Rattle.sig_computed.specs.Visited.{marked}
 use Rattle.sig_computed.proofs.Fitting.{HasStack}
@@ -15,7 +14,8 @@ abbrev pub invariant-loop-frame : goal.invariant-loop-frame
 invariant-loop-frame l = record {
   signals : l.graph.state.signals ≡ l.fn.graph.state.signals;
   seats : l.graph.seats ≡ l.fn.graph.seats;
-  given : (n : ℕ) → is_given l.fn.graph n ≡ true → is_given l.graph n ≡ true;
+  given : l.graph.given ≡ l.fn.graph.given;
+  named : AreNotesGiven l.fn.graph (map note_of l.fn.notes.items) → AreNotesGiven l.fn.graph (map note_of l.notes.items);
   worn : l.graph.state.worn + length l.fn.notes.items ≡ l.fn.graph.state.worn + length l.notes.items;
   size : length l.visited.items ≡ MOST_NODES;
   frames : HasStack l.graph (tops l.stack.items);
