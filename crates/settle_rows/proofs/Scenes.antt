@@ -1,21 +1,30 @@
 -- What commands leave of a scene.
-use Rattle.std.proofs.Common.{◌≡◌, ℕ, zero, suc, ◌+◌, ◌*◌, ◌^◌, ◌<◌, ◌≤◌, ◌==◌, Bool, true, false, cond, List, [], ◌∷◌, ◌++◌, Some, None, refl, sym, ap, ◌∙◌, subst, arith}
+use Rattle.std.proofs.Common.{◌≡◌, ℕ, ◌+◌, ◌*◌, ◌^◌, ◌≤◌, ◌==◌, nat_lt, Bool, true, false, cond, List, [], ◌∷◌, ◌++◌, None, refl, sym, ap, ◌∙◌, subst, arith}
 use Rattle.std.specs.Prelude.{is_some}
 use Rattle.std.specs.List.{All}
-use Rattle.std.proofs.lemmas.List.Elements.{All-append}
-use Rattle.signal_model.specs.Standing.{Stands, IsGone, IsCell, IsComputed}
+use Rattle.std.proofs.lemmas.Bool.Decides.{nat_tests}
+use Rattle.std.proofs.lemmas.List.Elements.{All-push, All-weaker}
+use Rattle.signal_model.specs.Standing.{Cell as CellOf, Computed, Stands, IsGone, IsCell, IsComputed}
 use Rattle.sig_nodes.specs.declared.answers.Standing.TheVariants.{Cell}
 use Rattle.sig_nodes.specs.Answers.{kind_here}
-use Rattle.sig_nodes.specs.States.{Seen, Progress, progress_at, is_cell, is_computing, is_given}
+use Rattle.sig_nodes.specs.States.{Seen, State, Progress, Makes, progress_at, is_cell, is_given, with_new_cell, with_new_computed}
 use Rattle.settle_rows.specs.Scenes.{IsReady}
 
--- one element more passes a test
-pub passes_more : (test : ℕ → Bool) (ns : List ℕ) (n : ℕ) → All (λ m. test m ≡ true) ns → test n ≡ true → All (λ m. test m ≡ true) (ns ++ n ∷ [])
-passes_more test ns n all h = All-append (λ m. test m ≡ true) ns (n ∷ []) all one
+-- ids below a count were given
+pub given_here : (g h : Seen) (ids ids' : List ℕ) → h ≡ g → ids' ≡ ids → All (λ n. nat_lt n g.given ≡ true) ids → All (λ n. is_given h n ≡ true) ids'
+unfolding is_given
+given_here g h ids ids' eg ei all = subst (λ x. x) (λ i. All (λ n. nat_lt n (sym eg i).given ≡ true) (sym ei i)) all
+
+-- so are those and the next one, once that is made
+ids_more : (a b : ℕ) (ids : List ℕ) (id : ℕ) → id ≡ a → b ≡ a + 1 → All (λ n. nat_lt n a ≡ true) ids → All (λ n. nat_lt n b ≡ true) (ids ++ id ∷ [])
+ids_more a b ids id is more all =
+    All-push (λ n. nat_lt n b ≡ true) ids id (All-weaker (λ n. nat_lt n a ≡ true) (λ n. nat_lt n b ≡ true) (λ n h. later n a b more h) ids all) (next id a b is more)
   where
-    one : All (λ m. test m ≡ true) (n ∷ [])
-    one zero d lt = h
-    one (suc k) d lt = absurd (omega (arith, lt))
+    later : (n x y : ℕ) → y ≡ x + 1 → nat_lt n x ≡ true → nat_lt n y ≡ true
+    later n x y e h = grind (arith, nat_tests)
+
+    next : (n x y : ℕ) → n ≡ x → y ≡ x + 1 → nat_lt n y ≡ true
+    next n x y is e = grind (arith, nat_tests)
 
 -- a computed more that isn't being evaluated
 none_more : (ps : List Progress) (n m : ℕ) → is_some (progress_at m (ps ++ record { name = n; known = None } ∷ [])) ≡ is_some (progress_at m ps)
@@ -31,20 +40,29 @@ none_more (p ∷ ps) n m = go (m == p.name) (none_more ps n m)
     go true h = refl
     go false h = h
 
--- a scene with one computed more
-pub made_ready : (g h : Seen) (ids : List ℕ) (n id : ℕ) → IsReady g ids n → h.state.progress ≡ g.state.progress ++ record { name = id; known = None } ∷ [] →
-    h.state.worn ≡ g.state.worn + 1 → ((m : ℕ) → is_given g m ≡ true → is_given h m ≡ true) → is_given h id ≡ true → IsReady h (ids ++ id ∷ []) (n + 1)
-made_ready g h ids n id r progress worn stays new =
+-- a scene with one cell more
+pub cell_ready : (g h : Seen) (ids : List ℕ) (n id : ℕ) (c : CellOf) → IsReady g ids n → Makes g h id (with_new_cell g.state c) →
+    IsReady h (ids ++ id ∷ []) (n + 1)
+cell_ready g h ids n id c r m =
     let before : g.state.worn ≤ n * 2 ^ 64 = r.worn in
+    let worn : h.state.worn ≡ g.state.worn + 1 = ap (λ (s : State). s.worn) m.state in
     record {
-      idle = λ m. ap (λ ps. is_some (progress_at m ps)) progress ∙ none_more g.state.progress id m ∙ r.idle m;
+      idle = λ k. ap (λ (s : State). is_some (progress_at k s.progress)) m.state ∙ r.idle k;
       worn = omega (arith, worn, before);
-      given = passes_more (is_given h) ids id (λ k d lt. stays _ (r.given k d lt)) new;
+      given = ids_more g.given h.given ids id m.id m.given r.given;
     }
 
--- ids that are the same are given still
-pub given_here : (g h : Seen) (ids ids' : List ℕ) → h ≡ g → ids' ≡ ids → All (λ n. is_given g n ≡ true) ids → All (λ n. is_given h n ≡ true) ids'
-given_here g h ids ids' eg ei all = subst (λ x. x) (λ i. All (λ n. is_given (sym eg i) n ≡ true) (sym ei i)) all
+-- a scene with one computed more
+pub computed_ready : (g h : Seen) (ids : List ℕ) (n id : ℕ) (c : Computed) → IsReady g ids n → Makes g h id (with_new_computed g.state c) →
+    IsReady h (ids ++ id ∷ []) (n + 1)
+computed_ready g h ids n id c r m =
+    let before : g.state.worn ≤ n * 2 ^ 64 = r.worn in
+    let worn : h.state.worn ≡ g.state.worn + 1 = ap (λ (s : State). s.worn) m.state in
+    record {
+      idle = λ k. ap (λ (s : State). is_some (progress_at k s.progress)) m.state ∙ none_more g.state.progress c.name k ∙ r.idle k;
+      worn = omega (arith, worn, before);
+      given = ids_more g.given h.given ids id m.id m.given r.given;
+    }
 
 -- what isn't answered as a cell is none
 pub not_cell : (st : Stands) (b : Bool) → (kind_here st b ≡ Cell → ⊥) → is_cell st ≡ false

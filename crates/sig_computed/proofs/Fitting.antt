@@ -1,7 +1,7 @@
 -- What the frames of a stack have in the graph, and what a step leaves of it.
-use Rattle.std.proofs.Common.{◌≡◌, ℕ, suc, ◌+◌, ◌<◌, ◌≤◌, ◌==◌, ◌||◌, ◌&&◌, not, Bool, true, false, cond, List, [], ◌∷◌, ◌++◌, length, take}
-use Rattle.std.proofs.Common.{Option, Some, None, refl, sym, ap, ◌∙◌, subst, arith, inl, inr}
-use Rattle.std.specs.Prelude.{is_some, slice_index}
+use Rattle.std.proofs.Common.{◌≡◌, ℕ, ◌+◌, ◌<◌, ◌≤◌, ◌==◌, ◌||◌, ◌&&◌, not, Bool, true, false, cond, List, [], ◌∷◌, ◌++◌, length, take}
+use Rattle.std.proofs.Common.{Some, None, refl, sym, ap, ◌∙◌, subst, arith, inl, inr}
+use Rattle.std.specs.Prelude.{is_some}
 use Rattle.std.proofs.Math.Seq.{take-length}
 use Rattle.std.proofs.lemmas.List.{length-take, take-append-le}
 use Rattle.std.proofs.lemmas.List.Elements.{All-cons, All-nil, All-map, All-weaker}
@@ -13,9 +13,9 @@ use Rattle.sig_base.specs.declared.value.Step.TheVariants.{Read, Done, Fail}
 use Rattle.sig_base.specs.declared.value.Outcome.{Outcome}
 use Rattle.sig_base.specs.declared.value.Outcome.TheVariants.{Good, Bad}
 use Rattle.signal_model.specs.Recipes.{IsJudged}
-use Rattle.signal_model.specs.Standing.{Signals, Computed, Stands, IsGone, IsCell, IsComputed, is_computed, is_in, standing}
+use Rattle.signal_model.specs.Standing.{Computed, Stands, IsGone, IsCell, IsComputed, is_computed, is_in, standing}
 use Rattle.signal_model.specs.Values.{Seen, learnt}
-use Rattle.signal_model.specs.Memos.{Source, Memos, holds_cycle, is_moved, is_stale}
+use Rattle.signal_model.specs.Memos.{Source, Memos, is_moved, is_stale}
 use Rattle.signal_model.specs.Sound.{names_of, standing_outcome}
 use Rattle.signal_model.proofs.Shared.{tested}
 use Rattle.signal_laws.proofs.Shared.{in_head, or_fst, or_snd}
@@ -24,12 +24,12 @@ use Rattle.sig_nodes.specs.States as states
 use Rattle.sig_nodes.specs.States.{Progress, progress_at, is_computing, is_given}
 use Rattle.sig_nodes.proofs.Shared.{given_same}
 use Rattle.settle_model.specs.Stepping.{Phase, Looking, LookedAt, Running, Waiting, Frame, frame_names, new_frame, is_ready, ready_outcome}
-use Rattle.settle_model.specs.Stepping.{Move, GoesOn, Needs, Stops, Ends, decided, looked, told, answered}
+use Rattle.settle_model.specs.Stepping.{Move, GoesOn, Needs, Stops, Ends, looked, told, answered}
 use Rattle.settle_model.proofs.Shared.{unready}
 use Rattle.sig_computed.specs.Notes.{Note, AreNotesGiven, IsNoteGiven}
 use Rattle.sig_computed.specs.Views.{evaluating, progressed, or_cycle, Stays}
-use Rattle.sig_computed.specs.Turns.{evaluation_note, notes_of, waits, phase_known, phase_reads, move_reads, progress_by, progress_after, stack_after, AreReadsGiven, HasSlot, Fits, AreFit}
-use Rattle.sig_computed.specs.Turns.{CanMove, HasBegun, IsAnswered, IsMove, IsMoved, HasFirst, first_stack}
+use Rattle.sig_computed.specs.Turns.{evaluation_note, notes_of, waits, phase_known, phase_reads, move_reads, progress_by, stack_after, AreReadsGiven, HasSlot, Fits, AreFit}
+use Rattle.sig_computed.specs.Turns.{CanMove, IsAnswered, IsMove, IsMoved, HasFirst}
 use Rattle.sig_computed.proofs.Progresses.{in_evaluating, progress_other, progress_same, progress_ended}
 
 -- reads that were given are given still

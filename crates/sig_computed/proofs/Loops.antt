@@ -1,13 +1,13 @@
 -- One turn of the loop.
-use Rattle.std.proofs.Common.{◌≡◌, ℕ, ◌+◌, ◌-◌, ◌<◌, true, Bool, List, [], ◌∷◌, ◌++◌, map, reverse, take, length, Some, Option, refl, sym, ap, ◌∙◌, subst, arith}
+use Rattle.std.proofs.Common.{◌≡◌, ℕ, ◌+◌, ◌-◌, ◌<◌, Bool, List, [], ◌∷◌, ◌++◌, map, take, length, refl, sym, ap, ◌∙◌, subst, arith}
 use Rattle.std.proofs.lemmas.List.{reverse-append, length-append, length-map}
 use Rattle.signal_model.specs.Recipes.{Hosts}
 use Rattle.signal_model.specs.Kept.{AreGiven}
-use Rattle.signal_model.specs.Standing.{Signals, is_in, is_there, standing}
+use Rattle.signal_model.specs.Standing.{is_in, is_there, standing}
 use Rattle.signal_model.specs.Memos.{Memos}
 use Rattle.sig_nodes.specs.States as states
 use Rattle.sig_nodes.specs.States.{is_computing, is_given}
-use Rattle.settle_model.specs.Stepping.{Move, GoesOn, Needs, Stops, Ends, Frame, frame_names}
+use Rattle.settle_model.specs.Stepping.{Move, GoesOn, Needs, Stops, Ends, frame_names}
 use Rattle.sig_computed.specs.declared.frames.Open.{Open}
 use Rattle.sig_computed.specs.declared.notes.RunNote.{RunNote}
 use Rattle.sig_computed.specs.Notes.{Note, note_of, AreNotesGiven}

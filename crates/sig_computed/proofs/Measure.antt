@@ -19,7 +19,7 @@ use Rattle.settle_model.specs.SteppingLaws.{phase_left, left_here}
 use Rattle.settle_model.proofs.Shared.{MoveLowers, look_lowers, answer_lowers, read_lowers, few_unknown, middle, unready}
 use Rattle.sig_nodes.specs.Answers.{slots_here}
 use Rattle.sig_computed.specs.Views.{or_cycle}
-use Rattle.sig_computed.specs.Turns.{stack_after, visited_after, memos_after, waits, IsAnswered, IsMove}
+use Rattle.sig_computed.specs.Turns.{stack_after, visited_after, memos_after, waits, IsMove}
 
 -- more than a new frame has left
 abbrev weight_here : Memos → ℕ → Stands → ℕ

@@ -1,5 +1,5 @@
 -- The steps of the loop are those of settling, for all hosts for which what was kept is sound.
-use Rattle.std.proofs.Common.{◌≡◌, ℕ, ◌+◌, ◌==◌, ◌||◌, ◌&&◌, not, Bool, true, false, cond, List, [], ◌∷◌, ◌++◌, map, drop, Some, refl, sym, ap, ◌∙◌, subst, append_assoc, append-nil}
+use Rattle.std.proofs.Common.{◌≡◌, ℕ, ◌==◌, ◌||◌, Bool, true, false, cond, List, [], ◌∷◌, ◌++◌, map, drop, Some, refl, sym, ap, ◌∙◌, subst, append_assoc, append-nil}
 use Rattle.std.specs.Prelude.{slice_index, Option}
 use Rattle.std.proofs.lemmas.List.{map-append}
 use Rattle.sig_base.specs.declared.value.Known.{Known}
@@ -9,15 +9,15 @@ use Rattle.sig_base.specs.declared.value.Fault.TheVariants.{Cycle}
 use Rattle.signal_model.specs.Recipes.{Hosts}
 use Rattle.signal_model.specs.Standing.{Signals, Computed, Stands, IsGone, IsCell, IsComputed, is_in, standing}
 use Rattle.signal_model.specs.Values.{Seen, value_of}
-use Rattle.signal_model.specs.Memos.{Source, Memos, differs, holds_cycle, is_moved, memo_of, sources_of}
-use Rattle.signal_model.specs.Settling.{Run, Settled, settled}
+use Rattle.signal_model.specs.Memos.{Source, Memos, differs, holds_cycle, memo_of, sources_of}
+use Rattle.signal_model.specs.Settling.{Run, Settled}
 use Rattle.signal_model.specs.Sound.{outcome_here, standing_outcome}
 use Rattle.signal_model.specs.Kept.{AreKept}
 use Rattle.signal_laws.proofs.Shared.{in_head}
 use Rattle.sig_nodes.specs.Answers.{answer_here, slots_here}
 use Rattle.settle_model.specs.Stepping.{Phase, Looking, LookedAt, Running, Waiting, Frame, Underway, frame_names, begun, new_frame, is_ready, ready_outcome}
-use Rattle.settle_model.specs.Stepping.{Move, GoesOn, Needs, Stops, Ends, decided, looked, told, waited, answered, move_of, frame_move, after_move, stepped}
-use Rattle.settle_model.specs.SteppingLaws.{IsOver, IsSettled}
+use Rattle.settle_model.specs.Stepping.{Move, GoesOn, Needs, Stops, Ends, decided, looked, told, waited, answered, move_of, frame_move, after_move}
+use Rattle.settle_model.specs.SteppingLaws.{IsSettled}
 use Rattle.settle_model.proofs.Shared.{Holds, begun_holds, step_holds, over_settled, shown_visited}
 use Rattle.sig_computed.specs.Notes.{Note, run_note, IsSettling}
 use Rattle.sig_computed.specs.Views.{or_cycle}

@@ -1,10 +1,10 @@
 -- How contracts see the frames of the code, and the graph that they stand on.
-use Rattle.std.specs.Prelude.{◌≡◌, ℕ, Bool, true, false, List, [], ◌∷◌, map, reverse, Option, Some, None, if◌then◌else◌}
+use Rattle.std.specs.Prelude.{◌≡◌, ℕ, Bool, false, List, [], ◌∷◌, map, reverse, Option, Some, None, if◌then◌else◌}
 use Rattle.sig_base.specs.declared.value.Outcome.{Outcome}
 use Rattle.sig_base.specs.declared.value.Outcome.TheVariants.{Bad}
 use Rattle.sig_base.specs.declared.value.Fault.TheVariants.{Cycle}
 use Rattle.sig_base.specs.declared.value.Known.{Known}
-use Rattle.signal_model.specs.Standing.{changed, is_in}
+use Rattle.signal_model.specs.Standing.{changed}
 use Rattle.signal_model.specs.Values.{Seen, Evaluation}
 use Rattle.signal_model.specs.Memos.{Source, Memos, is_moved}
 use Rattle.sig_nodes.specs.States as states

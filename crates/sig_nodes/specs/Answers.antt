@@ -3,7 +3,7 @@ use Rattle.std.specs.Prelude.{ℕ, ◌||◌, Bool, false, List, [], Option, Some
 use Rattle.sig_base.specs.declared.value.Value.{Value}
 use Rattle.sig_base.specs.declared.value.Known.{Known}
 use Rattle.sig_base.specs.declared.value.Step.{Step}
-use Rattle.sig_base.specs.declared.value.Step.TheVariants.{Read, Fail}
+use Rattle.sig_base.specs.declared.value.Step.TheVariants.{Fail}
 use Rattle.sig_base.specs.declared.value.Fault.TheVariants as fault
 use Rattle.sig_formula.specs.Trees.{tree}
 use Rattle.signal_model.specs.Recipes as recipes

@@ -1,4 +1,4 @@
-use Rattle.std.proofs.Common.{sym, ap, ◌∙◌, drop, map}
+use Rattle.std.proofs.Common.{sym, ◌∙◌, drop, map}
 use Rattle.signal_model.specs.Memos.{holds_cycle, sources_of}
 use Rattle.settle_model.specs.Stepping.{GoesOn, Running}
 use Rattle.sig_computed.specs.Views.{evaluating, first_moved, seen_of}

@@ -1,4 +1,4 @@
-use Rattle.std.proofs.Common.{◌≡◌, ◌∙◌, sym}
+use Rattle.std.proofs.Common.{◌∙◌}
 use Rattle.signal_model.specs.Standing.{standing, is_in}
 use Rattle.sig_nodes.specs.States.{is_computing}
 use Rattle.sig_computed.specs.Views.{evaluating}

@@ -1,4 +1,4 @@
-use Rattle.std.proofs.Common.{◌<◌, length, sym, subst, arith}
+use Rattle.std.proofs.Common.{◌<◌, sym, subst}
 use Rattle.sig_computed.proofs.Bits.{in_marked}
 use Rattle.sig_computed.proofs.visited.is_visited.Goals as goal
 

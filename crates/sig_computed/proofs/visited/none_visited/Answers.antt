@@ -1,4 +1,4 @@
-use Rattle.std.proofs.Common.{◌≡◌, ◌+◌, ◌∷◌, [], false, length, length-append, ap, ◌∙◌}
+use Rattle.std.proofs.Common.{◌+◌, ◌∷◌, [], false, length, length-append, ap, ◌∙◌}
 use Rattle.sig_computed.specs.Visited.{marked}
 use Rattle.sig_computed.proofs.Bits.{marked_more, marked_none}
 use Rattle.sig_computed.proofs.visited.none_visited.Goals as goal

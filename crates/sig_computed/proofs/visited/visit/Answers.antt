@@ -1,4 +1,4 @@
-use Rattle.std.proofs.Common.{◌<◌, length, sym, subst}
+use Rattle.std.proofs.Common.{◌<◌, sym, subst}
 use Rattle.sig_computed.proofs.Bits.{marked_set}
 use Rattle.sig_computed.proofs.visited.visit.Goals as goal
 

@@ -1,8 +1,9 @@
-use Rattle.std.proofs.Common.{ap, sym, ◌∙◌, arith}
+use Rattle.std.proofs.Common.{◌≡◌, nat_lt, true, refl, ap, sym, ◌∙◌, subst, arith}
 use Rattle.std.proofs.Common.{Vec, Global}
+use Rattle.std.specs.List.{All}
 use Rattle.sig_base.specs.declared.ids.NodeId.{NodeId}
 use Rattle.signal_model.specs.Standing.{standing}
-use Rattle.sig_nodes.specs.States.{Seen, is_computing, is_given}
+use Rattle.sig_nodes.specs.States.{Seen, is_computing}
 use Rattle.settle_rows.proofs.Scenes.{given_here, not_cell}
 use Rattle.settle_rows.proofs.scene.Scene.rewire.Goals as goal
 
@@ -16,8 +17,9 @@ rewire-requires c =
       kind = not_cell (standing c.count.new.self.graph.state.signals c.in_ok-id.id) (is_computing c.count.new.self.graph.state c.in_ok-id.id)
           (λ k. c.in_default.not-Cell (c.standing.ensures ∙ k));
       idle = ap (λ (g : Seen). is_computing g.state c.in_ok-id.id) same ∙ c.requires.idle c.in_ok-id.id;
-      given = c.in_ok-slots.ensures (is_given c.count.new.self.graph)
-          (given_here c.args.self.now.graph c.count.new.self.graph c.args.self.now.ids.items c.deref-2.result.now same
-          (c.deref-2.ensures.value ∙ ap (λ (v : Vec NodeId Global). v.items) c.in_ok-count.ensures.ids) c.requires.given);
+      given = given_here c.args.self.now.graph c.count.new.self.graph c.in_ok-slots.slots.items c.in_ok-slots.slots.items same refl
+          (c.in_ok-slots.ensures (λ n. nat_lt n c.args.self.now.graph.given)
+          (subst (All (λ n. nat_lt n c.args.self.now.graph.given ≡ true))
+          (sym (c.deref-2.ensures.value ∙ ap (λ (v : Vec NodeId Global). v.items) c.in_ok-count.ensures.ids)) c.requires.given));
       worn = omega (arith, worn, before, few);
     }

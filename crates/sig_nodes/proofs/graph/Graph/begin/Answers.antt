@@ -1,4 +1,4 @@
-use Rattle.std.proofs.Common.{[], List, Some, length, sym, ap, ◌∙◌, subst, arith}
+use Rattle.std.proofs.Common.{[], List, Some, length, sym, ap, ◌∙◌, subst}
 use Rattle.signal_model.specs.Standing.{is_computed, standing}
 use Rattle.sig_nodes.specs.declared.node.Node.{Node}
 use Rattle.sig_nodes.specs.States.{progress_at, Seen, with_progress}

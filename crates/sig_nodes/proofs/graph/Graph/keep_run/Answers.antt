@@ -1,4 +1,4 @@
-use Rattle.std.proofs.Common.{◌+◌, ◌<◌, List, length, map, sym, ap, ◌∙◌, subst, arith, is_some}
+use Rattle.std.proofs.Common.{◌+◌, ◌<◌, List, length, map, sym, ap, ◌∙◌, subst, is_some}
 use Rattle.std.specs.List.{All}
 use Rattle.signal_model.specs.Memos.{Memo, named_now}
 use Rattle.sig_nodes.specs.declared.node.Node.{Node}

@@ -1,4 +1,4 @@
-use Rattle.std.proofs.Common.{List, Option, Some, length, sym, ap, ◌∙◌, subst, arith}
+use Rattle.std.proofs.Common.{List, Option, Some, length, sym, ap, ◌∙◌, subst}
 use Rattle.signal_model.specs.Standing.{standing}
 use Rattle.sig_nodes.specs.declared.node.Node.{Node}
 use Rattle.sig_nodes.specs.Answers.{answer_here, slots_here}

@@ -1,4 +1,4 @@
-use Rattle.std.proofs.Common.{List, None, length, sym, ap, ◌∙◌, subst, arith, is_some}
+use Rattle.std.proofs.Common.{List, None, length, sym, ap, ◌∙◌, subst, is_some}
 use Rattle.sig_nodes.specs.declared.node.Node.{Node}
 use Rattle.sig_nodes.specs.States.{Seen, is_computing, with_progress}
 use Rattle.sig_nodes.specs.Places.{Holds}
