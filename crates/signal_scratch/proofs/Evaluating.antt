@@ -145,7 +145,7 @@ module _ (w : Signals) where
       go n Running r = absurd r
       go n (Ended o) r = r hosts
 
-  none_runs : (t : List Progress) → length t ≡ made w → ((hosts : Hosts) → AreRight hosts w [] t) → IsOf w t
+  none_runs : (t : List Progress) → length t ≡ live_count w → ((hosts : Hosts) → AreRight hosts w [] t) → IsOf w t
   none_runs t each right = record { each = each; right = λ n. go n (get_or t n Waiting) (λ hosts. (right hosts).right n) }
     where
       go : (n : ℕ) (p : Progress) → ((hosts : Hosts) → IsRightAlong hosts w [] n p) → IsRight w n p
