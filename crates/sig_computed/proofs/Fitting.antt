@@ -239,7 +239,7 @@ some_computing g n l e = ap is_some e
 module _ (g h : states.Seen) (f : Frame) (fs : List Frame) (fit : AreFit g (f ∷ fs))
     (idle : (m : ℕ) → is_in m (frame_names (f ∷ fs)) ≡ false → is_computing g.state m ≡ false) where
   -- a frame that has looked or waited
-  quiet_turn : Stays g h g.state.progress → (mv : Move) → MoveFits g f.name mv → CanMove g mv → HasMove h f.name fs mv
+  quiet_turn : {most : ℕ} → Stays g h g.state.progress most → (mv : Move) → MoveFits g f.name mv → CanMove g mv → HasMove h f.name fs mv
   quiet_turn s mv fits can = record {
     computed = fit.0.computed;
     stands = ap (λ w. standing w f.name) s.signals ∙ fit.0.stands;
@@ -252,7 +252,7 @@ module _ (g h : states.Seen) (f : Frame) (fs : List Frame) (fit : AreFit g (f �
   }
 
   -- one that has asked its recipe
-  asked_turn : (known : List Known) (reads : List Seen) → AreReadsGiven g reads → Stays g h (progressed f.name (Some known) g.state.progress) → (mv : Move) →
+  asked_turn : {most : ℕ} (known : List Known) (reads : List Seen) → AreReadsGiven g reads → Stays g h (progressed f.name (Some known) g.state.progress) most → (mv : Move) →
       IsAnswered (slots_here (standing g.state.signals f.name)) known reads mv → HasMove h f.name fs mv
   asked_turn known reads given s mv a =
       let stands : standing h.state.signals f.name ≡ IsComputed fit.0.computed = ap (λ w. standing w f.name) s.signals ∙ fit.0.stands in
@@ -276,9 +276,9 @@ module _ (g h : states.Seen) (f : Frame) (fs : List Frame) (fit : AreFit g (f �
       }
 
   -- any
-  pub after_turn : (visited : List ℕ) (p : Phase) → f.phase ≡ p → (mv : Move) →
+  pub after_turn : {most : ℕ} (visited : List ℕ) (p : Phase) → f.phase ≡ p → (mv : Move) →
       IsMove g.state.signals g.state.memos (evaluating g.state) visited f.name p mv → AreReadsGiven g (move_reads mv) →
-      Stays g h (progress_by f.name p g.state.progress) → HasMove h f.name fs mv
+      Stays g h (progress_by f.name p g.state.progress) most → HasMove h f.name fs mv
   after_turn visited (Looking place) e mv is given s =
       let none : take (length fit.0.earlier) [] ≡ fit.0.earlier = ap (λ x. take (length fit.0.earlier) (phase_known x)) (sym e) ∙ fit.0.known in
       quiet_turn s mv (subst (MoveFits g f.name) (sym is) (look_moves g f fit.0 none g.state.memos visited _ place _))
@@ -376,7 +376,7 @@ after_move g h k n fs (Ends e) x y = ended g h n fs x.off x.rest x.idle y.signal
 -- at the beginning
 pub first_move : (g h : states.Seen) (n : ℕ) (fs : List Frame) → ((m : ℕ) → is_computing g.state m ≡ false) →
     is_computed (standing g.state.signals n) ≡ true → fs ≡ new_frame g.state.memos n ∷ [] →
-    Stays g h (progressed n (Some []) g.state.progress) → progress_at n h.state.progress ≡ Some [] → HasFirst g h n fs
+    Stays g h (progressed n (Some []) g.state.progress) 1 → progress_at n h.state.progress ≡ Some [] → HasFirst g h n fs
 first_move g h n fs idle live is s begun =
     let c = computed_there (standing g.state.signals n) live in
     let stack : HasStack h (new_frame g.state.memos n ∷ []) = record {
@@ -391,6 +391,7 @@ first_move g h n fs idle live is s begun =
       worn = s.worn;
       seats = s.seats;
       given = s.given;
+      steps = s.steps;
       fits = stack'.fits;
       idle = stack'.idle;
     }

@@ -3,13 +3,19 @@ use Rattle.std.proofs.Common.{◌≡◌, ℕ, ◌+◌, Bool, true, false, [], Op
 use Rattle.sig_base.specs.declared.value.Outcome.{Outcome}
 use Rattle.sig_base.specs.declared.value.Outcome.TheVariants.{Bad}
 use Rattle.sig_base.specs.declared.value.Fault.TheVariants.{Cycle}
-use Rattle.signal_model.specs.Standing.{Stands, IsGone, IsCell, IsComputed}
+use Rattle.signal_model.specs.Standing.{Stands, IsGone, IsCell, IsComputed, is_computed}
 use Rattle.signal_model.specs.Memos.{Memo}
 use Rattle.signal_model.specs.Sound.{kept_outcome, outcome_here}
 use Rattle.sig_nodes.specs.declared.answers.Standing.TheVariants.{Computed, Computing}
 use Rattle.sig_nodes.specs.Answers.{kind_here}
 use Rattle.settle_model.specs.Stepping.{Running, Looking, GoesOn, is_ready, ready_outcome, decided}
 use Rattle.sig_computed.specs.Views.{or_cycle}
+
+-- what is answered as a computed is one
+pub kind_computed : (st : Stands) (b : Bool) → Computed ≡ kind_here st b → is_computed st ≡ true
+kind_computed IsGone b k = cc
+kind_computed (IsCell c) b k = cc
+kind_computed (IsComputed c) b k = refl
 
 -- a computed that isn't being evaluated is ready where it was visited
 pub ready_computed : (st : Stands) (b e v : Bool) → Computed ≡ kind_here st b → e ≡ b → v ≡ is_ready st e v

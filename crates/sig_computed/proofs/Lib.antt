@@ -7,3 +7,4 @@ mod Measure
 mod Loops
 mod Runs
 mod Fitting
+mod Counting

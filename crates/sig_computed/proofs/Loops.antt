@@ -1,5 +1,5 @@
 -- One turn of the loop.
-use Rattle.std.proofs.Common.{◌≡◌, ℕ, ◌+◌, ◌-◌, ◌<◌, Bool, List, [], ◌∷◌, ◌++◌, map, take, length, refl, sym, ap, ◌∙◌, subst, arith}
+use Rattle.std.proofs.Common.{◌≡◌, ℕ, ◌+◌, ◌-◌, ◌<◌, ◌≤◌, Bool, List, [], ◌∷◌, ◌++◌, map, take, length, refl, sym, ap, ◌∙◌, subst, arith}
 use Rattle.std.proofs.lemmas.List.{reverse-append, length-append, length-map}
 use Rattle.signal_model.specs.Recipes.{Hosts}
 use Rattle.signal_model.specs.Kept.{AreGiven}
@@ -13,7 +13,7 @@ use Rattle.sig_computed.specs.declared.notes.RunNote.{RunNote}
 use Rattle.sig_computed.specs.Notes.{Note, note_of, AreNotesGiven}
 use Rattle.sig_computed.specs.Views.{evaluating, frame_of, phase_of, tops, Stays}
 use Rattle.sig_computed.specs.Visited.{marked}
-use Rattle.sig_computed.specs.Turns.{memos_after, move_by, move_reads, notes_of, progress_by, runs_of, stack_after, visited_after, AreReadsGiven, IsMove, IsMoved}
+use Rattle.sig_computed.specs.Turns.{memos_after, move_by, move_reads, move_steps, notes_of, progress_by, runs_of, stack_after, turn_steps, visited_after, AreReadsGiven, IsMove, IsMoved}
 use Rattle.sig_computed.proofs.Fitting.{HasMove, HasStack, after_turn, after_move, frames_are, given_stays, move_given}
 use Rattle.sig_computed.proofs.Measure.{work, turn_lowers}
 use Rattle.sig_computed.proofs.Wholes.{IsWhole, step_whole}
@@ -35,7 +35,7 @@ pub record IsTurn (start g h : states.Seen) (stack rest : List Open) (f : Open) 
   pub same : bits' ≡ bits
   pub some : IsMove g.state.signals g.state.memos (evaluating g.state) (marked g.seats bits') f.id (phase_of f.doing) mv
   pub given : AreReadsGiven g (move_reads mv)
-  pub stays : Stays g h (progress_by f.id (phase_of f.doing) g.state.progress)
+  pub stays : Stays g h (progress_by f.id (phase_of f.doing) g.state.progress) (turn_steps (phase_of f.doing) mv)
 
 -- The move is made: h is i.
 pub record IsMade (h i : states.Seen) (rest next : List Open) (f : Open) (bits bits' : List Bool) (mv : Move) : Type 0 where
@@ -105,23 +105,28 @@ module _ (start g h : states.Seen) (stack rest : List Open) (f : Open) (bits bit
         (λ j. work start.state.signals g.state.memos (sym top j) (marked start.seats (t.same j))) in
         omega (arith, low, a, b)
 
+    -- the steps of the turn and of its move
+    steps_more : i.state.looked ≤ g.state.looked + turn_steps (phase_of f.doing) mv + move_steps mv
+    steps_more = let a = t.stays.steps in let b = d.graph.steps in omega (arith, a, b)
+
     -- the whole stays the whole
-    pub turn_whole : (hosts : Hosts) (k0 : Memos) (asked : List ℕ) (before after after' : List Note) → after' ≡ after ++ notes_of f.id mv →
+    pub turn_whole : (hosts : Hosts) (k0 : Memos) (steps0 : ℕ) (asked : List ℕ) (before after after' : List Note) → after' ≡ after ++ notes_of f.id mv →
         mv ≡ move_by hosts g.state.signals g.state.memos (evaluating g.state) (marked g.seats bits') f.id (phase_of f.doing) →
-        IsWhole hosts start.state.signals k0 asked g.state.memos before after (marked start.seats bits) (tops stack) →
-        IsWhole hosts start.state.signals k0 asked i.state.memos before after' (marked start.seats bits'') (tops stack')
-    turn_whole hosts k0 asked before after after' notes is x =
+        IsWhole hosts start.state.signals k0 steps0 asked g.state.memos g.state.looked before after (marked start.seats bits) (tops stack) →
+        IsWhole hosts start.state.signals k0 steps0 asked i.state.memos i.state.looked before after' (marked start.seats bits'') (tops stack')
+    turn_whole hosts k0 steps0 asked before after after' notes is x =
         let stands = ap (λ w. standing w f.id) (sym t.signals) ∙ frames.fits.0.stands in
         let is' : mv ≡ move_by hosts start.state.signals g.state.memos (evaluating g.state) (marked start.seats bits') f.id (phase_of f.doing) =
         is ∙ (λ j. move_by hosts (t.signals j) g.state.memos (evaluating g.state) (marked (t.seats j) bits') f.id (phase_of f.doing)) in
-        let x' : IsWhole hosts start.state.signals k0 asked g.state.memos before after (marked start.seats bits') (frame_of f ∷ tops rest) =
-        subst (λ y. IsWhole hosts start.state.signals k0 asked g.state.memos before after (marked start.seats y) (frame_of f ∷ tops rest)) (sym t.same)
-        (subst (λ y. IsWhole hosts start.state.signals k0 asked g.state.memos before after (marked start.seats bits) y) top x) in
-        let y : IsWhole hosts start.state.signals k0 asked (memos_after g.state.memos f.id mv) before (after ++ notes_of f.id mv)
+        let x' : IsWhole hosts start.state.signals k0 steps0 asked g.state.memos g.state.looked before after (marked start.seats bits') (frame_of f ∷ tops rest) =
+        subst (λ y. IsWhole hosts start.state.signals k0 steps0 asked g.state.memos g.state.looked before after (marked start.seats y) (frame_of f ∷ tops rest)) (sym t.same)
+        (subst (λ y. IsWhole hosts start.state.signals k0 steps0 asked g.state.memos g.state.looked before after (marked start.seats bits) y) top x) in
+        let y : IsWhole hosts start.state.signals k0 steps0 asked (memos_after g.state.memos f.id mv) i.state.looked before (after ++ notes_of f.id mv)
         (marked start.seats bits'') (stack_after g.state.memos f.id mv (tops rest)) =
-        step_whole hosts start.state.signals k0 asked g.state.memos before after (evaluating g.state) (marked start.seats bits') (marked start.seats bits'')
-        (frame_of f) (tops rest) mv frames.fits.0.computed stands x' who is' visits in
-        subst (λ z. z) (λ j. IsWhole hosts start.state.signals k0 asked (sym memos_is j) before (sym notes j) (marked start.seats bits'') (sym stack_is j)) y
+        step_whole hosts start.state.signals k0 steps0 asked g.state.memos g.state.looked i.state.looked before after (evaluating g.state)
+        (marked start.seats bits') (marked start.seats bits'') (frame_of f) (tops rest) mv frames.fits.0.computed stands x' who is' visits steps_more in
+        subst (λ z. z)
+        (λ j. IsWhole hosts start.state.signals k0 steps0 asked (sym memos_is j) i.state.looked before (sym notes j) (marked start.seats bits'') (sym stack_is j)) y
 
 -- as many notes as runs
 pub notes_count : (n : ℕ) (mv : Move) (before after : List RunNote) → map note_of after ≡ map note_of before ++ notes_of n mv →

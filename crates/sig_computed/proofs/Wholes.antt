@@ -1,5 +1,5 @@
 -- The steps of the loop are those of settling, for all hosts for which what was kept is sound.
-use Rattle.std.proofs.Common.{◌≡◌, ℕ, ◌==◌, ◌||◌, Bool, true, false, cond, List, [], ◌∷◌, ◌++◌, map, drop, Some, refl, sym, ap, ◌∙◌, subst, append_assoc, append-nil}
+use Rattle.std.proofs.Common.{◌≡◌, ℕ, ◌+◌, ◌≤◌, ◌==◌, ◌||◌, Bool, true, false, cond, List, [], ◌∷◌, ◌++◌, map, drop, length, arith, Some, refl, sym, ap, ◌∙◌, subst, append_assoc, append-nil}
 use Rattle.std.specs.Prelude.{slice_index, Option}
 use Rattle.std.proofs.lemmas.List.{map-append}
 use Rattle.sig_base.specs.declared.value.Known.{Known}
@@ -7,13 +7,14 @@ use Rattle.sig_base.specs.declared.value.Outcome.{Outcome}
 use Rattle.sig_base.specs.declared.value.Outcome.TheVariants.{Bad}
 use Rattle.sig_base.specs.declared.value.Fault.TheVariants.{Cycle}
 use Rattle.signal_model.specs.Recipes.{Hosts}
-use Rattle.signal_model.specs.Standing.{Signals, Computed, Stands, IsGone, IsCell, IsComputed, is_in, standing}
+use Rattle.signal_model.specs.Standing.{Signals, Computed, Stands, IsGone, IsCell, IsComputed, is_computed, is_in, standing}
 use Rattle.signal_model.specs.Values.{Seen, value_of}
-use Rattle.signal_model.specs.Memos.{Source, Memos, differs, holds_cycle, memo_of, sources_of}
-use Rattle.signal_model.specs.Settling.{Run, Settled}
+use Rattle.signal_model.specs.Memos.{Source, Memos, differs, holds_cycle, memo_in, memo_of, sources_in, sources_of}
+use Rattle.signal_model.specs.Settling.{Run, Settled, settled, source_now}
+use Rattle.signal_model.specs.Orders.{evaluation_order}
 use Rattle.signal_model.specs.Sound.{outcome_here, standing_outcome}
 use Rattle.signal_model.specs.Kept.{AreKept}
-use Rattle.signal_laws.proofs.Shared.{in_head}
+use Rattle.signal_laws.proofs.Shared.{in_head, or_fst, or_snd, run_other, seen_is}
 use Rattle.sig_nodes.specs.Answers.{answer_here, slots_here}
 use Rattle.settle_model.specs.Stepping.{Phase, Looking, LookedAt, Running, Waiting, Frame, Underway, frame_names, begun, new_frame, is_ready, ready_outcome}
 use Rattle.settle_model.specs.Stepping.{Move, GoesOn, Needs, Stops, Ends, decided, looked, told, waited, answered, move_of, frame_move, after_move}
@@ -21,7 +22,9 @@ use Rattle.settle_model.specs.SteppingLaws.{IsSettled}
 use Rattle.settle_model.proofs.Shared.{Holds, begun_holds, step_holds, over_settled, shown_visited}
 use Rattle.sig_computed.specs.Notes.{Note, run_note, IsSettling}
 use Rattle.sig_computed.specs.Views.{or_cycle}
-use Rattle.sig_computed.specs.Turns.{evaluation_note, first_stack, memos_after, move_by, notes_of, stack_after, visited_after, waits}
+use Rattle.sig_computed.specs.Steps.{kept_count, run_steps, settling_steps, visit_steps}
+use Rattle.sig_computed.specs.Turns.{evaluation_note, first_stack, memos_after, move_by, move_steps, notes_of, stack_after, turn_steps, visited_after, waits}
+use Rattle.sig_computed.proofs.Counting.{Pays, name_steps, new_steps, pays, phase_steps, run_more, seen_steps, stack_steps}
 
 -- a settling of which no more names are asked
 abbrev pub underway : Memos → List Run → List ℕ → List Frame → Underway
@@ -69,14 +72,16 @@ shows_ready hosts w k0 asked m h n b r = go (standing w n) refl
             let on : is_in n m.visited ≡ true = (λ i. is_ready (sym e i) (sym q i) (is_in n m.visited)) ∙ r in
             (value_of hosts w n [], (λ i. ready_outcome (e i) (q i) (standing_outcome w m.memos n)) ∙ shown_visited hosts w k0 asked m h n c on e)
 
-module _ (hosts : Hosts) (w : Signals) (k0 : Memos) (asked : List ℕ) where
-  -- What is kept and the notes behind those before are so far those of settling.
-  pub record IsWhole (k : Memos) (before after : List Note) (visited : List ℕ) (fs : List Frame) : Type 0 where
+module _ (hosts : Hosts) (w : Signals) (k0 : Memos) (steps0 : ℕ) (asked : List ℕ) where
+  -- What is kept and the notes behind those before are so far those of settling, and at most so many steps were counted by now.
+  pub record IsWhole (k : Memos) (steps : ℕ) (before after : List Note) (visited : List ℕ) (fs : List Frame) : Type 0 where
     pub names : List ℕ
     pub agrees : (m : ℕ) → is_in m visited ≡ is_in m names
     pub runs : List Run
     pub told : after ≡ before ++ map run_note runs
     pub holds : Holds hosts w k0 asked (underway k runs names fs)
+    pub lasts : (m : ℕ) → is_in m names ≡ false → sources_of k m ≡ sources_of k0 m
+    pub counted : steps ≤ steps0 + (name_steps k0 names + run_steps runs + stack_steps k0 fs)
 
   -- the move is that of settling
   same_move : (k : Memos) (rs : List Run) (names evaluating visited : List ℕ) (n : ℕ) (p : Phase) (fs : List Frame) (c : Computed) →
@@ -94,51 +99,95 @@ module _ (hosts : Hosts) (w : Signals) (k0 : Memos) (asked : List ℕ) where
       (slice_index (slots_here (standing w n)) slot) (is_in (slice_index (slots_here (standing w n)) slot) (n ∷ frame_names fs)))
       ∙ (λ i. waited w k (n ∷ frame_names fs) names slot (slice_index (slots_here (stands i)) slot) known reads)
 
+  -- a name that isn't among more isn't among fewer, and is none of them
+  fewer : (m n : ℕ) (ns : List ℕ) → is_in m (n ∷ ns) ≡ false → ((m == n) ≡ false) × (is_in m ns ≡ false)
+  fewer m n ns off = (or_fst (m == n) (is_in m ns) off, or_snd (m == n) (is_in m ns) off)
+
   -- once the move is made
-  moved_whole : (k : Memos) (before after : List Note) (visited visited' names : List ℕ) (rs : List Run) (f : Frame) (fs : List Frame) (mv : Move) →
+  moved_whole : (k : Memos) (steps steps' : ℕ) (before after : List Note) (visited visited' names : List ℕ) (rs : List Run) (f : Frame) (fs : List Frame) (mv : Move) →
       ((m : ℕ) → is_in m visited ≡ is_in m names) → after ≡ before ++ map run_note rs →
       ((m : ℕ) → is_in m visited' ≡ is_in m (visited_after f.name mv visited)) →
       Holds hosts w k0 asked (after_move (underway k rs names (f ∷ fs)) f.name fs mv) →
-      IsWhole (memos_after k f.name mv) before (after ++ notes_of f.name mv) visited' (stack_after k f.name mv fs)
-  moved_whole k before after visited visited' names rs f fs (GoesOn p) agrees told vi h =
-      record { names = names; agrees = λ m. vi m ∙ agrees m; runs = rs; told = append-nil after ∙ told; holds = h }
-  moved_whole k before after visited visited' names rs f fs (Needs s p) agrees told vi h =
-      record { names = names; agrees = λ m. vi m ∙ agrees m; runs = rs; told = append-nil after ∙ told; holds = h }
-  moved_whole k before after visited visited' names rs f fs Stops agrees told vi h =
-      record { names = f.name ∷ names; agrees = λ m. vi m ∙ ap (λ b. m == f.name || b) (agrees m); runs = rs; told = append-nil after ∙ told; holds = h }
-  moved_whole k before after visited visited' names rs f fs (Ends e) agrees told vi h =
+      ((m : ℕ) → is_in m names ≡ false → sources_of k m ≡ sources_of k0 m) →
+      steps ≤ steps0 + (name_steps k0 names + run_steps rs + stack_steps k0 (f ∷ fs)) →
+      steps' ≤ steps + turn_steps f.phase mv + move_steps mv → Pays (kept_count k0 f.name) f.phase mv →
+      IsWhole (memos_after k f.name mv) steps' before (after ++ notes_of f.name mv) visited' (stack_after k f.name mv fs)
+  moved_whole k steps steps' before after visited visited' names rs f fs (GoesOn p) agrees told vi h lasts count more pay =
+      record {
+        names = names;
+        agrees = λ m. vi m ∙ agrees m;
+        runs = rs;
+        told = append-nil after ∙ told;
+        holds = h;
+        lasts = lasts;
+        counted = omega (arith, count, more, pay);
+      }
+  moved_whole k steps steps' before after visited visited' names rs f fs (Needs s p) agrees told vi h lasts count more pay =
+      let new : 1 ≤ phase_steps (kept_count k0 s) (new_frame k s).phase = new_steps k s (kept_count k0 s) in
+      record {
+        names = names;
+        agrees = λ m. vi m ∙ agrees m;
+        runs = rs;
+        told = append-nil after ∙ told;
+        holds = h;
+        lasts = lasts;
+        counted = omega (arith, count, more, pay, new);
+      }
+  moved_whole k steps steps' before after visited visited' names rs f fs Stops agrees told vi h lasts count more pay =
+      record {
+        names = f.name ∷ names;
+        agrees = λ m. vi m ∙ ap (λ b. m == f.name || b) (agrees m);
+        runs = rs;
+        told = append-nil after ∙ told;
+        holds = h;
+        lasts = λ m off. lasts m (fewer m f.name names off).1;
+        counted = omega (arith, count, more, pay);
+      }
+  moved_whole k steps steps' before after visited visited' names rs f fs (Ends e) agrees told vi h lasts count more pay =
       let r : Run = record { name = f.name; evaluation = e } in
+      let ran : run_steps (rs ++ r ∷ []) ≡ run_steps rs + (1 + length e.reads) = run_more rs r in
       record {
         names = f.name ∷ names;
         agrees = λ m. vi m ∙ ap (λ b. m == f.name || b) (agrees m);
         runs = rs ++ r ∷ [];
         told = ap (λ l. l ++ evaluation_note f.name e ∷ []) told ∙ append_assoc before (map run_note rs) (evaluation_note f.name e ∷ []) ∙ ap (λ l. before ++ l) (sym (map-append run_note rs (r ∷ [])));
         holds = h;
+        lasts = λ m off.
+            let x = fewer m f.name names off in
+            ap (λ o. sources_in (memo_in o)) (run_other k f.name e.outcome (map (source_now k) e.reads) m x.0) ∙ lasts m x.1;
+        counted = omega (arith, count, more, pay, ran);
       }
 
   -- a step of the loop
-  pub step_whole : (k : Memos) (before after : List Note) (evaluating visited visited' : List ℕ) (f : Frame) (fs : List Frame) (mv : Move) (c : Computed) →
-      standing w f.name ≡ IsComputed c → IsWhole k before after visited (f ∷ fs) → ((m : ℕ) → is_in m evaluating ≡ is_in m (f.name ∷ frame_names fs)) →
+  pub step_whole : (k : Memos) (steps steps' : ℕ) (before after : List Note) (evaluating visited visited' : List ℕ) (f : Frame) (fs : List Frame) (mv : Move) (c : Computed) →
+      standing w f.name ≡ IsComputed c → IsWhole k steps before after visited (f ∷ fs) → ((m : ℕ) → is_in m evaluating ≡ is_in m (f.name ∷ frame_names fs)) →
       mv ≡ move_by hosts w k evaluating visited f.name f.phase → ((m : ℕ) → is_in m visited' ≡ is_in m (visited_after f.name mv visited)) →
-      IsWhole (memos_after k f.name mv) before (after ++ notes_of f.name mv) visited' (stack_after k f.name mv fs)
-  step_whole k before after evaluating visited visited' f fs mv c stands x ev is vi =
+      steps' ≤ steps + turn_steps f.phase mv + move_steps mv →
+      IsWhole (memos_after k f.name mv) steps' before (after ++ notes_of f.name mv) visited' (stack_after k f.name mv fs)
+  step_whole k steps steps' before after evaluating visited visited' f fs mv c stands x ev is vi more =
       let u : Underway = underway k x.runs x.names (f ∷ fs) in
       let same : mv ≡ frame_move hosts w k (frame_names fs) x.names f (standing w f.name) =
       is ∙ same_move k x.runs x.names evaluating visited f.name f.phase fs c stands x.holds ev x.agrees
       ∙ (λ i. frame_move hosts w k (frame_names fs) x.names f (sym stands i)) in
-      moved_whole k before after visited visited' x.names x.runs f fs mv x.agrees x.told vi
+      let new : is_in f.name x.names ≡ false = ap (is_in f.name) x.holds.seen ∙ seen_is f.name [] x.holds.vs ∙ x.holds.frames.0.new in
+      let pay : Pays (kept_count k0 f.name) f.phase mv = subst (λ y. Pays (length y) f.phase mv) (x.lasts f.name new)
+      (subst (Pays (kept_count k f.name) f.phase) (sym is) (pays hosts w k evaluating visited f.name f.phase)) in
+      moved_whole k steps steps' before after visited visited' x.names x.runs f fs mv x.agrees x.told vi
       (subst (λ y. Holds hosts w k0 asked (after_move u f.name fs y)) (sym same) (step_holds hosts w k0 asked u x.holds))
+      x.lasts x.counted more pay
 
 -- at the beginning
-pub first_whole : (hosts : Hosts) (w : Signals) (k : Memos) (n : ℕ) (before : List Note) (visited : List ℕ) → AreKept hosts w k → visited ≡ [] →
-    IsWhole hosts w k (n ∷ []) k before before visited (first_stack w k n)
-first_whole hosts w k n before visited kept none = record {
+pub first_whole : (hosts : Hosts) (w : Signals) (k : Memos) (steps0 steps n : ℕ) (before : List Note) (visited : List ℕ) → AreKept hosts w k → visited ≡ [] →
+    steps ≤ steps0 + stack_steps k (first_stack w k n) → IsWhole hosts w k steps0 (n ∷ []) k steps before before visited (first_stack w k n)
+first_whole hosts w k steps0 steps n before visited kept none count = record {
   names = [];
   agrees = λ m. ap (is_in m) none;
   runs = [];
   told = sym (append-nil before);
   holds = subst (Holds hosts w k (n ∷ [])) (go (is_ready (standing w n) false false))
       (step_holds hosts w k (n ∷ []) (begun k (n ∷ [])) (begun_holds hosts w k (n ∷ []) kept));
+  lasts = λ m off. refl;
+  counted = omega (arith, count);
 }
   where
     go : (b : Bool) → cond b (record (begun k (n ∷ [])) { asked = [] }) (record (begun k (n ∷ [])) { asked = []; stack = new_frame k n ∷ [] })
@@ -146,35 +195,52 @@ first_whole hosts w k n before visited kept none = record {
     go true = refl
     go false = refl
 
+-- the frame of a computed has counted the step by which it began
+pub first_steps : (w : Signals) (k : Memos) (n : ℕ) → is_computed (standing w n) ≡ true → 1 ≤ stack_steps k (first_stack w k n)
+first_steps w k n live = go (standing w n) live
+  where
+    go : (st : Stands) → is_computed st ≡ true → 1 ≤ stack_steps k (cond (is_ready st false false) [] (new_frame k n ∷ []))
+    go IsGone e = cc
+    go (IsCell c) e = cc
+    go (IsComputed c) e = let new : 1 ≤ phase_steps (kept_count k n) (new_frame k n).phase = new_steps k n (kept_count k n) in omega (arith, new)
+
 -- at the end
-pub record IsEnded (hosts : Hosts) (w : Signals) (k0 k : Memos) (n : ℕ) (before after : List Note) : Type 0 where
+pub record IsEnded (hosts : Hosts) (w : Signals) (k0 k : Memos) (steps0 steps n : ℕ) (before after : List Note) : Type 0 where
   pub settling : IsSettling hosts w k0 (n ∷ []) before after k
   pub kept : AreKept hosts w k
   pub value : standing_outcome w k n ≡ Some (value_of hosts w n [])
+  pub counted : steps ≤ steps0 + settling_steps hosts w k0 (n ∷ [])
 
-pub last_whole : (hosts : Hosts) (w : Signals) (k0 k : Memos) (n : ℕ) (before after : List Note) (visited : List ℕ) (fs : List Frame) → AreKept hosts w k0 →
-    fs ≡ [] → IsWhole hosts w k0 (n ∷ []) k before after visited fs → IsEnded hosts w k0 k n before after
-last_whole hosts w k0 k n before after visited fs kept none x =
-    let s : IsSettled hosts w k0 (n ∷ []) (underway k x.runs x.names fs) =
-    over_settled hosts w k0 (n ∷ []) (underway k x.runs x.names fs) kept x.holds (record { stack = none; asked = refl }) in
+over_whole : (hosts : Hosts) (w : Signals) (k0 k : Memos) (steps0 steps n : ℕ) (before after : List Note) (visited : List ℕ) → AreKept hosts w k0 →
+    IsWhole hosts w k0 steps0 (n ∷ []) k steps before after visited [] → IsEnded hosts w k0 k steps0 steps n before after
+over_whole hosts w k0 k steps0 steps n before after visited kept x =
+    let s : IsSettled hosts w k0 (n ∷ []) (underway k x.runs x.names []) =
+    over_settled hosts w k0 (n ∷ []) (underway k x.runs x.names []) kept x.holds (record { stack = refl; asked = refl }) in
+    let seen : name_steps k0 x.names ≡ 0 + visit_steps k0 x.holds.vs = ap (name_steps k0) x.holds.seen ∙ seen_steps k0 [] x.holds.vs in
+    let order : visit_steps k0 x.holds.vs ≡ visit_steps k0 (evaluation_order hosts w (n ∷ [])) = ap (visit_steps k0) x.holds.order in
+    let ran : run_steps (settled hosts w k0 (n ∷ [])).runs ≡ run_steps x.runs = ap (λ (y : Settled). run_steps y.runs) s.whole in
+    let count : steps ≤ steps0 + (name_steps k0 x.names + run_steps x.runs + 0) = x.counted in
     record {
       settling = record {
         memos = sym (ap (λ (y : Settled). y.memos) s.whole);
         notes = x.told ∙ sym (ap (λ (y : Settled). before ++ map run_note y.runs) s.whole);
       };
       kept = s.kept;
-      value = s.value n (here n);
+      value = s.value n (in_head n []);
+      counted = omega (arith, seen, order, ran, count);
     }
-  where
-    here : (m : ℕ) → is_in m (m ∷ []) ≡ true
-    here m = in_head m []
+
+pub last_whole : (hosts : Hosts) (w : Signals) (k0 k : Memos) (steps0 steps n : ℕ) (before after : List Note) (visited : List ℕ) (fs : List Frame) → AreKept hosts w k0 →
+    fs ≡ [] → IsWhole hosts w k0 steps0 (n ∷ []) k steps before after visited fs → IsEnded hosts w k0 k steps0 steps n before after
+last_whole hosts w k0 k steps0 steps n before after visited fs kept none x =
+    over_whole hosts w k0 k steps0 steps n before after visited kept (subst (IsWhole hosts w k0 steps0 (n ∷ []) k steps before after visited) none x)
 
 -- where nothing is asked that could run
-pub plain_ended : (hosts : Hosts) (w : Signals) (k : Memos) (n : ℕ) (before : List Note) → AreKept hosts w k → true ≡ is_ready (standing w n) false false →
-    IsEnded hosts w k k n before before
-plain_ended hosts w k n before kept ready =
-    last_whole hosts w k k n before before [] (first_stack w k n) kept (ap (λ b. cond b [] (new_frame k n ∷ [])) (sym ready))
-    (first_whole hosts w k n before [] kept refl)
+pub plain_ended : (hosts : Hosts) (w : Signals) (k : Memos) (steps n : ℕ) (before : List Note) → AreKept hosts w k → true ≡ is_ready (standing w n) false false →
+    IsEnded hosts w k k steps steps n before before
+plain_ended hosts w k steps n before kept ready =
+    last_whole hosts w k k steps steps n before before [] (first_stack w k n) kept (ap (λ b. cond b [] (new_frame k n ∷ [])) (sym ready))
+    (first_whole hosts w k steps steps n before [] kept refl (omega arith))
 
 -- what is shown then is the value
 pub shown_value : (st : Stands) (b : Bool) (o : Option Outcome) (v : Outcome) → b ≡ false → o ≡ Some v → or_cycle (ready_outcome st b o) ≡ v

@@ -2,3 +2,4 @@ pub mod Notes
 pub mod Visited
 pub mod Views
 pub mod Turns
+pub mod Steps

@@ -1,5 +1,5 @@
 -- What a step leaves of each part of a settling.
-use Rattle.std.specs.Prelude.{◌≡◌, ℕ, ◌+◌, ◌<◌, true, false, List, [], ◌∷◌, take, drop, length, slice_index, Some, None, if◌then◌else◌}
+use Rattle.std.specs.Prelude.{◌≡◌, ℕ, ◌+◌, ◌<◌, ◌≤◌, true, false, List, [], ◌∷◌, take, drop, length, slice_index, Some, None, if◌then◌else◌}
 use Rattle.std.specs.List.{All}
 use Rattle.sig_base.specs.declared.value.Known.{Known}
 use Rattle.sig_base.specs.declared.value.Step.{Step}
@@ -70,6 +70,13 @@ runs_of (Needs s p) = 0
 runs_of Stops = 0
 runs_of (Ends e) = 1
 
+-- how many steps making a move counts: one where another computed begins
+abbrev pub move_steps : Move → ℕ
+move_steps (GoesOn p) = 0
+move_steps (Needs s p) = 1
+move_steps Stops = 0
+move_steps (Ends e) = 0
+
 -- the graph after a move of the innermost frame
 pub record IsMoved (old new : states.Seen) (n : ℕ) (mv : Move) : Type 0 where
   pub signals : new.state.signals ≡ old.state.signals
@@ -79,6 +86,7 @@ pub record IsMoved (old new : states.Seen) (n : ℕ) (mv : Move) : Type 0 where
   pub worn : new.state.worn ≡ old.state.worn + runs_of mv
   pub seats : new.seats ≡ old.seats
   pub given : new.given ≡ old.given
+  pub steps : new.state.looked ≤ old.state.looked + move_steps mv
 
 -- the graph once a run is kept
 pub record IsKept (old new : states.Seen) (n : ℕ) (e : Evaluation) : Type 0 where
@@ -88,6 +96,7 @@ pub record IsKept (old new : states.Seen) (n : ℕ) (e : Evaluation) : Type 0 wh
   pub worn : new.state.worn ≡ old.state.worn + 1
   pub seats : new.seats ≡ old.seats
   pub given : new.given ≡ old.given
+  pub steps : new.state.looked ≤ old.state.looked
 
 -- ---- the step of a frame
 
@@ -97,6 +106,20 @@ progress_by n (Looking place) ps = ps
 progress_by n (LookedAt place) ps = ps
 progress_by n (Running known reads) ps = progressed n (Some known) ps
 progress_by n (Waiting slot known reads) ps = ps
+
+-- how many steps a look counts: one where it compares a number
+abbrev pub look_steps : Move → ℕ
+look_steps (GoesOn p) = 1
+look_steps (Needs s p) = 0
+look_steps Stops = 0
+look_steps (Ends e) = 0
+
+-- how many steps a frame counts in a phase, where it comes to this move: a recipe is asked, or a number is compared
+abbrev pub turn_steps : Phase → Move → ℕ
+turn_steps (Looking place) mv = look_steps mv
+turn_steps (LookedAt place) mv = look_steps mv
+turn_steps (Running known reads) mv = 1
+turn_steps (Waiting slot known reads) mv = 0
 
 -- a slot is waited for, and its source shows `cycle` where it has never run
 abbrev pub waits : Signals → Memos → List ℕ → List ℕ → ℕ → ℕ → List Known → List Seen → Move
@@ -194,5 +217,6 @@ pub record HasFirst (old new : states.Seen) (n : ℕ) (fs : List Frame) : Type 0
   pub worn : new.state.worn ≡ old.state.worn
   pub seats : new.seats ≡ old.seats
   pub given : new.given ≡ old.given
+  pub steps : new.state.looked ≤ old.state.looked + 1
   pub fits : AreFit new fs
   pub idle : (m : ℕ) → is_in m (frame_names fs) ≡ false → is_computing new.state m ≡ false

@@ -1,5 +1,5 @@
 -- How contracts see the frames of the code, and the graph that they stand on.
-use Rattle.std.specs.Prelude.{◌≡◌, ℕ, Bool, false, List, [], ◌∷◌, map, reverse, Option, Some, None, if◌then◌else◌}
+use Rattle.std.specs.Prelude.{◌≡◌, ℕ, ◌+◌, ◌≤◌, Bool, false, List, [], ◌∷◌, map, reverse, Option, Some, None, if◌then◌else◌}
 use Rattle.sig_base.specs.declared.value.Outcome.{Outcome}
 use Rattle.sig_base.specs.declared.value.Outcome.TheVariants.{Bad}
 use Rattle.sig_base.specs.declared.value.Fault.TheVariants.{Cycle}
@@ -61,14 +61,15 @@ evaluating s = passing (is_computing s) (map (λ (p : Progress). p.name) s.progr
 abbrev pub progressed : ℕ → Option (List Known) → List Progress → List Progress
 progressed n known ps = changed (λ (p : Progress). p.name) n (λ p. record p { known = known }) ps
 
--- All stays but the counted steps, and the progress is this.
-pub record Stays (old new : states.Seen) (ps : List Progress) : Type 0 where
+-- All stays, the progress is this, and at most so many steps are counted.
+pub record Stays (old new : states.Seen) (ps : List Progress) (most : ℕ) : Type 0 where
   pub signals : new.state.signals ≡ old.state.signals
   pub memos : new.state.memos ≡ old.state.memos
   pub progress : new.state.progress ≡ ps
   pub worn : new.state.worn ≡ old.state.worn
   pub seats : new.seats ≡ old.seats
   pub given : new.given ≡ old.given
+  pub steps : new.state.looked ≤ old.state.looked + most
 
 -- the first name of some sources
 abbrev pub first_name : List Source → Option ℕ

@@ -1,5 +1,5 @@
 // Settling by a loop over a stack of frames, so its depth rests on no machine stack.
-ghost use Rattle.std.specs.Prelude.{◌≡◌, ◌+◌, ◌<◌, ◌^◌, ◌++◌, ◌∷◌, ℕ, [], List, true, false, None, Some, IfOk, IfSome, OnOk, map, reverse, length, vec_len};
+ghost use Rattle.std.specs.Prelude.{◌≡◌, ◌+◌, ◌<◌, ◌≤◌, ◌^◌, ◌++◌, ◌∷◌, ℕ, [], List, true, false, None, Some, IfOk, IfSome, OnOk, map, reverse, length, vec_len};
 ghost use Rattle.signal_model.specs.Recipes.{Hosts};
 ghost use Rattle.signal_model.specs.Standing.{is_computed, is_in, is_there, standing};
 ghost use Rattle.signal_model.specs.Values.{value_of};
@@ -8,6 +8,7 @@ ghost use Rattle.signal_model.specs.Sound.{names_of};
 ghost use Rattle.sig_nodes.specs.States.{is_computing, progress_at, CanWear};
 ghost use Rattle.settle_model.specs.Stepping.{frame_names, new_frame};
 ghost use Rattle.sig_computed.specs.Notes.{note_of, AreNotesGiven, HasRoom, IsIdle, IsSettling};
+ghost use Rattle.sig_computed.specs.Steps.{settling_steps};
 ghost use Rattle.sig_computed.specs.Views.{evaluating, evaluation_of, frame_of, move_of, progressed, seen_of, tops, Stays};
 ghost use Rattle.sig_computed.specs.Visited.{marked};
 ghost use Rattle.sig_computed.specs.Turns.{evaluation_note, first_stack, notes_of, stack_after, visited_after, AreReadsGiven, CanMove, HasFirst, IsKept, IsMoved};
@@ -25,7 +26,7 @@ fn opened(alloc: Global, graph: &mut Graph, id: NodeId) -> Open
     requires live { is_computed (standing graph.old.state.signals id) ≡ true }
     requires idle { is_computing graph.old.state id ≡ false }
     ensures frame { frame_of result ≡ new_frame graph.old.state.memos id }
-    ensures after { Stays graph.old graph.new (progressed id (Some []) graph.old.state.progress) }
+    ensures after { Stays graph.old graph.new (progressed id (Some []) graph.old.state.progress) 1 }
     ensures begun { progress_at id graph.new.state.progress ≡ Some [] }
 {
     graph.begin(id);
@@ -151,6 +152,7 @@ pub fn settle(graph: &mut Graph, id: NodeId, notes: &mut Vec<RunNote>) -> Result
     ensures seats { OnOk result (graph.new.seats ≡ graph.old.seats) }
     ensures given { OnOk result (graph.new.given ≡ graph.old.given) }
     ensures named { OnOk result (AreNotesGiven graph.old (map note_of notes.old.items) → AreNotesGiven graph.new (map note_of notes.new.items)) }
+    ensures steps { (hosts : Hosts) → AreKept hosts graph.old.state.signals graph.old.state.memos → OnOk result (graph.new.state.looked ≤ graph.old.state.looked + settling_steps hosts graph.old.state.signals graph.old.state.memos (id ∷ [])) }
     ensures worn { OnOk result (graph.new.state.worn + length notes.old.items ≡ graph.old.state.worn + length notes.new.items) }
 {
     let _made = graph.made();

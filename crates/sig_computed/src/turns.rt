@@ -9,7 +9,7 @@ ghost use Rattle.sig_nodes.specs.States.{is_cell, is_given, progress_at, GoesOn}
 ghost use Rattle.settle_model.specs.Stepping.{answered, decided, is_ready, Ends, looked, ready_outcome, told};
 ghost use Rattle.sig_computed.specs.Views.{evaluating, first_moved, first_name, frame_of, move_of, or_cycle, phase_of, progressed, seen_of, Stays};
 ghost use Rattle.sig_computed.specs.Visited.{marked};
-ghost use Rattle.sig_computed.specs.Turns.{move_by, move_reads, progress_by, waits, AreReadsGiven, Fits, IsAnswered, IsMove};
+ghost use Rattle.sig_computed.specs.Turns.{look_steps, move_by, move_reads, progress_by, turn_steps, waits, AreReadsGiven, Fits, IsAnswered, IsMove};
 
 use crate::frames::{Doing, Open, Ran, Read, Turn};
 use crate::visited::is_visited;
@@ -56,7 +56,7 @@ fn decide(alloc: Global, graph: &mut Graph, node: NodeId, place: usize) -> Turn
     requires inside { place < length (sources_of graph.old.state.memos node) }
     requires small { place < 18446744073709551615 }
     ensures turn { move_of result ≡ decided (holds_cycle graph.old.state.memos node) (first_moved graph.old.state.memos (evaluating graph.old.state) (drop place (sources_of graph.old.state.memos node))) place }
-    ensures after { Stays graph.old graph.new graph.old.state.progress }
+    ensures after { Stays graph.old graph.new graph.old.state.progress (look_steps (move_of result)) }
 {
     if holds_cycle(graph, node) {
         return Turn::GoesOn(Doing::Looking(place + 1));
@@ -72,7 +72,7 @@ fn look(alloc: Global, graph: &mut Graph, visited: &[bool], node: NodeId, place:
     requires { length visited.now ≡ MOST_NODES }
     ensures turn { move_of result ≡ looked graph.old.state.signals graph.old.state.memos (evaluating graph.old.state) (marked graph.old.seats visited.now) (holds_cycle graph.old.state.memos node) place (drop place (sources_of graph.old.state.memos node)) }
     ensures given { AreReadsGiven graph.old (move_reads (move_of result)) }
-    ensures after { Stays graph.old graph.new graph.old.state.progress }
+    ensures after { Stays graph.old graph.new graph.old.state.progress (look_steps (move_of result)) }
 {
     let Some(id) = source_at(graph, node, place) else {
         return Turn::Stops;
@@ -217,7 +217,7 @@ fn run(
     ensures turn { (hosts : Hosts) → IfOk result (λ t. move_of t ≡ answered (answer_here hosts (standing graph.old.state.signals node) known.items) known.items (map seen_of reads.items)) }
     ensures some { IfOk result (λ t. IsAnswered (slots_here (standing graph.old.state.signals node)) known.items (map seen_of reads.items) (move_of t)) }
     ensures given { IfOk result (λ t. AreReadsGiven graph.old (move_reads (move_of t))) }
-    ensures after { OnOk result (Stays graph.old graph.new (progressed node (Some known.items) graph.old.state.progress)) }
+    ensures after { OnOk result (Stays graph.old graph.new (progressed node (Some known.items) graph.old.state.progress) 1) }
 {
     let Asked::Step(answer) = graph.recipe(node, &known)?;
     Ok(answered(answer, known, reads))
@@ -235,7 +235,7 @@ pub(crate) fn turn_of(
     ensures turn { (hosts : Hosts) → IfOk result (λ t. move_of t ≡ move_by hosts graph.old.state.signals graph.old.state.memos (evaluating graph.old.state) (marked graph.old.seats visited.now) frame.id (phase_of frame.doing)) }
     ensures some { IfOk result (λ t. IsMove graph.old.state.signals graph.old.state.memos (evaluating graph.old.state) (marked graph.old.seats visited.now) frame.id (phase_of frame.doing) (move_of t)) }
     ensures given { IfOk result (λ t. AreReadsGiven graph.old (move_reads (move_of t))) }
-    ensures after { OnOk result (Stays graph.old graph.new (progress_by frame.id (phase_of frame.doing) graph.old.state.progress)) }
+    ensures after { IfOk result (λ t. Stays graph.old graph.new (progress_by frame.id (phase_of frame.doing) graph.old.state.progress) (turn_steps (phase_of frame.doing) (move_of t))) }
 {
     let node = frame.id;
     match frame.doing {

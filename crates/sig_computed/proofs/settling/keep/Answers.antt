@@ -1,4 +1,4 @@
-use Rattle.std.proofs.Common.{◌≡◌, List, map, sym, ap, ◌∙◌, subst, true}
+use Rattle.std.proofs.Common.{◌≡◌, List, map, sym, ap, ◌∙◌, subst, true, arith}
 use Rattle.std.specs.List.{All}
 use Rattle.signal_model.specs.Sound.{names_of}
 use Rattle.sig_nodes.specs.States.{State, is_given}
@@ -27,4 +27,5 @@ returns-clause-after c =
       worn = ap (λ (s : State). s.worn) a.state;
       seats = c.in_ok-keep_run.ensures.seats;
       given = a.given;
+      steps = let e : c.keep_run.new.self.state.looked ≡ c.args.graph.now.state.looked = ap (λ (s : State). s.looked) a.state in omega (arith, e);
     }

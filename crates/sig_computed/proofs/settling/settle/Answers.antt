@@ -12,10 +12,10 @@ use Rattle.sig_computed.specs.Turns.{notes_of}
 use Rattle.sig_computed.specs.Views.{evaluating, move_of, tops}
 use Rattle.sig_computed.specs.Visited.{marked}
 use Rattle.sig_computed.proofs.Fitting.{frames_are, notes_stay}
-use Rattle.sig_computed.proofs.Leaves.{ready_other}
+use Rattle.sig_computed.proofs.Leaves.{kind_computed, ready_other}
 use Rattle.sig_computed.proofs.Progresses.{in_evaluating}
 use Rattle.sig_computed.proofs.Loops.{IsMade, IsTurn, none_left, notes_count, turn_frames, turn_given, turn_less, turn_move, turn_whole}
-use Rattle.sig_computed.proofs.Wholes.{IsWhole, first_whole, last_whole, plain_ended, shown_value}
+use Rattle.sig_computed.proofs.Wholes.{IsWhole, first_steps, first_whole, last_whole, plain_ended, shown_value}
 use Rattle.sig_computed.proofs.settling.settle.Goals as goal
 
 pub loop-frame-init : goal.loop-frame-init
@@ -33,10 +33,12 @@ loop-frame-init c =
           let w = c.args.graph.now.state.signals in
           let k = c.args.graph.now.state.memos in
           subst (λ x. x)
-          (λ i. IsWhole hosts w k (c.args.id ∷ []) (sym e.memos i) (map note_of c.args.notes.now.items) (map note_of c.args.notes.now.items)
+          (λ i. IsWhole hosts w k c.args.graph.now.state.looked (c.args.id ∷ []) (sym e.memos i) c.first.new.graph.state.looked (map note_of c.args.notes.now.items) (map note_of c.args.notes.now.items)
           (marked c.args.graph.now.seats c.in_ok-visited.visited.items) (sym c.in_ok-stack.ensures.stack i))
-          (first_whole hosts w k c.args.id (map note_of c.args.notes.now.items) (marked c.args.graph.now.seats c.in_ok-visited.visited.items) kept
-          (c.in_ok-visited.ensures.none c.args.graph.now.seats));
+          (first_whole hosts w k c.args.graph.now.state.looked c.first.new.graph.state.looked c.args.id (map note_of c.args.notes.now.items)
+          (marked c.args.graph.now.seats c.in_ok-visited.visited.items) kept (c.in_ok-visited.ensures.none c.args.graph.now.seats)
+          (let a = e.steps in let b = first_steps w k c.args.id
+          (kind_computed (standing w c.args.id) (is_computing c.args.graph.now.state c.args.id) c.in-Computed.ensures) in omega (arith, a, b)));
     }
 
 pub apply-requires-clause-computing : goal.apply-requires-clause-computing
@@ -123,7 +125,7 @@ loop-frame-preserved c =
           c.apply.new.visited.items d;
       whole = λ hosts kept. turn_whole c.args.graph.now c.loop-frame.graph c.turn_of.new.graph c.loop-frame.stack.items c.pop.new.self.items
           c.in-Some.frame c.loop-frame.visited.items c.deref.result.now (move_of c.in_ok-turn.turn) t c.apply.new.graph c.apply.new.stack.items
-          c.apply.new.visited.items d hosts c.args.graph.now.state.memos (c.args.id ∷ []) (map note_of c.args.notes.now.items)
+          c.apply.new.visited.items d hosts c.args.graph.now.state.memos c.args.graph.now.state.looked (c.args.id ∷ []) (map note_of c.args.notes.now.items)
           (map note_of c.loop-frame.notes.items) (map note_of c.apply.new.notes.items) c.in_ok-apply.ensures.notes
           (c.in_ok-turn.ensures.turn hosts) (i.whole hosts kept);
     }
@@ -140,14 +142,15 @@ returns-in_default c =
       value = λ hosts kept. c.in_ok-shown.ensures
           ∙ shown_value (standing w c.args.id) (is_in c.args.id (evaluating c.args.graph.now.state)) (standing_outcome w k c.args.id)
           (value_of hosts w c.args.id []) (in_evaluating c.args.graph.now.state c.args.id ∙ idle)
-          (plain_ended hosts w k c.args.id notes kept ready).value;
-      settled = λ hosts kept. (plain_ended hosts w k c.args.id notes kept ready).settling;
+          (plain_ended hosts w k c.args.graph.now.state.looked c.args.id notes kept ready).value;
+      settled = λ hosts kept. (plain_ended hosts w k c.args.graph.now.state.looked c.args.id notes kept ready).settling;
       kept = λ hosts kept. kept;
       signals = refl;
       idle = c.requires.idle;
       seats = refl;
       given = refl;
       named = λ all. all;
+      steps = λ hosts kept. (plain_ended hosts w k c.args.graph.now.state.looked c.args.id notes kept ready).counted;
       worn = refl;
     }
 
@@ -157,7 +160,7 @@ returns-clause-value c = λ hosts kept.
     let i = c.loop-frame.invariant in
     let none = ap tops (none_left c.loop-frame.stack.items c.pop.new.self.items (vec_len c.loop-frame.stack) c.in_default-pop.ensures.items
     c.in_default-pop.ensures.rest c.in_default-pop.ensures.cases.0) in
-    let x = last_whole hosts w c.args.graph.now.state.memos c.loop-frame.graph.state.memos c.args.id (map note_of c.args.notes.now.items)
+    let x = last_whole hosts w c.args.graph.now.state.memos c.loop-frame.graph.state.memos c.args.graph.now.state.looked c.loop-frame.graph.state.looked c.args.id (map note_of c.args.notes.now.items)
     (map note_of c.loop-frame.notes.items) (marked c.args.graph.now.seats c.loop-frame.visited.items) (tops c.loop-frame.stack.items) kept none
     (i.whole hosts kept) in
     let off = frames_are c.loop-frame.graph (tops c.loop-frame.stack.items) i.frames c.args.id ∙ ap (λ fs. is_in c.args.id (frame_names fs)) none in
@@ -170,7 +173,7 @@ pub returns-clause-settled : goal.returns-clause-settled
 returns-clause-settled c = λ hosts kept.
     let none = ap tops (none_left c.loop-frame.stack.items c.pop.new.self.items (vec_len c.loop-frame.stack) c.in_default-pop.ensures.items
     c.in_default-pop.ensures.rest c.in_default-pop.ensures.cases.0) in
-    (last_whole hosts c.args.graph.now.state.signals c.args.graph.now.state.memos c.loop-frame.graph.state.memos c.args.id
+    (last_whole hosts c.args.graph.now.state.signals c.args.graph.now.state.memos c.loop-frame.graph.state.memos c.args.graph.now.state.looked c.loop-frame.graph.state.looked c.args.id
     (map note_of c.args.notes.now.items) (map note_of c.loop-frame.notes.items) (marked c.args.graph.now.seats c.loop-frame.visited.items)
     (tops c.loop-frame.stack.items) kept none (c.loop-frame.invariant.whole hosts kept)).settling
 
@@ -179,7 +182,7 @@ returns-clause-kept c = λ hosts kept.
     let none = ap tops (none_left c.loop-frame.stack.items c.pop.new.self.items (vec_len c.loop-frame.stack) c.in_default-pop.ensures.items
     c.in_default-pop.ensures.rest c.in_default-pop.ensures.cases.0) in
     subst (λ w. AreKept hosts w c.loop-frame.graph.state.memos) (sym c.loop-frame.invariant.signals)
-    (last_whole hosts c.args.graph.now.state.signals c.args.graph.now.state.memos c.loop-frame.graph.state.memos c.args.id
+    (last_whole hosts c.args.graph.now.state.signals c.args.graph.now.state.memos c.loop-frame.graph.state.memos c.args.graph.now.state.looked c.loop-frame.graph.state.looked c.args.id
     (map note_of c.args.notes.now.items) (map note_of c.loop-frame.notes.items) (marked c.args.graph.now.seats c.loop-frame.visited.items)
     (tops c.loop-frame.stack.items) kept none (c.loop-frame.invariant.whole hosts kept)).kept
 
@@ -187,3 +190,12 @@ pub returns-clause-named : goal.returns-clause-named
 returns-clause-named c = λ all.
     notes_stay c.args.graph.now c.loop-frame.graph (map note_of c.loop-frame.notes.items) c.loop-frame.invariant.given
     (c.loop-frame.invariant.named all)
+
+pub returns-clause-steps : goal.returns-clause-steps
+returns-clause-steps c = λ hosts kept.
+    let none = ap tops (none_left c.loop-frame.stack.items c.pop.new.self.items (vec_len c.loop-frame.stack) c.in_default-pop.ensures.items
+    c.in_default-pop.ensures.rest c.in_default-pop.ensures.cases.0) in
+    (last_whole hosts c.args.graph.now.state.signals c.args.graph.now.state.memos c.loop-frame.graph.state.memos c.args.graph.now.state.looked
+    c.loop-frame.graph.state.looked c.args.id (map note_of c.args.notes.now.items) (map note_of c.loop-frame.notes.items)
+    (marked c.args.graph.now.seats c.loop-frame.visited.items) (tops c.loop-frame.stack.items) kept none
+    (c.loop-frame.invariant.whole hosts kept)).counted

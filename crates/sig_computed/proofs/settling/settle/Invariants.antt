@@ -20,7 +20,7 @@ invariant-loop-frame l = record {
   size : length l.visited.items ≡ MOST_NODES;
   frames : HasStack l.graph (tops l.stack.items);
   whole : (hosts : Hosts) → AreKept hosts l.fn.graph.state.signals l.fn.graph.state.memos →
-      IsWhole hosts l.fn.graph.state.signals l.fn.graph.state.memos (l.fn.id ∷ []) l.graph.state.memos (map note_of l.fn.notes.items)
+      IsWhole hosts l.fn.graph.state.signals l.fn.graph.state.memos l.fn.graph.state.looked (l.fn.id ∷ []) l.graph.state.memos l.graph.state.looked (map note_of l.fn.notes.items)
       (map note_of l.notes.items) (marked l.fn.graph.seats l.visited.items) (tops l.stack.items);
 }
 
