@@ -1,5 +1,6 @@
 -- Bits by seats, and the names whose bit is set.
-use Rattle.std.proofs.Common.{◌≡◌, ℕ, zero, suc, ◌<◌, ◌==◌, ◌||◌, Bool, true, false, List, [], ◌∷◌, ◌++◌, Option, Some, None, length, get_or}
+use Rattle.std.proofs.Common.{◌≡◌, ℕ, zero, suc, ◌<◌, ◌==◌, ◌||◌, Bool, true, false, List, [], ◌∷◌, Option, Some, None, length, get_or}
+use Rattle.std.specs.Prelude.{replicate}
 use Rattle.std.proofs.Common.{refl, sym, ap, ◌∙◌, arith}
 use Rattle.std.proofs.Math.ListN.{set}
 use Rattle.std.proofs.lemmas.Bool.{eqb-true}
@@ -8,19 +9,12 @@ use Rattle.signal_laws.proofs.Shared.{in_head}
 use Rattle.sig_nodes.specs.Seats.{holder}
 use Rattle.sig_computed.specs.Visited.{marked}
 
--- without bits nobody is marked
-pub marked_none : (hs : List (Option ℕ)) → marked hs [] ≡ []
-marked_none [] = refl
-marked_none (h ∷ hs) = refl
-
--- one bit more that isn't set
-pub marked_more : (hs : List (Option ℕ)) (bs : List Bool) → marked hs (bs ++ false ∷ []) ≡ marked hs bs
-marked_more [] bs = refl
-marked_more (None ∷ hs) [] = marked_none hs
-marked_more (Some n ∷ hs) [] = marked_none hs
-marked_more (None ∷ hs) (b ∷ bs) = marked_more hs bs
-marked_more (Some n ∷ hs) (true ∷ bs) = ap (λ l. n ∷ l) (marked_more hs bs)
-marked_more (Some n ∷ hs) (false ∷ bs) = marked_more hs bs
+-- where no bit is set nobody is marked
+pub marked_none : (hs : List (Option ℕ)) (n : ℕ) → marked hs (replicate n false) ≡ []
+marked_none [] n = refl
+marked_none (h ∷ hs) zero = refl
+marked_none (None ∷ hs) (suc n) = marked_none hs n
+marked_none (Some m ∷ hs) (suc n) = marked_none hs n
 
 -- where the first seat is another's
 not_first : (n m : ℕ) (rest : Bool) → ((n ≡ m) → ⊥) → (n == m || rest) ≡ rest

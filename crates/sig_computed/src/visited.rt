@@ -12,11 +12,7 @@ pub(crate) fn none_visited(alloc: Global) -> Result<Vec<bool>, NoMemory>
     ensures size { IfOk result (λ v. length v.items ≡ MOST_NODES) }
     ensures none { IfOk result (λ v. (holders : List (Option ℕ)) → marked holders v.items ≡ []) }
 {
-    let mut visited = Vec::with_capacity(alloc, MOST_NODES)?;
-    for seat in 0..MOST_NODES {
-        let _seat = seat;
-        visited.push(false)?;
-    }
+    let visited = vec![in alloc; false; MOST_NODES]?;
     Ok(visited)
 }
 
