@@ -12,4 +12,6 @@ mod VisitStates
 mod CleanMoments
 mod KeptPaths
 mod RecordedRuns
+mod Readings
+mod FirstNames
 pub mod Shared

@@ -12,6 +12,8 @@ pub use Rattle.signal_laws.proofs.VisitStates.{settle_law, asked_law, asked_memo
 pub use Rattle.signal_laws.proofs.CleanMoments.{clean_moments_law}
 pub use Rattle.signal_laws.proofs.RecordedRuns.{scratch_runs_law, placed_runs_law, currency_law}
 pub use Rattle.signal_laws.proofs.KeptPaths.{kept_cycle_law, kept_path_law, evaluated_source_law}
+pub use Rattle.signal_laws.proofs.Readings.{reading_law, same_reads_law, next_read_law, no_host_law}
+pub use Rattle.signal_laws.proofs.FirstNames.{firsts_hold_law, firsts_append_law, firsts_front_law}
 -- ---- tests, lists and look-ups
 
 pub use Rattle.signal_model.proofs.Shared.{either, or_left, or_right}

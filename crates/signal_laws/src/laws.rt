@@ -5,6 +5,7 @@ ghost use Rattle.signal_laws.specs.ChangeLaws.{GivenRewireLaw, GivenSetLaw, Give
 ghost use Rattle.signal_laws.specs.CleanLaws.{CleanLaw, PassLaw};
 ghost use Rattle.signal_laws.specs.KeptPathLaws.{EvaluatedSourceLaw, KeptCycleLaw, KeptPathLaw};
 ghost use Rattle.signal_laws.specs.OrderLaws.{PlacesLaw};
+ghost use Rattle.signal_laws.specs.ReadingLaws.{FirstsAppendLaw, FirstsFrontLaw, FirstsHoldLaw, NextReadLaw, NoHostLaw, ReadingLaw, SameReadsLaw};
 ghost use Rattle.signal_laws.specs.RunLaws.{CurrencyLaw, PlacedRunsLaw, ScratchRunsLaw};
 ghost use Rattle.signal_laws.specs.SettleLaws.{AgainLaw, AskedLaw, AskedMemoLaw, CleanMomentsLaw, KeptMomentsLaw, SettleLaw};
 
@@ -130,4 +131,32 @@ pub fn kept_path_law()
 /// Where a kept source is being evaluated, its keeper must run, unless it holds `cycle`.
 pub fn evaluated_source_law()
     ensures { EvaluatedSourceLaw }
+{}
+
+/// An evaluation is a reading: the outcomes that it read, which are those that the names have, determine what it reads and comes to.
+pub fn reading_law()
+    ensures { ReadingLaw }
+{}
+
+/// Where the names that were read have the outcomes that were read, the evaluation is the same.
+pub fn same_reads_law()
+    ensures { SameReadsLaw }
+{}
+
+/// Where the first so many have, the evaluation reads these names first, and then the next.
+pub fn next_read_law()
+    ensures { NextReadLaw }
+{}
+
+/// A formula asks no host formula, so its evaluation is the same for all hosts.
+pub fn no_host_law()
+    ensures { NoHostLaw }
+{}
+
+/// Names in the order of their first reading are those before and those of the list; of two lists they are those of the one and then of the
+/// other; and the first so many of a list, and then the whole list, are the whole list.
+pub fn first_names_law()
+    ensures hold { FirstsHoldLaw }
+    ensures append { FirstsAppendLaw }
+    ensures front { FirstsFrontLaw }
 {}

@@ -1,0 +1,5 @@
+use Rattle.signal_laws.proofs.Readings.{reading_law}
+use Rattle.signal_laws.proofs.laws.reading_law.Goals as goal
+
+pub returns : goal.returns
+returns c = reading_law
