@@ -1,20 +1,14 @@
 -- Each run reads only what is current.
 use Rattle.std.proofs.Common.{Some, ap}
-use Rattle.std.proofs.Common.{◌≡◌, ℕ, zero, suc, ◌==◌, Bool, true, false, cond, List, [], ◌∷◌, ◌++◌, length, append_assoc, refl, sym, ◌∙◌, subst, ◌⊎◌}
+use Rattle.std.proofs.Common.{◌≡◌, ℕ, ◌==◌, Bool, true, false, cond, List, [], ◌∷◌, ◌++◌, append_assoc, refl, sym, ◌∙◌, subst, ◌⊎◌}
 use Rattle.std.proofs.Common.{inl, inr}
-use Rattle.std.specs.Prelude.{slice_index}
 use Rattle.std.specs.List.{AllByRecursion}
 use Rattle.std.proofs.lemmas.Bool.{eqb-true}
-use Rattle.sig_base.specs.declared.value.Value.{Value}
 use Rattle.sig_base.specs.declared.value.Fault.TheVariants.{Cycle}
-use Rattle.sig_base.specs.declared.value.Outcome.{Outcome}
-use Rattle.sig_base.specs.declared.value.Outcome.TheVariants.{Good, Bad}
-use Rattle.sig_base.specs.declared.value.Step.{Step}
-use Rattle.sig_base.specs.declared.value.Step.TheVariants.{Read, Done, Fail}
-use Rattle.sig_base.specs.declared.value.Known.{Known}
-use Rattle.signal_model.specs.Recipes.{Hosts, Recipe, recipe_answer}
+use Rattle.sig_base.specs.declared.value.Outcome.TheVariants.{Bad}
+use Rattle.signal_model.specs.Recipes.{Hosts}
 use Rattle.signal_model.specs.Standing.{Signals, Stands, IsGone, IsCell, IsComputed, is_in, standing}
-use Rattle.signal_model.specs.Values.{Seen, Evaluation, learnt, after_read, after_step, asked_within, unknown_slots, value_of, evaluated, reads_of}
+use Rattle.signal_model.specs.Values.{Seen, value_of, evaluated, reads_of}
 use Rattle.signal_model.specs.Orders.{Visit, evaluation_order}
 use Rattle.signal_model.specs.Memos.{Memos, must_run}
 use Rattle.signal_model.specs.Settling.{Run, Settled, with_run, settle_visit, settle_visits, settled}
@@ -28,30 +22,9 @@ use Rattle.signal_laws.proofs.CleanVisits.{settle_append, right_source, read_val
 use Rattle.signal_laws.specs.OrderLaws.{IsPlaced, AreOrdered, seen_after}
 use Rattle.signal_laws.proofs.PlacedVisits.{seen_snoc, places_law}
 use Rattle.signal_laws.proofs.VisitStates.{State, state_at}
+use Rattle.signal_laws.specs.ReadingLaws.{HaveOutcomes}
+use Rattle.signal_laws.proofs.Readings.{reading_law}
 use Rattle.signal_laws.proofs.Lists.{all_snoc}
-
--- each read has the outcome of its source
-abbrev AreOf : (ℕ → Outcome) → List Seen → Type 0
-AreOf source ss = AllByRecursion (λ (s : Seen). s.outcome ≡ source s.name) ss
-
--- after a read
-read_of : (source : ℕ → Outcome) (m : ℕ) (o : Outcome) (f : Value → Evaluation) → source m ≡ o → ((v : Value) → AreOf source (f v).reads) →
-    AreOf source (after_read m o f).reads
-read_of source m (Good v) f e k = (sym e, k v)
-read_of source m (Bad x) f e k = (sym e, tt)
-
--- after an answer
-step_of : (source : ℕ → Outcome) (st : Step) (slots : List ℕ) (f : ℕ → Value → Evaluation) → ((s : ℕ) (v : Value) → AreOf source (f s v).reads) →
-    AreOf source (after_step st slots source f).reads
-step_of source (Done v) slots f k = tt
-step_of source (Fail x) slots f k = tt
-step_of source (Read s) slots f k = read_of source (slice_index slots s) (source (slice_index slots s)) (f s) refl (k s)
-
--- and of a whole evaluation
-asked_of : (t : ℕ) (hosts : Hosts) (r : Recipe) (source : ℕ → Outcome) (known : List Known) → AreOf source (asked_within t hosts r source known).reads
-asked_of zero hosts r source known = tt
-asked_of (suc t) hosts r source known = step_of source (recipe_answer hosts r known) r.slots (λ s v. asked_within t hosts r source (learnt known s v))
-    (λ s v. asked_of t hosts r source (learnt known s v))
 
 module _ (hosts : Hosts) (w : Signals) where
   -- the run of a visit
@@ -62,11 +35,11 @@ module _ (hosts : Hosts) (w : Signals) where
 
   -- what a computed reads has the value from scratch
   reads_scratch : (v : Visit) → standing w v.computed.name ≡ IsComputed v.computed → (ss : List Seen) →
-      ((m : ℕ) → IsRead m ss → IsRead m (reads_of hosts w v.computed)) → AreOf (λ m. value_of hosts w m (v.computed.name ∷ [])) ss →
+      ((m : ℕ) → IsRead m ss → IsRead m (reads_of hosts w v.computed)) → HaveOutcomes (λ m. value_of hosts w m (v.computed.name ∷ [])) ss →
       AllByRecursion (IsScratchRead hosts w) ss
   reads_scratch v st [] sub h = tt
   reads_scratch v st (s ∷ ss) sub h = (
-    h.0 ∙ read_value hosts w v.computed.name v.computed s.name st (sub s.name (inl refl)),
+    sym h.0 ∙ read_value hosts w v.computed.name v.computed s.name st (sub s.name (inl refl)),
     reads_scratch v st ss (λ m r. sub m (inr r)) h.1,
   )
 
@@ -77,8 +50,7 @@ module _ (hosts : Hosts) (w : Signals) where
     stands = st;
     evaluation = refl;
     reads = reads_scratch v st (reads_of hosts w v.computed) (λ m r. r)
-        (asked_of (suc (unknown_slots (length v.computed.recipe.slots) [])) hosts v.computed.recipe
-        (λ m. value_of hosts w m (v.computed.name ∷ [])) []);
+        (reading_law hosts v.computed.recipe (λ m. value_of hosts w m (v.computed.name ∷ []))).1;
     outcome = sym (value_run hosts w v.computed.name [] v.computed st refl);
   }
 
