@@ -14,6 +14,5 @@ mod KeptWorlds
 mod HostUse
 mod Notified
 mod Resting
-mod StillSettled
 mod QuietFlush
 pub mod Shared

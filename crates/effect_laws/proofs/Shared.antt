@@ -17,5 +17,3 @@ pub use Rattle.effect_laws.proofs.QuietFlush.{quiet_flush_law}
 pub use Rattle.effect_laws.proofs.Turns.{IsKeptByRuns, turn_keeps, flush_keeps, acts_keep}
 -- what each change of the signals keeps, commands keep
 pub use Rattle.effect_laws.proofs.Changes.{Core, core_of, IsKeptByChanges, turn_keeps_core, flush_keeps_core, command_keeps, commands_keep}
--- what is settled stays so
-pub use Rattle.effect_laws.proofs.StillSettled.{IsSettled, settles, stays_settled, settled_same}

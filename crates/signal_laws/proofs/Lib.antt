@@ -9,6 +9,8 @@ mod GivenNames
 mod PlacedVisits
 mod AfterRun
 mod VisitStates
+mod StillSettled
+mod NameByName
 mod CleanMoments
 mod KeptPaths
 mod RecordedRuns

@@ -7,7 +7,7 @@ use Rattle.signal_model.specs.Standing.{Signals, Computed, Stands, IsGone, IsCel
 use Rattle.signal_model.specs.Values.{Seen, reads_of, names_left}
 use Rattle.signal_model.specs.Orders.{Visit, visited, visits, visit_case, visit, order_after}
 use Rattle.signal_model.specs.Laws.{IsRead, IsChain}
-use Rattle.signal_laws.specs.OrderLaws.{IsPlaced, AreOrdered, seen_after, IsOrder, PlacesLaw}
+use Rattle.signal_laws.specs.OrderLaws.{IsPlaced, AreOrdered, AreClosed, seen_after, IsOrder, PlacesLaw}
 use Rattle.signal_model.proofs.Shared.{name_is, left_less, tested, visit_by_cases, either, or_left, or_right}
 use Rattle.signal_laws.proofs.FailedTests.{or_fst, or_snd}
 use Rattle.signal_laws.proofs.Lists.{in_head}
@@ -38,7 +38,7 @@ ordered_first hosts w seen [] vs o = tt
 ordered_first hosts w seen (u ∷ us) vs o = (o.0, ordered_first hosts w (u.computed.name ∷ seen) us vs o.1)
 
 -- what is among the visits and one more
-in_more : (x : ℕ) (vs : List Visit) (v : Visit) → is_in x (visited (vs ++ v ∷ [])) ≡ (is_in x (visited vs) || x == v.computed.name)
+pub in_more : (x : ℕ) (vs : List Visit) (v : Visit) → is_in x (visited (vs ++ v ∷ [])) ≡ (is_in x (visited vs) || x == v.computed.name)
 in_more x [] v = go (x == v.computed.name)
   where
     go : (b : Bool) → (b || false) ≡ b
@@ -57,20 +57,62 @@ module _ (hosts : Hosts) (w : Signals) where
   ordered_snoc seen [] v o p = (p, tt)
   ordered_snoc seen (u ∷ us) v o p = (o.0, ordered_snoc (u.computed.name ∷ seen) us v o.1 p)
 
+  -- each computed that a visited computed reads is visited, or is on the path
+  abbrev pub AreClosedBut : List ℕ → List Visit → Type 0
+  AreClosedBut path vs = (x m : ℕ) (c d : Computed) → is_in x (visited vs) ≡ true → standing w x ≡ IsComputed c → IsRead m (reads_of hosts w c) →
+      standing w m ≡ IsComputed d → (is_in m path || is_in m (visited vs)) ≡ true
+
+  -- so it is on a longer path
+  closed_longer : (n : ℕ) (path : List ℕ) (vs : List Visit) → AreClosedBut path vs → AreClosedBut (n ∷ path) vs
+  closed_longer n path vs closed x m c d on st read std =
+      elim (either (is_in m path) (is_in m (visited vs)) (closed x m c d on st read std)) [
+        | inl way ↦ or_left (is_in m (n ∷ path)) (is_in m (visited vs)) (or_right (m == n) (is_in m path) way)
+        | inr was ↦ or_right (is_in m (n ∷ path)) (is_in m (visited vs)) was
+      ]
+
+  -- and after one visit more the path is shorter
+  closed_snoc : (path : List ℕ) (n : ℕ) (us : List Visit) (c : Computed) → standing w n ≡ IsComputed c → AreClosedBut (n ∷ path) us →
+      ((m : ℕ) (d : Computed) → IsRead m (reads_of hosts w c) → standing w m ≡ IsComputed d → (is_in m (n ∷ path) || is_in m (visited us)) ≡ true) →
+      AreClosedBut path (us ++ record { computed = c; path = path } ∷ [])
+  closed_snoc path n us c e closed own x m b d on st read std =
+      elim (either (is_in x (visited us)) (x == c.name) (sym (in_more x us v) ∙ on)) [
+        | inl was ↦ up (closed x m b d was st read std)
+        | inr is ↦
+            let same : b ≡ c = cc (sym st ∙ ap (standing w) (eqb-true x c.name is ∙ sym name) ∙ e) in
+            up (own m d (subst (λ y. IsRead m (reads_of hosts w y)) same read) std)
+      ]
+    where
+      v : Visit
+      v = record { computed = c; path = path }
+
+      name : n ≡ c.name
+      name = name_is hosts w n c e
+
+      up : (is_in m (n ∷ path) || is_in m (visited us)) ≡ true → (is_in m path || is_in m (visited (us ++ v ∷ []))) ≡ true
+      up h = elim (either (is_in m (n ∷ path)) (is_in m (visited us)) h) [
+        | inr was ↦ or_right (is_in m path) (is_in m (visited (us ++ v ∷ []))) (in_more m us v ∙ or_left (is_in m (visited us)) (m == c.name) was)
+        | inl way ↦ elim (either (m == n) (is_in m path) way) [
+          | inr far ↦ or_left (is_in m path) (is_in m (visited (us ++ v ∷ []))) far
+          | inl is ↦ or_right (is_in m path) (is_in m (visited (us ++ v ∷ [])))
+              (in_more m us v ∙ or_right (is_in m (visited us)) (m == c.name) (eq-eqb m c.name (eqb-true m n is ∙ name)))
+        ]
+      ]
+
   -- the list grew in order, by what isn't on the path
-  record Grown (path : List ℕ) (done out : List Visit) : Type 0 where
-    ordered : AreOrdered hosts w [] out
-    more : (x : ℕ) → is_in x (visited done) ≡ true → is_in x (visited out) ≡ true
-    old : (x : ℕ) → is_in x (visited out) ≡ true → (is_in x (visited done) ≡ true) ⊎ (is_in x path ≡ false)
+  pub record Grown (path : List ℕ) (done out : List Visit) : Type 0 where
+    pub ordered : AreOrdered hosts w [] out
+    pub closed : AreClosedBut path done → AreClosedBut path out
+    pub more : (x : ℕ) → is_in x (visited done) ≡ true → is_in x (visited out) ≡ true
+    pub old : (x : ℕ) → is_in x (visited out) ≡ true → (is_in x (visited done) ≡ true) ⊎ (is_in x path ≡ false)
 
   -- a computed is on the path or visited
-  abbrev Came : List ℕ → ℕ → List Visit → Type 0
+  abbrev pub Came : List ℕ → ℕ → List Visit → Type 0
   Came path n out = (c : Computed) → standing w n ≡ IsComputed c → (is_in n path || is_in n (visited out)) ≡ true
 
   -- the list grew by the visit of a name
-  record GrownBy (path : List ℕ) (n : ℕ) (done out : List Visit) : Type 0 where
-    grown : Grown path done out
-    came : Came path n out
+  pub record GrownBy (path : List ℕ) (n : ℕ) (done out : List Visit) : Type 0 where
+    pub grown : Grown path done out
+    pub came : Came path n out
 
   -- the list grew by the visits of all reads
   record GrownByAll (path : List ℕ) (ss : List Seen) (done out : List Visit) : Type 0 where
@@ -79,13 +121,14 @@ module _ (hosts : Hosts) (w : Signals) where
 
   -- a list that stays
   no_growth : (path : List ℕ) (done : List Visit) → AreOrdered hosts w [] done → Grown path done done
-  no_growth path done d = record { ordered = d; more = λ x h. h; old = λ x h. inl h }
+  no_growth path done d = record { ordered = d; closed = λ h. h; more = λ x h. h; old = λ x h. inl h }
 
   -- growth after growth
   grown_on : (path : List ℕ) (a b c : List Visit) → Grown path a b → Grown path b c → Grown path a c
   grown_on path a b c f g =
       record {
         ordered = g.ordered;
+        closed = λ h. g.closed (f.closed h);
         more = λ x h. g.more x (f.more x h);
         old =
             λ x h. elim (g.old x h) [ inl in_b ↦ f.old x in_b | inr off ↦ inr off ];
@@ -118,7 +161,7 @@ module _ (hosts : Hosts) (w : Signals) where
       }
 
   -- a name is visited in order
-  visit_grows : (far : ℕ) (path : List ℕ) (n : ℕ) (done : List Visit) → IsChain hosts w n path → names_left w.computeds path < far →
+  pub visit_grows : (far : ℕ) (path : List ℕ) (n : ℕ) (done : List Visit) → IsChain hosts w n path → names_left w.computeds path < far →
       AreOrdered hosts w [] done → GrownBy path n done (visit hosts w path n done)
   visit_grows zero path n done chain lt d = absurd (omega arith)
   visit_grows (suc far) path n done chain lt d =
@@ -167,6 +210,7 @@ module _ (hosts : Hosts) (w : Signals) where
           let out : GrownBy path n done (us ++ v ∷ []) = record {
             grown = record {
               ordered = ordered_snoc [] us v kids.grown.ordered placed;
+              closed = λ h. closed_snoc path n us c e (kids.grown.closed (closed_longer n path done h)) (λ m x r st. kids.came m r x st);
               more = λ x h. in_more x us v ∙ or_left (is_in x (visited us)) (x == c.name) (kids.grown.more x h);
               old = λ x h. elim (either (is_in x (visited us)) (x == c.name) (sym (in_more x us v) ∙ h)) [
                 | inl was ↦ elim (kids.grown.old x was) [ inl before ↦ inl before | inr off2 ↦ inr (or_snd (x == n) (is_in x path) off2) ]
@@ -179,27 +223,28 @@ module _ (hosts : Hosts) (w : Signals) where
           subst (λ z. GrownBy path n done (cond z done (us ++ v ∷ []))) (sym p) out
 
   -- all that is asked for is visited in order
-  order_grows : (asked : List ℕ) (done : List Visit) → AreOrdered hosts w [] done →
+  order_grows : (asked : List ℕ) (done : List Visit) → AreOrdered hosts w [] done → AreClosed hosts w done →
       IsOrder hosts w asked (order_after hosts w asked done)
       × ((x : ℕ) → is_in x (visited done) ≡ true → is_in x (visited (order_after hosts w asked done)) ≡ true)
-  order_grows [] done d = (record { ordered = d; came = λ n c on st. cc on }, λ x h. h)
-  order_grows (a ∷ asked) done d =
+  order_grows [] done d closed = (record { ordered = d; came = λ n c on st. cc on; closed = closed }, λ x h. h)
+  order_grows (a ∷ asked) done d closed =
       let vs : List Visit = visit hosts w [] a done in
       let lt : names_left w.computeds [] < suc (names_left w.computeds []) = omega arith in
       let g : GrownBy [] a done vs = visit_grows (suc (names_left w.computeds [])) [] a done tt lt d in
       let r : IsOrder hosts w asked (order_after hosts w asked vs)
       × ((x : ℕ) → is_in x (visited vs) ≡ true → is_in x (visited (order_after hosts w asked vs)) ≡ true) =
-      order_grows asked vs g.grown.ordered in (
+      order_grows asked vs g.grown.ordered (g.grown.closed closed) in (
         record {
           ordered = r.0.ordered;
           came = λ n c on st. elim (either (n == a) (is_in n asked) on) [
             | inl is ↦ let na : n ≡ a = eqb-true n a is in r.1 n (ap (λ y. is_in y (visited vs)) na ∙ g.came c (ap (standing w) (sym na) ∙ st))
             | inr later ↦ r.0.came n c later st
           ];
+          closed = r.0.closed;
         },
         λ x h. r.1 x (g.grown.more x h),
       )
 
 -- the order has each visit in its place
 pub places_law : PlacesLaw
-places_law hosts w asked = (order_grows hosts w asked [] tt).0
+places_law hosts w asked = (order_grows hosts w asked [] tt (λ n m c d on st read std. cc on)).0

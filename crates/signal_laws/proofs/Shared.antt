@@ -9,6 +9,7 @@ pub use Rattle.signal_laws.proofs.GivenNames.{given_set_law, given_rewire_law, g
 pub use Rattle.signal_laws.proofs.PlacedVisits.{places_law}
 pub use Rattle.signal_laws.proofs.CleanVisits.{clean_law, pass_law}
 pub use Rattle.signal_laws.proofs.VisitStates.{settle_law, asked_law, asked_memo_law, again_law, kept_moments_law}
+pub use Rattle.signal_laws.proofs.NameByName.{settle_both_law, settle_more_law}
 pub use Rattle.signal_laws.proofs.CleanMoments.{clean_moments_law}
 pub use Rattle.signal_laws.proofs.RecordedRuns.{scratch_runs_law, placed_runs_law, currency_law}
 pub use Rattle.signal_laws.proofs.KeptPaths.{kept_cycle_law, kept_path_law, evaluated_source_law}
@@ -39,3 +40,5 @@ pub use Rattle.signal_laws.proofs.PlacedVisits.{seen_is, seen_snoc, ordered_firs
 pub use Rattle.signal_laws.proofs.AfterRun.{new_memo, run_other, run_here, run_memo, run_stays, run_past}
 -- what is kept after visits
 pub use Rattle.signal_laws.proofs.VisitStates.{IsDone, AllDone, State, visit_state, visits_state, first_state, state_at}
+-- what is settled stays so, and is clean
+pub use Rattle.signal_laws.proofs.StillSettled.{IsSettled, settles, stays_settled, settled_same, settled_clean}

@@ -1,16 +1,23 @@
 -- What is settled stays so while other names are settled on the same signals.
-use Rattle.std.proofs.Common.{◌≡◌, ◌==◌, ℕ, true, false, List, [], ◌∷◌, sym, ◌∙◌, subst, inl, inr}
+use Rattle.std.proofs.Common.{◌≡◌, ◌==◌, ◌&&◌, ℕ, true, false, List, [], ◌∷◌, Option, Some, None, refl, sym, ap, ◌∙◌, subst, inl, inr}
 use Rattle.std.proofs.lemmas.Bool.{eqb-true}
 use Rattle.std.specs.List.{AllByRecursion}
 use Rattle.signal_model.specs.Recipes.{Hosts}
-use Rattle.signal_model.specs.Standing.{Signals, Computed, IsComputed, is_in, standing}
+use Rattle.signal_model.specs.Standing.{Signals, Computed, Stands, IsGone, IsCell, IsComputed, is_computed, is_in, standing}
+use Rattle.signal_model.specs.Values.{reads_of}
 use Rattle.signal_model.specs.Orders.{Visit, visited, evaluation_order}
-use Rattle.signal_model.specs.Memos.{Memos, must_run}
+use Rattle.signal_model.specs.Memos.{Memo, Memos, memo_of, sources_in, source_names, keeps, must_run}
+use Rattle.signal_model.specs.Marks.{IsBelow, kept, kept_below, Clean, is_due, mark_of}
+use Rattle.signal_model.specs.Sound.{names_of}
 use Rattle.signal_model.specs.Settling.{Settled, settle_visit, settle_visits, settled}
-use Rattle.signal_model.specs.Kept.{AreKept}
-use Rattle.signal_model.proofs.Shared.{tested, either, or_left, or_right}
+use Rattle.signal_model.specs.Kept.{OnlyComputedsKeep, AreKept}
+use Rattle.signal_model.proofs.Shared.{tested, either, or_left, or_right, mark_law}
 use Rattle.signal_laws.specs.OrderLaws.{IsPlaced, AreOrdered, seen_after}
-use Rattle.signal_laws.proofs.Shared.{places_law, in_head, in_tail, quiet_here, quiet_settle, seen_is, IsDone, State, visit_state, visits_state, first_state}
+use Rattle.signal_laws.specs.CleanLaws.{IsUpToDate}
+use Rattle.signal_laws.proofs.Lists.{in_head, in_tail}
+use Rattle.signal_laws.proofs.PlacedVisits.{seen_is, places_law}
+use Rattle.signal_laws.proofs.CleanVisits.{is_in-read, quiet_here, quiet_settle}
+use Rattle.signal_laws.proofs.VisitStates.{IsDone, State, visit_state, visits_state, first_state}
 
 -- all that an evaluation of these names visits is done
 pub record IsSettled (hosts : Hosts) (w : Signals) (k : Memos) (asked : List ℕ) : Type 0 where
@@ -70,11 +77,11 @@ more_visits hosts w before seen (v ∷ vs) s sub o st =
 
 -- after settling it is so
 pub settles : (hosts : Hosts) (w : Signals) (k : Memos) (asked : List ℕ) → AreKept hosts w k → IsSettled hosts w (settled hosts w k asked).memos asked
-settles hosts w k asked kept =
+settles hosts w k asked are_kept =
     let vs : List Visit = evaluation_order hosts w asked in
     record {
       seen = seen_after [] vs;
-      state = visits_state hosts w [] vs (record { memos = k; runs = [] }) (places_law hosts w asked).ordered (first_state hosts w k kept);
+      state = visits_state hosts w [] vs (record { memos = k; runs = [] }) (places_law hosts w asked).ordered (first_state hosts w k are_kept);
       all = λ x h. seen_is x [] vs ∙ h;
     }
 
@@ -106,3 +113,58 @@ settled_same hosts w k asked i =
     let vs : List Visit = evaluation_order hosts w asked in
     quiet_settle hosts w vs (record { memos = k; runs = [] })
     (each_quiet hosts w k [] vs (places_law hosts w asked).ordered (λ x d on st. i.state.done x d (i.all x on) st))
+
+-- ---- what is settled is clean
+
+-- what keeps a source is a computed
+keeper_is : (w : Signals) (k : Memos) (n m : ℕ) → OnlyComputedsKeep w k → keeps k n m ≡ true → (c : Computed) × (standing w n ≡ IsComputed c)
+keeper_is w k n m only h = go (memo_of k n) refl h
+  where
+    stands : (s : Stands) → standing w n ≡ s → is_computed s ≡ true → (c : Computed) × (standing w n ≡ IsComputed c)
+    stands IsGone e on = cc on
+    stands (IsCell c) e on = cc on
+    stands (IsComputed c) e on = (c, e)
+
+    go : (o : Option Memo) → memo_of k n ≡ o → is_in m (source_names (sources_in o)) ≡ true → (c : Computed) × (standing w n ≡ IsComputed c)
+    go None e on = cc on
+    go (Some memo) e on = stands (standing w n) refl (only n memo e)
+
+module _ (hosts : Hosts) (w : Signals) (k : Memos) (asked : List ℕ) (i : IsSettled hosts w k asked) where
+  -- a kept source of a visited computed is visited, if it is a computed
+  source_visited : (n m : ℕ) (d : Computed) → is_in n (visited (evaluation_order hosts w asked)) ≡ true → keeps k n m ≡ true →
+      standing w m ≡ IsComputed d → is_in m (visited (evaluation_order hosts w asked)) ≡ true
+  source_visited n m d visit on st =
+      let c : (c : Computed) × (standing w n ≡ IsComputed c) = keeper_is w k n m i.state.kept.entries.memos on in
+      let right : IsUpToDate hosts w k n c.0 = (i.state.done n c.0 (i.all n visit) c.1).right in
+      let names : is_in m (names_of (reads_of hosts w c.0)) ≡ true = ap (is_in m) (sym right.names)
+      ∙ ap (λ o. is_in m (source_names (sources_in o))) (sym right.at) ∙ on in
+      (places_law hosts w asked).closed n m c.0 d visit c.1 (is_in-read m (reads_of hosts w c.0) names) st
+
+  -- a visited computed isn't due
+  none_due : (n : ℕ) → ((d : Computed) → standing w n ≡ IsComputed d → is_in n (visited (evaluation_order hosts w asked)) ≡ true) →
+      is_due w k n ≡ false
+  none_due n visit = go (standing w n) refl
+    where
+      go : (s : Stands) → standing w n ≡ s → (is_computed s && must_run k n []) ≡ false
+      go IsGone e = refl
+      go (IsCell c) e = refl
+      go (IsComputed d) e = (i.state.done n d (i.all n (visit d e)) e).calm
+
+  -- nor is what is kept below it
+  none_due_below : (n m : ℕ) → IsBelow k n m → is_in n (visited (evaluation_order hosts w asked)) ≡ true → is_due w k m ≡ false
+  none_due_below n m (kept on) visit = none_due m (λ d st. source_visited n m d visit on st)
+  none_due_below n m (kept_below {p = p} on rest) visit = go rest (λ d st. none_due_below p m rest (source_visited n p d visit on st))
+    where
+      computed : IsBelow k p m → (d : Computed) × (standing w p ≡ IsComputed d)
+      computed (kept h) = keeper_is w k p m i.state.kept.entries.memos h
+      computed (kept_below {p = q} h r) = keeper_is w k p q i.state.kept.entries.memos h
+
+      go : IsBelow k p m → ((d : Computed) → standing w p ≡ IsComputed d → is_due w k m ≡ false) → is_due w k m ≡ false
+      go r f = let d : (d : Computed) × (standing w p ≡ IsComputed d) = computed r in f d.0 d.1
+
+  -- so each visited computed is clean
+  pub settled_clean : (n : ℕ) (c : Computed) → standing w n ≡ IsComputed c → is_in n (visited (evaluation_order hosts w asked)) ≡ true →
+      mark_of w k n ≡ Clean
+  settled_clean n c st visit =
+      sym ((mark_law w k n Clean i.state.kept.entries.memos).1
+      ((i.state.done n c (i.all n visit) st).calm, λ m below. none_due_below n m below visit))

@@ -25,11 +25,18 @@ abbrev pub seen_after : List ℕ → List Visit → List ℕ
 seen_after seen [] = seen
 seen_after seen (v ∷ vs) = seen_after (v.computed.name ∷ seen) vs
 
--- visits in order, with each computed that is asked for
+-- each computed that a visited computed reads is visited
+abbrev pub AreClosed : Hosts → Signals → List Visit → Type 0
+AreClosed hosts w vs = (n m : ℕ) (c d : Computed) → is_in n (visited vs) ≡ true → standing w n ≡ IsComputed c → IsRead m (reads_of hosts w c) →
+    standing w m ≡ IsComputed d → is_in m (visited vs) ≡ true
+
+-- visits in order, with each computed that is asked for, and each that is read
 pub record IsOrder (hosts : Hosts) (w : Signals) (asked : List ℕ) (vs : List Visit) : Type 0 where
   pub ordered : AreOrdered hosts w [] vs
   pub came : (n : ℕ) (c : Computed) → is_in n asked ≡ true → standing w n ≡ IsComputed c → is_in n (visited vs) ≡ true
+  pub closed : AreClosed hosts w vs
 
--- each visited computed stands after the computeds that it reads, but for those that are being evaluated
+-- Each visited computed stands after the computeds that it reads, but for those that are being evaluated, and what is asked for or read is
+-- visited.
 abbrev pub PlacesLaw : Type 0
 PlacesLaw = (hosts : Hosts) (w : Signals) (asked : List ℕ) → IsOrder hosts w asked (evaluation_order hosts w asked)

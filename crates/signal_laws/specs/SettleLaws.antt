@@ -1,5 +1,5 @@
 -- What settling keeps and reaches.
-use Rattle.std.specs.Prelude.{◌≡◌, ℕ, true, List, [], ◌++◌, Some}
+use Rattle.std.specs.Prelude.{◌≡◌, ℕ, true, List, [], ◌∷◌, ◌++◌, Some}
 use Rattle.signal_model.specs.Recipes.{Hosts}
 use Rattle.signal_model.specs.Standing.{Signals, Computed, IsComputed, is_in, standing}
 use Rattle.signal_model.specs.Values.{value_of}
@@ -29,6 +29,22 @@ AskedMemoLaw = (hosts : Hosts) (w : Signals) (k : Memos) (asked : List ℕ) (n :
 abbrev pub AgainLaw : Type 0
 AgainLaw = (hosts : Hosts) (w : Signals) (k : Memos) (asked : List ℕ) → AreKept hosts w k →
     settled hosts w (settled hosts w k asked).memos asked ≡ record { memos = (settled hosts w k asked).memos; runs = [] }
+
+-- ---- one settling after another
+
+-- what the second keeps, and the runs of both
+abbrev pub followed_by : Settled → Settled → Settled
+followed_by s t = record { memos = t.memos; runs = s.runs ++ t.runs }
+
+-- two lists of names, settled one after the other, are settled as one list
+abbrev pub SettleBothLaw : Type 0
+SettleBothLaw = (hosts : Hosts) (w : Signals) (k : Memos) (asked others : List ℕ) → AreKept hosts w k →
+    settled hosts w k (asked ++ others) ≡ followed_by (settled hosts w k asked) (settled hosts w (settled hosts w k asked).memos others)
+
+-- so names may be settled one by one
+abbrev pub SettleMoreLaw : Type 0
+SettleMoreLaw = (hosts : Hosts) (w : Signals) (k : Memos) (asked : List ℕ) (n : ℕ) → AreKept hosts w k →
+    settled hosts w k (asked ++ n ∷ []) ≡ followed_by (settled hosts w k asked) (settled hosts w (settled hosts w k asked).memos (n ∷ []))
 
 -- ---- inside a settling
 

@@ -7,7 +7,7 @@ ghost use Rattle.signal_laws.specs.KeptPathLaws.{EvaluatedSourceLaw, KeptCycleLa
 ghost use Rattle.signal_laws.specs.OrderLaws.{PlacesLaw};
 ghost use Rattle.signal_laws.specs.ReadingLaws.{FirstsAppendLaw, FirstsFrontLaw, FirstsHoldLaw, NextReadLaw, NoHostLaw, ReadingLaw, SameReadsLaw};
 ghost use Rattle.signal_laws.specs.RunLaws.{CurrencyLaw, PlacedRunsLaw, ScratchRunsLaw};
-ghost use Rattle.signal_laws.specs.SettleLaws.{AgainLaw, AskedLaw, AskedMemoLaw, CleanMomentsLaw, KeptMomentsLaw, SettleLaw};
+ghost use Rattle.signal_laws.specs.SettleLaws.{AgainLaw, AskedLaw, AskedMemoLaw, CleanMomentsLaw, KeptMomentsLaw, SettleBothLaw, SettleLaw, SettleMoreLaw};
 
 /// Where nothing has a memo, what is kept is sound, whatever stands.
 pub fn no_memos_law()
@@ -58,7 +58,8 @@ pub fn given_law()
     ensures settle { GivenSettleLaw }
 {}
 
-/// Each visited computed stands after the computeds that it reads, but for those that are being evaluated, and each that is asked for is visited.
+/// Each visited computed stands after the computeds that it reads, but for those that are being evaluated, and each that is asked for or read
+/// by one is visited.
 pub fn places_law()
     ensures { PlacesLaw }
 {}
@@ -91,6 +92,13 @@ pub fn asked_memo_law()
 /// Settling the same names again runs nothing.
 pub fn again_law()
     ensures { AgainLaw }
+{}
+
+/// Two lists of names, settled one after the other, are settled as one list: what is kept is the same, and so are the runs, in order. So names
+/// may be settled one by one.
+pub fn settle_more_law()
+    ensures lists { SettleBothLaw }
+    ensures name { SettleMoreLaw }
 {}
 
 /// At each moment of a settling what is kept is sound.
