@@ -3,10 +3,12 @@ use Rattle.std.proofs.Common.{◌≡◌, true, refl, inl}
 use Rattle.line_forms.specs.Reading.{is_clear}
 use Rattle.line_forms.specs.Rows.{rows_of, Reaches, IsGrammar}
 use Rattle.live_cmd.specs.declared.command.Verb.TheVariants as verbs
-use Rattle.live_cmd.specs.Grammar.{Row, row, table, verb, flush}
+use Rattle.live_cmd.specs.declared.command.SourceVerb.TheVariants as source_verbs
+use Rattle.live_cmd.specs.Grammar.{Row, row, table, verb, source_verb, flush}
 
 reached : (r : Row) → Reaches Row row r (rows_of (row r).0 table)
 reached (verb verbs.Get) = inl refl
+reached (source_verb source_verbs.Computed) = inl refl
 reached _ = inl refl
 
 clear : (r : Row) → is_clear (row r).1 ≡ true

@@ -12,6 +12,7 @@ use Rattle.script_lines.specs.Lines.{NumberedLine, numbered}
 use Rattle.script_lines.specs.Pieces.{Piece}
 use Rattle.live_cmd.specs.declared.command.Command.{Command}
 use Rattle.live_cmd.specs.declared.command.Command.TheVariants as command
+use Rattle.live_cmd.specs.declared.command.SourceVerb.TheVariants as source_verbs
 use Rattle.live_cmd.specs.declared.command.Item.{Item}
 use Rattle.live_cmd.specs.declared.command.Item.TheVariants as item
 use Rattle.live_cmd.specs.declared.line.Line.{Line}
@@ -19,7 +20,7 @@ use Rattle.live_cmd.specs.declared.line.Line.TheVariants as line
 use Rattle.live_cmd.specs.declared.place.Place.{Place}
 use Rattle.live_cmd.specs.declared.place.Place.TheVariants as place
 use Rattle.live_cmd.specs.declared.refusal.Refusal.{Refusal}
-use Rattle.live_cmd.specs.Grammar.{Row, row, Said, line_of, computed, template, text, close}
+use Rattle.live_cmd.specs.Grammar.{Row, row, Said, line_of, source_verb, template, text, close}
 use Rattle.live_cmd.specs.Places.{kind_of, moved}
 use Rattle.live_cmd.specs.Judging.{Sayings, faults_of, misplacing, excess, first_misplaced, first_excess, many_lines, refusal_of}
 use Rattle.live_cmd.specs.Items.{Say, IsItem, long, unended, faulty, says, any_long, first_number, texts_of, command_of, item_or, unless_refused, item_of}
@@ -36,7 +37,8 @@ Again (line.Text w) x = text_line w ≡ x
 Again line.End x = (close, tt) ≡ x
 
 again : (r : Row) (a : Args (row r).1) → Again (line_of (r, a)) (r, a)
-again computed a = ap (λ (f : Draft). (computed, (a.0, (f, tt))) ∷ []) (named_back a.1.0)
+again (source_verb source_verbs.Computed) a = ap (λ (f : Draft). (source_verb source_verbs.Computed, (a.0, (f, tt))) ∷ []) (named_back a.1.0)
+again (source_verb source_verbs.Rewire) a = ap (λ (f : Draft). (source_verb source_verbs.Rewire, (a.0, (f, tt))) ∷ []) (named_back a.1.0)
 again text a = ap (λ (f : Draft). (text, (f, tt))) (named_back a.0)
 again _ a = refl
 

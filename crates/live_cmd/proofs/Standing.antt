@@ -140,6 +140,7 @@ stands (command.Template m ws) n rest s =
     ∙ block ws (n + 1) (l ∷ []) rest s.2
     ∙ ap (λ (k : ℕ). piece_of n (x ∷ block_said ws) ∷ pieces_of k rest) count
 stands (command.Computed m (source.Formula w)) n rest s = single (said_by (command.Computed m (source.Formula w))) n rest s refl
+stands (command.Rewire m (source.Formula w)) n rest s = single (said_by (command.Rewire m (source.Formula w))) n rest s refl
 stands (command.Named verbs.Get m) n rest s = single (said_by (command.Named verbs.Get m)) n rest s refl
 stands c n rest s = single (said_by c) n rest s refl
 

@@ -9,6 +9,10 @@ use Rattle.line_forms.specs.Rows as grammar
 use Rattle.line_forms.specs.Told.{Made, made}
 use Rattle.live_cmd.specs.declared.command.Command.TheVariants as command
 use Rattle.live_cmd.specs.declared.command.SourceText.TheVariants as source
+use Rattle.live_cmd.specs.declared.command.SourceText.{SourceText}
+use Rattle.live_cmd.specs.declared.command.SourceVerb.{SourceVerb}
+use Rattle.live_cmd.specs.declared.command.SourceVerb.TheVariants as source_verbs
+use Rattle.live_cmd.specs.declared.command.Command.{Command}
 use Rattle.live_cmd.specs.declared.command.Verb.{Verb}
 use Rattle.live_cmd.specs.declared.command.Verb.TheVariants as verbs
 use Rattle.live_cmd.specs.declared.line.Line.{Line}
@@ -20,7 +24,8 @@ pub data Row : Type 0 where
   verb : Verb → Row
   cell : Row
   set : Row
-  computed : Row
+  -- a verb, a name and a formula
+  source_verb : SourceVerb → Row
   mount : Row
   flush : Row
   template : Row
@@ -30,7 +35,20 @@ pub data Row : Type 0 where
 -- the word of a verb
 abbrev pub verb_word : Verb → List ℕ
 verb_word verbs.Get = codes "get"
+verb_word verbs.State = codes "state"
+verb_word verbs.Sources = codes "sources"
 verb_word verbs.Show = codes "show"
+verb_word verbs.Dispose = codes "dispose"
+
+-- the word of a verb before a source
+abbrev pub source_verb_word : SourceVerb → List ℕ
+source_verb_word source_verbs.Computed = codes "computed"
+source_verb_word source_verbs.Rewire = codes "rewire"
+
+-- its command
+abbrev pub source_command : SourceVerb → List ℕ → SourceText → Command
+source_command source_verbs.Computed n s = command.Computed n s
+source_command source_verbs.Rewire n s = command.Rewire n s
 
 -- a name
 abbrev N : Piece
@@ -53,7 +71,7 @@ abbrev pub row : Row → grammar.Line
 row (verb v) = (verb_word v, N ∷ [])
 row cell = (codes "cell", N ∷ mark (codes "=") ∷ LIT ∷ [])
 row set = (codes "set", N ∷ LIT ∷ [])
-row computed = (codes "computed", N ∷ mark (codes "=") ∷ FORMULA ∷ [])
+row (source_verb v) = (source_verb_word v, N ∷ mark (codes "=") ∷ FORMULA ∷ [])
 row mount = (codes "mount", N ∷ N ∷ [])
 row flush = (codes "flush", [])
 row template = (codes "template", N ∷ [])
@@ -64,10 +82,14 @@ row close = (codes "end", [])
 abbrev pub table : grammar.Table Row
 table =
     (codes "get", verb verbs.Get ∷ [])
+    ∷ (codes "state", verb verbs.State ∷ [])
+    ∷ (codes "sources", verb verbs.Sources ∷ [])
     ∷ (codes "show", verb verbs.Show ∷ [])
+    ∷ (codes "dispose", verb verbs.Dispose ∷ [])
     ∷ (codes "cell", cell ∷ [])
     ∷ (codes "set", set ∷ [])
-    ∷ (codes "computed", computed ∷ [])
+    ∷ (codes "computed", source_verb source_verbs.Computed ∷ [])
+    ∷ (codes "rewire", source_verb source_verbs.Rewire ∷ [])
     ∷ (codes "mount", mount ∷ [])
     ∷ (codes "flush", flush ∷ [])
     ∷ (codes "template", template ∷ [])
@@ -80,7 +102,7 @@ abbrev pub line_makes : (r : Row) → Made (row r).1 Line
 line_makes (verb v) = λ n. line.Alone (command.Named v n)
 line_makes cell = λ n v. line.Alone (command.Cell n v)
 line_makes set = λ n v. line.Alone (command.Set n v)
-line_makes computed = λ n f. line.Alone (command.Computed n (source.Formula (wired f)))
+line_makes (source_verb v) = λ n f. line.Alone (source_command v n (source.Formula (wired f)))
 line_makes mount = λ n t. line.Alone (command.Mount n t)
 line_makes flush = line.Alone command.Flush
 line_makes template = λ n. line.Template n

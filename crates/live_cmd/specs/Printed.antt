@@ -1,5 +1,5 @@
 -- The lines in which entries are printed.
-use Rattle.std.specs.Prelude.{ℕ, Bool, false, List, [], ◌++◌, ◌&&◌, not, length, codes, if◌then◌else◌}
+use Rattle.std.specs.Prelude.{ℕ, Bool, true, false, List, [], ◌∷◌, ◌++◌, ◌&&◌, not, length, flat_map, codes, if◌then◌else◌}
 use Rattle.std.specs.Fmt.{decimal}
 use Rattle.sig_base.specs.Printing.{printed as printed_value, fault_name}
 use Rattle.sig_base.specs.declared.value.Outcome.{Outcome}
@@ -8,6 +8,8 @@ use Rattle.live_cmd.specs.declared.refusal.LimitWord.{LimitWord}
 use Rattle.live_cmd.specs.declared.refusal.LimitWord.TheVariants as limit
 use Rattle.live_cmd.specs.declared.refusal.Refusal.{Refusal}
 use Rattle.live_cmd.specs.declared.refusal.Refusal.TheVariants as refusal
+use Rattle.live_cmd.specs.declared.entry.Seen.{Seen}
+use Rattle.live_cmd.specs.declared.entry.Seen.TheVariants as seen
 use Rattle.live_cmd.specs.declared.entry.Entry.{Entry}
 use Rattle.live_cmd.specs.declared.entry.Entry.TheVariants as entry
 
@@ -27,6 +29,7 @@ refusal_text (refusal.Syntax k) = codes "1 " ++ decimal k
 refusal_text (refusal.Unknown n) = codes "2 " ++ n
 refusal_text (refusal.Taken n) = codes "3 " ++ n
 refusal_text (refusal.Kind n) = codes "4 " ++ n
+refusal_text (refusal.Gone n) = codes "6 " ++ n
 refusal_text (refusal.Limit l) = codes "5 " ++ limit_word l
 refusal_text (refusal.UntrackHere k) = codes "15 " ++ decimal k
 refusal_text (refusal.Nest k) = codes "19 " ++ decimal k
@@ -39,20 +42,61 @@ line_of_refusal r = codes "error " ++ refusal_text r ++ codes "\n"
 abbrev pub line_of_page : List ℕ → List ℕ → List ℕ
 line_of_page n bytes = codes "page " ++ n ++ codes " " ++ decimal (length bytes) ++ codes "\n" ++ bytes ++ codes "\n"
 
+-- the value or the fault, as it stands behind a name
+abbrev pub outcome_text : Outcome → List ℕ
+outcome_text (Good v) = codes " = " ++ printed_value v ++ codes "\n"
+outcome_text (Bad f) = codes " ! " ++ fault_name f ++ codes "\n"
+
 -- the name, and its value or its fault
 abbrev pub line_of_outcome : List ℕ → Outcome → List ℕ
-line_of_outcome n (Good v) = n ++ codes " = " ++ printed_value v ++ codes "\n"
-line_of_outcome n (Bad f) = n ++ codes " ! " ++ fault_name f ++ codes "\n"
+line_of_outcome n o = n ++ outcome_text o
+
+-- the word of a mark
+abbrev pub seen_word : Seen → List ℕ
+seen_word seen.Clean = codes "clean"
+seen_word seen.Checked = codes "checked"
+seen_word seen.Dirty = codes "dirty"
+
+-- how a computed stands
+abbrev pub line_of_state : List ℕ → Seen → List ℕ
+line_of_state n s = codes "state " ++ n ++ codes " " ++ seen_word s ++ codes "\n"
+
+-- a name behind a blank
+abbrev pub listed : List ℕ → List ℕ
+listed n = codes " " ++ n
+
+-- the sources that a computed keeps
+abbrev pub line_of_sources : List ℕ → List (List ℕ) → List ℕ
+line_of_sources n ms = codes "sources " ++ n ++ flat_map listed ms ++ codes "\n"
+
+-- the names that were read, in parentheses, with blanks between them
+abbrev pub reads_text : List (List ℕ) → List ℕ
+reads_text [] = codes " ()"
+reads_text (n ∷ ns) = codes " (" ++ n ++ flat_map listed ns ++ codes ")"
+
+-- a run: who ran, what it read, and what it came to
+abbrev pub line_of_run : List ℕ → List (List ℕ) → Outcome → List ℕ
+line_of_run n reads o = codes "run " ++ n ++ reads_text reads ++ outcome_text o
+
+-- an end
+abbrev pub line_of_gone : List ℕ → List ℕ
+line_of_gone n = codes "gone " ++ n ++ codes "\n"
 
 -- the lines of an entry
 abbrev pub line_of_entry : Entry → List ℕ
 line_of_entry (entry.Outcome n o) = line_of_outcome n o
+line_of_entry (entry.State n s) = line_of_state n s
+line_of_entry (entry.Sources n ms) = line_of_sources n ms
 line_of_entry (entry.Page n bytes) = line_of_page n bytes
 line_of_entry (entry.Error r) = line_of_refusal r
+line_of_entry (entry.Run n reads o) = line_of_run n reads o
+line_of_entry (entry.Gone n) = line_of_gone n
 
 -- whether the entry is printed only where a trace is asked for
 abbrev pub is_traced : Entry → Bool
-is_traced e = false
+is_traced (entry.Run n reads o) = true
+is_traced (entry.Gone n) = true
+is_traced _ = false
 
 -- what is printed of an entry, with a trace or without
 abbrev pub printed : Bool → Entry → List ℕ

@@ -8,7 +8,9 @@ use Rattle.script_lines.specs.Lines.{NumberedLine, numbered}
 use Rattle.live_cmd.specs.declared.command.Command.{Command}
 use Rattle.live_cmd.specs.declared.command.Command.TheVariants as command
 use Rattle.live_cmd.specs.declared.command.SourceText.TheVariants as source
-use Rattle.live_cmd.specs.Grammar.{Row, row, Said, verb, cell, set, computed, mount, flush, template, text, close}
+use Rattle.live_cmd.specs.declared.command.SourceVerb.{SourceVerb}
+use Rattle.live_cmd.specs.declared.command.SourceVerb.TheVariants as source_verbs
+use Rattle.live_cmd.specs.Grammar.{Row, row, Said, verb, cell, set, source_verb, mount, flush, template, text, close}
 
 -- the formula with names in place of its slots
 abbrev pub draft_of : Wiring → Draft
@@ -18,12 +20,17 @@ draft_of w = unslotted w.1 w.0
 abbrev pub text_line : Wiring → Said
 text_line w = (text, (draft_of w, tt))
 
+-- what the line of a verb, a name and a formula says
+abbrev pub source_line : SourceVerb → List ℕ → Wiring → Said
+source_line v n w = (source_verb v, (n, (draft_of w, tt)))
+
 -- what the lines of a command say
 abbrev pub said_by : Command → List Said
 said_by (command.Named v n) = (verb v, (n, tt)) ∷ []
 said_by (command.Cell n v) = (cell, (n, (v, tt))) ∷ []
 said_by (command.Set n v) = (set, (n, (v, tt))) ∷ []
-said_by (command.Computed n (source.Formula w)) = (computed, (n, (draft_of w, tt))) ∷ []
+said_by (command.Computed n (source.Formula w)) = source_line source_verbs.Computed n w ∷ []
+said_by (command.Rewire n (source.Formula w)) = source_line source_verbs.Rewire n w ∷ []
 said_by (command.Mount n t) = (mount, (n, (t, tt))) ∷ []
 said_by command.Flush = (flush, tt) ∷ []
 said_by (command.Template n texts) = (template, (n, tt)) ∷ (map text_line texts ++ (close, tt) ∷ [])

@@ -1,6 +1,6 @@
 // Commands and the items of a script.
 ghost use Rattle.std.specs.Prelude.{◌≡◌};
-ghost use Rattle.live_cmd.specs.Grammar.{verb_word};
+ghost use Rattle.live_cmd.specs.Grammar.{source_command, source_verb_word, verb_word};
 
 use crate::Refusal;
 use formula_text::Wired;
@@ -54,8 +54,14 @@ impl Formulas {
 pub enum Verb {
     /// `get N` tells the outcome of a cell or a computed.
     Get,
+    /// `state N` tells whether a computed has to run, or something below it.
+    State,
+    /// `sources N` tells the sources that a computed keeps.
+    Sources,
     /// `show P` tells the HTML of a page as it was last brought up to date.
     Show,
+    /// `dispose N` takes a cell or a computed away.
+    Dispose,
 }
 
 impl Verb {
@@ -65,7 +71,41 @@ impl Verb {
     {
         match self {
             Verb::Get => "get",
+            Verb::State => "state",
+            Verb::Sources => "sources",
             Verb::Show => "show",
+            Verb::Dispose => "dispose",
+        }
+    }
+}
+
+/// The verbs of the commands that are a verb, a name, `=`, and what a computed is computed by.
+#[derive(Clone, Copy, Debug, PartialEq, Eq)]
+pub enum SourceVerb {
+    /// `computed N = FORMULA` makes a computed.
+    Computed,
+    /// `rewire N = FORMULA` gives a computed another formula.
+    Rewire,
+}
+
+impl SourceVerb {
+    /// Its word.
+    pub fn word(self) -> &'static str
+        ensures { result.now ≡ source_verb_word self }
+    {
+        match self {
+            SourceVerb::Computed => "computed",
+            SourceVerb::Rewire => "rewire",
+        }
+    }
+
+    /// The command of this verb, with a name and a source.
+    pub fn command(self, name: Name, source: SourceText) -> Command
+        ensures { result ≡ source_command self name source }
+    {
+        match self {
+            SourceVerb::Computed => Command::Computed { name, source },
+            SourceVerb::Rewire => Command::Rewire { name, source },
         }
     }
 }
@@ -86,6 +126,8 @@ pub enum Command {
     Set { name: Name, value: Scalar },
     /// `computed N = FORMULA` makes a computed.
     Computed { name: Name, source: SourceText },
+    /// `rewire N = FORMULA` gives a computed another formula.
+    Rewire { name: Name, source: SourceText },
     /// A verb and a name.
     Named { verb: Verb, name: Name },
     /// `template T` to `end` makes a template that shows what these formulas come to, one after the other.

@@ -312,6 +312,10 @@ mod tests {
         let alloc = rt.alloc();
         for (script, canonical) in [
             ("get a", "get a\n"),
+            ("state a", "state a\n"),
+            ("sources a", "sources a\n"),
+            ("dispose a", "dispose a\n"),
+            ("rewire c=a", "rewire c = a\n"),
             ("show\tp\nend", "show p\n"),
             (" cell\ta= -5 \nend", "cell a = -5\n"),
             ("set a \"\\n\\\"é\"", "set a \"\\n\\\"é\"\n"),

@@ -12,8 +12,8 @@ mod reading;
 mod refusal;
 mod writing;
 
-pub use command::{Command, Formulas, Item, SourceText, Verb};
-pub use entry::{Entry, PageBytes, entry_line};
+pub use command::{Command, Formulas, Item, SourceText, SourceVerb, Verb};
+pub use entry::{Entry, NameList, PageBytes, Seen, entry_line};
 pub use item::next_item;
 pub use laws::{commands_read_back, items_cut, items_in_turn, one_item, one_list, one_meaning};
 pub use line::Line;

@@ -10,7 +10,7 @@ ghost use Rattle.live_cmd.specs.Grammar as rows;
 ghost use Rattle.live_cmd.specs.Views.{found_as, found_first, found_of};
 
 use crate::line::{Found, LineKind};
-use crate::{Command, Line, SourceText, Verb};
+use crate::{Command, Line, SourceText, SourceVerb, Verb};
 use formula_text::{Allow, FormulaFault};
 use line_forms::{ends_at, formula_at, name_at, symbol_at, value_at};
 use sig_base::{MOST_LINE, NoMemory};
@@ -115,10 +115,15 @@ fn set(alloc: Global, line: &[u8], tokens: &[Token]) -> Result<Option<Found>, No
     }
 }
 
-// `computed N = FORMULA`
-fn computed(alloc: Global, line: &[u8], tokens: &[Token]) -> Result<Option<Found>, NoMemory>
+// A verb, a name, `=` and a formula.
+fn sourced(
+    alloc: Global,
+    line: &[u8],
+    tokens: &[Token],
+    verb: SourceVerb,
+) -> Result<Option<Found>, NoMemory>
     requires { AreTokens line.now tokens.now }
-    ensures { IfOk result (λ found. found ≡ found_as rows.computed (ahead line.now tokens.now 1)) }
+    ensures { IfOk result (λ found. found ≡ found_as (rows.source_verb verb) (ahead line.now tokens.now 1)) }
 {
     let at = 1;
     let Some((name, at)) = name_at(alloc, line, tokens, at)? else {
@@ -136,7 +141,7 @@ fn computed(alloc: Global, line: &[u8], tokens: &[Token]) -> Result<Option<Found
     match formula {
         Ok(formula) => {
             let source = SourceText::Formula(formula);
-            Ok(Some(alone(Command::Computed { name, source })))
+            Ok(Some(alone(verb.command(name, source))))
         }
         Err(fault) => Ok(Some(faulty(LineKind::Alone, fault))),
     }
@@ -225,10 +230,14 @@ fn behind_word(
 {
     match word {
         "get" => named(alloc, line, tokens, Verb::Get),
+        "state" => named(alloc, line, tokens, Verb::State),
+        "sources" => named(alloc, line, tokens, Verb::Sources),
         "show" => named(alloc, line, tokens, Verb::Show),
+        "dispose" => named(alloc, line, tokens, Verb::Dispose),
         "cell" => cell(alloc, line, tokens),
         "set" => set(alloc, line, tokens),
-        "computed" => computed(alloc, line, tokens),
+        "computed" => sourced(alloc, line, tokens, SourceVerb::Computed),
+        "rewire" => sourced(alloc, line, tokens, SourceVerb::Rewire),
         "mount" => mount(alloc, line, tokens),
         "flush" => Ok(flush(line, tokens)),
         "template" => template(alloc, line, tokens),

@@ -13,6 +13,8 @@ pub enum Refusal {
     Taken(Name),
     /// The name is of another kind than its place needs.
     Kind(Name),
+    /// What has this name was disposed.
+    Gone(Name),
     /// There would be too much of something.
     Limit(LimitWord),
     /// The line of this number has an `untrack`, and no effect stands around it.

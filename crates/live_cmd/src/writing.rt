@@ -2,10 +2,11 @@
 ghost use Rattle.std.specs.Prelude.{◌≡◌, ◌++◌, OnOk, flat_map};
 ghost use Rattle.live_cmd.specs.declared.command.Command.TheVariants as command;
 ghost use Rattle.live_cmd.specs.Grammar as rows;
-ghost use Rattle.live_cmd.specs.Writing.{command_text, draft_of, ended_line, text_line};
+ghost use Rattle.live_cmd.specs.Grammar.{source_command};
+ghost use Rattle.live_cmd.specs.Writing.{command_text, ended_line, text_line};
 
 use crate::command::Formulas;
-use crate::{Command, SourceText, Verb};
+use crate::{Command, SourceText, SourceVerb, Verb};
 use formula_text::Wired;
 use line_forms::{put_fixed, put_name, put_value, put_wired};
 use sig_base::{Name, NoMemory, Scalar};
@@ -40,12 +41,18 @@ fn put_set(out: &mut Vec<u8>, name: &Name, value: &Scalar) -> Result<(), NoMemor
     Ok(())
 }
 
-fn put_computed(out: &mut Vec<u8>, name: &Name, formula: &Wired) -> Result<(), NoMemory>
-    ensures { OnOk result (out.new.items ≡ out.old.items ++ ended_line (rows.computed, (name.now, (draft_of formula.now, tt)))) }
+fn put_sourced(
+    out: &mut Vec<u8>,
+    verb: SourceVerb,
+    name: &Name,
+    source: &SourceText,
+) -> Result<(), NoMemory>
+    ensures { OnOk result (out.new.items ≡ out.old.items ++ command_text (source_command verb name.now source.now)) }
 {
-    out.extend_from_slice(b"computed")?;
+    out.extend_from_slice(verb.word().as_bytes())?;
     put_name(out, name)?;
     put_fixed(out, b"=")?;
+    let SourceText::Formula(formula) = source;
     put_wired(out, formula)?;
     out.push(b'\n')?;
     Ok(())
@@ -113,10 +120,8 @@ pub fn command_line(out: &mut Vec<u8>, command: &Command) -> Result<(), NoMemory
         Command::Named { verb, name } => put_named(out, *verb, name),
         Command::Cell { name, value } => put_cell(out, name, value),
         Command::Set { name, value } => put_set(out, name, value),
-        Command::Computed { name, source } => {
-            let SourceText::Formula(formula) = source;
-            put_computed(out, name, formula)
-        }
+        Command::Computed { name, source } => put_sourced(out, SourceVerb::Computed, name, source),
+        Command::Rewire { name, source } => put_sourced(out, SourceVerb::Rewire, name, source),
         Command::Mount { name, template } => put_mount(out, name, template),
         Command::Template { name, texts } => put_template(out, name, texts),
         Command::Flush => {
