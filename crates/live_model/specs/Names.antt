@@ -1,8 +1,9 @@
 -- What names stand for, what they have to stand for, and what is refused of them.
-use Rattle.std.specs.Prelude.{ℕ, Bool, true, false, ◌||◌, List, [], ◌∷◌, Option, Some, None, if◌then◌else◌}
+use Rattle.std.specs.Prelude.{ℕ, Bool, true, false, ◌&&◌, not, List, [], ◌∷◌, Option, Some, None, if◌then◌else◌}
 use Rattle.std.specs.Str.{bytes_eq}
 use Rattle.std.specs.Option.{option_or, option_map_or}
 use Rattle.std.specs.Map.{lookup}
+use Rattle.signal_model.specs.Standing.{Signals, is_there, standing}
 use Rattle.live_cmd.specs.declared.refusal.Refusal.{Refusal}
 use Rattle.live_cmd.specs.declared.refusal.Refusal.TheVariants as refusal
 use Rattle.live_model.specs.declared.names.Kind.{Kind}
@@ -31,24 +32,38 @@ same_kind kind.Template kind.Template = true
 same_kind kind.Page kind.Page = true
 same_kind _ _ = false
 
+-- whether it stands for a signal
+abbrev pub is_signal : Kind → Bool
+is_signal kind.Cell = true
+is_signal kind.Computed = true
+is_signal _ = false
+
 -- whether what was made is what a place needs
 abbrev pub meets : Need → Meaning → Bool
 meets need.New m = false
 meets (need.Of k) m = same_kind k m.kind
-meets need.Signal m = same_kind kind.Cell m.kind || same_kind kind.Computed m.kind
+meets need.Signal m = is_signal m.kind
+
+-- whether what was made is gone: a signal that doesn't stand any more
+abbrev pub is_gone : Signals → Meaning → Bool
+is_gone w m = is_signal m.kind && not (is_there (standing w m.number))
 
 -- a name that is used, and what it has to be
 abbrev pub Use : Type 0
 Use = List ℕ × Need
 
--- a new name must not have been made, a used one must have been, and be what its place needs
-abbrev pub refusal_at : Use → Option Meaning → Option Refusal
-refusal_at (n, need.New) None = None
-refusal_at (n, need.New) (Some m) = Some (refusal.Taken n)
-refusal_at (n, needed) None = Some (refusal.Unknown n)
-refusal_at (n, needed) (Some m) = if meets needed m then None else Some (refusal.Kind n)
+-- what has the name must not be gone, and be what its place needs
+abbrev pub misuse : Signals → Use → Meaning → Option Refusal
+misuse w (n, needed) m = if is_gone w m then Some (refusal.Gone n) else (if meets needed m then None else Some (refusal.Kind n))
+
+-- a new name must not have been made; a used one must have been, not be gone, and be what its place needs
+abbrev pub refusal_at : Signals → Use → Option Meaning → Option Refusal
+refusal_at w (n, need.New) None = None
+refusal_at w (n, need.New) (Some m) = Some (refusal.Taken n)
+refusal_at w (n, needed) None = Some (refusal.Unknown n)
+refusal_at w (n, needed) (Some m) = misuse w (n, needed) m
 
 -- the refusal of the first name that has one
-abbrev pub first_refusal : Names → List Use → Option Refusal
-first_refusal names [] = None
-first_refusal names (u ∷ us) = option_or (refusal_at u (meaning_of names u.0)) (first_refusal names us)
+abbrev pub first_refusal : Signals → Names → List Use → Option Refusal
+first_refusal w names [] = None
+first_refusal w names (u ∷ us) = option_or (refusal_at w u (meaning_of names u.0)) (first_refusal w names us)

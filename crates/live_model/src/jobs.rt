@@ -5,4 +5,6 @@
 pub enum Job {
     /// Run the script.
     Run,
+    /// Run the script, and print the trace of its runs and ends too.
+    Trace,
 }
