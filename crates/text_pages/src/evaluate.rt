@@ -1,0 +1,126 @@
+// The evaluation of a text on what is heard of the names that it asks for.
+ghost use Rattle.std.specs.Prelude.{◌≡◌, ◌<◌, ◌++◌, ◌∷◌, [], map, length, slice_index, IfOk, OnOk};
+ghost use Rattle.signal_model.specs.Values.{learnt};
+ghost use Rattle.sig_base.specs.declared.value.Outcome.TheVariants.{Bad, Good};
+ghost use Rattle.sig_computed.specs.Notes.{note_of, IsIdle};
+ghost use Rattle.text_pages.specs.Hearing.{Evaluates, Hears, IsWornBy};
+
+use crate::heard::{Heard, hear};
+use sig_base::{Fault, Known, NoMemory, NodeId, Outcome, Step, Value};
+use sig_computed::RunNote;
+use sig_nodes::Graph;
+use signal_model::Linked;
+use std::alloc::Global;
+use std::marker::Model;
+
+/// A name that a text has read, and its outcome.
+#[derive(Drop)]
+pub(crate) struct Read {
+    pub(crate) id: NodeId,
+    pub(crate) outcome: Outcome,
+}
+
+impl Model for Read {
+    ghost use Rattle.signal_model.specs.Values.{Seen};
+
+    ghost Value = { Seen };
+
+    ghost view = { λ r. record { name = r.id; outcome = r.outcome } };
+}
+
+/// What a text has read, in order, and what it comes to.
+#[derive(Drop)]
+pub(crate) struct Evaluated {
+    pub(crate) reads: Vec<Read>,
+    pub(crate) outcome: Outcome,
+}
+
+impl Model for Evaluated {
+    ghost use Rattle.signal_model.specs.Values.{Evaluation};
+
+    ghost Value = { Evaluation };
+
+    ghost view = { λ e. record { reads = e.reads.items; outcome = e.outcome } };
+}
+
+// The name of a slot.
+fn slot_name(text: &Linked, slot: u32) -> NodeId
+    requires { slot < length text.now.slots }
+    ensures { result ≡ slice_index text.now.slots slot }
+{
+    text.slots[slot as usize]
+}
+
+// A value was read.
+fn learn(
+    known: &mut Vec<Known>,
+    reads: &mut Vec<Read>,
+    slot: u32,
+    id: NodeId,
+    value: Value,
+) -> Result<(), NoMemory>
+    ensures known { OnOk result (known.new.items ≡ learnt known.old.items slot value) }
+    ensures reads { OnOk result (reads.new.items ≡ reads.old.items ++ record { name = id; outcome = Good value } ∷ []) }
+{
+    let outcome = Outcome::Good(value.copy()?);
+    known.push(Known { slot, value })?;
+    reads.push(Read { id, outcome })?;
+    Ok(())
+}
+
+// A fault was read, which ends the evaluation.
+fn failed(reads: Vec<Read>, id: NodeId, fault: Fault) -> Result<Evaluated, NoMemory>
+    ensures { IfOk result (λ e. e ≡ record { reads = reads.items ++ record { name = id; outcome = Bad fault } ∷ []; outcome = Bad fault }) }
+{
+    let mut reads = reads;
+    let outcome = Outcome::Bad(fault);
+    reads.push(Read { id, outcome })?;
+    Ok(Evaluated {
+        reads,
+        outcome: Outcome::Bad(fault),
+    })
+}
+
+/// Evaluates a text: it is asked again with each value that it reads, until it ends or a name has a fault.
+pub(crate) fn evaluate(
+    alloc: Global,
+    graph: &mut Graph,
+    heard: &mut Heard,
+    text: &Linked,
+    notes: &mut Vec<RunNote>,
+) -> Result<Evaluated, NoMemory>
+    requires idle { IsIdle graph.old.state }
+    requires worn { IsWornBy (length notes.old.items) graph.old.state }
+    ensures evaluated { IfOk result (λ e. Evaluates text.now e heard.old heard.new) }
+    ensures after { OnOk result (Hears graph.old graph.new (map note_of notes.old.items) (map note_of notes.new.items) heard.old heard.new) }
+    ensures idle { OnOk result (IsIdle graph.new.state) }
+    ensures worn { OnOk result (IsWornBy (length notes.new.items) graph.new.state) }
+{
+    let mut known: Vec<Known> = Vec::new(alloc);
+    let mut reads: Vec<Read> = Vec::new(alloc);
+    'asking: loop {
+        let slot = match text.answer(alloc, &known)? {
+            Step::Read(slot) => slot,
+            Step::Done(value) => {
+                return Ok(Evaluated {
+                    reads,
+                    outcome: Outcome::Good(value),
+                });
+            }
+            Step::Fail(fault) => {
+                return Ok(Evaluated {
+                    reads,
+                    outcome: Outcome::Bad(fault),
+                });
+            }
+        };
+        let id = slot_name(text, slot);
+        match hear(graph, heard, id, notes)? {
+            Outcome::Good(value) => learn(&mut known, &mut reads, slot, id, value)?,
+            Outcome::Bad(fault) => {
+                let evaluated = failed(reads, id, fault)?;
+                return Ok(evaluated);
+            }
+        }
+    }
+}

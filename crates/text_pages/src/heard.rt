@@ -1,0 +1,81 @@
+// What is heard of names while a page is brought up to date: each of them is settled once.
+ghost use Rattle.std.specs.Prelude.{◌≡◌, ◌++◌, ◌∷◌, [], map, length, None, Some, IfOk, OnOk};
+ghost use Rattle.std.specs.Map.{keys_of};
+ghost use Rattle.signal_laws.specs.ReadingLaws.{joined};
+ghost use Rattle.sig_computed.specs.Notes.{note_of, IsIdle};
+ghost use Rattle.text_pages.specs.Hearing.{heard_of, Hears, IsWornBy};
+
+use indexmap::IndexMap;
+use sig_base::{NoMemory, NodeId, Outcome};
+use sig_computed::{RunNote, settle};
+use sig_nodes::Graph;
+use std::alloc::Global;
+use std::marker::Model;
+
+/// The names that were heard, in this order, and their outcomes.
+#[derive(Drop)]
+pub(crate) struct Heard {
+    outcomes: IndexMap<NodeId, Outcome>,
+}
+
+impl Model for Heard {
+    ghost use Rattle.text_pages.specs.Hearing as names;
+
+    ghost Value = { names.Heard };
+
+    ghost view = { λ h. h.outcomes.entries };
+}
+
+impl Heard {
+    /// Nothing was heard.
+    pub(crate) fn new(alloc: Global) -> Heard
+        ensures { result ≡ [] }
+    {
+        Heard {
+            outcomes: IndexMap::new(alloc),
+        }
+    }
+
+    // The outcome that was heard of a name.
+    fn outcome(&self, id: NodeId) -> Result<Option<Outcome>, NoMemory>
+        ensures { IfOk result (λ o. o ≡ heard_of self.now id) }
+    {
+        match self.outcomes.get(&id) {
+            Some(outcome) => Ok(Some(outcome.copy()?)),
+            None => Ok(None),
+        }
+    }
+
+    // Puts a name behind the others.
+    fn put(&mut self, id: NodeId, outcome: Outcome) -> Result<(), NoMemory>
+        requires { heard_of self.old id ≡ None }
+        ensures { OnOk result (self.new ≡ self.old ++ (id, outcome) ∷ []) }
+    {
+        self.outcomes.insert(id, outcome)?;
+        Ok(())
+    }
+}
+
+/// Hears a name: the first time it is settled.
+pub(crate) fn hear(
+    graph: &mut Graph,
+    heard: &mut Heard,
+    id: NodeId,
+    notes: &mut Vec<RunNote>,
+) -> Result<Outcome, NoMemory>
+    requires idle { IsIdle graph.old.state }
+    requires worn { IsWornBy (length notes.old.items) graph.old.state }
+    ensures outcome { IfOk result (λ o. heard_of heard.new id ≡ Some o) }
+    ensures names { OnOk result (keys_of heard.new ≡ joined (keys_of heard.old) id) }
+    ensures after { OnOk result (Hears graph.old graph.new (map note_of notes.old.items) (map note_of notes.new.items) heard.old heard.new) }
+    ensures idle { OnOk result (IsIdle graph.new.state) }
+    ensures worn { OnOk result (IsWornBy (length notes.new.items) graph.new.state) }
+{
+    let _count = notes.len();
+    if let Some(outcome) = heard.outcome(id)? {
+        return Ok(outcome);
+    }
+    let outcome = settle(graph, id, notes)?;
+    heard.put(id, outcome.copy()?)?;
+    Ok(outcome)
+}

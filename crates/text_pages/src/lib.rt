@@ -1,0 +1,7 @@
+//! Pages of texts, kept up to date by what changed.
+#![tactic(auto)]
+
+mod evaluate;
+mod heard;
+mod text;
+
