@@ -25,11 +25,11 @@ use Rattle.text_pages.proofs.Hearings.{still_heard}
 -- ---- what was heard, as the outcomes of sources
 
 -- the outcome that was heard, and for any other name that of what is gone
-abbrev outcome_in : Heard → ℕ → Outcome
+abbrev pub outcome_in : Heard → ℕ → Outcome
 outcome_in heard n = unwrap_or (heard_of heard n) (Bad Gone)
 
 -- what was read has the outcomes that were heard
-have_heard : (heard : Heard) (reads : List Seen) → WereHeard heard reads → HaveOutcomes (outcome_in heard) reads
+pub have_heard : (heard : Heard) (reads : List Seen) → WereHeard heard reads → HaveOutcomes (outcome_in heard) reads
 have_heard heard [] all = tt
 have_heard heard (s ∷ ss) all = (ap (λ o. unwrap_or o (Bad Gone)) all.0, have_heard heard ss all.1)
 
@@ -51,7 +51,7 @@ have_last source [] s all = all.0
 have_last source (r ∷ rs) s all = have_last source rs s all.1
 
 -- one more name is heard, behind those before
-names_more : (first mid now : List ℕ) (reads : List Seen) (s : Seen) → mid ≡ firsts_after first (names_of reads) → now ≡ joined mid s.name →
+pub names_more : (first mid now : List ℕ) (reads : List Seen) (s : Seen) → mid ≡ firsts_after first (names_of reads) → now ≡ joined mid s.name →
     now ≡ firsts_after first (names_of (reads ++ s ∷ []))
 names_more first mid now reads s so is =
     is ∙ ap (λ ns. joined ns s.name) so ∙ sym (firsts_append_law first (names_of reads) (s.name ∷ []))

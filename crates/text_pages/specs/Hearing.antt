@@ -1,19 +1,18 @@
 -- What is heard of names while a page is brought up to date, and what hearing them leaves.
-use Rattle.std.specs.Prelude.{◌≡◌, ℕ, ◌+◌, ◌<◌, ◌^◌, List, ◌++◌, [], nat_eq, length, Option, Some}
+use Rattle.std.specs.Prelude.{◌≡◌, ℕ, ◌+◌, ◌<◌, ◌^◌, Bool, true, false, List, ◌++◌, [], nat_eq, length, take, Option, Some}
 use Rattle.std.specs.List.{AllByRecursion, flat_map}
 use Rattle.std.specs.Map.{lookup, keys_of}
 use Rattle.sig_base.specs.declared.value.Outcome.{Outcome}
 use Rattle.signal_model.specs.Recipes.{Hosts, Recipe}
 use Rattle.signal_model.specs.Standing.{Signals}
-use Rattle.signal_model.specs.Values.{Seen, Evaluation, recipe_value, value_of}
+use Rattle.signal_model.specs.Values.{Seen, Evaluation, value_of}
 use Rattle.signal_model.specs.Sound.{names_of}
 use Rattle.signal_model.specs.Kept.{AreKept}
 use Rattle.signal_laws.specs.ReadingLaws.{firsts_after, IsReading}
 use Rattle.sig_nodes.specs.States as states
 use Rattle.sig_nodes.specs.States.{State}
 use Rattle.sig_computed.specs.Notes.{Note, AreNotesGiven, IsIdle, IsSettling}
-use Rattle.live_model.specs.Pages.{html_of, node_html, reads_in}
-use Rattle.text_pages.specs.Shown.{Line, html_in}
+use Rattle.text_pages.specs.Shown.{Line, AreLines, IsLine}
 
 -- names with their outcomes, in the order of hearing
 abbrev pub Heard : Type 0
@@ -55,12 +54,37 @@ pub record Evaluates (r : Recipe) (e : Evaluation) (earlier now : Heard) : Type 
   pub heard : WereHeard now e.reads
   pub names : keys_of now ≡ firsts_after (keys_of earlier) (names_of e.reads)
 
--- a line that is up to date: its bytes are those from scratch, and the names that its text reads from scratch were heard
-pub record IsUpToDate (hosts : Hosts) (w : Signals) (r : Recipe) (heard now : Heard) (l : Line) : Type 0 where
-  pub html : l.html ≡ node_html (recipe_value hosts w r)
-  pub names : keys_of now ≡ firsts_after (keys_of heard) (reads_in hosts w r)
+-- ---- lines on what is heard
+
+-- names that were read before were heard again, and their outcomes are those that were read
+pub record AreSame (reads : List Seen) (earlier now : Heard) : Type 0 where
+  pub heard : WereHeard now reads
+  pub names : keys_of now ≡ firsts_after (keys_of earlier) (names_of reads)
+
+-- they were heard again up to one that may have another outcome
+pub record AreSameBefore (reads : List Seen) (earlier now : Heard) : Type 0 where
+  pub count : ℕ
+  pub inside : count < length reads
+  pub heard : WereHeard now (take count reads)
+  pub names : keys_of now ≡ firsts_after (keys_of earlier) (take (count + 1) (names_of reads))
+
+-- so they were heard as far as they are the same
+abbrev pub AreHeardAgain : Bool → List Seen → Heard → Heard → Type 0
+AreHeardAgain true reads earlier now = AreSame reads earlier now
+AreHeardAgain false reads earlier now = AreSameBefore reads earlier now
+
+-- a line of a text, on what is heard, with its names in order
+pub record IsLineOn (r : Recipe) (earlier now : Heard) (l : Line) : Type 0 where
+  pub line : (hosts : Hosts) → IsLine hosts r l
+  pub heard : WereHeard now l.reads
+  pub names : keys_of now ≡ firsts_after (keys_of earlier) (names_of l.reads)
+
+-- the names that lines have read
+abbrev pub names_in : List Line → List ℕ
+names_in lines = flat_map (λ (l : Line). names_of l.reads) lines
 
 -- so are the lines of some texts
-pub record AreUpToDate (hosts : Hosts) (w : Signals) (texts : List Recipe) (heard now : Heard) (lines : List Line) : Type 0 where
-  pub html : html_in lines ≡ html_of hosts w texts
-  pub names : keys_of now ≡ firsts_after (keys_of heard) (flat_map (reads_in hosts w) texts)
+pub record AreLinesOn (texts : List Recipe) (earlier now : Heard) (ls : List Line) : Type 0 where
+  pub lines : AreLines texts ls
+  pub heard : AllByRecursion (λ (l : Line). WereHeard now l.reads) ls
+  pub names : keys_of now ≡ firsts_after (keys_of earlier) (names_in ls)

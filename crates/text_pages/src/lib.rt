@@ -3,5 +3,6 @@
 
 mod evaluate;
 mod heard;
+mod line;
 mod text;
 
