@@ -1,3 +1,5 @@
 pub mod Hearings
 pub mod Askings
 pub mod Rereadings
+pub mod LineLists
+pub mod PagesFromScratch

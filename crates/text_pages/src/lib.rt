@@ -4,5 +4,8 @@
 mod evaluate;
 mod heard;
 mod line;
+mod page;
 mod text;
+
+pub use page::TextPage;
 
