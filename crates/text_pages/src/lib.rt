@@ -5,7 +5,8 @@ mod evaluate;
 mod heard;
 mod line;
 mod page;
+#[cfg(test)]
+mod tests;
 mod text;
 
 pub use page::TextPage;
-
