@@ -1,13 +1,13 @@
 -- Names that are heard one after the other.
-use Rattle.std.proofs.Common.{◌≡◌, ℕ, ◌+◌, ◌<◌, ◌==◌, Bool, true, false, cond, List, [], ◌∷◌, ◌++◌, map, length, nat_eq, Option, Some, None, append_assoc, eq-eqb, refl, sym, ap, subst, ◌∙◌, arith}
+use Rattle.std.proofs.Common.{◌≡◌, ℕ, ◌+◌, Bool, true, false, cond, List, [], ◌∷◌, ◌++◌, map, length, nat_eq, Some, None, append_assoc, eq-eqb, refl, sym, ap, subst, ◌∙◌, arith}
 use Rattle.std.proofs.lemmas.List.{append-nil, length-map, map-append}
-use Rattle.std.specs.Map.{lookup, keys_of}
+use Rattle.std.specs.Map.{keys_of}
 use Rattle.sig_base.specs.declared.value.Outcome.{Outcome}
 use Rattle.signal_model.specs.Recipes.{Hosts}
 use Rattle.signal_model.specs.Standing.{Signals, is_in}
 use Rattle.signal_model.specs.Values.{value_of}
 use Rattle.signal_model.specs.Memos.{Memos}
-use Rattle.signal_model.specs.Settling.{Run, Settled, settled}
+use Rattle.signal_model.specs.Settling.{Settled, settled}
 use Rattle.signal_model.specs.Kept.{AreKept}
 use Rattle.signal_laws.specs.ReadingLaws.{joined}
 use Rattle.signal_laws.specs.SettleLaws.{followed_by}
@@ -81,6 +81,7 @@ nothing_heard g notes heard idle = record {
   all = sym (append-nil heard);
   signals = refl;
   idle = idle;
+  seats = refl;
   given = refl;
   named = λ given. given;
   worn = refl;
@@ -111,6 +112,7 @@ then_heard f g h a b c first mid last x y = record {
   all = y.all ∙ ap (λ p. p ++ y.more) x.all ∙ append_assoc first x.more y.more;
   signals = y.signals ∙ x.signals;
   idle = y.idle;
+  seats = y.seats ∙ x.seats;
   given = y.given ∙ x.given;
   named = λ all. y.named (x.named all);
   worn = let p = x.worn in let q = y.worn in omega (arith, p, q);
@@ -143,6 +145,7 @@ pub record IsHeard (g h : states.Seen) (a b : List RunNote) (n : ℕ) (o : Outco
   pub kept : (hosts : Hosts) → AreKept hosts g.state.signals g.state.memos → AreKept hosts h.state.signals h.state.memos
   pub signals : h.state.signals ≡ g.state.signals
   pub idle : IsIdle h.state
+  pub seats : h.seats ≡ g.seats
   pub given : h.given ≡ g.given
   pub named : AreNotesGiven g (map note_of a) → AreNotesGiven h (map note_of b)
   pub worn : h.state.worn + length a ≡ g.state.worn + length b
@@ -154,6 +157,7 @@ one_heard g h a b heard now n o x all = record {
   all = all;
   signals = x.signals;
   idle = x.idle;
+  seats = x.seats;
   given = x.given;
   named = x.named;
   worn = let p = x.worn in let q = length-map a note_of in let r = length-map b note_of in omega (arith, p, q, r);

@@ -5,7 +5,6 @@ use Rattle.std.specs.List.{AllByRecursion}
 use Rattle.std.specs.Map.{keys_of}
 use Rattle.std.proofs.lemmas.List.{flat_map_more, take_all, take_more, take_more_set}
 use Rattle.signal_model.specs.Recipes.{Hosts, Recipe}
-use Rattle.signal_model.specs.Values.{Seen}
 use Rattle.signal_model.specs.Sound.{names_of}
 use Rattle.signal_laws.specs.ReadingLaws.{firsts_after}
 use Rattle.signal_laws.proofs.Shared.{all_snoc, firsts_append_law}

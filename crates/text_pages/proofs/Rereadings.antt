@@ -1,7 +1,7 @@
 -- Names that were read before are heard again.
 use Rattle.std.proofs.Common.{◌≡◌, ℕ, ◌+◌, ◌<◌, Bool, List, [], ◌∷◌, ◌++◌, length, take, get_or, Some, refl, sym, ap, subst, ◌∙◌}
 use Rattle.std.specs.Map.{keys_of}
-use Rattle.std.proofs.lemmas.List.{take_all, take_more, take-map}
+use Rattle.std.proofs.lemmas.List.{take_more, take-map}
 use Rattle.sig_base.specs.declared.value.Outcome.{Outcome}
 use Rattle.signal_model.specs.Recipes.{Hosts, Recipe, no_hosts}
 use Rattle.signal_model.specs.Values.{Seen, Evaluation, asked_from}

@@ -40,6 +40,7 @@ pub record Hears (old new : states.Seen) (before after : List Note) (heard now :
   pub all : now ≡ heard ++ more
   pub signals : new.state.signals ≡ old.state.signals
   pub idle : IsIdle new.state
+  pub seats : new.seats ≡ old.seats
   pub given : new.given ≡ old.given
   pub named : AreNotesGiven old before → AreNotesGiven new after
   pub worn : new.state.worn + length before ≡ old.state.worn + length after

@@ -1,5 +1,5 @@
 // Pages of texts.
-ghost use Rattle.std.specs.Prelude.{◌≡◌, ◌+◌, ◌<◌, ◌^◌, [], false, not, map, length, IfOk, OnOk};
+ghost use Rattle.std.specs.Prelude.{◌≡◌, ◌+◌, ◌<◌, ◌^◌, false, not, map, length, IfOk, OnOk};
 ghost use Rattle.std.specs.Str.{bytes_eq};
 ghost use Rattle.signal_model.specs.Recipes.{Hosts};
 ghost use Rattle.signal_model.specs.Kept.{AreKept};
@@ -79,7 +79,7 @@ fn bring_all_up(
 }
 
 // The bytes of lines, one after the other.
-fn html_of(alloc: Global, lines: &[Line]) -> Result<PageBytes, NoMemory>
+fn html_in(alloc: Global, lines: &[Line]) -> Result<PageBytes, NoMemory>
     ensures { IfOk result (λ html. html ≡ html_in lines.now) }
 {
     let mut out = Vec::new(alloc);
@@ -114,6 +114,7 @@ impl TextPage {
         ensures kept { (hosts : Hosts) → AreKept hosts graph.old.state.signals graph.old.state.memos → OnOk result (AreKept hosts graph.new.state.signals graph.new.state.memos) }
         ensures signals { OnOk result (graph.new.state.signals ≡ graph.old.state.signals) }
         ensures idle { OnOk result (IsIdle graph.new.state) }
+        ensures seats { OnOk result (graph.new.seats ≡ graph.old.seats) }
         ensures given { OnOk result (graph.new.given ≡ graph.old.given) }
         ensures named { OnOk result (AreNotesGiven graph.old (map note_of notes.old.items) → AreNotesGiven graph.new (map note_of notes.new.items)) }
         ensures worn { OnOk result (graph.new.state.worn + length notes.old.items ≡ graph.old.state.worn + length notes.new.items) }
@@ -121,12 +122,12 @@ impl TextPage {
         let alloc = *notes.allocator();
         let mut heard = Heard::new(alloc);
         let lines = make_all(alloc, graph, &mut heard, texts, notes)?;
-        let html = html_of(alloc, &lines)?;
+        let html = html_in(alloc, &lines)?;
         Ok(TextPage { lines, html })
     }
 
-    /// Brings it up to date, as `mount` does, and tells whether its bytes are others now. Of its texts these that have read a name
-    /// whose outcome is another one now are evaluated again. Without memory the graph and the page may only be dropped.
+    /// Brings it up to date, as `mount` does, and tells whether its bytes are others now. Only texts that have read a name whose
+    /// outcome is another one now are evaluated again. Without memory the graph and the page may only be dropped.
     pub fn update(
         &mut self,
         graph: &mut Graph,
@@ -143,6 +144,7 @@ impl TextPage {
         ensures kept { (hosts : Hosts) → AreKept hosts graph.old.state.signals graph.old.state.memos → OnOk result (AreKept hosts graph.new.state.signals graph.new.state.memos) }
         ensures signals { OnOk result (graph.new.state.signals ≡ graph.old.state.signals) }
         ensures idle { OnOk result (IsIdle graph.new.state) }
+        ensures seats { OnOk result (graph.new.seats ≡ graph.old.seats) }
         ensures given { OnOk result (graph.new.given ≡ graph.old.given) }
         ensures named { OnOk result (AreNotesGiven graph.old (map note_of notes.old.items) → AreNotesGiven graph.new (map note_of notes.new.items)) }
         ensures worn { OnOk result (graph.new.state.worn + length notes.old.items ≡ graph.old.state.worn + length notes.new.items) }
@@ -152,7 +154,7 @@ impl TextPage {
         if !bring_all_up(alloc, graph, &mut heard, &mut self.lines, texts, notes)? {
             return Ok(false);
         }
-        let html = html_of(alloc, &self.lines)?;
+        let html = html_in(alloc, &self.lines)?;
         let news = html.as_slice() != self.html.as_slice();
         self.html = html;
         Ok(news)

@@ -1,8 +1,5 @@
-use Rattle.std.proofs.Common.{◌≡◌, ◌++◌, [], ◌∷◌, List, map, Some, sym, ap, subst, ◌∙◌}
-use Rattle.sig_base.specs.declared.value.Outcome.{Outcome}
-use Rattle.sig_base.specs.declared.value.Outcome.TheVariants.{Good, Bad}
-use Rattle.sig_base.specs.declared.value.Step.TheVariants.{Read, Done, Fail}
-use Rattle.signal_model.specs.Recipes.{Hosts, recipe_answer}
+use Rattle.std.proofs.Common.{map, Some, sym, ap, subst, ◌∙◌}
+use Rattle.signal_model.specs.Recipes.{recipe_answer}
 use Rattle.signal_model.specs.Values.{Evaluation}
 use Rattle.sig_computed.specs.Notes.{note_of}
 use Rattle.text_pages.specs.Hearing.{Evaluates}

@@ -1,4 +1,4 @@
-use Rattle.std.proofs.Common.{◌≡◌, ◌++◌, [], ◌∷◌, map, Some, None, sym, ap, ◌∙◌}
+use Rattle.std.proofs.Common.{◌++◌, [], ◌∷◌, map, Some, sym, ap, ◌∙◌}
 use Rattle.sig_computed.specs.Notes.{note_of}
 use Rattle.text_pages.specs.Hearing.{heard_of}
 use Rattle.text_pages.proofs.Hearings.{joins_last, joins_not, last_heard, nothing_heard, one_heard}
@@ -31,6 +31,7 @@ returns-clause-after c =
       kept = s.kept;
       signals = s.signals;
       idle = s.idle;
+      seats = s.seats;
       given = s.given;
       named = s.named;
       worn = s.worn;

@@ -1,4 +1,4 @@
-use Rattle.std.proofs.Common.{◌≡◌, false, map}
+use Rattle.std.proofs.Common.{false, map}
 use Rattle.sig_computed.specs.Notes.{note_of}
 use Rattle.text_pages.proofs.Hearings.{then_heard}
 use Rattle.text_pages.proofs.Rereadings.{again_in, anew}

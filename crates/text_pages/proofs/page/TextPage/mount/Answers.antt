@@ -1,4 +1,4 @@
-use Rattle.std.proofs.Common.{◌≡◌, map, ap, ◌∙◌}
+use Rattle.std.proofs.Common.{map, ap, ◌∙◌}
 use Rattle.sig_computed.specs.Notes.{note_of}
 use Rattle.text_pages.specs.Shown.{html_in}
 use Rattle.text_pages.proofs.PagesFromScratch.{page_right}

@@ -1,6 +1,6 @@
 use Rattle.std.proofs.Common.{◌≡◌, take}
 use Rattle.text_pages.specs.Shown.{html_in}
-use Rattle.text_pages.proofs.page.html_of.Given as goal
+use Rattle.text_pages.proofs.page.html_in.Given as goal
 
 -- the bytes so far
 abbrev pub invariant-loop-line : goal.invariant-loop-line
