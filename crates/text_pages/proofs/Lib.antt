@@ -1,5 +1,5 @@
-pub mod Hearings
-pub mod Askings
-pub mod Rereadings
-pub mod LineLists
-pub mod PagesFromScratch
+mod Hearings
+mod Askings
+mod Rereadings
+mod LineLists
+mod PagesFromScratch

@@ -57,6 +57,10 @@ pub record Evaluates (r : Recipe) (e : Evaluation) (earlier now : Heard) : Type 
 
 -- ---- lines on what is heard
 
+-- the names that lines have read
+abbrev pub names_in : List Line → List ℕ
+names_in lines = flat_map (λ (l : Line). names_of l.reads) lines
+
 -- names that were read before were heard again, and their outcomes are those that were read
 pub record AreSame (reads : List Seen) (earlier now : Heard) : Type 0 where
   pub heard : WereHeard now reads
@@ -79,10 +83,6 @@ pub record IsLineOn (r : Recipe) (earlier now : Heard) (l : Line) : Type 0 where
   pub line : (hosts : Hosts) → IsLine hosts r l
   pub heard : WereHeard now l.reads
   pub names : keys_of now ≡ firsts_after (keys_of earlier) (names_of l.reads)
-
--- the names that lines have read
-abbrev pub names_in : List Line → List ℕ
-names_in lines = flat_map (λ (l : Line). names_of l.reads) lines
 
 -- so are the lines of some texts
 pub record AreLinesOn (texts : List Recipe) (earlier now : Heard) (ls : List Line) : Type 0 where

@@ -14,7 +14,7 @@ use std::alloc::Global;
 use std::marker::Model;
 
 /// A name that a text has read, and its outcome.
-#[derive(Drop)]
+#[derive(Debug, Drop)]
 pub(crate) struct Read {
     pub(crate) id: NodeId,
     pub(crate) outcome: Outcome,

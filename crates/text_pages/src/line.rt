@@ -17,7 +17,7 @@ use std::alloc::Global;
 use std::marker::Model;
 
 /// What is kept of a text: what it read, in order, and its bytes.
-#[derive(Drop)]
+#[derive(Debug, Drop)]
 pub(crate) struct Line {
     reads: Vec<Read>,
     html: Vec<u8>,

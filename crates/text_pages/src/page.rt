@@ -20,7 +20,7 @@ use std::marker::Model;
 
 /// A page of texts as it was last brought up to date: for each text what it read, with the outcomes, and its bytes; and the bytes of
 /// the page.
-#[derive(Drop)]
+#[derive(Debug, Drop)]
 pub struct TextPage {
     lines: Vec<Line>,
     html: PageBytes,
