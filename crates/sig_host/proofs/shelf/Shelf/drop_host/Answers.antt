@@ -1,0 +1,13 @@
+use Rattle.std.proofs.Common.{refl}
+use Rattle.std.proofs.lemmas.List.{map-set}
+use Rattle.sig_host.proofs.Places.{answers_gone, counted_set}
+use Rattle.sig_host.proofs.shelf.Shelf.drop_host.Goals as goal
+
+pub returns-clause-answers : goal.returns-clause-answers
+returns-clause-answers g c = λ hosts all. answers_gone _ c.args.self.now.places.items c.args.place _ refl all
+
+pub returns-clause-counted : goal.returns-clause-counted
+returns-clause-counted g c = counted_set _ _ c.args.self.now.places.items c.args.place _ refl c.requires.counted
+
+pub returns-clause-asked : goal.returns-clause-asked
+returns-clause-asked g c = map-set _ c.args.self.now.places.items c.args.place _

@@ -1,0 +1,36 @@
+// A formula of the host program.
+ghost use Rattle.std.specs.Prelude.{◌≡◌, ◌+◌, ◌<◌, List, ℕ, IfOk, OnOk, OnErr};
+ghost use Rattle.sig_base.specs.declared.value.Known.{Known};
+ghost use Rattle.sig_base.specs.declared.value.Step.{Step};
+ghost use Rattle.sig_host.specs.Hosts.{last_ask};
+
+use sig_base::{Known, NoMemory, Step};
+use std::alloc::Global;
+
+/// A formula that the host program writes itself.
+///
+/// A computed that is made from one asks it with the values that it knows, first with none. It answers
+/// that it needs the value of a slot, which is then known at the next ask, or it ends with a value or a
+/// fault. What it answers may rest on what is known and on nothing else: to the same values it gives the
+/// same answer at every ask, for as long as it lives.
+pub trait HostFormula: Drop {
+    /// What it answers to the values known so far. No call changes it.
+    ghost step_of: { Self → List Known → Step };
+
+    /// How often it has answered, a number of 128 bits. No call lowers it.
+    ghost asks: { Self → ℕ };
+
+    /// Answers to the values known so far, in the order in which they were read.
+    ///
+    /// A caller has to know that `asks` isn't at its last value. An answer raises `asks` by one.
+    ///
+    /// # Errors
+    ///
+    /// `NoMemory` where memory ran out: then `asks` is as before, and the formula may be asked again.
+    fn step(&mut self, alloc: Global, known: &[Known]) -> Result<Step, NoMemory>
+        requires { asks self.old < last_ask }
+        ensures answer { IfOk result (λ s. s ≡ step_of self.old known.now) }
+        ensures same { step_of self.new ≡ step_of self.old }
+        ensures counted { OnOk result (asks self.new ≡ asks self.old + 1) }
+        ensures uncounted { OnErr result (asks self.new ≡ asks self.old) };
+}
