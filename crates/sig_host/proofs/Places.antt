@@ -1,14 +1,14 @@
 -- A place of a shelf that changes, and the others that stay.
-use Rattle.std.proofs.Common.{◌≡◌, ℕ, List, [], ◌∷◌, zero, suc, Option, Some, None, true, is_some, unwrap_or, option_map, map, slice_get, slice_set, get_or, ◌+◌, ap, sym, ◌∙◌, subst, refl}
+use Rattle.std.proofs.Common.{◌≡◌, ℕ, List, [], ◌∷◌, zero, suc, Option, Some, None, IsTrue, is_some, unwrap_or, option_map, map, slice_get, slice_set, get_or, ◌+◌, ap, sym, ◌∙◌, subst, refl}
 use Rattle.std.proofs.Math.Seq.{map-set_same}
 use Rattle.std.proofs.lemmas.List.{map-set}
 use Rattle.sig_base.specs.declared.value.Known.{Known}
 use Rattle.sig_base.specs.declared.value.Step.{Step}
 use Rattle.signal_model.specs.Recipes.{Hosts}
-use Rattle.sig_host.specs.Hosts.{AnswersBy, IsCounted, Meaning, asked_at, asked_more, hosts_of}
+use Rattle.sig_host.specs.Hosts.{AnswersBy, IsCounted, Meaning, asked_more_at, hosts_of, is_there}
 
 -- what is known of the place that is read
-pub read_at : {P A : Type 0} (m : P → A) (g : P → Option ℕ) (xs : List P) (i : ℕ) (d : P) → is_some (asked_at (map g xs) i) ≡ true → d ≡ get_or xs i d → slice_get (map m xs) i ≡ Some (m d)
+pub read_at : {P A : Type 0} (m : P → A) (g : P → Option ℕ) (xs : List P) (i : ℕ) (d : P) → IsTrue (is_there (map g xs) i) → d ≡ get_or xs i d → slice_get (map m xs) i ≡ Some (m d)
 read_at m g [] i d there at = cc
 read_at m g (x ∷ xs) zero d there at = ap (λ p. Some (m p)) (sym at)
 read_at m g (x ∷ xs) (suc i) d there at = read_at m g xs i d there at
@@ -19,7 +19,7 @@ answer_is None f known s same e = cc
 answer_is (Some h) f known s same e = let t : h ≡ f = same h refl in let u : h known ≡ s = cc in sym u ∙ ap (λ (k : Meaning). k known) t
 
 -- the answer of the place that is read
-pub answer_at : {P : Type 0} (m : P → Option Meaning) (g : P → Option ℕ) (xs : List P) (i : ℕ) (d : P) {hosts : Hosts} (known : List Known) (s : Step) → is_some (asked_at (map g xs) i) ≡ true → d ≡ get_or xs i d → AnswersBy hosts (map m xs) → option_map (λ (h : Meaning). h known) (m d) ≡ Some s → s ≡ hosts i known
+pub answer_at : {P : Type 0} (m : P → Option Meaning) (g : P → Option ℕ) (xs : List P) (i : ℕ) (d : P) {hosts : Hosts} (known : List Known) (s : Step) → IsTrue (is_there (map g xs) i) → d ≡ get_or xs i d → AnswersBy hosts (map m xs) → option_map (λ (h : Meaning). h known) (m d) ≡ Some s → s ≡ hosts i known
 answer_at m g xs i d {hosts} known s there at all e = answer_is (m d) (hosts i) known s (λ h is. all.each i h (read_at m g xs i d there at ∙ ap Some is)) e
 
 -- a place keeps its meaning
@@ -55,9 +55,17 @@ pub counted_set : {P : Type 0} (f g : P → Option ℕ) (xs : List P) (i : ℕ) 
 counted_set f g xs i y e all = record { same = map-set f xs i y ∙ ap (slice_set (map f xs) i) e ∙ ap (λ l. slice_set l i (g y)) all.same ∙ sym (map-set g xs i y) }
 
 -- a place was asked once more
-pub asked_set : {P : Type 0} (g : P → Option ℕ) (xs : List P) (i n : ℕ) (y d : P) → is_some (asked_at (map g xs) i) ≡ true → d ≡ get_or xs i d → g y ≡ Some (unwrap_or (g d) 0 + n) → map g (slice_set xs i y) ≡ asked_more (map g xs) i n
+pub asked_set : {P : Type 0} (g : P → Option ℕ) (xs : List P) (i n : ℕ) (y d : P) → IsTrue (is_there (map g xs) i) → d ≡ get_or xs i d → g y ≡ Some (unwrap_or (g d) 0 + n) → map g (slice_set xs i y) ≡ asked_more_at (map g xs) i n
 asked_set g xs i n y d there at e = map-set g xs i y ∙ ap (slice_set (map g xs) i) (e ∙ ap (λ o. Some (unwrap_or (unwrap_or o None) 0 + n)) (sym (read_at g g xs i d there at)))
 
 -- a place was asked as often as before
 pub asked_same : {P : Type 0} (g : P → Option ℕ) (xs : List P) (i : ℕ) (y d : P) → d ≡ get_or xs i d → g y ≡ g d → map g (slice_set xs i y) ≡ map g xs
 asked_same g xs i y d at e = map-set_same g xs i y d (e ∙ ap g at)
+
+-- whether a formula is there stays at each place, if it does at the one that changes
+pub there_same : {P : Type 0} (g : P → Option ℕ) (xs : List P) (i : ℕ) (y d : P) → d ≡ get_or xs i d → is_some (g y) ≡ is_some (g d) → (k : ℕ) → is_there (map g (slice_set xs i y)) k ≡ is_there (map g xs) k
+there_same g [] i y d at e k = refl
+there_same g (x ∷ xs) zero y d at e zero = e ∙ ap (λ p. is_some (g p)) at
+there_same g (x ∷ xs) zero y d at e (suc k) = refl
+there_same g (x ∷ xs) (suc i) y d at e zero = refl
+there_same g (x ∷ xs) (suc i) y d at e (suc k) = there_same g xs i y d at e k

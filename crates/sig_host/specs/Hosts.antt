@@ -1,5 +1,5 @@
 -- What host formulas mean, and what a shelf keeps of them.
-use Rattle.std.specs.Prelude.{◌≡◌, ◌-◌, ◌+◌, ◌^◌, max, ℕ, List, [], ◌∷◌, Option, Some, None, slice_get, slice_set, unwrap_or}
+use Rattle.std.specs.Prelude.{◌≡◌, ◌-◌, ◌+◌, ◌^◌, max, ℕ, Bool, List, [], ◌∷◌, Option, Some, None, is_some, slice_get, slice_set, unwrap_or}
 use Rattle.sig_base.specs.declared.value.Known.{Known}
 use Rattle.sig_base.specs.declared.value.Step.{Step}
 use Rattle.signal_model.specs.Recipes.{Hosts, no_hosts}
@@ -28,13 +28,21 @@ pub record IsCounted (asks counts : List (Option ℕ)) : Type 0 where
 abbrev pub asked_at : List (Option ℕ) → ℕ → Option ℕ
 asked_at asked place = unwrap_or (slice_get asked place) None
 
+-- whether a formula is there
+abbrev pub is_there : List (Option ℕ) → ℕ → Bool
+is_there asked place = is_some (asked_at asked place)
+
+-- the number of asks of a place, zero where no formula is there
+abbrev pub count_at : List (Option ℕ) → ℕ → ℕ
+count_at asked place = unwrap_or (asked_at asked place) 0
+
 -- so many asks more at a place
-abbrev pub asked_more : List (Option ℕ) → ℕ → ℕ → List (Option ℕ)
-asked_more asked place n = slice_set asked place (Some (unwrap_or (asked_at asked place) 0 + n))
+abbrev pub asked_more_at : List (Option ℕ) → ℕ → ℕ → List (Option ℕ)
+asked_more_at asked place n = slice_set asked place (Some (count_at asked place + n))
 
 -- the formula of a place is gone
-abbrev pub dropped : List (Option ℕ) → ℕ → List (Option ℕ)
-dropped asked place = slice_set asked place None
+abbrev pub dropped_at : List (Option ℕ) → ℕ → List (Option ℕ)
+dropped_at asked place = slice_set asked place None
 
 -- the most that any formula was asked
 abbrev pub most_asked : List (Option ℕ) → ℕ

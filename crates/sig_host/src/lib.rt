@@ -4,6 +4,8 @@
 mod formula;
 mod rule;
 mod shelf;
+#[cfg(test)]
+mod tests;
 
 pub use formula::HostFormula;
 pub use rule::EqualsRule;

@@ -1,7 +1,7 @@
 // The host formulas, each with the number of its asks.
-ghost use Rattle.std.specs.Prelude.{◌≡◌, ◌+◌, ◌<◌, List, ℕ, IfOk, OnOk, OnErr, Option, Some, true, is_some, option_map, length, map, unwrap_or, All};
+ghost use Rattle.std.specs.Prelude.{◌≡◌, ◌+◌, ◌<◌, ◌==◌, ◌&&◌, not, List, ℕ, IfOk, OnOk, OnErr, IsTrue, Option, Some, is_some, option_map, length, map, unwrap_or, All};
 ghost use Rattle.signal_model.specs.Recipes.{Hosts};
-ghost use Rattle.sig_host.specs.Hosts.{AnswersBy, IsCounted, Meaning, asked_at, asked_more, dropped, hosts_of, last_ask};
+ghost use Rattle.sig_host.specs.Hosts.{AnswersBy, IsCounted, Meaning, asked_at, asked_more_at, count_at, dropped_at, hosts_of, is_there, last_ask};
 
 use crate::HostFormula;
 use sig_base::{Known, NoMemory, Step};
@@ -85,7 +85,7 @@ impl Shelf {
 
     /// Whether a formula is there: one was handed in for that place, and it wasn't dropped.
     pub fn is_there(&self, place: usize) -> bool
-        ensures { result ≡ is_some (asked_at (⟦<Shelf as Lent>⟧.asked self.now) place) }
+        ensures { result ≡ is_there (⟦<Shelf as Lent>⟧.asked self.now) place }
     {
         match self.places.get(place) {
             Some(found) => found.host.is_some(),
@@ -100,13 +100,14 @@ impl Shelf {
     /// `NoMemory` where memory ran out: then the shelf is as before.
     pub fn ask(&mut self, alloc: Global, place: usize, known: &[Known]) -> Result<Step, NoMemory>
         requires counted { ⟦<Shelf as Lent>⟧.counted self.old }
-        requires there { is_some (asked_at (⟦<Shelf as Lent>⟧.asked self.old) place) ≡ true }
-        requires room { unwrap_or (asked_at (⟦<Shelf as Lent>⟧.asked self.old) place) 0 < last_ask }
+        requires there { IsTrue (is_there (⟦<Shelf as Lent>⟧.asked self.old) place) }
+        requires room { count_at (⟦<Shelf as Lent>⟧.asked self.old) place < last_ask }
         ensures answer { (hosts : Hosts) → ⟦<Shelf as Lent>⟧.answers hosts self.old → IfOk result (λ s. s ≡ hosts place known.now) }
         ensures answers { (hosts : Hosts) → ⟦<Shelf as Lent>⟧.answers hosts self.old → ⟦<Shelf as Lent>⟧.answers hosts self.new }
         ensures counted { ⟦<Shelf as Lent>⟧.counted self.new }
-        ensures asked { OnOk result (⟦<Shelf as Lent>⟧.asked self.new ≡ asked_more (⟦<Shelf as Lent>⟧.asked self.old) place 1) }
+        ensures asked { OnOk result (⟦<Shelf as Lent>⟧.asked self.new ≡ asked_more_at (⟦<Shelf as Lent>⟧.asked self.old) place 1) }
         ensures unasked { OnErr result (⟦<Shelf as Lent>⟧.asked self.new ≡ ⟦<Shelf as Lent>⟧.asked self.old) }
+        ensures there { (other : ℕ) → is_there (⟦<Shelf as Lent>⟧.asked self.new) other ≡ is_there (⟦<Shelf as Lent>⟧.asked self.old) other }
     {
         ask_at(alloc, &mut self.places[place], known)
     }
@@ -115,11 +116,12 @@ impl Shelf {
     /// ever again.
     pub fn drop_host(&mut self, place: usize) -> u128
         requires counted { ⟦<Shelf as Lent>⟧.counted self.old }
-        requires there { is_some (asked_at (⟦<Shelf as Lent>⟧.asked self.old) place) ≡ true }
+        requires there { IsTrue (is_there (⟦<Shelf as Lent>⟧.asked self.old) place) }
         ensures asks { asked_at (⟦<Shelf as Lent>⟧.asked self.old) place ≡ Some result }
         ensures answers { (hosts : Hosts) → ⟦<Shelf as Lent>⟧.answers hosts self.old → ⟦<Shelf as Lent>⟧.answers hosts self.new }
         ensures counted { ⟦<Shelf as Lent>⟧.counted self.new }
-        ensures asked { ⟦<Shelf as Lent>⟧.asked self.new ≡ dropped (⟦<Shelf as Lent>⟧.asked self.old) place }
+        ensures asked { ⟦<Shelf as Lent>⟧.asked self.new ≡ dropped_at (⟦<Shelf as Lent>⟧.asked self.old) place }
+        ensures there { (other : ℕ) → is_there (⟦<Shelf as Lent>⟧.asked self.new) other ≡ (is_there (⟦<Shelf as Lent>⟧.asked self.old) other && not (other == place)) }
     {
         let found = &mut self.places[place];
         found.host = None;
@@ -157,13 +159,14 @@ fn new_place(lent: Box<dyn HostFormula>) -> Place
 // Asks the formula that is there, and counts that it has answered.
 fn ask_at(alloc: Global, place: &mut Place, known: &[Known]) -> Result<Step, NoMemory>
     requires counted { ⟦<Place as LentPlace>⟧.answered place.old ≡ ⟦<Place as LentPlace>⟧.asked_so place.old }
-    requires there { is_some (⟦<Place as LentPlace>⟧.asked_so place.old) ≡ true }
+    requires there { IsTrue (is_some (⟦<Place as LentPlace>⟧.asked_so place.old)) }
     requires room { unwrap_or (⟦<Place as LentPlace>⟧.asked_so place.old) 0 < last_ask }
     ensures answer { IfOk result (λ s. option_map (λ f. f known.now) (⟦<Place as LentPlace>⟧.meaning place.old) ≡ Some s) }
     ensures same { ⟦<Place as LentPlace>⟧.meaning place.new ≡ ⟦<Place as LentPlace>⟧.meaning place.old }
     ensures counted { ⟦<Place as LentPlace>⟧.answered place.new ≡ ⟦<Place as LentPlace>⟧.asked_so place.new }
     ensures asked { OnOk result (⟦<Place as LentPlace>⟧.asked_so place.new ≡ Some (unwrap_or (⟦<Place as LentPlace>⟧.asked_so place.old) 0 + 1)) }
     ensures unasked { OnErr result (⟦<Place as LentPlace>⟧.asked_so place.new ≡ ⟦<Place as LentPlace>⟧.asked_so place.old) }
+    ensures there { is_some (⟦<Place as LentPlace>⟧.asked_so place.new) ≡ is_some (⟦<Place as LentPlace>⟧.asked_so place.old) }
 {
     match &mut place.host {
         Some(host) => {
@@ -176,7 +179,11 @@ fn ask_at(alloc: Global, place: &mut Place, known: &[Known]) -> Result<Step, NoM
 }
 
 // The answer of a formula, with what it says of itself.
-fn answer_of(alloc: Global, host: &mut Box<dyn HostFormula>, known: &[Known]) -> Result<Step, NoMemory>
+fn answer_of(
+    alloc: Global,
+    host: &mut Box<dyn HostFormula>,
+    known: &[Known],
+) -> Result<Step, NoMemory>
     requires { asks host.old < last_ask }
     ensures answer { IfOk result (λ s. s ≡ step_of host.old known.now) }
     ensures same { step_of host.new ≡ step_of host.old }

@@ -1,6 +1,6 @@
 use Rattle.std.proofs.Common.{option_map}
 use Rattle.std.proofs.lemmas.Result.{IfOk-weaker, on_ok_weaker, on_err_weaker}
-use Rattle.sig_host.proofs.Places.{answer_at, answers_kept, asked_same, asked_set, counted_set}
+use Rattle.sig_host.proofs.Places.{answer_at, answers_kept, asked_same, asked_set, counted_set, there_same}
 use Rattle.sig_host.proofs.shelf.Shelf.ask.Goals as goal
 
 pub returns-clause-answer : goal.returns-clause-answer
@@ -17,3 +17,6 @@ returns-clause-asked g c = on_ok_weaker c.ask_at.result (asked_set (λ p. option
 
 pub returns-clause-unasked : goal.returns-clause-unasked
 returns-clause-unasked g c = on_err_weaker c.ask_at.result (asked_same (λ p. option_map (λ _. p.count) p.host) _ c.args.place c.ask_at.new.place _ c.index_mut.ensures.value) c.ask_at.ensures.unasked
+
+pub returns-clause-there : goal.returns-clause-there
+returns-clause-there g c = there_same (λ p. option_map (λ _. p.count) p.host) _ c.args.place c.ask_at.new.place _ c.index_mut.ensures.value c.ask_at.ensures.there

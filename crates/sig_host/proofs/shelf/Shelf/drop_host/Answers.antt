@@ -1,5 +1,7 @@
-use Rattle.std.proofs.Common.{refl}
+use Rattle.std.proofs.Common.{refl, ap, ◌∙◌}
 use Rattle.std.proofs.lemmas.List.{map-set}
+use Rattle.sig_host.specs.Hosts.{is_there}
+use Rattle.sig_host.proofs.Asks.{is_there-dropped}
 use Rattle.sig_host.proofs.Places.{answers_gone, counted_set}
 use Rattle.sig_host.proofs.shelf.Shelf.drop_host.Goals as goal
 
@@ -11,3 +13,6 @@ returns-clause-counted g c = counted_set _ _ c.args.self.now.places.items c.args
 
 pub returns-clause-asked : goal.returns-clause-asked
 returns-clause-asked g c = map-set _ c.args.self.now.places.items c.args.place _
+
+pub returns-clause-there : goal.returns-clause-there
+returns-clause-there g c = λ other. ap (λ asked. is_there asked other) (map-set _ c.args.self.now.places.items c.args.place _) ∙ is_there-dropped _ c.args.place other c.requires.there

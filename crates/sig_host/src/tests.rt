@@ -1,0 +1,135 @@
+// Formulas and a rule that are handed in: asked, counted and dropped.
+ghost use Rattle.std.specs.Prelude.{◌≡◌, ◌∷◌, [], Some, IfOk, option_map, slice_get, unwrap_or};
+ghost use Rattle.sig_base.specs.declared.value.Step.TheVariants.{Read, Done};
+
+use crate::{EqualsRule, HostFormula, Lent, Shelf};
+use sig_base::{Known, NoMemory, Step, Text, Value, alike};
+use std::alloc::Global;
+use std::test::Fail;
+
+// Reads slot 0, and gives its value.
+#[derive(Drop)]
+struct First {
+    asks: u128,
+}
+
+impl First {
+    fn new() -> First
+        ensures { result.asks ≡ 0 }
+    {
+        First { asks: 0 }
+    }
+}
+
+impl HostFormula for First {
+    ghost step_of = { λ _ known. unwrap_or (option_map (λ k. Done k.value) (slice_get known 0)) (Read 0) };
+
+    ghost asks = { λ f. f.asks };
+
+    fn step(&mut self, _alloc: Global, known: &[Known]) -> Result<Step, NoMemory> {
+        let step = match known.first() {
+            Some(first) => Step::Done(first.value.copy()?),
+            None => Step::Read(0),
+        };
+        self.asks += 1;
+        Ok(step)
+    }
+}
+
+// Reads slot 0, whatever is known.
+#[derive(Drop)]
+struct Again {
+    asks: u128,
+}
+
+impl Again {
+    fn new() -> Again
+        ensures { result.asks ≡ 0 }
+    {
+        Again { asks: 0 }
+    }
+}
+
+impl HostFormula for Again {
+    ghost step_of = { λ _ _. Read 0 };
+
+    ghost asks = { λ f. f.asks };
+
+    fn step(&mut self, _alloc: Global, _known: &[Known]) -> Result<Step, NoMemory> {
+        self.asks += 1;
+        Ok(Step::Read(0))
+    }
+}
+
+// A shelf of two formulas that were never asked.
+fn shelf_of(
+    alloc: Global,
+    first: Box<dyn HostFormula>,
+    second: Box<dyn HostFormula>,
+) -> Result<Shelf, NoMemory>
+    requires first { asks first ≡ 0 }
+    requires second { asks second ≡ 0 }
+    ensures counted { IfOk result ⟦<Shelf as Lent>⟧.counted }
+    ensures asked { IfOk result (λ shelf. ⟦<Shelf as Lent>⟧.asked shelf ≡ Some 0 ∷ Some 0 ∷ []) }
+{
+    let mut hosts = Vec::new(alloc);
+    hosts.push(first)?;
+    hosts.push(second)?;
+    Shelf::new(alloc, hosts)
+}
+
+#[test]
+fn asks_formulas(rt: HostRuntime) -> Result<(), Fail> {
+    let alloc = rt.alloc();
+    let first = Box::new(alloc, First::new())?;
+    let again = Box::new(alloc, Again::new())?;
+    let mut shelf = shelf_of(alloc, first, again)?;
+    assert_eq!(rt; shelf.len(), 2);
+    let nothing: [Known; 0] = [];
+    let known = [Known {
+        slot: 0,
+        value: Value::Int(7),
+    }];
+    assert!(rt; matches!(shelf.ask(alloc, 0, &nothing)?, Step::Read(0)));
+    assert!(rt; matches!(shelf.ask(alloc, 1, &nothing)?, Step::Read(0)));
+    assert!(rt; matches!(shelf.ask(alloc, 0, &known)?, Step::Done(Value::Int(7))));
+    assert!(rt; matches!(shelf.ask(alloc, 1, &known)?, Step::Read(0)));
+    assert!(rt; matches!(shelf.ask(alloc, 1, &known)?, Step::Read(0)));
+    assert_eq!(rt; shelf.drop_host(0), 2);
+    assert!(rt; !shelf.is_there(0));
+    assert!(rt; shelf.is_there(1));
+    assert!(rt; !shelf.is_there(2));
+    assert_eq!(rt; shelf.drop_host(1), 3);
+    assert_eq!(rt; shelf.len(), 2);
+    Ok(())
+}
+
+#[test]
+fn compares_by_slack(rt: HostRuntime) -> Result<(), Fail> {
+    let alloc = rt.alloc();
+    let rule = EqualsRule {
+        slack: 5,
+        call: Box::new(alloc, |a: &Value, b: &Value| alike(5, a, b))?,
+    };
+    for (a, b, want) in [
+        (Value::Int(10), Value::Int(15), true),
+        (Value::Int(10), Value::Int(5), true),
+        (Value::Int(10), Value::Int(16), false),
+        (Value::Int(i64::MIN), Value::Int(i64::MAX), false),
+        (Value::Bool(true), Value::Bool(true), true),
+        (Value::Bool(true), Value::Int(1), false),
+        (
+            Value::Text(Text::new(alloc, "a")?),
+            Value::Text(Text::new(alloc, "a")?),
+            true,
+        ),
+        (
+            Value::Text(Text::new(alloc, "a")?),
+            Value::Text(Text::new(alloc, "b")?),
+            false,
+        ),
+    ] {
+        assert_eq!(rt; rule.holds(&a, &b), want, "{a:?} {b:?}");
+    }
+    Ok(())
+}
