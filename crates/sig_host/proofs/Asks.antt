@@ -1,7 +1,18 @@
 -- Numbers of asks: one place is asked more, or loses its formula, and the others stay.
-use Rattle.std.proofs.Common.{◌≡◌, ◌≤◌, ◌+◌, ◌==◌, ◌&&◌, not, ℕ, zero, suc, arith, Bool, true, false, if◌then◌else◌, List, [], ◌∷◌, map, Option, Some, None, IsTrue, is_some, slice_set, unwrap_or, refl, ap, sym, ◌∙◌, add-zero, add_assoc}
+use Rattle.std.proofs.Common.{◌≡◌, ◌≤◌, ◌<◌, ◌+◌, ◌==◌, ◌&&◌, not, ℕ, zero, suc, arith, Bool, true, false, if◌then◌else◌, List, [], ◌∷◌, map, length, Option, Some, None, IsTrue, is_some, slice_set, unwrap_or, refl, ap, sym, ◌∙◌, add-zero, add_assoc}
 use Rattle.std.proofs.Math.Dec.{eqb-suc-suc, eqb-suc-zero, eqb-zero-suc}
 use Rattle.sig_host.specs.Hosts.{asked_at, asked_more_at, count_at, dropped_at, is_there, most_asked}
+
+-- at first each formula is there, and wasn't asked
+pub is_there-new : {A : Type 0} (xs : List A) (p : ℕ) → p < length xs → IsTrue (is_there (map (λ _. Some 0) xs) p)
+is_there-new [] p h = absurd (omega (arith, h))
+is_there-new (x ∷ xs) zero h = refl
+is_there-new (x ∷ xs) (suc p) h = is_there-new xs p (omega (arith, h))
+
+pub count_at-new : {A : Type 0} (xs : List A) (p : ℕ) → count_at (map (λ _. Some 0) xs) p ≡ 0
+count_at-new [] p = refl
+count_at-new (x ∷ xs) zero = refl
+count_at-new (x ∷ xs) (suc p) = count_at-new xs p
 
 -- the asks of each place, where those of one are changed
 asked_at-set : (xs : List (Option ℕ)) (p q : ℕ) (o : Option ℕ) → IsTrue (is_there xs p) → asked_at (slice_set xs p o) q ≡ (if q == p then o else asked_at xs q)
@@ -50,13 +61,18 @@ more_more [] p n m h = cc
 more_more (x ∷ xs) zero n m h = ap (λ k. Some k ∷ xs) (add_assoc (unwrap_or x 0) n m)
 more_more (x ∷ xs) (suc p) n m h = ap (λ ys. x ∷ ys) (more_more xs p n m h)
 
+-- the number of asks of the place that is asked more
+pub count_at-more : (xs : List (Option ℕ)) (p n : ℕ) → IsTrue (is_there xs p) → count_at (asked_more_at xs p n) p ≡ count_at xs p + n
+count_at-more [] p n h = cc
+count_at-more (x ∷ xs) zero n h = refl
+count_at-more (x ∷ xs) (suc p) n h = count_at-more xs p n h
+
 -- no place was asked more often than the most
 pub count_at-most : (xs : List (Option ℕ)) (p : ℕ) → count_at xs p ≤ most_asked xs
 count_at-most [] p = omega arith
 count_at-most (x ∷ xs) zero = omega arith
 count_at-most (x ∷ xs) (suc p) = omega (arith, count_at-most xs p)
 
--- at first none was asked
 pub most_asked-new : {A : Type 0} (xs : List A) → most_asked (map (λ _. Some 0) xs) ≡ 0
 most_asked-new [] = refl
 most_asked-new (x ∷ xs) = omega (arith, most_asked-new xs)

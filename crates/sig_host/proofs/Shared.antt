@@ -1,6 +1,8 @@
 -- What crates above may cite of these proofs: laws of the definitions. All else in this folder is this crate's own.
 
--- a place that was asked more, or that lost its formula, and the others
-pub use Rattle.sig_host.proofs.Asks.{asked_at-more, asked_at-dropped, is_there-more, is_there-dropped, more_none, more_more}
+-- the places at first
+pub use Rattle.sig_host.proofs.Asks.{is_there-new, count_at-new, most_asked-new}
+-- a place that is asked more, or that loses its formula, and the others
+pub use Rattle.sig_host.proofs.Asks.{asked_at-more, is_there-more, count_at-more, more_none, more_more, asked_at-dropped, is_there-dropped}
 -- the most that any formula was asked
-pub use Rattle.sig_host.proofs.Asks.{count_at-most, most_asked-new, most_asked-more, most_asked-dropped}
+pub use Rattle.sig_host.proofs.Asks.{count_at-most, most_asked-more, most_asked-dropped}

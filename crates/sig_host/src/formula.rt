@@ -10,8 +10,12 @@ use std::alloc::Global;
 /// A formula that the host program writes itself.
 ///
 /// A computed that is made from one asks it with the values that it knows, first with none. It answers
-/// that it needs the value of a slot, which is then known at the next ask, or it ends with a value or a
-/// fault. What it answers may rest on what is known and on nothing else: to the same values it gives the
+/// that it needs the value of a slot, or it ends with a value or a fault. After a slot has been read it
+/// is asked again, with that value behind the others; where the slot's signal has a fault, the computed
+/// ends with that fault and asks no more. A slot outside the computed's arguments is the fault `Slot`,
+/// and one whose value is known already is `Twice`.
+///
+/// What it answers may rest on the known values and on nothing else: to the same values it gives the
 /// same answer at every ask, for as long as it lives.
 pub trait HostFormula: Drop {
     /// What it answers to the values known so far. No call changes it.
@@ -20,9 +24,8 @@ pub trait HostFormula: Drop {
     /// How often it has answered, a number of 128 bits. No call lowers it.
     ghost asks: { Self → ℕ };
 
-    /// Answers to the values known so far, in the order in which they were read.
-    ///
-    /// A caller has to know that `asks` isn't at its last value. An answer raises `asks` by one.
+    /// Answers to the values known so far, in the order in which they were read. An answer raises
+    /// `asks` by one, so who asks has to know that `asks` isn't at its last value.
     ///
     /// # Errors
     ///

@@ -8,8 +8,11 @@ use sig_base::{Known, NoMemory, Step};
 use std::alloc::Global;
 
 /// What is known of a shelf of host formulas.
+///
+/// What the formulas answer is said under all meanings of the places, `(hosts : Hosts) → answers hosts
+/// old → ..`, and only in an `ensures`: no type and no `requires` keeps a fact of a boxed formula.
 pub trait Lent {
-    /// Each formula that is there answers by the meaning of its place.
+    /// Each formula that is there answers as its place does.
     ghost answers: { Hosts → Self → Type 0 };
 
     /// The count beside each formula is how often it has answered.
@@ -53,22 +56,26 @@ impl LentPlace for Place {
 }
 
 impl Lent for Shelf {
-    ghost answers = { λ hosts s. AnswersBy hosts (map (λ p. option_map (λ h. (HostFormula-box h).step_of h.value) p.host) s.places.items) };
+    ghost answers = { λ hosts s. AnswersBy hosts
+        (map (λ p. option_map (λ h. (HostFormula-box h).step_of h.value) p.host) s.places.items) };
 
-    ghost counted = { λ s. IsCounted (map (λ p. option_map (λ h. (HostFormula-box h).asks h.value) p.host) s.places.items) (map (λ p. option_map (λ _. p.count) p.host) s.places.items) };
+    ghost counted = { λ s. IsCounted
+        (map (λ p. option_map (λ h. (HostFormula-box h).asks h.value) p.host) s.places.items)
+        (map (λ p. option_map (λ _. p.count) p.host) s.places.items) };
 
     ghost asked = { λ s. map (λ p. option_map (λ _. p.count) p.host) s.places.items };
 }
 
 impl Shelf {
-    /// A shelf of host formulas that were never asked: each place has the formula of the list.
+    /// A shelf of host formulas that were never asked. Their places are those of the list.
     ///
     /// # Errors
     ///
     /// `NoMemory` where memory ran out; the formulas are dropped.
     pub fn new(alloc: Global, hosts: Vec<Box<dyn HostFormula>>) -> Result<Shelf, NoMemory>
         requires { All (λ h. asks h ≡ 0) hosts.items }
-        ensures answers { IfOk result (λ shelf. ⟦<Shelf as Lent>⟧.answers (hosts_of (map (λ h. step_of h) hosts.items)) shelf) }
+        ensures answers { IfOk result (λ shelf.
+            ⟦<Shelf as Lent>⟧.answers (hosts_of (map (λ h. step_of h) hosts.items)) shelf) }
         ensures counted { IfOk result ⟦<Shelf as Lent>⟧.counted }
         ensures asked { IfOk result (λ shelf. ⟦<Shelf as Lent>⟧.asked shelf ≡ map (λ _. Some 0) hosts.items) }
     {
@@ -93,35 +100,42 @@ impl Shelf {
         }
     }
 
-    /// Asks the formula of a place that is there, and counts that it has answered.
+    /// Asks the formula of a place that is there, with the values known so far, and counts its answer. It
+    /// asks of its caller that the count isn't at its last value.
     ///
     /// # Errors
     ///
-    /// `NoMemory` where memory ran out: then the shelf is as before.
+    /// `NoMemory` where memory ran out: then nothing is counted, and the formula may be asked again.
     pub fn ask(&mut self, alloc: Global, place: usize, known: &[Known]) -> Result<Step, NoMemory>
         requires counted { ⟦<Shelf as Lent>⟧.counted self.old }
         requires there { IsTrue (is_there (⟦<Shelf as Lent>⟧.asked self.old) place) }
         requires room { count_at (⟦<Shelf as Lent>⟧.asked self.old) place < last_ask }
-        ensures answer { (hosts : Hosts) → ⟦<Shelf as Lent>⟧.answers hosts self.old → IfOk result (λ s. s ≡ hosts place known.now) }
-        ensures answers { (hosts : Hosts) → ⟦<Shelf as Lent>⟧.answers hosts self.old → ⟦<Shelf as Lent>⟧.answers hosts self.new }
+        ensures answer { (hosts : Hosts) → ⟦<Shelf as Lent>⟧.answers hosts self.old →
+            IfOk result (λ s. s ≡ hosts place known.now) }
+        ensures answers { (hosts : Hosts) → ⟦<Shelf as Lent>⟧.answers hosts self.old →
+            ⟦<Shelf as Lent>⟧.answers hosts self.new }
         ensures counted { ⟦<Shelf as Lent>⟧.counted self.new }
-        ensures asked { OnOk result (⟦<Shelf as Lent>⟧.asked self.new ≡ asked_more_at (⟦<Shelf as Lent>⟧.asked self.old) place 1) }
+        ensures asked { OnOk result
+            (⟦<Shelf as Lent>⟧.asked self.new ≡ asked_more_at (⟦<Shelf as Lent>⟧.asked self.old) place 1) }
         ensures unasked { OnErr result (⟦<Shelf as Lent>⟧.asked self.new ≡ ⟦<Shelf as Lent>⟧.asked self.old) }
-        ensures there { (other : ℕ) → is_there (⟦<Shelf as Lent>⟧.asked self.new) other ≡ is_there (⟦<Shelf as Lent>⟧.asked self.old) other }
+        ensures there { (other : ℕ) → is_there (⟦<Shelf as Lent>⟧.asked self.new) other
+            ≡ is_there (⟦<Shelf as Lent>⟧.asked self.old) other }
     {
         ask_at(alloc, &mut self.places[place], known)
     }
 
-    /// Drops the formula of a place that is there, and gives the number of its asks. No formula is there
-    /// ever again.
+    /// Drops the formula of a place that is there, and gives the number of its asks. It takes no memory.
+    /// No formula is there ever again.
     pub fn drop_host(&mut self, place: usize) -> u128
         requires counted { ⟦<Shelf as Lent>⟧.counted self.old }
         requires there { IsTrue (is_there (⟦<Shelf as Lent>⟧.asked self.old) place) }
         ensures asks { asked_at (⟦<Shelf as Lent>⟧.asked self.old) place ≡ Some result }
-        ensures answers { (hosts : Hosts) → ⟦<Shelf as Lent>⟧.answers hosts self.old → ⟦<Shelf as Lent>⟧.answers hosts self.new }
+        ensures answers { (hosts : Hosts) → ⟦<Shelf as Lent>⟧.answers hosts self.old →
+            ⟦<Shelf as Lent>⟧.answers hosts self.new }
         ensures counted { ⟦<Shelf as Lent>⟧.counted self.new }
         ensures asked { ⟦<Shelf as Lent>⟧.asked self.new ≡ dropped_at (⟦<Shelf as Lent>⟧.asked self.old) place }
-        ensures there { (other : ℕ) → is_there (⟦<Shelf as Lent>⟧.asked self.new) other ≡ (is_there (⟦<Shelf as Lent>⟧.asked self.old) other && not (other == place)) }
+        ensures there { (other : ℕ) → is_there (⟦<Shelf as Lent>⟧.asked self.new) other
+            ≡ (is_there (⟦<Shelf as Lent>⟧.asked self.old) other && not (other == place)) }
     {
         let found = &mut self.places[place];
         found.host = None;
@@ -132,9 +146,12 @@ impl Shelf {
 // A place for each formula, in their order.
 fn places_of(alloc: Global, hosts: Vec<Box<dyn HostFormula>>) -> Result<Vec<Place>, NoMemory>
     requires { All (λ h. asks h ≡ 0) hosts.items }
-    ensures meanings { IfOk result (λ places. map ⟦<Place as LentPlace>⟧.meaning places.items ≡ map (λ h. Some (step_of h)) hosts.items) }
-    ensures answered { IfOk result (λ places. map ⟦<Place as LentPlace>⟧.answered places.items ≡ map (λ _. Some 0) hosts.items) }
-    ensures asked { IfOk result (λ places. map ⟦<Place as LentPlace>⟧.asked_so places.items ≡ map (λ _. Some 0) hosts.items) }
+    ensures meanings { IfOk result (λ places.
+        map ⟦<Place as LentPlace>⟧.meaning places.items ≡ map (λ h. Some (step_of h)) hosts.items) }
+    ensures answered { IfOk result (λ places.
+        map ⟦<Place as LentPlace>⟧.answered places.items ≡ map (λ _. Some 0) hosts.items) }
+    ensures asked { IfOk result (λ places.
+        map ⟦<Place as LentPlace>⟧.asked_so places.items ≡ map (λ _. Some 0) hosts.items) }
 {
     let mut places = Vec::with_capacity(alloc, hosts.len())?;
     for lent in hosts {
@@ -161,12 +178,16 @@ fn ask_at(alloc: Global, place: &mut Place, known: &[Known]) -> Result<Step, NoM
     requires counted { ⟦<Place as LentPlace>⟧.answered place.old ≡ ⟦<Place as LentPlace>⟧.asked_so place.old }
     requires there { IsTrue (is_some (⟦<Place as LentPlace>⟧.asked_so place.old)) }
     requires room { unwrap_or (⟦<Place as LentPlace>⟧.asked_so place.old) 0 < last_ask }
-    ensures answer { IfOk result (λ s. option_map (λ f. f known.now) (⟦<Place as LentPlace>⟧.meaning place.old) ≡ Some s) }
+    ensures answer { IfOk result (λ s.
+        option_map (λ f. f known.now) (⟦<Place as LentPlace>⟧.meaning place.old) ≡ Some s) }
     ensures same { ⟦<Place as LentPlace>⟧.meaning place.new ≡ ⟦<Place as LentPlace>⟧.meaning place.old }
     ensures counted { ⟦<Place as LentPlace>⟧.answered place.new ≡ ⟦<Place as LentPlace>⟧.asked_so place.new }
-    ensures asked { OnOk result (⟦<Place as LentPlace>⟧.asked_so place.new ≡ Some (unwrap_or (⟦<Place as LentPlace>⟧.asked_so place.old) 0 + 1)) }
-    ensures unasked { OnErr result (⟦<Place as LentPlace>⟧.asked_so place.new ≡ ⟦<Place as LentPlace>⟧.asked_so place.old) }
-    ensures there { is_some (⟦<Place as LentPlace>⟧.asked_so place.new) ≡ is_some (⟦<Place as LentPlace>⟧.asked_so place.old) }
+    ensures asked { OnOk result (⟦<Place as LentPlace>⟧.asked_so place.new
+        ≡ Some (unwrap_or (⟦<Place as LentPlace>⟧.asked_so place.old) 0 + 1)) }
+    ensures unasked { OnErr result
+        (⟦<Place as LentPlace>⟧.asked_so place.new ≡ ⟦<Place as LentPlace>⟧.asked_so place.old) }
+    ensures there { is_some (⟦<Place as LentPlace>⟧.asked_so place.new)
+        ≡ is_some (⟦<Place as LentPlace>⟧.asked_so place.old) }
 {
     match &mut place.host {
         Some(host) => {
