@@ -1,0 +1,50 @@
+-- What callers see of the watchers, and what each call makes of that.
+use Rattle.std.specs.Prelude.{ℕ, ◌+◌, ◌==◌, ◌&&◌, not, Bool, true, false, List, [], ◌∷◌, ◌++◌, map, if◌then◌else◌}
+use Rattle.signal_model.specs.Standing.{changed, is_in, without}
+use Rattle.effect_model.specs.Worlds.{Watcher, watcher_numbers}
+
+-- the watchers that live, in the order of making, and how many were made so far
+pub record Table : Type 0 where
+  pub watchers : List Watcher
+  pub made : ℕ
+
+-- there are no watchers
+abbrev pub no_watchers : Table
+no_watchers = record { watchers = []; made = 0 }
+
+-- a watcher as it is made
+abbrev pub new_watcher : ℕ → Bool → Watcher
+new_watcher n tries = record { number = n; signals = []; watching = false; tries = tries }
+
+-- a watcher that is waiting
+abbrev pub waiting : Watcher → Watcher
+waiting x = record x { watching = false }
+
+-- one more is made
+abbrev pub with_new : Bool → Table → Table
+with_new tries t = record t { watchers = t.watchers ++ new_watcher t.made tries ∷ []; made = t.made + 1 }
+
+-- the watcher of a number is changed
+abbrev pub with_changed : ℕ → (Watcher → Watcher) → Table → Table
+with_changed n f t = record t { watchers = changed (λ (x : Watcher). x.number) n f t.watchers }
+
+-- the watcher of a number is removed
+abbrev pub with_removal : ℕ → Table → Table
+with_removal n t = record t { watchers = without (λ (x : Watcher). x.number) n t.watchers }
+
+-- each watcher is changed
+abbrev pub with_each : (Watcher → Watcher) → Table → Table
+with_each f t = record t { watchers = map f t.watchers }
+
+-- whether the watcher of a number lives
+abbrev pub is_alive : List Watcher → ℕ → Bool
+is_alive xs n = is_in n (watcher_numbers xs)
+
+-- the signals that the watcher of a number watches
+abbrev pub signals_at : List Watcher → ℕ → List ℕ
+signals_at [] n = []
+signals_at (x ∷ xs) n = if n == x.number then x.signals else signals_at xs n
+
+-- whether the watcher of a number watches a signal
+abbrev pub watches : List Watcher → ℕ → ℕ → Bool
+watches xs n m = is_in m (signals_at xs n)

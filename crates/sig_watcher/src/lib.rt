@@ -1,0 +1,11 @@
+//! Watchers: who watches which signals, and who is told of a change.
+#![tactic(auto)]
+
+mod errors;
+mod limits;
+mod watcher;
+mod watchers;
+
+pub use errors::WatchFault;
+pub use limits::MOST_WATCHERS;
+pub use watchers::Watchers;

@@ -1,0 +1,178 @@
+// All watchers.
+ghost use Rattle.std.specs.Prelude.{◌≡◌, ℕ, ◌+◌, ◌<◌, ◌≤◌, ◌^◌, ◌↔◌, ◌⊎◌, ◌&&◌, not, length, map, true, false, IfOk, IfErr, IfSome, IfNone, IsErrOf, OnOk, OnErr};
+ghost use Rattle.effect_model.specs.Acts.{forget};
+ghost use Rattle.effect_model.specs.Commands.{armed};
+ghost use Rattle.sig_watcher.specs.declared.errors.WatchFault.TheVariants as fault;
+ghost use Rattle.sig_watcher.specs.Numbers.{changed_at, IsFirst};
+ghost use Rattle.sig_watcher.specs.Tables.{is_alive, no_watchers, watches, with_changed, with_each, with_new, with_removal};
+
+use crate::errors::WatchFault;
+use crate::limits::MOST_WATCHERS;
+use crate::watcher::{Watcher, is_among};
+use sig_base::{NoMemory, NodeId, WatcherId};
+use std::alloc::Global;
+use std::marker::Model;
+
+/// Watchers, with the signals that each watches. Signals that are disposed are to be forgotten.
+#[derive(Debug, Drop)]
+pub struct Watchers {
+    alloc: Global,
+    watchers: Vec<Watcher>,
+    made: u128,
+}
+
+impl Model for Watchers {
+    ghost use Rattle.sig_watcher.specs.Tables.{Table};
+
+    ghost Value = { Table };
+
+    ghost use Rattle.sig_watcher.specs.Numbers.{AreNumbered};
+
+    ghost view = { λ w. record { watchers = w.watchers.items; made = w.made } };
+
+    ghost invariant = { λ w. AreNumbered w.watchers.items w.made };
+}
+
+impl Watchers {
+    /// No watchers.
+    pub fn new(alloc: Global) -> Result<Watchers, NoMemory>
+        ensures { IfOk result (λ w. w ≡ no_watchers) }
+    {
+        Ok(Watchers {
+            alloc,
+            watchers: Vec::new(alloc),
+            made: 0,
+        })
+    }
+
+    /// How many watchers live.
+    pub fn live(&self) -> usize
+        ensures count { result ≡ length self.now.watchers }
+        ensures most { result ≤ MOST_WATCHERS }
+    {
+        self.watchers.len()
+    }
+
+    /// Makes a watcher, which has no signals and is waiting; it may try a command when it is notified. Its id is the number of
+    /// watchers that were made before. It is refused where as many watchers live as may be; after a refusal all is as before.
+    pub fn add(&mut self, tries: bool) -> Result<WatcherId, WatchFault>
+        requires { self.old.made + 1 < 2 ^ 128 }
+        ensures id { IfOk result (λ id. id ≡ self.old.made) }
+        ensures after { OnOk result (self.new ≡ with_new tries self.old) }
+        ensures limit { IsErrOf result fault.Limit ↔ (length self.old.watchers ≡ MOST_WATCHERS) }
+        ensures fault { IfErr result (λ e. (e ≡ fault.Limit) ⊎ (e ≡ fault.NoMemory)) }
+        ensures err { OnErr result (self.new ≡ self.old) }
+    {
+        if self.watchers.len() == MOST_WATCHERS {
+            return Err(WatchFault::Limit);
+        }
+        let id = WatcherId::of(self.made);
+        self.watchers.push(Watcher::new(self.alloc, id, tries))?;
+        self.made += 1;
+        Ok(id)
+    }
+
+    /// Appends the signals that a watcher doesn't watch yet, in order and once each, and arms it; with no signals it only arms. It is
+    /// refused where the watcher is gone; after a refusal, also for want of memory, all is as before.
+    pub fn watch(&mut self, w: WatcherId, ids: &[NodeId]) -> Result<(), WatchFault>
+        ensures after { OnOk result (self.new ≡ with_changed w (armed ids.now) self.old) }
+        ensures gone { IsErrOf result fault.Gone ↔ (is_alive self.old.watchers w ≡ false) }
+        ensures fault { IfErr result (λ e. (e ≡ fault.Gone) ⊎ (e ≡ fault.NoMemory)) }
+        ensures err { OnErr result (self.new ≡ self.old) }
+    {
+        let Some(place) = place_of(&self.watchers, w) else {
+            return Err(WatchFault::Gone);
+        };
+        arm_at(&mut self.watchers, place, ids)?;
+        Ok(())
+    }
+
+    /// Takes a signal out of a watcher's. It is refused where the watcher is gone or doesn't watch the signal; then all is as before.
+    pub fn unwatch(&mut self, w: WatcherId, id: NodeId) -> Result<(), WatchFault>
+        ensures after { OnOk result (self.new ≡ with_changed w (forget id) self.old) }
+        ensures gone { IsErrOf result fault.Gone ↔ (is_alive self.old.watchers w ≡ false) }
+        ensures not_watched { IsErrOf result fault.NotWatched ↔ ((is_alive self.old.watchers w && not (watches self.old.watchers w id)) ≡ true) }
+        ensures fault { IfErr result (λ e. (e ≡ fault.Gone) ⊎ (e ≡ fault.NotWatched)) }
+        ensures err { OnErr result (self.new ≡ self.old) }
+    {
+        let Some(place) = place_of(&self.watchers, w) else {
+            return Err(WatchFault::Gone);
+        };
+        if !watches_at(&self.watchers, place, id) {
+            return Err(WatchFault::NotWatched);
+        }
+        forget_at(&mut self.watchers, place, id);
+        Ok(())
+    }
+
+    /// Removes a watcher. It is refused where the watcher is gone; then all is as before.
+    pub fn remove(&mut self, w: WatcherId) -> Result<(), WatchFault>
+        ensures after { OnOk result (self.new ≡ with_removal w self.old) }
+        ensures gone { IsErrOf result fault.Gone ↔ (is_alive self.old.watchers w ≡ false) }
+        ensures fault { IfErr result (λ e. e ≡ fault.Gone) }
+        ensures err { OnErr result (self.new ≡ self.old) }
+    {
+        let Some(place) = place_of(&self.watchers, w) else {
+            return Err(WatchFault::Gone);
+        };
+        let _removed = self.watchers.remove(place);
+        Ok(())
+    }
+
+    /// Takes a signal out of all watchers. It takes no memory.
+    pub fn forget(&mut self, id: NodeId)
+        ensures { self.new ≡ with_each (forget id) self.old }
+    {
+        forget_all(&mut self.watchers, id);
+    }
+}
+
+// Where the watcher of an id stands.
+fn place_of(watchers: &[Watcher], w: WatcherId) -> Option<usize>
+    ensures some { IfSome result (λ p. IsFirst watchers.now w p) }
+    ensures none { IfNone result (is_alive watchers.now w ≡ false) }
+{
+    for place in 0..watchers.len() {
+        if w == watchers[place].id() {
+            return Some(place);
+        }
+    }
+    None
+}
+
+// Arms the watcher at a place.
+fn arm_at(watchers: &mut Vec<Watcher>, place: usize, ids: &[NodeId]) -> Result<(), NoMemory>
+    requires { place < length watchers.old.items }
+    ensures after { OnOk result (watchers.new.items ≡ changed_at (armed ids.now) place watchers.old.items) }
+    ensures err { OnErr result (watchers.new.items ≡ watchers.old.items) }
+{
+    let _count = watchers.len();
+    watchers[place].arm(ids)?;
+    Ok(())
+}
+
+// Whether the watcher at a place watches a signal.
+fn watches_at(watchers: &[Watcher], place: usize, id: NodeId) -> bool
+    requires { place < length watchers.now }
+    ensures { (w : ℕ) → IsFirst watchers.now w place → result ≡ watches watchers.now w id }
+{
+    is_among(watchers[place].signals(), id)
+}
+
+// Takes a signal out of those of the watcher at a place.
+fn forget_at(watchers: &mut Vec<Watcher>, place: usize, id: NodeId)
+    requires { place < length watchers.old.items }
+    ensures { watchers.new.items ≡ changed_at (forget id) place watchers.old.items }
+{
+    let _count = watchers.len();
+    watchers[place].forget(id);
+}
+
+// Takes a signal out of those of each watcher.
+fn forget_all(watchers: &mut Vec<Watcher>, id: NodeId)
+    ensures { watchers.new.items ≡ map (forget id) watchers.old.items }
+{
+    for place in 0..watchers.len() {
+        forget_at(watchers, place, id);
+    }
+}
