@@ -1,2 +1,4 @@
 pub mod Lists
+pub mod Notices
 pub mod Places
+pub mod Reaching

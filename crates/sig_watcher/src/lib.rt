@@ -3,9 +3,12 @@
 
 mod errors;
 mod limits;
+mod reach;
+mod telling;
 mod watcher;
 mod watchers;
 
 pub use errors::WatchFault;
 pub use limits::MOST_WATCHERS;
+pub use telling::Told;
 pub use watchers::Watchers;

@@ -1,15 +1,19 @@
 // All watchers.
-ghost use Rattle.std.specs.Prelude.{◌≡◌, ℕ, ◌+◌, ◌<◌, ◌≤◌, ◌^◌, ◌↔◌, ◌⊎◌, ◌&&◌, not, length, map, true, false, IfOk, IfErr, IfSome, IfNone, IsErrOf, OnOk, OnErr};
-ghost use Rattle.effect_model.specs.Acts.{forget};
+ghost use Rattle.std.specs.Prelude.{◌≡◌, ℕ, ◌+◌, ◌++◌, vec_len, vec_capacity, ◌<◌, ◌≤◌, ◌^◌, ◌↔◌, ◌⊎◌, ◌&&◌, not, length, map, true, false, IfOk, IfErr, IfSome, IfNone, IsErrOf, OnOk, OnErr};
+ghost use Rattle.signal_model.specs.Kept.{OnlyComputedsKeep};
+ghost use Rattle.effect_model.specs.Acts.{forget, is_notified, notified_by, waiting_if};
 ghost use Rattle.effect_model.specs.Commands.{armed};
 ghost use Rattle.sig_watcher.specs.declared.errors.WatchFault.TheVariants as fault;
 ghost use Rattle.sig_watcher.specs.Numbers.{changed_at, IsFirst};
-ghost use Rattle.sig_watcher.specs.Tables.{is_alive, no_watchers, watches, with_changed, with_each, with_new, with_removal};
+ghost use Rattle.sig_watcher.specs.Tables.{is_alive, no_watchers, signals_at, watches, with_changed, with_each, with_new, with_removal};
+ghost use Rattle.sig_watcher.specs.Telling.{pending_of, told_of};
 
 use crate::errors::WatchFault;
 use crate::limits::MOST_WATCHERS;
+use crate::telling::{Told, is_some_watching, pending_of, tell_all};
 use crate::watcher::{Watcher, is_among};
 use sig_base::{NoMemory, NodeId, WatcherId};
+use sig_nodes::Graph;
 use std::alloc::Global;
 use std::marker::Model;
 
@@ -119,6 +123,36 @@ impl Watchers {
         Ok(())
     }
 
+    /// The computeds among a watcher's signals that must run, or else something below them along kept sources, in the order in
+    /// which they are watched. It is refused where the watcher is gone.
+    pub fn pending(&self, graph: &Graph, w: WatcherId) -> Result<Vec<NodeId>, WatchFault>
+        ensures names { IfOk result (λ v. v.items ≡ pending_of graph.now.state.signals graph.now.state.memos (signals_at self.now.watchers w)) }
+        ensures gone { IsErrOf result fault.Gone ↔ (is_alive self.now.watchers w ≡ false) }
+        ensures fault { IfErr result (λ e. (e ≡ fault.Gone) ⊎ (e ≡ fault.NoMemory)) }
+    {
+        let Some(place) = place_of(&self.watchers, w) else {
+            return Err(WatchFault::Gone);
+        };
+        let pending = pending_at(self.alloc, graph, &self.watchers, place)?;
+        Ok(pending)
+    }
+
+    /// Tells of a change of a signal: of each watcher that is watching, and one of whose signals is the changed one or has it in the
+    /// closure of its kept sources, in the order of making. They are put behind what the list has, in room that is there for all
+    /// that live, and are waiting afterwards. It takes no memory.
+    pub fn tell(&mut self, graph: &Graph, id: NodeId, told: &mut Vec<Told>)
+        requires room { vec_len told.old + length self.old.watchers ≤ vec_capacity told.old }
+        ensures told { OnlyComputedsKeep graph.now.state.signals graph.now.state.memos →
+            told.new.items ≡ told.old.items ++ map told_of (notified_by graph.now.state.signals graph.now.state.memos id self.old.watchers) }
+        ensures after { OnlyComputedsKeep graph.now.state.signals graph.now.state.memos →
+            self.new ≡ with_each (waiting_if (is_notified graph.now.state.signals graph.now.state.memos id)) self.old }
+    {
+        if !is_some_watching(&self.watchers) {
+            return;
+        }
+        tell_all(&mut self.watchers, graph, id, told);
+    }
+
     /// Takes a signal out of all watchers. It takes no memory.
     pub fn forget(&mut self, id: NodeId)
         ensures { self.new ≡ with_each (forget id) self.old }
@@ -157,6 +191,20 @@ fn watches_at(watchers: &[Watcher], place: usize, id: NodeId) -> bool
     ensures { (w : ℕ) → IsFirst watchers.now w place → result ≡ watches watchers.now w id }
 {
     is_among(watchers[place].signals(), id)
+}
+
+// The pending computeds among the signals of the watcher at a place.
+fn pending_at(
+    alloc: Global,
+    graph: &Graph,
+    watchers: &[Watcher],
+    place: usize,
+) -> Result<Vec<NodeId>, NoMemory>
+    requires { place < length watchers.now }
+    ensures { (w : ℕ) → IsFirst watchers.now w place → IfOk result (λ v. v.items ≡ pending_of graph.now.state.signals graph.now.state.memos (signals_at watchers.now w)) }
+{
+    let pending = pending_of(alloc, graph, watchers[place].signals())?;
+    Ok(pending)
 }
 
 // Takes a signal out of those of the watcher at a place.

@@ -1,0 +1,6 @@
+use Rattle.std.proofs.Common.{◌≡◌, take}
+use Rattle.sig_watcher.specs.Telling.{pending_of}
+use Rattle.sig_watcher.proofs.telling.pending_of.Given as goal
+
+abbrev pub invariant-loop-id : goal.invariant-loop-id
+invariant-loop-id l = l.pending.items ≡ pending_of l.graph.state.signals l.graph.state.memos (take l.id-index l.ids)

@@ -1,0 +1,43 @@
+-- Who is told of a change, and what is told.
+use Rattle.std.specs.Prelude.{ℕ, zero, suc, ◌&&◌, not, Bool, true, false, List, [], ◌∷◌, if◌then◌else◌}
+use Rattle.std.specs.List.{filter}
+use Rattle.signal_model.specs.Standing.{Signals, is_computed, standing}
+use Rattle.signal_model.specs.Memos.{Memos}
+use Rattle.signal_model.specs.Marks.{Mark, Clean, Checked, Dirty, mark_of}
+use Rattle.effect_model.specs.Worlds.{Watcher}
+use Rattle.sig_watcher.specs.declared.telling.Told.{Told}
+use Rattle.sig_watcher.specs.Tables.{waiting}
+
+-- what is told of a watcher: its number, and whether its try was refused, which is so for each that tries
+abbrev pub told_of : Watcher → Told
+told_of x = record { watcher = x.number; refused = x.tries }
+
+-- whether the watcher at a place passes a test
+abbrev pub passes_at : (Watcher → Bool) → ℕ → List Watcher → Bool
+passes_at test p [] = false
+passes_at test zero (x ∷ xs) = test x
+passes_at test (suc p) (x ∷ xs) = passes_at test p xs
+
+-- what is told of the watcher at a place, where it is notified
+abbrev pub told_at : Bool → ℕ → List Watcher → List Told
+told_at hit p [] = []
+told_at hit zero (x ∷ xs) = if hit then told_of x ∷ [] else []
+told_at hit (suc p) (x ∷ xs) = told_at hit p xs
+
+-- who is notified is waiting
+abbrev pub waiting_after : Bool → Watcher → Watcher
+waiting_after hit x = if hit then waiting x else x
+
+-- nothing has to be done before an outcome is given again
+abbrev pub is_clean : Mark → Bool
+is_clean Clean = true
+is_clean Checked = false
+is_clean Dirty = false
+
+-- whether a signal is a computed whose mark isn't clean
+abbrev pub is_pending : Signals → Memos → ℕ → Bool
+is_pending w k n = is_computed (standing w n) && not (is_clean (mark_of w k n))
+
+-- the pending ones among these
+abbrev pub pending_of : Signals → Memos → List ℕ → List ℕ
+pending_of w k ns = filter (is_pending w k) ns
