@@ -13,7 +13,8 @@ use Rattle.signal_laws.proofs.Shared.{in_append, or_none}
 use Rattle.sig_nodes.specs.Seats.{holder}
 use Rattle.sig_nodes.specs.States.{Seen}
 use Rattle.effect_model.specs.Acts.{is_reached, some_name}
-use Rattle.sig_watcher.specs.Reach.{is_up, AreReaching, AreSound, HasFlag, IsFlagged, IsUnflagged, NoneFlagged, SomeFlagged}
+use Rattle.sig_base.specs.declared.limits.TheConstants.{MOST_NODES}
+use Rattle.sig_watcher.specs.Reach.{is_up, seat_at, AreReaching, AreSound, HasFlag, IsFlagged, IsUnflagged, NoneFlagged, SomeFlagged}
 
 -- ---- lists of names
 
@@ -143,3 +144,8 @@ pub all_down : (k s : ℕ) → is_up (replicate k false) s ≡ false
 all_down zero s = refl
 all_down (suc k) zero = refl
 all_down (suc k) (suc s) = all_down k s
+
+-- each seat is that of a step
+pub seat_twice : (down : Bool) (s : ℕ) → s < MOST_NODES → (seat_at down s < MOST_NODES) × (seat_at down (seat_at down s) ≡ s)
+seat_twice true s l = (omega (arith, l), omega (arith, l))
+seat_twice false s l = (l, refl)

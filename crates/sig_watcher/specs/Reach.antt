@@ -1,5 +1,5 @@
 -- Which live signals have a signal in the closure of their kept sources, by a flag for each seat.
-use Rattle.std.specs.Prelude.{◌≡◌, ℕ, ◌<◌, ◌==◌, ◌⊎◌, Bool, true, false, List, Some, sum_by, slice_index_or, if◌then◌else◌}
+use Rattle.std.specs.Prelude.{◌≡◌, ℕ, ◌-◌, ◌<◌, ◌==◌, ◌⊎◌, Bool, true, false, List, Some, sum_by, slice_index_or, if◌then◌else◌}
 use Rattle.sig_base.specs.declared.limits.TheConstants.{MOST_NODES}
 use Rattle.signal_model.specs.Standing.{is_in, is_there, standing}
 use Rattle.signal_model.specs.Memos.{keeps}
@@ -49,7 +49,15 @@ AreSound g n flags = (s m : ℕ) → holder g.seats s ≡ Some m → is_up flags
 abbrev pub IsSettledAt : Seen → ℕ → List Bool → ℕ → Type 0
 IsSettledAt g n flags s = (m p : ℕ) → holder g.seats s ≡ Some m → is_up flags s ≡ false → keeps g.state.memos m p ≡ true → IsUnflagged g n flags p
 
+-- so it is at each seat
+abbrev pub AreSettled : Seen → ℕ → List Bool → Type 0
+AreSettled g n flags = (s : ℕ) → s < MOST_NODES → IsSettledAt g n flags s
+
 -- The flags that are up are those of the signals that have the signal in the closure of their kept sources.
 pub record AreReaching (g : Seen) (n : ℕ) (flags : List Bool) : Type 0 where
   pub sound : AreSound g n flags
-  pub settled : (s : ℕ) → s < MOST_NODES → IsSettledAt g n flags s
+  pub settled : AreSettled g n flags
+
+-- the seat that a step of a sweep comes to
+abbrev pub seat_at : Bool → ℕ → ℕ
+seat_at down step = if down then MOST_NODES - 1 - step else step

@@ -1,8 +1,8 @@
-// Which live signals have a signal in the closure of their kept sources: rounds over all seats, with a flag for each. A search by
-// dependants, once the graph knows them, takes their place.
-ghost use Rattle.std.specs.Prelude.{◌≡◌, ℕ, ◌+◌, ◌<◌, true, false, length};
+// Which live signals have a signal in the closure of their kept sources: rounds over all seats, with a flag for each, until none goes
+// up. A search by dependants takes their place once the graph keeps those.
+ghost use Rattle.std.specs.Prelude.{◌≡◌, ℕ, ◌+◌, ◌<◌, ◌≤◌, true, false, length};
 ghost use Rattle.signal_model.specs.Standing.{is_there, standing};
-ghost use Rattle.sig_watcher.specs.Reach.{flags_down, is_up, AreReaching, AreSound, IsFlagged, IsSettledAt, IsUnflagged, NoneFlagged, SomeFlagged};
+ghost use Rattle.sig_watcher.specs.Reach.{flags_down, is_up, seat_at, AreReaching, AreSettled, AreSound, IsFlagged, IsSettledAt, IsUnflagged, NoneFlagged, SomeFlagged};
 
 use sig_base::{MOST_NODES, NodeId};
 use sig_nodes::{Graph, Standing};
@@ -69,19 +69,42 @@ fn raise(graph: &Graph, id: NodeId, flags: &mut [bool], seat: usize) -> bool
     true
 }
 
-// One round over all seats. Whether a flag went up.
-fn round(graph: &Graph, id: NodeId, flags: &mut [bool]) -> bool
+// The seat that a step of a sweep comes to, from the last seat down or from the first up.
+fn seat_at(down: bool, step: usize) -> usize
+    requires { step < MOST_NODES }
+    ensures { result ≡ seat_at down step }
+{
+    if down { MOST_NODES - 1 - step } else { step }
+}
+
+// One sweep over all seats, from the last one down or from the first one up. Whether a flag went up.
+fn sweep(graph: &Graph, id: NodeId, flags: &mut [bool], down: bool) -> bool
     requires { length flags.old ≡ MOST_NODES }
+    ensures fewer { flags_down flags.new ≤ flags_down flags.old }
     ensures raised { result ≡ true → flags_down flags.new < flags_down flags.old }
-    ensures settled { result ≡ false → (s : ℕ) → s < MOST_NODES → IsSettledAt graph.now id flags.new s }
+    ensures settled { result ≡ false → AreSettled graph.now id flags.new }
     ensures sound { AreSound graph.now id flags.old → AreSound graph.now id flags.new }
 {
     let mut more = false;
-    for seat in 0..MOST_NODES {
-        let raised = raise(graph, id, flags, seat);
+    for step in 0..MOST_NODES {
+        let raised = raise(graph, id, flags, seat_at(down, step));
         more = more | raised;
     }
     more
+}
+
+// A sweep down and one up, so that few rounds are needed whichever way the seats of sources lie. Whether both raised a flag; else
+// there is nothing more to raise.
+fn round(graph: &Graph, id: NodeId, flags: &mut [bool]) -> bool
+    requires { length flags.old ≡ MOST_NODES }
+    ensures raised { result ≡ true → flags_down flags.new < flags_down flags.old }
+    ensures settled { result ≡ false → AreSettled graph.now id flags.new }
+    ensures sound { AreSound graph.now id flags.old → AreSound graph.now id flags.new }
+{
+    if !sweep(graph, id, flags, true) {
+        return false;
+    }
+    sweep(graph, id, flags, false)
 }
 
 /// Raises, where all are down, the flags of those that have a signal in the closure of their kept sources.
