@@ -1,5 +1,5 @@
 -- Who is told, one watcher after the other.
-use Rattle.std.proofs.Common.{◌≡◌, ℕ, zero, suc, ◌+◌, ◌<◌, ◌&&◌, Bool, true, false, cond, List, [], ◌∷◌, ◌++◌, length, take, drop, map, refl, sym, ap, ◌∙◌, subst, arith, append_assoc}
+use Rattle.std.proofs.Common.{◌≡◌, ℕ, zero, suc, ◌+◌, ◌<◌, ◌&&◌, Bool, true, false, cond, List, [], ◌∷◌, ◌++◌, length, take, drop, map, refl, sym, ap, ◌∙◌, arith, append_assoc}
 use Rattle.std.specs.Prelude.{slice_index_or}
 use Rattle.std.specs.List.{filter, list_any}
 use Rattle.signal_model.specs.Standing.{Signals}
@@ -10,7 +10,7 @@ use Rattle.sig_nodes.specs.States.{Seen}
 use Rattle.effect_model.specs.Worlds.{Watcher}
 use Rattle.effect_model.specs.Acts.{is_notified, is_reached, notified_by, some_name, waiting_if}
 use Rattle.sig_watcher.specs.declared.telling.Told.{Told}
-use Rattle.sig_watcher.specs.Numbers.{changed_at, AreNumbered, Rises}
+use Rattle.sig_watcher.specs.Numbers.{changed_at, AreNumbered}
 use Rattle.sig_watcher.specs.Reach.{AreReaching, NoneFlagged, SomeFlagged}
 use Rattle.sig_watcher.specs.Tables.{waiting}
 use Rattle.sig_watcher.specs.Telling.{passes_at, told_at, told_of, waiting_after}

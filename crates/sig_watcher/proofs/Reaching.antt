@@ -1,5 +1,5 @@
 -- The flags of those that have a signal in the closure of their kept sources.
-use Rattle.std.proofs.Common.{◌≡◌, ◌≢◌, ℕ, zero, suc, ◌+◌, ◌<◌, ◌==◌, ◌||◌, ◌⊎◌, inl, inr, Bool, true, false, List, [], ◌∷◌, ◌++◌, length, take, get_or, Option, Some, None, refl, sym, ap, ◌∙◌, subst, arith, true≢false}
+use Rattle.std.proofs.Common.{◌≡◌, ◌≢◌, ℕ, zero, suc, ◌+◌, ◌<◌, ◌==◌, inl, inr, Bool, true, false, List, [], ◌∷◌, ◌++◌, length, take, Option, Some, None, refl, sym, ap, ◌∙◌, subst, arith, true≢false}
 use Rattle.std.specs.Prelude.{replicate, slice_set, slice_index_or}
 use Rattle.std.proofs.lemmas.Bool.{eqb-true, eq-eqb}
 use Rattle.std.proofs.lemmas.List.{get_or-set_other, take_more}
@@ -14,7 +14,7 @@ use Rattle.sig_nodes.specs.Seats.{holder}
 use Rattle.sig_nodes.specs.States.{Seen}
 use Rattle.effect_model.specs.Acts.{is_reached, some_name}
 use Rattle.sig_base.specs.declared.limits.TheConstants.{MOST_NODES}
-use Rattle.sig_watcher.specs.Reach.{is_up, seat_at, AreReaching, AreSound, HasFlag, IsFlagged, IsUnflagged, NoneFlagged, SomeFlagged}
+use Rattle.sig_watcher.specs.Reach.{is_up, seat_at, AreReaching, AreSound, IsFlagged, IsUnflagged, NoneFlagged, SomeFlagged}
 
 -- ---- lists of names
 

@@ -1,5 +1,5 @@
 -- What holds of the watchers between calls, and where one stands among them.
-use Rattle.std.specs.Prelude.{◌≡◌, ℕ, zero, suc, ◌+◌, ◌≤◌, ◌<◌, ◌==◌, Bool, false, List, [], ◌∷◌, length}
+use Rattle.std.specs.Prelude.{◌≡◌, ℕ, zero, suc, ◌+◌, ◌≤◌, ◌==◌, false, List, [], ◌∷◌, length}
 use Rattle.effect_model.specs.Worlds.{Watcher}
 use Rattle.sig_watcher.specs.declared.limits.TheConstants.{MOST_WATCHERS}
 

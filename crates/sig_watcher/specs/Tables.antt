@@ -1,5 +1,5 @@
 -- What callers see of the watchers, and what each call makes of that.
-use Rattle.std.specs.Prelude.{ℕ, ◌+◌, ◌==◌, ◌&&◌, not, Bool, true, false, List, [], ◌∷◌, ◌++◌, map, if◌then◌else◌}
+use Rattle.std.specs.Prelude.{ℕ, ◌+◌, ◌==◌, Bool, false, List, [], ◌∷◌, ◌++◌, map, if◌then◌else◌}
 use Rattle.signal_model.specs.Standing.{changed, is_in, without}
 use Rattle.effect_model.specs.Worlds.{Watcher, watcher_numbers}
 

@@ -5,6 +5,8 @@ mod errors;
 mod limits;
 mod reach;
 mod telling;
+#[cfg(test)]
+mod tests;
 mod watcher;
 mod watchers;
 

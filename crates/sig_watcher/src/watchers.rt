@@ -1,5 +1,5 @@
 // All watchers.
-ghost use Rattle.std.specs.Prelude.{◌≡◌, ℕ, ◌+◌, ◌++◌, vec_len, vec_capacity, ◌<◌, ◌≤◌, ◌^◌, ◌↔◌, ◌⊎◌, ◌&&◌, not, length, map, true, false, IfOk, IfErr, IfSome, IfNone, IsErrOf, OnOk, OnErr};
+ghost use Rattle.std.specs.Prelude.{◌≡◌, ◌==◌, ℕ, ◌+◌, ◌++◌, vec_len, vec_capacity, ◌<◌, ◌≤◌, ◌^◌, ◌↔◌, ◌⊎◌, ◌&&◌, not, length, map, true, false, IfOk, IfErr, IfSome, IfNone, IsErrOf, OnOk, OnErr};
 ghost use Rattle.signal_model.specs.Kept.{OnlyComputedsKeep};
 ghost use Rattle.effect_model.specs.Acts.{forget, is_notified, notified_by, waiting_if};
 ghost use Rattle.effect_model.specs.Commands.{armed};
@@ -67,7 +67,7 @@ impl Watchers {
         ensures fault { IfErr result (λ e. (e ≡ fault.Limit) ⊎ (e ≡ fault.NoMemory)) }
         ensures err { OnErr result (self.new ≡ self.old) }
     {
-        if self.watchers.len() == MOST_WATCHERS {
+        if is_full(&self.watchers) {
             return Err(WatchFault::Limit);
         }
         let id = WatcherId::of(self.made);
@@ -159,6 +159,13 @@ impl Watchers {
     {
         forget_all(&mut self.watchers, id);
     }
+}
+
+// Whether as many live as there may be.
+fn is_full(watchers: &[Watcher]) -> bool
+    ensures { result ≡ (length watchers.now == MOST_WATCHERS) }
+{
+    watchers.len() == MOST_WATCHERS
 }
 
 // Where the watcher of an id stands.

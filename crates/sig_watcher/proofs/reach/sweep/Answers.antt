@@ -1,4 +1,4 @@
-use Rattle.std.proofs.Common.{ℕ, ◌<◌, subst, arith}
+use Rattle.std.proofs.Common.{subst, arith}
 use Rattle.sig_watcher.specs.Reach.{seat_at, IsSettledAt}
 use Rattle.sig_watcher.proofs.Reaching.{seat_twice}
 use Rattle.sig_watcher.proofs.reach.sweep.Goals as goal

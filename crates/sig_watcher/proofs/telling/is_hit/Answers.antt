@@ -1,4 +1,4 @@
-use Rattle.std.proofs.Common.{◌&&◌, Bool, sym, ap, ◌∙◌, subst, List, ℕ}
+use Rattle.std.proofs.Common.{◌&&◌, sym, ap, ◌∙◌}
 use Rattle.effect_model.specs.Acts.{is_notified, is_reached, some_name}
 use Rattle.sig_watcher.proofs.Notices.{flagged_is, passes_here}
 use Rattle.sig_watcher.proofs.telling.is_hit.Goals as goal

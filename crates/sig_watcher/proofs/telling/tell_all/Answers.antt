@@ -1,5 +1,4 @@
-use Rattle.std.proofs.Common.{◌≡◌, ◌+◌, ◌<◌, ◌≤◌, ℕ, List, length, sym, ap, ◌∙◌, subst, arith, rules}
-use Rattle.std.specs.Prelude.{vec_len, vec_capacity}
+use Rattle.std.proofs.Common.{◌<◌, List, length, sym, ap, ◌∙◌, subst, arith, rules}
 use Rattle.effect_model.specs.Worlds.{Watcher}
 use Rattle.effect_model.specs.Acts.{is_notified, waiting_if}
 use Rattle.sig_watcher.specs.Numbers.{AreNumbered}

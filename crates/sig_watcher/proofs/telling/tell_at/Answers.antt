@@ -1,7 +1,7 @@
 use Rattle.std.proofs.Common.{◌++◌, [], List, sym, ap, ◌∙◌, append-nil}
 use Rattle.std.proofs.Common.{◌∷◌}
 use Rattle.sig_watcher.specs.declared.telling.Told.{Told}
-use Rattle.sig_watcher.specs.Telling.{told_at, told_of, waiting_after}
+use Rattle.sig_watcher.specs.Telling.{waiting_after}
 use Rattle.sig_watcher.proofs.Notices.{stays, told_here, told_none}
 use Rattle.sig_watcher.proofs.Places.{written}
 use Rattle.sig_watcher.proofs.telling.tell_at.Goals as goal

@@ -1,4 +1,4 @@
-use Rattle.std.proofs.Common.{◌<◌, length, ◌∙◌, subst, rules}
+use Rattle.std.proofs.Common.{◌<◌, length, ◌∙◌, rules}
 use Rattle.effect_model.specs.Acts.{forget}
 use Rattle.sig_watcher.proofs.Places.{map_step}
 use Rattle.sig_watcher.proofs.watchers.forget_all.Goals as goal

@@ -1,4 +1,4 @@
-use Rattle.std.proofs.Common.{sym, ap, ◌∙◌}
+use Rattle.std.proofs.Common.{ap, ◌∙◌}
 use Rattle.sig_watcher.specs.Telling.{pending_of}
 use Rattle.sig_watcher.proofs.Places.{first_signals}
 use Rattle.sig_watcher.proofs.watchers.pending_at.Goals as goal

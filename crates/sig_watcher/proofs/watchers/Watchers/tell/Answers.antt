@@ -1,8 +1,6 @@
-use Rattle.std.proofs.Common.{◌++◌, ◌≡◌, ◌∙◌, List, false, map, refl, sym, ap, append-nil}
+use Rattle.std.proofs.Common.{◌++◌, ◌∙◌, List, map, sym, ap, append-nil}
 use Rattle.std.specs.List.{list_any}
 use Rattle.effect_model.specs.Worlds.{Watcher}
-use Rattle.effect_model.specs.Acts.{is_notified, waiting_if}
-use Rattle.sig_watcher.specs.declared.telling.Told.{Told}
 use Rattle.sig_watcher.specs.Tables.{Table}
 use Rattle.sig_watcher.specs.Telling.{told_of}
 use Rattle.sig_watcher.proofs.Notices.{quiet_none, quiet_stay}

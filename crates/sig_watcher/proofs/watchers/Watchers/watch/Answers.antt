@@ -1,8 +1,8 @@
-use Rattle.std.proofs.Common.{◌<◌, ◌+◌, ◌++◌, ◌≡◌, ℕ, true, false, List, length, take, drop, sym, ap, ◌∙◌, subst, arith, rules, true≢false, refl}
+use Rattle.std.proofs.Common.{◌≡◌, List, length, sym, ap, ◌∙◌, subst, arith, true≢false, refl}
 use Rattle.effect_model.specs.Worlds.{Watcher}
-use Rattle.sig_watcher.specs.Numbers.{AreNumbered, IsFirst, Rises}
+use Rattle.sig_watcher.specs.Numbers.{IsFirst, Rises}
 use Rattle.sig_watcher.specs.Tables.{Table, is_alive, with_changed}
-use Rattle.sig_watcher.proofs.Places.{changed_first, first_alive, first_below, removed_first, rises_changed, rises_removed, length_changed}
+use Rattle.sig_watcher.proofs.Places.{changed_first, first_alive, first_below, rises_changed, length_changed}
 use Rattle.sig_watcher.proofs.watchers.Watchers.watch.Goals as goal
 use Rattle.effect_model.specs.Commands.{armed}
 use Rattle.sig_watcher.specs.declared.errors.WatchFault.TheVariants as fault
