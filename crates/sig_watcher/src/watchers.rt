@@ -4,7 +4,7 @@ ghost use Rattle.signal_model.specs.Kept.{OnlyComputedsKeep};
 ghost use Rattle.effect_model.specs.Acts.{forget, is_notified, notified_by, waiting_if};
 ghost use Rattle.effect_model.specs.Commands.{armed};
 ghost use Rattle.sig_watcher.specs.declared.errors.WatchFault.TheVariants as fault;
-ghost use Rattle.sig_watcher.specs.Numbers.{changed_at, IsFirst};
+ghost use Rattle.sig_watcher.specs.Numbers.{changed_at, AreNumbered, IsFirst};
 ghost use Rattle.sig_watcher.specs.Tables.{is_alive, no_watchers, signals_at, watches, with_changed, with_each, with_new, with_removal};
 ghost use Rattle.sig_watcher.specs.Telling.{pending_of, told_of};
 
@@ -49,10 +49,10 @@ impl Watchers {
         })
     }
 
-    /// How many watchers live.
+    /// How many watchers live. Their numbers are below the count of those that were made, and rise in the order of making.
     pub fn live(&self) -> usize
         ensures count { result ≡ length self.now.watchers }
-        ensures most { result ≤ MOST_WATCHERS }
+        ensures numbered { AreNumbered self.now.watchers self.now.made }
     {
         self.watchers.len()
     }
