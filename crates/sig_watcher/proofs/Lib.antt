@@ -2,3 +2,4 @@ pub mod Lists
 pub mod Notices
 pub mod Places
 pub mod Reaching
+pub mod Shared

@@ -7,13 +7,13 @@ use Rattle.signal_model.specs.Memos.{Memos}
 use Rattle.signal_model.specs.Kept.{OnlyComputedsKeep}
 use Rattle.signal_laws.proofs.Shared.{or_fst, or_snd}
 use Rattle.sig_nodes.specs.States.{Seen}
-use Rattle.effect_model.specs.Worlds.{Watcher}
-use Rattle.effect_model.specs.Acts.{is_notified, is_reached, notified_by, some_name, waiting_if}
+use Rattle.effect_model.specs.Worlds.{Watcher, watcher_numbers}
+use Rattle.effect_model.specs.Acts.{frozen_by, is_notified, is_reached, notified_by, some_name, waiting_if}
 use Rattle.sig_watcher.specs.declared.telling.Told.{Told}
 use Rattle.sig_watcher.specs.Numbers.{changed_at, AreNumbered}
 use Rattle.sig_watcher.specs.Reach.{AreReaching, NoneFlagged, SomeFlagged}
 use Rattle.sig_watcher.specs.Tables.{waiting}
-use Rattle.sig_watcher.specs.Telling.{passes_at, told_at, told_of, waiting_after}
+use Rattle.sig_watcher.specs.Telling.{passes_at, told_at, told_entry, waiting_after}
 use Rattle.sig_watcher.proofs.Places.{length_changed, map_step, rises_changed}
 use Rattle.sig_watcher.proofs.Reaching.{none_reached, some_reached}
 
@@ -26,15 +26,15 @@ passes_here test zero (y ∷ ys) x l is = ap test (sym is)
 passes_here test (suc p) (y ∷ ys) x l is = let k : p < length ys = omega (arith, l) in passes_here test p ys x k is
 
 -- what is told of it
-pub told_here : (hit : Bool) (p : ℕ) (xs : List Watcher) (x : Watcher) → hit ≡ true → p < length xs → x ≡ slice_index_or xs p x → told_at hit p xs ≡ told_of x ∷ []
+pub told_here : (hit : Bool) (p : ℕ) (xs : List Watcher) (x : Watcher) → hit ≡ true → p < length xs → x ≡ slice_index_or xs p x → told_at hit p xs ≡ told_entry x ∷ []
 told_here hit p [] x on l is = absurd (omega (arith, l))
-told_here hit zero (y ∷ ys) x on l is = ap (λ b. cond b (told_of y ∷ []) []) on ∙ ap (λ z. told_of z ∷ []) (sym is)
+told_here hit zero (y ∷ ys) x on l is = ap (λ b. cond b (told_entry y ∷ []) []) on ∙ ap (λ z. told_entry z ∷ []) (sym is)
 told_here hit (suc p) (y ∷ ys) x on l is = let k : p < length ys = omega (arith, l) in told_here hit p ys x on k is
 
 -- nothing is told of one that isn't notified
 pub told_none : (hit : Bool) (p : ℕ) (xs : List Watcher) → hit ≡ false → told_at hit p xs ≡ []
 told_none hit p [] off = refl
-told_none hit zero (y ∷ ys) off = ap (λ b. cond b (told_of y ∷ []) []) off
+told_none hit zero (y ∷ ys) off = ap (λ b. cond b (told_entry y ∷ []) []) off
 told_none hit (suc p) (y ∷ ys) off = told_none hit p ys off
 
 -- and it stays
@@ -95,11 +95,11 @@ waiting_step test all xs p hit l is b = waits test hit p xs b ∙ map_step (wait
 
 -- who passes is told of
 told_more : (test : Watcher → Bool) (p : ℕ) (all : List Watcher) → p < length all →
-    map told_of (filter test (take p all)) ++ told_at (passes_at test p all) p all ≡ map told_of (filter test (take (p + 1) all))
+    map told_entry (filter test (take p all)) ++ told_at (passes_at test p all) p all ≡ map told_entry (filter test (take (p + 1) all))
 told_more test p [] l = absurd (omega (arith, l))
 told_more test zero (x ∷ xs) l = go (test x)
   where
-    go : (b : Bool) → cond b (told_of x ∷ []) [] ≡ map told_of (cond b (x ∷ []) [])
+    go : (b : Bool) → cond b (told_entry x ∷ []) [] ≡ map told_entry (cond b (x ∷ []) [])
     go true = refl
     go false = refl
 told_more test (suc p) (x ∷ xs) l =
@@ -107,19 +107,19 @@ told_more test (suc p) (x ∷ xs) l =
     let s : suc p + 1 ≡ suc (p + 1) = omega arith in
     rw s (go (test x) (told_more test p xs k))
   where
-    go : (b : Bool) → map told_of (filter test (take p xs)) ++ told_at (passes_at test p xs) p xs ≡ map told_of (filter test (take (p + 1) xs)) →
-        map told_of (cond b (x ∷ filter test (take p xs)) (filter test (take p xs))) ++ told_at (passes_at test p xs) p xs
-        ≡ map told_of (cond b (x ∷ filter test (take (p + 1) xs)) (filter test (take (p + 1) xs)))
-    go true ih = ap (λ ts. told_of x ∷ ts) ih
+    go : (b : Bool) → map told_entry (filter test (take p xs)) ++ told_at (passes_at test p xs) p xs ≡ map told_entry (filter test (take (p + 1) xs)) →
+        map told_entry (cond b (x ∷ filter test (take p xs)) (filter test (take p xs))) ++ told_at (passes_at test p xs) p xs
+        ≡ map told_entry (cond b (x ∷ filter test (take (p + 1) xs)) (filter test (take (p + 1) xs)))
+    go true ih = ap (λ ts. told_entry x ∷ ts) ih
     go false ih = ih
 
 pub told_step : (test : Watcher → Bool) (f : Watcher → Watcher) (all xs : List Watcher) (first old new : List Told) (p : ℕ) (hit : Bool) → p < length all →
-    xs ≡ map f (take p all) ++ drop p all → hit ≡ passes_at test p xs → old ≡ first ++ map told_of (filter test (take p all)) → new ≡ old ++ told_at hit p xs →
-    new ≡ first ++ map told_of (filter test (take (p + 1) all))
+    xs ≡ map f (take p all) ++ drop p all → hit ≡ passes_at test p xs → old ≡ first ++ map told_entry (filter test (take p all)) → new ≡ old ++ told_at hit p xs →
+    new ≡ first ++ map told_entry (filter test (take (p + 1) all))
 told_step test f all xs first old new p hit l is b so more =
     more ∙ ap (λ ts. ts ++ told_at hit p xs) so
-    ∙ ap (λ ts. (first ++ map told_of (filter test (take p all))) ++ ts) (told_same hit f all xs p is ∙ ap (λ c. told_at c p all) (b ∙ passes_same test f all xs p is))
-    ∙ append_assoc first (map told_of (filter test (take p all))) (told_at (passes_at test p all) p all)
+    ∙ ap (λ ts. (first ++ map told_entry (filter test (take p all))) ++ ts) (told_same hit f all xs p is ∙ ap (λ c. told_at c p all) (b ∙ passes_same test f all xs p is))
+    ∙ append_assoc first (map told_entry (filter test (take p all))) (told_at (passes_at test p all) p all)
     ∙ ap (λ ts. first ++ ts) (told_more test p all l)
 
 -- ---- where nobody is watching
@@ -137,3 +137,21 @@ quiet_stay w k n [] off = refl
 quiet_stay w k n (x ∷ xs) off =
     ap (λ b. cond (b && some_name (is_reached w k n) x.signals) (waiting x) x ∷ map (waiting_if (is_notified w k n)) xs) (or_fst x.watching (list_any (λ (y : Watcher). y.watching) xs) off)
     ∙ ap (λ ys. x ∷ ys) (quiet_stay w k n xs (or_snd x.watching (list_any (λ (y : Watcher). y.watching) xs) off))
+
+-- ---- what the entries say
+
+-- they name the watchers that are told of
+pub entries_told : (xs : List Watcher) → map (λ (t : Told). t.watcher) (map told_entry xs) ≡ watcher_numbers xs
+entries_told [] = refl
+entries_told (x ∷ xs) = ap (λ ns. x.number ∷ ns) (entries_told xs)
+
+-- and those of refused tries name the frozen ones
+pub entries_frozen : (xs : List Watcher) → map (λ (t : Told). t.watcher) (filter (λ (t : Told). t.refused) (map told_entry xs)) ≡ frozen_by xs
+entries_frozen [] = refl
+entries_frozen (x ∷ xs) = go x.tries (entries_frozen xs)
+  where
+    go : (b : Bool) → map (λ (t : Told). t.watcher) (filter (λ (t : Told). t.refused) (map told_entry xs)) ≡ frozen_by xs →
+        map (λ (t : Told). t.watcher) (cond b (told_entry x ∷ filter (λ (t : Told). t.refused) (map told_entry xs)) (filter (λ (t : Told). t.refused) (map told_entry xs)))
+        ≡ map (λ (y : Watcher). y.number) (cond b (x ∷ filter (λ (y : Watcher). y.tries) xs) (filter (λ (y : Watcher). y.tries) xs))
+    go true ih = ap (λ ns. x.number ∷ ns) ih
+    go false ih = ih

@@ -6,7 +6,7 @@ ghost use Rattle.effect_model.specs.Acts.{is_notified, notified_by, waiting_if};
 ghost use Rattle.sig_nodes.specs.Answers.{mark_meant};
 ghost use Rattle.sig_watcher.specs.Numbers.{changed_at, AreNumbered};
 ghost use Rattle.sig_watcher.specs.Reach.{AreReaching};
-ghost use Rattle.sig_watcher.specs.Telling.{is_clean, is_pending, passes_at, pending_of, told_at, told_of, waiting_after};
+ghost use Rattle.sig_watcher.specs.Telling.{is_clean, is_pending, passes_at, pending_of, told_at, told_entry, waiting_after};
 
 use crate::reach::{is_some_flagged, reach};
 use crate::watcher::Watcher;
@@ -47,7 +47,7 @@ fn tell_at(hit: bool, watchers: &mut Vec<Watcher>, place: usize, told: &mut Vec<
     if !hit {
         return;
     }
-    let one = told_of(&watchers[place]);
+    let one = told_entry(&watchers[place]);
     match told.push(one) {
         Ok(_) => {}
         Err(_) => unreachable!(),
@@ -55,8 +55,8 @@ fn tell_at(hit: bool, watchers: &mut Vec<Watcher>, place: usize, told: &mut Vec<
     watchers[place].wait();
 }
 
-fn told_of(watcher: &Watcher) -> Told
-    ensures { result ≡ told_of watcher.now }
+fn told_entry(watcher: &Watcher) -> Told
+    ensures { result ≡ told_entry watcher.now }
 {
     Told {
         watcher: watcher.id(),
@@ -68,7 +68,7 @@ fn told_of(watcher: &Watcher) -> Told
 pub(crate) fn tell_all(watchers: &mut Vec<Watcher>, graph: &Graph, id: NodeId, told: &mut Vec<Told>)
     requires room { vec_len told.old + length watchers.old.items ≤ vec_capacity told.old }
     ensures told { OnlyComputedsKeep graph.now.state.signals graph.now.state.memos →
-        told.new.items ≡ told.old.items ++ map told_of (notified_by graph.now.state.signals graph.now.state.memos id watchers.old.items) }
+        told.new.items ≡ told.old.items ++ map told_entry (notified_by graph.now.state.signals graph.now.state.memos id watchers.old.items) }
     ensures watchers { OnlyComputedsKeep graph.now.state.signals graph.now.state.memos →
         watchers.new.items ≡ map (waiting_if (is_notified graph.now.state.signals graph.now.state.memos id)) watchers.old.items }
     ensures numbered { (made : ℕ) → AreNumbered watchers.old.items made → AreNumbered watchers.new.items made }

@@ -6,7 +6,7 @@ ghost use Rattle.effect_model.specs.Commands.{armed};
 ghost use Rattle.sig_watcher.specs.declared.errors.WatchFault.TheVariants as fault;
 ghost use Rattle.sig_watcher.specs.Numbers.{changed_at, AreNumbered, IsFirst};
 ghost use Rattle.sig_watcher.specs.Tables.{is_alive, no_watchers, signals_at, watches, with_changed, with_each, with_new, with_removal};
-ghost use Rattle.sig_watcher.specs.Telling.{pending_of, told_of};
+ghost use Rattle.sig_watcher.specs.Telling.{pending_of, told_entry};
 
 use crate::errors::WatchFault;
 use crate::limits::MOST_WATCHERS;
@@ -143,7 +143,7 @@ impl Watchers {
     pub fn tell(&mut self, graph: &Graph, id: NodeId, told: &mut Vec<Told>)
         requires room { vec_len told.old + length self.old.watchers ≤ vec_capacity told.old }
         ensures told { OnlyComputedsKeep graph.now.state.signals graph.now.state.memos →
-            told.new.items ≡ told.old.items ++ map told_of (notified_by graph.now.state.signals graph.now.state.memos id self.old.watchers) }
+            told.new.items ≡ told.old.items ++ map told_entry (notified_by graph.now.state.signals graph.now.state.memos id self.old.watchers) }
         ensures after { OnlyComputedsKeep graph.now.state.signals graph.now.state.memos →
             self.new ≡ with_each (waiting_if (is_notified graph.now.state.signals graph.now.state.memos id)) self.old }
     {

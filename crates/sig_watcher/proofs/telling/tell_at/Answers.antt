@@ -20,4 +20,4 @@ returns-clause-watchers c =
 pub returns-clause-told : goal.returns-clause-told
 returns-clause-told c =
     let here = told_here c.args.hit c.args.place c.args.watchers.now.items c.index.result.now c.if-not-hit.false c.requires.place c.index.ensures in
-    c.in-Ok.ensures.items ∙ ap (λ (t : Told). c.args.told.now.items ++ t ∷ []) c.told_of-one.ensures ∙ ap (λ (ts : List Told). c.args.told.now.items ++ ts) (sym here)
+    c.in-Ok.ensures.items ∙ ap (λ (t : Told). c.args.told.now.items ++ t ∷ []) c.told_entry-one.ensures ∙ ap (λ (ts : List Told). c.args.told.now.items ++ ts) (sym here)
