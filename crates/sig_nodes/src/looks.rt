@@ -3,7 +3,7 @@ ghost use Rattle.std.specs.Prelude.{ℕ, ◌≡◌, ◌<◌, true, false, Some, 
 ghost use Rattle.std.specs.Option.{option_copied};
 ghost use Rattle.signal_model.specs.Standing.{is_computed, is_there, standing};
 ghost use Rattle.signal_model.specs.Memos.{memo_of, source_names, sources_of};
-ghost use Rattle.signal_model.specs.Kept.{AreGiven};
+ghost use Rattle.signal_model.specs.Kept.{AreGiven, OnlyComputedsKeep};
 ghost use Rattle.signal_model.specs.Sound.{kept_outcome};
 ghost use Rattle.signal_model.specs.Marks.{mark_of};
 ghost use Rattle.signal_model.specs.Changes.{live_count};
@@ -25,10 +25,11 @@ impl Graph {
         MOST_NODES - self.seats.free()
     }
 
-    /// How many signals were made so far, gone ones too. Each id that is in use is one of theirs.
+    /// How many signals were made so far, gone ones too. Each id that is in use is one of theirs, and only computeds keep a run.
     pub fn made(&self) -> u128
         ensures count { result ≡ self.now.given }
         ensures used { AreGiven (is_given self.now) self.now.state.signals self.now.state.memos }
+        ensures keepers { OnlyComputedsKeep self.now.state.signals self.now.state.memos }
     {
         self.nodes.len() as u128
     }

@@ -1,10 +1,16 @@
 use Rattle.std.proofs.Common.{subst}
-use Rattle.signal_model.specs.Kept.{AreGiven}
+use Rattle.signal_model.specs.Kept.{AreGiven, OnlyComputedsKeep}
 use Rattle.sig_nodes.specs.States.{Seen, is_given}
 use Rattle.sig_nodes.proofs.Holding.{used_here}
+use Rattle.sig_nodes.proofs.Searching.{only_keep}
 use Rattle.sig_nodes.proofs.graph.Graph.made.Goals as goal
 
 pub returns-clause-used : goal.returns-clause-used
 returns-clause-used c =
     subst (λ (g : Seen). AreGiven (is_given g) g.state.signals g.state.memos) c.self.view_is
     (used_here c.self.inside.nodes.items c.self.inside.seats c.self.inside.generation c.self.inside.looked c.self.inside.worn c.self.invariant)
+
+pub returns-clause-keepers : goal.returns-clause-keepers
+returns-clause-keepers c =
+    subst (λ (g : Seen). OnlyComputedsKeep g.state.signals g.state.memos) c.self.view_is
+    (only_keep c.self.inside.nodes.items c.self.inside.generation)
