@@ -1,6 +1,5 @@
 // All watchers.
 ghost use Rattle.std.specs.Prelude.{◌≡◌, ◌==◌, ℕ, ◌+◌, ◌++◌, vec_len, vec_capacity, ◌<◌, ◌≤◌, ◌^◌, ◌↔◌, ◌⊎◌, ◌&&◌, not, length, map, true, false, IfOk, IfErr, IfSome, IfNone, IsErrOf, OnOk, OnErr};
-ghost use Rattle.signal_model.specs.Kept.{OnlyComputedsKeep};
 ghost use Rattle.effect_model.specs.Acts.{forget, is_notified, notified_by, waiting_if};
 ghost use Rattle.effect_model.specs.Commands.{armed};
 ghost use Rattle.sig_watcher.specs.declared.errors.WatchFault.TheVariants as fault;
@@ -142,14 +141,13 @@ impl Watchers {
     /// that live, and are waiting afterwards. It takes no memory.
     pub fn tell(&mut self, graph: &Graph, id: NodeId, told: &mut Vec<Told>)
         requires room { vec_len told.old + length self.old.watchers ≤ vec_capacity told.old }
-        ensures told { OnlyComputedsKeep graph.now.state.signals graph.now.state.memos →
-            told.new.items ≡ told.old.items ++ map told_entry (notified_by graph.now.state.signals graph.now.state.memos id self.old.watchers) }
-        ensures after { OnlyComputedsKeep graph.now.state.signals graph.now.state.memos →
-            self.new ≡ with_each (waiting_if (is_notified graph.now.state.signals graph.now.state.memos id)) self.old }
+        ensures told { told.new.items ≡ told.old.items ++ map told_entry (notified_by graph.now.state.signals graph.now.state.memos id self.old.watchers) }
+        ensures after { self.new ≡ with_each (waiting_if (is_notified graph.now.state.signals graph.now.state.memos id)) self.old }
     {
         if !is_some_watching(&self.watchers) {
             return;
         }
+        let _made = graph.made();
         tell_all(&mut self.watchers, graph, id, told);
     }
 
