@@ -1,0 +1,81 @@
+-- What stands under a name stays of the name's kind.
+use Rattle.std.proofs.Common.{◌≡◌, ◌==◌, ℕ, Bool, true, false, cond, Option, Some, None, refl, ap, ◌∙◌}
+use Rattle.std.specs.Option.{option_or}
+use Rattle.std.proofs.lemmas.Bool.{eqb-true, eq-eqb}
+use Rattle.signal_model.specs.Standing.{Signals, Cell, Computed, Stands, IsGone, IsCell, IsComputed, or_computed, is_there, cell_at, computed_at, standing}
+use Rattle.signal_model.specs.Changes.{with_cell, with_computed, without_signal}
+use Rattle.signal_laws.proofs.Shared.{SameKind, cell_append, cell_more, cell_out, cell_left, computed_more, computed_out, computed_left}
+use Rattle.live_model.specs.declared.names.Kind.{Kind}
+use Rattle.live_model.specs.declared.names.Kind.TheVariants as kind
+use Rattle.live_core.specs.Keeping.{is_of_kind}
+
+-- what is gone is of any kind
+pub gone_kind : (k : Kind) → is_of_kind k IsGone ≡ true
+gone_kind kind.Cell = refl
+gone_kind kind.Computed = refl
+gone_kind kind.Template = refl
+gone_kind kind.Page = refl
+
+-- what stands in its place and is of the same kind is of the name's
+pub same_kind_of : (k : Kind) (a b : Stands) → SameKind a b → is_of_kind k a ≡ true → is_of_kind k b ≡ true
+same_kind_of k IsGone IsGone s h = h
+same_kind_of k (IsCell c) (IsCell d) s h = go k h
+  where
+    go : (j : Kind) → is_of_kind j (IsCell c) ≡ true → is_of_kind j (IsCell d) ≡ true
+    go kind.Cell e = refl
+    go kind.Computed e = cc
+    go kind.Template e = refl
+    go kind.Page e = refl
+same_kind_of k (IsComputed c) (IsComputed d) s h = go k h
+  where
+    go : (j : Kind) → is_of_kind j (IsComputed c) ≡ true → is_of_kind j (IsComputed d) ≡ true
+    go kind.Cell e = cc
+    go kind.Computed e = refl
+    go kind.Template e = refl
+    go kind.Page e = refl
+same_kind_of k IsGone (IsCell d) s h = let e : false ≡ true = s.there in cc
+same_kind_of k IsGone (IsComputed d) s h = let e : false ≡ true = s.there in cc
+same_kind_of k (IsCell c) IsGone s h = let e : true ≡ false = s.there in cc
+same_kind_of k (IsComputed c) IsGone s h = let e : true ≡ false = s.there in cc
+same_kind_of k (IsCell c) (IsComputed d) s h = let e : false ≡ true = s.computed in cc
+same_kind_of k (IsComputed c) (IsCell d) s h = let e : true ≡ false = s.computed in cc
+
+-- another signal is as before a making
+pub cell_beside : (w : Signals) (c : Cell) (m : ℕ) → (m == c.name) ≡ false → standing (with_cell w c) m ≡ standing w m
+cell_beside w c m off = ap (λ x. or_computed x (computed_at m w.computeds)) (cell_more m w.cells c off)
+
+pub computed_beside : (w : Signals) (c : Computed) (m : ℕ) → (m == c.name) ≡ false → standing (with_computed w c) m ≡ standing w m
+computed_beside w c m off = ap (λ x. or_computed (cell_at m w.cells) x) (computed_more m w.computeds c off)
+
+-- a cell is one
+pub cell_kind : (w : Signals) (c : Cell) → is_of_kind kind.Cell (standing (with_cell w c) c.name) ≡ true
+cell_kind w c =
+    ap (λ x. is_of_kind kind.Cell (or_computed x (computed_at c.name w.computeds)))
+    (cell_append c.name w.cells c ∙ ap (λ (b : Bool). option_or (cell_at c.name w.cells) (cond b (Some c) None)) (eq-eqb c.name c.name refl))
+    ∙ some (cell_at c.name w.cells)
+  where
+    some : (x : Option Cell) → is_of_kind kind.Cell (or_computed (option_or x (Some c)) (computed_at c.name w.computeds)) ≡ true
+    some None = refl
+    some (Some d) = refl
+
+-- a computed is one, under a name that nothing has
+pub computed_kind : (w : Signals) (c : Computed) → is_there (standing w c.name) ≡ false → is_of_kind kind.Computed (standing (with_computed w c) c.name) ≡ true
+computed_kind w c off = none (cell_at c.name w.cells) (computed_at c.name w.computeds) off (computed_at c.name (with_computed w c).computeds)
+  where
+    none : (x : Option Cell) (y : Option Computed) → is_there (or_computed x y) ≡ false → (z : Option Computed) → is_of_kind kind.Computed (or_computed x z) ≡ true
+    none (Some d) y e z = cc
+    none None y e None = refl
+    none None y e (Some d) = refl
+
+-- what is disposed is gone, and another signal is as before
+pub disposed_kind : (k : Kind) (w : Signals) (n m : ℕ) → is_of_kind k (standing w m) ≡ true → is_of_kind k (standing (without_signal w n) m) ≡ true
+disposed_kind k w n m h = at (m == n) refl
+  where
+    at : (b : Bool) → (m == n) ≡ b → is_of_kind k (standing (without_signal w n) m) ≡ true
+    at true e =
+        let same : m ≡ n = eqb-true m n e in
+        let gone : standing (without_signal w n) n ≡ IsGone = (λ i. or_computed (cell_out n w.cells i) (computed_out n w.computeds i)) in
+        rw same (rw gone (gone_kind k))
+    at false e =
+        let left : standing (without_signal w n) m ≡ standing w m = (λ i. or_computed (cell_left m n w.cells e i) (computed_left m n w.computeds e i)) in
+        rw left h

@@ -1,0 +1,4 @@
+pub mod Keeping
+pub mod Notes
+pub mod Updating
+pub mod Views

@@ -1,0 +1,47 @@
+// Formulas whose slots stand for the signals of their names.
+ghost use Rattle.std.specs.Prelude.{◌≡◌, IfOk, map};
+ghost use Rattle.live_model.specs.Machine.{linked};
+ghost use Rattle.live_model.specs.Names.{number_of};
+
+use crate::names::Names;
+use formula_text::Wired;
+use live_cmd::Formulas;
+use live_model::Texts;
+use sig_base::{Name, NoMemory, NodeId};
+use signal_model::Linked;
+use std::alloc::Global;
+
+impl Names {
+    // The signals of these names.
+    fn signals_of(&self, alloc: Global, used: &[Name]) -> Result<Vec<NodeId>, NoMemory>
+        ensures { IfOk result (λ s. s.items ≡ map (number_of self.now) used.now) }
+    {
+        let mut signals = Vec::new(alloc);
+        for name in used {
+            signals.push(NodeId::of(self.number_of(name)))?;
+        }
+        Ok(signals)
+    }
+
+    /// A formula whose slots stand for the signals of its names.
+    pub(crate) fn linked(&self, alloc: Global, wired: Wired) -> Result<Linked, NoMemory>
+        ensures { IfOk result (λ l. l ≡ linked self.now wired) }
+    {
+        let slots = self.signals_of(alloc, &wired.names)?;
+        Ok(Linked {
+            formula: wired.formula,
+            slots,
+        })
+    }
+
+    /// The formulas of a template's texts.
+    pub(crate) fn linked_texts(&self, alloc: Global, texts: Formulas) -> Result<Texts, NoMemory>
+        ensures { IfOk result (λ t. t ≡ map (linked self.now) texts) }
+    {
+        let mut formulas = Vec::new(alloc);
+        for wired in texts.into_vec() {
+            formulas.push(self.linked(alloc, wired)?)?;
+        }
+        Ok(Texts::of(formulas))
+    }
+}
