@@ -1,4 +1,4 @@
-//! Runs a script from standard input and prints its pages on standard output.
+//! Runs a script from standard input and prints what it tells on standard output.
 #![tactic(auto)]
 
 use live_run::{Status, run_live};
@@ -33,7 +33,7 @@ fn run(rt: &(impl Env + Input + Print + AllocGlobal)) -> Status {
 fn main(rt: HostRuntime) -> ExitCode {
     let status = run(&rt);
     if status == Status::Usage {
-        let _ = eprintln!(rt; "usage: live run");
+        let _ = eprintln!(rt; "usage: live run [--trace]");
     }
     ExitCode::from(status as u8)
 }

@@ -4,7 +4,11 @@
 #[cfg(test)]
 mod faults;
 #[cfg(test)]
+mod graph;
+#[cfg(test)]
 mod limits;
+#[cfg(test)]
+mod reading;
 #[cfg(test)]
 mod rows;
 #[cfg(test)]

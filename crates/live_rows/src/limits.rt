@@ -180,11 +180,11 @@ fn bounds_what_is_made(rt: HostRuntime) -> Result<(), Fail> {
     for (script, output) in [
         (
             format!(in alloc;
-                "{cells}computed x = c0 + c510\nget x\ncell y = 1\ncomputed y = zz\ncomputed y = 1\ncell x = 1\nget y"
+                "{cells}computed x = c0 + c510\nget x\ncell y = 1\ncomputed y = zz\ncomputed y = 1\ncell x = 1\nget y\ndispose c0\ncell y = 1\nget x\nget y"
             )?,
             String::from_str(
                 alloc,
-                "x = 2\nerror 5 nodes\nerror 2 zz\nerror 5 nodes\nerror 3 x\nerror 2 y\n",
+                "x = 2\nerror 5 nodes\nerror 2 zz\nerror 5 nodes\nerror 3 x\nerror 2 y\nx ! gone\ny = 1\n",
             )?,
         ),
         (

@@ -19,6 +19,19 @@ pub(crate) fn assert_prints(
     Ok(())
 }
 
+/// Runs a script with its trace, which is to print this.
+pub(crate) fn assert_traces(
+    rt: &impl Abort,
+    alloc: Global,
+    script: &str,
+    output: &str,
+) -> Result<(), Fail> {
+    let run = run_whole(alloc, "live run --trace", script)?;
+    assert_eq!(rt; run.status, Status::Done, "of {script}");
+    assert_eq!(rt; run.held.as_slice(), output.as_bytes(), "of {script}");
+    Ok(())
+}
+
 #[test]
 fn prints_pages(rt: HostRuntime) -> Result<(), Fail> {
     for (script, output) in [
@@ -128,7 +141,7 @@ fn prints_refusals(rt: HostRuntime) -> Result<(), Fail> {
         ("computed b = 1\nset b 2\nget b", "error 4 b\nb = 1\n"),
         // what this language doesn't have yet
         (
-            "computed x = host 0 (a)\ncomputed x = it.a\ncomputed x = count(a)\ncell e = 1 equals 0\ncell e = 1 in o\nstate e\neffect e\nlog 1\nend\nget e",
+            "computed x = host 0 (a)\ncomputed x = it.a\ncomputed x = count(a)\ncell e = 1 equals 0\ncell e = 1 in o\npending e\neffect e\nlog 1\nend\nget e",
             "error 1 1\nerror 1 2\nerror 1 3\nerror 1 4\nerror 1 5\nerror 1 6\nerror 1 7\nerror 2 e\n",
         ),
         (
@@ -145,7 +158,9 @@ fn prints_refusals(rt: HostRuntime) -> Result<(), Fail> {
 fn tells_its_usage(rt: HostRuntime) -> Result<(), Fail> {
     for line in [
         "live run --x",
-        "live run --trace",
+        "live run --trace --trace",
+        "live --trace run",
+        "live run trace",
         "live runs",
         "live run run",
         "live --help",

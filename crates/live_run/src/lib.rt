@@ -2,11 +2,8 @@
 #![tactic(auto)]
 
 mod jobs;
-mod machine;
 mod reading;
 mod running;
-#[cfg(test)]
-mod tests;
 
 pub use jobs::read_job;
 pub use reading::{ReadEnd, read_all};

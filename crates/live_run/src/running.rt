@@ -6,15 +6,16 @@ ghost use Rattle.sig_io.specs.Counts.{AppendsFront, HasCause, Rose};
 ghost use Rattle.live_cmd.specs.declared.command.Item as item;
 ghost use Rattle.live_cmd.specs.Items.{ItemsFrom};
 ghost use Rattle.live_cmd.specs.Printed.{printed};
+ghost use Rattle.signal_model.specs.Recipes.{no_hosts};
 ghost use Rattle.live_model.specs.Jobs.{job_of};
 ghost use Rattle.live_model.specs.Machine.{empty};
 ghost use Rattle.live_model.specs.Output.{is_traced_job, output_from, output_of};
 ghost use Rattle.live_run.specs.Running.{GaveTooMuch};
 ghost use Rattle.live_run.specs.declared.running.RunEnd.TheVariants as run_end;
 
-use crate::machine::Machine;
 use crate::{ReadEnd, read_all, read_job};
 use live_cmd::{Entry, entry_line, next_item};
+use live_core::Live;
 use live_model::Job;
 use sig_base::{Failed, MOST_SCRIPT, NoMemory};
 use sig_io::{Sink, Source, put_all};
@@ -90,19 +91,19 @@ fn hand_on<K: Sink>(sink: &mut K, out: &mut Vec<u8>) -> Result<(), Failed>
 fn run_script<K: Sink>(alloc: Global, job: Job, script: &[u8], sink: &mut K) -> Result<(), RunEnd>
     requires { length script.now ≤ MOST_SCRIPT }
     ensures done { OnOk result ((items : List item.Item) × ItemsFrom 1 script.now items
-        × Appends (K.held sink.old) (K.held sink.new) (output_of job items)) }
+        × Appends (K.held sink.old) (K.held sink.new) (output_of no_hosts job items)) }
     ensures front { OnErr result ((items : List item.Item) × ItemsFrom 1 script.now items
-        × AppendsFront (K.held sink.old) (K.held sink.new) (output_of job items)) }
+        × AppendsFront (K.held sink.old) (K.held sink.new) (output_of no_hosts job items)) }
     ensures write { IsErrOf result RunEnd.Write → Rose (K.faults sink.old) (K.faults sink.new) }
     ensures later { K.faults sink.old ≤ K.faults sink.new }
 {
     let trace = is_traced(job);
-    let mut machine = Machine::new(alloc);
+    let mut live = Live::new(alloc)?;
     let mut out = Vec::new(alloc);
     let mut at = 0;
     let mut line: u32 = 1;
     while let Some((item, next, after)) = next_item(alloc, script, at, line)? {
-        let told = machine.act(item)?;
+        let told = live.do_command(item)?;
         put_entries(&mut out, &told, trace)?;
         hand_on(sink, &mut out)?;
         at = next;
@@ -118,6 +119,7 @@ fn is_traced(job: Job) -> bool
 {
     match job {
         Job::Run => false,
+        Job::Trace => true,
     }
 }
 
@@ -137,7 +139,7 @@ pub fn run_live<S: Source, K: Sink>(
 ) -> Status
     // What is printed is the output of the plain machine over the script's items.
     ensures output { result ≡ Status.Done → IfSome (job_of (map string_bytes words.now)) (λ job. IfSome (S.left source.old) (λ script.
-        (items : List item.Item) × ItemsFrom 1 script items × Appends (K.held sink.old) (K.held sink.new) (output_of job items))) }
+        (items : List item.Item) × ItemsFrom 1 script items × Appends (K.held sink.old) (K.held sink.new) (output_of no_hosts job items))) }
     ensures read { result ≡ Status.Done → IsAtEnd (S.left source.new) }
     ensures fits { result ≡ Status.Done → IfSome (S.left source.old) (λ script. length script ≤ MOST_SCRIPT) }
     ensures usage { (result ≡ Status.Usage) ↔ (job_of (map string_bytes words.now) ≡ None) }
@@ -150,7 +152,7 @@ pub fn run_live<S: Source, K: Sink>(
     // A front of the output was written where it ends early.
     ensures front { (result ≡ Status.WriteFault) ⊎ (result ≡ Status.NoMemory)
         → IfSome (job_of (map string_bytes words.now)) (λ job. IfSome (S.left source.old) (λ script.
-        (items : List item.Item) × ItemsFrom 1 script items × AppendsFront (K.held sink.old) (K.held sink.new) (output_of job items))) }
+        (items : List item.Item) × ItemsFrom 1 script items × AppendsFront (K.held sink.old) (K.held sink.new) (output_of no_hosts job items))) }
     // It gives up only for memory, where neither failed and not too much came.
     ensures complete { (job_of (map string_bytes words.now) ≡ None → ⊥)
         → (Rose (S.faults source.old) (S.faults source.new) → ⊥) → (Rose (K.faults sink.old) (K.faults sink.new) → ⊥)

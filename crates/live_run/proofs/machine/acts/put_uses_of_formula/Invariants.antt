@@ -1,8 +1,0 @@
-use Rattle.std.proofs.Common.{◌≡◌, ◌++◌, take, map}
-use Rattle.live_model.specs.declared.names.Need.TheVariants as need
-use Rattle.live_run.specs.Views.{use_of}
-use Rattle.live_run.proofs.machine.acts.put_uses_of_formula.Given as goal
-
--- the names so far
-abbrev pub invariant-loop-name : goal.invariant-loop-name
-invariant-loop-name l = map use_of l.uses.items ≡ map use_of l.fn.uses.items ++ map (λ n. (n, need.Signal)) (take l.name-index l.formula.1)
