@@ -9,14 +9,14 @@ ghost use Rattle.sig_rows.specs.Found.{IsFieldPlace, IsRowOf};
 use sig_base::{Name, NoMemory, Row, Scalar, Scalars, Text};
 use std::alloc::Global;
 
-// Whether a row has this key.
+/// Whether a row has this key.
 pub fn has_key(rows: &[Row], key: &Text) -> bool
     ensures { result ≡ list_any (has_key key.now) rows.now }
 {
     rows.iter().any(|row| row.key == *key)
 }
 
-// The row with this key.
+/// The row with this key.
 pub fn row_of<'a>(rows: &'a [Row], key: &Text) -> Option<&'a Row>
     requires { IsDistinct bytes_eq (keys_of rows.now) }
     ensures { MatchOption result (list_any (has_key key.now) rows.now ≡ false) (λ row. IsRowOf key.now rows.now row.now) }
@@ -36,7 +36,7 @@ fn first_place(fields: &[Name], name: &Name) -> Option<usize>
     fields.iter().position(|field| field == name)
 }
 
-// The place of the field of this name.
+/// The place of the field of this name.
 pub fn field_place(fields: &[Name], name: &Name) -> Option<usize>
     ensures { MatchOption result (list_any (λ f. bytes_eq f name.now) fields.now ≡ false) (IsFieldPlace name.now fields.now) }
 {
@@ -44,7 +44,7 @@ pub fn field_place(fields: &[Name], name: &Name) -> Option<usize>
     found
 }
 
-// Of each row, whether it has another key.
+/// Of each row, whether it has another key.
 pub fn other_marks(alloc: Global, rows: &[Row], key: &Text) -> Result<Vec<bool>, NoMemory>
     ensures { IfOk result (λ v. v.items ≡ map (λ r. not (has_key key.now r)) rows.now) }
 {
@@ -55,7 +55,7 @@ pub fn other_marks(alloc: Global, rows: &[Row], key: &Text) -> Result<Vec<bool>,
     Ok(marks)
 }
 
-// Copies of these rows, which share their values.
+/// Copies of these rows, which share their values.
 pub fn copies(alloc: Global, rows: &[Row]) -> Result<Vec<Row>, NoMemory>
     ensures { IfOk result (λ v. v.items ≡ rows.now) }
 {
@@ -66,7 +66,7 @@ pub fn copies(alloc: Global, rows: &[Row]) -> Result<Vec<Row>, NoMemory>
     Ok(out)
 }
 
-// Copies of these scalars.
+/// Copies of these scalars.
 pub fn scalars(alloc: Global, values: &[Scalar]) -> Result<Vec<Scalar>, NoMemory>
     ensures { IfOk result (λ v. v.items ≡ values.now) }
 {
@@ -108,7 +108,7 @@ fn changed_row(
     }
 }
 
-// Copies of these rows, of which the one with this key has another scalar at a place.
+/// Copies of these rows, of which the one with this key has another scalar at a place.
 pub fn changed(
     alloc: Global,
     rows: &[Row],

@@ -1,5 +1,6 @@
 // Each call with ample memory, and what it makes of three rows.
-ghost use Rattle.std.specs.Prelude.{◌≡◌, ◌∷◌, [], IfOk};
+ghost use Rattle.std.specs.Prelude.{◌≡◌, ◌∷◌, [], codes, false, IfOk};
+ghost use Rattle.std.specs.Str.{bytes_eq};
 
 use crate::{RowFault, insert, move_to, new_rows, put_field, remove};
 use sig_base::{Name, NoMemory, Rows, Scalar, Text, Value, put_value};
@@ -14,15 +15,17 @@ fn one(alloc: Global, name: Name) -> Result<Vec<Name>, NoMemory>
     Ok(names)
 }
 
-// Rows of one field without a row.
-fn empty(alloc: Global) -> Result<Rows, Fail> {
-    let fields = one(alloc, Name::new(alloc, "n")?)?;
+/// No rows, for one field.
+pub fn no_rows(alloc: Global, field: &str) -> Result<Rows, Fail>
+    requires { bytes_eq (codes "key") field.now ≡ false }
+{
+    let fields = one(alloc, Name::new(alloc, field)?)?;
     Ok(new_rows(alloc, fields)?)
 }
 
 // Three rows, of which the last was put before the others.
 fn three(alloc: Global) -> Result<Rows, Fail> {
-    let mut rows = empty(alloc)?;
+    let mut rows = no_rows(alloc, "n")?;
     for (place, key, n) in [(0, "a", 1), (1, "b", 2), (0, "c", 3)] {
         let key = Text::new(alloc, key)?;
         insert(alloc, &mut rows, place, &key, &[Scalar::Int(n)])?;
@@ -30,10 +33,10 @@ fn three(alloc: Global) -> Result<Rows, Fail> {
     Ok(rows)
 }
 
-// Whether the rows are printed so.
-fn prints(alloc: Global, rows: Rows, want: &str) -> Result<bool, NoMemory> {
+/// Whether the rows are printed so.
+pub fn prints(alloc: Global, rows: &Rows, want: &str) -> Result<bool, NoMemory> {
     let mut out = Vec::new(alloc);
-    put_value(&mut out, &Value::Rows(rows))?;
+    put_value(&mut out, &Value::Rows(rows.copy()?))?;
     Ok(out.as_slice() == want.as_bytes())
 }
 
@@ -41,7 +44,7 @@ fn prints(alloc: Global, rows: Rows, want: &str) -> Result<bool, NoMemory> {
 fn puts_rows(rt: HostRuntime) -> Result<(), Fail> {
     let alloc = rt.alloc();
     let rows = three(alloc)?;
-    assert!(rt; prints(alloc, rows, "[\"c\" (3), \"a\" (1), \"b\" (2)]")?);
+    assert!(rt; prints(alloc, &rows, "[\"c\" (3), \"a\" (1), \"b\" (2)]")?);
     Ok(())
 }
 
@@ -52,7 +55,7 @@ fn moves_rows(rt: HostRuntime) -> Result<(), Fail> {
     let key = Text::new(alloc, "c")?;
     assert_eq!(rt; move_to(alloc, &mut rows, &key, 2), Ok(true));
     assert_eq!(rt; move_to(alloc, &mut rows, &key, 3), Err(RowFault::Place));
-    assert!(rt; prints(alloc, rows, "[\"a\" (1), \"b\" (2), \"c\" (3)]")?);
+    assert!(rt; prints(alloc, &rows, "[\"a\" (1), \"b\" (2), \"c\" (3)]")?);
     Ok(())
 }
 
@@ -66,6 +69,6 @@ fn changes_rows(rt: HostRuntime) -> Result<(), Fail> {
         Ok(true)
     );
     assert_eq!(rt; remove(alloc, &mut rows, &Text::new(alloc, "b")?), Ok(()));
-    assert!(rt; prints(alloc, rows, "[\"c\" (3), \"a\" (7)]")?);
+    assert!(rt; prints(alloc, &rows, "[\"c\" (3), \"a\" (7)]")?);
     Ok(())
 }

@@ -1,10 +1,10 @@
-use Rattle.std.proofs.Common.{◌≡◌, ℕ, List, [], ◌∷◌, length, codes, refl, arith}
+use Rattle.std.proofs.Common.{◌≡◌, ℕ, List, [], ◌∷◌, ◌||◌, length, codes, false, refl, arith}
 use Rattle.std.specs.List.{IsDistinct}
 use Rattle.std.specs.Str.{bytes_eq}
 use Rattle.std.proofs.lemmas.List.Elements.{All-nil}
 use Rattle.sig_base.specs.declared.rows.Row.{Row}
 use Rattle.sig_base.specs.Tables.{AreRows}
-use Rattle.sig_rows.proofs.tests.empty.Goals as goal
+use Rattle.sig_rows.proofs.tests.no_rows.Goals as goal
 
 none-distinct : IsDistinct bytes_eq []
 unfolding IsDistinct
@@ -14,7 +14,7 @@ one-distinct : (x : List ℕ) → IsDistinct bytes_eq (x ∷ [])
 unfolding IsDistinct
 one-distinct x = (tt, tt)
 
-one-fits : (f : List ℕ) → f ≡ codes "n" → AreRows (f ∷ []) []
+one-fits : (f : List ℕ) → bytes_eq (codes "key") f ≡ false → AreRows (f ∷ []) []
 one-fits f e = record {
   few_fields = omega arith;
   distinct_fields = one-distinct f;
@@ -25,4 +25,4 @@ one-fits f e = record {
 }
 
 pub new_rows-requires : goal.new_rows-requires
-new_rows-requires c = rw c.in_ok-fields.ensures (one-fits _ c.in_ok-new.ensures.ok)
+new_rows-requires c = rw c.in_ok-fields.ensures (one-fits _ (rw c.in_ok-new.ensures.ok c.requires))
