@@ -1,3 +1,8 @@
 mod Coming
 mod Judging
 mod Written
+mod Wording
+mod Quoting
+mod Fitting
+mod Listed
+mod Nested

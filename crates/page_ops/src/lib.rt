@@ -5,10 +5,12 @@ mod applying;
 mod checking;
 mod numbers;
 mod op;
+mod parts;
+mod reading;
 #[cfg(test)]
 mod tests;
 mod writing;
 
 pub use applying::apply;
-pub use op::{ApplyFault, Op};
+pub use op::{ApplyFault, Op, OpFault};
 pub use writing::op_line;

@@ -1,6 +1,7 @@
 // Operations, and why they are refused.
 ghost use Rattle.std.specs.Prelude.{◌≡◌};
 ghost use Rattle.page_ops.specs.declared.op.ApplyFault.TheVariants as fault;
+ghost use Rattle.page_ops.specs.declared.op.OpFault.TheVariants as unread;
 
 use page_tree::Sub;
 use sig_base::{NoMemory, Text};
@@ -47,5 +48,23 @@ impl From<NoMemory> for ApplyFault {
 
     fn from(_: NoMemory) -> Self {
         ApplyFault::NoMemory
+    }
+}
+
+/// Why bytes are no operation.
+#[derive(Clone, Copy, Debug, PartialEq, Eq, Error)]
+pub enum OpFault {
+    /// They are no operation's text. Up to this byte they are as in the text of one.
+    #[error("no operation at byte {0}")]
+    Bad(usize),
+    #[error(transparent)]
+    NoMemory(NoMemory),
+}
+
+impl From<NoMemory> for OpFault {
+    ghost from_gives = { λ e f. f ≡ unread.NoMemory e };
+
+    fn from(e: NoMemory) -> Self {
+        OpFault::NoMemory(e)
     }
 }
