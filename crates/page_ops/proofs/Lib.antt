@@ -6,3 +6,5 @@ mod Quoting
 mod Fitting
 mod Listed
 mod Nested
+mod Saying
+mod Readable

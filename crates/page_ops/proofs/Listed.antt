@@ -28,13 +28,13 @@ pub tail_begins : (k : Forest Kind) (rest : List ℕ) → begins_attribute (writ
 tail_begins none rest = refl
 tail_begins (node n x k r) rest = refl
 
-attribute_text : (name value tail : List ℕ) (more : List (List ℕ × List ℕ)) → written_attributes ((name, value) ∷ more) ++ tail ≡ 32 ∷ (name ++ 61 ∷ (quoted value ++ (written_attributes more ++ tail)))
+pub attribute_text : (name value tail : List ℕ) (more : List (List ℕ × List ℕ)) → written_attributes ((name, value) ∷ more) ++ tail ≡ 32 ∷ (name ++ 61 ∷ (quoted value ++ (written_attributes more ++ tail)))
 attribute_text name value tail more = ap (λ zs. 32 ∷ zs) (
     append_assoc name (61 ∷ (quoted value ++ written_attributes more)) tail
     ∙ ap (λ zs. name ++ 61 ∷ zs) (append_assoc (quoted value) (written_attributes more) tail))
 
 -- where an attribute stands, one begins
-attribute_begins : (name value tail : List ℕ) (more : List (List ℕ × List ℕ)) → good_name name ≡ true → begins_attribute (written_attributes ((name, value) ∷ more) ++ tail) ≡ true
+pub attribute_begins : (name value tail : List ℕ) (more : List (List ℕ × List ℕ)) → good_name name ≡ true → begins_attribute (written_attributes ((name, value) ∷ more) ++ tail) ≡ true
 attribute_begins name value tail more good =
     let f = name_first name good in
     let e : written_attributes ((name, value) ∷ more) ++ tail ≡ 32 ∷ (f.0 ∷ (f.1 ++ 61 ∷ (quoted value ++ (written_attributes more ++ tail)))) =

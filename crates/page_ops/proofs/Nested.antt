@@ -43,6 +43,16 @@ fit_first l n x k r f =
     let s = f.sized in let w = f.named in let i = f.nodes in let low = f.low in
     record { low = omega arith; nodes = (i.0, i.1, tt); named = (w.0, w.1, tt); sized = (s.0, s.1, s.2, tt) }
 
+pub fit_rest : (l n : ℕ) (x : Kind) (k r : Forest Kind) → IsFit l (node n x k r) → IsFit l r
+fit_rest l n x k r f =
+    let s = f.sized in let w = f.named in let i = f.nodes in let low = f.low in
+    record { low = omega arith; nodes = i.2; named = w.2; sized = s.3 }
+
+pub fit_kids : (l n : ℕ) (x : Kind) (k r : Forest Kind) → IsFit l (node n x k r) → IsFit l k
+fit_kids l n x k r f =
+    let s = f.sized in let w = f.named in let i = f.nodes in let low = f.low in
+    record { low = omega arith; nodes = i.1; named = w.1; sized = s.2 }
+
 pub fit_below : (l n : ℕ) (x : Kind) (k r : Forest Kind) → IsFit (suc l) (node n x k r) → IsFit l k
 fit_below l n x k r f =
     let s = f.sized in let w = f.named in let i = f.nodes in let low = f.low in
@@ -50,9 +60,7 @@ fit_below l n x k r f =
 
 fit_tail : (l : ℕ) (a b : Forest Kind) → IsFit l (after a b) → IsFit l b
 fit_tail l none b f = f
-fit_tail l (node n x k r) b f =
-    let s = f.sized in let w = f.named in let i = f.nodes in let low = f.low in
-    fit_tail l r b (record { low = omega arith; nodes = i.2; named = w.2; sized = s.3 })
+fit_tail l (node n x k r) b f = fit_tail l r b (fit_rest l n x k (after r b) f)
 
 pub fit_text : (l n : ℕ) (t : List ℕ) → IsNumber n → IsText t → IsFit (suc l) (node n (Text t) none none)
 fit_text l n t number text = record { low = omega arith; nodes = (refl, tt, tt); named = (tt, tt, tt); sized = (number, text, tt, tt) }
@@ -91,7 +99,7 @@ pub record LeftNodes (have : Forest Kind) (bytes : List ℕ) (all : Forest Kind)
   pub are : all ≡ after have more
   pub text : bytes ≡ written_nodes more ++ 41 ∷ rest
 
-nodes_text : (n : ℕ) (x : Kind) (k r : Forest Kind) (rest : List ℕ) → written_nodes (node n x k r) ++ 41 ∷ rest ≡ 32 ∷ 40 ∷ node_text n x k (written_nodes r ++ 41 ∷ rest)
+pub nodes_text : (n : ℕ) (x : Kind) (k r : Forest Kind) (rest : List ℕ) → written_nodes (node n x k r) ++ 41 ∷ rest ≡ 32 ∷ 40 ∷ node_text n x k (written_nodes r ++ 41 ∷ rest)
 nodes_text n x k r rest = ap (λ zs. 32 ∷ 40 ∷ zs) (
     append_assoc (decimal n) (written_label x ++ (written_nodes k ++ 41 ∷ written_nodes r)) (41 ∷ rest)
     ∙ ap (λ zs. decimal n ++ zs) (append_assoc (written_label x) (written_nodes k ++ 41 ∷ written_nodes r) (41 ∷ rest)

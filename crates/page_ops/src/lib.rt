@@ -3,6 +3,7 @@
 
 mod applying;
 mod checking;
+mod nodes;
 mod numbers;
 mod op;
 mod parts;
@@ -13,4 +14,5 @@ mod writing;
 
 pub use applying::apply;
 pub use op::{ApplyFault, Op, OpFault};
+pub use reading::{one_reading, read_op};
 pub use writing::op_line;

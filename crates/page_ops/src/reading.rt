@@ -1,123 +1,125 @@
-// Operations read from their text.
-ghost use Rattle.std.specs.Prelude.{◌≡◌, ◌++◌, ◌∷◌, ◌≤◌, ◌&&◌, nat_lt, suc, ℕ, List, [], IfOk, IfErr, OnOk, true, false, length, slice_index};
-ghost use Rattle.std.specs.Fmt.{decimal};
-ghost use Rattle.sig_base.specs.Words.{in_tag};
-ghost use Rattle.html_out.specs.Html.{good_name};
-ghost use Rattle.page_model.specs.Forest.{Forest, node, none};
-ghost use Rattle.page_model.specs.Labels.{Kind, named};
+// Operations read from their text. What is read is written again: only where that gives the same bytes it stands there.
+ghost use Rattle.std.specs.Prelude.{◌≡◌, ◌≤◌, List, ℕ, IfErr, IfOk, length};
 ghost use Rattle.page_model.specs.Replay as replay;
-ghost use Rattle.page_model.specs.Texts.{IsNumber, IsText, op_text, written_attributes, written_nodes};
-ghost use Rattle.page_tree.specs.Subs.{sub_tree};
+ghost use Rattle.page_model.specs.Texts.{op_text};
 ghost use Rattle.page_ops.specs.Ops.{op_of};
-ghost use Rattle.page_ops.specs.Readings.{AreFit, HasText, IsFit, Refuses, begins_attribute, begins_node, node_text};
+ghost use Rattle.page_ops.specs.Readings.{HasText, IsSaid, Refuses, word_of};
 
+use crate::nodes::{number_at, sub};
 use crate::op::{Op, OpFault};
-use crate::parts::{behind, behind_literal, byte_at, literal, name, number, word};
+use crate::parts::{behind, literal, name, word};
 use crate::writing::op_line;
-use page_tree::Sub;
-use sig_base::{NoMemory, Text};
+use sig_base::NoMemory;
 use std::alloc::Global;
 
-// How many levels of nodes an insertion brings at most.
-const MOST_LEVELS: u64 = 32;
+/// What an operation does.
+#[derive(Clone, Copy, Debug, PartialEq, Eq)]
+pub enum Verb {
+    Remove,
+    Insert,
+    Move,
+    Text,
+    Attr,
+    Unattr,
+}
 
-fn is_named(attributes: &[(Text, Text)], name: &Text) -> bool
-    ensures { result ≡ named name.now attributes.now }
+// The verb of a word.
+fn meant_by(word: &[u8]) -> Verb
+    ensures { (v : Verb) → word.now ≡ word_of v → result ≡ v }
 {
-    for attribute in attributes {
-        if attribute.0 == *name {
-            return true;
-        }
+    match word {
+        b"remove" => Verb::Remove,
+        b"insert" => Verb::Insert,
+        b"move" => Verb::Move,
+        b"text" => Verb::Text,
+        b"attr" => Verb::Attr,
+        _ => Verb::Unattr,
     }
-    false
 }
 
-// Appends an attribute, unless its name is there.
-fn put_attribute(list: &mut Vec<(Text, Text)>, name: Text, value: Text) -> Result<(), NoMemory>
-    requires name { good_name name ≡ true }
-    requires value { IsText value }
-    requires fit { AreFit list.old.items }
-    ensures fit { OnOk result (AreFit list.new.items) }
-    ensures put { OnOk result (named name list.old.items ≡ false → list.new.items ≡ list.old.items ++ (name, value) ∷ []) }
+fn insertion(alloc: Global, parent: u64, bytes: &[u8]) -> Result<Op, NoMemory>
+    ensures writable { IfOk result (λ r. HasText (op_of r)) }
+    ensures same { IfOk result (λ r. (o : replay.Op) → IsSaid Verb.Insert parent bytes.now o → op_of r ≡ o) }
 {
-    if is_named(list, &name) {
-        return Ok(());
-    }
-    list.push((name, value))?;
-    Ok(())
+    let (place, left) = number_at(bytes);
+    let (sub, _) = sub(alloc, behind(left, 2), 31)?;
+    // a subtree is one node, whatever stands below it
+    let _ = sub.number();
+    Ok(Op::Insert(parent, place, sub))
 }
 
-fn begins_attribute(bytes: &[u8]) -> bool
-    ensures { result ≡ begins_attribute bytes.now }
+fn attribute(alloc: Global, number: u64, bytes: &[u8]) -> Result<Op, NoMemory>
+    ensures writable { IfOk result (λ r. HasText (op_of r)) }
+    ensures same { IfOk result (λ r. (o : replay.Op) → IsSaid Verb.Attr number bytes.now o → op_of r ≡ o) }
 {
-    byte_at(bytes, 0) == b' ' && byte_at(bytes, 1).is_ascii_lowercase()
-}
-
-// Whether a node begins there, where so many levels may follow.
-fn begins_node(bytes: &[u8], levels: u64) -> bool
-    ensures { result ≡ (nat_lt 0 levels && begins_node bytes.now) }
-{
-    levels > 0 && byte_at(bytes, 0) == b' ' && byte_at(bytes, 1) == b'('
-}
-
-// The attributes at the front, each with a space before it, and what stands behind them.
-fn attributes(alloc: Global, bytes: &[u8]) -> Result<(Vec<(Text, Text)>, &[u8]), NoMemory>
-    ensures fit { IfOk result (λ r. AreFit r.0.items) }
-    ensures shorter { IfOk result (λ r. length r.1.now ≤ length bytes.now) }
-    ensures same { IfOk result (λ r. (xs : List (List ℕ × List ℕ)) (k : Forest Kind) (rest : List ℕ) → AreFit xs
-        → bytes.now ≡ written_attributes xs ++ (written_nodes k ++ 41 ∷ rest)
-        → (r.0.items ≡ xs) × (r.1.now ≡ written_nodes k ++ 41 ∷ rest)) }
-{
-    let mut list = Vec::new(alloc);
-    let mut left = bytes;
-    while begins_attribute(left) {
-        let (word, after) = word(behind(left, 1));
-        let name = name(alloc, word)?;
-        let quote = behind(after, 1);
-        let value = literal(alloc, quote)?;
-        put_attribute(&mut list, name, value)?;
-        left = behind_literal(quote);
-    }
-    Ok((list, left))
-}
-
-// The number at the front, and what stands behind it.
-fn number_at(bytes: &[u8]) -> (u64, &[u8])
-    ensures number { IsNumber result.0 }
-    ensures shorter { length result.1.now ≤ length bytes.now }
-    ensures same { (n : ℕ) (rest : List ℕ) → IsNumber n → in_tag (slice_index rest 0) ≡ false → bytes.now ≡ decimal n ++ rest
-        → (result.0 ≡ n) × (result.1.now ≡ rest) }
-{
-    let (digits, left) = word(bytes);
-    (number(digits), left)
-}
-
-// The node whose number stands at the front, with what stands below it on at most so many levels, and what stands behind it.
-fn sub(alloc: Global, bytes: &[u8], levels: u64) -> Result<(Sub, &[u8]), NoMemory>
-    requires { levels ≤ 31 }
-    ensures fit { IfOk result (λ r. IsFit (suc levels) (sub_tree r.0)) }
-    ensures shorter { IfOk result (λ r. length r.1.now ≤ length bytes.now) }
-    ensures same { IfOk result (λ r. (n : ℕ) (x : Kind) (k : Forest Kind) (rest : List ℕ) → IsFit (suc levels) (node n x k none)
-        → bytes.now ≡ node_text n x k rest → (sub_tree r.0 ≡ node n x k none) × (r.1.now ≡ rest)) }
-{
-    let (number, after) = number_at(bytes);
-    let label = behind(after, 1);
-    if byte_at(label, 0) == b'"' {
-        let text = literal(alloc, label)?;
-        return Ok((Sub::Text(number, text), behind(behind_literal(label), 1)));
-    }
-    let (word, after) = word(label);
+    let (place, left) = number_at(bytes);
+    let (word, left) = word(behind(left, 1));
     let name = name(alloc, word)?;
-    let (attributes, children) = attributes(alloc, after)?;
-    let mut subs = Vec::new(alloc);
-    let mut left = children;
-    while begins_node(left, levels) {
-        let (child, after) = sub(alloc, behind(left, 2), levels - 1)?;
-        subs.push(child)?;
-        left = after;
-    }
-    Ok((
-        Sub::Element(number, name, attributes, subs),
-        behind(left, 1),
-    ))
+    let value = literal(alloc, behind(left, 1))?;
+    Ok(Op::Attr(number, place, name, value))
 }
+
+// The operation whose text goes on so behind its word, a number and a space.
+fn said(alloc: Global, does: Verb, number: u64, bytes: &[u8]) -> Result<Op, NoMemory>
+    ensures writable { IfOk result (λ r. HasText (op_of r)) }
+    ensures same { IfOk result (λ r. (o : replay.Op) → IsSaid does number bytes.now o → op_of r ≡ o) }
+{
+    match does {
+        Verb::Remove => Ok(Op::Remove(number)),
+        Verb::Insert => {
+            let op = insertion(alloc, number, bytes)?;
+            Ok(op)
+        }
+        Verb::Move => Ok(Op::Move(number, number_at(bytes).0)),
+        Verb::Text => Ok(Op::Text(number, literal(alloc, bytes)?)),
+        Verb::Attr => {
+            let op = attribute(alloc, number, bytes)?;
+            Ok(op)
+        }
+        Verb::Unattr => Ok(Op::Unattr(number, name(alloc, word(bytes).0)?)),
+    }
+}
+
+// The operation of these bytes, or another one where they are no operation's text.
+fn likely(alloc: Global, bytes: &[u8]) -> Result<Op, NoMemory>
+    ensures writable { IfOk result (λ r. HasText (op_of r)) }
+    ensures same { IfOk result (λ r. (o : replay.Op) → HasText o → bytes.now ≡ op_text o → op_of r ≡ o) }
+{
+    let (word, left) = word(bytes);
+    let (number, left) = number_at(behind(left, 1));
+    let op = said(alloc, meant_by(word), number, behind(left, 1))?;
+    Ok(op)
+}
+
+// How many bytes at the front are the same.
+fn common_length(line: &[u8], bytes: &[u8]) -> usize
+    ensures { result ≤ length bytes.now }
+{
+    let mut count = 0;
+    while count < line.len() && count < bytes.len() && line[count] == bytes[count] {
+        count += 1;
+    }
+    count
+}
+
+/// Reads an operation: the one of which these bytes are the text, as `op_line` appends it. `Bad` where they are no operation's
+/// text.
+pub fn read_op(alloc: Global, bytes: &[u8]) -> Result<Op, OpFault>
+    ensures text { IfOk result (λ o. op_text (op_of o) ≡ bytes.now) }
+    ensures writable { IfOk result (λ o. HasText (op_of o)) }
+    ensures refused { IfErr result (λ e. Refuses bytes.now e) }
+{
+    let op = likely(alloc, bytes)?;
+    let mut line = Vec::new(alloc);
+    op_line(&mut line, &op)?;
+    if line.as_slice() != bytes {
+        return Err(OpFault::Bad(common_length(&line, bytes)));
+    }
+    Ok(op)
+}
+
+/// A text is that of one operation: two operations that have the same text are the same. So what `op_line` appends of an
+/// operation that has a text is read as that operation.
+pub fn one_reading()
+    ensures { (o p : replay.Op) → HasText o → HasText p → op_text o ≡ op_text p → o ≡ p }
+{}

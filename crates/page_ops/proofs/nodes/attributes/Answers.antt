@@ -2,7 +2,7 @@ use Rattle.std.proofs.Common.{◌≡◌, ◌<◌, ◌≤◌, length, true, arith
 use Rattle.page_model.specs.Texts.{written_nodes}
 use Rattle.page_ops.specs.Readings.{behind_front, front}
 use Rattle.page_ops.proofs.Listed.{left_ends, left_goes, left_shorter, tail_begins}
-use Rattle.page_ops.proofs.reading.attributes.Goals as goal
+use Rattle.page_ops.proofs.nodes.attributes.Goals as goal
 
 pub loop-alloc-smaller : goal.loop-alloc-smaller
 loop-alloc-smaller c = left_shorter c.loop-alloc.left.now c.behind_literal-left.result.now c.word.result.1.now c.behind-quote.result.now (sym c.loop-alloc-test.ensures) (c.word.ensures.behind ∙ ap behind_front c.behind.ensures) c.behind-quote.ensures c.behind_literal-left.ensures

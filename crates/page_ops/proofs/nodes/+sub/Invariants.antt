@@ -4,7 +4,7 @@ use Rattle.page_model.specs.Labels.{Kind}
 use Rattle.page_tree.specs.Subs.{side_by_side, sub_tree}
 use Rattle.page_ops.specs.Readings.{IsFit, node_text}
 use Rattle.page_ops.proofs.Nested.{LeftNodes}
-use Rattle.page_ops.proofs.reading.+sub.Given as goal
+use Rattle.page_ops.proofs.nodes.+sub.Given as goal
 
 abbrev pub invariant-loop-alloc : goal.invariant-loop-alloc
 invariant-loop-alloc l = record {

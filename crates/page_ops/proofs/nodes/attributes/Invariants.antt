@@ -4,7 +4,7 @@ use Rattle.page_model.specs.Labels.{Kind}
 use Rattle.page_model.specs.Texts.{written_attributes, written_nodes}
 use Rattle.page_ops.specs.Readings.{AreFit}
 use Rattle.page_ops.proofs.Listed.{Left}
-use Rattle.page_ops.proofs.reading.attributes.Given as goal
+use Rattle.page_ops.proofs.nodes.attributes.Given as goal
 
 abbrev pub invariant-loop-alloc : goal.invariant-loop-alloc
 invariant-loop-alloc l = record {

@@ -12,7 +12,7 @@ use Rattle.page_tree.proofs.Shared.{tree_element, tree_text}
 use Rattle.page_ops.specs.Readings.{IsFit, begins_node, behind_front, behind_quote}
 use Rattle.page_ops.proofs.Nested.{below_one, element_node, element_read, fit_after, fit_below, fit_element, fit_none, fit_text, front_shorter, nodes_end, nodes_go, subs_put, text_node, text_shorter}
 use Rattle.page_ops.proofs.Quoting.{behind_quoted}
-use Rattle.page_ops.proofs.reading.+sub.Goals as goal
+use Rattle.page_ops.proofs.nodes.+sub.Goals as goal
 
 pub returns-then-byte_at-eq34-clause-fit : goal.returns-then-byte_at-eq34-clause-fit
 returns-then-byte_at-eq34-clause-fit t c = rw (tree_text c.number_at-number.result.0 c.in_ok-text.text) (fit_text c.args.levels c.number_at-number.result.0 c.in_ok-text.text c.number_at-number.ensures.number c.in_ok-text.ensures.text)
