@@ -1,11 +1,10 @@
 -- The numbers and the depths of a subtree that comes.
-use Rattle.std.proofs.Common.{◌≡◌, ℕ, zero, suc, ◌+◌, ◌<◌, ◌==◌, Bool, true, false, ◌||◌, refl, sym, ap, ◌∙◌, arith, cond, eqb-true, eq-eqb, inl, inr, if◌then◌else◌, ltb, List, [], ◌∷◌, ◌++◌, length, map, take, drop, get_or, append_assoc, append-nil, Option, Some, None}
+use Rattle.std.proofs.Common.{◌≡◌, ℕ, zero, suc, ◌+◌, ◌<◌, ◌==◌, Bool, true, false, ◌||◌, refl, sym, ap, ◌∙◌, arith, cond, eqb-true, inl, inr, if◌then◌else◌, ltb, List, [], ◌∷◌, ◌++◌, length, map, take, get_or, append_assoc, append-nil, Option, Some, None}
 use Rattle.std.proofs.lemmas.Bool.{cases_Bool}
 use Rattle.std.proofs.lemmas.Bool.Decides.{nat_tests}
 use Rattle.page_model.specs.Forest.{Forest, none, node, after, keys, on, one, tally}
-use Rattle.page_model.specs.Labels.{Kind, Text, Element}
+use Rattle.page_model.specs.Labels.{Kind}
 use Rattle.page_model.specs.Replay.{first_deep, first_used, or_else}
-use Rattle.page_tree.specs.declared.sub.Sub.{Sub}
 use Rattle.page_tree.specs.declared.sub.Sub.TheVariants as sub
 use Rattle.page_tree.specs.Subs.{side_by_side, sub_tree}
 use Rattle.page_tree.proofs.Shared.{tree_text, tree_element}

@@ -8,3 +8,4 @@ mod Listed
 mod Nested
 mod Saying
 mod Readable
+pub mod Shared

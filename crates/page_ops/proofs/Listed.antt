@@ -1,15 +1,13 @@
 -- Attributes read one after another.
-use Rattle.std.proofs.Common.{◌≡◌, ℕ, suc, ◌+◌, ◌-◌, ◌<◌, ◌≤◌, Bool, true, false, List, [], ◌∷◌, ◌++◌, length, drop, refl, sym, ap, ◌∙◌, arith, append_assoc, append-nil}
-use Rattle.std.specs.Prelude.{◌&&◌, ◌==◌, slice_index}
-use Rattle.std.specs.Char.{is_ascii_lowercase}
-use Rattle.std.specs.Fmt.{decimal}
+use Rattle.std.proofs.Common.{◌≡◌, ℕ, ◌-◌, ◌<◌, true, false, List, [], ◌∷◌, ◌++◌, length, drop, refl, sym, ap, ◌∙◌, arith, append_assoc, append-nil}
+use Rattle.std.specs.Prelude.{slice_index}
 use Rattle.std.proofs.lemmas.Bool.{false≢true}
 use Rattle.std.proofs.lemmas.List.{length-drop}
 use Rattle.sig_base.specs.Printing.{quoted}
 use Rattle.html_out.specs.Html.{good_name}
 use Rattle.page_model.specs.Forest.{Forest, none, node}
-use Rattle.page_model.specs.Labels.{Kind, Distinct, named}
-use Rattle.page_model.specs.Texts.{IsText, written_attributes, written_label, written_nodes}
+use Rattle.page_model.specs.Labels.{Kind, named}
+use Rattle.page_model.specs.Texts.{IsText, written_attributes, written_nodes}
 use Rattle.page_ops.specs.Readings.{AreFit, begins_attribute, behind_front, behind_quote, front}
 use Rattle.std.specs.List.{prefix_len}
 use Rattle.sig_base.specs.Words.{in_tag}

@@ -1,6 +1,6 @@
 -- Nodes read one after another, and what stands below each.
-use Rattle.std.proofs.Common.{◌≡◌, ℕ, zero, suc, ◌+◌, ◌-◌, ◌<◌, ◌≤◌, Bool, true, false, List, [], ◌∷◌, ◌++◌, length, drop, map, refl, sym, ap, ◌∙◌, arith, append_assoc}
-use Rattle.std.specs.Prelude.{◌&&◌, ◌==◌, nat_lt, max, slice_index}
+use Rattle.std.proofs.Common.{◌≡◌, ℕ, zero, suc, ◌-◌, ◌≤◌, true, false, List, [], ◌∷◌, ◌++◌, length, drop, map, refl, sym, ap, ◌∙◌, arith, append_assoc}
+use Rattle.std.specs.Prelude.{◌&&◌, nat_lt, slice_index}
 use Rattle.std.specs.Char.{is_ascii_lowercase}
 use Rattle.std.specs.Fmt.{decimal}
 use Rattle.std.proofs.lemmas.Bool.{false≢true}
@@ -9,10 +9,10 @@ use Rattle.std.proofs.lemmas.List.{length-drop, map-append}
 use Rattle.sig_base.specs.Printing.{quoted}
 use Rattle.sig_base.specs.Words.{in_tag}
 use Rattle.html_out.specs.Html.{good_name}
-use Rattle.page_model.specs.Forest.{Forest, none, node, after, height}
-use Rattle.page_model.specs.Labels.{Root, Text, Element, Kind, WellNamed}
-use Rattle.page_model.specs.Texts.{AreSized, HasTexts, IsNumber, IsText, written_attributes, written_label, written_nodes}
-use Rattle.page_model.specs.Trees.{AreNodes, IsNode}
+use Rattle.page_model.specs.Forest.{Forest, none, node, after}
+use Rattle.page_model.specs.Labels.{Root, Text, Element, Kind}
+use Rattle.page_model.specs.Texts.{IsNumber, IsText, written_attributes, written_label, written_nodes}
+use Rattle.page_model.specs.Trees.{IsNode}
 use Rattle.page_tree.specs.declared.sub.Sub.{Sub}
 use Rattle.page_tree.specs.Subs.{side_by_side, sub_tree}
 use Rattle.page_ops.specs.Readings.{AreFit, IsFit, begins_node, behind_front, behind_quote, front, node_text}
@@ -134,10 +134,6 @@ nodes_go levels l have child all bytes rest inside left same fit begins before i
           are = e ∙ (sym (after_assoc have (node n x k none) r) ∙ ap (λ z. after (after have z) r) (sym is.0));
           text = is.1;
         }
-
-pub inside_shorter : (bytes inside left : List ℕ) → begins_node bytes ≡ true → inside ≡ drop 2 bytes → length left ≤ length inside → length left < length bytes
-inside_shorter [] inside left begins i h = absurd cc
-inside_shorter (b ∷ bytes) inside left begins i h = let e : length inside ≡ length (b ∷ bytes) - 2 = ap length i ∙ length-drop 2 (b ∷ bytes) in omega arith
 
 -- ---- one node
 

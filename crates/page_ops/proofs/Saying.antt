@@ -1,22 +1,18 @@
 -- The parts of an operation's text, and what they say.
-use Rattle.std.proofs.Common.{◌≡◌, ℕ, suc, ◌+◌, ◌<◌, ◌≤◌, ◌^◌, Bool, true, false, List, [], ◌∷◌, ◌++◌, length, drop, refl, sym, ap, ◌∙◌, arith, append-nil}
+use Rattle.std.proofs.Common.{◌≡◌, ℕ, true, false, List, [], ◌∷◌, ◌++◌, drop, refl, sym, ap, ◌∙◌, append-nil}
 use Rattle.std.specs.Prelude.{codes, slice_index}
 use Rattle.std.specs.Fmt.{decimal}
 use Rattle.std.specs.List.{list_all}
 use Rattle.sig_base.specs.Printing.{quoted}
 use Rattle.sig_base.specs.Words.{in_tag}
 use Rattle.html_out.specs.Html.{good_name}
-use Rattle.page_model.specs.Edits.{siblings}
-use Rattle.page_model.specs.Forest.{Forest, none, node}
-use Rattle.page_model.specs.Labels.{Kind}
 use Rattle.page_model.specs.Replay.{Op, OpRemove, OpInsert, OpMove, OpText, OpAttr, OpUnattr}
 use Rattle.page_model.specs.Texts.{op_text, IsNumber, IsText}
-use Rattle.page_tree.specs.Subs.{insertion}
-use Rattle.page_tree.proofs.Shared.{one_node}
+use Rattle.page_model.specs.Trees.{Brings}
 use Rattle.page_ops.specs.declared.reading.Verb.{Verb}
 use Rattle.page_ops.specs.declared.reading.Verb.TheVariants as verb
-use Rattle.page_ops.specs.Readings.{HasText, IsFit, IsSaid, behind_front, front, node_text, number_of, rest_of, verb_of, word_of}
-use Rattle.page_ops.proofs.Nested.{NumberAt, label_stops}
+use Rattle.page_ops.specs.Readings.{HasText, IsSaid, behind_front, front, number_of, rest_of, verb_of, word_of}
+use Rattle.page_ops.proofs.Nested.{NumberAt}
 use Rattle.page_ops.proofs.Wording.{behind_is, front_is, name_run}
 
 -- ---- the word, the number, and the rest
@@ -74,14 +70,6 @@ text_said o bytes word behind number_text after left does number has e w b says 
 
 -- ---- what each verb goes on with
 
-pub removal_said : (n : ℕ) (left : List ℕ) (o : Op) → IsSaid verb.Remove n left o → OpRemove n ≡ o
-removal_said n left (OpRemove m) s = ap OpRemove s.numbered
-removal_said n left (OpInsert p i m x k) s = absurd (let v = s.verb in cc)
-removal_said n left (OpMove m i) s = absurd (let v = s.verb in cc)
-removal_said n left (OpText m t) s = absurd (let v = s.verb in cc)
-removal_said n left (OpAttr m i name value) s = absurd (let v = s.verb in cc)
-removal_said n left (OpUnattr m name) s = absurd (let v = s.verb in cc)
-
 pub move_said : (n place : ℕ) (left after : List ℕ) (o : Op) → IsSaid verb.Move n left o → NumberAt left place after → OpMove n place ≡ o
 move_said n place left after (OpRemove m) s num = absurd (let v = s.verb in cc)
 move_said n place left after (OpInsert p i m x k) s num = absurd (let v = s.verb in cc)
@@ -134,24 +122,11 @@ attr_said n place left after label word behind quote name value (OpAttr m i othe
     ∙ ap (OpAttr m i other) (says t [] z.2 (quote_is ∙ sym (append-nil (quoted t))))))
 attr_said n place left after label word behind quote name value (OpUnattr m other) s num l w b q named says = absurd (let v = s.verb in cc)
 
-pub insertion_said : (p place : ℕ) (left after inside behind : List ℕ) (tree : Forest Kind) (o : Op) → IsSaid verb.Insert p left o → NumberAt left place after → inside ≡ drop 2 after
-    → ((n : ℕ) (x : Kind) (k : Forest Kind) (rest : List ℕ) → IsFit 32 (node n x k none) → inside ≡ node_text n x k rest → (tree ≡ node n x k none) × (behind ≡ rest))
-    → insertion p place tree ≡ o
-insertion_said p place left after inside behind tree (OpRemove m) s num i says = absurd (let v = s.verb in cc)
-insertion_said p place left after inside behind tree (OpInsert q j n x k) s num i says =
-    let h = s.has_text in let w = h.0 in let z = h.1 in
-    let is = num j (32 ∷ 40 ∷ node_text n x k []) z.1 refl s.rest in
-    let fit : IsFit 32 (node n x k none) = record { low = w.0; nodes = w.1; named = w.2; sized = z.2 } in
-    let read = says n x k [] fit (i ∙ ap (drop 2) is.1) in
-    ap (λ t. insertion p place t) read.0 ∙ (ap (λ a. OpInsert a place n x k) s.numbered ∙ ap (λ a. OpInsert q a n x k) is.0)
-insertion_said p place left after inside behind tree (OpMove m j) s num i says = absurd (let v = s.verb in cc)
-insertion_said p place left after inside behind tree (OpText m t) s num i says = absurd (let v = s.verb in cc)
-insertion_said p place left after inside behind tree (OpAttr m j name value) s num i says = absurd (let v = s.verb in cc)
-insertion_said p place left after inside behind tree (OpUnattr m name) s num i says = absurd (let v = s.verb in cc)
-
--- the insertion of a node that has a text has one
-pub insertion_text : (p i n : ℕ) (tree : Forest Kind) → IsNumber p → IsNumber i → IsFit 32 tree → siblings tree ≡ n ∷ [] → HasText (insertion p i tree)
-insertion_text p i n tree a b fit one =
-    let t = one_node n tree one in
-    let is : IsFit 32 (node n t.0 t.1 none) = rw t.2 at fit in
-    rw t.2 ((is.low, is.nodes, is.named), (a, b, is.sized))
+-- what an operation brings that has a text are nodes
+pub text_brings : (o : Op) → HasText o → Brings o
+text_brings (OpRemove n) h = tt
+text_brings (OpInsert p i n x k) h = let w = h.0 in w.1
+text_brings (OpMove n i) h = tt
+text_brings (OpText n t) h = tt
+text_brings (OpAttr n i name value) h = tt
+text_brings (OpUnattr n name) h = tt

@@ -1,9 +1,9 @@
 -- How a subtree is written.
-use Rattle.std.proofs.Common.{◌≡◌, ℕ, refl, sym, ap, subst, ◌∙◌, List, [], ◌∷◌, ◌++◌, map, append_assoc, append-nil}
+use Rattle.std.proofs.Common.{◌≡◌, ℕ, refl, sym, ap, subst, ◌∙◌, List, [], ◌∷◌, ◌++◌, map, append_assoc}
 use Rattle.std.specs.Fmt.{decimal}
 use Rattle.sig_base.specs.Printing.{quoted}
 use Rattle.page_model.specs.Forest.{Forest, none, node, after}
-use Rattle.page_model.specs.Labels.{Kind, Text, Element}
+use Rattle.page_model.specs.Labels.{Kind}
 use Rattle.page_model.specs.Texts.{op_text, written_attributes, written_label, written_nodes}
 use Rattle.page_model.specs.Edits.{siblings}
 use Rattle.std.specs.Prelude.{codes}

@@ -1,4 +1,4 @@
-//! Operations on a numbered tree: doing them, and writing them.
+//! Operations on a numbered tree: doing them, writing them, and reading them.
 #![tactic(auto)]
 
 mod applying;

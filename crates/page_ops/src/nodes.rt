@@ -87,7 +87,6 @@ pub fn number_at(bytes: &[u8]) -> (u64, &[u8])
 
 /// The node whose number stands at the front, with what stands below it on at most so many levels, and what stands behind it.
 pub fn sub(alloc: Global, bytes: &[u8], levels: u64) -> Result<(Sub, &[u8]), NoMemory>
-    requires { levels ≤ 31 }
     ensures fit { IfOk result (λ r. IsFit (suc levels) (sub_tree r.0)) }
     ensures shorter { IfOk result (λ r. length r.1.now ≤ length bytes.now) }
     ensures same { IfOk result (λ r. (n : ℕ) (x : Kind) (k : Forest Kind) (rest : List ℕ) → IsFit (suc levels) (node n x k none)

@@ -54,7 +54,7 @@ impl From<NoMemory> for ApplyFault {
 /// Why bytes are no operation.
 #[derive(Clone, Copy, Debug, PartialEq, Eq, Error)]
 pub enum OpFault {
-    /// They are no operation's text. Up to this byte they are as in the text of one.
+    /// They are no operation's text; those before this place are as in some operation's.
     #[error("no operation at byte {0}")]
     Bad(usize),
     #[error(transparent)]

@@ -12,6 +12,9 @@ use crate::writing::op_line;
 use sig_base::NoMemory;
 use std::alloc::Global;
 
+// How many levels stand below a node that comes, at most.
+const MOST_BELOW: u64 = 31;
+
 /// What an operation does.
 #[derive(Clone, Copy, Debug, PartialEq, Eq)]
 pub enum Verb {
@@ -37,17 +40,19 @@ fn meant_by(word: &[u8]) -> Verb
     }
 }
 
+// The insertion whose place stands at the front, and then its node.
 fn insertion(alloc: Global, parent: u64, bytes: &[u8]) -> Result<Op, NoMemory>
     ensures writable { IfOk result (λ r. HasText (op_of r)) }
     ensures same { IfOk result (λ r. (o : replay.Op) → IsSaid Verb.Insert parent bytes.now o → op_of r ≡ o) }
 {
     let (place, left) = number_at(bytes);
-    let (sub, _) = sub(alloc, behind(left, 2), 31)?;
+    let (sub, _) = sub(alloc, behind(left, 2), MOST_BELOW)?;
     // a subtree is one node, whatever stands below it
     let _ = sub.number();
     Ok(Op::Insert(parent, place, sub))
 }
 
+// The new attribute whose place stands at the front, and then its name and its value.
 fn attribute(alloc: Global, number: u64, bytes: &[u8]) -> Result<Op, NoMemory>
     ensures writable { IfOk result (λ r. HasText (op_of r)) }
     ensures same { IfOk result (λ r. (o : replay.Op) → IsSaid Verb.Attr number bytes.now o → op_of r ≡ o) }
@@ -102,8 +107,9 @@ fn common_length(line: &[u8], bytes: &[u8]) -> usize
     count
 }
 
-/// Reads an operation: the one of which these bytes are the text, as `op_line` appends it. `Bad` where they are no operation's
-/// text.
+/// Reads the operation of which these bytes are the text, as `op_line` appends it. `Bad` where they are no operation's text: an
+/// operation has one where its numbers are below 2^64, its texts are texts, its names are names of HTML, those of one element's
+/// attributes are distinct, no child stands below a text, and what it brings has at most 32 levels.
 pub fn read_op(alloc: Global, bytes: &[u8]) -> Result<Op, OpFault>
     ensures text { IfOk result (λ o. op_text (op_of o) ≡ bytes.now) }
     ensures writable { IfOk result (λ o. HasText (op_of o)) }

@@ -1,5 +1,5 @@
-use Rattle.std.proofs.Common.{◌≡◌, ◌≤◌, ◌&&◌, true, sym, ap, ◌∙◌, arith}
-use Rattle.page_model.specs.Forest.{count, kids, label_in, on}
+use Rattle.std.proofs.Common.{◌≡◌, ◌&&◌, true, sym, ◌∙◌, arith}
+use Rattle.page_model.specs.Forest.{label_in, on}
 use Rattle.page_model.specs.Labels.{Root, holds}
 use Rattle.page_model.proofs.Shared.{both}
 use Rattle.page_tree.specs.Subs.{sub_tree}

@@ -1,15 +1,14 @@
-use Rattle.std.proofs.Common.{◌≡◌, ◌+◌, ◌-◌, ◌≤◌, ◌++◌, ◌∷◌, ℕ, suc, true, false, List, [], length, drop, map, refl, sym, ap, ◌∙◌, arith}
+use Rattle.std.proofs.Common.{◌≡◌, ◌-◌, ◌≤◌, ◌∷◌, suc, false, length, drop, map, sym, ap, ◌∙◌, arith}
 use Rattle.std.specs.Prelude.{nat_lt}
 use Rattle.std.specs.List.{prefix_len}
 use Rattle.std.proofs.lemmas.Bool.{and_parts}
 use Rattle.std.proofs.lemmas.List.{length-drop}
 use Rattle.sig_base.specs.Words.{in_tag}
-use Rattle.page_model.specs.Forest.{Forest, node, none, after}
-use Rattle.page_model.specs.Labels.{Text, Element, Kind}
-use Rattle.page_tree.specs.declared.sub.Sub.{Sub}
+use Rattle.page_model.specs.Forest.{node, none, after}
+use Rattle.page_model.specs.Labels.{Text, Element}
 use Rattle.page_tree.specs.Subs.{side_by_side, sub_tree}
 use Rattle.page_tree.proofs.Shared.{tree_element, tree_text}
-use Rattle.page_ops.specs.Readings.{IsFit, begins_node, behind_front, behind_quote}
+use Rattle.page_ops.specs.Readings.{begins_node, behind_quote}
 use Rattle.page_ops.proofs.Nested.{below_one, element_node, element_read, fit_after, fit_below, fit_element, fit_none, fit_text, front_shorter, nodes_end, nodes_go, subs_put, text_node, text_shorter}
 use Rattle.page_ops.proofs.Quoting.{behind_quoted}
 use Rattle.page_ops.proofs.nodes.+sub.Goals as goal

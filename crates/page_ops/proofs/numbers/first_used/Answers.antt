@@ -1,4 +1,4 @@
-use Rattle.std.proofs.Common.{◌≡◌, ◌++◌, ◌||◌, ℕ, List, [], sym, ap, ◌∙◌, nat_eq}
+use Rattle.std.proofs.Common.{◌≡◌, ◌++◌, ◌||◌, ℕ, ap, ◌∙◌, nat_eq}
 use Rattle.indexmap.specs.IndexMap.{get}
 use Rattle.page_model.specs.Forest.{keys, on}
 use Rattle.page_tree.specs.Subs.{sub_tree}

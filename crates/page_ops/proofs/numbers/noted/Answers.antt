@@ -1,4 +1,4 @@
-use Rattle.std.proofs.Common.{ℕ, get_or, nat_eq, refl}
+use Rattle.std.proofs.Common.{get_or, nat_eq, refl}
 use Rattle.indexmap.specs.IndexMap.{get}
 use Rattle.page_ops.proofs.Coming.{noted_step}
 use Rattle.page_ops.proofs.numbers.noted.Goals as goal

@@ -1,4 +1,4 @@
-use Rattle.std.proofs.Common.{◌≡◌, ◌++◌, ℕ, List, ap, sym, ◌∙◌, drop, false}
+use Rattle.std.proofs.Common.{◌≡◌, ◌++◌, ℕ, List, ap, ◌∙◌, drop, false}
 use Rattle.std.proofs.lemmas.Result.{IfOk-weaker}
 use Rattle.sig_base.specs.Printing.{quoted}
 use Rattle.page_model.specs.Texts.{IsText}

@@ -1,4 +1,3 @@
-use Rattle.std.proofs.Common.{ap, ◌∙◌}
 use Rattle.page_ops.proofs.Saying.{attr_said}
 use Rattle.page_ops.proofs.reading.attribute.Goals as goal
 
