@@ -13,7 +13,8 @@ use Rattle.page_model.specs.Texts.{op_text, written_attributes, written_label, w
 use Rattle.page_tree.specs.Subs.{insertion}
 use Rattle.page_ops.specs.declared.reading.Verb.{Verb}
 use Rattle.page_ops.specs.declared.reading.Verb.TheVariants as verb
-use Rattle.page_ops.specs.Readings.{HasText, IsFit, begins_attribute, begins_node, behind_front, behind_quote, front, node_text, number_of, rest_of, unquoted, verb_of, word_of}
+use Rattle.page_ops.specs.Ops.{HasText}
+use Rattle.page_ops.specs.Readings.{IsFit, begins_attribute, begins_node, behind_front, behind_quote, front, node_text, number_of, rest_of, unquoted, verb_of, word_of}
 use Rattle.page_ops.proofs.Listed.{attribute_begins, attribute_text, list_stops, tail_begins}
 use Rattle.page_ops.proofs.Nested.{fit_first, fit_kids, fit_rest, label_stops, nodes_text}
 use Rattle.page_ops.proofs.Quoting.{behind_quoted, quoted_is, quoted_opens}

@@ -11,7 +11,8 @@ use Rattle.page_model.specs.Texts.{op_text, IsNumber, IsText}
 use Rattle.page_model.specs.Trees.{Brings}
 use Rattle.page_ops.specs.declared.reading.Verb.{Verb}
 use Rattle.page_ops.specs.declared.reading.Verb.TheVariants as verb
-use Rattle.page_ops.specs.Readings.{HasText, IsSaid, behind_front, front, number_of, rest_of, verb_of, word_of}
+use Rattle.page_ops.specs.Ops.{HasText}
+use Rattle.page_ops.specs.Readings.{IsSaid, behind_front, front, number_of, rest_of, verb_of, word_of}
 use Rattle.page_ops.proofs.Nested.{NumberAt}
 use Rattle.page_ops.proofs.Wording.{behind_is, front_is, name_run}
 

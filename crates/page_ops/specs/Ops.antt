@@ -1,8 +1,8 @@
--- The operations of the program as those of the definitions, and why they are refused.
-use Rattle.std.specs.Prelude.{ℕ, ◌≡◌, List, ◌∷◌, ◌++◌, length, Option, Some, None}
+-- The operations of the program as those of the definitions, why they are refused, and what can be read of them.
+use Rattle.std.specs.Prelude.{ℕ, ◌≡◌, ◌≤◌, List, ◌∷◌, ◌++◌, length, Option, Some, None}
 use Rattle.page_model.specs.Labels.{Element, Kind}
 use Rattle.std.specs.Fmt.{decimal}
-use Rattle.page_model.specs.Texts.{written_attributes}
+use Rattle.page_model.specs.Texts.{op_text, written_attributes, IsSized, IsWritable}
 use Rattle.page_model.specs.Replay as replay
 use Rattle.page_model.specs.Replay.{Answer, Done, Refused, others}
 use Rattle.page_tree.specs.Reading.{IsDone}
@@ -11,6 +11,8 @@ use Rattle.page_ops.specs.declared.op.Op.{Op}
 use Rattle.page_ops.specs.declared.op.Op.TheVariants as op
 use Rattle.page_ops.specs.declared.op.ApplyFault.{ApplyFault}
 use Rattle.page_ops.specs.declared.op.ApplyFault.TheVariants as fault
+use Rattle.page_ops.specs.declared.op.OpFault.{OpFault}
+use Rattle.page_ops.specs.declared.op.OpFault.TheVariants as unread
 
 -- an operation of the program as one of the definitions
 abbrev pub op_of : Op → replay.Op
@@ -48,3 +50,12 @@ coming_fault None None = None
 -- the text of an element's node up to its children
 abbrev pub opened : ℕ → List ℕ → List (List ℕ × List ℕ) → List ℕ
 opened n name attributes = 32 ∷ 40 ∷ (decimal n ++ (32 ∷ (name ++ written_attributes attributes)))
+
+-- an operation that has a text: it can be written, its numbers are numbers, and its texts are texts
+abbrev pub HasText : replay.Op → Type 0
+HasText o = IsWritable o × IsSized o
+
+-- why bytes are refused: no operation has them for its text
+abbrev pub Refuses : List ℕ → OpFault → Type 0
+Refuses bytes (unread.Bad at) = (at ≤ length bytes) × ((o : replay.Op) → HasText o → op_text o ≡ bytes → ⊥)
+Refuses bytes (unread.NoMemory e) = Unit {0}

@@ -1,4 +1,4 @@
--- What operations can be read back from their text, and how the parts of a text are read, whatever stands there.
+-- How the parts of an operation's text are read, whatever stands there.
 use Rattle.std.specs.Prelude.{ℕ, ◌≡◌, ◌≤◌, ◌==◌, ◌&&◌, if◌then◌else◌, Bool, true, false, List, [], ◌∷◌, ◌++◌, codes, length, take, drop, slice_index}
 use Rattle.std.specs.Char.{is_ascii_lowercase}
 use Rattle.std.specs.Fmt.{decimal}
@@ -9,21 +9,11 @@ use Rattle.sig_words.specs.Literals.{meaning}
 use Rattle.page_model.specs.Forest.{Forest, none, node, height}
 use Rattle.page_model.specs.Labels.{Kind, Distinct, GoodNames, WellNamed}
 use Rattle.page_model.specs.Replay as replay
-use Rattle.page_model.specs.Texts.{op_text, written_label, written_nodes, AreSized, HaveTexts, IsSized, IsWritable}
+use Rattle.page_model.specs.Texts.{written_label, written_nodes, AreSized, HaveTexts}
 use Rattle.page_model.specs.Trees.{AreNodes}
 use Rattle.page_ops.specs.declared.reading.Verb.{Verb}
 use Rattle.page_ops.specs.declared.reading.Verb.TheVariants as verb
-use Rattle.page_ops.specs.declared.op.OpFault.{OpFault}
-use Rattle.page_ops.specs.declared.op.OpFault.TheVariants as fault
-
--- an operation that has a text: it can be written, its numbers are numbers, and its texts are texts
-abbrev pub HasText : replay.Op → Type 0
-HasText o = IsWritable o × IsSized o
-
--- why bytes are refused: no operation has them for its text
-abbrev pub Refuses : List ℕ → OpFault → Type 0
-Refuses bytes (fault.Bad at) = (at ≤ length bytes) × ((o : replay.Op) → HasText o → op_text o ≡ bytes → ⊥)
-Refuses bytes (fault.NoMemory e) = Unit {0}
+use Rattle.page_ops.specs.Ops.{HasText}
 
 -- attributes of an element that has a text
 pub record AreFit (attributes : List (List ℕ × List ℕ)) : Type 0 where

@@ -2,8 +2,8 @@
 ghost use Rattle.std.specs.Prelude.{◌≡◌, ◌≤◌, List, ℕ, IfErr, IfOk, length};
 ghost use Rattle.page_model.specs.Replay as replay;
 ghost use Rattle.page_model.specs.Texts.{op_text};
-ghost use Rattle.page_ops.specs.Ops.{op_of};
-ghost use Rattle.page_ops.specs.Readings.{HasText, IsSaid, Refuses, word_of};
+ghost use Rattle.page_ops.specs.Ops.{HasText, Refuses, op_of};
+ghost use Rattle.page_ops.specs.Readings.{IsSaid, word_of};
 
 use crate::nodes::{number_at, sub};
 use crate::op::{Op, OpFault};
