@@ -1,5 +1,5 @@
 -- The operations of the program as those of the definitions, why they are refused, and what can be read of them.
-use Rattle.std.specs.Prelude.{ℕ, ◌≡◌, ◌≤◌, List, ◌∷◌, ◌++◌, length, Option, Some, None}
+use Rattle.std.specs.Prelude.{ℕ, ◌≡◌, ◌≤◌, List, ◌∷◌, ◌++◌, length, take, Option, Some, None}
 use Rattle.page_model.specs.Labels.{Element, Kind}
 use Rattle.std.specs.Fmt.{decimal}
 use Rattle.page_model.specs.Texts.{op_text, written_attributes, IsSized, IsWritable}
@@ -55,7 +55,11 @@ opened n name attributes = 32 ∷ 40 ∷ (decimal n ++ (32 ∷ (name ++ written_
 abbrev pub HasText : replay.Op → Type 0
 HasText o = IsWritable o × IsSized o
 
--- why bytes are refused: no operation has them for its text
+-- the bytes up to a place are those of an operation's text
+abbrev pub BeginsAsText : List ℕ → ℕ → Type 0
+BeginsAsText bytes at = (o : replay.Op) × HasText o × (take at (op_text o) ≡ take at bytes)
+
+-- why bytes are refused: no operation has them for its text, though up to the place they are as in one's
 abbrev pub Refuses : List ℕ → OpFault → Type 0
-Refuses bytes (unread.Bad at) = (at ≤ length bytes) × ((o : replay.Op) → HasText o → op_text o ≡ bytes → ⊥)
+Refuses bytes (unread.Bad at) = ((o : replay.Op) → HasText o → op_text o ≡ bytes → ⊥) × (at ≤ length bytes) × BeginsAsText bytes at
 Refuses bytes (unread.NoMemory e) = Unit {0}

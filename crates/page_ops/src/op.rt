@@ -54,7 +54,7 @@ impl From<NoMemory> for ApplyFault {
 /// Why bytes are no operation.
 #[derive(Clone, Copy, Debug, PartialEq, Eq, Error)]
 pub enum OpFault {
-    /// They are no operation's text; those before this place are as in some operation's.
+    /// They are no operation's text; those before this place are as in some operation's text.
     #[error("no operation at byte {0}")]
     Bad(usize),
     #[error(transparent)]

@@ -1,5 +1,5 @@
 // Operations read from their text. What is read is written again: only where that gives the same bytes it stands there.
-ghost use Rattle.std.specs.Prelude.{◌≡◌, ◌≤◌, List, ℕ, IfErr, IfOk, length};
+ghost use Rattle.std.specs.Prelude.{◌≡◌, ◌≤◌, List, ℕ, IfErr, IfOk, length, take};
 ghost use Rattle.page_model.specs.Replay as replay;
 ghost use Rattle.page_model.specs.Texts.{op_text};
 ghost use Rattle.page_ops.specs.Ops.{HasText, Refuses, op_of};
@@ -98,7 +98,8 @@ fn likely(alloc: Global, bytes: &[u8]) -> Result<Op, NoMemory>
 
 // How many bytes at the front are the same.
 fn common_length(line: &[u8], bytes: &[u8]) -> usize
-    ensures { result ≤ length bytes.now }
+    ensures within { result ≤ length bytes.now }
+    ensures same { take result line.now ≡ take result bytes.now }
 {
     let mut count = 0;
     while count < line.len() && count < bytes.len() && line[count] == bytes[count] {
