@@ -4,7 +4,7 @@ use Rattle.std.specs.Fmt.{decimal}
 use Rattle.sig_base.specs.Printing.{quoted}
 use Rattle.page_model.specs.Forest.{Forest, none, node, after}
 use Rattle.page_model.specs.Labels.{Kind}
-use Rattle.page_model.specs.Texts.{op_text, written_attributes, written_label, written_nodes}
+use Rattle.page_model.specs.Texts.{AreSized, op_text, written_attributes, written_label, written_nodes}
 use Rattle.page_model.specs.Edits.{siblings}
 use Rattle.std.specs.Prelude.{codes}
 use Rattle.page_tree.specs.declared.sub.Sub.TheVariants as sub
@@ -46,3 +46,8 @@ insertion_text p i n s one =
     let w = one_node n s one in
     let P : Forest Kind → Type 0 = λ z. codes "insert " ++ (decimal p ++ 32 ∷ (decimal i ++ written_nodes z)) ≡ op_text (insertion p i z) in
     subst P (sym w.2) refl
+
+-- numbers and texts of trees side by side
+pub sized_after : (xs ys : Forest Kind) → AreSized xs → AreSized ys → AreSized (after xs ys)
+sized_after none ys a b = b
+sized_after (node n x k r) ys a b = (a.0, a.1, a.2, sized_after r ys a.3 b)

@@ -2,7 +2,7 @@
 ghost use Rattle.std.specs.Prelude.{◌≡◌, ◌++◌, ◌∷◌, [], OnOk};
 ghost use Rattle.std.specs.Fmt.{decimal};
 ghost use Rattle.sig_base.specs.Printing.{quoted};
-ghost use Rattle.page_model.specs.Texts.{op_text, written_attributes, written_nodes};
+ghost use Rattle.page_model.specs.Texts.{AreSized, HaveTexts, IsNumber, IsSized, IsText, op_text, written_attributes, written_nodes};
 ghost use Rattle.page_tree.specs.Subs.{insertion, sub_tree};
 ghost use Rattle.page_ops.specs.Ops.{op_of, opened};
 
@@ -19,7 +19,8 @@ fn put(out: &mut Vec<u8>, bytes: &[u8]) -> Result<(), NoMemory>
 
 // A word, and a number behind it.
 fn put_number(out: &mut Vec<u8>, before: &[u8], number: u64) -> Result<(), NoMemory>
-    ensures { OnOk result (out.new.items ≡ out.old.items ++ (before.now ++ decimal number)) }
+    ensures text { OnOk result (out.new.items ≡ out.old.items ++ (before.now ++ decimal number)) }
+    ensures sized { IsNumber number }
 {
     put(out, before)?;
     let digits = number.to_string(*out.allocator())?;
@@ -27,12 +28,23 @@ fn put_number(out: &mut Vec<u8>, before: &[u8], number: u64) -> Result<(), NoMem
     Ok(())
 }
 
+// A text in double quotes.
+fn put_text(out: &mut Vec<u8>, text: &Text) -> Result<(), NoMemory>
+    ensures text { OnOk result (out.new.items ≡ out.old.items ++ quoted text.now) }
+    ensures sized { IsText text.now }
+{
+    // a text has few bytes
+    let _ = text.len();
+    put_quoted(out, text.as_str())
+}
+
 // A space, and a text in double quotes.
 fn put_literal(out: &mut Vec<u8>, text: &Text) -> Result<(), NoMemory>
-    ensures { OnOk result (out.new.items ≡ out.old.items ++ 32 ∷ quoted text.now) }
+    ensures text { OnOk result (out.new.items ≡ out.old.items ++ 32 ∷ quoted text.now) }
+    ensures sized { OnOk result (IsText text.now) }
 {
     put(out, b" ")?;
-    put_quoted(out, text.as_str())?;
+    put_text(out, text)?;
     Ok(())
 }
 
@@ -46,16 +58,18 @@ fn put_name(out: &mut Vec<u8>, name: &Text) -> Result<(), NoMemory>
 }
 
 fn put_attribute(out: &mut Vec<u8>, name: &Text, value: &Text) -> Result<(), NoMemory>
-    ensures { OnOk result (out.new.items ≡ out.old.items ++ 32 ∷ (name.now ++ 61 ∷ quoted value.now)) }
+    ensures text { OnOk result (out.new.items ≡ out.old.items ++ 32 ∷ (name.now ++ 61 ∷ quoted value.now)) }
+    ensures sized { OnOk result (IsText value.now) }
 {
     put_name(out, name)?;
     put(out, b"=")?;
-    put_quoted(out, value.as_str())?;
+    put_text(out, value)?;
     Ok(())
 }
 
 fn put_attributes(out: &mut Vec<u8>, attributes: &[(Text, Text)]) -> Result<(), NoMemory>
-    ensures { OnOk result (out.new.items ≡ out.old.items ++ written_attributes attributes.now) }
+    ensures text { OnOk result (out.new.items ≡ out.old.items ++ written_attributes attributes.now) }
+    ensures sized { OnOk result (HaveTexts attributes.now) }
 {
     for attribute in attributes {
         put_attribute(out, &attribute.0, &attribute.1)?;
@@ -70,7 +84,8 @@ fn put_opening(
     name: &Text,
     attributes: &[(Text, Text)],
 ) -> Result<(), NoMemory>
-    ensures { OnOk result (out.new.items ≡ out.old.items ++ opened number name.now attributes.now) }
+    ensures text { OnOk result (out.new.items ≡ out.old.items ++ opened number name.now attributes.now) }
+    ensures sized { OnOk result (IsNumber number × HaveTexts attributes.now) }
 {
     put_number(out, b" (", number)?;
     put_name(out, name)?;
@@ -80,7 +95,8 @@ fn put_opening(
 
 // A subtree in parentheses, with a space before it.
 fn put_sub(out: &mut Vec<u8>, sub: &Sub) -> Result<(), NoMemory>
-    ensures { OnOk result (out.new.items ≡ out.old.items ++ written_nodes (sub_tree sub.now)) }
+    ensures text { OnOk result (out.new.items ≡ out.old.items ++ written_nodes (sub_tree sub.now)) }
+    ensures sized { OnOk result (AreSized (sub_tree sub.now)) }
 {
     match sub {
         Sub::Text(number, text) => {
@@ -101,7 +117,8 @@ fn put_sub(out: &mut Vec<u8>, sub: &Sub) -> Result<(), NoMemory>
 }
 
 fn put_insert(out: &mut Vec<u8>, parent: u64, place: u64, sub: &Sub) -> Result<(), NoMemory>
-    ensures { OnOk result (out.new.items ≡ out.old.items ++ op_text (insertion parent place (sub_tree sub.now))) }
+    ensures text { OnOk result (out.new.items ≡ out.old.items ++ op_text (insertion parent place (sub_tree sub.now))) }
+    ensures sized { OnOk result (IsSized (insertion parent place (sub_tree sub.now))) }
 {
     // a subtree is one node, whatever stands below it
     let _ = sub.number();
@@ -111,9 +128,11 @@ fn put_insert(out: &mut Vec<u8>, parent: u64, place: u64, sub: &Sub) -> Result<(
     Ok(())
 }
 
-/// Appends an operation's text: its word and its parts, with single spaces.
+/// Appends an operation's text: its word and its parts, with single spaces. `sized` says what each operation of these types is:
+/// its numbers are numbers, and its texts are texts.
 pub fn op_line(out: &mut Vec<u8>, op: &Op) -> Result<(), NoMemory>
-    ensures { OnOk result (out.new.items ≡ out.old.items ++ op_text (op_of op.now)) }
+    ensures text { OnOk result (out.new.items ≡ out.old.items ++ op_text (op_of op.now)) }
+    ensures sized { OnOk result (IsSized (op_of op.now)) }
 {
     match op {
         Op::Remove(id) => {

@@ -4,7 +4,7 @@ use Rattle.page_tree.specs.Subs.{sub_tree}
 use Rattle.page_ops.proofs.Written.{insertion_text}
 use Rattle.page_ops.proofs.writing.put_insert.Goals as goal
 
-pub returns : goal.returns
-returns c =
+pub returns-clause-text : goal.returns-clause-text
+returns-clause-text c =
     let e = insertion_text c.args.parent c.args.place c.number.result (sub_tree c.args.sub.now) c.number.ensures.alone in
     rw (← e) (grind (arith, common_steps))
