@@ -1,0 +1,4 @@
+mod Reading
+mod Walking
+mod Teardowns
+mod Counting

@@ -1,0 +1,6 @@
+use Rattle.sig_owner.specs.Tables.{ended_row}
+use Rattle.sig_owner.proofs.Reading.{written}
+use Rattle.sig_owner.proofs.holder.end_at.Goals as goal
+
+pub returns : goal.returns
+returns c = written c.args.holders.now.items c.args.id c.number.result c.index_mut.result.now c.end.new.holder ended_row c.number.ensures c.requires c.index_mut.ensures.value c.end.ensures
