@@ -2,3 +2,5 @@ mod Reading
 mod Walking
 mod Teardowns
 mod Counting
+mod Holding
+mod Ending

@@ -64,3 +64,39 @@ unwritten hs n i h y e l is same = written hs n i h y (λ r. r) e l is same ∙ 
 -- the same of an element of the list
 pub row_got : (hs : List Holder) (n i : ℕ) (h : Holder) → i ≡ n → n < length hs → h ≡ slice_index_or hs i h → row_of (slice_index_or hs i h) ≡ row_at (rows_of hs) n
 row_got hs n i h e l is = ap row_of (sym is) ∙ row_read hs n i h e l is
+
+-- what an edit of one row keeps of it is kept everywhere
+pub changed_keeps : {A : Type 0} (P : Row → A) (f : Row → Row) → ((r : Row) → P (f r) ≡ P r) → (n : ℕ) (rows : List Row) (k : ℕ) → P (row_at (changed_at f n rows) k) ≡ P (row_at rows k)
+changed_keeps P f h n [] k = refl
+changed_keeps P f h zero (r ∷ rs) zero = h r
+changed_keeps P f h zero (r ∷ rs) (suc k) = refl
+changed_keeps P f h (suc n) (r ∷ rs) zero = refl
+changed_keeps P f h (suc n) (r ∷ rs) (suc k) = changed_keeps P f h n rs k
+
+-- what holds of each row and of the edited one holds of each row afterwards
+pub changed_all : (P : Row → Type 0) (f : Row → Row) (n : ℕ) (rows : List Row) → (n < length rows → P (f (row_at rows n))) → ((k : ℕ) → P (row_at rows k)) → (k : ℕ) → P (row_at (changed_at f n rows) k)
+changed_all P f n [] h all k = all k
+changed_all P f zero (r ∷ rs) h all zero = h (omega arith)
+changed_all P f zero (r ∷ rs) h all (suc k) = all (suc k)
+changed_all P f (suc n) (r ∷ rs) h all zero = all zero
+changed_all P f (suc n) (r ∷ rs) h all (suc k) = changed_all P f n rs (λ l. h (omega (arith, l))) (λ j. all (suc j)) k
+
+-- ---- one row more
+
+pub more_before : (rows : List Row) (r : Row) (k : ℕ) → k < length rows → row_at (rows ++ r ∷ []) k ≡ row_at rows k
+more_before [] r k h = absurd (omega arith)
+more_before (q ∷ rs) r zero h = refl
+more_before (q ∷ rs) r (suc k) h = more_before rs r k (let l : k < length rs = omega arith in l)
+
+pub more_last : (rows : List Row) (r : Row) (k : ℕ) → k ≡ length rows → row_at (rows ++ r ∷ []) k ≡ r
+more_last [] r zero h = refl
+more_last [] r (suc k) h = absurd (omega arith)
+more_last (q ∷ rs) r zero h = absurd (omega arith)
+more_last (q ∷ rs) r (suc k) h = more_last rs r k (let l : k ≡ length rs = omega arith in l)
+
+-- what holds of each row and of the new one
+pub more_all : (P : Row → Type 0) (rows : List Row) (r : Row) → P r → ((k : ℕ) → P (row_at rows k)) → (k : ℕ) → P (row_at (rows ++ r ∷ []) k)
+more_all P [] r h all zero = h
+more_all P [] r h all (suc k) = all k
+more_all P (q ∷ rs) r h all zero = all zero
+more_all P (q ∷ rs) r h all (suc k) = more_all P rs r h (λ j. all (suc j)) k

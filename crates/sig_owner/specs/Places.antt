@@ -1,9 +1,37 @@
 -- What holds of a store's fields between its calls.
-use Rattle.std.specs.Prelude.{◌≡◌, ℕ, List}
-use Rattle.sig_owner.specs.Tables.{Row, owner_count}
-use Rattle.sig_owner.specs.Walks.{IsTable}
+use Rattle.std.specs.Prelude.{◌≡◌, ℕ, ◌+◌, ◌==◌, Bool, true, false, List, [], ◌∷◌, Option, Some, None, if◌then◌else◌}
+use Rattle.effect_model.specs.Owning.{Thing, the_owner, same_thing}
+use Rattle.sig_owner.specs.Tables.{Item, held, leaf, noted, Row, above_at, is_holder, items_at, live_at, owner_count, thing_at}
+use Rattle.sig_owner.specs.Walks.{IsTable, is_held}
 
--- What is held has a later number and a row, and the owners that live are counted.
+-- how often a holder stands among the items
+abbrev pub held_count : ℕ → List Item → ℕ
+held_count m [] = 0
+held_count m (held k ∷ is) = (if m == k then 1 else 0) + held_count m is
+held_count m (_ ∷ is) = held_count m is
+
+-- no holder stands among the items as a thing that holds nothing
+abbrev pub AreLeaves : List Item → Type 0
+AreLeaves [] = Unit {0}
+AreLeaves (leaf t ∷ is) = (is_holder t ≡ false) × AreLeaves is
+AreLeaves (_ ∷ is) = AreLeaves is
+
+-- an item that is no holder: a thing that can't hold others, or a cleanup
+abbrev pub IsPlain : Item → Type 0
+IsPlain (held m) = ⊥
+IsPlain (leaf t) = is_holder t ≡ false
+IsPlain (noted c) = Unit {0}
+
+-- What is held lives, and stands once where its row says, in a later row; what is gone holds nothing; the things that live are distinct
+-- holders, each owner under its own number; and the owners that live are counted.
 pub record Holds (rows : List Row) (owners : ℕ) : Type 0 where
   pub table : IsTable rows
   pub count : owners ≡ owner_count rows
+  pub living : (n m : ℕ) → is_held m (items_at rows n) ≡ true → live_at rows m ≡ true
+  pub above : (n m : ℕ) → is_held m (items_at rows n) ≡ true → above_at rows m ≡ Some n
+  pub once : (n m : ℕ) → live_at rows m ≡ true → above_at rows m ≡ Some n → held_count m (items_at rows n) ≡ 1
+  pub empty : (n : ℕ) → live_at rows n ≡ false → items_at rows n ≡ []
+  pub leaves : (n : ℕ) → AreLeaves (items_at rows n)
+  pub kinds : (n : ℕ) → live_at rows n ≡ true → is_holder (thing_at rows n) ≡ true
+  pub numbers : (n k : ℕ) → live_at rows n ≡ true → thing_at rows n ≡ the_owner k → k ≡ n
+  pub names : (n m : ℕ) → live_at rows n ≡ true → live_at rows m ≡ true → same_thing (thing_at rows n) (thing_at rows m) ≡ true → n ≡ m

@@ -1,7 +1,7 @@
 -- The holders of a store as rows by number, and edits of one row.
-use Rattle.std.specs.Prelude.{ℕ, zero, suc, ◌+◌, ◌&&◌, Bool, true, false, List, [], ◌∷◌, ◌++◌, map, length, Option, Some, None, if◌then◌else◌}
+use Rattle.std.specs.Prelude.{ℕ, zero, suc, ◌+◌, ◌&&◌, ◌||◌, Bool, true, false, List, [], ◌∷◌, ◌++◌, map, length, Option, Some, None, if◌then◌else◌}
 use Rattle.sig_base.specs.Values.{scalar_value}
-use Rattle.effect_model.specs.Owning.{Thing, the_signal, the_owner, the_effect, the_page, Cleanup, sets, logs}
+use Rattle.effect_model.specs.Owning.{Thing, the_signal, the_owner, the_effect, the_page, same_thing, Cleanup, sets, logs}
 use Rattle.sig_owner.specs.declared.thing.Thing.{Thing as AThing}
 use Rattle.sig_owner.specs.declared.thing.Thing.TheVariants as a
 use Rattle.sig_owner.specs.declared.thing.CleanupAct.{CleanupAct}
@@ -85,6 +85,10 @@ items_at rows n = (row_at rows n).items
 abbrev pub thing_at : List Row → ℕ → Thing
 thing_at rows n = (row_at rows n).holder
 
+-- in which holder it stands, none at the top
+abbrev pub above_at : List Row → ℕ → Option ℕ
+above_at rows n = (row_at rows n).above
+
 -- the row of a number changes
 abbrev pub changed_at : (Row → Row) → ℕ → List Row → List Row
 changed_at f n [] = []
@@ -104,6 +108,12 @@ abbrev pub ended_row : Row → Row
 ended_row r = record r { live = false; items = [] }
 
 -- ---- owners
+
+-- whether a thing can hold others
+abbrev pub is_holder : Thing → Bool
+is_holder (the_owner n) = true
+is_holder (the_effect n) = true
+is_holder _ = false
 
 -- whether a thing is an owner
 abbrev pub is_owner : Thing → Bool
@@ -137,3 +147,8 @@ with_holder rows inside t = put_inside inside (held (length rows)) rows ++ above
 abbrev pub all_ended : List ℕ → List Row → List Row
 all_ended [] rows = rows
 all_ended (n ∷ ns) rows = all_ended ns (changed_at ended_row n rows)
+
+-- whether a holder that lives is this thing
+abbrev pub is_made_for : Thing → List Row → Bool
+is_made_for t [] = false
+is_made_for t (r ∷ rs) = (r.live && same_thing t r.holder) || is_made_for t rs

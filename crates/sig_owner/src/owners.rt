@@ -2,7 +2,8 @@
 ghost use Rattle.std.specs.Prelude.{◌≡◌, ◌<◌, ◌≤◌, ◌↔◌, [], length, true, false, IfOk, IsErrOf, OnOk, OnErr};
 ghost use Rattle.effect_model.specs.Owning.{teardown_of, the_effect, the_owner};
 ghost use Rattle.sig_owner.specs.declared.errors.OwnFault.TheVariants as fault;
-ghost use Rattle.sig_owner.specs.Tables.{changed_at, cleanup_of, is_open, leaf, live_at, noted, owner_count, thing_at, thing_of, with_holder, with_item};
+ghost use Rattle.sig_owner.specs.Tables.{changed_at, cleanup_of, is_holder, is_made_for, is_open, item_of, leaf, live_at, noted, owner_count, thing_at, thing_of, with_holder, with_item};
+ghost use Rattle.sig_owner.specs.Places.{IsPlain};
 ghost use Rattle.sig_owner.specs.Trees.{stands_under};
 ghost use Rattle.sig_owner.specs.Walks.{undoings_of, with_taken_back};
 
@@ -67,5 +68,68 @@ impl Owners {
         add_holder(self.alloc, &mut self.holders, Thing::Owner(id), inside)?;
         self.owners += 1;
         Ok(id)
+    }
+
+    /// Makes an owner for an effect for which none lives. The effect stands last inside the owner that is given, else at the top. It is
+    /// refused where that one is gone. After a refusal, and without memory, the store is as before.
+    pub fn make_for(&mut self, effect: EffectId, inside: Option<OwnerId>) -> Result<OwnerId, OwnFault>
+        requires { is_made_for (the_effect effect) self.old ≡ false }
+        ensures after { OnOk result (self.new ≡ with_holder self.old inside (the_effect effect)) }
+        ensures gives { IfOk result (λ id. id ≡ length self.old) }
+        ensures limit { IsErrOf result fault.Limit → ⊥ }
+        ensures gone { IsErrOf result fault.Gone ↔ (is_open self.old inside ≡ false) }
+        ensures err { OnErr result (self.new ≡ self.old) }
+    {
+        if !is_open(&self.holders, &inside) {
+            return Err(OwnFault::Gone);
+        }
+        let id = OwnerId::of(self.holders.len() as u128);
+        add_holder(self.alloc, &mut self.holders, Thing::Effect(effect), inside)?;
+        Ok(id)
+    }
+
+    // Puts an item last under an owner.
+    fn put(&mut self, id: OwnerId, made: Made) -> Result<(), OwnFault>
+        requires { IsPlain (item_of made) }
+        ensures after { OnOk result (self.new ≡ changed_at (with_item (item_of made)) id self.old) }
+        ensures limit { IsErrOf result fault.Limit → ⊥ }
+        ensures gone { IsErrOf result fault.Gone ↔ (live_at self.old id ≡ false) }
+        ensures err { OnErr result (self.new ≡ self.old) }
+    {
+        if !is_live_at(&self.holders, id) {
+            return Err(OwnFault::Gone);
+        }
+        put_at(&mut self.holders, id, made)?;
+        Ok(())
+    }
+
+    /// Notes a cleanup under an owner. It is refused where the owner is gone. After a refusal, and without memory, the store is as before.
+    pub fn note_cleanup(&mut self, id: OwnerId, cleanup: CleanupAct) -> Result<(), OwnFault>
+        ensures after { OnOk result (self.new ≡ changed_at (with_item (noted (cleanup_of cleanup))) id self.old) }
+        ensures limit { IsErrOf result fault.Limit → ⊥ }
+        ensures gone { IsErrOf result fault.Gone ↔ (live_at self.old id ≡ false) }
+        ensures err { OnErr result (self.new ≡ self.old) }
+    {
+        self.put(id, Made::Cleanup(cleanup))
+    }
+
+    /// Takes back what stands under an owner: the last made first, under an owner or effect all that stands under it before its own end.
+    /// What stood there is gone, and nothing stands under the owner any more. It is refused where the owner is gone. After a refusal, and
+    /// without memory, the store is as before.
+    pub fn take_back(&mut self, id: OwnerId) -> Result<Vec<Undoing>, OwnFault>
+        ensures undoings { IfOk result (λ us.
+            undoings_of (thing_at self.old) us.items ≡ teardown_of (thing_at self.old id) (stands_under self.old id)) }
+        ensures after { OnOk result (self.new ≡ with_taken_back self.old id) }
+        ensures limit { IsErrOf result fault.Limit → ⊥ }
+        ensures gone { IsErrOf result fault.Gone ↔ (live_at self.old id ≡ false) }
+        ensures err { OnErr result (self.new ≡ self.old) }
+    {
+        if !is_live_at(&self.holders, id) {
+            return Err(OwnFault::Gone);
+        }
+        let teardown = teardown_under(self.alloc, &self.holders, id)?;
+        end_each(&mut self.holders, &mut self.owners, &teardown.ended);
+        clear_at(&mut self.holders, id);
+        Ok(teardown.undoings)
     }
 }

@@ -1,0 +1,29 @@
+use Rattle.std.proofs.Common.{◌≡◌, List, true, length, sym, ap, subst, ◌∙◌, arith}
+use Rattle.sig_owner.specs.Tables.{Row, all_ended, changed_at, emptied_row, live_at, owner_count, rows_of}
+use Rattle.sig_owner.specs.Places.{Holds}
+use Rattle.sig_owner.specs.Walks.{ended_under}
+use Rattle.sig_owner.proofs.Counting.{ended_length, live_there}
+use Rattle.sig_owner.proofs.Reading.{rows_length}
+use Rattle.sig_owner.proofs.Ending.{ended_there, taken_back_holds}
+use Rattle.sig_owner.proofs.owners.Owners.take_back.Goals as goal
+
+pub end_each-requires-clause-there : goal.end_each-requires-clause-there
+end_each-requires-clause-there c =
+    let rows = rows_of c.self.inside.holders.items in
+    let ended = c.deref-3.ensures.value ∙ (c.in_ok-teardown.ensures.ended ∙ ap (λ hs. ended_under (rows_of hs) c.args.id) c.deref-2.ensures.value) in
+    ended_there rows c.self.invariant.table c.args.id c.deref-3.result.now ended
+
+pub clear_at-requires : goal.clear_at-requires
+clear_at-requires c =
+    let rows = rows_of c.self.inside.holders.items in
+    let live : live_at rows c.args.id ≡ true = sym (c.is_live_at.ensures ∙ ap (λ xs. live_at (rows_of xs) c.args.id) c.deref.ensures.value) ∙ c.if-not-is_live_at.false in
+    let same = ap (λ (rs : List Row). length rs) c.end_each.ensures.rows ∙ ended_length c.deref-3.result.now rows in
+    omega (arith, live_there rows c.args.id live, same, rows_length c.self.inside.holders.items, rows_length c.end_each.new.holders.items)
+
+pub invariant_of-self : goal.invariant_of-self
+invariant_of-self c =
+    let rows = rows_of c.self.inside.holders.items in
+    let ended = c.deref-3.ensures.value ∙ (c.in_ok-teardown.ensures.ended ∙ ap (λ hs. ended_under (rows_of hs) c.args.id) c.deref-2.ensures.value) in
+    let after = c.end_each.ensures.rows ∙ ap (λ ns. all_ended ns rows) ended in
+    subst (λ rs. Holds rs c.end_each.new.owners) (sym (c.clear_at.ensures ∙ ap (changed_at emptied_row c.args.id) after))
+    (taken_back_holds rows c.self.inside.owners c.args.id c.end_each.new.owners c.self.invariant (c.end_each.ensures.count ∙ ap owner_count after))
