@@ -2,3 +2,4 @@ pub mod Tables
 pub mod Trees
 pub mod Walks
 pub mod Places
+pub mod Keys

@@ -4,6 +4,7 @@
 mod errors;
 mod holder;
 mod owners;
+mod places;
 mod thing;
 mod walk;
 

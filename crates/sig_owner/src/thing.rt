@@ -1,15 +1,37 @@
 // Things that stand under owners, cleanups, and the steps of taking back.
 ghost use Rattle.std.specs.Prelude.{◌≡◌, IfOk};
+ghost use Rattle.std.specs.Cmp.{decided, partial_equiv_from_equiv};
+ghost use Rattle.sig_owner.specs.Keys.{same_key, same_key-Decides};
 
 use sig_base::{EffectId, NoMemory, NodeId, OwnerId, PageId, Scalar, Value};
 
 /// What can stand under an owner.
-#[derive(Clone, Copy, Debug, PartialEq, Eq, Hash)]
+#[derive(Clone, Copy, Debug, Hash)]
 pub enum Thing {
     Node(NodeId),
     Effect(EffectId),
     Page(PageId),
     Owner(OwnerId),
+}
+
+impl PartialEq for Thing {
+    ghost eq = { same_key };
+
+    ghost laws = { partial_equiv_from_equiv (decided same_key same_key-Decides) };
+
+    fn eq(&self, other: &Thing) -> bool {
+        match (self, other) {
+            (Thing::Node(m), Thing::Node(n)) => m == n,
+            (Thing::Effect(m), Thing::Effect(n)) => m == n,
+            (Thing::Page(m), Thing::Page(n)) => m == n,
+            (Thing::Owner(m), Thing::Owner(n)) => m == n,
+            _ => false,
+        }
+    }
+}
+
+impl Eq for Thing {
+    ghost laws = { decided same_key same_key-Decides };
 }
 
 /// What an effect notes, to be done when it is taken back: a cell is set, or a value is logged.

@@ -1,0 +1,28 @@
+// Where things stand: nodes and pages by the owner that has them, effects by the owner that was made for them.
+ghost use Rattle.std.specs.Prelude.{◌≡◌, Some, if◌then◌else◌, OnOk, OnErr};
+ghost use Rattle.sig_owner.specs.declared.thing.Thing.{Thing as AThing};
+ghost use Rattle.sig_owner.specs.Keys.{placed, same_key};
+
+use crate::thing::Thing;
+use indexmap::IndexMap;
+use sig_base::{NoMemory, OwnerId};
+
+/// The place that is noted for a thing.
+pub(crate) fn place_of(places: &IndexMap<Thing, OwnerId>, thing: &Thing) -> Option<OwnerId>
+    ensures { result ≡ placed places.now thing.now }
+{
+    places.get(thing).copied()
+}
+
+/// Notes the place of a thing; without memory all is as before.
+pub(crate) fn note_place(
+    places: &mut IndexMap<Thing, OwnerId>,
+    thing: Thing,
+    id: OwnerId,
+) -> Result<(), NoMemory>
+    ensures ok { OnOk result ((t : AThing) → placed places.new t ≡ (if same_key thing t then Some id else placed places.old t)) }
+    ensures err { OnErr result ((t : AThing) → placed places.new t ≡ placed places.old t) }
+{
+    places.insert(thing, id)?;
+    Ok(())
+}
