@@ -1,6 +1,7 @@
 -- Rows that are there, and how many owners live.
-use Rattle.std.proofs.Common.{◌≡◌, ℕ, zero, suc, ◌+◌, ◌<◌, ◌≤◌, Bool, true, false, List, [], ◌∷◌, ◌++◌, length, take, refl, sym, ap, ◌∙◌, arith, cond}
-use Rattle.sig_owner.specs.Tables.{Row, all_ended, changed_at, ended_row, is_owner_row, live_at, owner_count, row_at}
+use Rattle.std.proofs.Common.{◌≡◌, ℕ, zero, suc, ◌+◌, ◌<◌, ◌≤◌, Bool, true, false, List, [], ◌∷◌, ◌++◌, length, take, Option, Some, None, refl, sym, ap, ◌∙◌, arith, cond}
+use Rattle.sig_owner.specs.Sifting.{sifted_inside, sifted_row}
+use Rattle.sig_owner.specs.Tables.{Item, Row, all_ended, changed_at, ended_row, is_owner_row, live_at, owner_count, row_at}
 use Rattle.sig_owner.proofs.Reading.{changed_length}
 
 -- what lives has a row
@@ -32,3 +33,17 @@ ended_more (m ∷ ns) n rows = ended_more ns n (changed_at ended_row m rows)
 pub ended_length : (ns : List ℕ) (rows : List Row) → length (all_ended ns rows) ≡ length rows
 ended_length [] rows = refl
 ended_length (n ∷ ns) rows = ended_length ns (changed_at ended_row n rows) ∙ changed_length ended_row n rows
+
+count_sifted_row : (is_out : Item → Bool) (n : ℕ) (rows : List Row) → owner_count (changed_at (sifted_row is_out) n rows) ≡ owner_count rows
+count_sifted_row is_out n [] = refl
+count_sifted_row is_out zero (r ∷ rs) = refl
+count_sifted_row is_out (suc n) (r ∷ rs) = ap (λ (k : ℕ). cond (is_owner_row r) 1 0 + k) (count_sifted_row is_out n rs)
+
+-- taking items out ends nobody
+pub count_sifted : (inside : Option ℕ) (is_out : Item → Bool) (rows : List Row) → owner_count (sifted_inside inside is_out rows) ≡ owner_count rows
+count_sifted None is_out rows = refl
+count_sifted (Some n) is_out rows = count_sifted_row is_out n rows
+
+pub sifted_length : (inside : Option ℕ) (is_out : Item → Bool) (rows : List Row) → length (sifted_inside inside is_out rows) ≡ length rows
+sifted_length None is_out rows = refl
+sifted_length (Some n) is_out rows = changed_length (sifted_row is_out) n rows

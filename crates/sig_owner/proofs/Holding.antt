@@ -288,7 +288,7 @@ module _ (rows : List Row) (owners : ℕ) (inside : Option ℕ) (t : Thing) (new
     ];
   }
 
-same_true : (a b : Thing) → same_thing a b ≡ true → a ≡ b
+pub same_true : (a b : Thing) → same_thing a b ≡ true → a ≡ b
 same_true (the_signal m) (the_signal n) e = ap the_signal (eqb-true m n e)
 same_true (the_owner m) (the_owner n) e = ap the_owner (eqb-true m n e)
 same_true (the_effect m) (the_effect n) e = ap the_effect (eqb-true m n e)

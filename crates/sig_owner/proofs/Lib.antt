@@ -4,3 +4,5 @@ mod Teardowns
 mod Counting
 mod Holding
 mod Ending
+mod Placing
+mod Dropping

@@ -1,8 +1,10 @@
 -- The rows of holders are read and written as the holders are.
-use Rattle.std.proofs.Common.{◌≡◌, ℕ, zero, suc, ◌+◌, ◌<◌, ◌≤◌, ◌==◌, true, false, List, [], ◌∷◌, ◌++◌, length, map, refl, sym, ap, ◌∙◌, arith}
+use Rattle.std.proofs.Common.{◌≡◌, ℕ, zero, suc, ◌+◌, ◌<◌, ◌≤◌, ◌==◌, Bool, cond, true, false, List, [], ◌∷◌, ◌++◌, length, map, refl, sym, ap, ◌∙◌, arith}
 use Rattle.std.specs.Prelude.{slice_index_or, slice_set}
 use Rattle.sig_owner.specs.declared.holder.Holder.{Holder}
-use Rattle.sig_owner.specs.Tables.{Row, changed_at, no_row, row_at, row_of, rows_of}
+use Rattle.std.specs.Prelude.{filter, not}
+use Rattle.sig_owner.specs.declared.holder.Made.{Made}
+use Rattle.sig_owner.specs.Tables.{Item, Row, changed_at, item_of, items_of, no_row, row_at, row_of, rows_of}
 
 pub rows_length : (hs : List Holder) → length (rows_of hs) ≡ length hs
 rows_length [] = refl
@@ -100,3 +102,13 @@ more_all P [] r h all zero = h
 more_all P [] r h all (suc k) = all k
 more_all P (q ∷ rs) r h all zero = all zero
 more_all P (q ∷ rs) r h all (suc k) = more_all P rs r h (λ j. all (suc j)) k
+
+-- the items of what is kept
+pub items_kept : (is_out : Item → Bool) (ms : List Made) → items_of (filter (λ m. not (is_out (item_of m))) ms) ≡ filter (λ i. not (is_out i)) (items_of ms)
+items_kept is_out [] = refl
+items_kept is_out (m ∷ ms) = by (not (is_out (item_of m))) (items_kept is_out ms)
+  where
+    by : (b : Bool) → items_of (filter (λ x. not (is_out (item_of x))) ms) ≡ filter (λ i. not (is_out i)) (items_of ms) →
+        items_of (cond b (m ∷ filter (λ x. not (is_out (item_of x))) ms) (filter (λ x. not (is_out (item_of x))) ms)) ≡ cond b (item_of m ∷ filter (λ i. not (is_out i)) (items_of ms)) (filter (λ i. not (is_out i)) (items_of ms))
+    by true e = ap (λ is. item_of m ∷ is) e
+    by false e = e

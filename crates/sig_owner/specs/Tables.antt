@@ -1,5 +1,5 @@
 -- The holders of a store as rows by number, and edits of one row.
-use Rattle.std.specs.Prelude.{ℕ, zero, suc, ◌+◌, ◌&&◌, ◌||◌, Bool, true, false, List, [], ◌∷◌, ◌++◌, map, length, Option, Some, None, if◌then◌else◌}
+use Rattle.std.specs.Prelude.{◌≡◌, ℕ, zero, suc, ◌+◌, ◌&&◌, ◌||◌, Bool, true, false, List, [], ◌∷◌, ◌++◌, map, length, Option, Some, None, if◌then◌else◌}
 use Rattle.sig_base.specs.Values.{scalar_value}
 use Rattle.effect_model.specs.Owning.{Thing, the_signal, the_owner, the_effect, the_page, same_thing, Cleanup, sets, logs}
 use Rattle.sig_owner.specs.declared.thing.Thing.{Thing as AThing}
@@ -152,3 +152,32 @@ all_ended (n ∷ ns) rows = all_ended ns (changed_at ended_row n rows)
 abbrev pub is_made_for : Thing → List Row → Bool
 is_made_for t [] = false
 is_made_for t (r ∷ rs) = (r.live && same_thing t r.holder) || is_made_for t rs
+
+-- ---- one thing taken out
+
+-- whether an item is this thing, by the things that the numbers stand for
+abbrev pub is_of : (ℕ → Thing) → Thing → Item → Bool
+is_of names t (held m) = same_thing t (names m)
+is_of names t (leaf u) = same_thing t u
+is_of names t (noted c) = false
+
+-- the items that aren't this thing
+abbrev pub without : (ℕ → Thing) → Thing → List Item → List Item
+without names t [] = []
+without names t (i ∷ is) = if is_of names t i then without names t is else i ∷ without names t is
+
+-- whether a row is this thing, and lives
+abbrev pub is_row_of : Thing → Row → Bool
+is_row_of t r = r.live && same_thing t r.holder
+
+-- a row after a thing is taken out: it is gone where it is that thing, else the thing stands under it no more
+abbrev pub dropped_row : (ℕ → Thing) → Thing → Row → Row
+dropped_row names t r = if is_row_of t r then ended_row r else record r { items = without names t r.items }
+
+-- a thing and nothing else is taken out
+abbrev pub dropped : Thing → List Row → List Row
+dropped t rows = map (dropped_row (thing_at rows) t) rows
+
+-- nothing stands under a thing
+abbrev pub IsBare : List Row → Thing → Type 0
+IsBare rows t = (n : ℕ) → live_at rows n ≡ true → same_thing t (thing_at rows n) ≡ true → items_at rows n ≡ []

@@ -1,8 +1,9 @@
 // The holders of a store, each at the place that is its owner's number, and edits of one of them. Past the last place nothing is held.
-ghost use Rattle.std.specs.Prelude.{◌≡◌, ◌<◌, ◌+◌, if◌then◌else◌, true, ◌++◌, ◌∷◌, [], length, vec_len, vec_capacity, OnOk, OnErr};
+ghost use Rattle.std.specs.Prelude.{◌≡◌, ◌<◌, ◌+◌, if◌then◌else◌, true, ◌++◌, ◌∷◌, [], length, vec_len, vec_capacity, filter, not, IfSome, OnOk, OnErr};
 ghost use Rattle.std.specs.List.{All};
+ghost use Rattle.sig_owner.specs.Sifting.{is_held_of, is_leaf_of, sifted_inside, sifted_row};
 ghost use Rattle.sig_owner.specs.Tables as tables;
-ghost use Rattle.sig_owner.specs.Tables.{above_row, all_ended, changed_at, ended_row, emptied_row, is_owner_row, item_of, items_at, items_of, live_at, owner_count, row_at, row_of, rows_of, thing_at, thing_of, with_holder, with_item};
+ghost use Rattle.sig_owner.specs.Tables.{above_at, above_row, all_ended, changed_at, ended_row, emptied_row, is_owner_row, is_row_of, item_of, items_at, items_of, live_at, owner_count, row_at, row_of, rows_of, thing_at, thing_of, with_holder, with_item};
 
 use crate::thing::{CleanupAct, Thing};
 use sig_base::{NoMemory, OwnerId};
@@ -86,6 +87,32 @@ fn is_owner_at(holders: &[Holder], id: OwnerId) -> bool
     } else {
         false
     }
+}
+
+fn is_thing(holder: &Holder, thing: &Thing) -> bool
+    ensures { result ≡ is_row_of (thing_of thing.now) (row_of holder.now) }
+{
+    holder.live && *thing == holder.thing
+}
+
+/// Whether the holder there lives and is this thing.
+pub(crate) fn is_thing_at(holders: &[Holder], id: OwnerId, thing: &Thing) -> bool
+    ensures { result ≡ is_row_of (thing_of thing.now) (row_at (rows_of holders.now) id) }
+{
+    if id.number() < holders.len() as u128 {
+        is_thing(&holders[id.number() as usize], thing)
+    } else {
+        false
+    }
+}
+
+// In which holder the one there stands, if any.
+fn above_at(holders: &[Holder], id: OwnerId) -> Option<OwnerId>
+    requires { id < length holders.now }
+    ensures { result ≡ above_at (rows_of holders.now) id }
+{
+    let _count = holders.len();
+    holders[id.number() as usize].above
 }
 
 // ---- edits
@@ -232,4 +259,85 @@ pub(crate) fn end_each(holders: &mut Vec<Holder>, owners: &mut usize, ended: &[O
     for id in ended {
         end_one(holders, owners, *id);
     }
+}
+
+// ---- one thing taken out
+
+fn is_leaf(made: &Made, thing: &Thing) -> bool
+    ensures { result ≡ is_leaf_of thing.now (item_of made.now) }
+{
+    match made {
+        Made::Leaf(leaf) => thing == leaf,
+        _ => false,
+    }
+}
+
+fn is_held(made: &Made, id: OwnerId) -> bool
+    ensures { result ≡ is_held_of id (item_of made.now) }
+{
+    match made {
+        Made::Held(inner) => *inner == id,
+        _ => false,
+    }
+}
+
+fn sift_leaves(all: &mut Vec<Made>, thing: &Thing)
+    ensures { all.new.items ≡ filter (λ m. not (is_leaf_of thing.now (item_of m))) all.old.items }
+{
+    all.retain(|made| !is_leaf(made, thing));
+}
+
+fn sift_held(all: &mut Vec<Made>, id: OwnerId)
+    ensures { all.new.items ≡ filter (λ m. not (is_held_of id (item_of m))) all.old.items }
+{
+    all.retain(|made| !is_held(made, id));
+}
+
+// Takes a node or a page out of what was made under a holder.
+fn drop_leaf(holder: &mut Holder, thing: &Thing)
+    ensures { row_of holder.new ≡ sifted_row (is_leaf_of thing.now) (row_of holder.old) }
+{
+    sift_leaves(&mut holder.made, thing);
+}
+
+/// Takes a node or a page out of what was made under a holder.
+pub(crate) fn drop_leaf_at(holders: &mut Vec<Holder>, id: OwnerId, thing: &Thing)
+    requires { id < length holders.old.items }
+    ensures { rows_of holders.new.items ≡ changed_at (sifted_row (is_leaf_of thing.now)) id (rows_of holders.old.items) }
+{
+    let _count = holders.len();
+    drop_leaf(&mut holders[id.number() as usize], thing);
+}
+
+// Takes a holder out of what was made under another.
+fn drop_held(holder: &mut Holder, id: OwnerId)
+    ensures { row_of holder.new ≡ sifted_row (is_held_of id) (row_of holder.old) }
+{
+    sift_held(&mut holder.made, id);
+}
+
+// Takes a holder out of what was made under the one that is given, if any.
+fn drop_inside(holders: &mut Vec<Holder>, inside: Option<OwnerId>, id: OwnerId)
+    requires { IfSome inside (λ n. n < length holders.old.items) }
+    ensures { rows_of holders.new.items ≡ sifted_inside inside (is_held_of id) (rows_of holders.old.items) }
+{
+    let Some(outer) = inside else {
+        return;
+    };
+    let _count = holders.len();
+    drop_held(&mut holders[outer.number() as usize], id);
+}
+
+/// Takes a holder out of the one in which it stands, ends it, and counts the owners that are left.
+pub(crate) fn drop_holder_at(holders: &mut Vec<Holder>, owners: &mut usize, id: OwnerId)
+    requires there { id < length holders.old.items }
+    requires above { IfSome (above_at (rows_of holders.old.items) id) (λ n. n < length holders.old.items) }
+    requires count { owners.old ≡ owner_count (rows_of holders.old.items) }
+    ensures rows { rows_of holders.new.items
+        ≡ changed_at ended_row id (sifted_inside (above_at (rows_of holders.old.items) id) (is_held_of id) (rows_of holders.old.items)) }
+    ensures count { owners.new ≡ owner_count (rows_of holders.new.items) }
+{
+    let above = above_at(holders, id);
+    drop_inside(holders, above, id);
+    end_one(holders, owners, id);
 }
