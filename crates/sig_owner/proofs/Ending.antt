@@ -4,7 +4,7 @@ use Rattle.std.proofs.lemmas.Bool.{cases_Bool, cases_eq, eqb-true, ne_eqb, or_le
 use Rattle.effect_model.specs.Owning.{Thing, same_thing}
 use Rattle.signal_model.specs.Standing.{is_in}
 use Rattle.sig_owner.specs.Tables.{Item, held, leaf, noted, Row, above_at, all_ended, changed_at, emptied_row, ended_row, is_holder, is_owner_row, items_at, live_at, owner_count, row_at, thing_at}
-use Rattle.sig_owner.specs.Places.{AreLeaves, Holds, held_count}
+use Rattle.sig_owner.specs.Places.{AreLeaves, Holds, has_leaf, held_count}
 use Rattle.sig_owner.specs.Walks.{IsTable, Step, does, leaves, ended_under, is_held, item_steps, items_steps, left_in, steps_under, steps_within, with_taken_back}
 use Rattle.sig_owner.proofs.Counting.{ended_length}
 use Rattle.sig_owner.proofs.Holding.{held_counted}
@@ -182,7 +182,7 @@ emptied_here (r ∷ rs) zero = refl
 emptied_here (r ∷ rs) (suc n) = emptied_here rs n
 
 module _ (rows : List Row) (owners o : ℕ) (left : ℕ) (h : Holds rows owners) where
-  keeps : {A : Type 0} (P : Row → A) → ((r : Row) → P (ended_row r) ≡ P r) → ((r : Row) → P (emptied_row r) ≡ P r) → (k : ℕ) → P (row_at (with_taken_back rows o) k) ≡ P (row_at rows k)
+  pub keeps : {A : Type 0} (P : Row → A) → ((r : Row) → P (ended_row r) ≡ P r) → ((r : Row) → P (emptied_row r) ≡ P r) → (k : ℕ) → P (row_at (with_taken_back rows o) k) ≡ P (row_at rows k)
   keeps P f g k = changed_keeps P emptied_row g o (all_ended (ended_under rows o) rows) k ∙ ended_keeps P f (ended_under rows o) rows k
 
   all_keep : (P : Row → Type 0) → ((r : Row) → P r → P (ended_row r)) → ((r : Row) → P r → P (emptied_row r)) → ((k : ℕ) → P (row_at rows k)) → (k : ℕ) → P (row_at (with_taken_back rows o) k)
@@ -216,6 +216,16 @@ module _ (rows : List Row) (owners o : ℕ) (left : ℕ) (h : Holds rows owners)
     | inr q ↦ elim (cases_Bool (is_in n (ended_under rows o))) [
       | inl x ↦ absurd (true≢false (sym e ∙ ap (is_held m) (none_ended n x)))
       | inr x ↦ ((q, x), sym (ap (λ (r : Row). is_held m r.items) (outside n q x)) ∙ e)
+    ]
+  ]
+
+  -- what stands there afterwards stood there
+  pub still_there : (n : ℕ) (t : Thing) → has_leaf t (items_at (with_taken_back rows o) n) ≡ true → has_leaf t (items_at rows n) ≡ true
+  still_there n t e = elim (cases_eq n o) [
+    | inl q ↦ absurd (true≢false (sym e ∙ ap (has_leaf t) (none_here n q)))
+    | inr q ↦ elim (cases_Bool (is_in n (ended_under rows o))) [
+      | inl x ↦ absurd (true≢false (sym e ∙ ap (has_leaf t) (none_ended n x)))
+      | inr x ↦ sym (ap (λ (r : Row). has_leaf t r.items) (outside n q x)) ∙ e
     ]
   ]
 

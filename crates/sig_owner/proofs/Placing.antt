@@ -5,11 +5,12 @@ use Rattle.effect_model.specs.Owning.{Thing, the_owner, the_effect, same_thing}
 use Rattle.sig_owner.specs.declared.thing.Thing.{Thing as AThing}
 use Rattle.sig_owner.specs.declared.thing.Thing.TheVariants as a
 use Rattle.sig_owner.specs.Keys.{same_key, same_key-true}
-use Rattle.sig_owner.specs.Tables.{Item, held, leaf, noted, Row, changed_at, is_holder, is_made_for, is_open, items_at, live_at, row_at, thing_at, thing_of, with_holder, with_item}
-use Rattle.sig_owner.specs.Places.{AreLeaves, ArePlaced, Holds, IsPlain, has_leaf, is_adopted}
+use Rattle.sig_owner.specs.Tables.{Item, held, leaf, noted, Row, all_ended, changed_at, is_holder, is_made_for, is_open, is_owner, items_at, live_at, owner_count, row_at, thing_at, thing_of, with_holder, with_item}
+use Rattle.sig_owner.specs.Places.{AreLeaves, ArePlaced, Holds, IsPlain, Keeps, has_leaf, is_adopted}
 use Rattle.sig_owner.specs.Walks.{ended_under, with_taken_back}
+use Rattle.sig_owner.proofs.Ending.{keeps, lives_still, still_there, taken_back_holds}
 use Rattle.sig_owner.proofs.Counting.{live_there}
-use Rattle.sig_owner.proofs.Holding.{IsNew, holder_row, inside_items, inside_keeps, same_true}
+use Rattle.sig_owner.proofs.Holding.{IsNew, holder_holds, holder_row, item_holds, inside_items, inside_keeps, same_true}
 use Rattle.sig_owner.proofs.Reading.{changed_here, changed_keeps, changed_other}
 
 pub nothing_placed : (place : AThing → Option ℕ) → ArePlaced [] place
@@ -117,3 +118,70 @@ holder_placed rows place inside t one p = record {
     | inr x ↦ one e (sym (ap (λ (r : Row). r.holder) x.1) ∙ w) ∙ ap Some (sym x.0)
   ];
 }
+
+key_same : (s t : AThing) → thing_of t ≡ thing_of s → same_key s t ≡ true
+key_same (a.Node m) (a.Node n) e = let q : n ≡ m = cc in eq-eqb m n (sym q)
+key_same (a.Effect m) (a.Effect n) e = let q : n ≡ m = cc in eq-eqb m n (sym q)
+key_same (a.Page m) (a.Page n) e = let q : n ≡ m = cc in eq-eqb m n (sym q)
+key_same (a.Owner m) (a.Owner n) e = let q : n ≡ m = cc in eq-eqb m n (sym q)
+key_same _ _ e = absurd (cc)
+
+-- ---- all fields
+
+-- where nothing changed
+pub same_kept : (rows rows' : List Row) (owners : ℕ) (place place' : AThing → Option ℕ) → rows' ≡ rows → ((t : AThing) → place' t ≡ place t) → Keeps rows owners place → Keeps rows' owners place'
+same_kept rows rows' owners place place' e u k = record {
+  holds = subst (λ rs. Holds rs owners) (sym e) k.holds;
+  placed = subst (λ rs. ArePlaced rs place') (sym e) (record { leaves = λ n t q. u t ∙ k.placed.leaves n t q; effects = λ n m l q. u (a.Effect m) ∙ k.placed.effects n m l q });
+}
+
+-- where a thing was placed that stands nowhere yet
+pub one_kept : (rows rows' : List Row) (owners : ℕ) (place place' : AThing → Option ℕ) (t : AThing) (id : ℕ) → IsLone rows t → rows' ≡ rows → ((s : AThing) → place' s ≡ cond (same_key t s) (Some id) (place s)) → Keeps rows owners place → Keeps rows' owners place'
+one_kept rows rows' owners place place' t id lone e u k = record {
+  holds = subst (λ rs. Holds rs owners) (sym e) k.holds;
+  placed = subst (λ rs. ArePlaced rs place') (sym e) (one_placed rows place place' t id lone u k.placed);
+}
+
+-- where an item was put under a row
+pub item_kept : (rows rows' : List Row) (owners n : ℕ) (place : AThing → Option ℕ) (i : Item) → IsPlain i → live_at rows n ≡ true → ((t : AThing) → has_leaf (thing_of t) (i ∷ []) ≡ true → place t ≡ Some n) →
+    rows' ≡ changed_at (with_item i) n rows → Holds rows owners → ArePlaced rows place → Keeps rows' owners place
+item_kept rows rows' owners n place i p live one e h placed = record {
+  holds = subst (λ rs. Holds rs owners) (sym e) (item_holds rows owners n i p live h);
+  placed = subst (λ rs. ArePlaced rs place) (sym e) (item_placed rows place n i (live_there rows n live) one placed);
+}
+
+-- where a holder was made
+pub holder_kept : (rows rows' : List Row) (owners owners' : ℕ) (place : AThing → Option ℕ) (inside : Option ℕ) (t : Thing) → IsNew rows t → is_open rows inside ≡ true →
+    ((e : ℕ) → t ≡ the_effect e → place (a.Effect e) ≡ Some (length rows)) → rows' ≡ with_holder rows inside t → owners' ≡ owners + cond (is_owner t) 1 0 → Holds rows owners → ArePlaced rows place → Keeps rows' owners' place
+holder_kept rows rows' owners owners' place inside t new may one e n h placed = record {
+  holds = (let x = holder_holds rows owners inside t new may h in subst (λ rs. Holds rs owners') (sym e) (subst (Holds (with_holder rows inside t)) (sym n) x));
+  placed = subst (λ rs. ArePlaced rs place) (sym e) (holder_placed rows place inside t one placed);
+}
+
+-- the place of the thing that was just noted
+pub place_noted : (place place' : AThing → Option ℕ) (t : AThing) (id : ℕ) → ((s : AThing) → place' s ≡ cond (same_key t s) (Some id) (place s)) → (s : AThing) → has_leaf (thing_of s) (leaf (thing_of t) ∷ []) ≡ true → place' s ≡ Some id
+place_noted place place' t id u s e = u s ∙ elim (cases_Bool (same_key t s)) [
+  | inl q ↦ rw q refl
+  | inr q ↦ absurd (true≢false (sym (only e) ∙ q))
+]
+  where
+    only : has_leaf (thing_of s) (leaf (thing_of t) ∷ []) ≡ true → same_key t s ≡ true
+    only h = key_same t s (elim (cases_Bool (same_thing (thing_of s) (thing_of t))) [
+      | inl q ↦ same_true (thing_of s) (thing_of t) q
+      | inr q ↦ absurd (true≢false (sym h ∙ rw q refl))
+    ])
+
+-- where things were taken back
+pub taken_back_kept : (rows rows' : List Row) (owners o left : ℕ) (place : AThing → Option ℕ) → rows' ≡ with_taken_back rows o → left ≡ owner_count (all_ended (ended_under rows o) rows) → Keeps rows owners place → Keeps rows' left place
+taken_back_kept rows rows' owners o left place e n k = record {
+  holds = subst (λ rs. Holds rs left) (sym e) (taken_back_holds rows owners o left k.holds n);
+  placed = subst (λ rs. ArePlaced rs place) (sym e) (fewer_placed rows (with_taken_back rows o) place
+    (λ m t q. still_there rows owners o left k.holds m t q)
+    (λ m l. (lives_still rows owners o left k.holds m l).1)
+    (λ m l. keeps rows owners o left k.holds (λ r. r.holder) (λ r. refl) (λ r. refl) m)
+    k.placed);
+}
+
+-- the place of the effect that was just noted
+pub effect_noted : (place place' : AThing → Option ℕ) (e id n : ℕ) → id ≡ n → ((s : AThing) → place' s ≡ cond (same_key (a.Effect e) s) (Some id) (place s)) → (m : ℕ) → the_effect e ≡ the_effect m → place' (a.Effect m) ≡ Some n
+effect_noted place place' e id n q u m w = let x : e ≡ m = cc in u (a.Effect m) ∙ (let y = eq-eqb e m x in rw y (ap Some q))

@@ -2,15 +2,17 @@
 ghost use Rattle.std.specs.Prelude.{◌≡◌, ◌<◌, ◌≤◌, ◌↔◌, [], length, true, false, IfOk, IsErrOf, OnOk, OnErr};
 ghost use Rattle.effect_model.specs.Owning.{teardown_of, the_effect, the_owner};
 ghost use Rattle.sig_owner.specs.declared.errors.OwnFault.TheVariants as fault;
-ghost use Rattle.sig_owner.specs.Tables.{changed_at, cleanup_of, is_holder, is_made_for, is_open, item_of, leaf, live_at, noted, owner_count, thing_at, thing_of, with_holder, with_item};
-ghost use Rattle.sig_owner.specs.Places.{IsPlain};
+ghost use Rattle.sig_owner.specs.Tables.{changed_at, cleanup_of, is_holder, is_made_for, is_open, leaf, live_at, noted, owner_count, thing_at, thing_of, with_holder, with_item};
+ghost use Rattle.sig_owner.specs.Places.{is_adopted};
 ghost use Rattle.sig_owner.specs.Trees.{stands_under};
 ghost use Rattle.sig_owner.specs.Walks.{undoings_of, with_taken_back};
 
 use crate::errors::OwnFault;
 use crate::holder::{Holder, Made, add_holder, clear_at, end_each, is_live_at, is_open, put_at};
+use crate::places::note_place;
 use crate::thing::{CleanupAct, Thing, Undoing};
 use crate::walk::teardown_under;
+use indexmap::IndexMap;
 use sig_base::{EffectId, MOST_OWNERS, OwnerId};
 use std::alloc::Global;
 use std::marker::Model;
@@ -21,6 +23,7 @@ pub struct Owners {
     alloc: Global,
     holders: Vec<Holder>,
     owners: usize,
+    places: IndexMap<Thing, OwnerId>,
 }
 
 impl Model for Owners {
@@ -30,11 +33,12 @@ impl Model for Owners {
     ghost Value = { List Row };
 
     ghost use Rattle.sig_owner.specs.Tables.{rows_of};
-    ghost use Rattle.sig_owner.specs.Places.{Holds};
+    ghost use Rattle.sig_owner.specs.Keys.{placed};
+    ghost use Rattle.sig_owner.specs.Places.{Keeps};
 
     ghost view = { λ o. rows_of o.holders.items };
 
-    ghost invariant = { λ o. Holds (rows_of o.holders.items) o.owners };
+    ghost invariant = { λ o. Keeps (rows_of o.holders.items) o.owners (placed o.places) };
 }
 
 impl Owners {
@@ -46,6 +50,7 @@ impl Owners {
             alloc,
             holders: Vec::new(alloc),
             owners: 0,
+            places: IndexMap::new(alloc),
         }
     }
 
@@ -84,14 +89,17 @@ impl Owners {
             return Err(OwnFault::Gone);
         }
         let id = OwnerId::of(self.holders.len() as u128);
+        note_place(&mut self.places, &Thing::Effect(effect), id)?;
         add_holder(self.alloc, &mut self.holders, Thing::Effect(effect), inside)?;
         Ok(id)
     }
 
-    // Puts an item last under an owner.
-    fn put(&mut self, id: OwnerId, made: Made) -> Result<(), OwnFault>
-        requires { IsPlain (item_of made) }
-        ensures after { OnOk result (self.new ≡ changed_at (with_item (item_of made)) id self.old) }
+    /// Puts a node or a page that stands under no owner last under an owner. It is refused where the owner is gone. After a refusal, and
+    /// without memory, the store is as before.
+    pub fn adopt(&mut self, id: OwnerId, thing: Thing) -> Result<(), OwnFault>
+        requires kind { is_holder (thing_of thing) ≡ false }
+        requires lone { is_adopted (thing_of thing) self.old ≡ false }
+        ensures after { OnOk result (self.new ≡ changed_at (with_item (leaf (thing_of thing))) id self.old) }
         ensures limit { IsErrOf result fault.Limit → ⊥ }
         ensures gone { IsErrOf result fault.Gone ↔ (live_at self.old id ≡ false) }
         ensures err { OnErr result (self.new ≡ self.old) }
@@ -99,7 +107,8 @@ impl Owners {
         if !is_live_at(&self.holders, id) {
             return Err(OwnFault::Gone);
         }
-        put_at(&mut self.holders, id, made)?;
+        note_place(&mut self.places, &thing, id)?;
+        put_at(&mut self.holders, id, Made::Leaf(thing))?;
         Ok(())
     }
 
@@ -110,7 +119,11 @@ impl Owners {
         ensures gone { IsErrOf result fault.Gone ↔ (live_at self.old id ≡ false) }
         ensures err { OnErr result (self.new ≡ self.old) }
     {
-        self.put(id, Made::Cleanup(cleanup))
+        if !is_live_at(&self.holders, id) {
+            return Err(OwnFault::Gone);
+        }
+        put_at(&mut self.holders, id, Made::Cleanup(cleanup))?;
+        Ok(())
     }
 
     /// Takes back what stands under an owner: the last made first, under an owner or effect all that stands under it before its own end.

@@ -17,12 +17,12 @@ pub(crate) fn place_of(places: &IndexMap<Thing, OwnerId>, thing: &Thing) -> Opti
 /// Notes the place of a thing; without memory all is as before.
 pub(crate) fn note_place(
     places: &mut IndexMap<Thing, OwnerId>,
-    thing: Thing,
+    thing: &Thing,
     id: OwnerId,
 ) -> Result<(), NoMemory>
-    ensures ok { OnOk result ((t : AThing) → placed places.new t ≡ (if same_key thing t then Some id else placed places.old t)) }
+    ensures ok { OnOk result ((t : AThing) → placed places.new t ≡ (if same_key thing.now t then Some id else placed places.old t)) }
     ensures err { OnErr result ((t : AThing) → placed places.new t ≡ placed places.old t) }
 {
-    places.insert(thing, id)?;
+    places.insert(*thing, id)?;
     Ok(())
 }

@@ -1,9 +1,10 @@
-use Rattle.std.proofs.Common.{◌≡◌, ◌+◌, true, length, sym, ap, subst, ◌∙◌, arith}
+use Rattle.std.proofs.Common.{◌≡◌, ◌+◌, true, length, refl, sym, ap, ◌∙◌, arith}
 use Rattle.effect_model.specs.Owning.{the_owner}
+use Rattle.sig_owner.specs.Keys.{placed}
 use Rattle.sig_owner.specs.Tables.{is_open, rows_of}
-use Rattle.sig_owner.specs.Places.{Holds}
 use Rattle.sig_owner.proofs.Reading.{rows_length}
-use Rattle.sig_owner.proofs.Holding.{holder_holds, new_owner}
+use Rattle.sig_owner.proofs.Holding.{new_owner}
+use Rattle.sig_owner.proofs.Placing.{holder_kept}
 use Rattle.sig_owner.proofs.owners.Owners.make.Goals as goal
 
 pub invariant_of-self-2 : goal.invariant_of-self-2
@@ -12,5 +13,5 @@ invariant_of-self-2 c =
     let rows = rows_of hs in
     let may : is_open rows c.args.inside ≡ true = sym (c.is_open.ensures ∙ ap (λ xs. is_open (rows_of xs) c.args.inside) c.deref.ensures.value) ∙ c.if-not-is_open.false in
     let id : c.of-id.result ≡ length rows = omega (arith, rows_length hs, c.of-id.ensures, c.len.ensures, c.self.inside.holders.ok.0) in
-    subst (λ rs. Holds rs (c.self.inside.owners + 1)) (sym c.in_ok-add_holder.ensures.ok)
-    (holder_holds rows c.self.inside.owners c.args.inside (the_owner c.of-id.result) (new_owner rows c.self.inside.owners c.of-id.result id c.self.invariant) may c.self.invariant)
+    holder_kept rows _ c.self.inside.owners (c.self.inside.owners + 1) (placed c.self.inside.places) c.args.inside (the_owner c.of-id.result) (new_owner rows c.self.inside.owners c.of-id.result id c.self.invariant.holds) may
+    (λ e q. absurd (cc)) c.in_ok-add_holder.ensures.ok refl c.self.invariant.holds c.self.invariant.placed

@@ -1,15 +1,33 @@
-use Rattle.std.proofs.Common.{◌≡◌, ◌+◌, true, sym, ap, subst, ◌∙◌, add-zero}
+use Rattle.std.proofs.Common.{◌≡◌, ◌+◌, true, false, Some, length, refl, sym, ap, ◌∙◌, add-zero, arith}
 use Rattle.effect_model.specs.Owning.{the_effect}
-use Rattle.sig_owner.specs.Tables.{is_made_for, is_open, rows_of, with_holder}
-use Rattle.sig_owner.specs.Places.{Holds}
-use Rattle.sig_owner.proofs.Holding.{holder_holds, new_effect}
+use Rattle.sig_owner.specs.Keys.{placed, same_key-refl}
+use Rattle.sig_owner.specs.declared.thing.Thing.TheVariants as a
+use Rattle.sig_owner.specs.Tables.{is_made_for, is_open, rows_of}
+use Rattle.sig_owner.proofs.Reading.{rows_length}
+use Rattle.sig_owner.proofs.Holding.{new_effect}
+use Rattle.sig_owner.proofs.Placing.{effect_noted, holder_kept, lone_effect, one_kept, one_placed, same_kept}
 use Rattle.sig_owner.proofs.owners.Owners.make_for.Goals as goal
+
+pub invariant_of-self : goal.invariant_of-self
+invariant_of-self c =
+    let rows = rows_of c.self.inside.holders.items in
+    same_kept rows rows c.self.inside.owners (placed c.self.inside.places) (placed c.note_place.new.places) refl c.in_err-note_place.ensures.err c.self.invariant
+
+pub invariant_of-self-in_err-add_holder : goal.invariant_of-self-in_err-add_holder
+invariant_of-self-in_err-add_holder c =
+    let rows = rows_of c.self.inside.holders.items in
+    let new = new_effect rows c.args.effect (ap (is_made_for (the_effect c.args.effect)) c.self.view_is ∙ c.requires) in
+    one_kept rows _ c.self.inside.owners (placed c.self.inside.places) (placed c.note_place.new.places) (a.Effect c.args.effect) c.of-id.result (lone_effect rows c.self.inside.owners c.args.effect new c.self.invariant.holds)
+    c.in_err-add_holder.ensures.err c.in_ok-note_place.ensures.ok c.self.invariant
 
 pub invariant_of-self-2 : goal.invariant_of-self-2
 invariant_of-self-2 c =
-    let rows = rows_of c.self.inside.holders.items in
+    let hs = c.self.inside.holders.items in
+    let rows = rows_of hs in
     let may : is_open rows c.args.inside ≡ true = sym (c.is_open.ensures ∙ ap (λ xs. is_open (rows_of xs) c.args.inside) c.deref.ensures.value) ∙ c.if-not-is_open.false in
-    let fresh = ap (is_made_for (the_effect c.args.effect)) c.self.view_is ∙ c.requires in
-    subst (λ rs. Holds rs c.self.inside.owners) (sym c.in_ok-add_holder.ensures.ok)
-    (subst (Holds (with_holder rows c.args.inside (the_effect c.args.effect))) (add-zero c.self.inside.owners)
-    (holder_holds rows c.self.inside.owners c.args.inside (the_effect c.args.effect) (new_effect rows c.args.effect fresh) may c.self.invariant))
+    let id : c.of-id.result ≡ length rows = omega (arith, rows_length hs, c.of-id.ensures, c.len.ensures, c.self.inside.holders.ok.0) in
+    let new = new_effect rows c.args.effect (ap (is_made_for (the_effect c.args.effect)) c.self.view_is ∙ c.requires) in
+    let places = one_placed rows (placed c.self.inside.places) (placed c.note_place.new.places) (a.Effect c.args.effect) c.of-id.result (lone_effect rows c.self.inside.owners c.args.effect new c.self.invariant.holds) c.in_ok-note_place.ensures.ok c.self.invariant.placed in
+    holder_kept rows _ c.self.inside.owners c.self.inside.owners (placed c.note_place.new.places) c.args.inside (the_effect c.args.effect) new may
+    (effect_noted (placed c.self.inside.places) (placed c.note_place.new.places) c.args.effect c.of-id.result (length rows) id c.in_ok-note_place.ensures.ok)
+    c.in_ok-add_holder.ensures.ok (sym (add-zero c.self.inside.owners)) c.self.invariant.holds places

@@ -1,17 +1,18 @@
-use Rattle.std.proofs.Common.{◌≡◌, List, true, length, sym, ap, subst, ◌∙◌, arith}
+use Rattle.std.proofs.Common.{◌≡◌, List, true, length, sym, ap, ◌∙◌, arith}
 use Rattle.sig_owner.specs.Tables.{Row, all_ended, changed_at, emptied_row, live_at, owner_count, rows_of}
-use Rattle.sig_owner.specs.Places.{Holds}
+use Rattle.sig_owner.specs.Keys.{placed}
 use Rattle.sig_owner.specs.Walks.{ended_under}
 use Rattle.sig_owner.proofs.Counting.{ended_length, live_there}
 use Rattle.sig_owner.proofs.Reading.{rows_length}
-use Rattle.sig_owner.proofs.Ending.{ended_there, taken_back_holds}
+use Rattle.sig_owner.proofs.Ending.{ended_there}
+use Rattle.sig_owner.proofs.Placing.{taken_back_kept}
 use Rattle.sig_owner.proofs.owners.Owners.take_back.Goals as goal
 
 pub end_each-requires-clause-there : goal.end_each-requires-clause-there
 end_each-requires-clause-there c =
     let rows = rows_of c.self.inside.holders.items in
     let ended = c.deref-3.ensures.value ∙ (c.in_ok-teardown.ensures.ended ∙ ap (λ hs. ended_under (rows_of hs) c.args.id) c.deref-2.ensures.value) in
-    ended_there rows c.self.invariant.table c.args.id c.deref-3.result.now ended
+    ended_there rows c.self.invariant.holds.table c.args.id c.deref-3.result.now ended
 
 pub clear_at-requires : goal.clear_at-requires
 clear_at-requires c =
@@ -25,5 +26,4 @@ invariant_of-self c =
     let rows = rows_of c.self.inside.holders.items in
     let ended = c.deref-3.ensures.value ∙ (c.in_ok-teardown.ensures.ended ∙ ap (λ hs. ended_under (rows_of hs) c.args.id) c.deref-2.ensures.value) in
     let after = c.end_each.ensures.rows ∙ ap (λ ns. all_ended ns rows) ended in
-    subst (λ rs. Holds rs c.end_each.new.owners) (sym (c.clear_at.ensures ∙ ap (changed_at emptied_row c.args.id) after))
-    (taken_back_holds rows c.self.inside.owners c.args.id c.end_each.new.owners c.self.invariant (c.end_each.ensures.count ∙ ap owner_count after))
+    taken_back_kept rows _ c.self.inside.owners c.args.id c.end_each.new.owners (placed c.self.inside.places) (c.clear_at.ensures ∙ ap (changed_at emptied_row c.args.id) after) (c.end_each.ensures.count ∙ ap owner_count after) c.self.invariant

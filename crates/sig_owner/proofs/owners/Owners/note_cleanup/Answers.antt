@@ -1,10 +1,11 @@
-use Rattle.std.proofs.Common.{◌≡◌, true, sym, ap, subst, ◌∙◌, arith}
-use Rattle.sig_owner.specs.Tables.{item_of, live_at, rows_of}
-use Rattle.sig_owner.specs.Places.{Holds}
+use Rattle.std.proofs.Common.{◌≡◌, true, sym, ap, ◌∙◌, arith}
+use Rattle.std.proofs.lemmas.Bool.{true≢false}
+use Rattle.sig_owner.specs.Keys.{placed}
+use Rattle.sig_owner.specs.Tables.{cleanup_of, live_at, noted, rows_of}
 use Rattle.sig_owner.proofs.Counting.{live_there}
 use Rattle.sig_owner.proofs.Reading.{rows_length}
-use Rattle.sig_owner.proofs.Holding.{item_holds}
-use Rattle.sig_owner.proofs.owners.Owners.put.Goals as goal
+use Rattle.sig_owner.proofs.Placing.{item_kept}
+use Rattle.sig_owner.proofs.owners.Owners.note_cleanup.Goals as goal
 
 pub put_at-requires : goal.put_at-requires
 put_at-requires c =
@@ -16,5 +17,5 @@ pub invariant_of-self-2 : goal.invariant_of-self-2
 invariant_of-self-2 c =
     let rows = rows_of c.self.inside.holders.items in
     let live : live_at rows c.args.id ≡ true = sym (c.is_live_at.ensures ∙ ap (λ xs. live_at (rows_of xs) c.args.id) c.deref.ensures.value) ∙ c.if-not-is_live_at.false in
-    subst (λ rs. Holds rs c.self.inside.owners) (sym c.in_ok-put_at.ensures.ok)
-    (item_holds rows c.self.inside.owners c.args.id (item_of c.args.made) c.requires live c.self.invariant)
+    item_kept rows _ c.self.inside.owners c.args.id (placed c.self.inside.places) (noted (cleanup_of c.args.cleanup)) tt live
+    (λ t e. absurd (true≢false (sym e))) c.in_ok-put_at.ensures.ok c.self.invariant.holds c.self.invariant.placed

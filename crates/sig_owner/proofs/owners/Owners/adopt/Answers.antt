@@ -1,0 +1,34 @@
+use Rattle.std.proofs.Common.{◌≡◌, true, refl, sym, ap, ◌∙◌, arith}
+use Rattle.sig_owner.specs.Keys.{placed}
+use Rattle.sig_owner.specs.Places.{is_adopted}
+use Rattle.sig_owner.specs.Tables.{leaf, live_at, rows_of, thing_of}
+use Rattle.sig_owner.proofs.Counting.{live_there}
+use Rattle.sig_owner.proofs.Reading.{rows_length}
+use Rattle.sig_owner.proofs.Placing.{item_kept, lone_leaf, one_kept, one_placed, place_noted, same_kept}
+use Rattle.sig_owner.proofs.owners.Owners.adopt.Goals as goal
+
+pub invariant_of-self : goal.invariant_of-self
+invariant_of-self c =
+    let rows = rows_of c.self.inside.holders.items in
+    same_kept rows rows c.self.inside.owners (placed c.self.inside.places) (placed c.note_place.new.places) refl c.in_err-note_place.ensures.err c.self.invariant
+
+pub put_at-requires : goal.put_at-requires
+put_at-requires c =
+    let rows = rows_of c.self.inside.holders.items in
+    let live : live_at rows c.args.id ≡ true = sym (c.is_live_at.ensures ∙ ap (λ xs. live_at (rows_of xs) c.args.id) c.deref.ensures.value) ∙ c.if-not-is_live_at.false in
+    omega (arith, live_there rows c.args.id live, rows_length c.self.inside.holders.items)
+
+pub invariant_of-self-in_err-put_at : goal.invariant_of-self-in_err-put_at
+invariant_of-self-in_err-put_at c =
+    let rows = rows_of c.self.inside.holders.items in
+    let lone = lone_leaf rows c.self.inside.owners c.args.thing c.requires.kind (ap (is_adopted (thing_of c.args.thing)) c.self.view_is ∙ c.requires.lone) in
+    one_kept rows _ c.self.inside.owners (placed c.self.inside.places) (placed c.note_place.new.places) c.args.thing c.args.id lone c.in_err-put_at.ensures.err c.in_ok-note_place.ensures.ok c.self.invariant
+
+pub invariant_of-self-2 : goal.invariant_of-self-2
+invariant_of-self-2 c =
+    let rows = rows_of c.self.inside.holders.items in
+    let live : live_at rows c.args.id ≡ true = sym (c.is_live_at.ensures ∙ ap (λ xs. live_at (rows_of xs) c.args.id) c.deref.ensures.value) ∙ c.if-not-is_live_at.false in
+    let lone = lone_leaf rows c.self.inside.owners c.args.thing c.requires.kind (ap (is_adopted (thing_of c.args.thing)) c.self.view_is ∙ c.requires.lone) in
+    let places = one_placed rows (placed c.self.inside.places) (placed c.note_place.new.places) c.args.thing c.args.id lone c.in_ok-note_place.ensures.ok c.self.invariant.placed in
+    item_kept rows _ c.self.inside.owners c.args.id (placed c.note_place.new.places) (leaf (thing_of c.args.thing)) c.requires.kind live
+    (place_noted (placed c.self.inside.places) (placed c.note_place.new.places) c.args.thing c.args.id c.in_ok-note_place.ensures.ok) c.in_ok-put_at.ensures.ok c.self.invariant.holds places
