@@ -34,7 +34,7 @@ pub ended_length : (ns : List ℕ) (rows : List Row) → length (all_ended ns ro
 ended_length [] rows = refl
 ended_length (n ∷ ns) rows = ended_length ns (changed_at ended_row n rows) ∙ changed_length ended_row n rows
 
-count_sifted_row : (is_out : Item → Bool) (n : ℕ) (rows : List Row) → owner_count (changed_at (sifted_row is_out) n rows) ≡ owner_count rows
+pub count_sifted_row : (is_out : Item → Bool) (n : ℕ) (rows : List Row) → owner_count (changed_at (sifted_row is_out) n rows) ≡ owner_count rows
 count_sifted_row is_out n [] = refl
 count_sifted_row is_out zero (r ∷ rs) = refl
 count_sifted_row is_out (suc n) (r ∷ rs) = ap (λ (k : ℕ). cond (is_owner_row r) 1 0 + k) (count_sifted_row is_out n rs)

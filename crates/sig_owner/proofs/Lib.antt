@@ -6,3 +6,4 @@ mod Holding
 mod Ending
 mod Placing
 mod Dropping
+mod Forests

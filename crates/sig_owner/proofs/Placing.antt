@@ -26,7 +26,7 @@ fewer_placed rows rows' place f g s p = record {
 
 -- ---- another thing is placed
 
-leaf_kind : (t : Thing) (is : List Item) → AreLeaves is → has_leaf t is ≡ true → is_holder t ≡ false
+pub leaf_kind : (t : Thing) (is : List Item) → AreLeaves is → has_leaf t is ≡ true → is_holder t ≡ false
 leaf_kind t [] h e = absurd (true≢false (sym e))
 leaf_kind t (held k ∷ is) h e = leaf_kind t is h e
 leaf_kind t (noted c ∷ is) h e = leaf_kind t is h e

@@ -1,5 +1,5 @@
 -- Which things are one, and where each stands by a map.
-use Rattle.std.specs.Prelude.{◌≡◌, ℕ, ◌==◌, Bool, true, false, Option, refl}
+use Rattle.std.specs.Prelude.{◌≡◌, ℕ, ◌==◌, Bool, true, false, Option, Some, refl}
 use Rattle.std.specs.Bool.{Decides}
 use Rattle.std.proofs.Common.{ap, eqb-true, eq-eqb}
 use Rattle.indexmap.specs.IndexMap.{IndexMap, get}
@@ -36,3 +36,8 @@ same_key-Decides s t = (same_key-true s t, λ (e : s ≡ t). rw (← e) (same_ke
 -- what a map has at a thing
 abbrev pub placed : {S : Type 0} → IndexMap Thing ℕ S → Thing → Option ℕ
 placed places t = get same_key places t
+
+-- where a thing's row is, or the row under which it stands: an owner's id is its number, and the others are placed
+abbrev pub hinted : (Thing → Option ℕ) → Thing → Option ℕ
+hinted place (a.Owner n) = Some n
+hinted place t = place t

@@ -1,5 +1,5 @@
 -- The trees that a store's rows stand for.
-use Rattle.std.specs.Prelude.{ℕ, zero, suc, ◌+◌, ◌&&◌, Bool, true, false, List, [], ◌∷◌, length, Option, Some, None, if◌then◌else◌}
+use Rattle.std.specs.Prelude.{ℕ, zero, suc, ◌+◌, ◌&&◌, not, Bool, List, [], ◌∷◌, length, is_some, if◌then◌else◌}
 use Rattle.effect_model.specs.Owning.{Thing, Owned, nothing, thing, cleanup}
 use Rattle.sig_owner.specs.Tables.{Item, held, leaf, noted, Row, items_at, thing_at}
 
@@ -23,19 +23,15 @@ under_within (suc levels) rows n = piled (thing_at rows) (under_within levels ro
 unfoldable pub stands_under : List Row → ℕ → Owned
 stands_under rows n = under_within (length rows) rows n
 
--- a row that stands at the top
+-- whether a row lives and stands at the top
 abbrev pub is_top : Row → Bool
-is_top r = r.live && at_top r.above
-  where
-    at_top : Option ℕ → Bool
-    at_top None = true
-    at_top (Some n) = false
+is_top r = r.live && not (is_some r.above)
 
--- the holders at the top from one number on, above the earlier ones
-abbrev pub topped : (ℕ → Owned) → ℕ → List Row → Owned → Owned
-topped below n [] earlier = earlier
-topped below n (r ∷ rs) earlier = topped below (n + 1) rs (if is_top r then thing r.holder (below n) earlier else earlier)
+-- the holders at the top, from one number on
+abbrev pub top_items : ℕ → List Row → List Item
+top_items n [] = []
+top_items n (r ∷ rs) = if is_top r then held n ∷ top_items (n + 1) rs else top_items (n + 1) rs
 
--- All that stands, the last made first. A node or page that no owner has isn't listed.
+-- All that stands, the last made first. A node or a page that no owner has isn't listed.
 unfoldable pub owned_of : List Row → Owned
-owned_of rows = topped (stands_under rows) 0 rows nothing
+owned_of rows = piled (thing_at rows) (stands_under rows) (top_items 0 rows) nothing

@@ -2,14 +2,17 @@
 ghost use Rattle.std.specs.Prelude.{◌≡◌, ◌<◌, ◌≤◌, ◌↔◌, [], length, true, false, IfOk, IsErrOf, OnOk, OnErr};
 ghost use Rattle.effect_model.specs.Owning.{teardown_of, the_effect, the_owner};
 ghost use Rattle.sig_owner.specs.declared.errors.OwnFault.TheVariants as fault;
-ghost use Rattle.sig_owner.specs.Tables.{changed_at, cleanup_of, is_holder, is_made_for, is_open, leaf, live_at, noted, owner_count, thing_at, thing_of, with_holder, with_item};
+ghost use Rattle.sig_owner.specs.Tables.{IsBare, changed_at, cleanup_of, dropped, is_holder, is_made_for, is_open, leaf, live_at, noted, owner_count, thing_at, thing_of, with_holder, with_item};
 ghost use Rattle.sig_owner.specs.Places.{is_adopted};
 ghost use Rattle.sig_owner.specs.Trees.{stands_under};
 ghost use Rattle.sig_owner.specs.Walks.{undoings_of, with_taken_back};
 
 use crate::errors::OwnFault;
-use crate::holder::{Holder, Made, add_holder, clear_at, end_each, is_live_at, is_open, put_at};
-use crate::places::note_place;
+use crate::holder::{
+    Holder, Made, add_holder, clear_at, drop_holder_at, drop_leaf_at, end_each, is_live_at, is_open,
+    is_thing_at, put_at,
+};
+use crate::places::{hint_of, note_place};
 use crate::thing::{CleanupAct, Thing, Undoing};
 use crate::walk::teardown_under;
 use indexmap::IndexMap;
@@ -144,5 +147,23 @@ impl Owners {
         end_each(&mut self.holders, &mut self.owners, &teardown.ended);
         clear_at(&mut self.holders, id);
         Ok(teardown.undoings)
+    }
+
+    /// Takes a thing out of what it stands under, if anything, and nothing else. An owner, or an effect with its owner, under which
+    /// nothing stands any more is gone then. It takes no memory.
+    pub fn drop_thing(&mut self, thing: Thing)
+        requires { IsBare self.old (thing_of thing) }
+        ensures { self.new ≡ dropped (thing_of thing) self.old }
+    {
+        let Some(id) = hint_of(&self.places, &thing) else {
+            return;
+        };
+        if is_thing_at(&self.holders, id, &thing) {
+            drop_holder_at(&mut self.holders, &mut self.owners, id);
+            return;
+        }
+        if is_live_at(&self.holders, id) {
+            drop_leaf_at(&mut self.holders, id, &thing);
+        }
     }
 }

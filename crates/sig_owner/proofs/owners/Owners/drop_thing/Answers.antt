@@ -1,0 +1,71 @@
+use Rattle.std.proofs.Common.{◌≡◌, ◌<◌, ℕ, true, false, length, refl, sym, ap, subst, ◌∙◌, arith}
+use Rattle.std.specs.Prelude.{IfSome}
+use Rattle.sig_owner.specs.Keys.{placed}
+use Rattle.sig_owner.specs.Tables.{above_at, dropped, is_row_of, live_at, owner_count, row_at, rows_of, thing_of}
+use Rattle.sig_owner.specs.Tables.{IsBare}
+use Rattle.sig_owner.proofs.Counting.{count_sifted_row, live_there}
+use Rattle.sig_owner.proofs.Reading.{rows_length}
+use Rattle.sig_owner.proofs.Dropping.{above_there, at_gone, at_nothing, at_outer, dropped_kept, holder_dropped, row_is}
+use Rattle.sig_owner.specs.Sifting.{is_leaf_of}
+use Rattle.sig_owner.proofs.owners.Owners.drop_thing.Goals as goal
+
+pub returns-in_default : goal.returns-in_default
+returns-in_default c =
+    sym c.self.view_is ∙ (at_nothing (rows_of c.self.inside.holders.items) c.self.inside.owners (placed c.self.inside.places) c.args.thing c.self.invariant (sym c.in_default.ensures) ∙ ap (dropped (thing_of c.args.thing)) c.self.view_is)
+
+pub drop_holder_at-requires-clause-there : goal.drop_holder_at-requires-clause-there
+drop_holder_at-requires-clause-there c =
+    let rows = rows_of c.self.inside.holders.items in
+    let here : is_row_of (thing_of c.args.thing) (row_at rows c.in-Some.id) ≡ true = sym (c.is_thing_at.ensures ∙ ap (λ xs. is_row_of (thing_of c.args.thing) (row_at (rows_of xs) c.in-Some.id)) c.deref.ensures.value) ∙ c.if-is_thing_at.true in
+    omega (arith, live_there rows c.in-Some.id (row_is (thing_of c.args.thing) (row_at rows c.in-Some.id) here).0, rows_length c.self.inside.holders.items)
+
+pub drop_holder_at-requires-clause-above : goal.drop_holder_at-requires-clause-above
+drop_holder_at-requires-clause-above c =
+    let rows = rows_of c.self.inside.holders.items in
+    let here : is_row_of (thing_of c.args.thing) (row_at rows c.in-Some.id) ≡ true = sym (c.is_thing_at.ensures ∙ ap (λ xs. is_row_of (thing_of c.args.thing) (row_at (rows_of xs) c.in-Some.id)) c.deref.ensures.value) ∙ c.if-is_thing_at.true in
+    subst (λ k. IfSome (above_at rows c.in-Some.id) (λ n. n < k)) (rows_length c.self.inside.holders.items)
+    (above_there rows c.self.inside.owners c.in-Some.id c.self.invariant.holds (row_is (thing_of c.args.thing) (row_at rows c.in-Some.id) here).0 (above_at rows c.in-Some.id) refl)
+
+pub invariant_of-self : goal.invariant_of-self
+invariant_of-self c =
+    let rows = rows_of c.self.inside.holders.items in
+    let here : is_row_of (thing_of c.args.thing) (row_at rows c.in-Some.id) ≡ true = sym (c.is_thing_at.ensures ∙ ap (λ xs. is_row_of (thing_of c.args.thing) (row_at (rows_of xs) c.in-Some.id)) c.deref.ensures.value) ∙ c.if-is_thing_at.true in
+    let bare = subst (λ rs. IsBare rs (thing_of c.args.thing)) (sym c.self.view_is) c.requires in
+    dropped_kept rows _ c.self.inside.owners c.drop_holder_at.new.owners (placed c.self.inside.places) (thing_of c.args.thing) bare
+    (c.drop_holder_at.ensures.rows ∙ holder_dropped rows c.self.inside.owners (placed c.self.inside.places) c.args.thing c.self.invariant c.in-Some.id here) c.drop_holder_at.ensures.count c.self.invariant
+
+pub returns-then-is_thing_at : goal.returns-then-is_thing_at
+returns-then-is_thing_at c =
+    let rows = rows_of c.self.inside.holders.items in
+    let here : is_row_of (thing_of c.args.thing) (row_at rows c.in-Some.id) ≡ true = sym (c.is_thing_at.ensures ∙ ap (λ xs. is_row_of (thing_of c.args.thing) (row_at (rows_of xs) c.in-Some.id)) c.deref.ensures.value) ∙ c.if-is_thing_at.true in
+    c.drop_holder_at.ensures.rows ∙ (holder_dropped rows c.self.inside.owners (placed c.self.inside.places) c.args.thing c.self.invariant c.in-Some.id here ∙ ap (dropped (thing_of c.args.thing)) c.self.view_is)
+
+pub drop_leaf_at-requires : goal.drop_leaf_at-requires
+drop_leaf_at-requires c =
+    let rows = rows_of c.self.inside.holders.items in
+    let live : live_at rows c.in-Some.id ≡ true = sym (c.is_live_at.ensures ∙ ap (λ xs. live_at (rows_of xs) c.in-Some.id) c.deref-2.ensures.value) ∙ c.if-is_live_at.true in
+    omega (arith, live_there rows c.in-Some.id live, rows_length c.self.inside.holders.items)
+
+pub invariant_of-self-then-is_live_at : goal.invariant_of-self-then-is_live_at
+invariant_of-self-then-is_live_at c =
+    let rows = rows_of c.self.inside.holders.items in
+    let off : is_row_of (thing_of c.args.thing) (row_at rows c.in-Some.id) ≡ false = sym (c.is_thing_at.ensures ∙ ap (λ xs. is_row_of (thing_of c.args.thing) (row_at (rows_of xs) c.in-Some.id)) c.deref.ensures.value) ∙ c.if-is_thing_at.false in
+    let live : live_at rows c.in-Some.id ≡ true = sym (c.is_live_at.ensures ∙ ap (λ xs. live_at (rows_of xs) c.in-Some.id) c.deref-2.ensures.value) ∙ c.if-is_live_at.true in
+    let bare = subst (λ rs. IsBare rs (thing_of c.args.thing)) (sym c.self.view_is) c.requires in
+    let e = c.drop_leaf_at.ensures ∙ at_outer rows c.self.inside.owners (placed c.self.inside.places) c.args.thing c.self.invariant c.in-Some.id (sym c.in-Some.ensures) off live in
+    dropped_kept rows _ c.self.inside.owners c.self.inside.owners (placed c.self.inside.places) (thing_of c.args.thing) bare e
+    (c.self.invariant.holds.count ∙ sym (ap owner_count c.drop_leaf_at.ensures ∙ count_sifted_row (is_leaf_of c.args.thing) c.in-Some.id rows)) c.self.invariant
+
+pub returns-then-is_live_at : goal.returns-then-is_live_at
+returns-then-is_live_at c =
+    let rows = rows_of c.self.inside.holders.items in
+    let off : is_row_of (thing_of c.args.thing) (row_at rows c.in-Some.id) ≡ false = sym (c.is_thing_at.ensures ∙ ap (λ xs. is_row_of (thing_of c.args.thing) (row_at (rows_of xs) c.in-Some.id)) c.deref.ensures.value) ∙ c.if-is_thing_at.false in
+    let live : live_at rows c.in-Some.id ≡ true = sym (c.is_live_at.ensures ∙ ap (λ xs. live_at (rows_of xs) c.in-Some.id) c.deref-2.ensures.value) ∙ c.if-is_live_at.true in
+    c.drop_leaf_at.ensures ∙ (at_outer rows c.self.inside.owners (placed c.self.inside.places) c.args.thing c.self.invariant c.in-Some.id (sym c.in-Some.ensures) off live ∙ ap (dropped (thing_of c.args.thing)) c.self.view_is)
+
+pub returns-else-is_live_at : goal.returns-else-is_live_at
+returns-else-is_live_at c =
+    let rows = rows_of c.self.inside.holders.items in
+    let off : is_row_of (thing_of c.args.thing) (row_at rows c.in-Some.id) ≡ false = sym (c.is_thing_at.ensures ∙ ap (λ xs. is_row_of (thing_of c.args.thing) (row_at (rows_of xs) c.in-Some.id)) c.deref.ensures.value) ∙ c.if-is_thing_at.false in
+    let dead : live_at rows c.in-Some.id ≡ false = sym (c.is_live_at.ensures ∙ ap (λ xs. live_at (rows_of xs) c.in-Some.id) c.deref-2.ensures.value) ∙ c.if-is_live_at.false in
+    sym c.self.view_is ∙ (at_gone rows c.self.inside.owners (placed c.self.inside.places) c.args.thing c.self.invariant c.in-Some.id (sym c.in-Some.ensures) off dead ∙ ap (dropped (thing_of c.args.thing)) c.self.view_is)
