@@ -33,6 +33,9 @@ rows_alike [] (y ∷ ys) l h = absurd (omega arith)
 rows_alike (x ∷ xs) [] l h = absurd (omega arith)
 rows_alike (x ∷ xs) (y ∷ ys) l h = let t = rows_alike xs ys (let m : length xs ≡ length ys = omega arith in m) (λ k. h (suc k)) in (λ i. h 0 i ∷ t i)
 
+pub dropped_length : (t : Thing) (rows : List Row) → length (dropped t rows) ≡ length rows
+dropped_length t rows = mapped_length (dropped_row (thing_at rows) t) rows
+
 pub dropped_at : (t : Thing) (rows : List Row) (k : ℕ) → row_at (dropped t rows) k ≡ dropped_row (thing_at rows) t (row_at rows k)
 dropped_at t rows k = mapped_at (dropped_row (thing_at rows) t) refl rows k
 
@@ -135,7 +138,7 @@ row_is t r e = elim (cases_Bool r.live) [ inl q ↦ (q, (let s : same_thing t r.
 -- ---- what holds afterwards
 
 module _ (rows : List Row) (owners left : ℕ) (t : Thing) (h : Holds rows owners) where
-  name_kept : (k : ℕ) → thing_at (dropped t rows) k ≡ thing_at rows k
+  pub name_kept : (k : ℕ) → thing_at (dropped t rows) k ≡ thing_at rows k
   name_kept k = ap (λ (r : Row). r.holder) (dropped_at t rows k) ∙ elim (cases_Bool (is_row_of t (row_at rows k))) [
     | inl q ↦ ap (λ (r : Row). r.holder) (row_out (thing_at rows) t (row_at rows k) q)
     | inr q ↦ ap (λ (r : Row). r.holder) (row_in (thing_at rows) t (row_at rows k) q)
@@ -147,10 +150,10 @@ module _ (rows : List Row) (owners left : ℕ) (t : Thing) (h : Holds rows owner
     | inr q ↦ ap (λ (r : Row). r.above) (row_in (thing_at rows) t (row_at rows k) q)
   ]
 
-  in_kept : (k : ℕ) → is_row_of t (row_at rows k) ≡ false → row_at (dropped t rows) k ≡ record (row_at rows k) { items = without (thing_at rows) t (items_at rows k) }
+  pub in_kept : (k : ℕ) → is_row_of t (row_at rows k) ≡ false → row_at (dropped t rows) k ≡ record (row_at rows k) { items = without (thing_at rows) t (items_at rows k) }
   in_kept k q = dropped_at t rows k ∙ row_in (thing_at rows) t (row_at rows k) q
 
-  out_gone : (k : ℕ) → is_row_of t (row_at rows k) ≡ true → row_at (dropped t rows) k ≡ ended_row (row_at rows k)
+  pub out_gone : (k : ℕ) → is_row_of t (row_at rows k) ≡ true → row_at (dropped t rows) k ≡ ended_row (row_at rows k)
   out_gone k q = dropped_at t rows k ∙ row_out (thing_at rows) t (row_at rows k) q
 
   pub lived : (k : ℕ) → live_at (dropped t rows) k ≡ true → (live_at rows k ≡ true) × (is_row_of t (row_at rows k) ≡ false)
@@ -165,7 +168,7 @@ module _ (rows : List Row) (owners left : ℕ) (t : Thing) (h : Holds rows owner
     | inr q ↦ held_left (thing_at rows) t m (items_at rows n) (sym (ap (λ (r : Row). is_held m r.items) (in_kept n q)) ∙ e)
   ]
 
-  other_row : (m : ℕ) → live_at rows m ≡ true → same_thing t (thing_at rows m) ≡ false → is_row_of t (row_at rows m) ≡ false
+  pub other_row : (m : ℕ) → live_at rows m ≡ true → same_thing t (thing_at rows m) ≡ false → is_row_of t (row_at rows m) ≡ false
   other_row m l e = row_alive t (row_at rows m) l ∙ e
 
   still_lives : (m : ℕ) → live_at rows m ≡ true → same_thing t (thing_at rows m) ≡ false → live_at (dropped t rows) m ≡ true

@@ -194,7 +194,7 @@ module _ (rows : List Row) (owners o : ℕ) (left : ℕ) (h : Holds rows owners)
   pub outside : (k : ℕ) → (k ≡ o → ⊥) → is_in k (ended_under rows o) ≡ false → row_at (with_taken_back rows o) k ≡ row_at rows k
   outside k ne e = changed_other emptied_row o k (all_ended (ended_under rows o) rows) (λ q. ne (sym q)) ∙ other_row_at (ended_under rows o) rows k e
 
-  none_here : (k : ℕ) → k ≡ o → items_at (with_taken_back rows o) k ≡ []
+  pub none_here : (k : ℕ) → k ≡ o → items_at (with_taken_back rows o) k ≡ []
   none_here k e = subst (λ j. items_at (with_taken_back rows o) j ≡ []) (sym e) (emptied_here (all_ended (ended_under rows o) rows) o)
 
   none_ended : (k : ℕ) → is_in k (ended_under rows o) ≡ true → items_at (with_taken_back rows o) k ≡ []
@@ -246,7 +246,7 @@ module _ (rows : List Row) (owners o : ℕ) (left : ℕ) (h : Holds rows owners)
     | inr x ↦ (x, sym (live_there_still k x) ∙ e)
   ]
 
-  taken_length : length (with_taken_back rows o) ≡ length rows
+  pub taken_length : length (with_taken_back rows o) ≡ length rows
   taken_length = changed_length emptied_row o (all_ended (ended_under rows o) rows) ∙ ended_length (ended_under rows o) rows
 
   pub taken_back_holds : left ≡ owner_count (all_ended (ended_under rows o) rows) → Holds (with_taken_back rows o) left

@@ -178,13 +178,13 @@ pub record IsNew (rows : List Row) (t : Thing) : Type 0 where
   pub fresh : (n : ℕ) → live_at rows n ≡ true → same_thing t (thing_at rows n) ≡ true → ⊥
 
 module _ (rows : List Row) (owners : ℕ) (inside : Option ℕ) (t : Thing) (new : IsNew rows t) (may : is_open rows inside ≡ true) (h : Holds rows owners) where
-  size : length (with_holder rows inside t) ≡ length rows + 1
+  pub size : length (with_holder rows inside t) ≡ length rows + 1
   size = let a = length-append (put_inside inside (held (length rows)) rows) (above_row t inside ∷ []) in let l = inside_length inside (held (length rows)) rows in omega (arith, a, l)
 
-  last : (n : ℕ) → n ≡ length rows → row_at (with_holder rows inside t) n ≡ above_row t inside
+  pub last : (n : ℕ) → n ≡ length rows → row_at (with_holder rows inside t) n ≡ above_row t inside
   last n e = elim (holder_row rows inside t n) [ inl x ↦ absurd (x.0 e) | inr x ↦ x.1 ]
 
-  row : (n : ℕ) → (n ≡ length rows → ⊥) → row_at (with_holder rows inside t) n ≡ row_at (put_inside inside (held (length rows)) rows) n
+  pub row : (n : ℕ) → (n ≡ length rows → ⊥) → row_at (with_holder rows inside t) n ≡ row_at (put_inside inside (held (length rows)) rows) n
   row n ne = elim (holder_row rows inside t n) [ inl x ↦ x.1 | inr x ↦ absurd (ne x.0) ]
 
   live : (n : ℕ) → (n ≡ length rows → ⊥) → live_at (with_holder rows inside t) n ≡ live_at rows n
@@ -193,7 +193,7 @@ module _ (rows : List Row) (owners : ℕ) (inside : Option ℕ) (t : Thing) (new
   above : (n : ℕ) → (n ≡ length rows → ⊥) → above_at (with_holder rows inside t) n ≡ above_at rows n
   above n ne = ap (λ (r : Row). r.above) (row n ne) ∙ inside_keeps (λ r. r.above) inside (held (length rows)) (λ r. refl) rows n
 
-  name : (n : ℕ) → (n ≡ length rows → ⊥) → thing_at (with_holder rows inside t) n ≡ thing_at rows n
+  pub name : (n : ℕ) → (n ≡ length rows → ⊥) → thing_at (with_holder rows inside t) n ≡ thing_at rows n
   name n ne = ap (λ (r : Row). r.holder) (row n ne) ∙ inside_keeps (λ r. r.holder) inside (held (length rows)) (λ r. refl) rows n
 
   within : (n : ℕ) → inside ≡ Some n → n < length rows

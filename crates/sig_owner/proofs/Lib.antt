@@ -7,3 +7,4 @@ mod Ending
 mod Placing
 mod Dropping
 mod Forests
+mod Growing

@@ -1,6 +1,6 @@
 -- The trees that a store's rows stand for.
-use Rattle.std.specs.Prelude.{ℕ, zero, suc, ◌+◌, ◌&&◌, not, Bool, List, [], ◌∷◌, length, is_some, if◌then◌else◌}
-use Rattle.effect_model.specs.Owning.{Thing, Owned, nothing, thing, cleanup}
+use Rattle.std.specs.Prelude.{ℕ, zero, suc, ◌+◌, ◌&&◌, not, Bool, List, [], ◌∷◌, length, Option, Some, None, is_some, if◌then◌else◌}
+use Rattle.effect_model.specs.Owning.{Thing, Owned, nothing, thing, cleanup, alone, put_under}
 use Rattle.sig_owner.specs.Tables.{Item, held, leaf, noted, Row, items_at, thing_at}
 
 -- one item above those that were made earlier, with what stands under it where it is a holder
@@ -35,3 +35,8 @@ top_items n (r ∷ rs) = if is_top r then held n ∷ top_items (n + 1) rs else t
 -- All that stands, the last made first. A node or a page that no owner has isn't listed.
 unfoldable pub owned_of : List Row → Owned
 owned_of rows = piled (thing_at rows) (stands_under rows) (top_items 0 rows) nothing
+
+-- a holder is made: inside the one of a number where one is given, else at the top
+abbrev pub made_in : List Row → Option ℕ → Thing → Owned → Owned
+made_in rows None t owned = thing t nothing owned
+made_in rows (Some n) t owned = put_under (thing_at rows n) (alone t) owned

@@ -1,10 +1,11 @@
 // The store of owners.
 ghost use Rattle.std.specs.Prelude.{◌≡◌, ◌<◌, ◌≤◌, ◌↔◌, [], length, true, false, IfOk, IsErrOf, OnOk, OnErr};
-ghost use Rattle.effect_model.specs.Owning.{teardown_of, the_effect, the_owner};
+ghost use Rattle.effect_model.specs.Owning as owning;
+ghost use Rattle.effect_model.specs.Owning.{alone, emptied, put_under, taken_out, teardown_of, the_effect, the_owner, under};
 ghost use Rattle.sig_owner.specs.declared.errors.OwnFault.TheVariants as fault;
 ghost use Rattle.sig_owner.specs.Tables.{IsBare, changed_at, cleanup_of, dropped, is_holder, is_made_for, is_open, leaf, live_at, noted, owner_count, thing_at, thing_of, with_holder, with_item};
 ghost use Rattle.sig_owner.specs.Places.{is_adopted};
-ghost use Rattle.sig_owner.specs.Trees.{stands_under};
+ghost use Rattle.sig_owner.specs.Trees.{made_in, owned_of};
 ghost use Rattle.sig_owner.specs.Walks.{undoings_of, with_taken_back};
 
 use crate::errors::OwnFault;
@@ -61,6 +62,7 @@ impl Owners {
     /// or where the one that is given is gone. After a refusal, and without memory, the store is as before.
     pub fn make(&mut self, inside: Option<OwnerId>) -> Result<OwnerId, OwnFault>
         ensures after { IfOk result (λ id. self.new ≡ with_holder self.old inside (the_owner id)) }
+        ensures tree { IfOk result (λ id. owned_of self.new ≡ made_in self.old inside (the_owner id) (owned_of self.old)) }
         ensures gives { IfOk result (λ id. id ≡ length self.old) }
         ensures limit { IsErrOf result fault.Limit ↔ (MOST_OWNERS ≤ owner_count self.old) }
         ensures gone { IsErrOf result fault.Gone ↔ ((owner_count self.old < MOST_OWNERS) × (is_open self.old inside ≡ false)) }
@@ -83,6 +85,7 @@ impl Owners {
     pub fn make_for(&mut self, effect: EffectId, inside: Option<OwnerId>) -> Result<OwnerId, OwnFault>
         requires { is_made_for (the_effect effect) self.old ≡ false }
         ensures after { OnOk result (self.new ≡ with_holder self.old inside (the_effect effect)) }
+        ensures tree { OnOk result (owned_of self.new ≡ made_in self.old inside (the_effect effect) (owned_of self.old)) }
         ensures gives { IfOk result (λ id. id ≡ length self.old) }
         ensures limit { IsErrOf result fault.Limit → ⊥ }
         ensures gone { IsErrOf result fault.Gone ↔ (is_open self.old inside ≡ false) }
@@ -103,6 +106,7 @@ impl Owners {
         requires kind { is_holder (thing_of thing) ≡ false }
         requires lone { is_adopted (thing_of thing) self.old ≡ false }
         ensures after { OnOk result (self.new ≡ changed_at (with_item (leaf (thing_of thing))) id self.old) }
+        ensures tree { OnOk result (owned_of self.new ≡ put_under (thing_at self.old id) (alone (thing_of thing)) (owned_of self.old)) }
         ensures limit { IsErrOf result fault.Limit → ⊥ }
         ensures gone { IsErrOf result fault.Gone ↔ (live_at self.old id ≡ false) }
         ensures err { OnErr result (self.new ≡ self.old) }
@@ -118,6 +122,8 @@ impl Owners {
     /// Notes a cleanup under an owner. It is refused where the owner is gone. After a refusal, and without memory, the store is as before.
     pub fn note_cleanup(&mut self, id: OwnerId, cleanup: CleanupAct) -> Result<(), OwnFault>
         ensures after { OnOk result (self.new ≡ changed_at (with_item (noted (cleanup_of cleanup))) id self.old) }
+        ensures tree { OnOk result (owned_of self.new
+            ≡ put_under (thing_at self.old id) (owning.cleanup (cleanup_of cleanup) owning.nothing) (owned_of self.old)) }
         ensures limit { IsErrOf result fault.Limit → ⊥ }
         ensures gone { IsErrOf result fault.Gone ↔ (live_at self.old id ≡ false) }
         ensures err { OnErr result (self.new ≡ self.old) }
@@ -134,8 +140,9 @@ impl Owners {
     /// without memory, the store is as before.
     pub fn take_back(&mut self, id: OwnerId) -> Result<Vec<Undoing>, OwnFault>
         ensures undoings { IfOk result (λ us.
-            undoings_of (thing_at self.old) us.items ≡ teardown_of (thing_at self.old id) (stands_under self.old id)) }
+            undoings_of (thing_at self.old) us.items ≡ teardown_of (thing_at self.old id) (under (thing_at self.old id) (owned_of self.old))) }
         ensures after { OnOk result (self.new ≡ with_taken_back self.old id) }
+        ensures tree { OnOk result (owned_of self.new ≡ emptied (thing_at self.old id) (owned_of self.old)) }
         ensures limit { IsErrOf result fault.Limit → ⊥ }
         ensures gone { IsErrOf result fault.Gone ↔ (live_at self.old id ≡ false) }
         ensures err { OnErr result (self.new ≡ self.old) }
@@ -153,7 +160,8 @@ impl Owners {
     /// nothing stands any more is gone then. It takes no memory.
     pub fn drop_thing(&mut self, thing: Thing)
         requires { IsBare self.old (thing_of thing) }
-        ensures { self.new ≡ dropped (thing_of thing) self.old }
+        ensures after { self.new ≡ dropped (thing_of thing) self.old }
+        ensures tree { owned_of self.new ≡ taken_out (thing_of thing) (owned_of self.old) }
     {
         let Some(id) = hint_of(&self.places, &thing) else {
             return;

@@ -9,8 +9,8 @@ use Rattle.sig_owner.proofs.Dropping.{above_there, at_gone, at_nothing, at_outer
 use Rattle.sig_owner.specs.Sifting.{is_leaf_of}
 use Rattle.sig_owner.proofs.owners.Owners.drop_thing.Goals as goal
 
-pub returns-in_default : goal.returns-in_default
-returns-in_default c =
+pub returns-in_default-clause-after : goal.returns-in_default-clause-after
+returns-in_default-clause-after c =
     sym c.self.view_is ∙ (at_nothing (rows_of c.self.inside.holders.items) c.self.inside.owners (placed c.self.inside.places) c.args.thing c.self.invariant (sym c.in_default.ensures) ∙ ap (dropped (thing_of c.args.thing)) c.self.view_is)
 
 pub drop_holder_at-requires-clause-there : goal.drop_holder_at-requires-clause-there
@@ -34,8 +34,8 @@ invariant_of-self c =
     dropped_kept rows _ c.self.inside.owners c.drop_holder_at.new.owners (placed c.self.inside.places) (thing_of c.args.thing) bare
     (c.drop_holder_at.ensures.rows ∙ holder_dropped rows c.self.inside.owners (placed c.self.inside.places) c.args.thing c.self.invariant c.in-Some.id here) c.drop_holder_at.ensures.count c.self.invariant
 
-pub returns-then-is_thing_at : goal.returns-then-is_thing_at
-returns-then-is_thing_at c =
+pub returns-then-is_thing_at-clause-after : goal.returns-then-is_thing_at-clause-after
+returns-then-is_thing_at-clause-after c =
     let rows = rows_of c.self.inside.holders.items in
     let here : is_row_of (thing_of c.args.thing) (row_at rows c.in-Some.id) ≡ true = sym (c.is_thing_at.ensures ∙ ap (λ xs. is_row_of (thing_of c.args.thing) (row_at (rows_of xs) c.in-Some.id)) c.deref.ensures.value) ∙ c.if-is_thing_at.true in
     c.drop_holder_at.ensures.rows ∙ (holder_dropped rows c.self.inside.owners (placed c.self.inside.places) c.args.thing c.self.invariant c.in-Some.id here ∙ ap (dropped (thing_of c.args.thing)) c.self.view_is)
@@ -56,15 +56,15 @@ invariant_of-self-then-is_live_at c =
     dropped_kept rows _ c.self.inside.owners c.self.inside.owners (placed c.self.inside.places) (thing_of c.args.thing) bare e
     (c.self.invariant.holds.count ∙ sym (ap owner_count c.drop_leaf_at.ensures ∙ count_sifted_row (is_leaf_of c.args.thing) c.in-Some.id rows)) c.self.invariant
 
-pub returns-then-is_live_at : goal.returns-then-is_live_at
-returns-then-is_live_at c =
+pub returns-then-is_live_at-clause-after : goal.returns-then-is_live_at-clause-after
+returns-then-is_live_at-clause-after c =
     let rows = rows_of c.self.inside.holders.items in
     let off : is_row_of (thing_of c.args.thing) (row_at rows c.in-Some.id) ≡ false = sym (c.is_thing_at.ensures ∙ ap (λ xs. is_row_of (thing_of c.args.thing) (row_at (rows_of xs) c.in-Some.id)) c.deref.ensures.value) ∙ c.if-is_thing_at.false in
     let live : live_at rows c.in-Some.id ≡ true = sym (c.is_live_at.ensures ∙ ap (λ xs. live_at (rows_of xs) c.in-Some.id) c.deref-2.ensures.value) ∙ c.if-is_live_at.true in
     c.drop_leaf_at.ensures ∙ (at_outer rows c.self.inside.owners (placed c.self.inside.places) c.args.thing c.self.invariant c.in-Some.id (sym c.in-Some.ensures) off live ∙ ap (dropped (thing_of c.args.thing)) c.self.view_is)
 
-pub returns-else-is_live_at : goal.returns-else-is_live_at
-returns-else-is_live_at c =
+pub returns-else-is_live_at-clause-after : goal.returns-else-is_live_at-clause-after
+returns-else-is_live_at-clause-after c =
     let rows = rows_of c.self.inside.holders.items in
     let off : is_row_of (thing_of c.args.thing) (row_at rows c.in-Some.id) ≡ false = sym (c.is_thing_at.ensures ∙ ap (λ xs. is_row_of (thing_of c.args.thing) (row_at (rows_of xs) c.in-Some.id)) c.deref.ensures.value) ∙ c.if-is_thing_at.false in
     let dead : live_at rows c.in-Some.id ≡ false = sym (c.is_live_at.ensures ∙ ap (λ xs. live_at (rows_of xs) c.in-Some.id) c.deref-2.ensures.value) ∙ c.if-is_live_at.false in

@@ -1,7 +1,10 @@
-use Rattle.std.proofs.Common.{◌≡◌, List, true, length, sym, ap, ◌∙◌, arith}
-use Rattle.sig_owner.specs.Tables.{Row, all_ended, changed_at, emptied_row, live_at, owner_count, rows_of}
+use Rattle.std.proofs.Common.{◌≡◌, List, true, length, sym, ap, subst, ◌∙◌, arith}
+use Rattle.sig_owner.specs.Tables.{Row, all_ended, changed_at, emptied_row, live_at, owner_count, rows_of, thing_at}
 use Rattle.sig_owner.specs.Keys.{placed}
-use Rattle.sig_owner.specs.Walks.{ended_under}
+use Rattle.effect_model.specs.Owning.{teardown_of, under}
+use Rattle.sig_owner.specs.Trees.{owned_of, stands_under}
+use Rattle.sig_owner.specs.Walks.{ended_under, undoings_of}
+use Rattle.sig_owner.proofs.Forests.{under_is}
 use Rattle.sig_owner.proofs.Counting.{ended_length, live_there}
 use Rattle.sig_owner.proofs.Reading.{rows_length}
 use Rattle.sig_owner.proofs.Ending.{ended_there}
@@ -27,3 +30,12 @@ invariant_of-self c =
     let ended = c.deref-3.ensures.value ∙ (c.in_ok-teardown.ensures.ended ∙ ap (λ hs. ended_under (rows_of hs) c.args.id) c.deref-2.ensures.value) in
     let after = c.end_each.ensures.rows ∙ ap (λ ns. all_ended ns rows) ended in
     taken_back_kept rows _ c.self.inside.owners c.args.id c.end_each.new.owners (placed c.self.inside.places) (c.clear_at.ensures ∙ ap (changed_at emptied_row c.args.id) after) (c.end_each.ensures.count ∙ ap owner_count after) c.self.invariant
+
+pub returns-clause-undoings : goal.returns-clause-undoings
+returns-clause-undoings c =
+    let rows = rows_of c.self.inside.holders.items in
+    let us = c.in_ok-teardown.teardown.undoings.items in
+    let live : live_at rows c.args.id ≡ true = sym (c.is_live_at.ensures ∙ ap (λ xs. live_at (rows_of xs) c.args.id) c.deref.ensures.value) ∙ c.if-not-is_live_at.false in
+    let told = subst (λ hs. undoings_of (thing_at (rows_of hs)) us ≡ teardown_of (thing_at (rows_of hs) c.args.id) (stands_under (rows_of hs) c.args.id)) c.deref-2.ensures.value c.in_ok-teardown.ensures.undoings in
+    subst (λ rs. undoings_of (thing_at rs) us ≡ teardown_of (thing_at rs c.args.id) (under (thing_at rs c.args.id) (owned_of rs))) c.self.view_is
+    (told ∙ ap (teardown_of (thing_at rows c.args.id)) (sym (under_is rows c.self.inside.owners c.self.invariant.holds c.args.id live)))
