@@ -2,17 +2,17 @@
 use Rattle.std.proofs.Common.{◌≡◌, ℕ, zero, suc, ◌+◌, ◌<◌, ◌≤◌, ◌==◌, ◌||◌, ◌&&◌, Bool, true, false, List, [], ◌∷◌, ◌++◌, length, Option, Some, None, ◌⊎◌, inl, inr, eq-eqb, refl, sym, ap, subst, ◌∙◌, arith, cond}
 use Rattle.std.specs.Prelude.{not, is_some}
 use Rattle.std.proofs.lemmas.Bool.{cases_Bool, cases_eq, cases_lt, eqb-true, ne_eqb, or_left, or_right, true≢false}
-use Rattle.effect_model.specs.Owning.{Thing, Owned, nothing, thing, cleanup, emptied, put_under, same_thing, taken_out, with_earlier}
-use Rattle.sig_owner.specs.Tables.{Item, held, leaf, noted, Row, above_at, above_row, changed_at, dropped, is_open, is_holder, is_row_of, items_at, live_at, row_at, thing_at, with_holder, with_item, without}
+use Rattle.effect_model.specs.Owning.{Thing, Owned, Cleanup, alone, nothing, thing, cleanup, emptied, put_under, same_thing, taken_out, with_earlier}
+use Rattle.sig_owner.specs.Tables.{IsBare, Item, held, leaf, noted, Row, above_at, above_row, all_ended, changed_at, dropped, is_holder, is_open, is_row_of, items_at, live_at, owner_count, row_at, thing_at, with_holder, with_item, without}
 use Rattle.sig_owner.specs.Trees.{is_top, laid, made_in, owned_of, piled, stands_under, top_items}
 use Rattle.sig_owner.specs.Places.{AreLeaves, Holds, IsPlain, has_leaf, held_count}
 use Rattle.signal_model.specs.Standing.{is_in}
 use Rattle.sig_owner.specs.Walks.{IsTable, ended_under, is_held, with_taken_back}
 use Rattle.sig_owner.proofs.Counting.{live_there}
-use Rattle.sig_owner.proofs.Dropping.{dropped_length, held_left, in_kept, name_kept, other_row, out_gone, row_is}
-use Rattle.sig_owner.proofs.Ending.{ended_held, gone_there, held_lives, keeps, live_there_still, none_here, outside, taken_length}
+use Rattle.sig_owner.proofs.Dropping.{dropped_holds, dropped_length, held_left, in_kept, name_kept, other_row, out_gone, row_is}
+use Rattle.sig_owner.proofs.Ending.{ended_held, gone_there, held_lives, keeps, live_there_still, none_here, outside, taken_back_holds, taken_length}
 use Rattle.sig_owner.proofs.Forests.{piled_same, same_is, stands_here, stands_past, top_lives}
-use Rattle.sig_owner.proofs.Holding.{IsNew, holder_holds, holder_row, last, name, row, same_true, size}
+use Rattle.sig_owner.proofs.Holding.{IsNew, holder_holds, holder_row, item_holds, last, name, row, same_true, size}
 use Rattle.sig_owner.proofs.Placing.{leaf_kind}
 use Rattle.sig_owner.proofs.Reading.{changed_here, changed_keeps, changed_length, changed_other, row_past}
 
@@ -350,3 +350,33 @@ module _ (rows : List Row) (owners : ℕ) (t : Thing) (new : IsNew rows t) (h : 
   made_is (Some o) may =
       put_is rows (with_holder rows (Some o) t) owners o (held (length rows)) h may (holder_puts o may)
       ∙ (λ i. put_under (thing_at rows o) (thing (new_name (Some o) may i) (new_empty (Some o) may i) nothing) (owned_of rows))
+
+-- ---- as callers see it
+
+pub made_seen : (rows rows' seen : List Row) (owners : ℕ) (inside : Option ℕ) (t : Thing) → IsNew rows t → is_open rows inside ≡ true → Holds rows owners → rows' ≡ with_holder rows inside t → rows ≡ seen →
+    owned_of rows' ≡ made_in seen inside t (owned_of seen)
+made_seen rows rows' seen owners inside t new may h e v = ap owned_of e ∙ (made_is rows owners t new h inside may ∙ ap (λ rs. made_in rs inside t (owned_of rs)) v)
+
+pub leaf_seen : (rows rows' seen : List Row) (owners n : ℕ) (t : Thing) → is_holder t ≡ false → live_at rows n ≡ true → Holds rows owners → rows' ≡ changed_at (with_item (leaf t)) n rows → rows ≡ seen →
+    owned_of rows' ≡ put_under (thing_at seen n) (alone t) (owned_of seen)
+leaf_seen rows rows' seen owners n t k l h e v =
+    ap owned_of e
+    ∙ (put_is rows (changed_at (with_item (leaf t)) n rows) owners n (leaf t) h l (item_puts rows owners n (leaf t) h l (item_holds rows owners n (leaf t) k l h).table)
+    ∙ ap (λ rs. put_under (thing_at rs n) (alone t) (owned_of rs)) v)
+
+pub noted_seen : (rows rows' seen : List Row) (owners n : ℕ) (c : Cleanup) → live_at rows n ≡ true → Holds rows owners → rows' ≡ changed_at (with_item (noted c)) n rows → rows ≡ seen →
+    owned_of rows' ≡ put_under (thing_at seen n) (cleanup c nothing) (owned_of seen)
+noted_seen rows rows' seen owners n c l h e v =
+    ap owned_of e
+    ∙ (put_is rows (changed_at (with_item (noted c)) n rows) owners n (noted c) h l (item_puts rows owners n (noted c) h l (item_holds rows owners n (noted c) tt l h).table)
+    ∙ ap (λ rs. put_under (thing_at rs n) (cleanup c nothing) (owned_of rs)) v)
+
+pub taken_back_seen : (rows rows' seen : List Row) (owners o : ℕ) → live_at rows o ≡ true → Holds rows owners → rows' ≡ with_taken_back rows o → rows ≡ seen → owned_of rows' ≡ emptied (thing_at seen o) (owned_of seen)
+taken_back_seen rows rows' seen owners o l h e v =
+    ap owned_of e
+    ∙ (emptied_is rows owners o h l (taken_back_holds rows owners o (owner_count (all_ended (ended_under rows o) rows)) h refl).table
+    ∙ ap (λ rs. emptied (thing_at rs o) (owned_of rs)) v)
+
+pub dropped_seen : (rows rows' seen : List Row) (owners : ℕ) (t : Thing) → IsBare rows t → Holds rows owners → rows' ≡ dropped t rows → rows ≡ seen → owned_of rows' ≡ taken_out t (owned_of seen)
+dropped_seen rows rows' seen owners t bare h e v =
+    ap owned_of e ∙ (taken_is rows owners t h (dropped_holds rows owners (owner_count (dropped t rows)) t h bare refl).table ∙ ap (λ rs. taken_out t (owned_of rs)) v)

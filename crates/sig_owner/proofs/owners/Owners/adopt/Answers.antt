@@ -5,6 +5,7 @@ use Rattle.sig_owner.specs.Tables.{leaf, live_at, rows_of, thing_of}
 use Rattle.sig_owner.proofs.Counting.{live_there}
 use Rattle.sig_owner.proofs.Reading.{rows_length}
 use Rattle.sig_owner.proofs.Placing.{item_kept, lone_leaf, one_kept, one_placed, place_noted, same_kept}
+use Rattle.sig_owner.proofs.Growing.{leaf_seen}
 use Rattle.sig_owner.proofs.owners.Owners.adopt.Goals as goal
 
 pub invariant_of-self : goal.invariant_of-self
@@ -32,3 +33,9 @@ invariant_of-self-2 c =
     let places = one_placed rows (placed c.self.inside.places) (placed c.note_place.new.places) c.args.thing c.args.id lone c.in_ok-note_place.ensures.ok c.self.invariant.placed in
     item_kept rows _ c.self.inside.owners c.args.id (placed c.note_place.new.places) (leaf (thing_of c.args.thing)) c.requires.kind live
     (place_noted (placed c.self.inside.places) (placed c.note_place.new.places) c.args.thing c.args.id c.in_ok-note_place.ensures.ok) c.in_ok-put_at.ensures.ok c.self.invariant.holds places
+
+pub returns-clause-tree : goal.returns-clause-tree
+returns-clause-tree c =
+    let rows = rows_of c.self.inside.holders.items in
+    let live : live_at rows c.args.id ≡ true = sym (c.is_live_at.ensures ∙ ap (λ xs. live_at (rows_of xs) c.args.id) c.deref.ensures.value) ∙ c.if-not-is_live_at.false in
+    leaf_seen rows _ _ c.self.inside.owners c.args.id (thing_of c.args.thing) c.requires.kind live c.self.invariant.holds c.in_ok-put_at.ensures.ok c.self.view_is

@@ -6,6 +6,7 @@ use Rattle.sig_owner.specs.Tables.{is_made_for, is_open, rows_of}
 use Rattle.sig_owner.proofs.Reading.{rows_length}
 use Rattle.sig_owner.proofs.Holding.{new_effect}
 use Rattle.sig_owner.proofs.Placing.{effect_noted, holder_kept, lone_effect, one_kept, one_placed, same_kept}
+use Rattle.sig_owner.proofs.Growing.{made_seen}
 use Rattle.sig_owner.proofs.owners.Owners.make_for.Goals as goal
 
 pub invariant_of-self : goal.invariant_of-self
@@ -31,3 +32,10 @@ invariant_of-self-2 c =
     holder_kept rows _ c.self.inside.owners c.self.inside.owners (placed c.note_place.new.places) c.args.inside (the_effect c.args.effect) new may
     (effect_noted (placed c.self.inside.places) (placed c.note_place.new.places) c.args.effect c.of-id.result (length rows) id c.in_ok-note_place.ensures.ok)
     c.in_ok-add_holder.ensures.ok (sym (add-zero c.self.inside.owners)) c.self.invariant.holds places
+
+pub returns-clause-tree : goal.returns-clause-tree
+returns-clause-tree c =
+    let rows = rows_of c.self.inside.holders.items in
+    let may : is_open rows c.args.inside ≡ true = sym (c.is_open.ensures ∙ ap (λ xs. is_open (rows_of xs) c.args.inside) c.deref.ensures.value) ∙ c.if-not-is_open.false in
+    let new = new_effect rows c.args.effect (ap (is_made_for (the_effect c.args.effect)) c.self.view_is ∙ c.requires) in
+    made_seen rows _ _ c.self.inside.owners c.args.inside (the_effect c.args.effect) new may c.self.invariant.holds c.in_ok-add_holder.ensures.ok c.self.view_is

@@ -9,6 +9,7 @@ use Rattle.sig_owner.proofs.Counting.{ended_length, live_there}
 use Rattle.sig_owner.proofs.Reading.{rows_length}
 use Rattle.sig_owner.proofs.Ending.{ended_there}
 use Rattle.sig_owner.proofs.Placing.{taken_back_kept}
+use Rattle.sig_owner.proofs.Growing.{taken_back_seen}
 use Rattle.sig_owner.proofs.owners.Owners.take_back.Goals as goal
 
 pub end_each-requires-clause-there : goal.end_each-requires-clause-there
@@ -39,3 +40,11 @@ returns-clause-undoings c =
     let told = subst (λ hs. undoings_of (thing_at (rows_of hs)) us ≡ teardown_of (thing_at (rows_of hs) c.args.id) (stands_under (rows_of hs) c.args.id)) c.deref-2.ensures.value c.in_ok-teardown.ensures.undoings in
     subst (λ rs. undoings_of (thing_at rs) us ≡ teardown_of (thing_at rs c.args.id) (under (thing_at rs c.args.id) (owned_of rs))) c.self.view_is
     (told ∙ ap (teardown_of (thing_at rows c.args.id)) (sym (under_is rows c.self.inside.owners c.self.invariant.holds c.args.id live)))
+
+pub returns-clause-tree : goal.returns-clause-tree
+returns-clause-tree c =
+    let rows = rows_of c.self.inside.holders.items in
+    let live : live_at rows c.args.id ≡ true = sym (c.is_live_at.ensures ∙ ap (λ xs. live_at (rows_of xs) c.args.id) c.deref.ensures.value) ∙ c.if-not-is_live_at.false in
+    let ended = c.deref-3.ensures.value ∙ (c.in_ok-teardown.ensures.ended ∙ ap (λ hs. ended_under (rows_of hs) c.args.id) c.deref-2.ensures.value) in
+    let after = c.end_each.ensures.rows ∙ ap (λ ns. all_ended ns rows) ended in
+    taken_back_seen rows _ _ c.self.inside.owners c.args.id live c.self.invariant.holds (c.clear_at.ensures ∙ ap (changed_at emptied_row c.args.id) after) c.self.view_is
