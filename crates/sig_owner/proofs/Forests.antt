@@ -136,7 +136,7 @@ top_is r e = (first r.live (not (is_some r.above)) e, bare r.above (second r.liv
     bare None q = refl
     bare (Some n) q = absurd (true≢false (sym q))
 
-is_top_row : (r : Row) → r.live ≡ true → r.above ≡ None → is_top r ≡ true
+pub is_top_row : (r : Row) → r.live ≡ true → r.above ≡ None → is_top r ≡ true
 is_top_row r l a = (λ i. (l i) && not (is_some (a i)))
 
 top_later : (k m : ℕ) (rs : List Row) → m < k → held_count m (top_items k rs) ≡ 0
@@ -147,7 +147,7 @@ top_later k m (r ∷ rs) l = by (is_top r) (top_later (k + 1) m rs (omega (arith
     by true z = let w = ne_eqb m k (λ e. let x : m ≡ k = e in absurd (omega (arith, x, l))) in rw w (omega (arith, z))
     by false z = z
 
-top_count : (k j m : ℕ) (rs : List Row) → m ≡ k + j → is_top (row_at rs j) ≡ true → held_count m (top_items k rs) ≡ 1
+pub top_count : (k j m : ℕ) (rs : List Row) → m ≡ k + j → is_top (row_at rs j) ≡ true → held_count m (top_items k rs) ≡ 1
 top_count k j m [] q e = absurd (true≢false (sym e))
 top_count k zero m (r ∷ rs) q e =
     let w = eq-eqb m k (let x : m ≡ k = omega (arith, q) in x) in
@@ -179,7 +179,7 @@ top_held k m (r ∷ rs) e = by (is_top r) refl e (top_held (k + 1) m rs)
       | inr z ↦ (let w = ne_eqb m k z in later (f (let y : is_held m (top_items (k + 1) rs) ≡ true = rw w at x in y)))
     ]
 
-same_refl : (a : Thing) → same_thing a a ≡ true
+pub same_refl : (a : Thing) → same_thing a a ≡ true
 same_refl (the_signal n) = eq-eqb n n refl
 same_refl (the_owner n) = eq-eqb n n refl
 same_refl (the_effect n) = eq-eqb n n refl
@@ -282,13 +282,13 @@ module _ (rows : List Row) (owners : ℕ) (h : Holds rows owners) where
       (λ m e w. through (length rows) o p m l k a (omega arith) w)
       ∙ (ap (under (thing_at rows o)) ih ∙ under_outer o p l k a)
 
-  outer_lives : (o p : ℕ) → live_at rows o ≡ true → above_at rows o ≡ Some p → live_at rows p ≡ true
+  pub outer_lives : (o p : ℕ) → live_at rows o ≡ true → above_at rows o ≡ Some p → live_at rows p ≡ true
   outer_lives o p l a = elim (cases_Bool (live_at rows p)) [
     | inl q ↦ q
     | inr q ↦ (let c = h.once p o l a in let z = ap (held_count o) (h.empty p q) in absurd (omega (arith, c, z)))
   ]
 
-  outer_before : (o p : ℕ) → live_at rows o ≡ true → above_at rows o ≡ Some p → p < o
+  pub outer_before : (o p : ℕ) → live_at rows o ≡ true → above_at rows o ≡ Some p → p < o
   outer_before o p l a = h.table.later p o (held_counted o (items_at rows p) (h.once p o l a))
 
   under_each : (b o : ℕ) → o < b → live_at rows o ≡ true → under (thing_at rows o) (piled (thing_at rows) (stands_under rows) (top_items 0 rows) nothing) ≡ stands_under rows o

@@ -2,7 +2,7 @@
 use Rattle.std.proofs.Common.{◌≡◌, ℕ, zero, suc, ◌+◌, ◌<◌, ◌≤◌, ◌==◌, ◌||◌, ◌&&◌, Bool, true, false, List, [], ◌∷◌, ◌++◌, length, Option, Some, None, ◌⊎◌, inl, inr, eq-eqb, refl, sym, ap, subst, ◌∙◌, arith, cond, length-append}
 use Rattle.std.proofs.lemmas.Bool.{cases_Bool, cases_eq, cases_lt, eqb-true, ne_eqb, or_left, or_right, true≢false}
 use Rattle.effect_model.specs.Owning.{Thing, the_signal, the_owner, the_effect, the_page, the_watcher, same_thing}
-use Rattle.sig_owner.specs.Tables.{Item, held, leaf, noted, Row, above_at, above_row, changed_at, is_holder, is_made_for, is_open, is_owner, is_owner_row, items_at, live_at, owner_count, put_inside, row_at, thing_at, with_holder, with_item}
+use Rattle.sig_owner.specs.Tables.{Item, held, leaf, noted, Row, above_at, above_row, changed_at, is_holder, is_open, is_owner, is_owner_row, items_at, live_at, owner_count, put_inside, row_at, thing_at, with_holder, with_item}
 use Rattle.sig_owner.specs.Places.{AreLeaves, Holds, IsPlain, held_count}
 use Rattle.sig_owner.specs.Walks.{IsTable, is_held}
 use Rattle.sig_owner.proofs.Counting.{live_there}
@@ -303,19 +303,3 @@ new_owner rows owners n e h = record {
   number = λ k q. (let s : n ≡ k = cc in sym s ∙ e);
   fresh = λ m l s. (let q = h.numbers m n l (sym (same_true (the_owner n) (thing_at rows m) s)) in let k = live_there rows m l in omega (arith, q, e, k));
 }
-
--- an effect for which no owner lives is new
-pub new_effect : (rows : List Row) (e : ℕ) → is_made_for (the_effect e) rows ≡ false → IsNew rows (the_effect e)
-new_effect rows e none = record {
-  kind = refl;
-  number = λ k q. absurd (cc);
-  fresh = λ m l s. go rows m none l s;
-}
-  where
-    go : (rs : List Row) (m : ℕ) → is_made_for (the_effect e) rs ≡ false → live_at rs m ≡ true → same_thing (the_effect e) (thing_at rs m) ≡ true → ⊥
-    go [] m n l s = true≢false (sym l)
-    go (r ∷ rs) zero n l s = true≢false (sym (or_left (r.live && same_thing (the_effect e) r.holder) (is_made_for (the_effect e) rs) (λ i. (l i) && (s i))) ∙ n)
-    go (r ∷ rs) (suc m) n l s = go rs m (elim (cases_Bool (is_made_for (the_effect e) rs)) [
-      | inl x ↦ absurd (true≢false (sym (or_right (r.live && same_thing (the_effect e) r.holder) (is_made_for (the_effect e) rs) x) ∙ n))
-      | inr x ↦ x
-    ]) l s

@@ -7,4 +7,5 @@ mod Ending
 mod Placing
 mod Dropping
 mod Forests
+mod Standing
 mod Growing

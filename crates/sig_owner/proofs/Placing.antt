@@ -5,12 +5,14 @@ use Rattle.effect_model.specs.Owning.{Thing, the_owner, the_effect, same_thing}
 use Rattle.sig_owner.specs.declared.thing.Thing.{Thing as AThing}
 use Rattle.sig_owner.specs.declared.thing.Thing.TheVariants as a
 use Rattle.sig_owner.specs.Keys.{same_key, same_key-true}
-use Rattle.sig_owner.specs.Tables.{Item, held, leaf, noted, Row, all_ended, changed_at, is_holder, is_made_for, is_open, is_owner, items_at, live_at, owner_count, row_at, thing_at, thing_of, with_holder, with_item}
-use Rattle.sig_owner.specs.Places.{AreLeaves, ArePlaced, Holds, IsPlain, Keeps, has_leaf, is_adopted}
+use Rattle.sig_owner.specs.Tables.{Item, held, leaf, noted, Row, all_ended, changed_at, is_holder, is_open, is_owner, items_at, live_at, owner_count, row_at, thing_at, thing_of, with_holder, with_item}
+use Rattle.sig_owner.specs.Places.{AreLeaves, ArePlaced, Holds, IsPlain, Keeps, has_leaf}
 use Rattle.sig_owner.specs.Walks.{ended_under, with_taken_back}
 use Rattle.sig_owner.proofs.Ending.{keeps, lives_still, still_there, taken_back_holds}
 use Rattle.sig_owner.proofs.Counting.{live_there}
 use Rattle.sig_owner.proofs.Holding.{IsNew, holder_holds, holder_row, item_holds, inside_items, inside_keeps, same_true}
+use Rattle.sig_owner.specs.Trees.{has_thing, owned_of}
+use Rattle.sig_owner.proofs.Standing.{leaf_stands}
 use Rattle.sig_owner.proofs.Reading.{changed_here, changed_keeps, changed_other}
 
 pub nothing_placed : (place : AThing → Option ℕ) → ArePlaced [] place
@@ -35,19 +37,14 @@ leaf_kind t (leaf u ∷ is) h e = elim (cases_Bool (same_thing t u)) [
   | inr q ↦ leaf_kind t is h.1 (let r : has_leaf t is ≡ true = rw q at e in r)
 ]
 
-adopted_at : (t : Thing) (rows : List Row) (n : ℕ) → has_leaf t (items_at rows n) ≡ true → is_adopted t rows ≡ true
-adopted_at t [] n e = absurd (true≢false (sym e))
-adopted_at t (r ∷ rs) zero e = or_left (has_leaf t r.items) (is_adopted t rs) e
-adopted_at t (r ∷ rs) (suc n) e = or_right (has_leaf t r.items) (is_adopted t rs) (adopted_at t rs n e)
-
 -- a thing that stands nowhere, and is no effect that lives
 pub record IsLone (rows : List Row) (t : AThing) : Type 0 where
   pub leaf : (n : ℕ) → has_leaf (thing_of t) (items_at rows n) ≡ true → ⊥
   pub effect : (n e : ℕ) → live_at rows n ≡ true → thing_at rows n ≡ the_effect e → t ≡ a.Effect e → ⊥
 
-pub lone_leaf : (rows : List Row) (owners : ℕ) (t : AThing) → is_holder (thing_of t) ≡ false → is_adopted (thing_of t) rows ≡ false → IsLone rows t
-lone_leaf rows owners t k e = record {
-  leaf = λ n q. true≢false (sym (adopted_at (thing_of t) rows n q) ∙ e);
+pub lone_leaf : (rows : List Row) (owners : ℕ) (t : AThing) → is_holder (thing_of t) ≡ false → has_thing (thing_of t) (owned_of rows) ≡ false → Holds rows owners → IsLone rows t
+lone_leaf rows owners t k e h = record {
+  leaf = λ n q. true≢false (sym (leaf_stands rows owners h (thing_of t) n q) ∙ e);
   effect = λ n m l q w. true≢false (sym (ap (λ s. is_holder (thing_of s)) w) ∙ k);
 }
 

@@ -30,11 +30,6 @@ has_leaf t [] = false
 has_leaf t (leaf u ∷ is) = same_thing t u || has_leaf t is
 has_leaf t (_ ∷ is) = has_leaf t is
 
--- whether a thing that holds nothing stands under a holder
-abbrev pub is_adopted : Thing → List Row → Bool
-is_adopted t [] = false
-is_adopted t (r ∷ rs) = has_leaf t r.items || is_adopted t rs
-
 -- What is held lives, and stands once where its row says, in a later row; what is gone holds nothing; the things that live are distinct
 -- holders, each owner under its own number; and the owners that live are counted.
 pub record Holds (rows : List Row) (owners : ℕ) : Type 0 where

@@ -148,11 +148,6 @@ abbrev pub all_ended : List ℕ → List Row → List Row
 all_ended [] rows = rows
 all_ended (n ∷ ns) rows = all_ended ns (changed_at ended_row n rows)
 
--- whether a holder that lives is this thing
-abbrev pub is_made_for : Thing → List Row → Bool
-is_made_for t [] = false
-is_made_for t (r ∷ rs) = (r.live && same_thing t r.holder) || is_made_for t rs
-
 -- ---- one thing taken out
 
 -- whether an item is this thing, by the things that the numbers stand for

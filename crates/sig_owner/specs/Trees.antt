@@ -1,6 +1,6 @@
 -- The trees that a store's rows stand for.
-use Rattle.std.specs.Prelude.{ℕ, zero, suc, ◌+◌, ◌&&◌, not, Bool, List, [], ◌∷◌, length, Option, Some, None, is_some, if◌then◌else◌}
-use Rattle.effect_model.specs.Owning.{Thing, Owned, nothing, thing, cleanup, alone, put_under}
+use Rattle.std.specs.Prelude.{ℕ, zero, suc, ◌+◌, ◌&&◌, ◌||◌, not, Bool, false, List, [], ◌∷◌, length, Option, Some, None, is_some, if◌then◌else◌}
+use Rattle.effect_model.specs.Owning.{Thing, Owned, nothing, thing, cleanup, alone, put_under, same_thing}
 use Rattle.sig_owner.specs.Tables.{Item, held, leaf, noted, Row, items_at, thing_at}
 
 -- one item above those that were made earlier, with what stands under it where it is a holder
@@ -40,3 +40,9 @@ owned_of rows = piled (thing_at rows) (stands_under rows) (top_items 0 rows) not
 abbrev pub made_in : List Row → Option ℕ → Thing → Owned → Owned
 made_in rows None t owned = thing t nothing owned
 made_in rows (Some n) t owned = put_under (thing_at rows n) (alone t) owned
+
+-- whether a thing stands somewhere
+abbrev pub has_thing : Thing → Owned → Bool
+has_thing t nothing = false
+has_thing t (thing u made earlier) = same_thing t u || (has_thing t made || has_thing t earlier)
+has_thing t (cleanup c earlier) = has_thing t earlier

@@ -3,9 +3,8 @@ ghost use Rattle.std.specs.Prelude.{◌≡◌, ◌<◌, ◌≤◌, ◌↔◌, []
 ghost use Rattle.effect_model.specs.Owning as owning;
 ghost use Rattle.effect_model.specs.Owning.{alone, emptied, put_under, taken_out, teardown_of, the_effect, the_owner, under};
 ghost use Rattle.sig_owner.specs.declared.errors.OwnFault.TheVariants as fault;
-ghost use Rattle.sig_owner.specs.Tables.{IsBare, changed_at, cleanup_of, dropped, is_holder, is_made_for, is_open, leaf, live_at, noted, owner_count, thing_at, thing_of, with_holder, with_item};
-ghost use Rattle.sig_owner.specs.Places.{is_adopted};
-ghost use Rattle.sig_owner.specs.Trees.{made_in, owned_of};
+ghost use Rattle.sig_owner.specs.Tables.{changed_at, cleanup_of, dropped, is_holder, is_open, leaf, live_at, noted, owner_count, thing_at, thing_of, with_holder, with_item};
+ghost use Rattle.sig_owner.specs.Trees.{has_thing, made_in, owned_of};
 ghost use Rattle.sig_owner.specs.Walks.{undoings_of, with_taken_back};
 
 use crate::errors::OwnFault;
@@ -48,7 +47,8 @@ impl Model for Owners {
 impl Owners {
     /// No owners.
     pub fn new(alloc: Global) -> Owners
-        ensures { result ≡ [] }
+        ensures after { result ≡ [] }
+        ensures tree { owned_of result ≡ owning.nothing }
     {
         Owners {
             alloc,
@@ -83,7 +83,7 @@ impl Owners {
     /// Makes an owner for an effect for which none lives. The effect stands last inside the owner that is given, else at the top. It is
     /// refused where that one is gone. After a refusal, and without memory, the store is as before.
     pub fn make_for(&mut self, effect: EffectId, inside: Option<OwnerId>) -> Result<OwnerId, OwnFault>
-        requires { is_made_for (the_effect effect) self.old ≡ false }
+        requires { has_thing (the_effect effect) (owned_of self.old) ≡ false }
         ensures after { OnOk result (self.new ≡ with_holder self.old inside (the_effect effect)) }
         ensures tree { OnOk result (owned_of self.new ≡ made_in self.old inside (the_effect effect) (owned_of self.old)) }
         ensures gives { IfOk result (λ id. id ≡ length self.old) }
@@ -104,7 +104,7 @@ impl Owners {
     /// without memory, the store is as before.
     pub fn adopt(&mut self, id: OwnerId, thing: Thing) -> Result<(), OwnFault>
         requires kind { is_holder (thing_of thing) ≡ false }
-        requires lone { is_adopted (thing_of thing) self.old ≡ false }
+        requires lone { has_thing (thing_of thing) (owned_of self.old) ≡ false }
         ensures after { OnOk result (self.new ≡ changed_at (with_item (leaf (thing_of thing))) id self.old) }
         ensures tree { OnOk result (owned_of self.new ≡ put_under (thing_at self.old id) (alone (thing_of thing)) (owned_of self.old)) }
         ensures limit { IsErrOf result fault.Limit → ⊥ }
@@ -159,7 +159,7 @@ impl Owners {
     /// Takes a thing out of what it stands under, if anything, and nothing else. An owner, or an effect with its owner, under which
     /// nothing stands any more is gone then. It takes no memory.
     pub fn drop_thing(&mut self, thing: Thing)
-        requires { IsBare self.old (thing_of thing) }
+        requires { is_holder (thing_of thing) ≡ true → under (thing_of thing) (owned_of self.old) ≡ owning.nothing }
         ensures after { self.new ≡ dropped (thing_of thing) self.old }
         ensures tree { owned_of self.new ≡ taken_out (thing_of thing) (owned_of self.old) }
     {

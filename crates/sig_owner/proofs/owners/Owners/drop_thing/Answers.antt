@@ -1,12 +1,14 @@
 use Rattle.std.proofs.Common.{◌≡◌, ◌<◌, ℕ, true, false, length, refl, sym, ap, subst, ◌∙◌, arith}
 use Rattle.std.specs.Prelude.{IfSome}
 use Rattle.sig_owner.specs.Keys.{placed}
-use Rattle.sig_owner.specs.Tables.{IsBare, above_at, dropped, is_row_of, live_at, owner_count, row_at, rows_of, thing_of}
+use Rattle.sig_owner.specs.Tables.{above_at, dropped, is_row_of, live_at, owner_count, row_at, rows_of, thing_of}
 use Rattle.sig_owner.proofs.Counting.{count_sifted_row, live_there}
 use Rattle.sig_owner.proofs.Reading.{rows_length}
 use Rattle.sig_owner.proofs.Dropping.{above_there, at_gone, at_nothing, at_outer, dropped_kept, holder_dropped, row_is}
 use Rattle.sig_owner.specs.Sifting.{is_leaf_of}
+use Rattle.effect_model.specs.Owning.{under}
 use Rattle.sig_owner.specs.Trees.{owned_of}
+use Rattle.sig_owner.proofs.Standing.{bare_rows}
 use Rattle.sig_owner.proofs.Growing.{dropped_seen}
 use Rattle.sig_owner.proofs.owners.Owners.drop_thing.Goals as goal
 
@@ -31,7 +33,7 @@ pub invariant_of-self : goal.invariant_of-self
 invariant_of-self c =
     let rows = rows_of c.self.inside.holders.items in
     let here : is_row_of (thing_of c.args.thing) (row_at rows c.in-Some.id) ≡ true = sym (c.is_thing_at.ensures ∙ ap (λ xs. is_row_of (thing_of c.args.thing) (row_at (rows_of xs) c.in-Some.id)) c.deref.ensures.value) ∙ c.if-is_thing_at.true in
-    let bare = subst (λ rs. IsBare rs (thing_of c.args.thing)) (sym c.self.view_is) c.requires in
+    let bare = bare_rows rows c.self.inside.owners c.self.invariant.holds (thing_of c.args.thing) (λ e. ap (λ rs. under (thing_of c.args.thing) (owned_of rs)) c.self.view_is ∙ c.requires e) in
     dropped_kept rows _ c.self.inside.owners c.drop_holder_at.new.owners (placed c.self.inside.places) (thing_of c.args.thing) bare
     (c.drop_holder_at.ensures.rows ∙ holder_dropped rows c.self.inside.owners (placed c.self.inside.places) c.args.thing c.self.invariant c.in-Some.id here) c.drop_holder_at.ensures.count c.self.invariant
 
@@ -52,7 +54,7 @@ invariant_of-self-then-is_live_at c =
     let rows = rows_of c.self.inside.holders.items in
     let off : is_row_of (thing_of c.args.thing) (row_at rows c.in-Some.id) ≡ false = sym (c.is_thing_at.ensures ∙ ap (λ xs. is_row_of (thing_of c.args.thing) (row_at (rows_of xs) c.in-Some.id)) c.deref.ensures.value) ∙ c.if-is_thing_at.false in
     let live : live_at rows c.in-Some.id ≡ true = sym (c.is_live_at.ensures ∙ ap (λ xs. live_at (rows_of xs) c.in-Some.id) c.deref-2.ensures.value) ∙ c.if-is_live_at.true in
-    let bare = subst (λ rs. IsBare rs (thing_of c.args.thing)) (sym c.self.view_is) c.requires in
+    let bare = bare_rows rows c.self.inside.owners c.self.invariant.holds (thing_of c.args.thing) (λ e. ap (λ rs. under (thing_of c.args.thing) (owned_of rs)) c.self.view_is ∙ c.requires e) in
     let e = c.drop_leaf_at.ensures ∙ at_outer rows c.self.inside.owners (placed c.self.inside.places) c.args.thing c.self.invariant c.in-Some.id (sym c.in-Some.ensures) off live in
     dropped_kept rows _ c.self.inside.owners c.self.inside.owners (placed c.self.inside.places) (thing_of c.args.thing) bare e
     (c.self.invariant.holds.count ∙ sym (ap owner_count c.drop_leaf_at.ensures ∙ count_sifted_row (is_leaf_of c.args.thing) c.in-Some.id rows)) c.self.invariant
@@ -74,14 +76,14 @@ returns-else-is_live_at-clause-after c =
 pub returns-in_default-clause-tree : goal.returns-in_default-clause-tree
 returns-in_default-clause-tree c =
     let rows = rows_of c.self.inside.holders.items in
-    let bare = subst (λ rs. IsBare rs (thing_of c.args.thing)) (sym c.self.view_is) c.requires in
+    let bare = bare_rows rows c.self.inside.owners c.self.invariant.holds (thing_of c.args.thing) (λ e. ap (λ rs. under (thing_of c.args.thing) (owned_of rs)) c.self.view_is ∙ c.requires e) in
     sym (ap owned_of c.self.view_is) ∙ dropped_seen rows rows _ c.self.inside.owners (thing_of c.args.thing) bare c.self.invariant.holds
     (at_nothing rows c.self.inside.owners (placed c.self.inside.places) c.args.thing c.self.invariant (sym c.in_default.ensures)) c.self.view_is
 
 pub returns-then-is_thing_at-clause-tree : goal.returns-then-is_thing_at-clause-tree
 returns-then-is_thing_at-clause-tree c =
     let rows = rows_of c.self.inside.holders.items in
-    let bare = subst (λ rs. IsBare rs (thing_of c.args.thing)) (sym c.self.view_is) c.requires in
+    let bare = bare_rows rows c.self.inside.owners c.self.invariant.holds (thing_of c.args.thing) (λ e. ap (λ rs. under (thing_of c.args.thing) (owned_of rs)) c.self.view_is ∙ c.requires e) in
     let here : is_row_of (thing_of c.args.thing) (row_at rows c.in-Some.id) ≡ true = sym (c.is_thing_at.ensures ∙ ap (λ xs. is_row_of (thing_of c.args.thing) (row_at (rows_of xs) c.in-Some.id)) c.deref.ensures.value) ∙ c.if-is_thing_at.true in
     dropped_seen rows _ _ c.self.inside.owners (thing_of c.args.thing) bare c.self.invariant.holds
     (c.drop_holder_at.ensures.rows ∙ holder_dropped rows c.self.inside.owners (placed c.self.inside.places) c.args.thing c.self.invariant c.in-Some.id here) c.self.view_is
@@ -89,7 +91,7 @@ returns-then-is_thing_at-clause-tree c =
 pub returns-then-is_live_at-clause-tree : goal.returns-then-is_live_at-clause-tree
 returns-then-is_live_at-clause-tree c =
     let rows = rows_of c.self.inside.holders.items in
-    let bare = subst (λ rs. IsBare rs (thing_of c.args.thing)) (sym c.self.view_is) c.requires in
+    let bare = bare_rows rows c.self.inside.owners c.self.invariant.holds (thing_of c.args.thing) (λ e. ap (λ rs. under (thing_of c.args.thing) (owned_of rs)) c.self.view_is ∙ c.requires e) in
     let off : is_row_of (thing_of c.args.thing) (row_at rows c.in-Some.id) ≡ false = sym (c.is_thing_at.ensures ∙ ap (λ xs. is_row_of (thing_of c.args.thing) (row_at (rows_of xs) c.in-Some.id)) c.deref.ensures.value) ∙ c.if-is_thing_at.false in
     let live : live_at rows c.in-Some.id ≡ true = sym (c.is_live_at.ensures ∙ ap (λ xs. live_at (rows_of xs) c.in-Some.id) c.deref-2.ensures.value) ∙ c.if-is_live_at.true in
     dropped_seen rows _ _ c.self.inside.owners (thing_of c.args.thing) bare c.self.invariant.holds
@@ -98,7 +100,7 @@ returns-then-is_live_at-clause-tree c =
 pub returns-else-is_live_at-clause-tree : goal.returns-else-is_live_at-clause-tree
 returns-else-is_live_at-clause-tree c =
     let rows = rows_of c.self.inside.holders.items in
-    let bare = subst (λ rs. IsBare rs (thing_of c.args.thing)) (sym c.self.view_is) c.requires in
+    let bare = bare_rows rows c.self.inside.owners c.self.invariant.holds (thing_of c.args.thing) (λ e. ap (λ rs. under (thing_of c.args.thing) (owned_of rs)) c.self.view_is ∙ c.requires e) in
     let off : is_row_of (thing_of c.args.thing) (row_at rows c.in-Some.id) ≡ false = sym (c.is_thing_at.ensures ∙ ap (λ xs. is_row_of (thing_of c.args.thing) (row_at (rows_of xs) c.in-Some.id)) c.deref.ensures.value) ∙ c.if-is_thing_at.false in
     let dead : live_at rows c.in-Some.id ≡ false = sym (c.is_live_at.ensures ∙ ap (λ xs. live_at (rows_of xs) c.in-Some.id) c.deref-2.ensures.value) ∙ c.if-is_live_at.false in
     sym (ap owned_of c.self.view_is) ∙ dropped_seen rows rows _ c.self.inside.owners (thing_of c.args.thing) bare c.self.invariant.holds

@@ -2,9 +2,10 @@ use Rattle.std.proofs.Common.{◌≡◌, ◌+◌, true, false, Some, length, ref
 use Rattle.effect_model.specs.Owning.{the_effect}
 use Rattle.sig_owner.specs.Keys.{placed, same_key-refl}
 use Rattle.sig_owner.specs.declared.thing.Thing.TheVariants as a
-use Rattle.sig_owner.specs.Tables.{is_made_for, is_open, rows_of}
+use Rattle.sig_owner.specs.Tables.{is_open, rows_of}
 use Rattle.sig_owner.proofs.Reading.{rows_length}
-use Rattle.sig_owner.proofs.Holding.{new_effect}
+use Rattle.sig_owner.specs.Trees.{has_thing, owned_of}
+use Rattle.sig_owner.proofs.Standing.{new_effect}
 use Rattle.sig_owner.proofs.Placing.{effect_noted, holder_kept, lone_effect, one_kept, one_placed, same_kept}
 use Rattle.sig_owner.proofs.Growing.{made_seen}
 use Rattle.sig_owner.proofs.owners.Owners.make_for.Goals as goal
@@ -17,7 +18,7 @@ invariant_of-self c =
 pub invariant_of-self-in_err-add_holder : goal.invariant_of-self-in_err-add_holder
 invariant_of-self-in_err-add_holder c =
     let rows = rows_of c.self.inside.holders.items in
-    let new = new_effect rows c.args.effect (ap (is_made_for (the_effect c.args.effect)) c.self.view_is ∙ c.requires) in
+    let new = new_effect rows c.self.inside.owners c.args.effect (ap (λ rs. has_thing (the_effect c.args.effect) (owned_of rs)) c.self.view_is ∙ c.requires) c.self.invariant.holds in
     one_kept rows _ c.self.inside.owners (placed c.self.inside.places) (placed c.note_place.new.places) (a.Effect c.args.effect) c.of-id.result (lone_effect rows c.self.inside.owners c.args.effect new c.self.invariant.holds)
     c.in_err-add_holder.ensures.err c.in_ok-note_place.ensures.ok c.self.invariant
 
@@ -27,7 +28,7 @@ invariant_of-self-2 c =
     let rows = rows_of hs in
     let may : is_open rows c.args.inside ≡ true = sym (c.is_open.ensures ∙ ap (λ xs. is_open (rows_of xs) c.args.inside) c.deref.ensures.value) ∙ c.if-not-is_open.false in
     let id : c.of-id.result ≡ length rows = omega (arith, rows_length hs, c.of-id.ensures, c.len.ensures, c.self.inside.holders.ok.0) in
-    let new = new_effect rows c.args.effect (ap (is_made_for (the_effect c.args.effect)) c.self.view_is ∙ c.requires) in
+    let new = new_effect rows c.self.inside.owners c.args.effect (ap (λ rs. has_thing (the_effect c.args.effect) (owned_of rs)) c.self.view_is ∙ c.requires) c.self.invariant.holds in
     let places = one_placed rows (placed c.self.inside.places) (placed c.note_place.new.places) (a.Effect c.args.effect) c.of-id.result (lone_effect rows c.self.inside.owners c.args.effect new c.self.invariant.holds) c.in_ok-note_place.ensures.ok c.self.invariant.placed in
     holder_kept rows _ c.self.inside.owners c.self.inside.owners (placed c.note_place.new.places) c.args.inside (the_effect c.args.effect) new may
     (effect_noted (placed c.self.inside.places) (placed c.note_place.new.places) c.args.effect c.of-id.result (length rows) id c.in_ok-note_place.ensures.ok)
@@ -37,5 +38,5 @@ pub returns-clause-tree : goal.returns-clause-tree
 returns-clause-tree c =
     let rows = rows_of c.self.inside.holders.items in
     let may : is_open rows c.args.inside ≡ true = sym (c.is_open.ensures ∙ ap (λ xs. is_open (rows_of xs) c.args.inside) c.deref.ensures.value) ∙ c.if-not-is_open.false in
-    let new = new_effect rows c.args.effect (ap (is_made_for (the_effect c.args.effect)) c.self.view_is ∙ c.requires) in
+    let new = new_effect rows c.self.inside.owners c.args.effect (ap (λ rs. has_thing (the_effect c.args.effect) (owned_of rs)) c.self.view_is ∙ c.requires) c.self.invariant.holds in
     made_seen rows _ _ c.self.inside.owners c.args.inside (the_effect c.args.effect) new may c.self.invariant.holds c.in_ok-add_holder.ensures.ok c.self.view_is
