@@ -8,4 +8,5 @@ mod Placing
 mod Dropping
 mod Forests
 mod Standing
+mod Lasting
 mod Growing

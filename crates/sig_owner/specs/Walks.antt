@@ -1,6 +1,6 @@
 -- The walk that takes back what stands under a holder, step by step.
 use Rattle.std.specs.Prelude.{◌≡◌, ℕ, zero, suc, ◌*◌, ◌-◌, ◌<◌, ◌≤◌, ◌==◌, ◌||◌, Bool, true, false, List, [], ◌∷◌, ◌++◌, map, length, take}
-use Rattle.effect_model.specs.Owning.{Thing, Undoing, cleans, ends}
+use Rattle.effect_model.specs.Owning.{Thing, Undoing, cleans, ends, same_thing}
 use Rattle.sig_owner.specs.declared.thing.Undoing.{Undoing as AnUndoing}
 use Rattle.sig_owner.specs.declared.thing.Undoing.TheVariants as undoing
 use Rattle.sig_owner.specs.declared.walk.Pending.{Pending}
@@ -15,6 +15,12 @@ undoing_of names (undoing.Gone t) = ends (thing_of t)
 -- in order
 abbrev pub undoings_of : (ℕ → Thing) → List AnUndoing → List Undoing
 undoings_of names us = map (undoing_of names) us
+
+-- whether a thing ends in these steps
+abbrev pub is_ended : Thing → List Undoing → Bool
+is_ended t [] = false
+is_ended t (cleans u c ∷ us) = is_ended t us
+is_ended t (ends u ∷ us) = same_thing t u || is_ended t us
 
 -- a step of the walk: a cleanup is done or a thing without holdings ends; or a holder ends
 pub data Step : Type 0 where

@@ -5,6 +5,8 @@ mod errors;
 mod holder;
 mod owners;
 mod places;
+#[cfg(test)]
+mod tests;
 mod thing;
 mod walk;
 

@@ -1,11 +1,11 @@
 // The store of owners.
-ghost use Rattle.std.specs.Prelude.{◌≡◌, ◌<◌, ◌≤◌, ◌↔◌, [], length, true, false, IfOk, IsErrOf, OnOk, OnErr};
+ghost use Rattle.std.specs.Prelude.{◌≡◌, ℕ, ◌&&◌, not, ◌<◌, ◌≤◌, ◌↔◌, [], length, true, false, IfOk, IsErrOf, OnOk, OnErr};
 ghost use Rattle.effect_model.specs.Owning as owning;
 ghost use Rattle.effect_model.specs.Owning.{alone, emptied, put_under, taken_out, teardown_of, the_effect, the_owner, under};
 ghost use Rattle.sig_owner.specs.declared.errors.OwnFault.TheVariants as fault;
 ghost use Rattle.sig_owner.specs.Tables.{changed_at, cleanup_of, dropped, is_holder, is_open, leaf, live_at, noted, owner_count, thing_at, thing_of, with_holder, with_item};
 ghost use Rattle.sig_owner.specs.Trees.{has_thing, made_in, owned_of};
-ghost use Rattle.sig_owner.specs.Walks.{undoings_of, with_taken_back};
+ghost use Rattle.sig_owner.specs.Walks.{is_ended, undoings_of, with_taken_back};
 
 use crate::errors::OwnFault;
 use crate::holder::{
@@ -16,7 +16,7 @@ use crate::places::{hint_of, note_place};
 use crate::thing::{CleanupAct, Thing, Undoing};
 use crate::walk::teardown_under;
 use indexmap::IndexMap;
-use sig_base::{EffectId, MOST_OWNERS, OwnerId};
+use sig_base::{EffectId, MOST_OWNERS, NoMemory, OwnerId};
 use std::alloc::Global;
 use std::marker::Model;
 
@@ -46,16 +46,16 @@ impl Model for Owners {
 
 impl Owners {
     /// No owners.
-    pub fn new(alloc: Global) -> Owners
-        ensures after { result ≡ [] }
-        ensures tree { owned_of result ≡ owning.nothing }
+    pub fn new(alloc: Global) -> Result<Owners, NoMemory>
+        ensures after { IfOk result (λ o. o ≡ []) }
+        ensures tree { IfOk result (λ o. owned_of o ≡ owning.nothing) }
     {
-        Owners {
+        Ok(Owners {
             alloc,
             holders: Vec::new(alloc),
             owners: 0,
             places: IndexMap::new(alloc),
-        }
+        })
     }
 
     /// Makes an owner, which stands last inside the one that is given, else at the top. It is refused where as many owners live as may be,
@@ -143,6 +143,8 @@ impl Owners {
             undoings_of (thing_at self.old) us.items ≡ teardown_of (thing_at self.old id) (under (thing_at self.old id) (owned_of self.old))) }
         ensures after { OnOk result (self.new ≡ with_taken_back self.old id) }
         ensures tree { OnOk result (owned_of self.new ≡ emptied (thing_at self.old id) (owned_of self.old)) }
+        ensures lives { IfOk result (λ us. (n : ℕ) →
+            live_at self.new n ≡ (live_at self.old n && not (is_ended (thing_at self.old n) (undoings_of (thing_at self.old) us.items)))) }
         ensures limit { IsErrOf result fault.Limit → ⊥ }
         ensures gone { IsErrOf result fault.Gone ↔ (live_at self.old id ≡ false) }
         ensures err { OnErr result (self.new ≡ self.old) }

@@ -9,6 +9,7 @@ use Rattle.sig_owner.proofs.Counting.{ended_length, live_there}
 use Rattle.sig_owner.proofs.Reading.{rows_length}
 use Rattle.sig_owner.proofs.Ending.{ended_there}
 use Rattle.sig_owner.proofs.Placing.{taken_back_kept}
+use Rattle.sig_owner.proofs.Lasting.{lasting_seen}
 use Rattle.sig_owner.proofs.Growing.{taken_back_seen}
 use Rattle.sig_owner.proofs.owners.Owners.take_back.Goals as goal
 
@@ -48,3 +49,12 @@ returns-clause-tree c =
     let ended = c.deref-3.ensures.value ∙ (c.in_ok-teardown.ensures.ended ∙ ap (λ hs. ended_under (rows_of hs) c.args.id) c.deref-2.ensures.value) in
     let after = c.end_each.ensures.rows ∙ ap (λ ns. all_ended ns rows) ended in
     taken_back_seen rows _ _ c.self.inside.owners c.args.id live c.self.invariant.holds (c.clear_at.ensures ∙ ap (changed_at emptied_row c.args.id) after) c.self.view_is
+
+pub returns-clause-lives : goal.returns-clause-lives
+returns-clause-lives c =
+    let rows = rows_of c.self.inside.holders.items in
+    let us = c.in_ok-teardown.teardown.undoings.items in
+    let ended = c.deref-3.ensures.value ∙ (c.in_ok-teardown.ensures.ended ∙ ap (λ hs. ended_under (rows_of hs) c.args.id) c.deref-2.ensures.value) in
+    let after = c.end_each.ensures.rows ∙ ap (λ ns. all_ended ns rows) ended in
+    let told = subst (λ hs. undoings_of (thing_at (rows_of hs)) us ≡ teardown_of (thing_at (rows_of hs) c.args.id) (stands_under (rows_of hs) c.args.id)) c.deref-2.ensures.value c.in_ok-teardown.ensures.undoings in
+    lasting_seen rows _ _ c.self.inside.owners c.args.id us c.self.invariant.holds (c.clear_at.ensures ∙ ap (changed_at emptied_row c.args.id) after) told c.self.view_is
