@@ -1,5 +1,5 @@
 -- Rows that are there, and how many owners live.
-use Rattle.std.proofs.Common.{◌≡◌, ℕ, zero, suc, ◌+◌, ◌<◌, ◌≤◌, Bool, true, false, List, [], ◌∷◌, ◌++◌, length, take, Option, Some, None, refl, sym, ap, ◌∙◌, arith, cond}
+use Rattle.std.proofs.Common.{◌≡◌, ℕ, zero, suc, ◌+◌, ◌<◌, ◌≤◌, Bool, true, false, List, [], ◌∷◌, ◌++◌, length, Option, Some, None, refl, ap, ◌∙◌, arith, cond}
 use Rattle.sig_owner.specs.Sifting.{sifted_inside, sifted_row}
 use Rattle.sig_owner.specs.Tables.{Item, Row, all_ended, changed_at, ended_row, is_owner_row, live_at, owner_count, row_at}
 use Rattle.sig_owner.proofs.Reading.{changed_length}

@@ -1,17 +1,17 @@
 -- One thing is taken out of the rows, and nothing else.
-use Rattle.std.proofs.Common.{◌≡◌, ℕ, zero, suc, ◌+◌, ◌<◌, ◌≤◌, ◌==◌, ◌||◌, ◌&&◌, Bool, true, false, List, [], ◌∷◌, ◌++◌, length, map, Option, Some, None, ◌⊎◌, inl, inr, eq-eqb, refl, sym, ap, subst, ◌∙◌, arith, cond}
+use Rattle.std.proofs.Common.{◌≡◌, ℕ, zero, suc, ◌+◌, ◌<◌, ◌==◌, Bool, true, false, List, [], ◌∷◌, length, map, Option, Some, None, inl, inr, eq-eqb, refl, sym, ap, subst, ◌∙◌, arith, cond}
 use Rattle.std.specs.Prelude.{filter, not, IfSome}
-use Rattle.std.proofs.lemmas.Bool.{cases_Bool, cases_eq, cases_lt, eqb-true, ne_eqb, or_left, or_right, true≢false}
+use Rattle.std.proofs.lemmas.Bool.{cases_Bool, cases_eq, cases_lt, ne_eqb, or_left, or_right, true≢false}
 use Rattle.effect_model.specs.Owning.{Thing, the_owner, the_effect, same_thing}
 use Rattle.sig_owner.specs.declared.thing.Thing.{Thing as AThing}
 use Rattle.sig_owner.specs.declared.thing.Thing.TheVariants as a
 use Rattle.sig_owner.specs.Keys.{hinted}
 use Rattle.sig_owner.specs.Sifting.{is_held_of, is_leaf_of, sifted_inside, sifted_row}
-use Rattle.sig_owner.specs.Tables.{IsBare, Item, held, leaf, noted, Row, above_at, changed_at, dropped, dropped_row, ended_row, is_holder, is_of, is_owner_row, is_row_of, items_at, live_at, no_row, owner_count, row_at, thing_at, thing_of, without}
+use Rattle.sig_owner.specs.Tables.{IsBare, Item, held, leaf, noted, Row, above_at, changed_at, dropped, dropped_row, ended_row, is_holder, is_row_of, items_at, live_at, no_row, owner_count, row_at, thing_at, thing_of, without}
 use Rattle.sig_owner.specs.Places.{AreLeaves, ArePlaced, Holds, Keeps, has_leaf, held_count}
 use Rattle.sig_owner.specs.Walks.{is_held}
 use Rattle.sig_owner.proofs.Counting.{live_there, sifted_length}
-use Rattle.sig_owner.proofs.Holding.{held_counted, same_true}
+use Rattle.sig_owner.proofs.Holding.{same_true}
 use Rattle.sig_owner.proofs.Placing.{fewer_placed, leaf_kind}
 use Rattle.sig_owner.proofs.Reading.{changed_here, changed_keeps, changed_length, changed_other, row_past}
 
@@ -96,7 +96,7 @@ count_left names t m (noted c ∷ is) e = count_left names t m is e
 count_left names t m (leaf u ∷ is) e = elim (cases_Bool (same_thing t u)) [ inl q ↦ rw q (count_left names t m is e) | inr q ↦ rw q (count_left names t m is e) ]
 count_left names t m (held k ∷ is) e = elim (cases_Bool (same_thing t (names k))) [
   | inl q ↦ (let w : m ≡ k → ⊥ = λ x. true≢false (sym q ∙ (sym (ap (λ j. same_thing t (names j)) x) ∙ e)) in
-  let n = ne_eqb m k w in let ih = count_left names t m is e in rw (q, n) (omega (arith, ih)))
+      let n = ne_eqb m k w in let ih = count_left names t m is e in rw (q, n) (omega (arith, ih)))
   | inr q ↦ (let ih = count_left names t m is e in rw q (ap (λ (j : ℕ). cond (m == k) 1 0 + j) ih))
 ]
 
@@ -123,10 +123,10 @@ leaf_left names t u (leaf v ∷ is) e = elim (cases_Bool (same_thing t v)) [
 
 -- ---- one row
 
-row_out : (names : ℕ → Thing) (t : Thing) (r : Row) → is_row_of t r ≡ true → dropped_row names t r ≡ ended_row r
+pub row_out : (names : ℕ → Thing) (t : Thing) (r : Row) → is_row_of t r ≡ true → dropped_row names t r ≡ ended_row r
 row_out names t r e = rw e refl
 
-row_in : (names : ℕ → Thing) (t : Thing) (r : Row) → is_row_of t r ≡ false → dropped_row names t r ≡ record r { items = without names t r.items }
+pub row_in : (names : ℕ → Thing) (t : Thing) (r : Row) → is_row_of t r ≡ false → dropped_row names t r ≡ record r { items = without names t r.items }
 row_in names t r e = rw e refl
 
 row_alive : (t : Thing) (r : Row) → r.live ≡ true → is_row_of t r ≡ same_thing t r.holder
@@ -188,9 +188,9 @@ module _ (rows : List Row) (owners left : ℕ) (t : Thing) (h : Holds rows owner
         let c = h.once n m l.0 (sym (above_kept m) ∙ a) in
         let off : same_thing t (thing_at rows m) ≡ false = sym (row_alive t (row_at rows m) l.0) ∙ l.1 in
         elim (cases_Bool (is_row_of t (row_at rows n))) [
-        | inl q ↦ (let r = row_is t (row_at rows n) q in
-        let none = ap (held_count m) (bare n r.0 r.1) in absurd (omega (arith, c, none)))
-        | inr q ↦ ap (λ (r : Row). held_count m r.items) (in_kept n q) ∙ (count_left (thing_at rows) t m (items_at rows n) off ∙ c)
+          | inl q ↦ (let r = row_is t (row_at rows n) q in
+              let none = ap (held_count m) (bare n r.0 r.1) in absurd (omega (arith, c, none)))
+          | inr q ↦ ap (λ (r : Row). held_count m r.items) (in_kept n q) ∙ (count_left (thing_at rows) t m (items_at rows n) off ∙ c)
         ];
     empty = λ n e. elim (cases_Bool (is_row_of t (row_at rows n))) [
       | inl q ↦ ap (λ (r : Row). r.items) (out_gone n q)
@@ -215,10 +215,10 @@ pub dropped_kept : (rows rows' : List Row) (owners left : ℕ) (place : AThing �
 dropped_kept rows rows' owners left place t bare e n k = record {
   holds = subst (λ rs. Holds rs left) (sym e) (dropped_holds rows owners left t k.holds bare (n ∙ ap owner_count e));
   placed = subst (λ rs. ArePlaced rs place) (sym e) (fewer_placed rows (dropped t rows) place
-    (λ m u q. leaf_was rows owners left t k.holds m u q)
-    (λ m l. (lived rows owners left t k.holds m l).0)
-    (λ m l. name_kept rows owners left t k.holds m)
-    k.placed);
+      (λ m u q. leaf_was rows owners left t k.holds m u q)
+      (λ m l. (lived rows owners left t k.holds m l).0)
+      (λ m l. name_kept rows owners left t k.holds m)
+      k.placed);
 }
 
 -- ---- the three ways in which it is done
@@ -263,20 +263,20 @@ module _ (rows : List Row) (owners : ℕ) (place : AThing → Option ℕ) (t : A
   -- nothing is that thing
   pub none_dropped : ((k : ℕ) → is_row_of (thing_of t) (row_at rows k) ≡ false) → ((k : ℕ) → has_leaf (thing_of t) (items_at rows k) ≡ false) → rows ≡ dropped (thing_of t) rows
   none_dropped f g = rows_alike rows (dropped (thing_of t) rows) (sym (mapped_length (dropped_row (thing_at rows) (thing_of t)) rows))
-    (λ k. sym (row_same k (f k) (λ m e. held_other k m e (f m)) (g k)))
+      (λ k. sym (row_same k (f k) (λ m e. held_other k m e (f m)) (g k)))
 
   -- it stands under one row
   pub leaf_dropped : (id : ℕ) → id < length rows → ((k : ℕ) → is_row_of (thing_of t) (row_at rows k) ≡ false) → ((k : ℕ) → has_leaf (thing_of t) (items_at rows k) ≡ true → id ≡ k) →
       changed_at (sifted_row (is_leaf_of t)) id rows ≡ dropped (thing_of t) rows
   leaf_dropped id lt f g = rows_alike (changed_at (sifted_row (is_leaf_of t)) id rows) (dropped (thing_of t) rows)
-    (changed_length (sifted_row (is_leaf_of t)) id rows ∙ sym (mapped_length (dropped_row (thing_at rows) (thing_of t)) rows))
-    (λ k. elim (cases_eq id k) [
-      | inl q ↦ subst (λ j. row_at (changed_at (sifted_row (is_leaf_of t)) id rows) j ≡ row_at (dropped (thing_of t) rows) j) q
-        (changed_here (sifted_row (is_leaf_of t)) id rows lt
-        ∙ (ap (λ is. record (row_at rows id) { items = is }) (sift_leaf (thing_at rows) t (items_at rows id) (λ m e. held_other id m e (f m)))
-        ∙ sym (in_kept rows owners owners (thing_of t) h.holds id (f id))))
-      | inr q ↦ changed_other (sifted_row (is_leaf_of t)) id k rows q ∙ sym (row_same k (f k) (λ m e. held_other k m e (f m)) (no_leaf k (λ e. q (g k e))))
-    ])
+      (changed_length (sifted_row (is_leaf_of t)) id rows ∙ sym (mapped_length (dropped_row (thing_at rows) (thing_of t)) rows))
+      (λ k. elim (cases_eq id k) [
+        | inl q ↦ subst (λ j. row_at (changed_at (sifted_row (is_leaf_of t)) id rows) j ≡ row_at (dropped (thing_of t) rows) j) q
+            (changed_here (sifted_row (is_leaf_of t)) id rows lt
+            ∙ (ap (λ is. record (row_at rows id) { items = is }) (sift_leaf (thing_at rows) t (items_at rows id) (λ m e. held_other id m e (f m)))
+            ∙ sym (in_kept rows owners owners (thing_of t) h.holds id (f id))))
+        | inr q ↦ changed_other (sifted_row (is_leaf_of t)) id k rows q ∙ sym (row_same k (f k) (λ m e. held_other k m e (f m)) (no_leaf k (λ e. q (g k e))))
+      ])
 
   -- the row that is that thing, and no other
   only_row : (id m : ℕ) → is_row_of (thing_of t) (row_at rows id) ≡ true → live_at rows m ≡ true → same_thing (thing_of t) (thing_at rows m) ≡ true → id ≡ m
@@ -312,11 +312,11 @@ module _ (rows : List Row) (owners : ℕ) (place : AThing → Option ℕ) (t : A
       there : (p : ℕ) → p ≡ k → row_at (changed_at (sifted_row (is_held_of id)) p rows) k ≡ row_at (dropped (thing_of t) rows) k
       there p q = elim (cases_lt k (length rows)) [
         | inl lt ↦ ap (λ j. row_at (changed_at (sifted_row (is_held_of id)) j rows) k) q
-          ∙ (changed_here (sifted_row (is_held_of id)) k rows lt
-          ∙ (ap (λ is. record (row_at rows k) { items = is }) (sift_held (thing_at rows) (thing_of t) id (items_at rows k) (λ m w. held_is id k m e w) (no_leaf k (λ w. holder_leaf id k e w)))
-          ∙ sym (in_kept rows owners owners (thing_of t) h.holds k out)))
+            ∙ (changed_here (sifted_row (is_held_of id)) k rows lt
+            ∙ (ap (λ is. record (row_at rows k) { items = is }) (sift_held (thing_at rows) (thing_of t) id (items_at rows k) (λ m w. held_is id k m e w) (no_leaf k (λ w. holder_leaf id k e w)))
+            ∙ sym (in_kept rows owners owners (thing_of t) h.holds k out)))
         | inr le ↦ row_past (changed_at (sifted_row (is_held_of id)) p rows) k (let l = changed_length (sifted_row (is_held_of id)) p rows in omega (arith, l, le))
-          ∙ sym (row_past (dropped (thing_of t) rows) k (let l = mapped_length (dropped_row (thing_at rows) (thing_of t)) rows in omega (arith, l, le)))
+            ∙ sym (row_past (dropped (thing_of t) rows) k (let l = mapped_length (dropped_row (thing_at rows) (thing_of t)) rows in omega (arith, l, le)))
       ]
 
       by : (o : Option ℕ) → o ≡ above_at rows id → row_at (sifted_inside o (is_held_of id) rows) k ≡ row_at (dropped (thing_of t) rows) k
@@ -333,19 +333,19 @@ module _ (rows : List Row) (owners : ℕ) (place : AThing → Option ℕ) (t : A
   -- it has a row of its own
   pub holder_dropped : (id : ℕ) → is_row_of (thing_of t) (row_at rows id) ≡ true → changed_at ended_row id (sifted_inside (above_at rows id) (is_held_of id) rows) ≡ dropped (thing_of t) rows
   holder_dropped id e = rows_alike (changed_at ended_row id (sifted_inside (above_at rows id) (is_held_of id) rows)) (dropped (thing_of t) rows)
-    (changed_length ended_row id (sifted_inside (above_at rows id) (is_held_of id) rows) ∙ (sifted_length (above_at rows id) (is_held_of id) rows ∙ sym (mapped_length (dropped_row (thing_at rows) (thing_of t)) rows)))
-    (λ k. elim (cases_eq id k) [
-      | inl q ↦ subst (λ j. row_at (changed_at ended_row id (sifted_inside (above_at rows id) (is_held_of id) rows)) j ≡ row_at (dropped (thing_of t) rows) j) q
-        (changed_here ended_row id (sifted_inside (above_at rows id) (is_held_of id) rows) (let l = live_there rows id (row_is (thing_of t) (row_at rows id) e).0 in let n = sifted_length (above_at rows id) (is_held_of id) rows in omega (arith, l, n))
-        ∙ (ended_sifted (above_at rows id) id id ∙ sym (out_gone rows owners owners (thing_of t) h.holds id e)))
-      | inr q ↦ changed_other ended_row id k (sifted_inside (above_at rows id) (is_held_of id) rows) q ∙ inside_row id k (above_at rows id) refl e q
-    ])
+      (changed_length ended_row id (sifted_inside (above_at rows id) (is_held_of id) rows) ∙ (sifted_length (above_at rows id) (is_held_of id) rows ∙ sym (mapped_length (dropped_row (thing_at rows) (thing_of t)) rows)))
+      (λ k. elim (cases_eq id k) [
+        | inl q ↦ subst (λ j. row_at (changed_at ended_row id (sifted_inside (above_at rows id) (is_held_of id) rows)) j ≡ row_at (dropped (thing_of t) rows) j) q
+            (changed_here ended_row id (sifted_inside (above_at rows id) (is_held_of id) rows) (let l = live_there rows id (row_is (thing_of t) (row_at rows id) e).0 in let n = sifted_length (above_at rows id) (is_held_of id) rows in omega (arith, l, n))
+            ∙ (ended_sifted (above_at rows id) id id ∙ sym (out_gone rows owners owners (thing_of t) h.holds id e)))
+        | inr q ↦ changed_other ended_row id k (sifted_inside (above_at rows id) (is_held_of id) rows) q ∙ inside_row id k (above_at rows id) refl e q
+      ])
 
   -- nothing is hinted
   pub at_nothing : hinted place t ≡ None → rows ≡ dropped (thing_of t) rows
   at_nothing e = none_dropped
-    (λ k. no_row_of k (λ q. let z : None ≡ Some k = sym e ∙ hint_row rows owners place t k h q in cc))
-    (λ k. no_leaf k (λ q. let z : None ≡ Some k = sym e ∙ hint_leaf rows owners place t k h q in cc))
+      (λ k. no_row_of k (λ q. let z : None ≡ Some k = sym e ∙ hint_row rows owners place t k h q in cc))
+      (λ k. no_leaf k (λ q. let z : None ≡ Some k = sym e ∙ hint_leaf rows owners place t k h q in cc))
 
   hint_one : (id k : ℕ) → hinted place t ≡ Some id → hinted place t ≡ Some k → id ≡ k
   hint_one id k e g = let z : Some id ≡ Some k = sym e ∙ g in cc
@@ -356,7 +356,7 @@ module _ (rows : List Row) (owners : ℕ) (place : AThing → Option ℕ) (t : A
   -- what is hinted is gone
   pub at_gone : (id : ℕ) → hinted place t ≡ Some id → is_row_of (thing_of t) (row_at rows id) ≡ false → live_at rows id ≡ false → rows ≡ dropped (thing_of t) rows
   at_gone id e f l = none_dropped (not_there id e f)
-    (λ k. no_leaf k (λ q. true≢false (sym q ∙ (ap (λ j. has_leaf (thing_of t) (items_at rows j)) (sym (hint_one id k e (hint_leaf rows owners place t k h q))) ∙ ap (has_leaf (thing_of t)) (h.holds.empty id l)))))
+      (λ k. no_leaf k (λ q. true≢false (sym q ∙ (ap (λ j. has_leaf (thing_of t) (items_at rows j)) (sym (hint_one id k e (hint_leaf rows owners place t k h q))) ∙ ap (has_leaf (thing_of t)) (h.holds.empty id l)))))
 
   -- it is the row under which the thing may stand
   pub at_outer : (id : ℕ) → hinted place t ≡ Some id → is_row_of (thing_of t) (row_at rows id) ≡ false → live_at rows id ≡ true → changed_at (sifted_row (is_leaf_of t)) id rows ≡ dropped (thing_of t) rows

@@ -1,14 +1,14 @@
 -- What holds of a store holds after things were taken back.
-use Rattle.std.proofs.Common.{◌≡◌, ℕ, zero, suc, get_or, ◌+◌, ◌<◌, ◌≤◌, ◌==◌, ◌||◌, Bool, true, false, List, [], ◌∷◌, ◌++◌, length, Option, Some, None, ◌⊎◌, inl, inr, eq-eqb, refl, sym, ap, subst, ◌∙◌, arith, cond}
-use Rattle.std.proofs.lemmas.Bool.{cases_Bool, cases_eq, eqb-true, ne_eqb, or_left, or_right, true≢false}
+use Rattle.std.proofs.Common.{◌≡◌, ℕ, zero, suc, get_or, ◌+◌, ◌<◌, ◌==◌, true, false, List, [], ◌∷◌, ◌++◌, length, Some, ◌⊎◌, inl, inr, eq-eqb, refl, sym, ap, subst, ◌∙◌, arith, cond}
+use Rattle.std.proofs.lemmas.Bool.{cases_Bool, cases_eq, ne_eqb, or_left, or_right, true≢false}
 use Rattle.effect_model.specs.Owning.{Thing, same_thing}
 use Rattle.signal_model.specs.Standing.{is_in}
-use Rattle.sig_owner.specs.Tables.{Item, held, leaf, noted, Row, above_at, all_ended, changed_at, emptied_row, ended_row, is_holder, is_owner_row, items_at, live_at, owner_count, row_at, thing_at}
+use Rattle.sig_owner.specs.Tables.{Item, held, leaf, noted, Row, all_ended, changed_at, emptied_row, ended_row, is_holder, is_owner_row, items_at, live_at, owner_count, row_at, thing_at}
 use Rattle.sig_owner.specs.Places.{AreLeaves, Holds, has_leaf, held_count}
 use Rattle.sig_owner.specs.Walks.{IsTable, Step, does, leaves, ended_under, is_held, item_steps, items_steps, left_in, steps_under, steps_within, with_taken_back}
 use Rattle.sig_owner.proofs.Counting.{ended_length}
 use Rattle.sig_owner.proofs.Holding.{held_counted}
-use Rattle.sig_owner.proofs.Reading.{changed_all, changed_here, changed_keeps, changed_length, changed_other}
+use Rattle.sig_owner.proofs.Reading.{changed_all, changed_keeps, changed_length, changed_other}
 use Rattle.sig_owner.proofs.Walking.{levels_more}
 
 -- ---- which holders end
@@ -51,25 +51,25 @@ ends_outof : (names : ℕ → Thing) (f : ℕ → List Step) (n : ℕ) (is : Lis
 ends_outof names f n [] m e = absurd (true≢false (sym e))
 ends_outof names f n (held k ∷ is) m e =
     elim (in_either m (left_in (items_steps names f n is)) (left_in (f k ++ leaves k ∷ [])) (sym (ap (is_in m) (left_append (items_steps names f n is) (f k ++ leaves k ∷ []))) ∙ e)) [
-    | inl x ↦ ends_later f (held k) is m (ends_outof names f n is m x)
-    | inr x ↦ record {
-      at = k;
-      held = or_left (k == k) (is_held k is) (eq-eqb k k refl);
-      which = elim (in_either m (left_in (f k)) (k ∷ []) (sym (ap (is_in m) (left_append (f k) (leaves k ∷ []))) ∙ x)) [
-        | inl y ↦ inr y
-        | inr y ↦ inl (elim (cases_eq m k) [ inl z ↦ z | inr z ↦ absurd (true≢false (sym y ∙ (let w = ne_eqb m k z in rw w refl))) ])
-      ];
-    }
+      | inl x ↦ ends_later f (held k) is m (ends_outof names f n is m x)
+      | inr x ↦ record {
+        at = k;
+        held = or_left (k == k) (is_held k is) (eq-eqb k k refl);
+        which = elim (in_either m (left_in (f k)) (k ∷ []) (sym (ap (is_in m) (left_append (f k) (leaves k ∷ []))) ∙ x)) [
+          | inl y ↦ inr y
+          | inr y ↦ inl (elim (cases_eq m k) [ inl z ↦ z | inr z ↦ absurd (true≢false (sym y ∙ (let w = ne_eqb m k z in rw w refl))) ])
+        ];
+      }
     ]
 ends_outof names f n (leaf t ∷ is) m e =
     elim (in_either m (left_in (items_steps names f n is)) [] (sym (ap (is_in m) (left_append (items_steps names f n is) (item_steps names f n (leaf t)))) ∙ e)) [
-    | inl x ↦ ends_later f (leaf t) is m (ends_outof names f n is m x)
-    | inr x ↦ absurd (true≢false (sym x))
+      | inl x ↦ ends_later f (leaf t) is m (ends_outof names f n is m x)
+      | inr x ↦ absurd (true≢false (sym x))
     ]
 ends_outof names f n (noted c ∷ is) m e =
     elim (in_either m (left_in (items_steps names f n is)) [] (sym (ap (is_in m) (left_append (items_steps names f n is) (item_steps names f n (noted c)))) ∙ e)) [
-    | inl x ↦ ends_later f (noted c) is m (ends_outof names f n is m x)
-    | inr x ↦ absurd (true≢false (sym x))
+      | inl x ↦ ends_later f (noted c) is m (ends_outof names f n is m x)
+      | inr x ↦ absurd (true≢false (sym x))
     ]
 
 ends_into : (names : ℕ → Thing) (f : ℕ → List Step) (n : ℕ) (is : List Item) (m : ℕ) → EndsAt f is m → is_in m (left_in (items_steps names f n is)) ≡ true
@@ -77,15 +77,15 @@ ends_into names f n [] m e = absurd (true≢false (sym e.held))
 ends_into names f n (held k ∷ is) m e =
     ap (is_in m) (left_append (items_steps names f n is) (f k ++ leaves k ∷ []))
     ∙ elim (cases_eq e.at k) [
-    | inl q ↦ in_right m (left_in (items_steps names f n is)) (left_in (f k ++ leaves k ∷ [])) (ap (is_in m) (left_append (f k) (leaves k ∷ [])) ∙ elim e.which [
-      | inl x ↦ in_right m (left_in (f k)) (k ∷ []) (or_left (m == k) false (eq-eqb m k (x ∙ q)))
-      | inr x ↦ in_left m (left_in (f k)) (k ∷ []) (sym (ap (λ j. is_in m (left_in (f j))) q) ∙ x)
-    ])
-    | inr q ↦ in_left m (left_in (items_steps names f n is)) (left_in (f k ++ leaves k ∷ [])) (ends_into names f n is m (record {
-      at = e.at;
-      held = let h = e.held in let w = ne_eqb e.at k q in (let r : is_held e.at is ≡ true = rw w at h in r);
-      which = e.which;
-    }))
+      | inl q ↦ in_right m (left_in (items_steps names f n is)) (left_in (f k ++ leaves k ∷ [])) (ap (is_in m) (left_append (f k) (leaves k ∷ [])) ∙ elim e.which [
+        | inl x ↦ in_right m (left_in (f k)) (k ∷ []) (or_left (m == k) false (eq-eqb m k (x ∙ q)))
+        | inr x ↦ in_left m (left_in (f k)) (k ∷ []) (sym (ap (λ j. is_in m (left_in (f j))) q) ∙ x)
+      ])
+      | inr q ↦ in_left m (left_in (items_steps names f n is)) (left_in (f k ++ leaves k ∷ [])) (ends_into names f n is m (record {
+        at = e.at;
+        held = let h = e.held in let w = ne_eqb e.at k q in (let r : is_held e.at is ≡ true = rw w at h in r);
+        which = e.which;
+      }))
     ]
 ends_into names f n (leaf t ∷ is) m e = ap (is_in m) (left_append (items_steps names f n is) (item_steps names f n (leaf t))) ∙ in_left m (left_in (items_steps names f n is)) [] (ends_into names f n is m (record { at = e.at; held = e.held; which = e.which }))
 ends_into names f n (noted c ∷ is) m e = ap (is_in m) (left_append (items_steps names f n is) (item_steps names f n (noted c))) ∙ in_left m (left_in (items_steps names f n is)) [] (ends_into names f n is m (record { at = e.at; held = e.held; which = e.which }))
@@ -115,12 +115,12 @@ outer_ends rows zero m o e = absurd (true≢false (sym e))
 outer_ends rows (suc l) m o e =
     let x = ends_outof (thing_at rows) (steps_within l rows) o (items_at rows o) m e in
     elim x.which [
-    | inl q ↦ record { above = o; held = ap (λ k. is_held k (items_at rows o)) q ∙ x.held; which = inl refl }
-    | inr q ↦ (let y = outer_ends rows l m x.at q in record {
-      above = y.above;
-      held = y.held;
-      which = inr (ends_into (thing_at rows) (steps_within l rows) o (items_at rows o) y.above (record { at = x.at; held = x.held; which = y.which }));
-    })
+      | inl q ↦ record { above = o; held = ap (λ k. is_held k (items_at rows o)) q ∙ x.held; which = inl refl }
+      | inr q ↦ (let y = outer_ends rows l m x.at q in record {
+        above = y.above;
+        held = y.held;
+        which = inr (ends_into (thing_at rows) (steps_within l rows) o (items_at rows o) y.above (record { at = x.at; held = x.held; which = y.which }));
+      })
     ]
 
 -- the holders that end with a holder's things are closed under what is held
@@ -129,8 +129,8 @@ unfolding steps_under
 ended_closed rows t o n m h w =
     sym (ap (λ ss. is_in m (left_in ss)) (levels_more rows t (length rows) o (omega arith)))
     ∙ elim w [
-    | inl q ↦ ends_into (thing_at rows) (steps_within (length rows) rows) o (items_at rows o) m (record { at = m; held = sym (ap (λ k. is_held m (items_at rows k)) q) ∙ h; which = inl refl })
-    | inr q ↦ inner_ends rows (length rows) n m o q h
+      | inl q ↦ ends_into (thing_at rows) (steps_within (length rows) rows) o (items_at rows o) m (record { at = m; held = sym (ap (λ k. is_held m (items_at rows k)) q) ∙ h; which = inl refl })
+      | inr q ↦ inner_ends rows (length rows) n m o q h
     ]
 
 pub ended_held : (rows : List Row) (o m : ℕ) → is_in m (ended_under rows o) ≡ true → EndsUnder rows (ended_under rows o) o m
@@ -139,7 +139,7 @@ ended_held rows o m e = outer_ends rows (length rows) m o e
 
 -- ---- the rows afterwards
 
-ended_keeps : {A : Type 0} (P : Row → A) → ((r : Row) → P (ended_row r) ≡ P r) → (ns : List ℕ) (rows : List Row) (k : ℕ) → P (row_at (all_ended ns rows) k) ≡ P (row_at rows k)
+pub ended_keeps : {A : Type 0} (P : Row → A) → ((r : Row) → P (ended_row r) ≡ P r) → (ns : List ℕ) (rows : List Row) (k : ℕ) → P (row_at (all_ended ns rows) k) ≡ P (row_at rows k)
 ended_keeps P h [] rows k = refl
 ended_keeps P h (n ∷ ns) rows k = ended_keeps P h ns (changed_at ended_row n rows) k ∙ changed_keeps P ended_row h n rows k
 
@@ -233,9 +233,9 @@ module _ (rows : List Row) (owners o : ℕ) (left : ℕ) (h : Holds rows owners)
   pub held_lives : (n m : ℕ) → (n ≡ o → ⊥) → is_in n (ended_under rows o) ≡ false → is_held m (items_at rows n) ≡ true → is_in m (ended_under rows o) ≡ false
   held_lives n m q x e = elim (cases_Bool (is_in m (ended_under rows o))) [
     | inl y ↦ (let z = ended_held rows o m y in
-    let same : Some z.above ≡ Some n = sym (h.above z.above m z.held) ∙ h.above n m e in
-    let eq : z.above ≡ n = cc in
-    elim z.which [ inl w ↦ absurd (q (sym eq ∙ w)) | inr w ↦ absurd (true≢false (sym w ∙ (ap (λ k. is_in k (ended_under rows o)) eq ∙ x))) ])
+        let same : Some z.above ≡ Some n = sym (h.above z.above m z.held) ∙ h.above n m e in
+        let eq : z.above ≡ n = cc in
+        elim z.which [ inl w ↦ absurd (q (sym eq ∙ w)) | inr w ↦ absurd (true≢false (sym w ∙ (ap (λ k. is_in k (ended_under rows o)) eq ∙ x))) ])
     | inr y ↦ y
   ]
 
@@ -266,11 +266,11 @@ module _ (rows : List Row) (owners o : ℕ) (left : ℕ) (h : Holds rows owners)
             let c = h.once n m l.1 (sym (above m) ∙ a) in
             let was = held_counted m (items_at rows n) c in
             elim (cases_eq n o) [
-            | inl q ↦ absurd (true≢false (sym (ended_closed rows h.table o n m was (inl q)) ∙ l.0))
-            | inr q ↦ elim (cases_Bool (is_in n (ended_under rows o))) [
-              | inl x ↦ absurd (true≢false (sym (ended_closed rows h.table o n m was (inr x)) ∙ l.0))
-              | inr x ↦ ap (λ (r : Row). held_count m r.items) (outside n q x) ∙ c
-            ]
+              | inl q ↦ absurd (true≢false (sym (ended_closed rows h.table o n m was (inl q)) ∙ l.0))
+              | inr q ↦ elim (cases_Bool (is_in n (ended_under rows o))) [
+                | inl x ↦ absurd (true≢false (sym (ended_closed rows h.table o n m was (inr x)) ∙ l.0))
+                | inr x ↦ ap (λ (r : Row). held_count m r.items) (outside n q x) ∙ c
+              ]
             ];
         empty = λ n e. elim (cases_eq n o) [
           | inl q ↦ none_here n q

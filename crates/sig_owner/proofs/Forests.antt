@@ -1,14 +1,13 @@
 -- What the trees of a store's rows say of one thing.
-use Rattle.std.proofs.Common.{◌≡◌, ℕ, zero, suc, ◌+◌, ◌<◌, ◌≤◌, ◌==◌, ◌||◌, ◌&&◌, Bool, true, false, List, [], ◌∷◌, ◌++◌, length, Option, Some, None, ◌⊎◌, inl, inr, eq-eqb, refl, sym, ap, subst, ◌∙◌, arith, cond}
+use Rattle.std.proofs.Common.{◌≡◌, ℕ, zero, suc, ◌+◌, ◌<◌, ◌≤◌, ◌==◌, ◌&&◌, Bool, true, false, List, [], ◌∷◌, length, Option, Some, None, inl, inr, eq-eqb, refl, sym, ap, subst, ◌∙◌, arith, cond}
 use Rattle.std.specs.Prelude.{not, is_some}
-use Rattle.std.proofs.lemmas.Bool.{cases_Bool, cases_eq, cases_lt, eqb-true, ne_eqb, or_left, or_right, true≢false}
+use Rattle.std.proofs.lemmas.Bool.{cases_Bool, cases_eq, ne_eqb, or_left, or_right, true≢false}
 use Rattle.effect_model.specs.Owning.{Thing, the_signal, the_owner, the_effect, the_page, the_watcher, Owned, nothing, thing, cleanup, same_thing, under, with_earlier}
-use Rattle.sig_owner.specs.Tables.{Item, held, leaf, noted, Row, above_at, is_holder, items_at, live_at, row_at, thing_at}
-use Rattle.sig_owner.specs.Trees.{is_top, laid, owned_of, piled, stands_under, top_items, under_within}
+use Rattle.sig_owner.specs.Tables.{Item, held, leaf, noted, Row, above_at, items_at, live_at, row_at, thing_at}
+use Rattle.sig_owner.specs.Trees.{is_top, owned_of, piled, stands_under, top_items, under_within}
 use Rattle.sig_owner.specs.Places.{Holds, held_count}
 use Rattle.sig_owner.specs.Walks.{IsTable, is_held}
-use Rattle.sig_owner.proofs.Counting.{live_there}
-use Rattle.sig_owner.proofs.Holding.{count_none, held_counted, same_true}
+use Rattle.sig_owner.proofs.Holding.{held_counted}
 use Rattle.sig_owner.proofs.Reading.{row_past}
 
 -- ---- levels
@@ -112,11 +111,11 @@ given_one g o (leaf t ∷ is) c h = given_one g o is c h
 given_one g o (noted u ∷ is) c h = given_one g o is c h
 given_one g o (held k ∷ is) c h = elim (cases_eq o k) [
   | inl q ↦ (let w = eq-eqb o k q in let r : 1 + held_count o is ≡ 1 = rw w at c in
-    let off = not_held o is (omega (arith, r)) in
-    ap (given g is) (earlier_nothing (g k)) ∙ (given_none g is (g k) (λ m x. h m (or_right (m == k) (is_held m is) x) (λ z. true≢false (sym (ap (λ j. is_held j is) (sym z) ∙ x) ∙ off))) ∙ ap g (sym q)))
+      let off = not_held o is (omega (arith, r)) in
+      ap (given g is) (earlier_nothing (g k)) ∙ (given_none g is (g k) (λ m x. h m (or_right (m == k) (is_held m is) x) (λ z. true≢false (sym (ap (λ j. is_held j is) (sym z) ∙ x) ∙ off))) ∙ ap g (sym q)))
   | inr q ↦ (let w = ne_eqb o k q in let r : 0 + held_count o is ≡ 1 = rw w at c in
-    ap (λ x. given g is (with_earlier x nothing)) (h k (or_left (k == k) (is_held k is) (eq-eqb k k refl)) (λ z. q (sym z)))
-    ∙ given_one g o is (omega (arith, r)) (λ m x. h m (or_right (m == k) (is_held m is) x)))
+      ap (λ x. given g is (with_earlier x nothing)) (h k (or_left (k == k) (is_held k is) (eq-eqb k k refl)) (λ z. q (sym z)))
+      ∙ given_one g o is (omega (arith, r)) (λ m x. h m (or_right (m == k) (is_held m is) x)))
 ]
 
 -- ---- the holders at the top
@@ -217,15 +216,15 @@ module _ (rows : List Row) (owners : ℕ) (h : Holds rows owners) where
   none_below : (b o n : ℕ) → live_at rows o ≡ true → length rows ≤ b + n → o ≤ n → under (thing_at rows o) (stands_under rows n) ≡ nothing
   none_below zero o n l s q = ap (under (thing_at rows o)) (stands_past rows h.table n (omega (arith, s)))
   none_below (suc b) o n l s q = under_here (thing_at rows o) n ∙ given_none (part (thing_at rows) (stands_under rows) (thing_at rows o)) (items_at rows n) nothing
-    (λ m e. let x = h.table.later n m e in
-    part_other o m l (h.living n m e) (λ z. absurd (omega (arith, x, z, q))) ∙ none_below b o m l (omega (arith, x, s)) (omega (arith, x, q)))
+      (λ m e. let x = h.table.later n m e in
+      part_other o m l (h.living n m e) (λ z. absurd (omega (arith, x, z, q))) ∙ none_below b o m l (omega (arith, x, s)) (omega (arith, x, q)))
 
   -- one at the top stands under none
   top_below : (b o n : ℕ) → live_at rows o ≡ true → above_at rows o ≡ None → length rows ≤ b + n → under (thing_at rows o) (stands_under rows n) ≡ nothing
   top_below zero o n l a s = ap (under (thing_at rows o)) (stands_past rows h.table n (omega (arith, s)))
   top_below (suc b) o n l a s = under_here (thing_at rows o) n ∙ given_none (part (thing_at rows) (stands_under rows) (thing_at rows o)) (items_at rows n) nothing
-    (λ m e. let x = h.table.later n m e in
-    part_other o m l (h.living n m e) (λ z. let y : None ≡ Some n = sym a ∙ (ap (above_at rows) z ∙ h.above n m e) in cc) ∙ top_below b o m l a (omega (arith, x, s)))
+      (λ m e. let x = h.table.later n m e in
+      part_other o m l (h.living n m e) (λ z. let y : None ≡ Some n = sym a ∙ (ap (above_at rows) z ∙ h.above n m e) in cc) ∙ top_below b o m l a (omega (arith, x, s)))
 
   -- a holder stands only where the one does in which it stands
   through_items : (o p : ℕ) (is : List Item) → live_at rows o ≡ true → live_at rows p ≡ true → ((m : ℕ) → is_held m is ≡ true → (live_at rows m ≡ true) × (o ≡ m → ⊥)) →

@@ -1,18 +1,18 @@
 -- The tree of all that stands, after each edit of the rows.
-use Rattle.std.proofs.Common.{◌≡◌, ℕ, zero, suc, ◌+◌, ◌<◌, ◌≤◌, ◌==◌, ◌||◌, ◌&&◌, Bool, true, false, List, [], ◌∷◌, ◌++◌, length, Option, Some, None, ◌⊎◌, inl, inr, eq-eqb, refl, sym, ap, subst, ◌∙◌, arith, cond}
+use Rattle.std.proofs.Common.{◌≡◌, ℕ, zero, suc, ◌+◌, ◌<◌, ◌≤◌, ◌&&◌, Bool, true, false, List, [], ◌∷◌, ◌++◌, length, Option, Some, None, inl, inr, eq-eqb, refl, sym, ap, ◌∙◌, arith, cond}
 use Rattle.std.specs.Prelude.{not, is_some}
-use Rattle.std.proofs.lemmas.Bool.{cases_Bool, cases_eq, cases_lt, eqb-true, ne_eqb, or_left, or_right, true≢false}
+use Rattle.std.proofs.lemmas.Bool.{cases_Bool, cases_eq, ne_eqb, or_left, true≢false}
 use Rattle.effect_model.specs.Owning.{Thing, Owned, Cleanup, alone, nothing, thing, cleanup, emptied, put_under, same_thing, taken_out, with_earlier}
 use Rattle.sig_owner.specs.Tables.{IsBare, Item, held, leaf, noted, Row, above_at, above_row, all_ended, changed_at, dropped, is_holder, is_open, is_row_of, items_at, live_at, owner_count, row_at, thing_at, with_holder, with_item, without}
 use Rattle.sig_owner.specs.Trees.{is_top, laid, made_in, owned_of, piled, stands_under, top_items}
-use Rattle.sig_owner.specs.Places.{AreLeaves, Holds, IsPlain, has_leaf, held_count}
+use Rattle.sig_owner.specs.Places.{Holds, has_leaf}
 use Rattle.signal_model.specs.Standing.{is_in}
-use Rattle.sig_owner.specs.Walks.{IsTable, ended_under, is_held, with_taken_back}
+use Rattle.sig_owner.specs.Walks.{IsTable, ended_under, with_taken_back}
 use Rattle.sig_owner.proofs.Counting.{live_there}
 use Rattle.sig_owner.proofs.Dropping.{dropped_holds, dropped_length, held_left, in_kept, name_kept, other_row, out_gone, row_is}
 use Rattle.sig_owner.proofs.Ending.{ended_held, gone_there, held_lives, keeps, live_there_still, none_here, outside, taken_back_holds, taken_length}
 use Rattle.sig_owner.proofs.Forests.{piled_same, same_is, stands_here, stands_past, top_lives}
-use Rattle.sig_owner.proofs.Holding.{IsNew, holder_holds, holder_row, item_holds, last, name, row, same_true, size}
+use Rattle.sig_owner.proofs.Holding.{IsNew, holder_holds, holder_row, item_holds, last, name, row, size}
 use Rattle.sig_owner.proofs.Placing.{leaf_kind}
 use Rattle.sig_owner.proofs.Reading.{changed_here, changed_keeps, changed_length, changed_other, row_past}
 
@@ -56,8 +56,8 @@ module _ (rows : List Row) (owners o : ℕ) (h : Holds rows owners) (live : live
       stands_under (with_taken_back rows o) m ≡ kept (thing_at rows) (stands_under rows) (thing_at rows o) m
   kept_item m l f = elim (cases_eq o m) [
     | inl q ↦ stands_here (with_taken_back rows o) table m
-      ∙ (ap (λ is. piled (thing_at (with_taken_back rows o)) (stands_under (with_taken_back rows o)) is nothing) (none_here rows owners o owners h m (sym q))
-      ∙ sym (ap (λ b. cond b nothing (emptied (thing_at rows o) (stands_under rows m))) (same_is rows owners h o m live l ∙ eq-eqb o m q)))
+        ∙ (ap (λ is. piled (thing_at (with_taken_back rows o)) (stands_under (with_taken_back rows o)) is nothing) (none_here rows owners o owners h m (sym q))
+        ∙ sym (ap (λ b. cond b nothing (emptied (thing_at rows o) (stands_under rows m))) (same_is rows owners h o m live l ∙ eq-eqb o m q)))
     | inr q ↦ f q ∙ sym (ap (λ b. cond b nothing (emptied (thing_at rows o) (stands_under rows m))) (same_is rows owners h o m live l ∙ ne_eqb o m q))
   ]
 
@@ -75,8 +75,8 @@ module _ (rows : List Row) (owners o : ℕ) (h : Holds rows owners) (live : live
   top_stays : (k : ℕ) → is_top (row_at (with_taken_back rows o) k) ≡ is_top (row_at rows k)
   top_stays k = elim (cases_Bool (is_in k (ended_under rows o))) [
     | inl x ↦ (let z = ended_held rows o k x in
-      (λ i. (gone_there rows owners o owners h k x i) && not (is_some (above_at (with_taken_back rows o) k)))
-      ∙ sym (ap (λ a. live_at rows k && not (is_some a)) (h.above z.above k z.held) ∙ off (live_at rows k)))
+        (λ i. (gone_there rows owners o owners h k x i) && not (is_some (above_at (with_taken_back rows o) k)))
+        ∙ sym (ap (λ a. live_at rows k && not (is_some a)) (h.above z.above k z.held) ∙ off (live_at rows k)))
     | inr x ↦ (λ i. (live_there_still rows owners o owners h k x i) && not (is_some (above_back k i)))
   ]
     where
@@ -107,13 +107,13 @@ taken_piled names f t (noted c ∷ is) e = taken_piled names f t is (cleanup c e
 taken_piled names f t (held m ∷ is) e = taken_piled names f t is (thing (names m) (f m) e) ∙ by (same_thing t (names m))
   where
     by : (b : Bool) → piled names (λ k. taken_out t (f k)) (without names t is) (cond b (taken_out t e) (thing (names m) (taken_out t (f m)) (taken_out t e)))
-      ≡ piled names (λ k. taken_out t (f k)) (cond b (without names t is) (held m ∷ without names t is)) (taken_out t e)
+        ≡ piled names (λ k. taken_out t (f k)) (cond b (without names t is) (held m ∷ without names t is)) (taken_out t e)
     by true = refl
     by false = refl
 taken_piled names f t (leaf u ∷ is) e = taken_piled names f t is (thing u nothing e) ∙ by (same_thing t u)
   where
     by : (b : Bool) → piled names (λ k. taken_out t (f k)) (without names t is) (cond b (taken_out t e) (thing u nothing (taken_out t e)))
-      ≡ piled names (λ k. taken_out t (f k)) (cond b (without names t is) (leaf u ∷ without names t is)) (taken_out t e)
+        ≡ piled names (λ k. taken_out t (f k)) (cond b (without names t is) (leaf u ∷ without names t is)) (taken_out t e)
     by true = refl
     by false = refl
 
@@ -124,7 +124,7 @@ tops_without names t [] (q ∷ qs) k l n h = absurd (omega arith)
 tops_without names t (r ∷ rs) [] k l n h = absurd (omega arith)
 tops_without names t (r ∷ rs) (q ∷ qs) k l n h =
     let ih = tops_without names t rs qs (k + 1) (let m : length qs ≡ length rs = omega arith in m)
-        (λ j lt. ap names (let e : k + 1 + j ≡ k + suc j = omega arith in e) ∙ n (suc j) (let m : suc j < suc (length rs) = omega (arith, lt) in m)) (λ j. h (suc j)) in
+    (λ j lt. ap names (let e : k + 1 + j ≡ k + suc j = omega arith in e) ∙ n (suc j) (let m : suc j < suc (length rs) = omega (arith, lt) in m)) (λ j. h (suc j)) in
     let here : names k ≡ r.holder = ap names (let e : k ≡ k + 0 = omega arith in e) ∙ n 0 (omega arith) in
     (λ i. cond (h 0 i) (held k ∷ ih i) (ih i))
     ∙ ((λ i. cond (is_top r && not (same_thing t (sym here i))) (held k ∷ without names t (top_items (k + 1) rs)) (without names t (top_items (k + 1) rs)))
@@ -150,7 +150,7 @@ module _ (rows : List Row) (owners : ℕ) (t : Thing) (h : Holds rows owners) (t
   top_left : (j : ℕ) → is_top (row_at (dropped t rows) j) ≡ (is_top (row_at rows j) && not (same_thing t (thing_at rows j)))
   top_left j = elim (cases_Bool (is_row_of t (row_at rows j))) [
     | inl q ↦ (let r = row_is t (row_at rows j) q in
-      ap is_top (out_gone rows owners owners t h j q) ∙ sym (ap (λ b. is_top (row_at rows j) && not b) r.1 ∙ off (is_top (row_at rows j))))
+        ap is_top (out_gone rows owners owners t h j q) ∙ sym (ap (λ b. is_top (row_at rows j) && not b) r.1 ∙ off (is_top (row_at rows j))))
     | inr q ↦ ap is_top (in_kept rows owners owners t h j q) ∙ by (row_at rows j).live (not (is_some (above_at rows j))) (same_thing t (thing_at rows j)) q
   ]
     where
@@ -187,7 +187,7 @@ put_piled names f t one (noted c ∷ is) e q = put_piled names f t one is (clean
 put_piled names f t one (leaf u ∷ is) e q = elim (cases_Bool (same_thing t u)) [
   | inl s ↦ absurd (true≢false (sym (or_left (same_thing t u) (has_leaf t is) s) ∙ q))
   | inr s ↦ (let r : has_leaf t is ≡ false = rw s at q in
-    put_piled names f t one is (thing u nothing e) r ∙ ap (λ b. piled names (grown names f t one) is (thing u (cond b (with_earlier one nothing) nothing) (put_under t one e))) s)
+      put_piled names f t one is (thing u nothing e) r ∙ ap (λ b. piled names (grown names f t one) is (thing u (cond b (with_earlier one nothing) nothing) (put_under t one e))) s)
 ]
 
 piled_last : (names : ℕ → Thing) (f : ℕ → Owned) (is : List Item) (i : Item) (e : Owned) → piled names f (is ++ i ∷ []) e ≡ laid names f i (piled names f is e)
@@ -250,11 +250,11 @@ module _ (rows rows' : List Row) (owners o : ℕ) (i : Item) (h : Holds rows own
       stands_under rows' m ≡ grown (thing_at rows) (stands_under rows) (thing_at rows o) (laid (thing_at rows') (stands_under rows') i nothing) m
   grown_item m l f = elim (cases_eq o m) [
     | inl q ↦ ap (stands_under rows') (sym q) ∙ (put_here ∙ (ap (λ k. with_earlier (laid (thing_at rows') (stands_under rows') i nothing) (stands_under rows k)) q
-      ∙ sym (ap (λ b. cond b (with_earlier (laid (thing_at rows') (stands_under rows') i nothing) (stands_under rows m)) (put_under (thing_at rows o) (laid (thing_at rows') (stands_under rows') i nothing) (stands_under rows m)))
-      (same_is rows owners h o m live l ∙ eq-eqb o m q))))
+        ∙ sym (ap (λ b. cond b (with_earlier (laid (thing_at rows') (stands_under rows') i nothing) (stands_under rows m)) (put_under (thing_at rows o) (laid (thing_at rows') (stands_under rows') i nothing) (stands_under rows m)))
+        (same_is rows owners h o m live l ∙ eq-eqb o m q))))
     | inr q ↦ f q
-      ∙ sym (ap (λ b. cond b (with_earlier (laid (thing_at rows') (stands_under rows') i nothing) (stands_under rows m)) (put_under (thing_at rows o) (laid (thing_at rows') (stands_under rows') i nothing) (stands_under rows m)))
-      (same_is rows owners h o m live l ∙ ne_eqb o m q))
+        ∙ sym (ap (λ b. cond b (with_earlier (laid (thing_at rows') (stands_under rows') i nothing) (stands_under rows m)) (put_under (thing_at rows o) (laid (thing_at rows') (stands_under rows') i nothing) (stands_under rows m)))
+        (same_is rows owners h o m live l ∙ ne_eqb o m q))
   ]
 
   put_there : (b n : ℕ) → length rows' ≤ b + n → (o ≡ n → ⊥) → stands_under rows' n ≡ put_under (thing_at rows o) (laid (thing_at rows') (stands_under rows') i nothing) (stands_under rows n)
@@ -321,7 +321,7 @@ module _ (rows : List Row) (owners : ℕ) (t : Thing) (new : IsNew rows t) (h : 
     here = ap (λ (r : Row). r.items) (row rows owners (Some o) t new live h o (λ z. let l = live_there rows o live in absurd (omega (arith, l, z))) ∙ changed_here (with_item (held (length rows))) o rows (live_there rows o live));
     names = λ m lt. name rows owners (Some o) t new live h m (λ z. absurd (omega (arith, lt, z)));
     tops = tops_more 0 (changed_at (with_item (held (length rows))) o rows) (above_row t (Some o)) refl
-      ∙ tops_same (changed_at (with_item (held (length rows))) o rows) rows 0 (changed_length (with_item (held (length rows))) o rows) (λ j. changed_keeps is_top (with_item (held (length rows))) (λ r. refl) o rows j);
+        ∙ tops_same (changed_at (with_item (held (length rows))) o rows) rows 0 (changed_length (with_item (held (length rows))) o rows) (λ j. changed_keeps is_top (with_item (held (length rows))) (λ r. refl) o rows j);
     more = let z = size rows owners (Some o) t new live h in omega (arith, z);
     table = (holder_holds rows owners (Some o) t new live h).table;
   }
@@ -336,13 +336,15 @@ module _ (rows : List Row) (owners : ℕ) (t : Thing) (new : IsNew rows t) (h : 
     where
       same : piled (thing_at (with_holder rows None t)) (stands_under (with_holder rows None t)) (top_items 0 rows) nothing ≡ piled (thing_at rows) (stands_under rows) (top_items 0 rows) nothing
       same = piled_same (thing_at (with_holder rows None t)) (thing_at rows) (stands_under (with_holder rows None t)) (stands_under rows) (top_items 0 rows) nothing
-        (λ m e. (name rows owners None t new refl h m (λ z. let l = live_there rows m (top_lives rows owners h m e).0 in absurd (omega (arith, l, z))),
-        alike_under rows (with_holder rows None t) h.table (holder_holds rows owners None t new refl h).table (let z = size rows owners None t new refl h in omega (arith, z))
-        (λ k lt. name rows owners None t new refl h k (λ z. absurd (omega (arith, lt, z)))) 0
-        (λ k q. elim (holder_row rows None t k) [
-          | inl x ↦ ap (λ (r : Row). r.items) x.1
-          | inr x ↦ ap (λ (r : Row). r.items) x.1 ∙ sym (ap (λ (r : Row). r.items) (row_past rows k (let w = x.0 in omega (arith, w))))
-        ]) (length (with_holder rows None t)) m (omega arith) (omega arith)))
+          (λ m e. (
+            name rows owners None t new refl h m (λ z. let l = live_there rows m (top_lives rows owners h m e).0 in absurd (omega (arith, l, z))),
+            alike_under rows (with_holder rows None t) h.table (holder_holds rows owners None t new refl h).table (let z = size rows owners None t new refl h in omega (arith, z))
+                (λ k lt. name rows owners None t new refl h k (λ z. absurd (omega (arith, lt, z)))) 0
+                (λ k q. elim (holder_row rows None t k) [
+                  | inl x ↦ ap (λ (r : Row). r.items) x.1
+                  | inr x ↦ ap (λ (r : Row). r.items) x.1 ∙ sym (ap (λ (r : Row). r.items) (row_past rows k (let w = x.0 in omega (arith, w))))
+                ]) (length (with_holder rows None t)) m (omega arith) (omega arith),
+          ))
 
   -- after a holder was made
   pub made_is : (inside : Option ℕ) → is_open rows inside ≡ true → owned_of (with_holder rows inside t) ≡ made_in rows inside t (owned_of rows)

@@ -1,12 +1,12 @@
 -- What holds of a store holds after each edit.
-use Rattle.std.proofs.Common.{◌≡◌, ℕ, zero, suc, ◌+◌, ◌<◌, ◌≤◌, ◌==◌, ◌||◌, ◌&&◌, Bool, true, false, List, [], ◌∷◌, ◌++◌, length, Option, Some, None, ◌⊎◌, inl, inr, eq-eqb, refl, sym, ap, subst, ◌∙◌, arith, cond, length-append}
+use Rattle.std.proofs.Common.{◌≡◌, ℕ, zero, suc, ◌+◌, ◌<◌, ◌≤◌, ◌==◌, ◌||◌, true, false, List, [], ◌∷◌, ◌++◌, length, Option, Some, None, ◌⊎◌, inl, inr, eq-eqb, refl, sym, ap, subst, ◌∙◌, arith, cond, length-append}
 use Rattle.std.proofs.lemmas.Bool.{cases_Bool, cases_eq, cases_lt, eqb-true, ne_eqb, or_left, or_right, true≢false}
 use Rattle.effect_model.specs.Owning.{Thing, the_signal, the_owner, the_effect, the_page, the_watcher, same_thing}
 use Rattle.sig_owner.specs.Tables.{Item, held, leaf, noted, Row, above_at, above_row, changed_at, is_holder, is_open, is_owner, is_owner_row, items_at, live_at, owner_count, put_inside, row_at, thing_at, with_holder, with_item}
 use Rattle.sig_owner.specs.Places.{AreLeaves, Holds, IsPlain, held_count}
-use Rattle.sig_owner.specs.Walks.{IsTable, is_held}
+use Rattle.sig_owner.specs.Walks.{is_held}
 use Rattle.sig_owner.proofs.Counting.{live_there}
-use Rattle.sig_owner.proofs.Reading.{changed_all, changed_here, changed_keeps, changed_length, changed_other, more_all, more_before, more_last, row_past}
+use Rattle.sig_owner.proofs.Reading.{changed_all, changed_here, changed_keeps, changed_length, changed_other, more_before, more_last, row_past}
 
 pub nothing_holds : Holds [] 0
 nothing_holds = record {
@@ -85,7 +85,7 @@ held_more m [] j e = elim (cases_Bool (m == j)) [ inl q ↦ inr (eqb-true m j q)
 held_more m (held k ∷ is) j e = elim (cases_Bool (m == k)) [
   | inl q ↦ inl (or_left (m == k) (is_held m is) q)
   | inr q ↦ (let r : is_held m (is ++ held j ∷ []) ≡ true = rw q at e in
-  elim (held_more m is j r) [ inl x ↦ inl (or_right (m == k) (is_held m is) x) | inr x ↦ inr x ])
+      elim (held_more m is j r) [ inl x ↦ inl (or_right (m == k) (is_held m is) x) | inr x ↦ inr x ])
 ]
 held_more m (leaf t ∷ is) j e = held_more m is j e
 held_more m (noted c ∷ is) j e = held_more m is j e
@@ -160,8 +160,8 @@ holder_row rows inside t k =
     let l = inside_length inside (held (length rows)) rows in
     let xs = put_inside inside (held (length rows)) rows in
     elim (cases_eq k (length rows)) [
-    | inl e ↦ inr (e, more_last xs (above_row t inside) k (e ∙ sym l))
-    | inr ne ↦ inl (ne, by ne (cases_lt k (length rows)))
+      | inl e ↦ inr (e, more_last xs (above_row t inside) k (e ∙ sym l))
+      | inr ne ↦ inl (ne, by ne (cases_lt k (length rows)))
     ]
   where
     by : (k ≡ length rows → ⊥) → (k < length rows) ⊎ (length rows ≤ k) → row_at (with_holder rows inside t) k ≡ row_at (put_inside inside (held (length rows)) rows) k
@@ -205,10 +205,10 @@ module _ (rows : List Row) (owners : ℕ) (inside : Option ℕ) (t : Thing) (new
   stood : (n m : ℕ) → is_held m (items_at (with_holder rows inside t) n) ≡ true → (is_held m (items_at rows n) ≡ true) ⊎ ((m ≡ length rows) × (inside ≡ Some n))
   stood n m e = elim (holder_row rows inside t n) [
     | inl x ↦ (let f : is_held m (items_at (put_inside inside (held (length rows)) rows) n) ≡ true = sym (ap (λ (r : Row). is_held m r.items) x.1) ∙ e in
-    elim (inside_items inside (held (length rows)) rows n may) [
-      | inl y ↦ inl (sym (ap (is_held m) y.1) ∙ f)
-      | inr y ↦ elim (held_more m (items_at rows n) (length rows) (sym (ap (is_held m) y.1) ∙ f)) [ inl z ↦ inl z | inr z ↦ inr (z, y.0) ]
-    ])
+        elim (inside_items inside (held (length rows)) rows n may) [
+          | inl y ↦ inl (sym (ap (is_held m) y.1) ∙ f)
+          | inr y ↦ elim (held_more m (items_at rows n) (length rows) (sym (ap (is_held m) y.1) ∙ f)) [ inl z ↦ inl z | inr z ↦ inr (z, y.0) ]
+        ])
     | inr x ↦ absurd (true≢false (sym e ∙ ap (λ (r : Row). is_held m r.items) x.1))
   ]
 
@@ -220,11 +220,11 @@ module _ (rows : List Row) (owners : ℕ) (inside : Option ℕ) (t : Thing) (new
       let q : inside ≡ Some n = sym (ap (λ (r : Row). r.above) (last m e)) ∙ a in
       let l : n ≡ length rows → ⊥ = λ x. (let k = within n q in omega (arith, k, x)) in
       elim (inside_items inside (held (length rows)) rows n may) [
-      | inl y ↦ absurd (y.0 q)
-      | inr y ↦ (let c = count_more m (items_at rows n) (length rows) in
-      let z = none_yet n in
-      let b = eq-eqb m (length rows) e in
-      ap (λ (r : Row). held_count m r.items) (row n l) ∙ (ap (held_count m) y.1 ∙ (c ∙ rw b (ap (λ (k : ℕ). held_count k (items_at rows n) + 1) e ∙ ap (λ (k : ℕ). k + 1) z))))
+        | inl y ↦ absurd (y.0 q)
+        | inr y ↦ (let c = count_more m (items_at rows n) (length rows) in
+            let z = none_yet n in
+            let b = eq-eqb m (length rows) e in
+            ap (λ (r : Row). held_count m r.items) (row n l) ∙ (ap (held_count m) y.1 ∙ (c ∙ rw b (ap (λ (k : ℕ). held_count k (items_at rows n) + 1) e ∙ ap (λ (k : ℕ). k + 1) z))))
       ]
 
   once_other : (n m : ℕ) → (m ≡ length rows → ⊥) → live_at (with_holder rows inside t) m ≡ true → above_at (with_holder rows inside t) m ≡ Some n → held_count m (items_at (with_holder rows inside t) n) ≡ 1
@@ -232,10 +232,10 @@ module _ (rows : List Row) (owners : ℕ) (inside : Option ℕ) (t : Thing) (new
       let o = h.once n m (sym (live m ne) ∙ l) (sym (above m ne) ∙ a) in
       let k : n ≡ length rows → ⊥ = λ e. (let p = row_past rows n (let z : length rows ≤ n = omega (arith, e) in z) in let c = ap (λ (r : Row). held_count m r.items) p in omega (arith, o, c)) in
       elim (inside_items inside (held (length rows)) rows n may) [
-      | inl y ↦ ap (λ (r : Row). held_count m r.items) (row n k) ∙ (ap (held_count m) y.1 ∙ o)
-      | inr y ↦ (let c = count_more m (items_at rows n) (length rows) in
-      let b = ne_eqb m (length rows) ne in
-      ap (λ (r : Row). held_count m r.items) (row n k) ∙ (ap (held_count m) y.1 ∙ (c ∙ rw b (let z : held_count m (items_at rows n) + 0 ≡ 1 = omega (arith, o) in z))))
+        | inl y ↦ ap (λ (r : Row). held_count m r.items) (row n k) ∙ (ap (held_count m) y.1 ∙ o)
+        | inr y ↦ (let c = count_more m (items_at rows n) (length rows) in
+            let b = ne_eqb m (length rows) ne in
+            ap (λ (r : Row). held_count m r.items) (row n k) ∙ (ap (held_count m) y.1 ∙ (c ∙ rw b (let z : held_count m (items_at rows n) + 0 ≡ 1 = omega (arith, o) in z))))
       ]
 
   empty_other : (n : ℕ) → live_at rows n ≡ false → items_at (put_inside inside (held (length rows)) rows) n ≡ []

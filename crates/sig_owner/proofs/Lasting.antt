@@ -1,15 +1,15 @@
 -- Which holders live after things were taken back.
-use Rattle.std.proofs.Common.{◌≡◌, ℕ, zero, suc, ◌+◌, ◌<◌, ◌≤◌, ◌==◌, ◌||◌, ◌&&◌, Bool, true, false, List, [], ◌∷◌, ◌++◌, length, eq-eqb, refl, sym, ap, ◌∙◌, arith, inl, inr}
+use Rattle.std.proofs.Common.{◌≡◌, ℕ, zero, suc, ◌==◌, ◌||◌, ◌&&◌, true, false, List, [], ◌∷◌, ◌++◌, length, eq-eqb, refl, sym, ap, ◌∙◌, inl, inr}
 use Rattle.std.specs.Prelude.{not}
-use Rattle.std.proofs.lemmas.Bool.{cases_Bool, cases_eq, ne_eqb, or_left, or_right, true≢false}
-use Rattle.effect_model.specs.Owning.{Thing, Undoing, ends, cleans, same_thing, teardown_of}
+use Rattle.std.proofs.lemmas.Bool.{cases_Bool, or_left, or_right, true≢false}
+use Rattle.effect_model.specs.Owning.{ends, cleans, same_thing, teardown_of}
 use Rattle.sig_owner.specs.declared.thing.Undoing.{Undoing as AnUndoing}
 use Rattle.sig_owner.specs.Trees.{stands_under}
 use Rattle.sig_owner.proofs.Teardowns.{teardown_steps}
 use Rattle.signal_model.specs.Standing.{is_in}
 use Rattle.sig_owner.specs.Tables.{Item, held, leaf, noted, Row, is_holder, items_at, live_at, thing_at}
 use Rattle.sig_owner.specs.Places.{AreLeaves, Holds}
-use Rattle.sig_owner.specs.Walks.{Step, does, leaves, ended_under, is_ended, is_held, items_steps, left_in, steps_under, steps_undoings, steps_within, undoings_of, with_taken_back}
+use Rattle.sig_owner.specs.Walks.{Step, does, leaves, is_ended, is_held, items_steps, left_in, steps_under, steps_undoings, steps_within, undoings_of, with_taken_back}
 use Rattle.sig_owner.proofs.Ending.{ended_held, gone_there, live_there_still}
 use Rattle.sig_owner.proofs.Forests.{same_is}
 use Rattle.sig_owner.proofs.Holding.{same_true}
@@ -58,10 +58,10 @@ pub lasting : (rows : List Row) (owners o : ℕ) → Holds rows owners → (n : 
 unfolding steps_under
 lasting rows owners o h n = elim (cases_Bool (live_at rows n)) [
   | inl l ↦ (let e = ended_is rows owners n h l (steps_within (length rows) rows o) (levels_are rows owners h (length rows) o) in
-    elim (cases_Bool (is_in n (left_in (steps_within (length rows) rows o)))) [
-    | inl q ↦ gone_there rows owners o owners h n q ∙ rw l (sym (ap not (e ∙ q)))
-    | inr q ↦ live_there_still rows owners o owners h n q ∙ (l ∙ rw l (sym (ap not (e ∙ q))))
-  ])
+      elim (cases_Bool (is_in n (left_in (steps_within (length rows) rows o)))) [
+        | inl q ↦ gone_there rows owners o owners h n q ∙ rw l (sym (ap not (e ∙ q)))
+        | inr q ↦ live_there_still rows owners o owners h n q ∙ (l ∙ rw l (sym (ap not (e ∙ q))))
+      ])
   | inr l ↦ elim (cases_Bool (is_in n (left_in (steps_within (length rows) rows o)))) [
     | inl q ↦ (let x = ended_held rows o n q in absurd (true≢false (sym (h.living x.above n x.held) ∙ l)))
     | inr q ↦ live_there_still rows owners o owners h n q ∙ (l ∙ rw l refl)

@@ -10,3 +10,6 @@ mod Forests
 mod Standing
 mod Lasting
 mod Growing
+mod Looks
+mod TreeLaws
+pub mod Shared

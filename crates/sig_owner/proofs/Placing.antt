@@ -1,7 +1,7 @@
 -- Each thing stays placed where it stands.
-use Rattle.std.proofs.Common.{◌≡◌, ℕ, zero, suc, ◌+◌, ◌<◌, ◌≤◌, ◌==◌, ◌||◌, Bool, true, false, List, [], ◌∷◌, ◌++◌, length, Option, Some, None, ◌⊎◌, inl, inr, eq-eqb, refl, sym, ap, subst, ◌∙◌, arith, cond}
+use Rattle.std.proofs.Common.{◌≡◌, ℕ, ◌+◌, ◌<◌, ◌||◌, true, false, List, [], ◌∷◌, ◌++◌, length, Option, Some, ◌⊎◌, inl, inr, eq-eqb, refl, sym, ap, subst, ◌∙◌, cond}
 use Rattle.std.proofs.lemmas.Bool.{cases_Bool, cases_eq, or_left, or_right, true≢false}
-use Rattle.effect_model.specs.Owning.{Thing, the_owner, the_effect, same_thing}
+use Rattle.effect_model.specs.Owning.{Thing, the_effect, same_thing}
 use Rattle.sig_owner.specs.declared.thing.Thing.{Thing as AThing}
 use Rattle.sig_owner.specs.declared.thing.Thing.TheVariants as a
 use Rattle.sig_owner.specs.Keys.{same_key, same_key-true}
@@ -10,7 +10,7 @@ use Rattle.sig_owner.specs.Places.{AreLeaves, ArePlaced, Holds, IsPlain, Keeps, 
 use Rattle.sig_owner.specs.Walks.{ended_under, with_taken_back}
 use Rattle.sig_owner.proofs.Ending.{keeps, lives_still, still_there, taken_back_holds}
 use Rattle.sig_owner.proofs.Counting.{live_there}
-use Rattle.sig_owner.proofs.Holding.{IsNew, holder_holds, holder_row, item_holds, inside_items, inside_keeps, same_true}
+use Rattle.sig_owner.proofs.Holding.{IsNew, holder_holds, holder_row, item_holds, inside_keeps, same_true}
 use Rattle.sig_owner.specs.Trees.{has_thing, owned_of}
 use Rattle.sig_owner.proofs.Standing.{leaf_stands}
 use Rattle.sig_owner.proofs.Reading.{changed_here, changed_keeps, changed_other}
@@ -111,7 +111,7 @@ holder_placed rows place inside t one p = record {
   ];
   effects = λ n e l w. elim (holder_row rows inside t n) [
     | inl x ↦ p.effects n e (sym (inside_keeps (λ r. r.live) inside (held (length rows)) (λ r. refl) rows n) ∙ (sym (ap (λ (r : Row). r.live) x.1) ∙ l))
-      (sym (inside_keeps (λ r. r.holder) inside (held (length rows)) (λ r. refl) rows n) ∙ (sym (ap (λ (r : Row). r.holder) x.1) ∙ w))
+        (sym (inside_keeps (λ r. r.holder) inside (held (length rows)) (λ r. refl) rows n) ∙ (sym (ap (λ (r : Row). r.holder) x.1) ∙ w))
     | inr x ↦ one e (sym (ap (λ (r : Row). r.holder) x.1) ∙ w) ∙ ap Some (sym x.0)
   ];
 }
@@ -173,10 +173,10 @@ pub taken_back_kept : (rows rows' : List Row) (owners o left : ℕ) (place : ATh
 taken_back_kept rows rows' owners o left place e n k = record {
   holds = subst (λ rs. Holds rs left) (sym e) (taken_back_holds rows owners o left k.holds n);
   placed = subst (λ rs. ArePlaced rs place) (sym e) (fewer_placed rows (with_taken_back rows o) place
-    (λ m t q. still_there rows owners o left k.holds m t q)
-    (λ m l. (lives_still rows owners o left k.holds m l).1)
-    (λ m l. keeps rows owners o left k.holds (λ r. r.holder) (λ r. refl) (λ r. refl) m)
-    k.placed);
+      (λ m t q. still_there rows owners o left k.holds m t q)
+      (λ m l. (lives_still rows owners o left k.holds m l).1)
+      (λ m l. keeps rows owners o left k.holds (λ r. r.holder) (λ r. refl) (λ r. refl) m)
+      k.placed);
 }
 
 -- the place of the effect that was just noted

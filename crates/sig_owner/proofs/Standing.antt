@@ -1,12 +1,12 @@
 -- Each holder that lives, and all that stands under one, is somewhere in the tree.
-use Rattle.std.proofs.Common.{◌≡◌, ℕ, zero, suc, ◌+◌, ◌<◌, ◌≤◌, ◌==◌, ◌||◌, Bool, true, false, List, [], ◌∷◌, length, Option, Some, None, ◌⊎◌, inl, inr, eq-eqb, refl, sym, ap, ◌∙◌, arith}
+use Rattle.std.proofs.Common.{◌≡◌, ℕ, zero, suc, ◌<◌, ◌||◌, Bool, true, false, List, [], ◌∷◌, Option, Some, None, inl, inr, refl, sym, ap, ◌∙◌, arith}
 use Rattle.std.proofs.lemmas.Bool.{cases_Bool, cases_eq, ne_eqb, or_left, or_right, true≢false}
 use Rattle.effect_model.specs.Owning.{Thing, the_effect, Owned, nothing, thing, cleanup, same_thing, under}
 use Rattle.sig_owner.specs.Tables.{IsBare, Item, held, leaf, noted, Row, above_at, is_holder, items_at, live_at, row_at, thing_at}
 use Rattle.sig_owner.specs.Trees.{has_thing, owned_of, piled, stands_under, top_items}
 use Rattle.sig_owner.specs.Places.{Holds, has_leaf}
 use Rattle.sig_owner.specs.Walks.{is_held}
-use Rattle.sig_owner.proofs.Forests.{is_top_row, outer_before, outer_lives, same_refl, stands_here, top_count, under_is}
+use Rattle.sig_owner.proofs.Forests.{is_top_row, outer_before, outer_lives, stands_here, top_count, under_is}
 use Rattle.sig_owner.proofs.Holding.{IsNew, held_counted, same_true}
 
 -- what stands earlier stands there too
@@ -49,7 +49,7 @@ module _ (rows : List Row) (owners : ℕ) (h : Holds rows owners) where
           has_thing t (piled (thing_at rows) (stands_under rows) (top_items 0 rows) nothing) ≡ true
       by None a ih = has_inner (thing_at rows) (stands_under rows) t (top_items 0 rows) nothing o (held_counted o (top_items 0 rows) (top_count 0 o o rows (omega arith) (is_top_row (row_at rows o) l a))) w
       by (Some p) a ih = ih p a (or_right (same_thing t (thing_at rows p)) (has_thing t (stands_under rows p))
-        (ap (has_thing t) (stands_here rows h.table p) ∙ has_inner (thing_at rows) (stands_under rows) t (items_at rows p) nothing o (held_counted o (items_at rows p) (h.once p o l a)) w))
+          (ap (has_thing t) (stands_here rows h.table p) ∙ has_inner (thing_at rows) (stands_under rows) t (items_at rows p) nothing o (held_counted o (items_at rows p) (h.once p o l a)) w))
 
   holder_lives : (n : ℕ) (t : Thing) → has_leaf t (items_at rows n) ≡ true → live_at rows n ≡ true
   holder_lives n t q = elim (cases_Bool (live_at rows n)) [

@@ -1,12 +1,11 @@
 -- A walk loses nothing from step to step.
-use Rattle.std.proofs.Common.{◌≡◌, ℕ, zero, suc, ◌+◌, ◌-◌, ◌*◌, ◌<◌, ◌≤◌, ◌==◌, ◌||◌, Bool, true, false, List, [], ◌∷◌, ◌++◌, length, map, get_or, take, eq-eqb, refl, sym, ap, subst, ◌∙◌, arith, append_assoc, append-nil, length-append}
-use Rattle.std.proofs.lemmas.Bool.{cases_Bool, or_left, or_right}
+use Rattle.std.proofs.Common.{◌≡◌, ℕ, zero, suc, ◌+◌, ◌<◌, ◌≤◌, ◌==◌, true, List, [], ◌∷◌, ◌++◌, length, get_or, take, eq-eqb, refl, sym, ap, subst, ◌∙◌, arith, append_assoc, append-nil, length-append}
+use Rattle.std.proofs.lemmas.Bool.{or_left, or_right}
 use Rattle.std.proofs.lemmas.List.{map-append, take_more}
 use Rattle.std.proofs.Math.Seq.{take-length}
-use Rattle.std.proofs.Common.{inl, inr}
 use Rattle.effect_model.specs.Owning.{Thing, Undoing, ends}
 use Rattle.sig_owner.specs.declared.walk.Pending.{Pending}
-use Rattle.sig_owner.specs.Tables.{Item, held, leaf, noted, Row, items_at, no_row, row_at, thing_at}
+use Rattle.sig_owner.specs.Tables.{Item, held, leaf, noted, Row, items_at, thing_at}
 use Rattle.sig_owner.specs.declared.thing.Undoing.{Undoing as AnUndoing}
 use Rattle.sig_owner.specs.declared.walk.Walk.{Walk}
 use Rattle.sig_owner.specs.Walks.{Step, does, leaves, ArePending, GoesOn, IsPending, IsTable, IsWalk, rest, work, closed, is_held, item_steps, items_steps, left_in, pending_steps, rest_of, steps_at, steps_under, steps_undoings, steps_within, told, undoing_of, undoings_of, unwound}

@@ -1,8 +1,8 @@
 -- Items taken out of one row.
-use Rattle.std.specs.Prelude.{ℕ, ◌==◌, Bool, true, false, not, List, [], ◌∷◌, filter, Option, Some, None}
+use Rattle.std.specs.Prelude.{ℕ, ◌==◌, Bool, false, not, List, filter, Option, Some, None}
 use Rattle.effect_model.specs.Owning.{same_thing}
 use Rattle.sig_owner.specs.declared.thing.Thing.{Thing}
-use Rattle.sig_owner.specs.Tables.{Item, held, leaf, noted, Row, changed_at, thing_of}
+use Rattle.sig_owner.specs.Tables.{Item, held, leaf, Row, changed_at, thing_of}
 
 -- whether an item is this thing, which holds nothing
 abbrev pub is_leaf_of : Thing → Item → Bool

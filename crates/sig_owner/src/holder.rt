@@ -171,7 +171,7 @@ fn end(holder: &mut Holder)
     ensures { row_of holder.new ≡ ended_row (row_of holder.old) }
 {
     holder.live = false;
-    holder.made.clear();
+    clear(holder);
 }
 
 /// Ends a holder, and takes away what stands under it.

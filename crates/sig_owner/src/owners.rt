@@ -9,8 +9,8 @@ ghost use Rattle.sig_owner.specs.Walks.{is_ended, undoings_of, with_taken_back};
 
 use crate::errors::OwnFault;
 use crate::holder::{
-    Holder, Made, add_holder, clear_at, drop_holder_at, drop_leaf_at, end_each, is_live_at, is_open,
-    is_thing_at, put_at,
+    Holder, Made, add_holder, clear_at, drop_holder_at, drop_leaf_at, end_each, is_live_at,
+    is_open, is_thing_at, put_at,
 };
 use crate::places::{hint_of, note_place};
 use crate::thing::{CleanupAct, Thing, Undoing};
@@ -82,7 +82,11 @@ impl Owners {
 
     /// Makes an owner for an effect for which none lives. The effect stands last inside the owner that is given, else at the top. It is
     /// refused where that one is gone. After a refusal, and without memory, the store is as before.
-    pub fn make_for(&mut self, effect: EffectId, inside: Option<OwnerId>) -> Result<OwnerId, OwnFault>
+    pub fn make_for(
+        &mut self,
+        effect: EffectId,
+        inside: Option<OwnerId>,
+    ) -> Result<OwnerId, OwnFault>
         requires { has_thing (the_effect effect) (owned_of self.old) ≡ false }
         ensures after { OnOk result (self.new ≡ with_holder self.old inside (the_effect effect)) }
         ensures tree { OnOk result (owned_of self.new ≡ made_in self.old inside (the_effect effect) (owned_of self.old)) }

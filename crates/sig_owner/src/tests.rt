@@ -39,7 +39,10 @@ fn takes_back_the_last_first(rt: HostRuntime) -> Result<(), Fail> {
     owners.adopt(owner, Thing::Node(NodeId::of(1)))?;
     owners.make_for(EffectId::of(0), Some(owner))?;
     let undoings = owners.take_back(owner)?;
-    assert_eq!(rt; words(alloc, &undoings)?.as_str(), "effect 0; node 1; node 0; ");
+    assert_eq!(rt;
+        words(alloc, &undoings)?.as_str(),
+        "effect 0; node 1; node 0; "
+    );
     let none = owners.take_back(owner)?;
     assert_eq!(rt; words(alloc, &none)?.as_str(), "");
     Ok(())
@@ -55,7 +58,10 @@ fn takes_back_inner_cleanups_before_their_effect(rt: HostRuntime) -> Result<(), 
     owners.note_cleanup(inner, logged(2))?;
     owners.note_cleanup(outer, logged(3))?;
     let undoings = owners.take_back(outer)?;
-    assert_eq!(rt; words(alloc, &undoings)?.as_str(), "log 3; log 2; effect 1; log 1; ");
+    assert_eq!(rt;
+        words(alloc, &undoings)?.as_str(),
+        "log 3; log 2; effect 1; log 1; "
+    );
     let refused = owners.note_cleanup(inner, logged(4));
     assert_eq!(rt; refused, Err(OwnFault::Gone));
     Ok(())

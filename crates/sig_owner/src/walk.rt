@@ -83,7 +83,8 @@ impl Walk {
             Made::Held(inner) => self.enter(holders, *inner)?,
             Made::Leaf(thing) => self.undoings.push(Undoing::Gone(*thing))?,
             Made::Cleanup(cleanup) => {
-                self.undoings.push(Undoing::Cleanup(self.at, cleanup.copy()?))?;
+                self.undoings
+                    .push(Undoing::Cleanup(self.at, cleanup.copy()?))?;
             }
         }
         Ok(())

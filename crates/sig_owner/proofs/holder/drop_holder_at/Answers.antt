@@ -1,6 +1,6 @@
 use Rattle.std.proofs.Common.{List, length, sym, ap, ◌∙◌, arith}
 use Rattle.sig_owner.specs.Sifting.{is_held_of}
-use Rattle.sig_owner.specs.Tables.{Row, above_at, owner_count, rows_of}
+use Rattle.sig_owner.specs.Tables.{Row, owner_count, rows_of}
 use Rattle.sig_owner.proofs.Counting.{count_sifted, sifted_length}
 use Rattle.sig_owner.proofs.Reading.{rows_length}
 use Rattle.sig_owner.proofs.holder.drop_holder_at.Goals as goal

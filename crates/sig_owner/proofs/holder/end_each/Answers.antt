@@ -1,4 +1,4 @@
-use Rattle.std.proofs.Common.{◌≡◌, ◌+◌, ◌<◌, ℕ, arith, sym, ap, ◌∙◌, length, List, take, ◌++◌, ◌∷◌, []}
+use Rattle.std.proofs.Common.{◌<◌, arith, sym, ap, ◌∙◌, length, List, take, ◌++◌, ◌∷◌, []}
 use Rattle.std.proofs.lemmas.List.{take_more}
 use Rattle.std.proofs.lemmas.List.Elements.{All-get_or}
 use Rattle.sig_owner.specs.Tables.{Row, all_ended, changed_at, ended_row, rows_of}

@@ -1,4 +1,4 @@
-use Rattle.std.proofs.Common.{◌≡◌, length, take}
+use Rattle.std.proofs.Common.{◌≡◌, take}
 use Rattle.sig_owner.specs.Tables.{all_ended, owner_count, rows_of}
 use Rattle.sig_owner.proofs.holder.end_each.Given as goal
 

@@ -1,5 +1,5 @@
-use Rattle.std.proofs.Common.{ℕ, ◌≡◌, ◌+◌, arith, cond, sym, ap, subst, ◌∙◌, length, List, ◌<◌}
-use Rattle.sig_owner.specs.Tables.{Row, is_owner_row, owner_count, row_at, rows_of}
+use Rattle.std.proofs.Common.{ℕ, arith, cond, ap, ◌∙◌}
+use Rattle.sig_owner.specs.Tables.{is_owner_row, owner_count, row_at, rows_of}
 use Rattle.sig_owner.proofs.Counting.{count_ended}
 use Rattle.sig_owner.proofs.holder.end_one.Goals as goal
 

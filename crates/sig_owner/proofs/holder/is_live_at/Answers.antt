@@ -1,4 +1,4 @@
-use Rattle.std.proofs.Common.{sym, ap, ◌∙◌, arith}
+use Rattle.std.proofs.Common.{sym, ap, arith}
 use Rattle.sig_owner.specs.Tables.{Row, rows_of}
 use Rattle.sig_owner.proofs.Reading.{row_past, row_got, rows_length}
 use Rattle.sig_owner.proofs.holder.is_live_at.Goals as goal

@@ -1,4 +1,4 @@
-use Rattle.std.proofs.Common.{sym, ap, ◌∙◌, arith}
+use Rattle.std.proofs.Common.{ap}
 use Rattle.sig_owner.specs.Tables.{Row}
 use Rattle.sig_owner.proofs.Reading.{row_got}
 use Rattle.sig_owner.proofs.holder.thing_at.Goals as goal

@@ -1,4 +1,4 @@
-use Rattle.std.proofs.Common.{◌≡◌, ◌<◌, ℕ, true, false, length, refl, sym, ap, subst, ◌∙◌, arith}
+use Rattle.std.proofs.Common.{◌≡◌, ◌<◌, true, false, refl, sym, ap, subst, ◌∙◌, arith}
 use Rattle.std.specs.Prelude.{IfSome}
 use Rattle.sig_owner.specs.Keys.{placed}
 use Rattle.sig_owner.specs.Tables.{above_at, dropped, is_row_of, live_at, owner_count, row_at, rows_of, thing_of}

@@ -1,6 +1,6 @@
-use Rattle.std.proofs.Common.{◌≡◌, ◌+◌, true, false, Some, length, refl, sym, ap, ◌∙◌, add-zero, arith}
+use Rattle.std.proofs.Common.{◌≡◌, true, length, refl, sym, ap, ◌∙◌, add-zero, arith}
 use Rattle.effect_model.specs.Owning.{the_effect}
-use Rattle.sig_owner.specs.Keys.{placed, same_key-refl}
+use Rattle.sig_owner.specs.Keys.{placed}
 use Rattle.sig_owner.specs.declared.thing.Thing.TheVariants as a
 use Rattle.sig_owner.specs.Tables.{is_open, rows_of}
 use Rattle.sig_owner.proofs.Reading.{rows_length}

@@ -1,5 +1,4 @@
-use Rattle.std.proofs.Common.{ap, ◌∙◌, refl, ◌≡◌, []}
-use Rattle.effect_model.specs.Owning.{nothing}
+use Rattle.std.proofs.Common.{ap}
 use Rattle.sig_owner.specs.Tables.{rows_of}
 use Rattle.sig_owner.specs.Trees.{owned_of}
 use Rattle.sig_owner.proofs.owners.Owners.new.Goals as goal

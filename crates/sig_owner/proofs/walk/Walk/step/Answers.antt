@@ -1,4 +1,4 @@
-use Rattle.std.proofs.Common.{arith, sym, ap, subst}
+use Rattle.std.proofs.Common.{subst}
 use Rattle.sig_owner.specs.Tables.{rows_of}
 use Rattle.sig_owner.specs.Walks.{ArePending}
 use Rattle.sig_owner.proofs.Walking.{holder_told, left_rest, left_walk, left_work, pending_last}
