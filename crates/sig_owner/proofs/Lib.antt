@@ -12,4 +12,5 @@ mod Lasting
 mod Growing
 mod Looks
 mod TreeLaws
+mod Renamed
 pub mod Shared

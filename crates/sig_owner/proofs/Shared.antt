@@ -10,3 +10,5 @@ pub use Rattle.sig_owner.proofs.Looks.{dropped_thing, dropped_lives}
 
 -- nothing stands under what was emptied, and what stands nowhere stands nowhere after an edit
 pub use Rattle.sig_owner.proofs.TreeLaws.{under_emptied, has_put, has_emptied, has_taken}
+-- a tree whose owners have other numbers is edited and taken back alike
+pub use Rattle.sig_owner.proofs.Renamed.{renamed_earlier, renamed_teardown, renamed_same, renamed_under, renamed_emptied, renamed_put, renamed_taken, renamed_has}

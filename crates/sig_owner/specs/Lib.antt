@@ -1,5 +1,6 @@
 pub mod Tables
 pub mod Trees
+pub mod Renaming
 pub mod Walks
 pub mod Sifting
 pub mod Places
