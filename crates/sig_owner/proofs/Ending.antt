@@ -72,7 +72,7 @@ ends_outof names f n (noted c ∷ is) m e =
       | inr x ↦ absurd (true≢false (sym x))
     ]
 
-ends_into : (names : ℕ → Thing) (f : ℕ → List Step) (n : ℕ) (is : List Item) (m : ℕ) → EndsAt f is m → is_in m (left_in (items_steps names f n is)) ≡ true
+pub ends_into : (names : ℕ → Thing) (f : ℕ → List Step) (n : ℕ) (is : List Item) (m : ℕ) → EndsAt f is m → is_in m (left_in (items_steps names f n is)) ≡ true
 ends_into names f n [] m e = absurd (true≢false (sym e.held))
 ends_into names f n (held k ∷ is) m e =
     ap (is_in m) (left_append (items_steps names f n is) (f k ++ leaves k ∷ []))
@@ -197,7 +197,7 @@ module _ (rows : List Row) (owners o : ℕ) (left : ℕ) (h : Holds rows owners)
   pub none_here : (k : ℕ) → k ≡ o → items_at (with_taken_back rows o) k ≡ []
   none_here k e = subst (λ j. items_at (with_taken_back rows o) j ≡ []) (sym e) (emptied_here (all_ended (ended_under rows o) rows) o)
 
-  none_ended : (k : ℕ) → is_in k (ended_under rows o) ≡ true → items_at (with_taken_back rows o) k ≡ []
+  pub none_ended : (k : ℕ) → is_in k (ended_under rows o) ≡ true → items_at (with_taken_back rows o) k ≡ []
   none_ended k e = elim (cases_eq k o) [
     | inl q ↦ none_here k q
     | inr q ↦ ap (λ (r : Row). r.items) (changed_other emptied_row o k (all_ended (ended_under rows o) rows) (λ z. q (sym z)) ∙ ended_row_at (ended_under rows o) rows k e)

@@ -136,7 +136,7 @@ inside_items (Some o) i rows k may = elim (cases_eq o k) [
 eqb_sym : (m n : ℕ) → (m == n) ≡ (n == m)
 eqb_sym m n = elim (cases_eq m n) [ inl e ↦ eq-eqb m n e ∙ sym (eq-eqb n m (sym e)) | inr ne ↦ ne_eqb m n ne ∙ sym (ne_eqb n m (λ e. ne (sym e))) ]
 
-same_sym : (a b : Thing) → same_thing a b ≡ same_thing b a
+pub same_sym : (a b : Thing) → same_thing a b ≡ same_thing b a
 same_sym (the_signal m) (the_signal n) = eqb_sym m n
 same_sym (the_owner m) (the_owner n) = eqb_sym m n
 same_sym (the_effect m) (the_effect n) = eqb_sym m n

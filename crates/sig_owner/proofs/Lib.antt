@@ -9,6 +9,7 @@ mod Dropping
 mod Forests
 mod Standing
 mod Lasting
+mod Forgetting
 mod Growing
 mod Looks
 mod TreeLaws

@@ -168,17 +168,6 @@ place_noted place place' t id u s e = u s ∙ elim (cases_Bool (same_key t s)) [
       | inr q ↦ absurd (true≢false (sym h ∙ rw q refl))
     ])
 
--- where things were taken back
-pub taken_back_kept : (rows rows' : List Row) (owners o left : ℕ) (place : AThing → Option ℕ) → rows' ≡ with_taken_back rows o → left ≡ owner_count (all_ended (ended_under rows o) rows) → Keeps rows owners place → Keeps rows' left place
-taken_back_kept rows rows' owners o left place e n k = record {
-  holds = subst (λ rs. Holds rs left) (sym e) (taken_back_holds rows owners o left k.holds n);
-  placed = subst (λ rs. ArePlaced rs place) (sym e) (fewer_placed rows (with_taken_back rows o) place
-      (λ m t q. still_there rows owners o left k.holds m t q)
-      (λ m l. (lives_still rows owners o left k.holds m l).1)
-      (λ m l. keeps rows owners o left k.holds (λ r. r.holder) (λ r. refl) (λ r. refl) m)
-      k.placed);
-}
-
 -- the place of the effect that was just noted
 pub effect_noted : (place place' : AThing → Option ℕ) (e id n : ℕ) → id ≡ n → ((s : AThing) → place' s ≡ cond (same_key (a.Effect e) s) (Some id) (place s)) → (m : ℕ) → the_effect e ≡ the_effect m → place' (a.Effect m) ≡ Some n
 effect_noted place place' e id n q u m w = let x : e ≡ m = cc in u (a.Effect m) ∙ (let y = eq-eqb e m x in rw y (ap Some q))

@@ -1,9 +1,11 @@
 -- Which things are one, and where each stands by a map.
-use Rattle.std.specs.Prelude.{◌≡◌, ℕ, ◌==◌, Bool, true, false, Option, Some, refl}
+use Rattle.std.specs.Prelude.{◌≡◌, ℕ, ◌==◌, ◌||◌, Bool, List, [], ◌∷◌, true, false, Option, Some, refl}
 use Rattle.std.specs.Bool.{Decides}
 use Rattle.std.proofs.Common.{ap, eqb-true, eq-eqb}
 use Rattle.indexmap.specs.IndexMap.{IndexMap, get}
 use Rattle.sig_owner.specs.declared.thing.Thing.{Thing}
+use Rattle.sig_owner.specs.declared.thing.Undoing.{Undoing}
+use Rattle.sig_owner.specs.declared.thing.Undoing.TheVariants as undoing
 use Rattle.sig_owner.specs.declared.thing.Thing.TheVariants as a
 
 -- whether two are one thing
@@ -41,3 +43,13 @@ placed places t = get same_key places t
 abbrev pub hinted : (Thing → Option ℕ) → Thing → Option ℕ
 hinted place (a.Owner n) = Some n
 hinted place t = place t
+
+-- whether a thing is gone in a step
+abbrev pub is_gone_in : Undoing → Thing → Bool
+is_gone_in (undoing.Gone s) t = same_key s t
+is_gone_in (undoing.Cleanup o c) t = false
+
+-- the same of these steps
+abbrev pub are_gone_in : List Undoing → Thing → Bool
+are_gone_in [] t = false
+are_gone_in (u ∷ us) t = is_gone_in u t || are_gone_in us t

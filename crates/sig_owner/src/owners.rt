@@ -12,7 +12,7 @@ use crate::holder::{
     Holder, Made, add_holder, clear_at, drop_holder_at, drop_leaf_at, end_each, is_live_at,
     is_open, is_thing_at, put_at,
 };
-use crate::places::{hint_of, note_place};
+use crate::places::{forget_each, hint_of, note_place};
 use crate::thing::{CleanupAct, Thing, Undoing};
 use crate::walk::teardown_under;
 use indexmap::IndexMap;
@@ -159,6 +159,7 @@ impl Owners {
         let teardown = teardown_under(self.alloc, &self.holders, id)?;
         end_each(&mut self.holders, &mut self.owners, &teardown.ended);
         clear_at(&mut self.holders, id);
+        forget_each(&mut self.places, &teardown.undoings);
         Ok(teardown.undoings)
     }
 

@@ -1,9 +1,9 @@
 // Where things stand: nodes and pages by the owner that has them, effects by the owner that was made for them.
-ghost use Rattle.std.specs.Prelude.{◌≡◌, Some, if◌then◌else◌, OnOk, OnErr};
+ghost use Rattle.std.specs.Prelude.{◌≡◌, Some, None, if◌then◌else◌, OnOk, OnErr};
 ghost use Rattle.sig_owner.specs.declared.thing.Thing.{Thing as AThing};
-ghost use Rattle.sig_owner.specs.Keys.{hinted, placed, same_key};
+ghost use Rattle.sig_owner.specs.Keys.{are_gone_in, hinted, is_gone_in, placed, same_key};
 
-use crate::thing::Thing;
+use crate::thing::{Thing, Undoing};
 use indexmap::IndexMap;
 use sig_base::{NoMemory, OwnerId};
 
@@ -35,4 +35,30 @@ pub(crate) fn note_place(
 {
     places.insert(*thing, id)?;
     Ok(())
+}
+
+// Forgets the place of a thing.
+fn forget(places: &mut IndexMap<Thing, OwnerId>, thing: &Thing)
+    ensures { (t : AThing) → placed places.new t ≡ (if same_key thing.now t then None else placed places.old t) }
+{
+    let _place = places.swap_remove(thing);
+}
+
+// Forgets the place of the thing that is gone in a step.
+fn forget_one(places: &mut IndexMap<Thing, OwnerId>, undoing: &Undoing)
+    ensures { (t : AThing) → placed places.new t ≡ (if is_gone_in undoing.now t then None else placed places.old t) }
+{
+    match undoing {
+        Undoing::Gone(thing) => forget(places, thing),
+        Undoing::Cleanup(_, _) => {}
+    }
+}
+
+/// Forgets the places of the things that are gone in these steps.
+pub(crate) fn forget_each(places: &mut IndexMap<Thing, OwnerId>, undoings: &[Undoing])
+    ensures { (t : AThing) → placed places.new t ≡ (if are_gone_in undoings.now t then None else placed places.old t) }
+{
+    for undoing in undoings {
+        forget_one(places, undoing);
+    }
 }

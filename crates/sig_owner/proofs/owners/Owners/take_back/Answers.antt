@@ -1,6 +1,6 @@
-use Rattle.std.proofs.Common.{◌≡◌, List, true, length, sym, ap, subst, ◌∙◌, arith}
+use Rattle.std.proofs.Common.{None, cond, ◌≡◌, List, true, length, sym, ap, subst, ◌∙◌, arith}
 use Rattle.sig_owner.specs.Tables.{Row, all_ended, changed_at, emptied_row, live_at, owner_count, rows_of, thing_at}
-use Rattle.sig_owner.specs.Keys.{placed}
+use Rattle.sig_owner.specs.Keys.{are_gone_in, placed}
 use Rattle.effect_model.specs.Owning.{teardown_of, under}
 use Rattle.sig_owner.specs.Trees.{owned_of, stands_under}
 use Rattle.sig_owner.specs.Walks.{ended_under, undoings_of}
@@ -8,7 +8,9 @@ use Rattle.sig_owner.proofs.Forests.{under_is}
 use Rattle.sig_owner.proofs.Counting.{ended_length, live_there}
 use Rattle.sig_owner.proofs.Reading.{rows_length}
 use Rattle.sig_owner.proofs.Ending.{ended_there}
-use Rattle.sig_owner.proofs.Placing.{taken_back_kept}
+use Rattle.sig_owner.specs.declared.thing.Thing.{Thing as AThing}
+use Rattle.sig_owner.proofs.Teardowns.{teardown_steps}
+use Rattle.sig_owner.proofs.Forgetting.{forgotten_kept}
 use Rattle.sig_owner.proofs.Lasting.{lasting_seen}
 use Rattle.sig_owner.proofs.Growing.{taken_back_seen}
 use Rattle.sig_owner.proofs.owners.Owners.take_back.Goals as goal
@@ -29,9 +31,13 @@ clear_at-requires c =
 pub invariant_of-self : goal.invariant_of-self
 invariant_of-self c =
     let rows = rows_of c.self.inside.holders.items in
+    let us = c.in_ok-teardown.teardown.undoings.items in
     let ended = c.deref-3.ensures.value ∙ (c.in_ok-teardown.ensures.ended ∙ ap (λ hs. ended_under (rows_of hs) c.args.id) c.deref-2.ensures.value) in
     let after = c.end_each.ensures.rows ∙ ap (λ ns. all_ended ns rows) ended in
-    taken_back_kept rows _ c.self.inside.owners c.args.id c.end_each.new.owners (placed c.self.inside.places) (c.clear_at.ensures ∙ ap (changed_at emptied_row c.args.id) after) (c.end_each.ensures.count ∙ ap owner_count after) c.self.invariant
+    let told = subst (λ hs. undoings_of (thing_at (rows_of hs)) us ≡ teardown_of (thing_at (rows_of hs) c.args.id) (stands_under (rows_of hs) c.args.id)) c.deref-2.ensures.value c.in_ok-teardown.ensures.undoings in
+    let forgot = subst (λ xs. (t : AThing) → placed c.forget_each.new.places t ≡ cond (are_gone_in xs t) None (placed c.self.inside.places t)) c.deref-4.ensures.value c.forget_each.ensures in
+    forgotten_kept rows c.self.inside.owners c.args.id c.end_each.new.owners (placed c.self.inside.places) (placed c.forget_each.new.places) us (told ∙ sym (teardown_steps rows c.args.id)) forgot c.self.invariant
+    (rows_of c.clear_at.new.holders.items) (c.clear_at.ensures ∙ ap (changed_at emptied_row c.args.id) after) (c.end_each.ensures.count ∙ ap owner_count after)
 
 pub returns-clause-undoings : goal.returns-clause-undoings
 returns-clause-undoings c =
