@@ -5,14 +5,14 @@ use Rattle.std.proofs.lemmas.Bool.{cases_Bool, cases_eq, cases_lt, ne_eqb, or_le
 use Rattle.effect_model.specs.Owning.{Thing, the_owner, the_effect, same_thing}
 use Rattle.sig_owner.specs.declared.thing.Thing.{Thing as AThing}
 use Rattle.sig_owner.specs.declared.thing.Thing.TheVariants as a
-use Rattle.sig_owner.specs.Keys.{hinted}
+use Rattle.sig_owner.specs.Keys.{hinted, same_key, same_key-true}
 use Rattle.sig_owner.specs.Sifting.{is_held_of, is_leaf_of, sifted_inside, sifted_row}
 use Rattle.sig_owner.specs.Tables.{IsBare, Item, held, leaf, noted, Row, above_at, changed_at, dropped, dropped_row, ended_row, is_holder, is_row_of, items_at, live_at, no_row, owner_count, row_at, thing_at, thing_of, without}
 use Rattle.sig_owner.specs.Places.{AreLeaves, ArePlaced, Holds, Keeps, has_leaf, held_count}
 use Rattle.sig_owner.specs.Walks.{is_held}
 use Rattle.sig_owner.proofs.Counting.{live_there, sifted_length}
-use Rattle.sig_owner.proofs.Holding.{same_true}
-use Rattle.sig_owner.proofs.Placing.{fewer_placed, leaf_kind}
+use Rattle.sig_owner.proofs.Holding.{same_refl, same_true}
+use Rattle.sig_owner.proofs.Placing.{leaf_kind}
 use Rattle.sig_owner.proofs.Reading.{changed_here, changed_keeps, changed_length, changed_other, row_past}
 
 -- ---- rows as lists
@@ -211,15 +211,43 @@ module _ (rows : List Row) (owners left : ℕ) (t : Thing) (h : Holds rows owner
     | inr q ↦ leaf_left (thing_at rows) t u (items_at rows n) (sym (ap (λ (r : Row). has_leaf u r.items) (in_kept n q)) ∙ e)
   ]
 
-pub dropped_kept : (rows rows' : List Row) (owners left : ℕ) (place : AThing → Option ℕ) (t : Thing) → IsBare rows t → rows' ≡ dropped t rows → left ≡ owner_count rows' → Keeps rows owners place → Keeps rows' left place
-dropped_kept rows rows' owners left place t bare e n k = record {
-  holds = subst (λ rs. Holds rs left) (sym e) (dropped_holds rows owners left t k.holds bare (n ∙ ap owner_count e));
-  placed = subst (λ rs. ArePlaced rs place) (sym e) (fewer_placed rows (dropped t rows) place
-      (λ m u q. leaf_was rows owners left t k.holds m u q)
-      (λ m l. (lived rows owners left t k.holds m l).0)
-      (λ m l. name_kept rows owners left t k.holds m)
-      k.placed);
-}
+-- the thing is no longer among the items
+none_left : (names : ℕ → Thing) (t : Thing) (is : List Item) → has_leaf t (without names t is) ≡ false
+none_left names t [] = refl
+none_left names t (noted c ∷ is) = none_left names t is
+none_left names t (held k ∷ is) = elim (cases_Bool (same_thing t (names k))) [ inl q ↦ rw q (none_left names t is) | inr q ↦ rw q (none_left names t is) ]
+none_left names t (leaf u ∷ is) = elim (cases_Bool (same_thing t u)) [ inl q ↦ rw q (none_left names t is) | inr q ↦ rw (q, q) (none_left names t is) ]
+
+module _ (rows : List Row) (owners left : ℕ) (place place' : AThing → Option ℕ) (t : AThing) (forgot : (s : AThing) → place' s ≡ cond (same_key t s) None (place s)) (k : Keeps rows owners place) where
+  leaf_stays : (n : ℕ) (s : AThing) → has_leaf (thing_of s) (items_at (dropped (thing_of t) rows) n) ≡ true → place' s ≡ Some n
+  leaf_stays n s e = forgot s ∙ elim (cases_Bool (same_key t s)) [
+    | inl q ↦ absurd (true≢false (sym (ap (λ x. has_leaf (thing_of x) (items_at (dropped (thing_of t) rows) n)) (same_key-true t s q) ∙ e) ∙ off))
+    | inr q ↦ rw q (k.placed.leaves n s (leaf_was rows owners left (thing_of t) k.holds n (thing_of s) e))
+  ]
+    where
+      off : has_leaf (thing_of t) (items_at (dropped (thing_of t) rows) n) ≡ false
+      off = elim (cases_Bool (is_row_of (thing_of t) (row_at rows n))) [
+        | inl q ↦ ap (λ (r : Row). has_leaf (thing_of t) r.items) (out_gone rows owners left (thing_of t) k.holds n q)
+        | inr q ↦ ap (λ (r : Row). has_leaf (thing_of t) r.items) (in_kept rows owners left (thing_of t) k.holds n q) ∙ none_left (thing_at rows) (thing_of t) (items_at rows n)
+      ]
+
+  effect_stays : (n e : ℕ) → live_at (dropped (thing_of t) rows) n ≡ true → thing_at rows n ≡ the_effect e → place' (a.Effect e) ≡ Some n
+  effect_stays n e l q =
+      let was = lived rows owners left (thing_of t) k.holds n l in
+      forgot (a.Effect e) ∙ elim (cases_Bool (same_key t (a.Effect e))) [
+        | inl s ↦ (let same = ap thing_of (same_key-true t (a.Effect e) s) ∙ sym q in
+            absurd (true≢false (sym (row_alive (thing_of t) (row_at rows n) was.0 ∙ (ap (λ x. same_thing x (thing_at rows n)) same ∙ same_refl (thing_at rows n))) ∙ was.1)))
+        | inr s ↦ rw s (k.placed.effects n e was.0 q)
+      ]
+
+  pub dropped_kept : (rows' : List Row) → IsBare rows (thing_of t) → rows' ≡ dropped (thing_of t) rows → left ≡ owner_count rows' → Keeps rows' left place'
+  dropped_kept rows' bare e n = record {
+    holds = subst (λ rs. Holds rs left) (sym e) (dropped_holds rows owners left (thing_of t) k.holds bare (n ∙ ap owner_count e));
+    placed = subst (λ rs. ArePlaced rs place') (sym e) (record {
+      leaves = leaf_stays;
+      effects = λ m c l q. effect_stays m c l (sym (name_kept rows owners left (thing_of t) k.holds m) ∙ q);
+    });
+  }
 
 -- ---- the three ways in which it is done
 

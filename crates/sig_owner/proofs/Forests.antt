@@ -2,12 +2,12 @@
 use Rattle.std.proofs.Common.{◌≡◌, ℕ, zero, suc, ◌+◌, ◌<◌, ◌≤◌, ◌==◌, ◌&&◌, Bool, true, false, List, [], ◌∷◌, length, Option, Some, None, inl, inr, eq-eqb, refl, sym, ap, subst, ◌∙◌, arith, cond}
 use Rattle.std.specs.Prelude.{not, is_some}
 use Rattle.std.proofs.lemmas.Bool.{cases_Bool, cases_eq, ne_eqb, or_left, or_right, true≢false}
-use Rattle.effect_model.specs.Owning.{Thing, the_signal, the_owner, the_effect, the_page, the_watcher, Owned, nothing, thing, cleanup, same_thing, under, with_earlier}
+use Rattle.effect_model.specs.Owning.{Thing, Owned, nothing, thing, cleanup, same_thing, under, with_earlier}
 use Rattle.sig_owner.specs.Tables.{Item, held, leaf, noted, Row, above_at, items_at, live_at, row_at, thing_at}
 use Rattle.sig_owner.specs.Trees.{is_top, owned_of, piled, stands_under, top_items, under_within}
 use Rattle.sig_owner.specs.Places.{Holds, held_count}
 use Rattle.sig_owner.specs.Walks.{IsTable, is_held}
-use Rattle.sig_owner.proofs.Holding.{held_counted}
+use Rattle.sig_owner.proofs.Holding.{held_counted, same_refl}
 use Rattle.sig_owner.proofs.Reading.{row_past}
 
 -- ---- levels
@@ -177,13 +177,6 @@ top_held k m (r ∷ rs) e = by (is_top r) refl e (top_held (k + 1) m rs)
       | inl z ↦ record { place = 0; is = omega (arith, z); top = q }
       | inr z ↦ (let w = ne_eqb m k z in later (f (let y : is_held m (top_items (k + 1) rs) ≡ true = rw w at x in y)))
     ]
-
-pub same_refl : (a : Thing) → same_thing a a ≡ true
-same_refl (the_signal n) = eq-eqb n n refl
-same_refl (the_owner n) = eq-eqb n n refl
-same_refl (the_effect n) = eq-eqb n n refl
-same_refl (the_page n) = eq-eqb n n refl
-same_refl (the_watcher n) = eq-eqb n n refl
 
 -- ---- what stands under a holder that lives, in the tree of all that stands
 

@@ -1,8 +1,8 @@
 -- What is gone needs no place any more.
 use Rattle.std.proofs.Common.{◌≡◌, ℕ, zero, suc, ◌==◌, ◌||◌, ◌&&◌, Bool, true, false, cond, List, [], ◌∷◌, ◌++◌, length, Option, Some, None, ◌⊎◌, inl, inr, eq-eqb, refl, sym, ap, subst, ◌∙◌}
 use Rattle.std.specs.Prelude.{not}
-use Rattle.std.proofs.lemmas.Bool.{cases_Bool, cases_eq, or_left, or_right, true≢false}
-use Rattle.effect_model.specs.Owning.{Thing, the_effect, Undoing, ends, cleans, same_thing}
+use Rattle.std.proofs.lemmas.Bool.{cases_Bool, or_left, or_right, true≢false}
+use Rattle.effect_model.specs.Owning.{Thing, the_effect, ends, cleans, same_thing}
 use Rattle.signal_model.specs.Standing.{is_in}
 use Rattle.sig_owner.specs.declared.thing.Thing.{Thing as AThing}
 use Rattle.sig_owner.specs.declared.thing.Thing.TheVariants as a
@@ -10,8 +10,8 @@ use Rattle.sig_owner.specs.declared.thing.Undoing.{Undoing as AnUndoing}
 use Rattle.sig_owner.specs.declared.thing.Undoing.TheVariants as undoing
 use Rattle.sig_owner.specs.Keys.{are_gone_in, is_gone_in, same_key}
 use Rattle.sig_owner.specs.Tables.{Item, held, leaf, noted, Row, all_ended, is_holder, items_at, live_at, owner_count, thing_at, thing_of}
-use Rattle.sig_owner.specs.Places.{AreLeaves, ArePlaced, Holds, Keeps, has_leaf}
-use Rattle.sig_owner.specs.Walks.{Step, does, leaves, ended_under, is_ended, is_held, items_steps, left_in, step_undoing, steps_under, steps_undoings, steps_within, undoings_of, with_taken_back}
+use Rattle.sig_owner.specs.Places.{ArePlaced, Holds, Keeps, has_leaf}
+use Rattle.sig_owner.specs.Walks.{Step, does, leaves, ended_under, is_ended, is_held, items_steps, left_in, steps_under, steps_undoings, steps_within, undoings_of, with_taken_back}
 use Rattle.sig_owner.proofs.Ending.{ends_into, keeps, lives_still, none_ended, none_here, still_there, taken_back_holds}
 use Rattle.sig_owner.proofs.Holding.{same_sym, same_true}
 use Rattle.sig_owner.proofs.Lasting.{lasting}
@@ -88,14 +88,14 @@ ended_item t names f n (leaf u ∷ is) h e = elim (ended_either t names (items_s
 ended_item t names f n (held k ∷ is) h e =
     let here = or_left (k == k) (is_held k is) (eq-eqb k k refl) in
     elim (ended_either t names (items_steps names f n is) (f k ++ leaves k ∷ []) e) [
-    | inl x ↦ elim (ended_item t names f n is (λ m q. h m (or_right (m == k) (is_held m is) q)) x) [
-      | inl y ↦ inl y
-      | inr y ↦ inr (y.0, (or_right (y.0 == k) (is_held y.0 is) y.1.0, y.1.1))
-    ]
-    | inr x ↦ elim (ended_either t names (f k) (leaves k ∷ []) x) [
-      | inl y ↦ inr (k, (here, y))
-      | inr y ↦ absurd (true≢false (sym y ∙ (let q = h k here in rw q refl)))
-    ]
+      | inl x ↦ elim (ended_item t names f n is (λ m q. h m (or_right (m == k) (is_held m is) q)) x) [
+        | inl y ↦ inl y
+        | inr y ↦ inr (y.0, (or_right (y.0 == k) (is_held y.0 is) y.1.0, y.1.1))
+      ]
+      | inr x ↦ elim (ended_either t names (f k) (leaves k ∷ []) x) [
+        | inl y ↦ inr (k, (here, y))
+        | inr y ↦ absurd (true≢false (sym y ∙ (let q = h k here in rw q refl)))
+      ]
     ]
 
 -- the row under which it stood
@@ -108,12 +108,12 @@ leaf_from : (rows : List Row) (owners : ℕ) (t : Thing) → Holds rows owners �
 leaf_from rows owners t h k zero o e = absurd (true≢false (sym e))
 leaf_from rows owners t h k (suc l) o e =
     elim (ended_item t (thing_at rows) (steps_within l rows) o (items_at rows o) (λ m q. no_holder m (h.living o m q)) e) [
-    | inl x ↦ record { row = o; stood = x; which = inl refl }
-    | inr x ↦ (let y = leaf_from rows owners t h k l x.0 x.1.1 in record {
-      row = y.row;
-      stood = y.stood;
-      which = inr (ends_into (thing_at rows) (steps_within l rows) o (items_at rows o) y.row (record { at = x.0; held = x.1.0; which = y.which }));
-    })
+      | inl x ↦ record { row = o; stood = x; which = inl refl }
+      | inr x ↦ (let y = leaf_from rows owners t h k l x.0 x.1.1 in record {
+        row = y.row;
+        stood = y.stood;
+        which = inr (ends_into (thing_at rows) (steps_within l rows) o (items_at rows o) y.row (record { at = x.0; held = x.1.0; which = y.which }));
+      })
     ]
   where
     no_holder : (m : ℕ) → live_at rows m ≡ true → same_thing t (thing_at rows m) ≡ false
@@ -138,14 +138,14 @@ module _ (rows : List Row) (owners o left : ℕ) (place place' : AThing → Opti
       let was = still_there rows owners o left k.holds n (thing_of t) e in
       let at = k.placed.leaves n t was in
       forgot t ∙ elim (cases_Bool (are_gone_in us t)) [
-      | inl q ↦ (let x = leaf_under rows owners o (thing_of t) k.holds (leaf_kind (thing_of t) (items_at rows n) (k.holds.leaves n) was) (sym (gone_here t) ∙ q) in
-        let same : Some x.row ≡ Some n = sym (k.placed.leaves x.row t x.stood) ∙ at in
-        let r : x.row ≡ n = cc in
-        elim x.which [
-        | inl w ↦ absurd (true≢false (sym e ∙ ap (has_leaf (thing_of t)) (none_here rows owners o left k.holds n (sym r ∙ w))))
-        | inr w ↦ absurd (true≢false (sym e ∙ ap (has_leaf (thing_of t)) (none_ended rows owners o left k.holds n (sym (ap (λ j. is_in j (ended_under rows o)) r) ∙ w))))
-        ])
-      | inr q ↦ rw q at
+        | inl q ↦ (let x = leaf_under rows owners o (thing_of t) k.holds (leaf_kind (thing_of t) (items_at rows n) (k.holds.leaves n) was) (sym (gone_here t) ∙ q) in
+            let same : Some x.row ≡ Some n = sym (k.placed.leaves x.row t x.stood) ∙ at in
+            let r : x.row ≡ n = cc in
+            elim x.which [
+              | inl w ↦ absurd (true≢false (sym e ∙ ap (has_leaf (thing_of t)) (none_here rows owners o left k.holds n (sym r ∙ w))))
+              | inr w ↦ absurd (true≢false (sym e ∙ ap (has_leaf (thing_of t)) (none_ended rows owners o left k.holds n (sym (ap (λ j. is_in j (ended_under rows o)) r) ∙ w))))
+            ])
+        | inr q ↦ rw q at
       ]
 
   effect_place : (n e : ℕ) → live_at (with_taken_back rows o) n ≡ true → thing_at rows n ≡ the_effect e → place' (a.Effect e) ≡ Some n

@@ -8,20 +8,6 @@ use Rattle.sig_owner.specs.Walks.{is_held}
 use Rattle.sig_owner.proofs.Counting.{live_there}
 use Rattle.sig_owner.proofs.Reading.{changed_all, changed_here, changed_keeps, changed_length, changed_other, more_before, more_last, row_past}
 
-pub nothing_holds : Holds [] 0
-nothing_holds = record {
-  table = record { later = λ n m h. absurd (cc); there = λ n m h. absurd (cc) };
-  count = refl;
-  living = λ n m h. absurd (cc);
-  above = λ n m h. absurd (cc);
-  once = λ n m h. absurd (cc);
-  empty = λ n h. refl;
-  leaves = λ n. tt;
-  kinds = λ n h. absurd (cc);
-  numbers = λ n k h. absurd (cc);
-  names = λ n m h. absurd (cc);
-}
-
 -- ---- one item more that isn't a holder
 
 plain_held : (m : ℕ) (is : List Item) (i : Item) → IsPlain i → is_held m (is ++ i ∷ []) ≡ is_held m is
@@ -132,6 +118,13 @@ inside_items (Some o) i rows k may = elim (cases_eq o k) [
   | inl e ↦ inr (ap Some e, subst (λ n. items_at (changed_at (with_item i) o rows) n ≡ items_at rows n ++ i ∷ []) e (ap (λ (r : Row). r.items) (changed_here (with_item i) o rows (live_there rows o may))))
   | inr ne ↦ inl ((λ (e : Some o ≡ Some k). ne (cc)), ap (λ (r : Row). r.items) (changed_other (with_item i) o k rows ne))
 ]
+
+pub same_refl : (a : Thing) → same_thing a a ≡ true
+same_refl (the_signal n) = eq-eqb n n refl
+same_refl (the_owner n) = eq-eqb n n refl
+same_refl (the_effect n) = eq-eqb n n refl
+same_refl (the_page n) = eq-eqb n n refl
+same_refl (the_watcher n) = eq-eqb n n refl
 
 eqb_sym : (m n : ℕ) → (m == n) ≡ (n == m)
 eqb_sym m n = elim (cases_eq m n) [ inl e ↦ eq-eqb m n e ∙ sym (eq-eqb n m (sym e)) | inr ne ↦ ne_eqb m n ne ∙ sym (ne_eqb n m (λ e. ne (sym e))) ]

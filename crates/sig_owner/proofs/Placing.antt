@@ -5,26 +5,13 @@ use Rattle.effect_model.specs.Owning.{Thing, the_effect, same_thing}
 use Rattle.sig_owner.specs.declared.thing.Thing.{Thing as AThing}
 use Rattle.sig_owner.specs.declared.thing.Thing.TheVariants as a
 use Rattle.sig_owner.specs.Keys.{same_key, same_key-true}
-use Rattle.sig_owner.specs.Tables.{Item, held, leaf, noted, Row, all_ended, changed_at, is_holder, is_open, is_owner, items_at, live_at, owner_count, row_at, thing_at, thing_of, with_holder, with_item}
+use Rattle.sig_owner.specs.Tables.{Item, held, leaf, noted, Row, changed_at, is_holder, is_open, is_owner, items_at, live_at, row_at, thing_at, thing_of, with_holder, with_item}
 use Rattle.sig_owner.specs.Places.{AreLeaves, ArePlaced, Holds, IsPlain, Keeps, has_leaf}
-use Rattle.sig_owner.specs.Walks.{ended_under, with_taken_back}
-use Rattle.sig_owner.proofs.Ending.{keeps, lives_still, still_there, taken_back_holds}
 use Rattle.sig_owner.proofs.Counting.{live_there}
 use Rattle.sig_owner.proofs.Holding.{IsNew, holder_holds, holder_row, item_holds, inside_keeps, same_true}
 use Rattle.sig_owner.specs.Trees.{has_thing, owned_of}
 use Rattle.sig_owner.proofs.Standing.{leaf_stands}
 use Rattle.sig_owner.proofs.Reading.{changed_here, changed_keeps, changed_other}
-
-pub nothing_placed : (place : AThing → Option ℕ) → ArePlaced [] place
-nothing_placed place = record { leaves = λ n t e. absurd (cc); effects = λ n e l q. absurd (cc) }
-
--- where less stands under each row, and less lives
-pub fewer_placed : (rows rows' : List Row) (place : AThing → Option ℕ) → ((n : ℕ) (t : Thing) → has_leaf t (items_at rows' n) ≡ true → has_leaf t (items_at rows n) ≡ true) →
-    ((n : ℕ) → live_at rows' n ≡ true → live_at rows n ≡ true) → ((n : ℕ) → live_at rows' n ≡ true → thing_at rows' n ≡ thing_at rows n) → ArePlaced rows place → ArePlaced rows' place
-fewer_placed rows rows' place f g s p = record {
-  leaves = λ n t e. p.leaves n t (f n (thing_of t) e);
-  effects = λ n e l q. p.effects n e (g n l) (sym (s n l) ∙ q);
-}
 
 -- ---- another thing is placed
 

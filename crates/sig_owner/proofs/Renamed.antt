@@ -1,5 +1,5 @@
 -- Trees whose owners have other numbers are edited and taken back alike.
-use Rattle.std.proofs.Common.{◌≡◌, ℕ, ◌==◌, ◌||◌, ◌++◌, ◌∷◌, [], Bool, true, false, cond, eq-eqb, refl, sym, ap, ◌∙◌, inl, inr}
+use Rattle.std.proofs.Common.{◌≡◌, ℕ, ◌||◌, ◌++◌, ◌∷◌, Bool, true, false, cond, eq-eqb, refl, sym, ap, ◌∙◌, inl, inr}
 use Rattle.std.proofs.lemmas.Bool.{cases_eq, ne_eqb}
 use Rattle.std.proofs.lemmas.List.{map-append}
 use Rattle.effect_model.specs.Owning.{Thing, the_owner, the_signal, the_effect, the_page, the_watcher, Owned, nothing, thing, cleanup, cleans, ends, emptied, put_under, same_thing, taken_out, teardown_of, under, with_earlier}

@@ -12,7 +12,7 @@ use crate::holder::{
     Holder, Made, add_holder, clear_at, drop_holder_at, drop_leaf_at, end_each, is_live_at,
     is_open, is_thing_at, put_at,
 };
-use crate::places::{forget_each, hint_of, note_place};
+use crate::places::{forget, forget_each, hint_of, note_place};
 use crate::thing::{CleanupAct, Thing, Undoing};
 use crate::walk::teardown_under;
 use indexmap::IndexMap;
@@ -175,10 +175,12 @@ impl Owners {
         };
         if is_thing_at(&self.holders, id, &thing) {
             drop_holder_at(&mut self.holders, &mut self.owners, id);
+            forget(&mut self.places, &thing);
             return;
         }
         if is_live_at(&self.holders, id) {
             drop_leaf_at(&mut self.holders, id, &thing);
+            forget(&mut self.places, &thing);
         }
     }
 }

@@ -37,8 +37,8 @@ pub(crate) fn note_place(
     Ok(())
 }
 
-// Forgets the place of a thing.
-fn forget(places: &mut IndexMap<Thing, OwnerId>, thing: &Thing)
+/// Forgets the place of a thing.
+pub(crate) fn forget(places: &mut IndexMap<Thing, OwnerId>, thing: &Thing)
     ensures { (t : AThing) → placed places.new t ≡ (if same_key thing.now t then None else placed places.old t) }
 {
     let _place = places.swap_remove(thing);

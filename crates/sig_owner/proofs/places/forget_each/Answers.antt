@@ -1,4 +1,4 @@
-use Rattle.std.proofs.Common.{◌+◌, ◌++◌, ◌∷◌, [], None, cond, take, sym, ap, ◌∙◌}
+use Rattle.std.proofs.Common.{◌++◌, ◌∷◌, [], None, cond, take, sym, ap, ◌∙◌}
 use Rattle.std.proofs.lemmas.List.{take_more}
 use Rattle.sig_owner.specs.Keys.{are_gone_in, is_gone_in, placed}
 use Rattle.sig_owner.proofs.Forgetting.{forgotten, gone_more}

@@ -34,8 +34,8 @@ invariant_of-self c =
     let rows = rows_of c.self.inside.holders.items in
     let here : is_row_of (thing_of c.args.thing) (row_at rows c.in-Some.id) ≡ true = sym (c.is_thing_at.ensures ∙ ap (λ xs. is_row_of (thing_of c.args.thing) (row_at (rows_of xs) c.in-Some.id)) c.deref.ensures.value) ∙ c.if-is_thing_at.true in
     let bare = bare_rows rows c.self.inside.owners c.self.invariant.holds (thing_of c.args.thing) (λ e. ap (λ rs. under (thing_of c.args.thing) (owned_of rs)) c.self.view_is ∙ c.requires e) in
-    dropped_kept rows _ c.self.inside.owners c.drop_holder_at.new.owners (placed c.self.inside.places) (thing_of c.args.thing) bare
-    (c.drop_holder_at.ensures.rows ∙ holder_dropped rows c.self.inside.owners (placed c.self.inside.places) c.args.thing c.self.invariant c.in-Some.id here) c.drop_holder_at.ensures.count c.self.invariant
+    dropped_kept rows c.self.inside.owners c.drop_holder_at.new.owners (placed c.self.inside.places) (placed c.forget.new.places) c.args.thing c.forget.ensures c.self.invariant _ bare
+    (c.drop_holder_at.ensures.rows ∙ holder_dropped rows c.self.inside.owners (placed c.self.inside.places) c.args.thing c.self.invariant c.in-Some.id here) c.drop_holder_at.ensures.count
 
 pub returns-then-is_thing_at-clause-after : goal.returns-then-is_thing_at-clause-after
 returns-then-is_thing_at-clause-after c =
@@ -56,8 +56,8 @@ invariant_of-self-then-is_live_at c =
     let live : live_at rows c.in-Some.id ≡ true = sym (c.is_live_at.ensures ∙ ap (λ xs. live_at (rows_of xs) c.in-Some.id) c.deref-2.ensures.value) ∙ c.if-is_live_at.true in
     let bare = bare_rows rows c.self.inside.owners c.self.invariant.holds (thing_of c.args.thing) (λ e. ap (λ rs. under (thing_of c.args.thing) (owned_of rs)) c.self.view_is ∙ c.requires e) in
     let e = c.drop_leaf_at.ensures ∙ at_outer rows c.self.inside.owners (placed c.self.inside.places) c.args.thing c.self.invariant c.in-Some.id (sym c.in-Some.ensures) off live in
-    dropped_kept rows _ c.self.inside.owners c.self.inside.owners (placed c.self.inside.places) (thing_of c.args.thing) bare e
-    (c.self.invariant.holds.count ∙ sym (ap owner_count c.drop_leaf_at.ensures ∙ count_sifted_row (is_leaf_of c.args.thing) c.in-Some.id rows)) c.self.invariant
+    dropped_kept rows c.self.inside.owners c.self.inside.owners (placed c.self.inside.places) (placed c.forget-then-is_live_at.new.places) c.args.thing c.forget-then-is_live_at.ensures c.self.invariant _ bare e
+    (c.self.invariant.holds.count ∙ sym (ap owner_count c.drop_leaf_at.ensures ∙ count_sifted_row (is_leaf_of c.args.thing) c.in-Some.id rows))
 
 pub returns-then-is_live_at-clause-after : goal.returns-then-is_live_at-clause-after
 returns-then-is_live_at-clause-after c =
