@@ -3,6 +3,7 @@
 
 mod errors;
 mod holder;
+mod limits;
 mod owners;
 mod places;
 #[cfg(test)]
@@ -11,5 +12,6 @@ mod thing;
 mod walk;
 
 pub use errors::OwnFault;
+pub use limits::MOST_OWNERS;
 pub use owners::Owners;
 pub use thing::{CleanupAct, Thing, Undoing};

@@ -12,11 +12,12 @@ use crate::holder::{
     Holder, Made, add_holder, clear_at, drop_holder_at, drop_leaf_at, end_each, is_live_at,
     is_open, is_thing_at, put_at,
 };
+use crate::limits::MOST_OWNERS;
 use crate::places::{forget, forget_each, hint_of, note_place};
 use crate::thing::{CleanupAct, Thing, Undoing};
 use crate::walk::teardown_under;
 use indexmap::IndexMap;
-use sig_base::{EffectId, MOST_OWNERS, NoMemory, OwnerId};
+use sig_base::{EffectId, NoMemory, OwnerId};
 use std::alloc::Global;
 use std::marker::Model;
 
