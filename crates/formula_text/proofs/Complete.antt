@@ -7,38 +7,22 @@ use Rattle.formula_text.specs.Signs.{Sign}
 use Rattle.formula_text.specs.Signs as t
 use Rattle.sig_formula.specs.declared.formula.BinOp.{BinOp}
 use Rattle.sig_formula.specs.declared.formula.BinOp.TheVariants as op
-use Rattle.formula_text.specs.Grammar.{Draft, binary, choice, Written, single, group, untrack, negated, chain, pick, spelled, meant, level, before, rule, Fits}
-use Rattle.formula_text.specs.Reading.{Part, Reader, head, goes_on, tail_at, tail, expr, choice_at}
-use Rattle.formula_text.proofs.Sound.{pick_tokens}
+use Rattle.formula_text.specs.declared.rough.OverRows.{OverRows}
+use Rattle.formula_text.specs.Grammar.{Draft, binary, choice, each_row, spelled, meant, level, before, rule, Fits}
+use Rattle.formula_text.specs.Grammar.{Written, single, group, it_dot, around, over_rows, negated, chain, pick}
+use Rattle.formula_text.specs.Reading.{Part, Reader, head, goes_on, tail_at, tail, expr, choice_at, each_row_at}
+use Rattle.formula_text.proofs.Sound.{each_tokens, pick_tokens}
 
 -- no operator goes on here with a part of rule least or tighter
 abbrev pub Stops : ℕ → List Sign → Type 0
-Stops least [] = Unit {0}
-Stops least (t.leaf n ∷ ts) = Unit {0}
 Stops least (t.operator o ∷ ts) = level o < least
-Stops least (t.not_word ∷ ts) = Unit {0}
-Stops least (t.untrack_word ∷ ts) = Unit {0}
-Stops least (t.opening ∷ ts) = Unit {0}
-Stops least (t.closing ∷ ts) = Unit {0}
-Stops least (t.other ∷ ts) = Unit {0}
-Stops least (t.if_word ∷ ts) = Unit {0}
-Stops least (t.then_word ∷ ts) = Unit {0}
-Stops least (t.else_word ∷ ts) = Unit {0}
+Stops least _ = Unit {0}
 
 stop_at : (read : Reader) (again : Part → Part) (least : ℕ) (p : Part) (rest : List Sign) → Stops least rest → tail_at read again least p rest ≡ p
-stop_at read again least p [] h = refl
-stop_at read again least p (t.leaf n ∷ ts) h = refl
 stop_at read again least p (t.operator o ∷ ts) h =
     let no : goes_on o least p.1 ≡ false = and_left (nat_le least (level o)) (nat_le (before o) p.1) (lt-leb least (level o) h) in
     rw no refl
-stop_at read again least p (t.not_word ∷ ts) h = refl
-stop_at read again least p (t.untrack_word ∷ ts) h = refl
-stop_at read again least p (t.opening ∷ ts) h = refl
-stop_at read again least p (t.closing ∷ ts) h = refl
-stop_at read again least p (t.other ∷ ts) h = refl
-stop_at read again least p (t.if_word ∷ ts) h = refl
-stop_at read again least p (t.then_word ∷ ts) h = refl
-stop_at read again least p (t.else_word ∷ ts) h = refl
+stop_at read again least p _ h = refl
 
 stop : (read : Reader) (k least : ℕ) (p : Part) → Stops least p.2 → tail read k least p ≡ p
 unfolding tail
@@ -71,8 +55,6 @@ level_before op.Rem = omega arith
 
 -- an operator that does not bind tighter than not binds looser
 Stops-not : (rest : List Sign) → Stops 4 rest → Stops 3 rest
-Stops-not [] h = tt
-Stops-not (t.leaf n ∷ ts) h = tt
 Stops-not (t.operator op.Or ∷ ts) h = omega arith
 Stops-not (t.operator op.And ∷ ts) h = omega arith
 Stops-not (t.operator op.Eq ∷ ts) h = absurd (omega arith)
@@ -87,29 +69,12 @@ Stops-not (t.operator op.Sub ∷ ts) h = absurd (omega arith)
 Stops-not (t.operator op.Mul ∷ ts) h = absurd (omega arith)
 Stops-not (t.operator op.Div ∷ ts) h = absurd (omega arith)
 Stops-not (t.operator op.Rem ∷ ts) h = absurd (omega arith)
-Stops-not (t.not_word ∷ ts) h = tt
-Stops-not (t.untrack_word ∷ ts) h = tt
-Stops-not (t.opening ∷ ts) h = tt
-Stops-not (t.closing ∷ ts) h = tt
-Stops-not (t.other ∷ ts) h = tt
-Stops-not (t.if_word ∷ ts) h = tt
-Stops-not (t.then_word ∷ ts) h = tt
-Stops-not (t.else_word ∷ ts) h = tt
+Stops-not _ h = tt
 
 pub Stops-more : (a b : ℕ) (rest : List Sign) → a ≤ b → Stops a rest → Stops b rest
-Stops-more a b [] le h = tt
-Stops-more a b (t.leaf n ∷ ts) le h = tt
 Stops-more a b (t.operator o ∷ ts) le h = omega arith
-Stops-more a b (t.not_word ∷ ts) le h = tt
-Stops-more a b (t.untrack_word ∷ ts) le h = tt
-Stops-more a b (t.opening ∷ ts) le h = tt
-Stops-more a b (t.closing ∷ ts) le h = tt
-Stops-more a b (t.other ∷ ts) le h = tt
-Stops-more a b (t.if_word ∷ ts) le h = tt
-Stops-more a b (t.then_word ∷ ts) le h = tt
-Stops-more a b (t.else_word ∷ ts) le h = tt
+Stops-more a b _ le h = tt
 
--- a part that stops is the whole
 pub ended : (n least : ℕ) (ts : List Sign) (p : Part) → Leads n least ts p → Stops least p.2 → expr n least ts ≡ Some p
 ended n least ts p l h = l.reads ∙ ap (λ (q : Part). Some q) (stop (expr l.inner) l.turns least p h)
 
@@ -159,21 +124,17 @@ level_some op.Div = omega arith
 level_some op.Rem = omega arith
 
 pub Stops-zero : (rest : List Sign) → Stops 1 rest → Stops 0 rest
-Stops-zero [] h = tt
-Stops-zero (t.leaf n ∷ ts) h = tt
 Stops-zero (t.operator o ∷ ts) h = absurd (omega (arith, level_some o))
-Stops-zero (t.not_word ∷ ts) h = tt
-Stops-zero (t.untrack_word ∷ ts) h = tt
-Stops-zero (t.opening ∷ ts) h = tt
-Stops-zero (t.closing ∷ ts) h = tt
-Stops-zero (t.other ∷ ts) h = tt
-Stops-zero (t.if_word ∷ ts) h = tt
-Stops-zero (t.then_word ∷ ts) h = tt
-Stops-zero (t.else_word ∷ ts) h = tt
+Stops-zero _ h = tt
 
 pub choice_reads : (read : Reader) (ts us vs rest : List Sign) (x y z : Draft) (i j k : ℕ) → read 0 ts ≡ Some (x, i, t.then_word ∷ us)
     → read 0 us ≡ Some (y, j, t.else_word ∷ vs) → read 0 vs ≡ Some (z, k, rest) → choice_at read ts ≡ Some (choice x y z, 0, rest)
 choice_reads read ts us vs rest x y z i j k e f g = rw (e, f, g) refl
+
+-- the rows and what is evaluated of each are read to their ends
+each_reads : (read : Reader) (f : OverRows) (ts us rest : List Sign) (x y : Draft) (i j : ℕ) → read 0 ts ≡ Some (x, i, t.comma ∷ us)
+    → read 0 us ≡ Some (y, j, t.closing ∷ rest) → each_row_at read f (t.opening ∷ ts) ≡ Some (each_row f x y, 8, rest)
+each_reads read f ts us rest x y i j e g = rw (e, g) refl
 
 -- the test and the branch for truth are read to their ends
 pub pick_reads : (n least : ℕ) (ts us vs after rest : List Sign) (x y z : Draft) (i j l : ℕ) → least ≤ 0
@@ -196,12 +157,41 @@ exact (group w) (suc n) least rest fits low stops small =
     let inner = ended n 0 (spelled w ++ (t.closing ∷ rest)) (meant w, rule w, t.closing ∷ rest) (exact w n 0 (t.closing ∷ rest) fits (omega arith) tt (omega arith)) tt in
     let regroup = append_assoc (spelled w) (t.closing ∷ []) rest in
     record { inner = n; turns = suc (length ((spelled w ++ t.closing ∷ []) ++ rest)); n-is = refl; enough = omega (arith, length-append (spelled w ++ t.closing ∷ []) rest); reads = rw (regroup, inner) refl }
-exact (untrack w) zero least rest fits low stops small = absurd (omega arith)
-exact (untrack w) (suc n) least rest fits low stops small =
+exact (it_dot m) zero least rest fits low stops small = absurd (omega arith)
+exact (it_dot m) (suc n) least rest fits low stops small =
+    record { inner = n; turns = suc (suc (suc (length rest))); n-is = refl; enough = omega arith; reads = refl }
+exact (around f w) zero least rest fits low stops small = absurd (omega arith)
+exact (around f w) (suc n) least rest fits low stops small =
     let len = length-append (spelled w) (t.closing ∷ []) in
-    let inner = ended n 0 (spelled w ++ (t.closing ∷ rest)) (meant w, rule w, t.closing ∷ rest) (exact w n 0 (t.closing ∷ rest) fits (omega arith) tt (omega arith)) tt in
+    let inner = ended n 0 (spelled w ++ (t.closing ∷ rest)) (meant w, rule w, t.closing ∷ rest)
+    (exact w n 0 (t.closing ∷ rest) fits (omega arith) tt (omega arith)) tt in
     let regroup = append_assoc (spelled w) (t.closing ∷ []) rest in
-    record { inner = n; turns = suc (suc (length ((spelled w ++ t.closing ∷ []) ++ rest))); n-is = refl; enough = omega (arith, length-append (spelled w ++ t.closing ∷ []) rest); reads = rw (regroup, inner) refl }
+    record {
+      inner = n;
+      turns = suc (suc (length ((spelled w ++ t.closing ∷ []) ++ rest)));
+      n-is = refl;
+      enough = omega (arith, length-append (spelled w ++ t.closing ∷ []) rest);
+      reads = rw (regroup, inner) refl;
+    }
+exact (over_rows f a b) zero least rest fits low stops small = absurd (omega arith)
+exact (over_rows f a b) (suc n) least rest fits low stops small =
+    let after = spelled b ++ (t.closing ∷ rest) in
+    let within = spelled a ++ (t.comma ∷ after) in
+    let is = each_tokens (spelled a) (spelled b) rest in
+    let len-ab = length-append (spelled a) (t.comma ∷ spelled b) in
+    let len = length-append (spelled a ++ (t.comma ∷ spelled b)) (t.closing ∷ []) in
+    let len-b = length-append (spelled b) (t.closing ∷ rest) in
+    let rows = ended n 0 within (meant a, rule a, t.comma ∷ after) (exact a n 0 (t.comma ∷ after) fits.0 (omega arith) tt (omega arith)) tt in
+    let part = ended n 0 after (meant b, rule b, t.closing ∷ rest) (exact b n 0 (t.closing ∷ rest) fits.1 (omega arith) tt (omega arith)) tt in
+    let whole = ((spelled a ++ (t.comma ∷ spelled b)) ++ t.closing ∷ []) ++ rest in
+    let read = each_reads (expr n) f within after rest (meant a) (meant b) (rule a) (rule b) rows part in
+    record {
+      inner = n;
+      turns = suc (suc (length whole));
+      n-is = refl;
+      enough = omega (arith, length-append ((spelled a ++ (t.comma ∷ spelled b)) ++ t.closing ∷ []) rest);
+      reads = rw (is, read) refl;
+    }
 exact (negated w) zero least rest fits low stops small = absurd (omega arith)
 exact (negated w) (suc n) least rest fits low stops small =
     let inner = ended n 3 (spelled w ++ rest) (meant w, rule w, rest) (exact w n 3 rest fits.1 fits.0 (Stops-more 3 (rule w + 1) rest (omega (arith, fits.0)) (Stops-not rest stops)) (omega arith)) (Stops-not rest stops) in

@@ -8,23 +8,15 @@ use Rattle.sig_words.specs.Lexemes.{Lexeme}
 use Rattle.formula_text.specs.Signs.{Sign, sign, signs}
 use Rattle.formula_text.specs.Signs as t
 use Rattle.sig_formula.specs.declared.formula.BinOp.{BinOp}
-use Rattle.formula_text.specs.Grammar.{Draft, negation, binary, choice, Written, single, group, untrack, negated, chain, pick, spelled, meant, level, before, rule, Fits, Spells, IsLongest, HasNone}
+use Rattle.formula_text.specs.Grammar.{Draft, negation, binary, choice, spelled, meant, level, before, rule, Fits, Spells, IsLongest, HasNone}
+use Rattle.formula_text.specs.Grammar.{Written, single, group, it_dot, around, over_rows, negated, chain, pick}
 use Rattle.formula_text.specs.Reading.{Part, Reader, goes_on, extended, tail_at, tail, expr}
 use Rattle.formula_text.proofs.Sound.{expr_sound, level_small, pick_tokens}
 use Rattle.formula_text.proofs.Complete.{Stops, Stops-more, Leads, exact, ended, level_before, Stops-zero, step_chain, pick_reads}
 
 Stops-any : (rest : List Sign) → Stops 9 rest
-Stops-any [] = tt
-Stops-any (t.leaf n ∷ ts) = tt
 Stops-any (t.operator o ∷ ts) = omega (arith, level_small o)
-Stops-any (t.not_word ∷ ts) = tt
-Stops-any (t.untrack_word ∷ ts) = tt
-Stops-any (t.opening ∷ ts) = tt
-Stops-any (t.closing ∷ ts) = tt
-Stops-any (t.other ∷ ts) = tt
-Stops-any (t.if_word ∷ ts) = tt
-Stops-any (t.then_word ∷ ts) = tt
-Stops-any (t.else_word ∷ ts) = tt
+Stops-any _ = tt
 
 Stops-nil : (own : ℕ) → Stops own []
 Stops-nil own = tt
@@ -43,20 +35,11 @@ extended_shrinks again o p rest None more shorter right = omega arith
 extended_shrinks again o p rest (Some q) more shorter right = omega (arith, more (binary o p.0 q.0, level o, q.2), right q refl)
 
 tail_at_shrinks : (read : Reader) → Shrinks read → (again : Part → Part) (least : ℕ) (p : Part) (rest : List Sign) → ((q : Part) → length (again q).2 ≤ length q.2) → p.2 ≡ rest → length (tail_at read again least p rest).2 ≤ length p.2
-tail_at_shrinks read shrinks again least p [] more is = omega arith
-tail_at_shrinks read shrinks again least p (t.leaf n ∷ rest) more is = omega arith
-tail_at_shrinks read shrinks again least p (t.not_word ∷ rest) more is = omega arith
-tail_at_shrinks read shrinks again least p (t.untrack_word ∷ rest) more is = omega arith
-tail_at_shrinks read shrinks again least p (t.opening ∷ rest) more is = omega arith
-tail_at_shrinks read shrinks again least p (t.closing ∷ rest) more is = omega arith
-tail_at_shrinks read shrinks again least p (t.other ∷ rest) more is = omega arith
-tail_at_shrinks read shrinks again least p (t.if_word ∷ rest) more is = omega arith
-tail_at_shrinks read shrinks again least p (t.then_word ∷ rest) more is = omega arith
-tail_at_shrinks read shrinks again least p (t.else_word ∷ rest) more is = omega arith
 tail_at_shrinks read shrinks again least p (t.operator o ∷ rest) more is = elim (cases_Bool (goes_on o least p.1)) [
   | inl holds ↦ rw holds (extended_shrinks again o p rest (read (level o + 1) rest) more (omega (arith, ap length is)) (λ q e. shrinks (level o + 1) rest q (level_small o) e))
   | inr fails ↦ rw fails (omega arith)
 ]
+tail_at_shrinks read shrinks again least p _ more is = omega arith
 
 tail_shrinks : (read : Reader) → Shrinks read → (k least : ℕ) (p : Part) → length (tail read k least p).2 ≤ length p.2
 unfolding tail
@@ -111,7 +94,9 @@ pick_at_least n least ts us vs after rest x y i j low is e f last =
 at_least : (w : Written) (n least : ℕ) (rest : List Sign) → Fits w → least ≤ rule w → length (spelled w) + length rest ≤ n → AtLeast n least (spelled w ++ rest) rest
 at_least (single v) n least rest fits low small = from_leads n least _ _ (exact (single v) n least rest fits low (Stops-any rest) small)
 at_least (group w) n least rest fits low small = from_leads n least _ _ (exact (group w) n least rest fits low (Stops-any rest) small)
-at_least (untrack w) n least rest fits low small = from_leads n least _ _ (exact (untrack w) n least rest fits low (Stops-any rest) small)
+at_least (it_dot m) n least rest fits low small = from_leads n least _ _ (exact (it_dot m) n least rest fits low (Stops-any rest) small)
+at_least (around f w) n least rest fits low small = from_leads n least _ _ (exact (around f w) n least rest fits low (Stops-any rest) small)
+at_least (over_rows f a b) n least rest fits low small = from_leads n least _ _ (exact (over_rows f a b) n least rest fits low (Stops-any rest) small)
 at_least (negated w) zero least rest fits low small = absurd (omega arith)
 at_least (negated w) (suc n) least rest fits low small = negated_at_least w n least rest low (at_least w n 3 rest fits.1 fits.0 (omega arith))
 at_least (chain o a b) n least rest fits low small =

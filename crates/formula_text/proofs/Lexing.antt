@@ -15,17 +15,29 @@ use Rattle.sig_words.specs.declared.token.TokenKind.TheVariants as kind
 use Rattle.sig_words.specs.Lexemes.{lexeme, lexeme_of, lexemes}
 use Rattle.sig_words.specs.Tokens.{is_two, Form, IsToken, Cuts, may_sign}
 use Rattle.sig_words.proofs.Shared.{index_drop}
-use Rattle.formula_text.specs.Signs.{Leaf, Sign, sign, signs, word_sign, symbol_sign}
+use Rattle.formula_text.specs.declared.rough.Around.{Around}
+use Rattle.formula_text.specs.declared.rough.OverRows.{OverRows}
+use Rattle.formula_text.specs.declared.rough.Around.TheVariants as form
+use Rattle.formula_text.specs.declared.rough.OverRows.TheVariants as each
+use Rattle.formula_text.specs.Signs.{Leaf, Sign, name, sign, signs, word_sign, symbol_sign}
 use Rattle.formula_text.specs.Signs as t
-use Rattle.formula_text.specs.Grammar.{Written, single, group, untrack, negated, chain, pick, spelled}
-use Rattle.formula_text.specs.Canonical.{written, operator_text, leaf_text}
+use Rattle.formula_text.specs.Grammar.{Written, single, group, it_dot, around, over_rows, negated, chain, pick, spelled}
+use Rattle.formula_text.specs.Canonical.{written, around_text, over_text, operator_text, leaf_text}
 use Rattle.formula_text.specs.Lexing.{IsPlain, IsOneToken, CutsInto}
 
--- the text of each leaf is one token
+-- a word and what it is
+pub record IsKey (w : List ℕ) (sg : Sign) : Type 0 where
+  pub word : is_word w ≡ true
+  pub some : 0 < length w
+  pub says : word_sign w ≡ sg
+
+-- the text of each leaf is one token, and what stands behind `it.` is a word
 abbrev pub HasTokens : Written → Type 0
 HasTokens (single l) = IsOneToken l
 HasTokens (group w) = HasTokens w
-HasTokens (untrack w) = HasTokens w
+HasTokens (it_dot n) = IsKey n (t.leaf (name n))
+HasTokens (around f w) = HasTokens w
+HasTokens (over_rows f a b) = HasTokens a × HasTokens b
 HasTokens (negated w) = HasTokens w
 HasTokens (chain o a b) = HasTokens a × HasTokens b
 HasTokens (pick w a b) = HasTokens w × HasTokens a × HasTokens b
@@ -120,6 +132,28 @@ opening_token next sg = record { form = refl; ends = λ e. no_two 40 (slice_inde
 closing_token : (next : List ℕ) (sg : Bool) → IsToken sg kind.Symbol (41 ∷ []) next
 closing_token next sg = record { form = refl; ends = λ e. no_two 41 (slice_index next 0) refl refl; signed = λ e. absurd cc }
 
+comma_token : (next : List ℕ) (sg : Bool) → IsToken sg kind.Symbol (44 ∷ []) next
+comma_token next sg = record {
+  form = refl;
+  ends = λ e. no_two 44 (slice_index next 0) refl refl;
+  signed = λ e. absurd (omega (arith, ap (λ (l : List ℕ). slice_index l 0) e));
+}
+
+dot_token : (next : List ℕ) (sg : Bool) → IsToken sg kind.Symbol (46 ∷ []) next
+dot_token next sg = record {
+  form = refl;
+  ends = λ e. no_two 46 (slice_index next 0) refl refl;
+  signed = λ e. absurd (omega (arith, ap (λ (l : List ℕ). slice_index l 0) e));
+}
+
+comma_sign : symbol_sign (44 ∷ []) ≡ t.comma
+unfolding symbol_sign
+comma_sign = refl
+
+dot_sign : symbol_sign (46 ∷ []) ≡ t.dot
+unfolding symbol_sign
+dot_sign = refl
+
 opening_sign : symbol_sign (40 ∷ []) ≡ t.opening
 unfolding symbol_sign
 opening_sign = refl
@@ -127,12 +161,6 @@ opening_sign = refl
 closing_sign : symbol_sign (41 ∷ []) ≡ t.closing
 unfolding symbol_sign
 closing_sign = refl
-
--- a word and what it is
-record IsKey (w : List ℕ) (sg : Sign) : Type 0 where
-  word : is_word w ≡ true
-  some : 0 < length w
-  says : word_sign w ≡ sg
 
 not_key : IsKey (codes "not") t.not_word
 unfolding word_sign
@@ -150,9 +178,19 @@ else_key : IsKey (codes "else") t.else_word
 unfolding word_sign
 else_key = record { word = refl; some = omega arith; says = refl }
 
-untrack_key : IsKey (codes "untrack") t.untrack_word
+it_key : IsKey (codes "it") t.it_word
 unfolding word_sign
-untrack_key = record { word = refl; some = omega arith; says = refl }
+it_key = record { word = refl; some = omega arith; says = refl }
+
+around_key : (f : Around) → IsKey (around_text f) (t.around f)
+unfolding word_sign
+around_key form.Count = record { word = refl; some = omega arith; says = refl }
+around_key form.Untrack = record { word = refl; some = omega arith; says = refl }
+
+over_key : (f : OverRows) → IsKey (over_text f) (t.over_rows f)
+unfolding word_sign
+over_key each.Sum = record { word = refl; some = omega arith; says = refl }
+over_key each.Keep = record { word = refl; some = omega arith; says = refl }
 
 key : (line : List ℕ) (f s : ℕ) (w back : List ℕ) (sg : Sign) → IsKey w sg → Gap line f s → drop s line ≡ w ++ back → in_word (slice_index back 0) ≡ false
     → CutsInto line f (s + length w) (sg ∷ [])
@@ -266,14 +304,53 @@ cut_written (single l) line f s back gap h sg ends good =
     one line f s good.kind_is (leaf_text l) back (t.leaf l) gap h good.some (leaf_token good.kind_is (leaf_text l) back (may_sign line s) good.plain good.form sg ends) good.says
 cut_written (group w) line f s back gap h sg ends good =
     parentheses line f s (written w) back (spelled w) gap h (λ rest sign-is. cut_written w line (suc s) (suc s) (41 ∷ back) (no_gap line (suc s)) rest sign-is refl good)
-cut_written (untrack w) line f s back gap h sg ends good =
-    let p = s + 7 in
-    let inner = (40 ∷ (written w ++ 41 ∷ [])) in
-    let rest : drop p line ≡ inner ++ back = move line (codes "untrack") (inner ++ back) s h in
-    let word = key line f s (codes "untrack") (inner ++ back) t.untrack_word untrack_key gap h refl in
-    up_to line f (p + length inner) _ _ (omega arith)
-    (join line f p (p + length inner) (t.untrack_word ∷ []) (t.opening ∷ (spelled w ++ t.closing ∷ [])) word
-    (parentheses line p p (written w) back (spelled w) (no_gap line p) rest (λ more sign-is. cut_written w line (suc p) (suc p) (41 ∷ back) (no_gap line (suc p)) more sign-is refl good)))
+cut_written (it_dot n) line f s back gap h sg ends good =
+    let word = key line f s (codes "it") (46 ∷ (n ++ back)) t.it_word it_key gap h refl in
+    let p = s + 2 in
+    let at-dot : drop p line ≡ 46 ∷ (n ++ back) = move line (codes "it") (46 ∷ (n ++ back)) s h in
+    let mid = one line p p kind.Symbol (46 ∷ []) (n ++ back) t.dot (no_gap line p) at-dot (omega arith) (dot_token _ _) dot_sign in
+    let q = p + 1 in
+    let at-name : drop q line ≡ n ++ back = move line (46 ∷ []) (n ++ back) p at-dot in
+    let last = key line q q n back (t.leaf (name n)) good (no_gap line q) at-name ends in
+    up_to line f (q + length n) _ _ (omega arith)
+    (join line f p (q + length n) (t.it_word ∷ []) (t.dot ∷ t.leaf (name n) ∷ []) word
+    (join line p q (q + length n) (t.dot ∷ []) (t.leaf (name n) ∷ []) mid last))
+cut_written (around k w) line f s back gap h sg ends good =
+    let own = around_text k in
+    let p = s + length own in
+    let inner = 40 ∷ (written w ++ 41 ∷ []) in
+    let whole : drop s line ≡ own ++ (inner ++ back) = h ∙ append_assoc own inner back in
+    let rest : drop p line ≡ inner ++ back = move line own (inner ++ back) s whole in
+    let word = key line f s own (inner ++ back) (t.around k) (around_key k) gap whole refl in
+    up_to line f (p + length inner) _ _ (omega (arith, length-append own inner))
+    (join line f p (p + length inner) (t.around k ∷ []) (t.opening ∷ (spelled w ++ t.closing ∷ [])) word
+    (parentheses line p p (written w) back (spelled w) (no_gap line p) rest
+    (λ more sign-is. cut_written w line (suc p) (suc p) (41 ∷ back) (no_gap line (suc p)) more sign-is refl good)))
+cut_written (over_rows k a b) line f s back gap h sg ends good =
+    let own = over_text k in
+    let p = s + length own in
+    let text = written a ++ (44 ∷ (32 ∷ written b)) in
+    let inner = 40 ∷ (text ++ 41 ∷ []) in
+    let whole : drop s line ≡ own ++ (inner ++ back) = h ∙ append_assoc own inner back in
+    let rest : drop p line ≡ inner ++ back = move line own (inner ++ back) s whole in
+    let word = key line f s own (inner ++ back) (t.over_rows k) (over_key k) gap whole refl in
+    up_to line f (p + length inner) _ _ (omega (arith, length-append own inner))
+    (join line f p (p + length inner) (t.over_rows k ∷ []) (t.opening ∷ ((spelled a ++ (t.comma ∷ spelled b)) ++ t.closing ∷ [])) word
+    (parentheses line p p text back (spelled a ++ (t.comma ∷ spelled b)) (no_gap line p) rest
+    (λ more sign-is.
+    let at = suc p in
+    let behind = 44 ∷ (32 ∷ (written b ++ (41 ∷ back))) in
+    let from-a : drop at line ≡ written a ++ behind = more ∙ append_assoc (written a) (44 ∷ (32 ∷ written b)) (41 ∷ back) in
+    let left = cut_written a line at at behind (no_gap line at) from-a sign-is refl good.0 in
+    let c = at + length (written a) in
+    let at-comma : drop c line ≡ behind = move line (written a) behind at from-a in
+    let mid = one line c c kind.Symbol (44 ∷ []) (32 ∷ (written b ++ (41 ∷ back))) t.comma (no_gap line c) at-comma (omega arith) (comma_token _ _) comma_sign in
+    let d = c + 1 in
+    let m = behind_blank line (written b ++ (41 ∷ back)) d (move line (44 ∷ []) (32 ∷ (written b ++ (41 ∷ back))) c at-comma) in
+    let right = cut_written b line d (suc d) (41 ∷ back) m.gap m.rest_is m.sign_is refl good.1 in
+    up_to line at (suc d + length (written b)) _ _ (omega (arith, length-append (written a) (44 ∷ (32 ∷ written b))))
+    (join line at c (suc d + length (written b)) (spelled a) (t.comma ∷ spelled b) left
+    (join line c d (suc d + length (written b)) (t.comma ∷ []) (spelled b) mid right)))))
 cut_written (negated w) line f s back gap h sg ends good =
     let p = s + 3 in
     let word = key line f s (codes "not") (32 ∷ (written w ++ back)) t.not_word not_key gap h refl in

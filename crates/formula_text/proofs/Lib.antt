@@ -4,6 +4,7 @@ mod Lexing
 mod Minimal
 mod Places
 mod Quoting
+mod Refusals
 mod Slots
 mod Rereading
 mod Sound

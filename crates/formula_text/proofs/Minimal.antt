@@ -8,7 +8,7 @@ use Rattle.sig_formula.specs.declared.formula.BinOp.{BinOp}
 use Rattle.sig_formula.specs.declared.formula.BinOp.TheVariants as op
 use Rattle.formula_text.specs.Signs.{Sign, NoOperator, signs}
 use Rattle.formula_text.specs.Signs as t
-use Rattle.formula_text.specs.Grammar.{Draft, leaf, negation, binary, choice, untracked, Written, group, negated, chain, pick, spelled, meant, level, before, rule, Fits, Spells, IsFormula, IsLongest}
+use Rattle.formula_text.specs.Grammar.{Draft, leaf, negation, binary, choice, of_row, one_part, each_row, Written, group, negated, chain, pick, spelled, meant, level, before, rule, Fits, Spells, IsFormula, IsLongest}
 use Rattle.formula_text.specs.Reading.{expr}
 use Rattle.formula_text.specs.Canonical.{grouped, minimal, written, opened, shut}
 use Rattle.formula_text.proofs.Sound.{level_small}
@@ -52,9 +52,14 @@ before_small op.Rem = omega arith
 
 minimal_is : (asked : ℕ) (x : Draft) → asked ≤ 8 → IsMinimal asked x (minimal asked x)
 minimal_is asked (leaf l) small = record { fits = tt; in_place = small; meaning = refl }
-minimal_is asked (untracked x) small =
+minimal_is asked (of_row n) small = record { fits = tt; in_place = small; meaning = refl }
+minimal_is asked (one_part f x) small =
     let a = minimal_is 0 x (omega arith) in
-    record { fits = a.fits; in_place = small; meaning = ap untracked a.meaning }
+    record { fits = a.fits; in_place = small; meaning = ap (one_part f) a.meaning }
+minimal_is asked (each_row f x y) small =
+    let a = minimal_is 0 x (omega arith) in
+    let b = minimal_is 0 y (omega arith) in
+    record { fits = (a.fits, b.fits); in_place = small; meaning = let g = a.meaning in let h = b.meaning in cc }
 minimal_is asked (negation x) small =
     let a = minimal_is 3 x (omega arith) in
     grouped_is 3 asked (negation x) (negated (minimal 3 x)) small refl (a.in_place, a.fits) (ap negation a.meaning)
@@ -75,16 +80,8 @@ minimal_spells x = let m = minimal_is 0 x (omega arith) in record { form = minim
 
 no_operator : (ss : List Sign) → NoOperator ss → Stops 1 ss
 no_operator [] h = tt
-no_operator (t.leaf l ∷ ss) h = tt
 no_operator (t.operator o ∷ ss) h = absurd h
-no_operator (t.not_word ∷ ss) h = tt
-no_operator (t.if_word ∷ ss) h = tt
-no_operator (t.then_word ∷ ss) h = tt
-no_operator (t.else_word ∷ ss) h = tt
-no_operator (t.untrack_word ∷ ss) h = tt
-no_operator (t.opening ∷ ss) h = tt
-no_operator (t.closing ∷ ss) h = tt
-no_operator (t.other ∷ ss) h = tt
+no_operator (s ∷ ss) h = tt
 
 pub one_formula : (ls : List Lexeme) (x y : Draft) → IsFormula ls x → IsFormula ls y → x ≡ y
 one_formula ls x y a b = one_meaning (signs ls) x y a b

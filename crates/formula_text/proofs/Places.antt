@@ -37,17 +37,7 @@ found_at line ts i t s is e = rw is (from_some line ts i t is ∙ ap (λ (x : Si
 pub seen_at : (line : List ℕ) (ts : List Token) (i : ℕ) (t : Token) (s : Seen) → slice_get ts i ≡ Some t → IsSeen line t s → IsSeenAt line ts i s
 seen_at line ts i t seen.Name is h = rw is h
 seen_at line ts i t seen.Text is h = rw is h
-seen_at line ts i t (seen.Number n) is h = tt
-seen_at line ts i t (seen.Truth b) is h = tt
-seen_at line ts i t (seen.Operator o) is h = tt
-seen_at line ts i t seen.Not is h = tt
-seen_at line ts i t seen.If is h = tt
-seen_at line ts i t seen.Then is h = tt
-seen_at line ts i t seen.Else is h = tt
-seen_at line ts i t seen.Untrack is h = tt
-seen_at line ts i t seen.Open is h = tt
-seen_at line ts i t seen.Close is h = tt
-seen_at line ts i t seen.Other is h = tt
+seen_at line ts i t _ is h = tt
 
 -- past the last token there is none
 pub from_none : (line : List ℕ) (ts : List Token) (i : ℕ) → length ts ≤ i → signs_from line ts i ≡ []
@@ -68,18 +58,7 @@ length-from line (u ∷ ts) (suc i) h = let rest = length-from line ts i (omega 
 -- a token that isn't an operator ends a part
 pub others_stop : (text : List ℕ) (x : Seen) (rest after : List Sign) → rest ≡ sign_of text x ∷ after → ((o : BinOp) → x ≡ seen.Operator o → ⊥) → Stops 0 rest
 others_stop text (seen.Operator o) rest after is h = absurd (h o refl)
-others_stop text seen.Name rest after is h = rw is tt
-others_stop text seen.Text rest after is h = rw is tt
-others_stop text (seen.Number n) rest after is h = rw is tt
-others_stop text (seen.Truth b) rest after is h = rw is tt
-others_stop text seen.Not rest after is h = rw is tt
-others_stop text seen.If rest after is h = rw is tt
-others_stop text seen.Then rest after is h = rw is tt
-others_stop text seen.Else rest after is h = rw is tt
-others_stop text seen.Untrack rest after is h = rw is tt
-others_stop text seen.Open rest after is h = rw is tt
-others_stop text seen.Close rest after is h = rw is tt
-others_stop text seen.Other rest after is h = rw is tt
+others_stop text _ rest after is h = rw is tt
 
 -- where nothing is read, no formula begins
 pub none_read : (line : List ℕ) (ts : List Token) (from : ℕ) → ((n : ℕ) → length (signs_from line ts from) < n → None ≡ expr n 0 (signs_from line ts from)) → ReadsNone line ts from

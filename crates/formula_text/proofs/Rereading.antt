@@ -22,11 +22,16 @@ use Rattle.sig_words.specs.Lexemes.{Lexeme, lexeme, lexeme_of, lexemes, text_at}
 use Rattle.sig_words.specs.Literals.{meaning, plain, text_of, between_quotes}
 use Rattle.sig_words.specs.Tokens.{Form, AreTokens, IsTokenOf}
 use Rattle.sig_words.proofs.Shared.{each_token, IsNumeric, numeric, literal_utf8}
+use Rattle.formula_text.specs.declared.rough.Around.{Around}
+use Rattle.formula_text.specs.declared.rough.OverRows.{OverRows}
+use Rattle.formula_text.specs.declared.rough.Around.TheVariants as form
+use Rattle.formula_text.specs.declared.rough.OverRows.TheVariants as each
 use Rattle.formula_text.specs.declared.wired.Allow.{Allow}
 use Rattle.formula_text.specs.Signs.{Leaf, Sign, name, constant, sign, signs, word_sign, symbol_sign, NoOperator}
 use Rattle.formula_text.specs.Signs as t
-use Rattle.formula_text.specs.Grammar.{IsLongest, Draft, leaf, negation, binary, choice, untracked, Written, single, group, untrack, negated, chain, pick, spelled, meant, level, before, Spells}
-use Rattle.formula_text.specs.Canonical.{minimal, written, canonical_text, operator_text, leaf_text}
+use Rattle.formula_text.specs.Grammar.{IsLongest, Draft, leaf, negation, binary, choice, of_row, one_part, each_row, spelled, meant, level, before, Spells}
+use Rattle.formula_text.specs.Grammar.{Written, single, group, it_dot, around, over_rows, negated, chain, pick}
+use Rattle.formula_text.specs.Canonical.{minimal, written, canonical_text, around_text, over_text, operator_text, leaf_text}
 use Rattle.formula_text.specs.Lexing.{IsOneToken}
 use Rattle.formula_text.specs.Wiring.{Wiring, wired, refusal, Reads, IsWired}
 use Rattle.formula_text.specs.Rereading.{IsPrintableLeaf, IsPrintable, text_of_wiring, StandsAmong, ReadsAmong, ReadsWhole}
@@ -35,7 +40,7 @@ use Rattle.formula_text.proofs.Minimal.{minimal_longest}
 use Rattle.formula_text.proofs.Places.{name_utf8}
 use Rattle.formula_text.proofs.Quoting.{text_token, quoted_utf8}
 use Rattle.formula_text.proofs.Slots.{named_back}
-use Rattle.formula_text.proofs.Texts.{name_token, truth_token, number_token}
+use Rattle.formula_text.proofs.Texts.{name_key, name_token, truth_token, number_token}
 use lib.Utf8.{scalar as is_scalar, scalars}
 
 -- ---- what tokens say can be printed
@@ -66,15 +71,21 @@ good_word w =
     (good_if (bytes_eq w (codes "then")) _ _ tt
     (good_if (bytes_eq w (codes "else")) _ _ tt
     (good_if (bytes_eq w (codes "untrack")) _ _ tt
+    (good_if (bytes_eq w (codes "count")) _ _ tt
+    (good_if (bytes_eq w (codes "sum")) _ _ tt
+    (good_if (bytes_eq w (codes "keep")) _ _ tt
+    (good_if (bytes_eq w (codes "it")) _ _ tt
     (good_if (bytes_eq w (codes "true")) _ _ tt
     (good_if (bytes_eq w (codes "false")) _ _ tt
-    (good_name w (is_name w) refl)))))))))
+    (good_name w (is_name w) refl)))))))))))))
 
 pub good_symbol : (s : List ℕ) → Good (symbol_sign s)
 unfolding symbol_sign
 good_symbol s =
     good_if (bytes_eq s (codes "(")) _ _ tt
     (good_if (bytes_eq s (codes ")")) _ _ tt
+    (good_if (bytes_eq s (codes ",")) _ _ tt
+    (good_if (bytes_eq s (codes ".")) _ _ tt
     (good_if (bytes_eq s (codes "==")) _ _ tt
     (good_if (bytes_eq s (codes "!=")) _ _ tt
     (good_if (bytes_eq s (codes "<")) _ _ tt
@@ -86,7 +97,7 @@ good_symbol s =
     (good_if (bytes_eq s (codes "-")) _ _ tt
     (good_if (bytes_eq s (codes "*")) _ _ tt
     (good_if (bytes_eq s (codes "/")) _ _ tt
-    (good_if (bytes_eq s (codes "%")) (t.operator op.Rem) t.other tt tt)))))))))))))
+    (good_if (bytes_eq s (codes "%")) (t.operator op.Rem) t.other tt tt)))))))))))))))
 
 meaning_scalar : (c : ℕ) → is_scalar c ≡ true → is_scalar (meaning c) ≡ true
 meaning_scalar c h = elim (cases_Bool (c == 110)) [
@@ -142,7 +153,11 @@ good_right (s ∷ ss) more h = good_right ss more h.1
 good_meant : (w : Written) → AllGood (spelled w) → IsPrintable (meant w)
 good_meant (single l) h = h.0
 good_meant (group w) h = good_meant w (good_left (spelled w) (t.closing ∷ []) h.1)
-good_meant (untrack w) h = good_meant w (good_left (spelled w) (t.closing ∷ []) h.1.1)
+good_meant (it_dot n) h = h.1.1.0
+good_meant (around f w) h = good_meant w (good_left (spelled w) (t.closing ∷ []) h.1.1)
+good_meant (over_rows f a b) h =
+    let both = good_left (spelled a ++ (t.comma ∷ spelled b)) (t.closing ∷ []) h.1.1 in
+    (good_meant a (good_left (spelled a) (t.comma ∷ spelled b) both), good_meant b (good_right (spelled a) (t.comma ∷ spelled b) both).1)
 good_meant (negated w) h = good_meant w h.1
 good_meant (chain o a b) h =
     (good_meant a (good_left (spelled a) (t.operator o ∷ spelled b) h), good_meant b (good_right (spelled a) (t.operator o ∷ spelled b) h).1)
@@ -183,7 +198,9 @@ has_tokens asked (binary o x y) h =
     group_has_tokens (nat_lt (level o) asked) (chain o (minimal (before o) x) (minimal (level o + 1) y)) (has_tokens (before o) x h.0, has_tokens (level o + 1) y h.1)
 has_tokens asked (choice w x y) h =
     group_has_tokens (nat_lt 0 asked) (pick (minimal 0 w) (minimal 0 x) (minimal 0 y)) (has_tokens 0 w h.0, has_tokens 0 x h.1, has_tokens 0 y h.2)
-has_tokens asked (untracked x) h = has_tokens 0 x h
+has_tokens asked (of_row n) h = name_key n h
+has_tokens asked (one_part f x) h = has_tokens 0 x h
+has_tokens asked (each_row f x y) h = (has_tokens 0 x h.0, has_tokens 0 y h.1)
 
 pub printable_tokens : (x : Draft) → IsPrintable x → HasTokens (minimal 0 x)
 printable_tokens x h = has_tokens 0 x h
@@ -193,7 +210,9 @@ printable_tokens x h = has_tokens 0 x h
 some_signs : (w : Written) → 0 < length (spelled w)
 some_signs (single l) = omega arith
 some_signs (group w) = omega arith
-some_signs (untrack w) = omega arith
+some_signs (it_dot n) = omega arith
+some_signs (around f w) = omega arith
+some_signs (over_rows f a b) = omega arith
 some_signs (negated w) = omega arith
 some_signs (chain o a b) = let some = some_signs a in omega (arith, length-append (spelled a) (t.operator o ∷ spelled b))
 some_signs (pick w a b) = omega arith
@@ -304,6 +323,14 @@ operator_utf8 op.Mul = ascii (codes "*") refl
 operator_utf8 op.Div = ascii (codes "/") refl
 operator_utf8 op.Rem = ascii (codes "%") refl
 
+around_utf8 : (f : Around) → IsUtf8 (around_text f)
+around_utf8 form.Count = ascii (codes "count") refl
+around_utf8 form.Untrack = ascii (codes "untrack") refl
+
+over_utf8 : (f : OverRows) → IsUtf8 (over_text f)
+over_utf8 each.Sum = ascii (codes "sum") refl
+over_utf8 each.Keep = ascii (codes "keep") refl
+
 -- something and ASCII before it
 behind : (bs rest : List ℕ) → are_ascii bs ≡ true → IsUtf8 rest → IsUtf8 (bs ++ rest)
 behind bs rest h u = IsUtf8-append bs rest (ascii bs h) u
@@ -334,8 +361,20 @@ written_utf8 asked (choice w x y) h =
     (IsUtf8-append (written test) from-then (written_utf8 0 w h.0)
     (behind (codes " then ") (written held ++ from-else) refl
     (IsUtf8-append (written held) from-else (written_utf8 0 x h.1) (behind (codes " else ") (written other) refl (written_utf8 0 y h.2))))))
-written_utf8 asked (untracked x) h =
-    behind (codes "untrack(") (written (minimal 0 x) ++ codes ")") refl (IsUtf8-append (written (minimal 0 x)) (codes ")") (written_utf8 0 x h) (ascii (codes ")") refl))
+written_utf8 asked (of_row n) h = behind (codes "it.") n refl (name_utf8 n h)
+written_utf8 asked (one_part f x) h =
+    let inner = written (minimal 0 x) in
+    IsUtf8-append (around_text f) (codes "(" ++ (inner ++ codes ")")) (around_utf8 f)
+    (behind (codes "(") (inner ++ codes ")") refl (IsUtf8-append inner (codes ")") (written_utf8 0 x h) (ascii (codes ")") refl)))
+written_utf8 asked (each_row f x y) h =
+    let rows = written (minimal 0 x) in
+    let part = written (minimal 0 y) in
+    let both = rows ++ (codes ", " ++ part) in
+    IsUtf8-append (over_text f) (codes "(" ++ (both ++ codes ")")) (over_utf8 f)
+    (behind (codes "(") (both ++ codes ")") refl
+    (IsUtf8-append both (codes ")")
+    (IsUtf8-append rows (codes ", " ++ part) (written_utf8 0 x h.0) (behind (codes ", ") part refl (written_utf8 0 y h.1)))
+    (ascii (codes ")") refl)))
 
 stands_alone : (x : Draft) → IsPrintable x → StandsAmong (canonical_text x) (canonical_text x) 0 [] []
 stands_alone x good =

@@ -5,7 +5,7 @@
 pub use Rattle.formula_text.proofs.Complete.{Stops}
 pub use Rattle.formula_text.proofs.Laws.{has_none, longest, reads_front}
 pub use Rattle.formula_text.proofs.Minimal.{minimal_spells, one_formula}
-pub use Rattle.formula_text.proofs.Slots.{named_back}
+pub use Rattle.formula_text.proofs.Slots.{Has, HasEach, each_there, keeps_each, named_again, named_back, named_slot}
 pub use Rattle.formula_text.proofs.Sound.{Took, expr_sound}
 -- the tokens of a text that was written
 pub use Rattle.formula_text.proofs.Lexing.{Gap, cut_written, cuts_append}

@@ -3,12 +3,17 @@ use Rattle.std.proofs.Common.{◌≡◌, ℕ, zero, suc, ◌+◌, ◌≤◌, Lis
 use Rattle.std.specs.Prelude.{nat_le, option_map, option_and_then}
 use Rattle.std.proofs.lemmas.Bool.{leb-true, and_parts, cases_Bool}
 use Rattle.std.proofs.lemmas.Option.{same_Some}
-use Rattle.formula_text.specs.Signs.{Sign}
+use Rattle.formula_text.specs.Signs.{Sign, name}
 use Rattle.formula_text.specs.Signs as t
 use Rattle.sig_formula.specs.declared.formula.BinOp.{BinOp}
 use Rattle.sig_formula.specs.declared.formula.BinOp.TheVariants as op
-use Rattle.formula_text.specs.Grammar.{Draft, negation, untracked, binary, Written, single, group, untrack, negated, chain, pick, spelled, meant, level, before, rule, Fits}
-use Rattle.formula_text.specs.Reading.{Part, Reader, closed_at, closed, untrack_closed, untrack_at, negate, chosen, else_at, after_branch, then_at, after_test, choice_at, head, goes_on, extended, tail_at, tail, expr}
+use Rattle.formula_text.specs.declared.rough.Around.{Around}
+use Rattle.formula_text.specs.declared.rough.OverRows.{OverRows}
+use Rattle.formula_text.specs.Grammar.{Draft, negation, binary, of_row, one_part, each_row, spelled, meant, level, before, rule, Fits}
+use Rattle.formula_text.specs.Grammar.{Written, single, group, it_dot, around, over_rows, negated, chain, pick}
+use Rattle.formula_text.specs.Reading.{Part, Reader, closed_at, closed, one_closed, one_part_at, each_closed, comma_at, after_rows, each_row_at, field_at}
+use Rattle.formula_text.specs.Reading.{row_part_at, negate, chosen, else_at, after_branch, then_at, after_test, choice_at, head, goes_on, extended, tail_at}
+use Rattle.formula_text.specs.Reading.{tail, expr}
 
 pub record Took (least : ℕ) (ts : List Sign) (p : Part) : Type 0 where
   pub form : Written
@@ -47,69 +52,87 @@ level_small op.Rem = omega arith
 
 closed_some : (x : Draft) (ts : List Sign) (p : Part) → closed_at x ts ≡ Some p → (after : List Sign) × (ts ≡ t.closing ∷ after) × (p ≡ (x, 8, after))
 closed_some x (t.closing ∷ ts) p e = (ts, refl, sym (same_Some _ _ e))
-closed_some x [] p e = absurd cc
-closed_some x (t.leaf n ∷ ts) p e = absurd cc
-closed_some x (t.operator o ∷ ts) p e = absurd cc
-closed_some x (t.not_word ∷ ts) p e = absurd cc
-closed_some x (t.untrack_word ∷ ts) p e = absurd cc
-closed_some x (t.opening ∷ ts) p e = absurd cc
-closed_some x (t.other ∷ ts) p e = absurd cc
-closed_some x (t.if_word ∷ ts) p e = absurd cc
-closed_some x (t.then_word ∷ ts) p e = absurd cc
-closed_some x (t.else_word ∷ ts) p e = absurd cc
+closed_some x _ p e = absurd cc
 
-untrack_sound : (read : Reader) → IsSound read → (least : ℕ) (ts : List Sign) (p : Part) → least ≤ 8 → untrack_at read ts ≡ Some p → Took least (t.untrack_word ∷ ts) p
-untrack_sound read sound least (t.opening ∷ ts) p small e =
-    let a = and_then_some (read 0 ts) untrack_closed p e in
+-- what stands before one part in parentheses
+one_sound : (read : Reader) → IsSound read → (f : Around) (least : ℕ) (ts : List Sign) (p : Part) → least ≤ 8 → one_part_at read f ts ≡ Some p
+    → Took least (t.around f ∷ ts) p
+one_sound read sound f least (t.opening ∷ ts) p small e =
+    let a = and_then_some (read 0 ts) (one_closed f) p e in
     let inner = sound 0 ts a.0 (omega arith) a.1 in
-    let b = closed_some (untracked a.0.0) a.0.2 p a.2 in
-    subst (λ (q : Part). Took least (t.untrack_word ∷ t.opening ∷ ts) q) (sym b.2)
+    let b = closed_some (one_part f a.0.0) a.0.2 p a.2 in
+    subst (λ (q : Part). Took least (t.around f ∷ t.opening ∷ ts) q) (sym b.2)
     (record {
-      form = untrack inner.form;
+      form = around f inner.form;
       fits = inner.fits;
       in_place = small;
       rule_is = refl;
-      meaning = ap untracked inner.meaning;
-      tokens = ap (λ (x : List Sign). t.untrack_word ∷ t.opening ∷ x) (inner.tokens ∙ ap (λ (x : List Sign). spelled inner.form ++ x) b.1 ∙ sym (append_assoc (spelled inner.form) (t.closing ∷ []) b.0));
+      meaning = ap (one_part f) inner.meaning;
+      tokens = ap (λ (x : List Sign). t.around f ∷ t.opening ∷ x)
+          (inner.tokens ∙ ap (λ (x : List Sign). spelled inner.form ++ x) b.1 ∙ sym (append_assoc (spelled inner.form) (t.closing ∷ []) b.0));
     })
-untrack_sound read sound least [] p small e = absurd cc
-untrack_sound read sound least (t.leaf n ∷ ts) p small e = absurd cc
-untrack_sound read sound least (t.operator o ∷ ts) p small e = absurd cc
-untrack_sound read sound least (t.not_word ∷ ts) p small e = absurd cc
-untrack_sound read sound least (t.untrack_word ∷ ts) p small e = absurd cc
-untrack_sound read sound least (t.closing ∷ ts) p small e = absurd cc
-untrack_sound read sound least (t.other ∷ ts) p small e = absurd cc
-untrack_sound read sound least (t.if_word ∷ ts) p small e = absurd cc
-untrack_sound read sound least (t.then_word ∷ ts) p small e = absurd cc
-untrack_sound read sound least (t.else_word ∷ ts) p small e = absurd cc
+one_sound read sound f least _ p small e = absurd cc
+
+comma_some : (read : Reader) (f : OverRows) (x : Draft) (ts : List Sign) (p : Part) → comma_at read f x ts ≡ Some p
+    → (us : List Sign) × (q : Part) × (ts ≡ t.comma ∷ us) × (read 0 us ≡ Some q) × (each_closed f x q ≡ Some p)
+comma_some read f x (t.comma ∷ ts) p e = let a = and_then_some (read 0 ts) (each_closed f x) p e in (ts, a.0, refl, a.1, a.2)
+comma_some read f x _ p e = absurd cc
+
+-- the tokens of two parts in parentheses, with what stands behind them
+pub each_tokens : (a b rest : List Sign) → ((a ++ (t.comma ∷ b)) ++ t.closing ∷ []) ++ rest ≡ a ++ (t.comma ∷ (b ++ (t.closing ∷ rest)))
+each_tokens a b rest = append_assoc (a ++ (t.comma ∷ b)) (t.closing ∷ []) rest ∙ append_assoc a (t.comma ∷ b) (t.closing ∷ rest)
+
+-- what stands before rows and a part
+each_sound : (read : Reader) → IsSound read → (f : OverRows) (least : ℕ) (ts : List Sign) (p : Part) → least ≤ 8 → each_row_at read f ts ≡ Some p
+    → Took least (t.over_rows f ∷ ts) p
+each_sound read sound f least (t.opening ∷ ts) p small e =
+    let a = and_then_some (read 0 ts) (after_rows read f) p e in
+    let b = comma_some read f a.0.0 a.0.2 p a.2 in
+    let rows = sound 0 ts a.0 (omega arith) a.1 in
+    let part = sound 0 b.0 b.1 (omega arith) b.3 in
+    let c = closed_some (each_row f a.0.0 b.1.0) b.1.2 p b.4 in
+    subst (λ (q : Part). Took least (t.over_rows f ∷ t.opening ∷ ts) q) (sym c.2)
+    (record {
+      form = over_rows f rows.form part.form;
+      fits = (rows.fits, part.fits);
+      in_place = small;
+      rule_is = refl;
+      meaning = let g = rows.meaning in let h = part.meaning in cc;
+      tokens = ap (λ (x : List Sign). t.over_rows f ∷ t.opening ∷ x)
+          (rows.tokens ∙ ap (λ (x : List Sign). spelled rows.form ++ x)
+          (b.2 ∙ ap (λ (x : List Sign). t.comma ∷ x) (part.tokens ∙ ap (λ (x : List Sign). spelled part.form ++ x) c.1))
+          ∙ sym (each_tokens (spelled rows.form) (spelled part.form) c.0));
+    })
+each_sound read sound f least _ p small e = absurd cc
+
+field_some : (ts : List Sign) (p : Part) → field_at ts ≡ Some p → (n : List ℕ) × (after : List Sign) × (ts ≡ t.leaf (name n) ∷ after) × (p ≡ (of_row n, 8, after))
+field_some (t.leaf (name n) ∷ ts) p e = (n, ts, refl, sym (same_Some _ _ e))
+field_some _ p e = absurd cc
+
+-- what stands behind `it`
+row_sound : (least : ℕ) (ts : List Sign) (p : Part) → least ≤ 8 → row_part_at ts ≡ Some p → Took least (t.it_word ∷ ts) p
+row_sound least (t.dot ∷ ts) p small e =
+    let a = field_some ts p e in
+    subst (λ (q : Part). Took least (t.it_word ∷ t.dot ∷ ts) q) (sym a.3)
+    (record {
+      form = it_dot a.0;
+      fits = tt;
+      in_place = small;
+      rule_is = refl;
+      meaning = refl;
+      tokens = ap (λ (x : List Sign). t.it_word ∷ t.dot ∷ x) a.2;
+    })
+row_sound least _ p small e = absurd cc
 
 else_some : (read : Reader) (x y : Draft) (ts : List Sign) (p : Part) → else_at read x y ts ≡ Some p
     → (us : List Sign) × (q : Part) × (ts ≡ t.else_word ∷ us) × (read 0 us ≡ Some q) × (chosen x y q ≡ Some p)
 else_some read x y (t.else_word ∷ ts) p e = let a = and_then_some (read 0 ts) (chosen x y) p e in (ts, a.0, refl, a.1, a.2)
-else_some read x y [] p e = absurd cc
-else_some read x y (t.leaf n ∷ ts) p e = absurd cc
-else_some read x y (t.operator o ∷ ts) p e = absurd cc
-else_some read x y (t.not_word ∷ ts) p e = absurd cc
-else_some read x y (t.if_word ∷ ts) p e = absurd cc
-else_some read x y (t.then_word ∷ ts) p e = absurd cc
-else_some read x y (t.untrack_word ∷ ts) p e = absurd cc
-else_some read x y (t.opening ∷ ts) p e = absurd cc
-else_some read x y (t.closing ∷ ts) p e = absurd cc
-else_some read x y (t.other ∷ ts) p e = absurd cc
+else_some read x y _ p e = absurd cc
 
 then_some : (read : Reader) (x : Draft) (ts : List Sign) (p : Part) → then_at read x ts ≡ Some p
     → (us : List Sign) × (q : Part) × (ts ≡ t.then_word ∷ us) × (read 0 us ≡ Some q) × (after_branch read x q ≡ Some p)
 then_some read x (t.then_word ∷ ts) p e = let a = and_then_some (read 0 ts) (after_branch read x) p e in (ts, a.0, refl, a.1, a.2)
-then_some read x [] p e = absurd cc
-then_some read x (t.leaf n ∷ ts) p e = absurd cc
-then_some read x (t.operator o ∷ ts) p e = absurd cc
-then_some read x (t.not_word ∷ ts) p e = absurd cc
-then_some read x (t.if_word ∷ ts) p e = absurd cc
-then_some read x (t.else_word ∷ ts) p e = absurd cc
-then_some read x (t.untrack_word ∷ ts) p e = absurd cc
-then_some read x (t.opening ∷ ts) p e = absurd cc
-then_some read x (t.closing ∷ ts) p e = absurd cc
-then_some read x (t.other ∷ ts) p e = absurd cc
+then_some read x _ p e = absurd cc
 
 -- the tokens of a choice, with what stands behind it
 pub pick_tokens : (a b c rest : List Sign) → (a ++ (t.then_word ∷ (b ++ (t.else_word ∷ c)))) ++ rest ≡ a ++ (t.then_word ∷ (b ++ (t.else_word ∷ (c ++ rest))))
@@ -154,7 +177,9 @@ head_sound read sound least (t.opening ∷ ts) p small e =
       meaning = inner.meaning;
       tokens = ap (λ (x : List Sign). t.opening ∷ x) (inner.tokens ∙ ap (λ (x : List Sign). spelled inner.form ++ x) b.1 ∙ sym (append_assoc (spelled inner.form) (t.closing ∷ []) b.0));
     })
-head_sound read sound least (t.untrack_word ∷ ts) p small e = untrack_sound read sound least ts p small e
+head_sound read sound least (t.around f ∷ ts) p small e = one_sound read sound f least ts p small e
+head_sound read sound least (t.over_rows f ∷ ts) p small e = each_sound read sound f least ts p small e
+head_sound read sound least (t.it_word ∷ ts) p small e = row_sound least ts p small e
 head_sound read sound least (t.not_word ∷ ts) p small e = elim (cases_Bool (nat_le least 3)) [
   | inl holds ↦
       let a = and_then_some (read 3 ts) negate p (rw holds at e) in
@@ -174,12 +199,7 @@ head_sound read sound least (t.if_word ∷ ts) p small e = elim (cases_Bool (nat
   | inl holds ↦ choice_sound read sound least ts p (leb-true least 0 holds) (rw holds at e)
   | inr fails ↦ let bad = rw fails at e in absurd cc
 ]
-head_sound read sound least [] p small e = absurd cc
-head_sound read sound least (t.operator o ∷ ts) p small e = absurd cc
-head_sound read sound least (t.closing ∷ ts) p small e = absurd cc
-head_sound read sound least (t.other ∷ ts) p small e = absurd cc
-head_sound read sound least (t.then_word ∷ ts) p small e = absurd cc
-head_sound read sound least (t.else_word ∷ ts) p small e = absurd cc
+head_sound read sound least _ p small e = absurd cc
 
 extended_sound : (again : Part → Part) (least : ℕ) (ts : List Sign) (o : BinOp) (p : Part) (rest : List Sign) (r : Option Part) →
     ((q : Part) → Took least ts q → Took least ts (again q)) → Took least ts p → p.2 ≡ t.operator o ∷ rest → least ≤ level o → before o ≤ p.1
@@ -197,22 +217,13 @@ extended_sound again least ts o p rest (Some q) more took is low high right =
     })
 
 tail_at_sound : (read : Reader) → IsSound read → (again : Part → Part) (least : ℕ) (ts : List Sign) (p : Part) (rest : List Sign) → ((q : Part) → Took least ts q → Took least ts (again q)) → p.2 ≡ rest → Took least ts p → Took least ts (tail_at read again least p rest)
-tail_at_sound read sound again least ts p [] more is took = took
-tail_at_sound read sound again least ts p (t.leaf n ∷ rest) more is took = took
-tail_at_sound read sound again least ts p (t.not_word ∷ rest) more is took = took
-tail_at_sound read sound again least ts p (t.untrack_word ∷ rest) more is took = took
-tail_at_sound read sound again least ts p (t.opening ∷ rest) more is took = took
-tail_at_sound read sound again least ts p (t.closing ∷ rest) more is took = took
-tail_at_sound read sound again least ts p (t.other ∷ rest) more is took = took
-tail_at_sound read sound again least ts p (t.if_word ∷ rest) more is took = took
-tail_at_sound read sound again least ts p (t.then_word ∷ rest) more is took = took
-tail_at_sound read sound again least ts p (t.else_word ∷ rest) more is took = took
 tail_at_sound read sound again least ts p (t.operator o ∷ rest) more is took = elim (cases_Bool (goes_on o least p.1)) [
   | inl holds ↦
       let parts = and_parts (nat_le least (level o)) (nat_le (before o) p.1) holds in
       rw holds (extended_sound again least ts o p rest (read (level o + 1) rest) more took is (leb-true _ _ parts.0) (leb-true _ _ parts.1) (λ q e. sound (level o + 1) rest q (level_small o) e))
   | inr fails ↦ rw fails took
 ]
+tail_at_sound read sound again least ts p _ more is took = took
 
 tail_sound : (read : Reader) → IsSound read → (k least : ℕ) (ts : List Sign) (p : Part) → Took least ts p → Took least ts (tail read k least p)
 unfolding tail

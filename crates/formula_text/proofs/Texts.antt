@@ -20,7 +20,7 @@ use Rattle.formula_text.specs.Signs as t
 use Rattle.formula_text.specs.Grammar.{Draft, Spells, IsFormula, spelled}
 use Rattle.formula_text.specs.Canonical.{canonical_text, minimal}
 use Rattle.formula_text.specs.Lexing.{IsOneToken, CutsInto}
-use Rattle.formula_text.proofs.Lexing.{HasTokens, no_gap, cut_written}
+use Rattle.formula_text.proofs.Lexing.{HasTokens, IsKey, no_gap, cut_written}
 use Rattle.formula_text.proofs.Minimal.{minimal_spells}
 
 pub text_in_line : (x : Draft) (line : List ℕ) (from : ℕ) (back : List ℕ) → HasTokens (minimal 0 x) → drop from line ≡ canonical_text x ++ back
@@ -72,15 +72,21 @@ name_says n h name-is =
     let p4 = neither (((bytes_eq n (codes "and") || bytes_eq n (codes "or")) || bytes_eq n (codes "not"))) (bytes_eq n (codes "if")) p5.0 in
     let p3 = neither ((bytes_eq n (codes "and") || bytes_eq n (codes "or"))) (bytes_eq n (codes "not")) p4.0 in
     let p2 = neither (bytes_eq n (codes "and")) (bytes_eq n (codes "or")) p3.0 in
-    rw (p2.1, p2.0, p3.1, p4.1, p5.1, p6.1, p13.1, p7.1, p8.1, name-is) refl
+    rw (p2.1, p2.0, p3.1, p4.1, p5.1, p6.1, p13.1, p9.1, p10.1, p11.1, p12.1, p7.1, p8.1, name-is) refl
+
+-- a name is a key word that says it
+pub name_key : (n : List ℕ) → is_name n ≡ true → IsKey n (t.leaf (name n))
+unfolding is_name
+name_key n h =
+    let front = and_parts (is_word n && nat_le (length n) MOST_NAME) (not (is_reserved n)) h in
+    let word = (and_parts (is_word n) (nat_le (length n) MOST_NAME) front.0).0 in
+    record { word = word; some = word_long n word; says = name_says n (is_false (is_reserved n) front.1) h }
 
 -- a name is a word that says it
 pub name_token : (n : List ℕ) → is_name n ≡ true → IsOneToken (name n)
-unfolding is_name
 name_token n h =
-    let front = and_parts (is_word n && nat_le (length n) MOST_NAME) (not (is_reserved n)) h in
-    let word = (and_parts (is_word n) (nat_le (length n) MOST_NAME) front.0).0 in
-    record { kind_is = kind.Word; plain = tt; form = word; some = word_long n word; says = name_says n (is_false (is_reserved n) front.1) h }
+    let k = name_key n h in
+    record { kind_is = kind.Word; plain = tt; form = k.word; some = k.some; says = k.says }
 
 pub truth_token : (b : Bool) → IsOneToken (constant (scalar.Bool b))
 unfolding word_sign

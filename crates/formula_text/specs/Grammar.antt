@@ -3,7 +3,9 @@ use Rattle.std.specs.Prelude.{◌≡◌, ℕ, ◌<◌, ◌≤◌, List, [], ◌�
 use Rattle.sig_formula.specs.declared.formula.BinOp.{BinOp}
 use Rattle.sig_formula.specs.declared.formula.BinOp.TheVariants as op
 use Rattle.sig_words.specs.Lexemes.{Lexeme}
-use Rattle.formula_text.specs.Signs.{Leaf, Sign, signs}
+use Rattle.formula_text.specs.declared.rough.Around.{Around}
+use Rattle.formula_text.specs.declared.rough.OverRows.{OverRows}
+use Rattle.formula_text.specs.Signs.{Leaf, Sign, name, signs}
 use Rattle.formula_text.specs.Signs as t
 
 -- a formula with its names, and with texts of any length
@@ -12,13 +14,18 @@ pub data Draft : Type 0 where
   negation : Draft → Draft
   binary : BinOp → Draft → Draft → Draft
   choice : Draft → Draft → Draft → Draft
-  untracked : Draft → Draft
+  -- the key of a row, where that is the name, or its field of this name
+  of_row : List ℕ → Draft
+  one_part : Around → Draft → Draft
+  each_row : OverRows → Draft → Draft → Draft
 
 -- a formula as it is written, with each pair of parentheses
 pub data Written : Type 0 where
   single : Leaf → Written
   group : Written → Written
-  untrack : Written → Written
+  it_dot : List ℕ → Written
+  around : Around → Written → Written
+  over_rows : OverRows → Written → Written → Written
   negated : Written → Written
   chain : BinOp → Written → Written → Written
   pick : Written → Written → Written → Written
@@ -27,7 +34,9 @@ pub data Written : Type 0 where
 abbrev pub spelled : Written → List Sign
 spelled (single l) = t.leaf l ∷ []
 spelled (group w) = t.opening ∷ (spelled w ++ t.closing ∷ [])
-spelled (untrack w) = t.untrack_word ∷ t.opening ∷ (spelled w ++ t.closing ∷ [])
+spelled (it_dot n) = t.it_word ∷ t.dot ∷ t.leaf (name n) ∷ []
+spelled (around f w) = t.around f ∷ t.opening ∷ (spelled w ++ t.closing ∷ [])
+spelled (over_rows f a b) = t.over_rows f ∷ t.opening ∷ ((spelled a ++ (t.comma ∷ spelled b)) ++ t.closing ∷ [])
 spelled (negated w) = t.not_word ∷ spelled w
 spelled (chain o a b) = spelled a ++ (t.operator o ∷ spelled b)
 spelled (pick w a b) = t.if_word ∷ (spelled w ++ (t.then_word ∷ (spelled a ++ (t.else_word ∷ spelled b))))
@@ -36,13 +45,15 @@ spelled (pick w a b) = t.if_word ∷ (spelled w ++ (t.then_word ∷ (spelled a +
 abbrev pub meant : Written → Draft
 meant (single l) = leaf l
 meant (group w) = meant w
-meant (untrack w) = untracked (meant w)
+meant (it_dot n) = of_row n
+meant (around f w) = one_part f (meant w)
+meant (over_rows f a b) = each_row f (meant a) (meant b)
 meant (negated w) = negation (meant w)
 meant (chain o a b) = binary o (meant a) (meant b)
 meant (pick w a b) = choice (meant w) (meant a) (meant b)
 
 -- The rules of the grammar by number, from the loosest on: 0 if, 1 or, 2 and, 3 not, 4 comparisons, 5 `++`, 6 `+` and `-`,
--- 7 `*`, `/` and `%`, 8 a leaf, parentheses and `untrack`. This is the rule of an operator.
+-- 7 `*`, `/` and `%`, 8 a leaf, `it`, parentheses and what has its parts in them. This is the rule of an operator.
 abbrev pub level : BinOp → ℕ
 level op.Or = 1
 level op.And = 2
@@ -80,7 +91,9 @@ before op.Rem = 7
 abbrev pub rule : Written → ℕ
 rule (single l) = 8
 rule (group w) = 8
-rule (untrack w) = 8
+rule (it_dot n) = 8
+rule (around f w) = 8
+rule (over_rows f a b) = 8
 rule (negated w) = 3
 rule (chain o a b) = level o
 rule (pick w a b) = 0
@@ -89,7 +102,9 @@ rule (pick w a b) = 0
 abbrev pub Fits : Written → Type 0
 Fits (single l) = Unit {0}
 Fits (group w) = Fits w
-Fits (untrack w) = Fits w
+Fits (it_dot n) = Unit {0}
+Fits (around f w) = Fits w
+Fits (over_rows f a b) = Fits a × Fits b
 Fits (negated w) = (3 ≤ rule w) × Fits w
 Fits (chain o a b) = (before o ≤ rule a) × (level o < rule b) × Fits a × Fits b
 Fits (pick w a b) = Fits w × Fits a × Fits b

@@ -1,9 +1,11 @@
 -- One pass over the tokens, from left to right.
 use Rattle.std.specs.Prelude.{ℕ, zero, suc, ◌+◌, nat_le, Bool, ◌&&◌, if◌then◌else◌, List, ◌∷◌, length, Option, Some, None, option_map, option_and_then}
 use Rattle.sig_formula.specs.declared.formula.BinOp.{BinOp}
-use Rattle.formula_text.specs.Signs.{Sign}
+use Rattle.formula_text.specs.declared.rough.Around.{Around}
+use Rattle.formula_text.specs.declared.rough.OverRows.{OverRows}
+use Rattle.formula_text.specs.Signs.{Sign, name}
 use Rattle.formula_text.specs.Signs as t
-use Rattle.formula_text.specs.Grammar.{Draft, leaf, negation, binary, choice, untracked, level, before}
+use Rattle.formula_text.specs.Grammar.{Draft, leaf, negation, binary, choice, of_row, one_part, each_row, level, before}
 
 -- what was read: the formula, its rule, and the signs after it
 abbrev pub Part : Type 0
@@ -22,14 +24,42 @@ closed_at x _ = None
 abbrev pub closed : Part → Option Part
 closed p = closed_at p.0 p.2
 
--- the same of a part behind `untrack`
-abbrev pub untrack_closed : Part → Option Part
-untrack_closed p = closed_at (untracked p.0) p.2
+-- the same of a part behind `count` or `untrack`
+abbrev pub one_closed : Around → Part → Option Part
+one_closed f p = closed_at (one_part f p.0) p.2
 
--- what follows `untrack`
-abbrev pub untrack_at : Reader → List Sign → Option Part
-untrack_at read (t.opening ∷ ts) = option_and_then untrack_closed (read 0 ts)
-untrack_at read _ = None
+-- what follows `count` or `untrack`
+abbrev pub one_part_at : Reader → Around → List Sign → Option Part
+one_part_at read f (t.opening ∷ ts) = option_and_then (one_closed f) (read 0 ts)
+one_part_at read f _ = None
+
+-- the same of what is evaluated of each row, once the rows are read
+abbrev pub each_closed : OverRows → Draft → Part → Option Part
+each_closed f x p = closed_at (each_row f x p.0) p.2
+
+-- what follows the rows
+abbrev pub comma_at : Reader → OverRows → Draft → List Sign → Option Part
+comma_at read f x (t.comma ∷ ts) = option_and_then (each_closed f x) (read 0 ts)
+comma_at read f x _ = None
+
+-- the same of a part
+abbrev pub after_rows : Reader → OverRows → Part → Option Part
+after_rows read f p = comma_at read f p.0 p.2
+
+-- what follows `sum` or `keep`
+abbrev pub each_row_at : Reader → OverRows → List Sign → Option Part
+each_row_at read f (t.opening ∷ ts) = option_and_then (after_rows read f) (read 0 ts)
+each_row_at read f _ = None
+
+-- what follows `it.`
+abbrev pub field_at : List Sign → Option Part
+field_at (t.leaf (name n) ∷ ts) = Some (of_row n, 8, ts)
+field_at _ = None
+
+-- what follows `it`
+abbrev pub row_part_at : List Sign → Option Part
+row_part_at (t.dot ∷ ts) = field_at ts
+row_part_at _ = None
 
 -- the part with `not` before it
 abbrev pub negate : Part → Option Part
@@ -65,7 +95,9 @@ choice_at read ts = option_and_then (after_test read) (read 0 ts)
 abbrev pub head : Reader → Reader
 head read least (t.leaf l ∷ ts) = Some (leaf l, 8, ts)
 head read least (t.opening ∷ ts) = option_and_then closed (read 0 ts)
-head read least (t.untrack_word ∷ ts) = untrack_at read ts
+head read least (t.around f ∷ ts) = one_part_at read f ts
+head read least (t.over_rows f ∷ ts) = each_row_at read f ts
+head read least (t.it_word ∷ ts) = row_part_at ts
 head read least (t.not_word ∷ ts) = if nat_le least 3 then option_and_then negate (read 3 ts) else None
 head read least (t.if_word ∷ ts) = if nat_le least 0 then choice_at read ts else None
 head read least _ = None

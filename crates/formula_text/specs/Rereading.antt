@@ -11,7 +11,7 @@ use Rattle.sig_words.specs.Lexemes.{lexemes}
 use Rattle.sig_words.specs.Tokens.{AreTokens, Cuts, may_sign}
 use Rattle.formula_text.specs.declared.wired.Allow.{Allow}
 use Rattle.formula_text.specs.Signs.{Leaf, name, constant, signs, NoOperator}
-use Rattle.formula_text.specs.Grammar.{Draft, leaf, negation, binary, choice, untracked}
+use Rattle.formula_text.specs.Grammar.{Draft, leaf, negation, binary, choice, of_row, one_part, each_row}
 use Rattle.formula_text.specs.Canonical.{canonical_text, unslotted}
 use Rattle.formula_text.specs.Wiring.{Wiring, IsWired}
 
@@ -22,13 +22,15 @@ IsPrintableLeaf (constant (scalar.Bool b)) = Unit {0}
 IsPrintableLeaf (constant (scalar.Int z)) = FitsSigned w64 z
 IsPrintableLeaf (constant (scalar.Text t)) = IsUtf8 t
 
--- each leaf of the formula is so
+-- each leaf of the formula is so, and what stands behind `it.` is a name
 abbrev pub IsPrintable : Draft → Type 0
 IsPrintable (leaf l) = IsPrintableLeaf l
 IsPrintable (negation x) = IsPrintable x
 IsPrintable (binary o x y) = IsPrintable x × IsPrintable y
 IsPrintable (choice w x y) = IsPrintable w × IsPrintable x × IsPrintable y
-IsPrintable (untracked x) = IsPrintable x
+IsPrintable (of_row n) = is_name n ≡ true
+IsPrintable (one_part f x) = IsPrintable x
+IsPrintable (each_row f x y) = IsPrintable x × IsPrintable y
 
 -- the canonical text of a wired formula
 abbrev pub text_of_wiring : Wiring → List ℕ

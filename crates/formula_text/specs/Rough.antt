@@ -12,7 +12,7 @@ use Rattle.formula_text.specs.declared.sign.Sign.{Sign as Seen}
 use Rattle.formula_text.specs.declared.sign.Sign.TheVariants as seen
 use Rattle.formula_text.specs.Signs.{Sign, name, constant, signs}
 use Rattle.formula_text.specs.Signs as t
-use Rattle.formula_text.specs.Grammar.{Draft, leaf, negation, binary, choice, untracked}
+use Rattle.formula_text.specs.Grammar.{Draft, leaf, negation, binary, choice, of_row, one_part, each_row}
 use Rattle.formula_text.specs.Reading.{Part}
 
 -- the text between the quotes of a literal
@@ -41,7 +41,9 @@ draft line tokens (r.Truth b) = leaf (constant (scalar.Bool b))
 draft line tokens (r.Not' p a) = negation (draft line tokens a)
 draft line tokens (r.Bin' o p a q b) = binary o (draft line tokens a) (draft line tokens b)
 draft line tokens (r.If' p w q a s b) = choice (draft line tokens w) (draft line tokens a) (draft line tokens b)
-draft line tokens (r.Untrack' p a) = untracked (draft line tokens a)
+draft line tokens (r.It place) = of_row (bytes_at line tokens place)
+draft line tokens (r.Around' f p a) = one_part f (draft line tokens a)
+draft line tokens (r.OverRows' f p a q b) = each_row f (draft line tokens a) (draft line tokens b)
 
 -- each place of a name has a token that is one, and each place of a text a literal
 abbrev pub HasLeaves : List ℕ → List Token → Rough → Type 0
@@ -52,7 +54,9 @@ HasLeaves line tokens (r.Truth b) = Unit {0}
 HasLeaves line tokens (r.Not' p a) = HasLeaves line tokens a
 HasLeaves line tokens (r.Bin' o p a q b) = HasLeaves line tokens a × HasLeaves line tokens b
 HasLeaves line tokens (r.If' p w q a s b) = HasLeaves line tokens w × HasLeaves line tokens a × HasLeaves line tokens b
-HasLeaves line tokens (r.Untrack' p a) = HasLeaves line tokens a
+HasLeaves line tokens (r.It place) = (place < length tokens) × (is_name (bytes_at line tokens place) ≡ true)
+HasLeaves line tokens (r.Around' f p a) = HasLeaves line tokens a
+HasLeaves line tokens (r.OverRows' f p a q b) = HasLeaves line tokens a × HasLeaves line tokens b
 
 -- the sign of a token with these bytes
 abbrev pub sign_of : List ℕ → Seen → Sign
@@ -65,9 +69,13 @@ sign_of text seen.Not = t.not_word
 sign_of text seen.If = t.if_word
 sign_of text seen.Then = t.then_word
 sign_of text seen.Else = t.else_word
-sign_of text seen.Untrack = t.untrack_word
+sign_of text (seen.Around f) = t.around f
+sign_of text (seen.OverRows f) = t.over_rows f
+sign_of text seen.It = t.it_word
 sign_of text seen.Open = t.opening
 sign_of text seen.Close = t.closing
+sign_of text seen.Comma = t.comma
+sign_of text seen.Dot = t.dot
 sign_of text seen.Other = t.other
 
 -- a token that is seen as a name is one, and one that is seen as a text is a literal

@@ -6,6 +6,10 @@ use Rattle.sig_base.specs.declared.scalar.Scalar.{Scalar}
 use Rattle.sig_base.specs.declared.scalar.Scalar.TheVariants as scalar
 use Rattle.sig_formula.specs.declared.formula.BinOp.{BinOp}
 use Rattle.sig_formula.specs.declared.formula.BinOp.TheVariants as op
+use Rattle.formula_text.specs.declared.rough.Around.{Around}
+use Rattle.formula_text.specs.declared.rough.OverRows.{OverRows}
+use Rattle.formula_text.specs.declared.rough.Around.TheVariants as form
+use Rattle.formula_text.specs.declared.rough.OverRows.TheVariants as each
 use Rattle.sig_words.specs.Lexemes.{Lexeme, word, tag, number, literal, symbol}
 
 -- what stands for itself; a text may be of any length
@@ -21,9 +25,13 @@ pub data Sign : Type 0 where
   if_word : Sign
   then_word : Sign
   else_word : Sign
-  untrack_word : Sign
+  around : Around → Sign
+  over_rows : OverRows → Sign
+  it_word : Sign
   opening : Sign
   closing : Sign
+  comma : Sign
+  dot : Sign
   -- what stands in no formula
   other : Sign
 
@@ -36,7 +44,11 @@ word_sign w =
     else if bytes_eq w (codes "if") then if_word
     else if bytes_eq w (codes "then") then then_word
     else if bytes_eq w (codes "else") then else_word
-    else if bytes_eq w (codes "untrack") then untrack_word
+    else if bytes_eq w (codes "untrack") then around form.Untrack
+    else if bytes_eq w (codes "count") then around form.Count
+    else if bytes_eq w (codes "sum") then over_rows each.Sum
+    else if bytes_eq w (codes "keep") then over_rows each.Keep
+    else if bytes_eq w (codes "it") then it_word
     else if bytes_eq w (codes "true") then leaf (constant (scalar.Bool true))
     else if bytes_eq w (codes "false") then leaf (constant (scalar.Bool false))
     else if is_name w then leaf (name w)
@@ -47,6 +59,8 @@ unfoldable pub symbol_sign : List ℕ → Sign
 symbol_sign s =
     if bytes_eq s (codes "(") then opening
     else if bytes_eq s (codes ")") then closing
+    else if bytes_eq s (codes ",") then comma
+    else if bytes_eq s (codes ".") then dot
     else if bytes_eq s (codes "==") then operator op.Eq
     else if bytes_eq s (codes "!=") then operator op.Ne
     else if bytes_eq s (codes "<") then operator op.Lt

@@ -12,7 +12,7 @@ use Rattle.formula_text.specs.declared.wired.FormulaFault.TheVariants as fault
 use Rattle.formula_text.specs.declared.rough.Rough.{Rough}
 use Rattle.formula_text.specs.Rough.{draft, HasLeaves}
 use Rattle.formula_text.specs.Grammar.{Draft, IsLongest, HasNone}
-use Rattle.formula_text.specs.Judging.{has_untrack, is_above, has_long_text, names, slotted}
+use Rattle.formula_text.specs.Judging.{has_untrack, needs_row, is_above, has_long_text, names, slotted}
 
 -- a formula over slots, and the names that they stand for
 abbrev pub Wiring : Type 0
@@ -26,6 +26,7 @@ wired x = (slotted (names x) x, names x)
 abbrev pub refusal : Allow → Draft → Option FormulaFault
 refusal allow x =
     if has_untrack x && not allow.untrack then Some fault.UntrackHere
+    else if needs_row x && not allow.row then Some fault.ItHere
     else if is_above MOST_HEIGHT x then Some fault.Nest
     else if has_long_text x then Some fault.TextLong
     else if nat_lt MOST_SOURCES (length (names x)) then Some fault.Sources

@@ -5,9 +5,9 @@ ghost use Rattle.std.specs.Str.{bytes_eq};
 ghost use Rattle.sig_base.specs.Words.{is_name};
 ghost use Rattle.sig_words.specs.Tokens.{AreTokens};
 ghost use Rattle.formula_text.specs.Rough.{bytes_at, draft, inside, HasLeaves, IsLiteralAt};
-ghost use Rattle.formula_text.specs.Judging.{has_untrack, is_above, with_name, with_names};
+ghost use Rattle.formula_text.specs.Judging.{has_row_form, has_untrack, is_above, needs_row, with_name, with_names};
 
-use crate::rough::Rough;
+use crate::rough::{Around, Rough};
 use sig_base::{MOST_TEXT, Name, NameFault, NoMemory, Text, TextFault};
 use sig_words::{Token, literal, token_bytes};
 use std::alloc::Global;
@@ -19,12 +19,47 @@ pub fn has_untrack(rough: &Rough) -> bool
 {
     match rough {
         Rough::Name(_) | Rough::Text(_) | Rough::Number(_) | Rough::Truth(_) => false,
+        Rough::It(_) => false,
         Rough::Not(inner) => has_untrack(inner),
-        Rough::Bin(_, left, right) => has_untrack(left) || has_untrack(right),
+        Rough::Bin(_, left, right) | Rough::OverRows(_, left, right) => {
+            has_untrack(left) || has_untrack(right)
+        }
         Rough::If(test, held, other) => {
             has_untrack(test) || has_untrack(held) || has_untrack(other)
         }
-        Rough::Untrack(_) => true,
+        Rough::Around(Around::Untrack, _) => true,
+        Rough::Around(Around::Count, inner) => has_untrack(inner),
+    }
+}
+
+/// Whether it speaks of a row that it is given: whether `it` stands outside of the second parts of `sum` and `keep`.
+pub fn needs_row(rough: &Rough) -> bool
+    ensures { (line : List ℕ) (tokens : List Token) → result ≡ needs_row (draft line tokens rough.now) }
+{
+    match rough {
+        Rough::Name(_) | Rough::Text(_) | Rough::Number(_) | Rough::Truth(_) => false,
+        Rough::It(_) => true,
+        Rough::Not(inner) | Rough::Around(_, inner) => needs_row(inner),
+        Rough::Bin(_, left, right) => needs_row(left) || needs_row(right),
+        Rough::If(test, held, other) => needs_row(test) || needs_row(held) || needs_row(other),
+        Rough::OverRows(_, rows, _) => needs_row(rows),
+    }
+}
+
+/// Whether one of the forms that rows bring stands in it: `it`, `count`, `sum` or `keep`.
+pub fn has_row_form(rough: &Rough) -> bool
+    ensures { (line : List ℕ) (tokens : List Token) → result ≡ has_row_form (draft line tokens rough.now) }
+{
+    match rough {
+        Rough::Name(_) | Rough::Text(_) | Rough::Number(_) | Rough::Truth(_) => false,
+        Rough::It(_) | Rough::OverRows(_, _, _) => true,
+        Rough::Not(inner) => has_row_form(inner),
+        Rough::Bin(_, left, right) => has_row_form(left) || has_row_form(right),
+        Rough::If(test, held, other) => {
+            has_row_form(test) || has_row_form(held) || has_row_form(other)
+        }
+        Rough::Around(Around::Count, _) => true,
+        Rough::Around(Around::Untrack, inner) => has_row_form(inner),
     }
 }
 
@@ -35,8 +70,9 @@ pub fn is_above(rough: &Rough, most: usize) -> bool
 {
     match rough {
         Rough::Name(_) | Rough::Text(_) | Rough::Number(_) | Rough::Truth(_) => most == 0,
-        Rough::Not(inner) | Rough::Untrack(inner) => most == 0 || is_above(inner, most - 1),
-        Rough::Bin(_, left, right) => {
+        Rough::It(_) => most == 0,
+        Rough::Not(inner) | Rough::Around(_, inner) => most == 0 || is_above(inner, most - 1),
+        Rough::Bin(_, left, right) | Rough::OverRows(_, left, right) => {
             most == 0 || is_above(left, most - 1) || is_above(right, most - 1)
         }
         Rough::If(test, held, other) => {
@@ -74,8 +110,8 @@ fn is_among(names: &[Name], text: &[u8]) -> bool
     names.iter().any(|n| n.as_str().as_bytes() == text)
 }
 
-// The name at a place.
-fn name_at(alloc: Global, line: &[u8], tokens: &[Token], place: usize) -> Result<Name, NoMemory>
+/// The name at a place.
+pub fn name_at(alloc: Global, line: &[u8], tokens: &[Token], place: usize) -> Result<Name, NoMemory>
     requires of_line { AreTokens line.now tokens.now }
     requires within { place < length tokens.now }
     requires good { is_name (bytes_at line.now tokens.now place) ≡ true }
@@ -124,9 +160,9 @@ pub fn put_names(
 {
     match rough {
         Rough::Name(place) => put_name(alloc, names, line, tokens, *place),
-        Rough::Text(_) | Rough::Number(_) | Rough::Truth(_) => Ok(()),
-        Rough::Not(inner) | Rough::Untrack(inner) => put_names(alloc, names, line, tokens, inner),
-        Rough::Bin(_, left, right) => {
+        Rough::Text(_) | Rough::Number(_) | Rough::Truth(_) | Rough::It(_) => Ok(()),
+        Rough::Not(inner) | Rough::Around(_, inner) => put_names(alloc, names, line, tokens, inner),
+        Rough::Bin(_, left, right) | Rough::OverRows(_, left, right) => {
             put_names(alloc, names, line, tokens, left)?;
             put_names(alloc, names, line, tokens, right)
         }

@@ -11,11 +11,12 @@ mod tests;
 mod wired;
 mod writer;
 
+pub use judge::has_row_form;
 pub use meaning::{
     canonical_text_reads, fewest_parentheses, leaves_are_tokens, names_for_slots, one_formula,
     written_formulas_read_back,
 };
 pub use reader::read_rough;
-pub use rough::Rough;
+pub use rough::{Around, OverRows, Rough};
 pub use wired::{Allow, FormulaFault, Wired, read_formula, wire};
-pub use writer::put_formula;
+pub use writer::{put_formula, put_formula_of};

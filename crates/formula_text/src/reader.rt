@@ -2,10 +2,10 @@
 ghost use Rattle.std.specs.Prelude.{◌≡◌, ◌<◌, ◌≤◌, ℕ, length, IfOk, IfSome, MatchOption, option_map};
 ghost use Rattle.formula_text.specs.Wiring.{IsRead, ReadsNone};
 ghost use Rattle.formula_text.specs.Grammar.{before, level};
-ghost use Rattle.formula_text.specs.Reading.{choice_at, expr, head, untrack_at};
+ghost use Rattle.formula_text.specs.Reading.{choice_at, each_row_at, expr, head, one_part_at, row_part_at};
 ghost use Rattle.formula_text.specs.Rough.{IsPartFrom, part_of, signs_from};
 
-use crate::rough::Rough;
+use crate::rough::{Around, OverRows, Rough};
 use crate::sign::{Sign, sign_at};
 use sig_base::NoMemory;
 use sig_formula::BinOp;
@@ -77,17 +77,18 @@ fn choice(alloc: Global, line: &[u8], tokens: &[Token], at: usize) -> Result<Opt
     Ok(Some((Rough::If(test, held, Box::new(alloc, other)?), CHOICE, rest)))
 }
 
-// What follows `untrack`.
+// What follows `count` or `untrack`.
 #[cycle(reading)]
-fn untrack(
+fn one_part(
     alloc: Global,
     line: &[u8],
     tokens: &[Token],
     at: usize,
+    form: Around,
 ) -> Result<Option<Part>, NoMemory>
     ensures part { IfOk result (λ found. IfSome found (IsPartFrom line.now tokens.now at)) }
     ensures exact { IfOk result (λ found. (n : ℕ) → length (signs_from line.now tokens.now at) < n →
-        option_map (part_of line.now tokens.now) found ≡ untrack_at (expr n) (signs_from line.now tokens.now at)) }
+        option_map (part_of line.now tokens.now) found ≡ one_part_at (expr n) form (signs_from line.now tokens.now at)) }
 {
     let Some(Sign::Open) = sign_at(line, tokens, at) else {
         return Ok(None);
@@ -98,7 +99,61 @@ fn untrack(
     let Some(Sign::Close) = sign_at(line, tokens, rest) else {
         return Ok(None);
     };
-    Ok(Some((Rough::Untrack(Box::new(alloc, inner)?), PRIMARY, rest + 1)))
+    Ok(Some((
+        Rough::Around(form, Box::new(alloc, inner)?),
+        PRIMARY,
+        rest + 1,
+    )))
+}
+
+// What follows `sum` or `keep`.
+#[cycle(reading)]
+fn each_row(
+    alloc: Global,
+    line: &[u8],
+    tokens: &[Token],
+    at: usize,
+    form: OverRows,
+) -> Result<Option<Part>, NoMemory>
+    ensures part { IfOk result (λ found. IfSome found (IsPartFrom line.now tokens.now at)) }
+    ensures exact { IfOk result (λ found. (n : ℕ) → length (signs_from line.now tokens.now at) < n →
+        option_map (part_of line.now tokens.now) found ≡ each_row_at (expr n) form (signs_from line.now tokens.now at)) }
+{
+    let Some(Sign::Open) = sign_at(line, tokens, at) else {
+        return Ok(None);
+    };
+    let Some((rows, _, rest)) = expr(alloc, line, tokens, at + 1, CHOICE)? else {
+        return Ok(None);
+    };
+    let Some(Sign::Comma) = sign_at(line, tokens, rest) else {
+        return Ok(None);
+    };
+    let Some((each, _, rest)) = expr(alloc, line, tokens, rest + 1, CHOICE)? else {
+        return Ok(None);
+    };
+    let Some(Sign::Close) = sign_at(line, tokens, rest) else {
+        return Ok(None);
+    };
+    let rows = Box::new(alloc, rows)?;
+    Ok(Some((
+        Rough::OverRows(form, rows, Box::new(alloc, each)?),
+        PRIMARY,
+        rest + 1,
+    )))
+}
+
+// What follows `it`.
+fn row_part(line: &[u8], tokens: &[Token], at: usize) -> Option<Part>
+    ensures part { IfSome result (IsPartFrom line.now tokens.now at) }
+    ensures exact { option_map (part_of line.now tokens.now) result ≡ row_part_at (signs_from line.now tokens.now at) }
+{
+    let Some(Sign::Dot) = sign_at(line, tokens, at) else {
+        return None;
+    };
+    let Some(Sign::Name) = sign_at(line, tokens, at + 1) else {
+        return None;
+    };
+    Some((Rough::It(at + 1), PRIMARY, at + 2))
 }
 
 #[cycle(reading)]
@@ -136,7 +191,9 @@ fn head(
             };
             Ok(Some((Rough::Not(Box::new(alloc, inner)?), NEGATION, rest)))
         }
-        Sign::Untrack => untrack(alloc, line, tokens, at + 1),
+        Sign::Around(form) => one_part(alloc, line, tokens, at + 1, form),
+        Sign::OverRows(form) => each_row(alloc, line, tokens, at + 1, form),
+        Sign::It => Ok(row_part(line, tokens, at + 1)),
         Sign::Open => {
             let Some((inner, _, rest)) = expr(alloc, line, tokens, at + 1, CHOICE)? else {
                 return Ok(None);

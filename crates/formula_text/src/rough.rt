@@ -2,6 +2,20 @@
 
 use sig_formula::BinOp;
 
+/// What stands before one formula in parentheses.
+#[derive(Clone, Copy, Debug, PartialEq, Eq)]
+pub enum Around {
+    Count,
+    Untrack,
+}
+
+/// What stands before rows and a formula about each of them, in parentheses.
+#[derive(Clone, Copy, Debug, PartialEq, Eq)]
+pub enum OverRows {
+    Sum,
+    Keep,
+}
+
 /// A formula as it was read: names and texts are the places of their tokens.
 #[derive(Debug, Drop)]
 pub enum Rough {
@@ -9,9 +23,13 @@ pub enum Rough {
     Text(usize),
     Number(i64),
     Truth(bool),
+    /// The key of a row or one of its fields, by the place of its name behind `it.`.
+    It(usize),
     Not(Box<Rough>),
     Bin(BinOp, Box<Rough>, Box<Rough>),
     /// A test, and what is evaluated where it is true and where it is false.
     If(Box<Rough>, Box<Rough>, Box<Rough>),
-    Untrack(Box<Rough>),
+    Around(Around, Box<Rough>),
+    /// Rows, and what is evaluated of each of them.
+    OverRows(OverRows, Box<Rough>, Box<Rough>),
 }

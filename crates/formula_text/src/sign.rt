@@ -5,6 +5,7 @@ ghost use Rattle.sig_words.specs.Lexemes.{lexeme, text_at};
 ghost use Rattle.formula_text.specs.Signs.{sign, symbol_sign, word_sign};
 ghost use Rattle.formula_text.specs.Rough.{bytes_at, sign_of, IsSeen, IsSeenAt, signs_from};
 
+use crate::rough::{Around, OverRows};
 use sig_base::is_name;
 use sig_formula::BinOp;
 use sig_words::{Token, TokenKind, token_bytes};
@@ -20,9 +21,13 @@ pub enum Sign {
     If,
     Then,
     Else,
-    Untrack,
+    Around(Around),
+    OverRows(OverRows),
+    It,
     Open,
     Close,
+    Comma,
+    Dot,
     /// What stands in no formula.
     Other,
 }
@@ -46,7 +51,15 @@ fn word_sign(text: &[u8]) -> Sign
     } else if text == b"else".as_slice() {
         Sign::Else
     } else if text == b"untrack".as_slice() {
-        Sign::Untrack
+        Sign::Around(Around::Untrack)
+    } else if text == b"count".as_slice() {
+        Sign::Around(Around::Count)
+    } else if text == b"sum".as_slice() {
+        Sign::OverRows(OverRows::Sum)
+    } else if text == b"keep".as_slice() {
+        Sign::OverRows(OverRows::Keep)
+    } else if text == b"it".as_slice() {
+        Sign::It
     } else if text == b"true".as_slice() {
         Sign::Truth(true)
     } else if text == b"false".as_slice() {
@@ -68,6 +81,10 @@ fn symbol_sign(text: &[u8]) -> Sign
         Sign::Open
     } else if text == b")".as_slice() {
         Sign::Close
+    } else if text == b",".as_slice() {
+        Sign::Comma
+    } else if text == b".".as_slice() {
+        Sign::Dot
     } else if text == b"==".as_slice() {
         Sign::Operator(BinOp::Eq)
     } else if text == b"!=".as_slice() {

@@ -1,13 +1,15 @@
 // Texts that are read and written again.
 
-use crate::{Allow, FormulaFault, Wired, put_formula, read_formula};
+use crate::{
+    Allow, FormulaFault, Wired, has_row_form, put_formula, put_formula_of, read_formula, read_rough,
+};
 use sig_base::NoMemory;
 use sig_words::tokens;
 use std::alloc::Global;
 use std::test::Fail;
 
 const ANY: Allow = Allow {
-    row: false,
+    row: true,
     untrack: true,
 };
 
@@ -54,6 +56,24 @@ fn fault(alloc: Global, line: &[u8], allow: Allow) -> Option<FormulaFault> {
 
 fn is_syntax(alloc: Global, line: &str) -> bool {
     fault(alloc, line.as_bytes(), ANY) == Some(FormulaFault::Syntax)
+}
+
+// Whether the formula that a line begins with has one of the forms that rows bring.
+fn brings_rows(alloc: Global, line: &[u8]) -> Option<bool> {
+    let found = tokens(alloc, line).ok()?;
+    let (rough, _) = read_rough(alloc, line, &found, 0).ok()??;
+    Some(has_row_form(&rough))
+}
+
+// Whether the second line is written again by the names of the first.
+fn shared_names(alloc: Global, first: &[u8], second: &[u8]) -> Option<bool> {
+    let found = tokens(alloc, first).ok()?;
+    let (first, _) = read_formula(alloc, first, &found, 0, ANY).ok()?;
+    let found = tokens(alloc, second).ok()?;
+    let (other, _) = read_formula(alloc, second, &found, 0, ANY).ok()?;
+    let mut out = Vec::new(alloc);
+    put_formula_of(&mut out, &first.names, &other.formula).ok()?;
+    Some(out.as_slice() == b"sum(b, it.n)".as_slice())
 }
 
 // So many `not`, and a truth.
@@ -196,9 +216,57 @@ fn ends_where_nothing_goes_on(rt: HostRuntime) {
     assert!(rt; is_syntax(alloc, "(a"));
     assert!(rt; is_syntax(alloc, "if a then b"));
     assert!(rt; is_syntax(alloc, "untrack a"));
-    assert!(rt; is_syntax(alloc, "it"));
-    assert!(rt; is_syntax(alloc, "count(a)"));
     assert!(rt; is_syntax(alloc, "a23456789012345678901234567890123"));
+}
+
+#[test]
+fn reads_what_goes_over_rows(rt: HostRuntime) {
+    let alloc = rt.alloc();
+    assert!(rt; keeps(alloc, "it.title"));
+    assert!(rt; keeps(alloc, "it.key == \"a\""));
+    assert!(rt; keeps(alloc, "key"));
+    assert!(rt; keeps(alloc, "count(l) - -1"));
+    assert!(rt; keeps(alloc, "sum(l, -1)"));
+    assert!(rt; keeps(alloc, "sum(keep(l, not it.done), it.n * it.n) % 2"));
+    assert!(rt; keeps(alloc, "count(keep(l, count(keep(m, it.key == it.of)) > 0))"));
+    assert!(rt;
+        reads_as(
+            alloc,
+            "sum( (l) ,(if it . a then 1 else 2) )",
+            "sum(l, if it.a then 1 else 2)"
+        )
+    );
+    assert!(rt; reads_as(alloc, "it.a.b", "it.a|.b"));
+    assert!(rt; reads_as(alloc, "a, b", "a|, b"));
+    assert!(rt; is_syntax(alloc, "it"));
+    assert!(rt; is_syntax(alloc, "it.count"));
+    assert!(rt; is_syntax(alloc, "it.\"a\""));
+    assert!(rt; is_syntax(alloc, "count l"));
+    assert!(rt; is_syntax(alloc, "count(l, a)"));
+    assert!(rt; is_syntax(alloc, "sum(l)"));
+    assert!(rt; is_syntax(alloc, "keep(l, a, b)"));
+}
+
+#[test]
+fn refuses_a_row_where_there_is_none(rt: HostRuntime) {
+    let alloc = rt.alloc();
+    let no_row = Allow {
+        row: false,
+        untrack: false,
+    };
+    assert!(rt; fault(alloc, b"a + it.n", no_row) == Some(FormulaFault::ItHere));
+    assert!(rt; fault(alloc, b"sum(it.l, it.n)", no_row) == Some(FormulaFault::ItHere));
+    assert!(rt; fault(alloc, b"sum(l, it.n + count(keep(l, it.n)))", no_row) == None);
+    assert!(rt; fault(alloc, b"untrack(it.n)", no_row) == Some(FormulaFault::UntrackHere));
+}
+
+#[test]
+fn tells_the_forms_that_rows_bring(rt: HostRuntime) {
+    let alloc = rt.alloc();
+    assert!(rt; brings_rows(alloc, b"untrack(1 + count(l))") == Some(true));
+    assert!(rt; brings_rows(alloc, b"if a then b else it.key") == Some(true));
+    assert!(rt; brings_rows(alloc, b"untrack(key) and not a") == Some(false));
+    assert!(rt; shared_names(alloc, b"b - a", b"sum(a, it.n)") == Some(true));
 }
 
 #[test]

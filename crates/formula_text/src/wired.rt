@@ -5,13 +5,13 @@ ghost use Rattle.sig_base.specs.declared.text.TextFault.TheVariants as text_faul
 ghost use Rattle.sig_formula.specs.Trees.{tree};
 ghost use Rattle.sig_words.specs.Tokens.{AreTokens};
 ghost use Rattle.formula_text.specs.declared.wired.FormulaFault.TheVariants as fault;
-ghost use Rattle.formula_text.specs.Judging.{has_long_text, slot_of, slotted};
+ghost use Rattle.formula_text.specs.Judging.{each_tree, has_long_text, one_tree, row_tree, slot_of, slotted};
 ghost use Rattle.formula_text.specs.Rough.{bytes_at, draft, HasLeaves};
 ghost use Rattle.formula_text.specs.Wiring.{of_text_fault, refusal, wired, IsCause, IsLongCause, IsWired, Refuses};
 
-use crate::judge::{has_untrack, is_above, put_names, text_at};
+use crate::judge::{has_untrack, is_above, name_at, needs_row, put_names, text_at};
 use crate::reader::read_rough;
-use crate::rough::Rough;
+use crate::rough::{Around, OverRows, Rough};
 use sig_base::{MOST_HEIGHT, MOST_SOURCES, Name, NoMemory, Scalar, TextFault};
 use sig_formula::Formula;
 use sig_words::{Token, token_bytes};
@@ -53,6 +53,8 @@ pub enum FormulaFault {
     Syntax,
     #[error("untrack isn't allowed here")]
     UntrackHere,
+    #[error("there is no row here")]
+    ItHere,
     #[error("a formula is too high")]
     Nest,
     #[error("a text is too long")]
@@ -106,6 +108,35 @@ fn slot_of(names: &[Name], text: &[u8]) -> u32
     u32::try_from(place).unwrap_or(u32::MAX)
 }
 
+// The key of a row, or its field of this name.
+fn row_formula(name: Name) -> Formula
+    ensures { tree result ≡ row_tree name }
+{
+    if name.as_str() == "key" {
+        Formula::ItKey
+    } else {
+        Formula::It(name)
+    }
+}
+
+fn one_formula(form: Around, inner: Box<Formula>) -> Formula
+    ensures { tree result ≡ one_tree form (tree inner.value) }
+{
+    match form {
+        Around::Count => Formula::Count(inner),
+        Around::Untrack => Formula::Untrack(inner),
+    }
+}
+
+fn each_formula(form: OverRows, rows: Box<Formula>, each: Box<Formula>) -> Formula
+    ensures { tree result ≡ each_tree form (tree rows.value) (tree each.value) }
+{
+    match form {
+        OverRows::Sum => Formula::Sum(rows, each),
+        OverRows::Keep => Formula::Keep(rows, each),
+    }
+}
+
 // The formula whose slots are the places of its names.
 fn slotted(
     alloc: Global,
@@ -125,6 +156,7 @@ fn slotted(
         Rough::Text(place) => Ok(Formula::Lit(Scalar::Text(text_at(alloc, line, tokens, *place)?))),
         Rough::Number(n) => Ok(Formula::Lit(Scalar::Int(*n))),
         Rough::Truth(b) => Ok(Formula::Lit(Scalar::Bool(*b))),
+        Rough::It(place) => Ok(row_formula(name_at(alloc, line, tokens, *place)?)),
         Rough::Not(inner) => {
             let inner = slotted(alloc, line, tokens, inner, names)?;
             Ok(Formula::Not(Box::new(alloc, inner)?))
@@ -143,15 +175,21 @@ fn slotted(
             let held = Box::new(alloc, held)?;
             Ok(Formula::If(test, held, Box::new(alloc, other)?))
         }
-        Rough::Untrack(inner) => {
+        Rough::Around(form, inner) => {
             let inner = slotted(alloc, line, tokens, inner, names)?;
-            Ok(Formula::Untrack(Box::new(alloc, inner)?))
+            Ok(one_formula(*form, Box::new(alloc, inner)?))
+        }
+        Rough::OverRows(form, rows, each) => {
+            let rows = slotted(alloc, line, tokens, rows, names)?;
+            let each = slotted(alloc, line, tokens, each, names)?;
+            let rows = Box::new(alloc, rows)?;
+            Ok(each_formula(*form, rows, Box::new(alloc, each)?))
         }
     }
 }
 
 /// A formula that was read, with slots for its names. A formula is refused, in this order, for an `untrack` where none is
-/// allowed, for a height of more than `MOST_HEIGHT`, for a text of more than `MOST_TEXT` bytes and for more than
+/// allowed, for an `it` where there is no row, for a height of more than `MOST_HEIGHT`, for a text of more than `MOST_TEXT` bytes and for more than
 /// `MOST_SOURCES` distinct names.
 pub fn wire(
     alloc: Global,
@@ -168,6 +206,9 @@ pub fn wire(
 {
     if has_untrack(rough) && !allow.untrack {
         return Err(FormulaFault::UntrackHere);
+    }
+    if needs_row(rough) && !allow.row {
+        return Err(FormulaFault::ItHere);
     }
     if is_above(rough, MOST_HEIGHT) {
         return Err(FormulaFault::Nest);
@@ -198,6 +239,8 @@ pub fn read_formula(
     let Some((rough, to)) = read_rough(alloc, line, tokens, from)? else {
         return Err(FormulaFault::Syntax);
     };
-    let wired = wire(alloc, line, tokens, &rough, allow)?;
-    Ok((wired, to))
+    match wire(alloc, line, tokens, &rough, allow) {
+        Ok(wired) => Ok((wired, to)),
+        Err(e) => Err(e),
+    }
 }

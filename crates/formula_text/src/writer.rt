@@ -1,7 +1,8 @@
 // The canonical text of a formula.
 ghost use Rattle.std.specs.Prelude.{◌≡◌, ◌++◌, OnOk};
 ghost use Rattle.sig_formula.specs.Trees.{tree};
-ghost use Rattle.formula_text.specs.Canonical.{minimal, named, opened, operator_text, shut, unslotted, written};
+ghost use Rattle.formula_text.specs.Canonical.{canonical_text, minimal, named, opened, operator_text, shut, unslotted, written};
+ghost use Rattle.formula_text.specs.Grammar.{it_dot};
 ghost use Rattle.formula_text.specs.Rereading.{text_of_wiring};
 
 use crate::reader::{CHOICE, NEGATION, before, level};
@@ -10,11 +11,18 @@ use sig_base::{Name, NoMemory, put_scalar};
 use sig_formula::{BinOp, Formula};
 
 /// Appends the canonical text of a formula whose slots have names: one space on each side of an operator and behind `not`,
-/// `if`, `then` and `else`, and parentheses exactly where the grammar needs them. A slot without a name is written as nothing.
+/// `if`, `then`, `else` and a comma, and parentheses exactly where the grammar needs them. A slot without a name is written as nothing.
 pub fn put_formula(out: &mut Vec<u8>, wired: &Wired) -> Result<(), NoMemory>
     ensures { OnOk result (out.new.items ≡ out.old.items ++ text_of_wiring wired.now) }
 {
     put_at(out, &wired.names, &wired.formula, CHOICE)
+}
+
+/// The same of a formula whose slots have these names.
+pub fn put_formula_of(out: &mut Vec<u8>, names: &[Name], formula: &Formula) -> Result<(), NoMemory>
+    ensures { OnOk result (out.new.items ≡ out.old.items ++ canonical_text (unslotted names.now (tree formula.now))) }
+{
+    put_at(out, names, formula, CHOICE)
 }
 
 fn put_operator(out: &mut Vec<u8>, operator: BinOp) -> Result<(), NoMemory>
@@ -67,14 +75,40 @@ fn close_if(out: &mut Vec<u8>, grouped: bool) -> Result<(), NoMemory>
     Ok(())
 }
 
+// Appends a part of a row.
+fn put_row_part(out: &mut Vec<u8>, name: &[u8]) -> Result<(), NoMemory>
+    ensures { OnOk result (out.new.items ≡ out.old.items ++ written (it_dot name.now)) }
+{
+    out.extend_from_slice(b"it.")?;
+    out.extend_from_slice(name)?;
+    Ok(())
+}
+
+// Appends what stands before a formula, and the formula.
+#[cycle(writing)]
+fn put_behind(
+    out: &mut Vec<u8>,
+    names: &[Name],
+    before: &[u8],
+    formula: &Formula,
+) -> Result<(), NoMemory>
+    ensures { OnOk result (out.new.items ≡ out.old.items ++ (before.now ++ written (minimal 0 (unslotted names.now (tree formula.now))))) }
+{
+    out.extend_from_slice(before)?;
+    put_at(out, names, formula, CHOICE)
+}
+
 // Appends a formula at a place that asks for a rule.
 #[tactic(auto, using(crate::proofs::Minimal::written_grouped))]
+#[cycle(writing)]
 fn put_at(out: &mut Vec<u8>, names: &[Name], formula: &Formula, asked: u8) -> Result<(), NoMemory>
     ensures { OnOk result (out.new.items ≡ out.old.items ++ written (minimal asked (unslotted names.now (tree formula.now)))) }
 {
     match formula {
         Formula::Lit(scalar) => put_scalar(out, scalar),
         Formula::Slot(slot) => put_slot(out, names, *slot),
+        Formula::It(field) => put_row_part(out, field.as_str().as_bytes()),
+        Formula::ItKey => put_row_part(out, b"key"),
         Formula::Not(inner) => {
             open_if(out, NEGATION < asked)?;
             out.extend_from_slice(b"not ")?;
@@ -92,19 +126,28 @@ fn put_at(out: &mut Vec<u8>, names: &[Name], formula: &Formula, asked: u8) -> Re
         }
         Formula::If(test, held, other) => {
             open_if(out, CHOICE < asked)?;
-            out.extend_from_slice(b"if ")?;
-            put_at(out, names, test, CHOICE)?;
-            out.extend_from_slice(b" then ")?;
-            put_at(out, names, held, CHOICE)?;
-            out.extend_from_slice(b" else ")?;
-            put_at(out, names, other, CHOICE)?;
+            put_behind(out, names, b"if ", test)?;
+            put_behind(out, names, b" then ", held)?;
+            put_behind(out, names, b" else ", other)?;
             close_if(out, CHOICE < asked)
         }
+        Formula::Count(rows) => {
+            put_behind(out, names, b"count(", rows)?;
+            close_if(out, true)
+        }
+        Formula::Sum(rows, part) => {
+            put_behind(out, names, b"sum(", rows)?;
+            put_behind(out, names, b", ", part)?;
+            close_if(out, true)
+        }
+        Formula::Keep(rows, test) => {
+            put_behind(out, names, b"keep(", rows)?;
+            put_behind(out, names, b", ", test)?;
+            close_if(out, true)
+        }
         Formula::Untrack(inner) => {
-            out.extend_from_slice(b"untrack(")?;
-            put_at(out, names, inner, CHOICE)?;
-            out.extend_from_slice(b")")?;
-            Ok(())
+            put_behind(out, names, b"untrack(", inner)?;
+            close_if(out, true)
         }
     }
 }

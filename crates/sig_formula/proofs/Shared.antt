@@ -2,3 +2,5 @@
 
 -- a formula asks only for slots of its own that aren't known
 pub use Rattle.sig_formula.proofs.Asking.{asks_askable, formula_asks}
+-- a formula that speaks of no given row answers the same whatever row there is
+pub use Rattle.sig_formula.proofs.Aside.{rows_aside}

@@ -1,16 +1,21 @@
 -- What a formula answers to the values known so far: the first slot that it needs, its value, or a fault.
-use Rattle.std.specs.Prelude.{ℕ, ℤ, pos, negsuc, int_div, int_rem, ◌+ℤ◌, ◌-ℤ◌, ◌*ℤ◌, ◌^◌, ◌==◌, Bool, true, false, not, List, [], ◌∷◌, ◌++◌, Option, Some, None, option_map, length, nat_le, nat_lt, if◌then◌else◌}
+use Rattle.std.specs.Prelude.{ℕ, ℤ, pos, negsuc, int_div, int_rem, ◌+◌, ◌+ℤ◌, ◌-ℤ◌, ◌*ℤ◌, ◌^◌, ◌==◌, Bool, true, false, not, List, [], ◌∷◌, ◌++◌, Option, Some, None, option_map, option_and_then, length, nat_le, nat_lt, if◌then◌else◌}
 use Rattle.std.specs.Bool.{beq}
+use Rattle.std.specs.List.{position, slice_get}
 use Rattle.std.specs.Option.{option_or}
 use Rattle.std.specs.Cmp.Lexicographic.{slice_cmp}
 use Rattle.std.specs.Ordering.{int_cmp, int_eq, nat_cmp, is_lt, is_le, is_gt, is_ge}
 use Rattle.std.specs.Str.{bytes_eq}
 use Rattle.std.specs.declared.cmp.Ordering.{Ordering}
+use Rattle.sig_base.specs.Tables.{Table, marked}
 use Rattle.sig_base.specs.Values.{scalar_value, shown}
+use Rattle.sig_base.specs.declared.rows.Row.{Row}
+use Rattle.sig_base.specs.declared.scalar.Scalar.{Scalar}
+use Rattle.sig_base.specs.declared.scalar.Scalar.TheVariants as scalar
 use Rattle.sig_base.specs.declared.limits.TheConstants.{MOST_TEXT}
 use Rattle.sig_base.specs.declared.value.Value.{Value}
 use Rattle.sig_base.specs.declared.value.Value.TheVariants as value
-use Rattle.sig_base.specs.declared.value.Fault.TheVariants.{Overflow, Zero, Kind, Long}
+use Rattle.sig_base.specs.declared.value.Fault.TheVariants.{Overflow, Zero, Kind, Long, Absent}
 use Rattle.sig_base.specs.declared.value.Known.{Known}
 use Rattle.sig_base.specs.declared.value.Outcome.{Outcome}
 use Rattle.sig_base.specs.declared.value.Outcome.TheVariants.{Good, Bad}
@@ -21,7 +26,7 @@ use Rattle.sig_formula.specs.declared.formula.BinOp.TheVariants as op
 use Rattle.sig_formula.specs.declared.formula.RowRef.{RowRef}
 use Rattle.sig_formula.specs.declared.evaluate.FormulaStep.{FormulaStep}
 use Rattle.sig_formula.specs.declared.evaluate.FormulaStep.TheVariants.{Ask, End}
-use Rattle.sig_formula.specs.Trees.{Tree, literal, slot, negation, binary, choice, untracked}
+use Rattle.sig_formula.specs.Trees.{Tree, literal, slot, row_field, row_key, negation, binary, choice, count_of, sum_of, rows_where, untracked}
 
 -- the value of a slot, where it is known
 abbrev pub known_at : ℕ → List Known → Option Value
@@ -139,18 +144,79 @@ abbrev pub slot_step : Bool → ℕ → Option Value → FormulaStep
 slot_step tracking n None = Ask n tracking
 slot_step tracking n (Some v) = End (Good v)
 
+-- ---- rows
+
+-- the value of the field with a name
+abbrev pub value_under : List ℕ → List (List ℕ) → List Scalar → Option Scalar
+value_under f fields values = option_and_then (λ (at : ℕ). slice_get values at) (position (λ g. bytes_eq g f) fields)
+
+-- the row at a place
+abbrev pub row_at : Table → ℕ → Option RowRef
+row_at t n = Some (record { rows = t; place = n })
+
+-- a scalar, which is absent where there is none
+abbrev pub present : Option Scalar → Outcome
+present None = Bad Absent
+present (Some s) = Good (scalar_value s)
+
+-- the field of a row; it is absent where the rows have no field of this name
+abbrev pub field_outcome : List ℕ → Option RowRef → Outcome
+field_outcome f None = Bad Absent
+field_outcome f (Some r) = present (option_and_then (λ (x : Row). value_under f r.rows.fields x.values) (slice_get r.rows.rows r.place))
+
+-- the key of a row
+abbrev pub key_outcome : Option RowRef → Outcome
+key_outcome None = Bad Absent
+key_outcome (Some r) = present (option_map (λ (x : Row). scalar.Text x.key) (slice_get r.rows.rows r.place))
+
+-- how many rows there are
+abbrev pub count_outcome : Value → Outcome
+count_outcome (value.Rows t) = Good (value.Int (pos (length t.rows)))
+count_outcome _ = Bad Kind
+
+-- goes on with rows; a value of another kind ends the formula
+abbrev pub with_rows : Value → (Table → FormulaStep) → FormulaStep
+with_rows (value.Rows t) go = go t
+with_rows _ go = End (Bad Kind)
+
+-- goes on with a truth; a value of another kind ends the formula
+abbrev pub with_truth : Value → (Bool → FormulaStep) → FormulaStep
+with_truth (value.Bool b) go = go b
+with_truth _ go = End (Bad Kind)
+
+-- The parts of the rows from a place on, added one after the other to the sum so far: each is evaluated, has to be a whole number and is
+-- added before the next row's.
+abbrev pub sum_from : (ℕ → FormulaStep) → Value → ℕ → List Row → FormulaStep
+sum_from part sum at [] = End (Good sum)
+sum_from part sum at (r ∷ rs) = with_value (part at) (λ v. with_value (End (calculation op.Add sum v)) (λ next. sum_from part next (at + 1) rs))
+
+-- The rows whose test is true, by the marks so far and the tests from a place on: each is evaluated and has to be a truth before the next
+-- row's.
+abbrev pub kept_from : (ℕ → FormulaStep) → Table → List Bool → ℕ → List Row → FormulaStep
+kept_from test t marks at [] = End (Good (value.Rows (record { fields = t.fields; rows = marked marks t.rows })))
+kept_from test t marks at (r ∷ rs) = with_value (test at) (λ v. with_truth v (λ b. kept_from test t (marks ++ b ∷ []) (at + 1) rs))
+
 -- What a formula answers, by the row that it speaks of and by what was read so far, tracked and untracked. Operands are evaluated from left
--- to right, the right one of `or` and `and` only where the left doesn't decide, and of a choice one branch. What stands in `untrack` is
--- read untracked.
+-- to right, the right one of `or` and `and` only where the left doesn't decide, and of a choice one branch. The second part of `sum` and
+-- `keep` speaks of each of the rows in turn. What stands in `untrack` is read untracked.
 abbrev pub formula_step : Bool → Tree → Option RowRef → List Known → List Known → FormulaStep
 formula_step tracking (literal s) row ts us = End (Good (scalar_value s))
 formula_step tracking (slot n) row ts us = slot_step tracking n (served tracking n ts us)
+formula_step tracking (row_field f) row ts us = End (field_outcome f row)
+formula_step tracking row_key row ts us = End (key_outcome row)
 formula_step tracking (negation a) row ts us = with_value (formula_step tracking a row ts us) (λ v. End (negated v))
 formula_step tracking (binary o a b) row ts us =
     with_value (formula_step tracking a row ts us)
     (λ v. unless_decided (decided o v) (with_value (formula_step tracking b row ts us) (λ w. End (operated o v w))))
 formula_step tracking (choice t a b) row ts us =
     with_value (formula_step tracking t row ts us) (λ v. chosen v (formula_step tracking a row ts us) (formula_step tracking b row ts us))
+formula_step tracking (count_of a) row ts us = with_value (formula_step tracking a row ts us) (λ v. End (count_outcome v))
+formula_step tracking (sum_of a b) row ts us =
+    with_value (formula_step tracking a row ts us)
+    (λ v. with_rows v (λ t. sum_from (λ n. formula_step tracking b (row_at t n) ts us) (value.Int (pos 0)) 0 t.rows))
+formula_step tracking (rows_where a b) row ts us =
+    with_value (formula_step tracking a row ts us)
+    (λ v. with_rows v (λ t. kept_from (λ n. formula_step tracking b (row_at t n) ts us) t [] 0 t.rows))
 formula_step tracking (untracked a) row ts us = formula_step false a row ts us
 
 -- a step without the word on tracking
@@ -158,6 +224,18 @@ abbrev pub plain_step : FormulaStep → Step
 plain_step (Ask s tracked) = Read s
 plain_step (End (Good v)) = Done v
 plain_step (End (Bad e)) = Fail e
+
+-- what the left operand decides, or else what the right one comes to with it
+abbrev pub right_step : Bool → BinOp → Value → Tree → Option RowRef → List Known → List Known → FormulaStep
+right_step tracking o v b row ts us = unless_decided (decided o v) (with_value (formula_step tracking b row ts us) (λ w. End (operated o v w)))
+
+-- the parts of rows, added up: a part speaks of each row in turn
+abbrev pub sum_step : Bool → Table → Tree → List Known → List Known → FormulaStep
+sum_step tracking t b ts us = sum_from (λ n. formula_step tracking b (row_at t n) ts us) (value.Int (pos 0)) 0 t.rows
+
+-- the rows that are kept: a test speaks of each row in turn
+abbrev pub keep_step : Bool → Table → Tree → List Known → List Known → FormulaStep
+keep_step tracking t b ts us = kept_from (λ n. formula_step tracking b (row_at t n) ts us) t [] 0 t.rows
 
 -- the answer of a formula where nothing is tracked apart, by the row that it speaks of and the values of slots that are known
 abbrev pub answer_of : Tree → Option RowRef → List Known → Step

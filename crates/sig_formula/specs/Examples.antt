@@ -1,16 +1,18 @@
 -- Each operator at its edges: what formulas answer, by computing the definition.
 use Rattle.std.specs.Prelude.{◌≡◌, ℕ, ℤ, pos, negsuc, ◌-◌, ◌^◌, Bool, true, false, List, [], ◌∷◌, ◌++◌, map, codes, replicate, None}
 use Rattle.std.proofs.Common.{refl}
+use Rattle.sig_base.specs.Tables.{Table}
+use Rattle.sig_base.specs.declared.rows.Row.{Row}
 use Rattle.sig_base.specs.declared.scalar.Scalar.TheVariants as scalar
 use Rattle.sig_base.specs.declared.value.Value.TheVariants as value
-use Rattle.sig_base.specs.declared.value.Fault.TheVariants.{Overflow, Zero, Kind, Long}
+use Rattle.sig_base.specs.declared.value.Fault.TheVariants.{Overflow, Zero, Kind, Long, Absent}
 use Rattle.sig_base.specs.declared.value.Known.{Known}
 use Rattle.sig_base.specs.declared.value.Step.{Step}
 use Rattle.sig_base.specs.declared.value.Step.TheVariants.{Read, Done, Fail}
-use Rattle.sig_formula.specs.Answering.{answer_of}
+use Rattle.sig_formula.specs.Answering.{answer_of, row_at}
 use Rattle.sig_formula.specs.declared.formula.BinOp.{BinOp}
 use Rattle.sig_formula.specs.declared.formula.BinOp.TheVariants.{Or, And, Eq, Ne, Lt, Le, Gt, Ge, Join, Add, Sub, Mul, Div, Rem}
-use Rattle.sig_formula.specs.Trees.{Tree, literal, slot, negation, binary, choice, untracked}
+use Rattle.sig_formula.specs.Trees.{Tree, literal, slot, negation, binary, choice, count_of, sum_of, rows_where, untracked, row_field, row_key}
 
 -- the answer of a formula that knows nothing
 abbrev pub alone : Tree → Step
@@ -217,3 +219,89 @@ negations = refl
 pub slots : map (λ (t : Tree). answer_of t None known) (binary Mul (untracked (slot 2)) (slot 2) ∷ slot 1 ∷ slot 0 ∷ negation (slot 0) ∷ choice (slot 0) by_zero by_zero ∷ [])
     ≡ int (pos 49) ∷ Read 1 ∷ Done (value.Rows (record { fields = []; rows = [] })) ∷ Fail Kind ∷ Fail Kind ∷ []
 slots = refl
+
+-- ---- rows
+
+-- a row of one whole number
+abbrev pub row : List ℕ → ℤ → Row
+row k n = record { key = k; values = scalar.Int n ∷ [] }
+
+-- rows with the field `n`
+abbrev pub table : List Row → Table
+table rs = record { fields = codes "n" ∷ []; rows = rs }
+
+-- the rows `a` with 1 and `b` with 2
+abbrev pub two_rows : Table
+two_rows = table (row (codes "a") (pos 1) ∷ row (codes "b") (pos 2) ∷ [])
+
+-- no rows under the slot 0, these under the slot 1, and under the slot 2 rows whose partial sum leaves 64 bits
+abbrev pub with_tables : List Known
+with_tables =
+    record { slot = 0; value = value.Rows (table []) } ∷ record { slot = 1; value = value.Rows two_rows }
+    ∷ record { slot = 2; value = value.Rows (table (row (codes "a") most ∷ row (codes "b") (pos 1) ∷ row (codes "c") minus_one ∷ [])) } ∷ []
+
+-- the answers of formulas that know these
+abbrev pub over_tables : List Tree → List Step
+over_tables ts = map (λ (t : Tree). answer_of t None with_tables) ts
+
+-- the field `n` of the present row
+abbrev pub field : Tree
+field = row_field (codes "n")
+
+-- whether the present row is `a`
+abbrev pub is_first : Tree
+is_first = binary Eq row_key (text (codes "a"))
+
+-- rows are counted, and nothing else
+pub counts : over_tables (count_of (slot 0) ∷ count_of (slot 1) ∷ count_of (number (pos 1)) ∷ count_of (slot 3) ∷ count_of by_zero ∷ [])
+    ≡ int (pos 0) ∷ int (pos 2) ∷ Fail Kind ∷ Read 3 ∷ Fail Zero ∷ []
+counts = refl
+
+-- a field of each row is added; a part that is no whole number is of the wrong kind, and so is what is no rows
+pub sums_of_rows : over_tables (sum_of (slot 1) field ∷ sum_of (slot 1) (number (pos 5)) ∷ sum_of (slot 1) row_key ∷ sum_of (number (pos 1)) (slot 3) ∷ [])
+    ≡ int (pos 3) ∷ int (pos 10) ∷ Fail Kind ∷ Fail Kind ∷ []
+sums_of_rows = refl
+
+-- a partial sum that leaves 64 bits ends the formula, also where later rows would lead back
+pub partial_sums : over_tables (sum_of (slot 2) field ∷ []) ≡ Fail Overflow ∷ []
+partial_sums = refl
+
+-- the rows whose test is true are kept, in order
+pub kept_rows : over_tables (rows_where (slot 1) is_first ∷ rows_where (slot 1) (truth true) ∷ rows_where (slot 1) (truth false) ∷ [])
+    ≡ Done (value.Rows (table (row (codes "a") (pos 1) ∷ []))) ∷ Done (value.Rows two_rows) ∷ Done (value.Rows (table [])) ∷ []
+kept_rows = refl
+
+-- a test that is no truth is of the wrong kind, and so is what is no rows
+pub kept_kinds : over_tables (rows_where (slot 1) field ∷ rows_where (truth true) (slot 3) ∷ rows_where (slot 3) (truth true) ∷ [])
+    ≡ Fail Kind ∷ Fail Kind ∷ Read 3 ∷ []
+kept_kinds = refl
+
+-- of no rows nothing is evaluated
+pub no_rows : over_tables (sum_of (slot 0) by_zero ∷ rows_where (slot 0) by_zero ∷ [])
+    ≡ int (pos 0) ∷ Done (value.Rows (table [])) ∷ []
+no_rows = refl
+
+-- a row's part is checked before the next row's is evaluated
+pub one_row_first : over_tables
+    (sum_of (slot 1) (choice is_first (truth true) (slot 3)) ∷ rows_where (slot 1) (choice is_first (number (pos 1)) (slot 3))
+    ∷ sum_of (slot 1) (choice is_first (number (pos 1)) (slot 3)) ∷ rows_where (slot 1) (choice is_first (truth true) (slot 3)) ∷ [])
+    ≡ Fail Kind ∷ Fail Kind ∷ Read 3 ∷ Read 3 ∷ []
+one_row_first = refl
+
+-- the fields that rows have, and those that they don't
+pub absent_fields : over_tables (sum_of (slot 1) (row_field (codes "m")) ∷ rows_where (slot 1) (row_field (codes "m")) ∷ [])
+    ≡ Fail Absent ∷ Fail Absent ∷ []
+absent_fields = refl
+
+-- an inner `it` hides an outer one; the first part of an inner form still speaks of the outer row
+pub inner_rows : over_tables
+    (sum_of (slot 1) (binary Mul field (sum_of (slot 1) field)) ∷ sum_of (slot 1) (count_of (rows_where (slot 1) is_first))
+    ∷ sum_of (slot 1) (count_of (rows_where (choice is_first (slot 1) (slot 0)) (truth true))) ∷ [])
+    ≡ int (pos 9) ∷ int (pos 2) ∷ int (pos 2) ∷ []
+inner_rows = refl
+
+-- the row that is given; where none is, there is neither field nor key
+pub given_rows : map (λ (t : Tree). answer_of t (row_at two_rows 1) []) (field ∷ row_key ∷ row_field (codes "m") ∷ [])
+    ++ map alone (field ∷ row_key ∷ [])
+    ≡ int (pos 2) ∷ Done (value.Text (codes "b")) ∷ Fail Absent ∷ Fail Absent ∷ Fail Absent ∷ []
+given_rows = refl

@@ -1,12 +1,15 @@
 // What a formula answers to what was read so far.
 ghost use Rattle.std.specs.Prelude.{◌≡◌, ◌<◌, length, IfOk, IfSome, false};
 ghost use Rattle.std.specs.Option.{option_copied};
-ghost use Rattle.sig_formula.specs.Answering.{answer_of, formula_step, known_at, plain_step, served, slot_step};
+ghost use Rattle.sig_formula.specs.Answering.{answer_of, count_outcome, formula_step, keep_step, known_at, negated, plain_step, right_step, served};
+ghost use Rattle.sig_formula.specs.Answering.{slot_step, sum_step, with_rows, with_value};
+ghost use Rattle.sig_formula.specs.declared.evaluate.FormulaStep.TheVariants.{End};
 ghost use Rattle.sig_formula.specs.Trees.{tree};
 
-use crate::operate::{decided, negated, operated};
-use crate::{Formula, RowRef};
-use sig_base::{Fault, Known, NoMemory, Outcome, Step, Value};
+use crate::operate::{calculation, counted, decided, negated, operated};
+use crate::row::{field_outcome, key_outcome};
+use crate::{BinOp, Formula, RowRef};
+use sig_base::{Fault, Known, NoMemory, Outcome, Rows, Step, Value};
 use std::alloc::Global;
 
 /// What a formula answers: the first slot that it needs and doesn't know, and whether that read is tracked; or what it comes to.
@@ -55,8 +58,9 @@ fn slot_step(tracking: bool, slot: u32, value: Option<Value>) -> FormulaStep
 }
 
 /// What a formula answers to what was read so far, tracked and untracked: the first slot that it needs and doesn't know, its value, or its
-/// first fault. Operands are evaluated from left to right; then their kinds are checked; then the operation is done. Outside of `untrack`
-/// reads are tracked as `tracking` says.
+/// first fault. Operands are evaluated from left to right; then their kinds are checked; then the operation is done. The second part of
+/// `sum` and `keep` is evaluated, checked and used for one row before the next. Outside of `untrack` reads are tracked as `tracking` says.
+#[cycle(evaluating)]
 pub fn formula_step(
     alloc: Global,
     tracking: bool,
@@ -74,25 +78,15 @@ pub fn formula_step(
             let value = served(tracking, *slot, tracked, untracked)?;
             Ok(slot_step(tracking, *slot, value))
         }
-        Formula::Not(inner) => match formula_step(
-            alloc, tracking, inner, row, tracked, untracked,
-        )? {
-            FormulaStep::End(Outcome::Good(value)) => Ok(FormulaStep::End(negated(&value))),
-            other => Ok(other),
-        },
+        Formula::It(field) => Ok(FormulaStep::End(field_outcome(field, row)?)),
+        Formula::ItKey => Ok(FormulaStep::End(key_outcome(row)?)),
+        Formula::Not(inner) => {
+            let step = formula_step(alloc, tracking, inner, row, tracked, untracked)?;
+            Ok(negated_step(step))
+        }
         Formula::Bin(op, left, right) => {
-            match formula_step(alloc, tracking, left, row, tracked, untracked)? {
-                FormulaStep::End(Outcome::Good(first)) => match decided(*op, &first) {
-                    Some(outcome) => Ok(FormulaStep::End(outcome)),
-                    None => match formula_step(alloc, tracking, right, row, tracked, untracked)? {
-                        FormulaStep::End(Outcome::Good(second)) => {
-                            Ok(FormulaStep::End(operated(alloc, *op, first, second)?))
-                        }
-                        other => Ok(other),
-                    },
-                },
-                other => Ok(other),
-            }
+            let left = formula_step(alloc, tracking, left, row, tracked, untracked)?;
+            right_step(alloc, tracking, *op, left, right, row, tracked, untracked)
         }
         Formula::If(test, first, second) => {
             match formula_step(alloc, tracking, test, row, tracked, untracked)? {
@@ -108,8 +102,174 @@ pub fn formula_step(
                 other => Ok(other),
             }
         }
+        Formula::Count(rows) => {
+            let rows = formula_step(alloc, tracking, rows, row, tracked, untracked)?;
+            Ok(counted_step(rows))
+        }
+        Formula::Sum(rows, part) => {
+            let rows = formula_step(alloc, tracking, rows, row, tracked, untracked)?;
+            let sum = sum_step(alloc, tracking, rows, part, tracked, untracked)?;
+            Ok(sum)
+        }
+        Formula::Keep(rows, test) => {
+            let rows = formula_step(alloc, tracking, rows, row, tracked, untracked)?;
+            let kept = keep_step(alloc, tracking, rows, test, tracked, untracked)?;
+            Ok(kept)
+        }
         Formula::Untrack(inner) => formula_step(alloc, false, inner, row, tracked, untracked),
     }
+}
+
+fn negated_step(step: FormulaStep) -> FormulaStep
+    ensures { result ≡ with_value step (λ v. End (negated v)) }
+{
+    match step {
+        FormulaStep::End(Outcome::Good(value)) => FormulaStep::End(negated(&value)),
+        other => other,
+    }
+}
+
+fn counted_step(rows: FormulaStep) -> FormulaStep
+    ensures { result ≡ with_value rows (λ v. End (count_outcome v)) }
+{
+    match rows {
+        FormulaStep::End(Outcome::Good(value)) => FormulaStep::End(counted(&value)),
+        other => other,
+    }
+}
+
+// What the left operand decides, or else what the right one comes to with it.
+#[cycle(evaluating)]
+fn right_step(
+    alloc: Global,
+    tracking: bool,
+    op: BinOp,
+    left: FormulaStep,
+    right: &Formula,
+    row: Option<&RowRef>,
+    tracked: &[Known],
+    untracked: &[Known],
+) -> Result<FormulaStep, NoMemory>
+    requires { IfSome row (λ r. r.now.place < length r.now.rows.rows) }
+    ensures { IfOk result (λ s. s ≡ with_value left
+        (λ v. right_step tracking op v (tree right.now) (option_copied row.entry) tracked.now untracked.now)) }
+{
+    let left = match left {
+        FormulaStep::End(Outcome::Good(value)) => value,
+        other => return Ok(other),
+    };
+    match decided(op, &left) {
+        Some(outcome) => Ok(FormulaStep::End(outcome)),
+        None => match formula_step(alloc, tracking, right, row, tracked, untracked)? {
+            FormulaStep::End(Outcome::Good(value)) => {
+                Ok(FormulaStep::End(operated(alloc, op, left, value)?))
+            }
+            other => Ok(other),
+        },
+    }
+}
+
+// The parts of what must be rows, added up.
+#[cycle(evaluating)]
+fn sum_step(
+    alloc: Global,
+    tracking: bool,
+    rows: FormulaStep,
+    part: &Formula,
+    tracked: &[Known],
+    untracked: &[Known],
+) -> Result<FormulaStep, NoMemory>
+    ensures { IfOk result (λ s. s ≡ with_value rows
+        (λ v. with_rows v (λ t. sum_step tracking t (tree part.now) tracked.now untracked.now))) }
+{
+    match rows {
+        FormulaStep::End(Outcome::Good(Value::Rows(rows))) => {
+            sum_over(alloc, tracking, &rows, part, tracked, untracked)
+        }
+        FormulaStep::End(Outcome::Good(_)) => Ok(FormulaStep::End(Outcome::Bad(Fault::Kind))),
+        other => Ok(other),
+    }
+}
+
+// The parts of the rows, each added before the next row's is evaluated.
+#[cycle(evaluating)]
+fn sum_over(
+    alloc: Global,
+    tracking: bool,
+    rows: &Rows,
+    part: &Formula,
+    tracked: &[Known],
+    untracked: &[Known],
+) -> Result<FormulaStep, NoMemory>
+    ensures { IfOk result (λ s. s ≡ sum_step tracking rows.now (tree part.now) tracked.now untracked.now) }
+{
+    let mut sum = Value::Int(0);
+    for (place, _) in rows.rows().iter().enumerate() {
+        let row = RowRef {
+            rows: rows.copy()?,
+            place,
+        };
+        match formula_step(alloc, tracking, part, Some(&row), tracked, untracked)? {
+            FormulaStep::End(Outcome::Good(value)) => match calculation(BinOp::Add, &sum, &value) {
+                Outcome::Good(next) => sum = next,
+                fault => return Ok(FormulaStep::End(fault)),
+            },
+            other => return Ok(other),
+        }
+    }
+    Ok(FormulaStep::End(Outcome::Good(sum)))
+}
+
+// Of what must be rows, those whose test is true.
+#[cycle(evaluating)]
+fn keep_step(
+    alloc: Global,
+    tracking: bool,
+    rows: FormulaStep,
+    test: &Formula,
+    tracked: &[Known],
+    untracked: &[Known],
+) -> Result<FormulaStep, NoMemory>
+    ensures { IfOk result (λ s. s ≡ with_value rows
+        (λ v. with_rows v (λ t. keep_step tracking t (tree test.now) tracked.now untracked.now))) }
+{
+    match rows {
+        FormulaStep::End(Outcome::Good(Value::Rows(rows))) => {
+            keep_over(alloc, tracking, &rows, test, tracked, untracked)
+        }
+        FormulaStep::End(Outcome::Good(_)) => Ok(FormulaStep::End(Outcome::Bad(Fault::Kind))),
+        other => Ok(other),
+    }
+}
+
+// The rows of which a condition holds, each judged before the next row's is evaluated.
+#[cycle(evaluating)]
+fn keep_over(
+    alloc: Global,
+    tracking: bool,
+    rows: &Rows,
+    condition: &Formula,
+    tracked: &[Known],
+    untracked: &[Known],
+) -> Result<FormulaStep, NoMemory>
+    ensures { IfOk result (λ s. s ≡ keep_step tracking rows.now (tree condition.now) tracked.now untracked.now) }
+{
+    let mut marks = Vec::new(alloc);
+    for (place, _) in rows.rows().iter().enumerate() {
+        let row = RowRef {
+            rows: rows.copy()?,
+            place,
+        };
+        match formula_step(alloc, tracking, condition, Some(&row), tracked, untracked)? {
+            FormulaStep::End(Outcome::Good(Value::Bool(mark))) => marks.push(mark)?,
+            FormulaStep::End(Outcome::Good(_)) => {
+                return Ok(FormulaStep::End(Outcome::Bad(Fault::Kind)));
+            }
+            other => return Ok(other),
+        }
+    }
+    let kept = rows.keep_by(alloc, marks.as_slice())?;
+    Ok(FormulaStep::End(Outcome::Good(Value::Rows(kept))))
 }
 
 /// The same where nothing is tracked apart: what a formula answers to the values known so far.

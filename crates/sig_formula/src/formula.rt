@@ -1,6 +1,6 @@
 // Formulas as trees.
 
-use sig_base::{Rows, Scalar};
+use sig_base::{Name, Rows, Scalar};
 
 /// An operator between two operands.
 #[derive(Clone, Copy, Debug, PartialEq, Eq)]
@@ -27,10 +27,20 @@ pub enum BinOp {
 pub enum Formula {
     Lit(Scalar),
     Slot(u32),
+    /// A field of the row that the formula speaks of.
+    It(Name),
+    /// The key of that row.
+    ItKey,
     Not(Box<Formula>),
     Bin(BinOp, Box<Formula>, Box<Formula>),
     /// A test, and what is evaluated where it is true and where it is false.
     If(Box<Formula>, Box<Formula>, Box<Formula>),
+    /// How many rows there are.
+    Count(Box<Formula>),
+    /// Rows, and what is added up over them: it speaks of each row in turn.
+    Sum(Box<Formula>, Box<Formula>),
+    /// Rows, and what holds of those that are kept: it speaks of each row in turn.
+    Keep(Box<Formula>, Box<Formula>),
     /// A read that isn't tracked; it has the value of what it holds.
     Untrack(Box<Formula>),
 }

@@ -5,7 +5,8 @@ mod evaluate;
 mod formula;
 mod laws;
 mod operate;
+mod row;
 
 pub use evaluate::{FormulaStep, formula_step, step};
 pub use formula::{BinOp, Formula, RowRef};
-pub use laws::formulas_ask_own_unknown_slots;
+pub use laws::{formulas_ask_own_unknown_slots, rows_are_asked_by_it_alone};

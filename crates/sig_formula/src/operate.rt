@@ -1,7 +1,7 @@
 // What operators make of their operands.
 ghost use Rattle.std.specs.Prelude.{◌≡◌, IfOk};
 ghost use Rattle.sig_base.specs.Values.{shown};
-ghost use Rattle.sig_formula.specs.Answering.{calculated, calculation, compared, decided, equality, joined, negated, operated, order, text_outcome, truth};
+ghost use Rattle.sig_formula.specs.Answering.{calculated, calculation, compared, count_outcome, decided, equality, joined, negated, operated, order, text_outcome, truth};
 
 use crate::BinOp;
 use sig_base::{Fault, NoMemory, Outcome, Text, TextFault, Value};
@@ -14,6 +14,16 @@ fn truth(value: Value) -> Outcome
 {
     match value {
         Value::Bool(b) => Outcome::Good(Value::Bool(b)),
+        _ => Outcome::Bad(Fault::Kind),
+    }
+}
+
+/// How many rows there are.
+pub fn counted(value: &Value) -> Outcome
+    ensures { result ≡ count_outcome value.now }
+{
+    match value {
+        Value::Rows(rows) => Outcome::Good(Value::Int(rows.rows().len() as i64)),
         _ => Outcome::Bad(Fault::Kind),
     }
 }
@@ -147,8 +157,8 @@ fn remainder(m: i64, n: i64) -> Outcome
     Outcome::Good(Value::Int(m.wrapping_rem(n)))
 }
 
-// What an operator of whole numbers makes of two values.
-fn calculation(op: BinOp, left: &Value, right: &Value) -> Outcome
+/// What an operator of whole numbers makes of two values.
+pub fn calculation(op: BinOp, left: &Value, right: &Value) -> Outcome
     ensures { result ≡ calculation op left.now right.now }
 {
     let (Value::Int(m), Value::Int(n)) = (left, right) else {

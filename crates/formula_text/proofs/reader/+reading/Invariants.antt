@@ -21,5 +21,8 @@ invariant-expr-loop-sign l = record {
 abbrev pub decreases-expr-loop-sign : goal.decreases-expr-loop-sign
 decreases-expr-loop-sign l = length (signs_from l.line l.tokens l.rest)
 
-abbrev pub decreases-untrack : goal.decreases-untrack
-decreases-untrack l = 3 * length (signs_from l.line.now l.tokens.now l.at) + 3
+abbrev pub decreases-each_row : goal.decreases-each_row
+decreases-each_row l = 3 * length (signs_from l.line.now l.tokens.now l.at) + 3
+
+abbrev pub decreases-one_part : goal.decreases-one_part
+decreases-one_part l = 3 * length (signs_from l.line.now l.tokens.now l.at) + 3
