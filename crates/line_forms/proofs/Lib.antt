@@ -1,4 +1,6 @@
+mod Blocks
 mod Completing
+mod Listed
 mod Longest
 mod NameBytes
 mod OneLine
@@ -6,5 +8,7 @@ mod Printable
 mod Printing
 mod Reprinting
 mod Sounding
+mod Spacing
+mod Tags
 mod Values
 pub mod Shared

@@ -1,5 +1,5 @@
 -- The longest formula is what is read.
-use Rattle.std.proofs.Common.{◌≡◌, ◌<◌, ℕ, ◌-◌, List, length, take, drop, Option, Some, None, option_map, refl, sym, ap, subst, ◌∙◌, arith}
+use Rattle.std.proofs.Common.{◌≡◌, ◌<◌, false, ℕ, ◌-◌, List, length, take, drop, Option, Some, None, option_map, refl, sym, ap, subst, ◌∙◌, arith}
 use Rattle.std.specs.Prelude.{Ok, Err}
 use Rattle.std.proofs.lemmas.List.{drop-drop, drop-map}
 use Rattle.sig_words.specs.declared.token.Token.{Token}
@@ -13,7 +13,9 @@ use Rattle.formula_text.specs.Wiring.{Wiring, wired, IsRead, ReadsNone, IsCause,
 use Rattle.formula_text.specs.declared.rough.Rough.{Rough}
 use Rattle.formula_text.specs.Rough.{draft}
 use Rattle.formula_text.proofs.Shared.{expr_sound, longest, has_none, one_formula}
-use Rattle.line_forms.specs.Reading.{left_of, read_formula}
+use Rattle.formula_text.specs.Judging.{has_row_form}
+use Rattle.line_forms.specs.Forms.{formula, plain}
+use Rattle.line_forms.specs.Reading.{left_of, read_formula, read_part}
 use Rattle.line_forms.specs.Told.{ahead, IsToldFormula}
 use Rattle.formula_text.specs.declared.wired.Allow.{Allow}
 use Rattle.line_forms.proofs.Sounding.{split_signs}
@@ -44,32 +46,19 @@ none_read ls none = at (expr (length ls) 0 (signs ls)) refl
         let m = longest (length ls) ls r k (omega arith) e (sym (split_signs ls (spelled took.form) r.2 took.tokens)) (omega arith) in
         absurd (none k r.0 m.spells)
 
-pub cause : (allow : Allow) (x : Draft) (why : FormulaFault) → IsCause allow x why → ((e : _) → why ≡ fault.NoMemory e → ⊥) → refusal allow x ≡ Some why
-cause allow x fault.Syntax h none = h
-cause allow x fault.UntrackHere h none = h
-cause allow x fault.Nest h none = h
-cause allow x fault.TextLong h none = h
-cause allow x fault.Sources h none = h
-cause allow x (fault.NoMemory e) h none = absurd (none e refl)
-
 -- ---- from a place on
 
 pub nothing_ahead : (line : List ℕ) (ts : List Token) (at : ℕ) → ReadsNone line ts at → read_formula (ahead line ts at) ≡ None
 unfolding ahead
 nothing_ahead line ts at none = none_read (lexemes line (drop at ts)) none
 
-read_ahead : (line : List ℕ) (ts : List Token) (at to : ℕ) (rough : Rough) → IsRead line ts at to rough → read_formula (ahead line ts at) ≡ Some (draft line ts rough, ahead line ts to)
+pub read_ahead : (line : List ℕ) (ts : List Token) (at to : ℕ) (rough : Rough) → IsRead line ts at to rough → read_formula (ahead line ts at) ≡ Some (draft line ts rough, ahead line ts to)
 unfolding ahead
 read_ahead line ts at to rough r =
     let ahead_of : at < to = r.reads.0 in
     let behind : drop (to - at) (lexemes line (drop at ts)) ≡ lexemes line (drop to ts) = drop-map (lexeme line) (to - at) (drop at ts) ∙ ap (lexemes line) (drop-drop (to - at) at ts ∙ ap (λ (k : ℕ). drop k ts) (omega arith)) in
     longest_read (lexemes line (drop at ts)) (to - at) (draft line ts rough) r.reads.2 ∙ ap (λ (rest : List Lexeme). Some (draft line ts rough, rest)) behind
 
-pub wired_ahead : (line : List ℕ) (ts : List Token) (allow : Allow) (at to : ℕ) (rough : Rough) (w : Wiring) → IsRead line ts at to rough → w ≡ wired (draft line ts rough)
-    → refusal allow (draft line ts rough) ≡ None → (f : Draft) × (read_formula (ahead line ts at) ≡ Some (f, ahead line ts to)) × IsToldFormula allow f (Ok w)
-wired_ahead line ts allow at to rough w r is good = (draft line ts rough, read_ahead line ts at to rough r, (is, good))
-
-pub fault_ahead : (line : List ℕ) (ts : List Token) (allow : Allow) (at to : ℕ) (rough : Rough) (why : FormulaFault) → IsRead line ts at to rough
-    → IsCause allow (draft line ts rough) why → ((e : _) → why ≡ fault.NoMemory e → ⊥)
-    → (f : Draft) × (read_formula (ahead line ts at) ≡ Some (f, ahead line ts to)) × IsToldFormula allow f (Err why)
-fault_ahead line ts allow at to rough why r is none = (draft line ts rough, read_ahead line ts at to rough r, cause allow (draft line ts rough) why is none)
+-- a formula that doesn't speak of rows is read where none may
+pub plain_read : (ls rest : List Lexeme) (f : Draft) → read_formula ls ≡ Some (f, rest) → has_row_form f ≡ false → read_part (formula plain) ls ≡ Some (f, rest)
+plain_read ls rest f e h = rw (e, h) refl

@@ -14,11 +14,15 @@ use Rattle.sig_formula.specs.declared.formula.BinOp.TheVariants as op
 use Rattle.sig_words.specs.Lexemes.{Lexeme, word, tag, number, literal, symbol}
 use Rattle.sig_words.specs.Tokens.{is_one, is_two, IsSymbol}
 use Rattle.sig_words.proofs.Shared.{IsNumeric, numeric}
-use Rattle.formula_text.specs.Canonical.{leaf_text, minimal, operator_text, written}
-use Rattle.formula_text.specs.Grammar.{Draft, leaf, negation, binary, choice, untracked, Written, group, negated, chain, pick, level, before}
+use Rattle.formula_text.specs.Canonical.{around_text, over_text, leaf_text, minimal, operator_text, written}
+use Rattle.formula_text.specs.Grammar.{Draft, leaf, negation, binary, choice, of_row, one_part, each_row, Written, group, negated, chain, pick, level, before}
+use Rattle.formula_text.specs.declared.rough.Around.{Around}
+use Rattle.formula_text.specs.declared.rough.Around.TheVariants as forms
+use Rattle.formula_text.specs.declared.rough.OverRows.{OverRows}
+use Rattle.formula_text.specs.declared.rough.OverRows.TheVariants as over
 use Rattle.formula_text.specs.Rereading.{IsPrintable, IsPrintableLeaf}
 use Rattle.formula_text.specs.Signs.{Leaf, name, constant}
-use Rattle.line_forms.specs.Forms.{Part, one, perhaps, many, listed, formula, Form, fixed, part, Holds, Args, token_of}
+use Rattle.line_forms.specs.Forms.{Part, name as a_name, one, perhaps, many, listed, arguments, formula, Form, fixed, part, Holds, Args, token_of}
 use Rattle.line_forms.specs.Printed.{token_text, spaced, opened_tokens, part_text, form_text}
 use Rattle.line_forms.proofs.NameBytes.{name_word}
 use Rattle.line_forms.proofs.Printable.{IsWritten, AreWritten, PrintsPart, PrintsForm}
@@ -128,6 +132,14 @@ operator_line : (o : BinOp) → is_line (operator_text o) ≡ true
 operator_line op.Or = refl
 operator_line _ = refl
 
+around_line : (f : Around) → is_line (around_text f) ≡ true
+around_line forms.Count = refl
+around_line forms.Untrack = refl
+
+over_line : (f : OverRows) → is_line (over_text f) ≡ true
+over_line over.Sum = refl
+over_line over.Keep = refl
+
 group_line : (b : Bool) (w : Written) → is_line (written w) ≡ true → is_line (written (cond b (group w) w)) ≡ true
 group_line true w h = joined (written w) (codes ")") h refl
 group_line false w h = h
@@ -145,7 +157,16 @@ written_line asked (choice w x y) h =
     let held = codes " then " ++ (written (minimal 0 x) ++ other) in
     group_line (nat_lt 0 asked) (pick (minimal 0 w) (minimal 0 x) (minimal 0 y))
     (joined (written (minimal 0 w)) held (written_line 0 w h.0) (joined (written (minimal 0 x)) other (written_line 0 x h.1) (written_line 0 y h.2)))
-written_line asked (untracked x) h = joined (written (minimal 0 x)) (codes ")") (written_line 0 x h) refl
+written_line asked (of_row n) h = joined (codes "it.") n refl (word_line n (name_word n h))
+written_line asked (one_part f x) h =
+    let inner = written (minimal 0 x) in
+    joined (around_text f) (codes "(" ++ (inner ++ codes ")")) (around_line f) (joined inner (codes ")") (written_line 0 x h) refl)
+written_line asked (each_row f x y) h =
+    let rows = written (minimal 0 x) in
+    let part = written (minimal 0 y) in
+    let both = rows ++ (codes ", " ++ part) in
+    joined (over_text f) (codes "(" ++ (both ++ codes ")")) (over_line f)
+    (joined both (codes ")") (joined rows (codes ", " ++ part) (written_line 0 x h.0) (written_line 0 y h.1)) refl)
 
 -- ---- lines
 
@@ -159,7 +180,8 @@ part_line (perhaps w o) None p = refl
 part_line (perhaps w o) (Some v) p = spaced_line (word w ∷ token_of o v ∷ []) (p.0, (p.2, tt))
 part_line (many o) vs p = spaced_line (map (token_of o) vs) (each_written o vs p)
 part_line (listed o) vs p = spaced_line (symbol (codes "(") ∷ opened_tokens o vs) (open_written, opened_written o vs p)
-part_line formula f p = written_line 0 f p
+part_line arguments ns p = spaced_line (symbol (codes "(") ∷ opened_tokens a_name ns) (open_written, opened_written a_name ns p.0)
+part_line (formula k) f p = written_line 0 f p.0
 
 form_line : (ps : Form) (a : Args ps) → PrintsForm ps a → is_line (form_text ps a) ≡ true
 form_line [] a p = refl

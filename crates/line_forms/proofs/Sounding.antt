@@ -10,11 +10,11 @@ use Rattle.std.proofs.Math.Seq.{drop-append_seam}
 use Rattle.sig_base.specs.Words.{is_name}
 use Rattle.sig_words.specs.Lexemes.{Lexeme, word, tag, number, literal, symbol}
 use Rattle.formula_text.specs.Signs.{Sign, signs, sign}
-use Rattle.formula_text.specs.Grammar.{spelled}
+use Rattle.formula_text.specs.Grammar.{IsFormula, spelled}
 use Rattle.formula_text.specs.Reading.{Part as Run, expr}
 use Rattle.formula_text.proofs.Shared.{Took as TookSigns, expr_sound}
-use Rattle.line_forms.specs.Forms.{One, name, value, key, count, tagged, Part, one, perhaps, many, listed, formula, fixed, part, Form, Of, Says, SayEach, SayBehind, SayListed, SayPerhaps, SpellsPart, SpellsForm}
-use Rattle.line_forms.specs.Reading.{same, scalar_of, name_of, key_of, count_of, tag_of, one_of, there, read_one, read_perhaps, each_of, with_first, read_behind, read_opened, read_listed, left_of, read_formula, read_part, read_fixed, read_form}
+use Rattle.line_forms.specs.Forms.{One, name, value, key, count, tagged, Part, one, perhaps, many, listed, arguments, formula, Formulas, may_have, fixed, part, Form, Of, Says, SayEach, SayBehind, SayListed, SayPerhaps, are_distinct, SpellsPart, SpellsForm}
+use Rattle.line_forms.specs.Reading.{same, scalar_of, name_of, key_of, count_of, tag_of, one_of, there, read_one, read_perhaps, each_of, with_first, read_behind, read_opened, read_listed, if_allowed, if_distinct, left_of, read_formula, read_part, read_fixed, read_form}
 use Rattle.line_forms.specs.Rows.{Line, Table, rows_of, all_begin, each_begins, Said, Spells, first_of, said_of}
 
 -- ---- what is there, if anything is
@@ -160,6 +160,11 @@ listed_took o (l ∷ ls) =
     lift None h e = tt
     lift (Some r) t e = (symbol (codes "(") ∷ t.0, rw e (ap (λ (ks : List Lexeme). symbol (codes "(") ∷ ks) t.1), (t.0, refl, t.2))
 
+arguments_took : (ls : List Lexeme) → IfSome (read_part arguments ls) (Took (SpellsPart arguments) ls)
+arguments_took ls =
+    if_then (read_listed name ls) if_distinct (Took (SpellsPart (listed name)) ls) (Took (SpellsPart arguments) ls) (listed_took name ls)
+    (λ r t. if_either (are_distinct r.0) (Some r) None (Took (SpellsPart arguments) ls) (λ h. (t.0, t.1, (t.2, h))) (λ _. tt))
+
 -- signs of tokens that are split are those of a split of the tokens
 pub split_signs : (ls : List Lexeme) (a b : List Sign) → signs ls ≡ a ++ b → signs (drop (length ls - length b) ls) ≡ b
 split_signs ls a b e =
@@ -173,7 +178,7 @@ front_signs ls a b e =
     let n = length ls - length b in
     append_cancel_right _ _ b (ap (λ (ss : List Sign). signs (take n ls) ++ ss) (sym (split_signs ls a b e)) ∙ sym (map-append sign (take n ls) (drop n ls)) ∙ ap signs (take-append-drop n ls) ∙ e)
 
-formula_took : (ls : List Lexeme) → IfSome (read_formula ls) (Took (SpellsPart formula) ls)
+formula_took : (ls : List Lexeme) → IfSome (read_formula ls) (Took (λ f own. IsFormula own f) ls)
 unfolding read_formula
 formula_took ls = if_mapped (expr (length ls) 0 (signs ls)) (left_of ls) (TookSigns 0 (signs ls)) _ (sound (expr (length ls) 0 (signs ls)) refl) (λ r t. (
   take (length ls - length r.2) ls,
@@ -185,12 +190,18 @@ formula_took ls = if_mapped (expr (length ls) 0 (signs ls)) (left_of ls) (TookSi
     sound None e = tt
     sound (Some r) e = expr_sound (length ls) 0 (signs ls) r (omega arith) e
 
+allowed_took : (k : Formulas) (ls : List Lexeme) → IfSome (read_part (formula k) ls) (Took (SpellsPart (formula k)) ls)
+allowed_took k ls =
+    if_then (read_formula ls) (if_allowed k) (Took (λ f own. IsFormula own f) ls) (Took (SpellsPart (formula k)) ls) (formula_took ls)
+    (λ r t. if_either (may_have k r.0) (Some r) None (Took (SpellsPart (formula k)) ls) (λ h. (t.0, t.1, (t.2, h))) (λ _. tt))
+
 pub part_took : (p : Part) (ls : List Lexeme) → IfSome (read_part p ls) (Took (SpellsPart p) ls)
 part_took (one o) ls = one_took o ls
 part_took (perhaps w o) ls = perhaps_took w o ls
 part_took (many o) ls = many_took o ls
 part_took (listed o) ls = listed_took o ls
-part_took formula ls = formula_took ls
+part_took arguments ls = arguments_took ls
+part_took (formula k) ls = allowed_took k ls
 
 -- ---- lines
 

@@ -1,10 +1,13 @@
 -- What stands behind the first word of a line, as data, and which tokens spell it.
-use Rattle.std.specs.Prelude.{◌≡◌, ℕ, pos, Bool, true, false, List, [], ◌∷◌, ◌++◌, Option, Some, None, codes, IsTrue}
+use Rattle.std.specs.Prelude.{◌≡◌, ℕ, pos, Bool, true, false, ◌&&◌, not, List, [], ◌∷◌, ◌++◌, Option, Some, None, codes, IsTrue}
+use Rattle.std.specs.List.{list_any}
+use Rattle.std.specs.Str.{bytes_eq}
 use Rattle.sig_base.specs.declared.scalar.Scalar.{Scalar}
 use Rattle.sig_base.specs.declared.scalar.Scalar.TheVariants as scalar
 use Rattle.sig_base.specs.Words.{is_name}
 use Rattle.sig_words.specs.Lexemes.{Lexeme, word, tag, number, literal, symbol}
 use Rattle.formula_text.specs.Grammar.{Draft, IsFormula}
+use Rattle.formula_text.specs.Judging.{has_row_form}
 
 -- what one token says
 pub data One : Type 0 where
@@ -18,6 +21,13 @@ pub data One : Type 0 where
   -- a name behind @
   tagged : One
 
+-- which formulas a line may have
+pub data Formulas : Type 0 where
+  -- those that don't speak of rows
+  plain : Formulas
+  -- all
+  over_rows : Formulas
+
 -- a part of a line that says something
 pub data Part : Type 0 where
   -- one token
@@ -28,8 +38,10 @@ pub data Part : Type 0 where
   many : One → Part
   -- tokens between parentheses, with commas between them
   listed : One → Part
+  -- names between parentheses, with commas between them, none of them twice
+  arguments : Part
   -- the longest formula
-  formula : Part
+  formula : Formulas → Part
 
 -- a piece of a line: this very token, or a part
 pub data Piece : Type 0 where
@@ -52,7 +64,8 @@ Holds (one o) = Of o
 Holds (perhaps w o) = Option (Of o)
 Holds (many o) = List (Of o)
 Holds (listed o) = List (Of o)
-Holds formula = Draft
+Holds arguments = List (List ℕ)
+Holds (formula k) = Draft
 
 -- what a line of this form says, part by part
 abbrev pub Args : Form → Type 0
@@ -80,6 +93,11 @@ abbrev pub is_good : (o : One) → Of o → Bool
 is_good name n = is_name n
 is_good _ v = true
 
+-- whether a line may have this formula
+abbrev pub may_have : Formulas → Draft → Bool
+may_have plain f = not (has_row_form f)
+may_have over_rows f = true
+
 -- this token says it
 pub record Says (o : One) (v : Of o) (l : Lexeme) : Type 0 where
   pub written : l ≡ token_of o v
@@ -100,6 +118,15 @@ abbrev pub SayListed : (o : One) → List (Of o) → List Lexeme → Type 0
 SayListed o [] ls = ls ≡ symbol (codes ")") ∷ []
 SayListed o (v ∷ vs) ls = (l : Lexeme) × (rest : List Lexeme) × (ls ≡ l ∷ rest) × Says o v l × SayBehind o vs rest
 
+-- a list between parentheses
+abbrev pub SayEnclosed : (o : One) → List (Of o) → List Lexeme → Type 0
+SayEnclosed o vs ls = (rest : List Lexeme) × (ls ≡ symbol (codes "(") ∷ rest) × SayListed o vs rest
+
+-- no name stands there twice
+abbrev pub are_distinct : List (List ℕ) → Bool
+are_distinct [] = true
+are_distinct (n ∷ ns) = not (list_any (bytes_eq n) ns) && are_distinct ns
+
 -- nothing, or the word and its token
 abbrev pub SayPerhaps : List ℕ → (o : One) → Option (Of o) → List Lexeme → Type 0
 SayPerhaps w o None ls = ls ≡ []
@@ -110,8 +137,9 @@ abbrev pub SpellsPart : (p : Part) → Holds p → List Lexeme → Type 0
 SpellsPart (one o) v ls = (l : Lexeme) × (ls ≡ l ∷ []) × Says o v l
 SpellsPart (perhaps w o) v ls = SayPerhaps w o v ls
 SpellsPart (many o) vs ls = SayEach o vs ls
-SpellsPart (listed o) vs ls = (rest : List Lexeme) × (ls ≡ symbol (codes "(") ∷ rest) × SayListed o vs rest
-SpellsPart formula f ls = IsFormula ls f
+SpellsPart (listed o) vs ls = SayEnclosed o vs ls
+SpellsPart arguments ns ls = SayEnclosed name ns ls × IsTrue (are_distinct ns)
+SpellsPart (formula k) f ls = IsFormula ls f × IsTrue (may_have k f)
 
 -- these tokens spell a line of this form, behind its first word
 abbrev pub SpellsForm : (ps : Form) → Args ps → List Lexeme → Type 0

@@ -5,7 +5,7 @@ use Rattle.sig_base.specs.Printing.{printed_scalar}
 use Rattle.sig_base.specs.declared.scalar.Scalar.TheVariants as scalar
 use Rattle.sig_words.specs.Lexemes.{Lexeme, word, tag, number, literal, symbol}
 use Rattle.formula_text.specs.Canonical.{canonical_text}
-use Rattle.line_forms.specs.Forms.{One, Part, one, perhaps, many, listed, formula, Form, fixed, part, Of, Holds, Args, token_of}
+use Rattle.line_forms.specs.Forms.{One, Part, one, perhaps, many, listed, arguments, formula, name, Form, fixed, part, Of, Holds, Args, token_of}
 use Rattle.line_forms.specs.Rows.{Line, Said}
 
 -- the bytes of a token
@@ -42,7 +42,8 @@ part_text (one o) v = spaced (token_of o v ∷ [])
 part_text (perhaps w o) v = spaced (perhaps_tokens w o v)
 part_text (many o) vs = spaced (map (token_of o) vs)
 part_text (listed o) vs = spaced (symbol (codes "(") ∷ opened_tokens o vs)
-part_text formula f = 32 ∷ canonical_text f
+part_text arguments ns = spaced (symbol (codes "(") ∷ opened_tokens name ns)
+part_text (formula k) f = 32 ∷ canonical_text f
 
 -- the text of a line behind its first word
 abbrev pub form_text : (ps : Form) → Args ps → List ℕ

@@ -10,8 +10,8 @@ use Rattle.formula_text.specs.Signs.{Sign, signs, sign}
 use Rattle.formula_text.specs.Signs as s
 use Rattle.formula_text.specs.Grammar.{Draft}
 use Rattle.formula_text.specs.Reading.{Part as Run, expr}
-use Rattle.line_forms.specs.Forms.{One, name, value, key, count, tagged, Of, Part, one, perhaps, many, listed, formula, Holds}
-use Rattle.line_forms.specs.Forms.{Form, fixed, part, Args}
+use Rattle.line_forms.specs.Forms.{One, name, value, key, count, tagged, Of, Part, one, perhaps, many, listed, arguments, formula, Holds}
+use Rattle.line_forms.specs.Forms.{are_distinct, may_have, Formulas, Form, fixed, part, Args}
 
 -- what was read, and the tokens behind it
 abbrev pub Reader : Type 0 → Type 0
@@ -105,6 +105,10 @@ abbrev pub read_listed : (o : One) → Reader (List (Of o))
 read_listed o [] = None
 read_listed o (l ∷ ls) = if same (symbol (codes "(")) l then read_opened o ls else None
 
+-- names, if none of them stands there twice
+abbrev pub if_distinct : List (List ℕ) × List Lexeme → Option (List (List ℕ) × List Lexeme)
+if_distinct r = if are_distinct r.0 then Some r else None
+
 -- the formula, and the tokens of which as many signs are left
 abbrev pub left_of : List Lexeme → Run → Draft × List Lexeme
 left_of ls r = (r.0, drop (length ls - length r.2) ls)
@@ -113,13 +117,18 @@ left_of ls r = (r.0, drop (length ls - length r.2) ls)
 unfoldable pub read_formula : Reader Draft
 read_formula ls = option_map (left_of ls) (expr (length ls) 0 (signs ls))
 
+-- the formula, if the line may have it
+abbrev pub if_allowed : Formulas → Draft × List Lexeme → Option (Draft × List Lexeme)
+if_allowed k r = if may_have k r.0 then Some r else None
+
 -- what a part says
 abbrev pub read_part : (p : Part) → Reader (Holds p)
 read_part (one o) ls = read_one o ls
 read_part (perhaps w o) ls = read_perhaps w o ls
 read_part (many o) ls = option_map (λ vs. (vs, [])) (each_of o ls)
 read_part (listed o) ls = read_listed o ls
-read_part formula ls = read_formula ls
+read_part arguments ls = option_and_then if_distinct (read_listed name ls)
+read_part (formula k) ls = option_and_then (if_allowed k) (read_formula ls)
 
 -- what stands behind this token
 abbrev pub read_fixed : Lexeme → List Lexeme → Option (List Lexeme)
@@ -146,7 +155,8 @@ bars (one o) l = false
 bars (perhaps w o) l = same (word w) l
 bars (many o) l = true
 bars (listed o) l = false
-bars formula l = is_operator (sign l)
+bars arguments l = false
+bars (formula k) l = is_operator (sign l)
 
 -- no line of this form begins with a token that has this property
 abbrev pub avoids : (Lexeme → Bool) → Form → Bool
@@ -159,6 +169,7 @@ avoids q (part p ∷ ps) = false
 abbrev pub is_open : Part → Bool
 is_open (one o) = false
 is_open (listed o) = false
+is_open arguments = false
 is_open _ = true
 
 -- each part ends where it can't go on
@@ -191,5 +202,5 @@ abbrev pub apart : Form → Form → Bool
 apart [] qs = has_some qs
 apart (fixed l ∷ ps) (fixed m ∷ qs) = differ l m || apart ps qs
 apart (part (one o) ∷ ps) (part (one q) ∷ qs) = apart ps qs
-apart (fixed l ∷ ps) (part formula ∷ qs) = is_other (sign l)
+apart (fixed l ∷ ps) (part (formula k) ∷ qs) = is_other (sign l)
 apart _ _ = false

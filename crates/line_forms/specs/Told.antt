@@ -1,7 +1,7 @@
 -- What the reader of a line has in its hands, and what is wrong with it.
 use Rattle.std.specs.Prelude.{◌≡◌, ℕ, nat_lt, if◌then◌else◌, length, List, [], ◌∷◌, drop, Option, Some, None, Result, Ok, Err}
 use Rattle.std.specs.Option.{option_or}
-use Rattle.sig_base.specs.declared.limits.TheConstants.{MOST_TEXT}
+use Rattle.sig_base.specs.declared.limits.TheConstants.{MOST_SOURCES, MOST_TEXT}
 use Rattle.sig_base.specs.declared.scalar.Scalar.{Scalar}
 use Rattle.sig_words.specs.declared.token.Token.{Token}
 use Rattle.sig_words.specs.Lexemes.{Lexeme, lexemes}
@@ -12,7 +12,7 @@ use Rattle.formula_text.specs.Signs.{constant}
 use Rattle.formula_text.specs.Judging.{is_long}
 use Rattle.formula_text.specs.Grammar.{Draft}
 use Rattle.formula_text.specs.Wiring.{Wiring, refusal, wired}
-use Rattle.line_forms.specs.Forms.{Form, part, fixed, one, perhaps, many, listed, formula, value, key, Part, One, Of, Holds, Args}
+use Rattle.line_forms.specs.Forms.{Form, part, fixed, one, perhaps, many, listed, arguments, formula, value, key, Part, One, Of, Holds, Args}
 
 -- what the tokens from a place on say
 unfoldable pub ahead : List ℕ → List Token → ℕ → List Lexeme
@@ -38,13 +38,18 @@ abbrev pub fault_of_list : (o : One) → List (Of o) → Option FormulaFault
 fault_of_list value vs = first_long vs
 fault_of_list _ vs = None
 
+-- what is wrong with the arguments of a host formula: too many
+abbrev pub fault_of_arguments : List (List ℕ) → Option FormulaFault
+fault_of_arguments ns = if nat_lt MOST_SOURCES (length ns) then Some fault.Sources else None
+
 -- what is wrong with a part, at a place that allows this to formulas
 abbrev pub fault_in : Allow → (p : Part) → Holds p → Option FormulaFault
 fault_in allow (one o) v = fault_of_one o v
 fault_in allow (perhaps w o) v = None
 fault_in allow (many o) vs = fault_of_list o vs
 fault_in allow (listed o) vs = fault_of_list o vs
-fault_in allow formula f = refusal allow f
+fault_in allow arguments ns = fault_of_arguments ns
+fault_in allow (formula k) f = refusal allow f
 
 -- what is wrong with a line, the first of it
 abbrev pub fault_along : Allow → (ps : Form) → Args ps → Option FormulaFault
@@ -61,6 +66,11 @@ unless_faulty (Some f) x = Err f
 abbrev pub IsToldScalar : Scalar → Result Scalar FormulaFault → Type 0
 IsToldScalar v (Ok w) = (w ≡ v) × (fault_of_scalar v ≡ None)
 IsToldScalar v (Err f) = fault_of_scalar v ≡ Some f
+
+-- arguments that were read, or what is wrong with them
+abbrev pub IsToldArguments : List (List ℕ) → Result (List (List ℕ)) FormulaFault → Type 0
+IsToldArguments ns (Ok ms) = (ms ≡ ns) × (fault_of_arguments ns ≡ None)
+IsToldArguments ns (Err f) = fault_of_arguments ns ≡ Some f
 
 -- a formula that was read, or what is wrong with it
 abbrev pub IsToldFormula : Allow → Draft → Result Wiring FormulaFault → Type 0

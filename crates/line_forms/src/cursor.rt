@@ -1,15 +1,16 @@
 // The small readers: each reads one piece of a line from a place on.
-ghost use Rattle.std.specs.Prelude.{◌≡◌, ℕ, List, None, Some, [], IfOk, MatchOption, if◌then◌else◌, option_map};
+ghost use Rattle.std.specs.Prelude.{◌≡◌, ◌<◌, ◌≤◌, ℕ, length, IfSome, List, None, Some, [], IfOk, MatchOption, if◌then◌else◌, option_map};
 ghost use Rattle.sig_base.specs.declared.scalar.Scalar as scalar;
 ghost use Rattle.sig_words.specs.Lexemes.{lexeme, symbol, word};
 ghost use Rattle.sig_words.specs.Tokens.{AreTokens, IsTokenOf};
 ghost use Rattle.formula_text.specs.Grammar.{Draft};
-ghost use Rattle.line_forms.specs.Forms.{name, value};
-ghost use Rattle.line_forms.specs.Reading.{name_of, read_fixed, read_form, read_formula, read_one, same, scalar_of, truth_of};
+ghost use Rattle.formula_text.specs.Rough.{draft, HasLeaves};
+ghost use Rattle.line_forms.specs.Forms.{count, formula, name, plain, tagged, value};
+ghost use Rattle.line_forms.specs.Reading.{count_of, name_of, read_fixed, read_form, read_formula, read_one, read_part, read_perhaps, same, scalar_of, tag_of, truth_of};
 ghost use Rattle.line_forms.specs.Told.{ahead, IsToldFormula, IsToldScalar};
 
-use formula_text::{Allow, FormulaFault, Wired, read_rough, wire};
-use sig_base::{Name, NameFault, NoMemory, Scalar, TextFault};
+use formula_text::{Allow, FormulaFault, Rough, Wired, has_row_form, read_rough, wire};
+use sig_base::{Name, NameFault, NoMemory, Scalar, Text, TextFault};
 use sig_words::{Token, TokenKind, literal, token_bytes};
 use std::alloc::Global;
 use std::str;
@@ -39,7 +40,7 @@ fn as_name(alloc: Global, text: &[u8]) -> Result<Option<Name>, NoMemory>
 }
 
 // The name that a token says.
-fn name_of(alloc: Global, line: &[u8], token: &Token) -> Result<Option<Name>, NoMemory>
+pub fn name_of(alloc: Global, line: &[u8], token: &Token) -> Result<Option<Name>, NoMemory>
     ensures { IfOk result (λ found. found ≡ name_of (lexeme line.now token.now)) }
 {
     match token.kind {
@@ -56,7 +57,8 @@ pub fn name_at(
     tokens: &[Token],
     at: usize,
 ) -> Result<Option<(Name, usize)>, NoMemory>
-    ensures { IfOk result (λ found. option_map (λ p. (p.0, ahead line.now tokens.now p.1)) found ≡ read_one name (ahead line.now tokens.now at)) }
+    ensures exact { IfOk result (λ found. option_map (λ p. (p.0, ahead line.now tokens.now p.1)) found ≡ read_one name (ahead line.now tokens.now at)) }
+    ensures within { IfOk result (λ found. IfSome found (λ p. (at < p.1) × (p.1 ≤ length tokens.now))) }
 {
     let Some(token) = tokens.get(at) else {
         return Ok(None);
@@ -70,7 +72,8 @@ pub fn name_at(
 /// The place after this symbol, where it stands at a place.
 #[tactic(auto, unfolding(crate::specs::Told::ahead))]
 pub fn symbol_at(line: &[u8], tokens: &[Token], at: usize, text: &[u8]) -> Option<usize>
-    ensures { option_map (λ p. ahead line.now tokens.now p) result ≡ read_fixed (symbol text.now) (ahead line.now tokens.now at) }
+    ensures exact { option_map (λ p. ahead line.now tokens.now p) result ≡ read_fixed (symbol text.now) (ahead line.now tokens.now at) }
+    ensures within { IfSome result (λ p. (at < p) × (p ≤ length tokens.now)) }
 {
     let Some(token) = tokens.get(at) else {
         return None;
@@ -82,6 +85,75 @@ pub fn symbol_at(line: &[u8], tokens: &[Token], at: usize, text: &[u8]) -> Optio
     }
 }
 
+// Whether a token is this word.
+fn is_word(line: &[u8], token: &Token, text: &[u8]) -> bool
+    ensures { result ≡ same (word text.now) (lexeme line.now token.now) }
+{
+    match token.kind {
+        TokenKind::Word => token_bytes(line, token) == text,
+        _ => false,
+    }
+}
+
+/// The place after this word, where it stands at a place.
+#[tactic(auto, unfolding(crate::specs::Told::ahead))]
+pub fn word_at(line: &[u8], tokens: &[Token], at: usize, text: &[u8]) -> Option<usize>
+    ensures exact { option_map (λ p. ahead line.now tokens.now p) result ≡ read_fixed (word text.now) (ahead line.now tokens.now at) }
+    ensures within { IfSome result (λ p. (at < p) × (p ≤ length tokens.now)) }
+{
+    let Some(token) = tokens.get(at) else {
+        return None;
+    };
+    if is_word(line, token, text) {
+        Some(at + 1)
+    } else {
+        None
+    }
+}
+
+// The number without sign that a token says.
+fn count_of(line: &[u8], token: &Token) -> Option<u64>
+    ensures { result ≡ count_of (lexeme line.now token.now) }
+{
+    match token.kind {
+        TokenKind::Number(number) => u64::try_from(number).ok(),
+        _ => None,
+    }
+}
+
+/// A number without sign at a place, and the place after it.
+#[tactic(auto, unfolding(crate::specs::Told::ahead))]
+pub fn count_at(line: &[u8], tokens: &[Token], at: usize) -> Option<(u64, usize)>
+    ensures { option_map (λ p. (p.0, ahead line.now tokens.now p.1)) result ≡ read_one count (ahead line.now tokens.now at) }
+{
+    let Some(token) = tokens.get(at) else {
+        return None;
+    };
+    match count_of(line, token) {
+        Some(number) => Some((number, at + 1)),
+        None => None,
+    }
+}
+
+/// A number without sign behind this word, if the word stands at a place, and the place after them.
+#[tactic(auto, unfolding(crate::specs::Told::ahead))]
+pub fn count_behind(
+    line: &[u8],
+    tokens: &[Token],
+    at: usize,
+    text: &[u8],
+) -> Option<(Option<u64>, usize)>
+    ensures { option_map (λ p. (p.0, ahead line.now tokens.now p.1)) result ≡ read_perhaps text.now count (ahead line.now tokens.now at) }
+{
+    let Some(behind) = word_at(line, tokens, at, text) else {
+        return Some((None, at));
+    };
+    match count_at(line, tokens, behind) {
+        Some((number, after)) => Some((Some(number), after)),
+        None => None,
+    }
+}
+
 /// Whether the line has no token at a place.
 #[tactic(auto, unfolding(crate::specs::Told::ahead))]
 pub fn ends_at(tokens: &[Token], at: usize) -> bool
@@ -90,6 +162,45 @@ pub fn ends_at(tokens: &[Token], at: usize) -> bool
     match tokens.get(at) {
         Some(_) => false,
         None => true,
+    }
+}
+
+// The name that a token says behind `@`.
+fn tag_of(alloc: Global, line: &[u8], token: &Token) -> Result<Option<Text>, NoMemory>
+    requires { IsTokenOf line.now token.now }
+    ensures { IfOk result (λ found. found ≡ tag_of (lexeme line.now token.now)) }
+{
+    let TokenKind::Tag = token.kind else {
+        return Ok(None);
+    };
+    let (_, name) = token_bytes(line, token).split_at(1);
+    let Ok(name) = str::from_utf8(name) else {
+        unreachable!()
+    };
+    match Text::new(alloc, name) {
+        Ok(name) => Ok(Some(name)),
+        Err(TextFault::Long) => unreachable!(),
+        Err(TextFault::NoMemory(e)) => Err(e),
+    }
+}
+
+/// The name behind `@` at a place, and the place after it.
+#[tactic(auto, unfolding(crate::specs::Told::ahead))]
+pub fn tag_at(
+    alloc: Global,
+    line: &[u8],
+    tokens: &[Token],
+    at: usize,
+) -> Result<Option<(Text, usize)>, NoMemory>
+    requires { AreTokens line.now tokens.now }
+    ensures { IfOk result (λ found. option_map (λ p. (p.0, ahead line.now tokens.now p.1)) found ≡ read_one tagged (ahead line.now tokens.now at)) }
+{
+    let Some(token) = tokens.get(at) else {
+        return Ok(None);
+    };
+    match tag_of(alloc, line, token)? {
+        Some(name) => Ok(Some((name, at + 1))),
+        None => Ok(None),
     }
 }
 
@@ -154,7 +265,45 @@ pub fn value_at(
 /// A formula, or what is wrong with it.
 pub type ToldFormula = Result<Wired, FormulaFault>;
 
-/// The longest formula from a place on, or what is wrong with it where this is allowed to it, and the place after it.
+/// The longest formula from a place on, by the places of its tokens, and the place after it.
+pub fn rough_at(
+    alloc: Global,
+    line: &[u8],
+    tokens: &[Token],
+    at: usize,
+) -> Result<Option<(Rough, usize)>, NoMemory>
+    ensures { IfOk result (λ found. MatchOption found (read_formula (ahead line.now tokens.now at) ≡ None)
+        (λ p. (read_formula (ahead line.now tokens.now at) ≡ Some (draft line.now tokens.now p.0, ahead line.now tokens.now p.1)) × HasLeaves line.now tokens.now p.0)) }
+{
+    match read_rough(alloc, line, tokens, at)? {
+        Some((rough, to)) => Ok(Some((rough, to))),
+        None => Ok(None),
+    }
+}
+
+/// A formula that was read with slots for its names, or what is wrong with it where this is allowed to it.
+pub fn told(
+    alloc: Global,
+    line: &[u8],
+    tokens: &[Token],
+    rough: &Rough,
+    allow: Allow,
+) -> Result<ToldFormula, NoMemory>
+    requires of_line { AreTokens line.now tokens.now }
+    requires leaves { HasLeaves line.now tokens.now rough.now }
+    ensures { IfOk result (λ r. IsToldFormula allow (draft line.now tokens.now rough.now) r) }
+{
+    match wire(alloc, line, tokens, rough, allow) {
+        Ok(wired) => Ok(Ok(wired)),
+        Err(fault) => match fault {
+            FormulaFault::NoMemory(e) => Err(e),
+            fault => Ok(Err(fault)),
+        },
+    }
+}
+
+/// The longest formula from a place on, where it doesn't speak of rows, or what is wrong with it where this is allowed to it, and the place
+/// after it.
 pub fn formula_at(
     alloc: Global,
     line: &[u8],
@@ -163,17 +312,15 @@ pub fn formula_at(
     allow: Allow,
 ) -> Result<Option<(ToldFormula, usize)>, NoMemory>
     requires { AreTokens line.now tokens.now }
-    ensures { IfOk result (λ found. MatchOption found (read_formula (ahead line.now tokens.now at) ≡ None)
-        (λ p. (f : Draft) × (read_formula (ahead line.now tokens.now at) ≡ Some (f, ahead line.now tokens.now p.1)) × IsToldFormula allow f p.0)) }
+    ensures { IfOk result (λ found. MatchOption found (read_part (formula plain) (ahead line.now tokens.now at) ≡ None)
+        (λ p. (f : Draft) × (read_part (formula plain) (ahead line.now tokens.now at) ≡ Some (f, ahead line.now tokens.now p.1)) × IsToldFormula allow f p.0)) }
 {
-    let Some((rough, to)) = read_rough(alloc, line, tokens, at)? else {
+    let Some((rough, to)) = rough_at(alloc, line, tokens, at)? else {
         return Ok(None);
     };
-    match wire(alloc, line, tokens, &rough, allow) {
-        Ok(wired) => Ok(Some((Ok(wired), to))),
-        Err(fault) => match fault {
-            FormulaFault::NoMemory(e) => Err(e),
-            fault => Ok(Some((Err(fault), to))),
-        },
+    if has_row_form(&rough) {
+        return Ok(None);
     }
+    let told = told(alloc, line, tokens, &rough, allow)?;
+    Ok(Some((told, to)))
 }

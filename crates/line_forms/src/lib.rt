@@ -3,8 +3,18 @@
 
 mod cursor;
 mod laws;
+mod lists;
+mod names;
 mod writing;
 
-pub use cursor::{ToldFormula, ToldValue, ends_at, formula_at, name_at, symbol_at, value_at};
+pub use cursor::{
+    ToldFormula, ToldValue, count_at, count_behind, ends_at, formula_at, name_at, rough_at,
+    symbol_at, tag_at, told, value_at, word_at,
+};
 pub use laws::forms_read;
-pub use writing::{put_fixed, put_name, put_value, put_wired};
+pub use lists::{ToldArguments, arguments_at, names_at};
+pub use names::NameList;
+pub use writing::{
+    put_arguments, put_count, put_count_behind, put_fixed, put_name, put_names, put_tag, put_value,
+    put_wired,
+};
