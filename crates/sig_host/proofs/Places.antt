@@ -1,14 +1,14 @@
 -- A place of a shelf that changes, and the others that stay.
-use Rattle.std.proofs.Common.{◌≡◌, ℕ, List, [], ◌∷◌, zero, suc, Option, Some, None, IsTrue, is_some, unwrap_or, option_map, map, slice_get, slice_set, get_or, ◌+◌, ap, sym, ◌∙◌, subst, refl}
+use Rattle.std.proofs.Common.{◌≡◌, ℕ, List, [], ◌∷◌, zero, suc, Option, Some, None, IsTrue, false, unwrap_or, option_map, map, slice_get, slice_set, get_or, ◌+◌, ap, sym, ◌∙◌, subst, refl}
 use Rattle.std.proofs.Math.Seq.{map-set_same}
 use Rattle.std.proofs.lemmas.List.{map-set}
 use Rattle.sig_base.specs.declared.value.Known.{Known}
 use Rattle.sig_base.specs.declared.value.Step.{Step}
 use Rattle.signal_model.specs.Recipes.{Hosts}
-use Rattle.sig_host.specs.Hosts.{AnswersBy, IsCounted, Meaning, asked_more_at, hosts_of, is_there}
+use Rattle.sig_host.specs.Hosts.{AnswersBy, HostPlace, IsCounted, Meaning, asked_more_at, count_there, dropped_at, hosts_of, is_there, no_place, place_at, unasked_place}
 
 -- what is known of the place that is read
-pub read_at : {P A : Type 0} (m : P → A) (g : P → Option ℕ) (xs : List P) (i : ℕ) (d : P) → IsTrue (is_there (map g xs) i) → d ≡ get_or xs i d → slice_get (map m xs) i ≡ Some (m d)
+pub read_at : {P A : Type 0} (m : P → A) (g : P → HostPlace) (xs : List P) (i : ℕ) (d : P) → IsTrue (is_there (map g xs) i) → d ≡ get_or xs i d → slice_get (map m xs) i ≡ Some (m d)
 read_at m g [] i d there at = cc
 read_at m g (x ∷ xs) zero d there at = ap (λ p. Some (m p)) (sym at)
 read_at m g (x ∷ xs) (suc i) d there at = read_at m g xs i d there at
@@ -19,7 +19,7 @@ answer_is None f known s same e = cc
 answer_is (Some h) f known s same e = let t : h ≡ f = same h refl in let u : h known ≡ s = cc in sym u ∙ ap (λ (k : Meaning). k known) t
 
 -- the answer of the place that is read
-pub answer_at : {P : Type 0} (m : P → Option Meaning) (g : P → Option ℕ) (xs : List P) (i : ℕ) (d : P) {hosts : Hosts} (known : List Known) (s : Step) → IsTrue (is_there (map g xs) i) → d ≡ get_or xs i d → AnswersBy hosts (map m xs) → option_map (λ (h : Meaning). h known) (m d) ≡ Some s → s ≡ hosts i known
+pub answer_at : {P : Type 0} (m : P → Option Meaning) (g : P → HostPlace) (xs : List P) (i : ℕ) (d : P) {hosts : Hosts} (known : List Known) (s : Step) → IsTrue (is_there (map g xs) i) → d ≡ get_or xs i d → AnswersBy hosts (map m xs) → option_map (λ (h : Meaning). h known) (m d) ≡ Some s → s ≡ hosts i known
 answer_at m g xs i d {hosts} known s there at all e = answer_is (m d) (hosts i) known s (λ h is. all.each i h (read_at m g xs i d there at ∙ ap Some is)) e
 
 -- a place keeps its meaning
@@ -51,21 +51,59 @@ pub answers_lent : {B : Type 0} (f : B → Meaning) (hs : List B) (ms : List (Op
 answers_lent f hs ms e = record { each = λ k h is. lent_at f hs k h _ (ap (λ l. slice_get l k) (sym e) ∙ is) }
 
 -- a place is counted, as the others are
-pub counted_set : {P : Type 0} (f g : P → Option ℕ) (xs : List P) (i : ℕ) (y : P) → f y ≡ g y → IsCounted (map f xs) (map g xs) → IsCounted (map f (slice_set xs i y)) (map g (slice_set xs i y))
-counted_set f g xs i y e all = record { same = map-set f xs i y ∙ ap (slice_set (map f xs) i) e ∙ ap (λ l. slice_set l i (g y)) all.same ∙ sym (map-set g xs i y) }
+pub counted_set : {P : Type 0} (f : P → Option ℕ) (g : P → HostPlace) (xs : List P) (i : ℕ) (y : P) → f y ≡ count_there (g y) → IsCounted (map f xs) (map g xs) → IsCounted (map f (slice_set xs i y)) (map g (slice_set xs i y))
+counted_set f g xs i y e all = record {
+  same = map-set f xs i y ∙ ap (slice_set (map f xs) i) e ∙ ap (λ l. slice_set l i (count_there (g y))) all.same ∙ sym (map-set count_there (map g xs) i (g y))
+      ∙ ap (map count_there) (sym (map-set g xs i y));
+}
+
+-- the count of the place that is read
+pub counted_at : {P : Type 0} (f : P → Option ℕ) (g : P → HostPlace) (xs : List P) (i : ℕ) (d : P) → IsTrue (is_there (map g xs) i) → d ≡ get_or xs i d → IsCounted (map f xs) (map g xs) → f d ≡ count_there (g d)
+counted_at f g [] i d there at all = cc
+counted_at f g (x ∷ xs) zero d there at all =
+    let h : f x ≡ count_there (g x) = some (f x) (count_there (g x)) (ap (λ l. slice_get l 0) all.same) in
+    ap f at ∙ h ∙ ap (λ p. count_there (g p)) (sym at)
+  where
+    some : (a b : Option ℕ) → Some a ≡ Some b → a ≡ b
+    some a b e = cc
+counted_at f g (x ∷ xs) (suc i) d there at all = counted_at f g xs i d there at (record { same = rest (f x) (count_there (g x)) (map f xs) (map count_there (map g xs)) all.same })
+  where
+    rest : (a b : Option ℕ) (us vs : List (Option ℕ)) → (a ∷ us) ≡ (b ∷ vs) → us ≡ vs
+    rest a b us vs e = cc
+
+-- what is there is there where it is read
+pub there_at : {P : Type 0} (g : P → HostPlace) (xs : List P) (i : ℕ) (d : P) → IsTrue (is_there (map g xs) i) → d ≡ get_or xs i d → place_at (map g xs) i ≡ g d
+there_at g xs i d there at = ap (λ o. unwrap_or o no_place) (read_at g g xs i d there at)
+
+-- formulas that were never asked
+pub counted_new : {A : Type 0} (hs : List A) (us : List (Option ℕ)) (ps : List HostPlace) → us ≡ map (λ _. Some 0) hs → ps ≡ map (λ _. unasked_place) hs → IsCounted us ps
+counted_new {A = A} hs us ps e q = record { same = e ∙ go hs ∙ ap (map count_there) (sym q) }
+  where
+    go : (xs : List A) → map (λ _. Some 0) xs ≡ map count_there (map (λ _. unasked_place) xs)
+    go [] = refl
+    go (x ∷ xs) = ap (λ l. Some 0 ∷ l) (go xs)
+
+-- the formula of a place goes
+pub dropped_set : {P : Type 0} (g : P → HostPlace) (xs : List P) (i : ℕ) (y d : P) → IsTrue (is_there (map g xs) i) → d ≡ get_or xs i d →
+    g y ≡ record { there = false; asks = (g d).asks } → map g (slice_set xs i y) ≡ dropped_at (map g xs) i
+dropped_set g xs i y d there at e =
+    map-set g xs i y ∙ ap (slice_set (map g xs) i) (e ∙ ap (λ (o : HostPlace). record { there = false; asks = o.asks }) (sym (there_at g xs i d there at)))
 
 -- a place was asked once more
-pub asked_set : {P : Type 0} (g : P → Option ℕ) (xs : List P) (i n : ℕ) (y d : P) → IsTrue (is_there (map g xs) i) → d ≡ get_or xs i d → g y ≡ Some (unwrap_or (g d) 0 + n) → map g (slice_set xs i y) ≡ asked_more_at (map g xs) i n
-asked_set g xs i n y d there at e = map-set g xs i y ∙ ap (slice_set (map g xs) i) (e ∙ ap (λ o. Some (unwrap_or (unwrap_or o None) 0 + n)) (sym (read_at g g xs i d there at)))
+pub asked_set : {P : Type 0} (g : P → HostPlace) (xs : List P) (i n : ℕ) (y d : P) → IsTrue (is_there (map g xs) i) → d ≡ get_or xs i d →
+    (g y).there ≡ (g d).there → (g y).asks ≡ (g d).asks + n → map g (slice_set xs i y) ≡ asked_more_at (map g xs) i n
+asked_set g xs i n y d there at same e =
+    map-set g xs i y
+    ∙ ap (slice_set (map g xs) i) ((λ j. record { there = same j; asks = e j }) ∙ ap (λ (o : HostPlace). record { there = o.there; asks = o.asks + n }) (sym (there_at g xs i d there at)))
 
 -- a place was asked as often as before
-pub asked_same : {P : Type 0} (g : P → Option ℕ) (xs : List P) (i : ℕ) (y d : P) → d ≡ get_or xs i d → g y ≡ g d → map g (slice_set xs i y) ≡ map g xs
+pub asked_same : {P : Type 0} (g : P → HostPlace) (xs : List P) (i : ℕ) (y d : P) → d ≡ get_or xs i d → g y ≡ g d → map g (slice_set xs i y) ≡ map g xs
 asked_same g xs i y d at e = map-set_same g xs i y d (e ∙ ap g at)
 
 -- whether a formula is there stays at each place, if it does at the one that changes
-pub there_same : {P : Type 0} (g : P → Option ℕ) (xs : List P) (i : ℕ) (y d : P) → d ≡ get_or xs i d → is_some (g y) ≡ is_some (g d) → (k : ℕ) → is_there (map g (slice_set xs i y)) k ≡ is_there (map g xs) k
+pub there_same : {P : Type 0} (g : P → HostPlace) (xs : List P) (i : ℕ) (y d : P) → d ≡ get_or xs i d → (g y).there ≡ (g d).there → (k : ℕ) → is_there (map g (slice_set xs i y)) k ≡ is_there (map g xs) k
 there_same g [] i y d at e k = refl
-there_same g (x ∷ xs) zero y d at e zero = e ∙ ap (λ p. is_some (g p)) at
+there_same g (x ∷ xs) zero y d at e zero = e ∙ ap (λ p. (g p).there) at
 there_same g (x ∷ xs) zero y d at e (suc k) = refl
 there_same g (x ∷ xs) (suc i) y d at e zero = refl
 there_same g (x ∷ xs) (suc i) y d at e (suc k) = there_same g xs i y d at e k

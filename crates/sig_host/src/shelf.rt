@@ -1,7 +1,7 @@
 // The host formulas, each with the number of its asks.
-ghost use Rattle.std.specs.Prelude.{◌≡◌, ◌+◌, ◌<◌, ◌==◌, ◌&&◌, not, List, ℕ, IfOk, OnOk, OnErr, IsTrue, Option, Some, is_some, option_map, length, map, unwrap_or, All};
+ghost use Rattle.std.specs.Prelude.{◌≡◌, ◌+◌, ◌<◌, ◌==◌, ◌&&◌, not, List, ℕ, IfOk, OnOk, OnErr, IsTrue, Option, Some, is_some, option_map, length, map, All};
 ghost use Rattle.signal_model.specs.Recipes.{Hosts};
-ghost use Rattle.sig_host.specs.Hosts.{AnswersBy, IsCounted, Meaning, asked_at, asked_more_at, count_at, dropped_at, hosts_of, is_there, last_ask};
+ghost use Rattle.sig_host.specs.Hosts.{AnswersBy, HostPlace, IsCounted, Meaning, asked_more_at, count_at, count_there, dropped_at, hosts_of, is_there, last_ask, unasked_place};
 
 use crate::HostFormula;
 use sig_base::{Known, NoMemory, Step};
@@ -18,8 +18,8 @@ pub trait Lent {
     /// The count beside each formula is how often it has answered.
     ghost counted: { Self → Type 0 };
 
-    /// How often the formula of each place was asked; none where it was dropped.
-    ghost asked: { Self → List (Option ℕ) };
+    /// Whether the formula of each place is there, and how often it was asked, before it was dropped too.
+    ghost asked: { Self → List HostPlace };
 }
 
 // What is known of one place.
@@ -30,8 +30,8 @@ trait LentPlace {
     /// How often the formula has answered that is there.
     ghost answered: { Self → Option ℕ };
 
-    /// How often it was asked by the count beside it.
-    ghost asked_so: { Self → Option ℕ };
+    /// Whether a formula is there, and the count beside it.
+    ghost asked_so: { Self → HostPlace };
 }
 
 // A place, which keeps its formula until that is dropped.
@@ -52,7 +52,7 @@ impl LentPlace for Place {
 
     ghost answered = { λ p. option_map (λ h. (HostFormula-box h).asks h.value) p.host };
 
-    ghost asked_so = { λ p. option_map (λ _. p.count) p.host };
+    ghost asked_so = { λ p. record { there = is_some p.host; asks = p.count } };
 }
 
 impl Lent for Shelf {
@@ -61,9 +61,9 @@ impl Lent for Shelf {
 
     ghost counted = { λ s. IsCounted
         (map (λ p. option_map (λ h. (HostFormula-box h).asks h.value) p.host) s.places.items)
-        (map (λ p. option_map (λ _. p.count) p.host) s.places.items) };
+        (map (λ p. record { there = is_some p.host; asks = p.count }) s.places.items) };
 
-    ghost asked = { λ s. map (λ p. option_map (λ _. p.count) p.host) s.places.items };
+    ghost asked = { λ s. map (λ p. record { there = is_some p.host; asks = p.count }) s.places.items };
 }
 
 impl Shelf {
@@ -77,7 +77,7 @@ impl Shelf {
         ensures answers { IfOk result (λ shelf.
             ⟦<Shelf as Lent>⟧.answers (hosts_of (map (λ h. step_of h) hosts.items)) shelf) }
         ensures counted { IfOk result ⟦<Shelf as Lent>⟧.counted }
-        ensures asked { IfOk result (λ shelf. ⟦<Shelf as Lent>⟧.asked shelf ≡ map (λ _. Some 0) hosts.items) }
+        ensures asked { IfOk result (λ shelf. ⟦<Shelf as Lent>⟧.asked shelf ≡ map (λ _. unasked_place) hosts.items) }
     {
         let places = places_of(alloc, hosts)?;
         Ok(Shelf { places })
@@ -124,12 +124,12 @@ impl Shelf {
         ask_at(alloc, &mut self.places[place], known)
     }
 
-    /// Drops the formula of a place that is there, and gives the number of its asks. It takes no memory.
-    /// No formula is there ever again.
+    /// Drops the formula of a place that is there, and gives the number of its asks, which is kept. It takes
+    /// no memory. No formula is there ever again.
     pub fn drop_host(&mut self, place: usize) -> u128
         requires counted { ⟦<Shelf as Lent>⟧.counted self.old }
         requires there { IsTrue (is_there (⟦<Shelf as Lent>⟧.asked self.old) place) }
-        ensures asks { asked_at (⟦<Shelf as Lent>⟧.asked self.old) place ≡ Some result }
+        ensures asks { result ≡ count_at (⟦<Shelf as Lent>⟧.asked self.old) place }
         ensures answers { (hosts : Hosts) → ⟦<Shelf as Lent>⟧.answers hosts self.old →
             ⟦<Shelf as Lent>⟧.answers hosts self.new }
         ensures counted { ⟦<Shelf as Lent>⟧.counted self.new }
@@ -151,7 +151,7 @@ fn places_of(alloc: Global, hosts: Vec<Box<dyn HostFormula>>) -> Result<Vec<Plac
     ensures answered { IfOk result (λ places.
         map ⟦<Place as LentPlace>⟧.answered places.items ≡ map (λ _. Some 0) hosts.items) }
     ensures asked { IfOk result (λ places.
-        map ⟦<Place as LentPlace>⟧.asked_so places.items ≡ map (λ _. Some 0) hosts.items) }
+        map ⟦<Place as LentPlace>⟧.asked_so places.items ≡ map (λ _. unasked_place) hosts.items) }
 {
     let mut places = Vec::with_capacity(alloc, hosts.len())?;
     for lent in hosts {
@@ -165,7 +165,7 @@ fn new_place(lent: Box<dyn HostFormula>) -> Place
     requires { asks lent ≡ 0 }
     ensures meaning { ⟦<Place as LentPlace>⟧.meaning result ≡ Some (step_of lent) }
     ensures answered { ⟦<Place as LentPlace>⟧.answered result ≡ Some 0 }
-    ensures asked { ⟦<Place as LentPlace>⟧.asked_so result ≡ Some 0 }
+    ensures asked { ⟦<Place as LentPlace>⟧.asked_so result ≡ unasked_place }
 {
     Place {
         host: Some(lent),
@@ -175,19 +175,19 @@ fn new_place(lent: Box<dyn HostFormula>) -> Place
 
 // Asks the formula that is there, and counts that it has answered.
 fn ask_at(alloc: Global, place: &mut Place, known: &[Known]) -> Result<Step, NoMemory>
-    requires counted { ⟦<Place as LentPlace>⟧.answered place.old ≡ ⟦<Place as LentPlace>⟧.asked_so place.old }
-    requires there { IsTrue (is_some (⟦<Place as LentPlace>⟧.asked_so place.old)) }
-    requires room { unwrap_or (⟦<Place as LentPlace>⟧.asked_so place.old) 0 < last_ask }
+    requires counted { ⟦<Place as LentPlace>⟧.answered place.old ≡ count_there (⟦<Place as LentPlace>⟧.asked_so place.old) }
+    requires there { IsTrue ((⟦<Place as LentPlace>⟧.asked_so place.old).there) }
+    requires room { (⟦<Place as LentPlace>⟧.asked_so place.old).asks < last_ask }
     ensures answer { IfOk result (λ s.
         option_map (λ f. f known.now) (⟦<Place as LentPlace>⟧.meaning place.old) ≡ Some s) }
     ensures same { ⟦<Place as LentPlace>⟧.meaning place.new ≡ ⟦<Place as LentPlace>⟧.meaning place.old }
-    ensures counted { ⟦<Place as LentPlace>⟧.answered place.new ≡ ⟦<Place as LentPlace>⟧.asked_so place.new }
-    ensures asked { OnOk result (⟦<Place as LentPlace>⟧.asked_so place.new
-        ≡ Some (unwrap_or (⟦<Place as LentPlace>⟧.asked_so place.old) 0 + 1)) }
+    ensures counted { ⟦<Place as LentPlace>⟧.answered place.new ≡ count_there (⟦<Place as LentPlace>⟧.asked_so place.new) }
+    ensures asked { OnOk result ((⟦<Place as LentPlace>⟧.asked_so place.new).asks
+        ≡ (⟦<Place as LentPlace>⟧.asked_so place.old).asks + 1) }
     ensures unasked { OnErr result
         (⟦<Place as LentPlace>⟧.asked_so place.new ≡ ⟦<Place as LentPlace>⟧.asked_so place.old) }
-    ensures there { is_some (⟦<Place as LentPlace>⟧.asked_so place.new)
-        ≡ is_some (⟦<Place as LentPlace>⟧.asked_so place.old) }
+    ensures there { (⟦<Place as LentPlace>⟧.asked_so place.new).there
+        ≡ (⟦<Place as LentPlace>⟧.asked_so place.old).there }
 {
     match &mut place.host {
         Some(host) => {

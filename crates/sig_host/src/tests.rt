@@ -1,5 +1,6 @@
 // Formulas and a rule that are handed in: asked, counted and dropped.
-ghost use Rattle.std.specs.Prelude.{◌≡◌, ◌∷◌, [], Some, IfOk, option_map, slice_get, unwrap_or};
+ghost use Rattle.std.specs.Prelude.{◌≡◌, ◌∷◌, [], IfOk, option_map, slice_get, unwrap_or};
+ghost use Rattle.sig_host.specs.Hosts.{unasked_place};
 ghost use Rattle.sig_base.specs.declared.value.Step.TheVariants.{Read, Done};
 
 use crate::{EqualsRule, HostFormula, Lent, Shelf};
@@ -70,7 +71,7 @@ fn shelf_of(
     requires first { asks first ≡ 0 }
     requires second { asks second ≡ 0 }
     ensures counted { IfOk result ⟦<Shelf as Lent>⟧.counted }
-    ensures asked { IfOk result (λ shelf. ⟦<Shelf as Lent>⟧.asked shelf ≡ Some 0 ∷ Some 0 ∷ []) }
+    ensures asked { IfOk result (λ shelf. ⟦<Shelf as Lent>⟧.asked shelf ≡ unasked_place ∷ unasked_place ∷ []) }
 {
     let mut hosts = Vec::new(alloc);
     hosts.push(first)?;

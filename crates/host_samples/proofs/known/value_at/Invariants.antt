@@ -1,0 +1,6 @@
+use Rattle.std.proofs.Common.{◌≡◌, drop}
+use Rattle.sig_formula.specs.Answering.{known_at}
+use Rattle.host_samples.proofs.known.value_at.Given as goal
+
+abbrev pub invariant-loop-entry : goal.invariant-loop-entry
+invariant-loop-entry l = known_at l.slot (drop l.entry-index l.known) ≡ known_at l.slot l.known
