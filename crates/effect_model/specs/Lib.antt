@@ -3,6 +3,7 @@ pub mod Bodies
 pub mod Worlds
 pub mod Acts
 pub mod Running
+pub mod Watching
 pub mod Commands
 pub mod Labels
 pub mod Examples

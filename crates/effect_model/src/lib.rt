@@ -2,5 +2,7 @@
 #![tactic(auto)]
 
 mod laws;
+mod limits;
 
 pub use laws::flush_by_turns;
+pub use limits::MOST_WATCHERS;
