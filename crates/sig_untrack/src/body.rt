@@ -1,0 +1,74 @@
+// Bodies of effects.
+
+use sig_base::{Fault, Name, Scalar, Value};
+use sig_formula::Formula;
+
+/// A statement of a body. Its numbers are places in the lists of the body, and the slots of its formulas are places among the names.
+#[derive(Debug, Drop)]
+pub enum Stmt {
+    /// A cell, by its place among the targets, is set.
+    Set(u32, Formula),
+    /// A value is logged.
+    Log(Formula),
+    /// A guard, and what is done only where it is true.
+    When(Formula, Vec<Stmt>),
+    /// A cell is set when the effect is taken back.
+    CleanupSet(u32, Formula),
+    /// A value is logged when the effect is taken back.
+    CleanupLog(Formula),
+    /// A nested effect, by its place among the effects, is made.
+    Effect(u32),
+    /// A thing, by its place among the targets, is disposed.
+    Dispose(u32),
+    /// A computed gets another recipe, by the place of the rewiring.
+    Rewire(u32),
+}
+
+/// What a computed is computed by.
+#[derive(Debug, Drop)]
+pub enum Recipe2 {
+    /// A formula whose slots are places among the names of the rewiring.
+    Formula(Formula),
+    /// The host formula at a place, whose arguments are the names of the rewiring.
+    Host(u64),
+}
+
+/// A computed, by its place among the targets of the body, and what it is computed by from then on.
+#[derive(Debug, Drop)]
+pub struct Rewire {
+    pub target: u32,
+    pub recipe: Recipe2,
+    pub names: Vec<Name>,
+}
+
+/// The body of an effect: its statements, the names that they act on, the names in their formulas, the bodies of its nested effects,
+/// and its rewirings.
+#[derive(Debug, Drop)]
+pub struct Body {
+    pub statements: Vec<Stmt>,
+    pub targets: Vec<Name>,
+    pub names: Vec<Name>,
+    pub effects: Vec<Body>,
+    pub rewires: Vec<Rewire>,
+}
+
+/// What a body wants done, with numbers as in its statements.
+#[derive(Debug, Drop)]
+pub enum Act {
+    Set(u32, Scalar),
+    Log(Value),
+    CleanupSet(u32, Scalar),
+    CleanupLog(Value),
+    Effect(u32),
+    Dispose(u32),
+    Rewire(u32),
+}
+
+/// What a body answers: the first slot that it needs and doesn't know, and whether that read is tracked; all its acts, in order; or its
+/// first fault.
+#[derive(Debug, Drop)]
+pub enum BodyStep {
+    Read { slot: u32, tracked: bool },
+    Acts(Vec<Act>),
+    Fail(Fault),
+}

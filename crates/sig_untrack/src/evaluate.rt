@@ -1,0 +1,205 @@
+// What a body answers to the values known so far.
+ghost use Rattle.std.specs.Prelude.{◌≡◌, IfOk, None, true};
+ghost use Rattle.sig_base.specs.Values.{scalar_value};
+ghost use Rattle.sig_formula.specs.Answering.{formula_step};
+ghost use Rattle.sig_formula.specs.Trees.{tree};
+ghost use Rattle.effect_model.specs.Bodies.{body_step, followed_by, if_scalar, one_first, to_dispose, to_log, to_make, to_note, to_rewire, to_set};
+ghost use Rattle.effect_model.specs.Bodies as model;
+ghost use Rattle.effect_model.specs.Owning.{logs, sets};
+ghost use Rattle.sig_untrack.specs.Stated.{Stated, before, no_bodies, put, stated, statements_of};
+ghost use Rattle.sig_untrack.specs.Linking.{Parts, acts_of, linked, step_of};
+ghost use Rattle.sig_untrack.specs.Stopping.{answered, stopped};
+
+use crate::{Act, Body, BodyStep, Stmt};
+use sig_base::{Fault, Known, NoMemory, Outcome, Value};
+use sig_formula::{Formula, FormulaStep, formula_step};
+use std::alloc::Global;
+
+/// Why the statements were left.
+#[derive(Debug, Drop)]
+pub enum Stop {
+    Read(u32, bool),
+    Fail(Fault),
+}
+
+// The value of a formula, or why the body ends at it.
+fn value_of(
+    alloc: Global,
+    formula: &Formula,
+    tracked: &[Known],
+    untracked: &[Known],
+) -> Result<Result<Value, Stop>, NoMemory>
+    ensures { IfOk result (λ r. answered r ≡ formula_step true (tree formula.now) None tracked.now untracked.now) }
+{
+    match formula_step(alloc, true, formula, None, tracked, untracked)? {
+        FormulaStep::Ask(slot, tracked) => Ok(Err(Stop::Read(slot, tracked))),
+        FormulaStep::End(Outcome::Good(value)) => Ok(Ok(value)),
+        FormulaStep::End(Outcome::Bad(fault)) => Ok(Err(Stop::Fail(fault))),
+    }
+}
+
+// A value is to be logged.
+fn log_act(acts: &mut Vec<Act>, value: Value) -> Result<Option<Stop>, NoMemory>
+    ensures { IfOk result (λ r. (p : Parts) (rest : model.BodyStep) → stopped r (acts_of p acts.new.items) rest
+        ≡ followed_by (acts_of p acts.old.items) (one_first (to_log value) rest)) }
+{
+    acts.push(Act::Log(value))?;
+    Ok(None)
+}
+
+// A cleanup that logs is to be noted.
+fn note_act(acts: &mut Vec<Act>, value: Value) -> Result<Option<Stop>, NoMemory>
+    ensures { IfOk result (λ r. (p : Parts) (rest : model.BodyStep) → stopped r (acts_of p acts.new.items) rest
+        ≡ followed_by (acts_of p acts.old.items) (one_first (to_note (logs value)) rest)) }
+{
+    acts.push(Act::CleanupLog(value))?;
+    Ok(None)
+}
+
+// A nested effect is to be made.
+fn make_act(acts: &mut Vec<Act>, place: u32) -> Result<Option<Stop>, NoMemory>
+    ensures { IfOk result (λ r. (p : Parts) (rest : model.BodyStep) → stopped r (acts_of p acts.new.items) rest
+        ≡ followed_by (acts_of p acts.old.items) (one_first (to_make (p.bodies place)) rest)) }
+{
+    acts.push(Act::Effect(place))?;
+    Ok(None)
+}
+
+// A thing is to be disposed.
+fn dispose_act(acts: &mut Vec<Act>, target: u32) -> Result<Option<Stop>, NoMemory>
+    ensures { IfOk result (λ r. (p : Parts) (rest : model.BodyStep) → stopped r (acts_of p acts.new.items) rest
+        ≡ followed_by (acts_of p acts.old.items) (one_first (to_dispose (p.things target)) rest)) }
+{
+    acts.push(Act::Dispose(target))?;
+    Ok(None)
+}
+
+// A computed is to be rewired.
+fn rewire_act(acts: &mut Vec<Act>, place: u32) -> Result<Option<Stop>, NoMemory>
+    ensures { IfOk result (λ r. (p : Parts) (rest : model.BodyStep) → stopped r (acts_of p acts.new.items) rest
+        ≡ followed_by (acts_of p acts.old.items) (one_first (to_rewire (p.rewirings place).target (p.rewirings place).recipe) rest)) }
+{
+    acts.push(Act::Rewire(place))?;
+    Ok(None)
+}
+
+// A cell is to be set; rows are no scalar.
+fn set_act(acts: &mut Vec<Act>, target: u32, value: Value) -> Result<Option<Stop>, NoMemory>
+    ensures { IfOk result (λ r. (p : Parts) (rest : model.BodyStep) → stopped r (acts_of p acts.new.items) rest
+        ≡ followed_by (acts_of p acts.old.items) (if_scalar value (one_first (to_set (p.cells target) value) rest))) }
+{
+    let Some(scalar) = value.into_scalar() else {
+        return Ok(Some(Stop::Fail(Fault::Kind)));
+    };
+    acts.push(Act::Set(target, scalar))?;
+    Ok(None)
+}
+
+// A cleanup that sets a cell is to be noted; rows are no scalar.
+fn cleanup_act(acts: &mut Vec<Act>, target: u32, value: Value) -> Result<Option<Stop>, NoMemory>
+    ensures { IfOk result (λ r. (p : Parts) (rest : model.BodyStep) → stopped r (acts_of p acts.new.items) rest
+        ≡ followed_by (acts_of p acts.old.items) (if_scalar value (one_first (to_note (sets (p.cells target) value)) rest))) }
+{
+    let Some(scalar) = value.into_scalar() else {
+        return Ok(Some(Stop::Fail(Fault::Kind)));
+    };
+    acts.push(Act::CleanupSet(target, scalar))?;
+    Ok(None)
+}
+
+// One statement: what it wants done stands behind the other acts.
+#[cycle(steps)]
+fn statement_step(
+    alloc: Global,
+    statement: &Stmt,
+    tracked: &[Known],
+    untracked: &[Known],
+    acts: &mut Vec<Act>,
+) -> Result<Option<Stop>, NoMemory>
+    ensures { IfOk result (λ r. (p : Parts) (rest : Stated) → stopped r (acts_of p acts.new.items) (body_step (linked p rest) tracked.now untracked.now)
+        ≡ followed_by (acts_of p acts.old.items) (body_step (linked p (put statement.now rest)) tracked.now untracked.now)) }
+{
+    match statement {
+        Stmt::Set(target, formula) => match value_of(alloc, formula, tracked, untracked)? {
+            Ok(value) => set_act(acts, *target, value),
+            Err(stop) => Ok(Some(stop)),
+        },
+        Stmt::Log(formula) => match value_of(alloc, formula, tracked, untracked)? {
+            Ok(value) => {
+                let stop = log_act(acts, value)?;
+                Ok(stop)
+            }
+            Err(stop) => Ok(Some(stop)),
+        },
+        Stmt::When(guard, inner) => match value_of(alloc, guard, tracked, untracked)? {
+            Ok(Value::Bool(true)) => {
+                let stop = statements_step(alloc, inner, tracked, untracked, acts)?;
+                Ok(stop)
+            }
+            Ok(Value::Bool(false)) => Ok(None),
+            Ok(_) => Ok(Some(Stop::Fail(Fault::Kind))),
+            Err(stop) => Ok(Some(stop)),
+        },
+        Stmt::CleanupSet(target, formula) => {
+            match value_of(alloc, formula, tracked, untracked)? {
+                Ok(value) => cleanup_act(acts, *target, value),
+                Err(stop) => Ok(Some(stop)),
+            }
+        }
+        Stmt::CleanupLog(formula) => match value_of(alloc, formula, tracked, untracked)? {
+            Ok(value) => {
+                let stop = note_act(acts, value)?;
+                Ok(stop)
+            }
+            Err(stop) => Ok(Some(stop)),
+        },
+        Stmt::Effect(place) => {
+            let stop = make_act(acts, *place)?;
+            Ok(stop)
+        }
+        Stmt::Dispose(target) => dispose_act(acts, *target),
+        Stmt::Rewire(place) => rewire_act(acts, *place),
+    }
+}
+
+// The statements in order, up to the first that ends the body.
+#[cycle(steps)]
+fn statements_step(
+    alloc: Global,
+    statements: &[Stmt],
+    tracked: &[Known],
+    untracked: &[Known],
+    acts: &mut Vec<Act>,
+) -> Result<Option<Stop>, NoMemory>
+    ensures { IfOk result (λ r. (p : Parts) (rest : Stated) → stopped r (acts_of p acts.new.items) (body_step (linked p rest) tracked.now untracked.now)
+        ≡ followed_by (acts_of p acts.old.items) (body_step (linked p (stated statements.now rest)) tracked.now untracked.now)) }
+{
+    for statement in statements {
+        if let Some(stop) = statement_step(alloc, statement, tracked, untracked, acts)? {
+            return Ok(Some(stop));
+        }
+    }
+    Ok(None)
+}
+
+/// What a body answers to what was read so far, tracked and untracked. Its statements are evaluated in order: the answer is the first
+/// slot that they need and don't know, where a tracked read is served by tracked values alone and an untracked one by either; all the
+/// acts; or the first fault. What a false guard guards isn't evaluated, nor is a nested effect. A guard must be a truth, and what is set a
+/// scalar, else the body fails with `kind`. `NoMemory` where the answer finds no room.
+pub fn body_step(
+    alloc: Global,
+    body: &Body,
+    tracked: &[Known],
+    untracked: &[Known],
+) -> Result<BodyStep, NoMemory>
+    ensures { IfOk result (λ r. (p : Parts) → step_of p r
+        ≡ body_step (linked p (statements_of (before body.now no_bodies))) tracked.now untracked.now) }
+{
+    let mut acts = Vec::new(alloc);
+    let stop = statements_step(alloc, &body.statements, tracked, untracked, &mut acts)?;
+    match stop {
+        None => Ok(BodyStep::Acts(acts)),
+        Some(Stop::Read(slot, tracked)) => Ok(BodyStep::Read { slot, tracked }),
+        Some(Stop::Fail(fault)) => Ok(BodyStep::Fail(fault)),
+    }
+}
