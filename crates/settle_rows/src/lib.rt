@@ -2,6 +2,10 @@
 #![tactic(auto)]
 
 #[cfg(test)]
+mod host_rows;
+#[cfg(test)]
+mod hosts;
+#[cfg(test)]
 mod rows;
 #[cfg(test)]
 mod scene;

@@ -6,6 +6,7 @@ ghost use Rattle.settle_rows.specs.Scenes.{IsReady};
 use formula_text::{Allow, Wired, read_formula};
 use sig_base::{Name, NoMemory, NodeId, Outcome, Value, put_fault, put_value};
 use sig_computed::{RunNote, settle};
+use sig_host::{HostFormula, Lent, Shelf};
 use sig_nodes::{Graph, Recipe, Standing};
 use sig_words::tokens;
 use std::alloc::Global;
@@ -16,6 +17,7 @@ use std::test::Fail;
 pub(crate) struct Scene {
     alloc: Global,
     graph: Graph,
+    shelf: Shelf,
     names: Vec<Name>,
     ids: Vec<NodeId>,
     out: Vec<u8>,
@@ -126,14 +128,28 @@ fn put_runs(
 }
 
 impl Scene {
-    /// No signals.
+    /// No signals, and no host formulas.
     pub(crate) fn new(alloc: Global) -> Result<Scene, Fail>
-        ensures { IfOk result (λ s. IsReady s.graph s.ids.items s.commands) }
+        ensures ready { IfOk result (λ s. IsReady s.graph (⟦<Shelf as Lent>⟧.asked s.shelf) s.ids.items s.commands) }
+        ensures counted { IfOk result (λ s. ⟦<Shelf as Lent>⟧.counted s.shelf) }
+    {
+        let hosts = Vec::new(alloc);
+        let scene = Scene::lent(alloc, hosts)?;
+        Ok(scene)
+    }
+
+    /// No signals, and these host formulas, which were never asked.
+    pub(crate) fn lent(alloc: Global, hosts: Vec<Box<dyn HostFormula>>) -> Result<Scene, Fail>
+        requires { All (λ h. asks h ≡ 0) hosts.items }
+        ensures ready { IfOk result (λ s. IsReady s.graph (⟦<Shelf as Lent>⟧.asked s.shelf) s.ids.items s.commands) }
+        ensures counted { IfOk result (λ s. ⟦<Shelf as Lent>⟧.counted s.shelf) }
     {
         let graph = Graph::new(alloc)?;
+        let shelf = Shelf::new(alloc, hosts)?;
         Ok(Scene {
             alloc,
             graph,
+            shelf,
             names: Vec::new(alloc),
             ids: Vec::new(alloc),
             out: Vec::new(alloc),
@@ -144,6 +160,7 @@ impl Scene {
     // Gives a name to an id.
     fn name(&mut self, name: &str, id: NodeId) -> Result<(), Fail>
         ensures graph { self.new.graph ≡ self.old.graph }
+        ensures shelf { self.new.shelf ≡ self.old.shelf }
         ensures ids { OnOk result (self.new.ids.items ≡ self.old.ids.items ++ id ∷ []) }
         ensures commands { self.new.commands ≡ self.old.commands }
     {
@@ -155,6 +172,7 @@ impl Scene {
     // Counts a command; there is an end to them.
     fn count(&mut self) -> Result<(), Fail>
         ensures graph { self.new.graph ≡ self.old.graph }
+        ensures shelf { self.new.shelf ≡ self.old.shelf }
         ensures ids { self.new.ids ≡ self.old.ids }
         ensures commands { OnOk result (self.new.commands ≡ self.old.commands + 1) }
         ensures few { OnOk result (self.old.commands < 1001) }
@@ -168,8 +186,10 @@ impl Scene {
 
     /// Makes a cell.
     pub(crate) fn cell(&mut self, name: &str, value: Value) -> Result<(), Fail>
-        requires { IsReady self.old.graph self.old.ids.items self.old.commands }
-        ensures { OnOk result (IsReady self.new.graph self.new.ids.items self.new.commands) }
+        requires ready { IsReady self.old.graph (⟦<Shelf as Lent>⟧.asked self.old.shelf) self.old.ids.items self.old.commands }
+        requires counted { ⟦<Shelf as Lent>⟧.counted self.old.shelf }
+        ensures ready { OnOk result (IsReady self.new.graph (⟦<Shelf as Lent>⟧.asked self.new.shelf) self.new.ids.items self.new.commands) }
+        ensures counted { OnOk result (⟦<Shelf as Lent>⟧.counted self.new.shelf) }
     {
         self.count()?;
         let id = self.graph.add_cell(value, None)?;
@@ -179,8 +199,10 @@ impl Scene {
 
     /// Makes a computed of a formula's text.
     pub(crate) fn computed(&mut self, name: &str, formula: &str) -> Result<(), Fail>
-        requires { IsReady self.old.graph self.old.ids.items self.old.commands }
-        ensures { OnOk result (IsReady self.new.graph self.new.ids.items self.new.commands) }
+        requires ready { IsReady self.old.graph (⟦<Shelf as Lent>⟧.asked self.old.shelf) self.old.ids.items self.old.commands }
+        requires counted { ⟦<Shelf as Lent>⟧.counted self.old.shelf }
+        ensures ready { OnOk result (IsReady self.new.graph (⟦<Shelf as Lent>⟧.asked self.new.shelf) self.new.ids.items self.new.commands) }
+        ensures counted { OnOk result (⟦<Shelf as Lent>⟧.counted self.new.shelf) }
     {
         self.count()?;
         let wired = wired(self.alloc, formula)?;
@@ -192,10 +214,42 @@ impl Scene {
         Ok(())
     }
 
+    /// Makes a computed of the host formula at a place, whose only argument has this name.
+    pub(crate) fn host(&mut self, name: &str, place: usize, argument: &str) -> Result<(), Fail>
+        requires ready { IsReady self.old.graph (⟦<Shelf as Lent>⟧.asked self.old.shelf) self.old.ids.items self.old.commands }
+        requires counted { ⟦<Shelf as Lent>⟧.counted self.old.shelf }
+        ensures ready { OnOk result (IsReady self.new.graph (⟦<Shelf as Lent>⟧.asked self.new.shelf) self.new.ids.items self.new.commands) }
+        ensures counted { OnOk result (⟦<Shelf as Lent>⟧.counted self.new.shelf) }
+    {
+        self.count()?;
+        if !self.shelf.is_there(place) {
+            return Err(NoMemory)?;
+        }
+        let source = id_of(&self.names, &self.ids, argument)?;
+        let mut slots = Vec::new(self.alloc);
+        slots.push(source)?;
+        let id = self.graph.add_computed(Recipe::Host(place), slots)?;
+        self.name(name, id)?;
+        Ok(())
+    }
+
+    /// Drops the host formula at a place, and tells how often it was asked.
+    pub(crate) fn asks(&mut self, place: usize) -> Result<u128, Fail>
+        requires { ⟦<Shelf as Lent>⟧.counted self.old.shelf }
+        ensures { OnOk result (⟦<Shelf as Lent>⟧.counted self.new.shelf) }
+    {
+        if !self.shelf.is_there(place) {
+            return Err(NoMemory)?;
+        }
+        Ok(self.shelf.drop_host(place))
+    }
+
     /// Gives a cell another value.
     pub(crate) fn set(&mut self, name: &str, value: Value) -> Result<(), Fail>
-        requires { IsReady self.old.graph self.old.ids.items self.old.commands }
-        ensures { OnOk result (IsReady self.new.graph self.new.ids.items self.new.commands) }
+        requires ready { IsReady self.old.graph (⟦<Shelf as Lent>⟧.asked self.old.shelf) self.old.ids.items self.old.commands }
+        requires counted { ⟦<Shelf as Lent>⟧.counted self.old.shelf }
+        ensures ready { OnOk result (IsReady self.new.graph (⟦<Shelf as Lent>⟧.asked self.new.shelf) self.new.ids.items self.new.commands) }
+        ensures counted { OnOk result (⟦<Shelf as Lent>⟧.counted self.new.shelf) }
     {
         self.count()?;
         let id = id_of(&self.names, &self.ids, name)?;
@@ -210,8 +264,10 @@ impl Scene {
 
     /// Gives a computed another formula.
     pub(crate) fn rewire(&mut self, name: &str, formula: &str) -> Result<(), Fail>
-        requires { IsReady self.old.graph self.old.ids.items self.old.commands }
-        ensures { OnOk result (IsReady self.new.graph self.new.ids.items self.new.commands) }
+        requires ready { IsReady self.old.graph (⟦<Shelf as Lent>⟧.asked self.old.shelf) self.old.ids.items self.old.commands }
+        requires counted { ⟦<Shelf as Lent>⟧.counted self.old.shelf }
+        ensures ready { OnOk result (IsReady self.new.graph (⟦<Shelf as Lent>⟧.asked self.new.shelf) self.new.ids.items self.new.commands) }
+        ensures counted { OnOk result (⟦<Shelf as Lent>⟧.counted self.new.shelf) }
     {
         self.count()?;
         let wired = wired(self.alloc, formula)?;
@@ -229,13 +285,15 @@ impl Scene {
 
     /// Settles a signal, and writes the runs and the outcome.
     pub(crate) fn get(&mut self, name: &str) -> Result<(), Fail>
-        requires { IsReady self.old.graph self.old.ids.items self.old.commands }
-        ensures { OnOk result (IsReady self.new.graph self.new.ids.items self.new.commands) }
+        requires ready { IsReady self.old.graph (⟦<Shelf as Lent>⟧.asked self.old.shelf) self.old.ids.items self.old.commands }
+        requires counted { ⟦<Shelf as Lent>⟧.counted self.old.shelf }
+        ensures ready { OnOk result (IsReady self.new.graph (⟦<Shelf as Lent>⟧.asked self.new.shelf) self.new.ids.items self.new.commands) }
+        ensures counted { OnOk result (⟦<Shelf as Lent>⟧.counted self.new.shelf) }
     {
         self.count()?;
         let id = id_of(&self.names, &self.ids, name)?;
         let mut notes = Vec::new(self.alloc);
-        let outcome = settle(&mut self.graph, id, &mut notes)?;
+        let outcome = settle(&mut self.graph, &mut self.shelf, id, &mut notes)?;
         let _count = notes.len();
         put_runs(&mut self.out, &self.names, &self.ids, &notes)?;
         put_name(&mut self.out, &self.names, &self.ids, id)?;

@@ -1,5 +1,5 @@
 -- What the frames of a stack have in the graph, and what a step leaves of it.
-use Rattle.std.proofs.Common.{◌≡◌, ℕ, ◌+◌, ◌<◌, ◌≤◌, ◌==◌, ◌||◌, ◌&&◌, not, Bool, true, false, cond, List, [], ◌∷◌, ◌++◌, length, take}
+use Rattle.std.proofs.Common.{◌≡◌, ℕ, suc, ◌+◌, ◌<◌, ◌≤◌, ◌==◌, ◌||◌, ◌&&◌, not, Bool, true, false, cond, List, [], ◌∷◌, ◌++◌, length, take}
 use Rattle.std.proofs.Common.{Some, None, refl, sym, ap, ◌∙◌, subst, arith, inl, inr}
 use Rattle.std.specs.Prelude.{is_some}
 use Rattle.std.proofs.Math.Seq.{take-length}
@@ -12,12 +12,13 @@ use Rattle.sig_base.specs.declared.value.Step.{Step}
 use Rattle.sig_base.specs.declared.value.Step.TheVariants.{Read, Done, Fail}
 use Rattle.sig_base.specs.declared.value.Outcome.{Outcome}
 use Rattle.sig_base.specs.declared.value.Outcome.TheVariants.{Good, Bad}
-use Rattle.signal_model.specs.Recipes.{IsJudged}
+use Rattle.signal_model.specs.Recipes.{IsJudged, IsUnknownSlot}
 use Rattle.signal_model.specs.Standing.{Computed, Stands, IsGone, IsCell, IsComputed, is_computed, is_in, standing}
-use Rattle.signal_model.specs.Values.{Seen, learnt}
+use Rattle.signal_model.specs.Values.{Seen, learnt, unknown_slots}
+use Rattle.signal_model.specs.Asks.{good_reads}
 use Rattle.signal_model.specs.Memos.{Source, Memos, is_moved, is_stale}
 use Rattle.signal_model.specs.Sound.{names_of, standing_outcome}
-use Rattle.signal_model.proofs.Shared.{tested}
+use Rattle.signal_model.proofs.Shared.{tested, unknown_less}
 use Rattle.signal_laws.proofs.Shared.{in_head, or_fst, or_snd}
 use Rattle.sig_nodes.specs.Answers.{slots_here}
 use Rattle.sig_nodes.specs.States as states
@@ -25,11 +26,12 @@ use Rattle.sig_nodes.specs.States.{Progress, progress_at, is_computing, is_given
 use Rattle.sig_nodes.proofs.Shared.{given_same}
 use Rattle.settle_model.specs.Stepping.{Phase, Looking, LookedAt, Running, Waiting, Frame, frame_names, new_frame, is_ready, ready_outcome}
 use Rattle.settle_model.specs.Stepping.{Move, GoesOn, Needs, Stops, Ends, looked, told, answered}
-use Rattle.settle_model.proofs.Shared.{unready}
+use Rattle.settle_model.proofs.Shared.{few_unknown, unready}
 use Rattle.sig_computed.specs.Notes.{Note, AreNotesGiven, IsNoteGiven}
 use Rattle.sig_computed.specs.Views.{evaluating, progressed, or_cycle, Stays}
 use Rattle.sig_computed.specs.Turns.{evaluation_note, notes_of, waits, phase_known, phase_reads, move_reads, progress_by, stack_after, AreReadsGiven, HasSlot, Fits, AreFit}
 use Rattle.sig_computed.specs.Turns.{CanMove, IsAnswered, IsMove, IsMoved, HasFirst}
+use Rattle.sig_computed.proofs.Asking.{reads_more}
 use Rattle.sig_computed.proofs.Progresses.{in_evaluating, progress_other, progress_same, progress_ended}
 
 -- reads that were given are given still
@@ -56,9 +58,12 @@ pub new_fits : (g : states.Seen) (k : Memos) (n : ℕ) (c : Computed) → standi
     progress_at n g.state.progress ≡ Some [] → Fits g (new_frame k n)
 new_fits g k n c stands begun = go (is_stale k n)
   where
+    none : 0 + unknown_slots (length c.recipe.slots) [] ≤ length c.recipe.slots
+    none = let few : unknown_slots (length c.recipe.slots) [] ≤ length c.recipe.slots = few_unknown (length c.recipe.slots) [] in omega (arith, few)
+
     go : (b : Bool) → Fits g (record { name = n; phase = cond b (Running [] []) (Looking 0) })
-    go true = record { computed = c; stands = stands; earlier = []; begun = begun; known = refl; slot = tt; given = none_given g }
-    go false = record { computed = c; stands = stands; earlier = []; begun = begun; known = refl; slot = tt; given = none_given g }
+    go true = record { computed = c; stands = stands; earlier = []; begun = begun; known = refl; slot = tt; few = none; given = none_given g }
+    go false = record { computed = c; stands = stands; earlier = []; begun = begun; known = refl; slot = tt; few = none; given = none_given g }
 
 -- ---- what stays
 
@@ -72,6 +77,7 @@ module _ (g h : states.Seen) (signals : h.state.signals ≡ g.state.signals) (gi
     begun = same ∙ fit.begun;
     known = fit.known;
     slot = fit.slot;
+    few = fit.few;
     given = given_stays g h (phase_reads f.phase) given fit.given;
   }
 
@@ -107,17 +113,24 @@ known_more l known more h =
 module _ (g : states.Seen) (f : Frame) (fit : Fits g f) where
   -- it fits in another phase
   moves_on : (p : Phase) → take (length fit.earlier) (phase_known p) ≡ fit.earlier → HasSlot (length fit.computed.recipe.slots) p →
+      good_reads (phase_reads p) + unknown_slots (length fit.computed.recipe.slots) (phase_known p) ≤ length fit.computed.recipe.slots →
       AreReadsGiven g (phase_reads p) → Fits g (record { name = f.name; phase = p })
-  moves_on p known slot given = record {
+  moves_on p known slot few given = record {
     computed = fit.computed;
     stands = fit.stands;
     earlier = fit.earlier;
     begun = fit.begun;
     known = known;
     slot = slot;
-    given =
-        given;
+    few = few;
+    given = given;
   }
+
+  -- nothing was read yet
+  none_few : 0 + unknown_slots (length fit.computed.recipe.slots) [] ≤ length fit.computed.recipe.slots
+  none_few =
+      let few : unknown_slots (length fit.computed.recipe.slots) [] ≤ length fit.computed.recipe.slots = few_unknown (length fit.computed.recipe.slots) [] in
+      omega (arith, few)
 
   -- what isn't ready can be begun
   can_need : (s : ℕ) (visited : Bool) → is_ready (standing g.state.signals s) (is_in s (evaluating g.state)) visited ≡ false →
@@ -136,9 +149,9 @@ module _ (g : states.Seen) (f : Frame) (fit : Fits g f) where
       where
         go : (a b : Bool) → MoveFits g f.name
             (cond a (cond b (GoesOn (Running [] [])) (GoesOn (Looking (place + 1)))) (Needs s.name (LookedAt place)))
-        go true true = moves_on (Running [] []) none tt (none_given g)
-        go true false = moves_on (Looking (place + 1)) none tt (none_given g)
-        go false b = moves_on (LookedAt place) none tt (none_given g)
+        go true true = moves_on (Running [] []) none tt none_few (none_given g)
+        go true false = moves_on (Looking (place + 1)) none tt none_few (none_given g)
+        go false b = moves_on (LookedAt place) none tt none_few (none_given g)
 
     look_can : (l : List Source) → CanMove g (looked g.state.signals k (evaluating g.state) visited cycle place l)
     look_can [] = tt
@@ -152,8 +165,8 @@ module _ (g : states.Seen) (f : Frame) (fit : Fits g f) where
         go true r false = tt
         go false r b = can_need s.name (is_in s.name visited) r
 
-  module _ (k : Memos) (visited : List ℕ) (slot : ℕ) (inside : slot < length fit.computed.recipe.slots) (known : List Known) (reads : List Seen)
-      (some : take (length fit.earlier) known ≡ fit.earlier) where
+  module _ (k : Memos) (visited : List ℕ) (slot : ℕ) (known : List Known) (reads : List Seen) (unknown : IsUnknownSlot (length fit.computed.recipe.slots) slot known)
+      (few : good_reads reads + unknown_slots (length fit.computed.recipe.slots) known ≤ length fit.computed.recipe.slots) (some : take (length fit.earlier) known ≡ fit.earlier) where
     -- a slot that was waited for
     wait_moves : (m : ℕ) → AreReadsGiven g (move_reads (waits g.state.signals k (evaluating g.state) visited slot m known reads)) →
         MoveFits g f.name (waits g.state.signals k (evaluating g.state) visited slot m known reads)
@@ -166,9 +179,14 @@ module _ (g : states.Seen) (f : Frame) (fit : Fits g f) where
             MoveFits g f.name (cond b (told slot m (Some o) known reads) (Needs m (Waiting slot known reads)))
         go true (Good v) all =
             moves_on (Running (learnt known slot v) (reads ++ record { name = m; outcome = Good v } ∷ []))
-            (known_more fit.earlier known (record { slot = slot; value = v } ∷ []) some) tt all
+            (known_more fit.earlier known (record { slot = slot; value = v } ∷ []) some) tt
+            (let less : unknown_slots (length fit.computed.recipe.slots) known ≡ suc (unknown_slots (length fit.computed.recipe.slots) (learnt known slot v)) =
+            unknown_less (length fit.computed.recipe.slots) slot v known unknown in
+            let more : good_reads (reads ++ record { name = m; outcome = Good v } ∷ []) ≡ good_reads reads + 1 =
+            reads_more reads (record { name = m; outcome = Good v }) in
+            omega (arith, less, more, few)) all
         go true (Bad z) all = tt
-        go false o all = moves_on (Waiting slot known reads) some inside all
+        go false o all = moves_on (Waiting slot known reads) some unknown few all
 
     wait_can : (m : ℕ) → AreReadsGiven g (move_reads (waits g.state.signals k (evaluating g.state) visited slot m known reads)) →
         CanMove g (waits g.state.signals k (evaluating g.state) visited slot m known reads)
@@ -185,7 +203,8 @@ module _ (g : states.Seen) (f : Frame) (fit : Fits g f) where
 
 -- an answer, where the graph has noted what the recipe was asked with
 module _ (g : states.Seen) (n : ℕ) (c : Computed) (stands : standing g.state.signals n ≡ IsComputed c) (known : List Known) (reads : List Seen)
-    (noted : progress_at n g.state.progress ≡ Some known) (given : AreReadsGiven g reads) where
+    (noted : progress_at n g.state.progress ≡ Some known) (few : good_reads reads + unknown_slots (length c.recipe.slots) known ≤ length c.recipe.slots)
+    (given : AreReadsGiven g reads) where
   answer_moves : (st : Step) → IsJudged (length c.recipe.slots) known st → MoveFits g n (answered st known reads)
   answer_moves (Done v) j = tt
   answer_moves (Fail e) j = tt
@@ -195,7 +214,8 @@ module _ (g : states.Seen) (n : ℕ) (c : Computed) (stands : standing g.state.s
     earlier = known;
     begun = noted;
     known = take-length known;
-    slot = j.inside;
+    slot = j;
+    few = few;
     given = given;
   }
 
@@ -252,9 +272,10 @@ module _ (g h : states.Seen) (f : Frame) (fs : List Frame) (fit : AreFit g (f �
   }
 
   -- one that has asked its recipe
-  asked_turn : {most : ℕ} (known : List Known) (reads : List Seen) → AreReadsGiven g reads → Stays g h (progressed f.name (Some known) g.state.progress) most → (mv : Move) →
+  asked_turn : {most : ℕ} (known : List Known) (reads : List Seen) →
+      good_reads reads + unknown_slots (length fit.0.computed.recipe.slots) known ≤ length fit.0.computed.recipe.slots → AreReadsGiven g reads → Stays g h (progressed f.name (Some known) g.state.progress) most → (mv : Move) →
       IsAnswered (slots_here (standing g.state.signals f.name)) known reads mv → HasMove h f.name fs mv
-  asked_turn known reads given s mv a =
+  asked_turn known reads few given s mv a =
       let stands : standing h.state.signals f.name ≡ IsComputed fit.0.computed = ap (λ w. standing w f.name) s.signals ∙ fit.0.stands in
       let on : is_some (progress_at f.name g.state.progress) ≡ true = some_computing g f.name fit.0.earlier fit.0.begun in
       let noted : progress_at f.name h.state.progress ≡ Some known =
@@ -268,8 +289,8 @@ module _ (g h : states.Seen) (f : Frame) (fs : List Frame) (fit : AreFit g (f �
         computed = fit.0.computed;
         stands = stands;
         computing = some_computing h f.name known noted;
-        fits = subst (MoveFits h f.name) (sym a.move) (answer_moves h f.name fit.0.computed stands known reads noted given' a.answer judged);
-        can = subst (CanMove h) (sym a.move) (answer_can h f.name fit.0.computed stands known reads noted given' a.answer);
+        fits = subst (MoveFits h f.name) (sym a.move) (answer_moves h f.name fit.0.computed stands known reads noted few given' a.answer judged);
+        can = subst (CanMove h) (sym a.move) (answer_can h f.name fit.0.computed stands known reads noted few given' a.answer);
         off = fit.1;
         rest = stack_stays g h s.signals s.given f.name fs fit.1 other fit.2;
         idle = λ m off. ap is_some (other m (or_fst (m == f.name) (is_in m (frame_names fs)) off)) ∙ idle m off;
@@ -289,14 +310,18 @@ module _ (g h : states.Seen) (f : Frame) (fs : List Frame) (fit : AreFit g (f �
       (subst (CanMove g) (sym is) (look_can g f fit.0 none g.state.memos visited _ place _))
   after_turn visited (Running known reads) e mv is given s =
       let all : AreReadsGiven g reads = subst (λ x. AreReadsGiven g (phase_reads x)) e fit.0.given in
-      asked_turn known reads all s mv is
+      let few : good_reads reads + unknown_slots (length fit.0.computed.recipe.slots) known ≤ length fit.0.computed.recipe.slots =
+      subst (λ x. good_reads (phase_reads x) + unknown_slots (length fit.0.computed.recipe.slots) (phase_known x) ≤ length fit.0.computed.recipe.slots) e fit.0.few in
+      asked_turn known reads few all s mv is
   after_turn visited (Waiting slot known reads) e mv is given s =
       let some : take (length fit.0.earlier) known ≡ fit.0.earlier = ap (λ x. take (length fit.0.earlier) (phase_known x)) (sym e) ∙ fit.0.known in
-      let inside : slot < length fit.0.computed.recipe.slots = subst (HasSlot (length fit.0.computed.recipe.slots)) e fit.0.slot in
+      let unknown : IsUnknownSlot (length fit.0.computed.recipe.slots) slot known = subst (HasSlot (length fit.0.computed.recipe.slots)) e fit.0.slot in
+      let few : good_reads reads + unknown_slots (length fit.0.computed.recipe.slots) known ≤ length fit.0.computed.recipe.slots =
+      subst (λ x. good_reads (phase_reads x) + unknown_slots (length fit.0.computed.recipe.slots) (phase_known x) ≤ length fit.0.computed.recipe.slots) e fit.0.few in
       let given' = subst (λ x. AreReadsGiven g (move_reads x)) is given in
       quiet_turn s mv
-      (subst (MoveFits g f.name) (sym is) (wait_moves g f fit.0 g.state.memos visited slot inside known reads some _ given'))
-      (subst (CanMove g) (sym is) (wait_can g f fit.0 g.state.memos visited slot inside known reads some _ given'))
+      (subst (MoveFits g f.name) (sym is) (wait_moves g f fit.0 g.state.memos visited slot known reads unknown few some _ given'))
+      (subst (CanMove g) (sym is) (wait_can g f fit.0 g.state.memos visited slot known reads unknown few some _ given'))
 
 -- ---- the move is made
 

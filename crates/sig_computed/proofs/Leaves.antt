@@ -1,13 +1,18 @@
 -- What stands under a name, as a graph answers it and as steps ask it.
-use Rattle.std.proofs.Common.{◌≡◌, ℕ, ◌+◌, Bool, true, false, [], Option, refl}
+use Rattle.std.proofs.Common.{◌≡◌, ℕ, ◌+◌, Bool, true, false, List, [], length, Option, Some, refl, sym, ap, ◌∙◌, subst}
 use Rattle.sig_base.specs.declared.value.Outcome.{Outcome}
 use Rattle.sig_base.specs.declared.value.Outcome.TheVariants.{Bad}
 use Rattle.sig_base.specs.declared.value.Fault.TheVariants.{Cycle}
+use Rattle.sig_base.specs.declared.value.Known.{Known}
+use Rattle.sig_base.specs.declared.value.Step.{Step}
+use Rattle.signal_model.specs.Recipes.{Expression, Hosts, formula, given_answer, host, judged}
+use Rattle.sig_nodes.specs.declared.answers.Asked.{Asked}
+use Rattle.sig_nodes.specs.declared.answers.Asked.TheVariants.{Host as HostAsked}
 use Rattle.signal_model.specs.Standing.{Stands, IsGone, IsCell, IsComputed, is_computed}
 use Rattle.signal_model.specs.Memos.{Memo}
 use Rattle.signal_model.specs.Sound.{kept_outcome, outcome_here}
 use Rattle.sig_nodes.specs.declared.answers.Standing.TheVariants.{Computed, Computing}
-use Rattle.sig_nodes.specs.Answers.{kind_here}
+use Rattle.sig_nodes.specs.Answers.{answer_here, host_place, kind_here, slots_here, IsAnswerHere}
 use Rattle.settle_model.specs.Stepping.{Running, Looking, GoesOn, is_ready, ready_outcome, decided}
 use Rattle.sig_computed.specs.Views.{or_cycle}
 
@@ -61,3 +66,18 @@ pub decided_still : (cycle moved : Bool) (place : ℕ) → moved ≡ false → G
 decided_still cycle true place m = cc
 decided_still true false place m = refl
 decided_still false false place m = refl
+
+-- a host formula's answer, judged, is that of the recipe
+pub host_answer : (hosts : Hosts) (st : Stands) (known : List Known) (a : Asked) (place : ℕ) (slots : List ℕ) (step s : Step) → a ≡ HostAsked place → IsAnswerHere st known a →
+    step ≡ hosts place known → slots ≡ slots_here st → s ≡ judged (length slots) known step → s ≡ answer_here hosts st known
+host_answer hosts st known a place slots step s is here given same answer = go st (subst (IsAnswerHere st known) is here) same
+  where
+    go : (x : Stands) → IsAnswerHere x known (HostAsked place) → slots ≡ slots_here x → s ≡ answer_here hosts x known
+    go IsGone h e = absurd h
+    go (IsCell c) h e = absurd h
+    go (IsComputed c) h e =
+        answer ∙ ap (λ l. judged (length l) known step) e ∙ ap (judged (length c.recipe.slots) known) (given ∙ by c.recipe.expression h)
+      where
+        by : (x : Expression) → host_place x ≡ Some place → hosts place known ≡ given_answer hosts x known
+        by (formula row t) q = cc
+        by (host p) q = let same : p ≡ place = cc in ap (λ n. hosts n known) (sym same)

@@ -4,6 +4,7 @@ mod Sources
 mod Leaves
 mod Wholes
 mod Measure
+mod Asking
 mod Loops
 mod Runs
 mod Fitting

@@ -1,10 +1,13 @@
 -- One turn of the loop.
-use Rattle.std.proofs.Common.{◌≡◌, ℕ, ◌+◌, ◌-◌, ◌<◌, ◌≤◌, Bool, List, [], ◌∷◌, ◌++◌, map, take, length, refl, sym, ap, ◌∙◌, subst, arith}
-use Rattle.std.proofs.lemmas.List.{reverse-append, length-append, length-map}
+use Rattle.std.proofs.Common.{◌≡◌, ℕ, ◌+◌, ◌-◌, ◌^◌, ◌<◌, ◌≤◌, Bool, cond, List, [], ◌∷◌, ◌++◌, map, reverse, take, length, refl, sym, ap, ◌∙◌, subst, arith}
+use Rattle.std.proofs.lemmas.List.{reverse-append, length-append, length-map, length-reverse}
 use Rattle.signal_model.specs.Recipes.{Hosts}
 use Rattle.signal_model.specs.Kept.{AreGiven}
 use Rattle.signal_model.specs.Standing.{is_in, is_there, standing}
 use Rattle.signal_model.specs.Memos.{Memos}
+use Rattle.signal_model.specs.Asks.{asks_host}
+use Rattle.sig_host.specs.Hosts.{HostPlace, count_at, most_asked}
+use Rattle.sig_nodes.specs.Answers.{host_here, HaveFewSlots}
 use Rattle.sig_nodes.specs.States as states
 use Rattle.sig_nodes.specs.States.{is_computing, is_given}
 use Rattle.settle_model.specs.Stepping.{Move, GoesOn, Needs, Stops, Ends, frame_names}
@@ -13,7 +16,9 @@ use Rattle.sig_computed.specs.declared.notes.RunNote.{RunNote}
 use Rattle.sig_computed.specs.Notes.{Note, note_of, AreNotesGiven}
 use Rattle.sig_computed.specs.Views.{evaluating, frame_of, phase_of, tops, Stays}
 use Rattle.sig_computed.specs.Visited.{marked}
+use Rattle.sig_computed.specs.Asked.{places_by, AreThere, CanAsk}
 use Rattle.sig_computed.specs.Turns.{memos_after, move_by, move_reads, move_steps, notes_of, progress_by, runs_of, stack_after, turn_steps, visited_after, AreReadsGiven, IsMove, IsMoved}
+use Rattle.sig_computed.proofs.Asking.{can_ask, move_asked, move_counts, phase_asked, phase_asks, places_count, step_asked, HasAsked}
 use Rattle.sig_computed.proofs.Fitting.{HasMove, HasStack, after_turn, after_move, frames_are, given_stays, move_given}
 use Rattle.sig_computed.proofs.Measure.{work, turn_lowers}
 use Rattle.sig_computed.proofs.Wholes.{IsWhole, step_whole}
@@ -25,6 +30,16 @@ tops_last fs rest f e = ap tops e ∙ ap (map frame_of) (reverse-append rest (f 
 -- where nothing could be taken off, nothing is left
 pub none_left : (xs ys : List Open) (n : ℕ) → xs ≡ ys ++ [] → ys ≡ take (n - 1) xs → n ≡ 0 → xs ≡ []
 none_left xs ys n e r z = e ∙ ap (λ l. l ++ []) (r ∙ ap (λ i. take (i - 1) xs) z)
+
+-- the host formula of a frame can be asked
+pub frame_can : (start g : states.Seen) (stack : List Open) (n : ℕ) (old new : List HostPlace) (before after : ℕ) → g.state.signals ≡ start.state.signals →
+    HaveFewSlots start.state.signals → HasStack g (tops stack) → AreThere start.state.signals old → most_asked old < 2 ^ 127 → length stack < 2 ^ 64 → after < 2 ^ 64 →
+    HasAsked start.state.signals old new before after (tops stack) → CanAsk (host_here (standing g.state.signals n)) new
+frame_can start g stack n old new before after signals slots frames are room few notes h =
+    let a : length (tops stack) ≡ length (reverse stack) = length-map (reverse stack) frame_of in
+    let b : length (reverse stack) ≡ length stack = length-reverse stack in
+    can_ask g old new n before after (tops stack) (subst HaveFewSlots (sym signals) slots) frames.fits (subst (λ w. AreThere w old) (sym signals) are) room
+    (omega (arith, a, b, few)) notes (subst (λ w. HasAsked w old new before after (tops stack)) (sym signals) h)
 
 -- The innermost frame f was taken off, and has come to a move: the graph g is h by then.
 pub record IsTurn (start g h : states.Seen) (stack rest : List Open) (f : Open) (bits bits' : List Bool) (mv : Move) : Type 0 where
@@ -49,6 +64,10 @@ module _ (start g h : states.Seen) (stack rest : List Open) (f : Open) (bits bit
 
   frames : HasStack g (frame_of f ∷ tops rest)
   frames = subst (HasStack g) top t.frames
+
+  -- the move takes the asks of its frame along
+  counts : phase_asked (phase_of f.doing) + phase_asks (phase_of f.doing) ≡ move_asked mv
+  counts = move_counts g.state.signals g.state.memos (evaluating g.state) (marked g.seats bits') f.id (phase_of f.doing) mv t.some
 
   -- what the move needs
   pub turn_move : HasMove h f.id (tops rest) mv
@@ -110,23 +129,42 @@ module _ (start g h : states.Seen) (stack rest : List Open) (f : Open) (bits bit
     steps_more = let a = t.stays.steps in let b = d.graph.steps in omega (arith, a, b)
 
     -- the whole stays the whole
-    pub turn_whole : (hosts : Hosts) (k0 : Memos) (steps0 : ℕ) (asked : List ℕ) (before after after' : List Note) → after' ≡ after ++ notes_of f.id mv →
+    pub turn_whole : (hosts : Hosts) (k0 : Memos) (steps0 : ℕ) (places0 places places' : List HostPlace) (asked : List ℕ) (before after after' : List Note) →
+        after' ≡ after ++ notes_of f.id mv → CanAsk (host_here (standing g.state.signals f.id)) places →
+        places' ≡ places_by (standing g.state.signals f.id) (phase_of f.doing) places →
         mv ≡ move_by hosts g.state.signals g.state.memos (evaluating g.state) (marked g.seats bits') f.id (phase_of f.doing) →
-        IsWhole hosts start.state.signals k0 steps0 asked g.state.memos g.state.looked before after (marked start.seats bits) (tops stack) →
-        IsWhole hosts start.state.signals k0 steps0 asked i.state.memos i.state.looked before after' (marked start.seats bits'') (tops stack')
-    turn_whole hosts k0 steps0 asked before after after' notes is x =
+        IsWhole hosts start.state.signals k0 steps0 places0 asked g.state.memos g.state.looked places before after (marked start.seats bits) (tops stack) →
+        IsWhole hosts start.state.signals k0 steps0 places0 asked i.state.memos i.state.looked places' before after' (marked start.seats bits'') (tops stack')
+    turn_whole hosts k0 steps0 places0 places places' asked before after after' notes can once is x =
         let stands = ap (λ w. standing w f.id) (sym t.signals) ∙ frames.fits.0.stands in
         let is' : mv ≡ move_by hosts start.state.signals g.state.memos (evaluating g.state) (marked start.seats bits') f.id (phase_of f.doing) =
         is ∙ (λ j. move_by hosts (t.signals j) g.state.memos (evaluating g.state) (marked (t.seats j) bits') f.id (phase_of f.doing)) in
-        let x' : IsWhole hosts start.state.signals k0 steps0 asked g.state.memos g.state.looked before after (marked start.seats bits') (frame_of f ∷ tops rest) =
-        subst (λ y. IsWhole hosts start.state.signals k0 steps0 asked g.state.memos g.state.looked before after (marked start.seats y) (frame_of f ∷ tops rest)) (sym t.same)
-        (subst (λ y. IsWhole hosts start.state.signals k0 steps0 asked g.state.memos g.state.looked before after (marked start.seats bits) y) top x) in
-        let y : IsWhole hosts start.state.signals k0 steps0 asked (memos_after g.state.memos f.id mv) i.state.looked before (after ++ notes_of f.id mv)
+        let more : (q : ℕ) → count_at places' q ≡ count_at places q + cond (asks_host q (standing start.state.signals f.id)) (phase_asks (phase_of f.doing)) 0 =
+        λ q. ap (λ l. count_at l q) once ∙ places_count (standing g.state.signals f.id) (phase_of f.doing) places q can
+        ∙ ap (λ v. count_at places q + cond (asks_host q (standing v f.id)) (phase_asks (phase_of f.doing)) 0) t.signals in
+        let x' : IsWhole hosts start.state.signals k0 steps0 places0 asked g.state.memos g.state.looked places before after (marked start.seats bits')
+        (frame_of f ∷ tops rest) =
+        subst (λ y. IsWhole hosts start.state.signals k0 steps0 places0 asked g.state.memos g.state.looked places before after (marked start.seats y) (frame_of f ∷ tops rest))
+        (sym t.same)
+        (subst (λ y. IsWhole hosts start.state.signals k0 steps0 places0 asked g.state.memos g.state.looked places before after (marked start.seats bits) y) top x) in
+        let y : IsWhole hosts start.state.signals k0 steps0 places0 asked (memos_after g.state.memos f.id mv) i.state.looked places' before (after ++ notes_of f.id mv)
         (marked start.seats bits'') (stack_after g.state.memos f.id mv (tops rest)) =
-        step_whole hosts start.state.signals k0 steps0 asked g.state.memos g.state.looked i.state.looked before after (evaluating g.state)
-        (marked start.seats bits') (marked start.seats bits'') (frame_of f) (tops rest) mv frames.fits.0.computed stands x' who is' visits steps_more in
+        step_whole hosts start.state.signals k0 steps0 places0 asked g.state.memos g.state.looked i.state.looked places places' before after (evaluating g.state)
+        (marked start.seats bits') (marked start.seats bits'') (frame_of f) (tops rest) mv frames.fits.0.computed stands x' who is' visits steps_more counts more in
         subst (λ z. z)
-        (λ j. IsWhole hosts start.state.signals k0 steps0 asked (sym memos_is j) i.state.looked before (sym notes j) (marked start.seats bits'') (sym stack_is j)) y
+        (λ j. IsWhole hosts start.state.signals k0 steps0 places0 asked (sym memos_is j) i.state.looked places' before (sym notes j) (marked start.seats bits'') (sym stack_is j)) y
+
+    -- what is known of the places
+    pub turn_asked : (old new new' : List HostPlace) (before after after' : ℕ) → HaveFewSlots start.state.signals →
+        CanAsk (host_here (standing g.state.signals f.id)) new → new' ≡ places_by (standing g.state.signals f.id) (phase_of f.doing) new → after' ≡ after + runs_of mv →
+        HasAsked start.state.signals old new before after (tops stack) → HasAsked start.state.signals old new' before after' (tops stack')
+    turn_asked old new new' before after after' slots can once runs h =
+        let h' : HasAsked g.state.signals old new before after (frame_of f ∷ tops rest) =
+        subst (λ y. HasAsked g.state.signals old new before after y) top (subst (λ v. HasAsked v old new before after (tops stack)) (sym t.signals) h) in
+        let r : HasAsked g.state.signals old new' before after' (stack_after g.state.memos f.id mv (tops rest)) =
+        step_asked g g.state.memos (frame_of f) (tops rest) mv old new new' before after after' (subst HaveFewSlots (sym t.signals) slots) frames.fits.0 counts can once runs h' in
+        subst (λ y. HasAsked start.state.signals old new' before after' y) (sym stack_is)
+        (subst (λ v. HasAsked v old new' before after' (stack_after g.state.memos f.id mv (tops rest))) t.signals r)
 
 -- as many notes as runs
 pub notes_count : (n : ℕ) (mv : Move) (before after : List RunNote) → map note_of after ≡ map note_of before ++ notes_of n mv →

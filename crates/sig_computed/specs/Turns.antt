@@ -3,9 +3,10 @@ use Rattle.std.specs.Prelude.{◌≡◌, ℕ, ◌+◌, ◌<◌, ◌≤◌, true,
 use Rattle.std.specs.List.{All}
 use Rattle.sig_base.specs.declared.value.Known.{Known}
 use Rattle.sig_base.specs.declared.value.Step.{Step}
-use Rattle.signal_model.specs.Recipes.{Hosts, IsJudged}
+use Rattle.signal_model.specs.Recipes.{Hosts, IsJudged, IsUnknownSlot}
 use Rattle.signal_model.specs.Standing.{Signals, Computed, IsComputed, is_computed, is_in, standing}
-use Rattle.signal_model.specs.Values.{Seen, Evaluation}
+use Rattle.signal_model.specs.Values.{Seen, Evaluation, unknown_slots}
+use Rattle.signal_model.specs.Asks.{good_reads}
 use Rattle.signal_model.specs.Memos.{Memos, holds_cycle, sources_of}
 use Rattle.signal_model.specs.Settling.{with_run}
 use Rattle.signal_model.specs.Sound.{names_of, standing_outcome}
@@ -177,14 +178,15 @@ move_reads (Ends e) = e.reads
 abbrev pub AreReadsGiven : states.Seen → List Seen → Type 0
 AreReadsGiven g reads = All (λ (r : Seen). is_given g r.name ≡ true) reads
 
--- the slot that is waited for is one of so many
+-- the slot that is waited for is one of so many, and isn't known
 abbrev pub HasSlot : ℕ → Phase → Type 0
 HasSlot count (Looking place) = Unit {0}
 HasSlot count (LookedAt place) = Unit {0}
 HasSlot count (Running known reads) = Unit {0}
-HasSlot count (Waiting slot known reads) = slot < count
+HasSlot count (Waiting slot known reads) = IsUnknownSlot count slot known
 
--- A frame of a computed whose evaluation has begun. Its recipe was last asked with some of the values that the frame knows now.
+-- A frame of a computed whose evaluation has begun. Its recipe was last asked with some of the values that the frame knows now, and
+-- each good read has made one slot more known.
 pub record Fits (g : states.Seen) (f : Frame) : Type 0 where
   pub computed : Computed
   pub stands : standing g.state.signals f.name ≡ IsComputed computed
@@ -192,6 +194,7 @@ pub record Fits (g : states.Seen) (f : Frame) : Type 0 where
   pub begun : progress_at f.name g.state.progress ≡ Some earlier
   pub known : take (length earlier) (phase_known f.phase) ≡ earlier
   pub slot : HasSlot (length computed.recipe.slots) f.phase
+  pub few : good_reads (phase_reads f.phase) + unknown_slots (length computed.recipe.slots) (phase_known f.phase) ≤ length computed.recipe.slots
   pub given : AreReadsGiven g (phase_reads f.phase)
 
 -- each frame of a stack fits, and no computed has two

@@ -1,5 +1,5 @@
 // Settling by a loop over a stack of frames, so its depth rests on no machine stack.
-ghost use Rattle.std.specs.Prelude.{◌≡◌, ◌+◌, ◌<◌, ◌≤◌, ◌^◌, ◌++◌, ◌∷◌, ℕ, [], List, true, false, None, Some, IfOk, IfSome, OnOk, map, reverse, length, vec_len};
+ghost use Rattle.std.specs.Prelude.{◌≡◌, ◌+◌, ◌*◌, ◌<◌, ◌≤◌, ◌^◌, ◌++◌, ◌∷◌, ℕ, [], List, true, false, None, Some, IfOk, IfSome, OnOk, map, reverse, length, vec_len};
 ghost use Rattle.signal_model.specs.Recipes.{Hosts};
 ghost use Rattle.signal_model.specs.Standing.{is_computed, is_in, is_there, standing};
 ghost use Rattle.signal_model.specs.Values.{value_of};
@@ -7,6 +7,8 @@ ghost use Rattle.signal_model.specs.Kept.{AreKept};
 ghost use Rattle.signal_model.specs.Sound.{names_of};
 ghost use Rattle.sig_nodes.specs.States.{is_computing, progress_at, CanWear};
 ghost use Rattle.settle_model.specs.Stepping.{frame_names, new_frame};
+ghost use Rattle.sig_host.specs.Hosts.{most_asked};
+ghost use Rattle.sig_computed.specs.Asked.{AreThere, IsAsking, StayThere};
 ghost use Rattle.sig_computed.specs.Notes.{note_of, AreNotesGiven, HasRoom, IsIdle, IsSettling};
 ghost use Rattle.sig_computed.specs.Steps.{settling_steps};
 ghost use Rattle.sig_computed.specs.Views.{evaluating, evaluation_of, frame_of, move_of, progressed, seen_of, tops, Stays};
@@ -18,6 +20,7 @@ use crate::notes::RunNote;
 use crate::turns::{outcome_of, turn_of};
 use crate::visited::{none_visited, visit};
 use sig_base::{MOST_NODES, NoMemory, NodeId, Outcome};
+use sig_host::{Lent, Shelf};
 use sig_nodes::{Graph, Standing};
 use std::alloc::Global;
 
@@ -138,21 +141,34 @@ fn first(alloc: Global, graph: &mut Graph, id: NodeId) -> Result<Vec<Open>, NoMe
 }
 
 /// Settles a signal, gone ones too, and gives its outcome, which is its value from scratch. What is kept afterwards and the notes
-/// that are put behind are those of settling its name, whatever was set, rewired or disposed before. Signals stay, and nothing is
-/// being evaluated before and after. Without memory the graph may only be dropped. What is no computed takes no memory but that of
-/// the answer.
-pub fn settle(graph: &mut Graph, id: NodeId, notes: &mut Vec<RunNote>) -> Result<Outcome, NoMemory>
+/// that are put behind are those of settling its name, whatever was set, rewired or disposed before. Host formulas are asked exactly
+/// as the runs of this call ask them, each once and once more after each good read. Signals stay, and nothing is being evaluated
+/// before and after. Without memory graph and shelf may only be dropped. What is no computed takes no memory but that of the answer.
+pub fn settle(
+    graph: &mut Graph,
+    shelf: &mut Shelf,
+    id: NodeId,
+    notes: &mut Vec<RunNote>,
+) -> Result<Outcome, NoMemory>
     requires idle { IsIdle graph.old.state }
     requires worn { HasRoom graph.old.state }
-    ensures value { (hosts : Hosts) → AreKept hosts graph.old.state.signals graph.old.state.memos → IfOk result (λ o. o ≡ value_of hosts graph.old.state.signals id []) }
-    ensures settled { (hosts : Hosts) → AreKept hosts graph.old.state.signals graph.old.state.memos → OnOk result (IsSettling hosts graph.old.state.signals graph.old.state.memos (id ∷ []) (map note_of notes.old.items) (map note_of notes.new.items) graph.new.state.memos) }
-    ensures kept { (hosts : Hosts) → AreKept hosts graph.old.state.signals graph.old.state.memos → OnOk result (AreKept hosts graph.new.state.signals graph.new.state.memos) }
+    requires counted { ⟦<Shelf as Lent>⟧.counted shelf.old }
+    requires there { AreThere graph.old.state.signals (⟦<Shelf as Lent>⟧.asked shelf.old) }
+    requires room { most_asked (⟦<Shelf as Lent>⟧.asked shelf.old) < 2 ^ 127 }
+    ensures value { (hosts : Hosts) → ⟦<Shelf as Lent>⟧.answers hosts shelf.old → AreKept hosts graph.old.state.signals graph.old.state.memos → IfOk result (λ o. o ≡ value_of hosts graph.old.state.signals id []) }
+    ensures settled { (hosts : Hosts) → ⟦<Shelf as Lent>⟧.answers hosts shelf.old → AreKept hosts graph.old.state.signals graph.old.state.memos → OnOk result (IsSettling hosts graph.old.state.signals graph.old.state.memos (id ∷ []) (map note_of notes.old.items) (map note_of notes.new.items) graph.new.state.memos) }
+    ensures kept { (hosts : Hosts) → ⟦<Shelf as Lent>⟧.answers hosts shelf.old → AreKept hosts graph.old.state.signals graph.old.state.memos → OnOk result (AreKept hosts graph.new.state.signals graph.new.state.memos) }
+    ensures asked { (hosts : Hosts) → ⟦<Shelf as Lent>⟧.answers hosts shelf.old → AreKept hosts graph.old.state.signals graph.old.state.memos → OnOk result (IsAsking hosts graph.old.state.signals graph.old.state.memos (id ∷ []) (⟦<Shelf as Lent>⟧.asked shelf.old) (⟦<Shelf as Lent>⟧.asked shelf.new)) }
+    ensures answers { (hosts : Hosts) → ⟦<Shelf as Lent>⟧.answers hosts shelf.old → OnOk result (⟦<Shelf as Lent>⟧.answers hosts shelf.new) }
+    ensures counted { OnOk result (⟦<Shelf as Lent>⟧.counted shelf.new) }
+    ensures there { OnOk result (StayThere (⟦<Shelf as Lent>⟧.asked shelf.old) (⟦<Shelf as Lent>⟧.asked shelf.new)) }
+    ensures most { OnOk result (most_asked (⟦<Shelf as Lent>⟧.asked shelf.new) + 65 * length notes.old.items ≤ most_asked (⟦<Shelf as Lent>⟧.asked shelf.old) + 65 * length notes.new.items) }
     ensures signals { OnOk result (graph.new.state.signals ≡ graph.old.state.signals) }
     ensures idle { OnOk result (IsIdle graph.new.state) }
     ensures seats { OnOk result (graph.new.seats ≡ graph.old.seats) }
     ensures given { OnOk result (graph.new.given ≡ graph.old.given) }
     ensures named { OnOk result (AreNotesGiven graph.old (map note_of notes.old.items) → AreNotesGiven graph.new (map note_of notes.new.items)) }
-    ensures steps { (hosts : Hosts) → AreKept hosts graph.old.state.signals graph.old.state.memos → OnOk result (graph.new.state.looked ≤ graph.old.state.looked + settling_steps hosts graph.old.state.signals graph.old.state.memos (id ∷ [])) }
+    ensures steps { (hosts : Hosts) → ⟦<Shelf as Lent>⟧.answers hosts shelf.old → AreKept hosts graph.old.state.signals graph.old.state.memos → OnOk result (graph.new.state.looked ≤ graph.old.state.looked + settling_steps hosts graph.old.state.signals graph.old.state.memos (id ∷ [])) }
     ensures worn { OnOk result (graph.new.state.worn + length notes.old.items ≡ graph.old.state.worn + length notes.new.items) }
 {
     let _made = graph.made();
@@ -165,7 +181,7 @@ pub fn settle(graph: &mut Graph, id: NodeId, notes: &mut Vec<RunNote>) -> Result
     let mut stack = first(alloc, graph, id)?;
     while let Some(frame) = stack.pop() {
         let node = frame.id;
-        let turn = turn_of(alloc, graph, &visited, frame)?;
+        let turn = turn_of(alloc, graph, shelf, &visited, frame)?;
         apply(alloc, graph, &mut stack, &mut visited, notes, node, turn)?;
     }
     let outcome = outcome_of(graph, id)?;

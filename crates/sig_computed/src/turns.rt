@@ -1,20 +1,23 @@
 // One step of a frame: a look at a kept source, an answer of the recipe, or a slot that was waited for.
 ghost use Rattle.std.specs.Prelude.{◌≡◌, ◌<◌, ℕ, ◌∷◌, [], true, false, List, Some, None, IfOk, IfSome, OnOk, map, drop, length, slice_index};
-ghost use Rattle.signal_model.specs.Recipes.{Hosts};
+ghost use Rattle.signal_model.specs.Recipes.{Hosts, IsJudged};
 ghost use Rattle.signal_model.specs.Standing.{standing, is_in};
 ghost use Rattle.signal_model.specs.Memos.{holds_cycle, memo_of, sources_of};
 ghost use Rattle.signal_model.specs.Sound.{kept_outcome, standing_outcome};
-ghost use Rattle.sig_nodes.specs.Answers.{answer_here, slots_here};
+ghost use Rattle.sig_nodes.specs.Answers.{answer_here, host_here, slots_here, IsAnswerHere, IsJudgedAnswer};
 ghost use Rattle.sig_nodes.specs.States.{is_cell, is_given, progress_at, GoesOn};
 ghost use Rattle.settle_model.specs.Stepping.{answered, decided, is_ready, Ends, looked, ready_outcome, told};
 ghost use Rattle.sig_computed.specs.Views.{evaluating, first_moved, first_name, frame_of, move_of, or_cycle, phase_of, progressed, seen_of, Stays};
 ghost use Rattle.sig_computed.specs.Visited.{marked};
+ghost use Rattle.sig_computed.specs.Asked.{asked_once, places_by, CanAsk};
 ghost use Rattle.sig_computed.specs.Turns.{look_steps, move_by, move_reads, progress_by, turn_steps, waits, AreReadsGiven, Fits, IsAnswered, IsMove};
 
 use crate::frames::{Doing, Open, Ran, Read, Turn};
 use crate::visited::is_visited;
 use sig_base::{Fault, Known, MOST_NODES, NoMemory, NodeId, Outcome, Step};
+use sig_host::{Lent, Shelf};
 use sig_nodes::{Asked, Graph, Standing};
+use signal_model::judged;
 use std::alloc::Global;
 
 // Whether a source needs no settling first: it is no computed, is being evaluated, or was visited.
@@ -205,21 +208,57 @@ fn answered(answer: Step, known: Vec<Known>, reads: Vec<Read>) -> Turn
     }
 }
 
+// What a computed's recipe answers: a formula's answer, or that of the host formula, which is asked now.
+fn answer_of(
+    alloc: Global,
+    graph: &Graph,
+    shelf: &mut Shelf,
+    node: NodeId,
+    asked: Asked,
+    known: &[Known],
+) -> Result<Step, NoMemory>
+    requires counted { ⟦<Shelf as Lent>⟧.counted shelf.old }
+    requires host { CanAsk (host_here (standing graph.now.state.signals node)) (⟦<Shelf as Lent>⟧.asked shelf.old) }
+    requires answer { IsAnswerHere (standing graph.now.state.signals node) known.now asked }
+    requires judged { IsJudgedAnswer (length (slots_here (standing graph.now.state.signals node))) known.now asked }
+    ensures answer { (hosts : Hosts) → ⟦<Shelf as Lent>⟧.answers hosts shelf.old → IfOk result (λ s. s ≡ answer_here hosts (standing graph.now.state.signals node) known.now) }
+    ensures judged { IfOk result (λ s. IsJudged (length (slots_here (standing graph.now.state.signals node))) known.now s) }
+    ensures answers { (hosts : Hosts) → ⟦<Shelf as Lent>⟧.answers hosts shelf.old → ⟦<Shelf as Lent>⟧.answers hosts shelf.new }
+    ensures counted { ⟦<Shelf as Lent>⟧.counted shelf.new }
+    ensures asked { OnOk result (⟦<Shelf as Lent>⟧.asked shelf.new ≡ asked_once (host_here (standing graph.now.state.signals node)) (⟦<Shelf as Lent>⟧.asked shelf.old)) }
+{
+    match asked {
+        Asked::Step(step) => Ok(step),
+        Asked::Host(place) => {
+            let step = shelf.ask(alloc, place, known)?;
+            Ok(judged(graph.slots(node).len(), known, step))
+        }
+    }
+}
+
 // A recipe is asked with what is known.
 fn run(
+    alloc: Global,
     graph: &mut Graph,
+    shelf: &mut Shelf,
     node: NodeId,
     known: Vec<Known>,
     reads: Vec<Read>,
 ) -> Result<Turn, NoMemory>
     requires known { GoesOn (progress_at node graph.old.state.progress) known.items }
     requires given { AreReadsGiven graph.old (map seen_of reads.items) }
-    ensures turn { (hosts : Hosts) → IfOk result (λ t. move_of t ≡ answered (answer_here hosts (standing graph.old.state.signals node) known.items) known.items (map seen_of reads.items)) }
+    requires counted { ⟦<Shelf as Lent>⟧.counted shelf.old }
+    requires host { CanAsk (host_here (standing graph.old.state.signals node)) (⟦<Shelf as Lent>⟧.asked shelf.old) }
+    ensures turn { (hosts : Hosts) → ⟦<Shelf as Lent>⟧.answers hosts shelf.old → IfOk result (λ t. move_of t ≡ answered (answer_here hosts (standing graph.old.state.signals node) known.items) known.items (map seen_of reads.items)) }
     ensures some { IfOk result (λ t. IsAnswered (slots_here (standing graph.old.state.signals node)) known.items (map seen_of reads.items) (move_of t)) }
     ensures given { IfOk result (λ t. AreReadsGiven graph.old (move_reads (move_of t))) }
     ensures after { OnOk result (Stays graph.old graph.new (progressed node (Some known.items) graph.old.state.progress) 1) }
+    ensures answers { (hosts : Hosts) → ⟦<Shelf as Lent>⟧.answers hosts shelf.old → OnOk result (⟦<Shelf as Lent>⟧.answers hosts shelf.new) }
+    ensures counted { OnOk result (⟦<Shelf as Lent>⟧.counted shelf.new) }
+    ensures asked { OnOk result (⟦<Shelf as Lent>⟧.asked shelf.new ≡ asked_once (host_here (standing graph.old.state.signals node)) (⟦<Shelf as Lent>⟧.asked shelf.old)) }
 {
-    let Asked::Step(answer) = graph.recipe(node, &known)?;
+    let asked = graph.recipe(node, &known)?;
+    let answer = answer_of(alloc, graph, shelf, node, asked, &known)?;
     Ok(answered(answer, known, reads))
 }
 
@@ -227,21 +266,27 @@ fn run(
 pub(crate) fn turn_of(
     alloc: Global,
     graph: &mut Graph,
+    shelf: &mut Shelf,
     visited: &[bool],
     frame: Open,
 ) -> Result<Turn, NoMemory>
     requires size { length visited.now ≡ MOST_NODES }
     requires fits { Fits graph.old (frame_of frame) }
-    ensures turn { (hosts : Hosts) → IfOk result (λ t. move_of t ≡ move_by hosts graph.old.state.signals graph.old.state.memos (evaluating graph.old.state) (marked graph.old.seats visited.now) frame.id (phase_of frame.doing)) }
+    requires counted { ⟦<Shelf as Lent>⟧.counted shelf.old }
+    requires host { CanAsk (host_here (standing graph.old.state.signals frame.id)) (⟦<Shelf as Lent>⟧.asked shelf.old) }
+    ensures turn { (hosts : Hosts) → ⟦<Shelf as Lent>⟧.answers hosts shelf.old → IfOk result (λ t. move_of t ≡ move_by hosts graph.old.state.signals graph.old.state.memos (evaluating graph.old.state) (marked graph.old.seats visited.now) frame.id (phase_of frame.doing)) }
     ensures some { IfOk result (λ t. IsMove graph.old.state.signals graph.old.state.memos (evaluating graph.old.state) (marked graph.old.seats visited.now) frame.id (phase_of frame.doing) (move_of t)) }
     ensures given { IfOk result (λ t. AreReadsGiven graph.old (move_reads (move_of t))) }
     ensures after { IfOk result (λ t. Stays graph.old graph.new (progress_by frame.id (phase_of frame.doing) graph.old.state.progress) (turn_steps (phase_of frame.doing) (move_of t))) }
+    ensures answers { (hosts : Hosts) → ⟦<Shelf as Lent>⟧.answers hosts shelf.old → OnOk result (⟦<Shelf as Lent>⟧.answers hosts shelf.new) }
+    ensures counted { OnOk result (⟦<Shelf as Lent>⟧.counted shelf.new) }
+    ensures asked { OnOk result (⟦<Shelf as Lent>⟧.asked shelf.new ≡ places_by (standing graph.old.state.signals frame.id) (phase_of frame.doing) (⟦<Shelf as Lent>⟧.asked shelf.old)) }
 {
     let node = frame.id;
     match frame.doing {
         Doing::Looking(place) => Ok(look(alloc, graph, visited, node, place)),
         Doing::LookedAt(place) => Ok(look(alloc, graph, visited, node, place)),
-        Doing::Running(known, reads) => run(graph, node, known, reads),
+        Doing::Running(known, reads) => run(alloc, graph, shelf, node, known, reads),
         Doing::Waiting(slot, known, reads) => wait(graph, visited, node, slot, known, reads),
     }
 }

@@ -19,7 +19,8 @@ use Rattle.sig_nodes.specs.States.{State, Seen, Becomes, Makes, are_there, is_ce
 use Rattle.signal_model.specs.Kept.{AreGiven}
 use Rattle.sig_nodes.specs.Seats.{Seating, holder, with_left, with_taken}
 use Rattle.sig_nodes.specs.Places.{seen, Holds}
-use Rattle.sig_nodes.specs.Nodes.{are_live_bodies, parts, cell_part, computed_part, signals_of, memos_of, state_of, body_at, change_at, seat_at, changed_at, is_live_body, is_cell_body, is_computed_body, memo_body, known_body, slots_body, stands_of, gone_node, known_node, new_node, rewired_node, run_node, set_node, with_body_known, with_body_memo, with_body_recipe, with_body_value, IsFresh}
+use Rattle.sig_nodes.specs.Nodes.{are_live_bodies, parts, cell_part, computed_part, signals_of, memos_of, state_of, body_at, change_at, seat_at, changed_at, is_live_body, is_cell_body, is_computed_body, memo_body, known_body, slots_body, stands_of, gone_node, known_node, new_node, rewired_node, run_node, set_node, with_body_known, with_body_memo, with_body_recipe, with_body_value, FewSlotsBody, IsFresh}
+use Rattle.sig_nodes.specs.Answers.{HasFewSlots, HaveFewSlots}
 use Rattle.sig_nodes.proofs.Parts.{stands, memo_found}
 use Rattle.sig_nodes.proofs.Edits.{body_changed, changed_length, seat_stays}
 use Rattle.sig_nodes.proofs.Seating.{held_inside, holder_set, set_size}
@@ -169,13 +170,14 @@ change_risen g r (suc n) (suc m) (x ∷ xs) h = change_risen g r n m xs h
 
 pub edit_holds : (g : Node → Node) (f : Body → Body) (r n : ℕ) (xs : List Node) (t : Seating) (gen gen' w : ℕ) → IsEdit g f r → gen' ≤ gen + r →
     ((m : ℕ) → is_in m (source_names (sources_in (memo_body (f (body_at xs n))))) ≡ true → m < length xs) →
-    ((m : ℕ) → is_in m (slots_body (f (body_at xs n))) ≡ true → m < length xs) → Holds xs t gen w → Holds (changed_at g n xs) t gen' (w + r)
-edit_holds g f r n xs t gen gen' w e later sources slots h = record {
+    ((m : ℕ) → is_in m (slots_body (f (body_at xs n))) ≡ true → m < length xs) → FewSlotsBody (f (body_at xs n)) → Holds xs t gen w → Holds (changed_at g n xs) t gen' (w + r)
+edit_holds g f r n xs t gen gen' w e later sources slots few h = record {
   numbers = λ m. let a : change_at (changed_at g n xs) m ≤ change_at xs m + r = change_risen g r n m xs e.number in let b : change_at xs m ≤ w = h.numbers m in omega (arith, a, b);
   current = let a : gen ≤ w = h.current in omega (arith, a, later);
   made = let a : length xs ≤ w = h.made in let l : length (changed_at g n xs) ≡ length xs = changed_length g n xs in omega (arith, a, l);
   sources = λ k m q. subst (λ z. m < z) (sym (changed_length g n xs)) (by_sources k m (n == k) refl (sym (ap (λ b. is_in m (source_names (sources_in (memo_body b)))) (at k)) ∙ q));
   slots = λ k m q. subst (λ z. m < z) (sym (changed_length g n xs)) (by_slots k m (n == k) refl (sym (ap (λ b. is_in m (slots_body b)) (at k)) ∙ q));
+  few = λ k. subst FewSlotsBody (sym (at k)) (by_few k (n == k) refl);
   seated = λ k q. ap (holder t.holders) (seat_stays g n k xs e.seat) ∙ h.seated k (sym (alive k) ∙ q);
   living = λ s k q. let a : (is_live_body (body_at xs k) ≡ true) × (seat_at xs k ≡ s) = h.living s k q in (alive k ∙ a.0, seat_stays g n k xs e.seat ∙ a.1);
   room =
@@ -202,6 +204,10 @@ edit_holds g f r n xs t gen gen' w e later sources slots h = record {
     by_slots k m true q on = slots m (ap (λ z. is_in m (slots_body (f (body_at xs z)))) (eqb-true n k q) ∙ on)
     by_slots k m false q on = h.slots k m on
 
+    by_few : (k : ℕ) (b : Bool) → (n == k) ≡ b → FewSlotsBody (if b then f (body_at xs k) else body_at xs k)
+    by_few k true q = subst (λ z. FewSlotsBody (f (body_at xs z))) (eqb-true n k q) few
+    by_few k false q = h.few k
+
 -- ---- each of them
 
 pub in_all : (ds : List ℕ) (n m : ℕ) → All (λ d. d < n) ds → is_in m ds ≡ true → m < n
@@ -225,7 +231,7 @@ same_slots f xs n t gen w e h m q = h.slots n m (ap (is_in m) (sym e) ∙ q)
 pub set_holds : (v : Value) (n : ℕ) (xs : List Node) (t : Seating) (gen w : ℕ) → Holds xs t gen w → Holds (changed_at (set_node v) n xs) t (gen + 1) (w + 1)
 set_holds v n xs t gen w h =
     edit_holds (set_node v) (λ b. with_body_value b v) 1 n xs t gen (gen + 1) w (record { body = λ x. refl; seat = λ x. refl; number = λ x. omega arith; gone = refl; live = live }) (omega arith)
-    (same_sources (λ b. with_body_value b v) xs n t gen w (reads (body_at xs n)) h) (same_slots (λ b. with_body_value b v) xs n t gen w (slots (body_at xs n)) h) h
+    (same_sources (λ b. with_body_value b v) xs n t gen w (reads (body_at xs n)) h) (same_slots (λ b. with_body_value b v) xs n t gen w (slots (body_at xs n)) h) (few (body_at xs n) (h.few n)) h
   where
     live : (b : Body) → is_live_body (with_body_value b v) ≡ is_live_body b
     live Gone = refl
@@ -242,13 +248,18 @@ set_holds v n xs t gen w h =
     slots (CellBody u r) = refl
     slots (ComputedBody c) = refl
 
+    few : (b : Body) → FewSlotsBody b → FewSlotsBody (with_body_value b v)
+    few Gone q = tt
+    few (CellBody u r) q = tt
+    few (ComputedBody c) q = q
+
 -- a step of an evaluation
 pub known_holds : (k : Option (List Known)) (n : ℕ) (xs : List Node) (t : Seating) (gen w : ℕ) → Holds xs t gen w → Holds (changed_at (known_node k) n xs) t gen w
 known_holds k n xs t gen w h =
     let e : w + 0 ≡ w = omega arith in
     subst (λ z. Holds (changed_at (known_node k) n xs) t gen z) e
     (edit_holds (known_node k) (λ b. with_body_known b k) 0 n xs t gen gen w (record { body = λ x. refl; seat = λ x. refl; number = λ x. omega arith; gone = refl; live = live }) (omega arith)
-    (same_sources (λ b. with_body_known b k) xs n t gen w (reads (body_at xs n)) h) (same_slots (λ b. with_body_known b k) xs n t gen w (slots (body_at xs n)) h) h)
+    (same_sources (λ b. with_body_known b k) xs n t gen w (reads (body_at xs n)) h) (same_slots (λ b. with_body_known b k) xs n t gen w (slots (body_at xs n)) h) (few (body_at xs n) (h.few n)) h)
   where
     live : (b : Body) → is_live_body (with_body_known b k) ≡ is_live_body b
     live Gone = refl
@@ -265,11 +276,16 @@ known_holds k n xs t gen w h =
     slots (CellBody u r) = refl
     slots (ComputedBody c) = refl
 
+    few : (b : Body) → FewSlotsBody b → FewSlotsBody (with_body_known b k)
+    few Gone q = tt
+    few (CellBody u r) q = tt
+    few (ComputedBody c) q = q
+
 -- a rewiring
-pub rewired_holds : (r : Recipe) (n : ℕ) (xs : List Node) (t : Seating) (gen w : ℕ) → All (λ m. m < length xs) r.slots → Holds xs t gen w → Holds (changed_at (rewired_node r) n xs) t (gen + 1) (w + 1)
-rewired_holds r n xs t gen w given h =
+pub rewired_holds : (r : Recipe) (n : ℕ) (xs : List Node) (t : Seating) (gen w : ℕ) → All (λ m. m < length xs) r.slots → HasFewSlots r.expression r.slots → Holds xs t gen w → Holds (changed_at (rewired_node r) n xs) t (gen + 1) (w + 1)
+rewired_holds r n xs t gen w given few h =
     edit_holds (rewired_node r) (λ b. with_body_recipe b r) 1 n xs t gen (gen + 1) w (record { body = λ x. refl; seat = λ x. refl; number = λ x. omega arith; gone = refl; live = live }) (omega arith)
-    (same_sources (λ b. with_body_recipe b r) xs n t gen w (reads (body_at xs n)) h) (slots (body_at xs n) (h.slots n)) h
+    (same_sources (λ b. with_body_recipe b r) xs n t gen w (reads (body_at xs n)) h) (slots (body_at xs n) (h.slots n)) (left (body_at xs n)) h
   where
     live : (b : Body) → is_live_body (with_body_recipe b r) ≡ is_live_body b
     live Gone = refl
@@ -290,11 +306,16 @@ rewired_holds r n xs t gen w given h =
     slots (CellBody u z) f m q = f m q
     slots (ComputedBody c) f m q = in_all r.slots (length xs) m given q
 
+    left : (b : Body) → FewSlotsBody (with_body_recipe b r)
+    left Gone = tt
+    left (CellBody u z) = tt
+    left (ComputedBody c) = few
+
 -- a run, whose sources were given
 pub run_holds : (memo : Memo) (n : ℕ) (xs : List Node) (t : Seating) (gen w : ℕ) → All (λ m. m < length xs) (source_names memo.sources) → Holds xs t gen w → Holds (changed_at (run_node memo) n xs) t gen (w + 1)
 run_holds memo n xs t gen w given h =
     edit_holds (run_node memo) (λ b. with_body_memo b memo) 1 n xs t gen gen w (record { body = λ x. refl; seat = λ x. refl; number = λ x. risen (has_outcome (memo_body x.body) memo.outcome) x.number; gone = refl; live = live }) (omega arith)
-    (reads (body_at xs n) (h.sources n)) (same_slots (λ b. with_body_memo b memo) xs n t gen w (slots (body_at xs n)) h) h
+    (reads (body_at xs n) (h.sources n)) (same_slots (λ b. with_body_memo b memo) xs n t gen w (slots (body_at xs n)) h) (few (body_at xs n) (h.few n)) h
   where
     live : (b : Body) → is_live_body (with_body_memo b memo) ≡ is_live_body b
     live Gone = refl
@@ -315,6 +336,11 @@ run_holds memo n xs t gen w given h =
     slots (CellBody u q) = refl
     slots (ComputedBody c) = refl
 
+    few : (b : Body) → FewSlotsBody b → FewSlotsBody (with_body_memo b memo)
+    few Gone q = tt
+    few (CellBody u r) q = tt
+    few (ComputedBody c) q = q
+
 -- ---- a disposal
 
 pub gone_holds : (n : ℕ) (xs : List Node) (t : Seating) (gen w : ℕ) → is_live_body (body_at xs n) ≡ true → Holds xs t gen w →
@@ -325,6 +351,7 @@ gone_holds n xs t gen w live h = record {
   made = let a : length xs ≤ w = h.made in let l : length (changed_at gone_node n xs) ≡ length xs = changed_length gone_node n xs in omega (arith, a, l);
   sources = λ k m q. subst (λ z. m < z) (sym (changed_length gone_node n xs)) (by_sources k m (n == k) (sym (ap (λ b. is_in m (source_names (sources_in (memo_body b)))) (at k)) ∙ q));
   slots = λ k m q. subst (λ z. m < z) (sym (changed_length gone_node n xs)) (by_slots k m (n == k) (sym (ap (λ b. is_in m (slots_body b)) (at k)) ∙ q));
+  few = λ k. subst FewSlotsBody (sym (at k)) (by_few k (n == k));
   seated = λ k q.
       let off : (n == k) ≡ false = apart k q in
       let old : is_live_body (body_at xs k) ≡ true = sym (ap is_live_body (at k ∙ ap (λ b. if b then Gone else body_at xs k) off)) ∙ q in
@@ -359,6 +386,10 @@ gone_holds n xs t gen w live h = record {
     by_slots : (k m : ℕ) (b : Bool) → is_in m (slots_body (if b then Gone else body_at xs k)) ≡ true → m < length xs
     by_slots k m true on = absurd (true≢false (sym on))
     by_slots k m false on = h.slots k m on
+
+    by_few : (k : ℕ) (b : Bool) → FewSlotsBody (if b then Gone else body_at xs k)
+    by_few k true = tt
+    by_few k false = h.few k
 
     apart : (k : ℕ) → is_live_body (body_at (changed_at gone_node n xs) k) ≡ true → (n == k) ≡ false
     apart k q = elim (tested (n == k)) [
@@ -422,14 +453,15 @@ fresh_reads Gone m f = refl
 fresh_reads (CellBody v r) m f = refl
 fresh_reads (ComputedBody c) m f = ap (λ o. is_in m (source_names (sources_in o))) f.0
 
-pub new_holds : (xs : List Node) (s : ℕ) (b : Body) (t : Seating) (gen w : ℕ) → IsFresh b → ((m : ℕ) → is_in m (slots_body b) ≡ true → m < length xs) → 0 < t.free → s < length t.holders → holder t.holders s ≡ None →
+pub new_holds : (xs : List Node) (s : ℕ) (b : Body) (t : Seating) (gen w : ℕ) → IsFresh b → ((m : ℕ) → is_in m (slots_body b) ≡ true → m < length xs) → FewSlotsBody b → 0 < t.free → s < length t.holders → holder t.holders s ≡ None →
     Holds xs t gen w → Holds (xs ++ new_node s b ∷ []) (with_taken t s (length xs)) gen (w + 1)
-new_holds xs s b t gen w fresh slots free below nobody h = record {
+new_holds xs s b t gen w fresh slots few free below nobody h = record {
   numbers = λ m. let a : change_at (xs ++ new_node s b ∷ []) m ≤ change_at xs m = change_more xs s b m in let d : change_at xs m ≤ w = h.numbers m in omega (arith, a, d);
   current = let a : gen ≤ w = h.current in omega (arith, a);
   made = let a : length xs ≤ w = h.made in omega (arith, a, longer);
   sources = λ k m q. let l : m < length xs = by_sources k m (length xs == k) (sym (ap (λ d. is_in m (source_names (sources_in (memo_body d)))) (at k)) ∙ q) in omega (arith, l, longer);
   slots = λ k m q. let l : m < length xs = by_slots k m (length xs == k) (sym (ap (λ d. is_in m (slots_body d)) (at k)) ∙ q) in omega (arith, l, longer);
+  few = λ k. subst FewSlotsBody (sym (at k)) (by_few k (length xs == k));
   seated = λ k q. ap (holder (slice_set t.holders s (Some (length xs)))) (seat_more xs y k) ∙ sits k (length xs == k) refl (sym (ap is_live_body (at k)) ∙ q);
   living = λ z k q. lives z k (s == z) refl (sym (holder_set t.holders s z (Some (length xs)) below) ∙ q);
   room =
@@ -457,6 +489,10 @@ new_holds xs s b t gen w fresh slots free below nobody h = record {
     by_slots : (k m : ℕ) (d : Bool) → is_in m (slots_body (if d then b else body_at xs k)) ≡ true → m < length xs
     by_slots k m true on = slots m on
     by_slots k m false on = h.slots k m on
+
+    by_few : (k : ℕ) (d : Bool) → FewSlotsBody (if d then b else body_at xs k)
+    by_few k true = few
+    by_few k false = h.few k
 
     sits : (k : ℕ) (d : Bool) → (length xs == k) ≡ d → is_live_body (if d then b else body_at xs k) ≡ true → holder (slice_set t.holders s (Some (length xs))) (if d then s else seat_at xs k) ≡ Some k
     sits k true e q = holder_set t.holders s s (Some (length xs)) below ∙ ap (λ z. cond z (Some (length xs)) (holder t.holders s)) (eq-eqb s s refl) ∙ ap (λ z. Some z) (eqb-true (length xs) k e)
@@ -520,6 +556,17 @@ used_here xs t g l w h = record {
         go Gone q = cc
         go (CellBody v r) q = cc
         go (ComputedBody d) q = let same : record { name = n; recipe = d.recipe } ≡ c = cc in ap (λ (z : Computed). z.recipe.slots) same
+
+-- each host formula that is asked has few arguments
+pub few_here : (xs : List Node) (t : Seating) (g w : ℕ) → Holds xs t g w → HaveFewSlots (signals_of xs)
+few_here xs t g w h = record { each = λ n c e. go n (body_at xs n) c (sym (stands xs n) ∙ e) (h.few n) }
+  where
+    go : (n : ℕ) (b : Body) (c : Computed) → stands_of n b ≡ IsComputed c → FewSlotsBody b → HasFewSlots c.recipe.expression c.recipe.slots
+    go n Gone c q f = cc
+    go n (CellBody v r) c q f = cc
+    go n (ComputedBody d) c q f =
+        let same : record { name = n; recipe = d.recipe } ≡ c = cc in
+        subst (λ (z : Computed). HasFewSlots z.recipe.expression z.recipe.slots) same f
 
 -- a making gives the next id, where each name in use was given
 pub makes : (old : Seen) (st' after : State) (xs : List Node) (t : Seating) (hs' : List (Option ℕ)) (g l w b n : ℕ) → seen (state_of xs g l w) t.holders (length xs) ≡ old → n ≡ length xs → b ≡ length xs + 1 → st' ≡ after → Holds xs t g w →

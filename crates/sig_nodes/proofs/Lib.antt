@@ -5,4 +5,5 @@ pub mod Seating
 pub mod Holding
 pub mod Looking
 pub mod Searching
+pub mod Using
 pub mod Shared

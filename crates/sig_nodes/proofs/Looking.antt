@@ -1,18 +1,18 @@
 -- What nodes answer, by what they stand for.
-use Rattle.std.proofs.Common.{◌≡◌, ℕ, zero, suc, ◌<◌, ◌==◌, ◌||◌, not, Bool, true, false, List, [], ◌∷◌, length, map, Option, Some, None, refl, sym, ap, ◌∙◌, subst, is_some, if◌then◌else◌}
+use Rattle.std.proofs.Common.{◌≡◌, ℕ, zero, suc, ◌+◌, ◌<◌, ◌==◌, ◌||◌, not, Bool, true, false, List, [], ◌∷◌, ◌++◌, length, map, Option, Some, None, refl, sym, ap, ◌∙◌, subst, is_some, if◌then◌else◌}
 use Rattle.std.specs.Prelude.{slice_get, IfSome}
 use Rattle.std.proofs.lemmas.Bool.{eq-eqb}
-use Rattle.signal_model.specs.Standing.{is_in, is_there, standing}
+use Rattle.signal_model.specs.Standing.{Computed, is_in, is_there, standing}
 use Rattle.signal_model.specs.Memos.{Source, Memos, named_now, number_of, same_number, source_names, sources_in, sources_of}
 use Rattle.sig_nodes.specs.declared.node.Node.{Node}
 use Rattle.sig_nodes.specs.declared.node.Body.{Body}
 use Rattle.sig_nodes.specs.declared.node.Body.TheVariants.{Gone, Cell as CellBody, Computed as ComputedBody}
-use Rattle.sig_nodes.specs.Answers.{has_moved, slots_here, value_here}
+use Rattle.sig_nodes.specs.Answers.{has_moved, slots_here, some_asks, uses_host, value_here}
 use Rattle.sig_nodes.specs.Computations.{paired}
 use Rattle.sig_nodes.specs.States.{GoesOn, progress_at, State, Seen, is_given}
 use Rattle.sig_nodes.specs.Seats.{Seating, holder}
 use Rattle.sig_nodes.specs.Places.{seen, Holds}
-use Rattle.sig_nodes.specs.Nodes.{progress_of, body_at, changed_at, is_computed_body, known_node, with_body_known, has_moved_body, known_body, memo_body, memos_of, number_at, signals_of, slots_body, stands_of, state_of, value_body}
+use Rattle.sig_nodes.specs.Nodes.{asks_host_body, computed_part, parts, progress_of, some_asks_body, body_at, changed_at, is_computed_body, known_node, with_body_known, has_moved_body, known_body, memo_body, memos_of, number_at, signals_of, slots_body, stands_of, state_of, value_body}
 use Rattle.sig_base.specs.declared.value.Known.{Known}
 use Rattle.sig_nodes.proofs.Edits.{body_changed}
 use Rattle.sig_nodes.proofs.Parts.{memo_found, number_found, progress_found, stands}
@@ -26,6 +26,19 @@ slots_found xs n = ap slots_here (stands xs n) ∙ go (body_at xs n)
     go Gone = refl
     go (CellBody v r) = refl
     go (ComputedBody c) = refl
+
+-- whether a computed asks the host formula at a place
+pub uses_found : (place : ℕ) (xs : List Node) → uses_host (signals_of xs) place ≡ some_asks_body place xs
+uses_found place xs = from 0 xs
+  where
+    one : (k : ℕ) (b : Body) (rest : List Computed) → some_asks place (computed_part k b ++ rest) ≡ (asks_host_body place b || some_asks place rest)
+    one k Gone rest = refl
+    one k (CellBody v r) rest = refl
+    one k (ComputedBody c) rest = refl
+
+    from : (k : ℕ) (ys : List Node) → some_asks place (parts (λ n y. computed_part n y.body) k ys) ≡ some_asks_body place ys
+    from k [] = refl
+    from k (y ∷ ys) = one k y.body (parts (λ n z. computed_part n z.body) (k + 1) ys) ∙ ap (λ b. asks_host_body place y.body || b) (from (k + 1) ys)
 
 -- a slot's signal was given
 pub slot_below : (old : Seen) (st : State) (hs : List (Option ℕ)) (a : ℕ) (slots : List ℕ) (i : ℕ) (o : Option ℕ) → seen st hs a ≡ old → ((m : ℕ) → is_in m slots ≡ true → m < a) → o ≡ slice_get slots i →

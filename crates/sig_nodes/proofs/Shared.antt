@@ -1,10 +1,14 @@
--- What crates above may cite of these proofs: which ids are given, and how the progress of evaluations changes.
+-- What crates above may cite of these proofs: which ids are given, how the progress of evaluations changes, and which host formulas are
+-- asked.
 use Rattle.std.proofs.Common.{◌≡◌, ℕ, ◌+◌, ◌==◌, nat_lt, arith, Bool, true, false, cond, List, [], ◌∷◌, Option, Some, None, refl, sym, ap, ◌∙◌}
 use Rattle.std.proofs.lemmas.Bool.{eqb-true}
 use Rattle.std.proofs.lemmas.Bool.Decides.{nat_tests}
 use Rattle.sig_base.specs.declared.value.Known.{Known}
 use Rattle.signal_model.specs.Standing.{changed}
 use Rattle.sig_nodes.specs.States.{Progress, Seen, State, Makes, is_given, progress_at, with_progress}
+-- ---- host formulas
+
+pub use Rattle.sig_nodes.proofs.Using.{uses_standing, uses_made, uses_rewired, uses_without}
 
 -- ---- ids
 

@@ -1,5 +1,6 @@
 -- What a graph answers about one signal.
-use Rattle.std.specs.Prelude.{ℕ, ◌||◌, Bool, false, List, [], Option, Some, None, if◌then◌else◌}
+use Rattle.std.specs.Prelude.{◌≡◌, ℕ, ◌≤◌, ◌||◌, Bool, false, List, [], ◌∷◌, length, Option, Some, None, if◌then◌else◌}
+use Rattle.sig_base.specs.declared.limits.TheConstants.{MOST_SOURCES}
 use Rattle.sig_base.specs.declared.value.Value.{Value}
 use Rattle.sig_base.specs.declared.value.Known.{Known}
 use Rattle.sig_base.specs.declared.value.Step.{Step}
@@ -8,13 +9,15 @@ use Rattle.sig_base.specs.declared.value.Fault.TheVariants as fault
 use Rattle.sig_formula.specs.Trees.{tree}
 use Rattle.signal_model.specs.Recipes as recipes
 use Rattle.signal_model.specs.Recipes.{Hosts, recipe_answer, IsJudged}
-use Rattle.signal_model.specs.Standing.{Stands, IsGone, IsCell, IsComputed}
+use Rattle.signal_model.specs.Standing as signals
+use Rattle.signal_model.specs.Standing.{Signals, Stands, IsGone, IsCell, IsComputed, standing}
 use Rattle.signal_model.specs.Memos.{Source, differs}
+use Rattle.signal_model.specs.Asks.{is_host}
 use Rattle.signal_model.specs.Marks as marks
 use Rattle.sig_nodes.specs.declared.answers.Recipe.{Recipe}
-use Rattle.sig_nodes.specs.declared.answers.Recipe.TheVariants.{Formula}
+use Rattle.sig_nodes.specs.declared.answers.Recipe.TheVariants.{Formula, Host}
 use Rattle.sig_nodes.specs.declared.answers.Asked.{Asked}
-use Rattle.sig_nodes.specs.declared.answers.Asked.TheVariants.{Step as StepAsked}
+use Rattle.sig_nodes.specs.declared.answers.Asked.TheVariants.{Step as StepAsked, Host as HostAsked}
 use Rattle.sig_nodes.specs.declared.answers.Mark.{Mark}
 use Rattle.sig_nodes.specs.declared.answers.Mark.TheVariants.{Clean, Checked, Dirty}
 use Rattle.sig_nodes.specs.declared.answers.Standing.{Standing}
@@ -24,6 +27,16 @@ use Rattle.sig_nodes.specs.States.{State, is_computing}
 -- what is asked, with the formula as a tree
 abbrev pub expression_of : Recipe → recipes.Expression
 expression_of (Formula f) = recipes.formula None (tree f)
+expression_of (Host place) = recipes.host place
+
+-- a host formula has at most as many arguments as a computed may have sources
+abbrev pub HasFewSlots : recipes.Expression → List ℕ → Type 0
+HasFewSlots (recipes.formula row t) slots = Unit {0}
+HasFewSlots (recipes.host place) slots = length slots ≤ MOST_SOURCES
+
+-- so has each that a computed asks
+pub record HaveFewSlots (w : Signals) : Type 0 where
+  pub each : (n : ℕ) (c : signals.Computed) → standing w n ≡ IsComputed c → HasFewSlots c.recipe.expression c.recipe.slots
 
 -- the place of the host formula that is asked, none for a formula
 abbrev pub host_place : recipes.Expression → Option ℕ
@@ -65,9 +78,29 @@ abbrev pub answer_here : Hosts → Stands → List Known → Step
 answer_here hosts (IsComputed c) known = recipe_answer hosts c.recipe known
 answer_here hosts _ known = Fail fault.Gone
 
--- the same of the answer as a graph gives it
+-- a formula's answer, whatever host formulas mean, and of a host formula its place
+abbrev pub IsAnswerOf : recipes.Recipe → List Known → Asked → Type 0
+IsAnswerOf r known (StepAsked s) = (host_place r.expression ≡ None) × ((hosts : Hosts) → s ≡ recipe_answer hosts r known)
+IsAnswerOf r known (HostAsked place) = host_place r.expression ≡ Some place
+
+-- the same of what stands under an id
+abbrev pub IsAnswerHere : Stands → List Known → Asked → Type 0
+IsAnswerHere (IsComputed c) known a = IsAnswerOf c.recipe known a
+IsAnswerHere _ known a = ⊥
+
+-- a formula's answer is judged
 abbrev pub IsJudgedAnswer : ℕ → List Known → Asked → Type 0
 IsJudgedAnswer count known (StepAsked s) = IsJudged count known s
+IsJudgedAnswer count known (HostAsked place) = Unit {0}
+
+-- whether one of these computeds asks the host formula at a place
+abbrev pub some_asks : ℕ → List signals.Computed → Bool
+some_asks place [] = false
+some_asks place (c ∷ cs) = is_host place c.recipe.expression || some_asks place cs
+
+-- whether a computed that stands does
+abbrev pub uses_host : Signals → ℕ → Bool
+uses_host w place = some_asks place w.computeds
 
 -- whether a kept source has another number than the one that was read, or is computing
 abbrev pub has_moved : State → Option Source → Bool

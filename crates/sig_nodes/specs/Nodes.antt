@@ -7,6 +7,8 @@ use Rattle.signal_model.specs.Standing.{Signals, Cell, Computed, Stands, IsGone,
 use Rattle.signal_model.specs.Memos.{Source, Memo, Entry, Memos, same_number}
 use Rattle.signal_model.specs.Settling.{has_outcome}
 use Rattle.signal_model.specs.Changes.{memo_rewired}
+use Rattle.signal_model.specs.Asks.{is_host}
+use Rattle.sig_nodes.specs.Answers.{HasFewSlots}
 use Rattle.sig_nodes.specs.States.{State, Progress, with_new_cell, with_new_computed}
 use Rattle.sig_nodes.specs.declared.node.Node.{Node}
 use Rattle.sig_nodes.specs.declared.node.Body.{Body}
@@ -154,6 +156,21 @@ known_body _ = None
 abbrev pub slots_body : Body → List ℕ
 slots_body (ComputedBody c) = c.recipe.slots
 slots_body _ = []
+
+-- whether a computed asks the host formula at a place
+abbrev pub asks_host_body : ℕ → Body → Bool
+asks_host_body place (ComputedBody c) = is_host place c.recipe.expression
+asks_host_body place _ = false
+
+-- whether one of these does
+abbrev pub some_asks_body : ℕ → List Node → Bool
+some_asks_body place [] = false
+some_asks_body place (x ∷ xs) = asks_host_body place x.body || some_asks_body place xs
+
+-- where it asks a host formula, its arguments are few
+abbrev pub FewSlotsBody : Body → Type 0
+FewSlotsBody (ComputedBody c) = HasFewSlots c.recipe.expression c.recipe.slots
+FewSlotsBody _ = Unit {0}
 
 -- a signal's change number, none where it is gone
 abbrev pub number_body : ℕ → Body → Option ℕ

@@ -7,12 +7,17 @@ use sig_formula::Formula;
 #[derive(Debug, Drop)]
 pub enum Recipe {
     Formula(Formula),
+    /// The host formula at a place.
+    Host(usize),
 }
 
 /// The answer of a recipe to the values known so far.
 #[derive(Debug, Drop)]
 pub enum Asked {
+    /// That of a formula.
     Step(Step),
+    /// The place of the host formula that is to be asked.
+    Host(usize),
 }
 
 /// What has to be done before a computed's kept outcome may be given again.

@@ -1,18 +1,17 @@
 // What the nodes of a graph answer about the signal at one place. Past the last place nothing lives.
 ghost use Rattle.std.specs.Prelude.{◌≡◌, ◌<◌, ◌∷◌, ◌||◌, ◌&&◌, not, length, map, is_some, true, false, None, Some, IfOk, IfSome, IfNone, slice_get};
 ghost use Rattle.std.specs.Option.{option_copied};
-ghost use Rattle.signal_model.specs.Recipes.{Hosts, IsJudged};
 ghost use Rattle.signal_model.specs.Standing.{is_computed};
 ghost use Rattle.signal_model.specs.Memos.{is_stale_by, same_number, source_names, sources_in};
 ghost use Rattle.signal_model.specs.Sound.{kept_outcome};
 ghost use Rattle.sig_nodes.specs.declared.node.Body.TheVariants as body;
-ghost use Rattle.sig_nodes.specs.Answers.{answer_here, host_here, kind_here, rule_here, slots_here, value_here};
-ghost use Rattle.sig_nodes.specs.Nodes.{are_live_bodies, body_at, change_at, has_moved_body, is_computed_body, is_live_body, known_body, memo_body, number_at, number_body, seat_at, slots_body, stands_of};
+ghost use Rattle.sig_nodes.specs.Answers.{host_here, kind_here, rule_here, slots_here, value_here, IsAnswerHere, IsJudgedAnswer};
+ghost use Rattle.sig_nodes.specs.Nodes.{are_live_bodies, asks_host_body, body_at, change_at, has_moved_body, is_computed_body, is_live_body, known_body, memo_body, number_at, number_body, seat_at, slots_body, some_asks_body, stands_of};
 ghost use Rattle.sig_nodes.specs.Computations.{at_generation};
 
-use crate::answers::{Recipe, Standing};
+use crate::answers::{Asked, Standing};
 use crate::node::{Body, Computation, Node, Source};
-use sig_base::{Known, NoMemory, NodeId, Outcome, Step, Value};
+use sig_base::{Known, NoMemory, NodeId, Outcome, Value};
 use std::alloc::Global;
 
 /// What lives at a place, none past the last place.
@@ -134,6 +133,38 @@ pub(crate) fn host_at(nodes: &[Node], id: NodeId) -> Option<usize>
     }
 }
 
+// Whether a node's computed asks the host formula at a place.
+fn asks_host(node: &Node, place: usize) -> bool
+    ensures { result ≡ asks_host_body place node.now.body }
+{
+    match &node.body {
+        Body::Computed(computation) => computation.asks(place),
+        _ => false,
+    }
+}
+
+/// Whether a live computed asks the host formula at a place. It goes over all nodes.
+pub(crate) fn uses_host(nodes: &[Node], place: usize) -> bool
+    ensures { result ≡ some_asks_body place nodes.now }
+{
+    for node in nodes {
+        if asks_host(node, place) {
+            return true;
+        }
+    }
+    false
+}
+
+/// The signals that a computed's slots stand for.
+pub(crate) fn slots_at(nodes: &[Node], id: NodeId) -> &[NodeId]
+    ensures { result.now ≡ slots_body (body_at nodes.now id) }
+{
+    match body_at(nodes, id) {
+        Some(Body::Computed(computation)) => computation.slots(),
+        _ => &[],
+    }
+}
+
 /// The signal that a computed's slot stands for.
 pub(crate) fn slot_at(nodes: &[Node], id: NodeId, slot: u32) -> Option<NodeId>
     ensures { result ≡ slice_get (slots_body (body_at nodes.now id)) slot }
@@ -190,10 +221,10 @@ pub(crate) fn answer_at(
     nodes: &[Node],
     id: NodeId,
     known: &[Known],
-) -> Result<Step, NoMemory>
+) -> Result<Asked, NoMemory>
     requires { is_computed_body (body_at nodes.now id) ≡ true }
-    ensures answer { (hosts : Hosts) → IfOk result (λ s. s ≡ answer_here hosts (stands_of id (body_at nodes.now id)) known.now) }
-    ensures judged { IfOk result (λ s. IsJudged (length (slots_body (body_at nodes.now id))) known.now s) }
+    ensures answer { IfOk result (λ a. IsAnswerHere (stands_of id (body_at nodes.now id)) known.now a) }
+    ensures judged { IfOk result (λ a. IsJudgedAnswer (length (slots_body (body_at nodes.now id))) known.now a) }
 {
     match computation_at(nodes, id) {
         Some(computation) => computation.answer(alloc, known),

@@ -1,11 +1,9 @@
 // The calls of an evaluation.
 ghost use Rattle.std.specs.Prelude.{◌≡◌, ◌<◌, [], length, take, true, false, None, Some, IfOk, IfSome, OnOk, slice_get};
 ghost use Rattle.std.specs.List.{All};
-ghost use Rattle.signal_model.specs.Recipes.{Hosts};
 ghost use Rattle.signal_model.specs.Standing.{is_computed, standing};
 ghost use Rattle.signal_model.specs.Memos.{is_stale, sources_of};
-ghost use Rattle.sig_nodes.specs.declared.answers.Asked.TheVariants as asked;
-ghost use Rattle.sig_nodes.specs.Answers.{answer_here, has_moved, slots_here, IsJudgedAnswer};
+ghost use Rattle.sig_nodes.specs.Answers.{has_moved, slots_here, IsAnswerHere, IsJudgedAnswer};
 ghost use Rattle.sig_nodes.specs.States.{counted, is_computing, is_given, progress_at, with_kept_run, with_look, with_progress, Becomes, CanWear, GoesOn};
 
 use crate::answers::Asked;
@@ -40,10 +38,11 @@ impl Graph {
     }
 
     /// The answer of a computed's recipe to the values known so far, which begin with those of the last such call of this
-    /// evaluation. It is a counted step. Without memory the graph may only be dropped.
+    /// evaluation: a formula's answer, or the place of the host formula that is to be asked. It is a counted step. Without memory
+    /// the graph may only be dropped.
     pub fn recipe(&mut self, id: NodeId, known: &[Known]) -> Result<Asked, NoMemory>
         requires { GoesOn (progress_at id self.old.state.progress) known.now }
-        ensures answer { (hosts : Hosts) → IfOk result (λ a. a ≡ asked.Step (answer_here hosts (standing self.old.state.signals id) known.now)) }
+        ensures answer { IfOk result (λ a. IsAnswerHere (standing self.old.state.signals id) known.now a) }
         ensures judged { IfOk result (λ a. IsJudgedAnswer (length (slots_here (standing self.old.state.signals id))) known.now a) }
         ensures after { OnOk result (Becomes self.old self.new (with_look (with_progress self.old.state id (Some known.now)))) }
         ensures seats { OnOk result (self.new.seats ≡ self.old.seats) }
@@ -51,8 +50,8 @@ impl Graph {
         let _count = self.nodes.len();
         self.looked = counted(self.looked);
         note_at(&mut self.nodes, id, known)?;
-        let step = answer_at(self.alloc, &self.nodes, id, known)?;
-        Ok(Asked::Step(step))
+        let answer = answer_at(self.alloc, &self.nodes, id, known)?;
+        Ok(answer)
     }
 
     /// Whether a computed has to run whatever its sources are: it has never run, holds `cycle` of an earlier generation, or holds

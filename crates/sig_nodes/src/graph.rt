@@ -4,9 +4,9 @@ ghost use Rattle.std.specs.List.{All};
 ghost use Rattle.signal_model.specs.Standing.{is_there, standing};
 ghost use Rattle.signal_model.specs.Changes.{live_count};
 ghost use Rattle.sig_nodes.specs.declared.errors.NodeFault.TheVariants as fault;
-ghost use Rattle.sig_nodes.specs.Answers.{expression_of, host_here, value_here};
+ghost use Rattle.sig_nodes.specs.Answers.{expression_of, host_here, value_here, HasFewSlots};
 ghost use Rattle.sig_nodes.specs.Computations.{recipe_made};
-ghost use Rattle.sig_nodes.specs.Nodes.{with_new, IsFresh, slots_body};
+ghost use Rattle.sig_nodes.specs.Nodes.{with_new, FewSlotsBody, IsFresh, slots_body};
 ghost use Rattle.sig_nodes.specs.States.{are_there, is_cell, is_computing, is_given, no_state, with_disposal, with_new_cell, with_new_computed, with_rewiring, with_set, Becomes, CanWear, Makes};
 
 use crate::answers::Recipe;
@@ -67,6 +67,7 @@ impl Graph {
     // Makes a signal of what lives in it.
     fn add(&mut self, body: Body) -> Result<NodeId, NodeFault>
         requires fresh { IsFresh body }
+        requires few { FewSlotsBody body }
         requires given { All (λ n. is_given self.old n ≡ true) (slots_body body) }
         requires worn { CanWear self.old.state }
         ensures after { IfOk result (λ id. Makes self.old self.new id (with_new self.old.state id body)) }
@@ -107,6 +108,7 @@ impl Graph {
     /// before. It is refused where as many signals live as may be; after a refusal the graph is as before.
     pub fn add_computed(&mut self, recipe: Recipe, slots: Vec<NodeId>) -> Result<NodeId, NodeFault>
         requires given { All (λ n. is_given self.old n ≡ true) slots.items }
+        requires few { HasFewSlots (expression_of recipe) slots.items }
         requires worn { CanWear self.old.state }
         ensures after { IfOk result (λ id.
             Makes self.old self.new id (with_new_computed self.old.state
@@ -142,6 +144,7 @@ impl Graph {
         requires kind { is_cell (standing self.old.state.signals id) ≡ false }
         requires idle { is_computing self.old.state id ≡ false }
         requires given { All (λ n. is_given self.old n ≡ true) slots.items }
+        requires few { HasFewSlots (expression_of recipe) slots.items }
         requires worn { CanWear self.old.state }
         ensures after { OnOk result (Becomes self.old self.new (with_rewiring self.old.state id (recipe_made (expression_of recipe) slots.items))) }
         ensures host { IfOk result (λ place. place ≡ host_here (standing self.old.state.signals id)) }

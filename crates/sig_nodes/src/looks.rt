@@ -7,12 +7,14 @@ ghost use Rattle.signal_model.specs.Kept.{AreGiven, OnlyComputedsKeep};
 ghost use Rattle.signal_model.specs.Sound.{kept_outcome};
 ghost use Rattle.signal_model.specs.Marks.{mark_of};
 ghost use Rattle.signal_model.specs.Changes.{live_count};
-ghost use Rattle.sig_nodes.specs.Answers.{kind_here, mark_meant, rule_here, slots_here, value_here};
+ghost use Rattle.sig_nodes.specs.Answers.{kind_here, mark_meant, rule_here, slots_here, uses_host, value_here, HaveFewSlots};
 ghost use Rattle.sig_nodes.specs.Seats.{holder};
 ghost use Rattle.sig_nodes.specs.States.{is_computing, is_given};
 
 use crate::answers::{Mark, Standing};
-use crate::bodies::{kept_at, rule_at, seat_at, slot_at, sources_at, standing_at, value_at};
+use crate::bodies::{
+    kept_at, rule_at, seat_at, slot_at, slots_at, sources_at, standing_at, uses_host, value_at,
+};
 use crate::graph::Graph;
 use crate::marks::mark_at;
 use sig_base::{MOST_NODES, NodeId, Outcome, Value};
@@ -25,11 +27,13 @@ impl Graph {
         MOST_NODES - self.seats.free()
     }
 
-    /// How many signals were made so far, gone ones too. Each id that is in use is one of theirs, and only computeds keep a run.
+    /// How many signals were made so far, gone ones too. Each id that is in use is one of theirs, only computeds keep a run, and
+    /// each host formula that is asked has few arguments.
     pub fn made(&self) -> u128
         ensures count { result ≡ self.now.given }
         ensures used { AreGiven (is_given self.now) self.now.state.signals self.now.state.memos }
         ensures keepers { OnlyComputedsKeep self.now.state.signals self.now.state.memos }
+        ensures few { HaveFewSlots self.now.state.signals }
     {
         self.nodes.len() as u128
     }
@@ -79,6 +83,20 @@ impl Graph {
         ensures { result ≡ rule_here (standing self.now.state.signals id) }
     {
         rule_at(&self.nodes, id)
+    }
+
+    /// Whether a live computed asks the host formula at a place. It goes over all signals that were made, and takes no memory.
+    pub fn uses_host(&self, place: usize) -> bool
+        ensures { result ≡ uses_host self.now.state.signals place }
+    {
+        uses_host(&self.nodes, place)
+    }
+
+    /// The signals that a computed's slots stand for, none where no computed stands.
+    pub fn slots(&self, id: NodeId) -> &[NodeId]
+        ensures { result.now ≡ slots_here (standing self.now.state.signals id) }
+    {
+        slots_at(&self.nodes, id)
     }
 
     /// The signal that a computed's slot stands for, none where it has no such slot.

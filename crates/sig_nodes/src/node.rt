@@ -1,18 +1,19 @@
 // One signal's node.
 ghost use Rattle.std.specs.Prelude.{◌≡◌, ℕ, ◌+◌, ◌<◌, ◌^◌, ◌++◌, ◌∷◌, [], List, length, take, true, false, None, Some, IfOk, IfSome, IfNone, OnOk, is_some, slice_get, if◌then◌else◌};
 ghost use Rattle.std.specs.Option.{option_copied};
-ghost use Rattle.signal_model.specs.Recipes.{Hosts, IsJudged};
+ghost use Rattle.signal_model.specs.Recipes.{Hosts};
 ghost use Rattle.signal_model.specs.Recipes as recipes;
+ghost use Rattle.signal_model.specs.Asks.{is_host};
 ghost use Rattle.signal_model.specs.Memos.{is_cycle, is_stale_by, memo_is_cycle, source_names, sources_in};
 ghost use Rattle.signal_model.specs.Sound.{kept_outcome};
 ghost use Rattle.signal_model.specs.Settling.{has_outcome};
 ghost use Rattle.signal_model.specs.Changes.{memo_rewired};
 ghost use Rattle.sig_nodes.specs.States.{GoesOn};
-ghost use Rattle.sig_nodes.specs.Answers.{expression_of, host_place};
+ghost use Rattle.sig_nodes.specs.Answers.{expression_of, host_place, IsAnswerOf, IsJudgedAnswer};
 ghost use Rattle.sig_nodes.specs.Computations.{at_generation, paired, recipe_made};
 
-use crate::answers::Recipe;
-use sig_base::{Fault, Known, NoMemory, NodeId, Outcome, Step, Value};
+use crate::answers::{Asked, Recipe};
+use sig_base::{Fault, Known, NoMemory, NodeId, Outcome, Value};
 use sig_formula::step;
 use signal_model::judged;
 use std::alloc::Global;
@@ -255,13 +256,32 @@ impl Computation {
         }
     }
 
-    /// The recipe's answer to the values known so far.
-    pub(crate) fn answer(&self, alloc: Global, known: &[Known]) -> Result<Step, NoMemory>
-        ensures answer { (hosts : Hosts) → IfOk result (λ s. s ≡ recipes.recipe_answer hosts self.now.recipe known.now) }
-        ensures judged { IfOk result (λ s. IsJudged (length self.now.recipe.slots) known.now s) }
+    /// Whether the recipe asks the host formula at a place.
+    pub(crate) fn asks(&self, place: usize) -> bool
+        ensures { result ≡ is_host place self.now.recipe.expression }
     {
-        let step = given_answer(alloc, &self.recipe, known)?;
-        Ok(judged(self.slots.len(), known, step))
+        asks_host(&self.recipe, place)
+    }
+
+    /// The signals that the slots stand for.
+    pub(crate) fn slots(&self) -> &[NodeId]
+        ensures { result.now ≡ self.now.recipe.slots }
+    {
+        &self.slots
+    }
+
+    /// The recipe's answer to the values known so far.
+    pub(crate) fn answer(&self, alloc: Global, known: &[Known]) -> Result<Asked, NoMemory>
+        ensures answer { IfOk result (λ a. IsAnswerOf self.now.recipe known.now a) }
+        ensures judged { IfOk result (λ a. IsJudgedAnswer (length self.now.recipe.slots) known.now a) }
+    {
+        match &self.recipe {
+            Recipe::Formula(formula) => {
+                let step = step(alloc, formula, None, known)?;
+                Ok(Asked::Step(judged(self.slots.len(), known, step)))
+            }
+            Recipe::Host(place) => Ok(Asked::Host(*place)),
+        }
     }
 
     pub(crate) fn begin(&mut self)
@@ -340,13 +360,15 @@ fn host_place(recipe: &Recipe) -> Option<usize>
 {
     match recipe {
         Recipe::Formula(_) => None,
+        Recipe::Host(place) => Some(*place),
     }
 }
 
-fn given_answer(alloc: Global, recipe: &Recipe, known: &[Known]) -> Result<Step, NoMemory>
-    ensures { (hosts : Hosts) → IfOk result (λ s. s ≡ recipes.given_answer hosts (expression_of recipe.now) known.now) }
+fn asks_host(recipe: &Recipe, place: usize) -> bool
+    ensures { result ≡ is_host place (expression_of recipe.now) }
 {
     match recipe {
-        Recipe::Formula(formula) => step(alloc, formula, None, known),
+        Recipe::Formula(_) => false,
+        Recipe::Host(asked) => *asked == place,
     }
 }

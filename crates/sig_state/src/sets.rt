@@ -1,12 +1,14 @@
 // Sets of cells.
-ghost use Rattle.std.specs.Prelude.{◌≡◌, ◌<◌, ◌^◌, ◌↔◌, true, false, None, Some, Ok, IsErr, OnErr, IfOk};
+ghost use Rattle.std.specs.Prelude.{◌≡◌, ◌<◌, ◌^◌, ◌↔◌, ℕ, true, false, None, Some, Ok, IsErr, length, map};
 ghost use Rattle.signal_model.specs.Standing.{is_computed, is_there, standing};
-ghost use Rattle.sig_nodes.specs.Answers.{value_here};
+ghost use Rattle.effect_model.specs.Acts.{are_alike};
 ghost use Rattle.sig_nodes.specs.States.{with_set, Becomes};
+ghost use Rattle.sig_state.specs.Equality.{is_alike_here, IsRuled};
 ghost use Rattle.sig_state.specs.declared.sets.SetDone.TheVariants as done;
 
 use crate::errors::Gone;
 use sig_base::{NodeId, Value};
+use sig_host::EqualsRule;
 use sig_nodes::Graph;
 
 /// What a set did.
@@ -14,24 +16,42 @@ use sig_nodes::Graph;
 pub enum SetDone {
     /// The cell has the value, and what reads it will be evaluated anew.
     Accepted,
-    /// The cell had the value already, and nothing changed.
+    /// The cell's equality calls the value the same as the one that it has, and nothing changed.
     Same,
 }
 
-/// Gives a cell a value. It is refused where the cell is gone; where the cell has the value already, nothing changes. It takes no
-/// memory.
-pub fn set(graph: &mut Graph, id: NodeId, value: Value) -> Result<SetDone, Gone>
+// Whether two values count as equal by a rule; with no rule they do where they are the same.
+fn are_alike(rules: &[EqualsRule], rule: Option<usize>, a: &Value, b: &Value) -> bool
+    requires { (r : ℕ) → rule ≡ Some r → r < length rules.now }
+    ensures { result ≡ are_alike (map (λ r. r.slack) rules.now) rule a.now b.now }
+{
+    match rule {
+        None => a.same(b),
+        Some(place) => rules[place].holds(a, b),
+    }
+}
+
+/// Gives a cell a value. It is refused where the cell is gone; where its equality calls the value the same as the one that it has,
+/// nothing changes: that of its rule, which is one of these, or sameness where it has none. It takes no memory.
+pub fn set(
+    graph: &mut Graph,
+    rules: &[EqualsRule],
+    id: NodeId,
+    value: Value,
+) -> Result<SetDone, Gone>
     requires kind { is_computed (standing graph.old.state.signals id) ≡ false }
+    requires ruled { IsRuled (length rules.now) (standing graph.old.state.signals id) }
     requires worn { graph.old.state.worn < 2 ^ 127 }
     ensures gone { IsErr result ↔ (is_there (standing graph.old.state.signals id) ≡ false) }
-    ensures same { (result ≡ Ok done.Same) ↔ (value_here (standing graph.old.state.signals id) ≡ Some value) }
+    ensures same { (result ≡ Ok done.Same) ↔
+        (is_alike_here (map (λ r. r.slack) rules.now) (standing graph.old.state.signals id) value ≡ true) }
     ensures accepted { result ≡ Ok done.Accepted → Becomes graph.old graph.new (with_set graph.old.state id value) }
     ensures kept { (result ≡ Ok done.Accepted → ⊥) → graph.new ≡ graph.old }
 {
     let Some(held) = graph.cell_value(id) else {
         return Err(Gone);
     };
-    if held.same(&value) {
+    if are_alike(rules, graph.rule_of(id), held, &value) {
         return Ok(SetDone::Same);
     }
     let _before = graph.replace(id, value);

@@ -1,10 +1,12 @@
-use Rattle.std.proofs.Common.{◌+◌, ◌++◌, false, [], ◌∷◌, map, length, refl, sym, ap, ◌∙◌, subst, arith}
+use Rattle.std.proofs.Common.{◌+◌, ◌++◌, false, List, [], ◌∷◌, map, length, is_some, refl, sym, ap, ◌∙◌, subst, arith}
 use Rattle.std.specs.Vec.{vec_len}
 use Rattle.std.proofs.lemmas.List.Elements.{All-append, All-same}
 use Rattle.signal_model.specs.Standing.{is_in, standing}
 use Rattle.signal_model.specs.Values.{value_of}
 use Rattle.signal_model.specs.Sound.{standing_outcome}
 use Rattle.signal_model.specs.Kept.{AreKept}
+use Rattle.signal_model.specs.Settling.{settled}
+use Rattle.sig_host.specs.Hosts.{HostPlace}
 use Rattle.sig_nodes.specs.States.{is_computing}
 use Rattle.settle_model.specs.Stepping.{frame_names}
 use Rattle.sig_computed.specs.Notes.{note_of, IsNoteGiven}
@@ -14,12 +16,13 @@ use Rattle.sig_computed.specs.Visited.{marked}
 use Rattle.sig_computed.proofs.Fitting.{frames_are, notes_stay}
 use Rattle.sig_computed.proofs.Leaves.{kind_computed, ready_other}
 use Rattle.sig_computed.proofs.Progresses.{in_evaluating}
-use Rattle.sig_computed.proofs.Loops.{IsMade, IsTurn, none_left, notes_count, turn_frames, turn_given, turn_less, turn_move, turn_whole}
+use Rattle.sig_computed.proofs.Asking.{asked_most, exact_places, none_asked}
+use Rattle.sig_computed.proofs.Loops.{IsMade, IsTurn, frame_can, none_left, notes_count, turn_asked, turn_frames, turn_given, turn_less, turn_move, turn_whole}
 use Rattle.sig_computed.proofs.Wholes.{IsWhole, first_steps, first_whole, last_whole, plain_ended, shown_value}
 use Rattle.sig_computed.proofs.settling.settle.Goals as goal
 
 pub loop-frame-init : goal.loop-frame-init
-loop-frame-init c =
+loop-frame-init g c =
     let e = c.in_ok-stack.ensures.graph in
     record {
       signals = e.signals;
@@ -29,20 +32,31 @@ loop-frame-init c =
       worn = ap (λ x. x + length c.args.notes.now.items) e.worn;
       size = c.in_ok-visited.ensures.size;
       frames = record { fits = e.fits; idle = e.idle };
-      whole = λ hosts kept.
+      counted = c.requires.counted;
+      answers = λ hosts all. all;
+      asked = none_asked c.args.graph.now.state.signals _ (length c.args.notes.now.items) _;
+      whole = λ hosts all kept.
           let w = c.args.graph.now.state.signals in
           let k = c.args.graph.now.state.memos in
+          let places : List HostPlace = map (λ p. record { there = is_some p.host; asks = p.count }) c.args.shelf.now.places.items in
           subst (λ x. x)
-          (λ i. IsWhole hosts w k c.args.graph.now.state.looked (c.args.id ∷ []) (sym e.memos i) c.first.new.graph.state.looked (map note_of c.args.notes.now.items) (map note_of c.args.notes.now.items)
+          (λ i. IsWhole hosts w k c.args.graph.now.state.looked places (c.args.id ∷ []) (sym e.memos i) c.first.new.graph.state.looked places
+          (map note_of c.args.notes.now.items) (map note_of c.args.notes.now.items)
           (marked c.args.graph.now.seats c.in_ok-visited.visited.items) (sym c.in_ok-stack.ensures.stack i))
-          (first_whole hosts w k c.args.graph.now.state.looked c.first.new.graph.state.looked c.args.id (map note_of c.args.notes.now.items)
+          (first_whole hosts w k c.args.graph.now.state.looked c.first.new.graph.state.looked places c.args.id (map note_of c.args.notes.now.items)
           (marked c.args.graph.now.seats c.in_ok-visited.visited.items) kept (c.in_ok-visited.ensures.none c.args.graph.now.seats)
           (let a = e.steps in let b = first_steps w k c.args.id
           (kind_computed (standing w c.args.id) (is_computing c.args.graph.now.state c.args.id) c.in-Computed.ensures) in omega (arith, a, b)));
     }
 
+pub turn_of-requires-clause-host : goal.turn_of-requires-clause-host
+turn_of-requires-clause-host g c =
+    let i = c.loop-frame.invariant in
+    frame_can c.args.graph.now c.loop-frame.graph c.loop-frame.stack.items c.in-Some.frame.id _ _ (length c.args.notes.now.items) (length c.loop-frame.notes.items) i.signals
+    c.made-made.ensures.few i.frames c.requires.there c.requires.room (omega arith) (omega arith) i.asked
+
 pub apply-requires-clause-computing : goal.apply-requires-clause-computing
-apply-requires-clause-computing c =
+apply-requires-clause-computing g c =
     let i = c.loop-frame.invariant in
     (turn_move c.args.graph.now c.loop-frame.graph c.turn_of.new.graph c.loop-frame.stack.items c.pop.new.self.items c.in-Some.frame
     c.loop-frame.visited.items c.deref.result.now (move_of c.in_ok-turn.turn) (record {
@@ -57,7 +71,7 @@ apply-requires-clause-computing c =
     })).computing
 
 pub apply-requires-clause-can : goal.apply-requires-clause-can
-apply-requires-clause-can c =
+apply-requires-clause-can g c =
     let i = c.loop-frame.invariant in
     (turn_move c.args.graph.now c.loop-frame.graph c.turn_of.new.graph c.loop-frame.stack.items c.pop.new.self.items c.in-Some.frame
     c.loop-frame.visited.items c.deref.result.now (move_of c.in_ok-turn.turn) (record {
@@ -72,7 +86,7 @@ apply-requires-clause-can c =
     })).can
 
 pub loop-frame-smaller : goal.loop-frame-smaller
-loop-frame-smaller c =
+loop-frame-smaller g c =
     let i = c.loop-frame.invariant in
     turn_less c.args.graph.now c.loop-frame.graph c.turn_of.new.graph c.loop-frame.stack.items c.pop.new.self.items c.in-Some.frame
     c.loop-frame.visited.items c.deref.result.now (move_of c.in_ok-turn.turn) (record {
@@ -88,7 +102,7 @@ loop-frame-smaller c =
     (record { stack = c.in_ok-apply.ensures.stack; visited = λ m. c.in_ok-apply.ensures.visited m; graph = c.in_ok-apply.ensures.graph })
 
 pub loop-frame-preserved : goal.loop-frame-preserved
-loop-frame-preserved c =
+loop-frame-preserved g c =
     let i = c.loop-frame.invariant in
     let s = c.in_ok-turn.ensures.after in
     let m = c.in_ok-apply.ensures.graph in
@@ -107,6 +121,9 @@ loop-frame-preserved c =
     let d : IsMade c.turn_of.new.graph c.apply.new.graph c.pop.new.self.items c.apply.new.stack.items c.in-Some.frame c.loop-frame.visited.items
     c.apply.new.visited.items (move_of c.in_ok-turn.turn) =
     record { stack = c.in_ok-apply.ensures.stack; visited = λ x. c.in_ok-apply.ensures.visited x; graph = m } in
+    let can =
+    frame_can c.args.graph.now c.loop-frame.graph c.loop-frame.stack.items c.in-Some.frame.id _ _ (length c.args.notes.now.items) (length c.loop-frame.notes.items) i.signals
+    c.made-made.ensures.few i.frames c.requires.there c.requires.room (omega arith) (omega arith) i.asked in
     let count = notes_count c.in-Some.frame.id (move_of c.in_ok-turn.turn) c.loop-frame.notes.items c.apply.new.notes.items c.in_ok-apply.ensures.notes in
     record {
       signals = m.signals ∙ s.signals ∙ i.signals;
@@ -123,46 +140,62 @@ loop-frame-preserved c =
       frames = turn_frames c.args.graph.now c.loop-frame.graph c.turn_of.new.graph c.loop-frame.stack.items c.pop.new.self.items c.in-Some.frame
           c.loop-frame.visited.items c.deref.result.now (move_of c.in_ok-turn.turn) t c.apply.new.graph c.apply.new.stack.items
           c.apply.new.visited.items d;
-      whole = λ hosts kept. turn_whole c.args.graph.now c.loop-frame.graph c.turn_of.new.graph c.loop-frame.stack.items c.pop.new.self.items
+      counted = c.in_ok-turn.ensures.counted;
+      answers = λ hosts all. c.in_ok-turn.ensures.answers hosts (i.answers hosts all);
+      asked = turn_asked c.args.graph.now c.loop-frame.graph c.turn_of.new.graph c.loop-frame.stack.items c.pop.new.self.items
           c.in-Some.frame c.loop-frame.visited.items c.deref.result.now (move_of c.in_ok-turn.turn) t c.apply.new.graph c.apply.new.stack.items
-          c.apply.new.visited.items d hosts c.args.graph.now.state.memos c.args.graph.now.state.looked (c.args.id ∷ []) (map note_of c.args.notes.now.items)
-          (map note_of c.loop-frame.notes.items) (map note_of c.apply.new.notes.items) c.in_ok-apply.ensures.notes
-          (c.in_ok-turn.ensures.turn hosts) (i.whole hosts kept);
+          c.apply.new.visited.items d _ _ _ (length c.args.notes.now.items) (length c.loop-frame.notes.items) (length c.apply.new.notes.items)
+          c.made-made.ensures.few can c.in_ok-turn.ensures.asked count i.asked;
+      whole = λ hosts all kept. turn_whole c.args.graph.now c.loop-frame.graph c.turn_of.new.graph c.loop-frame.stack.items c.pop.new.self.items
+          c.in-Some.frame c.loop-frame.visited.items c.deref.result.now (move_of c.in_ok-turn.turn) t c.apply.new.graph c.apply.new.stack.items
+          c.apply.new.visited.items d hosts c.args.graph.now.state.memos c.args.graph.now.state.looked _ _ _ (c.args.id ∷ [])
+          (map note_of c.args.notes.now.items) (map note_of c.loop-frame.notes.items) (map note_of c.apply.new.notes.items) c.in_ok-apply.ensures.notes
+          can c.in_ok-turn.ensures.asked (c.in_ok-turn.ensures.turn hosts (i.answers hosts all)) (i.whole hosts all kept);
     }
 
 pub returns-in_default : goal.returns-in_default
-returns-in_default c =
+returns-in_default g c =
     let w = c.args.graph.now.state.signals in
     let k = c.args.graph.now.state.memos in
     let notes = map note_of c.args.notes.now.items in
     let idle = c.requires.idle c.args.id in
     let ready = ready_other (standing w c.args.id) (is_computing c.args.graph.now.state c.args.id) false false
     (λ e. c.in_default.not-Computed (c.standing.ensures ∙ e)) (sym idle) in
+    let places : List HostPlace = map (λ p. record { there = is_some p.host; asks = p.count }) c.args.shelf.now.places.items in
+    let looked = c.args.graph.now.state.looked in
     record {
-      value = λ hosts kept. c.in_ok-shown.ensures
+      value = λ hosts all kept. c.in_ok-shown.ensures
           ∙ shown_value (standing w c.args.id) (is_in c.args.id (evaluating c.args.graph.now.state)) (standing_outcome w k c.args.id)
           (value_of hosts w c.args.id []) (in_evaluating c.args.graph.now.state c.args.id ∙ idle)
-          (plain_ended hosts w k c.args.graph.now.state.looked c.args.id notes kept ready).value;
-      settled = λ hosts kept. (plain_ended hosts w k c.args.graph.now.state.looked c.args.id notes kept ready).settling;
-      kept = λ hosts kept. kept;
+          (plain_ended hosts w k looked places c.args.id notes kept ready).value;
+      settled = λ hosts all kept. (plain_ended hosts w k looked places c.args.id notes kept ready).settling;
+      kept = λ hosts all kept. kept;
+      asked = λ hosts all kept. record {
+        places = exact_places w (settled hosts w k (c.args.id ∷ [])).runs places places 0 0 [] c.requires.there (none_asked w places 0 [])
+            (plain_ended hosts w k looked places c.args.id notes kept ready).asks;
+      };
+      answers = λ hosts all. all;
+      counted = c.requires.counted;
+      there = λ place. refl;
+      most = omega arith;
       signals = refl;
       idle = c.requires.idle;
       seats = refl;
       given = refl;
       named = λ all. all;
-      steps = λ hosts kept. (plain_ended hosts w k c.args.graph.now.state.looked c.args.id notes kept ready).counted;
+      steps = λ hosts all kept. (plain_ended hosts w k looked places c.args.id notes kept ready).counted;
       worn = refl;
     }
 
 pub returns-clause-value : goal.returns-clause-value
-returns-clause-value c = λ hosts kept.
+returns-clause-value g c = λ hosts all kept.
     let w = c.args.graph.now.state.signals in
     let i = c.loop-frame.invariant in
     let none = ap tops (none_left c.loop-frame.stack.items c.pop.new.self.items (vec_len c.loop-frame.stack) c.in_default-pop.ensures.items
     c.in_default-pop.ensures.rest c.in_default-pop.ensures.cases.0) in
-    let x = last_whole hosts w c.args.graph.now.state.memos c.loop-frame.graph.state.memos c.args.graph.now.state.looked c.loop-frame.graph.state.looked c.args.id (map note_of c.args.notes.now.items)
-    (map note_of c.loop-frame.notes.items) (marked c.args.graph.now.seats c.loop-frame.visited.items) (tops c.loop-frame.stack.items) kept none
-    (i.whole hosts kept) in
+    let x = last_whole hosts w c.args.graph.now.state.memos c.loop-frame.graph.state.memos c.args.graph.now.state.looked c.loop-frame.graph.state.looked _ _ c.args.id
+    (map note_of c.args.notes.now.items) (map note_of c.loop-frame.notes.items) (marked c.args.graph.now.seats c.loop-frame.visited.items)
+    (tops c.loop-frame.stack.items) kept none (i.whole hosts all kept) in
     let off = frames_are c.loop-frame.graph (tops c.loop-frame.stack.items) i.frames c.args.id ∙ ap (λ fs. is_in c.args.id (frame_names fs)) none in
     c.in_ok-outcome.ensures
     ∙ shown_value (standing c.loop-frame.graph.state.signals c.args.id) (is_in c.args.id (evaluating c.loop-frame.graph.state))
@@ -170,32 +203,58 @@ returns-clause-value c = λ hosts kept.
     (ap (λ y. standing_outcome y c.loop-frame.graph.state.memos c.args.id) i.signals ∙ x.value)
 
 pub returns-clause-settled : goal.returns-clause-settled
-returns-clause-settled c = λ hosts kept.
-    let none = ap tops (none_left c.loop-frame.stack.items c.pop.new.self.items (vec_len c.loop-frame.stack) c.in_default-pop.ensures.items
-    c.in_default-pop.ensures.rest c.in_default-pop.ensures.cases.0) in
-    (last_whole hosts c.args.graph.now.state.signals c.args.graph.now.state.memos c.loop-frame.graph.state.memos c.args.graph.now.state.looked c.loop-frame.graph.state.looked c.args.id
-    (map note_of c.args.notes.now.items) (map note_of c.loop-frame.notes.items) (marked c.args.graph.now.seats c.loop-frame.visited.items)
-    (tops c.loop-frame.stack.items) kept none (c.loop-frame.invariant.whole hosts kept)).settling
-
-pub returns-clause-kept : goal.returns-clause-kept
-returns-clause-kept c = λ hosts kept.
-    let none = ap tops (none_left c.loop-frame.stack.items c.pop.new.self.items (vec_len c.loop-frame.stack) c.in_default-pop.ensures.items
-    c.in_default-pop.ensures.rest c.in_default-pop.ensures.cases.0) in
-    subst (λ w. AreKept hosts w c.loop-frame.graph.state.memos) (sym c.loop-frame.invariant.signals)
-    (last_whole hosts c.args.graph.now.state.signals c.args.graph.now.state.memos c.loop-frame.graph.state.memos c.args.graph.now.state.looked c.loop-frame.graph.state.looked c.args.id
-    (map note_of c.args.notes.now.items) (map note_of c.loop-frame.notes.items) (marked c.args.graph.now.seats c.loop-frame.visited.items)
-    (tops c.loop-frame.stack.items) kept none (c.loop-frame.invariant.whole hosts kept)).kept
-
-pub returns-clause-named : goal.returns-clause-named
-returns-clause-named c = λ all.
-    notes_stay c.args.graph.now c.loop-frame.graph (map note_of c.loop-frame.notes.items) c.loop-frame.invariant.given
-    (c.loop-frame.invariant.named all)
-
-pub returns-clause-steps : goal.returns-clause-steps
-returns-clause-steps c = λ hosts kept.
+returns-clause-settled g c = λ hosts all kept.
     let none = ap tops (none_left c.loop-frame.stack.items c.pop.new.self.items (vec_len c.loop-frame.stack) c.in_default-pop.ensures.items
     c.in_default-pop.ensures.rest c.in_default-pop.ensures.cases.0) in
     (last_whole hosts c.args.graph.now.state.signals c.args.graph.now.state.memos c.loop-frame.graph.state.memos c.args.graph.now.state.looked
-    c.loop-frame.graph.state.looked c.args.id (map note_of c.args.notes.now.items) (map note_of c.loop-frame.notes.items)
-    (marked c.args.graph.now.seats c.loop-frame.visited.items) (tops c.loop-frame.stack.items) kept none
-    (c.loop-frame.invariant.whole hosts kept)).counted
+    c.loop-frame.graph.state.looked _ _ c.args.id (map note_of c.args.notes.now.items) (map note_of c.loop-frame.notes.items)
+    (marked c.args.graph.now.seats c.loop-frame.visited.items) (tops c.loop-frame.stack.items) kept none (c.loop-frame.invariant.whole hosts all kept)).settling
+
+pub returns-clause-kept : goal.returns-clause-kept
+returns-clause-kept g c = λ hosts all kept.
+    let none = ap tops (none_left c.loop-frame.stack.items c.pop.new.self.items (vec_len c.loop-frame.stack) c.in_default-pop.ensures.items
+    c.in_default-pop.ensures.rest c.in_default-pop.ensures.cases.0) in
+    subst (λ w. AreKept hosts w c.loop-frame.graph.state.memos) (sym c.loop-frame.invariant.signals)
+    (last_whole hosts c.args.graph.now.state.signals c.args.graph.now.state.memos c.loop-frame.graph.state.memos c.args.graph.now.state.looked
+    c.loop-frame.graph.state.looked _ _ c.args.id (map note_of c.args.notes.now.items) (map note_of c.loop-frame.notes.items)
+    (marked c.args.graph.now.seats c.loop-frame.visited.items) (tops c.loop-frame.stack.items) kept none (c.loop-frame.invariant.whole hosts all kept)).kept
+
+pub returns-clause-steps : goal.returns-clause-steps
+returns-clause-steps g c = λ hosts all kept.
+    let none = ap tops (none_left c.loop-frame.stack.items c.pop.new.self.items (vec_len c.loop-frame.stack) c.in_default-pop.ensures.items
+    c.in_default-pop.ensures.rest c.in_default-pop.ensures.cases.0) in
+    (last_whole hosts c.args.graph.now.state.signals c.args.graph.now.state.memos c.loop-frame.graph.state.memos c.args.graph.now.state.looked
+    c.loop-frame.graph.state.looked _ _ c.args.id (map note_of c.args.notes.now.items) (map note_of c.loop-frame.notes.items)
+    (marked c.args.graph.now.seats c.loop-frame.visited.items) (tops c.loop-frame.stack.items) kept none (c.loop-frame.invariant.whole hosts all kept)).counted
+
+pub returns-clause-asked : goal.returns-clause-asked
+returns-clause-asked g c = λ hosts all kept.
+    let w = c.args.graph.now.state.signals in
+    let k = c.args.graph.now.state.memos in
+    let none = ap tops (none_left c.loop-frame.stack.items c.pop.new.self.items (vec_len c.loop-frame.stack) c.in_default-pop.ensures.items
+    c.in_default-pop.ensures.rest c.in_default-pop.ensures.cases.0) in
+    let x = last_whole hosts w k c.loop-frame.graph.state.memos c.args.graph.now.state.looked
+    c.loop-frame.graph.state.looked _ _ c.args.id (map note_of c.args.notes.now.items) (map note_of c.loop-frame.notes.items)
+    (marked c.args.graph.now.seats c.loop-frame.visited.items) (tops c.loop-frame.stack.items) kept none (c.loop-frame.invariant.whole hosts all kept) in
+    record {
+      places = exact_places w (settled hosts w k (c.args.id ∷ [])).runs _ _ (length c.args.notes.now.items) (length c.loop-frame.notes.items)
+          (tops c.loop-frame.stack.items) c.requires.there c.loop-frame.invariant.asked x.asks;
+    }
+
+pub returns-clause-answers : goal.returns-clause-answers
+returns-clause-answers g c = λ hosts all. c.loop-frame.invariant.answers hosts all
+
+pub returns-clause-there : goal.returns-clause-there
+returns-clause-there g c = c.loop-frame.invariant.asked.there
+
+pub returns-clause-most : goal.returns-clause-most
+returns-clause-most g c =
+    let none = ap tops (none_left c.loop-frame.stack.items c.pop.new.self.items (vec_len c.loop-frame.stack) c.in_default-pop.ensures.items
+    c.in_default-pop.ensures.rest c.in_default-pop.ensures.cases.0) in
+    asked_most c.args.graph.now.state.signals _ _ (length c.args.notes.now.items) (length c.loop-frame.notes.items) (tops c.loop-frame.stack.items) none
+    c.loop-frame.invariant.asked
+
+pub returns-clause-named : goal.returns-clause-named
+returns-clause-named g c = λ all.
+    notes_stay c.args.graph.now c.loop-frame.graph (map note_of c.loop-frame.notes.items) c.loop-frame.invariant.given
+    (c.loop-frame.invariant.named all)

@@ -21,7 +21,7 @@ invariant_of-self-2 c =
     let id : c.of-id.result ≡ length xs = omega (arith, kept, number, count) in
     let below = given_below c.args.self.now (state_of xs c.self.inside.generation c.self.inside.looked c.self.inside.worn) c.self.inside.seats.holders (length xs) (slots_body c.args.body) c.self.view_is c.requires.given in
     let some = c.free.ensures in
-    let h = new_holds xs c.take-seat.result c.args.body c.self.inside.seats c.self.inside.generation c.self.inside.worn c.requires.fresh (λ m. in_all (slots_body c.args.body) (length xs) m below) (omega (arith, some))
+    let h = new_holds xs c.take-seat.result c.args.body c.self.inside.seats c.self.inside.generation c.self.inside.worn c.requires.fresh (λ m. in_all (slots_body c.args.body) (length xs) m below) c.requires.few (omega (arith, some))
     c.take-seat.ensures.inside c.take-seat.ensures.free c.self.invariant in
     let seats = c.take-seat.ensures.seats ∙ ap (with_taken c.self.inside.seats c.take-seat.result) id in
     subst (λ (t : Seating). Holds c.push_in.new.all.items t c.self.inside.generation (c.self.inside.worn + 1)) (sym seats)

@@ -1,7 +1,8 @@
 use Rattle.std.proofs.Common.{subst}
 use Rattle.signal_model.specs.Kept.{AreGiven, OnlyComputedsKeep}
 use Rattle.sig_nodes.specs.States.{Seen, is_given}
-use Rattle.sig_nodes.proofs.Holding.{used_here}
+use Rattle.sig_nodes.specs.Answers.{HaveFewSlots}
+use Rattle.sig_nodes.proofs.Holding.{few_here, used_here}
 use Rattle.sig_nodes.proofs.Searching.{only_keep}
 use Rattle.sig_nodes.proofs.graph.Graph.made.Goals as goal
 
@@ -14,3 +15,8 @@ pub returns-clause-keepers : goal.returns-clause-keepers
 returns-clause-keepers c =
     subst (λ (g : Seen). OnlyComputedsKeep g.state.signals g.state.memos) c.self.view_is
     (only_keep c.self.inside.nodes.items c.self.inside.generation)
+
+pub returns-clause-few : goal.returns-clause-few
+returns-clause-few c =
+    subst (λ (g : Seen). HaveFewSlots g.state.signals) c.self.view_is
+    (few_here c.self.inside.nodes.items c.self.inside.seats c.self.inside.generation c.self.inside.worn c.self.invariant)

@@ -1,7 +1,7 @@
 use Rattle.std.proofs.Common.{List, Option, Some, length, sym, ap, ◌∙◌, subst}
 use Rattle.signal_model.specs.Standing.{standing}
 use Rattle.sig_nodes.specs.declared.node.Node.{Node}
-use Rattle.sig_nodes.specs.Answers.{answer_here, slots_here}
+use Rattle.sig_nodes.specs.Answers.{slots_here, IsAnswerHere, IsJudgedAnswer}
 use Rattle.sig_nodes.specs.States.{Seen, progress_at, with_look, with_progress}
 use Rattle.sig_nodes.specs.Places.{Holds}
 use Rattle.sig_nodes.specs.Nodes.{body_at, changed_at, known_body, known_node, slots_body, stands_of, state_of}
@@ -9,8 +9,6 @@ use Rattle.sig_nodes.proofs.Parts.{progress_found, stands}
 use Rattle.sig_nodes.proofs.Edits.{changed_length, known_state}
 use Rattle.sig_nodes.proofs.Holding.{became, known_holds}
 use Rattle.sig_base.specs.declared.value.Known.{Known}
-use Rattle.sig_nodes.specs.declared.answers.Asked.TheVariants as asked
-use Rattle.signal_model.specs.Recipes.{IsJudged}
 use Rattle.sig_nodes.specs.States.{GoesOn}
 use Rattle.sig_nodes.proofs.Looking.{known_below, known_slots, known_stands, slots_found}
 use Rattle.sig_nodes.proofs.graph.Graph.recipe.Goals as goal
@@ -28,8 +26,8 @@ invariant_of-self c =
     subst (λ (xs : List Node). Holds xs c.self.inside.seats c.self.inside.generation c.self.inside.worn) (sym c.in_err-note_at.ensures.kept)
     (known_holds (known_body (body_at c.note_at.new.nodes.items c.args.id)) c.args.id c.self.inside.nodes.items c.self.inside.seats c.self.inside.generation c.self.inside.worn c.self.invariant)
 
-pub invariant_of-self-in_err-step : goal.invariant_of-self-in_err-step
-invariant_of-self-in_err-step c =
+pub invariant_of-self-in_err-answer : goal.invariant_of-self-in_err-answer
+invariant_of-self-in_err-answer c =
     subst (λ (xs : List Node). Holds xs c.self.inside.seats c.self.inside.generation c.self.inside.worn) (sym c.in_ok-note_at.ensures.kept)
     (known_holds (known_body (body_at c.note_at.new.nodes.items c.args.id)) c.args.id c.self.inside.nodes.items c.self.inside.seats c.self.inside.generation c.self.inside.worn c.self.invariant)
 
@@ -39,12 +37,12 @@ invariant_of-self-2 c =
     (known_holds (known_body (body_at c.note_at.new.nodes.items c.args.id)) c.args.id c.self.inside.nodes.items c.self.inside.seats c.self.inside.generation c.self.inside.worn c.self.invariant)
 
 pub returns-clause-answer : goal.returns-clause-answer
-returns-clause-answer c = λ hosts.
+returns-clause-answer c =
     let xs = c.self.inside.nodes.items in
     let nodes = c.in_ok-note_at.ensures.kept ∙ ap (λ (k : Option (List Known)). changed_at (known_node k) c.args.id c.self.inside.nodes.items) c.in_ok-note_at.ensures.noted in
     let stands' = ap (λ (ys : List Node). stands_of c.args.id (body_at ys c.args.id)) (c.deref.ensures.value ∙ nodes) ∙ known_stands (Some c.args.known.now) c.args.id xs
     ∙ sym (stands xs c.args.id) ∙ ap (λ (s : Seen). standing s.state.signals c.args.id) c.self.view_is in
-    ap asked.Step (c.in_ok-step.ensures.answer hosts ∙ ap (λ z. answer_here hosts z c.args.known.now) stands')
+    subst (λ z. IsAnswerHere z c.args.known.now c.in_ok-answer.answer) stands' c.in_ok-answer.ensures.answer
 
 pub returns-clause-judged : goal.returns-clause-judged
 returns-clause-judged c =
@@ -52,7 +50,7 @@ returns-clause-judged c =
     let nodes = c.in_ok-note_at.ensures.kept ∙ ap (λ (k : Option (List Known)). changed_at (known_node k) c.args.id c.self.inside.nodes.items) c.in_ok-note_at.ensures.noted in
     let slots = ap (λ (ys : List Node). slots_body (body_at ys c.args.id)) (c.deref.ensures.value ∙ nodes) ∙ known_slots (Some c.args.known.now) c.args.id xs
     ∙ sym (slots_found xs c.args.id) ∙ ap (λ (s : Seen). slots_here (standing s.state.signals c.args.id)) c.self.view_is in
-    subst (λ ns. IsJudged (length ns) c.args.known.now c.in_ok-step.step) slots c.in_ok-step.ensures.judged
+    subst (λ ns. IsJudgedAnswer (length ns) c.args.known.now c.in_ok-answer.answer) slots c.in_ok-answer.ensures.judged
 
 pub returns-clause-after : goal.returns-clause-after
 returns-clause-after c =

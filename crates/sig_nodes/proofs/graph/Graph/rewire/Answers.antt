@@ -37,7 +37,7 @@ invariant_of-self c =
     let xs = c.self.inside.nodes.items in
     let below = given_below c.args.self.now (state_of xs c.self.inside.generation c.self.inside.looked c.self.inside.worn) c.self.inside.seats.holders (length xs) c.args.slots.items c.self.view_is c.requires.given in
     subst (λ (ys : List Node). Holds ys c.self.inside.seats (c.self.inside.generation + 1) (c.self.inside.worn + 1)) (sym c.rewire_at.ensures)
-    (rewired_holds (recipe_made (expression_of c.args.recipe) c.args.slots.items) c.args.id xs c.self.inside.seats c.self.inside.generation c.self.inside.worn below c.self.invariant)
+    (rewired_holds (recipe_made (expression_of c.args.recipe) c.args.slots.items) c.args.id xs c.self.inside.seats c.self.inside.generation c.self.inside.worn below c.requires.few c.self.invariant)
 
 pub returns-clause-after : goal.returns-clause-after
 returns-clause-after c =
