@@ -5,7 +5,8 @@ use Rattle.std.specs.Prelude.{slice_set, slice_index_or}
 use Rattle.signal_model.specs.Standing.{changed, without}
 use Rattle.effect_model.specs.Worlds.{Watcher}
 use Rattle.sig_watcher.specs.Numbers.{changed_at, IsFirst, Rises}
-use Rattle.sig_watcher.specs.Tables.{is_alive, new_watcher, signals_at}
+use Rattle.effect_model.specs.Watching.{signals_at}
+use Rattle.sig_watcher.specs.Tables.{is_alive, new_watcher}
 
 -- the number of a watcher
 abbrev number_of : Watcher → ℕ
@@ -60,6 +61,15 @@ pub first_alive : (xs : List Watcher) (n p : ℕ) → IsFirst xs n p → is_aliv
 first_alive [] n p h = absurd h
 first_alive (x ∷ xs) n zero h = ap (λ b. b || is_alive xs n) (eq-eqb n x.number h)
 first_alive (x ∷ xs) n (suc p) h = ap (λ b. b || is_alive xs n) h.0 ∙ first_alive xs n p h.1
+
+-- who doesn't live watches nothing
+pub none_signals : (xs : List Watcher) (n : ℕ) → is_alive xs n ≡ false → signals_at xs n ≡ []
+none_signals [] n h = refl
+none_signals (x ∷ xs) n h = go (n == x.number) h (none_signals xs n)
+  where
+    go : (b : Bool) → (b || is_alive xs n) ≡ false → (is_alive xs n ≡ false → signals_at xs n ≡ []) → cond b x.signals (signals_at xs n) ≡ []
+    go true q ih = cc
+    go false q ih = ih q
 
 -- the signals at that place are its signals
 pub first_signals : (xs : List Watcher) (n p : ℕ) (x : Watcher) → IsFirst xs n p → x ≡ slice_index_or xs p x → x.signals ≡ signals_at xs n

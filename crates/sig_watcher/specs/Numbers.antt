@@ -1,7 +1,7 @@
 -- What holds of the watchers between calls, and where one stands among them.
 use Rattle.std.specs.Prelude.{◌≡◌, ℕ, zero, suc, ◌+◌, ◌≤◌, ◌==◌, false, List, [], ◌∷◌, length}
 use Rattle.effect_model.specs.Worlds.{Watcher}
-use Rattle.sig_watcher.specs.declared.limits.TheConstants.{MOST_WATCHERS}
+use Rattle.effect_model.specs.declared.limits.TheConstants.{MOST_WATCHERS}
 
 -- the numbers of watchers rise, from one number on and up to below another
 abbrev pub Rises : ℕ → List Watcher → ℕ → Type 0

@@ -1,5 +1,5 @@
 -- What callers see of the watchers, and what each call makes of that.
-use Rattle.std.specs.Prelude.{ℕ, ◌+◌, ◌==◌, Bool, false, List, [], ◌∷◌, ◌++◌, map, if◌then◌else◌}
+use Rattle.std.specs.Prelude.{ℕ, ◌+◌, Bool, false, List, [], ◌∷◌, ◌++◌, map}
 use Rattle.signal_model.specs.Standing.{changed, is_in, without}
 use Rattle.effect_model.specs.Worlds.{Watcher, watcher_numbers}
 
@@ -39,12 +39,3 @@ with_each f t = record t { watchers = map f t.watchers }
 -- whether the watcher of a number lives
 abbrev pub is_alive : List Watcher → ℕ → Bool
 is_alive xs n = is_in n (watcher_numbers xs)
-
--- the signals that the watcher of a number watches
-abbrev pub signals_at : List Watcher → ℕ → List ℕ
-signals_at [] n = []
-signals_at (x ∷ xs) n = if n == x.number then x.signals else signals_at xs n
-
--- whether the watcher of a number watches a signal
-abbrev pub watches : List Watcher → ℕ → ℕ → Bool
-watches xs n m = is_in m (signals_at xs n)

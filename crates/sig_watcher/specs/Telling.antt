@@ -1,9 +1,5 @@
 -- Who is told of a change, and what is told.
-use Rattle.std.specs.Prelude.{ℕ, zero, suc, ◌&&◌, not, Bool, true, false, List, [], ◌∷◌, if◌then◌else◌}
-use Rattle.std.specs.List.{filter}
-use Rattle.signal_model.specs.Standing.{Signals, is_computed, standing}
-use Rattle.signal_model.specs.Memos.{Memos}
-use Rattle.signal_model.specs.Marks.{Mark, Clean, Checked, Dirty, mark_of}
+use Rattle.std.specs.Prelude.{ℕ, zero, suc, Bool, true, false, List, [], ◌∷◌, if◌then◌else◌}
 use Rattle.effect_model.specs.Worlds.{Watcher}
 use Rattle.sig_watcher.specs.declared.telling.Told.{Told}
 use Rattle.sig_watcher.specs.Tables.{waiting}
@@ -27,17 +23,3 @@ told_at hit (suc p) (x ∷ xs) = told_at hit p xs
 -- who is notified is waiting
 abbrev pub waiting_after : Bool → Watcher → Watcher
 waiting_after hit x = if hit then waiting x else x
-
--- nothing has to be done before an outcome is given again
-abbrev pub is_clean : Mark → Bool
-is_clean Clean = true
-is_clean Checked = false
-is_clean Dirty = false
-
--- whether a signal is a computed whose mark isn't clean
-abbrev pub is_pending : Signals → Memos → ℕ → Bool
-is_pending w k n = is_computed (standing w n) && not (is_clean (mark_of w k n))
-
--- the pending ones among these
-abbrev pub pending_of : Signals → Memos → List ℕ → List ℕ
-pending_of w k ns = filter (is_pending w k) ns

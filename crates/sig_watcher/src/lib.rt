@@ -2,7 +2,6 @@
 #![tactic(auto)]
 
 mod errors;
-mod limits;
 mod reach;
 mod telling;
 #[cfg(test)]
@@ -10,7 +9,7 @@ mod tests;
 mod watcher;
 mod watchers;
 
+pub use effect_model::MOST_WATCHERS;
 pub use errors::WatchFault;
-pub use limits::MOST_WATCHERS;
 pub use telling::Told;
 pub use watchers::Watchers;

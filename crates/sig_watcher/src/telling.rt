@@ -6,7 +6,8 @@ ghost use Rattle.effect_model.specs.Acts.{is_notified, notified_by, waiting_if};
 ghost use Rattle.sig_nodes.specs.Answers.{mark_meant};
 ghost use Rattle.sig_watcher.specs.Numbers.{changed_at, AreNumbered};
 ghost use Rattle.sig_watcher.specs.Reach.{AreReaching};
-ghost use Rattle.sig_watcher.specs.Telling.{is_clean, is_pending, passes_at, pending_of, told_at, told_entry, waiting_after};
+ghost use Rattle.effect_model.specs.Watching.{is_clean, is_pending, pending_of};
+ghost use Rattle.sig_watcher.specs.Telling.{passes_at, told_at, told_entry, waiting_after};
 
 use crate::reach::{is_some_flagged, reach};
 use crate::watcher::Watcher;

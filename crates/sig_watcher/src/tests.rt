@@ -54,7 +54,9 @@ fn what_is_gone_is_refused(rt: HostRuntime) -> Result<(), Fail> {
     let mut watchers = Watchers::new(alloc)?;
     let w = watchers.add(false)?;
     watchers.watch(w, &[a])?;
+    assert!(rt; watchers.is_alive(w) && watchers.watches(w, a));
     assert!(rt; watchers.unwatch(w, a) == Ok(()));
+    assert!(rt; watchers.is_alive(w) && !watchers.watches(w, a));
     assert!(rt; watchers.unwatch(w, a) == Err(WatchFault::NotWatched));
     watchers.watch(w, &[a])?;
     watchers.forget(a);

@@ -4,13 +4,15 @@ ghost use Rattle.effect_model.specs.Acts.{forget, is_notified, notified_by, wait
 ghost use Rattle.effect_model.specs.Commands.{armed};
 ghost use Rattle.sig_watcher.specs.declared.errors.WatchFault.TheVariants as fault;
 ghost use Rattle.sig_watcher.specs.Numbers.{changed_at, AreNumbered, IsFirst};
-ghost use Rattle.sig_watcher.specs.Tables.{is_alive, no_watchers, signals_at, watches, with_changed, with_each, with_new, with_removal};
-ghost use Rattle.sig_watcher.specs.Telling.{pending_of, told_entry};
+ghost use Rattle.effect_model.specs.Watching.{signals_at, watches};
+ghost use Rattle.sig_watcher.specs.Tables.{is_alive, no_watchers, with_changed, with_each, with_new, with_removal};
+ghost use Rattle.effect_model.specs.Watching.{pending_of};
+ghost use Rattle.sig_watcher.specs.Telling.{told_entry};
 
 use crate::errors::WatchFault;
-use crate::limits::MOST_WATCHERS;
 use crate::telling::{Told, is_some_watching, pending_of, tell_all};
 use crate::watcher::{Watcher, is_among};
+use effect_model::MOST_WATCHERS;
 use sig_base::{NoMemory, NodeId, WatcherId};
 use sig_nodes::Graph;
 use std::alloc::Global;
@@ -54,6 +56,20 @@ impl Watchers {
         ensures numbered { AreNumbered self.now.watchers self.now.made }
     {
         self.watchers.len()
+    }
+
+    /// Whether a watcher lives.
+    pub fn is_alive(&self, w: WatcherId) -> bool
+        ensures { result ≡ is_alive self.now.watchers w }
+    {
+        is_alive(&self.watchers, w)
+    }
+
+    /// Whether a signal is among those that a watcher watches. A watcher that is gone watches none.
+    pub fn watches(&self, w: WatcherId, id: NodeId) -> bool
+        ensures { result ≡ watches self.now.watchers w id }
+    {
+        watches(&self.watchers, w, id)
     }
 
     /// Makes a watcher, which has no signals and is waiting; it may try a command when it is notified. Its id is the number of
@@ -177,6 +193,26 @@ fn place_of(watchers: &[Watcher], w: WatcherId) -> Option<usize>
         }
     }
     None
+}
+
+// Whether the watcher of an id is among these.
+fn is_alive(watchers: &[Watcher], w: WatcherId) -> bool
+    ensures { result ≡ is_alive watchers.now w }
+{
+    match place_of(watchers, w) {
+        Some(_) => true,
+        None => false,
+    }
+}
+
+// Whether the watcher of an id watches a signal.
+fn watches(watchers: &[Watcher], w: WatcherId, id: NodeId) -> bool
+    ensures { result ≡ watches watchers.now w id }
+{
+    match place_of(watchers, w) {
+        Some(place) => watches_at(watchers, place, id),
+        None => false,
+    }
 }
 
 // Arms the watcher at a place.

@@ -1,5 +1,5 @@
 use Rattle.std.proofs.Common.{◌≡◌, take}
-use Rattle.sig_watcher.specs.Telling.{pending_of}
+use Rattle.effect_model.specs.Watching.{pending_of}
 use Rattle.sig_watcher.proofs.telling.pending_of.Given as goal
 
 abbrev pub invariant-loop-id : goal.invariant-loop-id

@@ -1,7 +1,7 @@
 use Rattle.std.proofs.Common.{◌+◌, ◌≤◌, ◌==◌, true≢false, ◌++◌, ◌∷◌, [], List, length, sym, ap, ◌∙◌, subst}
 use Rattle.std.proofs.lemmas.Bool.{eq-eqb}
 use Rattle.effect_model.specs.Worlds.{Watcher}
-use Rattle.sig_watcher.specs.declared.limits.TheConstants.{MOST_WATCHERS}
+use Rattle.effect_model.specs.declared.limits.TheConstants.{MOST_WATCHERS}
 use Rattle.sig_watcher.specs.Numbers.{Rises}
 use Rattle.sig_watcher.specs.Tables.{new_watcher}
 use Rattle.sig_watcher.proofs.Places.{rises_more, room_more}

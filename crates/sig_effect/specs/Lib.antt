@@ -1,0 +1,5 @@
+pub mod Answers
+pub mod Events
+pub mod Telling
+pub mod Wholes
+pub mod Agreeing

@@ -1,0 +1,38 @@
+-- The plain world that the stores stand for.
+use Rattle.std.specs.Prelude.{ℕ, suc, Bool, List, [], ◌∷◌, if◌then◌else◌}
+use Rattle.effect_model.specs.Owning.{nothing}
+use Rattle.effect_model.specs.Worlds as plain
+use Rattle.effect_model.specs.Worlds.{HostState, unused, used, dropped}
+use Rattle.sig_host.specs.Hosts.{HostPlace}
+use Rattle.sig_nodes.specs.Answers.{uses_host}
+use Rattle.sig_nodes.specs.States.{Seen}
+use Rattle.sig_watcher.specs.Tables.{Table}
+use Rattle.sig_effect.specs.declared.world.World.{World}
+
+-- how the host formula of a place stands, by whether a computed asks it: dropped where it isn't there, used where one does, and else unused
+abbrev pub host_state : Bool → HostPlace → HostState
+host_state uses p = if p.there then (if uses then used p.asks else unused) else dropped p.asks
+
+-- those of the places from one on
+abbrev pub host_states : (ℕ → Bool) → ℕ → List HostPlace → List HostState
+host_states uses place [] = []
+host_states uses place (p ∷ ps) = host_state (uses place) p ∷ host_states uses (suc place) ps
+
+-- a graph, watchers, and what is known of the places of host formulas, as a plain world at rest in which nothing else was made
+abbrev pub whole : List HostPlace → Seen → Table → plain.World
+whole asked g t = record {
+  signals = g.state.signals;
+  memos = g.state.memos;
+  host_states = host_states (uses_host g.state.signals) 0 asked;
+  watchers = t.watchers;
+  owners = [];
+  effects = [];
+  pages = [];
+  owned = nothing;
+  made = record { signals = g.given; owners = 0; effects = 0; pages = 0; watchers = t.made };
+  told = [];
+}
+
+-- the plain world that a world stands for, beside what is known of the places of host formulas
+abbrev pub whole_of : List HostPlace → World → plain.World
+whole_of asked w = whole asked w.graph w.watchers
