@@ -1,0 +1,48 @@
+-- Where lines may stand.
+use Rattle.std.proofs.Common.{◌≡◌, ℕ, true, false, List, refl, sym, ap, ◌∙◌}
+use Rattle.std.specs.Prelude.{IsTrue}
+use Rattle.formula_text.specs.declared.wired.Allow.{Allow}
+use Rattle.line_forms.proofs.Shared as lines
+use Rattle.tpl_syntax.specs.declared.line.Line.{Line}
+use Rattle.tpl_syntax.specs.declared.line.Line.TheVariants as line
+use Rattle.tpl_syntax.specs.declared.reading.Seen.{Seen}
+use Rattle.tpl_syntax.specs.Grammar.{Row, row, table, Said, Writes, line_of}
+use Rattle.tpl_syntax.specs.Lines.{mapped}
+use Rattle.tpl_syntax.specs.Places.{Place, fits, moved}
+use Rattle.tpl_syntax.specs.Views.{found_of}
+use Rattle.tpl_syntax.proofs.Grammars.{is_grammar}
+
+-- whether a line fits, and where the next one stands, isn't told by its formula
+pub same_fits : {F G : Type 0} (p : Place) (f : F → G) (l : Line F) → fits p (mapped f l) ≡ fits p l
+same_fits p f (line.Text x) = refl
+same_fits p f (line.Tag n) = refl
+same_fits p f (line.Attr n x) = refl
+same_fits p f (line.If x) = refl
+same_fits p f line.Else = refl
+same_fits p f (line.Each x) = refl
+same_fits p f line.End = refl
+
+pub same_moved : {F G : Type 0} (p : Place) (f : F → G) (l : Line F) → moved p (mapped f l) ≡ moved p l
+same_moved p f (line.Text x) = refl
+same_moved p f (line.Tag n) = refl
+same_moved p f (line.Attr n x) = refl
+same_moved p f (line.If x) = refl
+same_moved p f line.Else = refl
+same_moved p f (line.Each x) = refl
+same_moved p f line.End = refl
+
+fits_of : (p : Place) (allow : Allow) (l : Line Seen) (x : Said) → l ≡ found_of allow x → fits p l ≡ fits p (line_of x)
+fits_of p allow l x e = ap (λ (m : Line Seen). fits p m) e ∙ same_fits p _ (line_of x)
+
+-- a line that fits as it is found fits
+pub does_fit : (p : Place) (allow : Allow) (bytes : List ℕ) (l : Line Seen) → fits p l ≡ true → (x : Said) × Writes x bytes × (l ≡ found_of allow x)
+    → (x : Said) × Writes x bytes × IsTrue (fits p (line_of x)) × (l ≡ found_of allow x)
+does_fit p allow bytes l h w = (w.0, w.1, sym (fits_of p allow l w.0 w.2) ∙ h, w.2)
+
+-- nothing else that the line says fits either
+pub does_not_fit : (p : Place) (allow : Allow) (bytes : List ℕ) (l : Line Seen) → fits p l ≡ false → (x : Said) × Writes x bytes × (l ≡ found_of allow x)
+    → (x : Said) → Writes x bytes → IsTrue (fits p (line_of x)) → ⊥
+does_not_fit p allow bytes l h w x s t =
+    let same : w.0 ≡ x = lines.one_writing Row row table is_grammar bytes w.0 x w.1 s in
+    let bad : false ≡ true = sym h ∙ fits_of p allow l w.0 w.2 ∙ ap (λ (y : Said). fits p (line_of y)) same ∙ t in
+    cc

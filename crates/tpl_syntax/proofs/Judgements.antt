@@ -1,0 +1,213 @@
+-- What is judged of lines that were read is judged of what they say.
+use Rattle.std.proofs.Common.{◌≡◌, ℕ, Bool, true, false, cond, List, [], ◌∷◌, map, Option, Some, None, refl, ap, ap₂, ◌∙◌}
+use Rattle.std.specs.Prelude.{option_map, Ok, not, ◌&&◌, if◌then◌else◌}
+use Rattle.std.specs.Option.{option_or}
+use Rattle.formula_text.specs.declared.wired.Allow.{Allow}
+use Rattle.formula_text.specs.declared.wired.FormulaFault.{FormulaFault}
+use Rattle.formula_text.specs.declared.wired.FormulaFault.TheVariants as fault
+use Rattle.formula_text.specs.Grammar.{Draft}
+use Rattle.formula_text.specs.Wiring.{Wiring, refusal, wired}
+use Rattle.line_forms.specs.Told.{unless_faulty}
+use Rattle.script_lines.specs.Lines.{NumberedLine}
+use Rattle.tpl_syntax.specs.declared.fault.TemplateWhy.{TemplateWhy}
+use Rattle.tpl_syntax.specs.declared.fault.TemplateWhy.TheVariants as why
+use Rattle.tpl_syntax.specs.declared.judge.ReadLine.{ReadLine}
+use Rattle.tpl_syntax.specs.declared.line.Line.{Line}
+use Rattle.tpl_syntax.specs.declared.line.Line.TheVariants as line
+use Rattle.tpl_syntax.specs.declared.place.Content.{Content}
+use Rattle.tpl_syntax.specs.declared.place.Content.TheVariants as content
+use Rattle.tpl_syntax.specs.Grammar.{Said, line_of}
+use Rattle.tpl_syntax.specs.Judging.{Judged, allowed, excess, fault_at, fault_of, first_excess, first_misplaced, high, in_element, is_bare_text, is_nested, judged, judged_at, many_lines, misplacing, missing, refusal_of}
+use Rattle.tpl_syntax.specs.Lines.{is_child, mapped}
+use Rattle.tpl_syntax.specs.Places.{Place, content_at, moved}
+use Rattle.tpl_syntax.specs.Templates.{Sayings, Say, reached}
+use Rattle.tpl_syntax.specs.Views.{AreRead, bare_seen, fault_seen, fault_told, judged_read, readings, read_of, seen, sound_lines, wired_line, with_line}
+
+-- ---- lines that were read say something
+
+-- what lines say that were read so
+pub record SaysRead (p : Place) (ls : List NumberedLine) (rs : List ReadLine) (to : Place) : Type 0 where
+  pub xs : Sayings
+  pub say : Say p ls xs
+  pub is : rs ≡ readings p xs
+  pub end : reached p xs ≡ to
+
+pub says_read : (p : Place) (ls : List NumberedLine) (rs : List ReadLine) (to : Place) → AreRead p ls rs to → SaysRead p ls rs to
+says_read p [] [] to a = record { xs = []; say = tt; is = refl; end = a }
+says_read p [] (r ∷ rs) to a = absurd a
+says_read p (l ∷ ls) [] to a = absurd a
+says_read p (l ∷ ls) (r ∷ rs) to a =
+    let rest = says_read (moved p (line_of a.0)) ls rs to a.4 in
+    let x : ℕ × Said = (l.0, a.0) in
+    record { xs = x ∷ rest.xs; say = (refl, a.1, a.2, rest.say); is = let e = a.3 in let f = rest.is in cc; end = rest.end }
+
+-- ---- one line
+
+told_fault : (o : Option FormulaFault) (w : Wiring) → fault_told (unless_faulty o w) ≡ o
+told_fault None w = refl
+told_fault (Some f) w = refl
+
+seen_fault : (p : Place) (l : Line Draft) → fault_seen (mapped (seen (allowed p)) l) ≡ fault_of p l
+seen_fault p (line.Text x) = told_fault (refusal (allowed p) x) (wired x)
+seen_fault p (line.Tag n) = refl
+seen_fault p (line.Attr n x) = told_fault (refusal (allowed p) x) (wired x)
+seen_fault p (line.If x) = told_fault (refusal (allowed p) x) (wired x)
+seen_fault p line.Else = refl
+seen_fault p (line.Each x) = told_fault (refusal (allowed p) x) (wired x)
+seen_fault p line.End = refl
+
+seen_bare : (a : Allow) (l : Line Draft) → bare_seen (mapped (seen a) l) ≡ is_bare_text l
+seen_bare a (line.Text x) = refl
+seen_bare a (line.Tag n) = refl
+seen_bare a (line.Attr n x) = refl
+seen_bare a (line.If x) = refl
+seen_bare a line.Else = refl
+seen_bare a (line.Each x) = refl
+seen_bare a line.End = refl
+
+same_child : {F G : Type 0} (f : F → G) (l : Line F) → is_child (mapped f l) ≡ is_child l
+same_child f (line.Text x) = refl
+same_child f (line.Tag n) = refl
+same_child f (line.Attr n x) = refl
+same_child f (line.If x) = refl
+same_child f line.Else = refl
+same_child f (line.Each x) = refl
+same_child f line.End = refl
+
+same_element : {F G : Type 0} (c : Content) (bare : Bool) (f : F → G) (l : Line F) → in_element c bare (mapped f l) ≡ in_element c bare l
+same_element content.Nothing bare f l = ap (λ (b : Bool). if b then Some why.VoidChild else None) (same_child f l)
+same_element content.Bare bare f l = ap (λ (b : Bool). if b && not bare then Some why.RawText else None) (same_child f l)
+same_element content.Lines bare f l = refl
+
+same_nested : {F G : Type 0} (p : Place) (f : F → G) (l : Line F) → is_nested p (mapped f l) ≡ is_nested p l
+same_nested p f (line.Text x) = refl
+same_nested p f (line.Tag n) = refl
+same_nested p f (line.Attr n x) = refl
+same_nested p f (line.If x) = refl
+same_nested p f line.Else = refl
+same_nested p f (line.Each x) = refl
+same_nested p f line.End = refl
+
+same_misplacing : {F G : Type 0} (p : Place) (w : Option FormulaFault) (bare : Bool) (f : F → G) (l : Line F)
+    → misplacing p w bare (mapped f l) ≡ misplacing p w bare l
+same_misplacing p w bare f l =
+    ap₂ (λ (o : Option TemplateWhy) (n : Bool). option_or (missing w) (option_or o (if n then Some why.Nest else high w)))
+    (same_element (content_at p.levels) bare f l) (same_nested p f l)
+
+-- what is judged of a line that was read
+judged_same : (p : Place) (x : ℕ × Said) → judged_read (read_of p x) ≡ judged_at p x.0 (line_of x.1)
+judged_same p x =
+    let l = line_of x.1 in
+    let a = allowed p in
+    let found = mapped (seen a) l in
+    let whole : ℕ → Option TemplateWhy → Option TemplateWhy → Judged = λ k m e. record { number = k; misplaced = m; excess = e } in
+    let placed : misplacing p (fault_seen found) (bare_seen found) found ≡ misplacing p (fault_of p l) (is_bare_text l) l =
+    same_misplacing p (fault_seen found) (bare_seen found) (seen a) l
+    ∙ ap (λ (w : Option FormulaFault). misplacing p w (bare_seen found) l) (seen_fault p l)
+    ∙ ap (λ (b : Bool). misplacing p (fault_of p l) b l) (seen_bare a l) in
+    let much : excess (fault_seen found) ≡ excess (fault_of p l) = ap excess (seen_fault p l) in
+    ap₂ (whole x.0) placed much
+
+-- what is judged of lines that were read
+pub all_judged : (p : Place) (xs : Sayings) → map judged_read (readings p xs) ≡ judged p xs
+all_judged p [] = refl
+all_judged p (x ∷ xs) =
+    ap₂ (λ (j : Judged) (js : List Judged). j ∷ js) (judged_same p x) (all_judged (moved p (line_of x.1)) xs)
+
+-- ---- nothing is wrong with lines that aren't refused
+
+-- what a formula can be refused for
+data IsCause : Option FormulaFault → Type 0 where
+  nothing : IsCause None
+  untrack : IsCause (Some fault.UntrackHere)
+  row : IsCause (Some fault.ItHere)
+  nest : IsCause (Some fault.Nest)
+  long : IsCause (Some fault.TextLong)
+  sources : IsCause (Some fault.Sources)
+
+either : (b : Bool) (x y : Option FormulaFault) → IsCause x → IsCause y → IsCause (cond b x y)
+either true x y p q = p
+either false x y p q = q
+
+formula_cause : (a : Allow) (x : Draft) → IsCause (refusal a x)
+formula_cause a x = either _ _ _ untrack (either _ _ _ row (either _ _ _ nest (either _ _ _ long (either _ _ _ sources nothing))))
+
+line_cause : (p : Place) (l : Line Draft) → IsCause (fault_of p l)
+line_cause p (line.Text x) = formula_cause (allowed p) x
+line_cause p (line.Tag n) = nothing
+line_cause p (line.Attr n x) = formula_cause (allowed p) x
+line_cause p (line.If x) = formula_cause (allowed p) x
+line_cause p line.Else = nothing
+line_cause p (line.Each x) = formula_cause (allowed p) x
+line_cause p line.End = nothing
+
+pub neither : {A : Type 0} (o p : Option A) → option_or o p ≡ None → (o ≡ None) × (p ≡ None)
+neither None p e = (refl, e)
+neither (Some x) p e = absurd cc
+
+not_chosen : {A : Type 0} (b : Bool) (x : A) (o : Option A) → cond b (Some x) o ≡ None → o ≡ None
+not_chosen true x o e = absurd cc
+not_chosen false x o e = e
+
+no_cause : (o : Option FormulaFault) → IsCause o → missing o ≡ None → high o ≡ None → excess o ≡ None → o ≡ None
+no_cause _ nothing m h e = refl
+no_cause _ untrack m h e = absurd cc
+no_cause _ row m h e = absurd cc
+no_cause _ nest m h e = absurd cc
+no_cause _ long m h e = absurd cc
+no_cause _ sources m h e = absurd cc
+
+no_fault : (p : Place) (l : Line Draft) → misplacing p (fault_of p l) (is_bare_text l) l ≡ None → excess (fault_of p l) ≡ None → fault_of p l ≡ None
+no_fault p l m e =
+    let w = fault_of p l in
+    let a = neither (missing w) _ m in
+    let b = neither (in_element (content_at p.levels) (is_bare_text l) l) _ a.1 in
+    no_cause w (line_cause p l) a.0 (not_chosen (is_nested p l) why.Nest (high w) b.1) e
+
+-- nothing is wrong with the formulas of these lines
+abbrev pub AllSound : Place → Sayings → Type 0
+AllSound p [] = Unit {0}
+AllSound p (x ∷ xs) = (fault_of p (line_of x.1) ≡ None) × AllSound (moved p (line_of x.1)) xs
+
+no_why : (k : ℕ) (o : Option TemplateWhy) → option_map (fault_at k) o ≡ None → o ≡ None
+no_why k None e = refl
+no_why k (Some w) e = absurd cc
+
+sound_by : (p : Place) (xs : Sayings) → first_misplaced (judged p xs) ≡ None → first_excess (judged p xs) ≡ None → AllSound p xs
+sound_by p [] m e = tt
+sound_by p (x ∷ xs) m e =
+    let l = line_of x.1 in
+    let j = judged_at p x.0 l in
+    let rest = judged (moved p l) xs in
+    let a = neither (option_map (fault_at x.0) j.misplaced) (first_misplaced rest) m in
+    let b = neither (option_map (fault_at x.0) j.excess) (first_excess rest) e in
+    (no_fault p l (no_why x.0 j.misplaced a.0) (no_why x.0 j.excess b.0), sound_by (moved p l) xs a.1 b.1)
+
+-- nothing is wrong with lines that aren't refused, and they are few
+pub sound : (p : Place) (xs : Sayings) → refusal_of (judged p xs) ≡ None → AllSound p xs × (many_lines (judged p xs) ≡ None)
+sound p xs e =
+    let a = neither (first_misplaced (judged p xs)) _ e in
+    let b = neither (first_excess (judged p xs)) (many_lines (judged p xs)) a.1 in
+    (sound_by p xs a.0 b.0, b.1)
+
+-- ---- they are kept whole
+
+told_wired : (a : Allow) (x : Draft) → refusal a x ≡ None → unless_faulty (refusal a x) (wired x) ≡ Ok (wired x)
+told_wired a x e = ap (λ (o : Option FormulaFault). unless_faulty o (wired x)) e
+
+line_wired : (p : Place) (l : Line Draft) → fault_of p l ≡ None → wired_line (mapped (seen (allowed p)) l) ≡ Some (mapped wired l)
+line_wired p (line.Text x) e = rw (told_wired (allowed p) x e) refl
+line_wired p (line.Tag n) e = refl
+line_wired p (line.Attr n x) e = rw (told_wired (allowed p) x e) refl
+line_wired p (line.If x) e = rw (told_wired (allowed p) x e) refl
+line_wired p line.Else e = refl
+line_wired p (line.Each x) e = rw (told_wired (allowed p) x e) refl
+line_wired p line.End e = refl
+
+-- the lines that nothing is wrong with are all
+pub all_kept : (p : Place) (xs : Sayings) → AllSound p xs → sound_lines (readings p xs) ≡ map (mapped wired) (map (λ x. line_of x.1) xs)
+all_kept p [] s = refl
+all_kept p (x ∷ xs) s =
+    let l = line_of x.1 in
+    ap (λ (o : Option (Line Wiring)). with_line o (sound_lines (readings (moved p l) xs))) (line_wired p l s.0)
+    ∙ ap (λ (ls : List (Line Wiring)). mapped wired l ∷ ls) (all_kept (moved p l) xs s.1)

@@ -1,0 +1,13 @@
+mod Cutting
+mod Deciding
+mod Ends
+mod Fitting
+mod Grammars
+mod Judgements
+mod LineByLine
+mod Literals
+mod Naming
+mod Rewriting
+mod Sounding
+mod Spellings
+mod Standing

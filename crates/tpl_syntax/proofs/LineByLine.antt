@@ -1,0 +1,73 @@
+-- What is read line by line.
+use Rattle.std.proofs.Common.{◌≡◌, ◌<◌, ◌≤◌, ℕ, zero, suc, ◌+◌, false, List, [], ◌∷◌, length, map, get_or, drop, sym, ap, subst, ◌∙◌, inr, arith}
+use Rattle.std.specs.Prelude.{IsTrue}
+use Rattle.std.specs.List.{All}
+use Rattle.std.proofs.lemmas.List.{drop_more}
+use Rattle.script_lines.specs.declared.line.NumberedLine as held
+use Rattle.script_lines.specs.Lines.{NumberedLine}
+use Rattle.script_lines.specs.Views as script
+use Rattle.tpl_syntax.specs.declared.judge.ReadLine.{ReadLine}
+use Rattle.tpl_syntax.specs.declared.line.Line.{Line}
+use Rattle.tpl_syntax.specs.declared.reading.Seen.{Seen}
+use Rattle.tpl_syntax.specs.Grammar.{Said, Writes, line_of}
+use Rattle.tpl_syntax.specs.Judging.{allowed}
+use Rattle.tpl_syntax.specs.Places.{Place, fits, is_closed, moved, top}
+use Rattle.tpl_syntax.specs.Templates.{IsFaulty}
+use Rattle.tpl_syntax.specs.Views.{AreRead, Unended, found_of, read_at}
+use Rattle.tpl_syntax.proofs.Fitting.{same_moved}
+use Rattle.tpl_syntax.proofs.Judgements.{says_read}
+
+-- what was found in a line that may stand at a place
+pub record FoundAt (p : Place) (bytes : List ℕ) (l : Line Seen) : Type 0 where
+  pub said : Said
+  pub writes : Writes said bytes
+  pub stands : IsTrue (fits p (line_of said))
+  pub is : l ≡ found_of (allowed p) said
+
+pub found_at : (p : Place) (bytes : List ℕ) (l : Line Seen) → (x : Said) × Writes x bytes × IsTrue (fits p (line_of x)) × (l ≡ found_of (allowed p) x) → FoundAt p bytes l
+found_at p bytes l h = record { said = h.0; writes = h.1; stands = h.2; is = h.3 }
+
+after_line : (p q : Place) (bytes : List ℕ) (l : Line Seen) (a : FoundAt p bytes l) → q ≡ moved p l → q ≡ moved p (line_of a.said)
+after_line p q bytes l a e = e ∙ ap (λ (m : Line Seen). moved p m) a.is ∙ same_moved p _ (line_of a.said)
+
+-- the lines from a place on are the one there and those behind it
+lines_from : (ls : List held.NumberedLine) (i : ℕ) (d : held.NumberedLine) → i < length ls
+    → map script.line_of (drop i ls) ≡ script.line_of (get_or ls i d) ∷ map script.line_of (drop (i + 1) ls)
+lines_from ls i d h = ap (map script.line_of) (drop_more ls i d h)
+
+-- a fault of a later line is one of the lines from here on
+pub faulty_later : (p q : Place) (ls : List held.NumberedLine) (i : ℕ) (d : held.NumberedLine) (l : Line Seen) (k : ℕ) → i < length ls
+    → FoundAt p (get_or ls i d).text.now l → q ≡ moved p l → IsFaulty q (map script.line_of (drop (i + 1) ls)) k → IsFaulty p (map script.line_of (drop i ls)) k
+faulty_later p q ls i d l k h a e later =
+    let bytes = (get_or ls i d).text.now in
+    rw (lines_from ls i d h)
+    (inr (a.said, a.writes, a.stands, subst (λ (z : Place). IsFaulty z (map script.line_of (drop (i + 1) ls)) k) (after_line p q bytes l a e) later))
+
+-- this line is read, and then the later ones
+pub read_later : (p q : Place) (ls : List held.NumberedLine) (i : ℕ) (d : held.NumberedLine) (l : Line Seen) (r : ReadLine) (rs : List ReadLine) (to : Place) → i < length ls
+    → FoundAt p (get_or ls i d).text.now l → q ≡ moved p l → r ≡ read_at p (get_or ls i d).number l
+    → AreRead q (map script.line_of (drop (i + 1) ls)) rs to → AreRead p (map script.line_of (drop i ls)) (r ∷ rs) to
+read_later p q ls i d l r rs to h a e is later =
+    let bytes = (get_or ls i d).text.now in
+    rw (lines_from ls i d h) (
+      a.said,
+      a.writes,
+      a.stands,
+      is ∙ ap (read_at p (get_or ls i d).number) a.is,
+      subst (λ (z : Place). AreRead z (map script.line_of (drop (i + 1) ls)) rs to) (after_line p q bytes l a e) later,
+    )
+
+-- lines that were read up to a place where something isn't ended
+pub left_open : (ls : List NumberedLine) (rs : List ReadLine) (to : Place) → AreRead top ls rs to → is_closed to ≡ false → Unended ls
+left_open ls rs to a e =
+    let s = says_read top ls rs to a in
+    record { xs = s.xs; say = s.say; begun = ap is_closed s.end ∙ e }
+
+-- lines that are held and have at most so many bytes
+pub short_held : (n : ℕ) (ls : List held.NumberedLine) (all : List NumberedLine) → map script.line_of ls ≡ all → All (λ l. length l.1 ≤ n) all → All (λ l. length l.text.now ≤ n) ls
+short_held n ls all e h = held_short ls (subst (λ (ms : List NumberedLine). All (λ l. length l.1 ≤ n) ms) (sym e) h)
+  where
+    held_short : (ls : List held.NumberedLine) → All (λ l. length l.1 ≤ n) (map script.line_of ls) → All (λ l. length l.text.now ≤ n) ls
+    held_short [] h k d within = absurd (omega arith)
+    held_short (l ∷ ls) h zero d within = h 0 (script.line_of d) (omega arith)
+    held_short (l ∷ ls) h (suc k) d within = held_short ls (λ j e w. h (suc j) e (omega arith)) k d (omega arith)

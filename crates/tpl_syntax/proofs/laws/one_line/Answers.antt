@@ -1,0 +1,5 @@
+use Rattle.tpl_syntax.proofs.Deciding.{one_line}
+use Rattle.tpl_syntax.proofs.laws.one_line.Goals as goal
+
+pub returns : goal.returns
+returns c = one_line

@@ -1,0 +1,21 @@
+//! Templates of pages as text, in both directions.
+#![tactic(auto)]
+
+mod building;
+mod fault;
+mod judge;
+mod laws;
+mod line;
+mod place;
+mod read;
+mod reading;
+mod template;
+mod writing;
+
+pub use fault::{TemplateFault, TemplateWhy};
+pub use judge::MOST_DEPTH;
+pub use laws::{one_line, one_template, templates_read_back};
+pub use line::{Line, TplLine};
+pub use read::{read_numbered, read_template};
+pub use template::Template;
+pub use writing::put_template;

@@ -1,0 +1,44 @@
+// Templates.
+ghost use Rattle.std.specs.Prelude.{◌≡◌, map};
+ghost use Rattle.sig_formula.specs.Trees.{tree};
+ghost use Rattle.tpl_syntax.specs.Lines.{mapped};
+
+use crate::TplLine;
+use sig_base::Name;
+use std::marker::Model;
+
+/// What a page is made of: lines, each where it may stand, and the names that their formulas read. It comes from `read_template` alone.
+#[derive(Debug, Drop)]
+pub struct Template {
+    pub(crate) names: Vec<Name>,
+    pub(crate) lines: Vec<TplLine>,
+}
+
+impl Model for Template {
+    ghost use Rattle.std.specs.Prelude.{map};
+    ghost use Rattle.sig_formula.specs.Trees.{tree};
+    ghost use Rattle.tpl_syntax.specs.Coding.{plan_code};
+    ghost use Rattle.tpl_syntax.specs.Lines.{mapped, Plan};
+
+    ghost Value = { Plan };
+
+    ghost coded = { plan_code };
+
+    ghost view = { λ t. record { names = t.names.items; lines = map (mapped tree) t.lines.items } };
+}
+
+impl Template {
+    /// The distinct names that the formulas read, in the order of the text.
+    pub fn names(&self) -> &[Name]
+        ensures { result.now ≡ self.now.names }
+    {
+        &self.names
+    }
+
+    /// The lines in their order.
+    pub fn lines(&self) -> &[TplLine]
+        ensures { map (mapped tree) result.now ≡ self.now.lines }
+    {
+        &self.lines
+    }
+}
