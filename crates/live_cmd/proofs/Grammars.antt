@@ -1,14 +1,23 @@
 -- The table of rows: tokens are read as a line exactly where they spell it.
-use Rattle.std.proofs.Common.{◌≡◌, true, refl, inl}
+use Rattle.std.proofs.Common.{◌≡◌, true, refl, inl, inr}
+use Rattle.sig_base.specs.Words.{is_name, is_reserved}
+use Rattle.formula_text.specs.Signs.{word_sign}
 use Rattle.line_forms.specs.Reading.{is_clear}
 use Rattle.line_forms.specs.Rows.{rows_of, Reaches, IsGrammar}
 use Rattle.live_cmd.specs.declared.command.Verb.TheVariants as verbs
 use Rattle.live_cmd.specs.declared.command.SourceVerb.TheVariants as source_verbs
-use Rattle.live_cmd.specs.Grammar.{Row, row, table, verb, source_verb, flush}
+use Rattle.live_cmd.specs.Grammar.{Row, row, table, verb, source_verb, hosted, tries_get, tries_set, tries_watch, tries_unwatch, flush}
 
 reached : (r : Row) → Reaches Row row r (rows_of (row r).0 table)
+unfolding word_sign is_name is_reserved
 reached (verb verbs.Get) = inl refl
-reached (source_verb source_verbs.Computed) = inl refl
+reached (hosted source_verbs.Computed) = inl refl
+reached (source_verb source_verbs.Computed) = inr (refl, inl refl)
+reached (source_verb source_verbs.Rewire) = inr (refl, inl refl)
+reached tries_get = inr (refl, inl refl)
+reached tries_set = inr (refl, inr (refl, inl refl))
+reached tries_watch = inr (refl, inr (refl, inr (refl, inl refl)))
+reached tries_unwatch = inr (refl, inr (refl, inr (refl, inr (refl, inl refl))))
 reached _ = inl refl
 
 clear : (r : Row) → is_clear (row r).1 ≡ true

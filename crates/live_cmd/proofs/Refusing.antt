@@ -4,7 +4,7 @@ use Rattle.std.specs.Option.{option_or}
 use Rattle.sig_base.specs.declared.scalar.Scalar.{Scalar}
 use Rattle.formula_text.specs.declared.wired.FormulaFault.{FormulaFault}
 use Rattle.formula_text.specs.declared.wired.FormulaFault.TheVariants as fault
-use Rattle.line_forms.specs.Forms.{One, value, key, Part, one, perhaps, many, listed, formula, Form, fixed, part, Of, Holds, Args}
+use Rattle.line_forms.specs.Forms.{One, value, key, Part, one, perhaps, many, listed, arguments, formula, Form, fixed, part, Of, Holds, Args}
 use Rattle.line_forms.specs.Told.{fault_of_one, first_long, fault_of_list, fault_in, fault_along}
 use Rattle.live_cmd.specs.Grammar.{Said, row}
 use Rattle.live_cmd.specs.Judging.{tracked, fault_of, misplacing, excess}
@@ -13,6 +13,7 @@ use Rattle.live_cmd.specs.Judging.{tracked, fault_of, misplacing, excess}
 data IsJudged : Option FormulaFault → Type 0 where
   nothing : IsJudged None
   untrack : IsJudged (Some fault.UntrackHere)
+  it_here : IsJudged (Some fault.ItHere)
   nest : IsJudged (Some fault.Nest)
   long : IsJudged (Some fault.TextLong)
   sources : IsJudged (Some fault.Sources)
@@ -43,7 +44,8 @@ part_judged (one o) v = one_judged o v
 part_judged (perhaps w o) v = nothing
 part_judged (many o) vs = list_judged o vs
 part_judged (listed o) vs = list_judged o vs
-part_judged formula f = either _ _ _ untrack (either _ _ _ nest (either _ _ _ long (either _ _ _ sources nothing)))
+part_judged arguments ns = either _ _ _ sources nothing
+part_judged (formula k) f = either _ _ _ untrack (either _ _ _ it_here (either _ _ _ nest (either _ _ _ long (either _ _ _ sources nothing))))
 
 line_judged : (ps : Form) (a : Args ps) → IsJudged (fault_along tracked ps a)
 line_judged [] a = nothing
@@ -53,6 +55,7 @@ line_judged (part p ∷ ps) a = first (fault_in tracked p a.0) (fault_along trac
 no_cause : (k : ℕ) (o : Option FormulaFault) → IsJudged o → misplacing k o ≡ None → excess o ≡ None → o ≡ None
 no_cause k _ nothing m e = refl
 no_cause k _ untrack m e = absurd cc
+no_cause k _ it_here m e = absurd cc
 no_cause k _ nest m e = absurd cc
 no_cause k _ long m e = absurd cc
 no_cause k _ sources m e = absurd cc

@@ -20,7 +20,7 @@ use Rattle.live_cmd.specs.declared.line.Line.TheVariants as line
 use Rattle.live_cmd.specs.declared.place.Place.{Place}
 use Rattle.live_cmd.specs.declared.place.Place.TheVariants as place
 use Rattle.live_cmd.specs.declared.refusal.Refusal.{Refusal}
-use Rattle.live_cmd.specs.Grammar.{Row, row, Said, line_of, source_verb, template, text, close}
+use Rattle.live_cmd.specs.Grammar.{Row, row, Said, line_of, source_verb, hosted, template, text, close}
 use Rattle.live_cmd.specs.Places.{kind_of, moved}
 use Rattle.live_cmd.specs.Judging.{Sayings, faults_of, misplacing, excess, first_misplaced, first_excess, many_lines, refusal_of}
 use Rattle.live_cmd.specs.Items.{Say, IsItem, long, unended, faulty, says, any_long, first_number, texts_of, command_of, item_or, unless_refused, item_of}
@@ -39,6 +39,8 @@ Again line.End x = (close, tt) ≡ x
 again : (r : Row) (a : Args (row r).1) → Again (line_of (r, a)) (r, a)
 again (source_verb source_verbs.Computed) a = ap (λ (f : Draft). (source_verb source_verbs.Computed, (a.0, (f, tt))) ∷ []) (named_back a.1.0)
 again (source_verb source_verbs.Rewire) a = ap (λ (f : Draft). (source_verb source_verbs.Rewire, (a.0, (f, tt))) ∷ []) (named_back a.1.0)
+again (hosted source_verbs.Computed) a = refl
+again (hosted source_verbs.Rewire) a = refl
 again text a = ap (λ (f : Draft). (text, (f, tt))) (named_back a.0)
 again _ a = refl
 
@@ -117,6 +119,7 @@ not_misplaced : (j k : ℕ) (o : Option FormulaFault) → misplacing k o ≡ Non
 not_misplaced j k None e = refl
 not_misplaced j k (Some fault.Syntax) e = refl
 not_misplaced j k (Some fault.UntrackHere) e = absurd cc
+not_misplaced j k (Some fault.ItHere) e = absurd cc
 not_misplaced j k (Some fault.Nest) e = absurd cc
 not_misplaced j k (Some fault.TextLong) e = refl
 not_misplaced j k (Some fault.Sources) e = refl

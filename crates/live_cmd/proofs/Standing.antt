@@ -1,5 +1,5 @@
 -- The text of a command stands in a script as a piece.
-use Rattle.std.proofs.Common.{◌≡◌, ℕ, ◌+◌, Bool, true, false, List, [], ◌∷◌, ◌++◌, length, map, drop, flat_map, codes, refl, sym, ap, subst, ◌∙◌, append_assoc, arith}
+use Rattle.std.proofs.Common.{◌≡◌, ℕ, ◌+◌, Bool, true, false, List, [], ◌∷◌, ◌++◌, length, map, drop, flat_map, codes, refl, sym, ap, subst, ◌∙◌, append_assoc, arith, Some, None}
 use Rattle.std.specs.List.{list_all}
 use Rattle.std.specs.Prelude.{◌==◌, not}
 use Rattle.std.proofs.Math.Seq.{drop-append_seam}
@@ -17,6 +17,7 @@ use Rattle.live_cmd.specs.declared.command.Command.{Command}
 use Rattle.live_cmd.specs.declared.command.Command.TheVariants as command
 use Rattle.live_cmd.specs.declared.command.Item.TheVariants as item
 use Rattle.live_cmd.specs.declared.command.SourceText.TheVariants as source
+use Rattle.live_cmd.specs.declared.command.Try.TheVariants as tried
 use Rattle.live_cmd.specs.declared.command.Verb.TheVariants as verbs
 use Rattle.live_cmd.specs.declared.place.Place.{Place}
 use Rattle.live_cmd.specs.Grammar.{Row, row, Said, template, close}
@@ -141,6 +142,13 @@ stands (command.Template m ws) n rest s =
     ∙ ap (λ (k : ℕ). piece_of n (x ∷ block_said ws) ∷ pieces_of k rest) count
 stands (command.Computed m (source.Formula w)) n rest s = single (said_by (command.Computed m (source.Formula w))) n rest s refl
 stands (command.Rewire m (source.Formula w)) n rest s = single (said_by (command.Rewire m (source.Formula w))) n rest s refl
+stands (command.Computed m (source.Host k ns)) n rest s = single (said_by (command.Computed m (source.Host k ns))) n rest s refl
+stands (command.Rewire m (source.Host k ns)) n rest s = single (said_by (command.Rewire m (source.Host k ns))) n rest s refl
+stands (command.Watcher m None) n rest s = single (said_by (command.Watcher m None)) n rest s refl
+stands (command.Watcher m (Some (tried.Get x))) n rest s = single (said_by (command.Watcher m (Some (tried.Get x)))) n rest s refl
+stands (command.Watcher m (Some (tried.Set x v))) n rest s = single (said_by (command.Watcher m (Some (tried.Set x v)))) n rest s refl
+stands (command.Watcher m (Some (tried.Watch x ns))) n rest s = single (said_by (command.Watcher m (Some (tried.Watch x ns)))) n rest s refl
+stands (command.Watcher m (Some (tried.Unwatch x y))) n rest s = single (said_by (command.Watcher m (Some (tried.Unwatch x y)))) n rest s refl
 stands (command.Named verbs.Get m) n rest s = single (said_by (command.Named verbs.Get m)) n rest s refl
 stands c n rest s = single (said_by c) n rest s refl
 

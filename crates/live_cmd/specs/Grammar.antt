@@ -1,10 +1,10 @@
 -- The lines of the language: which bytes write each, and what it gives.
-use Rattle.std.specs.Prelude.{ℕ, List, [], ◌∷◌, codes}
+use Rattle.std.specs.Prelude.{ℕ, List, [], ◌∷◌, codes, Some, None}
 use Rattle.sig_words.specs.declared.token.Token.{Token}
-use Rattle.sig_words.specs.Lexemes.{symbol, lexemes}
+use Rattle.sig_words.specs.Lexemes.{symbol, word, lexemes}
 use Rattle.sig_words.specs.Tokens.{AreTokens}
 use Rattle.formula_text.specs.Wiring.{wired}
-use Rattle.line_forms.specs.Forms.{Piece, part, fixed, one, formula, name, value}
+use Rattle.line_forms.specs.Forms.{Piece, part, fixed, one, perhaps, many, arguments, formula, plain, name, value, count}
 use Rattle.line_forms.specs.Rows as grammar
 use Rattle.line_forms.specs.Told.{Made, made}
 use Rattle.live_cmd.specs.declared.command.Command.TheVariants as command
@@ -13,6 +13,7 @@ use Rattle.live_cmd.specs.declared.command.SourceText.{SourceText}
 use Rattle.live_cmd.specs.declared.command.SourceVerb.{SourceVerb}
 use Rattle.live_cmd.specs.declared.command.SourceVerb.TheVariants as source_verbs
 use Rattle.live_cmd.specs.declared.command.Command.{Command}
+use Rattle.live_cmd.specs.declared.command.Try.TheVariants as tried
 use Rattle.live_cmd.specs.declared.command.Verb.{Verb}
 use Rattle.live_cmd.specs.declared.command.Verb.TheVariants as verbs
 use Rattle.live_cmd.specs.declared.line.Line.{Line}
@@ -26,6 +27,15 @@ pub data Row : Type 0 where
   set : Row
   -- a verb, a name and a formula
   source_verb : SourceVerb → Row
+  -- a verb, a name and a host formula with its arguments
+  hosted : SourceVerb → Row
+  watcher : Row
+  tries_get : Row
+  tries_set : Row
+  tries_watch : Row
+  tries_unwatch : Row
+  watch : Row
+  unwatch : Row
   mount : Row
   flush : Row
   template : Row
@@ -39,6 +49,7 @@ verb_word verbs.State = codes "state"
 verb_word verbs.Sources = codes "sources"
 verb_word verbs.Show = codes "show"
 verb_word verbs.Dispose = codes "dispose"
+verb_word verbs.Pending = codes "pending"
 
 -- the word of a verb before a source
 abbrev pub source_verb_word : SourceVerb → List ℕ
@@ -58,9 +69,29 @@ N = part (one name)
 abbrev LIT : Piece
 LIT = part (one value)
 
--- a formula
+-- a formula that doesn't speak of rows
 abbrev FORMULA : Piece
-FORMULA = part formula
+FORMULA = part (formula plain)
+
+-- a number without sign
+abbrev K : Piece
+K = part (one count)
+
+-- distinct names in parentheses
+abbrev ARGUMENTS : Piece
+ARGUMENTS = part arguments
+
+-- the place of an equality rule, if one is said
+abbrev equals_K : Piece
+equals_K = part (perhaps (codes "equals") count)
+
+-- any number of names
+abbrev NAMES : Piece
+NAMES = part (many name)
+
+-- a word
+abbrev says : List ℕ → Piece
+says w = fixed (word w)
 
 -- a symbol
 abbrev mark : List ℕ → Piece
@@ -69,9 +100,17 @@ mark s = fixed (symbol s)
 -- the first word of a row, and what follows it
 abbrev pub row : Row → grammar.Line
 row (verb v) = (verb_word v, N ∷ [])
-row cell = (codes "cell", N ∷ mark (codes "=") ∷ LIT ∷ [])
+row cell = (codes "cell", N ∷ mark (codes "=") ∷ LIT ∷ equals_K ∷ [])
 row set = (codes "set", N ∷ LIT ∷ [])
 row (source_verb v) = (source_verb_word v, N ∷ mark (codes "=") ∷ FORMULA ∷ [])
+row (hosted v) = (source_verb_word v, N ∷ mark (codes "=") ∷ says (codes "host") ∷ K ∷ ARGUMENTS ∷ [])
+row watcher = (codes "watcher", N ∷ [])
+row tries_get = (codes "watcher", N ∷ says (codes "tries") ∷ says (codes "get") ∷ N ∷ [])
+row tries_set = (codes "watcher", N ∷ says (codes "tries") ∷ says (codes "set") ∷ N ∷ LIT ∷ [])
+row tries_watch = (codes "watcher", N ∷ says (codes "tries") ∷ says (codes "watch") ∷ N ∷ NAMES ∷ [])
+row tries_unwatch = (codes "watcher", N ∷ says (codes "tries") ∷ says (codes "unwatch") ∷ N ∷ N ∷ [])
+row watch = (codes "watch", N ∷ NAMES ∷ [])
+row unwatch = (codes "unwatch", N ∷ N ∷ [])
 row mount = (codes "mount", N ∷ N ∷ [])
 row flush = (codes "flush", [])
 row template = (codes "template", N ∷ [])
@@ -86,10 +125,14 @@ table =
     ∷ (codes "sources", verb verbs.Sources ∷ [])
     ∷ (codes "show", verb verbs.Show ∷ [])
     ∷ (codes "dispose", verb verbs.Dispose ∷ [])
+    ∷ (codes "pending", verb verbs.Pending ∷ [])
     ∷ (codes "cell", cell ∷ [])
     ∷ (codes "set", set ∷ [])
-    ∷ (codes "computed", source_verb source_verbs.Computed ∷ [])
-    ∷ (codes "rewire", source_verb source_verbs.Rewire ∷ [])
+    ∷ (codes "computed", hosted source_verbs.Computed ∷ source_verb source_verbs.Computed ∷ [])
+    ∷ (codes "rewire", hosted source_verbs.Rewire ∷ source_verb source_verbs.Rewire ∷ [])
+    ∷ (codes "watcher", watcher ∷ tries_get ∷ tries_set ∷ tries_watch ∷ tries_unwatch ∷ [])
+    ∷ (codes "watch", watch ∷ [])
+    ∷ (codes "unwatch", unwatch ∷ [])
     ∷ (codes "mount", mount ∷ [])
     ∷ (codes "flush", flush ∷ [])
     ∷ (codes "template", template ∷ [])
@@ -100,9 +143,17 @@ table =
 -- what a row gives of what stands in its parts: its formula with slots for its names
 abbrev pub line_makes : (r : Row) → Made (row r).1 Line
 line_makes (verb v) = λ n. line.Alone (command.Named v n)
-line_makes cell = λ n v. line.Alone (command.Cell n v)
+line_makes cell = λ n v k. line.Alone (command.Cell n v k)
 line_makes set = λ n v. line.Alone (command.Set n v)
 line_makes (source_verb v) = λ n f. line.Alone (source_command v n (source.Formula (wired f)))
+line_makes (hosted v) = λ n k ns. line.Alone (source_command v n (source.Host k ns))
+line_makes watcher = λ w. line.Alone (command.Watcher w None)
+line_makes tries_get = λ w n. line.Alone (command.Watcher w (Some (tried.Get n)))
+line_makes tries_set = λ w n v. line.Alone (command.Watcher w (Some (tried.Set n v)))
+line_makes tries_watch = λ w n ns. line.Alone (command.Watcher w (Some (tried.Watch n ns)))
+line_makes tries_unwatch = λ w n m. line.Alone (command.Watcher w (Some (tried.Unwatch n m)))
+line_makes watch = λ w ns. line.Alone (command.Watch w ns)
+line_makes unwatch = λ w n. line.Alone (command.Unwatch w n)
 line_makes mount = λ n t. line.Alone (command.Mount n t)
 line_makes flush = line.Alone command.Flush
 line_makes template = λ n. line.Template n

@@ -19,7 +19,8 @@ Sayings = List (ℕ × Said)
 abbrev pub tracked : Allow
 tracked = record { row = false; untrack = false }
 
--- what is wrong with a line that says something: an `untrack`, a formula's height, a text's length, a formula's names, the first of these
+-- what is wrong with a line that says something: an `untrack`, a formula's height, a text's length, a formula's names or a host formula's
+-- arguments, the first of these
 abbrev pub fault_of : Said → Option FormulaFault
 fault_of x = fault_along tracked (row x.0).1 x.1
 
@@ -35,6 +36,8 @@ faults_of xs = map (λ x. (x.0, fault_of x.1)) xs
 abbrev pub misplacing : ℕ → Option FormulaFault → Option Refusal
 misplacing k (Some fault.UntrackHere) = Some (refusal.UntrackHere k)
 misplacing k (Some fault.Nest) = Some (refusal.Nest k)
+-- a formula that speaks of a row isn't in the grammar
+misplacing k (Some fault.ItHere) = Some (refusal.Syntax k)
 misplacing k _ = None
 
 -- a line that has too much of something

@@ -20,8 +20,13 @@ limit_word limit.Text = codes "text"
 limit_word limit.Sources = codes "sources"
 limit_word limit.Template = codes "template"
 limit_word limit.Nodes = codes "nodes"
+limit_word limit.Watchers = codes "watchers"
 limit_word limit.Templates = codes "templates"
 limit_word limit.Pages = codes "pages"
+
+-- a name behind a blank
+abbrev pub listed : List ℕ → List ℕ
+listed n = codes " " ++ n
 
 -- the number of a refusal, and what it was refused for
 abbrev pub refusal_text : Refusal → List ℕ
@@ -31,8 +36,13 @@ refusal_text (refusal.Taken n) = codes "3 " ++ n
 refusal_text (refusal.Kind n) = codes "4 " ++ n
 refusal_text (refusal.Gone n) = codes "6 " ++ n
 refusal_text (refusal.Limit l) = codes "5 " ++ limit_word l
+refusal_text (refusal.HostPlace k) = codes "7 " ++ decimal k
+refusal_text (refusal.HostTaken k) = codes "8 " ++ decimal k
+refusal_text (refusal.NotWatched n) = codes "13 " ++ n
+refusal_text (refusal.Frozen ns) = codes "14" ++ flat_map listed ns
 refusal_text (refusal.UntrackHere k) = codes "15 " ++ decimal k
 refusal_text (refusal.Nest k) = codes "19 " ++ decimal k
+refusal_text (refusal.RulePlace k) = codes "21 " ++ decimal k
 
 -- the line of a refusal
 abbrev pub line_of_refusal : Refusal → List ℕ
@@ -61,13 +71,21 @@ seen_word seen.Dirty = codes "dirty"
 abbrev pub line_of_state : List ℕ → Seen → List ℕ
 line_of_state n s = codes "state " ++ n ++ codes " " ++ seen_word s ++ codes "\n"
 
--- a name behind a blank
-abbrev pub listed : List ℕ → List ℕ
-listed n = codes " " ++ n
-
 -- the sources that a computed keeps
 abbrev pub line_of_sources : List ℕ → List (List ℕ) → List ℕ
 line_of_sources n ms = codes "sources " ++ n ++ flat_map listed ms ++ codes "\n"
+
+-- the watched computeds of a watcher that aren't clean
+abbrev pub line_of_pending : List ℕ → List (List ℕ) → List ℕ
+line_of_pending w ns = codes "pending " ++ w ++ flat_map listed ns ++ codes "\n"
+
+-- a notified watcher
+abbrev pub line_of_notify : List ℕ → List ℕ
+line_of_notify w = codes "notify " ++ w ++ codes "\n"
+
+-- a dropped host formula, and how often it was asked
+abbrev pub line_of_drop : ℕ → ℕ → List ℕ
+line_of_drop place asks = codes "drop " ++ decimal place ++ codes " " ++ decimal asks ++ codes "\n"
 
 -- the names that were read, in parentheses, with blanks between them
 abbrev pub reads_text : List (List ℕ) → List ℕ
@@ -87,6 +105,9 @@ abbrev pub line_of_entry : Entry → List ℕ
 line_of_entry (entry.Outcome n o) = line_of_outcome n o
 line_of_entry (entry.State n s) = line_of_state n s
 line_of_entry (entry.Sources n ms) = line_of_sources n ms
+line_of_entry (entry.Pending w ns) = line_of_pending w ns
+line_of_entry (entry.Notify w) = line_of_notify w
+line_of_entry (entry.Drop place asks) = line_of_drop place asks
 line_of_entry (entry.Page n bytes) = line_of_page n bytes
 line_of_entry (entry.Error r) = line_of_refusal r
 line_of_entry (entry.Run n reads o) = line_of_run n reads o

@@ -4,6 +4,7 @@ ghost use Rattle.live_cmd.specs.Grammar.{source_command, source_verb_word, verb_
 
 use crate::Refusal;
 use formula_text::Wired;
+use line_forms::NameList;
 use sig_base::{Name, Scalar};
 use std::marker::Model;
 
@@ -60,8 +61,10 @@ pub enum Verb {
     Sources,
     /// `show P` tells the HTML of a page as it was last brought up to date.
     Show,
-    /// `dispose N` takes a cell or a computed away.
+    /// `dispose N` takes a cell, a computed or a watcher away.
     Dispose,
+    /// `pending W` tells the watched computeds that have to run, or something below them.
+    Pending,
 }
 
 impl Verb {
@@ -75,6 +78,7 @@ impl Verb {
             Verb::Sources => "sources",
             Verb::Show => "show",
             Verb::Dispose => "dispose",
+            Verb::Pending => "pending",
         }
     }
 }
@@ -82,9 +86,9 @@ impl Verb {
 /// The verbs of the commands that are a verb, a name, `=`, and what a computed is computed by.
 #[derive(Clone, Copy, Debug, PartialEq, Eq)]
 pub enum SourceVerb {
-    /// `computed N = FORMULA` makes a computed.
+    /// `computed N = SOURCE` makes a computed.
     Computed,
-    /// `rewire N = FORMULA` gives a computed another formula.
+    /// `rewire N = SOURCE` gives a computed another source.
     Rewire,
 }
 
@@ -115,25 +119,77 @@ impl SourceVerb {
 pub enum SourceText {
     /// A formula with the names of its slots.
     Formula(Wired),
+    /// `host K (a, b)`, the host formula at a place and the distinct names of its arguments.
+    Host(u64, NameList),
+}
+
+/// What a watcher tries to do while it is notified.
+#[derive(Debug, Drop)]
+pub enum Try {
+    /// `get N`
+    Get(Name),
+    /// `set N LIT`
+    Set(Name, Scalar),
+    /// `watch W a b ..`
+    Watch(Name, NameList),
+    /// `unwatch W a`
+    Unwatch(Name, Name),
 }
 
 /// A command of a script.
 #[derive(Debug, Drop)]
 pub enum Command {
-    /// `cell N = LIT` makes a cell of this value.
-    Cell { name: Name, value: Scalar },
+    /// `cell N = LIT [equals K]` makes a cell of this value, which compares by the equality rule at a place if there is one.
+    Cell {
+        name: Name,
+        value: Scalar,
+        equals: Option<u64>,
+    },
     /// `set N LIT` gives a cell another value.
-    Set { name: Name, value: Scalar },
-    /// `computed N = FORMULA` makes a computed.
-    Computed { name: Name, source: SourceText },
-    /// `rewire N = FORMULA` gives a computed another formula.
-    Rewire { name: Name, source: SourceText },
+    Set {
+        name: Name,
+        value: Scalar,
+    },
+    /// `computed N = SOURCE` makes a computed.
+    Computed {
+        name: Name,
+        source: SourceText,
+    },
+    /// `rewire N = SOURCE` gives a computed another source.
+    Rewire {
+        name: Name,
+        source: SourceText,
+    },
     /// A verb and a name.
-    Named { verb: Verb, name: Name },
+    Named {
+        verb: Verb,
+        name: Name,
+    },
+    /// `watcher W [tries CMD]` makes a watcher, which tries a command at each notification if one is said.
+    Watcher {
+        name: Name,
+        tries: Option<Try>,
+    },
+    /// `watch W a b ..` lets a watcher watch these signals too, and arms it.
+    Watch {
+        name: Name,
+        signals: NameList,
+    },
+    /// `unwatch W a` lets a watcher watch a signal no more.
+    Unwatch {
+        name: Name,
+        signal: Name,
+    },
     /// `template T` to `end` makes a template that shows what these formulas come to, one after the other.
-    Template { name: Name, texts: Formulas },
+    Template {
+        name: Name,
+        texts: Formulas,
+    },
     /// `mount P T` makes a page from a template.
-    Mount { name: Name, template: Name },
+    Mount {
+        name: Name,
+        template: Name,
+    },
     /// `flush` brings the pages up to date.
     Flush,
 }

@@ -2,10 +2,11 @@
 ghost use Rattle.std.specs.Prelude.{◌≡◌, ◌++◌, IfOk, OnOk, flat_map};
 ghost use Rattle.std.specs.Rc.{rc_value};
 ghost use Rattle.std.specs.Fmt.{decimal};
-ghost use Rattle.live_cmd.specs.Printed.{is_traced, limit_word, line_of_entry, line_of_gone, line_of_outcome, line_of_page, line_of_refusal, line_of_run};
+ghost use Rattle.live_cmd.specs.Printed.{is_traced, limit_word, line_of_drop, line_of_entry, line_of_gone, line_of_notify, line_of_outcome};
+ghost use Rattle.live_cmd.specs.Printed.{line_of_page, line_of_pending, line_of_refusal, line_of_run};
 ghost use Rattle.live_cmd.specs.Printed.{line_of_sources, line_of_state, listed, outcome_text, printed, reads_text, refusal_text, seen_word};
 
-use crate::{LimitWord, Refusal};
+use crate::{LimitWord, NameList, Refusal};
 use sig_base::{Name, NoMemory, Outcome, put_fault, put_value};
 use std::alloc::Global;
 use std::marker::Model;
@@ -53,36 +54,6 @@ impl PageBytes {
     }
 }
 
-/// Names in their order.
-#[derive(Debug, Drop)]
-pub struct NameList {
-    names: Vec<Name>,
-}
-
-impl Model for NameList {
-    ghost use Rattle.std.specs.Prelude.{List, ℕ};
-
-    ghost Value = { List (List ℕ) };
-
-    ghost view = { λ n. n.names.items };
-}
-
-impl NameList {
-    /// These names in this order.
-    pub fn of(names: Vec<Name>) -> NameList
-        ensures { result ≡ names.items }
-    {
-        NameList { names }
-    }
-
-    /// The names in their order.
-    pub fn as_slice(&self) -> &[Name]
-        ensures { result.now ≡ self.now }
-    {
-        &self.names
-    }
-}
-
 /// How a computed stands while nothing is evaluated.
 #[derive(Clone, Copy, Debug, PartialEq, Eq)]
 pub enum Seen {
@@ -103,6 +74,12 @@ pub enum Entry {
     State(Name, Seen),
     /// The sources that a computed keeps, in order of first reading.
     Sources(Name, NameList),
+    /// The computeds that a watcher watches and that have to run, or something below them, in order of watching.
+    Pending(Name, NameList),
+    /// A watcher is notified.
+    Notify(Name),
+    /// The host formula at a place is dropped, after so many asks.
+    Drop(u64, u128),
     /// The HTML of a page, at its making or where it differs from what was told last.
     Page(Name, PageBytes),
     /// A refused item.
@@ -137,17 +114,24 @@ fn limit_word(limit: LimitWord) -> &'static str
         LimitWord::Sources => "sources",
         LimitWord::Template => "template",
         LimitWord::Nodes => "nodes",
+        LimitWord::Watchers => "watchers",
         LimitWord::Templates => "templates",
         LimitWord::Pages => "pages",
     }
 }
 
-fn put_with_line(out: &mut Vec<u8>, rule: &[u8], line: u32) -> Result<(), NoMemory>
-    ensures { OnOk result (out.new.items ≡ out.old.items ++ (rule.now ++ decimal line)) }
+fn put_number(out: &mut Vec<u8>, number: u128) -> Result<(), NoMemory>
+    ensures { OnOk result (out.new.items ≡ out.old.items ++ decimal number) }
+{
+    let digits = number.to_string(*out.allocator())?;
+    put(out, digits.as_bytes())
+}
+
+fn put_with_number(out: &mut Vec<u8>, rule: &[u8], number: u64) -> Result<(), NoMemory>
+    ensures { OnOk result (out.new.items ≡ out.old.items ++ (rule.now ++ decimal number)) }
 {
     put(out, rule)?;
-    let digits = line.to_string(*out.allocator())?;
-    put(out, digits.as_bytes())
+    put_number(out, u128::from(number))
 }
 
 fn put_with_word(out: &mut Vec<u8>, rule: &[u8], word: &str) -> Result<(), NoMemory>
@@ -157,19 +141,41 @@ fn put_with_word(out: &mut Vec<u8>, rule: &[u8], word: &str) -> Result<(), NoMem
     put(out, word.as_bytes())
 }
 
+// Names, each behind a blank.
+fn put_listed(out: &mut Vec<u8>, names: &[Name]) -> Result<(), NoMemory>
+    ensures { OnOk result (out.new.items ≡ out.old.items ++ flat_map listed names.now) }
+{
+    for name in names {
+        put_with_word(out, b" ", name.as_str())?;
+    }
+    Ok(())
+}
+
+fn put_with_names(out: &mut Vec<u8>, rule: &[u8], names: &NameList) -> Result<(), NoMemory>
+    ensures { OnOk result (out.new.items ≡ out.old.items ++ (rule.now ++ flat_map listed names.now)) }
+{
+    put(out, rule)?;
+    put_listed(out, names.as_slice())
+}
+
 // The number of a refusal and its detail.
 fn put_rule(out: &mut Vec<u8>, refusal: &Refusal) -> Result<(), NoMemory>
     ensures { OnOk result (out.new.items ≡ out.old.items ++ refusal_text refusal.now) }
 {
     match refusal {
-        Refusal::Syntax(line) => put_with_line(out, b"1 ", *line),
+        Refusal::Syntax(line) => put_with_number(out, b"1 ", u64::from(*line)),
         Refusal::Unknown(name) => put_with_word(out, b"2 ", name.as_str()),
         Refusal::Taken(name) => put_with_word(out, b"3 ", name.as_str()),
         Refusal::Kind(name) => put_with_word(out, b"4 ", name.as_str()),
         Refusal::Gone(name) => put_with_word(out, b"6 ", name.as_str()),
         Refusal::Limit(limit) => put_with_word(out, b"5 ", limit_word(*limit)),
-        Refusal::UntrackHere(line) => put_with_line(out, b"15 ", *line),
-        Refusal::Nest(line) => put_with_line(out, b"19 ", *line),
+        Refusal::HostPlace(place) => put_with_number(out, b"7 ", *place),
+        Refusal::HostTaken(place) => put_with_number(out, b"8 ", *place),
+        Refusal::NotWatched(name) => put_with_word(out, b"13 ", name.as_str()),
+        Refusal::Frozen(names) => put_with_names(out, b"14", names),
+        Refusal::UntrackHere(line) => put_with_number(out, b"15 ", u64::from(*line)),
+        Refusal::Nest(line) => put_with_number(out, b"19 ", u64::from(*line)),
+        Refusal::RulePlace(place) => put_with_number(out, b"21 ", *place),
     }
 }
 
@@ -227,22 +233,39 @@ fn put_state(out: &mut Vec<u8>, name: &Name, seen: Seen) -> Result<(), NoMemory>
     put(out, b"\n")
 }
 
-// Names, each behind a blank.
-fn put_listed(out: &mut Vec<u8>, names: &[Name]) -> Result<(), NoMemory>
-    ensures { OnOk result (out.new.items ≡ out.old.items ++ flat_map listed names.now) }
-{
-    for name in names {
-        put_with_word(out, b" ", name.as_str())?;
-    }
-    Ok(())
-}
-
 fn put_sources(out: &mut Vec<u8>, name: &Name, sources: &NameList) -> Result<(), NoMemory>
     ensures { OnOk result (out.new.items ≡ out.old.items ++ line_of_sources name.now sources.now) }
 {
     put(out, b"sources ")?;
     put(out, name.as_str().as_bytes())?;
     put_listed(out, sources.as_slice())?;
+    put(out, b"\n")
+}
+
+fn put_pending(out: &mut Vec<u8>, name: &Name, pending: &NameList) -> Result<(), NoMemory>
+    ensures { OnOk result (out.new.items ≡ out.old.items ++ line_of_pending name.now pending.now) }
+{
+    put(out, b"pending ")?;
+    put(out, name.as_str().as_bytes())?;
+    put_listed(out, pending.as_slice())?;
+    put(out, b"\n")
+}
+
+fn put_notify(out: &mut Vec<u8>, name: &Name) -> Result<(), NoMemory>
+    ensures { OnOk result (out.new.items ≡ out.old.items ++ line_of_notify name.now) }
+{
+    put(out, b"notify ")?;
+    put(out, name.as_str().as_bytes())?;
+    put(out, b"\n")
+}
+
+fn put_drop(out: &mut Vec<u8>, place: u64, asks: u128) -> Result<(), NoMemory>
+    ensures { OnOk result (out.new.items ≡ out.old.items ++ line_of_drop place asks) }
+{
+    put(out, b"drop ")?;
+    put_number(out, u128::from(place))?;
+    put(out, b" ")?;
+    put_number(out, asks)?;
     put(out, b"\n")
 }
 
@@ -299,8 +322,9 @@ fn put_page(out: &mut Vec<u8>, name: &Name, page: &PageBytes) -> Result<(), NoMe
 ///
 /// An outcome is the name with ` = ` and the printed value, or with ` ! ` and the name of the fault. A page is `page`, its
 /// name and the number of its bytes, and on the next line the bytes; a refusal is `error`, its number and its detail. How a computed
-/// stands is `state`, its name and a word; its sources are `sources`, its name and theirs. Of a trace are a run, `run`, the name, what it
-/// read in parentheses and its outcome, and an end, `gone` and the name.
+/// stands is `state`, its name and a word; its sources are `sources`, its name and theirs; what of a watcher is pending is `pending`, its
+/// name and those of the computeds. A notified watcher is `notify` and its name; a dropped host formula is `drop`, its place and how often
+/// it was asked. Of a trace are a run, `run`, the name, what it read in parentheses and its outcome, and an end, `gone` and the name.
 pub fn entry_line(out: &mut Vec<u8>, entry: &Entry, trace: bool) -> Result<(), NoMemory>
     ensures { OnOk result (out.new.items ≡ out.old.items ++ printed trace entry.now) }
 {
@@ -311,6 +335,9 @@ pub fn entry_line(out: &mut Vec<u8>, entry: &Entry, trace: bool) -> Result<(), N
         Entry::Outcome(name, outcome) => put_named(out, name, outcome),
         Entry::State(name, seen) => put_state(out, name, *seen),
         Entry::Sources(name, sources) => put_sources(out, name, sources),
+        Entry::Pending(name, pending) => put_pending(out, name, pending),
+        Entry::Notify(name) => put_notify(out, name),
+        Entry::Drop(place, asks) => put_drop(out, *place, *asks),
         Entry::Page(name, page) => put_page(out, name, page),
         Entry::Error(refusal) => put_refusal(out, refusal),
         Entry::Run(name, reads, outcome) => put_run(out, name, reads, outcome),

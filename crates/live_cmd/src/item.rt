@@ -120,6 +120,13 @@ fn template(alloc: Global, name: Name, lines: Vec<Line>) -> Result<Option<Comman
     }
 }
 
+// The command of a line, where no other lines follow it.
+fn only(command: Command, rest: &[Line]) -> Option<Command>
+    ensures { result ≡ command_of (given.Alone command ∷ rest.now) }
+{
+    if rest.is_empty() { Some(command) } else { None }
+}
+
 // The command that lines are.
 fn command_of(alloc: Global, lines: Vec<Line>) -> Result<Option<Command>, NoMemory>
     ensures { IfOk result (λ found. found ≡ command_of lines.items) }
@@ -130,8 +137,8 @@ fn command_of(alloc: Global, lines: Vec<Line>) -> Result<Option<Command>, NoMemo
     }
     match rest.remove(0) {
         Line::Template(name) => template(alloc, name, rest),
-        Line::Alone(command) if rest.is_empty() => Ok(Some(command)),
-        _ => Ok(None),
+        Line::Alone(command) => Ok(only(command, &rest)),
+        Line::Text(_) | Line::End => Ok(None),
     }
 }
 
@@ -193,9 +200,9 @@ fn item_of(alloc: Global, piece: &Piece) -> Result<Item, NoMemory>
 /// An item is a line or, from a `template` line to the `end` that closes it, a block. It is refused for the first of these
 /// causes: a line of more than `MOST_LINE` bytes; an end that is missing, as `Syntax` with the number of its first line; a line
 /// that isn't in the grammar or may not stand there, as `Syntax` with the number of the first such line; the first line with an
-/// `untrack` or a formula that is higher than `MOST_HEIGHT`; the first line with a text of more than `MOST_TEXT` bytes or a
-/// formula of more than `MOST_SOURCES` names; a template of more than `MOST_TEMPLATE_LINES` lines. `NoMemory` where the item
-/// finds no room.
+/// `untrack` or a formula that is higher than `MOST_HEIGHT`; the first line with a text of more than `MOST_TEXT` bytes, a formula
+/// of more than `MOST_SOURCES` names or a host formula of more arguments; a template of more than `MOST_TEMPLATE_LINES` lines.
+/// `NoMemory` where the item finds no room.
 pub fn next_item(
     alloc: Global,
     script: &[u8],

@@ -32,6 +32,7 @@ fn misplacing(number: u32, fault: Option<FormulaFault>) -> Option<Refusal>
     match fault {
         Some(FormulaFault::UntrackHere) => Some(Refusal::UntrackHere(number)),
         Some(FormulaFault::Nest) => Some(Refusal::Nest(number)),
+        Some(FormulaFault::ItHere) => Some(Refusal::Syntax(number)),
         _ => None,
     }
 }

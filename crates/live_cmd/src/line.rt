@@ -1,4 +1,6 @@
 // What one line of a script says.
+ghost use Rattle.std.specs.Prelude.{◌≡◌, Ok, Err};
+ghost use Rattle.live_cmd.specs.declared.line.Line.TheVariants as given;
 
 use crate::Command;
 use formula_text::{FormulaFault, Wired};
@@ -35,4 +37,31 @@ pub enum LineKind {
 pub struct Found {
     pub kind: LineKind,
     pub line: Result<Line, FormulaFault>,
+}
+
+/// A line that nothing is wrong with.
+pub fn sound(kind: LineKind, line: Line) -> Found
+    ensures { result ≡ record { kind = kind; line = Ok line } }
+{
+    Found {
+        kind,
+        line: Ok(line),
+    }
+}
+
+/// A command of one line, which nothing is wrong with.
+pub fn alone(command: Command) -> Found
+    ensures { result ≡ record { kind = LineKind.Alone; line = Ok (given.Alone command) } }
+{
+    sound(LineKind::Alone, Line::Alone(command))
+}
+
+/// A line that something is wrong with.
+pub fn faulty(kind: LineKind, fault: FormulaFault) -> Found
+    ensures { result ≡ record { kind = kind; line = Err fault } }
+{
+    Found {
+        kind,
+        line: Err(fault),
+    }
 }

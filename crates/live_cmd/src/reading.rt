@@ -1,18 +1,21 @@
 // Reads one line of a script.
-ghost use Rattle.std.specs.Prelude.{◌≡◌, ◌≤◌, IfOk, MatchOption, option_map, length};
+ghost use Rattle.std.specs.Prelude.{◌≡◌, ◌∷◌, [], ◌≤◌, IfOk, MatchOption, option_map, length};
 ghost use Rattle.sig_words.specs.Tokens.{AreTokens};
 ghost use Rattle.sig_words.specs.Lexemes.{lexemes};
 ghost use Rattle.line_forms.specs.Rows.{rows_of, said_of};
 ghost use Rattle.line_forms.specs.Told.{ahead};
-ghost use Rattle.live_cmd.specs.declared.line.Line.TheVariants as given;
 ghost use Rattle.live_cmd.specs.Grammar.{row, table, Row, Said, Writes};
 ghost use Rattle.live_cmd.specs.Grammar as rows;
 ghost use Rattle.live_cmd.specs.Views.{found_as, found_first, found_of};
 
-use crate::line::{Found, LineKind};
+use crate::line::{Found, LineKind, alone, faulty, sound};
+use crate::watching::{any_watcher, unwatch, watch};
 use crate::{Command, Line, SourceText, SourceVerb, Verb};
 use formula_text::{Allow, FormulaFault};
-use line_forms::{ends_at, formula_at, name_at, symbol_at, value_at};
+use line_forms::{
+    arguments_at, count_at, count_behind, ends_at, formula_at, name_at, symbol_at, value_at,
+    word_at,
+};
 use sig_base::{MOST_LINE, NoMemory};
 use sig_words::{LineFault, Token, TokenKind, token_bytes, tokens};
 use std::alloc::Global;
@@ -23,33 +26,6 @@ const TRACKED: Allow = Allow {
     row: false,
     untrack: false,
 };
-
-// A line that nothing is wrong with.
-fn sound(kind: LineKind, line: Line) -> Found
-    ensures { result ≡ record { kind = kind; line = Ok line } }
-{
-    Found {
-        kind,
-        line: Ok(line),
-    }
-}
-
-// A command of one line, which nothing is wrong with.
-fn alone(command: Command) -> Found
-    ensures { result ≡ record { kind = LineKind.Alone; line = Ok (given.Alone command) } }
-{
-    sound(LineKind::Alone, Line::Alone(command))
-}
-
-// A line that something is wrong with.
-fn faulty(kind: LineKind, fault: FormulaFault) -> Found
-    ensures { result ≡ record { kind = kind; line = Err fault } }
-{
-    Found {
-        kind,
-        line: Err(fault),
-    }
-}
 
 // A verb and a name.
 fn named(
@@ -70,7 +46,7 @@ fn named(
     Ok(Some(alone(Command::Named { verb, name })))
 }
 
-// `cell N = LIT`
+// `cell N = LIT [equals K]`
 fn cell(alloc: Global, line: &[u8], tokens: &[Token]) -> Result<Option<Found>, NoMemory>
     requires { AreTokens line.now tokens.now }
     ensures { IfOk result (λ found. found ≡ found_as rows.cell (ahead line.now tokens.now 1)) }
@@ -85,11 +61,18 @@ fn cell(alloc: Global, line: &[u8], tokens: &[Token]) -> Result<Option<Found>, N
     let Some((value, at)) = value_at(alloc, line, tokens, at)? else {
         return Ok(None);
     };
+    let Some((equals, at)) = count_behind(line, tokens, at, b"equals") else {
+        return Ok(None);
+    };
     if !ends_at(tokens, at) {
         return Ok(None);
     }
     match value {
-        Ok(value) => Ok(Some(alone(Command::Cell { name, value }))),
+        Ok(value) => Ok(Some(alone(Command::Cell {
+            name,
+            value,
+            equals,
+        }))),
         Err(fault) => Ok(Some(faulty(LineKind::Alone, fault))),
     }
 }
@@ -116,7 +99,7 @@ fn set(alloc: Global, line: &[u8], tokens: &[Token]) -> Result<Option<Found>, No
 }
 
 // A verb, a name, `=` and a formula.
-fn sourced(
+fn wired(
     alloc: Global,
     line: &[u8],
     tokens: &[Token],
@@ -145,6 +128,59 @@ fn sourced(
         }
         Err(fault) => Ok(Some(faulty(LineKind::Alone, fault))),
     }
+}
+
+// A verb, a name, `=` and a host formula with its arguments.
+fn hosted(
+    alloc: Global,
+    line: &[u8],
+    tokens: &[Token],
+    verb: SourceVerb,
+) -> Result<Option<Found>, NoMemory>
+    ensures { IfOk result (λ found. found ≡ found_as (rows.hosted verb) (ahead line.now tokens.now 1)) }
+{
+    let at = 1;
+    let Some((name, at)) = name_at(alloc, line, tokens, at)? else {
+        return Ok(None);
+    };
+    let Some(at) = symbol_at(line, tokens, at, b"=") else {
+        return Ok(None);
+    };
+    let Some(at) = word_at(line, tokens, at, b"host") else {
+        return Ok(None);
+    };
+    let Some((place, at)) = count_at(line, tokens, at) else {
+        return Ok(None);
+    };
+    let Some((arguments, at)) = arguments_at(alloc, line, tokens, at)? else {
+        return Ok(None);
+    };
+    if !ends_at(tokens, at) {
+        return Ok(None);
+    }
+    match arguments {
+        Ok(arguments) => {
+            let source = SourceText::Host(place, arguments);
+            Ok(Some(alone(verb.command(name, source))))
+        }
+        Err(fault) => Ok(Some(faulty(LineKind::Alone, fault))),
+    }
+}
+
+// A verb, a name, `=` and a host formula or a formula.
+fn sourced(
+    alloc: Global,
+    line: &[u8],
+    tokens: &[Token],
+    verb: SourceVerb,
+) -> Result<Option<Found>, NoMemory>
+    requires { AreTokens line.now tokens.now }
+    ensures { IfOk result (λ found. found ≡ found_first (rows.hosted verb ∷ rows.source_verb verb ∷ []) (ahead line.now tokens.now 1)) }
+{
+    if let Some(found) = hosted(alloc, line, tokens, verb)? {
+        return Ok(Some(found));
+    }
+    wired(alloc, line, tokens, verb)
 }
 
 // `mount P T`
@@ -234,10 +270,14 @@ fn behind_word(
         "sources" => named(alloc, line, tokens, Verb::Sources),
         "show" => named(alloc, line, tokens, Verb::Show),
         "dispose" => named(alloc, line, tokens, Verb::Dispose),
+        "pending" => named(alloc, line, tokens, Verb::Pending),
         "cell" => cell(alloc, line, tokens),
         "set" => set(alloc, line, tokens),
         "computed" => sourced(alloc, line, tokens, SourceVerb::Computed),
         "rewire" => sourced(alloc, line, tokens, SourceVerb::Rewire),
+        "watcher" => any_watcher(alloc, line, tokens),
+        "watch" => watch(alloc, line, tokens),
+        "unwatch" => unwatch(alloc, line, tokens),
         "mount" => mount(alloc, line, tokens),
         "flush" => Ok(flush(line, tokens)),
         "template" => template(alloc, line, tokens),

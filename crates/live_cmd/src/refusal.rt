@@ -1,5 +1,6 @@
 // Why an item of a script is refused.
 
+use line_forms::NameList;
 use sig_base::Name;
 
 /// Why an item is refused: a rule and what it was broken at.
@@ -17,10 +18,20 @@ pub enum Refusal {
     Gone(Name),
     /// There would be too much of something.
     Limit(LimitWord),
+    /// No host formula was ever at this place.
+    HostPlace(u64),
+    /// The host formula at this place is in use, or was dropped.
+    HostTaken(u64),
+    /// The watcher doesn't watch the signal of this name.
+    NotWatched(Name),
+    /// A value was changed, and what these watchers tried while they were notified was refused, in order of making.
+    Frozen(NameList),
     /// The line of this number has an `untrack`, and no effect stands around it.
     UntrackHere(u32),
     /// The line of this number has a formula that is higher than `MOST_HEIGHT`.
     Nest(u32),
+    /// No equality rule is at this place.
+    RulePlace(u64),
 }
 
 /// What there may not be too much of.
@@ -30,12 +41,14 @@ pub enum LimitWord {
     Line,
     /// A text that is written in the script has at most `MOST_TEXT` bytes.
     Text,
-    /// A formula has at most `MOST_SOURCES` distinct names.
+    /// A formula has at most `MOST_SOURCES` distinct names, and a host formula as many arguments.
     Sources,
     /// A template has at most `MOST_TEMPLATE_LINES` lines between its first line and its `end`.
     Template,
     /// At most `MOST_NODES` cells and computeds live.
     Nodes,
+    /// At most `MOST_WATCHERS` watchers live.
+    Watchers,
     /// At most `MOST_TEMPLATES` templates are made.
     Templates,
     /// At most `MOST_PAGES` pages live.

@@ -1,14 +1,17 @@
 // Writes commands.
 ghost use Rattle.std.specs.Prelude.{◌≡◌, ◌++◌, OnOk, flat_map};
 ghost use Rattle.live_cmd.specs.declared.command.Command.TheVariants as command;
+ghost use Rattle.live_cmd.specs.declared.command.SourceText.TheVariants as source;
 ghost use Rattle.live_cmd.specs.Grammar as rows;
-ghost use Rattle.live_cmd.specs.Grammar.{source_command};
-ghost use Rattle.live_cmd.specs.Writing.{command_text, ended_line, text_line};
+ghost use Rattle.live_cmd.specs.Writing.{command_text, ended_line, source_line, text_line};
 
 use crate::command::Formulas;
-use crate::{Command, SourceText, SourceVerb, Verb};
+use crate::writing_watchers::{put_unwatch, put_watch, put_watcher};
+use crate::{Command, NameList, SourceText, SourceVerb, Verb};
 use formula_text::Wired;
-use line_forms::{put_fixed, put_name, put_value, put_wired};
+use line_forms::{
+    put_arguments, put_count, put_count_behind, put_fixed, put_name, put_value, put_wired,
+};
 use sig_base::{Name, NoMemory, Scalar};
 
 fn put_named(out: &mut Vec<u8>, verb: Verb, name: &Name) -> Result<(), NoMemory>
@@ -20,13 +23,19 @@ fn put_named(out: &mut Vec<u8>, verb: Verb, name: &Name) -> Result<(), NoMemory>
     Ok(())
 }
 
-fn put_cell(out: &mut Vec<u8>, name: &Name, value: &Scalar) -> Result<(), NoMemory>
-    ensures { OnOk result (out.new.items ≡ out.old.items ++ ended_line (rows.cell, (name.now, (value.now, tt)))) }
+fn put_cell(
+    out: &mut Vec<u8>,
+    name: &Name,
+    value: &Scalar,
+    equals: Option<u64>,
+) -> Result<(), NoMemory>
+    ensures { OnOk result (out.new.items ≡ out.old.items ++ ended_line (rows.cell, (name.now, (value.now, (equals, tt))))) }
 {
     out.extend_from_slice(b"cell")?;
     put_name(out, name)?;
     put_fixed(out, b"=")?;
     put_value(out, value)?;
+    put_count_behind(out, b"equals", equals)?;
     out.push(b'\n')?;
     Ok(())
 }
@@ -41,21 +50,53 @@ fn put_set(out: &mut Vec<u8>, name: &Name, value: &Scalar) -> Result<(), NoMemor
     Ok(())
 }
 
+fn put_wired_source(
+    out: &mut Vec<u8>,
+    verb: SourceVerb,
+    name: &Name,
+    formula: &Wired,
+) -> Result<(), NoMemory>
+    ensures { OnOk result (out.new.items ≡ out.old.items ++ ended_line (source_line verb name.now (source.Formula formula.now))) }
+{
+    out.extend_from_slice(verb.word().as_bytes())?;
+    put_name(out, name)?;
+    put_fixed(out, b"=")?;
+    put_wired(out, formula)?;
+    out.push(b'\n')?;
+    Ok(())
+}
+
+fn put_hosted(
+    out: &mut Vec<u8>,
+    verb: SourceVerb,
+    name: &Name,
+    place: u64,
+    arguments: &NameList,
+) -> Result<(), NoMemory>
+    ensures { OnOk result (out.new.items ≡ out.old.items ++ ended_line (rows.hosted verb, (name.now, (place, (arguments.now, tt))))) }
+{
+    out.extend_from_slice(verb.word().as_bytes())?;
+    put_name(out, name)?;
+    put_fixed(out, b"=")?;
+    put_fixed(out, b"host")?;
+    put_count(out, place)?;
+    put_arguments(out, arguments.as_slice())?;
+    out.push(b'\n')?;
+    Ok(())
+}
+
 fn put_sourced(
     out: &mut Vec<u8>,
     verb: SourceVerb,
     name: &Name,
     source: &SourceText,
 ) -> Result<(), NoMemory>
-    ensures { OnOk result (out.new.items ≡ out.old.items ++ command_text (source_command verb name.now source.now)) }
+    ensures { OnOk result (out.new.items ≡ out.old.items ++ ended_line (source_line verb name.now source.now)) }
 {
-    out.extend_from_slice(verb.word().as_bytes())?;
-    put_name(out, name)?;
-    put_fixed(out, b"=")?;
-    let SourceText::Formula(formula) = source;
-    put_wired(out, formula)?;
-    out.push(b'\n')?;
-    Ok(())
+    match source {
+        SourceText::Formula(formula) => put_wired_source(out, verb, name, formula),
+        SourceText::Host(place, arguments) => put_hosted(out, verb, name, *place, arguments),
+    }
 }
 
 fn put_mount(out: &mut Vec<u8>, name: &Name, template: &Name) -> Result<(), NoMemory>
@@ -118,10 +159,17 @@ pub fn command_line(out: &mut Vec<u8>, command: &Command) -> Result<(), NoMemory
 {
     match command {
         Command::Named { verb, name } => put_named(out, *verb, name),
-        Command::Cell { name, value } => put_cell(out, name, value),
+        Command::Cell {
+            name,
+            value,
+            equals,
+        } => put_cell(out, name, value, *equals),
         Command::Set { name, value } => put_set(out, name, value),
         Command::Computed { name, source } => put_sourced(out, SourceVerb::Computed, name, source),
         Command::Rewire { name, source } => put_sourced(out, SourceVerb::Rewire, name, source),
+        Command::Watcher { name, tries } => put_watcher(out, name, tries),
+        Command::Watch { name, signals } => put_watch(out, name, signals),
+        Command::Unwatch { name, signal } => put_unwatch(out, name, signal),
         Command::Mount { name, template } => put_mount(out, name, template),
         Command::Template { name, texts } => put_template(out, name, texts),
         Command::Flush => {

@@ -1,0 +1,199 @@
+// Reads the lines of watchers.
+ghost use Rattle.std.specs.Prelude.{◌≡◌, ◌∷◌, [], IfOk, Ok, Some};
+ghost use Rattle.sig_words.specs.Tokens.{AreTokens};
+ghost use Rattle.line_forms.specs.Told.{ahead};
+ghost use Rattle.live_cmd.specs.declared.command.Command.TheVariants as command;
+ghost use Rattle.live_cmd.specs.declared.line.Line.TheVariants as given;
+ghost use Rattle.live_cmd.specs.Grammar as rows;
+ghost use Rattle.live_cmd.specs.Views.{found_as, found_first};
+
+use crate::line::{Found, LineKind, alone, faulty};
+use crate::{Command, Try};
+use line_forms::{ends_at, name_at, names_at, value_at, word_at};
+use sig_base::{Name, NoMemory};
+use sig_words::Token;
+use std::alloc::Global;
+
+// A watcher that tries something.
+fn trying(name: Name, tried: Try) -> Found
+    ensures { result ≡ record { kind = LineKind.Alone; line = Ok (given.Alone (command.Watcher name (Some tried))) } }
+{
+    alone(Command::Watcher {
+        name,
+        tries: Some(tried),
+    })
+}
+
+// `watcher W`
+fn watcher(alloc: Global, line: &[u8], tokens: &[Token]) -> Result<Option<Found>, NoMemory>
+    ensures { IfOk result (λ found. found ≡ found_as rows.watcher (ahead line.now tokens.now 1)) }
+{
+    let at = 1;
+    let Some((name, at)) = name_at(alloc, line, tokens, at)? else {
+        return Ok(None);
+    };
+    if !ends_at(tokens, at) {
+        return Ok(None);
+    }
+    Ok(Some(alone(Command::Watcher { name, tries: None })))
+}
+
+// `watcher W tries get N`
+fn tries_get(alloc: Global, line: &[u8], tokens: &[Token]) -> Result<Option<Found>, NoMemory>
+    ensures { IfOk result (λ found. found ≡ found_as rows.tries_get (ahead line.now tokens.now 1)) }
+{
+    let at = 1;
+    let Some((name, at)) = name_at(alloc, line, tokens, at)? else {
+        return Ok(None);
+    };
+    let Some(at) = word_at(line, tokens, at, b"tries") else {
+        return Ok(None);
+    };
+    let Some(at) = word_at(line, tokens, at, b"get") else {
+        return Ok(None);
+    };
+    let Some((read, at)) = name_at(alloc, line, tokens, at)? else {
+        return Ok(None);
+    };
+    if !ends_at(tokens, at) {
+        return Ok(None);
+    }
+    Ok(Some(trying(name, Try::Get(read))))
+}
+
+// `watcher W tries set N LIT`
+fn tries_set(alloc: Global, line: &[u8], tokens: &[Token]) -> Result<Option<Found>, NoMemory>
+    requires { AreTokens line.now tokens.now }
+    ensures { IfOk result (λ found. found ≡ found_as rows.tries_set (ahead line.now tokens.now 1)) }
+{
+    let at = 1;
+    let Some((name, at)) = name_at(alloc, line, tokens, at)? else {
+        return Ok(None);
+    };
+    let Some(at) = word_at(line, tokens, at, b"tries") else {
+        return Ok(None);
+    };
+    let Some(at) = word_at(line, tokens, at, b"set") else {
+        return Ok(None);
+    };
+    let Some((cell, at)) = name_at(alloc, line, tokens, at)? else {
+        return Ok(None);
+    };
+    let Some((value, at)) = value_at(alloc, line, tokens, at)? else {
+        return Ok(None);
+    };
+    if !ends_at(tokens, at) {
+        return Ok(None);
+    }
+    match value {
+        Ok(value) => Ok(Some(trying(name, Try::Set(cell, value)))),
+        Err(fault) => Ok(Some(faulty(LineKind::Alone, fault))),
+    }
+}
+
+// `watcher W tries watch V a b ..`
+fn tries_watch(alloc: Global, line: &[u8], tokens: &[Token]) -> Result<Option<Found>, NoMemory>
+    ensures { IfOk result (λ found. found ≡ found_as rows.tries_watch (ahead line.now tokens.now 1)) }
+{
+    let at = 1;
+    let Some((name, at)) = name_at(alloc, line, tokens, at)? else {
+        return Ok(None);
+    };
+    let Some(at) = word_at(line, tokens, at, b"tries") else {
+        return Ok(None);
+    };
+    let Some(at) = word_at(line, tokens, at, b"watch") else {
+        return Ok(None);
+    };
+    let Some((watcher, at)) = name_at(alloc, line, tokens, at)? else {
+        return Ok(None);
+    };
+    let Some((signals, at)) = names_at(alloc, line, tokens, at)? else {
+        return Ok(None);
+    };
+    if !ends_at(tokens, at) {
+        return Ok(None);
+    }
+    Ok(Some(trying(name, Try::Watch(watcher, signals))))
+}
+
+// `watcher W tries unwatch V a`
+fn tries_unwatch(alloc: Global, line: &[u8], tokens: &[Token]) -> Result<Option<Found>, NoMemory>
+    ensures { IfOk result (λ found. found ≡ found_as rows.tries_unwatch (ahead line.now tokens.now 1)) }
+{
+    let at = 1;
+    let Some((name, at)) = name_at(alloc, line, tokens, at)? else {
+        return Ok(None);
+    };
+    let Some(at) = word_at(line, tokens, at, b"tries") else {
+        return Ok(None);
+    };
+    let Some(at) = word_at(line, tokens, at, b"unwatch") else {
+        return Ok(None);
+    };
+    let Some((watcher, at)) = name_at(alloc, line, tokens, at)? else {
+        return Ok(None);
+    };
+    let Some((signal, at)) = name_at(alloc, line, tokens, at)? else {
+        return Ok(None);
+    };
+    if !ends_at(tokens, at) {
+        return Ok(None);
+    }
+    Ok(Some(trying(name, Try::Unwatch(watcher, signal))))
+}
+
+/// `watcher W [tries CMD]`
+pub fn any_watcher(alloc: Global, line: &[u8], tokens: &[Token]) -> Result<Option<Found>, NoMemory>
+    requires { AreTokens line.now tokens.now }
+    ensures { IfOk result (λ found. found
+        ≡ found_first (rows.watcher ∷ rows.tries_get ∷ rows.tries_set ∷ rows.tries_watch ∷ rows.tries_unwatch ∷ []) (ahead line.now tokens.now 1)) }
+{
+    if let Some(found) = watcher(alloc, line, tokens)? {
+        return Ok(Some(found));
+    }
+    if let Some(found) = tries_get(alloc, line, tokens)? {
+        return Ok(Some(found));
+    }
+    if let Some(found) = tries_set(alloc, line, tokens)? {
+        return Ok(Some(found));
+    }
+    if let Some(found) = tries_watch(alloc, line, tokens)? {
+        return Ok(Some(found));
+    }
+    tries_unwatch(alloc, line, tokens)
+}
+
+/// `watch W a b ..`
+pub fn watch(alloc: Global, line: &[u8], tokens: &[Token]) -> Result<Option<Found>, NoMemory>
+    ensures { IfOk result (λ found. found ≡ found_as rows.watch (ahead line.now tokens.now 1)) }
+{
+    let at = 1;
+    let Some((name, at)) = name_at(alloc, line, tokens, at)? else {
+        return Ok(None);
+    };
+    let Some((signals, at)) = names_at(alloc, line, tokens, at)? else {
+        return Ok(None);
+    };
+    if !ends_at(tokens, at) {
+        return Ok(None);
+    }
+    Ok(Some(alone(Command::Watch { name, signals })))
+}
+
+/// `unwatch W a`
+pub fn unwatch(alloc: Global, line: &[u8], tokens: &[Token]) -> Result<Option<Found>, NoMemory>
+    ensures { IfOk result (λ found. found ≡ found_as rows.unwatch (ahead line.now tokens.now 1)) }
+{
+    let at = 1;
+    let Some((name, at)) = name_at(alloc, line, tokens, at)? else {
+        return Ok(None);
+    };
+    let Some((signal, at)) = name_at(alloc, line, tokens, at)? else {
+        return Ok(None);
+    };
+    if !ends_at(tokens, at) {
+        return Ok(None);
+    }
+    Ok(Some(alone(Command::Unwatch { name, signal })))
+}
