@@ -1,285 +1,261 @@
--- What commands do, where the store does its part.
-use Rattle.std.proofs.Common.{◌≡◌, ◌==◌, ◌<◌, ◌+◌, ℕ, zero, suc, arith, Bool, true, false, cond, List, [], ◌∷◌, ◌++◌, length, map, Some, None, refl, sym, ap, subst, ◌∙◌}
-use Rattle.std.proofs.lemmas.List.{length-append}
-use Rattle.std.specs.Prelude.{is_some}
-use Rattle.std.specs.List.{All, AllByRecursion}
-use Rattle.sig_base.specs.declared.scalar.Scalar.{Scalar}
-use Rattle.sig_base.specs.declared.value.Value.{Value}
-use Rattle.sig_base.specs.Values.{same_value, same_value-Decides, scalar_value}
-use Rattle.signal_model.specs.Recipes.{Hosts, Recipe}
-use Rattle.signal_model.specs.Standing.{Signals, Cell, Computed, Stands, IsGone, IsCell, IsComputed, is_there, standing}
-use Rattle.signal_model.specs.Changes.{with_cell, with_computed, after_making, with_value, with_recipe}
-use Rattle.signal_model.specs.Kept.{AreKept, AreGiven}
-use Rattle.signal_laws.proofs.Shared.{cell_law, computed_law, set_law, rewire_law, dispose_law, set_kind, rewire_kind}
-use Rattle.sig_nodes.specs.States.{Seen, State, Makes, Becomes, are_there, is_computing, is_given, progress_at}
-use Rattle.sig_nodes.specs.States.{with_new_cell, with_new_computed, with_set, with_rewiring, with_disposal}
-use Rattle.sig_nodes.specs.Answers.{value_here}
-use Rattle.sig_computed.specs.Notes.{IsIdle}
-use Rattle.live_cmd.specs.declared.command.Command.{Command}
-use Rattle.live_cmd.specs.declared.command.Command.TheVariants as command
+-- What commands leave, and what they come to, where the stores do their part.
+use Rattle.std.proofs.Common.{◌≡◌, ◌==◌, ◌≤◌, ◌<◌, ◌+◌, ◌^◌, ℕ, zero, suc, arith, Bool, true, false, cond, List, [], ◌∷◌, ◌++◌, ◌⊎◌, inl, inr, length, map, nat_lt, Option, Some, None, refl, sym, ap, subst, ◌∙◌}
+use Rattle.std.proofs.lemmas.List.{length-append, length-map}
+use Rattle.std.proofs.lemmas.Bool.{ltb-false, ltb-true}
+use Rattle.std.specs.Prelude.{is_some, slice_get}
+use Rattle.sig_base.specs.declared.limits.TheConstants.{MOST_SOURCES}
+use Rattle.signal_model.specs.Kept.{AreGiven}
+use Rattle.signal_model.specs.Standing.{is_in}
+use Rattle.effect_model.specs.Owning as things
+use Rattle.effect_model.specs.Worlds.{HostState, unused, used, dropped, host_taken, lives, watcher_numbers}
+use Rattle.effect_model.specs.Acts.{dispose_thing, host_of, host_refused, is_free}
+use Rattle.sig_nodes.specs.Answers.{HasFewSlots}
+use Rattle.sig_effect.specs.declared.events.Event.{Event}
+use Rattle.sig_effect.specs.declared.errors.EffectFault.{EffectFault}
+use Rattle.sig_effect.specs.declared.errors.EffectFault.TheVariants as fault
+use Rattle.sig_effect.specs.Agreeing.{environment, Does}
 use Rattle.live_cmd.specs.declared.command.SourceText.{SourceText}
+use Rattle.live_cmd.specs.declared.command.Try.{Try}
 use Rattle.live_cmd.specs.declared.command.SourceText.TheVariants as source
-use Rattle.live_cmd.specs.declared.command.Verb.TheVariants as verb
+use Rattle.live_cmd.specs.declared.refusal.LimitWord.TheVariants as limit
+use Rattle.live_model.specs.Machine.{acted}
+use Rattle.live_model.specs.Names.{Names, first_refusal, is_gone, meaning_of, thing_named, thing_of}
+use Rattle.live_core.specs.Notes.{entry_told}
+use Rattle.live_core.specs.Views.{labels_of}
+use Rattle.live_core.proofs.Meanings.{given_below}
+use Rattle.live_core.proofs.Rightly.{not_false, refused_at, signals_used, used_thing, AreSignals}
+use Rattle.live_core.proofs.Telling.{acts}
+use Rattle.std.specs.List.{All, AllByRecursion}
+use Rattle.signal_model.specs.Recipes.{Hosts, Recipe}
+use Rattle.signal_model.specs.Standing.{Signals, Cell, Computed, Stands, IsGone, IsCell, IsComputed, is_computed, is_there, standing}
+use Rattle.signal_model.specs.Changes.{with_cell, with_computed, with_value, with_recipe}
+use Rattle.signal_laws.proofs.Shared.{set_kind, rewire_kind}
+use Rattle.sig_base.specs.declared.value.Value.{Value}
+use Rattle.effect_model.specs.Worlds as told
+use Rattle.effect_model.specs.Watching.{at_rest}
+use Rattle.sig_host.specs.Hosts.{HostPlace}
+use Rattle.sig_nodes.specs.States.{Seen, is_cell, is_given}
+use Rattle.sig_watcher.specs.Tables.{Table}
+use Rattle.sig_effect.specs.declared.world.World.{World}
+use Rattle.sig_effect.specs.declared.events.Thing.{Thing}
+use Rattle.sig_effect.specs.declared.events.Thing.TheVariants as thing
+use Rattle.sig_effect.specs.Events.{signals_without}
+use Rattle.sig_effect.specs.Agreeing.{Agrees, AreRuled, IsSound, Stays}
 use Rattle.live_cmd.specs.declared.entry.Entry.{Entry}
-use Rattle.live_cmd.specs.declared.entry.Entry.TheVariants as entry
+use Rattle.sig_effect.specs.Wholes.{whole_of}
+use Rattle.live_cmd.specs.declared.refusal.LimitWord.{LimitWord}
+use Rattle.live_cmd.specs.declared.refusal.Refusal.TheVariants as refusal
 use Rattle.live_model.specs.declared.names.Kind.{Kind}
 use Rattle.live_model.specs.declared.names.Kind.TheVariants as kind
 use Rattle.live_model.specs.declared.names.Need.TheVariants as need
 use Rattle.live_model.specs.Machine as plain
-use Rattle.live_model.specs.Machine.{Told, done, has_value, over_limit, recipe_of, refusal_of, told, uses_of, with_signal}
-use Rattle.live_model.specs.Names.{first_refusal, meaning_of, number_of, refusal_at, same_kind}
-use Rattle.formula_text.specs.Wiring.{Wiring}
+use Rattle.live_model.specs.Machine.{one_too_many, told, with_signal, with_watcher}
+use Rattle.live_model.specs.Names.{number_of, same_kind}
 use Rattle.text_pages.specs.Shown.{Shows}
 use Rattle.live_core.specs.declared.machine.Machine.{Machine}
 use Rattle.live_core.specs.declared.machine.Mounted.{Mounted}
 use Rattle.live_core.specs.Views.{page_of, plain_of}
-use Rattle.live_core.specs.Keeping.{is_of_kind, AreMeant, AreShown, Does, IsReady, IsSound}
-use Rattle.live_core.proofs.OfKind.{same_kind_of, cell_beside, computed_beside, cell_kind, computed_kind, disposed_kind}
-use Rattle.live_core.proofs.Meanings.{meant_made, meant_more, meant_other, meant_still}
-use Rattle.live_core.proofs.Idle.{idle_left, idle_made}
-use Rattle.live_core.proofs.Rightly.{neither, used_of, used_signal, kind_used, signal_used, formula_used, IsSignal, AreSignals}
+use Rattle.live_core.specs.Keeping.{is_of_kind, AreMeant, AreShown, Holds, IsReady, Leaves, Steps}
+use Rattle.sig_effect.proofs.Shared.{cell_beside, computed_beside}
+use Rattle.live_core.proofs.OfKind.{same_kind_of, cell_kind, computed_kind, disposed_kind}
+use Rattle.live_core.proofs.Meanings.{meant_made, meant_more, meant_other, meant_still, meant_watched}
 
--- ---- what a command that isn't refused uses
+-- ---- what stands under a name
 
-pub names_fine : (m : plain.Machine) (c : Command) → refusal_of m c ≡ None → first_refusal m.signals m.names (uses_of c) ≡ None
-names_fine m c e = (neither (first_refusal m.signals m.names (uses_of c)) (over_limit m c) e).0
+-- a cell is no computed
+pub cell_is : (s : Stands) → is_of_kind kind.Cell s ≡ true → is_computed s ≡ false
+cell_is IsGone k = refl
+cell_is (IsCell c) k = refl
+cell_is (IsComputed c) k = absurd cc
 
--- a cell stands
-cell_is : (s : Stands) → is_there s ≡ true → is_of_kind kind.Cell s ≡ true → (c : Cell) × (s ≡ IsCell c)
-cell_is IsGone e k = absurd cc
-cell_is (IsCell c) e k = (c, refl)
-cell_is (IsComputed c) e k = absurd cc
-
--- a computed stands
-computed_is : (s : Stands) → is_there s ≡ true → is_of_kind kind.Computed s ≡ true → (c : Computed) × (s ≡ IsComputed c)
+-- a computed that stands is one
+pub computed_is : (s : Stands) → is_there s ≡ true → is_of_kind kind.Computed s ≡ true → is_computed s ≡ true
 computed_is IsGone e k = absurd cc
 computed_is (IsCell c) e k = absurd cc
-computed_is (IsComputed c) e k = (c, refl)
+computed_is (IsComputed c) e k = refl
 
--- the name of a cell that is set
-pub cell_used : (m : Machine) (n : List ℕ) (v : Scalar) → IsReady m → refusal_of (plain_of m) (command.Set n v) ≡ None →
-    (c : Cell) × (standing m.graph.state.signals (number_of m.names n) ≡ IsCell c)
-cell_used m n v r e =
-    let fine = neither (refusal_at m.graph.state.signals (n, need.Of kind.Cell) (meaning_of m.names n)) _ (names_fine (plain_of m) (command.Set n v) e) in
-    let used = kind_used m.graph _ m.names n kind.Cell refl r.meant (used_of m.graph.state.signals m.names n kind.Cell fine.0) in
-    cell_is _ used.0.there used.1
+-- and no cell
+pub no_cell : (s : Stands) → is_of_kind kind.Computed s ≡ true → is_cell s ≡ false
+no_cell IsGone k = refl
+no_cell (IsCell c) k = absurd cc
+no_cell (IsComputed c) k = refl
 
--- the name of a computed
-pub computed_used : (m : Machine) (n : List ℕ) → IsReady m → refusal_at m.graph.state.signals (n, need.Of kind.Computed) (meaning_of m.names n) ≡ None →
-    (c : Computed) × (standing m.graph.state.signals (number_of m.names n) ≡ IsComputed c)
-computed_used m n r e =
-    let used = kind_used m.graph _ m.names n kind.Computed refl r.meant (used_of m.graph.state.signals m.names n kind.Computed e) in
-    computed_is _ used.0.there used.1
-
--- ---- makings
-
--- a signal has a name, and nothing else changed but the graph
-pub record IsNamed (m new : Machine) (n : List ℕ) (k : Kind) (id : ℕ) : Type 0 where
-  pub names : new.names ≡ m.names ++ (n, record { kind = k; number = id }) ∷ []
-  pub labels : new.labels.items ≡ m.labels.items ++ n ∷ []
-  pub templates : new.templates ≡ m.templates
-  pub pages : new.pages ≡ m.pages
-
--- a making was done
-made_does : (m new : Machine) (n : List ℕ) (k : Kind) (id : ℕ) (w : Signals) (after : State) (c : Command) → IsReady m → same_kind kind.Template k ≡ false →
-    Makes m.graph new.graph id after → IsNamed m new n k id → after.signals ≡ w → after.memos ≡ after_making m.graph.state.memos id → after.worn ≡ m.graph.state.worn + 1 →
-    ((x : ℕ) → is_some (progress_at x after.progress) ≡ false) →
-    ((x : ℕ) → (x == id) ≡ false → standing after.signals x ≡ standing m.graph.state.signals x) → is_of_kind k (standing after.signals id) ≡ true →
-    ((hosts : Hosts) → IsSound hosts m → AreKept hosts after.signals after.memos) → ((hosts : Hosts) → done hosts (plain_of m) c ≡ told (with_signal (plain_of m) n k w) []) →
-    Does m new [] c
-made_does m new n k id w after c r off made named ws ks worn idle beside here sound is =
-    let number : id ≡ length m.labels.items = made.id ∙ r.labels in
-    let before : m.graph.state.worn ≡ m.graph.state.worn = refl in
-    record {
-      steps = λ hosts s. record {
-        step = (λ i. told (record {
-          names = (named.names ∙ ap (λ (x : ℕ). m.names ++ (n, record { kind = k; number = x }) ∷ []) number) i;
-          labels = named.labels i;
-          signals = (ap (λ (x : State). x.signals) made.state ∙ ws) i;
-          memos = (ap (λ (x : State). x.memos) made.state ∙ ks ∙ ap (after_making m.graph.state.memos) number) i;
-          templates = (ap (λ v. v.items) named.templates) i;
-          pages = (ap (λ v. map page_of v.items) named.pages) i;
-        }) []) ∙ sym (is hosts);
-        sound = subst (λ (x : State). AreKept hosts x.signals x.memos) (sym made.state) (sound hosts s);
-      };
-      ready = record {
-        idle = λ x. ap (λ (s : State). is_computing s x) made.state ∙ idle x;
-        labels = made.given ∙ ap (λ (x : ℕ). x + 1) r.labels ∙ sym (length-append m.labels.items (n ∷ [])) ∙ ap length (sym named.labels);
-        meant = subst (λ x. x) (λ i. AreMeant new.graph (length (sym named.templates i).items) (sym named.names i))
-            (meant_made m.graph new.graph _ m.names id after n k off made beside here r.meant);
-        shown = subst (λ x. x) (λ i. AreShown (sym named.templates i).items (sym named.pages i).items) r.shown;
-        few = let a : length new.pages.items ≡ length m.pages.items = ap (λ v. length v.items) named.pages in let b = r.few in omega (arith, a, b);
-      };
-      worn = let a : new.graph.state.worn ≡ m.graph.state.worn + 1 = ap (λ (s : State). s.worn) made.state ∙ worn in omega (arith, a);
-    }
-
--- a cell is made
-pub cell_does : (m new : Machine) (n : List ℕ) (v : Scalar) (id : ℕ) → IsReady m →
-    Makes m.graph new.graph id (with_new_cell m.graph.state (record { name = id; value = scalar_value v; rule = None })) → IsNamed m new n kind.Cell id →
-    Does m new [] (command.Cell n v)
-cell_does m new n v id r made named =
-    let w : Signals = m.graph.state.signals in
-    let c : Cell = record { name = id; value = scalar_value v; rule = None } in
-    let number : id ≡ length m.labels.items = made.id ∙ r.labels in
-    made_does m new n kind.Cell id (with_cell w (record { name = length m.labels.items; value = scalar_value v; rule = None }))
-    (with_new_cell m.graph.state c) (command.Cell n v) r refl made named
-    (ap (λ (x : ℕ). with_cell w (record { name = x; value = scalar_value v; rule = None })) number) refl refl r.idle (λ x off. cell_beside w c x off) (cell_kind w c)
-    (λ hosts s. cell_law hosts (is_given m.graph) w m.graph.state.memos c made.used made.fresh s) (λ hosts. refl)
-
--- nothing stands under an id that wasn't given
-none_there : (g : Seen) (n : ℕ) → AreGiven (is_given g) g.state.signals g.state.memos → is_given g n ≡ false → is_there (standing g.state.signals n) ≡ false
-none_there g n used new = at (is_there (standing g.state.signals n)) refl
+-- where there is no refusal there is room
+pub room_below : (most count : ℕ) (word : LimitWord) → one_too_many most count word ≡ None → count < most
+room_below most count word e = at (nat_lt count most) refl e
   where
-    at : (b : Bool) → is_there (standing g.state.signals n) ≡ b → is_there (standing g.state.signals n) ≡ false
-    at false e = e
-    at true e = let h : is_given g n ≡ true = used.names n e in cc
+    at : (b : Bool) → nat_lt count most ≡ b → cond b None (Some (refusal.Limit word)) ≡ None → count < most
+    at true is h = ltb-true count most is
+    at false is h = absurd cc
 
--- a computed is made
-pub computed_does : (m new : Machine) (n : List ℕ) (s : SourceText) (id : ℕ) → IsReady m →
-    Makes m.graph new.graph id (with_new_computed m.graph.state (record { name = id; recipe = recipe_of m.names s })) → IsNamed m new n kind.Computed id →
-    Does m new [] (command.Computed n s)
-computed_does m new n s id r made named =
-    let w : Signals = m.graph.state.signals in
-    let c : Computed = record { name = id; recipe = recipe_of m.names s } in
-    let number : id ≡ length m.labels.items = made.id ∙ r.labels in
-    made_does m new n kind.Computed id (with_computed w (record { name = length m.labels.items; recipe = recipe_of m.names s }))
-    (with_new_computed m.graph.state c) (command.Computed n s) r refl made named
-    (ap (λ (x : ℕ). with_computed w (record { name = x; recipe = recipe_of m.names s })) number) refl refl
-    (λ x. idle_made m.graph.state.progress id x (r.idle x)) (λ x off. computed_beside w c x off) (computed_kind w c (none_there m.graph id made.used made.fresh))
-    (λ hosts z. computed_law hosts (is_given m.graph) w m.graph.state.memos c made.used made.fresh z) (λ hosts. refl)
-
--- ---- changes
-
--- a machine whose graph changed
-abbrev pub with_graph : Machine → Seen → Machine
-with_graph m h = record m { graph = h }
-
--- it is ready, where signals stay made and of their kind
-pub ready_still : (m : Machine) (h : Seen) → IsReady m → h.given ≡ m.graph.given → IsIdle h.state →
-    ((k : Kind) (x : ℕ) → is_of_kind k (standing m.graph.state.signals x) ≡ true → is_of_kind k (standing h.state.signals x) ≡ true) → IsReady (with_graph m h)
-ready_still m h r given idle kinds = record {
-  idle = idle;
-  labels = given ∙ r.labels;
-  meant = meant_still m.graph h _ m.names given kinds r.meant;
-  shown = r.shown;
-  few = r.few;
-}
-
--- an edit of signals that are all there
-edit_does : (m : Machine) (h : Seen) (after : State) (c : Command) (es : List Entry) → IsReady m → Becomes m.graph h after → after.worn ≡ m.graph.state.worn + 1 →
-    ((x : ℕ) → is_some (progress_at x after.progress) ≡ false) →
-    ((k : Kind) (x : ℕ) → is_of_kind k (standing m.graph.state.signals x) ≡ true → is_of_kind k (standing after.signals x) ≡ true) →
-    ((hosts : Hosts) → IsSound hosts m → AreKept hosts after.signals after.memos) →
-    ((hosts : Hosts) → done hosts (plain_of m) c ≡ told (record (plain_of m) { signals = after.signals; memos = after.memos }) es) →
-    Does m (with_graph m h) es c
-edit_does m h after c es r b worn idle kinds sound is = record {
-  steps = λ hosts s. record {
-    step = ap (λ (x : State). told (record (plain_of m) { signals = x.signals; memos = x.memos }) es) b.state ∙ sym (is hosts);
-    sound = subst (λ (x : State). AreKept hosts x.signals x.memos) (sym b.state) (sound hosts s);
-  };
-  ready = ready_still m h r b.given (λ x. ap (λ (s : State). is_computing s x) b.state ∙ idle x)
-      (λ k x e. ap (λ (s : State). is_of_kind k (standing s.signals x)) b.state ∙ kinds k x e);
-  worn = let a : h.state.worn ≡ m.graph.state.worn + 1 = ap (λ (s : State). s.worn) b.state ∙ worn in omega (arith, a);
-}
-
--- a cell has another value where it hasn't this one
-not_held : (s : Stands) (v : Value) → (value_here s ≡ Some v → ⊥) → has_value s v ≡ false
-not_held IsGone v f = refl
-not_held (IsComputed c) v f = refl
-not_held (IsCell c) v f = at (same_value c.value v) refl
-  where
-    at : (b : Bool) → same_value c.value v ≡ b → same_value c.value v ≡ false
-    at false e = e
-    at true e = absurd (f (ap (λ (x : Value). Some x) ((same_value-Decides c.value v).0 e)))
-
--- and keeps it where it has
-held : (s : Stands) (v : Value) → value_here s ≡ Some v → has_value s v ≡ true
-held IsGone v e = absurd cc
-held (IsComputed c) v e = absurd cc
-held (IsCell c) v e = let same : c.value ≡ v = cc in rw (sym same) ((same_value-Decides c.value c.value).1 refl)
-
--- a cell is set
-pub set_does : (m : Machine) (h : Seen) (n : List ℕ) (v : Scalar) → IsReady m → refusal_of (plain_of m) (command.Set n v) ≡ None →
-    Becomes m.graph h (with_set m.graph.state (number_of m.names n) (scalar_value v)) →
-    (value_here (standing m.graph.state.signals (number_of m.names n)) ≡ Some (scalar_value v) → ⊥) → Does m (with_graph m h) [] (command.Set n v)
-set_does m h n v r e b other =
-    let i : ℕ = number_of m.names n in
-    let c = cell_used m n v r e in
-    let w : Signals = m.graph.state.signals in
-    edit_does m h (with_set m.graph.state i (scalar_value v)) (command.Set n v) [] r b refl r.idle
-    (λ k x z. same_kind_of k (standing w x) (standing (with_value w i (scalar_value v)) x) (set_kind w i (scalar_value v) x) z)
-    (λ hosts s. set_law hosts w m.graph.state.memos i c.0 (scalar_value v) c.1 s)
-    (λ hosts. ap (λ (t : Bool). told (cond t (plain_of m) (plain.with_set (plain_of m) i (scalar_value v))) []) (not_held (standing w i) (scalar_value v) other))
-
--- a cell that has the value already
-pub same_does : (m : Machine) (h : Seen) (n : List ℕ) (v : Scalar) → IsReady m → h ≡ m.graph →
-    value_here (standing m.graph.state.signals (number_of m.names n)) ≡ Some (scalar_value v) → Does m (with_graph m h) [] (command.Set n v)
-same_does m h n v r is same = subst (λ (g : Seen). Does m (with_graph m g) [] (command.Set n v)) (sym is) (record {
-  steps = λ hosts s. record {
-    step = sym (ap (λ (t : Bool). told (cond t (plain_of m) (plain.with_set (plain_of m) (number_of m.names n) (scalar_value v))) [])
-        (held (standing m.graph.state.signals (number_of m.names n)) (scalar_value v) same));
-    sound = s;
-  };
-  ready = r;
-  worn = omega arith;
-})
-
--- a computed has another formula
-pub rewire_does : (m : Machine) (h : Seen) (n : List ℕ) (s : SourceText) → IsReady m → refusal_of (plain_of m) (command.Rewire n s) ≡ None →
-    Becomes m.graph h (with_rewiring m.graph.state (number_of m.names n) (recipe_of m.names s)) → Does m (with_graph m h) [] (command.Rewire n s)
-rewire_does m h n s r e b =
-    let i : ℕ = number_of m.names n in
-    let fine = neither (refusal_at m.graph.state.signals (n, need.Of kind.Computed) (meaning_of m.names n)) _ (names_fine (plain_of m) (command.Rewire n s) e) in
-    let c = computed_used m n r fine.0 in
-    let w : Signals = m.graph.state.signals in
-    edit_does m h (with_rewiring m.graph.state i (recipe_of m.names s)) (command.Rewire n s) [] r b refl r.idle
-    (λ k x z. same_kind_of k (standing w x) (standing (with_recipe w i (recipe_of m.names s)) x) (rewire_kind w i (recipe_of m.names s) x) z)
-    (λ hosts z. rewire_law hosts w m.graph.state.memos i c.0 (recipe_of m.names s) c.1 z) (λ hosts. refl)
-
--- a signal is gone
-pub dispose_does : (m : Machine) (h : Seen) (n : List ℕ) → IsReady m → refusal_of (plain_of m) (command.Named verb.Dispose n) ≡ None →
-    Becomes m.graph h (with_disposal m.graph.state (number_of m.names n)) → Does m (with_graph m h) (entry.Gone n ∷ []) (command.Named verb.Dispose n)
-dispose_does m h n r e b =
-    let i : ℕ = number_of m.names n in
-    let fine = neither (refusal_at m.graph.state.signals (n, need.Signal) (meaning_of m.names n)) _ (names_fine (plain_of m) (command.Named verb.Dispose n) e) in
-    let used : IsSignal m.graph i = signal_used m.graph _ m.names n r.meant (used_signal m.graph.state.signals m.names n fine.0) in
-    let w : Signals = m.graph.state.signals in
-    edit_does m h (with_disposal m.graph.state i) (command.Named verb.Dispose n) (entry.Gone n ∷ []) r b refl (idle_left m.graph.state.progress i r.idle)
-    (λ k x z. disposed_kind k w i x z) (λ hosts s. dispose_law hosts w m.graph.state.memos i used.there s) (λ hosts. refl)
-
--- ---- the signals of a formula's slots
+-- what is below isn't the most
+pub not_most : (count most : ℕ) → count < most → count ≡ most → ⊥
+not_most count most lt e = omega (arith, lt, e)
 
 -- a fact of each, by places
-every : (P : ℕ → Type 0) (ns : List ℕ) → AllByRecursion P ns → All P ns
+pub every : (P : ℕ → Type 0) (ns : List ℕ) → AllByRecursion P ns → All P ns
 every P [] all k d lt = absurd (omega (arith, lt))
 every P (n ∷ ns) all zero d lt = all.0
 every P (n ∷ ns) all (suc k) d lt = every P ns all.1 k d (omega (arith, lt))
 
--- those of a computed that is made were given
-pub slots_given : (m : Machine) (n : List ℕ) (s : SourceText) → IsReady m → refusal_of (plain_of m) (command.Computed n s) ≡ None →
-    All (λ (i : ℕ). is_given m.graph i ≡ true) (recipe_of m.names s).slots
-slots_given m n (source.Formula f) r e =
-    let fine = neither (refusal_at m.graph.state.signals (n, need.New) (meaning_of m.names n)) _ (names_fine (plain_of m) (command.Computed n (source.Formula f)) e) in
-    let all : AreSignals m.graph (map (number_of m.names) f.1) = formula_used m.graph _ m.names f.1 r.meant fine.1 in
-    every (λ (i : ℕ). is_given m.graph i ≡ true) (map (number_of m.names) f.1) all.given
+-- ---- changes of signals
 
--- those of one that is rewired were given, and stand
-rewired_slots : (m : Machine) (n : List ℕ) (s : SourceText) → IsReady m → refusal_of (plain_of m) (command.Rewire n s) ≡ None →
-    AreSignals m.graph (recipe_of m.names s).slots
-rewired_slots m n (source.Formula f) r e =
-    let fine = neither (refusal_at m.graph.state.signals (n, need.Of kind.Computed) (meaning_of m.names n)) _ (names_fine (plain_of m) (command.Rewire n (source.Formula f)) e) in
-    formula_used m.graph _ m.names f.1 r.meant fine.1
+-- what stood is of its kind still
+abbrev pub KindsStay : Signals → Signals → Type 0
+KindsStay w v = (k : Kind) (x : ℕ) → is_of_kind k (standing w x) ≡ true → is_of_kind k (standing v x) ≡ true
 
-pub rewired_given : (m : Machine) (n : List ℕ) (s : SourceText) → IsReady m → refusal_of (plain_of m) (command.Rewire n s) ≡ None →
-    All (λ (i : ℕ). is_given m.graph i ≡ true) (recipe_of m.names s).slots
-rewired_given m n s r e = every (λ (i : ℕ). is_given m.graph i ≡ true) (recipe_of m.names s).slots (rewired_slots m n s r e).given
+-- where signals stay
+pub kinds_same : (w v : Signals) → v ≡ w → KindsStay w v
+kinds_same w v e k x h = ap (λ (s : Signals). is_of_kind k (standing s x)) e ∙ h
 
-pub rewired_there : (m : Machine) (n : List ℕ) (s : SourceText) → IsReady m → refusal_of (plain_of m) (command.Rewire n s) ≡ None →
-    are_there m.graph.state.signals (number_of m.names n ∷ (recipe_of m.names s).slots) ≡ true
-rewired_there m n s r e =
-    let fine = neither (refusal_at m.graph.state.signals (n, need.Of kind.Computed) (meaning_of m.names n)) _ (names_fine (plain_of m) (command.Rewire n s) e) in
-    let used = kind_used m.graph _ m.names n kind.Computed refl r.meant (used_of m.graph.state.signals m.names n kind.Computed fine.0) in
-    rw used.0.there (rewired_slots m n s r e).there
+-- where a cell is set, if it is
+pub kinds_set : (w v : Signals) (b : Bool) (n : ℕ) (value : Value) → v ≡ cond b w (with_value w n value) → KindsStay w v
+kinds_set w v true n value e k x h = kinds_same w v e k x h
+kinds_set w v false n value e k x h =
+    ap (λ (s : Signals). is_of_kind k (standing s x)) e ∙ same_kind_of k (standing w x) (standing (with_value w n value) x) (set_kind w n value x) h
+
+-- where a computed is rewired
+pub kinds_rewired : (w v : Signals) (n : ℕ) (r : Recipe) → v ≡ with_recipe w n r → KindsStay w v
+kinds_rewired w v n r e k x h =
+    ap (λ (s : Signals). is_of_kind k (standing s x)) e ∙ same_kind_of k (standing w x) (standing (with_recipe w n r) x) (rewire_kind w n r x) h
+
+-- where a thing is disposed
+pub kinds_without : (w v : Signals) (t : Thing) → v ≡ signals_without t w → KindsStay w v
+kinds_without w v (thing.Signal n) e k x h = ap (λ (s : Signals). is_of_kind k (standing s x)) e ∙ disposed_kind k w n x h
+kinds_without w v (thing.Watcher n) e k x h = kinds_same w v e k x h
+
+-- a machine whose world changed
+abbrev pub with_world : Machine → World → Machine
+with_world m w = record m { world = w }
+
+-- it is ready, where as many are made, and signals are of their kind
+pub ready_still : (m : Machine) (w : World) → IsReady m → w.graph.given ≡ m.world.graph.given → w.watchers.made ≡ m.world.watchers.made →
+    KindsStay m.world.graph.state.signals w.graph.state.signals → IsReady (with_world m w)
+ready_still m w r given made kinds = record {
+  labels = given ∙ r.labels;
+  watchers = made ∙ r.watchers;
+  meant = meant_still m.world w _ m.names given made kinds r.meant;
+  shown = r.shown;
+  few = r.few;
+}
+
+-- what is left by a change
+pub leaves_changed : (asked later : List HostPlace) (rules : ℕ) (m : Machine) (w : World) → IsReady m → Stays m.world w →
+    KindsStay m.world.graph.state.signals w.graph.state.signals → (Agrees asked m.world → Agrees later w) →
+    (AreRuled rules m.world.graph.state.signals → AreRuled rules w.graph.state.signals) → Leaves asked later rules m (with_world m w)
+leaves_changed asked later rules m w r stays kinds agrees ruled = record {
+  ready = ready_still m w r stays.given stays.made kinds;
+  holds = λ h. record { agrees = agrees h.agrees; ruled = ruled h.ruled };
+  worn = let a = stays.worn in omega (arith, a);
+}
+
+-- what is left where only watchers changed
+pub leaves_watched : (asked : List HostPlace) (rules : ℕ) (m : Machine) (w : World) → IsReady m → w.graph ≡ m.world.graph →
+    w.watchers.made ≡ m.world.watchers.made → (Agrees asked m.world → Agrees asked w) → Leaves asked asked rules m (with_world m w)
+leaves_watched asked rules m w r graph made agrees = record {
+  ready = ready_still m w r (ap (λ (g : Seen). g.given) graph) made (kinds_same m.world.graph.state.signals w.graph.state.signals (ap (λ (g : Seen). g.state.signals) graph));
+  holds = λ h. record { agrees = agrees h.agrees; ruled = subst (λ (g : Seen). AreRuled rules g.state.signals) (sym graph) h.ruled };
+  worn = let a : w.graph.state.worn ≡ m.world.graph.state.worn = ap (λ (g : Seen). g.state.worn) graph in omega (arith, a);
+}
+
+-- nothing changed
+pub leaves_same : (asked : List HostPlace) (rules : ℕ) (m : Machine) → IsReady m → Leaves asked asked rules m m
+leaves_same asked rules m r = record { ready = r; holds = λ h. h; worn = omega arith }
+
+-- ---- makings
+
+-- a signal has a name, and nothing else changed but the world
+pub record IsNamed (m new : Machine) (n : List ℕ) (k : Kind) (id : ℕ) : Type 0 where
+  pub names : new.names ≡ m.names ++ (n, record { kind = k; number = id }) ∷ []
+  pub signals : new.labels.signals.items ≡ m.labels.signals.items ++ n ∷ []
+  pub watchers : new.labels.watchers ≡ m.labels.watchers
+  pub templates : new.templates ≡ m.templates
+  pub pages : new.pages ≡ m.pages
+
+-- what the plain machine comes to
+pub steps_made : (asked : List HostPlace) (m new : Machine) (n : List ℕ) (k : Kind) (id : ℕ) (w : told.World) → id ≡ m.world.graph.given →
+    whole_of asked new.world ≡ at_rest w → IsNamed m new n k id → told (plain_of asked new) [] ≡ told (with_signal (plain_of asked m) n k w) []
+steps_made asked m new n k id w number whole named = (λ i. told (record {
+  names = (named.names ∙ ap (λ (x : ℕ). m.names ++ (n, record { kind = k; number = x }) ∷ []) number) i;
+  labels = record { signals = named.signals i; watchers = (ap (λ v. v.items) named.watchers) i };
+  world = whole i;
+  templates = (ap (λ v. v.items) named.templates) i;
+  pages = (ap (λ v. map page_of v.items) named.pages) i;
+}) [])
+
+-- what is left by a making
+pub leaves_made : (asked : List HostPlace) (rules : ℕ) (m new : Machine) (n : List ℕ) (k : Kind) (id : ℕ) → IsReady m →
+    same_kind kind.Template k ≡ false → same_kind kind.Watcher k ≡ false → id ≡ m.world.graph.given → IsNamed m new n k id →
+    new.world.graph.given ≡ m.world.graph.given + 1 → new.world.watchers ≡ m.world.watchers →
+    ((x : ℕ) → (x == m.world.graph.given) ≡ false → standing new.world.graph.state.signals x ≡ standing m.world.graph.state.signals x) →
+    is_of_kind k (standing new.world.graph.state.signals m.world.graph.given) ≡ true → new.world.graph.state.worn ≡ m.world.graph.state.worn + 1 →
+    (Holds asked rules m.world → Holds asked rules new.world) → Leaves asked asked rules m new
+leaves_made asked rules m new n k id r off none number named given watchers beside here worn holds = record {
+  ready = record {
+    labels = given ∙ ap (λ (x : ℕ). x + 1) r.labels ∙ sym (length-append m.labels.signals.items (n ∷ [])) ∙ ap length (sym named.signals);
+    watchers = ap (λ (t : Table). t.made) watchers ∙ r.watchers ∙ ap (λ v. length v.items) (sym named.watchers);
+    meant = subst (λ x. x) (λ i. AreMeant new.world (length (sym named.templates i).items)
+        (sym (named.names ∙ ap (λ (x : ℕ). m.names ++ (n, record { kind = k; number = x }) ∷ []) number) i))
+        (meant_made m.world new.world _ m.names n k off none given (ap (λ (t : Table). t.made) watchers) beside here r.meant);
+    shown = subst (λ x. x) (λ i. AreShown (sym named.templates i).items (sym named.pages i).items) r.shown;
+    few = let a : length new.pages.items ≡ length m.pages.items = ap (λ v. length v.items) named.pages in let b = r.few in omega (arith, a, b);
+  };
+  holds = holds;
+  worn = omega (arith, worn);
+}
+
+-- signals beside a new cell, and the new one
+pub beside_cell : (w v : Signals) (c : Cell) → v ≡ with_cell w c → (x : ℕ) → (x == c.name) ≡ false → standing v x ≡ standing w x
+beside_cell w v c e x off = ap (λ (s : Signals). standing s x) e ∙ cell_beside w c x off
+
+pub here_cell : (w v : Signals) (c : Cell) → v ≡ with_cell w c → is_of_kind kind.Cell (standing v c.name) ≡ true
+here_cell w v c e = ap (λ (s : Signals). is_of_kind kind.Cell (standing s c.name)) e ∙ cell_kind w c
+
+-- the same of a computed, under a name that nothing has
+pub beside_computed : (w v : Signals) (c : Computed) → v ≡ with_computed w c → (x : ℕ) → (x == c.name) ≡ false → standing v x ≡ standing w x
+beside_computed w v c e x off = ap (λ (s : Signals). standing s x) e ∙ computed_beside w c x off
+
+pub here_computed : (w v : Signals) (c : Computed) → is_there (standing w c.name) ≡ false → v ≡ with_computed w c →
+    is_of_kind kind.Computed (standing v c.name) ≡ true
+here_computed w v c fresh e = ap (λ (s : Signals). is_of_kind kind.Computed (standing s c.name)) e ∙ computed_kind w c fresh
+
+-- a watcher has a name, and nothing else changed but the world
+pub record IsNamedWatcher (m new : Machine) (n : List ℕ) (id : ℕ) : Type 0 where
+  pub names : new.names ≡ m.names ++ (n, record { kind = kind.Watcher; number = id }) ∷ []
+  pub watchers : new.labels.watchers.items ≡ m.labels.watchers.items ++ n ∷ []
+  pub signals : new.labels.signals ≡ m.labels.signals
+  pub templates : new.templates ≡ m.templates
+  pub pages : new.pages ≡ m.pages
+
+-- what the plain machine comes to
+pub steps_watcher : (asked : List HostPlace) (m new : Machine) (n : List ℕ) (id : ℕ) (tries : Bool) → id ≡ m.world.watchers.made →
+    whole_of asked new.world ≡ (with_watcher (plain_of asked m) n tries).world → IsNamedWatcher m new n id →
+    told (plain_of asked new) [] ≡ told (with_watcher (plain_of asked m) n tries) []
+steps_watcher asked m new n id tries number whole named = (λ i. told (record {
+  names = (named.names ∙ ap (λ (x : ℕ). m.names ++ (n, record { kind = kind.Watcher; number = x }) ∷ []) number) i;
+  labels = record { signals = (ap (λ v. v.items) named.signals) i; watchers = named.watchers i };
+  world = whole i;
+  templates = (ap (λ v. v.items) named.templates) i;
+  pages = (ap (λ v. map page_of v.items) named.pages) i;
+}) [])
+
+-- what is left
+pub leaves_watcher : (asked : List HostPlace) (rules : ℕ) (m new : Machine) (n : List ℕ) (id : ℕ) → IsReady m → id ≡ m.world.watchers.made →
+    IsNamedWatcher m new n id → new.world.graph ≡ m.world.graph → new.world.watchers.made ≡ m.world.watchers.made + 1 →
+    (Agrees asked m.world → Agrees asked new.world) → Leaves asked asked rules m new
+leaves_watcher asked rules m new n id r number named graph made agrees = record {
+  ready = record {
+    labels = ap (λ (g : Seen). g.given) graph ∙ r.labels ∙ ap (λ v. length v.items) (sym named.signals);
+    watchers = made ∙ ap (λ (x : ℕ). x + 1) r.watchers ∙ sym (length-append m.labels.watchers.items (n ∷ [])) ∙ ap length (sym named.watchers);
+    meant = subst (λ x. x) (λ i. AreMeant new.world (length (sym named.templates i).items) (sym named.names i))
+        (meant_other new.world _ m.names n kind.Watcher id refl (λ s. refl) (λ t. omega (arith, number, made)) (λ t. absurd cc)
+        (meant_watched m.world new.world _ m.names graph (omega (arith, made)) r.meant));
+    shown = subst (λ x. x) (λ i. AreShown (sym named.templates i).items (sym named.pages i).items) r.shown;
+    few = let a : length new.pages.items ≡ length m.pages.items = ap (λ v. length v.items) named.pages in let b = r.few in omega (arith, a, b);
+  };
+  holds = λ h. record { agrees = agrees h.agrees; ruled = subst (λ (g : Seen). AreRuled rules g.state.signals) (sym graph) h.ruled };
+  worn = let a : new.world.graph.state.worn ≡ m.world.graph.state.worn = ap (λ (g : Seen). g.state.worn) graph in omega (arith, a);
+}
 
 -- ---- templates
 
@@ -301,31 +277,165 @@ older_shown ts t (p ∷ ps) all = (
 )
 
 -- a template is made
-pub template_does : (m new : Machine) (n : List ℕ) (texts : List Wiring) → IsReady m →
-    new.names ≡ m.names ++ (n, record { kind = kind.Template; number = length m.templates.items }) ∷ [] → new.labels ≡ m.labels → new.graph ≡ m.graph →
-    new.templates.items ≡ m.templates.items ++ map (plain.linked m.names) texts ∷ [] → new.pages ≡ m.pages → Does m new [] (command.Template n texts)
-template_does m new n texts r names labels graph templates pages =
-    let count : length new.templates.items ≡ length m.templates.items + 1 = ap length templates ∙ length-append m.templates.items (map (plain.linked m.names) texts ∷ []) in
+pub leaves_template : (asked : List HostPlace) (rules : ℕ) (m new : Machine) (n : List ℕ) (texts : List Recipe) → IsReady m →
+    new.names ≡ m.names ++ (n, record { kind = kind.Template; number = length m.templates.items }) ∷ [] → new.labels ≡ m.labels → new.world ≡ m.world →
+    new.templates.items ≡ m.templates.items ++ texts ∷ [] → new.pages ≡ m.pages → Leaves asked asked rules m new
+leaves_template asked rules m new n texts r names labels world templates pages =
+    let count : length new.templates.items ≡ length m.templates.items + 1 = ap length templates ∙ length-append m.templates.items (texts ∷ []) in
     record {
-      steps = λ hosts s. record {
-        step = (λ i. told (record {
-          names = names i;
-          labels = (labels i).items;
-          signals = (graph i).state.signals;
-          memos = (graph i).state.memos;
-          templates = templates i;
-          pages = map page_of (pages i).items;
-        }) []);
-        sound = subst (λ (g : Seen). AreKept hosts g.state.signals g.state.memos) (sym graph) s;
-      };
       ready = record {
-        idle = subst (λ (g : Seen). IsIdle g.state) (sym graph) r.idle;
-        labels = ap (λ (g : Seen). g.given) graph ∙ r.labels ∙ ap (λ v. length v.items) (sym labels);
-        meant = subst (λ x. x) (λ i. AreMeant (sym graph i) (length new.templates.items) (sym names i))
-            (meant_other m.graph (length new.templates.items) m.names n kind.Template (length m.templates.items) refl (λ s. refl) (λ t. omega (arith, count))
-            (meant_more m.graph (length m.templates.items) (length new.templates.items) m.names (omega (arith, count)) r.meant));
-        shown = subst (λ x. x) (λ i. AreShown (sym templates i) (sym pages i).items) (older_shown m.templates.items (map (plain.linked m.names) texts) m.pages.items r.shown);
+        labels = ap (λ (w : World). w.graph.given) world ∙ r.labels ∙ ap (λ l. length l.signals.items) (sym labels);
+        watchers = ap (λ (w : World). w.watchers.made) world ∙ r.watchers ∙ ap (λ l. length l.watchers.items) (sym labels);
+        meant = subst (λ x. x) (λ i. AreMeant (sym world i) (length new.templates.items) (sym names i))
+            (meant_other m.world (length new.templates.items) m.names n kind.Template (length m.templates.items) refl (λ s. refl) (λ t. absurd cc) (λ t. omega (arith, count))
+            (meant_more m.world (length m.templates.items) (length new.templates.items) m.names (omega (arith, count)) r.meant));
+        shown = subst (λ x. x) (λ i. AreShown (sym templates i) (sym pages i).items) (older_shown m.templates.items texts m.pages.items r.shown);
         few = let a : length new.pages.items ≡ length m.pages.items = ap (λ v. length v.items) pages in let b = r.few in omega (arith, a, b);
       };
-      worn = let a : new.graph.state.worn ≡ m.graph.state.worn = ap (λ (g : Seen). g.state.worn) graph in omega (arith, a);
+      holds = λ h. subst (Holds asked rules) (sym world) h;
+      worn = let a : new.world.graph.state.worn ≡ m.world.graph.state.worn = ap (λ (w : World). w.graph.state.worn) world in omega (arith, a);
     }
+
+-- ---- one command
+
+-- the place of a rule that isn't refused
+pub rule_below : (slacks : List ℕ) (equals : Option ℕ) (r : ℕ) → plain.rule_refusal slacks equals ≡ None → equals ≡ Some r → r < length slacks
+rule_below slacks None r fine is = absurd cc
+rule_below slacks (Some place) r fine is = at (nat_lt place (length slacks)) refl fine
+  where
+    at : (b : Bool) → nat_lt place (length slacks) ≡ b → cond b None (Some (refusal.RulePlace place)) ≡ None → r < length slacks
+    at true e h = let lt = ltb-true place (length slacks) e in let same : place ≡ r = cc in omega (arith, lt, same)
+    at false e h = absurd cc
+
+-- a making that tells nothing
+pub steps_of : (hosts : Hosts) (asked : List HostPlace) (new : Machine) (v : World) (es : List Entry) (next : plain.Told) → es ≡ [] →
+    told (plain_of asked new) [] ≡ next → new.world ≡ v → IsSound hosts asked v → Steps hosts asked new es next
+steps_of hosts asked new v es next none is world sound = record {
+  step = ap (λ (x : List Entry). told (plain_of asked new) x) none ∙ is;
+  sound = subst (IsSound hosts asked) (sym world) sound;
+}
+
+-- ---- what a computed is made from
+
+-- nothing stands under the number that comes next
+pub none_next : (g : Seen) → AreGiven (is_given g) g.state.signals g.state.memos → is_there (standing g.state.signals g.given) ≡ false
+none_next g given = at (is_there (standing g.state.signals g.given)) refl
+  where
+    at : (b : Bool) → is_there (standing g.state.signals g.given) ≡ b → is_there (standing g.state.signals g.given) ≡ false
+    at false e = e
+    at true e = let lt = given_below g g.given (given.names g.given e) in absurd (omega (arith, lt))
+
+-- the signals of its names
+pub source_used : (w : World) (count : ℕ) (names : Names) (s : SourceText) → AreMeant w count names →
+    first_refusal w.graph.state.signals w.watchers.watchers names (plain.uses_of_source s) ≡ None → AreSignals w.graph (plain.recipe_of names s).slots
+source_used w count names (source.Formula f) all e = signals_used w count names f.1 all e
+source_used w count names (source.Host place arguments) all e = signals_used w count names arguments all e
+
+-- a host formula that isn't refused has few arguments
+pub few_slots : (names : Names) (s : SourceText) → plain.sources_refusal s ≡ None → HasFewSlots (plain.recipe_of names s).expression (plain.recipe_of names s).slots
+few_slots names (source.Formula f) e = tt
+few_slots names (source.Host place arguments) e = at (nat_lt MOST_SOURCES (length arguments)) refl e
+  where
+    at : (b : Bool) → nat_lt MOST_SOURCES (length arguments) ≡ b → cond b (Some (refusal.Limit limit.Sources)) None ≡ None →
+        length (map (number_of names) arguments) ≤ MOST_SOURCES
+    at true is h = absurd cc
+    at false is h = let le = ltb-false MOST_SOURCES (length arguments) is in let same = length-map arguments (number_of names) in omega (arith, le, same)
+
+-- one that isn't refused is free
+free_state : (place : ℕ) (o : Option HostState) → plain.taken_refusal place o ≡ None → cond (is_free o) None (Some (host_taken place)) ≡ None
+free_state place None e = absurd cc
+free_state place (Some unused) e = refl
+free_state place (Some (used n)) e = absurd cc
+free_state place (Some (dropped n)) e = absurd cc
+
+pub host_fine : (w : told.World) (names : Names) (s : SourceText) → plain.host_refusal w s ≡ None → host_refused (host_of (plain.recipe_of names s).expression) w ≡ None
+host_fine w names (source.Formula f) e = refl
+host_fine w names (source.Host place arguments) e = free_state place (slice_get w.host_states place) e
+
+-- the same of a recipe that is put together
+pub few_made : (r s : Recipe) → r ≡ s → HasFewSlots s.expression s.slots → HasFewSlots r.expression r.slots
+few_made r s e h = subst (λ (x : Recipe). HasFewSlots x.expression x.slots) (sym e) h
+
+pub free_made : (w : told.World) (r s : Recipe) → r ≡ s → host_refused (host_of s.expression) w ≡ None → host_refused (host_of r.expression) w ≡ None
+free_made w r s e h = ap (λ (x : Recipe). host_refused (host_of x.expression) w) e ∙ h
+
+-- ---- what is disposed
+
+-- whether a thing that there is lives
+abbrev lives_in : World → List HostPlace → Option things.Thing → Bool
+lives_in w asked None = false
+lives_in w asked (Some t) = lives t (whole_of asked w)
+
+lives_by : (w : World) (asked : List HostPlace) (k : Kind) (n : ℕ) (t : things.Thing) → is_gone w.graph.state.signals w.watchers.watchers k n ≡ false →
+    thing_of k n ≡ Some t → lives t (whole_of asked w) ≡ true
+lives_by w asked kind.Cell n t e is = ap (λ (o : Option things.Thing). lives_in w asked o) (sym is) ∙ not_false (is_there (standing w.graph.state.signals n)) e
+lives_by w asked kind.Computed n t e is = ap (λ (o : Option things.Thing). lives_in w asked o) (sym is) ∙ not_false (is_there (standing w.graph.state.signals n)) e
+lives_by w asked kind.Watcher n t e is = ap (λ (o : Option things.Thing). lives_in w asked o) (sym is) ∙ not_false (is_in n (watcher_numbers w.watchers.watchers)) e
+lives_by w asked kind.Template n t e is = absurd cc
+lives_by w asked kind.Page n t e is = absurd cc
+
+-- a thing that is named lives
+pub thing_lives : (w : World) (asked : List HostPlace) (names : Names) (n : List ℕ) (t : things.Thing) → refused_at w names n need.Thing ≡ None →
+    thing_named (meaning_of names n) ≡ Some t → lives t (whole_of asked w) ≡ true
+thing_lives w asked names n t e is =
+    let u = used_thing w names n e in
+    lives_by w asked u.meaning.kind u.meaning.number t u.there (sym (ap thing_named u.is) ∙ is)
+
+-- ---- acts that are told
+
+-- an act that was done
+pub acts_steps : (hosts : Hosts) (asked later : List HostPlace) (m : Machine) (w : World) (before es : List Event) (act other : told.World → told.World) (entries : List Entry) →
+    before ≡ [] → Does hosts asked later m.world w before es act → act ≡ other → entries ≡ map (entry_told (labels_of m.labels)) es →
+    Steps hosts later (with_world m w) entries (acted (plain_of asked m) (other (whole_of asked m.world)))
+acts_steps hosts asked later m w before es act other entries none d same is =
+    let e = subst (λ (b : List Event). Does hosts asked later m.world w b es act) none d in
+    record {
+      step = ap (λ (x : List Entry). told (plain_of later (with_world m w)) x) is ∙ acts hosts asked later m w es act e
+          ∙ ap (λ (f : told.World → told.World). acted (plain_of asked m) (f (whole_of asked m.world))) same;
+      sound = d.sound;
+    }
+
+-- whether a watcher tries a command
+pub trying : (t : Option Try) → is_some t ≡ plain.is_trying t
+trying None = refl
+trying (Some t) = refl
+
+-- a fault that isn't that of what is gone
+pub only_memory : (x : EffectFault) → (x ≡ fault.Gone) ⊎ (x ≡ fault.NoMemory) → (x ≡ fault.Gone → ⊥) → x ≡ fault.NoMemory
+only_memory x (inl e) there = absurd (there e)
+only_memory x (inr e) there = e
+
+-- no test is both
+pub true_false : true ≡ false → ⊥
+true_false e = cc
+
+-- what is told of an act, and one entry behind it
+pub then_told : (hosts : Hosts) (later : List HostPlace) (m : Machine) (w : World) (es : List Entry) (x y : Entry) (entries : List Entry) (next : plain.Told) →
+    Steps hosts later (with_world m w) es next → x ≡ y → entries ≡ es ++ x ∷ [] → Steps hosts later (with_world m w) entries (told next.machine (next.entries ++ y ∷ []))
+then_told hosts later m w es x y entries next s same is = record {
+  step = (λ i. told (plain_of later (with_world m w)) ((is ∙ ap (λ (z : Entry). es ++ z ∷ []) same) i))
+      ∙ ap (λ (t : plain.Told). told t.machine (t.entries ++ y ∷ [])) s.step;
+  sound = s.sound;
+}
+
+-- what is left by settling
+pub leaves_settled : (asked later : List HostPlace) (rules : ℕ) (m : Machine) (w : World) → IsReady m → w.graph.given ≡ m.world.graph.given →
+    w.watchers ≡ m.world.watchers → w.graph.state.signals ≡ m.world.graph.state.signals → w.graph.state.worn ≤ m.world.graph.state.worn + 2 ^ 68 →
+    Agrees later w → Leaves asked later rules m (with_world m w)
+leaves_settled asked later rules m w r given watchers signals worn agrees = record {
+  ready = ready_still m w r given (ap (λ (t : Table). t.made) watchers) (kinds_same m.world.graph.state.signals w.graph.state.signals signals);
+  holds = λ h. record { agrees = agrees; ruled = subst (AreRuled rules) (sym signals) h.ruled };
+  worn = worn;
+}
+
+-- a thing that is named was disposed
+pub disposed_steps : (hosts : Hosts) (slacks : List ℕ) (asked later : List HostPlace) (m : Machine) (w : World) (before es : List Event) (entries : List Entry) (t : things.Thing) (o : Option things.Thing) →
+    before ≡ [] → Does hosts asked later m.world w before es (dispose_thing (environment hosts slacks) t) → o ≡ Some t → entries ≡ map (entry_told (labels_of m.labels)) es →
+    Steps hosts later (with_world m w) entries (plain.disposing (environment hosts slacks) (plain_of asked m) o)
+disposed_steps hosts slacks asked later m w before es entries t o none d is tells =
+    subst (λ (x : Option things.Thing). Steps hosts later (with_world m w) entries (plain.disposing (environment hosts slacks) (plain_of asked m) x)) (sym is)
+    (acts_steps hosts asked later m w before es (dispose_thing (environment hosts slacks) t) (dispose_thing (environment hosts slacks) t) entries none d refl tells)
+
+-- so many rules, counted by their slacks
+pub leaves_count : (asked later : List HostPlace) (a b : ℕ) (m new : Machine) → a ≡ b → Leaves asked later a m new → Leaves asked later b m new
+leaves_count asked later a b m new e left = subst (λ (n : ℕ). Leaves asked later n m new) e left

@@ -1,7 +1,7 @@
 mod OfKind
 mod Meanings
-mod Idle
 mod Rightly
-mod Doing
 mod Telling
+mod Doing
 mod Paging
+mod Places

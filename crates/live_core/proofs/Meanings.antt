@@ -1,10 +1,11 @@
 -- What names stand for stays made, and of their kind.
-use Rattle.std.proofs.Common.{◌≡◌, ◌≤◌, ◌<◌, ◌==◌, ℕ, arith, Bool, true, false, cond, List, [], ◌∷◌, ◌++◌, ◌⊎◌, inl, inr, Some, None, refl, sym, ap, subst, ◌∙◌}
+use Rattle.std.proofs.Common.{◌≡◌, ◌≤◌, ◌<◌, ◌+◌, ◌==◌, ℕ, arith, Bool, true, false, cond, List, [], ◌∷◌, ◌++◌, ◌⊎◌, inl, inr, Some, None, refl, sym, ap, subst, ◌∙◌}
 use Rattle.std.specs.Str.{bytes_eq}
-use Rattle.std.proofs.lemmas.Bool.{eqb-true}
-use Rattle.signal_model.specs.Standing.{Stands, standing}
-use Rattle.sig_nodes.specs.States.{Seen, State, Makes, is_given}
-use Rattle.sig_nodes.proofs.Shared.{given_made, given_more, given_same}
+use Rattle.std.proofs.lemmas.Bool.{eqb-true, lt-ltb, ltb-true}
+use Rattle.signal_model.specs.Standing.{Signals, Stands, standing}
+use Rattle.sig_nodes.specs.States.{Seen, is_given}
+use Rattle.sig_nodes.proofs.Shared.{given_is, given_same}
+use Rattle.sig_effect.specs.declared.world.World.{World}
 use Rattle.live_model.specs.declared.names.Kind.{Kind}
 use Rattle.live_model.specs.declared.names.Kind.TheVariants as kind
 use Rattle.live_model.specs.declared.names.Meaning.{Meaning}
@@ -27,22 +28,33 @@ last_or ((b, y) ∷ names) a x n m h = at (bytes_eq n b) h (last_or names a x n 
     at true e more = inl e
     at false e more = more e
 
+-- what was given is below the count
+pub given_below : (g : Seen) (n : ℕ) → is_given g n ≡ true → n < g.given
+given_below g n h = ltb-true n g.given (sym (given_is g n) ∙ h)
+
+-- what is below the count was given
+pub below_given : (g : Seen) (n : ℕ) → n < g.given → is_given g n ≡ true
+below_given g n lt = given_is g n ∙ lt-ltb n g.given lt
+
 -- names mean what they meant, where signals stay made and of their kind
-pub meant_still : (g h : Seen) (count : ℕ) (names : Names) → h.given ≡ g.given →
-    ((k : Kind) (m : ℕ) → is_of_kind k (standing g.state.signals m) ≡ true → is_of_kind k (standing h.state.signals m) ≡ true) → AreMeant g count names → AreMeant h count names
-meant_still g h count names given kinds all n m is =
-    let one : IsMeant g count m = all n m is in record {
-      given = λ s. given_same g h m.number given ∙ one.given s;
+pub meant_still : (v w : World) (count : ℕ) (names : Names) → w.graph.given ≡ v.graph.given → w.watchers.made ≡ v.watchers.made →
+    ((k : Kind) (m : ℕ) → is_of_kind k (standing v.graph.state.signals m) ≡ true → is_of_kind k (standing w.graph.state.signals m) ≡ true) →
+    AreMeant v count names → AreMeant w count names
+meant_still v w count names given made kinds all n m is =
+    let one : IsMeant v count m = all n m is in record {
+      given = λ s. given_same v.graph w.graph m.number given ∙ one.given s;
       fits = kinds m.kind m.number one.fits;
+      watcher = λ s. subst (λ (x : ℕ). m.number < x) (sym made) (one.watcher s);
       template = one.template;
     }
 
 -- more templates are made
-pub meant_more : (g : Seen) (count more : ℕ) (names : Names) → count ≤ more → AreMeant g count names → AreMeant g more names
-meant_more g count more names le all n m is =
-    let one : IsMeant g count m = all n m is in record {
+pub meant_more : (w : World) (count more : ℕ) (names : Names) → count ≤ more → AreMeant w count names → AreMeant w more names
+meant_more w count more names le all n m is =
+    let one : IsMeant w count m = all n m is in record {
       given = one.given;
       fits = one.fits;
+      watcher = one.watcher;
       template = λ t. let lt = one.template t in omega (arith, le, lt);
     }
 
@@ -51,45 +63,66 @@ true_false : true ≡ false → ⊥
 true_false e = cc
 
 -- a name more of what is no signal
-pub meant_other : (g : Seen) (count : ℕ) (names : Names) (a : List ℕ) (k : Kind) (i : ℕ) → is_signal k ≡ false → ((s : Stands) → is_of_kind k s ≡ true) →
-    (same_kind kind.Template k ≡ true → i < count) → AreMeant g count names → AreMeant g count (names ++ (a, record { kind = k; number = i }) ∷ [])
-meant_other g count names a k i off any below all n m is = elim (last_or names a (record { kind = k; number = i }) n m is) [
+pub meant_other : (w : World) (count : ℕ) (names : Names) (a : List ℕ) (k : Kind) (i : ℕ) → is_signal k ≡ false → ((s : Stands) → is_of_kind k s ≡ true) →
+    (same_kind kind.Watcher k ≡ true → i < w.watchers.made) → (same_kind kind.Template k ≡ true → i < count) →
+    AreMeant w count names → AreMeant w count (names ++ (a, record { kind = k; number = i }) ∷ [])
+meant_other w count names a k i off any watcher below all n m is = elim (last_or names a (record { kind = k; number = i }) n m is) [
   | inl old ↦ all n m old
-  | inr new ↦ subst (IsMeant g count) new
-      (record { given = λ s. absurd (true_false (sym s ∙ off)); fits = any (standing g.state.signals i); template = below })
+  | inr new ↦ subst (IsMeant w count) new
+      (record { given = λ s. absurd (true_false (sym s ∙ off)); fits = any (standing w.graph.state.signals i); watcher = watcher; template = below })
 ]
 
--- what was given isn't what comes next
-not_next : (g : Seen) (m id : ℕ) → is_given g m ≡ true → is_given g id ≡ false → (m == id) ≡ false
-not_next g m id was new = at (m == id) refl
+-- one watcher more is made
+pub meant_watched : (v w : World) (count : ℕ) (names : Names) → w.graph ≡ v.graph → v.watchers.made ≤ w.watchers.made →
+    AreMeant v count names → AreMeant w count names
+meant_watched v w count names graph made all n m is =
+    let one : IsMeant v count m = all n m is in record {
+      given = λ s. ap (λ (g : Seen). is_given g m.number) graph ∙ one.given s;
+      fits = ap (λ (g : Seen). is_of_kind m.kind (standing g.state.signals m.number)) graph ∙ one.fits;
+      watcher = λ s. let lt = one.watcher s in omega (arith, lt, made);
+      template = one.template;
+    }
+
+-- what is below isn't what comes next
+not_next : (m id : ℕ) → m < id → (m == id) ≡ false
+not_next m id lt = at (m == id) refl
   where
     at : (b : Bool) → (m == id) ≡ b → (m == id) ≡ false
     at false e = e
-    at true e = let same : m ≡ id = eqb-true m id e in let h : is_given g id ≡ true = rw (sym same) was in cc
+    at true e = let same : m ≡ id = eqb-true m id e in absurd (omega (arith, lt, same))
 
 -- a meaning stays, where only the new signal stands otherwise
-still_meant : (g h : Seen) (id : ℕ) (after : State) (k : Kind) (i : ℕ) → Makes g h id after →
-    ((m : ℕ) → (m == id) ≡ false → standing after.signals m ≡ standing g.state.signals m) → (is_signal k ≡ true → is_given g i ≡ true) →
-    is_of_kind k (standing g.state.signals i) ≡ true → is_of_kind k (standing after.signals i) ≡ true
-still_meant g h id after kind.Cell i made beside given is = ap (is_of_kind kind.Cell) (beside i (not_next g i id (given refl) made.fresh)) ∙ is
-still_meant g h id after kind.Computed i made beside given is = ap (is_of_kind kind.Computed) (beside i (not_next g i id (given refl) made.fresh)) ∙ is
-still_meant g h id after kind.Template i made beside given is = refl
-still_meant g h id after kind.Page i made beside given is = refl
+still_meant : (g : Seen) (after : Signals) (k : Kind) (i : ℕ) →
+    ((m : ℕ) → (m == g.given) ≡ false → standing after m ≡ standing g.state.signals m) → (is_signal k ≡ true → is_given g i ≡ true) →
+    is_of_kind k (standing g.state.signals i) ≡ true → is_of_kind k (standing after i) ≡ true
+still_meant g after kind.Cell i beside given is = ap (is_of_kind kind.Cell) (beside i (not_next i g.given (given_below g i (given refl)))) ∙ is
+still_meant g after kind.Computed i beside given is = ap (is_of_kind kind.Computed) (beside i (not_next i g.given (given_below g i (given refl)))) ∙ is
+still_meant g after kind.Watcher i beside given is = refl
+still_meant g after kind.Template i beside given is = refl
+still_meant g after kind.Page i beside given is = refl
 
 -- a name of a signal more, which is made
-pub meant_made : (g h : Seen) (count : ℕ) (names : Names) (id : ℕ) (after : State) (a : List ℕ) (k : Kind) → same_kind kind.Template k ≡ false → Makes g h id after →
-    ((m : ℕ) → (m == id) ≡ false → standing after.signals m ≡ standing g.state.signals m) → is_of_kind k (standing after.signals id) ≡ true →
-    AreMeant g count names → AreMeant h count (names ++ (a, record { kind = k; number = id }) ∷ [])
-meant_made g h count names id after a k off made beside here all n m is = elim (last_or names a (record { kind = k; number = id }) n m is) [
+pub meant_made : (v w : World) (count : ℕ) (names : Names) (a : List ℕ) (k : Kind) → same_kind kind.Template k ≡ false → same_kind kind.Watcher k ≡ false →
+    w.graph.given ≡ v.graph.given + 1 → w.watchers.made ≡ v.watchers.made →
+    ((m : ℕ) → (m == v.graph.given) ≡ false → standing w.graph.state.signals m ≡ standing v.graph.state.signals m) →
+    is_of_kind k (standing w.graph.state.signals v.graph.given) ≡ true →
+    AreMeant v count names → AreMeant w count (names ++ (a, record { kind = k; number = v.graph.given }) ∷ [])
+meant_made v w count names a k off none given made beside here all n m is = elim (last_or names a (record { kind = k; number = v.graph.given }) n m is) [
   | inl old ↦
-      let one : IsMeant g count m = all n m old in record {
-        given = λ s. given_more g h id after made m.number (one.given s);
-        fits = ap (λ (s : State). is_of_kind m.kind (standing s.signals m.number)) made.state ∙ still_meant g h id after m.kind m.number made beside one.given one.fits;
+      let one : IsMeant v count m = all n m old in record {
+        given = λ s. let lt = given_below v.graph m.number (one.given s) in below_given w.graph m.number (omega (arith, lt, given));
+        fits = still_meant v.graph w.graph.state.signals m.kind m.number beside one.given one.fits;
+        watcher = λ s. subst (λ (x : ℕ). m.number < x) (sym made) (one.watcher s);
         template = one.template;
       }
-  | inr new ↦ subst (IsMeant h count) new (record {
-    given = λ s. given_made g h id after made;
-    fits = ap (λ (s : State). is_of_kind k (standing s.signals id)) made.state ∙ here;
+  | inr new ↦ subst (IsMeant w count) new (record {
+    given = λ s. below_given w.graph v.graph.given (omega (arith, given));
+    fits = here;
+    watcher = λ t. absurd (true_false (sym t ∙ none));
     template = λ t. absurd (true_false (sym t ∙ off));
   })
 ]
+
+-- no names, which mean nothing
+pub none_meant : (w : World) (count : ℕ) → AreMeant w count []
+none_meant w count n m is = absurd cc

@@ -4,7 +4,8 @@ use Rattle.std.specs.Option.{option_or}
 use Rattle.std.proofs.lemmas.Bool.{eqb-true, eq-eqb}
 use Rattle.signal_model.specs.Standing.{Signals, Cell, Computed, Stands, IsGone, IsCell, IsComputed, or_computed, is_there, cell_at, computed_at, standing}
 use Rattle.signal_model.specs.Changes.{with_cell, with_computed, without_signal}
-use Rattle.signal_laws.proofs.Shared.{SameKind, cell_append, cell_more, cell_out, cell_left, computed_more, computed_out, computed_left}
+use Rattle.signal_laws.proofs.Shared.{SameKind, cell_append}
+use Rattle.sig_effect.proofs.Shared.{computed_made, gone_now, left_now}
 use Rattle.live_model.specs.declared.names.Kind.{Kind}
 use Rattle.live_model.specs.declared.names.Kind.TheVariants as kind
 use Rattle.live_core.specs.Keeping.{is_of_kind}
@@ -13,6 +14,7 @@ use Rattle.live_core.specs.Keeping.{is_of_kind}
 pub gone_kind : (k : Kind) → is_of_kind k IsGone ≡ true
 gone_kind kind.Cell = refl
 gone_kind kind.Computed = refl
+gone_kind kind.Watcher = refl
 gone_kind kind.Template = refl
 gone_kind kind.Page = refl
 
@@ -24,6 +26,7 @@ same_kind_of k (IsCell c) (IsCell d) s h = go k h
     go : (j : Kind) → is_of_kind j (IsCell c) ≡ true → is_of_kind j (IsCell d) ≡ true
     go kind.Cell e = refl
     go kind.Computed e = cc
+    go kind.Watcher e = refl
     go kind.Template e = refl
     go kind.Page e = refl
 same_kind_of k (IsComputed c) (IsComputed d) s h = go k h
@@ -31,6 +34,7 @@ same_kind_of k (IsComputed c) (IsComputed d) s h = go k h
     go : (j : Kind) → is_of_kind j (IsComputed c) ≡ true → is_of_kind j (IsComputed d) ≡ true
     go kind.Cell e = cc
     go kind.Computed e = refl
+    go kind.Watcher e = refl
     go kind.Template e = refl
     go kind.Page e = refl
 same_kind_of k IsGone (IsCell d) s h = let e : false ≡ true = s.there in cc
@@ -39,13 +43,6 @@ same_kind_of k (IsCell c) IsGone s h = let e : true ≡ false = s.there in cc
 same_kind_of k (IsComputed c) IsGone s h = let e : true ≡ false = s.there in cc
 same_kind_of k (IsCell c) (IsComputed d) s h = let e : false ≡ true = s.computed in cc
 same_kind_of k (IsComputed c) (IsCell d) s h = let e : true ≡ false = s.computed in cc
-
--- another signal is as before a making
-pub cell_beside : (w : Signals) (c : Cell) (m : ℕ) → (m == c.name) ≡ false → standing (with_cell w c) m ≡ standing w m
-cell_beside w c m off = ap (λ x. or_computed x (computed_at m w.computeds)) (cell_more m w.cells c off)
-
-pub computed_beside : (w : Signals) (c : Computed) (m : ℕ) → (m == c.name) ≡ false → standing (with_computed w c) m ≡ standing w m
-computed_beside w c m off = ap (λ x. or_computed (cell_at m w.cells) x) (computed_more m w.computeds c off)
 
 -- a cell is one
 pub cell_kind : (w : Signals) (c : Cell) → is_of_kind kind.Cell (standing (with_cell w c) c.name) ≡ true
@@ -60,12 +57,7 @@ cell_kind w c =
 
 -- a computed is one, under a name that nothing has
 pub computed_kind : (w : Signals) (c : Computed) → is_there (standing w c.name) ≡ false → is_of_kind kind.Computed (standing (with_computed w c) c.name) ≡ true
-computed_kind w c off = none (cell_at c.name w.cells) (computed_at c.name w.computeds) off (computed_at c.name (with_computed w c).computeds)
-  where
-    none : (x : Option Cell) (y : Option Computed) → is_there (or_computed x y) ≡ false → (z : Option Computed) → is_of_kind kind.Computed (or_computed x z) ≡ true
-    none (Some d) y e z = cc
-    none None y e None = refl
-    none None y e (Some d) = refl
+computed_kind w c off = ap (is_of_kind kind.Computed) (computed_made w c off)
 
 -- what is disposed is gone, and another signal is as before
 pub disposed_kind : (k : Kind) (w : Signals) (n m : ℕ) → is_of_kind k (standing w m) ≡ true → is_of_kind k (standing (without_signal w n) m) ≡ true
@@ -74,8 +66,5 @@ disposed_kind k w n m h = at (m == n) refl
     at : (b : Bool) → (m == n) ≡ b → is_of_kind k (standing (without_signal w n) m) ≡ true
     at true e =
         let same : m ≡ n = eqb-true m n e in
-        let gone : standing (without_signal w n) n ≡ IsGone = (λ i. or_computed (cell_out n w.cells i) (computed_out n w.computeds i)) in
-        rw same (rw gone (gone_kind k))
-    at false e =
-        let left : standing (without_signal w n) m ≡ standing w m = (λ i. or_computed (cell_left m n w.cells e i) (computed_left m n w.computeds e i)) in
-        rw left h
+        rw same (rw (gone_now w n) (gone_kind k))
+    at false e = rw (left_now w n m e) h

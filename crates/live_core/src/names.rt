@@ -7,7 +7,8 @@ ghost use Rattle.live_core.specs.Views.{use_of};
 use indexmap::IndexMap;
 use live_cmd::Refusal;
 use live_model::{Kind, Meaning, Need};
-use sig_base::{Name, NoMemory, NodeId};
+use sig_base::{Name, NoMemory, NodeId, WatcherId};
+use sig_effect::World;
 use sig_nodes::{Graph, Standing};
 use std::alloc::Global;
 use std::marker::Model;
@@ -41,13 +42,14 @@ fn is_signal(kind: Kind) -> bool
 }
 
 // Whether what was made is what a place needs.
-fn meets(need: Need, meaning: Meaning) -> bool
-    ensures { result ≡ meets need meaning }
+fn meets(need: Need, kind: Kind) -> bool
+    ensures { result ≡ meets need kind }
 {
     match need {
         Need::New => false,
-        Need::Of(kind) => kind == meaning.kind,
-        Need::Signal => is_signal(meaning.kind),
+        Need::Of(needed) => needed == kind,
+        Need::Signal => is_signal(kind),
+        Need::Thing => is_signal(kind) || kind == Kind::Watcher,
     }
 }
 
@@ -62,20 +64,24 @@ fn is_away(graph: &Graph, id: NodeId) -> bool
 }
 
 // Whether what was made is gone.
-fn is_gone(graph: &Graph, meaning: Meaning) -> bool
-    ensures { result ≡ is_gone graph.now.state.signals meaning }
+fn is_gone(world: &World, kind: Kind, number: u128) -> bool
+    ensures { result ≡ is_gone world.now.graph.state.signals world.now.watchers.watchers kind number }
 {
-    is_signal(meaning.kind) && is_away(graph, NodeId::of(meaning.number))
+    match kind {
+        Kind::Cell | Kind::Computed => is_away(&world.graph, NodeId::of(number)),
+        Kind::Watcher => !world.watchers.is_alive(WatcherId::of(number)),
+        Kind::Template | Kind::Page => false,
+    }
 }
 
 // Why a name that was made is refused at its place, if it is.
-fn misuse(graph: &Graph, used: &Use, meaning: Meaning) -> Result<Option<Refusal>, NoMemory>
-    ensures { IfOk result (λ r. r ≡ misuse graph.now.state.signals (use_of used.now) meaning) }
+fn misuse(world: &World, used: &Use, meaning: Meaning) -> Result<Option<Refusal>, NoMemory>
+    ensures { IfOk result (λ r. r ≡ misuse world.now.graph.state.signals world.now.watchers.watchers (use_of used.now) meaning) }
 {
-    if is_gone(graph, meaning) {
+    if is_gone(world, meaning.kind, meaning.number) {
         return Ok(Some(Refusal::Gone(used.name.copy()?)));
     }
-    if meets(used.need, meaning) {
+    if meets(used.need, meaning.kind) {
         return Ok(None);
     }
     Ok(Some(Refusal::Kind(used.name.copy()?)))
@@ -83,18 +89,18 @@ fn misuse(graph: &Graph, used: &Use, meaning: Meaning) -> Result<Option<Refusal>
 
 // Why a name is refused at its place, if it is.
 fn refusal_at(
-    graph: &Graph,
+    world: &World,
     used: &Use,
     meaning: Option<Meaning>,
 ) -> Result<Option<Refusal>, NoMemory>
-    ensures { IfOk result (λ r. r ≡ refusal_at graph.now.state.signals (use_of used.now) meaning) }
+    ensures { IfOk result (λ r. r ≡ refusal_at world.now.graph.state.signals world.now.watchers.watchers (use_of used.now) meaning) }
 {
     match (used.need, meaning) {
         (Need::New, None) => Ok(None),
         (Need::New, Some(_)) => Ok(Some(Refusal::Taken(used.name.copy()?))),
         (_, None) => Ok(Some(Refusal::Unknown(used.name.copy()?))),
         (_, Some(meaning)) => {
-            let refusal = misuse(graph, used, meaning)?;
+            let refusal = misuse(world, used, meaning)?;
             Ok(refusal)
         }
     }
@@ -110,8 +116,8 @@ impl Names {
         }
     }
 
-    // What a name stands for, if it was made.
-    fn meaning_of(&self, name: &Name) -> Option<Meaning>
+    /// What a name stands for, if it was made.
+    pub(crate) fn meaning_of(&self, name: &Name) -> Option<Meaning>
         ensures { result ≡ meaning_of self.now name.now }
     {
         self.meanings.get(name).copied()
@@ -130,13 +136,13 @@ impl Names {
     /// The refusal of the first name that has one.
     pub(crate) fn first_refusal(
         &self,
-        graph: &Graph,
+        world: &World,
         uses: &[Use],
     ) -> Result<Option<Refusal>, NoMemory>
-        ensures { IfOk result (λ r. r ≡ first_refusal graph.now.state.signals self.now (map use_of uses.now)) }
+        ensures { IfOk result (λ r. r ≡ first_refusal world.now.graph.state.signals world.now.watchers.watchers self.now (map use_of uses.now)) }
     {
         for used in uses {
-            if let Some(refusal) = refusal_at(graph, used, self.meaning_of(used.name))? {
+            if let Some(refusal) = refusal_at(world, used, self.meaning_of(used.name))? {
                 return Ok(Some(refusal));
             }
         }

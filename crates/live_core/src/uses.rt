@@ -1,6 +1,6 @@
 // Which names each command uses, in the order of its text.
 ghost use Rattle.std.specs.Prelude.{◌≡◌, ◌++◌, ◌∷◌, [], IfOk, OnOk, map, flat_map};
-ghost use Rattle.live_model.specs.Machine.{need_of, uses_of, uses_of_formula, uses_of_source};
+ghost use Rattle.live_model.specs.Machine.{need_of, uses_of, uses_of_formula, uses_of_signals, uses_of_source};
 ghost use Rattle.live_core.specs.Views.{use_of};
 
 use crate::names::Use;
@@ -17,12 +17,19 @@ fn put_use<'a>(uses: &mut Vec<Use<'a>>, name: &'a Name, need: Need) -> Result<()
     Ok(())
 }
 
+fn put_uses_of_signals<'a>(uses: &mut Vec<Use<'a>>, names: &'a [Name]) -> Result<(), NoMemory>
+    ensures { OnOk result (map use_of uses.new.items ≡ map use_of uses.old.items ++ uses_of_signals names.now) }
+{
+    for name in names {
+        put_use(uses, name, Need::Signal)?;
+    }
+    Ok(())
+}
+
 fn put_uses_of_formula<'a>(uses: &mut Vec<Use<'a>>, formula: &'a Wired) -> Result<(), NoMemory>
     ensures { OnOk result (map use_of uses.new.items ≡ map use_of uses.old.items ++ uses_of_formula formula.now) }
 {
-    for name in &formula.names {
-        put_use(uses, name, Need::Signal)?;
-    }
+    put_uses_of_signals(uses, &formula.names)?;
     Ok(())
 }
 
@@ -31,6 +38,7 @@ fn put_uses_of_source<'a>(uses: &mut Vec<Use<'a>>, source: &'a SourceText) -> Re
 {
     match source {
         SourceText::Formula(formula) => put_uses_of_formula(uses, formula),
+        SourceText::Host(_, arguments) => put_uses_of_signals(uses, arguments.as_slice()),
     }
 }
 
@@ -48,8 +56,10 @@ fn need_of(verb: Verb) -> Need
     ensures { result ≡ need_of verb }
 {
     match verb {
-        Verb::Get | Verb::Dispose => Need::Signal,
+        Verb::Get => Need::Signal,
+        Verb::Dispose => Need::Thing,
         Verb::State | Verb::Sources => Need::Of(Kind::Computed),
+        Verb::Pending => Need::Of(Kind::Watcher),
         Verb::Show => Need::Of(Kind::Page),
     }
 }
@@ -67,6 +77,15 @@ fn put_uses<'a>(uses: &mut Vec<Use<'a>>, command: &'a Command) -> Result<(), NoM
         Command::Rewire { name, source } => {
             put_use(uses, name, Need::Of(Kind::Computed))?;
             put_uses_of_source(uses, source)
+        }
+        Command::Watcher { name, .. } => put_use(uses, name, Need::New),
+        Command::Watch { name, signals } => {
+            put_use(uses, name, Need::Of(Kind::Watcher))?;
+            put_uses_of_signals(uses, signals.as_slice())
+        }
+        Command::Unwatch { name, signal } => {
+            put_use(uses, name, Need::Of(Kind::Watcher))?;
+            put_use(uses, signal, Need::Signal)
         }
         Command::Template { name, texts } => {
             put_use(uses, name, Need::New)?;

@@ -3,3 +3,4 @@ pub mod Machine
 pub mod Names
 pub mod Output
 pub mod Pages
+pub mod Examples

@@ -1,27 +1,32 @@
 -- The machine, and what each command does to it.
-use Rattle.std.specs.Prelude.{ℕ, nat_lt, Bool, true, false, List, [], ◌∷◌, ◌++◌, Option, Some, None, length, map, slice_get, unwrap_or, flat_map, if◌then◌else◌}
+use Rattle.std.specs.Prelude.{ℕ, nat_lt, Bool, true, false, List, [], ◌∷◌, ◌++◌}
+use Rattle.std.specs.Prelude.{Option, Some, None, length, map, slice_get, unwrap_or, flat_map, if◌then◌else◌}
 use Rattle.std.specs.Option.{option_or, option_map, option_map_or}
 use Rattle.std.specs.Str.{bytes_eq}
-use Rattle.sig_base.specs.declared.limits.TheConstants.{MOST_NODES, MOST_PAGES, MOST_TEMPLATES}
-use Rattle.sig_base.specs.declared.value.Value.{Value}
-use Rattle.sig_base.specs.Values.{same_value, scalar_value}
+use Rattle.sig_base.specs.declared.limits.TheConstants.{MOST_NODES, MOST_PAGES, MOST_SOURCES, MOST_TEMPLATES}
+use Rattle.sig_base.specs.Values.{scalar_value}
 use Rattle.formula_text.specs.Wiring.{Wiring}
-use Rattle.signal_model.specs.Recipes.{Hosts, Recipe, formula_recipe}
-use Rattle.signal_model.specs.Standing.{Signals, Cell, Computed, Stands, IsCell, standing}
-use Rattle.signal_model.specs.Changes.{live_count, no_signals, no_memos, with_cell, with_computed, after_making, with_value, after_change}
-use Rattle.signal_model.specs.Changes.{with_recipe, after_rewiring, without_signal, after_disposal}
+use Rattle.signal_model.specs.Recipes.{Recipe, formula_recipe, host}
+use Rattle.signal_model.specs.Changes.{live_count}
 use Rattle.signal_model.specs.Values.{value_of}
-use Rattle.signal_model.specs.Memos.{Memos, sources_of, source_names}
-use Rattle.signal_model.specs.Settling.{Run, settled}
+use Rattle.signal_model.specs.Memos.{sources_of, source_names}
+use Rattle.signal_model.specs.Settling.{Run}
 use Rattle.signal_model.specs.Marks as marks
 use Rattle.signal_model.specs.Marks.{Mark, mark_of}
 use Rattle.signal_model.specs.Sound.{names_of}
+use Rattle.effect_model.specs.Owning.{Thing, the_signal, the_watcher, nothing}
+use Rattle.effect_model.specs.Worlds.{Environment, HostState, unused, Event, ran, notified, frozen, gone, dropped_host, World, settle}
+use Rattle.effect_model.specs.Acts.{set_cell, host_of, with_use, rewire_signal, forget, dispose_thing}
+use Rattle.effect_model.specs.Commands.{new_world, with_new_cell, with_new_computed, with_new_watcher, armed, changed_watcher}
+use Rattle.effect_model.specs.Watching.{at_rest, signals_at, watches, pending_of}
+use Rattle.effect_model.specs.declared.limits.TheConstants.{MOST_WATCHERS}
 use Rattle.live_cmd.specs.declared.command.SourceText.{SourceText}
 use Rattle.live_cmd.specs.declared.command.SourceText.TheVariants as source
 use Rattle.live_cmd.specs.declared.command.Verb.{Verb}
 use Rattle.live_cmd.specs.declared.command.Verb.TheVariants as verb
 use Rattle.live_cmd.specs.declared.command.Command.{Command}
 use Rattle.live_cmd.specs.declared.command.Command.TheVariants as command
+use Rattle.live_cmd.specs.declared.command.Try.{Try}
 use Rattle.live_cmd.specs.declared.command.Item.{Item}
 use Rattle.live_cmd.specs.declared.command.Item.TheVariants as item
 use Rattle.live_cmd.specs.declared.entry.Seen.{Seen}
@@ -38,21 +43,25 @@ use Rattle.live_model.specs.declared.names.Need.{Need}
 use Rattle.live_model.specs.declared.names.Need.TheVariants as need
 use Rattle.live_model.specs.declared.parts.Page.{Page}
 use Rattle.live_model.specs.Pages.{asked_of, html_of}
-use Rattle.live_model.specs.Names.{Names, Use, number_of, first_refusal}
+use Rattle.live_model.specs.Names.{Names, Use, meaning_of, number_of, thing_named, first_refusal}
 
--- What the names stand for, in order of making; the names of the signals, each at its signal's number; the signals, and what is kept of
--- them; the texts of each template; the pages in order of mounting.
+-- the names of the signals and of the watchers, each at its number
+pub record Labels : Type 0 where
+  pub signals : List (List ℕ)
+  pub watchers : List (List ℕ)
+
+-- What the names stand for, in order of making; the names by what they stand for; the signals, the watchers and what is kept of them; the
+-- texts of each template; the pages in order of mounting.
 pub record Machine : Type 0 where
   pub names : Names
-  pub labels : List (List ℕ)
-  pub signals : Signals
-  pub memos : Memos
+  pub labels : Labels
+  pub world : World
   pub templates : List (List Recipe)
   pub pages : List Page
 
--- nothing was made yet
-abbrev pub empty : Machine
-empty = record { names = []; labels = []; signals = no_signals; memos = no_memos; templates = []; pages = [] }
+-- nothing was made yet, and there are so many host formulas
+abbrev pub empty : ℕ → Machine
+empty hosts = record { names = []; labels = record { signals = []; watchers = [] }; world = new_world hosts; templates = []; pages = [] }
 
 -- a machine and what was told on the way to it
 pub record Told : Type 0 where
@@ -65,33 +74,52 @@ told m es = record { machine = m; entries = es }
 
 -- ---- names and numbers
 
--- the name of the signal of a number
+-- the name of what has a number
 abbrev pub label_of : List (List ℕ) → ℕ → List ℕ
 label_of labels n = unwrap_or (slice_get labels n) []
+
+-- the name of a thing
+abbrev pub label_of_thing : Labels → Thing → List ℕ
+label_of_thing labels (the_signal n) = label_of labels.signals n
+label_of_thing labels (the_watcher n) = label_of labels.watchers n
+label_of_thing labels t = []
 
 -- a formula whose slots stand for the signals of its names
 abbrev pub linked : Names → Wiring → Recipe
 linked names w = formula_recipe w.0 (map (number_of names) w.1)
 
--- what a computed is computed by
+-- what a computed is computed by: a formula, or a host formula on the signals of these names
 abbrev pub recipe_of : Names → SourceText → Recipe
 recipe_of names (source.Formula w) = linked names w
+recipe_of names (source.Host place arguments) = record { expression = host place; slots = map (number_of names) arguments }
 
 -- the texts of the template of a number
 abbrev pub texts_at : List (List Recipe) → ℕ → List Recipe
 texts_at templates t = unwrap_or (slice_get templates t) []
 
--- ---- settling
+-- ---- what is told
 
--- what is told of a run: who ran, what it read in order, and what it came to
-abbrev pub run_entry : List (List ℕ) → Run → Entry
-run_entry labels r = entry.Run (label_of labels r.name) (map (label_of labels) (names_of r.evaluation.reads)) r.evaluation.outcome
+-- of a run: who ran, what it read in order, and what it came to
+abbrev pub run_entry : Labels → Run → Entry
+run_entry labels r =
+    entry.Run (label_of labels.signals r.name) (map (label_of labels.signals) (names_of r.evaluation.reads)) r.evaluation.outcome
+
+-- of an event
+abbrev pub event_entries : Labels → Event → List Entry
+event_entries labels (ran m) = run_entry labels m.run ∷ []
+event_entries labels (notified w) = entry.Notify (label_of labels.watchers w) ∷ []
+event_entries labels (frozen ws) = entry.Error (refusal.Frozen (map (label_of labels.watchers) ws)) ∷ []
+event_entries labels (dropped_host place asks) = entry.Drop place asks ∷ []
+event_entries labels (gone t) = entry.Gone (label_of_thing labels t) ∷ []
+event_entries labels e = []
+
+-- the world has come to this, and what happened on the way is told
+abbrev pub acted : Machine → World → Told
+acted m w = told (record m { world = at_rest w }) (flat_map (event_entries m.labels) w.told)
 
 -- names are settled, and their runs are told
-abbrev pub settling : Hosts → Machine → List ℕ → Told
-settling hosts m asked =
-    let s = settled hosts m.signals m.memos asked in
-    told (record m { memos = s.memos }) (map (run_entry m.labels) s.runs)
+abbrev pub settling : Environment → Machine → List ℕ → Told
+settling env m asked = acted m (settle env asked m.world)
 
 -- ---- making
 
@@ -100,84 +128,93 @@ abbrev pub with_name : Machine → List ℕ → Kind → ℕ → Machine
 with_name m n k i = record m { names = m.names ++ (n, record { kind = k; number = i }) ∷ [] }
 
 -- a cell or a computed is made under a name, with the next number, and is not evaluated
-abbrev pub with_signal : Machine → List ℕ → Kind → Signals → Machine
+abbrev pub with_signal : Machine → List ℕ → Kind → World → Machine
 with_signal m n k w =
-    with_name (record m { labels = m.labels ++ n ∷ []; signals = w; memos = after_making m.memos (length m.labels) }) n k (length m.labels)
+    with_name (record m { labels = record (m.labels) { signals = m.labels.signals ++ n ∷ [] }; world = at_rest w }) n k m.world.made.signals
 
--- ---- sets
+-- a watcher is made under a name; it watches nothing and is waiting
+abbrev pub with_watcher : Machine → List ℕ → Bool → Machine
+with_watcher m n tries =
+    with_name (record m { labels = record (m.labels) { watchers = m.labels.watchers ++ n ∷ [] }; world = at_rest (with_new_watcher tries m.world) })
+    n kind.Watcher m.world.made.watchers
 
--- whether this is the cell's value
-abbrev pub has_value : Stands → Value → Bool
-has_value (IsCell c) v = same_value c.value v
-has_value _ v = false
-
--- a cell has another value
-abbrev pub with_set : Machine → ℕ → Value → Machine
-with_set m i v = record m { signals = with_value m.signals i v; memos = after_change m.memos i }
+-- whether a watcher's notification tries a command
+abbrev pub is_trying : Option Try → Bool
+is_trying None = false
+is_trying (Some t) = true
 
 -- ---- pages
 
 -- the HTML of a template, from scratch
-abbrev pub template_html : Hosts → Machine → ℕ → List ℕ
-template_html hosts m t = html_of hosts m.signals (texts_at m.templates t)
+abbrev pub template_html : Environment → Machine → ℕ → List ℕ
+template_html env m t = html_of env.hosts m.world.signals (texts_at m.templates t)
 
 -- the names that a template reads
-abbrev pub template_reads : Hosts → Machine → ℕ → List ℕ
-template_reads hosts m t = asked_of hosts m.signals (texts_at m.templates t)
+abbrev pub template_reads : Environment → Machine → ℕ → List ℕ
+template_reads env m t = asked_of env.hosts m.world.signals (texts_at m.templates t)
 
 -- a page with the HTML of now
-abbrev pub brought_up : Hosts → Machine → Page → Page
-brought_up hosts m p = record p { shown = template_html hosts m p.template }
+abbrev pub brought_up : Environment → Machine → Page → Page
+brought_up env m p = record p { shown = template_html env m p.template }
 
 -- a page is told exactly where its HTML differs from what was told last
-abbrev pub news_of : Hosts → Machine → Page → List Entry
-news_of hosts m p =
-    if bytes_eq (template_html hosts m p.template) p.shown then [] else entry.Page p.name (template_html hosts m p.template) ∷ []
+abbrev pub news_of : Environment → Machine → Page → List Entry
+news_of env m p =
+    if bytes_eq (template_html env m p.template) p.shown then [] else entry.Page p.name (template_html env m p.template) ∷ []
 
 -- Pages are brought up to date, in order: what each reads is settled, with the runs told, and then it is told itself. Those that were
 -- are put behind the others.
-abbrev pub update_all : Hosts → List Page → Machine → Told
-update_all hosts [] m = told m []
-update_all hosts (p ∷ ps) m =
-    let s = settling hosts m (template_reads hosts m p.template) in
-    let rest = update_all hosts ps (record (s.machine) { pages = m.pages ++ brought_up hosts m p ∷ [] }) in
-    told rest.machine (s.entries ++ news_of hosts m p ++ rest.entries)
+abbrev pub update_all : Environment → List Page → Machine → Told
+update_all env [] m = told m []
+update_all env (p ∷ ps) m =
+    let s = settling env m (template_reads env m p.template) in
+    let rest = update_all env ps (record (s.machine) { pages = m.pages ++ brought_up env m p ∷ [] }) in
+    told rest.machine (s.entries ++ news_of env m p ++ rest.entries)
 
 -- the HTML of a page as it was last brought up to date
 abbrev pub shown_of : Machine → ℕ → List ℕ
 shown_of m k = unwrap_or (option_map (λ (p : Page). p.shown) (slice_get m.pages k)) []
 
 -- a page is made of a template, and what it reads is settled
-abbrev pub mounted : Hosts → Machine → List ℕ → ℕ → Told
-mounted hosts m n t =
-    let s = settling hosts m (template_reads hosts m t) in
-    let p : Page = record { name = n; template = t; shown = template_html hosts m t } in
+abbrev pub mounted : Environment → Machine → List ℕ → ℕ → Told
+mounted env m n t =
+    let s = settling env m (template_reads env m t) in
+    let p : Page = record { name = n; template = t; shown = template_html env m t } in
     told (with_name (record (s.machine) { pages = m.pages ++ p ∷ [] }) n kind.Page (length m.pages)) (s.entries ++ entry.Page n p.shown ∷ [])
 
 -- ---- what commands do
 
--- the names of a formula are signals
+-- these names are signals
+abbrev pub uses_of_signals : List (List ℕ) → List Use
+uses_of_signals names = map (λ n. (n, need.Signal)) names
+
+-- so are the names of a formula
 abbrev pub uses_of_formula : Wiring → List Use
-uses_of_formula w = map (λ n. (n, need.Signal)) w.1
+uses_of_formula w = uses_of_signals w.1
 
 -- the names of what a computed is computed by
 abbrev pub uses_of_source : SourceText → List Use
 uses_of_source (source.Formula w) = uses_of_formula w
+uses_of_source (source.Host place arguments) = uses_of_signals arguments
 
 -- what the name of a verb has to be
 abbrev pub need_of : Verb → Need
 need_of verb.Get = need.Signal
 need_of verb.State = need.Of kind.Computed
 need_of verb.Sources = need.Of kind.Computed
+need_of verb.Pending = need.Of kind.Watcher
 need_of verb.Show = need.Of kind.Page
-need_of verb.Dispose = need.Signal
+need_of verb.Dispose = need.Thing
 
--- the names of a command in the order of its text
+-- The names of a command in the order of its text. What a watcher's notification tries isn't looked up.
 abbrev pub uses_of : Command → List Use
-uses_of (command.Cell n v) = (n, need.New) ∷ []
+uses_of (command.Cell n v equals) = (n, need.New) ∷ []
 uses_of (command.Set n v) = (n, need.Of kind.Cell) ∷ []
 uses_of (command.Computed n s) = (n, need.New) ∷ uses_of_source s
 uses_of (command.Rewire n s) = (n, need.Of kind.Computed) ∷ uses_of_source s
+uses_of (command.Watcher n tries) = (n, need.New) ∷ []
+uses_of (command.Watch n signals) = (n, need.Of kind.Watcher) ∷ uses_of_signals signals
+uses_of (command.Unwatch n s) = (n, need.Of kind.Watcher) ∷ (s, need.Signal) ∷ []
 uses_of (command.Named v n) = (n, need_of v) ∷ []
 uses_of (command.Template n texts) = (n, need.New) ∷ flat_map uses_of_formula texts
 uses_of (command.Mount n t) = (n, need.New) ∷ (t, need.Of kind.Template) ∷ []
@@ -189,35 +226,84 @@ seen_of marks.Clean = seen.Clean
 seen_of marks.Checked = seen.Checked
 seen_of marks.Dirty = seen.Dirty
 
--- what a verb does to the thing of a number, which has this name
-abbrev pub named : Hosts → Machine → Verb → List ℕ → ℕ → Told
-named hosts m verb.Get n i =
-    let s = settling hosts m (i ∷ []) in told s.machine (s.entries ++ entry.Outcome n (value_of hosts m.signals i []) ∷ [])
-named hosts m verb.State n i = told m (entry.State n (seen_of (mark_of m.signals m.memos i)) ∷ [])
-named hosts m verb.Sources n i = told m (entry.Sources n (map (label_of m.labels) (source_names (sources_of m.memos i))) ∷ [])
-named hosts m verb.Show n i = told m (entry.Page n (shown_of m i) ∷ [])
-named hosts m verb.Dispose n i =
-    told (record m { signals = without_signal m.signals i; memos = after_disposal m.memos i }) (entry.Gone n ∷ [])
+-- the names of the sources that a computed keeps
+abbrev pub source_labels : Machine → ℕ → List (List ℕ)
+source_labels m i = map (label_of m.labels.signals) (source_names (sources_of m.world.memos i))
+
+-- the names of the pending computeds of a watcher
+abbrev pub pending_labels : Machine → ℕ → List (List ℕ)
+pending_labels m i = map (label_of m.labels.signals) (pending_of m.world.signals m.world.memos (signals_at m.world.watchers i))
+
+-- a thing is disposed
+abbrev pub disposing : Environment → Machine → Option Thing → Told
+disposing env m None = told m []
+disposing env m (Some t) = acted m (dispose_thing env t m.world)
+
+-- what a verb does to what has this name and this number
+abbrev pub named : Environment → Machine → Verb → List ℕ → ℕ → Told
+named env m verb.Get n i =
+    let s = settling env m (i ∷ []) in told s.machine (s.entries ++ entry.Outcome n (value_of env.hosts m.world.signals i []) ∷ [])
+named env m verb.State n i = told m (entry.State n (seen_of (mark_of m.world.signals m.world.memos i)) ∷ [])
+named env m verb.Sources n i = told m (entry.Sources n (source_labels m i) ∷ [])
+named env m verb.Pending n i = told m (entry.Pending n (pending_labels m i) ∷ [])
+named env m verb.Show n i = told m (entry.Page n (shown_of m i) ∷ [])
+named env m verb.Dispose n i = disposing env m (thing_named (meaning_of m.names n))
 
 -- what a command does that isn't refused
-abbrev pub done : Hosts → Machine → Command → Told
-done hosts m (command.Cell n v) =
-    let cell : Cell = record { name = length m.labels; value = scalar_value v; rule = None } in
-    told (with_signal m n kind.Cell (with_cell m.signals cell)) []
-done hosts m (command.Set n v) =
-    let i = number_of m.names n in
-    told (if has_value (standing m.signals i) (scalar_value v) then m else with_set m i (scalar_value v)) []
-done hosts m (command.Computed n s) =
-    let computed : Computed = record { name = length m.labels; recipe = recipe_of m.names s } in
-    told (with_signal m n kind.Computed (with_computed m.signals computed)) []
-done hosts m (command.Rewire n s) =
-    let i = number_of m.names n in
-    told (record m { signals = with_recipe m.signals i (recipe_of m.names s); memos = after_rewiring m.memos i }) []
-done hosts m (command.Named v n) = named hosts m v n (number_of m.names n)
-done hosts m (command.Template n texts) =
+abbrev pub done : Environment → Machine → Command → Told
+done env m (command.Cell n v equals) = told (with_signal m n kind.Cell (with_new_cell (scalar_value v) equals None m.world)) []
+done env m (command.Set n v) = acted m (set_cell env (number_of m.names n) (scalar_value v) m.world)
+done env m (command.Computed n s) =
+    let r = recipe_of m.names s in told (with_signal m n kind.Computed (with_use (host_of r.expression) (with_new_computed r None m.world))) []
+done env m (command.Rewire n s) = acted m (rewire_signal (number_of m.names n) (recipe_of m.names s) m.world)
+done env m (command.Watcher n tries) = told (with_watcher m n (is_trying tries)) []
+done env m (command.Watch n signals) = acted m (changed_watcher (number_of m.names n) (armed (map (number_of m.names) signals)) m.world)
+done env m (command.Unwatch n s) = acted m (changed_watcher (number_of m.names n) (forget (number_of m.names s)) m.world)
+done env m (command.Named v n) = named env m v n (number_of m.names n)
+done env m (command.Template n texts) =
     told (with_name (record m { templates = m.templates ++ map (linked m.names) texts ∷ [] }) n kind.Template (length m.templates)) []
-done hosts m (command.Mount n t) = mounted hosts m n (number_of m.names t)
-done hosts m command.Flush = update_all hosts m.pages (record m { pages = [] })
+done env m (command.Mount n t) = mounted env m n (number_of m.names t)
+done env m command.Flush = update_all env m.pages (record m { pages = [] })
+
+-- ---- refusals
+
+-- a host formula on more signals than a formula may name; a script with such a line is refused for it before
+abbrev pub sources_refusal : SourceText → Option Refusal
+sources_refusal (source.Formula f) = None
+sources_refusal (source.Host place arguments) = if nat_lt MOST_SOURCES (length arguments) then Some (refusal.Limit limit.Sources) else None
+
+-- a command with such a one
+abbrev pub count_refusal : Command → Option Refusal
+count_refusal (command.Computed n s) = sources_refusal s
+count_refusal (command.Rewire n s) = sources_refusal s
+count_refusal c = None
+
+-- its names
+abbrev pub name_refusal : Machine → Command → Option Refusal
+name_refusal m c = first_refusal m.world.signals m.world.watchers m.names (uses_of c)
+
+-- a host formula that isn't there, and one that is used or was dropped
+abbrev pub taken_refusal : ℕ → Option HostState → Option Refusal
+taken_refusal place None = Some (refusal.HostPlace place)
+taken_refusal place (Some unused) = None
+taken_refusal place (Some s) = Some (refusal.HostTaken place)
+
+-- so it is for what a computed is computed by
+abbrev pub host_refusal : World → SourceText → Option Refusal
+host_refusal w (source.Formula f) = None
+host_refusal w (source.Host place arguments) = taken_refusal place (slice_get w.host_states place)
+
+-- an equality rule that isn't there
+abbrev pub rule_refusal : List ℕ → Option ℕ → Option Refusal
+rule_refusal slacks None = None
+rule_refusal slacks (Some place) = if nat_lt place (length slacks) then None else Some (refusal.RulePlace place)
+
+-- a command with the place of a host formula or of a rule
+abbrev pub place_refusal : List ℕ → World → Command → Option Refusal
+place_refusal slacks w (command.Cell n v equals) = rule_refusal slacks equals
+place_refusal slacks w (command.Computed n s) = host_refusal w s
+place_refusal slacks w (command.Rewire n s) = host_refusal w s
+place_refusal slacks w c = None
 
 -- one more than the most
 abbrev pub one_too_many : ℕ → ℕ → LimitWord → Option Refusal
@@ -225,21 +311,34 @@ one_too_many most count word = if nat_lt count most then None else Some (refusal
 
 -- a command that makes one thing more than there may be
 abbrev pub over_limit : Machine → Command → Option Refusal
-over_limit m (command.Cell n v) = one_too_many MOST_NODES (live_count m.signals) limit.Nodes
-over_limit m (command.Computed n s) = one_too_many MOST_NODES (live_count m.signals) limit.Nodes
+over_limit m (command.Cell n v equals) = one_too_many MOST_NODES (live_count m.world.signals) limit.Nodes
+over_limit m (command.Computed n s) = one_too_many MOST_NODES (live_count m.world.signals) limit.Nodes
+over_limit m (command.Watcher n tries) = one_too_many MOST_WATCHERS (length m.world.watchers) limit.Watchers
 over_limit m (command.Template n texts) = one_too_many MOST_TEMPLATES (length m.templates) limit.Templates
 over_limit m (command.Mount n t) = one_too_many MOST_PAGES (length m.pages) limit.Pages
 over_limit m c = None
 
--- why a command is refused, if it is: first its names, then what there would be too much of
-abbrev pub refusal_of : Machine → Command → Option Refusal
-refusal_of m c = option_or (first_refusal m.signals m.names (uses_of c)) (over_limit m c)
+-- a signal that a watcher doesn't watch
+abbrev pub unwatch_refusal : Machine → Command → Option Refusal
+unwatch_refusal m (command.Unwatch n s) =
+    if watches m.world.watchers (number_of m.names n) (number_of m.names s) then None else Some (refusal.NotWatched s)
+unwatch_refusal m c = None
+
+-- what stands behind the names: the place of a host formula or of a rule, then what there would be too much of, and last a signal that
+-- isn't watched
+abbrev pub later_refusal : List ℕ → Machine → Command → Option Refusal
+later_refusal slacks m c = option_or (place_refusal slacks m.world c) (option_or (over_limit m c) (unwatch_refusal m c))
+
+-- Why a command is refused, if it is, where the equality rules have these slacks: first how many names it has, then its names, and then
+-- what stands behind them.
+abbrev pub refusal_of : List ℕ → Machine → Command → Option Refusal
+refusal_of slacks m c = option_or (count_refusal c) (option_or (name_refusal m c) (later_refusal slacks m c))
 
 -- a refusal is told and changes nothing
 abbrev pub refused : Machine → Refusal → Told
 refused m r = told m (entry.Error r ∷ [])
 
 -- one step of the machine
-abbrev pub step : Hosts → Machine → Item → Told
-step hosts m (item.Do c) = option_map_or (refused m) (refusal_of m c) (done hosts m c)
-step hosts m (item.Refused r) = refused m r
+abbrev pub step : Environment → Machine → Item → Told
+step env m (item.Do c) = option_map_or (refused m) (refusal_of env.slacks m c) (done env m c)
+step env m (item.Refused r) = refused m r

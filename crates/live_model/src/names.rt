@@ -5,6 +5,7 @@
 pub enum Kind {
     Cell,
     Computed,
+    Watcher,
     Template,
     Page,
 }
@@ -25,4 +26,6 @@ pub enum Need {
     Of(Kind),
     /// A cell or a computed.
     Signal,
+    /// A cell, a computed or a watcher, which can be disposed.
+    Thing,
 }

@@ -6,6 +6,8 @@ mod faults;
 #[cfg(test)]
 mod graph;
 #[cfg(test)]
+mod hosts;
+#[cfg(test)]
 mod limits;
 #[cfg(test)]
 mod reading;
@@ -13,3 +15,5 @@ mod reading;
 mod rows;
 #[cfg(test)]
 mod run;
+#[cfg(test)]
+mod watchers;

@@ -141,8 +141,8 @@ fn prints_refusals(rt: HostRuntime) -> Result<(), Fail> {
         ("computed b = 1\nset b 2\nget b", "error 4 b\nb = 1\n"),
         // what this language doesn't have yet
         (
-            "computed x = host 0 (a)\ncomputed x = it.a\ncomputed x = count(a)\ncell e = 1 equals 0\ncell e = 1 in o\npending e\neffect e\nlog 1\nend\nget e",
-            "error 1 1\nerror 1 2\nerror 1 3\nerror 1 4\nerror 1 5\nerror 1 6\nerror 1 7\nerror 2 e\n",
+            "computed x = it.a\ncomputed x = count(a)\ncell e = 1 in o\neffect e\nlog 1\nend\nget e",
+            "error 1 1\nerror 1 2\nerror 1 3\nerror 1 4\nerror 2 e\n",
         ),
         (
             "cell not = 1\ncell b = -0\nget b\r",

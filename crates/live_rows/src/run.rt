@@ -1,7 +1,10 @@
 // Runs a script over a source and a sink in memory.
 ghost use Rattle.std.specs.Prelude.{◌<◌};
 
+use host_samples::{Cascade, Clamp, Pick, lend};
 use live_run::{Status, run_live};
+use sig_base::{Value, alike};
+use sig_host::{EqualsRule, HostFormula};
 use sig_io::{MemSink, MemSource};
 use std::alloc::{AllocError, Global};
 use std::test::Fail;
@@ -29,7 +32,7 @@ fn words_of(alloc: Global, line: &str) -> Result<Vec<String>, AllocError> {
     Ok(words)
 }
 
-/// Runs a script. The source gives at most `most` bytes a call and fails at the calls of `takes`; the sink takes as many
+/// Runs a script with the host formulas and the rules of the program. The source gives at most `most` bytes a call and fails at the calls of `takes`; the sink takes as many
 /// and fails at the calls of `puts`.
 pub(crate) fn run_over(
     alloc: Global,
@@ -45,7 +48,23 @@ pub(crate) fn run_over(
     let bytes = script.to_vec(alloc)?;
     let mut source = MemSource::new(bytes, most, takes);
     let mut sink = MemSink::new(alloc, 100_000, most, puts)?;
-    let status = run_live(alloc, &words, &mut source, &mut sink);
+    let mut hosts: Vec<Box<dyn HostFormula>> = Vec::new(alloc);
+    lend(&mut hosts, Box::new(alloc, Pick::new())?)?;
+    lend(&mut hosts, Box::new(alloc, Cascade::new())?)?;
+    lend(&mut hosts, Box::new(alloc, Clamp::new())?)?;
+    lend(&mut hosts, Box::new(alloc, Pick::new())?)?;
+    lend(&mut hosts, Box::new(alloc, Cascade::new())?)?;
+    lend(&mut hosts, Box::new(alloc, Clamp::new())?)?;
+    let mut rules = Vec::new(alloc);
+    rules.push(EqualsRule {
+        slack: 0,
+        call: Box::new(alloc, |a: &Value, b: &Value| alike(0, a, b))?,
+    })?;
+    rules.push(EqualsRule {
+        slack: 5,
+        call: Box::new(alloc, |a: &Value, b: &Value| alike(5, a, b))?,
+    })?;
+    let status = run_live(alloc, &words, &mut source, &mut sink, hosts, rules);
     Ok(Run {
         status,
         held: sink.held().to_vec(alloc)?,

@@ -7,4 +7,4 @@ mod running;
 
 pub use jobs::read_job;
 pub use reading::{ReadEnd, read_all};
-pub use running::{Status, run_live};
+pub use running::{MOST_HOSTS, MOST_RULES, Status, run_live};

@@ -1,16 +1,14 @@
 // The top call: a script from a source, done command by command, its output to a sink.
-ghost use Rattle.std.specs.Prelude.{◌≡◌, ◌≤◌, ◌<◌, ◌++◌, ◌⊎◌, ◌↔◌, None, List, ℕ, map, length, flat_map, string_bytes};
+ghost use Rattle.std.specs.Prelude.{◌≡◌, ◌≤◌, ◌<◌, ◌++◌, ◌⊎◌, ◌↔◌, None, List, ℕ, All, map, length, flat_map, string_bytes};
 ghost use Rattle.std.specs.Prelude.{OnOk, IfSome, IsErrOf, OnErr};
 ghost use Rattle.std.specs.Io.KnownBytes.{Appends, IsAtEnd};
 ghost use Rattle.sig_io.specs.Counts.{AppendsFront, HasCause, Rose};
 ghost use Rattle.live_cmd.specs.declared.command.Item as item;
 ghost use Rattle.live_cmd.specs.Items.{ItemsFrom};
 ghost use Rattle.live_cmd.specs.Printed.{printed};
-ghost use Rattle.signal_model.specs.Recipes.{no_hosts};
 ghost use Rattle.live_model.specs.Jobs.{job_of};
-ghost use Rattle.live_model.specs.Machine.{empty};
-ghost use Rattle.live_model.specs.Output.{is_traced_job, output_from, output_of};
-ghost use Rattle.live_run.specs.Running.{GaveTooMuch};
+ghost use Rattle.live_model.specs.Output.{is_traced_job};
+ghost use Rattle.live_run.specs.Running.{lent_output, GaveTooMuch};
 ghost use Rattle.live_run.specs.declared.running.RunEnd.TheVariants as run_end;
 
 use crate::{ReadEnd, read_all, read_job};
@@ -18,6 +16,7 @@ use live_cmd::{Entry, entry_line, next_item};
 use live_core::Live;
 use live_model::Job;
 use sig_base::{Failed, MOST_SCRIPT, NoMemory};
+use sig_host::{EqualsRule, HostFormula};
 use sig_io::{Sink, Source, put_all};
 use std::alloc::Global;
 
@@ -37,6 +36,12 @@ pub enum Status {
     /// The script has more than 4,194,304 bytes.
     TooLong = 6,
 }
+
+/// At most so many host formulas are lent.
+pub const MOST_HOSTS: usize = 16;
+
+/// At most so many equality rules are lent.
+pub const MOST_RULES: usize = 16;
 
 /// From so many bytes on, output is handed on to the sink.
 const LARGE: usize = 65_536;
@@ -88,17 +93,25 @@ fn hand_on<K: Sink>(sink: &mut K, out: &mut Vec<u8>) -> Result<(), Failed>
 }
 
 // Runs a script: reads its items one by one, does them, and prints what they tell.
-fn run_script<K: Sink>(alloc: Global, job: Job, script: &[u8], sink: &mut K) -> Result<(), RunEnd>
-    requires { length script.now ≤ MOST_SCRIPT }
+fn run_script<K: Sink>(
+    alloc: Global,
+    job: Job,
+    script: &[u8],
+    sink: &mut K,
+    hosts: Vec<Box<dyn HostFormula>>,
+    rules: Vec<EqualsRule>,
+) -> Result<(), RunEnd>
+    requires short { length script.now ≤ MOST_SCRIPT }
+    requires unasked { All (λ h. asks h ≡ 0) hosts.items }
     ensures done { OnOk result ((items : List item.Item) × ItemsFrom 1 script.now items
-        × Appends (K.held sink.old) (K.held sink.new) (output_of no_hosts job items)) }
+        × Appends (K.held sink.old) (K.held sink.new) (lent_output (map (λ h. step_of h) hosts.items) (map (λ r. r.slack) rules.items) job items)) }
     ensures front { OnErr result ((items : List item.Item) × ItemsFrom 1 script.now items
-        × AppendsFront (K.held sink.old) (K.held sink.new) (output_of no_hosts job items)) }
+        × AppendsFront (K.held sink.old) (K.held sink.new) (lent_output (map (λ h. step_of h) hosts.items) (map (λ r. r.slack) rules.items) job items)) }
     ensures write { IsErrOf result RunEnd.Write → Rose (K.faults sink.old) (K.faults sink.new) }
     ensures later { K.faults sink.old ≤ K.faults sink.new }
 {
     let trace = is_traced(job);
-    let mut live = Live::new(alloc)?;
+    let mut live = Live::new(alloc, hosts, rules)?;
     let mut out = Vec::new(alloc);
     let mut at = 0;
     let mut line: u32 = 1;
@@ -124,7 +137,10 @@ fn is_traced(job: Job) -> bool
 }
 
 /// Runs the script of the source, where the words ask for it, and writes its output to the sink. `words[0]` is the
-/// program's name.
+/// program's name. Scripts name the host formulas and the equality rules by their places in the lists.
+///
+/// It asks of its caller that there are at most `MOST_HOSTS` host formulas and `MOST_RULES` equality rules, and that no host formula
+/// was asked before.
 ///
 /// `Usage` comes exactly where the words ask for nothing; then the source is as before. `ReadFault` and `WriteFault` come only
 /// where the source or the sink failed in this call (or its count of failures stands at its last value), and `TooLong` only once
@@ -136,10 +152,15 @@ pub fn run_live<S: Source, K: Sink>(
     words: &[String],
     source: &mut S,
     sink: &mut K,
+    hosts: Vec<Box<dyn HostFormula>>,
+    rules: Vec<EqualsRule>,
 ) -> Status
-    // What is printed is the output of the plain machine over the script's items.
+    requires few_hosts { length hosts.items ≤ MOST_HOSTS }
+    requires few_rules { length rules.items ≤ MOST_RULES }
+    requires unasked { All (λ h. asks h ≡ 0) hosts.items }
+    // What is printed is the output of the plain machine over the script's items, by what the host formulas and the rules mean.
     ensures output { result ≡ Status.Done → IfSome (job_of (map string_bytes words.now)) (λ job. IfSome (S.left source.old) (λ script.
-        (items : List item.Item) × ItemsFrom 1 script items × Appends (K.held sink.old) (K.held sink.new) (output_of no_hosts job items))) }
+        (items : List item.Item) × ItemsFrom 1 script items × Appends (K.held sink.old) (K.held sink.new) (lent_output (map (λ h. step_of h) hosts.items) (map (λ r. r.slack) rules.items) job items))) }
     ensures read { result ≡ Status.Done → IsAtEnd (S.left source.new) }
     ensures fits { result ≡ Status.Done → IfSome (S.left source.old) (λ script. length script ≤ MOST_SCRIPT) }
     ensures usage { (result ≡ Status.Usage) ↔ (job_of (map string_bytes words.now) ≡ None) }
@@ -152,7 +173,7 @@ pub fn run_live<S: Source, K: Sink>(
     // A front of the output was written where it ends early.
     ensures front { (result ≡ Status.WriteFault) ⊎ (result ≡ Status.NoMemory)
         → IfSome (job_of (map string_bytes words.now)) (λ job. IfSome (S.left source.old) (λ script.
-        (items : List item.Item) × ItemsFrom 1 script items × AppendsFront (K.held sink.old) (K.held sink.new) (output_of no_hosts job items))) }
+        (items : List item.Item) × ItemsFrom 1 script items × AppendsFront (K.held sink.old) (K.held sink.new) (lent_output (map (λ h. step_of h) hosts.items) (map (λ r. r.slack) rules.items) job items))) }
     // It gives up only for memory, where neither failed and not too much came.
     ensures complete { (job_of (map string_bytes words.now) ≡ None → ⊥)
         → (Rose (S.faults source.old) (S.faults source.new) → ⊥) → (Rose (K.faults sink.old) (K.faults sink.new) → ⊥)
@@ -174,7 +195,7 @@ pub fn run_live<S: Source, K: Sink>(
         Err(ReadEnd::TooLong) => return Status::TooLong,
         Err(ReadEnd::Memory) => return Status::NoMemory,
     };
-    match run_script(alloc, job, &script, sink) {
+    match run_script(alloc, job, &script, sink, hosts, rules) {
         Ok(()) => Status::Done,
         Err(RunEnd::Memory) => Status::NoMemory,
         Err(RunEnd::Write) => Status::WriteFault,

@@ -17,9 +17,7 @@ use Rattle.signal_model.specs.Sound.{names_of}
 use Rattle.signal_model.proofs.Shared.{asked_by_steps, bad_read, good_read, unknown_less}
 use Rattle.signal_laws.specs.ReadingLaws.{joined, firsts_after, HaveOutcomes, IsReading}
 use Rattle.signal_laws.proofs.Shared.{all_snoc, firsts_append_law, reading_law}
-use Rattle.sig_nodes.specs.States as states
-use Rattle.sig_computed.specs.Notes.{Note}
-use Rattle.text_pages.specs.Hearing.{Evaluates, Heard, heard_of, Hears, WereHeard}
+use Rattle.text_pages.specs.Hearing.{Evaluates, Grows, Heard, heard_of, WereHeard}
 use Rattle.text_pages.proofs.Hearings.{still_heard}
 
 -- ---- what was heard, as the outcomes of sources
@@ -81,11 +79,11 @@ is_reading : (hosts : Hosts) (r : Recipe) (heard : Heard) (e : Evaluation) → a
 is_reading hosts r heard e is = subst (IsReading hosts r) is (reading_law hosts r (outcome_in heard)).0
 
 -- a slot's name was heard, with a value
-pub asked_more : (g h : states.Seen) (a b : List Note) (r : Recipe) (known : List Known) (reads : List Seen) (heard mid now : Heard) (slot n : ℕ) (v : Value) →
-    IsAsking r known reads heard mid → Hears g h a b mid now → ((hosts : Hosts) → recipe_answer hosts r known ≡ Read slot) →
+pub asked_more : (r : Recipe) (known : List Known) (reads : List Seen) (heard mid now : Heard) (slot n : ℕ) (v : Value) →
+    IsAsking r known reads heard mid → Grows mid now → ((hosts : Hosts) → recipe_answer hosts r known ≡ Read slot) →
     n ≡ slice_index r.slots slot → heard_of now n ≡ Some (Good v) → keys_of now ≡ joined (keys_of mid) n →
     IsAsking r (learnt known slot v) (reads ++ record { name = n; outcome = Good v } ∷ []) heard now
-asked_more g h a b r known reads heard mid now slot n v x later asks is good joins =
+asked_more r known reads heard mid now slot n v x later asks is good joins =
     let s : Seen = record { name = n; outcome = Good v } in
     record {
       rest = λ hosts source have.
@@ -117,11 +115,11 @@ pub ends_bad : (r : Recipe) (known : List Known) (reads : List Seen) (heard now 
 ends_bad r known reads heard now e x fails = ends r known reads heard now (Bad e) x (λ hosts source. stepped hosts r source known (Fail e) (fails hosts))
 
 -- or with the fault of a name that was heard
-pub ends_read : (g h : states.Seen) (a b : List Note) (r : Recipe) (known : List Known) (reads : List Seen) (heard mid now : Heard) (slot n : ℕ) (e : Fault) →
-    IsAsking r known reads heard mid → Hears g h a b mid now → ((hosts : Hosts) → recipe_answer hosts r known ≡ Read slot) →
+pub ends_read : (r : Recipe) (known : List Known) (reads : List Seen) (heard mid now : Heard) (slot n : ℕ) (e : Fault) →
+    IsAsking r known reads heard mid → Grows mid now → ((hosts : Hosts) → recipe_answer hosts r known ≡ Read slot) →
     n ≡ slice_index r.slots slot → heard_of now n ≡ Some (Bad e) → keys_of now ≡ joined (keys_of mid) n →
     Evaluates r (record { reads = reads ++ record { name = n; outcome = Bad e } ∷ []; outcome = Bad e }) heard now
-ends_read g h a b r known reads heard mid now slot n e x later asks is bad joins =
+ends_read r known reads heard mid now slot n e x later asks is bad joins =
     let s : Seen = record { name = n; outcome = Bad e } in
     let still = were_still mid later.more now reads later.all x.heard in
     record {

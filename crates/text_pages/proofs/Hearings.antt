@@ -1,5 +1,5 @@
 -- Names that are heard one after the other.
-use Rattle.std.proofs.Common.{◌≡◌, ℕ, ◌+◌, Bool, true, false, cond, List, [], ◌∷◌, ◌++◌, map, length, nat_eq, Some, None, append_assoc, eq-eqb, refl, sym, ap, subst, ◌∙◌, arith}
+use Rattle.std.proofs.Common.{◌≡◌, ℕ, suc, ◌+◌, Bool, true, false, cond, List, [], ◌∷◌, ◌++◌, map, length, nat_eq, Some, None, append_assoc, eq-eqb, refl, sym, ap, subst, ◌∙◌, arith}
 use Rattle.std.proofs.lemmas.List.{append-nil, length-map, map-append}
 use Rattle.std.specs.Map.{keys_of}
 use Rattle.sig_base.specs.declared.value.Outcome.{Outcome}
@@ -7,15 +7,17 @@ use Rattle.signal_model.specs.Recipes.{Hosts}
 use Rattle.signal_model.specs.Standing.{Signals, is_in}
 use Rattle.signal_model.specs.Values.{value_of}
 use Rattle.signal_model.specs.Memos.{Memos}
-use Rattle.signal_model.specs.Settling.{Settled, settled}
+use Rattle.signal_model.specs.Settling.{Run, Settled, settled}
+use Rattle.signal_model.specs.Asks.{Moment, asks_in, asks_of, moments}
 use Rattle.signal_model.specs.Kept.{AreKept}
 use Rattle.signal_laws.specs.ReadingLaws.{joined}
 use Rattle.signal_laws.specs.SettleLaws.{followed_by}
 use Rattle.signal_laws.proofs.Shared.{all_append, settle_both_law}
-use Rattle.sig_nodes.specs.States as states
-use Rattle.sig_computed.specs.Notes.{Note, note_of, run_note, AreNotesGiven, IsIdle, IsSettling}
-use Rattle.sig_computed.specs.declared.notes.RunNote.{RunNote}
-use Rattle.text_pages.specs.Hearing.{Heard, heard_of, AreFromScratch, Hears, IsWornBy}
+use Rattle.sig_host.specs.Hosts.{HostPlace, place_after, places_after}
+use Rattle.sig_nodes.specs.Answers.{uses_host}
+use Rattle.sig_computed.specs.Asked.{AreThere, IsAsking}
+use Rattle.sig_computed.specs.Notes.{Note, run_note, IsIdle, IsSettling}
+use Rattle.text_pages.specs.Hearing.{Heard, heard_of, AreFromScratch, CanSettle, Hears, Scene, Settles}
 
 -- ---- the outcomes that were heard
 
@@ -72,22 +74,54 @@ pub joins_last : (heard now : Heard) (n : ℕ) (o : Outcome) → heard_of heard 
 joins_last heard now n o none all =
     ap keys_of all ∙ keys_append heard ((n, o) ∷ []) ∙ sym (ap (λ b. cond b (keys_of heard) (keys_of heard ++ n ∷ [])) (not_in heard n none))
 
--- ---- what hearing leaves
+-- ---- what settling leaves
+
+-- how often runs ask, one after the other
+asks_more : (place : ℕ) (first later : List Moment) → asks_of place (first ++ later) ≡ asks_of place first + asks_of place later
+asks_more place [] later = omega arith
+asks_more place (m ∷ ms) later = let e = asks_more place ms later in let n : ℕ = asks_in place m in omega (arith, e)
+
+place_so : (place : ℕ) (first later : List Moment) (there : Bool) (n : ℕ) →
+    place_after later place (place_after first place (record { there = there; asks = n })) ≡ place_after (first ++ later) place (record { there = there; asks = n })
+place_so place first later true n =
+    let e = asks_more place first later in
+    let sum : (n + asks_of place first) + asks_of place later ≡ n + asks_of place (first ++ later) = omega (arith, e) in
+    (λ i. record { there = true; asks = sum i })
+place_so place first later false n = refl
+
+place_more : (place : ℕ) (first later : List Moment) (p : HostPlace) → place_after later place (place_after first place p) ≡ place_after (first ++ later) place p
+place_more place first later p = place_so place first later p.there p.asks
+
+-- the places after runs, and then after others
+places_more : (first later : List Moment) (place : ℕ) (ps : List HostPlace) →
+    places_after later place (places_after first place ps) ≡ places_after (first ++ later) place ps
+places_more first later place [] = refl
+places_more first later place (p ∷ ps) = (λ i. place_more place first later p i ∷ places_more first later (suc place) ps i)
+
+-- no runs
+none_asked : (place : ℕ) (there : Bool) (n : ℕ) → place_after [] place (record { there = there; asks = n }) ≡ record { there = there; asks = n }
+none_asked place true n = let e : n + 0 ≡ n = omega arith in (λ i. record { there = true; asks = e i })
+none_asked place false n = refl
+
+places_none : (place : ℕ) (ps : List HostPlace) → places_after [] place ps ≡ ps
+places_none place [] = refl
+places_none place (p ∷ ps) = (λ i. none_asked place p.there p.asks i ∷ places_none (suc place) ps i)
 
 -- settling no names leaves all as it was
-pub nothing_heard : (g : states.Seen) (notes : List Note) (heard : Heard) → IsIdle g.state → Hears g g notes notes heard heard
-nothing_heard g notes heard idle = record {
-  more = [];
-  all = sym (append-nil heard);
+pub nothing_settled : (x : Scene) (before : Hosts → Type 0) → IsIdle x.graph.state → Settles x x before before (λ _. [])
+nothing_settled x before idle = record {
+  settled = λ hosts all kept. record { memos = refl; notes = sym (append-nil x.notes) };
+  kept = λ hosts all kept. kept;
+  asked = λ hosts all kept. record { places = sym (places_none 0 x.asked) };
+  answers = λ hosts all. all;
+  there = λ place. refl;
+  most = omega arith;
   signals = refl;
   idle = idle;
   seats = refl;
   given = refl;
   named = λ given. given;
   worn = refl;
-  kept = λ hosts kept. kept;
-  settled = λ hosts kept. record { memos = refl; notes = sym (append-nil notes) };
-  scratch = λ hosts kept. tt;
 }
 
 -- settling one list of names and then another
@@ -104,64 +138,104 @@ both_settled hosts w k l m first later a b c kept one two =
           ∙ ap (λ l. a ++ l) (sym (map-append run_note s.runs t.runs)) ∙ sym (ap (λ (x : Settled). a ++ map run_note x.runs) both);
     }
 
+-- so are the asks
+both_asked : (hosts : Hosts) (w : Signals) (k l : Memos) (first later : List ℕ) (a b c : List HostPlace) → AreKept hosts w k →
+    l ≡ (settled hosts w k first).memos → IsAsking hosts w k first a b → IsAsking hosts w l later b c → IsAsking hosts w k (first ++ later) a c
+both_asked hosts w k l first later a b c kept memos one two =
+    let s : Settled = settled hosts w k first in
+    let t : Settled = settled hosts w s.memos later in
+    let both : settled hosts w k (first ++ later) ≡ followed_by s t = settle_both_law hosts w k first later kept in
+    let same : settled hosts w l later ≡ t = ap (λ x. settled hosts w x later) memos in
+    record {
+      places = two.places
+          ∙ (λ i. places_after (moments w (same i).runs) 0 (one.places i))
+          ∙ places_more (moments w s.runs) (moments w t.runs) 0 a
+          ∙ ap (λ ms. places_after ms 0 a) (sym (map-append (λ (r : Run). record { signals = w; run = r }) s.runs t.runs))
+          ∙ sym (ap (λ (x : Settled). places_after (moments w x.runs) 0 a) both);
+    }
+
+-- settling some names, and then others
+pub then_settled : (x y z : Scene) (before mid after : Hosts → Type 0) (first later : Hosts → List ℕ) → Settles x y before mid first →
+    Settles y z mid after later → Settles x z before after (λ hosts. first hosts ++ later hosts)
+then_settled x y z before mid after first later a b = record {
+  settled = λ hosts all kept.
+      both_settled hosts x.graph.state.signals x.graph.state.memos y.graph.state.memos z.graph.state.memos (first hosts) (later hosts) x.notes y.notes
+      z.notes kept (a.settled hosts all kept)
+      (subst (λ w. IsSettling hosts w y.graph.state.memos (later hosts) y.notes z.notes z.graph.state.memos) a.signals
+      (b.settled hosts (a.answers hosts all) (a.kept hosts all kept)));
+  kept = λ hosts all kept. b.kept hosts (a.answers hosts all) (a.kept hosts all kept);
+  asked = λ hosts all kept.
+      both_asked hosts x.graph.state.signals x.graph.state.memos y.graph.state.memos (first hosts) (later hosts) x.asked y.asked z.asked kept
+      (a.settled hosts all kept).memos (a.asked hosts all kept)
+      (subst (λ w. IsAsking hosts w y.graph.state.memos (later hosts) y.asked z.asked) a.signals
+      (b.asked hosts (a.answers hosts all) (a.kept hosts all kept)));
+  answers = λ hosts all. b.answers hosts (a.answers hosts all);
+  there = λ place. b.there place ∙ a.there place;
+  most = let p = a.most in let q = b.most in omega (arith, p, q);
+  signals = b.signals ∙ a.signals;
+  idle = b.idle;
+  seats = b.seats ∙ a.seats;
+  given = b.given ∙ a.given;
+  named = λ all. b.named (a.named all);
+  worn = let p = a.worn in let q = b.worn in omega (arith, p, q);
+}
+
+-- each host formula that is asked is there afterwards too
+pub still_there : (x y : Scene) (before after : Hosts → Type 0) (names : Hosts → List ℕ) → Settles x y before after names →
+    AreThere x.graph.state.signals x.asked → AreThere y.graph.state.signals y.asked
+still_there x y before after names s there = record {
+  each = λ place uses. s.there place ∙ there.each place (ap (λ w. uses_host w place) (sym s.signals) ∙ uses);
+}
+
+-- names may be settled afterwards, as they might before
+pub can_still : (x y : Scene) (before after : Hosts → Type 0) (names : Hosts → List ℕ) → Settles x y before after names → CanSettle x → CanSettle y
+can_still x y before after names s can = record {
+  idle = s.idle;
+  there = still_there x y before after names s can.there;
+  worn = let e = s.worn in let low = can.worn in omega (arith, e, low);
+  room = let e = s.most in let low = can.room in omega (arith, e, low);
+}
+
+-- ---- what hearing leaves
+
+-- hearing nothing
+pub nothing_heard : (x : Scene) (before : Hosts → Type 0) (heard : Heard) → IsIdle x.graph.state → Hears x x before before heard heard
+nothing_heard x before heard idle = record {
+  grows = record { more = []; all = sym (append-nil heard) };
+  settles = nothing_settled x before idle;
+  scratch = λ hosts all kept. tt;
+}
+
 -- hearing some names, and then others
-pub then_heard : (f g h : states.Seen) (a b c : List Note) (first mid last : Heard) → Hears f g a b first mid → Hears g h b c mid last →
-    Hears f h a c first last
-then_heard f g h a b c first mid last x y = record {
-  more = x.more ++ y.more;
-  all = y.all ∙ ap (λ p. p ++ y.more) x.all ∙ append_assoc first x.more y.more;
-  signals = y.signals ∙ x.signals;
-  idle = y.idle;
-  seats = y.seats ∙ x.seats;
-  given = y.given ∙ x.given;
-  named = λ all. y.named (x.named all);
-  worn = let p = x.worn in let q = y.worn in omega (arith, p, q);
-  kept = λ hosts kept. y.kept hosts (x.kept hosts kept);
-  settled = λ hosts kept.
-      subst (λ ns. IsSettling hosts f.state.signals f.state.memos ns a c h.state.memos) (sym (keys_append x.more y.more))
-      (both_settled hosts f.state.signals f.state.memos g.state.memos h.state.memos (keys_of x.more) (keys_of y.more) a b c kept (x.settled hosts kept)
-      (subst (λ w. IsSettling hosts w g.state.memos (keys_of y.more) b c h.state.memos) x.signals (y.settled hosts (x.kept hosts kept))));
-  scratch = λ hosts kept.
-      all_append (λ (p : ℕ × Outcome). p.1 ≡ value_of hosts f.state.signals p.0 []) x.more y.more (x.scratch hosts kept)
-      (subst (λ w. AreFromScratch hosts w y.more) x.signals (y.scratch hosts (x.kept hosts kept)));
+pub then_heard : (x y z : Scene) (before mid after : Hosts → Type 0) (first heard last : Heard) → Hears x y before mid first heard →
+    Hears y z mid after heard last → Hears x z before after first last
+then_heard x y z before mid after first heard last a b = record {
+  grows = record {
+    more = a.grows.more ++ b.grows.more;
+    all = b.grows.all ∙ ap (λ p. p ++ b.grows.more) a.grows.all ∙ append_assoc first a.grows.more b.grows.more;
+  };
+  settles = subst (λ ns. Settles x z before after (λ _. ns)) (sym (keys_append a.grows.more b.grows.more))
+      (then_settled x y z before mid after (λ _. keys_of a.grows.more) (λ _. keys_of b.grows.more) a.settles b.settles);
+  scratch = λ hosts all kept.
+      all_append (λ (p : ℕ × Outcome). p.1 ≡ value_of hosts x.graph.state.signals p.0 []) a.grows.more b.grows.more (a.scratch hosts all kept)
+      (subst (λ w. AreFromScratch hosts w b.grows.more) a.settles.signals
+      (b.scratch hosts (a.settles.answers hosts all) (a.settles.kept hosts all kept)));
 }
 
 -- what was heard is from scratch, if it was before
-pub heard_scratch : (g h : states.Seen) (a b : List Note) (heard now : Heard) (hosts : Hosts) → Hears g h a b heard now →
-    AreKept hosts g.state.signals g.state.memos → AreFromScratch hosts g.state.signals heard → AreFromScratch hosts g.state.signals now
-heard_scratch g h a b heard now hosts x kept all =
-    subst (AreFromScratch hosts g.state.signals) (sym x.all)
-    (all_append (λ (p : ℕ × Outcome). p.1 ≡ value_of hosts g.state.signals p.0 []) heard x.more all (x.scratch hosts kept))
-
--- the bound that the graph was worn by goes with the notes
-pub worn_on : (g h : states.Seen) (a b : List Note) (heard now : Heard) → Hears g h a b heard now → IsWornBy (length a) g.state → IsWornBy (length b) h.state
-worn_on g h a b heard now x low = let e = x.worn in omega (arith, e, low)
+pub heard_scratch : (x y : Scene) (before after : Hosts → Type 0) (heard now : Heard) (hosts : Hosts) → Hears x y before after heard now → before hosts →
+    AreKept hosts x.graph.state.signals x.graph.state.memos → AreFromScratch hosts x.graph.state.signals heard →
+    AreFromScratch hosts x.graph.state.signals now
+heard_scratch x y before after heard now hosts h all kept scratch =
+    subst (AreFromScratch hosts x.graph.state.signals) (sym h.grows.all)
+    (all_append (λ (p : ℕ × Outcome). p.1 ≡ value_of hosts x.graph.state.signals p.0 []) heard h.grows.more scratch (h.scratch hosts all kept))
 
 -- settling one name, which is put behind those before
-pub record IsHeard (g h : states.Seen) (a b : List RunNote) (n : ℕ) (o : Outcome) : Type 0 where
-  pub value : (hosts : Hosts) → AreKept hosts g.state.signals g.state.memos → o ≡ value_of hosts g.state.signals n []
-  pub settled : (hosts : Hosts) → AreKept hosts g.state.signals g.state.memos →
-      IsSettling hosts g.state.signals g.state.memos (n ∷ []) (map note_of a) (map note_of b) h.state.memos
-  pub kept : (hosts : Hosts) → AreKept hosts g.state.signals g.state.memos → AreKept hosts h.state.signals h.state.memos
-  pub signals : h.state.signals ≡ g.state.signals
-  pub idle : IsIdle h.state
-  pub seats : h.seats ≡ g.seats
-  pub given : h.given ≡ g.given
-  pub named : AreNotesGiven g (map note_of a) → AreNotesGiven h (map note_of b)
-  pub worn : h.state.worn + length a ≡ g.state.worn + length b
-
-pub one_heard : (g h : states.Seen) (a b : List RunNote) (heard now : Heard) (n : ℕ) (o : Outcome) → IsHeard g h a b n o →
-    now ≡ heard ++ (n, o) ∷ [] → Hears g h (map note_of a) (map note_of b) heard now
-one_heard g h a b heard now n o x all = record {
-  more = (n, o) ∷ [];
-  all = all;
-  signals = x.signals;
-  idle = x.idle;
-  seats = x.seats;
-  given = x.given;
-  named = x.named;
-  worn = let p = x.worn in let q = length-map a note_of in let r = length-map b note_of in omega (arith, p, q, r);
-  kept = x.kept;
-  settled = x.settled;
-  scratch = λ hosts kept. (x.value hosts kept, tt);
+pub one_heard : (x y : Scene) (before after : Hosts → Type 0) (heard now : Heard) (n : ℕ) (o : Outcome) → Settles x y before after (λ _. n ∷ []) →
+    ((hosts : Hosts) → before hosts → AreKept hosts x.graph.state.signals x.graph.state.memos → o ≡ value_of hosts x.graph.state.signals n []) →
+    now ≡ heard ++ (n, o) ∷ [] → Hears x y before after heard now
+one_heard x y before after heard now n o s value all = record {
+  grows = record { more = (n, o) ∷ []; all = all };
+  settles = s;
+  scratch = λ hosts answers kept. (value hosts answers kept, tt);
 }

@@ -8,10 +8,8 @@ use Rattle.signal_model.specs.Recipes.{Hosts, Recipe}
 use Rattle.signal_model.specs.Sound.{names_of}
 use Rattle.signal_laws.specs.ReadingLaws.{firsts_after}
 use Rattle.signal_laws.proofs.Shared.{all_snoc, firsts_append_law}
-use Rattle.sig_nodes.specs.States as states
-use Rattle.sig_computed.specs.Notes.{Note}
 use Rattle.text_pages.specs.Shown.{html_in, AreLines, IsLine, Line}
-use Rattle.text_pages.specs.Hearing.{AreLinesOn, Heard, Hears, IsLineOn, names_in, WereHeard}
+use Rattle.text_pages.specs.Hearing.{AreLinesOn, Grows, Heard, IsLineOn, names_in, WereHeard}
 use Rattle.text_pages.proofs.Askings.{were_still}
 
 -- ---- a line of each text
@@ -66,9 +64,9 @@ pub no_lines : (heard : Heard) → AreLinesOn [] heard heard []
 no_lines heard = record { lines = tt; heard = tt; names = refl }
 
 -- one more line
-pub lines_more : (g h : states.Seen) (a b : List Note) (rs : List Recipe) (r : Recipe) (ls : List Line) (l : Line) (earlier mid now : Heard) →
-    AreLinesOn rs earlier mid ls → Hears g h a b mid now → IsLineOn r mid now l → AreLinesOn (rs ++ r ∷ []) earlier now (ls ++ l ∷ [])
-lines_more g h a b rs r ls l earlier mid now x after is = record {
+pub lines_more : (rs : List Recipe) (r : Recipe) (ls : List Line) (l : Line) (earlier mid now : Heard) →
+    AreLinesOn rs earlier mid ls → Grows mid now → IsLineOn r mid now l → AreLinesOn (rs ++ r ∷ []) earlier now (ls ++ l ∷ [])
+lines_more rs r ls l earlier mid now x after is = record {
   lines = are_more rs ls r l x.lines is.line;
   heard = all_snoc (λ (y : Line). WereHeard now y.reads) ls l (all_still mid after.more now ls after.all x.heard) is.heard;
   names = is.names ∙ ap (λ ns. firsts_after ns (names_of l.reads)) x.names
@@ -78,14 +76,14 @@ lines_more g h a b rs r ls l earlier mid now x after is = record {
 
 -- ---- a text at its place
 
-pub record IsNextText (g h : states.Seen) (a b : List Note) (rs : List Recipe) (place : ℕ) (r : Recipe) (l : Line) (earlier mid now : Heard) : Type 0 where
+pub record IsNextText (rs : List Recipe) (place : ℕ) (r : Recipe) (l : Line) (earlier mid now : Heard) : Type 0 where
   pub inside : place < length rs
   pub text : r ≡ get_or rs place r
-  pub after : Hears g h a b mid now
+  pub grows : Grows mid now
   pub line : IsLineOn r mid now l
 
-module _ (g h : states.Seen) (a b : List Note) (rs : List Recipe) (place : ℕ) (r : Recipe) (l : Line) (earlier mid now : Heard)
-    (x : IsNextText g h a b rs place r l earlier mid now) where
+module _ (rs : List Recipe) (place : ℕ) (r : Recipe) (l : Line) (earlier mid now : Heard)
+    (x : IsNextText rs place r l earlier mid now) where
   texts_to : take (place + 1) rs ≡ take place rs ++ r ∷ []
   texts_to = take_more rs place r x.inside ∙ ap (λ y. take place rs ++ y ∷ []) (sym x.text)
 
@@ -93,7 +91,7 @@ module _ (g h : states.Seen) (a b : List Note) (rs : List Recipe) (place : ℕ) 
   pub line_put : (ls next : List Line) → AreLinesOn (take place rs) earlier mid ls → next ≡ ls ++ l ∷ [] →
       AreLinesOn (take (place + 1) rs) earlier now next
   line_put ls next so is = subst (λ y. y) (λ i. AreLinesOn (sym texts_to i) earlier now (sym is i))
-      (lines_more g h a b (take place rs) r ls l earlier mid now so x.after x.line)
+      (lines_more (take place rs) r ls l earlier mid now so x.grows x.line)
 
   -- its line is put in the place of the one before
   pub line_set : (ls : List Line) → place < length ls → AreLinesOn (take place rs) earlier mid (take place ls) →

@@ -11,11 +11,12 @@ use Rattle.signal_model.specs.Sound.{names_of}
 use Rattle.signal_model.specs.Kept.{AreKept}
 use Rattle.signal_laws.specs.ReadingLaws.{firsts_after, HaveOutcomes}
 use Rattle.signal_laws.proofs.Shared.{same_reads_law}
-use Rattle.sig_nodes.specs.States as states
-use Rattle.sig_computed.specs.Notes.{Note, IsSettling}
+use Rattle.signal_model.specs.Memos.{Memos}
+use Rattle.sig_computed.specs.Asked.{IsAsking}
+use Rattle.sig_computed.specs.Notes.{IsSettling}
 use Rattle.live_model.specs.Pages.{asked_of, html_of, node_html, reads_in}
 use Rattle.text_pages.specs.Shown.{html_in, AreLines, IsLine, Line}
-use Rattle.text_pages.specs.Hearing.{AreFromScratch, AreLinesOn, Heard, heard_of, Hears, names_in, WereHeard}
+use Rattle.text_pages.specs.Hearing.{AreFromScratch, AreLinesOn, Heard, heard_of, Hears, names_in, Scene, Settles, WereHeard}
 use Rattle.text_pages.proofs.Hearings.{heard_scratch}
 
 module _ (hosts : Hosts) (w : Signals) where
@@ -62,20 +63,45 @@ module _ (hosts : Hosts) (w : Signals) where
       ap (λ ns. ns ++ names_in ls) (ap (λ (x : Evaluation). names_of x.reads) (sym e))
       ∙ ap (λ ns. reads_in hosts w r ++ ns) (lines_names heard rs ls all lines.1 were.1)
 
--- a page of these lines shows, and settles, what it does from scratch
-pub record IsRight (hosts : Hosts) (g h : states.Seen) (a b : List Note) (texts : List Recipe) (ls : List Line) : Type 0 where
-  pub html : html_in ls ≡ html_of hosts g.state.signals texts
-  pub settled : IsSettling hosts g.state.signals g.state.memos (asked_of hosts g.state.signals texts) a b h.state.memos
+-- a page of these lines shows what it does from scratch, and it has settled these names
+pub record IsRight (hosts : Hosts) (w : Signals) (texts : List Recipe) (ls : List Line) (asked : List ℕ) : Type 0 where
+  pub html : html_in ls ≡ html_of hosts w texts
+  pub names : asked ≡ asked_of hosts w texts
 
-pub page_right : (hosts : Hosts) (g h : states.Seen) (a b : List Note) (texts : List Recipe) (ls : List Line) (first now : Heard) → first ≡ [] →
-    AreLinesOn texts first now ls → Hears g h a b first now → AreKept hosts g.state.signals g.state.memos → IsRight hosts g h a b texts ls
-page_right hosts g h a b texts ls first now none on x kept =
-    let w : Signals = g.state.signals in
-    let all : AreFromScratch hosts w now = heard_scratch g h a b first now hosts x kept (subst (AreFromScratch hosts w) (sym none) tt) in
-    let names : keys_of x.more ≡ asked_of hosts w texts =
-    ap keys_of (sym (x.all ∙ ap (λ f. f ++ x.more) none)) ∙ on.names
-    ∙ (λ i. firsts_after (keys_of (none i)) (lines_names hosts w now texts ls all on.lines on.heard i)) in
+pub page_right : (hosts : Hosts) (x y : Scene) (before after : Hosts → Type 0) (texts : List Recipe) (ls : List Line) (first now : Heard) → first ≡ [] →
+    AreLinesOn texts first now ls → (h : Hears x y before after first now) → before hosts → AreKept hosts x.graph.state.signals x.graph.state.memos →
+    IsRight hosts x.graph.state.signals texts ls (keys_of h.grows.more)
+page_right hosts x y before after texts ls first now none on h answers kept =
+    let w : Signals = x.graph.state.signals in
+    let all : AreFromScratch hosts w now = heard_scratch x y before after first now hosts h answers kept (subst (AreFromScratch hosts w) (sym none) tt) in
     record {
       html = lines_html hosts w now texts ls all on.lines on.heard;
-      settled = subst (λ ns. IsSettling hosts w g.state.memos ns a b h.state.memos) names (x.settled hosts kept);
+      names = ap keys_of (sym (h.grows.all ∙ ap (λ f. f ++ h.grows.more) none)) ∙ on.names
+          ∙ (λ i. firsts_after (keys_of (none i)) (lines_names hosts w now texts ls all on.lines on.heard i));
+    }
+
+-- and so are what it keeps, notes and asks
+pub page_settled : (x y : Scene) (before after : Hosts → Type 0) (texts : List Recipe) (ls : List Line) (first now : Heard) → first ≡ [] →
+    AreLinesOn texts first now ls → Hears x y before after first now → Settles x y before after (λ hosts. asked_of hosts x.graph.state.signals texts)
+page_settled x y before after texts ls first now none on h =
+    let s = h.settles in
+    let w : Signals = x.graph.state.signals in
+    let k : Memos = x.graph.state.memos in
+    record {
+      settled = λ hosts all kept.
+          subst (λ ns. IsSettling hosts w k ns x.notes y.notes y.graph.state.memos) (page_right hosts x y before after texts ls first now none on h all kept).names
+          (s.settled hosts all kept);
+      kept = s.kept;
+      asked = λ hosts all kept.
+          subst (λ ns. IsAsking hosts w k ns x.asked y.asked) (page_right hosts x y before after texts ls first now none on h all kept).names
+          (s.asked hosts all kept);
+      answers = s.answers;
+      there = s.there;
+      most = s.most;
+      signals = s.signals;
+      idle = s.idle;
+      seats = s.seats;
+      given = s.given;
+      named = s.named;
+      worn = s.worn;
     }

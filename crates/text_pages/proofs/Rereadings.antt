@@ -8,10 +8,8 @@ use Rattle.signal_model.specs.Values.{Seen, Evaluation, asked_from}
 use Rattle.signal_model.specs.Sound.{names_of}
 use Rattle.signal_laws.specs.ReadingLaws.{joined, firsts_after}
 use Rattle.signal_laws.proofs.Shared.{all_snoc, firsts_front_law, next_read_law, same_reads_law}
-use Rattle.sig_nodes.specs.States as states
-use Rattle.sig_computed.specs.Notes.{Note}
 use Rattle.text_pages.specs.Shown.{Line, IsLine}
-use Rattle.text_pages.specs.Hearing.{AreHeardAgain, AreSame, AreSameBefore, Heard, heard_of, Hears, IsLineOn, WereHeard}
+use Rattle.text_pages.specs.Hearing.{AreHeardAgain, AreSame, AreSameBefore, Grows, Heard, heard_of, IsLineOn, WereHeard}
 use Rattle.text_pages.proofs.Askings.{have_heard, names_more, outcome_in, were_still}
 
 -- none was heard yet
@@ -19,21 +17,21 @@ pub none_again : (heard : Heard) → AreSame [] heard heard
 none_again heard = record { heard = tt; names = refl }
 
 -- one more is heard
-pub record IsNext (g h : states.Seen) (a b : List Note) (reads : List Seen) (place : ℕ) (s : Seen) (earlier mid now : Heard) : Type 0 where
+pub record IsNext (reads : List Seen) (place : ℕ) (s : Seen) (earlier mid now : Heard) : Type 0 where
   pub inside : place < length reads
   pub read : s ≡ get_or reads place s
   pub same : AreSame (take place reads) earlier mid
-  pub after : Hears g h a b mid now
+  pub grows : Grows mid now
   pub joins : keys_of now ≡ joined (keys_of mid) s.name
 
-module _ (g h : states.Seen) (a b : List Note) (reads : List Seen) (place : ℕ) (s : Seen) (earlier mid now : Heard)
-    (x : IsNext g h a b reads place s earlier mid now) where
+module _ (reads : List Seen) (place : ℕ) (s : Seen) (earlier mid now : Heard)
+    (x : IsNext reads place s earlier mid now) where
   -- the reads as far as this one
   up_to : take (place + 1) reads ≡ take place reads ++ s ∷ []
   up_to = take_more reads place s x.inside ∙ ap (λ y. take place reads ++ y ∷ []) (sym x.read)
 
   before_still : WereHeard now (take place reads)
-  before_still = were_still mid x.after.more now (take place reads) x.after.all x.same.heard
+  before_still = were_still mid x.grows.more now (take place reads) x.grows.all x.same.heard
 
   names_next : keys_of now ≡ firsts_after (keys_of earlier) (names_of (take (place + 1) reads))
   names_next =
@@ -77,9 +75,9 @@ names_anew r old next now count was is inside front all =
     ∙ ap (λ (x : Evaluation). take (count + 1) (names_of x.reads)) whole
 
 -- a line whose names weren't all the same, and then one that is made anew
-pub anew : (g h : states.Seen) (a b : List Note) (r : Recipe) (old next : Line) (earlier mid now : Heard) → ((hosts : Hosts) → IsLine hosts r old) →
-    AreSameBefore old.reads earlier mid → Hears g h a b mid now → IsLineOn r mid now next → IsLineOn r earlier now next
-anew g h a b r old next earlier mid now was x after is =
+pub anew : (r : Recipe) (old next : Line) (earlier mid now : Heard) → ((hosts : Hosts) → IsLine hosts r old) →
+    AreSameBefore old.reads earlier mid → Grows mid now → IsLineOn r mid now next → IsLineOn r earlier now next
+anew r old next earlier mid now was x after is =
     let count : ℕ = x.count in
     let front : WereHeard now (take count old.reads) = were_still mid after.more now (take count old.reads) after.all x.heard in
     record {

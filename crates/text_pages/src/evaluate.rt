@@ -1,13 +1,13 @@
 // The evaluation of a text on what is heard of the names that it asks for.
-ghost use Rattle.std.specs.Prelude.{◌≡◌, ◌<◌, ◌++◌, ◌∷◌, [], map, length, slice_index, IfOk, OnOk};
+ghost use Rattle.std.specs.Prelude.{◌≡◌, ◌<◌, ◌++◌, ◌∷◌, [], length, slice_index, IfOk, OnOk};
 ghost use Rattle.signal_model.specs.Values.{learnt};
 ghost use Rattle.sig_base.specs.declared.value.Outcome.TheVariants.{Bad, Good};
-ghost use Rattle.sig_computed.specs.Notes.{note_of, IsIdle};
-ghost use Rattle.text_pages.specs.Hearing.{Evaluates, Hears, IsWornBy};
+ghost use Rattle.text_pages.specs.Hearing.{scene, CanSettle, Evaluates, Hears};
 
 use crate::heard::{Heard, hear};
 use sig_base::{Fault, Known, NoMemory, NodeId, Outcome, Step, Value};
 use sig_computed::RunNote;
+use sig_host::{Lent, Shelf};
 use sig_nodes::Graph;
 use signal_model::Linked;
 use std::alloc::Global;
@@ -85,16 +85,19 @@ fn failed(reads: Vec<Read>, id: NodeId, fault: Fault) -> Result<Evaluated, NoMem
 pub(crate) fn evaluate(
     alloc: Global,
     graph: &mut Graph,
+    shelf: &mut Shelf,
     heard: &mut Heard,
     text: &Linked,
     notes: &mut Vec<RunNote>,
 ) -> Result<Evaluated, NoMemory>
-    requires idle { IsIdle graph.old.state }
-    requires worn { IsWornBy (length notes.old.items) graph.old.state }
+    requires can { CanSettle (scene graph.old (⟦<Shelf as Lent>⟧.asked shelf.old) notes.old.items) }
+    requires counted { ⟦<Shelf as Lent>⟧.counted shelf.old }
     ensures evaluated { IfOk result (λ e. Evaluates text.now e heard.old heard.new) }
-    ensures after { OnOk result (Hears graph.old graph.new (map note_of notes.old.items) (map note_of notes.new.items) heard.old heard.new) }
-    ensures idle { OnOk result (IsIdle graph.new.state) }
-    ensures worn { OnOk result (IsWornBy (length notes.new.items) graph.new.state) }
+    ensures after { OnOk result (Hears
+        (scene graph.old (⟦<Shelf as Lent>⟧.asked shelf.old) notes.old.items) (scene graph.new (⟦<Shelf as Lent>⟧.asked shelf.new) notes.new.items)
+        (λ hosts. ⟦<Shelf as Lent>⟧.answers hosts shelf.old) (λ hosts. ⟦<Shelf as Lent>⟧.answers hosts shelf.new) heard.old heard.new) }
+    ensures can { OnOk result (CanSettle (scene graph.new (⟦<Shelf as Lent>⟧.asked shelf.new) notes.new.items)) }
+    ensures counted { OnOk result (⟦<Shelf as Lent>⟧.counted shelf.new) }
 {
     let mut known: Vec<Known> = Vec::new(alloc);
     let mut reads: Vec<Read> = Vec::new(alloc);
@@ -115,7 +118,7 @@ pub(crate) fn evaluate(
             }
         };
         let id = slot_name(text, slot);
-        match hear(graph, heard, id, notes)? {
+        match hear(graph, shelf, heard, id, notes)? {
             Outcome::Good(value) => learn(&mut known, &mut reads, slot, id, value)?,
             Outcome::Bad(fault) => {
                 let evaluated = failed(reads, id, fault)?;

@@ -1,13 +1,13 @@
 // What is heard of names while a page is brought up to date: each of them is settled once.
-ghost use Rattle.std.specs.Prelude.{◌≡◌, ◌++◌, ◌∷◌, [], map, length, None, Some, IfOk, OnOk};
+ghost use Rattle.std.specs.Prelude.{◌≡◌, ◌++◌, ◌∷◌, [], None, Some, IfOk, OnOk};
 ghost use Rattle.std.specs.Map.{keys_of};
 ghost use Rattle.signal_laws.specs.ReadingLaws.{joined};
-ghost use Rattle.sig_computed.specs.Notes.{note_of, IsIdle};
-ghost use Rattle.text_pages.specs.Hearing.{heard_of, Hears, IsWornBy};
+ghost use Rattle.text_pages.specs.Hearing.{heard_of, scene, CanSettle, Hears};
 
 use indexmap::IndexMap;
 use sig_base::{NoMemory, NodeId, Outcome};
 use sig_computed::{RunNote, settle};
+use sig_host::{Lent, Shelf};
 use sig_nodes::Graph;
 use std::alloc::Global;
 use std::marker::Model;
@@ -59,23 +59,26 @@ impl Heard {
 /// Hears a name: the first time it is settled.
 pub(crate) fn hear(
     graph: &mut Graph,
+    shelf: &mut Shelf,
     heard: &mut Heard,
     id: NodeId,
     notes: &mut Vec<RunNote>,
 ) -> Result<Outcome, NoMemory>
-    requires idle { IsIdle graph.old.state }
-    requires worn { IsWornBy (length notes.old.items) graph.old.state }
+    requires can { CanSettle (scene graph.old (⟦<Shelf as Lent>⟧.asked shelf.old) notes.old.items) }
+    requires counted { ⟦<Shelf as Lent>⟧.counted shelf.old }
     ensures outcome { IfOk result (λ o. heard_of heard.new id ≡ Some o) }
     ensures names { OnOk result (keys_of heard.new ≡ joined (keys_of heard.old) id) }
-    ensures after { OnOk result (Hears graph.old graph.new (map note_of notes.old.items) (map note_of notes.new.items) heard.old heard.new) }
-    ensures idle { OnOk result (IsIdle graph.new.state) }
-    ensures worn { OnOk result (IsWornBy (length notes.new.items) graph.new.state) }
+    ensures after { OnOk result (Hears
+        (scene graph.old (⟦<Shelf as Lent>⟧.asked shelf.old) notes.old.items) (scene graph.new (⟦<Shelf as Lent>⟧.asked shelf.new) notes.new.items)
+        (λ hosts. ⟦<Shelf as Lent>⟧.answers hosts shelf.old) (λ hosts. ⟦<Shelf as Lent>⟧.answers hosts shelf.new) heard.old heard.new) }
+    ensures can { OnOk result (CanSettle (scene graph.new (⟦<Shelf as Lent>⟧.asked shelf.new) notes.new.items)) }
+    ensures counted { OnOk result (⟦<Shelf as Lent>⟧.counted shelf.new) }
 {
     let _count = notes.len();
     if let Some(outcome) = heard.outcome(id)? {
         return Ok(outcome);
     }
-    let outcome = settle(graph, id, notes)?;
+    let outcome = settle(graph, shelf, id, notes)?;
     heard.put(id, outcome.copy()?)?;
     Ok(outcome)
 }

@@ -1,18 +1,21 @@
 // Pages of texts.
-ghost use Rattle.std.specs.Prelude.{◌≡◌, ◌+◌, ◌<◌, ◌^◌, false, not, map, length, IfOk, OnOk};
+ghost use Rattle.std.specs.Prelude.{◌≡◌, ◌<◌, ◌^◌, false, not, IfOk, OnOk};
 ghost use Rattle.std.specs.Str.{bytes_eq};
 ghost use Rattle.signal_model.specs.Recipes.{Hosts};
 ghost use Rattle.signal_model.specs.Kept.{AreKept};
-ghost use Rattle.sig_computed.specs.Notes.{note_of, AreNotesGiven, IsIdle, IsSettling};
+ghost use Rattle.sig_host.specs.Hosts.{most_asked};
+ghost use Rattle.sig_computed.specs.Asked.{AreThere};
+ghost use Rattle.sig_computed.specs.Notes.{IsIdle};
 ghost use Rattle.live_model.specs.Pages.{asked_of, html_of};
 ghost use Rattle.text_pages.specs.Shown.{html_in, AreLines, Shows};
-ghost use Rattle.text_pages.specs.Hearing.{AreLinesOn, Hears, IsWornBy};
+ghost use Rattle.text_pages.specs.Hearing.{scene, AreLinesOn, CanSettle, Hears, Settles};
 
 use crate::heard::Heard;
 use crate::line::{Line, bring_up, make};
 use live_cmd::PageBytes;
 use sig_base::NoMemory;
 use sig_computed::RunNote;
+use sig_host::{Lent, Shelf};
 use sig_nodes::Graph;
 use signal_model::Linked;
 use std::alloc::Global;
@@ -38,18 +41,22 @@ impl Model for TextPage {
 fn make_all(
     alloc: Global,
     graph: &mut Graph,
+    shelf: &mut Shelf,
     heard: &mut Heard,
     texts: &[Linked],
     notes: &mut Vec<RunNote>,
 ) -> Result<Vec<Line>, NoMemory>
-    requires idle { IsIdle graph.old.state }
-    requires worn { IsWornBy (length notes.old.items) graph.old.state }
+    requires can { CanSettle (scene graph.old (⟦<Shelf as Lent>⟧.asked shelf.old) notes.old.items) }
+    requires counted { ⟦<Shelf as Lent>⟧.counted shelf.old }
     ensures lines { IfOk result (λ lines. AreLinesOn texts.now heard.old heard.new lines.items) }
-    ensures after { OnOk result (Hears graph.old graph.new (map note_of notes.old.items) (map note_of notes.new.items) heard.old heard.new) }
+    ensures after { OnOk result (Hears
+        (scene graph.old (⟦<Shelf as Lent>⟧.asked shelf.old) notes.old.items) (scene graph.new (⟦<Shelf as Lent>⟧.asked shelf.new) notes.new.items)
+        (λ hosts. ⟦<Shelf as Lent>⟧.answers hosts shelf.old) (λ hosts. ⟦<Shelf as Lent>⟧.answers hosts shelf.new) heard.old heard.new) }
+    ensures counted { OnOk result (⟦<Shelf as Lent>⟧.counted shelf.new) }
 {
     let mut lines = Vec::new(alloc);
     for text in texts {
-        lines.push(make(alloc, graph, heard, text, notes)?)?;
+        lines.push(make(alloc, graph, shelf, heard, text, notes)?)?;
     }
     Ok(lines)
 }
@@ -58,21 +65,25 @@ fn make_all(
 fn bring_all_up(
     alloc: Global,
     graph: &mut Graph,
+    shelf: &mut Shelf,
     heard: &mut Heard,
     lines: &mut [Line],
     texts: &[Linked],
     notes: &mut Vec<RunNote>,
 ) -> Result<bool, NoMemory>
-    requires idle { IsIdle graph.old.state }
-    requires worn { IsWornBy (length notes.old.items) graph.old.state }
+    requires can { CanSettle (scene graph.old (⟦<Shelf as Lent>⟧.asked shelf.old) notes.old.items) }
+    requires counted { ⟦<Shelf as Lent>⟧.counted shelf.old }
     requires lines { AreLines texts.now lines.old }
     ensures lines { OnOk result (AreLinesOn texts.now heard.old heard.new lines.new) }
     ensures same { IfOk result (λ news. news ≡ false → html_in lines.new ≡ html_in lines.old) }
-    ensures after { OnOk result (Hears graph.old graph.new (map note_of notes.old.items) (map note_of notes.new.items) heard.old heard.new) }
+    ensures after { OnOk result (Hears
+        (scene graph.old (⟦<Shelf as Lent>⟧.asked shelf.old) notes.old.items) (scene graph.new (⟦<Shelf as Lent>⟧.asked shelf.new) notes.new.items)
+        (λ hosts. ⟦<Shelf as Lent>⟧.answers hosts shelf.old) (λ hosts. ⟦<Shelf as Lent>⟧.answers hosts shelf.new) heard.old heard.new) }
+    ensures counted { OnOk result (⟦<Shelf as Lent>⟧.counted shelf.new) }
 {
     let mut news = false;
     for (place, text) in texts.iter().enumerate() {
-        let other = bring_up(alloc, graph, heard, &mut lines[place], text, notes)?;
+        let other = bring_up(alloc, graph, shelf, heard, &mut lines[place], text, notes)?;
         news |= other;
     }
     Ok(news)
@@ -99,59 +110,69 @@ impl TextPage {
     }
 
     /// A page of these texts, up to date: the names that they read are settled, each once, in the order in which they are first read.
-    /// Its bytes are those from scratch. Signals stay, and nothing is being evaluated before and after. Without memory the graph may
-    /// only be dropped.
+    /// Its bytes are those from scratch. Host formulas are asked exactly as the runs of this call ask them. Signals stay, and nothing is
+    /// being evaluated before and after. Without memory graph and shelf may only be dropped.
     pub fn mount(
         graph: &mut Graph,
+        shelf: &mut Shelf,
         texts: &[Linked],
         notes: &mut Vec<RunNote>,
     ) -> Result<TextPage, NoMemory>
         requires idle { IsIdle graph.old.state }
         requires worn { graph.old.state.worn < 2 ^ 126 }
+        requires counted { ⟦<Shelf as Lent>⟧.counted shelf.old }
+        requires there { AreThere graph.old.state.signals (⟦<Shelf as Lent>⟧.asked shelf.old) }
+        requires room { most_asked (⟦<Shelf as Lent>⟧.asked shelf.old) < 2 ^ 126 }
         ensures shows { IfOk result (λ page. Shows texts.now page) }
-        ensures html { (hosts : Hosts) → AreKept hosts graph.old.state.signals graph.old.state.memos → IfOk result (λ page. page.html ≡ html_of hosts graph.old.state.signals texts.now) }
-        ensures settled { (hosts : Hosts) → AreKept hosts graph.old.state.signals graph.old.state.memos → OnOk result (IsSettling hosts graph.old.state.signals graph.old.state.memos (asked_of hosts graph.old.state.signals texts.now) (map note_of notes.old.items) (map note_of notes.new.items) graph.new.state.memos) }
-        ensures kept { (hosts : Hosts) → AreKept hosts graph.old.state.signals graph.old.state.memos → OnOk result (AreKept hosts graph.new.state.signals graph.new.state.memos) }
-        ensures signals { OnOk result (graph.new.state.signals ≡ graph.old.state.signals) }
-        ensures idle { OnOk result (IsIdle graph.new.state) }
-        ensures seats { OnOk result (graph.new.seats ≡ graph.old.seats) }
-        ensures given { OnOk result (graph.new.given ≡ graph.old.given) }
-        ensures named { OnOk result (AreNotesGiven graph.old (map note_of notes.old.items) → AreNotesGiven graph.new (map note_of notes.new.items)) }
-        ensures worn { OnOk result (graph.new.state.worn + length notes.old.items ≡ graph.old.state.worn + length notes.new.items) }
+        ensures html { (hosts : Hosts) → ⟦<Shelf as Lent>⟧.answers hosts shelf.old → AreKept hosts graph.old.state.signals graph.old.state.memos → IfOk result (λ page. page.html ≡ html_of hosts graph.old.state.signals texts.now) }
+        ensures settles { OnOk result (Settles
+            (scene graph.old (⟦<Shelf as Lent>⟧.asked shelf.old) notes.old.items) (scene graph.new (⟦<Shelf as Lent>⟧.asked shelf.new) notes.new.items)
+            (λ hosts. ⟦<Shelf as Lent>⟧.answers hosts shelf.old) (λ hosts. ⟦<Shelf as Lent>⟧.answers hosts shelf.new)
+            (λ hosts. asked_of hosts graph.old.state.signals texts.now)) }
+        ensures counted { OnOk result (⟦<Shelf as Lent>⟧.counted shelf.new) }
     {
         let alloc = *notes.allocator();
         let mut heard = Heard::new(alloc);
-        let lines = make_all(alloc, graph, &mut heard, texts, notes)?;
+        let lines = make_all(alloc, graph, shelf, &mut heard, texts, notes)?;
         let html = html_in(alloc, &lines)?;
         Ok(TextPage { lines, html })
     }
 
     /// Brings it up to date, as `mount` does, and tells whether its bytes are others now. Only texts that have read a name whose
-    /// outcome is another one now are evaluated again. Without memory the graph and the page may only be dropped.
+    /// outcome is another one now are evaluated again. Without memory graph, shelf and page may only be dropped.
     pub fn update(
         &mut self,
         graph: &mut Graph,
+        shelf: &mut Shelf,
         texts: &[Linked],
         notes: &mut Vec<RunNote>,
     ) -> Result<bool, NoMemory>
         requires idle { IsIdle graph.old.state }
         requires worn { graph.old.state.worn < 2 ^ 126 }
+        requires counted { ⟦<Shelf as Lent>⟧.counted shelf.old }
+        requires there { AreThere graph.old.state.signals (⟦<Shelf as Lent>⟧.asked shelf.old) }
+        requires room { most_asked (⟦<Shelf as Lent>⟧.asked shelf.old) < 2 ^ 126 }
         requires shows { Shows texts.now self.old }
         ensures shows { OnOk result (Shows texts.now self.new) }
         ensures news { IfOk result (λ news. news ≡ not (bytes_eq self.new.html self.old.html)) }
-        ensures html { (hosts : Hosts) → AreKept hosts graph.old.state.signals graph.old.state.memos → OnOk result (self.new.html ≡ html_of hosts graph.old.state.signals texts.now) }
-        ensures settled { (hosts : Hosts) → AreKept hosts graph.old.state.signals graph.old.state.memos → OnOk result (IsSettling hosts graph.old.state.signals graph.old.state.memos (asked_of hosts graph.old.state.signals texts.now) (map note_of notes.old.items) (map note_of notes.new.items) graph.new.state.memos) }
-        ensures kept { (hosts : Hosts) → AreKept hosts graph.old.state.signals graph.old.state.memos → OnOk result (AreKept hosts graph.new.state.signals graph.new.state.memos) }
-        ensures signals { OnOk result (graph.new.state.signals ≡ graph.old.state.signals) }
-        ensures idle { OnOk result (IsIdle graph.new.state) }
-        ensures seats { OnOk result (graph.new.seats ≡ graph.old.seats) }
-        ensures given { OnOk result (graph.new.given ≡ graph.old.given) }
-        ensures named { OnOk result (AreNotesGiven graph.old (map note_of notes.old.items) → AreNotesGiven graph.new (map note_of notes.new.items)) }
-        ensures worn { OnOk result (graph.new.state.worn + length notes.old.items ≡ graph.old.state.worn + length notes.new.items) }
+        ensures html { (hosts : Hosts) → ⟦<Shelf as Lent>⟧.answers hosts shelf.old → AreKept hosts graph.old.state.signals graph.old.state.memos → OnOk result (self.new.html ≡ html_of hosts graph.old.state.signals texts.now) }
+        ensures settles { OnOk result (Settles
+            (scene graph.old (⟦<Shelf as Lent>⟧.asked shelf.old) notes.old.items) (scene graph.new (⟦<Shelf as Lent>⟧.asked shelf.new) notes.new.items)
+            (λ hosts. ⟦<Shelf as Lent>⟧.answers hosts shelf.old) (λ hosts. ⟦<Shelf as Lent>⟧.answers hosts shelf.new)
+            (λ hosts. asked_of hosts graph.old.state.signals texts.now)) }
+        ensures counted { OnOk result (⟦<Shelf as Lent>⟧.counted shelf.new) }
     {
         let alloc = *notes.allocator();
         let mut heard = Heard::new(alloc);
-        if !bring_all_up(alloc, graph, &mut heard, &mut self.lines, texts, notes)? {
+        if !bring_all_up(
+            alloc,
+            graph,
+            shelf,
+            &mut heard,
+            &mut self.lines,
+            texts,
+            notes,
+        )? {
             return Ok(false);
         }
         let html = html_in(alloc, &self.lines)?;

@@ -1,15 +1,27 @@
-use Rattle.std.proofs.Common.{◌≤◌, ◌+◌, ◌-◌, length, drop}
-use Rattle.signal_model.specs.Recipes.{no_hosts}
-use Rattle.live_core.specs.Keeping.{IsKept, IsSound}
+use Rattle.std.proofs.Common.{◌≡◌, ◌≤◌, ◌+◌, ◌-◌, false, is_some, length, drop, map, option_map}
+use Rattle.sig_host.specs.Hosts.{AnswersBy, IsCounted, hosts_of}
+use Rattle.sig_effect.specs.Agreeing.{IsSound}
+use Rattle.live_core.specs.Keeping.{IsKept}
 use Rattle.live_core.specs.Views.{plain_of}
+use Rattle.live_run.specs.Running.{lent, lent_output}
 use Rattle.live_run.proofs.Output.{SoFar}
 use Rattle.live_run.proofs.running.run_script.Given as goal
 
 abbrev pub invariant-loop-out : goal.invariant-loop-out
 invariant-loop-out g l = record {
-  told : SoFar (g.K.Sink.held l.fn.sink) (g.K.Sink.held l.sink) l.script l.fn.job l.line (drop l.at l.script) l.trace (plain_of l.live.machine) l.out.items;
-  kept : IsKept l.live.machine l.live.done l.live.broken;
-  sound : IsSound no_hosts l.live.machine;
+  told : SoFar (lent (map (λ h. (goal.HostFormula-dyn g (h.vtable, h.value)).step_of h.value) l.fn.hosts.items) (map (λ r. r.slack) l.fn.rules.items))
+      (lent_output (map (λ h. (goal.HostFormula-dyn g (h.vtable, h.value)).step_of h.value) l.fn.hosts.items) (map (λ r. r.slack) l.fn.rules.items) l.fn.job)
+      (g.K.Sink.held l.fn.sink) (g.K.Sink.held l.sink) l.script l.line (drop l.at l.script) l.trace
+      (plain_of (map (λ p. record { there = is_some p.host; asks = p.count }) l.live.shelf.places.items) l.live.machine) l.out.items;
+  kept : IsKept (map (λ p. record { there = is_some p.host; asks = p.count }) l.live.shelf.places.items) (length l.live.rules.items) l.live.machine l.live.done
+      l.live.broken;
+  counted : l.live.broken ≡ false → IsCounted (map (λ p. option_map (λ h. (goal.HostFormula-dyn g (h.vtable, h.value)).asks h.value) p.host) l.live.shelf.places.items)
+      (map (λ p. record { there = is_some p.host; asks = p.count }) l.live.shelf.places.items);
+  slacks : map (λ r. r.slack) l.live.rules.items ≡ map (λ r. r.slack) l.fn.rules.items;
+  sound : IsSound (hosts_of (map (λ h. (goal.HostFormula-dyn g (h.vtable, h.value)).step_of h.value) l.fn.hosts.items))
+      (map (λ p. record { there = is_some p.host; asks = p.count }) l.live.shelf.places.items) l.live.machine.world;
+  answers : AnswersBy (hosts_of (map (λ h. (goal.HostFormula-dyn g (h.vtable, h.value)).step_of h.value) l.fn.hosts.items))
+      (map (λ p. option_map (λ h. (goal.HostFormula-dyn g (h.vtable, h.value)).step_of h.value) p.host) l.live.shelf.places.items);
   done : l.live.done ≤ l.at;
   within : l.at ≤ length l.script;
   few : l.line ≤ 1 + l.at;

@@ -1,68 +1,63 @@
-use Rattle.std.proofs.Common.{map, Some, sym, ap, subst, ◌∙◌}
+use Rattle.std.proofs.Common.{Some, sym, ap, subst, ◌∙◌}
 use Rattle.signal_model.specs.Recipes.{recipe_answer}
 use Rattle.signal_model.specs.Values.{Evaluation}
-use Rattle.sig_computed.specs.Notes.{note_of}
 use Rattle.text_pages.specs.Hearing.{Evaluates}
 use Rattle.text_pages.proofs.Hearings.{nothing_heard, then_heard}
 use Rattle.text_pages.proofs.Askings.{IsAsking, asked_more, asks_new, ends_bad, ends_good, ends_read, fewer_unknown, nothing_asked}
 use Rattle.text_pages.proofs.evaluate.evaluate.Goals as goal
 
 pub asking-init : goal.asking-init
-asking-init c = record {
+asking-init g c = record {
   asking = subst (λ x. x) (λ i. IsAsking c.args.text.now (sym c.new-known.ensures.items i) (sym c.new-reads.ensures.items i) c.args.heard.now c.args.heard.now)
       (nothing_asked c.args.text.now c.args.heard.now);
-  after = nothing_heard c.args.graph.now (map note_of c.args.notes.now.items) c.args.heard.now c.requires.idle;
-  idle = c.requires.idle;
-  worn = c.requires.worn;
+  after = nothing_heard _ _ c.args.heard.now c.requires.can.idle;
+  can = c.requires.can;
+  counted = c.requires.counted;
 }
 
 pub returns-in-Done-clause-evaluated : goal.returns-in-Done-clause-evaluated
-returns-in-Done-clause-evaluated c =
+returns-in-Done-clause-evaluated g c =
     ends_good c.args.text.now c.asking.known.items c.asking.reads.items c.args.heard.now c.asking.heard c.in-Done.value c.asking.invariant.asking
     (λ hosts. sym (c.in_ok-slot.ensures.answer hosts ∙ ap (recipe_answer hosts c.args.text.now) c.deref.ensures.value) ∙ c.in-Done.is)
 
 pub returns-in-Fail-clause-evaluated : goal.returns-in-Fail-clause-evaluated
-returns-in-Fail-clause-evaluated c =
+returns-in-Fail-clause-evaluated g c =
     ends_bad c.args.text.now c.asking.known.items c.asking.reads.items c.args.heard.now c.asking.heard c.in-Fail.fault c.asking.invariant.asking
     (λ hosts. sym (c.in_ok-slot.ensures.answer hosts ∙ ap (recipe_answer hosts c.args.text.now) c.deref.ensures.value) ∙ c.in-Fail.is)
 
 pub asking-smaller : goal.asking-smaller
-asking-smaller c =
+asking-smaller g c =
     fewer_unknown c.args.text.now c.asking.known.items c.learn.new.known.items c.in-Read.slot c.in-Good.value
     (asks_new c.args.text.now c.asking.known.items c.deref.result.now c.in_ok-slot.field-0 c.in-Read.slot c.in_ok-slot.ensures.judged
     c.deref.ensures.value c.in-Read.is)
     c.in_ok-learn-in-Good.ensures.known
 
 pub asking-preserved : goal.asking-preserved
-asking-preserved c =
+asking-preserved g c =
     let i = c.asking.invariant in
     let h = c.in_ok-value.ensures in
-    let notes = map note_of c.args.notes.now.items in
     record {
       asking = subst (λ x. x)
           (λ i. IsAsking c.args.text.now (sym c.in_ok-learn-in-Good.ensures.known i) (sym c.in_ok-learn-in-Good.ensures.reads i) c.args.heard.now c.hear.new.heard)
-          (asked_more c.asking.graph c.hear.new.graph (map note_of c.asking.notes.items) (map note_of c.hear.new.notes.items) c.args.text.now
+          (asked_more c.args.text.now
           c.asking.known.items c.asking.reads.items c.args.heard.now c.asking.heard c.hear.new.heard c.in-Read.slot c.slot_name-id.result c.in-Good.value
-          i.asking h.after
+          i.asking h.after.grows
           (λ hosts. sym (c.in_ok-slot.ensures.answer hosts ∙ ap (recipe_answer hosts c.args.text.now) c.deref.ensures.value) ∙ c.in-Read.is)
           c.slot_name-id.ensures (h.outcome ∙ ap Some c.in-Good.is) h.names);
-      after = then_heard c.args.graph.now c.asking.graph c.hear.new.graph notes (map note_of c.asking.notes.items) (map note_of c.hear.new.notes.items)
-          c.args.heard.now c.asking.heard c.hear.new.heard i.after h.after;
-      idle = h.idle;
-      worn = h.worn;
+      after = then_heard _ _ _ _ _ _ _ _ _ i.after h.after;
+      can = h.can;
+      counted = h.counted;
     }
 
 pub returns-in-Bad-clause-evaluated : goal.returns-in-Bad-clause-evaluated
-returns-in-Bad-clause-evaluated c =
+returns-in-Bad-clause-evaluated g c =
     let h = c.in_ok-value.ensures in
     subst (λ (e : Evaluation). Evaluates c.args.text.now e c.args.heard.now c.hear.new.heard) (sym c.in_ok-evaluated-in-Bad.ensures)
-    (ends_read c.asking.graph c.hear.new.graph (map note_of c.asking.notes.items) (map note_of c.hear.new.notes.items) c.args.text.now
+    (ends_read c.args.text.now
     c.asking.known.items c.asking.reads.items c.args.heard.now c.asking.heard c.hear.new.heard c.in-Read.slot c.slot_name-id.result c.in-Bad.fault
-    c.asking.invariant.asking h.after
+    c.asking.invariant.asking h.after.grows
     (λ hosts. sym (c.in_ok-slot.ensures.answer hosts ∙ ap (recipe_answer hosts c.args.text.now) c.deref.ensures.value) ∙ c.in-Read.is)
     c.slot_name-id.ensures (h.outcome ∙ ap Some c.in-Bad.is) h.names)
 
 pub returns-in-Bad-clause-after : goal.returns-in-Bad-clause-after
-returns-in-Bad-clause-after c =
-    then_heard c.args.graph.now c.asking.graph c.hear.new.graph (map note_of c.args.notes.now.items) (map note_of c.asking.notes.items)
-    (map note_of c.hear.new.notes.items) c.args.heard.now c.asking.heard c.hear.new.heard c.asking.invariant.after c.in_ok-value.ensures.after
+returns-in-Bad-clause-after g c = then_heard _ _ _ _ _ _ _ _ _ c.asking.invariant.after c.in_ok-value.ensures.after

@@ -1,17 +1,22 @@
-use Rattle.std.proofs.Common.{map, length}
+use Rattle.std.proofs.Common.{is_some, length, map, option_map}
+use Rattle.sig_host.specs.Hosts.{AnswersBy, IsCounted}
 use Rattle.signal_model.specs.Values.{unknown_slots}
-use Rattle.sig_computed.specs.Notes.{note_of, IsIdle}
-use Rattle.text_pages.specs.Hearing.{Hears, IsWornBy}
+use Rattle.text_pages.specs.Hearing.{scene, CanSettle, Hears}
 use Rattle.text_pages.proofs.Askings.{IsAsking}
 use Rattle.text_pages.proofs.evaluate.evaluate.Given as goal
 
 abbrev pub invariant-asking : goal.invariant-asking
-invariant-asking l = record {
+invariant-asking g l = record {
   asking : IsAsking l.text l.known.items l.reads.items l.fn.heard l.heard;
-  after : Hears l.fn.graph l.graph (map note_of l.fn.notes.items) (map note_of l.notes.items) l.fn.heard l.heard;
-  idle : IsIdle l.graph.state;
-  worn : IsWornBy (length l.notes.items) l.graph.state;
+  after : Hears (scene l.fn.graph (map (λ p. record { there = is_some p.host; asks = p.count }) l.fn.shelf.places.items) l.fn.notes.items)
+      (scene l.graph (map (λ p. record { there = is_some p.host; asks = p.count }) l.shelf.places.items) l.notes.items)
+      (λ hosts. AnswersBy hosts (map (λ p. option_map (λ h. (goal.HostFormula-dyn g (h.vtable, h.value)).step_of h.value) p.host) l.fn.shelf.places.items))
+      (λ hosts. AnswersBy hosts (map (λ p. option_map (λ h. (goal.HostFormula-dyn g (h.vtable, h.value)).step_of h.value) p.host) l.shelf.places.items))
+      l.fn.heard l.heard;
+  can : CanSettle (scene l.graph (map (λ p. record { there = is_some p.host; asks = p.count }) l.shelf.places.items) l.notes.items);
+  counted : IsCounted (map (λ p. option_map (λ h. (goal.HostFormula-dyn g (h.vtable, h.value)).asks h.value) p.host) l.shelf.places.items)
+      (map (λ p. record { there = is_some p.host; asks = p.count }) l.shelf.places.items);
 }
 
 abbrev pub decreases-asking : goal.decreases-asking
-decreases-asking l = unknown_slots (length l.text.slots) l.known.items
+decreases-asking g l = unknown_slots (length l.text.slots) l.known.items

@@ -1,13 +1,18 @@
-use Rattle.std.proofs.Common.{map, length, take}
-use Rattle.sig_computed.specs.Notes.{note_of, IsIdle}
-use Rattle.text_pages.specs.Hearing.{AreSame, Hears, IsWornBy}
+use Rattle.std.proofs.Common.{is_some, map, option_map, take}
+use Rattle.sig_host.specs.Hosts.{AnswersBy, IsCounted}
+use Rattle.text_pages.specs.Hearing.{scene, AreSame, CanSettle, Hears}
 use Rattle.text_pages.proofs.line.hear_again.Given as goal
 
 -- the names so far have the outcomes that were read
 abbrev pub invariant-loop-read : goal.invariant-loop-read
-invariant-loop-read l = record {
+invariant-loop-read g l = record {
   same : AreSame (take l.read-index l.reads) l.fn.heard l.heard;
-  after : Hears l.fn.graph l.graph (map note_of l.fn.notes.items) (map note_of l.notes.items) l.fn.heard l.heard;
-  idle : IsIdle l.graph.state;
-  worn : IsWornBy (length l.notes.items) l.graph.state;
+  after : Hears (scene l.fn.graph (map (λ p. record { there = is_some p.host; asks = p.count }) l.fn.shelf.places.items) l.fn.notes.items)
+      (scene l.graph (map (λ p. record { there = is_some p.host; asks = p.count }) l.shelf.places.items) l.notes.items)
+      (λ hosts. AnswersBy hosts (map (λ p. option_map (λ h. (goal.HostFormula-dyn g (h.vtable, h.value)).step_of h.value) p.host) l.fn.shelf.places.items))
+      (λ hosts. AnswersBy hosts (map (λ p. option_map (λ h. (goal.HostFormula-dyn g (h.vtable, h.value)).step_of h.value) p.host) l.shelf.places.items))
+      l.fn.heard l.heard;
+  can : CanSettle (scene l.graph (map (λ p. record { there = is_some p.host; asks = p.count }) l.shelf.places.items) l.notes.items);
+  counted : IsCounted (map (λ p. option_map (λ h. (goal.HostFormula-dyn g (h.vtable, h.value)).asks h.value) p.host) l.shelf.places.items)
+      (map (λ p. record { there = is_some p.host; asks = p.count }) l.shelf.places.items);
 }

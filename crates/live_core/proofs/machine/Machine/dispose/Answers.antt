@@ -1,16 +1,38 @@
-use Rattle.std.proofs.Common.{◌≡◌, List, sym, subst, ◌∙◌}
-use Rattle.sig_nodes.specs.States.{Becomes, with_disposal}
-use Rattle.live_cmd.specs.declared.command.Command.TheVariants as command
-use Rattle.live_cmd.specs.declared.command.Verb.TheVariants as verb
-use Rattle.live_cmd.specs.declared.entry.Entry.{Entry}
-use Rattle.live_model.specs.Names.{number_of}
-use Rattle.live_core.specs.Keeping.{Does}
-use Rattle.live_core.proofs.Doing.{dispose_does, with_graph}
+use Rattle.std.proofs.Common.{◌≡◌, ◌∙◌, List, length, map, sym, ap, subst}
+use Rattle.std.specs.List.{All}
+use Rattle.std.specs.Prelude.{Some, option_map}
+use Rattle.sig_effect.specs.declared.events.Event.{Event}
+use Rattle.sig_effect.specs.Events.{thing_of, AreNamed}
+use Rattle.live_model.specs.Names.{meaning_of, thing_named}
+use Rattle.live_core.specs.Notes.{entry_told, IsLabelled}
+use Rattle.live_core.specs.Views.{labels_of}
+use Rattle.live_core.proofs.Telling.{events_below, none_named}
+use Rattle.live_core.proofs.Doing.{disposed_steps, kinds_without, leaves_changed}
 use Rattle.live_core.proofs.machine.Machine.dispose.Goals as goal
 
-pub returns : goal.returns
-returns c =
-    let n : c.of-signal.result ≡ number_of c.args.self.now.names c.args.name = c.of-signal.ensures ∙ c.number_of.ensures in
-    subst (λ (es : List Entry). Does c.args.self.now (with_graph c.args.self.now c.dispose.new.graph) es (command.Named verb.Dispose c.args.name)) (sym c.in_ok-told.ensures)
-    (dispose_does c.args.self.now c.dispose.new.graph c.args.name c.requires.ready c.requires.fine
-    (subst (λ x. x) (λ j. Becomes c.args.self.now.graph c.dispose.new.graph (with_disposal c.args.self.now.graph.state (n j))) c.dispose.ensures))
+pub entries_of-requires : goal.entries_of-requires
+entries_of-requires g c =
+    let m = c.args.self.now in
+    let e = c.in_ok-dispose.ensures in
+    let w = c.dispose.new.self in
+    let named = e.named (subst (AreNamed m.world.graph m.world.watchers.made) (sym c.new-events.ensures.items) (none_named m.world.graph m.world.watchers.made)) in
+    subst (λ (es : List Event). All (IsLabelled (length m.labels.signals.items) (length m.labels.watchers.items)) es) (sym c.deref.ensures.value)
+    (events_below w.graph w.watchers.made (length m.labels.signals.items) (length m.labels.watchers.items) c.dispose.new.events.items
+    (e.stays.given ∙ c.requires.ready.labels) (e.stays.made ∙ c.requires.ready.watchers) named)
+
+pub returns-clause-steps : goal.returns-clause-steps
+returns-clause-steps g c = λ hosts slacks sound.
+    let m = c.args.self.now in
+    let is : thing_named (meaning_of m.names c.args.name.now) ≡ Some (thing_of c.in-Some.thing) =
+    sym (c.thing_named.ensures ∙ ap thing_named c.meaning_of.ensures) ∙ ap (option_map thing_of) c.in-Some.is in
+    disposed_steps hosts slacks _ _ m c.dispose.new.self c.new-events.result.items c.dispose.new.events.items c.in_ok-told.told.items
+    (thing_of c.in-Some.thing) (thing_named (meaning_of m.names c.args.name.now)) c.new-events.ensures.items (c.in_ok-dispose.ensures.does hosts slacks sound) is
+    (c.in_ok-told.ensures ∙ ap (map (entry_told (labels_of m.labels))) c.deref.ensures.value)
+
+pub returns-clause-leaves : goal.returns-clause-leaves
+returns-clause-leaves g c = λ count.
+    let m = c.args.self.now in
+    let e = c.in_ok-dispose.ensures in
+    leaves_changed _ _ count m c.dispose.new.self c.requires.ready e.stays
+    (kinds_without m.world.graph.state.signals c.dispose.new.self.graph.state.signals c.in-Some.thing e.signals)
+    (λ a. e.agrees) (λ r. e.rules count r)

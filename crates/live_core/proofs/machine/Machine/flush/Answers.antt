@@ -1,16 +1,21 @@
-use Rattle.std.proofs.Common.{refl, subst}
-use Rattle.live_core.specs.Keeping.{AreShown}
-use Rattle.live_core.specs.Updating.{AreBroughtUp}
-use Rattle.live_core.proofs.Paging.{flush_does}
+use Rattle.std.proofs.Common.{refl}
+use Rattle.sig_effect.specs.Agreeing.{environment}
+use Rattle.live_core.proofs.Paging.{flush_steps, leaves_flushed, other_labels, shown_same}
 use Rattle.live_core.proofs.machine.Machine.flush.Goals as goal
 
-pub returns : goal.returns
-returns c =
+pub returns-clause-steps : goal.returns-clause-steps
+returns-clause-steps g c = λ hosts slacks all sound.
     let m = c.args.self.now in
     let e = c.in_ok-told.ensures in
-    let labels = c.deref-2.ensures.value in
-    let templates = c.deref.ensures.value in
-    flush_does m (record m { graph = c.bring_all_up.new.graph; pages = c.bring_all_up.new.pages }) c.in_ok-told.told.items c.requires.ready refl refl refl
-    (λ hosts names s. subst (λ x. x) (λ i. AreBroughtUp hosts names (labels i) (templates i) m.graph c.bring_all_up.new.graph m.pages.items c.bring_all_up.new.pages.items c.in_ok-told.told.items)
-    (e.pages hosts names s))
-    e.graph (subst (λ ts. AreShown ts c.bring_all_up.new.pages.items) templates e.shown) e.few e.worn
+    let new = record m { world = c.bring_all_up.new.world; pages = c.bring_all_up.new.pages } in
+    flush_steps hosts slacks _ _ m c.bring_all_up.new.world c.bring_all_up.new.pages.items new c.in_ok-told.told.items
+    (other_labels (environment hosts slacks) m.names _ m.labels.signals.items m.labels.watchers.items _ m.templates.items _ _ m.world c.bring_all_up.new.world m.pages.items
+    c.bring_all_up.new.pages.items c.in_ok-told.told.items c.deref-2.ensures.value c.deref.ensures.value
+    (e.pages hosts slacks m.names m.labels.watchers.items all sound)) refl refl
+
+pub returns-clause-leaves : goal.returns-clause-leaves
+returns-clause-leaves g c = λ count.
+    let m = c.args.self.now in
+    let e = c.in_ok-told.ensures in
+    let new = record m { world = c.bring_all_up.new.world; pages = c.bring_all_up.new.pages } in
+    leaves_flushed _ _ count m new c.requires.ready refl refl refl e.world (shown_same _ m.templates.items c.bring_all_up.new.pages.items c.deref.ensures.value e.shown) e.few e.agrees e.worn

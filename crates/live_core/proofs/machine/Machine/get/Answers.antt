@@ -1,35 +1,48 @@
-use Rattle.std.proofs.Common.{◌≡◌, ◌∷◌, ◌++◌, ◌+◌, ◌≤◌, ◌^◌, List, [], ℕ, map, length, arith, sym, ap, subst, ◌∙◌}
+use Rattle.std.proofs.Common.{◌∙◌, ◌∷◌, [], List, ℕ, length, map, arith, sym, ap, subst}
 use Rattle.std.specs.List.{All}
+use Rattle.sig_base.specs.declared.value.Outcome.{Outcome}
 use Rattle.signal_model.specs.Values.{value_of}
-use Rattle.sig_computed.specs.Notes.{note_of, AreNotesGiven, IsSettling}
-use Rattle.sig_computed.specs.declared.notes.RunNote.{RunNote}
-use Rattle.live_cmd.specs.declared.entry.Entry.{Entry}
+use Rattle.effect_model.specs.Worlds.{settle}
+use Rattle.sig_effect.specs.declared.events.Event.{Event}
+use Rattle.sig_effect.specs.Agreeing.{environment}
+use Rattle.sig_effect.specs.Events.{AreNamed}
 use Rattle.live_cmd.specs.declared.entry.Entry.TheVariants as entry
 use Rattle.live_model.specs.Names.{number_of}
-use Rattle.live_core.specs.Notes.{note_entry, HasLabels}
-use Rattle.live_core.proofs.Telling.{get_does, none_given, notes_below}
+use Rattle.live_core.specs.Notes.{entry_told, IsLabelled}
+use Rattle.live_core.specs.Views.{labels_of}
+use Rattle.live_core.proofs.Telling.{events_below, none_named}
+use Rattle.live_core.proofs.Doing.{acts_steps, leaves_settled, then_told}
 use Rattle.live_core.proofs.machine.Machine.get.Goals as goal
 
-pub tell_runs-requires : goal.tell_runs-requires
-tell_runs-requires c =
-    let e = c.in_ok-outcome.ensures in
-    let given = notes_below c.settle.new.graph (length c.args.self.now.labels.items) c.settle.new.notes.items (e.given ∙ c.requires.ready.labels)
-    (e.named (subst (λ (ns : List RunNote). AreNotesGiven c.args.self.now.graph (map note_of ns)) (sym c.new-notes.ensures.items) (none_given c.args.self.now.graph))) in
-    subst (λ x. x) (λ i. All (HasLabels (length (sym c.deref.ensures.value i))) (sym c.deref-2.ensures.value i)) given
-
-pub returns : goal.returns
-returns c =
+pub entries_of-requires : goal.entries_of-requires
+entries_of-requires g c =
     let m = c.args.self.now in
     let e = c.in_ok-outcome.ensures in
-    let n : c.of-signal.result ≡ number_of m.names c.args.name = c.of-signal.ensures ∙ c.number_of.ensures in
-    let none : c.new-notes.result.items ≡ [] = c.new-notes.ensures.items in
-    let before : length c.new-notes.result.items ≡ 0 = ap length none in
-    let worn : c.settle.new.graph.state.worn ≤ m.graph.state.worn + 2 ^ 68 = let a = e.worn in let b = c.settle.new.notes.small in omega (arith, a, before, b) in
-    let tells = c.in_ok-push.ensures.items
-    ∙ ap (λ (es : List Entry). es ++ entry.Outcome c.args.name c.in_ok-outcome.outcome ∷ []) (c.in_ok-tell_runs.ensures
-    ∙ (λ i. c.new-told.ensures.items i ++ map (note_entry (c.deref.ensures.value i)) (map note_of (c.deref-2.ensures.value i)))) in
-    get_does m c.settle.new.graph c.args.name (map note_of c.settle.new.notes.items) c.in_ok-outcome.outcome _ c.requires.ready e.given e.idle e.signals worn
-    (λ hosts s. e.value hosts s ∙ ap (λ (x : ℕ). value_of hosts m.graph.state.signals x []) n)
-    (λ hosts s. subst (λ x. x) (λ i. IsSettling hosts m.graph.state.signals m.graph.state.memos (n i ∷ []) (map note_of (none i)) (map note_of c.settle.new.notes.items) c.settle.new.graph.state.memos)
-    (e.settled hosts s))
-    (λ hosts s. e.kept hosts s) tells
+    let w = c.ask.new.self in
+    let named = e.named (subst (AreNamed m.world.graph m.world.watchers.made) (sym c.new-events.ensures.items) (none_named m.world.graph m.world.watchers.made)) in
+    subst (λ (es : List Event). All (IsLabelled (length m.labels.signals.items) (length m.labels.watchers.items)) es) (sym c.deref.ensures.value)
+    (events_below w.graph w.watchers.made (length m.labels.signals.items) (length m.labels.watchers.items) c.ask.new.events.items
+    (e.given ∙ c.requires.ready.labels) (ap (λ t. t.made) e.watchers ∙ c.requires.ready.watchers) named)
+
+pub returns-clause-steps : goal.returns-clause-steps
+returns-clause-steps g c = λ hosts slacks all sound.
+    let m = c.args.self.now in
+    let env = environment hosts slacks in
+    let n = c.of-signal.ensures ∙ c.number_of.ensures in
+    let told = c.in_ok-told.ensures ∙ ap (map (entry_told (labels_of m.labels))) c.deref.ensures.value in
+    then_told hosts _ m c.ask.new.self c.in_ok-told.told.items (entry.Outcome c.args.name c.in_ok-outcome.outcome) (entry.Outcome c.args.name (value_of hosts m.world.graph.state.signals (number_of m.names c.args.name) []))
+    c.push.new.self.items _ (acts_steps hosts _ _ m c.ask.new.self c.new-events.result.items c.ask.new.events.items
+    (settle env (c.of-signal.result ∷ [])) (settle env (number_of m.names c.args.name ∷ [])) c.in_ok-told.told.items
+    c.new-events.ensures.items (c.in_ok-outcome.ensures.does hosts slacks all sound)
+    (λ i. settle env (n i ∷ [])) told)
+    (ap (λ (o : Outcome). entry.Outcome c.args.name o) (c.in_ok-outcome.ensures.value hosts all sound ∙ ap (λ (i : ℕ). value_of hosts m.world.graph.state.signals i []) n))
+    c.in_ok-push.ensures.items
+
+pub returns-clause-leaves : goal.returns-clause-leaves
+returns-clause-leaves g c = λ count.
+    let m = c.args.self.now in
+    let e = c.in_ok-outcome.ensures in
+    let before = ap length c.new-events.ensures.items in
+    let worn = e.worn in
+    let small = c.ask.new.events.small in
+    leaves_settled _ _ count m c.ask.new.self c.requires.ready e.given e.watchers e.signals (omega (arith, worn, before, small)) e.agrees

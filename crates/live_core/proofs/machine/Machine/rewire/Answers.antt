@@ -1,30 +1,86 @@
-use Rattle.std.proofs.Common.{◌≡◌, ◌∷◌, ◌∙◌, ℕ, List, true, sym, subst}
+use Rattle.std.proofs.Common.{rules, Err, ◌≡◌, ◌∙◌, ◌∷◌, List, ℕ, length, map, true, refl, sym, ap, subst}
 use Rattle.std.specs.List.{All}
 use Rattle.signal_model.specs.Recipes.{Recipe}
-use Rattle.sig_nodes.specs.States.{Becomes, are_there, is_given, with_rewiring}
-use Rattle.live_cmd.specs.declared.command.Command.TheVariants as command
-use Rattle.live_cmd.specs.declared.command.SourceText.TheVariants as source
-use Rattle.live_cmd.specs.declared.entry.Entry.{Entry}
+use Rattle.signal_model.specs.Standing.{is_there, standing}
+use Rattle.effect_model.specs.Acts.{rewire_signal}
+use Rattle.sig_nodes.specs.Answers.{expression_of}
+use Rattle.sig_nodes.specs.Computations.{recipe_made}
+use Rattle.sig_nodes.specs.States.{are_there, is_given}
+use Rattle.sig_effect.specs.declared.events.Event.{Event}
+use Rattle.sig_effect.specs.Events.{AreNamed}
+use Rattle.live_model.specs.declared.names.Kind.TheVariants as kind
+use Rattle.live_model.specs.declared.names.Need.TheVariants as need
+use Rattle.live_model.specs.Machine.{recipe_of}
 use Rattle.live_model.specs.Names.{number_of}
-use Rattle.live_core.specs.Keeping.{Does}
-use Rattle.live_core.proofs.Doing.{rewire_does, rewired_given, rewired_there, with_graph}
+use Rattle.live_core.specs.Notes.{entry_told, IsLabelled}
+use Rattle.live_core.specs.Views.{labels_of}
+use Rattle.live_core.specs.Keeping.{is_of_kind}
+use Rattle.live_core.proofs.Rightly.{kind_used, neither, refused_at, used_of}
+use Rattle.live_core.proofs.Telling.{events_below, none_named}
+use Rattle.live_core.proofs.Doing.{acts_steps, every, few_made, few_slots, free_made, host_fine, kinds_rewired, leaves_changed, no_cell, only_memory, source_used, true_false}
 use Rattle.live_core.proofs.machine.Machine.rewire.Goals as goal
 
+pub rewire-requires-clause-kind : goal.rewire-requires-clause-kind
+rewire-requires-clause-kind g c =
+    let m = c.args.self.now in
+    let fine = neither (refused_at m.world m.names c.args.name.now (need.Of kind.Computed)) _ c.requires.fine in
+    let is = kind_used m.world _ m.names c.args.name.now kind.Computed refl c.requires.ready.meant (used_of m.world m.names c.args.name.now kind.Computed fine.0) in
+    no_cell (standing m.world.graph.state.signals c.of-computed.result)
+    (ap (λ i. is_of_kind kind.Computed (standing m.world.graph.state.signals i)) (c.of-computed.ensures ∙ c.number_of.ensures) ∙ is.1)
+
 pub rewire-requires-clause-given : goal.rewire-requires-clause-given
-rewire-requires-clause-given c =
-    subst (λ (r : Recipe). All (λ (n : ℕ). is_given c.args.self.now.graph n ≡ true) r.slots) (sym c.in_ok-formula.ensures)
-    (rewired_given c.args.self.now c.args.name.now (source.Formula c.args.wired) c.requires.ready c.requires.fine)
+rewire-requires-clause-given g c =
+    let m = c.args.self.now in
+    let fine = neither (refused_at m.world m.names c.args.name.now (need.Of kind.Computed)) _ c.requires.fine in
+    subst (λ (r : Recipe). All (λ (n : ℕ). is_given m.world.graph n ≡ true) r.slots) (sym c.in_ok-linked.ensures)
+    (every (λ n. is_given m.world.graph n ≡ true) (recipe_of m.names c.args.source).slots (source_used m.world _ m.names c.args.source c.requires.ready.meant fine.1).given)
 
-pub rewire-requires-clause-there : goal.rewire-requires-clause-there
-rewire-requires-clause-there c =
-    let n : c.of-computed.result ≡ number_of c.args.self.now.names c.args.name.now = c.of-computed.ensures ∙ c.number_of.ensures in
-    subst (λ x. x) (λ j. are_there c.args.self.now.graph.state.signals (sym n j ∷ (sym c.in_ok-formula.ensures j).slots) ≡ true)
-    (rewired_there c.args.self.now c.args.name.now (source.Formula c.args.wired) c.requires.ready c.requires.fine)
+pub rewire-requires-clause-few : goal.rewire-requires-clause-few
+rewire-requires-clause-few g c =
+    few_made (recipe_made (expression_of c.in_ok-linked.linked.recipe) c.in_ok-linked.linked.slots.items) (recipe_of c.args.self.now.names c.args.source) c.in_ok-linked.ensures
+    (few_slots c.args.self.now.names c.args.source c.requires.few)
 
-pub returns : goal.returns
-returns c =
-    let n : c.of-computed.result ≡ number_of c.args.self.now.names c.args.name.now = c.of-computed.ensures ∙ c.number_of.ensures in
-    subst (λ (es : List Entry). Does c.args.self.now (with_graph c.args.self.now c.rewire.new.graph) es (command.Rewire c.args.name.now (source.Formula c.args.wired)))
-    (sym c.new.ensures.items)
-    (rewire_does c.args.self.now c.rewire.new.graph c.args.name.now (source.Formula c.args.wired) c.requires.ready c.requires.fine
-    (subst (λ x. x) (λ j. Becomes c.args.self.now.graph c.rewire.new.graph (with_rewiring c.args.self.now.graph.state (n j) (c.in_ok-formula.ensures j))) c.rewire.ensures))
+pub rewire-requires-clause-free : goal.rewire-requires-clause-free
+rewire-requires-clause-free g c =
+    free_made _ (recipe_made (expression_of c.in_ok-linked.linked.recipe) c.in_ok-linked.linked.slots.items) (recipe_of c.args.self.now.names c.args.source) c.in_ok-linked.ensures
+    (host_fine _ c.args.self.now.names c.args.source c.requires.free)
+
+pub entries_of-requires : goal.entries_of-requires
+entries_of-requires g c =
+    let m = c.args.self.now in
+    let e = c.in_ok-rewire.ensures in
+    let w = c.rewire.new.self in
+    let named = e.named (subst (AreNamed m.world.graph m.world.watchers.made) (sym c.new-events.ensures.items) (none_named m.world.graph m.world.watchers.made)) in
+    subst (λ (es : List Event). All (IsLabelled (length m.labels.signals.items) (length m.labels.watchers.items)) es) (sym c.deref.ensures.value)
+    (events_below w.graph w.watchers.made (length m.labels.signals.items) (length m.labels.watchers.items) c.rewire.new.events.items
+    (e.stays.given ∙ c.requires.ready.labels) (e.stays.made ∙ c.requires.ready.watchers) named)
+
+pub returns-clause-steps : goal.returns-clause-steps
+returns-clause-steps g c = λ hosts slacks sound.
+    let m = c.args.self.now in
+    acts_steps hosts _ _ m c.rewire.new.self c.new-events.result.items c.rewire.new.events.items
+    (rewire_signal c.of-computed.result (recipe_made (expression_of c.in_ok-linked.linked.recipe) c.in_ok-linked.linked.slots.items))
+    (rewire_signal (number_of m.names c.args.name.now) (recipe_of m.names c.args.source)) c.in_ok-told.told.items
+    c.new-events.ensures.items (c.in_ok-rewire.ensures.does hosts sound)
+    (λ i. rewire_signal ((c.of-computed.ensures ∙ c.number_of.ensures) i) (c.in_ok-linked.ensures i))
+    (c.in_ok-told.ensures ∙ ap (map (entry_told (labels_of m.labels))) c.deref.ensures.value)
+
+pub returns-clause-leaves : goal.returns-clause-leaves
+returns-clause-leaves g c = λ count.
+    let m = c.args.self.now in
+    let e = c.in_ok-rewire.ensures in
+    leaves_changed _ _ count m c.rewire.new.self c.requires.ready e.stays
+    (kinds_rewired m.world.graph.state.signals c.rewire.new.self.graph.state.signals c.of-computed.result _ e.signals)
+    (λ a. e.agrees) (λ r. e.rules count r)
+
+pub returns-in_err-rewire-clause-memory : goal.returns-in_err-rewire-clause-memory
+returns-in_err-rewire-clause-memory g c =
+    let m = c.args.self.now in
+    let fine = neither (refused_at m.world m.names c.args.name.now (need.Of kind.Computed)) _ c.requires.fine in
+    let is = kind_used m.world _ m.names c.args.name.now kind.Computed refl c.requires.ready.meant (used_of m.world m.names c.args.name.now kind.Computed fine.0) in
+    let slots = (source_used m.world _ m.names c.args.source c.requires.ready.meant fine.1).there in
+    let first = ap (λ i. is_there (standing m.world.graph.state.signals i)) (c.of-computed.ensures ∙ c.number_of.ensures) ∙ is.0.there in
+    let rest = ap (λ (r : Recipe). are_there m.world.graph.state.signals r.slots) c.in_ok-linked.ensures ∙ slots in
+    let there : are_there m.world.graph.state.signals (c.of-computed.result ∷ c.in_ok-linked.linked.slots.items) ≡ true = rw first rest in
+    let f = only_memory _ c.in_err-rewire.ensures.fault (λ e. true_false (sym there ∙ c.in_err-rewire.ensures.gone (ap (λ x. Err x) e))) in
+    search rules

@@ -5,6 +5,7 @@ use Rattle.live_core.proofs.machine.Machine.sources.Goals as goal
 
 pub labels_of-requires : goal.labels_of-requires
 labels_of-requires c =
-    let below = sources_below c.args.self.now.graph (length c.args.self.now.labels.items) _ c.requires.ready.labels
-    (λ m i. c.made-made.ensures.used.sources c.of-computed.result m i) in
-    subst (λ x. x) (λ i. All (λ (m : ℕ). m < length (sym c.deref.ensures.value i)) (sym c.sources.ensures i)) below
+    let m = c.args.self.now in
+    let below = sources_below m.world.graph (length m.labels.signals.items) _ c.requires.ready.labels
+    (λ k i. c.made-made.ensures.used.sources c.of-computed.result k i) in
+    subst (λ x. x) (λ i. All (λ (k : ℕ). k < length (sym c.deref.ensures.value i)) (sym c.sources.ensures i)) below

@@ -1,0 +1,35 @@
+use Rattle.std.proofs.Common.{map}
+use Rattle.std.proofs.lemmas.List.{length-map}
+use Rattle.live_core.proofs.machine.Machine.perform.Goals as goal
+
+pub returns-in-Cell-clause-steps : goal.returns-in-Cell-clause-steps
+returns-in-Cell-clause-steps g c = λ hosts all sound. rw c.in-Cell.is (c.make_cell.ensures.steps hosts (map (λ r. r.slack) c.args.rules.now) _ sound)
+
+pub returns-in-Cell-clause-leaves : goal.returns-in-Cell-clause-leaves
+returns-in-Cell-clause-leaves g c =
+    c.make_cell.ensures.leaves _ (map (λ r. r.slack) c.args.rules.now) _ (length-map c.args.rules.now (λ r. r.slack)) (rw c.in-Cell.is at c.requires.places)
+
+pub returns-in-Set-clause-steps : goal.returns-in-Set-clause-steps
+returns-in-Set-clause-steps g c = λ hosts all sound. rw c.in-Set.is (c.set.ensures.steps hosts _ sound)
+
+pub returns-in-Computed-clause-steps : goal.returns-in-Computed-clause-steps
+returns-in-Computed-clause-steps g c = λ hosts all sound.
+    rw c.in-Computed.is (c.make_computed.ensures.steps hosts (map (λ r. r.slack) c.args.rules.now) _ c.requires.holds.agrees (rw c.in-Computed.is at c.requires.places) sound)
+
+pub returns-in-Rewire-clause-steps : goal.returns-in-Rewire-clause-steps
+returns-in-Rewire-clause-steps g c = λ hosts all sound. rw c.in-Rewire.is (c.rewire.ensures.steps hosts (map (λ r. r.slack) c.args.rules.now) sound)
+
+pub returns-in-Watcher-clause-steps : goal.returns-in-Watcher-clause-steps
+returns-in-Watcher-clause-steps g c = λ hosts all sound. rw c.in-Watcher.is (c.make_watcher.ensures.steps hosts (map (λ r. r.slack) c.args.rules.now) _ sound)
+
+pub returns-in-Watch-clause-steps : goal.returns-in-Watch-clause-steps
+returns-in-Watch-clause-steps g c = λ hosts all sound. rw c.in-Watch.is (c.watch.ensures.steps hosts (map (λ r. r.slack) c.args.rules.now) _ sound)
+
+pub returns-in-Unwatch-clause-steps : goal.returns-in-Unwatch-clause-steps
+returns-in-Unwatch-clause-steps g c = λ hosts all sound. rw c.in-Unwatch.is (c.unwatch.ensures.steps hosts (map (λ r. r.slack) c.args.rules.now) _ sound)
+
+pub returns-in-Template-clause-steps : goal.returns-in-Template-clause-steps
+returns-in-Template-clause-steps g c = λ hosts all sound. rw c.in-Template.is (c.make_template.ensures.steps hosts (map (λ r. r.slack) c.args.rules.now) _ sound)
+
+pub returns-in-Mount-clause-steps : goal.returns-in-Mount-clause-steps
+returns-in-Mount-clause-steps g c = λ hosts all sound. rw c.in-Mount.is (c.mount.ensures.steps hosts (map (λ r. r.slack) c.args.rules.now) all sound)

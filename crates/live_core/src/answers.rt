@@ -1,0 +1,121 @@
+// What is told of signals and watchers.
+ghost use Rattle.std.specs.Prelude.{◌≡◌, ◌+◌, ◌∷◌, ◌<◌, ◌≤◌, ◌^◌, ℕ, [], List, IfOk, IfErr, OnOk, length};
+ghost use Rattle.signal_model.specs.Recipes.{Hosts};
+ghost use Rattle.sig_host.specs.Hosts.{HostPlace, most_asked};
+ghost use Rattle.sig_nodes.specs.Answers.{mark_meant};
+ghost use Rattle.sig_effect.specs.declared.errors.EffectFault.TheVariants as fault;
+ghost use Rattle.sig_effect.specs.Agreeing.{environment, Agrees, IsSound};
+ghost use Rattle.live_cmd.specs.declared.command.Command.TheVariants as command;
+ghost use Rattle.live_cmd.specs.declared.command.Verb.TheVariants as verb;
+ghost use Rattle.live_model.specs.Machine.{done, seen_of};
+ghost use Rattle.live_core.specs.Keeping.{AreFine, IsReady, Leaves, Steps};
+ghost use Rattle.live_core.specs.Views.{plain_of};
+
+use crate::labels::{entries_of, labels_of};
+use crate::machine::Machine;
+use live_cmd::{Entry, Seen};
+use sig_base::{Name, NoMemory, NodeId, WatcherId};
+use sig_effect::EffectFault;
+use sig_host::{Lent, Shelf};
+use sig_nodes::Mark;
+use std::alloc::Global;
+
+/// One entry.
+pub(crate) fn one(alloc: Global, entry: Entry) -> Result<Vec<Entry>, NoMemory>
+    ensures { IfOk result (λ entries. entries.items ≡ entry ∷ []) }
+{
+    let mut entries = Vec::new(alloc);
+    entries.push(entry)?;
+    Ok(entries)
+}
+
+// A mark, as it is told.
+fn seen_of(mark: Mark) -> Seen
+    ensures { result ≡ seen_of (mark_meant mark) }
+{
+    match mark {
+        Mark::Clean => Seen::Clean,
+        Mark::Checked => Seen::Checked,
+        Mark::Dirty => Seen::Dirty,
+    }
+}
+
+impl Machine {
+    /// Tells what a name comes to, and the runs on the way.
+    pub(crate) fn get(&mut self, shelf: &mut Shelf, name: Name) -> Result<Vec<Entry>, EffectFault>
+        requires ready { IsReady self.old }
+        requires worn { self.old.world.graph.state.worn < 2 ^ 125 }
+        requires agrees { Agrees (⟦<Shelf as Lent>⟧.asked shelf.old) self.old.world }
+        requires counted { ⟦<Shelf as Lent>⟧.counted shelf.old }
+        requires room { most_asked (⟦<Shelf as Lent>⟧.asked shelf.old) < 2 ^ 124 }
+        ensures steps { (hosts : Hosts) (slacks : List ℕ) → ⟦<Shelf as Lent>⟧.answers hosts shelf.old →
+            IsSound hosts (⟦<Shelf as Lent>⟧.asked shelf.old) self.old.world →
+            IfOk result (λ es. Steps hosts (⟦<Shelf as Lent>⟧.asked shelf.new) self.new es.items
+            (done (environment hosts slacks) (plain_of (⟦<Shelf as Lent>⟧.asked shelf.old) self.old) (command.Named verb.Get name))) }
+        ensures leaves { (count : ℕ) → OnOk result
+            (Leaves (⟦<Shelf as Lent>⟧.asked shelf.old) (⟦<Shelf as Lent>⟧.asked shelf.new) count self.old self.new) }
+        ensures answers { (hosts : Hosts) → ⟦<Shelf as Lent>⟧.answers hosts shelf.old → OnOk result (⟦<Shelf as Lent>⟧.answers hosts shelf.new) }
+        ensures counted { OnOk result (⟦<Shelf as Lent>⟧.counted shelf.new) }
+        ensures most { OnOk result (most_asked (⟦<Shelf as Lent>⟧.asked shelf.new) ≤ most_asked (⟦<Shelf as Lent>⟧.asked shelf.old) + 2 ^ 75) }
+        ensures memory { IfErr result (λ e. e ≡ fault.NoMemory) }
+    {
+        let signal = NodeId::of(self.names.number_of(&name));
+        let mut events = Vec::new(self.alloc);
+        let outcome = self.world.ask(shelf, signal, &mut events)?;
+        let _count = events.len();
+        let mut told = entries_of(self.alloc, &self.labels, &events)?;
+        told.push(Entry::Outcome(name, outcome))?;
+        Ok(told)
+    }
+
+    /// Tells how a computed stands.
+    pub(crate) fn state(&self, name: Name) -> Result<Vec<Entry>, EffectFault>
+        requires ready { IsReady self.now }
+        requires fine { AreFine self.now (command.Named verb.State name) }
+        ensures steps { (hosts : Hosts) (slacks : List ℕ) (asked : List HostPlace) → IsSound hosts asked self.now.world →
+            IfOk result (λ es. Steps hosts asked self.now es.items
+            (done (environment hosts slacks) (plain_of asked self.now) (command.Named verb.State name))) }
+        ensures memory { IfErr result (λ e. e ≡ fault.NoMemory) }
+    {
+        let computed = NodeId::of(self.names.number_of(&name));
+        let seen = seen_of(self.world.graph.mark_of(computed));
+        let told = one(self.alloc, Entry::State(name, seen))?;
+        Ok(told)
+    }
+
+    /// Tells the sources that a computed keeps.
+    pub(crate) fn sources(&self, name: Name) -> Result<Vec<Entry>, EffectFault>
+        requires ready { IsReady self.now }
+        ensures steps { (hosts : Hosts) (slacks : List ℕ) (asked : List HostPlace) → IsSound hosts asked self.now.world →
+            IfOk result (λ es. Steps hosts asked self.now es.items
+            (done (environment hosts slacks) (plain_of asked self.now) (command.Named verb.Sources name))) }
+        ensures memory { IfErr result (λ e. e ≡ fault.NoMemory) }
+    {
+        let computed = NodeId::of(self.names.number_of(&name));
+        let _made = self.world.graph.made();
+        let sources = labels_of(
+            self.alloc,
+            &self.labels.signals,
+            self.world.graph.sources(computed),
+        )?;
+        let told = one(self.alloc, Entry::Sources(name, sources))?;
+        Ok(told)
+    }
+
+    /// Tells the computeds that a watcher watches and that have to run, or something below them.
+    pub(crate) fn pending(&self, name: Name) -> Result<Vec<Entry>, EffectFault>
+        requires ready { IsReady self.now }
+        requires fine { AreFine self.now (command.Named verb.Pending name) }
+        ensures steps { (hosts : Hosts) (slacks : List ℕ) (asked : List HostPlace) → IsSound hosts asked self.now.world →
+            IfOk result (λ es. Steps hosts asked self.now es.items
+            (done (environment hosts slacks) (plain_of asked self.now) (command.Named verb.Pending name))) }
+        ensures memory { IfErr result (λ e. e ≡ fault.NoMemory) }
+    {
+        let watcher = WatcherId::of(self.names.number_of(&name));
+        let _made = self.world.graph.made();
+        let pending = self.world.watchers.pending(&self.world.graph, watcher)?;
+        let pending = labels_of(self.alloc, &self.labels.signals, &pending)?;
+        let told = one(self.alloc, Entry::Pending(name, pending))?;
+        Ok(told)
+    }
+}

@@ -1,0 +1,195 @@
+// One item: refused, or done.
+ghost use Rattle.std.specs.Prelude.{◌≡◌, ◌+◌, ◌≤◌, ◌<◌, ◌^◌, ℕ, List, None, IfOk, IfErr, OnOk, length, map};
+ghost use Rattle.signal_model.specs.Recipes.{Hosts};
+ghost use Rattle.sig_host.specs.Hosts.{HostPlace, most_asked};
+ghost use Rattle.sig_effect.specs.declared.errors.EffectFault.TheVariants as fault;
+ghost use Rattle.sig_effect.specs.Agreeing.{environment, Agrees, AreNew, IsSound};
+ghost use Rattle.live_cmd.specs.declared.command.Item.TheVariants as item;
+ghost use Rattle.live_cmd.specs.declared.command.Command.TheVariants as command;
+ghost use Rattle.live_model.specs.Machine.{count_refusal, done, empty, over_limit, place_refusal, step, unwatch_refusal};
+ghost use Rattle.live_core.specs.Keeping.{AreFine, Holds, IsReady, Leaves, Steps};
+ghost use Rattle.live_core.specs.Views.{plain_of};
+ghost use Rattle.sig_effect.specs.Wholes.{whole_of};
+
+use crate::answers::one;
+use crate::machine::{Labels, Machine};
+use crate::names::Names;
+use live_cmd::{Command, Entry, Item, Verb};
+use sig_base::{Name, NoMemory};
+use sig_effect::{EffectFault, World};
+use sig_host::{EqualsRule, Lent, Shelf};
+use std::alloc::Global;
+
+// Want of memory, the only fault of a command that isn't refused.
+fn want_of_memory(why: EffectFault) -> NoMemory
+    requires { why ≡ fault.NoMemory }
+{
+    match why {
+        EffectFault::NoMemory => NoMemory,
+        EffectFault::Limit | EffectFault::Gone => unreachable!(),
+    }
+}
+
+impl Machine {
+    /// The machine before the first command.
+    pub(crate) fn new(alloc: Global) -> Result<Machine, NoMemory>
+        ensures plain { (asked : List HostPlace) → AreNew asked → IfOk result (λ m. plain_of asked m ≡ empty (length asked)) }
+        ensures sound { (hosts : Hosts) (asked : List HostPlace) → AreNew asked → IfOk result (λ m. IsSound hosts asked m.world) }
+        ensures holds { (asked : List HostPlace) (rules : ℕ) → IfOk result (λ m. Holds asked rules m.world) }
+        ensures ready { IfOk result IsReady }
+        ensures worn { IfOk result (λ m. m.world.graph.state.worn ≡ 0) }
+    {
+        let world = World::new(alloc)?;
+        Ok(Machine {
+            alloc,
+            names: Names::new(alloc),
+            labels: Labels {
+                signals: Vec::new(alloc),
+                watchers: Vec::new(alloc),
+            },
+            world,
+            templates: Vec::new(alloc),
+            pages: Vec::new(alloc),
+        })
+    }
+
+    // Does what a verb says to a name.
+    fn do_verb(
+        &mut self,
+        shelf: &mut Shelf,
+        verb: Verb,
+        name: Name,
+    ) -> Result<Vec<Entry>, EffectFault>
+        requires ready { IsReady self.old }
+        requires worn { self.old.world.graph.state.worn < 2 ^ 125 }
+        requires agrees { Agrees (⟦<Shelf as Lent>⟧.asked shelf.old) self.old.world }
+        requires counted { ⟦<Shelf as Lent>⟧.counted shelf.old }
+        requires most { most_asked (⟦<Shelf as Lent>⟧.asked shelf.old) < 2 ^ 124 }
+        requires fine { AreFine self.old (command.Named verb name) }
+        ensures steps { (hosts : Hosts) (slacks : List ℕ) → ⟦<Shelf as Lent>⟧.answers hosts shelf.old →
+            IsSound hosts (⟦<Shelf as Lent>⟧.asked shelf.old) self.old.world →
+            IfOk result (λ es. Steps hosts (⟦<Shelf as Lent>⟧.asked shelf.new) self.new es.items
+            (done (environment hosts slacks) (plain_of (⟦<Shelf as Lent>⟧.asked shelf.old) self.old) (command.Named verb name))) }
+        ensures leaves { (count : ℕ) → OnOk result
+            (Leaves (⟦<Shelf as Lent>⟧.asked shelf.old) (⟦<Shelf as Lent>⟧.asked shelf.new) count self.old self.new) }
+        ensures answers { (hosts : Hosts) → ⟦<Shelf as Lent>⟧.answers hosts shelf.old → OnOk result (⟦<Shelf as Lent>⟧.answers hosts shelf.new) }
+        ensures counted { OnOk result (⟦<Shelf as Lent>⟧.counted shelf.new) }
+        ensures most { OnOk result (most_asked (⟦<Shelf as Lent>⟧.asked shelf.new) ≤ most_asked (⟦<Shelf as Lent>⟧.asked shelf.old) + 2 ^ 75) }
+        ensures memory { IfErr result (λ e. e ≡ fault.NoMemory) }
+    {
+        match verb {
+            Verb::Get => self.get(shelf, name),
+            Verb::State => self.state(name),
+            Verb::Sources => self.sources(name),
+            Verb::Pending => self.pending(name),
+            Verb::Show => self.show(name),
+            Verb::Dispose => self.dispose(shelf, &name),
+        }
+    }
+
+    // Does a command that isn't refused.
+    fn perform(
+        &mut self,
+        shelf: &mut Shelf,
+        rules: &[EqualsRule],
+        command: Command,
+    ) -> Result<Vec<Entry>, EffectFault>
+        requires ready { IsReady self.old }
+        requires worn { self.old.world.graph.state.worn < 2 ^ 125 }
+        requires holds { Holds (⟦<Shelf as Lent>⟧.asked shelf.old) (length rules.now) self.old.world }
+        requires counted { ⟦<Shelf as Lent>⟧.counted shelf.old }
+        requires most { most_asked (⟦<Shelf as Lent>⟧.asked shelf.old) < 2 ^ 124 }
+        requires few { count_refusal command ≡ None }
+        requires fine { AreFine self.old command }
+        requires places { place_refusal (map (λ r. r.slack) rules.now) (whole_of (⟦<Shelf as Lent>⟧.asked shelf.old) self.old.world) command ≡ None }
+        requires room { over_limit (plain_of (⟦<Shelf as Lent>⟧.asked shelf.old) self.old) command ≡ None }
+        requires watched { unwatch_refusal (plain_of (⟦<Shelf as Lent>⟧.asked shelf.old) self.old) command ≡ None }
+        ensures steps { (hosts : Hosts) → ⟦<Shelf as Lent>⟧.answers hosts shelf.old →
+            IsSound hosts (⟦<Shelf as Lent>⟧.asked shelf.old) self.old.world →
+            IfOk result (λ es. Steps hosts (⟦<Shelf as Lent>⟧.asked shelf.new) self.new es.items
+            (done (environment hosts (map (λ r. r.slack) rules.now)) (plain_of (⟦<Shelf as Lent>⟧.asked shelf.old) self.old) command)) }
+        ensures leaves { OnOk result
+            (Leaves (⟦<Shelf as Lent>⟧.asked shelf.old) (⟦<Shelf as Lent>⟧.asked shelf.new) (length rules.now) self.old self.new) }
+        ensures answers { (hosts : Hosts) → ⟦<Shelf as Lent>⟧.answers hosts shelf.old → OnOk result (⟦<Shelf as Lent>⟧.answers hosts shelf.new) }
+        ensures counted { OnOk result (⟦<Shelf as Lent>⟧.counted shelf.new) }
+        ensures most { OnOk result (most_asked (⟦<Shelf as Lent>⟧.asked shelf.new) ≤ most_asked (⟦<Shelf as Lent>⟧.asked shelf.old) + 2 ^ 75) }
+        ensures memory { IfErr result (λ e. e ≡ fault.NoMemory) }
+    {
+        match command {
+            Command::Cell {
+                name,
+                value,
+                equals,
+            } => self.make_cell(name, value, equals),
+            Command::Set { name, value } => self.set(rules, &name, value),
+            Command::Computed { name, source } => self.make_computed(name, source),
+            Command::Rewire { name, source } => self.rewire(shelf, &name, source),
+            Command::Watcher { name, tries } => self.make_watcher(name, tries),
+            Command::Watch { name, signals } => self.watch(&name, &signals),
+            Command::Unwatch { name, signal } => self.unwatch(&name, &signal),
+            Command::Template { name, texts } => self.make_template(name, texts),
+            Command::Mount { name, template } => self.mount(shelf, name, &template),
+            Command::Named { verb, name } => self.do_verb(shelf, verb, name),
+            Command::Flush => self.flush(shelf),
+        }
+    }
+
+    // Does a command, or refuses it.
+    fn try_command(
+        &mut self,
+        shelf: &mut Shelf,
+        rules: &[EqualsRule],
+        command: Command,
+    ) -> Result<Vec<Entry>, NoMemory>
+        requires ready { IsReady self.old }
+        requires worn { self.old.world.graph.state.worn < 2 ^ 125 }
+        requires holds { Holds (⟦<Shelf as Lent>⟧.asked shelf.old) (length rules.now) self.old.world }
+        requires counted { ⟦<Shelf as Lent>⟧.counted shelf.old }
+        requires most { most_asked (⟦<Shelf as Lent>⟧.asked shelf.old) < 2 ^ 124 }
+        ensures steps { (hosts : Hosts) → ⟦<Shelf as Lent>⟧.answers hosts shelf.old →
+            IsSound hosts (⟦<Shelf as Lent>⟧.asked shelf.old) self.old.world →
+            IfOk result (λ es. Steps hosts (⟦<Shelf as Lent>⟧.asked shelf.new) self.new es.items
+            (step (environment hosts (map (λ r. r.slack) rules.now)) (plain_of (⟦<Shelf as Lent>⟧.asked shelf.old) self.old) (item.Do command))) }
+        ensures leaves { OnOk result
+            (Leaves (⟦<Shelf as Lent>⟧.asked shelf.old) (⟦<Shelf as Lent>⟧.asked shelf.new) (length rules.now) self.old self.new) }
+        ensures answers { (hosts : Hosts) → ⟦<Shelf as Lent>⟧.answers hosts shelf.old → OnOk result (⟦<Shelf as Lent>⟧.answers hosts shelf.new) }
+        ensures counted { OnOk result (⟦<Shelf as Lent>⟧.counted shelf.new) }
+        ensures most { OnOk result (most_asked (⟦<Shelf as Lent>⟧.asked shelf.new) ≤ most_asked (⟦<Shelf as Lent>⟧.asked shelf.old) + 2 ^ 75) }
+    {
+        if let Some(refusal) = self.refusal_of(shelf, rules, &command)? {
+            return one(self.alloc, Entry::Error(refusal));
+        }
+        match self.perform(shelf, rules, command) {
+            Ok(entries) => Ok(entries),
+            Err(fault) => Err(want_of_memory(fault)),
+        }
+    }
+
+    /// Does one item. A refused one changes nothing.
+    pub(crate) fn act(
+        &mut self,
+        shelf: &mut Shelf,
+        rules: &[EqualsRule],
+        item: Item,
+    ) -> Result<Vec<Entry>, NoMemory>
+        requires ready { IsReady self.old }
+        requires worn { self.old.world.graph.state.worn < 2 ^ 125 }
+        requires holds { Holds (⟦<Shelf as Lent>⟧.asked shelf.old) (length rules.now) self.old.world }
+        requires counted { ⟦<Shelf as Lent>⟧.counted shelf.old }
+        requires most { most_asked (⟦<Shelf as Lent>⟧.asked shelf.old) < 2 ^ 124 }
+        ensures steps { (hosts : Hosts) → ⟦<Shelf as Lent>⟧.answers hosts shelf.old →
+            IsSound hosts (⟦<Shelf as Lent>⟧.asked shelf.old) self.old.world →
+            IfOk result (λ es. Steps hosts (⟦<Shelf as Lent>⟧.asked shelf.new) self.new es.items
+            (step (environment hosts (map (λ r. r.slack) rules.now)) (plain_of (⟦<Shelf as Lent>⟧.asked shelf.old) self.old) item)) }
+        ensures leaves { OnOk result
+            (Leaves (⟦<Shelf as Lent>⟧.asked shelf.old) (⟦<Shelf as Lent>⟧.asked shelf.new) (length rules.now) self.old self.new) }
+        ensures answers { (hosts : Hosts) → ⟦<Shelf as Lent>⟧.answers hosts shelf.old → OnOk result (⟦<Shelf as Lent>⟧.answers hosts shelf.new) }
+        ensures counted { OnOk result (⟦<Shelf as Lent>⟧.counted shelf.new) }
+        ensures most { OnOk result (most_asked (⟦<Shelf as Lent>⟧.asked shelf.new) ≤ most_asked (⟦<Shelf as Lent>⟧.asked shelf.old) + 2 ^ 75) }
+    {
+        match item {
+            Item::Do(command) => self.try_command(shelf, rules, command),
+            Item::Refused(refusal) => one(self.alloc, Entry::Error(refusal)),
+        }
+    }
+}
