@@ -1,0 +1,13 @@
+-- What crates above may cite of these proofs: laws of templates. All else in this folder is this crate's own.
+
+pub use Rattle.tpl_model.proofs.Agreeing.{formula_agree, shown_agree}
+pub use Rattle.tpl_model.proofs.Alike.{same_rows}
+pub use Rattle.tpl_model.proofs.Evaluated.{evaluating_law}
+pub use Rattle.tpl_model.proofs.Kept.{attributes_none}
+pub use Rattle.tpl_model.proofs.Made.{is_page, origin, replays}
+pub use Rattle.tpl_model.proofs.Ordered.{scratch_law}
+pub use Rattle.tpl_model.proofs.Origins.{origin_law}
+pub use Rattle.tpl_model.proofs.Rows.{rows_law}
+pub use Rattle.tpl_model.proofs.Shaped.{shape_law}
+pub use Rattle.tpl_model.proofs.Single.{times, once_line}
+pub use Rattle.tpl_model.proofs.Sized.{size_law}
