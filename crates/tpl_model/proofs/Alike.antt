@@ -12,9 +12,11 @@ use Rattle.sig_base.specs.declared.scalar.Scalar.TheVariants as scalar
 use Rattle.sig_base.specs.declared.value.Known.{Known}
 use Rattle.sig_formula.specs.declared.evaluate.FormulaStep.TheVariants.{End}
 use Rattle.sig_formula.specs.declared.formula.RowRef.{RowRef}
-use Rattle.sig_formula.specs.Answering.{chosen, count_outcome, decided, field_outcome, formula_step, keep_step, key_outcome, negated, operated}
+use Rattle.sig_formula.specs.Answering.{chosen, count_outcome, decided, field_outcome, formula_step, keep_step, key_outcome, negated}
+use Rattle.sig_formula.specs.Answering.{operated}
 use Rattle.sig_formula.specs.Answering.{plain_step, present, sum_step, unless_decided, value_under, with_rows, with_value}
-use Rattle.sig_formula.specs.Trees.{Tree, literal, slot, row_field, row_key, negation, binary, choice, count_of, sum_of, rows_where, untracked}
+use Rattle.sig_formula.specs.Trees.{Tree, literal, slot, row_field, row_key, negation, binary, choice, count_of, sum_of, rows_where}
+use Rattle.sig_formula.specs.Trees.{untracked}
 use Rattle.tpl_model.specs.Sources.{same_here, same_place}
 use Rattle.tpl_model.specs.Laws.{SameRowsLaw}
 
@@ -32,9 +34,11 @@ same_step tracking (row_field f) row other ts us h = ap (λ o. End o) (h.fields 
 same_step tracking row_key row other ts us h = ap (λ o. End o) h.keys
 same_step tracking (negation a) row other ts us h = ap (λ s. with_value s (λ v. End (negated v))) (same_step tracking a row other ts us h)
 same_step tracking (binary o a b) row other ts us h =
-    ap (λ s. with_value s (λ v. unless_decided (decided o v) (with_value (formula_step tracking b row ts us) (λ w. End (operated o v w)))))
+    ap (λ s. with_value s (λ v. unless_decided (decided o v) (with_value (formula_step tracking b row ts us) (λ w. End
+    (operated o v w)))))
     (same_step tracking a row other ts us h)
-    ∙ ap (λ s. with_value (formula_step tracking a other ts us) (λ v. unless_decided (decided o v) (with_value s (λ w. End (operated o v w)))))
+    ∙ ap (λ s. with_value (formula_step tracking a other ts us) (λ v. unless_decided (decided o v) (with_value s (λ w. End
+    (operated o v w)))))
     (same_step tracking b row other ts us h)
 same_step tracking (choice t a b) row other ts us h =
     ap (λ s. with_value s (λ v. chosen v (formula_step tracking a row ts us) (formula_step tracking b row ts us)))

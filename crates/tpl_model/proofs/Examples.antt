@@ -70,7 +70,8 @@ unfolding address
 form_mounted = refl
 
 -- an attribute that isn't true any more goes
-form_flushed : edits_between form_first (carried_to form_lines (0 ∷ 1 ∷ []) form_first (truths true false)) ≡ OpUnattr 2 (codes "disabled") ∷ []
+form_flushed : edits_between form_first (carried_to form_lines (0 ∷ 1 ∷ []) form_first (truths true false)) ≡ OpUnattr 2
+    (codes "disabled") ∷ []
 unfolding address
 form_flushed = refl
 
@@ -84,7 +85,8 @@ form_turned = refl
 
 -- an element whose attribute reads the slot 1, and whose text reads the slot 0 and then the slot 2
 abbrev box_lines : List Line
-box_lines = TagLine (codes "p") ∷ AttrLine (codes "title") (slot 1) ∷ TextLine (slot 0) ∷ TextLine (slot 2) ∷ EndLine ∷ TextLine (slot 0) ∷ []
+box_lines = TagLine (codes "p") ∷ AttrLine (codes "title") (slot 1) ∷ TextLine (slot 0) ∷ TextLine (slot 2) ∷ EndLine ∷ TextLine
+    (slot 0) ∷ []
 
 -- attributes come before children, and a name that is read twice is asked for once
 box_reads : firsts [] (shown_lines (on (10 ∷ 11 ∷ 12 ∷ []) []) box_lines).reads ≡ 11 ∷ 10 ∷ 12 ∷ []
@@ -98,7 +100,8 @@ box_needs_next = refl
 
 -- what is known is numbered in document order
 box_page : known_page (Some (said (codes "a")) ∷ Some (Bad Zero) ∷ Some (said (codes "c")) ∷ []) box_lines
-    ≡ node 1 (Element (codes "p") []) (node 2 (Text (codes "a")) none (node 3 (Text (codes "c")) none none)) (node 4 (Text (codes "a")) none none)
+    ≡ node 1 (Element (codes "p") []) (node 2 (Text (codes "a")) none (node 3 (Text (codes "c")) none none)) (node 4 (Text
+    (codes "a")) none none)
 box_page = refl
 
 -- ---- rows
@@ -112,7 +115,8 @@ abbrev rows : List Row → List Outcome
 rows rs = Good (value.Rows (record { fields = codes "n" ∷ []; rows = rs })) ∷ []
 
 abbrev list_lines : List Line
-list_lines = TagLine (codes "ul") ∷ EachLine (slot 0) ∷ TagLine (codes "li") ∷ TextLine (row_field (codes "n")) ∷ EndLine ∷ EndLine ∷ EndLine
+list_lines = TagLine (codes "ul") ∷ EachLine (slot 0) ∷ TagLine (codes "li") ∷ TextLine (row_field
+    (codes "n")) ∷ EndLine ∷ EndLine ∷ EndLine
     ∷ TextLine (slot 0) ∷ []
 
 -- an item of the list
@@ -129,7 +133,8 @@ abbrev list_first : NumberedPage
 list_first = carried_to list_lines (0 ∷ []) bare (rows (row (codes "a") (codes "x") ∷ row (codes "b") (codes "y") ∷ []))
 
 -- rows are told apart by their keys: those that change places move, and a field that differs is a text that differs
-list_moved : edits_between list_first (carried_to list_lines (0 ∷ []) list_first (rows (row (codes "b") (codes "y") ∷ row (codes "a") (codes "z") ∷ [])))
+list_moved : edits_between list_first (carried_to list_lines (0 ∷ []) list_first (rows (row (codes "b") (codes "y") ∷ row (codes "a")
+    (codes "z") ∷ [])))
     ≡ OpMove 4 0 ∷ OpText 3 (codes "z") ∷ []
 unfolding address
 list_moved = refl
@@ -164,7 +169,8 @@ either_reads : firsts [] (shown_lines (on (10 ∷ 11 ∷ 12 ∷ []) (Bad Zero �
 either_reads = refl
 
 -- what is known decides what is needed next
-either_needs : (needed (None ∷ None ∷ None ∷ []) either_lines ≡ Some 0) × (needed (Some (Bad Zero) ∷ None ∷ None ∷ []) either_lines ≡ Some 2)
+either_needs : (needed (None ∷ None ∷ None ∷ []) either_lines ≡ Some 0) × (needed (Some
+    (Bad Zero) ∷ None ∷ None ∷ []) either_lines ≡ Some 2)
     × (needed (Some (said (codes "1")) ∷ None ∷ None ∷ []) either_lines ≡ Some 1)
     × (needed (Some (Bad Zero) ∷ None ∷ Some (said (codes "7")) ∷ []) either_lines ≡ None)
 either_needs = (refl, refl, refl, refl)
@@ -174,5 +180,6 @@ abbrev nested_lines : List Line
 nested_lines = TryLine ∷ TryLine ∷ TextLine (slot 0) ∷ ElseLine ∷ TextLine (slot 0) ∷ EndLine ∷ TextLine (words (codes "tail")) ∷ ElseLine
     ∷ TextLine (words (codes "outer")) ∷ EndLine ∷ []
 
-nested_shape : shape_of (on (0 ∷ []) (Bad Zero ∷ [])) nested_lines ≡ node 0 Root (node (address 9 None) (Text (codes "outer")) none none) none
+nested_shape : shape_of (on (0 ∷ []) (Bad Zero ∷ [])) nested_lines ≡ node 0 Root (node (address 9 None) (Text
+    (codes "outer")) none none) none
 nested_shape = refl

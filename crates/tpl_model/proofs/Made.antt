@@ -24,7 +24,8 @@ only_root a h = elim (cases_Bool (0 == a)) [
 -- a page that is made from a template is a page
 pub is_page : (lines : List Line) (old : NumberedPage) → IsTemplate lines → IsMade lines old → IsPage old
 is_page lines _ f begun = bare_page
-is_page lines _ f (carried_on {p = p} evaluate g m) = page_after p (shape_of evaluate lines) (is_page lines p f m) (shape_law lines evaluate f g)
+is_page lines _ f (carried_on {p = p} evaluate g m) = page_after p (shape_of evaluate lines) (is_page lines p f m)
+    (shape_law lines evaluate f g)
 
 bare_origin : (lines : List Line) (evaluate : Evaluating) → SameOrigin (page_shape bare) (shape_of evaluate lines)
 bare_origin lines evaluate =
@@ -32,17 +33,23 @@ bare_origin lines evaluate =
     let whole : Forest Look = node 0 Root t none in
     let v : Each (From (block_of lines) None 0) 0 t = given evaluate (block_of lines) false None 0 in
     record {
-      parents = λ a h i. (let q = only_root a h in subst (λ j. parent j alone ≡ parent j whole) q (sym (root_parent (block_of lines) t v)));
+      parents = λ a h i. (let q = only_root a h in subst (λ j. parent j alone ≡ parent j whole) q (sym (root_parent
+          (block_of lines) t v)));
       lines = λ a h i. (let q = only_root a h in subst (λ j. Alike (label_in Root j alone) (label_in Root j whole)) q tt);
     }
 
 -- a page that is made from a template has one origin with each shape of it
-pub origin : (lines : List Line) (old : NumberedPage) (evaluate : Evaluating) → IsTemplate lines → IsMade lines old → SameOrigin (page_shape old) (shape_of evaluate lines)
+pub origin : (lines : List Line) (old : NumberedPage) (evaluate : Evaluating) → IsTemplate lines → IsMade lines old →
+    SameOrigin (page_shape old) (shape_of evaluate lines)
 origin lines _ evaluate f begun = bare_origin lines evaluate
 origin lines _ evaluate f (carried_on {p = p} earlier g m) =
-    subst (λ s. SameOrigin s (shape_of evaluate lines)) (sym (shape_after p (shape_of earlier lines))) (origin_law lines earlier evaluate f)
+    subst (λ s. SameOrigin s (shape_of evaluate lines)) (sym (shape_after p (shape_of earlier lines)))
+    (origin_law lines earlier evaluate f)
 
 -- the replay law for the pages of a template
-pub replays : (lines : List Line) (old : NumberedPage) (evaluate : Evaluating) → IsTemplate lines → IsMade lines old → GivesRows evaluate →
-    replay (edits_between old (renumbered old (shape_of evaluate lines))) (tree_of old) ≡ Done (tree_of (renumbered old (shape_of evaluate lines)))
-replays lines old evaluate f m g = replay_leads old (shape_of evaluate lines) (is_page lines old f m) (shape_law lines evaluate f g) (origin lines old evaluate f m)
+pub replays : (lines : List Line) (old : NumberedPage) (evaluate : Evaluating) → IsTemplate lines → IsMade lines old →
+    GivesRows evaluate →
+    replay (edits_between old (renumbered old (shape_of evaluate lines))) (tree_of old) ≡ Done (tree_of (renumbered old
+    (shape_of evaluate lines)))
+replays lines old evaluate f m g = replay_leads old (shape_of evaluate lines) (is_page lines old f m) (shape_law lines evaluate f g)
+    (origin lines old evaluate f m)

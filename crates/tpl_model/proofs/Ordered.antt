@@ -1,10 +1,12 @@
 -- A page from scratch has the numbers of a page that is mounted.
-use Rattle.std.proofs.Common.{◌≡◌, ℕ, suc, ◌+◌, ◌≤◌, ◌==◌, Bool, true, false, ◌||◌, refl, sym, ap, ◌∙◌, arith, eqb-true, eq-eqb, inl, inr, List, [], ◌∷◌, ◌++◌, append-nil, length, length-append}
+use Rattle.std.proofs.Common.{◌≡◌, ℕ, suc, ◌+◌, ◌≤◌, ◌==◌, Bool, true, false, ◌||◌, refl, sym, ap, ◌∙◌, arith, eqb-true, eq-eqb, inl, inr}
+use Rattle.std.proofs.Common.{List, [], ◌∷◌, ◌++◌, append-nil, length, length-append}
 use Rattle.std.proofs.lemmas.Bool.{cases_Bool, false≢true}
 use Rattle.page_model.specs.Edits.{listed}
 use Rattle.page_model.specs.Forest.{Forest, none, node, keys, numbered, on, one, tally}
 use Rattle.page_model.specs.Labels.{Root, Look, shown}
-use Rattle.page_model.specs.Pages.{IsShape, bare, by_number, carried, new_order, newcomers, page_shape, place_in, renumbered, tree_of, with_numbers}
+use Rattle.page_model.specs.Pages.{IsShape, bare, by_number, carried, new_order, newcomers, page_shape, place_in, renumbered, tree_of}
+use Rattle.page_model.specs.Pages.{with_numbers}
 use Rattle.page_model.proofs.Shared.{off_tally, on_tally}
 use Rattle.tpl_model.specs.Laws.{IsTemplate, GivesRows, ScratchLaw}
 use Rattle.tpl_model.specs.Shapes.{shape_of, shown_lines}
@@ -52,7 +54,8 @@ apart_below a m x k r h i = elim (cases_Bool (m == a)) [
   | inr e ↦ e
 ]
 
-apart_beside : {A : Type 0} (a m : ℕ) (x : A) (k r : Forest A) → Once (node m x k r) → on a r ≡ true → ((m == a) ≡ false) × (on a k ≡ false)
+apart_beside : {A : Type 0} (a m : ℕ) (x : A) (k r : Forest A) → Once (node m x k r) → on a r ≡ true →
+    ((m == a) ≡ false) × (on a k ≡ false)
 apart_beside a m x k r h i = (
   elim (cases_Bool (m == a)) [
     | inl e ↦ (let u = rw e at (h.once a) in let v = on_tally a r i in absurd (omega arith))
@@ -65,7 +68,8 @@ apart_beside a m x k r h i = (
 )
 
 -- numbers by places in document order are numbers in order
-by_places : {A : Type 0} (number : ℕ → ℕ) (n : ℕ) (t : Forest A) → Once t → ((a : ℕ) → on a t ≡ true → number a ≡ n + place_in a (keys t)) →
+by_places : {A : Type 0} (number : ℕ → ℕ) (n : ℕ) (t : Forest A) → Once t → ((a : ℕ) → on a t ≡ true →
+    number a ≡ n + place_in a (keys t)) →
     numbered number t ≡ in_order n t
 by_places number n none h p = refl
 by_places number n (node m x k r) h p =
@@ -77,7 +81,8 @@ by_places number n (node m x k r) h p =
     let s = place_left a (keys k) (keys r) (listed_on a k ∙ i) in
     let q = p a (rw (e, i) refl) in
     q ∙ rw (e, s) (omega arith))) in
-    let beside : numbered number r ≡ in_order (suc n + length (keys k)) r = by_places number (suc n + length (keys k)) r (once_rest m x k r h)
+    let beside : numbered number r ≡ in_order (suc n + length (keys k)) r = by_places number (suc n + length (keys k)) r
+    (once_rest m x k r h)
     (λ a i. (
     let e = apart_beside a m x k r h i in
     let s = place_right a (keys k) (keys r) (listed_on a k ∙ e.1) in
@@ -92,7 +97,11 @@ newcomers_all kept none h = refl
 newcomers_all kept (node m x k r) h =
     let self = eq-eqb m m refl in
     let e = h m (rw self refl) in
-    let i = newcomers_all kept r (λ a p. h a (elim (cases_Bool (m == a)) [ inl u ↦ rw u refl | inr u ↦ elim (cases_Bool (on a k)) [ inl v ↦ rw (u, v) refl | inr v ↦ rw (u, v) p ] ])) in
+    let i = newcomers_all kept r (λ a p. h a (elim (cases_Bool (m == a)) [
+      | inl u ↦ rw u refl
+      | inr u ↦ elim (cases_Bool
+          (on a k)) [ inl v ↦ rw (u, v) refl | inr v ↦ rw (u, v) p ]
+    ])) in
     rw (e, i) refl
 
 numbers_shown : (number : ℕ → ℕ) (t : Forest Look) → by_number (with_numbers number t) ≡ numbered number t
@@ -106,10 +115,12 @@ fresh t h a i = (let e = apart_below a 0 Root t none h i in rw e refl)
 bare_order : (t : Forest Look) → Once (node 0 Root t none) → new_order bare (node 0 Root t none) ≡ keys t
 bare_order t h = append-nil (newcomers (λ a. on a (page_shape bare)) t) ∙ newcomers_all (λ a. on a (page_shape bare)) t (fresh t h)
 
-first_page : (t : Forest Look) → Once (node 0 Root t none) → tree_of (renumbered bare (node 0 Root t none)) ≡ node 0 Root (shown (in_order 1 t)) none
+first_page : (t : Forest Look) → Once (node 0 Root t none) →
+    tree_of (renumbered bare (node 0 Root t none)) ≡ node 0 Root (shown (in_order 1 t)) none
 first_page t h =
     let number = carried bare (node 0 Root t none) in
-    let o = by_places number 1 t (once_kids 0 Root t none h) (λ a i. (let e = fresh t h a i in let s = bare_order t h in rw (e, s) refl)) in
+    let o = by_places number 1 t (once_kids 0 Root t none h) (λ a i. (let e = fresh t h a i in let s = bare_order t h in
+    rw (e, s) refl)) in
     ap (λ u. node 0 Root (shown u) none) (numbers_shown number t ∙ o)
 
 pub scratch_law : ScratchLaw

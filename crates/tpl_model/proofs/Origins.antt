@@ -1,5 +1,6 @@
 -- Two shapes of one template have one origin.
-use Rattle.std.proofs.Common.{◌≡◌, ℕ, zero, suc, ◌≤◌, ◌==◌, Bool, true, false, ◌⊎◌, refl, sym, subst, ◌∙◌, arith, eqb-true, eq-eqb, inl, inr, List, [], ◌∷◌, Option, Some, None}
+use Rattle.std.proofs.Common.{◌≡◌, ℕ, zero, suc, ◌≤◌, ◌==◌, Bool, true, false, ◌⊎◌, refl, sym, subst, ◌∙◌, arith, eqb-true, eq-eqb, inl}
+use Rattle.std.proofs.Common.{inr, List, [], ◌∷◌, Option, Some, None}
 use Rattle.std.proofs.lemmas.Bool.{cases_Bool, false≢true}
 use Rattle.sig_formula.specs.Trees.{Tree}
 use Rattle.sig_formula.specs.declared.formula.RowRef.{RowRef}
@@ -8,7 +9,8 @@ use Rattle.page_model.specs.Forest.{Forest, none, node, after, has, on, parent, 
 use Rattle.page_model.specs.Labels.{Root, Text, Element, Look, SameNames, Alike}
 use Rattle.page_model.proofs.Shared.{one_address, address_above}
 use Rattle.tpl_model.specs.Lines.{Block, empty, text, tag, choice, each, attempt, block_of}
-use Rattle.tpl_model.specs.Shapes.{Evaluating, Here, key_here, row_here, Showing, told, then_shown, within, chosen, each_row, attempted, node_text, attributes_of, attributes_told, shown_block, shown_lines}
+use Rattle.tpl_model.specs.Shapes.{Evaluating, Here, key_here, row_here, Showing, told, then_shown, within, chosen, each_row, attempted}
+use Rattle.tpl_model.specs.Shapes.{node_text, attributes_of, attributes_told, shown_block, shown_lines}
 use Rattle.tpl_model.specs.Laws.{Fits, OriginLaw}
 use Rattle.tpl_model.proofs.Kept.{then_has, attributes_none, inside_has, each_has, chosen_has, attempted_has}
 use Rattle.tpl_model.proofs.Single.{times, once_line}
@@ -50,7 +52,8 @@ pub record Own (l : ℕ) (k : Option (List ℕ)) (n : ℕ) (c : Option (List ℕ
 abbrev pub Gives : (l : ℕ) (k : Option (List ℕ)) (p : ℕ) (x : Look) → Block → Option (List ℕ) → ℕ → Type 0
 Gives l k p x empty c q = ⊥
 Gives l k p x (text n f rest) c q = (Own l k n c p q × IsText x) ⊎ Gives l k p x rest c q
-Gives l k p x (tag n name xs inner rest) c q = (Own l k n c p q × IsTag name xs x) ⊎ (Gives l k p x inner c (address n c) ⊎ Gives l k p x rest c q)
+Gives l k p x (tag n name xs inner rest) c q = (Own l k n c p q × IsTag name xs x) ⊎ (Gives l k p x inner c
+    (address n c) ⊎ Gives l k p x rest c q)
 Gives l k p x (choice f a b rest) c q = Gives l k p x a c q ⊎ (Gives l k p x b c q ⊎ Gives l k p x rest c q)
 Gives l k p x (each f inner rest) c q = ((key : List ℕ) × Gives l k p x inner (Some key) q) ⊎ Gives l k p x rest c q
 Gives l k p x (attempt a b rest) c q = Gives l k p x a c q ⊎ (Gives l k p x b c q ⊎ Gives l k p x rest c q)
@@ -70,47 +73,88 @@ each_after : (R : ℕ → ℕ → Look → Type 0) (q : ℕ) (x y : Forest Look)
 each_after R q none y f g = g
 each_after R q (node a l k r) y f g = (f.0, f.1, each_after R q r y f.2 g)
 
-each_map : (R S : ℕ → ℕ → Look → Type 0) → ((a p : ℕ) (x : Look) → R a p x → S a p x) → (q : ℕ) (t : Forest Look) → Each R q t → Each S q t
+each_map : (R S : ℕ → ℕ → Look → Type 0) → ((a p : ℕ) (x : Look) → R a p x → S a p x) → (q : ℕ) (t : Forest Look) → Each R q t →
+    Each S q t
 each_map R S h q none f = tt
 each_map R S h q (node a x k r) f = (h a q x f.0, each_map R S h a k f.1, each_map R S h q r f.2)
 
-widened : (b b' : Block) (c c' : Option (List ℕ)) (q q' : ℕ) → ((l : ℕ) (k : Option (List ℕ)) (p : ℕ) (x : Look) → Gives l k p x b c q → Gives l k p x b' c' q') → (a p : ℕ) (x : Look) → From b c q a p x → From b' c' q' a p x
+widened : (b b' : Block) (c c' : Option (List ℕ)) (q q' : ℕ) → ((l : ℕ) (k : Option (List ℕ)) (p : ℕ) (x : Look) →
+    Gives l k p x b c q → Gives l k p x b' c' q') → (a p : ℕ) (x : Look) → From b c q a p x → From b' c' q' a p x
 widened b b' c c' q q' h a p x f = record { line = f.line; row = f.row; is = f.is; gives = h f.line f.row p x f.gives }
 
-pub given : (evaluate : Evaluating) (b : Block) (ends : Bool) (here : Option Here) (q : ℕ) → Each (From b (key_here here) q) q (shown_block evaluate ends here b).nodes
+pub given : (evaluate : Evaluating) (b : Block) (ends : Bool) (here : Option Here) (q : ℕ) →
+    Each (From b (key_here here) q) q (shown_block evaluate ends here b).nodes
 given evaluate empty ends here q = tt
 given evaluate (text n t rest) ends here q =
     let c = key_here here in
     let R = From (text n t rest) c q in
     let e = evaluate (row_here here) t in
-    let own : Each R q (node (address n c) (Text (node_text e.outcome)) none none) =
-    (record { line = n; row = c; is = refl; gives = inl (record { line = refl; row = refl; above = refl }, record { characters = node_text e.outcome; is = refl }) }, tt, tt) in
-    let later = each_map (From rest c q) R (widened rest (text n t rest) c c q q (λ l k p x g. inr g)) q (shown_block evaluate ends here rest).nodes (given evaluate rest ends here q) in
-    then_has (Each R q) ends (told e (node (address n c) (Text (node_text e.outcome)) none none)) (shown_block evaluate ends here rest) tt (each_after R q (node (address n c) (Text (node_text e.outcome)) none none) (shown_block evaluate ends here rest).nodes own later)
+    let own : Each R q (node (address n c) (Text (node_text e.outcome)) none none) = (
+      record {
+        line = n;
+        row = c;
+        is = refl;
+        gives = inl
+            (record { line = refl; row = refl; above = refl }, record { characters = node_text e.outcome; is = refl });
+      },
+      tt,
+      tt,
+    ) in
+    let later = each_map (From rest c q) R (widened rest (text n t rest) c c q q (λ l k p x g. inr g)) q
+    (shown_block evaluate ends here rest).nodes (given evaluate rest ends here q) in
+    then_has (Each R q) ends (told e (node (address n c) (Text (node_text e.outcome)) none none))
+    (shown_block evaluate ends here rest) tt (each_after R q (node (address n c) (Text (node_text e.outcome)) none none)
+    (shown_block evaluate ends here rest).nodes own later)
 given evaluate (tag n name xs inner rest) ends here q =
     let c = key_here here in
     let b = tag n name xs inner rest in
     let R = From b c q in
     let look : Look = Element name (attributes_of evaluate (row_here here) xs) in
     let inside = then_shown ends (attributes_told ends evaluate (row_here here) xs) (shown_block evaluate ends here inner) in
-    let i = each_map (From inner c (address n c)) R (widened inner b c c (address n c) q (λ l k p x g. inr (inl g))) (address n c) (shown_block evaluate ends here inner).nodes (given evaluate inner ends here (address n c)) in
-    let below : Each R (address n c) inside.nodes = inside_has (Each R (address n c)) ends (attributes_told ends evaluate (row_here here) xs) (shown_block evaluate ends here inner) (attributes_none ends evaluate (row_here here) xs) tt i in
-    let own : Each R q (node (address n c) look inside.nodes none) =
-    (record { line = n; row = c; is = refl; gives = inl (record { line = refl; row = refl; above = refl }, record { values = attributes_of evaluate (row_here here) xs; is = refl; names = named_by evaluate (row_here here) xs }) }, below, tt) in
-    let later = each_map (From rest c q) R (widened rest b c c q q (λ l k p x g. inr (inr g))) q (shown_block evaluate ends here rest).nodes (given evaluate rest ends here q) in
-    then_has (Each R q) ends (within (address n c) look inside) (shown_block evaluate ends here rest) tt (each_after R q (node (address n c) look inside.nodes none) (shown_block evaluate ends here rest).nodes own later)
+    let i = each_map (From inner c (address n c)) R (widened inner b c c (address n c) q (λ l k p x g. inr (inl g))) (address n c)
+    (shown_block evaluate ends here inner).nodes (given evaluate inner ends here (address n c)) in
+    let below : Each R (address n c) inside.nodes = inside_has (Each R (address n c)) ends (attributes_told ends evaluate
+    (row_here here) xs) (shown_block evaluate ends here inner) (attributes_none ends evaluate (row_here here) xs) tt i in
+    let own : Each R q (node (address n c) look inside.nodes none) = (
+      record {
+        line = n;
+        row = c;
+        is = refl;
+        gives = inl (
+          record { line = refl; row = refl; above = refl },
+          record {
+            values = attributes_of evaluate
+                (row_here here) xs;
+            is = refl;
+            names = named_by evaluate (row_here here) xs;
+          },
+        );
+      },
+      below,
+      tt,
+    ) in
+    let later = each_map (From rest c q) R (widened rest b c c q q (λ l k p x g. inr (inr g))) q
+    (shown_block evaluate ends here rest).nodes (given evaluate rest ends here q) in
+    then_has (Each R q) ends (within (address n c) look inside) (shown_block evaluate ends here rest) tt (each_after R q (node
+    (address n c) look inside.nodes none) (shown_block evaluate ends here rest).nodes own later)
 given evaluate (choice t one' other rest) ends here q =
     let c = key_here here in
     let b = choice t one' other rest in
     let R = From b c q in
     let e = evaluate (row_here here) t in
-    let x = each_map (From one' c q) R (widened one' b c c q q (λ l k p x g. inl g)) q (shown_block evaluate ends here one').nodes (given evaluate one' ends here q) in
-    let y = each_map (From other c q) R (widened other b c c q q (λ l k p x g. inr (inl g))) q (shown_block evaluate ends here other).nodes (given evaluate other ends here q) in
-    let own = inside_has (Each R q) ends (told e none) (chosen e.outcome (shown_block evaluate ends here one') (shown_block evaluate ends here other)) refl tt
+    let x = each_map (From one' c q) R (widened one' b c c q q (λ l k p x g. inl g)) q (shown_block evaluate ends here one').nodes
+    (given evaluate one' ends here q) in
+    let y = each_map (From other c q) R (widened other b c c q q (λ l k p x g. inr (inl g))) q
+    (shown_block evaluate ends here other).nodes (given evaluate other ends here q) in
+    let own = inside_has (Each R q) ends (told e none) (chosen e.outcome (shown_block evaluate ends here one')
+    (shown_block evaluate ends here other)) refl tt
     (chosen_has (Each R q) tt e.outcome (shown_block evaluate ends here one') (shown_block evaluate ends here other) x y) in
-    let later = each_map (From rest c q) R (widened rest b c c q q (λ l k p x g. inr (inr g))) q (shown_block evaluate ends here rest).nodes (given evaluate rest ends here q) in
-    let first = then_shown ends (told e none) (chosen e.outcome (shown_block evaluate ends here one') (shown_block evaluate ends here other)) in
-    then_has (Each R q) ends first (shown_block evaluate ends here rest) tt (each_after R q first.nodes (shown_block evaluate ends here rest).nodes own later)
+    let later = each_map (From rest c q) R (widened rest b c c q q (λ l k p x g. inr (inr g))) q
+    (shown_block evaluate ends here rest).nodes (given evaluate rest ends here q) in
+    let first = then_shown ends (told e none) (chosen e.outcome (shown_block evaluate ends here one')
+    (shown_block evaluate ends here other)) in
+    then_has (Each R q) ends first (shown_block evaluate ends here rest) tt (each_after R q first.nodes
+    (shown_block evaluate ends here rest).nodes own later)
 given evaluate (each t inner rest) ends here q =
     let c = key_here here in
     let b = each t inner rest in
@@ -118,21 +162,29 @@ given evaluate (each t inner rest) ends here q =
     let e = evaluate (row_here here) t in
     let go : Here → Showing = λ r. shown_block evaluate ends (Some r) inner in
     let one' : (r : Here) → Each R q (go r).nodes = λ r.
-    each_map (From inner (Some r.key) q) R (widened inner b (Some r.key) c q q (λ l k p x g. inl (r.key, g))) q (go r).nodes (given evaluate inner ends (Some r) q) in
-    let own = inside_has (Each R q) ends (told e none) (each_row ends go e.outcome) refl tt (each_has (Each R q) tt (each_after R q) ends go one' e.outcome) in
-    let later = each_map (From rest c q) R (widened rest b c c q q (λ l k p x g. inr g)) q (shown_block evaluate ends here rest).nodes (given evaluate rest ends here q) in
+    each_map (From inner (Some r.key) q) R (widened inner b (Some r.key) c q q (λ l k p x g. inl (r.key, g))) q (go r).nodes
+    (given evaluate inner ends (Some r) q) in
+    let own = inside_has (Each R q) ends (told e none) (each_row ends go e.outcome) refl tt (each_has (Each R q) tt
+    (each_after R q) ends go one' e.outcome) in
+    let later = each_map (From rest c q) R (widened rest b c c q q (λ l k p x g. inr g)) q (shown_block evaluate ends here rest).nodes
+    (given evaluate rest ends here q) in
     let first = then_shown ends (told e none) (each_row ends go e.outcome) in
-    then_has (Each R q) ends first (shown_block evaluate ends here rest) tt (each_after R q first.nodes (shown_block evaluate ends here rest).nodes own later)
+    then_has (Each R q) ends first (shown_block evaluate ends here rest) tt (each_after R q first.nodes
+    (shown_block evaluate ends here rest).nodes own later)
 given evaluate (attempt one' other rest) ends here q =
     let c = key_here here in
     let b = attempt one' other rest in
     let R = From b c q in
-    let x = each_map (From one' c q) R (widened one' b c c q q (λ l k p x g. inl g)) q (shown_block evaluate true here one').nodes (given evaluate one' true here q) in
-    let y = each_map (From other c q) R (widened other b c c q q (λ l k p x g. inr (inl g))) q (shown_block evaluate ends here other).nodes (given evaluate other ends here q) in
+    let x = each_map (From one' c q) R (widened one' b c c q q (λ l k p x g. inl g)) q (shown_block evaluate true here one').nodes
+    (given evaluate one' true here q) in
+    let y = each_map (From other c q) R (widened other b c c q q (λ l k p x g. inr (inl g))) q
+    (shown_block evaluate ends here other).nodes (given evaluate other ends here q) in
     let own = attempted_has (Each R q) (shown_block evaluate true here one') (shown_block evaluate ends here other) x y in
-    let later = each_map (From rest c q) R (widened rest b c c q q (λ l k p x g. inr (inr g))) q (shown_block evaluate ends here rest).nodes (given evaluate rest ends here q) in
+    let later = each_map (From rest c q) R (widened rest b c c q q (λ l k p x g. inr (inr g))) q
+    (shown_block evaluate ends here rest).nodes (given evaluate rest ends here q) in
     let first = attempted (shown_block evaluate true here one') (shown_block evaluate ends here other) in
-    then_has (Each R q) ends first (shown_block evaluate ends here rest) tt (each_after R q first.nodes (shown_block evaluate ends here rest).nodes own later)
+    then_has (Each R q) ends first (shown_block evaluate ends here rest) tt (each_after R q first.nodes
+    (shown_block evaluate ends here rest).nodes own later)
 
 -- ---- one line gives one node for a row
 
@@ -153,7 +205,8 @@ there l k p x (attempt a b rest) c q (inr (inl g)) = (let i = there l k p x b c 
 there l k p x (attempt a b rest) c q (inr (inr g)) = (let i = there l k p x rest c q g in omega arith)
 
 -- inside a row all addresses have its key
-row_is : (l : ℕ) (k : Option (List ℕ)) (p : ℕ) (x : Look) (b : Block) (c : Option (List ℕ)) (q d : ℕ) → Fits b d true → Gives l k p x b c q → k ≡ c
+row_is : (l : ℕ) (k : Option (List ℕ)) (p : ℕ) (x : Look) (b : Block) (c : Option (List ℕ)) (q d : ℕ) → Fits b d true →
+    Gives l k p x b c q → k ≡ c
 row_is l k p x empty c q d f g = absurd g
 row_is l k p x (text n t rest) c q d f (inl g) = g.0.row
 row_is l k p x (text n t rest) c q d f (inr g) = row_is l k p x rest c q d f g
@@ -182,51 +235,89 @@ pub record Same (p p' : ℕ) (x x' : Look) : Type 0 where
   pub parents : p ≡ p'
   pub alike : Alike x x'
 
-only : (l : ℕ) (k : Option (List ℕ)) (p p' : ℕ) (x x' : Look) (b : Block) (c : Option (List ℕ)) (q d : ℕ) (in_row : Bool) → Fits b d in_row → times l b ≤ 1 → Gives l k p x b c q → Gives l k p' x' b c q → Same p p' x x'
+only : (l : ℕ) (k : Option (List ℕ)) (p p' : ℕ) (x x' : Look) (b : Block) (c : Option (List ℕ)) (q d : ℕ) (in_row : Bool) →
+    Fits b d in_row → times l b ≤ 1 → Gives l k p x b c q → Gives l k p' x' b c q → Same p p' x x'
 only l k p p' x x' empty c q d in_row f t g h = absurd g
-only l k p p' x x' (text n e rest) c q d in_row f t (inl g) (inl h) = record { parents = g.0.above ∙ sym h.0.above; alike = alike_texts x x' g.1 h.1 }
-only l k p p' x x' (text n e rest) c q d in_row f t (inl g) (inr h) = (let i = there l k p' x' rest c q h in let e' = eq-eqb n l g.0.line in let s = rw e' at t in absurd (omega arith))
-only l k p p' x x' (text n e rest) c q d in_row f t (inr g) (inl h) = (let i = there l k p x rest c q g in let e' = eq-eqb n l h.0.line in let s = rw e' at t in absurd (omega arith))
+only l k p p' x x' (text n e rest) c q d in_row f t (inl g) (inl h) = record {
+  parents = g.0.above
+      ∙ sym h.0.above;
+  alike = alike_texts x x' g.1 h.1;
+}
+only l k p p' x x' (text n e rest) c q d in_row f t (inl g) (inr h) = (let i = there l k p' x' rest c q h in
+    let e' = eq-eqb n l g.0.line in let s = rw e' at t in absurd (omega arith))
+only l k p p' x x' (text n e rest) c q d in_row f t (inr g) (inl h) = (let i = there l k p x rest c q g in
+    let e' = eq-eqb n l h.0.line in let s = rw e' at t in absurd (omega arith))
 only l k p p' x x' (text n e rest) c q d in_row f t (inr g) (inr h) = only l k p p' x x' rest c q d in_row f (omega arith) g h
 only l k p p' x x' (tag n name xs inner rest) c q zero in_row f t g h = absurd f
-only l k p p' x x' (tag n name xs inner rest) c q (suc d) in_row f t (inl g) (inl h) = record { parents = g.0.above ∙ sym h.0.above; alike = alike_tags name xs x x' g.1 h.1 }
-only l k p p' x x' (tag n name xs inner rest) c q (suc d) in_row f t (inl g) (inr (inl h)) = (let i = there l k p' x' inner c (address n c) h in let e' = eq-eqb n l g.0.line in let s = rw e' at t in absurd (omega arith))
-only l k p p' x x' (tag n name xs inner rest) c q (suc d) in_row f t (inl g) (inr (inr h)) = (let i = there l k p' x' rest c q h in let e' = eq-eqb n l g.0.line in let s = rw e' at t in absurd (omega arith))
-only l k p p' x x' (tag n name xs inner rest) c q (suc d) in_row f t (inr (inl g)) (inl h) = (let i = there l k p x inner c (address n c) g in let e' = eq-eqb n l h.0.line in let s = rw e' at t in absurd (omega arith))
-only l k p p' x x' (tag n name xs inner rest) c q (suc d) in_row f t (inr (inl g)) (inr (inl h)) = only l k p p' x x' inner c (address n c) d in_row f.2 (omega arith) g h
-only l k p p' x x' (tag n name xs inner rest) c q (suc d) in_row f t (inr (inl g)) (inr (inr h)) = (let i = there l k p x inner c (address n c) g in let j = there l k p' x' rest c q h in absurd (omega arith))
-only l k p p' x x' (tag n name xs inner rest) c q (suc d) in_row f t (inr (inr g)) (inl h) = (let i = there l k p x rest c q g in let e' = eq-eqb n l h.0.line in let s = rw e' at t in absurd (omega arith))
-only l k p p' x x' (tag n name xs inner rest) c q (suc d) in_row f t (inr (inr g)) (inr (inl h)) = (let i = there l k p x rest c q g in let j = there l k p' x' inner c (address n c) h in absurd (omega arith))
-only l k p p' x x' (tag n name xs inner rest) c q (suc d) in_row f t (inr (inr g)) (inr (inr h)) = only l k p p' x x' rest c q (suc d) in_row f.3 (omega arith) g h
+only l k p p' x x' (tag n name xs inner rest) c q (suc d) in_row f t (inl g) (inl h) = record {
+  parents = g.0.above
+      ∙ sym h.0.above;
+  alike = alike_tags name xs x x' g.1 h.1;
+}
+only l k p p' x x' (tag n name xs inner rest) c q (suc d) in_row f t (inl g) (inr (inl h)) = (let i = there l k p' x' inner c
+    (address n c) h in let e' = eq-eqb n l g.0.line in let s = rw e' at t in absurd (omega arith))
+only l k p p' x x' (tag n name xs inner rest) c q (suc d) in_row f t (inl g) (inr (inr h)) = (let i = there l k p' x' rest c q h in
+    let e' = eq-eqb n l g.0.line in let s = rw e' at t in absurd (omega arith))
+only l k p p' x x' (tag n name xs inner rest) c q (suc d) in_row f t (inr (inl g)) (inl h) = (let i = there l k p x inner c
+    (address n c) g in let e' = eq-eqb n l h.0.line in let s = rw e' at t in absurd (omega arith))
+only l k p p' x x' (tag n name xs inner rest) c q (suc d) in_row f t (inr (inl g)) (inr (inl h)) = only l k p p' x x' inner c
+    (address n c) d in_row f.2 (omega arith) g h
+only l k p p' x x' (tag n name xs inner rest) c q (suc d) in_row f t (inr (inl g)) (inr (inr h)) = (let i = there l k p x inner c
+    (address n c) g in let j = there l k p' x' rest c q h in absurd (omega arith))
+only l k p p' x x' (tag n name xs inner rest) c q (suc d) in_row f t (inr (inr g)) (inl h) = (let i = there l k p x rest c q g in
+    let e' = eq-eqb n l h.0.line in let s = rw e' at t in absurd (omega arith))
+only l k p p' x x' (tag n name xs inner rest) c q (suc d) in_row f t (inr (inr g)) (inr (inl h)) =
+    (let i = there l k p x rest c q g in let j = there l k p' x' inner c (address n c) h in absurd (omega arith))
+only l k p p' x x' (tag n name xs inner rest) c q (suc d) in_row f t (inr (inr g)) (inr (inr h)) = only l k p p' x x' rest c q
+    (suc d) in_row f.3 (omega arith) g h
 only l k p p' x x' (choice e a b rest) c q zero in_row f t g h = absurd f
 only l k p p' x x' (choice e a b rest) c q (suc d) in_row f t (inl g) (inl h) = only l k p p' x x' a c q d in_row f.0 (omega arith) g h
-only l k p p' x x' (choice e a b rest) c q (suc d) in_row f t (inl g) (inr (inl h)) = (let i = there l k p x a c q g in let j = there l k p' x' b c q h in absurd (omega arith))
-only l k p p' x x' (choice e a b rest) c q (suc d) in_row f t (inl g) (inr (inr h)) = (let i = there l k p x a c q g in let j = there l k p' x' rest c q h in absurd (omega arith))
-only l k p p' x x' (choice e a b rest) c q (suc d) in_row f t (inr (inl g)) (inl h) = (let i = there l k p x b c q g in let j = there l k p' x' a c q h in absurd (omega arith))
-only l k p p' x x' (choice e a b rest) c q (suc d) in_row f t (inr (inl g)) (inr (inl h)) = only l k p p' x x' b c q d in_row f.1 (omega arith) g h
-only l k p p' x x' (choice e a b rest) c q (suc d) in_row f t (inr (inl g)) (inr (inr h)) = (let i = there l k p x b c q g in let j = there l k p' x' rest c q h in absurd (omega arith))
-only l k p p' x x' (choice e a b rest) c q (suc d) in_row f t (inr (inr g)) (inl h) = (let i = there l k p x rest c q g in let j = there l k p' x' a c q h in absurd (omega arith))
-only l k p p' x x' (choice e a b rest) c q (suc d) in_row f t (inr (inr g)) (inr (inl h)) = (let i = there l k p x rest c q g in let j = there l k p' x' b c q h in absurd (omega arith))
-only l k p p' x x' (choice e a b rest) c q (suc d) in_row f t (inr (inr g)) (inr (inr h)) = only l k p p' x x' rest c q (suc d) in_row f.2 (omega arith) g h
+only l k p p' x x' (choice e a b rest) c q (suc d) in_row f t (inl g) (inr (inl h)) = (let i = there l k p x a c q g in
+    let j = there l k p' x' b c q h in absurd (omega arith))
+only l k p p' x x' (choice e a b rest) c q (suc d) in_row f t (inl g) (inr (inr h)) = (let i = there l k p x a c q g in
+    let j = there l k p' x' rest c q h in absurd (omega arith))
+only l k p p' x x' (choice e a b rest) c q (suc d) in_row f t (inr (inl g)) (inl h) = (let i = there l k p x b c q g in
+    let j = there l k p' x' a c q h in absurd (omega arith))
+only l k p p' x x' (choice e a b rest) c q (suc d) in_row f t (inr (inl g)) (inr (inl h)) = only l k p p' x x' b c q d in_row f.1
+    (omega arith) g h
+only l k p p' x x' (choice e a b rest) c q (suc d) in_row f t (inr (inl g)) (inr (inr h)) = (let i = there l k p x b c q g in
+    let j = there l k p' x' rest c q h in absurd (omega arith))
+only l k p p' x x' (choice e a b rest) c q (suc d) in_row f t (inr (inr g)) (inl h) = (let i = there l k p x rest c q g in
+    let j = there l k p' x' a c q h in absurd (omega arith))
+only l k p p' x x' (choice e a b rest) c q (suc d) in_row f t (inr (inr g)) (inr (inl h)) = (let i = there l k p x rest c q g in
+    let j = there l k p' x' b c q h in absurd (omega arith))
+only l k p p' x x' (choice e a b rest) c q (suc d) in_row f t (inr (inr g)) (inr (inr h)) = only l k p p' x x' rest c q
+    (suc d) in_row f.2 (omega arith) g h
 only l k p p' x x' (each e inner rest) c q zero in_row f t g h = absurd f
 only l k p p' x x' (each e inner rest) c q (suc d) in_row f t (inl g) (inl h) =
     let a = row_is l k p x inner (Some g.0) q d f.1 g.1 in
     let b = row_is l k p' x' inner (Some h.0) q d f.1 h.1 in
     let s : Some h.0 ≡ Some g.0 = sym b ∙ a in
     only l k p p' x x' inner (Some g.0) q d true f.1 (omega arith) g.1 (subst (λ o. Gives l k p' x' inner o q) s h.1)
-only l k p p' x x' (each e inner rest) c q (suc d) in_row f t (inl g) (inr h) = (let i = there l k p x inner (Some g.0) q g.1 in let j = there l k p' x' rest c q h in absurd (omega arith))
-only l k p p' x x' (each e inner rest) c q (suc d) in_row f t (inr g) (inl h) = (let i = there l k p x rest c q g in let j = there l k p' x' inner (Some h.0) q h.1 in absurd (omega arith))
-only l k p p' x x' (each e inner rest) c q (suc d) in_row f t (inr g) (inr h) = only l k p p' x x' rest c q (suc d) in_row f.2 (omega arith) g h
+only l k p p' x x' (each e inner rest) c q (suc d) in_row f t (inl g) (inr h) = (let i = there l k p x inner (Some g.0) q g.1 in
+    let j = there l k p' x' rest c q h in absurd (omega arith))
+only l k p p' x x' (each e inner rest) c q (suc d) in_row f t (inr g) (inl h) = (let i = there l k p x rest c q g in
+    let j = there l k p' x' inner (Some h.0) q h.1 in absurd (omega arith))
+only l k p p' x x' (each e inner rest) c q (suc d) in_row f t (inr g) (inr h) = only l k p p' x x' rest c q (suc d) in_row f.2
+    (omega arith) g h
 only l k p p' x x' (attempt a b rest) c q zero in_row f t g h = absurd f
 only l k p p' x x' (attempt a b rest) c q (suc d) in_row f t (inl g) (inl h) = only l k p p' x x' a c q d in_row f.0 (omega arith) g h
-only l k p p' x x' (attempt a b rest) c q (suc d) in_row f t (inl g) (inr (inl h)) = (let i = there l k p x a c q g in let j = there l k p' x' b c q h in absurd (omega arith))
-only l k p p' x x' (attempt a b rest) c q (suc d) in_row f t (inl g) (inr (inr h)) = (let i = there l k p x a c q g in let j = there l k p' x' rest c q h in absurd (omega arith))
-only l k p p' x x' (attempt a b rest) c q (suc d) in_row f t (inr (inl g)) (inl h) = (let i = there l k p x b c q g in let j = there l k p' x' a c q h in absurd (omega arith))
-only l k p p' x x' (attempt a b rest) c q (suc d) in_row f t (inr (inl g)) (inr (inl h)) = only l k p p' x x' b c q d in_row f.1 (omega arith) g h
-only l k p p' x x' (attempt a b rest) c q (suc d) in_row f t (inr (inl g)) (inr (inr h)) = (let i = there l k p x b c q g in let j = there l k p' x' rest c q h in absurd (omega arith))
-only l k p p' x x' (attempt a b rest) c q (suc d) in_row f t (inr (inr g)) (inl h) = (let i = there l k p x rest c q g in let j = there l k p' x' a c q h in absurd (omega arith))
-only l k p p' x x' (attempt a b rest) c q (suc d) in_row f t (inr (inr g)) (inr (inl h)) = (let i = there l k p x rest c q g in let j = there l k p' x' b c q h in absurd (omega arith))
-only l k p p' x x' (attempt a b rest) c q (suc d) in_row f t (inr (inr g)) (inr (inr h)) = only l k p p' x x' rest c q (suc d) in_row f.2 (omega arith) g h
+only l k p p' x x' (attempt a b rest) c q (suc d) in_row f t (inl g) (inr (inl h)) = (let i = there l k p x a c q g in
+    let j = there l k p' x' b c q h in absurd (omega arith))
+only l k p p' x x' (attempt a b rest) c q (suc d) in_row f t (inl g) (inr (inr h)) = (let i = there l k p x a c q g in
+    let j = there l k p' x' rest c q h in absurd (omega arith))
+only l k p p' x x' (attempt a b rest) c q (suc d) in_row f t (inr (inl g)) (inl h) = (let i = there l k p x b c q g in
+    let j = there l k p' x' a c q h in absurd (omega arith))
+only l k p p' x x' (attempt a b rest) c q (suc d) in_row f t (inr (inl g)) (inr (inl h)) = only l k p p' x x' b c q d in_row f.1
+    (omega arith) g h
+only l k p p' x x' (attempt a b rest) c q (suc d) in_row f t (inr (inl g)) (inr (inr h)) = (let i = there l k p x b c q g in
+    let j = there l k p' x' rest c q h in absurd (omega arith))
+only l k p p' x x' (attempt a b rest) c q (suc d) in_row f t (inr (inr g)) (inl h) = (let i = there l k p x rest c q g in
+    let j = there l k p' x' a c q h in absurd (omega arith))
+only l k p p' x x' (attempt a b rest) c q (suc d) in_row f t (inr (inr g)) (inr (inl h)) = (let i = there l k p x rest c q g in
+    let j = there l k p' x' b c q h in absurd (omega arith))
+only l k p p' x x' (attempt a b rest) c q (suc d) in_row f t (inr (inr g)) (inr (inr h)) = only l k p p' x x' rest c q
+    (suc d) in_row f.2 (omega arith) g h
 
 -- ---- nodes that are looked up
 
@@ -237,7 +328,8 @@ found_top R q a (node m x k r) f h = elim (cases_Bool (m == a)) [
   | inr e ↦ found_top R q a r f.2 (rw e at h)
 ]
 
-found_parent : (R : ℕ → ℕ → Look → Type 0) (q a : ℕ) (t : Forest Look) → Each R q t → has a t ≡ false → on a t ≡ true → (x : Look) × R a (parent a t) x
+found_parent : (R : ℕ → ℕ → Look → Type 0) (q a : ℕ) (t : Forest Look) → Each R q t → has a t ≡ false → on a t ≡ true →
+    (x : Look) × R a (parent a t) x
 found_parent R q a none f n h = absurd (false≢true h)
 found_parent R q a (node m x k r) f n h = elim (cases_Bool (m == a)) [
   | inl e ↦ absurd (false≢true (sym (rw e at n)))
@@ -261,13 +353,15 @@ found_label R q a (node m x k r) f h = elim (cases_Bool (m == a)) [
 ]
 
 -- the parent of a node under the root
-found : (R : ℕ → ℕ → Look → Type 0) (a : ℕ) (t : Forest Look) → Each R 0 t → on a t ≡ true → (x : Look) × R a (parent a (node 0 Root t none)) x
+found : (R : ℕ → ℕ → Look → Type 0) (a : ℕ) (t : Forest Look) → Each R 0 t → on a t ≡ true →
+    (x : Look) × R a (parent a (node 0 Root t none)) x
 found R a t f h = elim (cases_Bool (has a t)) [
   | inl u ↦ rw u (found_top R 0 a t f u)
   | inr u ↦ rw (u, h) (found_parent R 0 a t f u h)
 ]
 
-same_from : (b : Block) (d : ℕ) → Fits b d false → ((l : ℕ) → times l b ≤ 1) → (a p p' : ℕ) (x x' : Look) → From b None 0 a p x → From b None 0 a p' x' → Same p p' x x'
+same_from : (b : Block) (d : ℕ) → Fits b d false → ((l : ℕ) → times l b ≤ 1) → (a p p' : ℕ) (x x' : Look) → From b None 0 a p x →
+    From b None 0 a p' x' → Same p p' x x'
 same_from b d f t a p p' x x' g h =
     let e = one_address h.line g.line h.row g.row (sym h.is ∙ g.is) in
     let i = subst (λ l. Gives l h.row p' x' b None 0) e.0 h.gives in
@@ -276,7 +370,8 @@ same_from b d f t a p p' x x' g h =
 
 pub off_root : (b : Block) (t : Forest Look) → Each (From b None 0) 0 t → on 0 t ≡ false
 off_root b t f = elim (cases_Bool (on 0 t)) [
-  | inl e ↦ (let g = found_label (From b None 0) 0 0 t f e in let u = address_above g.1.line g.1.row in let v = g.1.is in absurd (omega arith))
+  | inl e ↦ (let g = found_label (From b None 0) 0 0 t f e in let u = address_above g.1.line g.1.row in let v = g.1.is in
+      absurd (omega arith))
   | inr e ↦ e
 ]
 
@@ -310,7 +405,8 @@ origin_law lines evaluate later f =
     let once : (l : ℕ) → times l b ≤ 1 = λ l. once_line l lines in
     record {
       parents = λ a h h'. elim (cases_Bool (0 == a)) [
-        | inl e ↦ (let q : 0 ≡ a = eqb-true 0 a e in subst (λ i. parent i (node 0 Root s none) ≡ parent i (node 0 Root t none)) q (root_parent b s u ∙ sym (root_parent b t v)))
+        | inl e ↦ (let q : 0 ≡ a = eqb-true 0 a e in subst (λ i. parent i (node 0 Root s none) ≡ parent i (node 0 Root t none)) q
+            (root_parent b s u ∙ sym (root_parent b t v)))
         | inr e ↦ (
             let x = found (From b None 0) a s u (below_root a s e h) in
             let y = found (From b None 0) a t v (below_root a t e h') in

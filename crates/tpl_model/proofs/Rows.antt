@@ -1,5 +1,6 @@
 -- Where the rows of the names are rows, so are those that a line's formula comes to.
-use Rattle.std.proofs.Common.{◌≡◌, ℕ, zero, suc, ℤ, ◌+◌, Bool, true, false, refl, subst, inl, inr, List, [], ◌∷◌, ◌++◌, ◌==◌, length, Option, Some, None}
+use Rattle.std.proofs.Common.{◌≡◌, ℕ, zero, suc, ℤ, ◌+◌, Bool, true, false, refl, subst, inl, inr, List, [], ◌∷◌, ◌++◌, ◌==◌, length}
+use Rattle.std.proofs.Common.{Option, Some, None}
 use Rattle.std.specs.Option.{option_or}
 use Rattle.std.specs.Prelude.{nat_le, nat_lt, pos, ◌+ℤ◌, ◌-ℤ◌, ◌*ℤ◌, int_div, option_map, not}
 use Rattle.std.specs.Ordering.{int_eq, is_lt, is_le, is_gt, is_ge}
@@ -23,9 +24,12 @@ use Rattle.sig_formula.specs.declared.evaluate.FormulaStep.TheVariants.{Ask, End
 use Rattle.sig_formula.specs.declared.formula.BinOp.{BinOp}
 use Rattle.sig_formula.specs.declared.formula.BinOp.TheVariants as op
 use Rattle.sig_formula.specs.declared.formula.RowRef.{RowRef}
-use Rattle.sig_formula.specs.Trees.{Tree, literal, slot, row_field, row_key, negation, binary, choice, count_of, sum_of, rows_where, untracked}
-use Rattle.sig_formula.specs.Answering.{answer_of, calculated, calculation, chosen, compared, count_outcome, decided, equality, field_outcome}
-use Rattle.sig_formula.specs.Answering.{fits_i64, formula_step, joined, kept_from, key_outcome, known_at, negated, number_outcome, operated, order}
+use Rattle.sig_formula.specs.Trees.{Tree, literal, slot, row_field, row_key, negation, binary, choice, count_of, sum_of, rows_where}
+use Rattle.sig_formula.specs.Trees.{untracked}
+use Rattle.sig_formula.specs.Answering.{answer_of, calculated, calculation, chosen, compared, count_outcome, decided, equality}
+use Rattle.sig_formula.specs.Answering.{field_outcome}
+use Rattle.sig_formula.specs.Answering.{fits_i64, formula_step, joined, kept_from, key_outcome, known_at, negated, number_outcome}
+use Rattle.sig_formula.specs.Answering.{operated, order}
 use Rattle.sig_formula.specs.Answering.{plain_step, present, row_at, served, slot_step, sum_from, text_outcome, truth, unless_decided}
 use Rattle.sig_formula.specs.Answering.{with_rows, with_truth, with_value}
 use Rattle.signal_model.specs.Recipes.{no_hosts, formula, is_known, judged}
@@ -79,7 +83,8 @@ slot_good : (tracking : Bool) (n : ℕ) (v : Option Value) → GoodFound v → G
 slot_good tracking n None g = tt
 slot_good tracking n (Some v) g = g
 
-with_good : (s : FormulaStep) (go : Value → FormulaStep) → GoodEnd s → ((v : Value) → IsGood v → GoodEnd (go v)) → GoodEnd (with_value s go)
+with_good : (s : FormulaStep) (go : Value → FormulaStep) → GoodEnd s → ((v : Value) → IsGood v → GoodEnd (go v)) →
+    GoodEnd (with_value s go)
 with_good (Ask n tracked) go g h = tt
 with_good (End (Good v)) go g h = h v g
 with_good (End (Bad e)) go g h = tt
@@ -184,7 +189,8 @@ count_good (value.Int n) = tt
 count_good (value.Text t) = tt
 count_good (value.Rows t) = tt
 
-over_good : (v : Value) (go : Table → FormulaStep) → IsGood v → ((t : Table) → AreRows t.fields t.rows → GoodEnd (go t)) → GoodEnd (with_rows v go)
+over_good : (v : Value) (go : Table → FormulaStep) → IsGood v → ((t : Table) → AreRows t.fields t.rows → GoodEnd (go t)) →
+    GoodEnd (with_rows v go)
 over_good (value.Bool b) go g h = tt
 over_good (value.Int n) go g h = tt
 over_good (value.Text t) go g h = tt
@@ -196,21 +202,24 @@ truly_good (value.Int n) go h = tt
 truly_good (value.Text t) go h = tt
 truly_good (value.Rows t) go h = tt
 
-sum_good : (part : ℕ → FormulaStep) (sum : Value) (at : ℕ) (rs : List Row) → ((n : ℕ) → GoodEnd (part n)) → IsGood sum → GoodEnd (sum_from part sum at rs)
+sum_good : (part : ℕ → FormulaStep) (sum : Value) (at : ℕ) (rs : List Row) → ((n : ℕ) → GoodEnd (part n)) → IsGood sum →
+    GoodEnd (sum_from part sum at rs)
 sum_good part sum at [] h g = g
 sum_good part sum at (r ∷ rs) h g =
     with_good (part at) (λ v. with_value (End (calculation op.Add sum v)) (λ next. sum_from part next (at + 1) rs)) (h at)
     (λ v i. with_good (End (calculation op.Add sum v)) (λ next. sum_from part next (at + 1) rs) (calculation_good op.Add sum v)
     (λ next j. sum_good part next (at + 1) rs h j))
 
-kept_good : (test : ℕ → FormulaStep) (t : Table) (marks : List Bool) (at : ℕ) (rs : List Row) → ((n : ℕ) → GoodEnd (test n)) → AreRows t.fields t.rows →
+kept_good : (test : ℕ → FormulaStep) (t : Table) (marks : List Bool) (at : ℕ) (rs : List Row) → ((n : ℕ) → GoodEnd (test n)) →
+    AreRows t.fields t.rows →
     GoodEnd (kept_from test t marks at rs)
 kept_good test t marks at [] h g = AreRows-marked t.fields t.rows marks g
 kept_good test t marks at (r ∷ rs) h g =
     with_good (test at) (λ v. with_truth v (λ b. kept_from test t (marks ++ b ∷ []) (at + 1) rs)) (h at)
     (λ v i. truly_good v (λ b. kept_from test t (marks ++ b ∷ []) (at + 1) rs) (λ b. kept_good test t (marks ++ b ∷ []) (at + 1) rs h g))
 
-formula_good : (tracking : Bool) (f : Tree) (row : Option RowRef) (ts us : List Known) → GoodKnown ts → GoodKnown us → GoodEnd (formula_step tracking f row ts us)
+formula_good : (tracking : Bool) (f : Tree) (row : Option RowRef) (ts us : List Known) → GoodKnown ts → GoodKnown us →
+    GoodEnd (formula_step tracking f row ts us)
 formula_good tracking (literal s) row ts us g h = scalar_good s
 formula_good tracking (slot n) row ts us g h = slot_good tracking n (served tracking n ts us) (served_good tracking n ts us g h)
 formula_good tracking (row_field f) row ts us g h = field_good f row
@@ -229,12 +238,14 @@ formula_good tracking (choice t a b) row ts us g h =
     (λ v i. chosen_good v (formula_step tracking a row ts us) (formula_step tracking b row ts us)
     (formula_good tracking a row ts us g h) (formula_good tracking b row ts us g h))
 formula_good tracking (count_of a) row ts us g h =
-    with_good (formula_step tracking a row ts us) (λ v. End (count_outcome v)) (formula_good tracking a row ts us g h) (λ v i. count_good v)
+    with_good (formula_step tracking a row ts us) (λ v. End (count_outcome v)) (formula_good tracking a row ts us g h)
+    (λ v i. count_good v)
 formula_good tracking (sum_of a b) row ts us g h =
     let part : Table → ℕ → FormulaStep = λ t n. formula_step tracking b (row_at t n) ts us in
     let total : Table → FormulaStep = λ t. sum_from (part t) (value.Int (pos 0)) 0 t.rows in
     with_good (formula_step tracking a row ts us) (λ v. with_rows v total) (formula_good tracking a row ts us g h)
-    (λ v i. over_good v total i (λ t j. sum_good (part t) (value.Int (pos 0)) 0 t.rows (λ n. formula_good tracking b (row_at t n) ts us g h) tt))
+    (λ v i. over_good v total i (λ t j. sum_good (part t) (value.Int (pos 0)) 0 t.rows (λ n. formula_good tracking b
+    (row_at t n) ts us g h) tt))
 formula_good tracking (rows_where a b) row ts us g h =
     let test : Table → ℕ → FormulaStep = λ t n. formula_step tracking b (row_at t n) ts us in
     let kept : Table → FormulaStep = λ t. kept_from (test t) t [] 0 t.rows in
@@ -264,17 +275,20 @@ learnt_good : (known : List Known) (s : ℕ) (v : Value) → GoodKnown known →
 learnt_good [] s v g h = (h, tt)
 learnt_good (k ∷ ks) s v g h = (g.0, learnt_good ks s v g.1 h)
 
-read_good : (m : ℕ) (o : Outcome) (go : Value → Evaluation) → IsGoodOutcome o → ((v : Value) → IsGood v → IsGoodOutcome (go v).outcome) → IsGoodOutcome (after_read m o go).outcome
+read_good : (m : ℕ) (o : Outcome) (go : Value → Evaluation) → IsGoodOutcome o → ((v : Value) → IsGood v →
+    IsGoodOutcome (go v).outcome) → IsGoodOutcome (after_read m o go).outcome
 read_good m (Good v) go g h = h v g
 read_good m (Bad e) go g h = tt
 
 step_good : (s : Step) (links : List ℕ) (source : ℕ → Outcome) (go : ℕ → Value → Evaluation) → GoodStep s →
-    ((n : ℕ) → IsGoodOutcome (source n)) → ((n : ℕ) (v : Value) → IsGood v → IsGoodOutcome (go n v).outcome) → IsGoodOutcome (after_step s links source go).outcome
+    ((n : ℕ) → IsGoodOutcome (source n)) → ((n : ℕ) (v : Value) → IsGood v → IsGoodOutcome (go n v).outcome) →
+    IsGoodOutcome (after_step s links source go).outcome
 step_good (Done v) links source go g all h = g
 step_good (Fail e) links source go g all h = tt
 step_good (Read n) links source go g all h = read_good _ _ (go n) (all _) (h n)
 
-within_good : (turns : ℕ) (links : List ℕ) (source : ℕ → Outcome) (row : Option RowRef) (f : Tree) (known : List Known) → ((n : ℕ) → IsGoodOutcome (source n)) → GoodKnown known →
+within_good : (turns : ℕ) (links : List ℕ) (source : ℕ → Outcome) (row : Option RowRef) (f : Tree) (known : List Known) → ((n : ℕ) →
+    IsGoodOutcome (source n)) → GoodKnown known →
     IsGoodOutcome (asked_within turns no_hosts (record { expression = formula row f; slots = links }) source known).outcome
 within_good zero links source row f known all g = tt
 within_good (suc turns) links source row f known all g =

@@ -1,5 +1,6 @@
 -- What a template shows is a shape.
-use Rattle.std.proofs.Common.{◌≡◌, ℕ, suc, ◌+◌, ◌<◌, ◌≤◌, ◌==◌, Bool, true, false, ◌||◌, not, refl, sym, ap, arith, eqb-true, inl, inr, List, Option, None}
+use Rattle.std.proofs.Common.{◌≡◌, ℕ, suc, ◌+◌, ◌<◌, ◌≤◌, ◌==◌, Bool, true, false, ◌||◌, not, refl, sym, ap, arith, eqb-true, inl, inr}
+use Rattle.std.proofs.Common.{List, Option, None}
 use Rattle.std.proofs.lemmas.Bool.{cases_Bool, false≢true}
 use Rattle.html_out.specs.Html.{is_void}
 use Rattle.page_model.specs.Addresses.{address}
@@ -30,13 +31,18 @@ pub record Comes (a : ℕ) : Type 0 where
   pub row : Option (List ℕ)
   pub is : a ≡ address line row
 
-from_after : (x y : Forest Look) → ((a : ℕ) → on a x ≡ true → Comes a) → ((a : ℕ) → on a y ≡ true → Comes a) → (a : ℕ) → on a (after x y) ≡ true → Comes a
+from_after : (x y : Forest Look) → ((a : ℕ) → on a x ≡ true → Comes a) → ((a : ℕ) → on a y ≡ true → Comes a) → (a : ℕ) →
+    on a (after x y) ≡ true → Comes a
 from_after none y p q a h = q a h
 from_after (node n l k r) y p q a h = elim (cases_Bool (n == a)) [
   | inl e ↦ p a (rw e refl)
   | inr e ↦ elim (cases_Bool (on a k)) [
     | inl f ↦ p a (rw (e, f) refl)
-    | inr f ↦ from_after r y (λ b g. p b (elim (cases_Bool (n == b)) [ inl u ↦ rw u refl | inr u ↦ elim (cases_Bool (on b k)) [ inl v ↦ rw (u, v) refl | inr v ↦ rw (u, v) g ] ])) q a (rw (e, f) at h)
+    | inr f ↦ from_after r y (λ b g. p b (elim (cases_Bool (n == b)) [
+      | inl u ↦ rw u refl
+      | inr u ↦ elim (cases_Bool
+          (on b k)) [ inl v ↦ rw (u, v) refl | inr v ↦ rw (u, v) g ]
+    ])) q a (rw (e, f) at h)
   ]
 ]
 
@@ -46,13 +52,15 @@ pub record Shaped (d : ℕ) (t : Forest Look) : Type 0 where
   pub names : WellNamed t
   pub comes : (a : ℕ) → on a t ≡ true → Comes a
 
-void_holds : (name : List ℕ) (xs : List (List ℕ × Option (List ℕ))) (k : Forest Look) → (is_void name ≡ true → k ≡ none) → 0 < count k → not (is_void name) ≡ true
+void_holds : (name : List ℕ) (xs : List (List ℕ × Option (List ℕ))) (k : Forest Look) → (is_void name ≡ true → k ≡ none) →
+    0 < count k → not (is_void name) ≡ true
 void_holds name xs k v h = elim (cases_Bool (is_void name)) [
   | inl e ↦ (let z : count k ≡ 0 = ap count (v e) in absurd (omega arith))
   | inr e ↦ rw e refl
 ]
 
-under : (d : ℕ) (n : ℕ) (c : Option (List ℕ)) (x : Look) (k : Forest Look) → ((a : ℕ) → on a k ≡ true → Comes a) → (a : ℕ) → on a (node (address n c) x k none) ≡ true → Comes a
+under : (d : ℕ) (n : ℕ) (c : Option (List ℕ)) (x : Look) (k : Forest Look) → ((a : ℕ) → on a k ≡ true → Comes a) → (a : ℕ) →
+    on a (node (address n c) x k none) ≡ true → Comes a
 under d n c x k p a h = elim (cases_Bool (address n c == a)) [
   | inl e ↦ record { line = n; row = c; is = sym (eqb-true _ _ e) }
   | inr e ↦ elim (cases_Bool (on a k)) [
@@ -64,9 +72,29 @@ under d n c x k p a h = elim (cases_Bool (address n c == a)) [
 shaped : Closed Shaped (λ c. Unit {0})
 shaped = record {
   nil = λ d. record { low = omega arith; sound = tt; names = tt; comes = λ a h. absurd (false≢true h) };
-  join = λ d x y p q. record { low = low_after (suc d) x y p.low q.low; sound = sound_after x y p.sound q.sound; names = names_after x y p.names q.names; comes = from_after x y p.comes q.comes };
-  leaf = λ d n c t u. record { low = omega arith; sound = (λ h. absurd (omega arith), tt, tt, tt); names = (tt, tt, tt); comes = under d n c (Text t) none (λ a h. absurd (false≢true h)) };
-  branch = λ d n c name xs k u s w v p. record { low = (let i = p.low in omega arith); sound = (λ h. void_holds name xs k v h, s, p.sound, tt); names = (w, p.names, tt); comes = under d n c (Element name xs) k p.comes };
+  join = λ d x y p q. record {
+    low = low_after
+        (suc d) x y p.low q.low;
+    sound = sound_after x y p.sound q.sound;
+    names = names_after x y p.names q.names;
+    comes = from_after x y
+        p.comes q.comes;
+  };
+  leaf = λ d n c t u. record {
+    low = omega arith;
+    sound = (λ h. absurd (omega arith), tt, tt, tt);
+    names =
+        (tt, tt, tt);
+    comes = under d n c (Text t) none (λ a h. absurd (false≢true h));
+  };
+  branch = λ d n c name xs k u s w v p. record {
+    low = (let i = p.low in
+        omega arith);
+    sound = (λ h. void_holds name xs k v h, s, p.sound, tt);
+    names = (w, p.names, tt);
+    comes = under d n c
+        (Element name xs) k p.comes;
+  };
   more = λ d x p. record { low = (let i = p.low in omega arith); sound = p.sound; names = p.names; comes = p.comes };
 }
 
@@ -76,7 +104,8 @@ root_apart a h = elim (cases_Bool (0 == a)) [
   | inr e ↦ rw e refl
 ]
 
-single : (t : Forest Look) → ((a : ℕ) → on a t ≡ true → Comes a) → ((l : ℕ) (k : Option (List ℕ)) → tally (address l k) t ≤ 1) → (a : ℕ) → one (0 == a) + (tally a t + 0) ≤ 1
+single : (t : Forest Look) → ((a : ℕ) → on a t ≡ true → Comes a) → ((l : ℕ) (k : Option (List ℕ)) → tally (address l k) t ≤ 1) →
+    (a : ℕ) → one (0 == a) + (tally a t + 0) ≤ 1
 single t c h a = elim (cases_Bool (on a t)) [
   | inl e ↦ (
       let s = c a e in
@@ -94,7 +123,8 @@ shape_law lines evaluate f g =
     let s : Shaped 31 t = shown_has Shaped (λ c. Unit {0}) shaped evaluate (block_of lines) false None 31 false f tt (λ e key. tt) in
     record {
       rooted = record { below = t; is = refl };
-      once = single t s.comes (λ l k. (let i = few l k evaluate g (block_of lines) false None 31 false f in let j = once_line l lines in omega arith));
+      once = single t s.comes (λ l k. (let i = few l k evaluate g (block_of lines) false None 31 false f in
+          let j = once_line l lines in omega arith));
       sound = (λ h. refl, tt, s.sound, tt);
       names = s.names;
       low = (let i = s.low in omega arith);

@@ -1,5 +1,6 @@
 -- How many nodes a template shows.
-use Rattle.std.proofs.Common.{◌≡◌, ℕ, zero, suc, ◌+◌, ◌*◌, ◌≤◌, Bool, true, false, refl, sym, arith, List, [], ◌∷◌, ◌++◌, length, length-append, Option, Some, None}
+use Rattle.std.proofs.Common.{◌≡◌, ℕ, zero, suc, ◌+◌, ◌*◌, ◌≤◌, Bool, true, false, refl, sym, arith, List, [], ◌∷◌, ◌++◌, length}
+use Rattle.std.proofs.Common.{length-append, Option, Some, None}
 use Rattle.std.proofs.lemmas.Bool.{false≢true}
 use Rattle.sig_base.specs.Tables.{AreRows, Table}
 use Rattle.sig_base.specs.declared.rows.Row.{Row}
@@ -9,8 +10,10 @@ use Rattle.sig_base.specs.declared.value.Outcome.TheVariants.{Good, Bad}
 use Rattle.page_model.specs.Addresses.{address}
 use Rattle.page_model.specs.Forest.{Forest, none, node, after, keys}
 use Rattle.page_model.specs.Labels.{Text, Element, Look}
-use Rattle.tpl_model.specs.Lines.{Line, TextLine, TagLine, AttrLine, IfLine, ElseLine, EachLine, TryLine, EndLine, Block, empty, text, tag, choice, each, attempt, Part, with_line, parts_from, first_block, block_of}
-use Rattle.tpl_model.specs.Shapes.{Evaluating, Here, key_here, row_here, Showing, told, then_shown, within, chosen, rows_from, each_row, attempted, node_text, attributes_of, attributes_told, shown_block, shown_lines}
+use Rattle.tpl_model.specs.Lines.{Line, TextLine, TagLine, AttrLine, IfLine, ElseLine, EachLine, TryLine, EndLine, Block, empty, text}
+use Rattle.tpl_model.specs.Lines.{tag, choice, each, attempt, Part, with_line, parts_from, first_block, block_of}
+use Rattle.tpl_model.specs.Shapes.{Evaluating, Here, key_here, row_here, Showing, told, then_shown, within, chosen, rows_from, each_row}
+use Rattle.tpl_model.specs.Shapes.{attempted, node_text, attributes_of, attributes_told, shown_block, shown_lines}
 use Rattle.tpl_model.specs.Laws.{Fits, GivesRows, SizeLaw}
 use Rattle.tpl_model.proofs.Kept.{then_has, attributes_none, inside_has, chosen_has, attempted_has}
 
@@ -36,10 +39,12 @@ size_after : (x y : Forest Look) → nodes_in (after x y) ≡ nodes_in x + nodes
 size_after none y = omega arith
 size_after (node n l k r) y = omega (arith, size_after r y)
 
-then_size : (m n : ℕ) (ends : Bool) (x y : Showing) → nodes_in x.nodes ≤ m → nodes_in y.nodes ≤ n → nodes_in (then_shown ends x y).nodes ≤ m + n
+then_size : (m n : ℕ) (ends : Bool) (x y : Showing) → nodes_in x.nodes ≤ m → nodes_in y.nodes ≤ n →
+    nodes_in (then_shown ends x y).nodes ≤ m + n
 then_size m n ends x y p q = then_has (λ t. nodes_in t ≤ m + n) ends x y (omega arith) (let s = size_after x.nodes y.nodes in omega arith)
 
-rows_size : (m : ℕ) (ends : Bool) (go : Here → Showing) → ((h : Here) → nodes_in (go h).nodes ≤ m) → (t : Table) (i : ℕ) (rs : List Row) → nodes_in (rows_from ends go t i rs).nodes ≤ length rs * m
+rows_size : (m : ℕ) (ends : Bool) (go : Here → Showing) → ((h : Here) → nodes_in (go h).nodes ≤ m) →
+    (t : Table) (i : ℕ) (rs : List Row) → nodes_in (rows_from ends go t i rs).nodes ≤ length rs * m
 rows_size m ends go u t i [] = omega arith
 rows_size m ends go u t i (r ∷ rs) =
     let here : Here = record { key = r.key; row = record { rows = t; place = i } } in
@@ -49,25 +54,33 @@ rows_size m ends go u t i (r ∷ rs) =
     grind (arith, c)
 
 -- at most w nodes for each line, where a row counts once and all rows count w times
-size : (w : ℕ) → 1 ≤ w → (evaluate : Evaluating) (b : Block) (ends : Bool) (here : Option Here) (d : ℕ) → Fits b d true → nodes_in (shown_block evaluate ends here b).nodes ≤ makers b
+size : (w : ℕ) → 1 ≤ w → (evaluate : Evaluating) (b : Block) (ends : Bool) (here : Option Here) (d : ℕ) → Fits b d true →
+    nodes_in (shown_block evaluate ends here b).nodes ≤ makers b
 size w h evaluate empty ends here d f = omega arith
 size w h evaluate (text n t rest) ends here d f =
-    then_size 1 (makers rest) ends (told (evaluate (row_here here) t) (node (address n (key_here here)) (Text (node_text (evaluate (row_here here) t).outcome)) none none)) (shown_block evaluate ends here rest) (omega arith) (size w h evaluate rest ends here d f)
+    then_size 1 (makers rest) ends (told (evaluate (row_here here) t) (node (address n (key_here here)) (Text (node_text (evaluate
+    (row_here here) t).outcome)) none none)) (shown_block evaluate ends here rest) (omega arith) (size w h evaluate rest ends here d f)
 size w h evaluate (tag n name xs inner rest) ends here zero f = absurd f
 size w h evaluate (tag n name xs inner rest) ends here (suc d) f =
     let inside = then_shown ends (attributes_told ends evaluate (row_here here) xs) (shown_block evaluate ends here inner) in
     let i = size w h evaluate inner ends here d f.2 in
-    let below : nodes_in inside.nodes ≤ makers inner = inside_has (λ t. nodes_in t ≤ makers inner) ends (attributes_told ends evaluate (row_here here) xs) (shown_block evaluate ends here inner) (attributes_none ends evaluate (row_here here) xs) (omega arith) i in
-    let both = then_size (1 + makers inner) (makers rest) ends (within (address n (key_here here)) (Element name (attributes_of evaluate (row_here here) xs)) inside) (shown_block evaluate ends here rest) (omega arith) (size w h evaluate rest ends here (suc d) f.3) in
+    let below : nodes_in inside.nodes ≤ makers inner = inside_has (λ t. nodes_in t ≤ makers inner) ends (attributes_told ends evaluate
+    (row_here here) xs) (shown_block evaluate ends here inner) (attributes_none ends evaluate (row_here here) xs) (omega arith) i in
+    let both = then_size (1 + makers inner) (makers rest) ends (within (address n (key_here here)) (Element name (attributes_of evaluate
+    (row_here here) xs)) inside) (shown_block evaluate ends here rest) (omega arith) (size w h evaluate rest ends here (suc d) f.3) in
     omega (arith, both)
 size w h evaluate (choice t one' other rest) ends here zero f = absurd f
 size w h evaluate (choice t one' other rest) ends here (suc d) f =
     let e = evaluate (row_here here) t in
     let a = size w h evaluate one' ends here d f.0 in
     let b = size w h evaluate other ends here d f.1 in
-    let own = inside_has (λ t. nodes_in t ≤ makers one' + makers other) ends (told e none) (chosen e.outcome (shown_block evaluate ends here one') (shown_block evaluate ends here other)) refl (omega arith)
-    (chosen_has (λ t. nodes_in t ≤ makers one' + makers other) (omega arith) e.outcome (shown_block evaluate ends here one') (shown_block evaluate ends here other) (omega arith) (omega arith)) in
-    let both = then_size (makers one' + makers other) (makers rest) ends (then_shown ends (told e none) (chosen e.outcome (shown_block evaluate ends here one') (shown_block evaluate ends here other))) (shown_block evaluate ends here rest) own (size w h evaluate rest ends here (suc d) f.2) in
+    let own = inside_has (λ t. nodes_in t ≤ makers one' + makers other) ends (told e none) (chosen e.outcome
+    (shown_block evaluate ends here one') (shown_block evaluate ends here other)) refl (omega arith)
+    (chosen_has (λ t. nodes_in t ≤ makers one' + makers other) (omega arith) e.outcome (shown_block evaluate ends here one')
+    (shown_block evaluate ends here other) (omega arith) (omega arith)) in
+    let both = then_size (makers one' + makers other) (makers rest) ends (then_shown ends (told e none) (chosen e.outcome
+    (shown_block evaluate ends here one') (shown_block evaluate ends here other))) (shown_block evaluate ends here rest) own
+    (size w h evaluate rest ends here (suc d) f.2) in
     omega (arith, both)
 size w h evaluate (each t inner rest) ends here zero f = absurd f
 size w h evaluate (each t inner rest) ends here (suc d) f = absurd (false≢true (sym f.0))
@@ -75,39 +88,54 @@ size w h evaluate (attempt first second rest) ends here zero f = absurd f
 size w h evaluate (attempt first second rest) ends here (suc d) f =
     let a = size w h evaluate first true here d f.0 in
     let b = size w h evaluate second ends here d f.1 in
-    let own = attempted_has (λ t. nodes_in t ≤ makers first + makers second) (shown_block evaluate true here first) (shown_block evaluate ends here second) (omega arith) (omega arith) in
-    let both = then_size (makers first + makers second) (makers rest) ends (attempted (shown_block evaluate true here first) (shown_block evaluate ends here second)) (shown_block evaluate ends here rest) own (size w h evaluate rest ends here (suc d) f.2) in
+    let own = attempted_has (λ t. nodes_in t ≤ makers first + makers second) (shown_block evaluate true here first)
+    (shown_block evaluate ends here second) (omega arith) (omega arith) in
+    let both = then_size (makers first + makers second) (makers rest) ends (attempted (shown_block evaluate true here first)
+    (shown_block evaluate ends here second)) (shown_block evaluate ends here rest) own (size w h evaluate rest ends here (suc d) f.2) in
     omega (arith, both)
 
 many : (m n : ℕ) → n ≤ 512 → n * m ≤ 512 * m
 many m n h = grind (arith, h)
 
-each_size : (m : ℕ) (ends : Bool) (go : Here → Showing) → ((h : Here) → nodes_in (go h).nodes ≤ m) → (o : Outcome) → ((t : Table) → o ≡ Good (value.Rows t) → AreRows t.fields t.rows) → nodes_in (each_row ends go o).nodes ≤ 512 * m
-each_size m ends go u (Good (value.Rows t)) g = (let a = rows_size m ends go u t 0 t.rows in let b = many m (length t.rows) (g t refl).few_rows in omega (arith, a, b))
+each_size : (m : ℕ) (ends : Bool) (go : Here → Showing) → ((h : Here) → nodes_in (go h).nodes ≤ m) → (o : Outcome) → ((t : Table) →
+    o ≡ Good (value.Rows t) → AreRows t.fields t.rows) → nodes_in (each_row ends go o).nodes ≤ 512 * m
+each_size m ends go u (Good (value.Rows t)) g = (let a = rows_size m ends go u t 0 t.rows in
+    let b = many m (length t.rows) (g t refl).few_rows in omega (arith, a, b))
 each_size m ends go u (Good (value.Bool b)) g = omega arith
 each_size m ends go u (Good (value.Int n)) g = omega arith
 each_size m ends go u (Good (value.Text t)) g = omega arith
 each_size m ends go u (Bad e) g = omega arith
 
-size_all : (evaluate : Evaluating) → GivesRows evaluate → (b : Block) (ends : Bool) (here : Option Here) (d : ℕ) (in_row : Bool) → Fits b d in_row → nodes_in (shown_block evaluate ends here b).nodes ≤ 512 * makers b
+size_all : (evaluate : Evaluating) → GivesRows evaluate → (b : Block) (ends : Bool) (here : Option Here) (d : ℕ) (in_row : Bool) →
+    Fits b d in_row → nodes_in (shown_block evaluate ends here b).nodes ≤ 512 * makers b
 size_all evaluate g empty ends here d in_row f = omega arith
 size_all evaluate g (text n t rest) ends here d in_row f =
-    (let i = then_size 1 (512 * makers rest) ends (told (evaluate (row_here here) t) (node (address n (key_here here)) (Text (node_text (evaluate (row_here here) t).outcome)) none none)) (shown_block evaluate ends here rest) (omega arith) (size_all evaluate g rest ends here d in_row f) in omega (arith, i))
+    (let i = then_size 1 (512 * makers rest) ends (told (evaluate (row_here here) t) (node (address n (key_here here)) (Text (node_text
+    (evaluate (row_here here) t).outcome)) none none)) (shown_block evaluate ends here rest) (omega arith)
+    (size_all evaluate g rest ends here d in_row f) in omega (arith, i))
 size_all evaluate g (tag n name xs inner rest) ends here zero in_row f = absurd f
 size_all evaluate g (tag n name xs inner rest) ends here (suc d) in_row f =
     let inside = then_shown ends (attributes_told ends evaluate (row_here here) xs) (shown_block evaluate ends here inner) in
     let i = size_all evaluate g inner ends here d in_row f.2 in
-    let below : nodes_in inside.nodes ≤ 512 * makers inner = inside_has (λ t. nodes_in t ≤ 512 * makers inner) ends (attributes_told ends evaluate (row_here here) xs) (shown_block evaluate ends here inner) (attributes_none ends evaluate (row_here here) xs) (omega arith) i in
-    let both = then_size (1 + 512 * makers inner) (512 * makers rest) ends (within (address n (key_here here)) (Element name (attributes_of evaluate (row_here here) xs)) inside) (shown_block evaluate ends here rest) (omega arith) (size_all evaluate g rest ends here (suc d) in_row f.3) in
+    let below : nodes_in inside.nodes ≤ 512 * makers inner = inside_has (λ t. nodes_in t ≤ 512 * makers inner) ends
+    (attributes_told ends evaluate (row_here here) xs) (shown_block evaluate ends here inner) (attributes_none ends evaluate
+    (row_here here) xs) (omega arith) i in
+    let both = then_size (1 + 512 * makers inner) (512 * makers rest) ends (within (address n (key_here here)) (Element name
+    (attributes_of evaluate (row_here here) xs)) inside) (shown_block evaluate ends here rest) (omega arith)
+    (size_all evaluate g rest ends here (suc d) in_row f.3) in
     omega (arith, both)
 size_all evaluate g (choice t one' other rest) ends here zero in_row f = absurd f
 size_all evaluate g (choice t one' other rest) ends here (suc d) in_row f =
     let e = evaluate (row_here here) t in
     let a = size_all evaluate g one' ends here d in_row f.0 in
     let b = size_all evaluate g other ends here d in_row f.1 in
-    let own = inside_has (λ t. nodes_in t ≤ 512 * makers one' + 512 * makers other) ends (told e none) (chosen e.outcome (shown_block evaluate ends here one') (shown_block evaluate ends here other)) refl (omega arith)
-    (chosen_has (λ t. nodes_in t ≤ 512 * makers one' + 512 * makers other) (omega arith) e.outcome (shown_block evaluate ends here one') (shown_block evaluate ends here other) (omega arith) (omega arith)) in
-    let both = then_size (512 * makers one' + 512 * makers other) (512 * makers rest) ends (then_shown ends (told e none) (chosen e.outcome (shown_block evaluate ends here one') (shown_block evaluate ends here other))) (shown_block evaluate ends here rest) own (size_all evaluate g rest ends here (suc d) in_row f.2) in
+    let own = inside_has (λ t. nodes_in t ≤ 512 * makers one' + 512 * makers other) ends (told e none) (chosen e.outcome
+    (shown_block evaluate ends here one') (shown_block evaluate ends here other)) refl (omega arith)
+    (chosen_has (λ t. nodes_in t ≤ 512 * makers one' + 512 * makers other) (omega arith) e.outcome (shown_block evaluate ends here one')
+    (shown_block evaluate ends here other) (omega arith) (omega arith)) in
+    let both = then_size (512 * makers one' + 512 * makers other) (512 * makers rest) ends (then_shown ends (told e none)
+    (chosen e.outcome (shown_block evaluate ends here one') (shown_block evaluate ends here other)))
+    (shown_block evaluate ends here rest) own (size_all evaluate g rest ends here (suc d) in_row f.2) in
     omega (arith, both)
 size_all evaluate g (each t inner rest) ends here zero in_row f = absurd f
 size_all evaluate g (each t inner rest) ends here (suc d) in_row f =
@@ -115,14 +143,18 @@ size_all evaluate g (each t inner rest) ends here (suc d) in_row f =
     let go : Here → Showing = λ r. shown_block evaluate ends (Some r) inner in
     let own = inside_has (λ t. nodes_in t ≤ 512 * makers inner) ends (told e none) (each_row ends go e.outcome) refl (omega arith)
     (each_size (makers inner) ends go (λ r. size 1 (omega arith) evaluate inner ends (Some r) d f.1) e.outcome (g (row_here here) t)) in
-    let both = then_size (512 * makers inner) (512 * makers rest) ends (then_shown ends (told e none) (each_row ends go e.outcome)) (shown_block evaluate ends here rest) own (size_all evaluate g rest ends here (suc d) in_row f.2) in
+    let both = then_size (512 * makers inner) (512 * makers rest) ends (then_shown ends (told e none) (each_row ends go e.outcome))
+    (shown_block evaluate ends here rest) own (size_all evaluate g rest ends here (suc d) in_row f.2) in
     omega (arith, both)
 size_all evaluate g (attempt first second rest) ends here zero in_row f = absurd f
 size_all evaluate g (attempt first second rest) ends here (suc d) in_row f =
     let a = size_all evaluate g first true here d in_row f.0 in
     let b = size_all evaluate g second ends here d in_row f.1 in
-    let own = attempted_has (λ t. nodes_in t ≤ 512 * makers first + 512 * makers second) (shown_block evaluate true here first) (shown_block evaluate ends here second) (omega arith) (omega arith) in
-    let both = then_size (512 * makers first + 512 * makers second) (512 * makers rest) ends (attempted (shown_block evaluate true here first) (shown_block evaluate ends here second)) (shown_block evaluate ends here rest) own (size_all evaluate g rest ends here (suc d) in_row f.2) in
+    let own = attempted_has (λ t. nodes_in t ≤ 512 * makers first + 512 * makers second) (shown_block evaluate true here first)
+    (shown_block evaluate ends here second) (omega arith) (omega arith) in
+    let both = then_size (512 * makers first + 512 * makers second) (512 * makers rest) ends (attempted
+    (shown_block evaluate true here first) (shown_block evaluate ends here second)) (shown_block evaluate ends here rest) own
+    (size_all evaluate g rest ends here (suc d) in_row f.2) in
     omega (arith, both)
 
 -- ---- lines

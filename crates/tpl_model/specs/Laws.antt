@@ -65,7 +65,8 @@ RowsLaw = (links : List ℕ) (source : ℕ → Outcome) → ((n : ℕ) → IsGoo
 
 -- a formula answers the same on two rows that are the same, whatever stands before and behind them
 abbrev pub SameRowsLaw : Type 0
-SameRowsLaw = (r s : RowRef) → same_here r s ≡ true → (f : Tree) (known : List Known) → answer_of f (Some r) known ≡ answer_of f (Some s) known
+SameRowsLaw = (r s : RowRef) → same_here r s ≡ true → (f : Tree) (known : List Known) →
+    answer_of f (Some r) known ≡ answer_of f (Some s) known
 
 -- ---- evaluation
 

@@ -1,5 +1,6 @@
 -- What the lines of a template show, in document order.
-use Rattle.std.specs.Prelude.{ℕ, suc, ◌&&◌, ◌||◌, Bool, true, false, List, [], ◌∷◌, ◌++◌, codes, map, unwrap_or, Option, Some, None, if◌then◌else◌}
+use Rattle.std.specs.Prelude.{ℕ, suc, ◌&&◌, ◌||◌, Bool, true, false, List, [], ◌∷◌, ◌++◌, codes, map, unwrap_or, Option, Some, None}
+use Rattle.std.specs.Prelude.{if◌then◌else◌}
 use Rattle.std.specs.Option.{option_map}
 use Rattle.sig_base.specs.Tables.{Table}
 use Rattle.sig_base.specs.Printing.{fault_name}
@@ -115,7 +116,8 @@ abbrev pub shown_block : Evaluating → Bool → Option Here → Block → Showi
 shown_block evaluate ends here empty = nothing
 shown_block evaluate ends here (text n f rest) =
     let e = evaluate (row_here here) f in
-    then_shown ends (told e (node (address n (key_here here)) (Text (node_text e.outcome)) none none)) (shown_block evaluate ends here rest)
+    then_shown ends (told e (node (address n (key_here here)) (Text (node_text e.outcome)) none none))
+    (shown_block evaluate ends here rest)
 shown_block evaluate ends here (tag n name attributes inner rest) =
     then_shown ends
     (within (address n (key_here here)) (Element name (attributes_of evaluate (row_here here) attributes))

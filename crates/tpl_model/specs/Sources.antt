@@ -36,7 +36,8 @@ same_place _ _ = false
 
 -- rows of the same fields with the same row at their places, wherever these are
 abbrev pub same_here : RowRef → RowRef → Bool
-same_here r s = pointwise bytes_eq r.rows.fields s.rows.fields && same_place (slice_get r.rows.rows r.place) (slice_get s.rows.rows s.place)
+same_here r s = pointwise bytes_eq r.rows.fields s.rows.fields && same_place (slice_get r.rows.rows r.place)
+    (slice_get s.rows.rows s.place)
 
 -- ---- on the signals
 
