@@ -1,0 +1,5 @@
+pub mod Differences
+pub mod Children
+pub mod PageMemos
+pub mod Walks
+pub mod Updating

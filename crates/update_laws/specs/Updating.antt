@@ -1,0 +1,170 @@
+-- A page that is made from a template, and how it is brought up to date by what changed.
+use Rattle.std.specs.Prelude.{◌≡◌, ℕ, ◌+◌, ltb, length, map, Bool, true, false, List, [], ◌∷◌, ◌++◌, None}
+use Rattle.sig_base.specs.declared.value.Outcome.{Outcome}
+use Rattle.page_model.specs.Edits.{listed, siblings}
+use Rattle.page_model.specs.Forest.{Forest, none, node, on, kids, numbered}
+use Rattle.page_model.specs.Labels.{Root, Look, Kind, shown}
+use Rattle.page_model.specs.Pages.{NumberedPage, IsPage, IsShape, SameOrigin, bare, carried, edits_between, new_order, number_of}
+use Rattle.page_model.specs.Pages.{page_shape, renumbered, those, tree_of, with_numbers}
+use Rattle.page_model.specs.Replay.{Op, Done, replay, do_op}
+use Rattle.signal_model.specs.Standing.{is_in}
+use Rattle.tpl_model.specs.Lines.{Line, block_of}
+use Rattle.tpl_model.specs.Laws.{GivesRows, IsTemplate}
+use Rattle.tpl_model.specs.Shapes.{shape_of, shown_lines}
+use Rattle.tpl_model.specs.Sources.{evaluating, firsts}
+use Rattle.update_laws.specs.Children.{forward_edits}
+use Rattle.update_laws.specs.Differences.{Finds, Found, children_at, found_at, found_edits, found_order}
+use Rattle.update_laws.specs.PageMemos.{PageMemo, hearing, memo_of, names, nodes, renew, up_to_change}
+use Rattle.update_laws.specs.Walks.{differ}
+
+-- ---- what is kept
+
+-- the shape of a template whose names have these outcomes
+abbrev pub shape_on : List Line → List ℕ → (ℕ → Outcome) → Forest Look
+shape_on lines links source = shape_of (evaluating links source) lines
+
+-- the names that its lines read, in order
+abbrev pub reads_on : List Line → List ℕ → (ℕ → Outcome) → List ℕ
+reads_on lines links source = (shown_lines (evaluating links source) lines).reads
+
+-- what a page keeps of its lines, made from scratch on these outcomes of the names; those of names that weren't read say nothing
+abbrev pub memo_on : List Line → List ℕ → (ℕ → Outcome) → PageMemo
+memo_on lines links source = memo_of (hearing (evaluating links source)) false None (block_of lines)
+
+-- the shape that what is kept shows
+abbrev pub memo_shape : List Line → PageMemo → Forest Look
+memo_shape lines m = node 0 Root (nodes None (block_of lines) m) none
+
+-- what stands for a page: what is kept of its lines was made on these outcomes, the page shows it, and the tree is the page's
+pub record Keeps (lines : List Line) (links : List ℕ) (source : ℕ → Outcome) (m : PageMemo) (p : NumberedPage)
+    (tree : Forest Kind) : Type 0 where
+  pub memo : m ≡ memo_on lines links source
+  pub shape : page_shape p ≡ memo_shape lines m
+  pub page : IsPage p
+  pub stands : tree ≡ tree_of p
+
+-- ---- what changed
+
+-- a test of names: each that passes has the outcome of before
+abbrev pub Tells : (ℕ → Bool) → (ℕ → Outcome) → (ℕ → Outcome) → Type 0
+Tells same before now = (n : ℕ) → same n ≡ true → before n ≡ now n
+
+-- a page that stands on the outcomes of before, and outcomes of now of which a test tells those that are as before
+pub record Changes (same : ℕ → Bool) (lines : List Line) (links : List ℕ) (before now : ℕ → Outcome) (m : PageMemo) (p : NumberedPage)
+    (tree : Forest Kind) : Type 0 where
+  pub template : IsTemplate lines
+  pub kept : Keeps lines links before m p tree
+  pub tells : Tells same before now
+  pub rows : GivesRows (evaluating links now)
+
+-- what is kept next
+abbrev pub next_memo : (ℕ → Bool) → List Line → List ℕ → (ℕ → Outcome) → PageMemo → PageMemo
+next_memo same lines links now m = renew same (hearing (evaluating links now)) false None (block_of lines) m
+
+-- the page that comes next: it is carried to the shape of now
+abbrev pub next_page : List Line → List ℕ → (ℕ → Outcome) → NumberedPage → NumberedPage
+next_page lines links now p = renumbered p (shape_on lines links now)
+
+-- what is found between what is kept and what is kept next
+abbrev pub found_between : (ℕ → Bool) → List Line → PageMemo → PageMemo → Found
+found_between same lines m m' =
+    let d = differ same true None (block_of lines) m m' in
+    found_at 0 d.level false d.found
+
+-- ---- laws of an update
+
+-- what is kept of the page that comes next: it shows the template's shape, and read the template's names
+pub record IsNext (lines : List Line) (links : List ℕ) (now : ℕ → Outcome) (m : PageMemo) (p : NumberedPage) : Type 0 where
+  pub keeps : Keeps lines links now m (next_page lines links now p) (tree_of (next_page lines links now p))
+  pub shape : memo_shape lines m ≡ shape_on lines links now
+  pub reads : names m ≡ reads_on lines links now
+
+-- what is brought up to date is kept of the page that comes next
+abbrev pub NextLaw : Type 0
+NextLaw = (same : ℕ → Bool) (lines : List Line) (links : List ℕ) (before now : ℕ → Outcome) (m : PageMemo) (p : NumberedPage)
+    (tree : Forest Kind) → Changes same lines links before now m p tree → IsNext lines links now (next_memo same lines links now m) p
+
+-- what is found gives the operations between two pages, and the order of the new numbers
+pub record Gives (p : NumberedPage) (shape : Forest Look) (f : Found) : Type 0 where
+  pub edits : edits_between p (renumbered p shape) ≡ found_edits p shape f
+  pub order : new_order p shape ≡ found_order p shape f
+
+-- what is found on the way gives them
+abbrev pub FoundLaw : Type 0
+FoundLaw = (same : ℕ → Bool) (lines : List Line) (links : List ℕ) (before now : ℕ → Outcome) (m : PageMemo) (p : NumberedPage)
+    (tree : Forest Kind) → Changes same lines links before now m p tree →
+    Gives p (shape_on lines links now) (found_between same lines m (next_memo same lines links now m))
+
+-- the operations lead from the tree that stands to that of the page that comes next
+abbrev pub LastLaw : Type 0
+LastLaw = (same : ℕ → Bool) (lines : List Line) (links : List ℕ) (before now : ℕ → Outcome) (m : PageMemo) (p : NumberedPage)
+    (tree : Forest Kind) → Changes same lines links before now m p tree →
+    replay (found_edits p (shape_on lines links now) (found_between same lines m (next_memo same lines links now m))) tree
+    ≡ Done (tree_of (next_page lines links now p))
+
+-- where operations lead somewhere, the first can be done, and the others lead on from there
+abbrev pub StepLaw : Type 0
+StepLaw = (o : Op) (os : List Op) (tree last : Forest Kind) → replay (o ∷ os) tree ≡ Done last →
+    (next : Forest Kind) × (do_op o tree ≡ Done next) × (replay os next ≡ Done last)
+
+-- the names of before, up to the first that has changed, may be asked first: all are asked in the order of the template
+abbrev pub AskLaw : Type 0
+AskLaw = (same : ℕ → Bool) (lines : List Line) (links : List ℕ) (before now : ℕ → Outcome) (m : PageMemo) (p : NumberedPage)
+    (tree : Forest Kind) → Changes same lines links before now m p tree →
+    let looked = up_to_change same (names m) in
+    firsts [] looked ++ firsts looked (reads_on lines links now) ≡ firsts [] (reads_on lines links now)
+
+-- what is kept rests on the outcomes of the names that were read, so these are all that a page need keep
+abbrev pub SourceLaw : Type 0
+SourceLaw = (lines : List Line) (links : List ℕ) (source other : ℕ → Outcome) →
+    ((n : ℕ) → is_in n (names (memo_on lines links source)) ≡ true → source n ≡ other n) →
+    memo_on lines links source ≡ memo_on lines links other
+
+-- ---- laws for whatever finds the same in another order
+
+-- Whatever finds the topmost nodes that are gone, the kept nodes whose children differ (and at most kept nodes more), and those whose look
+-- differs, gives the operations and the order of the new numbers.
+abbrev pub ReadLaw : Type 0
+ReadLaw = (p : NumberedPage) (shape : Forest Look) (f : Found) → IsPage p → IsShape shape → SameOrigin (page_shape p) shape →
+    Finds (page_shape p) shape (page_shape p) f → Gives p shape f
+
+-- the numbers of the old children of a node that are on the next page
+abbrev pub kept_children : NumberedPage → Forest Look → ℕ → List ℕ
+kept_children p shape a = map (number_of p) (those (λ b. on b shape) (siblings (kids a (page_shape p))))
+
+-- the operations on the children of a kept node come from one go: a child is kept where its number is below the page's next unused one
+abbrev pub ChildLaw : Type 0
+ChildLaw = (p : NumberedPage) (shape : Forest Look) → IsPage p → IsShape shape → SameOrigin (page_shape p) shape → (a : ℕ) →
+    on a (page_shape p) ≡ true → on a shape ≡ true →
+    children_at (number_of p) (carried p shape) (page_shape p) shape a
+    ≡ forward_edits (λ n. ltb n p.next) (number_of p a) 0 (kept_children p shape a) [] (shown (numbered (carried p shape) (kids a shape)))
+
+-- a new address gets the next number at its place in their order, and a part whose addresses were all there keeps its numbers
+pub record Numbers (p : NumberedPage) (shape : Forest Look) : Type 0 where
+  pub new : (a : ℕ) (pre post : List ℕ) → on a (page_shape p) ≡ false → new_order p shape ≡ pre ++ a ∷ post → listed a pre ≡ false →
+      carried p shape a ≡ p.next + length pre
+  pub kept : (part : Forest Look) → ((j : ℕ) → on j part ≡ true → on j (page_shape p) ≡ true) →
+      with_numbers (carried p shape) part ≡ with_numbers (number_of p) part
+
+-- so are the numbers of the next page
+abbrev pub NumberLaw : Type 0
+NumberLaw = (p : NumberedPage) (shape : Forest Look) → Numbers p shape
+
+-- ---- the law of a mount
+
+-- a mount finds the root alone: its children differ
+abbrev pub mount_found : Found
+mount_found = record { gone = []; touched = 0 ∷ []; restated = [] }
+
+-- a page is mounted from the bare one, with what is kept made from scratch
+pub record Mounted (lines : List Line) (links : List ℕ) (now : ℕ → Outcome) : Type 0 where
+  pub keeps : Keeps lines links now (memo_on lines links now) (next_page lines links now bare) (tree_of (next_page lines links now bare))
+  pub reads : names (memo_on lines links now) ≡ reads_on lines links now
+  pub gives : Gives bare (shape_on lines links now) mount_found
+  pub leads : replay (found_edits bare (shape_on lines links now) mount_found) (tree_of bare)
+      ≡ Done (tree_of (next_page lines links now bare))
+
+-- a template that fits is mounted so, where its names come to rows that are rows
+abbrev pub MountLaw : Type 0
+MountLaw = (lines : List Line) (links : List ℕ) (now : ℕ → Outcome) → IsTemplate lines → GivesRows (evaluating links now) →
+    Mounted lines links now
