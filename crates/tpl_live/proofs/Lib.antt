@@ -1,0 +1,3 @@
+mod Stepping
+mod Named
+pub mod Equations

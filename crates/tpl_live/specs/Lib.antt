@@ -1,0 +1,2 @@
+pub mod ChildSteps
+pub mod Kept
