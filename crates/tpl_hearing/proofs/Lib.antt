@@ -1,0 +1,3 @@
+mod Hearings
+mod Askings
+pub mod Shared

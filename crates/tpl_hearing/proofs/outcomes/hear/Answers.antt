@@ -1,0 +1,47 @@
+use Rattle.std.proofs.Common.{◌++◌, [], ◌∷◌, Some, sym, ap, arith, ◌∙◌}
+use Rattle.std.proofs.lemmas.List.{length-map}
+use Rattle.sig_computed.specs.Notes.{note_of}
+use Rattle.tpl_hearing.specs.Hearing.{heard_of}
+use Rattle.tpl_hearing.proofs.Hearings.{joins_last, joins_not, last_heard, nothing_heard, one_heard}
+use Rattle.tpl_hearing.proofs.outcomes.hear.Goals as goal
+
+pub returns-in-Some-clause-names : goal.returns-in-Some-clause-names
+returns-in-Some-clause-names g c = joins_not c.args.heard.now c.args.id c.in-Some.outcome (sym c.in_ok-outcome.ensures ∙ c.in-Some.is)
+
+pub returns-in-Some-clause-after : goal.returns-in-Some-clause-after
+returns-in-Some-clause-after g c = nothing_heard _ _ c.args.heard.now c.requires.can.idle
+
+pub returns-clause-outcome : goal.returns-clause-outcome
+returns-clause-outcome g c =
+    ap (λ h. heard_of h c.args.id) c.in_ok-put.ensures
+    ∙ last_heard c.args.heard.now c.args.id c.in_ok-copy.field-0 (sym c.in_ok-outcome.ensures ∙ c.in_default.is)
+    ∙ ap Some c.in_ok-copy.ensures
+
+pub returns-clause-names : goal.returns-clause-names
+returns-clause-names g c =
+    joins_last c.args.heard.now c.put.new.self c.args.id c.in_ok-copy.field-0 (sym c.in_ok-outcome.ensures ∙ c.in_default.is) c.in_ok-put.ensures
+
+pub returns-clause-after : goal.returns-clause-after
+returns-clause-after g c =
+    let s = c.in_ok-outcome-2.ensures in
+    let most = s.most in
+    let worn = s.worn in
+    let old = length-map c.args.notes.now.items note_of in
+    let new = length-map c.settle.new.notes.items note_of in
+    one_heard _ _ _ _ c.args.heard.now c.put.new.self c.args.id c.in_ok-outcome-2.outcome
+    (record {
+      settled = s.settled;
+      kept = s.kept;
+      asked = s.asked;
+      answers = s.answers;
+      there = s.there;
+      most = omega (arith, most, old, new);
+      signals = s.signals;
+      idle = s.idle;
+      seats = s.seats;
+      given = s.given;
+      named = s.named;
+      worn = omega (arith, worn, old, new);
+    })
+    s.value
+    (c.in_ok-put.ensures ∙ ap (λ o. c.args.heard.now ++ (c.args.id, o) ∷ []) c.in_ok-copy.ensures)

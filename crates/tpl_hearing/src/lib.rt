@@ -1,0 +1,8 @@
+//! Formulas of a page's lines, evaluated on signals that are settled as they are asked for.
+#![tactic(auto)]
+
+mod evaluating;
+mod outcomes;
+
+pub use evaluating::{Evaluated, Read, evaluate};
+pub use outcomes::{Outcomes, hear};

@@ -1,0 +1,88 @@
+// What is heard of names while a page is brought up to date: each of them is settled once.
+ghost use Rattle.std.specs.Prelude.{◌≡◌, ◌++◌, ◌∷◌, [], None, Some, IfOk, OnOk};
+ghost use Rattle.std.specs.Map.{keys_of};
+ghost use Rattle.signal_laws.specs.ReadingLaws.{joined};
+ghost use Rattle.tpl_hearing.specs.Hearing.{heard_of, scene, CanSettle, Hears};
+
+use indexmap::IndexMap;
+use sig_base::{NoMemory, NodeId, Outcome};
+use sig_computed::{RunNote, settle};
+use sig_host::{Lent, Shelf};
+use sig_nodes::Graph;
+use std::alloc::Global;
+use std::marker::Model;
+
+/// The names that were heard, in this order, and their outcomes.
+#[derive(Drop)]
+pub struct Outcomes {
+    outcomes: IndexMap<NodeId, Outcome>,
+}
+
+impl Model for Outcomes {
+    ghost use Rattle.tpl_hearing.specs.Hearing as names;
+
+    ghost Value = { names.Outcomes };
+
+    ghost view = { λ h. h.outcomes.entries };
+}
+
+impl Outcomes {
+    /// Nothing was heard.
+    pub fn new(alloc: Global) -> Outcomes
+        ensures { result ≡ [] }
+    {
+        Outcomes {
+            outcomes: IndexMap::new(alloc),
+        }
+    }
+
+    // The outcome that was heard of a name.
+    fn outcome(&self, id: NodeId) -> Result<Option<Outcome>, NoMemory>
+        ensures { IfOk result (λ o. o ≡ heard_of self.now id) }
+    {
+        match self.outcomes.get(&id) {
+            Some(outcome) => Ok(Some(outcome.copy()?)),
+            None => Ok(None),
+        }
+    }
+
+    // Puts a name behind the others.
+    fn put(&mut self, id: NodeId, outcome: Outcome) -> Result<(), NoMemory>
+        requires { heard_of self.old id ≡ None }
+        ensures { OnOk result (self.new ≡ self.old ++ (id, outcome) ∷ []) }
+    {
+        self.outcomes.insert(id, outcome)?;
+        Ok(())
+    }
+}
+
+/// Hears a name: the first time it is settled.
+///
+/// # Errors
+///
+/// `NoMemory` alone; names may then have been settled.
+pub fn hear(
+    graph: &mut Graph,
+    shelf: &mut Shelf,
+    heard: &mut Outcomes,
+    id: NodeId,
+    notes: &mut Vec<RunNote>,
+) -> Result<Outcome, NoMemory>
+    requires can { CanSettle (scene graph.old (⟦<Shelf as Lent>⟧.asked shelf.old) notes.old.items) }
+    requires counted { ⟦<Shelf as Lent>⟧.counted shelf.old }
+    ensures outcome { IfOk result (λ o. heard_of heard.new id ≡ Some o) }
+    ensures names { OnOk result (keys_of heard.new ≡ joined (keys_of heard.old) id) }
+    ensures after { OnOk result (Hears
+        (scene graph.old (⟦<Shelf as Lent>⟧.asked shelf.old) notes.old.items) (scene graph.new (⟦<Shelf as Lent>⟧.asked shelf.new) notes.new.items)
+        (λ hosts. ⟦<Shelf as Lent>⟧.answers hosts shelf.old) (λ hosts. ⟦<Shelf as Lent>⟧.answers hosts shelf.new) heard.old heard.new) }
+    ensures can { OnOk result (CanSettle (scene graph.new (⟦<Shelf as Lent>⟧.asked shelf.new) notes.new.items)) }
+    ensures counted { OnOk result (⟦<Shelf as Lent>⟧.counted shelf.new) }
+{
+    let _count = notes.len();
+    if let Some(outcome) = heard.outcome(id)? {
+        return Ok(outcome);
+    }
+    let outcome = settle(graph, shelf, id, notes)?;
+    heard.put(id, outcome.copy()?)?;
+    Ok(outcome)
+}
