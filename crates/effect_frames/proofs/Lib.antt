@@ -1,0 +1,3 @@
+mod Framing
+mod Tearing
+pub mod Shared
