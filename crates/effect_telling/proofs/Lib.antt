@@ -1,0 +1,3 @@
+mod Acting
+mod Turning
+pub mod Shared
