@@ -1,0 +1,4 @@
+mod Settlings
+mod Slots
+mod Askings
+mod Looks

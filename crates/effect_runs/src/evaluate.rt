@@ -1,0 +1,78 @@
+// The evaluation of a body.
+ghost use Rattle.std.specs.Prelude.{◌≡◌, ◌<◌, length, slice_index, IfOk, OnOk};
+ghost use Rattle.signal_model.specs.Recipes.{Hosts};
+ghost use Rattle.signal_model.specs.Sound.{names_of};
+ghost use Rattle.effect_model.specs.Bodies.{body_evaluation};
+ghost use Rattle.sig_effect.specs.Agreeing.{IsSound};
+ghost use Rattle.sig_untrack.specs.Linking.{Parts};
+ghost use Rattle.effect_runs.specs.Evaluating.{body_seen, HasNames, IsRunOf};
+ghost use Rattle.effect_runs.specs.Settling.{scene, CanSettle, Settles};
+
+use crate::reading::{BodyEnd, BodyRun, Reading};
+use sig_base::{NoMemory, NodeId, Outcome};
+use sig_effect::{Event, World};
+use sig_host::{Lent, Shelf};
+use sig_untrack::{Body, BodyStep, body_step};
+
+// The signal that a slot stands for.
+fn slot_name(names: &[NodeId], slot: u32) -> NodeId
+    requires { slot < length names.now }
+    ensures { result ≡ slice_index names.now slot }
+{
+    names[slot as usize]
+}
+
+/// Evaluates the body of an effect on the values of its names, one for each slot. It is asked with what it has read, again with each
+/// value that it asks for, until it wants acts done or a read or a formula has a fault. Each signal that it reads is settled at its place,
+/// one that is read untracked and later tracked at both.
+///
+/// # Errors
+///
+/// After `NoMemory` world and shelf may only be dropped.
+pub fn evaluate_body(
+    world: &mut World,
+    shelf: &mut Shelf,
+    body: &Body,
+    names: &[NodeId],
+    events: &mut Vec<Event>,
+) -> Result<BodyRun, NoMemory>
+    requires can { CanSettle (scene world.old (⟦<Shelf as Lent>⟧.asked shelf.old) events.old.items) }
+    requires counted { ⟦<Shelf as Lent>⟧.counted shelf.old }
+    requires fit { HasNames body.now names.now }
+    ensures run { (hosts : Hosts) (p : Parts) → ⟦<Shelf as Lent>⟧.answers hosts shelf.old → IsSound hosts (⟦<Shelf as Lent>⟧.asked shelf.old) world.old →
+        IfOk result (IsRunOf p (body_evaluation hosts world.old.graph.state.signals (body_seen p body.now names.now))) }
+    ensures after { (p : Parts) → OnOk result (Settles
+        (scene world.old (⟦<Shelf as Lent>⟧.asked shelf.old) events.old.items) (scene world.new (⟦<Shelf as Lent>⟧.asked shelf.new) events.new.items)
+        (λ hosts. ⟦<Shelf as Lent>⟧.answers hosts shelf.old) (λ hosts. ⟦<Shelf as Lent>⟧.answers hosts shelf.new)
+        (λ hosts. names_of (body_evaluation hosts world.old.graph.state.signals (body_seen p body.now names.now)).reads)) }
+    ensures can { OnOk result (CanSettle (scene world.new (⟦<Shelf as Lent>⟧.asked shelf.new) events.new.items)) }
+    ensures counted { OnOk result (⟦<Shelf as Lent>⟧.counted shelf.new) }
+{
+    let alloc = *events.allocator();
+    let mut reading = Reading::new(alloc);
+    'asking: loop {
+        let (slot, tracked) = match body_step(alloc, body, &reading.tracked, &reading.untracked)? {
+            BodyStep::Read { slot, tracked } => (slot, tracked),
+            BodyStep::Acts(acts) => {
+                return Ok(BodyRun {
+                    tracked: reading.reads,
+                    end: BodyEnd::Acts(acts),
+                });
+            }
+            BodyStep::Fail(fault) => {
+                return Ok(BodyRun {
+                    tracked: reading.reads,
+                    end: BodyEnd::Fail(fault),
+                });
+            }
+        };
+        let id = slot_name(names, slot);
+        match world.ask(shelf, id, events)? {
+            Outcome::Good(value) => reading.learn(slot, tracked, id, value)?,
+            Outcome::Bad(fault) => {
+                let run = reading.fail(tracked, id, fault)?;
+                return Ok(run);
+            }
+        }
+    }
+}
