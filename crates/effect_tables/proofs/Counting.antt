@@ -1,0 +1,13 @@
+-- Named effects are counted.
+use Rattle.std.proofs.Common.{◌≡◌, ℕ, ◌+◌, ◌++◌, Bool, true, false, cond, List, [], ◌∷◌, arith}
+use Rattle.effect_tables.specs.declared.effect.Effect.{Effect}
+use Rattle.effect_tables.specs.Looking.{is_named, named_count}
+
+pub named_more : (xs : List Effect) (x : Effect) → named_count (xs ++ x ∷ []) ≡ named_count xs + named_count (x ∷ [])
+named_more [] x = let n : ℕ = named_count (x ∷ []) in let e : n ≡ 0 + n = omega arith in e
+named_more (y ∷ ys) x =
+    go (is_named y.path.items) (named_count (ys ++ x ∷ [])) (named_count ys) (named_count (x ∷ [])) (named_more ys x)
+  where
+    go : (b : Bool) (m k j : ℕ) → m ≡ k + j → cond b 1 0 + m ≡ (cond b 1 0 + k) + j
+    go true m k j e = omega (arith, e)
+    go false m k j e = omega (arith, e)

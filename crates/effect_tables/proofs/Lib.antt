@@ -1,0 +1,9 @@
+mod Numbers
+mod Rows
+mod Making
+mod Adopted
+mod Tabled
+mod Starting
+mod Counting
+mod Resting
+pub mod Shared

@@ -1,0 +1,80 @@
+use Rattle.std.proofs.Common.{◌≡◌, ◌++◌, ◌∷◌, [], List, refl, sym, ap, subst, ◌∙◌, arith}
+use Rattle.std.specs.Prelude.{◌+◌, None}
+use Rattle.effect_tables.specs.declared.tables.OwnerEntry.{OwnerEntry}
+use Rattle.effect_tables.specs.declared.tables.Tables.{Tables}
+use Rattle.effect_tables.specs.declared.thing.Thing.TheVariants as a
+use Rattle.effect_tables.specs.Adopting.{MakesEffect}
+use Rattle.effect_tables.specs.Looking.{IsInside}
+use Rattle.effect_tables.specs.Linking.{body_of}
+use Rattle.effect_tables.specs.Placed.{effect_of}
+use Rattle.effect_tables.proofs.Tabled.{effect_does, effect_holds, effect_leaves}
+use Rattle.effect_tables.proofs.tables.Tables.make_effect.Goals as goal
+
+pub returns-clause-does : goal.returns-clause-does
+returns-clause-does c =
+    let t : Tables = record {
+      store = c.make_for_in.new.store;
+      things = c.push.new.self;
+      owners = c.args.self.now.owners;
+      effects = c.push-2.new.self;
+      pages = c.args.self.now.pages;
+      named = c.args.self.now.named + 1;
+      effects_made = c.args.self.now.effects_made + 1;
+      pages_made = c.args.self.now.pages_made;
+    } in
+    let e = c.in_ok-effect.ensures in
+    effect_does c.args.self.now t c.args.inside c.in_ok-outer.outer c.in_ok-effect.effect c.args.script (record {
+      made = subst (λ x. x) (λ i. MakesEffect c.args.self.now.store c.make_for_in.new.store c.in_ok-outer.outer (sym e.number i) (sym e.place i)) c.in_ok-row.ensures.made;
+      number = e.number ∙ c.of-id.ensures;
+      things = c.in_ok-push.ensures.items ∙ ap (λ k. c.args.self.now.things.items ++ a.Effect k ∷ []) (sym e.number);
+      effects = c.in_ok-push-2.ensures.items;
+      owners = refl;
+      pages = refl;
+      alone = e.alone;
+      named = refl;
+      effects_made = refl;
+      pages_made = refl;
+    })
+    (subst (λ k. effect_of c.in_ok-effect.effect ≡ record { number = k; body = body_of k c.args.script []; kept = None }) c.of-id.ensures e.seen)
+    (subst (λ (es : List OwnerEntry). IsInside es c.args.inside c.in_ok-outer.outer) c.deref.ensures.value c.in_ok-outer.ensures.inside) c.requires.holds
+
+pub returns-clause-holds : goal.returns-clause-holds
+returns-clause-holds c =
+    let t : Tables = record {
+      store = c.make_for_in.new.store;
+      things = c.push.new.self;
+      owners = c.args.self.now.owners;
+      effects = c.push-2.new.self;
+      pages = c.args.self.now.pages;
+      named = c.args.self.now.named + 1;
+      effects_made = c.args.self.now.effects_made + 1;
+      pages_made = c.args.self.now.pages_made;
+    } in
+    let e = c.in_ok-effect.ensures in
+    effect_holds c.args.self.now t c.args.inside c.in_ok-outer.outer c.in_ok-effect.effect (record {
+      made = subst (λ x. x) (λ i. MakesEffect c.args.self.now.store c.make_for_in.new.store c.in_ok-outer.outer (sym e.number i) (sym e.place i)) c.in_ok-row.ensures.made;
+      number = e.number ∙ c.of-id.ensures;
+      things = c.in_ok-push.ensures.items ∙ ap (λ k. c.args.self.now.things.items ++ a.Effect k ∷ []) (sym e.number);
+      effects = c.in_ok-push-2.ensures.items;
+      owners = refl;
+      pages = refl;
+      alone = e.alone;
+      named = refl;
+      effects_made = refl;
+      pages_made = refl;
+    })
+    (subst (λ (es : List OwnerEntry). IsInside es c.args.inside c.in_ok-outer.outer) c.deref.ensures.value c.in_ok-outer.ensures.inside) c.requires.holds
+
+pub returns-clause-signals : goal.returns-clause-signals
+returns-clause-signals c =
+    let t : Tables = record {
+      store = c.make_for_in.new.store;
+      things = c.push.new.self;
+      owners = c.args.self.now.owners;
+      effects = c.push-2.new.self;
+      pages = c.args.self.now.pages;
+      named = c.args.self.now.named + 1;
+      effects_made = c.args.self.now.effects_made + 1;
+      pages_made = c.args.self.now.pages_made;
+    } in
+    effect_leaves c.args.self.now t c.in_ok-outer.outer c.of-id.result c.in_ok-row.row c.in_ok-row.ensures.made

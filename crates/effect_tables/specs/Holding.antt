@@ -1,0 +1,69 @@
+-- What holds of the tables between calls.
+use Rattle.std.specs.Prelude.{◌≡◌, ℕ, ◌<◌, ◌≤◌, Bool, true, false, List, [], ◌∷◌, map, length, Option, Some}
+use Rattle.std.specs.List.{AllByRecursion}
+use Rattle.signal_model.specs.Standing.{is_in}
+use Rattle.effect_model.specs.Owning.{Thing, the_signal, the_owner, the_effect, the_page}
+use Rattle.sig_owner.specs.Tables.{Row, live_at, thing_at}
+use Rattle.sig_owner.specs.Trees.{has_thing, owned_of}
+use Rattle.sig_owner.specs.Renaming.{renamed_thing}
+use Rattle.effect_tables.specs.declared.effect.Effect.{Effect}
+use Rattle.effect_tables.specs.declared.tables.OwnerEntry.{OwnerEntry}
+use Rattle.effect_tables.specs.declared.tables.Tables.{Tables}
+use Rattle.effect_tables.specs.Linking.{thing_of}
+use Rattle.effect_tables.specs.Looking.{named_count}
+use Rattle.effect_tables.specs.Numbering.{number_in, rows_in}
+
+-- the things of the rows
+abbrev pub names_of : List Row → List Thing
+names_of rows = map (λ (r : Row). r.holder) rows
+
+-- a row is that of an effect, or of an owner that is one of these
+abbrev pub IsKnown : List ℕ → Thing → Type 0
+IsKnown owners (the_owner n) = is_in n owners ≡ true
+IsKnown owners (the_effect n) = Unit {0}
+IsKnown owners _ = ⊥
+
+-- each number stands once
+abbrev pub AreApart : List ℕ → Type 0
+AreApart [] = Unit {0}
+AreApart (m ∷ ms) = (is_in m ms ≡ false) × AreApart ms
+
+-- an owner that lives does so in the store
+pub record IsOwner (rows : List Row) (e : OwnerEntry) : Type 0 where
+  pub lives : live_at rows e.row ≡ true
+  pub thing : thing_at rows e.row ≡ the_owner e.row
+
+-- an effect lives in the store
+pub record IsEffect (rows : List Row) (x : Effect) : Type 0 where
+  pub lives : live_at rows x.row ≡ true
+  pub thing : thing_at rows x.row ≡ the_effect x.id
+
+-- Each row of the store is an effect or an owner, the things are those of the rows by the owners' own numbers, each owner has another row,
+-- and an owner that stands somewhere is among them.
+pub record AreNumbered (owners : List ℕ) (things : List Thing) (rows : List Row) : Type 0 where
+  pub named : things ≡ map (renamed_thing (number_in owners)) (names_of rows)
+  pub known : AllByRecursion (IsKnown owners) (names_of rows)
+  pub apart : AreApart owners
+  pub below : AllByRecursion (λ (m : ℕ). m < length rows) owners
+  pub stand : (m : ℕ) → is_in m owners ≡ false → has_thing (the_owner m) (owned_of rows) ≡ false
+
+-- what lives by the tables lives in the store
+pub record AreAlive (es : List OwnerEntry) (xs : List Effect) (rows : List Row) : Type 0 where
+  pub owners : AllByRecursion (λ (e : OwnerEntry). e.live ≡ true → IsOwner rows e) es
+  pub effects : AllByRecursion (IsEffect rows) xs
+
+-- the numbers that come next stand nowhere
+pub record AreFresh (effect page : ℕ) (rows : List Row) : Type 0 where
+  pub effects : (n : ℕ) → effect ≤ n → has_thing (the_effect n) (owned_of rows) ≡ false
+  pub pages : (n : ℕ) → page ≤ n → has_thing (the_page n) (owned_of rows) ≡ false
+
+-- The tables and the store belong together.
+pub record Holds (t : Tables) : Type 0 where
+  pub numbered : AreNumbered (rows_in t.owners.items) (map thing_of t.things.items) t.store
+  pub alive : AreAlive t.owners.items t.effects.items t.store
+  pub fresh : AreFresh t.effects_made t.pages_made t.store
+  pub named : t.named ≡ named_count t.effects.items
+
+-- Of signals this one alone, if any, may stand somewhere where it stood nowhere before.
+pub record LeavesOut (one : Option ℕ) (rows later : List Row) : Type 0 where
+  pub still : (n : ℕ) → (one ≡ Some n → ⊥) → has_thing (the_signal n) (owned_of rows) ≡ false → has_thing (the_signal n) (owned_of later) ≡ false

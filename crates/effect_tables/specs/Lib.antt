@@ -1,0 +1,6 @@
+pub mod Linking
+pub mod Numbering
+pub mod Placed
+pub mod Holding
+pub mod Looking
+pub mod Adopting

@@ -1,0 +1,55 @@
+-- What the tables stand for.
+use Rattle.std.specs.Prelude.{ℕ, Bool, true, List, [], map, length, Option, Some, None, option_map, if◌then◌else◌}
+use Rattle.std.specs.Rc.{rc_value}
+use Rattle.signal_model.specs.Standing.{is_in}
+use Rattle.effect_model.specs.Owning.{Owned, nothing, thing, cleanup}
+use Rattle.effect_model.specs.Worlds as plain
+use Rattle.effect_model.specs.Worlds.{World}
+use Rattle.sig_owner.specs.Tables.{is_holder}
+use Rattle.sig_owner.specs.Trees.{owned_of}
+use Rattle.sig_owner.specs.Renaming.{renamed}
+use Rattle.effect_tables.specs.declared.effect.Effect.{Effect}
+use Rattle.effect_tables.specs.declared.tables.Tables.{Tables}
+use Rattle.effect_tables.specs.Linking.{body_of}
+use Rattle.effect_tables.specs.Numbering.{living, number_in, rows_in}
+
+-- an effect as the definitions have it
+abbrev pub effect_of : Effect → plain.Effect
+effect_of x = record { number = x.id; body = body_of x.origin (rc_value x.script) x.path.items; kept = option_map (λ ss. ss.items) x.kept }
+
+-- the number of an owner, by the row that it has in the store
+abbrev pub numbering : Tables → ℕ → ℕ
+numbering t = number_in (rows_in t.owners.items)
+
+-- all that stands, by the owners' own numbers
+abbrev pub tree_of : Tables → Owned
+tree_of t = renamed (numbering t) (owned_of t.store)
+
+-- a plain world with the owners, effects and pages of the tables
+abbrev pub placed : Tables → World → World
+placed t w = record w {
+  owners = living 0 t.owners.items;
+  effects = map effect_of t.effects.items;
+  pages = t.pages.items;
+  owned = tree_of t;
+  made = record (w.made) { owners = length t.owners.items; effects = t.effects_made; pages = t.pages_made };
+}
+
+-- a plain world in which no owner, effect or page was made
+abbrev pub untouched : World → World
+untouched w = record w { owners = []; effects = []; pages = []; owned = nothing; made = record (w.made) { owners = 0; effects = 0; pages = 0 } }
+
+-- All that stands, but for what stands at the top and can't own.
+abbrev pub listed : Owned → Owned
+listed nothing = nothing
+listed (thing t made earlier) = if is_holder t then thing t made (listed earlier) else listed earlier
+listed (cleanup c earlier) = cleanup c (listed earlier)
+
+-- Between two commands nothing is left to tell. It isn't kept which signals and pages stand at the top.
+abbrev pub at_rest : World → World
+at_rest w = record w { owned = listed w.owned; told = [] }
+
+-- whether something can be made there: at the top, or inside an owner that lives
+abbrev pub is_open : List ℕ → Option ℕ → Bool
+is_open owners None = true
+is_open owners (Some o) = is_in o owners

@@ -1,0 +1,15 @@
+//! The tables of owners, effects and pages: what lives, and what stands under what. Owners have their own numbers, as effects and pages
+//! have.
+#![tactic(auto)]
+
+mod effect;
+mod links;
+mod looks;
+mod makings;
+mod tables;
+mod thing;
+
+pub use effect::{Effect, Script};
+pub use links::{Links, Slots, Target};
+pub use tables::{MOST_EFFECTS, OwnerEntry, Tables};
+pub use thing::{Thing, Undoing};
