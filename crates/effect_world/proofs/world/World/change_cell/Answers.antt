@@ -1,0 +1,15 @@
+use Rattle.std.proofs.Common.{refl}
+use Rattle.effect_world.specs.declared.world.World.{World}
+use Rattle.effect_world.proofs.Carrying.{owned_still, set_done}
+use Rattle.effect_world.proofs.world.World.change_cell.Goals as goal
+
+pub returns-clause-does : goal.returns-clause-does
+returns-clause-does g c = λ hosts asked sound.
+    let new : World = record { signals = c.change_cell.new.self; tables = c.args.self.now.tables } in
+    set_done hosts _ asked c.args.self.now new _ _ _ _ c.args.id c.args.value c.new-told.ensures.items (c.in_ok-done.ensures.does hosts asked sound) refl c.requires.owned.tables
+    c.in_ok-tell_signals.ensures
+
+pub returns-clause-agrees : goal.returns-clause-agrees
+returns-clause-agrees g c = λ asked a.
+    let new : World = record { signals = c.change_cell.new.self; tables = c.args.self.now.tables } in
+    record { signals = c.in_ok-done.ensures.agrees asked a.signals; owned = owned_still c.args.self.now new c.in_ok-done.ensures.stays.given refl a.owned }

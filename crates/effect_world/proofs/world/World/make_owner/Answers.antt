@@ -1,0 +1,15 @@
+use Rattle.std.proofs.Common.{[], refl}
+use Rattle.effect_model.specs.Commands.{with_new_owner}
+use Rattle.effect_world.specs.declared.world.World.{World}
+use Rattle.effect_world.proofs.Carrying.{owned_same, tables_done}
+use Rattle.effect_world.proofs.world.World.make_owner.Goals as goal
+
+pub returns-clause-does : goal.returns-clause-does
+returns-clause-does c = λ hosts asked sound.
+    let new : World = record { signals = c.args.self.now.signals; tables = c.make_owner.new.self } in
+    tables_done hosts asked c.args.self.now new [] (with_new_owner c.args.inside) c.in_ok-id.ensures.does refl c.in_ok-id.ensures.holds sound
+
+pub returns-clause-agrees : goal.returns-clause-agrees
+returns-clause-agrees c = λ asked a.
+    let new : World = record { signals = c.args.self.now.signals; tables = c.make_owner.new.self } in
+    record { signals = a.signals; owned = owned_same c.args.self.now new refl c.in_ok-id.ensures.holds c.in_ok-id.ensures.signals a.owned }

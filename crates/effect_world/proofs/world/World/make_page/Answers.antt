@@ -1,0 +1,14 @@
+use Rattle.std.proofs.Common.{refl}
+use Rattle.effect_world.specs.declared.world.World.{World}
+use Rattle.effect_world.proofs.Carrying.{owned_same, page_done}
+use Rattle.effect_world.proofs.world.World.make_page.Goals as goal
+
+pub returns-clause-does : goal.returns-clause-does
+returns-clause-does c = λ hosts asked sound.
+    let new : World = record { signals = c.args.self.now.signals; tables = c.make_page.new.self } in
+    page_done hosts asked c.args.self.now new c.args.inside c.in_ok-id.ensures.does refl c.in_ok-id.ensures.holds sound
+
+pub returns-clause-agrees : goal.returns-clause-agrees
+returns-clause-agrees c = λ asked a.
+    let new : World = record { signals = c.args.self.now.signals; tables = c.make_page.new.self } in
+    record { signals = a.signals; owned = owned_same c.args.self.now new refl c.in_ok-id.ensures.holds c.in_ok-id.ensures.signals a.owned }

@@ -1,0 +1,15 @@
+use Rattle.std.proofs.Common.{ap, ◌∙◌}
+use Rattle.effect_model.specs.Owning.{the_signal}
+use Rattle.effect_tables.specs.Placed.{untouched}
+use Rattle.sig_effect.specs.Wholes as wholes
+use Rattle.sig_owner.specs.Trees.{has_thing}
+use Rattle.effect_world.proofs.world.World.new.Goals as goal
+
+pub returns-clause-whole : goal.returns-clause-whole
+returns-clause-whole c = λ asked all. c.in_ok-tables.ensures.placed (wholes.whole_of asked c.in_ok-signals.signals) ∙ ap untouched (c.in_ok-signals.ensures.whole asked all)
+
+pub returns-clause-agrees : goal.returns-clause-agrees
+returns-clause-agrees c = λ asked. record {
+  signals = c.in_ok-signals.ensures.agrees asked;
+  owned = record { tables = c.in_ok-tables.ensures.holds; fresh = λ n l. ap (has_thing (the_signal n)) c.in_ok-tables.ensures.bare };
+}

@@ -1,0 +1,114 @@
+// Signals are changed.
+ghost use Rattle.std.specs.Prelude.{◌≡◌, ◌∷◌, ◌<◌, ◌≤◌, ◌^◌, ◌⊎◌, ℕ, true, false, List, None, IfErr, IfOk, IsErrOf, OnOk, length, map, if◌then◌else◌};
+ghost use Rattle.std.specs.List.{All};
+ghost use Rattle.signal_model.specs.Recipes.{Hosts};
+ghost use Rattle.signal_model.specs.Standing.{is_computed, is_there, standing};
+ghost use Rattle.signal_model.specs.Changes.{with_recipe, with_value};
+ghost use Rattle.effect_model.specs.Acts.{host_of, host_refused, rewire_signal, set_cell};
+ghost use Rattle.sig_host.specs.Hosts.{most_asked, HostPlace};
+ghost use Rattle.sig_nodes.specs.Answers.{expression_of, HasFewSlots};
+ghost use Rattle.sig_nodes.specs.Computations.{recipe_made};
+ghost use Rattle.sig_nodes.specs.States.{are_there, is_cell, is_given, CanWear};
+ghost use Rattle.sig_state.specs.Equality.{is_alike_here, IsRuled};
+ghost use Rattle.sig_effect.specs.declared.errors.EffectFault.TheVariants as fault;
+ghost use Rattle.sig_effect.specs.Agreeing.{environment, AreRuled, Stays};
+ghost use Rattle.sig_effect.specs.Answers.{is_same};
+ghost use Rattle.effect_world.specs.Agreeing.{Agrees, AreOwned, Does, IsSound};
+ghost use Rattle.effect_world.specs.Wholes.{whole_of};
+
+use crate::events::Event;
+use crate::telling::tell_signals;
+use crate::world::World;
+use sig_base::{NodeId, Value};
+use sig_effect::EffectFault;
+use sig_host::{EqualsRule, Lent, Shelf};
+use sig_nodes::Recipe;
+use sig_state::SetDone;
+
+impl World {
+    /// Gives a cell a value, unless its equality calls it the same as the one that it has. A set that is accepted notifies watchers,
+    /// in the order of making; those whose notification tried a command are told behind them, all at once.
+    ///
+    /// # Errors
+    ///
+    /// `Gone` where the cell is gone; then all is as before. After `NoMemory` the world may only be dropped.
+    pub fn change_cell(
+        &mut self,
+        rules: &[EqualsRule],
+        id: NodeId,
+        value: Value,
+        events: &mut Vec<Event>,
+    ) -> Result<SetDone, EffectFault>
+        requires owned { AreOwned self.old }
+        requires kind { is_computed (standing self.old.signals.graph.state.signals id) ≡ false }
+        requires ruled { IsRuled (length rules.now) (standing self.old.signals.graph.state.signals id) }
+        requires worn { self.old.signals.graph.state.worn < 2 ^ 127 }
+        ensures done { IfOk result (λ d. is_same d ≡ is_alike_here (map (λ r. r.slack) rules.now) (standing self.old.signals.graph.state.signals id) value) }
+        ensures does { (hosts : Hosts) (asked : List HostPlace) → IsSound hosts asked self.old →
+            OnOk result (Does hosts asked asked self.old self.new events.old.items events.new.items
+            (set_cell (environment hosts (map (λ r. r.slack) rules.now)) id value)) }
+        ensures agrees { (asked : List HostPlace) → Agrees asked self.old → OnOk result (Agrees asked self.new) }
+        ensures rules { (count : ℕ) → AreRuled count self.old.signals.graph.state.signals → OnOk result (AreRuled count self.new.signals.graph.state.signals) }
+        ensures signals { IfOk result (λ d. self.new.signals.graph.state.signals
+            ≡ (if is_same d then self.old.signals.graph.state.signals else with_value self.old.signals.graph.state.signals id value)) }
+        ensures tables { self.new.tables ≡ self.old.tables }
+        ensures stays { OnOk result (Stays self.old.signals self.new.signals) }
+        ensures there { OnOk result (is_there (standing self.old.signals.graph.state.signals id) ≡ true) }
+        ensures gone { IsErrOf result fault.Gone → is_there (standing self.old.signals.graph.state.signals id) ≡ false }
+        ensures fault { IfErr result (λ e. (e ≡ fault.Gone) ⊎ (e ≡ fault.NoMemory)) }
+        ensures err { IsErrOf result fault.Gone → self.new ≡ self.old }
+        ensures untold { IsErrOf result fault.Gone → events.new ≡ events.old }
+    {
+        let mut told = Vec::new(*events.allocator());
+        let done = self.signals.change_cell(rules, id, value, &mut told)?;
+        tell_signals(events, told)?;
+        Ok(done)
+    }
+
+    /// Gives a computed another recipe. A host formula that it asks has to be free; the one that it asked before is dropped, and told
+    /// with the number of its asks.
+    ///
+    /// # Errors
+    ///
+    /// `Gone` where the computed, or a signal that a slot would stand for, is gone; then all is as before. After `NoMemory` world and
+    /// shelf may only be dropped.
+    pub fn rewire(
+        &mut self,
+        shelf: &mut Shelf,
+        id: NodeId,
+        recipe: Recipe,
+        slots: Vec<NodeId>,
+        events: &mut Vec<Event>,
+    ) -> Result<(), EffectFault>
+        requires kind { is_cell (standing self.old.signals.graph.state.signals id) ≡ false }
+        requires given { All (λ n. is_given self.old.signals.graph n ≡ true) slots.items }
+        requires few { HasFewSlots (expression_of recipe) slots.items }
+        requires free { host_refused (host_of (expression_of recipe)) (whole_of (⟦<Shelf as Lent>⟧.asked shelf.old) self.old) ≡ None }
+        requires worn { CanWear self.old.signals.graph.state }
+        requires agrees { Agrees (⟦<Shelf as Lent>⟧.asked shelf.old) self.old }
+        requires counted { ⟦<Shelf as Lent>⟧.counted shelf.old }
+        ensures does { (hosts : Hosts) → IsSound hosts (⟦<Shelf as Lent>⟧.asked shelf.old) self.old → OnOk result
+            (Does hosts (⟦<Shelf as Lent>⟧.asked shelf.old) (⟦<Shelf as Lent>⟧.asked shelf.new) self.old self.new events.old.items events.new.items
+            (rewire_signal id (recipe_made (expression_of recipe) slots.items))) }
+        ensures agrees { OnOk result (Agrees (⟦<Shelf as Lent>⟧.asked shelf.new) self.new) }
+        ensures answers { (hosts : Hosts) → ⟦<Shelf as Lent>⟧.answers hosts shelf.old → OnOk result (⟦<Shelf as Lent>⟧.answers hosts shelf.new) }
+        ensures counted { OnOk result (⟦<Shelf as Lent>⟧.counted shelf.new) }
+        ensures most { OnOk result (most_asked (⟦<Shelf as Lent>⟧.asked shelf.new) ≤ most_asked (⟦<Shelf as Lent>⟧.asked shelf.old)) }
+        ensures rules { (count : ℕ) → AreRuled count self.old.signals.graph.state.signals → OnOk result (AreRuled count self.new.signals.graph.state.signals) }
+        ensures signals { OnOk result (self.new.signals.graph.state.signals
+            ≡ with_recipe self.old.signals.graph.state.signals id (recipe_made (expression_of recipe) slots.items)) }
+        ensures watchers { OnOk result (self.new.signals.watchers ≡ self.old.signals.watchers) }
+        ensures tables { self.new.tables ≡ self.old.tables }
+        ensures stays { OnOk result (Stays self.old.signals self.new.signals) }
+        ensures there { OnOk result (are_there self.old.signals.graph.state.signals (id ∷ slots.items) ≡ true) }
+        ensures gone { IsErrOf result fault.Gone → are_there self.old.signals.graph.state.signals (id ∷ slots.items) ≡ false }
+        ensures fault { IfErr result (λ e. (e ≡ fault.Gone) ⊎ (e ≡ fault.NoMemory)) }
+        ensures err { IsErrOf result fault.Gone → (self.new ≡ self.old) }
+        ensures untold { IsErrOf result fault.Gone → (shelf.new ≡ shelf.old) × (events.new ≡ events.old) }
+    {
+        let mut told = Vec::new(*events.allocator());
+        self.signals.rewire(shelf, id, recipe, slots, &mut told)?;
+        tell_signals(events, told)?;
+        Ok(())
+    }
+}

@@ -1,0 +1,34 @@
+// What is told on the way.
+
+use effect_tables::Thing;
+use sig_base::{EffectId, Fault, NodeId, Value};
+use sig_effect::Event as SignalEvent;
+
+/// What is told on the way.
+#[derive(Debug, Drop)]
+pub enum Event {
+    /// What signals and watchers tell: a run, a notification, the drop of a host formula, the end of a signal or of a watcher.
+    Signals(SignalEvent),
+    /// A value is logged.
+    Log(Value),
+    /// An effect's body was evaluated, with its tracked reads.
+    Body(EffectId, Vec<NodeId>),
+    /// An effect's body failed.
+    Fail(EffectId, Fault),
+    /// A cleanup of an effect is about to be done.
+    Cleanup(EffectId),
+    /// An owner, an effect or a page is gone.
+    Gone(Thing),
+    /// An act is refused: a thing that it names is gone.
+    RefusedGone(Thing),
+    /// An act is refused: the host formula of a place is used or was dropped.
+    RefusedHost(usize),
+    /// A child effect was made, by its parent and with this number in its label.
+    Made {
+        child: EffectId,
+        parent: EffectId,
+        label: u32,
+    },
+    /// A cleanup of an effect is noted.
+    Noted(EffectId),
+}

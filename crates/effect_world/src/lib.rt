@@ -1,0 +1,13 @@
+//! The world of signals, watchers, owners, effects and pages: what is made, changed and disposed, and what is told of it.
+#![tactic(auto)]
+
+mod changes;
+mod events;
+mod makings;
+mod settling;
+mod telling;
+mod watching;
+mod world;
+
+pub use events::Event;
+pub use world::World;

@@ -1,0 +1,39 @@
+// The world.
+ghost use Rattle.std.specs.Prelude.{◌≡◌, ℕ, List, IfOk, length};
+ghost use Rattle.signal_model.specs.Recipes.{Hosts};
+ghost use Rattle.effect_model.specs.Commands.{new_world};
+ghost use Rattle.sig_host.specs.Hosts.{HostPlace};
+ghost use Rattle.sig_effect.specs.Agreeing.{AreNew, AreRuled};
+ghost use Rattle.effect_world.specs.Agreeing.{Agrees, IsSound};
+ghost use Rattle.effect_world.specs.Wholes.{whole_of};
+
+use effect_tables::Tables;
+use sig_base::NoMemory;
+use sig_effect::World as Signals;
+use std::alloc::Global;
+
+/// Signals and who watches them, and owners, effects and pages. Host formulas and equality rules stay with the caller, who hands in those
+/// that a call needs.
+#[derive(Debug, Drop)]
+pub struct World {
+    pub signals: Signals,
+    pub tables: Tables,
+}
+
+impl World {
+    /// Nothing was made.
+    ///
+    /// # Errors
+    ///
+    /// `NoMemory` where memory ran out.
+    pub fn new(alloc: Global) -> Result<World, NoMemory>
+        ensures whole { (asked : List HostPlace) → AreNew asked → IfOk result (λ w. whole_of asked w ≡ new_world (length asked)) }
+        ensures sound { (hosts : Hosts) (asked : List HostPlace) → AreNew asked → IfOk result (λ w. IsSound hosts asked w) }
+        ensures agrees { (asked : List HostPlace) → IfOk result (λ w. Agrees asked w) }
+        ensures ruled { (rules : ℕ) → IfOk result (λ w. AreRuled rules w.signals.graph.state.signals) }
+    {
+        let signals = Signals::new(alloc)?;
+        let tables = Tables::new(alloc)?;
+        Ok(World { signals, tables })
+    }
+}
