@@ -50,6 +50,7 @@ module _ (rows later : List Row) (outer : Option ℕ) (t : Thing) (a : Adopts ro
     known = subst (AllByRecursion (IsKnown owners)) (sym a.names) h.known;
     apart = h.apart;
     below = subst (λ (n : ℕ). AllByRecursion (λ (m : ℕ). m < n) owners) (sym a.count) h.below;
+    own = λ m on. a.things m ∙ h.own m on;
     stand = λ m off. ap (has_thing (the_owner m)) a.tree ∙ has_in (the_owner m) t rows outer (owned_of rows) (kind m) (h.stand m off);
   }
 

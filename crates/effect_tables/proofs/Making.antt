@@ -1,12 +1,12 @@
 -- What makings leave.
-use Rattle.std.proofs.Common.{◌≡◌, ℕ, zero, suc, ◌+◌, ◌<◌, ◌≤◌, ◌==◌, ◌||◌, ◌++◌, Bool, true, false, List, [], ◌∷◌, map, length, Option, Some, None, refl, sym, ap, subst, ◌∙◌, arith}
+use Rattle.std.proofs.Common.{◌≡◌, ℕ, zero, suc, ◌+◌, ◌<◌, ◌≤◌, ◌==◌, ◌||◌, ◌++◌, Bool, true, false, List, [], ◌∷◌, map, length, Option, Some, None, refl, sym, ap, subst, ◌∙◌, arith, inl, inr}
 use Rattle.std.specs.Prelude.{slice_get}
 use Rattle.std.specs.List.{AllByRecursion}
-use Rattle.std.proofs.lemmas.Bool.{eq-eqb}
+use Rattle.std.proofs.lemmas.Bool.{eq-eqb, eqb-true}
 use Rattle.std.proofs.lemmas.Bool.Decides.{nat_tests}
 use Rattle.std.proofs.lemmas.List.{map-append}
 use Rattle.signal_model.specs.Standing.{is_in}
-use Rattle.signal_model.proofs.Shared.{or_left, or_right}
+use Rattle.signal_model.proofs.Shared.{either, or_left, or_right, tested}
 use Rattle.effect_model.specs.Owning.{Thing, the_owner, the_effect, the_page, Owned, nothing, thing, alone, made_inside, put_under, same_thing}
 use Rattle.sig_owner.specs.Tables.{Row, is_open, live_at, thing_at, with_holder}
 use Rattle.sig_owner.specs.Renaming.{renamed, renamed_thing}
@@ -18,7 +18,7 @@ use Rattle.effect_tables.specs.Holding.{AreAlive, AreFresh, AreNumbered, IsEffec
 use Rattle.effect_tables.specs.Adopting.{MakesEffect, MakesOwner}
 use Rattle.effect_tables.specs.Looking.{IsInside}
 use Rattle.effect_tables.specs.Numbering.{living, number_in, rows_in}
-use Rattle.effect_tables.proofs.Numbers.{apart_more, left_off, living_more, not_below, number_apart, number_at, number_more, number_new, right_off}
+use Rattle.effect_tables.proofs.Numbers.{apart_more, in_below, left_off, living_more, not_below, number_apart, number_at, number_more, number_new, right_off}
 use Rattle.effect_tables.proofs.Rows.{all_behind, all_weaker, length_holder, live_below, names_by, names_holder, renamed_by, unless_known}
 
 -- ---- where a thing is made
@@ -101,6 +101,13 @@ not_more (k ∷ ks) x m h =
     let two = not_more ks x m (right_off (m == k) (is_in m (ks ++ x ∷ [])) h) in
     (two.0, λ i. left_off (m == k) (is_in m (ks ++ x ∷ [])) h i || two.1 i)
 
+in_behind : (ms : List ℕ) (x m : ℕ) → is_in m (ms ++ x ∷ []) ≡ true → (m == x) ≡ false → is_in m ms ≡ true
+in_behind [] x m h e = sym (ap (λ b. b || false) e) ∙ h
+in_behind (k ∷ ks) x m h e = elim (either (m == k) (is_in m (ks ++ x ∷ [])) h) [
+  | inl q ↦ or_left (m == k) (is_in m ks) q
+  | inr q ↦ or_right (m == k) (is_in m ks) (in_behind ks x m q e)
+]
+
 known_more : (ms : List ℕ) (x : ℕ) (t : Thing) → IsKnown ms t → IsKnown (ms ++ x ∷ []) t
 known_more ms x (the_owner n) h = in_more ms x n h
 known_more ms x (the_effect n) h = h
@@ -141,6 +148,7 @@ module _ (es : List OwnerEntry) (xs : List Effect) (things : List Thing) (rows l
     below = all_behind (λ (k : ℕ). k < length later) owners n
         (all_weaker (λ (k : ℕ). k < length rows) (λ (k : ℕ). k < length later) owners (λ k l. omega (arith, l, count)) h.below)
         (let e : n ≡ length rows = m.gives in omega (arith, e, count));
+    own = λ k on. ap (λ rs. thing_at rs k) m.after ∙ its_thing k on;
     stand = λ k off.
         let two = not_more owners n k off in
         ap (has_thing (the_owner k)) m.tree ∙ has_made (the_owner k) (the_owner n) rows outer (owned_of rows) two.0 (h.stand k two.1);
@@ -151,6 +159,14 @@ module _ (es : List OwnerEntry) (xs : List Effect) (things : List Thing) (rows l
 
       count : length later ≡ suc (length rows)
       count = ap length m.after ∙ length_holder rows outer (the_owner n)
+
+      its_thing : (k : ℕ) → is_in k (owners ++ n ∷ []) ≡ true → thing_at (with_holder rows outer (the_owner n)) k ≡ the_owner k
+      its_thing k on = elim (tested (k == n)) [
+        | inl e ↦ (let same : k ≡ n = eqb-true k n e in
+            ap (thing_at (with_holder rows outer (the_owner n))) (same ∙ m.gives) ∙ new_thing rows outer (the_owner n) ∙ ap the_owner (sym same))
+        | inr e ↦ (let old : is_in k owners ≡ true = in_behind owners n k on e in
+            other_thing rows outer (the_owner n) k (more_than (length rows) k (in_below owners (length rows) k old h.below)) ∙ h.own k old)
+      ]
 
   pub owner_numbered : AreNumbered (rows_in (es ++ entry ∷ [])) (things ++ the_owner (length es) ∷ []) later
   owner_numbered = subst (λ ms. AreNumbered ms (things ++ the_owner (length es) ∷ []) later) (sym rows_more) numbered_now
@@ -200,6 +216,9 @@ module _ (es : List OwnerEntry) (xs : List Effect) (things : List Thing) (rows l
     known = subst (AllByRecursion (IsKnown (rows_in es))) (sym names_now) (all_behind (IsKnown (rows_in es)) (names_of rows) (the_effect x.id) h.known tt);
     apart = h.apart;
     below = all_weaker (λ (k : ℕ). k < length rows) (λ (k : ℕ). k < length later) (rows_in es) (λ k l. omega (arith, l, count)) h.below;
+    own = λ k on.
+        ap (λ rs. thing_at rs k) m.after ∙ other_thing rows outer (the_effect x.id) k (more_than (length rows) k (in_below (rows_in es) (length rows) k on h.below))
+        ∙ h.own k on;
     stand = λ k off. ap (has_thing (the_owner k)) m.tree ∙ has_made (the_owner k) (the_effect x.id) rows outer (owned_of rows) refl (h.stand k off);
   }
     where

@@ -53,6 +53,14 @@ not_below (m ∷ ms) n k l all = elim (tested (k == m)) [
   | inr e ↦ ap (λ b. b || is_in k ms) e ∙ not_below ms n k l all.1
 ]
 
+-- what is in such a list is below
+pub in_below : (ms : List ℕ) (n k : ℕ) → is_in k ms ≡ true → AllByRecursion (λ (m : ℕ). m < n) ms → k < n
+in_below [] n k h all = cc
+in_below (m ∷ ms) n k h all = elim (either (k == m) (is_in k ms) h) [
+  | inl e ↦ let same : k ≡ m = eqb-true k m e in let b : m < n = all.0 in omega (arith, same, b)
+  | inr e ↦ in_below ms n k e all.1
+]
+
 -- both parts of a test that fails
 pub left_off : (a b : Bool) → (a || b) ≡ false → a ≡ false
 left_off true b e = cc
@@ -66,7 +74,7 @@ off_on : (b : Bool) → b ≡ false → b ≡ true → ⊥
 off_on true p q = cc
 off_on false p q = cc
 
-swapped : (j k : ℕ) → (k == j) ≡ false → (j == k) ≡ false
+pub swapped : (j k : ℕ) → (k == j) ≡ false → (j == k) ≡ false
 swapped j k e = elim (tested (j == k)) [
   | inl q ↦ absurd (off_on (k == j) e (eq-eqb k j (sym (eqb-true j k q))))
   | inr q ↦ q
@@ -83,7 +91,8 @@ apart_more (m ∷ ms) x h a = (other_more ms m x a.0 (left_off (x == m) (is_in x
 
 -- ---- owners that live
 
-living_below : (es : List OwnerEntry) (n k : ℕ) → k < n → is_in k (living n es) ≡ false
+-- before the first number none lives
+pub living_below : (es : List OwnerEntry) (n k : ℕ) → k < n → is_in k (living n es) ≡ false
 living_below [] n k l = refl
 living_below (e ∷ es) n k l = go e.live (living_below es (suc n) k (omega (arith, l)))
   where

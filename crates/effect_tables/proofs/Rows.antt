@@ -32,7 +32,7 @@ names_holder rows o t =
     map-append (λ (r : Row). r.holder) (put_inside o (held (length rows)) rows) (above_row t o ∷ [])
     ∙ ap (λ (ts : List Thing). ts ++ t ∷ []) (names_put o (held (length rows)) rows)
 
-length_names : (rows : List Row) → length (names_of rows) ≡ length rows
+pub length_names : (rows : List Row) → length (names_of rows) ≡ length rows
 length_names [] = refl
 length_names (r ∷ rs) = ap suc (length_names rs)
 

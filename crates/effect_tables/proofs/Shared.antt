@@ -2,3 +2,7 @@
 
 -- what the tables stand for is at rest
 pub use Rattle.effect_tables.proofs.Resting.{listed_tree, placed_rests}
+-- owners by their own numbers
+pub use Rattle.effect_tables.proofs.Numbers.{in_below, left_off, lives_at, living_below, number_apart, number_at, right_off, swapped}
+-- facts of all
+pub use Rattle.effect_tables.proofs.Rows.{all_weaker, length_names}

@@ -38,7 +38,7 @@ bare_holds t b =
     let tree : owned_of [] ≡ nothing = ap owned_of (sym b.store) ∙ b.tree in
     record {
       numbered = subst (λ x. x) (λ i. AreNumbered (rows_in (sym b.owners i)) (map thing_of (sym b.things i)) (sym b.store i))
-          (record { named = refl; known = tt; apart = tt; below = tt; stand = λ m off. ap (has_thing (the_owner m)) tree });
+          (record { named = refl; known = tt; apart = tt; below = tt; own = λ m q. cc; stand = λ m off. ap (has_thing (the_owner m)) tree });
       alive = subst (λ x. x) (λ i. AreAlive (sym b.owners i) (sym b.effects i) (sym b.store i)) (record { owners = tt; effects = tt });
       fresh = record { effects = λ n l. ap (has_thing (the_effect n)) b.tree; pages = λ n l. ap (has_thing (the_page n)) b.tree };
       named = b.named ∙ sym (ap named_count b.effects);

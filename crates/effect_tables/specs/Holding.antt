@@ -39,12 +39,13 @@ pub record IsEffect (rows : List Row) (x : Effect) : Type 0 where
   pub thing : thing_at rows x.row ≡ the_effect x.id
 
 -- Each row of the store is an effect or an owner, the things are those of the rows by the owners' own numbers, each owner has another row,
--- and an owner that stands somewhere is among them.
+-- which is its own, and an owner that stands somewhere is among them.
 pub record AreNumbered (owners : List ℕ) (things : List Thing) (rows : List Row) : Type 0 where
   pub named : things ≡ map (renamed_thing (number_in owners)) (names_of rows)
   pub known : AllByRecursion (IsKnown owners) (names_of rows)
   pub apart : AreApart owners
   pub below : AllByRecursion (λ (m : ℕ). m < length rows) owners
+  pub own : (m : ℕ) → is_in m owners ≡ true → thing_at rows m ≡ the_owner m
   pub stand : (m : ℕ) → is_in m owners ≡ false → has_thing (the_owner m) (owned_of rows) ≡ false
 
 -- what lives by the tables lives in the store

@@ -11,5 +11,6 @@ mod thing;
 
 pub use effect::{Effect, Script};
 pub use links::{Links, Slots, Target};
+pub use looks::live_row;
 pub use tables::{MOST_EFFECTS, OwnerEntry, Tables};
 pub use thing::{Thing, Undoing};

@@ -20,8 +20,8 @@ fn entry_at(owners: &[OwnerEntry], id: OwnerId) -> Option<OwnerEntry>
     }
 }
 
-// The row of an owner that lives.
-fn live_row(owners: &[OwnerEntry], id: OwnerId) -> Option<OwnerId>
+/// The row of an owner that lives.
+pub fn live_row(owners: &[OwnerEntry], id: OwnerId) -> Option<OwnerId>
     ensures some { IfSome result (λ row. is_live (slice_get owners.now id) ≡ true) }
     ensures none { IfNone result (is_live (slice_get owners.now id) ≡ false) }
     ensures row { IfSome result (λ row. slice_get owners.now id ≡ Some (record { row = row; live = true })) }

@@ -1,0 +1,6 @@
+mod Forms
+mod Steps
+mod Lists
+mod Taken
+mod Found
+pub mod Shared

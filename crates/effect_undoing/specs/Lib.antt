@@ -1,0 +1,5 @@
+pub mod Forming
+pub mod Ending
+pub mod Retelling
+pub mod Finding
+pub mod Taking
