@@ -1,0 +1,173 @@
+-- What is judged of lines that were read is judged of what they say.
+use Rattle.std.proofs.Common.{◌≡◌, ◌≤◌, ℕ, Bool, true, false, cond, List, [], ◌∷◌, length, map, Option, Some, None, refl, sym, ap, ap₂, subst, ◌∙◌, arith}
+use Rattle.std.specs.Prelude.{option_map, Result, Ok, ◌&&◌, nat_lt}
+use Rattle.std.specs.Option.{option_or}
+use Rattle.std.proofs.lemmas.Bool.Decides.{nat_tests}
+use Rattle.std.proofs.lemmas.List.{length-map}
+use Rattle.formula_text.specs.declared.wired.FormulaFault.{FormulaFault}
+use Rattle.formula_text.specs.declared.wired.FormulaFault.TheVariants as fault
+use Rattle.formula_text.specs.Grammar.{Draft}
+use Rattle.formula_text.specs.Judging.{has_untrack}
+use Rattle.formula_text.specs.Wiring.{refusal}
+use Rattle.line_forms.specs.Forms.{Args}
+use Rattle.line_forms.specs.Told.{fault_along, fault_of_arguments, unless_faulty}
+use Rattle.script_lines.specs.Lines.{NumberedLine}
+use Rattle.body_text.specs.declared.fault.BodyWhy.{BodyWhy}
+use Rattle.body_text.specs.declared.fault.BodyWhy.TheVariants as why
+use Rattle.body_text.specs.declared.judge.ReadLine.{ReadLine}
+use Rattle.body_text.specs.declared.line.Line.{Line}
+use Rattle.body_text.specs.Grammar.{Row, row, Said, line_of, set, log, guard, cleanup_set, cleanup_log, effect, dispose, rewire, host, close}
+use Rattle.body_text.specs.Judging.{Judged, allowed, excess, fault_at, fault_of, first_excess, first_misplaced, high, is_nested, judged, judged_at, many_lines, misplacing, missing, refusal_of}
+use Rattle.body_text.specs.Places.{kind_of, moved}
+use Rattle.body_text.specs.Readings.{Sayings, Say, reached, said_lines}
+use Rattle.body_text.specs.Views.{AreRead, fault_told, judged_read, readings, read_of, sound_lines, told, with_line}
+use Rattle.body_text.proofs.Sounding.{sound_length}
+
+-- ---- lines that were read say something
+
+-- what lines say that were read so
+pub record SaysRead (depth : ℕ) (ls : List NumberedLine) (rs : List ReadLine) (to : ℕ) : Type 0 where
+  pub xs : Sayings
+  pub say : Say depth ls xs
+  pub is : rs ≡ readings depth xs
+  pub end : reached depth xs ≡ to
+
+pub says_read : (depth : ℕ) (ls : List NumberedLine) (rs : List ReadLine) (to : ℕ) → AreRead depth ls rs to → SaysRead depth ls rs to
+says_read depth [] [] to a = record { xs = []; say = tt; is = refl; end = a }
+says_read depth [] (r ∷ rs) to a = absurd a
+says_read depth (l ∷ ls) [] to a = absurd a
+says_read depth (l ∷ ls) (r ∷ rs) to a =
+    let rest = says_read (moved depth (kind_of (line_of a.0))) ls rs to a.4 in
+    let x : ℕ × Said = (l.0, a.0) in
+    record { xs = x ∷ rest.xs; say = (refl, a.1, a.2, rest.say); is = let e = a.3 in let f = rest.is in cc; end = rest.end }
+
+-- ---- one line
+
+told_fault : (o : Option FormulaFault) (l : Line) → fault_told (unless_faulty o l) ≡ o
+told_fault None l = refl
+told_fault (Some f) l = refl
+
+-- what is judged of a line that was read
+judged_same : (depth : ℕ) (x : ℕ × Said) → judged_read (read_of depth x) ≡ judged_at depth x.0 (kind_of (line_of x.1)) (fault_of x.1)
+judged_same depth x = ap (judged_at depth x.0 (kind_of (line_of x.1))) (told_fault (fault_of x.1) (line_of x.1))
+
+-- what is judged of lines that were read
+pub all_judged : (depth : ℕ) (xs : Sayings) → map judged_read (readings depth xs) ≡ judged depth xs
+all_judged depth [] = refl
+all_judged depth (x ∷ xs) =
+    ap₂ (λ (j : Judged) (js : List Judged). j ∷ js) (judged_same depth x) (all_judged (moved depth (kind_of (line_of x.1))) xs)
+
+-- ---- nothing is wrong with lines that aren't refused
+
+-- what a line can be refused for
+data IsCause : Option FormulaFault → Type 0 where
+  nothing : IsCause None
+  row_here : IsCause (Some fault.ItHere)
+  nest : IsCause (Some fault.Nest)
+  long : IsCause (Some fault.TextLong)
+  sources : IsCause (Some fault.Sources)
+
+either : (b : Bool) (x y : Option FormulaFault) → IsCause x → IsCause y → IsCause (cond b x y)
+either true x y p q = p
+either false x y p q = q
+
+-- an `untrack` is none
+no_untrack : (b : Bool) (x y : Option FormulaFault) → IsCause y → IsCause (cond (b && false) x y)
+no_untrack true x y q = q
+no_untrack false x y q = q
+
+formula_cause : (x : Draft) → IsCause (refusal allowed x)
+formula_cause x = no_untrack (has_untrack x) _ _ (either _ _ _ row_here (either _ _ _ nest (either _ _ _ long (either _ _ _ sources nothing))))
+
+arguments_cause : (ns : List (List ℕ)) → IsCause (fault_of_arguments ns)
+arguments_cause ns = either _ _ _ sources nothing
+
+or_none : {A : Type 0} (o : Option A) → option_or o None ≡ o
+or_none None = refl
+or_none (Some a) = refl
+
+last_cause : (o : Option FormulaFault) → IsCause o → IsCause (option_or o None)
+last_cause o c = subst (λ (p : Option FormulaFault). IsCause p) (sym (or_none o)) c
+
+line_cause : (r : Row) (a : Args (row r).1) → IsCause (fault_along allowed (row r).1 a)
+line_cause set a = last_cause _ (formula_cause a.1.0)
+line_cause log a = last_cause _ (formula_cause a.0)
+line_cause guard a = last_cause _ (formula_cause a.0)
+line_cause cleanup_set a = last_cause _ (formula_cause a.1.0)
+line_cause cleanup_log a = last_cause _ (formula_cause a.0)
+line_cause effect a = nothing
+line_cause dispose a = nothing
+line_cause rewire a = last_cause _ (formula_cause a.1.0)
+line_cause host a = last_cause _ (arguments_cause a.1.1.0)
+line_cause close a = nothing
+
+pub neither : {A : Type 0} (o p : Option A) → option_or o p ≡ None → (o ≡ None) × (p ≡ None)
+neither None p e = (refl, e)
+neither (Some x) p e = absurd cc
+
+pub not_chosen : {A : Type 0} (b : Bool) (x : A) (o : Option A) → cond b (Some x) o ≡ None → (b ≡ false) × (o ≡ None)
+not_chosen true x o e = absurd cc
+not_chosen false x o e = (refl, e)
+
+no_cause : (o : Option FormulaFault) → IsCause o → missing o ≡ None → high o ≡ None → excess o ≡ None → o ≡ None
+no_cause _ nothing m h e = refl
+no_cause _ row_here m h e = absurd cc
+no_cause _ nest m h e = absurd cc
+no_cause _ long m h e = absurd cc
+no_cause _ sources m h e = absurd cc
+
+no_fault : (depth : ℕ) (x : Said) → misplacing depth (kind_of (line_of x)) (fault_of x) ≡ None → excess (fault_of x) ≡ None → fault_of x ≡ None
+no_fault depth x m e =
+    let w = fault_of x in
+    let a = neither (missing w) _ m in
+    no_cause w (line_cause x.0 x.1) a.0 (not_chosen (is_nested depth (kind_of (line_of x))) why.Nest (high w) a.1).1 e
+
+-- nothing is wrong with these lines
+abbrev pub AllSound : Sayings → Type 0
+AllSound [] = Unit {0}
+AllSound (x ∷ xs) = (fault_of x.1 ≡ None) × AllSound xs
+
+no_why : (k : ℕ) (o : Option BodyWhy) → option_map (fault_at k) o ≡ None → o ≡ None
+no_why k None e = refl
+no_why k (Some w) e = absurd cc
+
+sound_by : (depth : ℕ) (xs : Sayings) → first_misplaced (judged depth xs) ≡ None → first_excess (judged depth xs) ≡ None → AllSound xs
+sound_by depth [] m e = tt
+sound_by depth (x ∷ xs) m e =
+    let j = judged_at depth x.0 (kind_of (line_of x.1)) (fault_of x.1) in
+    let next = moved depth (kind_of (line_of x.1)) in
+    let a = neither (option_map (fault_at x.0) j.misplaced) (first_misplaced (judged next xs)) m in
+    let b = neither (option_map (fault_at x.0) j.excess) (first_excess (judged next xs)) e in
+    (no_fault depth x.1 (no_why x.0 j.misplaced a.0) (no_why x.0 j.excess b.0), sound_by next xs a.1 b.1)
+
+-- nothing is wrong with lines that aren't refused
+pub sound : (depth : ℕ) (xs : Sayings) → refusal_of (judged depth xs) ≡ None → AllSound xs
+sound depth xs e =
+    let a = neither (first_misplaced (judged depth xs)) _ e in
+    let b = neither (first_excess (judged depth xs)) (many_lines (judged depth xs)) a.1 in
+    sound_by depth xs a.0 b.0
+
+-- ---- they are kept whole
+
+-- the lines that nothing is wrong with are all
+pub all_kept : (depth : ℕ) (xs : Sayings) → AllSound xs → sound_lines (readings depth xs) ≡ said_lines xs
+all_kept depth [] s = refl
+all_kept depth (x ∷ xs) s =
+    let told_whole : told x.1 ≡ Ok (line_of x.1) = ap (λ (o : Option FormulaFault). unless_faulty o (line_of x.1)) s.0 in
+    let next = moved depth (kind_of (line_of x.1)) in
+    ap (λ (o : Result Line FormulaFault). with_line o (sound_lines (readings next xs))) told_whole
+    ∙ ap (λ (ls : List Line). line_of x.1 ∷ ls) (all_kept next xs s.1)
+
+not_many : (n : ℕ) → nat_lt 64 n ≡ false → n ≤ 64
+not_many n e = grind (arith, nat_tests)
+
+-- lines that aren't refused are few
+pub few_read : (rs : List ReadLine) → refusal_of (map judged_read rs) ≡ None → length (sound_lines rs) ≤ 64
+few_read rs e =
+    let js = map judged_read rs in
+    let a = neither (first_misplaced js) _ e in
+    let b = neither (first_excess js) (many_lines js) a.1 in
+    let n = not_many (length js) (not_chosen (nat_lt 64 (length js)) _ None b.1).0 in
+    let same = length-map rs judged_read in
+    let fewer = sound_length rs in
+    omega arith

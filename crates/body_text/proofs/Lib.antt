@@ -1,0 +1,14 @@
+mod Appending
+mod Cutting
+mod Deciding
+mod Ends
+mod Fitting
+mod Grammars
+mod Judgements
+mod LineByLine
+mod Owning
+mod Putting
+mod Slotting
+mod Sounding
+mod Spelling
+mod Spellings

@@ -1,0 +1,10 @@
+use Rattle.std.proofs.Common.{arith}
+use Rattle.body_text.proofs.Cutting.{all_lines}
+use Rattle.body_text.proofs.read.lines_of.Goals as goal
+
+pub loop-lines-init : goal.loop-lines-init
+loop-lines-init c = record {
+  within = omega arith;
+  count = omega arith;
+  lines = rw c.new-lines.ensures.items (all_lines 0 c.args.block.now);
+}

@@ -1,0 +1,99 @@
+-- The lines of a body: which bytes write each, and what it says.
+use Rattle.std.specs.Prelude.{ℕ, List, [], ◌∷◌, codes}
+use Rattle.sig_words.specs.Lexemes.{symbol, word}
+use Rattle.line_forms.specs.Blocks as blocks
+use Rattle.line_forms.specs.Forms.{Piece, part, fixed, one, arguments, formula, over_rows, name, count}
+use Rattle.line_forms.specs.Rows as grammar
+use Rattle.line_forms.specs.Told.{Made, made}
+use Rattle.body_text.specs.declared.line.Line.{Line}
+use Rattle.body_text.specs.declared.line.Line.TheVariants as line
+use Rattle.body_text.specs.declared.line.Plain.TheVariants as plain
+use Rattle.body_text.specs.declared.line.Source.TheVariants as source
+
+-- the rows of the grammar
+pub data Row : Type 0 where
+  set : Row
+  log : Row
+  guard : Row
+  cleanup_set : Row
+  cleanup_log : Row
+  effect : Row
+  dispose : Row
+  rewire : Row
+  host : Row
+  close : Row
+
+-- a name
+abbrev NAME : Piece
+NAME = part (one name)
+
+-- a formula, which may speak of rows
+abbrev FORMULA : Piece
+FORMULA = part (formula over_rows)
+
+-- a number without sign
+abbrev PLACE : Piece
+PLACE = part (one count)
+
+-- distinct names in parentheses
+abbrev ARGUMENTS : Piece
+ARGUMENTS = part arguments
+
+-- a word
+abbrev says : List ℕ → Piece
+says w = fixed (word w)
+
+-- the sign before a source
+abbrev EQUALS : Piece
+EQUALS = fixed (symbol (codes "="))
+
+-- the first word of a row, and what follows it
+abbrev pub row : Row → grammar.Line
+row set = (codes "set", NAME ∷ FORMULA ∷ [])
+row log = (codes "log", FORMULA ∷ [])
+row guard = (codes "when", FORMULA ∷ [])
+row cleanup_set = (codes "cleanup", says (codes "set") ∷ NAME ∷ FORMULA ∷ [])
+row cleanup_log = (codes "cleanup", says (codes "log") ∷ FORMULA ∷ [])
+row effect = (codes "effect", [])
+row dispose = (codes "dispose", NAME ∷ [])
+row rewire = (codes "rewire", NAME ∷ EQUALS ∷ FORMULA ∷ [])
+row host = (codes "rewire", NAME ∷ EQUALS ∷ says (codes "host") ∷ PLACE ∷ ARGUMENTS ∷ [])
+row close = (codes "end", [])
+
+-- the rows that begin with each word
+abbrev pub table : grammar.Table Row
+table =
+    (codes "set", set ∷ [])
+    ∷ (codes "log", log ∷ [])
+    ∷ (codes "when", guard ∷ [])
+    ∷ (codes "cleanup", cleanup_set ∷ cleanup_log ∷ [])
+    ∷ (codes "effect", effect ∷ [])
+    ∷ (codes "dispose", dispose ∷ [])
+    ∷ (codes "rewire", host ∷ rewire ∷ [])
+    ∷ (codes "end", close ∷ [])
+    ∷ []
+
+-- what a row gives of what stands in its parts
+abbrev pub line_makes : (r : Row) → Made (row r).1 Line
+line_makes set = λ n x. line.Plain (plain.Set n x)
+line_makes log = λ x. line.Plain (plain.Log x)
+line_makes guard = λ x. line.When x
+line_makes cleanup_set = λ n x. line.Plain (plain.CleanupSet n x)
+line_makes cleanup_log = λ x. line.Plain (plain.CleanupLog x)
+line_makes effect = line.Effect
+line_makes dispose = λ n. line.Plain (plain.Dispose n)
+line_makes rewire = λ n x. line.Plain (plain.Rewire n (source.Formula x))
+line_makes host = λ n k ns. line.Plain (plain.Rewire n (source.Host k ns))
+line_makes close = line.End
+
+-- what a line says by itself; its texts may be of any length, and its formulas of any height
+abbrev pub Said : Type 0
+Said = grammar.Said Row row
+
+-- the line, its formula with names
+abbrev pub line_of : Said → Line
+line_of x = made (row x.0).1 (line_makes x.0) x.1
+
+-- bytes write a line: their tokens spell it
+abbrev pub Writes : Said → List ℕ → Type 0
+Writes said bytes = blocks.Writes Row row said bytes

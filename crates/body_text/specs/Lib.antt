@@ -1,0 +1,9 @@
+pub mod Building
+pub mod Formulas
+pub mod Grammar
+pub mod Judging
+pub mod Naming
+pub mod Places
+pub mod Readings
+pub mod Statements
+pub mod Views

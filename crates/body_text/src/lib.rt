@@ -1,0 +1,20 @@
+//! Bodies of effects as text, in both directions.
+#![tactic(auto)]
+
+mod building;
+mod fault;
+mod judge;
+mod laws;
+mod line;
+mod lists;
+mod named;
+mod read;
+mod reading;
+mod stmt;
+
+pub use fault::{BodyFault, BodyWhy};
+pub use judge::{MOST_BODY_LINES, MOST_LEVELS};
+pub use laws::{one_body, one_line};
+pub use line::{Line, Plain, Source};
+pub use named::NamedFormula;
+pub use read::{read_body, read_numbered};

@@ -1,0 +1,95 @@
+// What a line of a body says.
+ghost use Rattle.std.specs.Prelude.{◌≡◌, Ok, Err};
+ghost use Rattle.body_text.specs.declared.line.Line.TheVariants as given;
+
+use crate::NamedFormula;
+use formula_text::FormulaFault;
+use line_forms::NameList;
+use sig_base::Name;
+
+/// What a computed is computed by.
+#[derive(Debug, Drop)]
+pub enum Source {
+    /// A formula.
+    Formula(NamedFormula),
+    /// The host formula at a place, with its arguments.
+    Host(u64, NameList),
+}
+
+/// A statement of one line.
+#[derive(Debug, Drop)]
+pub enum Plain {
+    /// `set N F` sets a cell.
+    Set(Name, NamedFormula),
+    /// `log F` logs a value.
+    Log(NamedFormula),
+    /// `cleanup set N F` sets a cell when the effect is taken back.
+    CleanupSet(Name, NamedFormula),
+    /// `cleanup log F` logs a value when the effect is taken back.
+    CleanupLog(NamedFormula),
+    /// `dispose N` disposes a thing.
+    Dispose(Name),
+    /// `rewire N = SOURCE` gives a computed another source.
+    Rewire(Name, Source),
+}
+
+/// A line of a body.
+#[derive(Debug, Drop)]
+pub enum Line {
+    /// A statement of one line.
+    Plain(Plain),
+    /// `when F` begins what is done only where F is true.
+    When(NamedFormula),
+    /// `effect` begins a nested effect.
+    Effect,
+    /// `end` ends the innermost of what is begun.
+    End,
+}
+
+/// What a line is for the place where it stands.
+#[derive(Clone, Copy, Debug, PartialEq, Eq)]
+pub enum LineKind {
+    /// A statement of one line.
+    Plain,
+    /// What an `end` ends.
+    Opens,
+    /// An `end`.
+    End,
+}
+
+/// A line, or what is wrong with it.
+pub type ToldLine = Result<Line, FormulaFault>;
+
+/// What a line says: what it is for its place, and the line, or what is wrong with it.
+#[derive(Debug, Drop)]
+pub struct Found {
+    pub kind: LineKind,
+    pub line: ToldLine,
+}
+
+/// A line that nothing is wrong with.
+pub fn sound(kind: LineKind, line: Line) -> Found
+    ensures { result ≡ record { kind = kind; line = Ok line } }
+{
+    Found {
+        kind,
+        line: Ok(line),
+    }
+}
+
+/// A statement of one line that nothing is wrong with.
+pub fn statement(plain: Plain) -> Found
+    ensures { result ≡ record { kind = LineKind.Plain; line = Ok (given.Plain plain) } }
+{
+    sound(LineKind::Plain, Line::Plain(plain))
+}
+
+/// A line that something is wrong with.
+pub fn faulty(kind: LineKind, fault: FormulaFault) -> Found
+    ensures { result ≡ record { kind = kind; line = Err fault } }
+{
+    Found {
+        kind,
+        line: Err(fault),
+    }
+}

@@ -1,0 +1,181 @@
+// Formulas with their names.
+ghost use Rattle.std.specs.Prelude.{◌≡◌, ◌+◌, ◌<◌, ◌≤◌, ◌^◌, length, map, position, unwrap_or, IfOk, IfSome, OnOk};
+ghost use Rattle.std.specs.List.{list_any};
+ghost use Rattle.std.specs.Str.{bytes_eq};
+ghost use Rattle.sig_formula.specs.Trees.{tree};
+ghost use Rattle.formula_text.specs.Judging.{slot_of, slotted, with_name, with_names};
+ghost use Rattle.formula_text.specs.Wiring.{wired};
+ghost use Rattle.body_text.specs.Formulas.{unwired, IsOwn};
+ghost use Rattle.body_text.specs.Naming.{reslotted, slot_in, with_each};
+
+use formula_text::Wired;
+use sig_base::{MOST_SOURCES, Name, NoMemory};
+use sig_formula::Formula;
+use std::alloc::Global;
+use std::marker::Model;
+
+/// A formula that nothing is wrong with, with its names.
+#[derive(Debug, Drop)]
+pub struct NamedFormula {
+    wired: Wired,
+}
+
+impl Model for NamedFormula {
+    ghost use Rattle.formula_text.specs.Grammar.{Draft};
+    ghost use Rattle.body_text.specs.Formulas.{draft_code, unwired, IsOwn};
+
+    ghost Value = { Draft };
+
+    ghost coded = { draft_code };
+
+    ghost view = { λ f. unwired f.wired };
+
+    ghost invariant = { λ f. IsOwn f.wired };
+}
+
+fn is_among(names: &[Name], name: &Name) -> bool
+    ensures { result ≡ list_any (λ m. bytes_eq m name.now) names.now }
+{
+    names.iter().any(|other| other.as_str() == name.as_str())
+}
+
+/// Appends a name that isn't there.
+pub fn put_name(names: &mut Vec<Name>, name: &Name) -> Result<(), NoMemory>
+    ensures { OnOk result (names.new.items ≡ with_name names.old.items name.now) }
+{
+    if !is_among(names, name) {
+        names.push(name.copy()?)?;
+    }
+    Ok(())
+}
+
+// Appends those that aren't there.
+fn put_each(names: &mut Vec<Name>, others: &[Name]) -> Result<(), NoMemory>
+    ensures { OnOk result (names.new.items ≡ with_each names.old.items others.now) }
+{
+    for name in others {
+        put_name(names, name)?;
+    }
+    Ok(())
+}
+
+// The place of a name.
+fn place_of(names: &[Name], name: &Name) -> Option<usize>
+    ensures place { result ≡ position (λ m. bytes_eq m name.now) names.now }
+    ensures within { IfSome result (λ i. i < length names.now) }
+{
+    names
+        .iter()
+        .position(|other| other.as_str() == name.as_str())
+}
+
+/// The slot of a name among few.
+pub fn slot_of(names: &[Name], name: &Name) -> u32
+    ensures { length names.now < 2 ^ 32 → result ≡ slot_of names.now name.now }
+{
+    let place = place_of(names, name).unwrap_or(0);
+    u32::try_from(place).unwrap_or(u32::MAX)
+}
+
+// The slots of names among few.
+fn slots_of(alloc: Global, names: &[Name], own: &[Name]) -> Result<Vec<u32>, NoMemory>
+    ensures { length names.now < 2 ^ 32 → IfOk result (λ v. v.items ≡ map (slot_of names.now) own.now) }
+{
+    let mut slots = Vec::new(alloc);
+    for name in own {
+        slots.push(slot_of(names, name))?;
+    }
+    Ok(slots)
+}
+
+// The slot for which another stands.
+fn slot_in(slots: &[u32], slot: u32) -> u32
+    ensures { result ≡ slot_in slots.now slot }
+{
+    slots.get(slot as usize).copied().unwrap_or(0)
+}
+
+// A formula with other slots in the places of its own.
+fn reslotted(alloc: Global, formula: &Formula, slots: &[u32]) -> Result<Formula, NoMemory>
+    ensures { IfOk result (λ f. tree f ≡ reslotted slots.now (tree formula.now)) }
+{
+    match formula {
+        Formula::Lit(scalar) => Ok(Formula::Lit(scalar.copy()?)),
+        Formula::Slot(slot) => Ok(Formula::Slot(slot_in(slots, *slot))),
+        Formula::Not(inner) => {
+            let inner = reslotted(alloc, inner, slots)?;
+            Ok(Formula::Not(Box::new(alloc, inner)?))
+        }
+        Formula::Bin(o, left, right) => {
+            let left = reslotted(alloc, left, slots)?;
+            let right = reslotted(alloc, right, slots)?;
+            let left = Box::new(alloc, left)?;
+            Ok(Formula::Bin(*o, left, Box::new(alloc, right)?))
+        }
+        Formula::If(test, held, other) => {
+            let test = reslotted(alloc, test, slots)?;
+            let held = reslotted(alloc, held, slots)?;
+            let other = reslotted(alloc, other, slots)?;
+            let test = Box::new(alloc, test)?;
+            let held = Box::new(alloc, held)?;
+            Ok(Formula::If(test, held, Box::new(alloc, other)?))
+        }
+        Formula::Untrack(inner) => {
+            let inner = reslotted(alloc, inner, slots)?;
+            Ok(Formula::Untrack(Box::new(alloc, inner)?))
+        }
+        Formula::It(field) => Ok(Formula::It(field.copy()?)),
+        Formula::ItKey => Ok(Formula::ItKey),
+        Formula::Count(inner) => {
+            let inner = reslotted(alloc, inner, slots)?;
+            Ok(Formula::Count(Box::new(alloc, inner)?))
+        }
+        Formula::Sum(rows, part) => {
+            let rows = reslotted(alloc, rows, slots)?;
+            let part = reslotted(alloc, part, slots)?;
+            let rows = Box::new(alloc, rows)?;
+            Ok(Formula::Sum(rows, Box::new(alloc, part)?))
+        }
+        Formula::Keep(rows, test) => {
+            let rows = reslotted(alloc, rows, slots)?;
+            let test = reslotted(alloc, test, slots)?;
+            let rows = Box::new(alloc, rows)?;
+            Ok(Formula::Keep(rows, Box::new(alloc, test)?))
+        }
+    }
+}
+
+impl NamedFormula {
+    /// The formula for which a wired one stands whose slots are its own names.
+    pub(crate) fn of(wired: Wired) -> NamedFormula
+        requires { IsOwn wired }
+        ensures { result ≡ unwired wired }
+    {
+        NamedFormula { wired }
+    }
+
+    /// The formula with its own names as slots.
+    pub(crate) fn into_wired(self) -> Wired
+        ensures { result ≡ wired self }
+    {
+        self.wired
+    }
+
+    /// Appends the names that aren't there, in the order of the text.
+    #[tactic(auto, using(crate::proofs::Slotting::own_names, crate::proofs::Slotting::few_each))]
+    pub(crate) fn put_names(&self, names: &mut Vec<Name>) -> Result<(), NoMemory>
+        ensures names { OnOk result (names.new.items ≡ with_names names.old.items self.now) }
+        ensures few { OnOk result (length names.new.items ≤ length names.old.items + MOST_SOURCES) }
+    {
+        put_each(names, &self.wired.names)
+    }
+
+    /// The formula with its places among few names as slots.
+    #[tactic(auto, using(crate::proofs::Slotting::among_is))]
+    pub(crate) fn among(&self, alloc: Global, names: &[Name]) -> Result<Formula, NoMemory>
+        ensures { length names.now < 2 ^ 32 → IfOk result (λ f. tree f ≡ slotted names.now self.now) }
+    {
+        let slots = slots_of(alloc, names, &self.wired.names)?;
+        reslotted(alloc, &self.wired.formula, &slots)
+    }
+}
