@@ -6,9 +6,13 @@ mod Fitting
 mod Grammars
 mod Judgements
 mod LineByLine
+mod Meaning
 mod Owning
 mod Putting
+mod Rewriting
 mod Slotting
 mod Sounding
 mod Spelling
 mod Spellings
+mod Standing
+mod Texts

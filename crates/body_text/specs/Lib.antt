@@ -4,6 +4,8 @@ pub mod Grammar
 pub mod Judging
 pub mod Naming
 pub mod Places
+pub mod Printing
 pub mod Readings
 pub mod Statements
 pub mod Views
+pub mod Writing

@@ -1,9 +1,11 @@
 // What holds of every line and of every body.
-ghost use Rattle.std.specs.Prelude.{◌≡◌, ℕ, List};
-ghost use Rattle.script_lines.specs.Lines.{NumberedLine};
+ghost use Rattle.std.specs.Prelude.{◌≡◌, ℕ, List, Ok};
+ghost use Rattle.script_lines.specs.Lines.{NumberedLine, kept_lines};
+ghost use Rattle.sig_untrack.specs.Stated.{Bodies};
 ghost use Rattle.body_text.specs.Grammar.{Said, Writes};
 ghost use Rattle.body_text.specs.Readings.{Answer, IsRead};
 ghost use Rattle.body_text.specs.Statements.{lines_of, Statements};
+ghost use Rattle.body_text.specs.Writing.{body_text, lines_of_text, meaning};
 
 /// The bytes of a line say one thing.
 pub fn one_line()
@@ -15,4 +17,10 @@ pub fn one_body()
     ensures spelled { (s t : Statements) → lines_of s ≡ lines_of t → s ≡ t }
     ensures some { (ls : List NumberedLine) → (a : Answer) × IsRead ls a }
     ensures one { (ls : List NumberedLine) (a b : Answer) → IsRead ls a → IsRead ls b → a ≡ b }
+{}
+
+/// What `put_body` writes of a body that lines are is read back as the same body. Its lines are those that were written.
+pub fn bodies_read_back()
+    ensures read { (ls : List NumberedLine) (b : Bodies) → IsRead ls (Ok b) → IsRead (kept_lines 0 (body_text b)) (Ok b) }
+    ensures lines { (ls : List NumberedLine) (b : Bodies) → IsRead ls (Ok b) → kept_lines 0 (body_text b) ≡ lines_of_text (meaning b) }
 {}

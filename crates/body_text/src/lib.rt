@@ -11,10 +11,12 @@ mod named;
 mod read;
 mod reading;
 mod stmt;
+mod writing;
 
 pub use fault::{BodyFault, BodyWhy};
 pub use judge::{MOST_BODY_LINES, MOST_LEVELS};
-pub use laws::{one_body, one_line};
+pub use laws::{bodies_read_back, one_body, one_line};
 pub use line::{Line, Plain, Source};
 pub use named::NamedFormula;
 pub use read::{read_body, read_numbered};
+pub use writing::put_body;

@@ -1,0 +1,8 @@
+use Rattle.body_text.proofs.Rewriting.{lines_are, read_back}
+use Rattle.body_text.proofs.laws.bodies_read_back.Goals as goal
+
+pub returns-clause-read : goal.returns-clause-read
+returns-clause-read c = read_back
+
+pub returns-clause-lines : goal.returns-clause-lines
+returns-clause-lines c = lines_are
