@@ -1,3 +1,4 @@
 mod Hearings
 mod Askings
+mod Rehearings
 pub mod Shared

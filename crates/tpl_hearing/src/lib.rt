@@ -1,8 +1,10 @@
 //! Formulas of a page's lines, evaluated on signals that are settled as they are asked for.
 #![tactic(auto)]
 
+mod again;
 mod evaluating;
 mod outcomes;
 
+pub use again::hear_again;
 pub use evaluating::{Evaluated, Read, evaluate};
 pub use outcomes::{Outcomes, hear};

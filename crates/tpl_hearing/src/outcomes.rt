@@ -1,5 +1,5 @@
 // What is heard of names while a page is brought up to date: each of them is settled once.
-ghost use Rattle.std.specs.Prelude.{◌≡◌, ◌++◌, ◌∷◌, [], None, Some, IfOk, OnOk};
+ghost use Rattle.std.specs.Prelude.{◌≡◌, ◌++◌, ◌∷◌, [], true, None, Some, IfOk, OnOk};
 ghost use Rattle.std.specs.Map.{keys_of};
 ghost use Rattle.signal_laws.specs.ReadingLaws.{joined};
 ghost use Rattle.tpl_hearing.specs.Hearing.{heard_of, scene, CanSettle, Hears};
@@ -43,6 +43,16 @@ impl Outcomes {
         match self.outcomes.get(&id) {
             Some(outcome) => Ok(Some(outcome.copy()?)),
             None => Ok(None),
+        }
+    }
+
+    /// Whether this outcome was heard of a name.
+    pub(crate) fn had(&self, id: NodeId, outcome: &Outcome) -> bool
+        ensures { result ≡ true → heard_of self.now id ≡ Some outcome.now }
+    {
+        match self.outcomes.get(&id) {
+            Some(heard) => heard.same(outcome),
+            None => false,
         }
     }
 
