@@ -1,6 +1,6 @@
 use Rattle.std.proofs.Common.{length, ◌-◌, ◌≡◌, ◌≤◌, drop}
 use Rattle.update_laws.specs.Children.{past_moved as list_past_moved}
-use Rattle.tpl_live.proofs.children.past_moved.Given as goal
+use Rattle.tpl_memos.proofs.children.past_moved.Given as goal
 
 abbrev pub invariant-loop-at : goal.invariant-loop-at
 invariant-loop-at l = record {

@@ -1,4 +1,4 @@
-//! Pages that are kept up to date by what changed.
+//! What a page keeps of its template's lines, and the steps between the children of a node.
 #![tactic(auto)]
 
 mod children;

@@ -1,7 +1,7 @@
 use Rattle.std.proofs.Common.{◌∙◌, ap, ltb, refl, sym, []}
-use Rattle.tpl_live.specs.ChildSteps.{forward_steps}
-use Rattle.tpl_live.proofs.Named.{named}
-use Rattle.tpl_live.proofs.children.child_steps.Goals as goal
+use Rattle.tpl_memos.specs.ChildSteps.{forward_steps}
+use Rattle.tpl_memos.proofs.Named.{named}
+use Rattle.tpl_memos.proofs.children.child_steps.Goals as goal
 
 pub returns : goal.returns
 returns c = λ p children e.

@@ -2,7 +2,7 @@
 use Rattle.std.proofs.Common.{◌≡◌, ℕ, suc, ◌+◌, ◌<◌, true, refl, sym, ap, ◌∙◌, arith, ltb, inl, inr, List, [], ◌∷◌, ◌++◌, drop}
 use Rattle.std.proofs.lemmas.Bool.{cases_Bool, ltb-false}
 use Rattle.update_laws.specs.Children.{past_moved, comes_first, without_first}
-use Rattle.tpl_live.specs.ChildSteps.{Step, forward_steps}
+use Rattle.tpl_memos.specs.ChildSteps.{Step, forward_steps}
 
 drop_suc : (at : ℕ) (xs : List ℕ) → drop (suc at) xs ≡ without_first (drop at xs)
 drop_suc ℕ.zero [] = refl

@@ -2,12 +2,12 @@
 use Rattle.std.proofs.Common.{◌≡◌, sym, ap, ◌∙◌, map}
 use Rattle.std.specs.Box.{box_value}
 use Rattle.update_laws.specs.PageMemos as model
-use Rattle.tpl_live.specs.declared.memo.Heard.{Heard}
-use Rattle.tpl_live.specs.declared.memo.PageMemo.TheVariants.{rolls-Unread, rolls-Blank, rolls-Line, rolls-Element, rolls-Branch, rolls-Loop}
-use Rattle.tpl_live.specs.declared.memo.PageMemo.TheVariants as memo
-use Rattle.tpl_live.specs.declared.memo.PageMemo.TheOpen.{PageMemo-F}
-use Rattle.tpl_live.specs.declared.memo.PageMemo.TheFolds.{fold-roll-PageMemo}
-use Rattle.tpl_live.specs.Kept.{heard_of, kept, kept_node, rows_of}
+use Rattle.tpl_memos.specs.declared.memo.Heard.{Heard}
+use Rattle.tpl_memos.specs.declared.memo.PageMemo.TheVariants.{rolls-Unread, rolls-Blank, rolls-Line, rolls-Element, rolls-Branch, rolls-Loop}
+use Rattle.tpl_memos.specs.declared.memo.PageMemo.TheVariants as memo
+use Rattle.tpl_memos.specs.declared.memo.PageMemo.TheOpen.{PageMemo-F}
+use Rattle.tpl_memos.specs.declared.memo.PageMemo.TheFolds.{fold-roll-PageMemo}
+use Rattle.tpl_memos.specs.Kept.{heard_of, kept, kept_node, rows_of}
 
 pub kept_unread : kept memo.Unread ≡ model.unread
 unfolding kept

@@ -5,7 +5,7 @@ ghost use Rattle.page_model.specs.Edits.{listed as in_list, siblings};
 ghost use Rattle.page_model.specs.Forest.{Forest};
 ghost use Rattle.page_model.specs.Labels.{Kind};
 ghost use Rattle.update_laws.specs.Children.{comes_first, forward_edits, past_moved as list_past_moved};
-ghost use Rattle.tpl_live.specs.ChildSteps.{forward_steps, step_name, step_of};
+ghost use Rattle.tpl_memos.specs.ChildSteps.{forward_steps, step_name, step_of};
 
 use sig_base::NoMemory;
 use std::alloc::Global;

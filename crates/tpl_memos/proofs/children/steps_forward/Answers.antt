@@ -1,9 +1,9 @@
 use Rattle.std.proofs.Common.{◌+◌, map, drop, slice_index_or, []}
 use Rattle.std.proofs.lemmas.List.{drop_more}
-use Rattle.tpl_live.specs.ChildSteps.{step_of, forward_steps}
+use Rattle.tpl_memos.specs.ChildSteps.{step_of, forward_steps}
 use Rattle.std.specs.Prelude.{ltb}
-use Rattle.tpl_live.proofs.Stepping.{one_more}
-use Rattle.tpl_live.proofs.children.steps_forward.Goals as goal
+use Rattle.tpl_memos.proofs.Stepping.{one_more}
+use Rattle.tpl_memos.proofs.children.steps_forward.Goals as goal
 
 pub loop-place-preserved : goal.loop-place-preserved
 loop-place-preserved c = record {

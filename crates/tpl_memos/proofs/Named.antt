@@ -6,7 +6,7 @@ use Rattle.page_model.specs.Forest.{Forest, none, node}
 use Rattle.page_model.specs.Labels.{Kind}
 use Rattle.update_laws.proofs.Shared.{in_both}
 use Rattle.update_laws.specs.Children.{past_moved, comes_first, without_first, forward_edits}
-use Rattle.tpl_live.specs.ChildSteps.{Moves, Comes, step_name, forward_steps}
+use Rattle.tpl_memos.specs.ChildSteps.{Moves, Comes, step_name, forward_steps}
 
 past_moved_like : (moved moved' old : List ℕ) → ((j : ℕ) → listed j moved ≡ listed j moved') → past_moved moved old ≡ past_moved moved' old
 past_moved_like moved moved' [] h = refl

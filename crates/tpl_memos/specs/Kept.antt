@@ -8,10 +8,10 @@ use Rattle.sig_base.specs.declared.value.Outcome.{Outcome}
 use Rattle.sig_base.specs.declared.value.Outcome.TheVariants.{Good}
 use Rattle.tpl_model.specs.Shapes.{Here}
 use Rattle.update_laws.specs.PageMemos as model
-use Rattle.tpl_live.specs.declared.memo.Heard.{Heard}
-use Rattle.tpl_live.specs.declared.memo.PageMemo.{PageMemo}
-use Rattle.tpl_live.specs.declared.memo.PageMemo.TheOpen.{PageMemo-F}
-use Rattle.tpl_live.specs.declared.memo.PageMemo.TheFolds.{fold-PageMemo}
+use Rattle.tpl_memos.specs.declared.memo.Heard.{Heard}
+use Rattle.tpl_memos.specs.declared.memo.PageMemo.{PageMemo}
+use Rattle.tpl_memos.specs.declared.memo.PageMemo.TheOpen.{PageMemo-F}
+use Rattle.tpl_memos.specs.declared.memo.PageMemo.TheFolds.{fold-PageMemo}
 
 -- what was heard of a formula
 abbrev pub heard_of : Heard → model.Heard

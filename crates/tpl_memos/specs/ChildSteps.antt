@@ -2,8 +2,8 @@
 use Rattle.std.specs.Prelude.{ℕ, suc, Bool, List, [], ◌∷◌, ◌++◌, if◌then◌else◌}
 use Rattle.page_model.specs.Replay.{Op, OpInsert, OpMove}
 use Rattle.update_laws.specs.Children.{past_moved, comes_first, without_first}
-use Rattle.tpl_live.specs.declared.children.ChildStep.{ChildStep}
-use Rattle.tpl_live.specs.declared.children.ChildStep.TheVariants as child
+use Rattle.tpl_memos.specs.declared.children.ChildStep.{ChildStep}
+use Rattle.tpl_memos.specs.declared.children.ChildStep.TheVariants as child
 
 -- a child of that number comes to a place, or moves there
 pub data Step : Type 0 where

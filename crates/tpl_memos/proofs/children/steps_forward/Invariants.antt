@@ -1,6 +1,6 @@
 use Rattle.std.proofs.Common.{◌≡◌, ◌≤◌, ◌++◌, ltb, length, drop, map, []}
-use Rattle.tpl_live.specs.ChildSteps.{step_of, forward_steps}
-use Rattle.tpl_live.proofs.children.steps_forward.Given as goal
+use Rattle.tpl_memos.specs.ChildSteps.{step_of, forward_steps}
+use Rattle.tpl_memos.proofs.children.steps_forward.Given as goal
 
 abbrev pub invariant-loop-place : goal.invariant-loop-place
 invariant-loop-place l = record {

@@ -1,8 +1,8 @@
 use Rattle.std.proofs.Common.{◌∙◌, ap, map, drop}
 use Rattle.update_laws.specs.Children.{past_moved}
-use Rattle.tpl_live.specs.ChildSteps.{step_of}
-use Rattle.tpl_live.proofs.Stepping.{step_met}
-use Rattle.tpl_live.proofs.children.child_step.Goals as goal
+use Rattle.tpl_memos.specs.ChildSteps.{step_of}
+use Rattle.tpl_memos.proofs.Stepping.{step_met}
+use Rattle.tpl_memos.proofs.children.child_step.Goals as goal
 
 pub returns-then-stands-clause-is : goal.returns-then-stands-clause-is
 returns-then-stands-clause-is c = λ rest.

@@ -1,7 +1,7 @@
 // What a page keeps of its template's lines.
 ghost use Rattle.std.specs.Prelude.{◌≡◌, map, IfOk};
 ghost use Rattle.update_laws.specs.PageMemos as model;
-ghost use Rattle.tpl_live.specs.Kept.{heard_of, kept, rows_of};
+ghost use Rattle.tpl_memos.specs.Kept.{heard_of, kept, rows_of};
 
 use sig_base::{NoMemory, NodeId, Outcome};
 use std::alloc::Global;
