@@ -1,0 +1,6 @@
+mod Composing
+mod Rowed
+mod Rereading
+mod Unmaking
+mod Slots
+pub mod Shared
