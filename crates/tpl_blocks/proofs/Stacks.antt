@@ -1,0 +1,82 @@
+-- The open parts: the last that was put there is the first.
+use Rattle.std.proofs.Common.{◌≡◌, ◌∙◌, ◌<◌, ◌-◌, ℕ, zero, suc, List, [], ◌∷◌, ◌++◌, Option, Some, None, drop, length, map, reverse, refl, sym, ap, arith}
+use Rattle.std.specs.Prelude.{MatchOption, option_to_list}
+use Rattle.std.proofs.lemmas.List.{reverse-append, map-append}
+use Rattle.tpl_model.specs.Lines as model
+use Rattle.tpl_syntax.specs.declared.line.Line.{Line}
+use Rattle.sig_formula.specs.declared.formula.Formula.{Formula}
+use Rattle.tpl_blocks.specs.Blocks.{held, line_of, part_of, IsAround, IsTop}
+use Rattle.tpl_blocks.specs.Blocks.{attribute_before, choice_before, each_before, else_before, tag_before, text_before}
+use Rattle.sig_formula.specs.Trees.{Tree}
+use Rattle.tpl_blocks.specs.declared.building.Part.{Part}
+
+-- a part is put there
+pub held_push : (parts : List Part) (p : Part) → held (parts ++ p ∷ []) ≡ part_of p ∷ held parts
+unfolding held
+held_push parts p = ap reverse (map-append part_of parts (p ∷ [])) ∙ reverse-append (map part_of parts) (part_of p ∷ [])
+
+-- there are none
+pub held_none : held [] ≡ []
+unfolding held
+held_none = refl
+
+nobody_there : (n : ℕ) (parts : List Part) → n ≡ length parts → n ≡ 0 → held parts ≡ []
+nobody_there n [] e h = held_none
+nobody_there n (p ∷ parts) e h = absurd (omega arith)
+
+-- what is taken
+pub top_of : (r : Option Part) (before now : List Part) (m n : ℕ) (Rest : Part → Type 0) → m ≡ length before → n ≡ length now →
+    before ≡ now ++ option_to_list r → MatchOption r ((m ≡ 0) × (n ≡ 0)) Rest → IsTop r (held before) (held now)
+top_of None before now m n Rest l k e c = (nobody_there m before l c.0, nobody_there n now k c.1)
+top_of (Some p) before now m n Rest l k e c = ap held e ∙ held_push now p
+
+-- where there are fewer than two, a line that goes around them says nothing
+pub short : (parts : List Part) → length parts < 2 → (n : ℕ) (l : model.Line) → IsAround l → held parts ≡ model.with_line n l (held parts)
+unfolding held
+short [] h n (model.TagLine name) a = refl
+short [] h n (model.IfLine f) a = refl
+short [] h n (model.EachLine f) a = refl
+short [] h n (model.TextLine f) a = absurd a
+short [] h n (model.AttrLine name f) a = absurd a
+short [] h n model.ElseLine a = absurd a
+short [] h n model.TryLine a = absurd a
+short [] h n model.EndLine a = absurd a
+short (p ∷ []) h n (model.TagLine name) a = refl
+short (p ∷ []) h n (model.IfLine f) a = refl
+short (p ∷ []) h n (model.EachLine f) a = refl
+short (p ∷ []) h n (model.TextLine f) a = absurd a
+short (p ∷ []) h n (model.AttrLine name f) a = absurd a
+short (p ∷ []) h n model.ElseLine a = absurd a
+short (p ∷ []) h n model.TryLine a = absurd a
+short (p ∷ []) h n model.EndLine a = absurd a
+short (p ∷ q ∷ parts) h n l a = absurd (omega arith)
+
+-- ---- what a line does to the parts
+
+pub text_line : (n : ℕ) (f : Tree) (p q : model.Part) (before rest now : List model.Part) → before ≡ p ∷ rest → q ≡ text_before n f p → now ≡ q ∷ rest → now ≡ model.with_line n (model.TextLine f) before
+text_line n f p q before rest now e g h = h ∙ (ap (λ z. z ∷ rest) g ∙ sym (ap (model.with_line n (model.TextLine f)) e))
+
+pub attribute_line : (n : ℕ) (name : List ℕ) (f : Tree) (p q : model.Part) (before rest now : List model.Part) → before ≡ p ∷ rest → q ≡ attribute_before name f p → now ≡ q ∷ rest → now ≡ model.with_line n (model.AttrLine name f) before
+attribute_line n name f p q before rest now e g h = h ∙ (ap (λ z. z ∷ rest) g ∙ sym (ap (model.with_line n (model.AttrLine name f)) e))
+
+pub else_line : (n : ℕ) (p q : model.Part) (before rest now : List model.Part) → before ≡ p ∷ rest → q ≡ else_before p → now ≡ q ∷ rest → now ≡ model.with_line n model.ElseLine before
+else_line n p q before rest now e g h = h ∙ (ap (λ z. z ∷ rest) g ∙ sym (ap (model.with_line n model.ElseLine) e))
+
+pub tag_line : (n : ℕ) (name : List ℕ) (i p q : model.Part) (before rest now : List model.Part) → before ≡ i ∷ p ∷ rest → q ≡ tag_before n name i p → now ≡ q ∷ rest → now ≡ model.with_line n (model.TagLine name) before
+tag_line n name i p q before rest now e g h = h ∙ (ap (λ z. z ∷ rest) g ∙ sym (ap (model.with_line n (model.TagLine name)) e))
+
+pub choice_line : (n : ℕ) (f : Tree) (i p q : model.Part) (before rest now : List model.Part) → before ≡ i ∷ p ∷ rest → q ≡ choice_before f i p → now ≡ q ∷ rest → now ≡ model.with_line n (model.IfLine f) before
+choice_line n f i p q before rest now e g h = h ∙ (ap (λ z. z ∷ rest) g ∙ sym (ap (model.with_line n (model.IfLine f)) e))
+
+pub each_line : (n : ℕ) (f : Tree) (i p q : model.Part) (before rest now : List model.Part) → before ≡ i ∷ p ∷ rest → q ≡ each_before f i p → now ≡ q ∷ rest → now ≡ model.with_line n (model.EachLine f) before
+each_line n f i p q before rest now e g h = h ∙ (ap (λ z. z ∷ rest) g ∙ sym (ap (model.with_line n (model.EachLine f)) e))
+
+-- one more line, the one before those that were gone over
+pub one_back : (lines : List (Line Formula)) (x : Line Formula) (at : ℕ) (before now : List model.Part) → 0 < at → drop (at - 1) lines ≡ x ∷ drop at lines →
+    before ≡ model.parts_from (suc at) (map line_of (drop at lines)) → now ≡ model.with_line at (line_of x) before →
+    now ≡ model.parts_from (suc (at - 1)) (map line_of (drop (at - 1) lines))
+one_back lines x zero before now h d e f = absurd (omega arith)
+one_back lines x (suc n) before now h d e f =
+    let m : suc n - 1 ≡ n = omega arith in
+    let d' : drop n lines ≡ x ∷ drop (suc n) lines = rw m at d in
+    rw m (f ∙ (ap (model.with_line (suc n) (line_of x)) e ∙ sym (ap (λ z. model.parts_from (suc n) (map line_of z)) d')))

@@ -1,0 +1,13 @@
+use Rattle.std.proofs.Common.{◌∙◌, sym, ap}
+use Rattle.tpl_model.specs.Lines as model
+use Rattle.tpl_blocks.specs.Blocks.{held, part_of}
+use Rattle.tpl_blocks.proofs.Stacks.{else_line}
+use Rattle.tpl_blocks.proofs.building.put_else.Goals as goal
+
+pub returns-in_default : goal.returns-in_default
+returns-in_default c = c.in_default.ensures.1 ∙ sym (ap (model.with_line c.args.line model.ElseLine) c.in_default.ensures.0)
+
+pub returns : goal.returns
+returns c =
+    else_line c.args.line (part_of c.in-Some.part) (part_of c.with_else.result) (held c.args.parts.now.items) (held c.innermost.new.parts.items)
+    (held c.open.new.parts.items) c.in-Some.ensures c.with_else.ensures c.in_ok-open.ensures
