@@ -1,8 +1,9 @@
 // Short blocks of lines.
 
-use body_text::{BodyFault, BodyWhy, read_body};
+use body_text::{BodyFault, BodyWhy, put_body, read_body};
 use sig_untrack::Body;
 use std::alloc::{AllocError, Global};
+use std::test::Fail;
 
 // What a block of at most 4,096 bytes is; a longer one isn't read.
 pub fn read(alloc: Global, block: &[u8]) -> Option<Result<Body, BodyFault>> {
@@ -18,6 +19,15 @@ pub fn fault(alloc: Global, block: &[u8]) -> Option<(usize, BodyWhy)> {
         Some(Err(fault)) => Some((fault.at, fault.why)),
         _ => None,
     }
+}
+
+// How the body of a block is written; nothing where it is refused.
+pub fn written(alloc: Global, block: &[u8]) -> Result<Vec<u8>, Fail> {
+    let mut out = Vec::new(alloc);
+    if let Some(Ok(body)) = read(alloc, block) {
+        put_body(&mut out, &body)?;
+    }
+    Ok(out)
 }
 
 // A part so many times between two others.

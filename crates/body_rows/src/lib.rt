@@ -1,4 +1,4 @@
-//! Bodies of effects as tests: which blocks of lines are one, what it is, and what the others are refused for.
+//! Bodies of effects as tests: which blocks of lines are one, what it is, what the others are refused for, and how bodies are written.
 #![tactic(auto)]
 
 #[cfg(test)]
@@ -9,3 +9,5 @@ mod bodies;
 mod limits;
 #[cfg(test)]
 mod refused;
+#[cfg(test)]
+mod written;

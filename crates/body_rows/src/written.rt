@@ -1,0 +1,40 @@
+// Bodies, and how they are written.
+
+use crate::blocks::written;
+use std::test::Fail;
+
+const SPACED: &str = "  set  a (b+1)
+# none
+cleanup set a  0
+\tcleanup log untrack( c )
+when  d
+effect
+rewire e=host 3(f,g)
+end
+rewire h = untrack(i)++\"x\"
+end
+log  d
+dispose a
+";
+
+const CANONICAL: &str = "set a b + 1
+cleanup set a 0
+cleanup log untrack(c)
+when d
+effect
+rewire e = host 3 ( f , g )
+end
+rewire h = untrack(i) ++ \"x\"
+end
+log d
+dispose a
+";
+
+#[test]
+fn a_body_is_written_with_one_blank_before_each_token(rt: HostRuntime) -> Result<(), Fail> {
+    let found = written(rt.alloc(), SPACED.as_bytes())?;
+    assert!(rt; found.as_slice() == CANONICAL.as_bytes());
+    let again = written(rt.alloc(), CANONICAL.as_bytes())?;
+    assert!(rt; again.as_slice() == CANONICAL.as_bytes());
+    Ok(())
+}
