@@ -4,7 +4,7 @@ use Rattle.sig_base.specs.declared.value.Value.{Value}
 use Rattle.signal_model.specs.Recipes.{Hosts, Recipe}
 use Rattle.effect_model.specs.Acts.{host_of, host_refused, rewire_signal, set_cell, with_use}
 use Rattle.effect_model.specs.Commands.{changed_watcher, with_new_cell, with_new_computed, with_new_page, with_new_watcher}
-use Rattle.effect_model.specs.Owning.{the_signal}
+use Rattle.effect_model.specs.Owning.{Thing, the_signal, the_owner, nothing, alone, made_inside}
 use Rattle.effect_model.specs.Worlds as plain
 use Rattle.effect_model.specs.Watching as signals_rest
 use Rattle.effect_frames.specs.Frames.{IsOfSignals, with_part}
@@ -12,8 +12,10 @@ use Rattle.effect_frames.proofs.Shared.{framed_rewire, framed_set, framed_settle
 use Rattle.effect_tables.specs.declared.tables.Tables.{Tables}
 use Rattle.effect_tables.specs.Adopting.{adopted}
 use Rattle.effect_tables.specs.Holding.{Holds, LeavesOut}
-use Rattle.effect_tables.specs.Placed.{at_rest, placed}
+use Rattle.effect_tables.specs.Placed.{at_rest, listed, placed, tree_of}
 use Rattle.effect_tables.proofs.Shared.{listed_tree, placed_rests}
+use Rattle.effect_undoing.specs.Forming.{AreFormed, CanStand, IsFormed}
+use Rattle.effect_undoing.proofs.Shared.{formed_listed, formed_put}
 use Rattle.sig_host.specs.Hosts.{HostPlace}
 use Rattle.sig_owner.specs.Trees.{has_thing, owned_of}
 use Rattle.sig_effect.specs.declared.events.Event.{Event as SignalEvent}
@@ -59,6 +61,7 @@ tables_done hosts asked old new events act is same h sound =
 pub owned_still : (old new : World) → new.signals.graph.given ≡ old.signals.graph.given → new.tables ≡ old.tables → AreOwned old → AreOwned new
 owned_still old new given same h = record {
   tables = subst Holds (sym same) h.tables;
+  formed = subst (λ (t : Tables). AreFormed (tree_of t)) (sym same) h.formed;
   fresh = λ n l. ap (λ (t : Tables). has_thing (the_signal n) (owned_of t.store)) same ∙ h.fresh n (subst (λ k. k ≤ n) given l);
 }
 
@@ -138,20 +141,35 @@ computed_done hosts asked old new r inside n id d h is = record {
     told_none None = tells_none []
     told_none (Some k) = tells_none []
 
+-- what stands is formed where something was made
+formed_made : (old new : Tables) (inside : Option ℕ) (t : Thing) → CanStand t nothing → listed (tree_of new) ≡ listed (made_inside inside t (tree_of old)) → Holds new →
+    AreFormed (tree_of old) → AreFormed (tree_of new)
+formed_made old new inside t can is h f = record {
+  formed = subst (IsFormed (the_owner 0)) (sym is ∙ listed_tree new h) (formed_listed (the_owner 0) (made_inside inside t (tree_of old)) (go inside));
+}
+  where
+    go : (o : Option ℕ) → IsFormed (the_owner 0) (made_inside o t (tree_of old))
+    go None = (can, tt, f.formed)
+    go (Some o) = formed_put (the_owner 0) (the_owner o) (alone t) (tree_of old) refl (can, tt, tt) f.formed
+
 -- the signal that was made stands where it is to
-pub owned_more : (old new : World) (n : ℕ) → n ≡ old.signals.graph.given → new.signals.graph.given ≡ old.signals.graph.given + 1 → Holds new.tables →
+pub owned_more : (old new : World) (inside : Option ℕ) (n : ℕ) → n ≡ old.signals.graph.given → new.signals.graph.given ≡ old.signals.graph.given + 1 →
+    listed (tree_of new.tables) ≡ listed (made_inside inside (the_signal n) (tree_of old.tables)) → Holds new.tables →
     LeavesOut (Some n) old.tables.store new.tables.store → AreOwned old → AreOwned new
-owned_more old new n id given h out o = record {
+owned_more old new inside n id given tree h out o = record {
   tables = h;
+  formed = formed_made old.tables new.tables inside (the_signal n) refl tree h o.formed;
   fresh = λ k l.
       let more : old.signals.graph.given + 1 ≤ k = subst (λ g. g ≤ k) given l in
       out.still k (λ e. let same : n ≡ k = cc in omega (arith, more, same, id)) (o.fresh k (omega (arith, more)));
 }
 
 -- where no signal is made
-pub owned_same : (old new : World) → new.signals.graph.given ≡ old.signals.graph.given → Holds new.tables → LeavesOut None old.tables.store new.tables.store → AreOwned old → AreOwned new
-owned_same old new given h out o = record {
+pub owned_same : (old new : World) (inside : Option ℕ) (t : Thing) → CanStand t nothing → new.signals.graph.given ≡ old.signals.graph.given →
+    listed (tree_of new.tables) ≡ listed (made_inside inside t (tree_of old.tables)) → Holds new.tables → LeavesOut None old.tables.store new.tables.store → AreOwned old → AreOwned new
+owned_same old new inside t can given tree h out o = record {
   tables = h;
+  formed = formed_made old.tables new.tables inside t can tree h o.formed;
   fresh = λ k l. out.still k (λ e. none_some k e) (o.fresh k (subst (λ g. g ≤ k) given l));
 }
   where

@@ -1,2 +1,4 @@
 mod Told
 mod Carrying
+mod Undone
+pub mod Shared

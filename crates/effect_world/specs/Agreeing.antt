@@ -6,16 +6,18 @@ use Rattle.effect_model.specs.Worlds as plain
 use Rattle.sig_host.specs.Hosts.{HostPlace}
 use Rattle.sig_owner.specs.Trees.{has_thing, owned_of}
 use Rattle.effect_tables.specs.Holding.{Holds}
-use Rattle.effect_tables.specs.Placed.{at_rest}
+use Rattle.effect_tables.specs.Placed.{at_rest, tree_of}
+use Rattle.effect_undoing.specs.Forming.{AreFormed}
 use Rattle.sig_effect.specs.Agreeing as below
 use Rattle.effect_world.specs.declared.events.Event.{Event}
 use Rattle.effect_world.specs.declared.world.World.{World}
 use Rattle.effect_world.specs.Events.{Tells}
 use Rattle.effect_world.specs.Wholes.{whole_of}
 
--- The tables belong together, and a signal that wasn't made stands under no owner.
+-- The tables belong together, what stands is formed, and a signal that wasn't made stands under no owner.
 pub record AreOwned (w : World) : Type 0 where
   pub tables : Holds w.tables
+  pub formed : AreFormed (tree_of w.tables)
   pub fresh : (n : ℕ) → w.signals.graph.given ≤ n → has_thing (the_signal n) (owned_of w.tables.store) ≡ false
 
 -- the stores of signals and watchers belong together, and so do the tables

@@ -1,3 +1,4 @@
 pub mod Events
 pub mod Wholes
 pub mod Agreeing
+pub mod Acting

@@ -2,10 +2,12 @@
 #![tactic(auto)]
 
 mod changes;
+mod ends;
 mod events;
 mod makings;
 mod settling;
 mod telling;
+mod undoing;
 mod watching;
 mod world;
 

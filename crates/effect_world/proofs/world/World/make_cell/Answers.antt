@@ -1,4 +1,6 @@
-use Rattle.std.proofs.Common.{arith}
+use Rattle.std.proofs.Common.{arith, ap}
+use Rattle.effect_model.specs.Worlds as plain
+use Rattle.sig_effect.specs.Wholes as wholes
 use Rattle.effect_world.specs.declared.world.World.{World}
 use Rattle.effect_world.proofs.Carrying.{cell_done, owned_more}
 use Rattle.effect_world.proofs.world.World.make_cell.Goals as goal
@@ -17,5 +19,6 @@ returns-in-Ok-clause-agrees c = λ asked a.
     let new : World = record { signals = c.make_cell.new.self; tables = c.adopt_signal.new.self } in
     record {
       signals = c.in_ok-id.ensures.agrees asked a.signals;
-      owned = owned_more c.args.self.now new c.in_ok-id.id c.in_ok-id.ensures.id c.in_ok-id.ensures.given c.in-Ok.ensures.holds c.in-Ok.ensures.signals a.owned;
+      owned = owned_more c.args.self.now new c.args.inside c.in_ok-id.id c.in_ok-id.ensures.id c.in_ok-id.ensures.given
+          (ap (λ (w : plain.World). w.owned) (c.in-Ok.ensures.does (wholes.whole_of asked c.make_cell.new.self))) c.in-Ok.ensures.holds c.in-Ok.ensures.signals a.owned;
     }

@@ -1,7 +1,8 @@
-use Rattle.std.proofs.Common.{arith, sym, ◌∙◌}
+use Rattle.std.proofs.Common.{arith, ap, sym, ◌∙◌}
 use Rattle.effect_model.specs.Acts.{host_of}
 use Rattle.sig_nodes.specs.Answers.{expression_of}
 use Rattle.sig_nodes.specs.Computations.{recipe_made}
+use Rattle.effect_model.specs.Worlds as plain
 use Rattle.sig_effect.specs.Wholes as wholes
 use Rattle.effect_world.specs.declared.world.World.{World}
 use Rattle.effect_world.proofs.Carrying.{computed_done, host_same, owned_more}
@@ -21,5 +22,6 @@ returns-in-Ok-clause-agrees c = λ asked a free.
     let new : World = record { signals = c.make_computed.new.self; tables = c.adopt_signal.new.self } in
     record {
       signals = c.in_ok-id.ensures.agrees asked a.signals (sym (host_same (host_of (expression_of c.args.recipe)) c.args.self.now.tables (wholes.whole_of asked c.args.self.now.signals)) ∙ free);
-      owned = owned_more c.args.self.now new c.in_ok-id.id c.in_ok-id.ensures.id c.in_ok-id.ensures.given c.in-Ok.ensures.holds c.in-Ok.ensures.signals a.owned;
+      owned = owned_more c.args.self.now new c.args.inside c.in_ok-id.id c.in_ok-id.ensures.id c.in_ok-id.ensures.given
+          (ap (λ (w : plain.World). w.owned) (c.in-Ok.ensures.does (wholes.whole_of asked c.make_computed.new.self))) c.in-Ok.ensures.holds c.in-Ok.ensures.signals a.owned;
     }

@@ -1,6 +1,10 @@
-use Rattle.std.proofs.Common.{[], refl}
+use Rattle.std.proofs.Common.{[], refl, ap}
 use Rattle.effect_model.specs.Commands.{with_new_effect}
 use Rattle.effect_tables.specs.Linking.{body_of}
+use Rattle.effect_model.specs.Owning.{the_effect}
+use Rattle.effect_model.specs.Worlds as plain
+use Rattle.effect_tables.specs.Placed.{listed}
+use Rattle.sig_effect.specs.Wholes as wholes
 use Rattle.effect_world.specs.declared.world.World.{World}
 use Rattle.effect_world.proofs.Carrying.{owned_same, tables_done}
 use Rattle.effect_world.proofs.world.World.make_effect.Goals as goal
@@ -13,4 +17,9 @@ returns-clause-does c = λ hosts asked sound.
 pub returns-clause-agrees : goal.returns-clause-agrees
 returns-clause-agrees c = λ asked a.
     let new : World = record { signals = c.args.self.now.signals; tables = c.make_effect.new.self } in
-    record { signals = a.signals; owned = owned_same c.args.self.now new refl c.in_ok-id.ensures.holds c.in_ok-id.ensures.signals a.owned }
+    record {
+      signals = a.signals;
+      owned = owned_same c.args.self.now new c.args.inside (the_effect c.args.self.now.tables.effects_made) tt refl
+          (ap (λ (w : plain.World). listed w.owned) (c.in_ok-id.ensures.does (wholes.whole_of asked c.args.self.now.signals)))
+          c.in_ok-id.ensures.holds c.in_ok-id.ensures.signals a.owned;
+    }

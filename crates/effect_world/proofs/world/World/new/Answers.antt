@@ -1,7 +1,9 @@
-use Rattle.std.proofs.Common.{ap, ◌∙◌}
-use Rattle.effect_model.specs.Owning.{the_signal}
-use Rattle.effect_tables.specs.Placed.{untouched}
+use Rattle.std.proofs.Common.{ap, subst, sym, ◌∙◌}
+use Rattle.effect_model.specs.Owning.{the_owner, the_signal}
+use Rattle.effect_tables.specs.Placed.{numbering, untouched}
+use Rattle.effect_undoing.specs.Forming.{IsFormed}
 use Rattle.sig_effect.specs.Wholes as wholes
+use Rattle.sig_owner.specs.Renaming.{renamed}
 use Rattle.sig_owner.specs.Trees.{has_thing}
 use Rattle.effect_world.proofs.world.World.new.Goals as goal
 
@@ -11,5 +13,9 @@ returns-clause-whole c = λ asked all. c.in_ok-tables.ensures.placed (wholes.who
 pub returns-clause-agrees : goal.returns-clause-agrees
 returns-clause-agrees c = λ asked. record {
   signals = c.in_ok-signals.ensures.agrees asked;
-  owned = record { tables = c.in_ok-tables.ensures.holds; fresh = λ n l. ap (has_thing (the_signal n)) c.in_ok-tables.ensures.bare };
+  owned = record {
+    tables = c.in_ok-tables.ensures.holds;
+    formed = record { formed = subst (IsFormed (the_owner 0)) (sym (ap (renamed (numbering c.in_ok-tables.tables)) c.in_ok-tables.ensures.bare)) tt };
+    fresh = λ n l. ap (has_thing (the_signal n)) c.in_ok-tables.ensures.bare;
+  };
 }
