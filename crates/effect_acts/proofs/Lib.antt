@@ -1,0 +1,3 @@
+mod Acts
+mod Refusals
+pub mod Shared
