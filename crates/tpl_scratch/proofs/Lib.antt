@@ -1,0 +1,5 @@
+mod Asking
+mod Ending
+mod Missing
+mod Numbers
+mod Showing

@@ -1,0 +1,9 @@
+use Rattle.std.proofs.Common.{drop}
+use Rattle.tpl_blocks.specs.Blocks.{block}
+use Rattle.tpl_scratch.specs.Making.{nodes_of}
+use Rattle.tpl_scratch.proofs.Showing.{RowsLeft}
+use Rattle.tpl_scratch.proofs.show.+showing.Given as goal
+
+abbrev pub invariant-show_rows-loop-place : goal.invariant-show_rows-loop-place
+invariant-show_rows-loop-place l =
+    RowsLeft l.known (block l.inner) l.rows (nodes_of l.initial.out) (nodes_of l.out) l.place (drop l.place l.rows.rows)
