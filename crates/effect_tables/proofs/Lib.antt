@@ -5,5 +5,6 @@ mod Adopted
 mod Tabled
 mod Starting
 mod Counting
+mod Kept
 mod Resting
 pub mod Shared

@@ -1,5 +1,5 @@
 -- What makings leave.
-use Rattle.std.proofs.Common.{◌≡◌, ℕ, zero, suc, ◌+◌, ◌<◌, ◌≤◌, ◌==◌, ◌||◌, ◌++◌, Bool, true, false, List, [], ◌∷◌, map, length, Option, Some, None, refl, sym, ap, subst, ◌∙◌, arith, inl, inr}
+use Rattle.std.proofs.Common.{◌≡◌, ℕ, zero, suc, ◌+◌, ◌<◌, ◌==◌, ◌||◌, ◌++◌, Bool, true, false, List, [], ◌∷◌, map, length, Option, Some, None, refl, sym, ap, subst, ◌∙◌, arith, inl, inr}
 use Rattle.std.specs.Prelude.{slice_get}
 use Rattle.std.specs.List.{AllByRecursion}
 use Rattle.std.proofs.lemmas.Bool.{eq-eqb, eqb-true}
@@ -7,7 +7,7 @@ use Rattle.std.proofs.lemmas.Bool.Decides.{nat_tests}
 use Rattle.std.proofs.lemmas.List.{map-append}
 use Rattle.signal_model.specs.Standing.{is_in}
 use Rattle.signal_model.proofs.Shared.{either, or_left, or_right, tested}
-use Rattle.effect_model.specs.Owning.{Thing, the_owner, the_effect, the_page, Owned, nothing, thing, alone, made_inside, put_under, same_thing}
+use Rattle.effect_model.specs.Owning.{Thing, the_owner, the_effect, the_page, Owned, thing, alone, made_inside, put_under, same_thing}
 use Rattle.sig_owner.specs.Tables.{Row, is_open, live_at, thing_at, with_holder}
 use Rattle.sig_owner.specs.Renaming.{renamed, renamed_thing}
 use Rattle.sig_owner.specs.Trees.{has_thing, made_in, owned_of}
@@ -205,8 +205,8 @@ module _ (es : List OwnerEntry) (xs : List Effect) (things : List Thing) (rows l
 
 -- ---- an effect is made
 
-module _ (es : List OwnerEntry) (xs : List Effect) (things : List Thing) (rows later : List Row) (inside outer : Option ℕ) (x : Effect)
-    (m : MakesEffect rows later outer x.id x.row) (h : AreNumbered (rows_in es) things rows) (a : AreAlive es xs rows) (i : IsInside es inside outer) where
+module _ (es : List OwnerEntry) (xs : List Effect) (things : List Thing) (rows later : List Row) (outer : Option ℕ) (x : Effect)
+    (m : MakesEffect rows later outer x.id x.row) (h : AreNumbered (rows_in es) things rows) (a : AreAlive es xs rows) where
   pub effect_numbered : AreNumbered (rows_in es) (things ++ the_effect x.id ∷ []) later
   effect_numbered = record {
     named =
@@ -248,7 +248,18 @@ module _ (es : List OwnerEntry) (xs : List Effect) (things : List Thing) (rows l
     pages = λ k l. ap (has_thing (the_page k)) m.tree ∙ has_made (the_page k) (the_effect x.id) rows outer (owned_of rows) refl (f.pages k l);
   }
 
-  pub effect_tree : renamed (number_in (rows_in es)) (owned_of later) ≡ made_inside inside (the_effect x.id) (renamed (number_in (rows_in es)) (owned_of rows))
-  effect_tree =
+  -- inside an owner, else at the top
+  pub effect_tree : (inside : Option ℕ) → IsInside es inside outer →
+      renamed (number_in (rows_in es)) (owned_of later) ≡ made_inside inside (the_effect x.id) (renamed (number_in (rows_in es)) (owned_of rows))
+  effect_tree inside i =
       let g : ℕ → ℕ = number_in (rows_in es) in
       ap (renamed g) m.tree ∙ tree_made g (number_apart (rows_in es)) rows inside outer (the_effect x.id) (owned_of rows) (inside_stands g es xs things rows inside outer i h a (λ k q. refl))
+
+  -- under an effect
+  pub child_tree : (e r : ℕ) → outer ≡ Some r → thing_at rows r ≡ the_effect e →
+      renamed (number_in (rows_in es)) (owned_of later) ≡ put_under (the_effect e) (alone (the_effect x.id)) (renamed (number_in (rows_in es)) (owned_of rows))
+  child_tree e r is stands =
+      let g : ℕ → ℕ = number_in (rows_in es) in
+      ap (renamed g) m.tree ∙ ap (λ o. renamed g (made_in rows o (the_effect x.id) (owned_of rows))) is
+      ∙ renamed_put g (number_apart (rows_in es)) (thing_at rows r) (alone (the_effect x.id)) (owned_of rows)
+      ∙ ap (λ t. put_under (renamed_thing g t) (alone (the_effect x.id)) (renamed g (owned_of rows))) stands

@@ -1,11 +1,12 @@
 -- The tables before anything was made.
-use Rattle.std.proofs.Common.{◌≡◌, List, [], map, length, refl, sym, ap, subst, ◌∙◌}
-use Rattle.effect_model.specs.Owning.{Owned, nothing, the_effect, the_owner, the_page}
+use Rattle.std.proofs.Common.{◌≡◌, [], map, length, refl, sym, ap, subst, ◌∙◌}
+use Rattle.std.specs.List.{AllByRecursion}
+use Rattle.effect_model.specs.Owning.{nothing, the_effect, the_owner, the_page}
 use Rattle.effect_model.specs.Worlds.{World}
 use Rattle.sig_owner.specs.Renaming.{renamed}
-use Rattle.sig_owner.specs.Tables.{Row}
 use Rattle.sig_owner.specs.Trees.{has_thing, owned_of}
 use Rattle.effect_tables.specs.declared.tables.Tables.{Tables}
+use Rattle.effect_tables.specs.Fitting.{IsFitted}
 use Rattle.effect_tables.specs.Holding.{AreAlive, AreFresh, AreNumbered, Holds}
 use Rattle.effect_tables.specs.Linking.{thing_of}
 use Rattle.effect_tables.specs.Looking.{named_count}
@@ -42,4 +43,5 @@ bare_holds t b =
       alive = subst (λ x. x) (λ i. AreAlive (sym b.owners i) (sym b.effects i) (sym b.store i)) (record { owners = tt; effects = tt });
       fresh = record { effects = λ n l. ap (has_thing (the_effect n)) b.tree; pages = λ n l. ap (has_thing (the_page n)) b.tree };
       named = b.named ∙ sym (ap named_count b.effects);
+      fitting = subst (AllByRecursion IsFitted) (sym b.effects) tt;
     }

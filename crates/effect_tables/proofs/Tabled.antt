@@ -1,31 +1,34 @@
 -- The tables after each making.
-use Rattle.std.proofs.Common.{◌≡◌, ℕ, suc, ◌+◌, ◌≤◌, ◌==◌, ◌++◌, true, false, cond, List, [], ◌∷◌, map, length, Option, Some, None, refl, sym, ap, subst, ◌∙◌, arith, inl, inr}
+use Rattle.std.proofs.Common.{◌≡◌, ℕ, ◌+◌, ◌≤◌, ◌==◌, ◌++◌, true, false, List, [], ◌∷◌, map, length, Option, Some, None, refl, sym, ap, subst, ◌∙◌, arith, inl, inr}
 use Rattle.std.proofs.lemmas.Bool.{eqb-true}
 use Rattle.signal_model.proofs.Shared.{tested}
 use Rattle.std.proofs.lemmas.Bool.Decides.{nat_tests}
 use Rattle.std.proofs.lemmas.List.{map-append}
-use Rattle.std.specs.Rc.{rc_value}
-use Rattle.effect_model.specs.Owning.{the_effect, the_owner, the_page, the_signal, made_inside}
+use Rattle.std.specs.List.{AllByRecursion}
+use Rattle.effect_model.specs.Bodies.{Body}
+use Rattle.effect_model.specs.Owning.{the_effect, the_owner, the_page, the_signal, alone, made_inside, put_under}
 use Rattle.effect_model.specs.Commands.{with_new_effect, with_new_owner, with_new_page}
 use Rattle.effect_model.specs.Worlds.{World}
 use Rattle.sig_owner.specs.Renaming.{renamed}
+use Rattle.sig_owner.specs.Tables.{thing_at}
 use Rattle.sig_owner.specs.Trees.{has_thing, owned_of}
 use Rattle.effect_tables.specs.declared.effect.Effect.{Effect}
 use Rattle.effect_tables.specs.declared.effect.Script.{Script}
 use Rattle.effect_tables.specs.declared.tables.OwnerEntry.{OwnerEntry}
 use Rattle.effect_tables.specs.declared.tables.Tables.{Tables}
-use Rattle.effect_tables.specs.declared.thing.Thing.{Thing}
 use Rattle.effect_tables.specs.declared.thing.Thing.TheVariants as a
-use Rattle.effect_tables.specs.Adopting.{Adopts, MakesEffect, MakesOwner, adopted}
+use Rattle.effect_tables.specs.Adopting.{Adopts, MakesEffect, MakesOwner, adopted, with_child}
+use Rattle.effect_tables.specs.Fitting.{IsFitted}
 use Rattle.effect_tables.specs.Holding.{AreAlive, AreFresh, AreNumbered, Holds, LeavesOut}
 use Rattle.effect_tables.specs.Linking.{body_of, thing_of}
-use Rattle.effect_tables.specs.Looking.{IsInside, is_named, named_count}
+use Rattle.effect_tables.specs.Looking.{IsInside, named_count}
 use Rattle.effect_tables.specs.Numbering.{living, number_in, rows_in}
 use Rattle.effect_tables.specs.Placed.{at_rest, effect_of, listed, placed, tree_of}
 use Rattle.effect_tables.proofs.Adopted.{adopted_alive, adopted_fresh, adopted_numbered, adopted_tree, has_in}
 use Rattle.effect_tables.proofs.Counting.{named_more}
-use Rattle.effect_tables.proofs.Making.{effect_alive, effect_fresh, effect_numbered, effect_tree, has_made, inside_stands, owner_alive, owner_fresh, owner_living, owner_numbered, owner_tree}
+use Rattle.effect_tables.proofs.Making.{child_tree, effect_alive, effect_fresh, effect_numbered, effect_tree, has_made, inside_stands, owner_alive, owner_fresh, owner_living, owner_numbered, owner_tree}
 use Rattle.effect_tables.proofs.Numbers.{number_apart}
+use Rattle.effect_tables.proofs.Rows.{all_behind}
 
 one_more : {A : Type 0} (xs : List A) (x : A) → length (xs ++ x ∷ []) ≡ length xs + 1
 one_more [] x = omega arith
@@ -70,6 +73,7 @@ owner_holds t u inside outer n k m i h =
       fresh = subst (λ x. x) (λ j. AreFresh (sym m.effects_made j) (sym m.pages_made j) u.store)
           (owner_fresh t.owners.items t.effects.items (map thing_of t.things.items) t.store u.store inside outer n m.made h.numbered h.alive i t.effects_made t.pages_made h.fresh);
       named = m.named ∙ h.named ∙ sym (λ j. named_count (m.effects j).items);
+      fitting = subst (λ x. x) (λ j. AllByRecursion IsFitted (sym m.effects j).items) h.fitting;
     }
 
 pub owner_leaves : (t u : Tables) (outer : Option ℕ) (n : ℕ) → MakesOwner t.store u.store outer n → LeavesOut None t.store u.store
@@ -85,37 +89,57 @@ pub record HasEffect (t u : Tables) (outer : Option ℕ) (x : Effect) : Type 0 w
   pub effects : u.effects.items ≡ t.effects.items ++ x ∷ []
   pub owners : u.owners ≡ t.owners
   pub pages : u.pages ≡ t.pages
-  pub alone : is_named x.path.items ≡ true
-  pub named : u.named ≡ t.named + 1
+  pub named : u.named ≡ t.named + named_count (x ∷ [])
+  pub fits : IsFitted x
   pub effects_made : u.effects_made ≡ t.effects_made + 1
   pub pages_made : u.pages_made ≡ t.pages_made
 
-pub effect_holds : (t u : Tables) (inside outer : Option ℕ) (x : Effect) → HasEffect t u outer x → IsInside t.owners.items inside outer → Holds t → Holds u
-effect_holds t u inside outer x m i h =
+pub effect_holds : (t u : Tables) (outer : Option ℕ) (x : Effect) → HasEffect t u outer x → Holds t → Holds u
+effect_holds t u outer x m h =
     let things : map thing_of u.things.items ≡ map thing_of t.things.items ++ the_effect x.id ∷ [] = ap (map thing_of) m.things ∙ map-append thing_of t.things.items (a.Effect x.id ∷ []) in
     let es : List OwnerEntry = t.owners.items in
     let next : x.id + 1 ≡ u.effects_made = ap (λ k. k + 1) m.number ∙ sym m.effects_made in
     record {
       numbered = subst (λ x. x) (λ j. AreNumbered (rows_in (sym m.owners j).items) (sym things j) u.store)
-          (effect_numbered es t.effects.items (map thing_of t.things.items) t.store u.store inside outer x m.made h.numbered h.alive i);
+          (effect_numbered es t.effects.items (map thing_of t.things.items) t.store u.store outer x m.made h.numbered h.alive);
       alive = subst (λ x. x) (λ j. AreAlive (sym m.owners j).items (sym m.effects j) u.store)
-          (effect_alive es t.effects.items (map thing_of t.things.items) t.store u.store inside outer x m.made h.numbered h.alive i);
+          (effect_alive es t.effects.items (map thing_of t.things.items) t.store u.store outer x m.made h.numbered h.alive);
       fresh = subst (λ x. x) (λ j. AreFresh (next j) (sym m.pages_made j) u.store)
-          (effect_fresh es t.effects.items (map thing_of t.things.items) t.store u.store inside outer x m.made h.numbered h.alive i t.pages_made
+          (effect_fresh es t.effects.items (map thing_of t.things.items) t.store u.store outer x m.made h.numbered h.alive t.pages_made
           (subst (λ k. AreFresh k t.pages_made t.store) (sym m.number) h.fresh));
-      named = m.named ∙ ap (λ k. k + 1) h.named ∙ sym (ap named_count m.effects ∙ named_more t.effects.items x ∙ ap (λ b. named_count t.effects.items + (cond b 1 0 + 0)) m.alone);
+      named = m.named ∙ ap (λ k. k + named_count (x ∷ [])) h.named ∙ sym (ap named_count m.effects ∙ named_more t.effects.items x);
+      fitting = subst (AllByRecursion IsFitted) (sym m.effects) (all_behind IsFitted t.effects.items x h.fitting m.fits);
     }
+
+-- the effects with one more
+effects_more : (t u : Tables) (outer : Option ℕ) (x : Effect) (b : Body) → HasEffect t u outer x → effect_of x ≡ record { number = t.effects_made; body = b; kept = None } →
+    map effect_of u.effects.items ≡ map effect_of t.effects.items ++ record { number = t.effects_made; body = b; kept = None } ∷ []
+effects_more t u outer x b m is = ap (map effect_of) m.effects ∙ map-append effect_of t.effects.items (x ∷ []) ∙ ap (λ y. map effect_of t.effects.items ++ y ∷ []) is
 
 pub effect_does : (t u : Tables) (inside outer : Option ℕ) (x : Effect) (s : Script) → HasEffect t u outer x → effect_of x ≡ record { number = t.effects_made; body = body_of t.effects_made s []; kept = None } →
     IsInside t.owners.items inside outer → Holds t → (w : World) → placed u w ≡ with_new_effect (body_of t.effects_made s []) inside (placed t w)
 effect_does t u inside outer x s m is i h w =
     λ j. record w {
       owners = living 0 (m.owners j).items;
-      effects = (ap (map effect_of) m.effects ∙ map-append effect_of t.effects.items (x ∷ []) ∙ ap (λ y. map effect_of t.effects.items ++ y ∷ []) is) j;
+      effects = effects_more t u outer x (body_of t.effects_made s []) m is j;
       pages = (m.pages j).items;
       owned = ((λ l. renamed (number_in (rows_in (m.owners l).items)) (owned_of u.store))
-          ∙ effect_tree t.owners.items t.effects.items (map thing_of t.things.items) t.store u.store inside outer x m.made h.numbered h.alive i
+          ∙ effect_tree t.owners.items t.effects.items (map thing_of t.things.items) t.store u.store outer x m.made h.numbered h.alive inside i
           ∙ ap (λ k. made_inside inside (the_effect k) (tree_of t)) m.number) j;
+      made = record (w.made) { owners = length (m.owners j).items; effects = m.effects_made j; pages = m.pages_made j };
+    }
+
+-- a child of an effect
+pub child_does : (t u : Tables) (e r : ℕ) (x : Effect) (b : Body) → HasEffect t u (Some r) x → effect_of x ≡ record { number = t.effects_made; body = b; kept = None } →
+    thing_at t.store r ≡ the_effect e → Holds t → (w : World) → placed u w ≡ with_child e b (placed t w)
+child_does t u e r x b m is stands h w =
+    λ j. record w {
+      owners = living 0 (m.owners j).items;
+      effects = effects_more t u (Some r) x b m is j;
+      pages = (m.pages j).items;
+      owned = ((λ l. renamed (number_in (rows_in (m.owners l).items)) (owned_of u.store))
+          ∙ child_tree t.owners.items t.effects.items (map thing_of t.things.items) t.store u.store (Some r) x m.made h.numbered h.alive e r refl stands
+          ∙ ap (λ k. put_under (the_effect e) (alone (the_effect k)) (tree_of t)) m.number) j;
       made = record (w.made) { owners = length (m.owners j).items; effects = m.effects_made j; pages = m.pages_made j };
     }
 
@@ -145,6 +169,7 @@ page_holds t u outer n m h = record {
   fresh = subst (λ x. x) (λ j. AreFresh (sym m.effects_made j) (sym m.pages_made j) u.store)
       (adopted_fresh t.store u.store outer (the_page n) m.adopts t.effects_made t.pages_made (t.pages_made + 1) (λ k. refl) (λ k l. beyond k l) h.fresh);
   named = m.named ∙ h.named ∙ sym (λ j. named_count (m.effects j).items);
+  fitting = subst (λ x. x) (λ j. AllByRecursion IsFitted (sym m.effects j).items) h.fitting;
 }
   where
     beyond : (k : ℕ) → t.pages_made + 1 ≤ k → (t.pages_made ≤ k) × ((k == n) ≡ false)
@@ -178,6 +203,7 @@ module _ (t u : Tables) (outer : Option ℕ) (n : ℕ) (m : Adopts t.store u.sto
     alive = adopted_alive t.store u.store outer (the_signal n) m t.owners.items t.effects.items h.alive;
     fresh = adopted_fresh t.store u.store outer (the_signal n) m t.effects_made t.pages_made t.pages_made (λ k. refl) (λ k l. (l, refl)) h.fresh;
     named = h.named;
+    fitting = h.fitting;
   })
 
   pub signal_does : (inside : Option ℕ) → IsInside t.owners.items inside outer → Holds t → (w : World) → at_rest (placed u w) ≡ at_rest (adopted n inside (placed t w))

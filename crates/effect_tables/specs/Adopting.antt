@@ -1,6 +1,8 @@
 -- What is put under an owner.
-use Rattle.std.specs.Prelude.{◌≡◌, ℕ, List, length, Option, Some, None}
+use Rattle.std.specs.Prelude.{◌≡◌, ℕ, true, List, length, Option, Some, None}
 use Rattle.effect_model.specs.Owning.{Thing, the_owner, the_effect, the_signal, Owned, alone, made_inside, put_under}
+use Rattle.effect_model.specs.Bodies.{Body}
+use Rattle.effect_model.specs.Running.{with_effect}
 use Rattle.effect_model.specs.Worlds.{World}
 use Rattle.sig_owner.specs.Tables.{Row, live_at, thing_at, with_holder}
 use Rattle.sig_owner.specs.Trees.{made_in, owned_of}
@@ -34,3 +36,14 @@ pub record MakesEffect (rows later : List Row) (outer : Option ℕ) (e n : ℕ) 
   pub after : later ≡ with_holder rows outer (the_effect e)
   pub tree : owned_of later ≡ made_in rows outer (the_effect e) (owned_of rows)
   pub gives : n ≡ length rows
+
+-- this row is that of an effect that lives
+pub record IsRowOf (rows : List Row) (e r : ℕ) : Type 0 where
+  pub lives : live_at rows r ≡ true
+  pub thing : thing_at rows r ≡ the_effect e
+
+-- a child of an effect is made, the last under it
+abbrev pub with_child : ℕ → Body → World → World
+with_child e b w =
+    with_effect (record { number = w.made.effects; body = b; kept = None })
+    (record w { owned = put_under (the_effect e) (alone (the_effect w.made.effects)) w.owned })

@@ -1,5 +1,5 @@
 -- What holds of the tables between calls.
-use Rattle.std.specs.Prelude.{◌≡◌, ℕ, ◌<◌, ◌≤◌, Bool, true, false, List, [], ◌∷◌, map, length, Option, Some}
+use Rattle.std.specs.Prelude.{◌≡◌, ℕ, ◌<◌, ◌≤◌, true, false, List, [], ◌∷◌, map, length, Option, Some}
 use Rattle.std.specs.List.{AllByRecursion}
 use Rattle.signal_model.specs.Standing.{is_in}
 use Rattle.effect_model.specs.Owning.{Thing, the_signal, the_owner, the_effect, the_page}
@@ -9,6 +9,7 @@ use Rattle.sig_owner.specs.Renaming.{renamed_thing}
 use Rattle.effect_tables.specs.declared.effect.Effect.{Effect}
 use Rattle.effect_tables.specs.declared.tables.OwnerEntry.{OwnerEntry}
 use Rattle.effect_tables.specs.declared.tables.Tables.{Tables}
+use Rattle.effect_tables.specs.Fitting.{IsFitted}
 use Rattle.effect_tables.specs.Linking.{thing_of}
 use Rattle.effect_tables.specs.Looking.{named_count}
 use Rattle.effect_tables.specs.Numbering.{number_in, rows_in}
@@ -64,6 +65,7 @@ pub record Holds (t : Tables) : Type 0 where
   pub alive : AreAlive t.owners.items t.effects.items t.store
   pub fresh : AreFresh t.effects_made t.pages_made t.store
   pub named : t.named ≡ named_count t.effects.items
+  pub fitting : AllByRecursion IsFitted t.effects.items
 
 -- Of signals this one alone, if any, may stand somewhere where it stood nowhere before.
 pub record LeavesOut (one : Option ℕ) (rows later : List Row) : Type 0 where

@@ -1,4 +1,6 @@
 pub mod Linking
+pub mod Fitting
+pub mod Keeping
 pub mod Numbering
 pub mod Placed
 pub mod Holding

@@ -1,9 +1,8 @@
 -- What the places of a body stand for, and the plain body that they make of it.
 use Rattle.std.specs.Prelude.{ℕ, zero, suc, List, [], ◌∷◌, map, slice_get, Option, Some, None}
-use Rattle.signal_model.specs.Recipes.{Expression, formula, host, Recipe}
+use Rattle.signal_model.specs.Recipes.{Expression, formula, host}
 use Rattle.effect_model.specs.Owning as things
 use Rattle.effect_model.specs.Bodies as plain
-use Rattle.sig_owner.specs.declared.thing.CleanupAct.{CleanupAct}
 use Rattle.sig_owner.specs.Tables.{cleanup_of}
 use Rattle.sig_untrack.specs.Linking.{Parts, Rewired, linked}
 use Rattle.sig_untrack.specs.Stated as stated

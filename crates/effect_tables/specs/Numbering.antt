@@ -1,5 +1,5 @@
 -- Owners by their own numbers.
-use Rattle.std.specs.Prelude.{ℕ, zero, suc, ◌==◌, Bool, true, false, List, [], ◌∷◌, map, slice_get, Option, Some, None, if◌then◌else◌}
+use Rattle.std.specs.Prelude.{ℕ, suc, ◌==◌, Bool, false, List, [], ◌∷◌, map, slice_get, Option, Some, None, if◌then◌else◌}
 use Rattle.effect_tables.specs.declared.tables.OwnerEntry.{OwnerEntry}
 
 -- The place of a number in a list; past the list's places what isn't in it, each number at another one.

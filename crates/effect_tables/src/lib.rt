@@ -3,13 +3,14 @@
 #![tactic(auto)]
 
 mod effect;
+mod keeping;
 mod links;
 mod looks;
 mod makings;
 mod tables;
 mod thing;
 
-pub use effect::{Effect, Script};
+pub use effect::{Effect, MOST_STATEMENTS, Script, Site};
 pub use links::{Links, Slots, Target};
 pub use looks::live_row;
 pub use tables::{MOST_EFFECTS, OwnerEntry, Tables};

@@ -1,14 +1,17 @@
 // Owners, effects and pages are made.
-ghost use Rattle.std.specs.Prelude.{◌≡◌, ◌+◌, ◌<◌, ◌≤◌, ◌^◌, ◌↔◌, ◌⊎◌, ◌∷◌, true, false, [], length, None, Some, IfOk, IfErr, IsErrOf, OnErr, OnOk};
+ghost use Rattle.std.specs.Prelude.{◌≡◌, ◌+◌, ◌<◌, ◌≤◌, ◌^◌, ◌⊎◌, ◌++◌, ◌∷◌, true, false, [], length, None, Some, IfOk, IfErr, IsErrOf, OnErr, OnOk};
+ghost use Rattle.std.specs.Rc.{rc_value};
 ghost use Rattle.effect_model.specs.Commands.{with_new_effect, with_new_owner, with_new_page};
 ghost use Rattle.effect_model.specs.Worlds.{World};
 ghost use Rattle.sig_base.specs.declared.limits.TheConstants.{MOST_PAGES};
 ghost use Rattle.sig_owner.specs.Tables as rows;
+ghost use Rattle.sig_owner.specs.Tables.{live_at};
 ghost use Rattle.sig_owner.specs.Trees.{has_thing, owned_of};
 ghost use Rattle.sig_owner.specs.declared.errors.OwnFault.TheVariants as fault;
 ghost use Rattle.sig_owner.specs.declared.limits.TheConstants.{MOST_OWNERS};
 ghost use Rattle.effect_tables.specs.declared.tables.TheConstants.{MOST_EFFECTS};
-ghost use Rattle.effect_tables.specs.Adopting.{adopted, Adopts, MakesEffect, MakesOwner};
+ghost use Rattle.effect_tables.specs.Adopting.{adopted, with_child, Adopts, IsRowOf, MakesEffect, MakesOwner};
+ghost use Rattle.effect_tables.specs.Fitting.{IsFitting};
 ghost use Rattle.effect_tables.specs.Holding.{Holds, LeavesOut};
 ghost use Rattle.effect_tables.specs.Linking.{body_of};
 ghost use Rattle.effect_tables.specs.Looking.{named_count};
@@ -16,11 +19,11 @@ ghost use Rattle.effect_model.specs.Owning.{the_effect, the_signal};
 ghost use Rattle.effect_tables.specs.Numbering.{living};
 ghost use Rattle.effect_tables.specs.Placed.{at_rest, is_open, placed};
 
-use crate::effect::{Effect, Script};
+use crate::effect::{Effect, Script, Site};
 use crate::looks::{is_open, row_inside};
 use crate::tables::{MOST_EFFECTS, OwnerEntry, Tables};
 use crate::thing::Thing;
-use sig_base::{EffectId, MOST_PAGES, NodeId, OwnerId, PageId};
+use sig_base::{EffectId, MOST_PAGES, NoMemory, NodeId, OwnerId, PageId};
 use sig_owner::{OwnFault, Owners, Thing as Stored};
 use std::alloc::Global;
 
@@ -51,6 +54,18 @@ fn make_for_in(
     match store.make_for(effect, outer) {
         Ok(row) => Ok(row),
         Err(_) => Err(OwnFault::NoMemory),
+    }
+}
+
+// Makes an owner for a child in the store, in a row that lives.
+fn child_row(store: &mut Owners, effect: EffectId, outer: OwnerId) -> Result<OwnerId, NoMemory>
+    requires lives { live_at store.old outer ≡ true }
+    requires lone { has_thing (the_effect effect) (owned_of store.old) ≡ false }
+    ensures { IfOk result (λ row. MakesEffect store.old store.new (Some outer) effect row) }
+{
+    match store.make_for(effect, Some(outer)) {
+        Ok(row) => Ok(row),
+        Err(_) => Err(NoMemory),
     }
 }
 
@@ -121,6 +136,7 @@ impl Tables {
     ) -> Result<EffectId, OwnFault>
         requires holds { Holds self.old }
         requires counted { self.old.effects_made + 1 < 2 ^ 128 }
+        requires fits { IsFitting script }
         ensures id { IfOk result (λ id. id ≡ self.old.effects_made) }
         ensures does { (w : World) → OnOk result
             (placed self.new w ≡ with_new_effect (body_of self.old.effects_made script []) inside (placed self.old w)) }
@@ -143,6 +159,40 @@ impl Tables {
         self.things.push(Thing::Effect(id))?;
         self.effects.push(effect)?;
         self.named += 1;
+        self.effects_made += 1;
+        Ok(id)
+    }
+
+    /// Makes a child of an effect that lives in this row and whose body stands there: the nested effect at a place of that body. It stands
+    /// last under its parent, and has not run. Its id is the number of effects that were made before.
+    ///
+    /// # Errors
+    ///
+    /// After `NoMemory` the tables may only be dropped.
+    pub fn make_child(
+        &mut self,
+        alloc: Global,
+        parent: EffectId,
+        row: OwnerId,
+        site: &Site,
+        place: usize,
+    ) -> Result<EffectId, NoMemory>
+        requires holds { Holds self.old }
+        requires counted { self.old.effects_made + 1 < 2 ^ 128 }
+        requires stands { IsRowOf self.old.store parent row }
+        requires fits { IsFitting (rc_value site.now.script) }
+        ensures id { IfOk result (λ id. id ≡ self.old.effects_made) }
+        ensures does { (w : World) → OnOk result (placed self.new w
+            ≡ with_child parent (body_of site.now.origin (rc_value site.now.script) (site.now.path.items ++ place ∷ [])) (placed self.old w)) }
+        ensures holds { OnOk result (Holds self.new) }
+        ensures signals { OnOk result (LeavesOut None self.old.store self.new.store) }
+        ensures made { OnOk result (self.new.effects_made ≡ self.old.effects_made + 1) }
+    {
+        let id = EffectId::of(self.effects_made);
+        let own_row = child_row(&mut self.store, id, row)?;
+        let effect = Effect::child(alloc, id, own_row, site, place)?;
+        self.things.push(Thing::Effect(id))?;
+        self.effects.push(effect)?;
         self.effects_made += 1;
         Ok(id)
     }

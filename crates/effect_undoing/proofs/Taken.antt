@@ -14,6 +14,7 @@ use Rattle.sig_owner.proofs.Shared.{dropped_lives, dropped_thing, has_emptied, r
 use Rattle.effect_tables.specs.declared.effect.Effect.{Effect}
 use Rattle.effect_tables.specs.declared.tables.OwnerEntry.{OwnerEntry}
 use Rattle.effect_tables.specs.declared.tables.Tables.{Tables}
+use Rattle.effect_tables.specs.Fitting.{IsFitted}
 use Rattle.effect_tables.specs.Holding.{AreAlive, AreFresh, AreNumbered, Holds, IsEffect, IsKnown, IsOwner, names_of}
 use Rattle.effect_tables.specs.Linking.{thing_of}
 use Rattle.effect_tables.specs.Numbering.{living, number_in, rows_in}
@@ -171,6 +172,7 @@ module _ (t u : Tables) (later : List Row) (sus us : List Undoing) (left : Owned
     fresh = subst (λ y. y) (λ i. AreFresh (sym x.effects_made i) (sym x.pages_made i) (sym x.store i))
         (record { effects = λ n l. e.nowhere (the_effect n) (h.fresh.effects n l); pages = λ n l. e.nowhere (the_page n) (h.fresh.pages n l) });
     named = x.named;
+    fitting = subst (AllByRecursion IsFitted) (sym x.effects) (effects_all_after IsFitted us t.effects.items h.fitting);
   }
 
   pub taken : (now : Owned) → renamed (numbering t) left ≡ now → AreFormed now → Takes t u us now
@@ -189,6 +191,7 @@ module _ (t u : Tables) (later : List Row) (sus us : List Undoing) (left : Owned
     holds = holds_now;
     formed = f;
     signals = record { still = λ n off q. ap (λ rs. has_thing (the_signal n) (owned_of rs)) x.store ∙ e.nowhere (the_signal n) q };
+    made = x.effects_made;
   }
 
 -- ---- what was taken back, and what was taken out
@@ -265,6 +268,7 @@ watcher_away t n h f = record {
     holds = h;
     formed = record { formed = formed_out (the_owner 0) (the_watcher n) (tree_of t) f.formed };
     signals = record { still = λ k off q. q };
+    made = refl;
   };
   cleanups = (tt, tt);
 }

@@ -39,6 +39,7 @@ pub record Takes (old new : Tables) (us : List Undoing) (left : Owned) : Type 0 
   pub holds : Holds new
   pub formed : AreFormed left
   pub signals : LeavesOut None old.store new.store
+  pub made : new.effects_made ≡ old.effects_made
 
 -- What stood under a thing was taken back. Each cleanup is that of an effect.
 pub record TakesBack (old new : Tables) (t : Thing) (us : List Undoing) : Type 0 where

@@ -1,5 +1,5 @@
 // Steps of taking back in the store.
-ghost use Rattle.std.specs.Prelude.{◌≡◌, ◌∷◌, [], true, false, IfOk};
+ghost use Rattle.std.specs.Prelude.{◌≡◌, ◌∷◌, [], true, IfOk};
 ghost use Rattle.effect_model.specs.Owning.{disposal_of, emptied, ends, nothing, taken_out, teardown_of, under};
 ghost use Rattle.sig_owner.specs.Tables.{is_holder, live_at, thing_at, thing_of};
 ghost use Rattle.sig_owner.specs.Trees.{owned_of};

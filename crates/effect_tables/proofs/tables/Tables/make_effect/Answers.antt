@@ -1,9 +1,10 @@
-use Rattle.std.proofs.Common.{◌≡◌, ◌++◌, ◌∷◌, [], List, refl, sym, ap, subst, ◌∙◌, arith}
+use Rattle.std.proofs.Common.{◌≡◌, ◌++◌, ◌∷◌, [], List, cond, refl, sym, ap, subst, ◌∙◌}
 use Rattle.std.specs.Prelude.{◌+◌, None}
 use Rattle.effect_tables.specs.declared.tables.OwnerEntry.{OwnerEntry}
 use Rattle.effect_tables.specs.declared.tables.Tables.{Tables}
 use Rattle.effect_tables.specs.declared.thing.Thing.TheVariants as a
 use Rattle.effect_tables.specs.Adopting.{MakesEffect}
+use Rattle.effect_tables.specs.Fitting.{IsFitting}
 use Rattle.effect_tables.specs.Looking.{IsInside}
 use Rattle.effect_tables.specs.Linking.{body_of}
 use Rattle.effect_tables.specs.Placed.{effect_of}
@@ -30,8 +31,8 @@ returns-clause-does c =
       effects = c.in_ok-push-2.ensures.items;
       owners = refl;
       pages = refl;
-      alone = e.alone;
-      named = refl;
+      named = sym (ap (λ b. c.args.self.now.named + (cond b 1 0 + 0)) e.alone);
+      fits = subst IsFitting (sym e.script) c.requires.fits;
       effects_made = refl;
       pages_made = refl;
     })
@@ -51,19 +52,18 @@ returns-clause-holds c =
       pages_made = c.args.self.now.pages_made;
     } in
     let e = c.in_ok-effect.ensures in
-    effect_holds c.args.self.now t c.args.inside c.in_ok-outer.outer c.in_ok-effect.effect (record {
+    effect_holds c.args.self.now t c.in_ok-outer.outer c.in_ok-effect.effect (record {
       made = subst (λ x. x) (λ i. MakesEffect c.args.self.now.store c.make_for_in.new.store c.in_ok-outer.outer (sym e.number i) (sym e.place i)) c.in_ok-row.ensures.made;
       number = e.number ∙ c.of-id.ensures;
       things = c.in_ok-push.ensures.items ∙ ap (λ k. c.args.self.now.things.items ++ a.Effect k ∷ []) (sym e.number);
       effects = c.in_ok-push-2.ensures.items;
       owners = refl;
       pages = refl;
-      alone = e.alone;
-      named = refl;
+      named = sym (ap (λ b. c.args.self.now.named + (cond b 1 0 + 0)) e.alone);
+      fits = subst IsFitting (sym e.script) c.requires.fits;
       effects_made = refl;
       pages_made = refl;
-    })
-    (subst (λ (es : List OwnerEntry). IsInside es c.args.inside c.in_ok-outer.outer) c.deref.ensures.value c.in_ok-outer.ensures.inside) c.requires.holds
+    }) c.requires.holds
 
 pub returns-clause-signals : goal.returns-clause-signals
 returns-clause-signals c =

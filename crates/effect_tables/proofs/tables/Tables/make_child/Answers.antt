@@ -1,0 +1,81 @@
+use Rattle.std.proofs.Common.{◌≡◌, ◌++◌, ◌∷◌, [], refl, sym, ap, subst, ◌∙◌}
+use Rattle.std.specs.Prelude.{◌+◌, None, Some}
+use Rattle.std.specs.Rc.{rc_value}
+use Rattle.effect_tables.specs.declared.tables.Tables.{Tables}
+use Rattle.effect_tables.specs.declared.thing.Thing.TheVariants as a
+use Rattle.effect_tables.specs.Adopting.{MakesEffect}
+use Rattle.effect_tables.specs.Fitting.{IsFitting}
+use Rattle.effect_tables.specs.Linking.{body_of}
+use Rattle.effect_tables.specs.Looking.{is_named}
+use Rattle.effect_tables.specs.Placed.{effect_of}
+use Rattle.effect_tables.proofs.Counting.{as_many}
+use Rattle.effect_tables.proofs.Tabled.{child_does, effect_holds, effect_leaves}
+use Rattle.effect_tables.proofs.tables.Tables.make_child.Goals as goal
+
+pub returns-clause-does : goal.returns-clause-does
+returns-clause-does c =
+    let t : Tables = record {
+      store = c.child_row.new.store;
+      things = c.push.new.self;
+      owners = c.args.self.now.owners;
+      effects = c.push-2.new.self;
+      pages = c.args.self.now.pages;
+      named = c.args.self.now.named;
+      effects_made = c.args.self.now.effects_made + 1;
+      pages_made = c.args.self.now.pages_made;
+    } in
+    let e = c.in_ok-effect.ensures in
+    let b = body_of c.args.site.now.origin (rc_value c.args.site.now.script) (c.args.site.now.path.items ++ c.args.place ∷ []) in
+    child_does c.args.self.now t c.args.parent c.args.row c.in_ok-effect.effect b (record {
+      made = subst (λ x. x) (λ i. MakesEffect c.args.self.now.store c.child_row.new.store (Some c.args.row) (sym e.number i) (sym e.place i)) c.in_ok-own_row.ensures;
+      number = e.number ∙ c.of-id.ensures;
+      things = c.in_ok-push.ensures.items ∙ ap (λ k. c.args.self.now.things.items ++ a.Effect k ∷ []) (sym e.number);
+      effects = c.in_ok-push-2.ensures.items;
+      owners = refl;
+      pages = refl;
+      named = as_many c.args.self.now.named (is_named c.in_ok-effect.effect.path.items) e.deep;
+      fits = subst IsFitting (sym e.script) c.requires.fits;
+      effects_made = refl;
+      pages_made = refl;
+    })
+    (subst (λ k. effect_of c.in_ok-effect.effect ≡ record { number = k; body = b; kept = None }) c.of-id.ensures e.seen) c.requires.stands.thing c.requires.holds
+
+pub returns-clause-holds : goal.returns-clause-holds
+returns-clause-holds c =
+    let t : Tables = record {
+      store = c.child_row.new.store;
+      things = c.push.new.self;
+      owners = c.args.self.now.owners;
+      effects = c.push-2.new.self;
+      pages = c.args.self.now.pages;
+      named = c.args.self.now.named;
+      effects_made = c.args.self.now.effects_made + 1;
+      pages_made = c.args.self.now.pages_made;
+    } in
+    let e = c.in_ok-effect.ensures in
+    effect_holds c.args.self.now t (Some c.args.row) c.in_ok-effect.effect (record {
+      made = subst (λ x. x) (λ i. MakesEffect c.args.self.now.store c.child_row.new.store (Some c.args.row) (sym e.number i) (sym e.place i)) c.in_ok-own_row.ensures;
+      number = e.number ∙ c.of-id.ensures;
+      things = c.in_ok-push.ensures.items ∙ ap (λ k. c.args.self.now.things.items ++ a.Effect k ∷ []) (sym e.number);
+      effects = c.in_ok-push-2.ensures.items;
+      owners = refl;
+      pages = refl;
+      named = as_many c.args.self.now.named (is_named c.in_ok-effect.effect.path.items) e.deep;
+      fits = subst IsFitting (sym e.script) c.requires.fits;
+      effects_made = refl;
+      pages_made = refl;
+    }) c.requires.holds
+
+pub returns-clause-signals : goal.returns-clause-signals
+returns-clause-signals c =
+    let t : Tables = record {
+      store = c.child_row.new.store;
+      things = c.push.new.self;
+      owners = c.args.self.now.owners;
+      effects = c.push-2.new.self;
+      pages = c.args.self.now.pages;
+      named = c.args.self.now.named;
+      effects_made = c.args.self.now.effects_made + 1;
+      pages_made = c.args.self.now.pages_made;
+    } in
+    effect_leaves c.args.self.now t (Some c.args.row) c.of-id.result c.in_ok-own_row.own_row c.in_ok-own_row.ensures
