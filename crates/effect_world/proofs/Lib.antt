@@ -1,4 +1,5 @@
 mod Told
 mod Carrying
 mod Undone
+mod Ended
 pub mod Shared

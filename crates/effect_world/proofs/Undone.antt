@@ -49,7 +49,7 @@ use Rattle.effect_world.proofs.Told.{tells_none, tells_signals}
 pub tells_one : (before : List Event) (ev : Event) (t : plain.Event) → IsTold ev t → Tells before (before ++ ev ∷ []) (t ∷ [])
 tells_one before ev t is = record { more = ev ∷ []; behind = refl; each = (is, tt) }
 
-told_both : (es fs : List Event) (ts us : List plain.Event) → AreTold es ts → AreTold fs us → AreTold (es ++ fs) (ts ++ us)
+pub told_both : (es fs : List Event) (ts us : List plain.Event) → AreTold es ts → AreTold fs us → AreTold (es ++ fs) (ts ++ us)
 told_both [] fs [] us p q = q
 told_both [] fs (t ∷ ts) us p q = absurd p
 told_both (e ∷ es) fs [] us p q = absurd p
@@ -548,11 +548,6 @@ module _ (slacks : List ℕ) (old mid new : World) (asked later : List HostPlace
     owned = owned_after old new (undoings_of us) left (subst (λ (b : Tables). Takes old.tables b (undoings_of us) left) (sym done.tables) takes)
         (done.given ∙ ap (λ (s : Signals). s.graph.given) same) o;
   }
-
--- how many steps there are
-pub length_steps : (us : List AnUndoing) → length us ≡ length (undoings_of us)
-length_steps [] = refl
-length_steps (u ∷ us) = ap suc (length_steps us)
 
 -- an act on signals is done to the world
 pub does_acts : (hosts : Hosts) (asked later : List HostPlace) (old new : World) (before after : List Event) (act : plain.World → plain.World) →

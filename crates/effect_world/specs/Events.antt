@@ -1,8 +1,9 @@
 -- What is told, beside what the plain world tells.
-use Rattle.std.specs.Prelude.{◌≡◌, ℕ, List, [], ◌∷◌, ◌++◌}
+use Rattle.std.specs.Prelude.{◌≡◌, ℕ, List, [], ◌∷◌, ◌++◌, Option, None, option_to_list}
 use Rattle.effect_model.specs.Owning.{the_effect, Cleanup}
 use Rattle.effect_model.specs.Worlds as told
 use Rattle.effect_tables.specs.Linking.{thing_of}
+use Rattle.sig_effect.specs.declared.events.Event.{Event as SignalEvent}
 use Rattle.sig_effect.specs.Events as signals
 use Rattle.effect_world.specs.declared.events.Event.{Event}
 use Rattle.effect_world.specs.declared.events.Event.TheVariants as event
@@ -41,3 +42,9 @@ pub record Tells (before after : List Event) (ts : List told.Event) : Type 0 whe
   pub more : List Event
   pub behind : after ≡ before ++ more
   pub each : AreTold more ts
+
+-- what the signals told, but for the last of it
+pub record IsCut (told rest : List SignalEvent) : Type 0 where
+  pub last : Option SignalEvent
+  pub is : told ≡ rest ++ option_to_list last
+  pub bare : last ≡ None → rest ≡ []

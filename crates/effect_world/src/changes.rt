@@ -100,6 +100,7 @@ impl World {
         ensures watchers { OnOk result (self.new.signals.watchers ≡ self.old.signals.watchers) }
         ensures tables { self.new.tables ≡ self.old.tables }
         ensures stays { OnOk result (Stays self.old.signals self.new.signals) }
+        ensures told { OnOk result (length events.old.items ≤ length events.new.items) }
         ensures there { OnOk result (are_there self.old.signals.graph.state.signals (id ∷ slots.items) ≡ true) }
         ensures gone { IsErrOf result fault.Gone → are_there self.old.signals.graph.state.signals (id ∷ slots.items) ≡ false }
         ensures fault { IfErr result (λ e. (e ≡ fault.Gone) ⊎ (e ≡ fault.NoMemory)) }

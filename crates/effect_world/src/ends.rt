@@ -1,17 +1,17 @@
 // Things end, with all that stands under them.
-ghost use Rattle.std.specs.Prelude.{◌≡◌, ◌+◌, ◌<◌, ◌≤◌, ◌^◌, ◌⊎◌, ℕ, true, false, List, IfErr, IsErrOf, OnOk, length, map};
+ghost use Rattle.std.specs.Prelude.{◌≡◌, ◌+◌, ◌<◌, ◌≤◌, ◌^◌, ◌⊎◌, ℕ, true, false, IfErr, IsErrOf, OnOk, length, map};
 ghost use Rattle.signal_model.specs.Recipes.{Hosts};
 ghost use Rattle.effect_model.specs.Acts as acts;
 ghost use Rattle.effect_model.specs.Acts.{dispose_thing};
-ghost use Rattle.effect_model.specs.Owning.{disposal_of, teardown_of, the_effect, under};
+ghost use Rattle.effect_model.specs.Owning.{the_effect};
 ghost use Rattle.effect_model.specs.Worlds.{lives};
 ghost use Rattle.effect_tables.specs.Linking.{thing_of};
-ghost use Rattle.effect_tables.specs.Placed.{tree_of};
 ghost use Rattle.sig_host.specs.Hosts.{most_asked};
 ghost use Rattle.sig_effect.specs.declared.errors.EffectFault.TheVariants as fault;
 ghost use Rattle.sig_effect.specs.Agreeing.{environment, AreRuled};
 ghost use Rattle.effect_world.specs.Acting.{is_standing};
 ghost use Rattle.effect_world.specs.Agreeing.{Agrees, Does, IsSound};
+ghost use Rattle.effect_world.specs.Weighing.{weight};
 ghost use Rattle.effect_world.specs.Wholes.{whole_of};
 
 use crate::events::Event;
@@ -63,8 +63,8 @@ impl World {
         ensures rules { (count : ℕ) → AreRuled count self.old.signals.graph.state.signals → OnOk result (AreRuled count self.new.signals.graph.state.signals) }
         ensures given { OnOk result (self.new.signals.graph.given ≡ self.old.signals.graph.given) }
         ensures made { OnOk result (self.new.signals.watchers.made ≡ self.old.signals.watchers.made) }
-        ensures worn { OnOk result (self.new.signals.graph.state.worn
-            ≤ self.old.signals.graph.state.worn + length (disposal_of (thing_of thing) (tree_of self.old.tables))) }
+        ensures worn { OnOk result (weight self.new + length events.old.items ≤ weight self.old + length events.new.items) }
+        ensures told { OnOk result (length events.old.items ≤ length events.new.items) }
         ensures there { OnOk result (lives (thing_of thing) (whole_of (⟦<Shelf as Lent>⟧.asked shelf.old) self.old) ≡ true) }
         ensures gone { IsErrOf result fault.Gone → lives (thing_of thing) (whole_of (⟦<Shelf as Lent>⟧.asked shelf.old) self.old) ≡ false }
         ensures fault { IfErr result (λ e. (e ≡ fault.Gone) ⊎ (e ≡ fault.NoMemory)) }
@@ -112,8 +112,8 @@ impl World {
         ensures rules { (count : ℕ) → AreRuled count self.old.signals.graph.state.signals → OnOk result (AreRuled count self.new.signals.graph.state.signals) }
         ensures given { OnOk result (self.new.signals.graph.given ≡ self.old.signals.graph.given) }
         ensures made { OnOk result (self.new.signals.watchers.made ≡ self.old.signals.watchers.made) }
-        ensures worn { OnOk result (self.new.signals.graph.state.worn
-            ≤ self.old.signals.graph.state.worn + length (teardown_of (the_effect id) (under (the_effect id) (tree_of self.old.tables)))) }
+        ensures worn { OnOk result (weight self.new + length events.old.items ≤ weight self.old + length events.new.items) }
+        ensures told { OnOk result (length events.old.items ≤ length events.new.items) }
         ensures there { OnOk result (lives (the_effect id) (whole_of (⟦<Shelf as Lent>⟧.asked shelf.old) self.old) ≡ true) }
         ensures gone { IsErrOf result fault.Gone → lives (the_effect id) (whole_of (⟦<Shelf as Lent>⟧.asked shelf.old) self.old) ≡ false }
         ensures fault { IfErr result (λ e. (e ≡ fault.Gone) ⊎ (e ≡ fault.NoMemory)) }

@@ -7,7 +7,7 @@ use sig_effect::Event as SignalEvent;
 /// What is told on the way.
 #[derive(Debug, Drop)]
 pub enum Event {
-    /// What signals and watchers tell: a run, a notification, the drop of a host formula, the end of a signal or of a watcher.
+    /// What signals and watchers tell: a run, a notification, the drop of a host formula.
     Signals(SignalEvent),
     /// A value is logged.
     Log(Value),
@@ -17,7 +17,7 @@ pub enum Event {
     Fail(EffectId, Fault),
     /// A cleanup of an effect is about to be done.
     Cleanup(EffectId),
-    /// An owner, an effect or a page is gone.
+    /// A thing is gone.
     Gone(Thing),
     /// An act is refused: a thing that it names is gone.
     RefusedGone(Thing),
@@ -27,7 +27,7 @@ pub enum Event {
     Made {
         child: EffectId,
         parent: EffectId,
-        label: u32,
+        label: u64,
     },
     /// A cleanup of an effect is noted.
     Noted(EffectId),

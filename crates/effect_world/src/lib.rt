@@ -12,4 +12,5 @@ mod watching;
 mod world;
 
 pub use events::Event;
+pub use telling::tell_signals;
 pub use world::World;

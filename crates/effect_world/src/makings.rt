@@ -1,5 +1,5 @@
 // Signals, owners, effects and pages are made.
-ghost use Rattle.std.specs.Prelude.{◌≡◌, ◌+◌, ◌<◌, ◌≤◌, ◌^◌, ◌⊎◌, ◌↔◌, ℕ, true, false, [], List, None, Some, IfOk, IfErr, IsErrOf, OnErr, OnOk, length};
+ghost use Rattle.std.specs.Prelude.{◌≡◌, ◌+◌, ◌<◌, ◌≤◌, ◌^◌, ◌⊎◌, ℕ, true, false, [], List, None, Some, IfOk, IfErr, IsErrOf, OnOk, length};
 ghost use Rattle.std.specs.List.{All};
 ghost use Rattle.sig_base.specs.declared.limits.TheConstants.{MOST_NODES, MOST_PAGES};
 ghost use Rattle.signal_model.specs.Recipes.{Hosts};
@@ -7,6 +7,7 @@ ghost use Rattle.signal_model.specs.Changes.{live_count};
 ghost use Rattle.effect_model.specs.Acts.{host_of, host_refused, with_use};
 ghost use Rattle.effect_model.specs.Commands.{with_new_cell, with_new_computed, with_new_effect, with_new_owner, with_new_page};
 ghost use Rattle.effect_tables.specs.declared.tables.TheConstants.{MOST_EFFECTS};
+ghost use Rattle.effect_tables.specs.Fitting.{IsFitting};
 ghost use Rattle.effect_tables.specs.Linking.{body_of};
 ghost use Rattle.effect_tables.specs.Looking.{named_count};
 ghost use Rattle.effect_tables.specs.Numbering.{living};
@@ -159,6 +160,7 @@ impl World {
     ) -> Result<EffectId, OwnFault>
         requires owned { AreOwned self.old }
         requires counted { self.old.tables.effects_made + 1 < 2 ^ 128 }
+        requires fits { IsFitting script }
         ensures id { IfOk result (λ id. id ≡ self.old.tables.effects_made) }
         ensures does { (hosts : Hosts) (asked : List HostPlace) → IsSound hosts asked self.old →
             OnOk result (Does hosts asked asked self.old self.new [] [] (with_new_effect (body_of self.old.tables.effects_made script []) inside)) }

@@ -7,7 +7,11 @@ use sig_base::NoMemory;
 use sig_effect::Event as SignalEvent;
 
 /// Puts what signals tell behind the other events, in order.
-pub(crate) fn tell_signals(events: &mut Vec<Event>, told: Vec<SignalEvent>) -> Result<(), NoMemory>
+///
+/// # Errors
+///
+/// After `NoMemory` the events may only be dropped.
+pub fn tell_signals(events: &mut Vec<Event>, told: Vec<SignalEvent>) -> Result<(), NoMemory>
     ensures { OnOk result (events.new.items ≡ events.old.items ++ map event.Signals told.items) }
 {
     for one in told {

@@ -1,7 +1,6 @@
 // Steps of teardowns are done.
-ghost use Rattle.std.specs.Prelude.{◌≡◌, ◌+◌, ◌++◌, ◌∷◌, [], ◌<◌, ◌^◌, ℕ, true, false, List, OnOk, length, map};
+ghost use Rattle.std.specs.Prelude.{◌≡◌, ◌+◌, ◌++◌, ◌∷◌, [], ◌<◌, ◌≤◌, ◌^◌, ℕ, true, false, List, OnOk, length, map};
 ghost use Rattle.std.specs.List.{AllByRecursion};
-ghost use Rattle.signal_model.specs.Recipes.{Hosts};
 ghost use Rattle.signal_model.specs.Standing.{is_there, standing};
 ghost use Rattle.effect_model.specs.Acts.{set_cell, undo, undo_all};
 ghost use Rattle.effect_model.specs.Owning.{cleans, ends, the_effect, the_signal, the_watcher};
@@ -18,13 +17,14 @@ ghost use Rattle.sig_effect.specs.Events.{thing_of};
 ghost use Rattle.sig_effect.specs.Wholes as signals;
 ghost use Rattle.effect_world.specs.declared.events.Event.TheVariants as event;
 ghost use Rattle.effect_world.specs.Acting.{any_hosts, scene, IsNoted, Undoes};
+ghost use Rattle.effect_world.specs.Events.{IsCut};
 
 use crate::events::Event;
 use crate::telling::tell_signals;
 use crate::world::World;
 use effect_tables::{Thing, Undoing};
 use sig_base::{EffectId, NoMemory, NodeId, Value, WatcherId};
-use sig_effect::Thing as SignalThing;
+use sig_effect::{Event as SignalEvent, Thing as SignalThing};
 use sig_host::{EqualsRule, Lent, Shelf};
 use sig_nodes::Standing;
 use sig_owner::CleanupAct;
@@ -35,6 +35,24 @@ fn tell_gone(events: &mut Vec<Event>, thing: Thing) -> Result<(), NoMemory>
 {
     events.push(Event::Gone(thing))?;
     Ok(())
+}
+
+// A thing of the signals among the other things.
+fn thing_in(thing: &SignalThing) -> Thing
+    ensures { tables.thing_of result ≡ thing_of thing.now }
+{
+    match thing {
+        SignalThing::Signal(id) => Thing::Signal(*id),
+        SignalThing::Watcher(id) => Thing::Watcher(*id),
+    }
+}
+
+// What the signals told of an end, but for the end itself, which comes last.
+fn before_end(mut told: Vec<SignalEvent>) -> Vec<SignalEvent>
+    ensures { IsCut told.items result.items }
+{
+    let _end = told.pop();
+    told
 }
 
 // The effect that a thing is.
@@ -74,9 +92,10 @@ impl World {
     ) -> Result<(), NoMemory>
         requires ruled { AreRuled (length rules.now) self.old.signals.graph.state.signals }
         requires worn { self.old.signals.graph.state.worn < 2 ^ 127 }
-        ensures { (asked : List HostPlace) → below.Agrees asked self.old.signals → OnOk result (Undoes (map (λ r. r.slack) rules.now)
+        ensures done { (asked : List HostPlace) → below.Agrees asked self.old.signals → OnOk result (Undoes (map (λ r. r.slack) rules.now)
             (scene self.old asked events.old.items) (scene self.new asked events.new.items) any_hosts any_hosts 1
             (λ env. set_cell env id value)) }
+        ensures told { OnOk result (length events.old.items ≤ length events.new.items) }
     {
         match self.signals.graph.standing(id) {
             Standing::Gone => {
@@ -103,9 +122,10 @@ impl World {
         requires kind { is_cell (standing self.old.signals.graph.state.signals id) ≡ true }
         requires ruled { AreRuled (length rules.now) self.old.signals.graph.state.signals }
         requires worn { self.old.signals.graph.state.worn < 2 ^ 127 }
-        ensures { (asked : List HostPlace) → below.Agrees asked self.old.signals → OnOk result (Undoes (map (λ r. r.slack) rules.now)
+        ensures done { (asked : List HostPlace) → below.Agrees asked self.old.signals → OnOk result (Undoes (map (λ r. r.slack) rules.now)
             (scene self.old asked events.old.items) (scene self.new asked events.new.items) any_hosts any_hosts 1
             (λ env. set_cell env id value)) }
+        ensures told { OnOk result (length events.old.items ≤ length events.new.items) }
     {
         let mut told = Vec::new(*events.allocator());
         match self.signals.change_cell(rules, id, value, &mut told) {
@@ -127,7 +147,8 @@ impl World {
     ) -> Result<(), NoMemory>
         requires ruled { AreRuled (length rules.now) self.old.signals.graph.state.signals }
         requires worn { self.old.signals.graph.state.worn < 2 ^ 127 }
-        ensures { (asked : List HostPlace) → below.Agrees asked self.old.signals → OnOk result (Undoes (map (λ r. r.slack) rules.now)
+        ensures told { OnOk result (length events.old.items + 1 ≤ length events.new.items) }
+        ensures done { (asked : List HostPlace) → below.Agrees asked self.old.signals → OnOk result (Undoes (map (λ r. r.slack) rules.now)
             (scene self.old asked events.old.items) (scene self.new asked events.new.items) any_hosts any_hosts 1
             (λ env. undo env (cleans (the_effect effect) (cleanup_of cleanup.now)))) }
     {
@@ -163,11 +184,14 @@ impl World {
             (λ hosts. ⟦<Shelf as Lent>⟧.answers hosts shelf.old) (λ hosts. ⟦<Shelf as Lent>⟧.answers hosts shelf.new) 1
             (λ env. undo env (ends (thing_of thing)))) }
         ensures counted { OnOk result (⟦<Shelf as Lent>⟧.counted shelf.new) }
+        ensures told { OnOk result (length events.old.items + 1 ≤ length events.new.items) }
     {
+        let gone = thing_in(&thing);
         let mut told = Vec::new(*events.allocator());
         match self.signals.dispose(shelf, thing, &mut told) {
             Ok(()) => {
-                tell_signals(events, told)?;
+                tell_signals(events, before_end(told))?;
+                tell_gone(events, gone)?;
                 Ok(())
             }
             Err(_) => Err(NoMemory),
@@ -189,6 +213,7 @@ impl World {
             (λ hosts. ⟦<Shelf as Lent>⟧.answers hosts shelf.old) (λ hosts. ⟦<Shelf as Lent>⟧.answers hosts shelf.new) 1
             (λ env. undo env (ends (the_signal id)))) }
         ensures counted { OnOk result (⟦<Shelf as Lent>⟧.counted shelf.new) }
+        ensures told { OnOk result (length events.old.items + 1 ≤ length events.new.items) }
     {
         if !self.is_signal(id) {
             events.push(Event::Gone(Thing::Signal(id)))?;
@@ -213,6 +238,7 @@ impl World {
             (λ hosts. ⟦<Shelf as Lent>⟧.answers hosts shelf.old) (λ hosts. ⟦<Shelf as Lent>⟧.answers hosts shelf.new) 1
             (λ env. undo env (ends (the_watcher id)))) }
         ensures counted { OnOk result (⟦<Shelf as Lent>⟧.counted shelf.new) }
+        ensures told { OnOk result (length events.old.items + 1 ≤ length events.new.items) }
     {
         if !self.signals.watchers.is_alive(id) {
             events.push(Event::Gone(Thing::Watcher(id)))?;
@@ -237,6 +263,7 @@ impl World {
             (λ hosts. ⟦<Shelf as Lent>⟧.answers hosts shelf.old) (λ hosts. ⟦<Shelf as Lent>⟧.answers hosts shelf.new) 1
             (λ env. undo env (ends (tables.thing_of thing.now)))) }
         ensures counted { OnOk result (⟦<Shelf as Lent>⟧.counted shelf.new) }
+        ensures told { OnOk result (length events.old.items + 1 ≤ length events.new.items) }
     {
         match thing {
             Thing::Signal(id) => {
@@ -280,6 +307,7 @@ impl World {
             (λ hosts. ⟦<Shelf as Lent>⟧.answers hosts shelf.old) (λ hosts. ⟦<Shelf as Lent>⟧.answers hosts shelf.new) 1
             (λ env. undo env (undoing_of undoing.now))) }
         ensures counted { OnOk result (⟦<Shelf as Lent>⟧.counted shelf.new) }
+        ensures told { OnOk result (length events.old.items + 1 ≤ length events.new.items) }
     {
         match undoing {
             Undoing::Cleanup(thing, cleanup) => {
@@ -312,6 +340,7 @@ impl World {
             (λ hosts. ⟦<Shelf as Lent>⟧.answers hosts shelf.old) (λ hosts. ⟦<Shelf as Lent>⟧.answers hosts shelf.new) (length undoings.now)
             (λ env. undo_all env (undoings_of undoings.now))) }
         ensures counted { OnOk result (⟦<Shelf as Lent>⟧.counted shelf.new) }
+        ensures told { OnOk result (length events.old.items + length undoings.now ≤ length events.new.items) }
     {
         for undoing in undoings {
             self.undo(shelf, rules, undoing, events)?;

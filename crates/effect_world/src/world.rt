@@ -5,6 +5,7 @@ ghost use Rattle.effect_model.specs.Commands.{new_world};
 ghost use Rattle.sig_host.specs.Hosts.{HostPlace};
 ghost use Rattle.sig_effect.specs.Agreeing.{AreNew, AreRuled};
 ghost use Rattle.effect_world.specs.Agreeing.{Agrees, IsSound};
+ghost use Rattle.effect_world.specs.Weighing.{weight};
 ghost use Rattle.effect_world.specs.Wholes.{whole_of};
 
 use effect_tables::Tables;
@@ -30,6 +31,8 @@ impl World {
         ensures whole { (asked : List HostPlace) → AreNew asked → IfOk result (λ w. whole_of asked w ≡ new_world (length asked)) }
         ensures sound { (hosts : Hosts) (asked : List HostPlace) → AreNew asked → IfOk result (λ w. IsSound hosts asked w) }
         ensures agrees { (asked : List HostPlace) → IfOk result (λ w. Agrees asked w) }
+        ensures unworn { IfOk result (λ w. w.signals.graph.state.worn ≡ 0) }
+        ensures light { IfOk result (λ w. weight w ≡ 0) }
         ensures ruled { (rules : ℕ) → IfOk result (λ w. AreRuled rules w.signals.graph.state.signals) }
     {
         let signals = Signals::new(alloc)?;

@@ -2,10 +2,11 @@ use Rattle.std.proofs.Common.{◌≡◌, Err, arith, ap, sym, refl, subst, lengt
 use Rattle.std.specs.Prelude.{IsErrOf}
 use Rattle.std.specs.List.{AllByRecursion}
 use Rattle.sig_owner.specs.declared.errors.OwnFault.TheVariants as own
+use Rattle.effect_tables.specs.declared.tables.Tables.{Tables}
 use Rattle.effect_tables.specs.Linking.{thing_of}
 use Rattle.effect_world.specs.declared.world.World.{World}
 use Rattle.effect_world.specs.Acting.{IsNoted}
-use Rattle.effect_world.proofs.Undone.{agrees_now, gone_standing, gone_tabled, length_steps, lives_by, noted_steps, out_does}
+use Rattle.effect_world.proofs.Undone.{agrees_now, gone_standing, gone_tabled, lives_by, noted_steps, out_does}
 use Rattle.effect_world.proofs.world.World.dispose.Goals as goal
 
 pub returns-then-not-is_standing-clause-gone : goal.returns-then-not-is_standing-clause-gone
@@ -58,8 +59,9 @@ returns-in_ok-undo_all-in-Ok-clause-made g c = c.in_ok-undo_all-in-Ok.ensures.do
 pub returns-in_ok-undo_all-in-Ok-clause-worn : goal.returns-in_ok-undo_all-in-Ok-clause-worn
 returns-in_ok-undo_all-in-Ok-clause-worn g c =
     let w = c.in_ok-undo_all-in-Ok.ensures.done.worn in
-    let e = ap length c.deref.ensures.value ∙ length_steps c.in-Ok.undoings.items ∙ ap length c.in-Ok.ensures.takes.steps in
-    omega (arith, w, e)
+    let t = c.in_ok-undo_all-in-Ok.ensures.told in
+    let m = ap (λ (b : Tables). b.effects_made) c.in_ok-undo_all-in-Ok.ensures.done.tables ∙ c.in-Ok.ensures.takes.takes.made in
+    omega (arith, w, t, m)
 
 pub returns-in_ok-undo_all-in-Ok-clause-there : goal.returns-in_ok-undo_all-in-Ok-clause-there
 returns-in_ok-undo_all-in-Ok-clause-there g c = lives_by _ c.args.self.now (thing_of c.args.thing) (sym c.is_standing.ensures ∙ c.if-not-is_standing.false) c.in-Ok.ensures.there
@@ -68,3 +70,6 @@ pub returns-in-Err-Gone-clause-gone : goal.returns-in-Err-Gone-clause-gone
 returns-in-Err-Gone-clause-gone g c = λ h.
     let e : c.take_out.result ≡ Err own.Gone = c.in-Err-Gone.is ∙ ap Err c.in-Err-Gone.field-0-is in
     gone_tabled _ c.args.self.now (thing_of c.args.thing) (c.take_out.ensures.gone (subst (λ r. IsErrOf r own.Gone) (sym e) refl))
+
+pub returns-in_ok-undo_all-in-Ok-clause-told : goal.returns-in_ok-undo_all-in-Ok-clause-told
+returns-in_ok-undo_all-in-Ok-clause-told g c = let t = c.in_ok-undo_all-in-Ok.ensures.told in omega (arith, t)

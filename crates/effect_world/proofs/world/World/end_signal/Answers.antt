@@ -1,4 +1,4 @@
-use Rattle.std.proofs.Common.{refl, sym, ◌∙◌}
+use Rattle.std.proofs.Common.{refl, sym, ◌∙◌, arith}
 use Rattle.signal_model.specs.Standing.{standing}
 use Rattle.effect_model.specs.Acts.{undo}
 use Rattle.effect_model.specs.Owning.{the_signal, ends}
@@ -6,6 +6,7 @@ use Rattle.effect_model.specs.Worlds as plain
 use Rattle.effect_tables.specs.declared.thing.Thing.TheVariants as thing
 use Rattle.sig_effect.specs.Wholes as wholes
 use Rattle.effect_world.specs.declared.events.Event.TheVariants as event
+use Rattle.effect_world.proofs.Told.{one_told}
 use Rattle.effect_world.proofs.Undone.{end_gone, gone_there, undoes_told}
 use Rattle.effect_world.proofs.world.World.end_signal.Goals as goal
 
@@ -16,3 +17,6 @@ returns-then-not-is_signal-clause-done g c = λ slacks.
 
 pub end_there-requires-clause-lives : goal.end_there-requires-clause-lives
 end_there-requires-clause-lives g c = sym c.is_signal.ensures ∙ c.if-not-is_signal.false
+
+pub returns-then-not-is_signal-clause-told : goal.returns-then-not-is_signal-clause-told
+returns-then-not-is_signal-clause-told g c = let m = one_told _ _ _ c.in_ok-push.ensures.items in omega (arith, m)

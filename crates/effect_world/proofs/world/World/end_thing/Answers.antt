@@ -1,4 +1,4 @@
-use Rattle.std.proofs.Common.{map, is_some, ap, sym, refl}
+use Rattle.std.proofs.Common.{map, is_some, ap, sym, refl, arith}
 use Rattle.effect_model.specs.Acts.{undo}
 use Rattle.effect_model.specs.Owning.{ends, the_effect, the_owner, the_page, the_signal, the_watcher}
 use Rattle.effect_model.specs.Worlds as plain
@@ -6,6 +6,7 @@ use Rattle.effect_tables.specs.declared.thing.Thing.TheVariants as thing
 use Rattle.effect_tables.specs.Linking.{thing_of}
 use Rattle.sig_effect.specs.Wholes as wholes
 use Rattle.effect_world.specs.declared.events.Event.TheVariants as event
+use Rattle.effect_world.proofs.Told.{one_told}
 use Rattle.effect_world.proofs.Undone.{undoes_as, undoes_told}
 use Rattle.effect_world.proofs.world.World.end_thing.Goals as goal
 
@@ -33,3 +34,12 @@ pub returns-in_ok-tell_gone-in-Page-clause-done : goal.returns-in_ok-tell_gone-i
 returns-in_ok-tell_gone-in-Page-clause-done g c = λ slacks.
     undoes_told slacks c.args.self.now (map (λ p. record { there = is_some p.host; asks = p.count }) c.args.shelf.now.places.items) _ _ (event.Gone (thing.Page c.in-Page.id)) (plain.gone (the_page c.in-Page.id)) _ (λ env. undo env (ends (thing_of c.args.thing.now)))
     c.in_ok-tell_gone-in-Page.ensures (λ env. ap (λ t. undo env (ends (thing_of t)) (wholes.whole_of (map (λ p. record { there = is_some p.host; asks = p.count }) c.args.shelf.now.places.items) c.args.self.now.signals)) c.in-Page.is) refl c.requires.agrees
+
+pub returns-in_ok-tell_gone-in-Owner-clause-told : goal.returns-in_ok-tell_gone-in-Owner-clause-told
+returns-in_ok-tell_gone-in-Owner-clause-told g c = let m = one_told _ _ _ c.in_ok-tell_gone-in-Owner.ensures in omega (arith, m)
+
+pub returns-in_ok-tell_gone-in-Effect-clause-told : goal.returns-in_ok-tell_gone-in-Effect-clause-told
+returns-in_ok-tell_gone-in-Effect-clause-told g c = let m = one_told _ _ _ c.in_ok-tell_gone-in-Effect.ensures in omega (arith, m)
+
+pub returns-in_ok-tell_gone-in-Page-clause-told : goal.returns-in_ok-tell_gone-in-Page-clause-told
+returns-in_ok-tell_gone-in-Page-clause-told g c = let m = one_told _ _ _ c.in_ok-tell_gone-in-Page.ensures in omega (arith, m)

@@ -1,5 +1,6 @@
-use Rattle.std.proofs.Common.{ap, subst, sym, ◌∙◌}
+use Rattle.std.proofs.Common.{[], ap, subst, sym, ◌∙◌, arith}
 use Rattle.effect_model.specs.Owning.{the_owner, the_signal}
+use Rattle.effect_model.specs.Worlds as plain
 use Rattle.effect_tables.specs.Placed.{numbering, untouched}
 use Rattle.effect_undoing.specs.Forming.{IsFormed}
 use Rattle.sig_effect.specs.Wholes as wholes
@@ -19,3 +20,9 @@ returns-clause-agrees c = λ asked. record {
     fresh = λ n l. ap (has_thing (the_signal n)) c.in_ok-tables.ensures.bare;
   };
 }
+
+pub returns-clause-light : goal.returns-clause-light
+returns-clause-light c =
+    let w = c.in_ok-signals.ensures.unworn in
+    let m = ap (λ (w : plain.World). w.made.effects) (c.in_ok-tables.ensures.placed (wholes.whole_of [] c.in_ok-signals.signals)) in
+    omega (arith, w, m)

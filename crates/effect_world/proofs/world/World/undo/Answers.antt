@@ -15,7 +15,7 @@ pub returns-in_ok-clean-in-Cleanup-clause-done : goal.returns-in_ok-clean-in-Cle
 returns-in_ok-clean-in-Cleanup-clause-done g c =
     undoes_as _ _ _ _ _ 1 (λ env. undo env (cleans (the_effect c.effect_in-effect.result) (cleanup_of c.in-Cleanup.cleanup))) (λ env. undo env (undoing_of c.args.undoing.now))
     (λ env. ap (undo env) ((λ i. cleans (sym c.effect_in-effect.ensures i) (cleanup_of c.in-Cleanup.cleanup)) ∙ sym (ap undoing_of c.in-Cleanup.is)))
-    (undoes_lent _ _ _ _ 1 _ (c.in_ok-clean-in-Cleanup.ensures _ c.requires.agrees))
+    (undoes_lent _ _ _ _ 1 _ (c.in_ok-clean-in-Cleanup.ensures.done _ c.requires.agrees))
 
 pub returns-in_ok-end_thing-in-Gone-clause-done : goal.returns-in_ok-end_thing-in-Gone-clause-done
 returns-in_ok-end_thing-in-Gone-clause-done g c =

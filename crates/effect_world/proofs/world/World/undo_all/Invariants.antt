@@ -1,4 +1,4 @@
-use Rattle.std.proofs.Common.{◌≤◌, is_some, length, map, option_map, take}
+use Rattle.std.proofs.Common.{◌≤◌, ◌+◌, is_some, length, map, option_map, take}
 use Rattle.effect_model.specs.Acts.{undo_all}
 use Rattle.effect_tables.specs.Linking.{undoings_of}
 use Rattle.sig_host.specs.Hosts.{AnswersBy, IsCounted}
@@ -15,6 +15,7 @@ invariant-loop-undoing g l = record {
       (λ hosts. AnswersBy hosts (map (λ p. option_map (λ h. (goal.HostFormula-dyn g (h.vtable, h.value)).step_of h.value) p.host) l.shelf.places.items))
       l.undoing-index (λ env. undo_all env (undoings_of (take l.undoing-index l.undoings)));
   within : l.undoing-index ≤ length l.undoings;
+  told : length l.fn.events.items + l.undoing-index ≤ length l.events.items;
   counted : IsCounted (map (λ p. option_map (λ h. (goal.HostFormula-dyn g (h.vtable, h.value)).asks h.value) p.host) l.shelf.places.items)
       (map (λ p. record { there = is_some p.host; asks = p.count }) l.shelf.places.items);
 }
