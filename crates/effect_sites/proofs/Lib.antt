@@ -1,0 +1,3 @@
+mod Walks
+mod Splits
+pub mod Shared
