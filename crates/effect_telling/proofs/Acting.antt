@@ -112,7 +112,7 @@ rewire_only n r = record {
 
 -- ---- ends
 
-end_only : (t : Thing) → OnlyTells (end_of t)
+pub end_only : (t : Thing) → OnlyTells (end_of t)
 end_only (the_signal n) = record { same = λ es w. go (standing w.signals n) es w }
   where
     go : (s : Stands) (es : List Event) (w : World) → end_standing s n (behind es w) ≡ behind es (end_standing s n w)
@@ -124,15 +124,15 @@ end_only (the_effect n) = record { same = λ es w. refl }
 end_only (the_page n) = record { same = λ es w. refl }
 end_only (the_watcher n) = record { same = λ es w. refl }
 
-cleanup_only : (env : Environment) (c : Cleanup) → OnlyTells (do_cleanup env c)
+pub cleanup_only : (env : Environment) (c : Cleanup) → OnlyTells (do_cleanup env c)
 cleanup_only env (sets n v) = set_only env n v
 cleanup_only env (logs v) = tell_only (logged v)
 
-undo_only : (env : Environment) (u : Undoing) → OnlyTells (undo env u)
+pub undo_only : (env : Environment) (u : Undoing) → OnlyTells (undo env u)
 undo_only env (cleans t c) = only_then (tell (cleaned t c)) (do_cleanup env c) (tell_only (cleaned t c)) (cleanup_only env c)
 undo_only env (ends t) = only_then (end_of t) (tell (gone t)) (end_only t) (tell_only (gone t))
 
-undo_all_only : (env : Environment) (us : List Undoing) → OnlyTells (undo_all env us)
+pub undo_all_only : (env : Environment) (us : List Undoing) → OnlyTells (undo_all env us)
 undo_all_only env [] = record { same = λ es w. refl }
 undo_all_only env (u ∷ us) = only_then (undo env u) (undo_all env us) (undo_only env u) (undo_all_only env us)
 
@@ -182,7 +182,7 @@ keep_only e ss = record {
       (record w { effects = changed (λ (x : Effect). x.number) e (λ x. record x { kept = Some ss }) w.effects });
 }
 
-result_only : (env : Environment) (e : ℕ) (r : BodyResult) → OnlyTells (do_result env e r)
+pub result_only : (env : Environment) (e : ℕ) (r : BodyResult) → OnlyTells (do_result env e r)
 result_only env e (failed_by f) = tell_only (failed e f)
 result_only env e (to_do as') = acts_only env e 1 as'
 

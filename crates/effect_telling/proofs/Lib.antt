@@ -1,3 +1,4 @@
 mod Acting
 mod Turning
+mod Lengths
 pub mod Shared

@@ -44,16 +44,16 @@ case_only env (Some x) go on es w =
     let due : Bool = is_effect_due (value_now env w) x.kept in
     ap (λ v. after_last due v go) ((look_only env x).same es w) ∙ last_only due go on es (look env x w)
 
-look_at_last : (env : Environment) (ids : List ℕ) (es : List Event) (w : World) → last_look env ids (behind es w) ≡ flushed_behind es (last_look env ids w)
-look_at_last env [] es w = refl
-look_at_last env (e ∷ ids) es w = case_only env (effect_at e w.effects) (last_look env ids) (look_at_last env ids) es w
+pub last_only_tells : (env : Environment) (ids : List ℕ) (es : List Event) (w : World) → last_look env ids (behind es w) ≡ flushed_behind es (last_look env ids w)
+last_only_tells env [] es w = refl
+last_only_tells env (e ∷ ids) es w = case_only env (effect_at e w.effects) (last_look env ids) (last_only_tells env ids) es w
 
 after_turn_only : (ran : Bool) (go : World → Flushed) → GoesOn go → (es : List Event) (w : World) → after_turn ran (behind es w) go ≡ flushed_behind es (after_turn ran w go)
 after_turn_only true go on es w = ap (λ (f : Flushed). record f { turns = f.turns + 1 }) (on es w)
 after_turn_only false go on es w = refl
 
 within_only : (most : ℕ) (env : Environment) (es : List Event) (w : World) → flush_within most env (behind es w) ≡ flushed_behind es (flush_within most env w)
-within_only zero env es w = look_at_last env (effect_numbers w.effects) es w
+within_only zero env es w = last_only_tells env (effect_numbers w.effects) es w
 within_only (suc more) env es w =
     let t : Turned = turn env w in
     ap (λ (u : Turned). after_turn u.ran u.world (flush_within more env)) (turns_only_tell env es w)
