@@ -1,0 +1,4 @@
+mod Listing
+mod Acting
+mod Turning
+pub mod Shared

@@ -1,0 +1,15 @@
+use Rattle.effect_resting.proofs.Acting.{all_rest}
+use Rattle.effect_resting.proofs.Turning.{flushes_rest, looks_rest, turns_rest}
+use Rattle.effect_resting.proofs.resting_law.Goals as goal
+
+pub returns-clause-acts : goal.returns-clause-acts
+returns-clause-acts c = all_rest
+
+pub returns-clause-turns : goal.returns-clause-turns
+returns-clause-turns c = turns_rest
+
+pub returns-clause-looks : goal.returns-clause-looks
+returns-clause-looks c = looks_rest
+
+pub returns-clause-flushes : goal.returns-clause-flushes
+returns-clause-flushes c = flushes_rest

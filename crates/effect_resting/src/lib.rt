@@ -1,0 +1,15 @@
+//! Worlds at rest: what is done to the one is done to the other.
+#![tactic(auto)]
+
+ghost use Rattle.std.specs.Prelude.{ℕ, List};
+ghost use Rattle.effect_model.specs.Worlds.{Environment};
+ghost use Rattle.effect_resting.specs.Resting.{AllRest, FlushRests, LastRests, TurnRests};
+
+/// Whatever is done, it does the same to a world at rest as to the world itself: it rests neither on what was told before nor on what
+/// stands at the top and can't own, as long as nothing stands under that.
+pub fn resting_law()
+    ensures acts { AllRest }
+    ensures turns { (env : Environment) → TurnRests env }
+    ensures looks { (env : Environment) (ids : List ℕ) → LastRests env ids }
+    ensures flushes { (env : Environment) → FlushRests env }
+{}
