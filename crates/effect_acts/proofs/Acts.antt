@@ -1,5 +1,5 @@
 -- What acts leave.
-use Rattle.std.proofs.Common.{◌≡◌, ℕ, ◌+◌, ◌++◌, ◌&&◌, not, Bool, true, false, List, [], ◌∷◌, length, Some, None, cond, refl, sym, ap, subst, ◌∙◌, arith}
+use Rattle.std.proofs.Common.{◌≡◌, ℕ, ◌+◌, ◌≤◌, ◌++◌, ◌&&◌, not, Bool, true, false, List, [], ◌∷◌, length, Some, None, cond, refl, sym, ap, subst, ◌∙◌, arith}
 use Rattle.signal_model.specs.Recipes.{Hosts}
 use Rattle.effect_model.specs.Acts.{dispose_live, dispose_thing}
 use Rattle.effect_model.specs.Owning as owning
@@ -28,7 +28,7 @@ use Rattle.effect_world.specs.Acting.{Scene, Undoes, any_hosts, scene}
 use Rattle.effect_world.specs.Agreeing.{Agrees, Does, IsSound}
 use Rattle.effect_world.specs.Events.{IsTold, Tells}
 use Rattle.effect_world.specs.Wholes.{whole_of}
-use Rattle.effect_world.proofs.Shared.{does_acts, owned_still, tells_one}
+use Rattle.effect_world.proofs.Shared.{does_acts, one_told, owned_still, tells_none, tells_one}
 use Rattle.effect_acts.specs.Acting.{Acted}
 
 -- one event is told of a world that stays as it is
@@ -51,13 +51,82 @@ acted_told slacks old asked before after ev t answers steps act more is one a = 
   rules = λ count h. h;
   given = refl;
   made = refl;
-  worn = omega arith;
+  worn = let m : length after ≡ length before + 1 = one_told before after ev more in omega (arith, m);
+  told = let m : length after ≡ length before + 1 = one_told before after ev more in omega (arith, m);
 }
+
+-- nothing is done
+pub acted_still : (slacks : List ℕ) (old : World) (asked : List HostPlace) (events : List Event) (answers : Hosts → Type 0) (steps : ℕ) (act : plain.Environment → plain.World → plain.World) →
+    ((env : plain.Environment) → act env (whole_of asked old) ≡ whole_of asked old) → Agrees asked old → Acted slacks (scene old asked events) (scene old asked events) answers answers steps act
+acted_still slacks old asked events answers steps act is a = record {
+  does = λ hosts sound. record {
+    whole = sym (placed_rests old.tables (wholes.whole_of asked old.signals) a.owned.tables) ∙ ap at_rest (sym (is (environment hosts slacks)));
+    told = subst (λ (w : plain.World). Tells events events w.told) (sym (is (environment hosts slacks))) (tells_none events);
+    sound = sound;
+  };
+  agrees = a;
+  answers = λ hosts h. h;
+  most = omega arith;
+  rules = λ count h. h;
+  given = refl;
+  made = refl;
+  worn = omega arith;
+  told = omega arith;
+}
+
+-- by another name that means the same there
+pub acted_at : (slacks : List ℕ) (old new : Scene) (first last : Hosts → Type 0) (steps more : ℕ) (f g : plain.Environment → plain.World → plain.World) →
+    ((env : plain.Environment) → f env (whole_of old.asked old.world) ≡ g env (whole_of old.asked old.world)) → steps ≤ more → Acted slacks old new first last steps f →
+    Acted slacks old new first last more g
+acted_at slacks old new first last steps more f g same few p =
+    let w = p.worn in
+    record {
+      does = λ hosts sound.
+          let d : Does hosts old.asked new.asked old.world new.world old.events new.events (f (environment hosts slacks)) = p.does hosts sound in
+          record {
+            whole = d.whole ∙ ap at_rest (same (environment hosts slacks));
+            told = subst (λ (v : plain.World). Tells old.events new.events v.told) (same (environment hosts slacks)) d.told;
+            sound = d.sound;
+          };
+      agrees = p.agrees;
+      answers = p.answers;
+      most = p.most;
+      rules = p.rules;
+      given = p.given;
+      made = p.made;
+      worn = omega (arith, w, few);
+      told = p.told;
+    }
+
+-- by another name
+pub acted_lent : (slacks : List ℕ) (old new : Scene) (first last : Hosts → Type 0) (steps more : ℕ) (f g : plain.Environment → plain.World → plain.World) → ((env : plain.Environment) → f env ≡ g env) →
+    steps ≤ more → Acted slacks old new first last steps f → Acted slacks old new first last more g
+acted_lent slacks old new first last steps more f g same few p =
+    acted_at slacks old new first last steps more f g (λ env. ap (λ (h : plain.World → plain.World). h (whole_of old.asked old.world)) (same env)) few p
+
+-- where no host formula is asked
+pub acted_any : (slacks : List ℕ) (old new : Scene) (answers : Hosts → Type 0) (steps : ℕ) (act : plain.Environment → plain.World → plain.World) →
+    Acted slacks old new any_hosts any_hosts steps act → Acted slacks old new answers answers steps act
+acted_any slacks old new answers steps act p = record {
+  does = p.does;
+  agrees = p.agrees;
+  answers = λ hosts h. h;
+  most = p.most;
+  rules = p.rules;
+  given = p.given;
+  made = p.made;
+  worn = p.worn;
+  told = p.told;
+}
+
+pub acted_as : (slacks : List ℕ) (old new : Scene) (answers : Hosts → Type 0) (steps more : ℕ) (f g : plain.Environment → plain.World → plain.World) → ((env : plain.Environment) → f env ≡ g env) →
+    steps ≤ more → Acted slacks old new any_hosts any_hosts steps f → Acted slacks old new answers answers more g
+acted_as slacks old new answers steps more f g same few p = acted_lent slacks old new answers answers steps more f g same few (acted_any slacks old new answers steps f p)
 
 -- what was done to the signals is done to the world
 pub acted_undoes : (slacks : List ℕ) (old new : Scene) (first last : Hosts → Type 0) (steps : ℕ) (act : plain.Environment → plain.World → plain.World) →
-    ((env : plain.Environment) → IsOfSignals (act env)) → Agrees old.asked old.world → Undoes slacks old new first last steps act → Acted slacks old new first last steps act
-acted_undoes slacks old new first last steps act framed a p = record {
+    ((env : plain.Environment) → IsOfSignals (act env)) → Agrees old.asked old.world → length old.events ≤ length new.events → Undoes slacks old new first last steps act → Acted slacks old new first last steps act
+acted_undoes slacks old new first last steps act framed a told p = record {
   does = λ hosts sound.
       does_acts hosts old.asked new.asked old.world new.world old.events new.events (act (environment hosts slacks)) (p.acts hosts sound) (framed (environment hosts slacks)) p.tables a.owned.tables;
   agrees = record { signals = p.agrees; owned = owned_still old.world new.world p.given p.tables a.owned };
@@ -66,7 +135,11 @@ acted_undoes slacks old new first last steps act framed a p = record {
   rules = p.rules;
   given = p.given;
   made = p.made;
-  worn = p.worn;
+  worn =
+      let w = p.worn in
+      let m : new.world.tables.effects_made ≡ old.world.tables.effects_made = ap (λ (t : Tables). t.effects_made) p.tables in
+      omega (arith, w, m, told);
+  told = told;
 }
 
 -- a cleanup is noted in the store
@@ -128,7 +201,8 @@ acted_noted slacks old later asked before after e n c is ends more a =
       rules = λ count h. h;
       given = refl;
       made = refl;
-      worn = omega arith;
+      worn = let m : length after ≡ length before + 1 = one_told before after (event.Noted e) more in omega (arith, m);
+      told = let m : length after ≡ length before + 1 = one_told before after (event.Noted e) more in omega (arith, m);
     }
 
 -- what is gone isn't disposed

@@ -1,3 +1,5 @@
 mod Acts
 mod Refusals
+mod Meant
+mod Tabled
 pub mod Shared

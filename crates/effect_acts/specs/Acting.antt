@@ -1,5 +1,5 @@
 -- What an act leaves.
-use Rattle.std.specs.Prelude.{◌≡◌, ℕ, ◌+◌, ◌≤◌, List, [], ◌∷◌, Option, Some, None, if◌then◌else◌}
+use Rattle.std.specs.Prelude.{◌≡◌, ℕ, ◌+◌, ◌≤◌, List, [], ◌∷◌, length, Option, Some, None, if◌then◌else◌}
 use Rattle.signal_model.specs.Recipes.{Hosts}
 use Rattle.signal_model.specs.Standing.{Signals, is_there, standing}
 use Rattle.effect_model.specs.Worlds as plain
@@ -10,8 +10,9 @@ use Rattle.effect_world.specs.declared.events.Event.{Event}
 use Rattle.effect_world.specs.Acting.{Scene}
 use Rattle.effect_world.specs.Agreeing.{Agrees, Does, IsSound}
 use Rattle.effect_world.specs.Events.{IsTold}
+use Rattle.effect_world.specs.Weighing.{weight}
 
--- By equality rules of these slacks an act was done to the world, which raised the counters of its signals by so much at most. No signal
+-- By equality rules of these slacks an act was done to the world, which used up no more than what was told stands for, and so much. No signal
 -- and no watcher was made.
 pub record Acted (slacks : List ℕ) (old new : Scene) (before after : Hosts → Type 0) (steps : ℕ)
     (act : plain.Environment → plain.World → plain.World) : Type 0 where
@@ -23,7 +24,8 @@ pub record Acted (slacks : List ℕ) (old new : Scene) (before after : Hosts →
   pub rules : (count : ℕ) → AreRuled count old.world.signals.graph.state.signals → AreRuled count new.world.signals.graph.state.signals
   pub given : new.world.signals.graph.given ≡ old.world.signals.graph.given
   pub made : new.world.signals.watchers.made ≡ old.world.signals.watchers.made
-  pub worn : new.world.signals.graph.state.worn ≤ old.world.signals.graph.state.worn + steps
+  pub worn : weight new.world + length old.events ≤ (weight old.world + length new.events) + steps
+  pub told : length old.events ≤ length new.events
 
 -- the first of these signals that is gone
 abbrev pub first_gone : Signals → List ℕ → Option ℕ

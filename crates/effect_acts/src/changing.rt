@@ -1,5 +1,5 @@
 // An effect changes signals.
-ghost use Rattle.std.specs.Prelude.{◌≡◌, ◌<◌, ◌^◌, ℕ, List, OnOk, length, map};
+ghost use Rattle.std.specs.Prelude.{◌<◌, ◌^◌, List, OnOk, length, map};
 ghost use Rattle.effect_model.specs.Acts.{set_cell};
 ghost use Rattle.sig_host.specs.Hosts.{HostPlace};
 ghost use Rattle.sig_effect.specs.Agreeing.{AreRuled};

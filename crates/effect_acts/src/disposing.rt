@@ -1,9 +1,7 @@
 // An effect disposes of things.
-ghost use Rattle.std.specs.Prelude.{◌≡◌, ◌<◌, ◌^◌, ℕ, List, OnOk, length, map};
+ghost use Rattle.std.specs.Prelude.{◌≡◌, ◌<◌, ◌^◌, OnOk, length, map};
 ghost use Rattle.effect_model.specs.Acts.{dispose_thing};
-ghost use Rattle.effect_model.specs.Owning.{disposal_of};
 ghost use Rattle.effect_tables.specs.Linking.{thing_of};
-ghost use Rattle.effect_tables.specs.Placed.{tree_of};
 ghost use Rattle.sig_effect.specs.Agreeing.{AreRuled};
 ghost use Rattle.effect_world.specs.declared.events.Event.TheVariants as event;
 ghost use Rattle.effect_world.specs.Acting.{scene};
@@ -42,7 +40,7 @@ pub fn dispose(
     ensures done { OnOk result (Acted (map (λ r. r.slack) rules.now)
         (scene world.old (⟦<Shelf as Lent>⟧.asked shelf.old) events.old.items) (scene world.new (⟦<Shelf as Lent>⟧.asked shelf.new) events.new.items)
         (λ hosts. ⟦<Shelf as Lent>⟧.answers hosts shelf.old) (λ hosts. ⟦<Shelf as Lent>⟧.answers hosts shelf.new)
-        (length (disposal_of (thing_of thing) (tree_of world.old.tables))) (λ env. dispose_thing env (thing_of thing))) }
+        0 (λ env. dispose_thing env (thing_of thing))) }
     ensures counted { OnOk result (⟦<Shelf as Lent>⟧.counted shelf.new) }
 {
     let refused = refusal(&thing);

@@ -15,7 +15,7 @@ use effect_tables::Thing;
 use effect_world::{Event, World};
 use sig_base::{NoMemory, NodeId};
 use sig_host::{Lent, Shelf};
-use sig_nodes::Recipe;
+use sig_nodes::{Recipe, Standing};
 
 // The first of these signals that is gone.
 fn first_gone(world: &World, ids: &[NodeId]) -> Option<NodeId>
@@ -97,9 +97,49 @@ fn change(
     }
 }
 
+// Whether a cell stands there.
+fn is_cell(world: &World, id: NodeId) -> bool
+    ensures { result ≡ is_cell (standing world.now.signals.graph.state.signals id) }
+{
+    match world.signals.graph.standing(id) {
+        Standing::Cell => true,
+        Standing::Gone => false,
+        Standing::Computed => false,
+        Standing::Computing => false,
+    }
+}
+
+// Gives a computed another recipe, where that isn't refused; a cell is left as it is.
+fn change_standing(
+    world: &mut World,
+    shelf: &mut Shelf,
+    id: NodeId,
+    recipe: Recipe,
+    slots: Vec<NodeId>,
+    events: &mut Vec<Event>,
+) -> Result<(), NoMemory>
+    requires few { HasFewSlots (expression_of recipe) slots.items }
+    requires worn { CanWear world.old.signals.graph.state }
+    requires agrees { Agrees (⟦<Shelf as Lent>⟧.asked shelf.old) world.old }
+    requires counted { ⟦<Shelf as Lent>⟧.counted shelf.old }
+    requires open { rewiring_refused id (recipe_made (expression_of recipe) slots.items) (whole_of (⟦<Shelf as Lent>⟧.asked shelf.old) world.old) ≡ None }
+    ensures done { (slacks : List ℕ) → OnOk result (Acted slacks
+        (scene world.old (⟦<Shelf as Lent>⟧.asked shelf.old) events.old.items) (scene world.new (⟦<Shelf as Lent>⟧.asked shelf.new) events.new.items)
+        (λ hosts. ⟦<Shelf as Lent>⟧.answers hosts shelf.old) (λ hosts. ⟦<Shelf as Lent>⟧.answers hosts shelf.new) 1
+        (λ env. rewire_signal id (recipe_made (expression_of recipe) slots.items))) }
+    ensures counted { OnOk result (⟦<Shelf as Lent>⟧.counted shelf.new) }
+{
+    if is_cell(world, id) {
+        return Ok(());
+    }
+    let _made = world.signals.graph.made();
+    change(world, shelf, id, recipe, slots, events)?;
+    Ok(())
+}
+
 /// Gives a computed another recipe. A host formula that it asked before is dropped, and told with the number of its asks. Where the
 /// computed is gone, or a signal that a slot would stand for, or the host formula is used or was dropped, the first of these is told as
-/// refused.
+/// refused. A cell is left as it is.
 ///
 /// # Errors
 ///
@@ -112,8 +152,6 @@ pub fn rewire(
     slots: Vec<NodeId>,
     events: &mut Vec<Event>,
 ) -> Result<(), NoMemory>
-    requires kind { is_cell (standing world.old.signals.graph.state.signals id) ≡ false }
-    requires given { All (λ n. is_given world.old.signals.graph n ≡ true) slots.items }
     requires few { HasFewSlots (expression_of recipe) slots.items }
     requires worn { CanWear world.old.signals.graph.state }
     requires agrees { Agrees (⟦<Shelf as Lent>⟧.asked shelf.old) world.old }
@@ -129,6 +167,9 @@ pub fn rewire(
             events.push(event)?;
             Ok(())
         }
-        None => change(world, shelf, id, recipe, slots, events),
+        None => {
+            change_standing(world, shelf, id, recipe, slots, events)?;
+            Ok(())
+        }
     }
 }

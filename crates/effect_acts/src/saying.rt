@@ -1,5 +1,5 @@
 // What an effect says.
-ghost use Rattle.std.specs.Prelude.{◌≡◌, ℕ, List, OnOk};
+ghost use Rattle.std.specs.Prelude.{ℕ, List, OnOk};
 ghost use Rattle.effect_model.specs.Worlds.{failed, logged, tell};
 ghost use Rattle.sig_host.specs.Hosts.{HostPlace};
 ghost use Rattle.effect_world.specs.Acting.{any_hosts, scene};

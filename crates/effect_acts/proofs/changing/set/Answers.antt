@@ -5,4 +5,5 @@ use Rattle.effect_acts.proofs.changing.set.Goals as goal
 
 pub returns : goal.returns
 returns g c = λ asked a.
-    acted_undoes _ _ _ _ _ 1 (λ env. set_cell env c.args.id c.args.value) (λ env. framed_set env c.args.id c.args.value) a (c.in_ok-set_signal.ensures asked a.signals)
+    acted_undoes _ _ _ _ _ 1 (λ env. set_cell env c.args.id c.args.value) (λ env. framed_set env c.args.id c.args.value) a c.in_ok-set_signal.ensures.told
+    (c.in_ok-set_signal.ensures.done asked a.signals)

@@ -1,4 +1,4 @@
-use Rattle.std.proofs.Common.{◌++◌, ◌∷◌, [], Err, refl, sym, ap, subst, ◌∙◌}
+use Rattle.std.proofs.Common.{◌++◌, ◌∷◌, [], Err, refl, sym, ap, subst, ◌∙◌, arith}
 use Rattle.std.specs.Prelude.{IsErrOf}
 use Rattle.effect_model.specs.Acts.{dispose_thing}
 use Rattle.effect_model.specs.Worlds as plain
@@ -18,7 +18,8 @@ returns-in-Ok-clause-done g c = record {
   rules = c.in-Ok.ensures.rules;
   given = c.in-Ok.ensures.given;
   made = c.in-Ok.ensures.made;
-  worn = c.in-Ok.ensures.worn;
+  worn = let w = c.in-Ok.ensures.worn in omega (arith, w);
+  told = c.in-Ok.ensures.told;
 }
 
 pub returns-in_ok-push-in-Err-Gone-clause-done : goal.returns-in_ok-push-in-Err-Gone-clause-done

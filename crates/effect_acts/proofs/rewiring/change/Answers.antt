@@ -1,4 +1,5 @@
-use Rattle.std.proofs.Common.{map, is_some}
+use Rattle.std.proofs.Common.{map, is_some, ap, arith}
+use Rattle.effect_tables.specs.declared.tables.Tables.{Tables}
 use Rattle.sig_nodes.specs.Answers.{expression_of}
 use Rattle.sig_nodes.specs.Computations.{recipe_made}
 use Rattle.effect_world.specs.Wholes.{whole_of}
@@ -17,5 +18,10 @@ returns-in-Ok-clause-done g c = λ slacks. record {
   rules = c.in-Ok.ensures.rules;
   given = c.in-Ok.ensures.stays.given;
   made = c.in-Ok.ensures.stays.made;
-  worn = c.in-Ok.ensures.stays.worn;
+  worn =
+      let w = c.in-Ok.ensures.stays.worn in
+      let m = ap (λ (t : Tables). t.effects_made) c.in-Ok.ensures.tables in
+      let t = c.in-Ok.ensures.told in
+      omega (arith, w, m, t);
+  told = c.in-Ok.ensures.told;
 }

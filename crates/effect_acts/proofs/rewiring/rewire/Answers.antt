@@ -9,8 +9,8 @@ use Rattle.effect_acts.proofs.Acts.{acted_told}
 use Rattle.effect_acts.proofs.Refusals.{refused_is}
 use Rattle.effect_acts.proofs.rewiring.rewire.Goals as goal
 
-pub change-requires-clause-open : goal.change-requires-clause-open
-change-requires-clause-open g c =
+pub change_standing-requires-clause-open : goal.change_standing-requires-clause-open
+change_standing-requires-clause-open g c =
     subst (λ (ns : List ℕ). rewiring_refused c.args.id (recipe_made (expression_of c.args.recipe) ns) (whole_of (map (λ p. record { there = is_some p.host; asks = p.count }) c.args.shelf.now.places.items) c.args.world.now) ≡ None) c.deref.ensures.value c.in-None.ensures.none
 
 pub returns-in_ok-push-in-Some-clause-done : goal.returns-in_ok-push-in-Some-clause-done

@@ -1,0 +1,78 @@
+-- What acts leave of the tables.
+use Rattle.std.proofs.Common.{◌≡◌, ℕ, ◌+◌, ◌≤◌, ◌++◌, List, [], ◌∷◌, length, Some, None, refl, sym, ap, subst, ◌∙◌, arith}
+use Rattle.effect_model.specs.Bodies.{Body}
+use Rattle.effect_model.specs.Owning.{Owned, alone, put_under, the_effect, the_owner, the_signal}
+use Rattle.effect_model.specs.Worlds as plain
+use Rattle.effect_model.specs.Worlds.{tell}
+use Rattle.sig_owner.specs.Renaming.{renamed}
+use Rattle.sig_owner.specs.Trees.{has_thing, owned_of}
+use Rattle.effect_tables.specs.declared.tables.Tables.{Tables}
+use Rattle.effect_tables.specs.Adopting.{with_child}
+use Rattle.effect_tables.specs.Holding.{Holds, LeavesOut}
+use Rattle.effect_tables.specs.Numbering.{number_in, rows_in}
+use Rattle.effect_tables.specs.Placed.{at_rest, placed, tree_of}
+use Rattle.effect_tables.proofs.Shared.{placed_rests}
+use Rattle.effect_undoing.specs.Forming.{AreFormed}
+use Rattle.effect_undoing.proofs.Shared.{formed_put}
+use Rattle.sig_host.specs.Hosts.{HostPlace}
+use Rattle.sig_effect.specs.Agreeing.{environment}
+use Rattle.sig_effect.specs.Wholes as wholes
+use Rattle.effect_world.specs.declared.events.Event.{Event}
+use Rattle.effect_world.specs.declared.world.World.{World}
+use Rattle.effect_world.specs.Acting.{any_hosts, scene}
+use Rattle.effect_world.specs.Agreeing.{Agrees, AreOwned}
+use Rattle.effect_world.specs.Events.{IsTold, Tells}
+use Rattle.effect_world.specs.Wholes.{whole_of}
+use Rattle.effect_world.proofs.Shared.{one_told, tells_one}
+use Rattle.effect_acts.specs.Acting.{Acted}
+
+-- the tables were changed, and one event told
+pub acted_tabled : (slacks : List ℕ) (old : World) (u : Tables) (asked : List HostPlace) (before after : List Event) (ev : Event) (t : plain.Event)
+    (act : plain.Environment → plain.World → plain.World) (change : plain.World → plain.World) → ((w : plain.World) → placed u w ≡ change (placed old.tables w)) →
+    ((env : plain.Environment) → act env (whole_of asked old) ≡ tell t (change (whole_of asked old))) → (change (whole_of asked old)).told ≡ [] → IsTold ev t → after ≡ before ++ ev ∷ [] →
+    u.effects_made ≤ old.tables.effects_made + 1 → AreOwned (record old { tables = u }) → Agrees asked old →
+    Acted slacks (scene old asked before) (scene (record old { tables = u }) asked after) any_hosts any_hosts 0 act
+acted_tabled slacks old u asked before after ev t act change does is quiet one more few owned a =
+    let s : plain.World = wholes.whole_of asked old.signals in
+    record {
+      does = λ hosts sound. record {
+        whole = sym (placed_rests u s owned.tables) ∙ ap at_rest (does s) ∙ ap at_rest (sym (is (environment hosts slacks)));
+        told = subst (λ (w : plain.World). Tells before after w.told) (sym (is (environment hosts slacks)))
+            (subst (λ ts. Tells before after (ts ++ t ∷ [])) (sym quiet) (subst (λ es. Tells before es (t ∷ [])) (sym more) (tells_one before ev t one)));
+        sound = sound;
+      };
+      agrees = record { signals = a.signals; owned = owned };
+      answers = λ hosts h. h;
+      most = omega arith;
+      rules = λ count h. h;
+      given = refl;
+      made = refl;
+      worn = let m : length after ≡ length before + 1 = one_told before after ev more in omega (arith, m, few);
+      told = let m : length after ≡ length before + 1 = one_told before after ev more in omega (arith, m);
+    }
+
+-- all stands where it stood
+pub owned_kept : (old : World) (u : Tables) → u.store ≡ old.tables.store → u.owners ≡ old.tables.owners → Holds u → AreOwned old → AreOwned (record old { tables = u })
+owned_kept old u store owners h o =
+    let tree : tree_of u ≡ tree_of old.tables = λ i. renamed (number_in (rows_in (owners i).items)) (owned_of (store i)) in
+    record {
+      tables = h;
+      formed = subst AreFormed (sym tree) o.formed;
+      fresh = λ n l. ap (λ rs. has_thing (the_signal n) (owned_of rs)) store ∙ o.fresh n l;
+    }
+
+none_some : (k : ℕ) → None ≡ Some k → ⊥
+none_some k e = cc
+
+-- a child stands under its parent
+pub owned_child : (asked : List HostPlace) (old : World) (u : Tables) (e : ℕ) (b : Body) → ((w : plain.World) → placed u w ≡ with_child e b (placed old.tables w)) → LeavesOut None old.tables.store u.store → Holds u →
+    AreOwned old → AreOwned (record old { tables = u })
+owned_child asked old u e b does out h o =
+    let s : plain.World = wholes.whole_of asked old.signals in
+    let one : Owned = alone (the_effect old.tables.effects_made) in
+    let tree : tree_of u ≡ put_under (the_effect e) one (tree_of old.tables) = ap (λ (w : plain.World). w.owned) (does s) in
+    record {
+      tables = h;
+      formed = subst AreFormed (sym tree) (record { formed = formed_put (the_owner 0) (the_effect e) one (tree_of old.tables) refl (tt, tt, tt) o.formed.formed });
+      fresh = λ n l. out.still n (λ q. none_some n q) (o.fresh n l);
+    }
