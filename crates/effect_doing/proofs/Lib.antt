@@ -1,0 +1,3 @@
+mod Composing
+mod Ordered
+pub mod Shared
