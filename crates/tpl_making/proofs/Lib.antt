@@ -1,0 +1,2 @@
+mod Closing
+pub mod Shared
