@@ -1,0 +1,3 @@
+mod Facts
+mod Marking
+pub mod Shared

@@ -1,0 +1,4 @@
+-- What crates above may cite of these proofs: laws of marks, and rules for a walk that puts them.
+
+pub use Rattle.tpl_found.proofs.Marking.{marks_law, whole_law}
+pub use Rattle.tpl_found.proofs.Marking.{sees_none, sees_after, sees_node, sees_skip, covers_none, covers_after, covers_node, covers_skip}
