@@ -1,10 +1,10 @@
 -- Facts on forests and lists of numbers.
-use Rattle.std.proofs.Common.{◌≡◌, ℕ, ◌+◌, ◌≤◌, ◌==◌, Bool, true, false, ◌||◌, refl, sym, ap, subst, ◌∙◌, arith, leb, if◌then◌else◌, eqb-true, eq-eqb, inl, inr, List, [], ◌∷◌, ◌++◌, not}
+use Rattle.std.proofs.Common.{◌≡◌, ℕ, ◌+◌, ◌≤◌, ◌==◌, Bool, true, false, ◌||◌, refl, sym, ap, subst, ◌∙◌, arith, leb, if◌then◌else◌, eqb-true, eq-eqb, inl, inr, List, [], ◌∷◌, ◌++◌, not, map}
 use Rattle.std.proofs.lemmas.Bool.{cases_Bool, false≢true, true≢false, or_cases, leb-true, leb-false}
-use Rattle.page_model.specs.Edits.{listed, siblings, taken}
-use Rattle.page_model.specs.Forest.{Forest, none, node, has, one, on, tally, keys, kids, parent, pruned}
-use Rattle.page_model.specs.Labels.{Root, Look}
-use Rattle.page_model.specs.Pages.{into_by, ascending_by, those}
+use Rattle.page_model.specs.Edits.{listed, siblings, into, ascending, taken}
+use Rattle.page_model.specs.Forest.{Forest, none, node, has, one, on, tally, keys, kids, parent, label_in, pruned, numbered}
+use Rattle.page_model.specs.Labels.{Root, Look, shown}
+use Rattle.page_model.specs.Pages.{NumberedPage, looks, by_number, number_of, into_by, ascending_by, those}
 use Rattle.page_model.proofs.Shared.{has_on, has_parent, off_has, on_tally, or_left, or_right, self_on, tally_off, tally_on, has_listed, on_kids}
 use Rattle.std.specs.List.{flat_map}
 use Rattle.update_laws.specs.Differences.{often}
@@ -96,6 +96,28 @@ knows_in look (node m x k r) l h =
 pub knows : {A : Type 0} (t : Forest A) → ((j : ℕ) → tally j t ≤ 1) → Knows (λ n. kids n t) t
 knows t l = knows_in (λ n. kids n t) t l (λ n e. refl)
 
+abbrev Tells : {A : Type 0} → (ℕ → A) → Forest A → Type 0
+Tells lab none = Unit {0}
+Tells lab (node m x k r) = (lab m ≡ x) × Tells lab k × Tells lab r
+
+tells_in : {A : Type 0} (d : A) (lab : ℕ → A) (t : Forest A) → ((j : ℕ) → tally j t ≤ 1) → ((n : ℕ) → on n t ≡ true → lab n ≡ label_in d n t) → Tells lab t
+tells_in d lab none l h = tt
+tells_in d lab (node m x k r) l h =
+    let here : (m == m) ≡ true = eq-eqb m m refl in (
+      h m (self_on m x k r) ∙ (rw here refl),
+      tells_in d lab k (λ j. (let i = l j in omega arith)) (λ n e. h n (or_right (m == n) (on n k || on n r) (or_left (on n k) (on n r) e)) ∙ elim (cases_Bool (m == n)) [
+        | inl f ↦ (let i = rw f at (l n) in let a = on_tally n k e in absurd (omega arith))
+        | inr f ↦ rw (f, e) refl
+      ]),
+      tells_in d lab r (λ j. (let i = l j in omega arith)) (λ n e. h n (or_right (m == n) (on n k || on n r) (or_right (on n k) (on n r) e)) ∙ elim (cases_Bool (m == n)) [
+        | inl f ↦ (let i = rw f at (l n) in let a = on_tally n r e in absurd (omega arith))
+        | inr f ↦ (let i = l n in let a = on_tally n r e in let z : on n k ≡ false = tally_off n k (omega arith) in rw (f, z) refl)
+      ]),
+    )
+
+tells : {A : Type 0} (d : A) (t : Forest A) → ((j : ℕ) → tally j t ≤ 1) → Tells (λ n. label_in d n t) t
+tells d t l = tells_in d (λ n. label_in d n t) t l (λ n e. refl)
+
 pub later_in : {A : Type 0} (n m : ℕ) (x : A) (k r : Forest A) → has m r ≡ true → has m (node n x k r) ≡ true
 later_in n m x k r e = or_right (n == m) (has m r) e
 
@@ -127,6 +149,47 @@ tally_pruned keep j (node m x k r) =
 pub in_keys : {A : Type 0} (j : ℕ) (t : Forest A) → listed j (keys t) ≡ on j t
 in_keys j none = refl
 in_keys j (node m x k r) = ap (λ b. (m == j) || b) (in_both j (keys k) (keys r) ∙ (rw (in_keys j k, in_keys j r) refl))
+
+pub same_num : (num : ℕ → ℕ) (a m : ℕ) → (num a ≡ num m → a ≡ m) → (num m == num a) ≡ (m == a)
+same_num num a m d = elim (cases_Bool (num m == num a)) [
+  | inl e ↦ (let q = d (sym (eqb-true (num m) (num a) e)) in e ∙ sym (eq-eqb m a (sym q)))
+  | inr e ↦ e ∙ sym (elim (cases_Bool (m == a)) [
+    | inl f ↦ (let q : m ≡ a = eqb-true m a f in absurd (false≢true (sym e ∙ eq-eqb (num m) (num a) (ap num q))))
+    | inr f ↦ f
+  ])
+]
+
+pub on_num : {A : Type 0} (num : ℕ → ℕ) (a : ℕ) (t : Forest A) → ((b : ℕ) → on b t ≡ true → num a ≡ num b → a ≡ b) → on (num a) (numbered num t) ≡ on a t
+on_num num a none d = refl
+on_num num a (node m x k r) d =
+    let s = same_num num a m (d m (self_on m x k r)) in
+    let i = on_num num a k (λ b e. d b (or_right (m == b) (on b k || on b r) (or_left (on b k) (on b r) e))) in
+    let j = on_num num a r (λ b e. d b (or_right (m == b) (on b k || on b r) (or_right (on b k) (on b r) e))) in
+    rw (s, i, j) refl
+
+pub label_num : {A : Type 0} (d : A) (num : ℕ → ℕ) (a : ℕ) (t : Forest A) → ((b : ℕ) → on b t ≡ true → num a ≡ num b → a ≡ b) → label_in d (num a) (numbered num t) ≡ label_in d a t
+label_num d num a none h = refl
+label_num d num a (node m x k r) h =
+    let s = same_num num a m (h m (self_on m x k r)) in
+    let hk : (b : ℕ) → on b k ≡ true → num a ≡ num b → a ≡ b = λ b e. h b (or_right (m == b) (on b k || on b r) (or_left (on b k) (on b r) e)) in
+    let ik = label_num d num a k hk in
+    let ir = label_num d num a r (λ b e. h b (or_right (m == b) (on b k || on b r) (or_right (on b k) (on b r) e))) in
+    rw (s, on_num num a k hk, ik, ir) refl
+
+pub on_shown : (n : ℕ) (t : Forest Look) → on n (shown t) ≡ on n t
+on_shown n none = refl
+on_shown n (node m x k r) = rw (on_shown n k, on_shown n r) refl
+
+tally_looks : (a : ℕ) (t : Forest (ℕ × Look)) → tally a (looks t) ≡ tally a t
+tally_looks a none = refl
+tally_looks a (node m x k r) = rw (tally_looks a k, tally_looks a r) refl
+
+by_number_tells : (lab : ℕ → ℕ × Look) (t : Forest (ℕ × Look)) → Tells lab t → by_number t ≡ numbered (λ a. (lab a).0) (looks t)
+by_number_tells lab none h = refl
+by_number_tells lab (node m x k r) h = rw (by_number_tells lab k h.1, by_number_tells lab r h.2) (ap (λ z. node z x.1 (numbered (λ a. (lab a).0) (looks k)) (numbered (λ a. (lab a).0) (looks r))) (sym (ap (λ z. z.0) h.0)))
+
+pub by_number_is : (p : NumberedPage) → ((a : ℕ) → tally a (looks p.nodes) ≤ 1) → by_number p.nodes ≡ numbered (number_of p) (looks p.nodes)
+by_number_is p l = by_number_tells (λ a. label_in (0, Root) a p.nodes) p.nodes (tells (0, Root) p.nodes (λ a. (let i = l a in let j = tally_looks a p.nodes in omega arith)))
 
 pub parent_at : (b : ℕ) (t os : Forest Look) → t ≡ node 0 Root os none → ((j : ℕ) → tally j t ≤ 1) → on b t ≡ true → on (parent b t) t ≡ true
 parent_at b t os e l o = elim (cases_Bool (0 == b)) [
@@ -282,6 +345,57 @@ read_marked num f ks ms d o few h =
       | inr e ↦ (let b' = rw e at b in h j (often_listed j ks (omega arith)) e)
     ]) in
     ap (flat_map f) (same_order num ks (rs ++ ms) same d) ∙ silent num f rs ms quiet
+
+into_map : (num : ℕ → ℕ) (a : ℕ) (xs : List ℕ) → into (num a) (map num xs) ≡ map num (into_by num a xs)
+into_map num a [] = refl
+into_map num a (x ∷ xs) = elim (cases_Bool (leb (num a) (num x))) [
+  | inl e ↦ rw e refl
+  | inr e ↦ rw e (ap (λ z. num x ∷ z) (into_map num a xs))
+]
+
+-- numbers in order are the numbers of what is ordered by number
+pub ascending_map : (num : ℕ → ℕ) (xs : List ℕ) → ascending (map num xs) ≡ map num (ascending_by num xs)
+ascending_map num [] = refl
+ascending_map num (x ∷ xs) = ap (into (num x)) (ascending_map num xs) ∙ into_map num x (ascending_by num xs)
+
+in_kids' : {A : Type 0} (a m : ℕ) (x : A) (k r : Forest A) → on a k ≡ true → on a (node m x k r) ≡ true
+in_kids' a m x k r h = or_right (m == a) (on a k || on a r) (or_left (on a k) (on a r) h)
+
+in_rest' : {A : Type 0} (a m : ℕ) (x : A) (k r : Forest A) → on a r ≡ true → on a (node m x k r) ≡ true
+in_rest' a m x k r h = or_right (m == a) (on a k || on a r) (or_right (on a k) (on a r) h)
+
+pub siblings_num : (num : ℕ → ℕ) (t : Forest Look) → siblings (shown (numbered num t)) ≡ map num (siblings t)
+siblings_num num none = refl
+siblings_num num (node m x k r) = ap (λ z. num m ∷ z) (siblings_num num r)
+
+kids_shown : (n : ℕ) (t : Forest Look) → kids n (shown t) ≡ shown (kids n t)
+kids_shown n none = refl
+kids_shown n (node m x k r) = elim (cases_Bool (m == n)) [
+  | inl e ↦ rw e refl
+  | inr e ↦ elim (cases_Bool (on n k)) [
+    | inl f ↦ rw (e, on_shown n k, f) (kids_shown n k)
+    | inr f ↦ rw (e, on_shown n k, f) (kids_shown n r)
+  ]
+]
+
+kids_numbered : {A : Type 0} (num : ℕ → ℕ) (a : ℕ) (t : Forest A) → ((b : ℕ) → on b t ≡ true → num a ≡ num b → a ≡ b) → kids (num a) (numbered num t) ≡ numbered num (kids a t)
+kids_numbered num a none h = refl
+kids_numbered num a (node m x k r) h =
+    let s = same_num num a m (h m (self_on m x k r)) in
+    let hk : (b : ℕ) → on b k ≡ true → num a ≡ num b → a ≡ b = λ b e. h b (in_kids' b m x k r e) in
+    let o = on_num num a k hk in
+    let ik = kids_numbered num a k hk in
+    let ir = kids_numbered num a r (λ b e. h b (in_rest' b m x k r e)) in
+    elim (cases_Bool (m == a)) [
+      | inl e ↦ rw (s, e) refl
+      | inr e ↦ elim (cases_Bool (on a k)) [
+        | inl f ↦ rw (s, e, o, f) ik
+        | inr f ↦ rw (s, e, o, f) ir
+      ]
+    ]
+
+pub kids_num : (num : ℕ → ℕ) (a : ℕ) (t : Forest Look) → ((b : ℕ) → on b t ≡ true → num a ≡ num b → a ≡ b) → kids (num a) (shown (numbered num t)) ≡ shown (numbered num (kids a t))
+kids_num num a t h = kids_shown (num a) (numbered num t) ∙ ap shown (kids_numbered num a t h)
 
 pub often_keys : {A : Type 0} (j : ℕ) (t : Forest A) → often j (keys t) ≡ tally j t
 often_keys j none = refl

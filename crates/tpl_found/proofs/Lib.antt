@@ -1,3 +1,5 @@
 mod Facts
 mod Marking
+mod Numbering
+mod Telling
 pub mod Shared

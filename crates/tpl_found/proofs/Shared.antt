@@ -2,3 +2,6 @@
 
 pub use Rattle.tpl_found.proofs.Marking.{marks_law, whole_law}
 pub use Rattle.tpl_found.proofs.Marking.{sees_none, sees_after, sees_node, sees_skip, covers_none, covers_after, covers_node, covers_skip}
+-- what is read by number, and what is told
+pub use Rattle.tpl_found.proofs.Numbering.{reads_law, removals_law, kept_law}
+pub use Rattle.tpl_found.proofs.Telling.{told_law}

@@ -1,1 +1,3 @@
 pub mod Seeing
+pub mod Reading
+pub mod Telling

@@ -1,5 +1,7 @@
 // The laws of what is compared, each the contract of a call that does nothing.
+ghost use Rattle.tpl_found.specs.Reading.{KeptLaw, ReadsLaw, RemovalsLaw};
 ghost use Rattle.tpl_found.specs.Seeing.{MarksLaw, WholeLaw};
+ghost use Rattle.tpl_found.specs.Telling.{ToldLaw};
 
 /// What is found by marks on the next page gives the operations between the two pages, and the order of the new numbers.
 pub fn marks_law()
@@ -9,4 +11,24 @@ pub fn marks_law()
 /// All nodes that stand on both pages may be marked.
 pub fn whole_law()
     ensures { WholeLaw }
+{}
+
+/// What the tree says of a node by its number is what the page says of it by its address.
+pub fn reads_law()
+    ensures { ReadsLaw }
+{}
+
+/// What is removed is read from the tree by the numbers of the nodes that are compared.
+pub fn removals_law()
+    ensures { RemovalsLaw }
+{}
+
+/// The numbers of the nodes of both pages tell what is kept.
+pub fn kept_law()
+    ensures { KeptLaw }
+{}
+
+/// What a kept node says is what the tree has otherwise.
+pub fn told_law()
+    ensures { ToldLaw }
 {}

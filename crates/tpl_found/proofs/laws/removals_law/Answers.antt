@@ -1,0 +1,5 @@
+use Rattle.tpl_found.proofs.Numbering.{removals_law}
+use Rattle.tpl_found.proofs.laws.removals_law.Goals as goal
+
+pub returns : goal.returns
+returns c = removals_law
