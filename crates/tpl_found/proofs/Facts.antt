@@ -232,7 +232,7 @@ unlisted_often j (x ∷ xs) h = elim (cases_Bool (x == j)) [
   | inr e ↦ (let i = unlisted_often j xs (rw e at h) in rw e (omega arith))
 ]
 
-often_taken : (j n : ℕ) (xs : List ℕ) → listed n xs ≡ true → one (n == j) + often j (taken n xs) ≡ often j xs
+pub often_taken : (j n : ℕ) (xs : List ℕ) → listed n xs ≡ true → one (n == j) + often j (taken n xs) ≡ often j xs
 often_taken j n [] h = absurd (false≢true h)
 often_taken j n (x ∷ xs) h = elim (cases_Bool (x == n)) [
   | inl e ↦ (let q : x ≡ n = eqb-true x n e in rw e (ap (λ z. one (z == j) + often j xs) (sym q)))
@@ -405,7 +405,7 @@ pub child_on : {A : Type 0} (a j : ℕ) (t : Forest A) → listed j (siblings (k
 child_on a j t h = on_kids a j t (has_on j (kids a t) (has_listed j (kids a t) ∙ h))
 
 -- below a node that isn't kept none is
-abbrev New : {A : Type 0} → (ℕ → Bool) → Forest A → Type 0
+abbrev pub New : {A : Type 0} → (ℕ → Bool) → Forest A → Type 0
 New keep none = Unit {0}
 New keep (node m x k r) = (keep m ≡ false → (j : ℕ) → on j k ≡ true → keep j ≡ false) × New keep k × New keep r
 

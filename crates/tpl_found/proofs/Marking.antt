@@ -89,7 +89,7 @@ flat_into num f j a (x ∷ xs) = elim (cases_Bool (leb (num a) (num x))) [
       omega (arith, i, b, c))
 ]
 
-flat_ascending : (num : ℕ → ℕ) (f : ℕ → List ℕ) (j : ℕ) (xs : List ℕ) → often j (flat_map f (ascending_by num xs)) ≡ often j (flat_map f xs)
+pub flat_ascending : (num : ℕ → ℕ) (f : ℕ → List ℕ) (j : ℕ) (xs : List ℕ) → often j (flat_map f (ascending_by num xs)) ≡ often j (flat_map f xs)
 flat_ascending num f j [] = refl
 flat_ascending num f j (x ∷ xs) =
     let a = flat_into num f j x (ascending_by num xs) in

@@ -1,13 +1,13 @@
 -- What is read by number from the tree that stands.
-use Rattle.std.proofs.Common.{◌≡◌, ℕ, ◌≤◌, ◌==◌, Bool, true, false, not, ◌||◌, List, [], ◌∷◌, ◌++◌, map, refl, sym, ap, ◌∙◌, if◌then◌else◌, eqb-true, eq-eqb, inl, inr, arith}
+use Rattle.std.proofs.Common.{◌≡◌, ℕ, ◌==◌, Bool, true, not, List, [], ◌∷◌, ◌++◌, map, refl, sym, ap, ◌∙◌, eqb-true, eq-eqb, inl, inr}
 use Rattle.std.specs.List.{flat_map}
 use Rattle.std.proofs.lemmas.Bool.{cases_Bool, false≢true, true≢false, or_cases}
 use Rattle.page_model.specs.Edits.{ascending, listed, siblings}
 use Rattle.page_model.specs.Forest.{Forest, none, node, on, keys, kids, label_in, numbered}
-use Rattle.page_model.specs.Labels.{Root, Kind, Look, seen, shown}
-use Rattle.page_model.specs.Pages.{NumberedPage, IsPage, ascending_by, number_of, page_shape, by_number, those, tree_of}
+use Rattle.page_model.specs.Labels.{Root, Look, seen, shown}
+use Rattle.page_model.specs.Pages.{NumberedPage, IsPage, number_of, page_shape, those, tree_of}
 use Rattle.page_model.proofs.Shared.{or_left, or_right}
-use Rattle.tpl_found.specs.Reading.{KeptLaw, Reads, ReadsLaw, RemovalsLaw, TellsKept, gone_numbers, kept_numbers}
+use Rattle.tpl_found.specs.Reading.{KeptLaw, ReadsLaw, RemovalsLaw, TellsKept, gone_numbers}
 use Rattle.tpl_found.specs.Seeing.{common, gone_children}
 use Rattle.tpl_found.proofs.Facts.{ascending_map, by_number_is, child_on, from_those, in_keys, kids_num, label_num, on_shown, siblings_num, to_those}
 

@@ -5,3 +5,5 @@ pub use Rattle.tpl_found.proofs.Marking.{sees_none, sees_after, sees_node, sees_
 -- what is read by number, and what is told
 pub use Rattle.tpl_found.proofs.Numbering.{reads_law, removals_law, kept_law}
 pub use Rattle.tpl_found.proofs.Telling.{told_law}
+-- what comes
+pub use Rattle.tpl_found.proofs.Ordering.{order_law, serial_law, steps_law}

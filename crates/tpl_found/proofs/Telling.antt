@@ -1,12 +1,12 @@
 -- What a kept node says, by what the tree has of it.
-use Rattle.std.proofs.Common.{◌≡◌, ℕ, suc, Bool, true, false, ◌||◌, List, [], ◌∷◌, Option, Some, None, if◌then◌else◌, refl, sym, ap, ◌∙◌, inl, inr}
+use Rattle.std.proofs.Common.{◌≡◌, ℕ, suc, Bool, true, false, ◌||◌, List, [], ◌∷◌, Option, Some, None, refl, sym, ap, ◌∙◌, inl, inr}
 use Rattle.std.specs.Str.{bytes_eq}
 use Rattle.std.proofs.lemmas.Bool.{cases_Bool, false≢true, true≢false}
 use Rattle.std.proofs.lemmas.Slice.Eq.{bytes_eq-Decides}
-use Rattle.page_model.specs.Edits.{attribute_edits, line_edits, same_value, told}
-use Rattle.page_model.specs.Labels.{Root, Text, Element, Alike, Distinct, DistinctNames, Look, SameNames, named, present, seen, with_value}
+use Rattle.page_model.specs.Edits.{attribute_edits, line_edits}
+use Rattle.page_model.specs.Labels.{Root, Text, Element, Distinct, SameNames, named, present, with_value}
 use Rattle.page_model.specs.Replay.{Op, OpAttr, OpUnattr}
-use Rattle.tpl_found.specs.Telling.{ToldLaw, attributes_told, told_on, value_at}
+use Rattle.tpl_found.specs.Telling.{ToldLaw, attributes_told, value_at}
 
 bytes_same : (a : List ℕ) → bytes_eq a a ≡ true
 bytes_same a = (bytes_eq-Decides a a).1 refl

@@ -1,3 +1,4 @@
 pub mod Seeing
 pub mod Reading
 pub mod Telling
+pub mod Coming

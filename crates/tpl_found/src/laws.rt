@@ -1,4 +1,5 @@
 // The laws of what is compared, each the contract of a call that does nothing.
+ghost use Rattle.tpl_found.specs.Coming.{OrderLaw, SerialLaw, StepsLaw};
 ghost use Rattle.tpl_found.specs.Reading.{KeptLaw, ReadsLaw, RemovalsLaw};
 ghost use Rattle.tpl_found.specs.Seeing.{MarksLaw, WholeLaw};
 ghost use Rattle.tpl_found.specs.Telling.{ToldLaw};
@@ -31,4 +32,19 @@ pub fn kept_law()
 /// What a kept node says is what the tree has otherwise.
 pub fn told_law()
     ensures { ToldLaw }
+{}
+
+/// New addresses are on the next page alone, and each comes once.
+pub fn order_law()
+    ensures { OrderLaw }
+{}
+
+/// New nodes that come one after the other are numbered in document order.
+pub fn serial_law()
+    ensures { SerialLaw }
+{}
+
+/// The operations on the children of a node are their steps, with what comes in its order.
+pub fn steps_law()
+    ensures { StepsLaw }
 {}

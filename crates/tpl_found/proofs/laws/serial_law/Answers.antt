@@ -1,0 +1,5 @@
+use Rattle.tpl_found.proofs.Ordering.{serial_law}
+use Rattle.tpl_found.proofs.laws.serial_law.Goals as goal
+
+pub returns : goal.returns
+returns c = serial_law
