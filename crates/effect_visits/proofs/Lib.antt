@@ -1,0 +1,3 @@
+mod Visits
+mod TurnByTurn
+pub mod Shared
