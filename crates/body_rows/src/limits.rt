@@ -58,7 +58,7 @@ fn a_height_of_sixty_four(rt: HostRuntime) -> Result<(), Fail> {
     let alloc = rt.alloc();
     let high = repeated(alloc, b"log 1\nlog ", b"not ", 63, b"true\n")?;
     assert!(rt; is_read(alloc, &high));
-    let higher = repeated(alloc, b"log 1\nlog ", b"not ", 64, b"true\nlog it.x\n")?;
+    let higher = repeated(alloc, b"log 1\nlog ", b"not ", 64, b"true\nlog 2\n")?;
     assert_eq!(rt; fault(alloc, &higher), Some((1, BodyWhy::Nest)));
     Ok(())
 }
@@ -68,8 +68,11 @@ fn a_text_of_1024_bytes(rt: HostRuntime) -> Result<(), Fail> {
     let alloc = rt.alloc();
     let long = repeated(alloc, b"log 1\nlog \"", b"x", 1024, b"\"\n")?;
     assert!(rt; is_read(alloc, &long));
-    let longer = repeated(alloc, b"log 1\nlog \"", b"x", 1025, b"\"\nlog it.x\n")?;
-    assert_eq!(rt; fault(alloc, &longer), Some((2, BodyWhy::ItHere)));
+    let longer = repeated(alloc, b"log 1\nlog \"", b"x", 1025, b"\"\nlog ")?;
+    let high = repeated(alloc, &longer, b"not ", 63, b"true\n")?;
+    assert_eq!(rt; fault(alloc, &high), Some((1, BodyWhy::Text)));
+    let higher = repeated(alloc, &longer, b"not ", 64, b"true\n")?;
+    assert_eq!(rt; fault(alloc, &higher), Some((2, BodyWhy::Nest)));
     let front = repeated(alloc, b"", b"log 1\n", 65, b"")?;
     let last = repeated(alloc, &front, b"log \"", 1, b"")?;
     let last = repeated(alloc, &last, b"x", 1025, b"\"\n")?;

@@ -31,7 +31,7 @@ fn lines_outside_the_grammar(rt: HostRuntime) {
         ),
         ("log 1\nrewire a = host -1 (b)\nlog 2\n", 1, BodyWhy::Syntax),
         ("log 1\ntext a\nlog 2\n", 1, BodyWhy::Syntax),
-        ("log it.x\nlog )\nlog 2\n", 1, BodyWhy::Syntax),
+        ("log 1\nlog )\nlog 2\n", 1, BodyWhy::Syntax),
     ];
     assert!(rt; all_refused(rt.alloc(), &rows));
 }
@@ -42,7 +42,7 @@ fn ends_that_end_nothing_or_are_missing(rt: HostRuntime) {
         ("log 1\nend\nlog 2\n", 1, BodyWhy::Syntax),
         ("effect\nend\nend\nlog 2\n", 2, BodyWhy::Syntax),
         ("log 1\nwhen true\nlog 2\n", 2, BodyWhy::Syntax),
-        ("when it.x\neffect\nend\n", 2, BodyWhy::Syntax),
+        ("when true\neffect\nend\n", 2, BodyWhy::Syntax),
     ];
     assert!(rt; all_refused(rt.alloc(), &rows));
 }
@@ -50,15 +50,21 @@ fn ends_that_end_nothing_or_are_missing(rt: HostRuntime) {
 #[test]
 fn formulas_that_speak_of_a_row(rt: HostRuntime) {
     let rows = [
-        ("log 1\nwhen it.x\nend\n", 1, BodyWhy::ItHere),
-        ("log 1\nset a it.key\nlog it.x\n", 1, BodyWhy::ItHere),
-        ("log 1\ncleanup set a it.x\nlog 2\n", 1, BodyWhy::ItHere),
-        ("log 1\nrewire a = it.x\nlog 2\n", 1, BodyWhy::ItHere),
-        ("log count(keep(l, it.x))\nlog it.y\n", 1, BodyWhy::ItHere),
+        ("log 1\nwhen it.x\nend\n", 1, BodyWhy::Syntax),
+        ("log 1\nset a it.key\nlog it.x\n", 1, BodyWhy::Syntax),
+        ("log 1\ncleanup set a it.x\nlog 2\n", 1, BodyWhy::Syntax),
+        ("log 1\nrewire a = it.x\nlog 2\n", 1, BodyWhy::Syntax),
+        ("log count(l)\nlog it.y\n", 0, BodyWhy::Syntax),
+        ("log 1\nlog sum(l, 1)\nlog 2\n", 1, BodyWhy::Syntax),
+        (
+            "log 1\nlog count(keep(l, true))\nlog it.y\n",
+            1,
+            BodyWhy::Syntax,
+        ),
         (
             "# one\n\n log 1\r\n  # two\n log it.x\n",
             4,
-            BodyWhy::ItHere,
+            BodyWhy::Syntax,
         ),
     ];
     assert!(rt; all_refused(rt.alloc(), &rows));

@@ -16,3 +16,4 @@ mod Spelling
 mod Spellings
 mod Standing
 mod Texts
+pub mod Shared

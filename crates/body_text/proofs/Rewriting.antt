@@ -1,9 +1,10 @@
 -- The lines of a body say the body.
 use Rattle.std.proofs.Common.{◌≡◌, ℕ, ◌+◌, suc, List, [], ◌∷◌, ◌++◌, length, map, flat_map, Option, Some, None, refl, sym, ap, ap₂, subst, ◌∙◌}
-use Rattle.std.specs.Prelude.{Ok, option_map}
+use Rattle.std.specs.Prelude.{Ok, option_map, true, false}
+use Rattle.std.specs.List.{AllByRecursion}
 use Rattle.line_forms.specs.Forms.{Args}
-use Rattle.line_forms.proofs.Shared.{prints_back}
-use Rattle.script_lines.specs.Lines.{NumberedLine, kept_lines, numbered}
+use Rattle.line_forms.proofs.Shared.{is_line, prints_back}
+use Rattle.script_lines.specs.Lines.{NumberedLine, is_passed, kept_lines, numbered}
 use Rattle.sig_untrack.specs.Stated.{Bodies}
 use Rattle.body_text.specs.declared.fault.BodyFault.{BodyFault}
 use Rattle.body_text.specs.declared.fault.BodyWhy.{BodyWhy}
@@ -16,7 +17,7 @@ use Rattle.body_text.specs.Statements.{Statements, body_of, lines_of}
 use Rattle.body_text.specs.Writing.{body_text, bytes_of, ended_line, lines_of_text, lines_text, meaning, said_of, text_of}
 use Rattle.body_text.proofs.Judgements.{neither}
 use Rattle.body_text.proofs.Meaning.{meant_back}
-use Rattle.body_text.proofs.Standing.{said_all, all_lines, kept_all}
+use Rattle.body_text.proofs.Standing.{said_all, AllLines, all_lines, kept_all}
 
 -- ---- a line says again what it said
 
@@ -137,3 +138,37 @@ read_back ls b r =
     says again d.statements (say_from 0 ls d.xs 0 d.say) (lines_from 0 d.xs ∙ d.spelled) in
     subst (λ (a : Answer). IsRead (kept_lines 0 (body_text b)) a) whole
     (subst (λ (ms : List NumberedLine). IsRead ms (answer_of again d.statements)) (sym (numbered_lines ls b d)) read)
+
+-- ---- with other numbers
+
+-- the bytes of a body's lines
+abbrev pub bytes_in : Bodies → List (List ℕ)
+bytes_in b = map (λ l. bytes_of (said_of l)) (lines_of (meaning b))
+
+same_lines : (ls : List NumberedLine) (b : Bodies) (d : Done ls b) → map bytes_of (said_all d.xs) ≡ bytes_in b
+same_lines ls b d =
+    ap (map bytes_of) (sym (all_back d.xs)) ∙ sym (bytes_same (said_lines d.xs)) ∙ ap (map (λ l. bytes_of (said_of l))) d.spelled
+    ∙ ap (λ (s : Statements). map (λ l. bytes_of (said_of l)) (lines_of s)) (sym (means ls b d))
+
+-- the lines are read as the body, whatever their numbers
+pub read_anew : (n : ℕ) (ls : List NumberedLine) (b : Bodies) → IsRead ls (Ok b) → IsRead (numbered n (bytes_in b)) (Ok b)
+read_anew n ls b r =
+    let d = done_by ls b (Ok b) r refl in
+    let again = from n d.xs in
+    let whole : answer_of again d.statements ≡ Ok b =
+    ap (λ (o : Option BodyFault). unless_refused o (body_of d.statements)) (none_refused 0 n d.xs d.sound) ∙ ap (λ (c : Bodies). Ok c) d.is in
+    let read : IsRead (numbered n (map bytes_of (said_all d.xs))) (answer_of again d.statements) =
+    says again d.statements (say_from 0 ls d.xs n d.say) (lines_from n d.xs ∙ d.spelled) in
+    subst (λ (a : Answer). IsRead (numbered n (bytes_in b)) a) whole
+    (subst (λ (ms : List (List ℕ)). IsRead (numbered n ms) (answer_of again d.statements)) (same_lines ls b d) read)
+
+each_whole : (xs : List Said) → AllLines xs → AllByRecursion (λ l. (is_line l ≡ true) × (is_passed l ≡ false)) (map bytes_of xs)
+each_whole [] s = tt
+each_whole (x ∷ xs) s = ((s.0, s.1), each_whole xs s.2)
+
+-- each is one line, which isn't passed over
+pub whole_lines : (ls : List NumberedLine) (b : Bodies) → IsRead ls (Ok b) → AllByRecursion (λ l. (is_line l ≡ true) × (is_passed l ≡ false)) (bytes_in b)
+whole_lines ls b r =
+    let d = done_by ls b (Ok b) r refl in
+    subst (λ (ms : List (List ℕ)). AllByRecursion (λ l. (is_line l ≡ true) × (is_passed l ≡ false)) ms) (same_lines ls b d)
+    (each_whole (said_all d.xs) (all_lines 0 ls d.xs d.say))

@@ -2,12 +2,12 @@
 use Rattle.std.specs.Prelude.{ℕ, List, [], ◌∷◌, codes}
 use Rattle.sig_words.specs.Lexemes.{symbol, word}
 use Rattle.line_forms.specs.Blocks as blocks
-use Rattle.line_forms.specs.Forms.{Piece, part, fixed, one, arguments, formula, over_rows, name, count}
+use Rattle.line_forms.specs.Forms.{Formulas, Piece, part, fixed, one, arguments, formula, plain, name, count}
 use Rattle.line_forms.specs.Rows as grammar
 use Rattle.line_forms.specs.Told.{Made, made}
 use Rattle.body_text.specs.declared.line.Line.{Line}
 use Rattle.body_text.specs.declared.line.Line.TheVariants as line
-use Rattle.body_text.specs.declared.line.Plain.TheVariants as plain
+use Rattle.body_text.specs.declared.line.Plain.TheVariants as statement
 use Rattle.body_text.specs.declared.line.Source.TheVariants as source
 
 -- the rows of the grammar
@@ -27,9 +27,13 @@ pub data Row : Type 0 where
 abbrev NAME : Piece
 NAME = part (one name)
 
--- a formula, which may speak of rows
+-- a body's formulas don't speak of rows
+abbrev pub formulas : Formulas
+formulas = plain
+
+-- a formula
 abbrev FORMULA : Piece
-FORMULA = part (formula over_rows)
+FORMULA = part (formula formulas)
 
 -- a number without sign
 abbrev PLACE : Piece
@@ -75,15 +79,15 @@ table =
 
 -- what a row gives of what stands in its parts
 abbrev pub line_makes : (r : Row) → Made (row r).1 Line
-line_makes set = λ n x. line.Plain (plain.Set n x)
-line_makes log = λ x. line.Plain (plain.Log x)
+line_makes set = λ n x. line.Plain (statement.Set n x)
+line_makes log = λ x. line.Plain (statement.Log x)
 line_makes guard = λ x. line.When x
-line_makes cleanup_set = λ n x. line.Plain (plain.CleanupSet n x)
-line_makes cleanup_log = λ x. line.Plain (plain.CleanupLog x)
+line_makes cleanup_set = λ n x. line.Plain (statement.CleanupSet n x)
+line_makes cleanup_log = λ x. line.Plain (statement.CleanupLog x)
 line_makes effect = line.Effect
-line_makes dispose = λ n. line.Plain (plain.Dispose n)
-line_makes rewire = λ n x. line.Plain (plain.Rewire n (source.Formula x))
-line_makes host = λ n k ns. line.Plain (plain.Rewire n (source.Host k ns))
+line_makes dispose = λ n. line.Plain (statement.Dispose n)
+line_makes rewire = λ n x. line.Plain (statement.Rewire n (source.Formula x))
+line_makes host = λ n k ns. line.Plain (statement.Rewire n (source.Host k ns))
 line_makes close = line.End
 
 -- what a line says by itself; its texts may be of any length, and its formulas of any height

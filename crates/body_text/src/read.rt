@@ -121,10 +121,10 @@ fn answer(alloc: Global, lines: &[NumberedLine]) -> Result<Result<Body, BodyFaul
 ///
 /// # Errors
 ///
-/// Lines are refused for the first of these causes: one that isn't in the grammar or may not stand there, or the last where something
-/// isn't ended, as `Syntax`; the first line with an `it` without a row, more than `MOST_LEVELS` levels or a formula that is higher than
-/// `MOST_HEIGHT`, on one line the first of these; the first line with a text of more than `MOST_TEXT` bytes, or with a formula or a host
-/// formula of more than `MOST_SOURCES` names; more than `MOST_BODY_LINES` lines. `NoMemory` where the body finds no room.
+/// Lines are refused for the first of these causes: one that isn't in the grammar, as one whose formula speaks of rows, or may not stand
+/// there, or the last where something isn't ended, as `Syntax`; the first line with more than `MOST_LEVELS` levels or a formula that is
+/// higher than `MOST_HEIGHT`; the first line with a text of more than `MOST_TEXT` bytes, or with a formula or a host formula of more than
+/// `MOST_SOURCES` names; more than `MOST_BODY_LINES` lines. `NoMemory` where the body finds no room.
 pub fn read_numbered(alloc: Global, lines: &[NumberedLine]) -> Result<Body, BodyFault>
     requires { All (λ l. length l.text.now ≤ MOST_LINE) lines.now }
     ensures ok { IfOk result (λ b. IsRead (map line_of lines.now) (Ok (before b no_bodies))) }

@@ -9,7 +9,7 @@ ghost use Rattle.line_forms.specs.Reading.{read_form, read_part};
 ghost use Rattle.line_forms.specs.Rows.{rows_of, said_of};
 ghost use Rattle.line_forms.specs.Told.{ahead, IsToldFormula};
 ghost use Rattle.body_text.specs.Grammar as rows;
-ghost use Rattle.body_text.specs.Grammar.{row, table, Row, Said, Writes};
+ghost use Rattle.body_text.specs.Grammar.{formulas, row, table, Row, Said, Writes};
 ghost use Rattle.body_text.specs.Judging.{allowed};
 ghost use Rattle.body_text.specs.Views.{found_as, found_first, found_of, IsTold};
 
@@ -17,7 +17,7 @@ use crate::line::{Found, Line, LineKind, Plain, Source, faulty, sound, statement
 use crate::named::NamedFormula;
 use formula_text::{Allow, FormulaFault};
 use line_forms::{
-    ToldFormula, arguments_at, count_at, ends_at, name_at, rough_at, symbol_at, told, word_at,
+    ToldFormula, arguments_at, count_at, ends_at, formula_at, name_at, symbol_at, word_at,
 };
 use sig_base::{MOST_LINE, Name, NoMemory};
 use sig_words::{LineFault, Token, TokenKind, token_bytes, tokens};
@@ -46,21 +46,20 @@ fn named(told: ToldFormula) -> ToldNamed
 }
 
 // A formula at a place, or what is wrong with it, and the place after it.
-fn formula_at(
+fn named_at(
     alloc: Global,
     line: &[u8],
     tokens: &[Token],
     at: usize,
 ) -> Result<Option<(ToldNamed, usize)>, NoMemory>
     requires { AreTokens line.now tokens.now }
-    ensures { IfOk result (λ found. MatchOption found (read_part (forms.formula forms.over_rows) (ahead line.now tokens.now at) ≡ None)
-        (λ p. (x : Draft) × (read_part (forms.formula forms.over_rows) (ahead line.now tokens.now at) ≡ Some (x, ahead line.now tokens.now p.1))
+    ensures { IfOk result (λ found. MatchOption found (read_part (forms.formula formulas) (ahead line.now tokens.now at) ≡ None)
+        (λ p. (x : Draft) × (read_part (forms.formula formulas) (ahead line.now tokens.now at) ≡ Some (x, ahead line.now tokens.now p.1))
         × IsTold (refusal allowed x) x p.0)) }
 {
-    let Some((rough, to)) = rough_at(alloc, line, tokens, at)? else {
+    let Some((told, to)) = formula_at(alloc, line, tokens, at, ALLOWED)? else {
         return Ok(None);
     };
-    let told = told(alloc, line, tokens, &rough, ALLOWED)?;
     Ok(Some((named(told), to)))
 }
 
@@ -72,10 +71,10 @@ fn last_formula(
     at: usize,
 ) -> Result<Option<ToldNamed>, NoMemory>
     requires { AreTokens line.now tokens.now }
-    ensures { IfOk result (λ found. MatchOption found (read_form (forms.part (forms.formula forms.over_rows) ∷ []) (ahead line.now tokens.now at) ≡ None)
-        (λ t. (x : Draft) × (read_form (forms.part (forms.formula forms.over_rows) ∷ []) (ahead line.now tokens.now at) ≡ Some (x, tt)) × IsTold (refusal allowed x) x t)) }
+    ensures { IfOk result (λ found. MatchOption found (read_form (forms.part (forms.formula formulas) ∷ []) (ahead line.now tokens.now at) ≡ None)
+        (λ t. (x : Draft) × (read_form (forms.part (forms.formula formulas) ∷ []) (ahead line.now tokens.now at) ≡ Some (x, tt)) × IsTold (refusal allowed x) x t)) }
 {
-    let Some((formula, at)) = formula_at(alloc, line, tokens, at)? else {
+    let Some((formula, at)) = named_at(alloc, line, tokens, at)? else {
         return Ok(None);
     };
     if !ends_at(tokens, at) {
@@ -93,8 +92,8 @@ fn name_and_formula(
 ) -> Result<Option<(Name, ToldNamed)>, NoMemory>
     requires { AreTokens line.now tokens.now }
     ensures { IfOk result (λ found. MatchOption found
-        (read_form (forms.part (forms.one forms.name) ∷ forms.part (forms.formula forms.over_rows) ∷ []) (ahead line.now tokens.now at) ≡ None)
-        (λ t. (x : Draft) × (read_form (forms.part (forms.one forms.name) ∷ forms.part (forms.formula forms.over_rows) ∷ []) (ahead line.now tokens.now at)
+        (read_form (forms.part (forms.one forms.name) ∷ forms.part (forms.formula formulas) ∷ []) (ahead line.now tokens.now at) ≡ None)
+        (λ t. (x : Draft) × (read_form (forms.part (forms.one forms.name) ∷ forms.part (forms.formula formulas) ∷ []) (ahead line.now tokens.now at)
         ≡ Some (t.0, (x, tt))) × IsTold (refusal allowed x) x t.1)) }
 {
     let Some((name, at)) = name_at(alloc, line, tokens, at)? else {
