@@ -1,0 +1,234 @@
+-- What single steps leave.
+use Rattle.std.proofs.Common.{◌≡◌, ℕ, ◌+◌, ◌*◌, ◌^◌, ◌<◌, ◌≤◌, List, [], ◌∷◌, ◌++◌, suc, length, length-append, map, refl, sym, ap, subst, ◌∙◌, arith}
+use Rattle.signal_model.specs.Recipes.{Hosts}
+use Rattle.effect_model.specs.Worlds as plain
+use Rattle.effect_model.specs.Worlds.{settle}
+use Rattle.effect_tables.specs.declared.tables.Tables.{Tables}
+use Rattle.effect_tables.specs.Placed.{at_rest}
+use Rattle.effect_tables.proofs.Shared.{placed_rests}
+use Rattle.sig_host.specs.Hosts.{HostPlace, most_asked}
+use Rattle.sig_watcher.specs.Tables.{Table}
+use Rattle.sig_effect.specs.declared.events.Event.{Event as SignalEvent}
+use Rattle.sig_effect.specs.Agreeing.{AreRuled, environment}
+use Rattle.sig_effect.specs.Wholes as wholes
+use Rattle.effect_runs.specs.Settling as settling
+use Rattle.effect_runs.specs.Settling.{CanSettle, Settles}
+use Rattle.effect_world.specs.declared.events.Event.{Event}
+use Rattle.effect_world.specs.declared.events.Event.TheVariants as event
+use Rattle.effect_world.specs.declared.world.World.{World}
+use Rattle.effect_world.specs.Acting.{Scene, any_hosts, scene}
+use Rattle.effect_world.specs.Agreeing.{Agrees, Does, IsSound}
+use Rattle.effect_world.specs.Events.{Tells}
+use Rattle.effect_world.specs.Weighing.{weight}
+use Rattle.effect_world.specs.Wholes.{whole_of}
+use Rattle.effect_world.proofs.Shared.{owned_still, settle_done, tells_none}
+use Rattle.effect_acts.specs.Acting.{Acted}
+use Rattle.effect_turns.specs.Running.{CanRun, Runs, Spends}
+
+-- ---- the same act in other words
+
+does_as : (hosts : Hosts) (old new : Scene) (f g : plain.World → plain.World) → f (whole_of old.asked old.world) ≡ g (whole_of old.asked old.world) →
+    Does hosts old.asked new.asked old.world new.world old.events new.events f → Does hosts old.asked new.asked old.world new.world old.events new.events g
+does_as hosts old new f g is d = record {
+  whole = d.whole ∙ ap at_rest is;
+  told = subst (λ (w : plain.World). Tells old.events new.events w.told) is d.told;
+  sound = d.sound;
+}
+
+pub runs_as : (slacks : List ℕ) (old new : Scene) (before after : Hosts → Type 0) (f g : plain.Environment → plain.World → plain.World) →
+    ((hosts : Hosts) → before hosts → IsSound hosts old.asked old.world →
+    f (environment hosts slacks) (whole_of old.asked old.world) ≡ g (environment hosts slacks) (whole_of old.asked old.world)) →
+    Runs slacks old new before after f → Runs slacks old new before after g
+runs_as slacks old new before after f g is r = record {
+  does = λ hosts all sound. does_as hosts old new (f (environment hosts slacks)) (g (environment hosts slacks)) (is hosts all sound) (r.does hosts all sound);
+  agrees = r.agrees;
+  answers = r.answers;
+  rules = r.rules;
+  given = r.given;
+  made = r.made;
+}
+
+-- the world after it is the plain world after it, at rest
+pub runs_whole : (slacks : List ℕ) (old new : Scene) (before after : Hosts → Type 0) (f : plain.Environment → plain.World → plain.World) →
+    Runs slacks old new before after f → (hosts : Hosts) → before hosts → IsSound hosts old.asked old.world →
+    whole_of new.asked new.world ≡ at_rest (f (environment hosts slacks) (whole_of old.asked old.world))
+runs_whole slacks old new before after f r hosts all sound = (r.does hosts all sound).whole
+
+pub runs_sound : (slacks : List ℕ) (old new : Scene) (before after : Hosts → Type 0) (f : plain.Environment → plain.World → plain.World) →
+    Runs slacks old new before after f → (hosts : Hosts) → before hosts → IsSound hosts old.asked old.world → IsSound hosts new.asked new.world
+runs_sound slacks old new before after f r hosts all sound = (r.does hosts all sound).sound
+
+-- ---- nothing is done
+
+pub runs_still : (slacks : List ℕ) (x : Scene) (answers : Hosts → Type 0) (act : plain.Environment → plain.World → plain.World) → Agrees x.asked x.world →
+    ((env : plain.Environment) → act env (whole_of x.asked x.world) ≡ whole_of x.asked x.world) → Runs slacks x x answers answers act
+runs_still slacks x answers act a is = record {
+  does = λ hosts all sound. record {
+    whole = sym (placed_rests x.world.tables (wholes.whole_of x.asked x.world.signals) a.owned.tables) ∙ ap at_rest (sym (is (environment hosts slacks)));
+    told = subst (λ (w : plain.World). Tells x.events x.events w.told) (sym (is (environment hosts slacks))) (tells_none x.events);
+    sound = sound;
+  };
+  agrees = a;
+  answers = λ hosts h. h;
+  rules = λ count h. h;
+  given = refl;
+  made = refl;
+}
+
+pub spends_none : (x : Scene) → Spends x x
+spends_none x = record { weight = omega arith; most = omega arith }
+
+-- ---- events behind others
+
+tells_behind : (none told before after : List Event) (ts : List plain.Event) → none ≡ [] → after ≡ before ++ told → Tells none told ts → Tells before after ts
+tells_behind none told before after ts empty is h = record {
+  more = h.more;
+  behind = is ∙ ap (λ es. before ++ es) (h.behind ∙ ap (λ es. es ++ h.more) empty);
+  each = h.each;
+}
+
+-- what was told from nothing on is put behind the others
+pub runs_behind : (slacks : List ℕ) (old new : World) (asked later : List HostPlace) (none told before after : List Event) (first last : Hosts → Type 0)
+    (act : plain.Environment → plain.World → plain.World) → none ≡ [] → after ≡ before ++ told →
+    Runs slacks (scene old asked none) (scene new later told) first last act → Runs slacks (scene old asked before) (scene new later after) first last act
+runs_behind slacks old new asked later none told before after first last act empty is r = record {
+  does = λ hosts all sound.
+      let d = r.does hosts all sound in
+      record {
+        whole = d.whole;
+        told = tells_behind none told before after (act (environment hosts slacks) (whole_of asked old)).told empty is d.told;
+        sound = d.sound;
+      };
+  agrees = r.agrees;
+  answers = r.answers;
+  rules = r.rules;
+  given = r.given;
+  made = r.made;
+}
+
+-- there are at least as many
+pub longer : (told before after : List Event) → after ≡ before ++ told → length before ≤ length after
+longer told before after is =
+    let e : length after ≡ length before + length told = ap length is ∙ length-append before told in
+    omega (arith, e)
+
+-- ---- acts, and what is settled
+
+pub acted_runs : (slacks : List ℕ) (old new : Scene) (before after : Hosts → Type 0) (steps : ℕ) (act : plain.Environment → plain.World → plain.World) →
+    Acted slacks old new before after steps act → Runs slacks old new before after act
+acted_runs slacks old new before after steps act a = record {
+  does = λ hosts all sound. a.does hosts sound;
+  agrees = a.agrees;
+  answers = a.answers;
+  rules = a.rules;
+  given = a.given;
+  made = a.made;
+}
+
+pub settled_runs : (slacks : List ℕ) (old new : World) (asked later : List HostPlace) (none told : List SignalEvent) (before after : List Event) (first last : Hosts → Type 0)
+    (names : Hosts → List ℕ) → none ≡ [] → after ≡ before ++ map event.Signals told → new.tables ≡ old.tables → Agrees asked old →
+    Settles (settling.scene old.signals asked none) (settling.scene new.signals later told) first last names →
+    Runs slacks (scene old asked before) (scene new later after) first last (λ env. settle env (names env.hosts))
+settled_runs slacks old new asked later none told before after first last names empty is same a s = record {
+  does = λ hosts all sound.
+      settle_done hosts slacks asked later old new before after none told (names hosts) empty (s.does hosts slacks all sound) same a.owned.tables is;
+  agrees = record { signals = s.agrees; owned = owned_still old new s.given same a.owned };
+  answers = s.answers;
+  rules = λ count h. subst (AreRuled count) (sym s.signals) h;
+  given = s.given;
+  made = ap (λ (t : Table). t.made) s.watchers;
+}
+
+length_told : (told : List SignalEvent) → length (map event.Signals told) ≡ length told
+length_told [] = refl
+length_told (e ∷ es) = ap suc (length_told es)
+
+pub settled_spends : (old new : World) (asked later : List HostPlace) (none told : List SignalEvent) (before after : List Event) (first last : Hosts → Type 0)
+    (names : Hosts → List ℕ) → none ≡ [] → after ≡ before ++ map event.Signals told → new.tables ≡ old.tables →
+    Settles (settling.scene old.signals asked none) (settling.scene new.signals later told) first last names → Spends (scene old asked before) (scene new later after)
+settled_spends old new asked later none told before after first last names empty is same s =
+    let n : length none ≡ 0 = ap length empty in
+    let e : length after ≡ length before + length told =
+    ap length is ∙ length-append before (map event.Signals told) ∙ ap (λ k. length before + k) (length_told told) in
+    let w : new.signals.graph.state.worn + length none ≡ old.signals.graph.state.worn + length told = s.worn in
+    let m : most_asked later + 65 * length none ≤ most_asked asked + 65 * length told = s.most in
+    let t : weight new ≡ weight (record new { tables = old.tables }) = ap (λ (x : Tables). weight (record new { tables = x })) same in
+    record { weight = omega (arith, n, e, w, t); most = omega (arith, n, e, m) }
+
+-- ---- what is spent
+
+pub spends_then : (old mid new : Scene) → Spends old mid → Spends mid new → Spends old new
+spends_then old mid new a b =
+    let aw = a.weight in
+    let am = a.most in
+    let bw = b.weight in
+    let bm = b.most in
+    record { weight = omega (arith, aw, bw); most = omega (arith, am, bm) }
+
+-- an act that costs no more than it tells
+pub spends_told : (old new : Scene) → weight new.world + length old.events ≤ weight old.world + length new.events → most_asked new.asked ≤ most_asked old.asked →
+    length old.events ≤ length new.events → Spends old new
+spends_told old new w m l = record { weight = omega (arith, w, l); most = omega (arith, m, l) }
+
+pub spends_kept : (old new : Scene) → weight new.world + length old.events ≤ (weight old.world + length new.events) + 0 → most_asked new.asked ≤ most_asked old.asked →
+    length old.events ≤ length new.events → Spends old new
+spends_kept old new w m l = record { weight = omega (arith, w, l); most = omega (arith, m, l) }
+
+-- a run is told by one event, which stands for what its acts cost
+pub run_spends : (slacks : List ℕ) (act : plain.Environment → plain.World → plain.World) (old mid kept new : Scene) → Spends old mid →
+    Acted slacks mid kept any_hosts any_hosts 0 act → length kept.events ≡ length mid.events + 1 →
+    weight new.world + length kept.events ≤ weight kept.world + length new.events + 64 → most_asked new.asked ≤ most_asked kept.asked →
+    length kept.events ≤ length new.events → Spends old new
+run_spends slacks act old mid kept new s k kl nw nm nl =
+    let sw = s.weight in
+    let sm = s.most in
+    let kw = k.worn in
+    let km = k.most in
+    record { weight = omega (arith, sw, kw, kl, nw, nl); most = omega (arith, sm, km, kl, nm, nl) }
+
+-- ---- counters are low
+
+pub low_weight : (x : Scene) → CanRun x → length x.events < 2 ^ 64 → weight x.world < 2 ^ 125
+low_weight x c l = let w = c.weight in omega (arith, w, l)
+
+-- after the reads of a run were kept, too
+pub low_after : (slacks : List ℕ) (act : plain.Environment → plain.World → plain.World) (old mid kept : Scene) → CanRun old → Spends old mid →
+    Acted slacks mid kept any_hosts any_hosts 0 act → length kept.events ≡ length mid.events + 1 → length kept.events < 2 ^ 64 → weight kept.world < 2 ^ 125
+low_after slacks act old mid kept c s k kl l =
+    let w = c.weight in
+    let sw = s.weight in
+    let kw = k.worn in
+    omega (arith, w, sw, kw, kl, l)
+
+pub low_worn : (x : Scene) → CanRun x → length x.events < 2 ^ 64 → x.world.signals.graph.state.worn < 2 ^ 126
+low_worn x c l =
+    let w : x.world.signals.graph.state.worn + x.world.tables.effects_made < 2 ^ 124 + 128 * length x.events = c.weight in
+    omega (arith, w, l)
+
+pub can_settle : (x : Scene) (told : List SignalEvent) → CanRun x → length x.events < 2 ^ 64 → CanSettle (settling.scene x.world.signals x.asked told)
+can_settle x told c l =
+    let w = low_worn x c l in
+    let r = c.room in
+    record { agrees = c.agrees.signals; worn = omega (arith, w); room = omega (arith, r, l) }
+
+-- more effects may run
+pub can_then : (slacks : List ℕ) (old new : Scene) (before after : Hosts → Type 0) (act : plain.Environment → plain.World → plain.World) →
+    Runs slacks old new before after act → Spends old new → CanRun old → CanRun new
+can_then slacks old new before after act r s c =
+    let sw = s.weight in
+    let sm = s.most in
+    let cw = c.weight in
+    let cr = c.room in
+    record { agrees = r.agrees; weight = omega (arith, sw, cw); room = omega (arith, sm, cr) }
+
+-- by any meanings of host formulas
+pub runs_any : (slacks : List ℕ) (old new : Scene) (answers : Hosts → Type 0) (act : plain.Environment → plain.World → plain.World) →
+    Runs slacks old new any_hosts any_hosts act → Runs slacks old new answers answers act
+runs_any slacks old new answers act r = record {
+  does = λ hosts all sound. r.does hosts tt sound;
+  agrees = r.agrees;
+  answers = λ hosts h. h;
+  rules = r.rules;
+  given = r.given;
+  made = r.made;
+}

@@ -1,0 +1,8 @@
+mod Composing
+mod Carried
+mod Counted
+mod Ending
+mod Glanced
+mod Joined
+mod Loops
+pub mod Shared

@@ -1,0 +1,101 @@
+// An effect is looked at.
+ghost use Rattle.std.specs.Prelude.{◌≡◌, [], ℕ, List, None, Some, IfNone, IfOk, IfSome, OnOk, map};
+ghost use Rattle.std.specs.List.{AllByRecursion};
+ghost use Rattle.signal_model.specs.Recipes.{Hosts};
+ghost use Rattle.signal_model.specs.Values.{value_of};
+ghost use Rattle.effect_model.specs.Running.{is_effect_due, looked_names};
+ghost use Rattle.effect_model.specs.Worlds.{effect_at};
+ghost use Rattle.effect_tables.specs.Fitting.{IsFitted};
+ghost use Rattle.effect_tables.specs.Placed.{effect_of};
+ghost use Rattle.sig_effect.specs.Agreeing as below;
+ghost use Rattle.sig_effect.specs.Agreeing.{environment};
+ghost use Rattle.effect_runs.specs.Settling as settling;
+ghost use Rattle.effect_runs.specs.Settling.{CanSettle, Settles};
+ghost use Rattle.effect_world.specs.Acting.{scene};
+ghost use Rattle.effect_world.specs.Agreeing.{IsSound};
+ghost use Rattle.effect_world.specs.Wholes.{whole_of};
+ghost use Rattle.effect_turns.specs.Running.{CanRun, Runs, Spends};
+ghost use Rattle.effect_visits.specs.Visiting.{glance, is_due};
+
+use effect_tables::Effect;
+use effect_world::{Event, World, tell_signals};
+use sig_base::{EffectId, NoMemory};
+use sig_effect::{Event as SignalEvent, World as Signals};
+use sig_host::{Lent, Shelf};
+
+/// The effect of a number, where it lives.
+pub(crate) fn effect_at(effects: &[Effect], id: EffectId) -> Option<&Effect>
+    ensures some { IfSome result (λ x. effect_at id (map effect_of effects.now) ≡ Some (effect_of x.now)) }
+    ensures none { IfNone result (effect_at id (map effect_of effects.now) ≡ None) }
+    ensures fitted { AllByRecursion IsFitted effects.now → IfSome result (λ x. IsFitted x.now) }
+{
+    for effect in effects {
+        if id == effect.id {
+            return Some(effect);
+        }
+    }
+    None
+}
+
+// Settles what an effect keeps of its last run, up to the first that differs now: whether it is due.
+fn look_at(
+    signals: &mut Signals,
+    shelf: &mut Shelf,
+    effect: &Effect,
+    told: &mut Vec<SignalEvent>,
+) -> Result<bool, NoMemory>
+    requires can { CanSettle (settling.scene signals.old (⟦<Shelf as Lent>⟧.asked shelf.old) told.old.items) }
+    requires counted { ⟦<Shelf as Lent>⟧.counted shelf.old }
+    ensures due { (hosts : Hosts) → ⟦<Shelf as Lent>⟧.answers hosts shelf.old → below.IsSound hosts (⟦<Shelf as Lent>⟧.asked shelf.old) signals.old →
+        IfOk result (λ b. b ≡ is_effect_due (λ m. value_of hosts signals.old.graph.state.signals m []) (effect_of effect.now).kept) }
+    ensures after { OnOk result (Settles
+        (settling.scene signals.old (⟦<Shelf as Lent>⟧.asked shelf.old) told.old.items)
+        (settling.scene signals.new (⟦<Shelf as Lent>⟧.asked shelf.new) told.new.items)
+        (λ hosts. ⟦<Shelf as Lent>⟧.answers hosts shelf.old) (λ hosts. ⟦<Shelf as Lent>⟧.answers hosts shelf.new)
+        (λ hosts. looked_names (λ m. value_of hosts signals.old.graph.state.signals m []) (effect_of effect.now).kept)) }
+    ensures counted { OnOk result (⟦<Shelf as Lent>⟧.counted shelf.new) }
+{
+    match &effect.kept {
+        Some(reads) => {
+            let due = effect_runs::look(signals, shelf, Some(reads.as_slice()), told)?;
+            Ok(due)
+        }
+        None => {
+            let due = effect_runs::look(signals, shelf, None, told)?;
+            Ok(due)
+        }
+    }
+}
+
+/// Looks at the effect of a number: whether it lives and is due. What it read, tracked, in its last run is settled in order, up to the first
+/// that has another outcome now.
+///
+/// # Errors
+///
+/// After `NoMemory` world and shelf may only be dropped.
+pub(crate) fn glance(
+    world: &mut World,
+    shelf: &mut Shelf,
+    id: EffectId,
+    events: &mut Vec<Event>,
+) -> Result<bool, NoMemory>
+    requires can { CanRun (scene world.old (⟦<Shelf as Lent>⟧.asked shelf.old) events.old.items) }
+    requires counted { ⟦<Shelf as Lent>⟧.counted shelf.old }
+    ensures due { (hosts : Hosts) (slacks : List ℕ) → ⟦<Shelf as Lent>⟧.answers hosts shelf.old → IsSound hosts (⟦<Shelf as Lent>⟧.asked shelf.old) world.old →
+        IfOk result (λ b. b ≡ is_due (environment hosts slacks) id (whole_of (⟦<Shelf as Lent>⟧.asked shelf.old) world.old)) }
+    ensures done { (slacks : List ℕ) → OnOk result (Runs slacks
+        (scene world.old (⟦<Shelf as Lent>⟧.asked shelf.old) events.old.items) (scene world.new (⟦<Shelf as Lent>⟧.asked shelf.new) events.new.items)
+        (λ hosts. ⟦<Shelf as Lent>⟧.answers hosts shelf.old) (λ hosts. ⟦<Shelf as Lent>⟧.answers hosts shelf.new) (λ env. glance env id)) }
+    ensures spent { OnOk result (Spends
+        (scene world.old (⟦<Shelf as Lent>⟧.asked shelf.old) events.old.items) (scene world.new (⟦<Shelf as Lent>⟧.asked shelf.new) events.new.items)) }
+    ensures counted { OnOk result (⟦<Shelf as Lent>⟧.counted shelf.new) }
+{
+    let _count = events.len();
+    let mut told = Vec::new(*events.allocator());
+    let Some(effect) = effect_at(&world.tables.effects, id) else {
+        return Ok(false);
+    };
+    let due = look_at(&mut world.signals, shelf, effect, &mut told)?;
+    tell_signals(events, told)?;
+    Ok(due)
+}
