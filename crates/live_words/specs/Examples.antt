@@ -1,0 +1,82 @@
+-- Worked examples: the words behind the program's name, and the job that they ask for.
+use Rattle.std.specs.Prelude.{◌≡◌, List, [], ◌∷◌, Option, Some, None, codes}
+use Rattle.std.specs.Fmt.{digits}
+use Rattle.std.proofs.Common.{refl}
+use Rattle.clap.specs.Words.{Text}
+use Rattle.clap.proofs.OnLiterals.{clap_on_literals}
+use Rattle.live_words.specs.declared.jobs.Job.{Job}
+use Rattle.live_words.specs.declared.jobs.Job.TheVariants as job
+use Rattle.live_words.specs.Jobs.{job_of}
+use Rattle.live_words.specs.Rounds.{rounds_of}
+
+-- the job of the words behind the program's name
+abbrev pub job_by : List Text → Option Job
+job_by words = job_of (codes "live" ∷ words)
+
+-- ---- jobs
+
+pub run_is : job_by (codes "run" ∷ []) ≡ Some job.Run
+unfolding clap_on_literals
+run_is = refl
+
+pub trace_is : job_by (codes "run" ∷ codes "--trace" ∷ []) ≡ Some job.Trace
+unfolding clap_on_literals
+trace_is = refl
+
+-- the flag may stand in front
+pub trace_in_front : job_by (codes "--trace" ∷ codes "run" ∷ []) ≡ Some job.Trace
+unfolding clap_on_literals
+trace_in_front = refl
+
+pub bench_is : job_by (codes "bench" ∷ codes "12" ∷ []) ≡ Some (job.Bench 12)
+unfolding clap_on_literals rounds_of digits
+bench_is = refl
+
+-- ---- other words
+
+pub no_words : job_by [] ≡ None
+unfolding clap_on_literals
+no_words = refl
+
+pub no_job : job_by (codes "walk" ∷ []) ≡ None
+unfolding clap_on_literals
+no_job = refl
+
+-- a call for help is no job, nor is one for the version
+pub help_is_none : job_by (codes "run" ∷ codes "--help" ∷ []) ≡ None
+unfolding clap_on_literals
+help_is_none = refl
+
+pub version_is_none : job_by (codes "--version" ∷ []) ≡ None
+unfolding clap_on_literals
+version_is_none = refl
+
+-- a script has no rounds, the workload needs them and has no trace
+pub run_with_rounds : job_by (codes "run" ∷ codes "12" ∷ []) ≡ None
+unfolding clap_on_literals
+run_with_rounds = refl
+
+pub bench_without_rounds : job_by (codes "bench" ∷ []) ≡ None
+unfolding clap_on_literals
+bench_without_rounds = refl
+
+pub bench_with_trace : job_by (codes "bench" ∷ codes "12" ∷ codes "--trace" ∷ []) ≡ None
+unfolding clap_on_literals
+bench_with_trace = refl
+
+-- rounds from 1 to 100,000, with no zero in front
+pub no_rounds : rounds_of (codes "0") ≡ None
+unfolding rounds_of digits
+no_rounds = refl
+
+pub zero_in_front : rounds_of (codes "012") ≡ None
+unfolding rounds_of digits
+zero_in_front = refl
+
+pub most_rounds : rounds_of (codes "100000") ≡ Some 100000
+unfolding rounds_of digits
+most_rounds = refl
+
+pub too_many_rounds : rounds_of (codes "100001") ≡ None
+unfolding rounds_of digits
+too_many_rounds = refl

@@ -1,0 +1,69 @@
+// The words of a line, and the job that is wanted of them.
+use crate::{Job, read_job};
+use std::alloc::Global;
+use std::test::Fail;
+
+fn job_in(alloc: Global, line: &str) -> Result<Option<Job>, Fail> {
+    let mut words = Vec::new(alloc);
+    words.push(String::from_str(alloc, "live")?)?;
+    for word in line.split(' ') {
+        if !word.is_empty() {
+            words.push(String::from_str(alloc, word)?)?;
+        }
+    }
+    Ok(read_job(alloc, &words)?)
+}
+
+#[test]
+fn words_name_jobs(rt: HostRuntime) -> Result<(), Fail> {
+    for (line, want) in [
+        ("run", Job::Run),
+        ("run --", Job::Run),
+        ("-- run", Job::Run),
+        ("run --trace", Job::Trace),
+        ("--trace run", Job::Trace),
+        ("bench 1", Job::Bench(1)),
+        ("bench -- 4", Job::Bench(4)),
+        ("-- bench 4", Job::Bench(4)),
+        ("bench 100000", Job::Bench(100_000)),
+    ] {
+        assert_eq!(rt; job_in(rt.alloc(), line)?, Some(want), "at {line}");
+    }
+    Ok(())
+}
+
+#[test]
+fn other_words_name_none(rt: HostRuntime) -> Result<(), Fail> {
+    for line in [
+        "",
+        "walk",
+        "help",
+        "--help",
+        "run --help",
+        "-h",
+        "--version",
+        "-V",
+        "run 4",
+        "run -",
+        "run --x",
+        "run --tra",
+        "run --trace=true",
+        "run --trace --trace",
+        "run -- --trace",
+        "bench",
+        "bench x",
+        "bench 0",
+        "bench 01",
+        "bench +4",
+        "bench -4",
+        "bench -- -4",
+        "bench 4x",
+        "bench 4 5",
+        "bench 100001",
+        "bench 4294967300",
+        "bench 4 --trace",
+    ] {
+        assert_eq!(rt; job_in(rt.alloc(), line)?, None, "at {line}");
+    }
+    Ok(())
+}
