@@ -475,3 +475,20 @@ to_those test j (n ∷ ns) h e = elim (cases_Bool (n == j)) [
   | inl f ↦ (let g : test n ≡ true = ap test (eqb-true n j f) ∙ e in rw g (or_left (n == j) (listed j (those test ns)) f))
   | inr f ↦ (let i = to_those test j ns (rw f at h) e in elim (cases_Bool (test n)) [ inl g ↦ rw g (or_right (n == j) (listed j (those test ns)) i) | inr g ↦ rw g i ])
 ]
+
+swapped : (a b c : Bool) → (a || (b || c)) ≡ (b || (a || c))
+swapped true true c = refl
+swapped true false c = refl
+swapped false true c = refl
+swapped false false c = refl
+
+in_into_by : (num : ℕ → ℕ) (j n : ℕ) (ms : List ℕ) → listed j (into_by num n ms) ≡ (n == j || listed j ms)
+in_into_by num j n [] = refl
+in_into_by num j n (m ∷ ms) = elim (cases_Bool (leb (num n) (num m))) [
+  | inl e ↦ rw e refl
+  | inr e ↦ rw e (ap (λ b. (m == j) || b) (in_into_by num j n ms) ∙ swapped (m == j) (n == j) (listed j ms))
+]
+
+pub in_ascending_by : (num : ℕ → ℕ) (j : ℕ) (ns : List ℕ) → listed j (ascending_by num ns) ≡ listed j ns
+in_ascending_by num j [] = refl
+in_ascending_by num j (n ∷ ns) = in_into_by num j n (ascending_by num ns) ∙ ap (λ b. (n == j) || b) (in_ascending_by num j ns)

@@ -2,5 +2,6 @@ mod Facts
 mod Marking
 mod Numbering
 mod Ordering
+mod Spelling
 mod Telling
 pub mod Shared

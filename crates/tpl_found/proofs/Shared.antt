@@ -7,3 +7,5 @@ pub use Rattle.tpl_found.proofs.Numbering.{reads_law, removals_law, kept_law}
 pub use Rattle.tpl_found.proofs.Telling.{told_law}
 -- what comes
 pub use Rattle.tpl_found.proofs.Ordering.{order_law, serial_law, steps_law}
+-- the operations, as they are read off
+pub use Rattle.tpl_found.proofs.Spelling.{operations_law}

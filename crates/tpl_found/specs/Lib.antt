@@ -2,3 +2,4 @@ pub mod Seeing
 pub mod Reading
 pub mod Telling
 pub mod Coming
+pub mod Operations

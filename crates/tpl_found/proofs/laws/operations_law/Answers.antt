@@ -1,0 +1,5 @@
+use Rattle.tpl_found.proofs.Spelling.{operations_law}
+use Rattle.tpl_found.proofs.laws.operations_law.Goals as goal
+
+pub returns : goal.returns
+returns c = operations_law
