@@ -2,6 +2,7 @@ mod Facts
 mod Marking
 mod Numbering
 mod Ordering
+mod Renewed
 mod Spelling
 mod Telling
 pub mod Shared

@@ -9,3 +9,4 @@ pub use Rattle.tpl_found.proofs.Telling.{told_law}
 pub use Rattle.tpl_found.proofs.Ordering.{order_law, serial_law, steps_law}
 -- the operations, as they are read off
 pub use Rattle.tpl_found.proofs.Spelling.{operations_law}
+pub use Rattle.tpl_found.proofs.Renewed.{update_law}

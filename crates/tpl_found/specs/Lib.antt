@@ -3,3 +3,4 @@ pub mod Reading
 pub mod Telling
 pub mod Coming
 pub mod Operations
+pub mod Updates

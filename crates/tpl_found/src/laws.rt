@@ -4,6 +4,7 @@ ghost use Rattle.tpl_found.specs.Operations.{OperationsLaw};
 ghost use Rattle.tpl_found.specs.Reading.{KeptLaw, ReadsLaw, RemovalsLaw};
 ghost use Rattle.tpl_found.specs.Seeing.{MarksLaw, WholeLaw};
 ghost use Rattle.tpl_found.specs.Telling.{ToldLaw};
+ghost use Rattle.tpl_found.specs.Updates.{UpdateLaw};
 
 /// What is found by marks on the next page gives the operations between the two pages, and the order of the new numbers.
 pub fn marks_law()
@@ -53,4 +54,9 @@ pub fn steps_law()
 /// The operations that are read off by marks are the edits between the two pages, and lead from the one to the other.
 pub fn operations_law()
     ensures { OperationsLaw }
+{}
+
+/// What is kept of a page's lines on the outcomes of now gives the page that comes next and the operations that lead there.
+pub fn update_law()
+    ensures { UpdateLaw }
 {}
