@@ -3,3 +3,4 @@ mod Ending
 mod Missing
 mod Numbers
 mod Showing
+pub mod Shared

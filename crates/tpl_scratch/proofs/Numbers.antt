@@ -7,11 +7,11 @@ use Rattle.page_tree.specs.Subs.{side_by_side, sub_tree}
 use Rattle.tpl_model.specs.Sources.{in_order}
 use Rattle.tpl_scratch.specs.Making.{Numbered, with_nodes}
 
-after_none : {A : Type 0} (x : Forest A) → after x none ≡ x
+pub after_none : {A : Type 0} (x : Forest A) → after x none ≡ x
 after_none none = refl
 after_none (node m l k r) = ap (λ t. node m l k t) (after_none r)
 
-after_after : {A : Type 0} (x y z : Forest A) → after (after x y) z ≡ after x (after y z)
+pub after_after : {A : Type 0} (x y z : Forest A) → after (after x y) z ≡ after x (after y z)
 after_after none y z = refl
 after_after (node m l k r) y z = ap (λ t. node m l k t) (after_after r y z)
 

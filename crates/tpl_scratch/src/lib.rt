@@ -8,4 +8,7 @@ mod show;
 mod stop;
 mod text;
 
+pub use nodes::Nodes;
 pub use scratch::{ScratchStep, page_from_scratch};
+pub use show::{put_attribute, put_named, shows_branch};
+pub use text::{attribute_value, node_text};

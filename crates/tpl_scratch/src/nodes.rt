@@ -11,9 +11,9 @@ use std::alloc::Global;
 
 /// Numbered nodes in document order, and the next number.
 #[derive(Drop)]
-pub(crate) struct Nodes {
-    pub(crate) subs: Vec<Sub>,
-    pub(crate) next: u64,
+pub struct Nodes {
+    pub subs: Vec<Sub>,
+    pub next: u64,
 }
 
 // The number after a number; there is no memory for as many nodes as there are numbers.
@@ -28,7 +28,7 @@ fn following(number: u64) -> Result<u64, NoMemory>
 
 impl Nodes {
     /// No nodes; the next number is 1.
-    pub(crate) fn new(alloc: Global) -> Nodes
+    pub fn new(alloc: Global) -> Nodes
         ensures { nodes_of result ≡ record { nodes = none; next = 1 } }
     {
         Nodes {
@@ -46,7 +46,7 @@ impl Nodes {
     }
 
     /// Appends a text.
-    pub(crate) fn put_text(&mut self, text: Text) -> Result<(), NoMemory>
+    pub fn put_text(&mut self, text: Text) -> Result<(), NoMemory>
         ensures { OnOk result (nodes_of self.new ≡ with_nodes (nodes_of self.old) (node 0 (label.Text text) none none)) }
     {
         let number = self.next;
@@ -57,7 +57,7 @@ impl Nodes {
     }
 
     /// The children, none so far, of the element that is appended next.
-    pub(crate) fn children(&self, alloc: Global) -> Result<Nodes, NoMemory>
+    pub fn children(&self, alloc: Global) -> Result<Nodes, NoMemory>
         ensures { IfOk result (λ n. nodes_of n ≡ record { nodes = none; next = self.now.next + 1 }) }
     {
         let next = following(self.next)?;
@@ -68,7 +68,7 @@ impl Nodes {
     }
 
     /// Appends an element whose children have the next numbers.
-    pub(crate) fn put_element(
+    pub fn put_element(
         &mut self,
         name: Text,
         attributes: Vec<(Text, Text)>,

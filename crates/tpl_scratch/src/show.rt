@@ -37,8 +37,12 @@ fn show_text(
     Ok(())
 }
 
-// Appends an attribute where it is present.
-fn put_attribute(
+/// Appends an attribute where it is present.
+///
+/// # Errors
+///
+/// `NoMemory` alone.
+pub fn put_attribute(
     out: &mut Vec<(Text, Text)>,
     name: &Text,
     value: Option<Text>,
@@ -92,8 +96,12 @@ fn show_inside(
     Ok(children)
 }
 
-// Appends an element under a name that is copied.
-fn put_named(
+/// Appends an element under a name that is copied.
+///
+/// # Errors
+///
+/// `NoMemory` alone.
+pub fn put_named(
     out: &mut Nodes,
     name: &Text,
     attributes: Vec<(Text, Text)>,
@@ -131,8 +139,8 @@ fn show_element(
     Ok(())
 }
 
-// Whether an outcome shows a branch of a choice, the first or the other.
-fn shows_branch(outcome: &Outcome, first: bool) -> bool
+/// Whether an outcome shows a branch of a choice, the first or the other.
+pub fn shows_branch(outcome: &Outcome, first: bool) -> bool
     ensures { result ≡ shows_branch outcome.now first }
 {
     match outcome {

@@ -60,7 +60,7 @@ fn fault_text(alloc: Global, fault: Fault) -> Result<Text, NoMemory>
 }
 
 /// What a text shows of an outcome.
-pub(crate) fn node_text(alloc: Global, outcome: Outcome) -> Result<Text, NoMemory>
+pub fn node_text(alloc: Global, outcome: Outcome) -> Result<Text, NoMemory>
     ensures { IfOk result (λ t. t ≡ node_text outcome) }
 {
     match outcome {
@@ -70,7 +70,7 @@ pub(crate) fn node_text(alloc: Global, outcome: Outcome) -> Result<Text, NoMemor
 }
 
 /// The value of an attribute that comes to this, where it is present.
-pub(crate) fn attribute_value(alloc: Global, outcome: Outcome) -> Result<Option<Text>, NoMemory>
+pub fn attribute_value(alloc: Global, outcome: Outcome) -> Result<Option<Text>, NoMemory>
     ensures { IfOk result (λ t. t ≡ attribute_value outcome) }
 {
     match outcome {
