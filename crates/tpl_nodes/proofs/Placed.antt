@@ -1,5 +1,5 @@
 -- Nodes that are appended line by line are those that lines show.
-use Rattle.std.proofs.Common.{◌≡◌, ◌<◌, ◌≤◌, ◌+◌, ℕ, zero, suc, Bool, true, false, List, [], ◌∷◌, ◌++◌, length, length-append, get_or, map, take, Option, Some, None, refl, sym, ap, subst, ◌∙◌, arith}
+use Rattle.std.proofs.Common.{◌≡◌, ◌<◌, ◌≤◌, ◌+◌, ℕ, suc, Bool, true, false, List, [], ◌∷◌, ◌++◌, length, length-append, get_or, map, take, Option, Some, refl, sym, ap, subst, ◌∙◌, arith}
 use Rattle.std.proofs.lemmas.Bool.{true≢false, false≢true}
 use Rattle.std.proofs.lemmas.List.{map-append, take_all, take_more}
 use Rattle.sig_base.specs.Tables.{Table}
@@ -17,8 +17,8 @@ use Rattle.tpl_model.specs.Lines.{Block, empty, text, tag, choice, each, attempt
 use Rattle.tpl_model.specs.Shapes.{Here, node_text}
 use Rattle.tpl_scratch.specs.Making.{Numbered, shows_branch, with_nodes}
 use Rattle.tpl_scratch.proofs.Shared.{after_none, after_after, with_none, with_after}
-use Rattle.update_laws.specs.PageMemos.{Heard, PageMemo, unread, blank, line, element, branch, loop, row, either, nodes, picks, row_nodes, values}
-use Rattle.tpl_nodes.specs.Shown.{AreRows, attributes_of, fits, inside_of, later_of, rows_of, shows, text_of, where_shown}
+use Rattle.update_laws.specs.PageMemos.{PageMemo, blank, line, element, branch, loop, nodes, picks, row_nodes, values}
+use Rattle.tpl_nodes.specs.Shown.{AreRows, attributes_of, fits, inside_of, later_of, shows, text_of, where_shown}
 
 -- ---- lines
 

@@ -1,5 +1,5 @@
 -- What is kept for the rows of a loop.
-use Rattle.std.proofs.Common.{◌≡◌, ◌≤◌, ℕ, zero, suc, List, [], ◌∷◌, length, map, take, refl, sym, ap, subst, ◌∙◌, arith}
+use Rattle.std.proofs.Common.{◌≡◌, ◌≤◌, ℕ, zero, suc, List, [], ◌∷◌, length, map, take, refl, sym, ap, subst, arith}
 use Rattle.std.specs.Box.{box_value}
 use Rattle.sig_base.specs.Tables.{Table}
 use Rattle.sig_base.specs.declared.rows.Row.{Row}

@@ -1,6 +1,5 @@
-use Rattle.std.proofs.Common.{◌≡◌, map, refl, sym, ap, ◌∙◌}
+use Rattle.std.proofs.Common.{sym, ap}
 use Rattle.tpl_nodes.specs.Shown.{is_branch}
-use Rattle.tpl_memos.specs.Kept.{heard_of, kept}
 use Rattle.tpl_nodes.proofs.Equations.{of_blank, of_branch, of_element, of_line, of_loop, of_unread}
 use Rattle.tpl_nodes.proofs.parts.is_branch.Goals as goal
 

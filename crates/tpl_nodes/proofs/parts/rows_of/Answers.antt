@@ -1,8 +1,8 @@
-use Rattle.std.proofs.Common.{◌≡◌, map, refl, sym, ap, ◌∙◌}
+use Rattle.std.proofs.Common.{ap, ◌∙◌}
 use Rattle.tpl_nodes.specs.Shown.{among_rows, rows_of}
 use Rattle.tpl_nodes.proofs.Rows.{no_rows, rows_kept}
-use Rattle.tpl_memos.specs.Kept.{heard_of, kept}
-use Rattle.tpl_nodes.proofs.Equations.{of_blank, of_branch, of_element, of_line, of_loop, of_unread}
+use Rattle.tpl_memos.specs.Kept.{kept}
+use Rattle.tpl_nodes.proofs.Equations.{of_blank, of_branch, of_element, of_line, of_unread}
 use Rattle.tpl_nodes.proofs.parts.rows_of.Goals as goal
 
 pub returns-in-Loop : goal.returns-in-Loop

@@ -1,11 +1,11 @@
-use Rattle.std.proofs.Common.{◌≡◌, [], ◌∷◌, ◌++◌, length, map, take, true, false, arith, refl, sym, ap, ◌∙◌}
+use Rattle.std.proofs.Common.{◌≡◌, ◌++◌, map, take, arith, refl, sym, ap, ◌∙◌}
 use Rattle.page_model.specs.Addresses.{address}
 use Rattle.page_model.specs.Labels.{present}
 use Rattle.sig_formula.specs.Trees.{tree}
 use Rattle.tpl_blocks.specs.Blocks.{block, waiting}
 use Rattle.tpl_memos.specs.Kept.{heard_of, kept}
 use Rattle.tpl_scratch.specs.Making.{nodes_of, with_nodes}
-use Rattle.tpl_scratch.proofs.Shared.{with_element, with_none}
+use Rattle.tpl_scratch.proofs.Shared.{with_element}
 use Rattle.update_laws.specs.PageMemos.{nodes, values}
 use Rattle.tpl_nodes.specs.Shown.{attributes_of, inside_of, shows}
 use Rattle.tpl_nodes.proofs.Placed.{branch_off, branch_on, choice_put, each_put, empty_put, mapped_more, more_rows, none_put, none_rows, rows_done, rows_each, tag_put, text_put}
