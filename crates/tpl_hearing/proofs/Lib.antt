@@ -1,4 +1,5 @@
 mod Hearings
 mod Askings
 mod Rehearings
+mod Tabled
 pub mod Shared

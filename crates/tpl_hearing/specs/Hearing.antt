@@ -2,7 +2,10 @@
 use Rattle.std.specs.Prelude.{◌≡◌, ℕ, ◌+◌, ◌*◌, ◌<◌, ◌≤◌, ◌^◌, List, ◌++◌, [], map, nat_eq, length, Option, Some}
 use Rattle.std.specs.List.{AllByRecursion}
 use Rattle.std.specs.Map.{lookup, keys_of}
+use Rattle.sig_base.specs.Tables.{AreRows}
+use Rattle.sig_base.specs.declared.value.Value.TheVariants as value
 use Rattle.sig_base.specs.declared.value.Outcome.{Outcome}
+use Rattle.sig_base.specs.declared.value.Outcome.TheVariants.{Good}
 use Rattle.sig_formula.specs.Trees.{Tree}
 use Rattle.sig_formula.specs.declared.formula.RowRef.{RowRef}
 use Rattle.signal_model.specs.Recipes.{Hosts, Recipe, formula}
@@ -32,6 +35,15 @@ WereHeard heard reads = AllByRecursion (λ (s : Seen). heard_of heard s.name ≡
 -- each outcome is the value from scratch
 abbrev pub AreFromScratch : Hosts → Signals → Outcomes → Type 0
 AreFromScratch hosts w heard = AllByRecursion (λ (p : ℕ × Outcome). p.1 ≡ value_of hosts w p.0 []) heard
+
+-- where an outcome is rows, these are rows
+abbrev pub HasRows : Outcome → Type 0
+HasRows (Good (value.Rows t)) = AreRows t.fields t.rows
+HasRows o = Unit {0}
+
+-- so it is for each outcome that was heard
+abbrev pub HaveRows : Outcomes → Type 0
+HaveRows heard = AllByRecursion (λ (p : ℕ × Outcome). HasRows p.1) heard
 
 -- the graph, what is known of each host formula, and what was noted, at one moment
 pub record Scene : Type 0 where

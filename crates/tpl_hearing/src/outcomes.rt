@@ -1,16 +1,53 @@
 // What is heard of names while a page is brought up to date: each of them is settled once.
 ghost use Rattle.std.specs.Prelude.{◌≡◌, ◌++◌, ◌∷◌, [], true, None, Some, IfOk, OnOk};
 ghost use Rattle.std.specs.Map.{keys_of};
+ghost use Rattle.sig_base.specs.declared.value.Outcome.TheVariants.{Good};
 ghost use Rattle.signal_laws.specs.ReadingLaws.{joined};
-ghost use Rattle.tpl_hearing.specs.Hearing.{heard_of, scene, CanSettle, Hears};
+ghost use Rattle.tpl_hearing.specs.Hearing.{heard_of, scene, CanSettle, HasRows, HaveRows, Hears};
 
 use indexmap::IndexMap;
-use sig_base::{NoMemory, NodeId, Outcome};
+use sig_base::{NoMemory, NodeId, Outcome, Value};
 use sig_computed::{RunNote, settle};
 use sig_host::{Lent, Shelf};
 use sig_nodes::Graph;
 use std::alloc::Global;
 use std::marker::Model;
+
+// Where a value is rows, these are rows.
+fn value_rows(value: &Value)
+    ensures { HasRows (Good value.now) }
+{
+    match value {
+        Value::Bool(_) => {}
+        Value::Int(_) => {}
+        Value::Text(_) => {}
+        Value::Rows(rows) => {
+            let _rows = rows.rows();
+        }
+    }
+}
+
+// So it is for an outcome.
+fn find_rows(outcome: &Outcome)
+    ensures { HasRows outcome.now }
+{
+    match outcome {
+        Outcome::Good(value) => value_rows(value),
+        Outcome::Bad(_) => {}
+    }
+}
+
+// So it is for each of some outcomes.
+fn find_all(outcomes: &IndexMap<NodeId, Outcome>)
+    ensures { HaveRows outcomes.now.entries }
+{
+    for place in 0..outcomes.len() {
+        let Some((_, outcome)) = outcomes.get_index(place) else {
+            unreachable!();
+        };
+        find_rows(outcome);
+    }
+}
 
 /// The names that were heard, in this order, and their outcomes.
 #[derive(Drop)]
@@ -44,6 +81,13 @@ impl Outcomes {
             Some(outcome) => Ok(Some(outcome.copy()?)),
             None => Ok(None),
         }
+    }
+
+    /// Where outcomes are rows, these are rows: a call that changes nothing.
+    pub fn good(&self)
+        ensures { HaveRows self.now }
+    {
+        find_all(&self.outcomes);
     }
 
     /// Whether this outcome was heard of a name.
