@@ -1,0 +1,4 @@
+mod Inserted
+mod Mounted
+mod Sourced
+mod Mounting

@@ -1,0 +1,76 @@
+-- A page that stands: what it keeps, and the page that this shows.
+use Rattle.std.specs.Prelude.{◌≡◌, ℕ, suc, List, [], ◌∷◌, None, unwrap_or}
+use Rattle.std.specs.Map.{keys_of}
+use Rattle.sig_base.specs.declared.value.Fault.TheVariants.{Gone}
+use Rattle.sig_base.specs.declared.value.Outcome.{Outcome}
+use Rattle.sig_base.specs.declared.value.Outcome.TheVariants.{Bad}
+use Rattle.page_model.specs.Forest.{Forest, none, node}
+use Rattle.page_model.specs.Labels.{Root, Kind, Look, Sound, shown}
+use Rattle.page_model.specs.Pages.{NumberedPage, page_shape}
+use Rattle.page_model.specs.Replay.{Done, Op, OpInsert, replay}
+use Rattle.page_model.specs.Trees.{AreNodes}
+use Rattle.page_tree.specs.Reading.{IsDone}
+use Rattle.tpl_model.specs.Lines.{Block, Line, block_of}
+use Rattle.tpl_model.specs.Laws.{IsTemplate}
+use Rattle.tpl_model.specs.Sources.{firsts, in_order}
+use Rattle.tpl_hearing.specs.Hearing.{Outcomes, heard_of}
+use Rattle.update_laws.specs.PageMemos.{PageMemo, names, nodes}
+use Rattle.update_laws.specs.Updating.{Keeps}
+
+-- what is kept of a page: the lines and what their names stand for, what was heard of the names, what is kept of the lines, the next unused
+-- number, and the tree
+pub record Standing : Type 0 where
+  pub lines : Block
+  pub links : List ℕ
+  pub heard : Outcomes
+  pub memo : PageMemo
+  pub next : ℕ
+  pub tree : Forest Kind
+
+-- the shape that is shown
+abbrev pub shape_in : Standing → Forest Look
+shape_in s = node 0 Root (nodes None s.lines s.memo) none
+
+-- the nodes of a shape with the numbers of a tree, whose nodes stand at the same places
+abbrev pub numbered_as : Forest Look → Forest Kind → Forest (ℕ × Look)
+numbered_as (node a x k r) (node n y l s) = node a (n, x) (numbered_as k l) (numbered_as r s)
+numbered_as _ _ = none
+
+-- the page
+abbrev pub page_in : Standing → NumberedPage
+page_in s = record { nodes = numbered_as (shape_in s) s.tree; next = s.next }
+
+-- the outcome that was heard of a name, and for any other that of what is gone
+abbrev pub outcome_in : Outcomes → ℕ → Outcome
+outcome_in heard n = unwrap_or (heard_of heard n) (Bad Gone)
+
+-- a page of these lines stands on what was heard of the names that it read
+pub record Stands (lines : List Line) (links : List ℕ) (s : Standing) : Type 0 where
+  pub template : IsTemplate lines
+  pub block : s.lines ≡ block_of lines
+  pub linked : s.links ≡ links
+  pub keeps : Keeps lines links (outcome_in s.heard) s.memo (page_in s) s.tree
+  pub sound : Sound (page_shape (page_in s))
+  pub names : keys_of s.heard ≡ firsts [] (names s.memo)
+
+-- the insertions of these nodes below the root, from a place on
+abbrev pub inserts : ℕ → Forest Kind → List Op
+inserts i none = []
+inserts i (node n x k r) = OpInsert 0 i n x k ∷ inserts (suc i) r
+
+-- the nodes that lines show, by what is kept of them
+abbrev pub shown_in : Block → PageMemo → Forest Look
+shown_in b m = nodes None b m
+
+-- these nodes as they stand below the root, numbered in document order
+abbrev pub below_in : Block → PageMemo → Forest Kind
+below_in b m = shown (in_order 1 (shown_in b m))
+
+-- operations that can be done one after the other
+abbrev pub Leads : List Op → Forest Kind → Type 0
+Leads os tree = IsDone (replay os tree)
+
+-- nodes that can be inserted below the root alone, one behind the other
+pub record AreInserted (below : Forest Kind) : Type 0 where
+  pub nodes : AreNodes below
+  pub leads : replay (inserts 0 below) (node 0 Root none none) ≡ Done (node 0 Root below none)

@@ -1,0 +1,98 @@
+// Pages of templates.
+ghost use Rattle.std.specs.Prelude.{◌≡◌, ◌<◌, ◌^◌, map, IfOk, OnOk};
+ghost use Rattle.signal_model.specs.Recipes.{Hosts};
+ghost use Rattle.signal_model.specs.Kept.{AreKept};
+ghost use Rattle.sig_host.specs.Hosts.{most_asked};
+ghost use Rattle.sig_computed.specs.Asked.{AreThere};
+ghost use Rattle.sig_computed.specs.Notes.{IsIdle};
+ghost use Rattle.page_model.specs.Pages.{bare};
+ghost use Rattle.page_ops.specs.Ops.{op_of};
+ghost use Rattle.tpl_model.specs.Laws.{IsTemplate};
+ghost use Rattle.tpl_model.specs.Sources.{template_asked};
+ghost use Rattle.tpl_model.specs.Updates.{updated};
+ghost use Rattle.tpl_blocks.specs.Blocks.{lines_of};
+ghost use Rattle.tpl_hearing.specs.Hearing.{scene, Settles};
+ghost use Rattle.tpl_live.specs.Pages.{page_in, Stands};
+ghost use Rattle.tpl_live.specs.Standings.{standing};
+
+use crate::first::{First, first_tree};
+use page_ops::Op;
+use page_tree::Tree;
+use sig_base::{NoMemory, NodeId};
+use sig_computed::RunNote;
+use sig_host::{Lent, Shelf};
+use sig_nodes::Graph;
+use tpl_blocks::{Block, block_of};
+use tpl_hearing::Outcomes;
+use tpl_making::make;
+use tpl_memos::PageMemo;
+use tpl_syntax::Template;
+
+/// A page that is made from a template and stands on signals: what it keeps of the template's lines and of the names that it read, and its tree.
+#[derive(Drop)]
+pub struct Page {
+    lines: Block,
+    links: Vec<NodeId>,
+    heard: Outcomes,
+    memo: PageMemo,
+    next: u64,
+    tree: Tree,
+}
+
+impl Page {
+    /// Its tree.
+    pub fn tree(&self) -> &Tree
+        ensures { result.now ≡ (standing self.now).tree }
+    {
+        &self.tree
+    }
+
+    /// A page of a template whose names are these signals, up to date, and the operations that make it of the bare page: the names that
+    /// its lines read are settled, each once, in the order in which they are first read. Host formulas are asked exactly as the runs of this
+    /// call ask them. Signals stay, and nothing is being evaluated before and after. Without memory graph and shelf may only be dropped.
+    ///
+    /// # Errors
+    ///
+    /// `NoMemory` alone.
+    pub fn mount(
+        graph: &mut Graph,
+        shelf: &mut Shelf,
+        template: &Template,
+        links: Vec<NodeId>,
+        notes: &mut Vec<RunNote>,
+    ) -> Result<(Page, Vec<Op>), NoMemory>
+        requires template { IsTemplate (lines_of template.now) }
+        requires idle { IsIdle graph.old.state }
+        requires worn { graph.old.state.worn < 2 ^ 126 }
+        requires counted { ⟦<Shelf as Lent>⟧.counted shelf.old }
+        requires there { AreThere graph.old.state.signals (⟦<Shelf as Lent>⟧.asked shelf.old) }
+        requires room { most_asked (⟦<Shelf as Lent>⟧.asked shelf.old) < 2 ^ 126 }
+        ensures stands { IfOk result (λ r. Stands (lines_of template.now) links.items (standing r.0)) }
+        ensures page { (hosts : Hosts) → ⟦<Shelf as Lent>⟧.answers hosts shelf.old → AreKept hosts graph.old.state.signals graph.old.state.memos → IfOk result (λ r.
+            page_in (standing r.0) ≡ (updated hosts graph.old.state.signals (lines_of template.now) links.items graph.old.state.memos bare).page) }
+        ensures ops { (hosts : Hosts) → ⟦<Shelf as Lent>⟧.answers hosts shelf.old → AreKept hosts graph.old.state.signals graph.old.state.memos → IfOk result (λ r.
+            map op_of r.1.items ≡ (updated hosts graph.old.state.signals (lines_of template.now) links.items graph.old.state.memos bare).ops) }
+        ensures settles { OnOk result (Settles
+            (scene graph.old (⟦<Shelf as Lent>⟧.asked shelf.old) notes.old.items) (scene graph.new (⟦<Shelf as Lent>⟧.asked shelf.new) notes.new.items)
+            (λ hosts. ⟦<Shelf as Lent>⟧.answers hosts shelf.old) (λ hosts. ⟦<Shelf as Lent>⟧.answers hosts shelf.new)
+            (λ hosts. template_asked hosts graph.old.state.signals (lines_of template.now) links.items)) }
+        ensures counted { OnOk result (⟦<Shelf as Lent>⟧.counted shelf.new) }
+    {
+        let alloc = *notes.allocator();
+        let lines = block_of(alloc, template)?;
+        let mut heard = Outcomes::new(alloc);
+        let memo = make(alloc, graph, shelf, &mut heard, &lines, &links, None, notes)?;
+        heard.good();
+        let first = first_tree(alloc, &lines, &memo)?;
+        let First { tree, ops, next } = first;
+        let page = Page {
+            lines,
+            links,
+            heard,
+            memo,
+            next,
+            tree,
+        };
+        Ok((page, ops))
+    }
+}
