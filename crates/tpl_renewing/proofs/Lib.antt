@@ -1,0 +1,4 @@
+mod Apart
+mod Named
+mod Serving
+mod Turning

@@ -1,0 +1,109 @@
+use Rattle.std.proofs.Common.{◌≡◌, ◌<◌, ◌+◌, ◌^◌, ◌∷◌, length, map, ap, sym, subst, ◌∙◌, arith}
+use Rattle.tpl_blocks.specs.Blocks.{block}
+use Rattle.tpl_hearing.proofs.Shared.{nothing_heard, then_heard}
+use Rattle.tpl_memos.specs.Kept.{kept}
+use Rattle.tpl_making.specs.Heads.{AreRows, lines_size}
+use Rattle.tpl_making.proofs.Shared.{none_each}
+use Rattle.tpl_renewing.specs.Turns.{behind_of, places_of}
+use Rattle.tpl_renewing.proofs.Turning.{first_at, inside_at, inside_fewer, later_are, later_at, later_few, later_fewer, others_at, places_are, turn_renewed}
+use Rattle.tpl_renewing.proofs.renewing.+renew_each.Goals as goal
+
+pub returns-in_default-clause-made : goal.returns-in_default-clause-made
+returns-in_default-clause-made g t c =
+    none_each (block c.args.lines.now) c.args.links.now c.args.rows.now c.args.heard.now (map kept c.args.done.now.items) c.in_default.ensures.cases
+
+pub returns-in_default-clause-after : goal.returns-in_default-clause-after
+returns-in_default-clause-after g t c = nothing_heard _ _ c.args.heard.now c.requires.can.idle
+
+pub begin-requires-clause-row : goal.begin-requires-clause-row
+begin-requires-clause-row g t c = (subst AreRows c.in-Some.ensures.cases.0 c.requires.rows).0
+
+pub begin-requires-clause-was : goal.begin-requires-clause-was
+begin-requires-clause-was g t c =
+    first_at (block c.args.lines.now) c.args.links.now c.args.rows.now c.in-Some.row.now c.in-Some.others.now c.args.before.now
+    (map kept c.args.was.now.items) (kept c.next_kept-memo.result) c.in-Some.ensures.cases.0 c.requires.was c.next_kept-memo.ensures.first
+
+pub renew_each-requires : goal.renew_each-requires
+renew_each-requires g t c =
+    let split = c.in-Some.ensures.cases.0 in
+    let row = c.in-Some.row.now in
+    let turn = c.in_ok-turn.turn in
+    let o = c.in_ok-turn.ensures in
+    let b = block c.args.lines.now in
+    let inner = block c.inner_of-inner.result.now in
+    let ins = map kept turn.inside_was.items in
+    let lat = map kept turn.later_was.items in
+    let same : c.deref.result.now ≡ places_of turn.first row = c.deref.ensures.value ∙ o.places in
+    let few : length c.deref.result.now < 2 ^ 64 = omega arith in
+    let rows : AreRows c.deref.result.now = subst AreRows (sym same) (places_are turn.first row (subst AreRows split c.requires.rows).0) in
+    let was = inside_at b c.args.links.now row c.args.before.now c.args.heard.now c.begin.new.heard turn.first ins lat inner c.shows_of.result
+    c.deref.result.now o.begins c.shows_of.ensures c.inner_of-inner.ensures same in
+    let smaller : lines_size inner + length c.deref.result.now < lines_size b + length c.args.rows.now =
+    inside_fewer b c.args.links.now row c.args.before.now c.args.heard.now c.begin.new.heard turn.first ins lat c.args.rows.now c.in-Some.others.now
+    inner c.shows_of.result c.deref.result.now o.begins split same few c.shows_of.ensures c.inner_of-inner.ensures in (
+      omega (arith, smaller),
+      (few, (rows, (o.can, (o.counted, was)))),
+    )
+
+pub renew_each-requires-2 : goal.renew_each-requires-2
+renew_each-requires-2 g t c =
+    let split = c.in-Some.ensures.cases.0 in
+    let row = c.in-Some.row.now in
+    let turn = c.in_ok-turn.turn in
+    let o = c.in_ok-turn.ensures in
+    let i = c.in_ok-renew_each.ensures in
+    let b = block c.args.lines.now in
+    let rest = block c.rest_of.result.now in
+    let behinds = c.behind_of-behind.result.now in
+    let ins = map kept turn.inside_was.items in
+    let lat = map kept turn.later_was.items in
+    let same : behinds ≡ behind_of turn.first row = c.behind_of-behind.ensures in
+    let count : length behinds ≡ length (behind_of turn.first row) = ap length same in
+    let one = later_few turn.first row in
+    let few : length behinds < 2 ^ 64 = omega (arith, count, one) in
+    let rows : AreRows behinds = subst AreRows (sym same) (later_are turn.first row (subst AreRows split c.requires.rows).0) in
+    let was = later_at b c.args.links.now row c.args.before.now c.args.heard.now c.begin.new.heard turn.first ins lat rest behinds o.begins
+    c.rest_of.ensures same in
+    let smaller : lines_size rest + length behinds < lines_size b + length c.args.rows.now =
+    later_fewer b c.args.links.now row c.args.before.now c.args.heard.now c.begin.new.heard turn.first ins lat c.args.rows.now c.in-Some.others.now
+    rest behinds o.begins split same c.rest_of.ensures in (
+      omega (arith, smaller),
+      (few, (rows, (i.can, (i.counted, was)))),
+    )
+
+pub renew_each-requires-3 : goal.renew_each-requires-3
+renew_each-requires-3 g t c =
+    let split = c.in-Some.ensures.cases.0 in
+    let count : length c.args.rows.now ≡ length (c.in-Some.row.now ∷ c.in-Some.others.now) = ap length split in
+    let most = c.requires.few in
+    let r = c.in_ok-renew_each-2.ensures in
+    let was = others_at (block c.args.lines.now) c.args.links.now c.args.rows.now c.in-Some.row.now c.in-Some.others.now c.args.before.now
+    (map kept c.args.was.now.items) (map kept c.next_kept-memo.new.was.items) split c.requires.was c.next_kept-memo.ensures.later in (
+      omega (arith, count),
+      (omega (arith, count, most), ((subst AreRows split c.requires.rows).1, (r.can, (r.counted, was)))),
+    )
+
+pub returns-clause-made : goal.returns-clause-made
+returns-clause-made g t c =
+    let o = c.in_ok-turn.ensures in
+    let row = c.in-Some.row.now in
+    let turn = c.in_ok-turn.turn in
+    let i = c.in_ok-renew_each.ensures in
+    let r = c.in_ok-renew_each-2.ensures in
+    let l = c.in_ok-renew_each-3.ensures in
+    turn_renewed (block c.args.lines.now) c.args.links.now c.args.rows.now row c.in-Some.others.now turn.first c.args.before.now c.args.heard.now
+    c.begin.new.heard c.renew_each.new.heard c.renew_each-2.new.heard c.renew_each-3.new.heard
+    (block c.inner_of-inner.result.now) (block c.rest_of.result.now) c.shows_of.result c.deref.result.now c.behind_of-behind.result.now
+    (map kept turn.inside_was.items) (map kept turn.later_was.items)
+    (map kept turn.inside.items) (map kept c.renew_each.new.done.items) (map kept turn.later.items) (map kept c.renew_each-2.new.done.items)
+    (map kept c.args.done.now.items) (map kept c.put_turn.new.done.items) (map kept c.renew_each-3.new.done.items)
+    c.in-Some.ensures.cases.0 o.begins c.shows_of.ensures c.inner_of-inner.ensures
+    (c.deref.ensures.value ∙ o.places) c.rest_of.ensures c.behind_of-behind.ensures
+    (ap (map kept) o.inside) (ap (map kept) o.later)
+    o.after.grows i.after.grows r.after.grows i.made r.made c.in_ok-put_turn.ensures l.made
+
+pub returns-clause-after : goal.returns-clause-after
+returns-clause-after g t c =
+    then_heard _ _ _ _ _ _ _ _ _ c.in_ok-turn.ensures.after
+    (then_heard _ _ _ _ _ _ _ _ _ c.in_ok-renew_each.ensures.after
+    (then_heard _ _ _ _ _ _ _ _ _ c.in_ok-renew_each-2.ensures.after c.in_ok-renew_each-3.ensures.after))

@@ -1,0 +1,77 @@
+use Rattle.std.proofs.Common.{◌≡◌, false, map, refl, sym, subst, ◌∙◌}
+use Rattle.std.specs.Option.{option_copied}
+use Rattle.tpl_blocks.specs.Blocks.{block}
+use Rattle.tpl_hearing.proofs.Shared.{then_heard}
+use Rattle.tpl_memos.specs.Kept.{kept}
+use Rattle.update_laws.specs.PageMemos.{names}
+use Rattle.tpl_listening.specs.Renewals.{AreLooked, is_unread}
+use Rattle.tpl_listening.proofs.Shared.{stayed}
+use Rattle.tpl_renewing.specs.Turns.{ServeInside, WasOpened}
+use Rattle.tpl_renewing.proofs.Apart.{was_apart}
+use Rattle.tpl_renewing.proofs.Turning.{begins_line, begins_whole, opened_again, places_line, places_whole}
+use Rattle.tpl_renewing.proofs.renewing.begin.Goals as goal
+
+pub returns-then-unread-clause-begins : goal.returns-then-unread-clause-begins
+returns-then-unread-clause-begins g c =
+    begins_whole (block c.args.lines.now) c.args.links.now c.args.row.now (option_copied c.lent_row-here.result) c.args.before.now c.args.heard.now
+    c.make.new.heard c.whole.result.first c.in_ok-memo.memo (map kept c.whole.result.inside_was.items) (map kept c.whole.result.later_was.items)
+    c.whole.ensures.first c.lent_row-here.ensures.is c.in_ok-memo.ensures.made
+
+pub returns-then-unread-clause-places : goal.returns-then-unread-clause-places
+returns-then-unread-clause-places g c =
+    places_whole c.whole.result.first c.in_ok-memo.memo c.args.row.now c.whole.result.places.items c.whole.ensures.first c.whole.ensures.places
+
+pub returns-then-branch-clause-begins : goal.returns-then-branch-clause-begins
+returns-then-branch-clause-begins g c =
+    let b = block c.args.lines.now in
+    let m = kept c.args.memo in
+    let u : is_unread m ≡ false = sym c.unread.ensures ∙ c.if-unread.false in
+    let same = subst (λ z. AreLooked z c.args.before.now (names m) c.args.heard.now c.stays.new.heard) c.if-branch.true c.in_ok-stays.ensures.looked in
+    begins_whole b c.args.links.now c.args.row.now c.args.row.now c.args.before.now c.args.heard.now c.stays.new.heard
+    c.whole-then-branch.result.first c.args.memo (map kept c.whole-then-branch.result.inside_was.items)
+    (map kept c.whole-then-branch.result.later_was.items) c.whole-then-branch.ensures.first refl
+    (stayed b c.args.links.now c.args.row.now c.args.before.now c.args.heard.now c.stays.new.heard m (c.requires.was.made u) same)
+
+pub returns-then-branch-clause-places : goal.returns-then-branch-clause-places
+returns-then-branch-clause-places g c =
+    places_whole c.whole-then-branch.result.first c.args.memo c.args.row.now c.whole-then-branch.result.places.items c.whole-then-branch.ensures.first
+    c.whole-then-branch.ensures.places
+
+pub hear_first_again-requires-clause-was : goal.hear_first_again-requires-clause-was
+hear_first_again-requires-clause-was g c =
+    let b = block c.args.lines.now in
+    let m = kept c.args.memo in
+    let u : is_unread m ≡ false = sym c.unread.ensures ∙ c.if-unread.false in
+    let w = was_apart b c.args.links.now c.args.row.now c.args.before.now m c.in_ok-head.field-0.head (map kept c.in_ok-head.field-0.inside.items)
+    (kept c.in_ok-head.field-0.later) (c.requires.was.made u) (c.in_ok-head.ensures u) in
+    subst (λ z. WasOpened b c.args.links.now z c.args.before.now c.in_ok-head.field-0.head) (sym c.lent_row-here.ensures.is) w.opened
+
+pub returns-clause-begins : goal.returns-clause-begins
+returns-clause-begins g c =
+    let b = block c.args.lines.now in
+    let m = kept c.args.memo in
+    let u : is_unread m ≡ false = sym c.unread.ensures ∙ c.if-unread.false in
+    let changed = subst (λ z. AreLooked z c.args.before.now (names m) c.args.heard.now c.stays.new.heard) c.if-branch.false c.in_ok-stays.ensures.looked in
+    let old = c.in_ok-head.field-0.head in
+    let h = c.in_ok-head-2.head in
+    let is = map kept c.in_ok-head.field-0.inside.items in
+    let r = kept c.in_ok-head.field-0.later in
+    let turn = c.in_ok-turn.turn in
+    let t = c.in_ok-turn.ensures in
+    let ins = map kept turn.inside_was.items in
+    let lat = map kept turn.later_was.items in
+    let serves = subst (λ z. ServeInside z h is ins) c.in_ok-was.ensures t.inside_was in
+    begins_line b c.args.links.now c.args.row.now c.args.before.now c.args.heard.now c.hear_first_again.new.heard turn.first h ins lat t.first
+    (opened_again b c.args.links.now c.args.row.now c.args.before.now c.args.heard.now c.stays.new.heard c.hear_first_again.new.heard m old h is r
+    ins lat (c.requires.was.made u) (c.in_ok-head.ensures u) changed (rw c.lent_row-here.ensures.is at c.in_ok-head-2.ensures.opens)
+    c.in_ok-head-2.ensures.after.grows serves t.later_was)
+
+pub returns-clause-places : goal.returns-clause-places
+returns-clause-places g c =
+    let turn = c.in_ok-turn.turn in
+    let t = c.in_ok-turn.ensures in
+    places_line turn.first c.in_ok-head-2.head c.args.row.now (option_copied c.lent_row-here.result) turn.places.items t.first c.lent_row-here.ensures.is
+    t.places
+
+pub returns-clause-after : goal.returns-clause-after
+returns-clause-after g c = then_heard _ _ _ _ _ _ _ _ _ c.in_ok-stays.ensures.after c.in_ok-head-2.ensures.after

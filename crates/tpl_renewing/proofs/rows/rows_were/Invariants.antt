@@ -1,0 +1,19 @@
+use Rattle.std.proofs.Common.{◌≡◌, ℕ, List, length, map}
+use Rattle.tpl_model.specs.Lines.{Block}
+use Rattle.tpl_hearing.specs.Hearing.{Outcomes}
+use Rattle.tpl_memos.specs.Kept.{kept}
+use Rattle.tpl_listening.specs.Makings.{table_in}
+use Rattle.tpl_listening.specs.Renewals.{SlotsWere}
+use Rattle.tpl_making.specs.Heads.{places_from}
+use Rattle.tpl_renewing.specs.Turns.{WereEach}
+use Rattle.tpl_renewing.proofs.rows.rows_were.Given as goal
+
+-- what is left of before, and what was taken for the rows so far
+abbrev pub invariant-loop-place : goal.invariant-loop-place
+invariant-loop-place l = record {
+  count : length (map kept l.taken.items) ≡ l.place;
+  left : (b : Block) (links : List ℕ) (before : Outcomes) → SlotsWere b links (table_in l.was) 0 before (map kept l.fn.memos.items) →
+      SlotsWere b links (table_in l.was) 0 before (map kept l.left.items);
+  taken : (b : Block) (links : List ℕ) (before : Outcomes) → SlotsWere b links (table_in l.was) 0 before (map kept l.fn.memos.items) →
+      WereEach b links (places_from (table_in l.next) 0 l.place) before (map kept l.taken.items);
+}

@@ -1,0 +1,9 @@
+//! What a page keeps of its lines, brought up to date by what changed.
+#![tactic(auto)]
+
+mod naming;
+mod parts;
+mod renewing;
+mod rows;
+
+pub use renewing::renew;

@@ -1,0 +1,312 @@
+// What was kept of lines, taken apart, and what is kept of the first of them next.
+ghost use Rattle.std.specs.Prelude.{◌≡◌, ◌++◌, ◌∷◌, [], false, map, IfOk, OnOk};
+ghost use Rattle.std.specs.Option.{option_copied};
+ghost use Rattle.tpl_memos.specs.Kept.{kept};
+ghost use Rattle.tpl_listening.specs.Makings.{truth_in};
+ghost use Rattle.tpl_listening.specs.Renewals.{is_unread};
+ghost use Rattle.tpl_making.specs.Heads.{last_of, places_in};
+ghost use Rattle.tpl_renewing.specs.Turns.{behind_of, first_of, kept_of, later_of, outcome_of, shows_of, IsApart, ServeInside};
+ghost use Rattle.tpl_making.specs.declared.head.Head.TheVariants as head;
+ghost use Rattle.tpl_renewing.specs.declared.parts.First.TheVariants as start;
+
+use crate::rows::rows_were;
+use sig_base::{Fault, NoMemory, Outcome};
+use sig_formula::RowRef;
+use std::alloc::Global;
+use std::collections::VecDeque;
+use tpl_listening::truth_of;
+use tpl_making::{Head, last, place_behind, places_inside, put_closed, shows_first};
+use tpl_memos::PageMemo;
+
+/// What is kept of some lines next: all of them as they are, or what is heard of the first of them.
+#[derive(Drop)]
+pub(crate) enum First {
+    /// What is kept of all of them.
+    Whole(PageMemo),
+    /// What is heard of the first.
+    Line(Head),
+}
+
+/// Lines that are brought up to date: what is kept of them next, where those inside the first of them are gone over, what was kept inside
+/// it and behind it, and what is kept there next.
+#[derive(Drop)]
+pub(crate) struct Turn {
+    pub first: First,
+    pub places: Vec<Option<RowRef>>,
+    pub inside_was: VecDeque<PageMemo>,
+    pub later_was: VecDeque<PageMemo>,
+    pub inside: Vec<PageMemo>,
+    pub later: Vec<PageMemo>,
+}
+
+/// What was kept of some lines: what was heard of the first, and what was kept inside it and behind it.
+#[derive(Drop)]
+pub(crate) struct Parts {
+    pub head: Head,
+    pub inside: Vec<PageMemo>,
+    pub later: PageMemo,
+}
+
+/// Whether nothing is kept.
+#[tactic(auto, using(tpl_memos::proofs::Equations::kept_unread, tpl_memos::proofs::Equations::kept_blank, tpl_memos::proofs::Equations::kept_line, tpl_memos::proofs::Equations::kept_element, tpl_memos::proofs::Equations::kept_branch, tpl_memos::proofs::Equations::kept_loop))]
+pub(crate) fn unread(memo: &PageMemo) -> bool
+    ensures { result ≡ is_unread (kept memo.now) }
+{
+    match memo {
+        PageMemo::Unread => true,
+        PageMemo::Blank => false,
+        PageMemo::Line(_, _) => false,
+        PageMemo::Element(_, _, _) => false,
+        PageMemo::Branch(_, _, _) => false,
+        PageMemo::Loop(_, _, _) => false,
+    }
+}
+
+// It alone.
+fn once(alloc: Global, memo: PageMemo) -> Result<Vec<PageMemo>, NoMemory>
+    ensures { IfOk result (λ ms. map kept ms.items ≡ kept memo ∷ []) }
+{
+    let mut memos = Vec::new(alloc);
+    memos.push(memo)?;
+    Ok(memos)
+}
+
+// The parts of no lines.
+fn nothing(alloc: Global) -> Parts
+    ensures { result.head ≡ head.Nothing }
+{
+    Parts {
+        head: Head::Nothing,
+        inside: Vec::new(alloc),
+        later: PageMemo::blank(),
+    }
+}
+
+/// Takes what was kept of lines apart.
+///
+/// # Errors
+///
+/// `NoMemory` alone.
+pub(crate) fn apart(alloc: Global, memo: PageMemo) -> Result<Parts, NoMemory>
+    ensures { IfOk result (λ p. IsApart (kept memo) p.head (map kept p.inside.items) (kept p.later)) }
+{
+    match memo {
+        PageMemo::Line(line, later) => Ok(Parts {
+            head: Head::Text(line),
+            inside: Vec::new(alloc),
+            later: Box::into_inner(later),
+        }),
+        PageMemo::Element(all, inside, later) => {
+            let inside = once(alloc, Box::into_inner(inside))?;
+            Ok(Parts {
+                head: Head::Tag(all),
+                inside,
+                later: Box::into_inner(later),
+            })
+        }
+        PageMemo::Branch(test, inside, later) => {
+            let inside = once(alloc, Box::into_inner(inside))?;
+            Ok(Parts {
+                head: Head::Choice(test),
+                inside,
+                later: Box::into_inner(later),
+            })
+        }
+        PageMemo::Loop(rows, inside, later) => Ok(Parts {
+            head: Head::Each(rows),
+            inside,
+            later: Box::into_inner(later),
+        }),
+        PageMemo::Blank => Ok(nothing(alloc)),
+        PageMemo::Unread => Ok(nothing(alloc)),
+    }
+}
+
+/// What the test of a choice came to, or the rows of a loop.
+///
+/// # Errors
+///
+/// `NoMemory` alone.
+pub(crate) fn outcome_of(head: &Head) -> Result<Outcome, NoMemory>
+    ensures { IfOk result (λ o. o ≡ outcome_of head.now) }
+{
+    match head {
+        Head::Choice(test) => Ok(test.outcome.copy()?),
+        Head::Each(rows) => Ok(rows.outcome.copy()?),
+        _ => Ok(Outcome::Bad(Fault::Gone)),
+    }
+}
+
+/// It alone, to be taken.
+pub(crate) fn waiting(alloc: Global, memo: PageMemo) -> Result<VecDeque<PageMemo>, NoMemory>
+    ensures { IfOk result (λ q. map kept q.items ≡ kept memo ∷ []) }
+{
+    let memos = once(alloc, memo)?;
+    Ok(VecDeque::from_vec(memos))
+}
+
+/// What was kept first, or nothing.
+pub(crate) fn next_kept(was: &mut VecDeque<PageMemo>) -> PageMemo
+    ensures first { kept result ≡ first_of (map kept was.old.items) }
+    ensures later { map kept was.new.items ≡ later_of (map kept was.old.items) }
+{
+    match was.pop_front() {
+        None => PageMemo::Unread,
+        Some(memo) => memo,
+    }
+}
+
+// What was kept of the branch that is shown, where it is that of before; otherwise nothing.
+fn branch_was(
+    alloc: Global,
+    was: &Outcome,
+    now: &Outcome,
+    inside: Vec<PageMemo>,
+) -> Result<VecDeque<PageMemo>, NoMemory>
+    ensures { IfOk result (λ q. is_unread (first_of (map kept q.items)) ≡ false →
+        (truth_in was.now ≡ truth_in now.now) × (first_of (map kept q.items) ≡ last_of (map kept inside.items))) }
+{
+    if truth_of(was) != truth_of(now) {
+        return Ok(VecDeque::new(alloc));
+    }
+    let one = waiting(alloc, last(inside))?;
+    Ok(one)
+}
+
+/// What was kept inside a line, as far as it serves where the line is gone over again: `was` is what its test or its rows came to before.
+pub(crate) fn inside_was(
+    alloc: Global,
+    was: &Outcome,
+    head: &Head,
+    inside: Vec<PageMemo>,
+) -> Result<VecDeque<PageMemo>, NoMemory>
+    ensures { IfOk result (λ q. ServeInside was.now head.now (map kept inside.items) (map kept q.items)) }
+{
+    match head {
+        Head::Tag(_) => {
+            let one = waiting(alloc, last(inside))?;
+            Ok(one)
+        }
+        Head::Choice(test) => {
+            let one = branch_was(alloc, was, &test.outcome, inside)?;
+            Ok(one)
+        }
+        Head::Each(rows) => {
+            let each = rows_were(alloc, was, &rows.outcome, inside)?;
+            Ok(each)
+        }
+        _ => Ok(VecDeque::new(alloc)),
+    }
+}
+
+/// All of it is kept whole.
+pub(crate) fn whole(alloc: Global, memo: PageMemo) -> Turn
+    ensures first { result.first ≡ start.Whole memo }
+    ensures places { result.places.items ≡ [] }
+    ensures inside { result.inside.items ≡ [] }
+    ensures later { result.later.items ≡ [] }
+{
+    Turn {
+        first: First::Whole(memo),
+        places: Vec::new(alloc),
+        inside_was: VecDeque::new(alloc),
+        later_was: VecDeque::new(alloc),
+        inside: Vec::new(alloc),
+        later: Vec::new(alloc),
+    }
+}
+
+/// The first line was heard again, in the row where it stands; `was` is what its test or its rows came to before.
+///
+/// # Errors
+///
+/// `NoMemory` alone.
+pub(crate) fn taken_up(
+    alloc: Global,
+    was: &Outcome,
+    head: Head,
+    inside: Vec<PageMemo>,
+    later: PageMemo,
+    row: Option<&RowRef>,
+) -> Result<Turn, NoMemory>
+    ensures first { IfOk result (λ t. t.first ≡ start.Line head) }
+    ensures places { IfOk result (λ t. t.places.items ≡ places_in head (option_copied row.entry)) }
+    ensures inside_was { IfOk result (λ t. ServeInside was.now head (map kept inside.items) (map kept t.inside_was.items)) }
+    ensures later_was { IfOk result (λ t. map kept t.later_was.items ≡ kept later ∷ []) }
+    ensures inside { IfOk result (λ t. t.inside.items ≡ []) }
+    ensures later { IfOk result (λ t. t.later.items ≡ []) }
+{
+    let places = places_inside(alloc, &head, row)?;
+    let inside_was = inside_was(alloc, was, &head, inside)?;
+    let later_was = waiting(alloc, later)?;
+    Ok(Turn {
+        first: First::Line(head),
+        places,
+        inside_was,
+        later_was,
+        inside: Vec::new(alloc),
+        later: Vec::new(alloc),
+    })
+}
+
+/// Where the lines behind the first of some are gone over, in the row where these stand.
+pub(crate) fn behind_of<'a>(first: &First, row: &'a Option<RowRef>) -> &'a [Option<RowRef>]
+    ensures { result.now ≡ behind_of first.now row.now }
+{
+    match first {
+        First::Whole(_) => &[],
+        First::Line(head) => place_behind(head, row),
+    }
+}
+
+/// Whether the first branch of a choice is shown.
+pub(crate) fn shows_of(first: &First) -> bool
+    ensures { result ≡ shows_of first.now }
+{
+    match first {
+        First::Whole(_) => false,
+        First::Line(head) => shows_first(head),
+    }
+}
+
+// Puts what is kept of lines behind what was kept.
+fn put_first(
+    alloc: Global,
+    first: First,
+    inside: Vec<PageMemo>,
+    later: Vec<PageMemo>,
+    done: &mut Vec<PageMemo>,
+) -> Result<(), NoMemory>
+    ensures { OnOk result (map kept done.new.items ≡ map kept done.old.items ++ kept_of first (map kept inside.items) (map kept later.items) ∷ []) }
+{
+    match first {
+        First::Whole(memo) => {
+            done.push(memo)?;
+            Ok(())
+        }
+        First::Line(head) => {
+            put_closed(alloc, head, inside, later, done)?;
+            Ok(())
+        }
+    }
+}
+
+/// Puts what is kept of lines behind what was kept, once all of them was gone over.
+///
+/// # Errors
+///
+/// `NoMemory` alone.
+pub(crate) fn put_turn(alloc: Global, turn: Turn, done: &mut Vec<PageMemo>) -> Result<(), NoMemory>
+    ensures { OnOk result (map kept done.new.items ≡ map kept done.old.items ++ kept_of turn.first (map kept turn.inside.items) (map kept turn.later.items) ∷ []) }
+{
+    let Turn {
+        first,
+        places: _places,
+        inside_was: _inside_was,
+        later_was: _later_was,
+        inside,
+        later,
+    } = turn;
+    put_first(alloc, first, inside, later, done)?;
+    Ok(())
+}

@@ -1,0 +1,294 @@
+// What is kept of lines, brought up to date.
+ghost use Rattle.std.specs.Prelude.{◌≡◌, ◌<◌, ◌^◌, [], length, map, IfOk, IfSome, OnOk};
+ghost use Rattle.std.specs.Option.{option_copied};
+ghost use Rattle.update_laws.specs.PageMemos.{names};
+ghost use Rattle.tpl_blocks.specs.Blocks.{block};
+ghost use Rattle.tpl_hearing.specs.Hearing.{scene, CanSettle, Hears};
+ghost use Rattle.tpl_memos.specs.Kept.{kept};
+ghost use Rattle.tpl_listening.specs.Makings.{lines_memo, Makes};
+ghost use Rattle.tpl_listening.specs.Renewals.{AreLooked, WasMadeIfRead};
+ghost use Rattle.tpl_making.specs.Heads.{AreRows, IsRow, MakesEach, Opens};
+ghost use Rattle.tpl_renewing.specs.Turns.{places_of, Begins, WasOpened, WereEach};
+
+use crate::naming::put_names;
+use crate::parts::{
+    Parts, Turn, apart, behind_of, next_kept, outcome_of, put_turn, shows_of, taken_up, unread,
+    waiting, whole,
+};
+use sig_base::{NoMemory, NodeId};
+use sig_computed::RunNote;
+use sig_formula::RowRef;
+use sig_host::{Lent, Shelf};
+use sig_nodes::Graph;
+use std::alloc::Global;
+use std::collections::VecDeque;
+use std::slice;
+use tpl_blocks::Block;
+use tpl_hearing::{Outcomes, hear_again};
+use tpl_listening::{listen_again, listen_all_again};
+use tpl_making::{Head, inner_of, last, lent_row, make, own_row, rest_of};
+use tpl_memos::PageMemo;
+
+// Whether all names of lines are as before, where they are to be looked at.
+fn stays(
+    alloc: Global,
+    graph: &mut Graph,
+    shelf: &mut Shelf,
+    before: &Outcomes,
+    heard: &mut Outcomes,
+    memo: &PageMemo,
+    look: bool,
+    notes: &mut Vec<RunNote>,
+) -> Result<bool, NoMemory>
+    requires can { CanSettle (scene graph.old (⟦<Shelf as Lent>⟧.asked shelf.old) notes.old.items) }
+    requires counted { ⟦<Shelf as Lent>⟧.counted shelf.old }
+    ensures looked { IfOk result (λ same. AreLooked same before.now (names (kept memo.now)) heard.old heard.new) }
+    ensures after { OnOk result (Hears
+        (scene graph.old (⟦<Shelf as Lent>⟧.asked shelf.old) notes.old.items) (scene graph.new (⟦<Shelf as Lent>⟧.asked shelf.new) notes.new.items)
+        (λ hosts. ⟦<Shelf as Lent>⟧.answers hosts shelf.old) (λ hosts. ⟦<Shelf as Lent>⟧.answers hosts shelf.new) heard.old heard.new) }
+    ensures can { OnOk result (CanSettle (scene graph.new (⟦<Shelf as Lent>⟧.asked shelf.new) notes.new.items)) }
+    ensures counted { OnOk result (⟦<Shelf as Lent>⟧.counted shelf.new) }
+{
+    if !look {
+        return Ok(false);
+    }
+    let mut ids = Vec::new(alloc);
+    put_names(&mut ids, memo)?;
+    let same = hear_again(graph, shelf, before, heard, &ids, notes)?;
+    Ok(same)
+}
+
+// What is heard of the first of some lines now: where its names are as before, it isn't evaluated.
+fn hear_first_again(
+    alloc: Global,
+    graph: &mut Graph,
+    shelf: &mut Shelf,
+    before: &Outcomes,
+    heard: &mut Outcomes,
+    lines: &Block,
+    head: Head,
+    links: &[NodeId],
+    row: Option<&RowRef>,
+    notes: &mut Vec<RunNote>,
+) -> Result<Head, NoMemory>
+    requires place { IfSome row (λ r. r.now.place < length r.now.rows.rows) }
+    requires can { CanSettle (scene graph.old (⟦<Shelf as Lent>⟧.asked shelf.old) notes.old.items) }
+    requires counted { ⟦<Shelf as Lent>⟧.counted shelf.old }
+    requires was { WasOpened (block lines.now) links.now (option_copied row) before.now head }
+    ensures opens { IfOk result (λ h. Opens (block lines.now) links.now (option_copied row.entry) heard.old heard.new h) }
+    ensures after { OnOk result (Hears
+        (scene graph.old (⟦<Shelf as Lent>⟧.asked shelf.old) notes.old.items) (scene graph.new (⟦<Shelf as Lent>⟧.asked shelf.new) notes.new.items)
+        (λ hosts. ⟦<Shelf as Lent>⟧.answers hosts shelf.old) (λ hosts. ⟦<Shelf as Lent>⟧.answers hosts shelf.new) heard.old heard.new) }
+    ensures can { OnOk result (CanSettle (scene graph.new (⟦<Shelf as Lent>⟧.asked shelf.new) notes.new.items)) }
+    ensures counted { OnOk result (⟦<Shelf as Lent>⟧.counted shelf.new) }
+{
+    match lines {
+        Block::Empty => Ok(Head::Nothing),
+        Block::Text(_, formula, _) => {
+            let Head::Text(line) = head else {
+                unreachable!()
+            };
+            let line = listen_again(
+                alloc, graph, shelf, before, heard, formula, line, links, row, notes,
+            )?;
+            Ok(Head::Text(line))
+        }
+        Block::Tag(_, _, attributes, _, _) => {
+            let Head::Tag(all) = head else { unreachable!() };
+            let all = listen_all_again(
+                alloc, graph, shelf, before, heard, attributes, all, links, row, notes,
+            )?;
+            Ok(Head::Tag(all))
+        }
+        Block::Choice(test, _, _, _) => {
+            let Head::Choice(line) = head else {
+                unreachable!()
+            };
+            let line = listen_again(
+                alloc, graph, shelf, before, heard, test, line, links, row, notes,
+            )?;
+            Ok(Head::Choice(line))
+        }
+        Block::Each(rows, _, _) => {
+            let Head::Each(line) = head else {
+                unreachable!()
+            };
+            let line = listen_again(
+                alloc, graph, shelf, before, heard, rows, line, links, row, notes,
+            )?;
+            Ok(Head::Each(line))
+        }
+    }
+}
+
+// Lines of which nothing is kept are made; where all their names are as before, what is kept stays; of others the first is heard again.
+fn begin(
+    alloc: Global,
+    graph: &mut Graph,
+    shelf: &mut Shelf,
+    before: &Outcomes,
+    heard: &mut Outcomes,
+    lines: &Block,
+    memo: PageMemo,
+    look: bool,
+    links: &[NodeId],
+    row: &Option<RowRef>,
+    notes: &mut Vec<RunNote>,
+) -> Result<Turn, NoMemory>
+    requires row { IsRow row.now }
+    requires can { CanSettle (scene graph.old (⟦<Shelf as Lent>⟧.asked shelf.old) notes.old.items) }
+    requires counted { ⟦<Shelf as Lent>⟧.counted shelf.old }
+    requires was { WasMadeIfRead (lines_memo (block lines.now)) links.now row.now before.now (kept memo) }
+    ensures begins { IfOk result (λ t. Begins (block lines.now) links.now row.now before.now heard.old heard.new t.first (map kept t.inside_was.items) (map kept t.later_was.items)) }
+    ensures places { IfOk result (λ t. t.places.items ≡ places_of t.first row.now) }
+    ensures inside { IfOk result (λ t. t.inside.items ≡ []) }
+    ensures later { IfOk result (λ t. t.later.items ≡ []) }
+    ensures after { OnOk result (Hears
+        (scene graph.old (⟦<Shelf as Lent>⟧.asked shelf.old) notes.old.items) (scene graph.new (⟦<Shelf as Lent>⟧.asked shelf.new) notes.new.items)
+        (λ hosts. ⟦<Shelf as Lent>⟧.answers hosts shelf.old) (λ hosts. ⟦<Shelf as Lent>⟧.answers hosts shelf.new) heard.old heard.new) }
+    ensures can { OnOk result (CanSettle (scene graph.new (⟦<Shelf as Lent>⟧.asked shelf.new) notes.new.items)) }
+    ensures counted { OnOk result (⟦<Shelf as Lent>⟧.counted shelf.new) }
+{
+    let here = lent_row(row);
+    if unread(&memo) {
+        let memo = make(alloc, graph, shelf, heard, lines, links, here, notes)?;
+        return Ok(whole(alloc, memo));
+    }
+    if stays(alloc, graph, shelf, before, heard, &memo, look, notes)? {
+        return Ok(whole(alloc, memo));
+    }
+    let Parts {
+        head,
+        inside,
+        later,
+    } = apart(alloc, memo)?;
+    let was = outcome_of(&head)?;
+    let head = hear_first_again(
+        alloc, graph, shelf, before, heard, lines, head, links, here, notes,
+    )?;
+    let turn = taken_up(alloc, &was, head, inside, later, here)?;
+    Ok(turn)
+}
+
+// Puts what is kept of lines in each of some rows behind what was kept, brought up to date.
+fn renew_each(
+    alloc: Global,
+    graph: &mut Graph,
+    shelf: &mut Shelf,
+    before: &Outcomes,
+    heard: &mut Outcomes,
+    lines: &Block,
+    links: &[NodeId],
+    rows: &[Option<RowRef>],
+    was: &mut VecDeque<PageMemo>,
+    look: bool,
+    notes: &mut Vec<RunNote>,
+    done: &mut Vec<PageMemo>,
+) -> Result<(), NoMemory>
+    requires few { length rows.now < 2 ^ 64 }
+    requires rows { AreRows rows.now }
+    requires can { CanSettle (scene graph.old (⟦<Shelf as Lent>⟧.asked shelf.old) notes.old.items) }
+    requires counted { ⟦<Shelf as Lent>⟧.counted shelf.old }
+    requires was { WereEach (block lines.now) links.now rows.now before.now (map kept was.old.items) }
+    ensures made { OnOk result (MakesEach (block lines.now) links.now rows.now heard.old heard.new (map kept done.old.items) (map kept done.new.items)) }
+    ensures after { OnOk result (Hears
+        (scene graph.old (⟦<Shelf as Lent>⟧.asked shelf.old) notes.old.items) (scene graph.new (⟦<Shelf as Lent>⟧.asked shelf.new) notes.new.items)
+        (λ hosts. ⟦<Shelf as Lent>⟧.answers hosts shelf.old) (λ hosts. ⟦<Shelf as Lent>⟧.answers hosts shelf.new) heard.old heard.new) }
+    ensures can { OnOk result (CanSettle (scene graph.new (⟦<Shelf as Lent>⟧.asked shelf.new) notes.new.items)) }
+    ensures counted { OnOk result (⟦<Shelf as Lent>⟧.counted shelf.new) }
+{
+    let Some((row, others)) = rows.split_first() else {
+        return Ok(());
+    };
+    let memo = next_kept(was);
+    let mut turn = begin(
+        alloc, graph, shelf, before, heard, lines, memo, look, links, row, notes,
+    )?;
+    let inner = inner_of(lines, shows_of(&turn.first));
+    renew_each(
+        alloc,
+        graph,
+        shelf,
+        before,
+        heard,
+        inner,
+        links,
+        &turn.places,
+        &mut turn.inside_was,
+        true,
+        notes,
+        &mut turn.inside,
+    )?;
+    let behind = behind_of(&turn.first, row);
+    renew_each(
+        alloc,
+        graph,
+        shelf,
+        before,
+        heard,
+        rest_of(lines),
+        links,
+        behind,
+        &mut turn.later_was,
+        false,
+        notes,
+        &mut turn.later,
+    )?;
+    put_turn(alloc, turn, done)?;
+    renew_each(
+        alloc, graph, shelf, before, heard, lines, links, others, was, look, notes, done,
+    )?;
+    Ok(())
+}
+
+/// Brings what a page keeps of these lines up to date, in the row where they stand: it is what `make` would make. `before` are the outcomes on which
+/// it was made. With `look` its names are heard again first, and where each has the outcome of before, it stays as it is. Otherwise it is
+/// gone over: a line whose names are as before isn't evaluated, the branch that was shown before is gone over again, and a row that has its
+/// key and its values still keeps what was kept of it. Where nothing is kept yet, all is made.
+///
+/// # Errors
+///
+/// `NoMemory` alone; names may then have been settled.
+pub fn renew(
+    alloc: Global,
+    graph: &mut Graph,
+    shelf: &mut Shelf,
+    before: &Outcomes,
+    heard: &mut Outcomes,
+    lines: &Block,
+    memo: PageMemo,
+    look: bool,
+    links: &[NodeId],
+    row: Option<&RowRef>,
+    notes: &mut Vec<RunNote>,
+) -> Result<PageMemo, NoMemory>
+    requires place { IfSome row (λ r. r.now.place < length r.now.rows.rows) }
+    requires can { CanSettle (scene graph.old (⟦<Shelf as Lent>⟧.asked shelf.old) notes.old.items) }
+    requires counted { ⟦<Shelf as Lent>⟧.counted shelf.old }
+    requires was { WasMadeIfRead (lines_memo (block lines.now)) links.now (option_copied row) before.now (kept memo) }
+    ensures made { IfOk result (λ m. Makes (lines_memo (block lines.now)) links.now (option_copied row.entry) heard.old heard.new (kept m)) }
+    ensures after { OnOk result (Hears
+        (scene graph.old (⟦<Shelf as Lent>⟧.asked shelf.old) notes.old.items) (scene graph.new (⟦<Shelf as Lent>⟧.asked shelf.new) notes.new.items)
+        (λ hosts. ⟦<Shelf as Lent>⟧.answers hosts shelf.old) (λ hosts. ⟦<Shelf as Lent>⟧.answers hosts shelf.new) heard.old heard.new) }
+    ensures can { OnOk result (CanSettle (scene graph.new (⟦<Shelf as Lent>⟧.asked shelf.new) notes.new.items)) }
+    ensures counted { OnOk result (⟦<Shelf as Lent>⟧.counted shelf.new) }
+{
+    let own = own_row(row)?;
+    let mut was = waiting(alloc, memo)?;
+    let mut done = Vec::new(alloc);
+    renew_each(
+        alloc,
+        graph,
+        shelf,
+        before,
+        heard,
+        lines,
+        links,
+        slice::from_ref(&own),
+        &mut was,
+        look,
+        notes,
+        &mut done,
+    )?;
+    Ok(last(done))
+}

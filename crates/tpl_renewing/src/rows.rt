@@ -1,0 +1,119 @@
+// Rows of before, looked for by key.
+ghost use Rattle.std.specs.Prelude.{◌≡◌, ◌<◌, ℕ, List, length, map, IfOk, IfSome, true};
+ghost use Rattle.sig_base.specs.Tables.{Table};
+ghost use Rattle.tpl_model.specs.Lines as model;
+ghost use Rattle.tpl_model.specs.Sources.{same_here};
+ghost use Rattle.tpl_hearing.specs.Hearing as hearing;
+ghost use Rattle.tpl_memos.specs.Kept.{kept};
+ghost use Rattle.tpl_listening.specs.Makings.{table_in};
+ghost use Rattle.tpl_listening.specs.Renewals.{SlotsWere, TakesRow};
+ghost use Rattle.tpl_renewing.specs.Turns.{ServeRows};
+
+use indexmap::IndexMap;
+use sig_base::{NoMemory, Outcome, Rows, Text, Value};
+use std::alloc::Global;
+use std::collections::VecDeque;
+use std::mem;
+use tpl_listening::row_count;
+use tpl_memos::PageMemo;
+
+// The places of rows by their keys; none where the rows are the same, since each is then found at its own place.
+fn places(alloc: Global, was: &Outcome, next: &Outcome) -> Result<IndexMap<Text, usize>, NoMemory> {
+    let mut places = IndexMap::new(alloc);
+    if was.same(next) {
+        return Ok(places);
+    }
+    if let Outcome::Good(Value::Rows(rows)) = was {
+        for (place, row) in rows.rows().iter().enumerate() {
+            places.insert(row.key.copy()?, place)?;
+        }
+    }
+    Ok(places)
+}
+
+// Whether two rows of tables are alike.
+fn alike(was: &Rows, at: usize, rows: &Rows, place: usize) -> bool
+    requires { place < length rows.now.rows }
+    ensures inside { result ≡ true → at < length was.now.rows }
+    ensures same { result ≡ true → same_here (record { rows = was.now; place = at }) (record { rows = rows.now; place = place }) ≡ true }
+{
+    at < was.len() && was.row(at) == rows.row(place) && was.fields() == rows.fields()
+}
+
+// The place of a row of the same key and values, which is looked for at the same place first.
+fn same_place(
+    places: &IndexMap<Text, usize>,
+    was: &Rows,
+    rows: &Rows,
+    place: usize,
+) -> Option<usize>
+    requires { place < length rows.now.rows }
+    ensures inside { IfSome result (λ at. at < length was.now.rows) }
+    ensures same { IfSome result (λ at. same_here (record { rows = was.now; place = at }) (record { rows = rows.now; place = place }) ≡ true) }
+{
+    if alike(was, place, rows, place) {
+        return Some(place);
+    }
+    let at = *places.get(&rows.row(place).key)?;
+    if alike(was, at, rows, place) {
+        return Some(at);
+    }
+    None
+}
+
+// The place among the rows of before of one that has the key and the values of this row.
+fn old_place(
+    places: &IndexMap<Text, usize>,
+    was: &Outcome,
+    next: &Outcome,
+    place: usize,
+) -> Option<usize>
+    requires { place < length (table_in next.now).rows }
+    ensures inside { IfSome result (λ at. at < length (table_in was.now).rows) }
+    ensures same { IfSome result (λ at. same_here (record { rows = table_in was.now; place = at }) (record { rows = table_in next.now; place = place }) ≡ true) }
+{
+    match (was, next) {
+        (Outcome::Good(Value::Rows(was)), Outcome::Good(Value::Rows(rows))) => {
+            same_place(places, was, rows, place)
+        }
+        _ => None,
+    }
+}
+
+// Takes what was kept of the row at a place, where there is one.
+fn take_row(old: &mut Vec<PageMemo>, place: Option<usize>) -> PageMemo
+    ensures { (b : model.Block) (links : List ℕ) (t : Table) (before : hearing.Outcomes) → SlotsWere b links t 0 before (map kept old.old.items) →
+        TakesRow b links t before place (kept result) (map kept old.new.items) }
+{
+    let Some(place) = place else {
+        return PageMemo::Unread;
+    };
+    if place >= old.len() {
+        return PageMemo::Unread;
+    }
+    mem::replace(&mut old[place], PageMemo::Unread)
+}
+
+/// What was kept for rows, each where there now is a row of the same key and values.
+///
+/// # Errors
+///
+/// `NoMemory` alone.
+pub(crate) fn rows_were(
+    alloc: Global,
+    was: &Outcome,
+    next: &Outcome,
+    memos: Vec<PageMemo>,
+) -> Result<VecDeque<PageMemo>, NoMemory>
+    ensures { IfOk result (λ q. ServeRows (table_in was.now) (table_in next.now) (map kept memos.items) (map kept q.items)) }
+{
+    let places = places(alloc, was, next)?;
+    let mut left = memos;
+    let mut taken = Vec::new(alloc);
+    for place in 0..row_count(next) {
+        let at = old_place(&places, was, next, place);
+        let one = take_row(&mut left, at);
+        taken.push(one)?;
+    }
+    Ok(VecDeque::from_vec(taken))
+}
