@@ -1,4 +1,4 @@
-//! Worked pages: which steps lead from old children to new ones, what a copied formula is, and what is kept of lines.
+//! Worked pages: which steps lead from old children to new ones, what a copied formula is, what lines hear, and what is kept of them.
 #![tactic(auto)]
 
 #[cfg(test)]
@@ -6,4 +6,10 @@ mod children;
 #[cfg(test)]
 mod copies;
 #[cfg(test)]
+mod hearings;
+#[cfg(test)]
+mod listenings;
+#[cfg(test)]
 mod memos;
+#[cfg(test)]
+mod scene;

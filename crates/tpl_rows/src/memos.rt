@@ -1,5 +1,6 @@
 // What is kept of lines, put together.
 
+use crate::scene::is_number;
 use sig_base::{Outcome, Value};
 use std::alloc::Global;
 use std::test::Fail;
@@ -10,14 +11,6 @@ fn constant(alloc: Global, number: i64) -> Heard {
     Heard {
         names: Vec::new(alloc),
         outcome: Outcome::Good(Value::Int(number)),
-    }
-}
-
-// Whether an outcome is this number.
-fn is_number(outcome: &Outcome, wanted: i64) -> bool {
-    match outcome {
-        Outcome::Good(Value::Int(n)) => *n == wanted,
-        _ => false,
     }
 }
 
