@@ -9,9 +9,9 @@ ghost use Rattle.effect_tables.specs.Linking.{rewired, signal_number, target_thi
 ghost use Rattle.effect_sites.specs.Sites.{slots_in};
 ghost use Rattle.effect_acts.specs.Changing.{IsMeant};
 
-use crate::copying::copy_formula;
 use effect_tables::{Slots, Target, Thing};
 use sig_base::{EffectId, NoMemory, NodeId};
+use sig_formula::copy_formula;
 use sig_nodes::Recipe;
 use sig_untrack::{Recipe2, Rewire};
 use std::alloc::Global;

@@ -4,7 +4,6 @@
 mod acting;
 mod changes;
 mod changing;
-mod copying;
 mod disposing;
 mod keeping;
 mod making;

@@ -6,9 +6,8 @@ ghost use Rattle.tpl_blocks.specs.Blocks.{block, held, line_of, lines_of, part_o
 ghost use Rattle.tpl_blocks.specs.Blocks.{attribute_before, choice_before, each_before, else_before, tag_before, text_before};
 
 use crate::Block;
-use crate::copying::copy_formula;
 use sig_base::{NoMemory, Text};
-use sig_formula::Formula;
+use sig_formula::{Formula, copy_formula};
 use std::alloc::Global;
 use tpl_syntax::{Template, TplLine};
 

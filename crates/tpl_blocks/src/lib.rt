@@ -3,10 +3,8 @@
 
 mod block;
 mod building;
-mod copying;
 mod laws;
 
 pub use block::Block;
 pub use building::block_of;
-pub use copying::copy_formula;
 pub use laws::read_law;

@@ -1,9 +1,8 @@
 // Copies of formulas.
 
 use sig_base::Scalar;
-use sig_formula::{BinOp, Formula};
+use sig_formula::{BinOp, Formula, copy_formula};
 use std::test::Fail;
-use tpl_blocks::copy_formula;
 
 #[test]
 fn a_copy_is_the_same_formula(rt: HostRuntime) -> Result<(), Fail> {

@@ -2,8 +2,8 @@
 ghost use Rattle.std.specs.Prelude.{◌≡◌, IfOk};
 ghost use Rattle.sig_formula.specs.Trees.{tree};
 
+use crate::formula::Formula;
 use sig_base::NoMemory;
-use sig_formula::Formula;
 use std::alloc::Global;
 
 // A formula like another, in a box.
@@ -22,7 +22,7 @@ fn boxed_copy(alloc: Global, formula: &Formula) -> Result<Box<Formula>, NoMemory
 ///
 /// `NoMemory` alone.
 #[cycle(copying)]
-pub(crate) fn copy_formula(alloc: Global, formula: &Formula) -> Result<Formula, NoMemory>
+pub fn copy_formula(alloc: Global, formula: &Formula) -> Result<Formula, NoMemory>
     ensures { IfOk result (λ f. tree f ≡ tree formula.now) }
 {
     match formula {
