@@ -5,15 +5,13 @@ use Rattle.formula_text.specs.Signs.{word_sign}
 use Rattle.line_forms.specs.Reading.{is_clear}
 use Rattle.line_forms.specs.Rows.{rows_of, Reaches, IsGrammar}
 use Rattle.live_cmd.specs.declared.command.Verb.TheVariants as verbs
-use Rattle.live_cmd.specs.declared.command.SourceVerb.TheVariants as source_verbs
-use Rattle.live_cmd.specs.Grammar.{Row, row, table, verb, source_verb, hosted, tries_get, tries_set, tries_watch, tries_unwatch, flush}
+use Rattle.live_cmd.specs.Grammar.{Row, row, table, verb, computed, rewire, tries_get, tries_set, tries_watch, tries_unwatch, flush}
 
 reached : (r : Row) → Reaches Row row r (rows_of (row r).0 table)
 unfolding word_sign is_name is_reserved
 reached (verb verbs.Get) = inl refl
-reached (hosted source_verbs.Computed) = inl refl
-reached (source_verb source_verbs.Computed) = inr (refl, inl refl)
-reached (source_verb source_verbs.Rewire) = inr (refl, inl refl)
+reached computed = inr (refl, inl refl)
+reached rewire = inr (refl, inl refl)
 reached tries_get = inr (refl, inl refl)
 reached tries_set = inr (refl, inr (refl, inl refl))
 reached tries_watch = inr (refl, inr (refl, inr (refl, inl refl)))
@@ -21,6 +19,7 @@ reached tries_unwatch = inr (refl, inr (refl, inr (refl, inr (refl, inl refl))))
 reached _ = inl refl
 
 clear : (r : Row) → is_clear (row r).1 ≡ true
+unfolding word_sign is_name is_reserved
 clear flush = refl
 clear _ = refl
 

@@ -1,5 +1,5 @@
 -- What a piece of a script is.
-use Rattle.std.proofs.Common.{◌≡◌, ℕ, ◌+◌, true, false, List, [], ◌∷◌, ◌++◌, length, map, drop, Option, Some, None, refl, sym, ap, subst, ◌∙◌, inl, inr}
+use Rattle.std.proofs.Common.{◌≡◌, ℕ, ◌+◌, true, false, List, [], ◌∷◌, ◌++◌, length, map, drop, Option, Some, None, refl, sym, ap, subst, ◌∙◌}
 use Rattle.std.specs.Prelude.{Result, Ok, Err, IfOk}
 use Rattle.std.specs.Option.{option_or}
 use Rattle.formula_text.specs.declared.wired.FormulaFault.{FormulaFault}
@@ -13,15 +13,19 @@ use Rattle.live_cmd.specs.declared.command.Item.TheVariants as item
 use Rattle.live_cmd.specs.declared.refusal.Refusal.{Refusal}
 use Rattle.live_cmd.specs.declared.refusal.Refusal.TheVariants as refusal
 use Rattle.line_forms.specs.Told.{unless_faulty}
-use Rattle.live_cmd.specs.Grammar.{Said, line_of}
+use Rattle.line_forms.proofs.Shared as forms
+use Rattle.live_cmd.specs.Grammar.{Row, row, table, Said, line_of}
 use Rattle.live_cmd.specs.declared.place.Place.{Place}
 use Rattle.live_cmd.specs.declared.place.Place.TheVariants as place
-use Rattle.live_cmd.specs.Places.{kind_of, moved}
+use Rattle.live_cmd.specs.Places.{kind_of, moved, places}
 use Rattle.live_cmd.specs.Judging.{Sayings, Faults, fault_of, faults_of, misplacing, excess, first_misplaced, first_excess, refusal_of}
-use Rattle.live_cmd.specs.Items.{Say, IsFaulty, IsItem, long, unended, faulty, says, any_long, first_number, command_of, item_or, unless_refused, item_of, AreItems, ItemsFrom, Begins}
+use Rattle.live_cmd.specs.declared.block.Content.{Content}
+use Rattle.live_cmd.specs.Blocks.{Block, IsContent, block_item}
+use Rattle.live_cmd.specs.Items.{Say, IsItem, long, unended, block, faulty, says, any_long, first_number, command_of, item_or, unless_refused, item_of, AreItems, ItemsFrom, Begins}
 use Rattle.live_cmd.specs.Views.{told, read_of, fault_read, faults_read, with_line, sound_lines, item_read, AreRead}
 use Rattle.live_cmd.proofs.Refusing.{no_fault}
-use Rattle.live_cmd.proofs.Spellings.{one_writing}
+use Rattle.live_cmd.proofs.Grammars.{is_grammar}
+use Rattle.live_cmd.proofs.Parting.{one_block, no_says}
 
 -- ---- what was read of lines is what they say
 
@@ -90,6 +94,11 @@ is_said p rs n i a e r h is =
     let whole : i ≡ item_of (first_number p.lines) s.0 = is ∙ ap (λ (k : ℕ). item_read k rs) h ∙ ap (item_read (first_number p.lines)) s.2 ∙ item_same (first_number p.lines) s.0 in
     subst (λ (j : Item). IsItem p j) (sym whole) (says s.0 a e s.1)
 
+-- a block is what it comes to
+pub is_block : (p : Piece) (i : Item) → any_long p.lines ≡ false → p.ended ≡ true
+    → (b : Block p.lines) × (c : Content) × IsContent b.head b.inner c × (i ≡ block_item b.ends b.last.0 c) → IsItem p i
+is_block p i a e h = subst (λ (j : Item). IsItem p j) (sym h.3) (block h.0 h.1 a e h.2)
+
 -- lines that were read are what they say
 pub is_judged : {E : Type 0} (p : Piece) (rs : List ReadLine) (n : ℕ) (r : Result Item E) → any_long p.lines ≡ false → p.ended ≡ true → AreRead place.First p.lines rs → n ≡ first_number p.lines
     → IfOk r (λ i. i ≡ item_read n rs) → IfOk r (λ i. IsItem p i)
@@ -98,55 +107,35 @@ is_judged p rs n (Err f) a e s h is = is
 
 -- ---- there is one of each
 
-one_saying : (p : Place) (ls : List NumberedLine) (xs ys : Sayings) → Say p ls xs → Say p ls ys → xs ≡ ys
-one_saying p [] [] [] s t = refl
-one_saying p [] [] (y ∷ ys) s t = absurd t
-one_saying p [] (x ∷ xs) ys s t = absurd s
-one_saying p (l ∷ ls) [] ys s t = absurd s
-one_saying p (l ∷ ls) (x ∷ xs) [] s t = absurd t
-one_saying p (l ∷ ls) (x ∷ xs) (y ∷ ys) s t =
-    let same : x.1 ≡ y.1 = one_writing l.1 x.1 y.1 s.1 t.1 in
-    let number : x.0 ≡ y.0 = s.0 ∙ sym t.0 in
-    let rest = one_saying (moved p (kind_of x.1)) ls xs ys s.3 (subst (λ (z : Said). Say (moved p (kind_of z)) ls ys) (sym same) t.3) in
-    let pair : ℕ → Said → ℕ × Said = λ n z. (n, z) in
-    let whole : x ≡ y = ap (λ (n : ℕ). pair n x.1) number ∙ ap (λ (z : Said). pair y.0 z) same in
-    cc
-
-no_both : (p : Place) (ls : List NumberedLine) (xs : Sayings) (k : ℕ) → Say p ls xs → IsFaulty p ls k → ⊥
-no_both p [] xs k s f = f
-no_both p (l ∷ ls) [] k s f = s
-no_both p (l ∷ ls) (x ∷ xs) k s (inl f) = f.1 x.1 s.1 s.2
-no_both p (l ∷ ls) (x ∷ xs) k s (inr f) =
-    let same : f.0 ≡ x.1 = one_writing l.1 f.0 x.1 f.1 s.1 in
-    no_both (moved p (kind_of x.1)) ls xs k s.3 (subst (λ (z : Said). IsFaulty (moved p (kind_of z)) ls k) same f.3)
-
-one_fault : (p : Place) (ls : List NumberedLine) (k j : ℕ) → IsFaulty p ls k → IsFaulty p ls j → k ≡ j
-one_fault p [] k j f g = absurd f
-one_fault p (l ∷ ls) k j (inl f) (inl g) = f.0 ∙ sym g.0
-one_fault p (l ∷ ls) k j (inl f) (inr g) = absurd (f.1 g.0 g.1 g.2)
-one_fault p (l ∷ ls) k j (inr f) (inl g) = absurd (g.1 f.0 f.1 f.2)
-one_fault p (l ∷ ls) k j (inr f) (inr g) =
-    let same : g.0 ≡ f.0 = one_writing l.1 g.0 f.0 g.1 f.1 in
-    one_fault (moved p (kind_of f.0)) ls k j f.3 (subst (λ (z : Said). IsFaulty (moved p (kind_of z)) ls j) same g.3)
-
 -- a piece is one item
 pub one_item : (p : Piece) (i j : Item) → IsItem p i → IsItem p j → i ≡ j
 one_item p _ _ (long a) (long b) = refl
 one_item p _ _ (long a) (unended b f) = absurd cc
-one_item p _ _ (long a) (faulty k b f g) = absurd cc
+one_item p _ _ (long a) (block d c b f h) = absurd cc
+one_item p _ _ (long a) (faulty k b f n g) = absurd cc
 one_item p _ _ (long a) (says ys b f t) = absurd cc
 one_item p _ _ (unended a e) (long b) = absurd cc
 one_item p _ _ (unended a e) (unended b f) = refl
-one_item p _ _ (unended a e) (faulty k b f g) = absurd cc
+one_item p _ _ (unended a e) (block d c b f h) = absurd cc
+one_item p _ _ (unended a e) (faulty k b f n g) = absurd cc
 one_item p _ _ (unended a e) (says ys b f t) = absurd cc
-one_item p _ _ (faulty k a e f) (long b) = absurd cc
-one_item p _ _ (faulty k a e f) (unended b g) = absurd cc
-one_item p _ _ (faulty k a e f) (faulty j b g h) = ap (λ (n : ℕ). item.Refused (refusal.Syntax n)) (one_fault place.First p.lines k j f h)
-one_item p _ _ (faulty k a e f) (says ys b g t) = absurd (no_both place.First p.lines ys k t f)
+one_item p _ _ (block x c a e h) (long b) = absurd cc
+one_item p _ _ (block x c a e h) (unended b f) = absurd cc
+one_item p _ _ (block x c a e h) (block y d b f k) = one_block p.lines x y c d h k
+one_item p _ _ (block x c a e h) (faulty k b f n g) = absurd (n x)
+one_item p _ _ (block x c a e h) (says ys b f t) = absurd (no_says p.lines x ys t)
+one_item p _ _ (faulty k a e m f) (long b) = absurd cc
+one_item p _ _ (faulty k a e m f) (unended b g) = absurd cc
+one_item p _ _ (faulty k a e m f) (block y d b g h) = absurd (m y)
+one_item p _ _ (faulty k a e m f) (faulty j b g n h) =
+    ap (λ (n : ℕ). item.Refused (refusal.Syntax n)) (forms.one_fault Row row table is_grammar places place.First p.lines k j f h)
+one_item p _ _ (faulty k a e m f) (says ys b g t) = absurd (forms.no_both Row row table is_grammar places place.First p.lines ys k t f)
 one_item p _ _ (says xs a e s) (long b) = absurd cc
 one_item p _ _ (says xs a e s) (unended b g) = absurd cc
-one_item p _ _ (says xs a e s) (faulty j b g h) = absurd (no_both place.First p.lines xs j s h)
-one_item p _ _ (says xs a e s) (says ys b f t) = ap (λ (zs : Sayings). item_of (first_number p.lines) zs) (one_saying place.First p.lines xs ys s t)
+one_item p _ _ (says xs a e s) (block y d b g h) = absurd (no_says p.lines y xs s)
+one_item p _ _ (says xs a e s) (faulty j b g n h) = absurd (forms.no_both Row row table is_grammar places place.First p.lines xs j s h)
+one_item p _ _ (says xs a e s) (says ys b f t) =
+    ap (λ (zs : Sayings). item_of (first_number p.lines) zs) (forms.one_saying Row row table is_grammar places place.First p.lines xs ys s t)
 
 one_list_of : (ps : List Piece) (is js : List Item) → AreItems ps is → AreItems ps js → is ≡ js
 one_list_of [] [] [] a b = refl

@@ -1,5 +1,5 @@
 -- What is read of a line is what its bytes write.
-use Rattle.std.proofs.Common.{◌≡◌, ℕ, List, [], ◌∷◌, Option, Some, None, option_map, refl, sym, ap, subst, ◌∙◌, arith}
+use Rattle.std.proofs.Common.{◌≡◌, ℕ, List, [], ◌∷◌, Option, Some, None, option_map, refl, sym, ap, subst, ◌∙◌, ◌⊎◌, arith}
 use Rattle.std.specs.Prelude.{Result, Ok, Err, IfOk, MatchOption, slice_get}
 use Rattle.std.specs.Str.{IsUtf8}
 use Rattle.std.specs.Option.{option_or}
@@ -7,12 +7,12 @@ use Rattle.sig_words.specs.declared.token.Token.{Token}
 use Rattle.sig_words.specs.declared.token.TokenKind.TheVariants as kind
 use Rattle.sig_words.specs.Lexemes.{Lexeme, word, lexeme, lexemes, text_at}
 use Rattle.sig_words.specs.Tokens.{AreTokens, IsBad, IsTokenOf}
-use Rattle.sig_words.proofs.Shared.{each_token, token_word_utf8, lexeme-Word, one_cutting, no_cutting}
+use Rattle.sig_words.proofs.Shared.{each_token, token_word_utf8, lexeme-Word}
 use Rattle.line_forms.specs.Forms.{Args}
 use Rattle.line_forms.specs.Reading.{read_form}
 use Rattle.line_forms.specs.Rows.{first_of, rows_of, said_of}
 use Rattle.line_forms.specs.Told.{ahead}
-use Rattle.line_forms.proofs.Shared.{said_complete, said_spells}
+use Rattle.line_forms.proofs.Shared as lines
 use Rattle.live_cmd.specs.declared.line.Found.{Found}
 use Rattle.live_cmd.specs.Grammar.{Row, row, table, Said, Writes}
 use Rattle.live_cmd.specs.Views.{found_of, found_as, found_first}
@@ -56,30 +56,17 @@ first_utf8 line (u ∷ us) t a e k =
 
 -- ---- lines of bytes
 
--- what is read of the tokens of a line is written
-pub writes : (bytes : List ℕ) (ts : List Token) (x : Said) → AreTokens bytes ts → said_of Row row table (lexemes bytes ts) ≡ Some x → Writes x bytes
-writes bytes ts x a e = record { tokens = ts; cut = a; spelled = said_spells Row row table is_grammar x (lexemes bytes ts) e }
+-- a line says one thing
+pub one_writing : (bytes : List ℕ) (x y : Said) → Writes x bytes → Writes y bytes → x ≡ y
+one_writing bytes x y v w = lines.one_writing Row row table is_grammar bytes x y v w
 
--- what is read of the tokens is all that the line can say
-is_read : (bytes : List ℕ) (ts : List Token) (x : Said) → AreTokens bytes ts → Writes x bytes → said_of Row row table (lexemes bytes ts) ≡ Some x
-is_read bytes ts x a w =
-    ap (λ (us : List Token). said_of Row row table (lexemes bytes us)) (one_cutting bytes ts w.tokens a w.cut)
-    ∙ said_complete Row row table is_grammar x (lexemes bytes w.tokens) w.spelled
-
--- tokens that are read as no line write none
-pub writes_none : (bytes : List ℕ) (ts : List Token) → AreTokens bytes ts → said_of Row row table (lexemes bytes ts) ≡ None → (x : Said) → Writes x bytes → ⊥
-writes_none bytes ts a e x w = let f : None ≡ Some x = sym e ∙ is_read bytes ts x a w in cc
+-- bytes write a line, or none
+pub line_or_none : (bytes : List ℕ) → ((x : Said) × Writes x bytes) ⊎ ((x : Said) → Writes x bytes → ⊥)
+line_or_none bytes = lines.line_or_none Row row table is_grammar bytes
 
 -- a line without tokens says nothing
 pub bad_none : (bytes : List ℕ) (at : ℕ) → IsBad bytes at → (x : Said) → Writes x bytes → ⊥
-bad_none bytes at bad x w = no_cutting bytes at w.tokens bad w.cut
-
--- a line says one thing
-pub one_writing : (bytes : List ℕ) (x y : Said) → Writes x bytes → Writes y bytes → x ≡ y
-one_writing bytes x y v w = same_some x y (sym (is_read bytes v.tokens x v.cut v) ∙ is_read bytes v.tokens y v.cut w)
-  where
-    same_some : (x y : Said) → Some x ≡ Some y → x ≡ y
-    same_some x y e = cc
+bad_none bytes at bad x w = lines.bad_writes_none Row row bytes at bad x w
 
 -- what is found in a line that writes this or nothing
 abbrev pub IsFound : List ℕ → Option Found → Type 0
@@ -87,10 +74,10 @@ IsFound bytes found = MatchOption found ((x : Said) → Writes x bytes → ⊥) 
 
 of_found : (bytes : List ℕ) (ts : List Token) (found : Option Found) (o : Option Said) → AreTokens bytes ts → said_of Row row table (lexemes bytes ts) ≡ o
     → found ≡ option_map found_of o → IsFound bytes found
-of_found bytes ts None None a e f = writes_none bytes ts a e
+of_found bytes ts None None a e f = lines.writes_none Row row table is_grammar bytes ts a e
 of_found bytes ts (Some x) None a e f = absurd cc
 of_found bytes ts None (Some y) a e f = absurd cc
-of_found bytes ts (Some x) (Some y) a e f = (y, writes bytes ts y a e, cc)
+of_found bytes ts (Some x) (Some y) a e f = (y, lines.writes Row row table is_grammar bytes ts y a e, cc)
 
 -- what is found in the tokens of a line is what its bytes write
 pub from_tokens : {E : Type 0} (bytes : List ℕ) (ts : List Token) (r : Result (Option Found) E) → AreTokens bytes ts

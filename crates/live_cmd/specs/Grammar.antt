@@ -1,18 +1,13 @@
 -- The lines of the language: which bytes write each, and what it gives.
 use Rattle.std.specs.Prelude.{ℕ, List, [], ◌∷◌, codes, Some, None}
-use Rattle.sig_words.specs.declared.token.Token.{Token}
-use Rattle.sig_words.specs.Lexemes.{symbol, word, lexemes}
-use Rattle.sig_words.specs.Tokens.{AreTokens}
+use Rattle.sig_words.specs.Lexemes.{symbol, word}
 use Rattle.formula_text.specs.Wiring.{wired}
+use Rattle.line_forms.specs.Blocks as blocks
 use Rattle.line_forms.specs.Forms.{Piece, part, fixed, one, perhaps, many, arguments, formula, plain, name, value, count}
 use Rattle.line_forms.specs.Rows as grammar
 use Rattle.line_forms.specs.Told.{Made, made}
 use Rattle.live_cmd.specs.declared.command.Command.TheVariants as command
 use Rattle.live_cmd.specs.declared.command.SourceText.TheVariants as source
-use Rattle.live_cmd.specs.declared.command.SourceText.{SourceText}
-use Rattle.live_cmd.specs.declared.command.SourceVerb.{SourceVerb}
-use Rattle.live_cmd.specs.declared.command.SourceVerb.TheVariants as source_verbs
-use Rattle.live_cmd.specs.declared.command.Command.{Command}
 use Rattle.live_cmd.specs.declared.command.Try.TheVariants as tried
 use Rattle.live_cmd.specs.declared.command.Verb.{Verb}
 use Rattle.live_cmd.specs.declared.command.Verb.TheVariants as verbs
@@ -25,10 +20,13 @@ pub data Row : Type 0 where
   verb : Verb → Row
   cell : Row
   set : Row
-  -- a verb, a name and a formula
-  source_verb : SourceVerb → Row
-  -- a verb, a name and a host formula with its arguments
-  hosted : SourceVerb → Row
+  -- a computed of a formula, and one of a host formula with its arguments
+  computed : Row
+  computed_host : Row
+  -- the same two as another source of a computed
+  rewire : Row
+  rewire_host : Row
+  owner : Row
   watcher : Row
   tries_get : Row
   tries_set : Row
@@ -38,6 +36,7 @@ pub data Row : Type 0 where
   unwatch : Row
   mount : Row
   flush : Row
+  effect : Row
   template : Row
   text : Row
   close : Row
@@ -50,16 +49,6 @@ verb_word verbs.Sources = codes "sources"
 verb_word verbs.Show = codes "show"
 verb_word verbs.Dispose = codes "dispose"
 verb_word verbs.Pending = codes "pending"
-
--- the word of a verb before a source
-abbrev pub source_verb_word : SourceVerb → List ℕ
-source_verb_word source_verbs.Computed = codes "computed"
-source_verb_word source_verbs.Rewire = codes "rewire"
-
--- its command
-abbrev pub source_command : SourceVerb → List ℕ → SourceText → Command
-source_command source_verbs.Computed n s = command.Computed n s
-source_command source_verbs.Rewire n s = command.Rewire n s
 
 -- a name
 abbrev N : Piece
@@ -85,6 +74,10 @@ ARGUMENTS = part arguments
 abbrev equals_K : Piece
 equals_K = part (perhaps (codes "equals") count)
 
+-- the owner inside which something is made, if one is said
+abbrev in_O : Piece
+in_O = part (perhaps (codes "in") name)
+
 -- any number of names
 abbrev NAMES : Piece
 NAMES = part (many name)
@@ -100,10 +93,13 @@ mark s = fixed (symbol s)
 -- the first word of a row, and what follows it
 abbrev pub row : Row → grammar.Line
 row (verb v) = (verb_word v, N ∷ [])
-row cell = (codes "cell", N ∷ mark (codes "=") ∷ LIT ∷ equals_K ∷ [])
+row cell = (codes "cell", N ∷ mark (codes "=") ∷ LIT ∷ equals_K ∷ in_O ∷ [])
 row set = (codes "set", N ∷ LIT ∷ [])
-row (source_verb v) = (source_verb_word v, N ∷ mark (codes "=") ∷ FORMULA ∷ [])
-row (hosted v) = (source_verb_word v, N ∷ mark (codes "=") ∷ says (codes "host") ∷ K ∷ ARGUMENTS ∷ [])
+row computed = (codes "computed", N ∷ mark (codes "=") ∷ FORMULA ∷ in_O ∷ [])
+row computed_host = (codes "computed", N ∷ mark (codes "=") ∷ says (codes "host") ∷ K ∷ ARGUMENTS ∷ in_O ∷ [])
+row rewire = (codes "rewire", N ∷ mark (codes "=") ∷ FORMULA ∷ [])
+row rewire_host = (codes "rewire", N ∷ mark (codes "=") ∷ says (codes "host") ∷ K ∷ ARGUMENTS ∷ [])
+row owner = (codes "owner", N ∷ in_O ∷ [])
 row watcher = (codes "watcher", N ∷ [])
 row tries_get = (codes "watcher", N ∷ says (codes "tries") ∷ says (codes "get") ∷ N ∷ [])
 row tries_set = (codes "watcher", N ∷ says (codes "tries") ∷ says (codes "set") ∷ N ∷ LIT ∷ [])
@@ -111,8 +107,9 @@ row tries_watch = (codes "watcher", N ∷ says (codes "tries") ∷ says (codes "
 row tries_unwatch = (codes "watcher", N ∷ says (codes "tries") ∷ says (codes "unwatch") ∷ N ∷ N ∷ [])
 row watch = (codes "watch", N ∷ NAMES ∷ [])
 row unwatch = (codes "unwatch", N ∷ N ∷ [])
-row mount = (codes "mount", N ∷ N ∷ [])
+row mount = (codes "mount", N ∷ N ∷ in_O ∷ [])
 row flush = (codes "flush", [])
+row effect = (codes "effect", N ∷ in_O ∷ [])
 row template = (codes "template", N ∷ [])
 row text = (codes "text", FORMULA ∷ [])
 row close = (codes "end", [])
@@ -128,13 +125,15 @@ table =
     ∷ (codes "pending", verb verbs.Pending ∷ [])
     ∷ (codes "cell", cell ∷ [])
     ∷ (codes "set", set ∷ [])
-    ∷ (codes "computed", hosted source_verbs.Computed ∷ source_verb source_verbs.Computed ∷ [])
-    ∷ (codes "rewire", hosted source_verbs.Rewire ∷ source_verb source_verbs.Rewire ∷ [])
+    ∷ (codes "computed", computed_host ∷ computed ∷ [])
+    ∷ (codes "rewire", rewire_host ∷ rewire ∷ [])
+    ∷ (codes "owner", owner ∷ [])
     ∷ (codes "watcher", watcher ∷ tries_get ∷ tries_set ∷ tries_watch ∷ tries_unwatch ∷ [])
     ∷ (codes "watch", watch ∷ [])
     ∷ (codes "unwatch", unwatch ∷ [])
     ∷ (codes "mount", mount ∷ [])
     ∷ (codes "flush", flush ∷ [])
+    ∷ (codes "effect", effect ∷ [])
     ∷ (codes "template", template ∷ [])
     ∷ (codes "text", text ∷ [])
     ∷ (codes "end", close ∷ [])
@@ -143,10 +142,13 @@ table =
 -- what a row gives of what stands in its parts: its formula with slots for its names
 abbrev pub line_makes : (r : Row) → Made (row r).1 Line
 line_makes (verb v) = λ n. line.Alone (command.Named v n)
-line_makes cell = λ n v k. line.Alone (command.Cell n v k)
+line_makes cell = λ n v k o. line.Alone (command.Cell n v k o)
 line_makes set = λ n v. line.Alone (command.Set n v)
-line_makes (source_verb v) = λ n f. line.Alone (source_command v n (source.Formula (wired f)))
-line_makes (hosted v) = λ n k ns. line.Alone (source_command v n (source.Host k ns))
+line_makes computed = λ n f o. line.Alone (command.Computed n (source.Formula (wired f)) o)
+line_makes computed_host = λ n k ns o. line.Alone (command.Computed n (source.Host k ns) o)
+line_makes rewire = λ n f. line.Alone (command.Rewire n (source.Formula (wired f)))
+line_makes rewire_host = λ n k ns. line.Alone (command.Rewire n (source.Host k ns))
+line_makes owner = λ n o. line.Alone (command.Owner n o)
 line_makes watcher = λ w. line.Alone (command.Watcher w None)
 line_makes tries_get = λ w n. line.Alone (command.Watcher w (Some (tried.Get n)))
 line_makes tries_set = λ w n v. line.Alone (command.Watcher w (Some (tried.Set n v)))
@@ -154,8 +156,9 @@ line_makes tries_watch = λ w n ns. line.Alone (command.Watcher w (Some (tried.W
 line_makes tries_unwatch = λ w n m. line.Alone (command.Watcher w (Some (tried.Unwatch n m)))
 line_makes watch = λ w ns. line.Alone (command.Watch w ns)
 line_makes unwatch = λ w n. line.Alone (command.Unwatch w n)
-line_makes mount = λ n t. line.Alone (command.Mount n t)
+line_makes mount = λ n t o. line.Alone (command.Mount n t o)
 line_makes flush = line.Alone command.Flush
+line_makes effect = λ n o. line.Effect n o
 line_makes template = λ n. line.Template n
 line_makes text = λ f. line.Text (wired f)
 line_makes close = line.End
@@ -169,7 +172,5 @@ abbrev pub line_of : Said → Line
 line_of x = made (row x.0).1 (line_makes x.0) x.1
 
 -- bytes write a line: their tokens spell it
-pub record Writes (said : Said) (bytes : List ℕ) : Type 0 where
-  pub tokens : List Token
-  pub cut : AreTokens bytes tokens
-  pub spelled : grammar.Spells Row row said (lexemes bytes tokens)
+abbrev pub Writes : Said → List ℕ → Type 0
+Writes said bytes = blocks.Writes Row row said bytes

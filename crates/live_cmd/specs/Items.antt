@@ -1,8 +1,9 @@
 -- What the pieces of a script are: commands, or refused.
-use Rattle.std.specs.Prelude.{◌≡◌, ◌⊎◌, ℕ, nat_lt, Bool, true, false, List, [], ◌∷◌, length, map, Option, Some, None, option_map, IsTrue, drop}
+use Rattle.std.specs.Prelude.{◌≡◌, ℕ, nat_lt, Bool, true, false, List, [], ◌∷◌, length, map, Option, Some, None, option_map, drop}
 use Rattle.std.specs.List.{list_any}
 use Rattle.sig_base.specs.declared.limits.TheConstants.{MOST_LINE}
 use Rattle.formula_text.specs.Wiring.{Wiring}
+use Rattle.line_forms.specs.Blocks as blocks
 use Rattle.script_lines.specs.Lines.{NumberedLine}
 use Rattle.script_lines.specs.Pieces.{Piece, pieces_of}
 use Rattle.live_cmd.specs.declared.line.Line.{Line}
@@ -16,22 +17,19 @@ use Rattle.live_cmd.specs.declared.place.Place.TheVariants as place
 use Rattle.live_cmd.specs.declared.refusal.LimitWord.TheVariants as limit
 use Rattle.live_cmd.specs.declared.refusal.Refusal.{Refusal}
 use Rattle.live_cmd.specs.declared.refusal.Refusal.TheVariants as refusal
-use Rattle.live_cmd.specs.Grammar.{Said, Writes, line_of}
-use Rattle.live_cmd.specs.Places.{kind_of, fits, moved}
+use Rattle.live_cmd.specs.Grammar.{Row, row, line_of}
+use Rattle.live_cmd.specs.Places.{places}
+use Rattle.live_cmd.specs.declared.block.Content.{Content}
+use Rattle.live_cmd.specs.Blocks.{Block, IsContent, block_item}
 use Rattle.live_cmd.specs.Judging.{Sayings, faults_of, refusal_of}
 
 -- from a place on, the lines say this, each where it may stand
 abbrev pub Say : Place → List NumberedLine → Sayings → Type 0
-Say p [] [] = Unit {0}
-Say p (l ∷ ls) (x ∷ xs) = (x.0 ≡ l.0) × Writes x.1 l.1 × IsTrue (fits p (kind_of x.1)) × Say (moved p (kind_of x.1)) ls xs
-Say p _ _ = ⊥
+Say p ls xs = blocks.Say Row row places p ls xs
 
 -- from a place on, the line of this number is the first that says nothing which may stand there
 abbrev pub IsFaulty : Place → List NumberedLine → ℕ → Type 0
-IsFaulty p [] k = ⊥
-IsFaulty p (l ∷ ls) k =
-    ((k ≡ l.0) × ((x : Said) → Writes x l.1 → IsTrue (fits p (kind_of x)) → ⊥))
-    ⊎ ((x : Said) × Writes x l.1 × IsTrue (fits p (kind_of x)) × IsFaulty (moved p (kind_of x)) ls k)
+IsFaulty p ls k = blocks.IsFaulty Row row places p ls k
 
 -- the number of the first line
 abbrev pub first_number : List NumberedLine → ℕ
@@ -68,12 +66,15 @@ unless_refused (Some r) i = item.Refused r
 abbrev pub item_of : ℕ → Sayings → Item
 item_of k xs = unless_refused (refusal_of (faults_of xs)) (item_or k (command_of (map (λ x. line_of x.1) xs)))
 
--- What a piece is: one with a line that is too long is refused for that, a block without its end at its first line, another piece at
--- its first faulty line.
+-- What a piece is: one with a line that is too long is refused for that, a block without its end at its first line. A block whose lines
+-- have a grammar of their own is what they come to. Another piece is refused at its first faulty line, or is what its lines say.
 pub data IsItem (p : Piece) : Item → Type 0 where
   long : any_long p.lines ≡ true → IsItem p (item.Refused (refusal.Limit limit.Line))
   unended : any_long p.lines ≡ false → p.ended ≡ false → IsItem p (item.Refused (refusal.Syntax (first_number p.lines)))
-  faulty : (k : ℕ) → any_long p.lines ≡ false → p.ended ≡ true → IsFaulty place.First p.lines k → IsItem p (item.Refused (refusal.Syntax k))
+  block : (b : Block p.lines) (c : Content) → any_long p.lines ≡ false → p.ended ≡ true → IsContent b.head b.inner c
+      → IsItem p (block_item b.ends b.last.0 c)
+  faulty : (k : ℕ) → any_long p.lines ≡ false → p.ended ≡ true → (Block p.lines → ⊥) → IsFaulty place.First p.lines k
+      → IsItem p (item.Refused (refusal.Syntax k))
   says : (xs : Sayings) → any_long p.lines ≡ false → p.ended ≡ true → Say place.First p.lines xs → IsItem p (item_of (first_number p.lines) xs)
 
 -- what pieces are, one by one

@@ -1,3 +1,5 @@
+pub mod Blocks
+pub mod Coding
 pub mod Grammar
 pub mod Items
 pub mod Judging

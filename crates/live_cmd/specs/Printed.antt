@@ -2,12 +2,15 @@
 use Rattle.std.specs.Prelude.{ℕ, Bool, true, false, List, [], ◌∷◌, ◌++◌, ◌&&◌, not, length, flat_map, codes, if◌then◌else◌}
 use Rattle.std.specs.Fmt.{decimal}
 use Rattle.sig_base.specs.Printing.{printed as printed_value, fault_name}
+use Rattle.sig_base.specs.declared.value.Fault.{Fault}
 use Rattle.sig_base.specs.declared.value.Outcome.{Outcome}
 use Rattle.sig_base.specs.declared.value.Outcome.TheVariants.{Good, Bad}
+use Rattle.sig_base.specs.declared.value.Value.{Value}
 use Rattle.live_cmd.specs.declared.refusal.LimitWord.{LimitWord}
 use Rattle.live_cmd.specs.declared.refusal.LimitWord.TheVariants as limit
 use Rattle.live_cmd.specs.declared.refusal.Refusal.{Refusal}
 use Rattle.live_cmd.specs.declared.refusal.Refusal.TheVariants as refusal
+use Rattle.live_cmd.specs.declared.label.Label.{Label}
 use Rattle.live_cmd.specs.declared.entry.Seen.{Seen}
 use Rattle.live_cmd.specs.declared.entry.Seen.TheVariants as seen
 use Rattle.live_cmd.specs.declared.entry.Entry.{Entry}
@@ -18,8 +21,11 @@ abbrev pub limit_word : LimitWord → List ℕ
 limit_word limit.Line = codes "line"
 limit_word limit.Text = codes "text"
 limit_word limit.Sources = codes "sources"
+limit_word limit.Body = codes "body"
 limit_word limit.Template = codes "template"
 limit_word limit.Nodes = codes "nodes"
+limit_word limit.Effects = codes "effects"
+limit_word limit.Owners = codes "owners"
 limit_word limit.Watchers = codes "watchers"
 limit_word limit.Templates = codes "templates"
 limit_word limit.Pages = codes "pages"
@@ -42,6 +48,7 @@ refusal_text (refusal.NotWatched n) = codes "13 " ++ n
 refusal_text (refusal.Frozen ns) = codes "14" ++ flat_map listed ns
 refusal_text (refusal.UntrackHere k) = codes "15 " ++ decimal k
 refusal_text (refusal.Nest k) = codes "19 " ++ decimal k
+refusal_text refusal.Turns = codes "20"
 refusal_text (refusal.RulePlace k) = codes "21 " ++ decimal k
 
 -- the line of a refusal
@@ -96,9 +103,33 @@ reads_text (n ∷ ns) = codes " (" ++ n ++ flat_map listed ns ++ codes ")"
 abbrev pub line_of_run : List ℕ → List (List ℕ) → Outcome → List ℕ
 line_of_run n reads o = codes "run " ++ n ++ reads_text reads ++ outcome_text o
 
+-- the number of a child behind a dot
+abbrev pub dotted : ℕ → List ℕ
+dotted k = codes "." ++ decimal k
+
+-- a name, and behind it the numbers of the children on the way down
+abbrev pub label_text : Label → List ℕ
+label_text l = l.name ++ flat_map dotted l.path
+
+-- a value that was logged
+abbrev pub line_of_log : Value → List ℕ
+line_of_log v = codes "log " ++ printed_value v ++ codes "\n"
+
+-- the fault of a body
+abbrev pub line_of_fail : Label → Fault → List ℕ
+line_of_fail l f = codes "fail " ++ label_text l ++ codes " " ++ fault_name f ++ codes "\n"
+
+-- an evaluation of a body: whose it was, and what it read, tracked
+abbrev pub line_of_effect : Label → List (List ℕ) → List ℕ
+line_of_effect l reads = codes "effect " ++ label_text l ++ reads_text reads ++ codes "\n"
+
+-- whose cleanup is about to be done
+abbrev pub line_of_cleanup : Label → List ℕ
+line_of_cleanup l = codes "cleanup " ++ label_text l ++ codes "\n"
+
 -- an end
-abbrev pub line_of_gone : List ℕ → List ℕ
-line_of_gone n = codes "gone " ++ n ++ codes "\n"
+abbrev pub line_of_gone : Label → List ℕ
+line_of_gone l = codes "gone " ++ label_text l ++ codes "\n"
 
 -- the lines of an entry
 abbrev pub line_of_entry : Entry → List ℕ
@@ -107,16 +138,22 @@ line_of_entry (entry.State n s) = line_of_state n s
 line_of_entry (entry.Sources n ms) = line_of_sources n ms
 line_of_entry (entry.Pending w ns) = line_of_pending w ns
 line_of_entry (entry.Notify w) = line_of_notify w
+line_of_entry (entry.Log v) = line_of_log v
+line_of_entry (entry.Fail l f) = line_of_fail l f
 line_of_entry (entry.Drop place asks) = line_of_drop place asks
 line_of_entry (entry.Page n bytes) = line_of_page n bytes
 line_of_entry (entry.Error r) = line_of_refusal r
 line_of_entry (entry.Run n reads o) = line_of_run n reads o
-line_of_entry (entry.Gone n) = line_of_gone n
+line_of_entry (entry.Effect l reads) = line_of_effect l reads
+line_of_entry (entry.Cleanup l) = line_of_cleanup l
+line_of_entry (entry.Gone l) = line_of_gone l
 
 -- whether the entry is printed only where a trace is asked for
 abbrev pub is_traced : Entry → Bool
 is_traced (entry.Run n reads o) = true
-is_traced (entry.Gone n) = true
+is_traced (entry.Effect l reads) = true
+is_traced (entry.Cleanup l) = true
+is_traced (entry.Gone l) = true
 is_traced _ = false
 
 -- what is printed of an entry, with a trace or without

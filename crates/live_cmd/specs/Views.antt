@@ -1,5 +1,5 @@
 -- What the program holds of lines that it read.
-use Rattle.std.specs.Prelude.{◌≡◌, ℕ, List, [], ◌∷◌, map, Option, Some, None, option_map, Result, Ok, Err, IsTrue}
+use Rattle.std.specs.Prelude.{◌≡◌, ◌==◌, if◌then◌else◌, ℕ, Bool, true, false, List, [], ◌∷◌, map, Option, Some, None, option_map, Result, Ok, Err, IsTrue}
 use Rattle.std.specs.Option.{option_or}
 use Rattle.sig_words.specs.Lexemes.{Lexeme}
 use Rattle.formula_text.specs.declared.wired.FormulaFault.{FormulaFault}
@@ -12,6 +12,7 @@ use Rattle.live_cmd.specs.Judging.{fault_of, Faults, refusal_of}
 use Rattle.live_cmd.specs.Items.{command_of, item_or, unless_refused, IsFaulty}
 use Rattle.live_cmd.specs.declared.command.Item.{Item}
 use Rattle.live_cmd.specs.declared.line.Line.{Line}
+use Rattle.live_cmd.specs.declared.line.Line.TheVariants as line
 use Rattle.live_cmd.specs.declared.line.Found.{Found}
 use Rattle.live_cmd.specs.declared.judge.ReadLine.{ReadLine}
 use Rattle.live_cmd.specs.declared.item.Reading.{Reading}
@@ -26,6 +27,31 @@ told x = unless_faulty (fault_of x) (line_of x)
 -- what is found in a line that says this
 abbrev pub found_of : Said → Found
 found_of x = record { kind = kind_of x; line = told x }
+
+-- the name of an effect and its owner, where a line says them
+abbrev pub head_of : Line → Option (List ℕ × Option (List ℕ))
+head_of (line.Effect n o) = Some (n, o)
+head_of _ = None
+
+-- so it is with a line that was read
+abbrev pub head_told : Result Line FormulaFault → Option (List ℕ × Option (List ℕ))
+head_told (Ok l) = head_of l
+head_told (Err f) = None
+
+-- whether a line is an `end`
+abbrev pub is_end : Line → Bool
+is_end line.End = true
+is_end _ = false
+
+-- so it is with a line that was read
+abbrev pub end_told : Result Line FormulaFault → Bool
+end_told (Ok l) = is_end l
+end_told (Err f) = false
+
+-- the number of the line that has this number; 0 where none has
+abbrev pub number_in : List NumberedLine → ℕ → ℕ
+number_in [] k = 0
+number_in (l ∷ ls) k = if l.0 == k then l.0 else number_in ls k
 
 -- what is found in the tokens behind the first word, as a line of this row
 abbrev pub found_as : Row → List Lexeme → Option Found

@@ -1,11 +1,13 @@
 // Commands and the items of a script.
 ghost use Rattle.std.specs.Prelude.{◌≡◌};
-ghost use Rattle.live_cmd.specs.Grammar.{source_command, source_verb_word, verb_word};
+ghost use Rattle.live_cmd.specs.Grammar.{verb_word};
+ghost use Rattle.sig_untrack.specs.Stated.{before, no_bodies};
 
 use crate::Refusal;
 use formula_text::Wired;
 use line_forms::NameList;
 use sig_base::{Name, Scalar};
+use sig_untrack::Body;
 use std::marker::Model;
 
 /// A list of formulas.
@@ -50,6 +52,47 @@ impl Formulas {
     }
 }
 
+/// The body of an effect with the names that stand in it: its statements, the names that they act on, the names in their formulas, the
+/// bodies of its nested effects, and its rewirings.
+#[derive(Debug, Drop)]
+pub struct EffectBody {
+    body: Body,
+}
+
+impl Model for EffectBody {
+    ghost use Rattle.sig_untrack.specs.Stated.{before, no_bodies, Bodies};
+    ghost use Rattle.live_cmd.specs.Coding.{bodies_code};
+
+    ghost Value = { Bodies };
+
+    ghost coded = { bodies_code };
+
+    ghost view = { λ e. before e.body no_bodies };
+}
+
+impl EffectBody {
+    /// This body.
+    pub fn of(body: Body) -> EffectBody
+        ensures { result ≡ before body no_bodies }
+    {
+        EffectBody { body }
+    }
+
+    /// The body.
+    pub fn as_body(&self) -> &Body
+        ensures { before result.now no_bodies ≡ self.now }
+    {
+        &self.body
+    }
+
+    /// The body, given back.
+    pub fn into_body(self) -> Body
+        ensures { before result no_bodies ≡ self }
+    {
+        self.body
+    }
+}
+
 /// The verbs of the commands that are a verb and a name.
 #[derive(Clone, Copy, Debug, PartialEq, Eq)]
 pub enum Verb {
@@ -61,7 +104,7 @@ pub enum Verb {
     Sources,
     /// `show P` tells the HTML of a page as it was last brought up to date.
     Show,
-    /// `dispose N` takes a cell, a computed or a watcher away.
+    /// `dispose N` takes a cell, a computed, a watcher, an owner, an effect or a page away.
     Dispose,
     /// `pending W` tells the watched computeds that have to run, or something below them.
     Pending,
@@ -79,37 +122,6 @@ impl Verb {
             Verb::Show => "show",
             Verb::Dispose => "dispose",
             Verb::Pending => "pending",
-        }
-    }
-}
-
-/// The verbs of the commands that are a verb, a name, `=`, and what a computed is computed by.
-#[derive(Clone, Copy, Debug, PartialEq, Eq)]
-pub enum SourceVerb {
-    /// `computed N = SOURCE` makes a computed.
-    Computed,
-    /// `rewire N = SOURCE` gives a computed another source.
-    Rewire,
-}
-
-impl SourceVerb {
-    /// Its word.
-    pub fn word(self) -> &'static str
-        ensures { result.now ≡ source_verb_word self }
-    {
-        match self {
-            SourceVerb::Computed => "computed",
-            SourceVerb::Rewire => "rewire",
-        }
-    }
-
-    /// The command of this verb, with a name and a source.
-    pub fn command(self, name: Name, source: SourceText) -> Command
-        ensures { result ≡ source_command self name source }
-    {
-        match self {
-            SourceVerb::Computed => Command::Computed { name, source },
-            SourceVerb::Rewire => Command::Rewire { name, source },
         }
     }
 }
@@ -136,24 +148,26 @@ pub enum Try {
     Unwatch(Name, Name),
 }
 
-/// A command of a script.
+/// A command of a script. What is made `inside` an owner is disposed with it.
 #[derive(Debug, Drop)]
 pub enum Command {
-    /// `cell N = LIT [equals K]` makes a cell of this value, which compares by the equality rule at a place if there is one.
+    /// `cell N = LIT [equals K] [in O]` makes a cell of this value, which compares by the equality rule at a place if there is one.
     Cell {
         name: Name,
         value: Scalar,
         equals: Option<u64>,
+        inside: Option<Name>,
     },
     /// `set N LIT` gives a cell another value.
     Set {
         name: Name,
         value: Scalar,
     },
-    /// `computed N = SOURCE` makes a computed.
+    /// `computed N = SOURCE [in O]` makes a computed.
     Computed {
         name: Name,
         source: SourceText,
+        inside: Option<Name>,
     },
     /// `rewire N = SOURCE` gives a computed another source.
     Rewire {
@@ -164,6 +178,11 @@ pub enum Command {
     Named {
         verb: Verb,
         name: Name,
+    },
+    /// `owner O [in P]` makes an owner.
+    Owner {
+        name: Name,
+        inside: Option<Name>,
     },
     /// `watcher W [tries CMD]` makes a watcher, which tries a command at each notification if one is said.
     Watcher {
@@ -180,17 +199,24 @@ pub enum Command {
         name: Name,
         signal: Name,
     },
+    /// `effect E [in O]` to `end` makes an effect of a body, which runs in a flush.
+    Effect {
+        name: Name,
+        body: EffectBody,
+        inside: Option<Name>,
+    },
     /// `template T` to `end` makes a template that shows what these formulas come to, one after the other.
     Template {
         name: Name,
         texts: Formulas,
     },
-    /// `mount P T` makes a page from a template.
+    /// `mount P T [in O]` makes a page from a template.
     Mount {
         name: Name,
         template: Name,
+        inside: Option<Name>,
     },
-    /// `flush` brings the pages up to date.
+    /// `flush` runs the effects that are due, and brings the pages up to date.
     Flush,
 }
 

@@ -2,12 +2,13 @@
 ghost use Rattle.std.specs.Prelude.{◌≡◌, ◌++◌, IfOk, OnOk, flat_map};
 ghost use Rattle.std.specs.Rc.{rc_value};
 ghost use Rattle.std.specs.Fmt.{decimal};
-ghost use Rattle.live_cmd.specs.Printed.{is_traced, limit_word, line_of_drop, line_of_entry, line_of_gone, line_of_notify, line_of_outcome};
-ghost use Rattle.live_cmd.specs.Printed.{line_of_page, line_of_pending, line_of_refusal, line_of_run};
-ghost use Rattle.live_cmd.specs.Printed.{line_of_sources, line_of_state, listed, outcome_text, printed, reads_text, refusal_text, seen_word};
+ghost use Rattle.live_cmd.specs.Printed.{dotted, is_traced, label_text, limit_word, line_of_cleanup, line_of_drop, line_of_effect, line_of_entry};
+ghost use Rattle.live_cmd.specs.Printed.{line_of_fail, line_of_gone, line_of_log, line_of_notify, line_of_outcome, line_of_page, line_of_pending};
+ghost use Rattle.live_cmd.specs.Printed.{line_of_refusal, line_of_run, line_of_sources, line_of_state, listed, outcome_text, printed, reads_text};
+ghost use Rattle.live_cmd.specs.Printed.{refusal_text, seen_word};
 
-use crate::{LimitWord, NameList, Refusal};
-use sig_base::{Name, NoMemory, Outcome, put_fault, put_value};
+use crate::{Label, LimitWord, NameList, Refusal};
+use sig_base::{Fault, Name, NoMemory, Outcome, Value, put_fault, put_value};
 use std::alloc::Global;
 use std::marker::Model;
 use std::rc::Rc;
@@ -78,6 +79,10 @@ pub enum Entry {
     Pending(Name, NameList),
     /// A watcher is notified.
     Notify(Name),
+    /// An effect or a cleanup logs a value.
+    Log(Value),
+    /// The body of an effect failed, and none of its acts is done.
+    Fail(Label, Fault),
     /// The host formula at a place is dropped, after so many asks.
     Drop(u64, u128),
     /// The HTML of a page, at its making or where it differs from what was told last.
@@ -86,15 +91,22 @@ pub enum Entry {
     Error(Refusal),
     /// A computed has run: its sources in order of first reading, and what it came to.
     Run(Name, NameList, Outcome),
-    /// What has this name is gone.
-    Gone(Name),
+    /// The body of an effect was evaluated: its tracked reads in order of first reading.
+    Effect(Label, NameList),
+    /// A cleanup of an effect is about to be done.
+    Cleanup(Label),
+    /// What has this label is gone.
+    Gone(Label),
 }
 
 // Whether the entry is printed only where a trace is asked for.
 fn is_traced(entry: &Entry) -> bool
     ensures { result ≡ is_traced entry.now }
 {
-    matches!(entry, Entry::Run(..) | Entry::Gone(_))
+    matches!(
+        entry,
+        Entry::Run(..) | Entry::Effect(..) | Entry::Cleanup(_) | Entry::Gone(_)
+    )
 }
 
 fn put(out: &mut Vec<u8>, bytes: &[u8]) -> Result<(), NoMemory>
@@ -112,8 +124,11 @@ fn limit_word(limit: LimitWord) -> &'static str
         LimitWord::Line => "line",
         LimitWord::Text => "text",
         LimitWord::Sources => "sources",
+        LimitWord::Body => "body",
         LimitWord::Template => "template",
         LimitWord::Nodes => "nodes",
+        LimitWord::Effects => "effects",
+        LimitWord::Owners => "owners",
         LimitWord::Watchers => "watchers",
         LimitWord::Templates => "templates",
         LimitWord::Pages => "pages",
@@ -175,6 +190,7 @@ fn put_rule(out: &mut Vec<u8>, refusal: &Refusal) -> Result<(), NoMemory>
         Refusal::Frozen(names) => put_with_names(out, b"14", names),
         Refusal::UntrackHere(line) => put_with_number(out, b"15 ", u64::from(*line)),
         Refusal::Nest(line) => put_with_number(out, b"19 ", u64::from(*line)),
+        Refusal::Turns => put(out, b"20"),
         Refusal::RulePlace(place) => put_with_number(out, b"21 ", *place),
     }
 }
@@ -296,11 +312,63 @@ fn put_run(
     put_outcome(out, outcome)
 }
 
-fn put_gone(out: &mut Vec<u8>, name: &Name) -> Result<(), NoMemory>
-    ensures { OnOk result (out.new.items ≡ out.old.items ++ line_of_gone name.now) }
+// The numbers of children, each behind a dot.
+fn put_dotted(out: &mut Vec<u8>, numbers: &[u64]) -> Result<(), NoMemory>
+    ensures { OnOk result (out.new.items ≡ out.old.items ++ flat_map dotted numbers.now) }
+{
+    for number in numbers {
+        put_with_number(out, b".", *number)?;
+    }
+    Ok(())
+}
+
+fn put_label(out: &mut Vec<u8>, label: &Label) -> Result<(), NoMemory>
+    ensures { OnOk result (out.new.items ≡ out.old.items ++ label_text label.now) }
+{
+    put(out, label.name.as_str().as_bytes())?;
+    put_dotted(out, label.path.as_slice())
+}
+
+fn put_log(out: &mut Vec<u8>, value: &Value) -> Result<(), NoMemory>
+    ensures { OnOk result (out.new.items ≡ out.old.items ++ line_of_log value.now) }
+{
+    put(out, b"log ")?;
+    put_value(out, value)?;
+    put(out, b"\n")
+}
+
+fn put_fail(out: &mut Vec<u8>, label: &Label, fault: Fault) -> Result<(), NoMemory>
+    ensures { OnOk result (out.new.items ≡ out.old.items ++ line_of_fail label.now fault) }
+{
+    put(out, b"fail ")?;
+    put_label(out, label)?;
+    put(out, b" ")?;
+    put_fault(out, fault)?;
+    put(out, b"\n")
+}
+
+fn put_effect(out: &mut Vec<u8>, label: &Label, reads: &NameList) -> Result<(), NoMemory>
+    ensures { OnOk result (out.new.items ≡ out.old.items ++ line_of_effect label.now reads.now) }
+{
+    put(out, b"effect ")?;
+    put_label(out, label)?;
+    put_reads(out, reads)?;
+    put(out, b"\n")
+}
+
+fn put_cleanup(out: &mut Vec<u8>, label: &Label) -> Result<(), NoMemory>
+    ensures { OnOk result (out.new.items ≡ out.old.items ++ line_of_cleanup label.now) }
+{
+    put(out, b"cleanup ")?;
+    put_label(out, label)?;
+    put(out, b"\n")
+}
+
+fn put_gone(out: &mut Vec<u8>, label: &Label) -> Result<(), NoMemory>
+    ensures { OnOk result (out.new.items ≡ out.old.items ++ line_of_gone label.now) }
 {
     put(out, b"gone ")?;
-    put(out, name.as_str().as_bytes())?;
+    put_label(out, label)?;
     put(out, b"\n")
 }
 
@@ -323,8 +391,11 @@ fn put_page(out: &mut Vec<u8>, name: &Name, page: &PageBytes) -> Result<(), NoMe
 /// An outcome is the name with ` = ` and the printed value, or with ` ! ` and the name of the fault. A page is `page`, its
 /// name and the number of its bytes, and on the next line the bytes; a refusal is `error`, its number and its detail. How a computed
 /// stands is `state`, its name and a word; its sources are `sources`, its name and theirs; what of a watcher is pending is `pending`, its
-/// name and those of the computeds. A notified watcher is `notify` and its name; a dropped host formula is `drop`, its place and how often
-/// it was asked. Of a trace are a run, `run`, the name, what it read in parentheses and its outcome, and an end, `gone` and the name.
+/// name and those of the computeds. A notified watcher is `notify` and its name; a logged value is `log` and the printed value; a body that
+/// failed is `fail`, the effect's label and the name of the fault; a dropped host formula is `drop`, its place and how often it was asked. Of
+/// a trace are a run, `run`, the name, what it read in parentheses and its outcome; an evaluated body, `effect`, the label and what it read,
+/// tracked, in parentheses; a cleanup, `cleanup` and the effect's label; and an end, `gone` and the label. A label is a name, and for a child
+/// effect, behind it, the numbers of the children on the way down, each behind a dot.
 pub fn entry_line(out: &mut Vec<u8>, entry: &Entry, trace: bool) -> Result<(), NoMemory>
     ensures { OnOk result (out.new.items ≡ out.old.items ++ printed trace entry.now) }
 {
@@ -337,10 +408,14 @@ pub fn entry_line(out: &mut Vec<u8>, entry: &Entry, trace: bool) -> Result<(), N
         Entry::Sources(name, sources) => put_sources(out, name, sources),
         Entry::Pending(name, pending) => put_pending(out, name, pending),
         Entry::Notify(name) => put_notify(out, name),
+        Entry::Log(value) => put_log(out, value),
+        Entry::Fail(label, fault) => put_fail(out, label, *fault),
         Entry::Drop(place, asks) => put_drop(out, *place, *asks),
         Entry::Page(name, page) => put_page(out, name, page),
         Entry::Error(refusal) => put_refusal(out, refusal),
         Entry::Run(name, reads, outcome) => put_run(out, name, reads, outcome),
-        Entry::Gone(name) => put_gone(out, name),
+        Entry::Effect(label, reads) => put_effect(out, label, reads),
+        Entry::Cleanup(label) => put_cleanup(out, label),
+        Entry::Gone(label) => put_gone(out, label),
     }
 }

@@ -9,6 +9,7 @@ ghost use Rattle.live_cmd.specs.Places.{fits, kind_of};
 ghost use Rattle.live_cmd.specs.Items.{command_of, first_number, item_or, texts_of, Begins, IsItem};
 ghost use Rattle.live_cmd.specs.Views.{found_of, item_read, sound_lines, with_line, IsReading};
 
+use crate::block::block_of;
 use crate::command::Formulas;
 use crate::judge::{ReadLine, refusal_of};
 use crate::line::Found;
@@ -138,7 +139,7 @@ fn command_of(alloc: Global, lines: Vec<Line>) -> Result<Option<Command>, NoMemo
     match rest.remove(0) {
         Line::Template(name) => template(alloc, name, rest),
         Line::Alone(command) => Ok(only(command, &rest)),
-        Line::Text(_) | Line::End => Ok(None),
+        Line::Effect(..) | Line::Text(_) | Line::End => Ok(None),
     }
 }
 
@@ -188,6 +189,9 @@ fn item_of(alloc: Global, piece: &Piece) -> Result<Item, NoMemory>
     if !piece.ended {
         return Ok(Item::Refused(Refusal::Syntax(first)));
     }
+    if let Some(item) = block_of(alloc, &piece.lines)? {
+        return Ok(item);
+    }
     match read_lines(alloc, &piece.lines)? {
         Reading::Faulty(number) => Ok(Item::Refused(Refusal::Syntax(number))),
         Reading::Said(lines) => judged(alloc, first, lines),
@@ -197,11 +201,12 @@ fn item_of(alloc: Global, piece: &Piece) -> Result<Item, NoMemory>
 /// The first item from a byte on, the place after it, and the number of the line there. The byte begins a line of this
 /// number; `None` exactly where nothing is left but empty lines and comments.
 ///
-/// An item is a line or, from a `template` line to the `end` that closes it, a block. It is refused for the first of these
+/// An item is a line or, from an `effect` or a `template` line to the `end` that closes it, a block. It is refused for the first of these
 /// causes: a line of more than `MOST_LINE` bytes; an end that is missing, as `Syntax` with the number of its first line; a line
 /// that isn't in the grammar or may not stand there, as `Syntax` with the number of the first such line; the first line with an
-/// `untrack` or a formula that is higher than `MOST_HEIGHT`; the first line with a text of more than `MOST_TEXT` bytes, a formula
-/// of more than `MOST_SOURCES` names or a host formula of more arguments; a template of more than `MOST_TEMPLATE_LINES` lines.
+/// `untrack` outside of an effect, a formula that is higher than `MOST_HEIGHT`, or what is nested more than `MOST_LEVELS` deep; the first
+/// line with a text of more than `MOST_TEXT` bytes, a formula of more than `MOST_SOURCES` names or a host formula of more arguments; the
+/// body of an effect of more than `MOST_BODY_LINES` lines, a template of more than `MOST_TEMPLATE_LINES`.
 /// `NoMemory` where the item finds no room.
 pub fn next_item(
     alloc: Global,

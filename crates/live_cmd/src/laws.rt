@@ -7,7 +7,7 @@ ghost use Rattle.live_cmd.specs.declared.command.Item.{Item};
 ghost use Rattle.live_cmd.specs.declared.command.Item.TheVariants as item;
 ghost use Rattle.live_cmd.specs.Grammar.{Said, Writes};
 ghost use Rattle.live_cmd.specs.Items.{any_long, Begins, IsItem, ItemsFrom};
-ghost use Rattle.live_cmd.specs.Writing.{command_text, lines_of_command, said_by};
+ghost use Rattle.live_cmd.specs.Writing.{command_text, lines_by, lines_of_command};
 
 /// The bytes of a line say one thing.
 pub fn one_meaning()
@@ -43,5 +43,5 @@ pub fn items_in_turn()
 pub fn commands_read_back()
     ensures { (p : Piece) (c : Command) → IsItem p (item.Do c) → (script : List ℕ) (at line : ℕ) (rest : List ℕ)
         → drop at script ≡ command_text c ++ rest → any_long (lines_of_command line c) ≡ false
-        → Begins script at line (item.Do c) (at + length (command_text c)) (line + length (said_by c)) }
+        → Begins script at line (item.Do c) (at + length (command_text c)) (line + length (lines_by c)) }
 {}

@@ -11,6 +11,8 @@ use sig_base::Name;
 pub enum Line {
     /// A command of one line.
     Alone(Command),
+    /// `effect E [in O]`, the first line of a block
+    Effect(Name, Option<Name>),
     /// `template T`, the first line of a block
     Template(Name),
     /// `text FORMULA`, in a template
@@ -24,6 +26,8 @@ pub enum Line {
 pub enum LineKind {
     /// A command by itself.
     Alone,
+    /// The first line of an effect.
+    Effect,
     /// The first line of a template.
     Template,
     /// A text of a template.

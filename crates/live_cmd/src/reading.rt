@@ -1,5 +1,5 @@
 // Reads one line of a script.
-ghost use Rattle.std.specs.Prelude.{◌≡◌, ◌∷◌, [], ◌≤◌, IfOk, MatchOption, option_map, length};
+ghost use Rattle.std.specs.Prelude.{◌≡◌, ◌≤◌, IfOk, MatchOption, option_map, length};
 ghost use Rattle.sig_words.specs.Tokens.{AreTokens};
 ghost use Rattle.sig_words.specs.Lexemes.{lexemes};
 ghost use Rattle.line_forms.specs.Rows.{rows_of, said_of};
@@ -8,21 +8,20 @@ ghost use Rattle.live_cmd.specs.Grammar.{row, table, Row, Said, Writes};
 ghost use Rattle.live_cmd.specs.Grammar as rows;
 ghost use Rattle.live_cmd.specs.Views.{found_as, found_first, found_of};
 
+use crate::inside::inside_at;
 use crate::line::{Found, LineKind, alone, faulty, sound};
+use crate::sources::{any_computed, any_rewire};
 use crate::watching::{any_watcher, unwatch, watch};
-use crate::{Command, Line, SourceText, SourceVerb, Verb};
-use formula_text::{Allow, FormulaFault};
-use line_forms::{
-    arguments_at, count_at, count_behind, ends_at, formula_at, name_at, symbol_at, value_at,
-    word_at,
-};
+use crate::{Command, Line, Verb};
+use formula_text::Allow;
+use line_forms::{count_behind, ends_at, formula_at, name_at, symbol_at, value_at};
 use sig_base::{MOST_LINE, NoMemory};
 use sig_words::{LineFault, Token, TokenKind, token_bytes, tokens};
 use std::alloc::Global;
 use std::str;
 
-// In the formulas of computeds and of templates there is no row, and every read is tracked.
-const TRACKED: Allow = Allow {
+/// In the formulas of computeds and of templates there is no row, and every read is tracked.
+pub const TRACKED: Allow = Allow {
     row: false,
     untrack: false,
 };
@@ -46,7 +45,7 @@ fn named(
     Ok(Some(alone(Command::Named { verb, name })))
 }
 
-// `cell N = LIT [equals K]`
+// `cell N = LIT [equals K] [in O]`
 fn cell(alloc: Global, line: &[u8], tokens: &[Token]) -> Result<Option<Found>, NoMemory>
     requires { AreTokens line.now tokens.now }
     ensures { IfOk result (λ found. found ≡ found_as rows.cell (ahead line.now tokens.now 1)) }
@@ -64,6 +63,9 @@ fn cell(alloc: Global, line: &[u8], tokens: &[Token]) -> Result<Option<Found>, N
     let Some((equals, at)) = count_behind(line, tokens, at, b"equals") else {
         return Ok(None);
     };
+    let Some((inside, at)) = inside_at(alloc, line, tokens, at)? else {
+        return Ok(None);
+    };
     if !ends_at(tokens, at) {
         return Ok(None);
     }
@@ -72,6 +74,7 @@ fn cell(alloc: Global, line: &[u8], tokens: &[Token]) -> Result<Option<Found>, N
             name,
             value,
             equals,
+            inside,
         }))),
         Err(fault) => Ok(Some(faulty(LineKind::Alone, fault))),
     }
@@ -98,92 +101,24 @@ fn set(alloc: Global, line: &[u8], tokens: &[Token]) -> Result<Option<Found>, No
     }
 }
 
-// A verb, a name, `=` and a formula.
-fn wired(
-    alloc: Global,
-    line: &[u8],
-    tokens: &[Token],
-    verb: SourceVerb,
-) -> Result<Option<Found>, NoMemory>
-    requires { AreTokens line.now tokens.now }
-    ensures { IfOk result (λ found. found ≡ found_as (rows.source_verb verb) (ahead line.now tokens.now 1)) }
+// `owner O [in P]`
+fn owner(alloc: Global, line: &[u8], tokens: &[Token]) -> Result<Option<Found>, NoMemory>
+    ensures { IfOk result (λ found. found ≡ found_as rows.owner (ahead line.now tokens.now 1)) }
 {
     let at = 1;
     let Some((name, at)) = name_at(alloc, line, tokens, at)? else {
         return Ok(None);
     };
-    let Some(at) = symbol_at(line, tokens, at, b"=") else {
-        return Ok(None);
-    };
-    let Some((formula, at)) = formula_at(alloc, line, tokens, at, TRACKED)? else {
+    let Some((inside, at)) = inside_at(alloc, line, tokens, at)? else {
         return Ok(None);
     };
     if !ends_at(tokens, at) {
         return Ok(None);
     }
-    match formula {
-        Ok(formula) => {
-            let source = SourceText::Formula(formula);
-            Ok(Some(alone(verb.command(name, source))))
-        }
-        Err(fault) => Ok(Some(faulty(LineKind::Alone, fault))),
-    }
+    Ok(Some(alone(Command::Owner { name, inside })))
 }
 
-// A verb, a name, `=` and a host formula with its arguments.
-fn hosted(
-    alloc: Global,
-    line: &[u8],
-    tokens: &[Token],
-    verb: SourceVerb,
-) -> Result<Option<Found>, NoMemory>
-    ensures { IfOk result (λ found. found ≡ found_as (rows.hosted verb) (ahead line.now tokens.now 1)) }
-{
-    let at = 1;
-    let Some((name, at)) = name_at(alloc, line, tokens, at)? else {
-        return Ok(None);
-    };
-    let Some(at) = symbol_at(line, tokens, at, b"=") else {
-        return Ok(None);
-    };
-    let Some(at) = word_at(line, tokens, at, b"host") else {
-        return Ok(None);
-    };
-    let Some((place, at)) = count_at(line, tokens, at) else {
-        return Ok(None);
-    };
-    let Some((arguments, at)) = arguments_at(alloc, line, tokens, at)? else {
-        return Ok(None);
-    };
-    if !ends_at(tokens, at) {
-        return Ok(None);
-    }
-    match arguments {
-        Ok(arguments) => {
-            let source = SourceText::Host(place, arguments);
-            Ok(Some(alone(verb.command(name, source))))
-        }
-        Err(fault) => Ok(Some(faulty(LineKind::Alone, fault))),
-    }
-}
-
-// A verb, a name, `=` and a host formula or a formula.
-fn sourced(
-    alloc: Global,
-    line: &[u8],
-    tokens: &[Token],
-    verb: SourceVerb,
-) -> Result<Option<Found>, NoMemory>
-    requires { AreTokens line.now tokens.now }
-    ensures { IfOk result (λ found. found ≡ found_first (rows.hosted verb ∷ rows.source_verb verb ∷ []) (ahead line.now tokens.now 1)) }
-{
-    if let Some(found) = hosted(alloc, line, tokens, verb)? {
-        return Ok(Some(found));
-    }
-    wired(alloc, line, tokens, verb)
-}
-
-// `mount P T`
+// `mount P T [in O]`
 fn mount(alloc: Global, line: &[u8], tokens: &[Token]) -> Result<Option<Found>, NoMemory>
     ensures { IfOk result (λ found. found ≡ found_as rows.mount (ahead line.now tokens.now 1)) }
 {
@@ -194,10 +129,17 @@ fn mount(alloc: Global, line: &[u8], tokens: &[Token]) -> Result<Option<Found>, 
     let Some((template, at)) = name_at(alloc, line, tokens, at)? else {
         return Ok(None);
     };
+    let Some((inside, at)) = inside_at(alloc, line, tokens, at)? else {
+        return Ok(None);
+    };
     if !ends_at(tokens, at) {
         return Ok(None);
     }
-    Ok(Some(alone(Command::Mount { name, template })))
+    Ok(Some(alone(Command::Mount {
+        name,
+        template,
+        inside,
+    })))
 }
 
 // `flush`
@@ -209,6 +151,23 @@ fn flush(line: &[u8], tokens: &[Token]) -> Option<Found>
     } else {
         None
     }
+}
+
+// `effect E [in O]`
+fn effect(alloc: Global, line: &[u8], tokens: &[Token]) -> Result<Option<Found>, NoMemory>
+    ensures { IfOk result (λ found. found ≡ found_as rows.effect (ahead line.now tokens.now 1)) }
+{
+    let at = 1;
+    let Some((name, at)) = name_at(alloc, line, tokens, at)? else {
+        return Ok(None);
+    };
+    let Some((inside, at)) = inside_at(alloc, line, tokens, at)? else {
+        return Ok(None);
+    };
+    if !ends_at(tokens, at) {
+        return Ok(None);
+    }
+    Ok(Some(sound(LineKind::Effect, Line::Effect(name, inside))))
 }
 
 // `template T`
@@ -273,13 +232,15 @@ fn behind_word(
         "pending" => named(alloc, line, tokens, Verb::Pending),
         "cell" => cell(alloc, line, tokens),
         "set" => set(alloc, line, tokens),
-        "computed" => sourced(alloc, line, tokens, SourceVerb::Computed),
-        "rewire" => sourced(alloc, line, tokens, SourceVerb::Rewire),
+        "computed" => any_computed(alloc, line, tokens),
+        "rewire" => any_rewire(alloc, line, tokens),
+        "owner" => owner(alloc, line, tokens),
         "watcher" => any_watcher(alloc, line, tokens),
         "watch" => watch(alloc, line, tokens),
         "unwatch" => unwatch(alloc, line, tokens),
         "mount" => mount(alloc, line, tokens),
         "flush" => Ok(flush(line, tokens)),
+        "effect" => effect(alloc, line, tokens),
         "template" => template(alloc, line, tokens),
         "text" => text(alloc, line, tokens),
         "end" => Ok(close(line, tokens)),

@@ -28,8 +28,10 @@ pub enum Refusal {
     Frozen(NameList),
     /// The line of this number has an `untrack`, and no effect stands around it.
     UntrackHere(u32),
-    /// The line of this number has a formula that is higher than `MOST_HEIGHT`.
+    /// The line of this number has a formula that is higher than `MOST_HEIGHT`, or is nested more than `MOST_LEVELS` deep.
     Nest(u32),
+    /// An effect is due after as many turns as a flush makes; what they did stands, and the pages are as before.
+    Turns,
     /// No equality rule is at this place.
     RulePlace(u64),
 }
@@ -43,10 +45,16 @@ pub enum LimitWord {
     Text,
     /// A formula has at most `MOST_SOURCES` distinct names, and a host formula as many arguments.
     Sources,
+    /// The body of an effect has at most `MOST_BODY_LINES` lines between its first line and its `end`.
+    Body,
     /// A template has at most `MOST_TEMPLATE_LINES` lines between its first line and its `end`.
     Template,
     /// At most `MOST_NODES` cells and computeds live.
     Nodes,
+    /// At most `MOST_EFFECTS` effects live that a command made.
+    Effects,
+    /// At most `MOST_OWNERS` owners live.
+    Owners,
     /// At most `MOST_WATCHERS` watchers live.
     Watchers,
     /// At most `MOST_TEMPLATES` templates are made.

@@ -1,17 +1,18 @@
 // Writes commands.
 ghost use Rattle.std.specs.Prelude.{◌≡◌, ◌++◌, OnOk, flat_map};
 ghost use Rattle.live_cmd.specs.declared.command.Command.TheVariants as command;
-ghost use Rattle.live_cmd.specs.declared.command.SourceText.TheVariants as source;
 ghost use Rattle.live_cmd.specs.Grammar as rows;
-ghost use Rattle.live_cmd.specs.Writing.{command_text, ended_line, source_line, text_line};
+ghost use Rattle.live_cmd.specs.Writing.{command_text, ended_line, text_line};
+ghost use Rattle.body_text.specs.Writing.{body_text};
 
-use crate::command::Formulas;
+use crate::command::{EffectBody, Formulas};
+use crate::inside::put_inside;
+use crate::writing_sources::{put_computed, put_rewire};
 use crate::writing_watchers::{put_unwatch, put_watch, put_watcher};
-use crate::{Command, NameList, SourceText, SourceVerb, Verb};
+use crate::{Command, Verb};
+use body_text::put_body;
 use formula_text::Wired;
-use line_forms::{
-    put_arguments, put_count, put_count_behind, put_fixed, put_name, put_value, put_wired,
-};
+use line_forms::{put_count_behind, put_fixed, put_name, put_value, put_wired};
 use sig_base::{Name, NoMemory, Scalar};
 
 fn put_named(out: &mut Vec<u8>, verb: Verb, name: &Name) -> Result<(), NoMemory>
@@ -28,14 +29,16 @@ fn put_cell(
     name: &Name,
     value: &Scalar,
     equals: Option<u64>,
+    inside: &Option<Name>,
 ) -> Result<(), NoMemory>
-    ensures { OnOk result (out.new.items ≡ out.old.items ++ ended_line (rows.cell, (name.now, (value.now, (equals, tt))))) }
+    ensures { OnOk result (out.new.items ≡ out.old.items ++ ended_line (rows.cell, (name.now, (value.now, (equals, (inside.now, tt)))))) }
 {
     out.extend_from_slice(b"cell")?;
     put_name(out, name)?;
     put_fixed(out, b"=")?;
     put_value(out, value)?;
     put_count_behind(out, b"equals", equals)?;
+    put_inside(out, inside)?;
     out.push(b'\n')?;
     Ok(())
 }
@@ -50,61 +53,28 @@ fn put_set(out: &mut Vec<u8>, name: &Name, value: &Scalar) -> Result<(), NoMemor
     Ok(())
 }
 
-fn put_wired_source(
-    out: &mut Vec<u8>,
-    verb: SourceVerb,
-    name: &Name,
-    formula: &Wired,
-) -> Result<(), NoMemory>
-    ensures { OnOk result (out.new.items ≡ out.old.items ++ ended_line (source_line verb name.now (source.Formula formula.now))) }
+fn put_owner(out: &mut Vec<u8>, name: &Name, inside: &Option<Name>) -> Result<(), NoMemory>
+    ensures { OnOk result (out.new.items ≡ out.old.items ++ ended_line (rows.owner, (name.now, (inside.now, tt)))) }
 {
-    out.extend_from_slice(verb.word().as_bytes())?;
+    out.extend_from_slice(b"owner")?;
     put_name(out, name)?;
-    put_fixed(out, b"=")?;
-    put_wired(out, formula)?;
+    put_inside(out, inside)?;
     out.push(b'\n')?;
     Ok(())
 }
 
-fn put_hosted(
+fn put_mount(
     out: &mut Vec<u8>,
-    verb: SourceVerb,
     name: &Name,
-    place: u64,
-    arguments: &NameList,
+    template: &Name,
+    inside: &Option<Name>,
 ) -> Result<(), NoMemory>
-    ensures { OnOk result (out.new.items ≡ out.old.items ++ ended_line (rows.hosted verb, (name.now, (place, (arguments.now, tt))))) }
-{
-    out.extend_from_slice(verb.word().as_bytes())?;
-    put_name(out, name)?;
-    put_fixed(out, b"=")?;
-    put_fixed(out, b"host")?;
-    put_count(out, place)?;
-    put_arguments(out, arguments.as_slice())?;
-    out.push(b'\n')?;
-    Ok(())
-}
-
-fn put_sourced(
-    out: &mut Vec<u8>,
-    verb: SourceVerb,
-    name: &Name,
-    source: &SourceText,
-) -> Result<(), NoMemory>
-    ensures { OnOk result (out.new.items ≡ out.old.items ++ ended_line (source_line verb name.now source.now)) }
-{
-    match source {
-        SourceText::Formula(formula) => put_wired_source(out, verb, name, formula),
-        SourceText::Host(place, arguments) => put_hosted(out, verb, name, *place, arguments),
-    }
-}
-
-fn put_mount(out: &mut Vec<u8>, name: &Name, template: &Name) -> Result<(), NoMemory>
-    ensures { OnOk result (out.new.items ≡ out.old.items ++ ended_line (rows.mount, (name.now, (template.now, tt)))) }
+    ensures { OnOk result (out.new.items ≡ out.old.items ++ ended_line (rows.mount, (name.now, (template.now, (inside.now, tt))))) }
 {
     out.extend_from_slice(b"mount")?;
     put_name(out, name)?;
     put_name(out, template)?;
+    put_inside(out, inside)?;
     out.push(b'\n')?;
     Ok(())
 }
@@ -152,6 +122,38 @@ fn put_template(out: &mut Vec<u8>, name: &Name, texts: &Formulas) -> Result<(), 
     Ok(())
 }
 
+fn put_effect_title(out: &mut Vec<u8>, name: &Name, inside: &Option<Name>) -> Result<(), NoMemory>
+    ensures { OnOk result (out.new.items ≡ out.old.items ++ ended_line (rows.effect, (name.now, (inside.now, tt)))) }
+{
+    out.extend_from_slice(b"effect")?;
+    put_name(out, name)?;
+    put_inside(out, inside)?;
+    out.push(b'\n')?;
+    Ok(())
+}
+
+// The lines of a body.
+fn put_lines(out: &mut Vec<u8>, body: &EffectBody) -> Result<(), NoMemory>
+    ensures { OnOk result (out.new.items ≡ out.old.items ++ body_text body.now) }
+{
+    put_body(out, body.as_body())?;
+    Ok(())
+}
+
+fn put_effect(
+    out: &mut Vec<u8>,
+    name: &Name,
+    body: &EffectBody,
+    inside: &Option<Name>,
+) -> Result<(), NoMemory>
+    ensures { OnOk result (out.new.items ≡ out.old.items ++ command_text (command.Effect name.now body.now inside.now)) }
+{
+    put_effect_title(out, name, inside)?;
+    put_lines(out, body)?;
+    put_end(out)?;
+    Ok(())
+}
+
 /// Appends the lines of a command, each ended by LF: one blank before each token behind the first, and formulas in their
 /// canonical text. They are read as the same command, where none has more than `MOST_LINE` bytes.
 pub fn command_line(out: &mut Vec<u8>, command: &Command) -> Result<(), NoMemory>
@@ -163,14 +165,25 @@ pub fn command_line(out: &mut Vec<u8>, command: &Command) -> Result<(), NoMemory
             name,
             value,
             equals,
-        } => put_cell(out, name, value, *equals),
+            inside,
+        } => put_cell(out, name, value, *equals, inside),
         Command::Set { name, value } => put_set(out, name, value),
-        Command::Computed { name, source } => put_sourced(out, SourceVerb::Computed, name, source),
-        Command::Rewire { name, source } => put_sourced(out, SourceVerb::Rewire, name, source),
+        Command::Computed {
+            name,
+            source,
+            inside,
+        } => put_computed(out, name, source, inside),
+        Command::Rewire { name, source } => put_rewire(out, name, source),
+        Command::Owner { name, inside } => put_owner(out, name, inside),
         Command::Watcher { name, tries } => put_watcher(out, name, tries),
         Command::Watch { name, signals } => put_watch(out, name, signals),
         Command::Unwatch { name, signal } => put_unwatch(out, name, signal),
-        Command::Mount { name, template } => put_mount(out, name, template),
+        Command::Effect { name, body, inside } => put_effect(out, name, body, inside),
+        Command::Mount {
+            name,
+            template,
+            inside,
+        } => put_mount(out, name, template, inside),
         Command::Template { name, texts } => put_template(out, name, texts),
         Command::Flush => {
             out.extend_from_slice(b"flush\n")?;

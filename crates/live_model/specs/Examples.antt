@@ -1,11 +1,9 @@
 -- Worked examples: a list of items, and what the machine tells of it.
-use Rattle.std.specs.Prelude.{◌≡◌, ℕ, zero, pos, List, [], ◌∷◌, ◌++◌, Option, Some, None, true, false, codes}
+use Rattle.std.specs.Prelude.{◌≡◌, ℕ, pos, List, [], ◌∷◌, Some, None, true, false, codes}
 use Rattle.std.proofs.Common.{refl}
 use Rattle.sig_base.specs.declared.scalar.Scalar.{Scalar}
 use Rattle.sig_base.specs.declared.scalar.Scalar.TheVariants as scalar
-use Rattle.sig_base.specs.declared.value.Outcome.{Outcome}
 use Rattle.sig_base.specs.declared.value.Outcome.TheVariants.{Good, Bad}
-use Rattle.sig_base.specs.declared.value.Value.{Value}
 use Rattle.sig_base.specs.declared.value.Value.TheVariants as value
 use Rattle.sig_base.specs.declared.value.Fault.TheVariants as fault
 use Rattle.sig_formula.specs.Answering.{answer_of}
@@ -15,7 +13,6 @@ use Rattle.effect_model.specs.Worlds.{Environment}
 use Rattle.live_cmd.specs.declared.command.SourceText.TheVariants as source
 use Rattle.live_cmd.specs.declared.command.Try.TheVariants as try
 use Rattle.live_cmd.specs.declared.command.Verb.TheVariants as verb
-use Rattle.live_cmd.specs.declared.command.Command.{Command}
 use Rattle.live_cmd.specs.declared.command.Command.TheVariants as command
 use Rattle.live_cmd.specs.declared.command.Item.{Item}
 use Rattle.live_cmd.specs.declared.command.Item.TheVariants as item
@@ -39,7 +36,7 @@ told_by hosts is = entries_from environment (empty hosts) is
 
 -- a command
 abbrev pub a_cell : List ℕ → Scalar → Item
-a_cell n v = item.Do (command.Cell n v None)
+a_cell n v = item.Do (command.Cell n v None None)
 
 -- a whole number
 abbrev pub int : ℕ → Scalar
@@ -47,10 +44,10 @@ int n = scalar.Int (pos n)
 
 -- a computed of a formula, and one of a host formula
 abbrev pub a_computed : List ℕ → Tree → List (List ℕ) → Item
-a_computed n t names = item.Do (command.Computed n (source.Formula (t, names)))
+a_computed n t names = item.Do (command.Computed n (source.Formula (t, names)) None)
 
 abbrev pub a_host : List ℕ → ℕ → List (List ℕ) → Item
-a_host n place names = item.Do (command.Computed n (source.Host place names))
+a_host n place names = item.Do (command.Computed n (source.Host place names) None)
 
 -- a cell is set, a name is asked for, a thing is disposed, and what a watcher has pending is asked for
 abbrev pub a_set : List ℕ → Scalar → Item
@@ -78,6 +75,10 @@ comes_to n v = entry.Outcome n (Good (value.Int (pos v)))
 
 abbrev pub error : Refusal → Entry
 error r = entry.Error r
+
+-- what has a name is gone
+abbrev pub gone : List ℕ → Entry
+gone n = entry.Gone (record { name = n; path = [] })
 
 -- a computed ran and came to a whole number
 abbrev pub ran_to : List ℕ → List (List ℕ) → ℕ → Entry
@@ -109,14 +110,14 @@ outside = a_cell (codes "t") (scalar.Bool true) ∷ a_host (codes "s") 0 (codes 
 -- what it tells
 pub outside_told : told_by 1 outside
     ≡ entry.Run (codes "s") (codes "t" ∷ []) (Bad fault.Slot) ∷ entry.Outcome (codes "s") (Bad fault.Slot)
-    ∷ error (refusal.HostTaken 0) ∷ entry.Drop 0 2 ∷ entry.Gone (codes "s") ∷ error (refusal.HostTaken 0) ∷ []
+    ∷ error (refusal.HostTaken 0) ∷ entry.Drop 0 2 ∷ gone (codes "s") ∷ error (refusal.HostTaken 0) ∷ []
 outside_told = refl
 
 -- ---- equality rules
 
 -- a = 10 by the second rule, and a watcher of it: a set to 15 changes nothing, one to 16 does
 abbrev pub within_slack : List Item
-within_slack = item.Do (command.Cell (codes "a") (int 10) (Some 1)) ∷ a_watcher (codes "w") ∷ a_watch (codes "w") (codes "a" ∷ [])
+within_slack = item.Do (command.Cell (codes "a") (int 10) (Some 1) None) ∷ a_watcher (codes "w") ∷ a_watch (codes "w") (codes "a" ∷ [])
     ∷ a_set (codes "a") (int 15) ∷ a_get (codes "a") ∷ a_set (codes "a") (int 16) ∷ a_get (codes "a") ∷ []
 
 -- what it tells
@@ -126,15 +127,15 @@ within_slack_told = refl
 -- t = "x" by the second rule is set to 3 and to 8; a cell of a rule that isn't there; a watcher of t, named twice, t is disposed, the
 -- watcher is armed again, has nothing pending, doesn't watch t, is disposed, and is gone
 abbrev pub disposals : List Item
-disposals = item.Do (command.Cell (codes "t") (scalar.Text (codes "x")) (Some 1)) ∷ a_set (codes "t") (int 3) ∷ a_get (codes "t")
-    ∷ a_set (codes "t") (int 8) ∷ a_get (codes "t") ∷ item.Do (command.Cell (codes "u") (int 1) (Some 2)) ∷ a_watcher (codes "w")
+disposals = item.Do (command.Cell (codes "t") (scalar.Text (codes "x")) (Some 1) None) ∷ a_set (codes "t") (int 3) ∷ a_get (codes "t")
+    ∷ a_set (codes "t") (int 8) ∷ a_get (codes "t") ∷ item.Do (command.Cell (codes "u") (int 1) (Some 2) None) ∷ a_watcher (codes "w")
     ∷ a_watch (codes "w") (codes "t" ∷ codes "t" ∷ []) ∷ a_dispose (codes "t") ∷ a_watch (codes "w") [] ∷ a_pending (codes "w")
     ∷ item.Do (command.Unwatch (codes "w") (codes "t")) ∷ a_dispose (codes "w") ∷ a_pending (codes "w") ∷ []
 
 -- what it tells
 pub disposals_told : told_by 0 disposals
-    ≡ comes_to (codes "t") 3 ∷ comes_to (codes "t") 3 ∷ error (refusal.RulePlace 2) ∷ entry.Gone (codes "t") ∷ entry.Pending (codes "w") []
-    ∷ error (refusal.Gone (codes "t")) ∷ entry.Gone (codes "w") ∷ error (refusal.Gone (codes "w")) ∷ []
+    ≡ comes_to (codes "t") 3 ∷ comes_to (codes "t") 3 ∷ error (refusal.RulePlace 2) ∷ gone (codes "t") ∷ entry.Pending (codes "w") []
+    ∷ error (refusal.Gone (codes "t")) ∷ gone (codes "w") ∷ error (refusal.Gone (codes "w")) ∷ []
 disposals_told = refl
 
 -- ---- watchers
@@ -161,11 +162,11 @@ watched_told = refl
 abbrev pub refusals : List Item
 refusals = a_cell (codes "a") (int 1) ∷ a_cell (codes "a") (int 2) ∷ a_get (codes "z") ∷ a_watcher (codes "w")
     ∷ item.Do (command.Unwatch (codes "w") (codes "a")) ∷ a_get (codes "w") ∷ a_dispose (codes "a") ∷ a_get (codes "a")
-    ∷ item.Do (command.Cell (codes "b") (int 1) (Some 9)) ∷ a_host (codes "c") 99 [] ∷ []
+    ∷ item.Do (command.Cell (codes "b") (int 1) (Some 9) None) ∷ a_host (codes "c") 99 [] ∷ []
 
 -- what it tells
 pub refusals_told : told_by 6 refusals
     ≡ error (refusal.Taken (codes "a")) ∷ error (refusal.Unknown (codes "z")) ∷ error (refusal.NotWatched (codes "a"))
-    ∷ error (refusal.Kind (codes "w")) ∷ entry.Gone (codes "a") ∷ error (refusal.Gone (codes "a")) ∷ error (refusal.RulePlace 9)
+    ∷ error (refusal.Kind (codes "w")) ∷ gone (codes "a") ∷ error (refusal.Gone (codes "a")) ∷ error (refusal.RulePlace 9)
     ∷ error (refusal.HostPlace 99) ∷ []
 refusals_told = refl

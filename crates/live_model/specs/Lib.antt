@@ -1,6 +1,10 @@
 pub mod Jobs
+pub mod Labels
+pub mod Linking
 pub mod Machine
 pub mod Names
 pub mod Output
 pub mod Pages
+pub mod Uses
+pub mod EffectExamples
 pub mod Examples

@@ -1,12 +1,13 @@
 -- The machine, and what each command does to it.
-use Rattle.std.specs.Prelude.{ℕ, nat_lt, Bool, true, false, List, [], ◌∷◌, ◌++◌}
-use Rattle.std.specs.Prelude.{Option, Some, None, length, map, slice_get, unwrap_or, flat_map, if◌then◌else◌}
+use Rattle.std.specs.Prelude.{ℕ, ◌==◌, nat_lt, Bool, true, false, List, [], ◌∷◌, ◌++◌}
+use Rattle.std.specs.Prelude.{Option, Some, None, length, map, slice_get, unwrap_or, if◌then◌else◌}
+use Rattle.std.specs.List.{filter}
 use Rattle.std.specs.Option.{option_or, option_map, option_map_or}
 use Rattle.std.specs.Str.{bytes_eq}
 use Rattle.sig_base.specs.declared.limits.TheConstants.{MOST_NODES, MOST_PAGES, MOST_SOURCES, MOST_TEMPLATES}
 use Rattle.sig_base.specs.Values.{scalar_value}
-use Rattle.formula_text.specs.Wiring.{Wiring}
-use Rattle.signal_model.specs.Recipes.{Recipe, formula_recipe, host}
+use Rattle.signal_model.specs.Recipes.{Recipe}
+use Rattle.signal_model.specs.Standing.{is_in}
 use Rattle.signal_model.specs.Changes.{live_count}
 use Rattle.signal_model.specs.Values.{value_of}
 use Rattle.signal_model.specs.Memos.{sources_of, source_names}
@@ -14,12 +15,20 @@ use Rattle.signal_model.specs.Settling.{Run}
 use Rattle.signal_model.specs.Marks as marks
 use Rattle.signal_model.specs.Marks.{Mark, mark_of}
 use Rattle.signal_model.specs.Sound.{names_of}
-use Rattle.effect_model.specs.Owning.{Thing, the_signal, the_watcher, nothing}
-use Rattle.effect_model.specs.Worlds.{Environment, HostState, unused, Event, ran, notified, frozen, gone, dropped_host, World, settle}
+use Rattle.effect_model.specs.Owning.{Thing, the_effect}
+use Rattle.effect_model.specs.Worlds.{Environment, HostState, unused, Refused, thing_gone, host_taken, still_due, Event, ran, notified, frozen, logged}
+use Rattle.effect_model.specs.Worlds.{body_ran, failed, cleaned, gone, dropped_host, World, settle}
+use Rattle.effect_model.specs.Worlds as worlds
 use Rattle.effect_model.specs.Acts.{set_cell, host_of, with_use, rewire_signal, forget, dispose_thing}
-use Rattle.effect_model.specs.Commands.{new_world, with_new_cell, with_new_computed, with_new_watcher, armed, changed_watcher}
-use Rattle.effect_model.specs.Watching.{at_rest, signals_at, watches, pending_of}
+use Rattle.effect_model.specs.Commands.{new_world, with_new_cell, with_new_computed, with_new_owner, with_new_effect, with_new_page, with_new_watcher}
+use Rattle.effect_model.specs.Commands.{armed, changed_watcher}
+use Rattle.effect_model.specs.Running.{flush}
+use Rattle.effect_model.specs.Watching.{signals_at, watches, pending_of}
 use Rattle.effect_model.specs.declared.limits.TheConstants.{MOST_WATCHERS}
+use Rattle.sig_owner.specs.declared.limits.TheConstants.{MOST_OWNERS}
+use Rattle.sig_untrack.specs.Stated.{Bodies}
+use Rattle.effect_tables.specs.declared.tables.TheConstants.{MOST_EFFECTS}
+use Rattle.effect_tables.specs.Placed.{at_rest}
 use Rattle.live_cmd.specs.declared.command.SourceText.{SourceText}
 use Rattle.live_cmd.specs.declared.command.SourceText.TheVariants as source
 use Rattle.live_cmd.specs.declared.command.Verb.{Verb}
@@ -39,19 +48,15 @@ use Rattle.live_cmd.specs.declared.refusal.Refusal.{Refusal}
 use Rattle.live_cmd.specs.declared.refusal.Refusal.TheVariants as refusal
 use Rattle.live_model.specs.declared.names.Kind.{Kind}
 use Rattle.live_model.specs.declared.names.Kind.TheVariants as kind
-use Rattle.live_model.specs.declared.names.Need.{Need}
-use Rattle.live_model.specs.declared.names.Need.TheVariants as need
 use Rattle.live_model.specs.declared.parts.Page.{Page}
+use Rattle.live_model.specs.Labels.{Labels, no_labels, name_at, named as a_label, label_at, label_of, relabelled, labels_after, named_count}
+use Rattle.live_model.specs.Linking.{linked, recipe_of, owner_of, linked_body}
+use Rattle.live_model.specs.Names.{Names, meaning_of, number_of, thing_named, first_refusal, first_within}
 use Rattle.live_model.specs.Pages.{asked_of, html_of}
-use Rattle.live_model.specs.Names.{Names, Use, meaning_of, number_of, thing_named, first_refusal}
+use Rattle.live_model.specs.Uses.{uses_of, uses_of_body, hosts_of_body, is_fit}
 
--- the names of the signals and of the watchers, each at its number
-pub record Labels : Type 0 where
-  pub signals : List (List ℕ)
-  pub watchers : List (List ℕ)
-
--- What the names stand for, in order of making; the names by what they stand for; the signals, the watchers and what is kept of them; the
--- texts of each template; the pages in order of mounting.
+-- What the names stand for, in order of making; what things are called; the signals, what is kept of them, the watchers, and the owners,
+-- effects and pages with what stands under what; the texts of each template; the pages that live, in order of mounting.
 pub record Machine : Type 0 where
   pub names : Names
   pub labels : Labels
@@ -61,7 +66,7 @@ pub record Machine : Type 0 where
 
 -- nothing was made yet, and there are so many host formulas
 abbrev pub empty : ℕ → Machine
-empty hosts = record { names = []; labels = record { signals = []; watchers = [] }; world = new_world hosts; templates = []; pages = [] }
+empty hosts = record { names = []; labels = no_labels; world = new_world hosts; templates = []; pages = [] }
 
 -- a machine and what was told on the way to it
 pub record Told : Type 0 where
@@ -72,27 +77,6 @@ pub record Told : Type 0 where
 abbrev pub told : Machine → List Entry → Told
 told m es = record { machine = m; entries = es }
 
--- ---- names and numbers
-
--- the name of what has a number
-abbrev pub label_of : List (List ℕ) → ℕ → List ℕ
-label_of labels n = unwrap_or (slice_get labels n) []
-
--- the name of a thing
-abbrev pub label_of_thing : Labels → Thing → List ℕ
-label_of_thing labels (the_signal n) = label_of labels.signals n
-label_of_thing labels (the_watcher n) = label_of labels.watchers n
-label_of_thing labels t = []
-
--- a formula whose slots stand for the signals of its names
-abbrev pub linked : Names → Wiring → Recipe
-linked names w = formula_recipe w.0 (map (number_of names) w.1)
-
--- what a computed is computed by: a formula, or a host formula on the signals of these names
-abbrev pub recipe_of : Names → SourceText → Recipe
-recipe_of names (source.Formula w) = linked names w
-recipe_of names (source.Host place arguments) = record { expression = host place; slots = map (number_of names) arguments }
-
 -- the texts of the template of a number
 abbrev pub texts_at : List (List Recipe) → ℕ → List Recipe
 texts_at templates t = unwrap_or (slice_get templates t) []
@@ -102,24 +86,53 @@ texts_at templates t = unwrap_or (slice_get templates t) []
 -- of a run: who ran, what it read in order, and what it came to
 abbrev pub run_entry : Labels → Run → Entry
 run_entry labels r =
-    entry.Run (label_of labels.signals r.name) (map (label_of labels.signals) (names_of r.evaluation.reads)) r.evaluation.outcome
+    entry.Run (name_at labels.signals r.name) (map (name_at labels.signals) (names_of r.evaluation.reads)) r.evaluation.outcome
 
--- of an event
+-- of what an act or a cleanup is refused
+abbrev pub refusal_told : Labels → Refused → Refusal
+refusal_told labels (thing_gone t) = refusal.Gone (label_of labels t).name
+refusal_told labels (host_taken place) = refusal.HostTaken place
+refusal_told labels still_due = refusal.Turns
+
+-- of a cleanup, which is an effect's
+abbrev pub cleanup_entries : Labels → Thing → List Entry
+cleanup_entries labels (the_effect e) = entry.Cleanup (label_at labels.effects e) ∷ []
+cleanup_entries labels t = []
+
+-- of an event; the making of a child and the noting of a cleanup aren't told
 abbrev pub event_entries : Labels → Event → List Entry
 event_entries labels (ran m) = run_entry labels m.run ∷ []
-event_entries labels (notified w) = entry.Notify (label_of labels.watchers w) ∷ []
-event_entries labels (frozen ws) = entry.Error (refusal.Frozen (map (label_of labels.watchers) ws)) ∷ []
+event_entries labels (notified w) = entry.Notify (name_at labels.watchers w) ∷ []
+event_entries labels (frozen ws) = entry.Error (refusal.Frozen (map (name_at labels.watchers) ws)) ∷ []
+event_entries labels (logged v) = entry.Log v ∷ []
+event_entries labels (body_ran e names) = entry.Effect (label_at labels.effects e) (map (name_at labels.signals) names) ∷ []
+event_entries labels (failed e f) = entry.Fail (label_at labels.effects e) f ∷ []
+event_entries labels (cleaned t c) = cleanup_entries labels t
 event_entries labels (dropped_host place asks) = entry.Drop place asks ∷ []
-event_entries labels (gone t) = entry.Gone (label_of_thing labels t) ∷ []
+event_entries labels (gone t) = entry.Gone (label_of labels t) ∷ []
+event_entries labels (worlds.refused why) = entry.Error (refusal_told labels why) ∷ []
 event_entries labels e = []
+
+-- of events, one after the other, each by the labels of its moment
+abbrev pub entries_of : Labels → List Event → List Entry
+entries_of labels [] = []
+entries_of labels (e ∷ es) = event_entries labels e ++ entries_of (relabelled e labels) es
 
 -- the world has come to this, and what happened on the way is told
 abbrev pub acted : Machine → World → Told
-acted m w = told (record m { world = at_rest w }) (flat_map (event_entries m.labels) w.told)
+acted m w = told (record m { labels = labels_after w.told m.labels; world = at_rest w }) (entries_of m.labels w.told)
 
 -- names are settled, and their runs are told
 abbrev pub settling : Environment → Machine → List ℕ → Told
 settling env m asked = acted m (settle env asked m.world)
+
+-- the pages that live
+abbrev pub with_live_pages : Machine → Machine
+with_live_pages m = record m { pages = filter (λ (p : Page). is_in p.number m.world.pages) m.pages }
+
+-- the same, where pages may have ended on the way
+abbrev pub acted_on_pages : Machine → World → Told
+acted_on_pages m w = let t = acted m w in told (with_live_pages t.machine) t.entries
 
 -- ---- making
 
@@ -127,15 +140,33 @@ settling env m asked = acted m (settle env asked m.world)
 abbrev pub with_name : Machine → List ℕ → Kind → ℕ → Machine
 with_name m n k i = record m { names = m.names ++ (n, record { kind = k; number = i }) ∷ [] }
 
+-- what was made is called so, and the world has come to this
+abbrev pub with_labels : Machine → Labels → World → Machine
+with_labels m labels w = record m { labels = labels; world = at_rest w }
+
 -- a cell or a computed is made under a name, with the next number, and is not evaluated
 abbrev pub with_signal : Machine → List ℕ → Kind → World → Machine
 with_signal m n k w =
-    with_name (record m { labels = record (m.labels) { signals = m.labels.signals ++ n ∷ [] }; world = at_rest w }) n k m.world.made.signals
+    with_name (with_labels m (record (m.labels) { signals = m.labels.signals ++ n ∷ [] }) w) n k m.world.made.signals
+
+-- an owner is made under a name
+abbrev pub with_owner : Machine → List ℕ → Option ℕ → Machine
+with_owner m n inside =
+    with_name (with_labels m (record (m.labels) { owners = m.labels.owners ++ n ∷ [] }) (with_new_owner inside m.world))
+    n kind.Owner m.world.made.owners
+
+-- an effect of a body is made under a name; it has not run
+abbrev pub with_effect : Machine → List ℕ → Bodies → Option ℕ → Machine
+with_effect m n b inside =
+    let e = m.world.made.effects in
+    with_name (with_labels m (record (m.labels) { effects = m.labels.effects ++ (e, a_label n) ∷ [] })
+    (with_new_effect (linked_body m.names n e b) inside m.world))
+    n kind.Effect e
 
 -- a watcher is made under a name; it watches nothing and is waiting
 abbrev pub with_watcher : Machine → List ℕ → Bool → Machine
 with_watcher m n tries =
-    with_name (record m { labels = record (m.labels) { watchers = m.labels.watchers ++ n ∷ [] }; world = at_rest (with_new_watcher tries m.world) })
+    with_name (with_labels m (record (m.labels) { watchers = m.labels.watchers ++ n ∷ [] }) (with_new_watcher tries m.world))
     n kind.Watcher m.world.made.watchers
 
 -- whether a watcher's notification tries a command
@@ -171,54 +202,29 @@ update_all env (p ∷ ps) m =
     let rest = update_all env ps (record (s.machine) { pages = m.pages ++ brought_up env m p ∷ [] }) in
     told rest.machine (s.entries ++ news_of env m p ++ rest.entries)
 
+-- the page of a number
+abbrev pub page_at : List Page → ℕ → Option Page
+page_at [] n = None
+page_at (p ∷ ps) n = if n == p.number then Some p else page_at ps n
+
 -- the HTML of a page as it was last brought up to date
 abbrev pub shown_of : Machine → ℕ → List ℕ
-shown_of m k = unwrap_or (option_map (λ (p : Page). p.shown) (slice_get m.pages k)) []
+shown_of m n = unwrap_or (option_map (λ (p : Page). p.shown) (page_at m.pages n)) []
+
+-- a page is made under a name, the last of those that live
+abbrev pub with_page : Machine → Page → Option ℕ → Machine
+with_page m p inside =
+    with_name (with_labels (record m { pages = m.pages ++ p ∷ [] }) (record (m.labels) { pages = m.labels.pages ++ p.name ∷ [] })
+    (with_new_page inside m.world)) p.name kind.Page p.number
 
 -- a page is made of a template, and what it reads is settled
-abbrev pub mounted : Environment → Machine → List ℕ → ℕ → Told
-mounted env m n t =
+abbrev pub mounted : Environment → Machine → List ℕ → ℕ → Option ℕ → Told
+mounted env m n t inside =
     let s = settling env m (template_reads env m t) in
-    let p : Page = record { name = n; template = t; shown = template_html env m t } in
-    told (with_name (record (s.machine) { pages = m.pages ++ p ∷ [] }) n kind.Page (length m.pages)) (s.entries ++ entry.Page n p.shown ∷ [])
+    let p : Page = record { name = n; number = m.world.made.pages; template = t; shown = template_html env m t } in
+    told (with_page s.machine p inside) (s.entries ++ entry.Page n p.shown ∷ [])
 
 -- ---- what commands do
-
--- these names are signals
-abbrev pub uses_of_signals : List (List ℕ) → List Use
-uses_of_signals names = map (λ n. (n, need.Signal)) names
-
--- so are the names of a formula
-abbrev pub uses_of_formula : Wiring → List Use
-uses_of_formula w = uses_of_signals w.1
-
--- the names of what a computed is computed by
-abbrev pub uses_of_source : SourceText → List Use
-uses_of_source (source.Formula w) = uses_of_formula w
-uses_of_source (source.Host place arguments) = uses_of_signals arguments
-
--- what the name of a verb has to be
-abbrev pub need_of : Verb → Need
-need_of verb.Get = need.Signal
-need_of verb.State = need.Of kind.Computed
-need_of verb.Sources = need.Of kind.Computed
-need_of verb.Pending = need.Of kind.Watcher
-need_of verb.Show = need.Of kind.Page
-need_of verb.Dispose = need.Thing
-
--- The names of a command in the order of its text. What a watcher's notification tries isn't looked up.
-abbrev pub uses_of : Command → List Use
-uses_of (command.Cell n v equals) = (n, need.New) ∷ []
-uses_of (command.Set n v) = (n, need.Of kind.Cell) ∷ []
-uses_of (command.Computed n s) = (n, need.New) ∷ uses_of_source s
-uses_of (command.Rewire n s) = (n, need.Of kind.Computed) ∷ uses_of_source s
-uses_of (command.Watcher n tries) = (n, need.New) ∷ []
-uses_of (command.Watch n signals) = (n, need.Of kind.Watcher) ∷ uses_of_signals signals
-uses_of (command.Unwatch n s) = (n, need.Of kind.Watcher) ∷ (s, need.Signal) ∷ []
-uses_of (command.Named v n) = (n, need_of v) ∷ []
-uses_of (command.Template n texts) = (n, need.New) ∷ flat_map uses_of_formula texts
-uses_of (command.Mount n t) = (n, need.New) ∷ (t, need.Of kind.Template) ∷ []
-uses_of command.Flush = []
 
 -- a mark, as it is told
 abbrev pub seen_of : Mark → Seen
@@ -228,16 +234,16 @@ seen_of marks.Dirty = seen.Dirty
 
 -- the names of the sources that a computed keeps
 abbrev pub source_labels : Machine → ℕ → List (List ℕ)
-source_labels m i = map (label_of m.labels.signals) (source_names (sources_of m.world.memos i))
+source_labels m i = map (name_at m.labels.signals) (source_names (sources_of m.world.memos i))
 
 -- the names of the pending computeds of a watcher
 abbrev pub pending_labels : Machine → ℕ → List (List ℕ)
-pending_labels m i = map (label_of m.labels.signals) (pending_of m.world.signals m.world.memos (signals_at m.world.watchers i))
+pending_labels m i = map (name_at m.labels.signals) (pending_of m.world.signals m.world.memos (signals_at m.world.watchers i))
 
 -- a thing is disposed
 abbrev pub disposing : Environment → Machine → Option Thing → Told
 disposing env m None = told m []
-disposing env m (Some t) = acted m (dispose_thing env t m.world)
+disposing env m (Some t) = acted_on_pages m (dispose_thing env t m.world)
 
 -- what a verb does to what has this name and this number
 abbrev pub named : Environment → Machine → Verb → List ℕ → ℕ → Told
@@ -249,21 +255,35 @@ named env m verb.Pending n i = told m (entry.Pending n (pending_labels m i) ∷ 
 named env m verb.Show n i = told m (entry.Page n (shown_of m i) ∷ [])
 named env m verb.Dispose n i = disposing env m (thing_named (meaning_of m.names n))
 
+-- after the turns of a flush, which may have refused it, the pages are brought up to date
+abbrev pub after_turns : Environment → Bool → Told → Told
+after_turns env true t = told t.machine (t.entries ++ entry.Error refusal.Turns ∷ [])
+after_turns env false t =
+    let pages = update_all env t.machine.pages (record (t.machine) { pages = [] }) in told pages.machine (t.entries ++ pages.entries)
+
+-- effects run in turns, and then the pages that live are brought up to date; a refused flush leaves them as they were
+abbrev pub flushing : Environment → Machine → Told
+flushing env m = let f = flush env m.world in after_turns env f.refused (acted_on_pages m f.world)
+
 -- what a command does that isn't refused
 abbrev pub done : Environment → Machine → Command → Told
-done env m (command.Cell n v equals) = told (with_signal m n kind.Cell (with_new_cell (scalar_value v) equals None m.world)) []
+done env m (command.Cell n v equals inside) =
+    told (with_signal m n kind.Cell (with_new_cell (scalar_value v) equals (owner_of m.names inside) m.world)) []
 done env m (command.Set n v) = acted m (set_cell env (number_of m.names n) (scalar_value v) m.world)
-done env m (command.Computed n s) =
-    let r = recipe_of m.names s in told (with_signal m n kind.Computed (with_use (host_of r.expression) (with_new_computed r None m.world))) []
+done env m (command.Computed n s inside) =
+    let r = recipe_of m.names s in
+    told (with_signal m n kind.Computed (with_use (host_of r.expression) (with_new_computed r (owner_of m.names inside) m.world))) []
 done env m (command.Rewire n s) = acted m (rewire_signal (number_of m.names n) (recipe_of m.names s) m.world)
+done env m (command.Owner n inside) = told (with_owner m n (owner_of m.names inside)) []
 done env m (command.Watcher n tries) = told (with_watcher m n (is_trying tries)) []
 done env m (command.Watch n signals) = acted m (changed_watcher (number_of m.names n) (armed (map (number_of m.names) signals)) m.world)
 done env m (command.Unwatch n s) = acted m (changed_watcher (number_of m.names n) (forget (number_of m.names s)) m.world)
 done env m (command.Named v n) = named env m v n (number_of m.names n)
+done env m (command.Effect n b inside) = told (with_effect m n b (owner_of m.names inside)) []
 done env m (command.Template n texts) =
     told (with_name (record m { templates = m.templates ++ map (linked m.names) texts ∷ [] }) n kind.Template (length m.templates)) []
-done env m (command.Mount n t) = mounted env m n (number_of m.names t)
-done env m command.Flush = update_all env m.pages (record m { pages = [] })
+done env m (command.Mount n t inside) = mounted env m n (number_of m.names t) (owner_of m.names inside)
+done env m command.Flush = flushing env m
 
 -- ---- refusals
 
@@ -272,15 +292,21 @@ abbrev pub sources_refusal : SourceText → Option Refusal
 sources_refusal (source.Formula f) = None
 sources_refusal (source.Host place arguments) = if nat_lt MOST_SOURCES (length arguments) then Some (refusal.Limit limit.Sources) else None
 
--- a command with such a one
+-- a command with such a one, or with a body that no script can have
 abbrev pub count_refusal : Command → Option Refusal
-count_refusal (command.Computed n s) = sources_refusal s
+count_refusal (command.Computed n s inside) = sources_refusal s
 count_refusal (command.Rewire n s) = sources_refusal s
+count_refusal (command.Effect n b inside) = if is_fit b then None else Some (refusal.Limit limit.Body)
 count_refusal c = None
+
+-- the names in the body of an effect
+abbrev pub body_refusal : Machine → Command → Option Refusal
+body_refusal m (command.Effect n b inside) = first_within m.world m.names n (uses_of_body b)
+body_refusal m c = None
 
 -- its names
 abbrev pub name_refusal : Machine → Command → Option Refusal
-name_refusal m c = first_refusal m.world.signals m.world.watchers m.names (uses_of c)
+name_refusal m c = option_or (first_refusal m.world m.names (uses_of c)) (body_refusal m c)
 
 -- a host formula that isn't there, and one that is used or was dropped
 abbrev pub taken_refusal : ℕ → Option HostState → Option Refusal
@@ -293,6 +319,11 @@ abbrev pub host_refusal : World → SourceText → Option Refusal
 host_refusal w (source.Formula f) = None
 host_refusal w (source.Host place arguments) = taken_refusal place (slice_get w.host_states place)
 
+-- the first of these places of host formulas that isn't below their number; whether one in a body is free is seen when its act is done
+abbrev pub outside_refusal : ℕ → List ℕ → Option Refusal
+outside_refusal hosts [] = None
+outside_refusal hosts (place ∷ places) = if nat_lt place hosts then outside_refusal hosts places else Some (refusal.HostPlace place)
+
 -- an equality rule that isn't there
 abbrev pub rule_refusal : List ℕ → Option ℕ → Option Refusal
 rule_refusal slacks None = None
@@ -300,9 +331,10 @@ rule_refusal slacks (Some place) = if nat_lt place (length slacks) then None els
 
 -- a command with the place of a host formula or of a rule
 abbrev pub place_refusal : List ℕ → World → Command → Option Refusal
-place_refusal slacks w (command.Cell n v equals) = rule_refusal slacks equals
-place_refusal slacks w (command.Computed n s) = host_refusal w s
+place_refusal slacks w (command.Cell n v equals inside) = rule_refusal slacks equals
+place_refusal slacks w (command.Computed n s inside) = host_refusal w s
 place_refusal slacks w (command.Rewire n s) = host_refusal w s
+place_refusal slacks w (command.Effect n b inside) = outside_refusal (length w.host_states) (hosts_of_body b)
 place_refusal slacks w c = None
 
 -- one more than the most
@@ -311,11 +343,13 @@ one_too_many most count word = if nat_lt count most then None else Some (refusal
 
 -- a command that makes one thing more than there may be
 abbrev pub over_limit : Machine → Command → Option Refusal
-over_limit m (command.Cell n v equals) = one_too_many MOST_NODES (live_count m.world.signals) limit.Nodes
-over_limit m (command.Computed n s) = one_too_many MOST_NODES (live_count m.world.signals) limit.Nodes
+over_limit m (command.Cell n v equals inside) = one_too_many MOST_NODES (live_count m.world.signals) limit.Nodes
+over_limit m (command.Computed n s inside) = one_too_many MOST_NODES (live_count m.world.signals) limit.Nodes
+over_limit m (command.Owner n inside) = one_too_many MOST_OWNERS (length m.world.owners) limit.Owners
 over_limit m (command.Watcher n tries) = one_too_many MOST_WATCHERS (length m.world.watchers) limit.Watchers
+over_limit m (command.Effect n b inside) = one_too_many MOST_EFFECTS (named_count m.labels m.world.effects) limit.Effects
 over_limit m (command.Template n texts) = one_too_many MOST_TEMPLATES (length m.templates) limit.Templates
-over_limit m (command.Mount n t) = one_too_many MOST_PAGES (length m.pages) limit.Pages
+over_limit m (command.Mount n t inside) = one_too_many MOST_PAGES (length m.world.pages) limit.Pages
 over_limit m c = None
 
 -- a signal that a watcher doesn't watch
@@ -329,8 +363,8 @@ unwatch_refusal m c = None
 abbrev pub later_refusal : List ℕ → Machine → Command → Option Refusal
 later_refusal slacks m c = option_or (place_refusal slacks m.world c) (option_or (over_limit m c) (unwatch_refusal m c))
 
--- Why a command is refused, if it is, where the equality rules have these slacks: first how many names it has, then its names, and then
--- what stands behind them.
+-- Why a command is refused before it does anything, if it is, where the equality rules have these slacks: first how many names it has, then
+-- its names, and then what stands behind them.
 abbrev pub refusal_of : List ℕ → Machine → Command → Option Refusal
 refusal_of slacks m c = option_or (count_refusal c) (option_or (name_refusal m c) (later_refusal slacks m c))
 

@@ -5,6 +5,8 @@
 pub enum Kind {
     Cell,
     Computed,
+    Owner,
+    Effect,
     Watcher,
     Template,
     Page,
@@ -26,6 +28,6 @@ pub enum Need {
     Of(Kind),
     /// A cell or a computed.
     Signal,
-    /// A cell, a computed or a watcher, which can be disposed.
+    /// Anything but a template, which can't be disposed.
     Thing,
 }

@@ -41,10 +41,12 @@ impl Texts {
     }
 }
 
-/// A page, the number of its template, and its HTML as it was told last.
+/// A page that lives: its name, its number among all pages that were mounted, the number of its template, and its HTML as it was last
+/// brought up to date.
 #[derive(Debug, Drop)]
 pub struct Page {
     pub name: Name,
+    pub number: u128,
     pub template: u128,
     pub shown: PageBytes,
 }

@@ -1,7 +1,7 @@
 use Rattle.std.proofs.Common.{sym}
 use Rattle.script_lines.specs.Views.{piece_of}
 use Rattle.live_cmd.specs.Items.{faulty}
-use Rattle.live_cmd.proofs.Items.{is_unended, is_judged}
+use Rattle.live_cmd.proofs.Items.{is_block, is_unended, is_judged}
 use Rattle.live_cmd.proofs.LineByLine.{is_long, none_long, all_short}
 use Rattle.live_cmd.proofs.item.item_of.Goals as goal
 
@@ -14,22 +14,37 @@ returns-then-not-piece c =
     let again = c.deref-2.ensures.value in
     is_unended (piece_of c.args.piece.now) c.first_number-first.result (none_long c.args.piece.now (sym (rw value at c.if-any_long.ensures))) c.if-not-piece.true (rw again at c.first_number-first.ensures)
 
+pub block_of-requires : goal.block_of-requires
+block_of-requires c =
+    let value = c.deref.ensures.value in
+    let third = c.deref-3.ensures.value in
+    rw third (all_short c.args.piece.now.lines.items (none_long c.args.piece.now (sym (rw value at c.if-any_long.ensures))))
+
+pub returns-in-Some : goal.returns-in-Some
+returns-in-Some c =
+    let value = c.deref.ensures.value in
+    let third = c.deref-3.ensures.value in
+    is_block (piece_of c.args.piece.now) c.in-Some.item (none_long c.args.piece.now (sym (rw value at c.if-any_long.ensures))) c.if-not-piece.false
+    (rw (c.in-Some.is, third) at c.in_ok-item.ensures)
+
 pub read_lines-requires : goal.read_lines-requires
 read_lines-requires c =
     let value = c.deref.ensures.value in
-    let last = c.deref-3.ensures.value in
+    let last = c.deref-4.ensures.value in
     rw last (all_short c.args.piece.now.lines.items (none_long c.args.piece.now (sym (rw value at c.if-any_long.ensures))))
 
 pub returns-in-Faulty : goal.returns-in-Faulty
 returns-in-Faulty c =
     let value = c.deref.ensures.value in
-    let last = c.deref-3.ensures.value in
-    faulty c.in-Faulty.number (none_long c.args.piece.now (sym (rw value at c.if-any_long.ensures))) c.if-not-piece.false (rw (c.in-Faulty.is, last) at c.in_ok-number.ensures)
+    let third = c.deref-3.ensures.value in
+    let last = c.deref-4.ensures.value in
+    faulty c.in-Faulty.number (none_long c.args.piece.now (sym (rw value at c.if-any_long.ensures))) c.if-not-piece.false
+    (rw (c.in_default.is, third) at c.in_ok-item.ensures) (rw (c.in-Faulty.is, last) at c.in_ok-number.ensures)
 
 pub returns-in-Said : goal.returns-in-Said
 returns-in-Said c =
     let value = c.deref.ensures.value in
     let again = c.deref-2.ensures.value in
-    let last = c.deref-3.ensures.value in
+    let last = c.deref-4.ensures.value in
     is_judged (piece_of c.args.piece.now) c.in-Said.lines.items c.first_number-first.result c.judged.result (none_long c.args.piece.now (sym (rw value at c.if-any_long.ensures))) c.if-not-piece.false
     (rw (c.in-Said.is, last) at c.in_ok-number.ensures) (rw again at c.first_number-first.ensures) c.judged.ensures

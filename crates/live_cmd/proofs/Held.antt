@@ -1,0 +1,51 @@
+-- Blocks, by the lines that are held.
+use Rattle.std.proofs.Common.{◌≡◌, ◌<◌, ℕ, Bool, Option, Some, List, [], ◌∷◌, ◌++◌, length, map, refl, sym, arith}
+use Rattle.std.specs.List.{All}
+use Rattle.std.proofs.lemmas.List.Elements.{All-head, All-pop, All-same, All-tail}
+use Rattle.script_lines.specs.declared.line.NumberedLine as held
+use Rattle.script_lines.specs.Views.{line_of}
+use Rattle.live_cmd.specs.declared.block.Content.{Content}
+use Rattle.live_cmd.specs.declared.command.Item.{Item}
+use Rattle.live_cmd.specs.Blocks.{Block, Ends, IsContent, IsNoHead, block_item}
+use Rattle.live_cmd.specs.Grammar.{Writes, effect}
+use Rattle.live_cmd.proofs.Ends.{parted_map}
+use Rattle.live_cmd.proofs.Numbering.{IsMade}
+use Rattle.live_cmd.proofs.Parting.{no_block, too_few}
+
+-- what holds of all holds of the first, of those behind it, and of the last
+pub all_parted : {A : Type 0} (P : A → Type 0) (xs : List A) (x : A) (ys : List A) (y : A) → xs ≡ x ∷ (ys ++ y ∷ []) → All P xs → P x × All P ys × P y
+all_parted P xs x ys y e h =
+    let whole : All P (x ∷ (ys ++ y ∷ [])) = All-same P (x ∷ (ys ++ y ∷ [])) xs (sym e) h in
+    let rest = All-pop P (ys ++ y ∷ []) ys (Some y) refl (All-tail P x (ys ++ y ∷ []) whole) in
+    (All-head P x (ys ++ y ∷ []) whole, rest.0, rest.1)
+
+-- fewer than two lines are none
+pub none_held : (ls : List held.NumberedLine) → length ls < 2 → Block (map line_of ls) → ⊥
+none_held [] h b = too_few [] (omega arith) b
+none_held (l ∷ []) h b = too_few (line_of l ∷ []) (omega arith) b
+none_held (l ∷ m ∷ ls) h b = absurd (omega arith)
+
+-- lines that are parted so, of which the first is no head, are none
+pub no_head_held : (ls : List held.NumberedLine) (first last : held.NumberedLine) (inner : List held.NumberedLine) → ls ≡ first ∷ (inner ++ last ∷ [])
+    → IsNoHead first.text.now → Block (map line_of ls) → ⊥
+no_head_held ls first last inner e none b =
+    no_block (map line_of ls) (line_of first) (line_of last) (map line_of inner) (parted_map line_of ls first inner last e) none b
+
+-- lines of which the first is a head are a block, which is what was read of it
+pub block_held : (ls : List held.NumberedLine) (first last : held.NumberedLine) (inner : List held.NumberedLine) (name : List ℕ) (o : Option (List ℕ))
+    (ends : Bool) (c : Content) (i : Item) → ls ≡ first ∷ (inner ++ last ∷ []) → Writes (effect, (name, (o, tt))) first.text.now
+    → Ends ends last.text.now → IsMade (map line_of inner) name o c → i ≡ block_item ends last.number c
+    → (b : Block (map line_of ls)) × (d : Content) × IsContent b.head b.inner d × (i ≡ block_item b.ends b.last.0 d)
+block_held ls first last inner name o ends c i e w h k is =
+    let b : Block (map line_of ls) = record {
+      first = line_of first;
+      inner = map line_of inner;
+      last = line_of last;
+      whole = parted_map line_of ls first inner last e;
+      head = (effect, (name, (o, tt)));
+      writes = w;
+      begins = refl;
+      ends = ends;
+      end = h;
+    } in
+    (b, c, k, is)

@@ -1,0 +1,27 @@
+use Rattle.sig_base.specs.declared.limits.TheConstants.{MOST_LINE}
+use Rattle.std.proofs.Common.{◌≤◌, length}
+use Rattle.live_cmd.proofs.Held.{all_parted, block_held, no_head_held, none_held}
+use Rattle.live_cmd.proofs.block.block_of.Goals as goal
+
+pub returns-in_default : goal.returns-in_default
+returns-in_default c = none_held c.args.lines.now c.in_default.ensures
+
+pub head_at-requires : goal.head_at-requires
+head_at-requires c = (all_parted (λ l. length l.text.now ≤ MOST_LINE) c.args.lines.now c.in-Some.first c.in-Some.inner.now c.in-Some.last c.in-Some.ensures c.requires).0
+
+pub returns-in_default-2 : goal.returns-in_default-2
+returns-in_default-2 c =
+    no_head_held c.args.lines.now c.in-Some.first c.in-Some.last c.in-Some.inner.now c.in-Some.ensures (rw c.in_default-2.is at c.in_ok-name.ensures)
+
+pub effect_content-requires : goal.effect_content-requires
+effect_content-requires c =
+    (all_parted (λ l. length l.text.now ≤ MOST_LINE) c.args.lines.now c.in-Some.first c.in-Some.inner.now c.in-Some.last c.in-Some.ensures c.requires).1
+
+pub is_end-requires : goal.is_end-requires
+is_end-requires c = (all_parted (λ l. length l.text.now ≤ MOST_LINE) c.args.lines.now c.in-Some.first c.in-Some.inner.now c.in-Some.last c.in-Some.ensures c.requires).2
+
+pub returns : goal.returns
+returns c =
+    block_held c.args.lines.now c.in-Some.first c.in-Some.last c.in-Some.inner.now c.in-Some-2.name c.in-Some-2.inside c.in_ok-ends.ends
+    c.in_ok-content.content c.block_item.result c.in-Some.ensures (rw c.in-Some-2.is at c.in_ok-name.ensures) c.in_ok-ends.ensures
+    c.in_ok-content.ensures c.block_item.ensures

@@ -1,0 +1,17 @@
+use Rattle.std.proofs.Common.{map, ap}
+use Rattle.std.specs.Prelude.{Ok}
+use Rattle.script_lines.specs.Views.{line_of}
+use Rattle.sig_untrack.specs.Stated.{Bodies, before, no_bodies}
+use Rattle.live_cmd.specs.declared.block.Content.TheVariants as content
+use Rattle.live_cmd.specs.declared.command.Command.TheVariants as command
+use Rattle.live_cmd.proofs.Numbering.{refused_by}
+use Rattle.live_cmd.proofs.block.effect_content.Goals as goal
+
+pub returns-in-Ok : goal.returns-in-Ok
+returns-in-Ok c =
+    (Ok (before c.in-Ok.body no_bodies), c.in-Ok.ensures.ok, ap (λ (b : Bodies). content.Makes (command.Effect c.args.name b c.args.inside)) c.of.ensures)
+
+pub returns-in_ok-content-in-Err : goal.returns-in_ok-content-in-Err
+returns-in_ok-content-in-Err c =
+    refused_by (map line_of c.args.lines.now) c.in-Err.fault.at c.number_at.result c.in-Err.fault.why c.in_ok-content-in-Err.content c.args.name c.args.inside
+    c.in-Err.ensures.refused c.in_ok-content-in-Err.ensures.lines c.number_at.ensures c.in_ok-content-in-Err.ensures.content

@@ -1,0 +1,10 @@
+use Rattle.live_cmd.proofs.Heading.{end_found, end_none}
+use Rattle.live_cmd.proofs.block.is_end.Goals as goal
+
+pub returns-in_default : goal.returns-in_default
+returns-in_default c = let h = rw c.in_default.is at c.in_ok-found.ensures in end_none c.args.line.now h
+
+pub returns : goal.returns
+returns c =
+    let h = rw c.in-Some.is at c.in_ok-found.ensures in
+    rw c.end_told-ends.ensures (end_found c.args.line.now c.in-Some.found h)

@@ -1,0 +1,71 @@
+-- What things are called in what is told.
+use Rattle.std.specs.Prelude.{ℕ, ◌==◌, ◌&&◌, not, Bool, List, [], ◌∷◌, ◌++◌, length, slice_get, unwrap_or, codes, if◌then◌else◌}
+use Rattle.std.specs.List.{filter}
+use Rattle.effect_model.specs.Owning.{Thing, the_signal, the_owner, the_effect, the_page, the_watcher}
+use Rattle.effect_model.specs.Worlds.{Effect, Event, gone, made_child}
+use Rattle.live_cmd.specs.declared.label.Label.{Label}
+
+-- the names of signals, owners, pages and watchers, each at its number, and the labels of effects with their numbers
+pub record Labels : Type 0 where
+  pub signals : List (List ℕ)
+  pub owners : List (List ℕ)
+  pub pages : List (List ℕ)
+  pub watchers : List (List ℕ)
+  pub effects : List (ℕ × Label)
+
+-- nothing was made
+abbrev pub no_labels : Labels
+no_labels = record { signals = []; owners = []; pages = []; watchers = []; effects = [] }
+
+-- what would be told of what was never made
+abbrev pub nobody : List ℕ
+nobody = codes "unnamed"
+
+-- the name of what has a number
+abbrev pub name_at : List (List ℕ) → ℕ → List ℕ
+name_at names n = unwrap_or (slice_get names n) nobody
+
+-- the label of what a command made
+abbrev pub named : List ℕ → Label
+named n = record { name = n; path = [] }
+
+-- whether a command made it
+abbrev pub is_named : Label → Bool
+is_named l = length l.path == 0
+
+-- the label of an effect
+abbrev pub label_at : List (ℕ × Label) → ℕ → Label
+label_at [] n = named nobody
+label_at (l ∷ ls) n = if n == l.0 then l.1 else label_at ls n
+
+-- the label of a thing
+abbrev pub label_of : Labels → Thing → Label
+label_of labels (the_signal n) = named (name_at labels.signals n)
+label_of labels (the_owner n) = named (name_at labels.owners n)
+label_of labels (the_effect n) = label_at labels.effects n
+label_of labels (the_page n) = named (name_at labels.pages n)
+label_of labels (the_watcher n) = named (name_at labels.watchers n)
+
+-- the k-th child that a run of an effect makes
+abbrev pub child_label : Label → ℕ → Label
+child_label l k = record { name = l.name; path = l.path ++ k ∷ [] }
+
+-- whether it is the label of another effect than this one, or of one that a command made
+abbrev pub is_other : ℕ → ℕ × Label → Bool
+is_other n l = not (n == l.0 && not (is_named l.1))
+
+-- A child has its label from its making to its end. What a command made keeps its name.
+abbrev pub relabelled : Event → Labels → Labels
+relabelled (made_child child parent k) labels =
+    record labels { effects = labels.effects ++ (child, child_label (label_at labels.effects parent) k) ∷ [] }
+relabelled (gone (the_effect n)) labels = record labels { effects = filter (is_other n) labels.effects }
+relabelled e labels = labels
+
+-- the labels after these events
+abbrev pub labels_after : List Event → Labels → Labels
+labels_after [] labels = labels
+labels_after (e ∷ es) labels = labels_after es (relabelled e labels)
+
+-- how many of these effects a command made
+abbrev pub named_count : Labels → List Effect → ℕ
+named_count labels xs = length (filter (λ (x : Effect). is_named (label_at labels.effects x.number)) xs)
