@@ -40,19 +40,6 @@ fn a_run_asks_once_more_than_it_reads(rt: HostRuntime) -> Result<(), Fail> {
 }
 
 #[test]
-fn a_fault_that_is_read_ends_without_another_ask(rt: HostRuntime) -> Result<(), Fail> {
-    let alloc = rt.alloc();
-    let mut s = scene_of(alloc, Box::new(alloc, First::new())?)?;
-    s.cell("a", Value::Int(0))?;
-    s.computed("b", "1 / a")?;
-    s.host("h", 0, "b")?;
-    s.get("h")?;
-    assert!(rt; s.wrote("run b (a) ! zero\nrun h (b) ! zero\nh ! zero\n"));
-    assert_eq!(rt; s.asks(0)?, 1);
-    Ok(())
-}
-
-#[test]
 fn a_slot_asked_for_again_is_twice(rt: HostRuntime) -> Result<(), Fail> {
     let alloc = rt.alloc();
     let mut s = scene_of(alloc, Box::new(alloc, Again::new(0))?)?;
@@ -61,17 +48,5 @@ fn a_slot_asked_for_again_is_twice(rt: HostRuntime) -> Result<(), Fail> {
     s.get("h")?;
     assert!(rt; s.wrote("run h (a) ! twice\nh ! twice\n"));
     assert_eq!(rt; s.asks(0)?, 2);
-    Ok(())
-}
-
-#[test]
-fn a_slot_outside_the_arguments_is_slot(rt: HostRuntime) -> Result<(), Fail> {
-    let alloc = rt.alloc();
-    let mut s = scene_of(alloc, Box::new(alloc, Again::new(1))?)?;
-    s.cell("a", Value::Int(1))?;
-    s.host("h", 0, "a")?;
-    s.get("h")?;
-    assert!(rt; s.wrote("run h () ! slot\nh ! slot\n"));
-    assert_eq!(rt; s.asks(0)?, 1);
     Ok(())
 }

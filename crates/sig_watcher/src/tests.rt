@@ -3,7 +3,7 @@ ghost use Rattle.std.specs.Prelude.{◌≡◌, ◌∷◌, [], true, IfOk};
 ghost use Rattle.std.specs.List.{All};
 ghost use Rattle.sig_nodes.specs.States.{is_given, CanWear};
 
-use crate::{Told, WatchFault, Watchers};
+use crate::{Told, Watchers};
 use sig_base::{NodeId, Outcome, Value, WatcherId};
 use sig_formula::Formula;
 use sig_nodes::{Graph, Recipe, Standing};
@@ -43,28 +43,6 @@ fn who_watches_is_told_once(rt: HostRuntime) -> Result<(), Fail> {
     watchers.watch(v, &[])?;
     let third = told_of(alloc, &mut watchers, &graph, a)?;
     assert!(rt; third.as_slice() == [told(v, true)].as_slice());
-    Ok(())
-}
-
-#[test]
-fn what_is_gone_is_refused(rt: HostRuntime) -> Result<(), Fail> {
-    let alloc = rt.alloc();
-    let mut graph = Graph::new(alloc)?;
-    let a = graph.add_cell(Value::Int(1), None)?;
-    let mut watchers = Watchers::new(alloc)?;
-    let w = watchers.add(false)?;
-    watchers.watch(w, &[a])?;
-    assert!(rt; watchers.is_alive(w) && watchers.watches(w, a));
-    assert!(rt; watchers.unwatch(w, a) == Ok(()));
-    assert!(rt; watchers.is_alive(w) && !watchers.watches(w, a));
-    assert!(rt; watchers.unwatch(w, a) == Err(WatchFault::NotWatched));
-    watchers.watch(w, &[a])?;
-    watchers.forget(a);
-    assert!(rt; watchers.unwatch(w, a) == Err(WatchFault::NotWatched));
-    assert!(rt; watchers.remove(w) == Ok(()));
-    assert!(rt; watchers.remove(w) == Err(WatchFault::Gone));
-    assert!(rt; watchers.watch(w, &[a]) == Err(WatchFault::Gone));
-    assert!(rt; watchers.live() == 0);
     Ok(())
 }
 
