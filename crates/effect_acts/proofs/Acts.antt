@@ -166,7 +166,7 @@ noted_takes : (t : Tables) (later : List Row) (e n : ℕ) (c : owning.Cleanup) �
 noted_takes t later e n c h f is ends =
     taken t (record t { store = later }) later [] [] (put_under (owning.the_effect e) (owning.cleanup c owning.nothing) (owned_of t.store)) h
     (subst (λ (s : owning.Thing). EndsIn t.store later [] (put_under s (owning.cleanup c owning.nothing) (owned_of t.store))) is ends)
-    (record { store = refl; things = refl; owners = refl; effects = refl; pages = refl; named = h.named; effects_made = refl; pages_made = refl }) refl
+    (record { store = refl; things = refl; owners = refl; effects = refl; pages = refl; effects_made = refl; pages_made = refl }) refl
     (put_under (owning.the_effect e) (owning.cleanup c owning.nothing) (tree_of t))
     (renamed_put (numbering t) (number_apart (rows_in t.owners.items)) (owning.the_effect e) (owning.cleanup c owning.nothing) (owned_of t.store))
     (record { formed = formed_put (owning.the_owner 0) (owning.the_effect e) (owning.cleanup c owning.nothing) (tree_of t) refl (tt, tt) f.formed })

@@ -2,7 +2,7 @@
 use Rattle.std.proofs.Common.{◌≡◌, ℕ, ◌<◌, ◌≤◌, ◌||◌, true, false, cond, List, map, length, Option, Some, None, refl, sym, ap, subst, ◌∙◌}
 use Rattle.std.specs.List.{AllByRecursion}
 use Rattle.effect_model.specs.Owning.{Thing, the_owner, the_effect, the_page, Owned, nothing, thing, alone, made_inside, put_under, same_thing}
-use Rattle.sig_owner.specs.Tables.{Row, changed_at, is_holder, leaf, live_at, thing_at, with_item}
+use Rattle.sig_owner.specs.Tables.{Row, changed_at, is_holder, is_owner, leaf, live_at, thing_at, with_item}
 use Rattle.sig_owner.specs.Renaming.{renamed, renamed_thing}
 use Rattle.sig_owner.specs.Trees.{has_thing, owned_of}
 use Rattle.sig_owner.proofs.Shared.{has_put, item_length, item_lives, item_thing, renamed_put}
@@ -58,6 +58,7 @@ module _ (rows later : List Row) (outer : Option ℕ) (t : Thing) (a : Adopts ro
   adopted_alive es xs h = record {
     owners = all_weaker (λ (e : OwnerEntry). e.live ≡ true → IsOwner rows e) (λ (e : OwnerEntry). e.live ≡ true → IsOwner later e) es
         (λ e f live. record { lives = a.lives e.row ∙ (f live).lives; thing = a.things e.row ∙ (f live).thing }) h.owners;
+    listed = λ k live owner. h.listed k (sym (a.lives k) ∙ live) (ap is_owner (sym (a.things k)) ∙ owner);
     effects = all_weaker (IsEffect rows) (IsEffect later) xs (λ x f. record { lives = a.lives x.row ∙ f.lives; thing = a.things x.row ∙ f.thing }) h.effects;
   }
 

@@ -12,12 +12,18 @@ use Rattle.sig_owner.specs.Tables.{Row, live_at, thing_at}
 use Rattle.effect_tables.specs.declared.effect.Effect.{Effect}
 use Rattle.effect_tables.specs.declared.tables.Tables.{Tables}
 use Rattle.effect_tables.specs.Fitting.{IsFitted, IsFitting}
-use Rattle.effect_tables.specs.Holding.{Holds, IsEffect}
-use Rattle.effect_tables.specs.Keeping.{AreKept, AreKeptTo, IsKept, with_kept, with_reads}
-use Rattle.effect_tables.specs.Looking.{is_named, named_count}
+use Rattle.effect_tables.specs.Holding.{AreRising, Holds, IsEffect}
+use Rattle.effect_tables.specs.Keeping.{AreKept, IsKept, with_kept, with_reads}
 use Rattle.effect_tables.specs.Placed.{effect_of, placed}
 
 -- ---- one after the other
+
+-- so many of them have kept these reads, and the others are as before
+abbrev pub AreKeptTo : ℕ → List Seen → List Effect → List Effect → ℕ → Type 0
+AreKeptTo e ss [] [] n = Unit {0}
+AreKeptTo e ss (x ∷ xs) (y ∷ ys) zero = (y ≡ x) × AreKeptTo e ss xs ys zero
+AreKeptTo e ss (x ∷ xs) (y ∷ ys) (suc n) = IsKept e ss x y × AreKeptTo e ss xs ys n
+AreKeptTo _ _ _ _ _ = ⊥
 
 pub kept_none : (e : ℕ) (ss : List Seen) (xs : List Effect) → AreKeptTo e ss xs xs zero
 kept_none e ss [] = tt
@@ -48,18 +54,25 @@ kept_effects e ss [] (y ∷ ys) h = absurd h
 kept_effects e ss (x ∷ xs) [] h = absurd h
 kept_effects e ss (x ∷ xs) (y ∷ ys) h = λ i. h.0.seen i ∷ kept_effects e ss xs ys h.1 i
 
-kept_named : (e : ℕ) (ss : List Seen) (xs ys : List Effect) → AreKept e ss xs ys → named_count ys ≡ named_count xs
-kept_named e ss [] [] h = refl
-kept_named e ss [] (y ∷ ys) h = absurd h
-kept_named e ss (x ∷ xs) [] h = absurd h
-kept_named e ss (x ∷ xs) (y ∷ ys) h = λ i. cond (is_named (h.0.path i).items) 1 0 + kept_named e ss xs ys h.1 i
-
 kept_alive : (e : ℕ) (ss : List Seen) (rows : List Row) (xs ys : List Effect) → AreKept e ss xs ys → AllByRecursion (IsEffect rows) xs → AllByRecursion (IsEffect rows) ys
 kept_alive e ss rows [] [] h a = tt
 kept_alive e ss rows [] (y ∷ ys) h a = absurd h
 kept_alive e ss rows (x ∷ xs) [] h a = absurd h
 kept_alive e ss rows (x ∷ xs) (y ∷ ys) h a =
     (record { lives = ap (live_at rows) h.0.row ∙ a.0.lives; thing = ap (thing_at rows) h.0.row ∙ a.0.thing ∙ ap the_effect (sym h.0.id) }, kept_alive e ss rows xs ys h.1 a.1)
+
+kept_rising : (e : ℕ) (ss : List Seen) (n : ℕ) (xs ys : List Effect) → AreKept e ss xs ys → AreRising n xs → AreRising n ys
+kept_rising e ss n [] [] h a = tt
+kept_rising e ss n [] (y ∷ ys) h a = absurd h
+kept_rising e ss n (x ∷ xs) [] h a = absurd h
+kept_rising e ss n (x ∷ xs) (y ∷ ys) h a =
+    (subst (λ k. n ≤ k) (sym h.0.id) a.0, kept_rising e ss (suc y.id) xs ys h.1 (subst (λ k. AreRising (suc k) xs) (sym h.0.id) a.1))
+
+kept_below : (e : ℕ) (ss : List Seen) (n : ℕ) (xs ys : List Effect) → AreKept e ss xs ys → AllByRecursion (λ (x : Effect). x.id < n) xs → AllByRecursion (λ (x : Effect). x.id < n) ys
+kept_below e ss n [] [] h a = tt
+kept_below e ss n [] (y ∷ ys) h a = absurd h
+kept_below e ss n (x ∷ xs) [] h a = absurd h
+kept_below e ss n (x ∷ xs) (y ∷ ys) h a = (subst (λ k. k < n) (sym h.0.id) a.0, kept_below e ss n xs ys h.1 a.1)
 
 kept_fitting : (e : ℕ) (ss : List Seen) (xs ys : List Effect) → AreKept e ss xs ys → AllByRecursion IsFitted xs → AllByRecursion IsFitted ys
 kept_fitting e ss [] [] h a = tt
@@ -71,9 +84,9 @@ module _ (e : ℕ) (ss : List Seen) (t u : Tables) (same : u ≡ record t { effe
   pub kept_holds : Holds t → Holds u
   kept_holds h = subst Holds (sym same) (record {
     numbered = h.numbered;
-    alive = record { owners = h.alive.owners; effects = kept_alive e ss t.store t.effects.items u.effects.items k h.alive.effects };
+    alive = record { owners = h.alive.owners; listed = h.alive.listed; effects = kept_alive e ss t.store t.effects.items u.effects.items k h.alive.effects };
     fresh = h.fresh;
-    named = h.named ∙ sym (kept_named e ss t.effects.items u.effects.items k);
+    ordered = record { rising = kept_rising e ss 0 t.effects.items u.effects.items k h.ordered.rising; below = kept_below e ss t.effects_made t.effects.items u.effects.items k h.ordered.below };
     fitting = kept_fitting e ss t.effects.items u.effects.items k h.fitting;
   })
 

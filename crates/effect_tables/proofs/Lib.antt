@@ -5,6 +5,7 @@ mod Adopted
 mod Tabled
 mod Starting
 mod Counting
+mod Ordered
 mod Kept
 mod Resting
 pub mod Shared

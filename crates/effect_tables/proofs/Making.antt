@@ -8,17 +8,18 @@ use Rattle.std.proofs.lemmas.List.{map-append}
 use Rattle.signal_model.specs.Standing.{is_in}
 use Rattle.signal_model.proofs.Shared.{either, or_left, or_right, tested}
 use Rattle.effect_model.specs.Owning.{Thing, the_owner, the_effect, the_page, Owned, thing, alone, made_inside, put_under, same_thing}
-use Rattle.sig_owner.specs.Tables.{Row, is_open, live_at, thing_at, with_holder}
+use Rattle.sig_owner.specs.Tables.{Row, is_open, is_owner, live_at, thing_at, with_holder}
 use Rattle.sig_owner.specs.Renaming.{renamed, renamed_thing}
 use Rattle.sig_owner.specs.Trees.{has_thing, made_in, owned_of}
 use Rattle.sig_owner.proofs.Shared.{has_put, new_lives, new_thing, other_lives, other_thing, renamed_put}
 use Rattle.effect_tables.specs.declared.effect.Effect.{Effect}
 use Rattle.effect_tables.specs.declared.tables.OwnerEntry.{OwnerEntry}
-use Rattle.effect_tables.specs.Holding.{AreAlive, AreFresh, AreNumbered, IsEffect, IsKnown, IsOwner, names_of}
+use Rattle.effect_tables.specs.Holding.{AreAlive, AreFresh, AreListed, AreNumbered, IsEffect, IsKnown, IsOwner, names_of}
 use Rattle.effect_tables.specs.Adopting.{MakesEffect, MakesOwner}
 use Rattle.effect_tables.specs.Looking.{IsInside}
-use Rattle.effect_tables.specs.Numbering.{living, number_in, rows_in}
-use Rattle.effect_tables.proofs.Numbers.{apart_more, in_below, left_off, living_more, not_below, number_apart, number_at, number_more, number_new, right_off}
+use Rattle.effect_tables.specs.Numbering.{is_live, living, number_in, rows_in}
+use Rattle.effect_tables.proofs.Counting.{listed_row, live_before, live_last}
+use Rattle.effect_tables.proofs.Numbers.{apart_more, in_below, left_off, living_more, not_below, number_apart, number_at, number_more, number_new, off_on, right_off}
 use Rattle.effect_tables.proofs.Rows.{all_behind, all_weaker, length_holder, live_below, names_by, names_holder, renamed_by, unless_known}
 
 -- ---- where a thing is made
@@ -171,6 +172,16 @@ module _ (es : List OwnerEntry) (xs : List Effect) (things : List Thing) (rows l
   pub owner_numbered : AreNumbered (rows_in (es ++ entry ∷ [])) (things ++ the_owner (length es) ∷ []) later
   owner_numbered = subst (λ ms. AreNumbered ms (things ++ the_owner (length es) ∷ []) later) (sym rows_more) numbered_now
 
+  listed_now : (k : ℕ) → live_at (with_holder rows outer (the_owner n)) k ≡ true → is_owner (thing_at (with_holder rows outer (the_owner n)) k) ≡ true →
+      is_live (slice_get (es ++ entry ∷ []) (number_in (owners ++ n ∷ []) k)) ≡ true
+  listed_now k live owner = elim (tested (k == n)) [
+    | inl e ↦ ap (λ j. is_live (slice_get (es ++ entry ∷ []) (number_in (owners ++ n ∷ []) j))) (eqb-true k n e) ∙ ap (λ j. is_live (slice_get (es ++ entry ∷ []) j)) its_number ∙ live_last es entry
+    | inr e ↦ (let off : k ≡ length rows → ⊥ = λ q. off_on (k == n) e (eq-eqb k n (q ∙ sym m.gives)) in
+        let old : is_live (slice_get es (number_in owners k)) ≡ true =
+        a.listed k (sym (other_lives rows outer (the_owner n) k off) ∙ live) (ap is_owner (sym (other_thing rows outer (the_owner n) k off)) ∙ owner) in
+        ap (λ j. is_live (slice_get (es ++ entry ∷ []) j)) (number_more owners n k (listed_row es k old)) ∙ live_before es entry (number_in owners k) old)
+  ]
+
   pub owner_alive : AreAlive (es ++ entry ∷ []) xs later
   owner_alive = subst (AreAlive (es ++ entry ∷ []) xs) (sym m.after) (record {
     owners = all_behind (λ (e : OwnerEntry). e.live ≡ true → IsOwner (with_holder rows outer (the_owner n)) e) es entry
@@ -180,6 +191,8 @@ module _ (es : List OwnerEntry) (xs : List Effect) (things : List Thing) (rows l
           lives = ap (live_at (with_holder rows outer (the_owner n))) m.gives ∙ new_lives rows outer (the_owner n);
           thing = ap (thing_at (with_holder rows outer (the_owner n))) m.gives ∙ new_thing rows outer (the_owner n);
         });
+    listed = subst (λ ms. (k : ℕ) → live_at (with_holder rows outer (the_owner n)) k ≡ true → is_owner (thing_at (with_holder rows outer (the_owner n)) k) ≡ true →
+        is_live (slice_get (es ++ entry ∷ []) (number_in ms k)) ≡ true) (sym rows_more) listed_now;
     effects = all_weaker (IsEffect rows) (IsEffect (with_holder rows outer (the_owner n))) xs (effect_still rows outer (the_owner n)) a.effects;
   })
 
@@ -228,10 +241,18 @@ module _ (es : List OwnerEntry) (xs : List Effect) (things : List Thing) (rows l
       count : length later ≡ suc (length rows)
       count = ap length m.after ∙ length_holder rows outer (the_effect x.id)
 
+  listed_still : AreListed es (with_holder rows outer (the_effect x.id))
+  listed_still k live owner = elim (tested (k == length rows)) [
+    | inl e ↦ absurd (off_on false refl (sym (ap is_owner (ap (thing_at (with_holder rows outer (the_effect x.id))) (eqb-true k (length rows) e) ∙ new_thing rows outer (the_effect x.id))) ∙ owner))
+    | inr e ↦ (let off : k ≡ length rows → ⊥ = λ q. off_on (k == length rows) e (eq-eqb k (length rows) q) in
+        a.listed k (sym (other_lives rows outer (the_effect x.id) k off) ∙ live) (ap is_owner (sym (other_thing rows outer (the_effect x.id) k off)) ∙ owner))
+  ]
+
   pub effect_alive : AreAlive es (xs ++ x ∷ []) later
   effect_alive = subst (AreAlive es (xs ++ x ∷ [])) (sym m.after) (record {
     owners = all_weaker (λ (e : OwnerEntry). e.live ≡ true → IsOwner rows e) (λ (e : OwnerEntry). e.live ≡ true → IsOwner (with_holder rows outer (the_effect x.id)) e) es
         (λ e f live. owner_still rows outer (the_effect x.id) e (f live)) a.owners;
+    listed = listed_still;
     effects = all_behind (IsEffect (with_holder rows outer (the_effect x.id))) xs x
         (all_weaker (IsEffect rows) (IsEffect (with_holder rows outer (the_effect x.id))) xs (effect_still rows outer (the_effect x.id)) a.effects)
         (record {

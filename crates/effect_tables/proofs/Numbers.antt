@@ -70,7 +70,7 @@ pub right_off : (a b : Bool) → (a || b) ≡ false → b ≡ false
 right_off true b e = cc
 right_off false b e = e
 
-off_on : (b : Bool) → b ≡ false → b ≡ true → ⊥
+pub off_on : (b : Bool) → b ≡ false → b ≡ true → ⊥
 off_on true p q = cc
 off_on false p q = cc
 

@@ -6,3 +6,5 @@ pub use Rattle.effect_tables.proofs.Resting.{listed_tree, placed_rests}
 pub use Rattle.effect_tables.proofs.Numbers.{in_below, left_off, lives_at, living_below, number_apart, number_at, right_off, swapped}
 -- facts of all
 pub use Rattle.effect_tables.proofs.Rows.{all_weaker, length_names}
+-- owners that live
+pub use Rattle.effect_tables.proofs.Counting.{listed_row}

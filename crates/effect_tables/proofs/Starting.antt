@@ -7,9 +7,8 @@ use Rattle.sig_owner.specs.Renaming.{renamed}
 use Rattle.sig_owner.specs.Trees.{has_thing, owned_of}
 use Rattle.effect_tables.specs.declared.tables.Tables.{Tables}
 use Rattle.effect_tables.specs.Fitting.{IsFitted}
-use Rattle.effect_tables.specs.Holding.{AreAlive, AreFresh, AreNumbered, Holds}
+use Rattle.effect_tables.specs.Holding.{AreAlive, AreFresh, AreNumbered, AreOrdered, Holds}
 use Rattle.effect_tables.specs.Linking.{thing_of}
-use Rattle.effect_tables.specs.Looking.{named_count}
 use Rattle.effect_tables.specs.Numbering.{living, number_in, rows_in}
 use Rattle.effect_tables.specs.Placed.{effect_of, placed, untouched}
 
@@ -21,7 +20,6 @@ pub record AreBare (t : Tables) : Type 0 where
   pub owners : t.owners.items ≡ []
   pub effects : t.effects.items ≡ []
   pub pages : t.pages.items ≡ []
-  pub named : t.named ≡ 0
   pub effects_made : t.effects_made ≡ 0
   pub pages_made : t.pages_made ≡ 0
 
@@ -40,8 +38,8 @@ bare_holds t b =
     record {
       numbered = subst (λ x. x) (λ i. AreNumbered (rows_in (sym b.owners i)) (map thing_of (sym b.things i)) (sym b.store i))
           (record { named = refl; known = tt; apart = tt; below = tt; own = λ m q. cc; stand = λ m off. ap (has_thing (the_owner m)) tree });
-      alive = subst (λ x. x) (λ i. AreAlive (sym b.owners i) (sym b.effects i) (sym b.store i)) (record { owners = tt; effects = tt });
+      alive = subst (λ x. x) (λ i. AreAlive (sym b.owners i) (sym b.effects i) (sym b.store i)) (record { owners = tt; listed = λ k lives. cc; effects = tt });
       fresh = record { effects = λ n l. ap (has_thing (the_effect n)) b.tree; pages = λ n l. ap (has_thing (the_page n)) b.tree };
-      named = b.named ∙ sym (ap named_count b.effects);
+      ordered = subst (AreOrdered t.effects_made) (sym b.effects) (record { rising = tt; below = tt });
       fitting = subst (AllByRecursion IsFitted) (sym b.effects) tt;
     }

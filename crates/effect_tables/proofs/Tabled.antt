@@ -19,15 +19,15 @@ use Rattle.effect_tables.specs.declared.tables.Tables.{Tables}
 use Rattle.effect_tables.specs.declared.thing.Thing.TheVariants as a
 use Rattle.effect_tables.specs.Adopting.{Adopts, MakesEffect, MakesOwner, adopted, with_child}
 use Rattle.effect_tables.specs.Fitting.{IsFitted}
-use Rattle.effect_tables.specs.Holding.{AreAlive, AreFresh, AreNumbered, Holds, LeavesOut}
+use Rattle.effect_tables.specs.Holding.{AreAlive, AreFresh, AreNumbered, AreOrdered, Holds, LeavesOut}
 use Rattle.effect_tables.specs.Linking.{body_of, thing_of}
-use Rattle.effect_tables.specs.Looking.{IsInside, named_count}
+use Rattle.effect_tables.specs.Looking.{IsInside}
 use Rattle.effect_tables.specs.Numbering.{living, number_in, rows_in}
 use Rattle.effect_tables.specs.Placed.{at_rest, effect_of, listed, placed, tree_of}
 use Rattle.effect_tables.proofs.Adopted.{adopted_alive, adopted_fresh, adopted_numbered, adopted_tree, has_in}
-use Rattle.effect_tables.proofs.Counting.{named_more}
 use Rattle.effect_tables.proofs.Making.{child_tree, effect_alive, effect_fresh, effect_numbered, effect_tree, has_made, inside_stands, owner_alive, owner_fresh, owner_living, owner_numbered, owner_tree}
 use Rattle.effect_tables.proofs.Numbers.{number_apart}
+use Rattle.effect_tables.proofs.Ordered.{ordered_more}
 use Rattle.effect_tables.proofs.Rows.{all_behind}
 
 one_more : {A : Type 0} (xs : List A) (x : A) → length (xs ++ x ∷ []) ≡ length xs + 1
@@ -44,7 +44,6 @@ pub record HasOwner (t u : Tables) (outer : Option ℕ) (n k : ℕ) : Type 0 whe
   pub owners : u.owners.items ≡ t.owners.items ++ record { row = n; live = true } ∷ []
   pub effects : u.effects ≡ t.effects
   pub pages : u.pages ≡ t.pages
-  pub named : u.named ≡ t.named
   pub effects_made : u.effects_made ≡ t.effects_made
   pub pages_made : u.pages_made ≡ t.pages_made
 
@@ -72,7 +71,7 @@ owner_holds t u inside outer n k m i h =
           (owner_alive t.owners.items t.effects.items (map thing_of t.things.items) t.store u.store inside outer n m.made h.numbered h.alive i);
       fresh = subst (λ x. x) (λ j. AreFresh (sym m.effects_made j) (sym m.pages_made j) u.store)
           (owner_fresh t.owners.items t.effects.items (map thing_of t.things.items) t.store u.store inside outer n m.made h.numbered h.alive i t.effects_made t.pages_made h.fresh);
-      named = m.named ∙ h.named ∙ sym (λ j. named_count (m.effects j).items);
+      ordered = subst (λ x. x) (λ j. AreOrdered (sym m.effects_made j) (sym m.effects j).items) h.ordered;
       fitting = subst (λ x. x) (λ j. AllByRecursion IsFitted (sym m.effects j).items) h.fitting;
     }
 
@@ -89,7 +88,6 @@ pub record HasEffect (t u : Tables) (outer : Option ℕ) (x : Effect) : Type 0 w
   pub effects : u.effects.items ≡ t.effects.items ++ x ∷ []
   pub owners : u.owners ≡ t.owners
   pub pages : u.pages ≡ t.pages
-  pub named : u.named ≡ t.named + named_count (x ∷ [])
   pub fits : IsFitted x
   pub effects_made : u.effects_made ≡ t.effects_made + 1
   pub pages_made : u.pages_made ≡ t.pages_made
@@ -107,7 +105,7 @@ effect_holds t u outer x m h =
       fresh = subst (λ x. x) (λ j. AreFresh (next j) (sym m.pages_made j) u.store)
           (effect_fresh es t.effects.items (map thing_of t.things.items) t.store u.store outer x m.made h.numbered h.alive t.pages_made
           (subst (λ k. AreFresh k t.pages_made t.store) (sym m.number) h.fresh));
-      named = m.named ∙ ap (λ k. k + named_count (x ∷ [])) h.named ∙ sym (ap named_count m.effects ∙ named_more t.effects.items x);
+      ordered = subst (λ x. x) (λ j. AreOrdered (sym m.effects_made j) (sym m.effects j)) (ordered_more t.effects_made t.effects.items x m.number h.ordered);
       fitting = subst (AllByRecursion IsFitted) (sym m.effects) (all_behind IsFitted t.effects.items x h.fitting m.fits);
     }
 
@@ -156,7 +154,6 @@ pub record HasPage (t u : Tables) (outer : Option ℕ) (n : ℕ) : Type 0 where
   pub things : u.things ≡ t.things
   pub owners : u.owners ≡ t.owners
   pub effects : u.effects ≡ t.effects
-  pub named : u.named ≡ t.named
   pub effects_made : u.effects_made ≡ t.effects_made
   pub pages_made : u.pages_made ≡ t.pages_made + 1
 
@@ -168,7 +165,7 @@ page_holds t u outer n m h = record {
       (adopted_alive t.store u.store outer (the_page n) m.adopts t.owners.items t.effects.items h.alive);
   fresh = subst (λ x. x) (λ j. AreFresh (sym m.effects_made j) (sym m.pages_made j) u.store)
       (adopted_fresh t.store u.store outer (the_page n) m.adopts t.effects_made t.pages_made (t.pages_made + 1) (λ k. refl) (λ k l. beyond k l) h.fresh);
-  named = m.named ∙ h.named ∙ sym (λ j. named_count (m.effects j).items);
+  ordered = subst (λ x. x) (λ j. AreOrdered (sym m.effects_made j) (sym m.effects j).items) h.ordered;
   fitting = subst (λ x. x) (λ j. AllByRecursion IsFitted (sym m.effects j).items) h.fitting;
 }
   where
@@ -202,7 +199,7 @@ module _ (t u : Tables) (outer : Option ℕ) (n : ℕ) (m : Adopts t.store u.sto
     numbered = adopted_numbered t.store u.store outer (the_signal n) m (rows_in t.owners.items) (map thing_of t.things.items) (λ k. refl) h.numbered;
     alive = adopted_alive t.store u.store outer (the_signal n) m t.owners.items t.effects.items h.alive;
     fresh = adopted_fresh t.store u.store outer (the_signal n) m t.effects_made t.pages_made t.pages_made (λ k. refl) (λ k l. (l, refl)) h.fresh;
-    named = h.named;
+    ordered = h.ordered;
     fitting = h.fitting;
   })
 

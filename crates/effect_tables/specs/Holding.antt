@@ -1,9 +1,9 @@
 -- What holds of the tables between calls.
-use Rattle.std.specs.Prelude.{◌≡◌, ℕ, ◌<◌, ◌≤◌, true, false, List, [], ◌∷◌, map, length, Option, Some}
+use Rattle.std.specs.Prelude.{◌≡◌, ℕ, suc, ◌<◌, ◌≤◌, true, false, List, [], ◌∷◌, map, length, slice_get, Option, Some}
 use Rattle.std.specs.List.{AllByRecursion}
 use Rattle.signal_model.specs.Standing.{is_in}
 use Rattle.effect_model.specs.Owning.{Thing, the_signal, the_owner, the_effect, the_page}
-use Rattle.sig_owner.specs.Tables.{Row, live_at, thing_at}
+use Rattle.sig_owner.specs.Tables.{Row, is_owner, live_at, thing_at}
 use Rattle.sig_owner.specs.Trees.{has_thing, owned_of}
 use Rattle.sig_owner.specs.Renaming.{renamed_thing}
 use Rattle.effect_tables.specs.declared.effect.Effect.{Effect}
@@ -11,8 +11,7 @@ use Rattle.effect_tables.specs.declared.tables.OwnerEntry.{OwnerEntry}
 use Rattle.effect_tables.specs.declared.tables.Tables.{Tables}
 use Rattle.effect_tables.specs.Fitting.{IsFitted}
 use Rattle.effect_tables.specs.Linking.{thing_of}
-use Rattle.effect_tables.specs.Looking.{named_count}
-use Rattle.effect_tables.specs.Numbering.{number_in, rows_in}
+use Rattle.effect_tables.specs.Numbering.{is_live, number_in, rows_in}
 
 -- the things of the rows
 abbrev pub names_of : List Row → List Thing
@@ -49,10 +48,25 @@ pub record AreNumbered (owners : List ℕ) (things : List Thing) (rows : List Ro
   pub own : (m : ℕ) → is_in m owners ≡ true → thing_at rows m ≡ the_owner m
   pub stand : (m : ℕ) → is_in m owners ≡ false → has_thing (the_owner m) (owned_of rows) ≡ false
 
--- what lives by the tables lives in the store
+-- an owner that lives in the store lives by the tables
+abbrev pub AreListed : List OwnerEntry → List Row → Type 0
+AreListed es rows = (k : ℕ) → live_at rows k ≡ true → is_owner (thing_at rows k) ≡ true → is_live (slice_get es (number_in (rows_in es) k)) ≡ true
+
+-- what lives by the tables lives in the store, and of owners those alone
 pub record AreAlive (es : List OwnerEntry) (xs : List Effect) (rows : List Row) : Type 0 where
   pub owners : AllByRecursion (λ (e : OwnerEntry). e.live ≡ true → IsOwner rows e) es
+  pub listed : AreListed es rows
   pub effects : AllByRecursion (IsEffect rows) xs
+
+-- the numbers of effects rise, from one on
+abbrev pub AreRising : ℕ → List Effect → Type 0
+AreRising n [] = Unit {0}
+AreRising n (x ∷ xs) = (n ≤ x.id) × AreRising (suc x.id) xs
+
+-- effects stand in the order of making, each with a number that was given
+pub record AreOrdered (made : ℕ) (xs : List Effect) : Type 0 where
+  pub rising : AreRising 0 xs
+  pub below : AllByRecursion (λ (x : Effect). x.id < made) xs
 
 -- the numbers that come next stand nowhere
 pub record AreFresh (effect page : ℕ) (rows : List Row) : Type 0 where
@@ -64,7 +78,7 @@ pub record Holds (t : Tables) : Type 0 where
   pub numbered : AreNumbered (rows_in t.owners.items) (map thing_of t.things.items) t.store
   pub alive : AreAlive t.owners.items t.effects.items t.store
   pub fresh : AreFresh t.effects_made t.pages_made t.store
-  pub named : t.named ≡ named_count t.effects.items
+  pub ordered : AreOrdered t.effects_made t.effects.items
   pub fitting : AllByRecursion IsFitted t.effects.items
 
 -- Of signals this one alone, if any, may stand somewhere where it stood nowhere before.

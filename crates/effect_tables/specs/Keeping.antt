@@ -1,5 +1,5 @@
 -- What effects keep of their runs.
-use Rattle.std.specs.Prelude.{◌≡◌, ℕ, zero, suc, ◌==◌, List, [], ◌∷◌, Some, if◌then◌else◌}
+use Rattle.std.specs.Prelude.{◌≡◌, ℕ, ◌==◌, List, [], ◌∷◌, Some, if◌then◌else◌}
 use Rattle.signal_model.specs.Standing.{changed}
 use Rattle.signal_model.specs.Values.{Seen}
 use Rattle.effect_model.specs.Worlds as plain
@@ -28,10 +28,3 @@ abbrev pub AreKept : ℕ → List Seen → List Effect → List Effect → Type 
 AreKept e ss [] [] = Unit {0}
 AreKept e ss (x ∷ xs) (y ∷ ys) = IsKept e ss x y × AreKept e ss xs ys
 AreKept _ _ _ _ = ⊥
-
--- so it is with so many of them, and the others are as before
-abbrev pub AreKeptTo : ℕ → List Seen → List Effect → List Effect → ℕ → Type 0
-AreKeptTo e ss [] [] n = Unit {0}
-AreKeptTo e ss (x ∷ xs) (y ∷ ys) zero = (y ≡ x) × AreKeptTo e ss xs ys zero
-AreKeptTo e ss (x ∷ xs) (y ∷ ys) (suc n) = IsKept e ss x y × AreKeptTo e ss xs ys n
-AreKeptTo _ _ _ _ _ = ⊥

@@ -1,8 +1,7 @@
 // Effects that live.
-ghost use Rattle.std.specs.Prelude.{◌≡◌, ◌++◌, ◌∷◌, [], None, true, false, IfOk};
+ghost use Rattle.std.specs.Prelude.{◌≡◌, ◌++◌, ◌∷◌, [], None, IfOk};
 ghost use Rattle.std.specs.Rc.{rc_value};
 ghost use Rattle.effect_tables.specs.Linking.{body_of};
-ghost use Rattle.effect_tables.specs.Looking.{is_named};
 ghost use Rattle.effect_tables.specs.Placed.{effect_of};
 
 use crate::links::Links;
@@ -107,7 +106,6 @@ impl Effect {
     ) -> Result<Effect, NoMemory>
         ensures seen { IfOk result (λ x. effect_of x
             ≡ record { number = id; body = body_of site.now.origin (rc_value site.now.script) (site.now.path.items ++ place ∷ []); kept = None }) }
-        ensures deep { IfOk result (λ x. is_named x.path.items ≡ false) }
         ensures number { IfOk result (λ x. x.id ≡ id) }
         ensures place { IfOk result (λ x. x.row ≡ row) }
         ensures script { IfOk result (λ x. rc_value x.script ≡ rc_value site.now.script) }
@@ -132,7 +130,6 @@ impl Effect {
         script: Script,
     ) -> Result<Effect, NoMemory>
         ensures seen { IfOk result (λ x. effect_of x ≡ record { number = id; body = body_of id script []; kept = None }) }
-        ensures alone { IfOk result (λ x. is_named x.path.items ≡ true) }
         ensures number { IfOk result (λ x. x.id ≡ id) }
         ensures place { IfOk result (λ x. x.row ≡ row) }
         ensures script { IfOk result (λ x. rc_value x.script ≡ script) }

@@ -9,19 +9,17 @@ ghost use Rattle.sig_owner.specs.Tables.{live_at};
 ghost use Rattle.sig_owner.specs.Trees.{has_thing, owned_of};
 ghost use Rattle.sig_owner.specs.declared.errors.OwnFault.TheVariants as fault;
 ghost use Rattle.sig_owner.specs.declared.limits.TheConstants.{MOST_OWNERS};
-ghost use Rattle.effect_tables.specs.declared.tables.TheConstants.{MOST_EFFECTS};
 ghost use Rattle.effect_tables.specs.Adopting.{adopted, with_child, Adopts, IsRowOf, MakesEffect, MakesOwner};
 ghost use Rattle.effect_tables.specs.Fitting.{IsFitting};
 ghost use Rattle.effect_tables.specs.Holding.{Holds, LeavesOut};
 ghost use Rattle.effect_tables.specs.Linking.{body_of};
-ghost use Rattle.effect_tables.specs.Looking.{named_count};
 ghost use Rattle.effect_model.specs.Owning.{the_effect, the_signal};
 ghost use Rattle.effect_tables.specs.Numbering.{living};
 ghost use Rattle.effect_tables.specs.Placed.{at_rest, is_open, placed};
 
 use crate::effect::{Effect, Script, Site};
 use crate::looks::{is_open, row_inside};
-use crate::tables::{MOST_EFFECTS, OwnerEntry, Tables};
+use crate::tables::{OwnerEntry, Tables};
 use crate::thing::Thing;
 use sig_base::{EffectId, MOST_PAGES, NoMemory, NodeId, OwnerId, PageId};
 use sig_owner::{OwnFault, Owners, Thing as Stored};
@@ -108,9 +106,9 @@ impl Tables {
         ensures signals { OnOk result (LeavesOut None self.old.store self.new.store) }
         ensures open { OnOk result (is_open (living 0 self.old.owners.items) inside ≡ true) }
         ensures gone { IsErrOf result fault.Gone → is_open (living 0 self.old.owners.items) inside ≡ false }
-        ensures room { OnOk result (rows.owner_count self.old.store < MOST_OWNERS) }
+        ensures room { OnOk result (length (living 0 self.old.owners.items) < MOST_OWNERS) }
         ensures limit { IsErrOf result fault.Limit →
-            (is_open (living 0 self.old.owners.items) inside ≡ true) × (MOST_OWNERS ≤ rows.owner_count self.old.store) }
+            (is_open (living 0 self.old.owners.items) inside ≡ true) × (MOST_OWNERS ≤ length (living 0 self.old.owners.items)) }
         ensures err { IfErr result (λ e. (e ≡ fault.NoMemory) ⊎ (self.new ≡ self.old)) }
     {
         let outer = row_inside(&self.owners, inside)?;
@@ -126,8 +124,7 @@ impl Tables {
     ///
     /// # Errors
     ///
-    /// `Gone` where the owner is gone, and else `Limit` where as many named effects live as may be; then all is as before. After
-    /// `NoMemory` the tables may only be dropped.
+    /// `Gone` where the owner is gone; then all is as before. After `NoMemory` the tables may only be dropped.
     pub fn make_effect(
         &mut self,
         alloc: Global,
@@ -144,21 +141,15 @@ impl Tables {
         ensures signals { OnOk result (LeavesOut None self.old.store self.new.store) }
         ensures open { OnOk result (is_open (living 0 self.old.owners.items) inside ≡ true) }
         ensures gone { IsErrOf result fault.Gone → is_open (living 0 self.old.owners.items) inside ≡ false }
-        ensures room { OnOk result (named_count self.old.effects.items < MOST_EFFECTS) }
-        ensures limit { IsErrOf result fault.Limit →
-            (is_open (living 0 self.old.owners.items) inside ≡ true) × (MOST_EFFECTS ≤ named_count self.old.effects.items) }
+        ensures limit { IsErrOf result fault.Limit → ⊥ }
         ensures err { IfErr result (λ e. (e ≡ fault.NoMemory) ⊎ (self.new ≡ self.old)) }
     {
         let outer = row_inside(&self.owners, inside)?;
-        if self.named >= MOST_EFFECTS {
-            return Err(OwnFault::Limit);
-        }
         let id = EffectId::of(self.effects_made);
         let row = make_for_in(&mut self.store, id, outer)?;
         let effect = Effect::named(alloc, id, row, script)?;
         self.things.push(Thing::Effect(id))?;
         self.effects.push(effect)?;
-        self.named += 1;
         self.effects_made += 1;
         Ok(id)
     }

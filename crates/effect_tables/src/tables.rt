@@ -12,7 +12,7 @@ use sig_base::{NoMemory, OwnerId, PageId};
 use sig_owner::Owners;
 use std::alloc::Global;
 
-/// The most named effects that live at once.
+/// The most effects that a command made and that live at once. The tables themselves take any number: whoever makes effects keeps to it.
 pub const MOST_EFFECTS: usize = 1_024;
 
 /// An owner: the row of the store that has what stands under it, and whether it lives.
@@ -23,8 +23,7 @@ pub struct OwnerEntry {
 }
 
 /// Owners, effects and pages. The store has what stands under what, by rows of its own, and `things` says which thing each row is. All
-/// owners that were made are listed, each at the place that is its number; of effects and pages those that live, in the order of making,
-/// and `named` counts the named effects among them.
+/// owners that were made are listed, each at the place that is its number; of effects and pages those that live, in the order of making.
 #[derive(Debug, Drop)]
 pub struct Tables {
     pub store: Owners,
@@ -32,7 +31,6 @@ pub struct Tables {
     pub owners: Vec<OwnerEntry>,
     pub effects: Vec<Effect>,
     pub pages: Vec<PageId>,
-    pub named: usize,
     pub effects_made: u128,
     pub pages_made: u128,
 }
@@ -59,7 +57,6 @@ impl Tables {
             owners,
             effects,
             pages,
-            named: 0,
             effects_made: 0,
             pages_made: 0,
         })

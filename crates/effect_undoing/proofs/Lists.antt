@@ -11,6 +11,7 @@ use Rattle.effect_frames.specs.Frames.{ended_all, ended_one}
 use Rattle.sig_owner.specs.Walks.{is_ended}
 use Rattle.effect_tables.specs.declared.effect.Effect.{Effect}
 use Rattle.effect_tables.specs.declared.tables.OwnerEntry.{OwnerEntry}
+use Rattle.effect_tables.specs.Holding.{AreOrdered, AreRising}
 use Rattle.effect_tables.specs.Numbering.{living, rows_in}
 use Rattle.effect_tables.specs.Placed.{effect_of}
 use Rattle.effect_tables.proofs.Shared.{left_off, living_below, right_off, swapped}
@@ -199,6 +200,24 @@ owners_off g (ends (the_page n) ∷ us) es h = owners_off g us es h
 owners_off g (ends (the_watcher n) ∷ us) es h = owners_off g us es h
 owners_off g (cleans t c ∷ us) es h = owners_off g us es h
 
+-- an owner that doesn't end is as before
+still_closed : (n j : ℕ) (es : List OwnerEntry) → (j == n) ≡ false → slice_get (closed_at n es) j ≡ slice_get es j
+still_closed n j [] off = refl
+still_closed zero zero (e ∷ es) off = cc
+still_closed zero (suc j) (e ∷ es) off = refl
+still_closed (suc n) zero (e ∷ es) off = refl
+still_closed (suc n) (suc j) (e ∷ es) off = still_closed n j es (ne_eqb j n (λ q. let on : (suc j == suc n) ≡ true = eq-eqb (suc j) (suc n) (ap suc q) in off_on (sym off ∙ on)))
+
+pub still_after : (us : List Undoing) (es : List OwnerEntry) (j : ℕ) → is_ended (the_owner j) us ≡ false → slice_get (owners_after us es) j ≡ slice_get es j
+still_after [] es j off = refl
+still_after (ends (the_owner n) ∷ us) es j off =
+    still_after us (closed_at n es) j (right_off (j == n) (is_ended (the_owner j) us) off) ∙ still_closed n j es (left_off (j == n) (is_ended (the_owner j) us) off)
+still_after (ends (the_signal n) ∷ us) es j off = still_after us es j off
+still_after (ends (the_effect n) ∷ us) es j off = still_after us es j off
+still_after (ends (the_page n) ∷ us) es j off = still_after us es j off
+still_after (ends (the_watcher n) ∷ us) es j off = still_after us es j off
+still_after (cleans t c ∷ us) es j off = still_after us es j off
+
 -- ---- effects that live don't end
 
 all_filter : {A : Type 0} (P : A → Type 0) (f : A → Bool) (xs : List A) → AllByRecursion P xs → AllByRecursion P (filter f xs)
@@ -241,3 +260,32 @@ effects_off (ends (the_owner n) ∷ us) xs = effects_off us xs
 effects_off (ends (the_page n) ∷ us) xs = effects_off us xs
 effects_off (ends (the_watcher n) ∷ us) xs = effects_off us xs
 effects_off (cleans t c ∷ us) xs = effects_off us xs
+
+-- ---- effects stand in the order of making
+
+rising_from : (m n : ℕ) (xs : List Effect) → m ≤ n → AreRising n xs → AreRising m xs
+rising_from m n [] l r = tt
+rising_from m n (x ∷ xs) l r = (omega (arith, l, r.0), r.1)
+
+rising_filter : (f : Effect → Bool) (n : ℕ) (xs : List Effect) → AreRising n xs → AreRising n (filter f xs)
+rising_filter f n [] r = tt
+rising_filter f n (x ∷ xs) r = go (f x) (rising_filter f (suc x.id) xs r.1)
+  where
+    go : (b : Bool) → AreRising (suc x.id) (filter f xs) → AreRising n (cond b (x ∷ filter f xs) (filter f xs))
+    go true more = (r.0, more)
+    go false more = rising_from n (suc x.id) (filter f xs) (let l : n ≤ x.id = r.0 in omega (arith, l)) more
+
+rising_without : (u : Undoing) (xs : List Effect) → AreRising 0 xs → AreRising 0 (effects_without u xs)
+rising_without (ends (the_effect n)) xs r = rising_filter (λ x. not (n == x.id)) 0 xs r
+rising_without (ends (the_signal n)) xs r = r
+rising_without (ends (the_owner n)) xs r = r
+rising_without (ends (the_page n)) xs r = r
+rising_without (ends (the_watcher n)) xs r = r
+rising_without (cleans t c) xs r = r
+
+rising_after : (us : List Undoing) (xs : List Effect) → AreRising 0 xs → AreRising 0 (effects_after us xs)
+rising_after [] xs r = r
+rising_after (u ∷ us) xs r = rising_after us (effects_without u xs) (rising_without u xs r)
+
+pub ordered_after : (us : List Undoing) (xs : List Effect) (made : ℕ) → AreOrdered made xs → AreOrdered made (effects_after us xs)
+ordered_after us xs made o = record { rising = rising_after us xs o.rising; below = effects_all_after (λ (x : Effect). x.id < made) us xs o.below }

@@ -1,5 +1,6 @@
 -- What was taken back in the store and in the tables.
 use Rattle.std.proofs.Common.{◌≡◌, ℕ, suc, ◌+◌, ◌<◌, ◌&&◌, ◌||◌, ◌++◌, not, Bool, true, false, cond, List, [], ◌∷◌, map, length, refl, sym, ap, subst, ◌∙◌, arith, inl, inr}
+use Rattle.std.specs.Prelude.{slice_get}
 use Rattle.std.specs.List.{AllByRecursion}
 use Rattle.std.proofs.lemmas.List.{map-append}
 use Rattle.signal_model.specs.Standing.{is_in}
@@ -7,7 +8,7 @@ use Rattle.signal_model.proofs.Shared.{tested}
 use Rattle.effect_model.specs.Owning.{Thing, the_signal, the_owner, the_effect, the_page, the_watcher, Owned, nothing, thing, cleanup, Undoing, cleans, ends, disposal_of, emptied, same_thing, taken_out, teardown_of, under}
 use Rattle.sig_owner.specs.declared.thing.Undoing.{Undoing as AnUndoing}
 use Rattle.sig_owner.specs.Renaming.{renamed, renamed_thing, renamed_undoing, renamed_undoings}
-use Rattle.sig_owner.specs.Tables.{Row, dropped, dropped_row, is_holder, live_at, thing_at}
+use Rattle.sig_owner.specs.Tables.{Row, dropped, dropped_row, is_holder, is_owner, live_at, thing_at}
 use Rattle.sig_owner.specs.Trees.{has_thing, owned_of}
 use Rattle.sig_owner.specs.Walks.{is_ended, undoings_of, with_taken_back}
 use Rattle.sig_owner.proofs.Shared.{dropped_lives, dropped_thing, has_emptied, renamed_emptied, renamed_taken, renamed_teardown, renamed_under, taken_back_length, taken_back_thing}
@@ -15,17 +16,17 @@ use Rattle.effect_tables.specs.declared.effect.Effect.{Effect}
 use Rattle.effect_tables.specs.declared.tables.OwnerEntry.{OwnerEntry}
 use Rattle.effect_tables.specs.declared.tables.Tables.{Tables}
 use Rattle.effect_tables.specs.Fitting.{IsFitted}
-use Rattle.effect_tables.specs.Holding.{AreAlive, AreFresh, AreNumbered, Holds, IsEffect, IsKnown, IsOwner, names_of}
+use Rattle.effect_tables.specs.Holding.{AreAlive, AreFresh, AreListed, AreNumbered, AreOrdered, Holds, IsEffect, IsKnown, IsOwner, names_of}
 use Rattle.effect_tables.specs.Linking.{thing_of}
-use Rattle.effect_tables.specs.Numbering.{living, number_in, rows_in}
+use Rattle.effect_tables.specs.Numbering.{is_live, living, number_in, rows_in}
 use Rattle.effect_tables.specs.Placed.{effect_of, numbering, placed, tree_of}
-use Rattle.effect_tables.proofs.Shared.{in_below, left_off, length_names, number_apart, number_at, right_off}
+use Rattle.effect_tables.proofs.Shared.{in_below, left_off, length_names, listed_row, number_apart, number_at, right_off}
 use Rattle.effect_undoing.specs.Ending.{effects_after, owners_after}
 use Rattle.effect_undoing.specs.Forming.{AreFormed, IsFormed, OnEffects}
 use Rattle.effect_undoing.specs.Retelling.{named_at, retold}
 use Rattle.effect_undoing.specs.Taking.{Ends, EndsIn, Takes, TakesBack, TakesOut}
 use Rattle.effect_undoing.proofs.Forms.{formed_back, formed_emptied, formed_out, formed_top, formed_under, out_emptied, out_watcher, same_swapped, under_leaf}
-use Rattle.effect_undoing.proofs.Lists.{AreAt, all_after, all_two, effects_all_after, effects_off, length_after, numbers_at, owners_off, rows_after, world_after}
+use Rattle.effect_undoing.proofs.Lists.{AreAt, all_after, all_two, effects_all_after, effects_off, length_after, numbers_at, ordered_after, owners_off, rows_after, still_after, world_after}
 use Rattle.effect_undoing.proofs.Steps.{AreOwn, IsKnownStep, all_both, has_under, known_more, known_teardown, named_row, on_effects, renamed_ended, retold_all}
 
 -- ---- in the store
@@ -144,12 +145,32 @@ module _ (t u : Tables) (later : List Row) (sus us : List Undoing) (left : Owned
   places : AreAt (numbering t) 0 t.owners.items
   places = numbers_at (numbering t) 0 t.owners.items (λ j y q. let n : numbering t y.row ≡ j = (number_at t.owners.items j y h.numbered.apart q).0 in omega (arith, n))
 
+  -- what lives on in the store didn't end
+  lived : (k : ℕ) → live_at later k ≡ true → (live_at t.store k ≡ true) × (is_ended (thing_at t.store k) sus ≡ false)
+  lived k on = go (live_at t.store k) (is_ended (thing_at t.store k) sus) (sym (e.lives k) ∙ on)
+    where
+      go : (a b : Bool) → (a && not b) ≡ true → (a ≡ true) × (b ≡ false)
+      go true true q = cc
+      go true false q = (refl, refl)
+      go false b q = cc
+
+  listed_now : AreListed (owners_after us t.owners.items) later
+  listed_now k on owner =
+      let was = lived k on in
+      let there : is_live (slice_get t.owners.items (numbering t k)) ≡ true = h.alive.listed k was.0 (ap is_owner (sym (still k)) ∙ owner) in
+      let its : thing_at t.store k ≡ the_owner k = h.numbered.own k (listed_row t.owners.items k there) in
+      let off : is_ended (the_owner (numbering t k)) us ≡ false =
+      ap (is_ended (the_owner (numbering t k))) same ∙ renamed_ended (numbering t) apart (the_owner k) sus ∙ ap (λ v. is_ended v sus) (sym its) ∙ was.1 in
+      ap (λ ms. is_live (slice_get (owners_after us t.owners.items) (number_in ms k))) (rows_after us t.owners.items)
+      ∙ ap is_live (still_after us t.owners.items (numbering t k) off) ∙ there
+
   alive_now : AreAlive (owners_after us t.owners.items) (effects_after us t.effects.items) later
   alive_now = record {
     owners = all_two (λ (y : OwnerEntry). y.live ≡ true → IsOwner t.store y) (λ (y : OwnerEntry). y.live ≡ true → is_ended (the_owner (numbering t y.row)) us ≡ false)
         (λ (y : OwnerEntry). y.live ≡ true → IsOwner later y) (owners_after us t.owners.items)
         (λ y a b live. record { lives = lives_on y.row (the_owner y.row) (a live).lives (a live).thing (b live); thing = still y.row ∙ (a live).thing })
         (all_after (IsOwner t.store) us t.owners.items h.alive.owners) (owners_off (numbering t) us t.owners.items places);
+    listed = listed_now;
     effects = all_two (IsEffect t.store) (λ (y : Effect). is_ended (the_effect y.id) us ≡ false) (IsEffect later) (effects_after us t.effects.items)
         (λ y a b. record { lives = lives_on y.row (the_effect y.id) a.lives a.thing b; thing = still y.row ∙ a.thing })
         (effects_all_after (IsEffect t.store) us t.effects.items h.alive.effects) (effects_off us t.effects.items);
@@ -171,7 +192,7 @@ module _ (t u : Tables) (later : List Row) (sus us : List Undoing) (left : Owned
     alive = subst (λ y. y) (λ i. AreAlive (sym x.owners i) (sym x.effects i) (sym x.store i)) alive_now;
     fresh = subst (λ y. y) (λ i. AreFresh (sym x.effects_made i) (sym x.pages_made i) (sym x.store i))
         (record { effects = λ n l. e.nowhere (the_effect n) (h.fresh.effects n l); pages = λ n l. e.nowhere (the_page n) (h.fresh.pages n l) });
-    named = x.named;
+    ordered = subst (λ y. y) (λ i. AreOrdered (sym x.effects_made i) (sym x.effects i)) (ordered_after us t.effects.items t.effects_made h.ordered);
     fitting = subst (AllByRecursion IsFitted) (sym x.effects) (effects_all_after IsFitted us t.effects.items h.fitting);
   }
 

@@ -9,7 +9,6 @@ use Rattle.sig_owner.specs.Trees.{has_thing, owned_of}
 use Rattle.sig_owner.specs.Walks.{is_ended}
 use Rattle.effect_tables.specs.declared.tables.Tables.{Tables}
 use Rattle.effect_tables.specs.Holding.{Holds, LeavesOut, names_of}
-use Rattle.effect_tables.specs.Looking.{named_count}
 use Rattle.effect_tables.specs.Placed.{placed, tree_of}
 use Rattle.effect_undoing.specs.Ending.{effects_after, owners_after, pages_after}
 use Rattle.effect_undoing.specs.Forming.{AreFormed, OnEffects}
@@ -28,7 +27,6 @@ pub record Ends (old new : Tables) (us : List Undoing) : Type 0 where
   pub owners : new.owners.items ≡ owners_after us old.owners.items
   pub effects : new.effects.items ≡ effects_after us old.effects.items
   pub pages : new.pages.items ≡ pages_after us old.pages.items
-  pub named : new.named ≡ named_count new.effects.items
   pub effects_made : new.effects_made ≡ old.effects_made
   pub pages_made : new.pages_made ≡ old.pages_made
 

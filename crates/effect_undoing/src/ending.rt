@@ -2,7 +2,6 @@
 ghost use Rattle.std.specs.Prelude.{◌≡◌, ◌==◌, not, false};
 ghost use Rattle.std.specs.List.{filter};
 ghost use Rattle.effect_tables.specs.Linking.{undoing_of, undoings_of};
-ghost use Rattle.effect_tables.specs.Looking.{named_count};
 ghost use Rattle.effect_undoing.specs.Ending.{closed_at, effects_after, effects_without, owners_after, owners_without, pages_after, pages_without};
 
 use effect_tables::{Effect, OwnerEntry, Thing, Undoing};
@@ -68,17 +67,4 @@ pub(crate) fn end_all(
     for undoing in undoings {
         end_one(owners, effects, pages, undoing);
     }
-}
-
-/// How many of these effects are named.
-pub(crate) fn count_named(effects: &[Effect]) -> usize
-    ensures { result ≡ named_count effects.now }
-{
-    let mut count = 0;
-    for effect in effects {
-        if effect.path.is_empty() {
-            count += 1;
-        }
-    }
-    count
 }

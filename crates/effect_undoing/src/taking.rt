@@ -11,7 +11,7 @@ ghost use Rattle.effect_undoing.specs.Forming.{AreFormed};
 ghost use Rattle.effect_undoing.specs.Retelling.{retold};
 ghost use Rattle.effect_undoing.specs.Taking.{Ends, TakesBack, TakesOut};
 
-use crate::ending::{count_named, end_all};
+use crate::ending::end_all;
 use crate::finding::{effect_row, has_page};
 use crate::retelling::retold_all;
 use crate::stored::{holder_out, leaf_out, take_back_in};
@@ -31,7 +31,6 @@ fn finish(tables: &mut Tables, steps: Vec<Step>) -> Result<Vec<Undoing>, NoMemor
         &mut tables.pages,
         &undoings,
     );
-    tables.named = count_named(&tables.effects);
     Ok(undoings)
 }
 

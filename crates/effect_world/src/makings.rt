@@ -6,10 +6,8 @@ ghost use Rattle.signal_model.specs.Recipes.{Hosts};
 ghost use Rattle.signal_model.specs.Changes.{live_count};
 ghost use Rattle.effect_model.specs.Acts.{host_of, host_refused, with_use};
 ghost use Rattle.effect_model.specs.Commands.{with_new_cell, with_new_computed, with_new_effect, with_new_owner, with_new_page};
-ghost use Rattle.effect_tables.specs.declared.tables.TheConstants.{MOST_EFFECTS};
 ghost use Rattle.effect_tables.specs.Fitting.{IsFitting};
 ghost use Rattle.effect_tables.specs.Linking.{body_of};
-ghost use Rattle.effect_tables.specs.Looking.{named_count};
 ghost use Rattle.effect_tables.specs.Numbering.{living};
 ghost use Rattle.effect_tables.specs.Placed.{is_open};
 ghost use Rattle.sig_host.specs.Hosts.{HostPlace};
@@ -18,7 +16,6 @@ ghost use Rattle.sig_nodes.specs.Computations.{recipe_made};
 ghost use Rattle.sig_nodes.specs.States.{is_given, CanWear};
 ghost use Rattle.sig_effect.specs.declared.errors.EffectFault.TheVariants as fault;
 ghost use Rattle.sig_effect.specs.Agreeing.{AreRuled};
-ghost use Rattle.sig_owner.specs.Tables.{owner_count};
 ghost use Rattle.sig_owner.specs.declared.limits.TheConstants.{MOST_OWNERS};
 ghost use Rattle.effect_world.specs.Agreeing.{Agrees, AreOwned, Does, IsSound};
 ghost use Rattle.sig_owner.specs.declared.errors.OwnFault.TheVariants as own;
@@ -138,7 +135,8 @@ impl World {
         ensures signals { self.new.signals ≡ self.old.signals }
         ensures open { OnOk result (is_open (living 0 self.old.tables.owners.items) inside ≡ true) }
         ensures gone { IsErrOf result own.Gone → is_open (living 0 self.old.tables.owners.items) inside ≡ false }
-        ensures limit { IsErrOf result own.Limit → MOST_OWNERS ≤ owner_count self.old.tables.store }
+        ensures room { OnOk result (length (living 0 self.old.tables.owners.items) < MOST_OWNERS) }
+        ensures limit { IsErrOf result own.Limit → MOST_OWNERS ≤ length (living 0 self.old.tables.owners.items) }
         ensures err { IfErr result (λ e. (e ≡ own.NoMemory) ⊎ (self.new ≡ self.old)) }
     {
         let id = self.tables.make_owner(inside)?;
@@ -150,8 +148,7 @@ impl World {
     ///
     /// # Errors
     ///
-    /// `Gone` where the owner is gone, and else `Limit` where as many named effects live as may be; then all is as before. After
-    /// `NoMemory` the world may only be dropped.
+    /// `Gone` where the owner is gone; then all is as before. After `NoMemory` the world may only be dropped.
     pub fn make_effect(
         &mut self,
         alloc: Global,
@@ -168,8 +165,7 @@ impl World {
         ensures signals { self.new.signals ≡ self.old.signals }
         ensures open { OnOk result (is_open (living 0 self.old.tables.owners.items) inside ≡ true) }
         ensures gone { IsErrOf result own.Gone → is_open (living 0 self.old.tables.owners.items) inside ≡ false }
-        ensures room { OnOk result (named_count self.old.tables.effects.items < MOST_EFFECTS) }
-        ensures limit { IsErrOf result own.Limit → MOST_EFFECTS ≤ named_count self.old.tables.effects.items }
+        ensures limit { IsErrOf result own.Limit → ⊥ }
         ensures err { IfErr result (λ e. (e ≡ own.NoMemory) ⊎ (self.new ≡ self.old)) }
     {
         let id = self.tables.make_effect(alloc, script, inside)?;

@@ -1,4 +1,4 @@
-use Rattle.effect_tables.specs.Keeping.{AreKeptTo}
+use Rattle.effect_tables.proofs.Kept.{AreKeptTo}
 use Rattle.effect_tables.proofs.keeping.keep_all.Given as goal
 
 -- the effects so far have kept the reads

@@ -1,6 +1,5 @@
 use Rattle.std.proofs.Common.{ap, refl, map, ◌∙◌}
 use Rattle.effect_tables.specs.Linking.{thing_of, undoings_of}
-use Rattle.effect_tables.specs.Looking.{named_count}
 use Rattle.effect_undoing.specs.Ending.{effects_after, owners_after, pages_after}
 use Rattle.effect_undoing.specs.Retelling.{retold}
 use Rattle.effect_undoing.proofs.taking.finish.Goals as goal
@@ -15,7 +14,6 @@ returns-clause-done c = record {
   owners = c.end_all.ensures.owners ∙ ap (λ us. owners_after (undoings_of us) c.args.tables.now.owners.items) c.deref-3.ensures.value;
   effects = c.end_all.ensures.effects ∙ ap (λ us. effects_after (undoings_of us) c.args.tables.now.effects.items) c.deref-3.ensures.value;
   pages = c.end_all.ensures.pages ∙ ap (λ us. pages_after (undoings_of us) c.args.tables.now.pages.items) c.deref-3.ensures.value;
-  named = c.count_named-tables.ensures ∙ ap named_count c.deref-4.ensures.value;
   effects_made = refl;
   pages_made = refl;
 }

@@ -13,7 +13,6 @@ returns-clause-does c =
       owners = c.args.self.now.owners;
       effects = c.args.self.now.effects;
       pages = c.args.self.now.pages;
-      named = c.args.self.now.named;
       effects_made = c.args.self.now.effects_made;
       pages_made = c.args.self.now.pages_made;
     } in
@@ -28,7 +27,6 @@ returns-clause-holds c =
       owners = c.args.self.now.owners;
       effects = c.args.self.now.effects;
       pages = c.args.self.now.pages;
-      named = c.args.self.now.named;
       effects_made = c.args.self.now.effects_made;
       pages_made = c.args.self.now.pages_made;
     } in
@@ -42,7 +40,6 @@ returns-clause-signals c =
       owners = c.args.self.now.owners;
       effects = c.args.self.now.effects;
       pages = c.args.self.now.pages;
-      named = c.args.self.now.named;
       effects_made = c.args.self.now.effects_made;
       pages_made = c.args.self.now.pages_made;
     } in

@@ -6,9 +6,7 @@ use Rattle.effect_tables.specs.declared.thing.Thing.TheVariants as a
 use Rattle.effect_tables.specs.Adopting.{MakesEffect}
 use Rattle.effect_tables.specs.Fitting.{IsFitting}
 use Rattle.effect_tables.specs.Linking.{body_of}
-use Rattle.effect_tables.specs.Looking.{is_named}
 use Rattle.effect_tables.specs.Placed.{effect_of}
-use Rattle.effect_tables.proofs.Counting.{as_many}
 use Rattle.effect_tables.proofs.Tabled.{child_does, effect_holds, effect_leaves}
 use Rattle.effect_tables.proofs.tables.Tables.make_child.Goals as goal
 
@@ -20,7 +18,6 @@ returns-clause-does c =
       owners = c.args.self.now.owners;
       effects = c.push-2.new.self;
       pages = c.args.self.now.pages;
-      named = c.args.self.now.named;
       effects_made = c.args.self.now.effects_made + 1;
       pages_made = c.args.self.now.pages_made;
     } in
@@ -33,7 +30,6 @@ returns-clause-does c =
       effects = c.in_ok-push-2.ensures.items;
       owners = refl;
       pages = refl;
-      named = as_many c.args.self.now.named (is_named c.in_ok-effect.effect.path.items) e.deep;
       fits = subst IsFitting (sym e.script) c.requires.fits;
       effects_made = refl;
       pages_made = refl;
@@ -48,7 +44,6 @@ returns-clause-holds c =
       owners = c.args.self.now.owners;
       effects = c.push-2.new.self;
       pages = c.args.self.now.pages;
-      named = c.args.self.now.named;
       effects_made = c.args.self.now.effects_made + 1;
       pages_made = c.args.self.now.pages_made;
     } in
@@ -60,7 +55,6 @@ returns-clause-holds c =
       effects = c.in_ok-push-2.ensures.items;
       owners = refl;
       pages = refl;
-      named = as_many c.args.self.now.named (is_named c.in_ok-effect.effect.path.items) e.deep;
       fits = subst IsFitting (sym e.script) c.requires.fits;
       effects_made = refl;
       pages_made = refl;
@@ -74,7 +68,6 @@ returns-clause-signals c =
       owners = c.args.self.now.owners;
       effects = c.push-2.new.self;
       pages = c.args.self.now.pages;
-      named = c.args.self.now.named;
       effects_made = c.args.self.now.effects_made + 1;
       pages_made = c.args.self.now.pages_made;
     } in

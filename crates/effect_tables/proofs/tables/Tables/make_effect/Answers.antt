@@ -1,4 +1,4 @@
-use Rattle.std.proofs.Common.{◌≡◌, ◌++◌, ◌∷◌, [], List, cond, refl, sym, ap, subst, ◌∙◌}
+use Rattle.std.proofs.Common.{◌≡◌, ◌++◌, ◌∷◌, [], List, refl, sym, ap, subst, ◌∙◌}
 use Rattle.std.specs.Prelude.{◌+◌, None}
 use Rattle.effect_tables.specs.declared.tables.OwnerEntry.{OwnerEntry}
 use Rattle.effect_tables.specs.declared.tables.Tables.{Tables}
@@ -8,8 +8,14 @@ use Rattle.effect_tables.specs.Fitting.{IsFitting}
 use Rattle.effect_tables.specs.Looking.{IsInside}
 use Rattle.effect_tables.specs.Linking.{body_of}
 use Rattle.effect_tables.specs.Placed.{effect_of}
+use Rattle.effect_tables.proofs.Making.{open_row}
 use Rattle.effect_tables.proofs.Tabled.{effect_does, effect_holds, effect_leaves}
 use Rattle.effect_tables.proofs.tables.Tables.make_effect.Goals as goal
+
+pub make_for_in-requires-clause-open : goal.make_for_in-requires-clause-open
+make_for_in-requires-clause-open c =
+    open_row c.args.self.now.owners.items c.args.self.now.effects.items c.args.self.now.store c.args.inside c.in_ok-outer.outer
+    (subst (λ (es : List OwnerEntry). IsInside es c.args.inside c.in_ok-outer.outer) c.deref.ensures.value c.in_ok-outer.ensures.inside) c.requires.holds.alive
 
 pub returns-clause-does : goal.returns-clause-does
 returns-clause-does c =
@@ -19,7 +25,6 @@ returns-clause-does c =
       owners = c.args.self.now.owners;
       effects = c.push-2.new.self;
       pages = c.args.self.now.pages;
-      named = c.args.self.now.named + 1;
       effects_made = c.args.self.now.effects_made + 1;
       pages_made = c.args.self.now.pages_made;
     } in
@@ -31,7 +36,6 @@ returns-clause-does c =
       effects = c.in_ok-push-2.ensures.items;
       owners = refl;
       pages = refl;
-      named = sym (ap (λ b. c.args.self.now.named + (cond b 1 0 + 0)) e.alone);
       fits = subst IsFitting (sym e.script) c.requires.fits;
       effects_made = refl;
       pages_made = refl;
@@ -47,7 +51,6 @@ returns-clause-holds c =
       owners = c.args.self.now.owners;
       effects = c.push-2.new.self;
       pages = c.args.self.now.pages;
-      named = c.args.self.now.named + 1;
       effects_made = c.args.self.now.effects_made + 1;
       pages_made = c.args.self.now.pages_made;
     } in
@@ -59,7 +62,6 @@ returns-clause-holds c =
       effects = c.in_ok-push-2.ensures.items;
       owners = refl;
       pages = refl;
-      named = sym (ap (λ b. c.args.self.now.named + (cond b 1 0 + 0)) e.alone);
       fits = subst IsFitting (sym e.script) c.requires.fits;
       effects_made = refl;
       pages_made = refl;
@@ -73,7 +75,6 @@ returns-clause-signals c =
       owners = c.args.self.now.owners;
       effects = c.push-2.new.self;
       pages = c.args.self.now.pages;
-      named = c.args.self.now.named + 1;
       effects_made = c.args.self.now.effects_made + 1;
       pages_made = c.args.self.now.pages_made;
     } in

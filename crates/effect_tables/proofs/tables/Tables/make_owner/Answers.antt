@@ -1,9 +1,29 @@
-use Rattle.std.proofs.Common.{List, refl, subst, arith}
+use Rattle.std.proofs.Common.{◌≡◌, ◌<◌, ◌≤◌, true, List, length, refl, subst, arith, rules}
+use Rattle.std.specs.Prelude.{IsErrOf}
+use Rattle.sig_owner.specs.declared.errors.OwnFault.TheVariants as fault
+use Rattle.sig_owner.specs.declared.limits.TheConstants.{MOST_OWNERS}
 use Rattle.effect_tables.specs.declared.tables.OwnerEntry.{OwnerEntry}
 use Rattle.effect_tables.specs.declared.tables.Tables.{Tables}
 use Rattle.effect_tables.specs.Looking.{IsInside}
+use Rattle.effect_tables.specs.Numbering.{living}
+use Rattle.effect_tables.specs.Placed.{is_open}
+use Rattle.effect_tables.proofs.Counting.{owners_counted}
+use Rattle.effect_tables.proofs.Making.{open_row}
 use Rattle.effect_tables.proofs.Tabled.{owner_does, owner_holds, owner_leaves}
 use Rattle.effect_tables.proofs.tables.Tables.make_owner.Goals as goal
+
+pub make_in-requires : goal.make_in-requires
+make_in-requires c =
+    open_row c.args.self.now.owners.items c.args.self.now.effects.items c.args.self.now.store c.args.inside c.in_ok-outer.outer
+    (subst (λ (es : List OwnerEntry). IsInside es c.args.inside c.in_ok-outer.outer) c.deref.ensures.value c.in_ok-outer.ensures.inside) c.requires.alive
+
+pub returns-in_err-row-clause-limit : goal.returns-in_err-row-clause-limit
+returns-in_err-row-clause-limit c =
+    subst (λ n. IsErrOf c.from_residual-in_err-row.result fault.Limit → (is_open (living 0 c.args.self.now.owners.items) c.args.inside ≡ true) × (MOST_OWNERS ≤ n))
+    (owners_counted c.args.self.now c.requires) (search rules)
+
+pub returns-clause-room : goal.returns-clause-room
+returns-clause-room c = subst (λ n. n < MOST_OWNERS) (owners_counted c.args.self.now c.requires) c.in_ok-row.ensures.room
 
 pub returns-clause-does : goal.returns-clause-does
 returns-clause-does c =
@@ -13,7 +33,6 @@ returns-clause-does c =
       owners = c.push-2.new.self;
       effects = c.args.self.now.effects;
       pages = c.args.self.now.pages;
-      named = c.args.self.now.named;
       effects_made = c.args.self.now.effects_made;
       pages_made = c.args.self.now.pages_made;
     } in
@@ -24,7 +43,6 @@ returns-clause-does c =
       owners = c.in_ok-push-2.ensures.items;
       effects = refl;
       pages = refl;
-      named = refl;
       effects_made = refl;
       pages_made = refl;
     })
@@ -38,7 +56,6 @@ returns-clause-holds c =
       owners = c.push-2.new.self;
       effects = c.args.self.now.effects;
       pages = c.args.self.now.pages;
-      named = c.args.self.now.named;
       effects_made = c.args.self.now.effects_made;
       pages_made = c.args.self.now.pages_made;
     } in
@@ -49,7 +66,6 @@ returns-clause-holds c =
       owners = c.in_ok-push-2.ensures.items;
       effects = refl;
       pages = refl;
-      named = refl;
       effects_made = refl;
       pages_made = refl;
     })
@@ -63,7 +79,6 @@ returns-clause-signals c =
       owners = c.push-2.new.self;
       effects = c.args.self.now.effects;
       pages = c.args.self.now.pages;
-      named = c.args.self.now.named;
       effects_made = c.args.self.now.effects_made;
       pages_made = c.args.self.now.pages_made;
     } in

@@ -14,7 +14,6 @@ returns-clause-does c =
       owners = c.args.self.now.owners;
       effects = c.args.self.now.effects;
       pages = c.push.new.self;
-      named = c.args.self.now.named;
       effects_made = c.args.self.now.effects_made;
       pages_made = c.args.self.now.pages_made + 1;
     } in
@@ -25,7 +24,6 @@ returns-clause-does c =
       things = refl;
       owners = refl;
       effects = refl;
-      named = refl;
       effects_made = refl;
       pages_made = refl;
     })
@@ -39,7 +37,6 @@ returns-clause-holds c =
       owners = c.args.self.now.owners;
       effects = c.args.self.now.effects;
       pages = c.push.new.self;
-      named = c.args.self.now.named;
       effects_made = c.args.self.now.effects_made;
       pages_made = c.args.self.now.pages_made + 1;
     } in
@@ -50,7 +47,6 @@ returns-clause-holds c =
       things = refl;
       owners = refl;
       effects = refl;
-      named = refl;
       effects_made = refl;
       pages_made = refl;
     }) c.requires.holds
@@ -63,7 +59,6 @@ returns-clause-signals c =
       owners = c.args.self.now.owners;
       effects = c.args.self.now.effects;
       pages = c.push.new.self;
-      named = c.args.self.now.named;
       effects_made = c.args.self.now.effects_made;
       pages_made = c.args.self.now.pages_made + 1;
     } in

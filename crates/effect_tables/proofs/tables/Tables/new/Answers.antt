@@ -11,7 +11,6 @@ returns-clause-placed c =
       owners = c.new-owners.result;
       effects = c.new-effects.result;
       pages = c.new-pages.result;
-      named = 0;
       effects_made = 0;
       pages_made = 0;
     } in
@@ -22,7 +21,6 @@ returns-clause-placed c =
       owners = c.new-owners.ensures.items;
       effects = c.new-effects.ensures.items;
       pages = c.new-pages.ensures.items;
-      named = refl;
       effects_made = refl;
       pages_made = refl;
     })
@@ -35,7 +33,6 @@ returns-clause-holds c =
       owners = c.new-owners.result;
       effects = c.new-effects.result;
       pages = c.new-pages.result;
-      named = 0;
       effects_made = 0;
       pages_made = 0;
     } in
@@ -46,7 +43,6 @@ returns-clause-holds c =
       owners = c.new-owners.ensures.items;
       effects = c.new-effects.ensures.items;
       pages = c.new-pages.ensures.items;
-      named = refl;
       effects_made = refl;
       pages_made = refl;
     })
