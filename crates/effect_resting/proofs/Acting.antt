@@ -28,7 +28,7 @@ pub record KeepsRest (act : World → World) : Type 0 where
   pub bare : (w : World) → AreBare w.owned → AreBare (act w).owned
 
 -- an act neither reads nor changes what stands
-record KeepsOwned (act : World → World) : Type 0 where
+pub record KeepsOwned (act : World → World) : Type 0 where
   pub same : (x : Owned) (w : World) → act (record w { owned = x }) ≡ record (act w) { owned = x }
 
 -- ---- steps
@@ -57,7 +57,7 @@ chosen_bare false x y p q = q
 owned_kept : (act : World → World) → KeepsOwned act → (w : World) → (act w).owned ≡ w.owned
 owned_kept act k w = ap (λ (v : World). v.owned) (k.same w.owned w)
 
-keeps_owned : (act : World → World) → KeepsOwned act → KeepsRest act
+pub keeps_owned : (act : World → World) → KeepsOwned act → KeepsRest act
 keeps_owned act k = record {
   same = λ w h.
       ap without_tops (k.same (listed w.owned) w)
@@ -143,11 +143,11 @@ act_keeps env e k (to_set n v) = framed_keeps (set_cell env n v) (framed_set env
 act_keeps env e k (to_log v) = tell_keeps (logged v)
 act_keeps env e k (to_note c) = record {
   same = λ w h. λ i. record (tell (noted (the_effect e) c) w) { owned = put_listed (the_effect e) (cleanup c nothing) w.owned i };
-  bare = λ w h. bare_put e (cleanup c nothing) w.owned h;
+  bare = λ w h. bare_put (the_effect e) refl (cleanup c nothing) w.owned h;
 }
 act_keeps env e k (to_make b) = record {
   same = λ w h. λ i. record (make_child e k b w) { owned = put_listed (the_effect e) (alone (the_effect w.made.effects)) w.owned i };
-  bare = λ w h. bare_put e (alone (the_effect w.made.effects)) w.owned h;
+  bare = λ w h. bare_put (the_effect e) refl (alone (the_effect w.made.effects)) w.owned h;
 }
 act_keeps env e k (to_dispose t) = dispose_keeps env t
 act_keeps env e k (to_rewire n r) = framed_keeps (rewire_signal n r) (framed_rewire n r)

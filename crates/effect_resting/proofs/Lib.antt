@@ -1,4 +1,5 @@
 mod Listing
 mod Acting
 mod Turning
+mod Making
 pub mod Shared

@@ -1,7 +1,7 @@
 -- Trees without what stands at the top and can't own.
-use Rattle.std.proofs.Common.{◌≡◌, ℕ, Bool, true, false, cond, refl, sym, ap, ◌∙◌}
+use Rattle.std.proofs.Common.{◌≡◌, ℕ, Bool, true, false, cond, Option, Some, None, refl, sym, ap, ◌∙◌}
 use Rattle.effect_model.specs.Owning.{Thing, the_signal, the_owner, the_effect, the_page, the_watcher, Owned, nothing, thing, cleanup}
-use Rattle.effect_model.specs.Owning.{emptied, put_under, same_thing, taken_out, under, with_earlier}
+use Rattle.effect_model.specs.Owning.{alone, emptied, made_inside, put_under, same_thing, taken_out, under, with_earlier}
 use Rattle.sig_owner.specs.Tables.{is_holder}
 use Rattle.effect_tables.specs.Placed.{listed}
 use Rattle.effect_resting.specs.Resting.{AreBare}
@@ -107,18 +107,36 @@ bare_out t (thing u made rest) h = go (same_thing t u) (bare_out t rest h.1)
     go true more = more
     go false more = (λ k. ap (taken_out t) (h.0 k), more)
 
--- an effect can own
-other_kind : (e : ℕ) (u : Thing) → is_holder u ≡ false → same_thing (the_effect e) u ≡ false
-other_kind e (the_owner n) k = refl
-other_kind e (the_effect n) k = cc
-other_kind e (the_signal n) k = refl
-other_kind e (the_page n) k = refl
-other_kind e (the_watcher n) k = refl
+-- what can own is another thing than what can't
+other_kind : (t u : Thing) → is_holder t ≡ true → is_holder u ≡ false → same_thing t u ≡ false
+other_kind (the_effect e) (the_owner n) j k = refl
+other_kind (the_effect e) (the_effect n) j k = cc
+other_kind (the_effect e) (the_signal n) j k = refl
+other_kind (the_effect e) (the_page n) j k = refl
+other_kind (the_effect e) (the_watcher n) j k = refl
+other_kind (the_owner o) (the_owner n) j k = cc
+other_kind (the_owner o) (the_effect n) j k = refl
+other_kind (the_owner o) (the_signal n) j k = refl
+other_kind (the_owner o) (the_page n) j k = refl
+other_kind (the_owner o) (the_watcher n) j k = refl
+other_kind (the_signal m) u j k = cc
+other_kind (the_page m) u j k = cc
+other_kind (the_watcher m) u j k = cc
 
-pub bare_put : (e : ℕ) (one x : Owned) → AreBare x → AreBare (put_under (the_effect e) one x)
-bare_put e one nothing h = tt
-bare_put e one (cleanup c rest) h = bare_put e one rest h
-bare_put e one (thing u made rest) h = (
-  λ k. ap (λ b. cond b (with_earlier one made) (put_under (the_effect e) one made)) (other_kind e u k) ∙ ap (put_under (the_effect e) one) (h.0 k),
-  bare_put e one rest h.1,
+pub bare_put : (t : Thing) → is_holder t ≡ true → (one x : Owned) → AreBare x → AreBare (put_under t one x)
+bare_put t j one nothing h = tt
+bare_put t j one (cleanup c rest) h = bare_put t j one rest h
+bare_put t j one (thing u made rest) h = (
+  λ k. ap (λ b. cond b (with_earlier one made) (put_under t one made)) (other_kind t u j k) ∙ ap (put_under t one) (h.0 k),
+  bare_put t j one rest h.1,
 )
+
+-- ---- what is made inside an owner or at the top
+
+pub made_listed : (inside : Option ℕ) (t : Thing) (x : Owned) → listed (made_inside inside t (listed x)) ≡ listed (made_inside inside t x)
+made_listed None t x = ap (λ y. cond (is_holder t) (thing t nothing y) y) (listed_twice x)
+made_listed (Some o) t x = put_listed (the_owner o) (alone t) x
+
+pub bare_made : (inside : Option ℕ) (t : Thing) (x : Owned) → AreBare x → AreBare (made_inside inside t x)
+bare_made None t x h = (λ k. refl, h)
+bare_made (Some o) t x h = bare_put (the_owner o) refl (alone t) x h

@@ -7,6 +7,7 @@ use Rattle.effect_model.specs.Owning.{Thing, Owned, nothing, thing, cleanup}
 use Rattle.effect_model.specs.Bodies.{Act, BodyResult}
 use Rattle.effect_model.specs.Worlds.{Environment, Effect, World, settle}
 use Rattle.effect_model.specs.Acts.{set_cell, rewire_signal, take_back, dispose_thing}
+use Rattle.effect_model.specs.Commands.{Command, after_command}
 use Rattle.effect_model.specs.Running.{look, do_act, do_acts, keep_reads, do_result, run_effect, turn, last_look, flush}
 use Rattle.sig_owner.specs.Tables.{is_holder}
 use Rattle.effect_tables.specs.Placed.{at_rest}
@@ -52,3 +53,7 @@ pub record FlushRests (env : Environment) : Type 0 where
   pub world : Rests (λ w. (flush env w).world)
   pub turns : (w : World) → AreBare w.owned → (flush env (at_rest w)).turns ≡ (flush env w).turns
   pub refused : (w : World) → AreBare w.owned → (flush env (at_rest w)).refused ≡ (flush env w).refused
+
+-- and each command of a script
+abbrev pub CommandsRest : Type 0
+CommandsRest = (env : Environment) (c : Command) → Rests (λ w. after_command env w c)

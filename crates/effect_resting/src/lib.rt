@@ -3,7 +3,7 @@
 
 ghost use Rattle.std.specs.Prelude.{ℕ, List};
 ghost use Rattle.effect_model.specs.Worlds.{Environment};
-ghost use Rattle.effect_resting.specs.Resting.{AllRest, FlushRests, LastRests, TurnRests};
+ghost use Rattle.effect_resting.specs.Resting.{AllRest, CommandsRest, FlushRests, LastRests, TurnRests};
 
 /// Whatever is done, it does the same to a world at rest as to the world itself: it rests neither on what was told before nor on what
 /// stands at the top and can't own, as long as nothing stands under that.
@@ -12,4 +12,5 @@ pub fn resting_law()
     ensures turns { (env : Environment) → TurnRests env }
     ensures looks { (env : Environment) (ids : List ℕ) → LastRests env ids }
     ensures flushes { (env : Environment) → FlushRests env }
+    ensures commands { CommandsRest }
 {}

@@ -1,4 +1,5 @@
 use Rattle.effect_resting.proofs.Acting.{all_rest}
+use Rattle.effect_resting.proofs.Making.{commands_rest}
 use Rattle.effect_resting.proofs.Turning.{flushes_rest, looks_rest, turns_rest}
 use Rattle.effect_resting.proofs.resting_law.Goals as goal
 
@@ -13,3 +14,6 @@ returns-clause-looks c = looks_rest
 
 pub returns-clause-flushes : goal.returns-clause-flushes
 returns-clause-flushes c = flushes_rest
+
+pub returns-clause-commands : goal.returns-clause-commands
+returns-clause-commands c = commands_rest
