@@ -1,5 +1,6 @@
 mod Tables
 mod Lists
+mod Document
 mod Showing
 mod Cutting
 mod Bringing

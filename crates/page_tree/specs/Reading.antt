@@ -52,6 +52,21 @@ abbrev pub attribute_place : List ℕ → Kind → Option ℕ
 attribute_place name (Element element attributes) = place_named name attributes
 attribute_place name label = None
 
+-- the value of the first attribute of that name
+abbrev pub value_named : List ℕ → List (List ℕ × List ℕ) → Option (List ℕ)
+value_named name [] = None
+value_named name (a ∷ rest) = if bytes_eq a.0 name then Some a.1 else value_named name rest
+
+-- the value of an element's attribute of that name
+abbrev pub attribute_value : List ℕ → Kind → Option (List ℕ)
+attribute_value name (Element element attributes) = value_named name attributes
+attribute_value name label = None
+
+-- what a text says
+abbrev pub text_in : Kind → Option (List ℕ)
+text_in (Text t) = Some t
+text_in label = None
+
 -- an operation that isn't refused
 abbrev pub IsDone : Answer → Type 0
 IsDone (Done t) = Unit {0}

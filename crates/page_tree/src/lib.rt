@@ -5,6 +5,7 @@
 mod climbing;
 mod editing;
 mod html;
+mod numbers;
 mod removing;
 mod sub;
 mod table;

@@ -1,5 +1,5 @@
 // The nodes of a tree by number, and edits of one of them.
-ghost use Rattle.std.specs.Prelude.{◌≡◌, ◌≤◌, ◌<◌, ℕ, Some, true, length, vec_len, vec_capacity, ◌+◌, MatchResult};
+ghost use Rattle.std.specs.Prelude.{◌≡◌, ◌≤◌, ◌<◌, ℕ, Some, true, length, vec_len, vec_capacity, ◌+◌, MatchResult, option_copied};
 ghost use Rattle.indexmap.specs.IndexMap.{spare};
 ghost use Rattle.page_model.specs.Edits.{listed, put_at, taken};
 ghost use Rattle.page_model.specs.Pages as pages;
@@ -68,6 +68,18 @@ pub fn place_named(attributes: &[(Text, Text)], name: &Text) -> Option<usize>
     for (place, attribute) in attributes.iter().enumerate() {
         if attribute.0 == *name {
             return Some(place);
+        }
+    }
+    None
+}
+
+/// The value of the first attribute of a name.
+pub fn value_named<'a>(attributes: &'a [(Text, Text)], name: &Text) -> Option<&'a Text>
+    ensures { option_copied result ≡ reading.value_named name.now attributes.now }
+{
+    for attribute in attributes {
+        if attribute.0 == *name {
+            return Some(&attribute.1);
         }
     }
     None

@@ -1,8 +1,8 @@
 // A numbered tree, and what stands in it.
-ghost use Rattle.std.specs.Prelude.{◌≡◌, ◌++◌, [], ℕ, IfOk, MatchResult, OnOk, None, true, ◌≤◌, IfSome};
+ghost use Rattle.std.specs.Prelude.{◌≡◌, ◌++◌, [], ℕ, IfOk, MatchResult, OnOk, None, true, ◌≤◌, IfSome, option_copied};
 ghost use Rattle.std.specs.List.{slice_get};
 ghost use Rattle.page_model.specs.Edits.{siblings};
-ghost use Rattle.page_model.specs.Forest.{kids, label_in, node, none};
+ghost use Rattle.page_model.specs.Forest.{keys, kids, label_in, node, none};
 ghost use Rattle.page_model.specs.Html.{html_of};
 ghost use Rattle.page_model.specs.Labels.{Root};
 ghost use Rattle.page_model.specs.Replay as replay;
@@ -15,9 +15,11 @@ ghost use Rattle.page_tree.specs.Subs.{insertion, sub_tree};
 use crate::climbing::climb;
 use crate::editing::{insert_rows, move_node, remove_node};
 use crate::html::write_nodes;
+use crate::numbers::put_number;
 use crate::sub::{Sub, put_rows};
 use crate::table::{
     Label, Node, add_row, place_in, place_named, set_attribute, set_label, unset_attribute,
+    value_named,
 };
 use html_out::is_void;
 use indexmap::IndexMap;
@@ -106,6 +108,24 @@ fn attribute_place(label: &Label, name: &Text) -> Option<usize>
     }
 }
 
+fn text_in(label: &Label) -> Option<&Text>
+    ensures { option_copied result ≡ reading.text_in (label_of label.now) }
+{
+    match label {
+        Label::Text(text) => Some(text),
+        _ => None,
+    }
+}
+
+fn attribute_value<'a>(label: &'a Label, name: &Text) -> Option<&'a Text>
+    ensures { option_copied result ≡ reading.attribute_value name.now (label_of label.now) }
+{
+    match label {
+        Label::Element(_, attributes) => value_named(attributes, name),
+        _ => None,
+    }
+}
+
 fn nth(children: &[u64], place: usize) -> Option<u64>
     ensures { result ≡ slice_get children.now place }
 {
@@ -133,6 +153,18 @@ impl Tree {
         Ok(())
     }
 
+    /// Appends the numbers of all nodes in document order, that of the root first.
+    ///
+    /// # Errors
+    ///
+    /// `NoMemory` alone.
+    pub fn put_numbers(&self, out: &mut Vec<u64>) -> Result<(), NoMemory>
+        ensures { OnOk result (out.new.items ≡ out.old.items ++ keys self.now) }
+    {
+        put_number(out, &self.nodes, 0, 33)?;
+        Ok(())
+    }
+
     /// How many children a node has; None exactly where there is no such node.
     pub fn child_count(&self, id: u64) -> Option<usize>
         ensures { result ≡ reading.child_count id self.now }
@@ -151,6 +183,16 @@ impl Tree {
             return None;
         };
         nth(&node.children, place)
+    }
+
+    /// The numbers of a node's children; none where there is no such node.
+    pub fn children(&self, id: u64) -> &[u64]
+        ensures { result.now ≡ siblings (kids id self.now) }
+    {
+        let Some(node) = self.nodes.get(&id) else {
+            return &[];
+        };
+        &node.children
     }
 
     /// What a node is; None exactly where there is no such node.
@@ -209,6 +251,26 @@ impl Tree {
             return None;
         };
         attribute_place(&node.label, name)
+    }
+
+    /// What a text says; None exactly where there is no such text.
+    pub fn text_at(&self, id: u64) -> Option<&Text>
+        ensures { option_copied result ≡ reading.text_in (label_in Root id self.now) }
+    {
+        let Some(node) = self.nodes.get(&id) else {
+            return None;
+        };
+        text_in(&node.label)
+    }
+
+    /// The value of an element's attribute of a name; None exactly where there is no such element or attribute.
+    pub fn attr_value<'a>(&'a self, id: u64, name: &Text) -> Option<&'a Text>
+        ensures { option_copied result ≡ reading.attribute_value name.now (label_in Root id self.now) }
+    {
+        let Some(node) = self.nodes.get(&id) else {
+            return None;
+        };
+        attribute_value(&node.label, name)
     }
 
     /// Takes out a node with all below it.

@@ -1,0 +1,12 @@
+use Rattle.std.proofs.Common.{refl, sym, ap, ◌∙◌}
+use Rattle.page_tree.specs.Rows.{look, row_in, row_of}
+use Rattle.page_tree.specs.Reading.{attribute_value}
+use Rattle.page_tree.proofs.Doing.{kept_some, kept_none}
+use Rattle.page_tree.proofs.Queries.{label_off}
+use Rattle.page_tree.proofs.tree.Tree.attr_value.Goals as goal
+
+pub returns-in_default : goal.returns-in_default
+returns-in_default c = (let e = label_off c.args.id c.args.self.now (kept_none (look c.self.inside.nodes) c.args.self.now c.args.id c.self.view_is c.self.invariant (ap row_in (sym c.in_default.ensures.value))) in rw e refl)
+
+pub returns : goal.returns
+returns c = c.attribute_value.ensures ∙ ap (attribute_value c.args.name.now) (kept_some (look c.self.inside.nodes) c.args.self.now c.args.id (row_of c.in-Some.node.now) c.self.view_is c.self.invariant (ap row_in (sym c.in-Some.ensures.value))).1
