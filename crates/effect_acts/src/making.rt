@@ -1,5 +1,5 @@
 // An effect makes a child.
-ghost use Rattle.std.specs.Prelude.{◌≡◌, ◌+◌, ◌<◌, ◌^◌, ℕ, false, List, OnOk, IsErrOf};
+ghost use Rattle.std.specs.Prelude.{◌≡◌, ◌⊎◌, ◌+◌, ◌<◌, ◌^◌, ℕ, false, List, IfErr, OnOk, IsErrOf};
 ghost use Rattle.std.specs.Rc.{rc_value};
 ghost use Rattle.effect_model.specs.Owning.{the_effect};
 ghost use Rattle.effect_model.specs.Running.{make_child};
@@ -38,6 +38,7 @@ pub fn make_child(
         (scene world.old asked events.old.items) (scene world.new asked events.new.items) any_hosts any_hosts 0
         (λ env. make_child id label ((parts_of site.now.origin (rc_value site.now.script) site.now.path.items).bodies place))) }
     ensures gone { IsErrOf result fault.Gone → is_tabled (the_effect id) world.old.tables ≡ false }
+    ensures fault { IfErr result (λ e. (e ≡ fault.Gone) ⊎ (e ≡ fault.NoMemory)) }
     ensures err { IsErrOf result fault.Gone → world.new ≡ world.old }
 {
     let Some(row) = effect_row(&world.tables.effects, id) else {

@@ -1,5 +1,5 @@
 // An effect notes cleanups.
-ghost use Rattle.std.specs.Prelude.{◌≡◌, [], ℕ, true, false, List, OnOk, IsErrOf};
+ghost use Rattle.std.specs.Prelude.{◌≡◌, ◌⊎◌, [], ℕ, true, false, List, IfErr, OnOk, IsErrOf};
 ghost use Rattle.effect_model.specs.Owning as owning;
 ghost use Rattle.effect_model.specs.Owning.{put_under, the_effect};
 ghost use Rattle.effect_model.specs.Worlds.{noted, tell};
@@ -48,6 +48,7 @@ pub fn note(
         (λ env w. tell (noted (the_effect id) (cleanup_of cleanup))
         (record w { owned = put_under (the_effect id) (owning.cleanup (cleanup_of cleanup) owning.nothing) w.owned }))) }
     ensures gone { IsErrOf result fault.Gone → is_tabled (the_effect id) world.old.tables ≡ false }
+    ensures fault { IfErr result (λ e. (e ≡ fault.Gone) ⊎ (e ≡ fault.NoMemory)) }
     ensures err { IsErrOf result fault.Gone → world.new ≡ world.old }
 {
     let Some(row) = effect_row(&world.tables.effects, id) else {

@@ -1,4 +1,5 @@
 mod Settlings
 mod Slots
+mod Wanted
 mod Askings
 mod Looks

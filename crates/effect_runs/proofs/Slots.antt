@@ -112,7 +112,7 @@ smaller n ts us vs ws s b v new t u =
     omega (arith, less, one, two)
 
 -- places that stand for anything, since what a body asks for doesn't rest on them
-some_parts : Parts
+pub some_parts : Parts
 some_parts = record {
   cells = λ n. n;
   things = λ n. the_signal n;

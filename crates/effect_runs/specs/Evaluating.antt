@@ -1,5 +1,5 @@
 -- What a body is evaluated to.
-use Rattle.std.specs.Prelude.{◌≡◌, ℕ, Bool, true, false, List, length}
+use Rattle.std.specs.Prelude.{◌≡◌, ℕ, ◌≤◌, Bool, true, false, List, length}
 use Rattle.sig_base.specs.declared.value.Value.{Value}
 use Rattle.sig_base.specs.declared.value.Known.{Known}
 use Rattle.signal_model.specs.Values.{learnt}
@@ -25,6 +25,11 @@ HasNames b names = (p : Parts) → AreFit (length names) (body_seen p b names).s
 abbrev pub result_of : Parts → BodyEnd → BodyResult
 result_of p (Acts as') = to_do (acts_of p as'.items)
 result_of p (Fail e) = failed_by e
+
+-- at most so many acts are to be done
+abbrev pub IsShort : ℕ → BodyEnd → Type 0
+IsShort n (Acts as') = length as'.items ≤ n
+IsShort n (Fail e) = Unit {0}
 
 -- a run has the tracked reads of an evaluation, and ends as it does
 pub record IsRunOf (p : Parts) (e : BodyEvaluation) (r : BodyRun) : Type 0 where

@@ -5,7 +5,9 @@ ghost use Rattle.signal_model.specs.Sound.{names_of};
 ghost use Rattle.effect_model.specs.Bodies.{body_evaluation};
 ghost use Rattle.sig_effect.specs.Agreeing.{IsSound};
 ghost use Rattle.sig_untrack.specs.Linking.{Parts};
-ghost use Rattle.effect_runs.specs.Evaluating.{body_seen, HasNames, IsRunOf};
+ghost use Rattle.sig_untrack.specs.Stated.{before, no_bodies, statements_of};
+ghost use Rattle.effect_tables.specs.Fitting.{count_of};
+ghost use Rattle.effect_runs.specs.Evaluating.{body_seen, HasNames, IsRunOf, IsShort};
 ghost use Rattle.effect_runs.specs.Settling.{scene, CanSettle, Settles};
 
 use crate::reading::{BodyEnd, BodyRun, Reading};
@@ -23,8 +25,8 @@ fn slot_name(names: &[NodeId], slot: u32) -> NodeId
 }
 
 /// Evaluates the body of an effect on the values of its names, one for each slot. It is asked with what it has read, again with each
-/// value that it asks for, until it wants acts done or a read or a formula has a fault. Each signal that it reads is settled at its place,
-/// one that is read untracked and later tracked at both.
+/// value that it asks for, until it wants acts done, at most one for each of its statements, or a read or a formula has a fault. Each signal
+/// that it reads is settled at its place, one that is read untracked and later tracked at both.
 ///
 /// # Errors
 ///
@@ -45,6 +47,7 @@ pub fn evaluate_body(
         (scene world.old (⟦<Shelf as Lent>⟧.asked shelf.old) events.old.items) (scene world.new (⟦<Shelf as Lent>⟧.asked shelf.new) events.new.items)
         (λ hosts. ⟦<Shelf as Lent>⟧.answers hosts shelf.old) (λ hosts. ⟦<Shelf as Lent>⟧.answers hosts shelf.new)
         (λ hosts. names_of (body_evaluation hosts world.old.graph.state.signals (body_seen p body.now names.now)).reads)) }
+    ensures few { IfOk result (λ r. IsShort (count_of (statements_of (before body.now no_bodies))) r.end) }
     ensures can { OnOk result (CanSettle (scene world.new (⟦<Shelf as Lent>⟧.asked shelf.new) events.new.items)) }
     ensures counted { OnOk result (⟦<Shelf as Lent>⟧.counted shelf.new) }
 {

@@ -29,24 +29,24 @@ pub kept_settles : (old new : settling.Scene) (before after : Hosts → Type 0) 
 kept_settles old new before after w k l is s = subst (λ j. Settles old new before after (λ hosts. looked_names (λ m. value_of hosts w m []) j)) is s
 
 -- where no effect has the number, nothing is looked at
-pub glance_none : (slacks : List ℕ) (x : Scene) (answers : Hosts → Type 0) (id : ℕ) (xs : List Effect) → Agrees x.asked x.world → xs ≡ x.world.tables.effects.items →
-    effect_at id (map effect_of xs) ≡ None → Runs slacks x x answers answers (λ env. glance env id)
-glance_none slacks x answers id xs a same none =
+pub glance_none : (slacks : List ℕ) (x : Scene) (answers : Hosts → Type 0) (id : ℕ) → Agrees x.asked x.world →
+    effect_at id (map effect_of x.world.tables.effects.items) ≡ None → Runs slacks x x answers answers (λ env. glance env id)
+glance_none slacks x answers id a none =
     runs_still slacks x answers (λ env. glance env id) a
-    (λ env. ap (λ o. to_effect (look env) o (whole_of x.asked x.world)) (sym (ap (λ ys. effect_at id (map effect_of ys)) same) ∙ none))
+    (λ env. ap (λ o. to_effect (look env) o (whole_of x.asked x.world)) none)
 
 -- else what that effect keeps is settled
 pub glance_some : (slacks : List ℕ) (old new : World) (asked later : List HostPlace) (none told : List SignalEvent) (before after : List Event) (first last : Hosts → Type 0)
-    (id : ℕ) (xs : List Effect) (x : Effect) → xs ≡ old.tables.effects.items → effect_at id (map effect_of xs) ≡ Some (effect_of x) →
+    (id : ℕ) (x : Effect) → effect_at id (map effect_of old.tables.effects.items) ≡ Some (effect_of x) →
     none ≡ [] → after ≡ before ++ map event.Signals told → new.tables ≡ old.tables → Agrees asked old →
     Settles (settling.scene old.signals asked none) (settling.scene new.signals later told) first last
     (λ hosts. looked_names (λ m. value_of hosts old.signals.graph.state.signals m []) (effect_of x).kept) →
     Runs slacks (scene old asked before) (scene new later after) first last (λ env. glance env id)
-glance_some slacks old new asked later none told before after first last id xs x here at empty is same a s =
+glance_some slacks old new asked later none told before after first last id x at empty is same a s =
     runs_as slacks (scene old asked before) (scene new later after) first last
     (λ env. settle env (looked_names (λ m. value_of env.hosts old.signals.graph.state.signals m []) (effect_of x).kept)) (λ env. glance env id)
     (λ hosts all sound.
     let env : plain.Environment = environment hosts slacks in
-    sym (ap (λ (o : Option plain.Effect). to_effect (look env) o (whole_of asked old)) (sym (ap (λ ys. effect_at id (map effect_of ys)) here) ∙ at)))
+    sym (ap (λ (o : Option plain.Effect). to_effect (look env) o (whole_of asked old)) at))
     (settled_runs slacks old new asked later none told before after first last
     (λ hosts. looked_names (λ m. value_of hosts old.signals.graph.state.signals m []) (effect_of x).kept) empty is same a s)

@@ -141,21 +141,21 @@ run_whole slacks old mid new before between after id body a p q =
     (λ env. all_rest.taking_back env (the_effect id)) (λ env. body_rests env id body) p q
 
 -- where no effect has the number, nothing runs
-pub rerun_none : (slacks : List ℕ) (x : Scene) (answers : Hosts → Type 0) (id : ℕ) (xs : List Effect) → Agrees x.asked x.world → xs ≡ x.world.tables.effects.items →
-    effect_at id (map effect_of xs) ≡ None → Runs slacks x x answers answers (λ env. rerun env id)
-rerun_none slacks x answers id xs a same none =
+pub rerun_none : (slacks : List ℕ) (x : Scene) (answers : Hosts → Type 0) (id : ℕ) → Agrees x.asked x.world →
+    effect_at id (map effect_of x.world.tables.effects.items) ≡ None → Runs slacks x x answers answers (λ env. rerun env id)
+rerun_none slacks x answers id a none =
     runs_still slacks x answers (λ env. rerun env id) a
-    (λ env. ap (λ o. to_effect (run_effect env) o (whole_of x.asked x.world)) (sym (ap (λ ys. effect_at id (map effect_of ys)) same) ∙ none))
+    (λ env. ap (λ o. to_effect (run_effect env) o (whole_of x.asked x.world)) none)
 
 -- else that effect does
-pub rerun_some : (slacks : List ℕ) (old new : Scene) (before after : Hosts → Type 0) (id origin : ℕ) (script : Script) (path : List ℕ) (xs : List Effect) (x : Effect) →
-    xs ≡ old.world.tables.effects.items → effect_at id (map effect_of xs) ≡ Some (effect_of x) → origin ≡ x.origin → script ≡ rc_value x.script → path ≡ x.path.items →
+pub rerun_some : (slacks : List ℕ) (old new : Scene) (before after : Hosts → Type 0) (id origin : ℕ) (script : Script) (path : List ℕ) (x : Effect) →
+    effect_at id (map effect_of old.world.tables.effects.items) ≡ Some (effect_of x) → origin ≡ x.origin → script ≡ rc_value x.script → path ≡ x.path.items →
     Runs slacks old new before after (λ env. run_effect env (record { number = x.id; body = body_of origin script path; kept = None })) →
     Runs slacks old new before after (λ env. rerun env id)
-rerun_some slacks old new before after id origin script path xs x same at o s q r =
+rerun_some slacks old new before after id origin script path x at o s q r =
     runs_as slacks old new before after (λ env. run_effect env (record { number = x.id; body = body_of origin script path; kept = None })) (λ env. rerun env id)
     (λ hosts all sound.
     let env : plain.Environment = environment hosts slacks in
     let w : plain.World = whole_of old.asked old.world in
     (λ i. run_effect env (record { number = x.id; body = body_of (o i) (s i) (q i); kept = (effect_of x).kept }) w)
-    ∙ sym (ap (λ (y : Option plain.Effect). to_effect (run_effect env) y w) (sym (ap (λ ys. effect_at id (map effect_of ys)) same) ∙ at))) r
+    ∙ sym (ap (λ (y : Option plain.Effect). to_effect (run_effect env) y w) at)) r

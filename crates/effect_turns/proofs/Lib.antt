@@ -3,6 +3,7 @@ mod Carried
 mod Counted
 mod Ending
 mod Glanced
+mod Halves
 mod Joined
 mod Loops
 pub mod Shared

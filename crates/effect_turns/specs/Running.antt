@@ -1,12 +1,9 @@
 -- What runs of effects leave.
 use Rattle.std.specs.Prelude.{◌≡◌, ℕ, ◌+◌, ◌*◌, ◌^◌, ◌<◌, ◌≤◌, List, length}
 use Rattle.signal_model.specs.Recipes.{Hosts}
-use Rattle.effect_model.specs.Bodies.{BodyResult, to_do, failed_by}
 use Rattle.effect_model.specs.Worlds as plain
 use Rattle.sig_host.specs.Hosts.{most_asked}
 use Rattle.sig_effect.specs.Agreeing.{AreRuled, environment}
-use Rattle.effect_runs.specs.declared.reading.BodyEnd.{BodyEnd}
-use Rattle.effect_runs.specs.declared.reading.BodyEnd.TheVariants.{Acts, Fail}
 use Rattle.effect_world.specs.Acting.{Scene}
 use Rattle.effect_world.specs.Agreeing.{Agrees, Does, IsSound}
 use Rattle.effect_world.specs.Weighing.{weight}
@@ -26,16 +23,6 @@ pub record Runs (slacks : List ℕ) (old new : Scene) (before after : Hosts → 
 pub record Spends (old new : Scene) : Type 0 where
   pub weight : weight new.world + 128 * length old.events ≤ weight old.world + 128 * length new.events
   pub most : most_asked new.asked + 128 * length old.events ≤ most_asked old.asked + 128 * length new.events
-
--- a body wants at most so many acts done
-abbrev pub IsWithin : ℕ → BodyResult → Type 0
-IsWithin n (to_do as') = length as' ≤ n
-IsWithin n (failed_by f) = Unit {0}
-
--- so it is with how it ended
-abbrev pub IsShort : ℕ → BodyEnd → Type 0
-IsShort n (Acts as') = length as'.items ≤ n
-IsShort n (Fail e) = Unit {0}
 
 -- Effects may run: the stores belong together, and no counter has come further than a sixteenth of its range and what was told.
 pub record CanRun (x : Scene) : Type 0 where

@@ -4,7 +4,7 @@ ghost use Rattle.std.specs.Rc.{rc_value};
 ghost use Rattle.signal_model.specs.Recipes.{Hosts};
 ghost use Rattle.signal_model.specs.Sound.{names_of};
 ghost use Rattle.effect_model.specs.Acts.{take_back};
-ghost use Rattle.effect_model.specs.Bodies.{body_evaluation, BodyEvaluation};
+ghost use Rattle.effect_model.specs.Bodies.{body_evaluation};
 ghost use Rattle.effect_model.specs.Owning.{the_effect};
 ghost use Rattle.effect_model.specs.Running.{do_result, run_body, run_effect};
 ghost use Rattle.effect_model.specs.Worlds.{settle};
@@ -17,11 +17,11 @@ ghost use Rattle.sig_host.specs.Hosts.{most_asked, HostPlace};
 ghost use Rattle.sig_untrack.specs.Linking.{Parts};
 ghost use Rattle.sig_untrack.specs.Stated.{before, no_bodies, statements_of};
 ghost use Rattle.sig_effect.specs.Agreeing.{AreRuled};
-ghost use Rattle.effect_runs.specs.Evaluating.{body_seen, result_of, IsRunOf};
+ghost use Rattle.effect_runs.specs.Evaluating.{body_seen, result_of, IsRunOf, IsShort};
 ghost use Rattle.effect_world.specs.Acting.{any_hosts, scene};
 ghost use Rattle.effect_world.specs.Agreeing.{Agrees, AreOwned, IsSound};
 ghost use Rattle.effect_world.specs.Weighing.{weight};
-ghost use Rattle.effect_turns.specs.Running.{CanRun, IsShort, IsWithin, Runs, Spends};
+ghost use Rattle.effect_turns.specs.Running.{CanRun, Runs, Spends};
 ghost use Rattle.effect_visits.specs.Visiting.{rerun};
 
 use crate::glancing::effect_at;
@@ -29,7 +29,7 @@ use effect_acts::{fail, keep_reads};
 use effect_doing::do_acts;
 use effect_runs::{BodyEnd, BodyRun, evaluate_body};
 use effect_sites::{body_at, links_at};
-use effect_tables::{Links, MOST_STATEMENTS, Site};
+use effect_tables::{Links, Site};
 use effect_world::{Event, World, tell_signals};
 use sig_base::{EffectId, NoMemory};
 use sig_host::{EqualsRule, Lent, Shelf};
@@ -60,28 +60,6 @@ fn take_back(
     }
 }
 
-// A run with the first acts that it wants done, as many as a body may have statements. No body wants more.
-fn shortened(run: BodyRun) -> BodyRun
-    ensures few { IsShort MOST_STATEMENTS result.end }
-    ensures same { (p : Parts) (e : BodyEvaluation) → IsWithin MOST_STATEMENTS e.result → IsRunOf p e run → IsRunOf p e result }
-{
-    let BodyRun { tracked, end } = run;
-    match end {
-        BodyEnd::Fail(fault) => BodyRun {
-            tracked,
-            end: BodyEnd::Fail(fault),
-        },
-        BodyEnd::Acts(acts) => {
-            let mut first = acts;
-            first.truncate(MOST_STATEMENTS);
-            BodyRun {
-                tracked,
-                end: BodyEnd::Acts(first),
-            }
-        }
-    }
-}
-
 // Evaluates a body, and settles what it reads.
 fn evaluate(
     world: &mut World,
@@ -109,7 +87,6 @@ fn evaluate(
     let mut told = Vec::new(*events.allocator());
     let run = evaluate_body(&mut world.signals, shelf, body, &links.names, &mut told)?;
     tell_signals(events, told)?;
-    let run = shortened(run);
     Ok(run)
 }
 
@@ -288,7 +265,7 @@ pub fn run_effect(
         (scene world.old (⟦<Shelf as Lent>⟧.asked shelf.old) events.old.items) (scene world.new (⟦<Shelf as Lent>⟧.asked shelf.new) events.new.items)) }
     ensures counted { OnOk result (⟦<Shelf as Lent>⟧.counted shelf.new) }
 {
-    let Some(effect) = effect_at(&world.tables.effects, id) else {
+    let Some(effect) = effect_at(&world.tables, id) else {
         return Ok(());
     };
     let number = effect.id;

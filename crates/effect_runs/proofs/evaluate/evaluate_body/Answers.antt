@@ -1,9 +1,11 @@
 use Rattle.std.proofs.Common.{refl, sym, ap, ◌∙◌, arith}
 use Rattle.sig_base.specs.declared.value.Outcome.TheVariants.{Bad}
 use Rattle.sig_untrack.specs.declared.body.BodyStep.TheVariants as step
+use Rattle.sig_untrack.specs.Linking.{step_of}
 use Rattle.effect_runs.specs.declared.reading.BodyEnd.TheVariants as end
 use Rattle.effect_runs.proofs.Askings.{answers_by, ends, fails_by, learns, nothing_read, reads_settled, run_is, settled_one}
 use Rattle.effect_runs.proofs.Slots.{slot_is_new, smaller}
+use Rattle.effect_runs.proofs.Wanted.{acts_are_few, fault_is_short}
 use Rattle.effect_runs.proofs.evaluate.evaluate_body.Goals as goal
 
 pub asking-init : goal.asking-init
@@ -37,6 +39,11 @@ returns-in-Acts-clause-after g c =
     (step.Acts c.in-Acts.acts) c.in_ok-slot.ensures c.deref.ensures.value c.deref-in-asking.ensures.value c.in-Acts.is)
     (λ p source go. refl))
     _ _ c.asking.invariant.asking.read.settles
+
+pub returns-in-Acts-clause-few : goal.returns-in-Acts-clause-few
+returns-in-Acts-clause-few g c =
+    acts_are_few c.args.body.now c.deref.result.now c.deref-in-asking.result.now c.in_ok-slot.field-0 c.in-Acts.acts.items c.in_ok-slot.ensures
+    (λ p. ap (step_of p) c.in-Acts.is)
 
 pub returns-in-Fail-clause-run : goal.returns-in-Fail-clause-run
 returns-in-Fail-clause-run g c =
@@ -144,3 +151,6 @@ returns-in-Bad-clause-after g c =
       watchers = e.watchers;
       worn = e.worn;
     }))
+
+pub returns-in-Bad-clause-few : goal.returns-in-Bad-clause-few
+returns-in-Bad-clause-few g c = fault_is_short _ _ c.in-Bad.fault c.in_ok-run-in-Bad.ensures.end

@@ -1,23 +1,21 @@
-use Rattle.std.proofs.Common.{[], map, ap, refl, sym, ◌∙◌}
+use Rattle.std.proofs.Common.{[], ap, refl, sym, ◌∙◌}
 use Rattle.signal_model.specs.Values.{value_of}
-use Rattle.effect_model.specs.Worlds.{effect_at}
-use Rattle.effect_tables.specs.Placed.{effect_of}
 use Rattle.effect_visits.specs.Visiting.{due_of}
 use Rattle.effect_world.specs.declared.world.World.{World}
 use Rattle.effect_turns.proofs.Glanced.{glance_none, glance_some}
 use Rattle.effect_turns.proofs.glancing.glance.Goals as goal
 
 pub returns-in_default-clause-done : goal.returns-in_default-clause-done
-returns-in_default-clause-done g c = λ slacks. glance_none slacks _ _ c.args.id _ c.requires.can.agrees c.deref.ensures.value c.in_default.ensures.none
+returns-in_default-clause-done g c = λ slacks. glance_none slacks _ _ c.args.id c.requires.can.agrees c.in_default.ensures.none
 
 pub returns-clause-due : goal.returns-clause-due
 returns-clause-due g c = λ hosts slacks all sound.
     c.in_ok-due.ensures.due hosts all sound
     ∙ ap (due_of (λ m. value_of hosts c.args.world.now.signals.graph.state.signals m []))
-    (sym (sym (ap (λ xs. effect_at c.args.id (map effect_of xs)) c.deref.ensures.value) ∙ c.in-Some.ensures.some))
+    (sym c.in-Some.ensures.some)
 
 pub returns-clause-done : goal.returns-clause-done
 returns-clause-done g c = λ slacks.
     let new : World = record { signals = c.look_at.new.signals; tables = c.args.world.now.tables } in
-    glance_some slacks c.args.world.now new _ _ _ _ _ _ _ _ c.args.id _ c.in-Some.effect.now c.deref.ensures.value c.in-Some.ensures.some c.new-told.ensures.items
+    glance_some slacks c.args.world.now new _ _ _ _ _ _ _ _ c.args.id c.in-Some.effect.now c.in-Some.ensures.some c.new-told.ensures.items
     c.in_ok-tell_signals.ensures refl c.requires.can.agrees c.in_ok-due.ensures.after

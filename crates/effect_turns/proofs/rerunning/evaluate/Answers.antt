@@ -2,18 +2,16 @@ use Rattle.std.proofs.Common.{List, ℕ, refl, subst}
 use Rattle.signal_model.specs.Sound.{names_of}
 use Rattle.effect_model.specs.Bodies.{body_evaluation}
 use Rattle.effect_runs.specs.Evaluating.{body_seen, IsRunOf}
-use Rattle.effect_tables.specs.declared.links.Links.TheViews.{out-Links}
 use Rattle.effect_world.specs.declared.world.World.{World}
 use Rattle.effect_turns.proofs.Carried.{settled_runs, settled_spends}
 use Rattle.effect_turns.proofs.Joined.{seen_runs}
-use Rattle.effect_turns.proofs.Counted.{any_parts, evaluated_within}
+use Rattle.effect_turns.proofs.Counted.{any_parts, shorter}
 use Rattle.effect_turns.proofs.rerunning.evaluate.Goals as goal
 
 pub returns-clause-run : goal.returns-clause-run
 returns-clause-run g c = λ hosts p all sound.
-    c.shortened-run.ensures.same p _ (evaluated_within c.args.body.now (out-Links c.args.links.now).names.items p hosts c.args.world.now.signals.graph.state.signals c.requires.fits)
-    (subst (λ (ns : List ℕ). IsRunOf p (body_evaluation hosts c.args.world.now.signals.graph.state.signals (body_seen p c.args.body.now ns)) c.in_ok-run.run') c.deref.ensures.value
-    (c.in_ok-run.ensures.run hosts p all sound))
+    subst (λ (ns : List ℕ). IsRunOf p (body_evaluation hosts c.args.world.now.signals.graph.state.signals (body_seen p c.args.body.now ns)) c.in_ok-run.run') c.deref.ensures.value
+    (c.in_ok-run.ensures.run hosts p all sound)
 
 pub returns-clause-done : goal.returns-clause-done
 returns-clause-done g c = λ slacks p.
@@ -22,6 +20,9 @@ returns-clause-done g c = λ slacks p.
     (settled_runs slacks c.args.world.now new _ _ _ _ _ _ _ _
     (λ hosts. names_of (body_evaluation hosts c.args.world.now.signals.graph.state.signals (body_seen p c.args.body.now c.deref.result.now)).reads)
     c.new-told.ensures.items c.in_ok-tell_signals.ensures refl c.requires.can.agrees (c.in_ok-run.ensures.after p))
+
+pub returns-clause-few : goal.returns-clause-few
+returns-clause-few g c = shorter _ _ c.in_ok-run.run'.end c.requires.fits.few c.in_ok-run.ensures.few
 
 pub returns-clause-spent : goal.returns-clause-spent
 returns-clause-spent g c =
