@@ -1,0 +1,4 @@
+mod Fine
+mod Telling
+mod Rests
+mod Happening

@@ -1,0 +1,14 @@
+// Laws of scripts, for all environments and all items.
+ghost use Rattle.live_laws.specs.Happening.{EndsLaw, HappensLaw};
+
+/// Each item of a script does commands of the world, one after the other, and its entries tell what happens in them, in order, with
+/// answers between.
+pub fn happens_law()
+    ensures { HappensLaw }
+{}
+
+/// In what happens as the items of a script are done, nothing that is gone runs, is evaluated, is notified, is cleaned up or ends again; a
+/// cleanup is done once, before its effect runs again or ends.
+pub fn ends_law()
+    ensures { EndsLaw }
+{}
