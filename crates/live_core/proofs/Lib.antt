@@ -1,7 +1,8 @@
 mod OfKind
 mod Meanings
 mod Rightly
-mod Telling
 mod Doing
-mod Paging
+mod Making
+mod Mounts
+mod Watching
 mod Places

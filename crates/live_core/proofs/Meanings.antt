@@ -5,7 +5,7 @@ use Rattle.std.proofs.lemmas.Bool.{eqb-true, lt-ltb, ltb-true}
 use Rattle.signal_model.specs.Standing.{Signals, Stands, standing}
 use Rattle.sig_nodes.specs.States.{Seen, is_given}
 use Rattle.sig_nodes.proofs.Shared.{given_is, given_same}
-use Rattle.sig_effect.specs.declared.world.World.{World}
+use Rattle.effect_world.specs.declared.world.World.{World}
 use Rattle.live_model.specs.declared.names.Kind.{Kind}
 use Rattle.live_model.specs.declared.names.Kind.TheVariants as kind
 use Rattle.live_model.specs.declared.names.Meaning.{Meaning}
@@ -37,14 +37,13 @@ pub below_given : (g : Seen) (n : ℕ) → n < g.given → is_given g n ≡ true
 below_given g n lt = given_is g n ∙ lt-ltb n g.given lt
 
 -- names mean what they meant, where signals stay made and of their kind
-pub meant_still : (v w : World) (count : ℕ) (names : Names) → w.graph.given ≡ v.graph.given → w.watchers.made ≡ v.watchers.made →
-    ((k : Kind) (m : ℕ) → is_of_kind k (standing v.graph.state.signals m) ≡ true → is_of_kind k (standing w.graph.state.signals m) ≡ true) →
+pub meant_still : (v w : World) (count : ℕ) (names : Names) → w.signals.graph.given ≡ v.signals.graph.given →
+    ((k : Kind) (m : ℕ) → is_of_kind k (standing v.signals.graph.state.signals m) ≡ true → is_of_kind k (standing w.signals.graph.state.signals m) ≡ true) →
     AreMeant v count names → AreMeant w count names
-meant_still v w count names given made kinds all n m is =
+meant_still v w count names given kinds all n m is =
     let one : IsMeant v count m = all n m is in record {
-      given = λ s. given_same v.graph w.graph m.number given ∙ one.given s;
+      given = λ s. given_same v.signals.graph w.signals.graph m.number given ∙ one.given s;
       fits = kinds m.kind m.number one.fits;
-      watcher = λ s. subst (λ (x : ℕ). m.number < x) (sym made) (one.watcher s);
       template = one.template;
     }
 
@@ -54,7 +53,6 @@ meant_more w count more names le all n m is =
     let one : IsMeant w count m = all n m is in record {
       given = one.given;
       fits = one.fits;
-      watcher = one.watcher;
       template = λ t. let lt = one.template t in omega (arith, le, lt);
     }
 
@@ -64,24 +62,13 @@ true_false e = cc
 
 -- a name more of what is no signal
 pub meant_other : (w : World) (count : ℕ) (names : Names) (a : List ℕ) (k : Kind) (i : ℕ) → is_signal k ≡ false → ((s : Stands) → is_of_kind k s ≡ true) →
-    (same_kind kind.Watcher k ≡ true → i < w.watchers.made) → (same_kind kind.Template k ≡ true → i < count) →
+    (same_kind kind.Template k ≡ true → i < count) →
     AreMeant w count names → AreMeant w count (names ++ (a, record { kind = k; number = i }) ∷ [])
-meant_other w count names a k i off any watcher below all n m is = elim (last_or names a (record { kind = k; number = i }) n m is) [
+meant_other w count names a k i off any below all n m is = elim (last_or names a (record { kind = k; number = i }) n m is) [
   | inl old ↦ all n m old
   | inr new ↦ subst (IsMeant w count) new
-      (record { given = λ s. absurd (true_false (sym s ∙ off)); fits = any (standing w.graph.state.signals i); watcher = watcher; template = below })
+      (record { given = λ s. absurd (true_false (sym s ∙ off)); fits = any (standing w.signals.graph.state.signals i); template = below })
 ]
-
--- one watcher more is made
-pub meant_watched : (v w : World) (count : ℕ) (names : Names) → w.graph ≡ v.graph → v.watchers.made ≤ w.watchers.made →
-    AreMeant v count names → AreMeant w count names
-meant_watched v w count names graph made all n m is =
-    let one : IsMeant v count m = all n m is in record {
-      given = λ s. ap (λ (g : Seen). is_given g m.number) graph ∙ one.given s;
-      fits = ap (λ (g : Seen). is_of_kind m.kind (standing g.state.signals m.number)) graph ∙ one.fits;
-      watcher = λ s. let lt = one.watcher s in omega (arith, lt, made);
-      template = one.template;
-    }
 
 -- what is below isn't what comes next
 not_next : (m id : ℕ) → m < id → (m == id) ≡ false
@@ -97,28 +84,28 @@ still_meant : (g : Seen) (after : Signals) (k : Kind) (i : ℕ) →
     is_of_kind k (standing g.state.signals i) ≡ true → is_of_kind k (standing after i) ≡ true
 still_meant g after kind.Cell i beside given is = ap (is_of_kind kind.Cell) (beside i (not_next i g.given (given_below g i (given refl)))) ∙ is
 still_meant g after kind.Computed i beside given is = ap (is_of_kind kind.Computed) (beside i (not_next i g.given (given_below g i (given refl)))) ∙ is
+still_meant g after kind.Owner i beside given is = refl
+still_meant g after kind.Effect i beside given is = refl
 still_meant g after kind.Watcher i beside given is = refl
 still_meant g after kind.Template i beside given is = refl
 still_meant g after kind.Page i beside given is = refl
 
 -- a name of a signal more, which is made
-pub meant_made : (v w : World) (count : ℕ) (names : Names) (a : List ℕ) (k : Kind) → same_kind kind.Template k ≡ false → same_kind kind.Watcher k ≡ false →
-    w.graph.given ≡ v.graph.given + 1 → w.watchers.made ≡ v.watchers.made →
-    ((m : ℕ) → (m == v.graph.given) ≡ false → standing w.graph.state.signals m ≡ standing v.graph.state.signals m) →
-    is_of_kind k (standing w.graph.state.signals v.graph.given) ≡ true →
-    AreMeant v count names → AreMeant w count (names ++ (a, record { kind = k; number = v.graph.given }) ∷ [])
-meant_made v w count names a k off none given made beside here all n m is = elim (last_or names a (record { kind = k; number = v.graph.given }) n m is) [
+pub meant_made : (v w : World) (count : ℕ) (names : Names) (a : List ℕ) (k : Kind) → same_kind kind.Template k ≡ false →
+    w.signals.graph.given ≡ v.signals.graph.given + 1 →
+    ((m : ℕ) → (m == v.signals.graph.given) ≡ false → standing w.signals.graph.state.signals m ≡ standing v.signals.graph.state.signals m) →
+    is_of_kind k (standing w.signals.graph.state.signals v.signals.graph.given) ≡ true →
+    AreMeant v count names → AreMeant w count (names ++ (a, record { kind = k; number = v.signals.graph.given }) ∷ [])
+meant_made v w count names a k off given beside here all n m is = elim (last_or names a (record { kind = k; number = v.signals.graph.given }) n m is) [
   | inl old ↦
       let one : IsMeant v count m = all n m old in record {
-        given = λ s. let lt = given_below v.graph m.number (one.given s) in below_given w.graph m.number (omega (arith, lt, given));
-        fits = still_meant v.graph w.graph.state.signals m.kind m.number beside one.given one.fits;
-        watcher = λ s. subst (λ (x : ℕ). m.number < x) (sym made) (one.watcher s);
+        given = λ s. let lt = given_below v.signals.graph m.number (one.given s) in below_given w.signals.graph m.number (omega (arith, lt, given));
+        fits = still_meant v.signals.graph w.signals.graph.state.signals m.kind m.number beside one.given one.fits;
         template = one.template;
       }
   | inr new ↦ subst (IsMeant w count) new (record {
-    given = λ s. below_given w.graph v.graph.given (omega (arith, given));
+    given = λ s. below_given w.signals.graph v.signals.graph.given (omega (arith, given));
     fits = here;
-    watcher = λ t. absurd (true_false (sym t ∙ none));
     template = λ t. absurd (true_false (sym t ∙ off));
   })
 ]

@@ -1,11 +1,13 @@
 -- What stands under a name stays of the name's kind.
-use Rattle.std.proofs.Common.{◌≡◌, ◌==◌, ℕ, Bool, true, false, cond, Option, Some, None, refl, ap, ◌∙◌}
+use Rattle.std.proofs.Common.{◌≡◌, Bool, true, false, cond, not, Option, Some, None, refl, ap, ◌∙◌}
 use Rattle.std.specs.Option.{option_or}
-use Rattle.std.proofs.lemmas.Bool.{eqb-true, eq-eqb}
-use Rattle.signal_model.specs.Standing.{Signals, Cell, Computed, Stands, IsGone, IsCell, IsComputed, or_computed, is_there, cell_at, computed_at, standing}
-use Rattle.signal_model.specs.Changes.{with_cell, with_computed, without_signal}
+use Rattle.std.proofs.lemmas.Bool.{eq-eqb}
+use Rattle.signal_model.specs.Standing.{Signals, Cell, Computed, Stands, IsGone, IsCell, IsComputed, or_computed, is_computed, is_there, cell_at, computed_at, standing}
+use Rattle.signal_model.specs.Changes.{with_cell, with_computed}
 use Rattle.signal_laws.proofs.Shared.{SameKind, cell_append}
-use Rattle.sig_effect.proofs.Shared.{computed_made, gone_now, left_now}
+use Rattle.sig_nodes.specs.States.{is_cell}
+use Rattle.sig_effect.proofs.Shared.{computed_made}
+use Rattle.effect_kinds.specs.Kinds.{IsKindOf}
 use Rattle.live_model.specs.declared.names.Kind.{Kind}
 use Rattle.live_model.specs.declared.names.Kind.TheVariants as kind
 use Rattle.live_core.specs.Keeping.{is_of_kind}
@@ -14,6 +16,8 @@ use Rattle.live_core.specs.Keeping.{is_of_kind}
 pub gone_kind : (k : Kind) → is_of_kind k IsGone ≡ true
 gone_kind kind.Cell = refl
 gone_kind kind.Computed = refl
+gone_kind kind.Owner = refl
+gone_kind kind.Effect = refl
 gone_kind kind.Watcher = refl
 gone_kind kind.Template = refl
 gone_kind kind.Page = refl
@@ -26,6 +30,8 @@ same_kind_of k (IsCell c) (IsCell d) s h = go k h
     go : (j : Kind) → is_of_kind j (IsCell c) ≡ true → is_of_kind j (IsCell d) ≡ true
     go kind.Cell e = refl
     go kind.Computed e = cc
+    go kind.Owner e = refl
+    go kind.Effect e = refl
     go kind.Watcher e = refl
     go kind.Template e = refl
     go kind.Page e = refl
@@ -34,6 +40,8 @@ same_kind_of k (IsComputed c) (IsComputed d) s h = go k h
     go : (j : Kind) → is_of_kind j (IsComputed c) ≡ true → is_of_kind j (IsComputed d) ≡ true
     go kind.Cell e = cc
     go kind.Computed e = refl
+    go kind.Owner e = refl
+    go kind.Effect e = refl
     go kind.Watcher e = refl
     go kind.Template e = refl
     go kind.Page e = refl
@@ -59,12 +67,16 @@ cell_kind w c =
 pub computed_kind : (w : Signals) (c : Computed) → is_there (standing w c.name) ≡ false → is_of_kind kind.Computed (standing (with_computed w c) c.name) ≡ true
 computed_kind w c off = ap (is_of_kind kind.Computed) (computed_made w c off)
 
--- what is disposed is gone, and another signal is as before
-pub disposed_kind : (k : Kind) (w : Signals) (n m : ℕ) → is_of_kind k (standing w m) ≡ true → is_of_kind k (standing (without_signal w n) m) ≡ true
-disposed_kind k w n m h = at (m == n) refl
-  where
-    at : (b : Bool) → (m == n) ≡ b → is_of_kind k (standing (without_signal w n) m) ≡ true
-    at true e =
-        let same : m ≡ n = eqb-true m n e in
-        rw same (rw (gone_now w n) (gone_kind k))
-    at false e = rw (left_now w n m e) h
+negated : (b : Bool) → not b ≡ true → b ≡ false
+negated true e = absurd cc
+negated false e = refl
+
+-- what is a cell or a computed until it is gone stays of the name's kind
+pub kept_kind : (k : Kind) (a b : Stands) → IsKindOf a b → is_of_kind k a ≡ true → is_of_kind k b ≡ true
+kept_kind kind.Cell a b s h = ap not (s.computed (negated (is_computed a) h))
+kept_kind kind.Computed a b s h = ap not (s.cell (negated (is_cell a) h))
+kept_kind kind.Owner a b s h = refl
+kept_kind kind.Effect a b s h = refl
+kept_kind kind.Watcher a b s h = refl
+kept_kind kind.Template a b s h = refl
+kept_kind kind.Page a b s h = refl

@@ -1,4 +1,4 @@
 pub mod Keeping
-pub mod Notes
-pub mod Updating
+pub mod Parts
+pub mod Refused
 pub mod Views

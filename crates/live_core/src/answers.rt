@@ -1,20 +1,23 @@
 // What is told of signals and watchers.
-ghost use Rattle.std.specs.Prelude.{◌≡◌, ◌+◌, ◌∷◌, ◌<◌, ◌≤◌, ◌^◌, ℕ, [], List, IfOk, IfErr, OnOk, length};
+ghost use Rattle.std.specs.Prelude.{◌≡◌, ◌+◌, ◌∷◌, ◌++◌, ◌<◌, ◌≤◌, ◌^◌, ℕ, [], List, IfOk, IfErr, OnOk};
 ghost use Rattle.signal_model.specs.Recipes.{Hosts};
 ghost use Rattle.sig_host.specs.Hosts.{HostPlace, most_asked};
 ghost use Rattle.sig_nodes.specs.Answers.{mark_meant};
 ghost use Rattle.sig_effect.specs.declared.errors.EffectFault.TheVariants as fault;
-ghost use Rattle.sig_effect.specs.Agreeing.{environment, Agrees, IsSound};
+ghost use Rattle.sig_effect.specs.Agreeing.{environment};
+ghost use Rattle.effect_world.specs.Agreeing.{Agrees, IsSound};
+ghost use Rattle.effect_world.specs.Weighing.{weight};
 ghost use Rattle.live_cmd.specs.declared.command.Command.TheVariants as command;
 ghost use Rattle.live_cmd.specs.declared.command.Verb.TheVariants as verb;
 ghost use Rattle.live_model.specs.Machine.{done, seen_of};
 ghost use Rattle.live_core.specs.Keeping.{AreFine, IsReady, Leaves, Steps};
 ghost use Rattle.live_core.specs.Views.{plain_of};
 
-use crate::labels::{entries_of, labels_of};
 use crate::machine::Machine;
 use live_cmd::{Entry, Seen};
-use sig_base::{Name, NoMemory, NodeId, WatcherId};
+use live_labels::{names_of_signals, tell_all};
+use live_pages::shown_of;
+use sig_base::{Name, NoMemory, NodeId, PageId, WatcherId};
 use sig_effect::EffectFault;
 use sig_host::{Lent, Shelf};
 use sig_nodes::Mark;
@@ -27,6 +30,16 @@ pub(crate) fn one(alloc: Global, entry: Entry) -> Result<Vec<Entry>, NoMemory>
     let mut entries = Vec::new(alloc);
     entries.push(entry)?;
     Ok(entries)
+}
+
+/// Puts entries behind others.
+pub(crate) fn append(told: &mut Vec<Entry>, more: Vec<Entry>) -> Result<(), NoMemory>
+    ensures { OnOk result (told.new.items ≡ told.old.items ++ more.items) }
+{
+    for entry in more {
+        told.push(entry)?;
+    }
+    Ok(())
 }
 
 // A mark, as it is told.
@@ -44,26 +57,27 @@ impl Machine {
     /// Tells what a name comes to, and the runs on the way.
     pub(crate) fn get(&mut self, shelf: &mut Shelf, name: Name) -> Result<Vec<Entry>, EffectFault>
         requires ready { IsReady self.old }
-        requires worn { self.old.world.graph.state.worn < 2 ^ 125 }
+        requires weight { weight self.old.world < 2 ^ 125 }
         requires agrees { Agrees (⟦<Shelf as Lent>⟧.asked shelf.old) self.old.world }
         requires counted { ⟦<Shelf as Lent>⟧.counted shelf.old }
-        requires room { most_asked (⟦<Shelf as Lent>⟧.asked shelf.old) < 2 ^ 124 }
+        requires room { most_asked (⟦<Shelf as Lent>⟧.asked shelf.old) < 2 ^ 125 }
         ensures steps { (hosts : Hosts) (slacks : List ℕ) → ⟦<Shelf as Lent>⟧.answers hosts shelf.old →
             IsSound hosts (⟦<Shelf as Lent>⟧.asked shelf.old) self.old.world →
             IfOk result (λ es. Steps hosts (⟦<Shelf as Lent>⟧.asked shelf.new) self.new es.items
             (done (environment hosts slacks) (plain_of (⟦<Shelf as Lent>⟧.asked shelf.old) self.old) (command.Named verb.Get name))) }
-        ensures leaves { (count : ℕ) → OnOk result
+        ensures leaves { (hosts : Hosts) (count : ℕ) → ⟦<Shelf as Lent>⟧.answers hosts shelf.old →
+            IsSound hosts (⟦<Shelf as Lent>⟧.asked shelf.old) self.old.world → OnOk result
             (Leaves (⟦<Shelf as Lent>⟧.asked shelf.old) (⟦<Shelf as Lent>⟧.asked shelf.new) count self.old self.new) }
         ensures answers { (hosts : Hosts) → ⟦<Shelf as Lent>⟧.answers hosts shelf.old → OnOk result (⟦<Shelf as Lent>⟧.answers hosts shelf.new) }
         ensures counted { OnOk result (⟦<Shelf as Lent>⟧.counted shelf.new) }
-        ensures most { OnOk result (most_asked (⟦<Shelf as Lent>⟧.asked shelf.new) ≤ most_asked (⟦<Shelf as Lent>⟧.asked shelf.old) + 2 ^ 75) }
+        ensures most { OnOk result (most_asked (⟦<Shelf as Lent>⟧.asked shelf.new) ≤ most_asked (⟦<Shelf as Lent>⟧.asked shelf.old) + 2 ^ 80) }
         ensures memory { IfErr result (λ e. e ≡ fault.NoMemory) }
     {
         let signal = NodeId::of(self.names.number_of(&name));
         let mut events = Vec::new(self.alloc);
         let outcome = self.world.ask(shelf, signal, &mut events)?;
         let _count = events.len();
-        let mut told = entries_of(self.alloc, &self.labels, &events)?;
+        let mut told = tell_all(self.alloc, &mut self.labels, &events)?;
         told.push(Entry::Outcome(name, outcome))?;
         Ok(told)
     }
@@ -78,7 +92,7 @@ impl Machine {
         ensures memory { IfErr result (λ e. e ≡ fault.NoMemory) }
     {
         let computed = NodeId::of(self.names.number_of(&name));
-        let seen = seen_of(self.world.graph.mark_of(computed));
+        let seen = seen_of(self.world.signals.graph.mark_of(computed));
         let told = one(self.alloc, Entry::State(name, seen))?;
         Ok(told)
     }
@@ -92,11 +106,10 @@ impl Machine {
         ensures memory { IfErr result (λ e. e ≡ fault.NoMemory) }
     {
         let computed = NodeId::of(self.names.number_of(&name));
-        let _made = self.world.graph.made();
-        let sources = labels_of(
+        let sources = names_of_signals(
             self.alloc,
             &self.labels.signals,
-            self.world.graph.sources(computed),
+            self.world.signals.graph.sources(computed),
         )?;
         let told = one(self.alloc, Entry::Sources(name, sources))?;
         Ok(told)
@@ -112,10 +125,26 @@ impl Machine {
         ensures memory { IfErr result (λ e. e ≡ fault.NoMemory) }
     {
         let watcher = WatcherId::of(self.names.number_of(&name));
-        let _made = self.world.graph.made();
-        let pending = self.world.watchers.pending(&self.world.graph, watcher)?;
-        let pending = labels_of(self.alloc, &self.labels.signals, &pending)?;
+        let pending = self
+            .world
+            .signals
+            .watchers
+            .pending(&self.world.signals.graph, watcher)?;
+        let pending = names_of_signals(self.alloc, &self.labels.signals, &pending)?;
         let told = one(self.alloc, Entry::Pending(name, pending))?;
+        Ok(told)
+    }
+    /// Tells a page as it was last brought up to date.
+    pub(crate) fn show(&self, name: Name) -> Result<Vec<Entry>, EffectFault>
+        requires ready { IsReady self.now }
+        ensures steps { (hosts : Hosts) (slacks : List ℕ) (asked : List HostPlace) → IsSound hosts asked self.now.world →
+            IfOk result (λ es. Steps hosts asked self.now es.items
+            (done (environment hosts slacks) (plain_of asked self.now) (command.Named verb.Show name))) }
+        ensures memory { IfErr result (λ e. e ≡ fault.NoMemory) }
+    {
+        let page = PageId::of(self.names.number_of(&name));
+        let shown = shown_of(self.alloc, &self.pages, page)?;
+        let told = one(self.alloc, Entry::Page(name, shown))?;
         Ok(told)
     }
 }

@@ -1,39 +1,26 @@
 // Cells are set, computeds rewired, things disposed, and watchers told what to watch.
-ghost use Rattle.std.specs.Prelude.{◌≡◌, ◌<◌, ◌≤◌, ◌^◌, ℕ, [], List, None, IfOk, IfErr, OnOk, length, map, option_map};
-ghost use Rattle.sig_effect.specs.Events.{thing_of};
-ghost use Rattle.live_model.specs.Names.{thing_named};
+ghost use Rattle.std.specs.Prelude.{◌≡◌, ◌<◌, ◌≤◌, ◌^◌, ℕ, [], List, None, IfOk, IfErr, OnOk, length, map};
 ghost use Rattle.signal_model.specs.Recipes.{Hosts};
 ghost use Rattle.sig_host.specs.Hosts.{HostPlace, most_asked};
 ghost use Rattle.sig_effect.specs.declared.errors.EffectFault.TheVariants as fault;
-ghost use Rattle.sig_effect.specs.Agreeing.{environment, Agrees, AreRuled, IsSound};
-ghost use Rattle.sig_effect.specs.Wholes.{whole_of};
+ghost use Rattle.sig_effect.specs.Agreeing.{environment, AreRuled};
+ghost use Rattle.effect_world.specs.Agreeing.{Agrees, AreOwned, IsSound};
+ghost use Rattle.effect_world.specs.Weighing.{weight};
+ghost use Rattle.effect_world.specs.Wholes.{whole_of};
 ghost use Rattle.live_cmd.specs.declared.command.Command.TheVariants as command;
 ghost use Rattle.live_cmd.specs.declared.command.Verb.TheVariants as verb;
 ghost use Rattle.live_model.specs.Machine.{count_refusal, done, host_refusal, unwatch_refusal};
 ghost use Rattle.live_core.specs.Keeping.{AreFine, IsReady, Leaves, Steps};
 ghost use Rattle.live_core.specs.Views.{plain_of};
 
-use crate::labels::entries_of;
 use crate::machine::Machine;
 use live_cmd::{Entry, NameList, SourceText};
-use live_model::{Kind, Meaning};
+use live_labels::tell_all;
+use live_linking::{linked_source, signals_of};
+use live_pages::keep_live;
 use sig_base::{Name, NodeId, Scalar, WatcherId};
-use sig_effect::{EffectFault, Thing};
+use sig_effect::EffectFault;
 use sig_host::{EqualsRule, Lent, Shelf};
-
-// The thing that a name stands for, if it is one that can be disposed.
-fn thing_named(meaning: Option<Meaning>) -> Option<Thing>
-    ensures { option_map thing_of result ≡ thing_named meaning }
-{
-    let Some(meaning) = meaning else {
-        return None;
-    };
-    match meaning.kind {
-        Kind::Cell | Kind::Computed => Some(Thing::Signal(NodeId::of(meaning.number))),
-        Kind::Watcher => Some(Thing::Watcher(WatcherId::of(meaning.number))),
-        Kind::Template | Kind::Page => None,
-    }
-}
 
 impl Machine {
     /// Gives a cell a value. What is notified is told.
@@ -44,13 +31,15 @@ impl Machine {
         value: Scalar,
     ) -> Result<Vec<Entry>, EffectFault>
         requires ready { IsReady self.old }
-        requires worn { self.old.world.graph.state.worn < 2 ^ 125 }
-        requires ruled { AreRuled (length rules.now) self.old.world.graph.state.signals }
+        requires owned { AreOwned self.old.world }
+        requires weight { weight self.old.world < 2 ^ 125 }
+        requires ruled { AreRuled (length rules.now) self.old.world.signals.graph.state.signals }
         requires fine { AreFine self.old (command.Set name.now value) }
         ensures steps { (hosts : Hosts) (asked : List HostPlace) → IsSound hosts asked self.old.world →
             IfOk result (λ es. Steps hosts asked self.new es.items
             (done (environment hosts (map (λ r. r.slack) rules.now)) (plain_of asked self.old) (command.Set name.now value))) }
-        ensures leaves { (asked : List HostPlace) (count : ℕ) → OnOk result (Leaves asked asked count self.old self.new) }
+        ensures leaves { (hosts : Hosts) (asked : List HostPlace) (count : ℕ) → IsSound hosts asked self.old.world →
+            OnOk result (Leaves asked asked count self.old self.new) }
         ensures memory { IfErr result (λ e. e ≡ fault.NoMemory) }
     {
         let cell = NodeId::of(self.names.number_of(name));
@@ -58,7 +47,7 @@ impl Machine {
         let _done = self
             .world
             .change_cell(rules, cell, value.into(), &mut events)?;
-        let told = entries_of(self.alloc, &self.labels, &events)?;
+        let told = tell_all(self.alloc, &mut self.labels, &events)?;
         Ok(told)
     }
 
@@ -70,7 +59,7 @@ impl Machine {
         source: SourceText,
     ) -> Result<Vec<Entry>, EffectFault>
         requires ready { IsReady self.old }
-        requires worn { self.old.world.graph.state.worn < 2 ^ 125 }
+        requires weight { weight self.old.world < 2 ^ 125 }
         requires agrees { Agrees (⟦<Shelf as Lent>⟧.asked shelf.old) self.old.world }
         requires counted { ⟦<Shelf as Lent>⟧.counted shelf.old }
         requires few { count_refusal (command.Rewire name.now source) ≡ None }
@@ -79,7 +68,8 @@ impl Machine {
         ensures steps { (hosts : Hosts) (slacks : List ℕ) → IsSound hosts (⟦<Shelf as Lent>⟧.asked shelf.old) self.old.world →
             IfOk result (λ es. Steps hosts (⟦<Shelf as Lent>⟧.asked shelf.new) self.new es.items
             (done (environment hosts slacks) (plain_of (⟦<Shelf as Lent>⟧.asked shelf.old) self.old) (command.Rewire name.now source))) }
-        ensures leaves { (count : ℕ) → OnOk result
+        ensures leaves { (hosts : Hosts) (count : ℕ) → ⟦<Shelf as Lent>⟧.answers hosts shelf.old →
+            IsSound hosts (⟦<Shelf as Lent>⟧.asked shelf.old) self.old.world → OnOk result
             (Leaves (⟦<Shelf as Lent>⟧.asked shelf.old) (⟦<Shelf as Lent>⟧.asked shelf.new) count self.old self.new) }
         ensures answers { (hosts : Hosts) → ⟦<Shelf as Lent>⟧.answers hosts shelf.old → OnOk result (⟦<Shelf as Lent>⟧.answers hosts shelf.new) }
         ensures counted { OnOk result (⟦<Shelf as Lent>⟧.counted shelf.new) }
@@ -87,41 +77,47 @@ impl Machine {
         ensures memory { IfErr result (λ e. e ≡ fault.NoMemory) }
     {
         let computed = NodeId::of(self.names.number_of(name));
-        let linked = self.names.linked_source(self.alloc, source)?;
+        let linked = linked_source(self.alloc, &self.names, source)?;
         let mut events = Vec::new(self.alloc);
         self.world
             .rewire(shelf, computed, linked.recipe, linked.slots, &mut events)?;
-        let told = entries_of(self.alloc, &self.labels, &events)?;
+        let told = tell_all(self.alloc, &mut self.labels, &events)?;
         Ok(told)
     }
 
-    /// Takes a cell, a computed or a watcher away. A host formula that it asks is dropped, and told before.
+    /// Takes a thing away, and before it all that stands under it, the last made first. Cleanups on the way are done; a host formula that
+    /// a computed asks is dropped, and told before. Pages that end are dropped.
     pub(crate) fn dispose(
         &mut self,
         shelf: &mut Shelf,
+        rules: &[EqualsRule],
         name: &Name,
     ) -> Result<Vec<Entry>, EffectFault>
         requires ready { IsReady self.old }
-        requires worn { self.old.world.graph.state.worn < 2 ^ 125 }
+        requires weight { weight self.old.world < 2 ^ 125 }
         requires agrees { Agrees (⟦<Shelf as Lent>⟧.asked shelf.old) self.old.world }
         requires counted { ⟦<Shelf as Lent>⟧.counted shelf.old }
+        requires ruled { AreRuled (length rules.now) self.old.world.signals.graph.state.signals }
         requires fine { AreFine self.old (command.Named verb.Dispose name.now) }
-        ensures steps { (hosts : Hosts) (slacks : List ℕ) → IsSound hosts (⟦<Shelf as Lent>⟧.asked shelf.old) self.old.world →
+        ensures steps { (hosts : Hosts) → IsSound hosts (⟦<Shelf as Lent>⟧.asked shelf.old) self.old.world →
             IfOk result (λ es. Steps hosts (⟦<Shelf as Lent>⟧.asked shelf.new) self.new es.items
-            (done (environment hosts slacks) (plain_of (⟦<Shelf as Lent>⟧.asked shelf.old) self.old) (command.Named verb.Dispose name.now))) }
-        ensures leaves { (count : ℕ) → OnOk result
+            (done (environment hosts (map (λ r. r.slack) rules.now)) (plain_of (⟦<Shelf as Lent>⟧.asked shelf.old) self.old) (command.Named verb.Dispose name.now))) }
+        ensures leaves { (hosts : Hosts) (count : ℕ) → ⟦<Shelf as Lent>⟧.answers hosts shelf.old →
+            IsSound hosts (⟦<Shelf as Lent>⟧.asked shelf.old) self.old.world → OnOk result
             (Leaves (⟦<Shelf as Lent>⟧.asked shelf.old) (⟦<Shelf as Lent>⟧.asked shelf.new) count self.old self.new) }
         ensures answers { (hosts : Hosts) → ⟦<Shelf as Lent>⟧.answers hosts shelf.old → OnOk result (⟦<Shelf as Lent>⟧.answers hosts shelf.new) }
         ensures counted { OnOk result (⟦<Shelf as Lent>⟧.counted shelf.new) }
         ensures most { OnOk result (most_asked (⟦<Shelf as Lent>⟧.asked shelf.new) ≤ most_asked (⟦<Shelf as Lent>⟧.asked shelf.old)) }
         ensures memory { IfErr result (λ e. e ≡ fault.NoMemory) }
     {
-        let Some(thing) = thing_named(self.names.meaning_of(name)) else {
+        let Some(thing) = self.names.thing_named(name) else {
             return Ok(Vec::new(self.alloc));
         };
         let mut events = Vec::new(self.alloc);
-        self.world.dispose(shelf, thing, &mut events)?;
-        let told = entries_of(self.alloc, &self.labels, &events)?;
+        self.world.dispose(shelf, rules, thing, &mut events)?;
+        let _count = events.len();
+        let told = tell_all(self.alloc, &mut self.labels, &events)?;
+        keep_live(&mut self.pages, &self.world.tables.pages);
         Ok(told)
     }
 
@@ -132,15 +128,17 @@ impl Machine {
         signals: &NameList,
     ) -> Result<Vec<Entry>, EffectFault>
         requires ready { IsReady self.old }
+        requires owned { AreOwned self.old.world }
         requires fine { AreFine self.old (command.Watch name.now signals.now) }
         ensures steps { (hosts : Hosts) (slacks : List ℕ) (asked : List HostPlace) → IsSound hosts asked self.old.world →
             IfOk result (λ es. Steps hosts asked self.new es.items
             (done (environment hosts slacks) (plain_of asked self.old) (command.Watch name.now signals.now))) }
-        ensures leaves { (asked : List HostPlace) (count : ℕ) → OnOk result (Leaves asked asked count self.old self.new) }
+        ensures leaves { (hosts : Hosts) (asked : List HostPlace) (count : ℕ) → IsSound hosts asked self.old.world →
+            OnOk result (Leaves asked asked count self.old self.new) }
         ensures memory { IfErr result (λ e. e ≡ fault.NoMemory) }
     {
         let watcher = WatcherId::of(self.names.number_of(name));
-        let signals = self.names.signals_of(self.alloc, signals.as_slice())?;
+        let signals = signals_of(self.alloc, &self.names, signals.as_slice())?;
         self.world.watch(watcher, &signals)?;
         Ok(Vec::new(self.alloc))
     }
@@ -148,12 +146,14 @@ impl Machine {
     /// Lets a watcher no longer watch a signal.
     pub(crate) fn unwatch(&mut self, name: &Name, signal: &Name) -> Result<Vec<Entry>, EffectFault>
         requires ready { IsReady self.old }
+        requires owned { AreOwned self.old.world }
         requires fine { AreFine self.old (command.Unwatch name.now signal.now) }
         requires watched { unwatch_refusal (plain_of [] self.old) (command.Unwatch name.now signal.now) ≡ None }
         ensures steps { (hosts : Hosts) (slacks : List ℕ) (asked : List HostPlace) → IsSound hosts asked self.old.world →
             IfOk result (λ es. Steps hosts asked self.new es.items
             (done (environment hosts slacks) (plain_of asked self.old) (command.Unwatch name.now signal.now))) }
-        ensures leaves { (asked : List HostPlace) (count : ℕ) → OnOk result (Leaves asked asked count self.old self.new) }
+        ensures leaves { (hosts : Hosts) (asked : List HostPlace) (count : ℕ) → IsSound hosts asked self.old.world →
+            OnOk result (Leaves asked asked count self.old self.new) }
         ensures memory { IfErr result (λ e. e ≡ fault.NoMemory) }
     {
         let watcher = WatcherId::of(self.names.number_of(name));

@@ -3,15 +3,13 @@
 
 mod answers;
 mod changes;
-mod labels;
-mod links;
+mod faults;
 mod live;
 mod machine;
 mod makings;
-mod names;
-mod pages;
+mod mounting;
+mod naming;
 mod performing;
 mod refusals;
-mod uses;
 
 pub use live::{Live, Running};

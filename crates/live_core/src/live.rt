@@ -3,9 +3,10 @@ ghost use Rattle.std.specs.Prelude.{◌≡◌, ◌+◌, ◌*◌, ◌≤◌, ◌<
 ghost use Rattle.signal_model.specs.Recipes.{Hosts};
 ghost use Rattle.effect_model.specs.Worlds.{Environment};
 ghost use Rattle.sig_host.specs.Hosts.{hosts_of};
-ghost use Rattle.sig_effect.specs.Agreeing.{environment, IsSound};
+ghost use Rattle.sig_effect.specs.Agreeing.{environment};
+ghost use Rattle.effect_world.specs.Agreeing.{IsSound};
 ghost use Rattle.live_model.specs.Machine.{empty, step, told, Machine};
-ghost use Rattle.live_core.specs.Keeping.{IsKept};
+ghost use Rattle.live_core.specs.Keeping.{IsKept, SomeHosts};
 ghost use Rattle.live_core.specs.Views.{plain_of};
 
 use crate::machine;
@@ -29,8 +30,8 @@ pub trait Running {
     ghost kept: { Self → Type 0 };
 }
 
-/// The names, signals, watchers, templates and pages of a script, with the host formulas and the equality rules. It does one command after
-/// the other.
+/// The names, signals, watchers, owners, effects, templates and pages of a script, with the host formulas and the equality rules. It does
+/// one command after the other.
 #[derive(Drop)]
 pub struct Live {
     machine: machine::Machine,
@@ -91,6 +92,7 @@ impl Live {
     /// `NoMemory` where memory ran out. After it each later call answers that too, and changes nothing.
     pub fn do_command(&mut self, item: Item) -> Result<Vec<Entry>, NoMemory>
         requires kept { ⟦<Live as Running>⟧.kept self.old }
+        requires meant { self.old.broken ≡ false → SomeHosts (λ hosts. ⟦<Shelf as Lent>⟧.answers hosts self.old.shelf × ⟦<Live as Running>⟧.sound hosts self.old) }
         requires counted { self.old.broken ≡ false → ⟦<Shelf as Lent>⟧.counted self.old.shelf }
         requires room { self.old.done < 2 ^ 23 }
         ensures step { (hosts : Hosts) → ⟦<Shelf as Lent>⟧.answers hosts self.old.shelf → ⟦<Live as Running>⟧.sound hosts self.old →
@@ -99,6 +101,7 @@ impl Live {
             ≡ step (environment hosts (⟦<Live as Running>⟧.slacks self.old)) (⟦<Live as Running>⟧.machine self.old) item)
             × ⟦<Live as Running>⟧.sound hosts self.new × ⟦<Shelf as Lent>⟧.answers hosts self.new.shelf) }
         ensures kept { ⟦<Live as Running>⟧.kept self.new }
+        ensures meant { self.new.broken ≡ false → SomeHosts (λ hosts. ⟦<Shelf as Lent>⟧.answers hosts self.new.shelf × ⟦<Live as Running>⟧.sound hosts self.new) }
         ensures counted { self.new.broken ≡ false → ⟦<Shelf as Lent>⟧.counted self.new.shelf }
         ensures slacks { ⟦<Live as Running>⟧.slacks self.new ≡ ⟦<Live as Running>⟧.slacks self.old }
         ensures done { OnOk result (self.new.done ≡ self.old.done + 1) }

@@ -1,21 +1,24 @@
-// Cells, computeds, watchers and templates are made, under names that are new.
-ghost use Rattle.std.specs.Prelude.{◌≡◌, ◌++◌, ◌∷◌, ◌<◌, ◌^◌, ℕ, [], List, None, IfOk, IfErr, OnOk, length};
-ghost use Rattle.live_model.specs.declared.names.Kind.TheVariants as kind;
+// Cells, computeds, owners, effects, watchers and templates are made, under names that are new.
+ghost use Rattle.std.specs.Prelude.{◌≡◌, ◌<◌, ◌^◌, ℕ, [], List, None, IfOk, IfErr, OnOk, length};
 ghost use Rattle.signal_model.specs.Recipes.{Hosts};
 ghost use Rattle.sig_host.specs.Hosts.{HostPlace};
 ghost use Rattle.sig_effect.specs.declared.errors.EffectFault.TheVariants as fault;
-ghost use Rattle.sig_effect.specs.Agreeing.{environment, Agrees, IsSound};
-ghost use Rattle.sig_effect.specs.Wholes.{whole_of};
+ghost use Rattle.sig_effect.specs.Agreeing.{environment};
+ghost use Rattle.effect_world.specs.Agreeing.{Agrees, AreOwned, IsSound};
+ghost use Rattle.effect_world.specs.Wholes.{whole_of};
+ghost use Rattle.effect_world.specs.Weighing.{weight};
 ghost use Rattle.live_cmd.specs.declared.command.Command.TheVariants as command;
 ghost use Rattle.live_model.specs.Machine.{count_refusal, done, host_refusal, over_limit, rule_refusal};
-ghost use Rattle.live_model.specs.Names.{meaning_of};
 ghost use Rattle.live_core.specs.Keeping.{AreFine, IsReady, Leaves, Steps};
 ghost use Rattle.live_core.specs.Views.{plain_of};
 
+use crate::faults::{make_effect, make_owner};
 use crate::machine::Machine;
-use live_cmd::{Entry, Formulas, SourceText, Try};
+use effect_tables::Script;
+use live_cmd::{EffectBody, Entry, Formulas, SourceText, Try};
+use live_linking::{linked_source, linked_texts, links_of, owner_of};
 use live_model::Kind;
-use sig_base::{Name, NoMemory, NodeId, Scalar, WatcherId};
+use sig_base::{Name, Scalar};
 use sig_effect::EffectFault;
 
 // The place of an equality rule.
@@ -29,55 +32,31 @@ fn rule_place(equals: Option<u64>) -> Option<usize>
 }
 
 impl Machine {
-    // Gives the next signal a name.
-    fn name_signal(&mut self, name: Name, kind: Kind, id: NodeId) -> Result<(), NoMemory>
-        requires { meaning_of self.old.names name ≡ None }
-        ensures names { OnOk result (self.new.names ≡ self.old.names ++ (name, record { kind = kind; number = id }) ∷ []) }
-        ensures signals { OnOk result (self.new.labels.signals.items ≡ self.old.labels.signals.items ++ name ∷ []) }
-        ensures watchers { OnOk result (self.new.labels.watchers ≡ self.old.labels.watchers) }
-        ensures world { self.new.world ≡ self.old.world }
-        ensures templates { self.new.templates ≡ self.old.templates }
-        ensures pages { self.new.pages ≡ self.old.pages }
-    {
-        self.labels.signals.push(name.copy()?)?;
-        self.names.make(name, kind, id.number())?;
-        Ok(())
-    }
-
-    // Gives the next watcher a name.
-    fn name_watcher(&mut self, name: Name, watcher: WatcherId) -> Result<(), NoMemory>
-        requires { meaning_of self.old.names name ≡ None }
-        ensures names { OnOk result (self.new.names ≡ self.old.names ++ (name, record { kind = kind.Watcher; number = watcher }) ∷ []) }
-        ensures watchers { OnOk result (self.new.labels.watchers.items ≡ self.old.labels.watchers.items ++ name ∷ []) }
-        ensures signals { OnOk result (self.new.labels.signals ≡ self.old.labels.signals) }
-        ensures world { self.new.world ≡ self.old.world }
-        ensures templates { self.new.templates ≡ self.old.templates }
-        ensures pages { self.new.pages ≡ self.old.pages }
-    {
-        self.labels.watchers.push(name.copy()?)?;
-        self.names.make(name, Kind::Watcher, watcher.number())?;
-        Ok(())
-    }
-
     /// Makes a cell, with an equality rule perhaps.
     pub(crate) fn make_cell(
         &mut self,
         name: Name,
         value: Scalar,
         equals: Option<u64>,
+        inside: Option<Name>,
     ) -> Result<Vec<Entry>, EffectFault>
         requires ready { IsReady self.old }
-        requires worn { self.old.world.graph.state.worn < 2 ^ 125 }
-        requires fine { AreFine self.old (command.Cell name value equals) }
-        requires room { over_limit (plain_of [] self.old) (command.Cell name value equals) ≡ None }
+        requires owned { AreOwned self.old.world }
+        requires weight { weight self.old.world < 2 ^ 125 }
+        requires fine { AreFine self.old (command.Cell name value equals inside) }
+        requires room { over_limit (plain_of [] self.old) (command.Cell name value equals inside) ≡ None }
         ensures steps { (hosts : Hosts) (slacks : List ℕ) (asked : List HostPlace) → IsSound hosts asked self.old.world →
             IfOk result (λ es. Steps hosts asked self.new es.items
-            (done (environment hosts slacks) (plain_of asked self.old) (command.Cell name value equals))) }
-        ensures leaves { (asked : List HostPlace) (slacks : List ℕ) (count : ℕ) → length slacks ≡ count → rule_refusal slacks equals ≡ None →
+            (done (environment hosts slacks) (plain_of asked self.old) (command.Cell name value equals inside))) }
+        ensures leaves { (hosts : Hosts) (asked : List HostPlace) (slacks : List ℕ) (count : ℕ) → IsSound hosts asked self.old.world →
+            length slacks ≡ count → rule_refusal slacks equals ≡ None →
             OnOk result (Leaves asked asked count self.old self.new) }
         ensures memory { IfErr result (λ e. e ≡ fault.NoMemory) }
     {
-        let id = self.world.make_cell(value.into(), rule_place(equals))?;
+        let owner = owner_of(&self.names, &inside);
+        let id = self
+            .world
+            .make_cell(value.into(), rule_place(equals), owner)?;
         self.name_signal(name, Kind::Cell, id)?;
         Ok(Vec::new(self.alloc))
     }
@@ -87,24 +66,83 @@ impl Machine {
         &mut self,
         name: Name,
         source: SourceText,
+        inside: Option<Name>,
     ) -> Result<Vec<Entry>, EffectFault>
         requires ready { IsReady self.old }
-        requires worn { self.old.world.graph.state.worn < 2 ^ 125 }
-        requires few { count_refusal (command.Computed name source) ≡ None }
-        requires fine { AreFine self.old (command.Computed name source) }
-        requires room { over_limit (plain_of [] self.old) (command.Computed name source) ≡ None }
+        requires owned { AreOwned self.old.world }
+        requires weight { weight self.old.world < 2 ^ 125 }
+        requires few { count_refusal (command.Computed name source inside) ≡ None }
+        requires fine { AreFine self.old (command.Computed name source inside) }
+        requires room { over_limit (plain_of [] self.old) (command.Computed name source inside) ≡ None }
         ensures steps { (hosts : Hosts) (slacks : List ℕ) (asked : List HostPlace) → Agrees asked self.old.world →
             host_refusal (whole_of asked self.old.world) source ≡ None → IsSound hosts asked self.old.world →
             IfOk result (λ es. Steps hosts asked self.new es.items
-            (done (environment hosts slacks) (plain_of asked self.old) (command.Computed name source))) }
-        ensures leaves { (asked : List HostPlace) (rules : ℕ) → host_refusal (whole_of asked self.old.world) source ≡ None →
+            (done (environment hosts slacks) (plain_of asked self.old) (command.Computed name source inside))) }
+        ensures leaves { (hosts : Hosts) (asked : List HostPlace) (rules : ℕ) → IsSound hosts asked self.old.world →
+            Agrees asked self.old.world → host_refusal (whole_of asked self.old.world) source ≡ None →
             OnOk result (Leaves asked asked rules self.old self.new) }
         ensures memory { IfErr result (λ e. e ≡ fault.NoMemory) }
     {
-        let _made = self.world.graph.made();
-        let linked = self.names.linked_source(self.alloc, source)?;
-        let id = self.world.make_computed(linked.recipe, linked.slots)?;
+        let _made = self.world.signals.graph.made();
+        let owner = owner_of(&self.names, &inside);
+        let linked = linked_source(self.alloc, &self.names, source)?;
+        let id = self
+            .world
+            .make_computed(linked.recipe, linked.slots, owner)?;
         self.name_signal(name, Kind::Computed, id)?;
+        Ok(Vec::new(self.alloc))
+    }
+
+    /// Makes an owner.
+    pub(crate) fn make_owner(
+        &mut self,
+        name: Name,
+        inside: Option<Name>,
+    ) -> Result<Vec<Entry>, EffectFault>
+        requires ready { IsReady self.old }
+        requires owned { AreOwned self.old.world }
+        requires fine { AreFine self.old (command.Owner name inside) }
+        requires room { over_limit (plain_of [] self.old) (command.Owner name inside) ≡ None }
+        ensures steps { (hosts : Hosts) (slacks : List ℕ) (asked : List HostPlace) → IsSound hosts asked self.old.world →
+            IfOk result (λ es. Steps hosts asked self.new es.items
+            (done (environment hosts slacks) (plain_of asked self.old) (command.Owner name inside))) }
+        ensures leaves { (hosts : Hosts) (asked : List HostPlace) (rules : ℕ) → IsSound hosts asked self.old.world →
+            OnOk result (Leaves asked asked rules self.old self.new) }
+        ensures memory { IfErr result (λ e. e ≡ fault.NoMemory) }
+    {
+        let owner = owner_of(&self.names, &inside);
+        let id = make_owner(&mut self.world, owner)?;
+        self.name_owner(name, id)?;
+        Ok(Vec::new(self.alloc))
+    }
+
+    /// Makes an effect of a body. It has not run.
+    pub(crate) fn make_effect(
+        &mut self,
+        name: Name,
+        body: EffectBody,
+        inside: Option<Name>,
+    ) -> Result<Vec<Entry>, EffectFault>
+        requires ready { IsReady self.old }
+        requires owned { AreOwned self.old.world }
+        requires weight { weight self.old.world < 2 ^ 125 }
+        requires few { count_refusal (command.Effect name body inside) ≡ None }
+        requires fine { AreFine self.old (command.Effect name body inside) }
+        ensures steps { (hosts : Hosts) (slacks : List ℕ) (asked : List HostPlace) → IsSound hosts asked self.old.world →
+            IfOk result (λ es. Steps hosts asked self.new es.items
+            (done (environment hosts slacks) (plain_of asked self.old) (command.Effect name body inside))) }
+        ensures leaves { (hosts : Hosts) (asked : List HostPlace) (rules : ℕ) → IsSound hosts asked self.old.world →
+            OnOk result (Leaves asked asked rules self.old self.new) }
+        ensures memory { IfErr result (λ e. e ≡ fault.NoMemory) }
+    {
+        let owner = owner_of(&self.names, &inside);
+        let links = links_of(self.alloc, &self.names, &name, body.as_body())?;
+        let script = Script {
+            body: body.into_body(),
+            links,
+        };
+        let id = make_effect(self.alloc, &mut self.world, script, owner)?;
+        self.name_effect(name, id)?;
         Ok(Vec::new(self.alloc))
     }
 
@@ -115,12 +153,14 @@ impl Machine {
         tries: Option<Try>,
     ) -> Result<Vec<Entry>, EffectFault>
         requires ready { IsReady self.old }
+        requires owned { AreOwned self.old.world }
         requires fine { AreFine self.old (command.Watcher name tries) }
         requires room { over_limit (plain_of [] self.old) (command.Watcher name tries) ≡ None }
         ensures steps { (hosts : Hosts) (slacks : List ℕ) (asked : List HostPlace) → IsSound hosts asked self.old.world →
             IfOk result (λ es. Steps hosts asked self.new es.items
             (done (environment hosts slacks) (plain_of asked self.old) (command.Watcher name tries))) }
-        ensures leaves { (asked : List HostPlace) (rules : ℕ) → OnOk result (Leaves asked asked rules self.old self.new) }
+        ensures leaves { (hosts : Hosts) (asked : List HostPlace) (rules : ℕ) → IsSound hosts asked self.old.world →
+            OnOk result (Leaves asked asked rules self.old self.new) }
         ensures memory { IfErr result (λ e. e ≡ fault.NoMemory) }
     {
         let _count = self.labels.watchers.len();
@@ -140,10 +180,11 @@ impl Machine {
         ensures steps { (hosts : Hosts) (slacks : List ℕ) (asked : List HostPlace) → IsSound hosts asked self.old.world →
             IfOk result (λ es. Steps hosts asked self.new es.items
             (done (environment hosts slacks) (plain_of asked self.old) (command.Template name texts))) }
-        ensures leaves { (asked : List HostPlace) (rules : ℕ) → OnOk result (Leaves asked asked rules self.old self.new) }
+        ensures leaves { (hosts : Hosts) (asked : List HostPlace) (rules : ℕ) → IsSound hosts asked self.old.world →
+            OnOk result (Leaves asked asked rules self.old self.new) }
         ensures memory { IfErr result (λ e. e ≡ fault.NoMemory) }
     {
-        let texts = self.names.linked_texts(self.alloc, texts)?;
+        let texts = linked_texts(self.alloc, &self.names, texts)?;
         let template = self.templates.len() as u128;
         self.templates.push(texts)?;
         self.names.make(name, Kind::Template, template)?;

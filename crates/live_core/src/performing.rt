@@ -3,32 +3,27 @@ ghost use Rattle.std.specs.Prelude.{◌≡◌, ◌+◌, ◌≤◌, ◌<◌, ◌^
 ghost use Rattle.signal_model.specs.Recipes.{Hosts};
 ghost use Rattle.sig_host.specs.Hosts.{HostPlace, most_asked};
 ghost use Rattle.sig_effect.specs.declared.errors.EffectFault.TheVariants as fault;
-ghost use Rattle.sig_effect.specs.Agreeing.{environment, Agrees, AreNew, IsSound};
+ghost use Rattle.sig_effect.specs.Agreeing.{environment, AreNew};
+ghost use Rattle.effect_world.specs.Agreeing.{IsSound};
+ghost use Rattle.effect_world.specs.Weighing.{weight};
 ghost use Rattle.live_cmd.specs.declared.command.Item.TheVariants as item;
 ghost use Rattle.live_cmd.specs.declared.command.Command.TheVariants as command;
 ghost use Rattle.live_model.specs.Machine.{count_refusal, done, empty, over_limit, place_refusal, step, unwatch_refusal};
 ghost use Rattle.live_core.specs.Keeping.{AreFine, Holds, IsReady, Leaves, Steps};
 ghost use Rattle.live_core.specs.Views.{plain_of};
-ghost use Rattle.sig_effect.specs.Wholes.{whole_of};
+ghost use Rattle.effect_world.specs.Wholes.{whole_of};
 
 use crate::answers::one;
-use crate::machine::{Labels, Machine};
-use crate::names::Names;
+use crate::faults::memory_of;
+use crate::machine::Machine;
+use effect_world::World;
 use live_cmd::{Command, Entry, Item, Verb};
+use live_labels::Labels;
+use live_names::Names;
 use sig_base::{Name, NoMemory};
-use sig_effect::{EffectFault, World};
+use sig_effect::EffectFault;
 use sig_host::{EqualsRule, Lent, Shelf};
 use std::alloc::Global;
-
-// Want of memory, the only fault of a command that isn't refused.
-fn want_of_memory(why: EffectFault) -> NoMemory
-    requires { why ≡ fault.NoMemory }
-{
-    match why {
-        EffectFault::NoMemory => NoMemory,
-        EffectFault::Limit | EffectFault::Gone => unreachable!(),
-    }
-}
 
 impl Machine {
     /// The machine before the first command.
@@ -37,16 +32,13 @@ impl Machine {
         ensures sound { (hosts : Hosts) (asked : List HostPlace) → AreNew asked → IfOk result (λ m. IsSound hosts asked m.world) }
         ensures holds { (asked : List HostPlace) (rules : ℕ) → IfOk result (λ m. Holds asked rules m.world) }
         ensures ready { IfOk result IsReady }
-        ensures worn { IfOk result (λ m. m.world.graph.state.worn ≡ 0) }
+        ensures weight { IfOk result (λ m. weight m.world ≡ 0) }
     {
         let world = World::new(alloc)?;
         Ok(Machine {
             alloc,
             names: Names::new(alloc),
-            labels: Labels {
-                signals: Vec::new(alloc),
-                watchers: Vec::new(alloc),
-            },
+            labels: Labels::new(alloc),
             world,
             templates: Vec::new(alloc),
             pages: Vec::new(alloc),
@@ -57,24 +49,26 @@ impl Machine {
     fn do_verb(
         &mut self,
         shelf: &mut Shelf,
+        rules: &[EqualsRule],
         verb: Verb,
         name: Name,
     ) -> Result<Vec<Entry>, EffectFault>
         requires ready { IsReady self.old }
-        requires worn { self.old.world.graph.state.worn < 2 ^ 125 }
-        requires agrees { Agrees (⟦<Shelf as Lent>⟧.asked shelf.old) self.old.world }
+        requires weight { weight self.old.world < 2 ^ 124 }
+        requires holds { Holds (⟦<Shelf as Lent>⟧.asked shelf.old) (length rules.now) self.old.world }
         requires counted { ⟦<Shelf as Lent>⟧.counted shelf.old }
         requires most { most_asked (⟦<Shelf as Lent>⟧.asked shelf.old) < 2 ^ 124 }
         requires fine { AreFine self.old (command.Named verb name) }
-        ensures steps { (hosts : Hosts) (slacks : List ℕ) → ⟦<Shelf as Lent>⟧.answers hosts shelf.old →
+        ensures steps { (hosts : Hosts) → ⟦<Shelf as Lent>⟧.answers hosts shelf.old →
             IsSound hosts (⟦<Shelf as Lent>⟧.asked shelf.old) self.old.world →
             IfOk result (λ es. Steps hosts (⟦<Shelf as Lent>⟧.asked shelf.new) self.new es.items
-            (done (environment hosts slacks) (plain_of (⟦<Shelf as Lent>⟧.asked shelf.old) self.old) (command.Named verb name))) }
-        ensures leaves { (count : ℕ) → OnOk result
-            (Leaves (⟦<Shelf as Lent>⟧.asked shelf.old) (⟦<Shelf as Lent>⟧.asked shelf.new) count self.old self.new) }
+            (done (environment hosts (map (λ r. r.slack) rules.now)) (plain_of (⟦<Shelf as Lent>⟧.asked shelf.old) self.old) (command.Named verb name))) }
+        ensures leaves { (hosts : Hosts) → ⟦<Shelf as Lent>⟧.answers hosts shelf.old →
+            IsSound hosts (⟦<Shelf as Lent>⟧.asked shelf.old) self.old.world → OnOk result
+            (Leaves (⟦<Shelf as Lent>⟧.asked shelf.old) (⟦<Shelf as Lent>⟧.asked shelf.new) (length rules.now) self.old self.new) }
         ensures answers { (hosts : Hosts) → ⟦<Shelf as Lent>⟧.answers hosts shelf.old → OnOk result (⟦<Shelf as Lent>⟧.answers hosts shelf.new) }
         ensures counted { OnOk result (⟦<Shelf as Lent>⟧.counted shelf.new) }
-        ensures most { OnOk result (most_asked (⟦<Shelf as Lent>⟧.asked shelf.new) ≤ most_asked (⟦<Shelf as Lent>⟧.asked shelf.old) + 2 ^ 75) }
+        ensures most { OnOk result (most_asked (⟦<Shelf as Lent>⟧.asked shelf.new) ≤ most_asked (⟦<Shelf as Lent>⟧.asked shelf.old) + 2 ^ 80) }
         ensures memory { IfErr result (λ e. e ≡ fault.NoMemory) }
     {
         match verb {
@@ -83,7 +77,7 @@ impl Machine {
             Verb::Sources => self.sources(name),
             Verb::Pending => self.pending(name),
             Verb::Show => self.show(name),
-            Verb::Dispose => self.dispose(shelf, &name),
+            Verb::Dispose => self.dispose(shelf, rules, &name),
         }
     }
 
@@ -95,7 +89,7 @@ impl Machine {
         command: Command,
     ) -> Result<Vec<Entry>, EffectFault>
         requires ready { IsReady self.old }
-        requires worn { self.old.world.graph.state.worn < 2 ^ 125 }
+        requires weight { weight self.old.world < 2 ^ 124 }
         requires holds { Holds (⟦<Shelf as Lent>⟧.asked shelf.old) (length rules.now) self.old.world }
         requires counted { ⟦<Shelf as Lent>⟧.counted shelf.old }
         requires most { most_asked (⟦<Shelf as Lent>⟧.asked shelf.old) < 2 ^ 124 }
@@ -108,11 +102,12 @@ impl Machine {
             IsSound hosts (⟦<Shelf as Lent>⟧.asked shelf.old) self.old.world →
             IfOk result (λ es. Steps hosts (⟦<Shelf as Lent>⟧.asked shelf.new) self.new es.items
             (done (environment hosts (map (λ r. r.slack) rules.now)) (plain_of (⟦<Shelf as Lent>⟧.asked shelf.old) self.old) command)) }
-        ensures leaves { OnOk result
+        ensures leaves { (hosts : Hosts) → ⟦<Shelf as Lent>⟧.answers hosts shelf.old →
+            IsSound hosts (⟦<Shelf as Lent>⟧.asked shelf.old) self.old.world → OnOk result
             (Leaves (⟦<Shelf as Lent>⟧.asked shelf.old) (⟦<Shelf as Lent>⟧.asked shelf.new) (length rules.now) self.old self.new) }
         ensures answers { (hosts : Hosts) → ⟦<Shelf as Lent>⟧.answers hosts shelf.old → OnOk result (⟦<Shelf as Lent>⟧.answers hosts shelf.new) }
         ensures counted { OnOk result (⟦<Shelf as Lent>⟧.counted shelf.new) }
-        ensures most { OnOk result (most_asked (⟦<Shelf as Lent>⟧.asked shelf.new) ≤ most_asked (⟦<Shelf as Lent>⟧.asked shelf.old) + 2 ^ 75) }
+        ensures most { OnOk result (most_asked (⟦<Shelf as Lent>⟧.asked shelf.new) ≤ most_asked (⟦<Shelf as Lent>⟧.asked shelf.old) + 2 ^ 80) }
         ensures memory { IfErr result (λ e. e ≡ fault.NoMemory) }
     {
         match command {
@@ -120,17 +115,28 @@ impl Machine {
                 name,
                 value,
                 equals,
-            } => self.make_cell(name, value, equals),
+                inside,
+            } => self.make_cell(name, value, equals, inside),
             Command::Set { name, value } => self.set(rules, &name, value),
-            Command::Computed { name, source } => self.make_computed(name, source),
+            Command::Computed {
+                name,
+                source,
+                inside,
+            } => self.make_computed(name, source, inside),
             Command::Rewire { name, source } => self.rewire(shelf, &name, source),
+            Command::Owner { name, inside } => self.make_owner(name, inside),
             Command::Watcher { name, tries } => self.make_watcher(name, tries),
             Command::Watch { name, signals } => self.watch(&name, &signals),
             Command::Unwatch { name, signal } => self.unwatch(&name, &signal),
+            Command::Effect { name, body, inside } => self.make_effect(name, body, inside),
             Command::Template { name, texts } => self.make_template(name, texts),
-            Command::Mount { name, template } => self.mount(shelf, name, &template),
-            Command::Named { verb, name } => self.do_verb(shelf, verb, name),
-            Command::Flush => self.flush(shelf),
+            Command::Mount {
+                name,
+                template,
+                inside,
+            } => self.mount(shelf, name, &template, &inside),
+            Command::Named { verb, name } => self.do_verb(shelf, rules, verb, name),
+            Command::Flush => self.flush(shelf, rules),
         }
     }
 
@@ -142,7 +148,7 @@ impl Machine {
         command: Command,
     ) -> Result<Vec<Entry>, NoMemory>
         requires ready { IsReady self.old }
-        requires worn { self.old.world.graph.state.worn < 2 ^ 125 }
+        requires weight { weight self.old.world < 2 ^ 124 }
         requires holds { Holds (⟦<Shelf as Lent>⟧.asked shelf.old) (length rules.now) self.old.world }
         requires counted { ⟦<Shelf as Lent>⟧.counted shelf.old }
         requires most { most_asked (⟦<Shelf as Lent>⟧.asked shelf.old) < 2 ^ 124 }
@@ -150,18 +156,19 @@ impl Machine {
             IsSound hosts (⟦<Shelf as Lent>⟧.asked shelf.old) self.old.world →
             IfOk result (λ es. Steps hosts (⟦<Shelf as Lent>⟧.asked shelf.new) self.new es.items
             (step (environment hosts (map (λ r. r.slack) rules.now)) (plain_of (⟦<Shelf as Lent>⟧.asked shelf.old) self.old) (item.Do command))) }
-        ensures leaves { OnOk result
+        ensures leaves { (hosts : Hosts) → ⟦<Shelf as Lent>⟧.answers hosts shelf.old →
+            IsSound hosts (⟦<Shelf as Lent>⟧.asked shelf.old) self.old.world → OnOk result
             (Leaves (⟦<Shelf as Lent>⟧.asked shelf.old) (⟦<Shelf as Lent>⟧.asked shelf.new) (length rules.now) self.old self.new) }
         ensures answers { (hosts : Hosts) → ⟦<Shelf as Lent>⟧.answers hosts shelf.old → OnOk result (⟦<Shelf as Lent>⟧.answers hosts shelf.new) }
         ensures counted { OnOk result (⟦<Shelf as Lent>⟧.counted shelf.new) }
-        ensures most { OnOk result (most_asked (⟦<Shelf as Lent>⟧.asked shelf.new) ≤ most_asked (⟦<Shelf as Lent>⟧.asked shelf.old) + 2 ^ 75) }
+        ensures most { OnOk result (most_asked (⟦<Shelf as Lent>⟧.asked shelf.new) ≤ most_asked (⟦<Shelf as Lent>⟧.asked shelf.old) + 2 ^ 80) }
     {
         if let Some(refusal) = self.refusal_of(shelf, rules, &command)? {
             return one(self.alloc, Entry::Error(refusal));
         }
         match self.perform(shelf, rules, command) {
             Ok(entries) => Ok(entries),
-            Err(fault) => Err(want_of_memory(fault)),
+            Err(fault) => Err(memory_of(fault)),
         }
     }
 
@@ -173,7 +180,7 @@ impl Machine {
         item: Item,
     ) -> Result<Vec<Entry>, NoMemory>
         requires ready { IsReady self.old }
-        requires worn { self.old.world.graph.state.worn < 2 ^ 125 }
+        requires weight { weight self.old.world < 2 ^ 124 }
         requires holds { Holds (⟦<Shelf as Lent>⟧.asked shelf.old) (length rules.now) self.old.world }
         requires counted { ⟦<Shelf as Lent>⟧.counted shelf.old }
         requires most { most_asked (⟦<Shelf as Lent>⟧.asked shelf.old) < 2 ^ 124 }
@@ -181,11 +188,12 @@ impl Machine {
             IsSound hosts (⟦<Shelf as Lent>⟧.asked shelf.old) self.old.world →
             IfOk result (λ es. Steps hosts (⟦<Shelf as Lent>⟧.asked shelf.new) self.new es.items
             (step (environment hosts (map (λ r. r.slack) rules.now)) (plain_of (⟦<Shelf as Lent>⟧.asked shelf.old) self.old) item)) }
-        ensures leaves { OnOk result
+        ensures leaves { (hosts : Hosts) → ⟦<Shelf as Lent>⟧.answers hosts shelf.old →
+            IsSound hosts (⟦<Shelf as Lent>⟧.asked shelf.old) self.old.world → OnOk result
             (Leaves (⟦<Shelf as Lent>⟧.asked shelf.old) (⟦<Shelf as Lent>⟧.asked shelf.new) (length rules.now) self.old self.new) }
         ensures answers { (hosts : Hosts) → ⟦<Shelf as Lent>⟧.answers hosts shelf.old → OnOk result (⟦<Shelf as Lent>⟧.answers hosts shelf.new) }
         ensures counted { OnOk result (⟦<Shelf as Lent>⟧.counted shelf.new) }
-        ensures most { OnOk result (most_asked (⟦<Shelf as Lent>⟧.asked shelf.new) ≤ most_asked (⟦<Shelf as Lent>⟧.asked shelf.old) + 2 ^ 75) }
+        ensures most { OnOk result (most_asked (⟦<Shelf as Lent>⟧.asked shelf.new) ≤ most_asked (⟦<Shelf as Lent>⟧.asked shelf.old) + 2 ^ 80) }
     {
         match item {
             Item::Do(command) => self.try_command(shelf, rules, command),

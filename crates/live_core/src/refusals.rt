@@ -1,24 +1,55 @@
 // Why commands are refused, in this order: how many names there are, the names, the places of host formulas and rules, what there would be
 // too much of, and a signal that isn't watched.
-ghost use Rattle.std.specs.Prelude.{◌≡◌, ℕ, List, IfOk, length, map, slice_get};
-ghost use Rattle.sig_effect.specs.Wholes.{whole_of};
-ghost use Rattle.sig_host.specs.Hosts.{HostPlace};
+ghost use Rattle.std.specs.Prelude.{◌≡◌, ℕ, Bool, List, IfOk, length, map, slice_get};
+ghost use Rattle.std.specs.List.{filter};
 ghost use Rattle.effect_model.specs.Watching.{watches};
-ghost use Rattle.live_model.specs.Machine.{count_refusal, host_refusal, later_refusal, name_refusal};
-ghost use Rattle.live_model.specs.Machine.{one_too_many, over_limit, place_refusal, refusal_of};
-ghost use Rattle.live_model.specs.Names.{number_of};
+ghost use Rattle.effect_tables.specs.Numbering.{living};
+ghost use Rattle.effect_tables.specs.Placed.{effect_of};
+ghost use Rattle.effect_world.specs.Wholes.{whole_of};
+ghost use Rattle.sig_effect.specs.Wholes.{host_states};
+ghost use Rattle.sig_host.specs.Hosts.{HostPlace};
+ghost use Rattle.live_model.specs.Labels.{is_named, label_at};
+ghost use Rattle.live_model.specs.Machine.{body_refusal, count_refusal, host_refusal, later_refusal, name_refusal};
+ghost use Rattle.live_model.specs.Machine.{one_too_many, outside_refusal, over_limit, place_refusal, refusal_of};
 ghost use Rattle.live_model.specs.Machine.{rule_refusal, sources_refusal, taken_refusal, unwatch_refusal};
+ghost use Rattle.live_model.specs.Names.{first_within, number_of};
+ghost use Rattle.live_model.specs.Uses.{hosts_of_body, uses_of_body};
+ghost use Rattle.live_core.specs.Refused.{body_refused};
 ghost use Rattle.live_core.specs.Views.{plain_of};
 
 use crate::machine::Machine;
-use crate::uses::uses_of;
 use effect_model::MOST_WATCHERS;
-use live_cmd::{Command, LimitWord, Refusal, SourceText};
+use effect_tables::{MOST_EFFECTS, OwnerEntry};
+use effect_world::World;
+use live_cmd::{Command, EffectBody, LimitWord, Refusal, SourceText};
+use live_labels::named_count;
+use live_uses::{hosts_of_body, is_fit, uses_of, uses_of_body};
 use sig_base::{
     MOST_NODES, MOST_PAGES, MOST_SOURCES, MOST_TEMPLATES, Name, NoMemory, NodeId, WatcherId,
 };
-use sig_effect::World;
 use sig_host::{EqualsRule, Lent, Shelf};
+use sig_owner::MOST_OWNERS;
+use std::alloc::Global;
+
+// How many of these entries live.
+fn live_entries(owners: &[OwnerEntry]) -> usize
+    ensures { result ≡ length (filter (λ o. o.live) owners.now) }
+{
+    let mut count = 0;
+    for owner in owners {
+        if owner.live {
+            count += 1;
+        }
+    }
+    count
+}
+
+// How many owners live.
+fn live_owners(owners: &[OwnerEntry]) -> usize
+    ensures { result ≡ length (living 0 owners.now) }
+{
+    live_entries(owners)
+}
 
 // The refusal of one more than the most.
 fn one_too_many(most: usize, count: usize, limit: LimitWord) -> Option<Refusal>
@@ -47,14 +78,29 @@ fn sources_refusal(source: &SourceText) -> Option<Refusal>
     }
 }
 
+// The refusal of a body that no script can have.
+fn fit_refusal(alloc: Global, body: &EffectBody) -> Result<Option<Refusal>, NoMemory>
+    ensures { IfOk result (λ r. r ≡ body_refused body.now) }
+{
+    if is_fit(alloc, body.as_body())? {
+        Ok(None)
+    } else {
+        Ok(Some(Refusal::Limit(LimitWord::Body)))
+    }
+}
+
 // The refusal of a command with such a one.
-fn count_refusal(command: &Command) -> Option<Refusal>
-    ensures { result ≡ count_refusal command.now }
+fn count_refusal(alloc: Global, command: &Command) -> Result<Option<Refusal>, NoMemory>
+    ensures { IfOk result (λ r. r ≡ count_refusal command.now) }
 {
     match command {
-        Command::Computed { source, .. } => sources_refusal(source),
-        Command::Rewire { source, .. } => sources_refusal(source),
-        _ => None,
+        Command::Computed { source, .. } => Ok(sources_refusal(source)),
+        Command::Rewire { source, .. } => Ok(sources_refusal(source)),
+        Command::Effect { body, .. } => {
+            let refusal = fit_refusal(alloc, body)?;
+            Ok(refusal)
+        }
+        _ => Ok(None),
     }
 }
 
@@ -65,7 +111,7 @@ fn taken_refusal(world: &World, shelf: &Shelf, place: u64) -> Option<Refusal>
     if shelf.len() <= place as usize {
         return Some(Refusal::HostPlace(place));
     }
-    if world.is_free(shelf, place as usize) {
+    if world.signals.is_free(shelf, place as usize) {
         None
     } else {
         Some(Refusal::HostTaken(place))
@@ -98,32 +144,105 @@ fn rule_refusal(rules: &[EqualsRule], equals: Option<u64>) -> Option<Refusal>
     }
 }
 
+// The refusal of the first of these places that is past the last host formula.
+fn outside_refusal(count: usize, places: &[u64]) -> Option<Refusal>
+    ensures { result ≡ outside_refusal count places.now }
+{
+    for place in places {
+        if count <= *place as usize {
+            return Some(Refusal::HostPlace(*place));
+        }
+    }
+    None
+}
+
+// The refusal of a host formula in a body that isn't there.
+fn hosts_refusal(
+    alloc: Global,
+    count: usize,
+    body: &EffectBody,
+) -> Result<Option<Refusal>, NoMemory>
+    ensures { IfOk result (λ r. r ≡ outside_refusal count (hosts_of_body body.now)) }
+{
+    let places = hosts_of_body(alloc, body.as_body())?;
+    Ok(outside_refusal(count, &places))
+}
+
+// So it is for those that aren't on the shelf.
+fn unshelved_refusal(
+    alloc: Global,
+    shelf: &Shelf,
+    body: &EffectBody,
+) -> Result<Option<Refusal>, NoMemory>
+    ensures { (uses : ℕ → Bool) → IfOk result (λ r. r ≡ outside_refusal (length (host_states uses 0 (⟦<Shelf as Lent>⟧.asked shelf.now))) (hosts_of_body body.now)) }
+{
+    let refusal = hosts_refusal(alloc, shelf.len(), body)?;
+    Ok(refusal)
+}
+
 // The refusal of the place of a host formula or of a rule.
 fn place_refusal(
+    alloc: Global,
     world: &World,
     shelf: &Shelf,
     rules: &[EqualsRule],
     command: &Command,
-) -> Option<Refusal>
-    ensures { result ≡ place_refusal (map (λ r. r.slack) rules.now)
-        (whole_of (⟦<Shelf as Lent>⟧.asked shelf.now) world.now) command.now }
+) -> Result<Option<Refusal>, NoMemory>
+    ensures { IfOk result (λ r. r ≡ place_refusal (map (λ r. r.slack) rules.now)
+        (whole_of (⟦<Shelf as Lent>⟧.asked shelf.now) world.now) command.now) }
 {
     match command {
-        Command::Cell { equals, .. } => rule_refusal(rules, *equals),
-        Command::Computed { source, .. } => host_refusal(world, shelf, source),
-        Command::Rewire { source, .. } => host_refusal(world, shelf, source),
-        _ => None,
+        Command::Cell { equals, .. } => Ok(rule_refusal(rules, *equals)),
+        Command::Computed { source, .. } => Ok(host_refusal(world, shelf, source)),
+        Command::Rewire { source, .. } => Ok(host_refusal(world, shelf, source)),
+        Command::Effect { body, .. } => {
+            let refusal = unshelved_refusal(alloc, shelf, body)?;
+            Ok(refusal)
+        }
+        _ => Ok(None),
     }
 }
 
 impl Machine {
+    // The refusal of the first name in the body of an effect that has one.
+    fn within_refusal(&self, name: &Name, body: &EffectBody) -> Result<Option<Refusal>, NoMemory>
+        ensures { (asked : List HostPlace) → IfOk result (λ r. r ≡ first_within (whole_of asked self.now.world) self.now.names name.now (uses_of_body body.now)) }
+    {
+        let uses = uses_of_body(self.alloc, body.as_body())?;
+        let refusal = self.names.first_within(&self.world, name, &uses)?;
+        Ok(refusal)
+    }
+
+    // The refusal of a name in the body of an effect, if the command makes one.
+    fn body_refusal(&self, command: &Command) -> Result<Option<Refusal>, NoMemory>
+        ensures { (asked : List HostPlace) → IfOk result (λ r. r ≡ body_refusal (plain_of asked self.now) command.now) }
+    {
+        match command {
+            Command::Effect { name, body, .. } => {
+                let refusal = self.within_refusal(name, body)?;
+                Ok(refusal)
+            }
+            _ => Ok(None),
+        }
+    }
+
     // The refusal of the first name that has one.
     fn name_refusal(&self, command: &Command) -> Result<Option<Refusal>, NoMemory>
         ensures { (asked : List HostPlace) → IfOk result (λ r. r ≡ name_refusal (plain_of asked self.now) command.now) }
     {
         let uses = uses_of(self.alloc, command)?;
-        let refusal = self.names.first_refusal(&self.world, &uses)?;
+        if let Some(refusal) = self.names.first_refusal(&self.world, &uses)? {
+            return Ok(Some(refusal));
+        }
+        let refusal = self.body_refusal(command)?;
         Ok(refusal)
+    }
+
+    // How many effects live that a command made.
+    fn named_effects(&self) -> usize
+        ensures { result ≡ length (filter (λ x. is_named (label_at self.now.labels.effects.items x.number)) (map effect_of self.now.world.tables.effects.items)) }
+    {
+        named_count(&self.labels.effects, &self.world.tables.effects)
     }
 
     // The refusal of what there would be too much of.
@@ -132,30 +251,46 @@ impl Machine {
     {
         match command {
             Command::Cell { .. } | Command::Computed { .. } => {
-                one_too_many(MOST_NODES, self.world.graph.live(), LimitWord::Nodes)
+                one_too_many(
+                    MOST_NODES,
+                    self.world.signals.graph.live(),
+                    LimitWord::Nodes,
+                )
+            }
+            Command::Owner { .. } => {
+                one_too_many(
+                    MOST_OWNERS,
+                    live_owners(&self.world.tables.owners),
+                    LimitWord::Owners,
+                )
+            }
+            Command::Effect { .. } => {
+                one_too_many(MOST_EFFECTS, self.named_effects(), LimitWord::Effects)
             }
             Command::Watcher { .. } => {
                 one_too_many(
                     MOST_WATCHERS,
-                    self.world.watchers.live(),
+                    self.world.signals.watchers.live(),
                     LimitWord::Watchers,
                 )
             }
             Command::Template { .. } => {
                 one_too_many(MOST_TEMPLATES, self.templates.len(), LimitWord::Templates)
             }
-            Command::Mount { .. } => one_too_many(MOST_PAGES, self.pages.len(), LimitWord::Pages),
+            Command::Mount { .. } => {
+                one_too_many(MOST_PAGES, self.world.tables.pages.len(), LimitWord::Pages)
+            }
             _ => None,
         }
     }
 
     // Whether a watcher watches a signal.
     fn is_watched(&self, watcher: &Name, signal: &Name) -> bool
-        ensures { result ≡ watches self.now.world.watchers.watchers (number_of self.now.names watcher.now) (number_of self.now.names signal.now) }
+        ensures { result ≡ watches self.now.world.signals.watchers.watchers (number_of self.now.names watcher.now) (number_of self.now.names signal.now) }
     {
         let watcher = WatcherId::of(self.names.number_of(watcher));
         let signal = NodeId::of(self.names.number_of(signal));
-        self.world.watchers.watches(watcher, signal)
+        self.world.signals.watchers.watches(watcher, signal)
     }
 
     // The refusal of a signal that isn't watched.
@@ -183,7 +318,7 @@ impl Machine {
         ensures { IfOk result (λ r. r ≡ later_refusal (map (λ r. r.slack) rules.now)
             (plain_of (⟦<Shelf as Lent>⟧.asked shelf.now) self.now) command.now) }
     {
-        if let Some(refusal) = place_refusal(&self.world, shelf, rules, command) {
+        if let Some(refusal) = place_refusal(self.alloc, &self.world, shelf, rules, command)? {
             return Ok(Some(refusal));
         }
         if let Some(refusal) = self.over_limit(command) {
@@ -203,7 +338,7 @@ impl Machine {
         ensures { IfOk result (λ r. r ≡ refusal_of (map (λ r. r.slack) rules.now)
             (plain_of (⟦<Shelf as Lent>⟧.asked shelf.now) self.now) command.now) }
     {
-        if let Some(refusal) = count_refusal(command) {
+        if let Some(refusal) = count_refusal(self.alloc, command)? {
             return Ok(Some(refusal));
         }
         if let Some(refusal) = self.name_refusal(command)? {

@@ -83,11 +83,11 @@ fn traces_pages(rt: HostRuntime) -> Result<(), Fail> {
 #[test]
 fn refuses_what_is_gone(rt: HostRuntime) -> Result<(), Fail> {
     let script =
-        "cell a = 1\ncell b = 2\ncomputed c = a + b\ncomputed d = a\ntemplate t\ntext c\nend\nmount p t\ndispose d\nget d\nstate d\nstate a\nsources zz\nsources t\nrewire d = 1\nrewire a = 1\nrewire c = d\nrewire c = zz + d\ncomputed e = d + zz\ncomputed e = t\ndispose p\ndispose zz\ndispose a\ndispose a\nset a 2\ntext a\ntemplate u\ntext a\nend\nget c\nsources c\nstate c\nset b 3\nstate c\nflush\nrewire c = b * 2\nstate c\nflush\nshow p\ncell a = 5\n";
+        "cell a = 1\ncell b = 2\ncomputed c = a + b\ncomputed d = a\ntemplate t\ntext c\nend\nmount p t\ndispose d\nget d\nstate d\nstate a\nsources zz\nsources t\nrewire d = 1\nrewire a = 1\nrewire c = d\nrewire c = zz + d\ncomputed e = d + zz\ncomputed e = t\ndispose t\ndispose zz\ndispose a\ndispose a\nset a 2\ntext a\ntemplate u\ntext a\nend\nget c\nsources c\nstate c\nset b 3\nstate c\nflush\nrewire c = b * 2\nstate c\nflush\nshow p\ncell a = 5\n";
     let output =
-        "run c (a b) = 3\npage p 1\n3\ngone d\nerror 6 d\nerror 6 d\nerror 4 a\nerror 2 zz\nerror 4 t\nerror 6 d\nerror 4 a\nerror 6 d\nerror 2 zz\nerror 6 d\nerror 4 t\nerror 4 p\nerror 2 zz\ngone a\nerror 6 a\nerror 6 a\nerror 1 26\nerror 6 a\nrun c (a) ! gone\nc ! gone\nsources c a\nstate c clean\nstate c clean\npage p 9\n#ERR gone\nstate c dirty\nrun c (b) = 6\npage p 1\n6\npage p 1\n6\nerror 3 a\n";
+        "run c (a b) = 3\npage p 1\n3\ngone d\nerror 6 d\nerror 6 d\nerror 4 a\nerror 2 zz\nerror 4 t\nerror 6 d\nerror 4 a\nerror 6 d\nerror 2 zz\nerror 6 d\nerror 4 t\nerror 4 t\nerror 2 zz\ngone a\nerror 6 a\nerror 6 a\nerror 1 26\nerror 6 a\nrun c (a) ! gone\nc ! gone\nsources c a\nstate c clean\nstate c clean\npage p 9\n#ERR gone\nstate c dirty\nrun c (b) = 6\npage p 1\n6\npage p 1\n6\nerror 3 a\n";
     assert_traces(&rt, rt.alloc(), script, output)?;
     let untraced =
-        "page p 1\n3\nerror 6 d\nerror 6 d\nerror 4 a\nerror 2 zz\nerror 4 t\nerror 6 d\nerror 4 a\nerror 6 d\nerror 2 zz\nerror 6 d\nerror 4 t\nerror 4 p\nerror 2 zz\nerror 6 a\nerror 6 a\nerror 1 26\nerror 6 a\nc ! gone\nsources c a\nstate c clean\nstate c clean\npage p 9\n#ERR gone\nstate c dirty\npage p 1\n6\npage p 1\n6\nerror 3 a\n";
+        "page p 1\n3\nerror 6 d\nerror 6 d\nerror 4 a\nerror 2 zz\nerror 4 t\nerror 6 d\nerror 4 a\nerror 6 d\nerror 2 zz\nerror 6 d\nerror 4 t\nerror 4 t\nerror 2 zz\nerror 6 a\nerror 6 a\nerror 1 26\nerror 6 a\nc ! gone\nsources c a\nstate c clean\nstate c clean\npage p 9\n#ERR gone\nstate c dirty\npage p 1\n6\npage p 1\n6\nerror 3 a\n";
     assert_prints(&rt, rt.alloc(), script, untraced)
 }

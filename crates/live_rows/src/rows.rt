@@ -141,8 +141,8 @@ fn prints_refusals(rt: HostRuntime) -> Result<(), Fail> {
         ("computed b = 1\nset b 2\nget b", "error 4 b\nb = 1\n"),
         // what this language doesn't have yet
         (
-            "computed x = it.a\ncomputed x = count(a)\ncell e = 1 in o\neffect e\nlog 1\nend\nget e",
-            "error 1 1\nerror 1 2\nerror 1 3\nerror 1 4\nerror 2 e\n",
+            "computed x = it.a\ncomputed x = count(a)\ntemplate t\nif true\nend\nend\nget x",
+            "error 1 1\nerror 1 2\nerror 1 4\nerror 2 x\n",
         ),
         (
             "cell not = 1\ncell b = -0\nget b\r",

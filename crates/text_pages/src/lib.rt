@@ -5,8 +5,6 @@ mod evaluate;
 mod heard;
 mod line;
 mod page;
-#[cfg(test)]
-mod tests;
 mod text;
 
 pub use page::TextPage;

@@ -1,4 +1,5 @@
-use Rattle.std.proofs.Common.{[], refl, ◌∙◌, ◌++◌, ◌<◌, ◌≤◌, length, drop, flat_map, ap, arith}
+use Rattle.std.proofs.Common.{[], refl, ◌∙◌, ◌++◌, ◌<◌, ◌≤◌, length, drop, flat_map, map, ap, arith}
+use Rattle.sig_host.specs.Hosts.{hosts_of}
 use Rattle.live_cmd.specs.Items.{Begins}
 use Rattle.live_cmd.specs.Printed.{printed}
 use Rattle.std.proofs.KnownBytes.{Appends-nil}
@@ -69,6 +70,12 @@ pub returns-in_err-live-clause-front : goal.returns-in_err-live-clause-front
 returns-in_err-live-clause-front g c =
     let p = err_from_is_err_and c.from_residual.result c.from_residual.ensures.1 in
     rw p.1 (no_front _ c.args.script.now (g.K.Sink.held c.args.sink.now))
+
+pub do_command-requires-clause-meant : goal.do_command-requires-clause-meant
+do_command-requires-clause-meant g c = λ _. record {
+  hosts = hosts_of (map (λ h. (goal.HostFormula-dyn g (h.vtable, h.value)).step_of h.value) c.args.hosts.items);
+  is = (c.loop-out.invariant.answers, c.loop-out.invariant.sound);
+}
 
 pub loop-out-init : goal.loop-out-init
 loop-out-init g c =

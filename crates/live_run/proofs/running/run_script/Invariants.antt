@@ -1,6 +1,6 @@
 use Rattle.std.proofs.Common.{◌≡◌, ◌≤◌, ◌+◌, ◌-◌, false, is_some, length, drop, map, option_map}
 use Rattle.sig_host.specs.Hosts.{AnswersBy, IsCounted, hosts_of}
-use Rattle.sig_effect.specs.Agreeing.{IsSound}
+use Rattle.effect_world.specs.Agreeing.{IsSound}
 use Rattle.live_core.specs.Keeping.{IsKept}
 use Rattle.live_core.specs.Views.{plain_of}
 use Rattle.live_run.specs.Running.{lent, lent_output}

@@ -1,4 +1,4 @@
-use Rattle.std.proofs.Common.{◌≡◌, ◌∙◌, ◌≤◌, ◌*◌, ◌^◌, arith, ap}
+use Rattle.std.proofs.Common.{◌∙◌, arith, ap}
 use Rattle.live_model.specs.Machine.{empty}
 use Rattle.live_core.proofs.Places.{are_new, count_new, most_new}
 use Rattle.live_core.proofs.live.Live.new.Goals as goal
@@ -14,6 +14,6 @@ pub returns-clause-kept : goal.returns-clause-kept
 returns-clause-kept g c = record {
   ready = λ _. c.in_ok-machine.ensures.ready;
   holds = λ _. c.in_ok-machine.ensures.holds _ _;
-  worn = λ _. let a = c.in_ok-machine.ensures.worn in omega (arith, a);
+  weight = λ _. let a = c.in_ok-machine.ensures.weight in omega (arith, a);
   most = λ _. let a = most_new c.args.hosts.items _ c.in_ok-shelf.ensures.asked in omega (arith, a);
 }

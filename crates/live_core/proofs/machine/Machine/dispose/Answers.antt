@@ -1,38 +1,39 @@
-use Rattle.std.proofs.Common.{◌≡◌, ◌∙◌, List, length, map, sym, ap, subst}
-use Rattle.std.specs.List.{All}
+use Rattle.std.proofs.Common.{◌≡◌, ◌∙◌, length, map, refl, sym, ap, arith}
 use Rattle.std.specs.Prelude.{Some, option_map}
-use Rattle.sig_effect.specs.declared.events.Event.{Event}
-use Rattle.sig_effect.specs.Events.{thing_of, AreNamed}
+use Rattle.std.specs.List.{filter}
+use Rattle.signal_model.specs.Standing.{is_in}
+use Rattle.effect_model.specs.Acts.{dispose_thing}
+use Rattle.effect_counts.proofs.Shared.{all_keep_counts}
+use Rattle.effect_kinds.proofs.Shared.{all_keep_kinds}
+use Rattle.effect_tables.specs.Linking.{thing_of}
+use Rattle.sig_effect.specs.Agreeing.{environment}
 use Rattle.live_model.specs.Names.{meaning_of, thing_named}
-use Rattle.live_core.specs.Notes.{entry_told, IsLabelled}
-use Rattle.live_core.specs.Views.{labels_of}
-use Rattle.live_core.proofs.Telling.{events_below, none_named}
-use Rattle.live_core.proofs.Doing.{disposed_steps, kinds_without, leaves_changed}
+use Rattle.live_core.proofs.Doing.{acts_steps, disposed_steps, leaves_ended, pages_steps, stays_by, tells_by}
 use Rattle.live_core.proofs.machine.Machine.dispose.Goals as goal
 
-pub entries_of-requires : goal.entries_of-requires
-entries_of-requires g c =
-    let m = c.args.self.now in
-    let e = c.in_ok-dispose.ensures in
-    let w = c.dispose.new.self in
-    let named = e.named (subst (AreNamed m.world.graph m.world.watchers.made) (sym c.new-events.ensures.items) (none_named m.world.graph m.world.watchers.made)) in
-    subst (λ (es : List Event). All (IsLabelled (length m.labels.signals.items) (length m.labels.watchers.items)) es) (sym c.deref.ensures.value)
-    (events_below w.graph w.watchers.made (length m.labels.signals.items) (length m.labels.watchers.items) c.dispose.new.events.items
-    (e.stays.given ∙ c.requires.ready.labels) (e.stays.made ∙ c.requires.ready.watchers) named)
-
 pub returns-clause-steps : goal.returns-clause-steps
-returns-clause-steps g c = λ hosts slacks sound.
+returns-clause-steps g c = λ hosts sound.
     let m = c.args.self.now in
-    let is : thing_named (meaning_of m.names c.args.name.now) ≡ Some (thing_of c.in-Some.thing) =
-    sym (c.thing_named.ensures ∙ ap thing_named c.meaning_of.ensures) ∙ ap (option_map thing_of) c.in-Some.is in
-    disposed_steps hosts slacks _ _ m c.dispose.new.self c.new-events.result.items c.dispose.new.events.items c.in_ok-told.told.items
-    (thing_of c.in-Some.thing) (thing_named (meaning_of m.names c.args.name.now)) c.new-events.ensures.items (c.in_ok-dispose.ensures.does hosts slacks sound) is
-    (c.in_ok-told.ensures ∙ ap (map (entry_told (labels_of m.labels))) c.deref.ensures.value)
+    let env = environment hosts (map (λ r. r.slack) c.args.rules.now) in
+    let t = c.in_ok-told.ensures in
+    let thing = thing_of c.in-Some.thing in
+    let is : thing_named (meaning_of m.names c.args.name.now) ≡ Some thing = sym c.thing_named.ensures ∙ ap (option_map thing_of) c.in-Some.is in
+    let middle = record m { world = c.dispose.new.self; labels = c.tell_all.new.labels } in
+    let done = acts_steps hosts _ _ m c.dispose.new.self c.tell_all.new.labels c.new-events.result.items c.dispose.new.events.items
+    (dispose_thing env thing) (dispose_thing env thing) c.in_ok-told.told.items c.new-events.ensures.items (c.in_ok-dispose.ensures.does hosts sound) refl
+    (tells_by m.labels c.tell_all.new.labels c.dispose.new.events.items _ c.in_ok-told.told.items c.deref.ensures.value t.entries t.labels t.names) in
+    disposed_steps hosts env _ _ m (record middle { pages = c.keep_live.new.pages }) c.in_ok-told.told.items _ thing is
+    (pages_steps hosts _ middle (record middle { pages = c.keep_live.new.pages }) c.in_ok-told.told.items _ done refl refl refl refl
+    (c.keep_live.ensures ∙ ap (λ ns. filter (λ p. is_in p.number ns) m.pages.items) c.deref-2.ensures.value))
 
 pub returns-clause-leaves : goal.returns-clause-leaves
-returns-clause-leaves g c = λ count.
+returns-clause-leaves g c = λ hosts count all sound.
     let m = c.args.self.now in
     let e = c.in_ok-dispose.ensures in
-    leaves_changed _ _ count m c.dispose.new.self c.requires.ready e.stays
-    (kinds_without m.world.graph.state.signals c.dispose.new.self.graph.state.signals c.in-Some.thing e.signals)
-    (λ a. e.agrees) (λ r. e.rules count r)
+    let env = environment hosts (map (λ r. r.slack) c.args.rules.now) in
+    let thing = thing_of c.in-Some.thing in
+    let new = record m { world = c.dispose.new.self; labels = c.tell_all.new.labels; pages = c.keep_live.new.pages } in
+    leaves_ended _ _ count m new c.requires.ready (record { names = refl; templates = refl; labels = c.in_ok-told.ensures.names })
+    (stays_by _ _ m.world c.dispose.new.self (dispose_thing env thing) (e.does hosts sound).whole (all_keep_counts.disposing env thing) (all_keep_kinds.disposing env thing))
+    (c.keep_live.ensures ∙ ap (λ ns. filter (λ p. is_in p.number ns) m.pages.items) c.deref-2.ensures.value) (λ a. e.agrees) (λ r. e.rules count r)
+    (let w = e.worn in let before = ap length c.new-events.ensures.items in let small = c.dispose.new.events.small in omega (arith, w, before, small))

@@ -1,16 +1,26 @@
+use Rattle.std.proofs.Common.{length, map}
 use Rattle.live_core.proofs.machine.Machine.do_verb.Goals as goal
 
 pub returns-in-Get-clause-steps : goal.returns-in-Get-clause-steps
-returns-in-Get-clause-steps g c = λ hosts slacks all sound. rw c.in-Get.is (c.get.ensures.steps hosts slacks all sound)
+returns-in-Get-clause-steps g c = λ hosts all sound. rw c.in-Get.is (c.get.ensures.steps hosts (map (λ r. r.slack) c.args.rules.now) all sound)
 
 pub returns-in-State-clause-steps : goal.returns-in-State-clause-steps
-returns-in-State-clause-steps g c = λ hosts slacks all sound. rw c.in-State.is (c.state.ensures.steps hosts slacks _ sound)
+returns-in-State-clause-steps g c = λ hosts all sound. rw c.in-State.is (c.state.ensures.steps hosts (map (λ r. r.slack) c.args.rules.now) _ sound)
 
 pub returns-in-Sources-clause-steps : goal.returns-in-Sources-clause-steps
-returns-in-Sources-clause-steps g c = λ hosts slacks all sound. rw c.in-Sources.is (c.sources.ensures.steps hosts slacks _ sound)
+returns-in-Sources-clause-steps g c = λ hosts all sound. rw c.in-Sources.is (c.sources.ensures.steps hosts (map (λ r. r.slack) c.args.rules.now) _ sound)
 
 pub returns-in-Pending-clause-steps : goal.returns-in-Pending-clause-steps
-returns-in-Pending-clause-steps g c = λ hosts slacks all sound. rw c.in-Pending.is (c.pending.ensures.steps hosts slacks _ sound)
+returns-in-Pending-clause-steps g c = λ hosts all sound. rw c.in-Pending.is (c.pending.ensures.steps hosts (map (λ r. r.slack) c.args.rules.now) _ sound)
 
 pub returns-in-Show-clause-steps : goal.returns-in-Show-clause-steps
-returns-in-Show-clause-steps g c = λ hosts slacks all sound. rw c.in-Show.is (c.show.ensures.steps hosts slacks _ sound)
+returns-in-Show-clause-steps g c = λ hosts all sound. rw c.in-Show.is (c.show.ensures.steps hosts (map (λ r. r.slack) c.args.rules.now) _ sound)
+
+pub returns-in-Get-clause-leaves : goal.returns-in-Get-clause-leaves
+returns-in-Get-clause-leaves g c = λ hosts all sound. c.get.ensures.leaves hosts (length c.args.rules.now) all sound
+
+pub returns-in-Dispose-clause-steps : goal.returns-in-Dispose-clause-steps
+returns-in-Dispose-clause-steps g c = λ hosts all sound. rw c.in-Dispose.is (c.dispose.ensures.steps hosts sound)
+
+pub returns-in-Dispose-clause-leaves : goal.returns-in-Dispose-clause-leaves
+returns-in-Dispose-clause-leaves g c = λ hosts all sound. c.dispose.ensures.leaves hosts (length c.args.rules.now) all sound

@@ -1,13 +1,23 @@
-use Rattle.std.proofs.Common.{◌∙◌, sym, ap, subst, refl, length}
-use Rattle.std.specs.Prelude.{None}
+use Rattle.std.proofs.Common.{◌≡◌, rules, Err, true, ◌∙◌, ◌∷◌, [], ◌++◌, ◌+◌, length, refl, sym, ap, subst, arith}
+use Rattle.sig_base.specs.declared.limits.TheConstants.{MOST_NODES}
+use Rattle.signal_model.specs.Changes.{live_count}
+use Rattle.effect_tables.specs.Numbering.{living}
+use Rattle.live_cmd.specs.declared.refusal.LimitWord.TheVariants as limit
 use Rattle.sig_base.specs.Values.{scalar_value}
 use Rattle.signal_model.specs.Standing.{Cell}
-use Rattle.effect_model.specs.Watching.{at_rest}
 use Rattle.effect_model.specs.Commands.{with_new_cell}
-use Rattle.sig_effect.specs.Wholes.{whole_of}
+use Rattle.effect_tables.specs.Placed.{at_rest, is_open}
+use Rattle.effect_world.specs.Agreeing.{IsSound}
+use Rattle.effect_world.specs.Wholes.{whole_of}
+use Rattle.live_cmd.specs.declared.command.Command.TheVariants as command
 use Rattle.live_model.specs.declared.names.Kind.TheVariants as kind
+use Rattle.live_model.specs.declared.names.Need.TheVariants as need
+use Rattle.live_model.specs.Linking.{owner_of}
+use Rattle.live_labels.specs.Views.{labels_of}
 use Rattle.live_core.specs.Keeping.{Holds}
-use Rattle.live_core.proofs.Doing.{beside_cell, here_cell, leaves_count, leaves_made, rule_below, steps_made, steps_of}
+use Rattle.live_core.proofs.Rightly.{inside_open, neither, new_name, refused_at, uses_fine}
+use Rattle.live_core.proofs.Doing.{leaves_count, not_most, only_three, room_below, rule_below, true_false}
+use Rattle.live_core.proofs.Making.{beside_cell, here_cell, leaves_signal, steps_named}
 use Rattle.live_core.proofs.machine.Machine.make_cell.Goals as goal
 
 pub returns-clause-steps : goal.returns-clause-steps
@@ -17,24 +27,46 @@ returns-clause-steps c = λ hosts slacks asked sound.
     let e = c.in_ok-id.ensures in
     let n = c.in_ok-name_signal.ensures in
     let d = e.does hosts asked sound in
-    steps_of hosts asked new c.make_cell.new.self c.new.result.items _ c.new.ensures.items
-    (steps_made asked m new c.args.name kind.Cell c.in_ok-id.id (with_new_cell (scalar_value c.args.value) c.args.equals None (whole_of asked m.world)) e.id
-    (ap (whole_of asked) n.world ∙ d.whole ∙ (λ i. at_rest (with_new_cell (c.into.ensures i) (c.rule_place.ensures i) None (whole_of asked m.world))))
-    (record { names = n.names; signals = n.signals; watchers = n.watchers; templates = n.templates; pages = n.pages }))
-    n.world d.sound
+    let labels = record (labels_of m.labels) { signals = m.labels.signals.items ++ c.args.name ∷ [] } in
+    steps_named hosts asked m new c.args.name kind.Cell c.in_ok-id.id m.world.signals.graph.given labels
+    (with_new_cell (scalar_value c.args.value) c.args.equals (owner_of m.names c.args.inside) (whole_of asked m.world)) c.new.result.items e.id
+    (ap (whole_of asked) n.parts.world ∙ d.whole ∙ (λ i. at_rest (with_new_cell (c.into.ensures i) (c.rule_place.ensures i) (c.owner_of-owner.ensures i) (whole_of asked m.world))))
+    (record { names = n.names; labels = n.labels; templates = n.parts.templates; pages = n.parts.pages }) c.new.ensures.items
+    (subst (IsSound hosts asked) (sym n.parts.world) d.sound)
 
 pub returns-clause-leaves : goal.returns-clause-leaves
-returns-clause-leaves c = λ asked slacks count same fine.
+returns-clause-leaves c = λ hosts asked slacks count sound same fine.
     let m = c.args.self.now in
     let new = c.name_signal.new.self in
     let e = c.in_ok-id.ensures in
     let n = c.in_ok-name_signal.ensures in
-    let cell : Cell = record { name = m.world.graph.given; value = c.into.result; rule = c.rule_place.result } in
-    leaves_count asked asked (length slacks) count m new same (leaves_made asked (length slacks) m new c.args.name kind.Cell c.in_ok-id.id c.requires.ready refl refl e.id
-    (record { names = n.names; signals = n.signals; watchers = n.watchers; templates = n.templates; pages = n.pages })
-    (ap (λ w. w.graph.given) n.world ∙ e.given) (ap (λ w. w.watchers) n.world ∙ e.watchers)
-    (beside_cell m.world.graph.state.signals new.world.graph.state.signals cell (ap (λ w. w.graph.state.signals) n.world ∙ e.signals))
-    (here_cell m.world.graph.state.signals new.world.graph.state.signals cell (ap (λ w. w.graph.state.signals) n.world ∙ e.signals))
-    (ap (λ w. w.graph.state.worn) n.world ∙ e.worn)
-    (λ h. subst (Holds asked (length slacks)) (sym n.world)
+    let d = e.does hosts asked sound in
+    let whole = ap (whole_of asked) n.parts.world ∙ d.whole in
+    let cell : Cell = record { name = m.world.signals.graph.given; value = c.into.result; rule = c.rule_place.result } in
+    let signals = ap (λ x. x.signals) whole in
+    let labels = record (labels_of m.labels) { signals = m.labels.signals.items ++ c.args.name ∷ [] } in
+    leaves_count asked asked (length slacks) count m new same
+    (leaves_signal asked (length slacks) m new c.args.name kind.Cell c.in_ok-id.id labels c.requires.ready refl e.id
+    (record { names = n.names; labels = n.labels; templates = n.parts.templates; pages = n.parts.pages }) refl refl
+    (record { watchers = ap (λ x. x.made.watchers) whole; pages = ap (λ x. x.pages) whole; paged = ap (λ x. x.made.pages) whole })
+    (ap (λ w. w.signals.graph.given) n.parts.world ∙ e.given)
+    (beside_cell m.world.signals.graph.state.signals new.world.signals.graph.state.signals cell signals)
+    (here_cell m.world.signals.graph.state.signals new.world.signals.graph.state.signals cell signals)
+    (let a = ap (λ w. w.signals.graph.state.worn) n.parts.world ∙ e.worn in let b = ap (λ x. x.made.effects) whole in omega (arith, a, b))
+    (λ h. subst (Holds asked (length slacks)) (sym n.parts.world)
     (record { agrees = e.agrees asked h.agrees; ruled = e.ruled (length slacks) (λ r is. rule_below slacks c.args.equals r fine (sym c.rule_place.ensures ∙ is)) h.ruled })))
+
+pub returns-in_err-id-clause-memory : goal.returns-in_err-id-clause-memory
+returns-in_err-id-clause-memory c =
+    let m = c.args.self.now in
+    let fine = neither (refused_at m.world m.names c.args.name need.New) _ (uses_fine m (command.Cell c.args.name c.args.value c.args.equals c.args.inside) c.requires.fine) in
+    let opened : is_open (living 0 m.world.tables.owners.items) c.owner_of-owner.result ≡ true =
+    subst (λ o. is_open (living 0 m.world.tables.owners.items) o ≡ true) (sym c.owner_of-owner.ensures) (inside_open m.world m.names c.args.inside fine.1) in
+    let room = room_below MOST_NODES (live_count m.world.signals.graph.state.signals) limit.Nodes c.requires.room in
+    let f = only_three _ (λ e. true_false (sym opened ∙ c.in_err-id.ensures.gone (ap (λ x. Err x) e))) (λ e. not_most _ MOST_NODES room (c.in_err-id.ensures.limit (ap (λ x. Err x) e))) in
+    search rules
+
+pub name_signal-requires : goal.name_signal-requires
+name_signal-requires c =
+    let m = c.args.self.now in
+    new_name m.world m.names c.args.name (neither (refused_at m.world m.names c.args.name need.New) _ (uses_fine m (command.Cell c.args.name c.args.value c.args.equals c.args.inside) c.requires.fine)).0

@@ -1,7 +1,7 @@
-use Rattle.std.proofs.Common.{◌≡◌, ◌≤◌, ◌∙◌, [], length, arith, refl, sym, ap, subst}
+use Rattle.std.proofs.Common.{◌∙◌, [], length, arith, sym, ap, subst}
 use Rattle.live_model.specs.Names.{Names}
-use Rattle.sig_base.specs.declared.limits.TheConstants.{MOST_PAGES}
-use Rattle.live_core.specs.Keeping.{AreMeant, AreShown}
+use Rattle.live_pages.specs.Updates.{AreShown, ArePages}
+use Rattle.live_core.specs.Keeping.{AreMeant}
 use Rattle.live_core.proofs.Meanings.{none_meant}
 use Rattle.live_core.proofs.machine.Machine.new.Goals as goal
 
@@ -10,11 +10,11 @@ returns-clause-ready c =
     let w = c.in_ok-world.world in
     let new = c.in_ok-world.ensures.whole [] tt in
     record {
-      labels = ap (λ x. x.made.signals) new ∙ sym (ap length c.new-3.ensures.items);
-      watchers = ap (λ x. x.made.watchers) new ∙ sym (ap length c.new-4.ensures.items);
-      meant = subst (λ (names : Names). AreMeant w (length c.new-5.result.items) names) (sym c.new-2.ensures) (none_meant w (length c.new-5.result.items));
-      shown = subst (AreShown c.new-5.result.items) (sym c.new-6.ensures.items) tt;
-      few = let a = ap length c.new-6.ensures.items in omega (arith, a);
+      watchers = ap (λ x. x.made.watchers) new ∙ sym (ap (λ l. length l.watchers) c.new-3.ensures);
+      paged = ap (λ x. x.made.pages) new ∙ sym (ap (λ l. length l.pages) c.new-3.ensures);
+      meant = subst (λ (names : Names). AreMeant w (length c.new-4.result.items) names) (sym c.new-2.ensures) (none_meant w (length c.new-4.result.items));
+      shown = subst (AreShown c.new-4.result.items) (sym c.new-5.ensures.items) tt;
+      pages = subst (ArePages w) (sym c.new-5.ensures.items) (record { apart = tt; live = tt; below = tt; few = omega arith });
     }
 
 pub returns-clause-holds : goal.returns-clause-holds

@@ -1,4 +1,4 @@
-use Rattle.std.proofs.Common.{map}
+use Rattle.std.proofs.Common.{length, map}
 use Rattle.std.proofs.lemmas.List.{length-map}
 use Rattle.live_core.proofs.machine.Machine.perform.Goals as goal
 
@@ -6,8 +6,8 @@ pub returns-in-Cell-clause-steps : goal.returns-in-Cell-clause-steps
 returns-in-Cell-clause-steps g c = λ hosts all sound. rw c.in-Cell.is (c.make_cell.ensures.steps hosts (map (λ r. r.slack) c.args.rules.now) _ sound)
 
 pub returns-in-Cell-clause-leaves : goal.returns-in-Cell-clause-leaves
-returns-in-Cell-clause-leaves g c =
-    c.make_cell.ensures.leaves _ (map (λ r. r.slack) c.args.rules.now) _ (length-map c.args.rules.now (λ r. r.slack)) (rw c.in-Cell.is at c.requires.places)
+returns-in-Cell-clause-leaves g c = λ hosts all sound.
+    c.make_cell.ensures.leaves hosts _ (map (λ r. r.slack) c.args.rules.now) _ sound (length-map c.args.rules.now (λ r. r.slack)) (rw c.in-Cell.is at c.requires.places)
 
 pub returns-in-Set-clause-steps : goal.returns-in-Set-clause-steps
 returns-in-Set-clause-steps g c = λ hosts all sound. rw c.in-Set.is (c.set.ensures.steps hosts _ sound)
@@ -33,3 +33,46 @@ returns-in-Template-clause-steps g c = λ hosts all sound. rw c.in-Template.is (
 
 pub returns-in-Mount-clause-steps : goal.returns-in-Mount-clause-steps
 returns-in-Mount-clause-steps g c = λ hosts all sound. rw c.in-Mount.is (c.mount.ensures.steps hosts (map (λ r. r.slack) c.args.rules.now) all sound)
+
+pub returns-in-Computed-clause-leaves : goal.returns-in-Computed-clause-leaves
+returns-in-Computed-clause-leaves g c = λ hosts all sound.
+    c.make_computed.ensures.leaves hosts _ _ sound c.requires.holds.agrees (rw c.in-Computed.is at c.requires.places)
+
+pub returns-in-Owner-clause-steps : goal.returns-in-Owner-clause-steps
+returns-in-Owner-clause-steps g c = λ hosts all sound. rw c.in-Owner.is (c.make_owner.ensures.steps hosts (map (λ r. r.slack) c.args.rules.now) _ sound)
+
+pub returns-in-Effect-clause-steps : goal.returns-in-Effect-clause-steps
+returns-in-Effect-clause-steps g c = λ hosts all sound. rw c.in-Effect.is (c.make_effect.ensures.steps hosts (map (λ r. r.slack) c.args.rules.now) _ sound)
+
+pub returns-in-Set-clause-leaves : goal.returns-in-Set-clause-leaves
+returns-in-Set-clause-leaves g c = λ hosts all sound. c.set.ensures.leaves hosts _ (length c.args.rules.now) sound
+
+pub returns-in-Rewire-clause-leaves : goal.returns-in-Rewire-clause-leaves
+returns-in-Rewire-clause-leaves g c = λ hosts all sound. c.rewire.ensures.leaves hosts (length c.args.rules.now) all sound
+
+pub returns-in-Owner-clause-leaves : goal.returns-in-Owner-clause-leaves
+returns-in-Owner-clause-leaves g c = λ hosts all sound. c.make_owner.ensures.leaves hosts _ (length c.args.rules.now) sound
+
+pub returns-in-Watcher-clause-leaves : goal.returns-in-Watcher-clause-leaves
+returns-in-Watcher-clause-leaves g c = λ hosts all sound. c.make_watcher.ensures.leaves hosts _ (length c.args.rules.now) sound
+
+pub returns-in-Watch-clause-leaves : goal.returns-in-Watch-clause-leaves
+returns-in-Watch-clause-leaves g c = λ hosts all sound. c.watch.ensures.leaves hosts _ (length c.args.rules.now) sound
+
+pub returns-in-Unwatch-clause-leaves : goal.returns-in-Unwatch-clause-leaves
+returns-in-Unwatch-clause-leaves g c = λ hosts all sound. c.unwatch.ensures.leaves hosts _ (length c.args.rules.now) sound
+
+pub returns-in-Effect-clause-leaves : goal.returns-in-Effect-clause-leaves
+returns-in-Effect-clause-leaves g c = λ hosts all sound. c.make_effect.ensures.leaves hosts _ (length c.args.rules.now) sound
+
+pub returns-in-Template-clause-leaves : goal.returns-in-Template-clause-leaves
+returns-in-Template-clause-leaves g c = λ hosts all sound. c.make_template.ensures.leaves hosts _ (length c.args.rules.now) sound
+
+pub returns-in-Mount-clause-leaves : goal.returns-in-Mount-clause-leaves
+returns-in-Mount-clause-leaves g c = λ hosts all sound. c.mount.ensures.leaves hosts (length c.args.rules.now) all sound
+
+pub returns-in-Named-clause-steps : goal.returns-in-Named-clause-steps
+returns-in-Named-clause-steps g c = λ hosts all sound. rw c.in-Named.is (c.do_verb.ensures.steps hosts all sound)
+
+pub returns-in-Flush-clause-steps : goal.returns-in-Flush-clause-steps
+returns-in-Flush-clause-steps g c = λ hosts all sound. rw c.in-Flush.is (c.flush.ensures.steps hosts all sound)

@@ -1,4 +1,4 @@
-use Rattle.std.proofs.Common.{rules, Err, ◌≡◌, ◌∙◌, ◌∷◌, List, ℕ, length, map, true, refl, sym, ap, subst}
+use Rattle.std.proofs.Common.{rules, Err, ◌≡◌, ◌∙◌, ◌∷◌, ℕ, true, refl, sym, ap, subst, arith}
 use Rattle.std.specs.List.{All}
 use Rattle.signal_model.specs.Recipes.{Recipe}
 use Rattle.signal_model.specs.Standing.{is_there, standing}
@@ -6,34 +6,32 @@ use Rattle.effect_model.specs.Acts.{rewire_signal}
 use Rattle.sig_nodes.specs.Answers.{expression_of}
 use Rattle.sig_nodes.specs.Computations.{recipe_made}
 use Rattle.sig_nodes.specs.States.{are_there, is_given}
-use Rattle.sig_effect.specs.declared.events.Event.{Event}
-use Rattle.sig_effect.specs.Events.{AreNamed}
+use Rattle.effect_counts.proofs.Shared.{all_keep_counts}
+use Rattle.effect_kinds.proofs.Shared.{all_keep_kinds}
+use Rattle.live_cmd.specs.declared.command.Command.TheVariants as command
 use Rattle.live_model.specs.declared.names.Kind.TheVariants as kind
 use Rattle.live_model.specs.declared.names.Need.TheVariants as need
-use Rattle.live_model.specs.Machine.{recipe_of}
+use Rattle.live_model.specs.Linking.{recipe_of}
 use Rattle.live_model.specs.Names.{number_of}
-use Rattle.live_core.specs.Notes.{entry_told, IsLabelled}
-use Rattle.live_core.specs.Views.{labels_of}
 use Rattle.live_core.specs.Keeping.{is_of_kind}
-use Rattle.live_core.proofs.Rightly.{kind_used, neither, refused_at, used_of}
-use Rattle.live_core.proofs.Telling.{events_below, none_named}
-use Rattle.live_core.proofs.Doing.{acts_steps, every, few_made, few_slots, free_made, host_fine, kinds_rewired, leaves_changed, no_cell, only_memory, source_used, true_false}
+use Rattle.live_core.proofs.Rightly.{kind_used, neither, refused_at, used_of, uses_fine}
+use Rattle.live_core.proofs.Doing.{acts_steps, every, few_made, few_slots, free_made, host_fine, leaves_acted, no_cell, only_memory, source_used, stays_by, tells_by, true_false}
 use Rattle.live_core.proofs.machine.Machine.rewire.Goals as goal
 
 pub rewire-requires-clause-kind : goal.rewire-requires-clause-kind
 rewire-requires-clause-kind g c =
     let m = c.args.self.now in
-    let fine = neither (refused_at m.world m.names c.args.name.now (need.Of kind.Computed)) _ c.requires.fine in
+    let fine = neither (refused_at m.world m.names c.args.name.now (need.Of kind.Computed)) _ (uses_fine m (command.Rewire c.args.name.now c.args.source) c.requires.fine) in
     let is = kind_used m.world _ m.names c.args.name.now kind.Computed refl c.requires.ready.meant (used_of m.world m.names c.args.name.now kind.Computed fine.0) in
-    no_cell (standing m.world.graph.state.signals c.of-computed.result)
-    (ap (λ i. is_of_kind kind.Computed (standing m.world.graph.state.signals i)) (c.of-computed.ensures ∙ c.number_of.ensures) ∙ is.1)
+    no_cell (standing m.world.signals.graph.state.signals c.of-computed.result)
+    (ap (λ i. is_of_kind kind.Computed (standing m.world.signals.graph.state.signals i)) (c.of-computed.ensures ∙ c.number_of.ensures) ∙ is.1)
 
 pub rewire-requires-clause-given : goal.rewire-requires-clause-given
 rewire-requires-clause-given g c =
     let m = c.args.self.now in
-    let fine = neither (refused_at m.world m.names c.args.name.now (need.Of kind.Computed)) _ c.requires.fine in
-    subst (λ (r : Recipe). All (λ (n : ℕ). is_given m.world.graph n ≡ true) r.slots) (sym c.in_ok-linked.ensures)
-    (every (λ n. is_given m.world.graph n ≡ true) (recipe_of m.names c.args.source).slots (source_used m.world _ m.names c.args.source c.requires.ready.meant fine.1).given)
+    let fine = neither (refused_at m.world m.names c.args.name.now (need.Of kind.Computed)) _ (uses_fine m (command.Rewire c.args.name.now c.args.source) c.requires.fine) in
+    subst (λ (r : Recipe). All (λ (n : ℕ). is_given m.world.signals.graph n ≡ true) r.slots) (sym c.in_ok-linked.ensures)
+    (every (λ n. is_given m.world.signals.graph n ≡ true) (recipe_of m.names c.args.source).slots (source_used m.world _ m.names c.args.source c.requires.ready.meant fine.1).given)
 
 pub rewire-requires-clause-few : goal.rewire-requires-clause-few
 rewire-requires-clause-few g c =
@@ -45,42 +43,35 @@ rewire-requires-clause-free g c =
     free_made _ (recipe_made (expression_of c.in_ok-linked.linked.recipe) c.in_ok-linked.linked.slots.items) (recipe_of c.args.self.now.names c.args.source) c.in_ok-linked.ensures
     (host_fine _ c.args.self.now.names c.args.source c.requires.free)
 
-pub entries_of-requires : goal.entries_of-requires
-entries_of-requires g c =
-    let m = c.args.self.now in
-    let e = c.in_ok-rewire.ensures in
-    let w = c.rewire.new.self in
-    let named = e.named (subst (AreNamed m.world.graph m.world.watchers.made) (sym c.new-events.ensures.items) (none_named m.world.graph m.world.watchers.made)) in
-    subst (λ (es : List Event). All (IsLabelled (length m.labels.signals.items) (length m.labels.watchers.items)) es) (sym c.deref.ensures.value)
-    (events_below w.graph w.watchers.made (length m.labels.signals.items) (length m.labels.watchers.items) c.rewire.new.events.items
-    (e.stays.given ∙ c.requires.ready.labels) (e.stays.made ∙ c.requires.ready.watchers) named)
-
 pub returns-clause-steps : goal.returns-clause-steps
 returns-clause-steps g c = λ hosts slacks sound.
     let m = c.args.self.now in
-    acts_steps hosts _ _ m c.rewire.new.self c.new-events.result.items c.rewire.new.events.items
+    let t = c.in_ok-told.ensures in
+    acts_steps hosts _ _ m c.rewire.new.self c.tell_all.new.labels c.new-events.result.items c.rewire.new.events.items
     (rewire_signal c.of-computed.result (recipe_made (expression_of c.in_ok-linked.linked.recipe) c.in_ok-linked.linked.slots.items))
     (rewire_signal (number_of m.names c.args.name.now) (recipe_of m.names c.args.source)) c.in_ok-told.told.items
     c.new-events.ensures.items (c.in_ok-rewire.ensures.does hosts sound)
     (λ i. rewire_signal ((c.of-computed.ensures ∙ c.number_of.ensures) i) (c.in_ok-linked.ensures i))
-    (c.in_ok-told.ensures ∙ ap (map (entry_told (labels_of m.labels))) c.deref.ensures.value)
+    (tells_by m.labels c.tell_all.new.labels c.rewire.new.events.items _ c.in_ok-told.told.items c.deref.ensures.value t.entries t.labels t.names)
 
 pub returns-clause-leaves : goal.returns-clause-leaves
-returns-clause-leaves g c = λ count.
+returns-clause-leaves g c = λ hosts count all sound.
     let m = c.args.self.now in
     let e = c.in_ok-rewire.ensures in
-    leaves_changed _ _ count m c.rewire.new.self c.requires.ready e.stays
-    (kinds_rewired m.world.graph.state.signals c.rewire.new.self.graph.state.signals c.of-computed.result _ e.signals)
-    (λ a. e.agrees) (λ r. e.rules count r)
+    let r = recipe_made (expression_of c.in_ok-linked.linked.recipe) c.in_ok-linked.linked.slots.items in
+    leaves_acted _ _ count m c.rewire.new.self c.tell_all.new.labels c.requires.ready c.in_ok-told.ensures.names
+    (stays_by _ _ m.world c.rewire.new.self (rewire_signal c.of-computed.result r) (e.does hosts sound).whole
+    (all_keep_counts.rewiring c.of-computed.result r) (all_keep_kinds.rewiring c.of-computed.result r))
+    e.tables (λ a. e.agrees) (λ k. e.rules count k) (let w = e.stays.worn in let t = ap (λ x. x.effects_made) e.tables in omega (arith, w, t))
 
 pub returns-in_err-rewire-clause-memory : goal.returns-in_err-rewire-clause-memory
 returns-in_err-rewire-clause-memory g c =
     let m = c.args.self.now in
-    let fine = neither (refused_at m.world m.names c.args.name.now (need.Of kind.Computed)) _ c.requires.fine in
+    let fine = neither (refused_at m.world m.names c.args.name.now (need.Of kind.Computed)) _ (uses_fine m (command.Rewire c.args.name.now c.args.source) c.requires.fine) in
     let is = kind_used m.world _ m.names c.args.name.now kind.Computed refl c.requires.ready.meant (used_of m.world m.names c.args.name.now kind.Computed fine.0) in
     let slots = (source_used m.world _ m.names c.args.source c.requires.ready.meant fine.1).there in
-    let first = ap (λ i. is_there (standing m.world.graph.state.signals i)) (c.of-computed.ensures ∙ c.number_of.ensures) ∙ is.0.there in
-    let rest = ap (λ (r : Recipe). are_there m.world.graph.state.signals r.slots) c.in_ok-linked.ensures ∙ slots in
-    let there : are_there m.world.graph.state.signals (c.of-computed.result ∷ c.in_ok-linked.linked.slots.items) ≡ true = rw first rest in
+    let first = ap (λ i. is_there (standing m.world.signals.graph.state.signals i)) (c.of-computed.ensures ∙ c.number_of.ensures) ∙ is.0.there in
+    let rest = ap (λ (r : Recipe). are_there m.world.signals.graph.state.signals r.slots) c.in_ok-linked.ensures ∙ slots in
+    let there : are_there m.world.signals.graph.state.signals (c.of-computed.result ∷ c.in_ok-linked.linked.slots.items) ≡ true = rw first rest in
     let f = only_memory _ c.in_err-rewire.ensures.fault (λ e. true_false (sym there ∙ c.in_err-rewire.ensures.gone (ap (λ x. Err x) e))) in
     search rules

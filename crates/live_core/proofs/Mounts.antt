@@ -1,0 +1,134 @@
+-- Pages are mounted, and what a flush comes to.
+use Rattle.std.proofs.Common.{◌≡◌, ◌≤◌, ◌<◌, ◌+◌, ◌^◌, ℕ, arith, Bool, true, false, List, [], ◌∷◌, ◌++◌, length, map, Option, refl, sym, ap, subst, ◌∙◌}
+use Rattle.std.proofs.lemmas.List.{length-append}
+use Rattle.sig_base.specs.declared.limits.TheConstants.{MOST_PAGES}
+use Rattle.signal_model.specs.Recipes.{Hosts}
+use Rattle.signal_model.specs.Standing.{standing}
+use Rattle.effect_model.specs.Commands.{with_new_page}
+use Rattle.effect_model.specs.Running.{flush}
+use Rattle.effect_model.specs.Worlds as told
+use Rattle.effect_tables.specs.Placed.{at_rest}
+use Rattle.sig_host.specs.Hosts.{HostPlace}
+use Rattle.sig_effect.specs.Agreeing.{AreRuled}
+use Rattle.effect_world.specs.declared.world.World.{World}
+use Rattle.effect_world.specs.Agreeing.{Agrees, IsSound}
+use Rattle.effect_world.specs.Wholes.{whole_of}
+use Rattle.live_cmd.specs.declared.entry.Entry.{Entry}
+use Rattle.live_cmd.specs.declared.entry.Entry.TheVariants as entry
+use Rattle.live_cmd.specs.declared.refusal.Refusal.TheVariants as refusal
+use Rattle.live_model.specs.declared.names.Kind.TheVariants as kind
+use Rattle.live_model.specs.Labels as called
+use Rattle.live_model.specs.Machine as plain
+use Rattle.live_model.specs.Machine.{acted_on_pages, after_turns, flushing, mounted, told}
+use Rattle.live_labels.specs.Views.{labels_of}
+use Rattle.text_pages.specs.Shown.{Shown}
+use Rattle.live_pages.specs.declared.mounted.Mounted.{Mounted}
+use Rattle.live_pages.specs.Updates.{AreBroughtUp, AreShown, ArePages, IsMounted, IsShown, Settles}
+use Rattle.live_pages.specs.Views.{page_of}
+use Rattle.live_pages.proofs.Shared.{pages_more, shown_more}
+use Rattle.live_core.specs.declared.machine.Machine.{Machine}
+use Rattle.live_core.specs.Keeping.{is_of_kind, AreMeant, IsReady, Leaves, Steps}
+use Rattle.live_core.specs.Views.{plain_of}
+use Rattle.live_core.proofs.Meanings.{meant_other, meant_still}
+
+-- ---- flushes
+
+-- a flush that is refused
+pub refused_steps : (hosts : Hosts) (env : told.Environment) (asked : List HostPlace) (m : Machine) (told_first es : List Entry) (refused : Bool) → true ≡ refused →
+    es ≡ told_first ++ entry.Error refusal.Turns ∷ [] → IsSound hosts asked m.world →
+    Steps hosts asked m es (after_turns env refused (told (plain_of asked m) told_first))
+refused_steps hosts env asked m told_first es refused by is sound = record {
+  step = ap (λ (x : List Entry). told (plain_of asked m) x) is ∙ ap (λ (b : Bool). after_turns env b (told (plain_of asked m) told_first)) by;
+  sound = sound;
+}
+
+-- pages were brought up to date behind what was told
+pub brought_steps : (hosts : Hosts) (env : told.Environment) (asked later : List HostPlace) (m new : Machine) (w : World) (now : List Mounted) (told_first pages es : List Entry) (refused : Bool) → false ≡ refused →
+    AreBroughtUp env m.names (labels_of m.labels) m.templates.items asked later m.world w m.pages.items now pages → new.names ≡ m.names → new.labels ≡ m.labels →
+    new.world ≡ w → new.templates ≡ m.templates → new.pages.items ≡ now → es ≡ told_first ++ pages → IsSound hosts later w →
+    Steps hosts later new es (after_turns env refused (told (plain_of asked m) told_first))
+brought_steps hosts env asked later m new w now told_first pages es refused by up names labels world templates same is sound = record {
+  step =
+      (λ i. told (record {
+        names = names i;
+        labels = labels_of (labels i);
+        world = whole_of later (world i);
+        templates = (ap (λ v. v.items) templates) i;
+        pages = map page_of (same i);
+      }) (is i))
+      ∙ ap (λ (t : plain.Told). told t.machine (told_first ++ t.entries)) up.step
+      ∙ ap (λ (b : Bool). after_turns env b (told (plain_of asked m) told_first)) by;
+  sound = subst (IsSound hosts later) (sym world) sound;
+}
+
+-- turns, and then pages
+pub flush_steps : (hosts : Hosts) (env : told.Environment) (asked later last : List HostPlace) (m middle new : Machine) (told_first es : List Entry) (refused : Bool) →
+    Steps hosts later middle told_first (acted_on_pages (plain_of asked m) (flush env (whole_of asked m.world)).world) →
+    refused ≡ (flush env (whole_of asked m.world)).refused → Steps hosts last new es (after_turns env refused (told (plain_of later middle) told_first)) →
+    Steps hosts last new es (flushing env (plain_of asked m))
+flush_steps hosts env asked later last m middle new told_first es refused first is second = record {
+  step = second.step ∙ (λ i. after_turns env (is i) (first.step i));
+  sound = second.sound;
+}
+
+-- ---- mounts
+
+-- the owner in other words
+pub by_owner : (asked : List HostPlace) (v w : World) (o p : Option ℕ) → whole_of asked v ≡ at_rest (with_new_page o (whole_of asked w)) → o ≡ p →
+    whole_of asked v ≡ at_rest (with_new_page p (whole_of asked w))
+by_owner asked v w o p e same = e ∙ ap (λ (x : Option ℕ). at_rest (with_new_page x (whole_of asked w))) same
+
+map_append : {A B : Type 0} (f : A → B) (xs ys : List A) → map f (xs ++ ys) ≡ map f xs ++ map f ys
+map_append f [] ys = refl
+map_append f (x ∷ xs) ys = ap (λ zs. f x ∷ zs) (map_append f xs ys)
+
+-- a page was made, and stands where it is to
+pub mount_steps : (hosts : Hosts) (env : told.Environment) (asked later : List HostPlace) (m new : Machine) (w : World) (n : List ℕ) (t id : ℕ) (inside : Option ℕ) (page : Shown) (es : List Entry) →
+    IsMounted env (labels_of m.labels) m.templates.items asked later m.world w n t page [] es → id ≡ m.world.tables.pages_made →
+    whole_of later new.world ≡ at_rest (with_new_page inside (whole_of later w)) → IsSound hosts later new.world →
+    new.names ≡ m.names ++ (n, record { kind = kind.Page; number = id }) ∷ [] →
+    labels_of new.labels ≡ record (labels_of m.labels) { pages = m.labels.pages.items ++ n ∷ [] } → new.templates ≡ m.templates →
+    new.pages.items ≡ m.pages.items ++ (record { name = n; number = id; template = t; page = page }) ∷ [] →
+    Steps hosts later new es (mounted env (plain_of asked m) n t inside)
+mount_steps hosts env asked later m new w n t id inside page es up number whole sound names labels templates pages = record {
+  step = (λ i. told (record {
+    names = (names ∙ ap (λ (x : ℕ). m.names ++ (n, record { kind = kind.Page; number = x }) ∷ []) number) i;
+    labels = (labels ∙ ap (λ (l : called.Labels). record l { pages = l.pages ++ n ∷ [] }) up.labels) i;
+    world = (whole ∙ ap (λ (x : told.World). at_rest (with_new_page inside x)) up.world) i;
+    templates = (ap (λ v. v.items) templates) i;
+    pages = (ap (map page_of) pages ∙ map_append page_of m.pages.items ((record { name = n; number = id; template = t; page = page }) ∷ [])
+        ∙ (λ j. map page_of m.pages.items ++ (record { name = n; number = number j; template = t; shown = up.html j }) ∷ [])) i;
+  }) ((up.told ∙ ap (λ (bs : List ℕ). (plain.settling env (plain_of asked m) (plain.template_reads env (plain_of asked m) t)).entries ++ entry.Page n bs ∷ []) up.html) i));
+  sound = sound;
+}
+
+-- what a making of a page leaves
+pub leaves_mounted : (asked later : List HostPlace) (rules : ℕ) (m new : Machine) (w : World) (n : List ℕ) (id : ℕ) (p : Mounted) → IsReady m →
+    new.names ≡ m.names ++ (n, record { kind = kind.Page; number = id }) ∷ [] →
+    labels_of new.labels ≡ record (labels_of m.labels) { pages = m.labels.pages.items ++ n ∷ [] } → new.templates ≡ m.templates →
+    new.pages.items ≡ m.pages.items ++ p ∷ [] → (inside : Option ℕ) → whole_of later new.world ≡ at_rest (with_new_page inside (whole_of later w)) →
+    new.world.signals ≡ w.signals → Settles m.world w → p.number ≡ m.world.tables.pages_made → IsShown m.templates.items p →
+    length m.world.tables.pages.items < MOST_PAGES → Agrees later new.world → w.signals.graph.state.worn ≤ m.world.signals.graph.state.worn + 2 ^ 64 →
+    Leaves asked later rules m new
+leaves_mounted asked later rules m new w n id p r names labels templates pages inside whole signals settled number shown room agrees worn =
+    let made : new.world.tables.pages_made ≡ m.world.tables.pages_made + 1 =
+    ap (λ (x : told.World). x.made.pages) whole ∙ ap (λ t. t.pages_made + 1) settled.tables in
+    let live : new.world.tables.pages.items ≡ m.world.tables.pages.items ++ m.world.tables.pages_made ∷ [] =
+    ap (λ (x : told.World). x.pages) whole ∙ ap (λ t. t.pages.items ++ t.pages_made ∷ []) settled.tables in
+    let graph = ap (λ s. s.graph.given) signals ∙ settled.given in
+    let stands = ap (λ s. s.graph.state.signals) signals ∙ settled.signals in
+    record {
+      ready = record {
+        watchers = ap (λ s. s.watchers.made) signals ∙ ap (λ t. t.made) settled.watchers ∙ r.watchers ∙ ap length (sym (ap (λ (l : called.Labels). l.watchers) labels));
+        paged = made ∙ ap (λ (x : ℕ). x + 1) r.paged ∙ sym (length-append m.labels.pages.items (n ∷ [])) ∙ ap length (sym (ap (λ (l : called.Labels). l.pages) labels));
+        meant = subst (λ x. x) (λ i. AreMeant new.world (length (sym templates i).items) (sym names i))
+            (meant_other new.world _ m.names n kind.Page id refl (λ s. refl) (λ t. absurd cc)
+            (meant_still m.world new.world _ m.names graph (λ k x h. ap (λ g. is_of_kind k (standing g x)) stands ∙ h) r.meant));
+        shown = subst (λ x. x) (λ i. AreShown (sym templates i).items (sym pages i)) (shown_more m.templates.items m.pages.items p r.shown shown);
+        pages = subst (ArePages new.world) (sym pages) (pages_more m.world new.world m.pages.items p number live made room r.pages);
+      };
+      holds = λ h. record { agrees = agrees; ruled = subst (AreRuled rules) (sym stands) h.ruled };
+      weight =
+          let a = ap (λ s. s.graph.state.worn) signals in
+          let b = ap (λ (x : told.World). x.made.effects) whole ∙ ap (λ t. t.effects_made) settled.tables in omega (arith, a, b, worn);
+    }

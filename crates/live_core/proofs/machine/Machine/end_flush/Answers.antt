@@ -1,0 +1,32 @@
+use Rattle.std.proofs.Common.{refl, sym, ap, subst, arith}
+use Rattle.sig_effect.specs.Agreeing.{environment, AreRuled}
+use Rattle.live_pages.proofs.Shared.{pages_kept}
+use Rattle.live_core.proofs.Doing.{ready_changed, stays_settled}
+use Rattle.live_core.proofs.Mounts.{brought_steps, refused_steps}
+use Rattle.live_core.proofs.machine.Machine.end_flush.Goals as goal
+
+pub returns-then-refused-clause-steps : goal.returns-then-refused-clause-steps
+returns-then-refused-clause-steps g c = λ hosts slacks all sound.
+    refused_steps hosts (environment hosts slacks) _ c.args.self.now c.args.told.items c.push.new.self.items c.args.refused (sym c.if-refused.true) c.in_ok-push.ensures.items sound
+
+pub returns-clause-steps : goal.returns-clause-steps
+returns-clause-steps g c = λ hosts slacks all sound.
+    let m = c.args.self.now in
+    let e = c.in_ok-pages.ensures in
+    let up = rw c.deref.ensures.value at (e.pages hosts slacks m.names all sound) in
+    let new = record m { world = c.bring_all_up.new.world; pages = c.bring_all_up.new.pages } in
+    brought_steps hosts (environment hosts slacks) _ _ m new c.bring_all_up.new.world c.bring_all_up.new.pages.items c.args.told.items c.in_ok-pages.pages.items c.append.new.told.items
+    c.args.refused (sym c.if-refused.false) up refl refl refl refl refl c.in_ok-append.ensures up.sound
+
+pub returns-clause-leaves : goal.returns-clause-leaves
+returns-clause-leaves g c = λ hosts count ready all sound.
+    let m = c.args.self.now in
+    let e = c.in_ok-pages.ensures in
+    let new = record m { world = c.bring_all_up.new.world; pages = c.bring_all_up.new.pages } in
+    record {
+      ready = ready_changed m new ready
+          (record { names = refl; templates = refl; labels = record { signals = refl; owners = refl; pages = refl; watchers = refl } }) (stays_settled m.world new.world e.world) (rw c.deref.ensures.value at e.shown)
+          (pages_kept m.world new.world m.pages.items new.pages.items e.numbers (ap (λ t. t.pages.items) e.world.tables) (ap (λ t. t.pages_made) e.world.tables) ready.pages);
+      holds = λ h. record { agrees = e.agrees; ruled = subst (AreRuled count) (sym e.world.signals) h.ruled };
+      weight = let a = e.worn in let b = ap (λ t. t.effects_made) e.world.tables in omega (arith, a, b);
+    }

@@ -1,0 +1,15 @@
+use Rattle.std.proofs.Common.{◌∙◌, List, is_some, map, sym}
+use Rattle.sig_host.specs.Hosts.{HostPlace}
+use Rattle.live_core.proofs.Rightly.{second_of, third_of}
+use Rattle.live_core.proofs.machine.Machine.later_refusal.Goals as goal
+
+pub returns-in-Some-over_limit : goal.returns-in-Some-over_limit
+returns-in-Some-over_limit g c =
+    let asked : List HostPlace = map (λ p. record { there = is_some p.host; asks = p.count }) c.args.shelf.now.places.items in
+    second_of _ _ _ c.in-Some-over_limit.refusal (sym c.in_ok-refusal.ensures ∙ c.in_default.is) (sym c.in-Some-over_limit.is ∙ c.over_limit.ensures asked)
+
+pub returns : goal.returns
+returns g c =
+    let asked : List HostPlace = map (λ p. record { there = is_some p.host; asks = p.count }) c.args.shelf.now.places.items in
+    third_of _ _ _ c.in_ok-refusal-2.refusal (sym c.in_ok-refusal.ensures ∙ c.in_default.is) (sym (c.over_limit.ensures asked) ∙ c.in_default-over_limit.is)
+    (c.in_ok-refusal-2.ensures asked)

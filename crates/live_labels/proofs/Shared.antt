@@ -1,0 +1,4 @@
+-- What crates above may cite of these proofs. All else in this folder is this crate's own.
+
+-- entries and labels by events are those by what the plain world tells
+pub use Rattle.live_labels.proofs.Told.{all_rename, all_told, renamed_by, told_by}

@@ -1,0 +1,45 @@
+-- What is told of the events of a world, and what is called otherwise from then on.
+use Rattle.std.specs.Prelude.{List, ℕ, [], ◌∷◌, map}
+use Rattle.effect_model.specs.Worlds.{gone, made_child}
+use Rattle.effect_tables.specs.Linking.{thing_of}
+use Rattle.sig_computed.specs.Notes.{Note, note_of}
+use Rattle.sig_effect.specs.declared.events.Event.{Event as SignalEvent}
+use Rattle.sig_effect.specs.declared.events.Event.TheVariants as signals
+use Rattle.sig_effect.specs.Events as ends
+use Rattle.effect_world.specs.declared.events.Event.{Event}
+use Rattle.effect_world.specs.declared.events.Event.TheVariants as event
+use Rattle.live_cmd.specs.declared.entry.Entry.{Entry}
+use Rattle.live_cmd.specs.declared.entry.Entry.TheVariants as entry
+use Rattle.live_cmd.specs.declared.refusal.Refusal.TheVariants as refusal
+use Rattle.live_model.specs.Labels.{Labels, label_at, label_of, name_at, relabelled}
+
+-- what is told of a run, by the names of signals
+abbrev pub note_entry : List (List ℕ) → Note → Entry
+note_entry names n = entry.Run (name_at names n.name) (map (name_at names) n.reads) n.outcome
+
+-- what is told of an event of signals and watchers
+abbrev pub signal_entry : Labels → SignalEvent → Entry
+signal_entry labels (signals.Run n) = note_entry labels.signals (note_of n)
+signal_entry labels (signals.Notify w) = entry.Notify (name_at labels.watchers w)
+signal_entry labels (signals.Frozen ws) = entry.Error (refusal.Frozen (map (name_at labels.watchers) ws.items))
+signal_entry labels (signals.Dropped place asks) = entry.Drop place asks
+signal_entry labels (signals.Gone t) = entry.Gone (label_of labels (ends.thing_of t))
+
+-- what is told of an event; the making of a child and the noting of a cleanup aren't told
+abbrev pub entries_told : Labels → Event → List Entry
+entries_told labels (event.Signals e) = signal_entry labels e ∷ []
+entries_told labels (event.Log v) = entry.Log v ∷ []
+entries_told labels (event.Body e reads) = entry.Effect (label_at labels.effects e) (map (name_at labels.signals) reads.items) ∷ []
+entries_told labels (event.Fail e f) = entry.Fail (label_at labels.effects e) f ∷ []
+entries_told labels (event.Cleanup e) = entry.Cleanup (label_at labels.effects e) ∷ []
+entries_told labels (event.Gone t) = entry.Gone (label_of labels (thing_of t)) ∷ []
+entries_told labels (event.RefusedGone t) = entry.Error (refusal.Gone (label_of labels (thing_of t)).name) ∷ []
+entries_told labels (event.RefusedHost place) = entry.Error (refusal.HostTaken place) ∷ []
+entries_told labels (event.Made child parent k) = []
+entries_told labels (event.Noted e) = []
+
+-- the labels from then on
+abbrev pub renamed : Event → Labels → Labels
+renamed (event.Made child parent k) labels = relabelled (made_child child parent k) labels
+renamed (event.Gone t) labels = relabelled (gone (thing_of t)) labels
+renamed _ labels = labels

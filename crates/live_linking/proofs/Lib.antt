@@ -1,0 +1,3 @@
+mod Linked
+mod Fitting
+pub mod Shared

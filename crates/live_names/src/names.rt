@@ -1,0 +1,60 @@
+// The names that were made.
+ghost use Rattle.std.specs.Prelude.{◌≡◌, ◌++◌, ◌∷◌, [], None, OnOk};
+ghost use Rattle.live_model.specs.Names.{meaning_of, number_of};
+
+use indexmap::IndexMap;
+use live_model::{Kind, Meaning};
+use sig_base::{Name, NoMemory};
+use std::alloc::Global;
+use std::marker::Model;
+
+/// The names that were made and what they stand for, in order of making.
+#[derive(Drop)]
+pub struct Names {
+    meanings: IndexMap<Name, Meaning>,
+}
+
+impl Model for Names {
+    ghost use Rattle.live_model.specs.Names as plain;
+
+    ghost Value = { plain.Names };
+
+    ghost view = { λ n. n.meanings.entries };
+}
+
+impl Names {
+    /// No names.
+    pub fn new(alloc: Global) -> Names
+        ensures { result ≡ [] }
+    {
+        Names {
+            meanings: IndexMap::new(alloc),
+        }
+    }
+
+    /// What a name stands for, if it was made.
+    pub fn meaning_of(&self, name: &Name) -> Option<Meaning>
+        ensures { result ≡ meaning_of self.now name.now }
+    {
+        self.meanings.get(name).copied()
+    }
+
+    /// The number of what a name stands for, 0 for a name that wasn't made.
+    pub fn number_of(&self, name: &Name) -> u128
+        ensures { result ≡ number_of self.now name.now }
+    {
+        match self.meaning_of(name) {
+            Some(meaning) => meaning.number,
+            None => 0,
+        }
+    }
+
+    /// Makes a new name, last, for that of this number among those of its kind.
+    pub fn make(&mut self, name: Name, kind: Kind, number: u128) -> Result<(), NoMemory>
+        requires { meaning_of self.old name ≡ None }
+        ensures { OnOk result (self.new ≡ self.old ++ (name, record { kind = kind; number = number }) ∷ []) }
+    {
+        self.meanings.insert(name, Meaning { kind, number })?;
+        Ok(())
+    }
+}

@@ -1,0 +1,4 @@
+mod Paging
+mod Apart
+mod Standing
+pub mod Shared

@@ -1,0 +1,129 @@
+// Which names each command uses, in the order of its text.
+ghost use Rattle.std.specs.Prelude.{◌≡◌, ◌++◌, ◌∷◌, IfOk, OnOk, map, flat_map};
+ghost use Rattle.live_model.specs.declared.names.Need.TheVariants as need;
+ghost use Rattle.live_model.specs.Uses.{need_of, uses_of, uses_of_formula, uses_of_inside, uses_of_source};
+ghost use Rattle.live_uses.specs.Views.{use_of};
+
+use crate::uses::{Use, put_signals, put_use};
+use formula_text::Wired;
+use live_cmd::{Command, SourceText, Verb};
+use live_model::{Kind, Need};
+use sig_base::{Name, NoMemory};
+use std::alloc::Global;
+
+fn put_formula<'a>(uses: &mut Vec<Use<'a>>, formula: &'a Wired) -> Result<(), NoMemory>
+    ensures { OnOk result (map use_of uses.new.items ≡ map use_of uses.old.items ++ uses_of_formula formula.now) }
+{
+    put_signals(uses, &formula.names)?;
+    Ok(())
+}
+
+fn put_source<'a>(uses: &mut Vec<Use<'a>>, source: &'a SourceText) -> Result<(), NoMemory>
+    ensures { OnOk result (map use_of uses.new.items ≡ map use_of uses.old.items ++ uses_of_source source.now) }
+{
+    match source {
+        SourceText::Formula(formula) => put_formula(uses, formula),
+        SourceText::Host(_, arguments) => put_signals(uses, arguments.as_slice()),
+    }
+}
+
+fn put_texts<'a>(uses: &mut Vec<Use<'a>>, texts: &'a [Wired]) -> Result<(), NoMemory>
+    ensures { OnOk result (map use_of uses.new.items ≡ map use_of uses.old.items ++ flat_map uses_of_formula texts.now) }
+{
+    for text in texts {
+        put_formula(uses, text)?;
+    }
+    Ok(())
+}
+
+// Puts the owner inside which something is made, if one is named.
+fn put_inside<'a>(uses: &mut Vec<Use<'a>>, inside: &'a Option<Name>) -> Result<(), NoMemory>
+    ensures { OnOk result (map use_of uses.new.items ≡ map use_of uses.old.items ++ uses_of_inside inside.now) }
+{
+    match inside {
+        None => Ok(()),
+        Some(owner) => put_use(uses, owner, Need::Of(Kind::Owner)),
+    }
+}
+
+// What the name of a verb has to be.
+fn need_of(verb: Verb) -> Need
+    ensures { result ≡ need_of verb }
+{
+    match verb {
+        Verb::Get => Need::Signal,
+        Verb::Dispose => Need::Thing,
+        Verb::State | Verb::Sources => Need::Of(Kind::Computed),
+        Verb::Pending => Need::Of(Kind::Watcher),
+        Verb::Show => Need::Of(Kind::Page),
+    }
+}
+
+// Puts the names of a command that makes something.
+fn put_making<'a>(
+    uses: &mut Vec<Use<'a>>,
+    name: &'a Name,
+    inside: &'a Option<Name>,
+) -> Result<(), NoMemory>
+    ensures { OnOk result (map use_of uses.new.items ≡ map use_of uses.old.items ++ (name.now, need.New) ∷ uses_of_inside inside.now) }
+{
+    put_use(uses, name, Need::New)?;
+    put_inside(uses, inside)
+}
+
+fn put_uses<'a>(uses: &mut Vec<Use<'a>>, command: &'a Command) -> Result<(), NoMemory>
+    ensures { OnOk result (map use_of uses.new.items ≡ map use_of uses.old.items ++ uses_of command.now) }
+{
+    match command {
+        Command::Cell { name, inside, .. } => put_making(uses, name, inside),
+        Command::Set { name, .. } => put_use(uses, name, Need::Of(Kind::Cell)),
+        Command::Computed {
+            name,
+            source,
+            inside,
+        } => {
+            put_use(uses, name, Need::New)?;
+            put_source(uses, source)?;
+            put_inside(uses, inside)
+        }
+        Command::Rewire { name, source } => {
+            put_use(uses, name, Need::Of(Kind::Computed))?;
+            put_source(uses, source)
+        }
+        Command::Owner { name, inside } => put_making(uses, name, inside),
+        Command::Watcher { name, .. } => put_use(uses, name, Need::New),
+        Command::Watch { name, signals } => {
+            put_use(uses, name, Need::Of(Kind::Watcher))?;
+            put_signals(uses, signals.as_slice())
+        }
+        Command::Unwatch { name, signal } => {
+            put_use(uses, name, Need::Of(Kind::Watcher))?;
+            put_use(uses, signal, Need::Signal)
+        }
+        Command::Effect { name, inside, .. } => put_making(uses, name, inside),
+        Command::Template { name, texts } => {
+            put_use(uses, name, Need::New)?;
+            put_texts(uses, texts.as_slice())
+        }
+        Command::Mount {
+            name,
+            template,
+            inside,
+        } => {
+            put_use(uses, name, Need::New)?;
+            put_use(uses, template, Need::Of(Kind::Template))?;
+            put_inside(uses, inside)
+        }
+        Command::Named { verb, name } => put_use(uses, name, need_of(*verb)),
+        Command::Flush => Ok(()),
+    }
+}
+
+/// The names that a command uses, in the order of its text, those in the body of an effect aside.
+pub fn uses_of<'a>(alloc: Global, command: &'a Command) -> Result<Vec<Use<'a>>, NoMemory>
+    ensures { IfOk result (λ uses. map use_of uses.items ≡ uses_of command.now) }
+{
+    let mut uses = Vec::new(alloc);
+    put_uses(&mut uses, command)?;
+    Ok(uses)
+}

@@ -1,0 +1,15 @@
+//! The names that commands use, in the order of their text, and what else is asked of the text of a body.
+#![tactic(auto)]
+
+mod bodies;
+mod commands;
+mod fitting;
+mod hosts;
+mod slots;
+mod uses;
+
+pub use bodies::uses_of_body;
+pub use commands::uses_of;
+pub use fitting::is_fit;
+pub use hosts::hosts_of_body;
+pub use uses::Use;
