@@ -13,7 +13,7 @@ use Rattle.tpl_found.proofs.Facts.{ascending_map, by_number_is, child_on, from_t
 
 -- ---- lists of numbers
 
-map_both : (num : ℕ → ℕ) (xs ys : List ℕ) → map num (xs ++ ys) ≡ map num xs ++ map num ys
+pub map_both : (num : ℕ → ℕ) (xs ys : List ℕ) → map num (xs ++ ys) ≡ map num xs ++ map num ys
 map_both num [] ys = refl
 map_both num (x ∷ xs) ys = ap (λ z. num x ∷ z) (map_both num xs ys)
 
@@ -28,14 +28,14 @@ those_num num test by (x ∷ xs) h =
       | inr t ↦ rw (e, t) i
     ]
 
-map_in : (num : ℕ → ℕ) (a : ℕ) (xs : List ℕ) → listed a xs ≡ true → listed (num a) (map num xs) ≡ true
+pub map_in : (num : ℕ → ℕ) (a : ℕ) (xs : List ℕ) → listed a xs ≡ true → listed (num a) (map num xs) ≡ true
 map_in num a [] h = absurd (false≢true h)
 map_in num a (x ∷ xs) h = elim (or_cases (x == a) (listed a xs) h) [
   | inl e ↦ or_left (num x == num a) (listed (num a) (map num xs)) (eq-eqb (num x) (num a) (ap num (eqb-true x a e)))
   | inr e ↦ or_right (num x == num a) (listed (num a) (map num xs)) (map_in num a xs e)
 ]
 
-in_map : (num : ℕ → ℕ) (n : ℕ) (xs : List ℕ) → listed n (map num xs) ≡ true → (a : ℕ) × (listed a xs ≡ true) × (num a ≡ n)
+pub in_map : (num : ℕ → ℕ) (n : ℕ) (xs : List ℕ) → listed n (map num xs) ≡ true → (a : ℕ) × (listed a xs ≡ true) × (num a ≡ n)
 in_map num n [] h = absurd (false≢true h)
 in_map num n (x ∷ xs) h = elim (or_cases (num x == n) (listed n (map num xs)) h) [
   | inl e ↦ (x, or_left (x == x) (listed x xs) (eq-eqb x x refl), eqb-true (num x) n e)

@@ -51,7 +51,7 @@ from_flat f j (x ∷ xs) h = elim (or_cases (listed j (f x)) (listed j (flat_map
 ]
 
 -- below a new node all is new
-all_new : (p : NumberedPage) (shape : Forest Look) → IsPage p → IsShape shape → SameOrigin (page_shape p) shape → New (λ a. on a (page_shape p)) shape
+pub all_new : (p : NumberedPage) (shape : Forest Look) → IsPage p → IsShape shape → SameOrigin (page_shape p) shape → New (λ a. on a (page_shape p)) shape
 all_new p shape q s o =
     let before = page_shape p in
     all_gone shape before s.once (λ a h. parent_at a before (looks q.rooted.below) (ap looks q.rooted.is) q.once h) (λ a h k. sym (o.parents a k h)) shape (λ j e. e)

@@ -6,7 +6,8 @@ use Rattle.std.proofs.lemmas.Slice.Eq.{bytes_eq-Decides}
 use Rattle.page_model.specs.Edits.{attribute_edits, line_edits}
 use Rattle.page_model.specs.Labels.{Root, Text, Element, Distinct, SameNames, named, present, with_value}
 use Rattle.page_model.specs.Replay.{Op, OpAttr, OpUnattr}
-use Rattle.tpl_found.specs.Telling.{ToldLaw, attributes_told, value_at}
+use Rattle.page_tree.specs.Reading.{value_named}
+use Rattle.tpl_found.specs.Telling.{ToldLaw, attributes_told}
 
 bytes_same : (a : List ℕ) → bytes_eq a a ≡ true
 bytes_same a = (bytes_eq-Decides a a).1 refl
@@ -23,7 +24,7 @@ parted true b h = absurd (true≢false h)
 parted false b h = (refl, h)
 
 -- a name that none of the lines has isn't present
-absent : (name : List ℕ) (xs : List (List ℕ × Option (List ℕ))) → named name xs ≡ false → value_at name (present xs) ≡ None
+absent : (name : List ℕ) (xs : List (List ℕ × Option (List ℕ))) → named name xs ≡ false → value_named name (present xs) ≡ None
 absent name [] h = refl
 absent name ((m, None) ∷ xs) h = absent name xs (parted (bytes_eq m name) (named name xs) h).1
 absent name ((m, Some v) ∷ xs) h =
@@ -33,7 +34,7 @@ absent name ((m, Some v) ∷ xs) h =
 -- each line of these has the value that is present under its name
 abbrev Present : List (List ℕ × List ℕ) → List (List ℕ × Option (List ℕ)) → Type 0
 Present now [] = Unit {0}
-Present now (a ∷ xs) = (value_at a.0 now ≡ a.1) × Present now xs
+Present now (a ∷ xs) = (value_named a.0 now ≡ a.1) × Present now xs
 
 -- a value before others hides none of another name
 behind : (m : List ℕ) (v : Option (List ℕ)) (now : List (List ℕ × List ℕ)) (xs : List (List ℕ × Option (List ℕ))) → named m xs ≡ false →
@@ -67,9 +68,9 @@ all_told n now [] [] all same i = refl
 all_told n now [] (b ∷ bs) all same i = absurd same
 all_told n now (a ∷ xs) [] all same i = absurd same
 all_told n now (a ∷ xs) (b ∷ bs) all same i =
-    let e : a.1 ≡ value_at b.0 now = sym all.0 ∙ ap (λ z. value_at z now) same.0 in
+    let e : a.1 ≡ value_named b.0 now = sym all.0 ∙ ap (λ z. value_named z now) same.0 in
     ap (λ z. line_edits n i b.0 z b.1 (attribute_edits n xs bs)) e
-    ∙ line_like n i b.0 (value_at b.0 now) b.1 (attribute_edits n xs bs) (attributes_told n now bs) (all_told n now xs bs all.1 same.1)
+    ∙ line_like n i b.0 (value_named b.0 now) b.1 (attribute_edits n xs bs) (attributes_told n now bs) (all_told n now xs bs all.1 same.1)
 
 pub told_law : ToldLaw
 told_law n Root Root a d = refl

@@ -1,19 +1,15 @@
 -- What a kept node says, by what the tree has of it: the look of before isn't needed line by line.
-use Rattle.std.specs.Prelude.{◌≡◌, ℕ, List, [], ◌∷◌, Option, Some, None, if◌then◌else◌}
+use Rattle.std.specs.Prelude.{◌≡◌, ℕ, List, [], ◌∷◌, Option, if◌then◌else◌}
 use Rattle.std.specs.Str.{bytes_eq}
 use Rattle.page_model.specs.Edits.{line_edits, told}
 use Rattle.page_model.specs.Labels.{Text, Element, Alike, DistinctNames, Kind, Look, seen}
 use Rattle.page_model.specs.Replay.{Op, OpText}
-
--- the value of the first attribute of a name, where there is one
-abbrev pub value_at : List ℕ → List (List ℕ × List ℕ) → Option (List ℕ)
-value_at name [] = None
-value_at name (a ∷ rest) = if bytes_eq a.0 name then Some a.1 else value_at name rest
+use Rattle.page_tree.specs.Reading.{value_named}
 
 -- the attributes line by line, each where the tree has it otherwise; a place is that among the present ones
 abbrev pub attributes_told : ℕ → List (List ℕ × List ℕ) → List (List ℕ × Option (List ℕ)) → ℕ → List Op
 attributes_told n now [] i = []
-attributes_told n now (b ∷ bs) i = line_edits n i b.0 (value_at b.0 now) b.1 (attributes_told n now bs)
+attributes_told n now (b ∷ bs) i = line_edits n i b.0 (value_named b.0 now) b.1 (attributes_told n now bs)
 
 -- the text or the attributes of a node where the tree has them otherwise
 abbrev pub told_on : ℕ → Kind → Look → List Op

@@ -1,3 +1,4 @@
 mod Equations
 mod Placed
 mod Rows
+pub mod Shared

@@ -65,7 +65,7 @@ tag_put k n name xs inner rest (element hs i r) a b c fit e later =
 tag_put k n name xs inner rest m a b c fit e later = absurd (false≢true fit)
 
 -- the branch that is shown
-picked : (o : Outcome) (f g : Forest Look) → after (where_shown (shows_branch o true) f) (where_shown (shows_branch o false) g) ≡ picks o f g none
+pub picked : (o : Outcome) (f g : Forest Look) → after (where_shown (shows_branch o true) f) (where_shown (shows_branch o false) g) ≡ picks o f g none
 picked (Good (value.Bool true)) f g = after_none f
 picked (Good (value.Bool false)) f g = refl
 picked (Good (value.Int i)) f g = refl

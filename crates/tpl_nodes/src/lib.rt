@@ -4,4 +4,5 @@
 mod parts;
 mod placing;
 
+pub use parts::{attributes_of, fits, inside_of, later_of, shows};
 pub use placing::put_nodes;

@@ -1,0 +1,8 @@
+//! The nodes of a shape that stand on a page already, with their numbers there.
+#![tactic(auto)]
+
+mod marking;
+mod numbers;
+
+pub use marking::marks_of;
+pub use numbers::{Numbers, put_addresses};

@@ -1,0 +1,64 @@
+-- The next children of nodes that stay on a page: which stay, and what comes under the next numbers.
+use Rattle.std.specs.Prelude.{◌≡◌, ℕ, ◌+◌, Bool, List, [], ◌∷◌, length, map}
+use Rattle.std.specs.List.{flat_map}
+use Rattle.page_model.specs.Edits.{siblings}
+use Rattle.page_model.specs.Forest.{Forest, none, after, keys, kids}
+use Rattle.page_model.specs.Labels.{Kind, Look, Sound, shown}
+use Rattle.page_model.specs.Replay.{Op}
+use Rattle.tpl_found.specs.Coming.{coming, spelled}
+use Rattle.tpl_found.specs.Reading.{kept_numbers}
+use Rattle.tpl_memos.specs.ChildSteps.{step_name}
+use Rattle.tpl_model.specs.Sources.{in_order}
+use Rattle.tpl_shapes.specs.Shapes.{Marked, Next, stays, comes}
+use Rattle.update_laws.specs.Children.{forward_edits}
+
+-- the nodes that come, one after the other
+abbrev pub arrivals : List Next → Forest Look
+arrivals [] = none
+arrivals (stays m ∷ cs) = arrivals cs
+arrivals (comes t ∷ cs) = after t (arrivals cs)
+
+-- the numbers of the next children, where what comes has the numbers from n on
+abbrev pub next_numbers : ℕ → List Next → List ℕ
+next_numbers n [] = []
+next_numbers n (stays m ∷ cs) = m ∷ next_numbers n cs
+next_numbers n (comes t ∷ cs) = n ∷ next_numbers (n + length (keys t)) cs
+
+-- the next number after those of what comes
+abbrev pub number_after : ℕ → List Next → ℕ
+number_after n cs = n + length (keys (arrivals cs))
+
+-- each node that comes has children only where it can hold them, and each name once
+abbrev pub AreSound : List Next → Type 0
+AreSound [] = Unit {0}
+AreSound (stays m ∷ cs) = AreSound cs
+AreSound (comes t ∷ cs) = Sound t × AreSound cs
+
+-- so it is below each marked node
+abbrev pub AllSound : List Marked → Type 0
+AllSound [] = Unit {0}
+AllSound (m ∷ ms) = AreSound m.children × AllSound ms
+
+-- these are the next children of a node: they stay under their numbers, or come under the numbers from n on
+pub record Fits (given : ℕ → Bool) (n : ℕ) (cs : List Next) (children : Forest Kind) : Type 0 where
+  pub numbers : siblings children ≡ next_numbers n cs
+  pub arrive : coming given children ≡ shown (in_order n (arrivals cs))
+
+-- the next tree has the next children of each marked node; what comes has the numbers from n on, in the order of the marks
+abbrev pub AllFit : (ℕ → Bool) → ℕ → List Marked → Forest Kind → Type 0
+AllFit given n [] tree = Unit {0}
+AllFit given n (m ∷ ms) tree = Fits given n m.children (kids m.number tree) × AllFit given (number_after n m.children) ms tree
+
+-- the next number after those of what comes to all marked nodes
+abbrev pub number_behind : ℕ → List Marked → ℕ
+number_behind n [] = n
+number_behind n (m ∷ ms) = number_behind (number_after n m.children) ms
+
+-- the operations on the children of a node that has these in the next tree
+abbrev pub children_moved : (ℕ → Bool) → (ℕ → Bool) → Forest Kind → ℕ → Forest Kind → List Op
+children_moved given kept tree p children =
+    spelled p (map step_name (forward_edits given p 0 (kept_numbers kept tree p) [] children)) (coming given children)
+
+-- those on the children of each marked node, between two trees
+abbrev pub moved_between : (ℕ → Bool) → (ℕ → Bool) → Forest Kind → Forest Kind → List Marked → List Op
+moved_between given kept tree next ms = flat_map (λ (m : Marked). children_moved given kept tree m.number (kids m.number next)) ms

@@ -1,0 +1,3 @@
+mod Sorted
+mod Taking
+pub mod Shared

@@ -1,0 +1,3 @@
+mod Codes
+mod Equations
+pub mod Shared
