@@ -26,7 +26,7 @@ first_brings n i s rest e are =
     let w = one_node n s e in
     subst (λ z. AreNodes (after z rest) → Brings (insertion 0 i z) × AreNodes rest) (sym w.2) (λ a. ((a.0, a.1, tt), a.2)) are
 
-first_done : (a : Answer) (f : Forest Kind → Answer) → IsDone (then_on a f) → IsDone a
+pub first_done : (a : Answer) (f : Forest Kind → Answer) → IsDone (then_on a f) → IsDone a
 first_done (Done t) f h = tt
 first_done (Refused why) f h = h
 

@@ -2,3 +2,9 @@ mod Inserted
 mod Mounted
 mod Sourced
 mod Mounting
+mod Stood
+mod Sorting
+mod Matched
+mod Operated
+mod Planned
+mod Renewed

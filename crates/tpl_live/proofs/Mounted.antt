@@ -22,11 +22,11 @@ use Rattle.tpl_live.specs.Pages.{Standing, inserts, numbered_as, page_in, shape_
 -- ---- numbers
 
 -- the numbers of a tree are found again at the places of its nodes
-numbers_back : (num : ℕ → ℕ) (xs : Forest Look) → numbered_as xs (shown (by_number (with_numbers num xs))) ≡ with_numbers num xs
+pub numbers_back : (num : ℕ → ℕ) (xs : Forest Look) → numbered_as xs (shown (by_number (with_numbers num xs))) ≡ with_numbers num xs
 numbers_back num none = refl
 numbers_back num (node a x k r) = (λ i. node a (num a, x) (numbers_back num k i) (numbers_back num r i))
 
-numbers_shown : (num : ℕ → ℕ) (xs : Forest Look) → by_number (with_numbers num xs) ≡ numbered num xs
+pub numbers_shown : (num : ℕ → ℕ) (xs : Forest Look) → by_number (with_numbers num xs) ≡ numbered num xs
 numbers_shown num none = refl
 numbers_shown num (node a x k r) = (λ i. node (num a) x (numbers_shown num k i) (numbers_shown num r i))
 

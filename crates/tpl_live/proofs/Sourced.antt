@@ -28,7 +28,7 @@ use Rattle.tpl_live.specs.Pages.{outcome_in}
 -- ---- names in order
 
 -- names one after the other, each at its first place
-firsts_are : (before ns xs : List ℕ) → ((j : ℕ) → is_in j before ≡ is_in j ns) → firsts_after ns xs ≡ ns ++ firsts before xs
+pub firsts_are : (before ns xs : List ℕ) → ((j : ℕ) → is_in j before ≡ is_in j ns) → firsts_after ns xs ≡ ns ++ firsts before xs
 firsts_are before ns [] same = sym (append-nil ns)
 firsts_are before ns (x ∷ xs) same =
     go (is_in x ns) refl (firsts_are before ns xs same)

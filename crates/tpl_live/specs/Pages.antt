@@ -53,6 +53,12 @@ pub record Stands (lines : List Line) (links : List ℕ) (s : Standing) : Type 0
   pub sound : Sound (page_shape (page_in s))
   pub names : keys_of s.heard ≡ firsts [] (names s.memo)
 
+-- so it is for some lines
+pub record IsStanding (s : Standing) : Type 0 where
+  pub lines : List Line
+  pub links : List ℕ
+  pub stands : Stands lines links s
+
 -- the insertions of these nodes below the root, from a place on
 abbrev pub inserts : ℕ → Forest Kind → List Op
 inserts i none = []

@@ -1,7 +1,8 @@
-//! Live pages of templates: a page is mounted, with the operations that make it.
+//! Live pages of templates: a page is mounted and brought up to date, with the operations that lead there.
 #![tactic(auto)]
 
 mod first;
 mod page;
+mod plan;
 
 pub use page::Page;

@@ -1,5 +1,5 @@
 // Pages of templates.
-ghost use Rattle.std.specs.Prelude.{◌≡◌, ◌<◌, ◌^◌, map, IfOk, OnOk};
+ghost use Rattle.std.specs.Prelude.{◌≡◌, ◌<◌, ◌^◌, ℕ, List, map, IfOk, OnOk};
 ghost use Rattle.signal_model.specs.Recipes.{Hosts};
 ghost use Rattle.signal_model.specs.Kept.{AreKept};
 ghost use Rattle.sig_host.specs.Hosts.{most_asked};
@@ -8,24 +8,28 @@ ghost use Rattle.sig_computed.specs.Notes.{IsIdle};
 ghost use Rattle.page_model.specs.Pages.{bare};
 ghost use Rattle.page_ops.specs.Ops.{op_of};
 ghost use Rattle.tpl_model.specs.Laws.{IsTemplate};
+ghost use Rattle.tpl_model.specs.Lines.{Line};
 ghost use Rattle.tpl_model.specs.Sources.{template_asked};
 ghost use Rattle.tpl_model.specs.Updates.{updated};
 ghost use Rattle.tpl_blocks.specs.Blocks.{lines_of};
 ghost use Rattle.tpl_hearing.specs.Hearing.{scene, Settles};
-ghost use Rattle.tpl_live.specs.Pages.{page_in, Stands};
+ghost use Rattle.tpl_live.specs.Pages.{page_in, IsStanding, Stands};
 ghost use Rattle.tpl_live.specs.Standings.{standing};
 
 use crate::first::{First, first_tree};
+use crate::plan::{Plan, apply_all, compared, numbers_of};
 use page_ops::Op;
 use page_tree::Tree;
 use sig_base::{NoMemory, NodeId};
 use sig_computed::RunNote;
 use sig_host::{Lent, Shelf};
 use sig_nodes::Graph;
+use std::mem;
 use tpl_blocks::{Block, block_of};
 use tpl_hearing::Outcomes;
 use tpl_making::make;
 use tpl_memos::PageMemo;
+use tpl_renewing::renew;
 use tpl_syntax::Template;
 
 /// A page that is made from a template and stands on signals: what it keeps of the template's lines and of the names that it read, and its tree.
@@ -94,5 +98,65 @@ impl Page {
             tree,
         };
         Ok((page, ops))
+    }
+
+    /// Brings the page up to date with the signals, and gives the operations that lead there: nodes that stay keep their numbers, and new ones
+    /// get the next numbers. The names that its lines read are settled, each once, in the order in which they are first read; a line whose names
+    /// have the outcomes of before isn't evaluated. Host formulas are asked exactly as the runs of this call ask them. Signals stay, and nothing
+    /// is being evaluated before and after. Without memory graph, shelf and page may only be dropped.
+    ///
+    /// # Errors
+    ///
+    /// `NoMemory` alone.
+    pub fn update(
+        &mut self,
+        graph: &mut Graph,
+        shelf: &mut Shelf,
+        notes: &mut Vec<RunNote>,
+    ) -> Result<Vec<Op>, NoMemory>
+        requires stands { IsStanding (standing self.old) }
+        requires idle { IsIdle graph.old.state }
+        requires worn { graph.old.state.worn < 2 ^ 126 }
+        requires counted { ⟦<Shelf as Lent>⟧.counted shelf.old }
+        requires there { AreThere graph.old.state.signals (⟦<Shelf as Lent>⟧.asked shelf.old) }
+        requires room { most_asked (⟦<Shelf as Lent>⟧.asked shelf.old) < 2 ^ 126 }
+        ensures stands { (lines : List Line) (links : List ℕ) → Stands lines links (standing self.old) → OnOk result (Stands lines links (standing self.new)) }
+        ensures page { (lines : List Line) (links : List ℕ) → Stands lines links (standing self.old) → (hosts : Hosts) →
+            ⟦<Shelf as Lent>⟧.answers hosts shelf.old → AreKept hosts graph.old.state.signals graph.old.state.memos → OnOk result (page_in (standing self.new) ≡
+            (updated hosts graph.old.state.signals lines links graph.old.state.memos (page_in (standing self.old))).page) }
+        ensures ops { (lines : List Line) (links : List ℕ) → Stands lines links (standing self.old) → (hosts : Hosts) →
+            ⟦<Shelf as Lent>⟧.answers hosts shelf.old → AreKept hosts graph.old.state.signals graph.old.state.memos → IfOk result (λ ops. map op_of ops.items ≡
+            (updated hosts graph.old.state.signals lines links graph.old.state.memos (page_in (standing self.old))).ops) }
+        ensures settles { (lines : List Line) (links : List ℕ) → Stands lines links (standing self.old) → OnOk result (Settles
+            (scene graph.old (⟦<Shelf as Lent>⟧.asked shelf.old) notes.old.items) (scene graph.new (⟦<Shelf as Lent>⟧.asked shelf.new) notes.new.items)
+            (λ hosts. ⟦<Shelf as Lent>⟧.answers hosts shelf.old) (λ hosts. ⟦<Shelf as Lent>⟧.answers hosts shelf.new)
+            (λ hosts. template_asked hosts graph.old.state.signals lines links)) }
+        ensures counted { OnOk result (⟦<Shelf as Lent>⟧.counted shelf.new) }
+    {
+        let alloc = *notes.allocator();
+        let numbers = numbers_of(alloc, &self.lines, &self.memo, &self.tree)?;
+        let was = mem::replace(&mut self.memo, PageMemo::blank());
+        let mut heard_now = Outcomes::new(alloc);
+        let memo = renew(
+            alloc,
+            graph,
+            shelf,
+            &self.heard,
+            &mut heard_now,
+            &self.lines,
+            was,
+            true,
+            &self.links,
+            None,
+            notes,
+        )?;
+        heard_now.good();
+        let plan = compared(alloc, &self.lines, &memo, &numbers, &self.tree, self.next)?;
+        let Plan { ops, next } = plan;
+        apply_all(alloc, &mut self.tree, &ops)?;
+        self.heard = heard_now;
+        self.memo = memo;
+        self.next = next;
+        Ok(ops)
     }
 }

@@ -1,0 +1,167 @@
+-- What comes to marked nodes has the next numbers, in the order of the marks.
+use Rattle.std.proofs.Common.{◌≡◌, ℕ, suc, ◌+◌, ◌<◌, ◌≤◌, ◌==◌, ◌||◌, ltb, Bool, true, false, cond, Option, Some, None, List, [], ◌∷◌, ◌++◌, append_assoc, append-nil, length, length-append, refl, sym, ap, subst, ◌∙◌, arith, eqb-true, inl, inr}
+use Rattle.std.specs.List.{flat_map}
+use Rattle.std.proofs.lemmas.Bool.{cases_Bool, false≢true, ltb-false, ltb-true}
+use Rattle.page_model.specs.Edits.{siblings}
+use Rattle.page_model.specs.Forest.{Forest, none, node, after, keys, kids, label_in, numbered, on}
+use Rattle.page_model.specs.Labels.{Root, Kind, Look, Sound, seen, shown}
+use Rattle.page_model.specs.Pages.{IsPage, IsShape, NumberedPage, SameOrigin, carried, new_order, newcomers, number_of, page_shape, renumbered, tree_of, with_numbers}
+use Rattle.page_model.proofs.Shared.{page_after, shape_after}
+use Rattle.tpl_found.specs.Coming.{coming}
+use Rattle.tpl_found.proofs.Shared.{kids_num, serial_law}
+use Rattle.tpl_marks.specs.Marks.{children_in, next_of}
+use Rattle.tpl_model.specs.Sources.{in_order}
+use Rattle.tpl_moves.specs.Moves.{AllFit, AllSound, AreSound, Fits, arrivals, next_numbers, number_after, number_behind}
+use Rattle.tpl_shapes.specs.Shapes.{Marked, Next, comes, stays}
+use Rattle.tpl_live.proofs.Mounted.{numbers_shown}
+use Rattle.tpl_live.proofs.Stood.{AreAt, At}
+use Rattle.tpl_live.specs.Plans.{known_of}
+
+ltb_of : (m n : ℕ) → m < n → ltb m n ≡ true
+ltb_of m n h = elim (cases_Bool (ltb m n)) [ inl e ↦ e | inr e ↦ (let u = ltb-false m n e in absurd (omega (arith, h, u))) ]
+
+ltb_not : (m n : ℕ) → n ≤ m → ltb m n ≡ false
+ltb_not m n h = elim (cases_Bool (ltb m n)) [ inl e ↦ (let u = ltb-true m n e in absurd (omega (arith, h, u))) | inr e ↦ e ]
+
+-- ---- the children of one node
+
+abbrev first_key : {A : Type 0} → Forest A → ℕ
+first_key none = 0
+first_key (node m x k r) = m
+
+abbrev first_kids : {A : Type 0} → Forest A → Forest A
+first_kids none = none
+first_kids (node m x k r) = k
+
+abbrev first_rest : {A : Type 0} → Forest A → Forest A
+first_rest none = none
+first_rest (node m x k r) = r
+
+-- the next children are these: their numbers, and what comes among them
+abbrev Level : NumberedPage → Forest Look → Forest Look → List Next → ℕ → Type 0
+Level p shape t cs n =
+    (siblings (shown (numbered (carried p shape) t)) ≡ next_numbers n cs)
+    × (coming (λ m. ltb m p.next) (shown (numbered (carried p shape) t)) ≡ shown (in_order n (arrivals cs)))
+
+level_node : (p : NumberedPage) (shape : Forest Look) (a : ℕ) (x : Look) (k r : Forest Look) (cs : List Next) (n : ℕ) (b : Bool) → IsPage p → p.next ≤ n →
+    on a (page_shape p) ≡ b →
+    ((m : ℕ) → p.next ≤ m → numbered (carried p shape) (arrivals cs) ≡ in_order m (arrivals cs) → Level p shape r cs m) →
+    numbered (carried p shape) (arrivals (next_of (cond b (Some (number_of p a)) None) (node a x k none) ∷ cs))
+    ≡ in_order n (arrivals (next_of (cond b (Some (number_of p a)) None) (node a x k none) ∷ cs)) →
+    Level p shape (node a x k r) (next_of (cond b (Some (number_of p a)) None) (node a x k none) ∷ cs) n
+level_node p shape a x k r cs n true q le e later s =
+    let h = later n le s in
+    let old : carried p shape a ≡ number_of p a = rw e refl in
+    let g : ltb (carried p shape a) p.next ≡ true = ap (λ z. ltb z p.next) old ∙ ltb_of (number_of p a) p.next (q.below a e) in
+    ((λ i. old i ∷ h.0 i), rw g h.1)
+level_node p shape a x k r cs n false q le e later s =
+    let num = carried p shape in
+    let m = suc n + length (keys k) in
+    let h = later m (omega (arith, le)) (ap first_rest s) in
+    let key : num a ≡ n = ap first_key s in
+    let below : numbered num k ≡ in_order (suc n) k = ap first_kids s in
+    let l = length-append (keys k) [] in
+    let c : m ≡ n + length (keys (node a x k none)) = omega (arith, l) in
+    let g : ltb (num a) p.next ≡ false = ap (λ z. ltb z p.next) key ∙ ltb_not n p.next le in
+    ((λ i. key i ∷ (h.0 ∙ ap (λ z. next_numbers z cs) c) i), rw g (λ i. node (key i) (seen x) (shown (below i)) (h.1 i)))
+
+level : (p : NumberedPage) (shape t : Forest Look) (n : ℕ) → IsPage p → p.next ≤ n →
+    numbered (carried p shape) (arrivals (children_in (known_of p) t)) ≡ in_order n (arrivals (children_in (known_of p) t)) →
+    Level p shape t (children_in (known_of p) t) n
+level p shape none n q le s = (refl, refl)
+level p shape (node a x k r) n q le s =
+    level_node p shape a x k r (children_in (known_of p) r) n (on a (page_shape p)) q le refl (λ m l e. level p shape r m q l e) s
+
+-- what comes is new
+one_arrives : (p : NumberedPage) (a : ℕ) (x : Look) (k : Forest Look) (cs : List Next) (ns : List ℕ) (b : Bool) → keys (arrivals cs) ≡ ns →
+    keys (arrivals (next_of (cond b (Some (number_of p a)) None) (node a x k none) ∷ cs)) ≡ cond b [] (a ∷ keys k) ++ ns
+one_arrives p a x k cs ns true e = e
+one_arrives p a x k cs ns false e = ap (λ z. a ∷ (keys k ++ z)) e
+
+arrive_keys : (p : NumberedPage) (t : Forest Look) → keys (arrivals (children_in (known_of p) t)) ≡ newcomers (λ c. on c (page_shape p)) t
+arrive_keys p none = refl
+arrive_keys p (node a x k r) =
+    one_arrives p a x k (children_in (known_of p) r) (newcomers (λ c. on c (page_shape p)) r) (on a (page_shape p)) (arrive_keys p r)
+
+-- ---- sound children
+
+sound_kids : (a : ℕ) (t : Forest Look) → Sound t → Sound (kids a t)
+sound_kids a none s = tt
+sound_kids a (node m x k r) s = elim (cases_Bool (m == a)) [
+  | inl e ↦ rw e s.2
+  | inr e ↦ elim (cases_Bool (on a k)) [ inl f ↦ rw (e, f) (sound_kids a k s.2) | inr f ↦ rw (e, f) (sound_kids a r s.3) ]
+]
+
+one_sound : (o : Option ℕ) (t : Forest Look) (cs : List Next) → Sound t → AreSound cs → AreSound (next_of o t ∷ cs)
+one_sound None t cs s h = (s, h)
+one_sound (Some n) t cs s h = h
+
+sound_in : (known : ℕ → Option ℕ) (t : Forest Look) → Sound t → AreSound (children_in known t)
+sound_in known none s = tt
+sound_in known (node a x k r) s = one_sound (known a) (node a x k none) (children_in known r) (s.0, s.1, s.2, tt) (sound_in known r s.3)
+
+pub all_sound : (p : NumberedPage) (shape : Forest Look) (ws : List ℕ) (ms : List Marked) → Sound shape → AreAt p shape ws ms → AllSound ms
+all_sound p shape [] [] s h = tt
+all_sound p shape (a ∷ ws) (m ∷ ms) s h =
+    (subst AreSound (sym h.0.children) (sound_in (known_of p) (kids a shape) (sound_kids a shape s)), all_sound p shape ws ms s h.1)
+all_sound p shape [] (m ∷ ms) s h = absurd h
+all_sound p shape (a ∷ ws) [] s h = absurd h
+
+-- ---- in the next tree
+
+on_with : (num : ℕ → ℕ) (j : ℕ) (t : Forest Look) → on j (with_numbers num t) ≡ on j t
+on_with num j none = refl
+on_with num j (node m x k r) = (λ i. (m == j) || (on_with num j k i || on_with num j r i))
+
+number_with : (num : ℕ → ℕ) (a : ℕ) (t : Forest Look) → on a t ≡ true → (label_in (0, Root) a (with_numbers num t)).0 ≡ num a
+number_with num a none h = absurd (false≢true h)
+number_with num a (node m x k r) h = elim (cases_Bool (m == a)) [
+  | inl e ↦ rw e (ap num (eqb-true m a e))
+  | inr e ↦ elim (cases_Bool (on a k)) [
+    | inl f ↦ (let g : on a (with_numbers num k) ≡ true = on_with num a k ∙ f in rw (e, g) (number_with num a k f))
+    | inr f ↦ (
+        let g : on a (with_numbers num k) ≡ false = on_with num a k ∙ f in
+        let o : on a r ≡ true = rw (e, f) at h in
+        rw (e, g) (number_with num a r o))
+  ]
+]
+
+-- the children of a node that stays, by its number
+pub kids_next : (p : NumberedPage) (shape : Forest Look) (a : ℕ) → IsPage p → IsShape shape → on a (page_shape p) ≡ true → on a shape ≡ true →
+    kids (number_of p a) (tree_of (renumbered p shape)) ≡ shown (numbered (carried p shape) (kids a shape))
+kids_next p shape a q s here there =
+    let num = carried p shape in
+    let next = page_after p shape q s in
+    let old : num a ≡ number_of p a = rw here refl in
+    let same : page_shape (renumbered p shape) ≡ shape = shape_after p shape in
+    ap (λ z. kids z (tree_of (renumbered p shape))) (sym old)
+    ∙ (ap (λ t. kids (num a) (shown t)) (numbers_shown num shape)
+    ∙ kids_num num a shape
+    (λ b o e. next.distinct a b (ap (on a) same ∙ there) (ap (on b) same ∙ o) (number_with num a shape there ∙ (e ∙ sym (number_with num b shape o)))))
+
+pub all_fit : (p : NumberedPage) (shape : Forest Look) (pre ws : List ℕ) (ms : List Marked) (n : ℕ) → IsPage p → IsShape shape → SameOrigin (page_shape p) shape →
+    AreAt p shape ws ms → new_order p shape ≡ pre ++ flat_map (λ a. newcomers (λ c. on c (page_shape p)) (kids a shape)) ws → n ≡ p.next + length pre →
+    AllFit (λ m. ltb m p.next) n ms (tree_of (renumbered p shape)) × (number_behind n ms ≡ p.next + length (new_order p shape))
+all_fit p shape pre [] [] n q s so h o e =
+    (tt, (let l = ap length o ∙ ap length (append-nil pre) in omega (arith, e, l)))
+all_fit p shape pre (a ∷ ws) (m ∷ ms) n q s so h o e =
+    let at = h.0 in
+    let xs = newcomers (λ c. on c (page_shape p)) (kids a shape) in
+    let rest = flat_map (λ c. newcomers (λ d. on d (page_shape p)) (kids c shape)) ws in
+    let part = arrivals (children_in (known_of p) (kids a shape)) in
+    let keys_are : keys part ≡ xs = arrive_keys p (kids a shape) in
+    let serial : numbered (carried p shape) part ≡ in_order (p.next + length pre) part =
+    serial_law p shape part pre rest q s so (o ∙ ap (λ z. pre ++ (z ++ rest)) (sym keys_are)) in
+    let lv = level p shape (kids a shape) n q (omega (arith, e)) (serial ∙ ap (λ z. in_order z part) (sym e)) in
+    let kn : kids m.number (tree_of (renumbered p shape)) ≡ shown (numbered (carried p shape) (kids a shape)) =
+    ap (λ z. kids z (tree_of (renumbered p shape))) at.number ∙ kids_next p shape a q s at.here at.there in
+    let fits : Fits (λ c. ltb c p.next) n m.children (kids m.number (tree_of (renumbered p shape))) = record {
+      numbers = ap siblings kn ∙ (lv.0 ∙ ap (next_numbers n) (sym at.children));
+      arrive = ap (coming (λ c. ltb c p.next)) kn ∙ (lv.1 ∙ ap (λ z. shown (in_order n (arrivals z))) (sym at.children));
+    } in
+    let many : length (keys (arrivals m.children)) ≡ length xs = ap (λ z. length (keys (arrivals z))) at.children ∙ ap length keys_are in
+    let l = length-append pre xs in
+    let more = all_fit p shape (pre ++ xs) ws ms (number_after n m.children) q s so h.1 (o ∙ sym (append_assoc pre xs rest)) (omega (arith, e, many, l)) in
+    ((fits, more.0), more.1)
+all_fit p shape pre [] (m ∷ ms) n q s so h o e = absurd h
+all_fit p shape pre (a ∷ ws) [] n q s so h o e = absurd h
