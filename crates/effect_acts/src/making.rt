@@ -41,7 +41,7 @@ pub fn make_child(
     ensures fault { IfErr result (λ e. (e ≡ fault.Gone) ⊎ (e ≡ fault.NoMemory)) }
     ensures err { IsErrOf result fault.Gone → world.new ≡ world.old }
 {
-    let Some(row) = effect_row(&world.tables.effects, id) else {
+    let Some(row) = effect_row(&world.tables, id) else {
         return Err(EffectFault::Gone);
     };
     let alloc = *events.allocator();

@@ -51,7 +51,7 @@ pub fn note(
     ensures fault { IfErr result (λ e. (e ≡ fault.Gone) ⊎ (e ≡ fault.NoMemory)) }
     ensures err { IsErrOf result fault.Gone → world.new ≡ world.old }
 {
-    let Some(row) = effect_row(&world.tables.effects, id) else {
+    let Some(row) = effect_row(&world.tables, id) else {
         return Err(EffectFault::Gone);
     };
     note_in(&mut world.tables.store, row, cleanup)?;

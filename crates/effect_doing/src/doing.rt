@@ -60,7 +60,7 @@ fn act_there(
         (λ env. do_acts env id label (act_of (parts_of site.now.origin (rc_value site.now.script) site.now.path.items) act.now ∷ []))) }
     ensures counted { OnOk result (⟦<Shelf as Lent>⟧.counted shelf.new) }
 {
-    let Some(_row) = effect_row(&world.tables.effects, id) else {
+    let Some(_row) = effect_row(&world.tables, id) else {
         return Ok(());
     };
     do_act(

@@ -1,7 +1,8 @@
 -- What effects keep of their runs.
-use Rattle.std.proofs.Common.{◌≡◌, ℕ, zero, suc, ◌+◌, ◌<◌, ◌≤◌, cond, List, [], ◌∷◌, map, length, get_or, refl, sym, ap, subst, ◌∙◌, arith}
+use Rattle.std.proofs.Common.{◌≡◌, ℕ, zero, suc, ◌==◌, ◌<◌, ◌≤◌, true, false, if◌then◌else◌, List, [], ◌∷◌, map, get_or, refl, sym, ap, subst, ◌∙◌, arith}
 use Rattle.std.specs.Prelude.{slice_set}
 use Rattle.std.specs.List.{AllByRecursion}
+use Rattle.std.proofs.lemmas.Bool.Decides.{nat_tests}
 use Rattle.std.specs.Rc.{rc_value}
 use Rattle.signal_model.specs.Standing.{changed}
 use Rattle.signal_model.specs.Values.{Seen}
@@ -13,38 +14,45 @@ use Rattle.effect_tables.specs.declared.effect.Effect.{Effect}
 use Rattle.effect_tables.specs.declared.tables.Tables.{Tables}
 use Rattle.effect_tables.specs.Fitting.{IsFitted, IsFitting}
 use Rattle.effect_tables.specs.Holding.{AreRising, Holds, IsEffect}
-use Rattle.effect_tables.specs.Keeping.{AreKept, IsKept, with_kept, with_reads}
+use Rattle.effect_tables.specs.Keeping.{IsKept, with_kept, with_reads}
 use Rattle.effect_tables.specs.Placed.{effect_of, placed}
+use Rattle.effect_tables.proofs.Found.{IsNowhere, IsPlace}
 
--- ---- one after the other
+-- ---- one among the others
 
--- so many of them have kept these reads, and the others are as before
-abbrev pub AreKeptTo : ℕ → List Seen → List Effect → List Effect → ℕ → Type 0
-AreKeptTo e ss [] [] n = Unit {0}
-AreKeptTo e ss (x ∷ xs) (y ∷ ys) zero = (y ≡ x) × AreKeptTo e ss xs ys zero
-AreKeptTo e ss (x ∷ xs) (y ∷ ys) (suc n) = IsKept e ss x y × AreKeptTo e ss xs ys n
-AreKeptTo _ _ _ _ _ = ⊥
+-- where an effect has this number it has kept these reads, and all else of it is as before
+pub record IsKeptAt (e : ℕ) (ss : List Seen) (x y : Effect) : Type 0 where
+  pub seen : effect_of y ≡ (if e == x.id then with_reads ss (effect_of x) else effect_of x)
+  pub id : y.id ≡ x.id
+  pub row : y.row ≡ x.row
+  pub script : y.script ≡ x.script
 
-pub kept_none : (e : ℕ) (ss : List Seen) (xs : List Effect) → AreKeptTo e ss xs xs zero
-kept_none e ss [] = tt
-kept_none e ss (x ∷ xs) = (refl, kept_none e ss xs)
+-- so it is with all of them
+abbrev pub AreKept : ℕ → List Seen → List Effect → List Effect → Type 0
+AreKept e ss [] [] = Unit {0}
+AreKept e ss (x ∷ xs) (y ∷ ys) = IsKeptAt e ss x y × AreKept e ss xs ys
+AreKept _ _ _ _ = ⊥
 
-kept_suc : (e : ℕ) (ss : List Seen) (xs ys : List Effect) (n : ℕ) (y d : Effect) → n < length xs → AreKeptTo e ss xs ys n → IsKept e ss (get_or ys n d) y → AreKeptTo e ss xs (slice_set ys n y) (suc n)
-kept_suc e ss [] [] n y d l h k = absurd (omega (arith, l))
-kept_suc e ss [] (z ∷ zs) n y d l h k = absurd h
-kept_suc e ss (x ∷ xs) [] n y d l h k = absurd h
-kept_suc e ss (x ∷ xs) (z ∷ zs) zero y d l h k = (subst (λ v. IsKept e ss v y) h.0 k, h.1)
-kept_suc e ss (x ∷ xs) (z ∷ zs) (suc n) y d l h k = (h.0, kept_suc e ss xs zs n y d (omega (arith, l)) h.1 k)
+-- another one stays
+stays : (e : ℕ) (ss : List Seen) (x : Effect) → (e == x.id) ≡ false → IsKeptAt e ss x x
+stays e ss x off = record { seen = ap (λ b. if b then with_reads ss (effect_of x) else effect_of x) (sym off); id = refl; row = refl; script = refl }
 
-pub kept_next : (e : ℕ) (ss : List Seen) (xs ys : List Effect) (n : ℕ) (y d : Effect) → n < length xs → AreKeptTo e ss xs ys n → IsKept e ss (get_or ys n d) y → AreKeptTo e ss xs (slice_set ys n y) (n + 1)
-kept_next e ss xs ys n y d l h k = let q : suc n ≡ n + 1 = omega arith in subst (AreKeptTo e ss xs (slice_set ys n y)) q (kept_suc e ss xs ys n y d l h k)
+pub kept_nowhere : (e : ℕ) (ss : List Seen) (xs : List Effect) → IsNowhere e xs → AreKept e ss xs xs
+kept_nowhere e ss [] n = tt
+kept_nowhere e ss (x ∷ xs) n = (stays e ss x n.0, kept_nowhere e ss xs n.1)
 
-pub kept_end : (e : ℕ) (ss : List Seen) (xs ys : List Effect) (n : ℕ) → length xs ≤ n → AreKeptTo e ss xs ys n → AreKept e ss xs ys
-kept_end e ss [] [] n l h = tt
-kept_end e ss [] (y ∷ ys) n l h = absurd h
-kept_end e ss (x ∷ xs) [] n l h = absurd h
-kept_end e ss (x ∷ xs) (y ∷ ys) zero l h = absurd (omega (arith, l))
-kept_end e ss (x ∷ xs) (y ∷ ys) (suc n) l h = (h.0, kept_end e ss xs ys n (omega (arith, l)) h.1)
+-- those behind the one that has the number have others
+pub none_behind : (e low : ℕ) (xs : List Effect) → e < low → AreRising low xs → IsNowhere e xs
+none_behind e low [] l o = tt
+none_behind e low (x ∷ xs) l o = let up = o.0 in (grind (arith, nat_tests, l, up), none_behind e (suc x.id) xs (omega (arith, l, up)) o.1)
+
+pub kept_there : (e : ℕ) (ss : List Seen) (low : ℕ) (xs : List Effect) (i : ℕ) (y d : Effect) → AreRising low xs → IsPlace e xs i → IsKept ss (get_or xs i d) y → AreKept e ss xs (slice_set xs i y)
+kept_there e ss low [] i y d o p k = absurd p
+kept_there e ss low (x ∷ xs) zero y d o p k = (first, kept_nowhere e ss xs (none_behind e (suc x.id) xs (grind (arith, nat_tests, p)) o.1))
+  where
+    first : IsKeptAt e ss x y
+    first = record { seen = k.seen ∙ ap (λ b. if b then with_reads ss (effect_of x) else effect_of x) (sym p); id = k.id; row = k.row; script = k.script }
+kept_there e ss low (x ∷ xs) (suc i) y d o p k = (stays e ss x p.0, kept_there e ss (suc x.id) xs i y d o.1 p.1 k)
 
 -- ---- in the tables
 

@@ -6,6 +6,8 @@ mod Tabled
 mod Starting
 mod Counting
 mod Ordered
+mod Found
+mod Halves
 mod Kept
 mod Resting
 pub mod Shared

@@ -8,3 +8,6 @@ pub use Rattle.effect_tables.proofs.Numbers.{in_below, left_off, lives_at, livin
 pub use Rattle.effect_tables.proofs.Rows.{all_weaker, length_names}
 -- owners that live
 pub use Rattle.effect_tables.proofs.Counting.{listed_row}
+-- effects by their numbers
+pub use Rattle.effect_tables.proofs.Found.{IsNowhere, IsPlace, found_in, none_in, place_within}
+pub use Rattle.effect_tables.proofs.Kept.{none_behind}

@@ -1,5 +1,6 @@
--- Where things stand in the store.
-use Rattle.std.specs.Prelude.{◌≡◌, ℕ, true, List, slice_get, Option, Some, None}
+-- Where things stand in the store, and effects among those that live.
+use Rattle.std.specs.Prelude.{◌≡◌, ℕ, suc, ◌==◌, true, List, [], ◌∷◌, slice_get, Option, Some, None, option_map, if◌then◌else◌}
+use Rattle.effect_tables.specs.declared.effect.Effect.{Effect}
 use Rattle.effect_tables.specs.declared.tables.OwnerEntry.{OwnerEntry}
 
 -- what is made inside an owner is to stand in the row that the owner has
@@ -7,3 +8,8 @@ abbrev pub IsInside : List OwnerEntry → Option ℕ → Option ℕ → Type 0
 IsInside owners None None = Unit {0}
 IsInside owners (Some o) (Some row) = slice_get owners o ≡ Some (record { row = row; live = true })
 IsInside owners _ _ = ⊥
+
+-- the place of the effect of a number
+abbrev pub effect_place : ℕ → List Effect → Option ℕ
+effect_place n [] = None
+effect_place n (x ∷ xs) = if n == x.id then Some 0 else option_map suc (effect_place n xs)

@@ -2,10 +2,11 @@
 ghost use Rattle.std.specs.Prelude.{◌≡◌, Some, IfOk, OnOk};
 ghost use Rattle.effect_model.specs.Worlds.{World};
 ghost use Rattle.effect_tables.specs.Holding.{Holds};
-ghost use Rattle.effect_tables.specs.Keeping.{with_kept, AreKept, IsKept};
+ghost use Rattle.effect_tables.specs.Keeping.{with_kept, IsKept};
 ghost use Rattle.effect_tables.specs.Placed.{placed};
 
 use crate::effect::Effect;
+use crate::finding::effect_place;
 use crate::tables::Tables;
 use effect_reads::Read;
 use sig_base::{EffectId, NoMemory};
@@ -32,53 +33,17 @@ fn set_kept(effect: &mut Effect, reads: Vec<Read>)
     effect.kept = Some(reads);
 }
 
-// An effect of this number keeps the reads.
-fn keep_one(
-    alloc: Global,
-    effect: &mut Effect,
-    id: EffectId,
-    reads: &[Read],
-) -> Result<(), NoMemory>
-    ensures { OnOk result (IsKept id reads.now effect.old effect.new) }
+// An effect keeps the reads.
+fn keep_in(alloc: Global, effect: &mut Effect, reads: &[Read]) -> Result<(), NoMemory>
+    ensures { OnOk result (IsKept reads.now effect.old effect.new) }
 {
-    if id != effect.id {
-        return Ok(());
-    }
     let same = same_reads(alloc, reads)?;
     set_kept(effect, same);
     Ok(())
 }
 
-// So it is with all of them.
-fn keep_all(
-    alloc: Global,
-    effects: &mut [Effect],
-    id: EffectId,
-    reads: &[Read],
-) -> Result<(), NoMemory>
-    ensures { OnOk result (AreKept id reads.now effects.old effects.new) }
-{
-    for effect in effects.iter_mut() {
-        keep_one(alloc, effect, id, reads)?;
-    }
-    Ok(())
-}
-
-// Effects in a list of their own.
-fn keep_in(
-    alloc: Global,
-    effects: &mut Vec<Effect>,
-    id: EffectId,
-    reads: &[Read],
-) -> Result<(), NoMemory>
-    ensures { OnOk result (AreKept id reads.now effects.old.items effects.new.items) }
-{
-    keep_all(alloc, effects, id, reads)?;
-    Ok(())
-}
-
 impl Tables {
-    /// The effect of a number keeps what it has read, where it lives. All effects that live are looked through.
+    /// The effect of a number keeps what it has read, where it lives. It is found by halves among all that live.
     ///
     /// # Errors
     ///
@@ -91,7 +56,10 @@ impl Tables {
         ensures owners { self.new.owners ≡ self.old.owners }
         ensures made { self.new.effects_made ≡ self.old.effects_made }
     {
-        keep_in(alloc, &mut self.effects, id, reads)?;
+        let Some(place) = effect_place(&self.effects, id) else {
+            return Ok(());
+        };
+        keep_in(alloc, &mut self.effects[place], reads)?;
         Ok(())
     }
 }

@@ -3,6 +3,7 @@
 #![tactic(auto)]
 
 mod effect;
+mod finding;
 mod keeping;
 mod links;
 mod looks;
@@ -11,6 +12,7 @@ mod tables;
 mod thing;
 
 pub use effect::{Effect, MOST_STATEMENTS, Script, Site};
+pub use finding::{effect_at, effect_place};
 pub use links::{Links, Slots, Target};
 pub use looks::live_row;
 pub use tables::{MOST_EFFECTS, OwnerEntry, Tables};

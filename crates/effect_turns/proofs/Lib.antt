@@ -3,7 +3,6 @@ mod Carried
 mod Counted
 mod Ending
 mod Glanced
-mod Halves
 mod Joined
 mod Loops
 pub mod Shared

@@ -1,11 +1,8 @@
 // An effect is looked at.
-ghost use Rattle.std.specs.Prelude.{◌≡◌, [], ℕ, List, None, Some, IfNone, IfOk, IfSome, OnOk, map};
+ghost use Rattle.std.specs.Prelude.{◌≡◌, [], ℕ, List, IfOk, OnOk};
 ghost use Rattle.signal_model.specs.Recipes.{Hosts};
 ghost use Rattle.signal_model.specs.Values.{value_of};
 ghost use Rattle.effect_model.specs.Running.{is_effect_due, looked_names};
-ghost use Rattle.effect_model.specs.Worlds.{effect_at};
-ghost use Rattle.effect_tables.specs.Fitting.{IsFitted};
-ghost use Rattle.effect_tables.specs.Holding.{Holds};
 ghost use Rattle.effect_tables.specs.Placed.{effect_of};
 ghost use Rattle.sig_effect.specs.Agreeing as below;
 ghost use Rattle.sig_effect.specs.Agreeing.{environment};
@@ -17,27 +14,11 @@ ghost use Rattle.effect_world.specs.Wholes.{whole_of};
 ghost use Rattle.effect_turns.specs.Running.{CanRun, Runs, Spends};
 ghost use Rattle.effect_visits.specs.Visiting.{glance, is_due};
 
-use effect_tables::{Effect, Tables};
+use effect_tables::{Effect, effect_at};
 use effect_world::{Event, World, tell_signals};
 use sig_base::{EffectId, NoMemory};
 use sig_effect::{Event as SignalEvent, World as Signals};
 use sig_host::{Lent, Shelf};
-
-/// The effect of a number, where it lives. It is found by halves among all that live.
-pub(crate) fn effect_at(tables: &Tables, id: EffectId) -> Option<&Effect>
-    requires { Holds tables.now }
-    ensures some { IfSome result (λ x. effect_at id (map effect_of tables.now.effects.items) ≡ Some (effect_of x.now)) }
-    ensures none { IfNone result (effect_at id (map effect_of tables.now.effects.items) ≡ None) }
-    ensures fitted { IfSome result (λ x. IsFitted x.now) }
-{
-    match tables
-        .effects
-        .binary_search_by_key(&id.number(), |effect| effect.id.number())
-    {
-        Ok(place) => Some(&tables.effects[place]),
-        Err(_) => None,
-    }
-}
 
 // Settles what an effect keeps of its last run, up to the first that differs now: whether it is due.
 fn look_at(

@@ -24,12 +24,11 @@ ghost use Rattle.effect_world.specs.Weighing.{weight};
 ghost use Rattle.effect_turns.specs.Running.{CanRun, Runs, Spends};
 ghost use Rattle.effect_visits.specs.Visiting.{rerun};
 
-use crate::glancing::effect_at;
 use effect_acts::{fail, keep_reads};
 use effect_doing::do_acts;
 use effect_runs::{BodyEnd, BodyRun, evaluate_body};
 use effect_sites::{body_at, links_at};
-use effect_tables::{Links, Site};
+use effect_tables::{Links, Site, effect_at};
 use effect_world::{Event, World, tell_signals};
 use sig_base::{EffectId, NoMemory};
 use sig_host::{EqualsRule, Lent, Shelf};

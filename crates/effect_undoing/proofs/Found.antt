@@ -1,5 +1,5 @@
 -- What lives by the tables lives in the store.
-use Rattle.std.proofs.Common.{◌≡◌, ℕ, zero, suc, ◌==◌, ◌||◌, Bool, true, false, cond, List, [], ◌∷◌, map, Some, None, refl, sym, ap, subst, ◌∙◌}
+use Rattle.std.proofs.Common.{◌≡◌, ℕ, zero, suc, ◌==◌, ◌||◌, Bool, true, false, cond, List, [], ◌∷◌, map, get_or, Some, None, refl, sym, ap, subst, ◌∙◌}
 use Rattle.std.specs.Prelude.{slice_get}
 use Rattle.std.specs.List.{AllByRecursion}
 use Rattle.std.proofs.lemmas.Bool.{eqb-true}
@@ -13,7 +13,7 @@ use Rattle.effect_tables.specs.declared.tables.Tables.{Tables}
 use Rattle.effect_tables.specs.Holding.{Holds, IsEffect, IsOwner}
 use Rattle.effect_tables.specs.Numbering.{is_live, living, rows_in}
 use Rattle.effect_tables.specs.Placed.{numbering}
-use Rattle.effect_tables.proofs.Shared.{lives_at, number_at}
+use Rattle.effect_tables.proofs.Shared.{IsNowhere, IsPlace, lives_at, number_at}
 use Rattle.effect_undoing.specs.Finding.{effect_row}
 
 -- a thing lives in this row
@@ -55,6 +55,16 @@ all_at : {A : Type 0} (P : A → Type 0) (xs : List A) (k : ℕ) (x : A) → sli
 all_at P [] k x h all = cc
 all_at P (y ∷ ys) zero x h all = subst P (let e : y ≡ x = cc in e) all.0
 all_at P (y ∷ ys) (suc k) x h all = all_at P ys k x h all.1
+
+-- the row of the effect at the place of its number
+pub placed_row : (n : ℕ) (xs : List Effect) (i : ℕ) (d : Effect) → IsPlace n xs i → effect_row n xs ≡ Some (get_or xs i d).row
+placed_row n [] i d p = absurd p
+placed_row n (x ∷ xs) zero d p = ap (λ b. cond b (Some x.row) (effect_row n xs)) p
+placed_row n (x ∷ xs) (suc i) d p = ap (λ b. cond b (Some x.row) (effect_row n xs)) p.0 ∙ placed_row n xs i d p.1
+
+pub unplaced_row : (n : ℕ) (xs : List Effect) → IsNowhere n xs → effect_row n xs ≡ None
+unplaced_row n [] h = refl
+unplaced_row n (x ∷ xs) h = ap (λ b. cond b (Some x.row) (effect_row n xs)) h.0 ∙ unplaced_row n xs h.1
 
 -- the row of an owner that lives
 pub record IsOwnerFound (t : Tables) (n r : ℕ) : Type 0 where

@@ -1,8 +1,9 @@
 -- What is left in the tables after steps of taking back.
 use Rattle.std.proofs.Common.{◌≡◌, ℕ, zero, suc, ◌+◌, ◌<◌, ◌≤◌, ◌==◌, ◌||◌, not, Bool, true, false, cond, List, [], ◌∷◌, map, length, Some, refl, sym, ap, ◌∙◌, arith}
 use Rattle.std.specs.Prelude.{slice_get, slice_index_or, slice_set}
-use Rattle.std.specs.List.{AllByRecursion, filter}
+use Rattle.std.specs.List.{AllByRecursion, filter, remove}
 use Rattle.std.proofs.lemmas.Bool.{eq-eqb, ne_eqb}
+use Rattle.std.proofs.lemmas.Bool.Decides.{nat_tests}
 use Rattle.signal_model.specs.Standing.{is_in, without}
 use Rattle.effect_model.specs.Owning.{the_signal, the_owner, the_effect, the_page, the_watcher, Undoing, cleans, ends}
 use Rattle.effect_model.specs.Worlds as plain
@@ -14,7 +15,7 @@ use Rattle.effect_tables.specs.declared.tables.OwnerEntry.{OwnerEntry}
 use Rattle.effect_tables.specs.Holding.{AreOrdered, AreRising}
 use Rattle.effect_tables.specs.Numbering.{living, rows_in}
 use Rattle.effect_tables.specs.Placed.{effect_of}
-use Rattle.effect_tables.proofs.Shared.{left_off, living_below, right_off, swapped}
+use Rattle.effect_tables.proofs.Shared.{IsNowhere, IsPlace, left_off, living_below, none_behind, right_off, swapped}
 use Rattle.effect_undoing.specs.Ending.{closed_at, effects_after, effects_without, owners_after, owners_without, pages_after, pages_without}
 
 -- ---- the program's list of owners
@@ -31,6 +32,22 @@ pub closed_past : (es : List OwnerEntry) (n : ℕ) → length es ≤ n → close
 closed_past [] n l = refl
 closed_past (e ∷ es) zero l = absurd (omega arith)
 closed_past (e ∷ es) (suc n) l = ap (λ (xs : List OwnerEntry). e ∷ xs) (closed_past es n (omega arith))
+
+-- ---- the list of effects without one
+
+-- all stay where none has the number
+pub none_left_out : (n : ℕ) (xs : List Effect) → IsNowhere n xs → filter (λ x. not (n == x.id)) xs ≡ xs
+none_left_out n [] h = refl
+none_left_out n (x ∷ xs) h = ap (λ b. cond (not b) (x ∷ filter (λ y. not (n == y.id)) xs) (filter (λ y. not (n == y.id)) xs)) h.0 ∙ ap (λ (ys : List Effect). x ∷ ys) (none_left_out n xs h.1)
+
+-- else the one at its place goes
+pub left_out : (n low : ℕ) (xs : List Effect) (i : ℕ) → AreRising low xs → IsPlace n xs i → filter (λ x. not (n == x.id)) xs ≡ remove xs i
+left_out n low [] i o p = absurd p
+left_out n low (x ∷ xs) zero o p =
+    ap (λ b. cond (not b) (x ∷ filter (λ y. not (n == y.id)) xs) (filter (λ y. not (n == y.id)) xs)) p
+    ∙ none_left_out n xs (none_behind n (suc x.id) xs (grind (arith, nat_tests, p)) o.1)
+left_out n low (x ∷ xs) (suc i) o p =
+    ap (λ b. cond (not b) (x ∷ filter (λ y. not (n == y.id)) xs) (filter (λ y. not (n == y.id)) xs)) p.0 ∙ ap (λ (ys : List Effect). x ∷ ys) (left_out n (suc x.id) xs i o.1 p.1)
 
 -- ---- owners keep their rows
 
@@ -275,7 +292,7 @@ rising_filter f n (x ∷ xs) r = go (f x) (rising_filter f (suc x.id) xs r.1)
     go true more = (r.0, more)
     go false more = rising_from n (suc x.id) (filter f xs) (let l : n ≤ x.id = r.0 in omega (arith, l)) more
 
-rising_without : (u : Undoing) (xs : List Effect) → AreRising 0 xs → AreRising 0 (effects_without u xs)
+pub rising_without : (u : Undoing) (xs : List Effect) → AreRising 0 xs → AreRising 0 (effects_without u xs)
 rising_without (ends (the_effect n)) xs r = rising_filter (λ x. not (n == x.id)) 0 xs r
 rising_without (ends (the_signal n)) xs r = r
 rising_without (ends (the_owner n)) xs r = r

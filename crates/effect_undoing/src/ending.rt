@@ -1,10 +1,11 @@
-// What ends goes out of the tables. Each thing that ends is looked for among those of its kind.
+// What ends goes out of the tables.
 ghost use Rattle.std.specs.Prelude.{◌≡◌, ◌==◌, not, false};
 ghost use Rattle.std.specs.List.{filter};
+ghost use Rattle.effect_tables.specs.Holding.{AreRising};
 ghost use Rattle.effect_tables.specs.Linking.{undoing_of, undoings_of};
 ghost use Rattle.effect_undoing.specs.Ending.{closed_at, effects_after, effects_without, owners_after, owners_without, pages_after, pages_without};
 
-use effect_tables::{Effect, OwnerEntry, Thing, Undoing};
+use effect_tables::{Effect, OwnerEntry, Thing, Undoing, effect_place};
 use sig_base::{EffectId, OwnerId, PageId};
 
 fn close(entry: &mut OwnerEntry)
@@ -22,10 +23,15 @@ fn close_at(owners: &mut Vec<OwnerEntry>, id: OwnerId)
     }
 }
 
+// An effect goes out; its place is found by halves.
 fn drop_effect(effects: &mut Vec<Effect>, id: EffectId)
+    requires { AreRising 0 effects.old.items }
     ensures { effects.new.items ≡ filter (λ x. not (id == x.id)) effects.old.items }
 {
-    effects.retain(|effect| id != effect.id);
+    let Some(place) = effect_place(effects, id) else {
+        return;
+    };
+    effects.remove(place);
 }
 
 fn drop_page(pages: &mut Vec<PageId>, id: PageId)
@@ -41,6 +47,7 @@ fn end_one(
     pages: &mut Vec<PageId>,
     undoing: &Undoing,
 )
+    requires { AreRising 0 effects.old.items }
     ensures owners { owners.new.items ≡ owners_without (undoing_of undoing.now) owners.old.items }
     ensures effects { effects.new.items ≡ effects_without (undoing_of undoing.now) effects.old.items }
     ensures pages { pages.new.items ≡ pages_without (undoing_of undoing.now) pages.old.items }
@@ -60,6 +67,7 @@ pub(crate) fn end_all(
     pages: &mut Vec<PageId>,
     undoings: &[Undoing],
 )
+    requires { AreRising 0 effects.old.items }
     ensures owners { owners.new.items ≡ owners_after (undoings_of undoings.now) owners.old.items }
     ensures effects { effects.new.items ≡ effects_after (undoings_of undoings.now) effects.old.items }
     ensures pages { pages.new.items ≡ pages_after (undoings_of undoings.now) pages.old.items }

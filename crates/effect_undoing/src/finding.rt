@@ -1,21 +1,19 @@
 // What lives by the tables.
 ghost use Rattle.std.specs.Prelude.{◌≡◌};
 ghost use Rattle.signal_model.specs.Standing.{is_in};
+ghost use Rattle.effect_tables.specs.Holding.{Holds};
 ghost use Rattle.effect_undoing.specs.Finding.{effect_row};
 
-use effect_tables::Effect;
+use effect_tables::{Tables, effect_place};
 use sig_base::{EffectId, OwnerId, PageId};
 
-/// The row of an effect that lives. All effects that live are looked through.
-pub fn effect_row(effects: &[Effect], id: EffectId) -> Option<OwnerId>
-    ensures { result ≡ effect_row id effects.now }
+/// The row of an effect that lives. It is found by halves among all that live.
+pub fn effect_row(tables: &Tables, id: EffectId) -> Option<OwnerId>
+    requires { Holds tables.now }
+    ensures { result ≡ effect_row id tables.now.effects.items }
 {
-    for effect in effects {
-        if id == effect.id {
-            return Some(effect.row);
-        }
-    }
-    None
+    let place = effect_place(&tables.effects, id)?;
+    Some(tables.effects[place].row)
 }
 
 /// Whether a page is among these.

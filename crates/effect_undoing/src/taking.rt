@@ -3,7 +3,7 @@ ghost use Rattle.std.specs.Prelude.{◌≡◌, ◌⊎◌, ◌∷◌, [], true, f
 ghost use Rattle.effect_model.specs.Owning.{the_effect, the_owner, the_page, the_signal};
 ghost use Rattle.sig_owner.specs.declared.errors.OwnFault.TheVariants as fault;
 ghost use Rattle.effect_tables.specs.declared.thing.Undoing.TheVariants as undoing;
-ghost use Rattle.effect_tables.specs.Holding.{Holds};
+ghost use Rattle.effect_tables.specs.Holding.{AreRising, Holds};
 ghost use Rattle.effect_tables.specs.Linking.{thing_of, undoings_of};
 ghost use Rattle.effect_tables.specs.Placed.{tree_of};
 ghost use Rattle.effect_undoing.specs.Finding.{is_tabled};
@@ -21,6 +21,7 @@ use sig_owner::{OwnFault, Thing as Stored, Undoing as Step};
 
 // What ends in these steps of the store goes out of the tables; the steps are given by things.
 fn finish(tables: &mut Tables, steps: Vec<Step>) -> Result<Vec<Undoing>, NoMemory>
+    requires { AreRising 0 tables.old.effects.items }
     ensures told { IfOk result (λ us. undoings_of us.items ≡ map (retold (map thing_of tables.old.things.items)) steps.items) }
     ensures done { IfOk result (λ us. Ends tables.old tables.new (undoings_of us.items)) }
 {
@@ -48,7 +49,7 @@ pub fn take_back(tables: &mut Tables, id: EffectId) -> Result<Vec<Undoing>, OwnF
     ensures gone { IsErrOf result fault.Gone → is_tabled (the_effect id) tables.old ≡ false }
     ensures err { IfErr result (λ e. (e ≡ fault.NoMemory) ⊎ (tables.new ≡ tables.old)) }
 {
-    let Some(row) = effect_row(&tables.effects, id) else {
+    let Some(row) = effect_row(tables, id) else {
         return Err(OwnFault::Gone);
     };
     let steps = take_back_in(&mut tables.store, row)?;
@@ -82,7 +83,7 @@ fn effect_out(tables: &mut Tables, id: EffectId) -> Result<Vec<Undoing>, OwnFaul
     ensures gone { IsErrOf result fault.Gone → is_tabled (the_effect id) tables.old ≡ false }
     ensures err { IfErr result (λ e. (e ≡ fault.NoMemory) ⊎ (tables.new ≡ tables.old)) }
 {
-    let Some(row) = effect_row(&tables.effects, id) else {
+    let Some(row) = effect_row(tables, id) else {
         return Err(OwnFault::Gone);
     };
     let steps = holder_out(&mut tables.store, row, Stored::Effect(id))?;

@@ -1,4 +1,4 @@
-use Rattle.std.proofs.Common.{◌++◌, ◌∷◌, [], refl, ap, ◌∙◌, sym, arith}
+use Rattle.std.proofs.Common.{◌++◌, ◌∷◌, [], refl, ap, sym, arith}
 use Rattle.std.specs.Rc.{rc_value}
 use Rattle.effect_model.specs.Running.{make_child}
 use Rattle.effect_model.specs.Worlds.{made_child}
@@ -6,7 +6,6 @@ use Rattle.effect_tables.specs.Adopting.{with_child}
 use Rattle.effect_tables.specs.Linking.{body_of}
 use Rattle.effect_sites.specs.Sites.{parts_of}
 use Rattle.effect_sites.proofs.Shared.{child_body}
-use Rattle.effect_undoing.specs.Finding.{effect_row}
 use Rattle.effect_undoing.proofs.Shared.{effect_found, effect_unlisted}
 use Rattle.effect_world.specs.declared.events.Event.TheVariants as event
 use Rattle.effect_world.specs.Wholes.{whole_of}
@@ -14,11 +13,11 @@ use Rattle.effect_acts.proofs.Tabled.{acted_tabled, owned_child}
 use Rattle.effect_acts.proofs.making.make_child.Goals as goal
 
 pub returns-in_default-clause-gone : goal.returns-in_default-clause-gone
-returns-in_default-clause-gone c = λ h. effect_unlisted c.args.id c.args.world.now.tables.effects.items (c.in_default.ensures ∙ ap (effect_row c.args.id) c.deref.ensures.value)
+returns-in_default-clause-gone c = λ h. effect_unlisted c.args.id c.args.world.now.tables.effects.items c.in_default.ensures
 
 pub make_child-requires-clause-stands : goal.make_child-requires-clause-stands
 make_child-requires-clause-stands c =
-    let f = effect_found c.args.world.now.tables.store c.args.id c.in-Some.row c.args.world.now.tables.effects.items (c.in-Some.ensures ∙ ap (effect_row c.args.id) c.deref.ensures.value) c.requires.owned.tables.alive.effects in
+    let f = effect_found c.args.world.now.tables.store c.args.id c.in-Some.row c.args.world.now.tables.effects.items c.in-Some.ensures c.requires.owned.tables.alive.effects in
     record { lives = f.lives; thing = f.thing }
 
 pub returns-clause-done : goal.returns-clause-done

@@ -1,15 +1,14 @@
 -- An effect is found by halves.
-use Rattle.std.proofs.Common.{◌≡◌, ℕ, zero, suc, ◌<◌, ◌≤◌, List, [], ◌∷◌, length, map, get_or, Some, None, Err, refl, sym, ap, subst, ◌∙◌, inl, inr, arith}
+use Rattle.std.proofs.Common.{◌≡◌, ℕ, zero, suc, ◌<◌, ◌≤◌, List, [], ◌∷◌, length, get_or, Some, None, Err, refl, sym, subst, ◌∙◌, inl, inr, arith}
 use Rattle.std.specs.List.Sorted.{IsBinarySearchResult, IsNonDecreasingBy, IsPartitionPoint}
 use Rattle.std.specs.Ordering.{nat_cmp, ordering_index}
 use Rattle.std.proofs.lemmas.Cmp.{ranked}
 use Rattle.std.specs.declared.cmp.Ordering.TheVariants.{Less, Equal, Greater}
 use Rattle.std.proofs.lemmas.Bool.{cases_lt}
 use Rattle.std.proofs.lemmas.Bool.Decides.{nat_tests}
-use Rattle.effect_model.specs.Worlds.{effect_at}
 use Rattle.effect_tables.specs.declared.effect.Effect.{Effect}
 use Rattle.effect_tables.specs.Holding.{AreRising}
-use Rattle.effect_tables.specs.Placed.{effect_of}
+use Rattle.effect_tables.specs.Looking.{effect_place}
 
 -- none is below the lower bound
 at_least : (low : ℕ) (xs : List Effect) → AreRising low xs → (i : ℕ) (d : Effect) → i < length xs → low ≤ (get_or xs i d).id
@@ -29,15 +28,14 @@ rising low (x ∷ xs) o (suc i) zero d le h = absurd (omega (arith, le))
 rising low (x ∷ xs) o (suc i) (suc j) d le h = rising (suc x.id) xs o.1 i j d (omega (arith, le)) (omega (arith, h))
 
 -- the one that has the number is the first that has it
-is_found : (low : ℕ) (xs : List Effect) → AreRising low xs → (k i : ℕ) (d : Effect) → i < length xs → (get_or xs i d).id ≡ k →
-    effect_at k (map effect_of xs) ≡ Some (effect_of (get_or xs i d))
+is_found : (low : ℕ) (xs : List Effect) → AreRising low xs → (k i : ℕ) (d : Effect) → i < length xs → (get_or xs i d).id ≡ k → effect_place k xs ≡ Some i
 is_found low [] o k i d h e = absurd (omega (arith, h))
 is_found low (x ∷ xs) o k zero d h e = grind (arith, nat_tests, e)
 is_found low (x ∷ xs) o k (suc i) d h e =
     grind (arith, nat_tests, at_least (suc x.id) xs o.1 i d (omega (arith, h)), e, is_found (suc x.id) xs o.1 k i d (omega (arith, h)) e)
 
 -- where none has the number
-is_missing : (xs : List Effect) (k : ℕ) → ((i : ℕ) (d : Effect) → i < length xs → (get_or xs i d).id ≡ k → ⊥) → effect_at k (map effect_of xs) ≡ None
+is_missing : (xs : List Effect) (k : ℕ) → ((i : ℕ) (d : Effect) → i < length xs → (get_or xs i d).id ≡ k → ⊥) → effect_place k xs ≡ None
 is_missing [] k none = refl
 is_missing (x ∷ xs) k none = grind (arith, nat_tests, none 0 x (omega arith), is_missing xs k (λ i d h e. none (suc i) d (omega (arith, h)) e))
 
@@ -48,21 +46,16 @@ answers_rise low xs o k i j d le h =
     grind (arith, nat_tests, up)
 
 -- what the search says where it has found one
-pub by_hit : (low : ℕ) (xs ys : List Effect) → AreRising low xs → ys ≡ xs → (k b i : ℕ) (x : Effect) → b ≡ k → i < length ys → nat_cmp (get_or ys i x).id b ≡ Equal → x ≡ get_or xs i x →
-    effect_at k (map effect_of xs) ≡ Some (effect_of x)
-by_hit low xs ys o is k b i x n h e at =
-    let within : i < length xs = let l = ap length is in omega (arith, h, l) in
-    let same : (get_or xs i x).id ≡ k = sym (ap (λ (zs : List Effect). (get_or zs i x).id) is) ∙ ranked _ b _ (sym e) ∙ n in
-    is_found low xs o k i x within same ∙ ap (λ y. Some (effect_of y)) (sym at)
+pub by_hit : (xs : List Effect) → AreRising 0 xs → (k b i : ℕ) → b ≡ k → i < length xs → ((d : Effect) → nat_cmp (get_or xs i d).id b ≡ Equal) → Some i ≡ effect_place k xs
+by_hit [] o k b i n h e = absurd (omega (arith, h))
+by_hit (x ∷ xs) o k b i n h e = sym (is_found 0 (x ∷ xs) o k i x h (ranked _ b _ (sym (e x)) ∙ n))
 
 -- and where it has found none
-pub by_gap : (low : ℕ) (xs ys : List Effect) → AreRising low xs → ys ≡ xs → (k b i : ℕ) → b ≡ k →
-    IsBinarySearchResult (λ (x : Effect). nat_cmp x.id b) ys (Err i) → effect_at k (map effect_of xs) ≡ None
-by_gap low xs ys o is k b i n parts =
-    is_missing xs k (λ j d h e.
-    let there : IsBinarySearchResult (λ (x : Effect). nat_cmp x.id k) xs (Err i) = subst (λ a. a) (λ t. IsBinarySearchResult (λ (x : Effect). nat_cmp x.id (n t)) (is t) (Err i)) parts in
-    let parted = there (answers_rise low xs o k) in
-    apart j d h e parted)
+pub by_gap : (xs : List Effect) → AreRising 0 xs → (k b i : ℕ) → b ≡ k → IsBinarySearchResult (λ (x : Effect). nat_cmp x.id b) xs (Err i) → None ≡ effect_place k xs
+by_gap xs o k b i n parts =
+    sym (is_missing xs k (λ j d h e.
+    let there : IsBinarySearchResult (λ (x : Effect). nat_cmp x.id k) xs (Err i) = subst (λ c. IsBinarySearchResult (λ (x : Effect). nat_cmp x.id c) xs (Err i)) n parts in
+    apart j d h e (there (answers_rise 0 xs o k))))
   where
     apart : (j : ℕ) (d : Effect) → j < length xs → (get_or xs j d).id ≡ k → IsPartitionPoint (λ (x : Effect). nat_cmp x.id k ≡ Less) (λ (x : Effect). nat_cmp x.id k ≡ Greater) xs i → ⊥
     apart j d h e parted = elim (cases_lt j i) [
