@@ -1,0 +1,4 @@
+mod Idling
+mod Naming
+mod Readying
+mod Settling

@@ -1,0 +1,41 @@
+// Two cells, what was told of their settling, and no host formulas.
+ghost use Rattle.std.specs.Prelude.{IfOk};
+ghost use Rattle.effect_runs.specs.Settling.{scene, CanSettle};
+
+use sig_base::{NodeId, Value};
+use sig_effect::{Event, World};
+use sig_host::{Lent, Shelf};
+use std::alloc::Global;
+use std::test::Fail;
+
+/// Signals, of which two are cells.
+#[derive(Drop)]
+pub(crate) struct Scene {
+    pub(crate) world: World,
+    pub(crate) shelf: Shelf,
+    pub(crate) events: Vec<Event>,
+    pub(crate) first: NodeId,
+    pub(crate) second: NodeId,
+}
+
+impl Scene {
+    /// Cells of these values.
+    pub(crate) fn new(alloc: Global, first: i64, second: i64) -> Result<Scene, Fail>
+        ensures can { IfOk result (λ s. CanSettle (scene s.world (⟦<Shelf as Lent>⟧.asked s.shelf) s.events.items)) }
+        ensures counted { IfOk result (λ s. ⟦<Shelf as Lent>⟧.counted s.shelf) }
+    {
+        let hosts = Vec::new(alloc);
+        let shelf = Shelf::new(alloc, hosts)?;
+        let mut world = World::new(alloc)?;
+        let first = world.make_cell(Value::Int(first), None)?;
+        let second = world.make_cell(Value::Int(second), None)?;
+        let events = Vec::new(alloc);
+        Ok(Scene {
+            world,
+            shelf,
+            events,
+            first,
+            second,
+        })
+    }
+}
