@@ -28,14 +28,14 @@ fn arguments(alloc: Global, count: u32) -> Result<Vec<u8>, AllocError> {
 }
 
 #[test]
-fn levels_within_the_lines(rt: HostRuntime) -> Result<(), Fail> {
+fn thirty_two_levels(rt: HostRuntime) -> Result<(), Fail> {
     let alloc = rt.alloc();
-    assert!(rt; is_read(alloc, &nested(alloc, b"when true\n", 32)?));
-    let guards = nested(alloc, b"when true\n", 33)?;
-    assert_eq!(rt; fault(alloc, &guards), Some((66, BodyWhy::Lines)));
-    assert!(rt; is_read(alloc, &nested(alloc, b"effect\n", 32)?));
-    let effects = nested(alloc, b"effect\n", 33)?;
-    assert_eq!(rt; fault(alloc, &effects), Some((66, BodyWhy::Lines)));
+    assert!(rt; is_read(alloc, &nested(alloc, b"when true\n", 31)?));
+    let guards = nested(alloc, b"when true\n", 32)?;
+    assert_eq!(rt; fault(alloc, &guards), Some((31, BodyWhy::Nest)));
+    assert!(rt; is_read(alloc, &nested(alloc, b"effect\n", 31)?));
+    let effects = nested(alloc, b"effect\n", 32)?;
+    assert_eq!(rt; fault(alloc, &effects), Some((31, BodyWhy::Nest)));
     Ok(())
 }
 

@@ -50,21 +50,25 @@ fn ends_that_end_nothing_or_are_missing(rt: HostRuntime) {
 #[test]
 fn formulas_that_speak_of_a_row(rt: HostRuntime) {
     let rows = [
-        ("log 1\nwhen it.x\nend\n", 1, BodyWhy::Syntax),
-        ("log 1\nset a it.key\nlog it.x\n", 1, BodyWhy::Syntax),
-        ("log 1\ncleanup set a it.x\nlog 2\n", 1, BodyWhy::Syntax),
-        ("log 1\nrewire a = it.x\nlog 2\n", 1, BodyWhy::Syntax),
-        ("log count(l)\nlog it.y\n", 0, BodyWhy::Syntax),
-        ("log 1\nlog sum(l, 1)\nlog 2\n", 1, BodyWhy::Syntax),
+        ("log 1\nwhen it.x\nend\n", 1, BodyWhy::ItHere),
+        ("log 1\nset a it.key\nlog it.x\n", 1, BodyWhy::ItHere),
+        ("log 1\ncleanup set a it.x\nlog 2\n", 1, BodyWhy::ItHere),
+        ("log 1\nrewire a = it.x\nlog 2\n", 1, BodyWhy::ItHere),
+        ("log count(l)\nlog it.y\n", 1, BodyWhy::ItHere),
+        (
+            "log sum(l, it.x)\nlog sum(l, 1) + it.x\n",
+            1,
+            BodyWhy::ItHere,
+        ),
         (
             "log 1\nlog count(keep(l, true))\nlog it.y\n",
-            1,
-            BodyWhy::Syntax,
+            2,
+            BodyWhy::ItHere,
         ),
         (
             "# one\n\n log 1\r\n  # two\n log it.x\n",
             4,
-            BodyWhy::Syntax,
+            BodyWhy::ItHere,
         ),
     ];
     assert!(rt; all_refused(rt.alloc(), &rows));

@@ -2,7 +2,7 @@
 use Rattle.std.specs.Prelude.{ℕ, List, [], ◌∷◌, codes}
 use Rattle.sig_words.specs.Lexemes.{symbol, word}
 use Rattle.line_forms.specs.Blocks as blocks
-use Rattle.line_forms.specs.Forms.{Formulas, Piece, part, fixed, one, arguments, formula, plain, name, count}
+use Rattle.line_forms.specs.Forms.{Piece, part, fixed, one, arguments, formula, name, count}
 use Rattle.line_forms.specs.Rows as grammar
 use Rattle.line_forms.specs.Told.{Made, made}
 use Rattle.body_text.specs.declared.line.Line.{Line}
@@ -27,13 +27,9 @@ pub data Row : Type 0 where
 abbrev NAME : Piece
 NAME = part (one name)
 
--- a body's formulas don't speak of rows
-abbrev pub formulas : Formulas
-formulas = plain
-
 -- a formula
 abbrev FORMULA : Piece
-FORMULA = part (formula formulas)
+FORMULA = part formula
 
 -- a number without sign
 abbrev PLACE : Piece

@@ -8,9 +8,8 @@ use crate::line::{Found, LineKind, ToldLine};
 use crate::{BodyFault, BodyWhy};
 use formula_text::FormulaFault;
 
-/// How many levels may stand in each other, of which a body is the first. No script has so many lines: levels begin to count where
-/// elements do.
-pub const MOST_LEVELS: usize = 4_194_304;
+/// How many levels may stand in each other, of which a body is the first.
+pub const MOST_LEVELS: usize = 32;
 
 /// The most lines of a body, those of its nested effects too, without its first and its `end`.
 pub const MOST_BODY_LINES: usize = 64;

@@ -9,7 +9,7 @@ ghost use Rattle.line_forms.specs.Reading.{read_form, read_part};
 ghost use Rattle.line_forms.specs.Rows.{rows_of, said_of};
 ghost use Rattle.line_forms.specs.Told.{ahead, IsToldFormula};
 ghost use Rattle.body_text.specs.Grammar as rows;
-ghost use Rattle.body_text.specs.Grammar.{formulas, row, table, Row, Said, Writes};
+ghost use Rattle.body_text.specs.Grammar.{row, table, Row, Said, Writes};
 ghost use Rattle.body_text.specs.Judging.{allowed};
 ghost use Rattle.body_text.specs.Views.{found_as, found_first, found_of, IsTold};
 
@@ -53,8 +53,8 @@ fn named_at(
     at: usize,
 ) -> Result<Option<(ToldNamed, usize)>, NoMemory>
     requires { AreTokens line.now tokens.now }
-    ensures { IfOk result (λ found. MatchOption found (read_part (forms.formula formulas) (ahead line.now tokens.now at) ≡ None)
-        (λ p. (x : Draft) × (read_part (forms.formula formulas) (ahead line.now tokens.now at) ≡ Some (x, ahead line.now tokens.now p.1))
+    ensures { IfOk result (λ found. MatchOption found (read_part forms.formula (ahead line.now tokens.now at) ≡ None)
+        (λ p. (x : Draft) × (read_part forms.formula (ahead line.now tokens.now at) ≡ Some (x, ahead line.now tokens.now p.1))
         × IsTold (refusal allowed x) x p.0)) }
 {
     let Some((told, to)) = formula_at(alloc, line, tokens, at, ALLOWED)? else {
@@ -71,8 +71,8 @@ fn last_formula(
     at: usize,
 ) -> Result<Option<ToldNamed>, NoMemory>
     requires { AreTokens line.now tokens.now }
-    ensures { IfOk result (λ found. MatchOption found (read_form (forms.part (forms.formula formulas) ∷ []) (ahead line.now tokens.now at) ≡ None)
-        (λ t. (x : Draft) × (read_form (forms.part (forms.formula formulas) ∷ []) (ahead line.now tokens.now at) ≡ Some (x, tt)) × IsTold (refusal allowed x) x t)) }
+    ensures { IfOk result (λ found. MatchOption found (read_form (forms.part forms.formula ∷ []) (ahead line.now tokens.now at) ≡ None)
+        (λ t. (x : Draft) × (read_form (forms.part forms.formula ∷ []) (ahead line.now tokens.now at) ≡ Some (x, tt)) × IsTold (refusal allowed x) x t)) }
 {
     let Some((formula, at)) = named_at(alloc, line, tokens, at)? else {
         return Ok(None);
@@ -92,8 +92,8 @@ fn name_and_formula(
 ) -> Result<Option<(Name, ToldNamed)>, NoMemory>
     requires { AreTokens line.now tokens.now }
     ensures { IfOk result (λ found. MatchOption found
-        (read_form (forms.part (forms.one forms.name) ∷ forms.part (forms.formula formulas) ∷ []) (ahead line.now tokens.now at) ≡ None)
-        (λ t. (x : Draft) × (read_form (forms.part (forms.one forms.name) ∷ forms.part (forms.formula formulas) ∷ []) (ahead line.now tokens.now at)
+        (read_form (forms.part (forms.one forms.name) ∷ forms.part forms.formula ∷ []) (ahead line.now tokens.now at) ≡ None)
+        (λ t. (x : Draft) × (read_form (forms.part (forms.one forms.name) ∷ forms.part forms.formula ∷ []) (ahead line.now tokens.now at)
         ≡ Some (t.0, (x, tt))) × IsTold (refusal allowed x) x t.1)) }
 {
     let Some((name, at)) = name_at(alloc, line, tokens, at)? else {

@@ -8,7 +8,6 @@ ghost use Rattle.line_forms.specs.Printed.{form_text, part_text};
 ghost use Rattle.sig_untrack.specs.Stated as stated;
 ghost use Rattle.sig_untrack.specs.Stated.{before, no_bodies, put, rewiring, Stated};
 ghost use Rattle.body_text.specs.declared.line.Plain.TheVariants as plain;
-ghost use Rattle.body_text.specs.Grammar.{formulas};
 ghost use Rattle.body_text.specs.Printing.{end_line, held_parts, parts_text, plain_text, rewire_text, text_at};
 ghost use Rattle.body_text.specs.Writing.{body_text, rewire_line};
 
@@ -40,7 +39,7 @@ fn put_target(out: &mut Vec<u8>, targets: &[Name], target: u32) -> Result<(), No
 // Appends a formula behind a blank, and the end of the line.
 fn put_formula(out: &mut Vec<u8>, names: &[Name], formula: &Formula) -> Result<(), NoMemory>
     ensures { OnOk result (out.new.items ≡ out.old.items
-        ++ (form_text (forms.part (forms.formula formulas) ∷ []) (unslotted names.now (tree formula.now), tt) ++ 10 ∷ [])) }
+        ++ (form_text (forms.part forms.formula ∷ []) (unslotted names.now (tree formula.now), tt) ++ 10 ∷ [])) }
 {
     out.push(b' ')?;
     put_formula_of(out, names, formula)?;
@@ -57,7 +56,7 @@ fn put_targeted(
     formula: &Formula,
 ) -> Result<(), NoMemory>
     ensures { OnOk result (out.new.items ≡ out.old.items ++ ((words.now
-        ++ form_text (forms.part (forms.one forms.name) ∷ forms.part (forms.formula formulas) ∷ [])
+        ++ form_text (forms.part (forms.one forms.name) ∷ forms.part forms.formula ∷ [])
         (named parts.now.targets.now target, (unslotted parts.now.names.now (tree formula.now), tt))) ++ 10 ∷ [])) }
 {
     out.extend_from_slice(words)?;
@@ -73,7 +72,7 @@ fn put_alone(
     formula: &Formula,
 ) -> Result<(), NoMemory>
     ensures { OnOk result (out.new.items ≡ out.old.items ++ ((words.now
-        ++ form_text (forms.part (forms.formula formulas) ∷ []) (unslotted parts.now.names.now (tree formula.now), tt)) ++ 10 ∷ [])) }
+        ++ form_text (forms.part forms.formula ∷ []) (unslotted parts.now.names.now (tree formula.now), tt)) ++ 10 ∷ [])) }
 {
     out.extend_from_slice(words)?;
     put_formula(out, parts.names, formula)

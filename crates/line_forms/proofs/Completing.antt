@@ -14,7 +14,7 @@ use Rattle.formula_text.specs.Signs as s
 use Rattle.formula_text.specs.Grammar.{Draft, IsFormula, Spells as FormulaSigns}
 use Rattle.formula_text.specs.Reading.{expr}
 use Rattle.formula_text.proofs.Shared.{Stops, reads_front}
-use Rattle.line_forms.specs.Forms.{One, name, value, key, count, tagged, Part, one, perhaps, many, listed, arguments, formula, Formulas, fixed, part, Form, Of, Holds, Args, Says, SayEach, SayBehind, SayListed, SayPerhaps, SpellsPart, SpellsForm, token_of}
+use Rattle.line_forms.specs.Forms.{One, name, value, key, count, tagged, Part, one, perhaps, many, listed, arguments, formula, fixed, part, Form, Of, Holds, Args, Says, SayEach, SayBehind, SayListed, SayPerhaps, SpellsPart, SpellsForm, token_of}
 use Rattle.line_forms.specs.Reading.{same, scalar_of, one_of, read_perhaps, each_of, read_behind, read_opened, read_formula, read_part, read_form, is_operator, bars, avoids, is_open, is_clear, differ, is_other, apart}
 use Rattle.line_forms.proofs.Sounding.{form_sound, said_sound}
 use Rattle.line_forms.specs.Rows.{Line, Table, rows_of, Said, Spells, Reaches, IsGrammar, first_of, said_of}
@@ -88,15 +88,15 @@ stops_sign : (x : Sign) (ss : List Sign) → is_operator x ≡ false → Stops 1
 stops_sign (s.operator o) ss h = absurd cc
 stops_sign _ ss h = tt
 
-stops : (k : Formulas) (rest : List Lexeme) → first (bars (formula k)) rest ≡ false → Stops 1 (signs rest)
-stops k [] h = tt
-stops k (l ∷ rest) h = stops_sign (sign l) (signs rest) h
+stops : (rest : List Lexeme) → first (bars formula) rest ≡ false → Stops 1 (signs rest)
+stops [] h = tt
+stops (l ∷ rest) h = stops_sign (sign l) (signs rest) h
 
-formula_complete : (k : Formulas) (f : Draft) (own rest : List Lexeme) → IsFormula own f → first (bars (formula k)) rest ≡ false → read_formula (own ++ rest) ≡ Some (f, rest)
+formula_complete : (f : Draft) (own rest : List Lexeme) → IsFormula own f → first (bars formula) rest ≡ false → read_formula (own ++ rest) ≡ Some (f, rest)
 unfolding read_formula
-formula_complete k f own rest t h =
+formula_complete f own rest t h =
     let cut = map-append sign own rest in
-    let r = reads_front (signs own) (signs rest) f t (stops k rest h) in
+    let r = reads_front (signs own) (signs rest) f t (stops rest h) in
     let size : length (own ++ rest) ≡ length (signs own ++ signs rest) = sym (length-map (own ++ rest) sign) ∙ ap length cut in
     let read : expr (length (own ++ rest)) 0 (signs (own ++ rest)) ≡ Some (f, r.0, signs rest) = rw (size, cut) r.1 in
     let len = length-append own rest in
@@ -109,7 +109,7 @@ part_complete (perhaps w o) v own rest t h = perhaps_complete w o v own rest t h
 part_complete (many o) v own rest t h = many_complete o v own rest t h
 part_complete (listed o) v own rest t h = rw (t.1, opened_complete o v t.0 rest t.2) refl
 part_complete arguments v own rest t h = rw (t.0.1, opened_complete name v t.0.0 rest t.0.2, t.1) refl
-part_complete (formula k) v own rest t h = rw (formula_complete k v own rest t.0 h, t.1) refl
+part_complete formula v own rest t h = formula_complete v own rest t h
 
 -- ---- forms
 
@@ -124,7 +124,7 @@ avoids_first q (part (one o) ∷ ps) a ls t h = absurd cc
 avoids_first q (part (many o) ∷ ps) a ls t h = absurd cc
 avoids_first q (part (listed o) ∷ ps) a ls t h = absurd cc
 avoids_first q (part arguments ∷ ps) a ls t h = absurd cc
-avoids_first q (part (formula k) ∷ ps) a ls t h = absurd cc
+avoids_first q (part formula ∷ ps) a ls t h = absurd cc
 avoids_first q (part (perhaps w o) ∷ ps) a ls t h =
     let both = and_parts (not (q (word w))) (avoids q ps) h in
     perhaps_first w o a.0 t.0 t.1 ls q t.2 t.3 (not_true (q (word w)) both.0) (avoids_first q ps a.1 t.1 t.4 both.1)
@@ -139,7 +139,7 @@ halts (perhaps w o) ps a rest t h = avoids_first (bars (perhaps w o)) ps a rest 
 halts (many o) ps a rest t h = avoids_first (bars (many o)) ps a rest t h
 halts (listed o) ps a rest t h = never rest
 halts arguments ps a rest t h = never rest
-halts (formula k) ps a rest t h = avoids_first (bars (formula k)) ps a rest t h
+halts formula ps a rest t h = avoids_first (bars formula) ps a rest t h
 
 pub form_complete : (ps : Form) (a : Args ps) (ls : List Lexeme) → SpellsForm ps a ls → is_clear ps ≡ true → read_form ps ls ≡ Some a
 form_complete [] a ls t h = rw t refl
@@ -188,7 +188,7 @@ apart_sound (part (one o) ∷ ps) (part (one q) ∷ qs) a b ls e t u =
     let right : ls ≡ u.3.0 ∷ u.1 = u.2 ∙ ap (λ (own : List Lexeme). own ++ u.1) u.3.1 in
     let f = heads t.3.0 u.3.0 t.1 u.1 (sym left ∙ right) in
     apart_sound ps qs a.1 b.1 t.1 e t.4 (subst (λ (rest : List Lexeme). SpellsForm qs b.1 rest) (sym f.1) u.4)
-apart_sound (fixed l ∷ ps) (part (formula k) ∷ qs) a b ls e t u = no_formula l t.0 u.0 u.1 b.0 e (sym t.1 ∙ u.2) u.3.0
+apart_sound (fixed l ∷ ps) (part formula ∷ qs) a b ls e t u = no_formula l t.0 u.0 u.1 b.0 e (sym t.1 ∙ u.2) u.3
 apart_sound _ _ a b ls e t u = absurd cc
 
 -- what is read as a form that is apart is nothing

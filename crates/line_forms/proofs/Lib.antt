@@ -7,8 +7,8 @@ mod OneLine
 mod Printable
 mod Printing
 mod Reprinting
+mod Scalars
 mod Sounding
 mod Spacing
 mod Tags
-mod Values
 pub mod Shared

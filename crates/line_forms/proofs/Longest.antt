@@ -1,23 +1,17 @@
 -- The longest formula is what is read.
-use Rattle.std.proofs.Common.{◌≡◌, ◌<◌, false, ℕ, ◌-◌, List, length, take, drop, Option, Some, None, option_map, refl, sym, ap, subst, ◌∙◌, arith}
-use Rattle.std.specs.Prelude.{Ok, Err}
+use Rattle.std.proofs.Common.{◌≡◌, ◌<◌, ℕ, ◌-◌, List, length, take, drop, Option, Some, None, option_map, refl, sym, ap, subst, ◌∙◌, arith}
 use Rattle.std.proofs.lemmas.List.{drop-drop, drop-map}
 use Rattle.sig_words.specs.declared.token.Token.{Token}
 use Rattle.sig_words.specs.Lexemes.{Lexeme, lexeme, lexemes}
-use Rattle.formula_text.specs.declared.wired.FormulaFault.{FormulaFault}
-use Rattle.formula_text.specs.declared.wired.FormulaFault.TheVariants as fault
 use Rattle.formula_text.specs.Signs.{signs}
 use Rattle.formula_text.specs.Grammar.{Draft, spelled, IsFormula, IsLongest, HasNone}
 use Rattle.formula_text.specs.Reading.{Part as Run, expr}
-use Rattle.formula_text.specs.Wiring.{Wiring, wired, IsRead, ReadsNone, IsCause, refusal}
+use Rattle.formula_text.specs.Wiring.{IsRead, ReadsNone}
 use Rattle.formula_text.specs.declared.rough.Rough.{Rough}
 use Rattle.formula_text.specs.Rough.{draft}
 use Rattle.formula_text.proofs.Shared.{expr_sound, longest, has_none, one_formula}
-use Rattle.formula_text.specs.Judging.{has_row_form}
-use Rattle.line_forms.specs.Forms.{formula, plain}
-use Rattle.line_forms.specs.Reading.{left_of, read_formula, read_part}
-use Rattle.line_forms.specs.Told.{ahead, IsToldFormula}
-use Rattle.formula_text.specs.declared.wired.Allow.{Allow}
+use Rattle.line_forms.specs.Reading.{left_of, read_formula}
+use Rattle.line_forms.specs.Told.{ahead}
 use Rattle.line_forms.proofs.Sounding.{split_signs}
 
 pub longest_read : (ls : List Lexeme) (n : ℕ) (x : Draft) → IsLongest ls n x → read_formula ls ≡ Some (x, drop n ls)
@@ -58,7 +52,3 @@ read_ahead line ts at to rough r =
     let ahead_of : at < to = r.reads.0 in
     let behind : drop (to - at) (lexemes line (drop at ts)) ≡ lexemes line (drop to ts) = drop-map (lexeme line) (to - at) (drop at ts) ∙ ap (lexemes line) (drop-drop (to - at) at ts ∙ ap (λ (k : ℕ). drop k ts) (omega arith)) in
     longest_read (lexemes line (drop at ts)) (to - at) (draft line ts rough) r.reads.2 ∙ ap (λ (rest : List Lexeme). Some (draft line ts rough, rest)) behind
-
--- a formula that doesn't speak of rows is read where none may
-pub plain_read : (ls rest : List Lexeme) (f : Draft) → read_formula ls ≡ Some (f, rest) → has_row_form f ≡ false → read_part (formula plain) ls ≡ Some (f, rest)
-plain_read ls rest f e h = rw (e, h) refl

@@ -181,7 +181,7 @@ part_line (perhaps w o) (Some v) p = spaced_line (word w ∷ token_of o v ∷ []
 part_line (many o) vs p = spaced_line (map (token_of o) vs) (each_written o vs p)
 part_line (listed o) vs p = spaced_line (symbol (codes "(") ∷ opened_tokens o vs) (open_written, opened_written o vs p)
 part_line arguments ns p = spaced_line (symbol (codes "(") ∷ opened_tokens a_name ns) (open_written, opened_written a_name ns p.0)
-part_line (formula k) f p = written_line 0 f p.0
+part_line formula f p = written_line 0 f p
 
 form_line : (ps : Form) (a : Args ps) → PrintsForm ps a → is_line (form_text ps a) ≡ true
 form_line [] a p = refl

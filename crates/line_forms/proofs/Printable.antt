@@ -18,7 +18,7 @@ use Rattle.formula_text.specs.Rereading.{IsPrintable}
 use Rattle.formula_text.specs.Signs.{sign, signs}
 use Rattle.formula_text.proofs.Shared.{Good, AllGood, good_word, good_symbol, good_spelled, text_utf8}
 use Rattle.line_forms.specs.Forms as forms
-use Rattle.line_forms.specs.Forms.{One, Part, one, perhaps, many, listed, arguments, formula, name, fixed, part, Of, Holds, Args, token_of, is_good, may_have, are_distinct, Says, SayEach, SayBehind, SayListed, SpellsPart, SpellsForm}
+use Rattle.line_forms.specs.Forms.{One, Part, one, perhaps, many, listed, arguments, formula, name, fixed, part, Of, Holds, Args, token_of, is_good, are_distinct, Says, SayEach, SayBehind, SayListed, SpellsPart, SpellsForm}
 
 -- a token can say it
 abbrev pub IsWritten : Lexeme → Type 0
@@ -86,7 +86,7 @@ PrintsPart (perhaps w o) (Some v) = IsWritten (word w) × IsTrue (is_good o v) �
 PrintsPart (many o) vs = EachPrints o vs
 PrintsPart (listed o) vs = EachPrints o vs
 PrintsPart arguments ns = EachPrints name ns × IsTrue (are_distinct ns)
-PrintsPart (formula k) f = IsPrintable f × IsTrue (may_have k f)
+PrintsPart formula f = IsPrintable f
 
 -- what the parts of a line hold can be printed
 abbrev pub PrintsForm : (ps : forms.Form) → Args ps → Type 0
@@ -116,7 +116,7 @@ part_prints (perhaps w o) (Some v) own t h = let g = subst AreWritten t.1 h in (
 part_prints (many o) vs own t h = each_prints o vs own t h
 part_prints (listed o) vs own t h = let g = subst AreWritten t.1 h in listed_prints o vs t.0 t.2 g.1
 part_prints arguments ns own t h = let g = subst AreWritten t.0.1 h in (listed_prints name ns t.0.0 t.0.2 g.1, t.1)
-part_prints (formula k) f own t h = (good_spelled (signs own) f (all_good own h) t.0, t.1)
+part_prints formula f own t h = good_spelled (signs own) f (all_good own h) t
 
 -- what was said by tokens can be printed
 pub form_prints : (ps : forms.Form) (a : Args ps) (ls : List Lexeme) → SpellsForm ps a ls → AreWritten ls → PrintsForm ps a

@@ -161,8 +161,7 @@ cut_part (listed o) vs line from rest p h e =
 cut_part arguments ns line from rest p h e =
     let ls = symbol (codes "(") ∷ opened_tokens name ns in
     meaning line from (from + length (spaced ls)) (λ ks. ks ≡ ls) (SpellsPart arguments ns) (cut_spaced line from ls rest (open_written, opened_written name ns p.0) h e) (λ ks is. ((opened_tokens name ns, is, opened_says name ns p.0), p.1))
-cut_part (formula k) f line from rest p h e =
-    meaning line from (from + length (32 ∷ canonical_text f)) (λ ls. IsFormula ls f) (SpellsPart (formula k) f) (cut_formula f line from rest p.0 h e) (λ ls is. (is, p.1))
+cut_part formula f line from rest p h e = cut_formula f line from rest p h e
 
 part_ends : (p : Part) (v : Holds p) (rest : List ℕ) → EndsToken rest → EndsToken (part_text p v ++ rest)
 part_ends (one o) v rest e = refl
@@ -171,7 +170,7 @@ part_ends (perhaps w o) (Some v) rest e = refl
 part_ends (many o) vs rest e = spaced_ends (map (token_of o) vs) rest e
 part_ends (listed o) vs rest e = refl
 part_ends arguments ns rest e = refl
-part_ends (formula k) f rest e = refl
+part_ends formula f rest e = refl
 
 pub form_ends : (ps : Form) (a : Args ps) → EndsToken (form_text ps a)
 form_ends [] a = tt
@@ -214,7 +213,7 @@ part_utf8 (perhaps w o) (Some v) p = spaced_utf8 (word w ∷ token_of o v ∷ []
 part_utf8 (many o) vs p = spaced_utf8 (map (token_of o) vs) (each_written o vs p)
 part_utf8 (listed o) vs p = spaced_utf8 (symbol (codes "(") ∷ opened_tokens o vs) (open_written, opened_written o vs p)
 part_utf8 arguments ns p = spaced_utf8 (symbol (codes "(") ∷ opened_tokens name ns) (open_written, opened_written name ns p.0)
-part_utf8 (formula k) f p = blank_before (canonical_text f) (written_utf8 0 f p.0)
+part_utf8 formula f p = blank_before (canonical_text f) (written_utf8 0 f p)
 
 form_utf8 : (ps : Form) (a : Args ps) → PrintsForm ps a → IsUtf8 (form_text ps a)
 form_utf8 [] a p = ascii [] refl

@@ -13,8 +13,8 @@ use Rattle.formula_text.specs.Signs.{Sign, signs, sign}
 use Rattle.formula_text.specs.Grammar.{IsFormula, spelled}
 use Rattle.formula_text.specs.Reading.{Part as Run, expr}
 use Rattle.formula_text.proofs.Shared.{Took as TookSigns, expr_sound}
-use Rattle.line_forms.specs.Forms.{One, name, value, key, count, tagged, Part, one, perhaps, many, listed, arguments, formula, Formulas, may_have, fixed, part, Form, Of, Says, SayEach, SayBehind, SayListed, SayPerhaps, are_distinct, SpellsPart, SpellsForm}
-use Rattle.line_forms.specs.Reading.{same, scalar_of, name_of, key_of, count_of, tag_of, one_of, there, read_one, read_perhaps, each_of, with_first, read_behind, read_opened, read_listed, if_allowed, if_distinct, left_of, read_formula, read_part, read_fixed, read_form}
+use Rattle.line_forms.specs.Forms.{One, name, value, key, count, tagged, Part, one, perhaps, many, listed, arguments, formula, fixed, part, Form, Of, Says, SayEach, SayBehind, SayListed, SayPerhaps, are_distinct, SpellsPart, SpellsForm}
+use Rattle.line_forms.specs.Reading.{same, scalar_of, name_of, key_of, count_of, tag_of, one_of, there, read_one, read_perhaps, each_of, with_first, read_behind, read_opened, read_listed, if_distinct, left_of, read_formula, read_part, read_fixed, read_form}
 use Rattle.line_forms.specs.Rows.{Line, Table, rows_of, all_begin, each_begins, Said, Spells, first_of, said_of}
 
 -- ---- what is there, if anything is
@@ -190,18 +190,13 @@ formula_took ls = if_mapped (expr (length ls) 0 (signs ls)) (left_of ls) (TookSi
     sound None e = tt
     sound (Some r) e = expr_sound (length ls) 0 (signs ls) r (omega arith) e
 
-allowed_took : (k : Formulas) (ls : List Lexeme) → IfSome (read_part (formula k) ls) (Took (SpellsPart (formula k)) ls)
-allowed_took k ls =
-    if_then (read_formula ls) (if_allowed k) (Took (λ f own. IsFormula own f) ls) (Took (SpellsPart (formula k)) ls) (formula_took ls)
-    (λ r t. if_either (may_have k r.0) (Some r) None (Took (SpellsPart (formula k)) ls) (λ h. (t.0, t.1, (t.2, h))) (λ _. tt))
-
 pub part_took : (p : Part) (ls : List Lexeme) → IfSome (read_part p ls) (Took (SpellsPart p) ls)
 part_took (one o) ls = one_took o ls
 part_took (perhaps w o) ls = perhaps_took w o ls
 part_took (many o) ls = many_took o ls
 part_took (listed o) ls = listed_took o ls
 part_took arguments ls = arguments_took ls
-part_took (formula k) ls = allowed_took k ls
+part_took formula ls = formula_took ls
 
 -- ---- lines
 

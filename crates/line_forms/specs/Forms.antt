@@ -7,7 +7,6 @@ use Rattle.sig_base.specs.declared.scalar.Scalar.TheVariants as scalar
 use Rattle.sig_base.specs.Words.{is_name}
 use Rattle.sig_words.specs.Lexemes.{Lexeme, word, tag, number, literal, symbol}
 use Rattle.formula_text.specs.Grammar.{Draft, IsFormula}
-use Rattle.formula_text.specs.Judging.{has_row_form}
 
 -- what one token says
 pub data One : Type 0 where
@@ -20,13 +19,6 @@ pub data One : Type 0 where
   count : One
   -- a name behind @
   tagged : One
-
--- which formulas a line may have
-pub data Formulas : Type 0 where
-  -- those that don't speak of rows
-  plain : Formulas
-  -- all
-  over_rows : Formulas
 
 -- a part of a line that says something
 pub data Part : Type 0 where
@@ -41,7 +33,7 @@ pub data Part : Type 0 where
   -- names between parentheses, with commas between them, none of them twice
   arguments : Part
   -- the longest formula
-  formula : Formulas → Part
+  formula : Part
 
 -- a piece of a line: this very token, or a part
 pub data Piece : Type 0 where
@@ -65,7 +57,7 @@ Holds (perhaps w o) = Option (Of o)
 Holds (many o) = List (Of o)
 Holds (listed o) = List (Of o)
 Holds arguments = List (List ℕ)
-Holds (formula k) = Draft
+Holds formula = Draft
 
 -- what a line of this form says, part by part
 abbrev pub Args : Form → Type 0
@@ -92,11 +84,6 @@ token_of tagged n = tag n
 abbrev pub is_good : (o : One) → Of o → Bool
 is_good name n = is_name n
 is_good _ v = true
-
--- whether a line may have this formula
-abbrev pub may_have : Formulas → Draft → Bool
-may_have plain f = not (has_row_form f)
-may_have over_rows f = true
 
 -- this token says it
 pub record Says (o : One) (v : Of o) (l : Lexeme) : Type 0 where
@@ -139,7 +126,7 @@ SpellsPart (perhaps w o) v ls = SayPerhaps w o v ls
 SpellsPart (many o) vs ls = SayEach o vs ls
 SpellsPart (listed o) vs ls = SayEnclosed o vs ls
 SpellsPart arguments ns ls = SayEnclosed name ns ls × IsTrue (are_distinct ns)
-SpellsPart (formula k) f ls = IsFormula ls f × IsTrue (may_have k f)
+SpellsPart formula f ls = IsFormula ls f
 
 -- these tokens spell a line of this form, behind its first word
 abbrev pub SpellsForm : (ps : Form) → Args ps → List Lexeme → Type 0

@@ -43,7 +43,7 @@ part_text (perhaps w o) v = spaced (perhaps_tokens w o v)
 part_text (many o) vs = spaced (map (token_of o) vs)
 part_text (listed o) vs = spaced (symbol (codes "(") ∷ opened_tokens o vs)
 part_text arguments ns = spaced (symbol (codes "(") ∷ opened_tokens name ns)
-part_text (formula k) f = 32 ∷ canonical_text f
+part_text formula f = 32 ∷ canonical_text f
 
 -- the text of a line behind its first word
 abbrev pub form_text : (ps : Form) → Args ps → List ℕ

@@ -11,7 +11,7 @@ use Rattle.formula_text.specs.Signs as s
 use Rattle.formula_text.specs.Grammar.{Draft}
 use Rattle.formula_text.specs.Reading.{Part as Run, expr}
 use Rattle.line_forms.specs.Forms.{One, name, value, key, count, tagged, Of, Part, one, perhaps, many, listed, arguments, formula, Holds}
-use Rattle.line_forms.specs.Forms.{are_distinct, may_have, Formulas, Form, fixed, part, Args}
+use Rattle.line_forms.specs.Forms.{are_distinct, Form, fixed, part, Args}
 
 -- what was read, and the tokens behind it
 abbrev pub Reader : Type 0 → Type 0
@@ -117,10 +117,6 @@ left_of ls r = (r.0, drop (length ls - length r.2) ls)
 unfoldable pub read_formula : Reader Draft
 read_formula ls = option_map (left_of ls) (expr (length ls) 0 (signs ls))
 
--- the formula, if the line may have it
-abbrev pub if_allowed : Formulas → Draft × List Lexeme → Option (Draft × List Lexeme)
-if_allowed k r = if may_have k r.0 then Some r else None
-
 -- what a part says
 abbrev pub read_part : (p : Part) → Reader (Holds p)
 read_part (one o) ls = read_one o ls
@@ -128,7 +124,7 @@ read_part (perhaps w o) ls = read_perhaps w o ls
 read_part (many o) ls = option_map (λ vs. (vs, [])) (each_of o ls)
 read_part (listed o) ls = read_listed o ls
 read_part arguments ls = option_and_then if_distinct (read_listed name ls)
-read_part (formula k) ls = option_and_then (if_allowed k) (read_formula ls)
+read_part formula ls = read_formula ls
 
 -- what stands behind this token
 abbrev pub read_fixed : Lexeme → List Lexeme → Option (List Lexeme)
@@ -156,7 +152,7 @@ bars (perhaps w o) l = same (word w) l
 bars (many o) l = true
 bars (listed o) l = false
 bars arguments l = false
-bars (formula k) l = is_operator (sign l)
+bars formula l = is_operator (sign l)
 
 -- no line of this form begins with a token that has this property
 abbrev pub avoids : (Lexeme → Bool) → Form → Bool
@@ -202,5 +198,5 @@ abbrev pub apart : Form → Form → Bool
 apart [] qs = has_some qs
 apart (fixed l ∷ ps) (fixed m ∷ qs) = differ l m || apart ps qs
 apart (part (one o) ∷ ps) (part (one q) ∷ qs) = apart ps qs
-apart (fixed l ∷ ps) (part (formula k) ∷ qs) = is_other (sign l)
+apart (fixed l ∷ ps) (part formula ∷ qs) = is_other (sign l)
 apart _ _ = false

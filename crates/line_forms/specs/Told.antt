@@ -49,7 +49,7 @@ fault_in allow (perhaps w o) v = None
 fault_in allow (many o) vs = fault_of_list o vs
 fault_in allow (listed o) vs = fault_of_list o vs
 fault_in allow arguments ns = fault_of_arguments ns
-fault_in allow (formula k) f = refusal allow f
+fault_in allow formula f = refusal allow f
 
 -- what is wrong with a line, the first of it
 abbrev pub fault_along : Allow → (ps : Form) → Args ps → Option FormulaFault
@@ -66,6 +66,16 @@ unless_faulty (Some f) x = Err f
 abbrev pub IsToldScalar : Scalar → Result Scalar FormulaFault → Type 0
 IsToldScalar v (Ok w) = (w ≡ v) × (fault_of_scalar v ≡ None)
 IsToldScalar v (Err f) = fault_of_scalar v ≡ Some f
+
+-- a text that was read, or what is wrong with it
+abbrev pub IsToldKey : List ℕ → Result (List ℕ) FormulaFault → Type 0
+IsToldKey t (Ok u) = (u ≡ t) × (fault_of_one key t ≡ None)
+IsToldKey t (Err f) = fault_of_one key t ≡ Some f
+
+-- values that were read, or what is wrong with the first that is too long
+abbrev pub AreToldValues : List Scalar → Result (List Scalar) FormulaFault → Type 0
+AreToldValues vs (Ok ws) = (ws ≡ vs) × (first_long vs ≡ None)
+AreToldValues vs (Err f) = first_long vs ≡ Some f
 
 -- arguments that were read, or what is wrong with them
 abbrev pub IsToldArguments : List (List ℕ) → Result (List (List ℕ)) FormulaFault → Type 0

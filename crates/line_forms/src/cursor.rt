@@ -1,15 +1,17 @@
 // The small readers: each reads one piece of a line from a place on.
 ghost use Rattle.std.specs.Prelude.{◌≡◌, ◌<◌, ◌≤◌, ℕ, length, IfSome, List, None, Some, [], IfOk, MatchOption, if◌then◌else◌, option_map};
 ghost use Rattle.sig_base.specs.declared.scalar.Scalar as scalar;
-ghost use Rattle.sig_words.specs.Lexemes.{lexeme, symbol, word};
+ghost use Rattle.sig_words.specs.Lexemes.{lexeme, symbol, text_at, word};
+ghost use Rattle.sig_words.specs.Literals.{between_quotes, text_of};
 ghost use Rattle.sig_words.specs.Tokens.{AreTokens, IsTokenOf};
+ghost use Rattle.sig_words.specs.declared.token.TokenKind.TheVariants as kind;
 ghost use Rattle.formula_text.specs.Grammar.{Draft};
 ghost use Rattle.formula_text.specs.Rough.{draft, HasLeaves};
-ghost use Rattle.line_forms.specs.Forms.{count, formula, name, plain, tagged, value};
-ghost use Rattle.line_forms.specs.Reading.{count_of, name_of, read_fixed, read_form, read_formula, read_one, read_part, read_perhaps, same, scalar_of, tag_of, truth_of};
-ghost use Rattle.line_forms.specs.Told.{ahead, IsToldFormula, IsToldScalar};
+ghost use Rattle.line_forms.specs.Forms.{count, formula, key, name, tagged, value};
+ghost use Rattle.line_forms.specs.Reading.{count_of, key_of, name_of, read_fixed, read_form, read_formula, read_one, read_part, read_perhaps, same, scalar_of, tag_of, truth_of};
+ghost use Rattle.line_forms.specs.Told.{ahead, IsToldFormula, IsToldKey, IsToldScalar};
 
-use formula_text::{Allow, FormulaFault, Rough, Wired, has_row_form, read_rough, wire};
+use formula_text::{Allow, FormulaFault, Rough, Wired, read_rough, wire};
 use sig_base::{Name, NameFault, NoMemory, Scalar, Text, TextFault};
 use sig_words::{Token, TokenKind, literal, token_bytes};
 use std::alloc::Global;
@@ -217,6 +219,23 @@ fn truth_of(word: &[u8]) -> Option<Scalar>
     }
 }
 
+/// A text, or that it is too long.
+pub type ToldKey = Result<Text, FormulaFault>;
+
+// The text that a literal stands for, or that it is too long.
+#[tactic(auto, using(crate::proofs::Scalars::long_text))]
+fn told_text(alloc: Global, line: &[u8], token: &Token) -> Result<ToldKey, NoMemory>
+    requires of_line { IsTokenOf line.now token.now }
+    requires is_literal { token.now.kind ≡ kind.Literal }
+    ensures { IfOk result (λ r. IsToldKey (text_of (between_quotes (text_at line.now token.now))) r) }
+{
+    match literal(alloc, line, token) {
+        Ok(text) => Ok(Ok(text)),
+        Err(TextFault::Long) => Ok(Err(FormulaFault::TextLong)),
+        Err(TextFault::NoMemory(e)) => Err(e),
+    }
+}
+
 /// A value, or what is wrong with it.
 pub type ToldValue = Result<Scalar, FormulaFault>;
 
@@ -232,10 +251,9 @@ fn value_of(alloc: Global, line: &[u8], token: &Token) -> Result<Option<ToldValu
             None => Ok(None),
         },
         TokenKind::Number(n) => Ok(Some(Ok(Scalar::Int(n)))),
-        TokenKind::Literal => match literal(alloc, line, token) {
+        TokenKind::Literal => match told_text(alloc, line, token)? {
             Ok(text) => Ok(Some(Ok(Scalar::Text(text)))),
-            Err(TextFault::Long) => Ok(Some(Err(FormulaFault::TextLong))),
-            Err(TextFault::NoMemory(e)) => Err(e),
+            Err(fault) => Ok(Some(Err(fault))),
         },
         TokenKind::Tag | TokenKind::Symbol => Ok(None),
     }
@@ -250,14 +268,48 @@ pub fn value_at(
     at: usize,
 ) -> Result<Option<(ToldValue, usize)>, NoMemory>
     requires { AreTokens line.now tokens.now }
-    ensures { IfOk result (λ found. MatchOption found (read_one value (ahead line.now tokens.now at) ≡ None)
+    ensures exact { IfOk result (λ found. MatchOption found (read_one value (ahead line.now tokens.now at) ≡ None)
         (λ p. (v : scalar.Scalar) × (read_one value (ahead line.now tokens.now at) ≡ Some (v, ahead line.now tokens.now p.1)) × IsToldScalar v p.0)) }
+    ensures within { IfOk result (λ found. IfSome found (λ p. (at < p.1) × (p.1 ≤ length tokens.now))) }
 {
     let Some(token) = tokens.get(at) else {
         return Ok(None);
     };
     match value_of(alloc, line, token)? {
         Some(value) => Ok(Some((value, at + 1))),
+        None => Ok(None),
+    }
+}
+
+// The text that a token says, or that it is too long.
+fn key_of(alloc: Global, line: &[u8], token: &Token) -> Result<Option<ToldKey>, NoMemory>
+    requires { IsTokenOf line.now token.now }
+    ensures { IfOk result (λ found. MatchOption found (key_of (lexeme line.now token.now) ≡ None)
+        (λ r. (t : List ℕ) × (key_of (lexeme line.now token.now) ≡ Some t) × IsToldKey t r)) }
+{
+    let TokenKind::Literal = token.kind else {
+        return Ok(None);
+    };
+    Ok(Some(told_text(alloc, line, token)?))
+}
+
+/// A text at a place, or that it is too long, and the place after it.
+#[tactic(auto, unfolding(crate::specs::Told::ahead))]
+pub fn key_at(
+    alloc: Global,
+    line: &[u8],
+    tokens: &[Token],
+    at: usize,
+) -> Result<Option<(ToldKey, usize)>, NoMemory>
+    requires { AreTokens line.now tokens.now }
+    ensures { IfOk result (λ found. MatchOption found (read_one key (ahead line.now tokens.now at) ≡ None)
+        (λ p. (t : List ℕ) × (read_one key (ahead line.now tokens.now at) ≡ Some (t, ahead line.now tokens.now p.1)) × IsToldKey t p.0)) }
+{
+    let Some(token) = tokens.get(at) else {
+        return Ok(None);
+    };
+    match key_of(alloc, line, token)? {
+        Some(key) => Ok(Some((key, at + 1))),
         None => Ok(None),
     }
 }
@@ -302,8 +354,7 @@ pub fn told(
     }
 }
 
-/// The longest formula from a place on, where it doesn't speak of rows, or what is wrong with it where this is allowed to it, and the place
-/// after it.
+/// The longest formula from a place on, or what is wrong with it where this is allowed to it, and the place after it.
 pub fn formula_at(
     alloc: Global,
     line: &[u8],
@@ -312,15 +363,12 @@ pub fn formula_at(
     allow: Allow,
 ) -> Result<Option<(ToldFormula, usize)>, NoMemory>
     requires { AreTokens line.now tokens.now }
-    ensures { IfOk result (λ found. MatchOption found (read_part (formula plain) (ahead line.now tokens.now at) ≡ None)
-        (λ p. (f : Draft) × (read_part (formula plain) (ahead line.now tokens.now at) ≡ Some (f, ahead line.now tokens.now p.1)) × IsToldFormula allow f p.0)) }
+    ensures { IfOk result (λ found. MatchOption found (read_part formula (ahead line.now tokens.now at) ≡ None)
+        (λ p. (f : Draft) × (read_part formula (ahead line.now tokens.now at) ≡ Some (f, ahead line.now tokens.now p.1)) × IsToldFormula allow f p.0)) }
 {
     let Some((rough, to)) = rough_at(alloc, line, tokens, at)? else {
         return Ok(None);
     };
-    if has_row_form(&rough) {
-        return Ok(None);
-    }
     let told = told(alloc, line, tokens, &rough, allow)?;
     Ok(Some((told, to)))
 }

@@ -5,16 +5,18 @@ mod cursor;
 mod laws;
 mod lists;
 mod names;
+mod values;
 mod writing;
 
 pub use cursor::{
-    ToldFormula, ToldValue, count_at, count_behind, ends_at, formula_at, name_at, rough_at,
-    symbol_at, tag_at, told, value_at, word_at,
+    ToldFormula, ToldKey, ToldValue, count_at, count_behind, ends_at, formula_at, key_at, name_at,
+    rough_at, symbol_at, tag_at, told, value_at, word_at,
 };
 pub use laws::forms_read;
-pub use lists::{ToldArguments, arguments_at, names_at};
+pub use lists::{ToldArguments, are_distinct, arguments_at, listed_names_at, names_at};
 pub use names::NameList;
+pub use values::{ToldValues, values_at};
 pub use writing::{
-    put_arguments, put_count, put_count_behind, put_fixed, put_name, put_names, put_tag, put_value,
-    put_wired,
+    put_arguments, put_count, put_count_behind, put_fixed, put_key, put_listed_names,
+    put_listed_values, put_name, put_names, put_tag, put_value, put_wired,
 };

@@ -74,9 +74,9 @@ fn names_behind(
     Ok(Some((NameList::of(names), after)))
 }
 
-// Names between parentheses.
+/// Names between parentheses from a place on, and the place after them.
 #[tactic(auto, unfolding(crate::specs::Told::ahead))]
-fn listed_names(
+pub fn listed_names_at(
     alloc: Global,
     line: &[u8],
     tokens: &[Token],
@@ -103,8 +103,8 @@ fn is_among(name: &Name, others: &[Name]) -> bool
     others.iter().any(|other| name == other)
 }
 
-// Whether no name stands there twice; each is compared with those behind it.
-fn are_distinct(names: &[Name]) -> bool
+/// Whether no name stands there twice; each is compared with those behind it.
+pub fn are_distinct(names: &[Name]) -> bool
     ensures { result ≡ are_distinct names.now }
 {
     let mut rest = names;
@@ -141,7 +141,7 @@ pub fn arguments_at(
     ensures { IfOk result (λ found. MatchOption found (read_part arguments (ahead line.now tokens.now at) ≡ None)
         (λ p. (ns : List (List ℕ)) × (read_part arguments (ahead line.now tokens.now at) ≡ Some (ns, ahead line.now tokens.now p.1)) × IsToldArguments ns p.0)) }
 {
-    let Some((names, after)) = listed_names(alloc, line, tokens, at)? else {
+    let Some((names, after)) = listed_names_at(alloc, line, tokens, at)? else {
         return Ok(None);
     };
     if !are_distinct(names.as_slice()) {

@@ -5,7 +5,7 @@ ghost use Rattle.line_forms.specs.Forms as form;
 ghost use Rattle.line_forms.specs.Printed.{behind_tokens, opened_tokens, part_text, spaced};
 
 use formula_text::{Wired, put_formula};
-use sig_base::{Name, NoMemory, Scalar, Text, put_scalar};
+use sig_base::{Name, NoMemory, Scalar, Text, put_quoted, put_scalar};
 
 /// Appends a name.
 pub fn put_name(out: &mut Vec<u8>, name: &Name) -> Result<(), NoMemory>
@@ -38,6 +38,14 @@ pub fn put_value(out: &mut Vec<u8>, value: &Scalar) -> Result<(), NoMemory>
 {
     out.push(b' ')?;
     put_scalar(out, value)
+}
+
+/// Appends a text.
+pub fn put_key(out: &mut Vec<u8>, key: &Text) -> Result<(), NoMemory>
+    ensures { OnOk result (out.new.items ≡ out.old.items ++ part_text (form.one form.key) key.now) }
+{
+    out.push(b' ')?;
+    put_quoted(out, key.as_str())
 }
 
 /// Appends a number.
@@ -93,6 +101,44 @@ fn put_opened(out: &mut Vec<u8>, names: &[Name]) -> Result<(), NoMemory>
     put_behind(out, rest)
 }
 
+/// Appends names between parentheses.
+pub fn put_listed_names(out: &mut Vec<u8>, names: &[Name]) -> Result<(), NoMemory>
+    ensures { OnOk result (out.new.items ≡ out.old.items ++ part_text (form.listed form.name) names.now) }
+{
+    put_fixed(out, b"(")?;
+    put_opened(out, names)
+}
+
+// Appends the values behind the first of a list, each behind a comma, and the closing parenthesis.
+fn put_values_behind(out: &mut Vec<u8>, values: &[Scalar]) -> Result<(), NoMemory>
+    ensures { OnOk result (out.new.items ≡ out.old.items ++ spaced (behind_tokens form.value values.now)) }
+{
+    for value in values {
+        put_fixed(out, b",")?;
+        put_value(out, value)?;
+    }
+    put_fixed(out, b")")
+}
+
+// Appends values behind their opening parenthesis.
+fn put_values_opened(out: &mut Vec<u8>, values: &[Scalar]) -> Result<(), NoMemory>
+    ensures { OnOk result (out.new.items ≡ out.old.items ++ spaced (opened_tokens form.value values.now)) }
+{
+    let Some((first, rest)) = values.split_first() else {
+        return put_fixed(out, b")");
+    };
+    put_value(out, first)?;
+    put_values_behind(out, rest)
+}
+
+/// Appends values between parentheses.
+pub fn put_listed_values(out: &mut Vec<u8>, values: &[Scalar]) -> Result<(), NoMemory>
+    ensures { OnOk result (out.new.items ≡ out.old.items ++ part_text (form.listed form.value) values.now) }
+{
+    put_fixed(out, b"(")?;
+    put_values_opened(out, values)
+}
+
 /// Appends the arguments of a host formula between parentheses.
 pub fn put_arguments(out: &mut Vec<u8>, names: &[Name]) -> Result<(), NoMemory>
     ensures { OnOk result (out.new.items ≡ out.old.items ++ part_text form.arguments names.now) }
@@ -103,7 +149,7 @@ pub fn put_arguments(out: &mut Vec<u8>, names: &[Name]) -> Result<(), NoMemory>
 
 /// Appends the canonical text of a formula.
 pub fn put_wired(out: &mut Vec<u8>, wired: &Wired) -> Result<(), NoMemory>
-    ensures { OnOk result (out.new.items ≡ out.old.items ++ part_text (form.formula form.plain) (unslotted wired.now.1 wired.now.0)) }
+    ensures { OnOk result (out.new.items ≡ out.old.items ++ part_text form.formula (unslotted wired.now.1 wired.now.0)) }
 {
     out.push(b' ')?;
     put_formula(out, wired)

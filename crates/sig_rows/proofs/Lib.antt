@@ -1,3 +1,4 @@
 mod Keys
 mod Kept
 mod Moves
+pub mod Shared

@@ -1,2 +1,3 @@
 mod Nesting
 mod Stacks
+pub mod Shared

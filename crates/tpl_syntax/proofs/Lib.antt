@@ -11,3 +11,4 @@ mod Rewriting
 mod Sounding
 mod Spellings
 mod Standing
+pub mod Shared

@@ -1,13 +1,14 @@
 -- The lines of a template say the template.
-use Rattle.std.proofs.Common.{◌≡◌, ℕ, ◌+◌, suc, true, List, [], ◌∷◌, length, map, flat_map, Option, Some, None, refl, sym, ap, ap₂, subst, ◌∙◌}
+use Rattle.std.proofs.Common.{◌≡◌, ℕ, ◌+◌, suc, true, false, List, [], ◌∷◌, length, map, flat_map, Option, Some, None, refl, sym, ap, ap₂, subst, ◌∙◌}
 use Rattle.std.specs.Prelude.{Ok, option_map}
+use Rattle.std.specs.List.{AllByRecursion}
 use Rattle.formula_text.specs.Canonical.{unslotted}
 use Rattle.formula_text.specs.Grammar.{Draft}
 use Rattle.formula_text.specs.Judging.{slotted, with_names}
 use Rattle.formula_text.proofs.Shared.{HasEach, each_there, keeps_each, named_again}
 use Rattle.line_forms.specs.Forms.{Args}
-use Rattle.line_forms.proofs.Shared.{prints_back}
-use Rattle.script_lines.specs.Lines.{NumberedLine, kept_lines, numbered}
+use Rattle.line_forms.proofs.Shared.{is_line, prints_back}
+use Rattle.script_lines.specs.Lines.{NumberedLine, is_passed, kept_lines, numbered}
 use Rattle.tpl_syntax.specs.declared.fault.TemplateFault.{TemplateFault}
 use Rattle.tpl_syntax.specs.declared.fault.TemplateWhy.{TemplateWhy}
 use Rattle.tpl_syntax.specs.declared.line.Line.{Line}
@@ -19,7 +20,7 @@ use Rattle.tpl_syntax.specs.Places.{Place, is_closed, moved, top}
 use Rattle.tpl_syntax.specs.Templates.{Answer, IsRead, faulty, unended, says, Say, Sayings, answer_of, names_of, plan_of, reached, unless_refused, with_formula, with_lines}
 use Rattle.tpl_syntax.specs.Writing.{bytes_of, ended_line, lines_of_plan, plan_text, said_by, said_in, said_of}
 use Rattle.tpl_syntax.proofs.Judgements.{neither}
-use Rattle.tpl_syntax.proofs.Standing.{said_all, all_lines, kept_all}
+use Rattle.tpl_syntax.proofs.Standing.{AllLines, said_all, all_lines, kept_all}
 
 -- ---- a line says again what it said
 
@@ -173,16 +174,48 @@ lines_are ls t r =
     ap (λ (xs : List Said). kept_lines 0 (flat_map ended_line xs)) same ∙ kept_all 0 (said_all d.xs) (all_lines top ls d.xs d.say)
     ∙ ap (λ (xs : List Said). numbered 0 (map bytes_of xs)) (sym same)
 
+-- ---- with other numbers
+
+-- what lines say that are a template, as it is written
+pub record Written (ls : List NumberedLine) (t : Plan) : Type 0 where
+  pub xs : Sayings
+  pub say : Say top ls xs
+  pub closed : is_closed (reached top xs) ≡ true
+  pub said : said_by t ≡ map (λ x. x.1) xs
+
+-- a template says what its lines said
+pub written : (ls : List NumberedLine) (t : Plan) → IsRead ls (Ok t) → Written ls t
+written ls t r =
+    let d = done_by ls t (Ok t) r refl in
+    record { xs = d.xs; say = d.say; closed = d.closed; said = said_is ls t d }
+
+-- the lines are read as the template, whatever their numbers
+pub read_anew : (n : ℕ) (ls : List NumberedLine) (t : Plan) → IsRead ls (Ok t) → IsRead (numbered n (map bytes_of (said_by t))) (Ok t)
+read_anew n ls t r =
+    let d = done_by ls t (Ok t) r refl in
+    let again = from n d.xs in
+    let same : numbered n (map bytes_of (said_by t)) ≡ numbered n (map bytes_of (said_all d.xs)) =
+    ap (λ (xs : List Said). numbered n (map bytes_of xs)) (said_is ls t d) in
+    let whole : answer_of again ≡ Ok t =
+    ap (λ (o : Option TemplateFault). unless_refused o (plan_of (map (λ x. line_of x.1) again))) (none_refused top n d.xs d.sound)
+    ∙ ap (λ (xs : List (Line Draft)). Ok (plan_of xs)) (lines_from n d.xs) ∙ ap (λ (u : Plan). Ok u) d.is in
+    let closed : is_closed (reached top again) ≡ true = ap is_closed (reached_from top d.xs n) ∙ d.closed in
+    let read : IsRead (numbered n (map bytes_of (said_all d.xs))) (answer_of again) = says again (say_from top ls d.xs n d.say) closed in
+    subst (λ (ms : List NumberedLine). IsRead ms (Ok t)) (sym same)
+    (subst (λ (a : Answer). IsRead (numbered n (map bytes_of (said_all d.xs))) a) whole read)
+
 -- the text is read as the template
 pub read_back : (ls : List NumberedLine) (t : Plan) → IsRead ls (Ok t) → IsRead (kept_lines 0 (plan_text t)) (Ok t)
-read_back ls t r =
+read_back ls t r = subst (λ (ms : List NumberedLine). IsRead ms (Ok t)) (sym (lines_are ls t r)) (read_anew 0 ls t r)
+
+each_whole : (xs : List Said) → AllLines xs → AllByRecursion (λ l. (is_line l ≡ true) × (is_passed l ≡ false)) (map bytes_of xs)
+each_whole [] s = tt
+each_whole (x ∷ xs) s = ((s.0, s.1), each_whole xs s.2)
+
+-- each is one line, which isn't passed over
+pub whole_lines : (ls : List NumberedLine) (t : Plan) → IsRead ls (Ok t)
+    → AllByRecursion (λ l. (is_line l ≡ true) × (is_passed l ≡ false)) (map bytes_of (said_by t))
+whole_lines ls t r =
     let d = done_by ls t (Ok t) r refl in
-    let again = from 0 d.xs in
-    let lines : kept_lines 0 (plan_text t) ≡ numbered 0 (map bytes_of (said_all d.xs)) =
-    lines_are ls t r ∙ ap (λ (xs : List Said). numbered 0 (map bytes_of xs)) (said_is ls t d) in
-    let closed : is_closed (reached top again) ≡ true = ap is_closed (reached_from top d.xs 0) ∙ d.closed in
-    let whole : answer_of again ≡ Ok t =
-    ap (λ (o : Option TemplateFault). unless_refused o (plan_of (map (λ x. line_of x.1) again))) (none_refused top 0 d.xs d.sound)
-    ∙ ap (λ (xs : List (Line Draft)). Ok (plan_of xs)) (lines_from 0 d.xs) ∙ ap (λ (u : Plan). Ok u) d.is in
-    let read : IsRead (numbered 0 (map bytes_of (said_all d.xs))) (answer_of again) = says again (say_from top ls d.xs 0 d.say) closed in
-    subst (λ (a : Answer). IsRead (kept_lines 0 (plan_text t)) a) whole (subst (λ (ms : List NumberedLine). IsRead ms (answer_of again)) (sym lines) read)
+    subst (λ (xs : List Said). AllByRecursion (λ l. (is_line l ≡ true) × (is_passed l ≡ false)) (map bytes_of xs)) (sym (said_is ls t d))
+    (each_whole (said_all d.xs) (all_lines top ls d.xs d.say))

@@ -2,7 +2,7 @@
 use Rattle.std.specs.Prelude.{ℕ, List, [], ◌∷◌, codes}
 use Rattle.formula_text.specs.Grammar.{Draft}
 use Rattle.line_forms.specs.Blocks as blocks
-use Rattle.line_forms.specs.Forms.{Piece, part, one, formula, over_rows, tagged}
+use Rattle.line_forms.specs.Forms.{Piece, part, one, formula, tagged}
 use Rattle.line_forms.specs.Rows as grammar
 use Rattle.line_forms.specs.Told.{Made, made}
 use Rattle.tpl_syntax.specs.declared.line.Line.{Line}
@@ -24,7 +24,7 @@ NAME = part (one tagged)
 
 -- a formula, which may speak of rows
 abbrev FORMULA : Piece
-FORMULA = part (formula over_rows)
+FORMULA = part formula
 
 -- the first word of a row, and what follows it
 abbrev pub row : Row → grammar.Line

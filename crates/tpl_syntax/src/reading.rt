@@ -131,7 +131,7 @@ fn alone(
 ) -> Result<Option<Seen>, NoMemory>
     requires { AreTokens line.now tokens.now }
     ensures { IfOk result (λ found.
-        found ≡ option_map (λ a. seen allow a.0) (read_form (forms.part (forms.formula forms.over_rows) ∷ []) (ahead line.now tokens.now 1))) }
+        found ≡ option_map (λ a. seen allow a.0) (read_form (forms.part forms.formula ∷ []) (ahead line.now tokens.now 1))) }
 {
     let Some((seen, at)) = seen_at(alloc, line, tokens, 1, allow)? else {
         return Ok(None);

@@ -16,7 +16,7 @@ use sig_formula::Formula;
 
 // Appends a formula behind a blank.
 fn put_formula(out: &mut Vec<u8>, names: &[Name], formula: &Formula) -> Result<(), NoMemory>
-    ensures { OnOk result (out.new.items ≡ out.old.items ++ part_text (forms.formula forms.over_rows) (unslotted names.now (tree formula.now))) }
+    ensures { OnOk result (out.new.items ≡ out.old.items ++ part_text forms.formula (unslotted names.now (tree formula.now))) }
 {
     out.push(b' ')?;
     put_formula_of(out, names, formula)
@@ -30,7 +30,7 @@ fn put_alone(
     formula: &Formula,
 ) -> Result<(), NoMemory>
     ensures { OnOk result (out.new.items ≡ out.old.items
-        ++ (word.now ++ form_text (forms.part (forms.formula forms.over_rows) ∷ []) (unslotted names.now (tree formula.now), tt))) }
+        ++ (word.now ++ form_text (forms.part forms.formula ∷ []) (unslotted names.now (tree formula.now), tt))) }
 {
     out.extend_from_slice(word)?;
     put_formula(out, names, formula)?;
