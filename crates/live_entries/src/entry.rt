@@ -1,0 +1,52 @@
+// What the commands tell.
+
+use crate::{Label, NameList, PageBytes, PageOp, Refusal};
+use sig_base::{Fault, Name, Outcome, Value};
+
+/// How a computed stands while nothing is evaluated.
+#[derive(Clone, Copy, Debug, PartialEq, Eq)]
+pub enum Seen {
+    /// What is kept of it serves.
+    Clean,
+    /// It doesn't have to run, but something that it keeps as a source does, perhaps far below.
+    Checked,
+    /// It has to run.
+    Dirty,
+}
+
+/// Something that a command tells.
+#[derive(Drop)]
+pub enum Entry {
+    /// What a name comes to.
+    Outcome(Name, Outcome),
+    /// How a computed stands.
+    State(Name, Seen),
+    /// The sources that a computed keeps, in order of first reading.
+    Sources(Name, NameList),
+    /// The computeds that a watcher watches and that have to run, or something below them, in order of watching.
+    Pending(Name, NameList),
+    /// A watcher is notified.
+    Notify(Name),
+    /// An effect or a cleanup logs a value.
+    Log(Value),
+    /// The body of an effect failed, and none of its acts is done.
+    Fail(Label, Fault),
+    /// The host formula at a place is dropped, after so many asks.
+    Drop(u64, u128),
+    /// An operation that leads from a page as it was told last to the page of now.
+    Op(Name, PageOp),
+    /// The HTML of a page, behind the operations that lead to it or where it is asked for.
+    Page(Name, PageBytes),
+    /// The HTML of a page's template, evaluated from scratch.
+    Scratch(Name, PageBytes),
+    /// A refused item.
+    Error(Refusal),
+    /// A computed has run: its sources in order of first reading, and what it came to.
+    Run(Name, NameList, Outcome),
+    /// The body of an effect was evaluated: its tracked reads in order of first reading.
+    Effect(Label, NameList),
+    /// A cleanup of an effect is about to be done.
+    Cleanup(Label),
+    /// What has this label is gone.
+    Gone(Label),
+}
