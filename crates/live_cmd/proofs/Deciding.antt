@@ -6,8 +6,8 @@ use Rattle.script_lines.specs.Pieces.{Piece, pieces_of}
 use Rattle.live_cmd.specs.declared.command.Item.{Item}
 use Rattle.live_cmd.specs.declared.command.Item.TheVariants as item
 use Rattle.live_cmd.specs.declared.place.Place.TheVariants as place
-use Rattle.live_cmd.specs.declared.refusal.LimitWord.TheVariants as limit
-use Rattle.live_cmd.specs.declared.refusal.Refusal.TheVariants as refusal
+use Rattle.live_entries.specs.declared.refusal.LimitWord.TheVariants as limit
+use Rattle.live_entries.specs.declared.refusal.Refusal.TheVariants as refusal
 use Rattle.live_cmd.specs.Blocks.{block_item}
 use Rattle.live_cmd.specs.Grammar.{Row, row, table}
 use Rattle.live_cmd.specs.Places.{places}

@@ -4,10 +4,11 @@ use Rattle.std.specs.Prelude.{MatchOption}
 use Rattle.formula_text.specs.declared.wired.FormulaFault.{FormulaFault}
 use Rattle.line_forms.specs.Forms.{Args}
 use Rattle.line_forms.specs.Told.{unless_faulty}
+use Rattle.live_cmd.specs.declared.contents.Head.{Head}
 use Rattle.live_cmd.specs.declared.line.Found.{Found}
 use Rattle.live_cmd.specs.declared.line.Line.{Line}
-use Rattle.live_cmd.specs.Blocks.{Ends, IsNoHead, is_head}
-use Rattle.live_cmd.specs.Grammar.{Row, row, Said, Writes, line_of, effect, close}
+use Rattle.live_cmd.specs.Blocks.{Ends, IsNoHead, is_head, said_head}
+use Rattle.live_cmd.specs.Grammar.{Row, row, Said, Writes, line_of, effect, template, close}
 use Rattle.live_cmd.specs.Judging.{fault_of}
 use Rattle.live_cmd.specs.Views.{end_told, found_of, head_of, head_told, is_end, told}
 use Rattle.live_cmd.proofs.Parting.{no_close}
@@ -35,8 +36,8 @@ end_none bytes none = λ w. none (close, tt) w
 -- ---- heads
 
 -- a head that was found, or none
-abbrev pub IsHead : List ℕ → Option (List ℕ × Option (List ℕ)) → Type 0
-IsHead bytes found = MatchOption found (IsNoHead bytes) (λ p. Writes (effect, (p.0, (p.1, tt))) bytes)
+abbrev pub IsHead : List ℕ → Option Head → Type 0
+IsHead bytes found = MatchOption found (IsNoHead bytes) (λ h. Writes (said_head h) bytes)
 
 no_head : (o : Option FormulaFault) (l : Line) → head_of l ≡ None → head_told (unless_faulty o l) ≡ None
 no_head None l e = e
@@ -50,8 +51,9 @@ other_head bytes x w h y v k =
 
 head_row : (r : Row) (a : Args (row r).1) (bytes : List ℕ) → Writes (r, a) bytes → IsHead bytes (head_told (told (r, a)))
 head_row effect a bytes w = w
+head_row template a bytes w = w
 head_row r a bytes w =
-    subst (λ (h : Option (List ℕ × Option (List ℕ))). IsHead bytes h) (sym (no_head (fault_of (r, a)) (line_of (r, a)) refl))
+    subst (λ (h : Option Head). IsHead bytes h) (sym (no_head (fault_of (r, a)) (line_of (r, a)) refl))
     (other_head bytes (r, a) w refl)
 
 -- what was found in a line says whether it begins a block

@@ -1,15 +1,16 @@
 -- Blocks, by the lines that are held.
-use Rattle.std.proofs.Common.{◌≡◌, ◌<◌, ℕ, Bool, Option, Some, List, [], ◌∷◌, ◌++◌, length, map, refl, sym, arith}
+use Rattle.std.proofs.Common.{◌≡◌, ◌<◌, Bool, true, Some, List, [], ◌∷◌, ◌++◌, length, map, refl, sym, arith}
 use Rattle.std.specs.List.{All}
 use Rattle.std.proofs.lemmas.List.Elements.{All-head, All-pop, All-same, All-tail}
 use Rattle.script_lines.specs.declared.line.NumberedLine as held
 use Rattle.script_lines.specs.Views.{line_of}
-use Rattle.live_cmd.specs.declared.block.Content.{Content}
+use Rattle.live_cmd.specs.declared.contents.Content.{Content}
+use Rattle.live_cmd.specs.declared.contents.Head.{Head}
+use Rattle.live_cmd.specs.declared.contents.Head.TheVariants as heads
 use Rattle.live_cmd.specs.declared.command.Item.{Item}
-use Rattle.live_cmd.specs.Blocks.{Block, Ends, IsContent, IsNoHead, block_item}
-use Rattle.live_cmd.specs.Grammar.{Writes, effect}
+use Rattle.live_cmd.specs.Blocks.{Block, Ends, IsContent, IsNoHead, block_item, is_head, said_head}
+use Rattle.live_cmd.specs.Grammar.{Writes}
 use Rattle.live_cmd.proofs.Ends.{parted_map}
-use Rattle.live_cmd.proofs.Numbering.{IsMade}
 use Rattle.live_cmd.proofs.Parting.{no_block, too_few}
 
 -- what holds of all holds of the first, of those behind it, and of the last
@@ -31,21 +32,26 @@ pub no_head_held : (ls : List held.NumberedLine) (first last : held.NumberedLine
 no_head_held ls first last inner e none b =
     no_block (map line_of ls) (line_of first) (line_of last) (map line_of inner) (parted_map line_of ls first inner last e) none b
 
+-- the first line of a block begins one
+begun : (h : Head) → is_head (said_head h).0 ≡ true
+begun (heads.Effect n o) = refl
+begun (heads.Template n) = refl
+
 -- lines of which the first is a head are a block, which is what was read of it
-pub block_held : (ls : List held.NumberedLine) (first last : held.NumberedLine) (inner : List held.NumberedLine) (name : List ℕ) (o : Option (List ℕ))
-    (ends : Bool) (c : Content) (i : Item) → ls ≡ first ∷ (inner ++ last ∷ []) → Writes (effect, (name, (o, tt))) first.text.now
-    → Ends ends last.text.now → IsMade (map line_of inner) name o c → i ≡ block_item ends last.number c
+pub block_held : (ls : List held.NumberedLine) (first last : held.NumberedLine) (inner : List held.NumberedLine) (h : Head)
+    (ends : Bool) (c : Content) (i : Item) → ls ≡ first ∷ (inner ++ last ∷ []) → Writes (said_head h) first.text.now
+    → Ends ends last.text.now → IsContent (said_head h) (map line_of inner) c → i ≡ block_item ends last.number c
     → (b : Block (map line_of ls)) × (d : Content) × IsContent b.head b.inner d × (i ≡ block_item b.ends b.last.0 d)
-block_held ls first last inner name o ends c i e w h k is =
+block_held ls first last inner h ends c i e w v k is =
     let b : Block (map line_of ls) = record {
       first = line_of first;
       inner = map line_of inner;
       last = line_of last;
       whole = parted_map line_of ls first inner last e;
-      head = (effect, (name, (o, tt)));
+      head = said_head h;
       writes = w;
-      begins = refl;
+      begins = begun h;
       ends = ends;
-      end = h;
+      end = v;
     } in
     (b, c, k, is)

@@ -10,8 +10,8 @@ use Rattle.live_cmd.specs.declared.line.Line.{Line}
 use Rattle.live_cmd.specs.declared.judge.ReadLine.{ReadLine}
 use Rattle.live_cmd.specs.declared.command.Item.{Item}
 use Rattle.live_cmd.specs.declared.command.Item.TheVariants as item
-use Rattle.live_cmd.specs.declared.refusal.Refusal.{Refusal}
-use Rattle.live_cmd.specs.declared.refusal.Refusal.TheVariants as refusal
+use Rattle.live_entries.specs.declared.refusal.Refusal.{Refusal}
+use Rattle.live_entries.specs.declared.refusal.Refusal.TheVariants as refusal
 use Rattle.line_forms.specs.Told.{unless_faulty}
 use Rattle.line_forms.proofs.Shared as forms
 use Rattle.live_cmd.specs.Grammar.{Row, row, table, Said, line_of}
@@ -19,7 +19,7 @@ use Rattle.live_cmd.specs.declared.place.Place.{Place}
 use Rattle.live_cmd.specs.declared.place.Place.TheVariants as place
 use Rattle.live_cmd.specs.Places.{kind_of, moved, places}
 use Rattle.live_cmd.specs.Judging.{Sayings, Faults, fault_of, faults_of, misplacing, excess, first_misplaced, first_excess, refusal_of}
-use Rattle.live_cmd.specs.declared.block.Content.{Content}
+use Rattle.live_cmd.specs.declared.contents.Content.{Content}
 use Rattle.live_cmd.specs.Blocks.{Block, IsContent, block_item}
 use Rattle.live_cmd.specs.Items.{Say, IsItem, long, unended, block, faulty, says, any_long, first_number, command_of, item_or, unless_refused, item_of, AreItems, ItemsFrom, Begins}
 use Rattle.live_cmd.specs.Views.{told, read_of, fault_read, faults_read, with_line, sound_lines, item_read, AreRead}
@@ -72,9 +72,8 @@ item_at : (k : ℕ) (xs : Sayings) (o : Option Refusal) → refusal_of (faults_o
     → unless_refused o (item_or k (command_of (sound_lines (map read_of xs)))) ≡ unless_refused o (item_or k (command_of (map (λ x. line_of x.1) xs)))
 item_at k xs (Some r) e = refl
 item_at k xs None e =
-    let a = neither (first_misplaced (faults_of xs)) _ e in
-    let b = neither (first_excess (faults_of xs)) _ a.1 in
-    ap (λ (ls : List Line). item_or k (command_of ls)) (sound_same xs a.0 b.0)
+    let a = neither (first_misplaced (faults_of xs)) (first_excess (faults_of xs)) e in
+    ap (λ (ls : List Line). item_or k (command_of ls)) (sound_same xs a.0 a.1)
 
 item_same : (k : ℕ) (xs : Sayings) → item_read k (map read_of xs) ≡ item_of k xs
 item_same k xs =

@@ -3,6 +3,7 @@ mod Ends
 mod Grammars
 mod Held
 mod Items
+mod Levels
 mod LineByLine
 mod Heading
 mod Numbered
@@ -13,4 +14,5 @@ mod Refusing
 mod Rewriting
 mod Spellings
 mod Standing
+mod TemplateNumbers
 pub mod Shared

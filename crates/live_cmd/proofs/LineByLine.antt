@@ -12,8 +12,8 @@ use Rattle.script_lines.specs.declared.line.NumberedLine as held
 use Rattle.script_lines.specs.declared.piece.Piece as held_piece
 use Rattle.script_lines.specs.Views.{line_of, piece_of}
 use Rattle.live_cmd.specs.declared.command.Item.TheVariants as item
-use Rattle.live_cmd.specs.declared.refusal.LimitWord.TheVariants as limit
-use Rattle.live_cmd.specs.declared.refusal.Refusal.TheVariants as refusal
+use Rattle.live_entries.specs.declared.refusal.LimitWord.TheVariants as limit
+use Rattle.live_entries.specs.declared.refusal.Refusal.TheVariants as refusal
 use Rattle.live_cmd.specs.declared.line.Line.{Line}
 use Rattle.live_cmd.specs.declared.judge.ReadLine.{ReadLine}
 use Rattle.live_cmd.specs.declared.line.Found.{Found}

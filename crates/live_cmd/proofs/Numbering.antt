@@ -14,16 +14,16 @@ use Rattle.body_text.specs.Judging.{fault_at, fault_of, first_excess, first_misp
 use Rattle.body_text.specs.Places.{kind_of, moved}
 use Rattle.body_text.specs.Readings.{Answer, IsFaulty, IsRead, Refuses, Say, Sayings, faulty, last_number, says, unended, unless_refused}
 use Rattle.body_text.specs.Statements.{body_of}
-use Rattle.live_cmd.specs.declared.block.Content.{Content}
-use Rattle.live_cmd.specs.Blocks.{content_refused, effect_content, is_memory}
+use Rattle.live_cmd.specs.declared.contents.Content.{Content}
+use Rattle.live_cmd.specs.Blocks.{body_refused, effect_content, is_memory}
 use Rattle.live_cmd.specs.Views.{number_in}
 
 -- some line has this number
-abbrev has_number : List NumberedLine → ℕ → Bool
+abbrev pub has_number : List NumberedLine → ℕ → Bool
 has_number [] k = false
 has_number (l ∷ ls) k = (l.0 == k) || has_number ls k
 
-abbrev HasNumber : List NumberedLine → ℕ → Type 0
+abbrev pub HasNumber : List NumberedLine → ℕ → Type 0
 HasNumber ls k = has_number ls k ≡ true
 
 same_number : (n : ℕ) → (n == n) ≡ true
@@ -33,14 +33,14 @@ or_first : (b c : Bool) → b ≡ true → (b || c) ≡ true
 or_first true c e = refl
 or_first false c e = absurd cc
 
-has_first : (l : NumberedLine) (ls : List NumberedLine) (k : ℕ) → k ≡ l.0 → HasNumber (l ∷ ls) k
+pub has_first : (l : NumberedLine) (ls : List NumberedLine) (k : ℕ) → k ≡ l.0 → HasNumber (l ∷ ls) k
 has_first l ls k e = or_first (l.0 == k) (has_number ls k) (rw e (same_number l.0))
 
 or_later : (b c : Bool) → c ≡ true → (b || c) ≡ true
 or_later true c e = refl
 or_later false c e = e
 
-has_later : (l : NumberedLine) (ls : List NumberedLine) (k : ℕ) → HasNumber ls k → HasNumber (l ∷ ls) k
+pub has_later : (l : NumberedLine) (ls : List NumberedLine) (k : ℕ) → HasNumber ls k → HasNumber (l ∷ ls) k
 has_later l ls k h = or_later (l.0 == k) (has_number ls k) h
 
 faulty_number : (depth : ℕ) (ls : List NumberedLine) (k : ℕ) → IsFaulty depth ls k → HasNumber ls k
@@ -49,10 +49,10 @@ faulty_number depth (l ∷ ls) k (inl f) = has_first l ls k f.0
 faulty_number depth (l ∷ ls) k (inr f) = has_later l ls k (faulty_number (moved depth (kind_of (rows.line_of f.0))) ls k f.3)
 
 -- one of them, or 0 where there are none
-abbrev IsNumber : List NumberedLine → ℕ → Type 0
+abbrev pub IsNumber : List NumberedLine → ℕ → Type 0
 IsNumber ls k = HasNumber ls k ⊎ (k ≡ 0)
 
-number_later : (l : NumberedLine) (ls : List NumberedLine) (k : ℕ) → HasNumber ls k → IsNumber (l ∷ ls) k
+pub number_later : (l : NumberedLine) (ls : List NumberedLine) (k : ℕ) → HasNumber ls k → IsNumber (l ∷ ls) k
 number_later l ls k h = inl (has_later l ls k h)
 
 last_has : (l : NumberedLine) (ls : List NumberedLine) → HasNumber (l ∷ ls) (last_number (l ∷ ls))
@@ -66,7 +66,7 @@ last_is (l ∷ ls) = inl (last_has l ls)
 -- ---- what is judged
 
 -- an option is this, or an other is
-either_some : {A : Type 0} (o p : Option A) (x : A) → option_or o p ≡ Some x → (o ≡ Some x) ⊎ (p ≡ Some x)
+pub either_some : {A : Type 0} (o p : Option A) (x : A) → option_or o p ≡ Some x → (o ≡ Some x) ⊎ (p ≡ Some x)
 either_some None p x e = inr e
 either_some (Some y) p x e = inl e
 
@@ -105,7 +105,7 @@ abbrev is_lines : BodyWhy → Bool
 is_lines why.Lines = true
 is_lines _ = false
 
-many_why : (b : Bool) (f g : BodyFault) → cond b (Some g) None ≡ Some f → f.why ≡ g.why
+pub many_why : (b : Bool) (f g : BodyFault) → cond b (Some g) None ≡ Some f → f.why ≡ g.why
 many_why true f g e = let same : g ≡ f = cc in ap (λ (h : BodyFault). h.why) (sym same)
 many_why false f g e = absurd cc
 
@@ -163,7 +163,7 @@ number_zero : (ls : List NumberedLine) → number_in ls 0 ≡ 0
 number_zero [] = refl
 number_zero (l ∷ ls) = found_or (l.0 == 0) l.0 (number_in ls 0) 0 (first_number l.0 0) (λ e. number_zero ls)
 
-number_is : (ls : List NumberedLine) (k : ℕ) → IsNumber ls k → number_in ls k ≡ k
+pub number_is : (ls : List NumberedLine) (k : ℕ) → IsNumber ls k → number_in ls k ≡ k
 number_is ls k (inl h) = number_has ls k h
 number_is ls k (inr h) = rw h (number_zero ls)
 
@@ -172,21 +172,21 @@ abbrev pub IsMade : List NumberedLine → List ℕ → Option (List ℕ) → Con
 IsMade ls n o c = (a : Answer) × IsRead ls a × (c ≡ effect_content n o a)
 
 made_of : (ls : List NumberedLine) (at n : ℕ) (w : BodyWhy) (c : Content) (name : List ℕ) (o : Option (List ℕ)) → IsRead ls (Err (fault_at at w))
-    → c ≡ content_refused n w → content_refused n w ≡ content_refused at w → IsMade ls name o c
+    → c ≡ body_refused n w → body_refused n w ≡ body_refused at w → IsMade ls name o c
 made_of ls at n w c name o r e f = (Err (fault_at at w), r, e ∙ f)
 
 -- lines that are no body make what their cause says
 pub refused_by : (ls : List NumberedLine) (at n : ℕ) (w : BodyWhy) (c : Content) (name : List ℕ) (o : Option (List ℕ))
-    → Refuses ls at w → is_memory w ≡ false → n ≡ number_in ls at → c ≡ content_refused n w → IsMade ls name o c
+    → Refuses ls at w → is_memory w ≡ false → n ≡ number_in ls at → c ≡ body_refused n w → IsMade ls name o c
 refused_by ls at n why.Syntax c name o r m g e =
     let is = g ∙ number_is ls at (fault_number ls _ (fault_at at why.Syntax) r refl refl) in
-    made_of ls at n why.Syntax c name o r e (ap (λ (k : ℕ). content_refused k why.Syntax) is)
+    made_of ls at n why.Syntax c name o r e (ap (λ (k : ℕ). body_refused k why.Syntax) is)
 refused_by ls at n why.ItHere c name o r m g e =
     let is = g ∙ number_is ls at (fault_number ls _ (fault_at at why.ItHere) r refl refl) in
-    made_of ls at n why.ItHere c name o r e (ap (λ (k : ℕ). content_refused k why.ItHere) is)
+    made_of ls at n why.ItHere c name o r e (ap (λ (k : ℕ). body_refused k why.ItHere) is)
 refused_by ls at n why.Nest c name o r m g e =
     let is = g ∙ number_is ls at (fault_number ls _ (fault_at at why.Nest) r refl refl) in
-    made_of ls at n why.Nest c name o r e (ap (λ (k : ℕ). content_refused k why.Nest) is)
+    made_of ls at n why.Nest c name o r e (ap (λ (k : ℕ). body_refused k why.Nest) is)
 refused_by ls at n why.Text c name o r m g e = made_of ls at n why.Text c name o r e refl
 refused_by ls at n why.Sources c name o r m g e = made_of ls at n why.Sources c name o r e refl
 refused_by ls at n why.Lines c name o r m g e = made_of ls at n why.Lines c name o r e refl

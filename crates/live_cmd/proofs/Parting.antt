@@ -5,10 +5,12 @@ use Rattle.line_forms.specs.Forms.{Args}
 use Rattle.script_lines.specs.Lines.{NumberedLine}
 use Rattle.body_text.specs.Readings.{Answer}
 use Rattle.body_text.proofs.Shared.{one_answer, some_answer}
-use Rattle.live_cmd.specs.declared.block.Content.{Content}
+use Rattle.tpl_syntax.specs.Templates as templates
+use Rattle.tpl_syntax.proofs.Shared as template_laws
+use Rattle.live_cmd.specs.declared.contents.Content.{Content}
 use Rattle.live_cmd.specs.declared.place.Place.TheVariants as place
-use Rattle.live_cmd.specs.Blocks.{Block, Ends, IsContent, IsContentOf, IsNoHead, block_item, effect_content, is_head}
-use Rattle.live_cmd.specs.Grammar.{Row, row, Said, Writes, effect, close}
+use Rattle.live_cmd.specs.Blocks.{Block, Ends, IsContent, IsContentOf, IsNoHead, block_item, effect_content, template_content, is_head}
+use Rattle.live_cmd.specs.Grammar.{Row, row, Said, Writes, effect, template, close}
 use Rattle.live_cmd.specs.Places.{fits, kind_of}
 use Rattle.live_cmd.specs.Judging.{Sayings}
 use Rattle.live_cmd.specs.Items.{Say}
@@ -46,6 +48,8 @@ with_last x (z ∷ zs) = let rest = with_last z zs in (x ∷ rest.0, rest.1, let
 
 content_of : (r : Row) (a : Args (row r).1) (ls : List NumberedLine) (c d : Content) → IsContentOf r a ls c → IsContentOf r a ls d → c ≡ d
 content_of effect a ls c d h k = h.2 ∙ ap (λ (x : Answer). effect_content a.0 a.1.0 x) (one_answer ls h.0 k.0 h.1 k.1) ∙ sym k.2
+content_of template a ls c d h k =
+    h.2 ∙ ap (λ (x : templates.Answer). template_content a.0 x) (template_laws.one_answer ls h.0 k.0 h.1 k.1) ∙ sym k.2
 content_of _ a ls c d h k = absurd h
 
 -- lines come to one thing behind what a line says
@@ -58,6 +62,7 @@ one_content bytes x y ls ms c d v w e h k =
 
 pub some_content : (r : Row) (a : Args (row r).1) (ls : List NumberedLine) → is_head r ≡ true → (c : Content) × IsContentOf r a ls c
 some_content effect a ls h = let x = some_answer ls in (effect_content a.0 a.1.0 x.0, (x.0, x.1, refl))
+some_content template a ls h = let x = template_laws.some_answer ls in (template_content a.0 x.0, (x.0, x.1, refl))
 some_content _ a ls h = absurd cc
 
 -- ---- its last line
@@ -109,6 +114,7 @@ head_or_none bytes = elim (line_or_none bytes) [
 
 head_misfits : (r : Row) (a : Args (row r).1) → is_head r ≡ true → fits place.First (kind_of (r, a)) ≡ false
 head_misfits effect a h = refl
+head_misfits template a h = refl
 head_misfits _ a h = absurd cc
 
 says_at : (l : NumberedLine) (ls : List NumberedLine) (x : Said) (xs : Sayings) → Writes x l.1 → is_head x.0 ≡ true → Say place.First (l ∷ ls) xs → ⊥

@@ -45,7 +45,7 @@ part_judged (perhaps w o) v = nothing
 part_judged (many o) vs = list_judged o vs
 part_judged (listed o) vs = list_judged o vs
 part_judged arguments ns = either _ _ _ sources nothing
-part_judged (formula k) f = either _ _ _ untrack (either _ _ _ it_here (either _ _ _ nest (either _ _ _ long (either _ _ _ sources nothing))))
+part_judged formula f = either _ _ _ untrack (either _ _ _ it_here (either _ _ _ nest (either _ _ _ long (either _ _ _ sources nothing))))
 
 line_judged : (ps : Form) (a : Args ps) → IsJudged (fault_along tracked ps a)
 line_judged [] a = nothing

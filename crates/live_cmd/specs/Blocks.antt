@@ -5,35 +5,62 @@ use Rattle.line_forms.specs.Forms.{Args}
 use Rattle.body_text.specs.declared.fault.BodyWhy.{BodyWhy}
 use Rattle.body_text.specs.declared.fault.BodyWhy.TheVariants as why
 use Rattle.body_text.specs.Readings.{Answer, IsRead}
-use Rattle.live_cmd.specs.declared.block.Content.{Content}
-use Rattle.live_cmd.specs.declared.block.Content.TheVariants as content
+use Rattle.tpl_syntax.specs.declared.fault.TemplateWhy.{TemplateWhy}
+use Rattle.tpl_syntax.specs.declared.fault.TemplateWhy.TheVariants as unread
+use Rattle.tpl_syntax.specs.Templates as templates
+use Rattle.live_cmd.specs.declared.contents.Content.{Content}
+use Rattle.live_cmd.specs.declared.contents.Content.TheVariants as content
+use Rattle.live_cmd.specs.declared.contents.Head.{Head}
+use Rattle.live_cmd.specs.declared.contents.Head.TheVariants as heads
 use Rattle.live_cmd.specs.declared.command.Command.TheVariants as command
 use Rattle.live_cmd.specs.declared.command.Item.{Item}
 use Rattle.live_cmd.specs.declared.command.Item.TheVariants as item
-use Rattle.live_cmd.specs.declared.refusal.LimitWord.TheVariants as limit
-use Rattle.live_cmd.specs.declared.refusal.Refusal.TheVariants as refusal
-use Rattle.live_cmd.specs.Grammar.{Row, row, Said, Writes, effect, close}
+use Rattle.live_entries.specs.declared.refusal.LimitWord.TheVariants as limit
+use Rattle.live_entries.specs.declared.refusal.Refusal.TheVariants as refusal
+use Rattle.live_cmd.specs.Grammar.{Row, row, Said, Writes, effect, template, close}
 
--- what lines are that are no body, at a line of this number; a formula that speaks of a row isn't in the grammar, and memory never is a
--- cause of what lines are
-abbrev pub content_refused : ℕ → BodyWhy → Content
-content_refused k why.Syntax = content.Faulty k
-content_refused k why.ItHere = content.Refused (refusal.Syntax k)
-content_refused k why.Nest = content.Refused (refusal.Nest k)
-content_refused k why.Text = content.Refused (refusal.Limit limit.Text)
-content_refused k why.Sources = content.Refused (refusal.Limit limit.Sources)
-content_refused k why.Lines = content.Refused (refusal.Limit limit.Body)
-content_refused k (why.NoMemory e) = content.Faulty k
+-- what lines are that are no body, at a line of this number; memory never is a cause of what lines are
+abbrev pub body_refused : ℕ → BodyWhy → Content
+body_refused k why.Syntax = content.Faulty k
+body_refused k why.ItHere = content.Refused (refusal.ItHere k)
+body_refused k why.Nest = content.Refused (refusal.Nest k)
+body_refused k why.Text = content.Refused (refusal.Limit limit.Text)
+body_refused k why.Sources = content.Refused (refusal.Limit limit.Sources)
+body_refused k why.Lines = content.Refused (refusal.Limit limit.Body)
+body_refused k (why.NoMemory e) = content.Faulty k
+
+-- the same of lines that are no template
+abbrev pub template_refused : ℕ → TemplateWhy → Content
+template_refused k unread.Syntax = content.Faulty k
+template_refused k unread.UntrackHere = content.Refused (refusal.UntrackHere k)
+template_refused k unread.ItHere = content.Refused (refusal.ItHere k)
+template_refused k unread.VoidChild = content.Refused (refusal.VoidChild k)
+template_refused k unread.RawText = content.Refused (refusal.RawText k)
+template_refused k unread.Nest = content.Refused (refusal.Nest k)
+template_refused k unread.Text = content.Refused (refusal.Limit limit.Text)
+template_refused k unread.Sources = content.Refused (refusal.Limit limit.Sources)
+template_refused k unread.Lines = content.Refused (refusal.Limit limit.Template)
+template_refused k (unread.NoMemory e) = content.Faulty k
 
 -- whether memory is the cause
 abbrev pub is_memory : BodyWhy → Bool
 is_memory (why.NoMemory e) = true
 is_memory _ = false
 
+-- so it is with a template
+abbrev pub is_want : TemplateWhy → Bool
+is_want (unread.NoMemory e) = true
+is_want _ = false
+
 -- what the body of an effect is, which has this name and stands inside this owner
 abbrev pub effect_content : List ℕ → Option (List ℕ) → Answer → Content
 effect_content n o (Ok b) = content.Makes (command.Effect n b o)
-effect_content n o (Err f) = content_refused f.at f.why
+effect_content n o (Err f) = body_refused f.at f.why
+
+-- what the lines of a template are, which has this name
+abbrev pub template_content : List ℕ → templates.Answer → Content
+template_content n (Ok t) = content.Makes (command.Template n t)
+template_content n (Err f) = template_refused f.at f.why
 
 -- what a block is whose last line has this number and is an `end`, or isn't: of the lines that aren't in the grammar or may not stand
 -- there the first counts, and they come before all other causes
@@ -47,7 +74,13 @@ block_item false n (content.Makes c) = item.Refused (refusal.Syntax n)
 -- whether the lines behind such a line have a grammar of their own
 abbrev pub is_head : Row → Bool
 is_head effect = true
+is_head template = true
 is_head _ = false
+
+-- what the first line of a block says
+abbrev pub said_head : Head → Said
+said_head (heads.Effect n o) = (effect, (n, (o, tt)))
+said_head (heads.Template n) = (template, (n, tt))
 
 -- bytes write nothing that begins such a block
 abbrev pub IsNoHead : List ℕ → Type 0
@@ -56,6 +89,7 @@ IsNoHead bytes = (x : Said) → Writes x bytes → is_head x.0 ≡ true → ⊥
 -- these lines, behind a first line of this row, come to this
 abbrev pub IsContentOf : (r : Row) → Args (row r).1 → List NumberedLine → Content → Type 0
 IsContentOf effect a ls c = (x : Answer) × IsRead ls x × (c ≡ effect_content a.0 a.1.0 x)
+IsContentOf template a ls c = (x : templates.Answer) × templates.IsRead ls x × (c ≡ template_content a.0 x)
 IsContentOf _ a ls c = ⊥
 
 -- the same behind a first line that says this

@@ -1,12 +1,15 @@
 -- The lines of the language: which bytes write each, and what it gives.
-use Rattle.std.specs.Prelude.{ℕ, List, [], ◌∷◌, codes, Some, None}
+use Rattle.std.specs.Prelude.{ℕ, Bool, ◌&&◌, not, List, [], ◌∷◌, codes, Some, None}
+use Rattle.std.specs.List.{list_all}
+use Rattle.std.specs.Str.{bytes_eq}
 use Rattle.sig_words.specs.Lexemes.{symbol, word}
 use Rattle.formula_text.specs.Wiring.{wired}
 use Rattle.line_forms.specs.Blocks as blocks
-use Rattle.line_forms.specs.Forms.{Piece, part, fixed, one, perhaps, many, arguments, formula, plain, name, value, count}
+use Rattle.line_forms.specs.Forms.{Piece, part, fixed, one, perhaps, many, listed, arguments, formula, name, value, key, count, are_distinct}
 use Rattle.line_forms.specs.Rows as grammar
 use Rattle.line_forms.specs.Told.{Made, made}
 use Rattle.live_cmd.specs.declared.command.Command.TheVariants as command
+use Rattle.live_cmd.specs.declared.command.RowEdit.TheVariants as edit
 use Rattle.live_cmd.specs.declared.command.SourceText.TheVariants as source
 use Rattle.live_cmd.specs.declared.command.Try.TheVariants as tried
 use Rattle.live_cmd.specs.declared.command.Verb.{Verb}
@@ -20,6 +23,12 @@ pub data Row : Type 0 where
   verb : Verb → Row
   cell : Row
   set : Row
+  -- a list, and the edits of its rows
+  list : Row
+  insert_row : Row
+  remove_row : Row
+  move_row : Row
+  put_field : Row
   -- a computed of a formula, and one of a host formula with its arguments
   computed : Row
   computed_host : Row
@@ -38,8 +47,15 @@ pub data Row : Type 0 where
   flush : Row
   effect : Row
   template : Row
-  text : Row
   close : Row
+
+-- whether a name can be that of a field: the key has another place
+abbrev pub is_field : List ℕ → Bool
+is_field n = not (bytes_eq n (codes "key"))
+
+-- whether names can be those of a list's fields: none of them stands there twice
+abbrev pub are_fields : List (List ℕ) → Bool
+are_fields ns = list_all is_field ns && are_distinct ns
 
 -- the word of a verb
 abbrev pub verb_word : Verb → List ℕ
@@ -47,6 +63,7 @@ verb_word verbs.Get = codes "get"
 verb_word verbs.State = codes "state"
 verb_word verbs.Sources = codes "sources"
 verb_word verbs.Show = codes "show"
+verb_word verbs.Scratch = codes "scratch"
 verb_word verbs.Dispose = codes "dispose"
 verb_word verbs.Pending = codes "pending"
 
@@ -58,13 +75,25 @@ N = part (one name)
 abbrev LIT : Piece
 LIT = part (one value)
 
--- a formula that doesn't speak of rows
+-- a formula
 abbrev FORMULA : Piece
-FORMULA = part (formula plain)
+FORMULA = part formula
 
 -- a number without sign
 abbrev K : Piece
 K = part (one count)
+
+-- the key of a row
+abbrev KEY : Piece
+KEY = part (one key)
+
+-- the names of fields in parentheses
+abbrev FIELDS : Piece
+FIELDS = part (listed name)
+
+-- values in parentheses
+abbrev VALUES : Piece
+VALUES = part (listed value)
 
 -- distinct names in parentheses
 abbrev ARGUMENTS : Piece
@@ -95,6 +124,11 @@ abbrev pub row : Row → grammar.Line
 row (verb v) = (verb_word v, N ∷ [])
 row cell = (codes "cell", N ∷ mark (codes "=") ∷ LIT ∷ equals_K ∷ in_O ∷ [])
 row set = (codes "set", N ∷ LIT ∷ [])
+row list = (codes "list", N ∷ FIELDS ∷ in_O ∷ [])
+row insert_row = (codes "insert", N ∷ K ∷ KEY ∷ VALUES ∷ [])
+row remove_row = (codes "remove", N ∷ KEY ∷ [])
+row move_row = (codes "move", N ∷ KEY ∷ K ∷ [])
+row put_field = (codes "put", N ∷ KEY ∷ N ∷ LIT ∷ [])
 row computed = (codes "computed", N ∷ mark (codes "=") ∷ FORMULA ∷ in_O ∷ [])
 row computed_host = (codes "computed", N ∷ mark (codes "=") ∷ says (codes "host") ∷ K ∷ ARGUMENTS ∷ in_O ∷ [])
 row rewire = (codes "rewire", N ∷ mark (codes "=") ∷ FORMULA ∷ [])
@@ -111,7 +145,6 @@ row mount = (codes "mount", N ∷ N ∷ in_O ∷ [])
 row flush = (codes "flush", [])
 row effect = (codes "effect", N ∷ in_O ∷ [])
 row template = (codes "template", N ∷ [])
-row text = (codes "text", FORMULA ∷ [])
 row close = (codes "end", [])
 
 -- the rows that begin with each word
@@ -121,10 +154,16 @@ table =
     ∷ (codes "state", verb verbs.State ∷ [])
     ∷ (codes "sources", verb verbs.Sources ∷ [])
     ∷ (codes "show", verb verbs.Show ∷ [])
+    ∷ (codes "scratch", verb verbs.Scratch ∷ [])
     ∷ (codes "dispose", verb verbs.Dispose ∷ [])
     ∷ (codes "pending", verb verbs.Pending ∷ [])
     ∷ (codes "cell", cell ∷ [])
     ∷ (codes "set", set ∷ [])
+    ∷ (codes "list", list ∷ [])
+    ∷ (codes "insert", insert_row ∷ [])
+    ∷ (codes "remove", remove_row ∷ [])
+    ∷ (codes "move", move_row ∷ [])
+    ∷ (codes "put", put_field ∷ [])
     ∷ (codes "computed", computed_host ∷ computed ∷ [])
     ∷ (codes "rewire", rewire_host ∷ rewire ∷ [])
     ∷ (codes "owner", owner ∷ [])
@@ -135,7 +174,6 @@ table =
     ∷ (codes "flush", flush ∷ [])
     ∷ (codes "effect", effect ∷ [])
     ∷ (codes "template", template ∷ [])
-    ∷ (codes "text", text ∷ [])
     ∷ (codes "end", close ∷ [])
     ∷ []
 
@@ -144,6 +182,11 @@ abbrev pub line_makes : (r : Row) → Made (row r).1 Line
 line_makes (verb v) = λ n. line.Alone (command.Named v n)
 line_makes cell = λ n v k o. line.Alone (command.Cell n v k o)
 line_makes set = λ n v. line.Alone (command.Set n v)
+line_makes list = λ n fs o. line.Alone (command.List n fs o)
+line_makes insert_row = λ n p k vs. line.Alone (command.Edit n (edit.Insert p k vs))
+line_makes remove_row = λ n k. line.Alone (command.Edit n (edit.Remove k))
+line_makes move_row = λ n k p. line.Alone (command.Edit n (edit.Move k p))
+line_makes put_field = λ n k f v. line.Alone (command.Edit n (edit.Put k f v))
 line_makes computed = λ n f o. line.Alone (command.Computed n (source.Formula (wired f)) o)
 line_makes computed_host = λ n k ns o. line.Alone (command.Computed n (source.Host k ns) o)
 line_makes rewire = λ n f. line.Alone (command.Rewire n (source.Formula (wired f)))
@@ -160,7 +203,6 @@ line_makes mount = λ n t o. line.Alone (command.Mount n t o)
 line_makes flush = line.Alone command.Flush
 line_makes effect = λ n o. line.Effect n o
 line_makes template = λ n. line.Template n
-line_makes text = λ f. line.Text (wired f)
 line_makes close = line.End
 
 -- what a line says by itself; its texts may be of any length, and its formulas of any height

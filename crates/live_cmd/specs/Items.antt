@@ -1,8 +1,7 @@
 -- What the pieces of a script are: commands, or refused.
-use Rattle.std.specs.Prelude.{◌≡◌, ℕ, nat_lt, Bool, true, false, List, [], ◌∷◌, length, map, Option, Some, None, option_map, drop}
+use Rattle.std.specs.Prelude.{◌≡◌, ℕ, nat_lt, Bool, true, false, List, [], ◌∷◌, length, map, Option, Some, None, drop, if◌then◌else◌}
 use Rattle.std.specs.List.{list_any}
-use Rattle.sig_base.specs.declared.limits.TheConstants.{MOST_LINE}
-use Rattle.formula_text.specs.Wiring.{Wiring}
+use Rattle.sig_base.specs.declared.limits.TheConstants.{MOST_FIELDS, MOST_LINE}
 use Rattle.line_forms.specs.Blocks as blocks
 use Rattle.script_lines.specs.Lines.{NumberedLine}
 use Rattle.script_lines.specs.Pieces.{Piece, pieces_of}
@@ -14,12 +13,12 @@ use Rattle.live_cmd.specs.declared.command.Item.{Item}
 use Rattle.live_cmd.specs.declared.command.Item.TheVariants as item
 use Rattle.live_cmd.specs.declared.place.Place.{Place}
 use Rattle.live_cmd.specs.declared.place.Place.TheVariants as place
-use Rattle.live_cmd.specs.declared.refusal.LimitWord.TheVariants as limit
-use Rattle.live_cmd.specs.declared.refusal.Refusal.{Refusal}
-use Rattle.live_cmd.specs.declared.refusal.Refusal.TheVariants as refusal
+use Rattle.live_entries.specs.declared.refusal.LimitWord.TheVariants as limit
+use Rattle.live_entries.specs.declared.refusal.Refusal.{Refusal}
+use Rattle.live_entries.specs.declared.refusal.Refusal.TheVariants as refusal
 use Rattle.live_cmd.specs.Grammar.{Row, row, line_of}
 use Rattle.live_cmd.specs.Places.{places}
-use Rattle.live_cmd.specs.declared.block.Content.{Content}
+use Rattle.live_cmd.specs.declared.contents.Content.{Content}
 use Rattle.live_cmd.specs.Blocks.{Block, IsContent, block_item}
 use Rattle.live_cmd.specs.Judging.{Sayings, faults_of, refusal_of}
 
@@ -40,22 +39,24 @@ first_number (l ∷ ls) = l.0
 abbrev pub any_long : List NumberedLine → Bool
 any_long ls = list_any (λ l. nat_lt MOST_LINE (length l.1)) ls
 
--- the formulas of a template's texts, up to its end
-abbrev pub texts_of : List Line → Option (List Wiring)
-texts_of (line.Text w ∷ xs) = option_map (λ ws. w ∷ ws) (texts_of xs)
-texts_of (line.End ∷ []) = Some []
-texts_of _ = None
-
 -- the command that lines are
 abbrev pub command_of : List Line → Option Command
 command_of (line.Alone c ∷ []) = Some c
-command_of (line.Template n ∷ xs) = option_map (λ texts. command.Template n texts) (texts_of xs)
 command_of _ = None
+
+-- whether a command makes a list of more than `MOST_FIELDS` fields
+abbrev pub has_many_fields : Command → Bool
+has_many_fields (command.List n fs o) = nat_lt MOST_FIELDS (length fs)
+has_many_fields _ = false
+
+-- a command that has too many fields is refused for that; nothing else can be wrong with its line
+abbrev pub item_made : Command → Item
+item_made c = if has_many_fields c then item.Refused (refusal.Limit limit.Fields) else item.Do c
 
 -- lines that are no command are refused at the first
 abbrev pub item_or : ℕ → Option Command → Item
 item_or k None = item.Refused (refusal.Syntax k)
-item_or k (Some c) = item.Do c
+item_or k (Some c) = item_made c
 
 -- what lines are where nothing is refused of them
 abbrev pub unless_refused : Option Refusal → Item → Item

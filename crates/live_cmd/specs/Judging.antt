@@ -1,21 +1,20 @@
 -- What is refused of lines that say something.
-use Rattle.std.specs.Prelude.{ℕ, ◌+◌, nat_lt, false, if◌then◌else◌, List, [], ◌∷◌, length, map, Option, Some, None}
+use Rattle.std.specs.Prelude.{ℕ, false, List, [], ◌∷◌, map, Option, Some, None}
 use Rattle.std.specs.Option.{option_or}
-use Rattle.sig_base.specs.declared.limits.TheConstants.{MOST_TEMPLATE_LINES}
 use Rattle.formula_text.specs.declared.wired.Allow.{Allow}
 use Rattle.formula_text.specs.declared.wired.FormulaFault.{FormulaFault}
 use Rattle.formula_text.specs.declared.wired.FormulaFault.TheVariants as fault
 use Rattle.line_forms.specs.Told.{fault_along}
-use Rattle.live_cmd.specs.declared.refusal.LimitWord.TheVariants as limit
-use Rattle.live_cmd.specs.declared.refusal.Refusal.{Refusal}
-use Rattle.live_cmd.specs.declared.refusal.Refusal.TheVariants as refusal
+use Rattle.live_entries.specs.declared.refusal.LimitWord.TheVariants as limit
+use Rattle.live_entries.specs.declared.refusal.Refusal.{Refusal}
+use Rattle.live_entries.specs.declared.refusal.Refusal.TheVariants as refusal
 use Rattle.live_cmd.specs.Grammar.{Said, row}
 
 -- what lines say, each with its number
 abbrev pub Sayings : Type 0
 Sayings = List (ℕ × Said)
 
--- in the formulas of computeds and of templates there is no row, and every read is tracked
+-- in the formulas of computeds there is no row, and every read is tracked
 abbrev pub tracked : Allow
 tracked = record { row = false; untrack = false }
 
@@ -36,8 +35,7 @@ faults_of xs = map (λ x. (x.0, fault_of x.1)) xs
 abbrev pub misplacing : ℕ → Option FormulaFault → Option Refusal
 misplacing k (Some fault.UntrackHere) = Some (refusal.UntrackHere k)
 misplacing k (Some fault.Nest) = Some (refusal.Nest k)
--- a formula that speaks of a row isn't in the grammar
-misplacing k (Some fault.ItHere) = Some (refusal.Syntax k)
+misplacing k (Some fault.ItHere) = Some (refusal.ItHere k)
 misplacing k _ = None
 
 -- a line that has too much of something
@@ -56,11 +54,7 @@ abbrev pub first_excess : Faults → Option Refusal
 first_excess [] = None
 first_excess (x ∷ xs) = option_or (excess x.1) (first_excess xs)
 
--- a template has at most `MOST_TEMPLATE_LINES` lines between its first and its `end`
-abbrev pub many_lines : Faults → Option Refusal
-many_lines xs = if nat_lt (MOST_TEMPLATE_LINES + 2) (length xs) then Some (refusal.Limit limit.Template) else None
-
 -- What the lines of a command are refused for: first what may not stand where it does, at the first such line, then too much of
--- something, at the first such line, then too many lines.
+-- something, at the first such line.
 abbrev pub refusal_of : Faults → Option Refusal
-refusal_of xs = option_or (first_misplaced xs) (option_or (first_excess xs) (many_lines xs))
+refusal_of xs = option_or (first_misplaced xs) (first_excess xs)

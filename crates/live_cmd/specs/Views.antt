@@ -13,6 +13,8 @@ use Rattle.live_cmd.specs.Items.{command_of, item_or, unless_refused, IsFaulty}
 use Rattle.live_cmd.specs.declared.command.Item.{Item}
 use Rattle.live_cmd.specs.declared.line.Line.{Line}
 use Rattle.live_cmd.specs.declared.line.Line.TheVariants as line
+use Rattle.live_cmd.specs.declared.contents.Head.{Head}
+use Rattle.live_cmd.specs.declared.contents.Head.TheVariants as heads
 use Rattle.live_cmd.specs.declared.line.Found.{Found}
 use Rattle.live_cmd.specs.declared.judge.ReadLine.{ReadLine}
 use Rattle.live_cmd.specs.declared.item.Reading.{Reading}
@@ -28,13 +30,14 @@ told x = unless_faulty (fault_of x) (line_of x)
 abbrev pub found_of : Said → Found
 found_of x = record { kind = kind_of x; line = told x }
 
--- the name of an effect and its owner, where a line says them
-abbrev pub head_of : Line → Option (List ℕ × Option (List ℕ))
-head_of (line.Effect n o) = Some (n, o)
+-- the first line of a block, where a line is one
+abbrev pub head_of : Line → Option Head
+head_of (line.Effect n o) = Some (heads.Effect n o)
+head_of (line.Template n) = Some (heads.Template n)
 head_of _ = None
 
 -- so it is with a line that was read
-abbrev pub head_told : Result Line FormulaFault → Option (List ℕ × Option (List ℕ))
+abbrev pub head_told : Result Line FormulaFault → Option Head
 head_told (Ok l) = head_of l
 head_told (Err f) = None
 

@@ -8,22 +8,23 @@ use Rattle.script_lines.specs.Lines.{NumberedLine, numbered}
 use Rattle.sig_untrack.specs.Stated.{Bodies}
 use Rattle.body_text.specs.Statements.{lines_of}
 use Rattle.body_text.specs.Writing as body
+use Rattle.tpl_syntax.specs.Lines.{Plan}
+use Rattle.tpl_syntax.specs.Writing as template_text
 use Rattle.live_cmd.specs.declared.command.Command.{Command}
 use Rattle.live_cmd.specs.declared.command.Command.TheVariants as command
+use Rattle.live_cmd.specs.declared.command.RowEdit.{RowEdit}
+use Rattle.live_cmd.specs.declared.command.RowEdit.TheVariants as edit
 use Rattle.live_cmd.specs.declared.command.SourceText.TheVariants as source
 use Rattle.live_cmd.specs.declared.command.Try.{Try}
 use Rattle.live_cmd.specs.declared.command.Try.TheVariants as tried
 use Rattle.live_cmd.specs.declared.command.SourceText.{SourceText}
-use Rattle.live_cmd.specs.Grammar.{Row, row, Said, verb, cell, set, computed, computed_host, rewire, rewire_host, owner, watcher, tries_get}
-use Rattle.live_cmd.specs.Grammar.{tries_set, tries_watch, tries_unwatch, watch, unwatch, mount, flush, effect, template, text, close}
+use Rattle.live_cmd.specs.Grammar.{Row, row, Said, verb, cell, set, list, insert_row, remove_row, move_row, put_field, computed, computed_host}
+use Rattle.live_cmd.specs.Grammar.{rewire, rewire_host, owner, watcher, tries_get, tries_set, tries_watch, tries_unwatch, watch, unwatch, mount}
+use Rattle.live_cmd.specs.Grammar.{flush, effect, template, close}
 
 -- the formula with names in place of its slots
 abbrev pub draft_of : Wiring → Draft
 draft_of w = unslotted w.1 w.0
-
--- what the line of a text says
-abbrev pub text_line : Wiring → Said
-text_line w = (text, (draft_of w, tt))
 
 -- what the line of a computed says that stands inside an owner, or outside of any
 abbrev pub computed_line : List ℕ → SourceText → Option (List ℕ) → Said
@@ -43,10 +44,19 @@ watcher_line w (Some (tried.Set n v)) = (tries_set, (w, (n, (v, tt))))
 watcher_line w (Some (tried.Watch n ns)) = (tries_watch, (w, (n, (ns, tt))))
 watcher_line w (Some (tried.Unwatch n m)) = (tries_unwatch, (w, (n, (m, tt))))
 
--- what the lines of a command say, those of a body aside
+-- what the line of an edit says
+abbrev pub edit_line : List ℕ → RowEdit → Said
+edit_line n (edit.Insert p k vs) = (insert_row, (n, (p, (k, (vs, tt)))))
+edit_line n (edit.Remove k) = (remove_row, (n, (k, tt)))
+edit_line n (edit.Move k p) = (move_row, (n, (k, (p, tt))))
+edit_line n (edit.Put k f v) = (put_field, (n, (k, (f, (v, tt)))))
+
+-- what the lines of a command say, those inside a block aside
 abbrev pub said_by : Command → List Said
 said_by (command.Named v n) = (verb v, (n, tt)) ∷ []
 said_by (command.Cell n v k o) = (cell, (n, (v, (k, (o, tt))))) ∷ []
+said_by (command.List n fs o) = (list, (n, (fs, (o, tt)))) ∷ []
+said_by (command.Edit n e) = edit_line n e ∷ []
 said_by (command.Set n v) = (set, (n, (v, tt))) ∷ []
 said_by (command.Computed n s o) = computed_line n s o ∷ []
 said_by (command.Rewire n s) = rewire_line n s ∷ []
@@ -57,7 +67,7 @@ said_by (command.Unwatch w n) = (unwatch, (w, (n, tt))) ∷ []
 said_by (command.Mount n t o) = (mount, (n, (t, (o, tt)))) ∷ []
 said_by command.Flush = (flush, tt) ∷ []
 said_by (command.Effect n b o) = (effect, (n, (o, tt))) ∷ (close, tt) ∷ []
-said_by (command.Template n texts) = (template, (n, tt)) ∷ (map text_line texts ++ (close, tt) ∷ [])
+said_by (command.Template n t) = (template, (n, tt)) ∷ (close, tt) ∷ []
 
 -- the bytes of a line
 abbrev pub bytes_of : Said → List ℕ
@@ -71,14 +81,20 @@ ended_line x = bytes_of x ++ codes "\n"
 abbrev pub body_lines : Bodies → List (List ℕ)
 body_lines b = map (λ l. body.bytes_of (body.said_of l)) (lines_of (body.meaning b))
 
+-- the bytes of a template's lines
+abbrev pub template_lines : Plan → List (List ℕ)
+template_lines t = map template_text.bytes_of (template_text.said_by t)
+
 -- the text of a command
 abbrev pub command_text : Command → List ℕ
 command_text (command.Effect n b o) = ended_line (effect, (n, (o, tt))) ++ (body.body_text b ++ ended_line (close, tt))
+command_text (command.Template n t) = ended_line (template, (n, tt)) ++ (template_text.plan_text t ++ ended_line (close, tt))
 command_text c = flat_map ended_line (said_by c)
 
 -- the bytes of its lines
 abbrev pub lines_by : Command → List (List ℕ)
 lines_by (command.Effect n b o) = bytes_of (effect, (n, (o, tt))) ∷ (body_lines b ++ bytes_of (close, tt) ∷ [])
+lines_by (command.Template n t) = bytes_of (template, (n, tt)) ∷ (template_lines t ++ bytes_of (close, tt) ∷ [])
 lines_by c = map bytes_of (said_by c)
 
 -- its lines, of which the first has this number

@@ -3,54 +3,13 @@ ghost use Rattle.std.specs.Prelude.{◌≡◌};
 ghost use Rattle.live_cmd.specs.Grammar.{verb_word};
 ghost use Rattle.sig_untrack.specs.Stated.{before, no_bodies};
 
-use crate::Refusal;
 use formula_text::Wired;
 use line_forms::NameList;
-use sig_base::{Name, Scalar};
+use live_entries::Refusal;
+use sig_base::{Name, Scalar, Scalars, Text};
 use sig_untrack::Body;
 use std::marker::Model;
-
-/// A list of formulas.
-#[derive(Debug, Drop)]
-pub struct Formulas {
-    formulas: Vec<Wired>,
-}
-
-impl Model for Formulas {
-    ghost use Rattle.std.specs.Prelude.{List};
-    ghost use Rattle.std.specs.Coded.{codes};
-    ghost use Rattle.sig_formula.specs.Coding.{tree_code};
-    ghost use Rattle.formula_text.specs.Wiring.{Wiring};
-
-    ghost Value = { List Wiring };
-
-    ghost coded = { Prim.hlevel (codes, tree_code) };
-
-    ghost view = { λ f. f.formulas.items };
-}
-
-impl Formulas {
-    /// These formulas in this order.
-    pub fn of(formulas: Vec<Wired>) -> Formulas
-        ensures { result ≡ formulas.items }
-    {
-        Formulas { formulas }
-    }
-
-    /// The formulas in their order.
-    pub fn as_slice(&self) -> &[Wired]
-        ensures { result.now ≡ self.now }
-    {
-        &self.formulas
-    }
-
-    /// The formulas in their order, given back.
-    pub fn into_vec(self) -> Vec<Wired>
-        ensures { result.items ≡ self }
-    {
-        self.formulas
-    }
-}
+use tpl_syntax::Template;
 
 /// The body of an effect with the names that stand in it: its statements, the names that they act on, the names in their formulas, the
 /// bodies of its nested effects, and its rewirings.
@@ -96,7 +55,7 @@ impl EffectBody {
 /// The verbs of the commands that are a verb and a name.
 #[derive(Clone, Copy, Debug, PartialEq, Eq)]
 pub enum Verb {
-    /// `get N` tells the outcome of a cell or a computed.
+    /// `get N` tells the outcome of a cell, a list or a computed.
     Get,
     /// `state N` tells whether a computed has to run, or something below it.
     State,
@@ -104,7 +63,9 @@ pub enum Verb {
     Sources,
     /// `show P` tells the HTML of a page as it was last brought up to date.
     Show,
-    /// `dispose N` takes a cell, a computed, a watcher, an owner, an effect or a page away.
+    /// `scratch P` tells the HTML of a page's template, evaluated from scratch, and leaves the page as it is.
+    Scratch,
+    /// `dispose N` takes a cell, a list, a computed, a watcher, an owner, an effect or a page away.
     Dispose,
     /// `pending W` tells the watched computeds that have to run, or something below them.
     Pending,
@@ -120,6 +81,7 @@ impl Verb {
             Verb::State => "state",
             Verb::Sources => "sources",
             Verb::Show => "show",
+            Verb::Scratch => "scratch",
             Verb::Dispose => "dispose",
             Verb::Pending => "pending",
         }
@@ -148,6 +110,27 @@ pub enum Try {
     Unwatch(Name, Name),
 }
 
+/// An edit of a list's rows. A place is counted from 0.
+#[derive(Debug, Drop)]
+pub enum RowEdit {
+    /// `insert N PLACE KEY (LIT, LIT)` puts a row so that it stands at a place.
+    Insert {
+        place: u64,
+        key: Text,
+        values: Scalars,
+    },
+    /// `remove N KEY` takes a row out.
+    Remove(Text),
+    /// `move N KEY PLACE` takes a row out and puts it so that it stands at a place.
+    Move(Text, u64),
+    /// `put N KEY FIELD LIT` gives a row another value in one field.
+    Put {
+        key: Text,
+        field: Name,
+        value: Scalar,
+    },
+}
+
 /// A command of a script. What is made `inside` an owner is disposed with it.
 #[derive(Debug, Drop)]
 pub enum Command {
@@ -157,6 +140,17 @@ pub enum Command {
         value: Scalar,
         equals: Option<u64>,
         inside: Option<Name>,
+    },
+    /// `list N (FIELD, FIELD) [in O]` makes a list without rows.
+    List {
+        name: Name,
+        fields: NameList,
+        inside: Option<Name>,
+    },
+    /// An edit of the rows of a list.
+    Edit {
+        name: Name,
+        edit: RowEdit,
     },
     /// `set N LIT` gives a cell another value.
     Set {
@@ -205,10 +199,10 @@ pub enum Command {
         body: EffectBody,
         inside: Option<Name>,
     },
-    /// `template T` to `end` makes a template that shows what these formulas come to, one after the other.
+    /// `template T` to `end` makes a template.
     Template {
         name: Name,
-        texts: Formulas,
+        template: Template,
     },
     /// `mount P T [in O]` makes a page from a template.
     Mount {

@@ -1,25 +1,24 @@
 // Reads the items of a script.
-ghost use Rattle.std.specs.Prelude.{◌≡◌, ◌∷◌, ◌+◌, ◌++◌, ◌-◌, ◌^◌, ◌<◌, ◌≤◌, [], false, length, drop, All, IfOk, IfSome, MatchOption, OnOk, IsTrue, map, nat_lt, option_map};
+ghost use Rattle.std.specs.Prelude.{◌≡◌, ◌∷◌, ◌+◌, ◌++◌, ◌-◌, ◌^◌, ◌<◌, ◌≤◌, [], length, drop, All, IfOk, IfSome, MatchOption, OnOk, IsTrue, map, nat_lt};
 ghost use Rattle.std.specs.List.{list_any};
 ghost use Rattle.script_lines.specs.Pieces.{pieces_of};
 ghost use Rattle.script_lines.specs.Views.{line_of, piece_of};
 ghost use Rattle.live_cmd.specs.declared.line.Line.TheVariants as given;
 ghost use Rattle.live_cmd.specs.Grammar.{Said, Writes};
 ghost use Rattle.live_cmd.specs.Places.{fits, kind_of};
-ghost use Rattle.live_cmd.specs.Items.{command_of, first_number, item_or, texts_of, Begins, IsItem};
+ghost use Rattle.live_cmd.specs.Items.{command_of, first_number, item_made, item_or, Begins, IsItem};
 ghost use Rattle.live_cmd.specs.Views.{found_of, item_read, sound_lines, with_line, IsReading};
 
 use crate::block::block_of;
-use crate::command::Formulas;
+use crate::fields::has_many_fields;
 use crate::judge::{ReadLine, refusal_of};
 use crate::line::Found;
-use crate::place::{Place, fits, moved};
+use crate::place::{Place, fits};
 use crate::reading::read_line;
-use crate::refusal::LimitWord;
-use crate::{Command, Item, Line, Refusal};
-use formula_text::Wired;
+use crate::{Command, Item, Line};
+use live_entries::{LimitWord, Refusal};
 use script_lines::{NumberedLine, Piece, next_piece};
-use sig_base::{MOST_LINE, Name, NoMemory};
+use sig_base::{MOST_LINE, NoMemory};
 use std::alloc::Global;
 
 /// What the lines of a command say, or the number of the first that says nothing which may stand there.
@@ -56,7 +55,7 @@ fn read_lines(alloc: Global, lines: &[NumberedLine]) -> Result<Reading, NoMemory
         let Some(found) = read_at(alloc, at, numbered.text)? else {
             return Ok(Reading::Faulty(numbered.number));
         };
-        at = moved(at, found.kind);
+        at = Place::Behind;
         said.push(ReadLine {
             number: numbered.number,
             line: found.line,
@@ -87,40 +86,6 @@ fn sound_lines(alloc: Global, lines: Vec<ReadLine>) -> Result<Vec<Line>, NoMemor
     Ok(out)
 }
 
-// The formulas of a template's texts, where these lines are texts up to its end.
-fn texts_of(alloc: Global, lines: Vec<Line>) -> Result<Option<Vec<Wired>>, NoMemory>
-    ensures { IfOk result (λ found. option_map (λ v. v.items) found ≡ texts_of lines.items) }
-{
-    let mut formulas = Vec::new(alloc);
-    let mut rest = lines.into_iter();
-    while let Some(line) = rest.next() {
-        match line {
-            Line::Text(formula) => formulas.push(formula)?,
-            Line::End => {
-                if rest.len() == 0 {
-                    return Ok(Some(formulas));
-                }
-                return Ok(None);
-            }
-            _ => return Ok(None),
-        }
-    }
-    Ok(None)
-}
-
-// The template of a name, where these lines are texts up to its end.
-fn template(alloc: Global, name: Name, lines: Vec<Line>) -> Result<Option<Command>, NoMemory>
-    ensures { IfOk result (λ found. found ≡ command_of (given.Template name ∷ lines.items)) }
-{
-    match texts_of(alloc, lines)? {
-        Some(formulas) => Ok(Some(Command::Template {
-            name,
-            texts: Formulas::of(formulas),
-        })),
-        None => Ok(None),
-    }
-}
-
 // The command of a line, where no other lines follow it.
 fn only(command: Command, rest: &[Line]) -> Option<Command>
     ensures { result ≡ command_of (given.Alone command ∷ rest.now) }
@@ -129,17 +94,16 @@ fn only(command: Command, rest: &[Line]) -> Option<Command>
 }
 
 // The command that lines are.
-fn command_of(alloc: Global, lines: Vec<Line>) -> Result<Option<Command>, NoMemory>
-    ensures { IfOk result (λ found. found ≡ command_of lines.items) }
+fn command_of(lines: Vec<Line>) -> Option<Command>
+    ensures { result ≡ command_of lines.items }
 {
     let mut rest = lines;
     if rest.is_empty() {
-        return Ok(None);
+        return None;
     }
     match rest.remove(0) {
-        Line::Template(name) => template(alloc, name, rest),
-        Line::Alone(command) => Ok(only(command, &rest)),
-        Line::Effect(..) | Line::Text(_) | Line::End => Ok(None),
+        Line::Alone(command) => only(command, &rest),
+        Line::Effect(..) | Line::Template(_) | Line::End => None,
     }
 }
 
@@ -157,12 +121,23 @@ fn any_long(lines: &[NumberedLine]) -> bool
     lines.iter().any(|line| MOST_LINE < line.text.len())
 }
 
+// A command, or that it has too many fields.
+fn item_made(command: Command) -> Item
+    ensures { result ≡ item_made command }
+{
+    if has_many_fields(&command) {
+        Item::Refused(Refusal::Limit(LimitWord::Fields))
+    } else {
+        Item::Do(command)
+    }
+}
+
 // What lines that say this are, of which the first has that number.
 fn item_or(number: u32, command: Option<Command>) -> Item
     ensures { result ≡ item_or number command }
 {
     match command {
-        Some(command) => Item::Do(command),
+        Some(command) => item_made(command),
         None => Item::Refused(Refusal::Syntax(number)),
     }
 }
@@ -175,7 +150,7 @@ fn judged(alloc: Global, number: u32, lines: Vec<ReadLine>) -> Result<Item, NoMe
         return Ok(Item::Refused(refusal));
     }
     let lines = sound_lines(alloc, lines)?;
-    Ok(item_or(number, command_of(alloc, lines)?))
+    Ok(item_or(number, command_of(lines)))
 }
 
 // What a piece of a script is.
@@ -204,9 +179,10 @@ fn item_of(alloc: Global, piece: &Piece) -> Result<Item, NoMemory>
 /// An item is a line or, from an `effect` or a `template` line to the `end` that closes it, a block. It is refused for the first of these
 /// causes: a line of more than `MOST_LINE` bytes; an end that is missing, as `Syntax` with the number of its first line; a line
 /// that isn't in the grammar or may not stand there, as `Syntax` with the number of the first such line; the first line with an
-/// `untrack` outside of an effect, a formula that is higher than `MOST_HEIGHT`, or what is nested more than `MOST_LEVELS` deep; the first
-/// line with a text of more than `MOST_TEXT` bytes, a formula of more than `MOST_SOURCES` names or a host formula of more arguments; the
-/// body of an effect of more than `MOST_BODY_LINES` lines, a template of more than `MOST_TEMPLATE_LINES`.
+/// `untrack` outside of an effect, an `it` where there is no row, a child that its element can't hold, a formula that is higher than
+/// `MOST_HEIGHT`, or what is nested more than its grammar allows; the first line with a text of more than `MOST_TEXT` bytes, a list of more
+/// than `MOST_FIELDS` fields, a formula of more than `MOST_SOURCES` names or a host formula of more arguments; the body of an effect of
+/// more than `MOST_BODY_LINES` lines, a template of more than `MOST_TEMPLATE_LINES`.
 /// `NoMemory` where the item finds no room.
 pub fn next_item(
     alloc: Global,

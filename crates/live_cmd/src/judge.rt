@@ -1,12 +1,11 @@
 // What the lines of a command are refused for.
 ghost use Rattle.std.specs.Prelude.{◌≡◌, ◌∷◌, [], MatchOption};
-ghost use Rattle.live_cmd.specs.Judging.{excess, first_excess, first_misplaced, many_lines, misplacing, refusal_of};
+ghost use Rattle.live_cmd.specs.Judging.{excess, first_excess, first_misplaced, misplacing, refusal_of};
 ghost use Rattle.live_cmd.specs.Views.{fault_read, faults_read};
 
-use crate::refusal::LimitWord;
-use crate::{Line, Refusal};
+use crate::Line;
 use formula_text::FormulaFault;
-use sig_base::MOST_TEMPLATE_LINES;
+use live_entries::{LimitWord, Refusal};
 
 /// A line of a command that was read, or what is wrong with it, and its number.
 #[derive(Debug, Drop)]
@@ -32,7 +31,7 @@ fn misplacing(number: u32, fault: Option<FormulaFault>) -> Option<Refusal>
     match fault {
         Some(FormulaFault::UntrackHere) => Some(Refusal::UntrackHere(number)),
         Some(FormulaFault::Nest) => Some(Refusal::Nest(number)),
-        Some(FormulaFault::ItHere) => Some(Refusal::Syntax(number)),
+        Some(FormulaFault::ItHere) => Some(Refusal::ItHere(number)),
         _ => None,
     }
 }
@@ -85,26 +84,13 @@ fn first_excess(lines: &[ReadLine]) -> Option<Refusal>
     None
 }
 
-fn many_lines(lines: &[ReadLine]) -> Option<Refusal>
-    ensures { result ≡ many_lines (faults_read lines.now) }
-{
-    if MOST_TEMPLATE_LINES + 2 < lines.len() {
-        Some(Refusal::Limit(LimitWord::Template))
-    } else {
-        None
-    }
-}
-
 /// What the lines of a command are refused for: what may not stand where it does, at the first such line, then too much of
-/// something, at the first such line, then too many lines.
+/// something, at the first such line.
 pub fn refusal_of(lines: &[ReadLine]) -> Option<Refusal>
     ensures { result ≡ refusal_of (faults_read lines.now) }
 {
     if let Some(refusal) = first_misplaced(lines) {
         return Some(refusal);
     }
-    if let Some(refusal) = first_excess(lines) {
-        return Some(refusal);
-    }
-    many_lines(lines)
+    first_excess(lines)
 }

@@ -3,7 +3,7 @@ ghost use Rattle.std.specs.Prelude.{◌≡◌, Ok, Err};
 ghost use Rattle.live_cmd.specs.declared.line.Line.TheVariants as given;
 
 use crate::Command;
-use formula_text::{FormulaFault, Wired};
+use formula_text::FormulaFault;
 use sig_base::Name;
 
 /// What a line says, by itself: where it may stand is another matter.
@@ -15,8 +15,6 @@ pub enum Line {
     Effect(Name, Option<Name>),
     /// `template T`, the first line of a block
     Template(Name),
-    /// `text FORMULA`, in a template
-    Text(Wired),
     /// `end`, the last line of a block
     End,
 }
@@ -26,14 +24,8 @@ pub enum Line {
 pub enum LineKind {
     /// A command by itself.
     Alone,
-    /// The first line of an effect.
-    Effect,
-    /// The first line of a template.
-    Template,
-    /// A text of a template.
-    Text,
-    /// The end of a block.
-    End,
+    /// What is no command by itself: the first line or the last of a block, or one that names fields which no list can have.
+    Astray,
 }
 
 /// What a line says: what it is for its place, and the line, or what is wrong with it.

@@ -10,17 +10,18 @@ ghost use Rattle.live_cmd.specs.Views.{found_as, found_first, found_of};
 
 use crate::inside::inside_at;
 use crate::line::{Found, LineKind, alone, faulty, sound};
+use crate::row_lines::{insert, list, move_row, put_field, remove};
 use crate::sources::{any_computed, any_rewire};
 use crate::watching::{any_watcher, unwatch, watch};
 use crate::{Command, Line, Verb};
 use formula_text::Allow;
-use line_forms::{count_behind, ends_at, formula_at, name_at, symbol_at, value_at};
+use line_forms::{count_behind, ends_at, name_at, symbol_at, value_at};
 use sig_base::{MOST_LINE, NoMemory};
 use sig_words::{LineFault, Token, TokenKind, token_bytes, tokens};
 use std::alloc::Global;
 use std::str;
 
-/// In the formulas of computeds and of templates there is no row, and every read is tracked.
+/// In the formulas of computeds there is no row, and every read is tracked.
 pub const TRACKED: Allow = Allow {
     row: false,
     untrack: false,
@@ -167,7 +168,7 @@ fn effect(alloc: Global, line: &[u8], tokens: &[Token]) -> Result<Option<Found>,
     if !ends_at(tokens, at) {
         return Ok(None);
     }
-    Ok(Some(sound(LineKind::Effect, Line::Effect(name, inside))))
+    Ok(Some(sound(LineKind::Astray, Line::Effect(name, inside))))
 }
 
 // `template T`
@@ -181,25 +182,7 @@ fn template(alloc: Global, line: &[u8], tokens: &[Token]) -> Result<Option<Found
     if !ends_at(tokens, at) {
         return Ok(None);
     }
-    Ok(Some(sound(LineKind::Template, Line::Template(name))))
-}
-
-// `text FORMULA`
-fn text(alloc: Global, line: &[u8], tokens: &[Token]) -> Result<Option<Found>, NoMemory>
-    requires { AreTokens line.now tokens.now }
-    ensures { IfOk result (λ found. found ≡ found_as rows.text (ahead line.now tokens.now 1)) }
-{
-    let at = 1;
-    let Some((formula, at)) = formula_at(alloc, line, tokens, at, TRACKED)? else {
-        return Ok(None);
-    };
-    if !ends_at(tokens, at) {
-        return Ok(None);
-    }
-    match formula {
-        Ok(formula) => Ok(Some(sound(LineKind::Text, Line::Text(formula)))),
-        Err(fault) => Ok(Some(faulty(LineKind::Text, fault))),
-    }
+    Ok(Some(sound(LineKind::Astray, Line::Template(name))))
 }
 
 // `end`
@@ -207,7 +190,7 @@ fn close(line: &[u8], tokens: &[Token]) -> Option<Found>
     ensures { result ≡ found_as rows.close (ahead line.now tokens.now 1) }
 {
     if ends_at(tokens, 1) {
-        Some(sound(LineKind::End, Line::End))
+        Some(sound(LineKind::Astray, Line::End))
     } else {
         None
     }
@@ -228,10 +211,16 @@ fn behind_word(
         "state" => named(alloc, line, tokens, Verb::State),
         "sources" => named(alloc, line, tokens, Verb::Sources),
         "show" => named(alloc, line, tokens, Verb::Show),
+        "scratch" => named(alloc, line, tokens, Verb::Scratch),
         "dispose" => named(alloc, line, tokens, Verb::Dispose),
         "pending" => named(alloc, line, tokens, Verb::Pending),
         "cell" => cell(alloc, line, tokens),
         "set" => set(alloc, line, tokens),
+        "list" => list(alloc, line, tokens),
+        "insert" => insert(alloc, line, tokens),
+        "remove" => remove(alloc, line, tokens),
+        "move" => move_row(alloc, line, tokens),
+        "put" => put_field(alloc, line, tokens),
         "computed" => any_computed(alloc, line, tokens),
         "rewire" => any_rewire(alloc, line, tokens),
         "owner" => owner(alloc, line, tokens),
@@ -242,7 +231,6 @@ fn behind_word(
         "flush" => Ok(flush(line, tokens)),
         "effect" => effect(alloc, line, tokens),
         "template" => template(alloc, line, tokens),
-        "text" => text(alloc, line, tokens),
         "end" => Ok(close(line, tokens)),
         _ => Ok(None),
     }

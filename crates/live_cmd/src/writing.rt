@@ -1,19 +1,21 @@
 // Writes commands.
-ghost use Rattle.std.specs.Prelude.{◌≡◌, ◌++◌, OnOk, flat_map};
+ghost use Rattle.std.specs.Prelude.{◌≡◌, ◌++◌, OnOk};
 ghost use Rattle.live_cmd.specs.declared.command.Command.TheVariants as command;
 ghost use Rattle.live_cmd.specs.Grammar as rows;
-ghost use Rattle.live_cmd.specs.Writing.{command_text, ended_line, text_line};
+ghost use Rattle.live_cmd.specs.Writing.{command_text, ended_line};
 ghost use Rattle.body_text.specs.Writing.{body_text};
+ghost use Rattle.tpl_syntax.specs.Writing.{plan_text};
 
-use crate::command::{EffectBody, Formulas};
+use crate::command::EffectBody;
 use crate::inside::put_inside;
+use crate::writing_rows::{put_edit, put_list};
 use crate::writing_sources::{put_computed, put_rewire};
 use crate::writing_watchers::{put_unwatch, put_watch, put_watcher};
 use crate::{Command, Verb};
 use body_text::put_body;
-use formula_text::Wired;
-use line_forms::{put_count_behind, put_fixed, put_name, put_value, put_wired};
+use line_forms::{put_count_behind, put_fixed, put_name, put_value};
 use sig_base::{Name, NoMemory, Scalar};
+use tpl_syntax::Template;
 
 fn put_named(out: &mut Vec<u8>, verb: Verb, name: &Name) -> Result<(), NoMemory>
     ensures { OnOk result (out.new.items ≡ out.old.items ++ ended_line (rows.verb verb, (name.now, tt))) }
@@ -79,24 +81,6 @@ fn put_mount(
     Ok(())
 }
 
-fn put_text(out: &mut Vec<u8>, formula: &Wired) -> Result<(), NoMemory>
-    ensures { OnOk result (out.new.items ≡ out.old.items ++ ended_line (text_line formula.now)) }
-{
-    out.extend_from_slice(b"text")?;
-    put_wired(out, formula)?;
-    out.push(b'\n')?;
-    Ok(())
-}
-
-fn put_texts(out: &mut Vec<u8>, texts: &[Wired]) -> Result<(), NoMemory>
-    ensures { OnOk result (out.new.items ≡ out.old.items ++ flat_map (λ w. ended_line (text_line w)) texts.now) }
-{
-    for text in texts {
-        put_text(out, text)?;
-    }
-    Ok(())
-}
-
 fn put_title(out: &mut Vec<u8>, name: &Name) -> Result<(), NoMemory>
     ensures { OnOk result (out.new.items ≡ out.old.items ++ ended_line (rows.template, (name.now, tt))) }
 {
@@ -113,11 +97,19 @@ fn put_end(out: &mut Vec<u8>) -> Result<(), NoMemory>
     Ok(())
 }
 
-fn put_template(out: &mut Vec<u8>, name: &Name, texts: &Formulas) -> Result<(), NoMemory>
-    ensures { OnOk result (out.new.items ≡ out.old.items ++ command_text (command.Template name.now texts.now)) }
+// The lines of a template.
+fn put_inner(out: &mut Vec<u8>, template: &Template) -> Result<(), NoMemory>
+    ensures { OnOk result (out.new.items ≡ out.old.items ++ plan_text template.now) }
+{
+    tpl_syntax::put_template(out, template)?;
+    Ok(())
+}
+
+fn put_template(out: &mut Vec<u8>, name: &Name, template: &Template) -> Result<(), NoMemory>
+    ensures { OnOk result (out.new.items ≡ out.old.items ++ command_text (command.Template name.now template.now)) }
 {
     put_title(out, name)?;
-    put_texts(out, texts.as_slice())?;
+    put_inner(out, template)?;
     put_end(out)?;
     Ok(())
 }
@@ -167,6 +159,12 @@ pub fn command_line(out: &mut Vec<u8>, command: &Command) -> Result<(), NoMemory
             equals,
             inside,
         } => put_cell(out, name, value, *equals, inside),
+        Command::List {
+            name,
+            fields,
+            inside,
+        } => put_list(out, name, fields, inside),
+        Command::Edit { name, edit } => put_edit(out, name, edit),
         Command::Set { name, value } => put_set(out, name, value),
         Command::Computed {
             name,
@@ -184,7 +182,7 @@ pub fn command_line(out: &mut Vec<u8>, command: &Command) -> Result<(), NoMemory
             template,
             inside,
         } => put_mount(out, name, template, inside),
-        Command::Template { name, texts } => put_template(out, name, texts),
+        Command::Template { name, template } => put_template(out, name, template),
         Command::Flush => {
             out.extend_from_slice(b"flush\n")?;
             Ok(())

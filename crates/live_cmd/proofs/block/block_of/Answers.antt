@@ -11,10 +11,10 @@ head_at-requires c = (all_parted (λ l. length l.text.now ≤ MOST_LINE) c.args.
 
 pub returns-in_default-2 : goal.returns-in_default-2
 returns-in_default-2 c =
-    no_head_held c.args.lines.now c.in-Some.first c.in-Some.last c.in-Some.inner.now c.in-Some.ensures (rw c.in_default-2.is at c.in_ok-name.ensures)
+    no_head_held c.args.lines.now c.in-Some.first c.in-Some.last c.in-Some.inner.now c.in-Some.ensures (rw c.in_default-2.is at c.in_ok-head.ensures)
 
-pub effect_content-requires : goal.effect_content-requires
-effect_content-requires c =
+pub content_of-requires : goal.content_of-requires
+content_of-requires c =
     (all_parted (λ l. length l.text.now ≤ MOST_LINE) c.args.lines.now c.in-Some.first c.in-Some.inner.now c.in-Some.last c.in-Some.ensures c.requires).1
 
 pub is_end-requires : goal.is_end-requires
@@ -22,6 +22,6 @@ is_end-requires c = (all_parted (λ l. length l.text.now ≤ MOST_LINE) c.args.l
 
 pub returns : goal.returns
 returns c =
-    block_held c.args.lines.now c.in-Some.first c.in-Some.last c.in-Some.inner.now c.in-Some-2.name c.in-Some-2.inside c.in_ok-ends.ends
-    c.in_ok-content.content c.block_item.result c.in-Some.ensures (rw c.in-Some-2.is at c.in_ok-name.ensures) c.in_ok-ends.ensures
+    block_held c.args.lines.now c.in-Some.first c.in-Some.last c.in-Some.inner.now c.in-Some-2.head c.in_ok-ends.ends
+    c.in_ok-content.content c.block_item.result c.in-Some.ensures (rw c.in-Some-2.is at c.in_ok-head.ensures) c.in_ok-ends.ensures
     c.in_ok-content.ensures c.block_item.ensures

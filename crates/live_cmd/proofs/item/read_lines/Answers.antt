@@ -1,4 +1,4 @@
-use Rattle.std.proofs.Common.{[], ◌∷◌, map, drop, append_assoc, arith}
+use Rattle.std.proofs.Common.{[], ◌∷◌, map, drop, refl, append_assoc, arith}
 use Rattle.std.proofs.lemmas.List.{append-nil, drop_all}
 use Rattle.script_lines.specs.declared.line.NumberedLine.{NumberedLine}
 use Rattle.script_lines.specs.Views.{line_of}
@@ -12,9 +12,9 @@ loop-numbered-preserved c =
     let found = found_at _ _ _ (rw c.in-Some.is at c.in_ok-found.ensures) in
     let within = c.loop-numbered-test.true in
     record {
-      faulty = λ k f. c.loop-numbered.invariant.faulty k (faulty_later _ _ c.args.lines.now c.loop-numbered.numbered-index d c.in-Some.found k within found c.moved-at.ensures f);
+      faulty = λ k f. c.loop-numbered.invariant.faulty k (faulty_later _ _ c.args.lines.now c.loop-numbered.numbered-index d c.in-Some.found k within found refl f);
       says = λ rs a.
-          let more = c.loop-numbered.invariant.says (_ ∷ rs) (read_later _ _ c.args.lines.now c.loop-numbered.numbered-index d c.in-Some.found rs within found c.moved-at.ensures a) in
+          let more = c.loop-numbered.invariant.says (_ ∷ rs) (read_later _ _ c.args.lines.now c.loop-numbered.numbered-index d c.in-Some.found rs within found refl a) in
           rw (c.in_ok-push.ensures.items, append_assoc) more;
     }
 

@@ -2,10 +2,10 @@ use Rattle.std.proofs.Common.{map, ap}
 use Rattle.std.specs.Prelude.{Ok}
 use Rattle.script_lines.specs.Views.{line_of}
 use Rattle.sig_untrack.specs.Stated.{Bodies, before, no_bodies}
-use Rattle.live_cmd.specs.declared.block.Content.TheVariants as content
+use Rattle.live_cmd.specs.declared.contents.Content.TheVariants as content
 use Rattle.live_cmd.specs.declared.command.Command.TheVariants as command
 use Rattle.live_cmd.proofs.Numbering.{refused_by}
-use Rattle.live_cmd.proofs.block.effect_content.Goals as goal
+use Rattle.live_cmd.proofs.contents.effect_content.Goals as goal
 
 pub returns-in-Ok : goal.returns-in-Ok
 returns-in-Ok c =

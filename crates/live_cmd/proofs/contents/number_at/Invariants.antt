@@ -1,7 +1,7 @@
 use Rattle.std.proofs.Common.{◌≡◌, drop, map}
 use Rattle.script_lines.specs.Views.{line_of}
 use Rattle.live_cmd.specs.Views.{number_in}
-use Rattle.live_cmd.proofs.block.number_at.Given as goal
+use Rattle.live_cmd.proofs.contents.number_at.Given as goal
 
 -- the number among the lines that are left is the one among all
 abbrev pub invariant-loop-line : goal.invariant-loop-line

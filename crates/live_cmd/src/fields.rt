@@ -1,0 +1,67 @@
+// The fields of lists.
+ghost use Rattle.std.specs.Prelude.{◌≡◌};
+ghost use Rattle.std.specs.List.{list_all};
+ghost use Rattle.live_cmd.specs.Grammar.{are_fields, is_field};
+ghost use Rattle.live_cmd.specs.Items.{has_many_fields};
+ghost use Rattle.live_cmd.specs.Places.{kind_with};
+
+use crate::Command;
+use crate::line::LineKind;
+use line_forms::are_distinct;
+use sig_base::{MOST_FIELDS, Name};
+
+// Whether a name can be that of a field: the key has another place.
+fn is_field(name: &Name) -> bool
+    ensures { result ≡ is_field name.now }
+{
+    name.as_str() != "key"
+}
+
+// Whether each of these can be the name of a field.
+fn each_is_field(names: &[Name]) -> bool
+    ensures { result ≡ list_all is_field names.now }
+{
+    names.iter().all(|name| is_field(name))
+}
+
+/// Whether names can be those of a list's fields: they are distinct, and none is `key`, which has another place.
+pub fn are_fields(names: &[Name]) -> bool
+    ensures { result ≡ are_fields names.now }
+{
+    each_is_field(names) && are_distinct(names)
+}
+
+// The kind of a line that can be a command, if the fields that it names can be those of a list.
+fn kind_with(good: bool) -> LineKind
+    ensures { result ≡ kind_with good }
+{
+    if good {
+        LineKind::Alone
+    } else {
+        LineKind::Astray
+    }
+}
+
+/// The kind of a line that names a field.
+pub fn kind_of_field(name: &Name) -> LineKind
+    ensures { result ≡ kind_with (is_field name.now) }
+{
+    kind_with(is_field(name))
+}
+
+/// The kind of a line that names the fields of a list.
+pub fn kind_of_fields(names: &[Name]) -> LineKind
+    ensures { result ≡ kind_with (are_fields names.now) }
+{
+    kind_with(are_fields(names))
+}
+
+/// Whether a command makes a list of more than `MOST_FIELDS` fields.
+pub fn has_many_fields(command: &Command) -> bool
+    ensures { result ≡ has_many_fields command.now }
+{
+    match command {
+        Command::List { fields, .. } => MOST_FIELDS < fields.as_slice().len(),
+        _ => false,
+    }
+}

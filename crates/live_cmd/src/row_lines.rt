@@ -1,0 +1,181 @@
+// Reads the lines of lists and of the edits of their rows.
+ghost use Rattle.std.specs.Prelude.{◌≡◌, ℕ, List, IfOk};
+ghost use Rattle.sig_base.specs.declared.scalar.Scalar.{Scalar};
+ghost use Rattle.sig_words.specs.Tokens.{AreTokens};
+ghost use Rattle.line_forms.specs.Told.{ahead, AreToldValues, IsToldKey, IsToldScalar};
+ghost use Rattle.live_cmd.specs.Grammar as rows;
+ghost use Rattle.live_cmd.specs.Views.{found_as, found_of};
+
+use crate::fields::{kind_of_field, kind_of_fields};
+use crate::inside::inside_at;
+use crate::line::{Found, Line, LineKind, alone, faulty, sound};
+use crate::{Command, RowEdit};
+use line_forms::{
+    ToldKey, ToldValue, ToldValues, count_at, ends_at, key_at, listed_names_at, name_at, value_at,
+    values_at,
+};
+use sig_base::{Name, NoMemory};
+use sig_words::Token;
+use std::alloc::Global;
+
+/// `list N (FIELD, FIELD) [in O]`
+pub fn list(alloc: Global, line: &[u8], tokens: &[Token]) -> Result<Option<Found>, NoMemory>
+    ensures { IfOk result (λ found. found ≡ found_as rows.list (ahead line.now tokens.now 1)) }
+{
+    let at = 1;
+    let Some((name, at)) = name_at(alloc, line, tokens, at)? else {
+        return Ok(None);
+    };
+    let Some((fields, at)) = listed_names_at(alloc, line, tokens, at)? else {
+        return Ok(None);
+    };
+    let Some((inside, at)) = inside_at(alloc, line, tokens, at)? else {
+        return Ok(None);
+    };
+    if !ends_at(tokens, at) {
+        return Ok(None);
+    }
+    let kind = kind_of_fields(fields.as_slice());
+    let command = Command::List {
+        name,
+        fields,
+        inside,
+    };
+    Ok(Some(sound(kind, Line::Alone(command))))
+}
+
+// What is found of an insertion, or what is wrong with its key or else with its values.
+fn inserted(name: Name, place: u64, key: ToldKey, values: ToldValues) -> Found
+    ensures { (k : List ℕ) (vs : List Scalar) → IsToldKey k key → AreToldValues vs values
+        → result ≡ found_of (rows.insert_row, (name, (place, (k, (vs, tt))))) }
+{
+    let key = match key {
+        Ok(key) => key,
+        Err(fault) => return faulty(LineKind::Alone, fault),
+    };
+    match values {
+        Ok(values) => {
+            let edit = RowEdit::Insert { place, key, values };
+            alone(Command::Edit { name, edit })
+        }
+        Err(fault) => faulty(LineKind::Alone, fault),
+    }
+}
+
+/// `insert N PLACE KEY (LIT, LIT)`
+pub fn insert(alloc: Global, line: &[u8], tokens: &[Token]) -> Result<Option<Found>, NoMemory>
+    requires { AreTokens line.now tokens.now }
+    ensures { IfOk result (λ found. found ≡ found_as rows.insert_row (ahead line.now tokens.now 1)) }
+{
+    let at = 1;
+    let Some((name, at)) = name_at(alloc, line, tokens, at)? else {
+        return Ok(None);
+    };
+    let Some((place, at)) = count_at(line, tokens, at) else {
+        return Ok(None);
+    };
+    let Some((key, at)) = key_at(alloc, line, tokens, at)? else {
+        return Ok(None);
+    };
+    let Some((values, at)) = values_at(alloc, line, tokens, at)? else {
+        return Ok(None);
+    };
+    if !ends_at(tokens, at) {
+        return Ok(None);
+    }
+    Ok(Some(inserted(name, place, key, values)))
+}
+
+/// `remove N KEY`
+pub fn remove(alloc: Global, line: &[u8], tokens: &[Token]) -> Result<Option<Found>, NoMemory>
+    requires { AreTokens line.now tokens.now }
+    ensures { IfOk result (λ found. found ≡ found_as rows.remove_row (ahead line.now tokens.now 1)) }
+{
+    let at = 1;
+    let Some((name, at)) = name_at(alloc, line, tokens, at)? else {
+        return Ok(None);
+    };
+    let Some((key, at)) = key_at(alloc, line, tokens, at)? else {
+        return Ok(None);
+    };
+    if !ends_at(tokens, at) {
+        return Ok(None);
+    }
+    match key {
+        Ok(key) => {
+            let edit = RowEdit::Remove(key);
+            Ok(Some(alone(Command::Edit { name, edit })))
+        }
+        Err(fault) => Ok(Some(faulty(LineKind::Alone, fault))),
+    }
+}
+
+/// `move N KEY PLACE`
+pub fn move_row(alloc: Global, line: &[u8], tokens: &[Token]) -> Result<Option<Found>, NoMemory>
+    requires { AreTokens line.now tokens.now }
+    ensures { IfOk result (λ found. found ≡ found_as rows.move_row (ahead line.now tokens.now 1)) }
+{
+    let at = 1;
+    let Some((name, at)) = name_at(alloc, line, tokens, at)? else {
+        return Ok(None);
+    };
+    let Some((key, at)) = key_at(alloc, line, tokens, at)? else {
+        return Ok(None);
+    };
+    let Some((place, at)) = count_at(line, tokens, at) else {
+        return Ok(None);
+    };
+    if !ends_at(tokens, at) {
+        return Ok(None);
+    }
+    match key {
+        Ok(key) => {
+            let edit = RowEdit::Move(key, place);
+            Ok(Some(alone(Command::Edit { name, edit })))
+        }
+        Err(fault) => Ok(Some(faulty(LineKind::Alone, fault))),
+    }
+}
+
+// What is found of a new value, or what is wrong with its key or else with the value.
+fn put_found(name: Name, key: ToldKey, field: Name, value: ToldValue) -> Found
+    ensures { (k : List ℕ) (v : Scalar) → IsToldKey k key → IsToldScalar v value
+        → result ≡ found_of (rows.put_field, (name, (k, (field, (v, tt))))) }
+{
+    let kind = kind_of_field(&field);
+    let key = match key {
+        Ok(key) => key,
+        Err(fault) => return faulty(kind, fault),
+    };
+    match value {
+        Ok(value) => {
+            let edit = RowEdit::Put { key, field, value };
+            sound(kind, Line::Alone(Command::Edit { name, edit }))
+        }
+        Err(fault) => faulty(kind, fault),
+    }
+}
+
+/// `put N KEY FIELD LIT`
+pub fn put_field(alloc: Global, line: &[u8], tokens: &[Token]) -> Result<Option<Found>, NoMemory>
+    requires { AreTokens line.now tokens.now }
+    ensures { IfOk result (λ found. found ≡ found_as rows.put_field (ahead line.now tokens.now 1)) }
+{
+    let at = 1;
+    let Some((name, at)) = name_at(alloc, line, tokens, at)? else {
+        return Ok(None);
+    };
+    let Some((key, at)) = key_at(alloc, line, tokens, at)? else {
+        return Ok(None);
+    };
+    let Some((field, at)) = name_at(alloc, line, tokens, at)? else {
+        return Ok(None);
+    };
+    let Some((value, at)) = value_at(alloc, line, tokens, at)? else {
+        return Ok(None);
+    };
+    if !ends_at(tokens, at) {
+        return Ok(None);
+    }
+    Ok(Some(put_found(name, key, field, value)))
+}
