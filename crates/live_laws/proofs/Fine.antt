@@ -8,8 +8,8 @@ use Rattle.effect_model.specs.Acts.{gone_refused, host_of, host_refused, is_free
 use Rattle.effect_model.specs.Commands.{inside_refused}
 use Rattle.live_cmd.specs.declared.command.SourceText.{SourceText}
 use Rattle.live_cmd.specs.declared.command.SourceText.TheVariants as source
-use Rattle.live_cmd.specs.declared.refusal.Refusal.{Refusal}
-use Rattle.live_cmd.specs.declared.refusal.Refusal.TheVariants as refusal
+use Rattle.live_entries.specs.declared.refusal.Refusal.{Refusal}
+use Rattle.live_entries.specs.declared.refusal.Refusal.TheVariants as refusal
 use Rattle.live_model.specs.declared.names.Kind.{Kind}
 use Rattle.live_model.specs.declared.names.Kind.TheVariants as kind
 use Rattle.live_model.specs.declared.names.Meaning.{Meaning}
@@ -43,6 +43,7 @@ owner_of_kind : (w : World) (n : List ℕ) (k : Kind) (i : ℕ) → misuse w (n,
     gone_refused (the_owner i) w ≡ None
 owner_of_kind w n kind.Owner i e = alive (lives (the_owner i) w) (refusal.Gone n) (thing_gone (the_owner i)) e
 owner_of_kind w n kind.Cell i e = other (not (lives (the_signal i) w)) (refusal.Gone n) (refusal.Kind n) (gone_refused (the_owner i) w) e
+owner_of_kind w n kind.List i e = other (not (lives (the_signal i) w)) (refusal.Gone n) (refusal.Kind n) (gone_refused (the_owner i) w) e
 owner_of_kind w n kind.Computed i e = other (not (lives (the_signal i) w)) (refusal.Gone n) (refusal.Kind n) (gone_refused (the_owner i) w) e
 owner_of_kind w n kind.Effect i e = other (not (lives (the_effect i) w)) (refusal.Gone n) (refusal.Kind n) (gone_refused (the_owner i) w) e
 owner_of_kind w n kind.Watcher i e = other (not (lives (the_watcher i) w)) (refusal.Gone n) (refusal.Kind n) (gone_refused (the_owner i) w) e
@@ -53,6 +54,7 @@ watcher_of_kind : (w : World) (n : List ℕ) (k : Kind) (i : ℕ) → misuse w (
     gone_refused (the_watcher i) w ≡ None
 watcher_of_kind w n kind.Watcher i e = alive (lives (the_watcher i) w) (refusal.Gone n) (thing_gone (the_watcher i)) e
 watcher_of_kind w n kind.Cell i e = other (not (lives (the_signal i) w)) (refusal.Gone n) (refusal.Kind n) (gone_refused (the_watcher i) w) e
+watcher_of_kind w n kind.List i e = other (not (lives (the_signal i) w)) (refusal.Gone n) (refusal.Kind n) (gone_refused (the_watcher i) w) e
 watcher_of_kind w n kind.Computed i e = other (not (lives (the_signal i) w)) (refusal.Gone n) (refusal.Kind n) (gone_refused (the_watcher i) w) e
 watcher_of_kind w n kind.Effect i e = other (not (lives (the_effect i) w)) (refusal.Gone n) (refusal.Kind n) (gone_refused (the_watcher i) w) e
 watcher_of_kind w n kind.Owner i e = other (not (lives (the_owner i) w)) (refusal.Gone n) (refusal.Kind n) (gone_refused (the_watcher i) w) e
@@ -62,6 +64,7 @@ watcher_of_kind w n kind.Template i e = other false (refusal.Gone n) (refusal.Ki
 signal_of_kind : (w : World) (n : List ℕ) (k : Kind) (i : ℕ) → misuse w (n, need.Signal) (record { kind = k; number = i }) ≡ None →
     gone_refused (the_signal i) w ≡ None
 signal_of_kind w n kind.Cell i e = alive (lives (the_signal i) w) (refusal.Gone n) (thing_gone (the_signal i)) e
+signal_of_kind w n kind.List i e = alive (lives (the_signal i) w) (refusal.Gone n) (thing_gone (the_signal i)) e
 signal_of_kind w n kind.Computed i e = alive (lives (the_signal i) w) (refusal.Gone n) (thing_gone (the_signal i)) e
 signal_of_kind w n kind.Watcher i e = other (not (lives (the_watcher i) w)) (refusal.Gone n) (refusal.Kind n) (gone_refused (the_signal i) w) e
 signal_of_kind w n kind.Effect i e = other (not (lives (the_effect i) w)) (refusal.Gone n) (refusal.Kind n) (gone_refused (the_signal i) w) e

@@ -1,9 +1,12 @@
 -- What each item does, and how it is told.
 use Rattle.std.proofs.Common.{◌≡◌, ℕ, Bool, true, false, List, [], ◌∷◌, ◌++◌, append_assoc, map, Option, Some, None, refl, sym, ap, subst, ◌∙◌}
 use Rattle.std.proofs.lemmas.List.{append-nil}
-use Rattle.std.specs.Str.{bytes_eq}
 use Rattle.std.specs.Option.{option_map_or, option_or}
 use Rattle.sig_base.specs.Values.{scalar_value}
+use Rattle.sig_base.specs.declared.value.Value.{Value}
+use Rattle.sig_base.specs.declared.value.Value.TheVariants as value
+use Rattle.page_model.specs.Pages.{bare}
+use Rattle.tpl_model.specs.Updates.{Updated}
 use Rattle.signal_model.specs.Recipes.{Recipe}
 use Rattle.signal_model.specs.Values.{value_of}
 use Rattle.signal_model.specs.Marks.{mark_of}
@@ -21,27 +24,28 @@ use Rattle.live_cmd.specs.declared.command.Command.{Command}
 use Rattle.live_cmd.specs.declared.command.Command.TheVariants as command
 use Rattle.live_cmd.specs.declared.command.Item.{Item}
 use Rattle.live_cmd.specs.declared.command.Item.TheVariants as item
-use Rattle.live_cmd.specs.declared.entry.Entry.{Entry}
-use Rattle.live_cmd.specs.declared.entry.Entry.TheVariants as entry
-use Rattle.live_cmd.specs.declared.refusal.Refusal.{Refusal}
-use Rattle.live_cmd.specs.declared.refusal.Refusal.TheVariants as refusal
+use Rattle.live_entries.specs.declared.entry.Entry.{Entry}
+use Rattle.live_entries.specs.declared.entry.Entry.TheVariants as entry
+use Rattle.live_entries.specs.declared.refusal.Refusal.{Refusal}
+use Rattle.live_entries.specs.declared.refusal.Refusal.TheVariants as refusal
 use Rattle.live_model.specs.declared.names.Kind.TheVariants as kind
 use Rattle.live_model.specs.declared.names.Need.TheVariants as need
-use Rattle.live_model.specs.declared.parts.Page.{Page}
 use Rattle.live_model.specs.Labels.{labels_after}
 use Rattle.live_model.specs.Linking.{linked_body, owner_of, recipe_of}
 use Rattle.live_model.specs.Machine as machine
-use Rattle.live_model.specs.Machine.{Machine, Told, acted_on_pages, after_turns, body_refusal, brought_up, count_refusal, disposing, done, empty}
-use Rattle.live_model.specs.Machine.{entries_of, is_trying, later_refusal, name_refusal, named, over_limit, place_refusal, refusal_of}
-use Rattle.live_model.specs.Machine.{news_of, pending_labels, seen_of, settling, shown_of, source_labels, step, template_html, template_reads, unwatch_refusal, update_all}
+use Rattle.live_model.specs.Machine.{Machine, Told, acted_on_pages, after_turns, body_refusal, brought_up, carried_on, count_refusal, disposing, done, empty}
+use Rattle.live_model.specs.Machine.{entries_of, is_trying, later_refusal, name_refusal, named, ops_told, over_limit, page_at, place_refusal, refusal_of, row_refusal}
+use Rattle.live_model.specs.Machine.{news_of, pending_labels, seen_of, scratching, settling, shown_of, source_labels, step, template_at, template_reads, unwatch_refusal, update_all}
+use Rattle.live_model.specs.Pages.{Page, page_html, scratch_html}
+use Rattle.live_model.specs.Rows.{edited, no_rows, rows_at}
 use Rattle.live_model.specs.Names.{Use, first_refusal, meaning_of, number_of, refusal_at, thing_named}
 use Rattle.live_model.specs.Uses.{uses_of, uses_of_inside, uses_of_signals, uses_of_source}
 use Rattle.live_laws.specs.Rested.{AreEnds, rested_after, told_by}
-use Rattle.live_laws.specs.Happening.{EndsLaw, HappensLaw, IsTold, deeds_after_turns, deeds_of, deeds_of_item, deeds_of_pages, deeds_of_verb, disposals_of}
+use Rattle.live_laws.specs.Happening.{askings_of, EndsLaw, HappensLaw, IsTold, deeds_after_turns, deeds_of, deeds_of_item, deeds_of_pages, deeds_of_verb, disposals_of}
 use Rattle.live_laws.specs.Happening.{event_told, happened, no_more}
 use Rattle.live_laws.proofs.Fine.{first_of_both, host_fine, inside_fine, none_by, none_of, signal_fine, signals_fine, source_fine, watcher_fine}
 use Rattle.live_laws.proofs.Rests.{quiet_after, rested_law, told_more}
-use Rattle.live_laws.proofs.Telling.{answer_if, answer_only, told_only, told_then, untold}
+use Rattle.live_laws.proofs.Telling.{answer_only, answers_only, answers_then, news_answer, page_answers, told_only, told_then, untold}
 
 -- what a command does, and how it is told
 record Does (env : Environment) (m : Machine) (cs : List plain.Command) (t : Told) : Type 0 where
@@ -85,7 +89,7 @@ places_fine : (slacks : List ℕ) (m : Machine) (c : Command) → refusal_of sla
 places_fine slacks m c e =
     let a = none_of (count_refusal c) (option_or (name_refusal m c) (later_refusal slacks m c)) e in
     let b = none_of (name_refusal m c) (later_refusal slacks m c) a.1 in
-    (none_of (place_refusal slacks m.world c) (option_or (over_limit m c) (unwatch_refusal m c)) b.1).0
+    (none_of (place_refusal slacks m.world c) (option_or (row_refusal m c) (option_or (over_limit m c) (unwatch_refusal m c))) b.1).0
 
 -- the uses behind the first
 behind_first : (slacks : List ℕ) (m : Machine) (c : Command) (u : Use) (us : List Use) → uses_of c ≡ u ∷ us → refusal_of slacks m c ≡ None →
@@ -105,12 +109,12 @@ pages_do env (p ∷ ps) m =
     let rest : Does env next (deeds_of_pages env m.templates ps (at_rest w)) (update_all env ps next) = pages_do env ps next in
     let es : List Event = told_by env (at_rest w) (deeds_of_pages env m.templates ps (at_rest w)) in
     let later : List Entry = (update_all env ps next).entries in
+    let news : List Entry = news_of (brought_up env m p) (carried_on env m p.template p.content).ops in
     record {
       world = rest.world;
-      told = subst (λ ts. IsTold m.labels (w.told ++ es) ts) (sym (append_assoc (entries_of m.labels w.told) (news_of env m p) later))
-          (told_then m.labels w.told es (news_of env m p ++ later)
-          (answer_if (bytes_eq (template_html env m p.template) p.shown) (labels_after w.told m.labels) (entry.Page p.name (template_html env m p.template))
-          es later refl rest.told));
+      told = subst (λ ts. IsTold m.labels (w.told ++ es) ts) (sym (append_assoc (entries_of m.labels w.told) news later))
+          (told_then m.labels w.told es (news ++ later)
+          (answers_then (labels_after w.told m.labels) news es later (news_answer (brought_up env m p) (carried_on env m p.template p.content).ops) rest.told));
     }
 
 -- after turns that came to this world, refused or not
@@ -151,7 +155,14 @@ disposals_do : (env : Environment) (m : Machine) (t : Option Thing) → Does env
 disposals_do env m None = record { world = refl; told = no_more m.labels }
 disposals_do env m (Some t) = acts env m (plain.dispose t) refl (disposing env m (Some t)) refl refl
 
-verbs_do : (env : Environment) (m : Machine) (v : Verb) (n : List ℕ) (i : ℕ) → Does env m (deeds_of_verb m v n i) (named env m v n i)
+askings_do : (env : Environment) (m : Machine) (n : List ℕ) (o : Option Page) → Does env m (askings_of env m o) (scratching env m n o)
+askings_do env m n None = record { world = refl; told = answer_only m.labels (entry.Scratch n []) refl }
+askings_do env m n (Some p) =
+    let w : World = settle env (template_reads env m p.template) m.world in
+    let shown : Entry = entry.Scratch n (scratch_html env.hosts m.world.signals (template_at m p.template)) in
+    record { world = refl; told = told_then m.labels w.told [] (shown ∷ []) (answer_only (labels_after w.told m.labels) shown refl) }
+
+verbs_do : (env : Environment) (m : Machine) (v : Verb) (n : List ℕ) (i : ℕ) → Does env m (deeds_of_verb env m v n i) (named env m v n i)
 verbs_do env m verb.Get n i =
     let w : World = settle env (i ∷ []) m.world in record {
       world = refl;
@@ -162,6 +173,7 @@ verbs_do env m verb.State n i = record { world = refl; told = answer_only m.labe
 verbs_do env m verb.Sources n i = record { world = refl; told = answer_only m.labels (entry.Sources n (source_labels m i)) refl }
 verbs_do env m verb.Pending n i = record { world = refl; told = answer_only m.labels (entry.Pending n (pending_labels m i)) refl }
 verbs_do env m verb.Show n i = record { world = refl; told = answer_only m.labels (entry.Page n (shown_of m i)) refl }
+verbs_do env m verb.Scratch n i = askings_do env m n (page_at m.pages i)
 verbs_do env m verb.Dispose n i = disposals_do env m (thing_named (meaning_of m.names n))
 
 commands_do : (env : Environment) (m : Machine) (c : Command) → m.world.told ≡ [] → refusal_of env.slacks m c ≡ None → Does env m (deeds_of env m c) (done env m c)
@@ -169,6 +181,14 @@ commands_do env m (command.Cell n v equals inside) quiet e =
     let c : plain.Command = plain.cell (scalar_value v) equals (owner_of m.names inside) in
     makes env m c (inside_fine m.world m.names inside (behind_first env.slacks m (command.Cell n v equals inside) (n, need.New) (uses_of_inside inside) refl e).1)
     (done env m (command.Cell n v equals inside)) refl quiet refl
+commands_do env m (command.List n fields inside) quiet e =
+    let c : plain.Command = plain.cell (value.Rows (no_rows fields)) None (owner_of m.names inside) in
+    makes env m c (inside_fine m.world m.names inside (behind_first env.slacks m (command.List n fields inside) (n, need.New) (uses_of_inside inside) refl e).1)
+    (done env m (command.List n fields inside)) refl quiet refl
+commands_do env m (command.Edit n d) quiet e =
+    let i : ℕ = number_of m.names n in
+    let v : Value = value.Rows (edited d (rows_at m.world.signals i)) in
+    acts env m (plain.set i v) refl (done env m (command.Edit n d)) refl refl
 commands_do env m (command.Set n v) quiet e =
     acts env m (plain.set (number_of m.names n) (scalar_value v)) refl (done env m (command.Set n v)) refl refl
 commands_do env m (command.Computed n s inside) quiet e =
@@ -209,22 +229,27 @@ commands_do env m (command.Effect n b inside) quiet e =
     makes env m (plain.effect (linked_body m.names n m.world.made.effects b) (owner_of m.names inside))
     (inside_fine m.world m.names inside (behind_first env.slacks m (command.Effect n b inside) (n, need.New) (uses_of_inside inside) refl e).1)
     (done env m (command.Effect n b inside)) refl quiet refl
-commands_do env m (command.Template n texts) quiet e = record { world = refl; told = no_more m.labels }
+commands_do env m (command.Template n t) quiet e = record { world = refl; told = no_more m.labels }
 commands_do env m (command.Mount n t inside) quiet e =
     let w : World = settle env (template_reads env m (number_of m.names t)) m.world in
     let p : Command = command.Mount n t inside in
     let owner : Option ℕ = owner_of m.names inside in
-    let u = behind_first env.slacks m p (n, need.New) ((t, need.Of kind.Template) ∷ uses_of_inside inside) refl e in
+    let names = behind_first env.slacks m p (n, need.New) ((t, need.Of kind.Template) ∷ uses_of_inside inside) refl e in
     let fine : inside_refused owner m.world ≡ None =
     inside_fine m.world m.names inside
-    (none_of (refusal_at m.world (t, need.Of kind.Template) (meaning_of m.names t)) (first_refusal m.world m.names (uses_of_inside inside)) u.1).1 in
+    (none_of (refusal_at m.world (t, need.Of kind.Template) (meaning_of m.names t)) (first_refusal m.world m.names (uses_of_inside inside)) names.1).1 in
     let page : after_command env (at_rest w) (plain.page owner) ≡ with_new_page owner (at_rest w) =
     after_fine env (at_rest w) (plain.page owner) (inside_settled owner env (template_reads env m (number_of m.names t)) m.world ∙ fine) in
+    let u : Updated = carried_on env m (number_of m.names t) bare in
+    let q : Page = record { name = n; number = m.world.made.pages; template = number_of m.names t; content = u.page } in
+    let told : List Entry = ops_told n u.ops ++ entry.Page n (page_html q) ∷ [] in
     record {
       world = ap at_rest (sym page);
-      told = told_then m.labels w.told ((after_command env (at_rest w) (plain.page owner)).told ++ []) (entry.Page n (template_html env m (number_of m.names t)) ∷ [])
-          (subst (λ es. IsTold (labels_after w.told m.labels) (es ++ []) (entry.Page n (template_html env m (number_of m.names t)) ∷ []))
-          (ap (λ (v : World). v.told) (sym page)) (answer_only (labels_after w.told m.labels) (entry.Page n (template_html env m (number_of m.names t))) refl));
+      told = subst (λ ts. IsTold m.labels (w.told ++ ((after_command env (at_rest w) (plain.page owner)).told ++ [])) ts)
+          (sym (append_assoc (entries_of m.labels w.told) (ops_told n u.ops) (entry.Page n (page_html q) ∷ [])))
+          (told_then m.labels w.told ((after_command env (at_rest w) (plain.page owner)).told ++ []) told
+          (subst (λ es. IsTold (labels_after w.told m.labels) (es ++ []) told) (ap (λ (v : World). v.told) (sym page))
+          (answers_only (labels_after w.told m.labels) told (page_answers n u.ops (page_html q)))));
     }
 commands_do env m command.Flush quiet e = record {
   world = turns_do env m (flush env m.world).refused (flush env m.world).world;

@@ -2,7 +2,7 @@
 use Rattle.std.specs.Prelude.{◌≡◌, ℕ, Bool, true, false, List, [], ◌∷◌, ◌++◌, map, Option, Some, None}
 use Rattle.std.specs.Option.{option_map_or}
 use Rattle.sig_base.specs.Values.{scalar_value}
-use Rattle.signal_model.specs.Recipes.{Recipe}
+use Rattle.sig_base.specs.declared.value.Value.TheVariants as value
 use Rattle.effect_model.specs.Owning.{Thing}
 use Rattle.effect_model.specs.Worlds.{Environment, Event, World}
 use Rattle.effect_model.specs.Commands as plain
@@ -15,14 +15,14 @@ use Rattle.live_cmd.specs.declared.command.Command.{Command}
 use Rattle.live_cmd.specs.declared.command.Command.TheVariants as command
 use Rattle.live_cmd.specs.declared.command.Item.{Item}
 use Rattle.live_cmd.specs.declared.command.Item.TheVariants as item
-use Rattle.live_cmd.specs.declared.entry.Entry.{Entry}
-use Rattle.live_cmd.specs.declared.entry.Entry.TheVariants as entry
-use Rattle.live_model.specs.declared.parts.Page.{Page}
+use Rattle.live_entries.specs.declared.entry.Entry.{Entry}
+use Rattle.live_entries.specs.declared.entry.Entry.TheVariants as entry
 use Rattle.live_model.specs.Labels.{Labels, relabelled}
 use Rattle.live_model.specs.Linking.{linked_body, owner_of, recipe_of}
-use Rattle.live_model.specs.Machine.{Machine, acted_on_pages, empty, event_entries, is_trying, refusal_of, step, template_reads, texts_at}
+use Rattle.live_model.specs.Machine.{Machine, acted_on_pages, empty, event_entries, is_trying, page_at, refusal_of, step, template_reads}
 use Rattle.live_model.specs.Names.{meaning_of, number_of, thing_named}
-use Rattle.live_model.specs.Pages.{asked_of}
+use Rattle.live_model.specs.Pages.{Page, Template, asked_of, template_in}
+use Rattle.live_model.specs.Rows.{edited, no_rows, rows_at}
 use Rattle.live_laws.specs.Rested.{AreEnds, rested_after, told_by}
 
 -- ---- what is done
@@ -32,17 +32,23 @@ abbrev pub disposals_of : Option Thing → List plain.Command
 disposals_of None = []
 disposals_of (Some t) = plain.dispose t ∷ []
 
+-- what a page's template reads is asked for
+abbrev pub askings_of : Environment → Machine → Option Page → List plain.Command
+askings_of env m None = []
+askings_of env m (Some p) = plain.ask (template_reads env m p.template) ∷ []
+
 -- what a verb does to what has this name and this number
-abbrev pub deeds_of_verb : Machine → Verb → List ℕ → ℕ → List plain.Command
-deeds_of_verb m verb.Get n i = plain.ask (i ∷ []) ∷ []
-deeds_of_verb m verb.Dispose n i = disposals_of (thing_named (meaning_of m.names n))
-deeds_of_verb m v n i = []
+abbrev pub deeds_of_verb : Environment → Machine → Verb → List ℕ → ℕ → List plain.Command
+deeds_of_verb env m verb.Get n i = plain.ask (i ∷ []) ∷ []
+deeds_of_verb env m verb.Scratch n i = askings_of env m (page_at m.pages i)
+deeds_of_verb env m verb.Dispose n i = disposals_of (thing_named (meaning_of m.names n))
+deeds_of_verb env m v n i = []
 
 -- pages are brought up to date, in order: what each reads is asked for
-abbrev pub deeds_of_pages : Environment → List (List Recipe) → List Page → World → List plain.Command
+abbrev pub deeds_of_pages : Environment → List Template → List Page → World → List plain.Command
 deeds_of_pages env templates [] w = []
 deeds_of_pages env templates (p ∷ ps) w =
-    let c = plain.ask (asked_of env.hosts w.signals (texts_at templates p.template)) in
+    let c = plain.ask (asked_of env.hosts w.signals (template_in templates p.template)) in
     c ∷ deeds_of_pages env templates ps (at_rest (after_command env w c))
 
 -- after a flush that isn't refused
@@ -53,6 +59,8 @@ deeds_after_turns env false m = deeds_of_pages env m.templates m.pages m.world
 -- what a command of the script that isn't refused does, in order
 abbrev pub deeds_of : Environment → Machine → Command → List plain.Command
 deeds_of env m (command.Cell n v equals inside) = plain.cell (scalar_value v) equals (owner_of m.names inside) ∷ []
+deeds_of env m (command.List n fields inside) = plain.cell (value.Rows (no_rows fields)) None (owner_of m.names inside) ∷ []
+deeds_of env m (command.Edit n e) = let i = number_of m.names n in plain.set i (value.Rows (edited e (rows_at m.world.signals i))) ∷ []
 deeds_of env m (command.Set n v) = plain.set (number_of m.names n) (scalar_value v) ∷ []
 deeds_of env m (command.Computed n s inside) = plain.computed (recipe_of m.names s) (owner_of m.names inside) ∷ []
 deeds_of env m (command.Rewire n s) = plain.rewire (number_of m.names n) (recipe_of m.names s) ∷ []
@@ -60,9 +68,9 @@ deeds_of env m (command.Owner n inside) = plain.owner (owner_of m.names inside) 
 deeds_of env m (command.Watcher n tries) = plain.watcher (is_trying tries) ∷ []
 deeds_of env m (command.Watch n signals) = plain.watch (number_of m.names n) (map (number_of m.names) signals) ∷ []
 deeds_of env m (command.Unwatch n s) = plain.unwatch (number_of m.names n) (number_of m.names s) ∷ []
-deeds_of env m (command.Named v n) = deeds_of_verb m v n (number_of m.names n)
+deeds_of env m (command.Named v n) = deeds_of_verb env m v n (number_of m.names n)
 deeds_of env m (command.Effect n b inside) = plain.effect (linked_body m.names n m.world.made.effects b) (owner_of m.names inside) ∷ []
-deeds_of env m (command.Template n texts) = []
+deeds_of env m (command.Template n t) = []
 deeds_of env m (command.Mount n t inside) = plain.ask (template_reads env m (number_of m.names t)) ∷ plain.page (owner_of m.names inside) ∷ []
 deeds_of env m command.Flush = let f = flush env m.world in plain.flush_all ∷ deeds_after_turns env f.refused (acted_on_pages m f.world).machine
 
@@ -84,7 +92,9 @@ is_answer (entry.Outcome n o) = true
 is_answer (entry.State n s) = true
 is_answer (entry.Sources n names) = true
 is_answer (entry.Pending n names) = true
+is_answer (entry.Op n o) = true
 is_answer (entry.Page n html) = true
+is_answer (entry.Scratch n html) = true
 is_answer (entry.Error r) = true
 is_answer e = false
 

@@ -1,0 +1,4 @@
+mod NewRows
+mod Readable
+mod Showing
+pub mod Shared

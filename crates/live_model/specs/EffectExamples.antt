@@ -13,12 +13,12 @@ use Rattle.live_cmd.specs.declared.command.Verb.TheVariants as verb
 use Rattle.live_cmd.specs.declared.command.Command.TheVariants as command
 use Rattle.live_cmd.specs.declared.command.Item.{Item}
 use Rattle.live_cmd.specs.declared.command.Item.TheVariants as item
-use Rattle.live_cmd.specs.declared.entry.Entry.{Entry}
-use Rattle.live_cmd.specs.declared.entry.Entry.TheVariants as entry
-use Rattle.live_cmd.specs.declared.label.Label.{Label}
-use Rattle.live_cmd.specs.declared.refusal.Refusal.TheVariants as refusal
-use Rattle.live_cmd.specs.Printed.{is_traced}
-use Rattle.live_model.specs.Examples.{told_by, a_cell, int, a_host, a_set, a_get, a_dispose, comes_to, error, gone, ran_to}
+use Rattle.live_entries.specs.declared.entry.Entry.{Entry}
+use Rattle.live_entries.specs.declared.entry.Entry.TheVariants as entry
+use Rattle.live_entries.specs.declared.label.Label.{Label}
+use Rattle.live_entries.specs.declared.refusal.Refusal.TheVariants as refusal
+use Rattle.live_entries.specs.Printed.{is_traced}
+use Rattle.live_model.specs.Examples.{told_by, a_cell, int, a_host, a_template, a_set, a_get, a_dispose, comes_to, error, gone, ran_to}
 
 -- ---- words for the examples
 
@@ -81,7 +81,7 @@ cleanup_told = refl
 
 -- a page stands in an owner: with the owner it is gone, and another page stays
 abbrev pub page_in_owner : List Item
-page_in_owner = an_owner (codes "o") ∷ item.Do (command.Template (codes "t") []) ∷ item.Do (command.Mount (codes "p") (codes "t") (Some (codes "o")))
+page_in_owner = an_owner (codes "o") ∷ a_template (codes "t") [] [] ∷ item.Do (command.Mount (codes "p") (codes "t") (Some (codes "o")))
     ∷ item.Do (command.Mount (codes "q") (codes "t") None) ∷ a_dispose (codes "o") ∷ a_flush ∷ item.Do (command.Named verb.Show (codes "p"))
     ∷ item.Do (command.Named verb.Show (codes "q")) ∷ a_dispose (codes "t") ∷ item.Do (command.Mount (codes "r") (codes "t") (Some (codes "o"))) ∷ []
 

@@ -9,6 +9,7 @@ use Rattle.sig_base.specs.declared.value.Fault.TheVariants as fault
 use Rattle.sig_formula.specs.Answering.{answer_of}
 use Rattle.sig_formula.specs.declared.formula.BinOp.TheVariants.{Add, Mul}
 use Rattle.sig_formula.specs.Trees.{Tree, literal, slot, binary, choice}
+use Rattle.tpl_syntax.specs.declared.line.Line.{Line}
 use Rattle.effect_model.specs.Worlds.{Environment}
 use Rattle.live_cmd.specs.declared.command.SourceText.TheVariants as source
 use Rattle.live_cmd.specs.declared.command.Try.TheVariants as try
@@ -16,10 +17,10 @@ use Rattle.live_cmd.specs.declared.command.Verb.TheVariants as verb
 use Rattle.live_cmd.specs.declared.command.Command.TheVariants as command
 use Rattle.live_cmd.specs.declared.command.Item.{Item}
 use Rattle.live_cmd.specs.declared.command.Item.TheVariants as item
-use Rattle.live_cmd.specs.declared.entry.Entry.{Entry}
-use Rattle.live_cmd.specs.declared.entry.Entry.TheVariants as entry
-use Rattle.live_cmd.specs.declared.refusal.Refusal.{Refusal}
-use Rattle.live_cmd.specs.declared.refusal.Refusal.TheVariants as refusal
+use Rattle.live_entries.specs.declared.entry.Entry.{Entry}
+use Rattle.live_entries.specs.declared.entry.Entry.TheVariants as entry
+use Rattle.live_entries.specs.declared.refusal.Refusal.{Refusal}
+use Rattle.live_entries.specs.declared.refusal.Refusal.TheVariants as refusal
 use Rattle.live_model.specs.Machine.{empty}
 use Rattle.live_model.specs.Output.{entries_from}
 
@@ -48,6 +49,10 @@ a_computed n t names = item.Do (command.Computed n (source.Formula (t, names)) N
 
 abbrev pub a_host : List ℕ → ℕ → List (List ℕ) → Item
 a_host n place names = item.Do (command.Computed n (source.Host place names) None)
+
+-- a template of these lines, whose slots have these names
+abbrev pub a_template : List ℕ → List (Line Tree) → List (List ℕ) → Item
+a_template n lines names = item.Do (command.Template n (record { lines = lines; names = names }))
 
 -- a cell is set, a name is asked for, a thing is disposed, and what a watcher has pending is asked for
 abbrev pub a_set : List ℕ → Scalar → Item

@@ -3,7 +3,7 @@ use Rattle.std.specs.Prelude.{ℕ, ◌==◌, ◌&&◌, not, Bool, List, [], ◌�
 use Rattle.std.specs.List.{filter}
 use Rattle.effect_model.specs.Owning.{Thing, the_signal, the_owner, the_effect, the_page, the_watcher}
 use Rattle.effect_model.specs.Worlds.{Effect, Event, gone, made_child}
-use Rattle.live_cmd.specs.declared.label.Label.{Label}
+use Rattle.live_entries.specs.declared.label.Label.{Label}
 
 -- the names of signals, owners, pages and watchers, each at its number, and the labels of effects with their numbers
 pub record Labels : Type 0 where

@@ -5,6 +5,11 @@ pub mod Machine
 pub mod Names
 pub mod Output
 pub mod Pages
+pub mod Reading
+pub mod Rows
+pub mod Laws
 pub mod Uses
 pub mod EffectExamples
 pub mod Examples
+pub mod PageExamples
+pub mod RowExamples

@@ -10,12 +10,15 @@ use Rattle.effect_tables.specs.declared.links.Target.TheVariants as target
 use Rattle.effect_tables.specs.declared.thing.Thing.{Thing}
 use Rattle.effect_tables.specs.declared.thing.Thing.TheVariants as thing
 use Rattle.effect_tables.specs.Linking.{Linking, no_links, links, body_along}
+use Rattle.tpl_blocks.specs.Blocks.{lines_of}
+use Rattle.tpl_syntax.specs.Lines.{Plan}
 use Rattle.live_cmd.specs.declared.command.SourceText.{SourceText}
 use Rattle.live_cmd.specs.declared.command.SourceText.TheVariants as source
 use Rattle.live_model.specs.declared.names.Kind.{Kind}
 use Rattle.live_model.specs.declared.names.Kind.TheVariants as kind
 use Rattle.live_model.specs.declared.names.Meaning.{Meaning}
 use Rattle.live_model.specs.Names.{Names, meaning_of, number_of}
+use Rattle.live_model.specs.Pages.{Template}
 
 -- a formula whose slots stand for the signals of its names
 abbrev pub linked : Names → Wiring → Recipe
@@ -26,6 +29,10 @@ abbrev pub recipe_of : Names → SourceText → Recipe
 recipe_of names (source.Formula w) = linked names w
 recipe_of names (source.Host place arguments) = record { expression = host place; slots = map (number_of names) arguments }
 
+-- a template whose names stand for signals
+abbrev pub linked_template : Names → Plan → Template
+linked_template names t = record { lines = lines_of t; links = map (number_of names) t.names }
+
 -- the owner inside which something is made
 abbrev pub owner_of : Names → Option (List ℕ) → Option ℕ
 owner_of names inside = option_map (number_of names) inside
@@ -35,6 +42,7 @@ owner_of names inside = option_map (number_of names) inside
 -- the thing of a kind and a number; no body acts on a template
 abbrev pub thing_meant : Kind → ℕ → Thing
 thing_meant kind.Cell n = thing.Signal n
+thing_meant kind.List n = thing.Signal n
 thing_meant kind.Computed n = thing.Signal n
 thing_meant kind.Owner n = thing.Owner n
 thing_meant kind.Effect n = thing.Effect n

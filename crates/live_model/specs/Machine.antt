@@ -1,12 +1,14 @@
 -- The machine, and what each command does to it.
-use Rattle.std.specs.Prelude.{ℕ, ◌==◌, nat_lt, Bool, true, false, List, [], ◌∷◌, ◌++◌}
+use Rattle.std.specs.Prelude.{ℕ, ◌==◌, ◌&&◌, not, nat_lt, Bool, true, false, List, [], ◌∷◌, ◌++◌}
 use Rattle.std.specs.Prelude.{Option, Some, None, length, map, slice_get, unwrap_or, if◌then◌else◌}
 use Rattle.std.specs.List.{filter}
 use Rattle.std.specs.Option.{option_or, option_map, option_map_or}
-use Rattle.std.specs.Str.{bytes_eq}
-use Rattle.sig_base.specs.declared.limits.TheConstants.{MOST_NODES, MOST_PAGES, MOST_SOURCES, MOST_TEMPLATES}
+use Rattle.sig_base.specs.declared.limits.TheConstants.{MOST_FIELDS, MOST_NODES, MOST_PAGES, MOST_SOURCES, MOST_TEMPLATES}
 use Rattle.sig_base.specs.Values.{scalar_value}
-use Rattle.signal_model.specs.Recipes.{Recipe}
+use Rattle.sig_base.specs.declared.value.Value.TheVariants as value
+use Rattle.page_model.specs.Pages.{NumberedPage, bare}
+use Rattle.page_model.specs.Replay.{Op}
+use Rattle.tpl_model.specs.Updates.{Updated, updated}
 use Rattle.signal_model.specs.Standing.{is_in}
 use Rattle.signal_model.specs.Changes.{live_count}
 use Rattle.signal_model.specs.Values.{value_of}
@@ -29,8 +31,10 @@ use Rattle.sig_owner.specs.declared.limits.TheConstants.{MOST_OWNERS}
 use Rattle.sig_untrack.specs.Stated.{Bodies}
 use Rattle.effect_tables.specs.declared.tables.TheConstants.{MOST_EFFECTS}
 use Rattle.effect_tables.specs.Placed.{at_rest}
+use Rattle.live_cmd.specs.Grammar.{are_fields}
 use Rattle.live_cmd.specs.declared.command.SourceText.{SourceText}
 use Rattle.live_cmd.specs.declared.command.SourceText.TheVariants as source
+use Rattle.live_cmd.specs.declared.command.RowEdit.{RowEdit}
 use Rattle.live_cmd.specs.declared.command.Verb.{Verb}
 use Rattle.live_cmd.specs.declared.command.Verb.TheVariants as verb
 use Rattle.live_cmd.specs.declared.command.Command.{Command}
@@ -38,30 +42,30 @@ use Rattle.live_cmd.specs.declared.command.Command.TheVariants as command
 use Rattle.live_cmd.specs.declared.command.Try.{Try}
 use Rattle.live_cmd.specs.declared.command.Item.{Item}
 use Rattle.live_cmd.specs.declared.command.Item.TheVariants as item
-use Rattle.live_cmd.specs.declared.entry.Seen.{Seen}
-use Rattle.live_cmd.specs.declared.entry.Seen.TheVariants as seen
-use Rattle.live_cmd.specs.declared.entry.Entry.{Entry}
-use Rattle.live_cmd.specs.declared.entry.Entry.TheVariants as entry
-use Rattle.live_cmd.specs.declared.refusal.LimitWord.{LimitWord}
-use Rattle.live_cmd.specs.declared.refusal.LimitWord.TheVariants as limit
-use Rattle.live_cmd.specs.declared.refusal.Refusal.{Refusal}
-use Rattle.live_cmd.specs.declared.refusal.Refusal.TheVariants as refusal
+use Rattle.live_entries.specs.declared.entry.Seen.{Seen}
+use Rattle.live_entries.specs.declared.entry.Seen.TheVariants as seen
+use Rattle.live_entries.specs.declared.entry.Entry.{Entry}
+use Rattle.live_entries.specs.declared.entry.Entry.TheVariants as entry
+use Rattle.live_entries.specs.declared.refusal.LimitWord.{LimitWord}
+use Rattle.live_entries.specs.declared.refusal.LimitWord.TheVariants as limit
+use Rattle.live_entries.specs.declared.refusal.Refusal.{Refusal}
+use Rattle.live_entries.specs.declared.refusal.Refusal.TheVariants as refusal
 use Rattle.live_model.specs.declared.names.Kind.{Kind}
 use Rattle.live_model.specs.declared.names.Kind.TheVariants as kind
-use Rattle.live_model.specs.declared.parts.Page.{Page}
 use Rattle.live_model.specs.Labels.{Labels, no_labels, name_at, named as a_label, label_at, label_of, relabelled, labels_after, named_count}
-use Rattle.live_model.specs.Linking.{linked, recipe_of, owner_of, linked_body}
+use Rattle.live_model.specs.Linking.{recipe_of, owner_of, linked_body, linked_template}
 use Rattle.live_model.specs.Names.{Names, meaning_of, number_of, thing_named, first_refusal, first_within}
-use Rattle.live_model.specs.Pages.{asked_of, html_of}
+use Rattle.live_model.specs.Pages.{Template, template_in, Page, page_html, scratch_html, asked_of}
+use Rattle.live_model.specs.Rows.{edited, edit_refusal, no_rows, rows_at}
 use Rattle.live_model.specs.Uses.{uses_of, uses_of_body, hosts_of_body, is_fit}
 
 -- What the names stand for, in order of making; what things are called; the signals, what is kept of them, the watchers, and the owners,
--- effects and pages with what stands under what; the texts of each template; the pages that live, in order of mounting.
+-- effects and pages with what stands under what; the templates; the pages that live, in order of mounting.
 pub record Machine : Type 0 where
   pub names : Names
   pub labels : Labels
   pub world : World
-  pub templates : List (List Recipe)
+  pub templates : List Template
   pub pages : List Page
 
 -- nothing was made yet, and there are so many host formulas
@@ -77,9 +81,9 @@ pub record Told : Type 0 where
 abbrev pub told : Machine → List Entry → Told
 told m es = record { machine = m; entries = es }
 
--- the texts of the template of a number
-abbrev pub texts_at : List (List Recipe) → ℕ → List Recipe
-texts_at templates t = unwrap_or (slice_get templates t) []
+-- the template of a number
+abbrev pub template_at : Machine → ℕ → Template
+template_at m t = template_in m.templates t
 
 -- ---- what is told
 
@@ -176,22 +180,26 @@ is_trying (Some t) = true
 
 -- ---- pages
 
--- the HTML of a template, from scratch
-abbrev pub template_html : Environment → Machine → ℕ → List ℕ
-template_html env m t = html_of env.hosts m.world.signals (texts_at m.templates t)
-
--- the names that a template reads
+-- the signals that a template reads
 abbrev pub template_reads : Environment → Machine → ℕ → List ℕ
-template_reads env m t = asked_of env.hosts m.world.signals (texts_at m.templates t)
+template_reads env m t = asked_of env.hosts m.world.signals (template_at m t)
 
--- a page with the HTML of now
+-- what a page of a template comes to: its nodes of now, and the operations that lead to them
+abbrev pub carried_on : Environment → Machine → ℕ → NumberedPage → Updated
+carried_on env m t old = let x = template_at m t in updated env.hosts m.world.signals x.lines x.links m.world.memos old
+
+-- operations on a page, one after the other
+abbrev pub ops_told : List ℕ → List Op → List Entry
+ops_told n ops = map (λ (o : Op). entry.Op n o) ops
+
+-- a page is told exactly where it has an operation: they, and then its HTML
+abbrev pub news_of : Page → List Op → List Entry
+news_of p [] = []
+news_of p (o ∷ ops) = ops_told p.name (o ∷ ops) ++ entry.Page p.name (page_html p) ∷ []
+
+-- a page brought up to date
 abbrev pub brought_up : Environment → Machine → Page → Page
-brought_up env m p = record p { shown = template_html env m p.template }
-
--- a page is told exactly where its HTML differs from what was told last
-abbrev pub news_of : Environment → Machine → Page → List Entry
-news_of env m p =
-    if bytes_eq (template_html env m p.template) p.shown then [] else entry.Page p.name (template_html env m p.template) ∷ []
+brought_up env m p = record p { content = (carried_on env m p.template p.content).page }
 
 -- Pages are brought up to date, in order: what each reads is settled, with the runs told, and then it is told itself. Those that were
 -- are put behind the others.
@@ -199,8 +207,9 @@ abbrev pub update_all : Environment → List Page → Machine → Told
 update_all env [] m = told m []
 update_all env (p ∷ ps) m =
     let s = settling env m (template_reads env m p.template) in
-    let rest = update_all env ps (record (s.machine) { pages = m.pages ++ brought_up env m p ∷ [] }) in
-    told rest.machine (s.entries ++ news_of env m p ++ rest.entries)
+    let now = brought_up env m p in
+    let rest = update_all env ps (record (s.machine) { pages = m.pages ++ now ∷ [] }) in
+    told rest.machine (s.entries ++ news_of now (carried_on env m p.template p.content).ops ++ rest.entries)
 
 -- the page of a number
 abbrev pub page_at : List Page → ℕ → Option Page
@@ -209,7 +218,7 @@ page_at (p ∷ ps) n = if n == p.number then Some p else page_at ps n
 
 -- the HTML of a page as it was last brought up to date
 abbrev pub shown_of : Machine → ℕ → List ℕ
-shown_of m n = unwrap_or (option_map (λ (p : Page). p.shown) (page_at m.pages n)) []
+shown_of m n = unwrap_or (option_map page_html (page_at m.pages n)) []
 
 -- a page is made under a name, the last of those that live
 abbrev pub with_page : Machine → Page → Option ℕ → Machine
@@ -217,12 +226,24 @@ with_page m p inside =
     with_name (with_labels (record m { pages = m.pages ++ p ∷ [] }) (record (m.labels) { pages = m.labels.pages ++ p.name ∷ [] })
     (with_new_page inside m.world)) p.name kind.Page p.number
 
--- a page is made of a template, and what it reads is settled
+-- a page is made of a template: what it reads is settled, and the operations that lead to it from a bare page are told with its HTML
 abbrev pub mounted : Environment → Machine → List ℕ → ℕ → Option ℕ → Told
 mounted env m n t inside =
     let s = settling env m (template_reads env m t) in
-    let p : Page = record { name = n; number = m.world.made.pages; template = t; shown = template_html env m t } in
-    told (with_page s.machine p inside) (s.entries ++ entry.Page n p.shown ∷ [])
+    let u = carried_on env m t bare in
+    let p : Page = record { name = n; number = m.world.made.pages; template = t; content = u.page } in
+    told (with_page s.machine p inside) (s.entries ++ ops_told n u.ops ++ entry.Page n (page_html p) ∷ [])
+
+-- what a page's template shows from scratch is told, with the runs of what it reads; the page stays as it is
+abbrev pub from_scratch : Environment → Machine → List ℕ → ℕ → Told
+from_scratch env m n t =
+    let s = settling env m (template_reads env m t) in
+    told s.machine (s.entries ++ entry.Scratch n (scratch_html env.hosts m.world.signals (template_at m t)) ∷ [])
+
+-- so it is with a page's template, and nothing is shown where no page lives
+abbrev pub scratching : Environment → Machine → List ℕ → Option Page → Told
+scratching env m n None = told m (entry.Scratch n [] ∷ [])
+scratching env m n (Some p) = from_scratch env m n p.template
 
 -- ---- what commands do
 
@@ -253,6 +274,7 @@ named env m verb.State n i = told m (entry.State n (seen_of (mark_of m.world.sig
 named env m verb.Sources n i = told m (entry.Sources n (source_labels m i) ∷ [])
 named env m verb.Pending n i = told m (entry.Pending n (pending_labels m i) ∷ [])
 named env m verb.Show n i = told m (entry.Page n (shown_of m i) ∷ [])
+named env m verb.Scratch n i = scratching env m n (page_at m.pages i)
 named env m verb.Dispose n i = disposing env m (thing_named (meaning_of m.names n))
 
 -- after the turns of a flush, which may have refused it, the pages are brought up to date
@@ -265,10 +287,17 @@ after_turns env false t =
 abbrev pub flushing : Environment → Machine → Told
 flushing env m = let f = flush env m.world in after_turns env f.refused (acted_on_pages m f.world)
 
+-- the rows of a list are edited, which is done as a set is: nothing happens where they stay the same
+abbrev pub editing : Environment → Machine → ℕ → RowEdit → Told
+editing env m i e = acted m (set_cell env i (value.Rows (edited e (rows_at m.world.signals i))) m.world)
+
 -- what a command does that isn't refused
 abbrev pub done : Environment → Machine → Command → Told
 done env m (command.Cell n v equals inside) =
     told (with_signal m n kind.Cell (with_new_cell (scalar_value v) equals (owner_of m.names inside) m.world)) []
+done env m (command.List n fields inside) =
+    told (with_signal m n kind.List (with_new_cell (value.Rows (no_rows fields)) None (owner_of m.names inside) m.world)) []
+done env m (command.Edit n e) = editing env m (number_of m.names n) e
 done env m (command.Set n v) = acted m (set_cell env (number_of m.names n) (scalar_value v) m.world)
 done env m (command.Computed n s inside) =
     let r = recipe_of m.names s in
@@ -280,8 +309,8 @@ done env m (command.Watch n signals) = acted m (changed_watcher (number_of m.nam
 done env m (command.Unwatch n s) = acted m (changed_watcher (number_of m.names n) (forget (number_of m.names s)) m.world)
 done env m (command.Named v n) = named env m v n (number_of m.names n)
 done env m (command.Effect n b inside) = told (with_effect m n b (owner_of m.names inside)) []
-done env m (command.Template n texts) =
-    told (with_name (record m { templates = m.templates ++ map (linked m.names) texts ∷ [] }) n kind.Template (length m.templates)) []
+done env m (command.Template n t) =
+    told (with_name (record m { templates = m.templates ++ linked_template m.names t ∷ [] }) n kind.Template (length m.templates)) []
 done env m (command.Mount n t inside) = mounted env m n (number_of m.names t) (owner_of m.names inside)
 done env m command.Flush = flushing env m
 
@@ -292,10 +321,15 @@ abbrev pub sources_refusal : SourceText → Option Refusal
 sources_refusal (source.Formula f) = None
 sources_refusal (source.Host place arguments) = if nat_lt MOST_SOURCES (length arguments) then Some (refusal.Limit limit.Sources) else None
 
--- a command with such a one, or with a body that no script can have
+-- whether names are those of a list's fields
+abbrev pub is_list : List (List ℕ) → Bool
+is_list fields = are_fields fields && not (nat_lt MOST_FIELDS (length fields))
+
+-- a command with such a one, or with fields or a body that no script can have
 abbrev pub count_refusal : Command → Option Refusal
 count_refusal (command.Computed n s inside) = sources_refusal s
 count_refusal (command.Rewire n s) = sources_refusal s
+count_refusal (command.List n fields inside) = if is_list fields then None else Some (refusal.Limit limit.Fields)
 count_refusal (command.Effect n b inside) = if is_fit b then None else Some (refusal.Limit limit.Body)
 count_refusal c = None
 
@@ -337,6 +371,11 @@ place_refusal slacks w (command.Rewire n s) = host_refusal w s
 place_refusal slacks w (command.Effect n b inside) = outside_refusal (length w.host_states) (hosts_of_body b)
 place_refusal slacks w c = None
 
+-- an edit that the rows of its list don't allow
+abbrev pub row_refusal : Machine → Command → Option Refusal
+row_refusal m (command.Edit n e) = edit_refusal e (rows_at m.world.signals (number_of m.names n))
+row_refusal m c = None
+
 -- one more than the most
 abbrev pub one_too_many : ℕ → ℕ → LimitWord → Option Refusal
 one_too_many most count word = if nat_lt count most then None else Some (refusal.Limit word)
@@ -344,11 +383,12 @@ one_too_many most count word = if nat_lt count most then None else Some (refusal
 -- a command that makes one thing more than there may be
 abbrev pub over_limit : Machine → Command → Option Refusal
 over_limit m (command.Cell n v equals inside) = one_too_many MOST_NODES (live_count m.world.signals) limit.Nodes
+over_limit m (command.List n fields inside) = one_too_many MOST_NODES (live_count m.world.signals) limit.Nodes
 over_limit m (command.Computed n s inside) = one_too_many MOST_NODES (live_count m.world.signals) limit.Nodes
 over_limit m (command.Owner n inside) = one_too_many MOST_OWNERS (length m.world.owners) limit.Owners
 over_limit m (command.Watcher n tries) = one_too_many MOST_WATCHERS (length m.world.watchers) limit.Watchers
 over_limit m (command.Effect n b inside) = one_too_many MOST_EFFECTS (named_count m.labels m.world.effects) limit.Effects
-over_limit m (command.Template n texts) = one_too_many MOST_TEMPLATES (length m.templates) limit.Templates
+over_limit m (command.Template n t) = one_too_many MOST_TEMPLATES (length m.templates) limit.Templates
 over_limit m (command.Mount n t inside) = one_too_many MOST_PAGES (length m.world.pages) limit.Pages
 over_limit m c = None
 
@@ -358,10 +398,11 @@ unwatch_refusal m (command.Unwatch n s) =
     if watches m.world.watchers (number_of m.names n) (number_of m.names s) then None else Some (refusal.NotWatched s)
 unwatch_refusal m c = None
 
--- what stands behind the names: the place of a host formula or of a rule, then what there would be too much of, and last a signal that
--- isn't watched
+-- what stands behind the names: the place of a host formula or of a rule, then what the rows of a list don't allow, then what there would
+-- be too much of, and last a signal that isn't watched
 abbrev pub later_refusal : List ℕ → Machine → Command → Option Refusal
-later_refusal slacks m c = option_or (place_refusal slacks m.world c) (option_or (over_limit m c) (unwatch_refusal m c))
+later_refusal slacks m c =
+    option_or (place_refusal slacks m.world c) (option_or (row_refusal m c) (option_or (over_limit m c) (unwatch_refusal m c)))
 
 -- Why a command is refused before it does anything, if it is, where the equality rules have these slacks: first how many names it has, then
 -- its names, and then what stands behind them.

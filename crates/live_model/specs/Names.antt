@@ -5,8 +5,8 @@ use Rattle.std.specs.Option.{option_or, option_map_or}
 use Rattle.std.specs.Map.{lookup}
 use Rattle.effect_model.specs.Owning.{Thing, the_signal, the_owner, the_effect, the_page, the_watcher}
 use Rattle.effect_model.specs.Worlds.{World, lives}
-use Rattle.live_cmd.specs.declared.refusal.Refusal.{Refusal}
-use Rattle.live_cmd.specs.declared.refusal.Refusal.TheVariants as refusal
+use Rattle.live_entries.specs.declared.refusal.Refusal.{Refusal}
+use Rattle.live_entries.specs.declared.refusal.Refusal.TheVariants as refusal
 use Rattle.live_model.specs.declared.names.Kind.{Kind}
 use Rattle.live_model.specs.declared.names.Kind.TheVariants as kind
 use Rattle.live_model.specs.declared.names.Meaning.{Meaning}
@@ -28,6 +28,7 @@ number_of names n = option_map_or (λ (m : Meaning). m.number) (meaning_of names
 -- whether the two are one kind
 abbrev pub same_kind : Kind → Kind → Bool
 same_kind kind.Cell kind.Cell = true
+same_kind kind.List kind.List = true
 same_kind kind.Computed kind.Computed = true
 same_kind kind.Owner kind.Owner = true
 same_kind kind.Effect kind.Effect = true
@@ -39,12 +40,14 @@ same_kind _ _ = false
 -- whether it stands for a signal
 abbrev pub is_signal : Kind → Bool
 is_signal kind.Cell = true
+is_signal kind.List = true
 is_signal kind.Computed = true
 is_signal _ = false
 
 -- what of a kind can be disposed, by its number
 abbrev pub thing_of : Kind → ℕ → Option Thing
 thing_of kind.Cell n = Some (the_signal n)
+thing_of kind.List n = Some (the_signal n)
 thing_of kind.Computed n = Some (the_signal n)
 thing_of kind.Owner n = Some (the_owner n)
 thing_of kind.Effect n = Some (the_effect n)

@@ -2,8 +2,8 @@
 use Rattle.std.specs.Prelude.{ℕ, Bool, true, false, List, [], ◌∷◌, ◌++◌, flat_map}
 use Rattle.effect_model.specs.Worlds.{Environment}
 use Rattle.live_cmd.specs.declared.command.Item.{Item}
-use Rattle.live_cmd.specs.declared.entry.Entry.{Entry}
-use Rattle.live_cmd.specs.Printed.{printed}
+use Rattle.live_entries.specs.declared.entry.Entry.{Entry}
+use Rattle.live_entries.specs.Printed.{printed}
 use Rattle.live_model.specs.declared.jobs.Job.{Job}
 use Rattle.live_model.specs.declared.jobs.Job.TheVariants as job
 use Rattle.live_model.specs.Machine.{Machine, empty, step}

@@ -1,34 +1,42 @@
--- What pages show, from scratch on the signals, and what they read for it.
-use Rattle.std.specs.Prelude.{ℕ, List, [], ◌++◌, codes, unwrap_or}
-use Rattle.std.specs.List.{flat_map}
-use Rattle.sig_base.specs.declared.value.Outcome.{Outcome}
-use Rattle.sig_base.specs.declared.value.Outcome.TheVariants.{Good, Bad}
-use Rattle.sig_base.specs.Printing.{fault_name}
-use Rattle.sig_base.specs.Values.{shown}
-use Rattle.html_out.specs.Html.{escaped}
-use Rattle.signal_model.specs.Recipes.{Hosts, Recipe}
+-- Templates whose names stand for signals, the pages made from them, and what these show.
+use Rattle.std.specs.Prelude.{ℕ, List, [], slice_get, unwrap_or}
+use Rattle.signal_model.specs.Recipes.{Hosts}
 use Rattle.signal_model.specs.Standing.{Signals}
-use Rattle.signal_model.specs.Values.{recipe_evaluation, recipe_value}
-use Rattle.signal_model.specs.Sound.{names_of}
-use Rattle.signal_laws.specs.ReadingLaws.{firsts_after}
+use Rattle.page_model.specs.Html.{html_of}
+use Rattle.page_model.specs.Labels.{shown}
+use Rattle.page_model.specs.Pages.{NumberedPage, tree_of}
+use Rattle.tpl_model.specs.Lines.{Line}
+use Rattle.tpl_model.specs.Sources.{template_asked, template_shape}
 
--- the text of a text node: the shown text of a scalar, and for rows and faults `#ERR` with the name of the fault
-abbrev pub node_text : Outcome → List ℕ
-node_text (Good v) = unwrap_or (shown v) (codes "#ERR kind")
-node_text (Bad f) = codes "#ERR " ++ fault_name f
+-- a template: its lines, and the signals for which the slots of their formulas stand
+pub record Template : Type 0 where
+  pub lines : List Line
+  pub links : List ℕ
 
--- the HTML of a text node
-abbrev pub node_html : Outcome → List ℕ
-node_html o = escaped (node_text o)
+-- nothing is shown
+abbrev pub no_template : Template
+no_template = record { lines = []; links = [] }
 
--- the texts of a template, one after the other
-abbrev pub html_of : Hosts → Signals → List Recipe → List ℕ
-html_of hosts w texts = flat_map (λ r. node_html (recipe_value hosts w r)) texts
+-- the template of a number; none past the last
+abbrev pub template_in : List Template → ℕ → Template
+template_in templates t = unwrap_or (slice_get templates t) no_template
 
--- the names that a text reads, in order
-abbrev pub reads_in : Hosts → Signals → Recipe → List ℕ
-reads_in hosts w r = names_of (recipe_evaluation hosts w r).reads
+-- a page that lives: its name, its number among all pages that were mounted, the number of its template, and its nodes as they were last
+-- brought up to date
+pub record Page : Type 0 where
+  pub name : List ℕ
+  pub number : ℕ
+  pub template : ℕ
+  pub content : NumberedPage
 
--- the names that the texts of a template read, in order of first reading
-abbrev pub asked_of : Hosts → Signals → List Recipe → List ℕ
-asked_of hosts w texts = firsts_after [] (flat_map (reads_in hosts w) texts)
+-- the HTML of a page as it was last brought up to date
+abbrev pub page_html : Page → List ℕ
+page_html p = html_of (tree_of p.content)
+
+-- the HTML of a template, from scratch
+abbrev pub scratch_html : Hosts → Signals → Template → List ℕ
+scratch_html hosts w t = html_of (shown (template_shape hosts w t.lines t.links))
+
+-- the signals that a template reads, in order of first reading
+abbrev pub asked_of : Hosts → Signals → Template → List ℕ
+asked_of hosts w t = template_asked hosts w t.lines t.links

@@ -204,11 +204,14 @@ need_of verb.State = need.Of kind.Computed
 need_of verb.Sources = need.Of kind.Computed
 need_of verb.Pending = need.Of kind.Watcher
 need_of verb.Show = need.Of kind.Page
+need_of verb.Scratch = need.Of kind.Page
 need_of verb.Dispose = need.Thing
 
 -- The names of a command in the order of its text, those in the body of an effect aside. What a watcher's notification tries isn't looked up.
 abbrev pub uses_of : Command → List Use
 uses_of (command.Cell n v equals inside) = (n, need.New) ∷ uses_of_inside inside
+uses_of (command.List n fields inside) = (n, need.New) ∷ uses_of_inside inside
+uses_of (command.Edit n e) = (n, need.Of kind.List) ∷ []
 uses_of (command.Set n v) = (n, need.Of kind.Cell) ∷ []
 uses_of (command.Computed n s inside) = (n, need.New) ∷ (uses_of_source s ++ uses_of_inside inside)
 uses_of (command.Rewire n s) = (n, need.Of kind.Computed) ∷ uses_of_source s
@@ -218,6 +221,6 @@ uses_of (command.Watch n signals) = (n, need.Of kind.Watcher) ∷ uses_of_signal
 uses_of (command.Unwatch n s) = (n, need.Of kind.Watcher) ∷ (s, need.Signal) ∷ []
 uses_of (command.Named v n) = (n, need_of v) ∷ []
 uses_of (command.Effect n b inside) = (n, need.New) ∷ uses_of_inside inside
-uses_of (command.Template n texts) = (n, need.New) ∷ flat_map uses_of_formula texts
+uses_of (command.Template n t) = (n, need.New) ∷ uses_of_signals t.names
 uses_of (command.Mount n t inside) = (n, need.New) ∷ (t, need.Of kind.Template) ∷ uses_of_inside inside
 uses_of command.Flush = []

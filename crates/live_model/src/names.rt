@@ -4,6 +4,7 @@
 #[derive(Clone, Copy, Debug, PartialEq, Eq)]
 pub enum Kind {
     Cell,
+    List,
     Computed,
     Owner,
     Effect,
@@ -12,7 +13,7 @@ pub enum Kind {
     Page,
 }
 
-/// What a name stands for: that of this number among those of its kind. Cells and computeds are numbered together.
+/// What a name stands for: that of this number among those of its kind. Cells, lists and computeds are numbered together.
 #[derive(Clone, Copy, Debug, PartialEq, Eq)]
 pub struct Meaning {
     pub kind: Kind,
@@ -26,7 +27,7 @@ pub enum Need {
     New,
     /// Of this kind.
     Of(Kind),
-    /// A cell or a computed.
+    /// A cell, a list or a computed.
     Signal,
     /// Anything but a template, which can't be disposed.
     Thing,

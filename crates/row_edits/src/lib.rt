@@ -1,0 +1,7 @@
+//! Edits of a list's rows as a script has them: what they make, or why they are refused.
+#![tactic(auto)]
+
+mod editing;
+mod refusing;
+
+pub use editing::edited;
