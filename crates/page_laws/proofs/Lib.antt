@@ -1,0 +1,10 @@
+mod Values
+mod Owned
+mod Worlds
+mod Rows
+mod Leading
+mod Flushing
+mod Naming
+mod Stepping
+mod Living
+mod Samples

@@ -1,0 +1,5 @@
+use Rattle.page_laws.proofs.Living.{live_law}
+use Rattle.page_laws.proofs.laws.live_law.Goals as goal
+
+pub returns : goal.returns
+returns c = live_law c.one_reading.ensures

@@ -1,0 +1,75 @@
+-- A worked example: a page of one text is mounted, and is brought up to date at a flush.
+use Rattle.std.specs.Prelude.{◌≡◌, ℕ, List, [], ◌∷◌, codes, map}
+use Rattle.std.proofs.Common.{refl}
+use Rattle.sig_formula.specs.Trees.{slot}
+use Rattle.page_model.specs.Addresses.{address}
+use Rattle.page_model.specs.Forest.{Forest, none, node}
+use Rattle.page_model.specs.Labels.{Kind, Root, Text, Element}
+use Rattle.page_model.specs.Replay.{OpInsert, OpText, Done, replay}
+use Rattle.tpl_syntax.specs.declared.line.Line.TheVariants as line
+use Rattle.live_cmd.specs.declared.command.Item.{Item}
+use Rattle.live_model.specs.EffectExamples.{a_flush}
+use Rattle.live_model.specs.Examples.{a_cell, a_set, a_template, environment}
+use Rattle.live_model.specs.Machine.{Machine, empty, step, template_at}
+use Rattle.live_model.specs.PageExamples.{a_mount}
+use Rattle.live_model.specs.Pages.{page_html, scratch_html}
+use Rattle.live_model.specs.RowExamples.{words}
+use Rattle.page_laws.specs.LivePages.{ops_of, tree_named}
+
+-- the machine behind items
+abbrev pub machine_after : Machine → List Item → Machine
+machine_after m [] = m
+machine_after m (i ∷ is) = machine_after (step environment m i).machine is
+
+-- a cell and a template that shows it; then a page of it is mounted; then the cell is set; and then comes a flush
+abbrev pub made : Machine
+made =
+    machine_after (empty 0) (a_cell (codes "c") (words (codes "A"))
+    ∷ a_template (codes "t") (line.Tag (codes "b") ∷ line.Text (slot 0) ∷ line.End ∷ []) (codes "c" ∷ []) ∷ [])
+
+abbrev pub mounted : Machine
+mounted = machine_after made (a_mount (codes "p") (codes "t") ∷ [])
+
+abbrev pub changed : Machine
+changed = machine_after mounted (a_set (codes "c") (words (codes "B")) ∷ [])
+
+abbrev pub flushed : Machine
+flushed = machine_after changed (a_flush ∷ [])
+
+-- the tree of an element with this text
+abbrev pub tree_with : List ℕ → Forest Kind
+tree_with t = node 0 Root (node 1 (Element (codes "b") []) (node 2 (Text t) none none) none) none
+
+-- what the mount tells leads from the bare page to the page
+pub mount_told : ops_of (codes "p") (step environment made (a_mount (codes "p") (codes "t"))).entries
+    ≡ OpInsert 0 0 1 (Element (codes "b") []) (node 2 (Text (codes "A")) none none) ∷ []
+unfolding address
+mount_told = refl
+
+pub before_mount : tree_named made.pages (codes "p") ≡ node 0 Root none none
+before_mount = refl
+
+pub after_mount : tree_named mounted.pages (codes "p") ≡ tree_with (codes "A")
+unfolding address
+after_mount = refl
+
+pub mount_replayed : replay (OpInsert 0 0 1 (Element (codes "b") []) (node 2 (Text (codes "A")) none none) ∷ []) (node 0 Root none none)
+    ≡ Done (tree_with (codes "A"))
+mount_replayed = refl
+
+-- the page is as it was until the flush, which changes its text
+pub before_flush : tree_named changed.pages (codes "p") ≡ tree_with (codes "A")
+unfolding address
+before_flush = refl
+
+pub flush_told : ops_of (codes "p") (step environment changed a_flush).entries ≡ OpText 2 (codes "B") ∷ []
+unfolding address
+flush_told = refl
+
+pub flush_replayed : replay (OpText 2 (codes "B") ∷ []) (tree_with (codes "A")) ≡ Done (tree_named flushed.pages (codes "p"))
+unfolding address
+flush_replayed = refl
+
+pub after_flush : map page_html flushed.pages ≡ scratch_html environment.hosts flushed.world.signals (template_at flushed 0) ∷ []
+unfolding address
+after_flush = refl

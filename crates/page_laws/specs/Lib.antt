@@ -1,0 +1,2 @@
+pub mod LivePages
+pub mod Examples
