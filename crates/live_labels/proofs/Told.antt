@@ -8,7 +8,7 @@ use Rattle.sig_effect.specs.Events as below
 use Rattle.effect_world.specs.declared.events.Event.{Event}
 use Rattle.effect_world.specs.declared.events.Event.TheVariants as event
 use Rattle.effect_world.specs.Events.{AreTold, IsTold}
-use Rattle.live_cmd.specs.declared.entry.Entry.{Entry}
+use Rattle.live_entries.specs.declared.entry.Entry.{Entry}
 use Rattle.sig_base.specs.Words.{is_name, is_reserved}
 use Rattle.live_model.specs.Labels.{Labels, labels_after, nobody, relabelled}
 use Rattle.live_model.specs.Machine.{entries_of, event_entries}

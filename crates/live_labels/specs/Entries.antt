@@ -8,9 +8,9 @@ use Rattle.sig_effect.specs.declared.events.Event.TheVariants as signals
 use Rattle.sig_effect.specs.Events as ends
 use Rattle.effect_world.specs.declared.events.Event.{Event}
 use Rattle.effect_world.specs.declared.events.Event.TheVariants as event
-use Rattle.live_cmd.specs.declared.entry.Entry.{Entry}
-use Rattle.live_cmd.specs.declared.entry.Entry.TheVariants as entry
-use Rattle.live_cmd.specs.declared.refusal.Refusal.TheVariants as refusal
+use Rattle.live_entries.specs.declared.entry.Entry.{Entry}
+use Rattle.live_entries.specs.declared.entry.Entry.TheVariants as entry
+use Rattle.live_entries.specs.declared.refusal.Refusal.TheVariants as refusal
 use Rattle.live_model.specs.Labels.{Labels, label_at, label_of, name_at, relabelled}
 
 -- what is told of a run, by the names of signals

@@ -8,7 +8,8 @@ ghost use Rattle.live_labels.specs.Views.{labels_of};
 
 use crate::labels::{EffectLabel, Labels};
 use effect_tables::{Effect, Thing};
-use live_cmd::{ChildPath, Label, NameList};
+use live_cmd::NameList;
+use live_entries::{ChildPath, Label};
 use sig_base::{EffectId, Name, NameFault, NoMemory, NodeId, WatcherId};
 use std::alloc::Global;
 

@@ -3,7 +3,7 @@ ghost use Rattle.std.specs.Prelude.{◌≡◌};
 ghost use Rattle.live_model.specs.Labels.{no_labels};
 ghost use Rattle.live_labels.specs.Views.{labels_of};
 
-use live_cmd::Label;
+use live_entries::Label;
 use sig_base::{EffectId, Name};
 use std::alloc::Global;
 

@@ -5,8 +5,8 @@ ghost use Rattle.effect_tables.specs.Linking.{thing_of};
 ghost use Rattle.sig_computed.specs.Notes.{note_of};
 ghost use Rattle.sig_effect.specs.Events as signals;
 ghost use Rattle.effect_world.specs.Events.{AreTold};
-ghost use Rattle.live_cmd.specs.declared.entry.Entry.TheVariants as entry;
-ghost use Rattle.live_cmd.specs.declared.refusal.Refusal.TheVariants as refusal;
+ghost use Rattle.live_entries.specs.declared.entry.Entry.TheVariants as entry;
+ghost use Rattle.live_entries.specs.declared.refusal.Refusal.TheVariants as refusal;
 ghost use Rattle.live_model.specs.Labels.{label_at, label_of, labels_after, name_at, relabelled};
 ghost use Rattle.live_model.specs.Machine.{entries_of};
 ghost use Rattle.live_labels.specs.Entries.{entries_told, note_entry, renamed, signal_entry};
@@ -18,7 +18,7 @@ use crate::calling::{
 use crate::labels::Labels;
 use effect_tables::Thing;
 use effect_world::Event;
-use live_cmd::{Entry, Refusal};
+use live_entries::{Entry, Refusal};
 use sig_base::{EffectId, Fault, Name, NoMemory, NodeId, WatcherId};
 use sig_computed::RunNote;
 use sig_effect::{Event as SignalEvent, Thing as SignalThing};
@@ -175,7 +175,7 @@ fn entry_of(alloc: Global, labels: &Labels, event: &Event) -> Result<Option<Entr
             let entry = refusal_entry(alloc, labels, thing)?;
             Ok(Some(entry))
         }
-        Event::RefusedHost(place) => { Ok(Some(Entry::Error(Refusal::HostTaken(*place as u64)))) }
+        Event::RefusedHost(place) => Ok(Some(Entry::Error(Refusal::HostTaken(*place as u64)))),
         Event::Made { .. } => Ok(None),
         Event::Noted(_) => Ok(None),
     }

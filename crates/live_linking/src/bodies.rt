@@ -19,7 +19,7 @@ fn thing_meant(kind: Kind, number: u128) -> Thing
     ensures { result ≡ thing_meant kind number }
 {
     match kind {
-        Kind::Cell | Kind::Computed => Thing::Signal(NodeId::of(number)),
+        Kind::Cell | Kind::List | Kind::Computed => Thing::Signal(NodeId::of(number)),
         Kind::Owner => Thing::Owner(OwnerId::of(number)),
         Kind::Effect => Thing::Effect(EffectId::of(number)),
         Kind::Watcher => Thing::Watcher(WatcherId::of(number)),

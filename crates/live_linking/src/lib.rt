@@ -5,4 +5,4 @@ mod bodies;
 mod sources;
 
 pub use bodies::links_of;
-pub use sources::{LinkedSource, linked_source, linked_texts, owner_of, signals_of};
+pub use sources::{LinkedSource, linked_source, owner_of, signals_of};

@@ -2,16 +2,13 @@
 ghost use Rattle.std.specs.Prelude.{◌≡◌, IfOk, map};
 ghost use Rattle.sig_nodes.specs.Answers.{expression_of};
 ghost use Rattle.sig_nodes.specs.Computations.{recipe_made};
-ghost use Rattle.live_model.specs.Linking.{linked, owner_of, recipe_of};
+ghost use Rattle.live_model.specs.Linking.{owner_of, recipe_of};
 ghost use Rattle.live_model.specs.Names.{number_of};
 
-use formula_text::Wired;
-use live_cmd::{Formulas, SourceText};
-use live_model::Texts;
+use live_cmd::SourceText;
 use live_names::Names;
 use sig_base::{Name, NoMemory, NodeId, OwnerId};
 use sig_nodes::Recipe;
-use signal_model::Linked;
 use std::alloc::Global;
 
 /// What a computed asks, and the signals that its slots stand for.
@@ -66,26 +63,4 @@ pub fn linked_source(
             })
         }
     }
-}
-
-// A formula whose slots stand for the signals of its names.
-fn linked(alloc: Global, names: &Names, wired: Wired) -> Result<Linked, NoMemory>
-    ensures { IfOk result (λ l. l ≡ linked names.now wired) }
-{
-    let slots = signals_of(alloc, names, &wired.names)?;
-    Ok(Linked {
-        formula: wired.formula,
-        slots,
-    })
-}
-
-/// The formulas of a template's texts.
-pub fn linked_texts(alloc: Global, names: &Names, texts: Formulas) -> Result<Texts, NoMemory>
-    ensures { IfOk result (λ t. t ≡ map (linked names.now) texts) }
-{
-    let mut formulas = Vec::new(alloc);
-    for wired in texts.into_vec() {
-        formulas.push(linked(alloc, names, wired)?)?;
-    }
-    Ok(Texts::of(formulas))
 }

@@ -55,7 +55,7 @@ pub(crate) fn thing_of(kind: Kind, number: u128) -> Option<Thing>
     ensures { option_map thing_of result ≡ plain.thing_of kind number }
 {
     match kind {
-        Kind::Cell | Kind::Computed => Some(Thing::Signal(NodeId::of(number))),
+        Kind::Cell | Kind::List | Kind::Computed => Some(Thing::Signal(NodeId::of(number))),
         Kind::Owner => Some(Thing::Owner(OwnerId::of(number))),
         Kind::Effect => Some(Thing::Effect(EffectId::of(number))),
         Kind::Watcher => Some(Thing::Watcher(WatcherId::of(number))),

@@ -11,7 +11,7 @@ use crate::living::{is_gone, thing_of};
 use crate::names::Names;
 use effect_tables::Thing;
 use effect_world::World;
-use live_cmd::Refusal;
+use live_entries::Refusal;
 use live_model::{Kind, Meaning, Need};
 use live_uses::Use;
 use sig_base::{Name, NoMemory};
@@ -20,7 +20,7 @@ use sig_base::{Name, NoMemory};
 fn is_signal(kind: Kind) -> bool
     ensures { result ≡ is_signal kind }
 {
-    matches!(kind, Kind::Cell | Kind::Computed)
+    matches!(kind, Kind::Cell | Kind::List | Kind::Computed)
 }
 
 // Whether what was made is what a place needs.

@@ -1,5 +1,5 @@
 // Which names each command uses, in the order of its text.
-ghost use Rattle.std.specs.Prelude.{◌≡◌, ◌++◌, ◌∷◌, IfOk, OnOk, map, flat_map};
+ghost use Rattle.std.specs.Prelude.{◌≡◌, ◌++◌, ◌∷◌, IfOk, OnOk, map};
 ghost use Rattle.live_model.specs.declared.names.Need.TheVariants as need;
 ghost use Rattle.live_model.specs.Uses.{need_of, uses_of, uses_of_formula, uses_of_inside, uses_of_source};
 ghost use Rattle.live_uses.specs.Views.{use_of};
@@ -27,15 +27,6 @@ fn put_source<'a>(uses: &mut Vec<Use<'a>>, source: &'a SourceText) -> Result<(),
     }
 }
 
-fn put_texts<'a>(uses: &mut Vec<Use<'a>>, texts: &'a [Wired]) -> Result<(), NoMemory>
-    ensures { OnOk result (map use_of uses.new.items ≡ map use_of uses.old.items ++ flat_map uses_of_formula texts.now) }
-{
-    for text in texts {
-        put_formula(uses, text)?;
-    }
-    Ok(())
-}
-
 // Puts the owner inside which something is made, if one is named.
 fn put_inside<'a>(uses: &mut Vec<Use<'a>>, inside: &'a Option<Name>) -> Result<(), NoMemory>
     ensures { OnOk result (map use_of uses.new.items ≡ map use_of uses.old.items ++ uses_of_inside inside.now) }
@@ -55,7 +46,7 @@ fn need_of(verb: Verb) -> Need
         Verb::Dispose => Need::Thing,
         Verb::State | Verb::Sources => Need::Of(Kind::Computed),
         Verb::Pending => Need::Of(Kind::Watcher),
-        Verb::Show => Need::Of(Kind::Page),
+        Verb::Show | Verb::Scratch => Need::Of(Kind::Page),
     }
 }
 
@@ -76,6 +67,8 @@ fn put_uses<'a>(uses: &mut Vec<Use<'a>>, command: &'a Command) -> Result<(), NoM
 {
     match command {
         Command::Cell { name, inside, .. } => put_making(uses, name, inside),
+        Command::List { name, inside, .. } => put_making(uses, name, inside),
+        Command::Edit { name, .. } => put_use(uses, name, Need::Of(Kind::List)),
         Command::Set { name, .. } => put_use(uses, name, Need::Of(Kind::Cell)),
         Command::Computed {
             name,
@@ -101,9 +94,9 @@ fn put_uses<'a>(uses: &mut Vec<Use<'a>>, command: &'a Command) -> Result<(), NoM
             put_use(uses, signal, Need::Signal)
         }
         Command::Effect { name, inside, .. } => put_making(uses, name, inside),
-        Command::Template { name, texts } => {
+        Command::Template { name, template } => {
             put_use(uses, name, Need::New)?;
-            put_texts(uses, texts.as_slice())
+            put_signals(uses, template.names())
         }
         Command::Mount {
             name,

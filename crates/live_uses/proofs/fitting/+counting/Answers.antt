@@ -1,4 +1,4 @@
-use Rattle.std.proofs.Common.{◌≡◌, ◌+◌, ℕ, nat_lt, true, sym, ap, ◌∙◌, arith}
+use Rattle.std.proofs.Common.{◌≡◌, ◌+◌, nat_lt, true, sym, ap, ◌∙◌, arith}
 use Rattle.sig_formula.specs.Trees.{tree}
 use Rattle.sig_untrack.specs.declared.body.Stmt.{Stmt}
 use Rattle.sig_untrack.specs.declared.body.Stmt.TheVariants.{rolls-When}

@@ -1,6 +1,5 @@
 use Rattle.std.proofs.Common.{◌≡◌, ◌&&◌, Bool, length, sym, ap, ◌∙◌, arith}
 use Rattle.sig_untrack.specs.declared.body.Body.TheViews.{out-Body}
-use Rattle.sig_untrack.specs.Stated.{Bodies}
 use Rattle.live_model.specs.Uses.{are_linked}
 use Rattle.live_uses.proofs.Fits.{whole_links}
 use Rattle.live_uses.proofs.fitting.+linking.Goals as goal

@@ -1,4 +1,4 @@
-use Rattle.std.proofs.Common.{◌≡◌, nat_lt, ap, ◌∙◌}
+use Rattle.std.proofs.Common.{nat_lt, ap, ◌∙◌}
 use Rattle.sig_untrack.specs.declared.body.Body.TheViews.{out-Body}
 use Rattle.sig_untrack.specs.Stated.{bodies_before, no_more}
 use Rattle.live_model.specs.Uses.{count_in_bodies}

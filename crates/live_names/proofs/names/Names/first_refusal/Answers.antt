@@ -1,8 +1,8 @@
-use Rattle.std.proofs.Common.{◌≡◌, ◌+◌, List, [], ◌∷◌, Option, map, drop, sym, ap, ◌∙◌}
+use Rattle.std.proofs.Common.{◌+◌, List, ◌∷◌, Option, map, drop, sym, ap, ◌∙◌}
 use Rattle.std.specs.Option.{option_or}
 use Rattle.std.proofs.lemmas.List.{drop_all, drop_more}
 use Rattle.effect_world.specs.Wholes.{whole_of}
-use Rattle.live_cmd.specs.declared.refusal.Refusal.{Refusal}
+use Rattle.live_entries.specs.declared.refusal.Refusal.{Refusal}
 use Rattle.live_model.specs.Names.{first_refusal, refusal_at}
 use Rattle.live_uses.specs.declared.uses.Use.{Use}
 use Rattle.live_uses.specs.Views.{use_of}
