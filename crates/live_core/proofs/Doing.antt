@@ -31,10 +31,10 @@ use Rattle.effect_world.specs.Wholes.{whole_of}
 use Rattle.live_cmd.specs.declared.command.SourceText.{SourceText}
 use Rattle.live_cmd.specs.declared.command.SourceText.TheVariants as source
 use Rattle.live_cmd.specs.declared.command.Try.{Try}
-use Rattle.live_cmd.specs.declared.entry.Entry.{Entry}
-use Rattle.live_cmd.specs.declared.refusal.LimitWord.{LimitWord}
-use Rattle.live_cmd.specs.declared.refusal.LimitWord.TheVariants as limit
-use Rattle.live_cmd.specs.declared.refusal.Refusal.TheVariants as refusal
+use Rattle.live_entries.specs.declared.entry.Entry.{Entry}
+use Rattle.live_entries.specs.declared.refusal.LimitWord.{LimitWord}
+use Rattle.live_entries.specs.declared.refusal.LimitWord.TheVariants as limit
+use Rattle.live_entries.specs.declared.refusal.Refusal.TheVariants as refusal
 use Rattle.live_model.specs.declared.names.Kind.{Kind}
 use Rattle.live_model.specs.declared.names.Kind.TheVariants as kind
 use Rattle.live_model.specs.declared.names.Need.TheVariants as need
@@ -48,8 +48,8 @@ use Rattle.live_model.specs.Uses.{is_fit, uses_of_source}
 use Rattle.live_labels.specs.declared.labels.Labels.{Labels}
 use Rattle.live_labels.specs.Views.{labels_of, KeepsNames}
 use Rattle.live_pages.specs.declared.mounted.Mounted.{Mounted}
-use Rattle.live_pages.specs.Updates.{AreShown, ArePages, Settles}
-use Rattle.live_pages.specs.Views.{page_of}
+use Rattle.live_pages.specs.Updates.{AreShown, ArePages, AreTemplates, Settles}
+use Rattle.live_pages.specs.Views.{page_of, template_of}
 use Rattle.live_pages.proofs.Shared.{pages_filtered, pages_kept, plain_filtered, shown_filtered}
 use Rattle.live_core.specs.declared.machine.Machine.{Machine}
 use Rattle.live_core.specs.Keeping.{is_of_kind, AreMeant, IsReady, Leaves, Steps}
@@ -163,7 +163,7 @@ pages_steps hosts later m new entries next s names labels world templates pages 
         names = names i;
         labels = labels_of (labels i);
         world = whole_of later (world i);
-        templates = (ap (λ v. v.items) templates) i;
+        templates = (ap (λ v. map template_of v.items) templates) i;
         pages = (ap (map page_of) pages ∙ plain_filtered m.world.tables.pages.items m.pages.items) i;
       }) entries)
       ∙ ap (λ (t : plain.Told). told (with_live_pages t.machine) t.entries) s.step;
@@ -218,7 +218,7 @@ pub record KeepsMeant (m new : Machine) : Type 0 where
   pub templates : new.templates ≡ m.templates
   pub labels : KeepsNames m.labels new.labels
 
-pub ready_changed : (m new : Machine) → IsReady m → KeepsMeant m new → Stays m.world new.world → AreShown m.templates.items new.pages.items →
+pub ready_changed : (m new : Machine) → IsReady m → KeepsMeant m new → Stays m.world new.world → AreShown (map template_of m.templates.items) new.pages.items →
     ArePages new.world new.pages.items → IsReady new
 ready_changed m new r keeps stays shown pages = record {
   watchers = stays.watchers ∙ r.watchers ∙ ap (λ v. length v.items) (sym keeps.labels.watchers);
@@ -226,7 +226,8 @@ ready_changed m new r keeps stays shown pages = record {
   meant = subst (λ x. x) (λ i. AreMeant new.world (length (sym keeps.templates i).items) (sym keeps.names i))
       (meant_still m.world new.world _ m.names stays.given
       (λ k x h. kept_kind k (standing m.world.signals.graph.state.signals x) (standing new.world.signals.graph.state.signals x) (stays.kinds.each x) h) r.meant);
-  shown = subst (λ v. AreShown v.items new.pages.items) (sym keeps.templates) shown;
+  templates = subst (λ v. AreTemplates v.items) (sym keeps.templates) r.templates;
+  shown = subst (λ v. AreShown (map template_of v.items) new.pages.items) (sym keeps.templates) shown;
   pages = pages;
 }
 
@@ -248,7 +249,7 @@ pub leaves_ended : (asked later : List HostPlace) (rules : ℕ) (m new : Machine
     weight new.world ≤ weight m.world + 2 ^ 80 → Leaves asked later rules m new
 leaves_ended asked later rules m new r keeps stays pages agrees ruled few = record {
   ready = ready_changed m new r keeps stays
-      (shown_filtered m.templates.items (λ (p : Mounted). is_in p.number new.world.tables.pages.items) m.pages.items new.pages.items pages r.shown)
+      (shown_filtered (map template_of m.templates.items) (λ (p : Mounted). is_in p.number new.world.tables.pages.items) m.pages.items new.pages.items pages r.shown)
       (pages_filtered m.world new.world m.pages.items new.pages.items stays.pages pages r.pages);
   holds = λ h. record { agrees = agrees h.agrees; ruled = ruled h.ruled };
   weight = few;
@@ -257,6 +258,10 @@ leaves_ended asked later rules m new r keeps stays pages agrees ruled few = reco
 -- nothing changed
 pub leaves_same : (asked : List HostPlace) (rules : ℕ) (m : Machine) → IsReady m → Leaves asked asked rules m m
 leaves_same asked rules m r = record { ready = r; holds = λ h. h; weight = omega arith }
+
+-- a list isn't a computed either
+pub list_is : (s : Stands) → is_of_kind kind.List s ≡ true → is_computed s ≡ false
+list_is s e = cell_is s e
 
 -- ---- one command
 
@@ -344,6 +349,7 @@ lives_in w asked (Some t) = lives t (whole_of asked w)
 lives_by : (w : World) (asked : List HostPlace) (k : Kind) (n : ℕ) (t : things.Thing) → is_gone (whole_of [] w) k n ≡ false →
     thing_of k n ≡ Some t → lives t (whole_of asked w) ≡ true
 lives_by w asked kind.Cell n t e is = ap (lives_in w asked) (sym is) ∙ not_false _ e
+lives_by w asked kind.List n t e is = ap (lives_in w asked) (sym is) ∙ not_false _ e
 lives_by w asked kind.Computed n t e is = ap (lives_in w asked) (sym is) ∙ not_false _ e
 lives_by w asked kind.Owner n t e is = ap (lives_in w asked) (sym is) ∙ not_false _ e
 lives_by w asked kind.Effect n t e is = ap (lives_in w asked) (sym is) ∙ not_false _ e

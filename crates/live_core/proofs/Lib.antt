@@ -6,3 +6,4 @@ mod Making
 mod Mounts
 mod Watching
 mod Places
+mod Listed

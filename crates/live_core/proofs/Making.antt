@@ -1,7 +1,7 @@
 -- What is made, and what that leaves.
 use Rattle.std.proofs.Common.{◌≡◌, ◌==◌, ◌≤◌, ◌<◌, ◌+◌, ◌^◌, ℕ, zero, suc, arith, true, false, List, [], ◌∷◌, ◌++◌, length, map, refl, sym, ap, subst, ◌∙◌}
 use Rattle.std.proofs.lemmas.List.{length-append}
-use Rattle.signal_model.specs.Recipes.{Hosts, Recipe}
+use Rattle.signal_model.specs.Recipes.{Hosts}
 use Rattle.signal_model.specs.Standing.{Signals, Cell, Computed, Stands, is_there, standing}
 use Rattle.signal_model.specs.Changes.{with_cell, with_computed}
 use Rattle.effect_model.specs.Worlds as told
@@ -12,7 +12,7 @@ use Rattle.effect_world.specs.declared.world.World.{World}
 use Rattle.effect_world.specs.Agreeing.{IsSound}
 use Rattle.effect_world.specs.Weighing.{weight}
 use Rattle.effect_world.specs.Wholes.{whole_of}
-use Rattle.live_cmd.specs.declared.entry.Entry.{Entry}
+use Rattle.live_entries.specs.declared.entry.Entry.{Entry}
 use Rattle.live_model.specs.declared.names.Kind.{Kind}
 use Rattle.live_model.specs.declared.names.Kind.TheVariants as kind
 use Rattle.live_model.specs.Labels as called
@@ -20,10 +20,15 @@ use Rattle.live_model.specs.Machine as plain
 use Rattle.live_model.specs.Machine.{told, with_name}
 use Rattle.live_model.specs.Names.{is_signal, same_kind}
 use Rattle.live_labels.specs.Views.{labels_of}
-use Rattle.text_pages.specs.Shown.{Shows}
+use Rattle.tpl_blocks.specs.Blocks.{lines_of}
+use Rattle.tpl_live.specs.Pages.{Stands as PageStands}
+use Rattle.tpl_live.specs.Standings.{standing as standing_page}
+use Rattle.tpl_model.specs.Laws.{IsTemplate}
+use Rattle.live_model.specs.Pages.{template_in, Template}
+use Rattle.live_pages.specs.declared.mounted.LinkedTemplate.{LinkedTemplate}
 use Rattle.live_pages.specs.declared.mounted.Mounted.{Mounted}
-use Rattle.live_pages.specs.Updates.{AreShown, ArePages}
-use Rattle.live_pages.specs.Views.{page_of}
+use Rattle.live_pages.specs.Updates.{AreShown, ArePages, AreTemplates}
+use Rattle.live_pages.specs.Views.{page_of, template_of}
 use Rattle.live_pages.proofs.Shared.{pages_kept}
 use Rattle.live_core.specs.declared.machine.Machine.{Machine}
 use Rattle.live_core.specs.Keeping.{is_of_kind, AreMeant, Holds, IsReady, Leaves, Steps}
@@ -49,7 +54,7 @@ steps_named hosts asked m new n k id number labels w es same whole named none so
     names = (named.names ∙ ap (λ (x : ℕ). m.names ++ (n, record { kind = k; number = x }) ∷ []) same) i;
     labels = named.labels i;
     world = whole i;
-    templates = (ap (λ v. v.items) named.templates) i;
+    templates = (ap (λ v. map template_of v.items) named.templates) i;
     pages = (ap (λ v. map page_of v.items) named.pages) i;
   }) (none i));
   sound = sound;
@@ -76,7 +81,8 @@ leaves_signal asked rules m new n k id labels r off number named watchers pages 
     meant = subst (λ x. x) (λ i. AreMeant new.world (length (sym named.templates i).items)
         (sym (named.names ∙ ap (λ (x : ℕ). m.names ++ (n, record { kind = k; number = x }) ∷ []) number) i))
         (meant_made m.world new.world _ m.names n k off given beside here r.meant);
-    shown = subst (λ x. x) (λ i. AreShown (sym named.templates i).items (sym named.pages i).items) r.shown;
+    templates = subst (λ v. AreTemplates v.items) (sym named.templates) r.templates;
+    shown = subst (λ x. x) (λ i. AreShown (map template_of (sym named.templates i).items) (sym named.pages i).items) r.shown;
     pages = subst (λ v. ArePages new.world v.items) (sym named.pages) (pages_kept m.world new.world m.pages.items m.pages.items refl stays.pages stays.paged r.pages);
   };
   holds = holds;
@@ -89,6 +95,10 @@ beside_cell w v c e x off = ap (λ (s : Signals). standing s x) e ∙ cell_besid
 
 pub here_cell : (w v : Signals) (c : Cell) → v ≡ with_cell w c → is_of_kind kind.Cell (standing v c.name) ≡ true
 here_cell w v c e = ap (λ (s : Signals). is_of_kind kind.Cell (standing s c.name)) e ∙ cell_kind w c
+
+-- so it is with a new list
+pub here_list : (w v : Signals) (c : Cell) → v ≡ with_cell w c → is_of_kind kind.List (standing v c.name) ≡ true
+here_list w v c e = here_cell w v c e
 
 -- the same of a computed, under a name that nothing has
 pub beside_computed : (w v : Signals) (c : Computed) → v ≡ with_computed w c → (x : ℕ) → (x == c.name) ≡ false → standing v x ≡ standing w x
@@ -129,7 +139,8 @@ leaves_other asked rules m new n k id labels r any named watchers pages stays si
         (meant_other new.world _ m.names n k id any.signal any.fits (λ t. absurd (any.template t))
         (meant_still m.world new.world _ m.names (ap (λ s. s.graph.given) signals)
         (λ j x h. ap (λ s. is_of_kind j (standing s.graph.state.signals x)) signals ∙ h) r.meant));
-    shown = subst (λ x. x) (λ i. AreShown (sym named.templates i).items (sym named.pages i).items) r.shown;
+    templates = subst (λ v. AreTemplates v.items) (sym named.templates) r.templates;
+    shown = subst (λ x. x) (λ i. AreShown (map template_of (sym named.templates i).items) (sym named.pages i).items) r.shown;
     pages = subst (λ v. ArePages new.world v.items) (sym named.pages) (pages_kept m.world new.world m.pages.items m.pages.items refl stays.pages stays.paged r.pages);
   };
   holds = holds;
@@ -139,36 +150,52 @@ leaves_other asked rules m new n k id labels r any named watchers pages stays si
 -- ---- templates
 
 -- an older template is as before
-older_texts : (ts : List (List Recipe)) (t : List Recipe) (i : ℕ) → i < length ts → plain.texts_at (ts ++ t ∷ []) i ≡ plain.texts_at ts i
-older_texts [] t i lt = absurd (omega (arith, lt))
-older_texts (x ∷ ts) t zero lt = refl
-older_texts (x ∷ ts) t (suc i) lt = older_texts ts t i (omega (arith, lt))
+older_known : (ts : List Template) (t : Template) (i : ℕ) → i < length ts → template_in (ts ++ t ∷ []) i ≡ template_in ts i
+older_known [] t i lt = absurd (omega (arith, lt))
+older_known (x ∷ ts) t zero lt = refl
+older_known (x ∷ ts) t (suc i) lt = older_known ts t i (omega (arith, lt))
 
--- pages show what they showed
-older_shown : (ts : List (List Recipe)) (t : List Recipe) (ps : List Mounted) → AreShown ts ps → AreShown (ts ++ t ∷ []) ps
+-- pages stand on what they stood on
+older_shown : (ts : List Template) (t : Template) (ps : List Mounted) → AreShown ts ps → AreShown (ts ++ t ∷ []) ps
 older_shown ts t [] all = tt
 older_shown ts t (p ∷ ps) all = (
   record {
     template = let a = length-append ts (t ∷ []) in let b = all.0.template in omega (arith, a, b);
-    shows = subst (λ (r : List Recipe). Shows r p.page) (sym (older_texts ts t p.template all.0.template)) all.0.shows;
+    stands = subst (λ (x : Template). PageStands x.lines x.links (standing_page p.page)) (sym (older_known ts t p.template all.0.template)) all.0.stands;
   },
   older_shown ts t ps all.1,
 )
 
+-- templates, and one that was read
+read_more : (ts : List LinkedTemplate) (t : LinkedTemplate) → AreTemplates ts → IsTemplate (lines_of t.template) → AreTemplates (ts ++ t ∷ [])
+read_more [] t all one = (one, tt)
+read_more (x ∷ ts) t all one = (all.0, read_more ts t all.1 one)
+
+-- how they are seen
+seen_more : (ts : List LinkedTemplate) (t : LinkedTemplate) → map template_of (ts ++ t ∷ []) ≡ map template_of ts ++ template_of t ∷ []
+seen_more [] t = refl
+seen_more (x ∷ ts) t = ap (λ (xs : List Template). template_of x ∷ xs) (seen_more ts t)
+
+-- the plain machine's templates
+pub templates_more : (old new : List LinkedTemplate) (t : LinkedTemplate) (x : Template) → new ≡ old ++ t ∷ [] → template_of t ≡ x → map template_of new ≡ map template_of old ++ x ∷ []
+templates_more old new t x is same = ap (map template_of) is ∙ seen_more old t ∙ ap (λ (y : Template). map template_of old ++ y ∷ []) same
+
 -- what a making of a template leaves
-pub leaves_template : (asked : List HostPlace) (rules : ℕ) (m new : Machine) (n : List ℕ) (texts : List Recipe) → IsReady m →
+pub leaves_template : (asked : List HostPlace) (rules : ℕ) (m new : Machine) (n : List ℕ) (t : LinkedTemplate) → IsReady m →
     new.names ≡ m.names ++ (n, record { kind = kind.Template; number = length m.templates.items }) ∷ [] → new.labels ≡ m.labels → new.world ≡ m.world →
-    new.templates.items ≡ m.templates.items ++ texts ∷ [] → new.pages ≡ m.pages → Leaves asked asked rules m new
-leaves_template asked rules m new n texts r names labels world templates pages =
-    let count : length new.templates.items ≡ length m.templates.items + 1 = ap length templates ∙ length-append m.templates.items (texts ∷ []) in
+    new.templates.items ≡ m.templates.items ++ t ∷ [] → new.pages ≡ m.pages → IsTemplate (lines_of t.template) → Leaves asked asked rules m new
+leaves_template asked rules m new n t r names labels world templates pages read =
+    let count : length new.templates.items ≡ length m.templates.items + 1 = ap length templates ∙ length-append m.templates.items (t ∷ []) in
+    let seen : map template_of new.templates.items ≡ map template_of m.templates.items ++ template_of t ∷ [] = templates_more m.templates.items new.templates.items t (template_of t) templates refl in
     record {
       ready = record {
         watchers = ap (λ (w : World). w.signals.watchers.made) world ∙ r.watchers ∙ ap (λ l. length l.watchers.items) (sym labels);
         paged = ap (λ (w : World). w.tables.pages_made) world ∙ r.paged ∙ ap (λ l. length l.pages.items) (sym labels);
         meant = subst (λ x. x) (λ i. AreMeant (sym world i) (length new.templates.items) (sym names i))
-            (meant_other m.world (length new.templates.items) m.names n kind.Template (length m.templates.items) refl (λ s. refl) (λ t. omega (arith, count))
+            (meant_other m.world (length new.templates.items) m.names n kind.Template (length m.templates.items) refl (λ s. refl) (λ e. omega (arith, count))
             (meant_more m.world (length m.templates.items) (length new.templates.items) m.names (omega (arith, count)) r.meant));
-        shown = subst (λ x. x) (λ i. AreShown (sym templates i) (sym pages i).items) (older_shown m.templates.items texts m.pages.items r.shown);
+        templates = subst AreTemplates (sym templates) (read_more m.templates.items t r.templates read);
+        shown = subst (λ x. x) (λ i. AreShown (sym seen i) (sym pages i).items) (older_shown (map template_of m.templates.items) (template_of t) m.pages.items r.shown);
         pages = subst (λ x. x) (λ i. ArePages (sym world i) (sym pages i).items) r.pages;
       };
       holds = λ h. subst (Holds asked rules) (sym world) h;

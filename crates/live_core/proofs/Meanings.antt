@@ -83,6 +83,7 @@ still_meant : (g : Seen) (after : Signals) (k : Kind) (i : ℕ) →
     ((m : ℕ) → (m == g.given) ≡ false → standing after m ≡ standing g.state.signals m) → (is_signal k ≡ true → is_given g i ≡ true) →
     is_of_kind k (standing g.state.signals i) ≡ true → is_of_kind k (standing after i) ≡ true
 still_meant g after kind.Cell i beside given is = ap (is_of_kind kind.Cell) (beside i (not_next i g.given (given_below g i (given refl)))) ∙ is
+still_meant g after kind.List i beside given is = ap (is_of_kind kind.List) (beside i (not_next i g.given (given_below g i (given refl)))) ∙ is
 still_meant g after kind.Computed i beside given is = ap (is_of_kind kind.Computed) (beside i (not_next i g.given (given_below g i (given refl)))) ∙ is
 still_meant g after kind.Owner i beside given is = refl
 still_meant g after kind.Effect i beside given is = refl

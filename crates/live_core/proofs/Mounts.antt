@@ -1,10 +1,12 @@
 -- Pages are mounted, and what a flush comes to.
-use Rattle.std.proofs.Common.{◌≡◌, ◌≤◌, ◌<◌, ◌+◌, ◌^◌, ℕ, arith, Bool, true, false, List, [], ◌∷◌, ◌++◌, length, map, Option, refl, sym, ap, subst, ◌∙◌}
+use Rattle.std.proofs.Common.{◌≡◌, ◌≤◌, ◌<◌, ◌+◌, ◌^◌, ℕ, arith, Bool, true, false, List, [], ◌∷◌, ◌++◌, length, map, Option, Some, None, refl, sym, ap, subst, ◌∙◌}
 use Rattle.std.proofs.lemmas.List.{length-append}
 use Rattle.sig_base.specs.declared.limits.TheConstants.{MOST_PAGES}
 use Rattle.signal_model.specs.Recipes.{Hosts}
 use Rattle.signal_model.specs.Standing.{standing}
 use Rattle.effect_model.specs.Commands.{with_new_page}
+use Rattle.page_model.specs.Html.{html_of}
+use Rattle.page_model.specs.Pages.{bare, tree_of}
 use Rattle.effect_model.specs.Running.{flush}
 use Rattle.effect_model.specs.Worlds as told
 use Rattle.effect_tables.specs.Placed.{at_rest}
@@ -13,18 +15,20 @@ use Rattle.sig_effect.specs.Agreeing.{AreRuled}
 use Rattle.effect_world.specs.declared.world.World.{World}
 use Rattle.effect_world.specs.Agreeing.{Agrees, IsSound}
 use Rattle.effect_world.specs.Wholes.{whole_of}
-use Rattle.live_cmd.specs.declared.entry.Entry.{Entry}
-use Rattle.live_cmd.specs.declared.entry.Entry.TheVariants as entry
-use Rattle.live_cmd.specs.declared.refusal.Refusal.TheVariants as refusal
+use Rattle.live_entries.specs.declared.entry.Entry.{Entry}
+use Rattle.live_entries.specs.declared.entry.Entry.TheVariants as entry
+use Rattle.live_entries.specs.declared.refusal.Refusal.TheVariants as refusal
 use Rattle.live_model.specs.declared.names.Kind.TheVariants as kind
 use Rattle.live_model.specs.Labels as called
 use Rattle.live_model.specs.Machine as plain
 use Rattle.live_model.specs.Machine.{acted_on_pages, after_turns, flushing, mounted, told}
 use Rattle.live_labels.specs.Views.{labels_of}
-use Rattle.text_pages.specs.Shown.{Shown}
+use Rattle.tpl_live.specs.declared.page.Page as live
+use Rattle.tpl_live.specs.Pages.{page_in}
+use Rattle.tpl_live.specs.Standings.{standing as standing_page}
 use Rattle.live_pages.specs.declared.mounted.Mounted.{Mounted}
-use Rattle.live_pages.specs.Updates.{AreBroughtUp, AreShown, ArePages, IsMounted, IsShown, Settles}
-use Rattle.live_pages.specs.Views.{page_of}
+use Rattle.live_pages.specs.Updates.{AreBroughtUp, AreShown, ArePages, AreTemplates, IsMounted, IsScratched, IsShown, Settles}
+use Rattle.live_pages.specs.Views.{page_of, template_of}
 use Rattle.live_pages.proofs.Shared.{pages_more, shown_more}
 use Rattle.live_core.specs.declared.machine.Machine.{Machine}
 use Rattle.live_core.specs.Keeping.{is_of_kind, AreMeant, IsReady, Leaves, Steps}
@@ -44,7 +48,7 @@ refused_steps hosts env asked m told_first es refused by is sound = record {
 
 -- pages were brought up to date behind what was told
 pub brought_steps : (hosts : Hosts) (env : told.Environment) (asked later : List HostPlace) (m new : Machine) (w : World) (now : List Mounted) (told_first pages es : List Entry) (refused : Bool) → false ≡ refused →
-    AreBroughtUp env m.names (labels_of m.labels) m.templates.items asked later m.world w m.pages.items now pages → new.names ≡ m.names → new.labels ≡ m.labels →
+    AreBroughtUp env m.names (labels_of m.labels) (map template_of m.templates.items) asked later m.world w m.pages.items now pages → new.names ≡ m.names → new.labels ≡ m.labels →
     new.world ≡ w → new.templates ≡ m.templates → new.pages.items ≡ now → es ≡ told_first ++ pages → IsSound hosts later w →
     Steps hosts later new es (after_turns env refused (told (plain_of asked m) told_first))
 brought_steps hosts env asked later m new w now told_first pages es refused by up names labels world templates same is sound = record {
@@ -53,7 +57,7 @@ brought_steps hosts env asked later m new w now told_first pages es refused by u
         names = names i;
         labels = labels_of (labels i);
         world = whole_of later (world i);
-        templates = (ap (λ v. v.items) templates) i;
+        templates = (ap (λ v. map template_of v.items) templates) i;
         pages = map page_of (same i);
       }) (is i))
       ∙ ap (λ (t : plain.Told). told t.machine (told_first ++ t.entries)) up.step
@@ -83,8 +87,8 @@ map_append f [] ys = refl
 map_append f (x ∷ xs) ys = ap (λ zs. f x ∷ zs) (map_append f xs ys)
 
 -- a page was made, and stands where it is to
-pub mount_steps : (hosts : Hosts) (env : told.Environment) (asked later : List HostPlace) (m new : Machine) (w : World) (n : List ℕ) (t id : ℕ) (inside : Option ℕ) (page : Shown) (es : List Entry) →
-    IsMounted env (labels_of m.labels) m.templates.items asked later m.world w n t page [] es → id ≡ m.world.tables.pages_made →
+pub mount_steps : (hosts : Hosts) (env : told.Environment) (asked later : List HostPlace) (m new : Machine) (w : World) (n : List ℕ) (t id : ℕ) (inside : Option ℕ) (page : live.Page) (es : List Entry) →
+    IsMounted env (labels_of m.labels) (map template_of m.templates.items) asked later m.world w n t (page_in (standing_page page)) [] es → id ≡ m.world.tables.pages_made →
     whole_of later new.world ≡ at_rest (with_new_page inside (whole_of later w)) → IsSound hosts later new.world →
     new.names ≡ m.names ++ (n, record { kind = kind.Page; number = id }) ∷ [] →
     labels_of new.labels ≡ record (labels_of m.labels) { pages = m.labels.pages.items ++ n ∷ [] } → new.templates ≡ m.templates →
@@ -95,10 +99,11 @@ mount_steps hosts env asked later m new w n t id inside page es up number whole 
     names = (names ∙ ap (λ (x : ℕ). m.names ++ (n, record { kind = kind.Page; number = x }) ∷ []) number) i;
     labels = (labels ∙ ap (λ (l : called.Labels). record l { pages = l.pages ++ n ∷ [] }) up.labels) i;
     world = (whole ∙ ap (λ (x : told.World). at_rest (with_new_page inside x)) up.world) i;
-    templates = (ap (λ v. v.items) templates) i;
+    templates = (ap (λ v. map template_of v.items) templates) i;
     pages = (ap (map page_of) pages ∙ map_append page_of m.pages.items ((record { name = n; number = id; template = t; page = page }) ∷ [])
-        ∙ (λ j. map page_of m.pages.items ++ (record { name = n; number = number j; template = t; shown = up.html j }) ∷ [])) i;
-  }) ((up.told ∙ ap (λ (bs : List ℕ). (plain.settling env (plain_of asked m) (plain.template_reads env (plain_of asked m) t)).entries ++ entry.Page n bs ∷ []) up.html) i));
+        ∙ (λ j. map page_of m.pages.items ++ (record { name = n; number = number j; template = t; content = up.page j }) ∷ [])) i;
+  }) ((up.told ∙ ap (λ (bs : List ℕ). (plain.settling env (plain_of asked m) (plain.template_reads env (plain_of asked m) t)).entries
+      ++ plain.ops_told n (plain.carried_on env (plain_of asked m) t bare).ops ++ entry.Page n bs ∷ []) (ap (λ p. html_of (tree_of p)) up.page)) i));
   sound = sound;
 }
 
@@ -107,7 +112,7 @@ pub leaves_mounted : (asked later : List HostPlace) (rules : ℕ) (m new : Machi
     new.names ≡ m.names ++ (n, record { kind = kind.Page; number = id }) ∷ [] →
     labels_of new.labels ≡ record (labels_of m.labels) { pages = m.labels.pages.items ++ n ∷ [] } → new.templates ≡ m.templates →
     new.pages.items ≡ m.pages.items ++ p ∷ [] → (inside : Option ℕ) → whole_of later new.world ≡ at_rest (with_new_page inside (whole_of later w)) →
-    new.world.signals ≡ w.signals → Settles m.world w → p.number ≡ m.world.tables.pages_made → IsShown m.templates.items p →
+    new.world.signals ≡ w.signals → Settles m.world w → p.number ≡ m.world.tables.pages_made → IsShown (map template_of m.templates.items) p →
     length m.world.tables.pages.items < MOST_PAGES → Agrees later new.world → w.signals.graph.state.worn ≤ m.world.signals.graph.state.worn + 2 ^ 64 →
     Leaves asked later rules m new
 leaves_mounted asked later rules m new w n id p r names labels templates pages inside whole signals settled number shown room agrees worn =
@@ -124,7 +129,8 @@ leaves_mounted asked later rules m new w n id p r names labels templates pages i
         meant = subst (λ x. x) (λ i. AreMeant new.world (length (sym templates i).items) (sym names i))
             (meant_other new.world _ m.names n kind.Page id refl (λ s. refl) (λ t. absurd cc)
             (meant_still m.world new.world _ m.names graph (λ k x h. ap (λ g. is_of_kind k (standing g x)) stands ∙ h) r.meant));
-        shown = subst (λ x. x) (λ i. AreShown (sym templates i).items (sym pages i)) (shown_more m.templates.items m.pages.items p r.shown shown);
+        templates = subst (λ v. AreTemplates v.items) (sym templates) r.templates;
+        shown = subst (λ x. x) (λ i. AreShown (map template_of (sym templates i).items) (sym pages i)) (shown_more (map template_of m.templates.items) m.pages.items p r.shown shown);
         pages = subst (ArePages new.world) (sym pages) (pages_more m.world new.world m.pages.items p number live made room r.pages);
       };
       holds = λ h. record { agrees = agrees; ruled = subst (AreRuled rules) (sym stands) h.ruled };
@@ -132,3 +138,32 @@ leaves_mounted asked later rules m new w n id p r names labels templates pages i
           let a = ap (λ s. s.graph.state.worn) signals in
           let b = ap (λ (x : told.World). x.made.effects) whole ∙ ap (λ t. t.effects_made) settled.tables in omega (arith, a, b, worn);
     }
+
+-- ---- pages from scratch
+
+-- what a page's template shows from scratch is told
+pub scratch_steps : (hosts : Hosts) (env : told.Environment) (asked later : List HostPlace) (m : Machine) (w : World) (n : List ℕ) (k : ℕ) (p : Mounted) (bytes : List ℕ)
+    (runs es : List Entry) → plain.page_at (map page_of m.pages.items) k ≡ Some (page_of p) →
+    IsScratched env (labels_of m.labels) (map template_of m.templates.items) asked later m.world w p.template bytes [] runs →
+    es ≡ runs ++ entry.Scratch n bytes ∷ [] → IsSound hosts later w →
+    Steps hosts later (record m { world = w }) es (plain.scratching env (plain_of asked m) n (plain.page_at (map page_of m.pages.items) k))
+scratch_steps hosts env asked later m w n k p bytes runs es found up is sound = record {
+  step = (λ i. told (record {
+    names = m.names;
+    labels = up.labels i;
+    world = up.world i;
+    templates = map template_of m.templates.items;
+    pages = map page_of m.pages.items;
+  }) ((is ∙ (λ j. up.told j ++ entry.Scratch n (up.html j) ∷ [])) i))
+      ∙ ap (plain.scratching env (plain_of asked m) n) (sym found);
+  sound = sound;
+}
+
+-- nothing is, where no page lives
+pub unshown_steps : (hosts : Hosts) (env : told.Environment) (asked : List HostPlace) (m : Machine) (n : List ℕ) (k : ℕ) (es : List Entry) →
+    plain.page_at (map page_of m.pages.items) k ≡ None → es ≡ entry.Scratch n [] ∷ [] → IsSound hosts asked m.world →
+    Steps hosts asked m es (plain.scratching env (plain_of asked m) n (plain.page_at (map page_of m.pages.items) k))
+unshown_steps hosts env asked m n k es none is sound = record {
+  step = ap (λ (x : List Entry). told (plain_of asked m) x) is ∙ ap (plain.scratching env (plain_of asked m) n) (sym none);
+  sound = sound;
+}

@@ -15,6 +15,7 @@ use Rattle.live_core.specs.Keeping.{is_of_kind}
 -- what is gone is of any kind
 pub gone_kind : (k : Kind) → is_of_kind k IsGone ≡ true
 gone_kind kind.Cell = refl
+gone_kind kind.List = refl
 gone_kind kind.Computed = refl
 gone_kind kind.Owner = refl
 gone_kind kind.Effect = refl
@@ -29,6 +30,7 @@ same_kind_of k (IsCell c) (IsCell d) s h = go k h
   where
     go : (j : Kind) → is_of_kind j (IsCell c) ≡ true → is_of_kind j (IsCell d) ≡ true
     go kind.Cell e = refl
+    go kind.List e = refl
     go kind.Computed e = cc
     go kind.Owner e = refl
     go kind.Effect e = refl
@@ -39,6 +41,7 @@ same_kind_of k (IsComputed c) (IsComputed d) s h = go k h
   where
     go : (j : Kind) → is_of_kind j (IsComputed c) ≡ true → is_of_kind j (IsComputed d) ≡ true
     go kind.Cell e = cc
+    go kind.List e = cc
     go kind.Computed e = refl
     go kind.Owner e = refl
     go kind.Effect e = refl
@@ -74,6 +77,7 @@ negated false e = refl
 -- what is a cell or a computed until it is gone stays of the name's kind
 pub kept_kind : (k : Kind) (a b : Stands) → IsKindOf a b → is_of_kind k a ≡ true → is_of_kind k b ≡ true
 kept_kind kind.Cell a b s h = ap not (s.computed (negated (is_computed a) h))
+kept_kind kind.List a b s h = ap not (s.computed (negated (is_computed a) h))
 kept_kind kind.Computed a b s h = ap not (s.cell (negated (is_cell a) h))
 kept_kind kind.Owner a b s h = refl
 kept_kind kind.Effect a b s h = refl

@@ -10,7 +10,7 @@ use Rattle.effect_tables.specs.declared.tables.OwnerEntry.{OwnerEntry}
 use Rattle.effect_tables.specs.Numbering.{living}
 use Rattle.sig_host.specs.Hosts.{HostPlace, most_asked, unasked_place}
 use Rattle.sig_effect.specs.Wholes.{host_states}
-use Rattle.live_cmd.specs.declared.refusal.Refusal.TheVariants as refusal
+use Rattle.live_entries.specs.declared.refusal.Refusal.TheVariants as refusal
 use Rattle.live_model.specs.Machine.{taken_refusal}
 
 -- a place past the last is none

@@ -14,10 +14,10 @@ use Rattle.effect_world.specs.declared.world.World.{World}
 use Rattle.effect_world.specs.Wholes.{whole_of}
 use Rattle.sig_host.specs.Hosts.{HostPlace}
 use Rattle.live_cmd.specs.declared.command.Command.TheVariants as command
-use Rattle.live_cmd.specs.declared.entry.Entry.{Entry}
 use Rattle.live_cmd.specs.declared.command.Item.TheVariants as item
-use Rattle.live_cmd.specs.declared.refusal.Refusal.{Refusal}
-use Rattle.live_cmd.specs.declared.refusal.Refusal.TheVariants as refusal
+use Rattle.live_entries.specs.declared.entry.Entry.{Entry}
+use Rattle.live_entries.specs.declared.refusal.Refusal.{Refusal}
+use Rattle.live_entries.specs.declared.refusal.Refusal.TheVariants as refusal
 use Rattle.live_model.specs.declared.names.Kind.{Kind}
 use Rattle.live_model.specs.declared.names.Kind.TheVariants as kind
 use Rattle.live_model.specs.declared.names.Meaning.{Meaning}
@@ -28,7 +28,7 @@ use Rattle.live_model.specs.Uses.{uses_of, uses_of_body, uses_of_inside, uses_of
 use Rattle.live_model.specs.Linking.{owner_of}
 use Rattle.live_cmd.specs.declared.command.Command.{Command}
 use Rattle.live_model.specs.Machine as plain
-use Rattle.live_model.specs.Machine.{body_refusal, count_refusal, done, later_refusal, name_refusal, refusal_of, refused, step}
+use Rattle.live_model.specs.Machine.{body_refusal, count_refusal, done, later_refusal, name_refusal, over_limit, place_refusal, refusal_of, refused, row_refusal, step, unwatch_refusal}
 use Rattle.live_core.specs.declared.machine.Machine.{Machine}
 use Rattle.live_core.specs.Keeping.{is_of_kind, AreFine, AreMeant, IsMeant, Steps}
 use Rattle.live_core.specs.Views.{plain_of}
@@ -53,6 +53,13 @@ second_of a b d r none is = sym (ap (λ o. option_or o (option_or b d)) none ∙
 -- and the third, where neither does
 pub third_of : {A : Type 0} (a b d r : Option A) → a ≡ None → b ≡ None → r ≡ d → r ≡ option_or a (option_or b d)
 third_of a b d r none nor is = is ∙ sym (ap (λ o. option_or o (option_or b d)) none ∙ ap (λ o. option_or o d) nor)
+
+-- so it is with four
+pub third_of_four : {A : Type 0} (a b d f : Option A) (r : A) → a ≡ None → b ≡ None → Some r ≡ d → Some r ≡ option_or a (option_or b (option_or d f))
+third_of_four a b d f r none nor is = first_of d f r is ∙ sym (ap (λ o. option_or o (option_or b (option_or d f))) none ∙ ap (λ o. option_or o (option_or d f)) nor)
+
+pub fourth_of : {A : Type 0} (a b d f r : Option A) → a ≡ None → b ≡ None → d ≡ None → r ≡ f → r ≡ option_or a (option_or b (option_or d f))
+fourth_of a b d f r none nor neither_is is = third_of a b (option_or d f) r none nor (last_of d f r neither_is is)
 
 -- a name that is used rightly
 pub record IsUsed (w : World) (names : Names) (n : List ℕ) (needed : Need) : Type 0 where
@@ -118,6 +125,7 @@ not_false false e = absurd cc
 -- a signal that isn't gone stands
 stands : (w : World) (k : Kind) (n : ℕ) → is_signal k ≡ true → is_gone (whole_of [] w) k n ≡ false → is_there (standing w.signals.graph.state.signals n) ≡ true
 stands w kind.Cell n s e = not_false (is_there (standing w.signals.graph.state.signals n)) e
+stands w kind.List n s e = not_false (is_there (standing w.signals.graph.state.signals n)) e
 stands w kind.Computed n s e = not_false (is_there (standing w.signals.graph.state.signals n)) e
 stands w kind.Owner n s e = absurd cc
 stands w kind.Effect n s e = absurd cc
@@ -140,49 +148,64 @@ signal_used w count names n all u =
 -- the kind that is needed is the name's
 pub kind_is : (k j : Kind) → same_kind k j ≡ true → k ≡ j
 kind_is kind.Cell kind.Cell e = refl
+kind_is kind.List kind.List e = refl
 kind_is kind.Computed kind.Computed e = refl
 kind_is kind.Owner kind.Owner e = refl
 kind_is kind.Effect kind.Effect e = refl
 kind_is kind.Watcher kind.Watcher e = refl
 kind_is kind.Template kind.Template e = refl
 kind_is kind.Page kind.Page e = refl
+kind_is kind.Cell kind.List e = absurd cc
 kind_is kind.Cell kind.Computed e = absurd cc
 kind_is kind.Cell kind.Owner e = absurd cc
 kind_is kind.Cell kind.Effect e = absurd cc
 kind_is kind.Cell kind.Watcher e = absurd cc
 kind_is kind.Cell kind.Template e = absurd cc
 kind_is kind.Cell kind.Page e = absurd cc
+kind_is kind.List kind.Cell e = absurd cc
+kind_is kind.List kind.Computed e = absurd cc
+kind_is kind.List kind.Owner e = absurd cc
+kind_is kind.List kind.Effect e = absurd cc
+kind_is kind.List kind.Watcher e = absurd cc
+kind_is kind.List kind.Template e = absurd cc
+kind_is kind.List kind.Page e = absurd cc
 kind_is kind.Computed kind.Cell e = absurd cc
+kind_is kind.Computed kind.List e = absurd cc
 kind_is kind.Computed kind.Owner e = absurd cc
 kind_is kind.Computed kind.Effect e = absurd cc
 kind_is kind.Computed kind.Watcher e = absurd cc
 kind_is kind.Computed kind.Template e = absurd cc
 kind_is kind.Computed kind.Page e = absurd cc
 kind_is kind.Owner kind.Cell e = absurd cc
+kind_is kind.Owner kind.List e = absurd cc
 kind_is kind.Owner kind.Computed e = absurd cc
 kind_is kind.Owner kind.Effect e = absurd cc
 kind_is kind.Owner kind.Watcher e = absurd cc
 kind_is kind.Owner kind.Template e = absurd cc
 kind_is kind.Owner kind.Page e = absurd cc
 kind_is kind.Effect kind.Cell e = absurd cc
+kind_is kind.Effect kind.List e = absurd cc
 kind_is kind.Effect kind.Computed e = absurd cc
 kind_is kind.Effect kind.Owner e = absurd cc
 kind_is kind.Effect kind.Watcher e = absurd cc
 kind_is kind.Effect kind.Template e = absurd cc
 kind_is kind.Effect kind.Page e = absurd cc
 kind_is kind.Watcher kind.Cell e = absurd cc
+kind_is kind.Watcher kind.List e = absurd cc
 kind_is kind.Watcher kind.Computed e = absurd cc
 kind_is kind.Watcher kind.Owner e = absurd cc
 kind_is kind.Watcher kind.Effect e = absurd cc
 kind_is kind.Watcher kind.Template e = absurd cc
 kind_is kind.Watcher kind.Page e = absurd cc
 kind_is kind.Template kind.Cell e = absurd cc
+kind_is kind.Template kind.List e = absurd cc
 kind_is kind.Template kind.Computed e = absurd cc
 kind_is kind.Template kind.Owner e = absurd cc
 kind_is kind.Template kind.Effect e = absurd cc
 kind_is kind.Template kind.Watcher e = absurd cc
 kind_is kind.Template kind.Page e = absurd cc
 kind_is kind.Page kind.Cell e = absurd cc
+kind_is kind.Page kind.List e = absurd cc
 kind_is kind.Page kind.Computed e = absurd cc
 kind_is kind.Page kind.Owner e = absurd cc
 kind_is kind.Page kind.Effect e = absurd cc
@@ -267,6 +290,7 @@ uses_fine m c e = (neither (first_refusal (whole_of [] m.world) m.names (uses_of
 
 gone_here : (asked : List HostPlace) (w : World) (k : Kind) (n : ℕ) → is_gone (whole_of asked w) k n ≡ is_gone (whole_of [] w) k n
 gone_here asked w kind.Cell n = refl
+gone_here asked w kind.List n = refl
 gone_here asked w kind.Computed n = refl
 gone_here asked w kind.Owner n = refl
 gone_here asked w kind.Effect n = refl
@@ -303,6 +327,8 @@ within_here asked w names own ((n, needed) ∷ us) =
 body_here : (asked : List HostPlace) (m : Machine) (c : Command) → body_refusal (plain_of asked m) c ≡ body_refusal (plain_of [] m) c
 body_here asked m (command.Effect n b inside) = within_here asked m.world m.names n (uses_of_body b)
 body_here asked m (command.Cell n v equals inside) = refl
+body_here asked m (command.List n fields inside) = refl
+body_here asked m (command.Edit n e) = refl
 body_here asked m (command.Set n v) = refl
 body_here asked m (command.Computed n s inside) = refl
 body_here asked m (command.Rewire n s) = refl
@@ -323,6 +349,17 @@ fine_here asked m c e = sym (λ i. option_or (all_here asked m.world m.names (us
 pub unrefused_names : (slacks : List ℕ) (m : plain.Machine) (c : Command) → refusal_of slacks m c ≡ None → name_refusal m c ≡ None
 unrefused_names slacks m c none =
     (neither (name_refusal m c) (later_refusal slacks m c) (neither (count_refusal c) (option_or (name_refusal m c) (later_refusal slacks m c)) none).1).0
+
+-- nor is it behind them
+unrefused_later : (slacks : List ℕ) (m : plain.Machine) (c : Command) → refusal_of slacks m c ≡ None → later_refusal slacks m c ≡ None
+unrefused_later slacks m c none =
+    (neither (name_refusal m c) (later_refusal slacks m c) (neither (count_refusal c) (option_or (name_refusal m c) (later_refusal slacks m c)) none).1).1
+
+-- there is room for it, and what it unwatches is watched
+pub unrefused_last : (slacks : List ℕ) (m : plain.Machine) (c : Command) → refusal_of slacks m c ≡ None → (over_limit m c ≡ None) × (unwatch_refusal m c ≡ None)
+unrefused_last slacks m c none =
+    let behind = neither (place_refusal slacks m.world c) (option_or (row_refusal m c) (option_or (over_limit m c) (unwatch_refusal m c))) (unrefused_later slacks m c none) in
+    neither (over_limit m c) (unwatch_refusal m c) (neither (row_refusal m c) (option_or (over_limit m c) (unwatch_refusal m c)) behind.1).1
 
 -- what isn't refused is done
 pub done_so : (hosts : Hosts) (later : List HostPlace) (new : Machine) (entries : List Entry) (env : Environment) (m : plain.Machine) (c : Command) →

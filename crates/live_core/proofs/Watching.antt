@@ -1,5 +1,5 @@
 -- What is left where only watchers changed.
-use Rattle.std.proofs.Common.{◌≡◌, ◌+◌, ℕ, arith, List, [], ◌∷◌, ◌++◌, length, refl, sym, ap, subst, ◌∙◌}
+use Rattle.std.proofs.Common.{◌≡◌, ◌+◌, ℕ, arith, List, [], ◌∷◌, ◌++◌, length, map, refl, sym, ap, subst, ◌∙◌}
 use Rattle.std.proofs.lemmas.List.{length-append}
 use Rattle.signal_model.specs.Standing.{is_computed, standing}
 use Rattle.effect_model.specs.Commands.{changed_watcher}
@@ -14,7 +14,8 @@ use Rattle.effect_world.specs.Wholes.{whole_of}
 use Rattle.live_model.specs.declared.names.Kind.TheVariants as kind
 use Rattle.live_model.specs.Labels as called
 use Rattle.live_labels.specs.Views.{labels_of}
-use Rattle.live_pages.specs.Updates.{AreShown, ArePages}
+use Rattle.live_pages.specs.Updates.{AreShown, ArePages, AreTemplates}
+use Rattle.live_pages.specs.Views.{template_of}
 use Rattle.live_pages.proofs.Shared.{pages_kept}
 use Rattle.live_core.specs.declared.machine.Machine.{Machine}
 use Rattle.live_core.specs.Keeping.{is_of_kind, AreMeant, IsReady, Leaves}
@@ -66,7 +67,8 @@ leaves_watcher asked rules m new n id r named graph made live paged effects agre
         (meant_other new.world _ m.names n kind.Watcher id refl (λ s. refl) (λ t. absurd cc)
         (meant_still m.world new.world _ m.names (ap (λ (g : Seen). g.given) graph)
         (λ k x h. ap (λ (g : Seen). is_of_kind k (standing g.state.signals x)) graph ∙ h) r.meant));
-    shown = subst (λ x. x) (λ i. AreShown (sym named.templates i).items (sym named.pages i).items) r.shown;
+    templates = subst (λ v. AreTemplates v.items) (sym named.templates) r.templates;
+    shown = subst (λ x. x) (λ i. AreShown (map template_of (sym named.templates i).items) (sym named.pages i).items) r.shown;
     pages = subst (λ v. ArePages new.world v.items) (sym named.pages) (pages_kept m.world new.world m.pages.items m.pages.items refl live paged r.pages);
   };
   holds = λ h. record { agrees = agrees h.agrees; ruled = subst (λ (g : Seen). AreRuled rules g.state.signals) (sym graph) h.ruled };

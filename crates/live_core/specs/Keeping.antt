@@ -1,5 +1,5 @@
 -- What holds of a machine's parts between two commands.
-use Rattle.std.specs.Prelude.{◌≡◌, ◌≤◌, ◌<◌, ◌+◌, ◌*◌, ◌^◌, ℕ, Bool, true, false, not, List, [], length, Some, None}
+use Rattle.std.specs.Prelude.{◌≡◌, ◌≤◌, ◌<◌, ◌+◌, ◌*◌, ◌^◌, ℕ, Bool, true, false, not, List, [], length, map, Some, None}
 use Rattle.signal_model.specs.Recipes.{Hosts}
 use Rattle.signal_model.specs.Standing.{Stands, is_computed, standing}
 use Rattle.sig_host.specs.Hosts.{HostPlace, most_asked}
@@ -9,19 +9,22 @@ use Rattle.effect_world.specs.declared.world.World.{World}
 use Rattle.effect_world.specs.Agreeing.{Agrees, IsSound}
 use Rattle.effect_world.specs.Weighing.{weight}
 use Rattle.live_cmd.specs.declared.command.Command.{Command}
-use Rattle.live_cmd.specs.declared.entry.Entry.{Entry}
+use Rattle.live_entries.specs.declared.entry.Entry.{Entry}
 use Rattle.live_model.specs.declared.names.Kind.{Kind}
 use Rattle.live_model.specs.declared.names.Kind.TheVariants as kind
 use Rattle.live_model.specs.declared.names.Meaning.{Meaning}
 use Rattle.live_model.specs.Names.{Names, is_signal, meaning_of, same_kind}
 use Rattle.live_model.specs.Machine.{Told, name_refusal, told}
-use Rattle.live_pages.specs.Updates.{AreShown, ArePages}
+pub use Rattle.live_model.specs.Reading.{IsReadable, IsReadItem}
+use Rattle.live_pages.specs.Updates.{AreShown, ArePages, AreTemplates}
+use Rattle.live_pages.specs.Views.{template_of}
 use Rattle.live_core.specs.declared.machine.Machine.{Machine}
 use Rattle.live_core.specs.Views.{plain_of}
 
 -- whether what stands there is gone, or what a name of this kind stands for
 abbrev pub is_of_kind : Kind → Stands → Bool
 is_of_kind kind.Cell s = not (is_computed s)
+is_of_kind kind.List s = not (is_computed s)
 is_of_kind kind.Computed s = not (is_cell s)
 is_of_kind _ s = true
 
@@ -35,12 +38,14 @@ pub record IsMeant (w : World) (templates : ℕ) (m : Meaning) : Type 0 where
 abbrev pub AreMeant : World → ℕ → Names → Type 0
 AreMeant w templates names = (n : List ℕ) (m : Meaning) → meaning_of names n ≡ Some m → IsMeant w templates m
 
--- Each watcher and each page that was made has a name, names stand for what was made, and the pages are pages.
+-- Each watcher and each page that was made has a name, names stand for what was made, the templates were read, and the pages are pages that
+-- stand on them.
 pub record IsReady (m : Machine) : Type 0 where
   pub watchers : m.world.signals.watchers.made ≡ length m.labels.watchers.items
   pub paged : m.world.tables.pages_made ≡ length m.labels.pages.items
   pub meant : AreMeant m.world (length m.templates.items) m.names
-  pub shown : AreShown m.templates.items m.pages.items
+  pub templates : AreTemplates m.templates.items
+  pub shown : AreShown (map template_of m.templates.items) m.pages.items
   pub pages : ArePages m.world m.pages.items
 
 -- the stores belong together with the host formulas, and each cell's rule is one of so many

@@ -9,14 +9,15 @@ ghost use Rattle.effect_world.specs.Agreeing.{Agrees, IsSound};
 ghost use Rattle.effect_world.specs.Weighing.{weight};
 ghost use Rattle.live_cmd.specs.declared.command.Command.TheVariants as command;
 ghost use Rattle.live_cmd.specs.declared.command.Verb.TheVariants as verb;
+ghost use Rattle.live_entries.specs.declared.entry.Entry.TheVariants as entry;
 ghost use Rattle.live_model.specs.Machine.{done, seen_of};
 ghost use Rattle.live_core.specs.Keeping.{AreFine, IsReady, Leaves, Steps};
 ghost use Rattle.live_core.specs.Views.{plain_of};
 
 use crate::machine::Machine;
-use live_cmd::{Entry, Seen};
+use live_entries::{Entry, PageBytes, Seen};
 use live_labels::{names_of_signals, tell_all};
-use live_pages::shown_of;
+use live_pages::{page_among, scratch, shown_of};
 use sig_base::{Name, NoMemory, NodeId, PageId, WatcherId};
 use sig_effect::EffectFault;
 use sig_host::{Lent, Shelf};
@@ -51,6 +52,16 @@ fn seen_of(mark: Mark) -> Seen
         Mark::Checked => Seen::Checked,
         Mark::Dirty => Seen::Dirty,
     }
+}
+
+// Tells that nothing is shown from scratch, where no page lives.
+fn unshown(alloc: Global, name: Name) -> Result<Vec<Entry>, EffectFault>
+    ensures told { IfOk result (λ entries. entries.items ≡ entry.Scratch name [] ∷ []) }
+    ensures memory { IfErr result (λ e. e ≡ fault.NoMemory) }
+{
+    let nothing = PageBytes::of(alloc, Vec::new(alloc))?;
+    let told = one(alloc, Entry::Scratch(name, nothing))?;
+    Ok(told)
 }
 
 impl Machine {
@@ -134,6 +145,7 @@ impl Machine {
         let told = one(self.alloc, Entry::Pending(name, pending))?;
         Ok(told)
     }
+
     /// Tells a page as it was last brought up to date.
     pub(crate) fn show(&self, name: Name) -> Result<Vec<Entry>, EffectFault>
         requires ready { IsReady self.now }
@@ -145,6 +157,48 @@ impl Machine {
         let page = PageId::of(self.names.number_of(&name));
         let shown = shown_of(self.alloc, &self.pages, page)?;
         let told = one(self.alloc, Entry::Page(name, shown))?;
+        Ok(told)
+    }
+
+    /// Tells what the template of a page shows from scratch, and the runs on the way. The page stays as it is.
+    pub(crate) fn scratch(
+        &mut self,
+        shelf: &mut Shelf,
+        name: Name,
+    ) -> Result<Vec<Entry>, EffectFault>
+        requires ready { IsReady self.old }
+        requires weight { weight self.old.world < 2 ^ 125 }
+        requires agrees { Agrees (⟦<Shelf as Lent>⟧.asked shelf.old) self.old.world }
+        requires counted { ⟦<Shelf as Lent>⟧.counted shelf.old }
+        requires room { most_asked (⟦<Shelf as Lent>⟧.asked shelf.old) < 2 ^ 125 }
+        requires fine { AreFine self.old (command.Named verb.Scratch name) }
+        ensures steps { (hosts : Hosts) (slacks : List ℕ) → ⟦<Shelf as Lent>⟧.answers hosts shelf.old →
+            IsSound hosts (⟦<Shelf as Lent>⟧.asked shelf.old) self.old.world →
+            IfOk result (λ es. Steps hosts (⟦<Shelf as Lent>⟧.asked shelf.new) self.new es.items
+            (done (environment hosts slacks) (plain_of (⟦<Shelf as Lent>⟧.asked shelf.old) self.old) (command.Named verb.Scratch name))) }
+        ensures leaves { (hosts : Hosts) (count : ℕ) → ⟦<Shelf as Lent>⟧.answers hosts shelf.old →
+            IsSound hosts (⟦<Shelf as Lent>⟧.asked shelf.old) self.old.world → OnOk result
+            (Leaves (⟦<Shelf as Lent>⟧.asked shelf.old) (⟦<Shelf as Lent>⟧.asked shelf.new) count self.old self.new) }
+        ensures answers { (hosts : Hosts) → ⟦<Shelf as Lent>⟧.answers hosts shelf.old → OnOk result (⟦<Shelf as Lent>⟧.answers hosts shelf.new) }
+        ensures counted { OnOk result (⟦<Shelf as Lent>⟧.counted shelf.new) }
+        ensures most { OnOk result (most_asked (⟦<Shelf as Lent>⟧.asked shelf.new) ≤ most_asked (⟦<Shelf as Lent>⟧.asked shelf.old) + 2 ^ 80) }
+        ensures memory { IfErr result (λ e. e ≡ fault.NoMemory) }
+    {
+        let page = PageId::of(self.names.number_of(&name));
+        let Some(shown) = page_among(&self.pages, page) else {
+            return unshown(self.alloc, name);
+        };
+        let template = shown.template;
+        let mut told = Vec::new(self.alloc);
+        let html = scratch(
+            &mut self.world,
+            shelf,
+            &self.templates,
+            &self.labels,
+            template,
+            &mut told,
+        )?;
+        told.push(Entry::Scratch(name, html))?;
         Ok(told)
     }
 }

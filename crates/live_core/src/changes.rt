@@ -1,4 +1,4 @@
-// Cells are set, computeds rewired, things disposed, and watchers told what to watch.
+// Cells are set, rows edited, computeds rewired, things disposed, and watchers told what to watch.
 ghost use Rattle.std.specs.Prelude.{◌≡◌, ◌<◌, ◌≤◌, ◌^◌, ℕ, [], List, None, IfOk, IfErr, OnOk, length, map};
 ghost use Rattle.signal_model.specs.Recipes.{Hosts};
 ghost use Rattle.sig_host.specs.Hosts.{HostPlace, most_asked};
@@ -9,16 +9,18 @@ ghost use Rattle.effect_world.specs.Weighing.{weight};
 ghost use Rattle.effect_world.specs.Wholes.{whole_of};
 ghost use Rattle.live_cmd.specs.declared.command.Command.TheVariants as command;
 ghost use Rattle.live_cmd.specs.declared.command.Verb.TheVariants as verb;
-ghost use Rattle.live_model.specs.Machine.{count_refusal, done, host_refusal, unwatch_refusal};
+ghost use Rattle.live_model.specs.Machine.{count_refusal, done, host_refusal, row_refusal, unwatch_refusal};
 ghost use Rattle.live_core.specs.Keeping.{AreFine, IsReady, Leaves, Steps};
 ghost use Rattle.live_core.specs.Views.{plain_of};
 
+use crate::listing::edited_rows;
 use crate::machine::Machine;
-use live_cmd::{Entry, NameList, SourceText};
+use live_cmd::{NameList, RowEdit, SourceText};
+use live_entries::Entry;
 use live_labels::tell_all;
 use live_linking::{linked_source, signals_of};
 use live_pages::keep_live;
-use sig_base::{Name, NodeId, Scalar, WatcherId};
+use sig_base::{Name, NodeId, Scalar, Value, WatcherId};
 use sig_effect::EffectFault;
 use sig_host::{EqualsRule, Lent, Shelf};
 
@@ -47,6 +49,36 @@ impl Machine {
         let _done = self
             .world
             .change_cell(rules, cell, value.into(), &mut events)?;
+        let told = tell_all(self.alloc, &mut self.labels, &events)?;
+        Ok(told)
+    }
+
+    /// Edits the rows of a list. What is notified is told; nothing is done where the rows stay the same.
+    pub(crate) fn edit(
+        &mut self,
+        rules: &[EqualsRule],
+        name: &Name,
+        edit: &RowEdit,
+    ) -> Result<Vec<Entry>, EffectFault>
+        requires ready { IsReady self.old }
+        requires owned { AreOwned self.old.world }
+        requires weight { weight self.old.world < 2 ^ 125 }
+        requires ruled { AreRuled (length rules.now) self.old.world.signals.graph.state.signals }
+        requires fine { AreFine self.old (command.Edit name.now edit.now) }
+        requires fits { row_refusal (plain_of [] self.old) (command.Edit name.now edit.now) ≡ None }
+        ensures steps { (hosts : Hosts) (asked : List HostPlace) → IsSound hosts asked self.old.world →
+            IfOk result (λ es. Steps hosts asked self.new es.items
+            (done (environment hosts (map (λ r. r.slack) rules.now)) (plain_of asked self.old) (command.Edit name.now edit.now))) }
+        ensures leaves { (hosts : Hosts) (asked : List HostPlace) (count : ℕ) → IsSound hosts asked self.old.world →
+            OnOk result (Leaves asked asked count self.old self.new) }
+        ensures memory { IfErr result (λ e. e ≡ fault.NoMemory) }
+    {
+        let list = NodeId::of(self.names.number_of(name));
+        let rows = edited_rows(self.alloc, &self.world, list, edit)?;
+        let mut events = Vec::new(self.alloc);
+        let _done = self
+            .world
+            .change_cell(rules, list, Value::Rows(rows), &mut events)?;
         let told = tell_all(self.alloc, &mut self.labels, &events)?;
         Ok(told)
     }

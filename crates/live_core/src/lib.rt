@@ -4,6 +4,7 @@
 mod answers;
 mod changes;
 mod faults;
+mod listing;
 mod live;
 mod machine;
 mod makings;

@@ -6,11 +6,12 @@ ghost use Rattle.sig_host.specs.Hosts.{hosts_of};
 ghost use Rattle.sig_effect.specs.Agreeing.{environment};
 ghost use Rattle.effect_world.specs.Agreeing.{IsSound};
 ghost use Rattle.live_model.specs.Machine.{empty, step, told, Machine};
-ghost use Rattle.live_core.specs.Keeping.{IsKept, SomeHosts};
+ghost use Rattle.live_core.specs.Keeping.{IsKept, IsReadItem, SomeHosts};
 ghost use Rattle.live_core.specs.Views.{plain_of};
 
 use crate::machine;
-use live_cmd::{Entry, Item};
+use live_cmd::Item;
+use live_entries::Entry;
 use sig_base::NoMemory;
 use sig_host::{EqualsRule, HostFormula, Lent, Shelf};
 use std::alloc::Global;
@@ -94,6 +95,7 @@ impl Live {
         requires kept { ⟦<Live as Running>⟧.kept self.old }
         requires meant { self.old.broken ≡ false → SomeHosts (λ hosts. ⟦<Shelf as Lent>⟧.answers hosts self.old.shelf × ⟦<Live as Running>⟧.sound hosts self.old) }
         requires counted { self.old.broken ≡ false → ⟦<Shelf as Lent>⟧.counted self.old.shelf }
+        requires read { IsReadItem item }
         requires room { self.old.done < 2 ^ 23 }
         ensures step { (hosts : Hosts) → ⟦<Shelf as Lent>⟧.answers hosts self.old.shelf → ⟦<Live as Running>⟧.sound hosts self.old →
             IfOk result (λ es.

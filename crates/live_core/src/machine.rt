@@ -2,9 +2,8 @@
 
 use effect_world::World;
 use live_labels::Labels;
-use live_model::Texts;
 use live_names::Names;
-use live_pages::Mounted;
+use live_pages::{LinkedTemplate, Mounted};
 use std::alloc::Global;
 
 /// What a script made: what its names stand for, what things are called, the signals, watchers, owners and effects, the templates, and
@@ -15,6 +14,6 @@ pub(crate) struct Machine {
     pub(crate) names: Names,
     pub(crate) labels: Labels,
     pub(crate) world: World,
-    pub(crate) templates: Vec<Texts>,
+    pub(crate) templates: Vec<LinkedTemplate>,
     pub(crate) pages: Vec<Mounted>,
 }

@@ -1,5 +1,6 @@
-// Cells, computeds, owners, effects, watchers and templates are made, under names that are new.
-ghost use Rattle.std.specs.Prelude.{◌≡◌, ◌<◌, ◌^◌, ℕ, [], List, None, IfOk, IfErr, OnOk, length};
+// Cells, lists, computeds, owners, effects, watchers and templates are made, under names that are new.
+ghost use Rattle.std.specs.Prelude.{◌≡◌, ◌<◌, ◌^◌, ℕ, true, [], List, None, IfOk, IfErr, OnOk, length};
+ghost use Rattle.sig_base.specs.declared.value.Value.TheVariants as value;
 ghost use Rattle.signal_model.specs.Recipes.{Hosts};
 ghost use Rattle.sig_host.specs.Hosts.{HostPlace};
 ghost use Rattle.sig_effect.specs.declared.errors.EffectFault.TheVariants as fault;
@@ -7,19 +8,27 @@ ghost use Rattle.sig_effect.specs.Agreeing.{environment};
 ghost use Rattle.effect_world.specs.Agreeing.{Agrees, AreOwned, IsSound};
 ghost use Rattle.effect_world.specs.Wholes.{whole_of};
 ghost use Rattle.effect_world.specs.Weighing.{weight};
+ghost use Rattle.tpl_blocks.specs.Blocks.{lines_of};
+ghost use Rattle.tpl_model.specs.Laws.{IsTemplate};
 ghost use Rattle.live_cmd.specs.declared.command.Command.TheVariants as command;
-ghost use Rattle.live_model.specs.Machine.{count_refusal, done, host_refusal, over_limit, rule_refusal};
+ghost use Rattle.live_model.specs.Machine.{count_refusal, done, host_refusal, is_list, over_limit, rule_refusal};
+ghost use Rattle.live_model.specs.Rows.{no_rows};
 ghost use Rattle.live_core.specs.Keeping.{AreFine, IsReady, Leaves, Steps};
 ghost use Rattle.live_core.specs.Views.{plain_of};
 
 use crate::faults::{make_effect, make_owner};
 use crate::machine::Machine;
 use effect_tables::Script;
-use live_cmd::{EffectBody, Entry, Formulas, SourceText, Try};
-use live_linking::{linked_source, linked_texts, links_of, owner_of};
+use live_cmd::{EffectBody, NameList, SourceText, Try};
+use live_entries::Entry;
+use live_linking::{linked_source, links_of, owner_of, signals_of};
 use live_model::Kind;
-use sig_base::{Name, Scalar};
+use live_pages::LinkedTemplate;
+use sig_base::{Name, NoMemory, Scalar, Value};
 use sig_effect::EffectFault;
+use sig_rows::new_rows;
+use std::alloc::Global;
+use tpl_syntax::Template;
 
 // The place of an equality rule.
 fn rule_place(equals: Option<u64>) -> Option<usize>
@@ -29,6 +38,27 @@ fn rule_place(equals: Option<u64>) -> Option<usize>
         Some(place) => Some(place as usize),
         None => None,
     }
+}
+
+// Copies of names.
+fn copied(alloc: Global, names: &[Name]) -> Result<Vec<Name>, NoMemory>
+    ensures { IfOk result (λ v. v.items ≡ names.now) }
+{
+    let mut out = Vec::new(alloc);
+    for name in names {
+        out.push(name.copy()?)?;
+    }
+    Ok(out)
+}
+
+// A list without rows, as a value.
+fn no_rows(alloc: Global, fields: &NameList) -> Result<Value, NoMemory>
+    requires { is_list fields.now ≡ true }
+    ensures { IfOk result (λ v. v ≡ value.Rows (no_rows fields.now)) }
+{
+    let names = copied(alloc, fields.as_slice())?;
+    let rows = new_rows(alloc, names)?;
+    Ok(Value::Rows(rows))
 }
 
 impl Machine {
@@ -58,6 +88,33 @@ impl Machine {
             .world
             .make_cell(value.into(), rule_place(equals), owner)?;
         self.name_signal(name, Kind::Cell, id)?;
+        Ok(Vec::new(self.alloc))
+    }
+
+    /// Makes a list of these fields, without rows.
+    pub(crate) fn make_list(
+        &mut self,
+        name: Name,
+        fields: &NameList,
+        inside: Option<Name>,
+    ) -> Result<Vec<Entry>, EffectFault>
+        requires ready { IsReady self.old }
+        requires owned { AreOwned self.old.world }
+        requires weight { weight self.old.world < 2 ^ 125 }
+        requires few { count_refusal (command.List name fields.now inside) ≡ None }
+        requires fine { AreFine self.old (command.List name fields.now inside) }
+        requires room { over_limit (plain_of [] self.old) (command.List name fields.now inside) ≡ None }
+        ensures steps { (hosts : Hosts) (slacks : List ℕ) (asked : List HostPlace) → IsSound hosts asked self.old.world →
+            IfOk result (λ es. Steps hosts asked self.new es.items
+            (done (environment hosts slacks) (plain_of asked self.old) (command.List name fields.now inside))) }
+        ensures leaves { (hosts : Hosts) (asked : List HostPlace) (rules : ℕ) → IsSound hosts asked self.old.world →
+            OnOk result (Leaves asked asked rules self.old self.new) }
+        ensures memory { IfErr result (λ e. e ≡ fault.NoMemory) }
+    {
+        let owner = owner_of(&self.names, &inside);
+        let rows = no_rows(self.alloc, fields)?;
+        let id = self.world.make_cell(rows, None, owner)?;
+        self.name_signal(name, Kind::List, id)?;
         Ok(Vec::new(self.alloc))
     }
 
@@ -173,21 +230,22 @@ impl Machine {
     pub(crate) fn make_template(
         &mut self,
         name: Name,
-        texts: Formulas,
+        template: Template,
     ) -> Result<Vec<Entry>, EffectFault>
         requires ready { IsReady self.old }
-        requires fine { AreFine self.old (command.Template name texts) }
+        requires fine { AreFine self.old (command.Template name template) }
+        requires template { IsTemplate (lines_of template) }
         ensures steps { (hosts : Hosts) (slacks : List ℕ) (asked : List HostPlace) → IsSound hosts asked self.old.world →
             IfOk result (λ es. Steps hosts asked self.new es.items
-            (done (environment hosts slacks) (plain_of asked self.old) (command.Template name texts))) }
+            (done (environment hosts slacks) (plain_of asked self.old) (command.Template name template))) }
         ensures leaves { (hosts : Hosts) (asked : List HostPlace) (rules : ℕ) → IsSound hosts asked self.old.world →
             OnOk result (Leaves asked asked rules self.old self.new) }
         ensures memory { IfErr result (λ e. e ≡ fault.NoMemory) }
     {
-        let texts = linked_texts(self.alloc, &self.names, texts)?;
-        let template = self.templates.len() as u128;
-        self.templates.push(texts)?;
-        self.names.make(name, Kind::Template, template)?;
+        let links = signals_of(self.alloc, &self.names, template.names())?;
+        let number = self.templates.len() as u128;
+        self.templates.push(LinkedTemplate { template, links })?;
+        self.names.make(name, Kind::Template, number)?;
         Ok(Vec::new(self.alloc))
     }
 }

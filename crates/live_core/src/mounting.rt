@@ -12,6 +12,7 @@ ghost use Rattle.live_model.specs.Machine.{after_turns, done, over_limit};
 ghost use Rattle.live_model.specs.declared.names.Kind.TheVariants as kind;
 ghost use Rattle.live_model.specs.Names.{meaning_of};
 ghost use Rattle.live_pages.specs.Updates.{AreShown};
+ghost use Rattle.live_pages.specs.Views.{template_of};
 ghost use Rattle.live_labels.specs.Views.{labels_of};
 ghost use Rattle.live_core.specs.Keeping.{AreFine, IsReady, Leaves, Steps};
 ghost use Rattle.live_core.specs.Views.{plain_of};
@@ -20,14 +21,14 @@ use crate::answers::append;
 use crate::faults::make_page;
 use crate::machine::Machine;
 use effect_turns::flush;
-use live_cmd::{Entry, Refusal};
+use live_entries::{Entry, Refusal};
 use live_labels::tell_all;
 use live_linking::owner_of;
 use live_pages::{Mounted, bring_all_up, keep_live, mount};
 use sig_base::{Name, NoMemory, PageId};
 use sig_effect::EffectFault;
 use sig_host::{EqualsRule, Lent, Shelf};
-use text_pages::TextPage;
+use tpl_live::Page;
 
 impl Machine {
     // Puts a page of a template last.
@@ -36,7 +37,7 @@ impl Machine {
         name: Name,
         number: PageId,
         template: u128,
-        page: TextPage,
+        page: Page,
     ) -> Result<(), NoMemory>
         requires { meaning_of self.old.names name ≡ None }
         ensures names { OnOk result (self.new.names ≡ self.old.names ++ (name, record { kind = kind.Page; number = number }) ∷ []) }
@@ -108,7 +109,7 @@ impl Machine {
         refused: bool,
         told: Vec<Entry>,
     ) -> Result<Vec<Entry>, EffectFault>
-        requires shown { AreShown self.old.templates.items self.old.pages.items }
+        requires shown { AreShown (map template_of self.old.templates.items) self.old.pages.items }
         requires few { length self.old.pages.items ≤ MOST_PAGES }
         requires weight { weight self.old.world < 2 ^ 125 }
         requires agrees { Agrees (⟦<Shelf as Lent>⟧.asked shelf.old) self.old.world }
@@ -136,7 +137,6 @@ impl Machine {
             self.alloc,
             &mut self.world,
             shelf,
-            &self.templates,
             &self.labels,
             &mut self.pages,
         )?;

@@ -7,7 +7,7 @@ ghost use Rattle.live_labels.specs.Views.{labels_of};
 ghost use Rattle.live_core.specs.Parts.{KeepsParts};
 
 use crate::machine::Machine;
-use live_cmd::Label;
+use live_entries::Label;
 use live_model::Kind;
 use sig_base::{EffectId, Name, NoMemory, NodeId, OwnerId, PageId, WatcherId};
 

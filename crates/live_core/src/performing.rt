@@ -8,8 +8,8 @@ ghost use Rattle.effect_world.specs.Agreeing.{IsSound};
 ghost use Rattle.effect_world.specs.Weighing.{weight};
 ghost use Rattle.live_cmd.specs.declared.command.Item.TheVariants as item;
 ghost use Rattle.live_cmd.specs.declared.command.Command.TheVariants as command;
-ghost use Rattle.live_model.specs.Machine.{count_refusal, done, empty, over_limit, place_refusal, step, unwatch_refusal};
-ghost use Rattle.live_core.specs.Keeping.{AreFine, Holds, IsReady, Leaves, Steps};
+ghost use Rattle.live_model.specs.Machine.{count_refusal, done, empty, over_limit, place_refusal, row_refusal, step, unwatch_refusal};
+ghost use Rattle.live_core.specs.Keeping.{AreFine, Holds, IsReadable, IsReadItem, IsReady, Leaves, Steps};
 ghost use Rattle.live_core.specs.Views.{plain_of};
 ghost use Rattle.effect_world.specs.Wholes.{whole_of};
 
@@ -17,7 +17,8 @@ use crate::answers::one;
 use crate::faults::memory_of;
 use crate::machine::Machine;
 use effect_world::World;
-use live_cmd::{Command, Entry, Item, Verb};
+use live_cmd::{Command, Item, Verb};
+use live_entries::Entry;
 use live_labels::Labels;
 use live_names::Names;
 use sig_base::{Name, NoMemory};
@@ -77,6 +78,7 @@ impl Machine {
             Verb::Sources => self.sources(name),
             Verb::Pending => self.pending(name),
             Verb::Show => self.show(name),
+            Verb::Scratch => self.scratch(shelf, name),
             Verb::Dispose => self.dispose(shelf, rules, &name),
         }
     }
@@ -96,6 +98,8 @@ impl Machine {
         requires few { count_refusal command ≡ None }
         requires fine { AreFine self.old command }
         requires places { place_refusal (map (λ r. r.slack) rules.now) (whole_of (⟦<Shelf as Lent>⟧.asked shelf.old) self.old.world) command ≡ None }
+        requires read { IsReadable command }
+        requires rows { row_refusal (plain_of (⟦<Shelf as Lent>⟧.asked shelf.old) self.old) command ≡ None }
         requires room { over_limit (plain_of (⟦<Shelf as Lent>⟧.asked shelf.old) self.old) command ≡ None }
         requires watched { unwatch_refusal (plain_of (⟦<Shelf as Lent>⟧.asked shelf.old) self.old) command ≡ None }
         ensures steps { (hosts : Hosts) → ⟦<Shelf as Lent>⟧.answers hosts shelf.old →
@@ -117,6 +121,12 @@ impl Machine {
                 equals,
                 inside,
             } => self.make_cell(name, value, equals, inside),
+            Command::List {
+                name,
+                fields,
+                inside,
+            } => self.make_list(name, &fields, inside),
+            Command::Edit { name, edit } => self.edit(rules, &name, &edit),
             Command::Set { name, value } => self.set(rules, &name, value),
             Command::Computed {
                 name,
@@ -129,7 +139,7 @@ impl Machine {
             Command::Watch { name, signals } => self.watch(&name, &signals),
             Command::Unwatch { name, signal } => self.unwatch(&name, &signal),
             Command::Effect { name, body, inside } => self.make_effect(name, body, inside),
-            Command::Template { name, texts } => self.make_template(name, texts),
+            Command::Template { name, template } => self.make_template(name, template),
             Command::Mount {
                 name,
                 template,
@@ -148,6 +158,7 @@ impl Machine {
         command: Command,
     ) -> Result<Vec<Entry>, NoMemory>
         requires ready { IsReady self.old }
+        requires read { IsReadable command }
         requires weight { weight self.old.world < 2 ^ 124 }
         requires holds { Holds (⟦<Shelf as Lent>⟧.asked shelf.old) (length rules.now) self.old.world }
         requires counted { ⟦<Shelf as Lent>⟧.counted shelf.old }
@@ -163,7 +174,12 @@ impl Machine {
         ensures counted { OnOk result (⟦<Shelf as Lent>⟧.counted shelf.new) }
         ensures most { OnOk result (most_asked (⟦<Shelf as Lent>⟧.asked shelf.new) ≤ most_asked (⟦<Shelf as Lent>⟧.asked shelf.old) + 2 ^ 80) }
     {
-        if let Some(refusal) = self.refusal_of(shelf, rules, &command)? {
+        let Ok(refusal) = self.refusal_of(shelf, rules, &command) else {
+            drop(command);
+            return Err(NoMemory);
+        };
+        if let Some(refusal) = refusal {
+            drop(command);
             return one(self.alloc, Entry::Error(refusal));
         }
         match self.perform(shelf, rules, command) {
@@ -180,6 +196,7 @@ impl Machine {
         item: Item,
     ) -> Result<Vec<Entry>, NoMemory>
         requires ready { IsReady self.old }
+        requires read { IsReadItem item }
         requires weight { weight self.old.world < 2 ^ 124 }
         requires holds { Holds (⟦<Shelf as Lent>⟧.asked shelf.old) (length rules.now) self.old.world }
         requires counted { ⟦<Shelf as Lent>⟧.counted shelf.old }

@@ -1,5 +1,5 @@
-// Why commands are refused, in this order: how many names there are, the names, the places of host formulas and rules, what there would be
-// too much of, and a signal that isn't watched.
+// Why commands are refused, in this order: how many names there are, the names, the places of host formulas and rules, what the rows of a
+// list don't allow, what there would be too much of, and a signal that isn't watched.
 ghost use Rattle.std.specs.Prelude.{◌≡◌, ℕ, Bool, List, IfOk, length, map, slice_get};
 ghost use Rattle.std.specs.List.{filter};
 ghost use Rattle.effect_model.specs.Watching.{watches};
@@ -11,21 +11,25 @@ ghost use Rattle.sig_host.specs.Hosts.{HostPlace};
 ghost use Rattle.live_model.specs.Labels.{is_named, label_at};
 ghost use Rattle.live_model.specs.Machine.{body_refusal, count_refusal, host_refusal, later_refusal, name_refusal};
 ghost use Rattle.live_model.specs.Machine.{one_too_many, outside_refusal, over_limit, place_refusal, refusal_of};
-ghost use Rattle.live_model.specs.Machine.{rule_refusal, sources_refusal, taken_refusal, unwatch_refusal};
+ghost use Rattle.live_model.specs.Machine.{is_list, row_refusal, rule_refusal, sources_refusal, taken_refusal, unwatch_refusal};
 ghost use Rattle.live_model.specs.Names.{first_within, number_of};
+ghost use Rattle.live_model.specs.Rows.{edit_refusal, rows_at};
 ghost use Rattle.live_model.specs.Uses.{hosts_of_body, uses_of_body};
-ghost use Rattle.live_core.specs.Refused.{body_refused};
+ghost use Rattle.live_core.specs.Refused.{body_refused, fields_refused};
 ghost use Rattle.live_core.specs.Views.{plain_of};
 
+use crate::listing::edit_refusal;
 use crate::machine::Machine;
 use effect_model::MOST_WATCHERS;
 use effect_tables::{MOST_EFFECTS, OwnerEntry};
 use effect_world::World;
-use live_cmd::{Command, EffectBody, LimitWord, Refusal, SourceText};
+use live_cmd::{Command, EffectBody, NameList, RowEdit, SourceText, are_fields};
+use live_entries::{LimitWord, Refusal};
 use live_labels::named_count;
 use live_uses::{hosts_of_body, is_fit, uses_of, uses_of_body};
 use sig_base::{
-    MOST_NODES, MOST_PAGES, MOST_SOURCES, MOST_TEMPLATES, Name, NoMemory, NodeId, WatcherId,
+    MOST_FIELDS, MOST_NODES, MOST_PAGES, MOST_SOURCES, MOST_TEMPLATES, Name, NoMemory, NodeId,
+    WatcherId,
 };
 use sig_host::{EqualsRule, Lent, Shelf};
 use sig_owner::MOST_OWNERS;
@@ -89,6 +93,24 @@ fn fit_refusal(alloc: Global, body: &EffectBody) -> Result<Option<Refusal>, NoMe
     }
 }
 
+// Whether names are those of a list's fields.
+fn is_list(fields: &[Name]) -> bool
+    ensures { result ≡ is_list fields.now }
+{
+    are_fields(fields) && fields.len() <= MOST_FIELDS
+}
+
+// The refusal of fields that no list has.
+fn fields_refusal(fields: &NameList) -> Option<Refusal>
+    ensures { result ≡ fields_refused fields.now }
+{
+    if is_list(fields.as_slice()) {
+        None
+    } else {
+        Some(Refusal::Limit(LimitWord::Fields))
+    }
+}
+
 // The refusal of a command with such a one.
 fn count_refusal(alloc: Global, command: &Command) -> Result<Option<Refusal>, NoMemory>
     ensures { IfOk result (λ r. r ≡ count_refusal command.now) }
@@ -96,6 +118,7 @@ fn count_refusal(alloc: Global, command: &Command) -> Result<Option<Refusal>, No
     match command {
         Command::Computed { source, .. } => Ok(sources_refusal(source)),
         Command::Rewire { source, .. } => Ok(sources_refusal(source)),
+        Command::List { fields, .. } => Ok(fields_refusal(fields)),
         Command::Effect { body, .. } => {
             let refusal = fit_refusal(alloc, body)?;
             Ok(refusal)
@@ -238,6 +261,28 @@ impl Machine {
         Ok(refusal)
     }
 
+    // The refusal of an edit that the rows of a list don't allow.
+    fn rows_refusal(&self, name: &Name, edit: &RowEdit) -> Result<Option<Refusal>, NoMemory>
+        ensures { IfOk result (λ r. r ≡ edit_refusal edit.now (rows_at self.now.world.signals.graph.state.signals (number_of self.now.names name.now))) }
+    {
+        let list = NodeId::of(self.names.number_of(name));
+        let refusal = edit_refusal(self.alloc, &self.world, list, edit)?;
+        Ok(refusal)
+    }
+
+    // So it is for a command.
+    fn row_refusal(&self, command: &Command) -> Result<Option<Refusal>, NoMemory>
+        ensures { (asked : List HostPlace) → IfOk result (λ r. r ≡ row_refusal (plain_of asked self.now) command.now) }
+    {
+        match command {
+            Command::Edit { name, edit } => {
+                let refusal = self.rows_refusal(name, edit)?;
+                Ok(refusal)
+            }
+            _ => Ok(None),
+        }
+    }
+
     // How many effects live that a command made.
     fn named_effects(&self) -> usize
         ensures { result ≡ length (filter (λ x. is_named (label_at self.now.labels.effects.items x.number)) (map effect_of self.now.world.tables.effects.items)) }
@@ -250,7 +295,7 @@ impl Machine {
         ensures { (asked : List HostPlace) → result ≡ over_limit (plain_of asked self.now) command.now }
     {
         match command {
-            Command::Cell { .. } | Command::Computed { .. } => {
+            Command::Cell { .. } | Command::List { .. } | Command::Computed { .. } => {
                 one_too_many(
                     MOST_NODES,
                     self.world.signals.graph.live(),
@@ -319,6 +364,9 @@ impl Machine {
             (plain_of (⟦<Shelf as Lent>⟧.asked shelf.now) self.now) command.now) }
     {
         if let Some(refusal) = place_refusal(self.alloc, &self.world, shelf, rules, command)? {
+            return Ok(Some(refusal));
+        }
+        if let Some(refusal) = self.row_refusal(command)? {
             return Ok(Some(refusal));
         }
         if let Some(refusal) = self.over_limit(command) {

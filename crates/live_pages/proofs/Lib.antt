@@ -2,3 +2,4 @@ mod Paging
 mod Apart
 mod Standing
 pub mod Shared
+mod Stood

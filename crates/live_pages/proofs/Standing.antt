@@ -3,14 +3,13 @@ use Rattle.std.proofs.Common.{◌≡◌, ◌≤◌, ◌<◌, ◌+◌, ◌||◌, 
 use Rattle.std.specs.List.{AllByRecursion, filter}
 use Rattle.std.proofs.lemmas.List.{length-append, length-map}
 use Rattle.sig_base.specs.declared.limits.TheConstants.{MOST_PAGES}
-use Rattle.signal_model.specs.Recipes.{Recipe}
 use Rattle.signal_model.specs.Standing.{is_in}
 use Rattle.effect_tables.specs.Holding.{AreApart}
 use Rattle.effect_world.specs.declared.world.World.{World}
-use Rattle.live_model.specs.declared.parts.Page.{Page}
+use Rattle.live_model.specs.Pages.{template_in, Page, Template}
 use Rattle.live_pages.specs.declared.mounted.Mounted.{Mounted}
 use Rattle.live_pages.specs.Views.{page_of}
-use Rattle.live_pages.specs.Updates.{numbers_of, AreShown, ArePages, IsShown}
+use Rattle.live_pages.specs.Updates.{numbers_of, AreShown, AreStanding, ArePages, IsShown}
 use Rattle.live_pages.proofs.Apart.{apart_more, few_within, in_last, in_more, neither}
 
 -- ---- some are dropped
@@ -100,7 +99,7 @@ pages_filtered v w ps qs made is are =
       few = let a = fewer f ps in let b = are.few in omega (arith, a, b);
     })
 
-pub shown_filtered : (ts : List (List Recipe)) (f : Mounted → Bool) (ps qs : List Mounted) → qs ≡ filter f ps → AreShown ts ps → AreShown ts qs
+pub shown_filtered : (ts : List Template) (f : Mounted → Bool) (ps qs : List Mounted) → qs ≡ filter f ps → AreShown ts ps → AreShown ts qs
 shown_filtered ts f ps qs is all = subst (AreShown ts) (sym is) (all_passing f (IsShown ts) ps all)
 
 -- the same of the pages as the definitions have them
@@ -150,5 +149,13 @@ pages_more v w ps q number pages made room are =
           let d = length-append ps (q ∷ []) in omega (arith, a, b, d, room);
     }
 
-pub shown_more : (ts : List (List Recipe)) (ps : List Mounted) (p : Mounted) → AreShown ts ps → IsShown ts p → AreShown ts (ps ++ p ∷ [])
+pub shown_more : (ts : List Template) (ps : List Mounted) (p : Mounted) → AreShown ts ps → IsShown ts p → AreShown ts (ps ++ p ∷ [])
 shown_more ts ps p all one = all_more (IsShown ts) ps p all one
+
+-- pages that stand on their templates stand
+pub all_standing : (ts : List Template) (ps : List Mounted) → AreShown ts ps → AreStanding ps
+all_standing ts [] all = tt
+all_standing ts (p ∷ ps) all = (
+  record { lines = (template_in ts p.template).lines; links = (template_in ts p.template).links; stands = all.0.stands },
+  all_standing ts ps all.1,
+)

@@ -1,22 +1,31 @@
--- What bringing a page up to date leaves and tells.
+-- What making a page and bringing it up to date leave and tell.
 use Rattle.std.specs.Prelude.{◌≡◌, ◌<◌, ◌≤◌, true, ℕ, List, [], ◌∷◌, ◌++◌, length, map}
 use Rattle.std.specs.List.{AllByRecursion}
 use Rattle.sig_base.specs.declared.limits.TheConstants.{MOST_PAGES}
-use Rattle.signal_model.specs.Recipes.{Recipe}
 use Rattle.signal_model.specs.Standing.{is_in}
+use Rattle.page_model.specs.Pages as paged
+use Rattle.page_model.specs.Html.{html_of}
+use Rattle.page_model.specs.Pages.{NumberedPage, tree_of}
+use Rattle.page_model.specs.Replay.{Op}
+use Rattle.tpl_blocks.specs.Blocks.{lines_of}
+use Rattle.tpl_live.specs.Pages.{IsStanding, Stands}
+use Rattle.tpl_live.specs.Standings.{standing}
+use Rattle.tpl_model.specs.Laws.{IsTemplate}
+use Rattle.tpl_model.specs.Updates.{Updated, updated}
 use Rattle.effect_tables.specs.Holding.{AreApart}
 use Rattle.effect_model.specs.Worlds.{Environment}
 use Rattle.sig_host.specs.Hosts.{HostPlace}
 use Rattle.effect_world.specs.declared.world.World.{World}
 use Rattle.effect_world.specs.Agreeing.{IsSound}
 use Rattle.effect_world.specs.Wholes.{whole_of}
-use Rattle.live_cmd.specs.declared.entry.Entry.{Entry}
-use Rattle.live_cmd.specs.declared.entry.Entry.TheVariants as entry
+use Rattle.live_entries.specs.declared.entry.Entry.{Entry}
+use Rattle.live_entries.specs.declared.entry.Entry.TheVariants as entry
 use Rattle.live_model.specs.Labels as called
 use Rattle.live_model.specs.Machine as plain
-use Rattle.live_model.specs.Machine.{brought_up, news_of, settling, template_html, template_reads, texts_at, told, update_all}
+use Rattle.live_model.specs.Machine.{brought_up, carried_on, news_of, ops_told, settling, template_reads, told, update_all}
 use Rattle.live_model.specs.Names.{Names}
-use Rattle.text_pages.specs.Shown.{Shown, Shows}
+use Rattle.live_model.specs.Pages.{Template, asked_of, scratch_html, template_in}
+use Rattle.live_pages.specs.declared.mounted.LinkedTemplate.{LinkedTemplate}
 use Rattle.live_pages.specs.declared.mounted.Mounted.{Mounted}
 use Rattle.live_pages.specs.Views.{page_of}
 
@@ -24,14 +33,22 @@ use Rattle.live_pages.specs.Views.{page_of}
 abbrev pub numbers_of : List Mounted → List ℕ
 numbers_of ps = map (λ (p : Mounted). p.number) ps
 
--- a page shows the texts of its template, which is one of these
-pub record IsShown (templates : List (List Recipe)) (p : Mounted) : Type 0 where
+-- templates that were read
+abbrev pub AreTemplates : List LinkedTemplate → Type 0
+AreTemplates ts = AllByRecursion (λ (t : LinkedTemplate). IsTemplate (lines_of t.template)) ts
+
+-- a page stands on its template, which is one of these
+pub record IsShown (templates : List Template) (p : Mounted) : Type 0 where
   pub template : p.template < length templates
-  pub shows : Shows (texts_at templates p.template) p.page
+  pub stands : Stands (template_in templates p.template).lines (template_in templates p.template).links (standing p.page)
 
 -- each page does
-abbrev pub AreShown : List (List Recipe) → List Mounted → Type 0
+abbrev pub AreShown : List Template → List Mounted → Type 0
 AreShown templates pages = AllByRecursion (IsShown templates) pages
+
+-- each page stands on some lines
+abbrev pub AreStanding : List Mounted → Type 0
+AreStanding pages = AllByRecursion (λ (p : Mounted). IsStanding (standing p.page)) pages
 
 -- The pages have different numbers, each that of a page which lives, below that of the next one; and there are few.
 pub record ArePages (w : World) (pages : List Mounted) : Type 0 where
@@ -41,7 +58,7 @@ pub record ArePages (w : World) (pages : List Mounted) : Type 0 where
   pub few : length pages ≤ MOST_PAGES
 
 -- the plain machine of these parts
-abbrev pub plain_machine : Names → called.Labels → List HostPlace → World → List (List Recipe) → List Mounted → plain.Machine
+abbrev pub plain_machine : Names → called.Labels → List HostPlace → World → List Template → List Mounted → plain.Machine
 plain_machine names labels asked w templates pages = record {
   names = names;
   labels = labels;
@@ -51,7 +68,7 @@ plain_machine names labels asked w templates pages = record {
 }
 
 -- one without other names, and without pages
-abbrev pub bare : called.Labels → List HostPlace → World → List (List Recipe) → plain.Machine
+abbrev pub bare : called.Labels → List HostPlace → World → List Template → plain.Machine
 bare labels asked w templates = plain_machine [] labels asked w templates []
 
 -- the world after settling: signals, watchers and tables stay, and as many signals are made as before
@@ -61,32 +78,59 @@ pub record Settles (old new : World) : Type 0 where
   pub watchers : new.signals.watchers ≡ old.signals.watchers
   pub tables : new.tables ≡ old.tables
 
--- A page was made, on the signals of a machine: what it reads is settled and told, and then the page.
-pub record IsMounted (env : Environment) (ls : called.Labels) (templates : List (List Recipe)) (asked later : List HostPlace)
-    (old new : World) (name : List ℕ) (template : ℕ) (page : Shown) (before after : List Entry) : Type 0 where
+-- what the names that a template reads come to where they are settled
+abbrev pub after_reading : Environment → called.Labels → List HostPlace → World → Template → plain.Told
+after_reading env ls asked w t = settling env (bare ls asked w []) (asked_of env.hosts (whole_of asked w).signals t)
+
+-- what a page comes to that is carried to a template's shape
+abbrev pub carried_to : Environment → List HostPlace → World → Template → NumberedPage → Updated
+carried_to env asked w t old = updated env.hosts (whole_of asked w).signals t.lines t.links (whole_of asked w).memos old
+
+-- What a template reads was settled and told, and this is what comes of a page without nodes, and how.
+pub record IsFresh (env : Environment) (ls : called.Labels) (t : Template) (asked later : List HostPlace) (old new : World)
+    (made : NumberedPage) (edits : List Op) (before after : List Entry) : Type 0 where
+  pub world : whole_of later new ≡ (after_reading env ls asked old t).machine.world
+  pub told : after ≡ before ++ (after_reading env ls asked old t).entries
+  pub labels : ls ≡ (after_reading env ls asked old t).machine.labels
+  pub page : made ≡ (carried_to env asked old t paged.bare).page
+  pub ops : edits ≡ (carried_to env asked old t paged.bare).ops
+  pub sound : IsSound env.hosts later new
+
+-- A page was made, on the signals of a machine: what it reads is settled and told, then the operations that lead to it, and then the page.
+pub record IsMounted (env : Environment) (ls : called.Labels) (templates : List Template) (asked later : List HostPlace)
+    (old new : World) (name : List ℕ) (template : ℕ) (made : NumberedPage) (before after : List Entry) : Type 0 where
   pub world : whole_of later new ≡ (settling env (bare ls asked old templates) (template_reads env (bare ls asked old templates) template)).machine.world
   pub told : after
       ≡ before ++ ((settling env (bare ls asked old templates) (template_reads env (bare ls asked old templates) template)).entries
-      ++ entry.Page name page.html ∷ [])
+      ++ ops_told name (carried_on env (bare ls asked old templates) template paged.bare).ops
+      ++ entry.Page name (html_of (tree_of made)) ∷ [])
   pub labels : ls ≡ (settling env (bare ls asked old templates) (template_reads env (bare ls asked old templates) template)).machine.labels
-  pub html : page.html ≡ template_html env (bare ls asked old templates) template
+  pub page : made ≡ (carried_on env (bare ls asked old templates) template paged.bare).page
+  pub sound : IsSound env.hosts later new
+
+-- What a template reads was settled and told, and this is the HTML of what it shows from scratch.
+pub record IsScratched (env : Environment) (ls : called.Labels) (templates : List Template) (asked later : List HostPlace)
+    (old new : World) (template : ℕ) (bytes : List ℕ) (before after : List Entry) : Type 0 where
+  pub world : whole_of later new ≡ (settling env (bare ls asked old templates) (template_reads env (bare ls asked old templates) template)).machine.world
+  pub told : after ≡ before ++ (settling env (bare ls asked old templates) (template_reads env (bare ls asked old templates) template)).entries
+  pub labels : ls ≡ (settling env (bare ls asked old templates) (template_reads env (bare ls asked old templates) template)).machine.labels
+  pub html : bytes ≡ scratch_html env.hosts (whole_of asked old).signals (template_in templates template)
   pub sound : IsSound env.hosts later new
 
 -- A page was brought up to date: what it reads is settled and told, and then its news.
-pub record IsBroughtUp (env : Environment) (ls : called.Labels) (templates : List (List Recipe)) (asked later : List HostPlace)
+pub record IsBroughtUp (env : Environment) (ls : called.Labels) (templates : List Template) (asked later : List HostPlace)
     (old new : World) (p q : Mounted) (before after : List Entry) : Type 0 where
   pub world : whole_of later new
       ≡ (settling env (bare ls asked old templates) (template_reads env (bare ls asked old templates) p.template)).machine.world
   pub told : after
       ≡ before ++ ((settling env (bare ls asked old templates) (template_reads env (bare ls asked old templates) p.template)).entries
-      ++ news_of env (bare ls asked old templates) (page_of p))
+      ++ news_of (brought_up env (bare ls asked old templates) (page_of p))
+      (carried_on env (bare ls asked old templates) p.template (page_of p).content).ops)
   pub labels : ls ≡ (settling env (bare ls asked old templates) (template_reads env (bare ls asked old templates) p.template)).machine.labels
   pub page : page_of q ≡ brought_up env (bare ls asked old templates) (page_of p)
-  pub sound : IsSound env.hosts later new
 
 -- All pages were.
-pub record AreBroughtUp (env : Environment) (names : Names) (labels : called.Labels) (templates : List (List Recipe))
+pub record AreBroughtUp (env : Environment) (names : Names) (labels : called.Labels) (templates : List Template)
     (asked later : List HostPlace) (old new : World) (pages now : List Mounted) (entries : List Entry) : Type 0 where
   pub step : told (plain_machine names labels later new templates now) entries
       ≡ update_all env (map page_of pages) (plain_machine names labels asked old templates [])
-  pub sound : IsSound env.hosts later new

@@ -1,46 +1,62 @@
 // Pages and templates by their numbers.
-ghost use Rattle.std.specs.Prelude.{◌≡◌, ◌-◌, ◌^◌, min, [], IfOk, option_map, unwrap_or, map};
+ghost use Rattle.std.specs.Prelude.{◌≡◌, ◌<◌, [], List, None, Some, IfOk, IfSome, MatchOption, length, map, option_map, unwrap_or};
 ghost use Rattle.std.specs.List.{filter};
 ghost use Rattle.signal_model.specs.Standing.{is_in};
-ghost use Rattle.live_model.specs.Machine.{page_at, texts_at};
-ghost use Rattle.live_pages.specs.Views.{page_of};
+ghost use Rattle.live_model.specs.Machine.{page_at};
+ghost use Rattle.live_model.specs.Pages.{page_html, template_in, Template};
+ghost use Rattle.tpl_blocks.specs.Blocks.{lines_of};
+ghost use Rattle.tpl_model.specs.Laws.{IsTemplate};
+ghost use Rattle.tpl_live.specs.Pages.{IsStanding};
+ghost use Rattle.tpl_live.specs.Standings.{standing};
+ghost use Rattle.live_pages.specs.Updates.{AreShown, AreStanding, AreTemplates, IsShown};
+ghost use Rattle.live_pages.specs.Views.{page_of, template_of};
 
-use crate::mounted::Mounted;
-use live_cmd::PageBytes;
-use live_model::Texts;
+use crate::mounted::{LinkedTemplate, Mounted};
+use crate::telling::html_of;
+use live_entries::PageBytes;
 use live_names::is_page_among;
 use sig_base::{NoMemory, PageId};
-use signal_model::Linked;
 use std::alloc::Global;
 
-// A number as a place in a list, or the last place of all.
-fn place_of(number: u128) -> usize
-    ensures { result ≡ min number (2 ^ 64 - 1) }
+/// The template of a number.
+pub fn template_among(templates: &[LinkedTemplate], template: u128) -> &LinkedTemplate
+    requires { template < length templates.now }
+    ensures known { template_of result.now ≡ template_in (map template_of templates.now) template }
+    ensures read { AreTemplates templates.now → IsTemplate (lines_of result.now.template) }
 {
-    usize::try_from(number).unwrap_or(usize::MAX)
+    &templates[template as usize]
 }
 
-/// The texts of the template of a number, none past the last.
-pub fn texts_at(templates: &[Texts], template: u128) -> &[Linked]
-    ensures { result.now ≡ texts_at templates.now template }
-{
-    match templates.get(place_of(template)) {
-        Some(texts) => texts.as_slice(),
-        None => &[],
-    }
-}
-
-/// The HTML of the page of a number as it was last brought up to date; nothing where there is none.
-pub fn shown_of(alloc: Global, pages: &[Mounted], number: PageId) -> Result<PageBytes, NoMemory>
-    ensures { IfOk result (λ html. html ≡ unwrap_or (option_map (λ p. p.shown) (page_at (map page_of pages.now) number)) []) }
+/// The page of a number, if one lives that has it.
+pub fn page_among(pages: &[Mounted], number: PageId) -> Option<&Mounted>
+    ensures found { MatchOption result (page_at (map page_of pages.now) number ≡ None) (λ p. page_at (map page_of pages.now) number ≡ Some (page_of p.now)) }
+    ensures stands { AreStanding pages.now → IfSome result (λ p. IsStanding (standing p.now.page)) }
+    ensures shown { (templates : List Template) → AreShown templates pages.now → IfSome result (λ p. IsShown templates p.now) }
 {
     for page in pages {
         if number == page.number {
-            let html = page.page.html().copy()?;
-            return Ok(html);
+            return Some(page);
         }
     }
-    PageBytes::of(alloc, Vec::new(alloc))
+    None
+}
+
+/// The HTML of the page of a number as it was last brought up to date; nothing where there is none.
+///
+/// # Errors
+///
+/// `NoMemory` alone.
+pub fn shown_of(alloc: Global, pages: &[Mounted], number: PageId) -> Result<PageBytes, NoMemory>
+    requires { AreStanding pages.now }
+    ensures { IfOk result (λ html. html ≡ unwrap_or (option_map page_html (page_at (map page_of pages.now) number)) []) }
+{
+    match page_among(pages, number) {
+        Some(page) => {
+            let html = html_of(alloc, &page.page)?;
+            Ok(html)
+        }
+        None => PageBytes::of(alloc, Vec::new(alloc)),
+    }
 }
 
 /// Drops the pages that are not among those that live.

@@ -1,4 +1,4 @@
--- What is printed by what the caller lends, and how much of a source is read.
+-- What is printed by what the caller lends, what pages show, and how much of a source is read.
 use Rattle.std.specs.Prelude.{◌≤◌, ◌+◌, ℕ, List, Option, length}
 use Rattle.std.specs.Io.KnownBytes.{Consumes}
 use Rattle.sig_base.specs.declared.limits.TheConstants.{MOST_SCRIPT}
@@ -7,7 +7,9 @@ use Rattle.sig_host.specs.Hosts.{Meaning, hosts_of}
 use Rattle.effect_model.specs.Worlds.{Environment}
 use Rattle.live_cmd.specs.declared.command.Item.{Item}
 use Rattle.live_model.specs.declared.jobs.Job.{Job}
+use Rattle.live_model.specs.Machine.{empty}
 use Rattle.live_model.specs.Output.{output_of}
+use Rattle.page_laws.specs.LivePages.{IsLive, LendsRows}
 
 -- the host formulas of these meanings, and equality rules with these slacks
 abbrev pub lent : List Meaning → List ℕ → Environment
@@ -16,6 +18,11 @@ lent meanings slacks = record { hosts = hosts_of meanings; slacks = slacks }
 -- what a job prints of a script with these items, where these host formulas and rules are lent
 abbrev pub lent_output : List Meaning → List ℕ → Job → List Item → List ℕ
 lent_output meanings slacks j is = output_of (lent meanings slacks) (length meanings) j is
+
+-- The pages of these items are live from the first item to the last, where these host formulas and rules are lent. The formulas are to make
+-- no rows but such with distinct keys.
+abbrev pub Lives : List Meaning → List ℕ → List Item → Type 0
+Lives meanings slacks is = LendsRows (hosts_of meanings) → IsLive (lent meanings slacks) (empty (length meanings)) is
 
 -- more bytes were given than a script has, or the count stands at its last value
 abbrev pub GaveTooMuch : ℕ → ℕ → Type 0

@@ -1,20 +1,23 @@
 // The top call: a script from a source, done command by command, its output to a sink.
 ghost use Rattle.std.specs.Prelude.{◌≡◌, ◌≤◌, ◌<◌, ◌++◌, ◌⊎◌, ◌↔◌, None, List, ℕ, All, map, length, flat_map, string_bytes};
+ghost use Rattle.std.specs.List.{AllByRecursion};
 ghost use Rattle.std.specs.Prelude.{OnOk, IfSome, IsErrOf, OnErr};
 ghost use Rattle.std.specs.Io.KnownBytes.{Appends, IsAtEnd};
 ghost use Rattle.sig_io.specs.Counts.{AppendsFront, HasCause, Rose};
 ghost use Rattle.live_cmd.specs.declared.command.Item as item;
 ghost use Rattle.live_cmd.specs.Items.{ItemsFrom};
-ghost use Rattle.live_cmd.specs.Printed.{printed};
+ghost use Rattle.live_entries.specs.Printed.{printed, IsSizedEntry};
 ghost use Rattle.live_model.specs.Jobs.{job_of};
 ghost use Rattle.live_model.specs.Output.{is_traced_job};
-ghost use Rattle.live_run.specs.Running.{lent_output, GaveTooMuch};
+ghost use Rattle.live_run.specs.Running.{lent_output, GaveTooMuch, Lives};
 ghost use Rattle.live_run.specs.declared.running.RunEnd.TheVariants as run_end;
 
 use crate::{ReadEnd, read_all, read_job};
-use live_cmd::{Entry, entry_line, next_item};
+use live_cmd::next_item;
 use live_core::Live;
+use live_entries::{Entry, entry_line};
 use live_model::Job;
+use page_laws::live_law;
 use sig_base::{Failed, MOST_SCRIPT, NoMemory};
 use sig_host::{EqualsRule, HostFormula};
 use sig_io::{Sink, Source, put_all};
@@ -70,7 +73,8 @@ impl From<Failed> for RunEnd {
 }
 
 fn put_entries(out: &mut Vec<u8>, entries: &[Entry], trace: bool) -> Result<(), NoMemory>
-    ensures { OnOk result (out.new.items ≡ out.old.items ++ flat_map (printed trace) entries.now) }
+    ensures text { OnOk result (out.new.items ≡ out.old.items ++ flat_map (printed trace) entries.now) }
+    ensures sized { OnOk result (AllByRecursion IsSizedEntry entries.now) }
 {
     for entry in entries {
         entry_line(out, entry, trace)?;
@@ -104,12 +108,14 @@ fn run_script<K: Sink>(
     requires short { length script.now ≤ MOST_SCRIPT }
     requires unasked { All (λ h. asks h ≡ 0) hosts.items }
     ensures done { OnOk result ((items : List item.Item) × ItemsFrom 1 script.now items
-        × Appends (K.held sink.old) (K.held sink.new) (lent_output (map (λ h. step_of h) hosts.items) (map (λ r. r.slack) rules.items) job items)) }
+        × Appends (K.held sink.old) (K.held sink.new) (lent_output (map (λ h. step_of h) hosts.items) (map (λ r. r.slack) rules.items) job items)
+        × Lives (map (λ h. step_of h) hosts.items) (map (λ r. r.slack) rules.items) items) }
     ensures front { OnErr result ((items : List item.Item) × ItemsFrom 1 script.now items
         × AppendsFront (K.held sink.old) (K.held sink.new) (lent_output (map (λ h. step_of h) hosts.items) (map (λ r. r.slack) rules.items) job items)) }
     ensures write { IsErrOf result RunEnd.Write → Rose (K.faults sink.old) (K.faults sink.new) }
     ensures later { K.faults sink.old ≤ K.faults sink.new }
 {
+    live_law();
     let trace = is_traced(job);
     let mut live = Live::new(alloc, hosts, rules)?;
     let mut out = Vec::new(alloc);
@@ -158,9 +164,12 @@ pub fn run_live<S: Source, K: Sink>(
     requires few_hosts { length hosts.items ≤ MOST_HOSTS }
     requires few_rules { length rules.items ≤ MOST_RULES }
     requires unasked { All (λ h. asks h ≡ 0) hosts.items }
-    // What is printed is the output of the plain machine over the script's items, by what the host formulas and the rules mean.
+    // What is printed is the output of the plain machine over the script's items, by what the host formulas and the rules mean. And its pages
+    // are live: after each flush that isn't refused each is, byte for byte, its template evaluated from scratch, and the printed operations,
+    // read and replayed on the page before, give the page after.
     ensures output { result ≡ Status.Done → IfSome (job_of (map string_bytes words.now)) (λ job. IfSome (S.left source.old) (λ script.
-        (items : List item.Item) × ItemsFrom 1 script items × Appends (K.held sink.old) (K.held sink.new) (lent_output (map (λ h. step_of h) hosts.items) (map (λ r. r.slack) rules.items) job items))) }
+        (items : List item.Item) × ItemsFrom 1 script items × Appends (K.held sink.old) (K.held sink.new) (lent_output (map (λ h. step_of h) hosts.items) (map (λ r. r.slack) rules.items) job items)
+        × Lives (map (λ h. step_of h) hosts.items) (map (λ r. r.slack) rules.items) items)) }
     ensures read { result ≡ Status.Done → IsAtEnd (S.left source.new) }
     ensures fits { result ≡ Status.Done → IfSome (S.left source.old) (λ script. length script ≤ MOST_SCRIPT) }
     ensures usage { (result ≡ Status.Usage) ↔ (job_of (map string_bytes words.now) ≡ None) }

@@ -3,7 +3,7 @@ use Rattle.sig_host.specs.Hosts.{AnswersBy, IsCounted, hosts_of}
 use Rattle.effect_world.specs.Agreeing.{IsSound}
 use Rattle.live_core.specs.Keeping.{IsKept}
 use Rattle.live_core.specs.Views.{plain_of}
-use Rattle.live_run.specs.Running.{lent, lent_output}
+use Rattle.live_run.specs.Running.{lent, lent_output, Lives}
 use Rattle.live_run.proofs.Output.{SoFar}
 use Rattle.live_run.proofs.running.run_script.Given as goal
 
@@ -11,6 +11,7 @@ abbrev pub invariant-loop-out : goal.invariant-loop-out
 invariant-loop-out g l = record {
   told : SoFar (lent (map (λ h. (goal.HostFormula-dyn g (h.vtable, h.value)).step_of h.value) l.fn.hosts.items) (map (λ r. r.slack) l.fn.rules.items))
       (lent_output (map (λ h. (goal.HostFormula-dyn g (h.vtable, h.value)).step_of h.value) l.fn.hosts.items) (map (λ r. r.slack) l.fn.rules.items) l.fn.job)
+      (Lives (map (λ h. (goal.HostFormula-dyn g (h.vtable, h.value)).step_of h.value) l.fn.hosts.items) (map (λ r. r.slack) l.fn.rules.items))
       (g.K.Sink.held l.fn.sink) (g.K.Sink.held l.sink) l.script l.line (drop l.at l.script) l.trace
       (plain_of (map (λ p. record { there = is_some p.host; asks = p.count }) l.live.shelf.places.items) l.live.machine) l.out.items;
   kept : IsKept (map (λ p. record { there = is_some p.host; asks = p.count }) l.live.shelf.places.items) (length l.live.rules.items) l.live.machine l.live.done

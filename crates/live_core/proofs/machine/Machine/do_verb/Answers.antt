@@ -24,3 +24,9 @@ returns-in-Dispose-clause-steps g c = λ hosts all sound. rw c.in-Dispose.is (c.
 
 pub returns-in-Dispose-clause-leaves : goal.returns-in-Dispose-clause-leaves
 returns-in-Dispose-clause-leaves g c = λ hosts all sound. c.dispose.ensures.leaves hosts (length c.args.rules.now) all sound
+
+pub returns-in-Scratch-clause-steps : goal.returns-in-Scratch-clause-steps
+returns-in-Scratch-clause-steps g c = λ hosts all sound. rw c.in-Scratch.is (c.scratch.ensures.steps hosts (map (λ r. r.slack) c.args.rules.now) all sound)
+
+pub returns-in-Scratch-clause-leaves : goal.returns-in-Scratch-clause-leaves
+returns-in-Scratch-clause-leaves g c = λ hosts all sound. c.scratch.ensures.leaves hosts (length c.args.rules.now) all sound

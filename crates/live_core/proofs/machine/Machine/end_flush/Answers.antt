@@ -1,6 +1,7 @@
-use Rattle.std.proofs.Common.{refl, sym, ap, subst, arith}
+use Rattle.std.proofs.Common.{map, refl, sym, ap, subst, arith}
 use Rattle.sig_effect.specs.Agreeing.{environment, AreRuled}
-use Rattle.live_pages.proofs.Shared.{pages_kept}
+use Rattle.live_pages.specs.Views.{template_of}
+use Rattle.live_pages.proofs.Shared.{all_standing, pages_kept}
 use Rattle.live_core.proofs.Doing.{ready_changed, stays_settled}
 use Rattle.live_core.proofs.Mounts.{brought_steps, refused_steps}
 use Rattle.live_core.proofs.machine.Machine.end_flush.Goals as goal
@@ -13,10 +14,10 @@ pub returns-clause-steps : goal.returns-clause-steps
 returns-clause-steps g c = λ hosts slacks all sound.
     let m = c.args.self.now in
     let e = c.in_ok-pages.ensures in
-    let up = rw c.deref.ensures.value at (e.pages hosts slacks m.names all sound) in
+    let up = e.pages hosts slacks m.names (map template_of m.templates.items) all sound c.requires.shown in
     let new = record m { world = c.bring_all_up.new.world; pages = c.bring_all_up.new.pages } in
     brought_steps hosts (environment hosts slacks) _ _ m new c.bring_all_up.new.world c.bring_all_up.new.pages.items c.args.told.items c.in_ok-pages.pages.items c.append.new.told.items
-    c.args.refused (sym c.if-refused.false) up refl refl refl refl refl c.in_ok-append.ensures up.sound
+    c.args.refused (sym c.if-refused.false) up refl refl refl refl refl c.in_ok-append.ensures (e.sound hosts all sound)
 
 pub returns-clause-leaves : goal.returns-clause-leaves
 returns-clause-leaves g c = λ hosts count ready all sound.
@@ -25,8 +26,11 @@ returns-clause-leaves g c = λ hosts count ready all sound.
     let new = record m { world = c.bring_all_up.new.world; pages = c.bring_all_up.new.pages } in
     record {
       ready = ready_changed m new ready
-          (record { names = refl; templates = refl; labels = record { signals = refl; owners = refl; pages = refl; watchers = refl } }) (stays_settled m.world new.world e.world) (rw c.deref.ensures.value at e.shown)
+          (record { names = refl; templates = refl; labels = record { signals = refl; owners = refl; pages = refl; watchers = refl } }) (stays_settled m.world new.world e.world) (e.shown (map template_of m.templates.items) c.requires.shown)
           (pages_kept m.world new.world m.pages.items new.pages.items e.numbers (ap (λ t. t.pages.items) e.world.tables) (ap (λ t. t.pages_made) e.world.tables) ready.pages);
       holds = λ h. record { agrees = e.agrees; ruled = subst (AreRuled count) (sym e.world.signals) h.ruled };
       weight = let a = e.worn in let b = ap (λ t. t.effects_made) e.world.tables in omega (arith, a, b);
     }
+
+pub bring_all_up-requires-clause-stand : goal.bring_all_up-requires-clause-stand
+bring_all_up-requires-clause-stand g c = all_standing (map template_of c.args.self.now.templates.items) c.args.self.now.pages.items c.requires.shown

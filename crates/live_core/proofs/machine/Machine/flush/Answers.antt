@@ -1,4 +1,4 @@
-use Rattle.std.proofs.Common.{◌∙◌, ◌≡◌, ◌≤◌, List, length, map, refl, sym, ap, subst, arith}
+use Rattle.std.proofs.Common.{◌∙◌, ◌≤◌, List, length, map, refl, sym, ap, subst, arith}
 use Rattle.std.specs.List.{filter}
 use Rattle.signal_model.specs.Standing.{is_in}
 use Rattle.effect_model.specs.Running.{flush}
@@ -8,6 +8,7 @@ use Rattle.effect_kinds.proofs.Shared.{flushes_keep_kinds}
 use Rattle.sig_effect.specs.Agreeing.{environment}
 use Rattle.sig_base.specs.declared.limits.TheConstants.{MOST_PAGES}
 use Rattle.live_pages.specs.declared.mounted.Mounted.{Mounted}
+use Rattle.live_pages.specs.Views.{template_of}
 use Rattle.live_pages.proofs.Shared.{fewer, shown_filtered}
 use Rattle.live_core.proofs.Doing.{acts_steps, leaves_ended, pages_steps, stays_by, tells_by}
 use Rattle.live_core.proofs.Mounts.{flush_steps}
@@ -84,7 +85,7 @@ returns-clause-answers g c = λ hosts all. c.in_ok-told-2.ensures.answers hosts 
 pub end_flush-requires-clause-shown : goal.end_flush-requires-clause-shown
 end_flush-requires-clause-shown g c =
     let m = c.args.self.now in
-    shown_filtered m.templates.items (λ (p : Mounted). is_in p.number c.flush.new.world.tables.pages.items) m.pages.items c.keep_live.new.pages.items
+    shown_filtered (map template_of m.templates.items) (λ (p : Mounted). is_in p.number c.flush.new.world.tables.pages.items) m.pages.items c.keep_live.new.pages.items
     (c.keep_live.ensures ∙ ap (λ ns. filter (λ p. is_in p.number ns) m.pages.items) c.deref-2.ensures.value) c.requires.ready.shown
 
 pub end_flush-requires-clause-few : goal.end_flush-requires-clause-few

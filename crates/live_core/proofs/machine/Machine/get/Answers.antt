@@ -5,7 +5,7 @@ use Rattle.effect_model.specs.Worlds.{settle}
 use Rattle.effect_counts.proofs.Shared.{all_keep_counts}
 use Rattle.effect_kinds.proofs.Shared.{all_keep_kinds}
 use Rattle.sig_effect.specs.Agreeing.{environment, AreRuled}
-use Rattle.live_cmd.specs.declared.entry.Entry.TheVariants as entry
+use Rattle.live_entries.specs.declared.entry.Entry.TheVariants as entry
 use Rattle.live_model.specs.Names.{number_of}
 use Rattle.live_core.proofs.Doing.{acts_steps, leaves_acted, stays_by, tells_by, then_told}
 use Rattle.live_core.proofs.machine.Machine.get.Goals as goal

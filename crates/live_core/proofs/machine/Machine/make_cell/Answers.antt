@@ -2,7 +2,7 @@ use Rattle.std.proofs.Common.{◌≡◌, rules, Err, true, ◌∙◌, ◌∷◌,
 use Rattle.sig_base.specs.declared.limits.TheConstants.{MOST_NODES}
 use Rattle.signal_model.specs.Changes.{live_count}
 use Rattle.effect_tables.specs.Numbering.{living}
-use Rattle.live_cmd.specs.declared.refusal.LimitWord.TheVariants as limit
+use Rattle.live_entries.specs.declared.refusal.LimitWord.TheVariants as limit
 use Rattle.sig_base.specs.Values.{scalar_value}
 use Rattle.signal_model.specs.Standing.{Cell}
 use Rattle.effect_model.specs.Commands.{with_new_cell}

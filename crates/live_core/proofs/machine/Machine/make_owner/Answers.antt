@@ -12,7 +12,7 @@ use Rattle.live_model.specs.declared.names.Kind.TheVariants as kind
 use Rattle.live_model.specs.Linking.{owner_of}
 use Rattle.live_labels.specs.Views.{labels_of}
 use Rattle.live_core.specs.Keeping.{Holds}
-use Rattle.live_cmd.specs.declared.refusal.LimitWord.TheVariants as limit
+use Rattle.live_entries.specs.declared.refusal.LimitWord.TheVariants as limit
 use Rattle.sig_owner.specs.declared.limits.TheConstants.{MOST_OWNERS}
 use Rattle.live_core.proofs.Doing.{room_below}
 use Rattle.live_core.proofs.Making.{leaves_other, other_owner, steps_named}

@@ -1,5 +1,6 @@
-use Rattle.std.proofs.Common.{◌≡◌, ◌∙◌, ◌∷◌, [], ◌++◌, ◌+◌, ◌<◌, ℕ, true, List, length, sym, ap, subst, arith}
-use Rattle.signal_model.specs.Recipes.{Recipe}
+use Rattle.std.proofs.Common.{◌≡◌, ◌∙◌, ◌∷◌, [], ◌++◌, ◌+◌, ◌<◌, ℕ, true, length, map, sym, ap, subst, arith}
+use Rattle.std.proofs.lemmas.List.{length-map}
+use Rattle.std.proofs.lemmas.Result.{err_from_is_err_and}
 use Rattle.effect_tables.specs.Numbering.{living}
 use Rattle.effect_tables.specs.Placed.{is_open}
 use Rattle.sig_base.specs.declared.limits.TheConstants.{MOST_PAGES}
@@ -7,14 +8,15 @@ use Rattle.sig_effect.specs.Agreeing.{environment}
 use Rattle.effect_world.specs.Agreeing.{Agrees, IsSound}
 use Rattle.effect_world.specs.Wholes.{whole_of}
 use Rattle.live_cmd.specs.declared.command.Command.TheVariants as command
-use Rattle.live_cmd.specs.declared.refusal.LimitWord.TheVariants as limit
+use Rattle.live_entries.specs.declared.refusal.LimitWord.TheVariants as limit
 use Rattle.live_model.specs.declared.names.Kind.TheVariants as kind
 use Rattle.live_model.specs.declared.names.Need.TheVariants as need
 use Rattle.live_model.specs.Linking.{owner_of}
-use Rattle.live_model.specs.Machine.{texts_at}
 use Rattle.live_model.specs.Names.{number_of}
-use Rattle.live_labels.specs.Views.{labels_of}
-use Rattle.text_pages.specs.Shown.{Shows}
+use Rattle.tpl_live.specs.Pages.{Stands}
+use Rattle.tpl_live.specs.Standings.{standing}
+use Rattle.live_model.specs.Pages.{template_in}
+use Rattle.live_pages.specs.Views.{template_of}
 use Rattle.live_pages.specs.declared.mounted.Mounted.{Mounted}
 use Rattle.live_core.proofs.Rightly.{inside_open, neither, new_name, refused_at, template_used, used_of, uses_fine}
 use Rattle.live_core.proofs.Doing.{room_below}
@@ -79,8 +81,24 @@ returns-clause-leaves g c = λ hosts count all sound.
     leaves_mounted _ _ count m c.add_page.new.self c.mount.new.world c.args.name c.in_ok-number.number page c.requires.ready a.names a.labels a.templates a.pages c.owner_of-owner.result
     (ap (whole_of _) a.world ∙ d.whole) (ap (λ w. w.signals) a.world ∙ c.in_ok-number.ensures.signals) e.world (c.in_ok-number.ensures.id ∙ ap (λ x. x.pages_made) e.world.tables)
     (record {
-      template = subst (λ (n : ℕ). n < length m.templates.items) (sym t) below;
-      shows = subst (λ (ts : List (List Recipe)). Shows (texts_at ts c.number_of-template.result) c.in_ok-page.page) c.deref.ensures.value e.shows;
+      template = subst (λ (n : ℕ). n < length (map template_of m.templates.items)) (sym t) (subst (λ (k : ℕ). number_of m.names c.args.template.now < k) (sym (length-map m.templates.items template_of)) below);
+      stands = subst (λ ts. Stands (template_in (map template_of ts) c.number_of-template.result).lines (template_in (map template_of ts) c.number_of-template.result).links (standing c.in_ok-page.page)) c.deref.ensures.value e.stands;
     })
     (room_below MOST_PAGES (length m.world.tables.pages.items) limit.Pages c.requires.room)
     (subst (Agrees _) (sym a.world) (c.in_ok-number.ensures.agrees _ e.agrees)) e.worn
+
+pub mount-requires-clause-known : goal.mount-requires-clause-known
+mount-requires-clause-known g c =
+    let m = c.args.self.now in
+    let fine = neither (refused_at m.world m.names c.args.name need.New) _ (uses_fine m (command.Mount c.args.name c.args.template.now c.args.inside.now) c.requires.fine) in
+    let second = neither (refused_at m.world m.names c.args.template.now (need.Of kind.Template)) _ fine.1 in
+    let below = template_used m.world _ m.names c.args.template.now c.requires.ready.meant (used_of m.world m.names c.args.template.now kind.Template second.0) in
+    rw (c.deref.ensures.value) (subst (λ (n : ℕ). n < length m.templates.items) (sym c.number_of-template.ensures) below)
+
+pub mount-requires-clause-templates : goal.mount-requires-clause-templates
+mount-requires-clause-templates g c = rw (c.deref.ensures.value) c.requires.ready.templates
+
+pub returns-in_err-number-clause-memory : goal.returns-in_err-number-clause-memory
+returns-in_err-number-clause-memory g c =
+    let p = err_from_is_err_and c.from_residual-in_err-number.result c.from_residual-in_err-number.ensures.1 in
+    rw p.1 (p.2 ∙ c.in_err-number.ensures.memory)

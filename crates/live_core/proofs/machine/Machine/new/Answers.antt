@@ -1,6 +1,7 @@
-use Rattle.std.proofs.Common.{◌∙◌, [], length, arith, sym, ap, subst}
+use Rattle.std.proofs.Common.{◌∙◌, [], length, map, arith, sym, ap, subst}
 use Rattle.live_model.specs.Names.{Names}
-use Rattle.live_pages.specs.Updates.{AreShown, ArePages}
+use Rattle.live_pages.specs.Updates.{AreShown, ArePages, AreTemplates}
+use Rattle.live_pages.specs.Views.{template_of}
 use Rattle.live_core.specs.Keeping.{AreMeant}
 use Rattle.live_core.proofs.Meanings.{none_meant}
 use Rattle.live_core.proofs.machine.Machine.new.Goals as goal
@@ -13,7 +14,8 @@ returns-clause-ready c =
       watchers = ap (λ x. x.made.watchers) new ∙ sym (ap (λ l. length l.watchers) c.new-3.ensures);
       paged = ap (λ x. x.made.pages) new ∙ sym (ap (λ l. length l.pages) c.new-3.ensures);
       meant = subst (λ (names : Names). AreMeant w (length c.new-4.result.items) names) (sym c.new-2.ensures) (none_meant w (length c.new-4.result.items));
-      shown = subst (AreShown c.new-4.result.items) (sym c.new-5.ensures.items) tt;
+      templates = subst AreTemplates (sym c.new-4.ensures.items) tt;
+      shown = subst (AreShown (map template_of c.new-4.result.items)) (sym c.new-5.ensures.items) tt;
       pages = subst (ArePages w) (sym c.new-5.ensures.items) (record { apart = tt; live = tt; below = tt; few = omega arith });
     }
 

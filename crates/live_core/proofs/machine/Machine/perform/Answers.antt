@@ -76,3 +76,21 @@ returns-in-Named-clause-steps g c = λ hosts all sound. rw c.in-Named.is (c.do_v
 
 pub returns-in-Flush-clause-steps : goal.returns-in-Flush-clause-steps
 returns-in-Flush-clause-steps g c = λ hosts all sound. rw c.in-Flush.is (c.flush.ensures.steps hosts all sound)
+
+pub returns-in-List-clause-steps : goal.returns-in-List-clause-steps
+returns-in-List-clause-steps g c = λ hosts all sound. rw c.in-List.is (c.make_list.ensures.steps hosts (map (λ r. r.slack) c.args.rules.now) _ sound)
+
+pub returns-in-List-clause-leaves : goal.returns-in-List-clause-leaves
+returns-in-List-clause-leaves g c = λ hosts all sound. c.make_list.ensures.leaves hosts _ (length c.args.rules.now) sound
+
+pub returns-in-Edit-clause-steps : goal.returns-in-Edit-clause-steps
+returns-in-Edit-clause-steps g c = λ hosts all sound. rw c.in-Edit.is (c.edit.ensures.steps hosts _ sound)
+
+pub returns-in-Edit-clause-leaves : goal.returns-in-Edit-clause-leaves
+returns-in-Edit-clause-leaves g c = λ hosts all sound. c.edit.ensures.leaves hosts _ (length c.args.rules.now) sound
+
+pub make_template-requires-clause-template : goal.make_template-requires-clause-template
+make_template-requires-clause-template g c = rw c.in-Template.is at c.requires.read
+
+pub edit-requires-clause-fits : goal.edit-requires-clause-fits
+edit-requires-clause-fits g c = rw c.in-Edit.is at c.requires.rows

@@ -1,0 +1,76 @@
+use Rattle.std.proofs.Common.{◌≡◌, rules, Err, None, true, ◌∙◌, ◌∷◌, [], ◌++◌, ◌+◌, refl, sym, ap, subst, arith}
+use Rattle.sig_base.specs.declared.limits.TheConstants.{MOST_NODES}
+use Rattle.signal_model.specs.Changes.{live_count}
+use Rattle.effect_tables.specs.Numbering.{living}
+use Rattle.live_entries.specs.declared.refusal.LimitWord.TheVariants as limit
+use Rattle.sig_base.specs.declared.value.Value.TheVariants as value
+use Rattle.live_model.specs.Rows.{no_rows}
+use Rattle.signal_model.specs.Standing.{Cell}
+use Rattle.effect_model.specs.Commands.{with_new_cell}
+use Rattle.effect_tables.specs.Placed.{at_rest, is_open}
+use Rattle.effect_world.specs.Agreeing.{IsSound}
+use Rattle.effect_world.specs.Wholes.{whole_of}
+use Rattle.live_cmd.specs.declared.command.Command.TheVariants as command
+use Rattle.live_model.specs.declared.names.Kind.TheVariants as kind
+use Rattle.live_model.specs.declared.names.Need.TheVariants as need
+use Rattle.live_model.specs.Linking.{owner_of}
+use Rattle.live_labels.specs.Views.{labels_of}
+use Rattle.live_core.specs.Keeping.{Holds}
+use Rattle.live_core.proofs.Rightly.{inside_open, neither, new_name, refused_at, uses_fine}
+use Rattle.live_core.proofs.Doing.{not_most, only_three, room_below, true_false}
+use Rattle.live_core.proofs.Making.{beside_cell, here_list, leaves_signal, steps_named}
+use Rattle.live_core.proofs.Listed.{is_list_if}
+use Rattle.live_core.proofs.machine.Machine.make_list.Goals as goal
+
+pub returns-clause-steps : goal.returns-clause-steps
+returns-clause-steps c = λ hosts slacks asked sound.
+    let m = c.args.self.now in
+    let new = c.name_signal.new.self in
+    let e = c.in_ok-id.ensures in
+    let n = c.in_ok-name_signal.ensures in
+    let d = e.does hosts asked sound in
+    let labels = record (labels_of m.labels) { signals = m.labels.signals.items ++ c.args.name ∷ [] } in
+    steps_named hosts asked m new c.args.name kind.List c.in_ok-id.id m.world.signals.graph.given labels
+    (with_new_cell (value.Rows (no_rows c.args.fields.now)) None (owner_of m.names c.args.inside) (whole_of asked m.world)) c.new.result.items e.id
+    (ap (whole_of asked) n.parts.world ∙ d.whole ∙ (λ i. at_rest (with_new_cell (c.in_ok-rows.ensures i) None (c.owner_of-owner.ensures i) (whole_of asked m.world))))
+    (record { names = n.names; labels = n.labels; templates = n.parts.templates; pages = n.parts.pages }) c.new.ensures.items
+    (subst (IsSound hosts asked) (sym n.parts.world) d.sound)
+
+pub returns-clause-leaves : goal.returns-clause-leaves
+returns-clause-leaves c = λ hosts asked rules sound.
+    let m = c.args.self.now in
+    let new = c.name_signal.new.self in
+    let e = c.in_ok-id.ensures in
+    let n = c.in_ok-name_signal.ensures in
+    let d = e.does hosts asked sound in
+    let whole = ap (whole_of asked) n.parts.world ∙ d.whole in
+    let cell : Cell = record { name = m.world.signals.graph.given; value = c.in_ok-rows.rows; rule = None } in
+    let signals = ap (λ x. x.signals) whole in
+    let labels = record (labels_of m.labels) { signals = m.labels.signals.items ++ c.args.name ∷ [] } in
+    leaves_signal asked rules m new c.args.name kind.List c.in_ok-id.id labels c.requires.ready refl e.id
+    (record { names = n.names; labels = n.labels; templates = n.parts.templates; pages = n.parts.pages }) refl refl
+    (record { watchers = ap (λ x. x.made.watchers) whole; pages = ap (λ x. x.pages) whole; paged = ap (λ x. x.made.pages) whole })
+    (ap (λ w. w.signals.graph.given) n.parts.world ∙ e.given)
+    (beside_cell m.world.signals.graph.state.signals new.world.signals.graph.state.signals cell signals)
+    (here_list m.world.signals.graph.state.signals new.world.signals.graph.state.signals cell signals)
+    (let a = ap (λ w. w.signals.graph.state.worn) n.parts.world ∙ e.worn in let b = ap (λ x. x.made.effects) whole in omega (arith, a, b))
+    (λ h. subst (Holds asked rules) (sym n.parts.world)
+    (record { agrees = e.agrees asked h.agrees; ruled = e.ruled rules (λ r is. absurd cc) h.ruled }))
+
+pub returns-in_err-id-clause-memory : goal.returns-in_err-id-clause-memory
+returns-in_err-id-clause-memory c =
+    let m = c.args.self.now in
+    let fine = neither (refused_at m.world m.names c.args.name need.New) _ (uses_fine m (command.List c.args.name c.args.fields.now c.args.inside) c.requires.fine) in
+    let opened : is_open (living 0 m.world.tables.owners.items) c.owner_of-owner.result ≡ true =
+    subst (λ o. is_open (living 0 m.world.tables.owners.items) o ≡ true) (sym c.owner_of-owner.ensures) (inside_open m.world m.names c.args.inside fine.1) in
+    let room = room_below MOST_NODES (live_count m.world.signals.graph.state.signals) limit.Nodes c.requires.room in
+    let f = only_three _ (λ e. true_false (sym opened ∙ c.in_err-id.ensures.gone (ap (λ x. Err x) e))) (λ e. not_most _ MOST_NODES room (c.in_err-id.ensures.limit (ap (λ x. Err x) e))) in
+    search rules
+
+pub name_signal-requires : goal.name_signal-requires
+name_signal-requires c =
+    let m = c.args.self.now in
+    new_name m.world m.names c.args.name (neither (refused_at m.world m.names c.args.name need.New) _ (uses_fine m (command.List c.args.name c.args.fields.now c.args.inside) c.requires.fine)).0
+
+pub no_rows-requires : goal.no_rows-requires
+no_rows-requires c = is_list_if c.args.fields.now _ c.requires.few

@@ -1,0 +1,47 @@
+use Rattle.std.proofs.Common.{◌∙◌, map, refl, sym, ap, subst, arith}
+use Rattle.std.proofs.lemmas.List.{length-map}
+use Rattle.sig_effect.specs.Agreeing.{environment, AreRuled}
+use Rattle.live_model.specs.Machine.{page_at}
+use Rattle.live_model.specs.Names.{number_of}
+use Rattle.live_pages.specs.Updates.{AreShown, IsShown}
+use Rattle.live_pages.specs.Views.{page_of, template_of}
+use Rattle.live_pages.proofs.Shared.{pages_kept}
+use Rattle.live_core.proofs.Doing.{ready_changed, stays_settled}
+use Rattle.live_core.proofs.Mounts.{scratch_steps}
+use Rattle.live_core.proofs.machine.Machine.scratch.Goals as goal
+
+pub scratch-requires-clause-known : goal.scratch-requires-clause-known
+scratch-requires-clause-known g c =
+    let m = c.args.self.now in
+    let all = subst (AreShown (map template_of m.templates.items)) (sym c.deref.ensures.value) c.requires.ready.shown in
+    let shown : IsShown (map template_of m.templates.items) c.in-Some.shown.now =
+    rw (c.in-Some.is) at (c.page_among.ensures.shown (map template_of m.templates.items) all) in
+    let a = shown.template in
+    let b = length-map m.templates.items template_of in
+    rw (c.deref-2.ensures.value) (omega (arith, a, b))
+
+pub scratch-requires-clause-templates : goal.scratch-requires-clause-templates
+scratch-requires-clause-templates g c = rw (c.deref-2.ensures.value) c.requires.ready.templates
+
+pub returns-clause-steps : goal.returns-clause-steps
+returns-clause-steps g c = λ hosts slacks all sound.
+    let m = c.args.self.now in
+    let e = c.in_ok-html.ensures in
+    let n = c.of-page.ensures ∙ c.number_of.ensures in
+    let up = rw (c.deref-2.ensures.value, c.new-told.ensures.items) at (e.html hosts slacks all sound) in
+    let found = rw (c.in-Some.is) at c.page_among.ensures.found in
+    scratch_steps hosts (environment hosts slacks) _ _ m c.scratch.new.world c.args.name (number_of m.names c.args.name) c.in-Some.shown.now c.in_ok-html.html c.scratch.new.told.items
+    c.push.new.self.items ((λ i. page_at (map page_of (sym c.deref.ensures.value i)) (sym n i)) ∙ found) up c.in_ok-push.ensures.items up.sound
+
+pub returns-clause-leaves : goal.returns-clause-leaves
+returns-clause-leaves g c = λ hosts count all sound.
+    let m = c.args.self.now in
+    let e = c.in_ok-html.ensures in
+    let new = record m { world = c.scratch.new.world } in
+    record {
+      ready = ready_changed m new c.requires.ready
+          (record { names = refl; templates = refl; labels = record { signals = refl; owners = refl; pages = refl; watchers = refl } }) (stays_settled m.world new.world e.world) c.requires.ready.shown
+          (pages_kept m.world new.world m.pages.items m.pages.items refl (ap (λ t. t.pages.items) e.world.tables) (ap (λ t. t.pages_made) e.world.tables) c.requires.ready.pages);
+      holds = λ h. record { agrees = e.agrees; ruled = subst (AreRuled count) (sym e.world.signals) h.ruled };
+      weight = let a = e.worn in let b = ap (λ t. t.effects_made) e.world.tables in omega (arith, a, b);
+    }

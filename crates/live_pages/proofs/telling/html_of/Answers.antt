@@ -1,0 +1,6 @@
+use Rattle.tpl_live.specs.Standings.{standing}
+use Rattle.live_pages.proofs.Stood.{bytes_stand}
+use Rattle.live_pages.proofs.telling.html_of.Goals as goal
+
+pub returns : goal.returns
+returns c = bytes_stand (standing c.args.page.now) c.in_ok-html.html c.requires c.in_ok-html.ensures

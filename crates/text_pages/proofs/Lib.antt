@@ -1,5 +1,0 @@
-mod Hearings
-mod Askings
-mod Rereadings
-mod LineLists
-mod PagesFromScratch
