@@ -119,7 +119,7 @@ fn prints_flushes(rt: HostRuntime) -> Result<(), Fail> {
         // a refused flush leaves the pages as they were
         (
             "cell x = 0\ntemplate t\ntext x\nend\nmount p t\neffect e\nset x x + 1\nend\nflush\nshow p\ndispose e\nflush\n",
-            "page p 1\n0\nerror 20\npage p 1\n0\npage p 3\n100\n",
+            "op p insert 0 0 (1 \"0\")\npage p 1\n0\nerror 20\npage p 1\n0\nop p text 1 \"100\"\npage p 3\n100\n",
         ),
     ] {
         assert_prints(&rt, rt.alloc(), script, output)?;
@@ -134,7 +134,7 @@ fn prints_owners(rt: HostRuntime) -> Result<(), Fail> {
         // owners in owners, pages too
         (
             "owner o\nowner i in o\ncell a = 1 in i\ntemplate t\ntext a\nend\nmount p t in i\nset a 2\nflush\ndispose i\nset a 3\nshow p\nflush\nowner i\ncell b = 1 in i\ndispose o\ncell c = 1 in o\n",
-            "page p 1\n1\npage p 1\n2\nerror 6 a\nerror 6 p\nerror 3 i\nerror 6 i\nerror 6 o\n",
+            "op p insert 0 0 (1 \"1\")\npage p 1\n1\nop p text 1 \"2\"\npage p 1\n2\nerror 6 a\nerror 6 p\nerror 3 i\nerror 6 i\nerror 6 o\n",
         ),
         // an owner is a name like the others
         (

@@ -62,17 +62,17 @@ fn traces_pages(rt: HostRuntime) -> Result<(), Fail> {
         // what is disposed is gone, and its readers find out when they are asked
         (
             "cell a = 1\ncomputed b = a\ntemplate t\ntext b\nend\nmount p t\ndispose a\nflush\nget b\ndispose t\ndispose a\n",
-            "run b (a) = 1\npage p 1\n1\ngone a\nrun b (a) ! gone\npage p 9\n#ERR gone\nb ! gone\nerror 4 t\nerror 6 a\n",
+            "run b (a) = 1\nop p insert 0 0 (1 \"1\")\npage p 1\n1\ngone a\nrun b (a) ! gone\nop p text 1 \"#ERR gone\"\npage p 9\n#ERR gone\nb ! gone\nerror 4 t\nerror 6 a\n",
         ),
         // what a page reads is settled at a flush, page by page, and a line that reads nothing changed stays
         (
             "cell a = 1\ncell b = 2\ncomputed c = a + 1\ntemplate s\ntext c\ntext b\nend\ntemplate t\ntext c\ntext a\ntext \"x\"\nend\nmount p s\nmount q t\nflush\nset b 3\nflush\nset a 2\nset a 1\nflush\nset a 5\nflush\nshow q\n",
-            "run c (a) = 2\npage p 2\n22\npage q 3\n21x\npage p 2\n23\nrun c (a) = 2\nrun c (a) = 6\npage p 2\n63\npage q 3\n65x\npage q 3\n65x\n",
+            "run c (a) = 2\nop p insert 0 0 (1 \"2\")\nop p insert 0 1 (2 \"2\")\npage p 2\n22\nop q insert 0 0 (1 \"2\")\nop q insert 0 1 (2 \"1\")\nop q insert 0 2 (3 \"x\")\npage q 3\n21x\nop p text 2 \"3\"\npage p 2\n23\nrun c (a) = 2\nrun c (a) = 6\nop p text 1 \"6\"\npage p 2\n63\nop q text 1 \"6\"\nop q text 2 \"5\"\npage q 3\n65x\npage q 3\n65x\n",
         ),
         // a page whose bytes are as before is not told
         (
             "cell a = 1\ncomputed b = a > 0\ntemplate t\ntext b\nend\nmount p t\nset a 2\nflush\nset a 2\nflush\nset a -1\nflush\n",
-            "run b (a) = true\npage p 4\ntrue\nrun b (a) = true\nrun b (a) = false\npage p 5\nfalse\n",
+            "run b (a) = true\nop p insert 0 0 (1 \"true\")\npage p 4\ntrue\nrun b (a) = true\nrun b (a) = false\nop p text 1 \"false\"\npage p 5\nfalse\n",
         ),
     ] {
         assert_traces(&rt, rt.alloc(), script, output)?;
@@ -85,9 +85,9 @@ fn refuses_what_is_gone(rt: HostRuntime) -> Result<(), Fail> {
     let script =
         "cell a = 1\ncell b = 2\ncomputed c = a + b\ncomputed d = a\ntemplate t\ntext c\nend\nmount p t\ndispose d\nget d\nstate d\nstate a\nsources zz\nsources t\nrewire d = 1\nrewire a = 1\nrewire c = d\nrewire c = zz + d\ncomputed e = d + zz\ncomputed e = t\ndispose t\ndispose zz\ndispose a\ndispose a\nset a 2\ntext a\ntemplate u\ntext a\nend\nget c\nsources c\nstate c\nset b 3\nstate c\nflush\nrewire c = b * 2\nstate c\nflush\nshow p\ncell a = 5\n";
     let output =
-        "run c (a b) = 3\npage p 1\n3\ngone d\nerror 6 d\nerror 6 d\nerror 4 a\nerror 2 zz\nerror 4 t\nerror 6 d\nerror 4 a\nerror 6 d\nerror 2 zz\nerror 6 d\nerror 4 t\nerror 4 t\nerror 2 zz\ngone a\nerror 6 a\nerror 6 a\nerror 1 26\nerror 6 a\nrun c (a) ! gone\nc ! gone\nsources c a\nstate c clean\nstate c clean\npage p 9\n#ERR gone\nstate c dirty\nrun c (b) = 6\npage p 1\n6\npage p 1\n6\nerror 3 a\n";
+        "run c (a b) = 3\nop p insert 0 0 (1 \"3\")\npage p 1\n3\ngone d\nerror 6 d\nerror 6 d\nerror 4 a\nerror 2 zz\nerror 4 t\nerror 6 d\nerror 4 a\nerror 6 d\nerror 2 zz\nerror 6 d\nerror 4 t\nerror 4 t\nerror 2 zz\ngone a\nerror 6 a\nerror 6 a\nerror 1 26\nerror 6 a\nrun c (a) ! gone\nc ! gone\nsources c a\nstate c clean\nstate c clean\nop p text 1 \"#ERR gone\"\npage p 9\n#ERR gone\nstate c dirty\nrun c (b) = 6\nop p text 1 \"6\"\npage p 1\n6\npage p 1\n6\nerror 3 a\n";
     assert_traces(&rt, rt.alloc(), script, output)?;
     let untraced =
-        "page p 1\n3\nerror 6 d\nerror 6 d\nerror 4 a\nerror 2 zz\nerror 4 t\nerror 6 d\nerror 4 a\nerror 6 d\nerror 2 zz\nerror 6 d\nerror 4 t\nerror 4 t\nerror 2 zz\nerror 6 a\nerror 6 a\nerror 1 26\nerror 6 a\nc ! gone\nsources c a\nstate c clean\nstate c clean\npage p 9\n#ERR gone\nstate c dirty\npage p 1\n6\npage p 1\n6\nerror 3 a\n";
+        "op p insert 0 0 (1 \"3\")\npage p 1\n3\nerror 6 d\nerror 6 d\nerror 4 a\nerror 2 zz\nerror 4 t\nerror 6 d\nerror 4 a\nerror 6 d\nerror 2 zz\nerror 6 d\nerror 4 t\nerror 4 t\nerror 2 zz\nerror 6 a\nerror 6 a\nerror 1 26\nerror 6 a\nc ! gone\nsources c a\nstate c clean\nstate c clean\nop p text 1 \"#ERR gone\"\npage p 9\n#ERR gone\nstate c dirty\nop p text 1 \"6\"\npage p 1\n6\npage p 1\n6\nerror 3 a\n";
     assert_prints(&rt, rt.alloc(), script, untraced)
 }

@@ -24,7 +24,7 @@ fn traces_host_formulas(rt: HostRuntime) -> Result<(), Fail> {
         // a page of one, brought up to date where it comes to something else
         (
             "cell x = 5\ncell lo = 1\ncell hi = 9\ncomputed c = host 2 (x, lo, hi)\ntemplate t\ntext c\nend\nmount p t\nset x 20\nset hi 5\nflush\nset x 2\nflush\ndispose c\nflush\n",
-            "run c (x lo hi) = 5\npage p 1\n5\nrun c (x lo hi) = 5\nrun c (x lo hi) = 2\npage p 1\n2\ndrop 2 12\ngone c\npage p 9\n#ERR gone\n",
+            "run c (x lo hi) = 5\nop p insert 0 0 (1 \"5\")\npage p 1\n5\nrun c (x lo hi) = 5\nrun c (x lo hi) = 2\nop p text 1 \"2\"\npage p 1\n2\ndrop 2 12\ngone c\nop p text 1 \"#ERR gone\"\npage p 9\n#ERR gone\n",
         ),
     ] {
         assert_traces(&rt, rt.alloc(), script, output)?;

@@ -4,6 +4,8 @@
 #[cfg(test)]
 mod effects;
 #[cfg(test)]
+mod elements;
+#[cfg(test)]
 mod faults;
 #[cfg(test)]
 mod graph;
@@ -11,6 +13,8 @@ mod graph;
 mod hosts;
 #[cfg(test)]
 mod limits;
+#[cfg(test)]
+mod lists;
 #[cfg(test)]
 mod reading;
 #[cfg(test)]

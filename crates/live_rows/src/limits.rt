@@ -170,13 +170,23 @@ fn bounds_a_template(rt: HostRuntime) -> Result<(), Fail> {
     Ok(())
 }
 
+// What is told of so many pages that show a one, as they are mounted.
+fn mounted(alloc: Global, count: u32) -> Result<String, AllocError> {
+    let mut lines = String::new(alloc);
+    for number in 0..count {
+        let page = format!(in alloc; "op p{number} insert 0 0 (1 \"1\")\npage p{number} 1\n1\n")?;
+        lines.push_str(page.as_str())?;
+    }
+    Ok(lines)
+}
+
 #[test]
 fn bounds_what_is_made(rt: HostRuntime) -> Result<(), Fail> {
     let alloc = rt.alloc();
     let cells = numbered(alloc, 511, "cell c", " = 1\n")?;
     let templates = numbered(alloc, 64, "template t", "\ntext 1\nend\n")?;
     let pages = numbered(alloc, 9, "mount p", " t\n")?;
-    let mounted = numbered(alloc, 8, "page p", " 1\n1\n")?;
+    let mounted = mounted(alloc, 8)?;
     for (script, output) in [
         (
             format!(in alloc;
@@ -205,6 +215,46 @@ fn bounds_what_is_made(rt: HostRuntime) -> Result<(), Fail> {
         ),
     ] {
         assert_prints(&rt, alloc, script.as_str(), output.as_str())?;
+    }
+    Ok(())
+}
+
+// A template of elements in one another, so many.
+fn nested(alloc: Global, count: u32) -> Result<String, AllocError> {
+    let tags = repeated(alloc, "tag @b\n", count)?;
+    let ends = repeated(alloc, "end\n", count)?;
+    format!(in alloc; "template t\n{tags}{ends}end\n")
+}
+
+#[test]
+fn bounds_lists_and_elements(rt: HostRuntime) -> Result<(), Fail> {
+    let alloc = rt.alloc();
+    let rows = numbered(alloc, 512, "insert l 0 \"k", "\" (1)\n")?;
+    let fields = numbered(alloc, 8, "f", ", ")?;
+    let deep = nested(alloc, 31)?;
+    let deeper = nested(alloc, 32)?;
+    let whens = repeated(alloc, "when true\n", 32)?;
+    let ends = repeated(alloc, "end\n", 32)?;
+    for (script, output) in [
+        (
+            format!(in alloc;
+                "list l (n)\n{rows}computed k = count(l)\nget k\ninsert l 0 \"k0\" (1)\ninsert l 0 \"m\" (1)\nget k\n"
+            )?,
+            "k = 512\nerror 9 \"k0\"\nerror 5 rows\nk = 512\n",
+        ),
+        // too many fields, and before that fields that are none
+        (
+            format!(in alloc; "list l ({fields}g)\nlist l ({fields}f0)\nget l\n")?,
+            "error 5 fields\nerror 1 2\nerror 2 l\n",
+        ),
+        (deep, ""),
+        (deeper, "error 19 33\n"),
+        (
+            format!(in alloc; "effect e\n{whens}{ends}end\n")?,
+            "error 19 33\n",
+        ),
+    ] {
+        assert_prints(&rt, alloc, script.as_str(), output)?;
     }
     Ok(())
 }

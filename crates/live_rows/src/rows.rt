@@ -40,19 +40,19 @@ fn prints_pages(rt: HostRuntime) -> Result<(), Fail> {
         // a flush without a change, and a set of the same value, print nothing
         (
             "cell a = 1\ntemplate t\ntext a\nend\nmount p t\nflush\nset a 1\nflush",
-            "page p 1\n1\n",
+            "op p insert 0 0 (1 \"1\")\npage p 1\n1\n",
         ),
         // an empty template shows nothing
         ("template t\nend\nmount p t\nflush", "page p 0\n\n"),
         // pages are brought up to date in order of mounting, each where it differs
         (
             "cell a = 1\ncell b = true\ntemplate s\ntext a\ntext a\nend\ntemplate t\ntext b\nend\nmount q s\nmount p t\nset a -2\nflush\nset b false\nset a 3\nflush",
-            "page q 2\n11\npage p 4\ntrue\npage q 4\n-2-2\npage q 2\n33\npage p 5\nfalse\n",
+            "op q insert 0 0 (1 \"1\")\nop q insert 0 1 (2 \"1\")\npage q 2\n11\nop p insert 0 0 (1 \"true\")\npage p 4\ntrue\nop q text 1 \"-2\"\nop q text 2 \"-2\"\npage q 4\n-2-2\nop q text 1 \"3\"\nop q text 2 \"3\"\npage q 2\n33\nop p text 1 \"false\"\npage p 5\nfalse\n",
         ),
         // escaping
         (
             "cell v = \"a<b>&\\\"c\u{a0}\"\ntemplate t\ntext v\nend\nmount m t",
-            "page m 23\na&lt;b&gt;&amp;\"c&nbsp;\n",
+            "op m insert 0 0 (1 \"a<b>&\\\"c\u{a0}\")\npage m 23\na&lt;b&gt;&amp;\"c&nbsp;\n",
         ),
     ] {
         assert_prints(&rt, rt.alloc(), script, output)?;
@@ -94,12 +94,12 @@ fn shows_pages_of_formulas(rt: HostRuntime) -> Result<(), Fail> {
         // `show` prints a page as it was last brought up to date
         (
             "cell a = 1\ncomputed b = a + 1\ntemplate t\ntext b\ntext \"<\" ++ a ++ \">\"\ntext 1 / 0\ntext if b > 2 then \"many\" else \"few\"\nend\nmount p t\nset a 2\nshow p\nflush\nshow p\nset a true\nflush\n",
-            "page p 22\n2&lt;1&gt;#ERR zerofew\npage p 22\n2&lt;1&gt;#ERR zerofew\npage p 23\n3&lt;2&gt;#ERR zeromany\npage p 23\n3&lt;2&gt;#ERR zeromany\npage p 39\n#ERR kind&lt;true&gt;#ERR zero#ERR kind\n",
+            "op p insert 0 0 (1 \"2\")\nop p insert 0 1 (2 \"<1>\")\nop p insert 0 2 (3 \"#ERR zero\")\nop p insert 0 3 (4 \"few\")\npage p 22\n2&lt;1&gt;#ERR zerofew\npage p 22\n2&lt;1&gt;#ERR zerofew\nop p text 1 \"3\"\nop p text 2 \"<2>\"\nop p text 4 \"many\"\npage p 23\n3&lt;2&gt;#ERR zeromany\npage p 23\n3&lt;2&gt;#ERR zeromany\nop p text 1 \"#ERR kind\"\nop p text 2 \"<true>\"\nop p text 4 \"#ERR kind\"\npage p 39\n#ERR kind&lt;true&gt;#ERR zero#ERR kind\n",
         ),
         // CR before LF, comments and blank lines, in a block too
         (
             "cell a = 1\r\n\r\n# a comment\r\n  \t\ntemplate t\n# text x\n\n  text a\r\n   # end\nend\nmount p t\nget b\nget\n",
-            "page p 1\n1\nerror 2 b\nerror 1 13\n",
+            "op p insert 0 0 (1 \"1\")\npage p 1\n1\nerror 2 b\nerror 1 13\n",
         ),
     ] {
         assert_prints(&rt, rt.alloc(), script, output)?;
@@ -139,11 +139,6 @@ fn prints_refusals(rt: HostRuntime) -> Result<(), Fail> {
         ),
         // a computed isn't set
         ("computed b = 1\nset b 2\nget b", "error 4 b\nb = 1\n"),
-        // what this language doesn't have yet
-        (
-            "computed x = it.a\ncomputed x = count(a)\ntemplate t\nif true\nend\nend\nget x",
-            "error 1 1\nerror 1 2\nerror 1 4\nerror 2 x\n",
-        ),
         (
             "cell not = 1\ncell b = -0\nget b\r",
             "error 1 1\nerror 1 2\nerror 1 3\n",

@@ -14,7 +14,8 @@ pub(crate) const FIRST_PAGE: &str =
     "cell a = 1\ncell b = \"x<y\"\ntemplate t\ntext a\ntext b\nend\nmount p t\nset a 2\nflush\n";
 
 /// What it prints.
-pub(crate) const FIRST_OUTPUT: &str = "page p 7\n1x&lt;y\npage p 7\n2x&lt;y\n";
+pub(crate) const FIRST_OUTPUT: &str =
+    "op p insert 0 0 (1 \"1\")\nop p insert 0 1 (2 \"x<y\")\npage p 7\n1x&lt;y\nop p text 1 \"2\"\npage p 7\n2x&lt;y\n";
 
 /// A run: its status and what the sink holds after it.
 #[derive(Debug, Drop)]
