@@ -47,6 +47,7 @@ pub fn take_back(tables: &mut Tables, id: EffectId) -> Result<Vec<Undoing>, OwnF
     ensures takes { IfOk result (λ us. TakesBack tables.old tables.new (the_effect id) (undoings_of us.items)) }
     ensures there { OnOk result (is_tabled (the_effect id) tables.old ≡ true) }
     ensures gone { IsErrOf result fault.Gone → is_tabled (the_effect id) tables.old ≡ false }
+    ensures limit { IsErrOf result fault.Limit → ⊥ }
     ensures err { IfErr result (λ e. (e ≡ fault.NoMemory) ⊎ (tables.new ≡ tables.old)) }
 {
     let Some(row) = effect_row(tables, id) else {
@@ -64,6 +65,7 @@ fn owner_out(tables: &mut Tables, id: OwnerId) -> Result<Vec<Undoing>, OwnFault>
     ensures takes { IfOk result (λ us. TakesOut tables.old tables.new (the_owner id) (undoings_of us.items)) }
     ensures there { OnOk result (is_tabled (the_owner id) tables.old ≡ true) }
     ensures gone { IsErrOf result fault.Gone → is_tabled (the_owner id) tables.old ≡ false }
+    ensures limit { IsErrOf result fault.Limit → ⊥ }
     ensures err { IfErr result (λ e. (e ≡ fault.NoMemory) ⊎ (tables.new ≡ tables.old)) }
 {
     let Some(row) = live_row(&tables.owners, id) else {
@@ -81,6 +83,7 @@ fn effect_out(tables: &mut Tables, id: EffectId) -> Result<Vec<Undoing>, OwnFaul
     ensures takes { IfOk result (λ us. TakesOut tables.old tables.new (the_effect id) (undoings_of us.items)) }
     ensures there { OnOk result (is_tabled (the_effect id) tables.old ≡ true) }
     ensures gone { IsErrOf result fault.Gone → is_tabled (the_effect id) tables.old ≡ false }
+    ensures limit { IsErrOf result fault.Limit → ⊥ }
     ensures err { IfErr result (λ e. (e ≡ fault.NoMemory) ⊎ (tables.new ≡ tables.old)) }
 {
     let Some(row) = effect_row(tables, id) else {
@@ -98,6 +101,7 @@ fn page_out(tables: &mut Tables, id: PageId) -> Result<Vec<Undoing>, OwnFault>
     ensures takes { IfOk result (λ us. TakesOut tables.old tables.new (the_page id) (undoings_of us.items)) }
     ensures there { OnOk result (is_tabled (the_page id) tables.old ≡ true) }
     ensures gone { IsErrOf result fault.Gone → is_tabled (the_page id) tables.old ≡ false }
+    ensures limit { IsErrOf result fault.Limit → ⊥ }
     ensures err { IfErr result (λ e. (e ≡ fault.NoMemory) ⊎ (tables.new ≡ tables.old)) }
 {
     if !has_page(&tables.pages, id) {
@@ -143,6 +147,7 @@ pub fn take_out(tables: &mut Tables, thing: Thing) -> Result<Vec<Undoing>, OwnFa
     ensures takes { IfOk result (λ us. TakesOut tables.old tables.new (thing_of thing) (undoings_of us.items)) }
     ensures there { OnOk result (is_tabled (thing_of thing) tables.old ≡ true) }
     ensures gone { IsErrOf result fault.Gone → is_tabled (thing_of thing) tables.old ≡ false }
+    ensures limit { IsErrOf result fault.Limit → ⊥ }
     ensures err { IfErr result (λ e. (e ≡ fault.NoMemory) ⊎ (tables.new ≡ tables.old)) }
 {
     match thing {
