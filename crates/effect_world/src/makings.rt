@@ -64,6 +64,7 @@ impl World {
         ensures open { OnOk result (is_open (living 0 self.old.tables.owners.items) inside ≡ true) }
         ensures gone { IsErrOf result fault.Gone → is_open (living 0 self.old.tables.owners.items) inside ≡ false }
         ensures limit { IsErrOf result fault.Limit → live_count self.old.signals.graph.state.signals ≡ MOST_NODES }
+        ensures opened { IsErrOf result fault.Limit → is_open (living 0 self.old.tables.owners.items) inside ≡ true }
         ensures err { IfErr result (λ e. (e ≡ fault.NoMemory) ⊎ (self.new ≡ self.old)) }
     {
         if !is_open(&self.tables, &inside) {
@@ -107,6 +108,7 @@ impl World {
         ensures open { OnOk result (is_open (living 0 self.old.tables.owners.items) inside ≡ true) }
         ensures gone { IsErrOf result fault.Gone → is_open (living 0 self.old.tables.owners.items) inside ≡ false }
         ensures limit { IsErrOf result fault.Limit → live_count self.old.signals.graph.state.signals ≡ MOST_NODES }
+        ensures opened { IsErrOf result fault.Limit → is_open (living 0 self.old.tables.owners.items) inside ≡ true }
         ensures err { IfErr result (λ e. (e ≡ fault.NoMemory) ⊎ (self.new ≡ self.old)) }
     {
         if !is_open(&self.tables, &inside) {
@@ -137,6 +139,7 @@ impl World {
         ensures gone { IsErrOf result own.Gone → is_open (living 0 self.old.tables.owners.items) inside ≡ false }
         ensures room { OnOk result (length (living 0 self.old.tables.owners.items) < MOST_OWNERS) }
         ensures limit { IsErrOf result own.Limit → MOST_OWNERS ≤ length (living 0 self.old.tables.owners.items) }
+        ensures opened { IsErrOf result own.Limit → is_open (living 0 self.old.tables.owners.items) inside ≡ true }
         ensures err { IfErr result (λ e. (e ≡ own.NoMemory) ⊎ (self.new ≡ self.old)) }
     {
         let id = self.tables.make_owner(inside)?;
@@ -191,6 +194,7 @@ impl World {
         ensures gone { IsErrOf result own.Gone → is_open (living 0 self.old.tables.owners.items) inside ≡ false }
         ensures room { OnOk result (length self.old.tables.pages.items < MOST_PAGES) }
         ensures limit { IsErrOf result own.Limit → MOST_PAGES ≤ length self.old.tables.pages.items }
+        ensures opened { IsErrOf result own.Limit → is_open (living 0 self.old.tables.owners.items) inside ≡ true }
         ensures err { IfErr result (λ e. (e ≡ own.NoMemory) ⊎ (self.new ≡ self.old)) }
     {
         let id = self.tables.make_page(inside)?;
