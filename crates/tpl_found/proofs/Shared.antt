@@ -14,5 +14,5 @@ pub use Rattle.tpl_found.proofs.Renewed.{update_law}
 pub use Rattle.tpl_found.proofs.Facts.{often_both, listed_often, often_listed, unlisted_often, often_those, often_keys, from_those, to_those, same_order, ascending_map, in_ascending_by}
 pub use Rattle.tpl_found.proofs.Numbering.{map_both, map_in, in_map}
 -- numbered trees
-pub use Rattle.tpl_found.proofs.Facts.{in_keys, by_number_is, on_num, label_num, siblings_num, kids_num, child_on, New}
+pub use Rattle.tpl_found.proofs.Facts.{in_keys, by_number_is, on_num, label_num, siblings_num, kids_num, child_on, parent_is, New}
 pub use Rattle.tpl_found.proofs.Ordering.{all_new}

@@ -1,3 +1,4 @@
 mod Lists
 mod Noting
+pub mod Shared
 mod Standing

@@ -7,7 +7,7 @@ use Rattle.tpl_shapes.specs.declared.shown.Address.{Address}
 use Rattle.tpl_marks.specs.Marks.{Knows, children_in, marked_at, marks_in, next_of, root_mark}
 use Rattle.tpl_marks.proofs.Lists.{last_out, step_out}
 
-children_after : (known : ℕ → Option ℕ) (x y : Forest Look) → children_in known (after x y) ≡ children_in known x ++ children_in known y
+pub children_after : (known : ℕ → Option ℕ) (x y : Forest Look) → children_in known (after x y) ≡ children_in known x ++ children_in known y
 children_after known none y = refl
 children_after known (node a l k r) y = ap (λ z. next_of (known a) (node a l k none) ∷ z) (children_after known r y)
 

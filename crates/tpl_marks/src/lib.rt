@@ -4,5 +4,5 @@
 mod marking;
 mod numbers;
 
-pub use marking::marks_of;
+pub use marking::{mark_all, marks_of};
 pub use numbers::{Numbers, put_addresses};

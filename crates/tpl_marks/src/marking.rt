@@ -46,9 +46,13 @@ fn mark_node(
     Ok(Child::Kept(number))
 }
 
-// The same of nodes one after the other.
+/// Nodes one after the other as the children of one that stands on the page. Each that stands there too is marked, behind those below it that do.
+///
+/// # Errors
+///
+/// `NoMemory` alone.
 #[cycle(marking)]
-fn mark_all(
+pub fn mark_all(
     alloc: Global,
     nodes: Vec<Shown>,
     numbers: &Numbers,

@@ -4,4 +4,5 @@
 mod parts;
 mod showing;
 
-pub use showing::put_shown;
+pub use parts::{put_attributes, put_text, rows_in};
+pub use showing::{put_element, put_shown};

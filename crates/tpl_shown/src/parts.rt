@@ -25,6 +25,10 @@ pub fn put(out: &mut Vec<Shown>, node: Shown) -> Result<(), NoMemory>
 }
 
 /// Appends the attributes of an element, by what was heard of them.
+///
+/// # Errors
+///
+/// `NoMemory` alone.
 pub fn put_attributes(
     alloc: Global,
     attributes: &[(Text, Formula)],
@@ -58,6 +62,10 @@ pub fn rows_in(outcome: &Outcome) -> &[Row]
 }
 
 /// Appends a text, by what is kept of it.
+///
+/// # Errors
+///
+/// `NoMemory` alone.
 pub fn put_text(
     alloc: Global,
     line: usize,

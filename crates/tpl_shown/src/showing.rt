@@ -20,9 +20,13 @@ use tpl_memos::PageMemo;
 use tpl_nodes::{attributes_of, fits, inside_of, later_of, shows};
 use tpl_shapes::{Address, Shown};
 
-// An element, by what is kept of it.
+/// Appends an element with all below it, by what is kept of it.
+///
+/// # Errors
+///
+/// `NoMemory` alone.
 #[cycle(showing)]
-fn put_element(
+pub fn put_element(
     alloc: Global,
     line: usize,
     key: Option<&Text>,

@@ -1,0 +1,5 @@
+mod Compared
+mod Covering
+pub mod Shared
+mod Sides
+mod Walking

@@ -1,0 +1,4 @@
+mod Marks
+mod Rows
+mod Siblings
+mod Walks
