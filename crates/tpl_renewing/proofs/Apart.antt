@@ -160,7 +160,7 @@ inside_ready (choice f one other rest) links row before a c o h is ms x was s =
 inside_ready (each f inner rest) links row before a c o h is ms x was s =
     let e = subst (λ z. ServeInside o z is ms) x.1.0 s in
     subst (λ z. WereEach (inner_in (each f inner rest) (shows_first z)) links (places_in z row) before ms) (sym x.1.0)
-    (e inner links before (slots_were inner links (table_in o) before is was))
+    (e.0 inner links before (slots_were inner links (table_in o) before is was))
 inside_ready (attempt inner other rest) links row before a c o h is ms x was s = absurd x
 
 -- what was kept behind it

@@ -1,4 +1,5 @@
 mod Apart
 mod Named
 mod Serving
+mod Telling
 mod Turning

@@ -1,6 +1,7 @@
 -- What was kept for rows, taken one after the other for the rows of now.
 use Rattle.std.specs.Prelude.{slice_set, IfSome}
-use Rattle.std.proofs.Common.{◌≡◌, ℕ, zero, suc, ◌+◌, ◌<◌, true, List, [], ◌∷◌, ◌++◌, length, get_or, map, Option, Some, length-append, refl, sym, ap, subst, ◌∙◌, arith}
+use Rattle.std.proofs.Common.{◌≡◌, ℕ, zero, suc, ◌+◌, ◌<◌, true, false, List, [], ◌∷◌, ◌++◌, length, get_or, map, Option, Some, None, length-append, refl, sym, ap, subst, ◌∙◌, arith}
+use Rattle.std.proofs.lemmas.Bool.{true≢false}
 use Rattle.std.proofs.lemmas.List.{length-map}
 use Rattle.sig_base.specs.Tables.{Table}
 use Rattle.sig_formula.specs.declared.formula.RowRef.{RowRef}
@@ -10,11 +11,11 @@ use Rattle.tpl_hearing.specs.Hearing.{Outcomes}
 use Rattle.tpl_memos.specs.Kept.{rows_of}
 use Rattle.update_laws.specs.PageMemos.{Heard, PageMemo, unread, line, element, branch, loop}
 use Rattle.tpl_listening.specs.Makings.{lines_memo}
-use Rattle.tpl_listening.specs.Renewals.{WasMadeIfRead, SlotsWere, TakesRow}
+use Rattle.tpl_listening.specs.Renewals.{WasMadeIfRead, SlotsWere, TakesRow, is_unread}
 use Rattle.tpl_listening.proofs.Shared.{one_taken, row_at, row_ready}
 use Rattle.tpl_making.specs.Heads.{last_of, places_from}
 use Rattle.tpl_making.proofs.Shared.{places_more}
-use Rattle.tpl_renewing.specs.Turns.{WereEach, first_of, later_of}
+use Rattle.tpl_renewing.specs.Turns.{AreAmong, IsAmong, WereEach, first_of, later_of}
 
 -- ---- one that is taken
 
@@ -67,6 +68,33 @@ row_serves b links t u before at n m left ms ks inside same x count put all =
     let e : 0 + n ≡ n = omega arith in
     subst (λ z. WereEach b links z before ks) (sym (places_more u 0 n ∙ ap (λ z. places_from u 0 n ++ Some (row_at u z) ∷ []) e))
     (subst (WereEach b links (places_from u 0 n ++ Some (row_at u n) ∷ []) before) (sym put) more)
+
+-- ---- where a row stood before
+
+-- a row for which something was taken is among those of before
+taken_among : (t u : Table) (at : Option ℕ) (n : ℕ) (m : PageMemo) → IfSome at (λ i. i < length t.rows) →
+    IfSome at (λ i. same_here (row_at t i) (row_at u n) ≡ true) → (at ≡ None → is_unread m ≡ true) → is_unread m ≡ false → IsAmong t (row_at u n)
+taken_among t u None n m inside same none k = absurd (true≢false (sym (none refl) ∙ k))
+taken_among t u (Some i) n m inside same none k = record { place = i; inside = inside; same = same }
+
+among_more : (t : Table) (rs : List (Option RowRef)) (r : Option RowRef) (ms : List PageMemo) (m : PageMemo) → length rs ≡ length ms →
+    AreAmong t rs ms → (is_unread m ≡ false → IfSome r (λ s. IsAmong t s)) → AreAmong t (rs ++ r ∷ []) (ms ++ m ∷ [])
+among_more t [] r [] m e all w = (w, tt)
+among_more t [] r (k ∷ ms) m e all w = absurd (omega (arith, e))
+among_more t (q ∷ rs) r [] m e all w = absurd (omega (arith, e))
+among_more t (q ∷ rs) r (k ∷ ms) m e all w = (all.0, among_more t rs r ms m (omega (arith, e)) all.1 w)
+
+-- one more row of now
+pub row_among : (t u : Table) (at : Option ℕ) (n : ℕ) (m : PageMemo) (ms ks : List PageMemo) → IfSome at (λ i. i < length t.rows) →
+    IfSome at (λ i. same_here (row_at t i) (row_at u n) ≡ true) → (at ≡ None → is_unread m ≡ true) → length ms ≡ n → ks ≡ ms ++ m ∷ [] →
+    AreAmong t (places_from u 0 n) ms → AreAmong t (places_from u 0 (n + 1)) ks
+row_among t u at n m ms ks inside same none count put all =
+    let c : length (places_from u 0 n) ≡ length ms = how_many u 0 n ∙ sym count in
+    let more : AreAmong t (places_from u 0 n ++ Some (row_at u n) ∷ []) (ms ++ m ∷ []) =
+    among_more t (places_from u 0 n) (Some (row_at u n)) ms m c all (λ k. taken_among t u at n m inside same none k) in
+    let e : 0 + n ≡ n = omega arith in
+    subst (λ z. AreAmong t z ks) (sym (places_more u 0 n ∙ ap (λ z. places_from u 0 n ++ Some (row_at u z) ∷ []) e))
+    (subst (AreAmong t (places_from u 0 n ++ Some (row_at u n) ∷ [])) (sym put) more)
 
 -- how many were taken
 pub one_count : {A : Type 0} (f : A → PageMemo) (xs ys : List A) (x : A) (n : ℕ) → ys ≡ xs ++ x ∷ [] → length (map f xs) ≡ n → length (map f ys) ≡ n + 1

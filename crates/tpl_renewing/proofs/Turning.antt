@@ -113,8 +113,8 @@ later_fewer b links row before a c (start.Line h) is rs rows others rest places 
 pub first_made : (b : Block) (links : List ℕ) (row : Option RowRef) (before a c d e : Outcomes) (first : First) (ins later is rs : List PageMemo) →
     Begins b links row before a c first ins later → Grows c d → MakesEach (inner_in b (shows_of first)) links (places_of first row) c d [] is → Grows d e →
     MakesEach (rest_in b) links (behind_of first row) d e [] rs → Makes (lines_memo b) links row a e (kept_of first is rs)
-first_made b links row before a c d e (start.Whole m) ins later is rs x g inside k behinds =
-    subst (λ z. Makes (lines_memo b) links row a z (kept m)) (sym (behinds.0 ∙ inside.0)) x
+first_made b links row before a c d e (start.Whole w) ins later is rs x g inside k behinds =
+    subst (λ z. Makes (lines_memo b) links row a z (kept w.memo)) (sym (behinds.0 ∙ inside.0)) x
 first_made b links row before a c d e (start.Line h) ins later is rs x g inside k behinds =
     changed_remade b links row before a x.mid e x.memo (closed h is rs) x.was x.changed (grows_on x.mid d e (grows_on x.mid c d x.grows g) k)
     (line_made b links row h x.mid c d e is rs (closed h is rs) x.opens g inside k behinds refl)
@@ -140,18 +140,19 @@ turn_renewed b links rows row others first before a c d e f inner rest shows pla
 
 -- ---- as the code has it
 
-pub begins_whole : (b : Block) (links : List ℕ) (row at : Option RowRef) (before a c : Outcomes) (first : First) (m : _) (ins later : List PageMemo) →
-    first ≡ start.Whole m → at ≡ row → Makes (lines_memo b) links at a c (kept m) → Begins b links row before a c first ins later
-begins_whole b links row at before a c first m ins later e r x =
+pub begins_whole : (b : Block) (links : List ℕ) (row at : Option RowRef) (before a c : Outcomes) (first : First) (m k : _) (ins later : List PageMemo) →
+    first ≡ start.Whole (record { memo = m; change = k }) → at ≡ row → Makes (lines_memo b) links at a c (kept m) →
+    Begins b links row before a c first ins later
+begins_whole b links row at before a c first m k ins later e r x =
     subst (λ z. Begins b links row before a c z ins later) (sym e) (subst (λ z. Makes (lines_memo b) links z a c (kept m)) r x)
 
 pub begins_line : (b : Block) (links : List ℕ) (row : Option RowRef) (before a c : Outcomes) (first : First) (h : Head) (ins later : List PageMemo) →
     first ≡ start.Line h → OpensAgain b links row before a c h ins later → Begins b links row before a c first ins later
 begins_line b links row before a c first h ins later e x = subst (λ z. Begins b links row before a c z ins later) (sym e) x
 
-pub places_whole : (first : First) (m : _) (row : Option RowRef) (places : List (Option RowRef)) → first ≡ start.Whole m → places ≡ [] →
-    places ≡ places_of first row
-places_whole first m row places e p = p ∙ ap (λ z. places_of z row) (sym e)
+pub places_whole : (first : First) (m k : _) (row : Option RowRef) (places : List (Option RowRef)) →
+    first ≡ start.Whole (record { memo = m; change = k }) → places ≡ [] → places ≡ places_of first row
+places_whole first m k row places e p = p ∙ ap (λ z. places_of z row) (sym e)
 
 pub places_line : (first : First) (h : Head) (row at : Option RowRef) (places : List (Option RowRef)) → first ≡ start.Line h → at ≡ row →
     places ≡ places_in h at → places ≡ places_of first row

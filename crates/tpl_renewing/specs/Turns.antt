@@ -1,12 +1,13 @@
 -- How what was kept of lines is brought up to date: some of it stays whole, and of the rest the first line is heard again, before what is inside
 -- it and what is behind it.
-use Rattle.std.specs.Prelude.{◌≡◌, ℕ, Bool, false, List, [], ◌∷◌, length, map, Option, None}
+use Rattle.std.specs.Prelude.{◌≡◌, ◌<◌, ℕ, Bool, true, false, List, [], ◌∷◌, length, map, Option, None, IfSome}
 use Rattle.sig_base.specs.Tables.{Table}
 use Rattle.sig_base.specs.declared.value.Fault.TheVariants.{Gone}
 use Rattle.sig_base.specs.declared.value.Outcome.{Outcome}
 use Rattle.sig_base.specs.declared.value.Outcome.TheVariants.{Bad}
 use Rattle.sig_formula.specs.declared.formula.RowRef.{RowRef}
 use Rattle.tpl_model.specs.Lines.{Block, empty, text, tag, choice, each}
+use Rattle.tpl_model.specs.Sources.{same_here}
 use Rattle.tpl_hearing.specs.Hearing.{Grows, Outcomes}
 use Rattle.tpl_memos.specs.Kept.{heard_of, kept}
 use Rattle.update_laws.specs.PageMemos.{PageMemo, unread, names}
@@ -78,34 +79,47 @@ abbrev pub ServeRows : Table → Table → List PageMemo → List PageMemo → T
 ServeRows t u old ms =
     (b : Block) (links : List ℕ) (before : Outcomes) → SlotsWere b links t 0 before old → WereEach b links (places_from u 0 (length u.rows)) before ms
 
+-- a row of the key and the values of this one stands among those of a table
+pub record IsAmong (t : Table) (r : RowRef) : Type 0 where
+  pub place : ℕ
+  pub inside : place < length t.rows
+  pub same : same_here (record { rows = t; place = place }) r ≡ true
+
+-- so it is for each of some rows for which anything was kept
+abbrev pub AreAmong : Table → List (Option RowRef) → List PageMemo → Type 0
+AreAmong t [] ms = Unit {0}
+AreAmong t (r ∷ rs) ms = (is_unread (first_of ms) ≡ false → IfSome r (λ s. IsAmong t s)) × AreAmong t rs (later_of ms)
+
 -- What was kept inside a line serves where it is gone over again: of an element what was kept last, of a choice that of the same branch or
 -- nothing, and of a loop that of rows that are alike.
 abbrev pub ServeInside : Outcome → Head → List PageMemo → List PageMemo → Type 0
 ServeInside was (head.Tag all) old ms = ms ≡ last_of old ∷ []
 ServeInside was (head.Choice h) old ms = is_unread (first_of ms) ≡ false → (truth_in was ≡ truth_in h.outcome) × (first_of ms ≡ last_of old)
-ServeInside was (head.Each h) old ms = ServeRows (table_in was) (table_in h.outcome) old ms
+ServeInside was (head.Each h) old ms =
+    ServeRows (table_in was) (table_in h.outcome) old ms
+    × AreAmong (table_in was) (places_from (table_in h.outcome) 0 (length (table_in h.outcome).rows)) ms
 ServeInside was h old ms = Unit {0}
 
 -- ---- what is kept next
 
 -- where the lines inside the first line are gone over; nowhere where all stays whole
 abbrev pub places_of : First → Option RowRef → List (Option RowRef)
-places_of (start.Whole m) row = []
+places_of (start.Whole x) row = []
 places_of (start.Line h) row = places_in h row
 
 -- where the lines behind it are gone over
 abbrev pub behind_of : First → Option RowRef → List (Option RowRef)
-behind_of (start.Whole m) row = []
+behind_of (start.Whole x) row = []
 behind_of (start.Line h) row = behind h row
 
 -- whether the first branch of a choice is shown
 abbrev pub shows_of : First → Bool
-shows_of (start.Whole m) = false
+shows_of (start.Whole x) = false
 shows_of (start.Line h) = shows_first h
 
 -- what is kept of all lines
 abbrev pub kept_of : First → List PageMemo → List PageMemo → PageMemo
-kept_of (start.Whole m) inside later = kept m
+kept_of (start.Whole x) inside later = kept x.memo
 kept_of (start.Line h) inside later = closed h inside later
 
 -- Lines that were kept are looked at, where they are to be, and the first of them is heard again; what was kept inside it and behind it is at hand.
@@ -121,5 +135,5 @@ pub record OpensAgain (b : Block) (links : List ℕ) (row : Option RowRef) (befo
 
 -- so it is, or all of them are kept whole
 abbrev pub Begins : Block → List ℕ → Option RowRef → Outcomes → Outcomes → Outcomes → First → List PageMemo → List PageMemo → Type 0
-Begins b links row before earlier now (start.Whole m) inside later = Makes (lines_memo b) links row earlier now (kept m)
+Begins b links row before earlier now (start.Whole x) inside later = Makes (lines_memo b) links row earlier now (kept x.memo)
 Begins b links row before earlier now (start.Line h) inside later = OpensAgain b links row before earlier now h inside later

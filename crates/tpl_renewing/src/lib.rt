@@ -6,4 +6,5 @@ mod parts;
 mod renewing;
 mod rows;
 
-pub use renewing::renew;
+pub use parts::Renewed;
+pub use renewing::{names_stay, renew};

@@ -2,9 +2,11 @@
 ghost use Rattle.std.specs.Prelude.{◌≡◌, ◌++◌, ◌∷◌, [], false, map, IfOk, OnOk};
 ghost use Rattle.std.specs.Option.{option_copied};
 ghost use Rattle.tpl_memos.specs.Kept.{kept};
+ghost use Rattle.tpl_changes.specs.Changes.{chain, changed, over};
 ghost use Rattle.tpl_listening.specs.Makings.{truth_in};
 ghost use Rattle.tpl_listening.specs.Renewals.{is_unread};
 ghost use Rattle.tpl_making.specs.Heads.{last_of, places_in};
+ghost use Rattle.tpl_renewing.specs.Tellings.{changed_of, last_change};
 ghost use Rattle.tpl_renewing.specs.Turns.{behind_of, first_of, kept_of, later_of, outcome_of, shows_of, IsApart, ServeInside};
 ghost use Rattle.tpl_making.specs.declared.head.Head.TheVariants as head;
 ghost use Rattle.tpl_renewing.specs.declared.parts.First.TheVariants as start;
@@ -14,21 +16,29 @@ use sig_base::{Fault, NoMemory, Outcome};
 use sig_formula::RowRef;
 use std::alloc::Global;
 use std::collections::VecDeque;
+use tpl_changes::Change;
 use tpl_listening::truth_of;
 use tpl_making::{Head, last, place_behind, places_inside, put_closed, shows_first};
 use tpl_memos::PageMemo;
 
-/// What is kept of some lines next: all of them as they are, or what is heard of the first of them.
+/// What is kept of lines that were brought up to date, and what became of what was kept of them.
+#[derive(Drop)]
+pub struct Renewed {
+    pub memo: PageMemo,
+    pub change: Change,
+}
+
+/// What is kept of some lines next: all of them whole, or what is heard of the first of them.
 #[derive(Drop)]
 pub(crate) enum First {
     /// What is kept of all of them.
-    Whole(PageMemo),
+    Whole(Renewed),
     /// What is heard of the first.
     Line(Head),
 }
 
 /// Lines that are brought up to date: what is kept of them next, where those inside the first of them are gone over, what was kept inside
-/// it and behind it, and what is kept there next.
+/// it and behind it, what is kept there next, and what became of what was kept there.
 #[derive(Drop)]
 pub(crate) struct Turn {
     pub first: First,
@@ -37,6 +47,8 @@ pub(crate) struct Turn {
     pub later_was: VecDeque<PageMemo>,
     pub inside: Vec<PageMemo>,
     pub later: Vec<PageMemo>,
+    pub inside_changes: Vec<Change>,
+    pub later_changes: Vec<Change>,
 }
 
 /// What was kept of some lines: what was heard of the first, and what was kept inside it and behind it.
@@ -199,20 +211,24 @@ pub(crate) fn inside_was(
     }
 }
 
-/// All of it is kept whole.
-pub(crate) fn whole(alloc: Global, memo: PageMemo) -> Turn
-    ensures first { result.first ≡ start.Whole memo }
+/// All of it is kept whole, and this became of it.
+pub(crate) fn whole(alloc: Global, memo: PageMemo, change: Change) -> Turn
+    ensures first { result.first ≡ start.Whole (record { memo = memo; change = change }) }
     ensures places { result.places.items ≡ [] }
     ensures inside { result.inside.items ≡ [] }
     ensures later { result.later.items ≡ [] }
+    ensures inside_changes { result.inside_changes.items ≡ [] }
+    ensures later_changes { result.later_changes.items ≡ [] }
 {
     Turn {
-        first: First::Whole(memo),
+        first: First::Whole(Renewed { memo, change }),
         places: Vec::new(alloc),
         inside_was: VecDeque::new(alloc),
         later_was: VecDeque::new(alloc),
         inside: Vec::new(alloc),
         later: Vec::new(alloc),
+        inside_changes: Vec::new(alloc),
+        later_changes: Vec::new(alloc),
     }
 }
 
@@ -235,6 +251,8 @@ pub(crate) fn taken_up(
     ensures later_was { IfOk result (λ t. map kept t.later_was.items ≡ kept later ∷ []) }
     ensures inside { IfOk result (λ t. t.inside.items ≡ []) }
     ensures later { IfOk result (λ t. t.later.items ≡ []) }
+    ensures inside_changes { IfOk result (λ t. t.inside_changes.items ≡ []) }
+    ensures later_changes { IfOk result (λ t. t.later_changes.items ≡ []) }
 {
     let places = places_inside(alloc, &head, row)?;
     let inside_was = inside_was(alloc, was, &head, inside)?;
@@ -246,6 +264,8 @@ pub(crate) fn taken_up(
         later_was,
         inside: Vec::new(alloc),
         later: Vec::new(alloc),
+        inside_changes: Vec::new(alloc),
+        later_changes: Vec::new(alloc),
     })
 }
 
@@ -269,35 +289,44 @@ pub(crate) fn shows_of(first: &First) -> bool
     }
 }
 
-// Puts what is kept of lines behind what was kept.
-fn put_first(
-    alloc: Global,
-    first: First,
-    inside: Vec<PageMemo>,
-    later: Vec<PageMemo>,
-    done: &mut Vec<PageMemo>,
-) -> Result<(), NoMemory>
-    ensures { OnOk result (map kept done.new.items ≡ map kept done.old.items ++ kept_of first (map kept inside.items) (map kept later.items) ∷ []) }
+/// What became of the last of some lines; where there are none, all was made anew.
+pub(crate) fn last_change(changes: Vec<Change>) -> Change
+    ensures { changed result ≡ last_change (map changed changes.items) }
 {
-    match first {
-        First::Whole(memo) => {
-            done.push(memo)?;
-            Ok(())
-        }
-        First::Line(head) => {
-            put_closed(alloc, head, inside, later, done)?;
-            Ok(())
-        }
+    let mut changes = changes;
+    match changes.pop() {
+        None => Change::made(),
+        Some(change) => change,
     }
 }
 
-/// Puts what is kept of lines behind what was kept, once all of them was gone over.
+// Puts what became of lines behind what became of others.
+fn put_over(
+    alloc: Global,
+    inside: Vec<Change>,
+    later: Vec<Change>,
+    changes: &mut Vec<Change>,
+) -> Result<(), NoMemory>
+    ensures { OnOk result (map changed changes.new.items ≡ map changed changes.old.items ++ over (chain (map changed inside.items)) (last_change (map changed later.items)) ∷ []) }
+{
+    let change = Change::over(alloc, inside, last_change(later))?;
+    changes.push(change)?;
+    Ok(())
+}
+
+/// Puts what is kept of lines behind what was kept, once all of them was gone over, and what became of it behind what became of that.
 ///
 /// # Errors
 ///
 /// `NoMemory` alone.
-pub(crate) fn put_turn(alloc: Global, turn: Turn, done: &mut Vec<PageMemo>) -> Result<(), NoMemory>
-    ensures { OnOk result (map kept done.new.items ≡ map kept done.old.items ++ kept_of turn.first (map kept turn.inside.items) (map kept turn.later.items) ∷ []) }
+pub(crate) fn put_turn(
+    alloc: Global,
+    turn: Turn,
+    done: &mut Vec<PageMemo>,
+    changes: &mut Vec<Change>,
+) -> Result<(), NoMemory>
+    ensures kept { OnOk result (map kept done.new.items ≡ map kept done.old.items ++ kept_of turn.first (map kept turn.inside.items) (map kept turn.later.items) ∷ []) }
+    ensures changed { OnOk result (map changed changes.new.items ≡ map changed changes.old.items ++ changed_of turn.first (map changed turn.inside_changes.items) (map changed turn.later_changes.items) ∷ []) }
 {
     let Turn {
         first,
@@ -306,7 +335,19 @@ pub(crate) fn put_turn(alloc: Global, turn: Turn, done: &mut Vec<PageMemo>) -> R
         later_was: _later_was,
         inside,
         later,
+        inside_changes,
+        later_changes,
     } = turn;
-    put_first(alloc, first, inside, later, done)?;
-    Ok(())
+    match first {
+        First::Whole(renewed) => {
+            done.push(renewed.memo)?;
+            changes.push(renewed.change)?;
+            Ok(())
+        }
+        First::Line(head) => {
+            put_closed(alloc, head, inside, later, done)?;
+            put_over(alloc, inside_changes, later_changes, changes)?;
+            Ok(())
+        }
+    }
 }

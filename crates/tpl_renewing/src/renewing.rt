@@ -4,16 +4,19 @@ ghost use Rattle.std.specs.Option.{option_copied};
 ghost use Rattle.update_laws.specs.PageMemos.{names};
 ghost use Rattle.tpl_blocks.specs.Blocks.{block};
 ghost use Rattle.tpl_hearing.specs.Hearing.{scene, CanSettle, Hears};
+ghost use Rattle.tpl_hearing.specs.HeardAgain.{AreHeardAgain};
 ghost use Rattle.tpl_memos.specs.Kept.{kept};
 ghost use Rattle.tpl_listening.specs.Makings.{lines_memo, Makes};
 ghost use Rattle.tpl_listening.specs.Renewals.{AreLooked, WasMadeIfRead};
 ghost use Rattle.tpl_making.specs.Heads.{AreRows, IsRow, MakesEach, Opens};
+ghost use Rattle.tpl_changes.specs.Changes.{changed, Tells};
+ghost use Rattle.tpl_renewing.specs.Tellings.{BeginsTold, TellsEach};
 ghost use Rattle.tpl_renewing.specs.Turns.{places_of, Begins, WasOpened, WereEach};
 
 use crate::naming::put_names;
 use crate::parts::{
-    Parts, Turn, apart, behind_of, next_kept, outcome_of, put_turn, shows_of, taken_up, unread,
-    waiting, whole,
+    Parts, Renewed, Turn, apart, behind_of, last_change, next_kept, outcome_of, put_turn, shows_of,
+    taken_up, unread, waiting, whole,
 };
 use sig_base::{NoMemory, NodeId};
 use sig_computed::RunNote;
@@ -24,10 +27,40 @@ use std::alloc::Global;
 use std::collections::VecDeque;
 use std::slice;
 use tpl_blocks::Block;
+use tpl_changes::Change;
 use tpl_hearing::{Outcomes, hear_again};
 use tpl_listening::{listen_again, listen_all_again};
 use tpl_making::{Head, inner_of, last, lent_row, make, own_row, rest_of};
 use tpl_memos::PageMemo;
+
+/// Hears the names of what is kept again, in order, up to the first that hasn't the outcome of before; whether there is none.
+///
+/// # Errors
+///
+/// `NoMemory` alone; names may then have been settled.
+pub fn names_stay(
+    alloc: Global,
+    graph: &mut Graph,
+    shelf: &mut Shelf,
+    before: &Outcomes,
+    heard: &mut Outcomes,
+    memo: &PageMemo,
+    notes: &mut Vec<RunNote>,
+) -> Result<bool, NoMemory>
+    requires can { CanSettle (scene graph.old (⟦<Shelf as Lent>⟧.asked shelf.old) notes.old.items) }
+    requires counted { ⟦<Shelf as Lent>⟧.counted shelf.old }
+    ensures again { IfOk result (λ same. AreHeardAgain same before.now (names (kept memo.now)) heard.old heard.new) }
+    ensures after { OnOk result (Hears
+        (scene graph.old (⟦<Shelf as Lent>⟧.asked shelf.old) notes.old.items) (scene graph.new (⟦<Shelf as Lent>⟧.asked shelf.new) notes.new.items)
+        (λ hosts. ⟦<Shelf as Lent>⟧.answers hosts shelf.old) (λ hosts. ⟦<Shelf as Lent>⟧.answers hosts shelf.new) heard.old heard.new) }
+    ensures can { OnOk result (CanSettle (scene graph.new (⟦<Shelf as Lent>⟧.asked shelf.new) notes.new.items)) }
+    ensures counted { OnOk result (⟦<Shelf as Lent>⟧.counted shelf.new) }
+{
+    let mut ids = Vec::new(alloc);
+    put_names(&mut ids, memo)?;
+    let same = hear_again(graph, shelf, before, heard, &ids, notes)?;
+    Ok(same)
+}
 
 // Whether all names of lines are as before, where they are to be looked at.
 fn stays(
@@ -52,9 +85,7 @@ fn stays(
     if !look {
         return Ok(false);
     }
-    let mut ids = Vec::new(alloc);
-    put_names(&mut ids, memo)?;
-    let same = hear_again(graph, shelf, before, heard, &ids, notes)?;
+    let same = names_stay(alloc, graph, shelf, before, heard, memo, notes)?;
     Ok(same)
 }
 
@@ -143,6 +174,9 @@ fn begin(
     ensures places { IfOk result (λ t. t.places.items ≡ places_of t.first row.now) }
     ensures inside { IfOk result (λ t. t.inside.items ≡ []) }
     ensures later { IfOk result (λ t. t.later.items ≡ []) }
+    ensures inside_changes { IfOk result (λ t. t.inside_changes.items ≡ []) }
+    ensures later_changes { IfOk result (λ t. t.later_changes.items ≡ []) }
+    ensures told { IfOk result (λ t. BeginsTold (block lines.now) links.now row.now before.now (kept memo) t.first (map kept t.inside_was.items)) }
     ensures after { OnOk result (Hears
         (scene graph.old (⟦<Shelf as Lent>⟧.asked shelf.old) notes.old.items) (scene graph.new (⟦<Shelf as Lent>⟧.asked shelf.new) notes.new.items)
         (λ hosts. ⟦<Shelf as Lent>⟧.answers hosts shelf.old) (λ hosts. ⟦<Shelf as Lent>⟧.answers hosts shelf.new) heard.old heard.new) }
@@ -152,10 +186,10 @@ fn begin(
     let here = lent_row(row);
     if unread(&memo) {
         let memo = make(alloc, graph, shelf, heard, lines, links, here, notes)?;
-        return Ok(whole(alloc, memo));
+        return Ok(whole(alloc, memo, Change::made()));
     }
     if stays(alloc, graph, shelf, before, heard, &memo, look, notes)? {
-        return Ok(whole(alloc, memo));
+        return Ok(whole(alloc, memo, Change::stays()));
     }
     let Parts {
         head,
@@ -170,7 +204,7 @@ fn begin(
     Ok(turn)
 }
 
-// Puts what is kept of lines in each of some rows behind what was kept, brought up to date.
+// Puts what is kept of lines in each of some rows behind what was kept, brought up to date, and what became of it behind what became of that.
 fn renew_each(
     alloc: Global,
     graph: &mut Graph,
@@ -184,6 +218,7 @@ fn renew_each(
     look: bool,
     notes: &mut Vec<RunNote>,
     done: &mut Vec<PageMemo>,
+    changes: &mut Vec<Change>,
 ) -> Result<(), NoMemory>
     requires few { length rows.now < 2 ^ 64 }
     requires rows { AreRows rows.now }
@@ -191,6 +226,7 @@ fn renew_each(
     requires counted { ⟦<Shelf as Lent>⟧.counted shelf.old }
     requires was { WereEach (block lines.now) links.now rows.now before.now (map kept was.old.items) }
     ensures made { OnOk result (MakesEach (block lines.now) links.now rows.now heard.old heard.new (map kept done.old.items) (map kept done.new.items)) }
+    ensures told { OnOk result (TellsEach (block lines.now) links.now rows.now before.now (map kept was.old.items) (map kept done.old.items) (map kept done.new.items) (map changed changes.old.items) (map changed changes.new.items)) }
     ensures after { OnOk result (Hears
         (scene graph.old (⟦<Shelf as Lent>⟧.asked shelf.old) notes.old.items) (scene graph.new (⟦<Shelf as Lent>⟧.asked shelf.new) notes.new.items)
         (λ hosts. ⟦<Shelf as Lent>⟧.answers hosts shelf.old) (λ hosts. ⟦<Shelf as Lent>⟧.answers hosts shelf.new) heard.old heard.new) }
@@ -218,6 +254,7 @@ fn renew_each(
         true,
         notes,
         &mut turn.inside,
+        &mut turn.inside_changes,
     )?;
     let behind = behind_of(&turn.first, row);
     renew_each(
@@ -233,10 +270,11 @@ fn renew_each(
         false,
         notes,
         &mut turn.later,
+        &mut turn.later_changes,
     )?;
-    put_turn(alloc, turn, done)?;
+    put_turn(alloc, turn, done, changes)?;
     renew_each(
-        alloc, graph, shelf, before, heard, lines, links, others, was, look, notes, done,
+        alloc, graph, shelf, before, heard, lines, links, others, was, look, notes, done, changes,
     )?;
     Ok(())
 }
@@ -244,7 +282,7 @@ fn renew_each(
 /// Brings what a page keeps of these lines up to date, in the row where they stand: it is what `make` would make. `before` are the outcomes on which
 /// it was made. With `look` its names are heard again first, and where each has the outcome of before, it stays as it is. Otherwise it is
 /// gone over: a line whose names are as before isn't evaluated, the branch that was shown before is gone over again, and a row that has its
-/// key and its values still keeps what was kept of it. Where nothing is kept yet, all is made.
+/// key and its values still keeps what was kept of it. Where nothing is kept yet, all is made. Beside it comes what became of what was kept.
 ///
 /// # Errors
 ///
@@ -261,12 +299,13 @@ pub fn renew(
     links: &[NodeId],
     row: Option<&RowRef>,
     notes: &mut Vec<RunNote>,
-) -> Result<PageMemo, NoMemory>
+) -> Result<Renewed, NoMemory>
     requires place { IfSome row (λ r. r.now.place < length r.now.rows.rows) }
     requires can { CanSettle (scene graph.old (⟦<Shelf as Lent>⟧.asked shelf.old) notes.old.items) }
     requires counted { ⟦<Shelf as Lent>⟧.counted shelf.old }
     requires was { WasMadeIfRead (lines_memo (block lines.now)) links.now (option_copied row) before.now (kept memo) }
-    ensures made { IfOk result (λ m. Makes (lines_memo (block lines.now)) links.now (option_copied row.entry) heard.old heard.new (kept m)) }
+    ensures made { IfOk result (λ r. Makes (lines_memo (block lines.now)) links.now (option_copied row.entry) heard.old heard.new (kept r.memo)) }
+    ensures told { IfOk result (λ r. Tells (block lines.now) links.now (option_copied row.entry) before.now (kept r.memo) (changed r.change)) }
     ensures after { OnOk result (Hears
         (scene graph.old (⟦<Shelf as Lent>⟧.asked shelf.old) notes.old.items) (scene graph.new (⟦<Shelf as Lent>⟧.asked shelf.new) notes.new.items)
         (λ hosts. ⟦<Shelf as Lent>⟧.answers hosts shelf.old) (λ hosts. ⟦<Shelf as Lent>⟧.answers hosts shelf.new) heard.old heard.new) }
@@ -276,6 +315,7 @@ pub fn renew(
     let own = own_row(row)?;
     let mut was = waiting(alloc, memo)?;
     let mut done = Vec::new(alloc);
+    let mut changes = Vec::new(alloc);
     renew_each(
         alloc,
         graph,
@@ -289,6 +329,10 @@ pub fn renew(
         look,
         notes,
         &mut done,
+        &mut changes,
     )?;
-    Ok(last(done))
+    Ok(Renewed {
+        memo: last(done),
+        change: last_change(changes),
+    })
 }

@@ -1,13 +1,14 @@
 // Rows of before, looked for by key.
-ghost use Rattle.std.specs.Prelude.{◌≡◌, ◌<◌, ℕ, List, length, map, IfOk, IfSome, true};
+ghost use Rattle.std.specs.Prelude.{◌≡◌, ◌<◌, ℕ, List, length, map, IfOk, IfSome, None, true};
 ghost use Rattle.sig_base.specs.Tables.{Table};
 ghost use Rattle.tpl_model.specs.Lines as model;
 ghost use Rattle.tpl_model.specs.Sources.{same_here};
 ghost use Rattle.tpl_hearing.specs.Hearing as hearing;
 ghost use Rattle.tpl_memos.specs.Kept.{kept};
 ghost use Rattle.tpl_listening.specs.Makings.{table_in};
-ghost use Rattle.tpl_listening.specs.Renewals.{SlotsWere, TakesRow};
-ghost use Rattle.tpl_renewing.specs.Turns.{ServeRows};
+ghost use Rattle.tpl_listening.specs.Renewals.{is_unread, SlotsWere, TakesRow};
+ghost use Rattle.tpl_making.specs.Heads.{places_from};
+ghost use Rattle.tpl_renewing.specs.Turns.{AreAmong, ServeRows};
 
 use indexmap::IndexMap;
 use sig_base::{NoMemory, Outcome, Rows, Text, Value};
@@ -82,8 +83,9 @@ fn old_place(
 
 // Takes what was kept of the row at a place, where there is one.
 fn take_row(old: &mut Vec<PageMemo>, place: Option<usize>) -> PageMemo
-    ensures { (b : model.Block) (links : List ℕ) (t : Table) (before : hearing.Outcomes) → SlotsWere b links t 0 before (map kept old.old.items) →
+    ensures takes { (b : model.Block) (links : List ℕ) (t : Table) (before : hearing.Outcomes) → SlotsWere b links t 0 before (map kept old.old.items) →
         TakesRow b links t before place (kept result) (map kept old.new.items) }
+    ensures nothing { place ≡ None → is_unread (kept result) ≡ true }
 {
     let Some(place) = place else {
         return PageMemo::Unread;
@@ -105,7 +107,8 @@ pub(crate) fn rows_were(
     next: &Outcome,
     memos: Vec<PageMemo>,
 ) -> Result<VecDeque<PageMemo>, NoMemory>
-    ensures { IfOk result (λ q. ServeRows (table_in was.now) (table_in next.now) (map kept memos.items) (map kept q.items)) }
+    ensures serve { IfOk result (λ q. ServeRows (table_in was.now) (table_in next.now) (map kept memos.items) (map kept q.items)) }
+    ensures among { IfOk result (λ q. AreAmong (table_in was.now) (places_from (table_in next.now) 0 (length (table_in next.now).rows)) (map kept q.items)) }
 {
     let places = places(alloc, was, next)?;
     let mut left = memos;

@@ -5,12 +5,19 @@ use Rattle.tpl_memos.specs.Kept.{kept}
 use Rattle.tpl_making.specs.Heads.{AreRows, lines_size}
 use Rattle.tpl_making.proofs.Shared.{none_each}
 use Rattle.tpl_renewing.specs.Turns.{behind_of, places_of}
+use Rattle.tpl_changes.specs.Changes.{changed}
+use Rattle.tpl_renewing.proofs.Telling.{none_told, turn_told}
 use Rattle.tpl_renewing.proofs.Turning.{first_at, inside_at, inside_fewer, later_are, later_at, later_few, later_fewer, others_at, places_are, turn_renewed}
 use Rattle.tpl_renewing.proofs.renewing.+renew_each.Goals as goal
 
 pub returns-in_default-clause-made : goal.returns-in_default-clause-made
 returns-in_default-clause-made g t c =
     none_each (block c.args.lines.now) c.args.links.now c.args.rows.now c.args.heard.now (map kept c.args.done.now.items) c.in_default.ensures.cases
+
+pub returns-in_default-clause-told : goal.returns-in_default-clause-told
+returns-in_default-clause-told g t c =
+    none_told (block c.args.lines.now) c.args.links.now c.args.rows.now c.args.before.now (map kept c.args.was.now.items) (map kept c.args.done.now.items)
+    (map changed c.args.changes.now.items) c.in_default.ensures.cases
 
 pub returns-in_default-clause-after : goal.returns-in_default-clause-after
 returns-in_default-clause-after g t c = nothing_heard _ _ c.args.heard.now c.requires.can.idle
@@ -100,10 +107,28 @@ returns-clause-made g t c =
     c.in-Some.ensures.cases.0 o.begins c.shows_of.ensures c.inner_of-inner.ensures
     (c.deref.ensures.value ∙ o.places) c.rest_of.ensures c.behind_of-behind.ensures
     (ap (map kept) o.inside) (ap (map kept) o.later)
-    o.after.grows i.after.grows r.after.grows i.made r.made c.in_ok-put_turn.ensures l.made
+    o.after.grows i.after.grows r.after.grows i.made r.made c.in_ok-put_turn.ensures.kept l.made
 
 pub returns-clause-after : goal.returns-clause-after
 returns-clause-after g t c =
     then_heard _ _ _ _ _ _ _ _ _ c.in_ok-turn.ensures.after
     (then_heard _ _ _ _ _ _ _ _ _ c.in_ok-renew_each.ensures.after
     (then_heard _ _ _ _ _ _ _ _ _ c.in_ok-renew_each-2.ensures.after c.in_ok-renew_each-3.ensures.after))
+
+pub returns-clause-told : goal.returns-clause-told
+returns-clause-told g t c =
+    let o = c.in_ok-turn.ensures in
+    let turn = c.in_ok-turn.turn in
+    turn_told (block c.args.lines.now) c.args.links.now c.args.rows.now c.in-Some.row.now c.in-Some.others.now turn.first c.args.before.now
+    c.args.heard.now c.begin.new.heard (block c.inner_of-inner.result.now) (block c.rest_of.result.now) c.shows_of.result c.deref.result.now
+    c.behind_of-behind.result.now (kept c.next_kept-memo.result) (map kept c.args.was.now.items) (map kept c.next_kept-memo.new.was.items)
+    (map kept turn.inside_was.items) (map kept turn.later_was.items)
+    (map kept turn.inside.items) (map kept c.renew_each.new.done.items) (map kept turn.later.items) (map kept c.renew_each-2.new.done.items)
+    (map kept c.args.done.now.items) (map kept c.put_turn.new.done.items) (map kept c.renew_each-3.new.done.items)
+    (map changed turn.inside_changes.items) (map changed c.renew_each.new.changes.items) (map changed turn.later_changes.items)
+    (map changed c.renew_each-2.new.changes.items) (map changed c.args.changes.now.items) (map changed c.put_turn.new.changes.items)
+    (map changed c.renew_each-3.new.changes.items)
+    c.in-Some.ensures.cases.0 o.begins o.told c.next_kept-memo.ensures.first c.next_kept-memo.ensures.later c.shows_of.ensures c.inner_of-inner.ensures
+    (c.deref.ensures.value ∙ o.places) c.rest_of.ensures c.behind_of-behind.ensures (ap (map kept) o.inside) (ap (map kept) o.later)
+    (ap (map changed) o.inside_changes) (ap (map changed) o.later_changes) c.in_ok-renew_each.ensures.told c.in_ok-renew_each-2.ensures.told
+    c.in_ok-put_turn.ensures.kept c.in_ok-put_turn.ensures.changed c.in_ok-renew_each-3.ensures.told

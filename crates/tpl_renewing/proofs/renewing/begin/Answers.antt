@@ -8,18 +8,20 @@ use Rattle.tpl_listening.specs.Renewals.{AreLooked, is_unread}
 use Rattle.tpl_listening.proofs.Shared.{stayed}
 use Rattle.tpl_renewing.specs.Turns.{ServeInside, WasOpened}
 use Rattle.tpl_renewing.proofs.Apart.{was_apart}
+use Rattle.tpl_changes.specs.Changes.{changed}
+use Rattle.tpl_renewing.proofs.Telling.{heard_told, made_told, stays_told, was_known, whole_told}
 use Rattle.tpl_renewing.proofs.Turning.{begins_line, begins_whole, opened_again, places_line, places_whole}
 use Rattle.tpl_renewing.proofs.renewing.begin.Goals as goal
 
 pub returns-then-unread-clause-begins : goal.returns-then-unread-clause-begins
 returns-then-unread-clause-begins g c =
     begins_whole (block c.args.lines.now) c.args.links.now c.args.row.now (option_copied c.lent_row-here.result) c.args.before.now c.args.heard.now
-    c.make.new.heard c.whole.result.first c.in_ok-memo.memo (map kept c.whole.result.inside_was.items) (map kept c.whole.result.later_was.items)
+    c.make.new.heard c.whole.result.first c.in_ok-memo.memo c.made.result (map kept c.whole.result.inside_was.items) (map kept c.whole.result.later_was.items)
     c.whole.ensures.first c.lent_row-here.ensures.is c.in_ok-memo.ensures.made
 
 pub returns-then-unread-clause-places : goal.returns-then-unread-clause-places
 returns-then-unread-clause-places g c =
-    places_whole c.whole.result.first c.in_ok-memo.memo c.args.row.now c.whole.result.places.items c.whole.ensures.first c.whole.ensures.places
+    places_whole c.whole.result.first c.in_ok-memo.memo c.made.result c.args.row.now c.whole.result.places.items c.whole.ensures.first c.whole.ensures.places
 
 pub returns-then-branch-clause-begins : goal.returns-then-branch-clause-begins
 returns-then-branch-clause-begins g c =
@@ -28,13 +30,13 @@ returns-then-branch-clause-begins g c =
     let u : is_unread m ≡ false = sym c.unread.ensures ∙ c.if-unread.false in
     let same = subst (λ z. AreLooked z c.args.before.now (names m) c.args.heard.now c.stays.new.heard) c.if-branch.true c.in_ok-stays.ensures.looked in
     begins_whole b c.args.links.now c.args.row.now c.args.row.now c.args.before.now c.args.heard.now c.stays.new.heard
-    c.whole-then-branch.result.first c.args.memo (map kept c.whole-then-branch.result.inside_was.items)
+    c.whole-then-branch.result.first c.args.memo c.stays-then-branch.result (map kept c.whole-then-branch.result.inside_was.items)
     (map kept c.whole-then-branch.result.later_was.items) c.whole-then-branch.ensures.first refl
     (stayed b c.args.links.now c.args.row.now c.args.before.now c.args.heard.now c.stays.new.heard m (c.requires.was.made u) same)
 
 pub returns-then-branch-clause-places : goal.returns-then-branch-clause-places
 returns-then-branch-clause-places g c =
-    places_whole c.whole-then-branch.result.first c.args.memo c.args.row.now c.whole-then-branch.result.places.items c.whole-then-branch.ensures.first
+    places_whole c.whole-then-branch.result.first c.args.memo c.stays-then-branch.result c.args.row.now c.whole-then-branch.result.places.items c.whole-then-branch.ensures.first
     c.whole-then-branch.ensures.places
 
 pub hear_first_again-requires-clause-was : goal.hear_first_again-requires-clause-was
@@ -75,3 +77,39 @@ returns-clause-places g c =
 
 pub returns-clause-after : goal.returns-clause-after
 returns-clause-after g c = then_heard _ _ _ _ _ _ _ _ _ c.in_ok-stays.ensures.after c.in_ok-head-2.ensures.after
+
+-- ---- what became of them
+
+pub returns-then-unread-clause-told : goal.returns-then-unread-clause-told
+returns-then-unread-clause-told g c =
+    let b = block c.args.lines.now in
+    whole_told b c.args.links.now c.args.row.now c.args.before.now (kept c.args.memo) c.whole.result.first c.in_ok-memo.memo c.made.result
+    (map kept c.whole.result.inside_was.items) c.whole.ensures.first
+    (made_told b c.args.links.now c.args.row.now c.args.before.now (kept c.args.memo) (kept c.in_ok-memo.memo) (changed c.made.result) c.made.ensures)
+
+pub returns-then-branch-clause-told : goal.returns-then-branch-clause-told
+returns-then-branch-clause-told g c =
+    let b = block c.args.lines.now in
+    let m = kept c.args.memo in
+    let u : is_unread m ≡ false = sym c.unread.ensures ∙ c.if-unread.false in
+    whole_told b c.args.links.now c.args.row.now c.args.before.now m c.whole-then-branch.result.first c.args.memo c.stays-then-branch.result
+    (map kept c.whole-then-branch.result.inside_was.items) c.whole-then-branch.ensures.first
+    (stays_told b c.args.links.now c.args.row.now c.args.before.now m (changed c.stays-then-branch.result) c.stays-then-branch.ensures u
+    (c.requires.was.made u))
+
+pub returns-clause-told : goal.returns-clause-told
+returns-clause-told g c =
+    let b = block c.args.lines.now in
+    let m = kept c.args.memo in
+    let u : is_unread m ≡ false = sym c.unread.ensures ∙ c.if-unread.false in
+    let old = c.in_ok-head.field-0.head in
+    let h = c.in_ok-head-2.head in
+    let is = map kept c.in_ok-head.field-0.inside.items in
+    let turn = c.in_ok-turn.turn in
+    let t = c.in_ok-turn.ensures in
+    let ins = map kept turn.inside_was.items in
+    let w = was_apart b c.args.links.now c.args.row.now c.args.before.now m old is (kept c.in_ok-head.field-0.later) (c.requires.was.made u)
+    (c.in_ok-head.ensures u) in
+    heard_told b c.args.links.now c.args.row.now c.args.before.now m turn.first h ins t.first u
+    (was_known b c.args.links.now c.args.row.now c.args.before.now c.stays.new.heard c.hear_first_again.new.heard old h is ins w.opened
+    (rw c.lent_row-here.ensures.is at c.in_ok-head-2.ensures.opens) (subst (λ z. ServeInside z h is ins) c.in_ok-was.ensures t.inside_was))

@@ -4,6 +4,8 @@ use Rattle.tpl_blocks.specs.Blocks.{block}
 use Rattle.tpl_memos.specs.Kept.{kept}
 use Rattle.tpl_making.specs.Heads.{AreRows}
 use Rattle.tpl_making.proofs.Shared.{alone_from, own_is}
+use Rattle.tpl_changes.specs.Changes.{changed}
+use Rattle.tpl_renewing.proofs.Telling.{one_told}
 use Rattle.tpl_renewing.proofs.Turning.{alone_was}
 use Rattle.tpl_renewing.proofs.renewing.renew.Goals as goal
 
@@ -21,3 +23,11 @@ returns-clause-made g c =
     alone_from (block c.args.lines.now) c.args.links.now (option_copied c.args.row) c.from_ref.result.now c.args.heard.now c.renew_each.new.heard
     (map kept c.new-done.result.items) (map kept c.renew_each.new.done.items) (kept c.last.result)
     (c.from_ref.ensures.value ∙ ap (λ z. z ∷ []) c.in_ok-own.ensures) (ap (map kept) c.new-done.ensures.items) c.in_ok-renew_each.ensures.made c.last.ensures
+
+pub returns-clause-told : goal.returns-clause-told
+returns-clause-told g c =
+    one_told (block c.args.lines.now) c.args.links.now c.from_ref.result.now (option_copied c.args.row) c.args.before.now (map kept c.in_ok-was.was'.items)
+    (map kept c.new-done.result.items) (map kept c.renew_each.new.done.items) (map changed c.new-changes.result.items)
+    (map changed c.renew_each.new.changes.items) (kept c.last.result) (changed c.last_change.result)
+    (c.from_ref.ensures.value ∙ ap (λ z. z ∷ []) c.in_ok-own.ensures) (ap (map kept) c.new-done.ensures.items)
+    (ap (map changed) c.new-changes.ensures.items) c.in_ok-renew_each.ensures.told c.last.ensures c.last_change.ensures

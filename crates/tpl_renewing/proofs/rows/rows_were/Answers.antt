@@ -2,7 +2,7 @@ use Rattle.std.proofs.Common.{map}
 use Rattle.tpl_memos.specs.Kept.{kept}
 use Rattle.tpl_listening.specs.Makings.{table_in}
 use Rattle.tpl_listening.proofs.Shared.{mapped_put}
-use Rattle.tpl_renewing.proofs.Serving.{one_count, row_serves}
+use Rattle.tpl_renewing.proofs.Serving.{one_count, row_among, row_serves}
 use Rattle.tpl_renewing.proofs.rows.rows_were.Goals as goal
 
 pub loop-place-preserved : goal.loop-place-preserved
@@ -11,10 +11,13 @@ loop-place-preserved c =
     let put = c.in_ok-push.ensures.items in
     record {
       count = one_count kept c.loop-place.taken.items c.push.new.self.items c.take_row-one.result c.loop-place.place put v.count;
-      left = λ b links before s. (c.take_row-one.ensures b links (table_in c.args.was.now) before (v.left b links before s)).left;
+      left = λ b links before s. (c.take_row-one.ensures.takes b links (table_in c.args.was.now) before (v.left b links before s)).left;
       taken = λ b links before s.
           row_serves b links (table_in c.args.was.now) (table_in c.args.next.now) before c.old_place-at.result c.loop-place.place (kept c.take_row-one.result)
           (map kept c.take_row-one.new.old.items) (map kept c.loop-place.taken.items) (map kept c.push.new.self.items) c.old_place-at.ensures.inside
-          c.old_place-at.ensures.same (c.take_row-one.ensures b links (table_in c.args.was.now) before (v.left b links before s)) v.count
+          c.old_place-at.ensures.same (c.take_row-one.ensures.takes b links (table_in c.args.was.now) before (v.left b links before s)) v.count
           (mapped_put kept c.loop-place.taken.items c.push.new.self.items c.take_row-one.result put) (v.taken b links before s);
+      among = row_among (table_in c.args.was.now) (table_in c.args.next.now) c.old_place-at.result c.loop-place.place (kept c.take_row-one.result)
+          (map kept c.loop-place.taken.items) (map kept c.push.new.self.items) c.old_place-at.ensures.inside c.old_place-at.ensures.same
+          c.take_row-one.ensures.nothing v.count (mapped_put kept c.loop-place.taken.items c.push.new.self.items c.take_row-one.result put) v.among;
     }

@@ -5,7 +5,7 @@ use Rattle.tpl_memos.specs.Kept.{kept}
 use Rattle.tpl_listening.specs.Makings.{table_in}
 use Rattle.tpl_listening.specs.Renewals.{SlotsWere}
 use Rattle.tpl_making.specs.Heads.{places_from}
-use Rattle.tpl_renewing.specs.Turns.{WereEach}
+use Rattle.tpl_renewing.specs.Turns.{AreAmong, WereEach}
 use Rattle.tpl_renewing.proofs.rows.rows_were.Given as goal
 
 -- what is left of before, and what was taken for the rows so far
@@ -16,4 +16,5 @@ invariant-loop-place l = record {
       SlotsWere b links (table_in l.was) 0 before (map kept l.left.items);
   taken : (b : Block) (links : List ℕ) (before : Outcomes) → SlotsWere b links (table_in l.was) 0 before (map kept l.fn.memos.items) →
       WereEach b links (places_from (table_in l.next) 0 l.place) before (map kept l.taken.items);
+  among : AreAmong (table_in l.was) (places_from (table_in l.next) 0 l.place) (map kept l.taken.items);
 }
