@@ -1,10 +1,14 @@
 mod Inserted
 mod Mounted
 mod Sourced
+mod Numbered
 mod Mounting
-mod Stood
 mod Sorting
 mod Matched
+mod Staying
 mod Operated
 mod Planned
+mod Still
+mod Carried
 mod Renewed
+mod Quiet

@@ -3,8 +3,8 @@ use Rattle.std.proofs.Common.{◌≡◌, ℕ, suc, ◌+◌, ◌<◌, ◌≤◌, 
 use Rattle.std.specs.List.{flat_map}
 use Rattle.std.proofs.lemmas.Bool.{cases_Bool, false≢true, ltb-false, ltb-true}
 use Rattle.page_model.specs.Edits.{siblings}
-use Rattle.page_model.specs.Forest.{Forest, none, node, after, keys, kids, label_in, numbered, on}
-use Rattle.page_model.specs.Labels.{Root, Kind, Look, Sound, seen, shown}
+use Rattle.page_model.specs.Forest.{Forest, none, node, keys, kids, label_in, numbered, on}
+use Rattle.page_model.specs.Labels.{Root, Look, Sound, seen, shown}
 use Rattle.page_model.specs.Pages.{IsPage, IsShape, NumberedPage, SameOrigin, carried, new_order, newcomers, number_of, page_shape, renumbered, tree_of, with_numbers}
 use Rattle.page_model.proofs.Shared.{page_after, shape_after}
 use Rattle.tpl_found.specs.Coming.{coming}
@@ -12,10 +12,9 @@ use Rattle.tpl_found.proofs.Shared.{kids_num, serial_law}
 use Rattle.tpl_marks.specs.Marks.{children_in, next_of}
 use Rattle.tpl_model.specs.Sources.{in_order}
 use Rattle.tpl_moves.specs.Moves.{AllFit, AllSound, AreSound, Fits, arrivals, next_numbers, number_after, number_behind}
-use Rattle.tpl_shapes.specs.Shapes.{Marked, Next, comes, stays}
+use Rattle.tpl_shapes.specs.Shapes.{Marked, Next}
 use Rattle.tpl_live.proofs.Mounted.{numbers_shown}
-use Rattle.tpl_live.proofs.Stood.{AreAt, At}
-use Rattle.tpl_live.specs.Plans.{known_of}
+use Rattle.compare_laws.specs.Comparing.{Each, IsTouched, known_of}
 
 ltb_of : (m n : ℕ) → m < n → ltb m n ≡ true
 ltb_of m n h = elim (cases_Bool (ltb m n)) [ inl e ↦ e | inr e ↦ (let u = ltb-false m n e in absurd (omega (arith, h, u))) ]
@@ -100,7 +99,7 @@ sound_in : (known : ℕ → Option ℕ) (t : Forest Look) → Sound t → AreSou
 sound_in known none s = tt
 sound_in known (node a x k r) s = one_sound (known a) (node a x k none) (children_in known r) (s.0, s.1, s.2, tt) (sound_in known r s.3)
 
-pub all_sound : (p : NumberedPage) (shape : Forest Look) (ws : List ℕ) (ms : List Marked) → Sound shape → AreAt p shape ws ms → AllSound ms
+pub all_sound : (p : NumberedPage) (shape : Forest Look) (ws : List ℕ) (ms : List Marked) → Sound shape → Each (IsTouched p shape) ws ms → AllSound ms
 all_sound p shape [] [] s h = tt
 all_sound p shape (a ∷ ws) (m ∷ ms) s h =
     (subst AreSound (sym h.0.children) (sound_in (known_of p) (kids a shape) (sound_kids a shape s)), all_sound p shape ws ms s h.1)
@@ -140,7 +139,7 @@ kids_next p shape a q s here there =
     (λ b o e. next.distinct a b (ap (on a) same ∙ there) (ap (on b) same ∙ o) (number_with num a shape there ∙ (e ∙ sym (number_with num b shape o)))))
 
 pub all_fit : (p : NumberedPage) (shape : Forest Look) (pre ws : List ℕ) (ms : List Marked) (n : ℕ) → IsPage p → IsShape shape → SameOrigin (page_shape p) shape →
-    AreAt p shape ws ms → new_order p shape ≡ pre ++ flat_map (λ a. newcomers (λ c. on c (page_shape p)) (kids a shape)) ws → n ≡ p.next + length pre →
+    Each (IsTouched p shape) ws ms → new_order p shape ≡ pre ++ flat_map (λ a. newcomers (λ c. on c (page_shape p)) (kids a shape)) ws → n ≡ p.next + length pre →
     AllFit (λ m. ltb m p.next) n ms (tree_of (renumbered p shape)) × (number_behind n ms ≡ p.next + length (new_order p shape))
 all_fit p shape pre [] [] n q s so h o e =
     (tt, (let l = ap length o ∙ ap length (append-nil pre) in omega (arith, e, l)))

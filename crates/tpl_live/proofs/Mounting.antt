@@ -13,7 +13,7 @@ use Rattle.signal_model.specs.Standing.{Signals}
 use Rattle.signal_laws.specs.ReadingLaws.{firsts_after}
 use Rattle.page_model.specs.Forest.{Forest, keys, kids, node, none}
 use Rattle.page_model.specs.Labels.{Kind, Root, shown}
-use Rattle.page_model.specs.Pages.{bare, edits_between, renumbered}
+use Rattle.page_model.specs.Pages.{IsPage, NumberedPage, bare, edits_between, page_shape, renumbered, tree_of}
 use Rattle.page_model.specs.Replay.{Op}
 use Rattle.page_model.specs.Trees.{AreNodes}
 use Rattle.page_model.proofs.Shared.{bare_page, tree_made}
@@ -29,7 +29,10 @@ use Rattle.update_laws.proofs.Shared.{shape_shown}
 use Rattle.tpl_hearing.specs.Hearing.{AreFromScratch, HaveRows, HasRows, Hears, Outcomes, Scene, heard_of}
 use Rattle.tpl_hearing.proofs.Shared.{heard_scratch}
 use Rattle.tpl_listening.specs.Makings.{Makes, lines_memo}
-use Rattle.tpl_live.specs.Pages.{AreInserted, Standing, Stands, below_in, inserts, outcome_in, page_in, shown_in}
+use Rattle.tpl_live.specs.Pages.{AreInserted, Standing, Stands, below_in, inserts, lines_shape, outcome_in, page_in, shown_in}
+use Rattle.tpl_marks.specs.Marks.{Knows}
+use Rattle.compare_laws.specs.Comparing.{known_of}
+use Rattle.tpl_live.proofs.Numbered.{many_there}
 use Rattle.tpl_live.proofs.Mounted.{MountedAs, leads, mounted}
 use Rattle.tpl_live.proofs.Sourced.{made_on, made_right, names_heard}
 
@@ -94,12 +97,37 @@ stands_as : (lines : List Line) (links : List ℕ) (s : Standing) (below : Fores
 stands_as lines links s below own made e next tree =
     mounted lines links (outcome_in s.heard) s below made.template made.rows own made.memo e next tree
 
+-- what is known of the numbers of a page that shows these lines and has this tree
+abbrev pub KnowsThere : Standing → Type 0
+KnowsThere s = (p : NumberedPage) → IsPage p → page_shape p ≡ lines_shape s.lines s.memo → s.tree ≡ tree_of p → Knows s.number (known_of p)
+
+shape_of : (lines : List Line) (links : List ℕ) (s : Standing) (below : Forest Kind) → s.lines ≡ block_of lines →
+    MountedAs lines links (outcome_in s.heard) s below → page_shape (page_in s) ≡ lines_shape s.lines s.memo
+shape_of lines links s below own x = x.keeps.shape ∙ sym (ap (λ z. lines_shape z s.memo) own)
+
 pub stands : (lines : List Line) (links : List ℕ) (s : Standing) → s.lines ≡ block_of lines → s.links ≡ links → AreMade lines links s.heard s.memo →
-    s.next ≡ 1 + length (keys (shown_in s.lines s.memo)) → s.tree ≡ node 0 Root (below_in s.lines s.memo) none → Stands lines links s
-stands lines links s own linked made next tree =
+    s.next ≡ 1 + length (keys (shown_in s.lines s.memo)) → s.tree ≡ node 0 Root (below_in s.lines s.memo) none → KnowsThere s → Stands lines links s
+stands lines links s own linked made next tree knows =
     let x = stands_as lines links s (below_in s.lines s.memo) own made (ap (λ z. below_in z s.memo) own)
     (next ∙ ap (λ z. 1 + length (keys (shown_in z s.memo))) own) tree in
-    record { template = made.template; block = own; linked = linked; keeps = x.keeps; sound = x.sound; names = names_heard (keys_of s.heard) (names s.memo) made.order }
+    record {
+      template = made.template;
+      block = own;
+      linked = linked;
+      keeps = x.keeps;
+      sound = x.sound;
+      names = names_heard (keys_of s.heard) (names s.memo) made.order;
+      knows = knows (page_in s) x.keeps.page (shape_of lines links s (below_in s.lines s.memo) own x) x.keeps.stands;
+    }
+
+-- there is a number for each node that is shown and for the root
+pub many_mounted : (lines : List Line) (links : List ℕ) (s : Standing) → s.lines ≡ block_of lines → AreMade lines links s.heard s.memo →
+    s.next ≡ 1 + length (keys (shown_in s.lines s.memo)) → s.tree ≡ node 0 Root (below_in s.lines s.memo) none →
+    length (keys (shown_in s.lines s.memo)) + 1 ≡ length (keys s.tree)
+many_mounted lines links s own made next tree =
+    let x = stands_as lines links s (below_in s.lines s.memo) own made (ap (λ z. below_in z s.memo) own)
+    (next ∙ ap (λ z. 1 + length (keys (shown_in z s.memo))) own) tree in
+    many_there (page_in s) (shown_in s.lines s.memo) s.tree x.keeps.page (shape_of lines links s (below_in s.lines s.memo) own x) x.keeps.stands
 
 -- it is that of the signals, and so are the operations
 pub record IsUpdated (hosts : Hosts) (w : Signals) (lines : List Line) (links : List ℕ) (k : Memos) (s : Standing) (os : List Op) : Type 0 where

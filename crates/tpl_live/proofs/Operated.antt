@@ -1,38 +1,36 @@
 -- The operations that are read off by marks are the edits between the two pages, and lead from the one tree to the other.
-use Rattle.std.proofs.Common.{◌≡◌, ℕ, ◌+◌, ltb, Bool, true, Option, List, [], ◌∷◌, ◌++◌, map, refl, sym, ap, subst, ◌∙◌, arith}
+use Rattle.std.proofs.Common.{◌≡◌, ℕ, ◌+◌, ltb, Bool, Option, List, [], ◌∷◌, ◌++◌, map, refl, sym, ap, subst, ◌∙◌, arith}
 use Rattle.std.specs.List.{flat_map}
 use Rattle.std.specs.List.Sorted.{IsPermutation}
 use Rattle.page_model.specs.Edits.{ascending, listed}
-use Rattle.page_model.specs.Forest.{Forest, none, node, kids, label_in, numbered, on}
+use Rattle.page_model.specs.Forest.{Forest, kids, label_in, numbered, on}
 use Rattle.page_model.specs.Labels.{Root, Kind, Look, Sound, shown}
-use Rattle.page_model.specs.Pages.{IsPage, IsShape, NumberedPage, SameOrigin, ascending_by, carried, edits_between, looks, new_order, newcomers, number_of, page_shape, renumbered, tree_of}
+use Rattle.page_model.specs.Pages.{IsPage, IsShape, NumberedPage, SameOrigin, ascending_by, carried, edits_between, newcomers, number_of, page_shape, renumbered, tree_of}
 use Rattle.page_model.specs.Replay.{Done, Op, OpAttr, OpInsert, OpMove, OpRemove, OpText, OpUnattr, replay}
 use Rattle.page_model.specs.Texts.{AreWritable, IsWritable}
 use Rattle.page_model.specs.Trees.{Brings}
 use Rattle.page_model.proofs.Shared.{edits_writable}
+use Rattle.compare_laws.specs.Comparing.{Compared, Each, IsRestated, IsTouched, known_of, restated_in, touched_in}
+use Rattle.tpl_changes.specs.Changes.{Change}
 use Rattle.tpl_found.specs.Operations.{children_done, look_done, operations}
-use Rattle.tpl_found.specs.Reading.{TellsKept, gone_numbers}
-use Rattle.tpl_found.specs.Seeing.{common}
+use Rattle.tpl_found.specs.Reading.{gone_numbers}
 use Rattle.tpl_found.specs.Telling.{told_on}
-use Rattle.tpl_found.proofs.Shared.{all_new, kept_law, marks_law, operations_law, whole_law}
+use Rattle.tpl_found.specs.Updates.{is_kept}
+use Rattle.tpl_found.proofs.Shared.{kept_law, marks_law, operations_law}
 use Rattle.tpl_looks.specs.Attributes.{mark_told}
-use Rattle.tpl_marks.specs.Marks.{Knows, marks_in, root_mark}
+use Rattle.tpl_marks.specs.Marks.{Knows}
+use Rattle.tpl_model.specs.Lines.{Block}
 use Rattle.tpl_moves.specs.Moves.{AllFit, AllSound, children_moved, moved_between, number_behind}
 use Rattle.tpl_shapes.specs.Shapes.{Marked}
 use Rattle.tpl_shapes.specs.declared.shown.Address.{Address}
-use Rattle.update_laws.specs.Differences.{often}
+use Rattle.update_laws.specs.PageMemos.{PageMemo}
+use Rattle.tpl_live.specs.Pages.{lines_shape}
+use Rattle.tpl_live.specs.Plans.{AllBring, Compares, LeadOn, children_staying, numbers_of, ops_towards}
 use Rattle.tpl_live.proofs.Matched.{all_fit, all_sound, kids_next}
-use Rattle.tpl_live.proofs.Sorting.{AreMoved, Rising, address_in, moved_so, same_numbers, sees_so, stays_sorted}
-use Rattle.tpl_live.proofs.Stood.{AreAt, addresses_in, all_stood, often_common}
-use Rattle.tpl_live.specs.Plans.{AllBring, Compares, LeadOn, known_of, numbers_of, ops_towards}
+use Rattle.tpl_live.proofs.Sorting.{Rising, address_in, moved_so, numbers_so, restated_marks, sees_so, stays_sorted, touched_marks}
+use Rattle.tpl_live.proofs.Staying.{done_alike, gone_alike, staying_alike}
 
-numbers_so : (p : NumberedPage) (shape : Forest Look) (ws : List ℕ) (ms : List Marked) → AreAt p shape ws ms → map (number_of p) ws ≡ numbers_of ms
-numbers_so p shape [] [] h = refl
-numbers_so p shape (a ∷ ws) (m ∷ ms) h = (λ i. sym h.0.number i ∷ numbers_so p shape ws ms h.1 i)
-numbers_so p shape [] (m ∷ ms) h = absurd h
-numbers_so p shape (a ∷ ws) [] h = absurd h
-
-moves_so : (p : NumberedPage) (shape : Forest Look) (kept : ℕ → Bool) (ws : List ℕ) (ms : List Marked) → IsPage p → IsShape shape → AreAt p shape ws ms →
+moves_so : (p : NumberedPage) (shape : Forest Look) (kept : ℕ → Bool) (ws : List ℕ) (ms : List Marked) → IsPage p → IsShape shape → Each (IsTouched p shape) ws ms →
     flat_map (children_done p shape kept) ws ≡ moved_between (λ n. ltb n p.next) kept (tree_of p) (tree_of (renumbered p shape)) ms
 moves_so p shape kept [] [] q s h = refl
 moves_so p shape kept (a ∷ ws) (m ∷ ms) q s h =
@@ -46,7 +44,7 @@ moves_so p shape kept (a ∷ ws) (m ∷ ms) q s h =
 moves_so p shape kept [] (m ∷ ms) q s h = absurd h
 moves_so p shape kept (a ∷ ws) [] q s h = absurd h
 
-looks_so : (p : NumberedPage) (shape : Forest Look) (ws : List ℕ) (ms : List Marked) → AreAt p shape ws ms →
+looks_so : (p : NumberedPage) (shape : Forest Look) (ws : List ℕ) (ms : List Marked) → Each (IsRestated p shape) ws ms →
     flat_map (look_done p shape) ws ≡ flat_map (mark_told (tree_of p)) ms
 looks_so p shape [] [] h = refl
 looks_so p shape (a ∷ ws) (m ∷ ms) h =
@@ -57,42 +55,43 @@ looks_so p shape (a ∷ ws) (m ∷ ms) h =
 looks_so p shape [] (m ∷ ms) h = absurd h
 looks_so p shape (a ∷ ws) [] h = absurd h
 
--- what is known of marks: what comes is sound and has the next numbers, and the operations are the edits, which lead to the next tree
-pub record Operate (p : NumberedPage) (shape : Forest Look) (ms : List Marked) : Type 0 where
-  pub sound : AllSound ms
-  pub fits : AllFit (λ n. ltb n p.next) p.next ms (tree_of (renumbered p shape))
-  pub next : number_behind p.next ms ≡ (renumbered p shape).next
-  pub edits : edits_between p (renumbered p shape) ≡ ops_towards (tree_of p) (tree_of (renumbered p shape)) p.next ms
-  pub replays : replay (ops_towards (tree_of p) (tree_of (renumbered p shape)) p.next ms) (tree_of p) ≡ Done (tree_of (renumbered p shape))
+-- What is known of the marks of nodes whose children may differ and of those that may say something else: what comes is sound and has the next
+-- numbers, and the operations are the edits, which lead to the next tree.
+pub record Operate (p : NumberedPage) (shape : Forest Look) (touched restated : List Marked) : Type 0 where
+  pub sound : AllSound touched
+  pub fits : AllFit (λ n. ltb n p.next) p.next touched (tree_of (renumbered p shape))
+  pub next : number_behind p.next touched ≡ (renumbered p shape).next
+  pub edits : edits_between p (renumbered p shape) ≡ ops_towards (tree_of p) (tree_of (renumbered p shape)) p.next touched restated
+  pub replays : replay (ops_towards (tree_of p) (tree_of (renumbered p shape)) p.next touched restated) (tree_of p) ≡ Done (tree_of (renumbered p shape))
 
-pub operate : (p : NumberedPage) (shape below : Forest Look) (ms : List Marked) → IsPage p → Sound (page_shape p) → IsShape shape →
-    SameOrigin (page_shape p) shape → shape ≡ node 0 Root below none →
-    IsPermutation (marks_in (known_of p) below ++ root_mark (known_of p) below ∷ []) ms → Rising (numbers_of ms) →
-    Operate p shape ms
-operate p shape below ms q snd s so is moved up =
-    let kept : ℕ → Bool = λ n. listed n (numbers_of ms) in
+pub operate : (p : NumberedPage) (shape : Forest Look) (ts0 rs0 ts rs : List Marked) → IsPage p → Sound (page_shape p) → IsShape shape →
+    SameOrigin (page_shape p) shape → Compared p shape ts0 rs0 → IsPermutation ts0 ts → IsPermutation rs0 rs → Rising (numbers_of ts) →
+    Rising (numbers_of rs) → Operate p shape ts rs
+operate p shape ts0 rs0 ts rs q snd s so cmp ts_moved rs_moved ts_up rs_up =
     let old = page_shape p in
     let num = number_of p in
-    let ws = addresses_in (λ c. on c old) below ++ 0 ∷ [] in
-    let mv = moved_so p shape ws (marks_in (known_of p) below ++ root_mark (known_of p) below ∷ []) ms q (all_stood p shape below q s.once is) moved in
-    let cs = map (address_in p) ms in
-    let often_so : (j : ℕ) → often j cs ≡ often j (common old shape) =
-    λ j. mv.often j ∙ often_common old shape below j is (ap (λ (t : Forest (ℕ × Look)). on 0 (looks t)) q.rooted.is) (all_new p shape q s so) in
-    let sees = sees_so old shape cs (common old shape) often_so (whole_law old shape) in
-    let nums : map num cs ≡ numbers_of ms = numbers_so p shape cs ms mv.at in
-    let sorted : ascending_by num cs ≡ cs = stays_sorted num cs (subst Rising (sym nums) up) in
-    let keeps : TellsKept p shape kept =
-    λ a o. ap (listed (num a)) (sym nums) ∙ (same_numbers num cs (common old shape) often_so (num a) ∙ kept_law p shape q a o) in
-    let leads = operations_law p shape kept cs cs q snd s so keeps sees in
-    let gives = marks_law p shape cs cs q s so sees in
+    let kept : ℕ → Bool = is_kept p shape in
+    let staying : ℕ → Bool = λ n. listed n (children_staying ts) in
+    let cs = map (address_in p) ts in
+    let ls = map (address_in p) rs in
+    let ct = moved_so p (IsTouched p shape) cmp.children ts0 ts q (touched_marks p shape) cmp.are_touched ts_moved in
+    let cr = moved_so p (IsRestated p shape) cmp.looks rs0 rs q (restated_marks p shape) cmp.are_restated rs_moved in
+    let sees = sees_so old shape cs cmp.children ls cmp.looks ct.often cr.often cmp.sees in
+    let nums : map num cs ≡ numbers_of ts = numbers_so p (IsTouched p shape) cs ts (touched_marks p shape) ct.at in
+    let told_nums : map num ls ≡ numbers_of rs = numbers_so p (IsRestated p shape) ls rs (restated_marks p shape) cr.at in
+    let sorted : ascending_by num cs ≡ cs = stays_sorted num cs (subst Rising (sym nums) ts_up) in
+    let told_sorted : ascending_by num ls ≡ ls = stays_sorted num ls (subst Rising (sym told_nums) rs_up) in
+    let alike = staying_alike p shape kept cs ts q s so (kept_law p shape q) ct.at sees.children.there in
+    let leads = operations_law p shape kept cs ls q snd s so (kept_law p shape q) sees in
+    let gives = marks_law p shape cs ls q s so sees in
     let order = gives.order ∙ ap (flat_map (λ a. newcomers (λ c. on c old) (kids a shape))) sorted in
-    let fit = all_fit p shape [] cs ms p.next q s so mv.at order (omega arith) in
-    let gone = ap (λ z. map OpRemove (ascending (flat_map (gone_numbers kept (tree_of p)) z))) nums in
-    let moves = ap (flat_map (children_done p shape kept)) sorted ∙ moves_so p shape kept cs ms q s mv.at in
-    let told = ap (flat_map (look_done p shape)) sorted ∙ looks_so p shape cs ms mv.at in
-    let same : operations p shape kept cs cs ≡ ops_towards (tree_of p) (tree_of (renumbered p shape)) p.next ms = (λ i. (gone i ++ moves i) ++ told i) in
+    let fit = all_fit p shape [] cs ts p.next q s so ct.at order (omega arith) in
+    let gone = ap (λ z. map OpRemove (ascending z)) (gone_alike p kept staying cs q alike ∙ ap (flat_map (gone_numbers staying (tree_of p))) nums) in
+    let moves = ap (flat_map (children_done p shape kept)) sorted ∙ (done_alike p shape kept staying cs q alike ∙ moves_so p shape staying cs ts q s ct.at) in
+    let told = ap (flat_map (look_done p shape)) told_sorted ∙ looks_so p shape ls rs cr.at in
+    let same : operations p shape kept cs ls ≡ ops_towards (tree_of p) (tree_of (renumbered p shape)) p.next ts rs = (λ i. (gone i ++ moves i) ++ told i) in
     record {
-      sound = all_sound p shape cs ms s.sound mv.at;
+      sound = all_sound p shape cs ts s.sound ct.at;
       fits = fit.0;
       next = fit.1;
       edits = leads.edits ∙ same;
@@ -114,17 +113,18 @@ all_bring (o ∷ os) h = (brings_one o h.0, all_bring os h.1)
     brings_one (OpAttr n i name value) w = tt
     brings_one (OpUnattr n name) w = tt
 
--- the page and its next shape, with marks by what is known of the page's numbers
-pub compare : (p : NumberedPage) (below : Forest Look) (number : Address → Option ℕ) (tree : Forest Kind) (next : ℕ) (ms : List Marked) →
-    Compares p (node 0 Root below none) number tree next →
-    ((known : ℕ → Option ℕ) → Knows number known → IsPermutation (marks_in known below ++ root_mark known below ∷ []) ms) → Rising (numbers_of ms) →
-    Operate p (node 0 Root below none) ms
-compare p below number tree next ms c marks up =
-    operate p (node 0 Root below none) below ms c.page c.sound c.formed c.origin refl (marks (known_of p) c.knows) up
+-- the page and what is kept of its lines next, with marks by what is known of the page's numbers
+pub compare : (p : NumberedPage) (b : Block) (m : PageMemo) (c : Change) (number : Address → Option ℕ) (tree : Forest Kind) (next : ℕ) (ts rs : List Marked) →
+    Compares p b m c number tree next → ((known : ℕ → Option ℕ) → Knows number known → IsPermutation (touched_in known b m c) ts) →
+    ((known : ℕ → Option ℕ) → Knows number known → IsPermutation (restated_in known b m c) rs) → Rising (numbers_of ts) → Rising (numbers_of rs) →
+    Operate p (lines_shape b m) ts rs
+compare p b m c number tree next ts rs h touched restated ts_up rs_up =
+    operate p (lines_shape b m) (touched_in (known_of p) b m c) (restated_in (known_of p) b m c) ts rs h.page h.sound h.formed h.origin h.compared
+    (touched (known_of p) h.knows) (restated (known_of p) h.knows) ts_up rs_up
 
-pub lead_on : (p : NumberedPage) (shape : Forest Look) (ms : List Marked) (os : List Op) (next : ℕ) → IsPage p → IsShape shape → Operate p shape ms →
-    os ≡ ops_towards (tree_of p) (tree_of (renumbered p shape)) p.next ms → next ≡ number_behind p.next ms → LeadOn p shape os next
-lead_on p shape ms os next q s o e n = record {
+pub lead_on : (p : NumberedPage) (shape : Forest Look) (ts rs : List Marked) (os : List Op) (next : ℕ) → IsPage p → IsShape shape → Operate p shape ts rs →
+    os ≡ ops_towards (tree_of p) (tree_of (renumbered p shape)) p.next ts rs → next ≡ number_behind p.next ts → LeadOn p shape os next
+lead_on p shape ts rs os next q s o e n = record {
   edits = o.edits ∙ sym e;
   replays = ap (λ z. replay z (tree_of p)) e ∙ o.replays;
   brings = subst AllBring (o.edits ∙ sym e) (all_bring (edits_between p (renumbered p shape)) (edits_writable p shape q s));

@@ -1,5 +1,5 @@
 -- A page that is brought up to date, in the terms of the code.
-use Rattle.std.proofs.Common.{◌≡◌, ℕ, ◌+◌, ◌||◌, Bool, true, false, cond, List, [], ◌∷◌, length, length-append, nat_eq, Option, Some, None, refl, sym, ap, subst, ◌∙◌, arith}
+use Rattle.std.proofs.Common.{◌≡◌, ℕ, ◌||◌, Bool, true, false, cond, List, [], ◌∷◌, nat_eq, Option, Some, None, refl, sym, ap, subst, ◌∙◌}
 use Rattle.std.specs.Map.{keys_of}
 use Rattle.std.specs.Prelude.{unwrap_or}
 use Rattle.std.proofs.lemmas.Bool.{false≢true}
@@ -10,17 +10,18 @@ use Rattle.signal_model.specs.Recipes.{Hosts}
 use Rattle.signal_model.specs.Kept.{AreKept}
 use Rattle.signal_model.specs.Standing.{Signals, is_in}
 use Rattle.signal_laws.proofs.Shared.{firsts_hold_law}
-use Rattle.page_model.specs.Forest.{Forest, keys, node, none}
-use Rattle.page_model.specs.Labels.{Kind, Look, Root, Sound, shown}
-use Rattle.page_model.specs.Pages.{IsShape, NumberedPage, SameOrigin, by_number, carried, edits_between, page_shape, renumbered, tree_of, with_numbers}
-use Rattle.page_model.specs.Replay.{Answer, Done, Op, Refused, replay}
-use Rattle.page_tree.specs.Reading.{IsDone}
+use Rattle.page_model.specs.Forest.{Forest, node, none}
+use Rattle.page_model.specs.Labels.{Kind, Root, Sound}
+use Rattle.page_model.specs.Pages.{IsShape, SameOrigin, carried, edits_between, page_shape, renumbered, tree_of, with_numbers}
+use Rattle.page_model.specs.Replay.{Op}
 use Rattle.tpl_found.specs.Updates.{Updates}
 use Rattle.tpl_found.proofs.Shared.{update_law}
-use Rattle.tpl_hearing.specs.Hearing.{AreFromScratch, HaveRows, Hears, Outcomes, Scene, heard_of}
+use Rattle.tpl_hearing.specs.Hearing.{AreFromScratch, Grows, HaveRows, Hears, Outcomes, Scene, heard_of}
+use Rattle.tpl_hearing.specs.HeardAgain.{AreHeardAgain}
 use Rattle.tpl_hearing.proofs.Shared.{heard_scratch}
 use Rattle.tpl_listening.specs.Makings.{Agrees, Makes, lines_memo}
-use Rattle.tpl_listening.specs.Renewals.{WasMadeIfRead}
+use Rattle.tpl_listening.specs.Renewals.{WasMade, WasMadeIfRead}
+use Rattle.tpl_listening.proofs.Shared.{remade, stayed}
 use Rattle.tpl_model.specs.Lines.{Block, Line, block_of}
 use Rattle.tpl_model.specs.Shapes.{Here, row_here}
 use Rattle.tpl_model.specs.Sources.{evaluating, firsts}
@@ -29,14 +30,16 @@ use Rattle.tpl_model.proofs.Shared.{origin_law, shape_law}
 use Rattle.update_laws.specs.PageMemos.{PageMemo, hearing, memo_of, names, nodes}
 use Rattle.update_laws.specs.Updating.{Keeps, memo_on, memo_shape, shape_on}
 use Rattle.update_laws.proofs.Shared.{shape_shown, source_law}
-use Rattle.tpl_live.specs.Pages.{Standing, Stands, numbered_as, outcome_in, page_in, shown_in}
-use Rattle.tpl_live.specs.Plans.{Compares, LeadOn, known_of}
+use Rattle.tpl_live.specs.Pages.{Standing, Stands, lines_shape, numbered_as, outcome_in, page_in}
+use Rattle.tpl_live.specs.Plans.{Carries, Compares}
+use Rattle.compare_laws.specs.Comparing.{Compared, known_of, restated_in, touched_in}
+use Rattle.compare_laws.proofs.Shared.{compare_law}
+use Rattle.tpl_changes.specs.Changes.{Change, Tells}
 use Rattle.tpl_marks.specs.Marks.{Knows}
 use Rattle.tpl_shapes.specs.declared.shown.Address.{Address}
 use Rattle.tpl_live.proofs.Mounted.{numbers_back}
 use Rattle.tpl_live.proofs.Mounting.{AreMade, are_made}
-use Rattle.tpl_live.proofs.Planned.{are_listed}
-use Rattle.tpl_live.proofs.Sourced.{firsts_are, made_right, names_heard}
+use Rattle.tpl_live.proofs.Sourced.{firsts_are, heard_agrees, made_right, names_heard}
 
 -- ---- what was kept
 
@@ -54,8 +57,8 @@ reads_in ns xs e n i = ap (is_in n) (e ∙ sym (firsts_are [] [] xs (λ j. refl)
 
 -- what is kept on what was heard was made wherever the names have these outcomes
 pub was_made : (lines : List Line) (b : Block) (links : List ℕ) (heard : Outcomes) (m : PageMemo) → b ≡ block_of lines →
-    m ≡ memo_on lines links (outcome_in heard) → keys_of heard ≡ firsts [] (names m) → WasMadeIfRead (lines_memo b) links None heard m
-was_made lines b links heard m own is order = record { made = λ u. record { is = λ source agrees here row. go here row source agrees } }
+    m ≡ memo_on lines links (outcome_in heard) → keys_of heard ≡ firsts [] (names m) → WasMade (lines_memo b) links None heard m
+was_made lines b links heard m own is order = record { is = λ source agrees here row. go here row source agrees }
   where
     same : (source : ℕ → Outcome) → Agrees heard source → memo_on lines links (outcome_in heard) ≡ memo_on lines links source
     same source agrees =
@@ -74,9 +77,9 @@ was_made lines b links heard m own is order = record { made = λ u. record { is 
 
 -- what is kept next shows a shape of the same template, to which the page can be carried
 pub record Follows (lines : List Line) (links : List ℕ) (s : Standing) (heard : Outcomes) (m : PageMemo) : Type 0 where
-  pub is : node 0 Root (shown_in s.lines m) none ≡ memo_shape lines m
-  pub formed : IsShape (node 0 Root (shown_in s.lines m) none)
-  pub origin : SameOrigin (page_shape (page_in s)) (node 0 Root (shown_in s.lines m) none)
+  pub is : lines_shape s.lines m ≡ memo_shape lines m
+  pub formed : IsShape (lines_shape s.lines m)
+  pub origin : SameOrigin (page_shape (page_in s)) (lines_shape s.lines m)
   pub updates : Updates lines links (outcome_in heard) m (page_in s) (memo_shape lines m)
 
 pub follows : (lines : List Line) (links : List ℕ) (s : Standing) (heard : Outcomes) (m : PageMemo) → Stands lines links s → AreMade lines links heard m →
@@ -85,8 +88,8 @@ follows lines links s heard m st made =
     let now = outcome_in heard in
     let before = outcome_in s.heard in
     let u = update_law lines links before now s.memo m (page_in s) s.tree st.template st.keeps st.sound made.rows made.memo in
-    let is : node 0 Root (shown_in s.lines m) none ≡ memo_shape lines m = ap (λ z. node 0 Root (nodes None z m) none) st.block in
-    let to : shape_on lines links now ≡ node 0 Root (shown_in s.lines m) none = sym (is ∙ u.shows) in
+    let is : lines_shape s.lines m ≡ memo_shape lines m = ap (λ z. node 0 Root (nodes None z m) none) st.block in
+    let to : shape_on lines links now ≡ lines_shape s.lines m = sym (is ∙ u.shows) in
     let old : shape_on lines links before ≡ page_shape (page_in s) =
     sym (st.keeps.shape ∙ (ap (memo_shape lines) st.keeps.memo ∙ shape_shown lines links before)) in
     record {
@@ -98,25 +101,25 @@ follows lines links s heard m st made =
     }
 
 -- the page that comes next
-abbrev pub next_of : Standing → Outcomes → PageMemo → ℕ → Forest Kind → Standing
-next_of s heard m next tree = record { lines = s.lines; links = s.links; heard = heard; memo = m; next = next; tree = tree }
+abbrev pub next_of : Standing → Outcomes → PageMemo → ℕ → Forest Kind → (Address → Option ℕ) → Standing
+next_of s heard m next tree number = record { lines = s.lines; links = s.links; heard = heard; memo = m; next = next; tree = tree; number = number }
 
 pub record NextStands (lines : List Line) (links : List ℕ) (s t : Standing) (m : PageMemo) : Type 0 where
   pub page : page_in t ≡ renumbered (page_in s) (memo_shape lines m)
   pub stands : Stands lines links t
 
-pub next_stands : (lines : List Line) (links : List ℕ) (s : Standing) (heard : Outcomes) (m : PageMemo) (next : ℕ) (tree : Forest Kind) (os : List Op) →
-    Stands lines links s → AreMade lines links heard m → LeadOn (page_in s) (node 0 Root (shown_in s.lines m) none) os next →
-    tree ≡ tree_of (renumbered (page_in s) (node 0 Root (shown_in s.lines m) none)) → NextStands lines links s (next_of s heard m next tree) m
-next_stands lines links s heard m next tree os st made leads e =
+pub next_stands : (lines : List Line) (links : List ℕ) (s : Standing) (heard : Outcomes) (m : PageMemo) (next : ℕ) (tree : Forest Kind)
+    (number : Address → Option ℕ) (os : List Op) → Stands lines links s → AreMade lines links heard m →
+    Carries (page_in s) (lines_shape s.lines m) os next tree number → NextStands lines links s (next_of s heard m next tree number) m
+next_stands lines links s heard m next tree number os st made carried_there =
     let p = page_in s in
     let shape = memo_shape lines m in
     let f = follows lines links s heard m st made in
-    let trees : tree ≡ tree_of (renumbered p shape) = e ∙ ap (λ z. tree_of (renumbered p z)) f.is in
-    let all : numbered_as (node 0 Root (shown_in s.lines m) none) tree ≡ with_numbers (carried p shape) shape =
+    let trees : tree ≡ tree_of (renumbered p shape) = carried_there.stands ∙ ap (λ z. tree_of (renumbered p z)) f.is in
+    let all : numbered_as (lines_shape s.lines m) tree ≡ with_numbers (carried p shape) shape =
     (λ i. numbered_as (f.is i) (trees i)) ∙ numbers_back (carried p shape) shape in
-    let count : next ≡ (renumbered p shape).next = leads.count ∙ ap (λ z. (renumbered p z).next) f.is in
-    let page : page_in (next_of s heard m next tree) ≡ renumbered p shape = (λ i. record { nodes = all i; next = count i }) in
+    let count : next ≡ (renumbered p shape).next = carried_there.leads.count ∙ ap (λ z. (renumbered p z).next) f.is in
+    let page : page_in (next_of s heard m next tree number) ≡ renumbered p shape = (λ i. record { nodes = all i; next = count i }) in
     record {
       page = page;
       stands = record {
@@ -127,6 +130,7 @@ next_stands lines links s heard m next tree os st made leads e =
             (subst (λ z. Keeps lines links (outcome_in heard) m (renumbered p shape) z) (sym trees) f.updates.keeps);
         sound = subst (λ z. Sound (page_shape z)) (sym page) f.updates.sound;
         names = names_heard (keys_of heard) (names m) made.order;
+        knows = subst (λ z. Knows number (known_of z)) (sym page) (subst (λ z. Knows number (known_of (renumbered p z))) f.is carried_there.knows);
       };
     }
 
@@ -136,84 +140,73 @@ pub record IsCarried (hosts : Hosts) (lines : List Line) (links : List ℕ) (x :
   pub ops : os ≡ (updated hosts x.graph.state.signals lines links x.graph.state.memos (page_in s)).ops
 
 pub is_carried : (x y : Scene) (before after : Hosts → Type 0) (lines : List Line) (links : List ℕ) (first heard : Outcomes) (s : Standing) (m : PageMemo)
-    (next : ℕ) (tree : Forest Kind) (os : List Op) (hosts : Hosts) → first ≡ [] → Hears x y before after first heard → before hosts →
-    AreKept hosts x.graph.state.signals x.graph.state.memos → Stands lines links s → AreMade lines links heard m →
-    LeadOn (page_in s) (node 0 Root (shown_in s.lines m) none) os next →
-    tree ≡ tree_of (renumbered (page_in s) (node 0 Root (shown_in s.lines m) none)) → IsCarried hosts lines links x s (next_of s heard m next tree) os
-is_carried x y before after lines links first heard s m next tree os hosts fresh h all kept st made leads e =
+    (next : ℕ) (tree : Forest Kind) (number : Address → Option ℕ) (os : List Op) (hosts : Hosts) → first ≡ [] → Hears x y before after first heard →
+    before hosts → AreKept hosts x.graph.state.signals x.graph.state.memos → Stands lines links s → AreMade lines links heard m →
+    Carries (page_in s) (lines_shape s.lines m) os next tree number → IsCarried hosts lines links x s (next_of s heard m next tree number) os
+is_carried x y before after lines links first heard s m next tree number os hosts fresh h all kept st made carried_there =
     let w : Signals = x.graph.state.signals in
     let p = page_in s in
     let f = follows lines links s heard m st made in
-    let ns = next_stands lines links s heard m next tree os st made leads e in
+    let ns = next_stands lines links s heard m next tree number os st made carried_there in
     let scratch : AreFromScratch hosts w heard =
     heard_scratch x y before after first heard hosts h all kept (subst (AreFromScratch hosts w) (sym fresh) tt) in
     let right = made_right hosts w lines links heard m made.memo made.order scratch in
     record {
       page = ns.page ∙ ap (renumbered p) (f.updates.shows ∙ right.shape);
-      ops = sym leads.edits ∙ ap (λ z. edits_between p (renumbered p z)) (f.is ∙ (f.updates.shows ∙ right.shape));
+      ops = sym carried_there.leads.edits ∙ ap (λ z. edits_between p (renumbered p z)) (f.is ∙ (f.updates.shows ∙ right.shape));
     }
 
 -- ---- as the code has it
 
 -- what is kept was made
+made_before : (lines : List Line) (links : List ℕ) (s : Standing) → Stands lines links s → WasMade (lines_memo s.lines) links None s.heard s.memo
+made_before lines links s st = was_made lines s.lines links s.heard s.memo st.block st.keeps.memo st.names
+
 pub was_made_there : (lines : List Line) (links : List ℕ) (s : Standing) → Stands lines links s → WasMadeIfRead (lines_memo s.lines) s.links None s.heard s.memo
 was_made_there lines links s st =
-    subst (λ z. WasMadeIfRead (lines_memo s.lines) z None s.heard s.memo) (sym st.linked)
-    (was_made lines s.lines links s.heard s.memo st.block st.keeps.memo st.names)
+    record { made = λ u. subst (λ z. WasMade (lines_memo s.lines) z None s.heard s.memo) (sym st.linked) (made_before lines links s st) }
 
--- what is kept next
-pub made_again : (lines : List Line) (links : List ℕ) (s : Standing) (first heard : Outcomes) (m : PageMemo) → Stands lines links s → first ≡ [] →
-    Makes (lines_memo s.lines) s.links None first heard m → HaveRows heard → AreMade lines links heard m
-made_again lines links s first heard m st fresh made good =
-    are_made lines s.lines links first heard m st.template st.block fresh (subst (λ z. Makes (lines_memo s.lines) z None first heard m) st.linked made) good
+-- where its names have the outcomes of before, it would be made so again
+pub made_still : (lines : List Line) (links : List ℕ) (s : Standing) (first heard : Outcomes) (same : Bool) → Stands lines links s → first ≡ [] → same ≡ true →
+    AreHeardAgain same s.heard (names s.memo) first heard → Makes (lines_memo s.lines) links None [] heard s.memo
+made_still lines links s first heard same st fresh is again =
+    subst (λ z. Makes (lines_memo s.lines) links None z heard s.memo) fresh
+    (stayed s.lines links None s.heard first heard s.memo (made_before lines links s st) (subst (λ z. AreHeardAgain z s.heard (names s.memo) first heard) is again))
 
--- the shape that stands
-pub shape_there : (lines : List Line) (links : List ℕ) (s : Standing) → Stands lines links s → page_shape (page_in s) ≡ node 0 Root (shown_in s.lines s.memo) none
-shape_there lines links s st = st.keeps.shape ∙ sym (ap (λ z. node 0 Root (nodes None z s.memo) none) st.block)
+-- what is kept next, where names were heard first, up to one that has changed
+pub made_anew : (lines : List Line) (links : List ℕ) (s : Standing) (first mid heard : Outcomes) (m : PageMemo) (same : Bool) → Stands lines links s → first ≡ [] →
+    same ≡ false → AreHeardAgain same s.heard (names s.memo) first mid → Grows mid heard → Makes (lines_memo s.lines) s.links None mid heard m → HaveRows heard →
+    AreMade lines links heard m
+made_anew lines links s first mid heard m same st fresh is again grows made good =
+    are_made lines s.lines links first heard m st.template st.block fresh
+    (remade s.lines links None s.heard first mid heard s.memo m (made_before lines links s st)
+    (subst (λ z. AreHeardAgain z s.heard (names s.memo) first mid) is again) grows
+    (subst (λ z. Makes (lines_memo s.lines) z None mid heard m) st.linked made)) good
 
-many_numbers : (t : Forest (ℕ × Look)) → length (keys (by_number t)) ≡ length (keys t)
-many_numbers none = refl
-many_numbers (node a x k r) =
-    let i = many_numbers k in
-    let j = many_numbers r in
-    let u = length-append (keys (by_number k)) (keys (by_number r)) in
-    let v = length-append (keys k) (keys r) in
-    omega (arith, i, j, u, v)
-
--- there is a number for each node that is shown and for the root
-pub numbers_there : (lines : List Line) (links : List ℕ) (s : Standing) → Stands lines links s → length (keys (shown_in s.lines s.memo)) + 1 ≡ length (keys s.tree)
-numbers_there lines links s st =
-    let l = are_listed (page_in s) (shown_in s.lines s.memo) s.tree st.keeps.page (shape_there lines links s st) st.keeps.stands in
-    let a = ap length l.addresses_are in
-    let n = ap length l.numbers_are in
-    let m = many_numbers st.keeps.page.rooted.below in
-    omega (arith, a, n, m)
+-- what became of what is kept tells what has to be compared
+compared_there : (lines : List Line) (links : List ℕ) (s : Standing) (heard : Outcomes) (m : PageMemo) (c : Change) → Stands lines links s →
+    AreMade lines links heard m → Tells s.lines s.links None s.heard m c →
+    Compared (page_in s) (lines_shape s.lines m) (touched_in (known_of (page_in s)) s.lines m c) (restated_in (known_of (page_in s)) s.lines m c)
+compared_there lines links s heard m c st made told =
+    let known : ℕ → Option ℕ = known_of (page_in s) in
+    let told_block : Tells (block_of lines) links None s.heard m c =
+    subst (λ z. Tells (block_of lines) z None s.heard m c) st.linked (subst (λ z. Tells z s.links None s.heard m c) st.block told) in
+    subst (λ z. Compared (page_in s) (lines_shape z m) (touched_in known z m c) (restated_in known z m c)) (sym st.block)
+    (compare_law lines links s.heard (outcome_in s.heard) (outcome_in heard) s.memo m (page_in s) s.tree c st.template (heard_agrees s.heard) st.keeps made.rows made.memo
+    told_block)
 
 -- the page can be compared with what is kept next
-pub compares_there : (lines : List Line) (links : List ℕ) (s : Standing) (heard : Outcomes) (m : PageMemo) (number : Address → Option ℕ) → Stands lines links s →
-    AreMade lines links heard m → Knows number (known_of (page_in s)) → Compares (page_in s) (node 0 Root (shown_in s.lines m) none) number s.tree s.next
-compares_there lines links s heard m number st made k =
+pub compares_there : (lines : List Line) (links : List ℕ) (s : Standing) (heard : Outcomes) (m : PageMemo) (c : Change) → Stands lines links s →
+    AreMade lines links heard m → Tells s.lines s.links None s.heard m c → Compares (page_in s) s.lines m c s.number s.tree s.next
+compares_there lines links s heard m c st made told =
     let f = follows lines links s heard m st made in
     record {
       page = st.keeps.page;
       sound = st.sound;
       formed = f.formed;
       origin = f.origin;
-      knows = k;
+      knows = st.knows;
       stands = st.keeps.stands;
       count = refl;
+      compared = compared_there lines links s heard m c st made told;
     }
-
--- the operations can be done
-pub leads_there : (p : NumberedPage) (shape : Forest Look) (tree : Forest Kind) (os : List Op) (next : ℕ) → tree ≡ tree_of p → LeadOn p shape os next → IsDone (replay os tree)
-leads_there p shape tree os next e l = subst IsDone (sym (ap (replay os) e ∙ l.replays)) tt
-
-tree_in : Answer → Forest Kind
-tree_in (Done t) = t
-tree_in (Refused why) = none
-
--- and this is the tree then
-pub tree_there : (p : NumberedPage) (shape : Forest Look) (tree now : Forest Kind) (os : List Op) (next : ℕ) → tree ≡ tree_of p → LeadOn p shape os next →
-    replay os tree ≡ Done now → now ≡ tree_of (renumbered p shape)
-unfolding tree_in
-tree_there p shape tree now os next e l done = ap tree_in (sym done ∙ (ap (replay os) e ∙ l.replays))

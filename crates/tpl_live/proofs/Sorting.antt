@@ -1,5 +1,5 @@
 -- Marks by ascending numbers.
-use Rattle.std.proofs.Common.{◌≡◌, ℕ, zero, suc, ◌+◌, ◌<◌, ◌≤◌, ◌==◌, ◌||◌, leb, Bool, true, false, cond, List, [], ◌∷◌, ◌++◌, length, map, slice_index_or, refl, sym, ap, subst, ◌∙◌, arith, eqb-true, eq-eqb, inl, inr}
+use Rattle.std.proofs.Common.{◌≡◌, ℕ, zero, suc, ◌<◌, ◌≤◌, ◌==◌, leb, true, false, cond, List, [], ◌∷◌, length, map, slice_index_or, refl, sym, ap, subst, ◌∙◌, arith, eqb-true, eq-eqb, inl, inr}
 use Rattle.std.specs.List.{All, AllByRecursion}
 use Rattle.std.specs.List.Sorted.{IsNonDecreasingBy, IsPermutation}
 use Rattle.std.proofs.lemmas.Bool.{cases_Bool, false≢true, le-leb, true≢false, or_cases}
@@ -11,10 +11,11 @@ use Rattle.page_model.specs.Labels.{Look}
 use Rattle.page_model.specs.Pages.{IsPage, NumberedPage, ascending_by, into_by, number_of, page_shape}
 use Rattle.page_model.proofs.Shared.{or_left, or_right}
 use Rattle.tpl_found.specs.Seeing.{Covers, Sees}
-use Rattle.tpl_found.proofs.Shared.{in_keys, in_map, listed_often, map_in, often_listed, unlisted_often}
+use Rattle.tpl_found.proofs.Shared.{in_keys, listed_often, often_listed}
 use Rattle.tpl_shapes.specs.Shapes.{Marked}
+use Rattle.tpl_live.specs.Plans.{numbers_of}
 use Rattle.update_laws.specs.Differences.{often}
-use Rattle.tpl_live.proofs.Stood.{AreAt, At}
+use Rattle.compare_laws.specs.Comparing.{Each, IsRestated, IsTouched}
 
 -- ---- all of a list
 
@@ -47,27 +48,48 @@ with_number num (b ∷ bs) a h same = elim (cases_Bool (num b == num a)) [
 abbrev pub address_in : NumberedPage → Marked → ℕ
 address_in p m = address_with (number_of p) (keys (page_shape p)) m.number
 
-marked_so : (p : NumberedPage) (shape : Forest Look) (a : ℕ) (m : Marked) → IsPage p → At p shape a m → address_in p m ≡ a
-marked_so p shape a m q at =
-    ap (address_with (number_of p) (keys (page_shape p))) at.number
-    ∙ with_number (number_of p) (keys (page_shape p)) a (in_keys a (page_shape p) ∙ at.here)
-    (λ b i s. q.distinct b a (sym (in_keys b (page_shape p)) ∙ i) at.here s)
+-- marks of nodes of the page, by what is known of each mark and its address
+pub record AreMarks (p : NumberedPage) (Is : ℕ → Marked → Type 0) : Type 0 where
+  pub here : (a : ℕ) (m : Marked) → Is a m → on a (page_shape p) ≡ true
+  pub numbered : (a : ℕ) (m : Marked) → Is a m → m.number ≡ number_of p a
 
-addresses_so : (p : NumberedPage) (shape : Forest Look) (ws : List ℕ) (ms : List Marked) → IsPage p → AreAt p shape ws ms → map (address_in p) ms ≡ ws
-addresses_so p shape [] [] q h = refl
-addresses_so p shape (a ∷ ws) (m ∷ ms) q h = (λ i. marked_so p shape a m q h.0 i ∷ addresses_so p shape ws ms q h.1 i)
-addresses_so p shape [] (m ∷ ms) q h = absurd h
-addresses_so p shape (a ∷ ws) [] q h = absurd h
+pub touched_marks : (p : NumberedPage) (shape : Forest Look) → AreMarks p (IsTouched p shape)
+touched_marks p shape = record { here = λ a m h. h.here; numbered = λ a m h. h.number }
 
-each_so : (p : NumberedPage) (shape : Forest Look) (ws : List ℕ) (ms : List Marked) → IsPage p → AreAt p shape ws ms → AllByRecursion (λ m. At p shape (address_in p m) m) ms
-each_so p shape [] [] q h = tt
-each_so p shape (a ∷ ws) (m ∷ ms) q h = (subst (λ z. At p shape z m) (sym (marked_so p shape a m q h.0)) h.0, each_so p shape ws ms q h.1)
-each_so p shape [] (m ∷ ms) q h = absurd h
-each_so p shape (a ∷ ws) [] q h = absurd h
+pub restated_marks : (p : NumberedPage) (shape : Forest Look) → AreMarks p (IsRestated p shape)
+restated_marks p shape = record { here = λ a m h. h.here; numbered = λ a m h. h.number }
 
-so_again : (p : NumberedPage) (shape : Forest Look) (ms : List Marked) → AllByRecursion (λ m. At p shape (address_in p m) m) ms → AreAt p shape (map (address_in p) ms) ms
-so_again p shape [] h = tt
-so_again p shape (m ∷ ms) h = (h.0, so_again p shape ms h.1)
+marked_so : (p : NumberedPage) (Is : ℕ → Marked → Type 0) (a : ℕ) (m : Marked) → IsPage p → AreMarks p Is → Is a m → address_in p m ≡ a
+marked_so p Is a m q k h =
+    ap (address_with (number_of p) (keys (page_shape p))) (k.numbered a m h)
+    ∙ with_number (number_of p) (keys (page_shape p)) a (in_keys a (page_shape p) ∙ k.here a m h)
+    (λ b i s. q.distinct b a (sym (in_keys b (page_shape p)) ∙ i) (k.here a m h) s)
+
+addresses_so : (p : NumberedPage) (Is : ℕ → Marked → Type 0) (ws : List ℕ) (ms : List Marked) → IsPage p → AreMarks p Is → Each Is ws ms →
+    map (address_in p) ms ≡ ws
+addresses_so p Is [] [] q k h = refl
+addresses_so p Is (a ∷ ws) (m ∷ ms) q k h = (λ i. marked_so p Is a m q k h.0 i ∷ addresses_so p Is ws ms q k h.1 i)
+addresses_so p Is [] (m ∷ ms) q k h = absurd h
+addresses_so p Is (a ∷ ws) [] q k h = absurd h
+
+each_so : (p : NumberedPage) (Is : ℕ → Marked → Type 0) (ws : List ℕ) (ms : List Marked) → IsPage p → AreMarks p Is → Each Is ws ms →
+    AllByRecursion (λ m. Is (address_in p m) m) ms
+each_so p Is [] [] q k h = tt
+each_so p Is (a ∷ ws) (m ∷ ms) q k h = (subst (λ z. Is z m) (sym (marked_so p Is a m q k h.0)) h.0, each_so p Is ws ms q k h.1)
+each_so p Is [] (m ∷ ms) q k h = absurd h
+each_so p Is (a ∷ ws) [] q k h = absurd h
+
+so_again : (p : NumberedPage) (Is : ℕ → Marked → Type 0) (ms : List Marked) → AllByRecursion (λ m. Is (address_in p m) m) ms → Each Is (map (address_in p) ms) ms
+so_again p Is [] h = tt
+so_again p Is (m ∷ ms) h = (h.0, so_again p Is ms h.1)
+
+-- their numbers
+pub numbers_so : (p : NumberedPage) (Is : ℕ → Marked → Type 0) (ws : List ℕ) (ms : List Marked) → AreMarks p Is → Each Is ws ms →
+    map (number_of p) ws ≡ numbers_of ms
+numbers_so p Is [] [] k h = refl
+numbers_so p Is (a ∷ ws) (m ∷ ms) k h = (λ i. sym (k.numbered a m h.0) i ∷ numbers_so p Is ws ms k h.1 i)
+numbers_so p Is [] (m ∷ ms) k h = absurd h
+numbers_so p Is (a ∷ ws) [] k h = absurd h
 
 -- ---- in another order
 
@@ -77,18 +99,19 @@ often_moved j xs ys h =
     ∙ (sum_by-IsPermutation (λ n. one (n == j)) xs ys h ∙ sym (is_sum_by (often j) (λ n. one (n == j)) refl (λ n ns. refl) xs))
 
 -- marks in another order are those of their addresses, which are as many
-pub record AreMoved (p : NumberedPage) (shape : Forest Look) (ws : List ℕ) (ms : List Marked) : Type 0 where
-  pub at : AreAt p shape (map (address_in p) ms) ms
+pub record AreMoved (p : NumberedPage) (Is : ℕ → Marked → Type 0) (ws : List ℕ) (ms : List Marked) : Type 0 where
+  pub at : Each Is (map (address_in p) ms) ms
   pub often : (j : ℕ) → often j (map (address_in p) ms) ≡ often j ws
 
-pub moved_so : (p : NumberedPage) (shape : Forest Look) (ws : List ℕ) (ms ns : List Marked) → IsPage p → AreAt p shape ws ms → IsPermutation ms ns → AreMoved p shape ws ns
-moved_so p shape ws ms ns q h moved = record {
-  at = so_again p shape ns
-      (from_all (λ m. At p shape (address_in p m) m) ns (All-permutation (λ m. At p shape (address_in p m) m) ms ns moved
-      (to_all (λ m. At p shape (address_in p m) m) ms (each_so p shape ws ms q h))));
+pub moved_so : (p : NumberedPage) (Is : ℕ → Marked → Type 0) (ws : List ℕ) (ms ns : List Marked) → IsPage p → AreMarks p Is → Each Is ws ms →
+    IsPermutation ms ns → AreMoved p Is ws ns
+moved_so p Is ws ms ns q k h moved = record {
+  at = so_again p Is ns
+      (from_all (λ m. Is (address_in p m) m) ns (All-permutation (λ m. Is (address_in p m) m) ms ns moved
+      (to_all (λ m. Is (address_in p m) m) ms (each_so p Is ws ms q k h))));
   often = λ j.
       often_moved j (map (address_in p) ms) (map (address_in p) ns) (IsPermutation-map (address_in p) ms ns moved)
-      ∙ ap (often j) (addresses_so p shape ws ms q h);
+      ∙ ap (often j) (addresses_so p Is ws ms q k h);
 }
 
 -- ---- ascending
@@ -130,20 +153,6 @@ covers_so old new Same ws bs e c = record {
   ]);
 }
 
-pub sees_so : (old new : Forest Look) (ws bs : List ℕ) → ((j : ℕ) → often j ws ≡ often j bs) → Sees old new new bs bs → Sees old new new ws ws
-sees_so old new ws bs e s = record { children = covers_so old new _ ws bs e s.children; looks = covers_so old new _ ws bs e s.looks }
-
--- a number is among those of addresses
-pub same_numbers : (num : ℕ → ℕ) (ws bs : List ℕ) → ((j : ℕ) → often j ws ≡ often j bs) → (n : ℕ) → listed n (map num ws) ≡ listed n (map num bs)
-same_numbers num ws bs e n = elim (cases_Bool (listed n (map num ws))) [
-  | inl f ↦ f ∙ sym (go ws bs e f)
-  | inr f ↦ elim (cases_Bool (listed n (map num bs))) [
-    | inl g ↦ absurd (true≢false (sym (go bs ws (λ j. sym (e j)) g) ∙ f))
-    | inr g ↦ f ∙ sym g
-  ]
-]
-  where
-    go : (ws bs : List ℕ) → ((j : ℕ) → often j ws ≡ often j bs) → listed n (map num ws) ≡ true → listed n (map num bs) ≡ true
-    go ws bs e h =
-        let i = in_map num n ws h in
-        subst (λ z. listed z (map num bs) ≡ true) i.2 (map_in num i.0 bs (same_listed ws bs e i.0 i.1))
+pub sees_so : (old new : Forest Look) (ws bs vs ds : List ℕ) → ((j : ℕ) → often j ws ≡ often j bs) → ((j : ℕ) → often j vs ≡ often j ds) →
+    Sees old new new bs ds → Sees old new new ws vs
+sees_so old new ws bs vs ds e f s = record { children = covers_so old new _ ws bs e s.children; looks = covers_so old new _ vs ds f s.looks }

@@ -1,5 +1,5 @@
 -- A page that stands: what it keeps, and the page that this shows.
-use Rattle.std.specs.Prelude.{◌≡◌, ℕ, suc, List, [], ◌∷◌, None, unwrap_or}
+use Rattle.std.specs.Prelude.{◌≡◌, ℕ, suc, List, [], ◌∷◌, Option, None, unwrap_or}
 use Rattle.std.specs.Map.{keys_of}
 use Rattle.sig_base.specs.declared.value.Fault.TheVariants.{Gone}
 use Rattle.sig_base.specs.declared.value.Outcome.{Outcome}
@@ -14,11 +14,14 @@ use Rattle.tpl_model.specs.Lines.{Block, Line, block_of}
 use Rattle.tpl_model.specs.Laws.{IsTemplate}
 use Rattle.tpl_model.specs.Sources.{firsts, in_order}
 use Rattle.tpl_hearing.specs.Hearing.{Outcomes, heard_of}
+use Rattle.tpl_shapes.specs.declared.shown.Address.{Address}
+use Rattle.tpl_marks.specs.Marks.{Knows}
 use Rattle.update_laws.specs.PageMemos.{PageMemo, names, nodes}
 use Rattle.update_laws.specs.Updating.{Keeps}
+use Rattle.compare_laws.specs.Comparing.{known_of}
 
 -- what is kept of a page: the lines and what their names stand for, what was heard of the names, what is kept of the lines, the next unused
--- number, and the tree
+-- number, the tree, and the numbers of its nodes by address
 pub record Standing : Type 0 where
   pub lines : Block
   pub links : List ℕ
@@ -26,10 +29,19 @@ pub record Standing : Type 0 where
   pub memo : PageMemo
   pub next : ℕ
   pub tree : Forest Kind
+  pub number : Address → Option ℕ
+
+-- the nodes that lines show, by what is kept of them
+abbrev pub shown_in : Block → PageMemo → Forest Look
+shown_in b m = nodes None b m
+
+-- the shape of these nodes
+abbrev pub lines_shape : Block → PageMemo → Forest Look
+lines_shape b m = node 0 Root (shown_in b m) none
 
 -- the shape that is shown
 abbrev pub shape_in : Standing → Forest Look
-shape_in s = node 0 Root (nodes None s.lines s.memo) none
+shape_in s = lines_shape s.lines s.memo
 
 -- the nodes of a shape with the numbers of a tree, whose nodes stand at the same places
 abbrev pub numbered_as : Forest Look → Forest Kind → Forest (ℕ × Look)
@@ -44,7 +56,7 @@ page_in s = record { nodes = numbered_as (shape_in s) s.tree; next = s.next }
 abbrev pub outcome_in : Outcomes → ℕ → Outcome
 outcome_in heard n = unwrap_or (heard_of heard n) (Bad Gone)
 
--- a page of these lines stands on what was heard of the names that it read
+-- a page of these lines stands on what was heard of the names that it read, and the numbers of its nodes are known
 pub record Stands (lines : List Line) (links : List ℕ) (s : Standing) : Type 0 where
   pub template : IsTemplate lines
   pub block : s.lines ≡ block_of lines
@@ -52,6 +64,7 @@ pub record Stands (lines : List Line) (links : List ℕ) (s : Standing) : Type 0
   pub keeps : Keeps lines links (outcome_in s.heard) s.memo (page_in s) s.tree
   pub sound : Sound (page_shape (page_in s))
   pub names : keys_of s.heard ≡ firsts [] (names s.memo)
+  pub knows : Knows s.number (known_of (page_in s))
 
 -- so it is for some lines
 pub record IsStanding (s : Standing) : Type 0 where
@@ -64,11 +77,7 @@ abbrev pub inserts : ℕ → Forest Kind → List Op
 inserts i none = []
 inserts i (node n x k r) = OpInsert 0 i n x k ∷ inserts (suc i) r
 
--- the nodes that lines show, by what is kept of them
-abbrev pub shown_in : Block → PageMemo → Forest Look
-shown_in b m = nodes None b m
-
--- these nodes as they stand below the root, numbered in document order
+-- the nodes that lines show as they stand below the root, numbered in document order
 abbrev pub below_in : Block → PageMemo → Forest Kind
 below_in b m = shown (in_order 1 (shown_in b m))
 

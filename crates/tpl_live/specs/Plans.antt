@@ -1,54 +1,80 @@
--- The operations that bring a page up to date, as they are read from the tree that stands by the marks of the nodes that stay.
-use Rattle.std.specs.Prelude.{◌≡◌, ℕ, ltb, Bool, List, [], ◌∷◌, ◌++◌, map, Option, Some, None, if◌then◌else◌}
+-- The operations that bring a page up to date, as they are read from the tree that stands by the marks of the nodes that are compared.
+use Rattle.std.specs.Prelude.{◌≡◌, ℕ, ltb, Bool, true, false, List, [], ◌∷◌, ◌++◌, map, Option}
 use Rattle.std.specs.List.{flat_map}
 use Rattle.page_model.specs.Edits.{ascending, listed}
-use Rattle.page_model.specs.Forest.{Forest, on}
+use Rattle.page_model.specs.Forest.{Forest}
 use Rattle.page_model.specs.Labels.{Kind, Look, Sound}
-use Rattle.page_model.specs.Pages.{IsPage, IsShape, NumberedPage, SameOrigin, edits_between, number_of, page_shape, renumbered, tree_of}
+use Rattle.page_model.specs.Pages.{IsPage, IsShape, NumberedPage, SameOrigin, edits_between, page_shape, renumbered, tree_of}
 use Rattle.page_model.specs.Replay.{Done, Op, OpRemove, replay}
 use Rattle.page_model.specs.Trees.{Brings}
+use Rattle.compare_laws.specs.Comparing.{Compared, known_of, restated_in, touched_in}
+use Rattle.tpl_changes.specs.Changes.{Change}
 use Rattle.tpl_found.specs.Reading.{gone_numbers}
 use Rattle.tpl_looks.specs.Attributes.{mark_told}
 use Rattle.tpl_marks.specs.Marks.{Knows}
+use Rattle.tpl_model.specs.Lines.{Block}
 use Rattle.tpl_moves.specs.Moves.{moved_between}
 use Rattle.tpl_shapes.specs.declared.shown.Address.{Address}
-use Rattle.tpl_shapes.specs.Shapes.{Marked}
-
--- what is known of a page's numbers
-abbrev pub known_of : NumberedPage → ℕ → Option ℕ
-known_of p a = if on a (page_shape p) then Some (number_of p a) else None
+use Rattle.tpl_shapes.specs.Shapes.{Marked, Next, comes, stays}
+use Rattle.update_laws.specs.PageMemos.{PageMemo}
+use Rattle.tpl_live.specs.Pages.{lines_shape}
 
 -- the numbers of marks
 abbrev pub numbers_of : List Marked → List ℕ
 numbers_of ms = map (λ (m : Marked). m.number) ms
 
--- what is removed, what is done to children towards the next tree, and what nodes say; the nodes that stay are those that are marked
-abbrev pub ops_towards : Forest Kind → Forest Kind → ℕ → List Marked → List Op
-ops_towards tree after next ms =
-    let kept : ℕ → Bool = λ n. listed n (numbers_of ms) in
-    (map OpRemove (ascending (flat_map (gone_numbers kept tree) (numbers_of ms))) ++ moved_between (λ n. ltb n next) kept tree after ms)
-    ++ flat_map (mark_told tree) ms
+-- a child's number where it stays
+abbrev pub number_staying : Next → List ℕ
+number_staying (stays n) = n ∷ []
+number_staying (comes t) = []
+
+-- the numbers of those children that stay
+abbrev pub numbers_staying : List Next → List ℕ
+numbers_staying cs = flat_map number_staying cs
+
+-- those of the children of marked nodes
+abbrev pub children_staying : List Marked → List ℕ
+children_staying ms = flat_map (λ (m : Marked). numbers_staying m.children) ms
+
+-- What is removed and what is done to children towards the next tree, by the nodes whose children may differ, and what those nodes say that may
+-- say something else. The other children of these parents are gone.
+abbrev pub ops_towards : Forest Kind → Forest Kind → ℕ → List Marked → List Marked → List Op
+ops_towards tree after next touched restated =
+    let kept : ℕ → Bool = λ n. listed n (children_staying touched) in
+    (map OpRemove (ascending (flat_map (gone_numbers kept tree) (numbers_of touched))) ++ moved_between (λ n. ltb n next) kept tree after touched)
+    ++ flat_map (mark_told tree) restated
 
 -- what each of these brings are nodes
 abbrev pub AllBring : List Op → Type 0
 AllBring [] = Unit {0}
 AllBring (o ∷ os) = Brings o × AllBring os
 
--- A page and the shape that it gets: what is known of the numbers, the tree and the next unused number are those of the page, and the shape comes
--- from the same template.
-pub record Compares (p : NumberedPage) (shape : Forest Look) (number : Address → Option ℕ) (tree : Forest Kind) (next : ℕ) : Type 0 where
+-- whether an operation takes nodes out
+abbrev pub is_removal : Op → Bool
+is_removal (OpRemove n) = true
+is_removal o = false
+
+-- whether the first of these does; removals come before all else
+abbrev pub removes_first : List Op → Bool
+removes_first [] = false
+removes_first (o ∷ os) = is_removal o
+
+-- A page and what is kept of its lines next: what is known of the numbers, the tree and the next unused number are those of the page, the shape comes
+-- from the same template, and what became of what is kept tells what has to be compared.
+pub record Compares (p : NumberedPage) (b : Block) (m : PageMemo) (c : Change) (number : Address → Option ℕ) (tree : Forest Kind) (next : ℕ) : Type 0 where
   pub page : IsPage p
   pub sound : Sound (page_shape p)
-  pub formed : IsShape shape
-  pub origin : SameOrigin (page_shape p) shape
+  pub formed : IsShape (lines_shape b m)
+  pub origin : SameOrigin (page_shape p) (lines_shape b m)
   pub knows : Knows number (known_of p)
   pub stands : tree ≡ tree_of p
   pub count : next ≡ p.next
+  pub compared : Compared p (lines_shape b m) (touched_in (known_of p) b m c) (restated_in (known_of p) b m c)
 
 -- so it is for some page
-pub record CanCompare (shape : Forest Look) (number : Address → Option ℕ) (tree : Forest Kind) (next : ℕ) : Type 0 where
+pub record CanCompare (b : Block) (m : PageMemo) (c : Change) (number : Address → Option ℕ) (tree : Forest Kind) (next : ℕ) : Type 0 where
   pub old : NumberedPage
-  pub compares : Compares old shape number tree next
+  pub compares : Compares old b m c number tree next
 
 -- operations that are the edits to the next page, and lead from this tree to that of the next page
 pub record LeadOn (p : NumberedPage) (shape : Forest Look) (os : List Op) (next : ℕ) : Type 0 where
@@ -56,3 +82,9 @@ pub record LeadOn (p : NumberedPage) (shape : Forest Look) (os : List Op) (next 
   pub replays : replay os (tree_of p) ≡ Done (tree_of (renumbered p shape))
   pub brings : AllBring os
   pub count : next ≡ (renumbered p shape).next
+
+-- they were done, and the numbers by address are those of the next page
+pub record Carries (p : NumberedPage) (shape : Forest Look) (os : List Op) (next : ℕ) (tree : Forest Kind) (number : Address → Option ℕ) : Type 0 where
+  pub leads : LeadOn p shape os next
+  pub stands : tree ≡ tree_of (renumbered p shape)
+  pub knows : Knows number (known_of (renumbered p shape))

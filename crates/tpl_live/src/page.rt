@@ -17,7 +17,7 @@ ghost use Rattle.tpl_live.specs.Pages.{page_in, IsStanding, Stands};
 ghost use Rattle.tpl_live.specs.Standings.{standing};
 
 use crate::first::{First, first_tree};
-use crate::plan::{Plan, apply_all, compared, numbers_of};
+use crate::plan::{PageNodes, carry, numbers_of};
 use page_ops::Op;
 use page_tree::Tree;
 use sig_base::{NoMemory, NodeId};
@@ -29,18 +29,17 @@ use tpl_blocks::{Block, block_of};
 use tpl_hearing::Outcomes;
 use tpl_making::make;
 use tpl_memos::PageMemo;
-use tpl_renewing::renew;
+use tpl_renewing::{Renewed, names_stay, renew};
 use tpl_syntax::Template;
 
-/// A page that is made from a template and stands on signals: what it keeps of the template's lines and of the names that it read, and its tree.
+/// A page that is made from a template and stands on signals: what it keeps of the template's lines and of the names that it read, and its nodes.
 #[derive(Drop)]
 pub struct Page {
     lines: Block,
     links: Vec<NodeId>,
     heard: Outcomes,
     memo: PageMemo,
-    next: u64,
-    tree: Tree,
+    nodes: PageNodes,
 }
 
 impl Page {
@@ -48,7 +47,7 @@ impl Page {
     pub fn tree(&self) -> &Tree
         ensures { result.now ≡ (standing self.now).tree }
     {
-        &self.tree
+        &self.nodes.tree
     }
 
     /// A page of a template whose names are these signals, up to date, and the operations that make it of the bare page: the names that
@@ -89,20 +88,25 @@ impl Page {
         heard.good();
         let first = first_tree(alloc, &lines, &memo)?;
         let First { tree, ops, next } = first;
+        let numbers = numbers_of(alloc, &lines, &memo, &tree)?;
+        let nodes = PageNodes {
+            tree,
+            numbers,
+            next,
+        };
         let page = Page {
             lines,
             links,
             heard,
             memo,
-            next,
-            tree,
+            nodes,
         };
         Ok((page, ops))
     }
 
     /// Brings the page up to date with the signals, and gives the operations that lead there: nodes that stay keep their numbers, and new ones
     /// get the next numbers. The names that its lines read are settled, each once, in the order in which they are first read; a line whose names
-    /// have the outcomes of before isn't evaluated. Host formulas are asked exactly as the runs of this call ask them. Signals stay, and nothing
+    /// have the outcomes of before isn't evaluated, and where all have them, nothing is built. Host formulas are asked exactly as the runs of this call ask them. Signals stay, and nothing
     /// is being evaluated before and after. Without memory graph, shelf and page may only be dropped.
     ///
     /// # Errors
@@ -134,10 +138,21 @@ impl Page {
         ensures counted { OnOk result (⟦<Shelf as Lent>⟧.counted shelf.new) }
     {
         let alloc = *notes.allocator();
-        let numbers = numbers_of(alloc, &self.lines, &self.memo, &self.tree)?;
-        let was = mem::replace(&mut self.memo, PageMemo::blank());
         let mut heard_now = Outcomes::new(alloc);
-        let memo = renew(
+        let same = names_stay(
+            alloc,
+            graph,
+            shelf,
+            &self.heard,
+            &mut heard_now,
+            &self.memo,
+            notes,
+        )?;
+        if same {
+            return Ok(Vec::new(alloc));
+        }
+        let was = mem::replace(&mut self.memo, PageMemo::blank());
+        let renewed = renew(
             alloc,
             graph,
             shelf,
@@ -145,18 +160,16 @@ impl Page {
             &mut heard_now,
             &self.lines,
             was,
-            true,
+            false,
             &self.links,
             None,
             notes,
         )?;
         heard_now.good();
-        let plan = compared(alloc, &self.lines, &memo, &numbers, &self.tree, self.next)?;
-        let Plan { ops, next } = plan;
-        apply_all(alloc, &mut self.tree, &ops)?;
+        let ops = carry(alloc, &self.lines, &renewed, &mut self.nodes)?;
+        let Renewed { memo, .. } = renewed;
         self.heard = heard_now;
         self.memo = memo;
-        self.next = next;
         Ok(ops)
     }
 }

@@ -2,7 +2,7 @@ use Rattle.std.proofs.Common.{◌+◌, drop, map, arith, refl, ap}
 use Rattle.std.proofs.lemmas.List.{drop_all}
 use Rattle.page_model.specs.Replay.{replay}
 use Rattle.page_ops.specs.Ops.{op_of}
-use Rattle.tpl_live.proofs.Planned.{ToDo, all_done, left_split, next_done, next_fits}
+use Rattle.tpl_live.proofs.Planned.{all_done, left_split, next_done, next_fits}
 use Rattle.tpl_live.proofs.plan.apply_all.Goals as goal
 
 pub loop-op-init : goal.loop-op-init

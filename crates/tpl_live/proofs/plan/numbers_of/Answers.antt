@@ -1,4 +1,4 @@
-use Rattle.std.proofs.Common.{◌≡◌, ◌+◌, ◌++◌, length, map, refl, sym, ap, ◌∙◌, arith}
+use Rattle.std.proofs.Common.{◌≡◌, ◌+◌, ◌++◌, length, map, sym, ap, ◌∙◌, arith}
 use Rattle.page_model.specs.Forest.{after, keys}
 use Rattle.tpl_blocks.specs.Blocks.{block}
 use Rattle.tpl_marks.specs.Numbering.{number_at}
@@ -6,7 +6,7 @@ use Rattle.tpl_memos.specs.Kept.{kept}
 use Rattle.tpl_shapes.specs.Addresses.{address_of}
 use Rattle.tpl_shapes.specs.Shapes.{all_shown}
 use Rattle.tpl_live.specs.Pages.{shown_in}
-use Rattle.tpl_live.proofs.Planned.{known_so, many_mapped}
+use Rattle.tpl_live.proofs.Numbered.{known_so, many_mapped}
 use Rattle.tpl_live.proofs.plan.numbers_of.Goals as goal
 
 pub of-requires : goal.of-requires

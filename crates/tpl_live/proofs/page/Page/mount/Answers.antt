@@ -1,9 +1,10 @@
-use Rattle.std.proofs.Common.{map, refl, arith}
+use Rattle.std.proofs.Common.{None, map, refl, arith}
 use Rattle.page_ops.specs.Ops.{op_of}
 use Rattle.tpl_blocks.specs.Blocks.{block, lines_of}
+use Rattle.tpl_marks.specs.Numbering.{number_at}
 use Rattle.tpl_memos.specs.Kept.{kept}
 use Rattle.tpl_live.specs.Pages.{Standing}
-use Rattle.tpl_live.proofs.Mounting.{AreMade, are_made, can_insert, is_updated, stands}
+use Rattle.tpl_live.proofs.Mounting.{AreMade, are_made, can_insert, is_updated, many_mounted, stands}
 use Rattle.tpl_live.proofs.Sourced.{settled_right}
 use Rattle.tpl_live.proofs.page.Page.mount.Goals as goal
 
@@ -22,6 +23,25 @@ first_tree-requires g c =
     c.new-heard.ensures (rw c.deref.ensures.value at c.in_ok-memo.ensures.made) c.good.ensures in
     can_insert lines own c.args.links.items c.make.new.heard (kept c.in_ok-memo.memo) c.in_ok-lines.ensures made
 
+pub numbers_of-requires : goal.numbers_of-requires
+numbers_of-requires g c =
+    let lines = lines_of c.args.template.now in
+    let own = block c.in_ok-lines.lines in
+    let made : AreMade lines c.args.links.items c.make.new.heard (kept c.in_ok-memo.memo) =
+    are_made lines own c.args.links.items c.new-heard.result c.make.new.heard (kept c.in_ok-memo.memo) c.requires.template c.in_ok-lines.ensures
+    c.new-heard.ensures (rw c.deref.ensures.value at c.in_ok-memo.ensures.made) c.good.ensures in
+    let first = c.in_ok-first.first in
+    let s : Standing = record {
+      lines = own;
+      links = c.args.links.items;
+      heard = c.make.new.heard;
+      memo = kept c.in_ok-memo.memo;
+      next = first.next;
+      tree = first.tree;
+      number = λ a. None;
+    } in
+    many_mounted lines c.args.links.items s c.in_ok-lines.ensures made c.in_ok-first.ensures.next c.in_ok-first.ensures.tree
+
 pub returns-clause-stands : goal.returns-clause-stands
 returns-clause-stands g c =
     let lines = lines_of c.args.template.now in
@@ -37,8 +57,9 @@ returns-clause-stands g c =
       memo = kept c.in_ok-memo.memo;
       next = first.next;
       tree = first.tree;
+      number = number_at c.in_ok-numbers.numbers;
     } in
-    stands lines c.args.links.items s c.in_ok-lines.ensures refl made c.in_ok-first.ensures.next c.in_ok-first.ensures.tree
+    stands lines c.args.links.items s c.in_ok-lines.ensures refl made c.in_ok-first.ensures.next c.in_ok-first.ensures.tree c.in_ok-numbers.ensures
 
 pub returns-clause-page : goal.returns-clause-page
 returns-clause-page g c = λ hosts all stay.
@@ -55,6 +76,7 @@ returns-clause-page g c = λ hosts all stay.
       memo = kept c.in_ok-memo.memo;
       next = first.next;
       tree = first.tree;
+      number = number_at c.in_ok-numbers.numbers;
     } in
     (is_updated _ _ _ _ lines c.args.links.items c.new-heard.result s (map op_of first.ops.items) hosts c.new-heard.ensures c.in_ok-memo.ensures.after all stay
     c.in_ok-lines.ensures made c.in_ok-first.ensures.next c.in_ok-first.ensures.tree c.in_ok-first.ensures.ops).page
@@ -74,6 +96,7 @@ returns-clause-ops g c = λ hosts all stay.
       memo = kept c.in_ok-memo.memo;
       next = first.next;
       tree = first.tree;
+      number = number_at c.in_ok-numbers.numbers;
     } in
     (is_updated _ _ _ _ lines c.args.links.items c.new-heard.result s (map op_of first.ops.items) hosts c.new-heard.ensures c.in_ok-memo.ensures.after all stay
     c.in_ok-lines.ensures made c.in_ok-first.ensures.next c.in_ok-first.ensures.tree c.in_ok-first.ensures.ops).ops

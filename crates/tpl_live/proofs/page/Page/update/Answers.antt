@@ -1,129 +1,115 @@
-use Rattle.std.proofs.Common.{◌≡◌, map, refl, arith, ap, ◌∙◌}
-use Rattle.page_model.specs.Forest.{node, none}
-use Rattle.page_model.specs.Labels.{Root}
+use Rattle.std.proofs.Common.{None, map, arith, ap, ◌∙◌}
 use Rattle.page_ops.specs.Ops.{op_of}
+use Rattle.tpl_changes.specs.Changes.{Tells, changed}
+use Rattle.tpl_hearing.proofs.Shared.{then_heard}
 use Rattle.tpl_marks.specs.Numbering.{number_at}
 use Rattle.tpl_memos.specs.Kept.{kept}
-use Rattle.tpl_live.specs.Pages.{page_in, shown_in}
-use Rattle.tpl_live.specs.Plans.{LeadOn}
+use Rattle.tpl_live.specs.Pages.{page_in}
 use Rattle.tpl_live.specs.Standings.{standing}
 use Rattle.tpl_live.proofs.Mounting.{AreMade}
-use Rattle.tpl_live.proofs.Renewed.{compares_there, is_carried, leads_there, made_again, next_stands, numbers_there, shape_there, tree_there, was_made_there}
-use Rattle.tpl_live.proofs.Sourced.{settled_right}
+use Rattle.tpl_live.proofs.Renewed.{compares_there, is_carried, made_anew, made_still, next_stands, was_made_there}
+use Rattle.tpl_live.proofs.Quiet.{is_quiet}
+use Rattle.tpl_live.proofs.Sourced.{made_on, settled_right}
 use Rattle.tpl_live.proofs.page.Page.update.Goals as goal
 
-pub numbers_of-requires : goal.numbers_of-requires
-numbers_of-requires g c = numbers_there c.requires.stands.lines c.requires.stands.links (standing c.args.self.now) c.requires.stands.stands
-
-pub renew-requires-clause-can : goal.renew-requires-clause-can
-renew-requires-clause-can g c =
+pub names_stay-requires-clause-can : goal.names_stay-requires-clause-can
+names_stay-requires-clause-can g c =
     let worn = c.requires.worn in
     let room = c.requires.room in
     record { idle = c.requires.idle; there = c.requires.there; worn = omega (arith, worn); room = omega (arith, room) }
 
+pub returns-then-same-clause-stands : goal.returns-then-same-clause-stands
+returns-then-same-clause-stands g c = λ lines links st. st
+
+pub returns-then-same-clause-page : goal.returns-then-same-clause-page
+returns-then-same-clause-page g c = λ lines links st hosts all stay.
+    let s = standing c.args.self.now in
+    let made = made_still lines links s c.new-heard_now.result c.names_stay.new.heard c.in_ok-same.same st c.new-heard_now.ensures c.if-same.true c.in_ok-same.ensures.again in
+    (is_quiet _ _ _ _ lines links c.new-heard_now.result c.names_stay.new.heard s hosts c.new-heard_now.ensures c.in_ok-same.ensures.after all stay st made).page
+
+pub returns-then-same-clause-ops : goal.returns-then-same-clause-ops
+returns-then-same-clause-ops g c = λ lines links st hosts all stay.
+    let s = standing c.args.self.now in
+    let made = made_still lines links s c.new-heard_now.result c.names_stay.new.heard c.in_ok-same.same st c.new-heard_now.ensures c.if-same.true c.in_ok-same.ensures.again in
+    ap (map op_of) c.new.ensures.items
+    ∙ (is_quiet _ _ _ _ lines links c.new-heard_now.result c.names_stay.new.heard s hosts c.new-heard_now.ensures c.in_ok-same.ensures.after all stay st made).ops
+
+pub returns-then-same-clause-settles : goal.returns-then-same-clause-settles
+returns-then-same-clause-settles g c = λ lines links st.
+    let s = standing c.args.self.now in
+    let made = made_still lines links s c.new-heard_now.result c.names_stay.new.heard c.in_ok-same.same st c.new-heard_now.ensures c.if-same.true c.in_ok-same.ensures.again in
+    settled_right _ _ _ _ lines links c.new-heard_now.result c.names_stay.new.heard s.memo c.new-heard_now.ensures c.in_ok-same.ensures.after
+    (made_on lines s.lines links c.names_stay.new.heard s.memo st.block made) made.order
+
 pub renew-requires-clause-was : goal.renew-requires-clause-was
 renew-requires-clause-was g c = rw (c.deref.ensures.value, c.replace-was.ensures.value) (was_made_there c.requires.stands.lines c.requires.stands.links (standing c.args.self.now) c.requires.stands.stands)
 
-pub compared-requires : goal.compared-requires
-compared-requires g c =
-    let s = standing c.args.self.now in
+pub carry-requires : goal.carry-requires
+carry-requires g c =
     let lines = c.requires.stands.lines in
     let links = c.requires.stands.links in
     let st = c.requires.stands.stands in
-    let m = kept c.in_ok-memo.memo in
-    let made : AreMade lines links c.renew.new.heard m =
-    made_again lines links s c.new-heard_now.result c.renew.new.heard m st c.new-heard_now.ensures (rw c.deref.ensures.value at c.in_ok-memo.ensures.made) c.good.ensures in
-    let knows = c.in_ok-numbers.ensures (page_in s) st.keeps.page (shape_there lines links s st) st.keeps.stands in
-    let compares = compares_there lines links s c.renew.new.heard m (number_at c.in_ok-numbers.numbers) st made knows in
-    record { old = page_in s; compares = compares }
-
-pub apply_all-requires-clause-brings : goal.apply_all-requires-clause-brings
-apply_all-requires-clause-brings g c =
     let s = standing c.args.self.now in
-    let lines = c.requires.stands.lines in
-    let links = c.requires.stands.links in
-    let st = c.requires.stands.stands in
-    let m = kept c.in_ok-memo.memo in
+    let m = kept c.in_ok-renewed.renewed.memo in
     let made : AreMade lines links c.renew.new.heard m =
-    made_again lines links s c.new-heard_now.result c.renew.new.heard m st c.new-heard_now.ensures (rw c.deref.ensures.value at c.in_ok-memo.ensures.made) c.good.ensures in
-    let knows = c.in_ok-numbers.ensures (page_in s) st.keeps.page (shape_there lines links s st) st.keeps.stands in
-    let compares = compares_there lines links s c.renew.new.heard m (number_at c.in_ok-numbers.numbers) st made knows in
-    let os = map op_of c.in_ok-plan.plan.ops.items in
-    let next = c.in_ok-plan.plan.next in
-    let leads : LeadOn (page_in s) (node 0 Root (shown_in s.lines m) none) os next = c.in_ok-plan.ensures (page_in s) compares in
-    rw c.deref-2.ensures.value leads.brings
-
-pub apply_all-requires-clause-leads : goal.apply_all-requires-clause-leads
-apply_all-requires-clause-leads g c =
-    let s = standing c.args.self.now in
-    let lines = c.requires.stands.lines in
-    let links = c.requires.stands.links in
-    let st = c.requires.stands.stands in
-    let m = kept c.in_ok-memo.memo in
-    let made : AreMade lines links c.renew.new.heard m =
-    made_again lines links s c.new-heard_now.result c.renew.new.heard m st c.new-heard_now.ensures (rw c.deref.ensures.value at c.in_ok-memo.ensures.made) c.good.ensures in
-    let knows = c.in_ok-numbers.ensures (page_in s) st.keeps.page (shape_there lines links s st) st.keeps.stands in
-    let compares = compares_there lines links s c.renew.new.heard m (number_at c.in_ok-numbers.numbers) st made knows in
-    let os = map op_of c.in_ok-plan.plan.ops.items in
-    let next = c.in_ok-plan.plan.next in
-    let leads : LeadOn (page_in s) (node 0 Root (shown_in s.lines m) none) os next = c.in_ok-plan.ensures (page_in s) compares in
-    rw c.deref-2.ensures.value
-    (leads_there (page_in s) (node 0 Root (shown_in s.lines m) none) s.tree os next st.keeps.stands leads)
+    made_anew lines links s c.new-heard_now.result c.names_stay.new.heard c.renew.new.heard m c.in_ok-same.same st c.new-heard_now.ensures c.if-same.false
+    c.in_ok-same.ensures.again c.in_ok-renewed.ensures.after.grows (rw c.deref.ensures.value at c.in_ok-renewed.ensures.made) c.good.ensures in
+    let change = changed c.in_ok-renewed.renewed.change in
+    let told : Tells s.lines s.links None s.heard m change = rw c.deref.ensures.value at c.in_ok-renewed.ensures.told in
+    record { old = page_in s; compares = compares_there lines links s c.renew.new.heard m change st made told }
 
 pub returns-clause-stands : goal.returns-clause-stands
 returns-clause-stands g c = λ lines links st.
     let s = standing c.args.self.now in
-    let m = kept c.in_ok-memo.memo in
+    let m = kept c.in_ok-renewed.renewed.memo in
     let made : AreMade lines links c.renew.new.heard m =
-    made_again lines links s c.new-heard_now.result c.renew.new.heard m st c.new-heard_now.ensures (rw c.deref.ensures.value at c.in_ok-memo.ensures.made) c.good.ensures in
-    let knows = c.in_ok-numbers.ensures (page_in s) st.keeps.page (shape_there lines links s st) st.keeps.stands in
-    let compares = compares_there lines links s c.renew.new.heard m (number_at c.in_ok-numbers.numbers) st made knows in
-    let os = map op_of c.in_ok-plan.plan.ops.items in
-    let next = c.in_ok-plan.plan.next in
-    let leads : LeadOn (page_in s) (node 0 Root (shown_in s.lines m) none) os next = c.in_ok-plan.ensures (page_in s) compares in
-    let tree = c.apply_all.new.tree in
-    let there = tree_there (page_in s) (node 0 Root (shown_in s.lines m) none) s.tree tree os next st.keeps.stands leads
-    (rw c.deref-2.ensures.value at c.in_ok-apply_all.ensures) in
-    (next_stands lines links s c.renew.new.heard m next tree os st made leads there).stands
+    made_anew lines links s c.new-heard_now.result c.names_stay.new.heard c.renew.new.heard m c.in_ok-same.same st c.new-heard_now.ensures c.if-same.false
+    c.in_ok-same.ensures.again c.in_ok-renewed.ensures.after.grows (rw c.deref.ensures.value at c.in_ok-renewed.ensures.made) c.good.ensures in
+    let change = changed c.in_ok-renewed.renewed.change in
+    let told : Tells s.lines s.links None s.heard m change = rw c.deref.ensures.value at c.in_ok-renewed.ensures.told in
+    let carried = c.in_ok-ops.ensures (page_in s) (compares_there lines links s c.renew.new.heard m change st made told) in
+    let os = map op_of c.in_ok-ops.ops.items in
+    let next = c.carry.new.nodes.next in
+    let number = number_at c.carry.new.nodes.numbers in
+    (next_stands lines links s c.renew.new.heard m next c.carry.new.nodes.tree number os st made carried).stands
 
 pub returns-clause-page : goal.returns-clause-page
 returns-clause-page g c = λ lines links st hosts all stay.
     let s = standing c.args.self.now in
-    let m = kept c.in_ok-memo.memo in
+    let m = kept c.in_ok-renewed.renewed.memo in
     let made : AreMade lines links c.renew.new.heard m =
-    made_again lines links s c.new-heard_now.result c.renew.new.heard m st c.new-heard_now.ensures (rw c.deref.ensures.value at c.in_ok-memo.ensures.made) c.good.ensures in
-    let knows = c.in_ok-numbers.ensures (page_in s) st.keeps.page (shape_there lines links s st) st.keeps.stands in
-    let compares = compares_there lines links s c.renew.new.heard m (number_at c.in_ok-numbers.numbers) st made knows in
-    let os = map op_of c.in_ok-plan.plan.ops.items in
-    let next = c.in_ok-plan.plan.next in
-    let leads : LeadOn (page_in s) (node 0 Root (shown_in s.lines m) none) os next = c.in_ok-plan.ensures (page_in s) compares in
-    let tree = c.apply_all.new.tree in
-    let there = tree_there (page_in s) (node 0 Root (shown_in s.lines m) none) s.tree tree os next st.keeps.stands leads
-    (rw c.deref-2.ensures.value at c.in_ok-apply_all.ensures) in
-    (is_carried _ _ _ _ lines links c.new-heard_now.result c.renew.new.heard s m next tree os hosts c.new-heard_now.ensures c.in_ok-memo.ensures.after all stay st made leads
-    there).page
+    made_anew lines links s c.new-heard_now.result c.names_stay.new.heard c.renew.new.heard m c.in_ok-same.same st c.new-heard_now.ensures c.if-same.false
+    c.in_ok-same.ensures.again c.in_ok-renewed.ensures.after.grows (rw c.deref.ensures.value at c.in_ok-renewed.ensures.made) c.good.ensures in
+    let change = changed c.in_ok-renewed.renewed.change in
+    let told : Tells s.lines s.links None s.heard m change = rw c.deref.ensures.value at c.in_ok-renewed.ensures.told in
+    let carried = c.in_ok-ops.ensures (page_in s) (compares_there lines links s c.renew.new.heard m change st made told) in
+    let os = map op_of c.in_ok-ops.ops.items in
+    let next = c.carry.new.nodes.next in
+    let number = number_at c.carry.new.nodes.numbers in
+    (is_carried _ _ _ _ lines links c.new-heard_now.result c.renew.new.heard s m next c.carry.new.nodes.tree number os hosts c.new-heard_now.ensures
+    (then_heard _ _ _ _ _ _ _ _ _ c.in_ok-same.ensures.after c.in_ok-renewed.ensures.after) all stay st made carried).page
 
 pub returns-clause-ops : goal.returns-clause-ops
 returns-clause-ops g c = λ lines links st hosts all stay.
     let s = standing c.args.self.now in
-    let m = kept c.in_ok-memo.memo in
+    let m = kept c.in_ok-renewed.renewed.memo in
     let made : AreMade lines links c.renew.new.heard m =
-    made_again lines links s c.new-heard_now.result c.renew.new.heard m st c.new-heard_now.ensures (rw c.deref.ensures.value at c.in_ok-memo.ensures.made) c.good.ensures in
-    let knows = c.in_ok-numbers.ensures (page_in s) st.keeps.page (shape_there lines links s st) st.keeps.stands in
-    let compares = compares_there lines links s c.renew.new.heard m (number_at c.in_ok-numbers.numbers) st made knows in
-    let os = map op_of c.in_ok-plan.plan.ops.items in
-    let next = c.in_ok-plan.plan.next in
-    let leads : LeadOn (page_in s) (node 0 Root (shown_in s.lines m) none) os next = c.in_ok-plan.ensures (page_in s) compares in
-    let tree = c.apply_all.new.tree in
-    let there = tree_there (page_in s) (node 0 Root (shown_in s.lines m) none) s.tree tree os next st.keeps.stands leads
-    (rw c.deref-2.ensures.value at c.in_ok-apply_all.ensures) in
-    (is_carried _ _ _ _ lines links c.new-heard_now.result c.renew.new.heard s m next tree os hosts c.new-heard_now.ensures c.in_ok-memo.ensures.after all stay st made leads
-    there).ops
+    made_anew lines links s c.new-heard_now.result c.names_stay.new.heard c.renew.new.heard m c.in_ok-same.same st c.new-heard_now.ensures c.if-same.false
+    c.in_ok-same.ensures.again c.in_ok-renewed.ensures.after.grows (rw c.deref.ensures.value at c.in_ok-renewed.ensures.made) c.good.ensures in
+    let change = changed c.in_ok-renewed.renewed.change in
+    let told : Tells s.lines s.links None s.heard m change = rw c.deref.ensures.value at c.in_ok-renewed.ensures.told in
+    let carried = c.in_ok-ops.ensures (page_in s) (compares_there lines links s c.renew.new.heard m change st made told) in
+    let os = map op_of c.in_ok-ops.ops.items in
+    let next = c.carry.new.nodes.next in
+    let number = number_at c.carry.new.nodes.numbers in
+    (is_carried _ _ _ _ lines links c.new-heard_now.result c.renew.new.heard s m next c.carry.new.nodes.tree number os hosts c.new-heard_now.ensures
+    (then_heard _ _ _ _ _ _ _ _ _ c.in_ok-same.ensures.after c.in_ok-renewed.ensures.after) all stay st made carried).ops
 
 pub returns-clause-settles : goal.returns-clause-settles
 returns-clause-settles g c = λ lines links st.
     let s = standing c.args.self.now in
-    let m = kept c.in_ok-memo.memo in
+    let m = kept c.in_ok-renewed.renewed.memo in
     let made : AreMade lines links c.renew.new.heard m =
-    made_again lines links s c.new-heard_now.result c.renew.new.heard m st c.new-heard_now.ensures (rw c.deref.ensures.value at c.in_ok-memo.ensures.made) c.good.ensures in
-    settled_right _ _ _ _ lines links c.new-heard_now.result c.renew.new.heard m c.new-heard_now.ensures c.in_ok-memo.ensures.after made.memo made.order
+    made_anew lines links s c.new-heard_now.result c.names_stay.new.heard c.renew.new.heard m c.in_ok-same.same st c.new-heard_now.ensures c.if-same.false
+    c.in_ok-same.ensures.again c.in_ok-renewed.ensures.after.grows (rw c.deref.ensures.value at c.in_ok-renewed.ensures.made) c.good.ensures in
+    settled_right _ _ _ _ lines links c.new-heard_now.result c.renew.new.heard m c.new-heard_now.ensures (then_heard _ _ _ _ _ _ _ _ _ c.in_ok-same.ensures.after c.in_ok-renewed.ensures.after) made.memo made.order

@@ -1,0 +1,38 @@
+use Rattle.std.proofs.Common.{map}
+use Rattle.page_ops.specs.Ops.{op_of}
+use Rattle.tpl_blocks.specs.Blocks.{block}
+use Rattle.tpl_changes.specs.Changes.{changed}
+use Rattle.tpl_marks.specs.Numbering.{number_at}
+use Rattle.tpl_memos.specs.Kept.{kept}
+use Rattle.tpl_live.specs.Pages.{lines_shape}
+use Rattle.tpl_live.proofs.Carried.{carried_on, many_now}
+use Rattle.tpl_live.proofs.Planned.{leads_there}
+use Rattle.tpl_live.proofs.plan.carry.Goals as goal
+
+pub apply_all-requires-clause-brings : goal.apply_all-requires-clause-brings
+apply_all-requires-clause-brings c =
+    rw c.deref.ensures.value (c.in_ok-plan.ensures c.requires.old c.requires.compares).brings
+
+pub apply_all-requires-clause-leads : goal.apply_all-requires-clause-leads
+apply_all-requires-clause-leads c =
+    let shape = lines_shape (block c.args.lines.now) (kept c.args.renewed.now.memo) in
+    let plan = c.in_ok-plan.plan in
+    rw c.deref.ensures.value
+    (leads_there c.requires.old shape c.args.nodes.now.tree (map op_of plan.ops.items) plan.next c.requires.compares.stands
+    (c.in_ok-plan.ensures c.requires.old c.requires.compares))
+
+pub renumber-requires : goal.renumber-requires
+renumber-requires c =
+    let plan = c.in_ok-plan.plan in
+    let nodes = c.args.nodes.now in
+    many_now c.requires.old (block c.args.lines.now) (kept c.args.renewed.now.memo) (changed c.args.renewed.now.change) (number_at nodes.numbers) nodes.tree
+    c.apply_all.new.tree nodes.next (map op_of plan.ops.items) plan.next c.requires.compares (c.in_ok-plan.ensures c.requires.old c.requires.compares)
+    (rw c.deref.ensures.value at c.in_ok-apply_all.ensures)
+
+pub returns : goal.returns
+returns c = λ p cmp.
+    let plan = c.in_ok-plan.plan in
+    let nodes = c.args.nodes.now in
+    carried_on p (block c.args.lines.now) (kept c.args.renewed.now.memo) (changed c.args.renewed.now.change) (number_at nodes.numbers)
+    (number_at c.renumber.new.numbers) nodes.tree c.apply_all.new.tree nodes.next (map op_of plan.ops.items) plan.next c.is_still-still.result cmp
+    (c.in_ok-plan.ensures p cmp) (rw c.deref.ensures.value at c.in_ok-apply_all.ensures) c.is_still-still.ensures c.in_ok-renumber.ensures
