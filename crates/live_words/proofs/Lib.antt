@@ -1,2 +1,3 @@
+mod Few
 mod Numerals
 mod Parses

@@ -1,6 +1,6 @@
 -- Decimal texts of numbers of rounds.
 use Rattle.std.proofs.Common.{◌≡◌, ℕ, zero, suc, ◌<◌, ◌≤◌, ◌^◌, true, false, List, [], ◌∷◌, length, get_or, refl, sym, ap, ◌∙◌, arith, inl, inr, Some, None, Err, rules}
-use Rattle.std.specs.Prelude.{◌==◌, nat_le}
+use Rattle.std.specs.Prelude.{◌==◌, nat_le, IfSome}
 use Rattle.std.specs.Cmp.Lexicographic.{same_text}
 use Rattle.std.specs.Fmt.{decimal}
 use Rattle.std.specs.Str.{all_ascii_digits, bytes_eq}
@@ -130,3 +130,11 @@ pub read : (text : List ℕ) (n : ℕ) → begins_plainly text ≡ true → IsPa
 read text n begun parses few =
     let is = parsed text n begun parses in
     some_of text n (record { some = some_value n text begun is; few = few; is = is })
+
+-- whatever a text writes, the rounds are few
+pub few_rounds : (text : List ℕ) → IfSome (rounds_of text) (λ n. n ≤ MOST_ROUNDS)
+unfolding rounds_of
+few_rounds text = elim (cases_Bool (writes_rounds text (digits_value 10 text))) [
+  | inl e ↦ rw e (writes text (digits_value 10 text) e).few
+  | inr e ↦ rw e tt
+]

@@ -1,11 +1,12 @@
 -- What the words of the command line ask for.
-use Rattle.std.specs.Prelude.{Bool, true, false, List, [], ◌∷◌, Option, Some, None, option_map, codes, if◌then◌else◌}
+use Rattle.std.specs.Prelude.{◌≤◌, Bool, true, false, List, [], ◌∷◌, Option, Some, None, option_map, codes, if◌then◌else◌}
 use Rattle.std.specs.Option.{option_map_or}
 use Rattle.std.specs.Str.{bytes_eq}
 use Rattle.clap.specs.Words.{App, Kinds, Row, Rule, Text, fault_of, first_of, matches_of, new_app, new_rule, with_rule}
 use Rattle.clap.specs.declared.builder.ArgAction.TheVariants.{Set, SetTrue}
 use Rattle.live_words.specs.declared.jobs.Job.{Job}
 use Rattle.live_words.specs.declared.jobs.Job.TheVariants as job
+use Rattle.live_words.specs.declared.jobs.TheConstants.{MOST_ROUNDS}
 use Rattle.live_words.specs.Rounds.{rounds_of}
 
 -- a value that has to be there
@@ -56,3 +57,9 @@ unless_refused (k ∷ ks) j = None
 -- the job of words that the command takes, of which the first is the program's name
 abbrev pub job_of : List Text → Option Job
 job_of words = unless_refused (fault_of live words) (job_of_rows (matches_of live words))
+
+-- a workload has at most `MOST_ROUNDS` rounds
+abbrev pub HasFewRounds : Job → Type 0
+HasFewRounds job.Run = Unit {0}
+HasFewRounds job.Trace = Unit {0}
+HasFewRounds (job.Bench n) = n ≤ MOST_ROUNDS

@@ -2,10 +2,12 @@
 #![tactic(auto)]
 
 mod jobs;
+mod laws;
 mod rounds;
 mod words;
 
 pub use jobs::{Job, MOST_ROUNDS};
+pub use laws::rounds_are_few;
 pub use words::read_job;
 
 #[cfg(test)]
