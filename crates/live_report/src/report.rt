@@ -1,0 +1,146 @@
+// How a job reports what the items of a script come to.
+ghost use Rattle.std.specs.Prelude.{◌≡◌, ◌≤◌, ◌<◌, ◌+◌, ◌^◌, ◌++◌, List, [], ◌∷◌, IfOk, OnOk, flat_map};
+ghost use Rattle.std.specs.List.{AllByRecursion};
+ghost use Rattle.live_cmd.specs.declared.command.Item.{Item as AnItem};
+ghost use Rattle.live_entries.specs.declared.entry.Entry.{Entry as AnEntry};
+ghost use Rattle.live_entries.specs.Printed.{printed, IsSizedEntry};
+ghost use Rattle.live_report.specs.Reports.{counted, output_of, still};
+
+use crate::counting::{no_counts, page_after, with_entries, with_item};
+use bench_workload::{Counts, put_summary};
+use live_cmd::Item;
+use live_entries::{Entry, PageBytes, entry_line};
+use live_words::Job;
+use sig_base::NoMemory;
+use std::alloc::Global;
+
+/// How a job reports what the items of a script come to.
+#[derive(Drop)]
+pub enum Report {
+    /// By the lines of what they tell, as they come, those of a trace too or not.
+    Lines {
+        trace: bool,
+    },
+    /// By a summary at the end: the rounds of the workload, what was counted, and the page as it was told last.
+    Summary {
+        rounds: u32,
+        counts: Counts,
+        page: PageBytes,
+    },
+}
+
+fn put_entries(out: &mut Vec<u8>, entries: &[Entry], trace: bool) -> Result<(), NoMemory>
+    ensures text { OnOk result (out.new.items ≡ out.old.items ++ flat_map (printed trace) entries.now) }
+    ensures sized { OnOk result (AllByRecursion IsSizedEntry entries.now) }
+{
+    for entry in entries {
+        entry_line(out, entry, trace)?;
+    }
+    Ok(())
+}
+
+// Makes the lines that a run prints and lets them go, so that a workload does all that a run does.
+fn make_lines(alloc: Global, entries: &[Entry]) -> Result<(), NoMemory>
+    ensures { OnOk result (AllByRecursion IsSizedEntry entries.now) }
+{
+    let mut lines = Vec::new(alloc);
+    put_entries(&mut lines, entries, false)
+}
+
+impl Report {
+    /// The report of a job, before the first item. With all items and all that they tell it prints what the job prints.
+    ///
+    /// # Errors
+    ///
+    /// `NoMemory` where it finds no room.
+    #[tactic(auto, unfolding(crate::specs::Reports::still, crate::specs::Reports::counted))]
+    pub fn new(alloc: Global, job: Job) -> Result<Report, NoMemory>
+        ensures prints { IfOk result (λ r. (is : List AnItem) (es : List AnEntry) → still r is es ≡ output_of job is es) }
+        ensures counted { IfOk result (λ r. counted r ≡ 0) }
+    {
+        match job {
+            Job::Run => Ok(Report::Lines { trace: false }),
+            Job::Trace => Ok(Report::Lines { trace: true }),
+            Job::Bench(rounds) => Ok(Report::Summary {
+                rounds,
+                counts: no_counts(),
+                page: PageBytes::of(alloc, Vec::new(alloc))?,
+            }),
+        }
+    }
+
+    /// The report with one more item, before what it tells is known.
+    #[tactic(auto, unfolding(crate::specs::Reports::still, crate::specs::Reports::counted))]
+    pub fn with_item(self, item: &Item) -> Report
+        requires { counted self < 2 ^ 127 }
+        ensures prints { (is : List AnItem) (es : List AnEntry) → still result is es ≡ still self (item.now ∷ is) es }
+        ensures counted { counted result ≤ counted self + 1 }
+    {
+        match self {
+            Report::Lines { trace } => Report::Lines { trace },
+            Report::Summary {
+                rounds,
+                counts,
+                page,
+            } => Report::Summary {
+                rounds,
+                counts: with_item(counts, item),
+                page,
+            },
+        }
+    }
+
+    /// The report with what an item told. Lines that are printed of it now are appended.
+    ///
+    /// # Errors
+    ///
+    /// `NoMemory` where it finds no room; the report is gone, and a front of the lines may be appended.
+    #[tactic(auto, unfolding(crate::specs::Reports::still, crate::specs::Reports::counted))]
+    pub fn with_entries(self, out: &mut Vec<u8>, entries: &[Entry]) -> Result<Report, NoMemory>
+        requires { counted self < 2 ^ 127 }
+        ensures prints { IfOk result (λ r. (is : List AnItem) (es : List AnEntry) → out.new.items ++ still r is es ≡ out.old.items ++ still self is (entries.now ++ es)) }
+        ensures sized { OnOk result (AllByRecursion IsSizedEntry entries.now) }
+        ensures counted { IfOk result (λ r. counted r ≤ counted self + 2 ^ 64) }
+    {
+        match self {
+            Report::Lines { trace } => {
+                put_entries(out, entries, trace)?;
+                Ok(Report::Lines { trace })
+            }
+            Report::Summary {
+                rounds,
+                counts,
+                page,
+            } => {
+                make_lines(*out.allocator(), entries)?;
+                Ok(Report::Summary {
+                    rounds,
+                    counts: with_entries(counts, entries),
+                    page: page_after(page, entries)?,
+                })
+            }
+        }
+    }
+
+    /// Ends the report: the lines that are printed when no item is left are appended.
+    ///
+    /// # Errors
+    ///
+    /// `NoMemory` where it finds no room; a front of the lines may be appended.
+    #[tactic(auto, unfolding(crate::specs::Reports::still, crate::specs::Reports::counted))]
+    pub fn end(self, out: &mut Vec<u8>) -> Result<(), NoMemory>
+        ensures { OnOk result (out.new.items ≡ out.old.items ++ still self [] []) }
+    {
+        match self {
+            Report::Lines { .. } => Ok(()),
+            Report::Summary {
+                rounds,
+                counts,
+                page,
+            } => {
+                put_summary(out, rounds, counts, page.as_slice())?;
+                Ok(())
+            }
+        }
+    }
+}
