@@ -1,4 +1,3 @@
-pub mod Jobs
 pub mod Labels
 pub mod Linking
 pub mod Machine
