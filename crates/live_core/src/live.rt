@@ -72,6 +72,7 @@ impl Live {
         ensures kept { IfOk result ⟦<Live as Running>⟧.kept }
         ensures counted { IfOk result (λ l. ⟦<Shelf as Lent>⟧.counted l.shelf) }
         ensures done { IfOk result (λ l. l.done ≡ 0) }
+        ensures whole { IfOk result (λ l. l.broken ≡ false) }
     {
         let shelf = Shelf::new(alloc, hosts)?;
         let machine = machine::Machine::new(alloc)?;
