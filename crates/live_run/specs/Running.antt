@@ -1,23 +1,38 @@
--- What is printed by what the caller lends, what pages show, and how much of a source is read.
-use Rattle.std.specs.Prelude.{◌≤◌, ◌+◌, ℕ, List, Option, length}
+-- What a job runs and prints, by what the caller lends, what pages show, and how much of a source is read.
+use Rattle.std.specs.Prelude.{◌≤◌, ◌+◌, ℕ, Bool, true, false, List, Option, Some, length}
 use Rattle.std.specs.Io.KnownBytes.{Consumes}
 use Rattle.sig_base.specs.declared.limits.TheConstants.{MOST_SCRIPT}
 use Rattle.sig_io.specs.Counts.{raised}
 use Rattle.sig_host.specs.Hosts.{Meaning, hosts_of}
 use Rattle.effect_model.specs.Worlds.{Environment}
+use Rattle.bench_workload.specs.Workload.{workload_text}
+use Rattle.live_words.specs.declared.jobs.Job.{Job}
+use Rattle.live_words.specs.declared.jobs.Job.TheVariants as job
 use Rattle.live_cmd.specs.declared.command.Item.{Item}
-use Rattle.live_model.specs.declared.jobs.Job.{Job}
+use Rattle.live_report.specs.Reports.{output_of}
 use Rattle.live_model.specs.Machine.{empty}
-use Rattle.live_model.specs.Output.{output_of}
+use Rattle.live_model.specs.Output.{entries_from}
 use Rattle.page_laws.specs.LivePages.{IsLive, LendsRows}
+
+-- whether a job reads the source
+abbrev pub reads : Job → Bool
+reads job.Run = true
+reads job.Trace = true
+reads (job.Bench n) = false
+
+-- the script that a job runs, where this is left in the source: that, or the generated workload
+abbrev pub script_of : Job → Option (List ℕ) → Option (List ℕ)
+script_of job.Run left = left
+script_of job.Trace left = left
+script_of (job.Bench n) left = Some (workload_text n)
 
 -- the host formulas of these meanings, and equality rules with these slacks
 abbrev pub lent : List Meaning → List ℕ → Environment
 lent meanings slacks = record { hosts = hosts_of meanings; slacks = slacks }
 
--- what a job prints of a script with these items, where these host formulas and rules are lent
+-- what a job prints of a script with these items, by what they tell from the empty machine on, where these host formulas and rules are lent
 abbrev pub lent_output : List Meaning → List ℕ → Job → List Item → List ℕ
-lent_output meanings slacks j is = output_of (lent meanings slacks) (length meanings) j is
+lent_output meanings slacks j is = output_of j is (entries_from (lent meanings slacks) (empty (length meanings)) is)
 
 -- The pages of these items are live from the first item to the last, where these host formulas and rules are lent. The formulas are to make
 -- no rows but such with distinct keys.

@@ -1,10 +1,8 @@
-//! Runs a script from a source to a sink.
+//! Does what the words of a command line ask for: runs a script from a source, or a generated one, and prints to a sink.
 #![tactic(auto)]
 
-mod jobs;
 mod reading;
 mod running;
 
-pub use jobs::read_job;
-pub use reading::{ReadEnd, read_all};
+pub use reading::{ReadEnd, read_all, script_for};
 pub use running::{MOST_HOSTS, MOST_RULES, Status, run_live};

@@ -1,11 +1,14 @@
-// All the bytes of a source, up to a limit.
-ghost use Rattle.std.specs.Prelude.{◌≡◌, ◌≤◌, ◌<◌, length, IfOk, OnErr, OnOk, IsErrOf, IfSome};
+// All the bytes of a source, up to a limit, and the script of a job.
+ghost use Rattle.std.specs.Prelude.{◌≡◌, ◌≤◌, ◌<◌, true, false, length, IfOk, OnErr, OnOk, IsErrOf, IfSome};
 ghost use Rattle.std.specs.Io.KnownBytes.{Consumes, IsAtEnd};
 ghost use Rattle.sig_io.specs.Counts.{Rose};
-ghost use Rattle.live_run.specs.Running.{ConsumesFront, GaveTooMuch};
+ghost use Rattle.live_words.specs.Jobs.{HasFewRounds};
+ghost use Rattle.live_run.specs.Running.{reads, script_of, ConsumesFront, GaveTooMuch};
 ghost use Rattle.live_run.specs.declared.reading.ReadEnd.TheVariants.{Memory};
 
-use sig_base::{Failed, MOST_SCRIPT};
+use bench_workload::bench_script;
+use live_words::Job;
+use sig_base::{Failed, MOST_SCRIPT, NoMemory};
 use sig_io::Source;
 use std::alloc::{AllocError, Global};
 use thiserror::Error;
@@ -25,6 +28,14 @@ impl From<AllocError> for ReadEnd {
     ghost from_gives = { λ _ e. e ≡ Memory };
 
     fn from(_: AllocError) -> Self {
+        ReadEnd::Memory
+    }
+}
+
+impl From<NoMemory> for ReadEnd {
+    ghost from_gives = { λ _ e. e ≡ Memory };
+
+    fn from(_: NoMemory) -> Self {
         ReadEnd::Memory
     }
 }
@@ -56,5 +67,27 @@ pub fn read_all<S: Source>(alloc: Global, source: &mut S) -> Result<Vec<u8>, Rea
             return Err(ReadEnd::TooLong);
         }
         bytes.extend_from_slice(&buf[..count])?;
+    }
+}
+
+/// The script of a job: the generated workload, for which the source is left as it is and only memory may be wanting, or all that the source
+/// has. `Fault` only where the source failed, and `TooLong` only once more than 4,194,304 bytes came; where the source tells its bytes,
+/// `TooLong` only where it had more than these.
+///
+/// It asks of its caller that a workload has at most `MOST_ROUNDS` rounds.
+pub fn script_for<S: Source>(alloc: Global, job: Job, source: &mut S) -> Result<Vec<u8>, ReadEnd>
+    requires { HasFewRounds job }
+    ensures script { IfOk result (λ bytes. IfSome (script_of job (S.left source.old)) (λ script. script ≡ bytes.items)) }
+    ensures short { IfOk result (λ bytes. length bytes.items ≤ MOST_SCRIPT) }
+    ensures end { OnOk result (reads job ≡ true → IsAtEnd (S.left source.new)) }
+    ensures untouched { reads job ≡ false → source.new ≡ source.old }
+    ensures memory { reads job ≡ false → OnErr result (IsErrOf result ReadEnd.Memory) }
+    ensures fault { IsErrOf result ReadEnd.Fault → Rose (S.faults source.old) (S.faults source.new) }
+    ensures long { IsErrOf result ReadEnd.TooLong → GaveTooMuch (S.given source.old) (S.given source.new) }
+    ensures told { IsErrOf result ReadEnd.TooLong → IfSome (script_of job (S.left source.old)) (λ script. MOST_SCRIPT < length script) }
+{
+    match job {
+        Job::Run | Job::Trace => read_all(alloc, source),
+        Job::Bench(rounds) => Ok(bench_script(alloc, rounds)?),
     }
 }

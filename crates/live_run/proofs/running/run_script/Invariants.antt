@@ -1,8 +1,9 @@
-use Rattle.std.proofs.Common.{◌≡◌, ◌≤◌, ◌+◌, ◌-◌, false, is_some, length, drop, map, option_map}
+use Rattle.std.proofs.Common.{◌≡◌, ◌≤◌, ◌+◌, ◌-◌, ◌*◌, ◌^◌, false, is_some, length, drop, map, option_map}
 use Rattle.sig_host.specs.Hosts.{AnswersBy, IsCounted, hosts_of}
 use Rattle.effect_world.specs.Agreeing.{IsSound}
 use Rattle.live_core.specs.Keeping.{IsKept}
 use Rattle.live_core.specs.Views.{plain_of}
+use Rattle.live_report.specs.Reports as reports
 use Rattle.live_run.specs.Running.{lent, lent_output, Lives}
 use Rattle.live_run.proofs.Output.{SoFar}
 use Rattle.live_run.proofs.running.run_script.Given as goal
@@ -12,7 +13,7 @@ invariant-loop-out g l = record {
   told : SoFar (lent (map (λ h. (goal.HostFormula-dyn g (h.vtable, h.value)).step_of h.value) l.fn.hosts.items) (map (λ r. r.slack) l.fn.rules.items))
       (lent_output (map (λ h. (goal.HostFormula-dyn g (h.vtable, h.value)).step_of h.value) l.fn.hosts.items) (map (λ r. r.slack) l.fn.rules.items) l.fn.job)
       (Lives (map (λ h. (goal.HostFormula-dyn g (h.vtable, h.value)).step_of h.value) l.fn.hosts.items) (map (λ r. r.slack) l.fn.rules.items))
-      (g.K.Sink.held l.fn.sink) (g.K.Sink.held l.sink) l.script l.line (drop l.at l.script) l.trace
+      (g.K.Sink.held l.fn.sink) (g.K.Sink.held l.sink) l.script l.line (drop l.at l.script) l.report
       (plain_of (map (λ p. record { there = is_some p.host; asks = p.count }) l.live.shelf.places.items) l.live.machine) l.out.items;
   kept : IsKept (map (λ p. record { there = is_some p.host; asks = p.count }) l.live.shelf.places.items) (length l.live.rules.items) l.live.machine l.live.done
       l.live.broken;
@@ -23,6 +24,7 @@ invariant-loop-out g l = record {
       (map (λ p. record { there = is_some p.host; asks = p.count }) l.live.shelf.places.items) l.live.machine.world;
   answers : AnswersBy (hosts_of (map (λ h. (goal.HostFormula-dyn g (h.vtable, h.value)).step_of h.value) l.fn.hosts.items))
       (map (λ p. option_map (λ h. (goal.HostFormula-dyn g (h.vtable, h.value)).step_of h.value) p.host) l.live.shelf.places.items);
+  little : reports.counted l.report ≤ l.at * 2 ^ 65;
   done : l.live.done ≤ l.at;
   within : l.at ≤ length l.script;
   few : l.line ≤ 1 + l.at;
