@@ -23,3 +23,5 @@ mod rows;
 mod run;
 #[cfg(test)]
 mod watchers;
+#[cfg(test)]
+mod workload;
