@@ -10,7 +10,7 @@ ghost use Rattle.tpl_blocks.specs.Blocks.{block, waiting};
 ghost use Rattle.tpl_changes.specs.Changes as model;
 ghost use Rattle.tpl_changes.specs.Changes.{chain, changed, first_in, is_stays};
 ghost use Rattle.tpl_marks.specs.Marks.{Knows};
-ghost use Rattle.tpl_marks.specs.Numbering.{number_at};
+ghost use Rattle.tpl_marks.specs.Numbering.{number_on};
 ghost use Rattle.tpl_memos.specs.Kept.{kept, rows_from};
 ghost use Rattle.tpl_nodes.specs.Shown.{attributes_of, inside_of, rows_of, shows};
 ghost use Rattle.tpl_shapes.specs.Shapes.{mark_of};
@@ -25,7 +25,7 @@ use sig_formula::Formula;
 use std::alloc::Global;
 use tpl_blocks::Block;
 use tpl_changes::Change;
-use tpl_marks::Numbers;
+use tpl_marks::PageNodes;
 use tpl_memos::PageMemo;
 use tpl_nodes::{attributes_of, fits, inside_of, later_of, shows};
 use tpl_shapes::{Child, Look, Mark};
@@ -60,19 +60,19 @@ fn compare_first(
     lines: &Block,
     memo: &PageMemo,
     inside: &[Change],
-    numbers: &Numbers,
+    page: &PageNodes,
     children: &mut Vec<Child>,
     out: &mut Compared,
 ) -> Result<(), NoMemory>
-    ensures { (known : ℕ → Option ℕ) → Knows (number_at numbers.now) known →
+    ensures { (known : ℕ → Option ℕ) → Knows (number_on page.now) known →
         OnOk result (walk_of children.new.items out.new ≡ further (walk_of children.old.items out.old)
         (of_lines known (option_copied key.entry) (block lines.now) (kept memo.now) (first_in (chain (map changed inside.now))))) }
 {
     let Some(change) = inside.first() else {
-        put_made(alloc, key, lines, memo, numbers, children, out)?;
+        put_made(alloc, key, lines, memo, page, children, out)?;
         return Ok(());
     };
-    compare_lines(alloc, key, lines, memo, change, numbers, children, out)?;
+    compare_lines(alloc, key, lines, memo, change, page, children, out)?;
     Ok(())
 }
 
@@ -85,10 +85,10 @@ fn compare_inside(
     inner: &Block,
     memo: &PageMemo,
     inside: &[Change],
-    numbers: &Numbers,
+    page: &PageNodes,
     out: &mut Compared,
 ) -> Result<(), NoMemory>
-    ensures { (known : ℕ → Option ℕ) → Knows (number_at numbers.now) known →
+    ensures { (known : ℕ → Option ℕ) → Knows (number_on page.now) known →
         OnOk result (walk_of [] out.new ≡ further (walk_of [] out.old)
         (of_inside known (option_copied key.entry) number (block inner.now) (kept memo.now) (chain (map changed inside.now)))) }
 {
@@ -96,7 +96,7 @@ fn compare_inside(
         return Ok(());
     }
     let mut children = Vec::new(alloc);
-    compare_first(alloc, key, inner, memo, inside, numbers, &mut children, out)?;
+    compare_first(alloc, key, inner, memo, inside, page, &mut children, out)?;
     out.touched.push(Mark {
         number,
         look: None,
@@ -116,10 +116,10 @@ fn compare_kept(
     inner: &Block,
     memo: &PageMemo,
     inside: &[Change],
-    numbers: &Numbers,
+    page: &PageNodes,
     out: &mut Compared,
 ) -> Result<(), NoMemory>
-    ensures { (known : ℕ → Option ℕ) → Knows (number_at numbers.now) known →
+    ensures { (known : ℕ → Option ℕ) → Knows (number_on page.now) known →
         OnOk result (walk_of [] out.new ≡ further (walk_of [] out.old)
         (of_marks known (option_copied key.entry) (Some number) (label.Element name.now (values (waiting attributes.now) (attributes_of (kept memo.now))))
         (block inner.now) (inside_of (kept memo.now)) (chain (map changed inside.now)))) }
@@ -131,7 +131,7 @@ fn compare_kept(
         inner,
         inside_of(memo),
         inside,
-        numbers,
+        page,
         out,
     )?;
     let mut values = Vec::new(alloc);
@@ -156,24 +156,24 @@ fn compare_element(
     inner: &Block,
     memo: &PageMemo,
     inside: &[Change],
-    numbers: &Numbers,
+    page: &PageNodes,
     children: &mut Vec<Child>,
     out: &mut Compared,
 ) -> Result<(), NoMemory>
-    ensures { (known : ℕ → Option ℕ) → Knows (number_at numbers.now) known →
+    ensures { (known : ℕ → Option ℕ) → Knows (number_on page.now) known →
         OnOk result (walk_of children.new.items out.new ≡ further (walk_of children.old.items out.old)
         (of_element known (option_copied key.entry) (address line (option_copied key.entry))
         (label.Element name.now (values (waiting attributes.now) (attributes_of (kept memo.now))))
         (block inner.now) (inside_of (kept memo.now)) (chain (map changed inside.now)))) }
 {
     let number = put_kept(
-        alloc, line, key, name, attributes, inner, memo, numbers, children,
+        alloc, line, key, name, attributes, inner, memo, page, children,
     )?;
     let Some(number) = number else {
         return Ok(());
     };
     compare_kept(
-        alloc, number, key, name, attributes, inner, memo, inside, numbers, out,
+        alloc, number, key, name, attributes, inner, memo, inside, page, out,
     )?;
     Ok(())
 }
@@ -187,11 +187,11 @@ fn compare_branch(
     lines: &Block,
     memo: &PageMemo,
     inside: &[Change],
-    numbers: &Numbers,
+    page: &PageNodes,
     children: &mut Vec<Child>,
     out: &mut Compared,
 ) -> Result<(), NoMemory>
-    ensures { (known : ℕ → Option ℕ) → Knows (number_at numbers.now) known →
+    ensures { (known : ℕ → Option ℕ) → Knows (number_on page.now) known →
         OnOk result (walk_of children.new.items out.new ≡ further (walk_of children.old.items out.old)
         (where_gone (shows (kept memo.now) first)
         (of_lines known (option_copied key.entry) (block lines.now) (inside_of (kept memo.now)) (first_in (chain (map changed inside.now)))))) }
@@ -205,7 +205,7 @@ fn compare_branch(
         lines,
         inside_of(memo),
         inside,
-        numbers,
+        page,
         children,
         out,
     )?;
@@ -220,28 +220,19 @@ fn compare_row(
     inner: &Block,
     memo: &PageMemo,
     change: Option<&Change>,
-    numbers: &Numbers,
+    page: &PageNodes,
     children: &mut Vec<Child>,
     out: &mut Compared,
 ) -> Result<(), NoMemory>
-    ensures { (known : ℕ → Option ℕ) → Knows (number_at numbers.now) known →
+    ensures { (known : ℕ → Option ℕ) → Knows (number_on page.now) known →
         OnOk result (walk_of children.new.items out.new ≡ further (walk_of children.old.items out.old)
         (of_lines known (Some key.now) (block inner.now) (kept memo.now) (or_stays (option_copied change.entry)))) }
 {
     let Some(change) = change else {
-        put_staying(alloc, Some(key), inner, memo, numbers, children)?;
+        put_staying(alloc, Some(key), inner, memo, page, children)?;
         return Ok(());
     };
-    compare_lines(
-        alloc,
-        Some(key),
-        inner,
-        memo,
-        change,
-        numbers,
-        children,
-        out,
-    )?;
+    compare_lines(alloc, Some(key), inner, memo, change, page, children, out)?;
     Ok(())
 }
 
@@ -253,11 +244,11 @@ fn compare_rows(
     rows: &[Row],
     memos: &[PageMemo],
     inside: &[Change],
-    numbers: &Numbers,
+    page: &PageNodes,
     children: &mut Vec<Child>,
     out: &mut Compared,
 ) -> Result<(), NoMemory>
-    ensures { (known : ℕ → Option ℕ) → Knows (number_at numbers.now) known → (t : Table) (i : ℕ) →
+    ensures { (known : ℕ → Option ℕ) → Knows (number_on page.now) known → (t : Table) (i : ℕ) →
         OnOk result (walk_of children.new.items out.new ≡ further (walk_of children.old.items out.old)
         (of_rows known (block inner.now) (rows_from t i rows.now (map kept memos.now)) (chain (map changed inside.now)))) }
 {
@@ -266,7 +257,7 @@ fn compare_rows(
             return Ok(());
         };
         let change = inside.get(place);
-        compare_row(alloc, &row.key, inner, memo, change, numbers, children, out)?;
+        compare_row(alloc, &row.key, inner, memo, change, page, children, out)?;
     }
     Ok(())
 }
@@ -278,11 +269,11 @@ fn compare_each(
     inner: &Block,
     memo: &PageMemo,
     inside: &[Change],
-    numbers: &Numbers,
+    page: &PageNodes,
     children: &mut Vec<Child>,
     out: &mut Compared,
 ) -> Result<(), NoMemory>
-    ensures { (known : ℕ → Option ℕ) → Knows (number_at numbers.now) known →
+    ensures { (known : ℕ → Option ℕ) → Knows (number_on page.now) known →
         OnOk result (walk_of children.new.items out.new ≡ further (walk_of children.old.items out.old)
         (of_rows known (block inner.now) (rows_of (kept memo.now)) (chain (map changed inside.now)))) }
 {
@@ -294,7 +285,7 @@ fn compare_each(
                 rows_in(&heard.outcome),
                 memos,
                 inside,
-                numbers,
+                page,
                 children,
                 out,
             )?;
@@ -317,11 +308,11 @@ fn compare_parts(
     memo: &PageMemo,
     inside: &[Change],
     later: &Change,
-    numbers: &Numbers,
+    page: &PageNodes,
     children: &mut Vec<Child>,
     out: &mut Compared,
 ) -> Result<(), NoMemory>
-    ensures { (known : ℕ → Option ℕ) → Knows (number_at numbers.now) known →
+    ensures { (known : ℕ → Option ℕ) → Knows (number_on page.now) known →
         OnOk result (walk_of children.new.items out.new ≡ further (walk_of children.old.items out.old)
         (of_lines known (option_copied key.entry) (block lines.now) (kept memo.now) (model.over (chain (map changed inside.now)) (changed later.now)))) }
 {
@@ -332,28 +323,26 @@ fn compare_parts(
     match lines {
         Block::Empty => Ok(()),
         Block::Text(line, _, rest) => {
-            put_text_again(alloc, *line, key, memo, numbers, children, out)?;
-            compare_lines(alloc, key, rest, behind, later, numbers, children, out)?;
+            put_text_again(alloc, *line, key, memo, page, children, out)?;
+            compare_lines(alloc, key, rest, behind, later, page, children, out)?;
             Ok(())
         }
         Block::Tag(line, name, attributes, inner, rest) => {
             compare_element(
-                alloc, *line, key, name, attributes, inner, memo, inside, numbers, children, out,
+                alloc, *line, key, name, attributes, inner, memo, inside, page, children, out,
             )?;
-            compare_lines(alloc, key, rest, behind, later, numbers, children, out)?;
+            compare_lines(alloc, key, rest, behind, later, page, children, out)?;
             Ok(())
         }
         Block::Choice(_, one, other, rest) => {
-            compare_branch(alloc, true, key, one, memo, inside, numbers, children, out)?;
-            compare_branch(
-                alloc, false, key, other, memo, inside, numbers, children, out,
-            )?;
-            compare_lines(alloc, key, rest, behind, later, numbers, children, out)?;
+            compare_branch(alloc, true, key, one, memo, inside, page, children, out)?;
+            compare_branch(alloc, false, key, other, memo, inside, page, children, out)?;
+            compare_lines(alloc, key, rest, behind, later, page, children, out)?;
             Ok(())
         }
         Block::Each(_, inner, rest) => {
-            compare_each(alloc, inner, memo, inside, numbers, children, out)?;
-            compare_lines(alloc, key, rest, behind, later, numbers, children, out)?;
+            compare_each(alloc, inner, memo, inside, page, children, out)?;
+            compare_lines(alloc, key, rest, behind, later, page, children, out)?;
             Ok(())
         }
     }
@@ -368,27 +357,25 @@ fn compare_lines(
     lines: &Block,
     memo: &PageMemo,
     change: &Change,
-    numbers: &Numbers,
+    page: &PageNodes,
     children: &mut Vec<Child>,
     out: &mut Compared,
 ) -> Result<(), NoMemory>
-    ensures { (known : ℕ → Option ℕ) → Knows (number_at numbers.now) known →
+    ensures { (known : ℕ → Option ℕ) → Knows (number_on page.now) known →
         OnOk result (walk_of children.new.items out.new ≡ further (walk_of children.old.items out.old)
         (of_lines known (option_copied key.entry) (block lines.now) (kept memo.now) (changed change.now))) }
 {
     match change {
         Change::Stays => {
-            put_staying(alloc, key, lines, memo, numbers, children)?;
+            put_staying(alloc, key, lines, memo, page, children)?;
             Ok(())
         }
         Change::Made => {
-            put_made(alloc, key, lines, memo, numbers, children, out)?;
+            put_made(alloc, key, lines, memo, page, children, out)?;
             Ok(())
         }
         Change::Over(inside, later) => {
-            compare_parts(
-                alloc, key, lines, memo, inside, later, numbers, children, out,
-            )?;
+            compare_parts(alloc, key, lines, memo, inside, later, page, children, out)?;
             Ok(())
         }
     }
@@ -400,11 +387,11 @@ fn all_compared(
     lines: &Block,
     memo: &PageMemo,
     change: &Change,
-    numbers: &Numbers,
+    page: &PageNodes,
 ) -> Result<Compared, NoMemory>
-    ensures touched { (known : ℕ → Option ℕ) → Knows (number_at numbers.now) known →
+    ensures touched { (known : ℕ → Option ℕ) → Knows (number_on page.now) known →
         IfOk result (λ r. map mark_of r.touched.items ≡ touched_in known (block lines.now) (kept memo.now) (changed change.now)) }
-    ensures restated { (known : ℕ → Option ℕ) → Knows (number_at numbers.now) known →
+    ensures restated { (known : ℕ → Option ℕ) → Knows (number_on page.now) known →
         IfOk result (λ r. map mark_of r.restated.items ≡ restated_in known (block lines.now) (kept memo.now) (changed change.now)) }
 {
     let mut out = Compared {
@@ -418,7 +405,7 @@ fn all_compared(
         lines,
         memo,
         change,
-        numbers,
+        page,
         &mut children,
         &mut out,
     )?;
@@ -442,16 +429,16 @@ pub fn compared(
     lines: &Block,
     memo: &PageMemo,
     change: &Change,
-    numbers: &Numbers,
+    page: &PageNodes,
 ) -> Result<Compared, NoMemory>
-    ensures touched { (known : ℕ → Option ℕ) → Knows (number_at numbers.now) known →
+    ensures touched { (known : ℕ → Option ℕ) → Knows (number_on page.now) known →
         IfOk result (λ r. IsPermutation (touched_in known (block lines.now) (kept memo.now) (changed change.now)) (map mark_of r.touched.items)) }
-    ensures restated { (known : ℕ → Option ℕ) → Knows (number_at numbers.now) known →
+    ensures restated { (known : ℕ → Option ℕ) → Knows (number_on page.now) known →
         IfOk result (λ r. IsPermutation (restated_in known (block lines.now) (kept memo.now) (changed change.now)) (map mark_of r.restated.items)) }
     ensures touched_sorted { IfOk result (λ r. IsNonDecreasingBy (λ (m : AMark). m.number) r.touched.items) }
     ensures restated_sorted { IfOk result (λ r. IsNonDecreasingBy (λ (m : AMark). m.number) r.restated.items) }
 {
-    let mut out = all_compared(alloc, lines, memo, change, numbers)?;
+    let mut out = all_compared(alloc, lines, memo, change, page)?;
     out.touched.sort_by_key(|mark| mark.number)?;
     out.restated.sort_by_key(|mark| mark.number)?;
     Ok(out)

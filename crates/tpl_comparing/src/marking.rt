@@ -5,7 +5,7 @@ ghost use Rattle.page_model.specs.Addresses.{address};
 ghost use Rattle.compare_laws.specs.Comparing.{restated_part, touched_part};
 ghost use Rattle.tpl_blocks.specs.Blocks.{block};
 ghost use Rattle.tpl_marks.specs.Marks.{Knows};
-ghost use Rattle.tpl_marks.specs.Numbering.{number_at};
+ghost use Rattle.tpl_marks.specs.Numbering.{number_on};
 ghost use Rattle.tpl_memos.specs.Kept.{kept};
 ghost use Rattle.tpl_shapes.specs.Shapes.{mark_of};
 ghost use Rattle.tpl_shown.specs.Showing.{text_at};
@@ -16,7 +16,7 @@ use crate::children::put_children;
 use sig_base::{NoMemory, Text};
 use std::alloc::Global;
 use tpl_blocks::Block;
-use tpl_marks::{Numbers, mark_all};
+use tpl_marks::{PageNodes, mark_all};
 use tpl_memos::PageMemo;
 use tpl_shapes::{Child, Mark};
 use tpl_shown::{put_shown, put_text};
@@ -74,18 +74,18 @@ pub fn put_made(
     key: Option<&Text>,
     lines: &Block,
     memo: &PageMemo,
-    numbers: &Numbers,
+    page: &PageNodes,
     children: &mut Vec<Child>,
     out: &mut Compared,
 ) -> Result<(), NoMemory>
-    ensures { (known : ℕ → Option ℕ) → Knows (number_at numbers.now) known →
+    ensures { (known : ℕ → Option ℕ) → Knows (number_on page.now) known →
         OnOk result (walk_of children.new.items out.new ≡ further (walk_of children.old.items out.old)
         (of_made known (nodes (option_copied key.entry) (block lines.now) (kept memo.now)))) }
 {
     let mut shown = Vec::new(alloc);
     put_shown(alloc, key, lines, memo, &mut shown)?;
     let mut marks = Vec::new(alloc);
-    let more = mark_all(alloc, shown, numbers, &mut marks)?;
+    let more = mark_all(alloc, shown, page, &mut marks)?;
     put_children(more, children)?;
     put_marks(alloc, marks, out)?;
     Ok(())
@@ -101,17 +101,17 @@ pub fn put_text_again(
     line: usize,
     key: Option<&Text>,
     memo: &PageMemo,
-    numbers: &Numbers,
+    page: &PageNodes,
     children: &mut Vec<Child>,
     out: &mut Compared,
 ) -> Result<(), NoMemory>
-    ensures { (known : ℕ → Option ℕ) → Knows (number_at numbers.now) known →
+    ensures { (known : ℕ → Option ℕ) → Knows (number_on page.now) known →
         OnOk result (walk_of children.new.items out.new ≡ further (walk_of children.old.items out.old)
         (of_text known (text_at (address line (option_copied key.entry)) (kept memo.now)))) }
 {
     let mut shown = Vec::new(alloc);
     put_text(alloc, line, key, memo, &mut shown)?;
-    let more = mark_all(alloc, shown, numbers, &mut out.restated)?;
+    let more = mark_all(alloc, shown, page, &mut out.restated)?;
     put_children(more, children)?;
     Ok(())
 }

@@ -7,7 +7,7 @@ ghost use Rattle.page_model.specs.Forest.{node, none};
 ghost use Rattle.page_model.specs.Labels as label;
 ghost use Rattle.tpl_blocks.specs.Blocks.{block, waiting};
 ghost use Rattle.tpl_marks.specs.Marks.{children_in, Knows};
-ghost use Rattle.tpl_marks.specs.Numbering.{number_at};
+ghost use Rattle.tpl_marks.specs.Numbering.{number_on};
 ghost use Rattle.tpl_memos.specs.Kept.{kept, rows_from};
 ghost use Rattle.tpl_nodes.specs.Shown.{attributes_of, inside_of, is_line, rows_of, shows, where_shown};
 ghost use Rattle.tpl_shapes.specs.Shapes.{child_of};
@@ -19,7 +19,7 @@ use sig_base::{NoMemory, Row, Text};
 use sig_formula::Formula;
 use std::alloc::Global;
 use tpl_blocks::Block;
-use tpl_marks::Numbers;
+use tpl_marks::PageNodes;
 use tpl_memos::PageMemo;
 use tpl_nodes::{fits, inside_of, later_of, shows};
 use tpl_shapes::{Address, Child};
@@ -31,15 +31,15 @@ fn put_staying_text(
     line: usize,
     key: Option<&Text>,
     memo: &PageMemo,
-    numbers: &Numbers,
+    page: &PageNodes,
     children: &mut Vec<Child>,
 ) -> Result<(), NoMemory>
-    ensures { is_line (kept memo.now) ≡ true → (known : ℕ → Option ℕ) → Knows (number_at numbers.now) known →
+    ensures { is_line (kept memo.now) ≡ true → (known : ℕ → Option ℕ) → Knows (number_on page.now) known →
         OnOk result (map child_of children.new.items ≡ map child_of children.old.items
         ++ children_in known (text_at (address line (option_copied key.entry)) (kept memo.now))) }
 {
     let address = Address::new(line, key)?;
-    let Some(number) = numbers.number(&address) else {
+    let Some(number) = page.number(&address) else {
         let mut shown = Vec::new(alloc);
         put_text(alloc, line, key, memo, &mut shown)?;
         put_new(shown, children)?;
@@ -62,18 +62,18 @@ pub fn put_kept(
     attributes: &[(Text, Formula)],
     inner: &Block,
     memo: &PageMemo,
-    numbers: &Numbers,
+    page: &PageNodes,
     children: &mut Vec<Child>,
 ) -> Result<Option<u64>, NoMemory>
-    ensures number { (known : ℕ → Option ℕ) → Knows (number_at numbers.now) known → IfOk result (λ n. n ≡ known (address line (option_copied key.entry))) }
-    ensures child { (known : ℕ → Option ℕ) → Knows (number_at numbers.now) known →
+    ensures number { (known : ℕ → Option ℕ) → Knows (number_on page.now) known → IfOk result (λ n. n ≡ known (address line (option_copied key.entry))) }
+    ensures child { (known : ℕ → Option ℕ) → Knows (number_on page.now) known →
         OnOk result (map child_of children.new.items ≡ map child_of children.old.items
         ++ children_in known (node (address line (option_copied key.entry))
         (label.Element name.now (values (waiting attributes.now) (attributes_of (kept memo.now))))
         (nodes (option_copied key.entry) (block inner.now) (inside_of (kept memo.now))) none)) }
 {
     let address = Address::new(line, key)?;
-    let Some(number) = numbers.number(&address) else {
+    let Some(number) = page.number(&address) else {
         let mut shown = Vec::new(alloc);
         put_element(alloc, line, key, name, attributes, inner, memo, &mut shown)?;
         put_new(shown, children)?;
@@ -91,17 +91,17 @@ fn put_staying_branch(
     key: Option<&Text>,
     lines: &Block,
     memo: &PageMemo,
-    numbers: &Numbers,
+    page: &PageNodes,
     children: &mut Vec<Child>,
 ) -> Result<(), NoMemory>
-    ensures { (known : ℕ → Option ℕ) → Knows (number_at numbers.now) known →
+    ensures { (known : ℕ → Option ℕ) → Knows (number_on page.now) known →
         OnOk result (map child_of children.new.items ≡ map child_of children.old.items
         ++ children_in known (where_shown (shows (kept memo.now) first) (nodes (option_copied key.entry) (block lines.now) (inside_of (kept memo.now))))) }
 {
     if !shows(memo, first) {
         return Ok(());
     }
-    put_staying(alloc, key, lines, inside_of(memo), numbers, children)?;
+    put_staying(alloc, key, lines, inside_of(memo), page, children)?;
     Ok(())
 }
 
@@ -112,10 +112,10 @@ fn put_staying_rows(
     inner: &Block,
     rows: &[Row],
     memos: &[PageMemo],
-    numbers: &Numbers,
+    page: &PageNodes,
     children: &mut Vec<Child>,
 ) -> Result<(), NoMemory>
-    ensures { (known : ℕ → Option ℕ) → Knows (number_at numbers.now) known → (t : Table) (i : ℕ) →
+    ensures { (known : ℕ → Option ℕ) → Knows (number_on page.now) known → (t : Table) (i : ℕ) →
         OnOk result (map child_of children.new.items ≡ map child_of children.old.items
         ++ children_in known (row_nodes (λ h m. nodes (Some h.key) (block inner.now) m) (rows_from t i rows.now (map kept memos.now)))) }
 {
@@ -123,7 +123,7 @@ fn put_staying_rows(
         let Some(row) = rows.get(place) else {
             return Ok(());
         };
-        put_staying(alloc, Some(&row.key), inner, memo, numbers, children)?;
+        put_staying(alloc, Some(&row.key), inner, memo, page, children)?;
     }
     Ok(())
 }
@@ -134,23 +134,16 @@ fn put_staying_each(
     alloc: Global,
     inner: &Block,
     memo: &PageMemo,
-    numbers: &Numbers,
+    page: &PageNodes,
     children: &mut Vec<Child>,
 ) -> Result<(), NoMemory>
-    ensures { (known : ℕ → Option ℕ) → Knows (number_at numbers.now) known →
+    ensures { (known : ℕ → Option ℕ) → Knows (number_on page.now) known →
         OnOk result (map child_of children.new.items ≡ map child_of children.old.items
         ++ children_in known (row_nodes (λ h m. nodes (Some h.key) (block inner.now) m) (rows_of (kept memo.now)))) }
 {
     match memo {
         PageMemo::Loop(heard, memos, _) => {
-            put_staying_rows(
-                alloc,
-                inner,
-                rows_in(&heard.outcome),
-                memos,
-                numbers,
-                children,
-            )?;
+            put_staying_rows(alloc, inner, rows_in(&heard.outcome), memos, page, children)?;
             Ok(())
         }
         PageMemo::Unread => Ok(()),
@@ -172,10 +165,10 @@ pub fn put_staying(
     key: Option<&Text>,
     lines: &Block,
     memo: &PageMemo,
-    numbers: &Numbers,
+    page: &PageNodes,
     children: &mut Vec<Child>,
 ) -> Result<(), NoMemory>
-    ensures { (known : ℕ → Option ℕ) → Knows (number_at numbers.now) known →
+    ensures { (known : ℕ → Option ℕ) → Knows (number_on page.now) known →
         OnOk result (map child_of children.new.items ≡ map child_of children.old.items
         ++ children_in known (nodes (option_copied key.entry) (block lines.now) (kept memo.now))) }
 {
@@ -185,26 +178,26 @@ pub fn put_staying(
     match lines {
         Block::Empty => Ok(()),
         Block::Text(line, _, rest) => {
-            put_staying_text(alloc, *line, key, memo, numbers, children)?;
-            put_staying(alloc, key, rest, later_of(memo), numbers, children)?;
+            put_staying_text(alloc, *line, key, memo, page, children)?;
+            put_staying(alloc, key, rest, later_of(memo), page, children)?;
             Ok(())
         }
         Block::Tag(line, name, attributes, inner, rest) => {
             put_kept(
-                alloc, *line, key, name, attributes, inner, memo, numbers, children,
+                alloc, *line, key, name, attributes, inner, memo, page, children,
             )?;
-            put_staying(alloc, key, rest, later_of(memo), numbers, children)?;
+            put_staying(alloc, key, rest, later_of(memo), page, children)?;
             Ok(())
         }
         Block::Choice(_, one, other, rest) => {
-            put_staying_branch(alloc, true, key, one, memo, numbers, children)?;
-            put_staying_branch(alloc, false, key, other, memo, numbers, children)?;
-            put_staying(alloc, key, rest, later_of(memo), numbers, children)?;
+            put_staying_branch(alloc, true, key, one, memo, page, children)?;
+            put_staying_branch(alloc, false, key, other, memo, page, children)?;
+            put_staying(alloc, key, rest, later_of(memo), page, children)?;
             Ok(())
         }
         Block::Each(_, inner, rest) => {
-            put_staying_each(alloc, inner, memo, numbers, children)?;
-            put_staying(alloc, key, rest, later_of(memo), numbers, children)?;
+            put_staying_each(alloc, inner, memo, page, children)?;
+            put_staying(alloc, key, rest, later_of(memo), page, children)?;
             Ok(())
         }
     }

@@ -1,21 +1,21 @@
 -- Where the operations lead, in the terms of the code.
-use Rattle.std.proofs.Common.{◌≡◌, ℕ, ◌+◌, ◌==◌, ◌&&◌, not, Bool, true, false, List, length, Option, refl, sym, ◌∙◌, eqb-true}
+use Rattle.std.proofs.Common.{◌≡◌, ℕ, ◌+◌, List, length, map, Option, sym, subst}
 use Rattle.page_model.specs.Forest.{Forest, keys}
 use Rattle.page_model.specs.Labels.{Kind}
-use Rattle.page_model.specs.Pages.{IsPage, NumberedPage, page_shape, renumbered, tree_of}
+use Rattle.page_model.specs.Pages.{IsPage, NumberedPage, new_order, page_shape, renumbered, tree_of}
 use Rattle.page_model.specs.Replay.{Done, Op, replay}
-use Rattle.page_model.proofs.Shared.{both, page_after, shape_after}
-use Rattle.compare_laws.specs.Comparing.{known_of}
+use Rattle.page_model.proofs.Shared.{page_after, shape_after}
 use Rattle.tpl_changes.specs.Changes.{Change}
-use Rattle.tpl_marks.specs.Marks.{Knows}
+use Rattle.tpl_marks.specs.Numbering.{noted_from}
 use Rattle.tpl_model.specs.Lines.{Block}
+use Rattle.tpl_shapes.specs.Addresses.{address_of}
 use Rattle.tpl_shapes.specs.declared.shown.Address.{Address}
 use Rattle.update_laws.specs.PageMemos.{PageMemo}
-use Rattle.tpl_live.specs.Pages.{lines_shape, shown_in}
-use Rattle.tpl_live.specs.Plans.{Carries, Compares, LeadOn, removes_first}
+use Rattle.tpl_live.specs.Pages.{AreKnown, lines_shape, shown_in}
+use Rattle.tpl_live.specs.Plans.{Carries, Compares, LeadOn}
+use Rattle.tpl_live.proofs.Followed.{follows}
 use Rattle.tpl_live.proofs.Numbered.{many_there}
 use Rattle.tpl_live.proofs.Planned.{tree_there}
-use Rattle.tpl_live.proofs.Still.{knows_still}
 
 -- the tree that the operations led to is that of the next page
 pub tree_now : (p : NumberedPage) (b : Block) (m : PageMemo) (c : Change) (number : Address → Option ℕ) (tree now : Forest Kind) (before : ℕ) (os : List Op)
@@ -31,24 +31,22 @@ many_now p b m c number tree now before os next h l done =
     many_there (renumbered p (lines_shape b m)) (shown_in b m) now (page_after p (lines_shape b m) h.page h.formed) (shape_after p (lines_shape b m))
     (tree_now p b m c number tree now before os next h l done)
 
-not_so : (b : Bool) → not b ≡ true → b ≡ false
-not_so true h = sym h
-not_so false h = refl
-
--- the numbers that are known once they were brought up to date
+-- what is noted of the next page once what came was noted
 pub carried_on : (p : NumberedPage) (b : Block) (m : PageMemo) (c : Change) (number known : Address → Option ℕ) (tree now : Forest Kind) (before : ℕ)
-    (os : List Op) (next : ℕ) (still : Bool) → Compares p b m c number tree before → LeadOn p (lines_shape b m) os next → replay os tree ≡ Done now →
-    still ≡ (before == next && not (removes_first os)) →
-    ((q : NumberedPage) → IsPage q → page_shape q ≡ lines_shape b m → now ≡ tree_of q → (still ≡ true → Knows number (known_of q)) → Knows known (known_of q)) →
+    (os : List Op) (next : ℕ) (coming : List Address) → Compares p b m c number tree before → LeadOn p (lines_shape b m) os next → replay os tree ≡ Done now →
+    map address_of coming ≡ new_order p (lines_shape b m) →
+    ((q : NumberedPage) → IsPage q → page_shape q ≡ lines_shape b m → now ≡ tree_of q → AreKnown q now (noted_from coming before number) → AreKnown q now known) →
     Carries p (lines_shape b m) os next now known
-carried_on p b m c number known tree now before os next still h l done stays renumbers =
+carried_on p b m c number known tree now before os next coming h l done order renumbers =
     let shape = lines_shape b m in
+    let r = renumbered p shape in
     let trees = tree_now p b m c number tree now before os next h l done in
+    let old : AreKnown p (tree_of p) number = subst (λ z. AreKnown p z number) h.stands h.known in
+    let all : AreKnown r (tree_of r) (noted_from coming p.next number) = follows p shape coming number h.page h.formed h.origin order old in
     record {
       leads = l;
       stands = trees;
-      knows = renumbers (renumbered p shape) (page_after p shape h.page h.formed) (shape_after p shape) trees
-          (λ e.
-          let s = both (before == next) (not (removes_first os)) (sym stays ∙ e) in
-          knows_still p shape os next number h.page h.formed l (not_so (removes_first os) s.1) (sym h.count ∙ eqb-true before next s.0) h.knows);
+      known = renumbers r (page_after p shape h.page h.formed) (shape_after p shape) trees
+          (subst (λ z. AreKnown r z (noted_from coming before number)) (sym trees)
+          (subst (λ z. AreKnown r (tree_of r) (noted_from coming z number)) (sym h.count) all));
     }

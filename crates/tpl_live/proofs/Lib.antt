@@ -8,7 +8,7 @@ mod Matched
 mod Staying
 mod Operated
 mod Planned
-mod Still
+mod Followed
 mod Carried
 mod Renewed
 mod Quiet

@@ -10,6 +10,7 @@ use Rattle.page_model.proofs.Shared.{page_after, shape_after}
 use Rattle.tpl_found.specs.Coming.{coming}
 use Rattle.tpl_found.proofs.Shared.{kids_num, serial_law}
 use Rattle.tpl_marks.specs.Marks.{children_in, next_of}
+use Rattle.tpl_marks.specs.Numbering.{coming_below, coming_in}
 use Rattle.tpl_model.specs.Sources.{in_order}
 use Rattle.tpl_moves.specs.Moves.{AllFit, AllSound, AreSound, Fits, arrivals, next_numbers, number_after, number_behind}
 use Rattle.tpl_shapes.specs.Shapes.{Marked, Next}
@@ -81,6 +82,26 @@ arrive_keys : (p : NumberedPage) (t : Forest Look) → keys (arrivals (children_
 arrive_keys p none = refl
 arrive_keys p (node a x k r) =
     one_arrives p a x k (children_in (known_of p) r) (newcomers (λ c. on c (page_shape p)) r) (on a (page_shape p)) (arrive_keys p r)
+
+-- the addresses of what comes among these, each with all below it
+one_comes : (p : NumberedPage) (a : ℕ) (x : Look) (k : Forest Look) (cs : List Next) (ns : List ℕ) (b : Bool) → coming_in cs ≡ ns →
+    coming_in (next_of (cond b (Some (number_of p a)) None) (node a x k none) ∷ cs) ≡ cond b [] (a ∷ keys k) ++ ns
+one_comes p a x k cs ns true e = e
+one_comes p a x k cs ns false e = (λ i. a ∷ (append-nil (keys k) i ++ e i))
+
+come_among : (p : NumberedPage) (t : Forest Look) → coming_in (children_in (known_of p) t) ≡ newcomers (λ c. on c (page_shape p)) t
+come_among p none = refl
+come_among p (node a x k r) =
+    one_comes p a x k (children_in (known_of p) r) (newcomers (λ c. on c (page_shape p)) r) (on a (page_shape p)) (come_among p r)
+
+pub all_come : (p : NumberedPage) (shape : Forest Look) (ws : List ℕ) (ms : List Marked) → Each (IsTouched p shape) ws ms →
+    coming_below ms ≡ flat_map (λ a. newcomers (λ c. on c (page_shape p)) (kids a shape)) ws
+all_come p shape [] [] h = refl
+all_come p shape (a ∷ ws) (m ∷ ms) h =
+    let one : coming_in m.children ≡ newcomers (λ c. on c (page_shape p)) (kids a shape) = ap coming_in h.0.children ∙ come_among p (kids a shape) in
+    (λ i. one i ++ all_come p shape ws ms h.1 i)
+all_come p shape [] (m ∷ ms) h = absurd h
+all_come p shape (a ∷ ws) [] h = absurd h
 
 -- ---- sound children
 

@@ -29,9 +29,7 @@ use Rattle.update_laws.proofs.Shared.{shape_shown}
 use Rattle.tpl_hearing.specs.Hearing.{AreFromScratch, HaveRows, HasRows, Hears, Outcomes, Scene, heard_of}
 use Rattle.tpl_hearing.proofs.Shared.{heard_scratch}
 use Rattle.tpl_listening.specs.Makings.{Makes, lines_memo}
-use Rattle.tpl_live.specs.Pages.{AreInserted, Standing, Stands, below_in, inserts, lines_shape, outcome_in, page_in, shown_in}
-use Rattle.tpl_marks.specs.Marks.{Knows}
-use Rattle.compare_laws.specs.Comparing.{known_of}
+use Rattle.tpl_live.specs.Pages.{AreInserted, AreKnown, Standing, Stands, below_in, inserts, lines_shape, outcome_in, page_in, shown_in}
 use Rattle.tpl_live.proofs.Numbered.{many_there}
 use Rattle.tpl_live.proofs.Mounted.{MountedAs, leads, mounted}
 use Rattle.tpl_live.proofs.Sourced.{made_on, made_right, names_heard}
@@ -99,7 +97,7 @@ stands_as lines links s below own made e next tree =
 
 -- what is known of the numbers of a page that shows these lines and has this tree
 abbrev pub KnowsThere : Standing → Type 0
-KnowsThere s = (p : NumberedPage) → IsPage p → page_shape p ≡ lines_shape s.lines s.memo → s.tree ≡ tree_of p → Knows s.number (known_of p)
+KnowsThere s = (p : NumberedPage) → IsPage p → page_shape p ≡ lines_shape s.lines s.memo → s.tree ≡ tree_of p → AreKnown p s.tree s.number
 
 shape_of : (lines : List Line) (links : List ℕ) (s : Standing) (below : Forest Kind) → s.lines ≡ block_of lines →
     MountedAs lines links (outcome_in s.heard) s below → page_shape (page_in s) ≡ lines_shape s.lines s.memo
@@ -117,7 +115,7 @@ stands lines links s own linked made next tree knows =
       keeps = x.keeps;
       sound = x.sound;
       names = names_heard (keys_of s.heard) (names s.memo) made.order;
-      knows = knows (page_in s) x.keeps.page (shape_of lines links s (below_in s.lines s.memo) own x) x.keeps.stands;
+      known = knows (page_in s) x.keeps.page (shape_of lines links s (below_in s.lines s.memo) own x) x.keeps.stands;
     }
 
 -- there is a number for each node that is shown and for the root

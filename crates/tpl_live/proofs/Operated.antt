@@ -5,7 +5,7 @@ use Rattle.std.specs.List.Sorted.{IsPermutation}
 use Rattle.page_model.specs.Edits.{ascending, listed}
 use Rattle.page_model.specs.Forest.{Forest, kids, label_in, numbered, on}
 use Rattle.page_model.specs.Labels.{Root, Kind, Look, Sound, shown}
-use Rattle.page_model.specs.Pages.{IsPage, IsShape, NumberedPage, SameOrigin, ascending_by, carried, edits_between, newcomers, number_of, page_shape, renumbered, tree_of}
+use Rattle.page_model.specs.Pages.{IsPage, IsShape, NumberedPage, SameOrigin, ascending_by, carried, edits_between, new_order, newcomers, number_of, page_shape, renumbered, tree_of}
 use Rattle.page_model.specs.Replay.{Done, Op, OpAttr, OpInsert, OpMove, OpRemove, OpText, OpUnattr, replay}
 use Rattle.page_model.specs.Texts.{AreWritable, IsWritable}
 use Rattle.page_model.specs.Trees.{Brings}
@@ -19,6 +19,7 @@ use Rattle.tpl_found.specs.Updates.{is_kept}
 use Rattle.tpl_found.proofs.Shared.{kept_law, marks_law, operations_law}
 use Rattle.tpl_looks.specs.Attributes.{mark_told}
 use Rattle.tpl_marks.specs.Marks.{Knows}
+use Rattle.tpl_marks.specs.Numbering.{among, coming_below}
 use Rattle.tpl_model.specs.Lines.{Block}
 use Rattle.tpl_moves.specs.Moves.{AllFit, AllSound, children_moved, moved_between, number_behind}
 use Rattle.tpl_shapes.specs.Shapes.{Marked}
@@ -26,7 +27,7 @@ use Rattle.tpl_shapes.specs.declared.shown.Address.{Address}
 use Rattle.update_laws.specs.PageMemos.{PageMemo}
 use Rattle.tpl_live.specs.Pages.{lines_shape}
 use Rattle.tpl_live.specs.Plans.{AllBring, Compares, LeadOn, children_staying, numbers_of, ops_towards}
-use Rattle.tpl_live.proofs.Matched.{all_fit, all_sound, kids_next}
+use Rattle.tpl_live.proofs.Matched.{all_come, all_fit, all_sound, kids_next}
 use Rattle.tpl_live.proofs.Sorting.{Rising, address_in, moved_so, numbers_so, restated_marks, sees_so, stays_sorted, touched_marks}
 use Rattle.tpl_live.proofs.Staying.{done_alike, gone_alike, staying_alike}
 
@@ -61,6 +62,7 @@ pub record Operate (p : NumberedPage) (shape : Forest Look) (touched restated : 
   pub sound : AllSound touched
   pub fits : AllFit (λ n. ltb n p.next) p.next touched (tree_of (renumbered p shape))
   pub next : number_behind p.next touched ≡ (renumbered p shape).next
+  pub order : coming_below touched ≡ new_order p shape
   pub edits : edits_between p (renumbered p shape) ≡ ops_towards (tree_of p) (tree_of (renumbered p shape)) p.next touched restated
   pub replays : replay (ops_towards (tree_of p) (tree_of (renumbered p shape)) p.next touched restated) (tree_of p) ≡ Done (tree_of (renumbered p shape))
 
@@ -94,6 +96,7 @@ operate p shape ts0 rs0 ts rs q snd s so cmp ts_moved rs_moved ts_up rs_up =
       sound = all_sound p shape cs ts s.sound ct.at;
       fits = fit.0;
       next = fit.1;
+      order = all_come p shape cs ts ct.at ∙ sym order;
       edits = leads.edits ∙ same;
       replays = ap (λ z. replay z (tree_of p)) (sym same) ∙ leads.replays;
     }
@@ -115,12 +118,12 @@ all_bring (o ∷ os) h = (brings_one o h.0, all_bring os h.1)
 
 -- the page and what is kept of its lines next, with marks by what is known of the page's numbers
 pub compare : (p : NumberedPage) (b : Block) (m : PageMemo) (c : Change) (number : Address → Option ℕ) (tree : Forest Kind) (next : ℕ) (ts rs : List Marked) →
-    Compares p b m c number tree next → ((known : ℕ → Option ℕ) → Knows number known → IsPermutation (touched_in known b m c) ts) →
-    ((known : ℕ → Option ℕ) → Knows number known → IsPermutation (restated_in known b m c) rs) → Rising (numbers_of ts) → Rising (numbers_of rs) →
+    Compares p b m c number tree next → ((known : ℕ → Option ℕ) → Knows (among tree number) known → IsPermutation (touched_in known b m c) ts) →
+    ((known : ℕ → Option ℕ) → Knows (among tree number) known → IsPermutation (restated_in known b m c) rs) → Rising (numbers_of ts) → Rising (numbers_of rs) →
     Operate p (lines_shape b m) ts rs
 compare p b m c number tree next ts rs h touched restated ts_up rs_up =
     operate p (lines_shape b m) (touched_in (known_of p) b m c) (restated_in (known_of p) b m c) ts rs h.page h.sound h.formed h.origin h.compared
-    (touched (known_of p) h.knows) (restated (known_of p) h.knows) ts_up rs_up
+    (touched (known_of p) h.known.knows) (restated (known_of p) h.known.knows) ts_up rs_up
 
 pub lead_on : (p : NumberedPage) (shape : Forest Look) (ts rs : List Marked) (os : List Op) (next : ℕ) → IsPage p → IsShape shape → Operate p shape ts rs →
     os ≡ ops_towards (tree_of p) (tree_of (renumbered p shape)) p.next ts rs → next ≡ number_behind p.next ts → LeadOn p shape os next

@@ -1,20 +1,22 @@
 -- The operations of a page that comes up to date, in the terms of the code.
-use Rattle.std.proofs.Common.{◌≡◌, ℕ, ◌+◌, ◌<◌, ltb, Bool, Option, List, [], ◌∷◌, ◌++◌, append_assoc, drop, get_or, length, map, refl, sym, ap, subst, ◌∙◌}
+use Rattle.std.proofs.Common.{◌≡◌, ℕ, ◌+◌, ◌<◌, ltb, Bool, Option, List, [], ◌∷◌, ◌++◌, append_assoc, drop, get_or, length, map, refl, sym, ap, subst, ◌∙◌, arith}
 use Rattle.std.specs.List.{flat_map}
 use Rattle.std.specs.List.Sorted.{IsNonDecreasingBy}
 use Rattle.std.proofs.lemmas.List.{drop_more}
 use Rattle.page_model.specs.Edits.{ascending, listed}
 use Rattle.page_model.specs.Forest.{Forest, none}
 use Rattle.page_model.specs.Labels.{Kind, Look}
-use Rattle.page_model.specs.Pages.{NumberedPage, renumbered, tree_of}
+use Rattle.page_model.specs.Pages.{NumberedPage, new_order, renumbered, tree_of}
 use Rattle.page_model.specs.Replay.{Answer, Done, Op, OpRemove, Refused, do_op, replay, then_on}
 use Rattle.page_model.specs.Trees.{Brings}
 use Rattle.page_tree.specs.Reading.{IsDone}
 use Rattle.tpl_changes.specs.Changes.{Change}
 use Rattle.tpl_found.specs.Reading.{gone_numbers}
 use Rattle.tpl_looks.specs.Attributes.{mark_told}
+use Rattle.tpl_marks.specs.Numbering.{coming_below}
 use Rattle.tpl_model.specs.Lines.{Block}
 use Rattle.tpl_moves.specs.Moves.{AllFit, moved_between, number_behind}
+use Rattle.tpl_shapes.specs.Addresses.{address_of}
 use Rattle.tpl_shapes.specs.Shapes.{Marked, mark_of}
 use Rattle.tpl_shapes.specs.declared.mark.Mark.{Mark}
 use Rattle.tpl_shapes.specs.declared.shown.Address.{Address}
@@ -22,6 +24,7 @@ use Rattle.update_laws.specs.PageMemos.{PageMemo}
 use Rattle.tpl_live.specs.Pages.{lines_shape}
 use Rattle.tpl_live.specs.Plans.{AllBring, Compares, LeadOn, children_staying, numbers_of, ops_towards}
 use Rattle.tpl_live.proofs.Inserted.{first_done}
+use Rattle.tpl_live.proofs.Numbered.{many_mapped}
 use Rattle.tpl_live.proofs.Operated.{Operate, lead_on}
 use Rattle.tpl_live.proofs.Sorting.{Rising, rising}
 
@@ -61,6 +64,14 @@ compared_so p b m c number tree next ts rs os n h o plan count =
     lead_on p shape ts rs os n h.page h.formed o
     (plan after (subst (λ z. AllFit (λ j. ltb j z) z ts after) (sym h.count) o.fits) ∙ (λ i. ops_towards (h.stands i) after (h.count i) ts rs))
     (count ∙ ap (λ z. number_behind z ts) h.count)
+
+-- what comes has the numbers from the next unused one on
+pub many_come : (p : NumberedPage) (shape : Forest Look) (ts rs : List Marked) (next n : ℕ) (coming : List Address) → next ≡ p.next → Operate p shape ts rs →
+    n ≡ number_behind next ts → map address_of coming ≡ coming_below ts → n ≡ next + length coming
+many_come p shape ts rs next n coming count o is come =
+    let a : n ≡ p.next + length (new_order p shape) = is ∙ (ap (λ z. number_behind z ts) count ∙ o.next) in
+    let b : length coming ≡ length (new_order p shape) = sym (many_mapped address_of coming) ∙ ap length (come ∙ o.order) in
+    omega (arith, a, b, count)
 
 -- ---- operations one after the other
 

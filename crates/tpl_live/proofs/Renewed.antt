@@ -30,12 +30,11 @@ use Rattle.tpl_model.proofs.Shared.{origin_law, shape_law}
 use Rattle.update_laws.specs.PageMemos.{PageMemo, hearing, memo_of, names, nodes}
 use Rattle.update_laws.specs.Updating.{Keeps, memo_on, memo_shape, shape_on}
 use Rattle.update_laws.proofs.Shared.{shape_shown, source_law}
-use Rattle.tpl_live.specs.Pages.{Standing, Stands, lines_shape, numbered_as, outcome_in, page_in}
+use Rattle.tpl_live.specs.Pages.{AreKnown, Standing, Stands, lines_shape, numbered_as, outcome_in, page_in}
 use Rattle.tpl_live.specs.Plans.{Carries, Compares}
 use Rattle.compare_laws.specs.Comparing.{Compared, known_of, restated_in, touched_in}
 use Rattle.compare_laws.proofs.Shared.{compare_law}
 use Rattle.tpl_changes.specs.Changes.{Change, Tells}
-use Rattle.tpl_marks.specs.Marks.{Knows}
 use Rattle.tpl_shapes.specs.declared.shown.Address.{Address}
 use Rattle.tpl_live.proofs.Mounted.{numbers_back}
 use Rattle.tpl_live.proofs.Mounting.{AreMade, are_made}
@@ -130,7 +129,7 @@ next_stands lines links s heard m next tree number os st made carried_there =
             (subst (λ z. Keeps lines links (outcome_in heard) m (renumbered p shape) z) (sym trees) f.updates.keeps);
         sound = subst (λ z. Sound (page_shape z)) (sym page) f.updates.sound;
         names = names_heard (keys_of heard) (names m) made.order;
-        knows = subst (λ z. Knows number (known_of z)) (sym page) (subst (λ z. Knows number (known_of (renumbered p z))) f.is carried_there.knows);
+        known = subst (λ z. AreKnown z tree number) (sym page) (subst (λ z. AreKnown (renumbered p z) tree number) f.is carried_there.known);
       };
     }
 
@@ -205,7 +204,7 @@ compares_there lines links s heard m c st made told =
       sound = st.sound;
       formed = f.formed;
       origin = f.origin;
-      knows = st.knows;
+      known = st.known;
       stands = st.keeps.stands;
       count = refl;
       compared = compared_there lines links s heard m c st made told;

@@ -1,5 +1,5 @@
 -- A page that stands: what it keeps, and the page that this shows.
-use Rattle.std.specs.Prelude.{◌≡◌, ℕ, suc, List, [], ◌∷◌, Option, None, unwrap_or}
+use Rattle.std.specs.Prelude.{◌≡◌, ◌<◌, ℕ, suc, List, [], ◌∷◌, Option, Some, None, unwrap_or}
 use Rattle.std.specs.Map.{keys_of}
 use Rattle.sig_base.specs.declared.value.Fault.TheVariants.{Gone}
 use Rattle.sig_base.specs.declared.value.Outcome.{Outcome}
@@ -16,12 +16,13 @@ use Rattle.tpl_model.specs.Sources.{firsts, in_order}
 use Rattle.tpl_hearing.specs.Hearing.{Outcomes, heard_of}
 use Rattle.tpl_shapes.specs.declared.shown.Address.{Address}
 use Rattle.tpl_marks.specs.Marks.{Knows}
+use Rattle.tpl_marks.specs.Numbering.{among}
 use Rattle.update_laws.specs.PageMemos.{PageMemo, names, nodes}
 use Rattle.update_laws.specs.Updating.{Keeps}
 use Rattle.compare_laws.specs.Comparing.{known_of}
 
 -- what is kept of a page: the lines and what their names stand for, what was heard of the names, what is kept of the lines, the next unused
--- number, the tree, and the numbers of its nodes by address
+-- number, the tree, and the numbers that were noted of addresses
 pub record Standing : Type 0 where
   pub lines : Block
   pub links : List ℕ
@@ -56,6 +57,11 @@ page_in s = record { nodes = numbered_as (shape_in s) s.tree; next = s.next }
 abbrev pub outcome_in : Outcomes → ℕ → Outcome
 outcome_in heard n = unwrap_or (heard_of heard n) (Bad Gone)
 
+-- the numbers of a page's nodes are known by address: those noted of nodes that stand on its tree; each that was noted was given
+pub record AreKnown (p : NumberedPage) (tree : Forest Kind) (number : Address → Option ℕ) : Type 0 where
+  pub knows : Knows (among tree number) (known_of p)
+  pub given : (a : Address) (n : ℕ) → number a ≡ Some n → n < p.next
+
 -- a page of these lines stands on what was heard of the names that it read, and the numbers of its nodes are known
 pub record Stands (lines : List Line) (links : List ℕ) (s : Standing) : Type 0 where
   pub template : IsTemplate lines
@@ -64,7 +70,7 @@ pub record Stands (lines : List Line) (links : List ℕ) (s : Standing) : Type 0
   pub keeps : Keeps lines links (outcome_in s.heard) s.memo (page_in s) s.tree
   pub sound : Sound (page_shape (page_in s))
   pub names : keys_of s.heard ≡ firsts [] (names s.memo)
-  pub knows : Knows s.number (known_of (page_in s))
+  pub known : AreKnown (page_in s) s.tree s.number
 
 -- so it is for some lines
 pub record IsStanding (s : Standing) : Type 0 where

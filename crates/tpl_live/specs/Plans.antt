@@ -1,5 +1,5 @@
 -- The operations that bring a page up to date, as they are read from the tree that stands by the marks of the nodes that are compared.
-use Rattle.std.specs.Prelude.{◌≡◌, ℕ, ltb, Bool, true, false, List, [], ◌∷◌, ◌++◌, map, Option}
+use Rattle.std.specs.Prelude.{◌≡◌, ℕ, ltb, Bool, List, [], ◌∷◌, ◌++◌, map, Option}
 use Rattle.std.specs.List.{flat_map}
 use Rattle.page_model.specs.Edits.{ascending, listed}
 use Rattle.page_model.specs.Forest.{Forest}
@@ -11,13 +11,12 @@ use Rattle.compare_laws.specs.Comparing.{Compared, known_of, restated_in, touche
 use Rattle.tpl_changes.specs.Changes.{Change}
 use Rattle.tpl_found.specs.Reading.{gone_numbers}
 use Rattle.tpl_looks.specs.Attributes.{mark_told}
-use Rattle.tpl_marks.specs.Marks.{Knows}
 use Rattle.tpl_model.specs.Lines.{Block}
 use Rattle.tpl_moves.specs.Moves.{moved_between}
 use Rattle.tpl_shapes.specs.declared.shown.Address.{Address}
 use Rattle.tpl_shapes.specs.Shapes.{Marked, Next, comes, stays}
 use Rattle.update_laws.specs.PageMemos.{PageMemo}
-use Rattle.tpl_live.specs.Pages.{lines_shape}
+use Rattle.tpl_live.specs.Pages.{AreKnown, lines_shape}
 
 -- the numbers of marks
 abbrev pub numbers_of : List Marked → List ℕ
@@ -49,24 +48,14 @@ abbrev pub AllBring : List Op → Type 0
 AllBring [] = Unit {0}
 AllBring (o ∷ os) = Brings o × AllBring os
 
--- whether an operation takes nodes out
-abbrev pub is_removal : Op → Bool
-is_removal (OpRemove n) = true
-is_removal o = false
-
--- whether the first of these does; removals come before all else
-abbrev pub removes_first : List Op → Bool
-removes_first [] = false
-removes_first (o ∷ os) = is_removal o
-
--- A page and what is kept of its lines next: what is known of the numbers, the tree and the next unused number are those of the page, the shape comes
+-- A page and what is kept of its lines next: the noted numbers, the tree and the next unused number are those of the page, the shape comes
 -- from the same template, and what became of what is kept tells what has to be compared.
 pub record Compares (p : NumberedPage) (b : Block) (m : PageMemo) (c : Change) (number : Address → Option ℕ) (tree : Forest Kind) (next : ℕ) : Type 0 where
   pub page : IsPage p
   pub sound : Sound (page_shape p)
   pub formed : IsShape (lines_shape b m)
   pub origin : SameOrigin (page_shape p) (lines_shape b m)
-  pub knows : Knows number (known_of p)
+  pub known : AreKnown p tree number
   pub stands : tree ≡ tree_of p
   pub count : next ≡ p.next
   pub compared : Compared p (lines_shape b m) (touched_in (known_of p) b m c) (restated_in (known_of p) b m c)
@@ -87,4 +76,4 @@ pub record LeadOn (p : NumberedPage) (shape : Forest Look) (os : List Op) (next 
 pub record Carries (p : NumberedPage) (shape : Forest Look) (os : List Op) (next : ℕ) (tree : Forest Kind) (number : Address → Option ℕ) : Type 0 where
   pub leads : LeadOn p shape os next
   pub stands : tree ≡ tree_of (renumbered p shape)
-  pub knows : Knows number (known_of (renumbered p shape))
+  pub known : AreKnown (renumbered p shape) tree number

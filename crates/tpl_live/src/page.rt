@@ -17,7 +17,7 @@ ghost use Rattle.tpl_live.specs.Pages.{page_in, IsStanding, Stands};
 ghost use Rattle.tpl_live.specs.Standings.{standing};
 
 use crate::first::{First, first_tree};
-use crate::plan::{PageNodes, carry, numbers_of};
+use crate::plan::{carry, numbers_of};
 use page_ops::Op;
 use page_tree::Tree;
 use sig_base::{NoMemory, NodeId};
@@ -28,6 +28,7 @@ use std::mem;
 use tpl_blocks::{Block, block_of};
 use tpl_hearing::Outcomes;
 use tpl_making::make;
+use tpl_marks::PageNodes;
 use tpl_memos::PageMemo;
 use tpl_renewing::{Renewed, names_stay, renew};
 use tpl_syntax::Template;
@@ -106,8 +107,8 @@ impl Page {
 
     /// Brings the page up to date with the signals, and gives the operations that lead there: nodes that stay keep their numbers, and new ones
     /// get the next numbers. The names that its lines read are settled, each once, in the order in which they are first read; a line whose names
-    /// have the outcomes of before isn't evaluated, and where all have them, nothing is built. Host formulas are asked exactly as the runs of this call ask them. Signals stay, and nothing
-    /// is being evaluated before and after. Without memory graph, shelf and page may only be dropped.
+    /// have the outcomes of before isn't evaluated, and where all have them, nothing is built. Host formulas are asked exactly as the runs of this
+    /// call ask them. Signals stay, and nothing is being evaluated before and after. Without memory graph, shelf and page may only be dropped.
     ///
     /// # Errors
     ///

@@ -1,22 +1,21 @@
 // How a page comes up to date: the numbers of its nodes, and the operations that lead to the next tree, all read from the tree that stands.
-ghost use Rattle.std.specs.Prelude.{◌≡◌, ◌==◌, ◌&&◌, ◌+◌, ◌++◌, ℕ, true, not, ltb, length, map, IfOk, OnOk};
+ghost use Rattle.std.specs.Prelude.{◌≡◌, ◌<◌, ◌^◌, ◌+◌, ◌++◌, ltb, length, map, IfOk, OnOk};
 ghost use Rattle.page_model.specs.Forest.{Forest, keys};
 ghost use Rattle.page_model.specs.Labels.{Kind};
-ghost use Rattle.page_model.specs.Pages.{NumberedPage, IsPage, page_shape, tree_of};
+ghost use Rattle.page_model.specs.Pages.{NumberedPage, IsPage, new_order, page_shape, tree_of};
 ghost use Rattle.page_model.specs.Replay.{do_op, replay, Done};
 ghost use Rattle.page_model.specs.Trees.{Brings};
 ghost use Rattle.page_ops.specs.Ops.{op_of};
 ghost use Rattle.page_tree.specs.Reading.{IsDone};
-ghost use Rattle.compare_laws.specs.Comparing.{known_of};
 ghost use Rattle.tpl_blocks.specs.Blocks.{block};
 ghost use Rattle.tpl_changes.specs.Changes.{changed};
-ghost use Rattle.tpl_marks.specs.Marks.{Knows};
-ghost use Rattle.tpl_marks.specs.Numbering.{number_at};
+ghost use Rattle.tpl_marks.specs.Numbering.{coming_below, noted_from, number_at};
 ghost use Rattle.tpl_memos.specs.Kept.{kept};
 ghost use Rattle.tpl_moves.specs.Moves.{AllFit, AllSound, number_behind};
+ghost use Rattle.tpl_shapes.specs.Addresses.{address_of};
 ghost use Rattle.tpl_shapes.specs.Shapes.{child_of, mark_of};
-ghost use Rattle.tpl_live.specs.Pages.{lines_shape, shown_in};
-ghost use Rattle.tpl_live.specs.Plans.{children_staying, is_removal, number_staying, numbers_of as numbers_in, numbers_staying, ops_towards, removes_first, AllBring, CanCompare, Carries, Compares, LeadOn};
+ghost use Rattle.tpl_live.specs.Pages.{lines_shape, shown_in, AreKnown};
+ghost use Rattle.tpl_live.specs.Plans.{children_staying, number_staying, numbers_of as numbers_in, numbers_staying, ops_towards, AllBring, CanCompare, Carries, Compares, LeadOn};
 
 use page_ops::{Op, apply};
 use page_tree::Tree;
@@ -26,12 +25,12 @@ use tpl_blocks::Block;
 use tpl_changes::Change;
 use tpl_comparing::{Compared, compared};
 use tpl_looks::put_looks;
-use tpl_marks::{Numbers, put_addresses};
+use tpl_marks::{Numbers, PageNodes, put_addresses, put_coming};
 use tpl_memos::PageMemo;
 use tpl_moves::put_moves;
 use tpl_removals::{NumberSet, removals};
 use tpl_renewing::Renewed;
-use tpl_shapes::{Child, Mark};
+use tpl_shapes::{Address, Child, Mark};
 use tpl_shown::put_shown;
 
 /// The numbers of a page's nodes below the root, by their addresses, from what is kept of its lines and from its tree.
@@ -47,7 +46,7 @@ pub fn numbers_of(
 ) -> Result<Numbers, NoMemory>
     requires { length (keys (shown_in (block lines.now) (kept memo.now))) + 1 ≡ length (keys tree.now) }
     ensures { (p : NumberedPage) → IsPage p → page_shape p ≡ lines_shape (block lines.now) (kept memo.now) → tree.now ≡ tree_of p →
-        IfOk result (λ n. Knows (number_at n) (known_of p)) }
+        IfOk result (λ n. AreKnown p tree.now (number_at n)) }
 {
     let mut shown = Vec::new(alloc);
     put_shown(alloc, None, lines, memo, &mut shown)?;
@@ -59,23 +58,26 @@ pub fn numbers_of(
     Ok(numbers)
 }
 
-// The numbers by address, once a tree has come to show what is kept of these lines; where nodes may have come or gone, they are read off anew.
+// Notes what came under the numbers from this one on, once a tree has come to show what is kept of these lines. Where most of what is noted may be
+// gone, the numbers are read off anew.
 fn renumber(
     alloc: Global,
     lines: &Block,
     memo: &PageMemo,
     tree: &Tree,
-    still: bool,
+    coming: Vec<Address>,
+    from: u64,
     numbers: &mut Numbers,
 ) -> Result<(), NoMemory>
-    requires { length (keys (shown_in (block lines.now) (kept memo.now))) + 1 ≡ length (keys tree.now) }
+    requires many { length (keys (shown_in (block lines.now) (kept memo.now))) + 1 ≡ length (keys tree.now) }
+    requires room { from + length coming.items < 2 ^ 64 }
     ensures { (p : NumberedPage) → IsPage p → page_shape p ≡ lines_shape (block lines.now) (kept memo.now) → tree.now ≡ tree_of p →
-        (still ≡ true → Knows (number_at numbers.old) (known_of p)) → OnOk result (Knows (number_at numbers.new) (known_of p)) }
+        AreKnown p tree.now (noted_from coming.items from (number_at numbers.old)) → OnOk result (AreKnown p tree.now (number_at numbers.new)) }
 {
-    if still {
-        return Ok(());
+    numbers.note_all(coming, from)?;
+    if numbers.is_crowded() {
+        *numbers = numbers_of(alloc, lines, memo, tree)?;
     }
-    *numbers = numbers_of(alloc, lines, memo, tree)?;
     Ok(())
 }
 
@@ -124,10 +126,11 @@ fn staying(alloc: Global, marks: &[Mark]) -> Result<Vec<u64>, NoMemory>
     Ok(numbers)
 }
 
-/// The operations that bring a page up to date, and the next unused number then.
+/// The operations that bring a page up to date, the addresses of what comes in the order of the new numbers, and the next unused number then.
 #[derive(Drop)]
 pub struct Plan {
     pub ops: Vec<Op>,
+    pub coming: Vec<Address>,
     pub next: u64,
 }
 
@@ -137,42 +140,49 @@ fn operations(
     alloc: Global,
     tree: &Tree,
     next: u64,
-    touched: &[Mark],
+    touched: Vec<Mark>,
     restated: &[Mark],
 ) -> Result<Plan, NoMemory>
-    requires { AllSound (map mark_of touched.now) }
-    ensures next { IfOk result (λ p. p.next ≡ number_behind next (map mark_of touched.now)) }
-    ensures ops { (after : Forest Kind) → AllFit (λ n. ltb n next) next (map mark_of touched.now) after →
-        IfOk result (λ p. map op_of p.ops.items ≡ ops_towards tree.now after next (map mark_of touched.now) (map mark_of restated.now)) }
+    requires { AllSound (map mark_of touched.items) }
+    ensures next { IfOk result (λ p. p.next ≡ number_behind next (map mark_of touched.items)) }
+    ensures coming { IfOk result (λ p. map address_of p.coming.items ≡ coming_below (map mark_of touched.items)) }
+    ensures ops { (after : Forest Kind) → AllFit (λ n. ltb n next) next (map mark_of touched.items) after →
+        IfOk result (λ p. map op_of p.ops.items ≡ ops_towards tree.now after next (map mark_of touched.items) (map mark_of restated.now)) }
 {
-    let parents = mark_numbers(alloc, touched)?;
-    let children = staying(alloc, touched)?;
+    let parents = mark_numbers(alloc, &touched)?;
+    let children = staying(alloc, &touched)?;
     let kept = NumberSet::of(alloc, &children)?;
     let mut ops = removals(alloc, tree, &kept, &parents)?;
-    let behind = put_moves(alloc, tree, &kept, next, next, touched, &mut ops)?;
+    let behind = put_moves(alloc, tree, &kept, next, next, &touched, &mut ops)?;
     put_looks(tree, restated, &mut ops)?;
-    Ok(Plan { ops, next: behind })
+    let mut coming = Vec::new(alloc);
+    put_coming(touched, &mut coming)?;
+    Ok(Plan {
+        ops,
+        coming,
+        next: behind,
+    })
 }
 
-// The operations from a page to what lines show next, by what is kept of these lines and what became of it: the page's numbers are known by
-// address, and its tree and its next unused number are these.
+// The operations from a page to what lines show next, by what is kept of these lines and what became of it.
 fn planned(
     alloc: Global,
     lines: &Block,
     memo: &PageMemo,
     change: &Change,
-    numbers: &Numbers,
-    tree: &Tree,
-    next: u64,
+    page: &PageNodes,
 ) -> Result<Plan, NoMemory>
-    requires { CanCompare (block lines.now) (kept memo.now) (changed change.now) (number_at numbers.now) tree.now next }
-    ensures { (p : NumberedPage) → Compares p (block lines.now) (kept memo.now) (changed change.now) (number_at numbers.now) tree.now next →
+    requires { CanCompare (block lines.now) (kept memo.now) (changed change.now) (number_at page.now.numbers) page.now.tree page.now.next }
+    ensures ops { (p : NumberedPage) → Compares p (block lines.now) (kept memo.now) (changed change.now) (number_at page.now.numbers) page.now.tree page.now.next →
         IfOk result (λ r. LeadOn p (lines_shape (block lines.now) (kept memo.now)) (map op_of r.ops.items) r.next) }
+    ensures coming { (p : NumberedPage) → Compares p (block lines.now) (kept memo.now) (changed change.now) (number_at page.now.numbers) page.now.tree page.now.next →
+        IfOk result (λ r. map address_of r.coming.items ≡ new_order p (lines_shape (block lines.now) (kept memo.now))) }
+    ensures next { IfOk result (λ r. r.next ≡ page.now.next + length r.coming.items) }
 {
-    let marks = compared(alloc, lines, memo, change, numbers)?;
+    let marks = compared(alloc, lines, memo, change, page)?;
     let Compared { touched, restated } = marks;
-    let all = operations(alloc, tree, next, &touched, &restated)?;
-    Ok(all)
+    let plan = operations(alloc, &page.tree, page.next, touched, &restated)?;
+    Ok(plan)
 }
 
 // Does an operation that isn't refused.
@@ -199,49 +209,6 @@ fn apply_all(alloc: Global, tree: &mut Tree, ops: &[Op]) -> Result<(), NoMemory>
     Ok(())
 }
 
-// Whether an operation takes nodes out.
-fn removes(op: &Op) -> bool
-    ensures { result ≡ is_removal (op_of op.now) }
-{
-    match op {
-        Op::Remove(_) => true,
-        Op::Insert(_, _, sub) => {
-            // a subtree is one node, whatever stands below it
-            let _ = sub.number();
-            false
-        }
-        Op::Move(_, _) => false,
-        Op::Text(_, _) => false,
-        Op::Attr(_, _, _, _) => false,
-        Op::Unattr(_, _) => false,
-    }
-}
-
-// Whether these operations, among which removals come first, take nodes out.
-fn any_removed(ops: &[Op]) -> bool
-    ensures { result ≡ removes_first (map op_of ops.now) }
-{
-    match ops.first() {
-        None => false,
-        Some(op) => removes(op),
-    }
-}
-
-// Whether nothing is removed, and nothing comes: the next unused number was the same.
-fn is_still(plan: &Plan, next: u64) -> bool
-    ensures { result ≡ (next == plan.now.next && not (removes_first (map op_of plan.now.ops.items))) }
-{
-    next == plan.next && !any_removed(&plan.ops)
-}
-
-/// A page's nodes: their tree, their numbers by address, and the next unused number.
-#[derive(Drop)]
-pub struct PageNodes {
-    pub tree: Tree,
-    pub numbers: Numbers,
-    pub next: u64,
-}
-
 /// Brings a page's nodes to what lines show next, by what is kept of these lines and what became of it, and gives the operations that led there.
 ///
 /// # Errors
@@ -259,24 +226,16 @@ pub fn carry(
         IfOk result (λ ops. Carries p (lines_shape (block lines.now) (kept renewed.now.memo)) (map op_of ops.items) nodes.new.next nodes.new.tree
         (number_at nodes.new.numbers)) }
 {
-    let plan = planned(
-        alloc,
-        lines,
-        &renewed.memo,
-        &renewed.change,
-        &nodes.numbers,
-        &nodes.tree,
-        nodes.next,
-    )?;
-    let still = is_still(&plan, nodes.next);
-    let Plan { ops, next } = plan;
+    let plan = planned(alloc, lines, &renewed.memo, &renewed.change, nodes)?;
+    let Plan { ops, coming, next } = plan;
     apply_all(alloc, &mut nodes.tree, &ops)?;
     renumber(
         alloc,
         lines,
         &renewed.memo,
         &nodes.tree,
-        still,
+        coming,
+        nodes.next,
         &mut nodes.numbers,
     )?;
     nodes.next = next;

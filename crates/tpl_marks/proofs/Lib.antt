@@ -1,3 +1,4 @@
+mod Arriving
 mod Lists
 mod Noting
 pub mod Shared

@@ -1,15 +1,14 @@
 -- Addresses that are noted with their numbers.
-use Rattle.std.proofs.Common.{◌≡◌, ℕ, zero, suc, ◌+◌, ◌<◌, ◌≤◌, ◌==◌, ◌||◌, Bool, true, false, cond, Option, Some, None, List, [], ◌∷◌, ◌++◌, drop, length, map, get_or, slice_index, refl, sym, ap, subst, ◌∙◌, arith, eqb-true, eq-eqb, inl, inr}
-use Rattle.std.proofs.lemmas.Bool.{cases_Bool, false≢true}
-use Rattle.std.proofs.lemmas.List.{drop_more, drop_all}
+use Rattle.std.proofs.Common.{◌≡◌, ℕ, zero, suc, ◌+◌, ◌<◌, ◌≤◌, ◌==◌, ◌||◌, Bool, true, false, cond, Option, Some, None, List, [], ◌∷◌, ◌++◌, drop, length, map, get_or, refl, sym, ap, ◌∙◌, arith}
+use Rattle.std.proofs.lemmas.List.{drop_more}
 use Rattle.page_model.specs.Forest.{Forest, none, node, keys, label_in, on, tally}
 use Rattle.page_model.specs.Labels.{Root, Look}
 use Rattle.page_model.specs.Pages.{by_number}
-use Rattle.page_model.proofs.Shared.{off_tally, on_tally, tally_on}
+use Rattle.page_model.proofs.Shared.{on_tally}
 use Rattle.tpl_shapes.specs.Addresses.{address_of, same_address}
 use Rattle.tpl_shapes.specs.declared.shown.Address.{Address}
 use Rattle.tpl_shapes.proofs.Shared.{same_number}
-use Rattle.tpl_marks.specs.Numbering.{AreNumbersOf, noted}
+use Rattle.tpl_marks.specs.Numbering.{AreNumbersOf, noted, noted_from}
 
 -- ---- one after the other
 
@@ -54,6 +53,46 @@ one_noted all rest left numbers at x before now e put are =
 pub all_noted : (all rest : List Address) (numbers : List ℕ) (at : ℕ) (now : Address → Option ℕ) → rest ≡ [] → AreLeft all rest numbers at now →
     (a : Address) → now a ≡ noted all (drop 1 numbers) (λ b. None) a
 all_noted all rest numbers at now e are a = ap (λ z. noted z (drop at numbers) now a) (sym e) ∙ are.each a
+
+-- ---- under the next numbers
+
+-- what is noted rests on what was noted
+same_from : (xs : List Address) (n : ℕ) (m l : Address → Option ℕ) → ((a : Address) → m a ≡ l a) → (a : Address) → noted_from xs n m a ≡ noted_from xs n l a
+same_from [] n m l e a = e a
+same_from (x ∷ xs) n m l e a =
+    same_from xs (n + 1) (λ b. cond (same_address x b) (Some n) (m b)) (λ b. cond (same_address x b) (Some n) (l b))
+    (λ b. ap (λ z. cond (same_address x b) (Some n) z) (e b)) a
+
+-- the addresses that are left have the numbers from this one on, and with them all are noted
+pub record AreWaiting (all rest : List Address) (from at : ℕ) (old now : Address → Option ℕ) : Type 0 where
+  pub many : at + length rest ≡ from + length all
+  pub each : (a : Address) → noted_from rest at now a ≡ noted_from all from old a
+
+pub all_waiting : (all : List Address) (from : ℕ) (old : Address → Option ℕ) → AreWaiting all all from from old old
+all_waiting all from old = record { many = refl; each = λ a. refl }
+
+pub one_less : (all rest left : List Address) (from at : ℕ) (x : Address) (old before now : Address → Option ℕ) → left ≡ x ∷ rest →
+    ((a : Address) → now a ≡ (cond (same_address x a) (Some at) (before a))) → AreWaiting all left from at old before → AreWaiting all rest from (at + 1) old now
+one_less all rest left from at x old before now e put are =
+    let h = ap length e in
+    let m = are.many in
+    record {
+      many = omega (arith, h, m);
+      each = λ a.
+          same_from rest (at + 1) now (λ b. cond (same_address x b) (Some at) (before b)) put a ∙ (ap (λ z. noted_from z at before a) (sym e) ∙ are.each a);
+    }
+
+-- where one is left, its number isn't the last there can be
+pub room_left : (all rest left : List Address) (from at : ℕ) (x : Address) (old before : Address → Option ℕ) → left ≡ x ∷ rest →
+    AreWaiting all left from at old before → at < from + length all
+room_left all rest left from at x old before e are =
+    let h = ap length e in
+    let m = are.many in
+    omega (arith, h, m)
+
+pub none_waiting : (all rest : List Address) (from at : ℕ) (old now : Address → Option ℕ) → rest ≡ [] → AreWaiting all rest from at old now →
+    (a : Address) → now a ≡ noted_from all from old a
+none_waiting all rest from at old now e are a = ap (λ z. noted_from z at now a) (sym e) ∙ are.each a
 
 -- ---- the nodes of a page
 

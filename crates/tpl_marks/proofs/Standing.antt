@@ -1,10 +1,10 @@
 -- Nodes that are marked one after the other.
-use Rattle.std.proofs.Common.{◌≡◌, ℕ, Option, Some, None, List, [], ◌∷◌, ◌++◌, append_assoc, append-nil, refl, sym, ap, subst, ◌∙◌}
+use Rattle.std.proofs.Common.{◌≡◌, ℕ, Option, Some, None, List, [], ◌∷◌, ◌++◌, append_assoc, append-nil, refl, sym, ap, ◌∙◌}
 use Rattle.page_model.specs.Forest.{Forest, none, node, after}
-use Rattle.page_model.specs.Labels.{Root, Look}
+use Rattle.page_model.specs.Labels.{Look}
 use Rattle.tpl_shapes.specs.Shapes.{Marked, Next, comes, stays}
 use Rattle.tpl_shapes.specs.declared.shown.Address.{Address}
-use Rattle.tpl_marks.specs.Marks.{Knows, children_in, marked_at, marks_in, next_of, root_mark}
+use Rattle.tpl_marks.specs.Marks.{Knows, children_in, marked_at, marks_in, next_of}
 use Rattle.tpl_marks.proofs.Lists.{last_out, step_out}
 
 pub children_after : (known : ℕ → Option ℕ) (x y : Forest Look) → children_in known (after x y) ≡ children_in known x ++ children_in known y
@@ -91,10 +91,3 @@ is_there number address n a x k t child children before below now e there at is 
       ∙ (sym (append-nil (marks_in known k ++ mark (children_in known k) ∷ []))
       ∙ (ap (λ z. marked_at z x (children_in known k) (marks_in known k) ++ []) (sym there ∙ at known kn) ∙ ap (marks_in known) (sym e))))));
 }
-
--- the root behind all others
-pub with_root : (number : Address → Option ℕ) (all : Forest Look) (children : List Next) (below now : List Marked) → AllMarked number all children below [] →
-    now ≡ below ++ record { number = 0; look = Root; children = children } ∷ [] → (known : ℕ → Option ℕ) → Knows number known →
-    now ≡ marks_in known all ++ root_mark known all ∷ []
-with_root number all children below now are put known k =
-    put ∙ (λ i. are.marks known k i ++ record { number = 0; look = Root; children = are.children known k i } ∷ [])

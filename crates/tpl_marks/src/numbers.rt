@@ -1,12 +1,13 @@
 // The numbers of a page's nodes by their addresses.
-ghost use Rattle.std.specs.Prelude.{◌≡◌, ◌≤◌, ℕ, ◌+◌, ◌∷◌, ◌++◌, Some, if◌then◌else◌, length, map, IfOk, OnOk};
+ghost use Rattle.std.specs.Prelude.{◌≡◌, ◌≤◌, ◌<◌, ℕ, ◌+◌, ◌/◌, ◌^◌, ltb, ◌∷◌, ◌++◌, Some, if◌then◌else◌, length, map, IfOk, OnOk};
+ghost use Rattle.indexmap.specs.IndexMap.{index_map_len};
 ghost use Rattle.page_model.specs.Forest.{Forest, keys, tally};
 ghost use Rattle.page_model.specs.Labels.{Look};
 ghost use Rattle.page_model.specs.Pages.{by_number};
 ghost use Rattle.tpl_shapes.specs.Addresses.{address_of, same_address};
 ghost use Rattle.tpl_shapes.specs.Shapes.{all_shown, shown_tree};
 ghost use Rattle.tpl_shapes.specs.declared.shown.Address.{Address as AnAddress};
-ghost use Rattle.tpl_marks.specs.Numbering.{noted, number_at, number_in, AreNumbersOf};
+ghost use Rattle.tpl_marks.specs.Numbering.{noted_from, number_at, number_in, AreNumbersOf};
 
 use indexmap::IndexMap;
 use sig_base::NoMemory;
@@ -14,7 +15,7 @@ use std::alloc::Global;
 use tpl_shapes::{Address, Shown};
 
 // Appends the address of a node and those of all below it, in document order.
-fn put_address(node: Shown, out: &mut Vec<Address>) -> Result<(), NoMemory>
+pub(crate) fn put_address(node: Shown, out: &mut Vec<Address>) -> Result<(), NoMemory>
     ensures { OnOk result (map address_of out.new.items ≡ map address_of out.old.items ++ keys (shown_tree node)) }
 {
     let Shown {
@@ -51,10 +52,11 @@ fn note(all: &mut IndexMap<Address, u64>, address: Address, number: u64) -> Resu
     Ok(())
 }
 
-/// The numbers of a page's nodes, by their addresses.
+/// The numbers that were noted of addresses: that of each node of a page, and of some that are gone, until they are read off anew.
 #[derive(Drop)]
 pub struct Numbers {
     all: IndexMap<Address, u64>,
+    read: usize,
 }
 
 impl Numbers {
@@ -75,10 +77,35 @@ impl Numbers {
             note(&mut all, address, numbers[at])?;
             at += 1;
         }
-        Ok(Numbers { all })
+        let read = all.len();
+        Ok(Numbers { all, read })
     }
 
-    /// The number of an address, where a node of the page has it.
+    /// Notes these addresses under the numbers from this one on, one after the other; one that was noted has its new number then.
+    ///
+    /// # Errors
+    ///
+    /// `NoMemory` alone; some may then be noted.
+    pub fn note_all(&mut self, addresses: Vec<Address>, from: u64) -> Result<(), NoMemory>
+        requires { from + length addresses.items < 2 ^ 64 }
+        ensures { OnOk result ((a : AnAddress) → number_at self.new a ≡ noted_from addresses.items from (number_at self.old) a) }
+    {
+        let mut number = from;
+        for address in addresses {
+            note(&mut self.all, address, number)?;
+            number += 1;
+        }
+        Ok(())
+    }
+
+    /// Whether half of the addresses that are noted are more than all there were when they were read off: most may be of nodes that are gone.
+    pub fn is_crowded(&self) -> bool
+        ensures { result ≡ ltb self.now.read (index_map_len self.now.all / 2) }
+    {
+        self.read < self.all.len() / 2
+    }
+
+    /// The number that was noted of an address.
     pub fn number(&self, address: &Address) -> Option<u64>
         ensures { result ≡ number_at self.now address.now }
     {

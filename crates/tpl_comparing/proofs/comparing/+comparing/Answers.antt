@@ -8,7 +8,7 @@ use Rattle.page_model.specs.Labels.{Element}
 use Rattle.tpl_blocks.specs.Blocks.{block, waiting}
 use Rattle.tpl_changes.specs.Changes.{chain, changed, first_in, over}
 use Rattle.tpl_changes.proofs.Equations.{changed_made, changed_over, changed_stays}
-use Rattle.tpl_marks.specs.Numbering.{number_at}
+use Rattle.tpl_marks.specs.Numbering.{number_on}
 use Rattle.tpl_memos.specs.Kept.{heard_of, kept}
 use Rattle.tpl_nodes.specs.Shown.{attributes_of, inside_of, rows_of, shows}
 use Rattle.tpl_nodes.proofs.Shared.{of_blank, of_branch, of_element, of_line, of_loop, of_unread}
@@ -122,7 +122,7 @@ compare_row-returns u c = λ known k.
 
 pub compare_rows-loop-place-init : goal.compare_rows-loop-place-init
 compare_rows-loop-place-init u c =
-    all_left (number_at c.args.numbers.now) (block c.args.inner.now) c.args.rows.now (map kept c.args.memos.now) c.args.inside.now
+    all_left (number_on c.args.page.now) (block c.args.inner.now) c.args.rows.now (map kept c.args.memos.now) c.args.inside.now
     (walk_of c.args.children.now.items c.args.out.now)
 
 pub compare_rows-loop-place-preserved : goal.compare_rows-loop-place-preserved
@@ -134,7 +134,7 @@ compare_rows-loop-place-preserved u c =
     let there : n < length rows = grind (arith, nat_tests, c.in-Some.ensures.lookup.0) in
     let m = kept c.index-memos-place.result in
     let d = option_copied c.get-change.result in
-    one_left (number_at c.args.numbers.now) (block c.args.inner.now) c.in-Some.row.now m d (drop n rows) (drop (n + 1) rows) (map kept (drop n memos))
+    one_left (number_on c.args.page.now) (block c.args.inner.now) c.in-Some.row.now m d (drop n rows) (drop (n + 1) rows) (map kept (drop n memos))
     (map kept (drop (n + 1) memos)) (drop n inside) (drop (n + 1) inside) rows (map kept memos) inside (walk_of c.loop-place.children.items c.loop-place.out)
     (walk_of c.compare_row.new.children.items c.compare_row.new.out) (walk_of c.args.children.now.items c.args.out.now)
     (left_of rows n c.in-Some.row.now there c.in-Some.ensures.lookup.1)
@@ -144,14 +144,14 @@ compare_rows-loop-place-preserved u c =
 pub compare_rows-returns-in_default : goal.compare_rows-returns-in_default
 compare_rows-returns-in_default u c =
     let n = c.loop-place.place in
-    rows_gone (number_at c.args.numbers.now) (block c.args.inner.now) (drop n c.args.rows.now) (map kept (drop n c.args.memos.now)) (drop n c.args.inside.now)
+    rows_gone (number_on c.args.page.now) (block c.args.inner.now) (drop n c.args.rows.now) (map kept (drop n c.args.memos.now)) (drop n c.args.inside.now)
     c.args.rows.now (map kept c.args.memos.now) c.args.inside.now (walk_of c.loop-place.children.items c.loop-place.out)
     (walk_of c.args.children.now.items c.args.out.now) (inl (past c.args.rows.now n (grind (arith, nat_tests, c.in_default.ensures.lookup.0)))) c.loop-place.invariant
 
 pub compare_rows-returns : goal.compare_rows-returns
 compare_rows-returns u c =
     let n = c.loop-place.place in
-    rows_gone (number_at c.args.numbers.now) (block c.args.inner.now) (drop n c.args.rows.now) (map kept (drop n c.args.memos.now)) (drop n c.args.inside.now)
+    rows_gone (number_on c.args.page.now) (block c.args.inner.now) (drop n c.args.rows.now) (map kept (drop n c.args.memos.now)) (drop n c.args.inside.now)
     c.args.rows.now (map kept c.args.memos.now) c.args.inside.now (walk_of c.loop-place.children.items c.loop-place.out)
     (walk_of c.args.children.now.items c.args.out.now) (inr (ap (map kept) (past c.args.memos.now n (omega arith)))) c.loop-place.invariant
 

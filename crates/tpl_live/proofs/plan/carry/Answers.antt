@@ -1,4 +1,4 @@
-use Rattle.std.proofs.Common.{map}
+use Rattle.std.proofs.Common.{map, arith}
 use Rattle.page_ops.specs.Ops.{op_of}
 use Rattle.tpl_blocks.specs.Blocks.{block}
 use Rattle.tpl_changes.specs.Changes.{changed}
@@ -11,7 +11,7 @@ use Rattle.tpl_live.proofs.plan.carry.Goals as goal
 
 pub apply_all-requires-clause-brings : goal.apply_all-requires-clause-brings
 apply_all-requires-clause-brings c =
-    rw c.deref.ensures.value (c.in_ok-plan.ensures c.requires.old c.requires.compares).brings
+    rw c.deref.ensures.value (c.in_ok-plan.ensures.ops c.requires.old c.requires.compares).brings
 
 pub apply_all-requires-clause-leads : goal.apply_all-requires-clause-leads
 apply_all-requires-clause-leads c =
@@ -19,20 +19,23 @@ apply_all-requires-clause-leads c =
     let plan = c.in_ok-plan.plan in
     rw c.deref.ensures.value
     (leads_there c.requires.old shape c.args.nodes.now.tree (map op_of plan.ops.items) plan.next c.requires.compares.stands
-    (c.in_ok-plan.ensures c.requires.old c.requires.compares))
+    (c.in_ok-plan.ensures.ops c.requires.old c.requires.compares))
 
-pub renumber-requires : goal.renumber-requires
-renumber-requires c =
+pub renumber-requires-clause-many : goal.renumber-requires-clause-many
+renumber-requires-clause-many c =
     let plan = c.in_ok-plan.plan in
     let nodes = c.args.nodes.now in
     many_now c.requires.old (block c.args.lines.now) (kept c.args.renewed.now.memo) (changed c.args.renewed.now.change) (number_at nodes.numbers) nodes.tree
-    c.apply_all.new.tree nodes.next (map op_of plan.ops.items) plan.next c.requires.compares (c.in_ok-plan.ensures c.requires.old c.requires.compares)
+    c.apply_all.new.tree nodes.next (map op_of plan.ops.items) plan.next c.requires.compares (c.in_ok-plan.ensures.ops c.requires.old c.requires.compares)
     (rw c.deref.ensures.value at c.in_ok-apply_all.ensures)
+
+pub renumber-requires-clause-room : goal.renumber-requires-clause-room
+renumber-requires-clause-room c = (let n = c.in_ok-plan.ensures.next in omega (arith, n))
 
 pub returns : goal.returns
 returns c = λ p cmp.
     let plan = c.in_ok-plan.plan in
     let nodes = c.args.nodes.now in
     carried_on p (block c.args.lines.now) (kept c.args.renewed.now.memo) (changed c.args.renewed.now.change) (number_at nodes.numbers)
-    (number_at c.renumber.new.numbers) nodes.tree c.apply_all.new.tree nodes.next (map op_of plan.ops.items) plan.next c.is_still-still.result cmp
-    (c.in_ok-plan.ensures p cmp) (rw c.deref.ensures.value at c.in_ok-apply_all.ensures) c.is_still-still.ensures c.in_ok-renumber.ensures
+    (number_at c.renumber.new.numbers) nodes.tree c.apply_all.new.tree nodes.next (map op_of plan.ops.items) plan.next plan.coming.items cmp
+    (c.in_ok-plan.ensures.ops p cmp) (rw c.deref.ensures.value at c.in_ok-apply_all.ensures) (c.in_ok-plan.ensures.coming p cmp) c.in_ok-renumber.ensures

@@ -6,6 +6,7 @@ use Rattle.tpl_memos.specs.Kept.{kept}
 use Rattle.tpl_shapes.specs.Addresses.{address_of}
 use Rattle.tpl_shapes.specs.Shapes.{all_shown}
 use Rattle.tpl_live.specs.Pages.{shown_in}
+use Rattle.tpl_live.proofs.Followed.{known_numbers}
 use Rattle.tpl_live.proofs.Numbered.{known_so, many_mapped}
 use Rattle.tpl_live.proofs.plan.numbers_of.Goals as goal
 
@@ -32,5 +33,6 @@ returns c = λ p q shape stands.
     c.in_ok-put_addresses.ensures ∙ (ap (λ z. map address_of z ++ keys (all_shown c.put_shown.new.out.items)) c.new-addresses.ensures.items ∙ ap keys e) in
     let n : c.put_numbers.new.out.items ≡ keys c.args.tree.now =
     c.in_ok-put_numbers.ensures ∙ ap (λ z. z ++ keys c.args.tree.now) c.new-all.ensures.items in
-    known_so p below c.args.tree.now (number_at c.in_ok-numbers.numbers) (map address_of c.put_addresses.new.out.items) c.put_numbers.new.out.items
-    (rw c.deref.ensures.value at c.in_ok-numbers.ensures) a n q shape stands
+    known_numbers p c.args.tree.now (number_at c.in_ok-numbers.numbers) q stands
+    (known_so p below c.args.tree.now (number_at c.in_ok-numbers.numbers) (map address_of c.put_addresses.new.out.items) c.put_numbers.new.out.items
+    (rw c.deref.ensures.value at c.in_ok-numbers.ensures) a n q shape stands)

@@ -1,30 +1,54 @@
-use Rattle.std.proofs.Common.{map}
+use Rattle.std.proofs.Common.{map, ◌∙◌}
 use Rattle.page_ops.specs.Ops.{op_of}
 use Rattle.tpl_blocks.specs.Blocks.{block}
 use Rattle.tpl_changes.specs.Changes.{changed}
 use Rattle.tpl_marks.specs.Numbering.{number_at}
 use Rattle.tpl_memos.specs.Kept.{kept}
 use Rattle.tpl_shapes.specs.Shapes.{mark_of}
+use Rattle.tpl_live.specs.Pages.{lines_shape}
 use Rattle.tpl_live.proofs.Operated.{compare}
-use Rattle.tpl_live.proofs.Planned.{compared_so, sorted_marks}
+use Rattle.tpl_live.proofs.Planned.{compared_so, many_come, sorted_marks}
 use Rattle.tpl_live.proofs.plan.planned.Goals as goal
 
 pub operations-requires : goal.operations-requires
 operations-requires c =
     let marks = c.in_ok-marks.marks in
-    rw c.deref.ensures.value
-    (compare c.requires.old (block c.args.lines.now) (kept c.args.memo.now) (changed c.args.change.now) (number_at c.args.numbers.now) c.args.tree.now c.args.next
+    let page = c.args.page.now in
+    (compare c.requires.old (block c.args.lines.now) (kept c.args.memo.now) (changed c.args.change.now) (number_at page.numbers) page.tree page.next
     (map mark_of marks.touched.items) (map mark_of marks.restated.items) c.requires.compares c.in_ok-marks.ensures.touched c.in_ok-marks.ensures.restated
     (sorted_marks marks.touched.items c.in_ok-marks.ensures.touched_sorted) (sorted_marks marks.restated.items c.in_ok-marks.ensures.restated_sorted)).sound
 
-pub returns : goal.returns
-returns c = λ p cmp.
+pub returns-clause-ops : goal.returns-clause-ops
+returns-clause-ops c = λ p cmp.
     let marks = c.in_ok-marks.marks in
+    let page = c.args.page.now in
     let ts = map mark_of marks.touched.items in
     let rs = map mark_of marks.restated.items in
-    compared_so p (block c.args.lines.now) (kept c.args.memo.now) (changed c.args.change.now) (number_at c.args.numbers.now) c.args.tree.now c.args.next ts rs
-    (map op_of c.in_ok-all.all.ops.items) c.in_ok-all.all.next cmp
-    (compare p (block c.args.lines.now) (kept c.args.memo.now) (changed c.args.change.now) (number_at c.args.numbers.now) c.args.tree.now c.args.next ts rs cmp
+    compared_so p (block c.args.lines.now) (kept c.args.memo.now) (changed c.args.change.now) (number_at page.numbers) page.tree page.next ts rs
+    (map op_of c.in_ok-plan.plan.ops.items) c.in_ok-plan.plan.next cmp
+    (compare p (block c.args.lines.now) (kept c.args.memo.now) (changed c.args.change.now) (number_at page.numbers) page.tree page.next ts rs cmp
     c.in_ok-marks.ensures.touched c.in_ok-marks.ensures.restated
     (sorted_marks marks.touched.items c.in_ok-marks.ensures.touched_sorted) (sorted_marks marks.restated.items c.in_ok-marks.ensures.restated_sorted))
-    (rw (c.deref.ensures.value, c.deref-2.ensures.value) at c.in_ok-all.ensures.ops) (rw c.deref.ensures.value at c.in_ok-all.ensures.next)
+    (rw c.deref.ensures.value at c.in_ok-plan.ensures.ops) c.in_ok-plan.ensures.next
+
+pub returns-clause-coming : goal.returns-clause-coming
+returns-clause-coming c = λ p cmp.
+    let marks = c.in_ok-marks.marks in
+    let page = c.args.page.now in
+    c.in_ok-plan.ensures.coming
+    ∙ (compare p (block c.args.lines.now) (kept c.args.memo.now) (changed c.args.change.now) (number_at page.numbers) page.tree page.next
+    (map mark_of marks.touched.items) (map mark_of marks.restated.items) cmp c.in_ok-marks.ensures.touched c.in_ok-marks.ensures.restated
+    (sorted_marks marks.touched.items c.in_ok-marks.ensures.touched_sorted) (sorted_marks marks.restated.items c.in_ok-marks.ensures.restated_sorted)).order
+
+pub returns-clause-next : goal.returns-clause-next
+returns-clause-next c =
+    let marks = c.in_ok-marks.marks in
+    let page = c.args.page.now in
+    let ts = map mark_of marks.touched.items in
+    let rs = map mark_of marks.restated.items in
+    let plan = c.in_ok-plan.plan in
+    many_come c.requires.old (lines_shape (block c.args.lines.now) (kept c.args.memo.now)) ts rs page.next plan.next plan.coming.items c.requires.compares.count
+    (compare c.requires.old (block c.args.lines.now) (kept c.args.memo.now) (changed c.args.change.now) (number_at page.numbers) page.tree page.next ts rs
+    c.requires.compares c.in_ok-marks.ensures.touched c.in_ok-marks.ensures.restated
+    (sorted_marks marks.touched.items c.in_ok-marks.ensures.touched_sorted) (sorted_marks marks.restated.items c.in_ok-marks.ensures.restated_sorted))
+    c.in_ok-plan.ensures.next c.in_ok-plan.ensures.coming

@@ -1,0 +1,26 @@
+// The nodes of a page that stands.
+ghost use Rattle.std.specs.Prelude.{◌≡◌};
+ghost use Rattle.tpl_marks.specs.Numbering.{number_on};
+
+use crate::numbers::Numbers;
+use page_tree::Tree;
+use tpl_shapes::Address;
+
+/// A page's nodes: their tree, the numbers that were noted of addresses, and the next unused number.
+#[derive(Drop)]
+pub struct PageNodes {
+    pub tree: Tree,
+    pub numbers: Numbers,
+    pub next: u64,
+}
+
+impl PageNodes {
+    /// The number of the node of an address; none where no node of the page has it.
+    pub fn number(&self, address: &Address) -> Option<u64>
+        ensures { result ≡ number_on self.now address.now }
+    {
+        let number = self.numbers.number(address)?;
+        self.tree.kind(number)?;
+        Some(number)
+    }
+}
