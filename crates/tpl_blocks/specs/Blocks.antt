@@ -45,7 +45,7 @@ line_of l = model_line (mapped tree l)
 
 -- an open part
 abbrev pub part_of : Part → model.Part
-part_of p = record { lines = block p.lines; others = block p.others; attributes = waiting p.attributes.items }
+part_of p = record { lines = block p.lines.value; others = block p.others.value; attributes = waiting p.attributes.items }
 
 -- a text before the lines of a part
 abbrev pub text_before : ℕ → Tree → model.Part → model.Part

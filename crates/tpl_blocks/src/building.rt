@@ -14,21 +14,23 @@ use tpl_syntax::{Template, TplLine};
 /// What stands before an `end`, read from there back: the lines, those after an `else`, and attributes that wait for their tag.
 #[derive(Drop)]
 pub(crate) struct Part {
-    lines: Block,
-    others: Block,
+    lines: Box<Block>,
+    others: Box<Block>,
     attributes: Vec<(Text, Formula)>,
 }
 
 impl Part {
     // No lines.
-    fn empty(alloc: Global) -> Part
-        ensures { part_of result ≡ model.no_lines }
+    fn empty(alloc: Global) -> Result<Part, NoMemory>
+        ensures { IfOk result (λ p. part_of p ≡ model.no_lines) }
     {
-        Part {
-            lines: Block::Empty,
-            others: Block::Empty,
+        let lines = boxed(alloc, Block::Empty)?;
+        let others = boxed(alloc, Block::Empty)?;
+        Ok(Part {
+            lines,
+            others,
             attributes: Vec::new(alloc),
-        }
+        })
     }
 }
 
@@ -69,12 +71,16 @@ fn boxed(alloc: Global, lines: Block) -> Result<Box<Block>, NoMemory>
 }
 
 // A text before other lines.
-fn text_block(alloc: Global, line: usize, formula: &Formula, rest: Block) -> Result<Block, NoMemory>
-    ensures { IfOk result (λ b. block b ≡ model.text line (tree formula.now) (block rest)) }
+fn text_block(
+    alloc: Global,
+    line: usize,
+    formula: &Formula,
+    rest: Box<Block>,
+) -> Result<Box<Block>, NoMemory>
+    ensures { IfOk result (λ b. block b.value ≡ model.text line (tree formula.now) (block rest.value)) }
 {
     let formula = copy_formula(alloc, formula)?;
-    let rest = boxed(alloc, rest)?;
-    Ok(Block::Text(line, formula, rest))
+    boxed(alloc, Block::Text(line, formula, rest))
 }
 
 // An element before other lines.
@@ -83,42 +89,40 @@ fn tag_block(
     line: usize,
     name: &Text,
     attributes: Vec<(Text, Formula)>,
-    inner: Block,
-    rest: Block,
-) -> Result<Block, NoMemory>
-    ensures { IfOk result (λ b. block b ≡ model.tag line name.now (waiting attributes.items) (block inner) (block rest)) }
+    inner: Box<Block>,
+    rest: Box<Block>,
+) -> Result<Box<Block>, NoMemory>
+    ensures { IfOk result (λ b. block b.value ≡ model.tag line name.now (waiting attributes.items) (block inner.value) (block rest.value)) }
 {
     let name = name.copy()?;
-    let inner = boxed(alloc, inner)?;
-    let rest = boxed(alloc, rest)?;
-    Ok(Block::Tag(line, name, attributes, inner, rest))
+    boxed(alloc, Block::Tag(line, name, attributes, inner, rest))
 }
 
 // A choice before other lines.
 fn choice_block(
     alloc: Global,
     test: &Formula,
-    one: Block,
-    other: Block,
-    rest: Block,
-) -> Result<Block, NoMemory>
-    ensures { IfOk result (λ b. block b ≡ model.choice (tree test.now) (block one) (block other) (block rest)) }
+    one: Box<Block>,
+    other: Box<Block>,
+    rest: Box<Block>,
+) -> Result<Box<Block>, NoMemory>
+    ensures { IfOk result (λ b. block b.value ≡ model.choice (tree test.now) (block one.value) (block other.value) (block rest.value)) }
 {
     let test = copy_formula(alloc, test)?;
-    let one = boxed(alloc, one)?;
-    let other = boxed(alloc, other)?;
-    let rest = boxed(alloc, rest)?;
-    Ok(Block::Choice(test, one, other, rest))
+    boxed(alloc, Block::Choice(test, one, other, rest))
 }
 
 // Lines for each row before other lines.
-fn each_block(alloc: Global, rows: &Formula, inner: Block, rest: Block) -> Result<Block, NoMemory>
-    ensures { IfOk result (λ b. block b ≡ model.each (tree rows.now) (block inner) (block rest)) }
+fn each_block(
+    alloc: Global,
+    rows: &Formula,
+    inner: Box<Block>,
+    rest: Box<Block>,
+) -> Result<Box<Block>, NoMemory>
+    ensures { IfOk result (λ b. block b.value ≡ model.each (tree rows.now) (block inner.value) (block rest.value)) }
 {
     let rows = copy_formula(alloc, rows)?;
-    let inner = boxed(alloc, inner)?;
-    let rest = boxed(alloc, rest)?;
-    Ok(Block::Each(rows, inner, rest))
+    boxed(alloc, Block::Each(rows, inner, rest))
 }
 
 // A text before the lines of a part.
@@ -138,6 +142,30 @@ fn with_text(alloc: Global, part: Part, line: usize, formula: &Formula) -> Resul
     })
 }
 
+// An attribute.
+fn attribute_of(alloc: Global, name: &Text, formula: &Formula) -> Result<(Text, Formula), NoMemory>
+    ensures { IfOk result (λ a. waiting (a ∷ []) ≡ (name.now, tree formula.now) ∷ []) }
+{
+    let name = name.copy()?;
+    let formula = copy_formula(alloc, formula)?;
+    Ok((name, formula))
+}
+
+// An attribute before others.
+fn with_first(
+    alloc: Global,
+    attributes: Vec<(Text, Formula)>,
+    name: &Text,
+    formula: &Formula,
+) -> Result<Vec<(Text, Formula)>, NoMemory>
+    ensures { IfOk result (λ v. waiting v.items ≡ (name.now, tree formula.now) ∷ waiting attributes.items) }
+{
+    let mut attributes = attributes;
+    let attribute = attribute_of(alloc, name, formula)?;
+    attributes.insert(0, attribute)?;
+    Ok(attributes)
+}
+
 // An attribute before those that wait.
 fn with_attribute(
     alloc: Global,
@@ -147,10 +175,17 @@ fn with_attribute(
 ) -> Result<Part, NoMemory>
     ensures { IfOk result (λ p. part_of p ≡ attribute_before name.now (tree formula.now) (part_of part)) }
 {
-    let mut part = part;
-    let attribute = (name.copy()?, copy_formula(alloc, formula)?);
-    part.attributes.insert(0, attribute)?;
-    Ok(part)
+    let Part {
+        lines,
+        others,
+        attributes,
+    } = part;
+    let attributes = with_first(alloc, attributes, name, formula)?;
+    Ok(Part {
+        lines,
+        others,
+        attributes,
+    })
 }
 
 // An element around a part, before the lines of the one around that.
@@ -226,19 +261,20 @@ fn with_each(alloc: Global, inner: Part, part: Part, rows: &Formula) -> Result<P
 }
 
 // Where something is begun: the lines before an `else` are still to come, and those behind it stand apart.
-fn with_else(alloc: Global, part: Part) -> Part
-    ensures { part_of result ≡ else_before (part_of part) }
+fn with_else(alloc: Global, part: Part) -> Result<Part, NoMemory>
+    ensures { IfOk result (λ p. part_of p ≡ else_before (part_of part)) }
 {
     let Part {
-        lines,
+        lines: others,
         others: _none,
         attributes: _waiting,
     } = part;
-    Part {
-        lines: Block::Empty,
-        others: lines,
+    let lines = boxed(alloc, Block::Empty)?;
+    Ok(Part {
+        lines,
+        others,
         attributes: Vec::new(alloc),
-    }
+    })
 }
 
 // A text before the lines of the innermost part.
@@ -330,7 +366,17 @@ fn put_else(alloc: Global, parts: &mut Vec<Part>, line: usize) -> Result<(), NoM
     let Some(part) = innermost(parts) else {
         return Ok(());
     };
-    open(parts, with_else(alloc, part))?;
+    let part = with_else(alloc, part)?;
+    open(parts, part)?;
+    Ok(())
+}
+
+// Nothing yet before an `end`.
+fn put_end(alloc: Global, parts: &mut Vec<Part>) -> Result<(), NoMemory>
+    ensures { OnOk result (held parts.new.items ≡ model.no_lines ∷ held parts.old.items) }
+{
+    let part = Part::empty(alloc)?;
+    open(parts, part)?;
     Ok(())
 }
 
@@ -350,7 +396,7 @@ fn put_line(
         TplLine::If(test) => put_choice(alloc, parts, ordinal, test),
         TplLine::Else => put_else(alloc, parts, ordinal),
         TplLine::Each(rows) => put_each(alloc, parts, ordinal, rows),
-        TplLine::End => open(parts, Part::empty(alloc)),
+        TplLine::End => put_end(alloc, parts),
     }
 }
 
@@ -359,7 +405,7 @@ fn parts_of(alloc: Global, lines: &[TplLine]) -> Result<Vec<Part>, NoMemory>
     ensures { IfOk result (λ parts. held parts.items ≡ model.parts_from 1 (map line_of lines.now)) }
 {
     let mut parts = Vec::new(alloc);
-    open(&mut parts, Part::empty(alloc))?;
+    put_end(alloc, &mut parts)?;
     let mut at = lines.len();
     while at > 0 {
         put_line(alloc, &mut parts, at, &lines[at - 1])?;
@@ -370,14 +416,14 @@ fn parts_of(alloc: Global, lines: &[TplLine]) -> Result<Vec<Part>, NoMemory>
 
 // The lines of a part alone.
 fn lines_in(part: Part) -> Block
-    ensures { result ≡ part.lines }
+    ensures { result ≡ part.lines.value }
 {
     let Part {
         lines,
         others: _none,
         attributes: _waiting,
     } = part;
-    lines
+    Box::into_inner(lines)
 }
 
 // The lines of the innermost part.

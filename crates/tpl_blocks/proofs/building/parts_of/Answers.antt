@@ -1,4 +1,4 @@
-use Rattle.std.proofs.Common.{◌≡◌, ◌∙◌, ◌+◌, ◌-◌, ◌<◌, ◌≤◌, ℕ, zero, suc, List, [], ◌∷◌, length, drop, get_or, map, ap, sym, arith}
+use Rattle.std.proofs.Common.{◌≡◌, ◌∙◌, ◌+◌, ◌-◌, ◌<◌, ◌≤◌, ℕ, zero, suc, List, [], ◌∷◌, length, refl, drop, get_or, map, ap, sym, arith}
 use Rattle.std.proofs.lemmas.List.{drop_all, drop_more}
 use Rattle.sig_formula.specs.declared.formula.Formula.{Formula}
 use Rattle.tpl_syntax.specs.declared.line.Line.{Line}
@@ -29,8 +29,8 @@ all_back lines (suc n) now h e = absurd (omega arith)
 pub loop-at-init : goal.loop-at-init
 loop-at-init c = record {
   within = omega arith;
-  stands = none_back c.args.lines.now (length c.args.lines.now) (part_of c.empty.result) (held c.new-parts.result.items) (held c.open.new.parts.items)
-      (omega arith) (ap held c.new-parts.ensures.items ∙ held_none) c.empty.ensures c.in_ok-open.ensures;
+  stands = none_back c.args.lines.now (length c.args.lines.now) model.no_lines (held c.new-parts.result.items) (held c.put_end.new.parts.items)
+      (omega arith) (ap held c.new-parts.ensures.items ∙ held_none) refl c.in_ok-put_end.ensures;
 }
 
 pub loop-at-preserved : goal.loop-at-preserved

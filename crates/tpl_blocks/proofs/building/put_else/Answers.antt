@@ -9,5 +9,5 @@ returns-in_default c = c.in_default.ensures.1 ∙ sym (ap (model.with_line c.arg
 
 pub returns : goal.returns
 returns c =
-    else_line c.args.line (part_of c.in-Some.part) (part_of c.with_else.result) (held c.args.parts.now.items) (held c.innermost.new.parts.items)
-    (held c.open.new.parts.items) c.in-Some.ensures c.with_else.ensures c.in_ok-open.ensures
+    else_line c.args.line (part_of c.in-Some.part) (part_of c.in_ok-part.part) (held c.args.parts.now.items) (held c.innermost.new.parts.items)
+    (held c.open.new.parts.items) c.in-Some.ensures c.in_ok-part.ensures c.in_ok-open.ensures

@@ -19,4 +19,4 @@ pub returns-in-Each : goal.returns-in-Each
 returns-in-Each c = rw c.in-Each.is c.put_each.ensures
 
 pub returns-in-End : goal.returns-in-End
-returns-in-End c = rw c.in-End.is (rw c.empty.ensures at c.open.ensures)
+returns-in-End c = rw c.in-End.is c.put_end.ensures
