@@ -19,7 +19,7 @@ use Rattle.formula_text.specs.declared.rough.Around.{Around}
 use Rattle.formula_text.specs.declared.rough.OverRows.{OverRows}
 use Rattle.formula_text.specs.declared.rough.Around.TheVariants as form
 use Rattle.formula_text.specs.declared.rough.OverRows.TheVariants as each
-use Rattle.formula_text.specs.Signs.{Leaf, Sign, name, sign, signs, word_sign, symbol_sign}
+use Rattle.formula_text.specs.Signs.{Leaf, Sign, name, sign, signs, word_sign, symbol_sign, later_word_sign, last_word_sign, later_symbol_sign, last_symbol_sign}
 use Rattle.formula_text.specs.Signs as t
 use Rattle.formula_text.specs.Grammar.{Written, single, group, it_dot, around, over_rows, negated, chain, pick, spelled}
 use Rattle.formula_text.specs.Canonical.{written, around_text, over_text, operator_text, leaf_text}
@@ -147,48 +147,48 @@ dot_token next sg = record {
 }
 
 comma_sign : symbol_sign (44 ∷ []) ≡ t.comma
-unfolding symbol_sign
+unfolding symbol_sign later_symbol_sign last_symbol_sign
 comma_sign = refl
 
 dot_sign : symbol_sign (46 ∷ []) ≡ t.dot
-unfolding symbol_sign
+unfolding symbol_sign later_symbol_sign last_symbol_sign
 dot_sign = refl
 
 opening_sign : symbol_sign (40 ∷ []) ≡ t.opening
-unfolding symbol_sign
+unfolding symbol_sign later_symbol_sign last_symbol_sign
 opening_sign = refl
 
 closing_sign : symbol_sign (41 ∷ []) ≡ t.closing
-unfolding symbol_sign
+unfolding symbol_sign later_symbol_sign last_symbol_sign
 closing_sign = refl
 
 not_key : IsKey (codes "not") t.not_word
-unfolding word_sign
+unfolding word_sign later_word_sign last_word_sign
 not_key = record { word = refl; some = omega arith; says = refl }
 
 if_key : IsKey (codes "if") t.if_word
-unfolding word_sign
+unfolding word_sign later_word_sign last_word_sign
 if_key = record { word = refl; some = omega arith; says = refl }
 
 then_key : IsKey (codes "then") t.then_word
-unfolding word_sign
+unfolding word_sign later_word_sign last_word_sign
 then_key = record { word = refl; some = omega arith; says = refl }
 
 else_key : IsKey (codes "else") t.else_word
-unfolding word_sign
+unfolding word_sign later_word_sign last_word_sign
 else_key = record { word = refl; some = omega arith; says = refl }
 
 it_key : IsKey (codes "it") t.it_word
-unfolding word_sign
+unfolding word_sign later_word_sign last_word_sign
 it_key = record { word = refl; some = omega arith; says = refl }
 
 around_key : (f : Around) → IsKey (around_text f) (t.around f)
-unfolding word_sign
+unfolding word_sign later_word_sign last_word_sign
 around_key form.Count = record { word = refl; some = omega arith; says = refl }
 around_key form.Untrack = record { word = refl; some = omega arith; says = refl }
 
 over_key : (f : OverRows) → IsKey (over_text f) (t.over_rows f)
-unfolding word_sign
+unfolding word_sign later_word_sign last_word_sign
 over_key each.Sum = record { word = refl; some = omega arith; says = refl }
 over_key each.Keep = record { word = refl; some = omega arith; says = refl }
 
@@ -207,59 +207,59 @@ no_sign true b e = rw e refl
 no_sign false b e = refl
 
 is_Or : IsOperator op.Or kind.Word
-unfolding word_sign
+unfolding word_sign later_word_sign last_word_sign
 is_Or = record { token = λ next sg e. record { form = refl; ends = rw e refl; signed = tt }; some = omega arith; says = refl }
 
 is_And : IsOperator op.And kind.Word
-unfolding word_sign
+unfolding word_sign later_word_sign last_word_sign
 is_And = record { token = λ next sg e. record { form = refl; ends = rw e refl; signed = tt }; some = omega arith; says = refl }
 
 is_Lt : IsOperator op.Lt kind.Symbol
-unfolding symbol_sign
+unfolding symbol_sign later_symbol_sign last_symbol_sign
 is_Lt = record { token = λ next sg e. record { form = refl; ends = λ _. rw e refl; signed = λ is. absurd (omega (arith, ap (λ (l : List ℕ). slice_index l 0) is)) }; some = omega arith; says = refl }
 
 is_Gt : IsOperator op.Gt kind.Symbol
-unfolding symbol_sign
+unfolding symbol_sign later_symbol_sign last_symbol_sign
 is_Gt = record { token = λ next sg e. record { form = refl; ends = λ _. rw e refl; signed = λ is. absurd (omega (arith, ap (λ (l : List ℕ). slice_index l 0) is)) }; some = omega arith; says = refl }
 
 is_Add : IsOperator op.Add kind.Symbol
-unfolding symbol_sign
+unfolding symbol_sign later_symbol_sign last_symbol_sign
 is_Add = record { token = λ next sg e. record { form = refl; ends = λ _. rw e refl; signed = λ is. absurd (omega (arith, ap (λ (l : List ℕ). slice_index l 0) is)) }; some = omega arith; says = refl }
 
 is_Mul : IsOperator op.Mul kind.Symbol
-unfolding symbol_sign
+unfolding symbol_sign later_symbol_sign last_symbol_sign
 is_Mul = record { token = λ next sg e. record { form = refl; ends = λ _. rw e refl; signed = λ is. absurd (omega (arith, ap (λ (l : List ℕ). slice_index l 0) is)) }; some = omega arith; says = refl }
 
 is_Div : IsOperator op.Div kind.Symbol
-unfolding symbol_sign
+unfolding symbol_sign later_symbol_sign last_symbol_sign
 is_Div = record { token = λ next sg e. record { form = refl; ends = λ _. rw e refl; signed = λ is. absurd (omega (arith, ap (λ (l : List ℕ). slice_index l 0) is)) }; some = omega arith; says = refl }
 
 is_Rem : IsOperator op.Rem kind.Symbol
-unfolding symbol_sign
+unfolding symbol_sign later_symbol_sign last_symbol_sign
 is_Rem = record { token = λ next sg e. record { form = refl; ends = λ _. rw e refl; signed = λ is. absurd (omega (arith, ap (λ (l : List ℕ). slice_index l 0) is)) }; some = omega arith; says = refl }
 
 is_Sub : IsOperator op.Sub kind.Symbol
-unfolding symbol_sign
+unfolding symbol_sign later_symbol_sign last_symbol_sign
 is_Sub = record { token = λ next sg e. record { form = refl; ends = λ _. rw e refl; signed = λ is. no_sign sg (slice_index next 0) e }; some = omega arith; says = refl }
 
 is_Eq : IsOperator op.Eq kind.Symbol
-unfolding symbol_sign
+unfolding symbol_sign later_symbol_sign last_symbol_sign
 is_Eq = record { token = λ next sg e. record { form = refl; ends = λ is. absurd (omega (arith, is)); signed = λ is. absurd cc }; some = omega arith; says = refl }
 
 is_Ne : IsOperator op.Ne kind.Symbol
-unfolding symbol_sign
+unfolding symbol_sign later_symbol_sign last_symbol_sign
 is_Ne = record { token = λ next sg e. record { form = refl; ends = λ is. absurd (omega (arith, is)); signed = λ is. absurd cc }; some = omega arith; says = refl }
 
 is_Le : IsOperator op.Le kind.Symbol
-unfolding symbol_sign
+unfolding symbol_sign later_symbol_sign last_symbol_sign
 is_Le = record { token = λ next sg e. record { form = refl; ends = λ is. absurd (omega (arith, is)); signed = λ is. absurd cc }; some = omega arith; says = refl }
 
 is_Ge : IsOperator op.Ge kind.Symbol
-unfolding symbol_sign
+unfolding symbol_sign later_symbol_sign last_symbol_sign
 is_Ge = record { token = λ next sg e. record { form = refl; ends = λ is. absurd (omega (arith, is)); signed = λ is. absurd cc }; some = omega arith; says = refl }
 
 is_Join : IsOperator op.Join kind.Symbol
-unfolding symbol_sign
+unfolding symbol_sign later_symbol_sign last_symbol_sign
 is_Join = record { token = λ next sg e. record { form = refl; ends = λ is. absurd (omega (arith, is)); signed = λ is. absurd cc }; some = omega arith; says = refl }
 
 record Operator (o : BinOp) : Type 0 where

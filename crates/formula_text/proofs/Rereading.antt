@@ -27,7 +27,7 @@ use Rattle.formula_text.specs.declared.rough.OverRows.{OverRows}
 use Rattle.formula_text.specs.declared.rough.Around.TheVariants as form
 use Rattle.formula_text.specs.declared.rough.OverRows.TheVariants as each
 use Rattle.formula_text.specs.declared.wired.Allow.{Allow}
-use Rattle.formula_text.specs.Signs.{Leaf, Sign, name, constant, sign, signs, word_sign, symbol_sign, NoOperator}
+use Rattle.formula_text.specs.Signs.{Leaf, Sign, name, constant, sign, signs, word_sign, symbol_sign, NoOperator, later_word_sign, last_word_sign, later_symbol_sign, last_symbol_sign}
 use Rattle.formula_text.specs.Signs as t
 use Rattle.formula_text.specs.Grammar.{IsLongest, Draft, leaf, negation, binary, choice, of_row, one_part, each_row, spelled, meant, level, before, Spells}
 use Rattle.formula_text.specs.Grammar.{Written, single, group, it_dot, around, over_rows, negated, chain, pick}
@@ -62,7 +62,7 @@ good_name w true h = h
 good_name w false h = tt
 
 pub good_word : (w : List ℕ) → Good (word_sign w)
-unfolding word_sign
+unfolding word_sign later_word_sign last_word_sign
 good_word w =
     good_if (bytes_eq w (codes "or")) _ _ tt
     (good_if (bytes_eq w (codes "and")) _ _ tt
@@ -80,7 +80,7 @@ good_word w =
     (good_name w (is_name w) refl)))))))))))))
 
 pub good_symbol : (s : List ℕ) → Good (symbol_sign s)
-unfolding symbol_sign
+unfolding symbol_sign later_symbol_sign last_symbol_sign
 good_symbol s =
     good_if (bytes_eq s (codes "(")) _ _ tt
     (good_if (bytes_eq s (codes ")")) _ _ tt

@@ -15,7 +15,7 @@ use Rattle.sig_words.specs.declared.token.TokenKind.TheVariants as kind
 use Rattle.sig_words.specs.Lexemes.{lexemes}
 use Rattle.sig_words.specs.Tokens.{AreTokens, Cuts, may_sign}
 use Rattle.sig_words.proofs.Shared.{numeric, one_cutting}
-use Rattle.formula_text.specs.Signs.{Leaf, Sign, name, constant, signs, word_sign}
+use Rattle.formula_text.specs.Signs.{Leaf, Sign, name, constant, signs, word_sign, later_word_sign, last_word_sign}
 use Rattle.formula_text.specs.Signs as t
 use Rattle.formula_text.specs.Grammar.{Draft, Spells, IsFormula, spelled}
 use Rattle.formula_text.specs.Canonical.{canonical_text, minimal}
@@ -55,7 +55,7 @@ is_false false h = refl
 
 -- a word that isn't reserved stands for itself
 name_says : (n : List ℕ) → is_reserved n ≡ false → is_name n ≡ true → word_sign n ≡ t.leaf (name n)
-unfolding word_sign is_reserved
+unfolding word_sign later_word_sign last_word_sign is_reserved
 name_says n h name-is =
     let p16 = neither (((((((((((((((bytes_eq n (codes "and") || bytes_eq n (codes "or")) || bytes_eq n (codes "not")) || bytes_eq n (codes "if")) || bytes_eq n (codes "then")) || bytes_eq n (codes "else")) || bytes_eq n (codes "true")) || bytes_eq n (codes "false")) || bytes_eq n (codes "count")) || bytes_eq n (codes "sum")) || bytes_eq n (codes "keep")) || bytes_eq n (codes "it")) || bytes_eq n (codes "untrack")) || bytes_eq n (codes "host")) || bytes_eq n (codes "in"))) (bytes_eq n (codes "equals")) h in
     let p15 = neither ((((((((((((((bytes_eq n (codes "and") || bytes_eq n (codes "or")) || bytes_eq n (codes "not")) || bytes_eq n (codes "if")) || bytes_eq n (codes "then")) || bytes_eq n (codes "else")) || bytes_eq n (codes "true")) || bytes_eq n (codes "false")) || bytes_eq n (codes "count")) || bytes_eq n (codes "sum")) || bytes_eq n (codes "keep")) || bytes_eq n (codes "it")) || bytes_eq n (codes "untrack")) || bytes_eq n (codes "host"))) (bytes_eq n (codes "in")) p16.0 in
@@ -89,7 +89,7 @@ name_token n h =
     record { kind_is = kind.Word; plain = tt; form = k.word; some = k.some; says = k.says }
 
 pub truth_token : (b : Bool) → IsOneToken (constant (scalar.Bool b))
-unfolding word_sign
+unfolding word_sign later_word_sign last_word_sign
 truth_token true = record { kind_is = kind.Word; plain = tt; form = refl; some = omega arith; says = refl }
 truth_token false = record { kind_is = kind.Word; plain = tt; form = refl; some = omega arith; says = refl }
 

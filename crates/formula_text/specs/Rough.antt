@@ -1,4 +1,5 @@
 -- Formulas whose leaves are places of tokens.
+use Rattle.std.specs.declared.boxed.Box.{Box}
 use Rattle.std.specs.Prelude.{◌≡◌, ℕ, ◌<◌, ◌≤◌, true, List, [], length, drop, slice_get, Option, Some, None, IfSome}
 use Rattle.sig_base.specs.Words.{is_name}
 use Rattle.sig_base.specs.declared.scalar.Scalar.TheVariants as scalar
@@ -97,6 +98,10 @@ signs_from line tokens at = signs (lexemes line (drop at tokens))
 -- what was read of the tokens: a formula, its rule, and the place after it
 abbrev pub RoughPart : Type 0
 RoughPart = Rough × ℕ × ℕ
+
+-- the same, of a formula in a box
+abbrev pub unboxed : {Z : Type 0} → Box Rough Z × ℕ × ℕ → RoughPart
+unboxed p = (p.0.value, p.1, p.2)
 
 -- the same of the signs
 abbrev pub part_of : List ℕ → List Token → RoughPart → Part

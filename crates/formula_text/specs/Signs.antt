@@ -35,6 +35,24 @@ pub data Sign : Type 0 where
   -- what stands in no formula
   other : Sign
 
+-- what the last words are
+unfoldable pub last_word_sign : List ℕ → Sign
+last_word_sign w =
+    if bytes_eq w (codes "it") then it_word
+    else if bytes_eq w (codes "true") then leaf (constant (scalar.Bool true))
+    else if bytes_eq w (codes "false") then leaf (constant (scalar.Bool false))
+    else if is_name w then leaf (name w)
+    else other
+
+-- what the other words are
+unfoldable pub later_word_sign : List ℕ → Sign
+later_word_sign w =
+    if bytes_eq w (codes "untrack") then around form.Untrack
+    else if bytes_eq w (codes "count") then around form.Count
+    else if bytes_eq w (codes "sum") then over_rows each.Sum
+    else if bytes_eq w (codes "keep") then over_rows each.Keep
+    else last_word_sign w
+
 -- what a word is
 unfoldable pub word_sign : List ℕ → Sign
 word_sign w =
@@ -44,15 +62,28 @@ word_sign w =
     else if bytes_eq w (codes "if") then if_word
     else if bytes_eq w (codes "then") then then_word
     else if bytes_eq w (codes "else") then else_word
-    else if bytes_eq w (codes "untrack") then around form.Untrack
-    else if bytes_eq w (codes "count") then around form.Count
-    else if bytes_eq w (codes "sum") then over_rows each.Sum
-    else if bytes_eq w (codes "keep") then over_rows each.Keep
-    else if bytes_eq w (codes "it") then it_word
-    else if bytes_eq w (codes "true") then leaf (constant (scalar.Bool true))
-    else if bytes_eq w (codes "false") then leaf (constant (scalar.Bool false))
-    else if is_name w then leaf (name w)
+    else later_word_sign w
+
+-- what the last symbols are
+unfoldable pub last_symbol_sign : List ℕ → Sign
+last_symbol_sign s =
+    if bytes_eq s (codes "+") then operator op.Add
+    else if bytes_eq s (codes "-") then operator op.Sub
+    else if bytes_eq s (codes "*") then operator op.Mul
+    else if bytes_eq s (codes "/") then operator op.Div
+    else if bytes_eq s (codes "%") then operator op.Rem
     else other
+
+-- what the other symbols are
+unfoldable pub later_symbol_sign : List ℕ → Sign
+later_symbol_sign s =
+    if bytes_eq s (codes "!=") then operator op.Ne
+    else if bytes_eq s (codes "<") then operator op.Lt
+    else if bytes_eq s (codes "<=") then operator op.Le
+    else if bytes_eq s (codes ">") then operator op.Gt
+    else if bytes_eq s (codes ">=") then operator op.Ge
+    else if bytes_eq s (codes "++") then operator op.Join
+    else last_symbol_sign s
 
 -- what a symbol is
 unfoldable pub symbol_sign : List ℕ → Sign
@@ -62,18 +93,7 @@ symbol_sign s =
     else if bytes_eq s (codes ",") then comma
     else if bytes_eq s (codes ".") then dot
     else if bytes_eq s (codes "==") then operator op.Eq
-    else if bytes_eq s (codes "!=") then operator op.Ne
-    else if bytes_eq s (codes "<") then operator op.Lt
-    else if bytes_eq s (codes "<=") then operator op.Le
-    else if bytes_eq s (codes ">") then operator op.Gt
-    else if bytes_eq s (codes ">=") then operator op.Ge
-    else if bytes_eq s (codes "++") then operator op.Join
-    else if bytes_eq s (codes "+") then operator op.Add
-    else if bytes_eq s (codes "-") then operator op.Sub
-    else if bytes_eq s (codes "*") then operator op.Mul
-    else if bytes_eq s (codes "/") then operator op.Div
-    else if bytes_eq s (codes "%") then operator op.Rem
-    else other
+    else later_symbol_sign s
 
 -- what is said by a token is in a formula
 abbrev pub sign : Lexeme → Sign

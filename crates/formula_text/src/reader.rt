@@ -1,9 +1,9 @@
 // Reads the longest formula from a place on.
-ghost use Rattle.std.specs.Prelude.{◌≡◌, ◌<◌, ◌≤◌, ℕ, length, IfOk, IfSome, MatchOption, option_map};
+ghost use Rattle.std.specs.Prelude.{◌≡◌, ◌<◌, ◌≤◌, ℕ, length, IfOk, IfSome, MatchOption, Some, option_map};
 ghost use Rattle.formula_text.specs.Wiring.{IsRead, ReadsNone};
 ghost use Rattle.formula_text.specs.Grammar.{before, level};
 ghost use Rattle.formula_text.specs.Reading.{choice_at, each_row_at, expr, head, one_part_at, row_part_at};
-ghost use Rattle.formula_text.specs.Rough.{IsPartFrom, part_of, signs_from};
+ghost use Rattle.formula_text.specs.Rough.{IsPartFrom, part_of, signs_from, unboxed};
 
 use crate::rough::{Around, OverRows, Rough};
 use crate::sign::{Sign, sign_at};
@@ -48,14 +48,30 @@ pub fn before(o: BinOp) -> u8
 }
 
 // A formula, its rule, and the place after it.
-type Part = (Rough, u8, usize);
+type Part = (Box<Rough>, u8, usize);
+
+// A formula in a box.
+fn boxed(alloc: Global, rough: Rough) -> Result<Box<Rough>, NoMemory>
+    ensures { IfOk result (λ b. b.value ≡ rough) }
+{
+    let held = Box::new(alloc, rough)?;
+    Ok(held)
+}
+
+// A formula that was read, in a box.
+fn read(alloc: Global, rough: Rough, own: u8, to: usize) -> Result<Option<Part>, NoMemory>
+    ensures { IfOk result (λ found. option_map unboxed found ≡ Some (rough, own, to)) }
+{
+    let rough = boxed(alloc, rough)?;
+    Ok(Some((rough, own, to)))
+}
 
 // What follows `if`.
 #[cycle(reading)]
 fn choice(alloc: Global, line: &[u8], tokens: &[Token], at: usize) -> Result<Option<Part>, NoMemory>
-    ensures part { IfOk result (λ found. IfSome found (IsPartFrom line.now tokens.now at)) }
+    ensures part { IfOk result (λ found. IfSome (option_map unboxed found) (IsPartFrom line.now tokens.now at)) }
     ensures exact { IfOk result (λ found. (n : ℕ) → length (signs_from line.now tokens.now at) < n →
-        option_map (part_of line.now tokens.now) found ≡ choice_at (expr n) (signs_from line.now tokens.now at)) }
+        option_map (part_of line.now tokens.now) (option_map unboxed found) ≡ choice_at (expr n) (signs_from line.now tokens.now at)) }
 {
     let Some((test, _, rest)) = expr(alloc, line, tokens, at, CHOICE)? else {
         return Ok(None);
@@ -72,9 +88,7 @@ fn choice(alloc: Global, line: &[u8], tokens: &[Token], at: usize) -> Result<Opt
     let Some((other, _, rest)) = expr(alloc, line, tokens, rest + 1, CHOICE)? else {
         return Ok(None);
     };
-    let test = Box::new(alloc, test)?;
-    let held = Box::new(alloc, held)?;
-    Ok(Some((Rough::If(test, held, Box::new(alloc, other)?), CHOICE, rest)))
+    read(alloc, Rough::If(test, held, other), CHOICE, rest)
 }
 
 // What follows `count` or `untrack`.
@@ -86,9 +100,9 @@ fn one_part(
     at: usize,
     form: Around,
 ) -> Result<Option<Part>, NoMemory>
-    ensures part { IfOk result (λ found. IfSome found (IsPartFrom line.now tokens.now at)) }
+    ensures part { IfOk result (λ found. IfSome (option_map unboxed found) (IsPartFrom line.now tokens.now at)) }
     ensures exact { IfOk result (λ found. (n : ℕ) → length (signs_from line.now tokens.now at) < n →
-        option_map (part_of line.now tokens.now) found ≡ one_part_at (expr n) form (signs_from line.now tokens.now at)) }
+        option_map (part_of line.now tokens.now) (option_map unboxed found) ≡ one_part_at (expr n) form (signs_from line.now tokens.now at)) }
 {
     let Some(Sign::Open) = sign_at(line, tokens, at) else {
         return Ok(None);
@@ -99,11 +113,7 @@ fn one_part(
     let Some(Sign::Close) = sign_at(line, tokens, rest) else {
         return Ok(None);
     };
-    Ok(Some((
-        Rough::Around(form, Box::new(alloc, inner)?),
-        PRIMARY,
-        rest + 1,
-    )))
+    read(alloc, Rough::Around(form, inner), PRIMARY, rest + 1)
 }
 
 // What follows `sum` or `keep`.
@@ -115,9 +125,9 @@ fn each_row(
     at: usize,
     form: OverRows,
 ) -> Result<Option<Part>, NoMemory>
-    ensures part { IfOk result (λ found. IfSome found (IsPartFrom line.now tokens.now at)) }
+    ensures part { IfOk result (λ found. IfSome (option_map unboxed found) (IsPartFrom line.now tokens.now at)) }
     ensures exact { IfOk result (λ found. (n : ℕ) → length (signs_from line.now tokens.now at) < n →
-        option_map (part_of line.now tokens.now) found ≡ each_row_at (expr n) form (signs_from line.now tokens.now at)) }
+        option_map (part_of line.now tokens.now) (option_map unboxed found) ≡ each_row_at (expr n) form (signs_from line.now tokens.now at)) }
 {
     let Some(Sign::Open) = sign_at(line, tokens, at) else {
         return Ok(None);
@@ -134,16 +144,11 @@ fn each_row(
     let Some(Sign::Close) = sign_at(line, tokens, rest) else {
         return Ok(None);
     };
-    let rows = Box::new(alloc, rows)?;
-    Ok(Some((
-        Rough::OverRows(form, rows, Box::new(alloc, each)?),
-        PRIMARY,
-        rest + 1,
-    )))
+    read(alloc, Rough::OverRows(form, rows, each), PRIMARY, rest + 1)
 }
 
 // What follows `it`.
-fn row_part(line: &[u8], tokens: &[Token], at: usize) -> Option<Part>
+fn row_part(line: &[u8], tokens: &[Token], at: usize) -> Option<(Rough, u8, usize)>
     ensures part { IfSome result (IsPartFrom line.now tokens.now at) }
     ensures exact { option_map (part_of line.now tokens.now) result ≡ row_part_at (signs_from line.now tokens.now at) }
 {
@@ -164,18 +169,18 @@ fn head(
     at: usize,
     least: u8,
 ) -> Result<Option<Part>, NoMemory>
-    ensures part { IfOk result (λ found. IfSome found (IsPartFrom line.now tokens.now at)) }
+    ensures part { IfOk result (λ found. IfSome (option_map unboxed found) (IsPartFrom line.now tokens.now at)) }
     ensures exact { IfOk result (λ found. (n : ℕ) → length (signs_from line.now tokens.now at) ≤ n →
-        option_map (part_of line.now tokens.now) found ≡ head (expr n) least (signs_from line.now tokens.now at)) }
+        option_map (part_of line.now tokens.now) (option_map unboxed found) ≡ head (expr n) least (signs_from line.now tokens.now at)) }
 {
     let Some(sign) = sign_at(line, tokens, at) else {
         return Ok(None);
     };
     match sign {
-        Sign::Name => Ok(Some((Rough::Name(at), PRIMARY, at + 1))),
-        Sign::Text => Ok(Some((Rough::Text(at), PRIMARY, at + 1))),
-        Sign::Number(n) => Ok(Some((Rough::Number(n), PRIMARY, at + 1))),
-        Sign::Truth(b) => Ok(Some((Rough::Truth(b), PRIMARY, at + 1))),
+        Sign::Name => read(alloc, Rough::Name(at), PRIMARY, at + 1),
+        Sign::Text => read(alloc, Rough::Text(at), PRIMARY, at + 1),
+        Sign::Number(n) => read(alloc, Rough::Number(n), PRIMARY, at + 1),
+        Sign::Truth(b) => read(alloc, Rough::Truth(b), PRIMARY, at + 1),
         Sign::If => {
             if least > CHOICE {
                 return Ok(None);
@@ -189,11 +194,16 @@ fn head(
             let Some((inner, _, rest)) = expr(alloc, line, tokens, at + 1, NEGATION)? else {
                 return Ok(None);
             };
-            Ok(Some((Rough::Not(Box::new(alloc, inner)?), NEGATION, rest)))
+            read(alloc, Rough::Not(inner), NEGATION, rest)
         }
         Sign::Around(form) => one_part(alloc, line, tokens, at + 1, form),
         Sign::OverRows(form) => each_row(alloc, line, tokens, at + 1, form),
-        Sign::It => Ok(row_part(line, tokens, at + 1)),
+        Sign::It => {
+            let Some((rough, own, to)) = row_part(line, tokens, at + 1) else {
+                return Ok(None);
+            };
+            read(alloc, rough, own, to)
+        }
         Sign::Open => {
             let Some((inner, _, rest)) = expr(alloc, line, tokens, at + 1, CHOICE)? else {
                 return Ok(None);
@@ -215,9 +225,9 @@ fn expr(
     at: usize,
     least: u8,
 ) -> Result<Option<Part>, NoMemory>
-    ensures part { IfOk result (λ found. IfSome found (IsPartFrom line.now tokens.now at)) }
+    ensures part { IfOk result (λ found. IfSome (option_map unboxed found) (IsPartFrom line.now tokens.now at)) }
     ensures exact { IfOk result (λ found. (n : ℕ) → length (signs_from line.now tokens.now at) < n →
-        option_map (part_of line.now tokens.now) found ≡ expr n least (signs_from line.now tokens.now at)) }
+        option_map (part_of line.now tokens.now) (option_map unboxed found) ≡ expr n least (signs_from line.now tokens.now at)) }
 {
     let Some((mut left, mut own, mut rest)) = head(alloc, line, tokens, at, least)? else {
         return Ok(None);
@@ -232,7 +242,7 @@ fn expr(
         let Some((right, _, more)) = expr(alloc, line, tokens, rest + 1, level(o) + 1)? else {
             return Ok(Some((left, own, rest)));
         };
-        left = Rough::Bin(o, Box::new(alloc, left)?, Box::new(alloc, right)?);
+        left = boxed(alloc, Rough::Bin(o, left, right))?;
         own = level(o);
         rest = more;
     }
@@ -254,5 +264,5 @@ pub fn read_rough(
     let Some((rough, _, to)) = expr(alloc, line, tokens, from, CHOICE)? else {
         return Ok(None);
     };
-    Ok(Some((rough, to)))
+    Ok(Some((Box::into_inner(rough), to)))
 }

@@ -2,7 +2,7 @@
 ghost use Rattle.std.specs.Prelude.{◌≡◌, ◌∷◌, ◌+◌, ◌<◌, [], length, true, IfSome, MatchOption};
 ghost use Rattle.sig_base.specs.Words.{is_name};
 ghost use Rattle.sig_words.specs.Lexemes.{lexeme, text_at};
-ghost use Rattle.formula_text.specs.Signs.{sign, symbol_sign, word_sign};
+ghost use Rattle.formula_text.specs.Signs.{last_symbol_sign, last_word_sign, later_symbol_sign, later_word_sign, sign, symbol_sign, word_sign};
 ghost use Rattle.formula_text.specs.Rough.{bytes_at, sign_of, IsSeen, IsSeenAt, signs_from};
 
 use crate::rough::{Around, OverRows};
@@ -50,7 +50,18 @@ fn word_sign(text: &[u8]) -> Sign
         Sign::Then
     } else if text == b"else".as_slice() {
         Sign::Else
-    } else if text == b"untrack".as_slice() {
+    } else {
+        later_word_sign(text)
+    }
+}
+
+#[tactic(auto, unfolding(crate::specs::Signs::later_word_sign))]
+fn later_word_sign(text: &[u8]) -> Sign
+    ensures sign { sign_of text.now result ≡ later_word_sign text.now }
+    ensures name { result ≡ Sign.Name → is_name text.now ≡ true }
+    ensures no_text { result ≡ Sign.Text → ⊥ }
+{
+    if text == b"untrack".as_slice() {
         Sign::Around(Around::Untrack)
     } else if text == b"count".as_slice() {
         Sign::Around(Around::Count)
@@ -58,7 +69,18 @@ fn word_sign(text: &[u8]) -> Sign
         Sign::OverRows(OverRows::Sum)
     } else if text == b"keep".as_slice() {
         Sign::OverRows(OverRows::Keep)
-    } else if text == b"it".as_slice() {
+    } else {
+        last_word_sign(text)
+    }
+}
+
+#[tactic(auto, unfolding(crate::specs::Signs::last_word_sign))]
+fn last_word_sign(text: &[u8]) -> Sign
+    ensures sign { sign_of text.now result ≡ last_word_sign text.now }
+    ensures name { result ≡ Sign.Name → is_name text.now ≡ true }
+    ensures no_text { result ≡ Sign.Text → ⊥ }
+{
+    if text == b"it".as_slice() {
         Sign::It
     } else if text == b"true".as_slice() {
         Sign::Truth(true)
@@ -87,7 +109,18 @@ fn symbol_sign(text: &[u8]) -> Sign
         Sign::Dot
     } else if text == b"==".as_slice() {
         Sign::Operator(BinOp::Eq)
-    } else if text == b"!=".as_slice() {
+    } else {
+        later_symbol_sign(text)
+    }
+}
+
+#[tactic(auto, unfolding(crate::specs::Signs::later_symbol_sign))]
+fn later_symbol_sign(text: &[u8]) -> Sign
+    ensures sign { sign_of text.now result ≡ later_symbol_sign text.now }
+    ensures no_name { result ≡ Sign.Name → ⊥ }
+    ensures no_text { result ≡ Sign.Text → ⊥ }
+{
+    if text == b"!=".as_slice() {
         Sign::Operator(BinOp::Ne)
     } else if text == b"<".as_slice() {
         Sign::Operator(BinOp::Lt)
@@ -99,7 +132,18 @@ fn symbol_sign(text: &[u8]) -> Sign
         Sign::Operator(BinOp::Ge)
     } else if text == b"++".as_slice() {
         Sign::Operator(BinOp::Join)
-    } else if text == b"+".as_slice() {
+    } else {
+        last_symbol_sign(text)
+    }
+}
+
+#[tactic(auto, unfolding(crate::specs::Signs::last_symbol_sign))]
+fn last_symbol_sign(text: &[u8]) -> Sign
+    ensures sign { sign_of text.now result ≡ last_symbol_sign text.now }
+    ensures no_name { result ≡ Sign.Name → ⊥ }
+    ensures no_text { result ≡ Sign.Text → ⊥ }
+{
+    if text == b"+".as_slice() {
         Sign::Operator(BinOp::Add)
     } else if text == b"-".as_slice() {
         Sign::Operator(BinOp::Sub)

@@ -137,6 +137,14 @@ fn each_formula(form: OverRows, rows: Box<Formula>, each: Box<Formula>) -> Formu
     }
 }
 
+// A formula in a box.
+fn boxed(alloc: Global, formula: Formula) -> Result<Box<Formula>, NoMemory>
+    ensures { IfOk result (λ b. b.value ≡ formula) }
+{
+    let held = Box::new(alloc, formula)?;
+    Ok(held)
+}
+
 // The formula whose slots are the places of its names.
 fn slotted(
     alloc: Global,
@@ -144,46 +152,48 @@ fn slotted(
     tokens: &[Token],
     rough: &Rough,
     names: &[Name],
-) -> Result<Formula, FormulaFault>
+) -> Result<Box<Formula>, FormulaFault>
     requires of_line { AreTokens line.now tokens.now }
     requires leaves { HasLeaves line.now tokens.now rough.now }
-    ensures ok { length names.now ≤ MOST_SOURCES → IfOk result (λ f. tree f ≡ slotted names.now (draft line.now tokens.now rough.now)) }
+    ensures ok { length names.now ≤ MOST_SOURCES → IfOk result (λ f. tree f.value ≡ slotted names.now (draft line.now tokens.now rough.now)) }
     ensures texts { IfOk result (λ f. has_long_text (draft line.now tokens.now rough.now) ≡ false) }
     ensures failed { IfErr result (λ e. IsLongCause (has_long_text (draft line.now tokens.now rough.now)) e) }
 {
     match rough {
-        Rough::Name(place) => Ok(Formula::Slot(slot_of(names, token_bytes(line, &tokens[*place])))),
-        Rough::Text(place) => Ok(Formula::Lit(Scalar::Text(text_at(alloc, line, tokens, *place)?))),
-        Rough::Number(n) => Ok(Formula::Lit(Scalar::Int(*n))),
-        Rough::Truth(b) => Ok(Formula::Lit(Scalar::Bool(*b))),
-        Rough::It(place) => Ok(row_formula(name_at(alloc, line, tokens, *place)?)),
+        Rough::Name(place) => Ok(boxed(alloc, Formula::Slot(slot_of(names, token_bytes(line, &tokens[*place]))))?),
+        Rough::Text(place) => {
+            let text = text_at(alloc, line, tokens, *place)?;
+            Ok(boxed(alloc, Formula::Lit(Scalar::Text(text)))?)
+        }
+        Rough::Number(n) => Ok(boxed(alloc, Formula::Lit(Scalar::Int(*n)))?),
+        Rough::Truth(b) => Ok(boxed(alloc, Formula::Lit(Scalar::Bool(*b)))?),
+        Rough::It(place) => {
+            let name = name_at(alloc, line, tokens, *place)?;
+            Ok(boxed(alloc, row_formula(name))?)
+        }
         Rough::Not(inner) => {
             let inner = slotted(alloc, line, tokens, inner, names)?;
-            Ok(Formula::Not(Box::new(alloc, inner)?))
+            Ok(boxed(alloc, Formula::Not(inner))?)
         }
         Rough::Bin(o, left, right) => {
             let left = slotted(alloc, line, tokens, left, names)?;
             let right = slotted(alloc, line, tokens, right, names)?;
-            let left = Box::new(alloc, left)?;
-            Ok(Formula::Bin(*o, left, Box::new(alloc, right)?))
+            Ok(boxed(alloc, Formula::Bin(*o, left, right))?)
         }
         Rough::If(test, held, other) => {
             let test = slotted(alloc, line, tokens, test, names)?;
             let held = slotted(alloc, line, tokens, held, names)?;
             let other = slotted(alloc, line, tokens, other, names)?;
-            let test = Box::new(alloc, test)?;
-            let held = Box::new(alloc, held)?;
-            Ok(Formula::If(test, held, Box::new(alloc, other)?))
+            Ok(boxed(alloc, Formula::If(test, held, other))?)
         }
         Rough::Around(form, inner) => {
             let inner = slotted(alloc, line, tokens, inner, names)?;
-            Ok(one_formula(*form, Box::new(alloc, inner)?))
+            Ok(boxed(alloc, one_formula(*form, inner))?)
         }
         Rough::OverRows(form, rows, each) => {
             let rows = slotted(alloc, line, tokens, rows, names)?;
             let each = slotted(alloc, line, tokens, each, names)?;
-            let rows = Box::new(alloc, rows)?;
-            Ok(each_formula(*form, rows, Box::new(alloc, each)?))
+            Ok(boxed(alloc, each_formula(*form, rows, each))?)
         }
     }
 }
@@ -219,7 +229,10 @@ pub fn wire(
     if names.len() > MOST_SOURCES {
         return Err(FormulaFault::Sources);
     }
-    Ok(Wired { formula, names })
+    Ok(Wired {
+        formula: Box::into_inner(formula),
+        names,
+    })
 }
 
 /// The longest formula from a place on, and the place of the token after it. `Syntax` where no formula begins there; the

@@ -25,25 +25,31 @@ pub fn put_formula_of(out: &mut Vec<u8>, names: &[Name], formula: &Formula) -> R
     put_at(out, names, formula, CHOICE)
 }
 
+fn operator_bytes(operator: BinOp) -> &'static [u8]
+    ensures { result.now ≡ operator_text operator }
+{
+    match operator {
+        BinOp::Or => b"or",
+        BinOp::And => b"and",
+        BinOp::Eq => b"==",
+        BinOp::Ne => b"!=",
+        BinOp::Lt => b"<",
+        BinOp::Le => b"<=",
+        BinOp::Gt => b">",
+        BinOp::Ge => b">=",
+        BinOp::Join => b"++",
+        BinOp::Add => b"+",
+        BinOp::Sub => b"-",
+        BinOp::Mul => b"*",
+        BinOp::Div => b"/",
+        BinOp::Rem => b"%",
+    }
+}
+
 fn put_operator(out: &mut Vec<u8>, operator: BinOp) -> Result<(), NoMemory>
     ensures { OnOk result (out.new.items ≡ out.old.items ++ operator_text operator) }
 {
-    match operator {
-        BinOp::Or => out.extend_from_slice(b"or")?,
-        BinOp::And => out.extend_from_slice(b"and")?,
-        BinOp::Eq => out.extend_from_slice(b"==")?,
-        BinOp::Ne => out.extend_from_slice(b"!=")?,
-        BinOp::Lt => out.extend_from_slice(b"<")?,
-        BinOp::Le => out.extend_from_slice(b"<=")?,
-        BinOp::Gt => out.extend_from_slice(b">")?,
-        BinOp::Ge => out.extend_from_slice(b">=")?,
-        BinOp::Join => out.extend_from_slice(b"++")?,
-        BinOp::Add => out.extend_from_slice(b"+")?,
-        BinOp::Sub => out.extend_from_slice(b"-")?,
-        BinOp::Mul => out.extend_from_slice(b"*")?,
-        BinOp::Div => out.extend_from_slice(b"/")?,
-        BinOp::Rem => out.extend_from_slice(b"%")?,
-    }
+    out.extend_from_slice(operator_bytes(operator))?;
     Ok(())
 }
 

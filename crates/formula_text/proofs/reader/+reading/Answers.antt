@@ -26,7 +26,7 @@ pub expr-returns-then-level-least-clause-exact : goal.expr-returns-then-level-le
 expr-returns-then-level-least-clause-exact t c = λ n small.
     let is = rw c.in-Operator.is at c.in-Some-sign_at.ensures.found in
     let leads = c.loop-sign.invariant.leads n small in
-    refuses c.in-Operator.o n _ _ _ (draft c.args.line.now c.args.tokens.now c.loop-sign.left, c.loop-sign.own, signs_from c.args.line.now c.args.tokens.now c.loop-sign.rest) is leads
+    refuses c.in-Operator.o n _ _ _ (draft c.args.line.now c.args.tokens.now c.loop-sign.left.value, c.loop-sign.own, signs_from c.args.line.now c.args.tokens.now c.loop-sign.rest) is leads
     (elim c.then-level-least.branch [
       | expr-then-level-least-via-then-level-least w ↦ inl (let a = w.if-level-least.true in omega (arith, c.level.ensures))
       | expr-then-level-least-via-else-level-least+then-own-before w ↦ inr (let a = w.if-own-before.true in omega (arith, w.before-else-level-least.ensures))
@@ -37,7 +37,7 @@ expr-returns-in_default-2-clause-exact t c = λ n small.
     let is = rw c.in-Operator.is at c.in-Some-sign_at.ensures.found in
     let leads = c.loop-sign.invariant.leads n small in
     let shorter = c.loop-sign.invariant.part.shorter in
-    stays c.in-Operator.o n _ _ (signs_from c.args.line.now c.args.tokens.now (c.loop-sign.rest + 1)) (draft c.args.line.now c.args.tokens.now c.loop-sign.left, c.loop-sign.own, signs_from c.args.line.now c.args.tokens.now c.loop-sign.rest) is leads (omega (arith, ap length is)) small
+    stays c.in-Operator.o n _ _ (signs_from c.args.line.now c.args.tokens.now (c.loop-sign.rest + 1)) (draft c.args.line.now c.args.tokens.now c.loop-sign.left.value, c.loop-sign.own, signs_from c.args.line.now c.args.tokens.now c.loop-sign.rest) is leads (omega (arith, ap length is)) small
     (λ m h. let e = c.in_ok-right.ensures.exact m h in rw (c.in_default-2.is, c.level-in-Some-sign_at.ensures) at e)
 
 pub expr-loop-sign-preserved : goal.expr-loop-sign-preserved
@@ -50,11 +50,11 @@ expr-loop-sign-preserved t c =
       part = record {
         shorter = omega (arith, ap length is);
         within = right.within;
-        leaves = rw (c.in_ok-new.ensures.ok, c.in_ok-new-2.ensures.ok) (c.loop-sign.invariant.part.leaves, right.leaves);
+        leaves = rw c.in_ok-left-2.ensures (c.loop-sign.invariant.part.leaves, right.leaves);
       };
       leads = λ n small.
           let leads = rw is at (c.loop-sign.invariant.leads n small) in
-          rw (c.in_ok-new.ensures.ok, c.in_ok-new-2.ensures.ok, c.level-own.ensures)
+          rw (c.in_ok-left-2.ensures, c.level-own.ensures)
           (goes c.in-Operator.o _ _ c.loop-sign.own c.in-Some-2.field-0-1 n _ _ (signs_from c.args.line.now c.args.tokens.now (c.loop-sign.rest + 1)) _
           (let a = c.if-level-least.false in omega (arith, c.level.ensures))
           (let a = c.if-own-before.false in omega (arith, c.before-else-level-least.ensures))

@@ -14,8 +14,8 @@ decreases-head l = 3 * length (signs_from l.line.now l.tokens.now l.at) + 1
 
 abbrev pub invariant-expr-loop-sign : goal.invariant-expr-loop-sign
 invariant-expr-loop-sign l = record {
-  part : IsPartFrom l.line l.tokens l.at (l.left, l.own, l.rest);
-  leads : (n : ℕ) → length (signs_from l.line l.tokens l.at) < n → Leads n l.least (signs_from l.line l.tokens l.at) (draft l.line l.tokens l.left, l.own, signs_from l.line l.tokens l.rest);
+  part : IsPartFrom l.line l.tokens l.at (l.left.value, l.own, l.rest);
+  leads : (n : ℕ) → length (signs_from l.line l.tokens l.at) < n → Leads n l.least (signs_from l.line l.tokens l.at) (draft l.line l.tokens l.left.value, l.own, signs_from l.line l.tokens l.rest);
 }
 
 abbrev pub decreases-expr-loop-sign : goal.decreases-expr-loop-sign

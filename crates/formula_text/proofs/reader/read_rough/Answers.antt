@@ -10,7 +10,8 @@ returns c =
     let line = c.args.line.now in
     let tokens = c.args.tokens.now in
     let part = rw c.in-Some.is at c.in_ok-rough.ensures.part in
-    record {
-      reads = some_read line tokens c.args.from c.in-Some.to c.in-Some.field-0-1 (draft line tokens c.in-Some.rough) part.within part.shorter (λ n small. let e = c.in_ok-rough.ensures.exact n small in rw c.in-Some.is at e);
+    rw c.into_inner.ensures
+    (record {
+      reads = some_read line tokens c.args.from c.in-Some.to c.in-Some.field-0-1 (draft line tokens c.in-Some.rough.value) part.within part.shorter (λ n small. let e = c.in_ok-rough.ensures.exact n small in rw c.in-Some.is at e);
       leaves = part.leaves;
-    }
+    })
