@@ -6,7 +6,7 @@ use Rattle.effect_model.specs.Owning as owning
 use Rattle.effect_model.specs.Owning.{put_under}
 use Rattle.effect_model.specs.Worlds as plain
 use Rattle.effect_model.specs.Worlds.{lives, tell}
-use Rattle.effect_frames.specs.Frames.{IsOfSignals}
+use Rattle.effect_laws.specs.Frames.{IsOfSignals}
 use Rattle.sig_owner.specs.Tables.{Row, changed_at, live_at, noted, thing_at, with_item}
 use Rattle.sig_owner.specs.Trees.{has_thing, owned_of}
 use Rattle.sig_owner.proofs.Shared.{has_put, item_length, item_lives, item_thing, renamed_put}

@@ -3,3 +3,6 @@ mod Refusals
 mod Meant
 mod Tabled
 pub mod Shared
+mod Composing
+mod Ordered
+pub mod SharedDoing

@@ -21,8 +21,8 @@ use Rattle.effect_tables.specs.declared.links.Links.TheViews.{out-Links}
 use Rattle.effect_tables.specs.Fitting.{AreFew, IsFew}
 use Rattle.effect_tables.specs.Linking as tables
 use Rattle.effect_tables.specs.Linking.{rewired, signal_number, target_thing}
-use Rattle.effect_sites.specs.Sites.{IsPart, parts_of, slots_in}
-use Rattle.effect_sites.proofs.Shared.{part_parts}
+use Rattle.effect_undoing.specs.Sites.{IsPart, parts_of, slots_in}
+use Rattle.effect_undoing.proofs.SharedSites.{part_parts}
 use Rattle.effect_acts.specs.declared.changes.Change.{Change}
 use Rattle.effect_acts.specs.Changing.{IsMeant}
 

@@ -6,9 +6,9 @@ ghost use Rattle.effect_world.specs.Acting.{any_hosts, scene};
 ghost use Rattle.effect_world.specs.Agreeing.{Agrees, AreOwned};
 ghost use Rattle.effect_acts.specs.Acting.{Acted};
 
-use effect_reads::Read;
 use effect_world::{Event, World};
 use sig_base::{EffectId, NoMemory};
+use sig_untrack::Read;
 
 /// An effect keeps the tracked reads of its body, which was evaluated, and that is told.
 ///
@@ -27,7 +27,7 @@ pub fn keep_reads(
     ensures told { OnOk result (length events.new.items ≡ length events.old.items + 1) }
 {
     let alloc = *events.allocator();
-    let names = effect_reads::names(alloc, &reads)?;
+    let names = sig_untrack::names(alloc, &reads)?;
     world.tables.keep(alloc, id, &reads)?;
     events.push(Event::Body(id, names))?;
     Ok(())

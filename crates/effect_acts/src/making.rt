@@ -4,7 +4,7 @@ ghost use Rattle.std.specs.Rc.{rc_value};
 ghost use Rattle.effect_model.specs.Owning.{the_effect};
 ghost use Rattle.effect_model.specs.Running.{make_child};
 ghost use Rattle.effect_tables.specs.Fitting.{IsFitting};
-ghost use Rattle.effect_sites.specs.Sites.{parts_of};
+ghost use Rattle.effect_undoing.specs.Sites.{parts_of};
 ghost use Rattle.effect_undoing.specs.Finding.{is_tabled};
 ghost use Rattle.sig_host.specs.Hosts.{HostPlace};
 ghost use Rattle.sig_effect.specs.declared.errors.EffectFault.TheVariants as fault;

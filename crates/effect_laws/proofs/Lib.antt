@@ -16,3 +16,12 @@ mod Notified
 mod Resting
 mod QuietFlush
 pub mod Shared
+mod Framing
+mod Tearing
+pub mod SharedFrames
+mod Acting
+mod Turning
+mod Lengths
+pub mod SharedTelling
+mod Keeping
+pub mod SharedCounts

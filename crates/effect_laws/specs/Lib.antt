@@ -7,3 +7,6 @@ pub mod Notified
 pub mod Resting
 pub mod Living
 pub mod QuietFlush
+pub mod Frames
+pub mod Telling
+pub mod Counts

@@ -1,4 +1,6 @@
 // Laws of effects, for all environments and all lists of commands.
+ghost use Rattle.effect_laws.specs.Counts.{AllKeepCounts, FlushesKeepCounts};
+ghost use Rattle.effect_laws.specs.Frames.{ended_all, signal_part, with_part};
 ghost use Rattle.effect_laws.specs.Asking.{BodyLaw};
 ghost use Rattle.effect_laws.specs.Ends.{ClosingLaw, EndLaw, SilenceLaw};
 ghost use Rattle.effect_laws.specs.HostUse.{HostLaw};
@@ -7,6 +9,11 @@ ghost use Rattle.effect_laws.specs.Living.{LifeLaw};
 ghost use Rattle.effect_laws.specs.Notified.{NotifiedLaw};
 ghost use Rattle.effect_laws.specs.QuietFlush.{QuietFlushLaw};
 ghost use Rattle.effect_laws.specs.Resting.{RestLaw};
+ghost use Rattle.effect_model.specs.Acts.{undo_all};
+ghost use Rattle.effect_model.specs.Owning.{Undoing};
+ghost use Rattle.effect_model.specs.Worlds.{Environment, World};
+ghost use Rattle.effect_laws.specs.Telling.{AllOnlyTell, FlushesOnlyTell, TurnsOnlyTell};
+ghost use Rattle.std.specs.Prelude.{◌≡◌, List};
 
 /// Nothing that has ended runs, is evaluated, is notified, is cleaned up or ends again; and each cleanup that was noted is done once
 /// before its effect runs again or ends.
@@ -62,4 +69,23 @@ pub fn rest_law()
 /// A flush after one that wasn't refused does nothing at all.
 pub fn quiet_flush_law()
     ensures { QuietFlushLaw }
+{}
+
+/// A teardown does to signals what it does where nothing else was made, tells as much, and takes what ends out of its table.
+pub fn teardown_by_parts()
+    ensures { (env : Environment) (us : List Undoing) (w : World) →
+        undo_all env us w ≡ with_part (undo_all env us (signal_part w)) (ended_all us w) }
+{}
+
+/// Whatever is done, what it tells is put behind what was told before, and what is done is the same whatever was told.
+pub fn telling_law()
+    ensures acts { AllOnlyTell }
+    ensures turns { TurnsOnlyTell }
+    ensures flushes { FlushesOnlyTell }
+{}
+
+/// Settling, changes, ends and the acts of effects make no signal, owner, page or watcher, and so it is with flushes.
+pub fn counting_law()
+    ensures acts { AllKeepCounts }
+    ensures flushes { FlushesKeepCounts }
 {}

@@ -8,10 +8,10 @@ use Rattle.effect_model.specs.Bodies.{Act, to_set, to_log, to_note, to_make, to_
 use Rattle.effect_model.specs.Worlds.{Environment, Effect, Event, failed, logged, noted, refused, thing_gone, World, tell, lives, settle}
 use Rattle.effect_model.specs.Acts.{set_cell, rewire_signal, undo_all, take_back, dispose_live, dispose_thing}
 use Rattle.effect_model.specs.Running.{look, looked_names, value_now, make_child, do_act, next_child, do_acts, keep_reads, do_result, run_body, run_taken_back, run_effect}
-use Rattle.effect_frames.specs.Frames.{ended_all, ended_one, IsOfSignals, signal_part, with_part}
-use Rattle.effect_frames.proofs.Shared.{framed_rewire, framed_set, framed_settle, framed_tell, undo_all_split}
-use Rattle.effect_telling.specs.Telling.{OnlyTells}
-use Rattle.effect_telling.proofs.Shared.{all_only_tell, look_only, result_only, silent, told_behind}
+use Rattle.effect_laws.specs.Frames.{ended_all, ended_one, IsOfSignals, signal_part, with_part}
+use Rattle.effect_laws.proofs.SharedFrames.{framed_rewire, framed_set, framed_settle, framed_tell, undo_all_split}
+use Rattle.effect_laws.specs.Telling.{OnlyTells}
+use Rattle.effect_laws.proofs.SharedTelling.{all_only_tell, look_only, result_only, silent, told_behind}
 use Rattle.effect_tables.specs.Placed.{at_rest, listed}
 use Rattle.effect_resting.specs.Resting.{AllRest, AreBare, Rests}
 use Rattle.effect_resting.proofs.Listing.{bare_emptied, bare_listed, bare_out, bare_put, emptied_listed, listed_twice, out_listed, put_listed, under_listed}

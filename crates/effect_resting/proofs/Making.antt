@@ -13,7 +13,7 @@ use Rattle.effect_model.specs.Commands as command
 use Rattle.effect_model.specs.Commands.{after_command, armed, changed_watcher, command_refused, done_by, inside_refused, told_if}
 use Rattle.effect_model.specs.Commands.{with_new_cell, with_new_computed, with_new_effect, with_new_owner, with_new_page, with_new_watcher}
 use Rattle.effect_model.specs.Running.{flush}
-use Rattle.effect_telling.specs.Telling.{OnlyTells}
+use Rattle.effect_laws.specs.Telling.{OnlyTells}
 use Rattle.effect_tables.specs.Placed.{at_rest}
 use Rattle.effect_resting.specs.Resting.{AreBare, Rests}
 use Rattle.effect_resting.proofs.Listing.{bare_made, listed_twice, made_listed}

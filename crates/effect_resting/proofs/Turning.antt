@@ -3,8 +3,8 @@ use Rattle.std.proofs.Common.{◌≡◌, ℕ, zero, suc, ◌+◌, Bool, true, fa
 use Rattle.effect_model.specs.Worlds.{Environment, Effect, World, effect_at, effect_numbers}
 use Rattle.effect_model.specs.Running.{is_effect_due, value_now, look, Turned, after_look, at_place, turn_over, turn}
 use Rattle.effect_model.specs.Running.{Flushed, after_last, last_case, last_look, after_turn, flush_within, flush}
-use Rattle.effect_telling.specs.Telling.{flushed_behind}
-use Rattle.effect_telling.proofs.Shared.{flushes_only_tell, last_only_tells, silent, told_before, turns_only_tell}
+use Rattle.effect_laws.specs.Telling.{flushed_behind}
+use Rattle.effect_laws.proofs.SharedTelling.{flushes_only_tell, last_only_tells, silent, told_before, turns_only_tell}
 use Rattle.effect_tables.specs.Placed.{at_rest}
 use Rattle.effect_resting.specs.Resting.{AreBare, FlushRests, LastRests, TurnRests}
 use Rattle.effect_resting.proofs.Listing.{bare_listed}

@@ -1,9 +1,11 @@
-//! Worlds at rest: what is done to the one is done to the other.
+//! Worlds at rest: what is done to the one is done to the other; a turn effect by effect, and a flush turn by turn.
 #![tactic(auto)]
 
-ghost use Rattle.std.specs.Prelude.{ℕ, List};
 ghost use Rattle.effect_model.specs.Worlds.{Environment};
 ghost use Rattle.effect_resting.specs.Resting.{AllRest, CommandsRest, FlushRests, LastRests, TurnRests};
+ghost use Rattle.effect_resting.specs.Turned.{FlushesByTurns};
+ghost use Rattle.effect_resting.specs.Visiting.{TurnsByVisits};
+ghost use Rattle.std.specs.Prelude.{ℕ, List};
 
 /// Whatever is done, it does the same to a world at rest as to the world itself: it rests neither on what was told before nor on what
 /// stands at the top and can't own, as long as nothing stands under that.
@@ -13,4 +15,10 @@ pub fn resting_law()
     ensures looks { (env : Environment) (ids : List ℕ) → LastRests env ids }
     ensures flushes { (env : Environment) → FlushRests env }
     ensures commands { CommandsRest }
+{}
+
+/// A turn visits the effects that live at its start, in order: each that still lives is looked at, and runs where it is due.
+pub fn visiting_law()
+    ensures turns { TurnsByVisits }
+    ensures flushes { FlushesByTurns }
 {}

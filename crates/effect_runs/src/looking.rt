@@ -7,10 +7,10 @@ ghost use Rattle.effect_model.specs.Running.{is_effect_due, looked_at, looked_na
 ghost use Rattle.sig_effect.specs.Agreeing.{IsSound};
 ghost use Rattle.effect_runs.specs.Settling.{scene, CanSettle, Settles};
 
-use effect_reads::Read;
 use sig_base::NoMemory;
 use sig_effect::{Event, World};
 use sig_host::{Lent, Shelf};
+use sig_untrack::Read;
 
 // Settles what was read up to the first signal that has another outcome now; whether there is one.
 fn look_at(

@@ -5,9 +5,8 @@ ghost use Rattle.effect_model.specs.Bodies.{if_tracked};
 ghost use Rattle.effect_runs.specs.declared.reading.BodyEnd.TheVariants as end;
 ghost use Rattle.effect_runs.specs.Evaluating.{learnt_if};
 
-use effect_reads::Read;
 use sig_base::{Fault, Known, NoMemory, NodeId, Outcome, Value};
-use sig_untrack::Act;
+use sig_untrack::{Act, Read};
 use std::alloc::Global;
 
 /// How a body ends: with acts to be done, or by its first fault.

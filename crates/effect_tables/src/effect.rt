@@ -5,9 +5,8 @@ ghost use Rattle.effect_tables.specs.Linking.{body_of};
 ghost use Rattle.effect_tables.specs.Placed.{effect_of};
 
 use crate::links::Links;
-use effect_reads::Read;
 use sig_base::{EffectId, NoMemory, OwnerId};
-use sig_untrack::Body;
+use sig_untrack::{Body, Read};
 use std::alloc::Global;
 use std::rc::Rc;
 

@@ -8,8 +8,8 @@ ghost use Rattle.effect_tables.specs.Placed.{placed};
 use crate::effect::Effect;
 use crate::finding::effect_place;
 use crate::tables::Tables;
-use effect_reads::Read;
 use sig_base::{EffectId, NoMemory};
+use sig_untrack::Read;
 use std::alloc::Global;
 
 // The same reads.

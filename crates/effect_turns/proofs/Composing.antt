@@ -6,7 +6,7 @@ use Rattle.effect_model.specs.Worlds as plain
 use Rattle.effect_tables.specs.Placed.{tree_of}
 use Rattle.effect_resting.specs.Resting.{Rests}
 use Rattle.sig_effect.specs.Agreeing.{environment}
-use Rattle.effect_doing.proofs.Shared.{does_then, formed_bare}
+use Rattle.effect_acts.proofs.SharedDoing.{does_then, formed_bare}
 use Rattle.effect_world.specs.Acting.{Scene}
 use Rattle.effect_world.specs.Agreeing.{Agrees, Does}
 use Rattle.effect_turns.specs.Running.{Runs}

@@ -8,7 +8,7 @@ use Rattle.effect_model.specs.Worlds as plain
 use Rattle.effect_model.specs.Worlds.{effect_at, settle}
 use Rattle.effect_tables.specs.declared.effect.Effect.{Effect}
 use Rattle.effect_tables.specs.Placed.{effect_of}
-use Rattle.effect_visits.specs.Visiting.{glance, to_effect}
+use Rattle.effect_resting.specs.Visiting.{glance, to_effect}
 use Rattle.sig_host.specs.Hosts.{HostPlace}
 use Rattle.sig_effect.specs.declared.events.Event.{Event as SignalEvent}
 use Rattle.sig_effect.specs.Agreeing.{environment}

@@ -16,11 +16,11 @@ use Rattle.effect_resting.proofs.Shared.{all_rest, rests_then}
 use Rattle.effect_tables.specs.declared.effect.Effect.{Effect}
 use Rattle.effect_tables.specs.declared.effect.Script.{Script}
 use Rattle.effect_tables.specs.Linking.{body_of, links_before, no_body, no_links}
-use Rattle.effect_sites.specs.Sites.{body_at, links_at}
-use Rattle.effect_sites.proofs.Shared.{none_seen, unlinked_seen}
+use Rattle.effect_undoing.specs.Sites.{body_at, links_at}
+use Rattle.effect_undoing.proofs.SharedSites.{none_seen, unlinked_seen}
 use Rattle.effect_tables.specs.Placed.{effect_of}
-use Rattle.effect_visits.specs.Visiting.{rerun, to_effect}
-use Rattle.effect_visits.proofs.Shared.{body_rests}
+use Rattle.effect_resting.specs.Visiting.{rerun, to_effect}
+use Rattle.effect_resting.proofs.SharedVisits.{body_rests}
 use Rattle.sig_effect.specs.Agreeing.{environment}
 use Rattle.sig_untrack.specs.declared.body.Body.{Body}
 use Rattle.sig_untrack.specs.Linking.{Parts}

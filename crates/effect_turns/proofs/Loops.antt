@@ -10,10 +10,10 @@ use Rattle.effect_tables.specs.Placed.{tree_of}
 use Rattle.effect_resting.specs.Resting.{AreBare}
 use Rattle.effect_resting.proofs.Shared.{looks_rest, turns_rest}
 use Rattle.sig_effect.specs.Agreeing.{environment}
-use Rattle.effect_visits.specs.Visiting.{glance, glance_all, is_due, rerun, some_ran, visit, visit_all}
-use Rattle.effect_visits.specs.Turned.{added, after_turns}
-use Rattle.effect_visits.proofs.Shared.{at_end, at_start, glance_more, glance_rests, glances_rest, goes_on, last_rests, look_found, look_passed, ran_more, rerun_rests, turn_ran, turn_world, turns_so_far_rest, visit_more, visit_rests, visits_rest}
-use Rattle.effect_doing.proofs.Shared.{formed_bare}
+use Rattle.effect_resting.specs.Visiting.{glance, glance_all, is_due, rerun, some_ran, visit, visit_all}
+use Rattle.effect_resting.specs.Turned.{added, after_turns}
+use Rattle.effect_resting.proofs.SharedVisits.{at_end, at_start, glance_more, glance_rests, glances_rest, goes_on, last_rests, look_found, look_passed, ran_more, rerun_rests, turn_ran, turn_world, turns_so_far_rest, visit_more, visit_rests, visits_rest}
+use Rattle.effect_acts.proofs.SharedDoing.{formed_bare}
 use Rattle.effect_world.specs.Acting.{Scene}
 use Rattle.effect_world.specs.Agreeing.{Agrees, IsSound}
 use Rattle.effect_world.specs.Wholes.{whole_of}

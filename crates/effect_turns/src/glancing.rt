@@ -12,7 +12,7 @@ ghost use Rattle.effect_world.specs.Acting.{scene};
 ghost use Rattle.effect_world.specs.Agreeing.{IsSound};
 ghost use Rattle.effect_world.specs.Wholes.{whole_of};
 ghost use Rattle.effect_turns.specs.Running.{CanRun, Runs, Spends};
-ghost use Rattle.effect_visits.specs.Visiting.{glance, is_due};
+ghost use Rattle.effect_resting.specs.Visiting.{glance, is_due};
 
 use effect_tables::{Effect, effect_at};
 use effect_world::{Event, World, tell_signals};

@@ -9,7 +9,7 @@ ghost use Rattle.effect_world.specs.Acting.{scene};
 ghost use Rattle.effect_world.specs.Agreeing.{IsSound};
 ghost use Rattle.effect_world.specs.Wholes.{whole_of};
 ghost use Rattle.effect_turns.specs.Running.{CanRun, Runs, Spends};
-ghost use Rattle.effect_visits.specs.Visiting.{is_due, some_ran, visit, visit_all};
+ghost use Rattle.effect_resting.specs.Visiting.{is_due, some_ran, visit, visit_all};
 
 use crate::glancing::glance;
 use crate::rerunning::run_effect;

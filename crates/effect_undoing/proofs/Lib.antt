@@ -4,3 +4,6 @@ mod Lists
 mod Taken
 mod Found
 pub mod Shared
+mod Walks
+mod Splits
+pub mod SharedSites

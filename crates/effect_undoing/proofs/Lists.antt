@@ -8,7 +8,7 @@ use Rattle.signal_model.specs.Standing.{is_in, without}
 use Rattle.effect_model.specs.Owning.{the_signal, the_owner, the_effect, the_page, the_watcher, Undoing, cleans, ends}
 use Rattle.effect_model.specs.Worlds as plain
 use Rattle.effect_model.specs.Worlds.{World}
-use Rattle.effect_frames.specs.Frames.{ended_all, ended_one}
+use Rattle.effect_laws.specs.Frames.{ended_all, ended_one}
 use Rattle.sig_owner.specs.Walks.{is_ended}
 use Rattle.effect_tables.specs.declared.effect.Effect.{Effect}
 use Rattle.effect_tables.specs.declared.tables.OwnerEntry.{OwnerEntry}

@@ -3,3 +3,4 @@ pub mod Ending
 pub mod Retelling
 pub mod Finding
 pub mod Taking
+pub mod Sites

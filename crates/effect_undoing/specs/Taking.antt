@@ -3,7 +3,7 @@ use Rattle.std.specs.Prelude.{◌≡◌, ℕ, ◌&&◌, not, false, List, None}
 use Rattle.std.specs.List.{AllByRecursion}
 use Rattle.effect_model.specs.Owning.{Thing, Owned, Undoing, disposal_of, emptied, taken_out, teardown_of, under}
 use Rattle.effect_model.specs.Worlds.{World}
-use Rattle.effect_frames.specs.Frames.{ended_all}
+use Rattle.effect_laws.specs.Frames.{ended_all}
 use Rattle.sig_owner.specs.Tables.{Row, live_at, thing_at}
 use Rattle.sig_owner.specs.Trees.{has_thing, owned_of}
 use Rattle.sig_owner.specs.Walks.{is_ended}

@@ -7,8 +7,8 @@ use Rattle.effect_model.specs.Commands.{changed_watcher, with_new_cell, with_new
 use Rattle.effect_model.specs.Owning.{Thing, the_signal, the_owner, nothing, alone, made_inside}
 use Rattle.effect_model.specs.Worlds as plain
 use Rattle.effect_model.specs.Watching as signals_rest
-use Rattle.effect_frames.specs.Frames.{IsOfSignals, with_part}
-use Rattle.effect_frames.proofs.Shared.{framed_rewire, framed_set, framed_settle, part_same}
+use Rattle.effect_laws.specs.Frames.{IsOfSignals, with_part}
+use Rattle.effect_laws.proofs.SharedFrames.{framed_rewire, framed_set, framed_settle, part_same}
 use Rattle.effect_tables.specs.declared.tables.Tables.{Tables}
 use Rattle.effect_tables.specs.Adopting.{adopted}
 use Rattle.effect_tables.specs.Holding.{Holds, LeavesOut}

@@ -11,8 +11,8 @@ use Rattle.effect_model.specs.Owning.{Undoing, cleans, emptied, ends, taken_out,
 use Rattle.effect_model.specs.Watching as signals_rest
 use Rattle.effect_model.specs.Worlds as plain
 use Rattle.effect_model.specs.Worlds.{Environment, lives, tell}
-use Rattle.effect_frames.specs.Frames.{IsOfSignals, ended_one, signal_part, with_part}
-use Rattle.effect_frames.proofs.Shared.{framed_set, framed_tell, undo_all_split, undo_split}
+use Rattle.effect_laws.specs.Frames.{IsOfSignals, ended_one, signal_part, with_part}
+use Rattle.effect_laws.proofs.SharedFrames.{framed_set, framed_tell, undo_all_split, undo_split}
 use Rattle.effect_tables.specs.declared.effect.Effect.{Effect}
 use Rattle.effect_tables.specs.declared.tables.Tables.{Tables}
 use Rattle.effect_tables.specs.declared.thing.Undoing.{Undoing as AnUndoing}

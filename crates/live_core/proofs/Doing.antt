@@ -12,8 +12,8 @@ use Rattle.effect_model.specs.Owning as things
 use Rattle.effect_model.specs.Worlds as told
 use Rattle.effect_model.specs.Worlds.{Counts, HostState, unused, used, dropped, host_taken, lives}
 use Rattle.effect_model.specs.Acts.{host_of, host_refused, is_free, with_use}
-use Rattle.effect_counts.specs.Counts.{KeepsCounts}
-use Rattle.effect_kinds.specs.Kinds.{AreKindsOf, KeepsKinds}
+use Rattle.effect_laws.specs.Counts.{KeepsCounts}
+use Rattle.sig_effect.specs.Kinds.{AreKindsOf, KeepsKinds}
 use Rattle.sig_untrack.specs.Stated.{Bodies}
 use Rattle.effect_tables.specs.Placed.{at_rest}
 use Rattle.sig_host.specs.Hosts.{HostPlace}

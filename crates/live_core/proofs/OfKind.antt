@@ -7,7 +7,7 @@ use Rattle.signal_model.specs.Changes.{with_cell, with_computed}
 use Rattle.signal_laws.proofs.Shared.{SameKind, cell_append}
 use Rattle.sig_nodes.specs.States.{is_cell}
 use Rattle.sig_effect.proofs.Shared.{computed_made}
-use Rattle.effect_kinds.specs.Kinds.{IsKindOf}
+use Rattle.sig_effect.specs.Kinds.{IsKindOf}
 use Rattle.live_model.specs.declared.names.Kind.{Kind}
 use Rattle.live_model.specs.declared.names.Kind.TheVariants as kind
 use Rattle.live_core.specs.Keeping.{is_of_kind}

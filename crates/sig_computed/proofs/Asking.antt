@@ -22,8 +22,8 @@ use Rattle.sig_host.proofs.Shared.{count_at-asked, count_at-most, is_there-more,
 use Rattle.sig_nodes.specs.States as states
 use Rattle.sig_nodes.proofs.Shared.{uses_standing}
 use Rattle.sig_nodes.specs.Answers.{host_here, slots_here, HasFewSlots, HaveFewSlots}
-use Rattle.settle_model.specs.Stepping.{Phase, Looking, LookedAt, Running, Waiting, Frame, new_frame, is_ready, ready_outcome}
-use Rattle.settle_model.specs.Stepping.{Move, GoesOn, Needs, Stops, Ends, looked, told, answered}
+use Rattle.sig_computed.specs.Stepping.{Phase, Looking, LookedAt, Running, Waiting, Frame, new_frame, is_ready, ready_outcome}
+use Rattle.sig_computed.specs.Stepping.{Move, GoesOn, Needs, Stops, Ends, looked, told, answered}
 use Rattle.sig_computed.specs.Views.{or_cycle}
 use Rattle.sig_computed.specs.Asked.{asked_once, places_by, AreThere, CanAsk, StayThere}
 use Rattle.sig_computed.specs.Turns.{first_stack, phase_known, phase_reads, runs_of, stack_after, waits, AreFit, Fits, IsMove}

@@ -16,8 +16,8 @@ use Rattle.signal_model.specs.Settling.{Run}
 use Rattle.signal_model.specs.Sound.{standing_outcome}
 use Rattle.signal_laws.specs.OrderLaws.{seen_after}
 use Rattle.sig_nodes.specs.Answers.{answer_here, slots_here}
-use Rattle.settle_model.specs.Stepping.{Phase, Looking, LookedAt, Running, Waiting, Frame, new_frame, is_ready, ready_outcome}
-use Rattle.settle_model.specs.Stepping.{Move, GoesOn, Needs, Stops, Ends, answered, looked, told}
+use Rattle.sig_computed.specs.Stepping.{Phase, Looking, LookedAt, Running, Waiting, Frame, new_frame, is_ready, ready_outcome}
+use Rattle.sig_computed.specs.Stepping.{Move, GoesOn, Needs, Stops, Ends, answered, looked, told}
 use Rattle.sig_computed.specs.Steps.{kept_count, run_steps, visit_steps}
 use Rattle.sig_computed.specs.Views.{or_cycle}
 use Rattle.sig_computed.specs.Turns.{move_by, turn_steps, waits}

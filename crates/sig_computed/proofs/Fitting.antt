@@ -24,9 +24,9 @@ use Rattle.sig_nodes.specs.Answers.{slots_here}
 use Rattle.sig_nodes.specs.States as states
 use Rattle.sig_nodes.specs.States.{Progress, progress_at, is_computing, is_given}
 use Rattle.sig_nodes.proofs.Shared.{given_same}
-use Rattle.settle_model.specs.Stepping.{Phase, Looking, LookedAt, Running, Waiting, Frame, frame_names, new_frame, is_ready, ready_outcome}
-use Rattle.settle_model.specs.Stepping.{Move, GoesOn, Needs, Stops, Ends, looked, told, answered}
-use Rattle.settle_model.proofs.Shared.{few_unknown, unready}
+use Rattle.sig_computed.specs.Stepping.{Phase, Looking, LookedAt, Running, Waiting, Frame, frame_names, new_frame, is_ready, ready_outcome}
+use Rattle.sig_computed.specs.Stepping.{Move, GoesOn, Needs, Stops, Ends, looked, told, answered}
+use Rattle.sig_computed.proofs.Shared.{few_unknown, unready}
 use Rattle.sig_computed.specs.Notes.{Note, AreNotesGiven, IsNoteGiven}
 use Rattle.sig_computed.specs.Views.{evaluating, progressed, or_cycle, Stays}
 use Rattle.sig_computed.specs.Turns.{evaluation_note, notes_of, waits, phase_known, phase_reads, move_reads, progress_by, stack_after, AreReadsGiven, HasSlot, Fits, AreFit}

@@ -13,7 +13,7 @@ use Rattle.signal_model.specs.Memos.{Memo}
 use Rattle.signal_model.specs.Sound.{kept_outcome, outcome_here}
 use Rattle.sig_nodes.specs.declared.answers.Standing.TheVariants.{Computed, Computing}
 use Rattle.sig_nodes.specs.Answers.{answer_here, host_place, kind_here, slots_here, IsAnswerHere}
-use Rattle.settle_model.specs.Stepping.{Running, Looking, GoesOn, is_ready, ready_outcome, decided}
+use Rattle.sig_computed.specs.Stepping.{Running, Looking, GoesOn, is_ready, ready_outcome, decided}
 use Rattle.sig_computed.specs.Views.{or_cycle}
 
 -- what is answered as a computed is one

@@ -9,3 +9,9 @@ mod Loops
 mod Runs
 mod Fitting
 mod Counting
+mod VisitsLeft
+mod NextReads
+mod FramesLast
+mod StepsHold
+mod StepsEnd
+pub mod Shared

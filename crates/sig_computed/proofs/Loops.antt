@@ -10,7 +10,7 @@ use Rattle.sig_host.specs.Hosts.{HostPlace, count_at, most_asked}
 use Rattle.sig_nodes.specs.Answers.{host_here, HaveFewSlots}
 use Rattle.sig_nodes.specs.States as states
 use Rattle.sig_nodes.specs.States.{is_computing, is_given}
-use Rattle.settle_model.specs.Stepping.{Move, GoesOn, Needs, Stops, Ends, frame_names}
+use Rattle.sig_computed.specs.Stepping.{Move, GoesOn, Needs, Stops, Ends, frame_names}
 use Rattle.sig_computed.specs.declared.frames.Open.{Open}
 use Rattle.sig_computed.specs.declared.notes.RunNote.{RunNote}
 use Rattle.sig_computed.specs.Notes.{Note, note_of, AreNotesGiven}

@@ -13,10 +13,10 @@ use Rattle.signal_model.specs.Memos.{Memos, holds_cycle, is_stale, memo_of, memo
 use Rattle.signal_model.specs.Settling.{source_now}
 use Rattle.signal_model.proofs.Shared.{tested}
 use Rattle.signal_laws.proofs.Shared.{in_append, in_head, or_none, or_snd, run_other}
-use Rattle.settle_model.specs.Stepping.{Phase, Looking, LookedAt, Running, Waiting, Frame, frame_names, is_ready, ready_outcome, new_frame}
-use Rattle.settle_model.specs.Stepping.{Move, GoesOn, Needs, Stops, Ends, told}
-use Rattle.settle_model.specs.SteppingLaws.{phase_left, left_here}
-use Rattle.settle_model.proofs.Shared.{MoveLowers, look_lowers, answer_lowers, read_lowers, few_unknown, middle, unready}
+use Rattle.sig_computed.specs.Stepping.{Phase, Looking, LookedAt, Running, Waiting, Frame, frame_names, is_ready, ready_outcome, new_frame}
+use Rattle.sig_computed.specs.Stepping.{Move, GoesOn, Needs, Stops, Ends, told}
+use Rattle.sig_computed.specs.SteppingLaws.{phase_left, left_here}
+use Rattle.sig_computed.proofs.Shared.{MoveLowers, look_lowers, answer_lowers, read_lowers, few_unknown, middle, unready}
 use Rattle.sig_nodes.specs.Answers.{slots_here}
 use Rattle.sig_computed.specs.Views.{or_cycle}
 use Rattle.sig_computed.specs.Turns.{stack_after, visited_after, memos_after, waits, IsMove}

@@ -18,10 +18,10 @@ use Rattle.signal_model.specs.Sound.{outcome_here, standing_outcome}
 use Rattle.signal_model.specs.Kept.{AreKept}
 use Rattle.signal_laws.proofs.Shared.{in_head, or_fst, or_snd, run_other, seen_is}
 use Rattle.sig_nodes.specs.Answers.{answer_here, slots_here}
-use Rattle.settle_model.specs.Stepping.{Phase, Looking, LookedAt, Running, Waiting, Frame, Underway, frame_names, begun, new_frame, is_ready, ready_outcome}
-use Rattle.settle_model.specs.Stepping.{Move, GoesOn, Needs, Stops, Ends, decided, looked, told, waited, answered, move_of, frame_move, after_move}
-use Rattle.settle_model.specs.SteppingLaws.{IsSettled}
-use Rattle.settle_model.proofs.Shared.{Holds, begun_holds, step_holds, over_settled, shown_visited}
+use Rattle.sig_computed.specs.Stepping.{Phase, Looking, LookedAt, Running, Waiting, Frame, Underway, frame_names, begun, new_frame, is_ready, ready_outcome}
+use Rattle.sig_computed.specs.Stepping.{Move, GoesOn, Needs, Stops, Ends, decided, looked, told, waited, answered, move_of, frame_move, after_move}
+use Rattle.sig_computed.specs.SteppingLaws.{IsSettled}
+use Rattle.sig_computed.proofs.Shared.{Holds, begun_holds, step_holds, over_settled, shown_visited}
 use Rattle.sig_computed.specs.Notes.{Note, run_note, IsSettling}
 use Rattle.sig_computed.specs.Views.{or_cycle}
 use Rattle.sig_computed.specs.Steps.{kept_count, run_steps, settling_steps, visit_steps}

@@ -4,3 +4,6 @@ pub mod Visited
 pub mod Views
 pub mod Turns
 pub mod Steps
+pub mod Stepping
+pub mod SteppingLaws
+pub mod Examples

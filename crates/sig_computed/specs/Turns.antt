@@ -13,8 +13,8 @@ use Rattle.signal_model.specs.Sound.{names_of, standing_outcome}
 use Rattle.sig_nodes.specs.States as states
 use Rattle.sig_nodes.specs.States.{Progress, progress_at, is_computing, is_given}
 use Rattle.sig_nodes.specs.Answers.{answer_here, slots_here}
-use Rattle.settle_model.specs.Stepping.{Phase, Looking, LookedAt, Running, Waiting, Frame, frame_names, new_frame, is_ready, ready_outcome}
-use Rattle.settle_model.specs.Stepping.{Move, GoesOn, Needs, Stops, Ends, looked, told, answered}
+use Rattle.sig_computed.specs.Stepping.{Phase, Looking, LookedAt, Running, Waiting, Frame, frame_names, new_frame, is_ready, ready_outcome}
+use Rattle.sig_computed.specs.Stepping.{Move, GoesOn, Needs, Stops, Ends, looked, told, answered}
 use Rattle.sig_computed.specs.Notes.{Note}
 use Rattle.sig_computed.specs.Views.{or_cycle, progressed}
 

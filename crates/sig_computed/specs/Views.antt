@@ -9,7 +9,7 @@ use Rattle.signal_model.specs.Values.{Seen, Evaluation}
 use Rattle.signal_model.specs.Memos.{Source, Memos, is_moved}
 use Rattle.sig_nodes.specs.States as states
 use Rattle.sig_nodes.specs.States.{State, Progress, is_computing}
-use Rattle.settle_model.specs.Stepping.{Phase, Looking, LookedAt, Running, Waiting, Frame, Move, GoesOn, Needs, Stops, Ends}
+use Rattle.sig_computed.specs.Stepping.{Phase, Looking, LookedAt, Running, Waiting, Frame, Move, GoesOn, Needs, Stops, Ends}
 use Rattle.sig_computed.specs.declared.frames.Read.{Read}
 use Rattle.sig_computed.specs.declared.frames.Doing.{Doing}
 use Rattle.sig_computed.specs.declared.frames.Doing.TheVariants as doing

@@ -1,7 +1,9 @@
-//! Settling: what is asked is brought up to date, and nothing else runs.
+//! Settling: what is asked is brought up to date, and nothing else runs. It is defined step by step, as a loop over a stack of frames that
+//! needs only what a store of nodes gives.
 #![tactic(auto)]
 
 mod frames;
+pub mod laws;
 mod notes;
 mod settling;
 mod turns;

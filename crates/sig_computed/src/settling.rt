@@ -6,7 +6,7 @@ ghost use Rattle.signal_model.specs.Values.{value_of};
 ghost use Rattle.signal_model.specs.Kept.{AreKept};
 ghost use Rattle.signal_model.specs.Sound.{names_of};
 ghost use Rattle.sig_nodes.specs.States.{is_computing, progress_at, CanWear};
-ghost use Rattle.settle_model.specs.Stepping.{frame_names, new_frame};
+ghost use Rattle.sig_computed.specs.Stepping.{frame_names, new_frame};
 ghost use Rattle.sig_host.specs.Hosts.{most_asked};
 ghost use Rattle.sig_computed.specs.Asked.{AreThere, IsAsking, StayThere};
 ghost use Rattle.sig_computed.specs.Notes.{note_of, AreNotesGiven, HasRoom, IsIdle, IsSettling};

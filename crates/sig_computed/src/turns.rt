@@ -6,7 +6,7 @@ ghost use Rattle.signal_model.specs.Memos.{holds_cycle, memo_of, sources_of};
 ghost use Rattle.signal_model.specs.Sound.{kept_outcome, standing_outcome};
 ghost use Rattle.sig_nodes.specs.Answers.{answer_here, host_here, slots_here, IsAnswerHere, IsJudgedAnswer};
 ghost use Rattle.sig_nodes.specs.States.{is_cell, is_given, progress_at, GoesOn};
-ghost use Rattle.settle_model.specs.Stepping.{answered, decided, is_ready, Ends, looked, ready_outcome, told};
+ghost use Rattle.sig_computed.specs.Stepping.{answered, decided, is_ready, Ends, looked, ready_outcome, told};
 ghost use Rattle.sig_computed.specs.Views.{evaluating, first_moved, first_name, frame_of, move_of, or_cycle, phase_of, progressed, seen_of, Stays};
 ghost use Rattle.sig_computed.specs.Visited.{marked};
 ghost use Rattle.sig_computed.specs.Asked.{asked_once, places_by, CanAsk};

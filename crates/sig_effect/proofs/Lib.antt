@@ -8,3 +8,5 @@ pub mod Shared
 mod Standings
 mod Users
 mod Watched
+mod Keeping
+pub mod SharedKinds

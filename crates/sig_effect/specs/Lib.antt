@@ -3,3 +3,4 @@ pub mod Events
 pub mod Telling
 pub mod Wholes
 pub mod Agreeing
+pub mod Kinds

@@ -1,10 +1,12 @@
-//! The world of signals and watchers: what is made, changed and disposed, and what is told of it.
+//! The world of signals and watchers: what is made, changed and disposed, what is told of it, and what stands under the numbers of signals
+//! meanwhile.
 #![tactic(auto)]
 
 mod changes;
 mod ends;
 mod errors;
 mod events;
+mod laws;
 mod makings;
 mod settling;
 mod telling;
@@ -13,4 +15,5 @@ mod world;
 
 pub use errors::EffectFault;
 pub use events::{Event, Thing};
+pub use laws::kinds_law;
 pub use world::World;

@@ -12,8 +12,8 @@ use Rattle.sig_base.specs.declared.value.Outcome.{Outcome}
 use Rattle.sig_base.specs.declared.value.Outcome.TheVariants.{Good, Bad}
 use Rattle.page_model.specs.Forest.{Forest, none, after}
 use Rattle.page_model.specs.Labels.{Look}
-use Rattle.tpl_changes.specs.Changes.{Change, also, nothing, stays, chain, changed}
-use Rattle.tpl_changes.specs.declared.change.Change as code
+use Rattle.tpl_listening.specs.Changes.{Change, also, nothing, stays, chain, changed}
+use Rattle.tpl_listening.specs.declared.change.Change as code
 use Rattle.tpl_marks.specs.Marks.{children_in, Knows}
 use Rattle.tpl_marks.proofs.Shared.{children_after}
 use Rattle.tpl_memos.specs.Kept.{rows_from}
@@ -24,7 +24,7 @@ use Rattle.tpl_shown.specs.Showing.{rows_in}
 use Rattle.tpl_shapes.specs.declared.shown.Address.{Address}
 use Rattle.tpl_shapes.specs.Shapes.{Marked, Next}
 use Rattle.update_laws.specs.PageMemos.{PageMemo, blank, row, nodes, row_nodes}
-use Rattle.compare_laws.specs.Comparing.{marked_by, restated_part, restating, row_marks, touched_part, touching}
+use Rattle.tpl_comparing.specs.Comparing.{marked_by, restated_part, restating, row_marks, touched_part, touching}
 use Rattle.tpl_comparing.specs.Walking.{Walk, further, of_lines, of_rows, or_stays}
 use Rattle.tpl_comparing.proofs.Walks.{alone, both_gone, none_gone, stays_gone}
 

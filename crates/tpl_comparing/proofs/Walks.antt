@@ -10,8 +10,8 @@ use Rattle.page_model.specs.Forest.{Forest, none, node}
 use Rattle.page_model.specs.Labels.{Root, Look, Text, Element}
 use Rattle.tpl_blocks.specs.Blocks.{block}
 use Rattle.tpl_blocks.specs.declared.block.Block as held
-use Rattle.tpl_changes.specs.Changes.{Change, stays, made, over, also, nothing, chain, changed, first_in, is_stays}
-use Rattle.tpl_changes.specs.declared.change.Change as code
+use Rattle.tpl_listening.specs.Changes.{Change, stays, made, over, also, nothing, chain, changed, first_in, is_stays}
+use Rattle.tpl_listening.specs.declared.change.Change as code
 use Rattle.tpl_marks.specs.Marks.{children_in, marks_in}
 use Rattle.tpl_marks.proofs.Shared.{children_after}
 use Rattle.tpl_model.specs.Shapes.{node_text}
@@ -23,7 +23,7 @@ use Rattle.tpl_shapes.specs.Shapes.{Marked, Next}
 use Rattle.tpl_shown.specs.Showing.{text_at}
 use Rattle.update_laws.specs.PageMemos.{PageMemo, line, element, branch, loop, nodes, picks, row_nodes, values}
 use Rattle.tpl_comparing.proofs.Siblings.{two_more}
-use Rattle.compare_laws.specs.Comparing.{Marking, marked_by, restated_part, restating, touched_part, touching}
+use Rattle.tpl_comparing.specs.Comparing.{Marking, marked_by, restated_part, restating, touched_part, touching}
 use Rattle.tpl_comparing.specs.Walking.{Walk, further, idle, of_element, of_inside, of_lines, of_made, of_marks, of_rows, of_text, where_gone}
 
 -- ---- one part behind another

@@ -8,10 +8,10 @@ use Rattle.tpl_model.specs.Shapes.{Here}
 use Rattle.tpl_shapes.specs.Shapes.{Marked, Next, child_of, mark_of}
 use Rattle.tpl_shapes.specs.declared.mark.Child.{Child}
 use Rattle.tpl_marks.specs.Marks.{children_in, marks_in}
-use Rattle.tpl_changes.specs.Changes.{Change, changed, first_in, stays}
+use Rattle.tpl_listening.specs.Changes.{Change, changed, first_in, stays}
 use Rattle.update_laws.specs.PageMemos.{PageMemo, nodes, row_nodes}
-use Rattle.compare_laws.specs.Comparing.{Marking, marked_by, restated_part, restating, row_marks, touched_part, touching}
-use Rattle.tpl_changes.specs.declared.change.Change as code
+use Rattle.tpl_comparing.specs.Comparing.{Marking, marked_by, restated_part, restating, row_marks, touched_part, touching}
+use Rattle.tpl_listening.specs.declared.change.Change as code
 use Rattle.tpl_comparing.specs.declared.marking.Compared.{Compared}
 
 -- the children of the node in whose inside it goes on, and the marks of nodes whose children and whose look may differ

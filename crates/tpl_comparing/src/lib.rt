@@ -1,10 +1,13 @@
-//! Which nodes of a page are compared when it is brought up to date: its lines are gone over by what became of what is kept of them.
+//! Which nodes of a page are compared when it is brought up to date: its lines are gone over by what became of what is kept of them; and the
+//! law that what isn't marked is as it was.
 #![tactic(auto)]
 
 mod children;
 mod comparing;
+mod laws;
 mod marking;
 mod staying;
 
 pub use comparing::compared;
+pub use laws::compare_law;
 pub use marking::Compared;

@@ -2,7 +2,7 @@
 ghost use Rattle.std.specs.Prelude.{◌≡◌, ◌++◌, ◌∷◌, ℕ, [], Option, map, OnOk};
 ghost use Rattle.std.specs.Option.{option_copied};
 ghost use Rattle.page_model.specs.Addresses.{address};
-ghost use Rattle.compare_laws.specs.Comparing.{restated_part, touched_part};
+ghost use Rattle.tpl_comparing.specs.Comparing.{restated_part, touched_part};
 ghost use Rattle.tpl_blocks.specs.Blocks.{block};
 ghost use Rattle.tpl_marks.specs.Marks.{Knows};
 ghost use Rattle.tpl_marks.specs.Numbering.{number_on};

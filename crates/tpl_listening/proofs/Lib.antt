@@ -4,3 +4,4 @@ mod Rereading
 mod Unmaking
 mod Slots
 pub mod Shared
+pub mod Equations

@@ -1,10 +1,12 @@
-//! What is heard of the lines of a page, and how what is kept of them is put together.
+//! What is heard of the lines of a page, how what is kept of them is put together, and what became of it in an update.
 #![tactic(auto)]
 
 mod again;
+mod change;
 mod listening;
 mod outcomes;
 
 pub use again::{listen_again, listen_all_again};
+pub use change::Change;
 pub use listening::{listen, listen_all};
 pub use outcomes::{row_at, row_count, truth_of};

@@ -7,7 +7,7 @@ use Rattle.page_model.specs.Forest.{Forest, none, node, keys, kids, numbered, on
 use Rattle.page_model.specs.Labels.{Kind, Look, shown}
 use Rattle.page_model.specs.Pages.{IsPage, IsShape, NumberedPage, SameOrigin, ascending_by, new_order, newcomers, number_of, page_shape, place_in, renumbered, those, tree_of}
 use Rattle.page_model.proofs.Shared.{kept_number, on_kids, or_left, or_right, page_after, self_on, shape_after, unused_number}
-use Rattle.compare_laws.specs.Comparing.{known_of}
+use Rattle.tpl_comparing.specs.Comparing.{known_of}
 use Rattle.tpl_found.proofs.Shared.{by_number_is, in_keys, listed_often, on_num, order_law}
 use Rattle.tpl_marks.specs.Marks.{Knows}
 use Rattle.tpl_marks.specs.Numbering.{if_there, noted_from}

@@ -15,7 +15,7 @@ use Rattle.tpl_model.specs.Sources.{in_order}
 use Rattle.tpl_moves.specs.Moves.{AllFit, AllSound, AreSound, Fits, arrivals, next_numbers, number_after, number_behind}
 use Rattle.tpl_shapes.specs.Shapes.{Marked, Next}
 use Rattle.tpl_live.proofs.Mounted.{numbers_shown}
-use Rattle.compare_laws.specs.Comparing.{Each, IsTouched, known_of}
+use Rattle.tpl_comparing.specs.Comparing.{Each, IsTouched, known_of}
 
 ltb_of : (m n : ℕ) → m < n → ltb m n ≡ true
 ltb_of m n h = elim (cases_Bool (ltb m n)) [ inl e ↦ e | inr e ↦ (let u = ltb-false m n e in absurd (omega (arith, h, u))) ]

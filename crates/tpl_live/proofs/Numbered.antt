@@ -5,7 +5,7 @@ use Rattle.page_model.specs.Forest.{Forest, keys, kids, label_in, node, none, on
 use Rattle.page_model.specs.Labels.{Kind, Look, Root, shown}
 use Rattle.page_model.specs.Pages.{IsPage, NumberedPage, by_number, looks, page_shape, tree_of}
 use Rattle.page_model.proofs.Shared.{address_above}
-use Rattle.compare_laws.specs.Comparing.{known_of}
+use Rattle.tpl_comparing.specs.Comparing.{known_of}
 use Rattle.tpl_marks.specs.Marks.{Knows}
 use Rattle.tpl_marks.specs.Numbering.{AreNumbersOf}
 use Rattle.tpl_shapes.specs.Addresses.{address_of}

@@ -10,8 +10,8 @@ use Rattle.page_model.specs.Replay.{Done, Op, OpAttr, OpInsert, OpMove, OpRemove
 use Rattle.page_model.specs.Texts.{AreWritable, IsWritable}
 use Rattle.page_model.specs.Trees.{Brings}
 use Rattle.page_model.proofs.Shared.{edits_writable}
-use Rattle.compare_laws.specs.Comparing.{Compared, Each, IsRestated, IsTouched, known_of, restated_in, touched_in}
-use Rattle.tpl_changes.specs.Changes.{Change}
+use Rattle.tpl_comparing.specs.Comparing.{Compared, Each, IsRestated, IsTouched, known_of, restated_in, touched_in}
+use Rattle.tpl_listening.specs.Changes.{Change}
 use Rattle.tpl_found.specs.Operations.{children_done, look_done, operations}
 use Rattle.tpl_found.specs.Reading.{gone_numbers}
 use Rattle.tpl_found.specs.Telling.{told_on}

@@ -10,7 +10,7 @@ use Rattle.page_model.specs.Pages.{NumberedPage, new_order, renumbered, tree_of}
 use Rattle.page_model.specs.Replay.{Answer, Done, Op, OpRemove, Refused, do_op, replay, then_on}
 use Rattle.page_model.specs.Trees.{Brings}
 use Rattle.page_tree.specs.Reading.{IsDone}
-use Rattle.tpl_changes.specs.Changes.{Change}
+use Rattle.tpl_listening.specs.Changes.{Change}
 use Rattle.tpl_found.specs.Reading.{gone_numbers}
 use Rattle.tpl_looks.specs.Attributes.{mark_told}
 use Rattle.tpl_marks.specs.Numbering.{coming_below}

@@ -32,9 +32,9 @@ use Rattle.update_laws.specs.Updating.{Keeps, memo_on, memo_shape, shape_on}
 use Rattle.update_laws.proofs.Shared.{shape_shown, source_law}
 use Rattle.tpl_live.specs.Pages.{AreKnown, Standing, Stands, lines_shape, numbered_as, outcome_in, page_in}
 use Rattle.tpl_live.specs.Plans.{Carries, Compares}
-use Rattle.compare_laws.specs.Comparing.{Compared, known_of, restated_in, touched_in}
-use Rattle.compare_laws.proofs.Shared.{compare_law}
-use Rattle.tpl_changes.specs.Changes.{Change, Tells}
+use Rattle.tpl_comparing.specs.Comparing.{Compared, known_of, restated_in, touched_in}
+use Rattle.tpl_comparing.proofs.SharedComparing.{compare_law}
+use Rattle.tpl_listening.specs.Changes.{Change, Tells}
 use Rattle.tpl_shapes.specs.declared.shown.Address.{Address}
 use Rattle.tpl_live.proofs.Mounted.{numbers_back}
 use Rattle.tpl_live.proofs.Mounting.{AreMade, are_made}

@@ -15,7 +15,7 @@ use Rattle.tpl_found.proofs.Shared.{in_keys, listed_often, often_listed}
 use Rattle.tpl_shapes.specs.Shapes.{Marked}
 use Rattle.tpl_live.specs.Plans.{numbers_of}
 use Rattle.update_laws.specs.Differences.{often}
-use Rattle.compare_laws.specs.Comparing.{Each, IsRestated, IsTouched}
+use Rattle.tpl_comparing.specs.Comparing.{Each, IsRestated, IsTouched}
 
 -- ---- all of a list
 

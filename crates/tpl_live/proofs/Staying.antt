@@ -7,7 +7,7 @@ use Rattle.page_model.specs.Forest.{Forest, none, node, has, kids, numbered, on,
 use Rattle.page_model.specs.Labels.{Root, Kind, Look, shown}
 use Rattle.page_model.specs.Pages.{IsPage, IsShape, NumberedPage, SameOrigin, carried, looks, number_of, page_shape, those, tree_of}
 use Rattle.page_model.proofs.Shared.{has_listed, has_on, has_parent, on_kids, on_tally, or_left, or_right}
-use Rattle.compare_laws.specs.Comparing.{Each, IsTouched, known_of}
+use Rattle.tpl_comparing.specs.Comparing.{Each, IsTouched, known_of}
 use Rattle.tpl_found.specs.Coming.{coming, spelled}
 use Rattle.tpl_found.specs.Operations.{children_done}
 use Rattle.tpl_found.specs.Reading.{TellsKept, gone_numbers, kept_numbers}

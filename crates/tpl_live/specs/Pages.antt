@@ -19,7 +19,7 @@ use Rattle.tpl_marks.specs.Marks.{Knows}
 use Rattle.tpl_marks.specs.Numbering.{among}
 use Rattle.update_laws.specs.PageMemos.{PageMemo, names, nodes}
 use Rattle.update_laws.specs.Updating.{Keeps}
-use Rattle.compare_laws.specs.Comparing.{known_of}
+use Rattle.tpl_comparing.specs.Comparing.{known_of}
 
 -- what is kept of a page: the lines and what their names stand for, what was heard of the names, what is kept of the lines, the next unused
 -- number, the tree, and the numbers that were noted of addresses

@@ -20,8 +20,8 @@ use Rattle.update_laws.specs.PageMemos.{Heard, PageMemo, unread, blank, line, el
 use Rattle.tpl_listening.specs.Makings.{lines_memo, table_in, truth_in}
 use Rattle.tpl_listening.specs.Renewals.{WasListened, WasMade, is_unread}
 use Rattle.tpl_listening.proofs.Shared.{mapped_put}
-use Rattle.tpl_changes.specs.Changes.{Change, stays, made, over, chain, changed, first_in, is_made, told, BranchTells, RowsTell, Tells, WasRow, WasTrue}
-use Rattle.tpl_changes.specs.declared.change.Change as code
+use Rattle.tpl_listening.specs.Changes.{Change, stays, made, over, chain, changed, first_in, is_made, told, BranchTells, RowsTell, Tells, WasRow, WasTrue}
+use Rattle.tpl_listening.specs.declared.change.Change as code
 use Rattle.tpl_making.specs.declared.head.Head.{Head}
 use Rattle.tpl_making.specs.declared.head.Head.TheVariants as head
 use Rattle.tpl_making.specs.Heads.{Opens, behind, closed, inner_in, last_of, places_from, places_in, rest_in, shows_first, where_shown}

@@ -8,7 +8,7 @@ use Rattle.tpl_memos.specs.Kept.{kept}
 use Rattle.update_laws.specs.PageMemos.{PageMemo}
 use Rattle.tpl_listening.specs.Makings.{table_in, truth_in}
 use Rattle.tpl_listening.specs.Renewals.{is_unread}
-use Rattle.tpl_changes.specs.Changes.{Change, made, over, chain, changed, is_made, Tells, WasRow, WasTrue}
+use Rattle.tpl_listening.specs.Changes.{Change, made, over, chain, changed, is_made, Tells, WasRow, WasTrue}
 use Rattle.tpl_making.specs.declared.head.Head.{Head}
 use Rattle.tpl_making.specs.declared.head.Head.TheVariants as head
 use Rattle.tpl_making.specs.Heads.{places_from}

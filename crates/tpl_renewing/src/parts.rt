@@ -2,7 +2,7 @@
 ghost use Rattle.std.specs.Prelude.{◌≡◌, ◌++◌, ◌∷◌, [], false, map, IfOk, OnOk};
 ghost use Rattle.std.specs.Option.{option_copied};
 ghost use Rattle.tpl_memos.specs.Kept.{kept};
-ghost use Rattle.tpl_changes.specs.Changes.{chain, changed, over};
+ghost use Rattle.tpl_listening.specs.Changes.{chain, changed, over};
 ghost use Rattle.tpl_listening.specs.Makings.{truth_in};
 ghost use Rattle.tpl_listening.specs.Renewals.{is_unread};
 ghost use Rattle.tpl_making.specs.Heads.{last_of, places_in};
@@ -16,8 +16,7 @@ use sig_base::{Fault, NoMemory, Outcome};
 use sig_formula::RowRef;
 use std::alloc::Global;
 use std::collections::VecDeque;
-use tpl_changes::Change;
-use tpl_listening::truth_of;
+use tpl_listening::{Change, truth_of};
 use tpl_making::{Head, last, place_behind, places_inside, put_closed, shows_first};
 use tpl_memos::PageMemo;
 

@@ -9,7 +9,7 @@ ghost use Rattle.tpl_memos.specs.Kept.{kept};
 ghost use Rattle.tpl_listening.specs.Makings.{lines_memo, Makes};
 ghost use Rattle.tpl_listening.specs.Renewals.{AreLooked, WasMadeIfRead};
 ghost use Rattle.tpl_making.specs.Heads.{AreRows, IsRow, MakesEach, Opens};
-ghost use Rattle.tpl_changes.specs.Changes.{changed, Tells};
+ghost use Rattle.tpl_listening.specs.Changes.{changed, Tells};
 ghost use Rattle.tpl_renewing.specs.Tellings.{BeginsTold, TellsEach};
 ghost use Rattle.tpl_renewing.specs.Turns.{places_of, Begins, WasOpened, WereEach};
 
@@ -27,9 +27,8 @@ use std::alloc::Global;
 use std::collections::VecDeque;
 use std::slice;
 use tpl_blocks::Block;
-use tpl_changes::Change;
 use tpl_hearing::{Outcomes, hear_again};
-use tpl_listening::{listen_again, listen_all_again};
+use tpl_listening::{Change, listen_again, listen_all_again};
 use tpl_making::{Head, inner_of, last, lent_row, make, own_row, rest_of};
 use tpl_memos::PageMemo;
 

@@ -9,7 +9,7 @@ use Rattle.effect_model.specs.Running.{do_act}
 use Rattle.effect_model.specs.Worlds.{logged, tell}
 use Rattle.sig_untrack.specs.Linking.{act_of}
 use Rattle.effect_tables.specs.Linking.{signal_number, target_thing, thing_of}
-use Rattle.effect_sites.specs.Sites.{parts_of}
+use Rattle.effect_undoing.specs.Sites.{parts_of}
 use Rattle.effect_acts.specs.Changing.{rewire_meant}
 use Rattle.effect_acts.proofs.Acts.{acted_as, acted_lent}
 use Rattle.effect_acts.proofs.Meant.{dispose_meant, note_meant, set_meant}

@@ -7,8 +7,8 @@ use Rattle.sig_nodes.specs.Answers.{expression_of}
 use Rattle.sig_nodes.specs.Computations.{recipe_made}
 use Rattle.effect_tables.specs.Fitting.{AreFew}
 use Rattle.effect_tables.specs.Linking.{rewired, target_thing}
-use Rattle.effect_sites.specs.Sites.{parts_of, slots_in}
-use Rattle.effect_sites.proofs.Shared.{part_few}
+use Rattle.effect_undoing.specs.Sites.{parts_of, slots_in}
+use Rattle.effect_undoing.proofs.SharedSites.{part_few}
 use Rattle.effect_acts.specs.Changing.{IsMeant, rewire_meant}
 use Rattle.effect_acts.proofs.Acts.{acted_lent}
 use Rattle.effect_acts.proofs.Meant.{rewire_is}

@@ -1,5 +1,5 @@
 use Rattle.effect_model.specs.Acts.{set_cell}
-use Rattle.effect_frames.proofs.Shared.{framed_set}
+use Rattle.effect_laws.proofs.SharedFrames.{framed_set}
 use Rattle.effect_acts.proofs.Acts.{acted_undoes}
 use Rattle.effect_acts.proofs.changing.set.Goals as goal
 

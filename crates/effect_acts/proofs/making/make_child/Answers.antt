@@ -4,8 +4,8 @@ use Rattle.effect_model.specs.Running.{make_child}
 use Rattle.effect_model.specs.Worlds.{made_child}
 use Rattle.effect_tables.specs.Adopting.{with_child}
 use Rattle.effect_tables.specs.Linking.{body_of}
-use Rattle.effect_sites.specs.Sites.{parts_of}
-use Rattle.effect_sites.proofs.Shared.{child_body}
+use Rattle.effect_undoing.specs.Sites.{parts_of}
+use Rattle.effect_undoing.proofs.SharedSites.{child_body}
 use Rattle.effect_undoing.proofs.Shared.{effect_found, effect_unlisted}
 use Rattle.effect_world.specs.declared.events.Event.TheVariants as event
 use Rattle.effect_world.specs.Wholes.{whole_of}

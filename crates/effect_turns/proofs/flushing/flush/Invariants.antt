@@ -1,6 +1,6 @@
 use Rattle.std.proofs.Common.{◌-◌, ◌≤◌, is_some, map, option_map}
 use Rattle.sig_host.specs.Hosts.{AnswersBy, IsCounted}
-use Rattle.effect_visits.specs.Turned.{after_turns}
+use Rattle.effect_resting.specs.Turned.{after_turns}
 use Rattle.effect_world.specs.Acting.{scene}
 use Rattle.effect_turns.specs.Running.{Runs, Spends}
 use Rattle.effect_turns.proofs.Loops.{IsSoFar}

@@ -1,6 +1,6 @@
 use Rattle.std.proofs.Common.{ℕ, List, is_some, map, option_map, take}
 use Rattle.sig_host.specs.Hosts.{AnswersBy, IsCounted}
-use Rattle.effect_visits.specs.Visiting.{glance_all}
+use Rattle.effect_resting.specs.Visiting.{glance_all}
 use Rattle.effect_world.specs.Acting.{scene}
 use Rattle.effect_turns.specs.Running.{Runs, Spends}
 use Rattle.effect_turns.proofs.Loops.{IsLeft}

@@ -2,7 +2,7 @@ use Rattle.std.proofs.Common.{◌≡◌, is_some, map, option_map, take}
 use Rattle.signal_model.specs.Recipes.{Hosts}
 use Rattle.sig_effect.specs.Agreeing.{environment}
 use Rattle.sig_host.specs.Hosts.{AnswersBy, IsCounted}
-use Rattle.effect_visits.specs.Visiting.{some_ran, visit_all}
+use Rattle.effect_resting.specs.Visiting.{some_ran, visit_all}
 use Rattle.effect_world.specs.Acting.{scene}
 use Rattle.effect_world.specs.Agreeing.{IsSound}
 use Rattle.effect_world.specs.Wholes.{whole_of}

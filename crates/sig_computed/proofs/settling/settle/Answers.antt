@@ -8,7 +8,7 @@ use Rattle.signal_model.specs.Kept.{AreKept}
 use Rattle.signal_model.specs.Settling.{settled}
 use Rattle.sig_host.specs.Hosts.{HostPlace}
 use Rattle.sig_nodes.specs.States.{is_computing}
-use Rattle.settle_model.specs.Stepping.{frame_names}
+use Rattle.sig_computed.specs.Stepping.{frame_names}
 use Rattle.sig_computed.specs.Notes.{note_of, IsNoteGiven}
 use Rattle.sig_computed.specs.Turns.{notes_of}
 use Rattle.sig_computed.specs.Views.{evaluating, move_of, tops}

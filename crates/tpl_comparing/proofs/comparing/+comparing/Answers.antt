@@ -6,8 +6,8 @@ use Rattle.sig_formula.specs.Trees.{tree}
 use Rattle.page_model.specs.Addresses.{address}
 use Rattle.page_model.specs.Labels.{Element}
 use Rattle.tpl_blocks.specs.Blocks.{block, waiting}
-use Rattle.tpl_changes.specs.Changes.{chain, changed, first_in, over}
-use Rattle.tpl_changes.proofs.Equations.{changed_made, changed_over, changed_stays}
+use Rattle.tpl_listening.specs.Changes.{chain, changed, first_in, over}
+use Rattle.tpl_listening.proofs.Equations.{changed_made, changed_over, changed_stays}
 use Rattle.tpl_marks.specs.Numbering.{number_on}
 use Rattle.tpl_memos.specs.Kept.{heard_of, kept}
 use Rattle.tpl_nodes.specs.Shown.{attributes_of, inside_of, rows_of, shows}

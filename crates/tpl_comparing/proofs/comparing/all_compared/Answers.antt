@@ -2,7 +2,7 @@ use Rattle.std.proofs.Common.{◌≡◌, ◌++◌, [], ◌∷◌, None, map, ap,
 use Rattle.std.proofs.lemmas.List.{map-append}
 use Rattle.page_model.specs.Labels.{Root}
 use Rattle.tpl_blocks.specs.Blocks.{block}
-use Rattle.tpl_changes.specs.Changes.{changed}
+use Rattle.tpl_listening.specs.Changes.{changed}
 use Rattle.tpl_memos.specs.Kept.{kept}
 use Rattle.tpl_shapes.specs.Shapes.{child_of, mark_of}
 use Rattle.tpl_comparing.specs.Walking.{of_lines}

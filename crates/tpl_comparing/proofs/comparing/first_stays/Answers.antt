@@ -1,6 +1,6 @@
 use Rattle.std.proofs.Common.{sym, ap, ◌∙◌}
 use Rattle.std.specs.Option.{option_copied}
-use Rattle.tpl_changes.specs.Changes.{is_stays}
+use Rattle.tpl_listening.specs.Changes.{is_stays}
 use Rattle.tpl_comparing.proofs.Walks.{first_none, first_some}
 use Rattle.tpl_comparing.proofs.comparing.first_stays.Goals as goal
 

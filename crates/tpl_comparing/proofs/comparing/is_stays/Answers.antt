@@ -1,6 +1,6 @@
 use Rattle.std.proofs.Common.{sym, ap, ◌∙◌}
-use Rattle.tpl_changes.specs.Changes.{changed, is_stays}
-use Rattle.tpl_changes.proofs.Equations.{changed_made, changed_over, changed_stays}
+use Rattle.tpl_listening.specs.Changes.{changed, is_stays}
+use Rattle.tpl_listening.proofs.Equations.{changed_made, changed_over, changed_stays}
 use Rattle.tpl_comparing.proofs.comparing.is_stays.Goals as goal
 
 pub returns-in-Stays : goal.returns-in-Stays

@@ -1,7 +1,7 @@
 use Rattle.std.proofs.Common.{◌≡◌, ◌++◌, map, ap, ◌∙◌}
 use Rattle.std.specs.Option.{option_copied}
 use Rattle.page_model.specs.Forest.{after}
-use Rattle.compare_laws.specs.Comparing.{restated_part, touched_part}
+use Rattle.tpl_comparing.specs.Comparing.{restated_part, touched_part}
 use Rattle.tpl_blocks.specs.Blocks.{block}
 use Rattle.tpl_marks.specs.Marks.{children_in, marks_in}
 use Rattle.tpl_memos.specs.Kept.{kept}

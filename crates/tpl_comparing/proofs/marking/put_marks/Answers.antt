@@ -1,5 +1,5 @@
 use Rattle.std.proofs.Common.{◌++◌, map, refl, ap, ◌∙◌}
-use Rattle.compare_laws.specs.Comparing.{restated_part, touched_part}
+use Rattle.tpl_comparing.specs.Comparing.{restated_part, touched_part}
 use Rattle.tpl_shapes.specs.Shapes.{mark_of}
 use Rattle.tpl_comparing.proofs.Siblings.{no_items}
 use Rattle.tpl_comparing.proofs.Marks.{all_split, one_split}

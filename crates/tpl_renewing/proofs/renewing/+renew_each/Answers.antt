@@ -5,7 +5,7 @@ use Rattle.tpl_memos.specs.Kept.{kept}
 use Rattle.tpl_making.specs.Heads.{AreRows, lines_size}
 use Rattle.tpl_making.proofs.Shared.{none_each}
 use Rattle.tpl_renewing.specs.Turns.{behind_of, places_of}
-use Rattle.tpl_changes.specs.Changes.{changed}
+use Rattle.tpl_listening.specs.Changes.{changed}
 use Rattle.tpl_renewing.proofs.Telling.{none_told, turn_told}
 use Rattle.tpl_renewing.proofs.Turning.{first_at, inside_at, inside_fewer, later_are, later_at, later_few, later_fewer, others_at, places_are, turn_renewed}
 use Rattle.tpl_renewing.proofs.renewing.+renew_each.Goals as goal

@@ -8,7 +8,7 @@ use Rattle.tpl_listening.specs.Renewals.{AreLooked, is_unread}
 use Rattle.tpl_listening.proofs.Shared.{stayed}
 use Rattle.tpl_renewing.specs.Turns.{ServeInside, WasOpened}
 use Rattle.tpl_renewing.proofs.Apart.{was_apart}
-use Rattle.tpl_changes.specs.Changes.{changed}
+use Rattle.tpl_listening.specs.Changes.{changed}
 use Rattle.tpl_renewing.proofs.Telling.{heard_told, made_told, stays_told, was_known, whole_told}
 use Rattle.tpl_renewing.proofs.Turning.{begins_line, begins_whole, opened_again, places_line, places_whole}
 use Rattle.tpl_renewing.proofs.renewing.begin.Goals as goal

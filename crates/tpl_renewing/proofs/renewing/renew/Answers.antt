@@ -4,7 +4,7 @@ use Rattle.tpl_blocks.specs.Blocks.{block}
 use Rattle.tpl_memos.specs.Kept.{kept}
 use Rattle.tpl_making.specs.Heads.{AreRows}
 use Rattle.tpl_making.proofs.Shared.{alone_from, own_is}
-use Rattle.tpl_changes.specs.Changes.{changed}
+use Rattle.tpl_listening.specs.Changes.{changed}
 use Rattle.tpl_renewing.proofs.Telling.{one_told}
 use Rattle.tpl_renewing.proofs.Turning.{alone_was}
 use Rattle.tpl_renewing.proofs.renewing.renew.Goals as goal

@@ -3,8 +3,8 @@ use Rattle.std.specs.Prelude.{Some, option_map}
 use Rattle.std.specs.List.{filter}
 use Rattle.signal_model.specs.Standing.{is_in}
 use Rattle.effect_model.specs.Acts.{dispose_thing}
-use Rattle.effect_counts.proofs.Shared.{all_keep_counts}
-use Rattle.effect_kinds.proofs.Shared.{all_keep_kinds}
+use Rattle.effect_laws.proofs.SharedCounts.{all_keep_counts}
+use Rattle.sig_effect.proofs.SharedKinds.{all_keep_kinds}
 use Rattle.effect_tables.specs.Linking.{thing_of}
 use Rattle.sig_effect.specs.Agreeing.{environment}
 use Rattle.live_model.specs.Names.{meaning_of, thing_named}

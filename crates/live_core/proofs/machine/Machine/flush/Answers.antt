@@ -3,8 +3,8 @@ use Rattle.std.specs.List.{filter}
 use Rattle.signal_model.specs.Standing.{is_in}
 use Rattle.effect_model.specs.Running.{flush}
 use Rattle.effect_model.specs.Worlds as told
-use Rattle.effect_counts.proofs.Shared.{flushes_keep_counts}
-use Rattle.effect_kinds.proofs.Shared.{flushes_keep_kinds}
+use Rattle.effect_laws.proofs.SharedCounts.{flushes_keep_counts}
+use Rattle.sig_effect.proofs.SharedKinds.{flushes_keep_kinds}
 use Rattle.sig_effect.specs.Agreeing.{environment}
 use Rattle.sig_base.specs.declared.limits.TheConstants.{MOST_PAGES}
 use Rattle.live_pages.specs.declared.mounted.Mounted.{Mounted}

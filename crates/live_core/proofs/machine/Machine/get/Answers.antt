@@ -2,8 +2,8 @@ use Rattle.std.proofs.Common.{◌∙◌, ◌∷◌, [], ℕ, length, sym, ap, su
 use Rattle.sig_base.specs.declared.value.Outcome.{Outcome}
 use Rattle.signal_model.specs.Values.{value_of}
 use Rattle.effect_model.specs.Worlds.{settle}
-use Rattle.effect_counts.proofs.Shared.{all_keep_counts}
-use Rattle.effect_kinds.proofs.Shared.{all_keep_kinds}
+use Rattle.effect_laws.proofs.SharedCounts.{all_keep_counts}
+use Rattle.sig_effect.proofs.SharedKinds.{all_keep_kinds}
 use Rattle.sig_effect.specs.Agreeing.{environment, AreRuled}
 use Rattle.live_entries.specs.declared.entry.Entry.TheVariants as entry
 use Rattle.live_model.specs.Names.{number_of}

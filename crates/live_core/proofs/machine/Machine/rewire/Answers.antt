@@ -6,8 +6,8 @@ use Rattle.effect_model.specs.Acts.{rewire_signal}
 use Rattle.sig_nodes.specs.Answers.{expression_of}
 use Rattle.sig_nodes.specs.Computations.{recipe_made}
 use Rattle.sig_nodes.specs.States.{are_there, is_given}
-use Rattle.effect_counts.proofs.Shared.{all_keep_counts}
-use Rattle.effect_kinds.proofs.Shared.{all_keep_kinds}
+use Rattle.effect_laws.proofs.SharedCounts.{all_keep_counts}
+use Rattle.sig_effect.proofs.SharedKinds.{all_keep_kinds}
 use Rattle.live_cmd.specs.declared.command.Command.TheVariants as command
 use Rattle.live_model.specs.declared.names.Kind.TheVariants as kind
 use Rattle.live_model.specs.declared.names.Need.TheVariants as need

@@ -2,8 +2,8 @@ use Rattle.std.proofs.Common.{◌∙◌, map, refl, ap, arith}
 use Rattle.sig_base.specs.Values.{scalar_value}
 use Rattle.signal_model.specs.Standing.{standing}
 use Rattle.effect_model.specs.Acts.{set_cell}
-use Rattle.effect_counts.proofs.Shared.{all_keep_counts}
-use Rattle.effect_kinds.proofs.Shared.{all_keep_kinds}
+use Rattle.effect_laws.proofs.SharedCounts.{all_keep_counts}
+use Rattle.sig_effect.proofs.SharedKinds.{all_keep_kinds}
 use Rattle.sig_effect.specs.Agreeing.{environment}
 use Rattle.live_cmd.specs.declared.command.Command.TheVariants as command
 use Rattle.live_model.specs.declared.names.Kind.TheVariants as kind

@@ -1,6 +1,6 @@
 use Rattle.std.proofs.Common.{None, map, arith, ap, ◌∙◌}
 use Rattle.page_ops.specs.Ops.{op_of}
-use Rattle.tpl_changes.specs.Changes.{Tells, changed}
+use Rattle.tpl_listening.specs.Changes.{Tells, changed}
 use Rattle.tpl_hearing.proofs.Shared.{then_heard}
 use Rattle.tpl_marks.specs.Numbering.{number_at}
 use Rattle.tpl_memos.specs.Kept.{kept}

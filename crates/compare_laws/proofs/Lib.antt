@@ -1,5 +1,0 @@
-mod Compared
-mod Covering
-pub mod Shared
-mod Sides
-mod Walking

@@ -1,3 +1,0 @@
-mod Composing
-mod Ordered
-pub mod Shared

@@ -1,3 +1,0 @@
-mod Framing
-mod Tearing
-pub mod Shared

@@ -1,5 +1,0 @@
-use Rattle.effect_frames.proofs.Tearing.{undo_all_split}
-use Rattle.effect_frames.proofs.laws.teardown_by_parts.Goals as goal
-
-pub returns : goal.returns
-returns c = undo_all_split

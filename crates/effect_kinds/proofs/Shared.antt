@@ -1,4 +1,0 @@
--- What crates above may cite of these proofs. All else in this folder is this crate's own.
-
--- cells stay cells and computeds computeds, until they are gone
-pub use Rattle.effect_kinds.proofs.Keeping.{all_keep_kinds, flushes_keep_kinds}

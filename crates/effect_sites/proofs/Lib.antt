@@ -1,3 +1,0 @@
-mod Walks
-mod Splits
-pub mod Shared

@@ -1,4 +1,0 @@
-mod Acting
-mod Turning
-mod Lengths
-pub mod Shared

@@ -1,3 +1,0 @@
-mod Visits
-mod TurnByTurn
-pub mod Shared

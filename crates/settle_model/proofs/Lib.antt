@@ -1,6 +1,0 @@
-mod VisitsLeft
-mod NextReads
-mod FramesLast
-mod StepsHold
-mod StepsEnd
-pub mod Shared

@@ -1,0 +1,5 @@
+use Rattle.tpl_comparing.proofs.Compared.{compare_law}
+use Rattle.tpl_comparing.proofs.laws.compare_law.Goals as goal
+
+pub returns : goal.returns
+returns c = compare_law
