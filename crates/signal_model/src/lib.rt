@@ -3,7 +3,5 @@
 
 mod answers;
 pub mod laws;
-mod linked;
 
 pub use answers::judged;
-pub use linked::Linked;
