@@ -6,7 +6,7 @@ ghost use Rattle.bench_workload.specs.Summary.{line_of, summary_text};
 use sig_base::NoMemory;
 
 /// What a run of a script came to.
-#[derive(Clone, Copy, Debug, PartialEq, Eq)]
+#[derive(Clone, Copy)]
 pub struct Counts {
     /// How many commands it had. A block is one.
     pub commands: u128,

@@ -6,7 +6,7 @@ use sig_base::NoMemory;
 use thiserror::Error;
 
 /// Why lines are no body, and where.
-#[derive(Clone, Copy, Debug, PartialEq, Eq, Error)]
+#[derive(Clone, Copy, Debug, Error)]
 #[error("line {at} of a body: {why}")]
 pub struct BodyFault {
     /// The line's number. For `Lines` it is how many lines there are, without those that are passed over; for `NoMemory` it says nothing.

@@ -15,7 +15,7 @@ pub const MOST_LEVELS: usize = 32;
 pub const MOST_BODY_LINES: usize = 64;
 
 /// A line that was read, and what is wrong with it.
-#[derive(Debug, Drop)]
+#[derive(Drop)]
 pub struct ReadLine {
     pub number: u32,
     /// What may not stand where it does.

@@ -8,7 +8,7 @@ use line_forms::NameList;
 use sig_base::Name;
 
 /// What a computed is computed by.
-#[derive(Debug, Drop)]
+#[derive(Drop)]
 pub enum Source {
     /// A formula.
     Formula(NamedFormula),
@@ -17,7 +17,7 @@ pub enum Source {
 }
 
 /// A statement of one line.
-#[derive(Debug, Drop)]
+#[derive(Drop)]
 pub enum Plain {
     /// `set N F` sets a cell.
     Set(Name, NamedFormula),
@@ -34,7 +34,7 @@ pub enum Plain {
 }
 
 /// A line of a body.
-#[derive(Debug, Drop)]
+#[derive(Drop)]
 pub enum Line {
     /// A statement of one line.
     Plain(Plain),
@@ -47,7 +47,7 @@ pub enum Line {
 }
 
 /// What a line is for the place where it stands.
-#[derive(Clone, Copy, Debug, PartialEq, Eq)]
+#[derive(Clone, Copy)]
 pub enum LineKind {
     /// A statement of one line.
     Plain,
@@ -61,7 +61,7 @@ pub enum LineKind {
 pub type ToldLine = Result<Line, FormulaFault>;
 
 /// What a line says: what it is for its place, and the line, or what is wrong with it.
-#[derive(Debug, Drop)]
+#[derive(Drop)]
 pub struct Found {
     pub kind: LineKind,
     pub line: ToldLine,

@@ -16,7 +16,7 @@ use sig_untrack::{Body, Recipe2, Rewire, Stmt};
 use std::alloc::Global;
 
 /// What the statements of a body so far act on and read, and their nested effects and rewirings.
-#[derive(Debug, Drop)]
+#[derive(Drop)]
 pub struct Lists {
     pub targets: Vec<Name>,
     pub names: Vec<Name>,

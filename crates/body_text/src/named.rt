@@ -15,7 +15,7 @@ use std::alloc::Global;
 use std::marker::Model;
 
 /// A formula that nothing is wrong with, with its names.
-#[derive(Debug, Drop)]
+#[derive(Drop)]
 pub struct NamedFormula {
     wired: Wired,
 }

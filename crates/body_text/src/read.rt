@@ -23,7 +23,7 @@ use sig_untrack::Body;
 use std::alloc::Global;
 
 /// What lines say, or the number of the first that says nothing which may stand there, or that something isn't ended.
-#[derive(Debug, Drop)]
+#[derive(Drop)]
 pub enum Reading {
     Faulty(u32),
     Unended,

@@ -17,7 +17,7 @@ use sig_untrack::{Recipe2, Rewire};
 use std::alloc::Global;
 
 /// A computed, and the recipe that it gets.
-#[derive(Debug, Drop)]
+#[derive(Drop)]
 pub struct Change {
     pub id: NodeId,
     pub recipe: Recipe,

@@ -10,14 +10,14 @@ use sig_untrack::{Act, Read};
 use std::alloc::Global;
 
 /// How a body ends: with acts to be done, or by its first fault.
-#[derive(Debug, Drop)]
+#[derive(Drop)]
 pub enum BodyEnd {
     Acts(Vec<Act>),
     Fail(Fault),
 }
 
 /// What came of a body: its tracked reads, in the order of first tracked reading, also where it failed; and how it ended.
-#[derive(Debug, Drop)]
+#[derive(Drop)]
 pub struct BodyRun {
     pub tracked: Vec<Read>,
     pub end: BodyEnd,

@@ -14,7 +14,7 @@ use std::rc::Rc;
 pub const MOST_STATEMENTS: usize = 64;
 
 /// A body, and what its places stand for.
-#[derive(Debug, Drop)]
+#[derive(Drop)]
 pub struct Script {
     pub body: Body,
     pub links: Links,
@@ -22,7 +22,7 @@ pub struct Script {
 
 /// An effect: the row of the store that has what stands under it; the named effect with which its body was made, and that body; the
 /// places of nested effects that lead from there to its own; and the tracked reads of its last run, where it has run.
-#[derive(Debug, Drop)]
+#[derive(Drop)]
 pub struct Effect {
     pub id: EffectId,
     pub row: OwnerId,
@@ -34,7 +34,7 @@ pub struct Effect {
 
 /// Where a body stands: the named effect with which it was made, the script of that effect, and the places of nested effects that lead
 /// from there to the body.
-#[derive(Debug, Drop)]
+#[derive(Drop)]
 pub struct Site {
     pub origin: EffectId,
     pub script: Rc<Script>,

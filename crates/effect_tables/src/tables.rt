@@ -16,7 +16,7 @@ use std::alloc::Global;
 pub const MOST_EFFECTS: usize = 1_024;
 
 /// An owner: the row of the store that has what stands under it, and whether it lives.
-#[derive(Clone, Copy, Debug, PartialEq, Eq)]
+#[derive(Clone, Copy)]
 pub struct OwnerEntry {
     pub row: OwnerId,
     pub live: bool,
@@ -24,7 +24,7 @@ pub struct OwnerEntry {
 
 /// Owners, effects and pages. The store has what stands under what, by rows of its own, and `things` says which thing each row is. All
 /// owners that were made are listed, each at the place that is its number; of effects and pages those that live, in the order of making.
-#[derive(Debug, Drop)]
+#[derive(Drop)]
 pub struct Tables {
     pub store: Owners,
     pub things: Vec<Thing>,

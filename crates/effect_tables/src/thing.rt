@@ -4,7 +4,7 @@ use sig_base::{EffectId, NodeId, OwnerId, PageId, WatcherId};
 use sig_owner::CleanupAct;
 
 /// What can be made and disposed, by its number among those of its kind.
-#[derive(Clone, Copy, Debug, PartialEq, Eq)]
+#[derive(Clone, Copy)]
 pub enum Thing {
     Signal(NodeId),
     Owner(OwnerId),
@@ -14,7 +14,7 @@ pub enum Thing {
 }
 
 /// One step of taking back: a cleanup that was noted under a thing is to be done, or a thing is gone.
-#[derive(Debug, Drop)]
+#[derive(Drop)]
 pub enum Undoing {
     Cleanup(Thing, CleanupAct),
     Gone(Thing),

@@ -19,7 +19,7 @@ use sig_host::{EqualsRule, Lent, Shelf};
 pub const MOST_TURNS: u32 = 100;
 
 /// How a flush ended: how many turns ran an effect, and whether one is due after the last turn that there may be.
-#[derive(Clone, Copy, Debug, PartialEq, Eq)]
+#[derive(Clone, Copy)]
 pub struct FlushEnd {
     pub turns: u32,
     pub refused: bool,

@@ -5,7 +5,7 @@ use sig_base::{EffectId, Fault, NodeId, Value};
 use sig_effect::Event as SignalEvent;
 
 /// What is told on the way.
-#[derive(Debug, Drop)]
+#[derive(Drop)]
 pub enum Event {
     /// What signals and watchers tell: a run, a notification, the drop of a host formula.
     Signals(SignalEvent),

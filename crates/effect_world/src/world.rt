@@ -15,7 +15,7 @@ use std::alloc::Global;
 
 /// Signals and who watches them, and owners, effects and pages. Host formulas and equality rules stay with the caller, who hands in those
 /// that a call needs.
-#[derive(Debug, Drop)]
+#[derive(Drop)]
 pub struct World {
     pub signals: Signals,
     pub tables: Tables,

@@ -3,21 +3,21 @@
 use sig_formula::BinOp;
 
 /// What stands before one formula in parentheses.
-#[derive(Clone, Copy, Debug, PartialEq, Eq)]
+#[derive(Clone, Copy)]
 pub enum Around {
     Count,
     Untrack,
 }
 
 /// What stands before rows and a formula about each of them, in parentheses.
-#[derive(Clone, Copy, Debug, PartialEq, Eq)]
+#[derive(Clone, Copy)]
 pub enum OverRows {
     Sum,
     Keep,
 }
 
 /// A formula as it was read: names and texts are the places of their tokens.
-#[derive(Debug, Drop)]
+#[derive(Drop)]
 pub enum Rough {
     Name(usize),
     Text(usize),

@@ -20,7 +20,7 @@ use std::marker::Model;
 use thiserror::Error;
 
 /// A formula over slots, and the names that the slots stand for, in the order of their first places.
-#[derive(Debug, Drop)]
+#[derive(Drop)]
 pub struct Wired {
     pub formula: Formula,
     pub names: Vec<Name>,
@@ -40,7 +40,7 @@ impl Model for Wired {
 }
 
 /// What may stand in a formula at its place: the fields of a row, and reads that aren't tracked.
-#[derive(Clone, Copy, Debug, PartialEq, Eq)]
+#[derive(Clone, Copy)]
 pub struct Allow {
     pub row: bool,
     pub untrack: bool,

@@ -10,7 +10,7 @@ use std::alloc::Global;
 
 /// Goes through three slots. It reads them from slot 0 on and gives the first value that isn't `false`; after slot 2 it gives
 /// what that one has.
-#[derive(Debug, Drop)]
+#[derive(Drop)]
 pub struct Cascade {
     asks: u128,
 }

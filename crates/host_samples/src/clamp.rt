@@ -10,7 +10,7 @@ use std::alloc::Global;
 /// Keeps a number within bounds. It reads slots 0, 1 and 2: the number, the least and the greatest. Where one of them is no
 /// whole number it is the fault `kind`, after all three were read. Where the least is above the greatest it is the fault
 /// `host 2`. Otherwise it gives the number from the least to the greatest that is nearest to slot 0.
-#[derive(Debug, Drop)]
+#[derive(Drop)]
 pub struct Clamp {
     asks: u128,
 }

@@ -9,7 +9,7 @@ use std::alloc::Global;
 
 /// Chooses between two slots. It reads slot 0; for true it reads slot 1 and gives it, for false slot 2. What is no truth is
 /// the fault `kind`.
-#[derive(Debug, Drop)]
+#[derive(Drop)]
 pub struct Pick {
     asks: u128,
 }

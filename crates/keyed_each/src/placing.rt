@@ -10,7 +10,7 @@ use sig_base::{NoMemory, Text};
 use std::alloc::Global;
 
 /// What is done for one new row.
-#[derive(Clone, Copy, Debug, PartialEq, Eq)]
+#[derive(Clone, Copy, PartialEq, Eq)]
 pub enum RowStep {
     /// It stands at its place.
     Keep,

@@ -5,7 +5,7 @@ use sig_base::Name;
 use std::marker::Model;
 
 /// Names in their order.
-#[derive(Debug, Drop)]
+#[derive(Drop)]
 pub struct NameList {
     names: Vec<Name>,
 }

@@ -17,7 +17,7 @@ use std::marker::Model;
 pub type ToldValues = Result<Scalars, FormulaFault>;
 
 /// Values that are held while others are read.
-#[derive(Debug, Drop)]
+#[derive(Drop)]
 pub struct Held {
     values: Vec<Scalar>,
 }

@@ -13,7 +13,7 @@ use tpl_syntax::Template;
 
 /// The body of an effect with the names that stand in it: its statements, the names that they act on, the names in their formulas, the
 /// bodies of its nested effects, and its rewirings.
-#[derive(Debug, Drop)]
+#[derive(Drop)]
 pub struct EffectBody {
     body: Body,
 }
@@ -53,7 +53,7 @@ impl EffectBody {
 }
 
 /// The verbs of the commands that are a verb and a name.
-#[derive(Clone, Copy, Debug, PartialEq, Eq)]
+#[derive(Clone, Copy)]
 pub enum Verb {
     /// `get N` tells the outcome of a cell, a list or a computed.
     Get,
@@ -89,7 +89,7 @@ impl Verb {
 }
 
 /// What a computed is computed by.
-#[derive(Debug, Drop)]
+#[derive(Drop)]
 pub enum SourceText {
     /// A formula with the names of its slots.
     Formula(Wired),
@@ -98,7 +98,7 @@ pub enum SourceText {
 }
 
 /// What a watcher tries to do while it is notified.
-#[derive(Debug, Drop)]
+#[derive(Drop)]
 pub enum Try {
     /// `get N`
     Get(Name),
@@ -111,7 +111,7 @@ pub enum Try {
 }
 
 /// An edit of a list's rows. A place is counted from 0.
-#[derive(Debug, Drop)]
+#[derive(Drop)]
 pub enum RowEdit {
     /// `insert N PLACE KEY (LIT, LIT)` puts a row so that it stands at a place.
     Insert {
@@ -132,7 +132,7 @@ pub enum RowEdit {
 }
 
 /// A command of a script. What is made `inside` an owner is disposed with it.
-#[derive(Debug, Drop)]
+#[derive(Drop)]
 pub enum Command {
     /// `cell N = LIT [equals K] [in O]` makes a cell of this value, which compares by the equality rule at a place if there is one.
     Cell {
@@ -215,7 +215,7 @@ pub enum Command {
 }
 
 /// What a piece of a script is: a command, or lines that are refused.
-#[derive(Debug, Drop)]
+#[derive(Drop)]
 pub enum Item {
     Do(Command),
     Refused(Refusal),

@@ -15,7 +15,7 @@ use std::alloc::Global;
 use tpl_syntax::TemplateWhy;
 
 /// The first line of a block.
-#[derive(Debug, Drop)]
+#[derive(Drop)]
 pub enum Head {
     /// `effect E [in O]`
     Effect(Name, Option<Name>),
@@ -25,7 +25,7 @@ pub enum Head {
 
 /// What stands between the first line of a block and its last: a line that isn't in the grammar or may not stand there, by its number;
 /// what it is refused for besides; or the command that it makes.
-#[derive(Debug, Drop)]
+#[derive(Drop)]
 pub enum Content {
     Faulty(u32),
     Refused(Refusal),

@@ -22,7 +22,7 @@ use sig_base::{MOST_LINE, NoMemory};
 use std::alloc::Global;
 
 /// What the lines of a command say, or the number of the first that says nothing which may stand there.
-#[derive(Debug, Drop)]
+#[derive(Drop)]
 pub enum Reading {
     Faulty(u32),
     Said(Vec<ReadLine>),

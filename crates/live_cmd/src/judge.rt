@@ -8,7 +8,7 @@ use formula_text::FormulaFault;
 use live_entries::{LimitWord, Refusal};
 
 /// A line of a command that was read, or what is wrong with it, and its number.
-#[derive(Debug, Drop)]
+#[derive(Drop)]
 pub struct ReadLine {
     pub number: u32,
     pub line: Result<Line, FormulaFault>,

@@ -7,7 +7,7 @@ use formula_text::FormulaFault;
 use sig_base::Name;
 
 /// What a line says, by itself: where it may stand is another matter.
-#[derive(Debug, Drop)]
+#[derive(Drop)]
 pub enum Line {
     /// A command of one line.
     Alone(Command),
@@ -20,7 +20,7 @@ pub enum Line {
 }
 
 /// What a line is for the place where it stands.
-#[derive(Clone, Copy, Debug, PartialEq, Eq)]
+#[derive(Clone, Copy)]
 pub enum LineKind {
     /// A command by itself.
     Alone,
@@ -29,7 +29,7 @@ pub enum LineKind {
 }
 
 /// What a line says: what it is for its place, and the line, or what is wrong with it.
-#[derive(Debug, Drop)]
+#[derive(Drop)]
 pub struct Found {
     pub kind: LineKind,
     pub line: Result<Line, FormulaFault>,

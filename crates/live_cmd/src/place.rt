@@ -5,7 +5,7 @@ ghost use Rattle.live_cmd.specs.Places.{fits};
 use crate::line::LineKind;
 
 /// A place among the lines of a command that is no block.
-#[derive(Clone, Copy, Debug)]
+#[derive(Clone, Copy)]
 pub enum Place {
     /// At the first line.
     First,

@@ -4,7 +4,7 @@ use crate::{Label, NameList, PageBytes, PageOp, Refusal};
 use sig_base::{Fault, Name, Outcome, Value};
 
 /// How a computed stands while nothing is evaluated.
-#[derive(Clone, Copy, Debug, PartialEq, Eq)]
+#[derive(Clone, Copy)]
 pub enum Seen {
     /// What is kept of it serves.
     Clean,

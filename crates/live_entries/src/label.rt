@@ -6,7 +6,7 @@ use std::alloc::Global;
 use std::marker::Model;
 
 /// The numbers of child effects, each of a child of the one before.
-#[derive(Debug, Drop)]
+#[derive(Drop)]
 pub struct ChildPath {
     numbers: Vec<u64>,
 }
@@ -37,7 +37,7 @@ impl ChildPath {
 
 /// What an effect or another thing is called in what is told: its name, or for a child effect the name of the effect that a command made,
 /// and behind it, for each child on the way down, the number that it has among the children which one run of its parent makes, from 1.
-#[derive(Debug, Drop)]
+#[derive(Drop)]
 pub struct Label {
     pub name: Name,
     pub path: ChildPath,

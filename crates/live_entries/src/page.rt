@@ -10,7 +10,7 @@ use std::marker::Model;
 use std::rc::Rc;
 
 /// The HTML of a page. Its copies share the bytes.
-#[derive(Debug, Drop)]
+#[derive(Drop)]
 pub struct PageBytes {
     shared: Rc<Vec<u8>>,
 }

@@ -4,7 +4,7 @@ use line_forms::NameList;
 use sig_base::{Name, Text};
 
 /// Why an item is refused: a rule and what it was broken at.
-#[derive(Debug, Drop)]
+#[derive(Drop)]
 pub enum Refusal {
     /// The line of this number isn't in the grammar, or begins a block that doesn't end.
     Syntax(u32),
@@ -51,7 +51,7 @@ pub enum Refusal {
 }
 
 /// Why a field doesn't serve.
-#[derive(Debug, Drop)]
+#[derive(Drop)]
 pub enum FieldDetail {
     /// No field has this name.
     Field(Name),
@@ -60,7 +60,7 @@ pub enum FieldDetail {
 }
 
 /// What there may not be too much of.
-#[derive(Clone, Copy, Debug, PartialEq, Eq)]
+#[derive(Clone, Copy)]
 pub enum LimitWord {
     /// A line has at most `MOST_LINE` bytes.
     Line,

@@ -11,7 +11,7 @@ use std::alloc::Global;
 pub type EffectLabel = (EffectId, Label);
 
 /// The names of signals, owners, pages and watchers, each at its number, and the labels of effects with their numbers.
-#[derive(Debug, Drop)]
+#[derive(Drop)]
 pub struct Labels {
     pub signals: Vec<Name>,
     pub owners: Vec<Name>,

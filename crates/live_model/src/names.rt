@@ -1,7 +1,7 @@
 // What the names of a script stand for.
 
 /// The kinds of what a name stands for.
-#[derive(Clone, Copy, Debug, PartialEq, Eq)]
+#[derive(Clone, Copy)]
 pub enum Kind {
     Cell,
     List,
@@ -14,14 +14,14 @@ pub enum Kind {
 }
 
 /// What a name stands for: that of this number among those of its kind. Cells, lists and computeds are numbered together.
-#[derive(Clone, Copy, Debug, PartialEq, Eq)]
+#[derive(Clone, Copy)]
 pub struct Meaning {
     pub kind: Kind,
     pub number: u128,
 }
 
 /// What a name has to be where it is used.
-#[derive(Clone, Copy, Debug)]
+#[derive(Clone, Copy)]
 pub enum Need {
     /// Not made yet.
     New,

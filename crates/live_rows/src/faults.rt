@@ -22,11 +22,11 @@ fn tells_each_failed_read(rt: HostRuntime) -> Result<(), Fail> {
     let reads = (FIRST_PAGE.len() as u64 + 3) / 4 + 1;
     for call in 1..reads + 1 {
         let run = first_page(rt.alloc(), &[call], &[])?;
-        assert_eq!(rt; run.status, Status::ReadFault, "at read {call}");
+        assert!(rt; run.status == Status::ReadFault, "at read {call}");
         assert!(rt; run.held.is_empty(), "at read {call}");
     }
     let run = first_page(rt.alloc(), &[reads + 1], &[])?;
-    assert_eq!(rt; run.status, Status::Done);
+    assert!(rt; run.status == Status::Done);
     Ok(())
 }
 
@@ -35,7 +35,7 @@ fn tells_each_failed_write(rt: HostRuntime) -> Result<(), Fail> {
     let writes = (FIRST_OUTPUT.len() as u64 + 3) / 4;
     for call in 1..writes + 1 {
         let run = first_page(rt.alloc(), &[], &[call])?;
-        assert_eq!(rt; run.status, Status::WriteFault, "at write {call}");
+        assert!(rt; run.status == Status::WriteFault, "at write {call}");
         assert!(rt;
             FIRST_OUTPUT.as_bytes().starts_with(run.held.as_slice()),
             "at write {call}"
@@ -43,7 +43,7 @@ fn tells_each_failed_write(rt: HostRuntime) -> Result<(), Fail> {
         assert_eq!(rt; run.held.len() as u64, 4 * (call - 1), "at write {call}");
     }
     let run = first_page(rt.alloc(), &[], &[writes + 1])?;
-    assert_eq!(rt; run.status, Status::Done);
+    assert!(rt; run.status == Status::Done);
     assert_eq!(rt; run.held.as_slice(), FIRST_OUTPUT.as_bytes());
     Ok(())
 }

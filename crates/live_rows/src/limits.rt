@@ -267,11 +267,11 @@ fn bounds_a_script(rt: HostRuntime) -> Result<(), Fail> {
     let script = repeated(alloc, line.as_str(), 4096)?;
     assert_eq!(rt; script.len(), MOST_SCRIPT);
     let run = run_whole(alloc, "live run", script.as_str())?;
-    assert_eq!(rt; run.status, Status::Done);
+    assert!(rt; run.status == Status::Done);
     assert!(rt; run.held.is_empty());
     let longer = format!(in alloc; "{script}\n")?;
     let run = run_whole(alloc, "live run", longer.as_str())?;
-    assert_eq!(rt; run.status, Status::TooLong);
+    assert!(rt; run.status == Status::TooLong);
     assert!(rt; run.held.is_empty());
     Ok(())
 }
@@ -297,7 +297,7 @@ fn refuses_bytes_that_are_no_text(rt: HostRuntime) -> Result<(), Fail> {
             Vec::new(alloc),
             Vec::new(alloc),
         )?;
-        assert_eq!(rt; run.status, Status::Done);
+        assert!(rt; run.status == Status::Done);
         assert_eq!(rt; run.held.as_slice(), output.as_bytes());
     }
     Ok(())

@@ -18,7 +18,7 @@ pub(crate) const FIRST_OUTPUT: &str =
     "op p insert 0 0 (1 \"1\")\nop p insert 0 1 (2 \"x<y\")\npage p 7\n1x&lt;y\nop p text 1 \"2\"\npage p 7\n2x&lt;y\n";
 
 /// A run: its status and what the sink holds after it.
-#[derive(Debug, Drop)]
+#[derive(Drop)]
 pub(crate) struct Run {
     pub(crate) status: Status,
     pub(crate) held: Vec<u8>,

@@ -21,7 +21,7 @@ fn measures_workloads(rt: HostRuntime) -> Result<(), Fail> {
         ),
     ] {
         let run = run_whole(rt.alloc(), line, "get nothing\n")?;
-        assert_eq!(rt; run.status, Status::Done, "of {line}");
+        assert!(rt; run.status == Status::Done, "of {line}");
         assert_eq!(rt; run.held.as_slice(), output.as_bytes(), "of {line}");
     }
     Ok(())
@@ -40,7 +40,7 @@ fn refuses_other_words(rt: HostRuntime) -> Result<(), Fail> {
         "live bench 4 --trace",
     ] {
         let run = run_whole(rt.alloc(), line, "get nothing\n")?;
-        assert_eq!(rt; run.status, Status::Usage, "of {line}");
+        assert!(rt; run.status == Status::Usage, "of {line}");
         assert!(rt; run.held.is_empty(), "of {line}");
     }
     Ok(())

@@ -21,7 +21,7 @@ use sig_io::{Sink, Source, put_all};
 use std::alloc::Global;
 
 /// How a run ended. The number is the program's exit status.
-#[derive(Clone, Copy, Debug, PartialEq, Eq)]
+#[derive(Clone, Copy, PartialEq, Eq)]
 pub enum Status {
     /// The script was read to its end, and all output was written.
     Done = 0,
@@ -47,7 +47,7 @@ pub const MOST_RULES: usize = 16;
 const LARGE: usize = 65_536;
 
 // Why a run ended early.
-#[derive(Clone, Copy, Debug, PartialEq, Eq)]
+#[derive(Clone, Copy)]
 enum RunEnd {
     Memory,
     Write,

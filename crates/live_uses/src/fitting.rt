@@ -16,7 +16,7 @@ use sig_untrack::{Body, Rewire, Stmt};
 use std::alloc::Global;
 
 /// How many names, targets, nested effects and rewirings a body has.
-#[derive(Clone, Copy, Debug)]
+#[derive(Clone, Copy)]
 pub struct Counts {
     pub names: usize,
     pub targets: usize,

@@ -7,7 +7,7 @@ use live_model::Need;
 use sig_base::{Name, NoMemory};
 
 /// A name that a command uses, and what it has to be.
-#[derive(Clone, Copy, Debug)]
+#[derive(Clone, Copy)]
 pub struct Use<'a> {
     pub name: &'a Name,
     pub need: Need,

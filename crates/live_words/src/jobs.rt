@@ -4,7 +4,7 @@
 pub const MOST_ROUNDS: u32 = 100_000;
 
 /// What the program is asked to do.
-#[derive(Clone, Copy, Debug, PartialEq, Eq)]
+#[derive(Clone, Copy, PartialEq, Eq)]
 pub enum Job {
     /// Run the script.
     Run,

@@ -16,7 +16,7 @@ use std::alloc::Global;
 const MOST_BELOW: u64 = 31;
 
 /// What an operation does.
-#[derive(Clone, Copy, Debug, PartialEq, Eq)]
+#[derive(Clone, Copy)]
 pub enum Verb {
     Remove,
     Insert,

@@ -28,7 +28,7 @@ use std::alloc::Global;
 use std::marker::Model;
 
 /// What a node is; `Void` is an element without an end tag, which can't hold children.
-#[derive(Clone, Copy, Debug, PartialEq, Eq)]
+#[derive(Clone, Copy)]
 pub enum NodeKind {
     Root,
     Text,

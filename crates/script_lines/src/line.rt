@@ -7,7 +7,7 @@ ghost use Rattle.script_lines.specs.Views.{line_of};
 use crate::word::is_passed;
 
 /// A line of a script and its number, counted from 1.
-#[derive(Clone, Copy, Debug)]
+#[derive(Clone, Copy)]
 pub struct NumberedLine<'a> {
     pub number: u32,
     pub text: &'a [u8],

@@ -10,7 +10,7 @@ use sig_base::NoMemory;
 use std::alloc::Global;
 
 /// The lines of a command, and whether its end is there.
-#[derive(Debug, Drop)]
+#[derive(Drop)]
 pub struct Piece<'a> {
     pub ended: bool,
     pub lines: Vec<NumberedLine<'a>>,

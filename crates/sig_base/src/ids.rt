@@ -4,7 +4,7 @@ ghost use Rattle.std.specs.Prelude.{◌≡◌};
 use std::marker::Model;
 
 /// The number of a signal.
-#[derive(Clone, Copy, PartialEq, Eq, Hash, Debug, Default)]
+#[derive(Clone, Copy, PartialEq, Eq, Hash)]
 pub struct NodeId {
     number: u128,
 }
@@ -36,7 +36,7 @@ impl NodeId {
 }
 
 /// The number of an owner.
-#[derive(Clone, Copy, PartialEq, Eq, Hash, Debug, Default)]
+#[derive(Clone, Copy, PartialEq, Eq, Hash)]
 pub struct OwnerId {
     number: u128,
 }
@@ -68,7 +68,7 @@ impl OwnerId {
 }
 
 /// The number of a watcher.
-#[derive(Clone, Copy, PartialEq, Eq, Hash, Debug, Default)]
+#[derive(Clone, Copy, PartialEq, Eq)]
 pub struct WatcherId {
     number: u128,
 }
@@ -100,7 +100,7 @@ impl WatcherId {
 }
 
 /// The number of an effect.
-#[derive(Clone, Copy, PartialEq, Eq, Hash, Debug, Default)]
+#[derive(Clone, Copy, PartialEq, Eq, Hash)]
 pub struct EffectId {
     number: u128,
 }
@@ -132,7 +132,7 @@ impl EffectId {
 }
 
 /// The number of a page.
-#[derive(Clone, Copy, PartialEq, Eq, Hash, Debug, Default)]
+#[derive(Clone, Copy, PartialEq, Eq, Hash)]
 pub struct PageId {
     number: u128,
 }
@@ -164,7 +164,7 @@ impl PageId {
 }
 
 /// The number of a template's place.
-#[derive(Clone, Copy, PartialEq, Eq, Hash, Debug, Default)]
+#[derive(Clone, Copy)]
 pub struct PlaceId {
     number: u128,
 }

@@ -15,7 +15,7 @@ use std::rc::RcStr;
 use thiserror::Error;
 
 /// Why there is no such name.
-#[derive(Clone, Copy, Debug, PartialEq, Eq, Error)]
+#[derive(Clone, Copy, Debug, Error)]
 pub enum NameFault {
     #[error("the text is no name")]
     Bad,
@@ -32,7 +32,7 @@ impl From<AllocError> for NameFault {
 }
 
 /// A name of a script. Its copies share the bytes.
-#[derive(Debug, Drop)]
+#[derive(Drop)]
 pub struct Name {
     shared: RcStr,
 }

@@ -11,7 +11,7 @@ use std::marker::Model;
 use std::rc::Rc;
 
 /// A list of scalars. Its copies share it.
-#[derive(Debug, Drop)]
+#[derive(Drop)]
 pub struct Scalars {
     shared: Rc<Vec<Scalar>>,
 }
@@ -54,7 +54,7 @@ impl Scalars {
 }
 
 /// A row: its key, and one value for each field.
-#[derive(Debug, Drop)]
+#[derive(Drop)]
 pub struct Row {
     pub key: Text,
     pub values: Scalars,
@@ -87,7 +87,7 @@ impl Eq for Row {
 }
 
 /// Named fields, and rows in order under distinct keys with one value for each field. Copies share both lists.
-#[derive(Debug, Drop)]
+#[derive(Drop)]
 pub struct Rows {
     fields: Rc<Vec<Name>>,
     rows: Rc<Vec<Row>>,

@@ -8,7 +8,7 @@ use crate::{NoMemory, Text};
 use std::fmt;
 
 /// A truth, a whole number or a text.
-#[derive(Debug, Drop)]
+#[derive(Drop)]
 pub enum Scalar {
     Bool(bool),
     Int(i64),

@@ -14,7 +14,7 @@ use std::rc::RcStr;
 use thiserror::Error;
 
 /// Why there is no such text.
-#[derive(Clone, Copy, Debug, PartialEq, Eq, Error)]
+#[derive(Clone, Copy, Debug, Error)]
 pub enum TextFault {
     #[error("a text is too long")]
     Long,
@@ -31,7 +31,7 @@ impl From<AllocError> for TextFault {
 }
 
 /// A text of at most `MOST_TEXT` bytes of UTF-8. Its copies share them.
-#[derive(Debug, Drop)]
+#[derive(Drop)]
 pub struct Text {
     shared: RcStr,
 }

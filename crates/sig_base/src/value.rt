@@ -6,7 +6,7 @@ use crate::{NoMemory, Rows, Scalar, Text};
 use std::fmt;
 
 /// The value of a signal or a formula.
-#[derive(Debug, Drop)]
+#[derive(Drop)]
 pub enum Value {
     Bool(bool),
     Int(i64),
@@ -15,7 +15,7 @@ pub enum Value {
 }
 
 /// Why there is no value.
-#[derive(Clone, Copy, Debug, PartialEq, Eq)]
+#[derive(Clone, Copy, PartialEq, Eq)]
 pub enum Fault {
     /// A whole number outside 64 bits.
     Overflow,
@@ -40,21 +40,21 @@ pub enum Fault {
 }
 
 /// What an evaluation came to.
-#[derive(Debug, Drop)]
+#[derive(Drop)]
 pub enum Outcome {
     Good(Value),
     Bad(Fault),
 }
 
 /// The value of a slot.
-#[derive(Debug, Drop)]
+#[derive(Drop)]
 pub struct Known {
     pub slot: u32,
     pub value: Value,
 }
 
 /// What a formula answers to the values known so far: it needs a slot, or it ends.
-#[derive(Debug, Drop)]
+#[derive(Drop)]
 pub enum Step {
     Read(u32),
     Done(Value),

@@ -4,14 +4,14 @@ use sig_base::{NodeId, WatcherId};
 use sig_computed::RunNote;
 
 /// What can be disposed.
-#[derive(Clone, Copy, Debug, PartialEq, Eq)]
+#[derive(Clone, Copy)]
 pub enum Thing {
     Signal(NodeId),
     Watcher(WatcherId),
 }
 
 /// What is told on the way.
-#[derive(Debug, Drop)]
+#[derive(Drop)]
 pub enum Event {
     /// A computed ran.
     Run(RunNote),

@@ -14,7 +14,7 @@ use sig_watcher::Watchers;
 use std::alloc::Global;
 
 /// Signals, and who watches them. Host formulas and equality rules stay with the caller, who hands in those that a call needs.
-#[derive(Debug, Drop)]
+#[derive(Drop)]
 pub struct World {
     pub graph: Graph,
     pub watchers: Watchers,

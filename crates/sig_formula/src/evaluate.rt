@@ -13,7 +13,7 @@ use sig_base::{Fault, Known, NoMemory, Outcome, Rows, Step, Value};
 use std::alloc::Global;
 
 /// What a formula answers: the first slot that it needs and doesn't know, and whether that read is tracked; or what it comes to.
-#[derive(Debug, Drop)]
+#[derive(Drop)]
 pub enum FormulaStep {
     Ask(u32, bool),
     End(Outcome),

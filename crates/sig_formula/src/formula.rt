@@ -3,7 +3,7 @@
 use sig_base::{Name, Rows, Scalar};
 
 /// An operator between two operands.
-#[derive(Clone, Copy, Debug, PartialEq, Eq)]
+#[derive(Clone, Copy)]
 pub enum BinOp {
     Or,
     And,
@@ -23,7 +23,7 @@ pub enum BinOp {
 }
 
 /// A formula over slots, which stand for its names in the order of their first places.
-#[derive(Debug, Drop)]
+#[derive(Drop)]
 pub enum Formula {
     Lit(Scalar),
     Slot(u32),
@@ -46,7 +46,7 @@ pub enum Formula {
 }
 
 /// The row that a formula speaks of: rows, and a place among them.
-#[derive(Debug, Drop)]
+#[derive(Drop)]
 pub struct RowRef {
     pub rows: Rows,
     pub place: usize,

@@ -4,7 +4,7 @@ use sig_base::Step;
 use sig_formula::Formula;
 
 /// What a computed asks.
-#[derive(Debug, Drop)]
+#[derive(Drop)]
 pub enum Recipe {
     Formula(Formula),
     /// The host formula at a place.
@@ -12,7 +12,7 @@ pub enum Recipe {
 }
 
 /// The answer of a recipe to the values known so far.
-#[derive(Debug, Drop)]
+#[derive(Drop)]
 pub enum Asked {
     /// That of a formula.
     Step(Step),
@@ -21,7 +21,7 @@ pub enum Asked {
 }
 
 /// What has to be done before a computed's kept outcome may be given again.
-#[derive(Clone, Copy, Debug, PartialEq, Eq)]
+#[derive(Clone, Copy)]
 pub enum Mark {
     /// Nothing.
     Clean,
@@ -32,7 +32,7 @@ pub enum Mark {
 }
 
 /// What stands under an id.
-#[derive(Clone, Copy, Debug, PartialEq, Eq)]
+#[derive(Clone, Copy)]
 pub enum Standing {
     /// Nothing: the signal was disposed.
     Gone,

@@ -20,7 +20,7 @@ use std::alloc::Global;
 use std::marker::Model;
 
 /// Signals: cells and computeds, with what is kept of the computeds' evaluations.
-#[derive(Debug, Drop)]
+#[derive(Drop)]
 pub struct Graph {
     pub(crate) alloc: Global,
     pub(crate) nodes: Vec<Node>,

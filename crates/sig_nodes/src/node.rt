@@ -20,7 +20,7 @@ use std::alloc::Global;
 use std::marker::Model;
 
 /// A source that was read, with its change number at that time, none for gone.
-#[derive(Clone, Copy, Debug, PartialEq, Eq)]
+#[derive(Clone, Copy)]
 pub(crate) struct Source {
     pub(crate) name: NodeId,
     pub(crate) number: Option<u128>,
@@ -38,7 +38,7 @@ impl Model for Source {
 
 /// What a run left: its outcome, its sources in order and the numbers that were read of them, the generation at that time, and
 /// whether the computed was rewired since.
-#[derive(Debug, Drop)]
+#[derive(Drop)]
 pub(crate) struct Memo {
     outcome: Outcome,
     sources: Vec<NodeId>,
@@ -137,7 +137,7 @@ fn is_cycle(outcome: &Outcome) -> bool
 }
 
 /// What is kept of a computed, and while it is computing the values that its recipe was last asked with.
-#[derive(Debug, Drop)]
+#[derive(Drop)]
 pub(crate) struct Computation {
     recipe: Recipe,
     slots: Vec<NodeId>,
@@ -327,7 +327,7 @@ impl Computation {
 }
 
 /// What lives in a node.
-#[derive(Debug, Drop)]
+#[derive(Drop)]
 pub(crate) enum Body {
     Gone,
     /// A value, and the place of an equality rule.
@@ -336,7 +336,7 @@ pub(crate) enum Body {
 }
 
 /// One signal's node: its change number, its seat, and what lives in it.
-#[derive(Debug, Drop)]
+#[derive(Drop)]
 pub(crate) struct Node {
     pub(crate) number: u128,
     pub(crate) seat: usize,

@@ -7,7 +7,7 @@ use std::alloc::Global;
 use std::marker::Model;
 
 /// Who has each seat, and the free seats.
-#[derive(Debug, Drop)]
+#[derive(Drop)]
 pub(crate) struct Seats {
     holders: Vec<Option<NodeId>>,
     free: Vec<usize>,

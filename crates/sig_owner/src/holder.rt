@@ -10,7 +10,7 @@ use sig_base::{NoMemory, OwnerId};
 use std::alloc::Global;
 
 /// What was made under a holder: another holder, a node or a page, or a cleanup.
-#[derive(Debug, Drop)]
+#[derive(Drop)]
 pub(crate) enum Made {
     Held(OwnerId),
     Leaf(Thing),
@@ -18,7 +18,7 @@ pub(crate) enum Made {
 }
 
 /// An owner, or an effect with the owner that was made for it: what it stands in, and what was made under it, in the order of making.
-#[derive(Debug, Drop)]
+#[derive(Drop)]
 pub(crate) struct Holder {
     pub thing: Thing,
     pub above: Option<OwnerId>,

@@ -22,7 +22,7 @@ use std::alloc::Global;
 use std::marker::Model;
 
 /// Owners, and effects with the owner that was made for each: what stands under what, and the cleanups that are noted there.
-#[derive(Debug, Drop)]
+#[derive(Drop)]
 pub struct Owners {
     alloc: Global,
     holders: Vec<Holder>,

@@ -6,7 +6,7 @@ ghost use Rattle.sig_owner.specs.Keys.{same_key, same_key-Decides};
 use sig_base::{EffectId, NoMemory, NodeId, OwnerId, PageId, Scalar, Value};
 
 /// What can stand under an owner.
-#[derive(Clone, Copy, Debug, Hash)]
+#[derive(Clone, Copy, Hash)]
 pub enum Thing {
     Node(NodeId),
     Effect(EffectId),
@@ -35,7 +35,7 @@ impl Eq for Thing {
 }
 
 /// What an effect notes, to be done when it is taken back: a cell is set, or a value is logged.
-#[derive(Debug, Drop)]
+#[derive(Drop)]
 pub enum CleanupAct {
     Set(NodeId, Scalar),
     Log(Value),
@@ -54,7 +54,7 @@ impl CleanupAct {
 }
 
 /// One step of taking back: a cleanup that was noted under an owner is to be done, or a thing is gone.
-#[derive(Debug, Drop)]
+#[derive(Drop)]
 pub enum Undoing {
     Cleanup(OwnerId, CleanupAct),
     Gone(Thing),

@@ -11,7 +11,7 @@ use sig_base::{NoMemory, OwnerId};
 use std::alloc::Global;
 
 /// What waits for an inner holder to end: so many items are still to be taken back under its own holder.
-#[derive(Clone, Copy, Debug)]
+#[derive(Clone, Copy)]
 pub(crate) struct Pending {
     pub holder: OwnerId,
     pub left: usize,
@@ -20,7 +20,7 @@ pub(crate) struct Pending {
 
 /// A walk that is under way: the holder where it stands, how many items are left there, what waits for that holder to end, the innermost
 /// last, what was undone so far, and which holders have ended.
-#[derive(Debug, Drop)]
+#[derive(Drop)]
 pub(crate) struct Walk {
     pub at: OwnerId,
     pub left: usize,
@@ -134,7 +134,7 @@ impl Walk {
 }
 
 /// What taking back undoes, in order, and the holders that end with it.
-#[derive(Debug, Drop)]
+#[derive(Drop)]
 pub(crate) struct Teardown {
     pub undoings: Vec<Undoing>,
     pub ended: Vec<OwnerId>,

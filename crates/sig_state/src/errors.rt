@@ -3,6 +3,6 @@
 use thiserror::Error;
 
 /// The cell is gone.
-#[derive(Clone, Copy, Debug, PartialEq, Eq, Error)]
+#[derive(Clone, Copy, Debug, Error)]
 #[error("the cell is gone")]
 pub struct Gone;

@@ -12,7 +12,7 @@ use sig_host::EqualsRule;
 use sig_nodes::Graph;
 
 /// What a set did.
-#[derive(Clone, Copy, Debug, PartialEq, Eq)]
+#[derive(Clone, Copy)]
 pub enum SetDone {
     /// The cell has the value, and what reads it will be evaluated anew.
     Accepted,

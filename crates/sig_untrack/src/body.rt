@@ -4,7 +4,7 @@ use sig_base::{Fault, Name, Scalar, Value};
 use sig_formula::Formula;
 
 /// A statement of a body. Its numbers are places in the lists of the body, and the slots of its formulas are places among the names.
-#[derive(Debug, Drop)]
+#[derive(Drop)]
 pub enum Stmt {
     /// A cell, by its place among the targets, is set.
     Set(u32, Formula),
@@ -25,7 +25,7 @@ pub enum Stmt {
 }
 
 /// What a computed is computed by.
-#[derive(Debug, Drop)]
+#[derive(Drop)]
 pub enum Recipe2 {
     /// A formula whose slots are places among the names of the rewiring.
     Formula(Formula),
@@ -34,7 +34,7 @@ pub enum Recipe2 {
 }
 
 /// A computed, by its place among the targets of the body, and what it is computed by from then on.
-#[derive(Debug, Drop)]
+#[derive(Drop)]
 pub struct Rewire {
     pub target: u32,
     pub recipe: Recipe2,
@@ -43,7 +43,7 @@ pub struct Rewire {
 
 /// The body of an effect: its statements, the names that they act on, the names in their formulas, the bodies of its nested effects,
 /// and its rewirings.
-#[derive(Debug, Drop)]
+#[derive(Drop)]
 pub struct Body {
     pub statements: Vec<Stmt>,
     pub targets: Vec<Name>,
@@ -53,7 +53,7 @@ pub struct Body {
 }
 
 /// What a body wants done, with numbers as in its statements.
-#[derive(Debug, Drop)]
+#[derive(Drop)]
 pub enum Act {
     Set(u32, Scalar),
     Log(Value),
@@ -66,7 +66,7 @@ pub enum Act {
 
 /// What a body answers: the first slot that it needs and doesn't know, and whether that read is tracked; all its acts, in order; or its
 /// first fault.
-#[derive(Debug, Drop)]
+#[derive(Drop)]
 pub enum BodyStep {
     Read { slot: u32, tracked: bool },
     Acts(Vec<Act>),

@@ -16,7 +16,7 @@ use sig_formula::{Formula, FormulaStep, formula_step};
 use std::alloc::Global;
 
 /// Why the statements were left.
-#[derive(Debug, Drop)]
+#[derive(Drop)]
 pub enum Stop {
     Read(u32, bool),
     Fail(Fault),

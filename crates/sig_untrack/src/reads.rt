@@ -7,7 +7,7 @@ use std::alloc::Global;
 use std::marker::Model;
 
 /// A signal that a body has read, and its outcome then.
-#[derive(Debug, Drop)]
+#[derive(Drop)]
 pub struct Read {
     pub id: NodeId,
     pub outcome: Outcome,

@@ -1,6 +1,6 @@
 // What bodies answer.
 use crate::{Act, Body, BodyStep, Stmt, body_step};
-use sig_base::{Known, NoMemory, Scalar, Value};
+use sig_base::{Fault, Known, NoMemory, Scalar, Value};
 use sig_formula::{BinOp, Formula};
 use std::alloc::{AllocError, Global};
 use std::test::Fail;
@@ -57,7 +57,8 @@ fn act_words(alloc: Global, act: &Act) -> Result<String, AllocError> {
 fn words(alloc: Global, step: &BodyStep) -> Result<String, AllocError> {
     match step {
         BodyStep::Read { slot, tracked } => format!(in alloc; "read {slot} {tracked}"),
-        BodyStep::Fail(fault) => format!(in alloc; "fail {fault:?}"),
+        BodyStep::Fail(Fault::Kind) => format!(in alloc; "fail Kind"),
+        BodyStep::Fail(_) => format!(in alloc; "fail another"),
         BodyStep::Acts(acts) => {
             let mut all = String::new(alloc);
             for act in acts {

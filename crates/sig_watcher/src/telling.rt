@@ -16,7 +16,7 @@ use sig_nodes::{Graph, Mark, Standing};
 use std::alloc::Global;
 
 /// A watcher that was notified.
-#[derive(Clone, Copy, Debug, PartialEq, Eq)]
+#[derive(Clone, Copy, PartialEq, Eq)]
 pub struct Told {
     pub watcher: WatcherId,
     /// Whether its notification tried a command, which is always refused.

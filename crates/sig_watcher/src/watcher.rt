@@ -11,7 +11,7 @@ use std::marker::Model;
 
 /// A watcher: the signals that it watches in order and once each, whether it is watching, and whether its notification tries a
 /// command.
-#[derive(Debug, Drop)]
+#[derive(Drop)]
 pub(crate) struct Watcher {
     id: WatcherId,
     signals: Vec<NodeId>,

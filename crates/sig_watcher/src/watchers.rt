@@ -19,7 +19,7 @@ use std::alloc::Global;
 use std::marker::Model;
 
 /// Watchers, with the signals that each watches. Signals that are disposed are to be forgotten.
-#[derive(Debug, Drop)]
+#[derive(Drop)]
 pub struct Watchers {
     alloc: Global,
     watchers: Vec<Watcher>,

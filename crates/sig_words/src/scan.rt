@@ -66,7 +66,7 @@ fn literal_len(bytes: &[u8]) -> Option<usize>
 }
 
 /// What the token at a byte can be.
-#[derive(Clone, Copy, PartialEq, Eq, Debug)]
+#[derive(Clone, Copy)]
 pub enum Start {
     Words,
     Tags,

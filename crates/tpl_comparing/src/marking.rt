@@ -22,7 +22,7 @@ use tpl_shapes::{Child, Mark};
 use tpl_shown::{put_shown, put_text};
 
 /// The nodes of both pages that are compared.
-#[derive(Debug, Drop)]
+#[derive(Drop)]
 pub struct Compared {
     /// Those whose children may differ, each with its next children and without its look.
     pub touched: Vec<Mark>,

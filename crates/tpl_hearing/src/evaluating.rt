@@ -18,7 +18,7 @@ use std::alloc::Global;
 use std::marker::Model;
 
 /// A name that a formula has read, and its outcome.
-#[derive(Debug, Drop)]
+#[derive(Drop)]
 pub struct Read {
     pub id: NodeId,
     pub outcome: Outcome,

@@ -7,7 +7,7 @@ use sig_base::NoMemory;
 use std::alloc::Global;
 
 /// What became of what is kept of lines one after the other.
-#[derive(Debug, Drop)]
+#[derive(Drop)]
 pub enum Change {
     /// All of it stays as it was.
     Stays,

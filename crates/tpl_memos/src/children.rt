@@ -11,7 +11,7 @@ use sig_base::NoMemory;
 use std::alloc::Global;
 
 /// What is done for a child of a node.
-#[derive(Clone, Copy, Debug, PartialEq, Eq)]
+#[derive(Clone, Copy, PartialEq, Eq)]
 pub enum ChildStep {
     /// At this place a new child comes, of this number.
     Insert(usize, u64),

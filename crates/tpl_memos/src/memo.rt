@@ -7,14 +7,14 @@ use sig_base::{NoMemory, NodeId, Outcome};
 use std::alloc::Global;
 
 /// What a formula of a line read, by name and in order, and what it came to.
-#[derive(Debug, Drop)]
+#[derive(Drop)]
 pub struct Heard {
     pub names: Vec<NodeId>,
     pub outcome: Outcome,
 }
 
 /// What is kept of lines one after the other, each with what was heard of it and what is kept inside it.
-#[derive(Debug, Drop)]
+#[derive(Drop)]
 pub enum PageMemo {
     /// Lines that were not read.
     Unread,

@@ -6,7 +6,7 @@ use sig_base::NoMemory;
 use std::alloc::{AllocError, AllocFailed};
 
 /// Why a part of a page isn't made.
-#[derive(Debug, Drop)]
+#[derive(Drop)]
 pub(crate) enum Stop {
     /// The outcome of this name is needed and isn't known.
     Ask(u32),

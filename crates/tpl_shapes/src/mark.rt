@@ -3,7 +3,7 @@
 use crate::shown::{Look, Shown};
 
 /// A child of a node that stands on the page.
-#[derive(Debug, Drop)]
+#[derive(Drop)]
 pub enum Child {
     /// It stands there too, under this number.
     Kept(u64),
@@ -12,7 +12,7 @@ pub enum Child {
 }
 
 /// A node that stands on the page and is shown again: its number there, what it says next, and its next children. The root says nothing.
-#[derive(Debug, Drop)]
+#[derive(Drop)]
 pub struct Mark {
     pub number: u64,
     pub look: Option<Look>,

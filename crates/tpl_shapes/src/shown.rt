@@ -12,7 +12,7 @@ use sig_base::{NoMemory, Text};
 use std::alloc::Global;
 
 /// Where a node comes from: the ordinal of its line in the template, and the key of its row where the line stands in one.
-#[derive(Debug, Drop, Hash)]
+#[derive(Drop, Hash)]
 pub struct Address {
     pub line: usize,
     pub key: Option<Text>,
@@ -61,7 +61,7 @@ impl Address {
 }
 
 /// What a node below the root is and what it says.
-#[derive(Debug, Drop)]
+#[derive(Drop)]
 pub enum Look {
     /// A text.
     Text(Text),
@@ -70,7 +70,7 @@ pub enum Look {
 }
 
 /// A node that lines show, with all below it.
-#[derive(Debug, Drop)]
+#[derive(Drop)]
 pub struct Shown {
     pub address: Address,
     pub look: Look,

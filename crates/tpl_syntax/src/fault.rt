@@ -6,7 +6,7 @@ use sig_base::NoMemory;
 use thiserror::Error;
 
 /// Why lines are no template, and where.
-#[derive(Clone, Copy, Debug, PartialEq, Eq, Error)]
+#[derive(Clone, Copy, Debug, Error)]
 #[error("line {at} of a template: {why}")]
 pub struct TemplateFault {
     /// The line's place among the lines, from 0, those that are passed over counted. For `Lines` it is how many lines there are, without

@@ -15,7 +15,7 @@ use sig_base::MOST_TEMPLATE_LINES;
 pub const MOST_DEPTH: usize = 32;
 
 /// A line that was read, and what is wrong with it.
-#[derive(Debug, Drop)]
+#[derive(Drop)]
 pub struct ReadLine {
     pub number: u32,
     /// What may not stand where it does.

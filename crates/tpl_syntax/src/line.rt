@@ -4,7 +4,7 @@ use sig_base::Text;
 use sig_formula::Formula;
 
 /// A line of a template, with formulas of this type.
-#[derive(Debug, Drop)]
+#[derive(Drop)]
 pub enum Line<F> {
     /// `text F` shows a text.
     Text(F),

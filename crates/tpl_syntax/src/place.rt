@@ -12,7 +12,7 @@ use sig_base::{NoMemory, Text};
 use std::alloc::Global;
 
 /// What an element may hold.
-#[derive(Clone, Copy, Debug, PartialEq, Eq)]
+#[derive(Clone, Copy, PartialEq, Eq)]
 pub enum Content {
     /// Nothing: it has no end tag.
     Nothing,
@@ -23,7 +23,7 @@ pub enum Content {
 }
 
 /// What a line begins and an `end` ends.
-#[derive(Clone, Copy, Debug, PartialEq, Eq)]
+#[derive(Clone, Copy, PartialEq, Eq)]
 pub enum Level {
     Element(Content),
     /// What may still have an `else`.
@@ -34,7 +34,7 @@ pub enum Level {
 }
 
 /// A place among the lines of a template.
-#[derive(Debug, Drop)]
+#[derive(Drop)]
 pub struct Place {
     /// What is begun, the innermost last.
     levels: Vec<Level>,

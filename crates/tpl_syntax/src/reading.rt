@@ -25,14 +25,14 @@ use std::str;
 
 /// A formula that was read: with slots for its names or what is wrong with it, and whether it is a literal that may stand in a text
 /// that isn't escaped.
-#[derive(Debug, Drop)]
+#[derive(Drop)]
 pub struct Seen {
     pub told: ToldFormula,
     pub bare: bool,
 }
 
 /// What was found in a literal so far: whether a backslash stands just before, whether `<` does, and whether `</` stood somewhere.
-#[derive(Clone, Copy, Debug)]
+#[derive(Clone, Copy)]
 pub struct Scan {
     behind: bool,
     opened: bool,

@@ -8,7 +8,7 @@ use sig_base::Name;
 use std::marker::Model;
 
 /// What a page is made of: lines, each where it may stand, and the names that their formulas read. It comes from `read_template` alone.
-#[derive(Debug, Drop)]
+#[derive(Drop)]
 pub struct Template {
     pub(crate) names: Vec<Name>,
     pub(crate) lines: Vec<TplLine>,
