@@ -6,6 +6,3 @@ mod summary;
 
 pub use script::bench_script;
 pub use summary::{Counts, put_summary};
-
-#[cfg(test)]
-mod tests;

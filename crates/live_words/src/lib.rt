@@ -9,6 +9,3 @@ mod words;
 pub use jobs::{Job, MOST_ROUNDS};
 pub use laws::rounds_are_few;
 pub use words::read_job;
-
-#[cfg(test)]
-mod tests;

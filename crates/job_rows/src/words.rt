@@ -1,5 +1,5 @@
 // The words of a line, and the job that is wanted of them.
-use crate::{Job, read_job};
+use live_words::{Job, read_job};
 use std::alloc::Global;
 use std::test::Fail;
 

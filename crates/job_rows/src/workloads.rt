@@ -1,5 +1,5 @@
 // Workloads whose text is known from elsewhere, and their summaries.
-use crate::{Counts, bench_script, put_summary};
+use bench_workload::{Counts, bench_script, put_summary};
 use std::test::Fail;
 
 // What is known of workloads, each behind the lines that all begin with.
