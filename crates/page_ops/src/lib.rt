@@ -8,8 +8,6 @@ mod numbers;
 mod op;
 mod parts;
 mod reading;
-#[cfg(test)]
-mod tests;
 mod writing;
 
 pub use applying::apply;

@@ -1,24 +1,10 @@
 // Operations as worked scripts print them, and the pages that they lead to.
 
-use page_ops::{ApplyFault, apply, op_line, read_op};
+use crate::lines::{apply_line, is_written_again};
 use page_tree::Tree;
 use std::alloc::Global;
 use std::process::Abort;
 use std::test::Fail;
-
-// Reads an operation and does it.
-fn apply_line(alloc: Global, tree: &mut Tree, line: &str) -> Result<Result<(), ApplyFault>, Fail> {
-    let op = read_op(alloc, line.as_bytes())?;
-    Ok(apply(alloc, tree, &op))
-}
-
-// Whether a line is read as an operation that is written so.
-fn is_written_again(alloc: Global, line: &str) -> Result<bool, Fail> {
-    let op = read_op(alloc, line.as_bytes())?;
-    let mut again = Vec::new(alloc);
-    op_line(&mut again, &op)?;
-    Ok(again.as_slice() == line.as_bytes())
-}
 
 // Does the operations, one on each line, which are to lead to this page.
 fn assert_leads(

@@ -1,6 +1,7 @@
 // Operations on a small page, and their text.
 
-use crate::{ApplyFault, Op, OpFault, apply, op_line, read_op};
+use crate::lines::{apply_line, is_written_again};
+use page_ops::{ApplyFault, Op, OpFault, op_line, read_op};
 use page_tree::{Sub, Tree};
 use sig_base::{NoMemory, Text, TextFault};
 use std::alloc::Global;
@@ -20,20 +21,6 @@ fn an_insertion_is_written(rt: HostRuntime) -> Result<(), NoMemory> {
     op_line(&mut line, &Op::Insert(1, 2, item))?;
     assert_eq!(rt; line.as_slice(), "insert 1 2 (8 li (9 \"D\"))".as_bytes());
     Ok(())
-}
-
-// What becomes of an operation that is read.
-fn apply_line(alloc: Global, tree: &mut Tree, line: &str) -> Result<Result<(), ApplyFault>, Fail> {
-    let op = read_op(alloc, line.as_bytes())?;
-    Ok(apply(alloc, tree, &op))
-}
-
-// Whether a line is read as an operation that is written so.
-fn is_written_again(alloc: Global, line: &str) -> Result<bool, Fail> {
-    let op = read_op(alloc, line.as_bytes())?;
-    let mut again = Vec::new(alloc);
-    op_line(&mut again, &op)?;
-    Ok(again.as_slice() == line.as_bytes())
 }
 
 // Whether a line is no operation's text.
