@@ -6,8 +6,6 @@ mod meaning;
 mod reader;
 mod rough;
 mod sign;
-#[cfg(test)]
-mod tests;
 mod wired;
 mod writer;
 

@@ -3,8 +3,6 @@
 
 mod escaping;
 mod names;
-#[cfg(test)]
-mod tests;
 
 pub use escaping::{put_attr, put_text};
 pub use names::{good_name, is_raw, is_void};

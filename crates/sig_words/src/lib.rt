@@ -11,6 +11,3 @@ mod token;
 pub use line::{LineFault, one_cutting, tokens};
 pub use quotes::{each_character_is_written, literal};
 pub use token::{Token, TokenKind, token_bytes};
-
-#[cfg(test)]
-mod tests;

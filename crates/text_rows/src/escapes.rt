@@ -1,5 +1,5 @@
 // Both calls with ample memory.
-use crate::{put_attr, put_text};
+use html_out::{put_attr, put_text};
 use sig_base::NoMemory;
 
 #[test]

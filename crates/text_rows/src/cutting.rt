@@ -1,8 +1,8 @@
 // Tables of lines with their tokens.
 ghost use Rattle.std.specs.Prelude.{◌≡◌};
 
-use crate::{LineFault, Token, TokenKind, literal, token_bytes, tokens};
 use sig_base::{Text, TextFault};
+use sig_words::{LineFault, Token, TokenKind, literal, token_bytes, tokens};
 use std::alloc::{AllocError, Global};
 use std::test::Fail;
 

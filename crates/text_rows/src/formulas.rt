@@ -1,6 +1,6 @@
 // Texts that are read and written again.
 
-use crate::{
+use formula_text::{
     Allow, FormulaFault, Wired, has_row_form, put_formula, put_formula_of, read_formula, read_rough,
 };
 use sig_base::NoMemory;
