@@ -2,7 +2,5 @@
 #![tactic(auto)]
 
 mod placing;
-#[cfg(test)]
-mod tests;
 
 pub use placing::{RowStep, place, steps_lead};

@@ -8,8 +8,6 @@ mod name;
 mod print;
 mod rows;
 mod scalar;
-#[cfg(test)]
-mod tests;
 mod text;
 mod value;
 mod word;

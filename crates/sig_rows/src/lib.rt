@@ -4,10 +4,6 @@
 mod edit;
 mod fault;
 mod row;
-#[cfg(test)]
-mod tests;
-#[cfg(test)]
-mod worked;
 
 pub use edit::{insert, move_to, new_rows, put_field, remove};
 pub use fault::RowFault;

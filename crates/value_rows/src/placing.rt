@@ -1,7 +1,7 @@
 // The call with ample memory.
 ghost use Rattle.std.specs.Prelude.{◌≡◌, ◌∷◌, [], IfOk};
 
-use crate::{RowStep, place};
+use keyed_each::{RowStep, place};
 use sig_base::Text;
 use std::alloc::Global;
 use std::test::Fail;

@@ -1,7 +1,7 @@
 // Printed forms, sameness, and each call that can answer want of memory with ample memory.
 ghost use Rattle.std.specs.Prelude.{◌≡◌, ◌∷◌, [], length, IfOk};
 
-use crate::{
+use sig_base::{
     Fault, Known, Name, NoMemory, Outcome, Row, Rows, Scalar, Scalars, Text, Value, alike,
     put_fault, put_value,
 };

@@ -2,8 +2,8 @@
 ghost use Rattle.std.specs.Prelude.{◌≡◌, ◌∷◌, [], codes, false, IfOk};
 ghost use Rattle.std.specs.Str.{bytes_eq};
 
-use crate::{RowFault, insert, move_to, new_rows, put_field, remove};
 use sig_base::{Name, NoMemory, Rows, Scalar, Text, Value, put_value};
+use sig_rows::{RowFault, insert, move_to, new_rows, put_field, remove};
 use std::alloc::Global;
 use std::test::Fail;
 
@@ -16,7 +16,7 @@ fn one(alloc: Global, name: Name) -> Result<Vec<Name>, NoMemory>
 }
 
 /// No rows, for one field.
-pub fn no_rows(alloc: Global, field: &str) -> Result<Rows, Fail>
+pub(crate) fn no_rows(alloc: Global, field: &str) -> Result<Rows, Fail>
     requires { bytes_eq (codes "key") field.now ≡ false }
 {
     let fields = one(alloc, Name::new(alloc, field)?)?;
@@ -34,7 +34,7 @@ fn three(alloc: Global) -> Result<Rows, Fail> {
 }
 
 /// Whether the rows are printed so.
-pub fn prints(alloc: Global, rows: &Rows, want: &str) -> Result<bool, NoMemory> {
+pub(crate) fn prints(alloc: Global, rows: &Rows, want: &str) -> Result<bool, NoMemory> {
     let mut out = Vec::new(alloc);
     put_value(&mut out, &Value::Rows(rows.copy()?))?;
     Ok(out.as_slice() == want.as_bytes())

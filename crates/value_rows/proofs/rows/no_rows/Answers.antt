@@ -4,7 +4,7 @@ use Rattle.std.specs.Str.{bytes_eq}
 use Rattle.std.proofs.lemmas.List.Elements.{All-nil}
 use Rattle.sig_base.specs.declared.rows.Row.{Row}
 use Rattle.sig_base.specs.Tables.{AreRows}
-use Rattle.sig_rows.proofs.tests.no_rows.Goals as goal
+use Rattle.value_rows.proofs.rows.no_rows.Goals as goal
 
 none-distinct : IsDistinct bytes_eq []
 unfolding IsDistinct

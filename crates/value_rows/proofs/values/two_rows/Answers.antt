@@ -4,7 +4,7 @@ use Rattle.std.specs.Str.{bytes_eq}
 use Rattle.std.proofs.lemmas.List.Elements.{All-cons, All-nil}
 use Rattle.sig_base.specs.declared.rows.Row.{Row}
 use Rattle.sig_base.specs.Tables.{AreRows}
-use Rattle.sig_base.proofs.tests.two_rows.Goals as goal
+use Rattle.value_rows.proofs.values.two_rows.Goals as goal
 
 two-distinct : (x y : List ℕ) → bytes_eq x y ≡ false → IsDistinct bytes_eq (x ∷ y ∷ [])
 unfolding IsDistinct

@@ -1,7 +1,7 @@
 use Rattle.std.proofs.Common.{◌≡◌, ℕ, List, [], ◌∷◌, false, refl}
 use Rattle.std.specs.List.{IsDistinct}
 use Rattle.std.specs.Str.{bytes_eq}
-use Rattle.keyed_each.proofs.tests.places_rows.Goals as goal
+use Rattle.value_rows.proofs.placing.places_rows.Goals as goal
 
 three-distinct : (x y z : List ℕ) → bytes_eq x y ≡ false → bytes_eq x z ≡ false → bytes_eq y z ≡ false → IsDistinct bytes_eq (x ∷ y ∷ z ∷ [])
 unfolding IsDistinct

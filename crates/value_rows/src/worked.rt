@@ -1,7 +1,7 @@
 // Edits one after another, as a script gives them: the outcome of each, and the rows that are left.
-use crate::tests::{no_rows, prints};
-use crate::{RowFault, insert, move_to, put_field, remove};
+use crate::rows::{no_rows, prints};
 use sig_base::{Name, Rows, Scalar, Text};
+use sig_rows::{RowFault, insert, move_to, put_field, remove};
 use std::alloc::Global;
 use std::test::Fail;
 

@@ -1,0 +1,13 @@
+//! Worked values and rows: how they are printed, compared, copied, edited and placed, and the sources and sinks of bytes.
+#![tactic(auto)]
+
+#[cfg(test)]
+mod placing;
+#[cfg(test)]
+mod rows;
+#[cfg(test)]
+mod streams;
+#[cfg(test)]
+mod values;
+#[cfg(test)]
+mod worked;
