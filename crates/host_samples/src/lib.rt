@@ -6,8 +6,6 @@ mod clamp;
 mod known;
 mod lending;
 mod pick;
-#[cfg(test)]
-mod tests;
 
 pub use cascade::Cascade;
 pub use clamp::Clamp;

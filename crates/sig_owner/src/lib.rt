@@ -6,8 +6,6 @@ mod holder;
 mod limits;
 mod owners;
 mod places;
-#[cfg(test)]
-mod tests;
 mod thing;
 mod walk;
 

@@ -4,8 +4,6 @@
 mod body;
 mod evaluate;
 mod reads;
-#[cfg(test)]
-mod tests;
 
 pub use body::{Act, Body, BodyStep, Recipe2, Rewire, Stmt};
 pub use evaluate::body_step;

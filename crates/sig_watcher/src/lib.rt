@@ -4,8 +4,6 @@
 mod errors;
 mod reach;
 mod telling;
-#[cfg(test)]
-mod tests;
 mod watcher;
 mod watchers;
 

@@ -3,10 +3,10 @@ ghost use Rattle.std.specs.Prelude.{◌≡◌, ◌∷◌, [], true, IfOk};
 ghost use Rattle.std.specs.List.{All};
 ghost use Rattle.sig_nodes.specs.States.{is_given, CanWear};
 
-use crate::{Told, Watchers};
 use sig_base::{NodeId, Outcome, Value, WatcherId};
 use sig_formula::Formula;
 use sig_nodes::{Graph, Recipe, Standing};
+use sig_watcher::{Told, Watchers};
 use std::alloc::Global;
 use std::test::Fail;
 

@@ -2,7 +2,7 @@
 ghost use Rattle.std.specs.Prelude.{◌<◌};
 ghost use Rattle.sig_host.specs.Hosts.{last_ask};
 
-use crate::{Cascade, Clamp, Pick};
+use host_samples::{Cascade, Clamp, Pick};
 use sig_base::{Fault, Known, NoMemory, Step, Value};
 use sig_host::HostFormula;
 use std::alloc::Global;

@@ -2,7 +2,7 @@ use Rattle.std.proofs.Common.{◌≡◌, ℕ, zero, suc, Bool, true, List, [], �
 use Rattle.std.specs.List.{All}
 use Rattle.sig_nodes.specs.States.{is_given}
 use Rattle.sig_nodes.proofs.Shared.{given_made, given_more}
-use Rattle.sig_watcher.proofs.tests.a_computed_that_ran_is_reached.Goals as goal
+use Rattle.graph_rows.proofs.watchers.a_computed_that_ran_is_reached.Goals as goal
 
 -- the one of a list passes
 one_passes : (test : ℕ → Bool) (n : ℕ) (ns : List ℕ) → ns ≡ n ∷ [] → test n ≡ true → All (λ m. test m ≡ true) ns

@@ -1,6 +1,6 @@
 // What is taken back, and in which order.
-use crate::{CleanupAct, OwnFault, Owners, Thing, Undoing};
 use sig_base::{EffectId, NodeId, OwnerId, Value};
+use sig_owner::{CleanupAct, OwnFault, Owners, Thing, Undoing};
 use std::alloc::{AllocError, Global};
 use std::test::Fail;
 

@@ -1,7 +1,7 @@
 // What bodies answer.
-use crate::{Act, Body, BodyStep, Stmt, body_step};
 use sig_base::{Fault, Known, NoMemory, Scalar, Value};
 use sig_formula::{BinOp, Formula};
+use sig_untrack::{Act, Body, BodyStep, Stmt, body_step};
 use std::alloc::{AllocError, Global};
 use std::test::Fail;
 

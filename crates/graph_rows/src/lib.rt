@@ -1,0 +1,11 @@
+//! Worked owners, watchers, bodies and host samples: what is taken back, who is told, and what is answered.
+#![tactic(auto)]
+
+#[cfg(test)]
+mod bodies;
+#[cfg(test)]
+mod owners;
+#[cfg(test)]
+mod samples;
+#[cfg(test)]
+mod watchers;
