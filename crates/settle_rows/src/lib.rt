@@ -1,4 +1,4 @@
-//! Worked graphs: what settling answers, and which computeds run for it.
+//! Worked graphs: what settling answers, which computeds run for it, and what is asked of host formulas.
 #![tactic(auto)]
 
 #[cfg(test)]
@@ -9,3 +9,5 @@ mod hosts;
 mod rows;
 #[cfg(test)]
 mod scene;
+#[cfg(test)]
+mod shelf;

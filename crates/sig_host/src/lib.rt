@@ -4,8 +4,6 @@
 mod formula;
 mod rule;
 mod shelf;
-#[cfg(test)]
-mod tests;
 
 pub use formula::HostFormula;
 pub use rule::EqualsRule;

@@ -1,66 +1,12 @@
 // Formulas and a rule that are handed in: asked, counted and dropped.
-ghost use Rattle.std.specs.Prelude.{◌≡◌, ◌∷◌, [], IfOk, option_map, slice_get, unwrap_or};
+ghost use Rattle.std.specs.Prelude.{◌≡◌, ◌∷◌, [], IfOk};
 ghost use Rattle.sig_host.specs.Hosts.{unasked_place};
-ghost use Rattle.sig_base.specs.declared.value.Step.TheVariants.{Read, Done};
 
-use crate::{EqualsRule, HostFormula, Lent, Shelf};
+use crate::hosts::{Again, First};
 use sig_base::{Known, NoMemory, Step, Text, Value, alike};
+use sig_host::{EqualsRule, HostFormula, Lent, Shelf};
 use std::alloc::Global;
 use std::test::Fail;
-
-// Reads slot 0, and gives its value.
-#[derive(Drop)]
-struct First {
-    asks: u128,
-}
-
-impl First {
-    fn new() -> First
-        ensures { result.asks ≡ 0 }
-    {
-        First { asks: 0 }
-    }
-}
-
-impl HostFormula for First {
-    ghost step_of = { λ _ known. unwrap_or (option_map (λ k. Done k.value) (slice_get known 0)) (Read 0) };
-
-    ghost asks = { λ f. f.asks };
-
-    fn step(&mut self, _alloc: Global, known: &[Known]) -> Result<Step, NoMemory> {
-        let step = match known.first() {
-            Some(first) => Step::Done(first.value.copy()?),
-            None => Step::Read(0),
-        };
-        self.asks += 1;
-        Ok(step)
-    }
-}
-
-// Reads slot 0, whatever is known.
-#[derive(Drop)]
-struct Again {
-    asks: u128,
-}
-
-impl Again {
-    fn new() -> Again
-        ensures { result.asks ≡ 0 }
-    {
-        Again { asks: 0 }
-    }
-}
-
-impl HostFormula for Again {
-    ghost step_of = { λ _ _. Read 0 };
-
-    ghost asks = { λ f. f.asks };
-
-    fn step(&mut self, _alloc: Global, _known: &[Known]) -> Result<Step, NoMemory> {
-        self.asks += 1;
-        Ok(Step::Read(0))
-    }
-}
 
 // A shelf of two formulas that were never asked.
 fn shelf_of(
@@ -83,7 +29,7 @@ fn shelf_of(
 fn asks_formulas(rt: HostRuntime) -> Result<(), Fail> {
     let alloc = rt.alloc();
     let first = Box::new(alloc, First::new())?;
-    let again = Box::new(alloc, Again::new())?;
+    let again = Box::new(alloc, Again::new(0))?;
     let mut shelf = shelf_of(alloc, first, again)?;
     assert_eq!(rt; shelf.len(), 2);
     let nothing: [Known; 0] = [];
