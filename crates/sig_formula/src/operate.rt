@@ -1,5 +1,5 @@
 // What operators make of their operands.
-ghost use Rattle.std.specs.Prelude.{◌≡◌, IfOk};
+ghost use Rattle.std.specs.Prelude.{◌≡◌, IfOk, MatchOption};
 ghost use Rattle.sig_base.specs.Values.{shown};
 ghost use Rattle.sig_formula.specs.Answering.{calculated, calculation, compared, count_outcome, decided, equality, joined, negated, operated, order, text_outcome, truth};
 
@@ -9,11 +9,11 @@ use std::alloc::Global;
 use std::cmp::Ordering;
 
 // A truth, and no other kind.
-fn truth(value: Value) -> Outcome
-    ensures { result ≡ truth value }
+fn truth(value: &Value) -> Outcome
+    ensures { result ≡ truth value.now }
 {
     match value {
-        Value::Bool(b) => Outcome::Good(Value::Bool(b)),
+        Value::Bool(b) => Outcome::Good(Value::Bool(*b)),
         _ => Outcome::Bad(Fault::Kind),
     }
 }
@@ -174,19 +174,29 @@ pub fn calculation(op: BinOp, left: &Value, right: &Value) -> Outcome
     }
 }
 
+// What an operator makes of two operands; none where it writes them one after the other.
+fn outcome_of(op: BinOp, left: &Value, right: &Value) -> Option<Outcome>
+    ensures { MatchOption result (op ≡ BinOp.Join) (λ o. o ≡ operated op left.now right.now) }
+{
+    match op {
+        BinOp::Or | BinOp::And => Some(truth(right)),
+        BinOp::Eq => Some(compared(equality(left, right))),
+        BinOp::Ne => Some(compared(equality(left, right).map(|same| !same))),
+        BinOp::Lt => Some(compared(order(left, right).map(|o| o.is_lt()))),
+        BinOp::Le => Some(compared(order(left, right).map(|o| o.is_le()))),
+        BinOp::Gt => Some(compared(order(left, right).map(|o| o.is_gt()))),
+        BinOp::Ge => Some(compared(order(left, right).map(|o| o.is_ge()))),
+        BinOp::Join => None,
+        _ => Some(calculation(op, left, right)),
+    }
+}
+
 /// What an operator makes of two operands.
 pub fn operated(alloc: Global, op: BinOp, left: Value, right: Value) -> Result<Outcome, NoMemory>
     ensures { IfOk result (λ o. o ≡ operated op left right) }
 {
-    match op {
-        BinOp::Or | BinOp::And => Ok(truth(right)),
-        BinOp::Eq => Ok(compared(equality(&left, &right))),
-        BinOp::Ne => Ok(compared(equality(&left, &right).map(|same| !same))),
-        BinOp::Lt => Ok(compared(order(&left, &right).map(|o| o.is_lt()))),
-        BinOp::Le => Ok(compared(order(&left, &right).map(|o| o.is_le()))),
-        BinOp::Gt => Ok(compared(order(&left, &right).map(|o| o.is_gt()))),
-        BinOp::Ge => Ok(compared(order(&left, &right).map(|o| o.is_ge()))),
-        BinOp::Join => joined(alloc, left, right),
-        _ => Ok(calculation(op, &left, &right)),
+    match outcome_of(op, &left, &right) {
+        Some(outcome) => Ok(outcome),
+        None => joined(alloc, left, right),
     }
 }
