@@ -160,7 +160,10 @@ fn slotted(
     ensures failed { IfErr result (λ e. IsLongCause (has_long_text (draft line.now tokens.now rough.now)) e) }
 {
     match rough {
-        Rough::Name(place) => Ok(boxed(alloc, Formula::Slot(slot_of(names, token_bytes(line, &tokens[*place]))))?),
+        Rough::Name(place) => Ok(boxed(
+            alloc,
+            Formula::Slot(slot_of(names, token_bytes(line, &tokens[*place]))),
+        )?),
         Rough::Text(place) => {
             let text = text_at(alloc, line, tokens, *place)?;
             Ok(boxed(alloc, Formula::Lit(Scalar::Text(text)))?)

@@ -1,5 +1,5 @@
 // The canonical text of a formula.
-ghost use Rattle.std.specs.Prelude.{◌≡◌, ◌++◌, OnOk};
+ghost use Rattle.std.specs.Prelude.{◌≡◌, ◌++◌, codes, OnOk};
 ghost use Rattle.sig_formula.specs.Trees.{tree};
 ghost use Rattle.formula_text.specs.Canonical.{canonical_text, minimal, named, opened, operator_text, shut, unslotted, written};
 ghost use Rattle.formula_text.specs.Grammar.{it_dot};
@@ -90,18 +90,44 @@ fn put_row_part(out: &mut Vec<u8>, name: &[u8]) -> Result<(), NoMemory>
     Ok(())
 }
 
-// Appends what stands before a formula, and the formula.
+// Appends an operator between its operands.
+fn put_between(out: &mut Vec<u8>, operator: BinOp) -> Result<(), NoMemory>
+    ensures { OnOk result (out.new.items ≡ out.old.items ++ (codes " " ++ (operator_text operator ++ codes " "))) }
+{
+    out.extend_from_slice(b" ")?;
+    put_operator(out, operator)?;
+    out.extend_from_slice(b" ")?;
+    Ok(())
+}
+
+// Appends what stands before a formula, and the formula at a place that asks for a rule.
 #[cycle(writing)]
 fn put_behind(
     out: &mut Vec<u8>,
     names: &[Name],
     before: &[u8],
     formula: &Formula,
+    asked: u8,
 ) -> Result<(), NoMemory>
-    ensures { OnOk result (out.new.items ≡ out.old.items ++ (before.now ++ written (minimal 0 (unslotted names.now (tree formula.now))))) }
+    ensures { OnOk result (out.new.items ≡ out.old.items ++ (before.now ++ written (minimal asked (unslotted names.now (tree formula.now))))) }
 {
     out.extend_from_slice(before)?;
-    put_at(out, names, formula, CHOICE)
+    put_at(out, names, formula, asked)
+}
+
+// Appends what stands before a formula, the formula, and a closing parenthesis.
+#[cycle(writing)]
+fn put_closed(
+    out: &mut Vec<u8>,
+    names: &[Name],
+    before: &[u8],
+    formula: &Formula,
+) -> Result<(), NoMemory>
+    ensures { OnOk result (out.new.items ≡ out.old.items ++ (before.now ++ (written (minimal 0 (unslotted names.now (tree formula.now))) ++ codes ")"))) }
+{
+    put_behind(out, names, before, formula, CHOICE)?;
+    out.push(b')')?;
+    Ok(())
 }
 
 // Appends a formula at a place that asks for a rule.
@@ -117,43 +143,32 @@ fn put_at(out: &mut Vec<u8>, names: &[Name], formula: &Formula, asked: u8) -> Re
         Formula::ItKey => put_row_part(out, b"key"),
         Formula::Not(inner) => {
             open_if(out, NEGATION < asked)?;
-            out.extend_from_slice(b"not ")?;
-            put_at(out, names, inner, NEGATION)?;
+            put_behind(out, names, b"not ", inner, NEGATION)?;
             close_if(out, NEGATION < asked)
         }
         Formula::Bin(o, left, right) => {
             open_if(out, level(*o) < asked)?;
             put_at(out, names, left, before(*o))?;
-            out.extend_from_slice(b" ")?;
-            put_operator(out, *o)?;
-            out.extend_from_slice(b" ")?;
+            put_between(out, *o)?;
             put_at(out, names, right, level(*o) + 1)?;
             close_if(out, level(*o) < asked)
         }
         Formula::If(test, held, other) => {
             open_if(out, CHOICE < asked)?;
-            put_behind(out, names, b"if ", test)?;
-            put_behind(out, names, b" then ", held)?;
-            put_behind(out, names, b" else ", other)?;
+            put_behind(out, names, b"if ", test, CHOICE)?;
+            put_behind(out, names, b" then ", held, CHOICE)?;
+            put_behind(out, names, b" else ", other, CHOICE)?;
             close_if(out, CHOICE < asked)
         }
-        Formula::Count(rows) => {
-            put_behind(out, names, b"count(", rows)?;
-            close_if(out, true)
-        }
+        Formula::Count(rows) => put_closed(out, names, b"count(", rows),
         Formula::Sum(rows, part) => {
-            put_behind(out, names, b"sum(", rows)?;
-            put_behind(out, names, b", ", part)?;
-            close_if(out, true)
+            put_behind(out, names, b"sum(", rows, CHOICE)?;
+            put_closed(out, names, b", ", part)
         }
         Formula::Keep(rows, test) => {
-            put_behind(out, names, b"keep(", rows)?;
-            put_behind(out, names, b", ", test)?;
-            close_if(out, true)
+            put_behind(out, names, b"keep(", rows, CHOICE)?;
+            put_closed(out, names, b", ", test)
         }
-        Formula::Untrack(inner) => {
-            put_behind(out, names, b"untrack(", inner)?;
-            close_if(out, true)
-        }
+        Formula::Untrack(inner) => put_closed(out, names, b"untrack(", inner),
     }
 }
