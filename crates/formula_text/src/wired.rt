@@ -145,7 +145,8 @@ fn boxed(alloc: Global, formula: Formula) -> Result<Box<Formula>, NoMemory>
     Ok(held)
 }
 
-// The formula whose slots are the places of its names.
+// The formula whose slots are the places of its names, in a box.
+#[cycle(slotting)]
 fn slotted(
     alloc: Global,
     line: &[u8],
@@ -159,44 +160,63 @@ fn slotted(
     ensures texts { IfOk result (λ f. has_long_text (draft line.now tokens.now rough.now) ≡ false) }
     ensures failed { IfErr result (λ e. IsLongCause (has_long_text (draft line.now tokens.now rough.now)) e) }
 {
+    let formula = formula_of(alloc, line, tokens, rough, names)?;
+    Ok(boxed(alloc, formula)?)
+}
+
+// The formula whose slots are the places of its names.
+#[cycle(slotting)]
+fn formula_of(
+    alloc: Global,
+    line: &[u8],
+    tokens: &[Token],
+    rough: &Rough,
+    names: &[Name],
+) -> Result<Formula, FormulaFault>
+    requires of_line { AreTokens line.now tokens.now }
+    requires leaves { HasLeaves line.now tokens.now rough.now }
+    ensures ok { length names.now ≤ MOST_SOURCES → IfOk result (λ f. tree f ≡ slotted names.now (draft line.now tokens.now rough.now)) }
+    ensures texts { IfOk result (λ f. has_long_text (draft line.now tokens.now rough.now) ≡ false) }
+    ensures failed { IfErr result (λ e. IsLongCause (has_long_text (draft line.now tokens.now rough.now)) e) }
+{
     match rough {
-        Rough::Name(place) => Ok(boxed(
-            alloc,
-            Formula::Slot(slot_of(names, token_bytes(line, &tokens[*place]))),
-        )?),
+        Rough::Name(place) => {
+            let slot = slot_of(names, token_bytes(line, &tokens[*place]));
+            Ok(Formula::Slot(slot))
+        }
         Rough::Text(place) => {
             let text = text_at(alloc, line, tokens, *place)?;
-            Ok(boxed(alloc, Formula::Lit(Scalar::Text(text)))?)
+            Ok(Formula::Lit(Scalar::Text(text)))
         }
-        Rough::Number(n) => Ok(boxed(alloc, Formula::Lit(Scalar::Int(*n)))?),
-        Rough::Truth(b) => Ok(boxed(alloc, Formula::Lit(Scalar::Bool(*b)))?),
+        Rough::Number(n) => Ok(Formula::Lit(Scalar::Int(*n))),
+        Rough::Truth(b) => Ok(Formula::Lit(Scalar::Bool(*b))),
         Rough::It(place) => {
             let name = name_at(alloc, line, tokens, *place)?;
-            Ok(boxed(alloc, row_formula(name))?)
+            Ok(row_formula(name))
         }
         Rough::Not(inner) => {
             let inner = slotted(alloc, line, tokens, inner, names)?;
-            Ok(boxed(alloc, Formula::Not(inner))?)
+            Ok(Formula::Not(inner))
         }
         Rough::Bin(o, left, right) => {
             let left = slotted(alloc, line, tokens, left, names)?;
             let right = slotted(alloc, line, tokens, right, names)?;
-            Ok(boxed(alloc, Formula::Bin(*o, left, right))?)
+            Ok(Formula::Bin(*o, left, right))
         }
         Rough::If(test, held, other) => {
             let test = slotted(alloc, line, tokens, test, names)?;
             let held = slotted(alloc, line, tokens, held, names)?;
             let other = slotted(alloc, line, tokens, other, names)?;
-            Ok(boxed(alloc, Formula::If(test, held, other))?)
+            Ok(Formula::If(test, held, other))
         }
         Rough::Around(form, inner) => {
             let inner = slotted(alloc, line, tokens, inner, names)?;
-            Ok(boxed(alloc, one_formula(*form, inner))?)
+            Ok(one_formula(*form, inner))
         }
         Rough::OverRows(form, rows, each) => {
             let rows = slotted(alloc, line, tokens, rows, names)?;
             let each = slotted(alloc, line, tokens, each, names)?;
-            Ok(boxed(alloc, each_formula(*form, rows, each))?)
+            Ok(each_formula(*form, rows, each))
         }
     }
 }
