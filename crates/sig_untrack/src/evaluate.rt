@@ -3,12 +3,13 @@ ghost use Rattle.std.specs.Prelude.{◌≡◌, IfOk, None, true};
 ghost use Rattle.sig_base.specs.Values.{scalar_value};
 ghost use Rattle.sig_formula.specs.Answering.{formula_step};
 ghost use Rattle.sig_formula.specs.Trees.{tree};
-ghost use Rattle.effect_model.specs.Bodies.{body_step, followed_by, if_scalar, one_first, to_dispose, to_log, to_make, to_note, to_rewire, to_set};
+ghost use Rattle.effect_model.specs.Bodies.{body_step, followed_by, guarded, if_scalar, one_first, to_dispose, to_log, to_make, to_note, to_rewire, to_set, with_answer};
 ghost use Rattle.effect_model.specs.Bodies as model;
 ghost use Rattle.effect_model.specs.Owning.{logs, sets};
+ghost use Rattle.sig_untrack.specs.Stated as given;
 ghost use Rattle.sig_untrack.specs.Stated.{Stated, before, no_bodies, put, stated, statements_of};
 ghost use Rattle.sig_untrack.specs.Linking.{Parts, acts_of, linked, step_of};
-ghost use Rattle.sig_untrack.specs.Stopping.{answered, stopped};
+ghost use Rattle.sig_untrack.specs.Stopping.{answered, guarded_by, stopped};
 
 use crate::{Act, Body, BodyStep, Stmt};
 use sig_base::{Fault, Known, NoMemory, Outcome, Value};
@@ -35,6 +36,23 @@ fn value_of(
         FormulaStep::Ask(slot, tracked) => Ok(Err(Stop::Read(slot, tracked))),
         FormulaStep::End(Outcome::Good(value)) => Ok(Ok(value)),
         FormulaStep::End(Outcome::Bad(fault)) => Ok(Err(Stop::Fail(fault))),
+    }
+}
+
+// Whether a guard is true, or why the body ends at it.
+fn truth_of(
+    alloc: Global,
+    guard: &Formula,
+    tracked: &[Known],
+    untracked: &[Known],
+) -> Result<Result<bool, Stop>, NoMemory>
+    ensures { IfOk result (λ r. (inner rest : model.BodyStep) →
+        with_answer (formula_step true (tree guard.now) None tracked.now untracked.now) (λ v. guarded v inner rest) ≡ guarded_by r inner rest) }
+{
+    match value_of(alloc, guard, tracked, untracked)? {
+        Ok(Value::Bool(truth)) => Ok(Ok(truth)),
+        Ok(_) => Ok(Err(Stop::Fail(Fault::Kind))),
+        Err(stop) => Ok(Err(stop)),
     }
 }
 
@@ -107,6 +125,82 @@ fn cleanup_act(acts: &mut Vec<Act>, target: u32, value: Value) -> Result<Option<
     Ok(None)
 }
 
+// A cell is to be set to the value of a formula.
+fn set_step(
+    alloc: Global,
+    target: u32,
+    formula: &Formula,
+    tracked: &[Known],
+    untracked: &[Known],
+    acts: &mut Vec<Act>,
+) -> Result<Option<Stop>, NoMemory>
+    ensures { IfOk result (λ r. (p : Parts) (rest : Stated) → stopped r (acts_of p acts.new.items) (body_step (linked p rest) tracked.now untracked.now)
+        ≡ followed_by (acts_of p acts.old.items) (body_step (linked p (given.set target (tree formula.now) rest)) tracked.now untracked.now)) }
+{
+    match value_of(alloc, formula, tracked, untracked)? {
+        Ok(value) => set_act(acts, target, value),
+        Err(stop) => Ok(Some(stop)),
+    }
+}
+
+// The value of a formula is to be logged.
+fn log_step(
+    alloc: Global,
+    formula: &Formula,
+    tracked: &[Known],
+    untracked: &[Known],
+    acts: &mut Vec<Act>,
+) -> Result<Option<Stop>, NoMemory>
+    ensures { IfOk result (λ r. (p : Parts) (rest : Stated) → stopped r (acts_of p acts.new.items) (body_step (linked p rest) tracked.now untracked.now)
+        ≡ followed_by (acts_of p acts.old.items) (body_step (linked p (given.log (tree formula.now) rest)) tracked.now untracked.now)) }
+{
+    match value_of(alloc, formula, tracked, untracked)? {
+        Ok(value) => {
+            let stop = log_act(acts, value)?;
+            Ok(stop)
+        }
+        Err(stop) => Ok(Some(stop)),
+    }
+}
+
+// A cleanup that sets a cell to the value of a formula is to be noted.
+fn cleanup_set_step(
+    alloc: Global,
+    target: u32,
+    formula: &Formula,
+    tracked: &[Known],
+    untracked: &[Known],
+    acts: &mut Vec<Act>,
+) -> Result<Option<Stop>, NoMemory>
+    ensures { IfOk result (λ r. (p : Parts) (rest : Stated) → stopped r (acts_of p acts.new.items) (body_step (linked p rest) tracked.now untracked.now)
+        ≡ followed_by (acts_of p acts.old.items) (body_step (linked p (given.cleanup_set target (tree formula.now) rest)) tracked.now untracked.now)) }
+{
+    match value_of(alloc, formula, tracked, untracked)? {
+        Ok(value) => cleanup_act(acts, target, value),
+        Err(stop) => Ok(Some(stop)),
+    }
+}
+
+// A cleanup that logs the value of a formula is to be noted.
+fn cleanup_log_step(
+    alloc: Global,
+    formula: &Formula,
+    tracked: &[Known],
+    untracked: &[Known],
+    acts: &mut Vec<Act>,
+) -> Result<Option<Stop>, NoMemory>
+    ensures { IfOk result (λ r. (p : Parts) (rest : Stated) → stopped r (acts_of p acts.new.items) (body_step (linked p rest) tracked.now untracked.now)
+        ≡ followed_by (acts_of p acts.old.items) (body_step (linked p (given.cleanup_log (tree formula.now) rest)) tracked.now untracked.now)) }
+{
+    match value_of(alloc, formula, tracked, untracked)? {
+        Ok(value) => {
+            let stop = note_act(acts, value)?;
+            Ok(stop)
+        }
+        Err(stop) => Ok(Some(stop)),
+    }
+}
+
 // One statement: what it wants done stands behind the other acts.
 #[cycle(steps)]
 fn statement_step(
@@ -120,45 +214,42 @@ fn statement_step(
         ≡ followed_by (acts_of p acts.old.items) (body_step (linked p (put statement.now rest)) tracked.now untracked.now)) }
 {
     match statement {
-        Stmt::Set(target, formula) => match value_of(alloc, formula, tracked, untracked)? {
-            Ok(value) => set_act(acts, *target, value),
-            Err(stop) => Ok(Some(stop)),
-        },
-        Stmt::Log(formula) => match value_of(alloc, formula, tracked, untracked)? {
-            Ok(value) => {
-                let stop = log_act(acts, value)?;
-                Ok(stop)
-            }
-            Err(stop) => Ok(Some(stop)),
-        },
-        Stmt::When(guard, inner) => match value_of(alloc, guard, tracked, untracked)? {
-            Ok(Value::Bool(true)) => {
+        Stmt::Set(target, formula) => {
+            let stop = set_step(alloc, *target, formula, tracked, untracked, acts)?;
+            Ok(stop)
+        }
+        Stmt::Log(formula) => {
+            let stop = log_step(alloc, formula, tracked, untracked, acts)?;
+            Ok(stop)
+        }
+        Stmt::When(guard, inner) => match truth_of(alloc, guard, tracked, untracked)? {
+            Ok(true) => {
                 let stop = statements_step(alloc, inner, tracked, untracked, acts)?;
                 Ok(stop)
             }
-            Ok(Value::Bool(false)) => Ok(None),
-            Ok(_) => Ok(Some(Stop::Fail(Fault::Kind))),
+            Ok(false) => Ok(None),
             Err(stop) => Ok(Some(stop)),
         },
         Stmt::CleanupSet(target, formula) => {
-            match value_of(alloc, formula, tracked, untracked)? {
-                Ok(value) => cleanup_act(acts, *target, value),
-                Err(stop) => Ok(Some(stop)),
-            }
+            let stop = cleanup_set_step(alloc, *target, formula, tracked, untracked, acts)?;
+            Ok(stop)
         }
-        Stmt::CleanupLog(formula) => match value_of(alloc, formula, tracked, untracked)? {
-            Ok(value) => {
-                let stop = note_act(acts, value)?;
-                Ok(stop)
-            }
-            Err(stop) => Ok(Some(stop)),
-        },
+        Stmt::CleanupLog(formula) => {
+            let stop = cleanup_log_step(alloc, formula, tracked, untracked, acts)?;
+            Ok(stop)
+        }
         Stmt::Effect(place) => {
             let stop = make_act(acts, *place)?;
             Ok(stop)
         }
-        Stmt::Dispose(target) => dispose_act(acts, *target),
-        Stmt::Rewire(place) => rewire_act(acts, *place),
+        Stmt::Dispose(target) => {
+            let stop = dispose_act(acts, *target)?;
+            Ok(stop)
+        }
+        Stmt::Rewire(place) => {
+            let stop = rewire_act(acts, *place)?;
+            Ok(stop)
+        }
     }
 }
 
