@@ -1,11 +1,11 @@
 // The lines of what the commands tell.
-ghost use Rattle.std.specs.Prelude.{◌≡◌, ◌++◌, OnOk, flat_map};
+ghost use Rattle.std.specs.Prelude.{◌≡◌, ◌++◌, OnOk, codes, flat_map};
 ghost use Rattle.std.specs.Fmt.{decimal};
 ghost use Rattle.sig_base.specs.Printing.{quoted};
 ghost use Rattle.page_model.specs.Texts.{IsSized};
-ghost use Rattle.live_entries.specs.Printed.{dotted, field_text, is_traced, label_text, limit_word, line_of_cleanup, line_of_drop, line_of_effect};
-ghost use Rattle.live_entries.specs.Printed.{line_of_fail, line_of_gone, line_of_log, line_of_notify, line_of_op, line_of_outcome, line_of_pending};
-ghost use Rattle.live_entries.specs.Printed.{line_of_refusal, line_of_run, line_of_sources, line_of_state, lines_of_bytes, listed, outcome_text};
+ghost use Rattle.live_entries.specs.Printed.{dotted, field_text, is_traced, label_text, limit_word, line_of_drop, line_of_effect};
+ghost use Rattle.live_entries.specs.Printed.{line_of_fail, line_of_log, line_of_notify, line_of_op, line_of_outcome};
+ghost use Rattle.live_entries.specs.Printed.{line_of_refusal, line_of_run, line_of_state, lines_of_bytes, listed, outcome_text};
 ghost use Rattle.live_entries.specs.Printed.{printed, reads_text, refusal_text, seen_word, IsSizedEntry};
 
 use crate::{Entry, FieldDetail, Label, LimitWord, NameList, PageBytes, PageOp, Refusal, Seen};
@@ -64,11 +64,17 @@ fn put_with_number(out: &mut Vec<u8>, rule: &[u8], number: u64) -> Result<(), No
     put_number(out, u128::from(number))
 }
 
+fn put_with_bytes(out: &mut Vec<u8>, rule: &[u8], bytes: &[u8]) -> Result<(), NoMemory>
+    ensures { OnOk result (out.new.items ≡ out.old.items ++ (rule.now ++ bytes.now)) }
+{
+    put(out, rule)?;
+    put(out, bytes)
+}
+
 fn put_with_word(out: &mut Vec<u8>, rule: &[u8], word: &str) -> Result<(), NoMemory>
     ensures { OnOk result (out.new.items ≡ out.old.items ++ (rule.now ++ word.now)) }
 {
-    put(out, rule)?;
-    put(out, word.as_bytes())
+    put_with_bytes(out, rule, word.as_bytes())
 }
 
 // Names, each behind a blank.
@@ -182,44 +188,31 @@ fn seen_word(seen: Seen) -> &'static str
 fn put_state(out: &mut Vec<u8>, name: &Name, seen: Seen) -> Result<(), NoMemory>
     ensures { OnOk result (out.new.items ≡ out.old.items ++ line_of_state name.now seen) }
 {
-    put(out, b"state ")?;
-    put(out, name.as_str().as_bytes())?;
-    put(out, b" ")?;
-    put(out, seen_word(seen).as_bytes())?;
+    put_with_word(out, b"state ", name.as_str())?;
+    put_with_word(out, b" ", seen_word(seen))?;
     put(out, b"\n")
 }
 
-fn put_sources(out: &mut Vec<u8>, name: &Name, sources: &NameList) -> Result<(), NoMemory>
-    ensures { OnOk result (out.new.items ≡ out.old.items ++ line_of_sources name.now sources.now) }
+// The line of a word, a name, and other names behind it.
+fn put_names(out: &mut Vec<u8>, word: &[u8], name: &Name, names: &NameList) -> Result<(), NoMemory>
+    ensures { OnOk result (out.new.items ≡ out.old.items ++ (word.now ++ name.now ++ flat_map listed names.now ++ codes "\n")) }
 {
-    put(out, b"sources ")?;
-    put(out, name.as_str().as_bytes())?;
-    put_listed(out, sources.as_slice())?;
-    put(out, b"\n")
-}
-
-fn put_pending(out: &mut Vec<u8>, name: &Name, pending: &NameList) -> Result<(), NoMemory>
-    ensures { OnOk result (out.new.items ≡ out.old.items ++ line_of_pending name.now pending.now) }
-{
-    put(out, b"pending ")?;
-    put(out, name.as_str().as_bytes())?;
-    put_listed(out, pending.as_slice())?;
+    put_with_word(out, word, name.as_str())?;
+    put_listed(out, names.as_slice())?;
     put(out, b"\n")
 }
 
 fn put_notify(out: &mut Vec<u8>, name: &Name) -> Result<(), NoMemory>
     ensures { OnOk result (out.new.items ≡ out.old.items ++ line_of_notify name.now) }
 {
-    put(out, b"notify ")?;
-    put(out, name.as_str().as_bytes())?;
+    put_with_word(out, b"notify ", name.as_str())?;
     put(out, b"\n")
 }
 
 fn put_drop(out: &mut Vec<u8>, place: u64, asks: u128) -> Result<(), NoMemory>
     ensures { OnOk result (out.new.items ≡ out.old.items ++ line_of_drop place asks) }
 {
-    put(out, b"drop ")?;
-    put_number(out, u128::from(place))?;
+    put_with_number(out, b"drop ", place)?;
     put(out, b" ")?;
     put_number(out, asks)?;
     put(out, b"\n")
@@ -232,8 +225,7 @@ fn put_reads(out: &mut Vec<u8>, reads: &NameList) -> Result<(), NoMemory>
     let Some((first, rest)) = reads.as_slice().split_first() else {
         return put(out, b" ()");
     };
-    put(out, b" (")?;
-    put(out, first.as_str().as_bytes())?;
+    put_with_word(out, b" (", first.as_str())?;
     put_listed(out, rest)?;
     put(out, b")")
 }
@@ -246,8 +238,7 @@ fn put_run(
 ) -> Result<(), NoMemory>
     ensures { OnOk result (out.new.items ≡ out.old.items ++ line_of_run name.now reads.now outcome.now) }
 {
-    put(out, b"run ")?;
-    put(out, name.as_str().as_bytes())?;
+    put_with_word(out, b"run ", name.as_str())?;
     put_reads(out, reads)?;
     put_outcome(out, outcome)
 }
@@ -262,11 +253,20 @@ fn put_dotted(out: &mut Vec<u8>, numbers: &[u64]) -> Result<(), NoMemory>
     Ok(())
 }
 
-fn put_label(out: &mut Vec<u8>, label: &Label) -> Result<(), NoMemory>
-    ensures { OnOk result (out.new.items ≡ out.old.items ++ label_text label.now) }
+// A word and a label.
+fn put_with_label(out: &mut Vec<u8>, word: &[u8], label: &Label) -> Result<(), NoMemory>
+    ensures { OnOk result (out.new.items ≡ out.old.items ++ (word.now ++ label_text label.now)) }
 {
-    put(out, label.name.as_str().as_bytes())?;
+    put_with_word(out, word, label.name.as_str())?;
     put_dotted(out, label.path.as_slice())
+}
+
+// The line of a word and a label.
+fn put_labelled(out: &mut Vec<u8>, word: &[u8], label: &Label) -> Result<(), NoMemory>
+    ensures { OnOk result (out.new.items ≡ out.old.items ++ (word.now ++ label_text label.now ++ codes "\n")) }
+{
+    put_with_label(out, word, label)?;
+    put(out, b"\n")
 }
 
 fn put_log(out: &mut Vec<u8>, value: &Value) -> Result<(), NoMemory>
@@ -280,8 +280,7 @@ fn put_log(out: &mut Vec<u8>, value: &Value) -> Result<(), NoMemory>
 fn put_fail(out: &mut Vec<u8>, label: &Label, fault: Fault) -> Result<(), NoMemory>
     ensures { OnOk result (out.new.items ≡ out.old.items ++ line_of_fail label.now fault) }
 {
-    put(out, b"fail ")?;
-    put_label(out, label)?;
+    put_with_label(out, b"fail ", label)?;
     put(out, b" ")?;
     put_fault(out, fault)?;
     put(out, b"\n")
@@ -290,25 +289,8 @@ fn put_fail(out: &mut Vec<u8>, label: &Label, fault: Fault) -> Result<(), NoMemo
 fn put_effect(out: &mut Vec<u8>, label: &Label, reads: &NameList) -> Result<(), NoMemory>
     ensures { OnOk result (out.new.items ≡ out.old.items ++ line_of_effect label.now reads.now) }
 {
-    put(out, b"effect ")?;
-    put_label(out, label)?;
+    put_with_label(out, b"effect ", label)?;
     put_reads(out, reads)?;
-    put(out, b"\n")
-}
-
-fn put_cleanup(out: &mut Vec<u8>, label: &Label) -> Result<(), NoMemory>
-    ensures { OnOk result (out.new.items ≡ out.old.items ++ line_of_cleanup label.now) }
-{
-    put(out, b"cleanup ")?;
-    put_label(out, label)?;
-    put(out, b"\n")
-}
-
-fn put_gone(out: &mut Vec<u8>, label: &Label) -> Result<(), NoMemory>
-    ensures { OnOk result (out.new.items ≡ out.old.items ++ line_of_gone label.now) }
-{
-    put(out, b"gone ")?;
-    put_label(out, label)?;
     put(out, b"\n")
 }
 
@@ -316,8 +298,7 @@ fn put_op(out: &mut Vec<u8>, name: &Name, op: &PageOp) -> Result<(), NoMemory>
     ensures text { OnOk result (out.new.items ≡ out.old.items ++ line_of_op name.now op.now) }
     ensures sized { OnOk result (IsSized op.now) }
 {
-    put(out, b"op ")?;
-    put(out, name.as_str().as_bytes())?;
+    put_with_word(out, b"op ", name.as_str())?;
     put(out, b" ")?;
     op_line(out, op.as_op())?;
     put(out, b"\n")?;
@@ -329,13 +310,9 @@ fn put_bytes(out: &mut Vec<u8>, word: &[u8], name: &Name, page: &PageBytes) -> R
     ensures { OnOk result (out.new.items ≡ out.old.items ++ lines_of_bytes word.now name.now page.now) }
 {
     let bytes = page.as_slice();
-    put(out, word)?;
-    put(out, name.as_str().as_bytes())?;
-    put(out, b" ")?;
-    let length = bytes.len().to_string(*out.allocator())?;
-    put(out, length.as_bytes())?;
-    put(out, b"\n")?;
-    put(out, bytes)?;
+    put_with_word(out, word, name.as_str())?;
+    put_with_number(out, b" ", bytes.len() as u64)?;
+    put_with_bytes(out, b"\n", bytes)?;
     put(out, b"\n")
 }
 
@@ -360,8 +337,8 @@ pub fn entry_line(out: &mut Vec<u8>, entry: &Entry, trace: bool) -> Result<(), N
     match entry {
         Entry::Outcome(name, outcome) => put_named(out, name, outcome),
         Entry::State(name, seen) => put_state(out, name, *seen),
-        Entry::Sources(name, sources) => put_sources(out, name, sources),
-        Entry::Pending(name, pending) => put_pending(out, name, pending),
+        Entry::Sources(name, sources) => put_names(out, b"sources ", name, sources),
+        Entry::Pending(name, pending) => put_names(out, b"pending ", name, pending),
         Entry::Notify(name) => put_notify(out, name),
         Entry::Log(value) => put_log(out, value),
         Entry::Fail(label, fault) => put_fail(out, label, *fault),
@@ -372,7 +349,7 @@ pub fn entry_line(out: &mut Vec<u8>, entry: &Entry, trace: bool) -> Result<(), N
         Entry::Error(refusal) => put_refusal(out, refusal),
         Entry::Run(name, reads, outcome) => put_run(out, name, reads, outcome),
         Entry::Effect(label, reads) => put_effect(out, label, reads),
-        Entry::Cleanup(label) => put_cleanup(out, label),
-        Entry::Gone(label) => put_gone(out, label),
+        Entry::Cleanup(label) => put_labelled(out, b"cleanup ", label),
+        Entry::Gone(label) => put_labelled(out, b"gone ", label),
     }
 }
