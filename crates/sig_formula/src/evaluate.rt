@@ -1,8 +1,9 @@
 // What a formula answers to what was read so far.
-ghost use Rattle.std.specs.Prelude.{◌≡◌, ◌<◌, length, IfOk, IfSome, false};
+ghost use Rattle.std.specs.Prelude.{◌≡◌, ◌<◌, if◌then◌else◌, length, Bool, IfOk, IfSome, MatchResult, false};
 ghost use Rattle.std.specs.Option.{option_copied};
-ghost use Rattle.sig_formula.specs.Answering.{answer_of, count_outcome, formula_step, keep_step, known_at, negated, plain_step, right_step, served};
-ghost use Rattle.sig_formula.specs.Answering.{slot_step, sum_step, with_rows, with_value};
+ghost use Rattle.sig_formula.specs.Answering.{answer_of, calculation, chosen, count_outcome, formula_step, keep_step, known_at, negated, plain_step};
+ghost use Rattle.sig_formula.specs.Answering.{right_step, row_at, served, slot_step, sum_step, with_rows, with_truth, with_value};
+ghost use Rattle.sig_formula.specs.declared.evaluate.FormulaStep as declared;
 ghost use Rattle.sig_formula.specs.declared.evaluate.FormulaStep.TheVariants.{End};
 ghost use Rattle.sig_formula.specs.Trees.{tree};
 
@@ -89,17 +90,11 @@ pub fn formula_step(
             right_step(alloc, tracking, *op, left, right, row, tracked, untracked)
         }
         Formula::If(test, first, second) => {
-            match formula_step(alloc, tracking, test, row, tracked, untracked)? {
-                FormulaStep::End(Outcome::Good(Value::Bool(true))) => {
-                    formula_step(alloc, tracking, first, row, tracked, untracked)
-                }
-                FormulaStep::End(Outcome::Good(Value::Bool(false))) => {
-                    formula_step(alloc, tracking, second, row, tracked, untracked)
-                }
-                FormulaStep::End(Outcome::Good(_)) => {
-                    Ok(FormulaStep::End(Outcome::Bad(Fault::Kind)))
-                }
-                other => Ok(other),
+            let test = formula_step(alloc, tracking, test, row, tracked, untracked)?;
+            match decision(test) {
+                Ok(true) => formula_step(alloc, tracking, first, row, tracked, untracked),
+                Ok(false) => formula_step(alloc, tracking, second, row, tracked, untracked),
+                Err(other) => Ok(other),
             }
         }
         Formula::Count(rows) => {
@@ -117,6 +112,22 @@ pub fn formula_step(
             Ok(kept)
         }
         Formula::Untrack(inner) => formula_step(alloc, false, inner, row, tracked, untracked),
+    }
+}
+
+// The truth that a test comes to, or what ends the formula in its place.
+fn decision(test: FormulaStep) -> Result<bool, FormulaStep>
+    ensures branch { MatchResult result
+        (λ b. (x y : declared.FormulaStep) → with_value test (λ v. chosen v x y) ≡ (if b then x else y))
+        (λ e. (x y : declared.FormulaStep) → with_value test (λ v. chosen v x y) ≡ e) }
+    ensures truth { MatchResult result
+        (λ b. (go : Bool → declared.FormulaStep) → with_value test (λ v. with_truth v go) ≡ go b)
+        (λ e. (go : Bool → declared.FormulaStep) → with_value test (λ v. with_truth v go) ≡ e) }
+{
+    match test {
+        FormulaStep::End(Outcome::Good(Value::Bool(truth))) => Ok(truth),
+        FormulaStep::End(Outcome::Good(_)) => Err(FormulaStep::End(Outcome::Bad(Fault::Kind))),
+        other => Err(other),
     }
 }
 
@@ -191,6 +202,43 @@ fn sum_step(
     }
 }
 
+// What a part or a test comes to for the row at a place.
+#[cycle(evaluating)]
+fn row_step(
+    alloc: Global,
+    tracking: bool,
+    rows: &Rows,
+    place: usize,
+    f: &Formula,
+    tracked: &[Known],
+    untracked: &[Known],
+) -> Result<FormulaStep, NoMemory>
+    requires { place < length rows.now.rows }
+    ensures { IfOk result (λ s. s ≡ formula_step tracking (tree f.now) (row_at rows.now place) tracked.now untracked.now) }
+{
+    let row = RowRef {
+        rows: rows.copy()?,
+        place,
+    };
+    formula_step(alloc, tracking, f, Some(&row), tracked, untracked)
+}
+
+// The next sum, or what ends the formula in its place.
+fn added(sum: &Value, part: FormulaStep) -> Result<Value, FormulaStep>
+    ensures { MatchResult result
+        (λ n. (go : Value → declared.FormulaStep) → with_value part (λ v. with_value (End (calculation BinOp.Add sum.now v)) go) ≡ go n)
+        (λ e. (go : Value → declared.FormulaStep) → with_value part (λ v. with_value (End (calculation BinOp.Add sum.now v)) go) ≡ e) }
+{
+    let value = match part {
+        FormulaStep::End(Outcome::Good(value)) => value,
+        other => return Err(other),
+    };
+    match calculation(BinOp::Add, sum, &value) {
+        Outcome::Good(next) => Ok(next),
+        fault => Err(FormulaStep::End(fault)),
+    }
+}
+
 // The parts of the rows, each added before the next row's is evaluated.
 #[cycle(evaluating)]
 fn sum_over(
@@ -205,16 +253,10 @@ fn sum_over(
 {
     let mut sum = Value::Int(0);
     for (place, _) in rows.rows().iter().enumerate() {
-        let row = RowRef {
-            rows: rows.copy()?,
-            place,
-        };
-        match formula_step(alloc, tracking, part, Some(&row), tracked, untracked)? {
-            FormulaStep::End(Outcome::Good(value)) => match calculation(BinOp::Add, &sum, &value) {
-                Outcome::Good(next) => sum = next,
-                fault => return Ok(FormulaStep::End(fault)),
-            },
-            other => return Ok(other),
+        let part = row_step(alloc, tracking, rows, place, part, tracked, untracked)?;
+        match added(&sum, part) {
+            Ok(next) => sum = next,
+            Err(other) => return Ok(other),
         }
     }
     Ok(FormulaStep::End(Outcome::Good(sum)))
@@ -256,16 +298,10 @@ fn keep_over(
 {
     let mut marks = Vec::new(alloc);
     for (place, _) in rows.rows().iter().enumerate() {
-        let row = RowRef {
-            rows: rows.copy()?,
-            place,
-        };
-        match formula_step(alloc, tracking, condition, Some(&row), tracked, untracked)? {
-            FormulaStep::End(Outcome::Good(Value::Bool(mark))) => marks.push(mark)?,
-            FormulaStep::End(Outcome::Good(_)) => {
-                return Ok(FormulaStep::End(Outcome::Bad(Fault::Kind)));
-            }
-            other => return Ok(other),
+        let test = row_step(alloc, tracking, rows, place, condition, tracked, untracked)?;
+        match decision(test) {
+            Ok(mark) => marks.push(mark)?,
+            Err(other) => return Ok(other),
         }
     }
     let kept = rows.keep_by(alloc, marks.as_slice())?;
