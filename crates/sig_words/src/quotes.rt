@@ -1,5 +1,5 @@
 // The texts that literals stand for.
-ghost use Rattle.std.specs.Prelude.{◌≡◌, ◌<◌, ◌≤◌, ℕ, List, IfOk, IsErrOf, length, string_bytes, false};
+ghost use Rattle.std.specs.Prelude.{◌≡◌, ◌∷◌, ◌++◌, ◌<◌, ◌≤◌, ℕ, List, IfOk, IsErrOf, encode_utf8_all, length, string_bytes, false};
 ghost use Rattle.std.specs.List.{flat_map};
 ghost use Rattle.sig_base.specs.Printing.{in_quotes};
 ghost use Rattle.sig_words.specs.Lexemes.{text_at};
@@ -23,6 +23,22 @@ fn meaning(c: char) -> char
     }
 }
 
+// Appends what a character between quotes stands for; a backslash that stands behind none waits for the next one.
+fn put_plain(out: &mut String, behind: bool, c: char) -> Result<bool, AllocError>
+    ensures { IfOk result (λ b. (rest : List ℕ) →
+        string_bytes out.new ++ encode_utf8_all (plain b rest) ≡ string_bytes out.old ++ encode_utf8_all (plain behind (c ∷ rest))) }
+{
+    if behind {
+        out.push(meaning(c))?;
+        return Ok(false);
+    }
+    if c == '\\' {
+        return Ok(true);
+    }
+    out.push(c)?;
+    Ok(false)
+}
+
 // What the text between quotes stands for.
 #[tactic(auto, using(std::proofs::lemmas::Str::chars_from_encodes), unfolding(crate::specs::Literals::text_of))]
 fn unescape(alloc: Global, inner: &str) -> Result<String, AllocError>
@@ -31,14 +47,7 @@ fn unescape(alloc: Global, inner: &str) -> Result<String, AllocError>
     let mut out = String::new(alloc);
     let mut behind = false;
     for c in inner.chars() {
-        if behind {
-            out.push(meaning(c))?;
-            behind = false;
-        } else if c == '\\' {
-            behind = true;
-        } else {
-            out.push(c)?;
-        }
+        behind = put_plain(&mut out, behind, c)?;
     }
     Ok(out)
 }
