@@ -1,14 +1,14 @@
 -- The table of rows: tokens are read as a line exactly where they spell it.
 use Rattle.std.proofs.Common.{◌≡◌, true, refl, inl, inr}
 use Rattle.sig_base.specs.Words.{is_name, is_reserved}
-use Rattle.formula_text.specs.Signs.{word_sign}
+use Rattle.formula_text.specs.Signs.{last_word_sign, later_word_sign, word_sign}
 use Rattle.line_forms.specs.Reading.{is_clear}
 use Rattle.line_forms.specs.Rows.{rows_of, Reaches, IsGrammar}
 use Rattle.live_cmd.specs.declared.command.Verb.TheVariants as verbs
 use Rattle.live_cmd.specs.Grammar.{Row, row, table, verb, computed, rewire, tries_get, tries_set, tries_watch, tries_unwatch, flush}
 
 reached : (r : Row) → Reaches Row row r (rows_of (row r).0 table)
-unfolding word_sign is_name is_reserved
+unfolding word_sign later_word_sign last_word_sign is_name is_reserved
 reached (verb verbs.Get) = inl refl
 reached computed = inr (refl, inl refl)
 reached rewire = inr (refl, inl refl)
@@ -19,7 +19,7 @@ reached tries_unwatch = inr (refl, inr (refl, inr (refl, inr (refl, inl refl))))
 reached _ = inl refl
 
 clear : (r : Row) → is_clear (row r).1 ≡ true
-unfolding word_sign is_name is_reserved
+unfolding word_sign later_word_sign last_word_sign is_name is_reserved
 clear flush = refl
 clear _ = refl
 
