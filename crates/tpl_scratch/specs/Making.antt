@@ -22,6 +22,7 @@ use Rattle.tpl_model.specs.Shapes.{Evaluating, Here, Showing, attributes_of, att
 use Rattle.tpl_model.specs.Shapes.{rows_from, shown_block, then_shown, told, within}
 use Rattle.tpl_model.specs.Sources.{counted, first_missing, in_order, on_known}
 use Rattle.tpl_scratch.specs.declared.nodes.Nodes.{Nodes}
+use Rattle.tpl_scratch.specs.declared.show.Branches.{Branches}
 use Rattle.tpl_scratch.specs.declared.stop.Stop.{Stop}
 use Rattle.tpl_scratch.specs.declared.stop.Stop.TheVariants as stop
 
@@ -103,6 +104,13 @@ abbrev pub shows_branch : Outcome → Bool → Bool
 shows_branch (Good (value.Bool true)) first = first
 shows_branch (Good (value.Bool false)) first = not first
 shows_branch _ first = false
+
+-- the branches of a choice that are shown, as its test was evaluated; all that it reads is known
+pub record AreBranches (known : List (Option Outcome)) (e : Evaluation) (b : Branches) : Type 0 where
+  pub outcome : Outcome
+  pub found : IsFound known e outcome
+  pub one : b.one ≡ shows_branch outcome true
+  pub other : b.other ≡ shows_branch outcome false
 
 -- lines, or nothing
 abbrev pub shown_where : Evaluating → Option Here → Bool → Block → Showing

@@ -50,7 +50,8 @@ pub fn page_from_scratch(
     requires { length known.now ≡ length template.now.names }
     ensures { IfOk result (λ s. IsScratch known.now (lines_of template.now) s) }
 {
-    let lines = block_of(alloc, template)?;
+    let block = block_of(alloc, template)?;
+    let lines = Box::new(alloc, block)?;
     let mut out = Nodes::new(alloc);
     let shown = show(alloc, &lines, None, known, &mut out);
     let step = step_of(shown, out)?;

@@ -2,12 +2,13 @@
 ghost use Rattle.std.specs.Prelude.{◌≡◌, ◌<◌, ◌++◌, [], length, IfErr, IfOk, IfSome, OnOk, false};
 ghost use Rattle.std.specs.Option.{option_copied};
 ghost use Rattle.sig_formula.specs.Trees.{tree};
+ghost use Rattle.signal_model.specs.Sound.{names_of};
 ghost use Rattle.page_model.specs.Labels.{with_value};
 ghost use Rattle.tpl_model.specs.Shapes.{attributes_told, row_here, shown_block};
 ghost use Rattle.tpl_model.specs.Sources.{on_known};
 ghost use Rattle.tpl_blocks.specs.Blocks.{block};
 ghost use Rattle.tpl_scratch.specs.Making.{attributes_in, each_shown, element_shown, no_children, nodes_of, rows_of, rows_shown, shown_where, shows_branch, text_shown, with_node};
-ghost use Rattle.tpl_scratch.specs.Making.{HasAttributes, IsHere, Shows, Stops};
+ghost use Rattle.tpl_scratch.specs.Making.{AreBranches, HasAttributes, IsHere, Shows, Stops};
 
 use crate::evaluate::{Here, evaluated};
 use crate::nodes::Nodes;
@@ -150,6 +151,31 @@ pub fn shows_branch(outcome: &Outcome, first: bool) -> bool
     }
 }
 
+/// The branches of a choice that are shown.
+#[derive(Drop)]
+pub(crate) struct Branches {
+    pub(crate) one: bool,
+    pub(crate) other: bool,
+}
+
+// The branches that are shown where a test comes to what it does.
+fn branches_of(
+    alloc: Global,
+    test: &Formula,
+    here: Option<&Here>,
+    known: &[Option<Outcome>],
+) -> Result<Branches, Stop>
+    requires { IfSome here (λ h. h.now.row.place < length h.now.row.rows.rows) }
+    ensures found { IfOk result (λ b. AreBranches known.now (on_known known.now (row_here (option_copied here.entry)) (tree test.now)) b) }
+    ensures stops { IfErr result (λ e.
+        Stops known.now (names_of (on_known known.now (row_here (option_copied here.entry)) (tree test.now)).reads) e) }
+{
+    let outcome = evaluated(alloc, test, here, known)?;
+    let one = shows_branch(&outcome, true);
+    let other = shows_branch(&outcome, false);
+    Ok(Branches { one, other })
+}
+
 // The lines, where they are shown.
 #[cycle(showing)]
 fn show_where(
@@ -264,11 +290,9 @@ pub(crate) fn show(
             Ok(())
         }
         Block::Choice(test, one, other, rest) => {
-            let outcome = evaluated(alloc, test, here, known)?;
-            let first = shows_branch(&outcome, true);
-            let second = shows_branch(&outcome, false);
-            show_where(alloc, first, one, here, known, out)?;
-            show_where(alloc, second, other, here, known, out)?;
+            let shown = branches_of(alloc, test, here, known)?;
+            show_where(alloc, shown.one, one, here, known, out)?;
+            show_where(alloc, shown.other, other, here, known, out)?;
             show(alloc, rest, here, known, out)?;
             Ok(())
         }

@@ -139,38 +139,38 @@ pub show-returns-in_ok-show-in-Choice-clause-shows : goal.show-returns-in_ok-sho
 show-returns-in_ok-show-in-Choice-clause-shows u c =
     rw c.in-Choice.is
     (choice_shows c.args.known.now (option_copied c.args.here) (tree c.in-Choice.test) (block c.in-Choice.one.value) (block c.in-Choice.other.value) (block c.in-Choice.rest.value)
-    c.in_ok-outcome-in-Choice.outcome (nodes_of c.args.out.now) (nodes_of c.show_where.new.out) (nodes_of c.show_where-in-Choice.new.out) (nodes_of c.show-in-Choice.new.out)
-    c.in_ok-outcome-in-Choice.ensures.found (rw (c.shows_branch-first.ensures, c.deref-in-Choice.ensures) at c.in_ok-show_where-in-Choice.ensures.shows)
-    (rw (c.shows_branch-second.ensures, c.deref-in-Choice-2.ensures) at c.in_ok-show_where-in-Choice-2.ensures.shows) (rw c.deref-in-Choice-3.ensures at c.in_ok-show-in-Choice.ensures.shows))
+    c.in_ok-shown-in-Choice.ensures.found.outcome (nodes_of c.args.out.now) (nodes_of c.show_where.new.out) (nodes_of c.show_where-in-Choice.new.out) (nodes_of c.show-in-Choice.new.out)
+    c.in_ok-shown-in-Choice.ensures.found.found (rw (c.in_ok-shown-in-Choice.ensures.found.one, c.deref-in-Choice.ensures) at c.in_ok-show_where-in-Choice.ensures.shows)
+    (rw (c.in_ok-shown-in-Choice.ensures.found.other, c.deref-in-Choice-2.ensures) at c.in_ok-show_where-in-Choice-2.ensures.shows) (rw c.deref-in-Choice-3.ensures at c.in_ok-show-in-Choice.ensures.shows))
 
-pub show-returns-in_err-outcome-in-Choice-clause-stops : goal.show-returns-in_err-outcome-in-Choice-clause-stops
-show-returns-in_err-outcome-in-Choice-clause-stops u c =
+pub show-returns-in_err-shown-in-Choice-clause-stops : goal.show-returns-in_err-shown-in-Choice-clause-stops
+show-returns-in_err-shown-in-Choice-clause-stops u c =
     rw c.in-Choice.is
-    (handed_on c.args.known.now _ c.from_residual-in_err-outcome-in-Choice.result c.in_err-outcome-in-Choice.field-0.0 c.from_residual-in_err-outcome-in-Choice.ensures.1
-    (test_stops c.args.known.now (option_copied c.args.here) (tree c.in-Choice.test) (block c.in-Choice.one.value) (block c.in-Choice.other.value) (block c.in-Choice.rest.value) c.in_err-outcome-in-Choice.field-0.0 c.in_err-outcome-in-Choice.ensures.stops))
+    (handed_on c.args.known.now _ c.from_residual-in_err-shown-in-Choice.result c.in_err-shown-in-Choice.field-0.0 c.from_residual-in_err-shown-in-Choice.ensures.1
+    (test_stops c.args.known.now (option_copied c.args.here) (tree c.in-Choice.test) (block c.in-Choice.one.value) (block c.in-Choice.other.value) (block c.in-Choice.rest.value) c.in_err-shown-in-Choice.field-0.0 c.in_err-shown-in-Choice.ensures.stops))
 
 pub show-returns-in_err-show_where-in-Choice-clause-stops : goal.show-returns-in_err-show_where-in-Choice-clause-stops
 show-returns-in_err-show_where-in-Choice-clause-stops u c =
     rw c.in-Choice.is
     (handed_on c.args.known.now _ c.from_residual-in_err-show_where-in-Choice.result c.in_err-show_where-in-Choice.field-0.0 c.from_residual-in_err-show_where-in-Choice.ensures.1
-    (first_stops c.args.known.now (option_copied c.args.here) (tree c.in-Choice.test) (block c.in-Choice.one.value) (block c.in-Choice.other.value) (block c.in-Choice.rest.value) c.in_ok-outcome-in-Choice.outcome
-    c.in_err-show_where-in-Choice.field-0.0 c.in_ok-outcome-in-Choice.ensures.found (rw (c.shows_branch-first.ensures, c.deref-in-Choice.ensures) at c.in_err-show_where-in-Choice.ensures.stops)))
+    (first_stops c.args.known.now (option_copied c.args.here) (tree c.in-Choice.test) (block c.in-Choice.one.value) (block c.in-Choice.other.value) (block c.in-Choice.rest.value) c.in_ok-shown-in-Choice.ensures.found.outcome
+    c.in_err-show_where-in-Choice.field-0.0 c.in_ok-shown-in-Choice.ensures.found.found (rw (c.in_ok-shown-in-Choice.ensures.found.one, c.deref-in-Choice.ensures) at c.in_err-show_where-in-Choice.ensures.stops)))
 
 pub show-returns-in_err-show_where-in-Choice-2-clause-stops : goal.show-returns-in_err-show_where-in-Choice-2-clause-stops
 show-returns-in_err-show_where-in-Choice-2-clause-stops u c =
     rw c.in-Choice.is
     (handed_on c.args.known.now _ c.from_residual-in_err-show_where-in-Choice-2.result c.in_err-show_where-in-Choice-2.field-0.0 c.from_residual-in_err-show_where-in-Choice-2.ensures.1
-    (second_stops c.args.known.now (option_copied c.args.here) (tree c.in-Choice.test) (block c.in-Choice.one.value) (block c.in-Choice.other.value) (block c.in-Choice.rest.value) c.in_ok-outcome-in-Choice.outcome
-    c.in_err-show_where-in-Choice-2.field-0.0 c.in_ok-outcome-in-Choice.ensures.found (rw (c.shows_branch-second.ensures, c.deref-in-Choice-2.ensures) at c.in_err-show_where-in-Choice-2.ensures.stops)))
+    (second_stops c.args.known.now (option_copied c.args.here) (tree c.in-Choice.test) (block c.in-Choice.one.value) (block c.in-Choice.other.value) (block c.in-Choice.rest.value) c.in_ok-shown-in-Choice.ensures.found.outcome
+    c.in_err-show_where-in-Choice-2.field-0.0 c.in_ok-shown-in-Choice.ensures.found.found (rw (c.in_ok-shown-in-Choice.ensures.found.other, c.deref-in-Choice-2.ensures) at c.in_err-show_where-in-Choice-2.ensures.stops)))
 
 pub show-returns-in_err-show-in-Choice-clause-stops : goal.show-returns-in_err-show-in-Choice-clause-stops
 show-returns-in_err-show-in-Choice-clause-stops u c =
     rw c.in-Choice.is
     (handed_on c.args.known.now _ c.from_residual-in_err-show-in-Choice.result c.in_err-show-in-Choice.field-0.0 c.from_residual-in_err-show-in-Choice.ensures.1
-    (choice_stops c.args.known.now (option_copied c.args.here) (tree c.in-Choice.test) (block c.in-Choice.one.value) (block c.in-Choice.other.value) (block c.in-Choice.rest.value) c.in_ok-outcome-in-Choice.outcome
-    (nodes_of c.args.out.now) (nodes_of c.show_where.new.out) (nodes_of c.show_where-in-Choice.new.out) c.in_err-show-in-Choice.field-0.0 c.in_ok-outcome-in-Choice.ensures.found
-    (rw (c.shows_branch-first.ensures, c.deref-in-Choice.ensures) at c.in_ok-show_where-in-Choice.ensures.shows)
-    (rw (c.shows_branch-second.ensures, c.deref-in-Choice-2.ensures) at c.in_ok-show_where-in-Choice-2.ensures.shows) (rw c.deref-in-Choice-3.ensures at c.in_err-show-in-Choice.ensures.stops)))
+    (choice_stops c.args.known.now (option_copied c.args.here) (tree c.in-Choice.test) (block c.in-Choice.one.value) (block c.in-Choice.other.value) (block c.in-Choice.rest.value) c.in_ok-shown-in-Choice.ensures.found.outcome
+    (nodes_of c.args.out.now) (nodes_of c.show_where.new.out) (nodes_of c.show_where-in-Choice.new.out) c.in_err-show-in-Choice.field-0.0 c.in_ok-shown-in-Choice.ensures.found.found
+    (rw (c.in_ok-shown-in-Choice.ensures.found.one, c.deref-in-Choice.ensures) at c.in_ok-show_where-in-Choice.ensures.shows)
+    (rw (c.in_ok-shown-in-Choice.ensures.found.other, c.deref-in-Choice-2.ensures) at c.in_ok-show_where-in-Choice-2.ensures.shows) (rw c.deref-in-Choice-3.ensures at c.in_err-show-in-Choice.ensures.stops)))
 
 pub show-returns-in_ok-show-in-Each-clause-shows : goal.show-returns-in_ok-show-in-Each-clause-shows
 show-returns-in_ok-show-in-Each-clause-shows u c =
