@@ -2,8 +2,7 @@
 use Rattle.std.proofs.Common.{◌≡◌, ℕ, List, [], ◌∷◌, ◌++◌, length, map, refl, sym, ◌∙◌, ap, subst, append_assoc}
 use Rattle.std.specs.declared.option.Option.{Option}
 use Rattle.std.specs.declared.option.Option.TheVariants.{Some, None}
-use Rattle.std.specs.List.{AllByRecursion}
-use Rattle.std.specs.Option.{MatchOption, IfSome}
+use Rattle.std.specs.Option.{IfSome}
 use Rattle.std.specs.Io.KnownBytes.{Appends}
 use Rattle.sig_io.specs.Counts.{AppendsFront}
 use Rattle.std.proofs.KnownBytes.{Appends-trans, Appends-nil}
@@ -23,11 +22,7 @@ use Rattle.live_report.specs.Reports.{output_of, still}
 use Rattle.live_model.specs.Machine.{Machine, empty, told, step}
 use Rattle.live_model.specs.Output.{entries_from}
 use Rattle.page_laws.specs.LivePages.{LiveLaw}
-use Rattle.live_run.specs.Running.{lent, lent_output, script_of, Lives}
-
--- what entries tell can be printed and read
-abbrev pub AreSized : List Entry → Type 0
-AreSized es = AllByRecursion IsSizedEntry es
+use Rattle.live_run.specs.Running.{lent, lent_output, script_of, AreSized, Lives, TookIn}
 
 -- Whatever items the rest has, the script has some whose output is what is written, what is to be written, and what the report prints yet of
 -- the rest. And what holds of them where all that they tell is sized holds of them, if all that the rest tells is sized.
@@ -42,14 +37,6 @@ pub record HandedOn (held next : Option (List ℕ)) (out left : List ℕ) : Type
   pub written : List ℕ
   pub appended : Appends held next written
   pub whole : out ≡ written ++ left
-
--- A report took in an item and what it told: what is to be written now, and what is printed yet, is what it was.
-abbrev pub TookIn : Report → Report → List ℕ → List ℕ → Item → List Entry → Type 0
-TookIn r next out now i es = (is : List Item) (fs : List Entry) → now ++ still next is fs ≡ out ++ still r (i ∷ is) (es ++ fs)
-
--- a report takes in the item first, and then what it told
-pub took_in : (r counted next : Report) (out now : List ℕ) (i : Item) (es : List Entry) → ((is : List Item) (fs : List Entry) → still counted is fs ≡ still r (i ∷ is) fs) → ((is : List Item) (fs : List Entry) → now ++ still next is fs ≡ out ++ still counted is (es ++ fs)) → TookIn r next out now i es
-took_in r counted next out now i es d e is fs = e is fs ∙ ap (λ t. out ++ t) (d is (es ++ fs))
 
 -- one item done: its entries are told, and the rest goes on from the machine that it leaves
 told_more : (env : Environment) (r after : Report) (out now : List ℕ) (m next : Machine) (i : Item) (es : List Entry) (rest : List Item) → TookIn r after out now i es → told next es ≡ step env m i → now ++ still after rest (entries_from env next rest) ≡ out ++ still r (i ∷ rest) (entries_from env m (i ∷ rest))
@@ -95,10 +82,10 @@ first_so_far law step_of hosts slacks j held script r m out prints first none =
     (λ rest. prints rest (entries_from env m rest) ∙ ap (λ n. output_of j rest (entries_from env n rest)) many)
     (λ rest are z lends. law env (length meanings) script rest lends are (subst (λ (n : Machine). AreSized (entries_from env n rest)) many z)))
 
--- what is said of none, where there is none
-pub said_of_none : {X : Type 0} (o : Option X) (P : Type 0) (Q : X → Type 0) → ((x : X) → o ≡ Some x → ⊥) → MatchOption o P Q → P
-said_of_none None P Q h m = m
-said_of_none (Some x) P Q h m = absurd (h x refl)
+-- where there is nothing, there is none
+pub is_none : {X : Type 0} (o : Option X) → ((x : X) → o ≡ Some x → ⊥) → o ≡ None
+is_none None h = refl
+is_none (Some x) h = absurd (h x refl)
 
 -- what holds of all holds of what is there
 pub of_any : {X : Type 0} (o : Option X) (P : X → Type 0) → ((x : X) → P x) → IfSome o P

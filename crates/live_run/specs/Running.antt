@@ -1,5 +1,6 @@
 -- What a job runs and prints, by what the caller lends, what pages show, and how much of a source is read.
-use Rattle.std.specs.Prelude.{◌≤◌, ◌+◌, ℕ, Bool, true, false, List, Option, Some, length}
+use Rattle.std.specs.Prelude.{◌≡◌, ◌≤◌, ◌+◌, ◌++◌, ◌∷◌, ℕ, Bool, true, false, List, Option, Some, length}
+use Rattle.std.specs.List.{AllByRecursion}
 use Rattle.std.specs.Io.KnownBytes.{Consumes}
 use Rattle.sig_base.specs.declared.limits.TheConstants.{MOST_SCRIPT}
 use Rattle.sig_io.specs.Counts.{raised}
@@ -9,8 +10,12 @@ use Rattle.bench_workload.specs.Workload.{workload_text}
 use Rattle.live_words.specs.declared.jobs.Job.{Job}
 use Rattle.live_words.specs.declared.jobs.Job.TheVariants as job
 use Rattle.live_cmd.specs.declared.command.Item.{Item}
-use Rattle.live_report.specs.Reports.{output_of}
-use Rattle.live_model.specs.Machine.{empty}
+use Rattle.live_cmd.specs.Items.{Begins}
+use Rattle.live_entries.specs.declared.entry.Entry.{Entry}
+use Rattle.live_entries.specs.Printed.{IsSizedEntry}
+use Rattle.live_report.specs.declared.report.Report.{Report}
+use Rattle.live_report.specs.Reports.{output_of, still}
+use Rattle.live_model.specs.Machine.{Machine, empty, step, told}
 use Rattle.live_model.specs.Output.{entries_from}
 use Rattle.page_laws.specs.LivePages.{IsLive, LendsRows}
 
@@ -46,3 +51,24 @@ GaveTooMuch before now = raised before (MOST_SCRIPT + 1) ≤ now
 -- some front of the bytes is gone
 abbrev pub ConsumesFront : Option (List ℕ) → Option (List ℕ) → Type 0
 ConsumesFront old new = (front : List ℕ) × Consumes old new front
+
+-- what entries tell can be printed and read
+abbrev pub AreSized : List Entry → Type 0
+AreSized es = AllByRecursion IsSizedEntry es
+
+-- A report took in an item and what it told: what is to be written now, and what is printed yet, is what it was.
+abbrev pub TookIn : Report → Report → List ℕ → List ℕ → Item → List Entry → Type 0
+TookIn r next out now i es = (is : List Item) (fs : List Entry) → now ++ still next is fs ≡ out ++ still r (i ∷ is) (es ++ fs)
+
+-- an item was done: the machine came to what the plain machine comes to, and the report took in what that tells
+pub record DidItem (env : Environment) (old new : Machine) (i : Item) (r next : Report) (out now : List ℕ) : Type 0 where
+  pub entries : List Entry
+  pub is : told new entries ≡ step env old i
+  pub sized : AreSized entries
+  pub took : TookIn r next out now i entries
+
+-- the item that begins at a byte of a script was done
+pub record DidNext (env : Environment) (old new : Machine) (script : List ℕ) (at line next_at after : ℕ) (r next : Report) (out now : List ℕ) : Type 0 where
+  pub item : Item
+  pub begins : Begins script at line item next_at after
+  pub did : DidItem env old new item r next out now

@@ -3,6 +3,7 @@
 
 mod reading;
 mod running;
+mod script_run;
 
 pub use reading::{ReadEnd, read_all, script_for};
 pub use running::{MOST_HOSTS, MOST_RULES, Status, run_live};

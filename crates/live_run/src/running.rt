@@ -9,10 +9,8 @@ ghost use Rattle.live_words.specs.Jobs.{job_of};
 ghost use Rattle.live_run.specs.Running.{lent_output, reads, script_of, GaveTooMuch, Lives};
 ghost use Rattle.live_run.specs.declared.running.RunEnd.TheVariants as run_end;
 
+use crate::script_run::ScriptRun;
 use crate::{ReadEnd, script_for};
-use live_cmd::next_item;
-use live_core::Live;
-use live_report::Report;
 use live_words::{Job, read_job, rounds_are_few};
 use page_laws::live_law;
 use sig_base::{Failed, MOST_SCRIPT, NoMemory};
@@ -103,21 +101,16 @@ fn run_script<K: Sink>(
     ensures later { K.faults sink.old ≤ K.faults sink.new }
 {
     live_law();
-    let mut report = Report::new(alloc, job)?;
-    let mut live = Live::new(alloc, hosts, rules)?;
-    let mut out = Vec::new(alloc);
+    let mut run = ScriptRun::new(alloc, job, hosts, rules)?;
     let mut at = 0;
     let mut line: u32 = 1;
-    while let Some((item, next, after)) = next_item(alloc, script, at, line)? {
-        let counted = report.with_item(&item);
-        let told = live.do_command(item)?;
-        report = counted.with_entries(&mut out, &told)?;
-        hand_on(sink, &mut out)?;
+    while let Some((next, after)) = run.do_next(alloc, script, at, line)? {
+        hand_on(sink, &mut run.out)?;
         at = next;
         line = after;
     }
-    report.end(&mut out)?;
-    put_all(sink, &out)?;
+    run.end()?;
+    put_all(sink, &run.out)?;
     Ok(())
 }
 
