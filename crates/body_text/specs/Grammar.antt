@@ -60,6 +60,15 @@ row rewire = (codes "rewire", NAME ∷ EQUALS ∷ FORMULA ∷ [])
 row host = (codes "rewire", NAME ∷ EQUALS ∷ says (codes "host") ∷ PLACE ∷ ARGUMENTS ∷ [])
 row close = (codes "end", [])
 
+-- the rows that begin with each of the last words
+abbrev pub last_words : grammar.Table Row
+last_words =
+    (codes "effect", effect ∷ [])
+    ∷ (codes "dispose", dispose ∷ [])
+    ∷ (codes "rewire", host ∷ rewire ∷ [])
+    ∷ (codes "end", close ∷ [])
+    ∷ []
+
 -- the rows that begin with each word
 abbrev pub table : grammar.Table Row
 table =
@@ -67,11 +76,7 @@ table =
     ∷ (codes "log", log ∷ [])
     ∷ (codes "when", guard ∷ [])
     ∷ (codes "cleanup", cleanup_set ∷ cleanup_log ∷ [])
-    ∷ (codes "effect", effect ∷ [])
-    ∷ (codes "dispose", dispose ∷ [])
-    ∷ (codes "rewire", host ∷ rewire ∷ [])
-    ∷ (codes "end", close ∷ [])
-    ∷ []
+    ∷ last_words
 
 -- what a row gives of what stands in its parts
 abbrev pub line_makes : (r : Row) → Made (row r).1 Line

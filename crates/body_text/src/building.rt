@@ -1,5 +1,5 @@
 // Builds the body of lines that nothing is wrong with.
-ghost use Rattle.std.specs.Prelude.{◌≡◌, ◌+◌, ◌*◌, ◌≤◌, ◌<◌, ◌^◌, ◌++◌, ◌∷◌, [], length, List, IfOk, OnOk};
+ghost use Rattle.std.specs.Prelude.{◌≡◌, ◌+◌, ◌*◌, ◌≤◌, ◌<◌, ◌^◌, ◌++◌, ◌∷◌, [], length, option_map, List, IfOk, OnOk};
 ghost use Rattle.sig_untrack.specs.Stated.{before, no_bodies};
 ghost use Rattle.body_text.specs.declared.line.Line as given;
 ghost use Rattle.body_text.specs.declared.line.Line.TheVariants.{End};
@@ -38,6 +38,14 @@ pub fn sound_lines(alloc: Global, lines: Vec<ReadLine>) -> Result<VecDeque<Line>
         keep(&mut out, read)?;
     }
     Ok(out)
+}
+
+// A statement in a box.
+fn boxed(alloc: Global, statement: Stmt) -> Result<Box<Stmt>, NoMemory>
+    ensures { IfOk result (λ b. b.value ≡ statement) }
+{
+    let held = Box::new(alloc, statement)?;
+    Ok(held)
 }
 
 // What a guard stands before, up to its `end`, which is taken too.
@@ -81,18 +89,27 @@ fn statement(
     lines: &mut VecDeque<Line>,
     lists: &mut Lists,
     line: Line,
-) -> Result<Option<Stmt>, NoMemory>
+) -> Result<Option<Box<Stmt>>, NoMemory>
     requires { size lists.old + most_more * (1 + length lines.old.items) < 2 ^ 32 }
     ensures shorter { IfOk result (λ _. length lines.new.items ≤ length lines.old.items) }
     ensures few { IfOk result (λ _. size lists.new + most_more * length lines.new.items ≤ size lists.old + most_more * (1 + length lines.old.items)) }
     ensures built { (s : Statements) (r : List given.Line) → line ∷ lines.old.items ≡ lines_of s ++ (End ∷ r)
-        → IfOk result (λ found. BeginsSo s r lists.old lists.new lines.new.items found) }
+        → IfOk result (λ found. BeginsSo s r lists.old lists.new lines.new.items (option_map (λ b. b.value) found)) }
 {
     match line {
         Line::End => Ok(None),
-        Line::Plain(plain) => Ok(Some(lists.put(alloc, plain)?)),
-        Line::When(formula) => Ok(Some(guarded(alloc, lines, lists, formula)?)),
-        Line::Effect => Ok(Some(nested(alloc, lines, lists)?)),
+        Line::Plain(plain) => {
+            let statement = lists.put(alloc, plain)?;
+            Ok(Some(boxed(alloc, statement)?))
+        }
+        Line::When(formula) => {
+            let statement = guarded(alloc, lines, lists, formula)?;
+            Ok(Some(boxed(alloc, statement)?))
+        }
+        Line::Effect => {
+            let statement = nested(alloc, lines, lists)?;
+            Ok(Some(boxed(alloc, statement)?))
+        }
     }
 }
 
@@ -114,7 +131,7 @@ fn block(
         let Some(statement) = statement(alloc, lines, lists, line)? else {
             return Ok(out);
         };
-        out.push(statement)?;
+        out.push(Box::into_inner(statement))?;
     }
     Ok(out)
 }

@@ -39,9 +39,9 @@ pub fn put_formula(
     alloc: Global,
     names: &mut Vec<Name>,
     formula: &NamedFormula,
-) -> Result<Formula, NoMemory>
+) -> Result<Box<Formula>, NoMemory>
     requires { length names.old.items + MOST_SOURCES < 2 ^ 32 }
-    ensures put { IfOk result (λ f. (names.new.items ≡ with_names names.old.items formula.now) × (tree f ≡ slotted names.new.items formula.now)) }
+    ensures put { IfOk result (λ f. (names.new.items ≡ with_names names.old.items formula.now) × (tree f.value ≡ slotted names.new.items formula.now)) }
     ensures few { IfOk result (λ _. length names.new.items ≤ length names.old.items + MOST_SOURCES) }
 {
     formula.put_names(names)?;

@@ -17,7 +17,7 @@ use std::marker::Model;
 /// A formula that nothing is wrong with, with its names.
 #[derive(Drop)]
 pub struct NamedFormula {
-    wired: Wired,
+    wired: Box<Wired>,
 }
 
 impl Model for NamedFormula {
@@ -28,9 +28,9 @@ impl Model for NamedFormula {
 
     ghost coded = { draft_code };
 
-    ghost view = { λ f. unwired f.wired };
+    ghost view = { λ f. unwired f.wired.value };
 
-    ghost invariant = { λ f. IsOwn f.wired };
+    ghost invariant = { λ f. IsOwn f.wired.value };
 }
 
 fn is_among(names: &[Name], name: &Name) -> bool
@@ -95,70 +95,68 @@ fn slot_in(slots: &[u32], slot: u32) -> u32
     slots.get(slot as usize).copied().unwrap_or(0)
 }
 
+// A formula with other slots in the places of its own, in a box.
+#[cycle(reslotting)]
+fn boxed(alloc: Global, formula: &Formula, slots: &[u32]) -> Result<Box<Formula>, NoMemory>
+    ensures { IfOk result (λ b. tree b.value ≡ reslotted slots.now (tree formula.now)) }
+{
+    let formula = reslotted(alloc, formula, slots)?;
+    let boxed = Box::new(alloc, formula)?;
+    Ok(boxed)
+}
+
 // A formula with other slots in the places of its own.
+#[cycle(reslotting)]
 fn reslotted(alloc: Global, formula: &Formula, slots: &[u32]) -> Result<Formula, NoMemory>
     ensures { IfOk result (λ f. tree f ≡ reslotted slots.now (tree formula.now)) }
 {
     match formula {
         Formula::Lit(scalar) => Ok(Formula::Lit(scalar.copy()?)),
         Formula::Slot(slot) => Ok(Formula::Slot(slot_in(slots, *slot))),
-        Formula::Not(inner) => {
-            let inner = reslotted(alloc, inner, slots)?;
-            Ok(Formula::Not(Box::new(alloc, inner)?))
-        }
+        Formula::Not(inner) => Ok(Formula::Not(boxed(alloc, inner, slots)?)),
         Formula::Bin(o, left, right) => {
-            let left = reslotted(alloc, left, slots)?;
-            let right = reslotted(alloc, right, slots)?;
-            let left = Box::new(alloc, left)?;
-            Ok(Formula::Bin(*o, left, Box::new(alloc, right)?))
+            let left = boxed(alloc, left, slots)?;
+            let right = boxed(alloc, right, slots)?;
+            Ok(Formula::Bin(*o, left, right))
         }
         Formula::If(test, held, other) => {
-            let test = reslotted(alloc, test, slots)?;
-            let held = reslotted(alloc, held, slots)?;
-            let other = reslotted(alloc, other, slots)?;
-            let test = Box::new(alloc, test)?;
-            let held = Box::new(alloc, held)?;
-            Ok(Formula::If(test, held, Box::new(alloc, other)?))
+            let test = boxed(alloc, test, slots)?;
+            let held = boxed(alloc, held, slots)?;
+            let other = boxed(alloc, other, slots)?;
+            Ok(Formula::If(test, held, other))
         }
-        Formula::Untrack(inner) => {
-            let inner = reslotted(alloc, inner, slots)?;
-            Ok(Formula::Untrack(Box::new(alloc, inner)?))
-        }
+        Formula::Untrack(inner) => Ok(Formula::Untrack(boxed(alloc, inner, slots)?)),
         Formula::It(field) => Ok(Formula::It(field.copy()?)),
         Formula::ItKey => Ok(Formula::ItKey),
-        Formula::Count(inner) => {
-            let inner = reslotted(alloc, inner, slots)?;
-            Ok(Formula::Count(Box::new(alloc, inner)?))
-        }
+        Formula::Count(inner) => Ok(Formula::Count(boxed(alloc, inner, slots)?)),
         Formula::Sum(rows, part) => {
-            let rows = reslotted(alloc, rows, slots)?;
-            let part = reslotted(alloc, part, slots)?;
-            let rows = Box::new(alloc, rows)?;
-            Ok(Formula::Sum(rows, Box::new(alloc, part)?))
+            let rows = boxed(alloc, rows, slots)?;
+            let part = boxed(alloc, part, slots)?;
+            Ok(Formula::Sum(rows, part))
         }
         Formula::Keep(rows, test) => {
-            let rows = reslotted(alloc, rows, slots)?;
-            let test = reslotted(alloc, test, slots)?;
-            let rows = Box::new(alloc, rows)?;
-            Ok(Formula::Keep(rows, Box::new(alloc, test)?))
+            let rows = boxed(alloc, rows, slots)?;
+            let test = boxed(alloc, test, slots)?;
+            Ok(Formula::Keep(rows, test))
         }
     }
 }
 
 impl NamedFormula {
     /// The formula for which a wired one stands whose slots are its own names.
-    pub(crate) fn of(wired: Wired) -> NamedFormula
+    pub(crate) fn of(alloc: Global, wired: Wired) -> Result<NamedFormula, NoMemory>
         requires { IsOwn wired }
-        ensures { result ≡ unwired wired }
+        ensures { IfOk result (λ f. f ≡ unwired wired) }
     {
-        NamedFormula { wired }
+        let wired = Box::new(alloc, wired)?;
+        Ok(NamedFormula { wired })
     }
 
     /// The formula with its own names as slots.
     pub(crate) fn into_wired(self) -> Wired
         ensures { result ≡ wired self }
     {
-        self.wired
+        Box::into_inner(self.wired)
     }
 
     /// Appends the names that aren't there, in the order of the text.
@@ -172,10 +170,10 @@ impl NamedFormula {
 
     /// The formula with its places among few names as slots.
     #[tactic(auto, using(crate::proofs::Slotting::among_is))]
-    pub(crate) fn among(&self, alloc: Global, names: &[Name]) -> Result<Formula, NoMemory>
-        ensures { length names.now < 2 ^ 32 → IfOk result (λ f. tree f ≡ slotted names.now self.now) }
+    pub(crate) fn among(&self, alloc: Global, names: &[Name]) -> Result<Box<Formula>, NoMemory>
+        ensures { length names.now < 2 ^ 32 → IfOk result (λ f. tree f.value ≡ slotted names.now self.now) }
     {
         let slots = slots_of(alloc, names, &self.wired.names)?;
-        reslotted(alloc, &self.wired.formula, &slots)
+        boxed(alloc, &self.wired.formula, &slots)
     }
 }

@@ -9,7 +9,7 @@ ghost use Rattle.line_forms.specs.Reading.{read_form, read_part};
 ghost use Rattle.line_forms.specs.Rows.{rows_of, said_of};
 ghost use Rattle.line_forms.specs.Told.{ahead, IsToldFormula};
 ghost use Rattle.body_text.specs.Grammar as rows;
-ghost use Rattle.body_text.specs.Grammar.{row, table, Row, Said, Writes};
+ghost use Rattle.body_text.specs.Grammar.{last_words, row, table, Row, Said, Writes};
 ghost use Rattle.body_text.specs.Judging.{allowed};
 ghost use Rattle.body_text.specs.Views.{found_as, found_first, found_of, IsTold};
 
@@ -35,13 +35,16 @@ type ToldNamed = Result<NamedFormula, FormulaFault>;
 
 // A formula with its names, or what is wrong with it.
 #[tactic(auto, using(crate::proofs::Owning::is_own, crate::proofs::Owning::names_again))]
-fn named(told: ToldFormula) -> ToldNamed
+fn named(alloc: Global, told: ToldFormula) -> Result<ToldNamed, NoMemory>
     requires { (x : Draft) × IsToldFormula allowed x told }
-    ensures { (x : Draft) → IsToldFormula allowed x told → IsTold (refusal allowed x) x result }
+    ensures { (x : Draft) → IsToldFormula allowed x told → IfOk result (IsTold (refusal allowed x) x) }
 {
     match told {
-        Ok(wired) => Ok(NamedFormula::of(wired)),
-        Err(fault) => Err(fault),
+        Ok(wired) => {
+            let formula = NamedFormula::of(alloc, wired)?;
+            Ok(Ok(formula))
+        }
+        Err(fault) => Ok(Err(fault)),
     }
 }
 
@@ -60,7 +63,8 @@ fn named_at(
     let Some((told, to)) = formula_at(alloc, line, tokens, at, ALLOWED)? else {
         return Ok(None);
     };
-    Ok(Some((named(told), to)))
+    let formula = named(alloc, told)?;
+    Ok(Some((formula, to)))
 }
 
 // A formula at a place, and nothing else.
@@ -258,14 +262,44 @@ fn rewiring(alloc: Global, line: &[u8], tokens: &[Token]) -> Result<Option<Found
     }
 }
 
-// A word and nothing else.
-fn word_alone(tokens: &[Token], found: Found) -> Option<Found>
-    ensures { (line : List ℕ) → result ≡ option_map (λ _. found) (read_form [] (ahead line tokens.now 1)) }
+// `effect`
+fn nested(tokens: &[Token]) -> Option<Found>
+    ensures { (line : List ℕ) → result ≡ found_as rows.effect (ahead line tokens.now 1) }
 {
     if ends_at(tokens, 1) {
-        Some(found)
+        Some(sound(LineKind::Opens, Line::Effect))
     } else {
         None
+    }
+}
+
+// `end`
+fn close(tokens: &[Token]) -> Option<Found>
+    ensures { (line : List ℕ) → result ≡ found_as rows.close (ahead line tokens.now 1) }
+{
+    if ends_at(tokens, 1) {
+        Some(sound(LineKind::End, Line::End))
+    } else {
+        None
+    }
+}
+
+// What the tokens behind one of the last words say.
+fn behind_last_word(
+    alloc: Global,
+    line: &[u8],
+    tokens: &[Token],
+    word: &str,
+) -> Result<Option<Found>, NoMemory>
+    requires { AreTokens line.now tokens.now }
+    ensures { IfOk result (λ found. found ≡ found_first (rows_of word.now last_words) (ahead line.now tokens.now 1)) }
+{
+    match word {
+        "effect" => Ok(nested(tokens)),
+        "dispose" => dispose(alloc, line, tokens),
+        "rewire" => rewiring(alloc, line, tokens),
+        "end" => Ok(close(tokens)),
+        _ => Ok(None),
     }
 }
 
@@ -284,11 +318,7 @@ fn behind_word(
         "log" => log(alloc, line, tokens),
         "when" => guard(alloc, line, tokens),
         "cleanup" => cleanup(alloc, line, tokens),
-        "effect" => Ok(word_alone(tokens, sound(LineKind::Opens, Line::Effect))),
-        "dispose" => dispose(alloc, line, tokens),
-        "rewire" => rewiring(alloc, line, tokens),
-        "end" => Ok(word_alone(tokens, sound(LineKind::End, Line::End))),
-        _ => Ok(None),
+        _ => behind_last_word(alloc, line, tokens, word),
     }
 }
 

@@ -8,38 +8,38 @@ use sig_formula::Formula;
 use sig_untrack::Stmt;
 
 /// The statement that sets a target to the value of a formula.
-pub fn set(target: u32, formula: Formula) -> Stmt
-    ensures { (rest : Stated) → put result rest ≡ stated.set target (tree formula) rest }
+pub fn set(target: u32, formula: Box<Formula>) -> Stmt
+    ensures { (rest : Stated) → put result rest ≡ stated.set target (tree formula.value) rest }
 {
-    Stmt::Set(target, formula)
+    Stmt::Set(target, Box::into_inner(formula))
 }
 
 /// The statement that logs the value of a formula.
-pub fn log(formula: Formula) -> Stmt
-    ensures { (rest : Stated) → put result rest ≡ stated.log (tree formula) rest }
+pub fn log(formula: Box<Formula>) -> Stmt
+    ensures { (rest : Stated) → put result rest ≡ stated.log (tree formula.value) rest }
 {
-    Stmt::Log(formula)
+    Stmt::Log(Box::into_inner(formula))
 }
 
 /// The statement that does others only where a formula is true.
-pub fn when(formula: Formula, inner: Vec<Stmt>) -> Stmt
-    ensures { (rest : Stated) → put result rest ≡ stated.when (tree formula) (stated.stated inner.items stated.no_more) rest }
+pub fn when(formula: Box<Formula>, inner: Vec<Stmt>) -> Stmt
+    ensures { (rest : Stated) → put result rest ≡ stated.when (tree formula.value) (stated.stated inner.items stated.no_more) rest }
 {
-    Stmt::When(formula, inner)
+    Stmt::When(Box::into_inner(formula), inner)
 }
 
 /// The statement that sets a target when the effect is taken back.
-pub fn cleanup_set(target: u32, formula: Formula) -> Stmt
-    ensures { (rest : Stated) → put result rest ≡ stated.cleanup_set target (tree formula) rest }
+pub fn cleanup_set(target: u32, formula: Box<Formula>) -> Stmt
+    ensures { (rest : Stated) → put result rest ≡ stated.cleanup_set target (tree formula.value) rest }
 {
-    Stmt::CleanupSet(target, formula)
+    Stmt::CleanupSet(target, Box::into_inner(formula))
 }
 
 /// The statement that logs a value when the effect is taken back.
-pub fn cleanup_log(formula: Formula) -> Stmt
-    ensures { (rest : Stated) → put result rest ≡ stated.cleanup_log (tree formula) rest }
+pub fn cleanup_log(formula: Box<Formula>) -> Stmt
+    ensures { (rest : Stated) → put result rest ≡ stated.cleanup_log (tree formula.value) rest }
 {
-    Stmt::CleanupLog(formula)
+    Stmt::CleanupLog(Box::into_inner(formula))
 }
 
 /// The statement that makes the nested effect at a place.

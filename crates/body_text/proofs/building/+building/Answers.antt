@@ -33,17 +33,17 @@ nested-returns-clause-built u c = λ s r e.
 pub statement-returns-in-End-clause-built : goal.statement-returns-in-End-clause-built
 statement-returns-in-End-clause-built u c = λ s r e. end_begins s r c.args.lines.now.items c.args.lists.now (rw c.in-End.is at e)
 
-pub statement-returns-in_ok-put-in-Plain-clause-built : goal.statement-returns-in_ok-put-in-Plain-clause-built
-statement-returns-in_ok-put-in-Plain-clause-built u c = λ s r e.
-    line_begins c.in-Plain.plain s r _ _ _ _ (rw c.in-Plain.is at e) c.in_ok-put-in-Plain.ensures
+pub statement-returns-in_ok-boxed-in-Plain-clause-built : goal.statement-returns-in_ok-boxed-in-Plain-clause-built
+statement-returns-in_ok-boxed-in-Plain-clause-built u c = λ s r e.
+    rw c.in_ok-boxed-in-Plain.ensures (line_begins c.in-Plain.plain s r _ _ _ _ (rw c.in-Plain.is at e) c.in_ok-statement-in-Plain.ensures)
 
-pub statement-returns-in_ok-guarded-in-When-clause-built : goal.statement-returns-in_ok-guarded-in-When-clause-built
-statement-returns-in_ok-guarded-in-When-clause-built u c = λ s r e.
-    when_begins c.in-When.formula s r _ _ _ _ _ (rw c.in-When.is at e) c.in_ok-guarded-in-When.ensures.built
+pub statement-returns-in_ok-boxed-in-When-clause-built : goal.statement-returns-in_ok-boxed-in-When-clause-built
+statement-returns-in_ok-boxed-in-When-clause-built u c = λ s r e.
+    rw c.in_ok-boxed-in-When.ensures (when_begins c.in-When.formula s r _ _ _ _ _ (rw c.in-When.is at e) c.in_ok-statement-in-When.ensures.built)
 
-pub statement-returns-in_ok-nested-in-Effect-clause-built : goal.statement-returns-in_ok-nested-in-Effect-clause-built
-statement-returns-in_ok-nested-in-Effect-clause-built u c = λ s r e.
-    effect_begins s r _ _ _ _ _ (rw c.in-Effect.is at e) c.in_ok-nested-in-Effect.ensures.built
+pub statement-returns-in_ok-boxed-in-Effect-clause-built : goal.statement-returns-in_ok-boxed-in-Effect-clause-built
+statement-returns-in_ok-boxed-in-Effect-clause-built u c = λ s r e.
+    rw c.in_ok-boxed-in-Effect.ensures (effect_begins s r _ _ _ _ _ (rw c.in-Effect.is at e) c.in_ok-statement-in-Effect.ensures.built)
 
 pub block-loop-line-init : goal.block-loop-line-init
 block-loop-line-init u c = record {
@@ -67,7 +67,8 @@ block-loop-line-preserved u c =
       few = omega (arith, v.few, front, c.in_ok-statement.ensures.few);
       upto = λ s r e.
           let a = v.upto s r e in
-          one_further s r _ _ c.statement.new.lists _ _ c.in-Some-2.statement _ c.statement.new.lines.items a (built a.rest r (sym c.in-Some.ensures.items ∙ a.ahead)) c.in_ok-push.ensures.items;
+          one_further s r _ _ c.statement.new.lists _ _ c.in-Some-2.statement.value _ c.statement.new.lines.items a (built a.rest r (sym c.in-Some.ensures.items ∙ a.ahead))
+          (rw c.into_inner.ensures at c.in_ok-push.ensures.items);
     }
 
 pub block-returns-in_default-2-clause-built : goal.block-returns-in_default-2-clause-built
