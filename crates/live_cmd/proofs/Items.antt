@@ -1,84 +1,22 @@
 -- What a piece of a script is.
-use Rattle.std.proofs.Common.{◌≡◌, ℕ, ◌+◌, true, false, List, [], ◌∷◌, ◌++◌, length, map, drop, Option, Some, None, refl, sym, ap, subst, ◌∙◌}
-use Rattle.std.specs.Prelude.{Result, Ok, Err, IfOk}
-use Rattle.std.specs.Option.{option_or}
-use Rattle.formula_text.specs.declared.wired.FormulaFault.{FormulaFault}
-use Rattle.script_lines.specs.Lines.{NumberedLine, EndsLine, kept_lines, lines}
+use Rattle.std.proofs.Common.{◌≡◌, ℕ, ◌+◌, true, false, List, [], ◌∷◌, ◌++◌, length, drop, refl, sym, ap, subst, inl, inr}
+use Rattle.script_lines.specs.Lines.{EndsLine, kept_lines, lines}
 use Rattle.script_lines.specs.Pieces.{Piece, outside, pieces_of, place_after}
 use Rattle.script_lines.proofs.Shared.{script_cut}
-use Rattle.live_cmd.specs.declared.line.Line.{Line}
-use Rattle.live_cmd.specs.declared.judge.ReadLine.{ReadLine}
 use Rattle.live_cmd.specs.declared.command.Item.{Item}
 use Rattle.live_cmd.specs.declared.command.Item.TheVariants as item
-use Rattle.live_entries.specs.declared.refusal.Refusal.{Refusal}
 use Rattle.live_entries.specs.declared.refusal.Refusal.TheVariants as refusal
-use Rattle.line_forms.specs.Told.{unless_faulty}
 use Rattle.line_forms.proofs.Shared as forms
-use Rattle.live_cmd.specs.Grammar.{Row, row, table, Said, line_of}
-use Rattle.live_cmd.specs.declared.place.Place.{Place}
+use Rattle.live_cmd.specs.Grammar.{Row, row, table}
 use Rattle.live_cmd.specs.declared.place.Place.TheVariants as place
-use Rattle.live_cmd.specs.Places.{kind_of, moved, places}
-use Rattle.live_cmd.specs.Judging.{Sayings, Faults, fault_of, faults_of, misplacing, excess, first_misplaced, first_excess, refusal_of}
+use Rattle.live_cmd.specs.Places.{places}
+use Rattle.live_cmd.specs.Judging.{Sayings}
 use Rattle.live_cmd.specs.declared.contents.Content.{Content}
 use Rattle.live_cmd.specs.Blocks.{Block, IsContent, block_item}
-use Rattle.live_cmd.specs.Items.{Say, IsItem, long, unended, block, faulty, says, any_long, first_number, command_of, item_or, unless_refused, item_of, AreItems, ItemsFrom, Begins}
-use Rattle.live_cmd.specs.Views.{told, read_of, fault_read, faults_read, with_line, sound_lines, item_read, AreRead}
-use Rattle.live_cmd.proofs.Refusing.{no_fault}
+use Rattle.live_cmd.specs.Items.{IsItem, long, unended, block, faulty, says, any_long, first_number, item_of, AreItems, ItemsFrom, Begins}
+use Rattle.live_cmd.specs.Views.{IsPlain}
 use Rattle.live_cmd.proofs.Grammars.{is_grammar}
 use Rattle.live_cmd.proofs.Parting.{one_block, no_says}
-
--- ---- what was read of lines is what they say
-
--- lines that were read say something
-pub say_read : (p : Place) (ls : List NumberedLine) (rs : List ReadLine) → AreRead p ls rs → (xs : Sayings) × Say p ls xs × (rs ≡ map read_of xs)
-say_read p [] [] a = ([], tt, refl)
-say_read p [] (r ∷ rs) a = absurd a
-say_read p (l ∷ ls) [] a = absurd a
-say_read p (l ∷ ls) (r ∷ rs) a =
-    let rest = say_read (moved p (kind_of a.0)) ls rs a.4 in
-    let x : ℕ × Said = (l.0, a.0) in
-    (x ∷ rest.0, (refl, a.1, a.2, rest.1), let e = a.3 in let f = rest.2 in cc)
-
-fault_told : (o : Option FormulaFault) (l : Line) → fault_read (unless_faulty o l) ≡ o
-fault_told None l = refl
-fault_told (Some f) l = refl
-
-fault_same : (x : Said) → fault_read (told x) ≡ fault_of x
-fault_same x = fault_told (fault_of x) (line_of x)
-
-faults_same : (xs : Sayings) → faults_read (map read_of xs) ≡ faults_of xs
-faults_same [] = refl
-faults_same (x ∷ xs) =
-    ap (λ (o : Option FormulaFault). (x.0, o) ∷ faults_read (map read_of xs)) (fault_same x.1) ∙ ap (λ (fs : Faults). (x.0, fault_of x.1) ∷ fs) (faults_same xs)
-
--- ---- nothing is wrong with lines that aren't refused
-
-pub neither : {A : Type 0} (o p : Option A) → option_or o p ≡ None → (o ≡ None) × (p ≡ None)
-neither None p e = (refl, e)
-neither (Some x) p e = absurd cc
-
-told_sound : (x : Said) → fault_of x ≡ None → told x ≡ Ok (line_of x)
-told_sound x e = ap (λ (o : Option FormulaFault). unless_faulty o (line_of x)) e
-
-sound_same : (xs : Sayings) → first_misplaced (faults_of xs) ≡ None → first_excess (faults_of xs) ≡ None → sound_lines (map read_of xs) ≡ map (λ x. line_of x.1) xs
-sound_same [] m e = refl
-sound_same (x ∷ xs) m e =
-    let a = neither (misplacing x.0 (fault_of x.1)) (first_misplaced (faults_of xs)) m in
-    let b = neither (excess (fault_of x.1)) (first_excess (faults_of xs)) e in
-    ap (λ (r : Result Line FormulaFault). with_line r (sound_lines (map read_of xs))) (told_sound x.1 (no_fault x.0 x.1 a.0 b.0))
-    ∙ ap (λ (ls : List Line). line_of x.1 ∷ ls) (sound_same xs a.1 b.1)
-
-item_at : (k : ℕ) (xs : Sayings) (o : Option Refusal) → refusal_of (faults_of xs) ≡ o
-    → unless_refused o (item_or k (command_of (sound_lines (map read_of xs)))) ≡ unless_refused o (item_or k (command_of (map (λ x. line_of x.1) xs)))
-item_at k xs (Some r) e = refl
-item_at k xs None e =
-    let a = neither (first_misplaced (faults_of xs)) (first_excess (faults_of xs)) e in
-    ap (λ (ls : List Line). item_or k (command_of ls)) (sound_same xs a.0 a.1)
-
-item_same : (k : ℕ) (xs : Sayings) → item_read k (map read_of xs) ≡ item_of k xs
-item_same k xs =
-    ap (λ (fs : Faults). unless_refused (refusal_of fs) (item_or k (command_of (sound_lines (map read_of xs))))) (faults_same xs)
-    ∙ item_at k xs (refusal_of (faults_of xs)) refl
 
 -- ---- a piece is this
 
@@ -86,23 +24,17 @@ item_same k xs =
 pub is_unended : (p : Piece) (n : ℕ) → any_long p.lines ≡ false → p.ended ≡ false → n ≡ first_number p.lines → IsItem p (item.Refused (refusal.Syntax n))
 is_unended p n a e h = subst (λ (k : ℕ). IsItem p (item.Refused (refusal.Syntax k))) (sym h) (unended a e)
 
-is_said : (p : Piece) (rs : List ReadLine) (n : ℕ) (i : Item) → any_long p.lines ≡ false → p.ended ≡ true → AreRead place.First p.lines rs → n ≡ first_number p.lines
-    → i ≡ item_read n rs → IsItem p i
-is_said p rs n i a e r h is =
-    let s = say_read place.First p.lines rs r in
-    let whole : i ≡ item_of (first_number p.lines) s.0 = is ∙ ap (λ (k : ℕ). item_read k rs) h ∙ ap (item_read (first_number p.lines)) s.2 ∙ item_same (first_number p.lines) s.0 in
-    subst (λ (j : Item). IsItem p j) (sym whole) (says s.0 a e s.1)
-
 -- a block is what it comes to
 pub is_block : (p : Piece) (i : Item) → any_long p.lines ≡ false → p.ended ≡ true
     → (b : Block p.lines) × (c : Content) × IsContent b.head b.inner c × (i ≡ block_item b.ends b.last.0 c) → IsItem p i
 is_block p i a e h = subst (λ (j : Item). IsItem p j) (sym h.3) (block h.0 h.1 a e h.2)
 
--- lines that were read are what they say
-pub is_judged : {E : Type 0} (p : Piece) (rs : List ReadLine) (n : ℕ) (r : Result Item E) → any_long p.lines ≡ false → p.ended ≡ true → AreRead place.First p.lines rs → n ≡ first_number p.lines
-    → IfOk r (λ i. i ≡ item_read n rs) → IfOk r (λ i. IsItem p i)
-is_judged p rs n (Ok i) a e s h is = is_said p rs n i a e s h is
-is_judged p rs n (Err f) a e s h is = is
+-- lines that are no block are what they say, or refused at the first that says nothing which may stand there
+pub is_plain : (p : Piece) (i : Item) → any_long p.lines ≡ false → p.ended ≡ true → (Block p.lines → ⊥) → IsPlain p.lines i → IsItem p i
+is_plain p i a e none h = elim h [
+  | inl s ↦ subst (λ (j : Item). IsItem p j) (sym s.2) (says s.0 a e s.1)
+  | inr f ↦ subst (λ (j : Item). IsItem p j) (sym f.2) (faulty f.0 a e none f.1)
+]
 
 -- ---- there is one of each
 

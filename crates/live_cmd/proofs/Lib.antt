@@ -4,12 +4,13 @@ mod Grammars
 mod Held
 mod Items
 mod Levels
-mod LineByLine
+mod Lengths
 mod Heading
 mod Numbered
 mod Numbering
 mod Parting
 mod Places
+mod Plain
 mod Refusing
 mod Rewriting
 mod Spellings

@@ -1,13 +1,16 @@
--- Each fault of a line is refused.
+-- What was read of a line is what the line is, alone.
 use Rattle.std.proofs.Common.{◌≡◌, ℕ, Bool, true, false, cond, List, [], ◌∷◌, Option, Some, None, refl}
 use Rattle.std.specs.Option.{option_or}
 use Rattle.sig_base.specs.declared.scalar.Scalar.{Scalar}
 use Rattle.formula_text.specs.declared.wired.FormulaFault.{FormulaFault}
 use Rattle.formula_text.specs.declared.wired.FormulaFault.TheVariants as fault
 use Rattle.line_forms.specs.Forms.{One, value, key, Part, one, perhaps, many, listed, arguments, formula, Form, fixed, part, Of, Holds, Args}
-use Rattle.line_forms.specs.Told.{fault_of_one, first_long, fault_of_list, fault_in, fault_along}
-use Rattle.live_cmd.specs.Grammar.{Said, row}
-use Rattle.live_cmd.specs.Judging.{tracked, fault_of, misplacing, excess}
+use Rattle.line_forms.specs.Told.{fault_of_one, first_long, fault_of_list, fault_in, fault_along, unless_faulty}
+use Rattle.live_cmd.specs.declared.line.Line.{Line}
+use Rattle.live_cmd.specs.Grammar.{Said, row, line_of}
+use Rattle.live_cmd.specs.Items.{item_of, unless_refused}
+use Rattle.live_cmd.specs.Judging.{tracked, fault_of, refusal_of}
+use Rattle.live_cmd.specs.Views.{item_read, line_item, told}
 
 -- nothing, or what is judged
 data IsJudged : Option FormulaFault → Type 0 where
@@ -52,14 +55,15 @@ line_judged [] a = nothing
 line_judged (fixed l ∷ ps) a = line_judged ps a
 line_judged (part p ∷ ps) a = first (fault_in tracked p a.0) (fault_along tracked ps a.1) (part_judged p a.0) (line_judged ps a.1)
 
-no_cause : (k : ℕ) (o : Option FormulaFault) → IsJudged o → misplacing k o ≡ None → excess o ≡ None → o ≡ None
-no_cause k _ nothing m e = refl
-no_cause k _ untrack m e = absurd cc
-no_cause k _ it_here m e = absurd cc
-no_cause k _ nest m e = absurd cc
-no_cause k _ long m e = absurd cc
-no_cause k _ sources m e = absurd cc
+read_same : (k : ℕ) (l : Line) (o : Option FormulaFault) → IsJudged o
+    → item_read k (unless_faulty o l) ≡ unless_refused (refusal_of ((k, o) ∷ [])) (line_item k l)
+read_same k l _ nothing = refl
+read_same k l _ untrack = refl
+read_same k l _ it_here = refl
+read_same k l _ nest = refl
+read_same k l _ long = refl
+read_same k l _ sources = refl
 
--- a line that isn't refused has nothing wrong with it
-pub no_fault : (k : ℕ) (x : Said) → misplacing k (fault_of x) ≡ None → excess (fault_of x) ≡ None → fault_of x ≡ None
-no_fault k x m e = no_cause k (fault_of x) (line_judged (row x.0).1 x.1) m e
+-- what was read of a line is refused for what is wrong with it, or is what the line says
+pub item_same : (k : ℕ) (x : Said) → item_read k (told x) ≡ item_of k ((k, x) ∷ [])
+item_same k x = read_same k (line_of x) (fault_of x) (line_judged (row x.0).1 x.1)

@@ -45,7 +45,6 @@ use Rattle.live_cmd.specs.Judging.{Sayings, faults_of, misplacing, excess, first
 use Rattle.live_cmd.specs.Blocks.{Block, Ends, IsContent, IsContentOf, block_item, body_refused, effect_content, is_head, template_content, template_refused}
 use Rattle.live_cmd.specs.Items.{Say, IsItem, long, unended, block, faulty, says, any_long, first_number, command_of, has_many_fields, item_made, item_or, unless_refused, item_of}
 use Rattle.live_cmd.specs.Writing.{said_by, bytes_of, ended_line, command_text, lines_by, body_lines, template_lines, lines_of_command}
-use Rattle.live_cmd.proofs.Items.{neither}
 use Rattle.live_cmd.proofs.Levels.{AllLines, Stays, body_stays, ended, template_stays}
 use Rattle.live_cmd.proofs.Numbered.{numbered-append, numbered_one}
 
@@ -136,6 +135,10 @@ lines_from n (x ∷ xs) = ap (λ (ls : List Line). line_of x.1 ∷ ls) (lines_fr
 lines_in : (xs : Sayings) → map (λ x. line_of x.1) xs ≡ map line_of (said_in xs)
 lines_in [] = refl
 lines_in (x ∷ xs) = ap (λ (ls : List Line). line_of x.1 ∷ ls) (lines_in xs)
+
+neither : {A : Type 0} (o p : Option A) → option_or o p ≡ None → (o ≡ None) × (p ≡ None)
+neither None p e = (refl, e)
+neither (Some x) p e = absurd cc
 
 -- a number changes nothing where nothing is misplaced
 not_misplaced : (j k : ℕ) (o : Option FormulaFault) → misplacing k o ≡ None → misplacing j o ≡ None

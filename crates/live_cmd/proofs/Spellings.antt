@@ -1,6 +1,7 @@
 -- What is read of a line is what its bytes write.
 use Rattle.std.proofs.Common.{◌≡◌, ℕ, List, [], ◌∷◌, Option, Some, None, option_map, refl, sym, ap, subst, ◌∙◌, ◌⊎◌, arith}
 use Rattle.std.specs.Prelude.{Result, Ok, Err, IfOk, MatchOption, slice_get}
+use Rattle.std.specs.Global.{Box}
 use Rattle.std.specs.Str.{IsUtf8}
 use Rattle.std.specs.Option.{option_or}
 use Rattle.sig_words.specs.declared.token.Token.{Token}
@@ -79,8 +80,17 @@ of_found bytes ts (Some x) None a e f = absurd cc
 of_found bytes ts None (Some y) a e f = absurd cc
 of_found bytes ts (Some x) (Some y) a e f = (y, lines.writes Row row table is_grammar bytes ts y a e, cc)
 
+-- so it is behind a pointer
+abbrev pub IsHeld : List ℕ → Option (Box Found) → Type 0
+IsHeld bytes held = MatchOption held ((x : Said) → Writes x bytes → ⊥) (λ f. (x : Said) × Writes x bytes × (f.value ≡ found_of x))
+
+held_found : (bytes : List ℕ) (held : Option (Box Found)) → IsFound bytes (option_map (λ f. f.value) held) → IsHeld bytes held
+held_found bytes None h = h
+held_found bytes (Some f) h = h
+
 -- what is found in the tokens of a line is what its bytes write
-pub from_tokens : {E : Type 0} (bytes : List ℕ) (ts : List Token) (r : Result (Option Found) E) → AreTokens bytes ts
-    → IfOk r (λ found. found ≡ option_map found_of (said_of Row row table (lexemes bytes ts))) → IfOk r (λ found. IsFound bytes found)
-from_tokens bytes ts (Ok found) a e = of_found bytes ts found (said_of Row row table (lexemes bytes ts)) a refl e
+pub from_tokens : {E : Type 0} (bytes : List ℕ) (ts : List Token) (r : Result (Option (Box Found)) E) → AreTokens bytes ts
+    → IfOk r (λ held. option_map (λ f. f.value) held ≡ option_map found_of (said_of Row row table (lexemes bytes ts))) → IfOk r (λ held. IsHeld bytes held)
+from_tokens bytes ts (Ok held) a e =
+    held_found bytes held (of_found bytes ts (option_map (λ f. f.value) held) (said_of Row row table (lexemes bytes ts)) a refl e)
 from_tokens bytes ts (Err e) a h = h

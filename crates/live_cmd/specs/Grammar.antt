@@ -100,11 +100,11 @@ abbrev ARGUMENTS : Piece
 ARGUMENTS = part arguments
 
 -- the place of an equality rule, if one is said
-abbrev equals_K : Piece
+abbrev pub equals_K : Piece
 equals_K = part (perhaps (codes "equals") count)
 
 -- the owner inside which something is made, if one is said
-abbrev in_O : Piece
+abbrev pub in_O : Piece
 in_O = part (perhaps (codes "in") name)
 
 -- any number of names
@@ -147,6 +147,33 @@ row effect = (codes "effect", N ∷ in_O ∷ [])
 row template = (codes "template", N ∷ [])
 row close = (codes "end", [])
 
+-- the rows that begin with each of the last words
+abbrev pub last_rows : grammar.Table Row
+last_rows =
+    (codes "owner", owner ∷ [])
+    ∷ (codes "watcher", watcher ∷ tries_get ∷ tries_set ∷ tries_watch ∷ tries_unwatch ∷ [])
+    ∷ (codes "watch", watch ∷ [])
+    ∷ (codes "unwatch", unwatch ∷ [])
+    ∷ (codes "mount", mount ∷ [])
+    ∷ (codes "flush", flush ∷ [])
+    ∷ (codes "effect", effect ∷ [])
+    ∷ (codes "template", template ∷ [])
+    ∷ (codes "end", close ∷ [])
+    ∷ []
+
+-- those before them too
+abbrev pub later_rows : grammar.Table Row
+later_rows =
+    (codes "set", set ∷ [])
+    ∷ (codes "list", list ∷ [])
+    ∷ (codes "insert", insert_row ∷ [])
+    ∷ (codes "remove", remove_row ∷ [])
+    ∷ (codes "move", move_row ∷ [])
+    ∷ (codes "put", put_field ∷ [])
+    ∷ (codes "computed", computed_host ∷ computed ∷ [])
+    ∷ (codes "rewire", rewire_host ∷ rewire ∷ [])
+    ∷ last_rows
+
 -- the rows that begin with each word
 abbrev pub table : grammar.Table Row
 table =
@@ -158,24 +185,7 @@ table =
     ∷ (codes "dispose", verb verbs.Dispose ∷ [])
     ∷ (codes "pending", verb verbs.Pending ∷ [])
     ∷ (codes "cell", cell ∷ [])
-    ∷ (codes "set", set ∷ [])
-    ∷ (codes "list", list ∷ [])
-    ∷ (codes "insert", insert_row ∷ [])
-    ∷ (codes "remove", remove_row ∷ [])
-    ∷ (codes "move", move_row ∷ [])
-    ∷ (codes "put", put_field ∷ [])
-    ∷ (codes "computed", computed_host ∷ computed ∷ [])
-    ∷ (codes "rewire", rewire_host ∷ rewire ∷ [])
-    ∷ (codes "owner", owner ∷ [])
-    ∷ (codes "watcher", watcher ∷ tries_get ∷ tries_set ∷ tries_watch ∷ tries_unwatch ∷ [])
-    ∷ (codes "watch", watch ∷ [])
-    ∷ (codes "unwatch", unwatch ∷ [])
-    ∷ (codes "mount", mount ∷ [])
-    ∷ (codes "flush", flush ∷ [])
-    ∷ (codes "effect", effect ∷ [])
-    ∷ (codes "template", template ∷ [])
-    ∷ (codes "end", close ∷ [])
-    ∷ []
+    ∷ later_rows
 
 -- what a row gives of what stands in its parts: its formula with slots for its names
 abbrev pub line_makes : (r : Row) → Made (row r).1 Line

@@ -1,25 +1,26 @@
 -- What the program holds of lines that it read.
-use Rattle.std.specs.Prelude.{◌≡◌, ◌==◌, if◌then◌else◌, ℕ, Bool, true, false, List, [], ◌∷◌, map, Option, Some, None, option_map, Result, Ok, Err, IsTrue}
+use Rattle.std.specs.Prelude.{◌≡◌, ◌⊎◌, ◌==◌, if◌then◌else◌, ℕ, Bool, true, false, List, [], ◌∷◌, Option, Some, None, option_map, Result, Ok, Err}
 use Rattle.std.specs.Option.{option_or}
 use Rattle.sig_words.specs.Lexemes.{Lexeme}
 use Rattle.formula_text.specs.declared.wired.FormulaFault.{FormulaFault}
+use Rattle.formula_text.specs.declared.wired.FormulaFault.TheVariants as fault
 use Rattle.line_forms.specs.Reading.{read_form}
 use Rattle.line_forms.specs.Told.{unless_faulty}
 use Rattle.script_lines.specs.Lines.{NumberedLine}
-use Rattle.live_cmd.specs.Grammar.{Row, row, Said, Writes, line_of}
-use Rattle.live_cmd.specs.Places.{kind_of, fits, moved}
-use Rattle.live_cmd.specs.Judging.{fault_of, Faults, refusal_of}
-use Rattle.live_cmd.specs.Items.{command_of, item_or, unless_refused, IsFaulty}
+use Rattle.live_entries.specs.declared.refusal.LimitWord.TheVariants as limit
+use Rattle.live_entries.specs.declared.refusal.Refusal.{Refusal}
+use Rattle.live_entries.specs.declared.refusal.Refusal.TheVariants as refusal
+use Rattle.live_cmd.specs.Grammar.{Row, row, Said, line_of}
+use Rattle.live_cmd.specs.Places.{kind_of}
+use Rattle.live_cmd.specs.Judging.{Sayings, fault_of}
+use Rattle.live_cmd.specs.Items.{command_of, first_number, has_many_fields, item_of, item_or, IsFaulty, Say}
 use Rattle.live_cmd.specs.declared.command.Item.{Item}
+use Rattle.live_cmd.specs.declared.command.Item.TheVariants as item
 use Rattle.live_cmd.specs.declared.line.Line.{Line}
 use Rattle.live_cmd.specs.declared.line.Line.TheVariants as line
 use Rattle.live_cmd.specs.declared.contents.Head.{Head}
 use Rattle.live_cmd.specs.declared.contents.Head.TheVariants as heads
 use Rattle.live_cmd.specs.declared.line.Found.{Found}
-use Rattle.live_cmd.specs.declared.judge.ReadLine.{ReadLine}
-use Rattle.live_cmd.specs.declared.item.Reading.{Reading}
-use Rattle.live_cmd.specs.declared.item.Reading.TheVariants as reading
-use Rattle.live_cmd.specs.declared.place.Place.{Place}
 use Rattle.live_cmd.specs.declared.place.Place.TheVariants as place
 
 -- what a line gives, or what is wrong with it
@@ -66,41 +67,32 @@ found_first [] ls = None
 found_first (r ∷ []) ls = found_as r ls
 found_first (r ∷ s ∷ rs) ls = option_or (found_as r ls) (found_first (s ∷ rs) ls)
 
--- what is read of the line of a number that says this
-abbrev pub read_of : ℕ × Said → ReadLine
-read_of x = record { number = x.0; line = told x.1 }
+-- what a line of this number is refused for that has this wrong with it
+abbrev pub refused_for : ℕ → FormulaFault → Refusal
+refused_for k fault.UntrackHere = refusal.UntrackHere k
+refused_for k fault.ItHere = refusal.ItHere k
+refused_for k fault.Nest = refusal.Nest k
+refused_for k fault.TextLong = refusal.Limit limit.Text
+refused_for k fault.Sources = refusal.Limit limit.Sources
+refused_for k fault.Syntax = refusal.Syntax k
+refused_for k (fault.NoMemory e) = refusal.Syntax k
 
--- from a place on, the lines were read so
-abbrev pub AreRead : Place → List NumberedLine → List ReadLine → Type 0
-AreRead p [] [] = Unit {0}
-AreRead p (l ∷ ls) (r ∷ rs) =
-    (x : Said) × Writes x l.1 × IsTrue (fits p (kind_of x)) × (r ≡ read_of (l.0, x)) × AreRead (moved p (kind_of x)) ls rs
-AreRead p _ _ = ⊥
+-- whether a line that was read makes a list of too many fields
+abbrev pub many_told : Result Line FormulaFault → Bool
+many_told (Ok (line.Alone c)) = has_many_fields c
+many_told _ = false
 
--- what was read of the lines of a command
-abbrev pub IsReading : List NumberedLine → Reading → Type 0
-IsReading ls (reading.Faulty k) = IsFaulty place.First ls k
-IsReading ls (reading.Said rs) = AreRead place.First ls rs.items
+-- what a line of this number is, alone
+abbrev pub line_item : ℕ → Line → Item
+line_item k l = item_or k (command_of (l ∷ []))
 
--- what is wrong with a line that was read
-abbrev pub fault_read : Result Line FormulaFault → Option FormulaFault
-fault_read (Ok l) = None
-fault_read (Err f) = Some f
+-- so it is with a line that was read
+abbrev pub item_read : ℕ → Result Line FormulaFault → Item
+item_read k (Ok l) = line_item k l
+item_read k (Err f) = item.Refused (refused_for k f)
 
--- what is wrong with lines that were read
-abbrev pub faults_read : List ReadLine → Faults
-faults_read rs = map (λ r. (r.number, fault_read r.line)) rs
-
--- a line before those that nothing is wrong with, if nothing is wrong with it
-abbrev pub with_line : Result Line FormulaFault → List Line → List Line
-with_line (Ok l) ls = l ∷ ls
-with_line (Err f) ls = ls
-
--- the lines that nothing is wrong with
-abbrev pub sound_lines : List ReadLine → List Line
-sound_lines [] = []
-sound_lines (r ∷ rs) = with_line r.line (sound_lines rs)
-
--- what lines that were read are, of which the first has this number
-abbrev pub item_read : ℕ → List ReadLine → Item
-item_read k rs = unless_refused (refusal_of (faults_read rs)) (item_or k (command_of (sound_lines rs)))
+-- lines that are no block are what they say, or refused at the first that says nothing which may stand there
+abbrev pub IsPlain : List NumberedLine → Item → Type 0
+IsPlain ls i =
+    ((xs : Sayings) × Say place.First ls xs × (i ≡ item_of (first_number ls) xs))
+    ⊎ ((k : ℕ) × IsFaulty place.First ls k × (i ≡ item.Refused (refusal.Syntax k)))

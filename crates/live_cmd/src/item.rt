@@ -1,39 +1,32 @@
 // Reads the items of a script.
-ghost use Rattle.std.specs.Prelude.{◌≡◌, ◌∷◌, ◌+◌, ◌++◌, ◌-◌, ◌^◌, ◌<◌, ◌≤◌, [], length, drop, All, IfOk, IfSome, MatchOption, OnOk, IsTrue, map, nat_lt};
+ghost use Rattle.std.specs.Prelude.{◌≡◌, ◌∷◌, ◌+◌, ◌-◌, ◌^◌, ◌<◌, ◌≤◌, [], false, length, drop, All, Ok, IfOk, IfSome, MatchOption, IsTrue, map, nat_lt};
 ghost use Rattle.std.specs.List.{list_any};
 ghost use Rattle.script_lines.specs.Pieces.{pieces_of};
 ghost use Rattle.script_lines.specs.Views.{line_of, piece_of};
-ghost use Rattle.live_cmd.specs.declared.line.Line.TheVariants as given;
 ghost use Rattle.live_cmd.specs.Grammar.{Said, Writes};
 ghost use Rattle.live_cmd.specs.Places.{fits, kind_of};
-ghost use Rattle.live_cmd.specs.Items.{command_of, first_number, item_made, item_or, Begins, IsItem};
-ghost use Rattle.live_cmd.specs.Views.{found_of, item_read, sound_lines, with_line, IsReading};
+ghost use Rattle.live_cmd.specs.Items.{first_number, Begins, IsItem};
+ghost use Rattle.live_cmd.specs.Views.{found_of, item_read, line_item, many_told, IsPlain};
 
 use crate::block::block_of;
 use crate::fields::has_many_fields;
-use crate::judge::{ReadLine, refusal_of};
+use crate::judge::refused_for;
 use crate::line::Found;
 use crate::place::{Place, fits};
 use crate::reading::read_line;
-use crate::{Command, Item, Line};
+use crate::{Item, Line};
+use formula_text::FormulaFault;
 use live_entries::{LimitWord, Refusal};
 use script_lines::{NumberedLine, Piece, next_piece};
 use sig_base::{MOST_LINE, NoMemory};
 use std::alloc::Global;
 
-/// What the lines of a command say, or the number of the first that says nothing which may stand there.
-#[derive(Drop)]
-pub enum Reading {
-    Faulty(u32),
-    Said(Vec<ReadLine>),
-}
-
 // What a line says, if it may stand there.
-fn read_at(alloc: Global, at: Place, line: &[u8]) -> Result<Option<Found>, NoMemory>
+fn read_at(alloc: Global, at: Place, line: &[u8]) -> Result<Option<Box<Found>>, NoMemory>
     requires { length line.now ≤ MOST_LINE }
     ensures { IfOk result (λ found. MatchOption found
         ((x : Said) → Writes x line.now → IsTrue (fits at (kind_of x)) → ⊥)
-        (λ f. (x : Said) × Writes x line.now × IsTrue (fits at (kind_of x)) × (f ≡ found_of x))) }
+        (λ f. (x : Said) × Writes x line.now × IsTrue (fits at (kind_of x)) × (f.value ≡ found_of x))) }
 {
     let Some(found) = read_line(alloc, line)? else {
         return Ok(None);
@@ -44,67 +37,75 @@ fn read_at(alloc: Global, at: Place, line: &[u8]) -> Result<Option<Found>, NoMem
     Ok(Some(found))
 }
 
-// What the lines of a command say.
-fn read_lines(alloc: Global, lines: &[NumberedLine]) -> Result<Reading, NoMemory>
-    requires { All (λ l. length l.text.now ≤ MOST_LINE) lines.now }
-    ensures { IfOk result (λ r. IsReading (map line_of lines.now) r) }
+// Whether a line that was read makes a list of too many fields.
+fn many_told(line: &Result<Line, FormulaFault>) -> bool
+    ensures { result ≡ many_told line.now }
 {
-    let mut at = Place::First;
-    let mut said = Vec::new(alloc);
-    for numbered in lines {
-        let Some(found) = read_at(alloc, at, numbered.text)? else {
-            return Ok(Reading::Faulty(numbered.number));
-        };
-        at = Place::Behind;
-        said.push(ReadLine {
-            number: numbered.number,
-            line: found.line,
-        })?;
+    match line {
+        Ok(Line::Alone(command)) => has_many_fields(command),
+        _ => false,
     }
-    Ok(Reading::Said(said))
 }
 
-// Appends a line that nothing is wrong with.
-fn keep(out: &mut Vec<Line>, read: ReadLine) -> Result<(), NoMemory>
-    ensures { OnOk result (out.new.items ≡ out.old.items ++ with_line read.line []) }
+// What a line of this number is, alone, which makes no list of too many fields.
+fn line_item(number: u32, line: Line) -> Item
+    requires { many_told (Ok line) ≡ false }
+    ensures { result ≡ line_item number line }
 {
-    if let Ok(line) = read.line {
-        out.push(line)?;
+    match line {
+        Line::Alone(command) => Item::Do(command),
+        Line::Effect(..) | Line::Template(_) | Line::End => Item::Refused(Refusal::Syntax(number)),
     }
-    Ok(())
 }
 
-// The lines that nothing is wrong with.
-#[tactic(auto, using(crate::proofs::LineByLine::sound_more))]
-fn sound_lines(alloc: Global, lines: Vec<ReadLine>) -> Result<Vec<Line>, NoMemory>
-    ensures { IfOk result (λ v. v.items ≡ sound_lines lines.items) }
+// So it is with a line that was read.
+fn told_item(number: u32, found: Found) -> Item
+    requires { many_told found.line ≡ false }
+    ensures { result ≡ item_read number found.line }
 {
-    let mut out = Vec::new(alloc);
-    for read in lines {
-        keep(&mut out, read)?;
+    match found.line {
+        Ok(line) => line_item(number, line),
+        Err(fault) => Item::Refused(refused_for(number, fault)),
     }
-    Ok(out)
 }
 
-// The command of a line, where no other lines follow it.
-fn only(command: Command, rest: &[Line]) -> Option<Command>
-    ensures { result ≡ command_of (given.Alone command ∷ rest.now) }
+// What the line of this number is in which this was found.
+fn found_item(number: u32, found: Box<Found>) -> Item
+    ensures { result ≡ item_read number found.value.line }
 {
-    if rest.is_empty() { Some(command) } else { None }
+    if many_told(&found.line) {
+        return Item::Refused(Refusal::Limit(LimitWord::Fields));
+    }
+    told_item(number, Box::into_inner(found))
 }
 
-// The command that lines are.
-fn command_of(lines: Vec<Line>) -> Option<Command>
-    ensures { result ≡ command_of lines.items }
+// The first line, and those behind it.
+fn first_line<'a, 'b>(
+    lines: &'b [NumberedLine<'a>],
+) -> Option<(NumberedLine<'a>, &'b [NumberedLine<'a>])>
+    ensures { MatchOption result (lines.now ≡ []) (λ x. lines.now ≡ x.0 ∷ x.1.now) }
 {
-    let mut rest = lines;
-    if rest.is_empty() {
+    let Some((first, rest)) = lines.split_first() else {
         return None;
+    };
+    Some((*first, rest))
+}
+
+// What lines are that are no block: the first is a command, and no line stands behind it.
+fn plain_item(alloc: Global, lines: &[NumberedLine]) -> Result<Item, NoMemory>
+    requires { All (λ l. length l.text.now ≤ MOST_LINE) lines.now }
+    ensures { IfOk result (λ i. IsPlain (map line_of lines.now) i) }
+{
+    let Some((first, rest)) = first_line(lines) else {
+        return Ok(Item::Refused(Refusal::Syntax(0)));
+    };
+    let Some(found) = read_at(alloc, Place::First, first.text)? else {
+        return Ok(Item::Refused(Refusal::Syntax(first.number)));
+    };
+    if let Some((second, _)) = first_line(rest) {
+        return Ok(Item::Refused(Refusal::Syntax(second.number)));
     }
-    match rest.remove(0) {
-        Line::Alone(command) => only(command, &rest),
-        Line::Effect(..) | Line::Template(_) | Line::End => None,
-    }
+    Ok(found_item(first.number, found))
 }
 
 // The number of the first line.
@@ -121,38 +122,6 @@ fn any_long(lines: &[NumberedLine]) -> bool
     lines.iter().any(|line| MOST_LINE < line.text.len())
 }
 
-// A command, or that it has too many fields.
-fn item_made(command: Command) -> Item
-    ensures { result ≡ item_made command }
-{
-    if has_many_fields(&command) {
-        Item::Refused(Refusal::Limit(LimitWord::Fields))
-    } else {
-        Item::Do(command)
-    }
-}
-
-// What lines that say this are, of which the first has that number.
-fn item_or(number: u32, command: Option<Command>) -> Item
-    ensures { result ≡ item_or number command }
-{
-    match command {
-        Some(command) => item_made(command),
-        None => Item::Refused(Refusal::Syntax(number)),
-    }
-}
-
-// What lines are that were read, of which the first has that number.
-fn judged(alloc: Global, number: u32, lines: Vec<ReadLine>) -> Result<Item, NoMemory>
-    ensures { IfOk result (λ i. i ≡ item_read number lines.items) }
-{
-    if let Some(refusal) = refusal_of(&lines) {
-        return Ok(Item::Refused(refusal));
-    }
-    let lines = sound_lines(alloc, lines)?;
-    Ok(item_or(number, command_of(lines)))
-}
-
 // What a piece of a script is.
 fn item_of(alloc: Global, piece: &Piece) -> Result<Item, NoMemory>
     ensures { IfOk result (λ i. IsItem (piece_of piece.now) i) }
@@ -167,10 +136,8 @@ fn item_of(alloc: Global, piece: &Piece) -> Result<Item, NoMemory>
     if let Some(item) = block_of(alloc, &piece.lines)? {
         return Ok(item);
     }
-    match read_lines(alloc, &piece.lines)? {
-        Reading::Faulty(number) => Ok(Item::Refused(Refusal::Syntax(number))),
-        Reading::Said(lines) => judged(alloc, first, lines),
-    }
+    let item = plain_item(alloc, &piece.lines)?;
+    Ok(item)
 }
 
 /// The first item from a byte on, the place after it, and the number of the line there. The byte begins a line of this

@@ -8,6 +8,7 @@ mod fields;
 mod inside;
 mod item;
 mod judge;
+mod last;
 mod laws;
 mod line;
 mod place;

@@ -1,14 +1,15 @@
 // Reads one line of a script.
-ghost use Rattle.std.specs.Prelude.{◌≡◌, ◌≤◌, IfOk, MatchOption, option_map, length};
+ghost use Rattle.std.specs.Prelude.{◌≡◌, ◌∷◌, ◌≤◌, [], IfOk, MatchOption, option_map, length};
 ghost use Rattle.sig_words.specs.Tokens.{AreTokens};
 ghost use Rattle.sig_words.specs.Lexemes.{lexemes};
+ghost use Rattle.line_forms.specs.Reading.{read_form};
 ghost use Rattle.line_forms.specs.Rows.{rows_of, said_of};
 ghost use Rattle.line_forms.specs.Told.{ahead};
-ghost use Rattle.live_cmd.specs.Grammar.{row, table, Row, Said, Writes};
+ghost use Rattle.live_cmd.specs.Grammar.{last_rows, later_rows, row, table, Row, Said, Writes};
 ghost use Rattle.live_cmd.specs.Grammar as rows;
 ghost use Rattle.live_cmd.specs.Views.{found_as, found_first, found_of};
 
-use crate::inside::inside_at;
+use crate::last::{inside_last, name_last, value_last};
 use crate::line::{Found, LineKind, alone, faulty, sound};
 use crate::row_lines::{insert, list, move_row, put_field, remove};
 use crate::sources::{any_computed, any_rewire};
@@ -16,7 +17,7 @@ use crate::watching::{any_watcher, unwatch, watch};
 use crate::{Command, Line, Verb};
 use formula_text::Allow;
 use line_forms::{count_behind, ends_at, name_at, symbol_at, value_at};
-use sig_base::{MOST_LINE, NoMemory};
+use sig_base::{MOST_LINE, Name, NoMemory};
 use sig_words::{LineFault, Token, TokenKind, token_bytes, tokens};
 use std::alloc::Global;
 use std::str;
@@ -36,14 +37,28 @@ fn named(
 ) -> Result<Option<Found>, NoMemory>
     ensures { IfOk result (λ found. found ≡ found_as (rows.verb verb) (ahead line.now tokens.now 1)) }
 {
-    let at = 1;
-    let Some((name, at)) = name_at(alloc, line, tokens, at)? else {
+    let Some(name) = name_last(alloc, line, tokens, 1)? else {
         return Ok(None);
     };
-    if !ends_at(tokens, at) {
-        return Ok(None);
-    }
     Ok(Some(alone(Command::Named { verb, name })))
+}
+
+// What may stand behind the value of a cell.
+fn cell_options(
+    alloc: Global,
+    line: &[u8],
+    tokens: &[Token],
+    at: usize,
+) -> Result<Option<(Option<u64>, Option<Name>)>, NoMemory>
+    ensures { IfOk result (λ found. option_map (λ o. (o.0, (o.1, tt))) found ≡ read_form (rows.equals_K ∷ rows.in_O ∷ []) (ahead line.now tokens.now at)) }
+{
+    let Some((equals, at)) = count_behind(line, tokens, at, b"equals") else {
+        return Ok(None);
+    };
+    let Some(inside) = inside_last(alloc, line, tokens, at)? else {
+        return Ok(None);
+    };
+    Ok(Some((equals, inside)))
 }
 
 // `cell N = LIT [equals K] [in O]`
@@ -61,15 +76,9 @@ fn cell(alloc: Global, line: &[u8], tokens: &[Token]) -> Result<Option<Found>, N
     let Some((value, at)) = value_at(alloc, line, tokens, at)? else {
         return Ok(None);
     };
-    let Some((equals, at)) = count_behind(line, tokens, at, b"equals") else {
+    let Some((equals, inside)) = cell_options(alloc, line, tokens, at)? else {
         return Ok(None);
     };
-    let Some((inside, at)) = inside_at(alloc, line, tokens, at)? else {
-        return Ok(None);
-    };
-    if !ends_at(tokens, at) {
-        return Ok(None);
-    }
     match value {
         Ok(value) => Ok(Some(alone(Command::Cell {
             name,
@@ -90,12 +99,9 @@ fn set(alloc: Global, line: &[u8], tokens: &[Token]) -> Result<Option<Found>, No
     let Some((name, at)) = name_at(alloc, line, tokens, at)? else {
         return Ok(None);
     };
-    let Some((value, at)) = value_at(alloc, line, tokens, at)? else {
+    let Some(value) = value_last(alloc, line, tokens, at)? else {
         return Ok(None);
     };
-    if !ends_at(tokens, at) {
-        return Ok(None);
-    }
     match value {
         Ok(value) => Ok(Some(alone(Command::Set { name, value }))),
         Err(fault) => Ok(Some(faulty(LineKind::Alone, fault))),
@@ -110,12 +116,9 @@ fn owner(alloc: Global, line: &[u8], tokens: &[Token]) -> Result<Option<Found>, 
     let Some((name, at)) = name_at(alloc, line, tokens, at)? else {
         return Ok(None);
     };
-    let Some((inside, at)) = inside_at(alloc, line, tokens, at)? else {
+    let Some(inside) = inside_last(alloc, line, tokens, at)? else {
         return Ok(None);
     };
-    if !ends_at(tokens, at) {
-        return Ok(None);
-    }
     Ok(Some(alone(Command::Owner { name, inside })))
 }
 
@@ -130,12 +133,9 @@ fn mount(alloc: Global, line: &[u8], tokens: &[Token]) -> Result<Option<Found>, 
     let Some((template, at)) = name_at(alloc, line, tokens, at)? else {
         return Ok(None);
     };
-    let Some((inside, at)) = inside_at(alloc, line, tokens, at)? else {
+    let Some(inside) = inside_last(alloc, line, tokens, at)? else {
         return Ok(None);
     };
-    if !ends_at(tokens, at) {
-        return Ok(None);
-    }
     Ok(Some(alone(Command::Mount {
         name,
         template,
@@ -162,12 +162,9 @@ fn effect(alloc: Global, line: &[u8], tokens: &[Token]) -> Result<Option<Found>,
     let Some((name, at)) = name_at(alloc, line, tokens, at)? else {
         return Ok(None);
     };
-    let Some((inside, at)) = inside_at(alloc, line, tokens, at)? else {
+    let Some(inside) = inside_last(alloc, line, tokens, at)? else {
         return Ok(None);
     };
-    if !ends_at(tokens, at) {
-        return Ok(None);
-    }
     Ok(Some(sound(LineKind::Astray, Line::Effect(name, inside))))
 }
 
@@ -175,13 +172,9 @@ fn effect(alloc: Global, line: &[u8], tokens: &[Token]) -> Result<Option<Found>,
 fn template(alloc: Global, line: &[u8], tokens: &[Token]) -> Result<Option<Found>, NoMemory>
     ensures { IfOk result (λ found. found ≡ found_as rows.template (ahead line.now tokens.now 1)) }
 {
-    let at = 1;
-    let Some((name, at)) = name_at(alloc, line, tokens, at)? else {
+    let Some(name) = name_last(alloc, line, tokens, 1)? else {
         return Ok(None);
     };
-    if !ends_at(tokens, at) {
-        return Ok(None);
-    }
     Ok(Some(sound(LineKind::Astray, Line::Template(name))))
 }
 
@@ -193,6 +186,53 @@ fn close(line: &[u8], tokens: &[Token]) -> Option<Found>
         Some(sound(LineKind::Astray, Line::End))
     } else {
         None
+    }
+}
+
+// What the tokens behind one of the last words say.
+fn behind_last_word(
+    alloc: Global,
+    line: &[u8],
+    tokens: &[Token],
+    word: &str,
+) -> Result<Option<Found>, NoMemory>
+    requires { AreTokens line.now tokens.now }
+    ensures { IfOk result (λ found. found ≡ found_first (rows_of word.now last_rows) (ahead line.now tokens.now 1)) }
+{
+    match word {
+        "owner" => owner(alloc, line, tokens),
+        "watcher" => any_watcher(alloc, line, tokens),
+        "watch" => watch(alloc, line, tokens),
+        "unwatch" => unwatch(alloc, line, tokens),
+        "mount" => mount(alloc, line, tokens),
+        "flush" => Ok(flush(line, tokens)),
+        "effect" => effect(alloc, line, tokens),
+        "template" => template(alloc, line, tokens),
+        "end" => Ok(close(line, tokens)),
+        _ => Ok(None),
+    }
+}
+
+// So it is with those before them too.
+fn behind_later_word(
+    alloc: Global,
+    line: &[u8],
+    tokens: &[Token],
+    word: &str,
+) -> Result<Option<Found>, NoMemory>
+    requires { AreTokens line.now tokens.now }
+    ensures { IfOk result (λ found. found ≡ found_first (rows_of word.now later_rows) (ahead line.now tokens.now 1)) }
+{
+    match word {
+        "set" => set(alloc, line, tokens),
+        "list" => list(alloc, line, tokens),
+        "insert" => insert(alloc, line, tokens),
+        "remove" => remove(alloc, line, tokens),
+        "move" => move_row(alloc, line, tokens),
+        "put" => put_field(alloc, line, tokens),
+        "computed" => any_computed(alloc, line, tokens),
+        "rewire" => any_rewire(alloc, line, tokens),
+        _ => behind_last_word(alloc, line, tokens, word),
     }
 }
 
@@ -215,24 +255,7 @@ fn behind_word(
         "dispose" => named(alloc, line, tokens, Verb::Dispose),
         "pending" => named(alloc, line, tokens, Verb::Pending),
         "cell" => cell(alloc, line, tokens),
-        "set" => set(alloc, line, tokens),
-        "list" => list(alloc, line, tokens),
-        "insert" => insert(alloc, line, tokens),
-        "remove" => remove(alloc, line, tokens),
-        "move" => move_row(alloc, line, tokens),
-        "put" => put_field(alloc, line, tokens),
-        "computed" => any_computed(alloc, line, tokens),
-        "rewire" => any_rewire(alloc, line, tokens),
-        "owner" => owner(alloc, line, tokens),
-        "watcher" => any_watcher(alloc, line, tokens),
-        "watch" => watch(alloc, line, tokens),
-        "unwatch" => unwatch(alloc, line, tokens),
-        "mount" => mount(alloc, line, tokens),
-        "flush" => Ok(flush(line, tokens)),
-        "effect" => effect(alloc, line, tokens),
-        "template" => template(alloc, line, tokens),
-        "end" => Ok(close(line, tokens)),
-        _ => Ok(None),
+        _ => behind_later_word(alloc, line, tokens, word),
     }
 }
 
@@ -255,14 +278,30 @@ fn spelled(alloc: Global, line: &[u8], tokens: &[Token]) -> Result<Option<Found>
     }
 }
 
+// So it is, behind a pointer.
+fn spelled_held(
+    alloc: Global,
+    line: &[u8],
+    tokens: &[Token],
+) -> Result<Option<Box<Found>>, NoMemory>
+    requires { AreTokens line.now tokens.now }
+    ensures { IfOk result (λ held. option_map (λ f. f.value) held ≡ option_map found_of (said_of Row row table (lexemes line.now tokens.now))) }
+{
+    let Some(found) = spelled(alloc, line, tokens)? else {
+        return Ok(None);
+    };
+    let held = Box::new(alloc, found)?;
+    Ok(Some(held))
+}
+
 /// What a line of at most `MOST_LINE` bytes says, or what is wrong with it; `None` exactly where its bytes write nothing, as where
 /// they have no tokens.
-pub fn read_line(alloc: Global, line: &[u8]) -> Result<Option<Found>, NoMemory>
+pub fn read_line(alloc: Global, line: &[u8]) -> Result<Option<Box<Found>>, NoMemory>
     requires { length line.now ≤ MOST_LINE }
-    ensures { IfOk result (λ found. MatchOption found ((x : Said) → Writes x line.now → ⊥) (λ f. (x : Said) × Writes x line.now × (f ≡ found_of x))) }
+    ensures { IfOk result (λ found. MatchOption found ((x : Said) → Writes x line.now → ⊥) (λ f. (x : Said) × Writes x line.now × (f.value ≡ found_of x))) }
 {
     match tokens(alloc, line) {
-        Ok(found) => spelled(alloc, line, &found),
+        Ok(found) => spelled_held(alloc, line, &found),
         Err(LineFault::Bad(_)) => Ok(None),
         Err(LineFault::TooLong) => unreachable!(),
         Err(LineFault::NoMemory(e)) => Err(e),

@@ -7,7 +7,7 @@ ghost use Rattle.live_cmd.specs.Grammar as rows;
 ghost use Rattle.live_cmd.specs.Views.{found_as, found_of};
 
 use crate::fields::{kind_of_field, kind_of_fields};
-use crate::inside::inside_at;
+use crate::last::{inside_last, value_last};
 use crate::line::{Found, Line, LineKind, alone, faulty, sound};
 use crate::{Command, RowEdit};
 use line_forms::{
@@ -29,12 +29,9 @@ pub fn list(alloc: Global, line: &[u8], tokens: &[Token]) -> Result<Option<Found
     let Some((fields, at)) = listed_names_at(alloc, line, tokens, at)? else {
         return Ok(None);
     };
-    let Some((inside, at)) = inside_at(alloc, line, tokens, at)? else {
+    let Some(inside) = inside_last(alloc, line, tokens, at)? else {
         return Ok(None);
     };
-    if !ends_at(tokens, at) {
-        return Ok(None);
-    }
     let kind = kind_of_fields(fields.as_slice());
     let command = Command::List {
         name,
@@ -171,11 +168,8 @@ pub fn put_field(alloc: Global, line: &[u8], tokens: &[Token]) -> Result<Option<
     let Some((field, at)) = name_at(alloc, line, tokens, at)? else {
         return Ok(None);
     };
-    let Some((value, at)) = value_at(alloc, line, tokens, at)? else {
+    let Some(value) = value_last(alloc, line, tokens, at)? else {
         return Ok(None);
     };
-    if !ends_at(tokens, at) {
-        return Ok(None);
-    }
     Ok(Some(put_found(name, key, field, value)))
 }

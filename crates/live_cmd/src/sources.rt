@@ -5,7 +5,7 @@ ghost use Rattle.line_forms.specs.Told.{ahead};
 ghost use Rattle.live_cmd.specs.Grammar as rows;
 ghost use Rattle.live_cmd.specs.Views.{found_as, found_first};
 
-use crate::inside::inside_at;
+use crate::last::inside_last;
 use crate::line::{Found, LineKind, alone, faulty};
 use crate::reading::TRACKED;
 use crate::{Command, SourceText};
@@ -29,12 +29,9 @@ fn computed(alloc: Global, line: &[u8], tokens: &[Token]) -> Result<Option<Found
     let Some((formula, at)) = formula_at(alloc, line, tokens, at, TRACKED)? else {
         return Ok(None);
     };
-    let Some((inside, at)) = inside_at(alloc, line, tokens, at)? else {
+    let Some(inside) = inside_last(alloc, line, tokens, at)? else {
         return Ok(None);
     };
-    if !ends_at(tokens, at) {
-        return Ok(None);
-    }
     match formula {
         Ok(formula) => {
             let source = SourceText::Formula(formula);
@@ -68,12 +65,9 @@ fn computed_host(alloc: Global, line: &[u8], tokens: &[Token]) -> Result<Option<
     let Some((arguments, at)) = arguments_at(alloc, line, tokens, at)? else {
         return Ok(None);
     };
-    let Some((inside, at)) = inside_at(alloc, line, tokens, at)? else {
+    let Some(inside) = inside_last(alloc, line, tokens, at)? else {
         return Ok(None);
     };
-    if !ends_at(tokens, at) {
-        return Ok(None);
-    }
     match arguments {
         Ok(arguments) => {
             let source = SourceText::Host(place, arguments);

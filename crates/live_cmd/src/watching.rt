@@ -7,9 +7,10 @@ ghost use Rattle.live_cmd.specs.declared.line.Line.TheVariants as given;
 ghost use Rattle.live_cmd.specs.Grammar as rows;
 ghost use Rattle.live_cmd.specs.Views.{found_as, found_first};
 
+use crate::last::{name_last, value_last};
 use crate::line::{Found, LineKind, alone, faulty};
 use crate::{Command, Try};
-use line_forms::{ends_at, name_at, names_at, value_at, word_at};
+use line_forms::{ends_at, name_at, names_at, word_at};
 use sig_base::{Name, NoMemory};
 use sig_words::Token;
 use std::alloc::Global;
@@ -28,13 +29,9 @@ fn trying(name: Name, tried: Try) -> Found
 fn watcher(alloc: Global, line: &[u8], tokens: &[Token]) -> Result<Option<Found>, NoMemory>
     ensures { IfOk result (λ found. found ≡ found_as rows.watcher (ahead line.now tokens.now 1)) }
 {
-    let at = 1;
-    let Some((name, at)) = name_at(alloc, line, tokens, at)? else {
+    let Some(name) = name_last(alloc, line, tokens, 1)? else {
         return Ok(None);
     };
-    if !ends_at(tokens, at) {
-        return Ok(None);
-    }
     Ok(Some(alone(Command::Watcher { name, tries: None })))
 }
 
@@ -52,12 +49,9 @@ fn tries_get(alloc: Global, line: &[u8], tokens: &[Token]) -> Result<Option<Foun
     let Some(at) = word_at(line, tokens, at, b"get") else {
         return Ok(None);
     };
-    let Some((read, at)) = name_at(alloc, line, tokens, at)? else {
+    let Some(read) = name_last(alloc, line, tokens, at)? else {
         return Ok(None);
     };
-    if !ends_at(tokens, at) {
-        return Ok(None);
-    }
     Ok(Some(trying(name, Try::Get(read))))
 }
 
@@ -79,12 +73,9 @@ fn tries_set(alloc: Global, line: &[u8], tokens: &[Token]) -> Result<Option<Foun
     let Some((cell, at)) = name_at(alloc, line, tokens, at)? else {
         return Ok(None);
     };
-    let Some((value, at)) = value_at(alloc, line, tokens, at)? else {
+    let Some(value) = value_last(alloc, line, tokens, at)? else {
         return Ok(None);
     };
-    if !ends_at(tokens, at) {
-        return Ok(None);
-    }
     match value {
         Ok(value) => Ok(Some(trying(name, Try::Set(cell, value)))),
         Err(fault) => Ok(Some(faulty(LineKind::Alone, fault))),
@@ -134,12 +125,9 @@ fn tries_unwatch(alloc: Global, line: &[u8], tokens: &[Token]) -> Result<Option<
     let Some((watcher, at)) = name_at(alloc, line, tokens, at)? else {
         return Ok(None);
     };
-    let Some((signal, at)) = name_at(alloc, line, tokens, at)? else {
+    let Some(signal) = name_last(alloc, line, tokens, at)? else {
         return Ok(None);
     };
-    if !ends_at(tokens, at) {
-        return Ok(None);
-    }
     Ok(Some(trying(name, Try::Unwatch(watcher, signal))))
 }
 
@@ -189,11 +177,8 @@ pub fn unwatch(alloc: Global, line: &[u8], tokens: &[Token]) -> Result<Option<Fo
     let Some((name, at)) = name_at(alloc, line, tokens, at)? else {
         return Ok(None);
     };
-    let Some((signal, at)) = name_at(alloc, line, tokens, at)? else {
+    let Some(signal) = name_last(alloc, line, tokens, at)? else {
         return Ok(None);
     };
-    if !ends_at(tokens, at) {
-        return Ok(None);
-    }
     Ok(Some(alone(Command::Unwatch { name, signal })))
 }

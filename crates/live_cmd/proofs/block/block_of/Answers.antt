@@ -13,8 +13,8 @@ pub returns-in_default-2 : goal.returns-in_default-2
 returns-in_default-2 c =
     no_head_held c.args.lines.now c.in-Some.first c.in-Some.last c.in-Some.inner.now c.in-Some.ensures (rw c.in_default-2.is at c.in_ok-head.ensures)
 
-pub content_of-requires : goal.content_of-requires
-content_of-requires c =
+pub content_held-requires : goal.content_held-requires
+content_held-requires c =
     (all_parted (λ l. length l.text.now ≤ MOST_LINE) c.args.lines.now c.in-Some.first c.in-Some.inner.now c.in-Some.last c.in-Some.ensures c.requires).1
 
 pub is_end-requires : goal.is_end-requires
@@ -23,5 +23,5 @@ is_end-requires c = (all_parted (λ l. length l.text.now ≤ MOST_LINE) c.args.l
 pub returns : goal.returns
 returns c =
     block_held c.args.lines.now c.in-Some.first c.in-Some.last c.in-Some.inner.now c.in-Some-2.head c.in_ok-ends.ends
-    c.in_ok-content.content c.block_item.result c.in-Some.ensures (rw c.in-Some-2.is at c.in_ok-head.ensures) c.in_ok-ends.ensures
+    c.in_ok-content.content.value c.block_item.result c.in-Some.ensures (rw c.in-Some-2.is at c.in_ok-head.ensures) c.in_ok-ends.ensures
     c.in_ok-content.ensures c.block_item.ensures

@@ -7,4 +7,4 @@ returns-in_default c = let h = rw c.in_default.is at c.in_ok-found.ensures in he
 pub returns : goal.returns
 returns c =
     let h = rw c.in-Some.is at c.in_ok-found.ensures in
-    rw c.head_told-head.ensures (head_found c.args.line.now c.in-Some.found h)
+    rw (c.in_ok-head.ensures, c.deref.ensures) (head_found c.args.line.now c.in-Some.found.value h)

@@ -7,4 +7,4 @@ returns-in_default c = let h = rw c.in_default.is at c.in_ok-found.ensures in en
 pub returns : goal.returns
 returns c =
     let h = rw c.in-Some.is at c.in_ok-found.ensures in
-    rw c.end_told-ends.ensures (end_found c.args.line.now c.in-Some.found h)
+    rw (c.end_told-ends.ensures, c.deref.ensures) (end_found c.args.line.now c.in-Some.found.value h)

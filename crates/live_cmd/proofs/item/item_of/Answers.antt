@@ -1,8 +1,7 @@
 use Rattle.std.proofs.Common.{sym}
 use Rattle.script_lines.specs.Views.{piece_of}
-use Rattle.live_cmd.specs.Items.{faulty}
-use Rattle.live_cmd.proofs.Items.{is_block, is_unended, is_judged}
-use Rattle.live_cmd.proofs.LineByLine.{is_long, none_long, all_short}
+use Rattle.live_cmd.proofs.Items.{is_block, is_plain, is_unended}
+use Rattle.live_cmd.proofs.Lengths.{is_long, none_long, all_short}
 use Rattle.live_cmd.proofs.item.item_of.Goals as goal
 
 pub returns-then-any_long : goal.returns-then-any_long
@@ -27,24 +26,16 @@ returns-in-Some c =
     is_block (piece_of c.args.piece.now) c.in-Some.item (none_long c.args.piece.now (sym (rw value at c.if-any_long.ensures))) c.if-not-piece.false
     (rw (c.in-Some.is, third) at c.in_ok-item.ensures)
 
-pub read_lines-requires : goal.read_lines-requires
-read_lines-requires c =
+pub plain_item-requires : goal.plain_item-requires
+plain_item-requires c =
     let value = c.deref.ensures.value in
     let last = c.deref-4.ensures.value in
     rw last (all_short c.args.piece.now.lines.items (none_long c.args.piece.now (sym (rw value at c.if-any_long.ensures))))
 
-pub returns-in-Faulty : goal.returns-in-Faulty
-returns-in-Faulty c =
+pub returns : goal.returns
+returns c =
     let value = c.deref.ensures.value in
     let third = c.deref-3.ensures.value in
     let last = c.deref-4.ensures.value in
-    faulty c.in-Faulty.number (none_long c.args.piece.now (sym (rw value at c.if-any_long.ensures))) c.if-not-piece.false
-    (rw (c.in_default.is, third) at c.in_ok-item.ensures) (rw (c.in-Faulty.is, last) at c.in_ok-number.ensures)
-
-pub returns-in-Said : goal.returns-in-Said
-returns-in-Said c =
-    let value = c.deref.ensures.value in
-    let again = c.deref-2.ensures.value in
-    let last = c.deref-4.ensures.value in
-    is_judged (piece_of c.args.piece.now) c.in-Said.lines.items c.first_number-first.result c.judged.result (none_long c.args.piece.now (sym (rw value at c.if-any_long.ensures))) c.if-not-piece.false
-    (rw (c.in-Said.is, last) at c.in_ok-number.ensures) (rw again at c.first_number-first.ensures) c.judged.ensures
+    is_plain (piece_of c.args.piece.now) c.in_ok-item-2.item (none_long c.args.piece.now (sym (rw value at c.if-any_long.ensures))) c.if-not-piece.false
+    (rw (c.in_default.is, third) at c.in_ok-item.ensures) (rw last at c.in_ok-item-2.ensures)
