@@ -2,7 +2,7 @@ mod Marks
 mod Rows
 mod Siblings
 mod Walks
-mod Compared
+mod Comparison
 mod Covering
 pub mod SharedComparing
 mod Sides

@@ -1,3 +1,3 @@
 -- What crates above may cite of these proofs.
 
-pub use Rattle.tpl_comparing.proofs.Compared.{compare_law}
+pub use Rattle.tpl_comparing.proofs.Comparison.{compare_law}
