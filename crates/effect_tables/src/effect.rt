@@ -14,15 +14,19 @@ use std::rc::Rc;
 pub const MOST_STATEMENTS: usize = 64;
 
 /// A body, and what its places stand for.
-#[derive(Drop)]
 pub struct Script {
     pub body: Body,
     pub links: Links,
 }
 
+impl Drop for Script {
+    fn drop(self) {
+        let Script { body: _, links: _ } = self;
+    }
+}
+
 /// An effect: the row of the store that has what stands under it; the named effect with which its body was made, and that body; the
 /// places of nested effects that lead from there to its own; and the tracked reads of its last run, where it has run.
-#[derive(Drop)]
 pub struct Effect {
     pub id: EffectId,
     pub row: OwnerId,
@@ -32,13 +36,35 @@ pub struct Effect {
     pub kept: Option<Vec<Read>>,
 }
 
+impl Drop for Effect {
+    fn drop(self) {
+        let Effect {
+            id: _,
+            row: _,
+            origin: _,
+            script: _,
+            path: _,
+            kept: _,
+        } = self;
+    }
+}
+
 /// Where a body stands: the named effect with which it was made, the script of that effect, and the places of nested effects that lead
 /// from there to the body.
-#[derive(Drop)]
 pub struct Site {
     pub origin: EffectId,
     pub script: Rc<Script>,
     pub path: Vec<usize>,
+}
+
+impl Drop for Site {
+    fn drop(self) {
+        let Site {
+            origin: _,
+            script: _,
+            path: _,
+        } = self;
+    }
 }
 
 // A script that is to be shared.

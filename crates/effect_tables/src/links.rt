@@ -11,17 +11,32 @@ pub enum Target {
 }
 
 /// The signals of a rewiring's own names, in order.
-#[derive(Drop)]
 pub struct Slots {
     pub ids: Vec<NodeId>,
 }
 
+impl Drop for Slots {
+    fn drop(self) {
+        let Slots { ids: _ } = self;
+    }
+}
+
 /// What the places of a body stand for, each list in the order of the body's own: its names, its targets, its nested effects, and
 /// the names of its rewirings.
-#[derive(Drop)]
 pub struct Links {
     pub names: Vec<NodeId>,
     pub targets: Vec<Target>,
     pub inner: Vec<Links>,
     pub rewires: Vec<Slots>,
+}
+
+impl Drop for Links {
+    fn drop(self) {
+        let Links {
+            names: _,
+            targets: _,
+            inner: _,
+            rewires: _,
+        } = self;
+    }
 }

@@ -24,7 +24,6 @@ pub struct OwnerEntry {
 
 /// Owners, effects and pages. The store has what stands under what, by rows of its own, and `things` says which thing each row is. All
 /// owners that were made are listed, each at the place that is its number; of effects and pages those that live, in the order of making.
-#[derive(Drop)]
 pub struct Tables {
     pub store: Owners,
     pub things: Vec<Thing>,
@@ -33,6 +32,20 @@ pub struct Tables {
     pub pages: Vec<PageId>,
     pub effects_made: u128,
     pub pages_made: u128,
+}
+
+impl Drop for Tables {
+    fn drop(self) {
+        let Tables {
+            store: _,
+            things: _,
+            owners: _,
+            effects: _,
+            pages: _,
+            effects_made: _,
+            pages_made: _,
+        } = self;
+    }
 }
 
 impl Tables {

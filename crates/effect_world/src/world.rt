@@ -15,10 +15,18 @@ use std::alloc::Global;
 
 /// Signals and who watches them, and owners, effects and pages. Host formulas and equality rules stay with the caller, who hands in those
 /// that a call needs.
-#[derive(Drop)]
 pub struct World {
     pub signals: Signals,
     pub tables: Tables,
+}
+
+impl Drop for World {
+    fn drop(self) {
+        let World {
+            signals: _,
+            tables: _,
+        } = self;
+    }
 }
 
 impl World {

@@ -5,9 +5,14 @@ use sig_base::Name;
 use std::marker::Model;
 
 /// Names in their order.
-#[derive(Drop)]
 pub struct NameList {
     names: Vec<Name>,
+}
+
+impl Drop for NameList {
+    fn drop(self) {
+        let NameList { names: _ } = self;
+    }
 }
 
 impl Model for NameList {

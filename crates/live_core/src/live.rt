@@ -33,13 +33,24 @@ pub trait Running {
 
 /// The names, signals, watchers, owners, effects, templates and pages of a script, with the host formulas and the equality rules. It does
 /// one command after the other.
-#[derive(Drop)]
 pub struct Live {
     machine: machine::Machine,
     shelf: Shelf,
     rules: Vec<EqualsRule>,
     done: u64,
     broken: bool,
+}
+
+impl Drop for Live {
+    fn drop(self) {
+        let Live {
+            machine: _,
+            shelf: _,
+            rules: _,
+            done: _,
+            broken: _,
+        } = self;
+    }
 }
 
 impl Running for Live {

@@ -6,9 +6,14 @@ use std::alloc::Global;
 use std::marker::Model;
 
 /// The numbers of child effects, each of a child of the one before.
-#[derive(Drop)]
 pub struct ChildPath {
     numbers: Vec<u64>,
+}
+
+impl Drop for ChildPath {
+    fn drop(self) {
+        let ChildPath { numbers: _ } = self;
+    }
 }
 
 impl Model for ChildPath {
@@ -37,10 +42,15 @@ impl ChildPath {
 
 /// What an effect or another thing is called in what is told: its name, or for a child effect the name of the effect that a command made,
 /// and behind it, for each child on the way down, the number that it has among the children which one run of its parent makes, from 1.
-#[derive(Drop)]
 pub struct Label {
     pub name: Name,
     pub path: ChildPath,
+}
+
+impl Drop for Label {
+    fn drop(self) {
+        let Label { name: _, path: _ } = self;
+    }
 }
 
 impl Label {

@@ -10,9 +10,14 @@ use std::marker::Model;
 use std::rc::Rc;
 
 /// The HTML of a page. Its copies share the bytes.
-#[derive(Drop)]
 pub struct PageBytes {
     shared: Rc<Vec<u8>>,
+}
+
+impl Drop for PageBytes {
+    fn drop(self) {
+        let PageBytes { shared: _ } = self;
+    }
 }
 
 impl Model for PageBytes {
@@ -52,9 +57,14 @@ impl PageBytes {
 }
 
 /// An operation on a page. Contracts see what it does, and not where its parts lie in memory.
-#[derive(Drop)]
 pub struct PageOp {
     op: Op,
+}
+
+impl Drop for PageOp {
+    fn drop(self) {
+        let PageOp { op: _ } = self;
+    }
 }
 
 impl Model for PageOp {

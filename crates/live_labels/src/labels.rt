@@ -11,13 +11,24 @@ use std::alloc::Global;
 pub type EffectLabel = (EffectId, Label);
 
 /// The names of signals, owners, pages and watchers, each at its number, and the labels of effects with their numbers.
-#[derive(Drop)]
 pub struct Labels {
     pub signals: Vec<Name>,
     pub owners: Vec<Name>,
     pub pages: Vec<Name>,
     pub watchers: Vec<Name>,
     pub effects: Vec<EffectLabel>,
+}
+
+impl Drop for Labels {
+    fn drop(self) {
+        let Labels {
+            signals: _,
+            owners: _,
+            pages: _,
+            watchers: _,
+            effects: _,
+        } = self;
+    }
 }
 
 impl Labels {

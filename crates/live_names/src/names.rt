@@ -9,9 +9,14 @@ use std::alloc::Global;
 use std::marker::Model;
 
 /// The names that were made and what they stand for, in order of making.
-#[derive(Drop)]
 pub struct Names {
     meanings: IndexMap<Name, Meaning>,
+}
+
+impl Drop for Names {
+    fn drop(self) {
+        let Names { meanings: _ } = self;
+    }
 }
 
 impl Model for Names {

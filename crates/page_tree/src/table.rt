@@ -19,11 +19,20 @@ pub enum Label {
 }
 
 /// What a node is and where it stands: under which parent, above which children.
-#[derive(Drop)]
 pub struct Node {
     pub label: Label,
     pub parent: u64,
     pub children: Vec<u64>,
+}
+
+impl Drop for Node {
+    fn drop(self) {
+        let Node {
+            label: _,
+            parent: _,
+            children: _,
+        } = self;
+    }
 }
 
 // ---- lists of children and of attributes

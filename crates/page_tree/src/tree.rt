@@ -37,9 +37,14 @@ pub enum NodeKind {
 }
 
 /// A numbered tree below a root, whose number is 0.
-#[derive(Drop)]
 pub struct Tree {
     nodes: IndexMap<u64, Node>,
+}
+
+impl Drop for Tree {
+    fn drop(self) {
+        let Tree { nodes: _ } = self;
+    }
 }
 
 impl Model for Tree {

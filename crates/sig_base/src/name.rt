@@ -32,9 +32,14 @@ impl From<AllocError> for NameFault {
 }
 
 /// A name of a script. Its copies share the bytes.
-#[derive(Drop)]
 pub struct Name {
     shared: RcStr,
+}
+
+impl Drop for Name {
+    fn drop(self) {
+        let Name { shared: _ } = self;
+    }
 }
 
 impl Model for Name {

@@ -11,9 +11,14 @@ use std::marker::Model;
 use std::rc::Rc;
 
 /// A list of scalars. Its copies share it.
-#[derive(Drop)]
 pub struct Scalars {
     shared: Rc<Vec<Scalar>>,
+}
+
+impl Drop for Scalars {
+    fn drop(self) {
+        let Scalars { shared: _ } = self;
+    }
 }
 
 impl Model for Scalars {
@@ -54,10 +59,15 @@ impl Scalars {
 }
 
 /// A row: its key, and one value for each field.
-#[derive(Drop)]
 pub struct Row {
     pub key: Text,
     pub values: Scalars,
+}
+
+impl Drop for Row {
+    fn drop(self) {
+        let Row { key: _, values: _ } = self;
+    }
 }
 
 impl Row {
@@ -87,10 +97,15 @@ impl Eq for Row {
 }
 
 /// Named fields, and rows in order under distinct keys with one value for each field. Copies share both lists.
-#[derive(Drop)]
 pub struct Rows {
     fields: Rc<Vec<Name>>,
     rows: Rc<Vec<Row>>,
+}
+
+impl Drop for Rows {
+    fn drop(self) {
+        let Rows { fields: _, rows: _ } = self;
+    }
 }
 
 impl Model for Rows {

@@ -31,9 +31,14 @@ impl From<AllocError> for TextFault {
 }
 
 /// A text of at most `MOST_TEXT` bytes of UTF-8. Its copies share them.
-#[derive(Drop)]
 pub struct Text {
     shared: RcStr,
+}
+
+impl Drop for Text {
+    fn drop(self) {
+        let Text { shared: _ } = self;
+    }
 }
 
 impl Model for Text {

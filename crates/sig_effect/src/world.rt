@@ -14,10 +14,18 @@ use sig_watcher::Watchers;
 use std::alloc::Global;
 
 /// Signals, and who watches them. Host formulas and equality rules stay with the caller, who hands in those that a call needs.
-#[derive(Drop)]
 pub struct World {
     pub graph: Graph,
     pub watchers: Watchers,
+}
+
+impl Drop for World {
+    fn drop(self) {
+        let World {
+            graph: _,
+            watchers: _,
+        } = self;
+    }
 }
 
 impl World {

@@ -9,7 +9,6 @@ use sig_base::Value;
 /// The closure may be called on any two values. It answers yes to two whole numbers that are at most
 /// `slack` apart, and otherwise to the same value twice. Whoever makes a rule proves both, as by
 /// `|a: &Value, b: &Value| alike(5, a, b)` beside a slack of 5.
-#[derive(Drop)]
 pub struct EqualsRule {
     /// How far apart two whole numbers may be.
     pub slack: u64,
@@ -19,6 +18,12 @@ pub struct EqualsRule {
     pub ghost callable: { IsAlwaysCallable call },
     /// It answers by the slack.
     pub ghost answers: { (a : _) (b : _) (r : _) → post call a b r → r ≡ is_alike slack a.now b.now },
+}
+
+impl Drop for EqualsRule {
+    fn drop(self) {
+        let EqualsRule { slack: _, call: _ } = self;
+    }
 }
 
 impl EqualsRule {

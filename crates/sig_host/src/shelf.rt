@@ -35,16 +35,26 @@ trait LentPlace {
 }
 
 // A place, which keeps its formula until that is dropped.
-#[derive(Drop)]
 struct Place {
     host: Option<Box<dyn HostFormula>>,
     count: u128,
 }
 
+impl Drop for Place {
+    fn drop(self) {
+        let Place { host: _, count: _ } = self;
+    }
+}
+
 /// The host formulas by their places, which are those of the list that was handed in.
-#[derive(Drop)]
 pub struct Shelf {
     places: Vec<Place>,
+}
+
+impl Drop for Shelf {
+    fn drop(self) {
+        let Shelf { places: _ } = self;
+    }
 }
 
 impl LentPlace for Place {

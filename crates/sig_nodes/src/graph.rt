@@ -20,7 +20,6 @@ use std::alloc::Global;
 use std::marker::Model;
 
 /// Signals: cells and computeds, with what is kept of the computeds' evaluations.
-#[derive(Drop)]
 pub struct Graph {
     pub(crate) alloc: Global,
     pub(crate) nodes: Vec<Node>,
@@ -28,6 +27,19 @@ pub struct Graph {
     pub(crate) generation: u128,
     pub(crate) looked: u128,
     pub(crate) worn: u128,
+}
+
+impl Drop for Graph {
+    fn drop(self) {
+        let Graph {
+            alloc: _,
+            nodes: _,
+            seats: _,
+            generation: _,
+            looked: _,
+            worn: _,
+        } = self;
+    }
 }
 
 impl Model for Graph {

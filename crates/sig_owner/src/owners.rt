@@ -22,12 +22,22 @@ use std::alloc::Global;
 use std::marker::Model;
 
 /// Owners, and effects with the owner that was made for each: what stands under what, and the cleanups that are noted there.
-#[derive(Drop)]
 pub struct Owners {
     alloc: Global,
     holders: Vec<Holder>,
     owners: usize,
     places: IndexMap<Thing, OwnerId>,
+}
+
+impl Drop for Owners {
+    fn drop(self) {
+        let Owners {
+            alloc: _,
+            holders: _,
+            owners: _,
+            places: _,
+        } = self;
+    }
 }
 
 impl Model for Owners {

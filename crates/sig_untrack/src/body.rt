@@ -34,22 +34,42 @@ pub enum Recipe2 {
 }
 
 /// A computed, by its place among the targets of the body, and what it is computed by from then on.
-#[derive(Drop)]
 pub struct Rewire {
     pub target: u32,
     pub recipe: Recipe2,
     pub names: Vec<Name>,
 }
 
+impl Drop for Rewire {
+    fn drop(self) {
+        let Rewire {
+            target: _,
+            recipe: _,
+            names: _,
+        } = self;
+    }
+}
+
 /// The body of an effect: its statements, the names that they act on, the names in their formulas, the bodies of its nested effects,
 /// and its rewirings.
-#[derive(Drop)]
 pub struct Body {
     pub statements: Vec<Stmt>,
     pub targets: Vec<Name>,
     pub names: Vec<Name>,
     pub effects: Vec<Body>,
     pub rewires: Vec<Rewire>,
+}
+
+impl Drop for Body {
+    fn drop(self) {
+        let Body {
+            statements: _,
+            targets: _,
+            names: _,
+            effects: _,
+            rewires: _,
+        } = self;
+    }
 }
 
 /// What a body wants done, with numbers as in its statements.

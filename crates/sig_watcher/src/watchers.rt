@@ -19,11 +19,20 @@ use std::alloc::Global;
 use std::marker::Model;
 
 /// Watchers, with the signals that each watches. Signals that are disposed are to be forgotten.
-#[derive(Drop)]
 pub struct Watchers {
     alloc: Global,
     watchers: Vec<Watcher>,
     made: u128,
+}
+
+impl Drop for Watchers {
+    fn drop(self) {
+        let Watchers {
+            alloc: _,
+            watchers: _,
+            made: _,
+        } = self;
+    }
 }
 
 impl Model for Watchers {

@@ -50,9 +50,14 @@ fn find_all(outcomes: &IndexMap<NodeId, Outcome>)
 }
 
 /// The names that were heard, in this order, and their outcomes.
-#[derive(Drop)]
 pub struct Outcomes {
     outcomes: IndexMap<NodeId, Outcome>,
+}
+
+impl Drop for Outcomes {
+    fn drop(self) {
+        let Outcomes { outcomes: _ } = self;
+    }
 }
 
 impl Model for Outcomes {

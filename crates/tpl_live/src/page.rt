@@ -34,13 +34,24 @@ use tpl_renewing::{Renewed, names_stay, renew};
 use tpl_syntax::Template;
 
 /// A page that is made from a template and stands on signals: what it keeps of the template's lines and of the names that it read, and its nodes.
-#[derive(Drop)]
 pub struct Page {
     lines: Block,
     links: Vec<NodeId>,
     heard: Outcomes,
     memo: PageMemo,
     nodes: PageNodes,
+}
+
+impl Drop for Page {
+    fn drop(self) {
+        let Page {
+            lines: _,
+            links: _,
+            heard: _,
+            memo: _,
+            nodes: _,
+        } = self;
+    }
 }
 
 impl Page {

@@ -7,11 +7,20 @@ use page_tree::Tree;
 use tpl_shapes::Address;
 
 /// A page's nodes: their tree, the numbers that were noted of addresses, and the next unused number.
-#[derive(Drop)]
 pub struct PageNodes {
     pub tree: Tree,
     pub numbers: Numbers,
     pub next: u64,
+}
+
+impl Drop for PageNodes {
+    fn drop(self) {
+        let PageNodes {
+            tree: _,
+            numbers: _,
+            next: _,
+        } = self;
+    }
 }
 
 impl PageNodes {

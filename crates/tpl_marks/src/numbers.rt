@@ -53,10 +53,15 @@ fn note(all: &mut IndexMap<Address, u64>, address: Address, number: u64) -> Resu
 }
 
 /// The numbers that were noted of addresses: that of each node of a page, and of some that are gone, until they are read off anew.
-#[derive(Drop)]
 pub struct Numbers {
     all: IndexMap<Address, u64>,
     read: usize,
+}
+
+impl Drop for Numbers {
+    fn drop(self) {
+        let Numbers { all: _, read: _ } = self;
+    }
 }
 
 impl Numbers {

@@ -7,10 +7,18 @@ use sig_base::{NoMemory, NodeId, Outcome};
 use std::alloc::Global;
 
 /// What a formula of a line read, by name and in order, and what it came to.
-#[derive(Drop)]
 pub struct Heard {
     pub names: Vec<NodeId>,
     pub outcome: Outcome,
+}
+
+impl Drop for Heard {
+    fn drop(self) {
+        let Heard {
+            names: _,
+            outcome: _,
+        } = self;
+    }
 }
 
 /// What is kept of lines one after the other, each with what was heard of it and what is kept inside it.

@@ -8,9 +8,14 @@ use sig_base::NoMemory;
 use std::alloc::Global;
 
 /// A set of numbers.
-#[derive(Drop)]
 pub struct NumberSet {
     numbers: IndexSet<u64>,
+}
+
+impl Drop for NumberSet {
+    fn drop(self) {
+        let NumberSet { numbers: _ } = self;
+    }
 }
 
 impl NumberSet {

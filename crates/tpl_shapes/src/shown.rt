@@ -12,10 +12,16 @@ use sig_base::{NoMemory, Text};
 use std::alloc::Global;
 
 /// Where a node comes from: the ordinal of its line in the template, and the key of its row where the line stands in one.
-#[derive(Drop, Hash)]
+#[derive(Hash)]
 pub struct Address {
     pub line: usize,
     pub key: Option<Text>,
+}
+
+impl Drop for Address {
+    fn drop(self) {
+        let Address { line: _, key: _ } = self;
+    }
 }
 
 // Whether two keys are one, or there is none.
@@ -70,11 +76,20 @@ pub enum Look {
 }
 
 /// A node that lines show, with all below it.
-#[derive(Drop)]
 pub struct Shown {
     pub address: Address,
     pub look: Look,
     pub children: Vec<Shown>,
+}
+
+impl Drop for Shown {
+    fn drop(self) {
+        let Shown {
+            address: _,
+            look: _,
+            children: _,
+        } = self;
+    }
 }
 
 impl Shown {

@@ -8,10 +8,15 @@ use sig_base::Name;
 use std::marker::Model;
 
 /// What a page is made of: lines, each where it may stand, and the names that their formulas read. It comes from `read_template` alone.
-#[derive(Drop)]
 pub struct Template {
     pub(crate) names: Vec<Name>,
     pub(crate) lines: Vec<TplLine>,
+}
+
+impl Drop for Template {
+    fn drop(self) {
+        let Template { names: _, lines: _ } = self;
+    }
 }
 
 impl Model for Template {
