@@ -56,6 +56,32 @@ fn names(alloc: Global, reads: &[Read]) -> Result<Vec<NodeId>, NoMemory>
     Ok(all)
 }
 
+// Keeps a run in the graph.
+fn keep_in(alloc: Global, graph: &mut Graph, node: NodeId, ran: &Ran) -> Result<(), NoMemory>
+    requires computing { is_computing graph.old.state node ≡ true }
+    requires given { AreReadsGiven graph.old (evaluation_of ran.now).reads }
+    requires worn { CanWear graph.old.state }
+    ensures { OnOk result (IsKept graph.old graph.new node (evaluation_of ran.now)) }
+{
+    let sources = names(alloc, &ran.reads)?;
+    let outcome = ran.outcome.copy()?;
+    graph.keep_run(node, outcome, sources)?;
+    Ok(())
+}
+
+// Notes a run.
+fn tell_run(alloc: Global, notes: &mut Vec<RunNote>, node: NodeId, ran: Ran) -> Result<(), NoMemory>
+    ensures { OnOk result (map note_of notes.new.items ≡ map note_of notes.old.items ++ evaluation_note node (evaluation_of ran) ∷ []) }
+{
+    let reads = names(alloc, &ran.reads)?;
+    notes.push(RunNote {
+        id: node,
+        reads,
+        outcome: ran.outcome,
+    })?;
+    Ok(())
+}
+
 // Keeps a run, and notes it.
 fn keep(
     alloc: Global,
@@ -70,15 +96,8 @@ fn keep(
     ensures after { OnOk result (IsKept graph.old graph.new node (evaluation_of ran)) }
     ensures notes { OnOk result (map note_of notes.new.items ≡ map note_of notes.old.items ++ evaluation_note node (evaluation_of ran) ∷ []) }
 {
-    let outcome = ran.outcome.copy()?;
-    let reads = names(alloc, &ran.reads)?;
-    let sources = names(alloc, &ran.reads)?;
-    graph.keep_run(node, outcome, sources)?;
-    notes.push(RunNote {
-        id: node,
-        reads,
-        outcome: ran.outcome,
-    })?;
+    keep_in(alloc, graph, node, &ran)?;
+    tell_run(alloc, notes, node, ran)?;
     Ok(())
 }
 

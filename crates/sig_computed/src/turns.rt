@@ -1,5 +1,5 @@
 // One step of a frame: a look at a kept source, an answer of the recipe, or a slot that was waited for.
-ghost use Rattle.std.specs.Prelude.{◌≡◌, ◌<◌, ℕ, ◌∷◌, [], true, false, List, Some, None, IfOk, IfSome, OnOk, map, drop, length, slice_index};
+ghost use Rattle.std.specs.Prelude.{◌≡◌, ◌<◌, ℕ, ◌++◌, ◌∷◌, [], true, false, List, Some, None, IfOk, IfSome, OnOk, map, drop, length, slice_index};
 ghost use Rattle.signal_model.specs.Recipes.{Hosts, IsJudged};
 ghost use Rattle.signal_model.specs.Standing.{standing, is_in};
 ghost use Rattle.signal_model.specs.Memos.{holds_cycle, memo_of, sources_of};
@@ -129,6 +129,15 @@ fn ended(reads: Vec<Read>, outcome: Outcome) -> Turn
     Turn::Ends(Ran { reads, outcome })
 }
 
+// A source is read as an outcome: it stands behind what was read before.
+fn add_read(reads: &mut Vec<Read>, id: NodeId, outcome: &Outcome) -> Result<(), NoMemory>
+    ensures { OnOk result (map seen_of reads.new.items ≡ map seen_of reads.old.items ++ (record { name = id; outcome = outcome.now }) ∷ []) }
+{
+    let outcome = outcome.copy()?;
+    reads.push(Read { id, outcome })?;
+    Ok(())
+}
+
 // A slot is read as an outcome: a good value is told to the recipe, and a fault ends the run.
 fn tell(
     slot: u32,
@@ -141,23 +150,13 @@ fn tell(
 {
     let mut known = known;
     let mut reads = reads;
+    add_read(&mut reads, id, &outcome)?;
     match outcome {
         Outcome::Good(value) => {
-            let seen = value.copy()?;
             known.push(Known { slot, value })?;
-            reads.push(Read {
-                id,
-                outcome: Outcome::Good(seen),
-            })?;
             Ok(Turn::GoesOn(Doing::Running(known, reads)))
         }
-        Outcome::Bad(fault) => {
-            reads.push(Read {
-                id,
-                outcome: Outcome::Bad(fault),
-            })?;
-            Ok(ended(reads, Outcome::Bad(fault)))
-        }
+        Outcome::Bad(fault) => Ok(ended(reads, Outcome::Bad(fault))),
     }
 }
 

@@ -6,23 +6,23 @@ use Rattle.sig_computed.specs.declared.frames.Read.{Read}
 use Rattle.sig_computed.specs.Views.{seen_of}
 use Rattle.sig_computed.proofs.Fitting.{names_given}
 use Rattle.sig_computed.proofs.Runs.{kept_run}
-use Rattle.sig_computed.proofs.settling.keep.Goals as goal
+use Rattle.sig_computed.proofs.settling.keep_in.Goals as goal
 
 pub keep_run-requires-clause-given : goal.keep_run-requires-clause-given
 keep_run-requires-clause-given c =
     subst (All (λ n. is_given c.args.graph.now n ≡ true))
-    (sym (c.in_ok-sources.ensures ∙ ap (λ (rs : List Read). names_of (map seen_of rs)) c.deref-2.ensures.value))
-    (names_given c.args.graph.now (map seen_of c.args.ran.reads.items) c.requires.given)
+    (sym (c.in_ok-sources.ensures ∙ ap (λ (rs : List Read). names_of (map seen_of rs)) c.deref.ensures.value))
+    (names_given c.args.graph.now (map seen_of c.args.ran.now.reads.items) c.requires.given)
 
-pub returns-clause-after : goal.returns-clause-after
-returns-clause-after c =
+pub returns : goal.returns
+returns c =
     let a = c.in_ok-keep_run.ensures.after in
     record {
       signals = ap (λ (s : State). s.signals) a.state;
       memos = ap (λ (s : State). s.memos) a.state
-          ∙ kept_run c.args.graph.now.state.memos c.args.node c.in_ok-outcome.outcome c.args.ran.outcome c.in_ok-sources.sources.items
-          (map seen_of c.args.ran.reads.items) c.in_ok-outcome.ensures
-          (c.in_ok-sources.ensures ∙ ap (λ (rs : List Read). names_of (map seen_of rs)) c.deref-2.ensures.value);
+          ∙ kept_run c.args.graph.now.state.memos c.args.node c.in_ok-outcome.outcome c.args.ran.now.outcome c.in_ok-sources.sources.items
+          (map seen_of c.args.ran.now.reads.items) c.in_ok-outcome.ensures
+          (c.in_ok-sources.ensures ∙ ap (λ (rs : List Read). names_of (map seen_of rs)) c.deref.ensures.value);
       progress = ap (λ (s : State). s.progress) a.state;
       worn = ap (λ (s : State). s.worn) a.state;
       seats = c.in_ok-keep_run.ensures.seats;
