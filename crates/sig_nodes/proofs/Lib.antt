@@ -7,3 +7,4 @@ pub mod Looking
 pub mod Searching
 pub mod Using
 pub mod Shared
+mod Found

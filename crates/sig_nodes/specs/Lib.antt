@@ -5,3 +5,4 @@ pub mod Nodes
 pub mod Seats
 pub mod Places
 pub mod Search
+pub mod Looks

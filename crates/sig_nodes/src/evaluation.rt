@@ -13,8 +13,8 @@ use crate::node::Memo;
 use crate::store::{begin_at, end_at, keep_memo_at, note_at};
 use sig_base::{Known, NoMemory, NodeId, Outcome};
 
-// One counted step more.
-fn counted(looked: u128) -> u128
+/// One counted step more.
+pub(crate) fn counted(looked: u128) -> u128
     ensures { result ≡ counted looked }
 {
     if looked < u128::MAX {

@@ -5,6 +5,7 @@ mod answers;
 mod bodies;
 mod errors;
 mod evaluation;
+mod finding;
 mod graph;
 mod looks;
 mod marks;
@@ -14,4 +15,5 @@ mod store;
 
 pub use answers::{Asked, Mark, Recipe, Standing};
 pub use errors::NodeFault;
+pub use finding::Look;
 pub use graph::Graph;

@@ -1,0 +1,18 @@
+-- What a look at a signal finds.
+use Rattle.std.specs.Prelude.{Bool, if◌then◌else◌}
+use Rattle.signal_model.specs.Standing.{Stands, IsGone, IsCell, IsComputed}
+use Rattle.signal_model.specs.Marks as marks
+use Rattle.sig_nodes.specs.declared.finding.Look.{Look}
+use Rattle.sig_nodes.specs.declared.finding.Look.TheVariants as look
+
+-- a mark, as a look finds it
+abbrev pub look_meant : marks.Mark → Look
+look_meant marks.Clean = look.Clean
+look_meant marks.Checked = look.Checked
+look_meant marks.Dirty = look.Dirty
+
+-- by what stands there, whether it is being evaluated, and its mark
+abbrev pub look_here : Stands → Bool → marks.Mark → Look
+look_here IsGone b m = look.Gone
+look_here (IsCell c) b m = look.Cell
+look_here (IsComputed c) b m = if b then look.Computing else look_meant m
