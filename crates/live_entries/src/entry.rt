@@ -15,7 +15,6 @@ pub enum Seen {
 }
 
 /// Something that a command tells.
-#[derive(Drop)]
 pub enum Entry {
     /// What a name comes to.
     Outcome(Name, Outcome),
@@ -49,4 +48,27 @@ pub enum Entry {
     Cleanup(Label),
     /// What has this label is gone.
     Gone(Label),
+}
+
+impl Drop for Entry {
+    fn drop(self) {
+        match self {
+            Entry::Outcome(_, _) => {}
+            Entry::State(_, _) => {}
+            Entry::Sources(_, _) => {}
+            Entry::Pending(_, _) => {}
+            Entry::Notify(_) => {}
+            Entry::Log(_) => {}
+            Entry::Fail(_, _) => {}
+            Entry::Drop(_, _) => {}
+            Entry::Op(_, _) => {}
+            Entry::Page(_, _) => {}
+            Entry::Scratch(_, _) => {}
+            Entry::Error(_) => {}
+            Entry::Run(_, _, _) => {}
+            Entry::Effect(_, _) => {}
+            Entry::Cleanup(_) => {}
+            Entry::Gone(_) => {}
+        }
+    }
 }

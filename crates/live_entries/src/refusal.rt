@@ -4,7 +4,6 @@ use line_forms::NameList;
 use sig_base::{Name, Text};
 
 /// Why an item is refused: a rule and what it was broken at.
-#[derive(Drop)]
 pub enum Refusal {
     /// The line of this number isn't in the grammar, or begins a block that doesn't end.
     Syntax(u32),
@@ -50,13 +49,49 @@ pub enum Refusal {
     RulePlace(u64),
 }
 
+impl Drop for Refusal {
+    fn drop(self) {
+        match self {
+            Refusal::Syntax(_) => {}
+            Refusal::Unknown(_) => {}
+            Refusal::Taken(_) => {}
+            Refusal::Kind(_) => {}
+            Refusal::Gone(_) => {}
+            Refusal::Limit(_) => {}
+            Refusal::HostPlace(_) => {}
+            Refusal::HostTaken(_) => {}
+            Refusal::KeyTaken(_) => {}
+            Refusal::KeyMissing(_) => {}
+            Refusal::Place(_) => {}
+            Refusal::Field(_) => {}
+            Refusal::NotWatched(_) => {}
+            Refusal::Frozen(_) => {}
+            Refusal::UntrackHere(_) => {}
+            Refusal::ItHere(_) => {}
+            Refusal::VoidChild(_) => {}
+            Refusal::RawText(_) => {}
+            Refusal::Nest(_) => {}
+            Refusal::Turns => {}
+            Refusal::RulePlace(_) => {}
+        }
+    }
+}
+
 /// Why a field doesn't serve.
-#[derive(Drop)]
 pub enum FieldDetail {
     /// No field has this name.
     Field(Name),
     /// There are so many values, for another number of fields.
     Count(u64),
+}
+
+impl Drop for FieldDetail {
+    fn drop(self) {
+        match self {
+            FieldDetail::Field(_) => {}
+            FieldDetail::Count(_) => {}
+        }
+    }
 }
 
 /// What there may not be too much of.
