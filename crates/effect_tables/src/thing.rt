@@ -14,8 +14,16 @@ pub enum Thing {
 }
 
 /// One step of taking back: a cleanup that was noted under a thing is to be done, or a thing is gone.
-#[derive(Drop)]
 pub enum Undoing {
     Cleanup(Thing, CleanupAct),
     Gone(Thing),
+}
+
+impl Drop for Undoing {
+    fn drop(self) {
+        match self {
+            Undoing::Cleanup(_, _) => {}
+            Undoing::Gone(_) => {}
+        }
+    }
 }

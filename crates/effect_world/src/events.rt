@@ -5,7 +5,6 @@ use sig_base::{EffectId, Fault, NodeId, Value};
 use sig_effect::Event as SignalEvent;
 
 /// What is told on the way.
-#[derive(Drop)]
 pub enum Event {
     /// What signals and watchers tell: a run, a notification, the drop of a host formula.
     Signals(SignalEvent),
@@ -31,4 +30,25 @@ pub enum Event {
     },
     /// A cleanup of an effect is noted.
     Noted(EffectId),
+}
+
+impl Drop for Event {
+    fn drop(self) {
+        match self {
+            Event::Signals(_) => {}
+            Event::Log(_) => {}
+            Event::Body(_, _) => {}
+            Event::Fail(_, _) => {}
+            Event::Cleanup(_) => {}
+            Event::Gone(_) => {}
+            Event::RefusedGone(_) => {}
+            Event::RefusedHost(_) => {}
+            Event::Made {
+                child: _,
+                parent: _,
+                label: _,
+            } => {}
+            Event::Noted(_) => {}
+        }
+    }
 }

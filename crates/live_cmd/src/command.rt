@@ -98,7 +98,6 @@ pub enum SourceText {
 }
 
 /// What a watcher tries to do while it is notified.
-#[derive(Drop)]
 pub enum Try {
     /// `get N`
     Get(Name),
@@ -110,8 +109,18 @@ pub enum Try {
     Unwatch(Name, Name),
 }
 
+impl Drop for Try {
+    fn drop(self) {
+        match self {
+            Try::Get(_) => {}
+            Try::Set(_, _) => {}
+            Try::Watch(_, _) => {}
+            Try::Unwatch(_, _) => {}
+        }
+    }
+}
+
 /// An edit of a list's rows. A place is counted from 0.
-#[derive(Drop)]
 pub enum RowEdit {
     /// `insert N PLACE KEY (LIT, LIT)` puts a row so that it stands at a place.
     Insert {
@@ -129,6 +138,25 @@ pub enum RowEdit {
         field: Name,
         value: Scalar,
     },
+}
+
+impl Drop for RowEdit {
+    fn drop(self) {
+        match self {
+            RowEdit::Insert {
+                place: _,
+                key: _,
+                values: _,
+            } => {}
+            RowEdit::Remove(_) => {}
+            RowEdit::Move(_, _) => {}
+            RowEdit::Put {
+                key: _,
+                field: _,
+                value: _,
+            } => {}
+        }
+    }
 }
 
 /// A command of a script. What is made `inside` an owner is disposed with it.

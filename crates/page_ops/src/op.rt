@@ -8,7 +8,6 @@ use sig_base::{NoMemory, Text};
 use thiserror::Error;
 
 /// An operation on a numbered tree.
-#[derive(Drop)]
 pub enum Op {
     /// The node of a number, with all below it, is taken out.
     Remove(u64),
@@ -22,6 +21,19 @@ pub enum Op {
     Attr(u64, u64, Text, Text),
     /// The attribute of a name is taken out.
     Unattr(u64, Text),
+}
+
+impl Drop for Op {
+    fn drop(self) {
+        match self {
+            Op::Remove(_) => {}
+            Op::Insert(_, _, _) => {}
+            Op::Move(_, _) => {}
+            Op::Text(_, _) => {}
+            Op::Attr(_, _, _, _) => {}
+            Op::Unattr(_, _) => {}
+        }
+    }
 }
 
 /// Why an operation is refused, in the order in which the causes are looked for.

@@ -11,11 +11,20 @@ use indexmap::IndexMap;
 use sig_base::{NoMemory, Text};
 
 /// What a node is: the root, a text, or an element with its name and its attributes in order.
-#[derive(Drop)]
 pub enum Label {
     Root,
     Text(Text),
     Element(Text, Vec<(Text, Text)>),
+}
+
+impl Drop for Label {
+    fn drop(self) {
+        match self {
+            Label::Root => {}
+            Label::Text(_) => {}
+            Label::Element(_, _) => {}
+        }
+    }
 }
 
 /// What a node is and where it stands: under which parent, above which children.

@@ -11,7 +11,6 @@ pub enum Thing {
 }
 
 /// What is told on the way.
-#[derive(Drop)]
 pub enum Event {
     /// A computed ran.
     Run(RunNote),
@@ -23,4 +22,16 @@ pub enum Event {
     Dropped(usize, u128),
     /// A thing is gone.
     Gone(Thing),
+}
+
+impl Drop for Event {
+    fn drop(self) {
+        match self {
+            Event::Run(_) => {}
+            Event::Notify(_) => {}
+            Event::Frozen(_) => {}
+            Event::Dropped(_, _) => {}
+            Event::Gone(_) => {}
+        }
+    }
 }

@@ -4,11 +4,19 @@ use sig_base::Step;
 use sig_formula::Formula;
 
 /// What a computed asks.
-#[derive(Drop)]
 pub enum Recipe {
     Formula(Formula),
     /// The host formula at a place.
     Host(usize),
+}
+
+impl Drop for Recipe {
+    fn drop(self) {
+        match self {
+            Recipe::Formula(_) => {}
+            Recipe::Host(_) => {}
+        }
+    }
 }
 
 /// The answer of a recipe to the values known so far.

@@ -35,10 +35,18 @@ impl Eq for Thing {
 }
 
 /// What an effect notes, to be done when it is taken back: a cell is set, or a value is logged.
-#[derive(Drop)]
 pub enum CleanupAct {
     Set(NodeId, Scalar),
     Log(Value),
+}
+
+impl Drop for CleanupAct {
+    fn drop(self) {
+        match self {
+            CleanupAct::Set(_, _) => {}
+            CleanupAct::Log(_) => {}
+        }
+    }
 }
 
 impl CleanupAct {
@@ -54,8 +62,16 @@ impl CleanupAct {
 }
 
 /// One step of taking back: a cleanup that was noted under an owner is to be done, or a thing is gone.
-#[derive(Drop)]
 pub enum Undoing {
     Cleanup(OwnerId, CleanupAct),
     Gone(Thing),
+}
+
+impl Drop for Undoing {
+    fn drop(self) {
+        match self {
+            Undoing::Cleanup(_, _) => {}
+            Undoing::Gone(_) => {}
+        }
+    }
 }

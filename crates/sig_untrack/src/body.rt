@@ -25,12 +25,20 @@ pub enum Stmt {
 }
 
 /// What a computed is computed by.
-#[derive(Drop)]
 pub enum Recipe2 {
     /// A formula whose slots are places among the names of the rewiring.
     Formula(Formula),
     /// The host formula at a place, whose arguments are the names of the rewiring.
     Host(u64),
+}
+
+impl Drop for Recipe2 {
+    fn drop(self) {
+        match self {
+            Recipe2::Formula(_) => {}
+            Recipe2::Host(_) => {}
+        }
+    }
 }
 
 /// A computed, by its place among the targets of the body, and what it is computed by from then on.
@@ -73,7 +81,6 @@ impl Drop for Body {
 }
 
 /// What a body wants done, with numbers as in its statements.
-#[derive(Drop)]
 pub enum Act {
     Set(u32, Scalar),
     Log(Value),
@@ -82,6 +89,20 @@ pub enum Act {
     Effect(u32),
     Dispose(u32),
     Rewire(u32),
+}
+
+impl Drop for Act {
+    fn drop(self) {
+        match self {
+            Act::Set(_, _) => {}
+            Act::Log(_) => {}
+            Act::CleanupSet(_, _) => {}
+            Act::CleanupLog(_) => {}
+            Act::Effect(_) => {}
+            Act::Dispose(_) => {}
+            Act::Rewire(_) => {}
+        }
+    }
 }
 
 /// What a body answers: the first slot that it needs and doesn't know, and whether that read is tracked; all its acts, in order; or its

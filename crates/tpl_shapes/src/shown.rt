@@ -67,7 +67,6 @@ impl Address {
 }
 
 /// What a node below the root is and what it says.
-#[derive(Drop)]
 pub enum Look {
     /// A text.
     Text(Text),
@@ -75,21 +74,21 @@ pub enum Look {
     Element(Text, Vec<(Text, Option<Text>)>),
 }
 
+impl Drop for Look {
+    fn drop(self) {
+        match self {
+            Look::Text(_) => {}
+            Look::Element(_, _) => {}
+        }
+    }
+}
+
 /// A node that lines show, with all below it.
+#[derive(Drop)]
 pub struct Shown {
     pub address: Address,
     pub look: Look,
     pub children: Vec<Shown>,
-}
-
-impl Drop for Shown {
-    fn drop(self) {
-        let Shown {
-            address: _,
-            look: _,
-            children: _,
-        } = self;
-    }
 }
 
 impl Shown {
