@@ -67,7 +67,11 @@ fn an_effect_is_due_once_what_it_read_has_another_value(rt: HostRuntime) -> Resu
         assert!(rt; false);
         return Ok(());
     };
-    assert!(rt; matches!(acts.as_slice(), [Act::Set(0, Scalar::Int(2))]));
+    let [act] = acts.as_slice() else {
+        assert!(rt; false);
+        return Ok(());
+    };
+    assert!(rt; matches!(act, Act::Set(0, Scalar::Int(2))));
     let [read] = run.tracked.as_slice() else {
         assert!(rt; false);
         return Ok(());
