@@ -1,5 +1,5 @@
 // Signals, owners, effects and pages are made.
-ghost use Rattle.std.specs.Prelude.{◌≡◌, ◌+◌, ◌<◌, ◌≤◌, ◌^◌, ◌⊎◌, ℕ, true, false, [], List, None, Some, IfOk, IfErr, IsErrOf, OnOk, length};
+ghost use Rattle.std.specs.Prelude.{◌≡◌, ◌+◌, ◌<◌, ◌≤◌, ◌^◌, ◌⊎◌, ◌↔◌, ℕ, true, false, [], List, None, Some, IfOk, IfErr, IsErrOf, OnOk, length};
 ghost use Rattle.std.specs.List.{All};
 ghost use Rattle.sig_base.specs.declared.limits.TheConstants.{MOST_NODES, MOST_PAGES};
 ghost use Rattle.signal_model.specs.Recipes.{Hosts};
@@ -42,8 +42,8 @@ impl World {
     ///
     /// # Errors
     ///
-    /// `Gone` where the owner is gone, and else `Limit` where as many signals live as may be; then all is as before. After `NoMemory` the
-    /// world may only be dropped.
+    /// `Gone` exactly where the owner is gone, and else `Limit` exactly where as many signals live as may be; then all is as before. After
+    /// `NoMemory` the world may only be dropped.
     pub fn make_cell(
         &mut self,
         value: Value,
@@ -61,10 +61,9 @@ impl World {
         ensures given { OnOk result (self.new.signals.graph.given ≡ self.old.signals.graph.given + 1) }
         ensures worn { OnOk result (self.new.signals.graph.state.worn ≡ self.old.signals.graph.state.worn + 1) }
         ensures watchers { OnOk result (self.new.signals.watchers ≡ self.old.signals.watchers) }
-        ensures open { OnOk result (is_open (living 0 self.old.tables.owners.items) inside ≡ true) }
-        ensures gone { IsErrOf result fault.Gone → is_open (living 0 self.old.tables.owners.items) inside ≡ false }
-        ensures limit { IsErrOf result fault.Limit → live_count self.old.signals.graph.state.signals ≡ MOST_NODES }
-        ensures opened { IsErrOf result fault.Limit → is_open (living 0 self.old.tables.owners.items) inside ≡ true }
+        ensures gone { IsErrOf result fault.Gone ↔ (is_open (living 0 self.old.tables.owners.items) inside ≡ false) }
+        ensures limit { IsErrOf result fault.Limit ↔
+            ((is_open (living 0 self.old.tables.owners.items) inside ≡ true) × (live_count self.old.signals.graph.state.signals ≡ MOST_NODES)) }
         ensures err { IfErr result (λ e. (e ≡ fault.NoMemory) ⊎ (self.new ≡ self.old)) }
     {
         if !is_open(&self.tables, &inside) {
@@ -82,8 +81,8 @@ impl World {
     ///
     /// # Errors
     ///
-    /// `Gone` where the owner is gone, and else `Limit` where as many signals live as may be; then all is as before. After `NoMemory` the
-    /// world may only be dropped.
+    /// `Gone` exactly where the owner is gone, and else `Limit` exactly where as many signals live as may be; then all is as before. After
+    /// `NoMemory` the world may only be dropped.
     pub fn make_computed(
         &mut self,
         recipe: Recipe,
@@ -105,10 +104,9 @@ impl World {
         ensures given { OnOk result (self.new.signals.graph.given ≡ self.old.signals.graph.given + 1) }
         ensures worn { OnOk result (self.new.signals.graph.state.worn ≡ self.old.signals.graph.state.worn + 1) }
         ensures watchers { OnOk result (self.new.signals.watchers ≡ self.old.signals.watchers) }
-        ensures open { OnOk result (is_open (living 0 self.old.tables.owners.items) inside ≡ true) }
-        ensures gone { IsErrOf result fault.Gone → is_open (living 0 self.old.tables.owners.items) inside ≡ false }
-        ensures limit { IsErrOf result fault.Limit → live_count self.old.signals.graph.state.signals ≡ MOST_NODES }
-        ensures opened { IsErrOf result fault.Limit → is_open (living 0 self.old.tables.owners.items) inside ≡ true }
+        ensures gone { IsErrOf result fault.Gone ↔ (is_open (living 0 self.old.tables.owners.items) inside ≡ false) }
+        ensures limit { IsErrOf result fault.Limit ↔
+            ((is_open (living 0 self.old.tables.owners.items) inside ≡ true) × (live_count self.old.signals.graph.state.signals ≡ MOST_NODES)) }
         ensures err { IfErr result (λ e. (e ≡ fault.NoMemory) ⊎ (self.new ≡ self.old)) }
     {
         if !is_open(&self.tables, &inside) {
@@ -151,7 +149,9 @@ impl World {
     ///
     /// # Errors
     ///
-    /// `Gone` where the owner is gone; then all is as before. After `NoMemory` the world may only be dropped.
+    /// `Gone` where the owner is gone; then all is as before. It is never `Limit`: how many effects live isn't bounded here, and neither is
+    /// how many statements a script has in all, nested ones counted; each body has at most `MOST_STATEMENTS` of its own. After `NoMemory`
+    /// the world may only be dropped.
     pub fn make_effect(
         &mut self,
         alloc: Global,

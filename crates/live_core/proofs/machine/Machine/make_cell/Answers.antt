@@ -63,7 +63,7 @@ returns-in_err-id-clause-memory c =
     let opened : is_open (living 0 m.world.tables.owners.items) c.owner_of-owner.result ≡ true =
     subst (λ o. is_open (living 0 m.world.tables.owners.items) o ≡ true) (sym c.owner_of-owner.ensures) (inside_open m.world m.names c.args.inside fine.1) in
     let room = room_below MOST_NODES (live_count m.world.signals.graph.state.signals) limit.Nodes c.requires.room in
-    let f = only_three _ (λ e. true_false (sym opened ∙ c.in_err-id.ensures.gone (ap (λ x. Err x) e))) (λ e. not_most _ MOST_NODES room (c.in_err-id.ensures.limit (ap (λ x. Err x) e))) in
+    let f = only_three _ (λ e. true_false (sym opened ∙ c.in_err-id.ensures.gone.0 (ap (λ x. Err x) e))) (λ e. not_most _ MOST_NODES room (c.in_err-id.ensures.limit.0 (ap (λ x. Err x) e)).1) in
     search rules
 
 pub name_signal-requires : goal.name_signal-requires
