@@ -24,6 +24,7 @@ use Rattle.sig_nodes.proofs.Shared.{uses_standing}
 use Rattle.sig_nodes.specs.Answers.{host_here, slots_here, HasFewSlots, HaveFewSlots}
 use Rattle.sig_computed.specs.Stepping.{Phase, Looking, LookedAt, Running, Waiting, Frame, new_frame, is_ready, ready_outcome}
 use Rattle.sig_computed.specs.Stepping.{Move, GoesOn, Needs, Stops, Ends, looked, told, answered}
+use Rattle.sig_computed.specs.Passing.{passed_over}
 use Rattle.sig_computed.specs.Views.{or_cycle}
 use Rattle.sig_computed.specs.Asked.{asked_once, places_by, AreThere, CanAsk, StayThere}
 use Rattle.sig_computed.specs.Turns.{first_stack, phase_known, phase_reads, runs_of, stack_after, waits, AreFit, Fits, IsMove}
@@ -124,7 +125,7 @@ new_none place w k s = go (asks_host place (standing w s)) (is_stale k s)
 
 -- so the stack at the beginning has
 pub first_asks : (place : ℕ) (w : Signals) (k : Memos) (n : ℕ) → stack_asked place w (first_stack w k n) ≡ 0
-first_asks place w k n = go (is_ready (standing w n) false false)
+first_asks place w k n = go (is_ready (standing w n) false (is_in n (passed_over w k [])))
   where
     go : (b : Bool) → stack_asked place w (cond b [] (new_frame k n ∷ [])) ≡ 0
     go true = refl

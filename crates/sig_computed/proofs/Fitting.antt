@@ -26,7 +26,8 @@ use Rattle.sig_nodes.specs.States.{Progress, progress_at, is_computing, is_given
 use Rattle.sig_nodes.proofs.Shared.{given_same}
 use Rattle.sig_computed.specs.Stepping.{Phase, Looking, LookedAt, Running, Waiting, Frame, frame_names, new_frame, is_ready, ready_outcome}
 use Rattle.sig_computed.specs.Stepping.{Move, GoesOn, Needs, Stops, Ends, looked, told, answered}
-use Rattle.sig_computed.proofs.Shared.{few_unknown, unready}
+use Rattle.sig_computed.proofs.StepsEnd.{few_unknown}
+use Rattle.sig_computed.proofs.StepsHold.{unready}
 use Rattle.sig_computed.specs.Notes.{Note, AreNotesGiven, IsNoteGiven}
 use Rattle.sig_computed.specs.Views.{evaluating, progressed, or_cycle, Stays}
 use Rattle.sig_computed.specs.Turns.{evaluation_note, notes_of, waits, phase_known, phase_reads, move_reads, progress_by, stack_after, AreReadsGiven, HasSlot, Fits, AreFit}
@@ -399,10 +400,15 @@ after_move g h k n fs Stops x y = ended g h n fs x.off x.rest x.idle y.signals y
 after_move g h k n fs (Ends e) x y = ended g h n fs x.off x.rest x.idle y.signals y.given y.progress
 
 -- at the beginning
-pub first_move : (g h : states.Seen) (n : ℕ) (fs : List Frame) → ((m : ℕ) → is_computing g.state m ≡ false) →
-    is_computed (standing g.state.signals n) ≡ true → fs ≡ new_frame g.state.memos n ∷ [] →
-    Stays g h (progressed n (Some []) g.state.progress) 1 → progress_at n h.state.progress ≡ Some [] → HasFirst g h n fs
-first_move g h n fs idle live is s begun =
+pub first_move : (start g h : states.Seen) (n : ℕ) (fs : List Frame) → ((m : ℕ) → is_computing start.state m ≡ false) →
+    is_computed (standing start.state.signals n) ≡ true → Stays start g start.state.progress 1 → fs ≡ new_frame g.state.memos n ∷ [] →
+    Stays g h (progressed n (Some []) g.state.progress) 1 → progress_at n h.state.progress ≡ Some [] → HasFirst start h n fs
+first_move start g h n fs still there look is s begun =
+    let idle : (m : ℕ) → is_computing g.state m ≡ false = λ m. ap (λ ps. is_some (progress_at m ps)) look.progress ∙ still m in
+    let live : is_computed (standing g.state.signals n) ≡ true = ap (λ w. is_computed (standing w n)) look.signals ∙ there in
+    let one : length fs ≡ 1 = ap length is in
+    let a = look.steps in
+    let b = s.steps in
     let c = computed_there (standing g.state.signals n) live in
     let stack : HasStack h (new_frame g.state.memos n ∷ []) = record {
       fits = (new_fits h g.state.memos n c.0 (ap (λ w. standing w n) s.signals ∙ c.1) begun, refl, tt);
@@ -411,12 +417,12 @@ first_move g h n fs idle live is s begun =
     } in
     let stack' : HasStack h fs = subst (HasStack h) (sym is) stack in
     record {
-      signals = s.signals;
-      memos = s.memos;
-      worn = s.worn;
-      seats = s.seats;
-      given = s.given;
-      steps = s.steps;
+      signals = s.signals ∙ look.signals;
+      memos = s.memos ∙ look.memos;
+      worn = s.worn ∙ look.worn;
+      seats = s.seats ∙ look.seats;
+      given = s.given ∙ look.given;
+      steps = omega (arith, a, b, one);
       fits = stack'.fits;
       idle = stack'.idle;
     }

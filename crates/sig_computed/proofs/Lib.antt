@@ -2,16 +2,23 @@ mod Bits
 mod Progresses
 mod Sources
 mod Leaves
+mod Looks
 mod Wholes
 mod Measure
 mod Asking
 mod Loops
 mod Runs
 mod Fitting
-mod Counting
 mod VisitsLeft
 mod NextReads
 mod FramesLast
 mod StepsHold
 mod StepsEnd
+mod CleanRuns
+mod Added
+mod Counting
+mod Passed
+mod Passing
+mod Bounds
+mod Settlings
 pub mod Shared

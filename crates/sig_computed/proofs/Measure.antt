@@ -16,7 +16,8 @@ use Rattle.signal_laws.proofs.Shared.{in_append, in_head, or_none, or_snd, run_o
 use Rattle.sig_computed.specs.Stepping.{Phase, Looking, LookedAt, Running, Waiting, Frame, frame_names, is_ready, ready_outcome, new_frame}
 use Rattle.sig_computed.specs.Stepping.{Move, GoesOn, Needs, Stops, Ends, told}
 use Rattle.sig_computed.specs.SteppingLaws.{phase_left, left_here}
-use Rattle.sig_computed.proofs.Shared.{MoveLowers, look_lowers, answer_lowers, read_lowers, few_unknown, middle, unready}
+use Rattle.sig_computed.proofs.StepsEnd.{MoveLowers, look_lowers, answer_lowers, read_lowers, few_unknown, middle}
+use Rattle.sig_computed.proofs.StepsHold.{unready}
 use Rattle.sig_nodes.specs.Answers.{slots_here}
 use Rattle.sig_computed.specs.Views.{or_cycle}
 use Rattle.sig_computed.specs.Turns.{stack_after, visited_after, memos_after, waits, IsMove}
@@ -218,14 +219,28 @@ is_move_lowers w k evaluating visited n (Waiting slot known reads) mv c stands i
     subst (MoveLowers w k evaluating visited n (Waiting slot known reads)) (sym is)
     (waits_lowers w k evaluating visited n c stands slot (slice_index (slots_here (standing w n)) slot) known reads)
 
+-- where fewer names were visited
+lowers_fewer : (w : Signals) (k : Memos) (evaluating over visited : List ℕ) (n : ℕ) (p : Phase) (mv : Move) → ((m : ℕ) → is_in m visited ≡ true → is_in m over ≡ true) →
+    MoveLowers w k evaluating over n p mv → MoveLowers w k evaluating visited n p mv
+lowers_fewer w k evaluating over visited n p (GoesOn q) within h = h
+lowers_fewer w k evaluating over visited n p (Needs s q) within h = (h.0, (h.1.0, h.1.1, h.1.2, less (is_in s visited) (is_in s over) (within s) h.1.3))
+  where
+    less : (a b : Bool) → (a ≡ true → b ≡ true) → b ≡ false → a ≡ false
+    less true b f e = cc (sym (f refl) ∙ e)
+    less false b f e = refl
+lowers_fewer w k evaluating over visited n p Stops within h = tt
+lowers_fewer w k evaluating over visited n p (Ends e) within h = tt
+
 -- so each turn of the loop leaves less work
-pub turn_lowers : (w : Signals) (k : Memos) (evaluating visited visited' : List ℕ) (f : Frame) (fs : List Frame) (mv : Move) (c : Computed) →
+pub turn_lowers : (w : Signals) (k : Memos) (evaluating over visited visited' : List ℕ) (f : Frame) (fs : List Frame) (mv : Move) (c : Computed) →
     standing w f.name ≡ IsComputed c → is_in f.name (frame_names fs) ≡ false → ((m : ℕ) → is_in m evaluating ≡ is_in m (f.name ∷ frame_names fs)) →
-    IsMove w k evaluating visited f.name f.phase mv → ((m : ℕ) → is_in m visited' ≡ is_in m (visited_after f.name mv visited)) →
+    ((m : ℕ) → is_in m visited ≡ true → is_in m over ≡ true) →
+    IsMove w k evaluating over f.name f.phase mv → ((m : ℕ) → is_in m visited' ≡ is_in m (visited_after f.name mv visited)) →
     work w (memos_after k f.name mv) (stack_after k f.name mv fs) visited' < work w k (f ∷ fs) visited
-turn_lowers w k evaluating visited visited' f fs mv c stands off ev is vi =
+turn_lowers w k evaluating over visited visited' f fs mv c stands off ev within is vi =
     subst (λ x. x < work w k (f ∷ fs) visited)
     (sym (work_same w (memos_after k f.name mv) (stack_after k f.name mv fs) visited' (visited_after f.name mv visited) vi))
     (move_lowers w k f.name f.phase fs visited mv off
-    (lowers_same w k evaluating (f.name ∷ frame_names fs) visited f.name f.phase mv ev
-    (is_move_lowers w k evaluating visited f.name f.phase mv c stands is)))
+    (lowers_fewer w k (f.name ∷ frame_names fs) over visited f.name f.phase mv within
+    (lowers_same w k evaluating (f.name ∷ frame_names fs) over f.name f.phase mv ev
+    (is_move_lowers w k evaluating over f.name f.phase mv c stands is))))

@@ -3,7 +3,11 @@ pub mod Asked
 pub mod Visited
 pub mod Views
 pub mod Turns
-pub mod Steps
 pub mod Stepping
 pub mod SteppingLaws
+pub mod Costs
+pub mod Passing
+pub mod PassingLaws
+pub mod Scenes
 pub mod Examples
+pub mod BoundExamples

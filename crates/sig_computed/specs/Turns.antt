@@ -15,6 +15,7 @@ use Rattle.sig_nodes.specs.States.{Progress, progress_at, is_computing, is_given
 use Rattle.sig_nodes.specs.Answers.{answer_here, slots_here}
 use Rattle.sig_computed.specs.Stepping.{Phase, Looking, LookedAt, Running, Waiting, Frame, frame_names, new_frame, is_ready, ready_outcome}
 use Rattle.sig_computed.specs.Stepping.{Move, GoesOn, Needs, Stops, Ends, looked, told, answered}
+use Rattle.sig_computed.specs.Passing.{look_steps, passed_over, source_steps}
 use Rattle.sig_computed.specs.Notes.{Note}
 use Rattle.sig_computed.specs.Views.{or_cycle, progressed}
 
@@ -108,19 +109,14 @@ progress_by n (LookedAt place) ps = ps
 progress_by n (Running known reads) ps = progressed n (Some known) ps
 progress_by n (Waiting slot known reads) ps = ps
 
--- how many steps a look counts: one where it compares a number
-abbrev pub look_steps : Move → ℕ
-look_steps (GoesOn p) = 1
-look_steps (Needs s p) = 0
-look_steps Stops = 0
-look_steps (Ends e) = 0
-
--- how many steps a frame counts in a phase, where it comes to this move: a recipe is asked, or a number is compared
-abbrev pub turn_steps : Phase → Move → ℕ
-turn_steps (Looking place) mv = look_steps mv
-turn_steps (LookedAt place) mv = look_steps mv
-turn_steps (Running known reads) mv = 1
-turn_steps (Waiting slot known reads) mv = 0
+-- how many steps a frame counts in a phase, where it comes to this move: a recipe is asked; or a source is looked at, and its number compared
+abbrev pub turn_steps : Signals → Memos → List ℕ → List ℕ → ℕ → Phase → Move → ℕ
+turn_steps w k evaluating visited n (Looking place) mv = source_steps w evaluating visited (drop place (sources_of k n)) mv
+turn_steps w k evaluating visited n (LookedAt place) mv = source_steps w evaluating visited (drop place (sources_of k n)) mv
+turn_steps w k evaluating visited n (Running known reads) mv = 1
+turn_steps w k evaluating visited n (Waiting slot known reads) mv =
+    look_steps (standing w (slice_index (slots_here (standing w n)) slot)) (is_in (slice_index (slots_here (standing w n)) slot) evaluating)
+    (is_in (slice_index (slots_here (standing w n)) slot) visited)
 
 -- a slot is waited for, and its source shows `cycle` where it has never run
 abbrev pub waits : Signals → Memos → List ℕ → List ℕ → ℕ → ℕ → List Known → List Seen → Move
@@ -209,9 +205,9 @@ CanMove g (Needs s p) = (is_computed (standing g.state.signals s) ≡ true) × (
 CanMove g Stops = Unit {0}
 CanMove g (Ends e) = AreReadsGiven g e.reads
 
--- the stack at the beginning
+-- the stack at the beginning: a clean computed needs none
 abbrev pub first_stack : Signals → Memos → ℕ → List Frame
-first_stack w k n = if is_ready (standing w n) false false then [] else new_frame k n ∷ []
+first_stack w k n = if is_ready (standing w n) false (is_in n (passed_over w k [])) then [] else new_frame k n ∷ []
 
 -- the graph with its first frame, if it has one
 pub record HasFirst (old new : states.Seen) (n : ℕ) (fs : List Frame) : Type 0 where
@@ -220,6 +216,6 @@ pub record HasFirst (old new : states.Seen) (n : ℕ) (fs : List Frame) : Type 0
   pub worn : new.state.worn ≡ old.state.worn
   pub seats : new.seats ≡ old.seats
   pub given : new.given ≡ old.given
-  pub steps : new.state.looked ≤ old.state.looked + 1
+  pub steps : new.state.looked ≤ old.state.looked + 1 + length fs
   pub fits : AreFit new fs
   pub idle : (m : ℕ) → is_in m (frame_names fs) ≡ false → is_computing new.state m ≡ false

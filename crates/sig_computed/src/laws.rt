@@ -1,5 +1,6 @@
 // Laws of the steps, for all hosts, signals, memos and names.
 ghost use Rattle.sig_computed.specs.SteppingLaws.{StepsEndLaw, StepsLowerLaw, StepsSettleLaw};
+ghost use Rattle.sig_computed.specs.PassingLaws.{BoundBothLaw, PassingLaw};
 
 /// Where the steps are over, what is kept and what has run is what settling defines.
 pub fn steps_settle_law()
@@ -14,4 +15,14 @@ pub fn steps_lower_law()
 /// So the steps come to an end.
 pub fn steps_end_law()
     ensures { StepsEndLaw }
+{}
+
+/// Where what is clean is passed over, all that was asked for is settled as settling defines it, and the steps keep to their bound.
+pub fn passing_law()
+    ensures { PassingLaw }
+{}
+
+/// Names may be settled one list after the other: together they keep to the bound of the one list.
+pub fn bound_both_law()
+    ensures { BoundBothLaw }
 {}

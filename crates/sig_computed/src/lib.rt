@@ -2,6 +2,7 @@
 //! needs only what a store of nodes gives.
 #![tactic(auto)]
 
+mod all;
 mod frames;
 pub mod laws;
 mod notes;
@@ -9,5 +10,6 @@ mod settling;
 mod turns;
 mod visited;
 
+pub use all::settle_all;
 pub use notes::RunNote;
 pub use settling::settle;

@@ -10,14 +10,14 @@ ghost use Rattle.sig_computed.specs.Stepping.{frame_names, new_frame};
 ghost use Rattle.sig_host.specs.Hosts.{most_asked};
 ghost use Rattle.sig_computed.specs.Asked.{AreThere, IsAsking, StayThere};
 ghost use Rattle.sig_computed.specs.Notes.{note_of, AreNotesGiven, HasRoom, IsIdle, IsSettling};
-ghost use Rattle.sig_computed.specs.Steps.{settling_steps};
+ghost use Rattle.sig_computed.specs.Costs.{step_bound};
 ghost use Rattle.sig_computed.specs.Views.{evaluating, evaluation_of, frame_of, move_of, progressed, seen_of, tops, Stays};
 ghost use Rattle.sig_computed.specs.Visited.{marked};
 ghost use Rattle.sig_computed.specs.Turns.{evaluation_note, first_stack, notes_of, stack_after, visited_after, AreReadsGiven, CanMove, HasFirst, IsKept, IsMoved};
 
 use crate::frames::{Doing, Open, Ran, Read, Turn};
 use crate::notes::RunNote;
-use crate::turns::{outcome_of, turn_of};
+use crate::turns::{is_clean, outcome_of, turn_of};
 use crate::visited::{none_visited, visit};
 use sig_base::{MOST_NODES, NoMemory, NodeId, Outcome};
 use sig_host::{Lent, Shelf};
@@ -146,23 +146,27 @@ fn apply(
     }
 }
 
-// The frames at the beginning: that of the computed that is asked for.
+// The frames at the beginning: that of the computed that is asked for, and none where it is clean.
 fn first(alloc: Global, graph: &mut Graph, id: NodeId) -> Result<Vec<Open>, NoMemory>
     requires live { is_computed (standing graph.old.state.signals id) ≡ true }
     requires idle { IsIdle graph.old.state }
     ensures stack { IfOk result (λ v. tops v.items ≡ first_stack graph.old.state.signals graph.old.state.memos id) }
     ensures graph { IfOk result (λ v. HasFirst graph.old graph.new id (tops v.items)) }
 {
-    let frame = opened(alloc, graph, id);
     let mut stack = Vec::new(alloc);
+    if is_clean(graph, id) {
+        return Ok(stack);
+    }
+    let frame = opened(alloc, graph, id);
     stack.push(frame)?;
     Ok(stack)
 }
 
 /// Settles a signal, gone ones too, and gives its outcome, which is its value from scratch. What is kept afterwards and the notes
 /// that are put behind are those of settling its name, whatever was set, rewired or disposed before. Host formulas are asked exactly
-/// as the runs of this call ask them, each once and once more after each good read. Signals stay, and nothing is being evaluated
-/// before and after. Without memory graph and shelf may only be dropped. What is no computed takes no memory but that of the answer.
+/// as the runs of this call ask them, each once and once more after each good read. What is clean is passed over at one look, and the
+/// counted steps keep to their bound. Signals stay, and nothing is being evaluated before and after. Without memory graph and shelf may
+/// only be dropped. What is no computed takes no memory but that of the answer.
 pub fn settle(
     graph: &mut Graph,
     shelf: &mut Shelf,
@@ -187,7 +191,7 @@ pub fn settle(
     ensures seats { OnOk result (graph.new.seats ≡ graph.old.seats) }
     ensures given { OnOk result (graph.new.given ≡ graph.old.given) }
     ensures named { OnOk result (AreNotesGiven graph.old (map note_of notes.old.items) → AreNotesGiven graph.new (map note_of notes.new.items)) }
-    ensures steps { (hosts : Hosts) → ⟦<Shelf as Lent>⟧.answers hosts shelf.old → AreKept hosts graph.old.state.signals graph.old.state.memos → OnOk result (graph.new.state.looked ≤ graph.old.state.looked + settling_steps hosts graph.old.state.signals graph.old.state.memos (id ∷ [])) }
+    ensures steps { (hosts : Hosts) → ⟦<Shelf as Lent>⟧.answers hosts shelf.old → AreKept hosts graph.old.state.signals graph.old.state.memos → OnOk result (graph.new.state.looked ≤ graph.old.state.looked + step_bound hosts graph.old.state.signals graph.old.state.memos (id ∷ [])) }
     ensures worn { OnOk result (graph.new.state.worn + length notes.old.items ≡ graph.old.state.worn + length notes.new.items) }
 {
     let _made = graph.made();

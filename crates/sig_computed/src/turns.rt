@@ -1,32 +1,53 @@
 // One step of a frame: a look at a kept source, an answer of the recipe, or a slot that was waited for.
 ghost use Rattle.std.specs.Prelude.{◌≡◌, ◌<◌, ℕ, ◌++◌, ◌∷◌, [], true, false, List, Some, None, IfOk, IfSome, OnOk, map, drop, length, slice_index};
 ghost use Rattle.signal_model.specs.Recipes.{Hosts, IsJudged};
-ghost use Rattle.signal_model.specs.Standing.{standing, is_in};
+ghost use Rattle.signal_model.specs.Standing.{is_computed, is_in, standing};
 ghost use Rattle.signal_model.specs.Memos.{holds_cycle, memo_of, sources_of};
+ghost use Rattle.signal_model.specs.Marks.{mark_of};
+ghost use Rattle.sig_computed.specs.Passing.{compare_steps, is_clean, look_steps, passed_over, source_steps};
 ghost use Rattle.signal_model.specs.Sound.{kept_outcome, standing_outcome};
 ghost use Rattle.sig_nodes.specs.Answers.{answer_here, host_here, slots_here, IsAnswerHere, IsJudgedAnswer};
-ghost use Rattle.sig_nodes.specs.States.{is_cell, is_given, progress_at, GoesOn};
+ghost use Rattle.sig_nodes.specs.States.{is_cell, is_computing, is_given, progress_at, GoesOn};
 ghost use Rattle.sig_computed.specs.Stepping.{answered, decided, is_ready, Ends, looked, ready_outcome, told};
 ghost use Rattle.sig_computed.specs.Views.{evaluating, first_moved, first_name, frame_of, move_of, or_cycle, phase_of, progressed, seen_of, Stays};
 ghost use Rattle.sig_computed.specs.Visited.{marked};
 ghost use Rattle.sig_computed.specs.Asked.{asked_once, places_by, CanAsk};
-ghost use Rattle.sig_computed.specs.Turns.{look_steps, move_by, move_reads, progress_by, turn_steps, waits, AreReadsGiven, Fits, IsAnswered, IsMove};
+ghost use Rattle.sig_computed.specs.Turns.{move_by, move_reads, progress_by, turn_steps, waits, AreReadsGiven, Fits, IsAnswered, IsMove};
 
 use crate::frames::{Doing, Open, Ran, Read, Turn};
 use crate::visited::is_visited;
 use sig_base::{Fault, Known, MOST_NODES, NoMemory, NodeId, Outcome, Step};
 use sig_host::{Lent, Shelf};
-use sig_nodes::{Asked, Graph, Standing};
+use sig_nodes::{Asked, Graph, Look, Standing};
 use signal_model::judged;
 use std::alloc::Global;
 
-// Whether a source needs no settling first: it is no computed, is being evaluated, or was visited.
-fn is_ready(graph: &Graph, visited: &[bool], id: NodeId) -> bool
+/// Looks at a computed that isn't being evaluated: whether it is clean. It is a counted step.
+pub(crate) fn is_clean(graph: &mut Graph, id: NodeId) -> bool
+    requires live { is_computed (standing graph.old.state.signals id) ≡ true }
+    requires idle { is_computing graph.old.state id ≡ false }
+    ensures clean { result ≡ is_clean (mark_of graph.old.state.signals graph.old.state.memos id) }
+    ensures after { Stays graph.old graph.new graph.old.state.progress 1 }
+{
+    match graph.look(id) {
+        Look::Clean => true,
+        _ => false,
+    }
+}
+
+// Whether a source needs no settling first: it is no computed, is being evaluated, was visited, or is clean.
+fn is_ready(graph: &mut Graph, visited: &[bool], id: NodeId) -> bool
     requires { length visited.now ≡ MOST_NODES }
-    ensures { result ≡ is_ready (standing graph.now.state.signals id) (is_in id (evaluating graph.now.state)) (is_in id (marked graph.now.seats visited.now)) }
+    ensures ready { result ≡ is_ready (standing graph.old.state.signals id) (is_in id (evaluating graph.old.state)) (is_in id (passed_over graph.old.state.signals graph.old.state.memos (marked graph.old.seats visited.now))) }
+    ensures after { Stays graph.old graph.new graph.old.state.progress (look_steps (standing graph.old.state.signals id) (is_in id (evaluating graph.old.state)) (is_in id (marked graph.old.seats visited.now))) }
 {
     match graph.standing(id) {
-        Standing::Computed => is_visited(graph, visited, id),
+        Standing::Computed => {
+            if is_visited(graph, visited, id) {
+                return true;
+            }
+            is_clean(graph, id)
+        }
         _ => true,
     }
 }
@@ -59,7 +80,7 @@ fn decide(alloc: Global, graph: &mut Graph, node: NodeId, place: usize) -> Turn
     requires inside { place < length (sources_of graph.old.state.memos node) }
     requires small { place < 18446744073709551615 }
     ensures turn { move_of result ≡ decided (holds_cycle graph.old.state.memos node) (first_moved graph.old.state.memos (evaluating graph.old.state) (drop place (sources_of graph.old.state.memos node))) place }
-    ensures after { Stays graph.old graph.new graph.old.state.progress (look_steps (move_of result)) }
+    ensures after { Stays graph.old graph.new graph.old.state.progress (compare_steps (move_of result)) }
 {
     if holds_cycle(graph, node) {
         return Turn::GoesOn(Doing::Looking(place + 1));
@@ -73,9 +94,9 @@ fn decide(alloc: Global, graph: &mut Graph, node: NodeId, place: usize) -> Turn
 // A look at the kept sources from a place on.
 fn look(alloc: Global, graph: &mut Graph, visited: &[bool], node: NodeId, place: usize) -> Turn
     requires { length visited.now ≡ MOST_NODES }
-    ensures turn { move_of result ≡ looked graph.old.state.signals graph.old.state.memos (evaluating graph.old.state) (marked graph.old.seats visited.now) (holds_cycle graph.old.state.memos node) place (drop place (sources_of graph.old.state.memos node)) }
+    ensures turn { move_of result ≡ looked graph.old.state.signals graph.old.state.memos (evaluating graph.old.state) (passed_over graph.old.state.signals graph.old.state.memos (marked graph.old.seats visited.now)) (holds_cycle graph.old.state.memos node) place (drop place (sources_of graph.old.state.memos node)) }
     ensures given { AreReadsGiven graph.old (move_reads (move_of result)) }
-    ensures after { Stays graph.old graph.new graph.old.state.progress (look_steps (move_of result)) }
+    ensures after { Stays graph.old graph.new graph.old.state.progress (source_steps graph.old.state.signals (evaluating graph.old.state) (marked graph.old.seats visited.now) (drop place (sources_of graph.old.state.memos node)) (move_of result)) }
 {
     let Some(id) = source_at(graph, node, place) else {
         return Turn::Stops;
@@ -174,7 +195,7 @@ fn slot_of(graph: &Graph, node: NodeId, slot: u32) -> NodeId
 
 // A slot is waited for.
 fn wait(
-    graph: &Graph,
+    graph: &mut Graph,
     visited: &[bool],
     node: NodeId,
     slot: u32,
@@ -182,10 +203,11 @@ fn wait(
     reads: Vec<Read>,
 ) -> Result<Turn, NoMemory>
     requires size { length visited.now ≡ MOST_NODES }
-    requires slot { slot < length (slots_here (standing graph.now.state.signals node)) }
-    requires given { AreReadsGiven graph.now (map seen_of reads.items) }
-    ensures turn { IfOk result (λ t. move_of t ≡ waits graph.now.state.signals graph.now.state.memos (evaluating graph.now.state) (marked graph.now.seats visited.now) slot (slice_index (slots_here (standing graph.now.state.signals node)) slot) known.items (map seen_of reads.items)) }
-    ensures given { IfOk result (λ t. AreReadsGiven graph.now (move_reads (move_of t))) }
+    requires slot { slot < length (slots_here (standing graph.old.state.signals node)) }
+    requires given { AreReadsGiven graph.old (map seen_of reads.items) }
+    ensures turn { IfOk result (λ t. move_of t ≡ waits graph.old.state.signals graph.old.state.memos (evaluating graph.old.state) (passed_over graph.old.state.signals graph.old.state.memos (marked graph.old.seats visited.now)) slot (slice_index (slots_here (standing graph.old.state.signals node)) slot) known.items (map seen_of reads.items)) }
+    ensures given { IfOk result (λ t. AreReadsGiven graph.old (move_reads (move_of t))) }
+    ensures after { OnOk result (Stays graph.old graph.new graph.old.state.progress (look_steps (standing graph.old.state.signals (slice_index (slots_here (standing graph.old.state.signals node)) slot)) (is_in (slice_index (slots_here (standing graph.old.state.signals node)) slot) (evaluating graph.old.state)) (is_in (slice_index (slots_here (standing graph.old.state.signals node)) slot) (marked graph.old.seats visited.now)))) }
 {
     let id = slot_of(graph, node, slot);
     if !is_ready(graph, visited, id) {
@@ -273,10 +295,10 @@ pub(crate) fn turn_of(
     requires fits { Fits graph.old (frame_of frame) }
     requires counted { ⟦<Shelf as Lent>⟧.counted shelf.old }
     requires host { CanAsk (host_here (standing graph.old.state.signals frame.id)) (⟦<Shelf as Lent>⟧.asked shelf.old) }
-    ensures turn { (hosts : Hosts) → ⟦<Shelf as Lent>⟧.answers hosts shelf.old → IfOk result (λ t. move_of t ≡ move_by hosts graph.old.state.signals graph.old.state.memos (evaluating graph.old.state) (marked graph.old.seats visited.now) frame.id (phase_of frame.doing)) }
-    ensures some { IfOk result (λ t. IsMove graph.old.state.signals graph.old.state.memos (evaluating graph.old.state) (marked graph.old.seats visited.now) frame.id (phase_of frame.doing) (move_of t)) }
+    ensures turn { (hosts : Hosts) → ⟦<Shelf as Lent>⟧.answers hosts shelf.old → IfOk result (λ t. move_of t ≡ move_by hosts graph.old.state.signals graph.old.state.memos (evaluating graph.old.state) (passed_over graph.old.state.signals graph.old.state.memos (marked graph.old.seats visited.now)) frame.id (phase_of frame.doing)) }
+    ensures some { IfOk result (λ t. IsMove graph.old.state.signals graph.old.state.memos (evaluating graph.old.state) (passed_over graph.old.state.signals graph.old.state.memos (marked graph.old.seats visited.now)) frame.id (phase_of frame.doing) (move_of t)) }
     ensures given { IfOk result (λ t. AreReadsGiven graph.old (move_reads (move_of t))) }
-    ensures after { IfOk result (λ t. Stays graph.old graph.new (progress_by frame.id (phase_of frame.doing) graph.old.state.progress) (turn_steps (phase_of frame.doing) (move_of t))) }
+    ensures after { IfOk result (λ t. Stays graph.old graph.new (progress_by frame.id (phase_of frame.doing) graph.old.state.progress) (turn_steps graph.old.state.signals graph.old.state.memos (evaluating graph.old.state) (marked graph.old.seats visited.now) frame.id (phase_of frame.doing) (move_of t))) }
     ensures answers { (hosts : Hosts) → ⟦<Shelf as Lent>⟧.answers hosts shelf.old → OnOk result (⟦<Shelf as Lent>⟧.answers hosts shelf.new) }
     ensures counted { OnOk result (⟦<Shelf as Lent>⟧.counted shelf.new) }
     ensures asked { OnOk result (⟦<Shelf as Lent>⟧.asked shelf.new ≡ places_by (standing graph.old.state.signals frame.id) (phase_of frame.doing) (⟦<Shelf as Lent>⟧.asked shelf.old)) }

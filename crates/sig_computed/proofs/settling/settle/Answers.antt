@@ -1,4 +1,4 @@
-use Rattle.std.proofs.Common.{◌+◌, ◌++◌, false, List, [], ◌∷◌, map, length, is_some, refl, sym, ap, ◌∙◌, subst, arith}
+use Rattle.std.proofs.Common.{◌+◌, ◌≤◌, ◌++◌, false, List, [], ◌∷◌, map, length, is_some, refl, sym, ap, ◌∙◌, subst, arith}
 use Rattle.std.specs.Vec.{vec_len}
 use Rattle.std.proofs.lemmas.List.Elements.{All-append, All-same}
 use Rattle.signal_model.specs.Standing.{is_in, standing}
@@ -18,7 +18,8 @@ use Rattle.sig_computed.proofs.Leaves.{kind_computed, ready_other}
 use Rattle.sig_computed.proofs.Progresses.{in_evaluating}
 use Rattle.sig_computed.proofs.Asking.{asked_most, exact_places, none_asked}
 use Rattle.sig_computed.proofs.Loops.{IsMade, IsTurn, frame_can, none_left, notes_count, turn_asked, turn_frames, turn_given, turn_less, turn_move, turn_whole}
-use Rattle.sig_computed.proofs.Wholes.{IsWhole, first_steps, first_whole, last_whole, plain_ended, shown_value}
+use Rattle.sig_computed.specs.Passing.{passed_over}
+use Rattle.sig_computed.proofs.Wholes.{IsWhole, first_whole, last_whole, plain_ended, shown_value}
 use Rattle.sig_computed.proofs.settling.settle.Goals as goal
 
 pub loop-frame-init : goal.loop-frame-init
@@ -40,13 +41,13 @@ loop-frame-init g c =
           let k = c.args.graph.now.state.memos in
           let places : List HostPlace = map (λ p. record { there = is_some p.host; asks = p.count }) c.args.shelf.now.places.items in
           subst (λ x. x)
-          (λ i. IsWhole hosts w k c.args.graph.now.state.looked places (c.args.id ∷ []) (sym e.memos i) c.first.new.graph.state.looked places
+          (λ i. IsWhole hosts w k kept c.args.graph.now.state.looked places (c.args.id ∷ []) (sym e.memos i) c.first.new.graph.state.looked places
           (map note_of c.args.notes.now.items) (map note_of c.args.notes.now.items)
           (marked c.args.graph.now.seats c.in_ok-visited.visited.items) (sym c.in_ok-stack.ensures.stack i))
           (first_whole hosts w k c.args.graph.now.state.looked c.first.new.graph.state.looked places c.args.id (map note_of c.args.notes.now.items)
           (marked c.args.graph.now.seats c.in_ok-visited.visited.items) kept (c.in_ok-visited.ensures.none c.args.graph.now.seats)
-          (let a = e.steps in let b = first_steps w k c.args.id
-          (kind_computed (standing w c.args.id) (is_computing c.args.graph.now.state c.args.id) c.in-Computed.ensures) in omega (arith, a, b)));
+          (kind_computed (standing w c.args.id) (is_computing c.args.graph.now.state c.args.id) c.in-Computed.ensures)
+          (subst (λ fs. c.first.new.graph.state.looked ≤ c.args.graph.now.state.looked + 1 + length fs) c.in_ok-stack.ensures.stack e.steps));
     }
 
 pub turn_of-requires-clause-host : goal.turn_of-requires-clause-host
@@ -148,7 +149,7 @@ loop-frame-preserved g c =
           c.made-made.ensures.few can c.in_ok-turn.ensures.asked count i.asked;
       whole = λ hosts all kept. turn_whole c.args.graph.now c.loop-frame.graph c.turn_of.new.graph c.loop-frame.stack.items c.pop.new.self.items
           c.in-Some.frame c.loop-frame.visited.items c.deref.result.now (move_of c.in_ok-turn.turn) t c.apply.new.graph c.apply.new.stack.items
-          c.apply.new.visited.items d hosts c.args.graph.now.state.memos c.args.graph.now.state.looked _ _ _ (c.args.id ∷ [])
+          c.apply.new.visited.items d hosts c.args.graph.now.state.memos kept c.args.graph.now.state.looked _ _ _ (c.args.id ∷ [])
           (map note_of c.args.notes.now.items) (map note_of c.loop-frame.notes.items) (map note_of c.apply.new.notes.items) c.in_ok-apply.ensures.notes
           can c.in_ok-turn.ensures.asked (c.in_ok-turn.ensures.turn hosts (i.answers hosts all)) (i.whole hosts all kept);
     }
@@ -159,7 +160,7 @@ returns-in_default g c =
     let k = c.args.graph.now.state.memos in
     let notes = map note_of c.args.notes.now.items in
     let idle = c.requires.idle c.args.id in
-    let ready = ready_other (standing w c.args.id) (is_computing c.args.graph.now.state c.args.id) false false
+    let ready = ready_other (standing w c.args.id) (is_computing c.args.graph.now.state c.args.id) false (is_in c.args.id (passed_over w k []))
     (λ e. c.in_default.not-Computed (c.standing.ensures ∙ e)) (sym idle) in
     let places : List HostPlace = map (λ p. record { there = is_some p.host; asks = p.count }) c.args.shelf.now.places.items in
     let looked = c.args.graph.now.state.looked in

@@ -28,8 +28,8 @@ invariant-loop-frame g l = record {
   asked : HasAsked l.fn.graph.state.signals (map (λ p. record { there = is_some p.host; asks = p.count }) l.fn.shelf.places.items)
       (map (λ p. record { there = is_some p.host; asks = p.count }) l.shelf.places.items) (length l.fn.notes.items) (length l.notes.items) (tops l.stack.items);
   whole : (hosts : Hosts) → AnswersBy hosts (map (λ p. option_map (λ h. (goal.HostFormula-dyn g (h.vtable, h.value)).step_of h.value) p.host) l.fn.shelf.places.items) →
-      AreKept hosts l.fn.graph.state.signals l.fn.graph.state.memos →
-      IsWhole hosts l.fn.graph.state.signals l.fn.graph.state.memos l.fn.graph.state.looked (map (λ p. record { there = is_some p.host; asks = p.count }) l.fn.shelf.places.items)
+      (kept : AreKept hosts l.fn.graph.state.signals l.fn.graph.state.memos) →
+      IsWhole hosts l.fn.graph.state.signals l.fn.graph.state.memos kept l.fn.graph.state.looked (map (λ p. record { there = is_some p.host; asks = p.count }) l.fn.shelf.places.items)
       (l.fn.id ∷ []) l.graph.state.memos l.graph.state.looked (map (λ p. record { there = is_some p.host; asks = p.count }) l.shelf.places.items)
       (map note_of l.fn.notes.items) (map note_of l.notes.items) (marked l.fn.graph.seats l.visited.items) (tops l.stack.items);
 }

@@ -1,21 +1,52 @@
-use Rattle.std.proofs.Common.{◌∙◌}
+use Rattle.std.proofs.Common.{cond, sym, ap, ◌∙◌, subst}
 use Rattle.signal_model.specs.Standing.{standing, is_in}
 use Rattle.sig_nodes.specs.States.{is_computing}
-use Rattle.sig_computed.specs.Views.{evaluating}
+use Rattle.sig_computed.specs.Passing.{look_steps, passed_over}
+use Rattle.sig_computed.specs.Views.{evaluating, Stays}
 use Rattle.sig_computed.specs.Visited.{marked}
-use Rattle.sig_computed.proofs.Leaves.{ready_computed, ready_other}
+use Rattle.sig_computed.proofs.Leaves.{kind_computed, ready_computed, ready_other}
+use Rattle.sig_computed.proofs.Looks.{kind_idle, over_clean, over_visited, stays_here}
 use Rattle.sig_computed.proofs.Progresses.{in_evaluating}
 use Rattle.sig_computed.proofs.turns.is_ready.Goals as goal
 
-pub returns-in-Computed : goal.returns-in-Computed
-returns-in-Computed c =
-    c.is_visited.ensures
-    ∙ ready_computed (standing c.args.graph.now.state.signals c.args.id) (is_computing c.args.graph.now.state c.args.id)
-    (is_in c.args.id (evaluating c.args.graph.now.state)) (is_in c.args.id (marked c.args.graph.now.seats c.args.visited.now))
-    c.in-Computed.ensures (in_evaluating c.args.graph.now.state c.args.id)
+pub returns-then-is_visited-clause-ready : goal.returns-then-is_visited-clause-ready
+returns-then-is_visited-clause-ready c =
+    let s = c.args.graph.now.state in
+    let visited = marked c.args.graph.now.seats c.args.visited.now in
+    sym (over_visited s.signals s.memos visited c.args.id (sym c.if-is_visited.ensures))
+    ∙ ready_computed (standing s.signals c.args.id) (is_computing s c.args.id) (is_in c.args.id (evaluating s))
+    (is_in c.args.id (passed_over s.signals s.memos visited)) c.in-Computed.ensures (in_evaluating s c.args.id)
+
+pub returns-else-is_visited-clause-ready : goal.returns-else-is_visited-clause-ready
+returns-else-is_visited-clause-ready c =
+    let s = c.args.graph.now.state in
+    let visited = marked c.args.graph.now.seats c.args.visited.now in
+    c.is_clean.ensures.clean
+    ∙ over_clean s.signals s.memos visited c.args.id (kind_computed (standing s.signals c.args.id) (is_computing s c.args.id) c.in-Computed.ensures)
+    (sym c.if-is_visited.ensures)
+    ∙ ready_computed (standing s.signals c.args.id) (is_computing s c.args.id) (is_in c.args.id (evaluating s))
+    (is_in c.args.id (passed_over s.signals s.memos visited)) c.in-Computed.ensures (in_evaluating s c.args.id)
+
+pub returns-else-is_visited-clause-after : goal.returns-else-is_visited-clause-after
+returns-else-is_visited-clause-after c =
+    let s = c.args.graph.now.state in
+    let visited = marked c.args.graph.now.seats c.args.visited.now in
+    let off = c.if-is_visited.ensures
+    ∙ ready_computed (standing s.signals c.args.id) (is_computing s c.args.id) (is_in c.args.id (evaluating s))
+    (is_in c.args.id visited) c.in-Computed.ensures (in_evaluating s c.args.id) in
+    subst (Stays c.args.graph.now c.is_clean.new.graph s.progress) (ap (λ b. cond b 0 1) off) c.is_clean.ensures.after
 
 pub returns-in_default : goal.returns-in_default
 returns-in_default c =
-    ready_other (standing c.args.graph.now.state.signals c.args.id) (is_computing c.args.graph.now.state c.args.id)
-    (is_in c.args.id (evaluating c.args.graph.now.state)) (is_in c.args.id (marked c.args.graph.now.seats c.args.visited.now))
-    (λ k. c.in_default.not-Computed (c.standing.ensures ∙ k)) (in_evaluating c.args.graph.now.state c.args.id)
+    let s = c.args.graph.now.state in
+    let visited = marked c.args.graph.now.seats c.args.visited.now in
+    record {
+      ready = ready_other (standing s.signals c.args.id) (is_computing s c.args.id) (is_in c.args.id (evaluating s))
+          (is_in c.args.id (passed_over s.signals s.memos visited)) (λ k. c.in_default.not-Computed (c.standing.ensures ∙ k)) (in_evaluating s c.args.id);
+      after = stays_here c.args.graph.now
+          (look_steps (standing s.signals c.args.id) (is_in c.args.id (evaluating s)) (is_in c.args.id visited));
+    }
+
+pub is_clean-requires-clause-idle : goal.is_clean-requires-clause-idle
+is_clean-requires-clause-idle c =
+    let s = c.args.graph.now.state in kind_idle (standing s.signals c.args.id) (is_computing s c.args.id) c.in-Computed.ensures

@@ -1,4 +1,4 @@
-use Rattle.std.proofs.Common.{List, length, sym, ap, ◌∙◌, refl}
+use Rattle.std.proofs.Common.{length, ap, ◌∙◌, refl}
 use Rattle.sig_nodes.specs.States.{Seen, with_look}
 use Rattle.sig_nodes.specs.Nodes.{state_of}
 use Rattle.sig_nodes.proofs.Holding.{became}

@@ -1,0 +1,128 @@
+-- A look at the sources from a place on, and what it counts.
+use Rattle.std.proofs.Common.{◌≡◌, ℕ, ◌+◌, ◌≤◌, ◌||◌, Bool, true, false, cond, List, [], ◌∷◌, Some, None, map, refl, sym, ap, ◌∙◌, subst, arith}
+use Rattle.std.specs.Prelude.{is_some}
+use Rattle.signal_model.specs.Standing.{Signals, Computed, Stands, IsGone, IsCell, IsComputed, is_in, is_computed, standing}
+use Rattle.signal_model.specs.Memos.{Source, Memos}
+use Rattle.signal_model.specs.Marks.{mark_of}
+use Rattle.signal_model.proofs.Shared.{or_left, stands-computed}
+use Rattle.signal_laws.proofs.Shared.{in_append}
+use Rattle.sig_computed.specs.Stepping.{LookedAt, Move, Needs, Stops, decided, is_ready, looked}
+use Rattle.sig_computed.specs.Passing.{clean_among, compare_steps, is_clean, look_steps, passed_over, source_steps}
+use Rattle.sig_computed.proofs.Passing.{among_clean, clean_found}
+use Rattle.signal_model.specs.Marks as marks
+use Rattle.sig_nodes.specs.declared.finding.Look.TheVariants as look
+use Rattle.sig_nodes.specs.declared.answers.Standing.TheVariants as kind
+use Rattle.sig_nodes.specs.Answers.{kind_here}
+use Rattle.sig_nodes.specs.Looks.{look_here}
+use Rattle.sig_nodes.specs.States as states
+use Rattle.sig_nodes.specs.States.{Progress, progress_at}
+use Rattle.sig_computed.specs.Views.{first_moved, first_name, evaluating, passing, Stays}
+
+module _ (w : Signals) (k : Memos) (evaluating over visited : List ℕ) (cycle : Bool) (place : ℕ) where
+  -- no source is left
+  pub look_none : (l : List Source) → None ≡ first_name l → Stops ≡ looked w k evaluating over cycle place l
+  look_none [] e = refl
+  look_none (s ∷ ss) e = cc
+
+  pub steps_none : (l : List Source) (a b : ℕ) (mv : Move) → None ≡ first_name l → a ≡ b → a ≤ b + source_steps w evaluating visited l mv
+  steps_none [] a b mv e same = omega (arith, same)
+  steps_none (s ∷ ss) a b mv e same = cc
+
+  -- the next isn't ready
+  pub look_needs : (l : List Source) (id : ℕ) → Some id ≡ first_name l → is_ready (standing w id) (is_in id evaluating) (is_in id over) ≡ false →
+      Needs id (LookedAt place) ≡ looked w k evaluating over cycle place l
+  look_needs [] id e r = cc
+  look_needs (s ∷ ss) id e r =
+      let same : id ≡ s.name = cc in
+      (λ i. Needs (same i) (LookedAt place))
+      ∙ sym (ap (λ b. cond b (looked_ready s) (Needs s.name (LookedAt place)))
+      (subst (λ x. is_ready (standing w x) (is_in x evaluating) (is_in x over) ≡ false) same r))
+    where
+      looked_ready : Source → Move
+      looked_ready x = decided cycle (first_moved k evaluating (x ∷ ss)) place
+
+  -- it is, and decides
+  pub look_decides : (l : List Source) (id : ℕ) → Some id ≡ first_name l → is_ready (standing w id) (is_in id evaluating) (is_in id over) ≡ true →
+      decided cycle (first_moved k evaluating l) place ≡ looked w k evaluating over cycle place l
+  look_decides [] id e r = cc
+  look_decides (s ∷ ss) id e r =
+      let same : id ≡ s.name = cc in
+      sym (ap (λ b. cond b (decided cycle (first_moved k evaluating (s ∷ ss)) place) (Needs s.name (LookedAt place)))
+      (subst (λ x. is_ready (standing w x) (is_in x evaluating) (is_in x over) ≡ true) same r))
+
+  -- a look, and then a comparison
+  pub steps_look : (l : List Source) (id : ℕ) (mv : Move) → Some id ≡ first_name l →
+      source_steps w evaluating visited l mv ≡ look_steps (standing w id) (is_in id evaluating) (is_in id visited) + compare_steps mv
+  steps_look [] id mv e = cc
+  steps_look (s ∷ ss) id mv e =
+      let same : id ≡ s.name = cc in
+      (λ i. look_steps (standing w (sym same i)) (is_in (sym same i) evaluating) (is_in (sym same i) visited) + compare_steps mv)
+
+-- what was visited may be passed over
+pub over_visited : (w : Signals) (k : Memos) (visited : List ℕ) (n : ℕ) → is_in n visited ≡ true → is_in n (passed_over w k visited) ≡ true
+over_visited w k visited n on = in_append n visited (clean_among w k w.computeds) ∙ or_left (is_in n visited) (is_in n (clean_among w k w.computeds)) on
+
+-- what wasn't visited may be passed over where it is clean
+pub over_clean : (w : Signals) (k : Memos) (visited : List ℕ) (n : ℕ) → is_computed (standing w n) ≡ true → is_in n visited ≡ false →
+    is_clean (mark_of w k n) ≡ is_in n (passed_over w k visited)
+over_clean w k visited n live off = go (is_clean (mark_of w k n)) refl
+  where
+    there : (st : Stands) → standing w n ≡ st → is_computed st ≡ true → (d : Computed) × (standing w n ≡ IsComputed d)
+    there IsGone e h = cc h
+    there (IsCell c) e h = cc h
+    there (IsComputed d) e h = (d, e)
+
+    in_over : is_in n (passed_over w k visited) ≡ is_in n (clean_among w k w.computeds)
+    in_over = in_append n visited (clean_among w k w.computeds) ∙ ap (λ b. b || is_in n (clean_among w k w.computeds)) off
+
+    none : is_clean (mark_of w k n) ≡ false → (b : Bool) → is_in n (clean_among w k w.computeds) ≡ b → b ≡ false
+    none e false f = refl
+    none e true f = cc (sym (ap is_clean (among_clean w k w.computeds n f)) ∙ e)
+
+    go : (b : Bool) → is_clean (mark_of w k n) ≡ b → is_clean (mark_of w k n) ≡ is_in n (passed_over w k visited)
+    go true e =
+        let d = there (standing w n) refl live in
+        e ∙ sym (in_over ∙ clean_found w k w.computeds n d.0 (stands-computed w n d.0 d.1) e)
+    go false e = e ∙ sym (in_over ∙ none e (is_in n (clean_among w k w.computeds)) refl)
+
+-- at the beginning
+pub first_ready : (w : Signals) (k : Memos) (n : ℕ) → is_computed (standing w n) ≡ true → is_ready (standing w n) false (is_in n (passed_over w k [])) ≡ is_clean (mark_of w k n)
+first_ready w k n live = go (standing w n) live ∙ sym (over_clean w k [] n live refl)
+  where
+    go : (st : Stands) → is_computed st ≡ true → is_ready st false (is_in n (passed_over w k [])) ≡ is_in n (passed_over w k [])
+    go IsGone h = cc h
+    go (IsCell c) h = cc h
+    go (IsComputed c) h = refl
+
+-- where nothing is done, all stays
+pub stays_here : (g : states.Seen) (n : ℕ) → Stays g g g.state.progress n
+stays_here g n = record { signals = refl; memos = refl; progress = refl; worn = refl; seats = refl; given = refl; steps = omega arith }
+
+-- and who is being evaluated is the same
+pub evaluating_stays : (g h : states.Seen) (n : ℕ) → Stays g h g.state.progress n → evaluating h.state ≡ evaluating g.state
+evaluating_stays g h n s = (λ i. passing (λ m. is_some (progress_at m (s.progress i))) (map (λ (p : Progress). p.name) (s.progress i)))
+
+-- what is answered as a computed isn't being evaluated
+pub kind_idle : (st : Stands) (b : Bool) → kind.Computed ≡ kind_here st b → b ≡ false
+kind_idle IsGone b e = cc
+kind_idle (IsCell c) b e = cc
+kind_idle (IsComputed c) true e = cc
+kind_idle (IsComputed c) false e = refl
+
+-- what a look finds clean is
+pub found_clean : (st : Stands) (b : Bool) (m : marks.Mark) → is_computed st ≡ true → b ≡ false → look.Clean ≡ look_here st b m → true ≡ is_clean m
+found_clean IsGone b m live idle e = cc
+found_clean (IsCell c) b m live idle e = cc
+found_clean (IsComputed c) true m live idle e = cc
+found_clean (IsComputed c) false marks.Clean live idle e = refl
+found_clean (IsComputed c) false marks.Checked live idle e = cc
+found_clean (IsComputed c) false marks.Dirty live idle e = cc
+
+-- and what it finds otherwise isn't
+pub found_other : (st : Stands) (b : Bool) (m : marks.Mark) → is_computed st ≡ true → b ≡ false → (look_here st b m ≡ look.Clean → ⊥) → false ≡ is_clean m
+found_other IsGone b m live idle isnt = cc live
+found_other (IsCell c) b m live idle isnt = cc live
+found_other (IsComputed c) true m live idle isnt = cc idle
+found_other (IsComputed c) false marks.Clean live idle isnt = absurd (isnt refl)
+found_other (IsComputed c) false marks.Checked live idle isnt = refl
+found_other (IsComputed c) false marks.Dirty live idle isnt = refl

@@ -1,0 +1,5 @@
+use Rattle.sig_computed.proofs.Passing.{passing_law}
+use Rattle.sig_computed.proofs.laws.passing_law.Goals as goal
+
+pub returns : goal.returns
+returns c = passing_law
