@@ -40,7 +40,7 @@ pub(crate) enum First {
 /// it and behind it, what is kept there next, and what became of what was kept there.
 #[derive(Drop)]
 pub(crate) struct Turn {
-    pub first: First,
+    pub first: Box<First>,
     pub places: Vec<Option<RowRef>>,
     pub inside_was: VecDeque<PageMemo>,
     pub later_was: VecDeque<PageMemo>,
@@ -53,9 +53,9 @@ pub(crate) struct Turn {
 /// What was kept of some lines: what was heard of the first, and what was kept inside it and behind it.
 #[derive(Drop)]
 pub(crate) struct Parts {
-    pub head: Head,
+    pub head: Box<Head>,
     pub inside: Vec<PageMemo>,
-    pub later: PageMemo,
+    pub later: Box<PageMemo>,
 }
 
 /// Whether nothing is kept.
@@ -83,14 +83,16 @@ fn once(alloc: Global, memo: PageMemo) -> Result<Vec<PageMemo>, NoMemory>
 }
 
 // The parts of no lines.
-fn nothing(alloc: Global) -> Parts
-    ensures { result.head ≡ head.Nothing }
+fn nothing(alloc: Global) -> Result<Parts, NoMemory>
+    ensures { IfOk result (λ p. p.head.value ≡ head.Nothing) }
 {
-    Parts {
-        head: Head::Nothing,
+    let head = Box::new(alloc, Head::Nothing)?;
+    let later = Box::new(alloc, PageMemo::blank())?;
+    Ok(Parts {
+        head,
         inside: Vec::new(alloc),
-        later: PageMemo::blank(),
-    }
+        later,
+    })
 }
 
 /// Takes what was kept of lines apart.
@@ -98,38 +100,52 @@ fn nothing(alloc: Global) -> Parts
 /// # Errors
 ///
 /// `NoMemory` alone.
-pub(crate) fn apart(alloc: Global, memo: PageMemo) -> Result<Parts, NoMemory>
-    ensures { IfOk result (λ p. IsApart (kept memo) p.head (map kept p.inside.items) (kept p.later)) }
+pub(crate) fn apart(alloc: Global, memo: Box<PageMemo>) -> Result<Parts, NoMemory>
+    ensures { IfOk result (λ p. IsApart (kept memo.value) p.head.value (map kept p.inside.items) (kept p.later.value)) }
 {
-    match memo {
-        PageMemo::Line(line, later) => Ok(Parts {
-            head: Head::Text(line),
-            inside: Vec::new(alloc),
-            later: Box::into_inner(later),
-        }),
+    match Box::into_inner(memo) {
+        PageMemo::Line(line, later) => {
+            let head = Box::new(alloc, Head::Text(line))?;
+            Ok(Parts {
+                head,
+                inside: Vec::new(alloc),
+                later,
+            })
+        }
         PageMemo::Element(all, inside, later) => {
+            let head = Box::new(alloc, Head::Tag(all))?;
             let inside = once(alloc, Box::into_inner(inside))?;
             Ok(Parts {
-                head: Head::Tag(all),
+                head,
                 inside,
-                later: Box::into_inner(later),
+                later,
             })
         }
         PageMemo::Branch(test, inside, later) => {
+            let head = Box::new(alloc, Head::Choice(test))?;
             let inside = once(alloc, Box::into_inner(inside))?;
             Ok(Parts {
-                head: Head::Choice(test),
+                head,
                 inside,
-                later: Box::into_inner(later),
+                later,
             })
         }
-        PageMemo::Loop(rows, inside, later) => Ok(Parts {
-            head: Head::Each(rows),
-            inside,
-            later: Box::into_inner(later),
-        }),
-        PageMemo::Blank => Ok(nothing(alloc)),
-        PageMemo::Unread => Ok(nothing(alloc)),
+        PageMemo::Loop(rows, inside, later) => {
+            let head = Box::new(alloc, Head::Each(rows))?;
+            Ok(Parts {
+                head,
+                inside,
+                later,
+            })
+        }
+        PageMemo::Blank => {
+            let parts = nothing(alloc)?;
+            Ok(parts)
+        }
+        PageMemo::Unread => {
+            let parts = nothing(alloc)?;
+            Ok(parts)
+        }
     }
 }
 
@@ -211,16 +227,21 @@ pub(crate) fn inside_was(
 }
 
 /// All of it is kept whole, and this became of it.
-pub(crate) fn whole(alloc: Global, memo: PageMemo, change: Change) -> Turn
-    ensures first { result.first ≡ start.Whole (record { memo = memo; change = change }) }
-    ensures places { result.places.items ≡ [] }
-    ensures inside { result.inside.items ≡ [] }
-    ensures later { result.later.items ≡ [] }
-    ensures inside_changes { result.inside_changes.items ≡ [] }
-    ensures later_changes { result.later_changes.items ≡ [] }
+///
+/// # Errors
+///
+/// `NoMemory` alone.
+pub(crate) fn whole(alloc: Global, memo: PageMemo, change: Change) -> Result<Turn, NoMemory>
+    ensures first { IfOk result (λ t. t.first.value ≡ start.Whole (record { memo = memo; change = change })) }
+    ensures places { IfOk result (λ t. t.places.items ≡ []) }
+    ensures inside { IfOk result (λ t. t.inside.items ≡ []) }
+    ensures later { IfOk result (λ t. t.later.items ≡ []) }
+    ensures inside_changes { IfOk result (λ t. t.inside_changes.items ≡ []) }
+    ensures later_changes { IfOk result (λ t. t.later_changes.items ≡ []) }
 {
-    Turn {
-        first: First::Whole(Renewed { memo, change }),
+    let first = Box::new(alloc, First::Whole(Renewed { memo, change }))?;
+    Ok(Turn {
+        first,
         places: Vec::new(alloc),
         inside_was: VecDeque::new(alloc),
         later_was: VecDeque::new(alloc),
@@ -228,7 +249,7 @@ pub(crate) fn whole(alloc: Global, memo: PageMemo, change: Change) -> Turn
         later: Vec::new(alloc),
         inside_changes: Vec::new(alloc),
         later_changes: Vec::new(alloc),
-    }
+    })
 }
 
 /// The first line was heard again, in the row where it stands; `was` is what its test or its rows came to before.
@@ -239,15 +260,15 @@ pub(crate) fn whole(alloc: Global, memo: PageMemo, change: Change) -> Turn
 pub(crate) fn taken_up(
     alloc: Global,
     was: &Outcome,
-    head: Head,
+    head: Box<Head>,
     inside: Vec<PageMemo>,
-    later: PageMemo,
+    later: Box<PageMemo>,
     row: Option<&RowRef>,
 ) -> Result<Turn, NoMemory>
-    ensures first { IfOk result (λ t. t.first ≡ start.Line head) }
-    ensures places { IfOk result (λ t. t.places.items ≡ places_in head (option_copied row.entry)) }
-    ensures inside_was { IfOk result (λ t. ServeInside was.now head (map kept inside.items) (map kept t.inside_was.items)) }
-    ensures later_was { IfOk result (λ t. map kept t.later_was.items ≡ kept later ∷ []) }
+    ensures first { IfOk result (λ t. t.first.value ≡ start.Line head.value) }
+    ensures places { IfOk result (λ t. t.places.items ≡ places_in head.value (option_copied row.entry)) }
+    ensures inside_was { IfOk result (λ t. ServeInside was.now head.value (map kept inside.items) (map kept t.inside_was.items)) }
+    ensures later_was { IfOk result (λ t. map kept t.later_was.items ≡ kept later.value ∷ []) }
     ensures inside { IfOk result (λ t. t.inside.items ≡ []) }
     ensures later { IfOk result (λ t. t.later.items ≡ []) }
     ensures inside_changes { IfOk result (λ t. t.inside_changes.items ≡ []) }
@@ -255,9 +276,10 @@ pub(crate) fn taken_up(
 {
     let places = places_inside(alloc, &head, row)?;
     let inside_was = inside_was(alloc, was, &head, inside)?;
-    let later_was = waiting(alloc, later)?;
+    let later_was = waiting(alloc, Box::into_inner(later))?;
+    let first = Box::new(alloc, First::Line(Box::into_inner(head)))?;
     Ok(Turn {
-        first: First::Line(head),
+        first,
         places,
         inside_was,
         later_was,
@@ -324,8 +346,8 @@ pub(crate) fn put_turn(
     done: &mut Vec<PageMemo>,
     changes: &mut Vec<Change>,
 ) -> Result<(), NoMemory>
-    ensures kept { OnOk result (map kept done.new.items ≡ map kept done.old.items ++ kept_of turn.first (map kept turn.inside.items) (map kept turn.later.items) ∷ []) }
-    ensures changed { OnOk result (map changed changes.new.items ≡ map changed changes.old.items ++ changed_of turn.first (map changed turn.inside_changes.items) (map changed turn.later_changes.items) ∷ []) }
+    ensures kept { OnOk result (map kept done.new.items ≡ map kept done.old.items ++ kept_of turn.first.value (map kept turn.inside.items) (map kept turn.later.items) ∷ []) }
+    ensures changed { OnOk result (map changed changes.new.items ≡ map changed changes.old.items ++ changed_of turn.first.value (map changed turn.inside_changes.items) (map changed turn.later_changes.items) ∷ []) }
 {
     let Turn {
         first,
@@ -337,7 +359,7 @@ pub(crate) fn put_turn(
         inside_changes,
         later_changes,
     } = turn;
-    match first {
+    match Box::into_inner(first) {
         First::Whole(renewed) => {
             done.push(renewed.memo)?;
             changes.push(renewed.change)?;

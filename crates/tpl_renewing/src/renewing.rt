@@ -96,7 +96,7 @@ fn hear_first_again(
     before: &Outcomes,
     heard: &mut Outcomes,
     lines: &Block,
-    head: Head,
+    head: Box<Head>,
     links: &[NodeId],
     row: Option<&RowRef>,
     notes: &mut Vec<RunNote>,
@@ -104,7 +104,7 @@ fn hear_first_again(
     requires place { IfSome row (λ r. r.now.place < length r.now.rows.rows) }
     requires can { CanSettle (scene graph.old (⟦<Shelf as Lent>⟧.asked shelf.old) notes.old.items) }
     requires counted { ⟦<Shelf as Lent>⟧.counted shelf.old }
-    requires was { WasOpened (block lines.now) links.now (option_copied row) before.now head }
+    requires was { WasOpened (block lines.now) links.now (option_copied row) before.now head.value }
     ensures opens { IfOk result (λ h. Opens (block lines.now) links.now (option_copied row.entry) heard.old heard.new h) }
     ensures after { OnOk result (Hears
         (scene graph.old (⟦<Shelf as Lent>⟧.asked shelf.old) notes.old.items) (scene graph.new (⟦<Shelf as Lent>⟧.asked shelf.new) notes.new.items)
@@ -115,6 +115,7 @@ fn hear_first_again(
     match lines {
         Block::Empty => Ok(Head::Nothing),
         Block::Text(_, formula, _) => {
+            let head = Box::into_inner(head);
             let Head::Text(line) = head else {
                 unreachable!()
             };
@@ -124,6 +125,7 @@ fn hear_first_again(
             Ok(Head::Text(line))
         }
         Block::Tag(_, _, attributes, _, _) => {
+            let head = Box::into_inner(head);
             let Head::Tag(all) = head else { unreachable!() };
             let all = listen_all_again(
                 alloc, graph, shelf, before, heard, attributes, all, links, row, notes,
@@ -131,6 +133,7 @@ fn hear_first_again(
             Ok(Head::Tag(all))
         }
         Block::Choice(test, _, _, _) => {
+            let head = Box::into_inner(head);
             let Head::Choice(line) = head else {
                 unreachable!()
             };
@@ -140,6 +143,7 @@ fn hear_first_again(
             Ok(Head::Choice(line))
         }
         Block::Each(rows, _, _) => {
+            let head = Box::into_inner(head);
             let Head::Each(line) = head else {
                 unreachable!()
             };
@@ -159,7 +163,7 @@ fn begin(
     before: &Outcomes,
     heard: &mut Outcomes,
     lines: &Block,
-    memo: PageMemo,
+    memo: Box<PageMemo>,
     look: bool,
     links: &[NodeId],
     row: &Option<RowRef>,
@@ -168,14 +172,14 @@ fn begin(
     requires row { IsRow row.now }
     requires can { CanSettle (scene graph.old (⟦<Shelf as Lent>⟧.asked shelf.old) notes.old.items) }
     requires counted { ⟦<Shelf as Lent>⟧.counted shelf.old }
-    requires was { WasMadeIfRead (lines_memo (block lines.now)) links.now row.now before.now (kept memo) }
-    ensures begins { IfOk result (λ t. Begins (block lines.now) links.now row.now before.now heard.old heard.new t.first (map kept t.inside_was.items) (map kept t.later_was.items)) }
-    ensures places { IfOk result (λ t. t.places.items ≡ places_of t.first row.now) }
+    requires was { WasMadeIfRead (lines_memo (block lines.now)) links.now row.now before.now (kept memo.value) }
+    ensures begins { IfOk result (λ t. Begins (block lines.now) links.now row.now before.now heard.old heard.new t.first.value (map kept t.inside_was.items) (map kept t.later_was.items)) }
+    ensures places { IfOk result (λ t. t.places.items ≡ places_of t.first.value row.now) }
     ensures inside { IfOk result (λ t. t.inside.items ≡ []) }
     ensures later { IfOk result (λ t. t.later.items ≡ []) }
     ensures inside_changes { IfOk result (λ t. t.inside_changes.items ≡ []) }
     ensures later_changes { IfOk result (λ t. t.later_changes.items ≡ []) }
-    ensures told { IfOk result (λ t. BeginsTold (block lines.now) links.now row.now before.now (kept memo) t.first (map kept t.inside_was.items)) }
+    ensures told { IfOk result (λ t. BeginsTold (block lines.now) links.now row.now before.now (kept memo.value) t.first.value (map kept t.inside_was.items)) }
     ensures after { OnOk result (Hears
         (scene graph.old (⟦<Shelf as Lent>⟧.asked shelf.old) notes.old.items) (scene graph.new (⟦<Shelf as Lent>⟧.asked shelf.new) notes.new.items)
         (λ hosts. ⟦<Shelf as Lent>⟧.answers hosts shelf.old) (λ hosts. ⟦<Shelf as Lent>⟧.answers hosts shelf.new) heard.old heard.new) }
@@ -185,10 +189,12 @@ fn begin(
     let here = lent_row(row);
     if unread(&memo) {
         let memo = make(alloc, graph, shelf, heard, lines, links, here, notes)?;
-        return Ok(whole(alloc, memo, Change::made()));
+        let all = whole(alloc, memo, Change::made())?;
+        return Ok(all);
     }
     if stays(alloc, graph, shelf, before, heard, &memo, look, notes)? {
-        return Ok(whole(alloc, memo, Change::stays()));
+        let all = whole(alloc, Box::into_inner(memo), Change::stays())?;
+        return Ok(all);
     }
     let Parts {
         head,
@@ -196,9 +202,11 @@ fn begin(
         later,
     } = apart(alloc, memo)?;
     let was = outcome_of(&head)?;
+    let was = Box::new(alloc, was)?;
     let head = hear_first_again(
         alloc, graph, shelf, before, heard, lines, head, links, here, notes,
     )?;
+    let head = Box::new(alloc, head)?;
     let turn = taken_up(alloc, &was, head, inside, later, here)?;
     Ok(turn)
 }
@@ -236,6 +244,7 @@ fn renew_each(
         return Ok(());
     };
     let memo = next_kept(was);
+    let memo = Box::new(alloc, memo)?;
     let mut turn = begin(
         alloc, graph, shelf, before, heard, lines, memo, look, links, row, notes,
     )?;
@@ -311,8 +320,8 @@ pub fn renew(
     ensures can { OnOk result (CanSettle (scene graph.new (⟦<Shelf as Lent>⟧.asked shelf.new) notes.new.items)) }
     ensures counted { OnOk result (⟦<Shelf as Lent>⟧.counted shelf.new) }
 {
-    let own = own_row(row)?;
     let mut was = waiting(alloc, memo)?;
+    let own = own_row(row)?;
     let mut done = Vec::new(alloc);
     let mut changes = Vec::new(alloc);
     renew_each(

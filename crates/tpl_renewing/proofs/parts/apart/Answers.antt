@@ -1,4 +1,4 @@
-use Rattle.std.proofs.Common.{[], ◌∷◌, map, sym, ap, ◌∙◌}
+use Rattle.std.proofs.Common.{[], ◌∷◌, map, refl, sym, ap, ◌∙◌}
 use Rattle.std.specs.Box.{box_value}
 use Rattle.std.proofs.lemmas.Bool.{true≢false}
 use Rattle.tpl_memos.specs.Kept.{heard_of, kept}
@@ -7,32 +7,37 @@ use Rattle.tpl_listening.specs.Renewals.{is_unread}
 use Rattle.tpl_renewing.proofs.Serving.{branch_apart, element_apart, line_apart, loop_apart}
 use Rattle.tpl_renewing.proofs.parts.apart.Goals as goal
 
-pub returns-in-Line : goal.returns-in-Line
-returns-in-Line c = λ u.
-    line_apart (kept c.args.memo) (heard_of c.in-Line.line) (kept (box_value c.in-Line.later)) (kept c.into_inner.result)
-    (ap kept c.in-Line.is ∙ kept_line c.in-Line.line c.in-Line.later) (ap kept (sym c.into_inner.ensures))
+pub returns-in_ok-head-in-Line : goal.returns-in_ok-head-in-Line
+returns-in_ok-head-in-Line c = λ u.
+    rw c.in_ok-head-in-Line.ensures.ok
+    (line_apart (kept (box_value c.args.memo)) (heard_of c.in-Line.line) (kept (box_value c.in-Line.later)) (kept (box_value c.in-Line.later))
+    (ap kept (sym c.into_inner.ensures ∙ c.in-Line.is) ∙ kept_line c.in-Line.line c.in-Line.later) refl)
 
 pub returns-in_ok-inside-in-Element : goal.returns-in_ok-inside-in-Element
 returns-in_ok-inside-in-Element c = λ u.
-    element_apart (kept c.args.memo) (map heard_of c.in-Element.all.items) (kept (box_value c.in-Element.inside)) (kept (box_value c.in-Element.later))
-    (map kept c.in_ok-inside-in-Element.inside.items) (kept c.into_inner-in-Element-2.result)
-    (ap kept c.in-Element.is ∙ kept_element c.in-Element.all c.in-Element.inside c.in-Element.later)
-    (c.in_ok-inside-in-Element.ensures ∙ ap (λ z. kept z ∷ []) c.into_inner-in-Element.ensures) (ap kept (sym c.into_inner-in-Element-2.ensures))
+    rw c.in_ok-head-in-Element.ensures.ok
+    (element_apart (kept (box_value c.args.memo)) (map heard_of c.in-Element.all.items) (kept (box_value c.in-Element.inside))
+    (kept (box_value c.in-Element.later)) (map kept c.in_ok-inside-in-Element.inside.items) (kept (box_value c.in-Element.later))
+    (ap kept (sym c.into_inner.ensures ∙ c.in-Element.is) ∙ kept_element c.in-Element.all c.in-Element.inside c.in-Element.later)
+    (c.in_ok-inside-in-Element.ensures ∙ ap (λ z. kept z ∷ []) c.into_inner-in-Element.ensures) refl)
 
 pub returns-in_ok-inside-in-Branch : goal.returns-in_ok-inside-in-Branch
 returns-in_ok-inside-in-Branch c = λ u.
-    branch_apart (kept c.args.memo) (heard_of c.in-Branch.test) (kept (box_value c.in-Branch.inside)) (kept (box_value c.in-Branch.later))
-    (map kept c.in_ok-inside-in-Branch.inside.items) (kept c.into_inner-in-Branch-2.result)
-    (ap kept c.in-Branch.is ∙ kept_branch c.in-Branch.test c.in-Branch.inside c.in-Branch.later)
-    (c.in_ok-inside-in-Branch.ensures ∙ ap (λ z. kept z ∷ []) c.into_inner-in-Branch.ensures) (ap kept (sym c.into_inner-in-Branch-2.ensures))
+    rw c.in_ok-head-in-Branch.ensures.ok
+    (branch_apart (kept (box_value c.args.memo)) (heard_of c.in-Branch.test) (kept (box_value c.in-Branch.inside)) (kept (box_value c.in-Branch.later))
+    (map kept c.in_ok-inside-in-Branch.inside.items) (kept (box_value c.in-Branch.later))
+    (ap kept (sym c.into_inner.ensures ∙ c.in-Branch.is) ∙ kept_branch c.in-Branch.test c.in-Branch.inside c.in-Branch.later)
+    (c.in_ok-inside-in-Branch.ensures ∙ ap (λ z. kept z ∷ []) c.into_inner-in-Branch.ensures) refl)
 
-pub returns-in-Loop : goal.returns-in-Loop
-returns-in-Loop c = λ u.
-    loop_apart (kept c.args.memo) (heard_of c.in-Loop.rows) (map kept c.in-Loop.inside.items) (kept (box_value c.in-Loop.later)) (kept c.into_inner-in-Loop.result)
-    (ap kept c.in-Loop.is ∙ kept_loop c.in-Loop.rows c.in-Loop.inside c.in-Loop.later) (ap kept (sym c.into_inner-in-Loop.ensures))
+pub returns-in_ok-head-in-Loop : goal.returns-in_ok-head-in-Loop
+returns-in_ok-head-in-Loop c = λ u.
+    rw c.in_ok-head-in-Loop.ensures.ok
+    (loop_apart (kept (box_value c.args.memo)) (heard_of c.in-Loop.rows) (map kept c.in-Loop.inside.items) (kept (box_value c.in-Loop.later))
+    (kept (box_value c.in-Loop.later)) (ap kept (sym c.into_inner.ensures ∙ c.in-Loop.is) ∙ kept_loop c.in-Loop.rows c.in-Loop.inside c.in-Loop.later) refl)
 
-pub returns-in-Blank : goal.returns-in-Blank
-returns-in-Blank c = rw c.nothing.ensures (λ u. ap kept c.in-Blank.is ∙ kept_blank)
+pub returns-in_ok-parts-in-Blank : goal.returns-in_ok-parts-in-Blank
+returns-in_ok-parts-in-Blank c = rw c.in_ok-parts-in-Blank.ensures (λ u. ap kept (sym c.into_inner.ensures ∙ c.in-Blank.is) ∙ kept_blank)
 
-pub returns-in-Unread : goal.returns-in-Unread
-returns-in-Unread c = λ u. absurd (true≢false (sym (ap is_unread (ap kept c.in-Unread.is ∙ kept_unread)) ∙ u))
+pub returns-in_ok-parts-in-Unread : goal.returns-in_ok-parts-in-Unread
+returns-in_ok-parts-in-Unread c = λ u.
+    absurd (true≢false (sym (ap is_unread (ap kept (sym c.into_inner.ensures ∙ c.in-Unread.is) ∙ kept_unread)) ∙ u))

@@ -1,12 +1,16 @@
-use Rattle.std.proofs.Common.{◌≡◌, false, map, refl, sym, subst, ◌∙◌}
+use Rattle.std.proofs.Common.{◌≡◌, ap, false, map, refl, sym, subst, ◌∙◌}
+use Rattle.std.specs.Box.{box_value}
 use Rattle.std.specs.Option.{option_copied}
 use Rattle.tpl_blocks.specs.Blocks.{block}
 use Rattle.tpl_hearing.proofs.Shared.{then_heard}
 use Rattle.tpl_memos.specs.Kept.{kept}
 use Rattle.update_laws.specs.PageMemos.{names}
+use Rattle.tpl_listening.specs.Makings.{Makes, lines_memo}
 use Rattle.tpl_listening.specs.Renewals.{AreLooked, is_unread}
 use Rattle.tpl_listening.proofs.Shared.{stayed}
-use Rattle.tpl_renewing.specs.Turns.{ServeInside, WasOpened}
+use Rattle.tpl_making.specs.Heads.{Opens}
+use Rattle.tpl_renewing.specs.Tellings.{IsTold}
+use Rattle.tpl_renewing.specs.Turns.{ServeInside, WasOpened, outcome_of}
 use Rattle.tpl_renewing.proofs.Apart.{was_apart}
 use Rattle.tpl_listening.specs.Changes.{changed}
 use Rattle.tpl_renewing.proofs.Telling.{heard_told, made_told, stays_told, was_known, whole_told}
@@ -16,63 +20,66 @@ use Rattle.tpl_renewing.proofs.renewing.begin.Goals as goal
 pub returns-then-unread-clause-begins : goal.returns-then-unread-clause-begins
 returns-then-unread-clause-begins g c =
     begins_whole (block c.args.lines.now) c.args.links.now c.args.row.now (option_copied c.lent_row-here.result) c.args.before.now c.args.heard.now
-    c.make.new.heard c.whole.result.first c.in_ok-memo.memo c.made.result (map kept c.whole.result.inside_was.items) (map kept c.whole.result.later_was.items)
-    c.whole.ensures.first c.lent_row-here.ensures.is c.in_ok-memo.ensures.made
+    c.make.new.heard (box_value c.in_ok-all.all.first) c.in_ok-memo.memo c.made.result (map kept c.in_ok-all.all.inside_was.items) (map kept c.in_ok-all.all.later_was.items)
+    c.in_ok-all.ensures.first c.lent_row-here.ensures.is c.in_ok-memo.ensures.made
 
 pub returns-then-unread-clause-places : goal.returns-then-unread-clause-places
 returns-then-unread-clause-places g c =
-    places_whole c.whole.result.first c.in_ok-memo.memo c.made.result c.args.row.now c.whole.result.places.items c.whole.ensures.first c.whole.ensures.places
+    places_whole (box_value c.in_ok-all.all.first) c.in_ok-memo.memo c.made.result c.args.row.now c.in_ok-all.all.places.items c.in_ok-all.ensures.first c.in_ok-all.ensures.places
 
 pub returns-then-branch-clause-begins : goal.returns-then-branch-clause-begins
 returns-then-branch-clause-begins g c =
     let b = block c.args.lines.now in
-    let m = kept c.args.memo in
-    let u : is_unread m ≡ false = sym c.unread.ensures ∙ c.if-unread.false in
-    let same = subst (λ z. AreLooked z c.args.before.now (names m) c.args.heard.now c.stays.new.heard) c.if-branch.true c.in_ok-stays.ensures.looked in
+    let m = kept (box_value c.args.memo) in
+    let u : is_unread m ≡ false = ap (λ z. is_unread (kept z)) (sym c.deref.ensures) ∙ (sym c.unread.ensures ∙ c.if-unread.false) in
+    let same = subst (λ z. AreLooked z c.args.before.now (names m) c.args.heard.now c.stays.new.heard) c.if-branch.true (rw c.deref-2.ensures at c.in_ok-stays.ensures.looked) in
     begins_whole b c.args.links.now c.args.row.now c.args.row.now c.args.before.now c.args.heard.now c.stays.new.heard
-    c.whole-then-branch.result.first c.args.memo c.stays-then-branch.result (map kept c.whole-then-branch.result.inside_was.items)
-    (map kept c.whole-then-branch.result.later_was.items) c.whole-then-branch.ensures.first refl
-    (stayed b c.args.links.now c.args.row.now c.args.before.now c.args.heard.now c.stays.new.heard m (c.requires.was.made u) same)
+    (box_value c.in_ok-all-2.all.first) c.into_inner.result c.stays-then-branch.result (map kept c.in_ok-all-2.all.inside_was.items)
+    (map kept c.in_ok-all-2.all.later_was.items) c.in_ok-all-2.ensures.first refl
+    (subst (λ z. Makes (lines_memo b) c.args.links.now c.args.row.now c.args.heard.now c.stays.new.heard (kept z)) (sym c.into_inner.ensures)
+    (stayed b c.args.links.now c.args.row.now c.args.before.now c.args.heard.now c.stays.new.heard m (c.requires.was.made u) same))
 
 pub returns-then-branch-clause-places : goal.returns-then-branch-clause-places
 returns-then-branch-clause-places g c =
-    places_whole c.whole-then-branch.result.first c.args.memo c.stays-then-branch.result c.args.row.now c.whole-then-branch.result.places.items c.whole-then-branch.ensures.first
-    c.whole-then-branch.ensures.places
+    places_whole (box_value c.in_ok-all-2.all.first) c.into_inner.result c.stays-then-branch.result c.args.row.now c.in_ok-all-2.all.places.items c.in_ok-all-2.ensures.first
+    c.in_ok-all-2.ensures.places
 
 pub hear_first_again-requires-clause-was : goal.hear_first_again-requires-clause-was
 hear_first_again-requires-clause-was g c =
     let b = block c.args.lines.now in
-    let m = kept c.args.memo in
-    let u : is_unread m ≡ false = sym c.unread.ensures ∙ c.if-unread.false in
-    let w = was_apart b c.args.links.now c.args.row.now c.args.before.now m c.in_ok-head.field-0.head (map kept c.in_ok-head.field-0.inside.items)
-    (kept c.in_ok-head.field-0.later) (c.requires.was.made u) (c.in_ok-head.ensures u) in
-    subst (λ z. WasOpened b c.args.links.now z c.args.before.now c.in_ok-head.field-0.head) (sym c.lent_row-here.ensures.is) w.opened
+    let m = kept (box_value c.args.memo) in
+    let u : is_unread m ≡ false = ap (λ z. is_unread (kept z)) (sym c.deref.ensures) ∙ (sym c.unread.ensures ∙ c.if-unread.false) in
+    let w = was_apart b c.args.links.now c.args.row.now c.args.before.now m (box_value c.in_ok-head.field-0.head) (map kept c.in_ok-head.field-0.inside.items)
+    (kept (box_value c.in_ok-head.field-0.later)) (c.requires.was.made u) (c.in_ok-head.ensures u) in
+    subst (λ z. WasOpened b c.args.links.now z c.args.before.now (box_value c.in_ok-head.field-0.head)) (sym c.lent_row-here.ensures.is) w.opened
 
 pub returns-clause-begins : goal.returns-clause-begins
 returns-clause-begins g c =
     let b = block c.args.lines.now in
-    let m = kept c.args.memo in
-    let u : is_unread m ≡ false = sym c.unread.ensures ∙ c.if-unread.false in
-    let changed = subst (λ z. AreLooked z c.args.before.now (names m) c.args.heard.now c.stays.new.heard) c.if-branch.false c.in_ok-stays.ensures.looked in
-    let old = c.in_ok-head.field-0.head in
-    let h = c.in_ok-head-2.head in
+    let m = kept (box_value c.args.memo) in
+    let u : is_unread m ≡ false = ap (λ z. is_unread (kept z)) (sym c.deref.ensures) ∙ (sym c.unread.ensures ∙ c.if-unread.false) in
+    let changed = subst (λ z. AreLooked z c.args.before.now (names m) c.args.heard.now c.stays.new.heard) c.if-branch.false (rw c.deref-2.ensures at c.in_ok-stays.ensures.looked) in
+    let old = box_value c.in_ok-head.field-0.head in
+    let h = box_value c.in_ok-head-3.head in
+    let o = subst (Opens b c.args.links.now c.args.row.now c.stays.new.heard c.hear_first_again.new.heard) (sym c.in_ok-head-3.ensures.ok)
+    (rw c.lent_row-here.ensures.is at c.in_ok-head-2.ensures.opens) in
     let is = map kept c.in_ok-head.field-0.inside.items in
-    let r = kept c.in_ok-head.field-0.later in
+    let r = kept (box_value c.in_ok-head.field-0.later) in
     let turn = c.in_ok-turn.turn in
     let t = c.in_ok-turn.ensures in
     let ins = map kept turn.inside_was.items in
     let lat = map kept turn.later_was.items in
-    let serves = subst (λ z. ServeInside z h is ins) c.in_ok-was.ensures t.inside_was in
-    begins_line b c.args.links.now c.args.row.now c.args.before.now c.args.heard.now c.hear_first_again.new.heard turn.first h ins lat t.first
+    let serves = subst (λ z. ServeInside z h is ins) (c.deref-4.ensures ∙ (c.in_ok-was-2.ensures.ok ∙ (c.in_ok-was.ensures ∙ ap outcome_of c.deref-3.ensures))) t.inside_was in
+    begins_line b c.args.links.now c.args.row.now c.args.before.now c.args.heard.now c.hear_first_again.new.heard (box_value turn.first) h ins lat t.first
     (opened_again b c.args.links.now c.args.row.now c.args.before.now c.args.heard.now c.stays.new.heard c.hear_first_again.new.heard m old h is r
-    ins lat (c.requires.was.made u) (c.in_ok-head.ensures u) changed (rw c.lent_row-here.ensures.is at c.in_ok-head-2.ensures.opens)
+    ins lat (c.requires.was.made u) (c.in_ok-head.ensures u) changed o
     c.in_ok-head-2.ensures.after.grows serves t.later_was)
 
 pub returns-clause-places : goal.returns-clause-places
 returns-clause-places g c =
     let turn = c.in_ok-turn.turn in
     let t = c.in_ok-turn.ensures in
-    places_line turn.first c.in_ok-head-2.head c.args.row.now (option_copied c.lent_row-here.result) turn.places.items t.first c.lent_row-here.ensures.is
+    places_line (box_value turn.first) (box_value c.in_ok-head-3.head) c.args.row.now (option_copied c.lent_row-here.result) turn.places.items t.first c.lent_row-here.ensures.is
     t.places
 
 pub returns-clause-after : goal.returns-clause-after
@@ -83,33 +90,36 @@ returns-clause-after g c = then_heard _ _ _ _ _ _ _ _ _ c.in_ok-stays.ensures.af
 pub returns-then-unread-clause-told : goal.returns-then-unread-clause-told
 returns-then-unread-clause-told g c =
     let b = block c.args.lines.now in
-    whole_told b c.args.links.now c.args.row.now c.args.before.now (kept c.args.memo) c.whole.result.first c.in_ok-memo.memo c.made.result
-    (map kept c.whole.result.inside_was.items) c.whole.ensures.first
-    (made_told b c.args.links.now c.args.row.now c.args.before.now (kept c.args.memo) (kept c.in_ok-memo.memo) (changed c.made.result) c.made.ensures)
+    whole_told b c.args.links.now c.args.row.now c.args.before.now (kept (box_value c.args.memo)) (box_value c.in_ok-all.all.first) c.in_ok-memo.memo c.made.result
+    (map kept c.in_ok-all.all.inside_was.items) c.in_ok-all.ensures.first
+    (made_told b c.args.links.now c.args.row.now c.args.before.now (kept (box_value c.args.memo)) (kept c.in_ok-memo.memo) (changed c.made.result) c.made.ensures)
 
 pub returns-then-branch-clause-told : goal.returns-then-branch-clause-told
 returns-then-branch-clause-told g c =
     let b = block c.args.lines.now in
-    let m = kept c.args.memo in
-    let u : is_unread m ≡ false = sym c.unread.ensures ∙ c.if-unread.false in
-    whole_told b c.args.links.now c.args.row.now c.args.before.now m c.whole-then-branch.result.first c.args.memo c.stays-then-branch.result
-    (map kept c.whole-then-branch.result.inside_was.items) c.whole-then-branch.ensures.first
+    let m = kept (box_value c.args.memo) in
+    let u : is_unread m ≡ false = ap (λ z. is_unread (kept z)) (sym c.deref.ensures) ∙ (sym c.unread.ensures ∙ c.if-unread.false) in
+    whole_told b c.args.links.now c.args.row.now c.args.before.now m (box_value c.in_ok-all-2.all.first) c.into_inner.result
+    c.stays-then-branch.result (map kept c.in_ok-all-2.all.inside_was.items) c.in_ok-all-2.ensures.first
+    (subst (λ z. IsTold b c.args.links.now c.args.row.now c.args.before.now m (kept z) (changed c.stays-then-branch.result)) (sym c.into_inner.ensures)
     (stays_told b c.args.links.now c.args.row.now c.args.before.now m (changed c.stays-then-branch.result) c.stays-then-branch.ensures u
-    (c.requires.was.made u))
+    (c.requires.was.made u)))
 
 pub returns-clause-told : goal.returns-clause-told
 returns-clause-told g c =
     let b = block c.args.lines.now in
-    let m = kept c.args.memo in
-    let u : is_unread m ≡ false = sym c.unread.ensures ∙ c.if-unread.false in
-    let old = c.in_ok-head.field-0.head in
-    let h = c.in_ok-head-2.head in
+    let m = kept (box_value c.args.memo) in
+    let u : is_unread m ≡ false = ap (λ z. is_unread (kept z)) (sym c.deref.ensures) ∙ (sym c.unread.ensures ∙ c.if-unread.false) in
+    let old = box_value c.in_ok-head.field-0.head in
+    let h = box_value c.in_ok-head-3.head in
+    let o = subst (Opens b c.args.links.now c.args.row.now c.stays.new.heard c.hear_first_again.new.heard) (sym c.in_ok-head-3.ensures.ok)
+    (rw c.lent_row-here.ensures.is at c.in_ok-head-2.ensures.opens) in
     let is = map kept c.in_ok-head.field-0.inside.items in
     let turn = c.in_ok-turn.turn in
     let t = c.in_ok-turn.ensures in
     let ins = map kept turn.inside_was.items in
-    let w = was_apart b c.args.links.now c.args.row.now c.args.before.now m old is (kept c.in_ok-head.field-0.later) (c.requires.was.made u)
+    let w = was_apart b c.args.links.now c.args.row.now c.args.before.now m old is (kept (box_value c.in_ok-head.field-0.later)) (c.requires.was.made u)
     (c.in_ok-head.ensures u) in
-    heard_told b c.args.links.now c.args.row.now c.args.before.now m turn.first h ins t.first u
+    heard_told b c.args.links.now c.args.row.now c.args.before.now m (box_value turn.first) h ins t.first u
     (was_known b c.args.links.now c.args.row.now c.args.before.now c.stays.new.heard c.hear_first_again.new.heard old h is ins w.opened
-    (rw c.lent_row-here.ensures.is at c.in_ok-head-2.ensures.opens) (subst (λ z. ServeInside z h is ins) c.in_ok-was.ensures t.inside_was))
+    o (subst (λ z. ServeInside z h is ins) (c.deref-4.ensures ∙ (c.in_ok-was-2.ensures.ok ∙ (c.in_ok-was.ensures ∙ ap outcome_of c.deref-3.ensures))) t.inside_was))
