@@ -6,6 +6,8 @@ mod bodies;
 #[cfg(test)]
 mod owners;
 #[cfg(test)]
+mod plain;
+#[cfg(test)]
 mod samples;
 #[cfg(test)]
 mod watchers;

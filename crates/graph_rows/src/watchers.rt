@@ -1,48 +1,94 @@
 // Watchers of a cell and of a computed that reads it, with ample memory.
 ghost use Rattle.std.specs.Prelude.{◌≡◌, ◌∷◌, [], true, IfOk};
 ghost use Rattle.std.specs.List.{All};
-ghost use Rattle.sig_nodes.specs.States.{is_given, CanWear};
+ghost use Rattle.sig_nodes.specs.States.{is_given, no_state, CanWear};
+ghost use Rattle.sig_watcher.specs.Tables.{no_watchers};
 
-use sig_base::{NodeId, Outcome, Value, WatcherId};
+use sig_base::{NoMemory, NodeId, Outcome, Value, WatcherId};
 use sig_formula::Formula;
 use sig_nodes::{Graph, Recipe, Standing};
-use sig_watcher::{Told, Watchers};
+use sig_watcher::{Told, WatchFault, Watchers};
 use std::alloc::Global;
 use std::test::Fail;
 
-// Who is told of a change.
-fn told_of(
-    alloc: Global,
-    watchers: &mut Watchers,
-    graph: &Graph,
-    id: NodeId,
-) -> Result<Vec<Told>, Fail> {
-    let mut told = Vec::with_capacity(alloc, watchers.live())?;
-    watchers.tell(graph, id, &mut told);
-    Ok(told)
+// No signals.
+fn no_signals(alloc: Global) -> Result<Box<Graph>, NoMemory>
+    ensures { IfOk result (λ g. g.value.state ≡ no_state) }
+{
+    let graph = Graph::new(alloc)?;
+    Ok(Box::new(alloc, graph)?)
+}
+
+// Nobody who watches.
+fn nobody(alloc: Global) -> Result<Box<Watchers>, NoMemory>
+    ensures { IfOk result (λ w. w.value ≡ no_watchers) }
+{
+    let watchers = Watchers::new(alloc)?;
+    Ok(Box::new(alloc, watchers)?)
 }
 
 fn told(watcher: WatcherId, refused: bool) -> Told {
     Told { watcher, refused }
 }
 
-#[test]
-fn who_watches_is_told_once(rt: HostRuntime) -> Result<(), Fail> {
-    let alloc = rt.alloc();
-    let mut graph = Graph::new(alloc)?;
-    let a = graph.add_cell(Value::Int(1), None)?;
-    let mut watchers = Watchers::new(alloc)?;
+// Tells of a change, and whether these were told.
+fn are_told(
+    alloc: Global,
+    watchers: &mut Watchers,
+    graph: &Graph,
+    id: NodeId,
+    wanted: &[Told],
+) -> Result<bool, Fail> {
+    let mut told = Vec::with_capacity(alloc, watchers.live())?;
+    watchers.tell(graph, id, &mut told);
+    Ok(told.as_slice() == wanted)
+}
+
+// Whether a watcher's pending computeds are these.
+fn are_pending(
+    watchers: &Watchers,
+    graph: &Graph,
+    w: WatcherId,
+    wanted: &[NodeId],
+) -> Result<bool, WatchFault> {
+    let pending = watchers.pending(graph, w)?;
+    Ok(pending.as_slice() == wanted)
+}
+
+// Whether two watchers of a cell are told once, and one of them again once it watches again.
+fn two_are_told(
+    alloc: Global,
+    watchers: &mut Watchers,
+    graph: &Graph,
+    a: NodeId,
+) -> Result<bool, Fail>
+    requires { watchers.old ≡ no_watchers }
+{
     let w = watchers.add(false)?;
     let v = watchers.add(true)?;
     watchers.watch(w, &[a, a])?;
     watchers.watch(v, &[a])?;
-    let first = told_of(alloc, &mut watchers, &graph, a)?;
-    assert!(rt; first.as_slice() == [told(w, false), told(v, true)].as_slice());
-    let second = told_of(alloc, &mut watchers, &graph, a)?;
-    assert!(rt; second.is_empty());
+    let first = are_told(alloc, watchers, graph, a, &[told(w, false), told(v, true)])?;
+    let second = are_told(alloc, watchers, graph, a, &[])?;
     watchers.watch(v, &[])?;
-    let third = told_of(alloc, &mut watchers, &graph, a)?;
-    assert!(rt; third.as_slice() == [told(v, true)].as_slice());
+    let third = are_told(alloc, watchers, graph, a, &[told(v, true)])?;
+    Ok(first && second && third)
+}
+
+// Whether two watchers of a new cell are told so.
+fn a_cell_is_told(alloc: Global, graph: &mut Graph) -> Result<bool, Fail>
+    requires { graph.old.state ≡ no_state }
+{
+    let a = graph.add_cell(Value::Int(1), None)?;
+    let mut watchers = nobody(alloc)?;
+    two_are_told(alloc, &mut watchers, graph, a)
+}
+
+#[test]
+fn who_watches_is_told_once(rt: HostRuntime) -> Result<(), Fail> {
+    let alloc = rt.alloc();
+    let mut graph = no_signals(alloc)?;
+    assert!(rt; a_cell_is_told(alloc, &mut graph)?);
     Ok(())
 }
 
@@ -68,23 +114,44 @@ fn keep_run(graph: &mut Graph, id: NodeId, reads: Vec<NodeId>) -> Result<(), Fai
     Ok(())
 }
 
-#[test]
-fn a_computed_that_ran_is_reached(rt: HostRuntime) -> Result<(), Fail> {
-    let alloc = rt.alloc();
-    let mut graph = Graph::new(alloc)?;
+// Whether a change of the cell is told to the watcher of the computed once that has run, and not before.
+fn reaches(
+    alloc: Global,
+    watchers: &mut Watchers,
+    graph: &mut Graph,
+    a: NodeId,
+    b: NodeId,
+) -> Result<bool, Fail>
+    requires watchers { watchers.old ≡ no_watchers }
+    requires given { is_given graph.old a ≡ true }
+    requires worn { CanWear graph.old.state }
+{
+    let w = watchers.add(false)?;
+    watchers.watch(w, &[b])?;
+    let never = are_told(alloc, watchers, graph, a, &[])?;
+    let waits = are_pending(watchers, graph, w, &[b])?;
+    let reads = one(alloc, a)?;
+    keep_run(graph, b, reads)?;
+    let rests = are_pending(watchers, graph, w, &[])?;
+    let ran = are_told(alloc, watchers, graph, a, &[told(w, false)])?;
+    Ok(never && waits && rests && ran)
+}
+
+// Whether a new computed, which asks for a new cell, is reached so.
+fn a_computed_is_reached(alloc: Global, graph: &mut Graph) -> Result<bool, Fail>
+    requires { graph.old.state ≡ no_state }
+{
     let a = graph.add_cell(Value::Int(1), None)?;
     let slots = one(alloc, a)?;
     let b = graph.add_computed(Recipe::Formula(Formula::Slot(0)), slots)?;
-    let mut watchers = Watchers::new(alloc)?;
-    let w = watchers.add(false)?;
-    watchers.watch(w, &[b])?;
-    let never = told_of(alloc, &mut watchers, &graph, a)?;
-    assert!(rt; never.is_empty());
-    assert!(rt; watchers.pending(&graph, w)?.as_slice() == [b].as_slice());
-    let reads = one(alloc, a)?;
-    keep_run(&mut graph, b, reads)?;
-    assert!(rt; watchers.pending(&graph, w)?.is_empty());
-    let ran = told_of(alloc, &mut watchers, &graph, a)?;
-    assert!(rt; ran.as_slice() == [told(w, false)].as_slice());
+    let mut watchers = nobody(alloc)?;
+    reaches(alloc, &mut watchers, graph, a, b)
+}
+
+#[test]
+fn a_computed_that_ran_is_reached(rt: HostRuntime) -> Result<(), Fail> {
+    let alloc = rt.alloc();
+    let mut graph = no_signals(alloc)?;
+    assert!(rt; a_computed_is_reached(alloc, &mut graph)?);
     Ok(())
 }
