@@ -4,7 +4,7 @@ ghost use Rattle.std.specs.Prelude.{◌≡◌};
 use sig_base::{Text, TextFault};
 use sig_words::{LineFault, Token, TokenKind, literal, token_bytes, tokens};
 use std::alloc::{AllocError, Global};
-use std::test::Fail;
+use std::process::Abort;
 
 fn word(start: usize, end: usize) -> Token {
     Token {
@@ -57,6 +57,31 @@ fn refused(alloc: Global, line: &[u8]) -> Option<LineFault> {
     tokens(alloc, line).err()
 }
 
+// Whether a line is refused at that byte.
+fn is_bad(alloc: Global, line: &[u8], at: usize) -> bool {
+    refused(alloc, line) == Some(LineFault::Bad(at))
+}
+
+// Each line is to be refused at the byte beside it.
+fn assert_bad(rt: &impl Abort, alloc: Global, rows: &[(&str, usize)]) {
+    for (line, at) in rows {
+        assert!(rt; is_bad(alloc, line.as_bytes(), *at), "at {line}");
+    }
+}
+
+fn blanks(alloc: Global, count: usize) -> Result<Vec<u8>, AllocError> {
+    let line = vec![in alloc; b' '; count]?;
+    Ok(line)
+}
+
+// Whether so many blanks are refused for that, or are a line.
+fn is_blank_fault(alloc: Global, count: usize, wanted: Option<LineFault>) -> bool {
+    match blanks(alloc, count) {
+        Ok(line) => refused(alloc, &line) == wanted,
+        Err(_) => false,
+    }
+}
+
 // The value of the literal that a line begins with.
 fn first_value(alloc: Global, line: &str) -> Option<Result<Text, TextFault>> {
     let Ok(found) = tokens(alloc, line.as_bytes()) else {
@@ -98,6 +123,19 @@ fn long_literal(alloc: Global, letters: usize, tail: &str) -> Result<String, All
     out.push_str(tail)?;
     out.push('"')?;
     Ok(out)
+}
+
+// Whether such a text has a value of so many bytes, or, with none, is too long.
+fn has_value_len(alloc: Global, letters: usize, tail: &str, wanted: Option<usize>) -> bool {
+    match long_literal(alloc, letters, tail) {
+        Ok(line) => value_len(alloc, line.as_str()) == wanted,
+        Err(_) => false,
+    }
+}
+
+// Whether these are the bytes of a token of a line.
+fn has_bytes(line: &[u8], token: &Token, wanted: &[u8]) -> bool {
+    token_bytes(line, token) == wanted
 }
 
 #[test]
@@ -179,9 +217,9 @@ fn tells_signs(rt: HostRuntime) {
 }
 
 #[test]
-fn refuses_lines(rt: HostRuntime) -> Result<(), Fail> {
+fn refuses_lines(rt: HostRuntime) {
     let alloc = rt.alloc();
-    for (line, at) in [
+    let rows = [
         ("9223372036854775808", 0),
         ("-9223372036854775809", 0),
         ("-0", 0),
@@ -195,25 +233,17 @@ fn refuses_lines(rt: HostRuntime) -> Result<(), Fail> {
         ("a !b", 2),
         ("@B", 0),
         ("@a23456789012345678901234567890123", 0),
-    ] {
-        assert_eq!(rt;
-            refused(alloc, line.as_bytes()),
-            Some(LineFault::Bad(at)),
-            "at {line}"
-        );
-    }
-    assert_eq!(rt; refused(alloc, b"ab \xc3"), Some(LineFault::Bad(3)));
-    assert_eq!(rt; refused(alloc, b"\"\xc3\""), Some(LineFault::Bad(1)));
-    assert_eq!(rt; refused(alloc, b"? \xff"), Some(LineFault::Bad(2)));
-    let mut blanks = vec![in alloc; b' '; 4096]?;
-    assert_eq!(rt; refused(alloc, &blanks), None);
-    blanks.push(b' ')?;
-    assert_eq!(rt; refused(alloc, &blanks), Some(LineFault::TooLong));
-    Ok(())
+    ];
+    assert_bad(&rt, alloc, &rows);
+    assert!(rt; is_bad(alloc, b"ab \xc3", 3));
+    assert!(rt; is_bad(alloc, b"\"\xc3\"", 1));
+    assert!(rt; is_bad(alloc, b"? \xff", 2));
+    assert!(rt; is_blank_fault(alloc, 4096, None));
+    assert!(rt; is_blank_fault(alloc, 4097, Some(LineFault::TooLong)));
 }
 
 #[test]
-fn reads_literals(rt: HostRuntime) -> Result<(), Fail> {
+fn reads_literals(rt: HostRuntime) {
     let alloc = rt.alloc();
     assert!(rt;
         has_value(
@@ -223,16 +253,9 @@ fn reads_literals(rt: HostRuntime) -> Result<(), Fail> {
         )
     );
     assert!(rt; has_value(alloc, "\"\"", ""));
-    let longest = long_literal(alloc, 512, "")?;
-    assert_eq!(rt; value_len(alloc, longest.as_str()), Some(1024));
-    let escaped = long_literal(alloc, 511, "\\n\\n")?;
-    assert_eq!(rt; value_len(alloc, escaped.as_str()), Some(1024));
-    let longer = long_literal(alloc, 512, "a")?;
-    assert_eq!(rt; value_len(alloc, longer.as_str()), None);
-    assert_eq!(rt;
-        token_bytes(b"a -12 b", &number(-12, 2, 5)),
-        b"-12".as_slice()
-    );
-    assert_eq!(rt; token_bytes(b"a", &word(2, 5)), b"".as_slice());
-    Ok(())
+    assert!(rt; has_value_len(alloc, 512, "", Some(1024)));
+    assert!(rt; has_value_len(alloc, 511, "\\n\\n", Some(1024)));
+    assert!(rt; has_value_len(alloc, 512, "a", None));
+    assert!(rt; has_bytes(b"a -12 b", &number(-12, 2, 5), b"-12"));
+    assert!(rt; has_bytes(b"a", &word(2, 5), b""));
 }

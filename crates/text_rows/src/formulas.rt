@@ -3,14 +3,20 @@
 use formula_text::{
     Allow, FormulaFault, Wired, has_row_form, put_formula, put_formula_of, read_formula, read_rough,
 };
-use sig_base::NoMemory;
+use sig_base::{Name, NoMemory};
+use sig_formula::Formula;
 use sig_words::tokens;
 use std::alloc::Global;
-use std::test::Fail;
+use std::process::Abort;
 
 const ANY: Allow = Allow {
     row: true,
     untrack: true,
+};
+
+const NEITHER: Allow = Allow {
+    row: false,
+    untrack: false,
 };
 
 // What is written of a formula, and a bar before what stands behind it.
@@ -65,15 +71,33 @@ fn brings_rows(alloc: Global, line: &[u8]) -> Option<bool> {
     Some(has_row_form(&rough))
 }
 
-// Whether the second line is written again by the names of the first.
-fn shared_names(alloc: Global, first: &[u8], second: &[u8]) -> Option<bool> {
-    let found = tokens(alloc, first).ok()?;
-    let (first, _) = read_formula(alloc, first, &found, 0, ANY).ok()?;
-    let found = tokens(alloc, second).ok()?;
-    let (other, _) = read_formula(alloc, second, &found, 0, ANY).ok()?;
+// The formula that a line begins with.
+fn formula(alloc: Global, line: &[u8]) -> Option<Wired> {
+    let found = tokens(alloc, line).ok()?;
+    let (wired, _) = read_formula(alloc, line, &found, 0, ANY).ok()?;
+    Some(wired)
+}
+
+// Whether a formula is written so by these names.
+fn is_written_by(alloc: Global, names: &[Name], formula: &Formula, wanted: &[u8]) -> bool {
     let mut out = Vec::new(alloc);
-    put_formula_of(&mut out, &first.names, &other.formula).ok()?;
-    Some(out.as_slice() == b"sum(b, it.n)".as_slice())
+    put_formula_of(&mut out, names, formula).is_ok() && out.as_slice() == wanted
+}
+
+// Whether the formula of a line is written so by these names.
+fn line_is_written_by(alloc: Global, names: &[Name], line: &[u8], wanted: &[u8]) -> bool {
+    match formula(alloc, line) {
+        Some(wired) => is_written_by(alloc, names, &wired.formula, wanted),
+        None => false,
+    }
+}
+
+// Whether the second line is written so by the names of the first.
+fn shares_names(alloc: Global, first: &[u8], second: &[u8], wanted: &[u8]) -> bool {
+    match formula(alloc, first) {
+        Some(wired) => line_is_written_by(alloc, &wired.names, second, wanted),
+        None => false,
+    }
 }
 
 // So many `not`, and a truth.
@@ -122,142 +146,184 @@ fn is_fault(alloc: Global, made: Result<Vec<u8>, NoMemory>, wanted: Option<Formu
     }
 }
 
+// Each line is to be written again as it stands.
+fn assert_keeps(rt: &impl Abort, alloc: Global, lines: &[&str]) {
+    for line in lines {
+        assert!(rt; keeps(alloc, line), "at {line}");
+    }
+}
+
+// Each line is to be written again as the text beside it.
+fn assert_reads_as(rt: &impl Abort, alloc: Global, rows: &[(&str, &str)]) {
+    for (line, wanted) in rows {
+        assert!(rt; reads_as(alloc, line, wanted), "at {line}");
+    }
+}
+
+// No line is to begin with a formula.
+fn assert_syntax(rt: &impl Abort, alloc: Global, lines: &[&str]) {
+    for line in lines {
+        assert!(rt; is_syntax(alloc, line), "at {line}");
+    }
+}
+
 #[test]
 fn keeps_canonical_texts(rt: HostRuntime) {
     let alloc = rt.alloc();
-    assert!(rt; keeps(alloc, "a"));
-    assert!(rt; keeps(alloc, "-1"));
-    assert!(rt; keeps(alloc, "-9223372036854775808"));
-    assert!(rt; keeps(alloc, "\"x \\\" \\n \u{e9}\""));
-    assert!(rt; keeps(alloc, "\"\\\\ \\t \\r\""));
-    assert!(rt; keeps(alloc, "\"\""));
-    assert!(rt; keeps(alloc, "true"));
-    assert!(rt; keeps(alloc, "false and truth"));
-    assert!(rt; keeps(alloc, "a - -1"));
-    assert!(rt; keeps(alloc, "a - b - c"));
-    assert!(rt; keeps(alloc, "a - (b - c)"));
-    assert!(rt; keeps(alloc, "a - b + c"));
-    assert!(rt; keeps(alloc, "a + (b - c)"));
-    assert!(rt; keeps(alloc, "a / (b * c)"));
-    assert!(rt; keeps(alloc, "a ++ (b ++ c)"));
-    assert!(rt; keeps(alloc, "a or (b or c)"));
-    assert!(rt; keeps(alloc, "a and (b and c)"));
-    assert!(rt; keeps(alloc, "a == (b == c)"));
-    assert!(rt; keeps(alloc, "not not a"));
-    assert!(rt; keeps(alloc, "not a == b"));
-    assert!(rt; keeps(alloc, "(not a) == b"));
-    assert!(rt; keeps(alloc, "not (a and b) or c"));
-    assert!(rt; keeps(alloc, "if a then b else c ++ d"));
-    assert!(rt; keeps(alloc, "(if a then b else c) ++ d"));
-    assert!(rt;
-        keeps(
-            alloc,
-            "if if a then b else c then d else if e then f else g"
-        )
+    assert_keeps(
+        &rt,
+        alloc,
+        &[
+            "a",
+            "-1",
+            "-9223372036854775808",
+            "\"x \\\" \\n \u{e9}\"",
+            "\"\\\\ \\t \\r\"",
+            "\"\"",
+            "true",
+            "false and truth",
+            "a - -1",
+            "a - b - c",
+            "a - (b - c)",
+            "a - b + c",
+            "a + (b - c)",
+            "a / (b * c)",
+            "a ++ (b ++ c)",
+            "a or (b or c)",
+            "a and (b and c)",
+            "a == (b == c)",
+            "not not a",
+            "not a == b",
+            "(not a) == b",
+            "not (a and b) or c",
+            "if a then b else c ++ d",
+            "(if a then b else c) ++ d",
+            "if if a then b else c then d else if e then f else g",
+            "not (if a then b else c)",
+            "(a < b) == c",
+            "a + b * c - d % e",
+            "(a + b) * (c - d) / e",
+            "a ++ b + c == d ++ e",
+            "a + (b ++ c)",
+            "a or b and c or d",
+            "(a or b) and c",
+            "a != b and c <= d and e >= f and g > h",
+            "untrack(a + b) * c",
+            "untrack(untrack(if a then 1 else 2))",
+        ],
     );
-    assert!(rt; keeps(alloc, "not (if a then b else c)"));
-    assert!(rt; keeps(alloc, "(a < b) == c"));
-    assert!(rt; keeps(alloc, "a + b * c - d % e"));
-    assert!(rt; keeps(alloc, "(a + b) * (c - d) / e"));
-    assert!(rt; keeps(alloc, "a ++ b + c == d ++ e"));
-    assert!(rt; keeps(alloc, "a + (b ++ c)"));
-    assert!(rt; keeps(alloc, "a or b and c or d"));
-    assert!(rt; keeps(alloc, "(a or b) and c"));
-    assert!(rt; keeps(alloc, "a != b and c <= d and e >= f and g > h"));
-    assert!(rt; keeps(alloc, "untrack(a + b) * c"));
-    assert!(rt; keeps(alloc, "untrack(untrack(if a then 1 else 2))"));
 }
 
 #[test]
 fn drops_what_is_needless(rt: HostRuntime) {
     let alloc = rt.alloc();
-    assert!(rt; reads_as(alloc, "a--1", "a|--1"));
-    assert!(rt; reads_as(alloc, "(a)", "a"));
-    assert!(rt; reads_as(alloc, "((a))*(b+c)", "a * (b + c)"));
-    assert!(rt; reads_as(alloc, "(a-b)-(c)", "a - b - c"));
-    assert!(rt; reads_as(alloc, "(a ++ b) ++ c", "a ++ b ++ c"));
-    assert!(rt; reads_as(alloc, "(a or b) or (c and d)", "a or b or c and d"));
-    assert!(rt; reads_as(alloc, "not (not (a))", "not not a"));
-    assert!(rt; reads_as(alloc, "(a * b) + (c % d)", "a * b + c % d"));
-    assert!(rt; reads_as(alloc, "(-1)", "-1"));
-    assert!(rt; reads_as(alloc, "a-1", "a - 1"));
-    assert!(rt; reads_as(alloc, "a- 1", "a - 1"));
-    assert!(rt; reads_as(alloc, "(untrack(a))", "untrack(a)"));
-    assert!(rt; reads_as(alloc, "untrack ( (a) )", "untrack(a)"));
-    assert!(rt; reads_as(alloc, "not (a == b)", "not a == b"));
-    assert!(rt;
-        reads_as(
-            alloc,
-            "if (a) then (b) else (if c then d else e)",
-            "if a then b else if c then d else e"
-        )
+    assert_reads_as(
+        &rt,
+        alloc,
+        &[
+            ("a--1", "a|--1"),
+            ("(a)", "a"),
+            ("((a))*(b+c)", "a * (b + c)"),
+            ("(a-b)-(c)", "a - b - c"),
+            ("(a ++ b) ++ c", "a ++ b ++ c"),
+            ("(a or b) or (c and d)", "a or b or c and d"),
+            ("not (not (a))", "not not a"),
+            ("(a * b) + (c % d)", "a * b + c % d"),
+            ("(-1)", "-1"),
+            ("a-1", "a - 1"),
+            ("a- 1", "a - 1"),
+            ("(untrack(a))", "untrack(a)"),
+            ("untrack ( (a) )", "untrack(a)"),
+            ("not (a == b)", "not a == b"),
+            (
+                "if (a) then (b) else (if c then d else e)",
+                "if a then b else if c then d else e",
+            ),
+        ],
     );
 }
 
 #[test]
 fn ends_where_nothing_goes_on(rt: HostRuntime) {
     let alloc = rt.alloc();
-    assert!(rt; reads_as(alloc, "a < b == c", "a < b|== c"));
-    assert!(rt; reads_as(alloc, "a + )", "a|+ )"));
-    assert!(rt; reads_as(alloc, "a -1", "a|-1"));
-    assert!(rt; reads_as(alloc, "a+-1", "a|+-1"));
-    assert!(rt; reads_as(alloc, "not a == b == c", "not a == b|== c"));
-    assert!(rt;
-        reads_as(
-            alloc,
-            "a and if b then c else d",
-            "a|and if b then c else d"
-        )
+    assert_reads_as(
+        &rt,
+        alloc,
+        &[
+            ("a < b == c", "a < b|== c"),
+            ("a + )", "a|+ )"),
+            ("a -1", "a|-1"),
+            ("a+-1", "a|+-1"),
+            ("not a == b == c", "not a == b|== c"),
+            ("a and if b then c else d", "a|and if b then c else d"),
+            ("a + b * not c", "a + b|* not c"),
+            ("a b", "a|b"),
+            ("a = b", "a|= b"),
+        ],
     );
-    assert!(rt; reads_as(alloc, "a + b * not c", "a + b|* not c"));
-    assert!(rt; reads_as(alloc, "a b", "a|b"));
-    assert!(rt; reads_as(alloc, "a = b", "a|= b"));
-    assert!(rt; is_syntax(alloc, ""));
-    assert!(rt; is_syntax(alloc, "(a"));
-    assert!(rt; is_syntax(alloc, "if a then b"));
-    assert!(rt; is_syntax(alloc, "untrack a"));
-    assert!(rt; is_syntax(alloc, "a23456789012345678901234567890123"));
+    assert_syntax(
+        &rt,
+        alloc,
+        &[
+            "",
+            "(a",
+            "if a then b",
+            "untrack a",
+            "a23456789012345678901234567890123",
+        ],
+    );
 }
 
 #[test]
 fn reads_what_goes_over_rows(rt: HostRuntime) {
     let alloc = rt.alloc();
-    assert!(rt; keeps(alloc, "it.title"));
-    assert!(rt; keeps(alloc, "it.key == \"a\""));
-    assert!(rt; keeps(alloc, "key"));
-    assert!(rt; keeps(alloc, "count(l) - -1"));
-    assert!(rt; keeps(alloc, "sum(l, -1)"));
-    assert!(rt; keeps(alloc, "sum(keep(l, not it.done), it.n * it.n) % 2"));
-    assert!(rt; keeps(alloc, "count(keep(l, count(keep(m, it.key == it.of)) > 0))"));
-    assert!(rt;
-        reads_as(
-            alloc,
-            "sum( (l) ,(if it . a then 1 else 2) )",
-            "sum(l, if it.a then 1 else 2)"
-        )
+    assert_keeps(
+        &rt,
+        alloc,
+        &[
+            "it.title",
+            "it.key == \"a\"",
+            "key",
+            "count(l) - -1",
+            "sum(l, -1)",
+            "sum(keep(l, not it.done), it.n * it.n) % 2",
+            "count(keep(l, count(keep(m, it.key == it.of)) > 0))",
+        ],
     );
-    assert!(rt; reads_as(alloc, "it.a.b", "it.a|.b"));
-    assert!(rt; reads_as(alloc, "a, b", "a|, b"));
-    assert!(rt; is_syntax(alloc, "it"));
-    assert!(rt; is_syntax(alloc, "it.count"));
-    assert!(rt; is_syntax(alloc, "it.\"a\""));
-    assert!(rt; is_syntax(alloc, "count l"));
-    assert!(rt; is_syntax(alloc, "count(l, a)"));
-    assert!(rt; is_syntax(alloc, "sum(l)"));
-    assert!(rt; is_syntax(alloc, "keep(l, a, b)"));
+    assert_reads_as(
+        &rt,
+        alloc,
+        &[
+            (
+                "sum( (l) ,(if it . a then 1 else 2) )",
+                "sum(l, if it.a then 1 else 2)",
+            ),
+            ("it.a.b", "it.a|.b"),
+            ("a, b", "a|, b"),
+        ],
+    );
+    assert_syntax(
+        &rt,
+        alloc,
+        &[
+            "it",
+            "it.count",
+            "it.\"a\"",
+            "count l",
+            "count(l, a)",
+            "sum(l)",
+            "keep(l, a, b)",
+        ],
+    );
 }
 
 #[test]
 fn refuses_a_row_where_there_is_none(rt: HostRuntime) {
     let alloc = rt.alloc();
-    let no_row = Allow {
-        row: false,
-        untrack: false,
-    };
-    assert!(rt; fault(alloc, b"a + it.n", no_row) == Some(FormulaFault::ItHere));
-    assert!(rt; fault(alloc, b"sum(it.l, it.n)", no_row) == Some(FormulaFault::ItHere));
-    assert!(rt; fault(alloc, b"sum(l, it.n + count(keep(l, it.n)))", no_row) == None);
-    assert!(rt; fault(alloc, b"untrack(it.n)", no_row) == Some(FormulaFault::UntrackHere));
+    assert!(rt; fault(alloc, b"a + it.n", NEITHER) == Some(FormulaFault::ItHere));
+    assert!(rt; fault(alloc, b"sum(it.l, it.n)", NEITHER) == Some(FormulaFault::ItHere));
+    assert!(rt; fault(alloc, b"sum(l, it.n + count(keep(l, it.n)))", NEITHER) == None);
+    assert!(rt; fault(alloc, b"untrack(it.n)", NEITHER) == Some(FormulaFault::UntrackHere));
 }
 
 #[test]
@@ -266,17 +332,13 @@ fn tells_the_forms_that_rows_bring(rt: HostRuntime) {
     assert!(rt; brings_rows(alloc, b"untrack(1 + count(l))") == Some(true));
     assert!(rt; brings_rows(alloc, b"if a then b else it.key") == Some(true));
     assert!(rt; brings_rows(alloc, b"untrack(key) and not a") == Some(false));
-    assert!(rt; shared_names(alloc, b"b - a", b"sum(a, it.n)") == Some(true));
+    assert!(rt; shares_names(alloc, b"b - a", b"sum(a, it.n)", b"sum(b, it.n)"));
 }
 
 #[test]
 fn refuses_past_limits(rt: HostRuntime) {
     let alloc = rt.alloc();
-    let tracked = Allow {
-        row: false,
-        untrack: false,
-    };
-    assert!(rt; fault(alloc, b"a + untrack(b)", tracked) == Some(FormulaFault::UntrackHere));
+    assert!(rt; fault(alloc, b"a + untrack(b)", NEITHER) == Some(FormulaFault::UntrackHere));
     assert!(rt; is_fault(alloc, negations(alloc, 63), None));
     assert!(rt; is_fault(alloc, negations(alloc, 64), Some(FormulaFault::Nest)));
     assert!(rt; is_fault(alloc, distinct_names(alloc, 64), None));
