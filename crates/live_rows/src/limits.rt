@@ -1,10 +1,11 @@
 // Each limit, reached and passed by one.
 
-use crate::rows::assert_prints;
-use crate::run::{run_over, run_whole};
+use crate::rows::{assert_output, assert_prints};
+use crate::run::run_whole;
 use live_run::Status;
 use sig_base::MOST_SCRIPT;
 use std::alloc::{AllocError, Global};
+use std::process::Abort;
 use std::test::Fail;
 
 // A line with a number for each number below the count.
@@ -27,6 +28,26 @@ fn repeated(alloc: Global, text: &str, count: u32) -> Result<String, AllocError>
     Ok(out)
 }
 
+// These texts, one after the other.
+fn joined(alloc: Global, pieces: &[&str]) -> Result<String, AllocError> {
+    let mut out = String::new(alloc);
+    for piece in pieces {
+        out.push_str(piece)?;
+    }
+    Ok(out)
+}
+
+// Runs the script of these pieces, which is to print this.
+fn assert_joined(
+    rt: &impl Abort,
+    alloc: Global,
+    pieces: &[&str],
+    output: &str,
+) -> Result<(), Fail> {
+    let script = joined(alloc, pieces)?;
+    assert_prints(rt, alloc, script.as_str(), output)
+}
+
 // `flush` with so many blanks behind it that the line has this many bytes.
 fn flush_of(alloc: Global, length: u32) -> Result<String, AllocError> {
     let blanks = repeated(alloc, " ", length.saturating_sub(5))?;
@@ -41,28 +62,37 @@ fn bounds_a_line(rt: HostRuntime) -> Result<(), Fail> {
     let comment = repeated(alloc, "-", 4095)?;
     let name = repeated(alloc, "a", 4093)?;
     let number = repeated(alloc, "1", 4092)?;
-    for (script, output) in [
-        (longest, ""),
-        (format!(in alloc; "{longer}")?, "error 5 line\n"),
-        (format!(in alloc; "get {name}\n")?, "error 5 line\n"),
-        // a block with such a line, also one without its end
-        (
-            format!(in alloc; "template t\ntext\n{longer}end\nget t")?,
-            "error 5 line\nerror 2 t\n",
-        ),
-        (format!(in alloc; "template t\n{longer}")?, "error 5 line\n"),
-        // before a line of the block that says nothing
-        (
-            format!(in alloc; "template t\ntext {number}\nfoo\nend\n")?,
-            "error 5 line\n",
-        ),
-        // a passed-over line has any length
-        (format!(in alloc; "#{comment}\n")?, ""),
-        (format!(in alloc; "#{comment}-\nget a")?, "error 2 a\n"),
-    ] {
-        assert_prints(&rt, alloc, script.as_str(), output)?;
-    }
-    Ok(())
+    assert_prints(&rt, alloc, longest.as_str(), "")?;
+    assert_prints(&rt, alloc, longer.as_str(), "error 5 line\n")?;
+    assert_joined(&rt, alloc, &["get ", name.as_str(), "\n"], "error 5 line\n")?;
+    // a block with such a line, also one without its end
+    assert_joined(
+        &rt,
+        alloc,
+        &["template t\ntext\n", longer.as_str(), "end\nget t"],
+        "error 5 line\nerror 2 t\n",
+    )?;
+    assert_joined(
+        &rt,
+        alloc,
+        &["template t\n", longer.as_str()],
+        "error 5 line\n",
+    )?;
+    // before a line of the block that says nothing
+    assert_joined(
+        &rt,
+        alloc,
+        &["template t\ntext ", number.as_str(), "\nfoo\nend\n"],
+        "error 5 line\n",
+    )?;
+    // a passed-over line has any length
+    assert_joined(&rt, alloc, &["#", comment.as_str(), "\n"], "")?;
+    assert_joined(
+        &rt,
+        alloc,
+        &["#", comment.as_str(), "-\nget a"],
+        "error 2 a\n",
+    )
 }
 
 #[test]
@@ -70,37 +100,58 @@ fn bounds_a_text(rt: HostRuntime) -> Result<(), Fail> {
     let alloc = rt.alloc();
     let longest = repeated(alloc, "\u{a0}", 512)?;
     let letters = repeated(alloc, "z", 1024)?;
-    for (script, output) in [
-        (
-            format!(in alloc; "cell c = \"{letters}\"\ncomputed x = c ++ \"y\"\nget x\n")?,
-            "x ! long\n",
-        ),
-        (
-            format!(in alloc; "cell c = \"{letters}z\"\n")?,
-            "error 5 text\n",
-        ),
-        // it is counted in bytes
-        (
-            format!(in alloc;
-                "cell c = \"{longest}\"\ncomputed x = c ++ \"\"\ncomputed y = c ++ \"y\"\ncomputed z = x == c\nget z\nget y"
-            )?,
-            "z = true\ny ! long\n",
-        ),
-        (
-            format!(in alloc;
-                "cell c = \"{longest}y\"\nset c \"{longest}y\"\ncomputed x = 1 ++ \"{longest}y\""
-            )?,
-            "error 5 text\nerror 5 text\nerror 5 text\n",
-        ),
-        // a text that is too long comes after an `untrack` on a later line
-        (
-            format!(in alloc; "template t\ntext \"{longest}y\"\ntext untrack(1)\nend")?,
-            "error 15 3\n",
-        ),
-    ] {
-        assert_prints(&rt, alloc, script.as_str(), output)?;
-    }
-    Ok(())
+    assert_joined(
+        &rt,
+        alloc,
+        &[
+            "cell c = \"",
+            letters.as_str(),
+            "\"\ncomputed x = c ++ \"y\"\nget x\n",
+        ],
+        "x ! long\n",
+    )?;
+    assert_joined(
+        &rt,
+        alloc,
+        &["cell c = \"", letters.as_str(), "z\"\n"],
+        "error 5 text\n",
+    )?;
+    // it is counted in bytes
+    assert_joined(
+        &rt,
+        alloc,
+        &[
+            "cell c = \"",
+            longest.as_str(),
+            "\"\ncomputed x = c ++ \"\"\ncomputed y = c ++ \"y\"\ncomputed z = x == c\nget z\nget y",
+        ],
+        "z = true\ny ! long\n",
+    )?;
+    assert_joined(
+        &rt,
+        alloc,
+        &[
+            "cell c = \"",
+            longest.as_str(),
+            "y\"\nset c \"",
+            longest.as_str(),
+            "y\"\ncomputed x = 1 ++ \"",
+            longest.as_str(),
+            "y\"",
+        ],
+        "error 5 text\nerror 5 text\nerror 5 text\n",
+    )?;
+    // a text that is too long comes after an `untrack` on a later line
+    assert_joined(
+        &rt,
+        alloc,
+        &[
+            "template t\ntext \"",
+            longest.as_str(),
+            "y\"\ntext untrack(1)\nend",
+        ],
+        "error 15 3\n",
+    )
 }
 
 // `computed s` as the sum of c0 up to one less than the count, in two parts, so that it isn't too high.
@@ -123,24 +174,30 @@ fn bounds_a_formula(rt: HostRuntime) -> Result<(), Fail> {
     let more = sum_of(alloc, 65)?;
     let highest = repeated(alloc, "not ", 63)?;
     let higher = repeated(alloc, "not ", 64)?;
-    for (script, output) in [
-        (format!(in alloc; "{cells}{most}get s")?, "s = 64\n"),
-        (
-            format!(in alloc; "{cells}{more}get s")?,
-            "error 5 sources\nerror 2 s\n",
-        ),
-        (
-            format!(in alloc; "computed x = {highest}true\nget x\n")?,
-            "x = false\n",
-        ),
-        (
-            format!(in alloc; "computed x = {higher}true\nget x\n")?,
-            "error 19 1\nerror 2 x\n",
-        ),
-    ] {
-        assert_prints(&rt, alloc, script.as_str(), output)?;
-    }
-    Ok(())
+    assert_joined(
+        &rt,
+        alloc,
+        &[cells.as_str(), most.as_str(), "get s"],
+        "s = 64\n",
+    )?;
+    assert_joined(
+        &rt,
+        alloc,
+        &[cells.as_str(), more.as_str(), "get s"],
+        "error 5 sources\nerror 2 s\n",
+    )?;
+    assert_joined(
+        &rt,
+        alloc,
+        &["computed x = ", highest.as_str(), "true\nget x\n"],
+        "x = false\n",
+    )?;
+    assert_joined(
+        &rt,
+        alloc,
+        &["computed x = ", higher.as_str(), "true\nget x\n"],
+        "error 19 1\nerror 2 x\n",
+    )
 }
 
 #[test]
@@ -148,26 +205,31 @@ fn bounds_a_template(rt: HostRuntime) -> Result<(), Fail> {
     let alloc = rt.alloc();
     let most = repeated(alloc, "text 1\n# a comment\n", 128)?;
     let more = repeated(alloc, "text 1\n", 129)?;
-    for (script, output) in [
-        (
-            format!(in alloc; "template t\n{most}end\nget t")?,
-            "error 4 t\n",
-        ),
-        (
-            format!(in alloc; "template t\n{more}end\nget t")?,
-            "error 5 template\nerror 2 t\n",
-        ),
-        // at the block's end, and before names
-        (
-            format!(in alloc;
-                "cell t = 1\ntemplate t\n{more}text untrack(1)\nend\ntemplate t\n{more}text a\nend"
-            )?,
-            "error 15 132\nerror 5 template\n",
-        ),
-    ] {
-        assert_prints(&rt, alloc, script.as_str(), output)?;
-    }
-    Ok(())
+    assert_joined(
+        &rt,
+        alloc,
+        &["template t\n", most.as_str(), "end\nget t"],
+        "error 4 t\n",
+    )?;
+    assert_joined(
+        &rt,
+        alloc,
+        &["template t\n", more.as_str(), "end\nget t"],
+        "error 5 template\nerror 2 t\n",
+    )?;
+    // at the block's end, and before names
+    assert_joined(
+        &rt,
+        alloc,
+        &[
+            "cell t = 1\ntemplate t\n",
+            more.as_str(),
+            "text untrack(1)\nend\ntemplate t\n",
+            more.as_str(),
+            "text a\nend",
+        ],
+        "error 15 132\nerror 5 template\n",
+    )
 }
 
 // What is told of so many pages that show a one, as they are mounted.
@@ -186,37 +248,46 @@ fn bounds_what_is_made(rt: HostRuntime) -> Result<(), Fail> {
     let cells = numbered(alloc, 511, "cell c", " = 1\n")?;
     let templates = numbered(alloc, 64, "template t", "\ntext 1\nend\n")?;
     let pages = numbered(alloc, 9, "mount p", " t\n")?;
-    let mounted = mounted(alloc, 8)?;
-    for (script, output) in [
-        (
-            format!(in alloc;
-                "{cells}computed x = c0 + c510\nget x\ncell y = 1\ncomputed y = zz\ncomputed y = 1\ncell x = 1\nget y\ndispose c0\ncell y = 1\nget x\nget y"
-            )?,
-            String::from_str(
-                alloc,
-                "x = 2\nerror 5 nodes\nerror 2 zz\nerror 5 nodes\nerror 3 x\nerror 2 y\nx ! gone\ny = 1\n",
-            )?,
-        ),
-        (
-            format!(in alloc; "{templates}template u\nend\ntemplate t0\nend\nget t63\nget u")?,
-            String::from_str(
-                alloc,
-                "error 5 templates\nerror 3 t0\nerror 4 t63\nerror 2 u\n",
-            )?,
-        ),
-        (
-            format!(in alloc; "cell a = 1\ntemplate t\ntext a\nend\n{pages}")?,
-            format!(in alloc; "{mounted}error 5 pages\n")?,
-        ),
-        // names come before limits
-        (
-            format!(in alloc; "template t\ntext 1\nend\n{pages}mount p0 t\nmount q p0\nshow q")?,
-            format!(in alloc; "{mounted}error 5 pages\nerror 3 p0\nerror 4 p0\nerror 2 q\n")?,
-        ),
-    ] {
-        assert_prints(&rt, alloc, script.as_str(), output.as_str())?;
-    }
-    Ok(())
+    let passed = joined(alloc, &[mounted(alloc, 8)?.as_str(), "error 5 pages\n"])?;
+    let refused = joined(
+        alloc,
+        &[passed.as_str(), "error 3 p0\nerror 4 p0\nerror 2 q\n"],
+    )?;
+    assert_joined(
+        &rt,
+        alloc,
+        &[
+            cells.as_str(),
+            "computed x = c0 + c510\nget x\ncell y = 1\ncomputed y = zz\ncomputed y = 1\ncell x = 1\nget y\ndispose c0\ncell y = 1\nget x\nget y",
+        ],
+        "x = 2\nerror 5 nodes\nerror 2 zz\nerror 5 nodes\nerror 3 x\nerror 2 y\nx ! gone\ny = 1\n",
+    )?;
+    assert_joined(
+        &rt,
+        alloc,
+        &[
+            templates.as_str(),
+            "template u\nend\ntemplate t0\nend\nget t63\nget u",
+        ],
+        "error 5 templates\nerror 3 t0\nerror 4 t63\nerror 2 u\n",
+    )?;
+    assert_joined(
+        &rt,
+        alloc,
+        &["cell a = 1\ntemplate t\ntext a\nend\n", pages.as_str()],
+        passed.as_str(),
+    )?;
+    // names come before limits
+    assert_joined(
+        &rt,
+        alloc,
+        &[
+            "template t\ntext 1\nend\n",
+            pages.as_str(),
+            "mount p0 t\nmount q p0\nshow q",
+        ],
+        refused.as_str(),
+    )
 }
 
 // A template of elements in one another, so many.
@@ -235,27 +306,44 @@ fn bounds_lists_and_elements(rt: HostRuntime) -> Result<(), Fail> {
     let deeper = nested(alloc, 32)?;
     let whens = repeated(alloc, "when true\n", 32)?;
     let ends = repeated(alloc, "end\n", 32)?;
-    for (script, output) in [
-        (
-            format!(in alloc;
-                "list l (n)\n{rows}computed k = count(l)\nget k\ninsert l 0 \"k0\" (1)\ninsert l 0 \"m\" (1)\nget k\n"
-            )?,
-            "k = 512\nerror 9 \"k0\"\nerror 5 rows\nk = 512\n",
-        ),
-        // too many fields, and before that fields that are none
-        (
-            format!(in alloc; "list l ({fields}g)\nlist l ({fields}f0)\nget l\n")?,
-            "error 5 fields\nerror 1 2\nerror 2 l\n",
-        ),
-        (deep, ""),
-        (deeper, "error 19 33\n"),
-        (
-            format!(in alloc; "effect e\n{whens}{ends}end\n")?,
-            "error 19 33\n",
-        ),
-    ] {
-        assert_prints(&rt, alloc, script.as_str(), output)?;
-    }
+    assert_joined(
+        &rt,
+        alloc,
+        &[
+            "list l (n)\n",
+            rows.as_str(),
+            "computed k = count(l)\nget k\ninsert l 0 \"k0\" (1)\ninsert l 0 \"m\" (1)\nget k\n",
+        ],
+        "k = 512\nerror 9 \"k0\"\nerror 5 rows\nk = 512\n",
+    )?;
+    // too many fields, and before that fields that are none
+    assert_joined(
+        &rt,
+        alloc,
+        &[
+            "list l (",
+            fields.as_str(),
+            "g)\nlist l (",
+            fields.as_str(),
+            "f0)\nget l\n",
+        ],
+        "error 5 fields\nerror 1 2\nerror 2 l\n",
+    )?;
+    assert_prints(&rt, alloc, deep.as_str(), "")?;
+    assert_prints(&rt, alloc, deeper.as_str(), "error 19 33\n")?;
+    assert_joined(
+        &rt,
+        alloc,
+        &["effect e\n", whens.as_str(), ends.as_str(), "end\n"],
+        "error 19 33\n",
+    )
+}
+
+// Runs a script that has too many bytes.
+fn assert_too_long(rt: &impl Abort, alloc: Global, script: &str) -> Result<(), Fail> {
+    let run = run_whole(alloc, "live run", script.as_bytes())?;
+    assert!(rt; run.status == Status::TooLong);
+    assert!(rt; run.held.is_empty());
     Ok(())
 }
 
@@ -263,44 +351,23 @@ fn bounds_lists_and_elements(rt: HostRuntime) -> Result<(), Fail> {
 fn bounds_a_script(rt: HostRuntime) -> Result<(), Fail> {
     let alloc = rt.alloc();
     let dashes = repeated(alloc, "-", 1022)?;
-    let line = format!(in alloc; "#{dashes}\n")?;
-    let script = repeated(alloc, line.as_str(), 4096)?;
+    let line = joined(alloc, &["#", dashes.as_str(), "\n"])?;
+    let mut script = repeated(alloc, line.as_str(), 4096)?;
     assert_eq!(rt; script.len(), MOST_SCRIPT);
-    let run = run_whole(alloc, "live run", script.as_str())?;
-    assert!(rt; run.status == Status::Done);
-    assert!(rt; run.held.is_empty());
-    let longer = format!(in alloc; "{script}\n")?;
-    let run = run_whole(alloc, "live run", longer.as_str())?;
-    assert!(rt; run.status == Status::TooLong);
-    assert!(rt; run.held.is_empty());
-    Ok(())
+    assert_prints(&rt, alloc, script.as_str(), "")?;
+    script.push_str("\n")?;
+    assert_too_long(&rt, alloc, script.as_str())
 }
 
 #[test]
 fn refuses_bytes_that_are_no_text(rt: HostRuntime) -> Result<(), Fail> {
     let alloc = rt.alloc();
-    for (script, output) in [
-        (b"get \xff\n".as_slice(), "error 1 1\n"),
-        // a sequence of two bytes that the line's end cuts off
-        (
-            b"cell a = \"x\"\nget \xc2\nget a".as_slice(),
-            "error 1 2\na = \"x\"\n",
-        ),
-        // a passed-over line has any bytes
-        (b"# \xff\nget a".as_slice(), "error 2 a\n"),
-    ] {
-        let run = run_over(
-            alloc,
-            "live run",
-            script,
-            4096,
-            Vec::new(alloc),
-            Vec::new(alloc),
-        )?;
-        assert!(rt; run.status == Status::Done);
-        assert_eq!(rt; run.held.as_slice(), output.as_bytes());
-    }
-    Ok(())
+    assert_output(&rt, alloc, "live run", b"get \xff\n", "error 1 1\n")?;
+    // a sequence of two bytes that the line's end cuts off
+    let cut = b"cell a = \"x\"\nget \xc2\nget a";
+    assert_output(&rt, alloc, "live run", cut, "error 1 2\na = \"x\"\n")?;
+    // a passed-over line has any bytes
+    assert_output(&rt, alloc, "live run", b"# \xff\nget a", "error 2 a\n")
 }
 
 // Eighty computeds, each the sum of the two before it, are evaluated once each.

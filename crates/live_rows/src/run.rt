@@ -33,22 +33,13 @@ fn words_of(alloc: Global, line: &str) -> Result<Vec<String>, AllocError> {
     Ok(words)
 }
 
-/// Runs a script with the host formulas and the rules of the program. The source gives at most `most` bytes a call and fails at the calls of `takes`; the sink takes as many
-/// and fails at the calls of `puts`.
-pub(crate) fn run_over(
+// Runs what words ask for, with the host formulas and the rules of the program.
+fn run_lent(
     alloc: Global,
-    line: &str,
-    script: &[u8],
-    most: usize,
-    takes: Vec<u64>,
-    puts: Vec<u64>,
-) -> Result<Run, Fail>
-    requires { 0 < most }
-{
-    let words = words_of(alloc, line)?;
-    let bytes = script.to_vec(alloc)?;
-    let mut source = MemSource::new(bytes, most, takes);
-    let mut sink = MemSink::new(alloc, 100_000, most, puts)?;
+    words: &[String],
+    source: &mut MemSource,
+    sink: &mut MemSink,
+) -> Result<Status, Fail> {
     let mut hosts: Vec<Box<dyn HostFormula>> = Vec::new(alloc);
     lend(&mut hosts, Box::new(alloc, Pick::new())?)?;
     lend(&mut hosts, Box::new(alloc, Cascade::new())?)?;
@@ -65,7 +56,26 @@ pub(crate) fn run_over(
         slack: 5,
         call: Box::new(alloc, |a: &Value, b: &Value| alike(5, a, b))?,
     })?;
-    let status = run_live(alloc, &words, &mut source, &mut sink, hosts, rules);
+    Ok(run_live(alloc, words, source, sink, hosts, rules))
+}
+
+/// Runs a script with the host formulas and the rules of the program. The source gives at most `most` bytes a call and fails at the calls of `takes`; the sink takes as many
+/// and fails at the calls of `puts`.
+pub(crate) fn run_over(
+    alloc: Global,
+    line: &str,
+    script: &[u8],
+    most: usize,
+    takes: Vec<u64>,
+    puts: Vec<u64>,
+) -> Result<Run, Fail>
+    requires { 0 < most }
+{
+    let bytes = script.to_vec(alloc)?;
+    let mut source = MemSource::new(bytes, most, takes);
+    let mut sink = MemSink::new(alloc, 100_000, most, puts)?;
+    let words = words_of(alloc, line)?;
+    let status = run_lent(alloc, &words, &mut source, &mut sink)?;
     Ok(Run {
         status,
         held: sink.held().to_vec(alloc)?,
@@ -73,13 +83,6 @@ pub(crate) fn run_over(
 }
 
 /// Runs a script over a source and a sink that never fail.
-pub(crate) fn run_whole(alloc: Global, line: &str, script: &str) -> Result<Run, Fail> {
-    run_over(
-        alloc,
-        line,
-        script.as_bytes(),
-        4096,
-        Vec::new(alloc),
-        Vec::new(alloc),
-    )
+pub(crate) fn run_whole(alloc: Global, line: &str, script: &[u8]) -> Result<Run, Fail> {
+    run_over(alloc, line, script, 4096, Vec::new(alloc), Vec::new(alloc))
 }
