@@ -156,3 +156,41 @@ fn prints_owners(rt: HostRuntime) -> Result<(), Fail> {
         ],
     )
 }
+
+// A page that shows what an effect sets at each turn stays as it is where the hundredth is passed.
+#[test]
+fn refuses_turns_without_end(rt: HostRuntime) -> Result<(), Fail> {
+    assert_all_print(
+        &rt,
+        rt.alloc(),
+        &[(
+            "cell x = 0\neffect e\nset x x + 1\nend\ntemplate t\ntext x\nend\nmount p t\nflush\nget x\nshow p\nset x 7\nflush\nget x\n",
+            "op p insert 0 0 (1 \"0\")\npage p 1\n0\nerror 20\nx = 100\npage p 1\n0\nerror 20\nx = 107\n",
+        )],
+    )
+}
+
+// What is refused while a flush goes on.
+#[test]
+fn refuses_inside_a_flush(rt: HostRuntime) -> Result<(), Fail> {
+    assert_all_trace(
+        &rt,
+        rt.alloc(),
+        &[
+            // a formula of the host that isn't lent is refused with the block, and one that is taken where the body does it
+            (
+                "cell a = 1\ncomputed h = a\neffect e\nrewire h = host 9 (a)\nend\nget h\neffect e\nrewire h = host 1 (a)\nend\nflush\nget h\ncomputed k = host 1 (a)\nset a 2\nflush\n",
+                "error 7 9\nrun h (a) = 1\nh = 1\neffect e ()\nrun h (a) = 1\nh = 1\nerror 8 1\n",
+            ),
+            (
+                "cell a = 1\ncell b = false\ncomputed h = a\ncomputed k = host 1 (b, a)\neffect e\nlog a\nrewire h = host 1 (b, a)\nlog h\nend\nflush\nget h\ndispose k\nset a 2\nflush\nget h\n",
+                "run h (a) = 1\neffect e (a h)\nlog 1\nerror 8 1\nlog 1\nh = 1\ndrop 1 0\ngone k\nrun h (a) = 2\neffect e (a h)\nlog 2\nerror 8 1\nlog 2\nh = 2\n",
+            ),
+            // a set of a body tells watchers, whose tries are refused
+            (
+                "cell a = 1\ncell b = 1\nwatcher w tries set b 2\nwatch w a\nwatcher v tries get a\nwatch v a\ncell s = 1\neffect e\nset a s\nlog b\nend\nflush\nset s 2\nflush\nwatch w\nset s 3\nflush\nget a\nget b\n",
+                "effect e (s b)\nlog 1\neffect e (s b)\nnotify w\nnotify v\nerror 14 w v\nlog 1\neffect e (s b)\nnotify w\nerror 14 w\nlog 1\na = 3\nb = 1\n",
+            ),
+        ],
+    )
+}

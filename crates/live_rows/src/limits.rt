@@ -8,8 +8,13 @@ use std::alloc::{AllocError, Global};
 use std::process::Abort;
 use std::test::Fail;
 
-// A line with a number for each number below the count.
-fn numbered(alloc: Global, count: u32, before: &str, after: &str) -> Result<String, AllocError> {
+/// A line with a number for each number below the count.
+pub(crate) fn numbered(
+    alloc: Global,
+    count: u32,
+    before: &str,
+    after: &str,
+) -> Result<String, AllocError> {
     let mut lines = String::new(alloc);
     for number in 0..count {
         lines.push_str(before)?;
@@ -19,8 +24,8 @@ fn numbered(alloc: Global, count: u32, before: &str, after: &str) -> Result<Stri
     Ok(lines)
 }
 
-// The text so often, one after the other.
-fn repeated(alloc: Global, text: &str, count: u32) -> Result<String, AllocError> {
+/// The text so often, one after the other.
+pub(crate) fn repeated(alloc: Global, text: &str, count: u32) -> Result<String, AllocError> {
     let mut out = String::new(alloc);
     for _ in 0..count {
         out.push_str(text)?;
@@ -28,8 +33,8 @@ fn repeated(alloc: Global, text: &str, count: u32) -> Result<String, AllocError>
     Ok(out)
 }
 
-// These texts, one after the other.
-fn joined(alloc: Global, pieces: &[&str]) -> Result<String, AllocError> {
+/// These texts, one after the other.
+pub(crate) fn joined(alloc: Global, pieces: &[&str]) -> Result<String, AllocError> {
     let mut out = String::new(alloc);
     for piece in pieces {
         out.push_str(piece)?;
@@ -37,8 +42,8 @@ fn joined(alloc: Global, pieces: &[&str]) -> Result<String, AllocError> {
     Ok(out)
 }
 
-// Runs the script of these pieces, which is to print this.
-fn assert_joined(
+/// Runs the script of these pieces, which is to print this.
+pub(crate) fn assert_joined(
     rt: &impl Abort,
     alloc: Global,
     pieces: &[&str],

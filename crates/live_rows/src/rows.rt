@@ -149,6 +149,11 @@ fn shows_pages_of_formulas(rt: HostRuntime) -> Result<(), Fail> {
                 "cell a = 1\ncomputed b = a + 1\ntemplate t\ntext b\ntext \"<\" ++ a ++ \">\"\ntext 1 / 0\ntext if b > 2 then \"many\" else \"few\"\nend\nmount p t\nset a 2\nshow p\nflush\nshow p\nset a true\nflush\n",
                 "op p insert 0 0 (1 \"2\")\nop p insert 0 1 (2 \"<1>\")\nop p insert 0 2 (3 \"#ERR zero\")\nop p insert 0 3 (4 \"few\")\npage p 22\n2&lt;1&gt;#ERR zerofew\npage p 22\n2&lt;1&gt;#ERR zerofew\nop p text 1 \"3\"\nop p text 2 \"<2>\"\nop p text 4 \"many\"\npage p 23\n3&lt;2&gt;#ERR zeromany\npage p 23\n3&lt;2&gt;#ERR zeromany\nop p text 1 \"#ERR kind\"\nop p text 2 \"<true>\"\nop p text 4 \"#ERR kind\"\npage p 39\n#ERR kind&lt;true&gt;#ERR zero#ERR kind\n",
             ),
+            // faults in place of values, and one that becomes a value
+            (
+                "cell a = 9223372036854775807\ncomputed b = a + 1\ncomputed c = -9223372036854775808 / -1\ntemplate t\ntext b\ntext c\nend\nmount p t\nset a 1\nflush\n",
+                "op p insert 0 0 (1 \"#ERR overflow\")\nop p insert 0 1 (2 \"#ERR overflow\")\npage p 26\n#ERR overflow#ERR overflow\nop p text 1 \"2\"\npage p 14\n2#ERR overflow\n",
+            ),
             // CR before LF, comments and blank lines, in a block too
             (
                 "cell a = 1\r\n\r\n# a comment\r\n  \t\ntemplate t\n# text x\n\n  text a\r\n   # end\nend\nmount p t\nget b\nget\n",

@@ -15,6 +15,8 @@ fn measures_workloads(rt: HostRuntime) -> Result<(), Fail> {
     )?;
     let twelve = "bench 12\ncommands 27\nruns 11\nops 4\npage <p>133</p>\n";
     assert_output(&rt, rt.alloc(), "live bench 12", script, twelve)?;
+    // the same again
+    assert_output(&rt, rt.alloc(), "live bench 12", script, twelve)?;
     assert_output(&rt, rt.alloc(), "live bench -- 12", script, twelve)
 }
 
