@@ -127,6 +127,20 @@ fn put_runs(
     Ok(())
 }
 
+// Writes the runs that settling a signal took, and its outcome.
+fn put_settled(
+    out: &mut Vec<u8>,
+    names: &[Name],
+    ids: &[NodeId],
+    notes: &[RunNote],
+    id: NodeId,
+    outcome: &Outcome,
+) -> Result<(), NoMemory> {
+    put_runs(out, names, ids, notes)?;
+    put_name(out, names, ids, id)?;
+    put_outcome(out, outcome)
+}
+
 impl Scene {
     /// No signals, and no host formulas.
     pub(crate) fn new(alloc: Global) -> Result<Scene, Fail>
@@ -295,9 +309,7 @@ impl Scene {
         let mut notes = Vec::new(self.alloc);
         let outcome = settle(&mut self.graph, &mut self.shelf, id, &mut notes)?;
         let _count = notes.len();
-        put_runs(&mut self.out, &self.names, &self.ids, &notes)?;
-        put_name(&mut self.out, &self.names, &self.ids, id)?;
-        put_outcome(&mut self.out, &outcome)?;
+        put_settled(&mut self.out, &self.names, &self.ids, &notes, id, &outcome)?;
         Ok(())
     }
 
