@@ -6,6 +6,7 @@ mod Items
 mod Levels
 mod Lengths
 mod Heading
+mod NameBytes
 mod Numbered
 mod Numbering
 mod Parting

@@ -11,6 +11,7 @@ mod judge;
 mod last;
 mod laws;
 mod line;
+mod naming;
 mod place;
 mod reading;
 mod row_lines;

@@ -1,22 +1,25 @@
 // Reads one line of a script.
-ghost use Rattle.std.specs.Prelude.{◌≡◌, ◌∷◌, ◌≤◌, [], IfOk, MatchOption, option_map, length};
+ghost use Rattle.std.specs.Prelude.{◌≡◌, ◌∷◌, ◌≤◌, [], true, IfOk, IfSome, MatchOption, option_map, length};
+ghost use Rattle.sig_base.specs.Words.{is_name};
+ghost use Rattle.sig_base.specs.declared.scalar.Scalar.{Scalar};
 ghost use Rattle.sig_words.specs.Tokens.{AreTokens};
 ghost use Rattle.sig_words.specs.Lexemes.{lexemes};
 ghost use Rattle.line_forms.specs.Reading.{read_form};
 ghost use Rattle.line_forms.specs.Rows.{rows_of, said_of};
-ghost use Rattle.line_forms.specs.Told.{ahead};
+ghost use Rattle.line_forms.specs.Told.{ahead, IsToldScalar};
 ghost use Rattle.live_cmd.specs.Grammar.{last_rows, later_rows, row, table, Row, Said, Writes};
 ghost use Rattle.live_cmd.specs.Grammar as rows;
 ghost use Rattle.live_cmd.specs.Views.{found_as, found_first, found_of};
 
-use crate::last::{inside_last, name_last, value_last};
+use crate::last::value_last;
 use crate::line::{Found, LineKind, alone, faulty, sound};
+use crate::naming::{inside_text_last, made, made_owned, name_text_at, name_text_last};
 use crate::row_lines::{insert, list, move_row, put_field, remove};
 use crate::sources::{any_computed, any_rewire};
 use crate::watching::{any_watcher, unwatch, watch};
 use crate::{Command, Line, Verb};
 use formula_text::Allow;
-use line_forms::{count_behind, ends_at, name_at, symbol_at, value_at};
+use line_forms::{ToldValue, count_behind, ends_at, symbol_at, value_at};
 use sig_base::{MOST_LINE, Name, NoMemory};
 use sig_words::{LineFault, Token, TokenKind, token_bytes, tokens};
 use std::alloc::Global;
@@ -37,28 +40,44 @@ fn named(
 ) -> Result<Option<Found>, NoMemory>
     ensures { IfOk result (λ found. found ≡ found_as (rows.verb verb) (ahead line.now tokens.now 1)) }
 {
-    let Some(name) = name_last(alloc, line, tokens, 1)? else {
+    let Some(name) = name_text_last(line, tokens, 1) else {
         return Ok(None);
     };
+    let name = made(alloc, name)?;
     Ok(Some(alone(Command::Named { verb, name })))
 }
 
 // What may stand behind the value of a cell.
-fn cell_options(
-    alloc: Global,
-    line: &[u8],
+fn cell_options<'a>(
+    line: &'a [u8],
     tokens: &[Token],
     at: usize,
-) -> Result<Option<(Option<u64>, Option<Name>)>, NoMemory>
-    ensures { IfOk result (λ found. option_map (λ o. (o.0, (o.1, tt))) found ≡ read_form (rows.equals_K ∷ rows.in_O ∷ []) (ahead line.now tokens.now at)) }
+) -> Option<(Option<u64>, Option<&'a str>)>
+    ensures exact { option_map (λ o. (o.0, (option_map (λ t. t.now) o.1, tt))) result ≡ read_form (rows.equals_K ∷ rows.in_O ∷ []) (ahead line.now tokens.now at) }
+    ensures name { IfSome result (λ o. IfSome o.1 (λ t. is_name t.now ≡ true)) }
 {
     let Some((equals, at)) = count_behind(line, tokens, at, b"equals") else {
-        return Ok(None);
+        return None;
     };
-    let Some(inside) = inside_last(alloc, line, tokens, at)? else {
-        return Ok(None);
-    };
-    Ok(Some((equals, inside)))
+    match inside_text_last(line, tokens, at) {
+        Some(inside) => Some((equals, inside)),
+        None => None,
+    }
+}
+
+// What is found of a cell, or what is wrong with its value.
+fn cell_found(name: Name, value: ToldValue, equals: Option<u64>, inside: Option<Name>) -> Found
+    ensures { (v : Scalar) → IsToldScalar v value → result ≡ found_of (rows.cell, (name, (v, (equals, (inside, tt))))) }
+{
+    match value {
+        Ok(value) => alone(Command::Cell {
+            name,
+            value,
+            equals,
+            inside,
+        }),
+        Err(fault) => faulty(LineKind::Alone, fault),
+    }
 }
 
 // `cell N = LIT [equals K] [in O]`
@@ -66,8 +85,7 @@ fn cell(alloc: Global, line: &[u8], tokens: &[Token]) -> Result<Option<Found>, N
     requires { AreTokens line.now tokens.now }
     ensures { IfOk result (λ found. found ≡ found_as rows.cell (ahead line.now tokens.now 1)) }
 {
-    let at = 1;
-    let Some((name, at)) = name_at(alloc, line, tokens, at)? else {
+    let Some((name, at)) = name_text_at(line, tokens, 1) else {
         return Ok(None);
     };
     let Some(at) = symbol_at(line, tokens, at, b"=") else {
@@ -76,17 +94,20 @@ fn cell(alloc: Global, line: &[u8], tokens: &[Token]) -> Result<Option<Found>, N
     let Some((value, at)) = value_at(alloc, line, tokens, at)? else {
         return Ok(None);
     };
-    let Some((equals, inside)) = cell_options(alloc, line, tokens, at)? else {
+    let Some((equals, inside)) = cell_options(line, tokens, at) else {
         return Ok(None);
     };
+    let (name, inside) = made_owned(alloc, name, inside)?;
+    Ok(Some(cell_found(name, value, equals, inside)))
+}
+
+// What is found of another value of a cell, or what is wrong with it.
+fn set_found(name: Name, value: ToldValue) -> Found
+    ensures { (v : Scalar) → IsToldScalar v value → result ≡ found_of (rows.set, (name, (v, tt))) }
+{
     match value {
-        Ok(value) => Ok(Some(alone(Command::Cell {
-            name,
-            value,
-            equals,
-            inside,
-        }))),
-        Err(fault) => Ok(Some(faulty(LineKind::Alone, fault))),
+        Ok(value) => alone(Command::Set { name, value }),
+        Err(fault) => faulty(LineKind::Alone, fault),
     }
 }
 
@@ -95,30 +116,27 @@ fn set(alloc: Global, line: &[u8], tokens: &[Token]) -> Result<Option<Found>, No
     requires { AreTokens line.now tokens.now }
     ensures { IfOk result (λ found. found ≡ found_as rows.set (ahead line.now tokens.now 1)) }
 {
-    let at = 1;
-    let Some((name, at)) = name_at(alloc, line, tokens, at)? else {
+    let Some((name, at)) = name_text_at(line, tokens, 1) else {
         return Ok(None);
     };
     let Some(value) = value_last(alloc, line, tokens, at)? else {
         return Ok(None);
     };
-    match value {
-        Ok(value) => Ok(Some(alone(Command::Set { name, value }))),
-        Err(fault) => Ok(Some(faulty(LineKind::Alone, fault))),
-    }
+    let name = made(alloc, name)?;
+    Ok(Some(set_found(name, value)))
 }
 
 // `owner O [in P]`
 fn owner(alloc: Global, line: &[u8], tokens: &[Token]) -> Result<Option<Found>, NoMemory>
     ensures { IfOk result (λ found. found ≡ found_as rows.owner (ahead line.now tokens.now 1)) }
 {
-    let at = 1;
-    let Some((name, at)) = name_at(alloc, line, tokens, at)? else {
+    let Some((name, at)) = name_text_at(line, tokens, 1) else {
         return Ok(None);
     };
-    let Some(inside) = inside_last(alloc, line, tokens, at)? else {
+    let Some(inside) = inside_text_last(line, tokens, at) else {
         return Ok(None);
     };
+    let (name, inside) = made_owned(alloc, name, inside)?;
     Ok(Some(alone(Command::Owner { name, inside })))
 }
 
@@ -126,16 +144,17 @@ fn owner(alloc: Global, line: &[u8], tokens: &[Token]) -> Result<Option<Found>, 
 fn mount(alloc: Global, line: &[u8], tokens: &[Token]) -> Result<Option<Found>, NoMemory>
     ensures { IfOk result (λ found. found ≡ found_as rows.mount (ahead line.now tokens.now 1)) }
 {
-    let at = 1;
-    let Some((name, at)) = name_at(alloc, line, tokens, at)? else {
+    let Some((name, at)) = name_text_at(line, tokens, 1) else {
         return Ok(None);
     };
-    let Some((template, at)) = name_at(alloc, line, tokens, at)? else {
+    let Some((template, at)) = name_text_at(line, tokens, at) else {
         return Ok(None);
     };
-    let Some(inside) = inside_last(alloc, line, tokens, at)? else {
+    let Some(inside) = inside_text_last(line, tokens, at) else {
         return Ok(None);
     };
+    let template = made(alloc, template)?;
+    let (name, inside) = made_owned(alloc, name, inside)?;
     Ok(Some(alone(Command::Mount {
         name,
         template,
@@ -158,13 +177,13 @@ fn flush(line: &[u8], tokens: &[Token]) -> Option<Found>
 fn effect(alloc: Global, line: &[u8], tokens: &[Token]) -> Result<Option<Found>, NoMemory>
     ensures { IfOk result (λ found. found ≡ found_as rows.effect (ahead line.now tokens.now 1)) }
 {
-    let at = 1;
-    let Some((name, at)) = name_at(alloc, line, tokens, at)? else {
+    let Some((name, at)) = name_text_at(line, tokens, 1) else {
         return Ok(None);
     };
-    let Some(inside) = inside_last(alloc, line, tokens, at)? else {
+    let Some(inside) = inside_text_last(line, tokens, at) else {
         return Ok(None);
     };
+    let (name, inside) = made_owned(alloc, name, inside)?;
     Ok(Some(sound(LineKind::Astray, Line::Effect(name, inside))))
 }
 
@@ -172,9 +191,10 @@ fn effect(alloc: Global, line: &[u8], tokens: &[Token]) -> Result<Option<Found>,
 fn template(alloc: Global, line: &[u8], tokens: &[Token]) -> Result<Option<Found>, NoMemory>
     ensures { IfOk result (λ found. found ≡ found_as rows.template (ahead line.now tokens.now 1)) }
 {
-    let Some(name) = name_last(alloc, line, tokens, 1)? else {
+    let Some(name) = name_text_last(line, tokens, 1) else {
         return Ok(None);
     };
+    let name = made(alloc, name)?;
     Ok(Some(sound(LineKind::Astray, Line::Template(name))))
 }
 

@@ -7,12 +7,12 @@ ghost use Rattle.live_cmd.specs.Grammar as rows;
 ghost use Rattle.live_cmd.specs.Views.{found_as, found_of};
 
 use crate::fields::{kind_of_field, kind_of_fields};
-use crate::last::{inside_last, value_last};
+use crate::last::value_last;
 use crate::line::{Found, Line, LineKind, alone, faulty, sound};
+use crate::naming::{inside_text_last, made, made_both, made_owned, name_text_at};
 use crate::{Command, RowEdit};
 use line_forms::{
-    ToldKey, ToldValue, ToldValues, count_at, ends_at, key_at, listed_names_at, name_at, value_at,
-    values_at,
+    ToldKey, ToldValue, ToldValues, count_at, ends_at, key_at, listed_names_at, values_at,
 };
 use sig_base::{Name, NoMemory};
 use sig_words::Token;
@@ -22,16 +22,16 @@ use std::alloc::Global;
 pub fn list(alloc: Global, line: &[u8], tokens: &[Token]) -> Result<Option<Found>, NoMemory>
     ensures { IfOk result (λ found. found ≡ found_as rows.list (ahead line.now tokens.now 1)) }
 {
-    let at = 1;
-    let Some((name, at)) = name_at(alloc, line, tokens, at)? else {
+    let Some((name, at)) = name_text_at(line, tokens, 1) else {
         return Ok(None);
     };
     let Some((fields, at)) = listed_names_at(alloc, line, tokens, at)? else {
         return Ok(None);
     };
-    let Some(inside) = inside_last(alloc, line, tokens, at)? else {
+    let Some(inside) = inside_text_last(line, tokens, at) else {
         return Ok(None);
     };
+    let (name, inside) = made_owned(alloc, name, inside)?;
     let kind = kind_of_fields(fields.as_slice());
     let command = Command::List {
         name,
@@ -64,8 +64,7 @@ pub fn insert(alloc: Global, line: &[u8], tokens: &[Token]) -> Result<Option<Fou
     requires { AreTokens line.now tokens.now }
     ensures { IfOk result (λ found. found ≡ found_as rows.insert_row (ahead line.now tokens.now 1)) }
 {
-    let at = 1;
-    let Some((name, at)) = name_at(alloc, line, tokens, at)? else {
+    let Some((name, at)) = name_text_at(line, tokens, 1) else {
         return Ok(None);
     };
     let Some((place, at)) = count_at(line, tokens, at) else {
@@ -80,7 +79,21 @@ pub fn insert(alloc: Global, line: &[u8], tokens: &[Token]) -> Result<Option<Fou
     if !ends_at(tokens, at) {
         return Ok(None);
     }
+    let name = made(alloc, name)?;
     Ok(Some(inserted(name, place, key, values)))
+}
+
+// What is found of a removal, or what is wrong with its key.
+fn removed(name: Name, key: ToldKey) -> Found
+    ensures { (k : List ℕ) → IsToldKey k key → result ≡ found_of (rows.remove_row, (name, (k, tt))) }
+{
+    match key {
+        Ok(key) => {
+            let edit = RowEdit::Remove(key);
+            alone(Command::Edit { name, edit })
+        }
+        Err(fault) => faulty(LineKind::Alone, fault),
+    }
 }
 
 /// `remove N KEY`
@@ -88,8 +101,7 @@ pub fn remove(alloc: Global, line: &[u8], tokens: &[Token]) -> Result<Option<Fou
     requires { AreTokens line.now tokens.now }
     ensures { IfOk result (λ found. found ≡ found_as rows.remove_row (ahead line.now tokens.now 1)) }
 {
-    let at = 1;
-    let Some((name, at)) = name_at(alloc, line, tokens, at)? else {
+    let Some((name, at)) = name_text_at(line, tokens, 1) else {
         return Ok(None);
     };
     let Some((key, at)) = key_at(alloc, line, tokens, at)? else {
@@ -98,12 +110,20 @@ pub fn remove(alloc: Global, line: &[u8], tokens: &[Token]) -> Result<Option<Fou
     if !ends_at(tokens, at) {
         return Ok(None);
     }
+    let name = made(alloc, name)?;
+    Ok(Some(removed(name, key)))
+}
+
+// What is found of a move, or what is wrong with its key.
+fn moved(name: Name, key: ToldKey, place: u64) -> Found
+    ensures { (k : List ℕ) → IsToldKey k key → result ≡ found_of (rows.move_row, (name, (k, (place, tt)))) }
+{
     match key {
         Ok(key) => {
-            let edit = RowEdit::Remove(key);
-            Ok(Some(alone(Command::Edit { name, edit })))
+            let edit = RowEdit::Move(key, place);
+            alone(Command::Edit { name, edit })
         }
-        Err(fault) => Ok(Some(faulty(LineKind::Alone, fault))),
+        Err(fault) => faulty(LineKind::Alone, fault),
     }
 }
 
@@ -112,8 +132,7 @@ pub fn move_row(alloc: Global, line: &[u8], tokens: &[Token]) -> Result<Option<F
     requires { AreTokens line.now tokens.now }
     ensures { IfOk result (λ found. found ≡ found_as rows.move_row (ahead line.now tokens.now 1)) }
 {
-    let at = 1;
-    let Some((name, at)) = name_at(alloc, line, tokens, at)? else {
+    let Some((name, at)) = name_text_at(line, tokens, 1) else {
         return Ok(None);
     };
     let Some((key, at)) = key_at(alloc, line, tokens, at)? else {
@@ -125,13 +144,8 @@ pub fn move_row(alloc: Global, line: &[u8], tokens: &[Token]) -> Result<Option<F
     if !ends_at(tokens, at) {
         return Ok(None);
     }
-    match key {
-        Ok(key) => {
-            let edit = RowEdit::Move(key, place);
-            Ok(Some(alone(Command::Edit { name, edit })))
-        }
-        Err(fault) => Ok(Some(faulty(LineKind::Alone, fault))),
-    }
+    let name = made(alloc, name)?;
+    Ok(Some(moved(name, key, place)))
 }
 
 // What is found of a new value, or what is wrong with its key or else with the value.
@@ -158,18 +172,18 @@ pub fn put_field(alloc: Global, line: &[u8], tokens: &[Token]) -> Result<Option<
     requires { AreTokens line.now tokens.now }
     ensures { IfOk result (λ found. found ≡ found_as rows.put_field (ahead line.now tokens.now 1)) }
 {
-    let at = 1;
-    let Some((name, at)) = name_at(alloc, line, tokens, at)? else {
+    let Some((name, at)) = name_text_at(line, tokens, 1) else {
         return Ok(None);
     };
     let Some((key, at)) = key_at(alloc, line, tokens, at)? else {
         return Ok(None);
     };
-    let Some((field, at)) = name_at(alloc, line, tokens, at)? else {
+    let Some((field, at)) = name_text_at(line, tokens, at) else {
         return Ok(None);
     };
     let Some(value) = value_last(alloc, line, tokens, at)? else {
         return Ok(None);
     };
+    let (name, field) = made_both(alloc, name, field)?;
     Ok(Some(put_found(name, key, field, value)))
 }

@@ -1,47 +1,101 @@
 // Reads the lines of computeds.
-ghost use Rattle.std.specs.Prelude.{◌≡◌, ◌∷◌, [], IfOk};
+ghost use Rattle.std.specs.Prelude.{◌≡◌, ◌∷◌, [], ℕ, List, None, Some, IfOk, MatchOption};
 ghost use Rattle.sig_words.specs.Tokens.{AreTokens};
-ghost use Rattle.line_forms.specs.Told.{ahead};
+ghost use Rattle.formula_text.specs.Grammar.{Draft};
+ghost use Rattle.line_forms.specs.Forms as form;
+ghost use Rattle.line_forms.specs.Reading.{read_part};
+ghost use Rattle.line_forms.specs.Told.{ahead, IsToldArguments, IsToldFormula};
 ghost use Rattle.live_cmd.specs.Grammar as rows;
-ghost use Rattle.live_cmd.specs.Views.{found_as, found_first};
+ghost use Rattle.live_cmd.specs.Judging.{tracked};
+ghost use Rattle.live_cmd.specs.Views.{found_as, found_first, found_of};
 
-use crate::last::inside_last;
 use crate::line::{Found, LineKind, alone, faulty};
+use crate::naming::{inside_text_last, made, made_owned, name_text_at};
 use crate::reading::TRACKED;
 use crate::{Command, SourceText};
-use line_forms::{arguments_at, count_at, ends_at, formula_at, name_at, symbol_at, word_at};
-use sig_base::NoMemory;
+use line_forms::{
+    ToldArguments, ToldFormula, arguments_at, count_at, ends_at, formula_at, symbol_at, word_at,
+};
+use sig_base::{Name, NoMemory};
 use sig_words::Token;
 use std::alloc::Global;
+
+// The longest formula from a place on, or what is wrong with it, behind a pointer, and the place after it.
+fn formula_held(
+    alloc: Global,
+    line: &[u8],
+    tokens: &[Token],
+    at: usize,
+) -> Result<Option<(Box<ToldFormula>, usize)>, NoMemory>
+    requires { AreTokens line.now tokens.now }
+    ensures { IfOk result (λ found. MatchOption found (read_part form.formula (ahead line.now tokens.now at) ≡ None)
+        (λ p. (x : Draft) × (read_part form.formula (ahead line.now tokens.now at) ≡ Some (x, ahead line.now tokens.now p.1)) × IsToldFormula tracked x p.0.value)) }
+{
+    let Some((formula, to)) = formula_at(alloc, line, tokens, at, TRACKED)? else {
+        return Ok(None);
+    };
+    let held = Box::new(alloc, formula)?;
+    Ok(Some((held, to)))
+}
+
+// What is found of a computed of a formula, or what is wrong with the formula.
+fn computed_found(name: Name, formula: Box<ToldFormula>, inside: Option<Name>) -> Found
+    ensures { (x : Draft) → IsToldFormula tracked x formula.value → result ≡ found_of (rows.computed, (name, (x, (inside, tt)))) }
+{
+    match Box::into_inner(formula) {
+        Ok(formula) => {
+            let source = SourceText::Formula(formula);
+            alone(Command::Computed {
+                name,
+                source,
+                inside,
+            })
+        }
+        Err(fault) => faulty(LineKind::Alone, fault),
+    }
+}
 
 // `computed N = FORMULA [in O]`
 fn computed(alloc: Global, line: &[u8], tokens: &[Token]) -> Result<Option<Found>, NoMemory>
     requires { AreTokens line.now tokens.now }
     ensures { IfOk result (λ found. found ≡ found_as rows.computed (ahead line.now tokens.now 1)) }
 {
-    let at = 1;
-    let Some((name, at)) = name_at(alloc, line, tokens, at)? else {
+    let Some((name, at)) = name_text_at(line, tokens, 1) else {
         return Ok(None);
     };
     let Some(at) = symbol_at(line, tokens, at, b"=") else {
         return Ok(None);
     };
-    let Some((formula, at)) = formula_at(alloc, line, tokens, at, TRACKED)? else {
+    let Some((formula, at)) = formula_held(alloc, line, tokens, at)? else {
         return Ok(None);
     };
-    let Some(inside) = inside_last(alloc, line, tokens, at)? else {
+    let Some(inside) = inside_text_last(line, tokens, at) else {
         return Ok(None);
     };
-    match formula {
-        Ok(formula) => {
-            let source = SourceText::Formula(formula);
-            Ok(Some(alone(Command::Computed {
+    let (name, inside) = made_owned(alloc, name, inside)?;
+    Ok(Some(computed_found(name, formula, inside)))
+}
+
+// What is found of a computed of a host formula, or what is wrong with the arguments.
+fn computed_host_found(
+    name: Name,
+    place: u64,
+    arguments: ToldArguments,
+    inside: Option<Name>,
+) -> Found
+    ensures { (ns : List (List ℕ)) → IsToldArguments ns arguments
+        → result ≡ found_of (rows.computed_host, (name, (place, (ns, (inside, tt))))) }
+{
+    match arguments {
+        Ok(arguments) => {
+            let source = SourceText::Host(place, arguments);
+            alone(Command::Computed {
                 name,
                 source,
                 inside,
-            })))
+            })
         }
-        Err(fault) => Ok(Some(faulty(LineKind::Alone, fault))),
+        Err(fault) => faulty(LineKind::Alone, fault),
     }
 }
 
@@ -49,8 +103,7 @@ fn computed(alloc: Global, line: &[u8], tokens: &[Token]) -> Result<Option<Found
 fn computed_host(alloc: Global, line: &[u8], tokens: &[Token]) -> Result<Option<Found>, NoMemory>
     ensures { IfOk result (λ found. found ≡ found_as rows.computed_host (ahead line.now tokens.now 1)) }
 {
-    let at = 1;
-    let Some((name, at)) = name_at(alloc, line, tokens, at)? else {
+    let Some((name, at)) = name_text_at(line, tokens, 1) else {
         return Ok(None);
     };
     let Some(at) = symbol_at(line, tokens, at, b"=") else {
@@ -65,20 +118,11 @@ fn computed_host(alloc: Global, line: &[u8], tokens: &[Token]) -> Result<Option<
     let Some((arguments, at)) = arguments_at(alloc, line, tokens, at)? else {
         return Ok(None);
     };
-    let Some(inside) = inside_last(alloc, line, tokens, at)? else {
+    let Some(inside) = inside_text_last(line, tokens, at) else {
         return Ok(None);
     };
-    match arguments {
-        Ok(arguments) => {
-            let source = SourceText::Host(place, arguments);
-            Ok(Some(alone(Command::Computed {
-                name,
-                source,
-                inside,
-            })))
-        }
-        Err(fault) => Ok(Some(faulty(LineKind::Alone, fault))),
-    }
+    let (name, inside) = made_owned(alloc, name, inside)?;
+    Ok(Some(computed_host_found(name, place, arguments, inside)))
 }
 
 /// `computed N = SOURCE [in O]`
@@ -92,30 +136,50 @@ pub fn any_computed(alloc: Global, line: &[u8], tokens: &[Token]) -> Result<Opti
     computed(alloc, line, tokens)
 }
 
+// What is found of another formula of a computed, or what is wrong with it.
+fn rewire_found(name: Name, formula: Box<ToldFormula>) -> Found
+    ensures { (x : Draft) → IsToldFormula tracked x formula.value → result ≡ found_of (rows.rewire, (name, (x, tt))) }
+{
+    match Box::into_inner(formula) {
+        Ok(formula) => {
+            let source = SourceText::Formula(formula);
+            alone(Command::Rewire { name, source })
+        }
+        Err(fault) => faulty(LineKind::Alone, fault),
+    }
+}
+
 // `rewire N = FORMULA`
 fn rewire(alloc: Global, line: &[u8], tokens: &[Token]) -> Result<Option<Found>, NoMemory>
     requires { AreTokens line.now tokens.now }
     ensures { IfOk result (λ found. found ≡ found_as rows.rewire (ahead line.now tokens.now 1)) }
 {
-    let at = 1;
-    let Some((name, at)) = name_at(alloc, line, tokens, at)? else {
+    let Some((name, at)) = name_text_at(line, tokens, 1) else {
         return Ok(None);
     };
     let Some(at) = symbol_at(line, tokens, at, b"=") else {
         return Ok(None);
     };
-    let Some((formula, at)) = formula_at(alloc, line, tokens, at, TRACKED)? else {
+    let Some((formula, at)) = formula_held(alloc, line, tokens, at)? else {
         return Ok(None);
     };
     if !ends_at(tokens, at) {
         return Ok(None);
     }
-    match formula {
-        Ok(formula) => {
-            let source = SourceText::Formula(formula);
-            Ok(Some(alone(Command::Rewire { name, source })))
+    let name = made(alloc, name)?;
+    Ok(Some(rewire_found(name, formula)))
+}
+
+// What is found of another host formula of a computed, or what is wrong with its arguments.
+fn rewire_host_found(name: Name, place: u64, arguments: ToldArguments) -> Found
+    ensures { (ns : List (List ℕ)) → IsToldArguments ns arguments → result ≡ found_of (rows.rewire_host, (name, (place, (ns, tt)))) }
+{
+    match arguments {
+        Ok(arguments) => {
+            let source = SourceText::Host(place, arguments);
+            alone(Command::Rewire { name, source })
         }
-        Err(fault) => Ok(Some(faulty(LineKind::Alone, fault))),
+        Err(fault) => faulty(LineKind::Alone, fault),
     }
 }
 
@@ -123,8 +187,7 @@ fn rewire(alloc: Global, line: &[u8], tokens: &[Token]) -> Result<Option<Found>,
 fn rewire_host(alloc: Global, line: &[u8], tokens: &[Token]) -> Result<Option<Found>, NoMemory>
     ensures { IfOk result (λ found. found ≡ found_as rows.rewire_host (ahead line.now tokens.now 1)) }
 {
-    let at = 1;
-    let Some((name, at)) = name_at(alloc, line, tokens, at)? else {
+    let Some((name, at)) = name_text_at(line, tokens, 1) else {
         return Ok(None);
     };
     let Some(at) = symbol_at(line, tokens, at, b"=") else {
@@ -142,13 +205,8 @@ fn rewire_host(alloc: Global, line: &[u8], tokens: &[Token]) -> Result<Option<Fo
     if !ends_at(tokens, at) {
         return Ok(None);
     }
-    match arguments {
-        Ok(arguments) => {
-            let source = SourceText::Host(place, arguments);
-            Ok(Some(alone(Command::Rewire { name, source })))
-        }
-        Err(fault) => Ok(Some(faulty(LineKind::Alone, fault))),
-    }
+    let name = made(alloc, name)?;
+    Ok(Some(rewire_host_found(name, place, arguments)))
 }
 
 /// `rewire N = SOURCE`

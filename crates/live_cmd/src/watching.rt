@@ -1,16 +1,18 @@
 // Reads the lines of watchers.
 ghost use Rattle.std.specs.Prelude.{◌≡◌, ◌∷◌, [], IfOk, Ok, Some};
+ghost use Rattle.sig_base.specs.declared.scalar.Scalar.{Scalar};
 ghost use Rattle.sig_words.specs.Tokens.{AreTokens};
-ghost use Rattle.line_forms.specs.Told.{ahead};
+ghost use Rattle.line_forms.specs.Told.{ahead, IsToldScalar};
 ghost use Rattle.live_cmd.specs.declared.command.Command.TheVariants as command;
 ghost use Rattle.live_cmd.specs.declared.line.Line.TheVariants as given;
 ghost use Rattle.live_cmd.specs.Grammar as rows;
-ghost use Rattle.live_cmd.specs.Views.{found_as, found_first};
+ghost use Rattle.live_cmd.specs.Views.{found_as, found_first, found_of};
 
-use crate::last::{name_last, value_last};
+use crate::last::value_last;
 use crate::line::{Found, LineKind, alone, faulty};
+use crate::naming::{made, made_both, name_text_at, name_text_last};
 use crate::{Command, Try};
-use line_forms::{ends_at, name_at, names_at, word_at};
+use line_forms::{ToldValue, ends_at, names_at, word_at};
 use sig_base::{Name, NoMemory};
 use sig_words::Token;
 use std::alloc::Global;
@@ -29,9 +31,10 @@ fn trying(name: Name, tried: Try) -> Found
 fn watcher(alloc: Global, line: &[u8], tokens: &[Token]) -> Result<Option<Found>, NoMemory>
     ensures { IfOk result (λ found. found ≡ found_as rows.watcher (ahead line.now tokens.now 1)) }
 {
-    let Some(name) = name_last(alloc, line, tokens, 1)? else {
+    let Some(name) = name_text_last(line, tokens, 1) else {
         return Ok(None);
     };
+    let name = made(alloc, name)?;
     Ok(Some(alone(Command::Watcher { name, tries: None })))
 }
 
@@ -39,8 +42,7 @@ fn watcher(alloc: Global, line: &[u8], tokens: &[Token]) -> Result<Option<Found>
 fn tries_get(alloc: Global, line: &[u8], tokens: &[Token]) -> Result<Option<Found>, NoMemory>
     ensures { IfOk result (λ found. found ≡ found_as rows.tries_get (ahead line.now tokens.now 1)) }
 {
-    let at = 1;
-    let Some((name, at)) = name_at(alloc, line, tokens, at)? else {
+    let Some((name, at)) = name_text_at(line, tokens, 1) else {
         return Ok(None);
     };
     let Some(at) = word_at(line, tokens, at, b"tries") else {
@@ -49,10 +51,21 @@ fn tries_get(alloc: Global, line: &[u8], tokens: &[Token]) -> Result<Option<Foun
     let Some(at) = word_at(line, tokens, at, b"get") else {
         return Ok(None);
     };
-    let Some(read) = name_last(alloc, line, tokens, at)? else {
+    let Some(read) = name_text_last(line, tokens, at) else {
         return Ok(None);
     };
+    let (name, read) = made_both(alloc, name, read)?;
     Ok(Some(trying(name, Try::Get(read))))
+}
+
+// What is found of a watcher that sets a cell, or what is wrong with the value.
+fn setting(name: Name, cell: Name, value: ToldValue) -> Found
+    ensures { (v : Scalar) → IsToldScalar v value → result ≡ found_of (rows.tries_set, (name, (cell, (v, tt)))) }
+{
+    match value {
+        Ok(value) => trying(name, Try::Set(cell, value)),
+        Err(fault) => faulty(LineKind::Alone, fault),
+    }
 }
 
 // `watcher W tries set N LIT`
@@ -60,8 +73,7 @@ fn tries_set(alloc: Global, line: &[u8], tokens: &[Token]) -> Result<Option<Foun
     requires { AreTokens line.now tokens.now }
     ensures { IfOk result (λ found. found ≡ found_as rows.tries_set (ahead line.now tokens.now 1)) }
 {
-    let at = 1;
-    let Some((name, at)) = name_at(alloc, line, tokens, at)? else {
+    let Some((name, at)) = name_text_at(line, tokens, 1) else {
         return Ok(None);
     };
     let Some(at) = word_at(line, tokens, at, b"tries") else {
@@ -70,24 +82,21 @@ fn tries_set(alloc: Global, line: &[u8], tokens: &[Token]) -> Result<Option<Foun
     let Some(at) = word_at(line, tokens, at, b"set") else {
         return Ok(None);
     };
-    let Some((cell, at)) = name_at(alloc, line, tokens, at)? else {
+    let Some((cell, at)) = name_text_at(line, tokens, at) else {
         return Ok(None);
     };
     let Some(value) = value_last(alloc, line, tokens, at)? else {
         return Ok(None);
     };
-    match value {
-        Ok(value) => Ok(Some(trying(name, Try::Set(cell, value)))),
-        Err(fault) => Ok(Some(faulty(LineKind::Alone, fault))),
-    }
+    let (name, cell) = made_both(alloc, name, cell)?;
+    Ok(Some(setting(name, cell, value)))
 }
 
 // `watcher W tries watch V a b ..`
 fn tries_watch(alloc: Global, line: &[u8], tokens: &[Token]) -> Result<Option<Found>, NoMemory>
     ensures { IfOk result (λ found. found ≡ found_as rows.tries_watch (ahead line.now tokens.now 1)) }
 {
-    let at = 1;
-    let Some((name, at)) = name_at(alloc, line, tokens, at)? else {
+    let Some((name, at)) = name_text_at(line, tokens, 1) else {
         return Ok(None);
     };
     let Some(at) = word_at(line, tokens, at, b"tries") else {
@@ -96,7 +105,7 @@ fn tries_watch(alloc: Global, line: &[u8], tokens: &[Token]) -> Result<Option<Fo
     let Some(at) = word_at(line, tokens, at, b"watch") else {
         return Ok(None);
     };
-    let Some((watcher, at)) = name_at(alloc, line, tokens, at)? else {
+    let Some((watcher, at)) = name_text_at(line, tokens, at) else {
         return Ok(None);
     };
     let Some((signals, at)) = names_at(alloc, line, tokens, at)? else {
@@ -105,6 +114,7 @@ fn tries_watch(alloc: Global, line: &[u8], tokens: &[Token]) -> Result<Option<Fo
     if !ends_at(tokens, at) {
         return Ok(None);
     }
+    let (name, watcher) = made_both(alloc, name, watcher)?;
     Ok(Some(trying(name, Try::Watch(watcher, signals))))
 }
 
@@ -112,8 +122,7 @@ fn tries_watch(alloc: Global, line: &[u8], tokens: &[Token]) -> Result<Option<Fo
 fn tries_unwatch(alloc: Global, line: &[u8], tokens: &[Token]) -> Result<Option<Found>, NoMemory>
     ensures { IfOk result (λ found. found ≡ found_as rows.tries_unwatch (ahead line.now tokens.now 1)) }
 {
-    let at = 1;
-    let Some((name, at)) = name_at(alloc, line, tokens, at)? else {
+    let Some((name, at)) = name_text_at(line, tokens, 1) else {
         return Ok(None);
     };
     let Some(at) = word_at(line, tokens, at, b"tries") else {
@@ -122,12 +131,14 @@ fn tries_unwatch(alloc: Global, line: &[u8], tokens: &[Token]) -> Result<Option<
     let Some(at) = word_at(line, tokens, at, b"unwatch") else {
         return Ok(None);
     };
-    let Some((watcher, at)) = name_at(alloc, line, tokens, at)? else {
+    let Some((watcher, at)) = name_text_at(line, tokens, at) else {
         return Ok(None);
     };
-    let Some(signal) = name_last(alloc, line, tokens, at)? else {
+    let Some(signal) = name_text_last(line, tokens, at) else {
         return Ok(None);
     };
+    let name = made(alloc, name)?;
+    let (watcher, signal) = made_both(alloc, watcher, signal)?;
     Ok(Some(trying(name, Try::Unwatch(watcher, signal))))
 }
 
@@ -156,8 +167,7 @@ pub fn any_watcher(alloc: Global, line: &[u8], tokens: &[Token]) -> Result<Optio
 pub fn watch(alloc: Global, line: &[u8], tokens: &[Token]) -> Result<Option<Found>, NoMemory>
     ensures { IfOk result (λ found. found ≡ found_as rows.watch (ahead line.now tokens.now 1)) }
 {
-    let at = 1;
-    let Some((name, at)) = name_at(alloc, line, tokens, at)? else {
+    let Some((name, at)) = name_text_at(line, tokens, 1) else {
         return Ok(None);
     };
     let Some((signals, at)) = names_at(alloc, line, tokens, at)? else {
@@ -166,6 +176,7 @@ pub fn watch(alloc: Global, line: &[u8], tokens: &[Token]) -> Result<Option<Foun
     if !ends_at(tokens, at) {
         return Ok(None);
     }
+    let name = made(alloc, name)?;
     Ok(Some(alone(Command::Watch { name, signals })))
 }
 
@@ -173,12 +184,12 @@ pub fn watch(alloc: Global, line: &[u8], tokens: &[Token]) -> Result<Option<Foun
 pub fn unwatch(alloc: Global, line: &[u8], tokens: &[Token]) -> Result<Option<Found>, NoMemory>
     ensures { IfOk result (λ found. found ≡ found_as rows.unwatch (ahead line.now tokens.now 1)) }
 {
-    let at = 1;
-    let Some((name, at)) = name_at(alloc, line, tokens, at)? else {
+    let Some((name, at)) = name_text_at(line, tokens, 1) else {
         return Ok(None);
     };
-    let Some(signal) = name_last(alloc, line, tokens, at)? else {
+    let Some(signal) = name_text_last(line, tokens, at) else {
         return Ok(None);
     };
+    let (name, signal) = made_both(alloc, name, signal)?;
     Ok(Some(alone(Command::Unwatch { name, signal })))
 }
