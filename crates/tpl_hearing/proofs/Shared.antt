@@ -1,7 +1,7 @@
 -- What crates above may cite of these proofs.
 
 -- names that are heard one after the other
-pub use Rattle.tpl_hearing.proofs.Hearings.{can_still, heard_in, heard_scratch, keys_append, not_in, nothing_heard, still_heard, then_heard}
+pub use Rattle.tpl_hearing.proofs.Hearings.{heard_in, heard_scratch, keys_append, not_in, nothing_heard, still_heard, then_heard}
 -- what was heard, as the outcomes of sources
 pub use Rattle.tpl_hearing.proofs.Askings.{have_heard, outcome_in, were_still}
 -- names that are heard again

@@ -1,5 +1,5 @@
 -- A page that is made on what was heard is that of the signals, and what it settled are the names that its template reads.
-use Rattle.std.proofs.Common.{◌≡◌, ℕ, ◌==◌, ◌||◌, Bool, true, false, cond, List, [], ◌∷◌, ◌++◌, nat_eq, append_assoc, append-nil, Some, None, refl, sym, ap, subst, ◌∙◌}
+use Rattle.std.proofs.Common.{◌≡◌, ℕ, ◌+◌, ◌≤◌, ◌==◌, ◌||◌, Bool, true, false, cond, List, [], ◌∷◌, ◌++◌, nat_eq, append_assoc, append-nil, Some, None, refl, sym, ap, subst, ◌∙◌}
 use Rattle.std.specs.Prelude.{unwrap_or}
 use Rattle.std.proofs.lemmas.Bool.{eqb-true, false≢true}
 use Rattle.std.specs.Map.{keys_of}
@@ -14,6 +14,7 @@ use Rattle.signal_model.specs.Memos.{Memos}
 use Rattle.signal_laws.specs.ReadingLaws.{firsts_after}
 use Rattle.signal_laws.proofs.Shared.{firsts_hold_law, in_append}
 use Rattle.sig_computed.specs.Asked.{IsAsking}
+use Rattle.sig_computed.specs.Costs.{step_bound}
 use Rattle.sig_computed.specs.Notes.{IsSettling}
 use Rattle.tpl_model.specs.Lines.{Block, Line, block_of}
 use Rattle.tpl_model.specs.Sources.{evaluating, firsts, template_asked, template_shape}
@@ -113,6 +114,8 @@ settled_right x y before after lines links first heard m none h is order =
       settled = λ hosts all kept. subst (λ ns. IsSettling hosts w k ns x.notes y.notes y.graph.state.memos) (right hosts all kept) (s.settled hosts all kept);
       kept = s.kept;
       asked = λ hosts all kept. subst (λ ns. IsAsking hosts w k ns x.asked y.asked) (right hosts all kept) (s.asked hosts all kept);
+      steps = λ hosts all kept.
+          subst (λ ns. y.graph.state.looked ≤ x.graph.state.looked + step_bound hosts w k ns) (right hosts all kept) (s.steps hosts all kept);
       answers = s.answers;
       there = s.there;
       most = s.most;

@@ -33,6 +33,7 @@ returns-clause-after g c =
       settled = s.settled;
       kept = s.kept;
       asked = s.asked;
+      steps = s.steps;
       answers = s.answers;
       there = s.there;
       most = omega (arith, most, old, new);
