@@ -1,17 +1,19 @@
 // What a body reads and wants done, and when an effect is due.
-ghost use Rattle.std.specs.Prelude.{◌≡◌, ℕ, ◌∷◌, [], IfOk};
+ghost use Rattle.std.specs.Prelude.{◌≡◌, ℕ, ◌∷◌, [], IfOk, OnOk};
 ghost use Rattle.sig_base.specs.declared.scalar.Scalar.TheVariants as scalar;
 ghost use Rattle.sig_formula.specs.Trees.{tree, binary, literal, slot};
 ghost use Rattle.sig_formula.specs.declared.formula.BinOp.TheVariants as operator;
 ghost use Rattle.sig_untrack.specs.Stated as stated;
 ghost use Rattle.sig_untrack.specs.Stated.{Stated, before, no_bodies, put, statements_of};
 ghost use Rattle.effect_runs.specs.Evaluating.{HasNames};
+ghost use Rattle.effect_runs.specs.Settling.{scene, CanSettle};
 
 use crate::scene::Scene;
-use effect_runs::{BodyEnd, evaluate_body, look};
-use sig_base::{Outcome, Scalar, Value};
+use effect_runs::{BodyEnd, BodyRun, evaluate_body, look};
+use sig_base::{NodeId, Outcome, Scalar, Value};
 use sig_formula::{BinOp, Formula};
-use sig_untrack::{Act, Body, Stmt};
+use sig_host::{Lent, Shelf};
+use sig_untrack::{Act, Body, Read, Stmt};
 use std::alloc::Global;
 use std::test::Fail;
 
@@ -56,39 +58,98 @@ fn next(alloc: Global) -> Result<Body, Fail>
     Ok(body)
 }
 
-#[test]
-fn an_effect_is_due_once_what_it_read_has_another_value(rt: HostRuntime) -> Result<(), Fail> {
-    let alloc = rt.alloc();
-    let mut s = Scene::new(alloc, 1, 5)?;
+// Two cells of these values.
+fn cells(alloc: Global, first: i64, second: i64) -> Result<Box<Scene>, Fail>
+    ensures can { IfOk result (λ s. CanSettle (scene s.value.world (⟦<Shelf as Lent>⟧.asked s.value.shelf) s.value.events.items)) }
+    ensures counted { IfOk result (λ s. ⟦<Shelf as Lent>⟧.counted s.value.shelf) }
+{
+    let scene = Scene::new(alloc, first, second)?;
+    Ok(Box::new(alloc, scene)?)
+}
+
+// Whether a run wants the first target set to this, and nothing else.
+fn sets_to(run: &BodyRun, number: i64) -> bool {
+    match &run.end {
+        BodyEnd::Acts(acts) => match acts.as_slice() {
+            [Act::Set(0, Scalar::Int(own))] => *own == number,
+            _ => false,
+        },
+        BodyEnd::Fail(_) => false,
+    }
+}
+
+// Whether a run read this cell alone, with this value.
+fn read_alone(run: &BodyRun, cell: NodeId, number: i64) -> bool {
+    match run.tracked.as_slice() {
+        [read] => read.id == cell && is_good(&read.outcome, number),
+        _ => false,
+    }
+}
+
+// Whether an outcome is this number.
+fn is_good(outcome: &Outcome, number: i64) -> bool {
+    match outcome {
+        Outcome::Good(Value::Int(own)) => *own == number,
+        _ => false,
+    }
+}
+
+// What comes of the body on the first cell.
+fn run_of(alloc: Global, s: &mut Scene) -> Result<BodyRun, Fail>
+    requires can { CanSettle (scene s.old.world (⟦<Shelf as Lent>⟧.asked s.old.shelf) s.old.events.items) }
+    requires counted { ⟦<Shelf as Lent>⟧.counted s.old.shelf }
+    ensures can { OnOk result (CanSettle (scene s.new.world (⟦<Shelf as Lent>⟧.asked s.new.shelf) s.new.events.items)) }
+    ensures counted { OnOk result (⟦<Shelf as Lent>⟧.counted s.new.shelf) }
+{
     let body = next(alloc)?;
     let names = [s.first];
     let run = evaluate_body(&mut s.world, &mut s.shelf, &body, &names, &mut s.events)?;
-    let BodyEnd::Acts(acts) = &run.end else {
-        assert!(rt; false);
-        return Ok(());
-    };
-    let [act] = acts.as_slice() else {
-        assert!(rt; false);
-        return Ok(());
-    };
-    assert!(rt; matches!(act, Act::Set(0, Scalar::Int(2))));
-    let [read] = run.tracked.as_slice() else {
-        assert!(rt; false);
-        return Ok(());
-    };
-    assert!(rt; read.id == s.first);
-    assert!(rt; matches!(&read.outcome, Outcome::Good(Value::Int(1))));
-    let kept = run.tracked.as_slice();
-    assert!(rt; look(&mut s.world, &mut s.shelf, None, &mut s.events)?);
-    assert!(rt; !look(&mut s.world, &mut s.shelf, Some(kept), &mut s.events)?);
-    let mut other = Scene::new(alloc, 3, 5)?;
-    assert!(rt;
-        look(
-            &mut other.world,
-            &mut other.shelf,
-            Some(kept),
-            &mut other.events
-        )?
-    );
+    Ok(run)
+}
+
+// Whether an effect is due that keeps these reads, or has never run.
+fn is_due(s: &mut Scene, kept: Option<&[Read]>) -> Result<bool, Fail>
+    requires can { CanSettle (scene s.old.world (⟦<Shelf as Lent>⟧.asked s.old.shelf) s.old.events.items) }
+    requires counted { ⟦<Shelf as Lent>⟧.counted s.old.shelf }
+    ensures can { OnOk result (CanSettle (scene s.new.world (⟦<Shelf as Lent>⟧.asked s.new.shelf) s.new.events.items)) }
+    ensures counted { OnOk result (⟦<Shelf as Lent>⟧.counted s.new.shelf) }
+{
+    let due = look(&mut s.world, &mut s.shelf, kept, &mut s.events)?;
+    Ok(due)
+}
+
+// Whether an effect is due before it has run, and not afterwards.
+fn is_due_at_first(s: &mut Scene, kept: &[Read]) -> Result<bool, Fail>
+    requires can { CanSettle (scene s.old.world (⟦<Shelf as Lent>⟧.asked s.old.shelf) s.old.events.items) }
+    requires counted { ⟦<Shelf as Lent>⟧.counted s.old.shelf }
+{
+    let before = is_due(s, None)?;
+    let afterwards = is_due(s, Some(kept))?;
+    Ok(before && !afterwards)
+}
+
+// Whether an effect is due where the first cell has this value.
+fn is_due_at(alloc: Global, number: i64, kept: &[Read]) -> Result<bool, Fail> {
+    let mut s = cells(alloc, number, 5)?;
+    is_due(&mut s, Some(kept))
+}
+
+// Whether a run where the first cell is 1 says and keeps what it is to.
+fn runs_once(alloc: Global, s: &mut Scene) -> Result<bool, Fail>
+    requires can { CanSettle (scene s.old.world (⟦<Shelf as Lent>⟧.asked s.old.shelf) s.old.events.items) }
+    requires counted { ⟦<Shelf as Lent>⟧.counted s.old.shelf }
+{
+    let run = run_of(alloc, s)?;
+    let said = sets_to(&run, 2) && read_alone(&run, s.first, 1);
+    let first = is_due_at_first(s, &run.tracked)?;
+    let elsewhere = is_due_at(alloc, 3, &run.tracked)?;
+    Ok(said && first && elsewhere)
+}
+
+#[test]
+fn an_effect_is_due_once_what_it_read_has_another_value(rt: HostRuntime) -> Result<(), Fail> {
+    let alloc = rt.alloc();
+    let mut s = cells(alloc, 1, 5)?;
+    assert!(rt; runs_once(alloc, &mut s)?);
     Ok(())
 }
