@@ -1,5 +1,6 @@
 // A number within two bounds.
 ghost use Rattle.std.specs.Prelude.{◌≡◌, IfOk};
+ghost use Rattle.host_samples.specs.Lending.{clamp_lends};
 ghost use Rattle.host_samples.specs.Samples.{clamp_step, clamped, nearest};
 
 use crate::known::value_at;
@@ -75,4 +76,6 @@ impl HostFormula for Clamp {
         self.asks += 1;
         Ok(step)
     }
+
+    ghost lends_rows = { λ _. clamp_lends };
 }

@@ -7,7 +7,8 @@ use Rattle.std.specs.Io.KnownBytes.{Appends}
 use Rattle.sig_io.specs.Counts.{AppendsFront}
 use Rattle.std.proofs.KnownBytes.{Appends-trans, Appends-nil}
 use Rattle.std.proofs.lemmas.List.{append-nil, length-map}
-use Rattle.sig_host.specs.Hosts.{Meaning}
+use Rattle.sig_host.specs.Hosts.{Meaning, hosts_of}
+use Rattle.sig_host.specs.Lending.{LendsRows}
 use Rattle.effect_model.specs.Worlds.{Environment}
 use Rattle.script_lines.specs.Pieces.{Piece, pieces_of}
 use Rattle.live_cmd.specs.declared.command.Item.{Item}
@@ -70,17 +71,17 @@ pub nothing_so_far : (env : Environment) (wanted : List Item → List ℕ) (live
 nothing_so_far env wanted lives held script r m same live = record { written = []; appended = Appends-nil held; whole = λ rest are. (rest, are, same rest, live rest are) }
 
 -- the same at the beginning, by what is lent
-pub first_so_far : {H : Type 0} (law : LiveLaw) (step_of : H → Meaning) (hosts : List H) (slacks : List ℕ) (j : Job) (held : Option (List ℕ)) (script : List ℕ) (r : Report) (m : Machine) (out : List ℕ) →
+pub first_so_far : {H : Type 0} (law : LiveLaw) (step_of : H → Meaning) (hosts : List H) → LendsRows (hosts_of (map step_of hosts)) → (slacks : List ℕ) (j : Job) (held : Option (List ℕ)) (script : List ℕ) (r : Report) (m : Machine) (out : List ℕ) →
     ((is : List Item) (es : List Entry) → still r is es ≡ output_of j is es) → m ≡ empty (length hosts) → out ≡ [] →
     SoFar (lent (map step_of hosts) slacks) (lent_output (map step_of hosts) slacks j) (Lives (map step_of hosts) slacks) held held script 1 script r m out
-first_so_far law step_of hosts slacks j held script r m out prints first none =
+first_so_far law step_of hosts lends slacks j held script r m out prints first none =
     let meanings : List Meaning = map step_of hosts in
     let env : Environment = lent meanings slacks in
     let many : m ≡ empty (length meanings) = first ∙ ap empty (sym (length-map hosts step_of)) in
     subst (λ (o : List ℕ). SoFar env (lent_output meanings slacks j) (Lives meanings slacks) held held script 1 script r m o) (sym none)
     (nothing_so_far env (lent_output meanings slacks j) (Lives meanings slacks) held script r m
     (λ rest. prints rest (entries_from env m rest) ∙ ap (λ n. output_of j rest (entries_from env n rest)) many)
-    (λ rest are z lends. law env (length meanings) script rest lends are (subst (λ (n : Machine). AreSized (entries_from env n rest)) many z)))
+    (λ rest are z. law env (length meanings) script rest lends are (subst (λ (n : Machine). AreSized (entries_from env n rest)) many z)))
 
 -- where there is nothing, there is none
 pub is_none : {X : Type 0} (o : Option X) → ((x : X) → o ≡ Some x → ⊥) → o ≡ None

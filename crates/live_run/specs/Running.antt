@@ -17,7 +17,7 @@ use Rattle.live_report.specs.declared.report.Report.{Report}
 use Rattle.live_report.specs.Reports.{output_of, still}
 use Rattle.live_model.specs.Machine.{Machine, empty, step, told}
 use Rattle.live_model.specs.Output.{entries_from}
-use Rattle.page_laws.specs.LivePages.{IsLive, LendsRows}
+use Rattle.page_laws.specs.LivePages.{IsLive}
 
 -- whether a job reads the source
 abbrev pub reads : Job → Bool
@@ -39,10 +39,9 @@ lent meanings slacks = record { hosts = hosts_of meanings; slacks = slacks }
 abbrev pub lent_output : List Meaning → List ℕ → Job → List Item → List ℕ
 lent_output meanings slacks j is = output_of j is (entries_from (lent meanings slacks) (empty (length meanings)) is)
 
--- The pages of these items are live from the first item to the last, where these host formulas and rules are lent. The formulas are to make
--- no rows but such with distinct keys.
+-- the pages of these items are live from the first item to the last, where these host formulas and rules are lent
 abbrev pub Lives : List Meaning → List ℕ → List Item → Type 0
-Lives meanings slacks is = LendsRows (hosts_of meanings) → IsLive (lent meanings slacks) (empty (length meanings)) is
+Lives meanings slacks is = IsLive (lent meanings slacks) (empty (length meanings)) is
 
 -- more bytes were given than a script has, or the count stands at its last value
 abbrev pub GaveTooMuch : ℕ → ℕ → Type 0

@@ -14,7 +14,7 @@ use crate::{ReadEnd, script_for};
 use live_words::{Job, read_job, rounds_are_few};
 use page_laws::live_law;
 use sig_base::{Failed, MOST_SCRIPT, NoMemory};
-use sig_host::{EqualsRule, HostFormula};
+use sig_host::{EqualsRule, HostFormula, lends_rows};
 use sig_io::{Sink, Source, put_all};
 use std::alloc::Global;
 
@@ -101,6 +101,7 @@ fn run_script<K: Sink>(
     ensures later { K.faults sink.old ≤ K.faults sink.new }
 {
     live_law();
+    lends_rows(&hosts);
     let mut run = ScriptRun::new(alloc, job, hosts, rules)?;
     let mut at = 0;
     let mut line: u32 = 1;

@@ -7,4 +7,3 @@ mod Flushing
 mod Naming
 mod Stepping
 mod Living
-mod Samples

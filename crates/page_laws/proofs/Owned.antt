@@ -6,7 +6,7 @@ use Rattle.effect_model.specs.Owning.{Thing, the_owner, same_thing, Cleanup, set
 use Rattle.effect_model.specs.Owning.{with_earlier, under, emptied, taken_out, put_under, alone, made_inside, disposal_of}
 use Rattle.effect_tables.specs.Placed.{listed}
 use Rattle.sig_owner.specs.Tables.{is_holder}
-use Rattle.tpl_model.specs.Laws.{IsGood}
+use Rattle.sig_host.specs.Lending.{IsGood}
 
 -- a cleanup that sets good rows, or none
 abbrev pub IsGoodCleanup : Cleanup → Type 0

@@ -15,7 +15,7 @@ use Rattle.sig_rows.specs.declared.fault.RowFault.{RowFault}
 use Rattle.sig_rows.specs.declared.fault.RowFault.TheVariants as fault
 use Rattle.sig_rows.proofs.Shared.{inserted, marked_others, moved_rows, valued}
 use Rattle.signal_model.specs.Standing.{Signals, Stands, IsGone, IsCell, IsComputed, standing}
-use Rattle.tpl_model.specs.Laws.{IsGood}
+use Rattle.sig_host.specs.Lending.{IsGood}
 use Rattle.live_cmd.specs.declared.command.RowEdit.{RowEdit}
 use Rattle.live_cmd.specs.declared.command.RowEdit.TheVariants as edit
 use Rattle.live_model.specs.Rows.{edit_fault, edit_refusal, edited, fault_told, rows_at, rows_in, rows_there}

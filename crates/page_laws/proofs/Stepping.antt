@@ -26,7 +26,8 @@ use Rattle.page_model.specs.Labels.{Kind as Label}
 use Rattle.page_model.specs.Pages.{bare, tree_of}
 use Rattle.page_model.specs.Replay.{Op}
 use Rattle.page_model.specs.Texts.{IsSized}
-use Rattle.tpl_model.specs.Laws.{GivesRows, IsGood, IsMade, IsTemplate, begun, carried_on}
+use Rattle.sig_host.specs.Lending.{IsGood, LendsRows}
+use Rattle.tpl_model.specs.Laws.{GivesRows, IsMade, IsTemplate, begun, carried_on}
 use Rattle.tpl_model.specs.Sources.{on_signals}
 use Rattle.tpl_model.specs.Updates.{Updated}
 use Rattle.live_cmd.specs.declared.command.Command.{Command}
@@ -58,7 +59,7 @@ use Rattle.live_model.specs.Reading.{IsReadable, IsReadItem}
 use Rattle.live_model.specs.Rows.{edited, no_rows, rows_at}
 use Rattle.live_model.specs.Uses.{uses_of, uses_of_inside}
 use Rattle.live_model.proofs.Shared.{new_rows}
-use Rattle.page_laws.specs.LivePages.{Lead, LendsRows, ops_of, tree_named}
+use Rattle.page_laws.specs.LivePages.{Lead, ops_of, tree_named}
 use Rattle.page_laws.proofs.Flushing.{all_carried, apart_carried, names_stay, next_ops, next_page, ops_are, pages_are, templates_stay, told_among, told_each, world_stays}
 use Rattle.page_laws.proofs.Leading.{AreApart, AreQuiet, Differ, OneReading, all_by_two, all_filtered, apart_behind, apart_filtered, events_quiet, named_trees}
 use Rattle.page_laws.proofs.Leading.{ops_both, page_led, page_told, quiet_both, same_name, sized_ops, still_led, unnamed_tree}

@@ -28,7 +28,7 @@ use Rattle.effect_model.specs.Running.{do_act, do_acts, next_child, keep_reads, 
 use Rattle.effect_model.specs.Commands.{with_new_cell}
 use Rattle.effect_laws.proofs.Shared.{IsKeptByRuns, flush_keeps}
 use Rattle.effect_tables.specs.Placed.{at_rest}
-use Rattle.tpl_model.specs.Laws.{IsGood}
+use Rattle.sig_host.specs.Lending.{IsGood}
 use Rattle.page_laws.proofs.Owned.{AreGoodOwned, IsGoodCleanup, IsGoodUndoing, disposal_good, emptied_good, listed_good, made_good, put_good, taken_good, undoings_good}
 use Rattle.page_laws.proofs.Values.{AreGoodCells}
 

@@ -2,12 +2,7 @@
 use Rattle.std.specs.Prelude.{◌≡◌, ℕ, false, List, [], ◌∷◌, map, flat_map, if◌then◌else◌}
 use Rattle.std.specs.List.{AllByRecursion}
 use Rattle.std.specs.Str.{bytes_eq}
-use Rattle.sig_base.specs.declared.value.Known.{Known}
-use Rattle.sig_base.specs.declared.value.Step.{Step}
-use Rattle.sig_base.specs.declared.value.Step.TheVariants.{Read, Done, Fail}
-use Rattle.signal_model.specs.Recipes.{Hosts}
-use Rattle.sig_host.specs.Hosts.{Meaning, hosts_of}
-use Rattle.host_samples.specs.Samples.{cascade_step, clamp_step, pick_step}
+use Rattle.sig_host.specs.Lending.{LendsRows}
 use Rattle.effect_model.specs.Running.{flush}
 use Rattle.effect_model.specs.Worlds.{Environment}
 use Rattle.page_model.specs.Forest.{Forest}
@@ -17,7 +12,6 @@ use Rattle.page_model.specs.Replay as replay
 use Rattle.page_model.specs.Replay.{Op, replay}
 use Rattle.page_model.specs.Texts.{op_text}
 use Rattle.page_ops.specs.Ops.{HasText}
-use Rattle.tpl_model.specs.Laws.{IsGood}
 use Rattle.live_cmd.specs.Items.{ItemsFrom}
 use Rattle.live_cmd.specs.declared.command.Command.TheVariants as command
 use Rattle.live_cmd.specs.declared.command.Item.{Item}
@@ -65,10 +59,19 @@ pub record Lead (ops : List Op) (before after : Forest Kind) : Type 0 where
 abbrev pub IsFlush : Environment → Machine → Item → Type 0
 IsFlush env m i = (i ≡ item.Do command.Flush) × ((flush env m.world).refused ≡ false)
 
--- What an item leaves of the pages that live. After a flush that isn't refused each is, byte for byte, its template evaluated from scratch on
--- the signals as they are now. And the operations that the item tells of it lead from the page before to the page after.
+-- after a flush that isn't refused each page that lives is, byte for byte, its template evaluated from scratch on the signals as they are now
+abbrev pub IsShown : Environment → Machine → Item → Type 0
+IsShown env m i = IsFlush env m i → AllByRecursion (ShowsScratch env (step env m i).machine) (step env m i).machine.pages
+
+-- so it is with each item, from a machine on
+abbrev pub AreShown : Environment → Machine → List Item → Type 0
+AreShown env m [] = Unit {0}
+AreShown env m (i ∷ is) = IsShown env m i × AreShown env (step env m i).machine is
+
+-- What an item leaves of the pages that live: after a flush that isn't refused each is its template from scratch, and the operations that the
+-- item tells of it lead from the page before to the page after.
 pub record KeepsLive (env : Environment) (m : Machine) (i : Item) : Type 0 where
-  pub shown : IsFlush env m i → AllByRecursion (ShowsScratch env (step env m i).machine) (step env m i).machine.pages
+  pub shown : IsShown env m i
   pub led : AllByRecursion (λ (p : Page). Lead (ops_of p.name (step env m i).entries) (tree_named m.pages p.name) (tree_of p.content))
       (step env m i).machine.pages
 
@@ -77,38 +80,14 @@ abbrev pub IsLive : Environment → Machine → List Item → Type 0
 IsLive env m [] = Unit {0}
 IsLive env m (i ∷ is) = KeepsLive env m i × IsLive env (step env m i).machine is
 
--- ---- what is asked of host formulas
+-- ---- laws
 
--- where a step ends with rows, their keys are distinct and they are no more than rows may be
-abbrev pub IsGoodStep : Step → Type 0
-IsGoodStep (Done v) = IsGood v
-IsGoodStep (Read s) = Unit {0}
-IsGoodStep (Fail e) = Unit {0}
+-- after each flush of a script that isn't refused each page is its template from scratch, whatever host formulas answer
+abbrev pub ShownLaw : Type 0
+ShownLaw = (env : Environment) (m : Machine) (items : List Item) → AreShown env m items
 
--- so it is with each value that is known
-abbrev pub AreGood : List Known → Type 0
-AreGood known = AllByRecursion (λ (k : Known). IsGood k.value) known
-
--- a host formula makes rows of no others: where all rows that it knows have distinct keys, so have those that it gives
-abbrev pub IsLending : Meaning → Type 0
-IsLending f = (known : List Known) → AreGood known → IsGoodStep (f known)
-
--- so it is with each
-abbrev pub LendsRows : Hosts → Type 0
-LendsRows hosts = (place : ℕ) → IsLending (hosts place)
-
--- host formulas that are handed in as a list do, where each of them does
-abbrev pub LendingLaw : Type 0
-LendingLaw = (meanings : List Meaning) → AllByRecursion IsLending meanings → LendsRows (hosts_of meanings)
-
--- the sample formulas do
-pub record SamplesLaw : Type 0 where
-  pub pick : IsLending pick_step
-  pub cascade : IsLending cascade_step
-  pub clamp : IsLending clamp_step
-
--- Whatever a script says, its pages are live from its first item to its last, where the numbers and texts of the operations that are told are
--- such as can be printed and read.
+-- Whatever a script says, its pages are live from its first item to its last, where host formulas make rows of no others, and where the numbers
+-- and texts of the operations that are told are such as can be printed and read.
 abbrev pub LiveLaw : Type 0
 LiveLaw = (env : Environment) (hosts : ℕ) (script : List ℕ) (items : List Item) → LendsRows env.hosts → ItemsFrom 1 script items →
     AllByRecursion IsSizedEntry (entries_from env (empty hosts) items) → IsLive env (empty hosts) items

@@ -3,4 +3,4 @@
 
 mod laws;
 
-pub use laws::{lending_law, live_law, samples_law};
+pub use laws::{live_law, shown_law};

@@ -1,6 +1,7 @@
 // Host formulas that tests hand in.
-ghost use Rattle.std.specs.Prelude.{◌≡◌, Some, option_map, slice_get, unwrap_or};
-ghost use Rattle.sig_base.specs.declared.value.Step.TheVariants.{Read, Done};
+ghost use Rattle.std.specs.Prelude.{◌≡◌};
+ghost use Rattle.sig_base.specs.declared.value.Step.TheVariants.{Read};
+ghost use Rattle.settle_rows.specs.Lending.{first_lends, first_step};
 
 use sig_base::{Known, NoMemory, Step};
 use sig_host::HostFormula;
@@ -22,7 +23,7 @@ impl First {
 }
 
 impl HostFormula for First {
-    ghost step_of = { λ _ known. unwrap_or (option_map (λ k. Done k.value) (slice_get known 0)) (Read 0) };
+    ghost step_of = { λ _ known. first_step known };
 
     ghost asks = { λ f. f.asks };
 
@@ -34,6 +35,8 @@ impl HostFormula for First {
         self.asks += 1;
         Ok(step)
     }
+
+    ghost lends_rows = { λ _. first_lends };
 }
 
 /// Reads one slot, whatever is known.
@@ -61,4 +64,6 @@ impl HostFormula for Again {
         self.asks += 1;
         Ok(Step::Read(self.slot))
     }
+
+    ghost lends_rows = { λ _. record { gives = λ _ _. tt } };
 }

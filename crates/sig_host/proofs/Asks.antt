@@ -1,7 +1,7 @@
 -- Numbers of asks: one place is asked more, or loses its formula, and the others stay.
 use Rattle.std.proofs.Common.{◌≡◌, ◌≤◌, ◌<◌, ◌+◌, ◌==◌, ◌&&◌, not, ℕ, zero, suc, arith, Bool, true, false, if◌then◌else◌, List, [], ◌∷◌, map, length, IsTrue, slice_set, refl, ap, sym, ◌∙◌, add-zero, add_assoc}
 use Rattle.std.proofs.Math.Dec.{eqb-suc-suc, eqb-suc-zero, eqb-zero-suc}
-use Rattle.sig_host.specs.Hosts.{HostPlace, asked_more_at, count_at, dropped_at, is_there, most_asked, place_at, place_after, places_after, unasked_place}
+use Rattle.sig_host.specs.Hosts.{HostPlace, asked_more_at, count_at, dropped_at, is_there, most_asked, place_at, unasked_place}
 
 -- at first each formula is there, and wasn't asked
 pub is_there-new : {A : Type 0} (xs : List A) (p : ℕ) → p < length xs → IsTrue (is_there (map (λ _. unasked_place) xs) p)

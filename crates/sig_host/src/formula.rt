@@ -1,8 +1,9 @@
 // A formula of the host program.
-ghost use Rattle.std.specs.Prelude.{◌≡◌, ◌+◌, ◌<◌, List, ℕ, IfOk, OnOk, OnErr};
+ghost use Rattle.std.specs.Prelude.{◌≡◌, ◌+◌, ◌<◌, List, ℕ, IfOk, OnOk, OnErr, map};
 ghost use Rattle.sig_base.specs.declared.value.Known.{Known};
 ghost use Rattle.sig_base.specs.declared.value.Step.{Step};
-ghost use Rattle.sig_host.specs.Hosts.{last_ask};
+ghost use Rattle.sig_host.specs.Hosts.{hosts_of, last_ask};
+ghost use Rattle.sig_host.specs.Lending.{IsLending, LendsRows};
 
 use sig_base::{Known, NoMemory, Step};
 use std::alloc::Global;
@@ -36,4 +37,13 @@ pub trait HostFormula: Drop {
         ensures same { step_of self.new ≡ step_of self.old }
         ensures counted { OnOk result (asks self.new ≡ asks self.old + 1) }
         ensures uncounted { OnErr result (asks self.new ≡ asks self.old) };
+
+    /// It makes rows of no others: where all rows that it knows have distinct keys and are at most `MOST_ROWS`, so have those that it
+    /// gives. No other rows are of the type `Rows`, so each formula can say so of its meaning.
+    ghost lends_rows: { (f : Self) → IsLending (step_of f) };
 }
+
+/// Formulas that are handed in as a list make rows of no others, whatever they are.
+pub fn lends_rows(hosts: &[Box<dyn HostFormula>])
+    ensures { LendsRows (hosts_of (map (λ h. step_of h) hosts.now)) }
+{}

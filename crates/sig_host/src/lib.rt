@@ -5,6 +5,6 @@ mod formula;
 mod rule;
 mod shelf;
 
-pub use formula::HostFormula;
+pub use formula::{HostFormula, lends_rows};
 pub use rule::EqualsRule;
 pub use shelf::{Lent, Shelf};

@@ -17,7 +17,8 @@ use Rattle.page_model.specs.Pages.{IsPage, NumberedPage, bare, edits_between, pa
 use Rattle.page_model.specs.Replay.{Op}
 use Rattle.page_model.specs.Trees.{AreNodes}
 use Rattle.page_model.proofs.Shared.{bare_page, tree_made}
-use Rattle.tpl_model.specs.Laws.{GivesRows, IsGoodOutcome, IsTemplate}
+use Rattle.sig_host.specs.Lending.{IsGoodOutcome}
+use Rattle.tpl_model.specs.Laws.{GivesRows, IsTemplate}
 use Rattle.tpl_model.specs.Lines.{Block, Line, block_of}
 use Rattle.tpl_model.specs.Shapes.{shown_lines}
 use Rattle.tpl_model.specs.Sources.{evaluating, in_order, template_shape}

@@ -1,8 +1,8 @@
 -- Where the rows of the names are rows, so are those that a line's formula comes to.
-use Rattle.std.proofs.Common.{◌≡◌, ℕ, zero, suc, ℤ, ◌+◌, Bool, true, false, refl, subst, inl, inr, List, [], ◌∷◌, ◌++◌, ◌==◌, length}
+use Rattle.std.proofs.Common.{ℕ, suc, ℤ, ◌+◌, Bool, true, false, subst, inl, inr, List, [], ◌∷◌, ◌++◌, ◌==◌, length}
 use Rattle.std.proofs.Common.{Option, Some, None}
 use Rattle.std.specs.Option.{option_or}
-use Rattle.std.specs.Prelude.{nat_le, nat_lt, pos, ◌+ℤ◌, ◌-ℤ◌, ◌*ℤ◌, int_div, option_map, not}
+use Rattle.std.specs.Prelude.{nat_le, pos, ◌+ℤ◌, ◌-ℤ◌, ◌*ℤ◌, int_div, option_map, not}
 use Rattle.std.specs.Ordering.{int_eq, is_lt, is_le, is_gt, is_ge}
 use Rattle.std.proofs.lemmas.Bool.{cases_Bool}
 use Rattle.sig_base.proofs.Marks.{AreRows-marked}
@@ -15,9 +15,6 @@ use Rattle.sig_base.specs.declared.scalar.Scalar.TheVariants as scalar
 use Rattle.sig_base.specs.declared.value.Value.{Value}
 use Rattle.sig_base.specs.declared.value.Value.TheVariants as value
 use Rattle.sig_base.specs.declared.value.Known.{Known}
-use Rattle.sig_base.specs.declared.value.Step.{Step}
-use Rattle.sig_base.specs.declared.value.Step.TheVariants.{Read, Done, Fail}
-use Rattle.sig_base.specs.declared.value.Outcome.{Outcome}
 use Rattle.sig_base.specs.declared.value.Outcome.TheVariants.{Good, Bad}
 use Rattle.sig_formula.specs.declared.evaluate.FormulaStep.{FormulaStep}
 use Rattle.sig_formula.specs.declared.evaluate.FormulaStep.TheVariants.{Ask, End}
@@ -32,9 +29,11 @@ use Rattle.sig_formula.specs.Answering.{fits_i64, formula_step, joined, kept_fro
 use Rattle.sig_formula.specs.Answering.{operated, order}
 use Rattle.sig_formula.specs.Answering.{plain_step, present, row_at, served, slot_step, sum_from, text_outcome, truth, unless_decided}
 use Rattle.sig_formula.specs.Answering.{with_rows, with_truth, with_value}
-use Rattle.signal_model.specs.Recipes.{no_hosts, formula, is_known, judged}
-use Rattle.signal_model.specs.Values.{Evaluation, after_read, after_step, learnt, asked_within, unknown_slots}
-use Rattle.tpl_model.specs.Laws.{IsGood, IsGoodOutcome, RowsLaw}
+use Rattle.signal_model.specs.Recipes.{Recipe, no_hosts, formula}
+use Rattle.signal_model.specs.Values.{unknown_slots}
+use Rattle.sig_host.specs.Lending.{AreGood, IsGood, IsGoodOutcome, IsGoodStep, IsLending}
+use Rattle.sig_host.proofs.Shared.{asked_good}
+use Rattle.tpl_model.specs.Laws.{RowsLaw}
 
 -- ---- one answer
 
@@ -43,18 +42,7 @@ abbrev GoodEnd : FormulaStep → Type 0
 GoodEnd (Ask n tracked) = Unit {0}
 GoodEnd (End o) = IsGoodOutcome o
 
--- the same of an answer
-abbrev GoodStep : Step → Type 0
-GoodStep (Done v) = IsGood v
-GoodStep (Read n) = Unit {0}
-GoodStep (Fail e) = Unit {0}
-
--- the same of all that is known
-abbrev GoodKnown : List Known → Type 0
-GoodKnown [] = Unit {0}
-GoodKnown (k ∷ ks) = IsGood k.value × GoodKnown ks
-
--- and of one value, where it is there
+-- the same of one value, where it is there
 abbrev GoodFound : Option Value → Type 0
 GoodFound None = Unit {0}
 GoodFound (Some v) = IsGood v
@@ -64,7 +52,7 @@ scalar_good (scalar.Bool b) = tt
 scalar_good (scalar.Int n) = tt
 scalar_good (scalar.Text t) = tt
 
-found_good : (n : ℕ) (known : List Known) → GoodKnown known → GoodFound (known_at n known)
+found_good : (n : ℕ) (known : List Known) → AreGood known → GoodFound (known_at n known)
 found_good n [] g = tt
 found_good n (k ∷ ks) g = elim (cases_Bool (k.slot == n)) [
   | inl e ↦ rw e g.0
@@ -75,7 +63,7 @@ either_good : (x y : Option Value) → GoodFound x → GoodFound y → GoodFound
 either_good None y p q = q
 either_good (Some v) y p q = p
 
-served_good : (tracking : Bool) (n : ℕ) (ts us : List Known) → GoodKnown ts → GoodKnown us → GoodFound (served tracking n ts us)
+served_good : (tracking : Bool) (n : ℕ) (ts us : List Known) → AreGood ts → AreGood us → GoodFound (served tracking n ts us)
 served_good true n ts us g h = found_good n ts g
 served_good false n ts us g h = either_good (known_at n ts) (known_at n us) (found_good n ts g) (found_good n us h)
 
@@ -218,7 +206,7 @@ kept_good test t marks at (r ∷ rs) h g =
     with_good (test at) (λ v. with_truth v (λ b. kept_from test t (marks ++ b ∷ []) (at + 1) rs)) (h at)
     (λ v i. truly_good v (λ b. kept_from test t (marks ++ b ∷ []) (at + 1) rs) (λ b. kept_good test t (marks ++ b ∷ []) (at + 1) rs h g))
 
-formula_good : (tracking : Bool) (f : Tree) (row : Option RowRef) (ts us : List Known) → GoodKnown ts → GoodKnown us →
+formula_good : (tracking : Bool) (f : Tree) (row : Option RowRef) (ts us : List Known) → AreGood ts → AreGood us →
     GoodEnd (formula_step tracking f row ts us)
 formula_good tracking (literal s) row ts us g h = scalar_good s
 formula_good tracking (slot n) row ts us g h = slot_good tracking n (served tracking n ts us) (served_good tracking n ts us g h)
@@ -253,50 +241,21 @@ formula_good tracking (rows_where a b) row ts us g h =
     (λ v i. over_good v kept i (λ t j. kept_good (test t) t [] 0 t.rows (λ n. formula_good tracking b (row_at t n) ts us g h) j))
 formula_good tracking (untracked a) row ts us g h = formula_good false a row ts us g h
 
-plain_good : (s : FormulaStep) → GoodEnd s → GoodStep (plain_step s)
+plain_good : (s : FormulaStep) → GoodEnd s → IsGoodStep (plain_step s)
 plain_good (Ask n tracked) g = tt
 plain_good (End (Good v)) g = g
 plain_good (End (Bad e)) g = tt
 
-answer_good : (f : Tree) (row : Option RowRef) (known : List Known) → GoodKnown known → GoodStep (answer_of f row known)
+answer_good : (f : Tree) (row : Option RowRef) (known : List Known) → AreGood known → IsGoodStep (answer_of f row known)
 answer_good f row known g = plain_good (formula_step false f row known []) (formula_good false f row known [] g tt)
 
 -- ---- all answers
 
-judged_good : (n : ℕ) (known : List Known) (s : Step) → GoodStep s → GoodStep (judged n known s)
-judged_good n known (Done v) g = g
-judged_good n known (Fail e) g = tt
-judged_good n known (Read s) g = elim (cases_Bool (nat_lt s n)) [
-  | inl e ↦ elim (cases_Bool (is_known s known)) [ inl u ↦ rw (e, u) tt | inr u ↦ rw (e, u) tt ]
-  | inr e ↦ rw e tt
-]
-
-learnt_good : (known : List Known) (s : ℕ) (v : Value) → GoodKnown known → IsGood v → GoodKnown (learnt known s v)
-learnt_good [] s v g h = (h, tt)
-learnt_good (k ∷ ks) s v g h = (g.0, learnt_good ks s v g.1 h)
-
-read_good : (m : ℕ) (o : Outcome) (go : Value → Evaluation) → IsGoodOutcome o → ((v : Value) → IsGood v →
-    IsGoodOutcome (go v).outcome) → IsGoodOutcome (after_read m o go).outcome
-read_good m (Good v) go g h = h v g
-read_good m (Bad e) go g h = tt
-
-step_good : (s : Step) (links : List ℕ) (source : ℕ → Outcome) (go : ℕ → Value → Evaluation) → GoodStep s →
-    ((n : ℕ) → IsGoodOutcome (source n)) → ((n : ℕ) (v : Value) → IsGood v → IsGoodOutcome (go n v).outcome) →
-    IsGoodOutcome (after_step s links source go).outcome
-step_good (Done v) links source go g all h = g
-step_good (Fail e) links source go g all h = tt
-step_good (Read n) links source go g all h = read_good _ _ (go n) (all _) (h n)
-
-within_good : (turns : ℕ) (links : List ℕ) (source : ℕ → Outcome) (row : Option RowRef) (f : Tree) (known : List Known) → ((n : ℕ) →
-    IsGoodOutcome (source n)) → GoodKnown known →
-    IsGoodOutcome (asked_within turns no_hosts (record { expression = formula row f; slots = links }) source known).outcome
-within_good zero links source row f known all g = tt
-within_good (suc turns) links source row f known all g =
-    step_good (judged (length links) known (answer_of f row known)) links source
-    (λ n v. asked_within turns no_hosts (record { expression = formula row f; slots = links }) source (learnt known n v))
-    (judged_good (length links) known (answer_of f row known) (answer_good f row known g)) all
-    (λ n v h. within_good turns links source row f (learnt known n v) all (learnt_good known n v g h))
+-- a formula makes rows of no others
+pub formula_lends : (f : Tree) (row : Option RowRef) → IsLending (answer_of f row)
+formula_lends f row = record { gives = answer_good f row }
 
 pub rows_law : RowsLaw
 rows_law links source all row f t e =
-    subst IsGoodOutcome e (within_good (suc (unknown_slots (length links) [])) links source row f [] all tt)
+    let r : Recipe = record { expression = formula row f; slots = links } in
+    subst IsGoodOutcome e (asked_good (suc (unknown_slots (length links) [])) no_hosts r source [] (formula_lends f row) all tt)

@@ -7,7 +7,7 @@ pub use Rattle.tpl_model.proofs.Kept.{attributes_none}
 pub use Rattle.tpl_model.proofs.Made.{is_page, origin, replays}
 pub use Rattle.tpl_model.proofs.Ordered.{scratch_law}
 pub use Rattle.tpl_model.proofs.Origins.{origin_law}
-pub use Rattle.tpl_model.proofs.Rows.{rows_law}
+pub use Rattle.tpl_model.proofs.Rows.{formula_lends, rows_law}
 pub use Rattle.tpl_model.proofs.Shaped.{shape_law}
 pub use Rattle.tpl_model.proofs.Single.{times, once_line}
 pub use Rattle.tpl_model.proofs.Sized.{size_law}

@@ -4,10 +4,9 @@ use Rattle.html_out.specs.Html.{is_void}
 use Rattle.sig_base.specs.Tables.{AreRows, Table}
 use Rattle.sig_base.specs.declared.limits.TheConstants.{MOST_ROWS}
 use Rattle.sig_base.specs.declared.value.Known.{Known}
-use Rattle.sig_base.specs.declared.value.Value.{Value}
 use Rattle.sig_base.specs.declared.value.Value.TheVariants as value
 use Rattle.sig_base.specs.declared.value.Outcome.{Outcome}
-use Rattle.sig_base.specs.declared.value.Outcome.TheVariants.{Good, Bad}
+use Rattle.sig_base.specs.declared.value.Outcome.TheVariants.{Good}
 use Rattle.sig_formula.specs.Answering.{answer_of}
 use Rattle.sig_formula.specs.Trees.{Tree}
 use Rattle.sig_formula.specs.declared.formula.RowRef.{RowRef}
@@ -20,6 +19,7 @@ use Rattle.tpl_model.specs.Shapes.{Evaluating, shape_of, shown_lines}
 use Rattle.signal_model.specs.Recipes.{Hosts, formula}
 use Rattle.signal_model.specs.Standing.{is_in}
 use Rattle.signal_model.specs.Values.{asked_from}
+use Rattle.sig_host.specs.Lending.{IsGoodOutcome}
 use Rattle.tpl_model.specs.Sources.{evaluating, in_order, same_here}
 
 -- Blocks that nest so deep at most, with no `each` inside an `each`. The attributes of each element are distinct, one that can't hold
@@ -48,16 +48,6 @@ IsTemplate lines = Fits (block_of lines) 31 false
 abbrev pub GivesRows : Evaluating → Type 0
 GivesRows evaluate =
     (row : Option RowRef) (f : Tree) (t : Table) → (evaluate row f).outcome ≡ Good (value.Rows t) → AreRows t.fields t.rows
-
--- where a value is rows, these are rows
-abbrev pub IsGood : Value → Type 0
-IsGood (value.Rows t) = AreRows t.fields t.rows
-IsGood _ = Unit {0}
-
--- the same of an outcome
-abbrev pub IsGoodOutcome : Outcome → Type 0
-IsGoodOutcome (Good v) = IsGood v
-IsGoodOutcome (Bad e) = Unit {0}
 
 -- a formula makes no rows but of other rows: where those of the names are rows, so are those of the lines
 abbrev pub RowsLaw : Type 0

@@ -31,7 +31,7 @@ pub loop-run-init : goal.loop-run-init
 loop-run-init g c =
     let e = c.in_ok-run.ensures in
     record {
-      told = first_so_far c.live_law.ensures _ _ _ _ _ _ _ _ _ e.prints e.machine e.nothing;
+      told = first_so_far c.live_law.ensures _ _ (rw c.deref.ensures.value at c.lends_rows.ensures) _ _ _ _ _ _ _ e.prints e.machine e.nothing;
       kept = e.kept;
       counted = λ _. e.counted;
       slacks = e.slacks;
@@ -78,7 +78,7 @@ returns-clause-done g c =
     let ended = c.in_ok-next.ensures.ended (is_none c.in_ok-next.field-0 c.in_default.not-Some) in
     let same = ended.1 ∙ c.deref_mut.ensures.value in
     let last = rw same at (rw c.deref_mut-2.ensures.value at c.in_ok-end.ensures) in
-    let put = rw c.deref.ensures at (rw c.deref-2.ensures.value at c.in_ok-put_all.ensures.ok) in
+    let put = rw c.deref-2.ensures at (rw c.deref-3.ensures.value at c.in_ok-put_all.ensures.ok) in
     all_written _ _ _ _ _ _ _ _ _ _ _ _ _ ended.0 last put c.loop-run.invariant.told
 
 pub returns-in_err-run-clause-front : goal.returns-in_err-run-clause-front
@@ -113,5 +113,5 @@ returns-in_err-put_all-clause-front g c =
     let ended = c.in_ok-next.ensures.ended (is_none c.in_ok-next.field-0 c.in_default.not-Some) in
     let same = ended.1 ∙ c.deref_mut.ensures.value in
     let last = rw same at (rw c.deref_mut-2.ensures.value at c.in_ok-end.ensures) in
-    let put = rw c.deref.ensures at (rw c.deref-2.ensures.value at c.in_err-put_all.ensures.err) in
+    let put = rw c.deref-2.ensures at (rw c.deref-3.ensures.value at c.in_err-put_all.ensures.err) in
     rw p.1 (front_ended _ _ _ _ _ _ _ _ _ _ _ _ _ ended.0 last put c.loop-run.invariant.told)

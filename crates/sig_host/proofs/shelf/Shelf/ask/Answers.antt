@@ -1,4 +1,4 @@
-use Rattle.std.proofs.Common.{◌<◌, IsTrue, option_map, is_some, subst}
+use Rattle.std.proofs.Common.{◌<◌, IsTrue, is_some, subst}
 use Rattle.std.proofs.lemmas.Result.{IfOk-weaker, on_ok_weaker, on_err_weaker}
 use Rattle.sig_host.proofs.Places.{answer_at, answers_kept, asked_same, asked_set, counted_at, counted_set, there_at, there_same}
 use Rattle.sig_host.specs.Hosts.{HostPlace, last_ask}

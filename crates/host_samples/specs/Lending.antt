@@ -1,5 +1,5 @@
--- The sample formulas give no rows but those that they know.
-use Rattle.std.proofs.Common.{ℕ, zero, suc, ℤ, ◌==◌, Bool, true, false, cond, List, [], ◌∷◌, Some}
+-- The sample formulas make rows of no others: they give those that they know.
+use Rattle.std.proofs.Common.{ℕ, ℤ, ◌==◌, Bool, true, false, cond, List, [], ◌∷◌, Some}
 use Rattle.std.specs.Int.{int_max, int_min}
 use Rattle.std.specs.Prelude.{int_lt}
 use Rattle.sig_base.specs.declared.value.Known.{Known}
@@ -9,9 +9,8 @@ use Rattle.sig_base.specs.declared.value.Step.TheVariants.{Done, Fail}
 use Rattle.sig_base.specs.declared.value.Value.{Value}
 use Rattle.sig_base.specs.declared.value.Value.TheVariants as value
 use Rattle.sig_formula.specs.Answering.{known_at}
+use Rattle.sig_host.specs.Lending.{AreGood, IsGood, IsGoodStep, IsLending}
 use Rattle.host_samples.specs.Samples.{cascade_step, clamp_step, clamped, nearest, pick_step, picked, reading, unless_false, with_value}
-use Rattle.tpl_model.specs.Laws.{IsGood}
-use Rattle.page_laws.specs.LivePages.{AreGood, IsGoodStep, IsLending, LendingLaw, SamplesLaw}
 
 reading_good : (known : List Known) (slot : ℕ) (next : Value → Step) → AreGood known → ((v : Value) → IsGood v → IsGoodStep (next v)) →
     IsGoodStep (reading known slot next)
@@ -29,8 +28,8 @@ picked_good known (value.Int n) g = tt
 picked_good known (value.Text t) g = tt
 picked_good known (value.Rows t) g = tt
 
-pick_lends : IsLending pick_step
-pick_lends known g = reading_good known 0 (picked known) g (λ v h. picked_good known v g)
+pub pick_lends : IsLending pick_step
+pick_lends = record { gives = λ known g. reading_good known 0 (picked known) g (λ v h. picked_good known v g) }
 
 unless_good : (s : Step) (v : Value) → IsGoodStep s → IsGood v → IsGoodStep (unless_false s v)
 unless_good s (value.Bool true) g h = tt
@@ -39,13 +38,16 @@ unless_good s (value.Int n) g h = tt
 unless_good s (value.Text t) g h = tt
 unless_good s (value.Rows t) g h = h
 
-cascade_lends : IsLending cascade_step
-cascade_lends known g =
+cascade_good : (known : List Known) → AreGood known → IsGoodStep (cascade_step known)
+cascade_good known g =
     let last : Step = reading known 2 (λ v. Done v) in
     let rest : Step = reading known 1 (unless_false last) in
     reading_good known 0 (unless_false rest) g
     (λ v h. unless_good rest v (reading_good known 1 (unless_false last) g
     (λ w i. unless_good last w (reading_good known 2 (λ x. Done x) g (λ x j. j)) i)) h)
+
+pub cascade_lends : IsLending cascade_step
+cascade_lends = record { gives = cascade_good }
 
 nearest_good : (n least greatest : ℤ) → IsGoodStep (nearest n least greatest)
 nearest_good n least greatest = go (int_lt greatest least)
@@ -66,17 +68,11 @@ clamped_good (value.Bool b) w x = tt
 clamped_good (value.Text t) w x = tt
 clamped_good (value.Rows t) w x = tt
 
-clamp_lends : IsLending clamp_step
-clamp_lends known g =
+clamp_good : (known : List Known) → AreGood known → IsGoodStep (clamp_step known)
+clamp_good known g =
     reading_good known 0 (λ n. reading known 1 (λ least. reading known 2 (λ greatest. clamped n least greatest))) g
     (λ n h. reading_good known 1 (λ least. reading known 2 (λ greatest. clamped n least greatest)) g
     (λ least i. reading_good known 2 (λ greatest. clamped n least greatest) g (λ greatest j. clamped_good n least greatest)))
 
-pub samples_law : SamplesLaw
-samples_law = record { pick = pick_lends; cascade = cascade_lends; clamp = clamp_lends }
-
--- so do host formulas that each do
-pub lending_law : LendingLaw
-lending_law [] all place known g = tt
-lending_law (f ∷ fs) all zero known g = all.0 known g
-lending_law (f ∷ fs) all (suc place) known g = lending_law fs all.1 place known g
+pub clamp_lends : IsLending clamp_step
+clamp_lends = record { gives = clamp_good }

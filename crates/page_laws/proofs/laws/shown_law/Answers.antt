@@ -1,0 +1,5 @@
+use Rattle.page_laws.proofs.Living.{shown_law}
+use Rattle.page_laws.proofs.laws.shown_law.Goals as goal
+
+pub returns : goal.returns
+returns c = shown_law
