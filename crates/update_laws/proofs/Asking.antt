@@ -1,5 +1,5 @@
 -- The names that were read before, up to the first that has changed, are read now too, in the same order.
-use Rattle.std.proofs.Common.{◌≡◌, ℕ, suc, ◌==◌, Bool, true, false, not, ◌||◌, ◌&&◌, refl, sym, ap, ◌∙◌, eqb-true, eq-eqb, inl, inr, List, [], ◌∷◌, ◌++◌, Option, Some, if◌then◌else◌}
+use Rattle.std.proofs.Common.{◌≡◌, ℕ, suc, Bool, true, false, not, ◌||◌, ◌&&◌, refl, sym, ap, ◌∙◌, inl, inr, List, [], ◌∷◌, ◌++◌, Option, Some, if◌then◌else◌}
 use Rattle.std.proofs.lemmas.Bool.{cases_Bool, false≢true, true≢false}
 use Rattle.sig_base.specs.Tables.{Table}
 use Rattle.sig_base.specs.declared.rows.Row.{Row}
@@ -8,24 +8,10 @@ use Rattle.sig_base.specs.declared.value.Outcome.{Outcome}
 use Rattle.sig_base.specs.declared.value.Outcome.TheVariants.{Good, Bad}
 use Rattle.sig_formula.specs.Trees.{Tree}
 use Rattle.sig_formula.specs.declared.formula.RowRef.{RowRef}
-use Rattle.signal_model.specs.Standing.{is_in}
 use Rattle.tpl_model.specs.Lines.{Block, empty, text, tag, choice, each, attempt}
 use Rattle.tpl_model.specs.Shapes.{Here, row_here, is_fault}
-use Rattle.tpl_model.specs.Sources.{firsts}
 use Rattle.update_laws.specs.PageMemos.{Heard, Hearing, PageMemo, blank, unless, any_fault, all_names, failed, names, picks, attributes_heard, rows_memo, each_memo, memo_of, all_same, Steady, up_to_change, Begins}
 use Rattle.update_laws.proofs.Renewing.{parts, memo_agree, attributes_same, unless_agree as unless_same, picks_agree as picks_same, each_agree as each_same}
-
-or_late : (a b : Bool) → b ≡ true → (a || b) ≡ true
-or_late true b h = refl
-or_late false b h = h
-
-or_early : (a b : Bool) → a ≡ true → (a || b) ≡ true
-or_early true b h = refl
-or_early false b h = absurd (false≢true h)
-
-or_twice : (a b : Bool) → (a || (a || b)) ≡ (a || b)
-or_twice true b = refl
-or_twice false b = refl
 
 all_upto : (same : ℕ → Bool) (xs : List ℕ) → all_same same (up_to_change same xs) ≡ all_same same xs
 all_upto same [] = refl
@@ -181,62 +167,3 @@ memo_upto same hear later s g (attempt first second rest) ends here =
     let q : i ≡ i' = unless_same same (not (failed x)) y y' (memo_agree same hear later s second ends here) p.1 ∙ ap (λ z. unless (not (failed z)) y') e in
     (ap (λ z. names z ++ names i) e ∙ ap (λ z. names x' ++ names z) q, ap failed q)))
     (memo_upto same hear later s g rest ends here)
-
--- ---- each name once
-
-in_both : (n : ℕ) (xs ys : List ℕ) → is_in n (xs ++ ys) ≡ (is_in n xs || is_in n ys)
-in_both n [] ys = refl
-in_both n (x ∷ xs) ys = elim (cases_Bool (n == x)) [ inl e ↦ rw e refl | inr e ↦ rw e (in_both n xs ys) ]
-
-pub firsts_like : (as' bs ns : List ℕ) → ((n : ℕ) → is_in n as' ≡ is_in n bs) → firsts as' ns ≡ firsts bs ns
-firsts_like as' bs [] h = refl
-firsts_like as' bs (n ∷ ns) h = elim (cases_Bool (is_in n bs)) [
-  | inl e ↦ (let f = h n ∙ e in rw (f, e) (firsts_like as' bs ns h))
-  | inr e ↦ (let f = h n ∙ e in rw (f, e) (ap (λ z. n ∷ z) (firsts_like (n ∷ as') (n ∷ bs) ns (λ m. ap (λ z. (m == n) || z) (h m)))))
-]
-
-moved_in : (a b c : Bool) → (a || (b || c)) ≡ (b || (a || c))
-moved_in true true c = refl
-moved_in true false c = refl
-moved_in false true c = refl
-moved_in false false c = refl
-
-taken_in : (n m : ℕ) (bs : List ℕ) → is_in n bs ≡ true → (m == n || is_in m bs) ≡ is_in m bs
-taken_in n m bs h = elim (cases_Bool (m == n)) [
-  | inl e ↦ (let q : m ≡ n = eqb-true m n e in rw e (sym (ap (λ z. is_in z bs) q ∙ h)))
-  | inr e ↦ rw e refl
-]
-
-pub firsts_both : (bs xs ys : List ℕ) → firsts bs (xs ++ ys) ≡ firsts bs xs ++ firsts (xs ++ bs) ys
-firsts_both bs [] ys = refl
-firsts_both bs (x ∷ xs) ys = elim (cases_Bool (is_in x bs)) [
-  | inl e ↦ rw e (firsts_both bs xs ys ∙ ap (λ z. firsts bs xs ++ z) (firsts_like (xs ++ bs) (x ∷ (xs ++ bs)) ys (λ m. sym (taken_in x m (xs ++ bs) (in_both x xs bs ∙ or_late (is_in x xs) (is_in x bs) e)))))
-  | inr e ↦ rw e (ap (λ z. x ∷ z) (firsts_both (x ∷ bs) xs ys ∙ ap (λ z. firsts (x ∷ bs) xs ++ z) (firsts_like (xs ++ x ∷ bs) (x ∷ (xs ++ bs)) ys (λ m. in_both m xs (x ∷ bs) ∙ (moved_in (is_in m xs) (m == x) (is_in m bs) ∙ ap (λ z. (m == x) || z) (sym (in_both m xs bs)))))))
-]
-
-firsts_again : (bs xs : List ℕ) → ((n : ℕ) → is_in n xs ≡ true → is_in n bs ≡ true) → firsts bs xs ≡ []
-firsts_again bs [] h = refl
-firsts_again bs (x ∷ xs) h = (let e : is_in x bs ≡ true = h x (let i = eq-eqb x x refl in rw i refl) in rw e (firsts_again bs xs (λ n i. h n (or_late (n == x) (is_in n xs) i))))
-
--- names that were looked at first, as a beginning of those that are read, change nothing
-pub looked_first : (bs xs zs : List ℕ) → firsts bs xs ++ firsts (xs ++ bs) (xs ++ zs) ≡ firsts bs (xs ++ zs)
-looked_first bs xs zs =
-    let a = firsts_both (xs ++ bs) xs zs in
-    let b = firsts_again (xs ++ bs) xs (λ n h. in_both n xs bs ∙ or_early (is_in n xs) (is_in n bs) h) in
-    let c = firsts_like (xs ++ (xs ++ bs)) (xs ++ bs) zs (λ n. in_both n xs (xs ++ bs) ∙ (ap (λ z. is_in n xs || z) (in_both n xs bs) ∙ (or_twice (is_in n xs) (is_in n bs) ∙ sym (in_both n xs bs)))) in
-    ap (λ z. firsts bs xs ++ z) (a ∙ (ap (λ z. z ++ firsts (xs ++ (xs ++ bs)) zs) b ∙ c)) ∙ sym (firsts_both bs xs zs)
-
--- what is looked at is a beginning
-pub upto_begins : (same : ℕ → Bool) (xs : List ℕ) → (zs : List ℕ) × (xs ≡ up_to_change same xs ++ zs)
-upto_begins same [] = ([], refl)
-upto_begins same (x ∷ xs) = elim (cases_Bool (same x)) [
-  | inl e ↦ (let i = upto_begins same xs in (i.0, rw e (ap (λ z. x ∷ z) i.1)))
-  | inr e ↦ (xs, rw e refl)
-]
-
--- The names of before, up to the first that has changed, asked before the lines are gone over: the order of asking stays.
-pub asked_in_order : (same : ℕ → Bool) (bs old new : List ℕ) → up_to_change same old ≡ up_to_change same new → firsts bs (up_to_change same old) ++ firsts (up_to_change same old ++ bs) new ≡ firsts bs new
-asked_in_order same bs old new e =
-    let i = upto_begins same new in
-    let q : new ≡ up_to_change same old ++ i.0 = i.1 ∙ ap (λ z. z ++ i.0) (sym e) in
-    ap (λ z. firsts bs (up_to_change same old) ++ firsts (up_to_change same old ++ bs) z) q ∙ (looked_first bs (up_to_change same old) i.0 ∙ ap (firsts bs) (sym q))

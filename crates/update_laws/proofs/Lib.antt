@@ -8,10 +8,6 @@ mod Showings
 mod Renewing
 mod Asking
 mod Evaluations
-mod Owned
-mod Differing
-mod Assembled
 mod Placing
 mod Mounting
-mod Examples
 pub mod Shared

@@ -14,7 +14,7 @@ use Rattle.update_laws.specs.PageMemos.{all_same, hearing, names}
 use Rattle.update_laws.specs.Updating.{shape_on, memo_on, mount_found, MountLaw, SourceLaw, Tells}
 use Rattle.update_laws.proofs.Evaluations.{steady}
 use Rattle.update_laws.proofs.Renewing.{memo_agree}
-use Rattle.update_laws.proofs.Assembled.{shape_shown}
+use Rattle.update_laws.proofs.Showings.{shape_shown}
 use Rattle.update_laws.proofs.Showings.{shows}
 use Rattle.update_laws.proofs.Summary.{found_edits_law, found_order_law}
 use Rattle.update_laws.proofs.Walk.{finds_node, finds_none}

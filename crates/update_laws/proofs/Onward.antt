@@ -93,13 +93,6 @@ behind_taken n moved (o ∷ os) h = elim (cases_Bool (listed o moved)) [
   | inr e ↦ (let h' : (o == n) ≡ true = rw e at h in rw e (rw h' refl))
 ]
 
-unlisted_taken : (n : ℕ) (xs : List ℕ) → listed n xs ≡ false → taken n xs ≡ xs
-unlisted_taken n [] h = refl
-unlisted_taken n (x ∷ xs) h = elim (cases_Bool (x == n)) [
-  | inl e ↦ absurd (true≢false (rw e at h))
-  | inr e ↦ rw e (ap (λ z. x ∷ z) (unlisted_taken n xs (rw e at h)))
-]
-
 unmoved_other : (n : ℕ) (moved old : List ℕ) → listed n old ≡ false → unmoved (n ∷ moved) old ≡ unmoved moved old
 unmoved_other n moved [] h = refl
 unmoved_other n moved (o ∷ os) h = elim (cases_Bool (o == n)) [

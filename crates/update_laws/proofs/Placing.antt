@@ -5,11 +5,8 @@ use Rattle.page_model.specs.Forest.{Forest, none, node, has, on, kids, parent, n
 use Rattle.page_model.specs.Labels.{Root, Look, shown}
 use Rattle.page_model.specs.Edits.{listed, siblings}
 use Rattle.page_model.specs.Pages.{NumberedPage, looks, page_shape, number_of, carried, those, new_order, place_in, with_numbers, IsPage, IsShape, SameOrigin}
-use Rattle.signal_model.specs.Standing.{is_in}
-use Rattle.tpl_model.specs.Sources.{firsts}
 use Rattle.update_laws.specs.Children.{forward_edits}
 use Rattle.update_laws.specs.Differences.{children_at}
-use Rattle.update_laws.specs.PageMemos.{all_same, up_to_change}
 use Rattle.update_laws.proofs.Addressed.{siblings_num}
 use Rattle.update_laws.specs.Updating.{ReadLaw, ChildLaw, NumberLaw}
 use Rattle.update_laws.proofs.Onward.{onward}
@@ -174,24 +171,6 @@ children_onward old shape p s o a oa na =
     onward (λ n. ltb n old.next) (num a) (map num (those keep ks)) (shown (numbered num' (kids a shape)))
     (once_map num (those keep ks) (λ b c h g q. p.distinct b c (low b (from_those keep b ks h).0) (low c (from_those keep c ks g).0) q) (once_those keep ks (once_siblings (kids a before) apart_old)))
     (apart_num num' (kids a shape) (λ b c h g q. distinct_after old shape p s b c (in_new b h) (in_new c g) q) apart_new) known
-
--- ---- each name once
-
--- names that are kept once each, in the order of first reading, serve as well
-firsts_upto : (same : ℕ → Bool) (bs ns : List ℕ) → ((n : ℕ) → is_in n bs ≡ true → same n ≡ true) → (firsts bs (up_to_change same ns) ≡ up_to_change same (firsts bs ns)) × (all_same same (firsts bs ns) ≡ all_same same ns)
-firsts_upto same bs [] h = (refl, refl)
-firsts_upto same bs (n ∷ ns) h = elim (cases_Bool (is_in n bs)) [
-  | inl e ↦ (let s = h n e in let i = firsts_upto same bs ns h in (rw (e, s) i.0, rw (e, s) i.1))
-  | inr e ↦ elim (cases_Bool (same n)) [
-    | inl s ↦ (
-        let i = firsts_upto same (n ∷ bs) ns (λ m g. elim (or_cases (m == n) (is_in m bs) g) [ inl c ↦ ap same (eqb-true m n c) ∙ s | inr c ↦ h m c ]) in
-        (rw (e, s) (ap (λ z. n ∷ z) i.0), rw (e, s) i.1))
-    | inr s ↦ (rw (e, s) refl, rw (e, s) refl)
-  ]
-]
-
-pub names_once : (same : ℕ → Bool) (ns : List ℕ) → (firsts [] (up_to_change same ns) ≡ up_to_change same (firsts [] ns)) × (all_same same (firsts [] ns) ≡ all_same same ns)
-names_once same ns = firsts_upto same [] ns (λ n h. absurd (false≢true h))
 
 -- ---- the laws
 

@@ -1,5 +1,5 @@
 -- What is kept of a template's lines shows what the lines show.
-use Rattle.std.proofs.Common.{◌≡◌, ℕ, suc, Bool, true, false, not, cond, ◌||◌, ◌&&◌, refl, sym, ap, ◌∙◌, append-nil, inl, inr, List, [], ◌∷◌, ◌++◌, Option, Some}
+use Rattle.std.proofs.Common.{◌≡◌, ℕ, suc, Bool, true, false, not, cond, ◌||◌, ◌&&◌, refl, sym, ap, ◌∙◌, append-nil, inl, inr, List, [], ◌∷◌, ◌++◌, Option, Some, None}
 use Rattle.std.proofs.lemmas.Bool.{cases_Bool, false≢true, true≢false}
 use Rattle.sig_base.specs.Tables.{Table}
 use Rattle.sig_base.specs.declared.rows.Row.{Row}
@@ -10,11 +10,13 @@ use Rattle.sig_formula.specs.Trees.{Tree}
 use Rattle.sig_formula.specs.declared.formula.RowRef.{RowRef}
 use Rattle.page_model.specs.Addresses.{address}
 use Rattle.page_model.specs.Forest.{Forest, none, node, after}
-use Rattle.page_model.specs.Labels.{Text, Element, Look}
-use Rattle.tpl_model.specs.Lines.{Block, empty, text, tag, choice, each, attempt}
+use Rattle.page_model.specs.Labels.{Root, Text, Element, Look}
+use Rattle.tpl_model.specs.Lines.{Line, Block, block_of, empty, text, tag, choice, each, attempt}
 use Rattle.tpl_model.specs.Shapes.{Evaluating, Here, key_here, row_here, Showing, is_fault, told, then_shown, within, chosen, rows_from, each_row, attempted, node_text, attribute_value, attributes_of, attributes_told, shown_block}
 use Rattle.update_laws.specs.PageMemos.{hearing, PageMemo, blank, unless, any_fault, all_names, failed, names, values, picks, row_nodes, nodes, attributes_heard, rows_memo, each_memo, memo_of}
 use Rattle.tpl_model.proofs.Shared.{attributes_none}
+use Rattle.tpl_model.specs.Sources.{evaluating}
+use Rattle.update_laws.specs.Updating.{memo_on, memo_shape, shape_on}
 
 -- the names, whether a fault was met, and, where none ended the part, the nodes
 pub record Shows (ends : Bool) (ns : List ℕ) (f : Bool) (t : Forest Look) (x : Showing) : Type 0 where
@@ -186,3 +188,9 @@ shows eval (attempt first second rest) ends here =
     let y = shown_block eval ends here second in
     let own = shows_attempted ends a c (nodes (key_here here) first) (nodes (key_here here) second) x y (shows eval first true here) (shows eval second ends here) in
     shows_then ends (names a ++ names b) (failed b) (cond (failed a) (nodes (key_here here) second b) (nodes (key_here here) first a)) (attempted x y) (memo_of (hearing eval) ends here rest) (nodes (key_here here) rest) (shown_block eval ends here rest) own (shows eval rest ends here)
+
+-- ---- the whole page
+
+-- what is kept of a template's lines shows the template's shape
+pub shape_shown : (lines : List Line) (links : List ℕ) (source : ℕ → Outcome) → memo_shape lines (memo_on lines links source) ≡ shape_on lines links source
+shape_shown lines links source = ap (λ z. node 0 Root z none) ((shows (evaluating links source) (block_of lines) false None).nodes refl)

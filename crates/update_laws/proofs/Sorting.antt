@@ -33,9 +33,6 @@ unlisted_often j (x ∷ xs) h = elim (cases_Bool (x == j)) [
   | inr e ↦ (let i = unlisted_often j xs (rw e at h) in rw e (omega arith))
 ]
 
-pub often_unlisted : (j : ℕ) (xs : List ℕ) → often j xs ≡ 0 → listed j xs ≡ false
-often_unlisted j xs h = elim (cases_Bool (listed j xs)) [ inl e ↦ (let i = listed_often j xs e in absurd (omega arith)) | inr e ↦ e ]
-
 often_taken : (j n : ℕ) (xs : List ℕ) → listed n xs ≡ true → one (n == j) + often j (taken n xs) ≡ often j xs
 often_taken j n [] h = absurd (false≢true h)
 often_taken j n (x ∷ xs) h = elim (cases_Bool (x == n)) [

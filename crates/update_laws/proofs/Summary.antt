@@ -7,7 +7,7 @@ use Rattle.page_model.specs.Labels.{Root, Look, shown}
 use Rattle.page_model.specs.Edits.{listed, siblings, child_edits, told, edits}
 use Rattle.page_model.specs.Pages.{NumberedPage, by_number, page_shape, number_of, carried, ascending_by, those, newcomers, new_order, renumbered, with_numbers, edits_between, IsPage, IsShape, SameOrigin}
 use Rattle.update_laws.specs.Differences.{often, children_at, restated_at, read_off, SameChildren, SameLook, Found, Finds, found_edits, found_order}
-use Rattle.update_laws.proofs.Sorting.{often_both, listed_often, often_those, same_order, read_marked}
+use Rattle.update_laws.proofs.Sorting.{listed_often, often_those, same_order, read_marked}
 use Rattle.update_laws.proofs.Addressed.{Two, addressed, edits_addressed, often_keys, siblings_num}
 use Rattle.page_model.proofs.Shared.{has_listed, has_on, off_tally, on_kids, or_left, or_right, self_on, tally_on}
 use Rattle.update_laws.proofs.Trees.{Knows, by_number_is, by_number_with, children_none, distinct_after, first_in, in_keys, kept_on, knows, later_in, new_number, old_number, parent_at, parent_is, tally_pruned, told_none, tops_on}
@@ -38,16 +38,6 @@ quiet_look : (num : ℕ → ℕ) (old new : Forest Look) (a : ℕ) → SameLook 
 quiet_look num old new a s = ap (λ z. told (num a) z (label_in Root a new)) s ∙ told_none (num a) (label_in Root a new)
 
 -- ---- what was found is enough
-
-often_tops : {A : Type 0} (keep : ℕ → Bool) (j : ℕ) (t : Forest A) → often j (tops keep t) ≤ tally j t
-often_tops keep j none = omega arith
-often_tops keep j (node m x k r) =
-    let ik = often_tops keep j k in
-    let ir = often_tops keep j r in
-    elim (cases_Bool (keep m)) [
-      | inl e ↦ (let b = often_both j (tops keep k) (tops keep r) in rw e (omega (arith, ik, ir, b)))
-      | inr e ↦ rw e (omega (arith, ir))
-    ]
 
 pub found_addressed : (num num' : ℕ → ℕ) (old new : Forest Look) (f : Found) → Two num num' old new → Finds old new old f → addressed num num' old new ≡ read_off num num' old new f
 found_addressed num num' old new f w d =

@@ -1,5 +1,5 @@
 -- Facts on forests and on pages.
-use Rattle.std.proofs.Common.{◌≡◌, ℕ, suc, ◌+◌, ◌≤◌, ◌==◌, Bool, true, false, ◌||◌, refl, sym, ap, subst, ◌∙◌, append_assoc, arith, leb, if◌then◌else◌, eqb-true, eq-eqb, inl, inr, List, [], ◌∷◌, ◌++◌, length, Option, Some, None}
+use Rattle.std.proofs.Common.{◌≡◌, ℕ, suc, ◌+◌, ◌≤◌, ◌==◌, Bool, true, false, ◌||◌, refl, sym, ap, subst, ◌∙◌, append_assoc, arith, leb, eqb-true, eq-eqb, inl, inr, List, [], ◌∷◌, ◌++◌, length, Option, Some, None}
 use Rattle.std.specs.Str.{bytes_eq}
 use Rattle.std.proofs.lemmas.List.{length-append}
 use Rattle.std.proofs.lemmas.Bool.{cases_Bool, false≢true, true≢false, or_cases}
@@ -295,14 +295,6 @@ pub told_none : (n : ℕ) (x : Look) → told n x x ≡ []
 told_none n Root = refl
 told_none n (Text t) = (let e : bytes_eq t t ≡ true = (bytes_eq-Decides t t).1 refl in rw e refl)
 told_none n (Element name xs) = lines_none n xs 0
-
-pub pruned_whole : {A : Type 0} (keep : ℕ → Bool) (s : Forest A) → ((n : ℕ) → on n s ≡ true → keep n ≡ true) → (pruned keep s ≡ s) × (tops keep s ≡ [])
-pruned_whole keep none h = (refl, refl)
-pruned_whole keep (node m x k r) h =
-    let a = h m (or_left (m == m) (on m k || on m r) (eq-eqb m m refl)) in
-    let ik = pruned_whole keep k (λ n e. h n (or_right (m == n) (on n k || on n r) (or_left (on n k) (on n r) e))) in
-    let ir = pruned_whole keep r (λ n e. h n (or_right (m == n) (on n k || on n r) (or_right (on n k) (on n r) e))) in
-    (rw (a, ik.0, ir.0) refl, rw (a, ik.1, ir.1) refl)
 
 pub old_number : (old : NumberedPage) (shape : Forest Look) (a : ℕ) → on a (page_shape old) ≡ true → carried old shape a ≡ number_of old a
 old_number old shape a e = rw e refl

@@ -1,13 +1,12 @@
 -- Going over the old shape and the new one side by side, past what is the same.
-use Rattle.std.proofs.Common.{◌≡◌, ℕ, ◌+◌, ◌≤◌, ◌==◌, Bool, true, false, ◌||◌, refl, sym, ap, subst, ◌∙◌, arith, eqb-true, eq-eqb, inl, inr, List, [], ◌∷◌, ◌++◌}
+use Rattle.std.proofs.Common.{◌≡◌, ℕ, ◌≤◌, ◌==◌, Bool, true, false, ◌||◌, refl, sym, subst, ◌∙◌, arith, eqb-true, inl, inr, List, []}
 use Rattle.std.proofs.lemmas.Bool.{cases_Bool, false≢true, true≢false, or_cases}
 use Rattle.page_model.specs.Forest.{Forest, none, node, after, on, tally, kids, label_in, pruned, tops}
 use Rattle.page_model.specs.Labels.{Root, Look}
-use Rattle.page_model.specs.Edits.{listed, siblings}
-use Rattle.update_laws.specs.Differences.{often, Marks, SameChildren, SameLook, Found, Finds, nothing, both, marked, found_at, lost, Within, Pair}
+use Rattle.update_laws.specs.Differences.{often, Marks, SameChildren, SameLook, Found, Finds, nothing, marked, found_at, Within}
 use Rattle.update_laws.proofs.Sorting.{often_both}
-use Rattle.page_model.proofs.Shared.{on_tally, or_false, or_left, or_right, self_on, tally_off, tally_on}
-use Rattle.update_laws.proofs.Trees.{in_both, kept_on, pruned_whole, tally_after}
+use Rattle.page_model.proofs.Shared.{on_tally, or_false, or_left, or_right, tally_off}
+use Rattle.update_laws.proofs.Trees.{tally_after}
 
 -- ---- parts of a tree
 
@@ -82,13 +81,6 @@ within_later whole xs ys w l =
       ly,
     )
 
--- a node and what stands under it
-pub node_there : (whole : Forest Look) (a : ℕ) (x : Look) (k r : Forest Look) → Within whole (node a x k r) → Single (node a x k r) → (on a whole ≡ true) × (kids a whole ≡ k) × (label_in Root a whole ≡ x)
-node_there whole a x k r w l =
-    let here : (a == a) ≡ true = eq-eqb a a refl in
-    let o = self_on a x k r in
-    (w.there a o, w.kids_there a o ∙ (rw here refl), w.look_there a o ∙ (rw here refl))
-
 pub within_kids : (whole : Forest Look) (a : ℕ) (x : Look) (k r : Forest Look) → Within whole (node a x k r) → Single (node a x k r) → Within whole k × Single k
 within_kids whole a x k r w l =
     let lk : Single k = λ j. (let b = l j in omega arith) in
@@ -104,66 +96,12 @@ within_kids whole a x k r w l =
 
 -- ---- what is found in one part of the old tree
 
-pruned_after : {A : Type 0} (keep : ℕ → Bool) (xs ys : Forest A) → pruned keep (after xs ys) ≡ after (pruned keep xs) (pruned keep ys)
-pruned_after keep none ys = refl
-pruned_after keep (node m x k r) ys = elim (cases_Bool (keep m)) [
-  | inl e ↦ rw e (ap (node m x (pruned keep k)) (pruned_after keep r ys))
-  | inr e ↦ rw e (pruned_after keep r ys)
-]
-
-tops_after : {A : Type 0} (keep : ℕ → Bool) (j : ℕ) (xs ys : Forest A) → often j (tops keep (after xs ys)) ≡ often j (tops keep xs) + often j (tops keep ys)
-tops_after keep j none ys = omega arith
-tops_after keep j (node m x k r) ys =
-    let i = tops_after keep j r ys in
-    elim (cases_Bool (keep m)) [
-      | inl e ↦ (let a = often_both j (tops keep k) (tops keep (after r ys)) in let b = often_both j (tops keep k) (tops keep r) in rw e (omega (arith, i, a, b)))
-      | inr e ↦ rw e (omega (arith, i))
-    ]
-
-marks_after : {A : Type 0} (keep : ℕ → Bool) (Same : ℕ → Type 0) (xs ys : Forest A) (ms ns : List ℕ) → Marks keep Same xs ms → Marks keep Same ys ns → Marks keep Same (after xs ys) (ms ++ ns)
-marks_after keep Same xs ys ms ns a b = record {
-  few = λ j. (
-      let p = ap (tally j) (pruned_after keep xs ys) in
-      let q = tally_after j (pruned keep xs) (pruned keep ys) in
-      let c = often_both j ms ns in
-      let d = a.few j in
-      let e = b.few j in
-      omega arith);
-  rest = λ j h n. (
-      let h' : (on j (pruned keep xs) || on j (pruned keep ys)) ≡ true = sym (on_after j (pruned keep xs) (pruned keep ys)) ∙ (ap (on j) (sym (pruned_after keep xs ys)) ∙ h) in
-      let n' : (listed j ms || listed j ns) ≡ false = sym (in_both j ms ns) ∙ n in
-      let n1 : listed j ms ≡ false = elim (cases_Bool (listed j ms)) [ inl e ↦ absurd (true≢false (sym (or_left (listed j ms) (listed j ns) e) ∙ n')) | inr e ↦ e ] in
-      let n2 : listed j ns ≡ false = elim (cases_Bool (listed j ns)) [ inl e ↦ absurd (true≢false (sym (or_right (listed j ms) (listed j ns) e) ∙ n')) | inr e ↦ e ] in
-      elim (or_cases (on j (pruned keep xs)) (on j (pruned keep ys)) h') [ inl e ↦ a.rest j e n1 | inr e ↦ b.rest j e n2 ]);
-}
-
-pub finds_after : (old new xs ys : Forest Look) (f g : Found) → Finds old new xs f → Finds old new ys g → Finds old new (after xs ys) (both f g)
-finds_after old new xs ys f g a b =
-    let keep : ℕ → Bool = λ j. on j new in
-    record {
-      gone = λ j. (let c = tops_after keep j xs ys in let d = often_both j f.gone g.gone in let e = a.gone j in let h = b.gone j in omega arith);
-      touched = marks_after keep (SameChildren old new) xs ys f.touched g.touched a.touched b.touched;
-      restated = marks_after keep (SameLook old new) xs ys f.restated g.restated a.restated b.restated;
-    }
-
 pub finds_none : (old new : Forest Look) → Finds old new none nothing
 finds_none old new = record {
   gone = λ j. refl;
   touched = record { few = λ j. omega arith; rest = λ j h n. absurd (false≢true h) };
   restated = record { few = λ j. omega arith; rest = λ j h n. absurd (false≢true h) };
 }
-
--- a part that stands in both as it is
-pub finds_skip : (old new xs : Forest Look) → Within old xs → Within new xs → Finds old new xs nothing
-finds_skip old new xs w v =
-    let keep : ℕ → Bool = λ j. on j new in
-    let q = pruned_whole keep xs (λ j h. v.there j h) in
-    let up : (j : ℕ) → on j (pruned keep xs) ≡ true → on j xs ≡ true = λ j h. (kept_on keep j xs h).0 in
-    record {
-      gone = λ j. ap (often j) (sym q.1);
-      touched = record { few = λ j. omega arith; rest = λ j h n. ap siblings (w.kids_there j (up j h) ∙ sym (v.kids_there j (up j h))) };
-      restated = record { few = λ j. omega arith; rest = λ j h n. w.look_there j (up j h) ∙ sym (v.look_there j (up j h)) };
-    }
 
 marks_node : {A : Type 0} (keep : ℕ → Bool) (Same : ℕ → Type 0) (a : ℕ) (x : A) (k : Forest A) (ms : List ℕ) (b : Bool) → keep a ≡ true → (b ≡ false → Same a) → Marks keep Same k ms → Marks keep Same (node a x k none) (marked b a ms)
 marks_node keep Same a x k ms true e s m = record {
@@ -199,97 +137,20 @@ finds_node old new a x k f level look e c s d =
       restated = marks_node keep (SameLook old new) a x k f.restated look e s d.restated;
     }
 
-all_pruned : {A : Type 0} (keep : ℕ → Bool) (xs : Forest A) → ((j : ℕ) → listed j (siblings xs) ≡ true → keep j ≡ false) → (pruned keep xs ≡ none) × (tops keep xs ≡ siblings xs)
-all_pruned keep none h = (refl, refl)
-all_pruned keep (node m x k r) h =
-    let e = h m (or_left (m == m) (listed m (siblings r)) (eq-eqb m m refl)) in
-    let i = all_pruned keep r (λ j g. h j (or_right (m == j) (listed j (siblings r)) g)) in
-    (rw e i.0, rw e (ap (λ z. m ∷ z) i.1))
+-- ---- two trees side by side
 
--- trees that are gone
-pub finds_lost : (old new xs : Forest Look) → ((j : ℕ) → listed j (siblings xs) ≡ true → on j new ≡ false) → Finds old new xs (lost xs)
-finds_lost old new xs h =
-    let keep : ℕ → Bool = λ j. on j new in
-    let p = all_pruned keep xs h in
-    let off : (j : ℕ) → on j (pruned keep xs) ≡ false = λ j. ap (on j) p.0 in
-    record {
-      gone = λ j. ap (often j) (sym p.1);
-      touched = record { few = λ j. omega arith; rest = λ j g n. absurd (true≢false (sym g ∙ off j)) };
-      restated = record { few = λ j. omega arith; rest = λ j g n. absurd (true≢false (sym g ∙ off j)) };
-    }
+-- parts of the two trees
+pub record Half (old new p q : Forest Look) : Type 0 where
+  pub within_old : Within old p
+  pub single_old : Single p
+  pub within_new : Within new q
+  pub single_new : Single q
 
--- the rows that are found one after the other, in any order: what is found in one of them counts wherever it stands
-pub finds_between : (old new pre row post : Forest Look) (f g : Found) → Finds old new row f → Finds old new (after pre post) g → Finds old new (after pre (after row post)) (both f g)
-finds_between old new pre row post f g a b =
-    let keep : ℕ → Bool = λ j. on j new in
-    let t : (j : ℕ) → tally j (pruned keep (after pre (after row post))) ≡ tally j (pruned keep row) + tally j (pruned keep (after pre post)) = λ j. (
-    let p = ap (tally j) (pruned_after keep pre (after row post) ∙ ap (after (pruned keep pre)) (pruned_after keep row post)) in
-    let q = tally_after j (pruned keep pre) (after (pruned keep row) (pruned keep post)) in
-    let r = tally_after j (pruned keep row) (pruned keep post) in
-    let u = ap (tally j) (pruned_after keep pre post) in
-    let v = tally_after j (pruned keep pre) (pruned keep post) in
-    omega arith) in
-    let here : (j : ℕ) → on j (pruned keep (after pre (after row post))) ≡ true → on j (pruned keep (after row (after pre post))) ≡ true = λ j h. (
-    let c = on_tally j (pruned keep (after pre (after row post))) h in
-    let d = t j in
-    let e = ap (tally j) (pruned_after keep row (after pre post)) in
-    let i = tally_after j (pruned keep row) (pruned keep (after pre post)) in
-    tally_on j (pruned keep (after row (after pre post))) (omega arith)) in
-    let whole = finds_after old new row (after pre post) f g a b in
-    let less : (j : ℕ) → tally j (pruned keep (after row (after pre post))) ≡ tally j (pruned keep (after pre (after row post))) = λ j. (
-    let e = ap (tally j) (pruned_after keep row (after pre post)) in
-    let i = tally_after j (pruned keep row) (pruned keep (after pre post)) in
-    let d = t j in
-    omega arith) in
-    record {
-      gone = λ j. (
-          let c = whole.gone j in
-          let d = tops_after keep j row (after pre post) in
-          let e = tops_after keep j pre post in
-          let h = tops_after keep j pre (after row post) in
-          let i = tops_after keep j row post in
-          omega arith);
-      touched = record { few = λ j. (let c = whole.touched.few j in let d = less j in omega arith); rest = λ j h n. whole.touched.rest j (here j h) n };
-      restated = record { few = λ j. (let c = whole.restated.few j in let d = less j in omega arith); rest = λ j h n. whole.restated.rest j (here j h) n };
-    }
+pub half_first : (old new p q r s : Forest Look) → Half old new (after p r) (after q s) → Half old new p q
+half_first old new p q r s h = (let a = within_first old p r h.within_old h.single_old in let b = within_first new q s h.within_new h.single_new in record { within_old = a.0; single_old = a.1; within_new = b.0; single_new = b.1 })
 
--- ---- side by side
+pub half_later : (old new p q r s : Forest Look) → Half old new (after p r) (after q s) → Half old new r s
+half_later old new p q r s h = (let a = within_later old p r h.within_old h.single_old in let b = within_later new q s h.within_new h.single_new in record { within_old = a.0; single_old = a.1; within_new = b.0; single_new = b.1 })
 
-pub siblings_after : {A : Type 0} (xs ys : Forest A) → siblings (after xs ys) ≡ siblings xs ++ siblings ys
-siblings_after none ys = refl
-siblings_after (node m x k r) ys = ap (λ z. m ∷ z) (siblings_after r ys)
-
-pub pair_none : (old new : Forest Look) → Pair old new none none nothing false
-pair_none old new = record { finds = finds_none old new; same = λ h. refl }
-
-pub pair_after : (old new xs ys xs' ys' : Forest Look) (f g : Found) (l m : Bool) → Pair old new xs ys f l → Pair old new xs' ys' g m → Pair old new (after xs xs') (after ys ys') (both f g) (l || m)
-pair_after old new xs ys xs' ys' f g l m a b = record {
-  finds = finds_after old new xs xs' f g a.finds b.finds;
-  same = λ h. (
-      let l' : l ≡ false = elim (cases_Bool l) [ inl e ↦ absurd (true≢false (sym (or_left l m e) ∙ h)) | inr e ↦ e ] in
-      let m' : m ≡ false = elim (cases_Bool m) [ inl e ↦ absurd (true≢false (sym (or_right l m e) ∙ h)) | inr e ↦ e ] in
-      siblings_after xs xs' ∙ (ap (λ z. z ++ siblings xs') (a.same l') ∙ (ap (λ z. siblings ys ++ z) (b.same m') ∙ sym (siblings_after ys ys'))));
-}
-
--- what is the same on both sides isn't gone into
-pub pair_skip : (old new xs : Forest Look) → Within old xs → Within new xs → Pair old new xs xs nothing false
-pair_skip old new xs w v = record { finds = finds_skip old new xs w v; same = λ h. refl }
-
--- a node that stands on both sides
-pub pair_node : (old new : Forest Look) (a : ℕ) (x x' : Look) (k k' : Forest Look) (f : Found) (level look : Bool) → Within old (node a x k none) → Single (node a x k none) → Within new (node a x' k' none) → Single (node a x' k' none) → (look ≡ false → x ≡ x') → Pair old new k k' f level →
-    Pair old new (node a x k none) (node a x' k' none) (found_at a level look f) false
-pair_node old new a x x' k k' f level look w l v m s p =
-    let c = node_there old a x k none w l in
-    let d = node_there new a x' k' none v m in
-    record {
-      finds = finds_node old new a x k f level look d.0 (λ h. ap siblings c.1 ∙ (p.same h ∙ ap siblings (sym d.1))) (λ h. c.2 ∙ (s h ∙ sym d.2)) p.finds;
-      same = λ h. refl;
-    }
-
--- what is gone, and what is new in its place
-pub pair_lost : (old new xs ys : Forest Look) → ((j : ℕ) → listed j (siblings xs) ≡ true → on j new ≡ false) → Pair old new xs ys (lost xs) true
-pair_lost old new xs ys h = record { finds = finds_lost old new xs h; same = λ e. absurd (true≢false e) }
-
--- rows that stand elsewhere now
-pub pair_moved : (old new xs ys zs : Forest Look) (f : Found) (l : Bool) → Pair old new xs ys f l → Pair old new xs zs f true
-pair_moved old new xs ys zs f l p = record { finds = p.finds; same = λ e. absurd (true≢false e) }
+pub half_kids : (old new : Forest Look) (a : ℕ) (x y : Look) (p q : Forest Look) → Half old new (node a x p none) (node a y q none) → Half old new p q
+half_kids old new a x y p q h = (let u = within_kids old a x p none h.within_old h.single_old in let v = within_kids new a y q none h.within_new h.single_new in record { within_old = u.0; single_old = u.1; within_new = v.0; single_new = v.1 })

@@ -73,10 +73,6 @@ found_order old shape f = flat_map (λ a. newcomers (λ b. on b (page_shape old)
 abbrev pub nothing : Found
 nothing = record { gone = []; touched = []; restated = [] }
 
--- what was found in two places
-abbrev pub both : Found → Found → Found
-both f g = record { gone = f.gone ++ g.gone; touched = f.touched ++ g.touched; restated = f.restated ++ g.restated }
-
 -- an address put to a list where something holds
 abbrev pub marked : Bool → ℕ → List ℕ → List ℕ
 marked true a ms = a ∷ ms
@@ -86,17 +82,8 @@ marked false a ms = ms
 abbrev pub found_at : ℕ → Bool → Bool → Found → Found
 found_at a level look f = record { gone = f.gone; touched = marked level a f.touched; restated = marked look a f.restated }
 
--- these trees are gone
-abbrev pub lost : Forest Look → Found
-lost xs = record { gone = siblings xs; touched = []; restated = [] }
-
 -- each node of the part has in the whole the children and the look that it has here
 pub record Within (whole part : Forest Look) : Type 0 where
   pub there : (j : ℕ) → on j part ≡ true → on j whole ≡ true
   pub kids_there : (j : ℕ) → on j part ≡ true → kids j whole ≡ kids j part
   pub look_there : (j : ℕ) → on j part ≡ true → label_in Root j whole ≡ label_in Root j part
-
--- Siblings of the old tree, and those that stand in their place in the new one: what was found, and whether their addresses differ.
-pub record Pair (old new xs ys : Forest Look) (f : Found) (level : Bool) : Type 0 where
-  pub finds : Finds old new xs f
-  pub same : level ≡ false → siblings xs ≡ siblings ys

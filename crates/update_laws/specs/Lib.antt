@@ -1,5 +1,4 @@
 pub mod Differences
 pub mod Children
 pub mod PageMemos
-pub mod Walks
 pub mod Updating

@@ -1,6 +1,5 @@
 -- What a page keeps of its template's lines, and how it is brought up to date.
-use Rattle.std.specs.Prelude.{ℕ, suc, Bool, true, false, not, ◌||◌, ◌&&◌, List, [], ◌∷◌, ◌++◌, map, Option, Some, None, if◌then◌else◌, ◌≡◌}
-use Rattle.std.specs.Str.{bytes_eq}
+use Rattle.std.specs.Prelude.{ℕ, suc, Bool, true, false, not, ◌||◌, ◌&&◌, List, [], ◌∷◌, ◌++◌, map, Option, Some, if◌then◌else◌, ◌≡◌}
 use Rattle.sig_base.specs.Tables.{Table}
 use Rattle.sig_base.specs.declared.rows.Row.{Row}
 use Rattle.sig_base.specs.declared.value.Value.TheVariants as value
@@ -154,73 +153,6 @@ memo_of hear ends here (attempt first second rest) =
 abbrev pub all_same : (ℕ → Bool) → List ℕ → Bool
 all_same same [] = true
 all_same same (n ∷ ns) = same n && all_same same ns
-
--- what was heard before, where no name of it changed, and otherwise what is heard now
-abbrev pub again : (ℕ → Bool) → Heard → Heard → Heard
-again same h new = if all_same same h.names then h else new
-
--- what is heard of the attributes, line by line
-abbrev pub attributes_again : Bool → (ℕ → Bool) → Hearing → Option RowRef → List (List ℕ × Tree) → List Heard → List Heard
-attributes_again ends same hear r [] hs = []
-attributes_again ends same hear r (x ∷ xs) [] = attributes_heard ends hear r (x ∷ xs)
-attributes_again ends same hear r (x ∷ xs) (h ∷ hs) =
-    let h' = again same h (hear r x.1) in
-    h' ∷ (if ends && is_fault h'.outcome then [] else attributes_again ends same hear r xs hs)
-
--- the row of that key among the old ones
-abbrev pub row_of : List ℕ → PageMemo → Option (Here × PageMemo)
-row_of key (row h m next) = if bytes_eq h.key key then Some (h, m) else row_of key next
-row_of key _ = None
-
--- a row that has its key and its values still is gone over, any other is made
-abbrev pub by_key : (Here → PageMemo → PageMemo) → (Here → PageMemo) → Here → Option (Here × PageMemo) → PageMemo
-by_key go fresh here None = fresh here
-by_key go fresh here (Some old) = if same_here (old.0).row here.row then go here old.1 else fresh here
-
--- the rows from place i on, each beside the old row of its key
-abbrev pub rows_again : Bool → (Here → PageMemo → PageMemo) → (Here → PageMemo) → PageMemo → Table → ℕ → List Row → PageMemo
-rows_again ends go fresh old t i [] = blank
-rows_again ends go fresh old t i (r ∷ rs) =
-    let here : Here = record { key = r.key; row = record { rows = t; place = i } } in
-    let m = by_key go fresh here (row_of r.key old) in
-    row here m (unless (ends && failed m) (rows_again ends go fresh old t (suc i) rs))
-
--- the rows of a loop, where its formula comes to rows now
-abbrev pub each_again : Bool → (Here → PageMemo → PageMemo) → (Here → PageMemo) → PageMemo → Outcome → PageMemo
-each_again ends go fresh old (Good (value.Rows t)) = rows_again ends go fresh old t 0 t.rows
-each_again ends go fresh old _ = blank
-
--- Lines of which no name has changed are kept as they are; of the others each line is gone over.
-abbrev pub renew : (ℕ → Bool) → Hearing → Bool → Option Here → Block → PageMemo → PageMemo
-renew same hear ends here (text n f rest) (line h r) =
-    if all_same same (h.names ++ names r) then line h r else
-    (let h' = again same h (hear (row_here here) f) in
-    line h' (unless (ends && is_fault h'.outcome) (renew same hear ends here rest r)))
-renew same hear ends here (tag n name xs inner rest) (element hs i r) =
-    if all_same same ((all_names hs ++ names i) ++ names r) then element hs i r else
-    (let hs' = attributes_again ends same hear (row_here here) xs hs in
-    let i' = unless (ends && any_fault hs') (renew same hear ends here inner i) in
-    element hs' i' (unless (ends && (any_fault hs' || failed i')) (renew same hear ends here rest r)))
-renew same hear ends here (choice f one other rest) (branch h i r) =
-    if all_same same ((h.names ++ names i) ++ names r) then branch h i r else
-    (let h' = again same h (hear (row_here here) f) in
-    let one' = picks h.outcome (renew same hear ends here one i) (memo_of hear ends here one) (memo_of hear ends here one) in
-    let other' = picks h.outcome (memo_of hear ends here other) (renew same hear ends here other i) (memo_of hear ends here other) in
-    let i' = unless (ends && is_fault h'.outcome) (picks h'.outcome one' other' blank) in
-    branch h' i' (unless (ends && (is_fault h'.outcome || failed i')) (renew same hear ends here rest r)))
-renew same hear ends here (each f inner rest) (loop h i r) =
-    if all_same same ((h.names ++ names i) ++ names r) then loop h i r else
-    (let h' = again same h (hear (row_here here) f) in
-    let over : Here → PageMemo → PageMemo = λ s m. renew same hear ends (Some s) inner m in
-    let fresh : Here → PageMemo = λ s. memo_of hear ends (Some s) inner in
-    let i' = unless (ends && is_fault h'.outcome) (each_again ends over fresh i h'.outcome) in
-    loop h' i' (unless (ends && (is_fault h'.outcome || failed i')) (renew same hear ends here rest r)))
-renew same hear ends here (attempt first second rest) (either a b r) =
-    if all_same same ((names a ++ names b) ++ names r) then either a b r else
-    (let a' = renew same hear true here first a in
-    let b' = unless (not (failed a')) (renew same hear ends here second b) in
-    either a' b' (unless (ends && failed b') (renew same hear ends here rest r)))
-renew same hear ends here b m = memo_of hear ends here b
 
 -- What was heard before and what is heard now: a line all of whose names are as before comes to the same, and in rows that are alike each
 -- line comes to the same.

@@ -6,16 +6,15 @@ use Rattle.page_model.specs.Forest.{Forest, none, node, on, kids, numbered}
 use Rattle.page_model.specs.Labels.{Root, Look, Kind, shown}
 use Rattle.page_model.specs.Pages.{NumberedPage, IsPage, IsShape, SameOrigin, bare, carried, edits_between, new_order, number_of}
 use Rattle.page_model.specs.Pages.{page_shape, renumbered, those, tree_of, with_numbers}
-use Rattle.page_model.specs.Replay.{Op, Done, replay, do_op}
+use Rattle.page_model.specs.Replay.{Done, replay}
 use Rattle.signal_model.specs.Standing.{is_in}
 use Rattle.tpl_model.specs.Lines.{Line, block_of}
 use Rattle.tpl_model.specs.Laws.{GivesRows, IsTemplate}
 use Rattle.tpl_model.specs.Shapes.{shape_of, shown_lines}
-use Rattle.tpl_model.specs.Sources.{evaluating, firsts}
+use Rattle.tpl_model.specs.Sources.{evaluating}
 use Rattle.update_laws.specs.Children.{forward_edits}
-use Rattle.update_laws.specs.Differences.{Finds, Found, children_at, found_at, found_edits, found_order}
-use Rattle.update_laws.specs.PageMemos.{PageMemo, hearing, memo_of, names, nodes, renew, up_to_change}
-use Rattle.update_laws.specs.Walks.{differ}
+use Rattle.update_laws.specs.Differences.{Finds, Found, children_at, found_edits, found_order}
+use Rattle.update_laws.specs.PageMemos.{PageMemo, hearing, memo_of, names, nodes}
 
 -- ---- what is kept
 
@@ -49,70 +48,16 @@ pub record Keeps (lines : List Line) (links : List ℕ) (source : ℕ → Outcom
 abbrev pub Tells : (ℕ → Bool) → (ℕ → Outcome) → (ℕ → Outcome) → Type 0
 Tells same before now = (n : ℕ) → same n ≡ true → before n ≡ now n
 
--- a page that stands on the outcomes of before, and outcomes of now of which a test tells those that are as before
-pub record Changes (same : ℕ → Bool) (lines : List Line) (links : List ℕ) (before now : ℕ → Outcome) (m : PageMemo) (p : NumberedPage)
-    (tree : Forest Kind) : Type 0 where
-  pub template : IsTemplate lines
-  pub kept : Keeps lines links before m p tree
-  pub tells : Tells same before now
-  pub rows : GivesRows (evaluating links now)
-
--- what is kept next
-abbrev pub next_memo : (ℕ → Bool) → List Line → List ℕ → (ℕ → Outcome) → PageMemo → PageMemo
-next_memo same lines links now m = renew same (hearing (evaluating links now)) false None (block_of lines) m
-
 -- the page that comes next: it is carried to the shape of now
 abbrev pub next_page : List Line → List ℕ → (ℕ → Outcome) → NumberedPage → NumberedPage
 next_page lines links now p = renumbered p (shape_on lines links now)
 
--- what is found between what is kept and what is kept next
-abbrev pub found_between : (ℕ → Bool) → List Line → PageMemo → PageMemo → Found
-found_between same lines m m' =
-    let d = differ same true None (block_of lines) m m' in
-    found_at 0 d.level false d.found
-
 -- ---- laws of an update
-
--- what is kept of the page that comes next: it shows the template's shape, and read the template's names
-pub record IsNext (lines : List Line) (links : List ℕ) (now : ℕ → Outcome) (m : PageMemo) (p : NumberedPage) : Type 0 where
-  pub keeps : Keeps lines links now m (next_page lines links now p) (tree_of (next_page lines links now p))
-  pub shape : memo_shape lines m ≡ shape_on lines links now
-  pub reads : names m ≡ reads_on lines links now
-
--- what is brought up to date is kept of the page that comes next
-abbrev pub NextLaw : Type 0
-NextLaw = (same : ℕ → Bool) (lines : List Line) (links : List ℕ) (before now : ℕ → Outcome) (m : PageMemo) (p : NumberedPage)
-    (tree : Forest Kind) → Changes same lines links before now m p tree → IsNext lines links now (next_memo same lines links now m) p
 
 -- what is found gives the operations between two pages, and the order of the new numbers
 pub record Gives (p : NumberedPage) (shape : Forest Look) (f : Found) : Type 0 where
   pub edits : edits_between p (renumbered p shape) ≡ found_edits p shape f
   pub order : new_order p shape ≡ found_order p shape f
-
--- what is found on the way gives them
-abbrev pub FoundLaw : Type 0
-FoundLaw = (same : ℕ → Bool) (lines : List Line) (links : List ℕ) (before now : ℕ → Outcome) (m : PageMemo) (p : NumberedPage)
-    (tree : Forest Kind) → Changes same lines links before now m p tree →
-    Gives p (shape_on lines links now) (found_between same lines m (next_memo same lines links now m))
-
--- the operations lead from the tree that stands to that of the page that comes next
-abbrev pub LastLaw : Type 0
-LastLaw = (same : ℕ → Bool) (lines : List Line) (links : List ℕ) (before now : ℕ → Outcome) (m : PageMemo) (p : NumberedPage)
-    (tree : Forest Kind) → Changes same lines links before now m p tree →
-    replay (found_edits p (shape_on lines links now) (found_between same lines m (next_memo same lines links now m))) tree
-    ≡ Done (tree_of (next_page lines links now p))
-
--- where operations lead somewhere, the first can be done, and the others lead on from there
-abbrev pub StepLaw : Type 0
-StepLaw = (o : Op) (os : List Op) (tree last : Forest Kind) → replay (o ∷ os) tree ≡ Done last →
-    (next : Forest Kind) × (do_op o tree ≡ Done next) × (replay os next ≡ Done last)
-
--- the names of before, up to the first that has changed, may be asked first: all are asked in the order of the template
-abbrev pub AskLaw : Type 0
-AskLaw = (same : ℕ → Bool) (lines : List Line) (links : List ℕ) (before now : ℕ → Outcome) (m : PageMemo) (p : NumberedPage)
-    (tree : Forest Kind) → Changes same lines links before now m p tree →
-    let looked = up_to_change same (names m) in
-    firsts [] looked ++ firsts looked (reads_on lines links now) ≡ firsts [] (reads_on lines links now)
 
 -- what is kept rests on the outcomes of the names that were read, so these are all that a page need keep
 abbrev pub SourceLaw : Type 0
