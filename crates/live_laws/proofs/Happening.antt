@@ -40,8 +40,8 @@ use Rattle.live_model.specs.Pages.{Page, page_html, scratch_html}
 use Rattle.live_model.specs.Rows.{edited, no_rows, rows_at}
 use Rattle.live_model.specs.Names.{Use, first_refusal, meaning_of, number_of, refusal_at, thing_named}
 use Rattle.live_model.specs.Uses.{uses_of, uses_of_inside, uses_of_signals, uses_of_source}
-use Rattle.live_laws.specs.Rested.{AreEnds, rested_after, told_by}
-use Rattle.live_laws.specs.Happening.{askings_of, EndsLaw, HappensLaw, IsTold, deeds_after_turns, deeds_of, deeds_of_item, deeds_of_pages, deeds_of_verb, disposals_of}
+use Rattle.live_laws.specs.Rested.{AreAsked, AreEnds, rested_after, told_by}
+use Rattle.live_laws.specs.Happening.{askings_of, EndsLaw, HappensLaw, HostsLaw, IsTold, deeds_after_turns, deeds_of, deeds_of_item, deeds_of_pages, deeds_of_verb, disposals_of}
 use Rattle.live_laws.specs.Happening.{event_told, happened, no_more}
 use Rattle.live_laws.proofs.Fine.{first_of_both, host_fine, inside_fine, none_by, none_of, signal_fine, signals_fine, source_fine, watcher_fine}
 use Rattle.live_laws.proofs.Rests.{quiet_after, rested_law, told_more}
@@ -286,4 +286,8 @@ happened_told env (i ∷ is) m quiet =
 
 pub ends_law : EndsLaw
 ends_law env hosts is =
-    subst AreEnds (sym (happened_told env is (empty hosts) refl)) (rested_law env hosts (deeds_of_items env (empty hosts) is))
+    subst AreEnds (sym (happened_told env is (empty hosts) refl)) (rested_law env hosts (deeds_of_items env (empty hosts) is)).0
+
+pub hosts_law : HostsLaw
+hosts_law env hosts is =
+    subst AreAsked (sym (happened_told env is (empty hosts) refl)) (rested_law env hosts (deeds_of_items env (empty hosts) is)).1

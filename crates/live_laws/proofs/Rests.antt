@@ -5,11 +5,11 @@ use Rattle.effect_model.specs.Worlds.{Environment, World}
 use Rattle.effect_model.specs.Commands.{Command, after_command, after_commands, new_world}
 use Rattle.effect_laws.specs.Counting.{open_cleanups}
 use Rattle.effect_laws.specs.Ends.{AreInTime}
-use Rattle.effect_laws.proofs.Shared.{closing_law, end_law, silence_law}
+use Rattle.effect_laws.proofs.Shared.{closing_law, end_law, host_law, silence_law}
 use Rattle.effect_tables.specs.Placed.{at_rest}
 use Rattle.effect_resting.specs.Resting.{AreBare, Rests}
 use Rattle.effect_resting.proofs.Shared.{commands_rest}
-use Rattle.live_laws.specs.Rested.{rested_after, RestedLaw, told_by}
+use Rattle.live_laws.specs.Rested.{AreAsked, AreEnds, rested_after, RestedLaw, told_by}
 
 told_on : (env : Environment) (cs : List Command) (w : World) → AreBare w.owned → w.told ++ told_by env (at_rest w) cs ≡ (after_commands env w cs).told
 told_on env [] w h = append-nil w.told
@@ -24,12 +24,15 @@ told_on env (c ∷ cs) w h =
 told_all : (env : Environment) (n : ℕ) (cs : List Command) → told_by env (new_world n) cs ≡ (after_commands env (new_world n) cs).told
 told_all env n cs = told_on env cs (new_world n) tt
 
-pub rested_law : RestedLaw
-rested_law env n cs = record {
+ends_rested : (env : Environment) (n : ℕ) (cs : List Command) → AreEnds (told_by env (new_world n) cs)
+ends_rested env n cs = record {
   timely = subst (λ ts. AreInTime [] ts) (sym (told_all env n cs)) (end_law env n cs).0;
   silent = λ before after t e. silence_law env n cs before after t (sym (told_all env n cs) ∙ e);
   closed = λ t. ap (open_cleanups t 0) (told_all env n cs) ∙ closing_law env n cs t;
 }
+
+pub rested_law : RestedLaw
+rested_law env n cs = (ends_rested env n cs, subst AreAsked (sym (told_all env n cs)) (host_law env n cs).1.told)
 
 -- ---- one list of commands after another
 

@@ -23,7 +23,7 @@ use Rattle.live_model.specs.Machine.{Machine, acted_on_pages, empty, event_entri
 use Rattle.live_model.specs.Names.{meaning_of, number_of, thing_named}
 use Rattle.live_model.specs.Pages.{Page, Template, asked_of, template_in}
 use Rattle.live_model.specs.Rows.{edited, no_rows, rows_at}
-use Rattle.live_laws.specs.Rested.{AreEnds, rested_after, told_by}
+use Rattle.live_laws.specs.Rested.{AreAsked, AreEnds, rested_after, told_by}
 
 -- ---- what is done
 
@@ -119,3 +119,8 @@ HappensLaw = (env : Environment) (m : Machine) (i : Item) → m.world.told ≡ [
 -- is done once, before its effect runs again or ends.
 abbrev pub EndsLaw : Type 0
 EndsLaw = (env : Environment) (hosts : ℕ) (is : List Item) → AreEnds (happened env (empty hosts) is)
+
+-- In what happens as any items are done, each host formula that is dropped was asked as often as the runs from the first item to the last ask
+-- it, and by none after its drop.
+abbrev pub HostsLaw : Type 0
+HostsLaw = (env : Environment) (hosts : ℕ) (is : List Item) → AreAsked (happened env (empty hosts) is)

@@ -1,5 +1,5 @@
 // Laws of scripts, for all environments and all items.
-ghost use Rattle.live_laws.specs.Happening.{EndsLaw, HappensLaw};
+ghost use Rattle.live_laws.specs.Happening.{EndsLaw, HappensLaw, HostsLaw};
 
 /// Each item of a script does commands of the world, one after the other, and its entries tell what happens in them, in order, with
 /// answers between.
@@ -11,4 +11,10 @@ pub fn happens_law()
 /// cleanup is done once, before its effect runs again or ends.
 pub fn ends_law()
     ensures { EndsLaw }
+{}
+
+/// In what happens as the items of a script are done, a host formula that is dropped was asked as often as all runs ask it, and no run after
+/// its drop asks it.
+pub fn hosts_law()
+    ensures { HostsLaw }
 {}
