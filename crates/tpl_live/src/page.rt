@@ -24,7 +24,6 @@ use sig_base::{NoMemory, NodeId};
 use sig_computed::RunNote;
 use sig_host::{Lent, Shelf};
 use sig_nodes::Graph;
-use std::mem;
 use tpl_blocks::{Block, block_of};
 use tpl_hearing::Outcomes;
 use tpl_making::make;
@@ -35,10 +34,10 @@ use tpl_syntax::Template;
 
 /// A page that is made from a template and stands on signals: what it keeps of the template's lines and of the names that it read, and its nodes.
 pub struct Page {
-    lines: Block,
+    lines: Box<Block>,
     links: Vec<NodeId>,
     heard: Outcomes,
-    memo: PageMemo,
+    memo: Box<PageMemo>,
     nodes: PageNodes,
 }
 
@@ -52,6 +51,14 @@ impl Drop for Page {
             nodes: _,
         } = self;
     }
+}
+
+// What is kept of the lines that were brought up to date.
+fn memo_in(renewed: Box<Renewed>) -> PageMemo
+    ensures { result ≡ renewed.value.memo }
+{
+    let Renewed { memo, .. } = Box::into_inner(renewed);
+    memo
 }
 
 impl Page {
@@ -94,9 +101,11 @@ impl Page {
         ensures counted { OnOk result (⟦<Shelf as Lent>⟧.counted shelf.new) }
     {
         let alloc = *notes.allocator();
-        let lines = block_of(alloc, template)?;
+        let own = block_of(alloc, template)?;
+        let lines = Box::new(alloc, own)?;
         let mut heard = Outcomes::new(alloc);
-        let memo = make(alloc, graph, shelf, &mut heard, &lines, &links, None, notes)?;
+        let made = make(alloc, graph, shelf, &mut heard, &lines, &links, None, notes)?;
+        let memo = Box::new(alloc, made)?;
         heard.good();
         let first = first_tree(alloc, &lines, &memo)?;
         let First { tree, ops, next } = first;
@@ -163,8 +172,8 @@ impl Page {
         if same {
             return Ok(Vec::new(alloc));
         }
-        let was = mem::replace(&mut self.memo, PageMemo::blank());
-        let renewed = renew(
+        let was = Box::replace(&mut self.memo, PageMemo::blank());
+        let fresh = renew(
             alloc,
             graph,
             shelf,
@@ -177,9 +186,10 @@ impl Page {
             None,
             notes,
         )?;
+        let renewed = Box::new(alloc, fresh)?;
         heard_now.good();
         let ops = carry(alloc, &self.lines, &renewed, &mut self.nodes)?;
-        let Renewed { memo, .. } = renewed;
+        let memo = Box::new(alloc, memo_in(renewed))?;
         self.heard = heard_now;
         self.memo = memo;
         Ok(ops)

@@ -1,7 +1,9 @@
-use Rattle.std.proofs.Common.{None, map, refl, arith}
+use Rattle.std.proofs.Common.{None, ap, map, refl, subst, sym, arith, ◌≡◌, ◌∙◌}
+use Rattle.std.specs.Box.{box_value}
 use Rattle.page_ops.specs.Ops.{op_of}
 use Rattle.tpl_blocks.specs.Blocks.{block, lines_of}
 use Rattle.tpl_marks.specs.Numbering.{number_at}
+use Rattle.tpl_listening.specs.Makings.{Makes, lines_memo}
 use Rattle.tpl_memos.specs.Kept.{kept}
 use Rattle.tpl_live.specs.Pages.{Standing}
 use Rattle.tpl_live.proofs.Mounting.{AreMade, are_made, can_insert, is_updated, many_mounted, stands}
@@ -17,95 +19,118 @@ make-requires-clause-can g c =
 pub first_tree-requires : goal.first_tree-requires
 first_tree-requires g c =
     let lines = lines_of c.args.template.now in
-    let own = block c.in_ok-lines.lines in
-    let made : AreMade lines c.args.links.items c.make.new.heard (kept c.in_ok-memo.memo) =
-    are_made lines own c.args.links.items c.new-heard.result c.make.new.heard (kept c.in_ok-memo.memo) c.requires.template c.in_ok-lines.ensures
-    c.new-heard.ensures (rw c.deref.ensures.value at c.in_ok-memo.ensures.made) c.good.ensures in
-    can_insert lines own c.args.links.items c.make.new.heard (kept c.in_ok-memo.memo) c.in_ok-lines.ensures made
+    let own = block (box_value c.in_ok-lines.lines) in
+    let is = ap block c.in_ok-lines.ensures.ok ∙ c.in_ok-own.ensures in
+    let memo = kept (box_value c.in_ok-memo.memo) in
+    let made : AreMade lines c.args.links.items c.make.new.heard memo =
+    are_made lines own c.args.links.items c.new-heard.result c.make.new.heard memo c.requires.template is c.new-heard.ensures
+    (subst (λ m. Makes (lines_memo own) c.args.links.items None c.new-heard.result c.make.new.heard (kept m)) (sym c.in_ok-memo.ensures.ok)
+    (rw (c.deref.ensures, c.deref-2.ensures.value) at c.in_ok-made.ensures.made)) c.good.ensures in
+    rw (c.deref-3.ensures, c.deref-4.ensures) (can_insert lines own c.args.links.items c.make.new.heard memo is made)
 
 pub numbers_of-requires : goal.numbers_of-requires
 numbers_of-requires g c =
     let lines = lines_of c.args.template.now in
-    let own = block c.in_ok-lines.lines in
-    let made : AreMade lines c.args.links.items c.make.new.heard (kept c.in_ok-memo.memo) =
-    are_made lines own c.args.links.items c.new-heard.result c.make.new.heard (kept c.in_ok-memo.memo) c.requires.template c.in_ok-lines.ensures
-    c.new-heard.ensures (rw c.deref.ensures.value at c.in_ok-memo.ensures.made) c.good.ensures in
+    let own = block (box_value c.in_ok-lines.lines) in
+    let is = ap block c.in_ok-lines.ensures.ok ∙ c.in_ok-own.ensures in
+    let memo = kept (box_value c.in_ok-memo.memo) in
+    let made : AreMade lines c.args.links.items c.make.new.heard memo =
+    are_made lines own c.args.links.items c.new-heard.result c.make.new.heard memo c.requires.template is c.new-heard.ensures
+    (subst (λ m. Makes (lines_memo own) c.args.links.items None c.new-heard.result c.make.new.heard (kept m)) (sym c.in_ok-memo.ensures.ok)
+    (rw (c.deref.ensures, c.deref-2.ensures.value) at c.in_ok-made.ensures.made)) c.good.ensures in
     let first = c.in_ok-first.first in
+    let f = rw (c.deref-3.ensures, c.deref-4.ensures) at c.in_ok-first.ensures in
     let s : Standing = record {
       lines = own;
       links = c.args.links.items;
       heard = c.make.new.heard;
-      memo = kept c.in_ok-memo.memo;
+      memo = memo;
       next = first.next;
       tree = first.tree;
       number = λ a. None;
     } in
-    many_mounted lines c.args.links.items s c.in_ok-lines.ensures made c.in_ok-first.ensures.next c.in_ok-first.ensures.tree
+    rw (c.deref-5.ensures, c.deref-6.ensures) (many_mounted lines c.args.links.items s is made f.next f.tree)
 
 pub returns-clause-stands : goal.returns-clause-stands
 returns-clause-stands g c =
     let lines = lines_of c.args.template.now in
-    let own = block c.in_ok-lines.lines in
-    let made : AreMade lines c.args.links.items c.make.new.heard (kept c.in_ok-memo.memo) =
-    are_made lines own c.args.links.items c.new-heard.result c.make.new.heard (kept c.in_ok-memo.memo) c.requires.template c.in_ok-lines.ensures
-    c.new-heard.ensures (rw c.deref.ensures.value at c.in_ok-memo.ensures.made) c.good.ensures in
+    let own = block (box_value c.in_ok-lines.lines) in
+    let is = ap block c.in_ok-lines.ensures.ok ∙ c.in_ok-own.ensures in
+    let memo = kept (box_value c.in_ok-memo.memo) in
+    let made : AreMade lines c.args.links.items c.make.new.heard memo =
+    are_made lines own c.args.links.items c.new-heard.result c.make.new.heard memo c.requires.template is c.new-heard.ensures
+    (subst (λ m. Makes (lines_memo own) c.args.links.items None c.new-heard.result c.make.new.heard (kept m)) (sym c.in_ok-memo.ensures.ok)
+    (rw (c.deref.ensures, c.deref-2.ensures.value) at c.in_ok-made.ensures.made)) c.good.ensures in
     let first = c.in_ok-first.first in
+    let f = rw (c.deref-3.ensures, c.deref-4.ensures) at c.in_ok-first.ensures in
     let s : Standing = record {
       lines = own;
       links = c.args.links.items;
       heard = c.make.new.heard;
-      memo = kept c.in_ok-memo.memo;
+      memo = memo;
       next = first.next;
       tree = first.tree;
       number = number_at c.in_ok-numbers.numbers;
     } in
-    stands lines c.args.links.items s c.in_ok-lines.ensures refl made c.in_ok-first.ensures.next c.in_ok-first.ensures.tree c.in_ok-numbers.ensures
+    stands lines c.args.links.items s is refl made f.next f.tree (rw (c.deref-5.ensures, c.deref-6.ensures) at c.in_ok-numbers.ensures)
 
 pub returns-clause-page : goal.returns-clause-page
 returns-clause-page g c = λ hosts all stay.
     let lines = lines_of c.args.template.now in
-    let own = block c.in_ok-lines.lines in
-    let made : AreMade lines c.args.links.items c.make.new.heard (kept c.in_ok-memo.memo) =
-    are_made lines own c.args.links.items c.new-heard.result c.make.new.heard (kept c.in_ok-memo.memo) c.requires.template c.in_ok-lines.ensures
-    c.new-heard.ensures (rw c.deref.ensures.value at c.in_ok-memo.ensures.made) c.good.ensures in
+    let own = block (box_value c.in_ok-lines.lines) in
+    let is = ap block c.in_ok-lines.ensures.ok ∙ c.in_ok-own.ensures in
+    let memo = kept (box_value c.in_ok-memo.memo) in
+    let made : AreMade lines c.args.links.items c.make.new.heard memo =
+    are_made lines own c.args.links.items c.new-heard.result c.make.new.heard memo c.requires.template is c.new-heard.ensures
+    (subst (λ m. Makes (lines_memo own) c.args.links.items None c.new-heard.result c.make.new.heard (kept m)) (sym c.in_ok-memo.ensures.ok)
+    (rw (c.deref.ensures, c.deref-2.ensures.value) at c.in_ok-made.ensures.made)) c.good.ensures in
     let first = c.in_ok-first.first in
+    let f = rw (c.deref-3.ensures, c.deref-4.ensures) at c.in_ok-first.ensures in
     let s : Standing = record {
       lines = own;
       links = c.args.links.items;
       heard = c.make.new.heard;
-      memo = kept c.in_ok-memo.memo;
+      memo = memo;
       next = first.next;
       tree = first.tree;
       number = number_at c.in_ok-numbers.numbers;
     } in
-    (is_updated _ _ _ _ lines c.args.links.items c.new-heard.result s (map op_of first.ops.items) hosts c.new-heard.ensures c.in_ok-memo.ensures.after all stay
-    c.in_ok-lines.ensures made c.in_ok-first.ensures.next c.in_ok-first.ensures.tree c.in_ok-first.ensures.ops).page
+    (is_updated _ _ _ _ lines c.args.links.items c.new-heard.result s (map op_of first.ops.items) hosts c.new-heard.ensures c.in_ok-made.ensures.after all stay
+    is made f.next f.tree f.ops).page
 
 pub returns-clause-ops : goal.returns-clause-ops
 returns-clause-ops g c = λ hosts all stay.
     let lines = lines_of c.args.template.now in
-    let own = block c.in_ok-lines.lines in
-    let made : AreMade lines c.args.links.items c.make.new.heard (kept c.in_ok-memo.memo) =
-    are_made lines own c.args.links.items c.new-heard.result c.make.new.heard (kept c.in_ok-memo.memo) c.requires.template c.in_ok-lines.ensures
-    c.new-heard.ensures (rw c.deref.ensures.value at c.in_ok-memo.ensures.made) c.good.ensures in
+    let own = block (box_value c.in_ok-lines.lines) in
+    let is = ap block c.in_ok-lines.ensures.ok ∙ c.in_ok-own.ensures in
+    let memo = kept (box_value c.in_ok-memo.memo) in
+    let made : AreMade lines c.args.links.items c.make.new.heard memo =
+    are_made lines own c.args.links.items c.new-heard.result c.make.new.heard memo c.requires.template is c.new-heard.ensures
+    (subst (λ m. Makes (lines_memo own) c.args.links.items None c.new-heard.result c.make.new.heard (kept m)) (sym c.in_ok-memo.ensures.ok)
+    (rw (c.deref.ensures, c.deref-2.ensures.value) at c.in_ok-made.ensures.made)) c.good.ensures in
     let first = c.in_ok-first.first in
+    let f = rw (c.deref-3.ensures, c.deref-4.ensures) at c.in_ok-first.ensures in
     let s : Standing = record {
       lines = own;
       links = c.args.links.items;
       heard = c.make.new.heard;
-      memo = kept c.in_ok-memo.memo;
+      memo = memo;
       next = first.next;
       tree = first.tree;
       number = number_at c.in_ok-numbers.numbers;
     } in
-    (is_updated _ _ _ _ lines c.args.links.items c.new-heard.result s (map op_of first.ops.items) hosts c.new-heard.ensures c.in_ok-memo.ensures.after all stay
-    c.in_ok-lines.ensures made c.in_ok-first.ensures.next c.in_ok-first.ensures.tree c.in_ok-first.ensures.ops).ops
+    (is_updated _ _ _ _ lines c.args.links.items c.new-heard.result s (map op_of first.ops.items) hosts c.new-heard.ensures c.in_ok-made.ensures.after all stay
+    is made f.next f.tree f.ops).ops
 
 pub returns-clause-settles : goal.returns-clause-settles
 returns-clause-settles g c =
     let lines = lines_of c.args.template.now in
-    let made : AreMade lines c.args.links.items c.make.new.heard (kept c.in_ok-memo.memo) =
-    are_made lines (block c.in_ok-lines.lines) c.args.links.items c.new-heard.result c.make.new.heard (kept c.in_ok-memo.memo) c.requires.template
-    c.in_ok-lines.ensures c.new-heard.ensures (rw c.deref.ensures.value at c.in_ok-memo.ensures.made) c.good.ensures in
-    settled_right _ _ _ _ lines c.args.links.items c.new-heard.result c.make.new.heard (kept c.in_ok-memo.memo) c.new-heard.ensures c.in_ok-memo.ensures.after
+    let own = block (box_value c.in_ok-lines.lines) in
+    let is = ap block c.in_ok-lines.ensures.ok ∙ c.in_ok-own.ensures in
+    let memo = kept (box_value c.in_ok-memo.memo) in
+    let made : AreMade lines c.args.links.items c.make.new.heard memo =
+    are_made lines own c.args.links.items c.new-heard.result c.make.new.heard memo c.requires.template is c.new-heard.ensures
+    (subst (λ m. Makes (lines_memo own) c.args.links.items None c.new-heard.result c.make.new.heard (kept m)) (sym c.in_ok-memo.ensures.ok)
+    (rw (c.deref.ensures, c.deref-2.ensures.value) at c.in_ok-made.ensures.made)) c.good.ensures in
+    settled_right _ _ _ _ lines c.args.links.items c.new-heard.result c.make.new.heard memo c.new-heard.ensures c.in_ok-made.ensures.after
     made.memo made.order

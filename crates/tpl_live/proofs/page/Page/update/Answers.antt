@@ -7,7 +7,7 @@ use Rattle.tpl_memos.specs.Kept.{kept}
 use Rattle.tpl_live.specs.Pages.{page_in}
 use Rattle.tpl_live.specs.Standings.{standing}
 use Rattle.tpl_live.proofs.Mounting.{AreMade}
-use Rattle.tpl_live.proofs.Renewed.{compares_there, is_carried, made_anew, made_still, next_stands, was_made_there}
+use Rattle.tpl_live.proofs.Renewed.{compares_there, is_carried, made_anew, made_still, next_of, next_stands, was_made_there}
 use Rattle.tpl_live.proofs.Quiet.{is_quiet}
 use Rattle.tpl_live.proofs.Sourced.{made_on, settled_right}
 use Rattle.tpl_live.proofs.page.Page.update.Goals as goal
@@ -24,25 +24,25 @@ returns-then-same-clause-stands g c = λ lines links st. st
 pub returns-then-same-clause-page : goal.returns-then-same-clause-page
 returns-then-same-clause-page g c = λ lines links st hosts all stay.
     let s = standing c.args.self.now in
-    let made = made_still lines links s c.new-heard_now.result c.names_stay.new.heard c.in_ok-same.same st c.new-heard_now.ensures c.if-same.true c.in_ok-same.ensures.again in
+    let made = made_still lines links s c.new-heard_now.result c.names_stay.new.heard c.in_ok-same.same st c.new-heard_now.ensures c.if-same.true (rw c.deref.ensures at c.in_ok-same.ensures.again) in
     (is_quiet _ _ _ _ lines links c.new-heard_now.result c.names_stay.new.heard s hosts c.new-heard_now.ensures c.in_ok-same.ensures.after all stay st made).page
 
 pub returns-then-same-clause-ops : goal.returns-then-same-clause-ops
 returns-then-same-clause-ops g c = λ lines links st hosts all stay.
     let s = standing c.args.self.now in
-    let made = made_still lines links s c.new-heard_now.result c.names_stay.new.heard c.in_ok-same.same st c.new-heard_now.ensures c.if-same.true c.in_ok-same.ensures.again in
+    let made = made_still lines links s c.new-heard_now.result c.names_stay.new.heard c.in_ok-same.same st c.new-heard_now.ensures c.if-same.true (rw c.deref.ensures at c.in_ok-same.ensures.again) in
     ap (map op_of) c.new.ensures.items
     ∙ (is_quiet _ _ _ _ lines links c.new-heard_now.result c.names_stay.new.heard s hosts c.new-heard_now.ensures c.in_ok-same.ensures.after all stay st made).ops
 
 pub returns-then-same-clause-settles : goal.returns-then-same-clause-settles
 returns-then-same-clause-settles g c = λ lines links st.
     let s = standing c.args.self.now in
-    let made = made_still lines links s c.new-heard_now.result c.names_stay.new.heard c.in_ok-same.same st c.new-heard_now.ensures c.if-same.true c.in_ok-same.ensures.again in
+    let made = made_still lines links s c.new-heard_now.result c.names_stay.new.heard c.in_ok-same.same st c.new-heard_now.ensures c.if-same.true (rw c.deref.ensures at c.in_ok-same.ensures.again) in
     settled_right _ _ _ _ lines links c.new-heard_now.result c.names_stay.new.heard s.memo c.new-heard_now.ensures c.in_ok-same.ensures.after
     (made_on lines s.lines links c.names_stay.new.heard s.memo st.block made) made.order
 
 pub renew-requires-clause-was : goal.renew-requires-clause-was
-renew-requires-clause-was g c = rw (c.deref.ensures.value, c.replace-was.ensures.value) (was_made_there c.requires.stands.lines c.requires.stands.links (standing c.args.self.now) c.requires.stands.stands)
+renew-requires-clause-was g c = rw (c.deref-2.ensures, c.deref-3.ensures.value, c.replace-was.ensures.value) (was_made_there c.requires.stands.lines c.requires.stands.links (standing c.args.self.now) c.requires.stands.stands)
 
 pub carry-requires : goal.carry-requires
 carry-requires g c =
@@ -50,66 +50,68 @@ carry-requires g c =
     let links = c.requires.stands.links in
     let st = c.requires.stands.stands in
     let s = standing c.args.self.now in
-    let m = kept c.in_ok-renewed.renewed.memo in
+    let m = kept c.in_ok-fresh.fresh.memo in
     let made : AreMade lines links c.renew.new.heard m =
     made_anew lines links s c.new-heard_now.result c.names_stay.new.heard c.renew.new.heard m c.in_ok-same.same st c.new-heard_now.ensures c.if-same.false
-    c.in_ok-same.ensures.again c.in_ok-renewed.ensures.after.grows (rw c.deref.ensures.value at c.in_ok-renewed.ensures.made) c.good.ensures in
-    let change = changed c.in_ok-renewed.renewed.change in
-    let told : Tells s.lines s.links None s.heard m change = rw c.deref.ensures.value at c.in_ok-renewed.ensures.told in
-    record { old = page_in s; compares = compares_there lines links s c.renew.new.heard m change st made told }
+    (rw c.deref.ensures at c.in_ok-same.ensures.again) c.in_ok-fresh.ensures.after.grows (rw (c.deref-2.ensures, c.deref-3.ensures.value) at c.in_ok-fresh.ensures.made) c.good.ensures in
+    let change = changed c.in_ok-fresh.fresh.change in
+    let told : Tells s.lines s.links None s.heard m change = rw (c.deref-2.ensures, c.deref-3.ensures.value) at c.in_ok-fresh.ensures.told in
+    rw (c.deref-4.ensures, c.deref-5.ensures, c.in_ok-renewed.ensures.ok) (record { old = page_in s; compares = compares_there lines links s c.renew.new.heard m change st made told })
 
 pub returns-clause-stands : goal.returns-clause-stands
-returns-clause-stands g c = λ lines links st.
+returns-clause-stands g c = rw (c.in_ok-memo.ensures.ok, c.memo_in.ensures, c.in_ok-renewed.ensures.ok) (λ lines links st.
     let s = standing c.args.self.now in
-    let m = kept c.in_ok-renewed.renewed.memo in
+    let m = kept c.in_ok-fresh.fresh.memo in
     let made : AreMade lines links c.renew.new.heard m =
     made_anew lines links s c.new-heard_now.result c.names_stay.new.heard c.renew.new.heard m c.in_ok-same.same st c.new-heard_now.ensures c.if-same.false
-    c.in_ok-same.ensures.again c.in_ok-renewed.ensures.after.grows (rw c.deref.ensures.value at c.in_ok-renewed.ensures.made) c.good.ensures in
-    let change = changed c.in_ok-renewed.renewed.change in
-    let told : Tells s.lines s.links None s.heard m change = rw c.deref.ensures.value at c.in_ok-renewed.ensures.told in
-    let carried = c.in_ok-ops.ensures (page_in s) (compares_there lines links s c.renew.new.heard m change st made told) in
+    (rw c.deref.ensures at c.in_ok-same.ensures.again) c.in_ok-fresh.ensures.after.grows (rw (c.deref-2.ensures, c.deref-3.ensures.value) at c.in_ok-fresh.ensures.made) c.good.ensures in
+    let change = changed c.in_ok-fresh.fresh.change in
+    let told : Tells s.lines s.links None s.heard m change = rw (c.deref-2.ensures, c.deref-3.ensures.value) at c.in_ok-fresh.ensures.told in
+    let carried = (rw (c.deref-4.ensures, c.deref-5.ensures, c.in_ok-renewed.ensures.ok) at c.in_ok-ops.ensures) (page_in s) (compares_there lines links s c.renew.new.heard m change st made told) in
     let os = map op_of c.in_ok-ops.ops.items in
     let next = c.carry.new.nodes.next in
     let number = number_at c.carry.new.nodes.numbers in
-    (next_stands lines links s c.renew.new.heard m next c.carry.new.nodes.tree number os st made carried).stands
+    (next_stands lines links s c.renew.new.heard m next c.carry.new.nodes.tree number os st made carried).stands)
 
 pub returns-clause-page : goal.returns-clause-page
 returns-clause-page g c = λ lines links st hosts all stay.
     let s = standing c.args.self.now in
-    let m = kept c.in_ok-renewed.renewed.memo in
+    let m = kept c.in_ok-fresh.fresh.memo in
     let made : AreMade lines links c.renew.new.heard m =
     made_anew lines links s c.new-heard_now.result c.names_stay.new.heard c.renew.new.heard m c.in_ok-same.same st c.new-heard_now.ensures c.if-same.false
-    c.in_ok-same.ensures.again c.in_ok-renewed.ensures.after.grows (rw c.deref.ensures.value at c.in_ok-renewed.ensures.made) c.good.ensures in
-    let change = changed c.in_ok-renewed.renewed.change in
-    let told : Tells s.lines s.links None s.heard m change = rw c.deref.ensures.value at c.in_ok-renewed.ensures.told in
-    let carried = c.in_ok-ops.ensures (page_in s) (compares_there lines links s c.renew.new.heard m change st made told) in
+    (rw c.deref.ensures at c.in_ok-same.ensures.again) c.in_ok-fresh.ensures.after.grows (rw (c.deref-2.ensures, c.deref-3.ensures.value) at c.in_ok-fresh.ensures.made) c.good.ensures in
+    let change = changed c.in_ok-fresh.fresh.change in
+    let told : Tells s.lines s.links None s.heard m change = rw (c.deref-2.ensures, c.deref-3.ensures.value) at c.in_ok-fresh.ensures.told in
+    let carried = (rw (c.deref-4.ensures, c.deref-5.ensures, c.in_ok-renewed.ensures.ok) at c.in_ok-ops.ensures) (page_in s) (compares_there lines links s c.renew.new.heard m change st made told) in
     let os = map op_of c.in_ok-ops.ops.items in
     let next = c.carry.new.nodes.next in
     let number = number_at c.carry.new.nodes.numbers in
-    (is_carried _ _ _ _ lines links c.new-heard_now.result c.renew.new.heard s m next c.carry.new.nodes.tree number os hosts c.new-heard_now.ensures
-    (then_heard _ _ _ _ _ _ _ _ _ c.in_ok-same.ensures.after c.in_ok-renewed.ensures.after) all stay st made carried).page
+    let same = ap kept (rw (c.memo_in.ensures, c.in_ok-renewed.ensures.ok) at c.in_ok-memo.ensures.ok) in
+    ap (λ z. page_in (next_of s c.renew.new.heard z next c.carry.new.nodes.tree number)) same
+    ∙ (is_carried _ _ _ _ lines links c.new-heard_now.result c.renew.new.heard s m next c.carry.new.nodes.tree number os hosts c.new-heard_now.ensures
+    (then_heard _ _ _ _ _ _ _ _ _ c.in_ok-same.ensures.after c.in_ok-fresh.ensures.after) all stay st made carried).page
 
 pub returns-clause-ops : goal.returns-clause-ops
 returns-clause-ops g c = λ lines links st hosts all stay.
     let s = standing c.args.self.now in
-    let m = kept c.in_ok-renewed.renewed.memo in
+    let m = kept c.in_ok-fresh.fresh.memo in
     let made : AreMade lines links c.renew.new.heard m =
     made_anew lines links s c.new-heard_now.result c.names_stay.new.heard c.renew.new.heard m c.in_ok-same.same st c.new-heard_now.ensures c.if-same.false
-    c.in_ok-same.ensures.again c.in_ok-renewed.ensures.after.grows (rw c.deref.ensures.value at c.in_ok-renewed.ensures.made) c.good.ensures in
-    let change = changed c.in_ok-renewed.renewed.change in
-    let told : Tells s.lines s.links None s.heard m change = rw c.deref.ensures.value at c.in_ok-renewed.ensures.told in
-    let carried = c.in_ok-ops.ensures (page_in s) (compares_there lines links s c.renew.new.heard m change st made told) in
+    (rw c.deref.ensures at c.in_ok-same.ensures.again) c.in_ok-fresh.ensures.after.grows (rw (c.deref-2.ensures, c.deref-3.ensures.value) at c.in_ok-fresh.ensures.made) c.good.ensures in
+    let change = changed c.in_ok-fresh.fresh.change in
+    let told : Tells s.lines s.links None s.heard m change = rw (c.deref-2.ensures, c.deref-3.ensures.value) at c.in_ok-fresh.ensures.told in
+    let carried = (rw (c.deref-4.ensures, c.deref-5.ensures, c.in_ok-renewed.ensures.ok) at c.in_ok-ops.ensures) (page_in s) (compares_there lines links s c.renew.new.heard m change st made told) in
     let os = map op_of c.in_ok-ops.ops.items in
     let next = c.carry.new.nodes.next in
     let number = number_at c.carry.new.nodes.numbers in
     (is_carried _ _ _ _ lines links c.new-heard_now.result c.renew.new.heard s m next c.carry.new.nodes.tree number os hosts c.new-heard_now.ensures
-    (then_heard _ _ _ _ _ _ _ _ _ c.in_ok-same.ensures.after c.in_ok-renewed.ensures.after) all stay st made carried).ops
+    (then_heard _ _ _ _ _ _ _ _ _ c.in_ok-same.ensures.after c.in_ok-fresh.ensures.after) all stay st made carried).ops
 
 pub returns-clause-settles : goal.returns-clause-settles
 returns-clause-settles g c = λ lines links st.
     let s = standing c.args.self.now in
-    let m = kept c.in_ok-renewed.renewed.memo in
+    let m = kept c.in_ok-fresh.fresh.memo in
     let made : AreMade lines links c.renew.new.heard m =
     made_anew lines links s c.new-heard_now.result c.names_stay.new.heard c.renew.new.heard m c.in_ok-same.same st c.new-heard_now.ensures c.if-same.false
-    c.in_ok-same.ensures.again c.in_ok-renewed.ensures.after.grows (rw c.deref.ensures.value at c.in_ok-renewed.ensures.made) c.good.ensures in
-    settled_right _ _ _ _ lines links c.new-heard_now.result c.renew.new.heard m c.new-heard_now.ensures (then_heard _ _ _ _ _ _ _ _ _ c.in_ok-same.ensures.after c.in_ok-renewed.ensures.after) made.memo made.order
+    (rw c.deref.ensures at c.in_ok-same.ensures.again) c.in_ok-fresh.ensures.after.grows (rw (c.deref-2.ensures, c.deref-3.ensures.value) at c.in_ok-fresh.ensures.made) c.good.ensures in
+    settled_right _ _ _ _ lines links c.new-heard_now.result c.renew.new.heard m c.new-heard_now.ensures (then_heard _ _ _ _ _ _ _ _ _ c.in_ok-same.ensures.after c.in_ok-fresh.ensures.after) made.memo made.order
