@@ -3,3 +3,4 @@ mod Apart
 mod Standing
 pub mod Shared
 mod Stood
+mod News

@@ -42,7 +42,7 @@ fn fresh(
     linked: &LinkedTemplate,
     labels: &Labels,
     told: &mut Vec<Entry>,
-) -> Result<(Page, Vec<Op>), NoMemory>
+) -> Result<(Box<Page>, Vec<Op>), NoMemory>
     requires template { IsTemplate (lines_of linked.now.template) }
     requires agrees { Agrees (⟦<Shelf as Lent>⟧.asked shelf.old) world.old }
     requires counted { ⟦<Shelf as Lent>⟧.counted shelf.old }
@@ -51,9 +51,9 @@ fn fresh(
     ensures page { (hosts : Hosts) (slacks : List ℕ) → ⟦<Shelf as Lent>⟧.answers hosts shelf.old →
         IsSound hosts (⟦<Shelf as Lent>⟧.asked shelf.old) world.old →
         IfOk result (λ made. IsFresh (environment hosts slacks) (labels_of labels.now) (template_of linked.now) (⟦<Shelf as Lent>⟧.asked shelf.old)
-        (⟦<Shelf as Lent>⟧.asked shelf.new) world.old world.new (page_in (standing made.0)) (map op_of made.1.items) told.old.items told.new.items) }
-    ensures stands { IfOk result (λ made. Stands (lines_of linked.now.template) linked.now.links.items (standing made.0)) }
-    ensures standing { IfOk result (λ made. IsStanding (standing made.0)) }
+        (⟦<Shelf as Lent>⟧.asked shelf.new) world.old world.new (page_in (standing made.0.value)) (map op_of made.1.items) told.old.items told.new.items) }
+    ensures stands { IfOk result (λ made. Stands (lines_of linked.now.template) linked.now.links.items (standing made.0.value)) }
+    ensures standing { IfOk result (λ made. IsStanding (standing made.0.value)) }
     ensures world { OnOk result (Settles world.old world.new) }
     ensures agrees { OnOk result (Agrees (⟦<Shelf as Lent>⟧.asked shelf.new) world.new) }
     ensures worn { OnOk result (world.new.signals.graph.state.worn ≤ world.old.signals.graph.state.worn + 2 ^ 64) }
@@ -64,16 +64,17 @@ fn fresh(
     let alloc = *told.allocator();
     let mut notes = Vec::new(alloc);
     let links = copied(alloc, &linked.links)?;
-    let made = Page::mount(
+    let (page, ops) = Page::mount(
         &mut world.signals.graph,
         shelf,
         &linked.template,
         links,
         &mut notes,
     )?;
+    let page = Box::new(alloc, page)?;
     let _count = notes.len();
     tell_runs(told, &labels.signals, &notes)?;
-    Ok(made)
+    Ok((page, ops))
 }
 
 /// A page of a template that shows it on the outcomes of now, and the entries of its making: the runs on the way, the operations that lead
@@ -114,7 +115,7 @@ pub fn mount(
     let (page, ops) = fresh(world, shelf, linked, labels, told)?;
     tell_ops(told, name, ops)?;
     tell_page(told, name, &page)?;
-    Ok(page)
+    Ok(Box::into_inner(page))
 }
 
 /// The HTML of what a template shows from scratch on the outcomes of now; the runs on the way are told. A page of its own is made for it.
