@@ -1,6 +1,7 @@
 -- What is read of a line is what its bytes write.
 use Rattle.std.proofs.Common.{◌≡◌, ℕ, List, [], ◌∷◌, Option, Some, None, option_map, refl, sym, ap, subst, ◌∙◌, arith}
 use Rattle.std.specs.Prelude.{Result, Ok, Err, IfOk, MatchOption, slice_get}
+use Rattle.std.specs.Global.{Box}
 use Rattle.std.specs.Str.{IsUtf8}
 use Rattle.std.specs.Option.{option_or}
 use Rattle.sig_words.specs.declared.token.Token.{Token}
@@ -70,10 +71,20 @@ of_found allow bytes ts (Some x) None a e f = absurd cc
 of_found allow bytes ts None (Some y) a e f = absurd cc
 of_found allow bytes ts (Some x) (Some y) a e f = (y, lines.writes Row row table is_grammar bytes ts y a e, cc)
 
+-- so it is behind a pointer
+abbrev IsHeld : Allow → List ℕ → Option (Box (Line Seen)) → Type 0
+IsHeld allow bytes held = MatchOption held ((x : Said) → Writes x bytes → ⊥) (λ l. (x : Said) × Writes x bytes × (l.value ≡ found_of allow x))
+
+held_found : (allow : Allow) (bytes : List ℕ) (held : Option (Box (Line Seen))) → IsFound allow bytes (option_map (λ l. l.value) held) → IsHeld allow bytes held
+held_found allow bytes None h = h
+held_found allow bytes (Some l) h = h
+
 -- what is found in the tokens of a line is what its bytes write
-pub from_tokens : {E : Type 0} (allow : Allow) (bytes : List ℕ) (ts : List Token) (r : Result (Option (Line Seen)) E) → AreTokens bytes ts
-    → IfOk r (λ found. found ≡ option_map (found_of allow) (said_of Row row table (lexemes bytes ts))) → IfOk r (λ found. IsFound allow bytes found)
-from_tokens allow bytes ts (Ok found) a e = of_found allow bytes ts found (said_of Row row table (lexemes bytes ts)) a refl e
+pub from_tokens : {E : Type 0} (allow : Allow) (bytes : List ℕ) (ts : List Token) (r : Result (Option (Box (Line Seen))) E) → AreTokens bytes ts
+    → IfOk r (λ held. option_map (λ l. l.value) held ≡ option_map (found_of allow) (said_of Row row table (lexemes bytes ts)))
+    → IfOk r (λ held. IsHeld allow bytes held)
+from_tokens allow bytes ts (Ok held) a e =
+    held_found allow bytes held (of_found allow bytes ts (option_map (λ l. l.value) held) (said_of Row row table (lexemes bytes ts)) a refl e)
 from_tokens allow bytes ts (Err e) a h = h
 
 -- a line without tokens says nothing

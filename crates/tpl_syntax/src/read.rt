@@ -7,7 +7,7 @@ ghost use Rattle.tpl_syntax.specs.Grammar.{Said, Writes};
 ghost use Rattle.tpl_syntax.specs.Judging.{allowed, refusal_of};
 ghost use Rattle.tpl_syntax.specs.Places.{fits};
 ghost use Rattle.tpl_syntax.specs.Templates.{last_number, IsRead, Refuses};
-ghost use Rattle.tpl_syntax.specs.Views.{answer_read, found_of, judged_read, place_of, sound_lines, with_all, IsReading};
+ghost use Rattle.tpl_syntax.specs.Views.{answer_read, found_of, judged_read, place_of, read_at, sound_lines, with_all, IsReading};
 
 use crate::building::{sound_lines, template_of};
 use crate::judge::{ReadLine, read_at, refusal_of};
@@ -28,12 +28,12 @@ pub enum Reading {
 }
 
 // What a line says, if it may stand there.
-fn found_at(alloc: Global, place: &Place, line: &[u8]) -> Result<Option<Line<Seen>>, NoMemory>
+fn found_at(alloc: Global, place: &Place, line: &[u8]) -> Result<Option<Box<Line<Seen>>>, NoMemory>
     requires { length line.now ≤ MOST_LINE }
     ensures { IfOk result (λ found. MatchOption found
         ((x : Said) → Writes x line.now → IsTrue (fits (place_of place.now) (rows.line_of x)) → ⊥)
         (λ l. (x : Said) × Writes x line.now × IsTrue (fits (place_of place.now) (rows.line_of x))
-        × (l ≡ found_of (allowed (place_of place.now)) x))) }
+        × (l.value ≡ found_of (allowed (place_of place.now)) x))) }
 {
     let allow = Allow {
         row: place.in_loop(),
@@ -48,6 +48,20 @@ fn found_at(alloc: Global, place: &Place, line: &[u8]) -> Result<Option<Line<See
     Ok(Some(found))
 }
 
+// A line that was read at a place, behind a pointer.
+fn read_held(
+    alloc: Global,
+    place: &Place,
+    number: u32,
+    line: Box<Line<Seen>>,
+) -> Result<Box<ReadLine>, NoMemory>
+    ensures { IfOk result (λ r. r.value ≡ read_at (place_of place.now) number line.value) }
+{
+    let read = read_at(place, number, Box::into_inner(line));
+    let held = Box::new(alloc, read)?;
+    Ok(held)
+}
+
 // What the lines of a template say.
 fn read_lines(alloc: Global, lines: &[NumberedLine]) -> Result<Reading, NoMemory>
     requires { All (λ l. length l.text.now ≤ MOST_LINE) lines.now }
@@ -59,9 +73,9 @@ fn read_lines(alloc: Global, lines: &[NumberedLine]) -> Result<Reading, NoMemory
         let Some(line) = found_at(alloc, &place, numbered.text)? else {
             return Ok(Reading::Faulty(numbered.number));
         };
-        let read = read_at(&place, numbered.number, line);
+        let read = read_held(alloc, &place, numbered.number, line)?;
         place.step(&read.line)?;
-        said.push(read)?;
+        said.push(Box::into_inner(read))?;
     }
     if place.is_closed() {
         Ok(Reading::Said(said))

@@ -6,6 +6,7 @@ ghost use Rattle.sig_words.specs.Tokens.{AreTokens};
 ghost use Rattle.sig_words.specs.Lexemes.{lexemes};
 ghost use Rattle.formula_text.specs.Grammar.{Draft};
 ghost use Rattle.formula_text.specs.Rough.{draft, HasLeaves};
+ghost use Rattle.formula_text.specs.declared.wired.Allow.{Allow};
 ghost use Rattle.line_forms.specs.Forms as forms;
 ghost use Rattle.line_forms.specs.Reading.{read_form, read_formula};
 ghost use Rattle.line_forms.specs.Rows.{rows_of, said_of};
@@ -231,11 +232,26 @@ fn attribute(
     Ok(Some(Line::Attr(name, seen)))
 }
 
-// A word and nothing else.
-fn word_alone(tokens: &[Token], said: Line<Seen>) -> Option<Line<Seen>>
-    ensures { (line : List ℕ) → result ≡ option_map (λ _. said) (read_form [] (ahead line tokens.now 1)) }
+// `else`
+fn other(tokens: &[Token]) -> Option<Line<Seen>>
+    ensures { (line : List ℕ) (allow : Allow) → result ≡ found_as allow rows.other (ahead line tokens.now 1) }
 {
-    if ends_at(tokens, 1) { Some(said) } else { None }
+    if ends_at(tokens, 1) {
+        Some(Line::Else)
+    } else {
+        None
+    }
+}
+
+// `end`
+fn close(tokens: &[Token]) -> Option<Line<Seen>>
+    ensures { (line : List ℕ) (allow : Allow) → result ≡ found_as allow rows.close (ahead line tokens.now 1) }
+{
+    if ends_at(tokens, 1) {
+        Some(Line::End)
+    } else {
+        None
+    }
 }
 
 // What the tokens behind a first word say.
@@ -254,9 +270,9 @@ fn behind_word(
         "tag" => tag(alloc, line, tokens, allow),
         "attr" => attribute(alloc, line, tokens, allow),
         "if" => choice(alloc, line, tokens, allow),
-        "else" => Ok(word_alone(tokens, Line::Else)),
+        "else" => Ok(other(tokens)),
         "each" => each(alloc, line, tokens, allow),
-        "end" => Ok(word_alone(tokens, Line::End)),
+        "end" => Ok(close(tokens)),
         _ => Ok(None),
     }
 }
@@ -285,14 +301,35 @@ fn spelled(
     }
 }
 
+// So it is, behind a pointer.
+fn spelled_held(
+    alloc: Global,
+    line: &[u8],
+    tokens: &[Token],
+    allow: Allow,
+) -> Result<Option<Box<Line<Seen>>>, NoMemory>
+    requires { AreTokens line.now tokens.now }
+    ensures { IfOk result (λ held. option_map (λ l. l.value) held ≡ option_map (found_of allow) (said_of Row row table (lexemes line.now tokens.now))) }
+{
+    let Some(found) = spelled(alloc, line, tokens, allow)? else {
+        return Ok(None);
+    };
+    let held = Box::new(alloc, found)?;
+    Ok(Some(held))
+}
+
 /// What a line of at most `MOST_LINE` bytes says, where this is allowed to its formula; `None` exactly where its bytes write nothing.
-pub fn read_line(alloc: Global, line: &[u8], allow: Allow) -> Result<Option<Line<Seen>>, NoMemory>
+pub fn read_line(
+    alloc: Global,
+    line: &[u8],
+    allow: Allow,
+) -> Result<Option<Box<Line<Seen>>>, NoMemory>
     requires { length line.now ≤ MOST_LINE }
     ensures { IfOk result (λ found. MatchOption found ((x : Said) → Writes x line.now → ⊥)
-        (λ l. (x : Said) × Writes x line.now × (l ≡ found_of allow x))) }
+        (λ l. (x : Said) × Writes x line.now × (l.value ≡ found_of allow x))) }
 {
     match tokens(alloc, line) {
-        Ok(found) => spelled(alloc, line, &found, allow),
+        Ok(found) => spelled_held(alloc, line, &found, allow),
         Err(LineFault::Bad(_)) => Ok(None),
         Err(LineFault::TooLong) => unreachable!(),
         Err(LineFault::NoMemory(e)) => Err(e),

@@ -15,12 +15,13 @@ loop-numbered-preserved c =
     let q = place_of c.step.new.self in
     let found = found_at _ _ _ (rw c.in-Some.is at c.in_ok-line.ensures) in
     let within = c.loop-numbered-test.true in
-    let next : q ≡ moved p c.in-Some.line = c.in_ok-step.ensures ∙ ap (λ (r : ReadLine). moved p r.line) c.read_at-read.ensures in
+    let read = c.into_inner.ensures ∙ c.in_ok-read.ensures in
+    let next : q ≡ moved p c.in-Some.line.value = c.in_ok-step.ensures ∙ ap (λ (r : ReadLine). moved p r.line) (c.deref.ensures ∙ c.in_ok-read.ensures) in
     record {
-      faulty = λ k f. c.loop-numbered.invariant.faulty k (faulty_later p q c.args.lines.now c.loop-numbered.numbered-index d c.in-Some.line k within found next f);
+      faulty = λ k f. c.loop-numbered.invariant.faulty k (faulty_later p q c.args.lines.now c.loop-numbered.numbered-index d c.in-Some.line.value k within found next f);
       says = λ rs to a.
-          let later = read_later p q c.args.lines.now c.loop-numbered.numbered-index d c.in-Some.line c.read_at-read.result rs to within found next c.read_at-read.ensures a in
-          let more = c.loop-numbered.invariant.says (c.read_at-read.result ∷ rs) to later in
+          let later = read_later p q c.args.lines.now c.loop-numbered.numbered-index d c.in-Some.line.value c.into_inner.result rs to within found next read a in
+          let more = c.loop-numbered.invariant.says (c.into_inner.result ∷ rs) to later in
           rw (c.in_ok-push.ensures.items, append_assoc) more;
     }
 
