@@ -123,18 +123,19 @@ fn seen_at(
     Ok(Some((Seen { told, bare }, to)))
 }
 
-// A formula behind the first word, and nothing else.
-fn alone(
+// A formula at a place, and nothing behind it.
+fn seen_last(
     alloc: Global,
     line: &[u8],
     tokens: &[Token],
+    at: usize,
     allow: Allow,
 ) -> Result<Option<Seen>, NoMemory>
     requires { AreTokens line.now tokens.now }
     ensures { IfOk result (λ found.
-        found ≡ option_map (λ a. seen allow a.0) (read_form (forms.part forms.formula ∷ []) (ahead line.now tokens.now 1))) }
+        found ≡ option_map (λ a. seen allow a.0) (read_form (forms.part forms.formula ∷ []) (ahead line.now tokens.now at))) }
 {
-    let Some((seen, at)) = seen_at(alloc, line, tokens, 1, allow)? else {
+    let Some((seen, at)) = seen_at(alloc, line, tokens, at, allow)? else {
         return Ok(None);
     };
     if !ends_at(tokens, at) {
@@ -153,7 +154,7 @@ fn text(
     requires { AreTokens line.now tokens.now }
     ensures { IfOk result (λ found. found ≡ found_as allow rows.text (ahead line.now tokens.now 1)) }
 {
-    match alone(alloc, line, tokens, allow)? {
+    match seen_last(alloc, line, tokens, 1, allow)? {
         Some(seen) => Ok(Some(Line::Text(seen))),
         None => Ok(None),
     }
@@ -169,7 +170,7 @@ fn choice(
     requires { AreTokens line.now tokens.now }
     ensures { IfOk result (λ found. found ≡ found_as allow rows.choice (ahead line.now tokens.now 1)) }
 {
-    match alone(alloc, line, tokens, allow)? {
+    match seen_last(alloc, line, tokens, 1, allow)? {
         Some(seen) => Ok(Some(Line::If(seen))),
         None => Ok(None),
     }
@@ -185,7 +186,7 @@ fn each(
     requires { AreTokens line.now tokens.now }
     ensures { IfOk result (λ found. found ≡ found_as allow rows.loop (ahead line.now tokens.now 1)) }
 {
-    match alone(alloc, line, tokens, allow)? {
+    match seen_last(alloc, line, tokens, 1, allow)? {
         Some(seen) => Ok(Some(Line::Each(seen))),
         None => Ok(None),
     }
@@ -223,13 +224,10 @@ fn attribute(
     let Some((name, at)) = tag_at(alloc, line, tokens, 1)? else {
         return Ok(None);
     };
-    let Some((seen, at)) = seen_at(alloc, line, tokens, at, allow)? else {
-        return Ok(None);
-    };
-    if !ends_at(tokens, at) {
-        return Ok(None);
+    match seen_last(alloc, line, tokens, at, allow)? {
+        Some(seen) => Ok(Some(Line::Attr(name, seen))),
+        None => Ok(None),
     }
-    Ok(Some(Line::Attr(name, seen)))
 }
 
 // `else`
