@@ -31,14 +31,22 @@ fn pair<T: Drop>(alloc: Global, first: T, second: T) -> Result<Vec<T>, NoMemory>
     Ok(both)
 }
 
+fn row_values(alloc: Global, number: i64, word: &str) -> Result<Vec<Scalar>, Fail>
+    ensures { IfOk result (λ v. length v.items ≡ 2) }
+{
+    let word = Text::new(alloc, word)?;
+    let mut values = Vec::new(alloc);
+    values.push(Scalar::Int(number))?;
+    values.push(Scalar::Text(word))?;
+    Ok(values)
+}
+
 fn row(alloc: Global, key: &str, number: i64, word: &str) -> Result<Row, Fail>
     ensures { IfOk result (λ r. (r.key ≡ key.now) × (length r.values ≡ 2)) }
 {
-    let text = Scalar::Text(Text::new(alloc, word)?);
-    Ok(Row {
-        key: Text::new(alloc, key)?,
-        values: Scalars::of(alloc, pair(alloc, Scalar::Int(number), text)?)?,
-    })
+    let key = Text::new(alloc, key)?;
+    let values = Scalars::of(alloc, row_values(alloc, number, word)?)?;
+    Ok(Row { key, values })
 }
 
 // Two rows of two fields.
@@ -50,20 +58,33 @@ fn two_rows(alloc: Global) -> Result<Rows, Fail>
     Ok(Rows::of(alloc, fields, rows)?)
 }
 
+// Whether a copy of the value is printed so.
+fn copy_prints(alloc: Global, value: &Value, want: &str) -> Result<bool, NoMemory> {
+    let copy = value.copy()?;
+    prints(alloc, &copy, want)
+}
+
+// Whether the value, and then a copy of it, is printed so.
+fn both_print(alloc: Global, value: Value, want: &str) -> Result<bool, NoMemory> {
+    if !prints(alloc, &value, want)? {
+        return Ok(false);
+    }
+    copy_prints(alloc, &value, want)
+}
+
+fn word(alloc: Global, characters: &str) -> Result<Value, Fail> {
+    Ok(Value::Text(Text::new(alloc, characters)?))
+}
+
 #[test]
 fn prints_values(rt: HostRuntime) -> Result<(), Fail> {
     let alloc = rt.alloc();
-    let quoted = Text::new(alloc, "a\\b\"c\nd\re\tf")?;
-    for (value, want) in [
-        (Value::Bool(true), "true"),
-        (Value::Bool(false), "false"),
-        (Value::Int(i64::MIN), "-9223372036854775808"),
-        (Value::Int(0), "0"),
-        (Value::Text(quoted), "\"a\\\\b\\\"c\\nd\\re\\tf\""),
-    ] {
-        assert!(rt; prints(alloc, &value, want)?, "{want}");
-        assert!(rt; prints(alloc, &value.copy()?, want)?, "{want}");
-    }
+    assert!(rt; both_print(alloc, Value::Bool(true), "true")?);
+    assert!(rt; both_print(alloc, Value::Bool(false), "false")?);
+    assert!(rt; both_print(alloc, Value::Int(i64::MIN), "-9223372036854775808")?);
+    assert!(rt; both_print(alloc, Value::Int(0), "0")?);
+    let quoted = word(alloc, "a\\b\"c\nd\re\tf")?;
+    assert!(rt; both_print(alloc, quoted, "\"a\\\\b\\\"c\\nd\\re\\tf\"")?);
     Ok(())
 }
 
@@ -82,56 +103,157 @@ fn names_faults(rt: HostRuntime) -> Result<(), Fail> {
         (Fault::Slot, "slot"),
         (Fault::Twice, "twice"),
     ] {
-        assert!(rt; is_named(alloc, fault, want)?, "{want}");
+        let named = is_named(alloc, fault, want)?;
+        assert!(rt; named, "{want}");
     }
     Ok(())
+}
+
+// Whether two numbers are the same value.
+fn are_same_numbers(first: i64, second: i64) -> bool {
+    Value::Int(first).same(&Value::Int(second))
+}
+
+// Whether two numbers are alike within a slack.
+fn are_alike_numbers(slack: u64, first: i64, second: i64) -> bool {
+    alike(slack, &Value::Int(first), &Value::Int(second))
+}
+
+// Whether a value is the same as a text.
+fn is_same_word(alloc: Global, value: &Value, characters: &str) -> Result<bool, Fail> {
+    let word = word(alloc, characters)?;
+    Ok(value.same(&word))
+}
+
+// Whether two texts are the same value.
+fn are_same_words(alloc: Global, first: &str, second: &str) -> Result<bool, Fail> {
+    let first = word(alloc, first)?;
+    is_same_word(alloc, &first, second)
+}
+
+// Whether a number is the same value as a text.
+fn is_number_same_word(alloc: Global, number: i64, characters: &str) -> Result<bool, Fail> {
+    is_same_word(alloc, &Value::Int(number), characters)
+}
+
+// Whether a number and a text are alike within a slack.
+fn is_number_alike_word(
+    alloc: Global,
+    slack: u64,
+    number: i64,
+    characters: &str,
+) -> Result<bool, Fail> {
+    let word = word(alloc, characters)?;
+    Ok(alike(slack, &Value::Int(number), &word))
+}
+
+// Whether a fault is the same outcome as its copy.
+fn is_same_as_copy(fault: Fault) -> Result<bool, NoMemory> {
+    let copy = Outcome::Bad(fault).copy()?;
+    Ok(Outcome::Bad(fault).same(&copy))
+}
+
+// Whether a number and a fault are the same outcome.
+fn is_same_outcome(number: i64, fault: Fault) -> bool {
+    Outcome::Good(Value::Int(number)).same(&Outcome::Bad(fault))
 }
 
 #[test]
 fn compares_values(rt: HostRuntime) -> Result<(), Fail> {
     let alloc = rt.alloc();
-    let near = Value::Int(7);
-    let far = Value::Int(i64::MIN);
-    let word = Value::Text(Text::new(alloc, "7")?);
-    assert!(rt; near.same(&Value::Int(7)));
-    assert!(rt; !near.same(&word));
-    assert!(rt; word.same(&Value::Text(Text::new(alloc, "7")?)));
-    assert!(rt; alike(2, &near, &Value::Int(9)));
-    assert!(rt; !alike(1, &near, &Value::Int(9)));
-    assert!(rt; alike(u64::MAX, &far, &Value::Int(i64::MAX)));
-    assert!(rt; !alike(u64::MAX, &near, &word));
-    assert!(rt; Outcome::Bad(Fault::Host(3)).same(&Outcome::Bad(Fault::Host(3)).copy()?));
-    assert!(rt; !Outcome::Good(near).same(&Outcome::Bad(Fault::Zero)));
+    assert!(rt; are_same_numbers(7, 7));
+    assert!(rt; !is_number_same_word(alloc, 7, "7")?);
+    assert!(rt; are_same_words(alloc, "7", "7")?);
+    assert!(rt; are_alike_numbers(2, 7, 9));
+    assert!(rt; !are_alike_numbers(1, 7, 9));
+    assert!(rt; are_alike_numbers(u64::MAX, i64::MIN, i64::MAX));
+    assert!(rt; !is_number_alike_word(alloc, u64::MAX, 7, "7")?);
+    assert!(rt; is_same_as_copy(Fault::Host(3))?);
+    assert!(rt; !is_same_outcome(7, Fault::Zero));
     Ok(())
+}
+
+// The slot of a copy.
+fn copied_slot(slot: u32, number: i64) -> Result<u32, NoMemory> {
+    let known = Known {
+        slot,
+        value: Value::Int(number),
+    };
+    let copy = known.copy()?;
+    Ok(copy.slot)
+}
+
+// Whether the copy of a name has its characters.
+fn copies_name(alloc: Global, characters: &str) -> Result<bool, Fail> {
+    let copy = Name::new(alloc, characters)?.copy()?;
+    Ok(copy.as_str() == characters)
+}
+
+// Whether the copy of a text equals another text of the same characters.
+fn copies_word(alloc: Global, characters: &str) -> Result<bool, Fail> {
+    let word = Scalar::Text(Text::new(alloc, characters)?);
+    let other = Scalar::Text(Text::new(alloc, characters)?);
+    let copy = word.copy()?;
+    Ok(copy == other)
 }
 
 #[test]
 fn copies(rt: HostRuntime) -> Result<(), Fail> {
     let alloc = rt.alloc();
-    let known = Known {
-        slot: 4,
-        value: Value::Int(5),
-    };
-    assert_eq!(rt; known.copy()?.slot, 4);
-    assert_eq!(rt; Name::new(alloc, "cell_1")?.copy()?.as_str(), "cell_1");
-    assert!(rt;
-        Scalar::Text(Text::new(alloc, "a")?).copy()? == Scalar::Text(Text::new(alloc, "a")?)
-    );
+    assert!(rt; copied_slot(4, 5)? == 4);
+    assert!(rt; copies_name(alloc, "cell_1")?);
+    assert!(rt; copies_word(alloc, "a")?);
     Ok(())
+}
+
+// What is kept of the two rows by these marks.
+fn kept(alloc: Global, first: bool, second: bool) -> Result<Value, Fail> {
+    let rows = two_rows(alloc)?;
+    let left = rows.keep_by(alloc, &[first, second])?;
+    Ok(Value::Rows(left))
+}
+
+// Whether that is printed so.
+fn kept_prints(alloc: Global, first: bool, second: bool, want: &str) -> Result<bool, Fail> {
+    let value = kept(alloc, first, second)?;
+    Ok(prints(alloc, &value, want)?)
+}
+
+// Whether that is the same as the two rows.
+fn is_all_kept(alloc: Global, first: bool, second: bool) -> Result<bool, Fail> {
+    let value = kept(alloc, first, second)?;
+    let whole = two_rows(alloc)?;
+    Ok(Value::Rows(whole).same(&value))
+}
+
+// How many rows the two rows are.
+fn row_count(alloc: Global) -> Result<usize, Fail> {
+    let rows = two_rows(alloc)?;
+    Ok(rows.len())
+}
+
+// A copy of the two rows, and whether it is the same as they are.
+fn copied_rows(alloc: Global) -> Result<(Value, bool), Fail> {
+    let rows = two_rows(alloc)?;
+    let copy = Value::Rows(rows.copy()?);
+    let same = copy.same(&Value::Rows(rows));
+    Ok((copy, same))
+}
+
+// Whether it is, and is printed so.
+fn copied_rows_print(alloc: Global, want: &str) -> Result<bool, Fail> {
+    let (copy, same) = copied_rows(alloc)?;
+    let printed = prints(alloc, &copy, want)?;
+    Ok(same && printed)
 }
 
 #[test]
 fn keeps_rows(rt: HostRuntime) -> Result<(), Fail> {
     let alloc = rt.alloc();
-    let rows = two_rows(alloc)?;
-    assert_eq!(rt; rows.len(), 2);
-    let second = rows.keep_by(alloc, &[false, true])?;
-    let none = rows.keep_by(alloc, &[false, false])?;
-    let whole = Value::Rows(rows.copy()?);
-    assert!(rt; prints(alloc, &whole, "[\"k1\" (1, \"x\"), \"k2\" (2, \"y\")]")?);
-    assert!(rt; whole.same(&Value::Rows(rows)));
-    assert!(rt; !whole.same(&Value::Rows(second.copy()?)));
-    assert!(rt; prints(alloc, &Value::Rows(second), "[\"k2\" (2, \"y\")]")?);
-    assert!(rt; prints(alloc, &Value::Rows(none), "[]")?);
+    assert!(rt; row_count(alloc)? == 2);
+    assert!(rt; copied_rows_print(alloc, "[\"k1\" (1, \"x\"), \"k2\" (2, \"y\")]")?);
+    assert!(rt; !is_all_kept(alloc, false, true)?);
+    assert!(rt; kept_prints(alloc, false, true, "[\"k2\" (2, \"y\")]")?);
+    assert!(rt; kept_prints(alloc, false, false, "[]")?);
     Ok(())
 }
