@@ -1,25 +1,26 @@
 // What is heard of the formulas of lines, and heard again.
+ghost use Rattle.tpl_hearing.specs.Hearing.{scene, CanSettle};
 
-use crate::scene::{Scene, is_number};
-use sig_base::Text;
+use crate::scene::{Scene, is_number, of_names};
+use sig_base::{NoMemory, Text};
 use sig_formula::{BinOp, Formula};
+use sig_host::{Lent, Shelf};
 use std::alloc::Global;
 use std::test::Fail;
 use tpl_hearing::Outcomes;
 use tpl_listening::{listen, listen_again, listen_all, listen_all_again};
+use tpl_memos::Heard;
 
-// The sum of the first two names.
-fn sum(alloc: Global) -> Result<Formula, Fail> {
-    let left = Box::new(alloc, Formula::Slot(0))?;
-    let right = Box::new(alloc, Formula::Slot(1))?;
-    Ok(Formula::Bin(BinOp::Add, left, right))
-}
-
-#[test]
-fn a_line_stays_while_its_names_have_their_values(rt: HostRuntime) -> Result<(), Fail> {
-    let alloc = rt.alloc();
-    let mut s = Scene::of_numbers(alloc, 1, 2)?;
-    let formula = sum(alloc)?;
+// Whether a formula is heard as this number, and as the same again.
+fn stays(
+    alloc: Global,
+    s: &mut Scene,
+    formula: &Formula,
+    wanted: i64,
+) -> Result<(bool, bool), NoMemory>
+    requires can { CanSettle (scene s.old.graph (⟦<Shelf as Lent>⟧.asked s.old.shelf) s.old.notes.items) }
+    requires counted { ⟦<Shelf as Lent>⟧.counted s.old.shelf }
+{
     let links = [s.first, s.second];
     let mut before = Outcomes::new(alloc);
     let line = listen(
@@ -27,12 +28,12 @@ fn a_line_stays_while_its_names_have_their_values(rt: HostRuntime) -> Result<(),
         &mut s.graph,
         &mut s.shelf,
         &mut before,
-        &formula,
+        formula,
         &links,
         None,
         &mut s.notes,
     )?;
-    assert!(rt; is_number(&line.outcome, 3));
+    let found = is_number(&line.outcome, wanted);
     let mut heard = Outcomes::new(alloc);
     let next = listen_again(
         alloc,
@@ -40,22 +41,43 @@ fn a_line_stays_while_its_names_have_their_values(rt: HostRuntime) -> Result<(),
         &mut s.shelf,
         &before,
         &mut heard,
-        &formula,
+        formula,
         line,
         &links,
         None,
         &mut s.notes,
     )?;
-    assert!(rt; is_number(&next.outcome, 3));
-    Ok(())
+    Ok((found, is_number(&next.outcome, wanted)))
 }
 
 #[test]
-fn attributes_stay_while_their_names_have_their_values(rt: HostRuntime) -> Result<(), Fail> {
+fn a_line_stays_while_its_names_have_their_values(rt: HostRuntime) -> Result<(), Fail> {
     let alloc = rt.alloc();
     let mut s = Scene::of_numbers(alloc, 1, 2)?;
-    let mut attributes = Vec::new(alloc);
-    attributes.push((Text::new(alloc, "title")?, sum(alloc)?))?;
+    let formula = of_names(alloc, BinOp::Add, 0, 1)?;
+    let (found, again) = stays(alloc, &mut s, &formula, 3)?;
+    assert!(rt; found && again);
+    Ok(())
+}
+
+// Whether one formula was heard, as this number.
+fn is_only(lines: &[Heard], wanted: i64) -> bool {
+    match lines {
+        [only] => is_number(&only.outcome, wanted),
+        _ => false,
+    }
+}
+
+// Whether the formulas of attributes that were heard are one number when they are heard again.
+fn all_stay(
+    alloc: Global,
+    s: &mut Scene,
+    attributes: &[(Text, Formula)],
+    wanted: i64,
+) -> Result<bool, NoMemory>
+    requires can { CanSettle (scene s.old.graph (⟦<Shelf as Lent>⟧.asked s.old.shelf) s.old.notes.items) }
+    requires counted { ⟦<Shelf as Lent>⟧.counted s.old.shelf }
+{
     let links = [s.first, s.second];
     let mut before = Outcomes::new(alloc);
     let all = listen_all(
@@ -63,7 +85,7 @@ fn attributes_stay_while_their_names_have_their_values(rt: HostRuntime) -> Resul
         &mut s.graph,
         &mut s.shelf,
         &mut before,
-        &attributes,
+        attributes,
         &links,
         None,
         &mut s.notes,
@@ -75,16 +97,30 @@ fn attributes_stay_while_their_names_have_their_values(rt: HostRuntime) -> Resul
         &mut s.shelf,
         &before,
         &mut heard,
-        &attributes,
+        attributes,
         all,
         &links,
         None,
         &mut s.notes,
     )?;
-    let [only] = next.as_slice() else {
-        assert!(rt; false);
-        return Ok(());
-    };
-    assert!(rt; is_number(&only.outcome, 3));
+    Ok(is_only(&next, wanted))
+}
+
+// One attribute, of the sum of the two names.
+fn title(alloc: Global) -> Result<Vec<(Text, Formula)>, Fail> {
+    let name = Text::new(alloc, "title")?;
+    let formula = of_names(alloc, BinOp::Add, 0, 1)?;
+    let mut attributes = Vec::new(alloc);
+    attributes.push((name, formula))?;
+    Ok(attributes)
+}
+
+#[test]
+fn attributes_stay_while_their_names_have_their_values(rt: HostRuntime) -> Result<(), Fail> {
+    let alloc = rt.alloc();
+    let mut s = Scene::of_numbers(alloc, 1, 2)?;
+    let attributes = title(alloc)?;
+    let same = all_stay(alloc, &mut s, &attributes, 3)?;
+    assert!(rt; same);
     Ok(())
 }

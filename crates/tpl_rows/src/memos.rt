@@ -1,9 +1,9 @@
 // What is kept of lines, put together.
 
 use crate::scene::is_number;
-use sig_base::{Outcome, Value};
+use sig_base::{NoMemory, Outcome, Value};
 use std::alloc::Global;
-use std::test::Fail;
+use std::process::Abort;
 use tpl_memos::{Heard, PageMemo};
 
 // What was heard of a formula that reads nothing and comes to a number.
@@ -24,42 +24,78 @@ fn is_only(memo: &PageMemo, number: i64) -> bool {
         && matches!(&**rest, PageMemo::Blank)
 }
 
-#[test]
-fn lines_are_kept_in_their_order(rt: HostRuntime) -> Result<(), Fail> {
-    let alloc = rt.alloc();
-    let text = PageMemo::text(alloc, constant(alloc, 1), PageMemo::blank())?;
-    let branch = PageMemo::branch(alloc, constant(alloc, 2), text, PageMemo::blank())?;
-    let PageMemo::Branch(test, inner, rest) = &branch else {
+// A text of a number that reads nothing, and nothing behind it.
+fn one_text(alloc: Global, number: i64) -> Result<PageMemo, NoMemory> {
+    PageMemo::text(alloc, constant(alloc, number), PageMemo::blank())
+}
+
+// A part that depends on 2, with the text 1 in it.
+fn branch(alloc: Global) -> Result<PageMemo, NoMemory> {
+    let text = one_text(alloc, 1)?;
+    PageMemo::branch(alloc, constant(alloc, 2), text, PageMemo::blank())
+}
+
+fn assert_branch(rt: &impl Abort, memo: &PageMemo) {
+    let PageMemo::Branch(test, inner, rest) = memo else {
         assert!(rt; false);
-        return Ok(());
+        return;
     };
     assert!(rt; is_number(&test.outcome, 2));
     assert!(rt; is_only(&**inner, 1) && matches!(&**rest, PageMemo::Blank));
-    Ok(())
 }
 
 #[test]
-fn what_stands_inside_is_kept_with_its_line(rt: HostRuntime) -> Result<(), Fail> {
-    let alloc = rt.alloc();
-    let text = PageMemo::text(alloc, constant(alloc, 1), PageMemo::blank())?;
+fn lines_are_kept_in_their_order(rt: HostRuntime) -> Result<(), NoMemory> {
+    let memo = branch(rt.alloc())?;
+    assert_branch(&rt, &memo);
+    Ok(())
+}
+
+// What is kept of one row, with the text 1 in it.
+fn one_row(alloc: Global) -> Result<Vec<PageMemo>, NoMemory> {
+    let text = one_text(alloc, 1)?;
     let mut inside = Vec::new(alloc);
     inside.push(text)?;
-    let rows = PageMemo::rows(alloc, constant(alloc, 2), inside, PageMemo::blank())?;
-    let element = PageMemo::element(alloc, Vec::new(alloc), PageMemo::blank(), rows)?;
-    let PageMemo::Element(attributes, inner, rest) = &element else {
+    Ok(inside)
+}
+
+// A loop over 2, with that row in it.
+fn rows(alloc: Global) -> Result<PageMemo, NoMemory> {
+    let inside = one_row(alloc)?;
+    PageMemo::rows(alloc, constant(alloc, 2), inside, PageMemo::blank())
+}
+
+// An empty element before that loop.
+fn element(alloc: Global) -> Result<PageMemo, NoMemory> {
+    let rows = rows(alloc)?;
+    PageMemo::element(alloc, Vec::new(alloc), PageMemo::blank(), rows)
+}
+
+fn assert_rows(rt: &impl Abort, memo: &PageMemo) {
+    let PageMemo::Loop(heard, rows, end) = memo else {
         assert!(rt; false);
-        return Ok(());
-    };
-    assert!(rt; attributes.is_empty() && matches!(&**inner, PageMemo::Blank));
-    let PageMemo::Loop(heard, rows, end) = &**rest else {
-        assert!(rt; false);
-        return Ok(());
+        return;
     };
     assert!(rt; is_number(&heard.outcome, 2) && matches!(&**end, PageMemo::Blank));
     let [only] = rows.as_slice() else {
         assert!(rt; false);
-        return Ok(());
+        return;
     };
     assert!(rt; is_only(only, 1));
+}
+
+fn assert_element(rt: &impl Abort, memo: &PageMemo) {
+    let PageMemo::Element(attributes, inner, rest) = memo else {
+        assert!(rt; false);
+        return;
+    };
+    assert!(rt; attributes.is_empty() && matches!(&**inner, PageMemo::Blank));
+    assert_rows(rt, &**rest);
+}
+
+#[test]
+fn what_stands_inside_is_kept_with_its_line(rt: HostRuntime) -> Result<(), NoMemory> {
+    let memo = element(rt.alloc())?;
+    assert_element(&rt, &memo);
     Ok(())
 }

@@ -2,8 +2,9 @@
 ghost use Rattle.std.specs.Prelude.{IfOk};
 ghost use Rattle.tpl_hearing.specs.Hearing.{scene, CanSettle};
 
-use sig_base::{NodeId, Outcome, Value};
+use sig_base::{NoMemory, NodeId, Outcome, Value};
 use sig_computed::RunNote;
+use sig_formula::{BinOp, Formula};
 use sig_host::{Lent, Shelf};
 use sig_nodes::Graph;
 use std::alloc::Global;
@@ -28,16 +29,16 @@ pub(crate) fn is_number(outcome: &Outcome, wanted: i64) -> bool {
 }
 
 impl Scene {
-    /// Cells of these values.
-    pub(crate) fn new(alloc: Global, first: Value, second: Value) -> Result<Scene, Fail>
+    /// Cells of these numbers.
+    pub(crate) fn of_numbers(alloc: Global, first: i64, second: i64) -> Result<Scene, Fail>
         ensures can { IfOk result (λ s. CanSettle (scene s.graph (⟦<Shelf as Lent>⟧.asked s.shelf) s.notes.items)) }
         ensures counted { IfOk result (λ s. ⟦<Shelf as Lent>⟧.counted s.shelf) }
     {
         let hosts = Vec::new(alloc);
         let shelf = Shelf::new(alloc, hosts)?;
         let mut graph = Graph::new(alloc)?;
-        let first = graph.add_cell(first, None)?;
-        let second = graph.add_cell(second, None)?;
+        let first = graph.add_cell(Value::Int(first), None)?;
+        let second = graph.add_cell(Value::Int(second), None)?;
         let notes = Vec::new(alloc);
         Ok(Scene {
             graph,
@@ -47,13 +48,16 @@ impl Scene {
             second,
         })
     }
+}
 
-    /// Cells of these numbers.
-    pub(crate) fn of_numbers(alloc: Global, first: i64, second: i64) -> Result<Scene, Fail>
-        ensures can { IfOk result (λ s. CanSettle (scene s.graph (⟦<Shelf as Lent>⟧.asked s.shelf) s.notes.items)) }
-        ensures counted { IfOk result (λ s. ⟦<Shelf as Lent>⟧.counted s.shelf) }
-    {
-        let scene = Scene::new(alloc, Value::Int(first), Value::Int(second))?;
-        Ok(scene)
-    }
+/// The two names of a scene, by their places in it, under an operator.
+pub(crate) fn of_names(
+    alloc: Global,
+    operator: BinOp,
+    first: u32,
+    second: u32,
+) -> Result<Formula, NoMemory> {
+    let left = Box::new(alloc, Formula::Slot(first))?;
+    let right = Box::new(alloc, Formula::Slot(second))?;
+    Ok(Formula::Bin(operator, left, right))
 }

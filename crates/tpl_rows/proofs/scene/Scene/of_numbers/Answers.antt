@@ -1,5 +1,5 @@
 use Rattle.tpl_rows.proofs.Settling.{cells_can}
-use Rattle.tpl_rows.proofs.scene.Scene.new.Goals as goal
+use Rattle.tpl_rows.proofs.scene.Scene.of_numbers.Goals as goal
 
 pub returns-clause-can : goal.returns-clause-can
 returns-clause-can g c =
