@@ -122,12 +122,12 @@ fn run_script<K: Sink>(
 /// It asks of its caller that there are at most `MOST_HOSTS` host formulas and `MOST_RULES` equality rules, and that no host formula
 /// was asked before.
 ///
-/// `Usage` comes exactly where the words ask for nothing, unless memory runs out first; then the source is as before, as it is at every status
-/// where the words ask for the workload. `ReadFault` and `WriteFault` come only where the source or the sink failed in this call (or its count
-/// of failures stands at its last value), and `TooLong` only once more than 4,194,304 bytes came (or their count stands at its last value); a
-/// source that tells its bytes, has more of them and doesn't fail ends it with `TooLong`, unless memory runs out first. With `Usage`,
-/// `ReadFault` and `TooLong` the sink is as before, and with `WriteFault` and `NoMemory` a front of the output was written, where the source
-/// tells its bytes or the words ask for the workload.
+/// `Usage` comes exactly where the words ask for nothing, unless memory runs out first; in both cases source and sink are then as before. So is
+/// the source at every status where the words ask for the workload. `ReadFault` and `WriteFault` come only where the source or the sink failed in
+/// this call (or its count of failures stands at its last value), and `TooLong` only once more than 4,194,304 bytes came (or their count stands at
+/// its last value); a source that tells its bytes, has more of them and doesn't fail ends it with `TooLong`, unless memory runs out first. With
+/// `Usage`, `ReadFault` and `TooLong` the sink is as before, and with `WriteFault` and `NoMemory` a front of the output was written, where the
+/// source tells its bytes or the words ask for the workload.
 pub fn run_live<S: Source, K: Sink>(
     alloc: Global,
     words: &[String],
@@ -150,6 +150,7 @@ pub fn run_live<S: Source, K: Sink>(
     ensures usage { result ≡ Status.Usage → job_of (map string_bytes words.now) ≡ None }
     ensures usage_exact { job_of (map string_bytes words.now) ≡ None → (result ≡ Status.Usage) ⊎ (result ≡ Status.NoMemory) }
     ensures untouched { result ≡ Status.Usage → source.new ≡ source.old }
+    ensures wrong_words { job_of (map string_bytes words.now) ≡ None → (source.new ≡ source.old) × (sink.new ≡ sink.old) }
     // The generated workload leaves the source as it is, and gives up only for memory where the sink doesn't fail.
     ensures generated { IfSome (job_of (map string_bytes words.now)) (λ job. reads job ≡ false → source.new ≡ source.old) }
     ensures complete_generated { IfSome (job_of (map string_bytes words.now)) (λ job. reads job ≡ false
