@@ -1,7 +1,7 @@
 // Short blocks of lines.
 
+use sig_base::NoMemory;
 use std::alloc::{AllocError, Global};
-use std::test::Fail;
 use tpl_syntax::{Template, TemplateFault, TemplateWhy, put_template, read_template};
 
 // What a block of at most 4,096 bytes is; a longer one isn't read.
@@ -20,13 +20,19 @@ pub fn fault(alloc: Global, block: &[u8]) -> Option<(usize, TemplateWhy)> {
     }
 }
 
-// How the template of a block is written; nothing where it is refused.
-pub fn written(alloc: Global, block: &[u8]) -> Result<Vec<u8>, Fail> {
-    let mut out = Vec::new(alloc);
-    if let Some(Ok(template)) = read(alloc, block) {
-        put_template(&mut out, &template)?;
+// Appends how the template of a block is written; nothing where it is refused.
+fn put_read(out: &mut Vec<u8>, alloc: Global, block: &[u8]) -> Result<(), NoMemory> {
+    match read(alloc, block) {
+        Some(Ok(template)) => put_template(out, &template),
+        _ => Ok(()),
     }
-    Ok(out)
+}
+
+// Whether the template of a block is written so.
+pub fn is_written(alloc: Global, block: &[u8], want: &[u8]) -> Result<bool, NoMemory> {
+    let mut out = Vec::new(alloc);
+    put_read(&mut out, alloc, block)?;
+    Ok(out.as_slice() == want)
 }
 
 // A part so many times between two others.

@@ -2,7 +2,6 @@
 
 use crate::blocks::{fault, read, repeated};
 use std::alloc::{AllocError, Global};
-use std::test::Fail;
 use tpl_syntax::TemplateWhy;
 
 fn is_read(alloc: Global, block: &[u8]) -> bool {
@@ -30,68 +29,72 @@ fn names(alloc: Global, count: u32) -> Result<Vec<u8>, AllocError> {
     Ok(block)
 }
 
-#[test]
-fn thirty_two_levels(rt: HostRuntime) -> Result<(), Fail> {
-    let alloc = rt.alloc();
-    assert!(rt; is_read(alloc, &nested(alloc, 31)?));
-    assert_eq!(rt;
-        fault(alloc, &nested(alloc, 32)?),
-        Some((31, TemplateWhy::Nest))
-    );
-    Ok(())
+// Whether a block was made and is read.
+fn reads(alloc: Global, made: Result<Vec<u8>, AllocError>) -> bool {
+    match made {
+        Ok(block) => is_read(alloc, &block),
+        Err(_) => false,
+    }
+}
+
+// Whether a block was made and is refused at that line and for that cause.
+fn refuses(alloc: Global, made: Result<Vec<u8>, AllocError>, at: usize, why: TemplateWhy) -> bool {
+    match made {
+        Ok(block) => fault(alloc, &block) == Some((at, why)),
+        Err(_) => false,
+    }
 }
 
 #[test]
-fn a_height_of_sixty_four(rt: HostRuntime) -> Result<(), Fail> {
+fn thirty_two_levels(rt: HostRuntime) {
     let alloc = rt.alloc();
-    let high = repeated(alloc, b"text a\ntext ", b"not ", 63, b"true\n")?;
-    assert!(rt; is_read(alloc, &high));
-    let higher = repeated(alloc, b"text a\ntext ", b"not ", 64, b"true\n")?;
-    assert_eq!(rt; fault(alloc, &higher), Some((1, TemplateWhy::Nest)));
-    let child = repeated(alloc, b"tag @br\ntext ", b"not ", 64, b"true\nend\n")?;
-    assert_eq!(rt; fault(alloc, &child), Some((1, TemplateWhy::VoidChild)));
-    Ok(())
+    assert!(rt; reads(alloc, nested(alloc, 31)));
+    assert!(rt; refuses(alloc, nested(alloc, 32), 31, TemplateWhy::Nest));
 }
 
 #[test]
-fn a_text_of_1024_bytes(rt: HostRuntime) -> Result<(), Fail> {
+fn a_height_of_sixty_four(rt: HostRuntime) {
     let alloc = rt.alloc();
-    let long = repeated(alloc, b"text a\ntext \"", b"x", 1024, b"\"\n")?;
-    assert!(rt; is_read(alloc, &long));
-    let longer = repeated(alloc, b"text a\ntext \"", b"x", 1025, b"\"\ntext it.x\n")?;
-    assert_eq!(rt; fault(alloc, &longer), Some((2, TemplateWhy::ItHere)));
-    let last = repeated(alloc, b"text a\ntext \"", b"x", 1025, b"\"\n")?;
-    assert_eq!(rt; fault(alloc, &last), Some((1, TemplateWhy::Text)));
-    Ok(())
+    let high = repeated(alloc, b"text a\ntext ", b"not ", 63, b"true\n");
+    assert!(rt; reads(alloc, high));
+    let higher = repeated(alloc, b"text a\ntext ", b"not ", 64, b"true\n");
+    assert!(rt; refuses(alloc, higher, 1, TemplateWhy::Nest));
+    let child = repeated(alloc, b"tag @br\ntext ", b"not ", 64, b"true\nend\n");
+    assert!(rt; refuses(alloc, child, 1, TemplateWhy::VoidChild));
 }
 
 #[test]
-fn a_long_text_that_is_not_escaped(rt: HostRuntime) -> Result<(), Fail> {
+fn a_text_of_1024_bytes(rt: HostRuntime) {
     let alloc = rt.alloc();
-    let long = repeated(alloc, b"tag @script\ntext \"", b"x", 1025, b"\"\nend\n")?;
-    assert_eq!(rt; fault(alloc, &long), Some((1, TemplateWhy::Text)));
-    let closing = repeated(alloc, b"tag @script\ntext \"", b"x", 1025, b"</\"\nend\n")?;
-    assert_eq!(rt; fault(alloc, &closing), Some((1, TemplateWhy::RawText)));
-    Ok(())
+    let long = repeated(alloc, b"text a\ntext \"", b"x", 1024, b"\"\n");
+    assert!(rt; reads(alloc, long));
+    let longer = repeated(alloc, b"text a\ntext \"", b"x", 1025, b"\"\ntext it.x\n");
+    assert!(rt; refuses(alloc, longer, 2, TemplateWhy::ItHere));
+    let last = repeated(alloc, b"text a\ntext \"", b"x", 1025, b"\"\n");
+    assert!(rt; refuses(alloc, last, 1, TemplateWhy::Text));
 }
 
 #[test]
-fn sixty_four_names(rt: HostRuntime) -> Result<(), Fail> {
+fn a_long_text_that_is_not_escaped(rt: HostRuntime) {
     let alloc = rt.alloc();
-    assert!(rt; is_read(alloc, &names(alloc, 64)?));
-    assert_eq!(rt;
-        fault(alloc, &names(alloc, 65)?),
-        Some((1, TemplateWhy::Sources))
-    );
-    Ok(())
+    let long = repeated(alloc, b"tag @script\ntext \"", b"x", 1025, b"\"\nend\n");
+    assert!(rt; refuses(alloc, long, 1, TemplateWhy::Text));
+    let closing = repeated(alloc, b"tag @script\ntext \"", b"x", 1025, b"</\"\nend\n");
+    assert!(rt; refuses(alloc, closing, 1, TemplateWhy::RawText));
 }
 
 #[test]
-fn a_hundred_and_twenty_eight_lines(rt: HostRuntime) -> Result<(), Fail> {
+fn sixty_four_names(rt: HostRuntime) {
     let alloc = rt.alloc();
-    let most = repeated(alloc, b"# one\n", b"text a\n\n", 128, b"")?;
-    assert!(rt; is_read(alloc, &most));
-    let more = repeated(alloc, b"# one\n", b"text a\n\n", 129, b"")?;
-    assert_eq!(rt; fault(alloc, &more), Some((129, TemplateWhy::Lines)));
-    Ok(())
+    assert!(rt; reads(alloc, names(alloc, 64)));
+    assert!(rt; refuses(alloc, names(alloc, 65), 1, TemplateWhy::Sources));
+}
+
+#[test]
+fn a_hundred_and_twenty_eight_lines(rt: HostRuntime) {
+    let alloc = rt.alloc();
+    let most = repeated(alloc, b"# one\n", b"text a\n\n", 128, b"");
+    assert!(rt; reads(alloc, most));
+    let more = repeated(alloc, b"# one\n", b"text a\n\n", 129, b"");
+    assert!(rt; refuses(alloc, more, 129, TemplateWhy::Lines));
 }

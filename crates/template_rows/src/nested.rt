@@ -1,31 +1,53 @@
 // How the lines of a template nest.
 
 use crate::blocks::read;
+use sig_base::NoMemory;
 use sig_formula::Formula;
-use std::test::Fail;
+use std::alloc::Global;
+use std::process::Abort;
 use tpl_blocks::{Block, block_of};
+use tpl_syntax::Template;
 
-#[test]
-fn lines_nest_by_their_ends(rt: HostRuntime) -> Result<(), Fail> {
-    let alloc = rt.alloc();
-    let lines = "tag @p\nattr @class \"x\"\nif a\ntext 1\nelse\ntext 2\nend\nend\n";
-    let Some(Ok(template)) = read(alloc, lines.as_bytes()) else {
+fn nested_in(alloc: Global, template: &Template) -> Result<Option<Block>, NoMemory> {
+    let block = block_of(alloc, template)?;
+    Ok(Some(block))
+}
+
+// How lines nest; none where they aren't read.
+fn nested(alloc: Global, lines: &str) -> Result<Option<Block>, NoMemory> {
+    match read(alloc, lines.as_bytes()) {
+        Some(Ok(template)) => nested_in(alloc, &template),
+        _ => Ok(None),
+    }
+}
+
+fn assert_choice(rt: &impl Abort, inner: &Block) {
+    let Block::Choice(Formula::Slot(0), one, other, behind) = inner else {
         assert!(rt; false);
-        return Ok(());
-    };
-    let block = block_of(alloc, &template)?;
-    let Block::Tag(1, name, attributes, inner, after) = &block else {
-        assert!(rt; false);
-        return Ok(());
-    };
-    assert!(rt; name.as_str() == "p" && attributes.len() == 1);
-    assert!(rt; matches!(&**after, Block::Empty));
-    let Block::Choice(Formula::Slot(0), one, other, behind) = &**inner else {
-        assert!(rt; false);
-        return Ok(());
+        return;
     };
     assert!(rt; matches!(&**one, Block::Text(4, ..)));
     assert!(rt; matches!(&**other, Block::Text(6, ..)));
     assert!(rt; matches!(&**behind, Block::Empty));
+}
+
+fn assert_nested(rt: &impl Abort, block: &Block) {
+    let Block::Tag(1, name, attributes, inner, after) = block else {
+        assert!(rt; false);
+        return;
+    };
+    assert!(rt; name.as_str() == "p" && attributes.len() == 1);
+    assert!(rt; matches!(&**after, Block::Empty));
+    assert_choice(rt, &**inner);
+}
+
+#[test]
+fn lines_nest_by_their_ends(rt: HostRuntime) -> Result<(), NoMemory> {
+    let lines = "tag @p\nattr @class \"x\"\nif a\ntext 1\nelse\ntext 2\nend\nend\n";
+    let Some(block) = nested(rt.alloc(), lines)? else {
+        assert!(rt; false);
+        return Ok(());
+    };
+    assert_nested(&rt, &block);
     Ok(())
 }

@@ -2,103 +2,118 @@
 
 use crate::blocks::read;
 use page_tree::Sub;
-use sig_base::{Outcome, Value};
+use sig_base::{NoMemory, Outcome, Text, Value};
 use std::alloc::Global;
-use std::test::Fail;
+use std::process::Abort;
 use tpl_scratch::{ScratchStep, page_from_scratch};
 use tpl_syntax::Template;
 
-// The name that is asked for; none where the page comes, or where there isn't an outcome or none for each name.
-fn asked(
-    alloc: Global,
-    template: &Template,
-    known: &[Option<Outcome>],
-) -> Result<Option<u32>, Fail> {
-    if known.len() != template.names().len() {
-        return Ok(None);
-    }
-    match page_from_scratch(alloc, template, known)? {
-        ScratchStep::Ask(name) => Ok(Some(name)),
-        ScratchStep::Page(_) => Ok(None),
+const BLOCK: &str = "tag @ul\nattr @title a\nif b\ntext c\nend\nend\n";
+
+fn number(known: Option<i64>) -> Option<Outcome> {
+    match known {
+        Some(number) => Some(Outcome::Good(Value::Int(number))),
+        None => None,
     }
 }
 
-// The page; none where a name is asked for, or where there isn't an outcome or none for each name.
-fn page(
-    alloc: Global,
-    template: &Template,
-    known: &[Option<Outcome>],
-) -> Result<Option<Vec<Sub>>, Fail> {
-    if known.len() != template.names().len() {
-        return Ok(None);
-    }
-    match page_from_scratch(alloc, template, known)? {
-        ScratchStep::Ask(_) => Ok(None),
-        ScratchStep::Page(nodes) => Ok(Some(nodes)),
+fn truth(known: Option<bool>) -> Option<Outcome> {
+    match known {
+        Some(truth) => Some(Outcome::Good(Value::Bool(truth))),
+        None => None,
     }
 }
 
-// Outcomes of three names.
-fn known(
+// Outcomes of three names, as far as they are known.
+fn outcomes(
     alloc: Global,
-    first: Option<Outcome>,
-    second: Option<Outcome>,
-    third: Option<Outcome>,
-) -> Result<Vec<Option<Outcome>>, Fail> {
+    title: Option<i64>,
+    test: Option<bool>,
+    text: Option<i64>,
+) -> Result<Vec<Option<Outcome>>, NoMemory> {
     let mut known = Vec::new(alloc);
-    known.push(first)?;
-    known.push(second)?;
-    known.push(third)?;
+    known.push(number(title))?;
+    known.push(truth(test))?;
+    known.push(number(text))?;
     Ok(known)
 }
 
-#[test]
-fn names_are_asked_for_as_they_are_needed(rt: HostRuntime) -> Result<(), Fail> {
-    let alloc = rt.alloc();
-    let block = "tag @ul\nattr @title a\nif b\ntext c\nend\nend\n";
-    let Some(Ok(template)) = read(alloc, block.as_bytes()) else {
-        assert!(rt; false);
-        return Ok(());
-    };
-    let none = known(alloc, None, None, None)?;
-    assert!(rt; asked(alloc, &template, &none)? == Some(0));
-    let title = Some(Outcome::Good(Value::Int(7)));
-    let test = Some(Outcome::Good(Value::Bool(true)));
-    let two = known(alloc, title, test, None)?;
-    assert!(rt; asked(alloc, &template, &two)? == Some(2));
-    Ok(())
+// What comes of a template; none where there isn't an outcome or none for each name.
+fn step_of(
+    alloc: Global,
+    template: &Template,
+    known: &[Option<Outcome>],
+) -> Result<Option<ScratchStep>, NoMemory> {
+    if known.len() != template.names().len() {
+        return Ok(None);
+    }
+    let step = page_from_scratch(alloc, template, known)?;
+    Ok(Some(step))
+}
+
+// What comes of the block; none where it isn't read.
+fn step(
+    alloc: Global,
+    title: Option<i64>,
+    test: Option<bool>,
+    text: Option<i64>,
+) -> Result<Option<ScratchStep>, NoMemory> {
+    let known = outcomes(alloc, title, test, text)?;
+    match read(alloc, BLOCK.as_bytes()) {
+        Some(Ok(template)) => step_of(alloc, &template, &known),
+        _ => Ok(None),
+    }
+}
+
+// The name that is asked for where only the title and the test may be known.
+fn asked(alloc: Global, title: Option<i64>, test: Option<bool>) -> Result<Option<u32>, NoMemory> {
+    match step(alloc, title, test, None)? {
+        Some(ScratchStep::Ask(name)) => Ok(Some(name)),
+        _ => Ok(None),
+    }
 }
 
 #[test]
-fn the_page_comes_once_its_names_are_known(rt: HostRuntime) -> Result<(), Fail> {
+fn names_are_asked_for_as_they_are_needed(rt: HostRuntime) -> Result<(), NoMemory> {
     let alloc = rt.alloc();
-    let block = "tag @ul\nattr @title a\nif b\ntext c\nend\nend\n";
-    let Some(Ok(template)) = read(alloc, block.as_bytes()) else {
+    assert!(rt; asked(alloc, None, None)? == Some(0));
+    assert!(rt; asked(alloc, Some(7), Some(true))? == Some(2));
+    Ok(())
+}
+
+// Whether there is one attribute, of this name and value.
+fn is_attribute(attributes: &[(Text, Text)], name: &str, value: &str) -> bool {
+    match attributes {
+        [only] => only.0.as_str() == name && only.1.as_str() == value,
+        _ => false,
+    }
+}
+
+// Whether there is one node, this text with the second number.
+fn is_second_text(nodes: &[Sub], characters: &str) -> bool {
+    match nodes {
+        [Sub::Text(2, shown)] => shown.as_str() == characters,
+        _ => false,
+    }
+}
+
+fn assert_list(rt: &impl Abort, nodes: &[Sub]) {
+    let [Sub::Element(1, name, attributes, children)] = nodes else {
         assert!(rt; false);
-        return Ok(());
-    };
-    let title = Some(Outcome::Good(Value::Int(7)));
-    let test = Some(Outcome::Good(Value::Bool(true)));
-    let text = Some(Outcome::Good(Value::Int(3)));
-    let all = known(alloc, title, test, text)?;
-    let Some(nodes) = page(alloc, &template, &all)? else {
-        assert!(rt; false);
-        return Ok(());
-    };
-    let [Sub::Element(1, name, attributes, children)] = nodes.as_slice() else {
-        assert!(rt; false);
-        return Ok(());
+        return;
     };
     assert!(rt; name.as_str() == "ul");
-    let [attribute] = attributes.as_slice() else {
+    assert!(rt; is_attribute(attributes, "title", "7"));
+    assert!(rt; is_second_text(children, "3"));
+}
+
+#[test]
+fn the_page_comes_once_its_names_are_known(rt: HostRuntime) -> Result<(), NoMemory> {
+    let step = step(rt.alloc(), Some(7), Some(true), Some(3))?;
+    let Some(ScratchStep::Page(nodes)) = &step else {
         assert!(rt; false);
         return Ok(());
     };
-    assert!(rt; attribute.0.as_str() == "title" && attribute.1.as_str() == "7");
-    let [Sub::Text(2, shown)] = children.as_slice() else {
-        assert!(rt; false);
-        return Ok(());
-    };
-    assert_eq!(rt; shown.as_str(), "3");
+    assert_list(&rt, nodes);
     Ok(())
 }

@@ -1,9 +1,9 @@
 // Templates, and how they are written.
 
-use crate::blocks::{read, written};
+use crate::blocks::{is_written, read};
+use sig_base::{Name, NoMemory};
 use sig_formula::Formula;
 use std::alloc::Global;
-use std::test::Fail;
 use tpl_syntax::Line;
 
 const TODO: &str = "tag @section
@@ -29,26 +29,50 @@ end
 ";
 
 // Whether a template is written as it stands here.
-fn stands(alloc: Global, block: &str) -> Result<bool, Fail> {
-    let found = written(alloc, block.as_bytes())?;
-    Ok(found.as_slice() == block.as_bytes())
+fn stands(alloc: Global, block: &str) -> Result<bool, NoMemory> {
+    is_written(alloc, block.as_bytes(), block.as_bytes())
+}
+
+// Whether these are the names.
+fn are_names(names: &[Name], others: &[&str]) -> bool {
+    names.len() == others.len()
+        && names
+            .iter()
+            .zip(others)
+            .all(|(name, other)| name.as_str() == *other)
 }
 
 // Whether these are the names of a template.
 fn has_names(alloc: Global, block: &str, names: &[&str]) -> bool {
-    let Some(Ok(template)) = read(alloc, block.as_bytes()) else {
-        return false;
-    };
-    let found = template.names();
-    found.len() == names.len()
-        && found
-            .iter()
-            .zip(names)
-            .all(|(name, other)| name.as_str() == *other)
+    match read(alloc, block.as_bytes()) {
+        Some(Ok(template)) => are_names(template.names(), names),
+        _ => false,
+    }
+}
+
+// Whether these are the lines: any, a part that depends on the last of three names, a text of the second name, and an end.
+fn are_slots(lines: &[Line<Formula>]) -> bool {
+    match lines {
+        [
+            _,
+            Line::If(Formula::Slot(2)),
+            Line::Text(Formula::Slot(1)),
+            Line::End,
+        ] => true,
+        _ => false,
+    }
+}
+
+// Whether those are the lines of a template.
+fn has_slots(alloc: Global, block: &str) -> bool {
+    match read(alloc, block.as_bytes()) {
+        Some(Ok(template)) => are_slots(template.lines()),
+        _ => false,
+    }
 }
 
 #[test]
-fn a_page_of_things_to_do(rt: HostRuntime) -> Result<(), Fail> {
+fn a_page_of_things_to_do(rt: HostRuntime) -> Result<(), NoMemory> {
     let alloc = rt.alloc();
     assert!(rt; stands(alloc, TODO)?);
     assert!(rt; has_names(alloc, TODO, &["shown", "open"]));
@@ -56,20 +80,17 @@ fn a_page_of_things_to_do(rt: HostRuntime) -> Result<(), Fail> {
 }
 
 #[test]
-fn a_script_is_a_literal(rt: HostRuntime) -> Result<(), Fail> {
+fn a_script_is_a_literal(rt: HostRuntime) -> Result<(), NoMemory> {
     let alloc = rt.alloc();
     assert!(rt; stands(alloc, "tag @script\ntext \"if (a < b) {}\"\nend\n")?);
-    let found = written(
-        alloc,
-        b" tag @script\n\n attr @src 1\n # x\n text (\"< /\")\nend",
-    )?;
+    let spaced = b" tag @script\n\n attr @src 1\n # x\n text (\"< /\")\nend";
     let expected = b"tag @script\nattr @src 1\ntext \"< /\"\nend\n";
-    assert_eq!(rt; found.as_slice(), expected.as_slice());
+    assert!(rt; is_written(alloc, spaced, expected)?);
     Ok(())
 }
 
 #[test]
-fn parts_and_empty_elements(rt: HostRuntime) -> Result<(), Fail> {
+fn parts_and_empty_elements(rt: HostRuntime) -> Result<(), NoMemory> {
     let alloc = rt.alloc();
     assert!(rt;
         stands(
@@ -91,18 +112,5 @@ fn parts_and_empty_elements(rt: HostRuntime) -> Result<(), Fail> {
 fn slots_are_places_among_all_names(rt: HostRuntime) {
     let block = "text a + b\nif c\ntext b\nend\n";
     assert!(rt; has_names(rt.alloc(), block, &["a", "b", "c"]));
-    let Some(Ok(template)) = read(rt.alloc(), block.as_bytes()) else {
-        assert!(rt; false);
-        return;
-    };
-    let slots: bool = match template.lines() {
-        [
-            _,
-            Line::If(Formula::Slot(2)),
-            Line::Text(Formula::Slot(1)),
-            Line::End,
-        ] => true,
-        _ => false,
-    };
-    assert!(rt; slots);
+    assert!(rt; has_slots(rt.alloc(), block));
 }
