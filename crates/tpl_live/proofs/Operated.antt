@@ -1,5 +1,5 @@
 -- The operations that are read off by marks are the edits between the two pages, and lead from the one tree to the other.
-use Rattle.std.proofs.Common.{◌≡◌, ℕ, ◌+◌, ltb, Bool, Option, List, [], ◌∷◌, ◌++◌, map, refl, sym, ap, subst, ◌∙◌, arith}
+use Rattle.std.proofs.Common.{◌≡◌, ℕ, ltb, Bool, Option, List, [], ◌∷◌, ◌++◌, map, refl, sym, ap, subst, ◌∙◌, arith}
 use Rattle.std.specs.List.{flat_map}
 use Rattle.std.specs.List.Sorted.{IsPermutation}
 use Rattle.page_model.specs.Edits.{ascending, listed}

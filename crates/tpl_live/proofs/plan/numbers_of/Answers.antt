@@ -1,4 +1,4 @@
-use Rattle.std.proofs.Common.{◌≡◌, ◌+◌, ◌++◌, length, map, sym, ap, ◌∙◌, arith}
+use Rattle.std.proofs.Common.{◌≡◌, ◌++◌, length, map, sym, ap, ◌∙◌, arith}
 use Rattle.page_model.specs.Forest.{after, keys}
 use Rattle.tpl_blocks.specs.Blocks.{block}
 use Rattle.tpl_marks.specs.Numbering.{number_at}

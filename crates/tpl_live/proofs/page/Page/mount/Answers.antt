@@ -1,4 +1,4 @@
-use Rattle.std.proofs.Common.{None, ap, map, refl, subst, sym, arith, ◌≡◌, ◌∙◌}
+use Rattle.std.proofs.Common.{None, ap, map, refl, subst, sym, arith, ◌∙◌}
 use Rattle.std.specs.Box.{box_value}
 use Rattle.page_ops.specs.Ops.{op_of}
 use Rattle.tpl_blocks.specs.Blocks.{block, lines_of}
