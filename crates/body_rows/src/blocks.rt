@@ -1,9 +1,9 @@
 // Short blocks of lines.
 
 use body_text::{BodyFault, BodyWhy, put_body, read_body};
+use sig_base::NoMemory;
 use sig_untrack::Body;
 use std::alloc::{AllocError, Global};
-use std::test::Fail;
 
 // What a block of at most 4,096 bytes is; a longer one isn't read.
 pub fn read(alloc: Global, block: &[u8]) -> Option<Result<Body, BodyFault>> {
@@ -21,13 +21,19 @@ pub fn fault(alloc: Global, block: &[u8]) -> Option<(usize, BodyWhy)> {
     }
 }
 
-// How the body of a block is written; nothing where it is refused.
-pub fn written(alloc: Global, block: &[u8]) -> Result<Vec<u8>, Fail> {
-    let mut out = Vec::new(alloc);
-    if let Some(Ok(body)) = read(alloc, block) {
-        put_body(&mut out, &body)?;
+// Appends how the body of a block is written; nothing where it is refused.
+fn put_read(out: &mut Vec<u8>, alloc: Global, block: &[u8]) -> Result<(), NoMemory> {
+    match read(alloc, block) {
+        Some(Ok(body)) => put_body(out, &body),
+        _ => Ok(()),
     }
-    Ok(out)
+}
+
+// Whether the body of a block is written so.
+pub fn is_written(alloc: Global, block: &[u8], want: &[u8]) -> Result<bool, NoMemory> {
+    let mut out = Vec::new(alloc);
+    put_read(&mut out, alloc, block)?;
+    Ok(out.as_slice() == want)
 }
 
 // A part so many times between two others.

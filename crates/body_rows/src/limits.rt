@@ -3,7 +3,6 @@
 use crate::blocks::{fault, read, repeated};
 use body_text::BodyWhy;
 use std::alloc::{AllocError, Global};
-use std::test::Fail;
 
 fn is_read(alloc: Global, block: &[u8]) -> bool {
     matches!(read(alloc, block), Some(Ok(_)))
@@ -27,64 +26,78 @@ fn arguments(alloc: Global, count: u32) -> Result<Vec<u8>, AllocError> {
     Ok(block)
 }
 
-#[test]
-fn thirty_two_levels(rt: HostRuntime) -> Result<(), Fail> {
-    let alloc = rt.alloc();
-    assert!(rt; is_read(alloc, &nested(alloc, b"when true\n", 31)?));
-    let guards = nested(alloc, b"when true\n", 32)?;
-    assert_eq!(rt; fault(alloc, &guards), Some((31, BodyWhy::Nest)));
-    assert!(rt; is_read(alloc, &nested(alloc, b"effect\n", 31)?));
-    let effects = nested(alloc, b"effect\n", 32)?;
-    assert_eq!(rt; fault(alloc, &effects), Some((31, BodyWhy::Nest)));
-    Ok(())
-}
-
-#[test]
-fn sixty_four_lines(rt: HostRuntime) -> Result<(), Fail> {
-    let alloc = rt.alloc();
-    let most = repeated(alloc, b"# one\n", b"log 1\n\n", 64, b"")?;
-    assert!(rt; is_read(alloc, &most));
-    let more = repeated(alloc, b"# one\n", b"log 1\n\n", 65, b"")?;
-    assert_eq!(rt; fault(alloc, &more), Some((65, BodyWhy::Lines)));
-    let inner = repeated(alloc, b"", b"effect\nlog 1\nend\n", 21, b"log 1\n")?;
-    assert!(rt; is_read(alloc, &inner));
-    let deep = repeated(alloc, b"log 1\n", b"effect\nlog 1\nend\n", 21, b"log 1\n")?;
-    assert_eq!(rt; fault(alloc, &deep), Some((65, BodyWhy::Lines)));
-    Ok(())
-}
-
-#[test]
-fn a_height_of_sixty_four(rt: HostRuntime) -> Result<(), Fail> {
-    let alloc = rt.alloc();
-    let high = repeated(alloc, b"log 1\nlog ", b"not ", 63, b"true\n")?;
-    assert!(rt; is_read(alloc, &high));
-    let higher = repeated(alloc, b"log 1\nlog ", b"not ", 64, b"true\nlog 2\n")?;
-    assert_eq!(rt; fault(alloc, &higher), Some((1, BodyWhy::Nest)));
-    Ok(())
-}
-
-#[test]
-fn a_text_of_1024_bytes(rt: HostRuntime) -> Result<(), Fail> {
-    let alloc = rt.alloc();
-    let long = repeated(alloc, b"log 1\nlog \"", b"x", 1024, b"\"\n")?;
-    assert!(rt; is_read(alloc, &long));
+// A long text, and then so many `not` before a truth.
+fn long_and_high(alloc: Global, count: usize) -> Result<Vec<u8>, AllocError> {
     let longer = repeated(alloc, b"log 1\nlog \"", b"x", 1025, b"\"\nlog ")?;
-    let high = repeated(alloc, &longer, b"not ", 63, b"true\n")?;
-    assert_eq!(rt; fault(alloc, &high), Some((1, BodyWhy::Text)));
-    let higher = repeated(alloc, &longer, b"not ", 64, b"true\n")?;
-    assert_eq!(rt; fault(alloc, &higher), Some((2, BodyWhy::Nest)));
-    let front = repeated(alloc, b"", b"log 1\n", 65, b"")?;
-    let last = repeated(alloc, &front, b"log \"", 1, b"")?;
-    let last = repeated(alloc, &last, b"x", 1025, b"\"\n")?;
-    assert_eq!(rt; fault(alloc, &last), Some((65, BodyWhy::Text)));
-    Ok(())
+    repeated(alloc, &longer, b"not ", count, b"true\n")
+}
+
+// Too many lines, of which the last has a long text.
+fn many_and_long(alloc: Global) -> Result<Vec<u8>, AllocError> {
+    let front = repeated(alloc, b"", b"log 1\n", 65, b"log \"")?;
+    repeated(alloc, &front, b"x", 1025, b"\"\n")
+}
+
+// Whether a block was made and is read.
+fn reads(alloc: Global, made: Result<Vec<u8>, AllocError>) -> bool {
+    match made {
+        Ok(block) => is_read(alloc, &block),
+        Err(_) => false,
+    }
+}
+
+// Whether a block was made and is refused at that line and for that cause.
+fn refuses(alloc: Global, made: Result<Vec<u8>, AllocError>, at: usize, why: BodyWhy) -> bool {
+    match made {
+        Ok(block) => fault(alloc, &block) == Some((at, why)),
+        Err(_) => false,
+    }
 }
 
 #[test]
-fn sixty_four_arguments(rt: HostRuntime) -> Result<(), Fail> {
+fn thirty_two_levels(rt: HostRuntime) {
     let alloc = rt.alloc();
-    assert!(rt; is_read(alloc, &arguments(alloc, 64)?));
-    let many = arguments(alloc, 65)?;
-    assert_eq!(rt; fault(alloc, &many), Some((1, BodyWhy::Sources)));
-    Ok(())
+    assert!(rt; reads(alloc, nested(alloc, b"when true\n", 31)));
+    assert!(rt; refuses(alloc, nested(alloc, b"when true\n", 32), 31, BodyWhy::Nest));
+    assert!(rt; reads(alloc, nested(alloc, b"effect\n", 31)));
+    assert!(rt; refuses(alloc, nested(alloc, b"effect\n", 32), 31, BodyWhy::Nest));
+}
+
+#[test]
+fn sixty_four_lines(rt: HostRuntime) {
+    let alloc = rt.alloc();
+    let most = repeated(alloc, b"# one\n", b"log 1\n\n", 64, b"");
+    assert!(rt; reads(alloc, most));
+    let more = repeated(alloc, b"# one\n", b"log 1\n\n", 65, b"");
+    assert!(rt; refuses(alloc, more, 65, BodyWhy::Lines));
+    let inner = repeated(alloc, b"", b"effect\nlog 1\nend\n", 21, b"log 1\n");
+    assert!(rt; reads(alloc, inner));
+    let deep = repeated(alloc, b"log 1\n", b"effect\nlog 1\nend\n", 21, b"log 1\n");
+    assert!(rt; refuses(alloc, deep, 65, BodyWhy::Lines));
+}
+
+#[test]
+fn a_height_of_sixty_four(rt: HostRuntime) {
+    let alloc = rt.alloc();
+    let high = repeated(alloc, b"log 1\nlog ", b"not ", 63, b"true\n");
+    assert!(rt; reads(alloc, high));
+    let higher = repeated(alloc, b"log 1\nlog ", b"not ", 64, b"true\nlog 2\n");
+    assert!(rt; refuses(alloc, higher, 1, BodyWhy::Nest));
+}
+
+#[test]
+fn a_text_of_1024_bytes(rt: HostRuntime) {
+    let alloc = rt.alloc();
+    let long = repeated(alloc, b"log 1\nlog \"", b"x", 1024, b"\"\n");
+    assert!(rt; reads(alloc, long));
+    assert!(rt; refuses(alloc, long_and_high(alloc, 63), 1, BodyWhy::Text));
+    assert!(rt; refuses(alloc, long_and_high(alloc, 64), 2, BodyWhy::Nest));
+    assert!(rt; refuses(alloc, many_and_long(alloc), 65, BodyWhy::Text));
+}
+
+#[test]
+fn sixty_four_arguments(rt: HostRuntime) {
+    let alloc = rt.alloc();
+    assert!(rt; reads(alloc, arguments(alloc, 64)));
+    assert!(rt; refuses(alloc, arguments(alloc, 65), 1, BodyWhy::Sources));
 }

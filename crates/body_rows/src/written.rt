@@ -1,7 +1,7 @@
 // Bodies, and how they are written.
 
-use crate::blocks::written;
-use std::test::Fail;
+use crate::blocks::is_written;
+use sig_base::NoMemory;
 
 const SPACED: &str = "  set  a (b+1)
 # none
@@ -31,10 +31,9 @@ dispose a
 ";
 
 #[test]
-fn a_body_is_written_with_one_blank_before_each_token(rt: HostRuntime) -> Result<(), Fail> {
-    let found = written(rt.alloc(), SPACED.as_bytes())?;
-    assert!(rt; found.as_slice() == CANONICAL.as_bytes());
-    let again = written(rt.alloc(), CANONICAL.as_bytes())?;
-    assert!(rt; again.as_slice() == CANONICAL.as_bytes());
+fn a_body_is_written_with_one_blank_before_each_token(rt: HostRuntime) -> Result<(), NoMemory> {
+    let alloc = rt.alloc();
+    assert!(rt; is_written(alloc, SPACED.as_bytes(), CANONICAL.as_bytes())?);
+    assert!(rt; is_written(alloc, CANONICAL.as_bytes(), CANONICAL.as_bytes())?);
     Ok(())
 }
