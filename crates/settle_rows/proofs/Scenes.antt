@@ -18,6 +18,8 @@ use Rattle.sig_nodes.specs.Answers.{kind_here, uses_host}
 use Rattle.sig_nodes.proofs.Shared.{uses_made, uses_rewired}
 use Rattle.sig_computed.specs.Asked.{AreThere, StayThere}
 use Rattle.sig_computed.specs.Notes.{IsIdle}
+use Rattle.sig_computed.specs.Scenes.{scene, CanSettle}
+use Rattle.sig_computed.specs.declared.notes.RunNote.{RunNote}
 use Rattle.sig_nodes.specs.States.{Seen, State, Progress, Makes, progress_at, is_cell, is_given, no_state, with_new_cell, with_new_computed, with_rewiring, with_set, Becomes}
 use Rattle.settle_rows.specs.Scenes.{IsReady}
 
@@ -172,6 +174,19 @@ got_ready g h asked asked' ids n first notes r none signals given idle worn few 
       given = subst (λ x. All (λ k. nat_lt k x ≡ true) ids) (sym given) r.given;
       there = record { each = λ place on. stay place ∙ r.there.each place (ap (λ w. uses_host w place) (sym signals) ∙ on) };
       few = omega (arith, none, most, asks, few);
+    }
+
+-- after few commands signals may be settled
+pub ready_can : (g : Seen) (asked : List HostPlace) (ids : List ℕ) (n : ℕ) (notes : List RunNote) → IsReady g asked ids n → n < 1001 →
+    CanSettle (scene g asked notes)
+ready_can g asked ids n notes r few =
+    let worn : g.state.worn ≤ n * 2 ^ 64 = r.worn in
+    let asks : most_asked asked ≤ n * 2 ^ 71 = r.few in
+    record {
+      idle = r.idle;
+      there = r.there;
+      worn = omega (arith, worn, few);
+      room = omega (arith, asks, few);
     }
 
 -- what isn't answered as a cell is none

@@ -11,3 +11,5 @@ mod rows;
 mod scene;
 #[cfg(test)]
 mod shelf;
+#[cfg(test)]
+mod step_rows;

@@ -5,7 +5,7 @@ ghost use Rattle.settle_rows.specs.Scenes.{IsReady};
 
 use formula_text::{Allow, Wired, read_formula};
 use sig_base::{Name, NoMemory, NodeId, Outcome, Value, put_fault, put_value};
-use sig_computed::{RunNote, settle};
+use sig_computed::{RunNote, settle, settle_all};
 use sig_host::{HostFormula, Lent, Shelf};
 use sig_nodes::{Graph, Recipe, Standing};
 use sig_words::tokens;
@@ -311,6 +311,26 @@ impl Scene {
         let _count = notes.len();
         put_settled(&mut self.out, &self.names, &self.ids, &notes, id, &outcome)?;
         Ok(())
+    }
+
+    /// Settles a list of one signal, writes the runs, and gives how many steps were counted.
+    pub(crate) fn steps(&mut self, name: &str) -> Result<u128, Fail>
+        requires ready { IsReady self.old.graph (⟦<Shelf as Lent>⟧.asked self.old.shelf) self.old.ids.items self.old.commands }
+        requires counted { ⟦<Shelf as Lent>⟧.counted self.old.shelf }
+        ensures ready { OnOk result (IsReady self.new.graph (⟦<Shelf as Lent>⟧.asked self.new.shelf) self.new.ids.items self.new.commands) }
+        ensures counted { OnOk result (⟦<Shelf as Lent>⟧.counted self.new.shelf) }
+    {
+        self.count()?;
+        let id = id_of(&self.names, &self.ids, name)?;
+        let mut notes = Vec::new(self.alloc);
+        let before = self.graph.looked();
+        settle_all(&mut self.graph, &mut self.shelf, &[id], &mut notes)?;
+        let _count = notes.len();
+        put_runs(&mut self.out, &self.names, &self.ids, &notes)?;
+        match self.graph.looked().checked_sub(before) {
+            Some(steps) => Ok(steps),
+            None => Err(NoMemory)?,
+        }
     }
 
     /// Whether this was written.
