@@ -1,0 +1,5 @@
+mod Edited
+mod Spreading
+mod AfterChange
+mod Unmarked
+pub mod Shared
