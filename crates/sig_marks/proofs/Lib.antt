@@ -1,0 +1,3 @@
+mod LinkedSets
+mod PushedMarks
+pub mod Shared

@@ -1,0 +1,328 @@
+-- Lists of marks.
+use Rattle.std.proofs.Common.{◌≡◌, ℕ, zero, suc, ◌+◌, ◌<◌, ◌≤◌, ◌==◌, ◌||◌, Bool, true, false, cond, List, [], ◌∷◌, ◌++◌, length, drop, refl, sym, ap, ◌∙◌, subst, arith, ◌⊎◌, inl, inr}
+use Rattle.std.specs.Prelude.{slice_set, get_or}
+use Rattle.std.specs.List.{All}
+use Rattle.indexmap.specs.IndexSet.{IndexSet}
+use Rattle.std.proofs.lemmas.Bool.{eqb-true, eq-eqb}
+use Rattle.signal_model.specs.Standing.{is_in}
+use Rattle.sig_marks.specs.Tables.{Reached, Spreads, dependants_at, first, marked_at, next}
+use Rattle.sig_marks.specs.Sets.{keys_of, newly_marked, unmarked_count, with_marks}
+
+pub tested : (b : Bool) → (b ≡ true) ⊎ (b ≡ false)
+tested true = inl refl
+tested false = inr refl
+
+pub set_here : (t : List Bool) (d : ℕ) → d < length t → marked_at (slice_set t d true) d ≡ true
+set_here [] d h = absurd (omega arith)
+set_here (x ∷ xs) zero h = refl
+set_here (x ∷ xs) (suc d) h = let l : d < length xs = omega arith in set_here xs d l
+
+pub set_more : (t : List Bool) (d m : ℕ) → marked_at t m ≡ true → marked_at (slice_set t d true) m ≡ true
+set_more [] d m h = cc
+set_more (x ∷ xs) zero zero h = refl
+set_more (x ∷ xs) zero (suc m) h = h
+set_more (x ∷ xs) (suc d) zero h = h
+set_more (x ∷ xs) (suc d) (suc m) h = set_more xs d m h
+
+pub set_only : (t : List Bool) (d m : ℕ) → marked_at (slice_set t d true) m ≡ true → (marked_at t m ≡ true) ⊎ (m ≡ d)
+set_only [] d m h = cc
+set_only (x ∷ xs) zero zero h = inr refl
+set_only (x ∷ xs) zero (suc m) h = inl h
+set_only (x ∷ xs) (suc d) zero h = inl h
+set_only (x ∷ xs) (suc d) (suc m) h = elim (set_only xs d m h) [ inl a ↦ inl a | inr e ↦ inr (ap suc e) ]
+
+pub set_same : (t : List Bool) (d : ℕ) → marked_at t d ≡ true → slice_set t d true ≡ t
+set_same [] d h = cc
+set_same (x ∷ xs) zero h = ap (λ b. b ∷ xs) (sym h)
+set_same (x ∷ xs) (suc d) h = ap (λ ys. x ∷ ys) (set_same xs d h)
+
+pub set_fewer : (t : List Bool) (d : ℕ) → d < length t → marked_at t d ≡ false → unmarked_count (slice_set t d true) + 1 ≡ unmarked_count t
+set_fewer [] d l h = absurd (omega arith)
+set_fewer (true ∷ xs) zero l h = cc
+set_fewer (false ∷ xs) zero l h = omega arith
+set_fewer (true ∷ xs) (suc d) l h = let k : d < length xs = omega arith in omega (arith, set_fewer xs d k h)
+set_fewer (false ∷ xs) (suc d) l h = let k : d < length xs = omega arith in omega (arith, set_fewer xs d k h)
+
+pub set_length : (t : List Bool) (d : ℕ) → length (slice_set t d true) ≡ length t
+set_length [] d = refl
+set_length (x ∷ xs) zero = refl
+set_length (x ∷ xs) (suc d) = ap suc (set_length xs d)
+
+pub unmarked_le : (t : List Bool) → unmarked_count t ≤ length t
+unmarked_le [] = omega arith
+unmarked_le (true ∷ xs) = omega (arith, unmarked_le xs)
+unmarked_le (false ∷ xs) = omega (arith, unmarked_le xs)
+
+pub marked_length : (ds : List ℕ) (t : List Bool) → length (with_marks ds t) ≡ length t
+marked_length [] t = refl
+marked_length (d ∷ ds) t = marked_length ds (slice_set t d true) ∙ set_length t d
+
+pub marked_more : (ds : List ℕ) (t : List Bool) (m : ℕ) → marked_at t m ≡ true → marked_at (with_marks ds t) m ≡ true
+marked_more [] t m h = h
+marked_more (d ∷ ds) t m h = marked_more ds (slice_set t d true) m (set_more t d m h)
+
+pub marked_in : (ds : List ℕ) (t : List Bool) (m : ℕ) → m < length t → is_in m ds ≡ true → marked_at (with_marks ds t) m ≡ true
+marked_in [] t m l h = cc
+marked_in (d ∷ ds) t m l h = go (m == d) refl h (marked_in ds (slice_set t d true) m (subst (λ x. m < x) (sym (set_length t d)) l))
+  where
+    go : (b : Bool) → (m == d) ≡ b → (b || is_in m ds) ≡ true → (is_in m ds ≡ true → marked_at (with_marks ds (slice_set t d true)) m ≡ true) → marked_at (with_marks ds (slice_set t d true)) m ≡ true
+    go true e q r = let me : m ≡ d = eqb-true m d e in marked_more ds (slice_set t d true) m (subst (λ x. marked_at (slice_set t x true) m ≡ true) me (set_here t m l))
+    go false e q r = r q
+
+pub marked_only : (ds : List ℕ) (t : List Bool) (m : ℕ) → marked_at (with_marks ds t) m ≡ true → (marked_at t m ≡ true) ⊎ (is_in m ds ≡ true)
+marked_only [] t m h = inl h
+marked_only (d ∷ ds) t m h = elim (marked_only ds (slice_set t d true) m h) [
+  | inr there ↦ inr (later (m == d) (is_in m ds) there)
+  | inl was ↦ elim (set_only t d m was) [ inl a ↦ inl a | inr e ↦ inr (let q : (m == d) ≡ true = eq-eqb m d e in rw q refl) ]
+]
+  where
+    later : (a b : Bool) → b ≡ true → (a || b) ≡ true
+    later true b q = refl
+    later false b q = q
+
+pub pushed_new : (ds : List ℕ) (t : List Bool) (m : ℕ) → is_in m (newly_marked ds t) ≡ true → (is_in m ds ≡ true) × (marked_at t m ≡ false)
+pushed_new [] t m h = cc
+pushed_new (d ∷ ds) t m h = go (marked_at t d) refl h (pushed_new ds t m) (pushed_new ds (slice_set t d true) m)
+  where
+    later : (a b : Bool) → b ≡ true → (a || b) ≡ true
+    later true b q = refl
+    later false b q = q
+
+    go : (b : Bool) → marked_at t d ≡ b → is_in m (cond b (newly_marked ds t) (d ∷ newly_marked ds (slice_set t d true))) ≡ true → (is_in m (newly_marked ds t) ≡ true → (is_in m ds ≡ true) × (marked_at t m ≡ false)) →
+        (is_in m (newly_marked ds (slice_set t d true)) ≡ true → (is_in m ds ≡ true) × (marked_at (slice_set t d true) m ≡ false)) → (is_in m (d ∷ ds) ≡ true) × (marked_at t m ≡ false)
+    go true e q f g = let r : (is_in m ds ≡ true) × (marked_at t m ≡ false) = f q in (later (m == d) (is_in m ds) r.0, r.1)
+    go false e q f g = by (m == d) refl q
+      where
+        by : (b : Bool) → (m == d) ≡ b → (b || is_in m (newly_marked ds (slice_set t d true))) ≡ true → ((b || is_in m ds) ≡ true) × (marked_at t m ≡ false)
+        by true f' z = (refl, ap (marked_at t) (eqb-true m d f') ∙ e)
+        by false f' z =
+            let r : (is_in m ds ≡ true) × (marked_at (slice_set t d true) m ≡ false) = g z in
+            (r.0, elim (tested (marked_at t m)) [ inr no' ↦ no' | inl is_on ↦ cc (sym (set_more t d m is_on) ∙ r.1) ])
+
+pub pushed_all : (ds : List ℕ) (t : List Bool) (m : ℕ) → is_in m ds ≡ true → marked_at t m ≡ false → is_in m (newly_marked ds t) ≡ true
+pushed_all [] t m h n = cc
+pushed_all (d ∷ ds) t m h n = go (marked_at t d) refl (λ z. pushed_all ds t m z n) (λ z q. pushed_all ds (slice_set t d true) m z q)
+  where
+    go : (b : Bool) → marked_at t d ≡ b → (is_in m ds ≡ true → is_in m (newly_marked ds t) ≡ true) → (is_in m ds ≡ true → marked_at (slice_set t d true) m ≡ false → is_in m (newly_marked ds (slice_set t d true)) ≡ true) →
+        is_in m (cond b (newly_marked ds t) (d ∷ newly_marked ds (slice_set t d true))) ≡ true
+    go true e f g = by (m == d) refl h
+      where
+        by : (b : Bool) → (m == d) ≡ b → (b || is_in m ds) ≡ true → is_in m (newly_marked ds t) ≡ true
+        by true f' z = cc (sym (ap (marked_at t) (eqb-true m d f') ∙ e) ∙ n)
+        by false f' z = f z
+    go false e f g = by (m == d) refl h
+      where
+        by : (b : Bool) → (m == d) ≡ b → (b || is_in m ds) ≡ true → (b || is_in m (newly_marked ds (slice_set t d true))) ≡ true
+        by true f' z = refl
+        by false f' z = g z (elim (tested (marked_at (slice_set t d true) m)) [
+          | inr no' ↦ no'
+          | inl is_on ↦ elim (set_only t d m is_on) [ inl a ↦ cc (sym a ∙ n) | inr q ↦ cc (sym (eq-eqb m d q) ∙ f') ]
+        ])
+
+-- ---- lists of the code
+
+pub get_is : (t : List Bool) (d : ℕ) → get_or t d false ≡ marked_at t d
+get_is [] d = refl
+get_is (x ∷ xs) zero = refl
+get_is (x ∷ xs) (suc d) = get_is xs d
+
+drop_suc : (xs : List ℕ) (i : ℕ) → i < length xs → drop i xs ≡ get_or xs i 0 ∷ drop (suc i) xs
+drop_suc [] i h = absurd (omega arith)
+drop_suc (x ∷ xs) zero h = refl
+drop_suc (x ∷ xs) (suc i) h = let l : i < length xs = omega arith in drop_suc xs i l
+
+pub drop_here : (xs : List ℕ) (i : ℕ) → i < length xs → drop i xs ≡ get_or xs i 0 ∷ drop (i + 1) xs
+drop_here xs i h = let e : suc i ≡ i + 1 = omega arith in drop_suc xs i h ∙ ap (λ j. get_or xs i 0 ∷ drop j xs) e
+
+pub here_within : (xs : List ℕ) (i n : ℕ) → i < length xs → All (λ d. d < n) (drop i xs) → get_or xs i 0 < n
+here_within xs i n l h =
+    let e : drop i xs ≡ get_or xs i 0 ∷ drop (i + 1) xs = drop_here xs i l in
+    let z : 0 < suc (length (drop (i + 1) xs)) = omega arith in
+    subst (λ (ys : List ℕ). get_or ys 0 0 < n) e (h 0 0 (subst (λ (ys : List ℕ). 0 < length ys) (sym e) z))
+
+pub rest_within : (xs : List ℕ) (i n m : ℕ) → i < length xs → n ≡ m → All (λ d. d < n) (drop i xs) → All (λ d. d < m) (drop (i + 1) xs)
+rest_within xs i n m l q h = λ k d lt.
+    let e : drop i xs ≡ get_or xs i 0 ∷ drop (i + 1) xs = drop_here xs i l in
+    let z : suc k < suc (length (drop (i + 1) xs)) = omega (arith, lt) in
+    subst (λ y. get_or (drop (i + 1) xs) k d < y) q (subst (λ (ys : List ℕ). get_or ys (suc k) d < n) e (h (suc k) d (subst (λ (ys : List ℕ). suc k < length ys) (sym e) z)))
+
+pub step_seen : (rs : List ℕ) (i : ℕ) (t : List Bool) → i < length rs → marked_at t (get_or rs i 0) ≡ true → (with_marks (drop (i + 1) rs) t ≡ with_marks (drop i rs) t) × (newly_marked (drop (i + 1) rs) t ≡ newly_marked (drop i rs) t)
+step_seen rs i t l h =
+    let e : drop i rs ≡ get_or rs i 0 ∷ drop (i + 1) rs = drop_here rs i l in (
+      ap (with_marks (drop (i + 1) rs)) (sym (set_same t (get_or rs i 0) h)) ∙ sym (ap (λ ds. with_marks ds t) e),
+      sym (ap (λ ds. newly_marked ds t) e ∙ ap (λ b. cond b (newly_marked (drop (i + 1) rs) t) (get_or rs i 0 ∷ newly_marked (drop (i + 1) rs) (slice_set t (get_or rs i 0) true))) h),
+    )
+
+pub step_new : (rs : List ℕ) (i : ℕ) (t : List Bool) → i < length rs → marked_at t (get_or rs i 0) ≡ false →
+    (with_marks (drop (i + 1) rs) (slice_set t (get_or rs i 0) true) ≡ with_marks (drop i rs) t) × (get_or rs i 0 ∷ newly_marked (drop (i + 1) rs) (slice_set t (get_or rs i 0) true) ≡ newly_marked (drop i rs) t)
+step_new rs i t l h =
+    let e : drop i rs ≡ get_or rs i 0 ∷ drop (i + 1) rs = drop_here rs i l in (
+      sym (ap (λ ds. with_marks ds t) e),
+      sym (ap (λ ds. newly_marked ds t) e ∙ ap (λ b. cond b (newly_marked (drop (i + 1) rs) t) (get_or rs i 0 ∷ newly_marked (drop (i + 1) rs) (slice_set t (get_or rs i 0) true))) h),
+    )
+
+pub deps_at : {S : Type 0} (dss : List (IndexSet ℕ S)) (i : ℕ) (v : IndexSet ℕ S) → i < length dss → v ≡ get_or dss i v → dependants_at (keys_of dss) i ≡ v.keys
+deps_at [] i v l e = absurd (omega arith)
+deps_at (d ∷ dss) zero v l e = ap (λ (x : IndexSet ℕ _). x.keys) (sym e)
+deps_at (d ∷ dss) (suc i) v l e = let k : i < length dss = omega arith in deps_at dss i v k e
+
+pub in_all : (ds : List ℕ) (n m : ℕ) → All (λ d. d < n) ds → is_in m ds ≡ true → m < n
+in_all [] n m h on = cc
+in_all (d ∷ ds) n m h on = go (m == d) refl on (in_all ds n m (λ k e l. h (suc k) e (omega (arith, l))))
+  where
+    go : (b : Bool) → (m == d) ≡ b → (b || is_in m ds) ≡ true → (is_in m ds ≡ true → m < n) → m < n
+    go true e q r = let z : 0 < suc (length ds) = omega arith in subst (λ x. x < n) (sym (eqb-true m d e)) (h 0 0 z)
+    go false e q r = r q
+
+pub within_all : {S : Type 0} (dss : List (IndexSet ℕ S)) (n : ℕ) → All (λ (v : IndexSet ℕ S). All (λ d. d < n) v.keys) dss → (p m : ℕ) → is_in m (dependants_at (keys_of dss) p) ≡ true → m < n
+within_all [] n h p m on = cc
+within_all (d ∷ dss) n h zero m on = let z : 0 < suc (length dss) = omega arith in in_all d.keys n m (h 0 d z) on
+within_all (d ∷ dss) n h (suc p) m on = within_all dss n (λ k e l. h (suc k) e (omega (arith, l))) p m on
+
+pub reached_within : (deps : List (List ℕ)) (t0 : List Bool) (len : ℕ) → ((p m : ℕ) → is_in m (dependants_at deps p) ≡ true → m < len) → {n m : ℕ} → Reached deps t0 n m → m < len
+reached_within deps t0 len h {n} {m} (first on off) = h n m on
+reached_within deps t0 len h {n} {m} (next {p = p} r on off) = h p m on
+
+-- ---- the invariant
+
+abbrev pub AllMarked : List Bool → List ℕ → Type 0
+AllMarked t ds = (m : ℕ) → is_in m ds ≡ true → marked_at t m ≡ true
+
+pub record Spreading (deps : List (List ℕ)) (t0 : List Bool) (n : ℕ) (t : List Bool) (S : List ℕ) : Type 0 where
+  pub len : length t ≡ length t0
+  pub more : (m : ℕ) → marked_at t0 m ≡ true → marked_at t m ≡ true
+  pub only : (m : ℕ) → marked_at t m ≡ true → (marked_at t0 m ≡ true) ⊎ Reached deps t0 n m
+  pub stack : (x : ℕ) → is_in x S ≡ true → Reached deps t0 n x
+  pub done : (p : ℕ) → (p ≡ n) ⊎ ((marked_at t p ≡ true) × (marked_at t0 p ≡ false)) → (is_in p S ≡ true) ⊎ AllMarked t (dependants_at deps p)
+
+is_in_append : (m : ℕ) (xs ys : List ℕ) → is_in m (xs ++ ys) ≡ (is_in m xs || is_in m ys)
+is_in_append m [] ys = refl
+is_in_append m (x ∷ xs) ys = ap (λ b. m == x || b) (is_in_append m xs ys) ∙ shift (m == x) (is_in m xs) (is_in m ys)
+  where
+    shift : (a b c : Bool) → (a || (b || c)) ≡ ((a || b) || c)
+    shift true b c = refl
+    shift false b c = refl
+
+either : (a b : Bool) → (a || b) ≡ true → (a ≡ true) ⊎ (b ≡ true)
+either true b h = inl refl
+either false b h = inr h
+
+or_left : (a b : Bool) → a ≡ true → (a || b) ≡ true
+or_left a b h = rw h refl
+
+or_right : (a b : Bool) → b ≡ true → (a || b) ≡ true
+or_right true b h = refl
+or_right false b h = h
+
+pub end_in : (m : ℕ) (xs : List ℕ) → is_in m (xs ++ m ∷ []) ≡ true
+end_in m xs = is_in_append m xs (m ∷ []) ∙ or_right (is_in m xs) (is_in m (m ∷ [])) (or_left (m == m) false (eq-eqb m m refl))
+
+abbrev Within : List (List ℕ) → ℕ → Type 0
+Within deps len = (p m : ℕ) → is_in m (dependants_at deps p) ≡ true → m < len
+
+-- one turn: x's dependants are with_marks and newly_marked
+turned : (deps : List (List ℕ)) (t0 : List Bool) (n : ℕ) (t : List Bool) (S S' : List ℕ) (x : ℕ) → Within deps (length t0) → Spreading deps t0 n t S → ((p : ℕ) → is_in p S ≡ true → (is_in p S' ≡ true) ⊎ (p ≡ x)) → ((p : ℕ) → is_in p S' ≡ true → is_in p S ≡ true) →
+    (x ≡ n) ⊎ Reached deps t0 n x → Spreading deps t0 n (with_marks (dependants_at deps x) t) (S' ++ newly_marked (dependants_at deps x) t)
+turned deps t0 n t S S' x within i split sub from =
+    let ds : List ℕ = dependants_at deps x in
+    let reach : (m : ℕ) → is_in m ds ≡ true → marked_at t0 m ≡ false → Reached deps t0 n m = λ m on off. elim from [ inl e ↦ first (ap (λ y. is_in m (dependants_at deps y)) (sym e) ∙ on) off | inr r ↦ next r on off ] in
+    record {
+      len = marked_length ds t ∙ i.len;
+      more = λ m h. marked_more ds t m (i.more m h);
+      only = λ m h. elim (marked_only ds t m h) [
+        | inl was ↦ i.only m was
+        | inr on ↦ elim (tested (marked_at t0 m)) [ inl a ↦ inl a | inr off ↦ inr (reach m on off) ]
+      ];
+      stack = λ y h. elim (either (is_in y S') (is_in y (newly_marked ds t)) (sym (is_in_append y S' (newly_marked ds t)) ∙ h)) [
+        | inl old ↦ i.stack y (sub y old)
+        | inr new ↦
+            let q : (is_in y ds ≡ true) × (marked_at t y ≡ false) = pushed_new ds t y new in
+            elim (tested (marked_at t0 y)) [ inl a ↦ cc (sym (i.more y a) ∙ q.1) | inr off ↦ reach y q.0 off ]
+      ];
+      done = λ p h.
+          let old : (p ≡ n) ⊎ ((marked_at t p ≡ true) × (marked_at t0 p ≡ false)) → (is_in p (S' ++ newly_marked ds t) ≡ true) ⊎ AllMarked (with_marks ds t) (dependants_at deps p) = λ g. elim (i.done p g) [
+            | inl on ↦ elim (split p on) [
+              | inl keep ↦ inl (is_in_append p S' (newly_marked ds t) ∙ or_left (is_in p S') (is_in p (newly_marked ds t)) keep)
+              | inr e ↦ inr (λ m q.
+                  let on : is_in m ds ≡ true = ap (λ y. is_in m (dependants_at deps y)) (sym e) ∙ q in
+                  let l : m < length t = subst (λ z. m < z) (sym i.len) (within x m on) in
+                  marked_in ds t m l on)
+            ]
+            | inr all ↦ inr (λ m q. marked_more ds t m (all m q))
+          ] in
+          elim h [
+            | inl e ↦ old (inl e)
+            | inr g ↦ elim (tested (marked_at t p)) [
+              | inl was ↦ old (inr (was, g.1))
+              | inr off ↦ elim (marked_only ds t p g.0) [
+                | inl was ↦ cc (sym was ∙ off)
+                | inr on ↦ inl (is_in_append p S' (newly_marked ds t) ∙ or_right (is_in p S') (is_in p (newly_marked ds t)) (pushed_all ds t p on off))
+              ]
+            ]
+          ];
+    }
+
+-- the first turn, of the signal itself, over an empty stack
+pub begun : (deps : List (List ℕ)) (t0 : List Bool) (n : ℕ) → Within deps (length t0) → Spreading deps t0 n (with_marks (dependants_at deps n) t0) ([] ++ newly_marked (dependants_at deps n) t0)
+begun deps t0 n within =
+    let ds : List ℕ = dependants_at deps n in
+    record {
+      len = marked_length ds t0;
+      more = λ m h. marked_more ds t0 m h;
+      only = λ m h. elim (marked_only ds t0 m h) [
+        | inl was ↦ inl was
+        | inr on ↦ elim (tested (marked_at t0 m)) [ inl a ↦ inl a | inr off ↦ inr (first on off) ]
+      ];
+      stack = λ y h. let q : (is_in y ds ≡ true) × (marked_at t0 y ≡ false) = pushed_new ds t0 y h in first q.0 q.1;
+      done = λ p h. elim h [
+        | inl e ↦ inr (λ m q.
+            let on : is_in m ds ≡ true = ap (λ y. is_in m (dependants_at deps y)) (sym e) ∙ q in
+            marked_in ds t0 m (within n m on) on)
+        | inr g ↦ elim (marked_only ds t0 p g.0) [
+          | inl was ↦ cc (sym was ∙ g.1)
+          | inr on ↦ inl (pushed_all ds t0 p on g.1)
+        ]
+      ];
+    }
+
+pub went_on : (deps : List (List ℕ)) (t0 : List Bool) (n : ℕ) (t : List Bool) (S' : List ℕ) (x : ℕ) → Within deps (length t0) → Spreading deps t0 n t (S' ++ x ∷ []) → Spreading deps t0 n (with_marks (dependants_at deps x) t) (S' ++ newly_marked (dependants_at deps x) t)
+went_on deps t0 n t S' x within i =
+    turned deps t0 n t (S' ++ x ∷ []) S' x within i
+    (λ p on. elim (either (is_in p S') (is_in p (x ∷ [])) (sym (is_in_append p S' (x ∷ [])) ∙ on)) [ inl a ↦ inl a | inr b ↦ elim (either (p == x) false b) [ inl c ↦ inr (eqb-true p x c) | inr c ↦ cc ] ])
+    (λ p on. is_in_append p S' (x ∷ []) ∙ or_left (is_in p S') (is_in p (x ∷ [])) on)
+    (inr (i.stack x (is_in_append x S' (x ∷ []) ∙ or_right (is_in x S') (is_in x (x ∷ [])) (or_left (x == x) false (eq-eqb x x refl)))))
+
+-- in the end all that is reached is with_marks
+reached_marked : (deps : List (List ℕ)) (t0 : List Bool) (n : ℕ) (t : List Bool) → Spreading deps t0 n t [] → {a m : ℕ} → Reached deps t0 a m → a ≡ n → marked_at t m ≡ true
+reached_marked deps t0 n t i {a} {m} (first on off) e = elim (i.done a (inl e)) [ inl z ↦ cc | inr all ↦ all m on ]
+reached_marked deps t0 n t i {a} {m} (next {p = p} r on off) e = elim (i.done p (inr (reached_marked deps t0 n t i r e, unmarked_before r))) [ inl z ↦ cc | inr all ↦ all m on ]
+  where
+    unmarked_before : {x y : ℕ} → Reached deps t0 x y → marked_at t0 y ≡ false
+    unmarked_before (first f g) = g
+    unmarked_before (next q f g) = g
+
+pub ended : (deps : List (List ℕ)) (t0 : List Bool) (n : ℕ) (t : List Bool) → Spreading deps t0 n t [] → Spreads deps t0 t n
+ended deps t0 n t i = record {
+  len = i.len;
+  more = i.more;
+  start = λ d on. elim (tested (marked_at t0 d)) [ inl a ↦ i.more d a | inr off ↦ reached_marked deps t0 n t i (first on off) refl ];
+  on = λ m d off on' q. elim (tested (marked_at t0 d)) [
+    | inl a ↦ i.more d a
+    | inr no' ↦ elim (i.only m on') [ inl was ↦ cc (sym was ∙ off) | inr r ↦ reached_marked deps t0 n t i (next r q no') refl ]
+  ];
+  only = i.only;
+}
+
+-- a mark as it is read
+pub mark_read : (t : List Bool) (n i : ℕ) (b : Bool) → i ≡ n → n < length t → b ≡ get_or t i b → b ≡ marked_at t n
+mark_read t n i b e l h = h ∙ ap (λ j. get_or t j b) e ∙ go t n l
+  where
+    go : (ts : List Bool) (m : ℕ) → m < length ts → get_or ts m b ≡ marked_at ts m
+    go [] m k = absurd (omega arith)
+    go (x ∷ xs) zero k = refl
+    go (x ∷ xs) (suc m) k = let j : m < length xs = omega arith in go xs m j
+
+pub mark_past : (t : List Bool) (n : ℕ) → length t ≤ n → false ≡ marked_at t n
+mark_past [] n l = refl
+mark_past (x ∷ xs) zero l = absurd (omega arith)
+mark_past (x ∷ xs) (suc n) l = let k : length xs ≤ n = omega arith in mark_past xs n k
