@@ -6,7 +6,8 @@ use Rattle.signal_model.specs.Memos.{Source, Memo, Memos, memo_of, sources_in, s
 use Rattle.signal_model.specs.Marks.{Clean, Checked, Dirty, IsBelow, IsMark, kept, kept_below, is_due, some_source, due_below, mark_of}
 use Rattle.signal_model.proofs.Shared.{mark_law, tested}
 use Rattle.signal_model.specs.Kept.{OnlyComputedsKeep}
-use Rattle.mark_laws.specs.Marked.{IsUnmarked, AreUnmarked, IsExplored, without_marks, due_by_marks, mark_by_marks}
+use Rattle.mark_laws.specs.Marked.{AreMarked, AreUnmarked, HasSpread, IsExplored, IsUnmarked, due_by_marks, mark_by_marks, without_marks}
+use Rattle.mark_laws.proofs.Spreading.{computed_stands}
 use Rattle.signal_laws.proofs.Shared.{Calm, calm_of}
 use Rattle.mark_laws.specs.MarkLaws.{PruneLaw, UnmarkedLaw, UnmarkLaw, SearchedLaw, LookLaw, ExploredLaw}
 
@@ -155,6 +156,22 @@ keeper w k p m owners h = go (memo_of k p) refl h
 below_keeper : (w : Signals) (k : Memos) (p m : ℕ) → OnlyComputedsKeep w k → IsBelow k p m → is_computed (standing w p) ≡ true
 below_keeper w k p m owners (kept on) = keeper w k p m owners on
 below_keeper w k p m owners (kept_below {p = q} on rest) = keeper w k p q owners on
+
+-- where n is marked already, so are its dependants
+pub marked_spread : (w : Signals) (k : Memos) (dependants : ℕ → ℕ → Bool) (t computing : ℕ → Bool) (n : ℕ) → AreMarked w k dependants t computing → is_computed (standing w n) ≡ true → t n ≡ true →
+    HasSpread w dependants t t n
+marked_spread w k dependants t computing n marks kind on = record {
+  more = λ m q. q;
+  start = λ d q. go d q (tested (t d));
+  on = λ m d c off now q. absurd (true≢false (sym now ∙ off));
+}
+  where
+    go : (d : ℕ) → dependants n d ≡ true → (t d ≡ true) ⊎ (t d ≡ false) → t d ≡ true
+    go d q (inl is_on) = is_on
+    go d q (inr off) =
+        let has : keeps k d n ≡ true = sym (marks.links n d (computed_stands (standing w n) kind)) ∙ q in
+        let x : IsUnmarked w k t d = marks.clean d (keeper w k d n marks.owners has) off in
+        absurd (true≢false (sym on ∙ x.sources n (sym (ap (λ z. is_in n (source_names (sources_in z))) x.at) ∙ has) kind))
 
 -- a name that is marked only where it was gone through isn't due
 not_due : (w : Signals) (k : Memos) (t seen : ℕ → Bool) (n m : ℕ) → AreUnmarked w k t → OnlyComputedsKeep w k → IsExplored w k t seen n →

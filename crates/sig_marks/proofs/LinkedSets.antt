@@ -295,7 +295,7 @@ pub OnOk-map : {A E P Q : Type 0} (r : Result A E) → (P → Q) → OnOk r P �
 OnOk-map (Ok x) f h = f h
 OnOk-map (Err e) f h = tt
 
-all_in : (ds : List ℕ) (n : ℕ) → ((d : ℕ) → is_in d ds ≡ true → d < n) → All (λ d. d < n) ds
+pub all_in : (ds : List ℕ) (n : ℕ) → ((d : ℕ) → is_in d ds ≡ true → d < n) → All (λ d. d < n) ds
 all_in [] n h = λ k e l. absurd (omega arith)
 all_in (d ∷ ds) n h = λ k e l. go k e l (all_in ds n (λ x q. h x (later (x == d) (is_in x ds) q)))
   where

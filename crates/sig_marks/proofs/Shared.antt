@@ -3,6 +3,7 @@ use Rattle.std.proofs.Common.{◌≡◌, ℕ, zero, suc, ◌<◌, ◌≤◌, ◌
 use Rattle.std.specs.Prelude.{slice_set}
 use Rattle.sig_marks.specs.Tables.{depends, marked_at}
 use Rattle.sig_marks.proofs.LinkedSets.{suc_suc, suc_zero, zero_suc}
+pub use Rattle.sig_marks.proofs.LinkedSets.{all_in}
 pub use Rattle.sig_marks.proofs.PushedMarks.{mark_past}
 
 -- one mark is set or taken

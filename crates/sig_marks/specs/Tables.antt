@@ -56,6 +56,10 @@ pub record Spreads (dss : List (List ℕ)) (t u : List Bool) (n : ℕ) : Type 0 
   pub on : (m d : ℕ) → marked_at t m ≡ false → marked_at u m ≡ true → depends dss m d ≡ true → marked_at u d ≡ true
   pub only : (m : ℕ) → marked_at u m ≡ true → (marked_at t m ≡ true) ⊎ Reached dss t n m
 
+-- n is marked, and then its dependants are; where n was marked already nothing changes
+abbrev pub Pushes : List (List ℕ) → List Bool → List Bool → ℕ → Type 0
+Pushes dss t u n = ((marked_at t n ≡ true) × (u ≡ t)) ⊎ Spreads dss (slice_set t n true) u n
+
 -- What holds of a table and of the stack by which marks are pushed: each place has both, dependants are places, and the stack has room for all.
 pub record IsMarkTable (t : MarkTable) (stack : List ℕ) (capacity : ℕ) : Type 0 where
   pub sizes : length t.dependants ≡ length t.marked

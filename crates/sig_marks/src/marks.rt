@@ -1,7 +1,7 @@
 // The dependants and the marks of a store's signals.
 ghost use Rattle.std.specs.Prelude.{◌≡◌, ◌<◌, [], length, true, false, vec_len, vec_capacity, ◌++◌, ◌∷◌, OnOk, OnErr};
 ghost use Rattle.std.specs.List.{All};
-ghost use Rattle.sig_marks.specs.Tables.{marked_at, with_mark, with_place, Drops, Relinks, Spreads};
+ghost use Rattle.sig_marks.specs.Tables.{marked_at, with_mark, with_place, Drops, Pushes, Relinks, Spreads};
 
 use crate::linking::{drop_links, relink};
 use crate::pushing::spread;
@@ -89,8 +89,8 @@ impl Marks {
         }
     }
 
-    /// Marks one signal.
-    pub fn mark(&mut self, id: NodeId)
+    // Marks one signal.
+    fn mark(&mut self, id: NodeId)
         requires { id < length self.old.marked }
         ensures { self.new ≡ with_mark self.old id true }
     {
@@ -120,6 +120,19 @@ impl Marks {
             &mut self.stack,
             id.number() as usize,
         );
+    }
+
+    /// Marks a signal, and then its dependants, theirs, and so on; where it is marked already nothing changes. It takes no memory.
+    pub fn push(&mut self, id: NodeId)
+        requires { id < length self.old.marked }
+        ensures marks { Pushes self.old.dependants self.old.marked self.new.marked id }
+        ensures dependants { self.new.dependants ≡ self.old.dependants }
+    {
+        if self.is_marked(id) {
+            return;
+        }
+        self.mark(id);
+        self.spread(id);
     }
 
     /// Gives a reader these sources in place of the earlier ones. Without memory all is as before.
