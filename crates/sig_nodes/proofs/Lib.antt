@@ -8,3 +8,5 @@ pub mod Searching
 pub mod Using
 pub mod Shared
 mod Found
+mod MarkedStates
+mod KeptMarks

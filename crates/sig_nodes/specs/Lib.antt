@@ -1,4 +1,5 @@
 pub mod States
+pub mod StateMarks
 pub mod Answers
 pub mod Computations
 pub mod Nodes

@@ -4,9 +4,11 @@ use Rattle.sig_base.specs.declared.limits.TheConstants.{MOST_NODES}
 use Rattle.signal_model.specs.Standing.{is_in}
 use Rattle.signal_model.specs.Memos.{source_names, sources_in}
 use Rattle.sig_nodes.specs.declared.node.Node.{Node}
-use Rattle.sig_nodes.specs.Nodes.{cells_of, computeds_of, body_at, change_at, seat_at, is_live_body, memo_body, slots_body, FewSlotsBody}
+use Rattle.sig_nodes.specs.Nodes.{cells_of, computeds_of, body_at, change_at, seat_at, is_live_body, memo_body, slots_body, state_of, FewSlotsBody}
 use Rattle.sig_nodes.specs.Seats.{Seating, holder}
 use Rattle.sig_nodes.specs.States.{State, Seen}
+use Rattle.sig_nodes.specs.StateMarks.{AreStateMarks}
+use Rattle.sig_marks.specs.Tables.{MarkTable, depends, marked_at}
 
 -- No counter is above the last number; slots and kept sources are of ids that were given; host formulas have few arguments; each live
 -- signal has its own seat, and what has a seat lives.
@@ -21,6 +23,17 @@ pub record Holds (nodes : List Node) (seats : Seating) (generation worn : ℕ) :
   pub living : (s n : ℕ) → holder seats.holders s ≡ Some n → (is_live_body (body_at nodes n) ≡ true) × (seat_at nodes n ≡ s)
   pub room : length (cells_of nodes) + length (computeds_of nodes) + seats.free ≡ MOST_NODES
   pub size : length seats.holders ≡ MOST_NODES
+
+-- each node has dependants and a mark, and these are true of the state
+pub record KeepsMarks (nodes : List Node) (generation : ℕ) (t : MarkTable) : Type 0 where
+  pub links : length t.dependants ≡ length nodes
+  pub flags : length t.marked ≡ length nodes
+  pub marked : AreStateMarks (state_of nodes generation 0 0) (depends t.dependants) (marked_at t.marked)
+
+-- both hold
+pub record IsGraph (nodes : List Node) (seats : Seating) (generation worn : ℕ) (t : MarkTable) : Type 0 where
+  pub fields : Holds nodes seats generation worn
+  pub marks : KeepsMarks nodes generation t
 
 -- what callers see of a state, its seats and the number of ids that were given
 abbrev pub seen : State → List (Option ℕ) → ℕ → Seen

@@ -1,7 +1,8 @@
 -- The search for a computed that must run, along kept sources.
-use Rattle.std.specs.Prelude.{◌≡◌, ℕ, zero, suc, ◌+◌, ◌<◌, ◌≤◌, ◌⊎◌, Bool, true, false, List, [], ◌∷◌, length, if◌then◌else◌}
+use Rattle.std.specs.Prelude.{◌≡◌, ℕ, zero, suc, ◌+◌, ◌<◌, ◌≤◌, ◌⊎◌, ◌||◌, ◌&&◌, not, Bool, true, false, List, [], ◌∷◌, Option, length, if◌then◌else◌}
 use Rattle.signal_model.specs.Standing.{is_in}
-use Rattle.signal_model.specs.Memos.{keeps}
+use Rattle.signal_model.specs.Memos.{Memo, keeps, memo_is_cycle, must_run_by, source_names, sources_in}
+use Rattle.sig_marks.specs.Tables.{marked_at}
 use Rattle.signal_model.specs.Marks.{HasBelow, is_due}
 use Rattle.sig_nodes.specs.declared.node.Node.{Node}
 use Rattle.sig_nodes.specs.Nodes.{body_at, is_computed_body, memos_of, seat_at, signals_of}
@@ -24,6 +25,15 @@ is_due_at xs g n = is_due (signals_of xs) (memos_of g xs) n
 -- a name, or one that is kept below it, must run
 abbrev pub HasDue : List Node → ℕ → ℕ → Type 0
 HasDue xs g n = (is_due_at xs g n ≡ true) ⊎ HasBelow (is_due_at xs g) (memos_of g xs) n
+
+-- whether a marked computed stands at one of these places
+abbrev pub some_marked_at : List Node → List Bool → List ℕ → Bool
+some_marked_at xs t [] = false
+some_marked_at xs t (n ∷ ns) = (is_computed_body (body_at xs n) && marked_at t n) || some_marked_at xs t ns
+
+-- whether an evaluation that ends without a run takes the mark of a computed with this memo
+abbrev pub stop_unmarks_by : List Node → ℕ → List Bool → Option Memo → Bool
+stop_unmarks_by xs g t m = not (must_run_by (memos_of g xs) m []) && (not (memo_is_cycle m) && not (some_marked_at xs t (source_names (sources_in m))))
 
 -- each computed has its own flag among so many
 pub record AreSeated (xs : List Node) (count : ℕ) : Type 0 where

@@ -37,6 +37,16 @@ pub(crate) fn computation_at(nodes: &[Node], id: NodeId) -> Option<&Computation>
     }
 }
 
+/// Whether a computed lives in a body.
+pub(crate) fn is_computed(body: &Body) -> bool
+    ensures { result ≡ is_computed_body body.now }
+{
+    match body {
+        Body::Computed(_) => true,
+        _ => false,
+    }
+}
+
 /// The seat of a live signal.
 pub(crate) fn seat_at(nodes: &[Node], id: NodeId) -> usize
     requires { id < length nodes.now }

@@ -7,8 +7,9 @@ ghost use Rattle.sig_nodes.specs.Answers.{has_moved, slots_here, IsAnswerHere, I
 ghost use Rattle.sig_nodes.specs.States.{counted, is_computing, is_given, progress_at, with_kept_run, with_look, with_progress, Becomes, CanWear, GoesOn};
 
 use crate::answers::Asked;
-use crate::bodies::{answer_at, is_stale_at, moved_at, numbers_now};
+use crate::bodies::{answer_at, is_stale_at, moved_at, numbers_now, sources_at};
 use crate::graph::Graph;
+use crate::marking::{end_mark, run_unmarks, stop_unmarks};
 use crate::node::Memo;
 use crate::store::{begin_at, end_at, keep_memo_at, note_at};
 use sig_base::{Known, NoMemory, NodeId, Outcome};
@@ -34,6 +35,7 @@ impl Graph {
         ensures seats { self.new.seats ≡ self.old.seats }
     {
         let _count = self.nodes.len();
+        self.marks.push(id);
         begin_at(&mut self.nodes, id);
     }
 
@@ -92,6 +94,9 @@ impl Graph {
     {
         let _count = self.nodes.len();
         let numbers = numbers_now(self.alloc, &self.nodes, &reads)?;
+        self.marks.relink(sources_at(&self.nodes, id), &reads, id)?;
+        let unmarks = run_unmarks(&self.nodes, &self.marks, &outcome, &reads);
+        end_mark(&mut self.marks, id, unmarks);
         self.worn += 1;
         let memo = Memo::new(outcome, reads, numbers, self.generation);
         keep_memo_at(&mut self.nodes, id, memo);
@@ -105,6 +110,8 @@ impl Graph {
         ensures seats { self.new.seats ≡ self.old.seats }
     {
         let _count = self.nodes.len();
+        let unmarks = stop_unmarks(&self.nodes, self.generation, &self.marks, id);
+        end_mark(&mut self.marks, id, unmarks);
         end_at(&mut self.nodes, id);
     }
 }

@@ -10,12 +10,13 @@ ghost use Rattle.sig_nodes.specs.Nodes.{with_new, FewSlotsBody, IsFresh, slots_b
 ghost use Rattle.sig_nodes.specs.States.{are_there, is_cell, is_computing, is_given, no_state, with_disposal, with_new_cell, with_new_computed, with_rewiring, with_set, Becomes, CanWear, Makes};
 
 use crate::answers::Recipe;
-use crate::bodies::{host_at, is_linkable_at, is_live_at, seat_at};
+use crate::bodies::{host_at, is_computed, is_linkable_at, is_live_at, seat_at, sources_at};
 use crate::errors::NodeFault;
 use crate::node::{Body, Computation, Node};
 use crate::seats::{Seats, push_in};
 use crate::store::{dispose_at, rewire_at, set_value_at};
 use sig_base::{MOST_NODES, NoMemory, NodeId, Value};
+use sig_marks::Marks;
 use std::alloc::Global;
 use std::marker::Model;
 
@@ -27,6 +28,7 @@ pub struct Graph {
     pub(crate) generation: u128,
     pub(crate) looked: u128,
     pub(crate) worn: u128,
+    pub(crate) marks: Marks,
 }
 
 impl Drop for Graph {
@@ -38,6 +40,7 @@ impl Drop for Graph {
             generation: _,
             looked: _,
             worn: _,
+            marks: _,
         } = self;
     }
 }
@@ -53,11 +56,11 @@ impl Model for Graph {
     ghost coded = { Prim.hlevel (codes, tree_code) };
 
     ghost use Rattle.sig_nodes.specs.Nodes.{state_of};
-    ghost use Rattle.sig_nodes.specs.Places.{seen, Holds};
+    ghost use Rattle.sig_nodes.specs.Places.{seen, IsGraph};
 
     ghost view = { λ g. seen (state_of g.nodes.items g.generation g.looked g.worn) g.seats.holders (length g.nodes.items) };
 
-    ghost invariant = { λ g. Holds g.nodes.items g.seats g.generation g.worn };
+    ghost invariant = { λ g. IsGraph g.nodes.items g.seats g.generation g.worn g.marks };
 }
 
 impl Graph {
@@ -73,6 +76,7 @@ impl Graph {
             generation: 0,
             looked: 0,
             worn: 0,
+            marks: Marks::new(alloc),
         })
     }
 
@@ -91,6 +95,7 @@ impl Graph {
             return Err(NodeFault::Limit);
         }
         self.nodes.reserve(1)?;
+        self.marks.add(is_computed(&body))?;
         let id = NodeId::of(self.nodes.len() as u128);
         let seat = self.seats.take(id);
         let node = Node {
@@ -140,6 +145,7 @@ impl Graph {
         ensures before { value_here (standing self.old.state.signals id) ≡ Some result }
     {
         let _count = self.nodes.len();
+        self.marks.spread(id);
         self.generation += 1;
         self.worn += 1;
         set_value_at(&mut self.nodes, id, value)
@@ -168,6 +174,7 @@ impl Graph {
             return Err(NodeFault::Gone);
         }
         let host = host_at(&self.nodes, id);
+        self.marks.push(id);
         self.generation += 1;
         self.worn += 1;
         rewire_at(&mut self.nodes, id, recipe, slots);
@@ -188,6 +195,8 @@ impl Graph {
             return Err(NodeFault::Gone);
         }
         let host = host_at(&self.nodes, id);
+        self.marks.spread(id);
+        self.marks.take_out(id, sources_at(&self.nodes, id));
         self.seats.leave(id, seat_at(&self.nodes, id));
         dispose_at(&mut self.nodes, id);
         self.generation += 1;

@@ -8,6 +8,7 @@ mod evaluation;
 mod finding;
 mod graph;
 mod looks;
+mod marking;
 mod marks;
 mod node;
 mod seats;

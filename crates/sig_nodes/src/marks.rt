@@ -32,8 +32,8 @@ fn has_moved(nodes: &[Node], computation: &Computation, place: usize) -> bool
     }
 }
 
-// Whether a computed must run, while nothing is evaluated.
-fn must_run(nodes: &[Node], generation: u128, computation: &Computation) -> bool
+/// Whether a computed must run, while nothing is evaluated.
+pub(crate) fn must_run(nodes: &[Node], generation: u128, computation: &Computation) -> bool
     ensures { result ≡ must_run_by (memos_of generation nodes.now) computation.now.memo [] }
 {
     if computation.is_stale(generation) {

@@ -127,7 +127,7 @@ impl Memo {
 }
 
 /// Whether an outcome is the fault `cycle`.
-fn is_cycle(outcome: &Outcome) -> bool
+pub(crate) fn is_cycle(outcome: &Outcome) -> bool
     ensures { result ≡ is_cycle outcome.now }
 {
     match outcome {

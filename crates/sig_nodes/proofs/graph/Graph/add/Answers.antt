@@ -1,8 +1,11 @@
+use Rattle.sig_marks.specs.Tables.{MarkTable, with_place}
+use Rattle.sig_nodes.specs.Nodes.{is_computed_body}
+use Rattle.sig_nodes.proofs.KeptMarks.{new_kept}
 use Rattle.std.proofs.Common.{◌≡◌, ◌+◌, ◌++◌, ◌∷◌, [], List, length, sym, ap, ◌∙◌, subst, arith}
 use Rattle.sig_nodes.specs.declared.node.Node.{Node}
 use Rattle.sig_nodes.specs.States.{Seen}
 use Rattle.sig_nodes.specs.Seats.{Seating}
-use Rattle.sig_nodes.specs.Places.{Holds}
+use Rattle.sig_nodes.specs.Places.{Holds, KeepsMarks}
 use Rattle.sig_nodes.specs.Nodes.{slots_body, state_of}
 use Rattle.std.proofs.Common.{length-append}
 use Rattle.sig_nodes.specs.Nodes.{new_node, with_new}
@@ -22,10 +25,17 @@ invariant_of-self-2 c =
     let below = given_below c.args.self.now (state_of xs c.self.inside.generation c.self.inside.looked c.self.inside.worn) c.self.inside.seats.holders (length xs) (slots_body c.args.body) c.self.view_is c.requires.given in
     let some = c.free.ensures in
     let h = new_holds xs c.take-seat.result c.args.body c.self.inside.seats c.self.inside.generation c.self.inside.worn c.requires.fresh (λ m. in_all (slots_body c.args.body) (length xs) m below) c.requires.few (omega (arith, some))
-    c.take-seat.ensures.inside c.take-seat.ensures.free c.self.invariant in
+    c.take-seat.ensures.inside c.take-seat.ensures.free c.self.invariant.fields in
     let seats = c.take-seat.ensures.seats ∙ ap (with_taken c.self.inside.seats c.take-seat.result) id in
-    subst (λ (t : Seating). Holds c.push_in.new.all.items t c.self.inside.generation (c.self.inside.worn + 1)) (sym seats)
-    (subst (λ (ys : List Node). Holds ys (with_taken c.self.inside.seats c.take-seat.result (length xs)) c.self.inside.generation (c.self.inside.worn + 1)) (sym items) h)
+    let g = c.self.inside.generation in
+    let marks = new_kept xs c.take-seat.result c.args.body g c.self.inside.worn c.self.inside.seats c.self.inside.marks c.requires.fresh c.self.invariant.fields c.self.invariant.marks in
+    let table = c.in_ok-add.ensures.after ∙ ap (with_place c.self.inside.marks) c.is_computed.ensures in
+    record {
+      fields = subst (λ (t : Seating). Holds c.push_in.new.all.items t g (c.self.inside.worn + 1)) (sym seats)
+          (subst (λ (ys : List Node). Holds ys (with_taken c.self.inside.seats c.take-seat.result (length xs)) g (c.self.inside.worn + 1)) (sym items) h);
+      marks = subst (λ (t : MarkTable). KeepsMarks c.push_in.new.all.items g t) (sym table)
+          (subst (λ (ys : List Node). KeepsMarks ys g (with_place c.self.inside.marks (is_computed_body c.args.body))) (sym items) marks);
+    }
 
 pub returns-clause-after : goal.returns-clause-after
 returns-clause-after c =
@@ -42,4 +52,4 @@ returns-clause-after c =
     let len = ap length items ∙ length-append xs (new_node c.take-seat.result c.args.body ∷ []) in
     makes c.args.self.now (state_of ys g l (w + 1)) (with_new c.args.self.now.state c.of-id.result c.args.body) xs c.self.inside.seats c.take-seat.new.self.holders g l w (length ys) c.of-id.result c.self.view_is id len
     (ap (λ zs. state_of zs g l (w + 1)) items ∙ new_state xs c.take-seat.result c.args.body g l w c.requires.fresh ∙ ap (λ n. with_new (state_of xs g l w) n c.args.body) (sym id) ∙ ap (λ (s : Seen). with_new s.state c.of-id.result c.args.body) c.self.view_is)
-    c.self.invariant
+    c.self.invariant.fields

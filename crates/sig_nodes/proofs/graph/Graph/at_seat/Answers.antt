@@ -8,4 +8,4 @@ use Rattle.sig_nodes.proofs.Looking.{holder_lives}
 pub returns-clause-live : goal.returns-clause-live
 returns-clause-live c =
     subst (λ (s : Seen). IfSome c.holder.result (λ id. is_there (standing s.state.signals id) ≡ true)) c.self.view_is
-    (holder_lives c.self.inside.nodes.items c.self.inside.seats c.self.inside.generation c.self.inside.worn c.args.seat c.holder.result c.self.invariant c.holder.ensures)
+    (holder_lives c.self.inside.nodes.items c.self.inside.seats c.self.inside.generation c.self.inside.worn c.args.seat c.holder.result c.self.invariant.fields c.holder.ensures)

@@ -1,9 +1,10 @@
-use Rattle.std.proofs.Common.{[], List, Some, length, sym, ap, ◌∙◌, subst}
+use Rattle.sig_nodes.proofs.KeptMarks.{begun_kept, same_table}
+use Rattle.std.proofs.Common.{◌<◌, [], List, Some, length, sym, ap, ◌∙◌, subst}
 use Rattle.signal_model.specs.Standing.{is_computed, standing}
 use Rattle.sig_nodes.specs.declared.node.Node.{Node}
 use Rattle.sig_nodes.specs.States.{progress_at, Seen, with_progress}
-use Rattle.sig_nodes.specs.Places.{Holds}
-use Rattle.sig_nodes.specs.Nodes.{progress_of, known_node, state_of}
+use Rattle.sig_nodes.specs.Places.{Holds, KeepsMarks}
+use Rattle.sig_nodes.specs.Nodes.{changed_at, progress_of, known_node, state_of}
 use Rattle.sig_nodes.proofs.Edits.{changed_length, known_state}
 use Rattle.sig_nodes.proofs.Holding.{became, computed_below, computed_here, known_holds}
 use Rattle.sig_nodes.proofs.Looking.{begun_here}
@@ -15,10 +16,23 @@ begin_at-requires-clause-place c = let live = computed_here c.self.inside.nodes.
 pub begin_at-requires-clause-live : goal.begin_at-requires-clause-live
 begin_at-requires-clause-live c = computed_here c.self.inside.nodes.items c.args.id (ap (λ (s : Seen). is_computed (standing s.state.signals c.args.id)) c.self.view_is ∙ c.requires.live)
 
+pub push-requires : goal.push-requires
+push-requires c =
+    let live = computed_here c.self.inside.nodes.items c.args.id (ap (λ (s : Seen). is_computed (standing s.state.signals c.args.id)) c.self.view_is ∙ c.requires.live) in
+    subst (λ z. c.args.id < z) (sym c.self.invariant.marks.flags) (computed_below c.self.inside.nodes.items c.args.id live)
+
 pub invariant_of-self : goal.invariant_of-self
 invariant_of-self c =
-    subst (λ (xs : List Node). Holds xs c.self.inside.seats c.self.inside.generation c.self.inside.worn) (sym c.begin_at.ensures)
-    (known_holds (Some []) c.args.id c.self.inside.nodes.items c.self.inside.seats c.self.inside.generation c.self.inside.worn c.self.invariant)
+    let xs = c.self.inside.nodes.items in
+    let g = c.self.inside.generation in
+    let live = computed_here c.self.inside.nodes.items c.args.id (ap (λ (s : Seen). is_computed (standing s.state.signals c.args.id)) c.self.view_is ∙ c.requires.live) in
+    let marks = begun_kept c.args.id xs g c.self.inside.marks c.push.new.self.marked live c.push.ensures.marks c.self.invariant.marks in
+    record {
+      fields = subst (λ (ys : List Node). Holds ys c.self.inside.seats g c.self.inside.worn) (sym c.begin_at.ensures)
+          (known_holds (Some []) c.args.id xs c.self.inside.seats g c.self.inside.worn c.self.invariant.fields);
+      marks = subst (λ (ys : List Node). KeepsMarks ys g c.push.new.self) (sym c.begin_at.ensures)
+          (same_table (changed_at (known_node (Some [])) c.args.id xs) g c.push.new.self c.self.inside.marks.dependants c.push.ensures.dependants marks);
+    }
 
 pub returns-clause-after : goal.returns-clause-after
 returns-clause-after c =

@@ -1,11 +1,14 @@
-use Rattle.std.proofs.Common.{◌+◌, ◌<◌, List, length, refl, sym, ap, ◌∙◌, subst}
+use Rattle.std.specs.List.{All}
+use Rattle.sig_marks.specs.Tables.{Drops, Spreads}
+use Rattle.sig_nodes.proofs.KeptMarks.{gone_kept, kept_names, names_below, same_table}
+use Rattle.std.proofs.Common.{ℕ, Bool, ◌+◌, ◌<◌, List, length, refl, sym, ap, ◌∙◌, subst}
 use Rattle.signal_model.specs.Standing.{is_there, standing}
 use Rattle.sig_nodes.specs.declared.node.Node.{Node}
 use Rattle.sig_nodes.specs.Answers.{host_here}
 use Rattle.sig_nodes.specs.States.{Seen, with_disposal}
 use Rattle.sig_nodes.specs.Seats.{Seating, holder}
-use Rattle.sig_nodes.specs.Places.{Holds}
-use Rattle.sig_nodes.specs.Nodes.{body_at, gone_node, is_live_body, stands_of, state_of}
+use Rattle.sig_nodes.specs.Places.{Holds, KeepsMarks}
+use Rattle.sig_nodes.specs.Nodes.{body_at, changed_at, gone_node, is_live_body, stands_of, state_of}
 use Rattle.sig_nodes.proofs.Parts.{stands}
 use Rattle.sig_nodes.proofs.Edits.{changed_length, gone_state}
 use Rattle.sig_nodes.proofs.Holding.{became, gone_holds, live_below, live_here}
@@ -24,31 +27,59 @@ returns-then-not-is_live_at-clause-gone c =
 pub seat_at-requires : goal.seat_at-requires
 seat_at-requires c =
     let live = sym (c.is_live_at.ensures ∙ ap (λ (xs : List Node). is_live_body (body_at xs c.args.id)) c.deref.ensures.value) ∙ c.if-not-is_live_at.false in
-    subst (λ (xs : List Node). c.args.id < length xs) (sym c.deref-3.ensures.value) (live_below c.self.inside.nodes.items c.args.id live)
+    subst (λ (xs : List Node). c.args.id < length xs) (sym c.deref-4.ensures.value) (live_below c.self.inside.nodes.items c.args.id live)
 
 pub leave-requires-clause-taken : goal.leave-requires-clause-taken
 leave-requires-clause-taken c =
     let live = sym (c.is_live_at.ensures ∙ ap (λ (xs : List Node). is_live_body (body_at xs c.args.id)) c.deref.ensures.value) ∙ c.if-not-is_live_at.false in
-    ap (holder c.self.inside.seats.holders) (c.seat_at.ensures ∙ ap (λ (xs : List Node). seat_at xs c.args.id) c.deref-3.ensures.value) ∙ c.self.invariant.seated c.args.id live
+    ap (holder c.self.inside.seats.holders) (c.seat_at.ensures ∙ ap (λ (xs : List Node). seat_at xs c.args.id) c.deref-4.ensures.value) ∙ c.self.invariant.fields.seated c.args.id live
 
 pub leave-requires-clause-room : goal.leave-requires-clause-room
 leave-requires-clause-room c =
     let live = sym (c.is_live_at.ensures ∙ ap (λ (xs : List Node). is_live_body (body_at xs c.args.id)) c.deref.ensures.value) ∙ c.if-not-is_live_at.false in
-    seats_taken c.self.inside.nodes.items c.self.inside.seats c.self.inside.generation c.self.inside.worn c.args.id live c.self.invariant
+    seats_taken c.self.inside.nodes.items c.self.inside.seats c.self.inside.generation c.self.inside.worn c.args.id live c.self.invariant.fields
 
 pub dispose_at-requires : goal.dispose_at-requires
 dispose_at-requires c =
     let live = sym (c.is_live_at.ensures ∙ ap (λ (xs : List Node). is_live_body (body_at xs c.args.id)) c.deref.ensures.value) ∙ c.if-not-is_live_at.false in
     live_below c.self.inside.nodes.items c.args.id live
 
+pub spread-requires : goal.spread-requires
+spread-requires c =
+    let live = sym (c.is_live_at.ensures ∙ ap (λ (xs : List Node). is_live_body (body_at xs c.args.id)) c.deref.ensures.value) ∙ c.if-not-is_live_at.false in
+    subst (λ z. c.args.id < z) (sym c.self.invariant.marks.flags) (live_below c.self.inside.nodes.items c.args.id live)
+
+pub take_out-requires-clause-place : goal.take_out-requires-clause-place
+take_out-requires-clause-place c =
+    let live = sym (c.is_live_at.ensures ∙ ap (λ (xs : List Node). is_live_body (body_at xs c.args.id)) c.deref.ensures.value) ∙ c.if-not-is_live_at.false in
+    subst (λ z. c.args.id < z) (sym (c.spread.ensures.marks.len ∙ c.self.invariant.marks.flags)) (live_below c.self.inside.nodes.items c.args.id live)
+
+pub take_out-requires-clause-sources : goal.take_out-requires-clause-sources
+take_out-requires-clause-sources c =
+    let xs = c.self.inside.nodes.items in
+    let names = c.sources_at.ensures ∙ ap (λ (ys : List Node). kept_names ys c.args.id) c.deref-3.ensures.value in
+    let below = names_below xs c.self.inside.seats c.self.inside.generation c.self.inside.worn c.args.id c.self.inside.marks c.self.invariant.fields c.self.invariant.marks in
+    subst (λ (ns : List ℕ). All (λ m. m < length c.spread.new.self.marked) ns) (sym names) (subst (λ z. All (λ m. m < z) (kept_names xs c.args.id)) (sym c.spread.ensures.marks.len) below)
+
 pub invariant_of-self : goal.invariant_of-self
 invariant_of-self c =
+    let xs = c.self.inside.nodes.items in
+    let g = c.self.inside.generation in
+    let names = c.sources_at.ensures ∙ ap (λ (ys : List Node). kept_names ys c.args.id) c.deref-3.ensures.value in
+    let drops = subst (λ (ns : List ℕ). Drops c.self.inside.marks.dependants c.take_out.new.self.dependants ns c.args.id) names
+        (subst (λ (dss : List (List ℕ)). Drops dss c.take_out.new.self.dependants c.sources_at.result.now c.args.id) c.spread.ensures.dependants c.take_out.ensures.after) in
+    let spreads = subst (λ (us : List Bool). Spreads c.self.inside.marks.dependants c.self.inside.marks.marked us c.args.id) (sym c.take_out.ensures.marks) c.spread.ensures.marks in
     let live = sym (c.is_live_at.ensures ∙ ap (λ (xs : List Node). is_live_body (body_at xs c.args.id)) c.deref.ensures.value) ∙ c.if-not-is_live_at.false in
-    let seat = c.seat_at.ensures ∙ ap (λ (xs : List Node). seat_at xs c.args.id) c.deref-3.ensures.value in
+    let seat = c.seat_at.ensures ∙ ap (λ (xs : List Node). seat_at xs c.args.id) c.deref-4.ensures.value in
     let seats = c.leave.ensures ∙ ap (with_left c.self.inside.seats) seat in
-    let h = gone_holds c.args.id c.self.inside.nodes.items c.self.inside.seats c.self.inside.generation c.self.inside.worn live c.self.invariant in
-    subst (λ (t : Seating). Holds c.dispose_at.new.nodes.items t (c.self.inside.generation + 1) (c.self.inside.worn + 1)) (sym seats)
-    (subst (λ (xs : List Node). Holds xs (with_left c.self.inside.seats (seat_at c.self.inside.nodes.items c.args.id)) (c.self.inside.generation + 1) (c.self.inside.worn + 1)) (sym c.dispose_at.ensures) h)
+    let h = gone_holds c.args.id c.self.inside.nodes.items c.self.inside.seats c.self.inside.generation c.self.inside.worn live c.self.invariant.fields in
+    let marks = gone_kept c.args.id xs g c.self.inside.marks c.take_out.new.self.dependants c.take_out.new.self.marked live spreads drops c.self.invariant.marks in
+    record {
+      fields = subst (λ (t : Seating). Holds c.dispose_at.new.nodes.items t (g + 1) (c.self.inside.worn + 1)) (sym seats)
+          (subst (λ (ys : List Node). Holds ys (with_left c.self.inside.seats (seat_at xs c.args.id)) (g + 1) (c.self.inside.worn + 1)) (sym c.dispose_at.ensures) h);
+      marks = subst (λ (ys : List Node). KeepsMarks ys (g + 1) c.take_out.new.self) (sym c.dispose_at.ensures)
+          (same_table (changed_at gone_node c.args.id xs) (g + 1) c.take_out.new.self c.take_out.new.self.dependants refl marks);
+    }
 
 pub returns-clause-after : goal.returns-clause-after
 returns-clause-after c =

@@ -1,9 +1,15 @@
+use Rattle.std.proofs.Common.{Bool, ◌&&◌, not}
+use Rattle.signal_model.specs.Memos.{is_cycle}
+use Rattle.mark_laws.specs.Marked.{ended}
+use Rattle.sig_marks.specs.Tables.{Relinks, marked_at}
+use Rattle.sig_nodes.specs.Search.{some_marked_at}
+use Rattle.sig_nodes.proofs.KeptMarks.{kept_names, names_below, run_is, run_kept, same_table}
 use Rattle.std.proofs.Common.{◌+◌, ◌<◌, List, length, map, sym, ap, ◌∙◌, subst, is_some}
 use Rattle.std.specs.List.{All}
 use Rattle.signal_model.specs.Memos.{Memo, named_now}
 use Rattle.sig_nodes.specs.declared.node.Node.{Node}
 use Rattle.sig_nodes.specs.States.{Seen, is_computing, with_kept_run}
-use Rattle.sig_nodes.specs.Places.{Holds}
+use Rattle.sig_nodes.specs.Places.{Holds, KeepsMarks}
 use Rattle.sig_nodes.specs.Nodes.{body_at, changed_at, memos_of, number_at, run_node, state_of}
 use Rattle.sig_nodes.proofs.Parts.{progress_found}
 use Rattle.sig_nodes.proofs.Edits.{changed_length, memo_made, run_state}
@@ -19,17 +25,58 @@ keep_memo_at-requires-clause-place c = let live = computing_here (body_at c.self
 pub keep_memo_at-requires-clause-live : goal.keep_memo_at-requires-clause-live
 keep_memo_at-requires-clause-live c = computing_here (body_at c.self.inside.nodes.items c.args.id) (sym (ap is_some (progress_found c.self.inside.nodes.items c.args.id)) ∙ ap (λ (s : Seen). is_computing s.state c.args.id) c.self.view_is ∙ c.requires.computing)
 
-pub invariant_of-self : goal.invariant_of-self
-invariant_of-self c =
+pub relink-requires-clause-sources : goal.relink-requires-clause-sources
+relink-requires-clause-sources c =
+    let xs = c.self.inside.nodes.items in
+    let t = c.self.inside.marks in
+    let names = c.sources_at.ensures ∙ ap (λ (ys : List Node). kept_names ys c.args.id) c.deref-3.ensures.value in
+    let below = names_below xs c.self.inside.seats c.self.inside.generation c.self.inside.worn c.args.id t c.self.invariant.fields c.self.invariant.marks in
+    subst (λ (ns : List ℕ). All (λ m. m < length t.marked) ns) (sym names) below
+
+pub relink-requires-clause-reads : goal.relink-requires-clause-reads
+relink-requires-clause-reads c =
+    let xs = c.self.inside.nodes.items in
+    let t = c.self.inside.marks in
+    let given = given_below c.args.self.now (state_of xs c.self.inside.generation c.self.inside.looked c.self.inside.worn) c.self.inside.seats.holders (length xs) c.args.reads.items c.self.view_is c.requires.given in
+    subst (λ (ns : List ℕ). All (λ m. m < length t.marked) ns) (sym c.deref-4.ensures.value) (subst (λ z. All (λ m. m < z) c.args.reads.items) (sym c.self.invariant.marks.flags) given)
+
+pub relink-requires-clause-reader : goal.relink-requires-clause-reader
+relink-requires-clause-reader c =
+    let live = computing_here (body_at c.self.inside.nodes.items c.args.id) (sym (ap is_some (progress_found c.self.inside.nodes.items c.args.id)) ∙ ap (λ (s : Seen). is_computing s.state c.args.id) c.self.view_is ∙ c.requires.computing) in
+    subst (λ z. c.args.id < z) (sym c.self.invariant.marks.flags) (computed_below c.self.inside.nodes.items c.args.id live)
+
+pub end_mark-requires : goal.end_mark-requires
+end_mark-requires c =
+    let live = computing_here (body_at c.self.inside.nodes.items c.args.id) (sym (ap is_some (progress_found c.self.inside.nodes.items c.args.id)) ∙ ap (λ (s : Seen). is_computing s.state c.args.id) c.self.view_is ∙ c.requires.computing) in
+    subst (λ z. c.args.id < z) (sym (ap (λ (us : List Bool). length us) c.relink.ensures.marks ∙ c.self.invariant.marks.flags)) (computed_below c.self.inside.nodes.items c.args.id live)
+
+pub invariant_of-self-2 : goal.invariant_of-self-2
+invariant_of-self-2 c =
     let xs = c.self.inside.nodes.items in
     let g = c.self.inside.generation in
+    let t = c.self.inside.marks in
+    let o = c.args.outcome in
+    let rs = c.args.reads.items in
     let numbers = c.in_ok-numbers.ensures ∙ (λ i. map (number_at (c.deref.ensures.value i)) (c.deref-2.ensures.value i)) in
-    let sources = ap (paired c.args.reads.items) numbers ∙ paired_here xs g c.args.reads.items in
-    let memo = c.new-memo.ensures ∙ ap (λ ss. memo_made c.args.outcome ss g) sources in
-    let given = given_below c.args.self.now (state_of xs g c.self.inside.looked c.self.inside.worn) c.self.inside.seats.holders (length xs) c.args.reads.items c.self.view_is c.requires.given in
-    let named = subst (λ (ns : List ℕ). All (λ m. m < length xs) ns) (sym (names_now (memos_of g xs) c.args.reads.items)) given in
-    let h = run_holds (memo_made c.args.outcome (map (named_now (memos_of g xs)) c.args.reads.items) g) c.args.id xs c.self.inside.seats g c.self.inside.worn named c.self.invariant in
-    subst (λ (ys : List Node). Holds ys c.self.inside.seats g (c.self.inside.worn + 1)) (sym (c.keep_memo_at.ensures ∙ ap (λ (m : Memo). changed_at (run_node m) c.args.id xs) memo)) h
+    let sources = ap (paired rs) numbers ∙ paired_here xs g rs in
+    let memo = c.new-memo.ensures ∙ ap (λ ss. memo_made o ss g) sources in
+    let made = memo_made o (map (named_now (memos_of g xs)) rs) g in
+    let nodes = c.keep_memo_at.ensures ∙ ap (λ (m : Memo). changed_at (run_node m) c.args.id xs) memo in
+    let given = given_below c.args.self.now (state_of xs g c.self.inside.looked c.self.inside.worn) c.self.inside.seats.holders (length xs) rs c.self.view_is c.requires.given in
+    let named = subst (λ (ns : List ℕ). All (λ m. m < length xs) ns) (sym (names_now (memos_of g xs) rs)) given in
+    let on = sym (ap is_some (progress_found c.self.inside.nodes.items c.args.id)) ∙ ap (λ (s : Seen). is_computing s.state c.args.id) c.self.view_is ∙ c.requires.computing in
+    let names = c.sources_at.ensures ∙ ap (λ (ys : List Node). kept_names ys c.args.id) c.deref-3.ensures.value in
+    let link = subst (λ (ns : List ℕ). Relinks t.dependants c.relink.new.self.dependants (kept_names xs c.args.id) ns c.args.id) c.deref-4.ensures.value
+        (subst (λ (ns : List ℕ). Relinks t.dependants c.relink.new.self.dependants ns c.deref-4.result.now c.args.id) names c.in_ok-relink.ensures.after) in
+    let unmarks = c.run_unmarks-unmarks.ensures ∙ (λ i. not (is_cycle o) && not (some_marked_at (c.deref-5.ensures.value i) (c.relink.ensures.marks i) (c.deref-6.ensures.value i))) ∙ run_is xs t.marked o rs in
+    let size = c.end_mark.ensures.size ∙ ap (λ (us : List Bool). length us) c.relink.ensures.marks in
+    let marks = run_kept o rs c.args.id xs g t c.relink.new.self.dependants c.end_mark.new.marks.marked on link size
+        (λ m. c.end_mark.ensures.marks m ∙ (λ i. ended (marked_at (c.relink.ensures.marks i)) c.args.id (unmarks i) m)) c.self.invariant.marks in
+    record {
+      fields = subst (λ (ys : List Node). Holds ys c.self.inside.seats g (c.self.inside.worn + 1)) (sym nodes) (run_holds made c.args.id xs c.self.inside.seats g c.self.inside.worn named c.self.invariant.fields);
+      marks = subst (λ (ys : List Node). KeepsMarks ys g c.end_mark.new.marks) (sym nodes)
+          (same_table (changed_at (run_node made) c.args.id xs) g c.end_mark.new.marks c.relink.new.self.dependants c.end_mark.ensures.dependants marks);
+    }
 
 pub returns-clause-after : goal.returns-clause-after
 returns-clause-after c =

@@ -9,7 +9,7 @@ use Rattle.sig_nodes.proofs.graph.Graph.made.Goals as goal
 pub returns-clause-used : goal.returns-clause-used
 returns-clause-used c =
     subst (λ (g : Seen). AreGiven (is_given g) g.state.signals g.state.memos) c.self.view_is
-    (used_here c.self.inside.nodes.items c.self.inside.seats c.self.inside.generation c.self.inside.looked c.self.inside.worn c.self.invariant)
+    (used_here c.self.inside.nodes.items c.self.inside.seats c.self.inside.generation c.self.inside.looked c.self.inside.worn c.self.invariant.fields)
 
 pub returns-clause-keepers : goal.returns-clause-keepers
 returns-clause-keepers c =
@@ -19,4 +19,4 @@ returns-clause-keepers c =
 pub returns-clause-few : goal.returns-clause-few
 returns-clause-few c =
     subst (λ (g : Seen). HaveFewSlots g.state.signals) c.self.view_is
-    (few_here c.self.inside.nodes.items c.self.inside.seats c.self.inside.generation c.self.inside.worn c.self.invariant)
+    (few_here c.self.inside.nodes.items c.self.inside.seats c.self.inside.generation c.self.inside.worn c.self.invariant.fields)

@@ -17,7 +17,7 @@ mark_at-requires-clause-live c =
 
 pub mark_at-requires-clause-seats : goal.mark_at-requires-clause-seats
 mark_at-requires-clause-seats c =
-    subst (λ (xs : List Node). AreSeated xs MOST_NODES) (sym c.deref.ensures.value) (seats_apart c.self.inside.nodes.items c.self.inside.seats c.self.inside.generation c.self.inside.worn c.self.invariant)
+    subst (λ (xs : List Node). AreSeated xs MOST_NODES) (sym c.deref.ensures.value) (seats_apart c.self.inside.nodes.items c.self.inside.seats c.self.inside.generation c.self.inside.worn c.self.invariant.fields)
 
 pub returns : goal.returns
 returns c =

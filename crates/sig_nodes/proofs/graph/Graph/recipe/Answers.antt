@@ -3,11 +3,12 @@ use Rattle.signal_model.specs.Standing.{standing}
 use Rattle.sig_nodes.specs.declared.node.Node.{Node}
 use Rattle.sig_nodes.specs.Answers.{slots_here, IsAnswerHere, IsJudgedAnswer}
 use Rattle.sig_nodes.specs.States.{Seen, progress_at, with_look, with_progress}
-use Rattle.sig_nodes.specs.Places.{Holds}
+use Rattle.sig_nodes.specs.Places.{IsGraph}
 use Rattle.sig_nodes.specs.Nodes.{body_at, changed_at, known_body, known_node, slots_body, stands_of, state_of}
 use Rattle.sig_nodes.proofs.Parts.{progress_found, stands}
 use Rattle.sig_nodes.proofs.Edits.{changed_length, known_state}
-use Rattle.sig_nodes.proofs.Holding.{became, known_holds}
+use Rattle.sig_nodes.proofs.Holding.{became}
+use Rattle.sig_nodes.proofs.KeptMarks.{known_graph, under_way}
 use Rattle.sig_base.specs.declared.value.Known.{Known}
 use Rattle.sig_nodes.specs.States.{GoesOn}
 use Rattle.sig_nodes.proofs.Looking.{known_below, known_slots, known_stands, slots_found}
@@ -23,18 +24,24 @@ note_at-requires-clause-known c = subst (λ (k : Option (List Known)). GoesOn k 
 
 pub invariant_of-self : goal.invariant_of-self
 invariant_of-self c =
-    subst (λ (xs : List Node). Holds xs c.self.inside.seats c.self.inside.generation c.self.inside.worn) (sym c.in_err-note_at.ensures.kept)
-    (known_holds (known_body (body_at c.note_at.new.nodes.items c.args.id)) c.args.id c.self.inside.nodes.items c.self.inside.seats c.self.inside.generation c.self.inside.worn c.self.invariant)
+    let known = subst (λ (k : Option (List Known)). GoesOn k c.args.known.now) (progress_found c.self.inside.nodes.items c.args.id) (subst (λ (s : Seen). GoesOn (progress_at c.args.id s.state.progress) c.args.known.now) (sym c.self.view_is) c.requires) in
+    let on = under_way (known_body (body_at c.self.inside.nodes.items c.args.id)) c.args.known.now known in
+    subst (λ (xs : List Node). IsGraph xs c.self.inside.seats c.self.inside.generation c.self.inside.worn c.self.inside.marks) (sym c.in_err-note_at.ensures.kept)
+    (known_graph (known_body (body_at c.note_at.new.nodes.items c.args.id)) c.args.id c.self.inside.nodes.items c.self.inside.seats c.self.inside.generation c.self.inside.worn c.self.inside.marks on c.self.invariant)
 
 pub invariant_of-self-in_err-answer : goal.invariant_of-self-in_err-answer
 invariant_of-self-in_err-answer c =
-    subst (λ (xs : List Node). Holds xs c.self.inside.seats c.self.inside.generation c.self.inside.worn) (sym c.in_ok-note_at.ensures.kept)
-    (known_holds (known_body (body_at c.note_at.new.nodes.items c.args.id)) c.args.id c.self.inside.nodes.items c.self.inside.seats c.self.inside.generation c.self.inside.worn c.self.invariant)
+    let known = subst (λ (k : Option (List Known)). GoesOn k c.args.known.now) (progress_found c.self.inside.nodes.items c.args.id) (subst (λ (s : Seen). GoesOn (progress_at c.args.id s.state.progress) c.args.known.now) (sym c.self.view_is) c.requires) in
+    let on = under_way (known_body (body_at c.self.inside.nodes.items c.args.id)) c.args.known.now known in
+    subst (λ (xs : List Node). IsGraph xs c.self.inside.seats c.self.inside.generation c.self.inside.worn c.self.inside.marks) (sym c.in_ok-note_at.ensures.kept)
+    (known_graph (known_body (body_at c.note_at.new.nodes.items c.args.id)) c.args.id c.self.inside.nodes.items c.self.inside.seats c.self.inside.generation c.self.inside.worn c.self.inside.marks on c.self.invariant)
 
 pub invariant_of-self-2 : goal.invariant_of-self-2
 invariant_of-self-2 c =
-    subst (λ (xs : List Node). Holds xs c.self.inside.seats c.self.inside.generation c.self.inside.worn) (sym c.in_ok-note_at.ensures.kept)
-    (known_holds (known_body (body_at c.note_at.new.nodes.items c.args.id)) c.args.id c.self.inside.nodes.items c.self.inside.seats c.self.inside.generation c.self.inside.worn c.self.invariant)
+    let known = subst (λ (k : Option (List Known)). GoesOn k c.args.known.now) (progress_found c.self.inside.nodes.items c.args.id) (subst (λ (s : Seen). GoesOn (progress_at c.args.id s.state.progress) c.args.known.now) (sym c.self.view_is) c.requires) in
+    let on = under_way (known_body (body_at c.self.inside.nodes.items c.args.id)) c.args.known.now known in
+    subst (λ (xs : List Node). IsGraph xs c.self.inside.seats c.self.inside.generation c.self.inside.worn c.self.inside.marks) (sym c.in_ok-note_at.ensures.kept)
+    (known_graph (known_body (body_at c.note_at.new.nodes.items c.args.id)) c.args.id c.self.inside.nodes.items c.self.inside.seats c.self.inside.generation c.self.inside.worn c.self.inside.marks on c.self.invariant)
 
 pub returns-clause-answer : goal.returns-clause-answer
 returns-clause-answer c =

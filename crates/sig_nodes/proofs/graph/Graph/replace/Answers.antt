@@ -1,10 +1,11 @@
-use Rattle.std.proofs.Common.{◌+◌, List, length, sym, ap, ◌∙◌, subst, arith}
+use Rattle.sig_nodes.proofs.KeptMarks.{same_table, set_kept}
+use Rattle.std.proofs.Common.{◌+◌, ◌<◌, List, length, sym, ap, ◌∙◌, subst, arith}
 use Rattle.signal_model.specs.Standing.{standing}
 use Rattle.sig_nodes.specs.declared.node.Node.{Node}
 use Rattle.sig_nodes.specs.Answers.{value_here}
 use Rattle.sig_nodes.specs.States.{Seen, is_cell, with_set}
-use Rattle.sig_nodes.specs.Places.{Holds}
-use Rattle.sig_nodes.specs.Nodes.{set_node, state_of}
+use Rattle.sig_nodes.specs.Places.{Holds, KeepsMarks}
+use Rattle.sig_nodes.specs.Nodes.{changed_at, set_node, state_of}
 use Rattle.sig_nodes.proofs.Edits.{changed_length, set_state}
 use Rattle.sig_nodes.proofs.Holding.{became, cell_below, cell_here, set_holds}
 use Rattle.sig_nodes.proofs.graph.Graph.replace.Goals as goal
@@ -18,15 +19,28 @@ set_value_at-requires-clause-live c = cell_here c.self.inside.nodes.items c.args
 
 pub set_value_at-requires-clause-worn : goal.set_value_at-requires-clause-worn
 set_value_at-requires-clause-worn c =
-    let below = c.self.invariant.numbers c.args.id in
+    let below = c.self.invariant.fields.numbers c.args.id in
     let wears = ap (λ (s : Seen). s.state.worn) c.self.view_is in
     let worn = c.requires.worn in
     omega (arith, below, wears, worn)
 
+pub spread-requires : goal.spread-requires
+spread-requires c =
+    let live = cell_here c.self.inside.nodes.items c.args.id (ap (λ (s : Seen). is_cell (standing s.state.signals c.args.id)) c.self.view_is ∙ c.requires.live) in
+    subst (λ z. c.args.id < z) (sym c.self.invariant.marks.flags) (cell_below c.self.inside.nodes.items c.args.id live)
+
 pub invariant_of-self : goal.invariant_of-self
 invariant_of-self c =
-    subst (λ (xs : List Node). Holds xs c.self.inside.seats (c.self.inside.generation + 1) (c.self.inside.worn + 1)) (sym c.set_value_at.ensures.nodes)
-    (set_holds c.args.value c.args.id c.self.inside.nodes.items c.self.inside.seats c.self.inside.generation c.self.inside.worn c.self.invariant)
+    let xs = c.self.inside.nodes.items in
+    let g = c.self.inside.generation in
+    let live = cell_here c.self.inside.nodes.items c.args.id (ap (λ (s : Seen). is_cell (standing s.state.signals c.args.id)) c.self.view_is ∙ c.requires.live) in
+    let marks = set_kept c.args.value c.args.id xs g c.self.inside.marks c.spread.new.self.marked live c.spread.ensures.marks c.self.invariant.marks in
+    record {
+      fields = subst (λ (ys : List Node). Holds ys c.self.inside.seats (g + 1) (c.self.inside.worn + 1)) (sym c.set_value_at.ensures.nodes)
+          (set_holds c.args.value c.args.id xs c.self.inside.seats g c.self.inside.worn c.self.invariant.fields);
+      marks = subst (λ (ys : List Node). KeepsMarks ys (g + 1) c.spread.new.self) (sym c.set_value_at.ensures.nodes)
+          (same_table (changed_at (set_node c.args.value) c.args.id xs) (g + 1) c.spread.new.self c.self.inside.marks.dependants c.spread.ensures.dependants marks);
+    }
 
 pub returns-clause-after : goal.returns-clause-after
 returns-clause-after c =

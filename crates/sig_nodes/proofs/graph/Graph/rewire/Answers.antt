@@ -1,11 +1,12 @@
-use Rattle.std.proofs.Common.{◌+◌, ◌∷◌, List, length, refl, sym, ap, ◌∙◌, subst}
+use Rattle.sig_nodes.proofs.KeptMarks.{rewired_kept, same_table}
+use Rattle.std.proofs.Common.{◌+◌, ◌<◌, ◌∷◌, List, length, refl, sym, ap, ◌∙◌, subst}
 use Rattle.signal_model.specs.Standing.{standing}
 use Rattle.sig_nodes.specs.declared.node.Node.{Node}
 use Rattle.sig_nodes.specs.Answers.{expression_of, host_here}
 use Rattle.sig_nodes.specs.Computations.{recipe_made}
 use Rattle.sig_nodes.specs.States.{Seen, is_cell, with_rewiring}
-use Rattle.sig_nodes.specs.Places.{Holds}
-use Rattle.sig_nodes.specs.Nodes.{body_at, is_live_body, rewired_node, are_live_bodies, stands_of, state_of}
+use Rattle.sig_nodes.specs.Places.{Holds, KeepsMarks}
+use Rattle.sig_nodes.specs.Nodes.{body_at, changed_at, is_live_body, rewired_node, are_live_bodies, stands_of, state_of}
 use Rattle.sig_nodes.proofs.Parts.{stands}
 use Rattle.sig_nodes.proofs.Edits.{changed_length, rewired_state}
 use Rattle.sig_nodes.proofs.Holding.{became, given_below, live_below, rewired_holds}
@@ -32,12 +33,28 @@ rewire_at-requires-clause-live c =
     let live = and_left (is_live_body (body_at c.self.inside.nodes.items c.args.id)) (are_live_bodies c.self.inside.nodes.items c.args.slots.items) all in
     computed_left c.self.inside.nodes.items c.args.id live (ap (λ (s : Seen). is_cell (standing s.state.signals c.args.id)) c.self.view_is ∙ c.requires.kind)
 
+pub push-requires : goal.push-requires
+push-requires c =
+    let all = sym (c.is_linkable_at.ensures ∙ (λ i. are_live_bodies (c.deref.ensures.value i) (c.args.id ∷ c.deref-2.ensures.value i))) ∙ c.if-not-is_linkable_at.false in
+    let alive = and_left (is_live_body (body_at c.self.inside.nodes.items c.args.id)) (are_live_bodies c.self.inside.nodes.items c.args.slots.items) all in
+    subst (λ z. c.args.id < z) (sym c.self.invariant.marks.flags) (live_below c.self.inside.nodes.items c.args.id alive)
+
 pub invariant_of-self : goal.invariant_of-self
 invariant_of-self c =
     let xs = c.self.inside.nodes.items in
+    let g = c.self.inside.generation in
+    let recipe = recipe_made (expression_of c.args.recipe) c.args.slots.items in
+    let all = sym (c.is_linkable_at.ensures ∙ (λ i. are_live_bodies (c.deref.ensures.value i) (c.args.id ∷ c.deref-2.ensures.value i))) ∙ c.if-not-is_linkable_at.false in
+    let alive = and_left (is_live_body (body_at c.self.inside.nodes.items c.args.id)) (are_live_bodies c.self.inside.nodes.items c.args.slots.items) all in
+    let live = computed_left xs c.args.id alive (ap (λ (s : Seen). is_cell (standing s.state.signals c.args.id)) c.self.view_is ∙ c.requires.kind) in
+    let marks = rewired_kept recipe c.args.id xs g c.self.inside.marks c.push.new.self.marked live c.push.ensures.marks c.self.invariant.marks in
     let below = given_below c.args.self.now (state_of xs c.self.inside.generation c.self.inside.looked c.self.inside.worn) c.self.inside.seats.holders (length xs) c.args.slots.items c.self.view_is c.requires.given in
-    subst (λ (ys : List Node). Holds ys c.self.inside.seats (c.self.inside.generation + 1) (c.self.inside.worn + 1)) (sym c.rewire_at.ensures)
-    (rewired_holds (recipe_made (expression_of c.args.recipe) c.args.slots.items) c.args.id xs c.self.inside.seats c.self.inside.generation c.self.inside.worn below c.requires.few c.self.invariant)
+    record {
+      fields = subst (λ (ys : List Node). Holds ys c.self.inside.seats (g + 1) (c.self.inside.worn + 1)) (sym c.rewire_at.ensures)
+          (rewired_holds recipe c.args.id xs c.self.inside.seats g c.self.inside.worn below c.requires.few c.self.invariant.fields);
+      marks = subst (λ (ys : List Node). KeepsMarks ys (g + 1) c.push.new.self) (sym c.rewire_at.ensures)
+          (same_table (changed_at (rewired_node recipe) c.args.id xs) (g + 1) c.push.new.self c.self.inside.marks.dependants c.push.ensures.dependants marks);
+    }
 
 pub returns-clause-after : goal.returns-clause-after
 returns-clause-after c =

@@ -18,18 +18,18 @@ returns-clause-own c =
     let live = sym (live_here c.self.inside.nodes.items c.args.id) ∙ ap (λ (s : Seen). is_there (standing s.state.signals c.args.id)) c.self.view_is ∙ c.requires in
     sym (ap (λ (s : Seen). holder s.seats c.seat_at.result) c.self.view_is)
     ∙ ap (holder c.self.inside.seats.holders) (c.seat_at.ensures ∙ ap (λ (xs : List Node). seat_at xs c.args.id) c.deref.ensures.value)
-    ∙ c.self.invariant.seated c.args.id live
+    ∙ c.self.invariant.fields.seated c.args.id live
 
 pub returns-clause-below : goal.returns-clause-below
 returns-clause-below c =
     let live = sym (live_here c.self.inside.nodes.items c.args.id) ∙ ap (λ (s : Seen). is_there (standing s.state.signals c.args.id)) c.self.view_is ∙ c.requires in
-    let held = c.self.invariant.seated c.args.id live in
+    let held = c.self.invariant.fields.seated c.args.id live in
     let inside = held_inside c.self.inside.seats.holders (seat_at c.self.inside.nodes.items c.args.id) c.args.id held in
     let at = c.seat_at.ensures ∙ ap (λ (xs : List Node). seat_at xs c.args.id) c.deref.ensures.value in
-    let size = c.self.invariant.size in
+    let size = c.self.invariant.fields.size in
     omega (arith, inside, at, size)
 
 pub returns-clause-only : goal.returns-clause-only
 returns-clause-only c = λ s held.
     let at = c.seat_at.ensures ∙ ap (λ (xs : List Node). seat_at xs c.args.id) c.deref.ensures.value in
-    sym ((c.self.invariant.living s c.args.id (ap (λ (g : Seen). holder g.seats s) c.self.view_is ∙ held)).1) ∙ sym at
+    sym ((c.self.invariant.fields.living s c.args.id (ap (λ (g : Seen). holder g.seats s) c.self.view_is ∙ held)).1) ∙ sym at

@@ -16,5 +16,5 @@ returns-clause-at c =
 pub returns-clause-given : goal.returns-clause-given
 returns-clause-given c =
     slot_below c.args.self.now (state_of c.self.inside.nodes.items c.self.inside.generation c.self.inside.looked c.self.inside.worn) c.self.inside.seats.holders (length c.self.inside.nodes.items)
-    (slots_body (body_at c.self.inside.nodes.items c.args.id)) c.args.slot c.slot_at.result c.self.view_is (c.self.invariant.slots c.args.id)
+    (slots_body (body_at c.self.inside.nodes.items c.args.id)) c.args.slot c.slot_at.result c.self.view_is (c.self.invariant.fields.slots c.args.id)
     (c.slot_at.ensures ∙ ap (λ (ys : List Node). slice_get (slots_body (body_at ys c.args.id)) c.args.slot) c.deref.ensures.value)
