@@ -67,7 +67,7 @@ invariant_of-self c =
     let g = c.self.inside.generation in
     let names = c.sources_at.ensures ∙ ap (λ (ys : List Node). kept_names ys c.args.id) c.deref-3.ensures.value in
     let drops = subst (λ (ns : List ℕ). Drops c.self.inside.marks.dependants c.take_out.new.self.dependants ns c.args.id) names
-        (subst (λ (dss : List (List ℕ)). Drops dss c.take_out.new.self.dependants c.sources_at.result.now c.args.id) c.spread.ensures.dependants c.take_out.ensures.after) in
+    (subst (λ (dss : List (List ℕ)). Drops dss c.take_out.new.self.dependants c.sources_at.result.now c.args.id) c.spread.ensures.dependants c.take_out.ensures.after) in
     let spreads = subst (λ (us : List Bool). Spreads c.self.inside.marks.dependants c.self.inside.marks.marked us c.args.id) (sym c.take_out.ensures.marks) c.spread.ensures.marks in
     let live = sym (c.is_live_at.ensures ∙ ap (λ (xs : List Node). is_live_body (body_at xs c.args.id)) c.deref.ensures.value) ∙ c.if-not-is_live_at.false in
     let seat = c.seat_at.ensures ∙ ap (λ (xs : List Node). seat_at xs c.args.id) c.deref-4.ensures.value in

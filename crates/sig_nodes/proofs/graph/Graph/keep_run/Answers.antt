@@ -67,11 +67,11 @@ invariant_of-self-2 c =
     let on = sym (ap is_some (progress_found c.self.inside.nodes.items c.args.id)) ∙ ap (λ (s : Seen). is_computing s.state c.args.id) c.self.view_is ∙ c.requires.computing in
     let names = c.sources_at.ensures ∙ ap (λ (ys : List Node). kept_names ys c.args.id) c.deref-3.ensures.value in
     let link = subst (λ (ns : List ℕ). Relinks t.dependants c.relink.new.self.dependants (kept_names xs c.args.id) ns c.args.id) c.deref-4.ensures.value
-        (subst (λ (ns : List ℕ). Relinks t.dependants c.relink.new.self.dependants ns c.deref-4.result.now c.args.id) names c.in_ok-relink.ensures.after) in
+    (subst (λ (ns : List ℕ). Relinks t.dependants c.relink.new.self.dependants ns c.deref-4.result.now c.args.id) names c.in_ok-relink.ensures.after) in
     let unmarks = c.run_unmarks-unmarks.ensures ∙ (λ i. not (is_cycle o) && not (some_marked_at (c.deref-5.ensures.value i) (c.relink.ensures.marks i) (c.deref-6.ensures.value i))) ∙ run_is xs t.marked o rs in
     let size = c.end_mark.ensures.size ∙ ap (λ (us : List Bool). length us) c.relink.ensures.marks in
     let marks = run_kept o rs c.args.id xs g t c.relink.new.self.dependants c.end_mark.new.marks.marked on link size
-        (λ m. c.end_mark.ensures.marks m ∙ (λ i. ended (marked_at (c.relink.ensures.marks i)) c.args.id (unmarks i) m)) c.self.invariant.marks in
+    (λ m. c.end_mark.ensures.marks m ∙ (λ i. ended (marked_at (c.relink.ensures.marks i)) c.args.id (unmarks i) m)) c.self.invariant.marks in
     record {
       fields = subst (λ (ys : List Node). Holds ys c.self.inside.seats g (c.self.inside.worn + 1)) (sym nodes) (run_holds made c.args.id xs c.self.inside.seats g c.self.inside.worn named c.self.invariant.fields);
       marks = subst (λ (ys : List Node). KeepsMarks ys g c.end_mark.new.marks) (sym nodes)
