@@ -1,4 +1,10 @@
 -- What must run, and the search for it.
+use Rattle.sig_marks.specs.Tables.{MarkTable, depends, marked_at}
+use Rattle.mark_laws.proofs.Shared.{explored_law, unmarked_law}
+use Rattle.sig_nodes.specs.Places.{KeepsMarks}
+use Rattle.sig_nodes.specs.States.{is_computing}
+use Rattle.sig_nodes.specs.Nodes.{state_of}
+use Rattle.sig_nodes.proofs.Holding.{computed_here}
 use Rattle.std.proofs.Common.{◌≡◌, ℕ, zero, suc, ◌+◌, ◌<◌, ◌≤◌, ◌==◌, ◌||◌, ◌&&◌, not, Bool, true, false, List, [], ◌∷◌, ◌++◌, length, drop, take, Option, Some, None, refl, sym, ap, ◌∙◌, subst, arith, if◌then◌else◌, ◌⊎◌, inl, inr, true≢false}
 use Rattle.std.specs.Prelude.{slice_get, slice_set, slice_index_or, replicate}
 use Rattle.std.proofs.lemmas.Bool.{eqb-true, eq-eqb}
@@ -115,24 +121,24 @@ flags_down (suc k) (suc s) = flags_down k s
 
 -- ---- a search that found nothing
 
-pub explores_none : (xs : List Node) (g : ℕ) (t : List Bool) → Explores xs g t t []
-explores_none xs g t = record {
+pub explores_none : (xs : List Node) (ms : List Bool) (g : ℕ) (t : List Bool) → Explores xs ms g t t []
+explores_none xs ms g t = record {
   size = refl;
   more = λ s h. h;
-  here = λ m h c. absurd (true≢false (sym h));
+  here = λ m h c mk. absurd (true≢false (sym h));
   calm = λ m c off on. absurd (true≢false (sym on ∙ off));
-  closed = λ m p c off on k d. absurd (true≢false (sym on ∙ off));
+  closed = λ m p c off on k d mk. absurd (true≢false (sym on ∙ off));
   fewer = omega arith;
 }
 
 -- one name more
-pub explores_more : (xs : List Node) (g : ℕ) (t u v : List Bool) (ns : List ℕ) (n : ℕ) → Explores xs g t u ns → Explores xs g u v (n ∷ []) → Explores xs g t v (ns ++ n ∷ [])
-explores_more xs g t u v ns n a b = record {
+pub explores_more : (xs : List Node) (ms : List Bool) (g : ℕ) (t u v : List Bool) (ns : List ℕ) (n : ℕ) → Explores xs ms g t u ns → Explores xs ms g u v (n ∷ []) → Explores xs ms g t v (ns ++ n ∷ [])
+explores_more xs ms g t u v ns n a b = record {
   size = b.size ∙ a.size;
   more = λ s h. b.more s (a.more s h);
-  here = λ m h c. elim (either (is_in m ns) (is_in m (n ∷ [])) (sym (joined m ns) ∙ h)) [ inl p ↦ b.more (seat_at xs m) (a.here m p c) | inr q ↦ b.here m q c ];
+  here = λ m h c mk. elim (either (is_in m ns) (is_in m (n ∷ [])) (sym (joined m ns) ∙ h)) [ inl p ↦ b.more (seat_at xs m) (a.here m p c mk) | inr q ↦ b.here m q c mk ];
   calm = λ m c off on. elim (tested (is_marked u (seat_at xs m))) [ inl p ↦ a.calm m c off p | inr q ↦ b.calm m c q on ];
-  closed = λ m p c off on k d. elim (tested (is_marked u (seat_at xs m))) [ inl e ↦ b.more (seat_at xs p) (a.closed m p c off e k d) | inr q ↦ b.closed m p c q on k d ];
+  closed = λ m p c off on k d mk. elim (tested (is_marked u (seat_at xs m))) [ inl e ↦ b.more (seat_at xs p) (a.closed m p c off e k d mk) | inr q ↦ b.closed m p c q on k d mk ];
   fewer = let x : unmarked u ≤ unmarked t = a.fewer in let y : unmarked v ≤ unmarked u = b.fewer in omega (arith, x, y);
 }
   where
@@ -152,41 +158,52 @@ only_one m n h = eqb-true m n (go (m == n) h)
     go false q = q
 
 -- no computed stands there
-pub explores_other : (xs : List Node) (g : ℕ) (t : List Bool) (n : ℕ) → is_computed_body (body_at xs n) ≡ false → Explores xs g t t (n ∷ [])
-explores_other xs g t n off = record {
+pub explores_other : (xs : List Node) (ms : List Bool) (g : ℕ) (t : List Bool) (n : ℕ) → is_computed_body (body_at xs n) ≡ false → Explores xs ms g t t (n ∷ [])
+explores_other xs ms g t n off = record {
   size = refl;
   more = λ s h. h;
-  here = λ m h c. absurd (true≢false (sym c ∙ ap (λ k. is_computed_body (body_at xs k)) (only_one m n h) ∙ off));
+  here = λ m h c mk. absurd (true≢false (sym c ∙ ap (λ k. is_computed_body (body_at xs k)) (only_one m n h) ∙ off));
   calm = λ m c down on. absurd (true≢false (sym on ∙ down));
-  closed = λ m p c down on k d. absurd (true≢false (sym on ∙ down));
+  closed = λ m p c down on k d mk. absurd (true≢false (sym on ∙ down));
+  fewer = omega arith;
+}
+
+-- it isn't marked
+pub explores_unmarked : (xs : List Node) (ms : List Bool) (g : ℕ) (t : List Bool) (n : ℕ) → marked_at ms n ≡ false → Explores xs ms g t t (n ∷ [])
+explores_unmarked xs ms g t n off = record {
+  size = refl;
+  more = λ s h. h;
+  here = λ m h c mk. absurd (true≢false (sym mk ∙ ap (marked_at ms) (only_one m n h) ∙ off));
+  calm = λ m c down on. absurd (true≢false (sym on ∙ down));
+  closed = λ m p c down on k d mk. absurd (true≢false (sym on ∙ down));
   fewer = omega arith;
 }
 
 -- its flag is up
-pub explores_seen : (xs : List Node) (g : ℕ) (t : List Bool) (n : ℕ) → is_marked t (seat_at xs n) ≡ true → Explores xs g t t (n ∷ [])
-explores_seen xs g t n up = record {
+pub explores_seen : (xs : List Node) (ms : List Bool) (g : ℕ) (t : List Bool) (n : ℕ) → is_marked t (seat_at xs n) ≡ true → Explores xs ms g t t (n ∷ [])
+explores_seen xs ms g t n up = record {
   size = refl;
   more = λ s h. h;
-  here = λ m h c. ap (λ k. is_marked t (seat_at xs k)) (only_one m n h) ∙ up;
+  here = λ m h c mk. ap (λ k. is_marked t (seat_at xs k)) (only_one m n h) ∙ up;
   calm = λ m c down on. absurd (true≢false (sym on ∙ down));
-  closed = λ m p c down on k d. absurd (true≢false (sym on ∙ down));
+  closed = λ m p c down on k d mk. absurd (true≢false (sym on ∙ down));
   fewer = omega arith;
 }
 
 -- its flag goes up, it needn't run, and below it nothing is found
-pub explores_new : (xs : List Node) (g : ℕ) (t u : List Bool) (n : ℕ) → AreSeated xs (length t) → is_computed_body (body_at xs n) ≡ true → is_marked t (seat_at xs n) ≡ false → is_due_at xs g n ≡ false →
-    Explores xs g (slice_set t (seat_at xs n) true) u (source_names (sources_in (memo_body (body_at xs n)))) → Explores xs g t u (n ∷ [])
-explores_new xs g t u n seated computed down calm e = record {
+pub explores_new : (xs : List Node) (ms : List Bool) (g : ℕ) (t u : List Bool) (n : ℕ) → AreSeated xs (length t) → is_computed_body (body_at xs n) ≡ true → is_marked t (seat_at xs n) ≡ false → is_due_at xs g n ≡ false →
+    Explores xs ms g (slice_set t (seat_at xs n) true) u (source_names (sources_in (memo_body (body_at xs n)))) → Explores xs ms g t u (n ∷ [])
+explores_new xs ms g t u n seated computed down calm e = record {
   size = e.size ∙ set_size t (seat_at xs n);
   more = λ s h. e.more s (set_more t (seat_at xs n) s h);
-  here = λ m h c. ap (λ k. is_marked u (seat_at xs k)) (only_one m n h) ∙ e.more (seat_at xs n) (set_here t (seat_at xs n) (seated.below n computed));
+  here = λ m h c mk. ap (λ k. is_marked u (seat_at xs k)) (only_one m n h) ∙ e.more (seat_at xs n) (set_here t (seat_at xs n) (seated.below n computed));
   calm = λ m c off on. elim (tested (is_marked (slice_set t (seat_at xs n) true) (seat_at xs m))) [
     | inl p ↦ ap (is_due_at xs g) (same m c off p) ∙ calm
     | inr q ↦ e.calm m c q on
   ];
-  closed = λ m p c off on k d. elim (tested (is_marked (slice_set t (seat_at xs n) true) (seat_at xs m))) [
-    | inl a ↦ e.here p (ap (λ o. is_in p (source_names (sources_in o))) (sym (memo_found xs g n)) ∙ ap (λ z. keeps (memos_of g xs) z p) (sym (same m c off a)) ∙ k) d
-    | inr q ↦ e.closed m p c q on k d
+  closed = λ m p c off on k d mk. elim (tested (is_marked (slice_set t (seat_at xs n) true) (seat_at xs m))) [
+    | inl a ↦ e.here p (ap (λ o. is_in p (source_names (sources_in o))) (sym (memo_found xs g n)) ∙ ap (λ z. keeps (memos_of g xs) z p) (sym (same m c off a)) ∙ k) d mk
+    | inr q ↦ e.closed m p c q on k d mk
   ];
   fewer =
       let a : unmarked (slice_set t (seat_at xs n) true) + 1 ≡ unmarked t = set_fewer t (seat_at xs n) (seated.below n computed) down in
@@ -211,36 +228,23 @@ only_keep xs g n m e = ap is_computed (stands xs n) ∙ go (body_at xs n) (sym (
     go (CellBody v r) q = cc
     go (ComputedBody c) q = refl
 
--- what keeps something is a computed
-keeper_computed : (xs : List Node) (g n m : ℕ) → keeps (memos_of g xs) n m ≡ true → is_computed_body (body_at xs n) ≡ true
-keeper_computed xs g n m h = go (body_at xs n) (ap (λ o. is_in m (source_names (sources_in o))) (sym (memo_found xs g n)) ∙ h)
-  where
-    go : (b : Body) → is_in m (source_names (sources_in (memo_body b))) ≡ true → is_computed_body b ≡ true
-    go Gone q = q
-    go (CellBody v r) q = q
-    go (ComputedBody c) q = refl
-
 -- what must run is a computed
 pub due_computed : (xs : List Node) (g n : ℕ) → is_computed_body (body_at xs n) ≡ false → is_due_at xs g n ≡ false
 due_computed xs g n h = due_found xs g n ∙ ap (λ b. b && must_run_by (memos_of g xs) (memo_body (body_at xs n)) []) h
 
+-- what isn't due needn't run
+calm_run : (xs : List Node) (g n : ℕ) → is_computed_body (body_at xs n) ≡ true → is_due_at xs g n ≡ false → must_run (memos_of g xs) n [] ≡ false
+calm_run xs g n c h = ap (λ m. must_run_by (memos_of g xs) m []) (memo_found xs g n) ∙ sym (ap (λ b. b && must_run_by (memos_of g xs) (memo_body (body_at xs n)) []) c) ∙ sym (due_found xs g n) ∙ h
+
 -- after a search from no flags nothing below must run
-pub below_clear : (xs : List Node) (g n m : ℕ) (t u : List Bool) → ((s : ℕ) → is_marked t s ≡ false) → Explores xs g t u (source_names (sources_in (memo_body (body_at xs n)))) → IsBelow (memos_of g xs) n m → is_due_at xs g m ≡ false
-below_clear xs g n m t u down e below = go n m (λ p k c. e.here p (ap (λ o. is_in p (source_names (sources_in o))) (sym (memo_found xs g n)) ∙ k) c) below
-  where
-    calm : (k : ℕ) → (is_computed_body (body_at xs k) ≡ true → is_marked u (seat_at xs k) ≡ true) → is_due_at xs g k ≡ false
-    calm k up = elim (tested (is_computed_body (body_at xs k))) [ inl c ↦ e.calm k c (down (seat_at xs k)) (up c) | inr off ↦ due_computed xs g k off ]
-
-    first : (a b : ℕ) → IsBelow (memos_of g xs) a b → (p : ℕ) × (keeps (memos_of g xs) a p ≡ true)
-    first a b (kept {m = q} h) = (q, h)
-    first a b (kept_below {p = q} h r) = (q, h)
-
-    go : (a b : ℕ) → ((p : ℕ) → keeps (memos_of g xs) a p ≡ true → is_computed_body (body_at xs p) ≡ true → is_marked u (seat_at xs p) ≡ true) → IsBelow (memos_of g xs) a b → is_due_at xs g b ≡ false
-    go a b up (kept h) = calm b (up b h)
-    go a b up (kept_below {p = q} h r) =
-        let next : (z : ℕ) × (keeps (memos_of g xs) q z ≡ true) = first q b r in
-        let c : is_computed_body (body_at xs q) ≡ true = keeper_computed xs g q next.0 next.1 in
-        go q b (λ p k d. e.closed q p c (down (seat_at xs q)) (up q h c) k d) r
+below_clear : (xs : List Node) (g : ℕ) (table : MarkTable) (n m : ℕ) (t u : List Bool) → KeepsMarks xs g table → ((s : ℕ) → is_marked t s ≡ false) →
+    Explores xs table.marked g t u (source_names (sources_in (memo_body (body_at xs n)))) → IsBelow (memos_of g xs) n m → is_due_at xs g m ≡ false
+below_clear xs g table n m t u h down e below =
+    explored_law (signals_of xs) (memos_of g xs) (depends table.dependants) (marked_at table.marked) (is_computing (state_of xs g 0 0)) (λ k. is_marked u (seat_at xs k)) n h.marked (record {
+      here = λ p k c mk. e.here p (ap (λ o. is_in p (source_names (sources_in o))) (sym (memo_found xs g n)) ∙ k) (computed_here xs p c) mk;
+      calm = λ k c up. calm_run xs g k (computed_here xs k c) (e.calm k (computed_here xs k c) (down (seat_at xs k)) up);
+      closed = λ k p c up has d mk. e.closed k p (computed_here xs k c) (down (seat_at xs k)) up has (computed_here xs p d) mk;
+    }) m below
 
 -- the seats of a graph's computeds
 pub seats_apart : (xs : List Node) (t : Seating) (g w : ℕ) → Holds xs t g w → AreSeated xs MOST_NODES
@@ -261,15 +265,22 @@ dirty_mark xs g n h = (mark_law (signals_of xs) (memos_of g xs) n Dirty (only_ke
     right true b q = q
     right false b q = absurd (true≢false (sym q))
 
-calm_run : (xs : List Node) (g n : ℕ) → is_computed_body (body_at xs n) ≡ true → is_due_at xs g n ≡ false → must_run (memos_of g xs) n [] ≡ false
-calm_run xs g n c h = ap (λ m. must_run_by (memos_of g xs) m []) (memo_found xs g n) ∙ sym (ap (λ b. b && must_run_by (memos_of g xs) (memo_body (body_at xs n)) []) c) ∙ sym (due_found xs g n) ∙ h
-
 pub checked_mark : (xs : List Node) (g n : ℕ) → is_computed_body (body_at xs n) ≡ true → is_due_at xs g n ≡ false → HasBelow (is_due_at xs g) (memos_of g xs) n → Checked ≡ mark_of (signals_of xs) (memos_of g xs) n
 checked_mark xs g n c h below = (mark_law (signals_of xs) (memos_of g xs) n Checked (only_keep xs g)).1 (calm_run xs g n c h, below)
 
-pub clean_mark : (xs : List Node) (g n : ℕ) (t u : List Bool) → is_computed_body (body_at xs n) ≡ true → is_due_at xs g n ≡ false → ((s : ℕ) → is_marked t s ≡ false) →
-    Explores xs g t u (source_names (sources_in (memo_body (body_at xs n)))) → Clean ≡ mark_of (signals_of xs) (memos_of g xs) n
-clean_mark xs g n t u c h down e = (mark_law (signals_of xs) (memos_of g xs) n Clean (only_keep xs g)).1 (calm_run xs g n c h, λ m b. below_clear xs g n m t u down e b)
+pub clean_mark : (xs : List Node) (g : ℕ) (table : MarkTable) (n : ℕ) (t u : List Bool) → KeepsMarks xs g table → is_computed_body (body_at xs n) ≡ true → is_due_at xs g n ≡ false → ((s : ℕ) → is_marked t s ≡ false) →
+    Explores xs table.marked g t u (source_names (sources_in (memo_body (body_at xs n)))) → Clean ≡ mark_of (signals_of xs) (memos_of g xs) n
+clean_mark xs g table n t u k c h down e = (mark_law (signals_of xs) (memos_of g xs) n Clean (only_keep xs g)).1 (calm_run xs g n c h, λ m b. below_clear xs g table n m t u k down e b)
+
+-- what isn't marked is clean
+pub unmarked_clean : (xs : List Node) (g : ℕ) (table : MarkTable) (n : ℕ) → KeepsMarks xs g table → is_computed_body (body_at xs n) ≡ true → marked_at table.marked n ≡ false → Clean ≡ mark_of (signals_of xs) (memos_of g xs) n
+unmarked_clean xs g table n k c off =
+    sym (unmarked_law (signals_of xs) (memos_of g xs) (depends table.dependants) (marked_at table.marked) (is_computing (state_of xs g 0 0)) n k.marked (ap is_computed (stands xs n) ∙ go (body_at xs n) c) off)
+  where
+    go : (b : Body) → is_computed_body b ≡ true → is_computed (stands_of n b) ≡ true
+    go Gone q = q
+    go (CellBody v r) q = q
+    go (ComputedBody d) q = refl
 
 -- ---- what is found
 

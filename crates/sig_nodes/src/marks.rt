@@ -4,12 +4,14 @@ ghost use Rattle.signal_model.specs.Memos.{must_run_by, some_moved, source_names
 ghost use Rattle.signal_model.specs.Marks.{mark_of, HasBelow};
 ghost use Rattle.sig_nodes.specs.Answers.{mark_meant};
 ghost use Rattle.sig_nodes.specs.Nodes.{body_at, has_differed, is_computed_body, memo_body, memos_of, seat_at, signals_of};
+ghost use Rattle.sig_nodes.specs.Places.{KeepsMarks};
 ghost use Rattle.sig_nodes.specs.Search.{is_due_at, AreSeated, Explores, HasDue};
 
 use crate::answers::Mark;
 use crate::bodies::{computation_at, differs, seat_at, sources_at};
 use crate::node::{Computation, Node};
 use sig_base::{MOST_NODES, NodeId};
+use sig_marks::Marks;
 
 // Whether one of the sources that a computed keeps has another number than the one that was read.
 fn some_moved(nodes: &[Node], computation: &Computation) -> bool
@@ -63,16 +65,22 @@ fn computed_seat(nodes: &[Node], id: NodeId) -> Option<usize>
     }
 }
 
-// Whether a computed that must run is kept below a name, where those whose flags are up are passed over.
+// Whether a computed that must run is kept below a name, where those that aren't marked, or whose flags are up, are passed over.
 #[cycle(search)]
-fn has_due_below(nodes: &[Node], generation: u128, id: NodeId, seen: &mut [bool]) -> bool
+fn has_due_below(
+    nodes: &[Node],
+    generation: u128,
+    marks: &Marks,
+    id: NodeId,
+    seen: &mut [bool],
+) -> bool
     requires { AreSeated nodes.now (length seen.old) }
     ensures found { result ≡ true → HasBelow (is_due_at nodes.now generation) (memos_of generation nodes.now) id }
     ensures clear { result ≡ false →
-        Explores nodes.now generation seen.old seen.new (source_names (sources_in (memo_body (body_at nodes.now id)))) }
+        Explores nodes.now marks.now.marked generation seen.old seen.new (source_names (sources_in (memo_body (body_at nodes.now id)))) }
 {
     for source in sources_at(nodes, id) {
-        if has_due_from(nodes, generation, *source, seen) {
+        if has_due_from(nodes, generation, marks, *source, seen) {
             return true;
         }
     }
@@ -81,11 +89,20 @@ fn has_due_below(nodes: &[Node], generation: u128, id: NodeId, seen: &mut [bool]
 
 // The same of the name itself and what is kept below it.
 #[cycle(search)]
-fn has_due_from(nodes: &[Node], generation: u128, id: NodeId, seen: &mut [bool]) -> bool
+fn has_due_from(
+    nodes: &[Node],
+    generation: u128,
+    marks: &Marks,
+    id: NodeId,
+    seen: &mut [bool],
+) -> bool
     requires { AreSeated nodes.now (length seen.old) }
     ensures found { result ≡ true → HasDue nodes.now generation id }
-    ensures clear { result ≡ false → Explores nodes.now generation seen.old seen.new (id ∷ []) }
+    ensures clear { result ≡ false → Explores nodes.now marks.now.marked generation seen.old seen.new (id ∷ []) }
 {
+    if !marks.is_marked(id) {
+        return false;
+    }
     let Some(seat) = computed_seat(nodes, id) else {
         return false;
     };
@@ -96,20 +113,24 @@ fn has_due_from(nodes: &[Node], generation: u128, id: NodeId, seen: &mut [bool])
     if is_due(nodes, generation, id) {
         return true;
     }
-    has_due_below(nodes, generation, id, seen)
+    has_due_below(nodes, generation, marks, id, seen)
 }
 
 /// The mark of a computed in a generation.
-pub(crate) fn mark_at(nodes: &[Node], generation: u128, id: NodeId) -> Mark
+pub(crate) fn mark_at(nodes: &[Node], generation: u128, marks: &Marks, id: NodeId) -> Mark
     requires live { is_computed_body (body_at nodes.now id) ≡ true }
+    requires marks { KeepsMarks nodes.now generation marks.now }
     requires seats { AreSeated nodes.now MOST_NODES }
     ensures { mark_meant result ≡ mark_of (signals_of nodes.now) (memos_of generation nodes.now) id }
 {
+    if !marks.is_marked(id) {
+        return Mark::Clean;
+    }
     if is_due(nodes, generation, id) {
         return Mark::Dirty;
     }
     let mut seen = [false; MOST_NODES];
-    if has_due_below(nodes, generation, id, &mut seen) {
+    if has_due_below(nodes, generation, marks, id, &mut seen) {
         Mark::Checked
     } else {
         Mark::Clean

@@ -3,7 +3,7 @@ use Rattle.std.specs.Prelude.{slice_set}
 use Rattle.signal_model.specs.Memos.{source_names, sources_in}
 use Rattle.sig_nodes.specs.Nodes.{body_at, memo_body}
 use Rattle.sig_nodes.specs.Search.{is_marked, AreSeated, Explores}
-use Rattle.sig_nodes.proofs.Searching.{due_below, explores_more, explores_new, explores_seen, flag_at, keeps_item, set_fewer, set_size, take_more}
+use Rattle.sig_nodes.proofs.Searching.{due_below, explores_more, explores_new, explores_seen, explores_unmarked, flag_at, keeps_item, set_fewer, set_size, take_more}
 use Rattle.sig_nodes.proofs.marks.+search.Goals as goal
 
 pub has_due_below-returns-then-has_due_from-clause-found : goal.has_due_below-returns-then-has_due_from-clause-found
@@ -17,13 +17,13 @@ has_due_below-loop-source-preserved t c =
     let xs = c.args.nodes.now in
     let items = c.sources_at-source-items.result.now in
     let i = c.loop-source.source-index in
-    subst (λ (ns : List ℕ). Explores xs c.args.generation c.args.seen.now c.has_due_from.new.seen ns) (sym (take_more items i c.source-item.result c.loop-source-test.true c.source-item.is))
-    (explores_more xs c.args.generation c.args.seen.now c.loop-source.seen c.has_due_from.new.seen (take i items) c.source-item.result c.loop-source.invariant (c.has_due_from.ensures.clear c.if-has_due_from.false))
+    subst (λ (ns : List ℕ). Explores xs c.args.marks.now.marked c.args.generation c.args.seen.now c.has_due_from.new.seen ns) (sym (take_more items i c.source-item.result c.loop-source-test.true c.source-item.is))
+    (explores_more xs c.args.marks.now.marked c.args.generation c.args.seen.now c.loop-source.seen c.has_due_from.new.seen (take i items) c.source-item.result c.loop-source.invariant (c.has_due_from.ensures.clear c.if-has_due_from.false))
 
 pub has_due_from-returns-then-seen-seat-clause-clear : goal.has_due_from-returns-then-seen-seat-clause-clear
 has_due_from-returns-then-seen-seat-clause-clear t c = λ q.
     let up = sym (flag_at c.args.seen.now c.in-Some.seat) ∙ c.if-seen-seat.true in
-    explores_seen c.args.nodes.now c.args.generation c.args.seen.now c.args.id (ap (is_marked c.args.seen.now) (sym c.in-Some.ensures.some.1) ∙ up)
+    explores_seen c.args.nodes.now c.args.marks.now.marked c.args.generation c.args.seen.now c.args.id (ap (is_marked c.args.seen.now) (sym c.in-Some.ensures.some.1) ∙ up)
 
 pub has_due_from-has_due_below-requires : goal.has_due_from-has_due_below-requires
 has_due_from-has_due_below-requires t c =
@@ -40,5 +40,9 @@ has_due_from-returns-clause-clear t c = λ q.
     let some = c.in-Some.ensures.some in
     let down = sym (flag_at c.args.seen.now c.in-Some.seat) ∙ c.if-seen-seat.false in
     let e = c.has_due_below.ensures.clear q in
-    explores_new xs c.args.generation c.args.seen.now c.has_due_below.new.seen c.args.id c.requires some.0 (ap (is_marked c.args.seen.now) (sym some.1) ∙ down) (sym c.is_due.ensures ∙ c.if-is_due.false)
-    (subst (λ s. Explores xs c.args.generation (slice_set c.args.seen.now s true) c.has_due_below.new.seen (source_names (sources_in (memo_body (body_at xs c.args.id))))) some.1 e)
+    explores_new xs c.args.marks.now.marked c.args.generation c.args.seen.now c.has_due_below.new.seen c.args.id c.requires some.0 (ap (is_marked c.args.seen.now) (sym some.1) ∙ down) (sym c.is_due.ensures ∙ c.if-is_due.false)
+    (subst (λ s. Explores xs c.args.marks.now.marked c.args.generation (slice_set c.args.seen.now s true) c.has_due_below.new.seen (source_names (sources_in (memo_body (body_at xs c.args.id))))) some.1 e)
+
+pub has_due_from-returns-then-not-is_marked-clause-clear : goal.has_due_from-returns-then-not-is_marked-clause-clear
+has_due_from-returns-then-not-is_marked-clause-clear t c = λ q.
+    explores_unmarked c.args.nodes.now c.args.marks.now.marked c.args.generation c.args.seen.now c.args.id (sym c.is_marked.ensures ∙ c.if-not-is_marked.true)

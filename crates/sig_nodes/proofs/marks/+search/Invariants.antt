@@ -9,4 +9,4 @@ abbrev pub decreases-has_due_from : goal.decreases-has_due_from
 decreases-has_due_from l = 2 * unmarked l.seen.now
 
 abbrev pub invariant-has_due_below-loop-source : goal.invariant-has_due_below-loop-source
-invariant-has_due_below-loop-source l = Explores l.nodes l.generation l.fn.seen l.seen (take l.source-index l.source-items)
+invariant-has_due_below-loop-source l = Explores l.nodes l.marks.marked l.generation l.fn.seen l.seen (take l.source-index l.source-items)

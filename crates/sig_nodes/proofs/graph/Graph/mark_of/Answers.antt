@@ -1,3 +1,4 @@
+use Rattle.sig_nodes.specs.Places.{KeepsMarks}
 use Rattle.std.proofs.Common.{◌≡◌, true, List, sym, ap, ◌∙◌, subst}
 use Rattle.signal_model.specs.Standing.{is_computed, standing}
 use Rattle.signal_model.specs.Marks.{mark_of}
@@ -18,6 +19,9 @@ mark_at-requires-clause-live c =
 pub mark_at-requires-clause-seats : goal.mark_at-requires-clause-seats
 mark_at-requires-clause-seats c =
     subst (λ (xs : List Node). AreSeated xs MOST_NODES) (sym c.deref.ensures.value) (seats_apart c.self.inside.nodes.items c.self.inside.seats c.self.inside.generation c.self.inside.worn c.self.invariant.fields)
+
+pub mark_at-requires-clause-marks : goal.mark_at-requires-clause-marks
+mark_at-requires-clause-marks c = subst (λ (xs : List Node). KeepsMarks xs c.self.inside.generation c.self.inside.marks) (sym c.deref.ensures.value) c.self.invariant.marks
 
 pub returns : goal.returns
 returns c =
