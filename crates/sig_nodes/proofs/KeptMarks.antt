@@ -1,13 +1,13 @@
 -- Dependants and marks after each edit of a graph's nodes.
-use Rattle.std.proofs.Common.{◌≡◌, ℕ, zero, suc, ◌+◌, ◌<◌, ◌≤◌, ◌==◌, ◌||◌, ◌&&◌, not, Bool, true, false, cond, if◌then◌else◌, List, [], ◌∷◌, ◌++◌, length, length-append, map, Option, Some, None, refl, sym, ap, ◌∙◌, subst, arith, ◌⊎◌, inl, inr, true≢false}
+use Rattle.std.proofs.Common.{◌≡◌, ℕ, ◌+◌, ◌<◌, ◌==◌, ◌||◌, ◌&&◌, not, Bool, true, false, cond, if◌then◌else◌, List, [], ◌∷◌, ◌++◌, length, length-append, map, Option, Some, None, refl, sym, ap, ◌∙◌, subst, arith, ◌⊎◌, inl, inr, true≢false}
 use Rattle.std.specs.Prelude.{slice_set, is_some}
 use Rattle.std.proofs.lemmas.Bool.{eqb-true, eq-eqb}
 use Rattle.sig_base.specs.declared.value.Value.{Value}
 use Rattle.sig_base.specs.declared.value.Outcome.{Outcome}
 use Rattle.sig_base.specs.declared.value.Known.{Known}
 use Rattle.signal_model.specs.Recipes.{Recipe}
-use Rattle.signal_model.specs.Standing.{Signals, Cell, Computed, Stands, IsGone, IsCell, IsComputed, is_computed, is_in, is_there, standing}
-use Rattle.signal_model.specs.Memos.{Memo, Memos, Entry, entry_at, holds_cycle, is_cycle, memo_of, must_run, keeps, named_now, source_names, sources_in, sources_of}
+use Rattle.signal_model.specs.Standing.{Signals, Cell, Computed, IsCell, IsComputed, is_computed, is_in, is_there, standing}
+use Rattle.signal_model.specs.Memos.{Memo, Memos, Entry, entry_at, holds_cycle, is_cycle, must_run, keeps, named_now, source_names, sources_in, sources_of}
 use Rattle.signal_model.proofs.Shared.{tested}
 use Rattle.sig_marks.specs.Tables.{Drops, MarkTable, Pushes, Relinks, Spreads, depends, marked_at, with_place}
 use Rattle.std.specs.List.{All}

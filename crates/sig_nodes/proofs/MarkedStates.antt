@@ -1,14 +1,14 @@
 -- The laws of marks, over a state.
-use Rattle.std.proofs.Common.{◌≡◌, ℕ, ◌==◌, ◌||◌, Bool, true, false, cond, List, [], ◌∷◌, ◌++◌, Option, Some, None, refl, sym, ap, ◌∙◌, subst, ◌⊎◌, inl, inr}
+use Rattle.std.proofs.Common.{◌≡◌, ℕ, ◌==◌, Bool, true, false, cond, List, [], ◌∷◌, ◌++◌, Option, Some, None, refl, sym, ap, ◌∙◌, inl, inr}
 use Rattle.std.specs.Prelude.{is_some}
 use Rattle.std.proofs.lemmas.Bool.{eqb-true, eq-eqb}
 use Rattle.sig_base.specs.declared.value.Known.{Known}
-use Rattle.signal_model.specs.Standing.{Signals, Computed, IsComputed, is_computed, standing, changed, without}
+use Rattle.signal_model.specs.Standing.{Signals, changed, without}
 use Rattle.signal_model.specs.Memos.{Memos}
 use Rattle.signal_model.proofs.Shared.{tested}
-use Rattle.sig_nodes.specs.States.{State, Progress, progress_at, is_computing, with_disposal, with_kept_run, with_look, with_new_computed, with_progress}
+use Rattle.sig_nodes.specs.States.{State, Progress, progress_at, is_computing, with_disposal, with_new_computed, with_progress}
 use Rattle.sig_nodes.proofs.Shared.{progress_ended, progress_other}
-use Rattle.mark_laws.specs.Marked.{AreMarked, HasSpread, with_flag}
+use Rattle.mark_laws.specs.Marked.{AreMarked, with_flag}
 use Rattle.mark_laws.proofs.Shared.{begin_marks_law, cell_marks_law, computed_marks_law, dispose_marks_law, rewire_marks_law, run_marks_law, searched_law, set_marks_law, stop_marks_law}
 use Rattle.mark_laws.proofs.Shared as marks_of
 use Rattle.sig_nodes.specs.StateMarks.{BeginLaw, DisposeLaw, UnmarkLaw, KeepLaw, LookLaw, NewCellLaw, NewComputedLaw, OnwardLaw, RewireLaw, SetLaw, StopLaw}
