@@ -242,6 +242,7 @@ module _ {S : Type 0} where
   dropped a b c sources n off len empty = record {
     len = keys_len c ∙ len ∙ off.len ∙ sym (keys_len a);
     now = λ m d other. empty m d ∙ ap (λ x. cond x false (depends_in b m d)) other ∙ off.off m d;
+    own = λ d. empty n d ∙ ap (λ x. cond x false (depends_in b n d)) (eq-eqb n n refl);
     less = λ m d on. by m d (n == d && is_in m sources) (sym (off.off m d) ∙ kept m d (m == n) (sym (empty m d) ∙ on));
   }
     where

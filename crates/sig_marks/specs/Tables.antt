@@ -40,6 +40,7 @@ pub record Relinks (old new : List (List ℕ)) (sources reads : List ℕ) (reade
 pub record Drops (old new : List (List ℕ)) (sources : List ℕ) (n : ℕ) : Type 0 where
   pub len : length new ≡ length old
   pub now : (m d : ℕ) → (m == n) ≡ false → depends new m d ≡ (if n == d && is_in m sources then false else depends old m d)
+  pub own : (d : ℕ) → depends new n d ≡ false
   pub less : (m d : ℕ) → depends new m d ≡ true → depends old m d ≡ true
 
 -- a place that comes after another along dependants none of which was marked
