@@ -33,7 +33,7 @@ use Rattle.live_model.specs.declared.names.Need.TheVariants as need
 use Rattle.live_model.specs.Labels.{labels_after}
 use Rattle.live_model.specs.Linking.{linked_body, owner_of, recipe_of}
 use Rattle.live_model.specs.Machine as machine
-use Rattle.live_model.specs.Machine.{Machine, Told, acted_on_pages, after_turns, body_refusal, brought_up, carried_on, count_refusal, disposing, done, empty}
+use Rattle.live_model.specs.Machine.{Machine, Told, acted_on_pages, after_turns, body_refusal, brought_up, carried_on, disposing, done, empty}
 use Rattle.live_model.specs.Machine.{entries_of, is_trying, later_refusal, name_refusal, named, ops_told, over_limit, page_at, place_refusal, refusal_of, row_refusal}
 use Rattle.live_model.specs.Machine.{news_of, pending_labels, seen_of, scratching, settling, shown_of, source_labels, step, template_at, template_reads, unwatch_refusal, update_all}
 use Rattle.live_model.specs.Pages.{Page, page_html, scratch_html}
@@ -81,15 +81,13 @@ makes env m c e t world quiet none = record {
 
 names_fine : (slacks : List ℕ) (m : Machine) (c : Command) → refusal_of slacks m c ≡ None → first_refusal m.world m.names (uses_of c) ≡ None
 names_fine slacks m c e =
-    let a = none_of (count_refusal c) (option_or (name_refusal m c) (later_refusal slacks m c)) e in
-    let b = none_of (name_refusal m c) (later_refusal slacks m c) a.1 in
-    (none_of (first_refusal m.world m.names (uses_of c)) (body_refusal m c) b.0).0
+    let a = none_of (name_refusal m c) (later_refusal slacks m c) e in
+    (none_of (first_refusal m.world m.names (uses_of c)) (body_refusal m c) a.0).0
 
 places_fine : (slacks : List ℕ) (m : Machine) (c : Command) → refusal_of slacks m c ≡ None → place_refusal slacks m.world c ≡ None
 places_fine slacks m c e =
-    let a = none_of (count_refusal c) (option_or (name_refusal m c) (later_refusal slacks m c)) e in
-    let b = none_of (name_refusal m c) (later_refusal slacks m c) a.1 in
-    (none_of (place_refusal slacks m.world c) (option_or (row_refusal m c) (option_or (over_limit m c) (unwatch_refusal m c))) b.1).0
+    let a = none_of (name_refusal m c) (later_refusal slacks m c) e in
+    (none_of (place_refusal slacks m.world c) (option_or (row_refusal m c) (option_or (over_limit m c) (unwatch_refusal m c))) a.1).0
 
 -- the uses behind the first
 behind_first : (slacks : List ℕ) (m : Machine) (c : Command) (u : Use) (us : List Use) → uses_of c ≡ u ∷ us → refusal_of slacks m c ≡ None →

@@ -1,4 +1,6 @@
+mod Fitting
 mod NewRows
+mod ReadBodies
 mod Readable
 mod Showing
 pub mod Shared

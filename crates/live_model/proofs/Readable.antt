@@ -1,6 +1,10 @@
--- A template that an item of a script makes is one that was read.
-use Rattle.std.proofs.Common.{ℕ, Bool, true, false, cond, List, [], ◌∷◌, map, Option, Some, None, Ok, Err, sym, subst}
-use Rattle.std.specs.List.{AllByRecursion}
+-- An item of a script is as a script has it.
+use Rattle.std.proofs.Common.{◌≡◌, ◌≤◌, ℕ, nat_lt, not, Bool, true, false, cond, List, [], ◌∷◌, length, map, Option, Some, None, Ok, Err, refl, sym, ap, subst}
+use Rattle.std.specs.Option.{option_or}
+use Rattle.std.proofs.lemmas.Bool.{and_from, ltb-false}
+use Rattle.sig_base.specs.declared.limits.TheConstants.{MOST_SOURCES}
+use Rattle.formula_text.specs.declared.wired.FormulaFault.TheVariants as fault
+use Rattle.line_forms.specs.Told.{fault_of_arguments}
 use Rattle.script_lines.specs.Lines.{NumberedLine}
 use Rattle.script_lines.specs.Pieces.{Piece}
 use Rattle.body_text.specs.declared.fault.BodyWhy.{BodyWhy}
@@ -18,78 +22,98 @@ use Rattle.live_cmd.specs.declared.contents.Content.TheVariants as content
 use Rattle.live_cmd.specs.declared.line.Line.{Line}
 use Rattle.live_cmd.specs.declared.line.Line.TheVariants as line
 use Rattle.live_cmd.specs.Blocks.{block_item, body_refused, effect_content, template_content, template_refused, IsContent}
-use Rattle.live_cmd.specs.Grammar.{Said, line_of, verb, cell, set, list, insert_row, remove_row, move_row, put_field, computed, computed_host, rewire, rewire_host, owner}
+use Rattle.live_cmd.specs.declared.place.Place.TheVariants as place
+use Rattle.live_cmd.specs.Grammar.{Said, are_fields, line_of, verb, cell, set, list, insert_row, remove_row, move_row, put_field, computed, computed_host, rewire, rewire_host, owner}
 use Rattle.live_cmd.specs.Grammar.{watcher, tries_get, tries_set, tries_watch, tries_unwatch, watch, unwatch, mount, flush, effect, template, close}
-use Rattle.live_cmd.specs.Items.{command_of, first_number, has_many_fields, item_made, item_or, unless_refused, IsItem, long, unended, block, faulty, says}
-use Rattle.live_cmd.specs.Judging.{faults_of, refusal_of}
+use Rattle.live_cmd.specs.Items.{command_of, first_number, has_many_fields, item_or, unless_refused, IsItem, Say, long, unended, block, faulty, says}
+use Rattle.live_cmd.specs.Judging.{Sayings, excess, fault_of, faults_of, first_excess, first_misplaced, refusal_of}
+use Rattle.live_cmd.specs.Places.{fits, kind_of, kind_with}
 use Rattle.live_entries.specs.declared.refusal.Refusal.{Refusal}
 use Rattle.live_model.specs.Reading.{IsReadable, IsReadItem}
+use Rattle.live_model.proofs.ReadBodies.{body_read, neither}
 
--- a line makes no template by itself
+-- what a line makes by itself, if it has not too many fields
 abbrev IsReadLine : Line → Type 0
-IsReadLine (line.Alone c) = IsReadable c
+IsReadLine (line.Alone c) = has_many_fields c ≡ false → IsReadable c
 IsReadLine _ = Unit {0}
 
--- so it is with each line that says something
-line_read : (x : Said) → IsReadLine (line_of x)
-line_read (verb v, (a, tt)) = tt
-line_read (cell, (a, (b, (c, (d, tt))))) = tt
-line_read (set, (a, (b, tt))) = tt
-line_read (list, (a, (b, (c, tt)))) = tt
-line_read (insert_row, (a, (b, (c, (d, tt))))) = tt
-line_read (remove_row, (a, (b, tt))) = tt
-line_read (move_row, (a, (b, (c, tt)))) = tt
-line_read (put_field, (a, (b, (c, (d, tt))))) = tt
-line_read (computed, (a, (b, (c, tt)))) = tt
-line_read (computed_host, (a, (b, (c, (d, tt))))) = tt
-line_read (rewire, (a, (b, tt))) = tt
-line_read (rewire_host, (a, (b, (c, tt)))) = tt
-line_read (owner, (a, (b, tt))) = tt
-line_read (watcher, (a, tt)) = tt
-line_read (tries_get, (a, (b, tt))) = tt
-line_read (tries_set, (a, (b, (c, tt)))) = tt
-line_read (tries_watch, (a, (b, (c, tt)))) = tt
-line_read (tries_unwatch, (a, (b, (c, tt)))) = tt
-line_read (watch, (a, (b, tt))) = tt
-line_read (unwatch, (a, (b, tt))) = tt
-line_read (mount, (a, (b, (c, tt)))) = tt
-line_read (flush, tt) = tt
-line_read (effect, (a, (b, tt))) = tt
-line_read (template, (a, tt)) = tt
-line_read (close, tt) = tt
+-- fields that may stand in a line are those of a list
+alone : (b : Bool) → fits place.First (kind_with b) ≡ true → b ≡ true
+alone true e = refl
+alone false e = absurd cc
+
+-- a host formula for which its line isn't refused has few arguments
+few_arguments : (ns : List (List ℕ)) → excess (option_or (fault_of_arguments ns) None) ≡ None → length ns ≤ MOST_SOURCES
+few_arguments ns e = at (nat_lt MOST_SOURCES (length ns)) refl e
+  where
+    at : (b : Bool) → nat_lt MOST_SOURCES (length ns) ≡ b → excess (option_or (cond b (Some fault.Sources) None) None) ≡ None → length ns ≤ MOST_SOURCES
+    at true is h = absurd cc
+    at false is h = ltb-false MOST_SOURCES (length ns) is
+
+-- what a line says that may stand where a command begins, and has not too much of anything
+line_read : (x : Said) → fits place.First (kind_of x) ≡ true → excess (fault_of x) ≡ None → IsReadLine (line_of x)
+line_read (verb v, (a, tt)) may e = λ few. tt
+line_read (cell, (a, (b, (c, (d, tt))))) may e = λ few. tt
+line_read (set, (a, (b, tt))) may e = λ few. tt
+line_read (list, (n, (fields, (o, tt)))) may e = λ few. and_from _ _ (alone (are_fields fields) may) (ap not few)
+line_read (insert_row, (a, (b, (c, (d, tt))))) may e = λ few. tt
+line_read (remove_row, (a, (b, tt))) may e = λ few. tt
+line_read (move_row, (a, (b, (c, tt)))) may e = λ few. tt
+line_read (put_field, (a, (b, (c, (d, tt))))) may e = λ few. tt
+line_read (computed, (a, (b, (c, tt)))) may e = λ few. tt
+line_read (computed_host, (n, (place, (arguments, (o, tt))))) may e = λ few. few_arguments arguments e
+line_read (rewire, (a, (b, tt))) may e = λ few. tt
+line_read (rewire_host, (n, (place, (arguments, tt)))) may e = λ few. few_arguments arguments e
+line_read (owner, (a, (b, tt))) may e = λ few. tt
+line_read (watcher, (a, tt)) may e = λ few. tt
+line_read (tries_get, (a, (b, tt))) may e = λ few. tt
+line_read (tries_set, (a, (b, (c, tt)))) may e = λ few. tt
+line_read (tries_watch, (a, (b, (c, tt)))) may e = λ few. tt
+line_read (tries_unwatch, (a, (b, (c, tt)))) may e = λ few. tt
+line_read (watch, (a, (b, tt))) may e = λ few. tt
+line_read (unwatch, (a, (b, tt))) may e = λ few. tt
+line_read (mount, (a, (b, (c, tt)))) may e = λ few. tt
+line_read (flush, tt) may e = λ few. tt
+line_read (effect, (a, (b, tt))) may e = tt
+line_read (template, (a, tt)) may e = tt
+line_read (close, tt) may e = tt
 
 -- what lines are, if they are a command
 abbrev IsReadMaybe : Option Command → Type 0
 IsReadMaybe None = Unit {0}
-IsReadMaybe (Some c) = IsReadable c
+IsReadMaybe (Some c) = has_many_fields c ≡ false → IsReadable c
 
-command_read : (ls : List Line) → AllByRecursion IsReadLine ls → IsReadMaybe (command_of ls)
-command_read [] all = tt
-command_read (line.Alone c ∷ []) all = all.0
-command_read (line.Alone c ∷ l ∷ ls) all = tt
-command_read (line.Effect n o ∷ ls) all = tt
-command_read (line.Template n ∷ ls) all = tt
-command_read (line.End ∷ ls) all = tt
+one_read : (l : Line) → IsReadLine l → IsReadMaybe (command_of (l ∷ []))
+one_read (line.Alone c) read = read
+one_read (line.Effect n o) read = tt
+one_read (line.Template n) read = tt
+one_read line.End read = tt
 
--- lines of what is said
-lines_read : {A : Type 0} (f : A → Said) (xs : List A) → AllByRecursion IsReadLine (map (λ x. line_of (f x)) xs)
-lines_read f [] = tt
-lines_read f (x ∷ xs) = (line_read (f x), lines_read f xs)
+more_read : (l m : Line) (ls : List Line) → IsReadMaybe (command_of (l ∷ m ∷ ls))
+more_read (line.Alone c) m ls = tt
+more_read (line.Effect n o) m ls = tt
+more_read (line.Template n) m ls = tt
+more_read line.End m ls = tt
+
+-- lines that say something
+says_read : (ls : List NumberedLine) (xs : Sayings) → Say place.First ls xs → first_excess (faults_of xs) ≡ None
+    → IsReadMaybe (command_of (map (λ x. line_of x.1) xs))
+says_read ls [] say e = tt
+says_read [] (x ∷ xs) say e = absurd say
+says_read (l ∷ ls) (x ∷ []) say e = one_read (line_of x.1) (line_read x.1 say.2 (neither (excess (fault_of x.1)) None e).0)
+says_read (l ∷ ls) (x ∷ y ∷ xs) say e = more_read (line_of x.1) (line_of y.1) (map (λ x. line_of x.1) xs)
 
 -- a choice of a refusal
-chosen_read : (b : Bool) (r : Refusal) (c : Command) → IsReadable c → IsReadItem (cond b (item.Refused r) (item.Do c))
+chosen_read : (b : Bool) (r : Refusal) (c : Command) → (b ≡ false → IsReadable c) → IsReadItem (cond b (item.Refused r) (item.Do c))
 chosen_read true r c read = tt
-chosen_read false r c read = read
-
-made_read : (c : Command) → IsReadable c → IsReadItem (item_made c)
-made_read c read = chosen_read (has_many_fields c) _ c read
+chosen_read false r c read = read refl
 
 or_read : (k : ℕ) (o : Option Command) → IsReadMaybe o → IsReadItem (item_or k o)
 or_read k None read = tt
-or_read k (Some c) read = made_read c read
+or_read k (Some c) read = chosen_read (has_many_fields c) _ c read
 
-unless_read : (o : Option Refusal) (i : Item) → IsReadItem i → IsReadItem (unless_refused o i)
-unless_read None i read = read
+unless_read : (o : Option Refusal) (i : Item) → (o ≡ None → IsReadItem i) → IsReadItem (unless_refused o i)
+unless_read None i read = read refl
 unless_read (Some r) i read = tt
 
 -- ---- blocks
@@ -119,9 +143,9 @@ untold_template k unread.Sources = tt
 untold_template k unread.Lines = tt
 untold_template k (unread.NoMemory e) = tt
 
-effect_read : (n : List ℕ) (o : Option (List ℕ)) (x : bodies.Answer) → IsReadContent (effect_content n o x)
-effect_read n o (Ok b) = tt
-effect_read n o (Err f) = untold_body f.at f.why
+effect_read : (n : List ℕ) (o : Option (List ℕ)) (ls : List NumberedLine) (x : bodies.Answer) → bodies.IsRead ls x → IsReadContent (effect_content n o x)
+effect_read n o ls (Ok b) read = body_read ls b read
+effect_read n o ls (Err f) read = untold_body f.at f.why
 
 template_read : (n : List ℕ) (ls : List NumberedLine) (x : templates.Answer) → templates.IsRead ls x → IsReadContent (template_content n x)
 template_read n ls (Ok t) read = read_law ls t read
@@ -129,7 +153,7 @@ template_read n ls (Err f) read = untold_template f.at f.why
 
 -- what lines behind a first line come to
 content_read : (x : Said) (ls : List NumberedLine) (c : Content) → IsContent x ls c → IsReadContent c
-content_read (effect, (n, (o, tt))) ls c is = subst IsReadContent (sym is.2) (effect_read n o is.0)
+content_read (effect, (n, (o, tt))) ls c is = subst IsReadContent (sym is.2) (effect_read n o ls is.0 is.1)
 content_read (template, (n, tt)) ls c is = subst IsReadContent (sym is.2) (template_read n ls is.0 is.1)
 content_read (verb v, a) ls c is = absurd is
 content_read (cell, a) ls c is = absurd is
@@ -170,5 +194,6 @@ item_read p _ (block b c a d is) = block_read b.ends b.last.0 c (content_read b.
 item_read p _ (faulty k a b d is) = tt
 item_read p _ (says xs a b is) =
     let made = command_of (map (λ x. line_of x.1) xs) in
-    unless_read (refusal_of (faults_of xs)) (item_or (first_number p.lines) made)
-    (or_read (first_number p.lines) made (command_read (map (λ x. line_of x.1) xs) (lines_read (λ x. x.1) xs)))
+    let faults = faults_of xs in
+    unless_read (refusal_of faults) (item_or (first_number p.lines) made)
+    (λ none. or_read (first_number p.lines) made (says_read p.lines xs is (neither (first_misplaced faults) (first_excess faults) none).1))

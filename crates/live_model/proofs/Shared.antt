@@ -2,7 +2,7 @@
 
 -- the HTML of a page that is carried to a shape is that of the shape, and so it is with all that live after a flush
 pub use Rattle.live_model.proofs.Showing.{flush_law, page_law}
--- a template that an item of a script makes is one that was read
+-- an item of a script is as a script has it
 pub use Rattle.live_model.proofs.Readable.{item_read}
 -- rows that are still to come are rows
 pub use Rattle.live_model.proofs.NewRows.{new_rows}

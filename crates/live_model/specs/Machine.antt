@@ -1,9 +1,9 @@
 -- The machine, and what each command does to it.
-use Rattle.std.specs.Prelude.{ℕ, ◌==◌, ◌&&◌, not, nat_lt, Bool, true, false, List, [], ◌∷◌, ◌++◌}
+use Rattle.std.specs.Prelude.{ℕ, ◌==◌, nat_lt, Bool, true, false, List, [], ◌∷◌, ◌++◌}
 use Rattle.std.specs.Prelude.{Option, Some, None, length, map, slice_get, unwrap_or, if◌then◌else◌}
 use Rattle.std.specs.List.{filter}
 use Rattle.std.specs.Option.{option_or, option_map, option_map_or}
-use Rattle.sig_base.specs.declared.limits.TheConstants.{MOST_FIELDS, MOST_NODES, MOST_PAGES, MOST_SOURCES, MOST_TEMPLATES}
+use Rattle.sig_base.specs.declared.limits.TheConstants.{MOST_NODES, MOST_PAGES, MOST_TEMPLATES}
 use Rattle.sig_base.specs.Values.{scalar_value}
 use Rattle.sig_base.specs.declared.value.Value.TheVariants as value
 use Rattle.page_model.specs.Pages.{NumberedPage, bare}
@@ -31,7 +31,6 @@ use Rattle.sig_owner.specs.declared.limits.TheConstants.{MOST_OWNERS}
 use Rattle.sig_untrack.specs.Stated.{Bodies}
 use Rattle.effect_tables.specs.declared.tables.TheConstants.{MOST_EFFECTS}
 use Rattle.effect_tables.specs.Placed.{at_rest}
-use Rattle.live_cmd.specs.Grammar.{are_fields}
 use Rattle.live_cmd.specs.declared.command.SourceText.{SourceText}
 use Rattle.live_cmd.specs.declared.command.SourceText.TheVariants as source
 use Rattle.live_cmd.specs.declared.command.RowEdit.{RowEdit}
@@ -57,7 +56,7 @@ use Rattle.live_model.specs.Linking.{recipe_of, owner_of, linked_body, linked_te
 use Rattle.live_model.specs.Names.{Names, meaning_of, number_of, thing_named, first_refusal, first_within}
 use Rattle.live_model.specs.Pages.{Template, template_in, Page, page_html, scratch_html, asked_of}
 use Rattle.live_model.specs.Rows.{edited, edit_refusal, no_rows, rows_at}
-use Rattle.live_model.specs.Uses.{uses_of, uses_of_body, hosts_of_body, is_fit}
+use Rattle.live_model.specs.Uses.{uses_of, uses_of_body, hosts_of_body}
 
 -- What the names stand for, in order of making; what things are called; the signals, what is kept of them, the watchers, and the owners,
 -- effects and pages with what stands under what; the templates; the pages that live, in order of mounting.
@@ -316,23 +315,6 @@ done env m command.Flush = flushing env m
 
 -- ---- refusals
 
--- a host formula on more signals than a formula may name; a script with such a line is refused for it before
-abbrev pub sources_refusal : SourceText → Option Refusal
-sources_refusal (source.Formula f) = None
-sources_refusal (source.Host place arguments) = if nat_lt MOST_SOURCES (length arguments) then Some (refusal.Limit limit.Sources) else None
-
--- whether names are those of a list's fields
-abbrev pub is_list : List (List ℕ) → Bool
-is_list fields = are_fields fields && not (nat_lt MOST_FIELDS (length fields))
-
--- a command with such a one, or with fields or a body that no script can have
-abbrev pub count_refusal : Command → Option Refusal
-count_refusal (command.Computed n s inside) = sources_refusal s
-count_refusal (command.Rewire n s) = sources_refusal s
-count_refusal (command.List n fields inside) = if is_list fields then None else Some (refusal.Limit limit.Fields)
-count_refusal (command.Effect n b inside) = if is_fit b then None else Some (refusal.Limit limit.Body)
-count_refusal c = None
-
 -- the names in the body of an effect
 abbrev pub body_refusal : Machine → Command → Option Refusal
 body_refusal m (command.Effect n b inside) = first_within m.world m.names n (uses_of_body b)
@@ -404,10 +386,10 @@ abbrev pub later_refusal : List ℕ → Machine → Command → Option Refusal
 later_refusal slacks m c =
     option_or (place_refusal slacks m.world c) (option_or (row_refusal m c) (option_or (over_limit m c) (unwatch_refusal m c)))
 
--- Why a command is refused before it does anything, if it is, where the equality rules have these slacks: first how many names it has, then
--- its names, and then what stands behind them.
+-- Why a command is refused before it does anything, if it is, where the equality rules have these slacks: first its names, and then what
+-- stands behind them.
 abbrev pub refusal_of : List ℕ → Machine → Command → Option Refusal
-refusal_of slacks m c = option_or (count_refusal c) (option_or (name_refusal m c) (later_refusal slacks m c))
+refusal_of slacks m c = option_or (name_refusal m c) (later_refusal slacks m c)
 
 -- a refusal is told and changes nothing
 abbrev pub refused : Machine → Refusal → Told

@@ -21,11 +21,6 @@ pub neither : {A : Type 0} (a b : Option A) → option_or a b ≡ None → (a �
 neither None b h = (refl, h)
 neither (Some x) b h = cc
 
--- what would be refused otherwise is so
-pub so_it_is : {A : Type 0} (b : Bool) (r : A) → cond b None (Some r) ≡ None → b ≡ true
-so_it_is true r h = refl
-so_it_is false r h = cc
-
 -- a name that can be given was not made
 pub name_free : (w : World) (n : List ℕ) (o : Option Meaning) → refusal_at w (n, need.New) o ≡ None → o ≡ None
 name_free w n None h = refl

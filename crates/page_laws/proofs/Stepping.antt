@@ -38,7 +38,6 @@ use Rattle.live_cmd.specs.declared.command.Verb.{Verb}
 use Rattle.live_cmd.specs.declared.command.Verb.TheVariants as verb
 use Rattle.live_entries.specs.declared.entry.Entry.{Entry}
 use Rattle.live_entries.specs.declared.entry.Entry.TheVariants as entry
-use Rattle.live_entries.specs.declared.refusal.LimitWord.TheVariants as limit
 use Rattle.live_entries.specs.declared.refusal.Refusal.{Refusal}
 use Rattle.live_entries.specs.declared.refusal.Refusal.TheVariants as refusal
 use Rattle.live_entries.specs.Printed.{IsSizedEntry}
@@ -49,8 +48,8 @@ use Rattle.live_model.specs.declared.names.Need.TheVariants as need
 use Rattle.live_model.specs.Labels.{Labels, labels_after, named as a_label}
 use Rattle.live_model.specs.Linking.{linked_body, linked_template, owner_of, recipe_of}
 use Rattle.live_model.specs.Machine as machine
-use Rattle.live_model.specs.Machine.{Machine, Told, acted, acted_on_pages, after_turns, body_refusal, count_refusal, disposing, done, entries_of}
-use Rattle.live_model.specs.Machine.{is_list, is_trying, later_refusal, mounted, name_refusal, ops_told, over_limit, page_at, pending_labels, place_refusal}
+use Rattle.live_model.specs.Machine.{Machine, Told, acted, acted_on_pages, after_turns, body_refusal, disposing, done, entries_of}
+use Rattle.live_model.specs.Machine.{is_trying, later_refusal, mounted, name_refusal, ops_told, over_limit, page_at, pending_labels, place_refusal}
 use Rattle.live_model.specs.Machine.{refusal_of, row_refusal, scratching, seen_of, shown_of, source_labels, step, template_at, template_reads, told}
 use Rattle.live_model.specs.Machine.{unwatch_refusal, update_all, with_signal}
 use Rattle.live_model.specs.Names.{Names, first_refusal, meaning_of, number_of, refusal_at, thing_named}
@@ -63,7 +62,7 @@ use Rattle.page_laws.specs.LivePages.{Lead, ops_of, tree_named}
 use Rattle.page_laws.proofs.Flushing.{all_carried, apart_carried, names_stay, next_ops, next_page, ops_are, pages_are, templates_stay, told_among, told_each, world_stays}
 use Rattle.page_laws.proofs.Leading.{AreApart, AreQuiet, Differ, OneReading, all_by_two, all_filtered, apart_behind, apart_filtered, events_quiet, named_trees}
 use Rattle.page_laws.proofs.Leading.{ops_both, page_led, page_told, quiet_both, same_name, sized_ops, still_led, unnamed_tree}
-use Rattle.page_laws.proofs.Naming.{IsNamed, IsPageOf, all_differ, all_made, all_named, last_named, name_free, neither, so_it_is, template_good}
+use Rattle.page_laws.proofs.Naming.{IsNamed, IsPageOf, all_differ, all_made, all_named, last_named, name_free, neither, template_good}
 use Rattle.page_laws.proofs.Owned.{listed_good, made_good}
 use Rattle.page_laws.proofs.Rows.{list_edited}
 use Rattle.page_laws.proofs.Values.{signals_give}
@@ -297,16 +296,12 @@ done_step one env m (command.Cell n v equals inside) lends s read e =
     signal_step m n kind.Cell (with_new_cell (scalar_value v) equals (owner_of m.names inside) m.world) s
     (cell_made (scalar_value v) equals (owner_of m.names inside) m.world (scalar_good v) s.world)
 done_step one env m (command.List n fields inside) lends s read e =
-    let c : Command = command.List n fields inside in
-    let none : count_refusal c ≡ None = (neither (count_refusal c) (option_or (name_refusal m c) (later_refusal env.slacks m c)) e).0 in
-    let fits : is_list fields ≡ true = so_it_is (is_list fields) (refusal.Limit limit.Fields) none in
     signal_step m n kind.List (with_new_cell (value.Rows (no_rows fields)) None (owner_of m.names inside) m.world) s
-    (cell_made (value.Rows (no_rows fields)) None (owner_of m.names inside) m.world (new_rows fields fits) s.world)
+    (cell_made (value.Rows (no_rows fields)) None (owner_of m.names inside) m.world (new_rows fields read) s.world)
 done_step one env m (command.Edit n d) lends s read e =
     let c : Command = command.Edit n d in
     let i : ℕ = number_of m.names n in
-    let behind = neither (count_refusal c) (option_or (name_refusal m c) (later_refusal env.slacks m c)) e in
-    let later = neither (name_refusal m c) (later_refusal env.slacks m c) behind.1 in
+    let later = neither (name_refusal m c) (later_refusal env.slacks m c) e in
     let rest : Option Refusal = option_or (over_limit m c) (unwatch_refusal m c) in
     let rows = neither (place_refusal env.slacks m.world c) (option_or (row_refusal m c) rest) later.1 in
     let fine : row_refusal m c ≡ None = (neither (row_refusal m c) rest rows.1).0 in
@@ -355,8 +350,7 @@ done_step one env m (command.Template n t) lends s read e =
     }
 done_step one env m (command.Mount n t inside) lends s read e =
     let c : Command = command.Mount n t inside in
-    let behind = neither (count_refusal c) (option_or (name_refusal m c) (later_refusal env.slacks m c)) e in
-    let names = (neither (name_refusal m c) (later_refusal env.slacks m c) behind.1).0 in
+    let names = (neither (name_refusal m c) (later_refusal env.slacks m c) e).0 in
     let uses = (neither (first_refusal m.world m.names (uses_of c)) (body_refusal m c) names).0 in
     let first = (neither (refusal_at m.world (n, need.New) (meaning_of m.names n))
     (first_refusal m.world m.names ((t, need.Of kind.Template) ∷ uses_of_inside inside)) uses).0 in

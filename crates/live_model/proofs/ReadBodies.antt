@@ -1,0 +1,127 @@
+-- A body that lines are is one that a script can have.
+use Rattle.std.proofs.Common.{◌≡◌, ◌≤◌, ◌&&◌, ℕ, nat_lt, not, arith, Bool, true, false, cond, List, [], ◌∷◌, length, Option, Some, None, refl, sym, ap, subst, ◌∙◌}
+use Rattle.std.specs.Prelude.{Ok, Err, option_map}
+use Rattle.std.specs.List.{AllByRecursion}
+use Rattle.std.specs.Option.{option_or}
+use Rattle.std.proofs.lemmas.Bool.{and_from}
+use Rattle.std.proofs.lemmas.Bool.Decides.{nat_tests}
+use Rattle.std.proofs.lemmas.List.{length-map}
+use Rattle.sig_base.specs.declared.limits.TheConstants.{MOST_HEIGHT, MOST_SOURCES}
+use Rattle.sig_untrack.specs.Stated.{Bodies}
+use Rattle.formula_text.specs.declared.wired.FormulaFault.{FormulaFault}
+use Rattle.formula_text.specs.declared.wired.FormulaFault.TheVariants as fault
+use Rattle.formula_text.specs.Judging.{has_long_text, has_untrack, is_above, names, needs_row}
+use Rattle.script_lines.specs.Lines.{NumberedLine}
+use Rattle.body_text.specs.declared.fault.BodyFault.{BodyFault}
+use Rattle.body_text.specs.declared.judge.TheConstants.{MOST_BODY_LINES}
+use Rattle.body_text.specs.declared.line.LineKind.TheVariants as kind
+use Rattle.body_text.specs.Grammar.{Said, line_of, set, log, guard, cleanup_set, cleanup_log, effect, dispose, rewire, host, close}
+use Rattle.body_text.specs.Judging.{excess, fault_at, fault_of, first_excess, first_misplaced, judged, judged_at, many_lines, misplacing, refusal_of}
+use Rattle.body_text.specs.Places.{kind_of, moved}
+use Rattle.body_text.specs.Readings.{Answer, IsRead, Sayings, faulty, unended, says, said_lines, unless_refused}
+use Rattle.body_text.specs.Statements.{Statements, body_of, lines_of}
+use Rattle.live_model.specs.Uses.{count_in_bodies, is_fit}
+use Rattle.live_model.proofs.Fitting.{IsFewLine, all_linked, few_in_body}
+
+-- ---- what isn't refused
+
+pub neither : {A : Type 0} (o q : Option A) → option_or o q ≡ None → (o ≡ None) × (q ≡ None)
+neither None q e = (refl, e)
+neither (Some x) q e = absurd cc
+
+-- an answer that is none was none
+none_of : {A B : Type 0} (f : A → B) (o : Option A) → option_map f o ≡ None → o ≡ None
+none_of f None e = refl
+none_of f (Some x) e = absurd cc
+
+-- what a formula is refused for that may read without tracking and is given no row, by what is so of it
+abbrev told : Bool → Bool → Bool → Bool → Bool → Option FormulaFault
+told untracks row high long many =
+    cond (untracks && not true) (Some fault.UntrackHere)
+    (cond (row && not false) (Some fault.ItHere)
+    (cond high (Some fault.Nest) (cond long (Some fault.TextLong) (cond many (Some fault.Sources) None))))
+
+-- one for which its line isn't refused has few names
+few_told : (depth : ℕ) (u r h l m : Bool) → misplacing depth kind.Plain (option_or (told u r h l m) None) ≡ None
+    → excess (option_or (told u r h l m) None) ≡ None → m ≡ false
+few_told depth u r h l false a b = refl
+few_told depth true true h l true a b = absurd cc
+few_told depth false true h l true a b = absurd cc
+few_told depth true false true l true a b = absurd cc
+few_told depth false false true l true a b = absurd cc
+few_told depth true false false true true a b = absurd cc
+few_told depth false false false true true a b = absurd cc
+few_told depth true false false false true a b = absurd cc
+few_told depth false false false false true a b = absurd cc
+
+-- so it is with the arguments of a host formula
+few_arguments : (m : Bool) → excess (option_or (cond m (Some fault.Sources) None) None) ≡ None → m ≡ false
+few_arguments false e = refl
+few_arguments true e = absurd cc
+
+-- a line that isn't refused
+few_said : (depth : ℕ) (x : Said) → misplacing depth (kind_of (line_of x)) (fault_of x) ≡ None → excess (fault_of x) ≡ None → IsFewLine (line_of x)
+few_said depth (set, (n, (x, tt))) a b = tt
+few_said depth (log, (x, tt)) a b = tt
+few_said depth (guard, (x, tt)) a b = tt
+few_said depth (cleanup_set, (n, (x, tt))) a b = tt
+few_said depth (cleanup_log, (x, tt)) a b = tt
+few_said depth (effect, tt) a b = tt
+few_said depth (dispose, (n, tt)) a b = tt
+few_said depth (rewire, (n, (x, tt))) a b =
+    few_told depth (has_untrack x) (needs_row x) (is_above MOST_HEIGHT x) (has_long_text x) (nat_lt MOST_SOURCES (length (names x))) a b
+few_said depth (host, (n, (k, (ns, tt)))) a b = few_arguments (nat_lt MOST_SOURCES (length ns)) b
+few_said depth (close, tt) a b = tt
+
+all_few : (depth : ℕ) (xs : Sayings) → first_misplaced (judged depth xs) ≡ None → first_excess (judged depth xs) ≡ None
+    → AllByRecursion IsFewLine (said_lines xs)
+all_few depth [] a b = tt
+all_few depth (x ∷ xs) a b =
+    let j = judged_at depth x.0 (kind_of (line_of x.1)) (fault_of x.1) in
+    let next = moved depth (kind_of (line_of x.1)) in
+    let c = neither (option_map (fault_at x.0) j.misplaced) (first_misplaced (judged next xs)) a in
+    let d = neither (option_map (fault_at x.0) j.excess) (first_excess (judged next xs)) b in
+    (few_said depth x.1 (none_of (fault_at x.0) j.misplaced c.0) (none_of (fault_at x.0) j.excess d.0), all_few next xs c.1 d.1)
+
+-- ---- a body that isn't refused
+
+judged_count : (depth : ℕ) (xs : Sayings) → length (judged depth xs) ≡ length xs
+judged_count depth [] = refl
+judged_count depth (x ∷ xs) = let rest = judged_count (moved depth (kind_of (line_of x.1))) xs in omega (arith, rest)
+
+not_many : (m : Bool) (f : BodyFault) → cond m (Some f) None ≡ None → m ≡ false
+not_many false f e = refl
+not_many true f e = absurd cc
+
+-- no more than what isn't too much is not too much
+fewer : (most n m : ℕ) → nat_lt most n ≡ false → m ≤ n → not (nat_lt most m) ≡ true
+fewer most n m e le = grind (arith, nat_tests)
+
+fit_body : (xs : Sayings) (s : Statements) → said_lines xs ≡ lines_of s → refusal_of (judged 0 xs) ≡ None → is_fit (body_of s) ≡ true
+fit_body xs s same e =
+    let a = neither (first_misplaced (judged 0 xs)) (option_or (first_excess (judged 0 xs)) (many_lines (judged 0 xs))) e in
+    let b = neither (first_excess (judged 0 xs)) (many_lines (judged 0 xs)) a.1 in
+    let few = subst (AllByRecursion IsFewLine) same (all_few 0 xs a.0 b.0) in
+    let short = not_many (nat_lt MOST_BODY_LINES (length (judged 0 xs))) _ b.1 in
+    let count = judged_count 0 xs in
+    let lines : length xs ≡ length (lines_of s) = sym (length-map xs (λ x. line_of x.1)) ∙ ap length same in
+    let least = few_in_body s in
+    and_from _ _ (all_linked s few) (fewer MOST_BODY_LINES (length (judged 0 xs)) (count_in_bodies (body_of s)) short (omega (arith, count, lines, least)))
+
+-- what lines are, if they are a body
+abbrev IsFitAnswer : Answer → Type 0
+IsFitAnswer (Ok b) = is_fit b ≡ true
+IsFitAnswer (Err f) = Unit {0}
+
+unless_fit : (o : Option BodyFault) (b : Bodies) → (o ≡ None → is_fit b ≡ true) → IsFitAnswer (unless_refused o b)
+unless_fit None b h = h refl
+unless_fit (Some f) b h = tt
+
+answer_fit : (ls : List NumberedLine) (x : Answer) → IsRead ls x → IsFitAnswer x
+answer_fit ls _ (faulty k f) = tt
+answer_fit ls _ (unended xs say begun) = tt
+answer_fit ls _ (says xs s say same) = unless_fit (refusal_of (judged 0 xs)) (body_of s) (fit_body xs s same)
+
+-- a body that lines are
+pub body_read : (ls : List NumberedLine) (b : Bodies) → IsRead ls (Ok b) → is_fit b ≡ true
+body_read ls b is = answer_fit ls (Ok b) is
