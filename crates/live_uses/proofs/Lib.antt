@@ -1,3 +1,2 @@
-mod Fits
 mod Places
 mod Wholes

@@ -3,9 +3,8 @@ use Rattle.std.specs.Prelude.{ℕ, List, map}
 use Rattle.sig_untrack.specs.declared.body.Rewire.{Rewire}
 use Rattle.sig_untrack.specs.Stated.{rewiring}
 use Rattle.live_model.specs.Names.{Use}
-use Rattle.live_model.specs.Uses.{Counts, Named, host_in, uses_of_rewiring}
+use Rattle.live_model.specs.Uses.{Named, host_in, uses_of_rewiring}
 use Rattle.live_uses.specs.declared.bodies.Named as held
-use Rattle.live_uses.specs.declared.fitting.Counts as few
 use Rattle.live_uses.specs.declared.hosts.Hosting as hosting
 use Rattle.live_uses.specs.declared.uses.Use as used
 
@@ -29,7 +28,3 @@ inner_hosts h = map (λ v. v.items) h.effects.now
 -- those that rewirings ask
 abbrev pub rewired_hosts : List Rewire → List (List ℕ)
 rewired_hosts rs = map (λ r. host_in r.source) (map rewiring rs)
-
--- how many there are of what has places
-abbrev pub counts_of : few.Counts → Counts
-counts_of c = record { names = c.names; targets = c.targets; effects = c.effects; rewirings = c.rewirings }

@@ -3,13 +3,11 @@
 
 mod bodies;
 mod commands;
-mod fitting;
 mod hosts;
 mod slots;
 mod uses;
 
 pub use bodies::uses_of_body;
 pub use commands::uses_of;
-pub use fitting::is_fit;
 pub use hosts::hosts_of_body;
 pub use uses::Use;
