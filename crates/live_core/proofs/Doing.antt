@@ -3,8 +3,7 @@ use Rattle.std.proofs.Common.{◌≡◌, ◌≤◌, ◌<◌, ◌+◌, ◌^◌, �
 use Rattle.std.specs.Prelude.{is_some, slice_get}
 use Rattle.std.specs.List.{All, AllByRecursion, filter}
 use Rattle.std.proofs.lemmas.List.{length-map}
-use Rattle.std.proofs.lemmas.Bool.{ltb-false, ltb-true}
-use Rattle.sig_base.specs.declared.limits.TheConstants.{MOST_SOURCES}
+use Rattle.std.proofs.lemmas.Bool.{ltb-true}
 use Rattle.signal_model.specs.Kept.{AreGiven}
 use Rattle.signal_model.specs.Recipes.{Hosts, Recipe}
 use Rattle.signal_model.specs.Standing.{Signals, Stands, IsGone, IsCell, IsComputed, is_computed, is_in, is_there, standing}
@@ -14,7 +13,6 @@ use Rattle.effect_model.specs.Worlds.{Counts, HostState, unused, used, dropped, 
 use Rattle.effect_model.specs.Acts.{host_of, host_refused, is_free, with_use}
 use Rattle.effect_laws.specs.Counts.{KeepsCounts}
 use Rattle.sig_effect.specs.Kinds.{AreKindsOf, KeepsKinds}
-use Rattle.sig_untrack.specs.Stated.{Bodies}
 use Rattle.effect_tables.specs.Placed.{at_rest}
 use Rattle.sig_host.specs.Hosts.{HostPlace}
 use Rattle.sig_nodes.specs.Answers.{HasFewSlots}
@@ -33,7 +31,6 @@ use Rattle.live_cmd.specs.declared.command.SourceText.TheVariants as source
 use Rattle.live_cmd.specs.declared.command.Try.{Try}
 use Rattle.live_entries.specs.declared.entry.Entry.{Entry}
 use Rattle.live_entries.specs.declared.refusal.LimitWord.{LimitWord}
-use Rattle.live_entries.specs.declared.refusal.LimitWord.TheVariants as limit
 use Rattle.live_entries.specs.declared.refusal.Refusal.TheVariants as refusal
 use Rattle.live_model.specs.declared.names.Kind.{Kind}
 use Rattle.live_model.specs.declared.names.Kind.TheVariants as kind
@@ -44,7 +41,8 @@ use Rattle.live_model.specs.Linking.{recipe_of}
 use Rattle.live_model.specs.Machine as plain
 use Rattle.live_model.specs.Machine.{acted, entries_of, one_too_many, told, with_live_pages}
 use Rattle.live_model.specs.Names.{Names, first_refusal, is_gone, meaning_of, number_of, thing_named, thing_of}
-use Rattle.live_model.specs.Uses.{is_fit, uses_of_source}
+use Rattle.live_model.specs.Reading.{IsReadSource}
+use Rattle.live_model.specs.Uses.{uses_of_source}
 use Rattle.live_labels.specs.declared.labels.Labels.{Labels}
 use Rattle.live_labels.specs.Views.{labels_of, KeepsNames}
 use Rattle.live_pages.specs.declared.mounted.Mounted.{Mounted}
@@ -290,15 +288,10 @@ pub source_used : (w : World) (count : ℕ) (names : Names) (s : SourceText) →
 source_used w count names (source.Formula f) all e = signals_used w count names f.1 all e
 source_used w count names (source.Host place arguments) all e = signals_used w count names arguments all e
 
--- a host formula that isn't refused has few arguments
-pub few_slots : (names : Names) (s : SourceText) → plain.sources_refusal s ≡ None → HasFewSlots (recipe_of names s).expression (recipe_of names s).slots
-few_slots names (source.Formula f) e = tt
-few_slots names (source.Host place arguments) e = at (nat_lt MOST_SOURCES (length arguments)) refl e
-  where
-    at : (b : Bool) → nat_lt MOST_SOURCES (length arguments) ≡ b → cond b (Some (refusal.Limit limit.Sources)) None ≡ None →
-        length (map (number_of names) arguments) ≤ MOST_SOURCES
-    at true is h = absurd cc
-    at false is h = let le = ltb-false MOST_SOURCES (length arguments) is in let same = length-map arguments (number_of names) in omega (arith, le, same)
+-- a host formula of a command that was read has few arguments
+pub few_slots : (names : Names) (s : SourceText) → IsReadSource s → HasFewSlots (recipe_of names s).expression (recipe_of names s).slots
+few_slots names (source.Formula f) few = tt
+few_slots names (source.Host place arguments) few = let same = length-map arguments (number_of names) in omega (arith, few, same)
 
 -- one that isn't refused is free
 free_state : (place : ℕ) (o : Option HostState) → plain.taken_refusal place o ≡ None → cond (is_free o) None (Some (host_taken place)) ≡ None
@@ -330,14 +323,6 @@ few_made r s e h = subst (λ (x : Recipe). HasFewSlots x.expression x.slots) (sy
 
 pub free_made : (w : told.World) (r s : Recipe) → r ≡ s → host_refused (host_of s.expression) w ≡ None → host_refused (host_of r.expression) w ≡ None
 free_made w r s e h = ap (λ (x : Recipe). host_refused (host_of x.expression) w) e ∙ h
-
--- a body that isn't refused is one that a script can have
-pub body_fit : (b : Bodies) → cond (is_fit b) None (Some (refusal.Limit limit.Body)) ≡ None → is_fit b ≡ true
-body_fit b e = at (is_fit b) e
-  where
-    at : (t : Bool) → cond t None (Some (refusal.Limit limit.Body)) ≡ None → t ≡ true
-    at true h = refl
-    at false h = absurd cc
 
 -- ---- what is disposed
 

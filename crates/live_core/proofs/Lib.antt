@@ -6,4 +6,3 @@ mod Making
 mod Mounts
 mod Watching
 mod Places
-mod Listed

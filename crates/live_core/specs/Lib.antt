@@ -1,4 +1,3 @@
 pub mod Keeping
 pub mod Parts
-pub mod Refused
 pub mod Views

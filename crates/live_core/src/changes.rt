@@ -9,7 +9,8 @@ ghost use Rattle.effect_world.specs.Weighing.{weight};
 ghost use Rattle.effect_world.specs.Wholes.{whole_of};
 ghost use Rattle.live_cmd.specs.declared.command.Command.TheVariants as command;
 ghost use Rattle.live_cmd.specs.declared.command.Verb.TheVariants as verb;
-ghost use Rattle.live_model.specs.Machine.{count_refusal, done, host_refusal, row_refusal, unwatch_refusal};
+ghost use Rattle.live_model.specs.Machine.{done, host_refusal, row_refusal, unwatch_refusal};
+ghost use Rattle.live_model.specs.Reading.{IsReadSource};
 ghost use Rattle.live_core.specs.Keeping.{AreFine, IsReady, Leaves, Steps};
 ghost use Rattle.live_core.specs.Views.{plain_of};
 
@@ -94,7 +95,7 @@ impl Machine {
         requires weight { weight self.old.world < 2 ^ 125 }
         requires agrees { Agrees (⟦<Shelf as Lent>⟧.asked shelf.old) self.old.world }
         requires counted { ⟦<Shelf as Lent>⟧.counted shelf.old }
-        requires few { count_refusal (command.Rewire name.now source) ≡ None }
+        requires few { IsReadSource source }
         requires fine { AreFine self.old (command.Rewire name.now source) }
         requires free { host_refusal (whole_of (⟦<Shelf as Lent>⟧.asked shelf.old) self.old.world) source ≡ None }
         ensures steps { (hosts : Hosts) (slacks : List ℕ) → IsSound hosts (⟦<Shelf as Lent>⟧.asked shelf.old) self.old.world →

@@ -11,8 +11,10 @@ ghost use Rattle.effect_world.specs.Weighing.{weight};
 ghost use Rattle.tpl_blocks.specs.Blocks.{lines_of};
 ghost use Rattle.tpl_model.specs.Laws.{IsTemplate};
 ghost use Rattle.live_cmd.specs.declared.command.Command.TheVariants as command;
-ghost use Rattle.live_model.specs.Machine.{count_refusal, done, host_refusal, is_list, over_limit, rule_refusal};
+ghost use Rattle.live_model.specs.Machine.{done, host_refusal, over_limit, rule_refusal};
+ghost use Rattle.live_model.specs.Reading.{IsReadSource, is_list};
 ghost use Rattle.live_model.specs.Rows.{no_rows};
+ghost use Rattle.live_model.specs.Uses.{is_fit};
 ghost use Rattle.live_core.specs.Keeping.{AreFine, IsReady, Leaves, Steps};
 ghost use Rattle.live_core.specs.Views.{plain_of};
 
@@ -101,7 +103,7 @@ impl Machine {
         requires ready { IsReady self.old }
         requires owned { AreOwned self.old.world }
         requires weight { weight self.old.world < 2 ^ 125 }
-        requires few { count_refusal (command.List name fields.now inside) ≡ None }
+        requires fields { is_list fields.now ≡ true }
         requires fine { AreFine self.old (command.List name fields.now inside) }
         requires room { over_limit (plain_of [] self.old) (command.List name fields.now inside) ≡ None }
         ensures steps { (hosts : Hosts) (slacks : List ℕ) (asked : List HostPlace) → IsSound hosts asked self.old.world →
@@ -128,7 +130,7 @@ impl Machine {
         requires ready { IsReady self.old }
         requires owned { AreOwned self.old.world }
         requires weight { weight self.old.world < 2 ^ 125 }
-        requires few { count_refusal (command.Computed name source inside) ≡ None }
+        requires few { IsReadSource source }
         requires fine { AreFine self.old (command.Computed name source inside) }
         requires room { over_limit (plain_of [] self.old) (command.Computed name source inside) ≡ None }
         ensures steps { (hosts : Hosts) (slacks : List ℕ) (asked : List HostPlace) → Agrees asked self.old.world →
@@ -183,7 +185,7 @@ impl Machine {
         requires ready { IsReady self.old }
         requires owned { AreOwned self.old.world }
         requires weight { weight self.old.world < 2 ^ 125 }
-        requires few { count_refusal (command.Effect name body inside) ≡ None }
+        requires fit { is_fit body ≡ true }
         requires fine { AreFine self.old (command.Effect name body inside) }
         ensures steps { (hosts : Hosts) (slacks : List ℕ) (asked : List HostPlace) → IsSound hosts asked self.old.world →
             IfOk result (λ es. Steps hosts asked self.new es.items

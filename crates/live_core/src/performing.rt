@@ -8,7 +8,7 @@ ghost use Rattle.effect_world.specs.Agreeing.{IsSound};
 ghost use Rattle.effect_world.specs.Weighing.{weight};
 ghost use Rattle.live_cmd.specs.declared.command.Item.TheVariants as item;
 ghost use Rattle.live_cmd.specs.declared.command.Command.TheVariants as command;
-ghost use Rattle.live_model.specs.Machine.{count_refusal, done, empty, over_limit, place_refusal, row_refusal, step, unwatch_refusal};
+ghost use Rattle.live_model.specs.Machine.{done, empty, over_limit, place_refusal, row_refusal, step, unwatch_refusal};
 ghost use Rattle.live_core.specs.Keeping.{AreFine, Holds, IsReadable, IsReadItem, IsReady, Leaves, Steps};
 ghost use Rattle.live_core.specs.Views.{plain_of};
 ghost use Rattle.effect_world.specs.Wholes.{whole_of};
@@ -95,7 +95,6 @@ impl Machine {
         requires holds { Holds (⟦<Shelf as Lent>⟧.asked shelf.old) (length rules.now) self.old.world }
         requires counted { ⟦<Shelf as Lent>⟧.counted shelf.old }
         requires most { most_asked (⟦<Shelf as Lent>⟧.asked shelf.old) < 2 ^ 124 }
-        requires few { count_refusal command ≡ None }
         requires fine { AreFine self.old command }
         requires places { place_refusal (map (λ r. r.slack) rules.now) (whole_of (⟦<Shelf as Lent>⟧.asked shelf.old) self.old.world) command ≡ None }
         requires read { IsReadable command }

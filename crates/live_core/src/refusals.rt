@@ -1,5 +1,5 @@
-// Why commands are refused, in this order: how many names there are, the names, the places of host formulas and rules, what the rows of a
-// list don't allow, what there would be too much of, and a signal that isn't watched.
+// Why commands are refused, in this order: the names, the places of host formulas and rules, what the rows of a list don't allow, what there
+// would be too much of, and a signal that isn't watched.
 ghost use Rattle.std.specs.Prelude.{◌≡◌, ℕ, Bool, List, IfOk, length, map, slice_get};
 ghost use Rattle.std.specs.List.{filter};
 ghost use Rattle.effect_model.specs.Watching.{watches};
@@ -9,13 +9,12 @@ ghost use Rattle.effect_world.specs.Wholes.{whole_of};
 ghost use Rattle.sig_effect.specs.Wholes.{host_states};
 ghost use Rattle.sig_host.specs.Hosts.{HostPlace};
 ghost use Rattle.live_model.specs.Labels.{is_named, label_at};
-ghost use Rattle.live_model.specs.Machine.{body_refusal, count_refusal, host_refusal, later_refusal, name_refusal};
+ghost use Rattle.live_model.specs.Machine.{body_refusal, host_refusal, later_refusal, name_refusal};
 ghost use Rattle.live_model.specs.Machine.{one_too_many, outside_refusal, over_limit, place_refusal, refusal_of};
-ghost use Rattle.live_model.specs.Machine.{is_list, row_refusal, rule_refusal, sources_refusal, taken_refusal, unwatch_refusal};
+ghost use Rattle.live_model.specs.Machine.{row_refusal, rule_refusal, taken_refusal, unwatch_refusal};
 ghost use Rattle.live_model.specs.Names.{first_within, number_of};
 ghost use Rattle.live_model.specs.Rows.{edit_refusal, rows_at};
 ghost use Rattle.live_model.specs.Uses.{hosts_of_body, uses_of_body};
-ghost use Rattle.live_core.specs.Refused.{body_refused, fields_refused};
 ghost use Rattle.live_core.specs.Views.{plain_of};
 
 use crate::listing::edit_refusal;
@@ -23,14 +22,11 @@ use crate::machine::Machine;
 use effect_model::MOST_WATCHERS;
 use effect_tables::{MOST_EFFECTS, OwnerEntry};
 use effect_world::World;
-use live_cmd::{Command, EffectBody, NameList, RowEdit, SourceText, are_fields};
+use live_cmd::{Command, EffectBody, RowEdit, SourceText};
 use live_entries::{LimitWord, Refusal};
 use live_labels::named_count;
-use live_uses::{hosts_of_body, is_fit, uses_of, uses_of_body};
-use sig_base::{
-    MOST_FIELDS, MOST_NODES, MOST_PAGES, MOST_SOURCES, MOST_TEMPLATES, Name, NoMemory, NodeId,
-    WatcherId,
-};
+use live_uses::{hosts_of_body, uses_of, uses_of_body};
+use sig_base::{MOST_NODES, MOST_PAGES, MOST_TEMPLATES, Name, NoMemory, NodeId, WatcherId};
 use sig_host::{EqualsRule, Lent, Shelf};
 use sig_owner::MOST_OWNERS;
 use std::alloc::Global;
@@ -63,67 +59,6 @@ fn one_too_many(most: usize, count: usize, limit: LimitWord) -> Option<Refusal>
         None
     } else {
         Some(Refusal::Limit(limit))
-    }
-}
-
-// The refusal of a host formula on too many signals.
-fn sources_refusal(source: &SourceText) -> Option<Refusal>
-    ensures { result ≡ sources_refusal source.now }
-{
-    match source {
-        SourceText::Formula(_) => None,
-        SourceText::Host(_, arguments) => {
-            if MOST_SOURCES < arguments.as_slice().len() {
-                Some(Refusal::Limit(LimitWord::Sources))
-            } else {
-                None
-            }
-        }
-    }
-}
-
-// The refusal of a body that no script can have.
-fn fit_refusal(alloc: Global, body: &EffectBody) -> Result<Option<Refusal>, NoMemory>
-    ensures { IfOk result (λ r. r ≡ body_refused body.now) }
-{
-    if is_fit(alloc, body.as_body())? {
-        Ok(None)
-    } else {
-        Ok(Some(Refusal::Limit(LimitWord::Body)))
-    }
-}
-
-// Whether names are those of a list's fields.
-fn is_list(fields: &[Name]) -> bool
-    ensures { result ≡ is_list fields.now }
-{
-    are_fields(fields) && fields.len() <= MOST_FIELDS
-}
-
-// The refusal of fields that no list has.
-fn fields_refusal(fields: &NameList) -> Option<Refusal>
-    ensures { result ≡ fields_refused fields.now }
-{
-    if is_list(fields.as_slice()) {
-        None
-    } else {
-        Some(Refusal::Limit(LimitWord::Fields))
-    }
-}
-
-// The refusal of a command with such a one.
-fn count_refusal(alloc: Global, command: &Command) -> Result<Option<Refusal>, NoMemory>
-    ensures { IfOk result (λ r. r ≡ count_refusal command.now) }
-{
-    match command {
-        Command::Computed { source, .. } => Ok(sources_refusal(source)),
-        Command::Rewire { source, .. } => Ok(sources_refusal(source)),
-        Command::List { fields, .. } => Ok(fields_refusal(fields)),
-        Command::Effect { body, .. } => {
-            let refusal = fit_refusal(alloc, body)?;
-            Ok(refusal)
-        }
-        _ => Ok(None),
     }
 }
 
@@ -386,9 +321,6 @@ impl Machine {
         ensures { IfOk result (λ r. r ≡ refusal_of (map (λ r. r.slack) rules.now)
             (plain_of (⟦<Shelf as Lent>⟧.asked shelf.now) self.now) command.now) }
     {
-        if let Some(refusal) = count_refusal(self.alloc, command)? {
-            return Ok(Some(refusal));
-        }
         if let Some(refusal) = self.name_refusal(command)? {
             return Ok(Some(refusal));
         }

@@ -17,7 +17,6 @@ use Rattle.live_model.specs.Linking.{linked_body, links_of, owner_of}
 use Rattle.live_labels.specs.Views.{labels_of}
 use Rattle.live_core.specs.Keeping.{Holds}
 use Rattle.live_linking.proofs.Shared.{fit_links}
-use Rattle.live_core.proofs.Doing.{body_fit}
 use Rattle.live_core.proofs.Making.{leaves_other, other_effect, steps_named}
 use Rattle.live_core.proofs.machine.Machine.make_effect.Goals as goal
 
@@ -75,5 +74,5 @@ make_effect-requires-clause-fitting c =
     let links = c.in_ok-links.ensures no_bodies ∙ ap (links_of m.names c.args.name) c.as_body.ensures in
     record {
       fits = subst (λ x. x) (λ i. AreFitting (sym c.into_body.ensures i) (sym links i))
-          (fit_links m.names c.args.name c.args.body (body_fit c.args.body c.requires.few));
+          (fit_links m.names c.args.name c.args.body c.requires.fit);
     }

@@ -19,7 +19,6 @@ use Rattle.live_core.specs.Keeping.{Holds}
 use Rattle.live_core.proofs.Rightly.{inside_open, neither, new_name, refused_at, uses_fine}
 use Rattle.live_core.proofs.Doing.{not_most, only_three, room_below, true_false}
 use Rattle.live_core.proofs.Making.{beside_cell, here_list, leaves_signal, steps_named}
-use Rattle.live_core.proofs.Listed.{is_list_if}
 use Rattle.live_core.proofs.machine.Machine.make_list.Goals as goal
 
 pub returns-clause-steps : goal.returns-clause-steps
@@ -71,6 +70,3 @@ pub name_signal-requires : goal.name_signal-requires
 name_signal-requires c =
     let m = c.args.self.now in
     new_name m.world m.names c.args.name (neither (refused_at m.world m.names c.args.name need.New) _ (uses_fine m (command.List c.args.name c.args.fields.now c.args.inside) c.requires.fine)).0
-
-pub no_rows-requires : goal.no_rows-requires
-no_rows-requires c = is_list_if c.args.fields.now _ c.requires.few

@@ -94,3 +94,15 @@ make_template-requires-clause-template g c = rw c.in-Template.is at c.requires.r
 
 pub edit-requires-clause-fits : goal.edit-requires-clause-fits
 edit-requires-clause-fits g c = rw c.in-Edit.is at c.requires.rows
+
+pub make_list-requires-clause-fields : goal.make_list-requires-clause-fields
+make_list-requires-clause-fields g c = rw c.in-List.is at c.requires.read
+
+pub make_computed-requires-clause-few : goal.make_computed-requires-clause-few
+make_computed-requires-clause-few g c = rw c.in-Computed.is at c.requires.read
+
+pub rewire-requires-clause-few : goal.rewire-requires-clause-few
+rewire-requires-clause-few g c = rw c.in-Rewire.is at c.requires.read
+
+pub make_effect-requires-clause-fit : goal.make_effect-requires-clause-fit
+make_effect-requires-clause-fit g c = rw c.in-Effect.is at c.requires.read
