@@ -5,6 +5,7 @@ pub mod Seating
 pub mod Holding
 pub mod Looking
 pub mod Searching
+mod FlaggedSeats
 pub mod Using
 pub mod Shared
 mod Found

@@ -217,6 +217,29 @@ explores_new xs ms g t u n seated computed down calm e = record {
       | inr q ↦ seated.one m n c computed q
     ]
 
+-- ---- lists of names
+
+pub in_items : (ns : List ℕ) (i n : ℕ) → i < length ns → n ≡ slice_index_or ns i n → is_in n ns ≡ true
+in_items [] i n l e = absurd (omega arith)
+in_items (m ∷ ns) zero n l e = first (n == m) (is_in n ns) (eq-eqb n m e)
+  where
+    first : (a b : Bool) → a ≡ true → (a || b) ≡ true
+    first true b q = refl
+    first false b q = absurd (true≢false (sym q))
+in_items (m ∷ ns) (suc i) n l e = let k : i < length ns = omega arith in later (n == m) (is_in n ns) (in_items ns i n k e)
+  where
+    later : (a b : Bool) → b ≡ true → (a || b) ≡ true
+    later true b q = refl
+    later false b q = q
+
+pub take_more : (ns : List ℕ) (i n : ℕ) → i < length ns → n ≡ slice_index_or ns i n → take (i + 1) ns ≡ take i ns ++ n ∷ []
+take_more [] i n l e = absurd (omega arith)
+take_more (m ∷ ns) zero n l e = ap (λ k. k ∷ []) (sym e)
+take_more (m ∷ ns) (suc i) n l e =
+    let k : i < length ns = omega arith in
+    let s : suc i + 1 ≡ suc (i + 1) = omega arith in
+    rw s (ap (λ r. m ∷ r) (take_more ns i n k e))
+
 -- ---- the mark
 
 -- only computeds have memos
@@ -233,15 +256,15 @@ pub due_computed : (xs : List Node) (g n : ℕ) → is_computed_body (body_at xs
 due_computed xs g n h = due_found xs g n ∙ ap (λ b. b && must_run_by (memos_of g xs) (memo_body (body_at xs n)) []) h
 
 -- what isn't due needn't run
-calm_run : (xs : List Node) (g n : ℕ) → is_computed_body (body_at xs n) ≡ true → is_due_at xs g n ≡ false → must_run (memos_of g xs) n [] ≡ false
+pub calm_run : (xs : List Node) (g n : ℕ) → is_computed_body (body_at xs n) ≡ true → is_due_at xs g n ≡ false → must_run (memos_of g xs) n [] ≡ false
 calm_run xs g n c h = ap (λ m. must_run_by (memos_of g xs) m []) (memo_found xs g n) ∙ sym (ap (λ b. b && must_run_by (memos_of g xs) (memo_body (body_at xs n)) []) c) ∙ sym (due_found xs g n) ∙ h
 
--- after a search from no flags nothing below must run
-below_clear : (xs : List Node) (g : ℕ) (table : MarkTable) (n m : ℕ) (t u : List Bool) → KeepsMarks xs g table → ((s : ℕ) → is_marked t s ≡ false) →
-    Explores xs table.marked g t u (source_names (sources_in (memo_body (body_at xs n)))) → IsBelow (memos_of g xs) n m → is_due_at xs g m ≡ false
-below_clear xs g table n m t u h down e below =
+-- after a search from a marked computed, with no flags at first, nothing below it must run
+below_clear : (xs : List Node) (g : ℕ) (table : MarkTable) (n m : ℕ) (t u : List Bool) → KeepsMarks xs g table → is_computed_body (body_at xs n) ≡ true → marked_at table.marked n ≡ true →
+    ((s : ℕ) → is_marked t s ≡ false) → Explores xs table.marked g t u (n ∷ []) → IsBelow (memos_of g xs) n m → is_due_at xs g m ≡ false
+below_clear xs g table n m t u h live on down e below =
     explored_law (signals_of xs) (memos_of g xs) (depends table.dependants) (marked_at table.marked) (is_computing (state_of xs g 0 0)) (λ k. is_marked u (seat_at xs k)) n h.marked (record {
-      here = λ p k c mk. e.here p (ap (λ o. is_in p (source_names (sources_in o))) (sym (memo_found xs g n)) ∙ k) (computed_here xs p c) mk;
+      here = λ p k c mk. e.closed n p live (down (seat_at xs n)) (e.here n (in_items (n ∷ []) 0 n (omega arith) refl) live on) k (computed_here xs p c) mk;
       calm = λ k c up. calm_run xs g k (computed_here xs k c) (e.calm k (computed_here xs k c) (down (seat_at xs k)) up);
       closed = λ k p c up has d mk. e.closed k p (computed_here xs k c) (down (seat_at xs k)) up has (computed_here xs p d) mk;
     }) m below
@@ -268,9 +291,9 @@ dirty_mark xs g n h = (mark_law (signals_of xs) (memos_of g xs) n Dirty (only_ke
 pub checked_mark : (xs : List Node) (g n : ℕ) → is_computed_body (body_at xs n) ≡ true → is_due_at xs g n ≡ false → HasBelow (is_due_at xs g) (memos_of g xs) n → Checked ≡ mark_of (signals_of xs) (memos_of g xs) n
 checked_mark xs g n c h below = (mark_law (signals_of xs) (memos_of g xs) n Checked (only_keep xs g)).1 (calm_run xs g n c h, below)
 
-pub clean_mark : (xs : List Node) (g : ℕ) (table : MarkTable) (n : ℕ) (t u : List Bool) → KeepsMarks xs g table → is_computed_body (body_at xs n) ≡ true → is_due_at xs g n ≡ false → ((s : ℕ) → is_marked t s ≡ false) →
-    Explores xs table.marked g t u (source_names (sources_in (memo_body (body_at xs n)))) → Clean ≡ mark_of (signals_of xs) (memos_of g xs) n
-clean_mark xs g table n t u k c h down e = (mark_law (signals_of xs) (memos_of g xs) n Clean (only_keep xs g)).1 (calm_run xs g n c h, λ m b. below_clear xs g table n m t u k down e b)
+pub clean_mark : (xs : List Node) (g : ℕ) (table : MarkTable) (n : ℕ) (t u : List Bool) → KeepsMarks xs g table → is_computed_body (body_at xs n) ≡ true → is_due_at xs g n ≡ false → marked_at table.marked n ≡ true →
+    ((s : ℕ) → is_marked t s ≡ false) → Explores xs table.marked g t u (n ∷ []) → Clean ≡ mark_of (signals_of xs) (memos_of g xs) n
+clean_mark xs g table n t u k c h on down e = (mark_law (signals_of xs) (memos_of g xs) n Clean (only_keep xs g)).1 (calm_run xs g n c h, λ m b. below_clear xs g table n m t u k c on down e b)
 
 -- what isn't marked is clean
 pub unmarked_clean : (xs : List Node) (g : ℕ) (table : MarkTable) (n : ℕ) → KeepsMarks xs g table → is_computed_body (body_at xs n) ≡ true → marked_at table.marked n ≡ false → Clean ≡ mark_of (signals_of xs) (memos_of g xs) n
@@ -287,29 +310,6 @@ unmarked_clean xs g table n k c off =
 pub due_below : (xs : List Node) (g n s : ℕ) → keeps (memos_of g xs) n s ≡ true → HasDue xs g s → HasBelow (is_due_at xs g) (memos_of g xs) n
 due_below xs g n s k (inl h) = record { name = s; below = kept k; passes = h }
 due_below xs g n s k (inr b) = record { name = b.name; below = kept_below k b.below; passes = b.passes }
-
--- ---- lists of names
-
-pub in_items : (ns : List ℕ) (i n : ℕ) → i < length ns → n ≡ slice_index_or ns i n → is_in n ns ≡ true
-in_items [] i n l e = absurd (omega arith)
-in_items (m ∷ ns) zero n l e = first (n == m) (is_in n ns) (eq-eqb n m e)
-  where
-    first : (a b : Bool) → a ≡ true → (a || b) ≡ true
-    first true b q = refl
-    first false b q = absurd (true≢false (sym q))
-in_items (m ∷ ns) (suc i) n l e = let k : i < length ns = omega arith in later (n == m) (is_in n ns) (in_items ns i n k e)
-  where
-    later : (a b : Bool) → b ≡ true → (a || b) ≡ true
-    later true b q = refl
-    later false b q = q
-
-pub take_more : (ns : List ℕ) (i n : ℕ) → i < length ns → n ≡ slice_index_or ns i n → take (i + 1) ns ≡ take i ns ++ n ∷ []
-take_more [] i n l e = absurd (omega arith)
-take_more (m ∷ ns) zero n l e = ap (λ k. k ∷ []) (sym e)
-take_more (m ∷ ns) (suc i) n l e =
-    let k : i < length ns = omega arith in
-    let s : suc i + 1 ≡ suc (i + 1) = omega arith in
-    rw s (ap (λ r. m ∷ r) (take_more ns i n k e))
 
 -- a source that is among those that are kept
 pub keeps_item : (xs : List Node) (g n : ℕ) (ns : List ℕ) (i m : ℕ) → ns ≡ source_names (sources_in (memo_body (body_at xs n))) → i < length ns → m ≡ slice_index_or ns i m → keeps (memos_of g xs) n m ≡ true

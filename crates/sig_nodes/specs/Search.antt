@@ -1,17 +1,32 @@
 -- The search for a computed that must run, along kept sources.
-use Rattle.std.specs.Prelude.{◌≡◌, ℕ, zero, suc, ◌+◌, ◌<◌, ◌≤◌, ◌⊎◌, ◌||◌, ◌&&◌, not, Bool, true, false, List, [], ◌∷◌, Option, length, if◌then◌else◌}
+use Rattle.std.specs.Prelude.{◌≡◌, ℕ, zero, suc, ◌+◌, ◌<◌, ◌≤◌, ◌==◌, ◌⊎◌, ◌||◌, ◌&&◌, not, Bool, true, false, List, [], ◌∷◌, Option, Some, None, is_some, length, if◌then◌else◌}
 use Rattle.signal_model.specs.Standing.{is_in}
 use Rattle.signal_model.specs.Memos.{Memo, keeps, memo_is_cycle, must_run_by, source_names, sources_in}
 use Rattle.sig_marks.specs.Tables.{marked_at}
 use Rattle.signal_model.specs.Marks.{HasBelow, is_due}
 use Rattle.sig_nodes.specs.declared.node.Node.{Node}
-use Rattle.sig_nodes.specs.Nodes.{body_at, is_computed_body, memos_of, seat_at, signals_of}
+use Rattle.sig_nodes.specs.Nodes.{body_at, is_computed_body, known_body, memo_body, memos_of, seat_at, signals_of}
 
 -- whether the flag of a seat is up
 abbrev pub is_marked : List Bool → ℕ → Bool
 is_marked [] s = false
 is_marked (t ∷ ts) zero = t
 is_marked (t ∷ ts) (suc s) = is_marked ts s
+
+-- whether who has a seat passes a test; of a free seat nobody does
+abbrev pub of_holder : (ℕ → Bool) → Option ℕ → Bool
+of_holder f None = false
+of_holder f (Some n) = f n
+
+-- whether one of those whose flags are up passes a test
+abbrev pub some_flagged : (ℕ → Bool) → List Bool → List (Option ℕ) → Bool
+some_flagged f [] hs = false
+some_flagged f (t ∷ ts) [] = false
+some_flagged f (t ∷ ts) (h ∷ hs) = (t && of_holder f h) || some_flagged f ts hs
+
+-- whether this one is among them
+abbrev pub is_flagged : List Bool → List (Option ℕ) → ℕ → Bool
+is_flagged ts hs n = some_flagged (λ m. m == n) ts hs
 
 -- how many flags are down
 abbrev pub unmarked : List Bool → ℕ
@@ -34,6 +49,14 @@ some_marked_at xs t (n ∷ ns) = (is_computed_body (body_at xs n) && marked_at t
 -- whether an evaluation that ends without a run takes the mark of a computed with this memo
 abbrev pub stop_unmarks_by : List Node → ℕ → List Bool → Option Memo → Bool
 stop_unmarks_by xs g t m = not (must_run_by (memos_of g xs) m []) && (not (memo_is_cycle m) && not (some_marked_at xs t (source_names (sources_in m))))
+
+-- whether a signal keeps its mark though nothing below it must run: it is being evaluated, or holds `cycle`
+abbrev pub stays_marked : List Node → ℕ → Bool
+stays_marked xs n = is_some (known_body (body_at xs n)) || memo_is_cycle (memo_body (body_at xs n))
+
+-- whether a search with these flags takes the mark of a signal: it went through it, and through none that keeps its mark
+abbrev pub search_unmarks : List Node → List Bool → List (Option ℕ) → ℕ → Bool
+search_unmarks xs ts hs n = not (some_flagged (stays_marked xs) ts hs) && is_flagged ts hs n
 
 -- each computed has its own flag among so many
 pub record AreSeated (xs : List Node) (count : ℕ) : Type 0 where

@@ -1,6 +1,6 @@
 // A look at a signal.
-ghost use Rattle.std.specs.Prelude.{◌≡◌};
-ghost use Rattle.signal_model.specs.Standing.{standing};
+ghost use Rattle.std.specs.Prelude.{◌≡◌, true};
+ghost use Rattle.signal_model.specs.Standing.{is_computed, standing};
 ghost use Rattle.signal_model.specs.Marks.{mark_of};
 ghost use Rattle.sig_nodes.specs.Answers.{mark_meant};
 ghost use Rattle.sig_nodes.specs.Looks.{look_here, look_meant};
@@ -9,7 +9,9 @@ ghost use Rattle.sig_nodes.specs.States.{is_computing, with_look, Becomes};
 use crate::answers::{Mark, Standing};
 use crate::evaluation::counted;
 use crate::graph::Graph;
-use sig_base::NodeId;
+use crate::marks::searched_mark;
+use crate::unmarking::unmark_seen;
+use sig_base::{MOST_NODES, NodeId};
 
 /// What a look at an id finds.
 #[derive(Clone, Copy, Debug, PartialEq, Eq)]
@@ -38,19 +40,40 @@ fn look_of(mark: Mark) -> Look
     }
 }
 
-// What a look finds.
-fn found(graph: &Graph, id: NodeId) -> Look
-    ensures { result ≡ look_here (standing graph.now.state.signals id) (is_computing graph.now.state id) (mark_of graph.now.state.signals graph.now.state.memos id) }
+// What a look finds. A search takes what marks it may.
+fn found(graph: &mut Graph, id: NodeId) -> Look
+    ensures look { result ≡ look_here (standing graph.old.state.signals id) (is_computing graph.old.state id) (mark_of graph.old.state.signals graph.old.state.memos id) }
+    ensures same { graph.new ≡ graph.old }
 {
     match graph.standing(id) {
         Standing::Gone => Look::Gone,
         Standing::Cell => Look::Cell,
         Standing::Computing => Look::Computing,
-        Standing::Computed => look_of(graph.mark_of(id)),
+        Standing::Computed => look_of(graph.mark_found(id)),
     }
 }
 
 impl Graph {
+    // The mark of a computed. A search that found nothing that must run takes the marks of all that it went through, if it may.
+    fn mark_found(&mut self, id: NodeId) -> Mark
+        requires { is_computed (standing self.old.state.signals id) ≡ true }
+        ensures mark { mark_meant result ≡ mark_of self.old.state.signals self.old.state.memos id }
+        ensures same { self.new ≡ self.old }
+    {
+        let _count = self.nodes.len();
+        if !self.marks.is_marked(id) {
+            return Mark::Clean;
+        }
+        let mut seen = [false; MOST_NODES];
+        match searched_mark(&self.nodes, self.generation, &self.marks, id, &mut seen) {
+            Mark::Clean => {
+                unmark_seen(&self.nodes, &self.seats, &mut self.marks, &seen);
+                Mark::Clean
+            }
+            mark => mark,
+        }
+    }
+
     /// Looks at an id: what stands there, and of a computed that isn't being evaluated its mark. It is a counted step, and takes no
     /// memory.
     pub fn look(&mut self, id: NodeId) -> Look

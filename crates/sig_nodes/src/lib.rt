@@ -13,6 +13,7 @@ mod marks;
 mod node;
 mod seats;
 mod store;
+mod unmarking;
 
 pub use answers::{Asked, Mark, Recipe, Standing};
 pub use errors::NodeFault;

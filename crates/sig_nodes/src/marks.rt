@@ -1,11 +1,13 @@
 // The mark of a computed, by a search along kept sources with a flag for each seat.
-ghost use Rattle.std.specs.Prelude.{◌≡◌, ◌&&◌, ◌||◌, not, [], ◌∷◌, length, true, false, None, Some, IfSome, IfNone, slice_get};
+ghost use Rattle.std.specs.Prelude.{◌≡◌, ℕ, ◌&&◌, [], ◌∷◌, length, true, false, None, Some, IfSome, IfNone, slice_get};
 ghost use Rattle.signal_model.specs.Memos.{must_run_by, some_moved, source_names, sources_in};
 ghost use Rattle.signal_model.specs.Marks.{mark_of, HasBelow};
+ghost use Rattle.sig_marks.specs.Tables.{marked_at};
+ghost use Rattle.sig_nodes.specs.declared.answers.Mark.TheVariants as mark;
 ghost use Rattle.sig_nodes.specs.Answers.{mark_meant};
 ghost use Rattle.sig_nodes.specs.Nodes.{body_at, has_differed, is_computed_body, memo_body, memos_of, seat_at, signals_of};
 ghost use Rattle.sig_nodes.specs.Places.{KeepsMarks};
-ghost use Rattle.sig_nodes.specs.Search.{is_due_at, AreSeated, Explores, HasDue};
+ghost use Rattle.sig_nodes.specs.Search.{is_due_at, is_marked, AreSeated, Explores, HasDue};
 
 use crate::answers::Mark;
 use crate::bodies::{computation_at, differs, seat_at, sources_at};
@@ -116,6 +118,34 @@ fn has_due_from(
     has_due_below(nodes, generation, marks, id, seen)
 }
 
+/// The mark of a marked computed, by a search whose flags are down at first. Where it is clean, the flags of all that the search went
+/// through are up afterwards.
+pub(crate) fn searched_mark(
+    nodes: &[Node],
+    generation: u128,
+    marks: &Marks,
+    id: NodeId,
+    seen: &mut [bool],
+) -> Mark
+    requires live { is_computed_body (body_at nodes.now id) ≡ true }
+    requires marked { marked_at marks.now.marked id ≡ true }
+    requires marks { KeepsMarks nodes.now generation marks.now }
+    requires seats { AreSeated nodes.now (length seen.old) }
+    requires down { (s : ℕ) → is_marked seen.old s ≡ false }
+    ensures mark { mark_meant result ≡ mark_of (signals_of nodes.now) (memos_of generation nodes.now) id }
+    ensures seen { result ≡ mark.Clean → Explores nodes.now marks.now.marked generation seen.old seen.new (id ∷ []) }
+{
+    if is_due(nodes, generation, id) {
+        return Mark::Dirty;
+    }
+    let seat = seat_at(nodes, id);
+    seen[seat] = true;
+    if has_due_below(nodes, generation, marks, id, seen) {
+        return Mark::Checked;
+    }
+    Mark::Clean
+}
+
 /// The mark of a computed in a generation.
 pub(crate) fn mark_at(nodes: &[Node], generation: u128, marks: &Marks, id: NodeId) -> Mark
     requires live { is_computed_body (body_at nodes.now id) ≡ true }
@@ -126,13 +156,6 @@ pub(crate) fn mark_at(nodes: &[Node], generation: u128, marks: &Marks, id: NodeI
     if !marks.is_marked(id) {
         return Mark::Clean;
     }
-    if is_due(nodes, generation, id) {
-        return Mark::Dirty;
-    }
     let mut seen = [false; MOST_NODES];
-    if has_due_below(nodes, generation, marks, id, &mut seen) {
-        Mark::Checked
-    } else {
-        Mark::Clean
-    }
+    searched_mark(nodes, generation, marks, id, &mut seen)
 }
