@@ -146,7 +146,7 @@ look_law w k dependants t computing n marks kind = go (tested (t n))
         ∙ sym (unmarked_law w k dependants t computing n marks kind off)
 
 -- what keeps something is a computed
-keeper : (w : Signals) (k : Memos) (p m : ℕ) → OnlyComputedsKeep w k → keeps k p m ≡ true → is_computed (standing w p) ≡ true
+pub keeper : (w : Signals) (k : Memos) (p m : ℕ) → OnlyComputedsKeep w k → keeps k p m ≡ true → is_computed (standing w p) ≡ true
 keeper w k p m owners h = go (memo_of k p) refl h
   where
     go : (x : Option Memo) → memo_of k p ≡ x → is_in m (source_names (sources_in x)) ≡ true → is_computed (standing w p) ≡ true

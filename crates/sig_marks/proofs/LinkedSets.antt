@@ -1,13 +1,15 @@
 -- Sets of dependants, edited at places.
 use Rattle.std.proofs.Common.{◌≡◌, ℕ, zero, suc, ◌+◌, ◌<◌, ◌≤◌, ◌==◌, ◌||◌, ◌&&◌, Bool, true, false, cond, if◌then◌else◌, List, [], ◌∷◌, length, length-append, drop, ◌++◌, refl, sym, ap, ◌∙◌, subst, arith, ◌⊎◌, inl, inr}
-use Rattle.std.specs.Prelude.{slice_set, slice_index_or, get_or}
-use Rattle.std.specs.List.{All}
+use Rattle.std.specs.Prelude.{slice_set, slice_index_or, get_or, nat_eq}
+use Rattle.std.specs.List.{All, AllByRecursion, IsDistinct}
+use Rattle.std.proofs.lemmas.Map.Keys.{IsDistinct-head, IsDistinct-tail}
 use Rattle.std.specs.Prelude.{Result, Ok, Err, OnOk}
 use Rattle.std.proofs.lemmas.Bool.{eqb-true, eq-eqb}
 use Rattle.indexmap.specs.IndexSet.{IndexSet, spare}
+use Rattle.signal_model.specs.Laws.{AreDistinct}
 use Rattle.signal_model.specs.Standing.{is_in}
 use Rattle.signal_model.proofs.Shared.{tested}
-use Rattle.sig_marks.specs.Tables.{depends, Drops, IsMarkTable, Relinks}
+use Rattle.sig_marks.specs.Tables.{dependants_at, depends, Drops, IsMarkTable, Relinks}
 use Rattle.sig_marks.specs.Sets.{Links, Makes, Unlinks, depends_in, keys_of, spare_at, table_of}
 
 -- tests of places
@@ -316,3 +318,20 @@ module _ {S : Type 0} where
       go : (k : ℕ) (e : IndexSet ℕ S) → k < length (s ∷ ss) → All (λ (x : IndexSet ℕ S). All (λ d. d < n) x.keys) ss → All (λ d. d < n) (get_or (s ∷ ss) k e).keys
       go zero e l rest = all_in s.keys n (λ d q. h 0 d q)
       go (suc k) e l rest = let z : k < length ss = omega arith in rest k e z
+
+-- ---- the dependants of one place
+
+-- the keys of a set are apart
+pub distinct_keys : (ks : List ℕ) → IsDistinct nat_eq ks → AreDistinct ks
+distinct_keys [] d = tt
+distinct_keys (k ∷ ks) d = (none k ks (IsDistinct-head nat_eq k ks d), distinct_keys ks (IsDistinct-tail nat_eq k ks d))
+  where
+    none : (m : ℕ) (ns : List ℕ) → AllByRecursion (λ n. nat_eq m n ≡ false) ns → is_in m ns ≡ false
+    none m [] h = refl
+    none m (n ∷ ns) h = rw h.0 (none m ns h.1)
+
+-- past the last place there are none
+pub dependants_past : (dss : List (List ℕ)) (n : ℕ) → length dss ≤ n → [] ≡ dependants_at dss n
+dependants_past [] n l = refl
+dependants_past (ds ∷ dss) zero l = absurd (omega arith)
+dependants_past (ds ∷ dss) (suc n) l = let k : length dss ≤ n = omega arith in dependants_past dss n k

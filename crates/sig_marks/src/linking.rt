@@ -1,7 +1,8 @@
 // Readers in the sets of dependants of what they keep.
-ghost use Rattle.std.specs.Prelude.{◌≡◌, ℕ, ◌+◌, ◌<◌, ◌≤◌, ◌==◌, ◌⊎◌, [], ◌∷◌, length, true, false, if◌then◌else◌, map, OnOk, OnErr, IfOk};
+ghost use Rattle.std.specs.Prelude.{◌≡◌, ℕ, ◌+◌, ◌<◌, ◌≤◌, ◌^◌, ◌==◌, ◌⊎◌, [], ◌∷◌, length, true, false, if◌then◌else◌, map, slice_get, IfSome, OnOk, OnErr, IfOk};
 ghost use Rattle.std.specs.List.{All};
 ghost use Rattle.indexmap.specs.IndexSet.{spare};
+ghost use Rattle.signal_model.specs.Laws.{AreDistinct};
 ghost use Rattle.signal_model.specs.Standing.{is_in};
 ghost use Rattle.sig_marks.specs.Tables.{Drops, Relinks};
 ghost use Rattle.sig_marks.specs.Sets.{Links, Makes, Unlinks, depends_in, keys_of, spare_at};
@@ -114,6 +115,20 @@ pub(crate) fn relink(
     unlink_all(sets, sources, reader);
     link_all(sets, reads, reader);
     Ok(())
+}
+
+/// The reader at a place of a set, none past the last one. It takes no memory.
+pub(crate) fn reader_at(set: &IndexSet<usize>, place: usize) -> Option<NodeId>
+    ensures at { result ≡ slice_get set.now.keys place }
+    ensures once { AreDistinct set.now.keys }
+    ensures next { IfSome result (λ d. place + 1 < 2 ^ 64) }
+{
+    let readers = set.as_slice();
+    if place < readers.len() {
+        Some(NodeId::of(readers[place] as u128))
+    } else {
+        None
+    }
 }
 
 // Takes all out.

@@ -1,9 +1,10 @@
 // The dependants and the marks of a store's signals.
-ghost use Rattle.std.specs.Prelude.{◌≡◌, ◌<◌, [], length, true, false, vec_len, vec_capacity, ◌++◌, ◌∷◌, OnOk, OnErr};
+ghost use Rattle.std.specs.Prelude.{◌≡◌, ◌+◌, ◌<◌, ◌^◌, [], length, true, false, vec_len, vec_capacity, ◌++◌, ◌∷◌, slice_get, IfSome, OnOk, OnErr};
 ghost use Rattle.std.specs.List.{All};
-ghost use Rattle.sig_marks.specs.Tables.{marked_at, with_mark, with_place, Drops, Pushes, Relinks, Spreads};
+ghost use Rattle.signal_model.specs.Laws.{AreDistinct};
+ghost use Rattle.sig_marks.specs.Tables.{dependants_at, marked_at, with_mark, with_place, Drops, Pushes, Relinks, Spreads};
 
-use crate::linking::{drop_links, relink};
+use crate::linking::{drop_links, reader_at, relink};
 use crate::pushing::spread;
 use indexmap::IndexSet;
 use sig_base::{NoMemory, NodeId};
@@ -87,6 +88,19 @@ impl Marks {
         } else {
             false
         }
+    }
+
+    /// The dependant of a signal at a place, none past the last one; each has one place, and where there is one, the next place is a
+    /// number too. It takes no memory.
+    pub fn dependant(&self, id: NodeId, place: usize) -> Option<NodeId>
+        ensures at { result ≡ slice_get (dependants_at self.now.dependants id) place }
+        ensures once { AreDistinct (dependants_at self.now.dependants id) }
+        ensures next { IfSome result (λ d. place + 1 < 2 ^ 64) }
+    {
+        if id.number() >= self.dependants.len() as u128 {
+            return None;
+        }
+        reader_at(&self.dependants[id.number() as usize], place)
     }
 
     // Marks one signal.

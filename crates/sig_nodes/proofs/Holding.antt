@@ -17,7 +17,7 @@ use Rattle.sig_nodes.specs.declared.node.Body.{Body}
 use Rattle.sig_nodes.specs.declared.node.Body.TheVariants.{Gone, Cell as CellBody, Computed as ComputedBody}
 use Rattle.sig_nodes.specs.States.{State, Seen, Becomes, Makes, are_there, is_cell, is_given}
 use Rattle.signal_model.specs.Kept.{AreGiven}
-use Rattle.sig_nodes.specs.Seats.{Seating, holder, with_left, with_taken}
+use Rattle.sig_nodes.specs.Seats.{AreAllSeated, Seating, holder, with_left, with_taken}
 use Rattle.sig_nodes.specs.Places.{seen, Holds}
 use Rattle.sig_nodes.specs.Nodes.{are_live_bodies, parts, cell_part, computed_part, signals_of, memos_of, state_of, body_at, change_at, seat_at, changed_at, is_live_body, is_cell_body, is_computed_body, memo_body, known_body, slots_body, stands_of, gone_node, known_node, new_node, rewired_node, run_node, set_node, with_body_known, with_body_memo, with_body_recipe, with_body_value, FewSlotsBody, IsFresh}
 use Rattle.sig_nodes.specs.Answers.{HasFewSlots, HaveFewSlots}
@@ -518,11 +518,11 @@ new_holds xs s b t gen w fresh slots few free below nobody h = record {
 -- ---- what callers see
 
 -- an edit, by its state and by how many ids were given
-pub became : (old : Seen) (st st' after : State) (hs hs' : List (Option ℕ)) (a b : ℕ) → seen st hs a ≡ old → b ≡ a → st' ≡ after → Becomes old (seen st' hs' b) after
+pub became : {os os' : List (List ℕ)} (old : Seen) (st st' after : State) (hs hs' : List (Option ℕ)) (a b : ℕ) → seen st hs a os ≡ old → b ≡ a → st' ≡ after → Becomes old (seen st' hs' b os') after
 became old st st' after hs hs' a b view same e = record { state = e; given = same ∙ ap (λ (g : Seen). g.given) view }
 
 -- what was given is below the number of nodes
-pub given_below : (old : Seen) (st : State) (hs : List (Option ℕ)) (a : ℕ) (ns : List ℕ) → seen st hs a ≡ old → All (λ n. is_given old n ≡ true) ns → All (λ n. n < a) ns
+pub given_below : {os : List (List ℕ)} (old : Seen) (st : State) (hs : List (Option ℕ)) (a : ℕ) (ns : List ℕ) → seen st hs a os ≡ old → All (λ n. is_given old n ≡ true) ns → All (λ n. n < a) ns
 unfolding is_given
 given_below old st hs a ns view h = λ k d l. below (get_or ns k d) (ap (λ (g : Seen). nat_lt (get_or ns k d) g.given) view ∙ h k d l)
   where
@@ -530,7 +530,7 @@ given_below old st hs a ns view h = λ k d l. below (get_or ns k d) (ap (λ (g :
     below n q = grind (arith, nat_tests)
 
 -- and the other way round
-pub below_given : (old : Seen) (st : State) (hs : List (Option ℕ)) (a n : ℕ) → seen st hs a ≡ old → n < a → is_given old n ≡ true
+pub below_given : {os : List (List ℕ)} (old : Seen) (st : State) (hs : List (Option ℕ)) (a n : ℕ) → seen st hs a os ≡ old → n < a → is_given old n ≡ true
 unfolding is_given
 below_given old st hs a n view l = sym (ap (λ (g : Seen). nat_lt n g.given) view) ∙ under n l
   where
@@ -538,9 +538,9 @@ below_given old st hs a n view l = sym (ap (λ (g : Seen). nat_lt n g.given) vie
     under m q = grind (arith, nat_tests)
 
 -- each name in use was given
-pub used_here : (xs : List Node) (t : Seating) (g l w : ℕ) → Holds xs t g w → AreGiven (is_given (seen (state_of xs g l w) t.holders (length xs))) (signals_of xs) (memos_of g xs)
+pub used_here : (xs : List Node) (t : Seating) (g l w : ℕ) (os : List (List ℕ)) → Holds xs t g w → AreGiven (is_given (seen (state_of xs g l w) t.holders (length xs) os)) (signals_of xs) (memos_of g xs)
 unfolding is_given
-used_here xs t g l w h = record {
+used_here xs t g l w os h = record {
   names = λ n q. under n (live_below xs n (sym (live_here xs n) ∙ q));
   slots = λ n m c e q. under m (h.slots n m (ap (is_in m) (asked n c e) ∙ q));
   sources = λ n m q. under m (h.sources n m (ap (λ o. is_in m (source_names (sources_in o))) (sym (memo_found xs g n)) ∙ q));
@@ -557,6 +557,14 @@ used_here xs t g l w h = record {
         go (CellBody v r) q = cc
         go (ComputedBody d) q = let same : record { name = n; recipe = d.recipe } ≡ c = cc in ap (λ (z : Computed). z.recipe.slots) same
 
+-- each live signal has a seat
+pub seated_here : (xs : List Node) (t : Seating) (g w : ℕ) → Holds xs t g w → AreAllSeated (signals_of xs) t.holders
+seated_here xs t g w h = record {
+  each = λ n live.
+      let held : holder t.holders (seat_at xs n) ≡ Some n = h.seated n (sym (live_here xs n) ∙ live) in
+      record { seat = seat_at xs n; inside = subst (λ z. seat_at xs n < z) h.size (held_inside t.holders (seat_at xs n) n held); holds = held };
+}
+
 -- each host formula that is asked has few arguments
 pub few_here : (xs : List Node) (t : Seating) (g w : ℕ) → Holds xs t g w → HaveFewSlots (signals_of xs)
 few_here xs t g w h = record { each = λ n c e. go n (body_at xs n) c (sym (stands xs n) ∙ e) (h.few n) }
@@ -569,15 +577,15 @@ few_here xs t g w h = record { each = λ n c e. go n (body_at xs n) c (sym (stan
         subst (λ (z : Computed). HasFewSlots z.recipe.expression z.recipe.slots) same f
 
 -- a making gives the next id, where each name in use was given
-pub makes : (old : Seen) (st' after : State) (xs : List Node) (t : Seating) (hs' : List (Option ℕ)) (g l w b n : ℕ) → seen (state_of xs g l w) t.holders (length xs) ≡ old → n ≡ length xs → b ≡ length xs + 1 → st' ≡ after → Holds xs t g w →
-    Makes old (seen st' hs' b) n after
+pub makes : {os os' : List (List ℕ)} (old : Seen) (st' after : State) (xs : List Node) (t : Seating) (hs' : List (Option ℕ)) (g l w b n : ℕ) → seen (state_of xs g l w) t.holders (length xs) os ≡ old → n ≡ length xs → b ≡ length xs + 1 → st' ≡ after → Holds xs t g w →
+    Makes old (seen st' hs' b os') n after
 unfolding is_given
-makes old st' after xs t hs' g l w b n view is more e h = record {
+makes {os} old st' after xs t hs' g l w b n view is more e h = record {
   id = is ∙ ap (λ (z : Seen). z.given) view;
   given = more ∙ ap (λ (z : Seen). z.given + 1) view;
   state = e;
   fresh = sym (ap (λ (z : Seen). nat_lt n z.given) view) ∙ ap (λ m. nat_lt m (length xs)) is ∙ itself (length xs);
-  used = subst (λ (o : Seen). AreGiven (is_given o) o.state.signals o.state.memos) view (used_here xs t g l w h);
+  used = subst (λ (o : Seen). AreGiven (is_given o) o.state.signals o.state.memos) view (used_here xs t g l w os h);
 }
   where
     itself : (m : ℕ) → nat_lt m m ≡ false

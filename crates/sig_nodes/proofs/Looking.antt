@@ -40,23 +40,23 @@ uses_found place xs = from 0 xs
     from k [] = refl
     from k (y ∷ ys) = one k y.body (parts (λ n z. computed_part n z.body) (k + 1) ys) ∙ ap (λ b. asks_host_body place y.body || b) (from (k + 1) ys)
 
--- a slot's signal was given
-pub slot_below : (old : Seen) (st : State) (hs : List (Option ℕ)) (a : ℕ) (slots : List ℕ) (i : ℕ) (o : Option ℕ) → seen st hs a ≡ old → ((m : ℕ) → is_in m slots ≡ true → m < a) → o ≡ slice_get slots i →
-    IfSome o (λ m. is_given old m ≡ true)
-slot_below old st hs a slots i o view inside e = subst (λ (z : Option ℕ). IfSome z (λ m. is_given old m ≡ true)) (sym e) (go slots i inside)
+-- what holds of each of these holds of the one at a place
+pub at_place : (P : ℕ → Type 0) (ns : List ℕ) (i : ℕ) (o : Option ℕ) → ((m : ℕ) → is_in m ns ≡ true → P m) → o ≡ slice_get ns i → IfSome o P
+at_place P ns i o each e = subst (λ (z : Option ℕ). IfSome z P) (sym e) (go ns i each)
   where
-    go : (ns : List ℕ) (k : ℕ) → ((m : ℕ) → is_in m ns ≡ true → m < a) → IfSome (slice_get ns k) (λ m. is_given old m ≡ true)
+    go : (ms : List ℕ) (k : ℕ) → ((m : ℕ) → is_in m ms ≡ true → P m) → IfSome (slice_get ms k) P
     go [] k h = tt
-    go (n ∷ ns) zero h = below_given old st hs a n view (h n (first (n == n) (is_in n ns) (eq-eqb n n refl)))
-      where
-        first : (x y : Bool) → x ≡ true → (x || y) ≡ true
-        first true y q = refl
-        first false y q = cc
-    go (n ∷ ns) (suc k) h = go ns k (λ m q. h m (later (m == n) (is_in m ns) q))
+    go (m ∷ ms) zero h = h m (ap (λ b. b || is_in m ms) (eq-eqb m m refl))
+    go (m ∷ ms) (suc k) h = go ms k (λ p q. h p (later (p == m) (is_in p ms) q))
       where
         later : (x y : Bool) → y ≡ true → (x || y) ≡ true
         later true y q = refl
         later false y q = q
+
+-- a slot's signal was given
+pub slot_below : {os : List (List ℕ)} (old : Seen) (st : State) (hs : List (Option ℕ)) (a : ℕ) (slots : List ℕ) (i : ℕ) (o : Option ℕ) → seen st hs a os ≡ old → ((m : ℕ) → is_in m slots ≡ true → m < a) → o ≡ slice_get slots i →
+    IfSome o (λ m. is_given old m ≡ true)
+slot_below old st hs a slots i o view inside e = at_place (λ m. is_given old m ≡ true) slots i o (λ m q. below_given old st hs a m view (inside m q)) e
 
 -- who has a seat lives
 pub holder_lives : (xs : List Node) (t : Seating) (gen w s : ℕ) (o : Option ℕ) → Holds xs t gen w → o ≡ holder t.holders s → IfSome o (λ n. is_there (standing (signals_of xs) n) ≡ true)

@@ -35,6 +35,6 @@ pub record IsGraph (nodes : List Node) (seats : Seating) (generation worn : ℕ)
   pub fields : Holds nodes seats generation worn
   pub marks : KeepsMarks nodes generation t
 
--- what callers see of a state, its seats and the number of ids that were given
-abbrev pub seen : State → List (Option ℕ) → ℕ → Seen
-seen s seats given = record { state = s; seats = seats; given = given }
+-- what callers see of a state, its seats, the number of ids that were given and the dependants
+abbrev pub seen : State → List (Option ℕ) → ℕ → List (List ℕ) → Seen
+seen s seats given dependants = record { state = s; seats = seats; given = given; order = dependants }

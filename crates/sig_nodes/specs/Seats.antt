@@ -1,7 +1,7 @@
 -- The seats of live signals.
 use Rattle.std.specs.Prelude.{◌≡◌, ℕ, zero, suc, ◌+◌, ◌-◌, ◌<◌, ◌≤◌, true, List, [], ◌∷◌, length, Option, Some, None, slice_set}
 use Rattle.sig_base.specs.declared.limits.TheConstants.{MOST_NODES}
-use Rattle.signal_model.specs.Standing.{is_in}
+use Rattle.signal_model.specs.Standing.{Signals, is_in, is_there, standing}
 use Rattle.signal_model.specs.Laws.{AreDistinct}
 
 -- who has each seat, and how many are free
@@ -14,6 +14,16 @@ abbrev pub holder : List (Option ℕ) → ℕ → Option ℕ
 holder [] s = None
 holder (h ∷ hs) zero = h
 holder (h ∷ hs) (suc s) = holder hs s
+
+-- a signal has a seat
+pub record IsSeated (holders : List (Option ℕ)) (n : ℕ) : Type 0 where
+  pub seat : ℕ
+  pub inside : seat < MOST_NODES
+  pub holds : holder holders seat ≡ Some n
+
+-- each one that lives has
+pub record AreAllSeated (w : Signals) (holders : List (Option ℕ)) : Type 0 where
+  pub each : (n : ℕ) → is_there (standing w n) ≡ true → IsSeated holders n
 
 -- a free seat is taken
 abbrev pub with_taken : Seating → ℕ → ℕ → Seating

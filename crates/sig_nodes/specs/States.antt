@@ -23,12 +23,14 @@ pub record State : Type 0 where
   pub looked : ℕ
   pub worn : ℕ
 
--- What callers see of a graph: its state; the live signal that has each seat, none where the seat is free; and how many ids were given,
--- which are the numbers below that.
+-- What callers see of a graph: its state; the live signal that has each seat, none where the seat is free; how many ids were given,
+-- which are the numbers below that; and the dependants of each signal that was made. These stand in an order that is no function of the
+-- state, so no edit tells what becomes of it.
 pub record Seen : Type 0 where
   pub state : State
   pub seats : List (Option ℕ)
   pub given : ℕ
+  pub order : List (List ℕ)
 
 -- whether the graph gave this id, be the signal gone or not
 unfoldable pub is_given : Seen → ℕ → Bool

@@ -58,7 +58,7 @@ impl Model for Graph {
     ghost use Rattle.sig_nodes.specs.Nodes.{state_of};
     ghost use Rattle.sig_nodes.specs.Places.{seen, IsGraph};
 
-    ghost view = { λ g. seen (state_of g.nodes.items g.generation g.looked g.worn) g.seats.holders (length g.nodes.items) };
+    ghost view = { λ g. seen (state_of g.nodes.items g.generation g.looked g.worn) g.seats.holders (length g.nodes.items) g.marks.dependants };
 
     ghost invariant = { λ g. IsGraph g.nodes.items g.seats g.generation g.worn g.marks };
 }

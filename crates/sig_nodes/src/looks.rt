@@ -1,14 +1,16 @@
 // What a graph answers without changing.
-ghost use Rattle.std.specs.Prelude.{ℕ, ◌≡◌, ◌<◌, true, false, Some, IfSome, slice_get};
+ghost use Rattle.std.specs.Prelude.{ℕ, ◌≡◌, ◌+◌, ◌<◌, ◌^◌, true, false, Some, IfSome, slice_get};
 ghost use Rattle.std.specs.Option.{option_copied};
-ghost use Rattle.signal_model.specs.Standing.{is_computed, is_there, standing};
-ghost use Rattle.signal_model.specs.Memos.{memo_of, source_names, sources_of};
+ghost use Rattle.signal_model.specs.Standing.{is_computed, is_in, is_there, standing};
+ghost use Rattle.signal_model.specs.Memos.{keeps, memo_of, source_names, sources_of};
 ghost use Rattle.signal_model.specs.Kept.{AreGiven, OnlyComputedsKeep};
 ghost use Rattle.signal_model.specs.Sound.{kept_outcome};
 ghost use Rattle.signal_model.specs.Marks.{mark_of};
 ghost use Rattle.signal_model.specs.Changes.{live_count};
+ghost use Rattle.signal_model.specs.Laws.{AreDistinct};
+ghost use Rattle.sig_marks.specs.Tables.{dependants_at};
 ghost use Rattle.sig_nodes.specs.Answers.{kind_here, mark_meant, rule_here, slots_here, uses_host, value_here, HaveFewSlots};
-ghost use Rattle.sig_nodes.specs.Seats.{holder};
+ghost use Rattle.sig_nodes.specs.Seats.{holder, AreAllSeated};
 ghost use Rattle.sig_nodes.specs.States.{is_computing, is_given};
 
 use crate::answers::{Mark, Standing};
@@ -27,13 +29,14 @@ impl Graph {
         MOST_NODES - self.seats.free()
     }
 
-    /// How many signals were made so far, gone ones too. Each id that is in use is one of theirs, only computeds keep a run, and
-    /// each host formula that is asked has few arguments.
+    /// How many signals were made so far, gone ones too. Each id that is in use is one of theirs, only computeds keep a run, each
+    /// host formula that is asked has few arguments, and each live signal has a seat.
     pub fn made(&self) -> u128
         ensures count { result ≡ self.now.given }
         ensures used { AreGiven (is_given self.now) self.now.state.signals self.now.state.memos }
         ensures keepers { OnlyComputedsKeep self.now.state.signals self.now.state.memos }
         ensures few { HaveFewSlots self.now.state.signals }
+        ensures seats { AreAllSeated self.now.state.signals self.now.seats }
     {
         self.nodes.len() as u128
     }
@@ -119,6 +122,21 @@ impl Graph {
         ensures { result.now ≡ source_names (sources_of self.now.state.memos id) }
     {
         sources_at(&self.nodes, id)
+    }
+
+    /// The dependant of a live signal at a place: the computeds that keep it as a source have one place each, and past the last of
+    /// them there is none. Where there is one, the next place is a number too. It takes no memory.
+    pub fn dependant(&self, id: NodeId, place: usize) -> Option<NodeId>
+        ensures at { result ≡ slice_get (dependants_at self.now.order id) place }
+        ensures known { is_there (standing self.now.state.signals id) ≡ true →
+            (d : ℕ) → is_in d (dependants_at self.now.order id) ≡ keeps self.now.state.memos d id }
+        ensures once { AreDistinct (dependants_at self.now.order id) }
+        ensures computed { is_there (standing self.now.state.signals id) ≡ true →
+            IfSome result (λ d. is_computed (standing self.now.state.signals d) ≡ true) }
+        ensures next { IfSome result (λ d. place + 1 < 2 ^ 64) }
+    {
+        let _count = self.nodes.len();
+        self.marks.dependant(id, place)
     }
 
     /// The mark of a computed: whether it must run, or else something below it along kept sources. It takes no memory.
