@@ -8,6 +8,7 @@ use Rattle.signal_model.specs.Standing.{Signals, Cell, Computed, Stands, IsCell,
 use Rattle.signal_model.specs.Memos.{Memos, named_now}
 use Rattle.signal_model.specs.Kept.{AreGiven}
 use Rattle.signal_model.specs.Settling.{with_memo}
+pub use Rattle.sig_marks.specs.Tables.{dependants_at}
 use Rattle.signal_model.specs.Changes.{no_signals, no_memos, with_cell, with_computed, after_making, with_value, after_change, with_recipe, after_rewiring, without_signal, after_disposal}
 
 -- how far a computed is evaluated: none while it isn't computing, else the values that its recipe was last asked with
