@@ -1,5 +1,5 @@
 -- Who is told of a change, and what is told.
-use Rattle.std.specs.Prelude.{ℕ, zero, suc, Bool, true, false, List, [], ◌∷◌, if◌then◌else◌}
+use Rattle.std.specs.Prelude.{ℕ, zero, suc, Bool, false, List, [], ◌∷◌, if◌then◌else◌}
 use Rattle.effect_model.specs.Worlds.{Watcher}
 use Rattle.sig_watcher.specs.declared.telling.Told.{Told}
 use Rattle.sig_watcher.specs.Tables.{waiting}

@@ -4,6 +4,7 @@
 mod errors;
 mod reach;
 mod telling;
+mod waiting;
 mod watcher;
 mod watchers;
 

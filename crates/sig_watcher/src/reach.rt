@@ -1,9 +1,13 @@
-// Which live signals have a signal in the closure of their kept sources: rounds over all seats, with a flag for each, until none goes
-// up. A search by dependants takes their place once the graph keeps those.
-ghost use Rattle.std.specs.Prelude.{◌≡◌, ℕ, ◌+◌, ◌<◌, ◌≤◌, true, false, length};
+// Which live signals have a signal in the closure of their kept sources: from it along dependants, with a flag for each seat. A signal
+// whose flag went up waits for its own dependants to be looked at.
+ghost use Rattle.std.specs.Prelude.{◌≡◌, ℕ, ◌+◌, ◌==◌, ◌<◌, ◌≤◌, true, false, length, Some};
 ghost use Rattle.signal_model.specs.Standing.{is_there, standing};
-ghost use Rattle.sig_watcher.specs.Reach.{flags_down, is_up, seat_at, AreReaching, AreSettled, AreSound, IsFlagged, IsSettledAt, IsUnflagged, NoneFlagged, SomeFlagged};
+ghost use Rattle.signal_model.specs.Memos.{keeps};
+ghost use Rattle.sig_nodes.specs.Seats.{holder};
+ghost use Rattle.sig_watcher.specs.Reach.{flags_down, is_up, AreReaching, HasFlag, IsFlagged, IsUnflagged, NoneFlagged, Raises, SomeFlagged};
 
+use crate::waiting::Waiting;
+use crate::watcher::is_among;
 use sig_base::{MOST_NODES, NodeId};
 use sig_nodes::{Graph, Standing};
 
@@ -47,71 +51,89 @@ pub(crate) fn is_some_flagged(graph: &Graph, id: NodeId, flags: &[bool], names: 
     false
 }
 
-// Raises the flag of a seat where its signal keeps a flagged source. Whether it went up.
-fn raise(graph: &Graph, id: NodeId, flags: &mut [bool], seat: usize) -> bool
+// Raises the flag of a live signal, which waits from then on, unless it is up.
+fn raise(graph: &Graph, name: NodeId, flags: &mut [bool], waiting: &mut Waiting)
+    requires live { is_there (standing graph.now.state.signals name) ≡ true }
     requires size { length flags.old ≡ MOST_NODES }
-    requires inside { seat < MOST_NODES }
-    ensures raised { result ≡ true → flags_down flags.new + 1 ≡ flags_down flags.old }
-    ensures same { result ≡ false → flags.new ≡ flags.old }
-    ensures settled { result ≡ false → IsSettledAt graph.now id flags.old seat }
-    ensures sound { AreSound graph.now id flags.old → AreSound graph.now id flags.new }
+    requires room { flags_down flags.old + length waiting.old ≤ MOST_NODES }
+    ensures raises { Raises graph.now (λ m. m == name) flags.old flags.new waiting.old waiting.new }
+    ensures up { HasFlag graph.now flags.new name }
 {
+    let seat = graph.seat(name);
     if flags[seat] {
-        return false;
-    }
-    let Some(name) = graph.at_seat(seat) else {
-        return false;
-    };
-    if !is_some_flagged(graph, id, flags, graph.sources(name)) {
-        return false;
+        return;
     }
     flags[seat] = true;
-    true
+    waiting.push(name);
 }
 
-// The seat that a step of a sweep comes to, from the last seat down or from the first up.
-fn seat_at(down: bool, step: usize) -> usize
-    requires { step < MOST_NODES }
-    ensures { result ≡ seat_at down step }
+// Raises the flags of those that keep a live signal, which are its dependants.
+fn raise_dependants(graph: &Graph, id: NodeId, flags: &mut [bool], waiting: &mut Waiting)
+    requires live { is_there (standing graph.now.state.signals id) ≡ true }
+    requires size { length flags.old ≡ MOST_NODES }
+    requires room { flags_down flags.old + length waiting.old ≤ MOST_NODES }
+    ensures raises { Raises graph.now (λ m. keeps graph.now.state.memos m id) flags.old flags.new waiting.old waiting.new }
+    ensures up { (m : ℕ) → keeps graph.now.state.memos m id ≡ true → HasFlag graph.now flags.new m }
 {
-    if down { MOST_NODES - 1 - step } else { step }
-}
-
-// One sweep over all seats, from the last one down or from the first one up. Whether a flag went up.
-fn sweep(graph: &Graph, id: NodeId, flags: &mut [bool], down: bool) -> bool
-    requires { length flags.old ≡ MOST_NODES }
-    ensures fewer { flags_down flags.new ≤ flags_down flags.old }
-    ensures raised { result ≡ true → flags_down flags.new < flags_down flags.old }
-    ensures settled { result ≡ false → AreSettled graph.now id flags.new }
-    ensures sound { AreSound graph.now id flags.old → AreSound graph.now id flags.new }
-{
-    let mut more = false;
-    for step in 0..MOST_NODES {
-        let raised = raise(graph, id, flags, seat_at(down, step));
-        more = more | raised;
+    let mut place: usize = 0;
+    while let Some(name) = graph.dependant(id, place) {
+        raise(graph, name, flags, waiting);
+        place += 1;
     }
-    more
 }
 
-// A sweep down and one up, so that few rounds are needed whichever way the seats of sources lie. Whether both raised a flag; else
-// there is nothing more to raise.
-fn round(graph: &Graph, id: NodeId, flags: &mut [bool]) -> bool
-    requires { length flags.old ≡ MOST_NODES }
-    ensures raised { result ≡ true → flags_down flags.new < flags_down flags.old }
-    ensures settled { result ≡ false → AreSettled graph.now id flags.new }
-    ensures sound { AreSound graph.now id flags.old → AreSound graph.now id flags.new }
+// Raises the flag of a seat's signal if it keeps another one.
+fn raise_at(graph: &Graph, id: NodeId, seat: usize, flags: &mut [bool], waiting: &mut Waiting)
+    requires size { length flags.old ≡ MOST_NODES }
+    requires room { flags_down flags.old + length waiting.old ≤ MOST_NODES }
+    ensures raises { Raises graph.now (λ m. keeps graph.now.state.memos m id) flags.old flags.new waiting.old waiting.new }
+    ensures up { (m : ℕ) → holder graph.now.seats seat ≡ Some m → keeps graph.now.state.memos m id ≡ true → HasFlag graph.now flags.new m }
 {
-    if !sweep(graph, id, flags, true) {
-        return false;
+    let Some(name) = graph.at_seat(seat) else {
+        return;
+    };
+    if !is_among(graph.sources(name), id) {
+        return;
     }
-    sweep(graph, id, flags, false)
+    raise(graph, name, flags, waiting);
 }
 
-/// Raises, where all are down, the flags of those that have a signal in the closure of their kept sources.
+// Raises the flags of those that keep a signal that is gone: it goes over all seats, since of such a signal no dependants are known.
+fn raise_keepers(graph: &Graph, id: NodeId, flags: &mut [bool], waiting: &mut Waiting)
+    requires size { length flags.old ≡ MOST_NODES }
+    requires room { flags_down flags.old + length waiting.old ≤ MOST_NODES }
+    ensures raises { Raises graph.now (λ m. keeps graph.now.state.memos m id) flags.old flags.new waiting.old waiting.new }
+    ensures up { (m : ℕ) → keeps graph.now.state.memos m id ≡ true → HasFlag graph.now flags.new m }
+{
+    let _made = graph.made();
+    for seat in 0..MOST_NODES {
+        raise_at(graph, id, seat, flags, waiting);
+    }
+}
+
+// Raises the flags of those that keep a signal.
+fn raise_readers(graph: &Graph, id: NodeId, flags: &mut [bool], waiting: &mut Waiting)
+    requires size { length flags.old ≡ MOST_NODES }
+    requires room { flags_down flags.old + length waiting.old ≤ MOST_NODES }
+    ensures raises { Raises graph.now (λ m. keeps graph.now.state.memos m id) flags.old flags.new waiting.old waiting.new }
+    ensures up { (m : ℕ) → keeps graph.now.state.memos m id ≡ true → HasFlag graph.now flags.new m }
+{
+    if !is_live(graph, id) {
+        raise_keepers(graph, id, flags, waiting);
+        return;
+    }
+    raise_dependants(graph, id, flags, waiting);
+}
+
+/// Raises, where all are down, the flags of those that have a signal in the closure of their kept sources. It takes no memory.
 pub(crate) fn reach(graph: &Graph, id: NodeId, flags: &mut [bool])
     requires size { length flags.old ≡ MOST_NODES }
     requires down { (s : ℕ) → is_up flags.old s ≡ false }
     ensures { AreReaching graph.now id flags.new }
 {
-    while round(graph, id, flags) {}
+    let mut waiting = Waiting::new();
+    raise_readers(graph, id, flags, &mut waiting);
+    while let Some(next) = waiting.pop() {
+        raise_readers(graph, next, flags, &mut waiting);
+    }
 }
