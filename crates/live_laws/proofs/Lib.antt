@@ -2,3 +2,4 @@ mod Fine
 mod Telling
 mod Rests
 mod Happening
+mod Refusing

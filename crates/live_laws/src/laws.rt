@@ -1,5 +1,6 @@
 // Laws of scripts, for all environments and all items.
 ghost use Rattle.live_laws.specs.Happening.{EndsLaw, HappensLaw, HostsLaw};
+ghost use Rattle.live_laws.specs.Refusing.{ChangeLaw, RefusedFlushLaw, RefusedLaw};
 
 /// Each item of a script does commands of the world, one after the other, and its entries tell what happens in them, in order, with
 /// answers between.
@@ -17,4 +18,20 @@ pub fn ends_law()
 /// its drop asks it.
 pub fn hosts_law()
     ensures { HostsLaw }
+{}
+
+/// An item that is refused before it does anything, for its text or for what it says, tells the one refusal and leaves all as it was.
+pub fn refused_law()
+    ensures { RefusedLaw }
+{}
+
+/// A set or an edit of rows by which a cell has another value stands, whoever is told of it: the notified watchers are told and are waiting,
+/// those who are frozen are told behind them, and nothing else is changed.
+pub fn change_law()
+    ensures { ChangeLaw }
+{}
+
+/// A flush that is refused leaves all as its turns left it, and the pages that still live as they were before.
+pub fn refused_flush_law()
+    ensures { RefusedFlushLaw }
 {}
