@@ -1,0 +1,3 @@
+mod Renamed
+mod Needed
+pub mod Shared
