@@ -117,23 +117,14 @@ put_first b m subs next start e put =
     put ∙ ap (λ z. with_nodes z (nodes None b m)) e in
     record { nodes = ap (λ (z : Numbered). z.nodes) all; count = ap (λ (z : Numbered). z.next) all }
 
--- they can be inserted
-pub first_nodes : (below : Forest Kind) (subs : List Sub) (count next : ℕ) → PutFirst below count subs next → AreInserted below →
-    AreNodes (side_by_side (map sub_tree subs))
-first_nodes below subs count next p are = subst AreNodes (sym p.nodes) are.nodes
-
-pub first_leads : (below tree : Forest Kind) (subs : List Sub) (count next : ℕ) → PutFirst below count subs next → AreInserted below → tree ≡ node 0 Root none none →
-    Leads (inserts 0 (side_by_side (map sub_tree subs))) tree
-first_leads below tree subs count next p are e =
-    let led : replay (inserts 0 (side_by_side (map sub_tree subs))) tree ≡ Done (node 0 Root below none) =
-    (λ i. replay (inserts 0 (p.nodes i)) (e i)) ∙ are.leads in
-    subst IsDone (sym led) tt
+-- nodes that can be inserted lead somewhere
+pub below_leads : (below tree : Forest Kind) → AreInserted below → tree ≡ node 0 Root none none → Leads (inserts 0 below) tree
+below_leads below tree are e = subst IsDone (sym (ap (replay (inserts 0 below)) e ∙ are.leads)) tt
 
 -- and this is the tree
-pub first_is : (below tree now : Forest Kind) (subs : List Sub) (count next : ℕ) → PutFirst below count subs next → AreInserted below → tree ≡ node 0 Root none none →
-    replay (inserts 0 (side_by_side (map sub_tree subs))) tree ≡ Done now → now ≡ node 0 Root below none
-first_is below tree now subs count next p are e led =
-    done_inj (sym led ∙ ((λ i. replay (inserts 0 (p.nodes i)) (e i)) ∙ are.leads))
+pub below_is : (below tree now : Forest Kind) → AreInserted below → tree ≡ node 0 Root none none → replay (inserts 0 below) tree ≡ Done now →
+    now ≡ node 0 Root below none
+below_is below tree now are e led = done_inj (sym led ∙ (ap (replay (inserts 0 below)) e ∙ are.leads))
   where
     tree_in : Answer → Forest Kind
     tree_in (Done t) = t

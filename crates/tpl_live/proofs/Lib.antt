@@ -12,3 +12,4 @@ mod Followed
 mod Carried
 mod Renewed
 mod Quiet
+mod Learning

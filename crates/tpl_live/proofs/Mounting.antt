@@ -45,7 +45,7 @@ is_good (Good (value.Rows t)) h = h
 is_good (Bad e) h = tt
 
 -- where outcomes that were heard are rows, these are rows
-all_good : (heard : Outcomes) → HaveRows heard → (n : ℕ) → IsGoodOutcome (outcome_in heard n)
+pub all_good : (heard : Outcomes) → HaveRows heard → (n : ℕ) → IsGoodOutcome (outcome_in heard n)
 all_good [] h n = tt
 all_good (p ∷ ps) h n = go (nat_eq n p.0) (all_good ps h.1 n)
   where
@@ -73,21 +73,30 @@ are_made lines b links first heard m t own fresh made good =
       order = x.order;
     }
 
--- its nodes can be inserted
+-- what a template shows can be inserted below the root, where its names come to rows that are rows
+pub can_show : (lines : List Line) (links : List ℕ) (source : ℕ → Outcome) → IsTemplate lines → GivesRows (evaluating links source) →
+    AreInserted (shown (in_order 1 (shown_lines (evaluating links source) lines).nodes))
+can_show lines links source t g =
+    let eval = evaluating links source in
+    let shape = shape_on lines links source in
+    let m = memo_on lines links source in
+    let tree = tree_made bare shape bare_page (shape_law lines eval t g) in
+    let at : tree.rooted.below ≡ shown (in_order 1 (shown_lines eval lines).nodes) = ap (kids 0) (sym tree.rooted.is ∙ scratch_law lines eval t g) in
+    record {
+      nodes = subst AreNodes at tree.nodes;
+      leads = leads lines links source m (shown (in_order 1 (shown_lines eval lines).nodes)) t g refl
+          (ap (λ z. shown (in_order 1 z)) (sym (ap (kids 0) (shape_shown lines links source))));
+    }
+
+-- so can the nodes of lines that were made
 pub can_insert : (lines : List Line) (b : Block) (links : List ℕ) (heard : Outcomes) (m : PageMemo) → b ≡ block_of lines → AreMade lines links heard m →
     AreInserted (below_in b m)
 can_insert lines b links heard m own made =
     let source = outcome_in heard in
-    let eval = evaluating links source in
-    let shape = shape_on lines links source in
-    let below = below_in (block_of lines) m in
-    let same_nodes : nodes None (block_of lines) m ≡ (shown_lines eval lines).nodes =
+    let same_nodes : nodes None (block_of lines) m ≡ (shown_lines (evaluating links source) lines).nodes =
     ap (kids 0) (ap (memo_shape lines) made.memo ∙ shape_shown lines links source) in
-    let tree = tree_made bare shape bare_page (shape_law lines eval made.template made.rows) in
-    let at : tree.rooted.below ≡ below =
-    ap (kids 0) (sym tree.rooted.is ∙ scratch_law lines eval made.template made.rows) ∙ ap (λ z. shown (in_order 1 z)) (sym same_nodes) in
     subst (λ z. AreInserted (below_in z m)) (sym own)
-    (record { nodes = subst AreNodes at tree.nodes; leads = leads lines links source m below made.template made.rows made.memo refl })
+    (subst AreInserted (ap (λ z. shown (in_order 1 z)) (sym same_nodes)) (can_show lines links source made.template made.rows))
 
 -- the page as it stands
 stands_as : (lines : List Line) (links : List ℕ) (s : Standing) (below : Forest Kind) → s.lines ≡ block_of lines → AreMade lines links s.heard s.memo →

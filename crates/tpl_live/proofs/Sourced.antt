@@ -58,7 +58,7 @@ pub heard_agrees : (heard : Outcomes) → Agrees heard (outcome_in heard)
 heard_agrees heard = record { each = λ n o h. ap (λ z. unwrap_or z (Bad Gone)) h }
 
 -- a name that was heard has the outcome from scratch
-heard_is : (hosts : Hosts) (w : Signals) (heard : Outcomes) (n : ℕ) → AreFromScratch hosts w heard → is_in n (keys_of heard) ≡ true →
+pub heard_is : (hosts : Hosts) (w : Signals) (heard : Outcomes) (n : ℕ) → AreFromScratch hosts w heard → is_in n (keys_of heard) ≡ true →
     outcome_in heard n ≡ value_of hosts w n []
 heard_is hosts w [] n all h = absurd (false≢true h)
 heard_is hosts w (p ∷ ps) n all h = go (nat_eq n p.0) refl h (heard_is hosts w ps n all.1)
@@ -99,17 +99,16 @@ made_right hosts w lines links heard m is order all =
 -- ---- what is settled
 
 -- names were settled, which are those that the template reads
-pub settled_right : (x y : Scene) (before after : Hosts → Type 0) (lines : List Line) (links : List ℕ) (first heard : Outcomes) (m : PageMemo) → first ≡ [] →
-    Hears x y before after first heard → m ≡ memo_on lines links (outcome_in heard) → keys_of heard ≡ firsts_after [] (names m) →
+pub settled_as : (x y : Scene) (before after : Hosts → Type 0) (lines : List Line) (links : List ℕ) (first heard : Outcomes) → first ≡ [] →
+    Hears x y before after first heard → ((hosts : Hosts) → before hosts → AreKept hosts x.graph.state.signals x.graph.state.memos →
+    keys_of heard ≡ template_asked hosts x.graph.state.signals lines links) →
     Settles x y before after (λ hosts. template_asked hosts x.graph.state.signals lines links)
-settled_right x y before after lines links first heard m none h is order =
+settled_as x y before after lines links first heard none h asked =
     let s = h.settles in
     let w : Signals = x.graph.state.signals in
     let k : Memos = x.graph.state.memos in
     let right : (hosts : Hosts) → before hosts → AreKept hosts w k → keys_of h.grows.more ≡ template_asked hosts w lines links =
-    λ hosts all kept.
-    ap keys_of (sym (h.grows.all ∙ ap (λ f. f ++ h.grows.more) none))
-    ∙ (made_right hosts w lines links heard m is order (heard_scratch x y before after first heard hosts h all kept (subst (AreFromScratch hosts w) (sym none) tt))).asked in
+    λ hosts all kept. ap keys_of (sym (h.grows.all ∙ ap (λ f. f ++ h.grows.more) none)) ∙ asked hosts all kept in
     record {
       settled = λ hosts all kept. subst (λ ns. IsSettling hosts w k ns x.notes y.notes y.graph.state.memos) (right hosts all kept) (s.settled hosts all kept);
       kept = s.kept;
@@ -126,3 +125,14 @@ settled_right x y before after lines links first heard m none h is order =
       named = s.named;
       worn = s.worn;
     }
+
+-- so it is where lines were made on what was heard
+pub settled_right : (x y : Scene) (before after : Hosts → Type 0) (lines : List Line) (links : List ℕ) (first heard : Outcomes) (m : PageMemo) → first ≡ [] →
+    Hears x y before after first heard → m ≡ memo_on lines links (outcome_in heard) → keys_of heard ≡ firsts_after [] (names m) →
+    Settles x y before after (λ hosts. template_asked hosts x.graph.state.signals lines links)
+settled_right x y before after lines links first heard m none h is order =
+    let w : Signals = x.graph.state.signals in
+    settled_as x y before after lines links first heard none h
+    (λ hosts all kept.
+    (made_right hosts w lines links heard m is order
+    (heard_scratch x y before after first heard hosts h all kept (subst (AreFromScratch hosts w) (sym none) tt))).asked)

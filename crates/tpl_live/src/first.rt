@@ -42,6 +42,20 @@ fn insert_all(alloc: Global, tree: &mut Tree, subs: &[Sub]) -> Result<(), NoMemo
     Ok(())
 }
 
+/// The tree of nodes below the root.
+///
+/// # Errors
+///
+/// `NoMemory` alone.
+pub fn tree_below(alloc: Global, subs: &[Sub]) -> Result<Tree, NoMemory>
+    requires { AreInserted (side_by_side (map sub_tree subs.now)) }
+    ensures { IfOk result (λ tree. tree ≡ node 0 Root (side_by_side (map sub_tree subs.now)) none) }
+{
+    let mut tree = Tree::new(alloc)?;
+    insert_all(alloc, &mut tree, subs)?;
+    Ok(tree)
+}
+
 // The insertions of nodes below the root, one behind the other.
 fn insertions(alloc: Global, subs: Vec<Sub>) -> Result<Vec<Op>, NoMemory>
     ensures { IfOk result (λ ops. map op_of ops.items ≡ inserts 0 (side_by_side (map sub_tree subs.items))) }
@@ -69,8 +83,7 @@ pub fn first_tree(alloc: Global, lines: &Block, memo: &PageMemo) -> Result<First
     let mut out = Nodes::new(alloc);
     put_nodes(alloc, lines, memo, &mut out)?;
     let Nodes { subs, next } = out;
-    let mut tree = Tree::new(alloc)?;
-    insert_all(alloc, &mut tree, &subs)?;
+    let tree = tree_below(alloc, &subs)?;
     let ops = insertions(alloc, subs)?;
     Ok(First { tree, ops, next })
 }

@@ -4,5 +4,7 @@
 mod first;
 mod page;
 mod plan;
+mod scratch;
 
 pub use page::Page;
+pub use scratch::tree_from_scratch;

@@ -1,5 +1,5 @@
 // A page from scratch.
-ghost use Rattle.std.specs.Prelude.{◌≡◌, length, IfOk};
+ghost use Rattle.std.specs.Prelude.{◌≡◌, IfOk};
 ghost use Rattle.tpl_blocks.specs.Blocks.{lines_of};
 ghost use Rattle.tpl_scratch.specs.Making.{nodes_of};
 ghost use Rattle.tpl_scratch.specs.Scratch.{Comes, IsScratch};
@@ -47,7 +47,6 @@ pub fn page_from_scratch(
     template: &Template,
     known: &[Option<Outcome>],
 ) -> Result<ScratchStep, NoMemory>
-    requires { length known.now ≡ length template.now.names }
     ensures { IfOk result (λ s. IsScratch known.now (lines_of template.now) s) }
 {
     let block = block_of(alloc, template)?;

@@ -1,28 +1,20 @@
-use Rattle.std.proofs.Common.{length, None, ap, ◌∙◌}
-use Rattle.page_model.specs.Forest.{keys}
+use Rattle.std.proofs.Common.{None, ap, subst, sym, ◌∙◌}
+use Rattle.page_model.specs.Forest.{Forest, node, none}
+use Rattle.page_model.specs.Labels.{Kind, Root}
 use Rattle.tpl_blocks.specs.Blocks.{block}
 use Rattle.tpl_memos.specs.Kept.{kept}
 use Rattle.tpl_scratch.specs.Making.{nodes_of}
-use Rattle.tpl_live.specs.Pages.{below_in, inserts, shown_in}
-use Rattle.tpl_live.proofs.Inserted.{first_is, first_leads, first_nodes, put_first}
+use Rattle.tpl_live.specs.Pages.{AreInserted, inserts}
+use Rattle.tpl_live.proofs.Inserted.{put_first}
 use Rattle.tpl_live.proofs.first.first_tree.Goals as goal
 
-pub insert_all-requires-clause-nodes : goal.insert_all-requires-clause-nodes
-insert_all-requires-clause-nodes c =
+pub tree_below-requires : goal.tree_below-requires
+tree_below-requires c =
     let b = block c.args.lines.now in
     let m = kept c.args.memo.now in
     let out = c.put_nodes.new.out in
     let p = put_first b m out.subs.items out.next (nodes_of c.new-out.result) c.new-out.ensures (c.in_ok-put_nodes.ensures None) in
-    rw c.deref.ensures.value (first_nodes (below_in b m) out.subs.items (length (keys (shown_in b m))) out.next p c.requires)
-
-pub insert_all-requires-clause-leads : goal.insert_all-requires-clause-leads
-insert_all-requires-clause-leads c =
-    let b = block c.args.lines.now in
-    let m = kept c.args.memo.now in
-    let out = c.put_nodes.new.out in
-    let p = put_first b m out.subs.items out.next (nodes_of c.new-out.result) c.new-out.ensures (c.in_ok-put_nodes.ensures None) in
-    rw c.deref.ensures.value
-    (first_leads (below_in b m) c.in_ok-tree.tree out.subs.items (length (keys (shown_in b m))) out.next p c.requires c.in_ok-tree.ensures)
+    rw c.deref.ensures.value (subst AreInserted (sym p.nodes) c.requires)
 
 pub returns-clause-tree : goal.returns-clause-tree
 returns-clause-tree c =
@@ -30,8 +22,7 @@ returns-clause-tree c =
     let m = kept c.args.memo.now in
     let out = c.put_nodes.new.out in
     let p = put_first b m out.subs.items out.next (nodes_of c.new-out.result) c.new-out.ensures (c.in_ok-put_nodes.ensures None) in
-    first_is (below_in b m) c.in_ok-tree.tree c.insert_all.new.tree out.subs.items (length (keys (shown_in b m))) out.next p c.requires c.in_ok-tree.ensures
-    (rw c.deref.ensures.value at c.in_ok-insert_all.ensures)
+    (rw c.deref.ensures.value at c.in_ok-tree.ensures) ∙ ap (λ (below : Forest Kind). node 0 Root below none) p.nodes
 
 pub returns-clause-ops : goal.returns-clause-ops
 returns-clause-ops c =
