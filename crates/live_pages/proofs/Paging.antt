@@ -7,7 +7,9 @@ use Rattle.std.proofs.Math.Seq.{take-append_seam}
 use Rattle.signal_model.specs.Recipes.{Hosts}
 use Rattle.effect_model.specs.Worlds as told
 use Rattle.effect_model.specs.Worlds.{settle}
+use Rattle.page_model.specs.Forest.{Forest}
 use Rattle.page_model.specs.Html.{html_of}
+use Rattle.page_model.specs.Labels.{Kind}
 use Rattle.page_model.specs.Pages as paged
 use Rattle.page_model.specs.Pages.{NumberedPage, tree_of}
 use Rattle.page_model.specs.Replay.{Op}
@@ -36,7 +38,7 @@ use Rattle.live_labels.specs.Entries.{note_entry}
 use Rattle.live_labels.proofs.Shared.{all_rename, all_told, renamed_by, told_by}
 use Rattle.live_pages.specs.declared.mounted.Mounted.{Mounted}
 use Rattle.live_pages.specs.Views.{page_of}
-use Rattle.live_pages.specs.Updates.{after_reading, bare, carried_to, numbers_of, plain_machine, AreBroughtUp, AreShown, AreStanding, IsBroughtUp, IsFresh, IsMounted}
+use Rattle.live_pages.specs.Updates.{after_reading, bare, carried_to, numbers_of, plain_machine, AreBroughtUp, AreShown, AreStanding, IsBroughtUp, IsFresh, IsFreshTree, IsMounted}
 use Rattle.live_pages.specs.Updates.{IsScratched, IsShown, Settles}
 
 -- ---- one page
@@ -106,19 +108,32 @@ mounted_made env l templates asked later old new name t x made edits before midd
       sound = f.sound;
     }
 
--- only its HTML is
+-- the tree of what a template shows was made
+pub tree_made : (hosts : Hosts) (slacks : List ℕ) (asked later : List HostPlace) (l : Labels) (t : Template) (old new : World) (made : Forest Kind)
+    (before after : List Entry) (notes : List RunNote) →
+    Does hosts asked later old new [] (noted notes) (settle (environment hosts slacks) (asked_of hosts old.signals.graph.state.signals t)) →
+    made ≡ tree_of (carried_to (environment hosts slacks) asked old t paged.bare).page → after ≡ before ++ map (note_entry l.signals) (map note_of notes) →
+    IsFreshTree (environment hosts slacks) l t asked later old new made before after
+tree_made hosts slacks asked later l t old new made before after notes d tree tells = record {
+  world = d.whole;
+  told = tells ∙ ap (λ (es : List Entry). before ++ es) (settled_told hosts slacks asked later old new (asked_of hosts old.signals.graph.state.signals t) notes l d);
+  labels = settled_labels hosts slacks asked later old new (asked_of hosts old.signals.graph.state.signals t) notes l d;
+  tree = tree;
+  sound = d.sound;
+}
+
+-- its HTML is that of the template from scratch
 pub scratched_made : (env : told.Environment) (l : Labels) (templates : List Template) (asked later : List HostPlace) (old new : World) (t : ℕ) (x : Template)
-    (made : NumberedPage) (edits : List Op) (bytes : List ℕ) (before after : List Entry) → x ≡ template_in templates t →
-    IsFresh env l x asked later old new made edits before after → bytes ≡ html_of (tree_of made) →
-    IsScratched env l templates asked later old new t bytes before after
-scratched_made env l templates asked later old new t x made edits bytes before after is fresh same =
-    let f = subst (λ (y : Template). IsFresh env l y asked later old new made edits before after) is fresh in
+    (made : Forest Kind) (bytes : List ℕ) (before after : List Entry) → x ≡ template_in templates t →
+    IsFreshTree env l x asked later old new made before after → bytes ≡ html_of made → IsScratched env l templates asked later old new t bytes before after
+scratched_made env l templates asked later old new t x made bytes before after is fresh same =
+    let f = subst (λ (y : Template). IsFreshTree env l y asked later old new made before after) is fresh in
     let k : Template = template_in templates t in
     record {
       world = f.world;
       told = f.told;
       labels = f.labels;
-      html = same ∙ ap (λ (p : NumberedPage). html_of (tree_of p)) f.page
+      html = same ∙ ap (λ (tree : Forest Kind). html_of tree) f.tree
           ∙ page_law paged.bare (template_shape env.hosts old.signals.graph.state.signals k.lines k.links);
       sound = f.sound;
     }

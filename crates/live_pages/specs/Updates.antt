@@ -4,7 +4,9 @@ use Rattle.std.specs.List.{AllByRecursion}
 use Rattle.sig_base.specs.declared.limits.TheConstants.{MOST_PAGES}
 use Rattle.signal_model.specs.Standing.{is_in}
 use Rattle.page_model.specs.Pages as paged
+use Rattle.page_model.specs.Forest.{Forest}
 use Rattle.page_model.specs.Html.{html_of}
+use Rattle.page_model.specs.Labels.{Kind}
 use Rattle.page_model.specs.Pages.{NumberedPage, tree_of}
 use Rattle.page_model.specs.Replay.{Op}
 use Rattle.tpl_blocks.specs.Blocks.{lines_of}
@@ -94,6 +96,15 @@ pub record IsFresh (env : Environment) (ls : called.Labels) (t : Template) (aske
   pub labels : ls ≡ (after_reading env ls asked old t).machine.labels
   pub page : made ≡ (carried_to env asked old t paged.bare).page
   pub ops : edits ≡ (carried_to env asked old t paged.bare).ops
+  pub sound : IsSound env.hosts later new
+
+-- What a template reads was settled and told, and this is the tree of what it shows from scratch: that of a page which is made of it.
+pub record IsFreshTree (env : Environment) (ls : called.Labels) (t : Template) (asked later : List HostPlace) (old new : World)
+    (made : Forest Kind) (before after : List Entry) : Type 0 where
+  pub world : whole_of later new ≡ (after_reading env ls asked old t).machine.world
+  pub told : after ≡ before ++ (after_reading env ls asked old t).entries
+  pub labels : ls ≡ (after_reading env ls asked old t).machine.labels
+  pub tree : made ≡ tree_of (carried_to env asked old t paged.bare).page
   pub sound : IsSound env.hosts later new
 
 -- A page was made, on the signals of a machine: what it reads is settled and told, then the operations that lead to it, and then the page.

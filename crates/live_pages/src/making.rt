@@ -11,20 +11,21 @@ ghost use Rattle.tpl_live.specs.Standings.{standing};
 ghost use Rattle.tpl_model.specs.Laws.{IsTemplate};
 ghost use Rattle.live_labels.specs.Views.{labels_of};
 ghost use Rattle.live_model.specs.Pages.{template_in};
-ghost use Rattle.live_pages.specs.Updates.{AreTemplates, IsFresh, IsMounted, IsScratched, Settles};
+ghost use Rattle.live_pages.specs.Updates.{AreTemplates, IsFresh, IsFreshTree, IsMounted, IsScratched, Settles};
 ghost use Rattle.live_pages.specs.Views.{template_of};
 
 use crate::looking::template_among;
 use crate::mounted::LinkedTemplate;
-use crate::telling::{html_of, tell_ops, tell_page};
+use crate::telling::{tell_ops, tell_page, tree_html};
 use effect_world::World;
 use live_entries::{Entry, PageBytes};
 use live_labels::{Labels, tell_runs};
 use page_ops::Op;
+use page_tree::Tree;
 use sig_base::{Name, NoMemory, NodeId};
 use sig_host::{Lent, Shelf};
 use std::alloc::Global;
-use tpl_live::Page;
+use tpl_live::{Page, tree_from_scratch};
 
 // The same signals in a list of its own.
 fn copied(alloc: Global, signals: &[NodeId]) -> Result<Vec<NodeId>, NoMemory>
@@ -118,7 +119,44 @@ pub fn mount(
     Ok(Box::into_inner(page))
 }
 
-/// The HTML of what a template shows from scratch on the outcomes of now; the runs on the way are told. A page of its own is made for it.
+// The tree of what a template shows from scratch on the outcomes of now; the runs on the way are told.
+fn fresh_tree(
+    world: &mut World,
+    shelf: &mut Shelf,
+    linked: &LinkedTemplate,
+    labels: &Labels,
+    told: &mut Vec<Entry>,
+) -> Result<Tree, NoMemory>
+    requires template { IsTemplate (lines_of linked.now.template) }
+    requires agrees { Agrees (⟦<Shelf as Lent>⟧.asked shelf.old) world.old }
+    requires counted { ⟦<Shelf as Lent>⟧.counted shelf.old }
+    requires worn { world.old.signals.graph.state.worn < 2 ^ 126 }
+    requires room { most_asked (⟦<Shelf as Lent>⟧.asked shelf.old) < 2 ^ 126 }
+    ensures tree { (hosts : Hosts) (slacks : List ℕ) → ⟦<Shelf as Lent>⟧.answers hosts shelf.old →
+        IsSound hosts (⟦<Shelf as Lent>⟧.asked shelf.old) world.old →
+        IfOk result (λ tree. IsFreshTree (environment hosts slacks) (labels_of labels.now) (template_of linked.now) (⟦<Shelf as Lent>⟧.asked shelf.old)
+        (⟦<Shelf as Lent>⟧.asked shelf.new) world.old world.new tree told.old.items told.new.items) }
+    ensures world { OnOk result (Settles world.old world.new) }
+    ensures agrees { OnOk result (Agrees (⟦<Shelf as Lent>⟧.asked shelf.new) world.new) }
+    ensures worn { OnOk result (world.new.signals.graph.state.worn ≤ world.old.signals.graph.state.worn + 2 ^ 64) }
+    ensures answers { (hosts : Hosts) → ⟦<Shelf as Lent>⟧.answers hosts shelf.old → OnOk result (⟦<Shelf as Lent>⟧.answers hosts shelf.new) }
+    ensures counted { OnOk result (⟦<Shelf as Lent>⟧.counted shelf.new) }
+    ensures most { OnOk result (most_asked (⟦<Shelf as Lent>⟧.asked shelf.new) ≤ most_asked (⟦<Shelf as Lent>⟧.asked shelf.old) + 2 ^ 71) }
+{
+    let mut notes = Vec::new(*told.allocator());
+    let tree = tree_from_scratch(
+        &mut world.signals.graph,
+        shelf,
+        &linked.template,
+        &linked.links,
+        &mut notes,
+    )?;
+    let _count = notes.len();
+    tell_runs(told, &labels.signals, &notes)?;
+    Ok(tree)
+}
+
+/// The HTML of what a template shows from scratch on the outcomes of now; the runs on the way are told. No page is made for it.
 ///
 /// # Errors
 ///
@@ -149,7 +187,7 @@ pub fn scratch(
     ensures most { OnOk result (most_asked (⟦<Shelf as Lent>⟧.asked shelf.new) ≤ most_asked (⟦<Shelf as Lent>⟧.asked shelf.old) + 2 ^ 71) }
 {
     let linked = template_among(templates, template);
-    let (page, _ops) = fresh(world, shelf, linked, labels, told)?;
-    let html = html_of(*told.allocator(), &page)?;
+    let tree = fresh_tree(world, shelf, linked, labels, told)?;
+    let html = tree_html(*told.allocator(), &tree)?;
     Ok(html)
 }

@@ -11,16 +11,21 @@ ghost use Rattle.live_pages.specs.Views.{content_html, page_of};
 use crate::mounted::Mounted;
 use live_entries::{Entry, PageBytes, PageOp};
 use page_ops::Op;
+use page_tree::Tree;
 use sig_base::{Name, NoMemory};
 use std::alloc::Global;
 use tpl_live::Page;
 
-// The bytes of a page's tree.
-fn tree_html(alloc: Global, page: &Page) -> Result<PageBytes, NoMemory>
-    ensures { IfOk result (λ html. html ≡ html_of (standing page.now).tree) }
+/// The HTML of a tree.
+///
+/// # Errors
+///
+/// `NoMemory` alone.
+pub fn tree_html(alloc: Global, tree: &Tree) -> Result<PageBytes, NoMemory>
+    ensures { IfOk result (λ html. html ≡ html_of tree.now) }
 {
     let mut out = Vec::new(alloc);
-    page.tree().write_html(&mut out)?;
+    tree.write_html(&mut out)?;
     let html = PageBytes::of(alloc, out)?;
     Ok(html)
 }
@@ -34,7 +39,7 @@ pub fn html_of(alloc: Global, page: &Page) -> Result<PageBytes, NoMemory>
     requires { IsStanding (standing page.now) }
     ensures { IfOk result (λ html. html ≡ content_html page.now) }
 {
-    let html = tree_html(alloc, page)?;
+    let html = tree_html(alloc, page.tree())?;
     Ok(html)
 }
 
