@@ -21,6 +21,7 @@ use Rattle.sig_nodes.specs.declared.node.Body.TheVariants.{Gone, Cell as CellBod
 use Rattle.sig_nodes.specs.States.{GoesOn, State, is_computing, with_disposal, with_kept_run, with_progress}
 use Rattle.sig_nodes.specs.Seats.{Seating, holder}
 use Rattle.sig_nodes.specs.Nodes.{IsFresh, body_at, changed_at, change_at, entries_of, entry_of, gone_node, is_cell_body, is_computed_body, is_live_body, known_body, known_node, memo_body, memos_of, new_node, rewired_node, run_node, seat_at, set_node, signals_of, state_of, stands_of, with_new}
+use Rattle.sig_nodes.proofs.KeptFinds.{known_found}
 use Rattle.sig_nodes.proofs.Parts.{entry_found, memo_found, progress_found, stands}
 use Rattle.sig_nodes.proofs.Edits.{body_changed, body_past, changed_length, gone_state, known_state, memo_made, new_state, rewired_state, run_state, set_state}
 use Rattle.sig_nodes.proofs.Holding.{computed_below, computed_here, computed_live, computing_here, known_holds, live_here}
@@ -478,9 +479,9 @@ same_table xs gen u dss e h = record {
 }
 
 -- a step of an evaluation that is under way
-pub known_graph : (k : Option (List Known)) (n : ℕ) (xs : List Node) (seats : Seating) (gen w : ℕ) (t : MarkTable) → is_some (known_body (body_at xs n)) ≡ true →
-    IsGraph xs seats gen w t → IsGraph (changed_at (known_node k) n xs) seats gen w t
-known_graph k n xs seats gen w t on h = record { fields = known_holds k n xs seats gen w h.fields; marks = known_kept k n xs gen t on h.marks }
+pub known_graph : (k : Option (List Known)) (n : ℕ) (xs : List Node) (seats : Seating) (gen w : ℕ) (t : MarkTable) (fs : List ℕ) → is_some (known_body (body_at xs n)) ≡ true →
+    IsGraph xs seats gen w t fs → IsGraph (changed_at (known_node k) n xs) seats gen w t fs
+known_graph k n xs seats gen w t fs on h = record { fields = known_holds k n xs seats gen w h.fields; marks = known_kept k n xs gen t on h.marks; found = known_found k n xs gen w fs h.found }
 
 pub under_way : (k : Option (List Known)) (known : List Known) → GoesOn k known → is_some k ≡ true
 under_way None known h = absurd h

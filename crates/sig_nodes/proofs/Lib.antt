@@ -9,5 +9,6 @@ mod FlaggedSeats
 pub mod Using
 pub mod Shared
 mod Found
+mod KeptFinds
 mod MarkedStates
 mod KeptMarks

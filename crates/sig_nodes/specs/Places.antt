@@ -4,7 +4,8 @@ use Rattle.sig_base.specs.declared.limits.TheConstants.{MOST_NODES}
 use Rattle.signal_model.specs.Standing.{is_in}
 use Rattle.signal_model.specs.Memos.{source_names, sources_in}
 use Rattle.sig_nodes.specs.declared.node.Node.{Node}
-use Rattle.sig_nodes.specs.Nodes.{cells_of, computeds_of, body_at, change_at, seat_at, is_live_body, memo_body, slots_body, state_of, FewSlotsBody}
+use Rattle.sig_nodes.specs.Nodes.{cells_of, computeds_of, body_at, change_at, seat_at, is_computed_body, is_live_body, memo_body, slots_body, state_of, FewSlotsBody}
+use Rattle.sig_nodes.specs.Search.{found_at, HasDue}
 use Rattle.sig_nodes.specs.Seats.{Seating, holder}
 use Rattle.sig_nodes.specs.States.{State, Seen}
 use Rattle.sig_nodes.specs.StateMarks.{AreStateMarks}
@@ -30,10 +31,16 @@ pub record KeepsMarks (nodes : List Node) (generation : ℕ) (t : MarkTable) : T
   pub flags : length t.marked ≡ length nodes
   pub marked : AreStateMarks (state_of nodes generation 0 0) (depends t.dependants) (marked_at t.marked)
 
--- both hold
-pub record IsGraph (nodes : List Node) (seats : Seating) (generation worn : ℕ) (t : MarkTable) : Type 0 where
+-- What searches found is of no later count of changes than the present one, and what they found at that is so.
+pub record KeepsFound (nodes : List Node) (generation worn : ℕ) (found : List ℕ) : Type 0 where
+  pub past : (s : ℕ) → found_at found s ≤ worn
+  pub due : (n : ℕ) → is_computed_body (body_at nodes n) ≡ true → found_at found (seat_at nodes n) ≡ worn → HasDue nodes generation n
+
+-- all of them hold
+pub record IsGraph (nodes : List Node) (seats : Seating) (generation worn : ℕ) (t : MarkTable) (finds : List ℕ) : Type 0 where
   pub fields : Holds nodes seats generation worn
   pub marks : KeepsMarks nodes generation t
+  pub found : KeepsFound nodes generation worn finds
 
 -- what callers see of a state, its seats, the number of ids that were given and the dependants
 abbrev pub seen : State → List (Option ℕ) → ℕ → List (List ℕ) → Seen

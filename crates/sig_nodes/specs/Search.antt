@@ -41,6 +41,12 @@ is_due_at xs g n = is_due (signals_of xs) (memos_of g xs) n
 abbrev pub HasDue : List Node → ℕ → ℕ → Type 0
 HasDue xs g n = (is_due_at xs g n ≡ true) ⊎ HasBelow (is_due_at xs g) (memos_of g xs) n
 
+-- at which count of changes a search found that who has a seat, or something below it, must run; 0 where none did
+abbrev pub found_at : List ℕ → ℕ → ℕ
+found_at [] s = 0
+found_at (f ∷ fs) zero = f
+found_at (f ∷ fs) (suc s) = found_at fs s
+
 -- whether a marked computed stands at one of these places
 abbrev pub some_marked_at : List Node → List Bool → List ℕ → Bool
 some_marked_at xs t [] = false

@@ -65,7 +65,15 @@ impl Graph {
             return Mark::Clean;
         }
         let mut seen = [false; MOST_NODES];
-        match searched_mark(&self.nodes, self.generation, &self.marks, id, &mut seen) {
+        match searched_mark(
+            &self.nodes,
+            self.generation,
+            self.worn,
+            &self.marks,
+            id,
+            &mut seen,
+            &mut self.finds,
+        ) {
             Mark::Clean => {
                 unmark_seen(&self.nodes, &self.seats, &mut self.marks, &seen);
                 Mark::Clean

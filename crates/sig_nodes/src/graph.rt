@@ -12,6 +12,7 @@ ghost use Rattle.sig_nodes.specs.States.{are_there, is_cell, is_computing, is_gi
 use crate::answers::Recipe;
 use crate::bodies::{host_at, is_computed, is_linkable_at, is_live_at, seat_at, sources_at};
 use crate::errors::NodeFault;
+use crate::finds::Finds;
 use crate::node::{Body, Computation, Node};
 use crate::seats::{Seats, push_in};
 use crate::store::{dispose_at, rewire_at, set_value_at};
@@ -29,6 +30,7 @@ pub struct Graph {
     pub(crate) looked: u128,
     pub(crate) worn: u128,
     pub(crate) marks: Marks,
+    pub(crate) finds: Finds,
 }
 
 impl Drop for Graph {
@@ -41,6 +43,7 @@ impl Drop for Graph {
             looked: _,
             worn: _,
             marks: _,
+            finds: _,
         } = self;
     }
 }
@@ -60,7 +63,7 @@ impl Model for Graph {
 
     ghost view = { λ g. seen (state_of g.nodes.items g.generation g.looked g.worn) g.seats.holders (length g.nodes.items) g.marks.dependants };
 
-    ghost invariant = { λ g. IsGraph g.nodes.items g.seats g.generation g.worn g.marks };
+    ghost invariant = { λ g. IsGraph g.nodes.items g.seats g.generation g.worn g.marks g.finds };
 }
 
 impl Graph {
@@ -77,6 +80,7 @@ impl Graph {
             looked: 0,
             worn: 0,
             marks: Marks::new(alloc),
+            finds: Finds::new(alloc)?,
         })
     }
 

@@ -6,6 +6,7 @@ mod bodies;
 mod errors;
 mod evaluation;
 mod finding;
+mod finds;
 mod graph;
 mod looks;
 mod marking;

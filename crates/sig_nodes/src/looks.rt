@@ -145,6 +145,6 @@ impl Graph {
         ensures { mark_meant result ≡ mark_of self.now.state.signals self.now.state.memos id }
     {
         let _count = self.nodes.len();
-        mark_at(&self.nodes, self.generation, &self.marks, id)
+        mark_at(self.alloc, &self.nodes, self.generation, &self.marks, id)
     }
 }

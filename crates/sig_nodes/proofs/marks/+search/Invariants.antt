@@ -1,4 +1,5 @@
 use Rattle.std.proofs.Common.{◌+◌, ◌*◌, take}
+use Rattle.sig_nodes.specs.Places.{KeepsFound}
 use Rattle.sig_nodes.specs.Search.{unmarked, Explores}
 use Rattle.sig_nodes.proofs.marks.+search.Given as goal
 
@@ -9,4 +10,7 @@ abbrev pub decreases-has_due_from : goal.decreases-has_due_from
 decreases-has_due_from l = 2 * unmarked l.seen.now
 
 abbrev pub invariant-has_due_below-loop-source : goal.invariant-has_due_below-loop-source
-invariant-has_due_below-loop-source l = Explores l.nodes l.marks.marked l.generation l.fn.seen l.seen (take l.source-index l.source-items)
+invariant-has_due_below-loop-source l = record {
+  explored : Explores l.nodes l.marks.marked l.generation l.fn.seen l.seen (take l.source-index l.source-items);
+  kept : KeepsFound l.nodes l.generation l.worn l.finds;
+}

@@ -1,4 +1,6 @@
-use Rattle.std.proofs.Common.{sym, ◌∙◌}
+use Rattle.std.proofs.Common.{ℕ, List, sym, ◌∙◌, subst}
+use Rattle.sig_nodes.specs.Places.{KeepsFound}
+use Rattle.sig_nodes.proofs.KeptFinds.{empty_kept}
 use Rattle.sig_nodes.proofs.Searching.{flags_down, unmarked_clean}
 use Rattle.sig_nodes.proofs.marks.mark_at.Goals as goal
 
@@ -7,3 +9,6 @@ returns-then-not-is_marked c = unmarked_clean c.args.nodes.now c.args.generation
 
 pub searched_mark-requires-clause-down : goal.searched_mark-requires-clause-down
 searched_mark-requires-clause-down c = flags_down 512
+
+pub searched_mark-requires-clause-kept : goal.searched_mark-requires-clause-kept
+searched_mark-requires-clause-kept c = subst (λ (fs : List ℕ). KeepsFound c.args.nodes.now c.args.generation 1 fs) (sym c.none-finds.ensures) (empty_kept c.args.nodes.now c.args.generation)

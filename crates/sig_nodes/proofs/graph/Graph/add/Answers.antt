@@ -1,5 +1,6 @@
 use Rattle.sig_marks.specs.Tables.{MarkTable, with_place}
 use Rattle.sig_nodes.specs.Nodes.{is_computed_body}
+use Rattle.sig_nodes.proofs.KeptFinds.{raised_kept}
 use Rattle.sig_nodes.proofs.KeptMarks.{new_kept}
 use Rattle.std.proofs.Common.{◌≡◌, ◌+◌, ◌++◌, ◌∷◌, [], List, length, sym, ap, ◌∙◌, subst, arith}
 use Rattle.sig_nodes.specs.declared.node.Node.{Node}
@@ -35,6 +36,7 @@ invariant_of-self-2 c =
           (subst (λ (ys : List Node). Holds ys (with_taken c.self.inside.seats c.take-seat.result (length xs)) g (c.self.inside.worn + 1)) (sym items) h);
       marks = subst (λ (t : MarkTable). KeepsMarks c.push_in.new.all.items g t) (sym table)
           (subst (λ (ys : List Node). KeepsMarks ys g (with_place c.self.inside.marks (is_computed_body c.args.body))) (sym items) marks);
+      found = raised_kept xs c.push_in.new.all.items g g c.self.inside.worn c.self.inside.finds c.self.invariant.found;
     }
 
 pub returns-clause-after : goal.returns-clause-after

@@ -1,9 +1,10 @@
+use Rattle.sig_nodes.proofs.KeptFinds.{known_found}
 use Rattle.sig_nodes.proofs.KeptMarks.{begun_kept, same_table}
 use Rattle.std.proofs.Common.{◌<◌, [], List, Some, length, sym, ap, ◌∙◌, subst}
 use Rattle.signal_model.specs.Standing.{is_computed, standing}
 use Rattle.sig_nodes.specs.declared.node.Node.{Node}
 use Rattle.sig_nodes.specs.States.{progress_at, Seen, with_progress}
-use Rattle.sig_nodes.specs.Places.{Holds, KeepsMarks}
+use Rattle.sig_nodes.specs.Places.{Holds, KeepsFound, KeepsMarks}
 use Rattle.sig_nodes.specs.Nodes.{changed_at, progress_of, known_node, state_of}
 use Rattle.sig_nodes.proofs.Edits.{changed_length, known_state}
 use Rattle.sig_nodes.proofs.Holding.{became, computed_below, computed_here, known_holds}
@@ -32,6 +33,8 @@ invariant_of-self c =
           (known_holds (Some []) c.args.id xs c.self.inside.seats g c.self.inside.worn c.self.invariant.fields);
       marks = subst (λ (ys : List Node). KeepsMarks ys g c.push.new.self) (sym c.begin_at.ensures)
           (same_table (changed_at (known_node (Some [])) c.args.id xs) g c.push.new.self c.self.inside.marks.dependants c.push.ensures.dependants marks);
+      found = subst (λ (ys : List Node). KeepsFound ys g c.self.inside.worn c.self.inside.finds) (sym c.begin_at.ensures)
+          (known_found (Some []) c.args.id xs g c.self.inside.worn c.self.inside.finds c.self.invariant.found);
     }
 
 pub returns-clause-after : goal.returns-clause-after

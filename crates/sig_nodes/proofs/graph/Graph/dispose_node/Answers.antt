@@ -1,5 +1,6 @@
 use Rattle.std.specs.List.{All}
 use Rattle.sig_marks.specs.Tables.{Drops, Spreads}
+use Rattle.sig_nodes.proofs.KeptFinds.{raised_kept}
 use Rattle.sig_nodes.proofs.KeptMarks.{gone_kept, kept_names, names_below, same_table}
 use Rattle.std.proofs.Common.{ℕ, Bool, ◌+◌, ◌<◌, List, length, refl, sym, ap, ◌∙◌, subst}
 use Rattle.signal_model.specs.Standing.{is_there, standing}
@@ -79,6 +80,7 @@ invariant_of-self c =
           (subst (λ (ys : List Node). Holds ys (with_left c.self.inside.seats (seat_at xs c.args.id)) (g + 1) (c.self.inside.worn + 1)) (sym c.dispose_at.ensures) h);
       marks = subst (λ (ys : List Node). KeepsMarks ys (g + 1) c.take_out.new.self) (sym c.dispose_at.ensures)
           (same_table (changed_at gone_node c.args.id xs) (g + 1) c.take_out.new.self c.take_out.new.self.dependants refl marks);
+      found = raised_kept xs c.dispose_at.new.nodes.items g (g + 1) c.self.inside.worn c.self.inside.finds c.self.invariant.found;
     }
 
 pub returns-clause-after : goal.returns-clause-after

@@ -3,6 +3,7 @@ use Rattle.signal_model.specs.Memos.{is_cycle}
 use Rattle.mark_laws.specs.Marked.{ended}
 use Rattle.sig_marks.specs.Tables.{Relinks, marked_at}
 use Rattle.sig_nodes.specs.Search.{some_marked_at}
+use Rattle.sig_nodes.proofs.KeptFinds.{raised_kept}
 use Rattle.sig_nodes.proofs.KeptMarks.{kept_names, names_below, run_is, run_kept, same_table}
 use Rattle.std.proofs.Common.{◌+◌, ◌<◌, List, length, map, sym, ap, ◌∙◌, subst, is_some}
 use Rattle.std.specs.List.{All}
@@ -76,6 +77,7 @@ invariant_of-self-2 c =
       fields = subst (λ (ys : List Node). Holds ys c.self.inside.seats g (c.self.inside.worn + 1)) (sym nodes) (run_holds made c.args.id xs c.self.inside.seats g c.self.inside.worn named c.self.invariant.fields);
       marks = subst (λ (ys : List Node). KeepsMarks ys g c.end_mark.new.marks) (sym nodes)
           (same_table (changed_at (run_node made) c.args.id xs) g c.end_mark.new.marks c.relink.new.self.dependants c.end_mark.ensures.dependants marks);
+      found = raised_kept xs c.keep_memo_at.new.nodes.items g g c.self.inside.worn c.self.inside.finds c.self.invariant.found;
     }
 
 pub returns-clause-after : goal.returns-clause-after

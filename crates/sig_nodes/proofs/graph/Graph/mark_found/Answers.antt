@@ -6,6 +6,7 @@ use Rattle.mark_laws.specs.Marked.{without_marks}
 use Rattle.sig_marks.specs.Tables.{marked_at}
 use Rattle.sig_nodes.specs.declared.node.Node.{Node}
 use Rattle.sig_nodes.specs.States.{Seen}
+use Rattle.sig_nodes.specs.Places.{KeepsFound}
 use Rattle.sig_nodes.specs.Nodes.{body_at, is_computed_body}
 use Rattle.sig_nodes.specs.Search.{search_unmarks, AreSeated, Explores}
 use Rattle.sig_nodes.proofs.Holding.{computed_here, live_below}
@@ -49,4 +50,5 @@ invariant_of-self c =
       marks = same_table xs g c.unmark_seen.new.marks t.dependants took.dependants
           (searched_kept xs seats g c.self.inside.worn c.args.id t _ seen c.unmark_seen.new.marks.marked c.self.invariant.fields (flags_down 512) e took.size
           (λ m. took.marks m ∙ ap (λ (ys : List Node). without_marks (marked_at t.marked) (search_unmarks ys seen seats.holders) m) c.deref-in-Clean.ensures.value) c.self.invariant.marks);
+      found = subst (λ (ys : List Node). KeepsFound ys g c.self.inside.worn c.searched_mark.new.finds) c.deref.ensures.value c.searched_mark.ensures.kept;
     }

@@ -26,22 +26,22 @@ pub invariant_of-self : goal.invariant_of-self
 invariant_of-self c =
     let known = subst (λ (k : Option (List Known)). GoesOn k c.args.known.now) (progress_found c.self.inside.nodes.items c.args.id) (subst (λ (s : Seen). GoesOn (progress_at c.args.id s.state.progress) c.args.known.now) (sym c.self.view_is) c.requires) in
     let on = under_way (known_body (body_at c.self.inside.nodes.items c.args.id)) c.args.known.now known in
-    subst (λ (xs : List Node). IsGraph xs c.self.inside.seats c.self.inside.generation c.self.inside.worn c.self.inside.marks) (sym c.in_err-note_at.ensures.kept)
-    (known_graph (known_body (body_at c.note_at.new.nodes.items c.args.id)) c.args.id c.self.inside.nodes.items c.self.inside.seats c.self.inside.generation c.self.inside.worn c.self.inside.marks on c.self.invariant)
+    subst (λ (xs : List Node). IsGraph xs c.self.inside.seats c.self.inside.generation c.self.inside.worn c.self.inside.marks c.self.inside.finds) (sym c.in_err-note_at.ensures.kept)
+    (known_graph (known_body (body_at c.note_at.new.nodes.items c.args.id)) c.args.id c.self.inside.nodes.items c.self.inside.seats c.self.inside.generation c.self.inside.worn c.self.inside.marks c.self.inside.finds on c.self.invariant)
 
 pub invariant_of-self-in_err-answer : goal.invariant_of-self-in_err-answer
 invariant_of-self-in_err-answer c =
     let known = subst (λ (k : Option (List Known)). GoesOn k c.args.known.now) (progress_found c.self.inside.nodes.items c.args.id) (subst (λ (s : Seen). GoesOn (progress_at c.args.id s.state.progress) c.args.known.now) (sym c.self.view_is) c.requires) in
     let on = under_way (known_body (body_at c.self.inside.nodes.items c.args.id)) c.args.known.now known in
-    subst (λ (xs : List Node). IsGraph xs c.self.inside.seats c.self.inside.generation c.self.inside.worn c.self.inside.marks) (sym c.in_ok-note_at.ensures.kept)
-    (known_graph (known_body (body_at c.note_at.new.nodes.items c.args.id)) c.args.id c.self.inside.nodes.items c.self.inside.seats c.self.inside.generation c.self.inside.worn c.self.inside.marks on c.self.invariant)
+    subst (λ (xs : List Node). IsGraph xs c.self.inside.seats c.self.inside.generation c.self.inside.worn c.self.inside.marks c.self.inside.finds) (sym c.in_ok-note_at.ensures.kept)
+    (known_graph (known_body (body_at c.note_at.new.nodes.items c.args.id)) c.args.id c.self.inside.nodes.items c.self.inside.seats c.self.inside.generation c.self.inside.worn c.self.inside.marks c.self.inside.finds on c.self.invariant)
 
 pub invariant_of-self-2 : goal.invariant_of-self-2
 invariant_of-self-2 c =
     let known = subst (λ (k : Option (List Known)). GoesOn k c.args.known.now) (progress_found c.self.inside.nodes.items c.args.id) (subst (λ (s : Seen). GoesOn (progress_at c.args.id s.state.progress) c.args.known.now) (sym c.self.view_is) c.requires) in
     let on = under_way (known_body (body_at c.self.inside.nodes.items c.args.id)) c.args.known.now known in
-    subst (λ (xs : List Node). IsGraph xs c.self.inside.seats c.self.inside.generation c.self.inside.worn c.self.inside.marks) (sym c.in_ok-note_at.ensures.kept)
-    (known_graph (known_body (body_at c.note_at.new.nodes.items c.args.id)) c.args.id c.self.inside.nodes.items c.self.inside.seats c.self.inside.generation c.self.inside.worn c.self.inside.marks on c.self.invariant)
+    subst (λ (xs : List Node). IsGraph xs c.self.inside.seats c.self.inside.generation c.self.inside.worn c.self.inside.marks c.self.inside.finds) (sym c.in_ok-note_at.ensures.kept)
+    (known_graph (known_body (body_at c.note_at.new.nodes.items c.args.id)) c.args.id c.self.inside.nodes.items c.self.inside.seats c.self.inside.generation c.self.inside.worn c.self.inside.marks c.self.inside.finds on c.self.invariant)
 
 pub returns-clause-answer : goal.returns-clause-answer
 returns-clause-answer c =

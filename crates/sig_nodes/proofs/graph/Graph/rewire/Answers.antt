@@ -1,3 +1,4 @@
+use Rattle.sig_nodes.proofs.KeptFinds.{raised_kept}
 use Rattle.sig_nodes.proofs.KeptMarks.{rewired_kept, same_table}
 use Rattle.std.proofs.Common.{◌+◌, ◌<◌, ◌∷◌, List, length, refl, sym, ap, ◌∙◌, subst}
 use Rattle.signal_model.specs.Standing.{standing}
@@ -54,6 +55,7 @@ invariant_of-self c =
           (rewired_holds recipe c.args.id xs c.self.inside.seats g c.self.inside.worn below c.requires.few c.self.invariant.fields);
       marks = subst (λ (ys : List Node). KeepsMarks ys (g + 1) c.push.new.self) (sym c.rewire_at.ensures)
           (same_table (changed_at (rewired_node recipe) c.args.id xs) (g + 1) c.push.new.self c.self.inside.marks.dependants c.push.ensures.dependants marks);
+      found = raised_kept xs c.rewire_at.new.nodes.items g (g + 1) c.self.inside.worn c.self.inside.finds c.self.invariant.found;
     }
 
 pub returns-clause-after : goal.returns-clause-after

@@ -1,11 +1,12 @@
 use Rattle.mark_laws.specs.Marked.{ended}
 use Rattle.sig_marks.specs.Tables.{marked_at}
 use Rattle.sig_nodes.specs.Search.{stop_unmarks_by}
+use Rattle.sig_nodes.proofs.KeptFinds.{known_found}
 use Rattle.sig_nodes.proofs.KeptMarks.{same_table, stop_is, stopped_kept}
 use Rattle.std.proofs.Common.{◌≡◌, ◌<◌, true, List, None, length, sym, ap, ◌∙◌, subst, is_some}
 use Rattle.sig_nodes.specs.declared.node.Node.{Node}
 use Rattle.sig_nodes.specs.States.{Seen, is_computing, with_progress}
-use Rattle.sig_nodes.specs.Places.{Holds, KeepsMarks}
+use Rattle.sig_nodes.specs.Places.{Holds, KeepsFound, KeepsMarks}
 use Rattle.sig_nodes.specs.Nodes.{body_at, changed_at, is_computed_body, known_node, memo_body, state_of}
 use Rattle.sig_nodes.proofs.Parts.{progress_found}
 use Rattle.sig_nodes.proofs.Edits.{changed_length, known_state}
@@ -41,6 +42,8 @@ invariant_of-self c =
           (known_holds None c.args.id xs c.self.inside.seats g c.self.inside.worn c.self.invariant.fields);
       marks = subst (λ (ys : List Node). KeepsMarks ys g c.end_mark.new.marks) (sym c.end_at.ensures)
           (same_table (changed_at (known_node None) c.args.id xs) g c.end_mark.new.marks t.dependants c.end_mark.ensures.dependants marks);
+      found = subst (λ (ys : List Node). KeepsFound ys g c.self.inside.worn c.self.inside.finds) (sym c.end_at.ensures)
+          (known_found None c.args.id xs g c.self.inside.worn c.self.inside.finds c.self.invariant.found);
     }
 
 pub returns-clause-after : goal.returns-clause-after

@@ -1,0 +1,98 @@
+-- What searches found, and that it stays true.
+use Rattle.std.proofs.Common.{◌≡◌, ℕ, zero, suc, ◌+◌, ◌<◌, ◌≤◌, ◌==◌, Bool, true, false, List, [], ◌∷◌, ◌++◌, length, Option, refl, sym, ap, ◌∙◌, subst, arith, if◌then◌else◌, ◌⊎◌, inl, inr, true≢false}
+use Rattle.std.specs.Prelude.{slice_set, slice_index_or}
+use Rattle.sig_base.specs.declared.value.Known.{Known}
+use Rattle.signal_model.specs.Standing.{Signals}
+use Rattle.signal_model.specs.Memos.{Memos}
+use Rattle.signal_model.specs.Marks.{HasBelow, is_due}
+use Rattle.sig_nodes.specs.declared.node.Node.{Node}
+use Rattle.sig_nodes.specs.declared.node.Body.{Body}
+use Rattle.sig_nodes.specs.declared.node.Body.TheVariants.{Gone, Cell as CellBody, Computed as ComputedBody}
+use Rattle.sig_nodes.specs.States.{State}
+use Rattle.sig_nodes.specs.Nodes.{body_at, changed_at, is_computed_body, known_node, memos_of, seat_at, with_body_known}
+use Rattle.sig_nodes.specs.Places.{KeepsFound}
+use Rattle.sig_nodes.specs.Search.{found_at, is_due_at, AreSeated, HasDue}
+use Rattle.sig_nodes.proofs.Edits.{body_changed, known_state, seat_stays}
+
+-- ---- the table
+
+-- what is read there
+pub found_read : (fs : List ℕ) (s f : ℕ) → s < length fs → f ≡ slice_index_or fs s f → found_at fs s ≡ f
+found_read [] s f l is = absurd (omega arith)
+found_read (g ∷ fs) zero f l is = sym is
+found_read (g ∷ fs) (suc s) f l is = let k : s < length fs = omega arith in found_read fs s f k is
+
+-- what is written there changes nothing else
+pub found_written : (fs : List ℕ) (d f s : ℕ) → (found_at (slice_set fs d f) s ≡ found_at fs s) ⊎ ((s ≡ d) × (found_at (slice_set fs d f) s ≡ f))
+found_written [] d f s = inl refl
+found_written (x ∷ fs) zero f zero = inr (refl, refl)
+found_written (x ∷ fs) zero f (suc s) = inl refl
+found_written (x ∷ fs) (suc d) f zero = inl refl
+found_written (x ∷ fs) (suc d) f (suc s) = elim (found_written fs d f s) [ inl e ↦ inl e | inr q ↦ inr (ap suc q.0, q.1) ]
+
+-- nothing is found at one seat more
+pub none_more : (fs : List ℕ) → ((s : ℕ) → found_at fs s ≡ 0) → (s : ℕ) → found_at (fs ++ 0 ∷ []) s ≡ 0
+none_more [] h zero = refl
+none_more [] h (suc s) = refl
+none_more (f ∷ fs) h zero = h zero
+none_more (f ∷ fs) h (suc s) = none_more fs (λ k. h (suc k)) s
+
+-- ---- what is true of it
+
+-- nothing is found of no nodes
+pub none_kept : (fs : List ℕ) → ((s : ℕ) → found_at fs s ≡ 0) → KeepsFound [] 0 0 fs
+none_kept fs h = record {
+  past = λ s. let e : found_at fs s ≡ 0 = h s in omega (arith, e);
+  due = λ n c e. absurd (true≢false (sym c));
+}
+
+-- nor by an empty table
+pub empty_kept : (xs : List Node) (g : ℕ) → KeepsFound xs g 1 []
+empty_kept xs g = record {
+  past = λ s. omega arith;
+  due = λ n c e. absurd (omega (arith, e));
+}
+
+-- after one more change nothing is found
+pub raised_kept : (xs ys : List Node) (g h w : ℕ) (fs : List ℕ) → KeepsFound xs g w fs → KeepsFound ys h (w + 1) fs
+raised_kept xs ys g h w fs k = record {
+  past = λ s. let p : found_at fs s ≤ w = k.past s in omega (arith, p);
+  due = λ n c e. let p : found_at fs (seat_at ys n) ≤ w = k.past (seat_at ys n) in absurd (omega (arith, p, e));
+}
+
+-- what must run by what lives and what is kept
+abbrev DueBy : Signals → Memos → ℕ → Type 0
+DueBy w k n = (is_due w k n ≡ true) ⊎ HasBelow (is_due w k) k n
+
+-- a step of an evaluation changes neither
+pub known_found : (k : Option (List Known)) (n : ℕ) (xs : List Node) (g w : ℕ) (fs : List ℕ) → KeepsFound xs g w fs → KeepsFound (changed_at (known_node k) n xs) g w fs
+known_found k n xs g w fs h = record {
+  past = h.past;
+  due = λ m c e. subst (λ (s : State). DueBy s.signals s.memos m) (sym (known_state xs n k g 0 0))
+      (h.due m (sym (kind m) ∙ c) (ap (found_at fs) (sym (seat_stays (known_node k) n m xs (λ x. refl))) ∙ e));
+}
+  where
+    kind : (m : ℕ) → is_computed_body (body_at (changed_at (known_node k) n xs) m) ≡ is_computed_body (body_at xs m)
+    kind m = ap is_computed_body (body_changed (known_node k) (λ b. with_body_known b k) n m xs (λ x. refl) refl) ∙ go (n == m) (body_at xs m)
+      where
+        go : (t : Bool) (b : Body) → is_computed_body (if t then with_body_known b k else b) ≡ is_computed_body b
+        go false b = refl
+        go true Gone = refl
+        go true (CellBody v r) = refl
+        go true (ComputedBody c) = refl
+
+-- one more is found
+pub noted_kept : (xs : List Node) (g w n s count : ℕ) (fs us : List ℕ) → AreSeated xs count → is_computed_body (body_at xs n) ≡ true → s ≡ seat_at xs n → HasDue xs g n →
+    ((d : ℕ) → (found_at us d ≡ found_at fs d) ⊎ ((d ≡ s) × (found_at us d ≡ w))) → KeepsFound xs g w fs → KeepsFound xs g w us
+noted_kept xs g w n s count fs us seated live at due noted h = record {
+  past = λ d. elim (noted d) [ inl e ↦ subst (λ z. z ≤ w) (sym e) (h.past d) | inr q ↦ subst (λ z. z ≤ w) (sym q.1) (omega arith) ];
+  due = λ m c e. elim (noted (seat_at xs m)) [
+    | inl q ↦ h.due m c (sym q ∙ e)
+    | inr q ↦ subst (HasDue xs g) (sym (seated.one m n c live (q.0 ∙ at))) due
+  ];
+}
+
+-- what is found of one that needn't run itself is below it
+pub found_below : (xs : List Node) (g n : ℕ) → is_due_at xs g n ≡ false → HasDue xs g n → HasBelow (is_due_at xs g) (memos_of g xs) n
+found_below xs g n calm (inl on) = absurd (true≢false (sym on ∙ calm))
+found_below xs g n calm (inr below) = below
