@@ -4,6 +4,8 @@
 #[cfg(test)]
 mod bounds;
 #[cfg(test)]
+mod clean;
+#[cfg(test)]
 mod effects;
 #[cfg(test)]
 mod elements;
