@@ -98,6 +98,26 @@ fn bounds_what_lives(rt: HostRuntime) -> Result<(), Fail> {
     )
 }
 
+// Lists, cells and computeds count together.
+#[test]
+fn bounds_signals(rt: HostRuntime) -> Result<(), Fail> {
+    let alloc = rt.alloc();
+    let lists = numbered(alloc, 170, "list l", " (n)\n")?;
+    let cells = numbered(alloc, 171, "cell c", " = 1\n")?;
+    let computeds = numbered(alloc, 171, "computed d", " = 1\n")?;
+    assert_joined(
+        &rt,
+        alloc,
+        &[
+            lists.as_str(),
+            cells.as_str(),
+            computeds.as_str(),
+            "list x (n)\ncell x = 1\ncomputed x = 1\ndispose l0\nlist x (n)\ncell y = 1\n",
+        ],
+        "error 5 nodes\nerror 5 nodes\nerror 5 nodes\nerror 5 nodes\n",
+    )
+}
+
 #[test]
 fn bounds_a_host_formula(rt: HostRuntime) -> Result<(), Fail> {
     let alloc = rt.alloc();

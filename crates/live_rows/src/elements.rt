@@ -1,6 +1,7 @@
 // Templates with elements, the operations of their pages, and pages from scratch.
 
 use crate::rows::{assert_all_print, assert_all_trace};
+use crate::run::{TODO, TODO_OUTPUT};
 use std::test::Fail;
 
 #[test]
@@ -40,10 +41,7 @@ fn prints_pages_of_rows(rt: HostRuntime) -> Result<(), Fail> {
         rt.alloc(),
         &[
             // two pages of one template, one of which ends with its owner
-            (
-                "owner left\nowner right\nlist todos (title, done)\ncell filter = \"all\"\ninsert todos 0 \"a\" (\"Milk\", false)\ninsert todos 1 \"b\" (\"Tea\", true)\ninsert todos 2 \"c\" (\"Bread\", false)\ncomputed shown = keep(todos, if filter == \"all\" then true else it.done == (filter == \"done\"))\ncomputed open = count(keep(todos, not it.done))\ntemplate todo\ntag @section\nattr @class \"todo\"\ntag @ul\neach shown\ntag @li\nattr @data-key it.key\nattr @hidden false\ntext it.title\nend\nend\nend\nif count(shown) == 0\ntag @p\ntext \"Nothing here.\"\nend\nend\ntag @p\ntext open ++ \" open\"\nend\nend\nend\nmount main todo in left\nmount side todo in right\nput todos \"a\" done true\nset filter \"open\"\nflush\ndispose right\nremove todos \"c\"\nflush\n",
-                "op main insert 0 0 (1 section class=\"todo\" (2 ul (3 li data-key=\"a\" (4 \"Milk\")) (5 li data-key=\"b\" (6 \"Tea\")) (7 li data-key=\"c\" (8 \"Bread\"))) (9 p (10 \"2 open\")))\npage main 132\n<section class=\"todo\"><ul><li data-key=\"a\">Milk</li><li data-key=\"b\">Tea</li><li data-key=\"c\">Bread</li></ul><p>2 open</p></section>\nop side insert 0 0 (1 section class=\"todo\" (2 ul (3 li data-key=\"a\" (4 \"Milk\")) (5 li data-key=\"b\" (6 \"Tea\")) (7 li data-key=\"c\" (8 \"Bread\"))) (9 p (10 \"2 open\")))\npage side 132\n<section class=\"todo\"><ul><li data-key=\"a\">Milk</li><li data-key=\"b\">Tea</li><li data-key=\"c\">Bread</li></ul><p>2 open</p></section>\nop main remove 3\nop main remove 5\nop main text 10 \"1 open\"\npage main 81\n<section class=\"todo\"><ul><li data-key=\"c\">Bread</li></ul><p>1 open</p></section>\nop side remove 3\nop side remove 5\nop side text 10 \"1 open\"\npage side 81\n<section class=\"todo\"><ul><li data-key=\"c\">Bread</li></ul><p>1 open</p></section>\nop main remove 7\nop main insert 1 1 (11 p (12 \"Nothing here.\"))\nop main text 10 \"0 open\"\npage main 74\n<section class=\"todo\"><ul></ul><p>Nothing here.</p><p>0 open</p></section>\n",
-            ),
+            (TODO, TODO_OUTPUT),
         ],
     )
 }

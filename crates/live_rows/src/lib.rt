@@ -6,6 +6,8 @@ mod bounds;
 #[cfg(test)]
 mod clean;
 #[cfg(test)]
+mod cuts;
+#[cfg(test)]
 mod effects;
 #[cfg(test)]
 mod elements;

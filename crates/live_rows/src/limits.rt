@@ -146,6 +146,21 @@ fn bounds_a_text(rt: HostRuntime) -> Result<(), Fail> {
         ],
         "error 5 text\nerror 5 text\nerror 5 text\n",
     )?;
+    // also as the value of a row
+    assert_joined(
+        &rt,
+        alloc,
+        &[
+            "list l (t)\ninsert l 0 \"k\" (\"",
+            letters.as_str(),
+            "z\")\ninsert l 0 \"k\" (\"",
+            letters.as_str(),
+            "\")\nput l \"k\" t \"",
+            letters.as_str(),
+            "z\"\ncomputed n = count(l)\nget n\n",
+        ],
+        "error 5 text\nerror 5 text\nn = 1\n",
+    )?;
     // a text that is too long comes after an `untrack` on a later line
     assert_joined(
         &rt,
@@ -258,6 +273,13 @@ fn bounds_what_is_made(rt: HostRuntime) -> Result<(), Fail> {
         alloc,
         &[passed.as_str(), "error 3 p0\nerror 4 p0\nerror 2 q\n"],
     )?;
+    let replaced = joined(
+        alloc,
+        &[
+            passed.as_str(),
+            "op q insert 0 0 (1 \"1\")\npage q 1\n1\nerror 5 pages\n",
+        ],
+    )?;
     assert_joined(
         &rt,
         alloc,
@@ -292,6 +314,17 @@ fn bounds_what_is_made(rt: HostRuntime) -> Result<(), Fail> {
             "mount p0 t\nmount q p0\nshow q",
         ],
         refused.as_str(),
+    )?;
+    // a page that ends makes room for one
+    assert_joined(
+        &rt,
+        alloc,
+        &[
+            "template t\ntext 1\nend\n",
+            pages.as_str(),
+            "dispose p3\nmount q t\nmount r t\n",
+        ],
+        replaced.as_str(),
     )
 }
 
@@ -309,17 +342,15 @@ fn bounds_lists_and_elements(rt: HostRuntime) -> Result<(), Fail> {
     let fields = numbered(alloc, 8, "f", ", ")?;
     let deep = nested(alloc, 31)?;
     let deeper = nested(alloc, 32)?;
-    let whens = repeated(alloc, "when true\n", 32)?;
-    let ends = repeated(alloc, "end\n", 32)?;
     assert_joined(
         &rt,
         alloc,
         &[
             "list l (n)\n",
             rows.as_str(),
-            "computed k = count(l)\nget k\ninsert l 0 \"k0\" (1)\ninsert l 0 \"m\" (1)\nget k\n",
+            "computed k = count(l)\nget k\ninsert l 0 \"k0\" (1)\ninsert l 0 \"m\" (1)\nget k\nremove l \"k7\"\ninsert l 511 \"m\" (1)\ninsert l 0 \"n\" (1)\n",
         ],
-        "k = 512\nerror 9 \"k0\"\nerror 5 rows\nk = 512\n",
+        "k = 512\nerror 9 \"k0\"\nerror 5 rows\nk = 512\nerror 5 rows\n",
     )?;
     // too many fields, and before that fields that are none
     assert_joined(
@@ -335,12 +366,47 @@ fn bounds_lists_and_elements(rt: HostRuntime) -> Result<(), Fail> {
         "error 5 fields\nerror 1 2\nerror 2 l\n",
     )?;
     assert_prints(&rt, alloc, deep.as_str(), "")?;
-    assert_prints(&rt, alloc, deeper.as_str(), "error 19 33\n")?;
-    assert_joined(
+    assert_prints(&rt, alloc, deeper.as_str(), "error 19 33\n")
+}
+
+// An effect of such lines in one another, so many.
+fn body_of(alloc: Global, line: &str, count: u32) -> Result<String, AllocError> {
+    let lines = repeated(alloc, line, count)?;
+    let ends = repeated(alloc, "end\n", count)?;
+    format!(in alloc; "effect e\n{lines}{ends}end\nget e\n")
+}
+
+#[test]
+fn bounds_levels(rt: HostRuntime) -> Result<(), Fail> {
+    let alloc = rt.alloc();
+    for line in ["when true\n", "effect\n"] {
+        let deep = body_of(alloc, line, 31)?;
+        let deeper = body_of(alloc, line, 32)?;
+        assert_prints(&rt, alloc, deep.as_str(), "error 4 e\n")?;
+        assert_prints(&rt, alloc, deeper.as_str(), "error 19 33\nerror 2 e\n")?;
+    }
+    Ok(())
+}
+
+#[test]
+fn bounds_a_name(rt: HostRuntime) -> Result<(), Fail> {
+    let alloc = rt.alloc();
+    let most = repeated(alloc, "n", 32)?;
+    let named = format!(in alloc;
+        "cell {most} = 1\nget {most}\nlist l ({most})\ntemplate t\ntag @{most}\nattr @{most} 1\nend\nend\nmount p t\n"
+    )?;
+    let shown = format!(in alloc;
+        "{most} = 1\nop p insert 0 0 (1 {most} {most}=\"1\")\npage p 106\n<{most} {most}=\"1\"></{most}>\n"
+    )?;
+    assert_prints(&rt, alloc, named.as_str(), shown.as_str())?;
+    let more = format!(in alloc;
+        "cell {most}n = 1\nget {most}n\nlist l ({most}n)\ntemplate t\ntag @{most}n\nend\nend\ntemplate u\ntag @b\nattr @{most}n 1\nend\nend\nget l\n"
+    )?;
+    assert_prints(
         &rt,
         alloc,
-        &["effect e\n", whens.as_str(), ends.as_str(), "end\n"],
-        "error 19 33\n",
+        more.as_str(),
+        "error 1 1\nerror 1 2\nerror 1 3\nerror 1 5\nerror 1 10\nerror 2 l\n",
     )
 }
 
