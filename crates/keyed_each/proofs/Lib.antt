@@ -1,3 +1,3 @@
-mod Distinct
+pub mod Distinct
 pub mod Keys
 mod Leads

@@ -1,12 +1,13 @@
 // Places of keyed rows.
-ghost use Rattle.std.specs.Prelude.{◌≡◌, ◌+◌, ◌∷◌, ◌++◌, ◌≤◌, ℕ, List, [], length, map, IfOk, OnOk, MatchOption, false};
+ghost use Rattle.std.specs.Prelude.{◌≡◌, ◌+◌, ◌∷◌, ◌≤◌, List, length, map, IfOk, OnOk, MatchOption, false};
 ghost use Rattle.std.specs.List.{IsDistinct};
-ghost use Rattle.std.specs.Str.{bytes_eq};
+ghost use Rattle.indexmap.specs.IndexSet.{insert_key};
 ghost use Rattle.keyed_each.specs.Steps.{after_steps, kept, listed, steps_between};
 ghost use Rattle.keyed_each.specs.Waiting.{first_waiting, judged, left, IsPlaceOf};
 
+use crate::key::RowKey;
 use indexmap::IndexSet;
-use sig_base::{NoMemory, Text};
+use sig_base::NoMemory;
 use std::alloc::Global;
 
 /// What is done for one new row.
@@ -20,19 +21,19 @@ pub enum RowStep {
     Move(usize),
 }
 
-// A key behind the others.
-fn add(keys: &mut IndexSet<Text>, key: &Text) -> Result<(), NoMemory>
-    requires { listed key.now keys.old.keys ≡ false }
-    ensures { OnOk result (keys.new.keys ≡ keys.old.keys ++ key.now ∷ []) }
+// A key behind the others, where it isn't there.
+fn add<K: RowKey>(keys: &mut IndexSet<K>, key: &K) -> Result<(), NoMemory>
+    ensures keys { OnOk result (keys.new.keys ≡ insert_key K.eq keys.old.keys key.now) }
+    ensures distinct { OnOk result (IsDistinct K.eq keys.new.keys) }
 {
-    keys.insert(key.copy()?)?;
+    keys.insert(key.copied()?)?;
     Ok(())
 }
 
-// A table of keys, in which each has its place.
-fn table(alloc: Global, list: &[Text]) -> Result<IndexSet<Text>, NoMemory>
-    requires { IsDistinct bytes_eq list.now }
-    ensures { IfOk result (λ t. t.keys ≡ list.now) }
+// A table of keys, in which each of distinct ones has its place.
+fn table<K: RowKey>(alloc: Global, list: &[K]) -> Result<IndexSet<K>, NoMemory>
+    ensures keys { IsDistinct K.eq list.now → IfOk result (λ t. t.keys ≡ list.now) }
+    ensures distinct { IfOk result (λ t. IsDistinct K.eq t.keys) }
 {
     let mut keys = IndexSet::new(alloc);
     for key in list {
@@ -42,27 +43,27 @@ fn table(alloc: Global, list: &[Text]) -> Result<IndexSet<Text>, NoMemory>
 }
 
 // The place of a key in a table.
-fn place_of(keys: &IndexSet<Text>, key: &Text) -> Option<usize>
-    ensures { MatchOption result (listed key.now keys.now.keys ≡ false) (IsPlaceOf key.now keys.now.keys) }
+fn place_of<K: RowKey>(keys: &IndexSet<K>, key: &K) -> Option<usize>
+    ensures { MatchOption result (listed K.eq key.now keys.now.keys ≡ false) (IsPlaceOf key.now keys.now.keys) }
 {
     let found = keys.get_index_of(key);
     found
 }
 
 // Whether a key is in a table.
-fn is_there(keys: &IndexSet<Text>, key: &Text) -> bool
-    ensures { result ≡ listed key.now keys.now.keys }
+fn is_there<K: RowKey>(keys: &IndexSet<K>, key: &K) -> bool
+    ensures { result ≡ listed K.eq key.now keys.now.keys }
 {
     keys.contains(key)
 }
 
-// Of each old key, whether it waits for its turn: whether it is among the new ones.
-fn marks(alloc: Global, old: &[Text], new: &IndexSet<Text>) -> Result<Vec<bool>, NoMemory>
-    ensures { IfOk result (λ v. v.items ≡ map (λ k. listed k new.now.keys) old.now) }
+// Of each of these keys, whether it is in a table.
+fn marks<K: RowKey>(alloc: Global, list: &[K], keys: &IndexSet<K>) -> Result<Vec<bool>, NoMemory>
+    ensures { IfOk result (λ v. v.items ≡ map (λ k. listed K.eq k keys.now.keys) list.now) }
 {
     let mut marks = Vec::new(alloc);
-    for key in old {
-        marks.push(is_there(new, key))?;
+    for key in list {
+        marks.push(is_there(keys, key))?;
     }
     Ok(marks)
 }
@@ -80,19 +81,19 @@ fn next_waiting(waiting: &[bool], mut at: usize) -> usize
 }
 
 // The step for the new row at place `i`, whose old row waits no longer then. `head` is a place before which none waits.
-fn judge(
-    old: &IndexSet<Text>,
+fn judge<K: RowKey>(
+    old: &IndexSet<K>,
     waiting: &mut [bool],
     head: &mut usize,
     i: usize,
-    key: &Text,
+    key: &K,
 ) -> RowStep
-    requires distinct { IsDistinct bytes_eq old.now.keys }
+    requires distinct { IsDistinct K.eq old.now.keys }
     requires marks { length waiting.old ≡ length old.now.keys }
     requires before { head.old ≤ first_waiting waiting.old }
     ensures before { head.new ≤ first_waiting waiting.new }
-    ensures step { (ks : List (List ℕ)) → judged old.now.keys i (left waiting.old old.now.keys) (key.now ∷ ks)
-        ≡ result ∷ judged old.now.keys (i + 1) (left waiting.new old.now.keys) ks }
+    ensures step { (ks : List K) → judged K.eq old.now.keys i (left waiting.old old.now.keys) (key.now ∷ ks)
+        ≡ result ∷ judged K.eq old.now.keys (i + 1) (left waiting.new old.now.keys) ks }
 {
     let Some(p) = place_of(old, key) else {
         return RowStep::Insert(i);
@@ -110,44 +111,75 @@ fn judge(
 }
 
 // The same on a list of marks.
-fn next_step(
-    old: &IndexSet<Text>,
+fn next_step<K: RowKey>(
+    old: &IndexSet<K>,
     waiting: &mut Vec<bool>,
     head: &mut usize,
     i: usize,
-    key: &Text,
+    key: &K,
 ) -> RowStep
-    requires distinct { IsDistinct bytes_eq old.now.keys }
+    requires distinct { IsDistinct K.eq old.now.keys }
     requires marks { length waiting.old.items ≡ length old.now.keys }
     requires before { head.old ≤ first_waiting waiting.old.items }
     ensures marks { length waiting.new.items ≡ length old.now.keys }
     ensures before { head.new ≤ first_waiting waiting.new.items }
-    ensures step { (ks : List (List ℕ)) → judged old.now.keys i (left waiting.old.items old.now.keys) (key.now ∷ ks)
-        ≡ result ∷ judged old.now.keys (i + 1) (left waiting.new.items old.now.keys) ks }
+    ensures step { (ks : List K) → judged K.eq old.now.keys i (left waiting.old.items old.now.keys) (key.now ∷ ks)
+        ≡ result ∷ judged K.eq old.now.keys (i + 1) (left waiting.new.items old.now.keys) ks }
 {
     judge(old, waiting, head, i, key)
 }
 
-/// The steps that lead from the old rows to the new ones, one for each new row from left to right, for distinct keys. Old rows
-/// that aren't among the new ones count as taken out first. It takes time for each key once.
-pub fn place(alloc: Global, old: &[Text], new: &[Text]) -> Result<Vec<RowStep>, NoMemory>
-    requires old { IsDistinct bytes_eq old.now }
-    requires new { IsDistinct bytes_eq new.now }
-    ensures { IfOk result (λ v. v.items ≡ steps_between old.now new.now) }
+// Of each old key, whether it waits for its turn: whether it is among the new ones.
+fn waiting_for<K: RowKey>(
+    alloc: Global,
+    old: &IndexSet<K>,
+    new: &[K],
+) -> Result<Vec<bool>, NoMemory>
+    ensures count { IfOk result (λ v. length v.items ≡ length old.now.keys) }
+    ensures marks { IsDistinct K.eq new.now → IfOk result (λ v. v.items ≡ map (λ k. listed K.eq k new.now) old.now.keys) }
 {
-    let olds = table(alloc, old)?;
     let news = table(alloc, new)?;
-    let mut waiting = marks(alloc, old, &news)?;
+    let waiting = marks(alloc, old.as_slice(), &news)?;
+    Ok(waiting)
+}
+
+// The steps for the new rows, where these old keys wait.
+fn steps_by<K: RowKey>(
+    alloc: Global,
+    old: &IndexSet<K>,
+    waiting: &mut Vec<bool>,
+    new: &[K],
+) -> Result<Vec<RowStep>, NoMemory>
+    requires distinct { IsDistinct K.eq old.now.keys }
+    requires marks { length waiting.old.items ≡ length old.now.keys }
+    ensures { IfOk result (λ v. v.items ≡ judged K.eq old.now.keys 0 (left waiting.old.items old.now.keys) new.now) }
+{
     let mut steps = Vec::new(alloc);
     let mut head = 0;
     for (i, key) in new.iter().enumerate() {
-        steps.push(next_step(&olds, &mut waiting, &mut head, i, key))?;
+        steps.push(next_step(old, waiting, &mut head, i, key))?;
     }
     Ok(steps)
 }
 
+/// The steps that lead from the old rows to the new ones, one for each new row from left to right, where the keys of each are distinct. Old
+/// rows that aren't among the new ones count as taken out first. It takes time for each key once.
+///
+/// # Errors
+///
+/// `NoMemory` alone.
+pub fn place<K: RowKey>(alloc: Global, old: &[K], new: &[K]) -> Result<Vec<RowStep>, NoMemory>
+    ensures count { IfOk result (λ v. length v.items ≡ length new.now) }
+    ensures steps { IsDistinct K.eq old.now → IsDistinct K.eq new.now → IfOk result (λ v. v.items ≡ steps_between K.eq old.now new.now) }
+{
+    let olds = table(alloc, old)?;
+    let mut waiting = waiting_for(alloc, &olds, new)?;
+    let steps = steps_by(alloc, &olds, &mut waiting, new)?;
+    Ok(steps)
+}
+
 /// The steps, done from left to right on the old keys that remain, give the new keys.
-pub fn steps_lead()
-    ensures { (old new : List (List ℕ)) → IsDistinct bytes_eq old → IsDistinct bytes_eq new
-        → after_steps old new 0 (steps_between old new) (kept new old) ≡ new }
+pub fn steps_lead<K: RowKey>()
+    ensures { (old new : List K) → IsDistinct K.eq old → IsDistinct K.eq new
+        → after_steps K.eq old new 0 (steps_between K.eq old new) (kept K.eq new old) ≡ new }
 {}

@@ -3,4 +3,4 @@ use Rattle.keyed_each.proofs.Distinct.{listed_any}
 use Rattle.keyed_each.proofs.placing.is_there.Goals as goal
 
 pub returns : goal.returns
-returns c = c.contains.ensures ∙ listed_any c.args.key.now c.args.keys.now.keys
+returns g c = c.contains.ensures ∙ listed_any g.K.PartialEq.eq g.met.K.RowKey.decides c.args.key.now c.args.keys.now.keys

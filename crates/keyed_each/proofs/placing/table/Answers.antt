@@ -1,5 +1,9 @@
-use Rattle.keyed_each.proofs.Distinct.{next_fresh}
+use Rattle.keyed_each.proofs.Distinct.{one_added}
 use Rattle.keyed_each.proofs.placing.table.Goals as goal
 
-pub add-requires : goal.add-requires
-add-requires c = next_fresh c.loop-key.keys.keys c.args.list.now c.loop-key.key-index c.key-item.result c.loop-key-test.true c.key-item.is c.loop-key.invariant c.requires
+pub loop-key-preserved : goal.loop-key-preserved
+loop-key-preserved g c = record {
+  so_far = one_added g.K.PartialEq.eq g.met.K.RowKey.decides c.loop-key.keys.keys c.args.list.now c.add.new.keys.keys c.loop-key.key-index c.key-item.result c.loop-key-test.true
+      c.key-item.is c.in_ok-add.ensures.keys c.loop-key.invariant.so_far;
+  distinct = c.in_ok-add.ensures.distinct;
+}
