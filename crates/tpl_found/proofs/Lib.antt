@@ -1,4 +1,5 @@
 mod Facts
+mod Following
 mod Marking
 mod Numbering
 mod Ordering

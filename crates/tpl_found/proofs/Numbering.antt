@@ -18,7 +18,7 @@ map_both num [] ys = refl
 map_both num (x ∷ xs) ys = ap (λ z. num x ∷ z) (map_both num xs ys)
 
 -- those that pass a test, by their numbers
-those_num : (num : ℕ → ℕ) (test by : ℕ → Bool) (xs : List ℕ) → ((j : ℕ) → listed j xs ≡ true → by (num j) ≡ test j) → map num (those test xs) ≡ those by (map num xs)
+pub those_num : (num : ℕ → ℕ) (test by : ℕ → Bool) (xs : List ℕ) → ((j : ℕ) → listed j xs ≡ true → by (num j) ≡ test j) → map num (those test xs) ≡ those by (map num xs)
 those_num num test by [] h = refl
 those_num num test by (x ∷ xs) h =
     let e = h x (or_left (x == x) (listed x xs) (eq-eqb x x refl)) in
@@ -54,7 +54,7 @@ label_shown n (node m x k r) = elim (cases_Bool (m == n)) [
   ]
 ]
 
-children_read : (p : NumberedPage) (a : ℕ) → IsPage p → on a (page_shape p) ≡ true →
+pub children_read : (p : NumberedPage) (a : ℕ) → IsPage p → on a (page_shape p) ≡ true →
     siblings (kids (number_of p a) (tree_of p)) ≡ map (number_of p) (siblings (kids a (page_shape p)))
 children_read p a q o =
     let num = number_of p in

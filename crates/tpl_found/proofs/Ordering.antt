@@ -1,4 +1,4 @@
--- What comes to the page: its numbers, and the operations that bring it.
+-- What comes to the page, and its numbers.
 use Rattle.std.proofs.Common.{◌≡◌, ℕ, suc, ◌+◌, ◌≤◌, ◌==◌, Bool, true, false, List, [], ◌∷◌, ◌++◌, length, append_assoc, length-append, refl, sym, ap, ◌∙◌, eqb-true, eq-eqb, inl, inr, arith}
 use Rattle.std.specs.List.{flat_map}
 use Rattle.std.proofs.lemmas.Bool.{cases_Bool, false≢true, true≢false, or_cases}
@@ -6,13 +6,11 @@ use Rattle.page_model.specs.Edits.{listed, taken}
 use Rattle.page_model.specs.Forest.{Forest, none, node, on, tally, keys, kids, pruned, numbered}
 use Rattle.page_model.specs.Labels.{Look}
 use Rattle.page_model.specs.Pages.{NumberedPage, IsPage, IsShape, SameOrigin, ascending_by, carried, looks, new_order, newcomers, number_of, page_shape, those}
-use Rattle.page_model.specs.Replay.{OpInsert, OpMove}
 use Rattle.page_model.proofs.Shared.{on_tally}
 use Rattle.tpl_model.specs.Sources.{in_order}
-use Rattle.update_laws.specs.Children.{comes_first, past_moved, without_first}
 use Rattle.update_laws.specs.Differences.{often}
 use Rattle.update_laws.proofs.Shared.{in_both, number_law}
-use Rattle.tpl_found.specs.Coming.{OrderLaw, SerialLaw, StepsLaw}
+use Rattle.tpl_found.specs.Coming.{OrderLaw, SerialLaw}
 use Rattle.tpl_found.proofs.Facts.{Knows, New, all_gone, from_those, in_keys, knows, listed_often, often_both, often_keys, often_listed, often_taken, often_those, parent_at, still_on}
 use Rattle.tpl_found.proofs.Marking.{flat_ascending}
 
@@ -200,17 +198,3 @@ serial_law p shape part pre post q s o e =
     let there : listed a (new_order p shape) ≡ true = often_listed a (new_order p shape) (omega (arith, d, f, g)) in
     (number_law p shape).new a xs ys (x.new a there) h none_before))
     part pre post e
-
--- ---- the operations that bring it
-
-pub steps_law : StepsLaw
-steps_law kept p i old moved none = refl
-steps_law kept p i old moved (node n x k r) =
-    let rest = past_moved moved old in
-    elim (cases_Bool (kept n)) [
-      | inl e ↦ elim (cases_Bool (comes_first n rest)) [
-        | inl f ↦ rw (e, f) (steps_law kept p (suc i) (without_first rest) moved r)
-        | inr f ↦ rw (e, f) (ap (λ z. OpMove n i ∷ z) (steps_law kept p (suc i) rest (n ∷ moved) r))
-      ]
-      | inr e ↦ rw e (ap (λ z. OpInsert p i n x k ∷ z) (steps_law kept p (suc i) rest moved r))
-    ]

@@ -1,25 +1,23 @@
 -- The operations that an update reads off are the edits between the two pages.
-use Rattle.std.proofs.Common.{◌≡◌, ℕ, ◌==◌, ltb, Bool, true, List, [], ◌∷◌, ◌++◌, map, refl, sym, ap, ◌∙◌, eq-eqb, inl, inr, arith}
+use Rattle.std.proofs.Common.{◌≡◌, ℕ, ◌==◌, Bool, true, List, [], ◌∷◌, ◌++◌, map, refl, sym, ap, ◌∙◌, eq-eqb, inl, inr, arith}
 use Rattle.std.specs.List.{flat_map}
 use Rattle.std.proofs.lemmas.Bool.{cases_Bool}
-use Rattle.page_model.specs.Edits.{listed}
-use Rattle.page_model.specs.Forest.{Forest, none, node, on, kids, label_in, numbered}
-use Rattle.page_model.specs.Labels.{Root, DistinctNames, Kind, Look, Sound, shown}
+use Rattle.page_model.specs.Edits.{child_edits, listed}
+use Rattle.page_model.specs.Forest.{Forest, none, node, on, label_in}
+use Rattle.page_model.specs.Labels.{Root, DistinctNames, Look, Sound}
 use Rattle.page_model.specs.Pages.{NumberedPage, IsPage, IsShape, SameOrigin, ascending_by, carried, number_of, page_shape, tree_of}
 use Rattle.page_model.specs.Replay.{Op, OpRemove, replay}
 use Rattle.page_model.proofs.Shared.{or_left, or_right, replay_leads, tally_on}
-use Rattle.update_laws.specs.Children.{forward_edits}
 use Rattle.update_laws.specs.Differences.{children_at, restated_at}
-use Rattle.update_laws.specs.Updating.{kept_children}
-use Rattle.update_laws.proofs.Shared.{child_law}
+use Rattle.tpl_found.specs.Following.{next_children}
 use Rattle.tpl_found.specs.Operations.{OperationsLaw, children_done, look_done}
-use Rattle.tpl_found.specs.Reading.{TellsKept, kept_numbers}
+use Rattle.tpl_found.specs.Reading.{TellsKept}
 use Rattle.tpl_found.specs.Seeing.{Covers}
 use Rattle.tpl_found.specs.Telling.{told_on}
 use Rattle.tpl_found.proofs.Facts.{in_ascending_by, listed_often}
+use Rattle.tpl_found.proofs.Following.{children_law}
 use Rattle.tpl_found.proofs.Marking.{marks_law}
 use Rattle.tpl_found.proofs.Numbering.{reads_law, removals_law}
-use Rattle.tpl_found.proofs.Ordering.{steps_law}
 use Rattle.tpl_found.proofs.Telling.{told_law}
 
 -- what is read for each of a list, where each says the same
@@ -45,16 +43,11 @@ names_distinct a (node m x k r) s = elim (cases_Bool (m == a)) [
   ]
 ]
 
-children_spelled : (p : NumberedPage) (shape : Forest Look) (kept : ℕ → Bool) → IsPage p → IsShape shape → SameOrigin (page_shape p) shape →
-    TellsKept p shape kept → (a : ℕ) → on a (page_shape p) ≡ true → on a shape ≡ true →
-    children_at (number_of p) (carried p shape) (page_shape p) shape a ≡ children_done p shape kept a
-children_spelled p shape kept q s o tells a h k =
-    let next : Forest Kind = shown (numbered (carried p shape) (kids a shape)) in
-    let given : ℕ → Bool = λ n. ltb n p.next in
-    let n = number_of p a in
-    let old : kept_children p shape a ≡ kept_numbers kept (tree_of p) n = sym (reads_law p shape kept q tells a h).children in
-    child_law p shape q s o a h k
-    ∙ (ap (λ z. forward_edits given n 0 z [] next) old ∙ steps_law given n 0 (kept_numbers kept (tree_of p) n) [] next)
+children_spelled : (p : NumberedPage) (shape : Forest Look) → IsPage p → IsShape shape → SameOrigin (page_shape p) shape →
+    (a : ℕ) → on a (page_shape p) ≡ true → on a shape ≡ true →
+    children_at (number_of p) (carried p shape) (page_shape p) shape a ≡ children_done p shape a
+children_spelled p shape q s o a h k =
+    ap (λ left. child_edits (number_of p a) 0 left (next_children p shape a)) (sym (children_law p shape q s o a h k).left)
 
 look_spelled : (p : NumberedPage) (shape : Forest Look) (kept : ℕ → Bool) → IsPage p → Sound (page_shape p) → SameOrigin (page_shape p) shape →
     TellsKept p shape kept → (a : ℕ) → on a (page_shape p) ≡ true → on a shape ≡ true → restated_at (number_of p) (page_shape p) shape a ≡ look_done p shape a
@@ -70,10 +63,10 @@ operations_law p shape kept children looks q d s o tells x =
     let num = number_of p in
     let there : (a : ℕ) → listed a children ≡ true → on a before ≡ true = x.children.there in
     let lost = ap (map OpRemove) (removals_law p shape kept children q tells there) in
-    let kids_same = flat_same (children_at num (carried p shape) before shape) (children_done p shape kept) (ascending_by num children)
+    let kids_same = flat_same (children_at num (carried p shape) before shape) (children_done p shape) (ascending_by num children)
     (λ a h. (
     let l : listed a children ≡ true = sym (in_ascending_by num a children) ∙ h in
-    children_spelled p shape kept q s o tells a (there a l) (marked_new before shape _ children x.children a l))) in
+    children_spelled p shape q s o a (there a l) (marked_new before shape _ children x.children a l))) in
     let looks_same = flat_same (restated_at num before shape) (look_done p shape) (ascending_by num looks)
     (λ a h. (
     let l : listed a looks ≡ true = sym (in_ascending_by num a looks) ∙ h in

@@ -1,14 +1,11 @@
--- What comes to the page: its numbers, and the operations that bring it.
-use Rattle.std.specs.Prelude.{◌≡◌, ◌≤◌, ◌+◌, ℕ, Bool, true, false, List, [], ◌∷◌, ◌++◌, length, map, if◌then◌else◌}
+-- What comes to the page, and its numbers.
+use Rattle.std.specs.Prelude.{◌≡◌, ◌≤◌, ◌+◌, ℕ, Bool, true, false, List, ◌++◌, length, if◌then◌else◌}
 use Rattle.page_model.specs.Edits.{listed}
 use Rattle.page_model.specs.Forest.{Forest, none, node, on, keys, numbered}
 use Rattle.page_model.specs.Labels.{Kind, Look}
 use Rattle.page_model.specs.Pages.{NumberedPage, IsPage, IsShape, SameOrigin, carried, new_order, page_shape}
-use Rattle.page_model.specs.Replay.{Op, OpInsert, OpMove}
 use Rattle.tpl_model.specs.Sources.{in_order}
-use Rattle.update_laws.specs.Children.{forward_edits}
 use Rattle.update_laws.specs.Differences.{often}
-use Rattle.tpl_memos.specs.ChildSteps.{Step, Comes, Moves, step_name}
 
 -- the new addresses are on the next page alone, and each comes once
 pub record IsOrder (p : NumberedPage) (shape : Forest Look) : Type 0 where
@@ -27,15 +24,3 @@ SerialLaw = (p : NumberedPage) (shape part : Forest Look) (pre post : List ℕ) 
 abbrev pub coming : (ℕ → Bool) → Forest Kind → Forest Kind
 coming kept none = none
 coming kept (node n x k r) = if kept n then coming kept r else node n x k (coming kept r)
-
--- the operations that steps are, where what comes is taken from these siblings in order
-abbrev pub spelled : ℕ → List Step → Forest Kind → List Op
-spelled p [] siblings = []
-spelled p (Moves n i ∷ steps) siblings = OpMove n i ∷ spelled p steps siblings
-spelled p (Comes i n ∷ steps) none = spelled p steps none
-spelled p (Comes i n ∷ steps) (node m x k r) = OpInsert p i m x k ∷ spelled p steps r
-
--- the operations on children are their steps with what comes
-abbrev pub StepsLaw : Type 0
-StepsLaw = (kept : ℕ → Bool) (p i : ℕ) (old moved : List ℕ) (children : Forest Kind) →
-    forward_edits kept p i old moved children ≡ spelled p (map step_name (forward_edits kept p i old moved children)) (coming kept children)

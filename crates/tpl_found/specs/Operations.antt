@@ -1,25 +1,19 @@
 -- The operations between two pages, as an update reads them off: by number from the tree that stands, and by address from the next page.
-use Rattle.std.specs.Prelude.{◌≡◌, ℕ, ltb, Bool, List, [], ◌++◌, map}
+use Rattle.std.specs.Prelude.{◌≡◌, ℕ, Bool, List, ◌++◌, map}
 use Rattle.std.specs.List.{flat_map}
 use Rattle.page_model.specs.Edits.{ascending}
-use Rattle.page_model.specs.Forest.{Forest, kids, label_in, numbered}
-use Rattle.page_model.specs.Labels.{Root, Kind, Look, Sound, shown}
-use Rattle.page_model.specs.Pages.{NumberedPage, IsPage, IsShape, SameOrigin, ascending_by, carried, edits_between, number_of, page_shape, renumbered, tree_of}
+use Rattle.page_model.specs.Forest.{Forest, label_in}
+use Rattle.page_model.specs.Labels.{Root, Look, Sound}
+use Rattle.page_model.specs.Pages.{NumberedPage, IsPage, IsShape, SameOrigin, ascending_by, edits_between, number_of, page_shape, renumbered, tree_of}
 use Rattle.page_model.specs.Replay.{Done, Op, OpRemove, replay}
-use Rattle.update_laws.specs.Children.{forward_edits}
-use Rattle.tpl_memos.specs.ChildSteps.{step_name}
-use Rattle.tpl_found.specs.Coming.{coming, spelled}
-use Rattle.tpl_found.specs.Reading.{TellsKept, gone_numbers, kept_numbers}
+use Rattle.tpl_found.specs.Following.{children_moved, next_children}
+use Rattle.tpl_found.specs.Reading.{TellsKept, gone_numbers}
 use Rattle.tpl_found.specs.Seeing.{Sees}
 use Rattle.tpl_found.specs.Telling.{told_on}
 
--- the operations on the children of one node: the steps from those that are kept to the next ones, with what comes
-abbrev pub children_done : NumberedPage → Forest Look → (ℕ → Bool) → ℕ → List Op
-children_done p shape kept a =
-    let next : Forest Kind = shown (numbered (carried p shape) (kids a shape)) in
-    let given : ℕ → Bool = λ n. ltb n p.next in
-    let old = kept_numbers kept (tree_of p) (number_of p a) in
-    spelled (number_of p a) (map step_name (forward_edits given (number_of p a) 0 old [] next)) (coming given next)
+-- the operations on the children of one node
+abbrev pub children_done : NumberedPage → Forest Look → ℕ → List Op
+children_done p shape a = children_moved (tree_of p) (number_of p a) (next_children p shape a)
 
 -- the operations on the text or the attributes of one node
 abbrev pub look_done : NumberedPage → Forest Look → ℕ → List Op
@@ -29,7 +23,7 @@ look_done p shape a = told_on (number_of p a) (label_in Root (number_of p a) (tr
 abbrev pub operations : NumberedPage → Forest Look → (ℕ → Bool) → List ℕ → List ℕ → List Op
 operations p shape kept children looks =
     (map OpRemove (ascending (flat_map (gone_numbers kept (tree_of p)) (map (number_of p) children)))
-    ++ flat_map (children_done p shape kept) (ascending_by (number_of p) children))
+    ++ flat_map (children_done p shape) (ascending_by (number_of p) children))
     ++ flat_map (look_done p shape) (ascending_by (number_of p) looks)
 
 -- they are the edits between the two pages, and lead from the tree that stands to that of the next page

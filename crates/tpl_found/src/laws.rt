@@ -1,5 +1,6 @@
 // The laws of what is compared, each the contract of a call that does nothing.
-ghost use Rattle.tpl_found.specs.Coming.{OrderLaw, SerialLaw, StepsLaw};
+ghost use Rattle.tpl_found.specs.Coming.{OrderLaw, SerialLaw};
+ghost use Rattle.tpl_found.specs.Following.{ChildrenLaw};
 ghost use Rattle.tpl_found.specs.Operations.{OperationsLaw};
 ghost use Rattle.tpl_found.specs.Reading.{KeptLaw, ReadsLaw, RemovalsLaw};
 ghost use Rattle.tpl_found.specs.Seeing.{MarksLaw, WholeLaw};
@@ -46,9 +47,9 @@ pub fn serial_law()
     ensures { SerialLaw }
 {}
 
-/// The operations on the children of a node are their steps, with what comes in its order.
-pub fn steps_law()
-    ensures { StepsLaw }
+/// The children of a node on both pages stand once each: those stay that are on the next page, and what comes has new numbers.
+pub fn children_law()
+    ensures { ChildrenLaw }
 {}
 
 /// The operations that are read off by marks are the edits between the two pages, and lead from the one to the other.

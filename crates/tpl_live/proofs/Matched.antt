@@ -1,14 +1,15 @@
 -- What comes to marked nodes has the next numbers, in the order of the marks.
-use Rattle.std.proofs.Common.{◌≡◌, ℕ, suc, ◌+◌, ◌<◌, ◌≤◌, ◌==◌, ◌||◌, ltb, Bool, true, false, cond, Option, Some, None, List, [], ◌∷◌, ◌++◌, append_assoc, append-nil, length, length-append, refl, sym, ap, subst, ◌∙◌, arith, eqb-true, inl, inr}
-use Rattle.std.specs.List.{flat_map}
+use Rattle.std.proofs.Common.{◌≡◌, ℕ, suc, ◌+◌, ◌<◌, ◌≤◌, ◌==◌, ◌||◌, ltb, Bool, true, false, cond, Option, Some, None, List, [], ◌∷◌, ◌++◌, append_assoc, append-nil, length, length-append, refl, sym, ap, subst, ◌∙◌, arith, eqb-true, eq-eqb, nat_eq, inl, inr}
+use Rattle.std.specs.List.{flat_map, IsDistinct}
 use Rattle.std.proofs.lemmas.Bool.{cases_Bool, false≢true, ltb-false, ltb-true}
-use Rattle.page_model.specs.Edits.{siblings}
+use Rattle.page_model.specs.Edits.{listed, siblings}
 use Rattle.page_model.specs.Forest.{Forest, none, node, keys, kids, label_in, numbered, on}
-use Rattle.page_model.specs.Labels.{Root, Look, Sound, seen, shown}
+use Rattle.page_model.specs.Labels.{Root, Kind, Look, Sound, seen, shown}
 use Rattle.page_model.specs.Pages.{IsPage, IsShape, NumberedPage, SameOrigin, carried, new_order, newcomers, number_of, page_shape, renumbered, tree_of, with_numbers}
-use Rattle.page_model.proofs.Shared.{page_after, shape_after}
+use Rattle.page_model.proofs.Shared.{or_left, or_right, page_after, shape_after}
 use Rattle.tpl_found.specs.Coming.{coming}
-use Rattle.tpl_found.proofs.Shared.{kids_num, serial_law}
+use Rattle.tpl_found.specs.Following.{next_children, old_children}
+use Rattle.tpl_found.proofs.Shared.{children_law, kids_num, serial_law}
 use Rattle.tpl_marks.specs.Marks.{children_in, next_of}
 use Rattle.tpl_marks.specs.Numbering.{coming_below, coming_in}
 use Rattle.tpl_model.specs.Sources.{in_order}
@@ -159,9 +160,20 @@ kids_next p shape a q s here there =
     ∙ kids_num num a shape
     (λ b o e. next.distinct a b (ap (on a) same ∙ there) (ap (on b) same ∙ o) (number_with num a shape there ∙ (e ∙ sym (number_with num b shape o)))))
 
+-- what comes among children, by two tests that say the same of each
+coming_alike : (f g : ℕ → Bool) (t : Forest Kind) → ((j : ℕ) → listed j (siblings t) ≡ true → f j ≡ g j) → coming f t ≡ coming g t
+coming_alike f g none h = refl
+coming_alike f g (node n x k r) h =
+    let e = h n (or_left (n == n) (listed n (siblings r)) (eq-eqb n n refl)) in
+    let later = coming_alike f g r (λ j i. h j (or_right (n == j) (listed j (siblings r)) i)) in
+    elim (cases_Bool (g n)) [
+      | inl c ↦ (let d = e ∙ c in rw (c, d) later)
+      | inr c ↦ (let d = e ∙ c in rw (c, d) (ap (λ z. node n x k z) later))
+    ]
+
 pub all_fit : (p : NumberedPage) (shape : Forest Look) (pre ws : List ℕ) (ms : List Marked) (n : ℕ) → IsPage p → IsShape shape → SameOrigin (page_shape p) shape →
     Each (IsTouched p shape) ws ms → new_order p shape ≡ pre ++ flat_map (λ a. newcomers (λ c. on c (page_shape p)) (kids a shape)) ws → n ≡ p.next + length pre →
-    AllFit (λ m. ltb m p.next) n ms (tree_of (renumbered p shape)) × (number_behind n ms ≡ p.next + length (new_order p shape))
+    AllFit (tree_of p) n ms (tree_of (renumbered p shape)) × (number_behind n ms ≡ p.next + length (new_order p shape))
 all_fit p shape pre [] [] n q s so h o e =
     (tt, (let l = ap length o ∙ ap length (append-nil pre) in omega (arith, e, l)))
 all_fit p shape pre (a ∷ ws) (m ∷ ms) n q s so h o e =
@@ -173,11 +185,16 @@ all_fit p shape pre (a ∷ ws) (m ∷ ms) n q s so h o e =
     let serial : numbered (carried p shape) part ≡ in_order (p.next + length pre) part =
     serial_law p shape part pre rest q s so (o ∙ ap (λ z. pre ++ (z ++ rest)) (sym keys_are)) in
     let lv = level p shape (kids a shape) n q (omega (arith, e)) (serial ∙ ap (λ z. in_order z part) (sym e)) in
-    let kn : kids m.number (tree_of (renumbered p shape)) ≡ shown (numbered (carried p shape) (kids a shape)) =
+    let kn : kids m.number (tree_of (renumbered p shape)) ≡ next_children p shape a =
     ap (λ z. kids z (tree_of (renumbered p shape))) at.number ∙ kids_next p shape a q s at.here at.there in
-    let fits : Fits (λ c. ltb c p.next) n m.children (kids m.number (tree_of (renumbered p shape))) = record {
+    let olds : siblings (kids m.number (tree_of p)) ≡ old_children p a = ap (λ z. siblings (kids z (tree_of p))) at.number in
+    let follows = children_law p shape q s so a at.here at.there in
+    let alike = coming_alike (λ j. listed j (old_children p a)) (λ j. ltb j p.next) (next_children p shape a) follows.stood in
+    let fits : Fits (siblings (kids m.number (tree_of p))) n m.children (kids m.number (tree_of (renumbered p shape))) = record {
+      old_once = subst (IsDistinct nat_eq) (sym olds) follows.old_once;
+      once = subst (IsDistinct nat_eq) (sym (ap siblings kn)) follows.next_once;
       numbers = ap siblings kn ∙ (lv.0 ∙ ap (next_numbers n) (sym at.children));
-      arrive = ap (coming (λ c. ltb c p.next)) kn ∙ (lv.1 ∙ ap (λ z. shown (in_order n (arrivals z))) (sym at.children));
+      arrive = (λ i. coming (λ j. listed j (olds i)) (kn i)) ∙ (alike ∙ (lv.1 ∙ ap (λ z. shown (in_order n (arrivals z))) (sym at.children)));
     } in
     let many : length (keys (arrivals m.children)) ≡ length xs = ap (λ z. length (keys (arrivals z))) at.children ∙ ap length keys_are in
     let l = length-append pre xs in

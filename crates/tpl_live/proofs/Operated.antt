@@ -1,17 +1,18 @@
 -- The operations that are read off by marks are the edits between the two pages, and lead from the one tree to the other.
-use Rattle.std.proofs.Common.{◌≡◌, ℕ, ltb, Bool, Option, List, [], ◌∷◌, ◌++◌, map, refl, sym, ap, subst, ◌∙◌, arith}
+use Rattle.std.proofs.Common.{◌≡◌, ℕ, Bool, Option, List, [], ◌∷◌, ◌++◌, map, refl, sym, ap, subst, ◌∙◌, arith}
 use Rattle.std.specs.List.{flat_map}
 use Rattle.std.specs.List.Sorted.{IsPermutation}
 use Rattle.page_model.specs.Edits.{ascending, listed}
-use Rattle.page_model.specs.Forest.{Forest, kids, label_in, numbered, on}
-use Rattle.page_model.specs.Labels.{Root, Kind, Look, Sound, shown}
-use Rattle.page_model.specs.Pages.{IsPage, IsShape, NumberedPage, SameOrigin, ascending_by, carried, edits_between, new_order, newcomers, number_of, page_shape, renumbered, tree_of}
+use Rattle.page_model.specs.Forest.{Forest, kids, label_in, on}
+use Rattle.page_model.specs.Labels.{Root, Kind, Look, Sound}
+use Rattle.page_model.specs.Pages.{IsPage, IsShape, NumberedPage, SameOrigin, ascending_by, edits_between, new_order, newcomers, number_of, page_shape, renumbered, tree_of}
 use Rattle.page_model.specs.Replay.{Done, Op, OpAttr, OpInsert, OpMove, OpRemove, OpText, OpUnattr, replay}
 use Rattle.page_model.specs.Texts.{AreWritable, IsWritable}
 use Rattle.page_model.specs.Trees.{Brings}
 use Rattle.page_model.proofs.Shared.{edits_writable}
 use Rattle.tpl_comparing.specs.Comparing.{Compared, Each, IsRestated, IsTouched, known_of, restated_in, touched_in}
 use Rattle.tpl_listening.specs.Changes.{Change}
+use Rattle.tpl_found.specs.Following.{children_moved, next_children}
 use Rattle.tpl_found.specs.Operations.{children_done, look_done, operations}
 use Rattle.tpl_found.specs.Reading.{gone_numbers}
 use Rattle.tpl_found.specs.Telling.{told_on}
@@ -21,7 +22,7 @@ use Rattle.tpl_looks.specs.Attributes.{mark_told}
 use Rattle.tpl_marks.specs.Marks.{Knows}
 use Rattle.tpl_marks.specs.Numbering.{among, coming_below}
 use Rattle.tpl_model.specs.Lines.{Block}
-use Rattle.tpl_moves.specs.Moves.{AllFit, AllSound, children_moved, moved_between, number_behind}
+use Rattle.tpl_moves.specs.Moves.{AllFit, AllSound, moved_between, number_behind}
 use Rattle.tpl_shapes.specs.Shapes.{Marked}
 use Rattle.tpl_shapes.specs.declared.shown.Address.{Address}
 use Rattle.update_laws.specs.PageMemos.{PageMemo}
@@ -29,21 +30,20 @@ use Rattle.tpl_live.specs.Pages.{lines_shape}
 use Rattle.tpl_live.specs.Plans.{AllBring, Compares, LeadOn, children_staying, numbers_of, ops_towards}
 use Rattle.tpl_live.proofs.Matched.{all_come, all_fit, all_sound, kids_next}
 use Rattle.tpl_live.proofs.Sorting.{Rising, address_in, moved_so, numbers_so, restated_marks, sees_so, stays_sorted, touched_marks}
-use Rattle.tpl_live.proofs.Staying.{done_alike, gone_alike, staying_alike}
+use Rattle.tpl_live.proofs.Staying.{gone_alike, staying_alike}
 
-moves_so : (p : NumberedPage) (shape : Forest Look) (kept : ℕ → Bool) (ws : List ℕ) (ms : List Marked) → IsPage p → IsShape shape → Each (IsTouched p shape) ws ms →
-    flat_map (children_done p shape kept) ws ≡ moved_between (λ n. ltb n p.next) kept (tree_of p) (tree_of (renumbered p shape)) ms
-moves_so p shape kept [] [] q s h = refl
-moves_so p shape kept (a ∷ ws) (m ∷ ms) q s h =
+moves_so : (p : NumberedPage) (shape : Forest Look) (ws : List ℕ) (ms : List Marked) → IsPage p → IsShape shape → Each (IsTouched p shape) ws ms →
+    flat_map (children_done p shape) ws ≡ moved_between (tree_of p) (tree_of (renumbered p shape)) ms
+moves_so p shape [] [] q s h = refl
+moves_so p shape (a ∷ ws) (m ∷ ms) q s h =
     let at = h.0 in
     let after = tree_of (renumbered p shape) in
-    let kn : kids m.number after ≡ shown (numbered (carried p shape) (kids a shape)) =
-    ap (λ z. kids z after) at.number ∙ kids_next p shape a q s at.here at.there in
-    let one : children_done p shape kept a ≡ children_moved (λ n. ltb n p.next) kept (tree_of p) m.number (kids m.number after) =
-    (λ i. children_moved (λ n. ltb n p.next) kept (tree_of p) (sym at.number i) (sym kn i)) in
-    (λ i. one i ++ moves_so p shape kept ws ms q s h.1 i)
-moves_so p shape kept [] (m ∷ ms) q s h = absurd h
-moves_so p shape kept (a ∷ ws) [] q s h = absurd h
+    let kn : kids m.number after ≡ next_children p shape a = ap (λ z. kids z after) at.number ∙ kids_next p shape a q s at.here at.there in
+    let one : children_done p shape a ≡ children_moved (tree_of p) m.number (kids m.number after) =
+    (λ i. children_moved (tree_of p) (sym at.number i) (sym kn i)) in
+    (λ i. one i ++ moves_so p shape ws ms q s h.1 i)
+moves_so p shape [] (m ∷ ms) q s h = absurd h
+moves_so p shape (a ∷ ws) [] q s h = absurd h
 
 looks_so : (p : NumberedPage) (shape : Forest Look) (ws : List ℕ) (ms : List Marked) → Each (IsRestated p shape) ws ms →
     flat_map (look_done p shape) ws ≡ flat_map (mark_told (tree_of p)) ms
@@ -60,11 +60,11 @@ looks_so p shape (a ∷ ws) [] h = absurd h
 -- numbers, and the operations are the edits, which lead to the next tree.
 pub record Operate (p : NumberedPage) (shape : Forest Look) (touched restated : List Marked) : Type 0 where
   pub sound : AllSound touched
-  pub fits : AllFit (λ n. ltb n p.next) p.next touched (tree_of (renumbered p shape))
+  pub fits : AllFit (tree_of p) p.next touched (tree_of (renumbered p shape))
   pub next : number_behind p.next touched ≡ (renumbered p shape).next
   pub order : coming_below touched ≡ new_order p shape
-  pub edits : edits_between p (renumbered p shape) ≡ ops_towards (tree_of p) (tree_of (renumbered p shape)) p.next touched restated
-  pub replays : replay (ops_towards (tree_of p) (tree_of (renumbered p shape)) p.next touched restated) (tree_of p) ≡ Done (tree_of (renumbered p shape))
+  pub edits : edits_between p (renumbered p shape) ≡ ops_towards (tree_of p) (tree_of (renumbered p shape)) touched restated
+  pub replays : replay (ops_towards (tree_of p) (tree_of (renumbered p shape)) touched restated) (tree_of p) ≡ Done (tree_of (renumbered p shape))
 
 pub operate : (p : NumberedPage) (shape : Forest Look) (ts0 rs0 ts rs : List Marked) → IsPage p → Sound (page_shape p) → IsShape shape →
     SameOrigin (page_shape p) shape → Compared p shape ts0 rs0 → IsPermutation ts0 ts → IsPermutation rs0 rs → Rising (numbers_of ts) →
@@ -89,9 +89,9 @@ operate p shape ts0 rs0 ts rs q snd s so cmp ts_moved rs_moved ts_up rs_up =
     let order = gives.order ∙ ap (flat_map (λ a. newcomers (λ c. on c old) (kids a shape))) sorted in
     let fit = all_fit p shape [] cs ts p.next q s so ct.at order (omega arith) in
     let gone = ap (λ z. map OpRemove (ascending z)) (gone_alike p kept staying cs q alike ∙ ap (flat_map (gone_numbers staying (tree_of p))) nums) in
-    let moves = ap (flat_map (children_done p shape kept)) sorted ∙ (done_alike p shape kept staying cs q alike ∙ moves_so p shape staying cs ts q s ct.at) in
+    let moves = ap (flat_map (children_done p shape)) sorted ∙ moves_so p shape cs ts q s ct.at in
     let told = ap (flat_map (look_done p shape)) told_sorted ∙ looks_so p shape ls rs cr.at in
-    let same : operations p shape kept cs ls ≡ ops_towards (tree_of p) (tree_of (renumbered p shape)) p.next ts rs = (λ i. (gone i ++ moves i) ++ told i) in
+    let same : operations p shape kept cs ls ≡ ops_towards (tree_of p) (tree_of (renumbered p shape)) ts rs = (λ i. (gone i ++ moves i) ++ told i) in
     record {
       sound = all_sound p shape cs ts s.sound ct.at;
       fits = fit.0;
@@ -126,7 +126,7 @@ compare p b m c number tree next ts rs h touched restated ts_up rs_up =
     (touched (known_of p) h.known.knows) (restated (known_of p) h.known.knows) ts_up rs_up
 
 pub lead_on : (p : NumberedPage) (shape : Forest Look) (ts rs : List Marked) (os : List Op) (next : ℕ) → IsPage p → IsShape shape → Operate p shape ts rs →
-    os ≡ ops_towards (tree_of p) (tree_of (renumbered p shape)) p.next ts rs → next ≡ number_behind p.next ts → LeadOn p shape os next
+    os ≡ ops_towards (tree_of p) (tree_of (renumbered p shape)) ts rs → next ≡ number_behind p.next ts → LeadOn p shape os next
 lead_on p shape ts rs os next q s o e n = record {
   edits = o.edits ∙ sym e;
   replays = ap (λ z. replay z (tree_of p)) e ∙ o.replays;

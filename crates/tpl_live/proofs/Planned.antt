@@ -1,5 +1,5 @@
 -- The operations of a page that comes up to date, in the terms of the code.
-use Rattle.std.proofs.Common.{◌≡◌, ℕ, ◌+◌, ◌<◌, ltb, Bool, Option, List, [], ◌∷◌, ◌++◌, append_assoc, drop, get_or, length, map, refl, sym, ap, subst, ◌∙◌, arith}
+use Rattle.std.proofs.Common.{◌≡◌, ℕ, ◌+◌, ◌<◌, Bool, Option, List, [], ◌∷◌, ◌++◌, append_assoc, drop, get_or, length, map, refl, sym, ap, subst, ◌∙◌, arith}
 use Rattle.std.specs.List.{flat_map}
 use Rattle.std.specs.List.Sorted.{IsNonDecreasingBy}
 use Rattle.std.proofs.lemmas.List.{drop_more}
@@ -30,14 +30,14 @@ use Rattle.tpl_live.proofs.Sorting.{Rising, rising}
 
 -- ---- the list of operations
 
-pub planned : (tree next_tree : Forest Kind) (next : ℕ) (ts rs : List Marked) (kept : ℕ → Bool) (ps cs : List ℕ) (a b c : List Op) →
+pub planned : (tree next_tree : Forest Kind) (ts rs : List Marked) (kept : ℕ → Bool) (ps cs : List ℕ) (a b c : List Op) →
     ((n : ℕ) → kept n ≡ listed n cs) → ps ≡ numbers_of ts → cs ≡ children_staying ts → a ≡ map OpRemove (ascending (flat_map (gone_numbers kept tree) ps)) →
-    b ≡ a ++ moved_between (λ n. ltb n next) kept tree next_tree ts → c ≡ b ++ flat_map (mark_told tree) rs → c ≡ ops_towards tree next_tree next ts rs
-planned tree next_tree next ts rs kept ps cs a b c tells parents children removed moved told =
+    b ≡ a ++ moved_between tree next_tree ts → c ≡ b ++ flat_map (mark_told tree) rs → c ≡ ops_towards tree next_tree ts rs
+planned tree next_tree ts rs kept ps cs a b c tells parents children removed moved told =
     let k : kept ≡ (λ n. listed n (children_staying ts)) = (λ i n. (tells n ∙ ap (listed n) children) i) in
     let r : a ≡ map OpRemove (ascending (flat_map (gone_numbers (λ n. listed n (children_staying ts)) tree) (numbers_of ts))) =
     removed ∙ (λ i. map OpRemove (ascending (flat_map (gone_numbers (k i) tree) (parents i)))) in
-    told ∙ ap (λ z. z ++ flat_map (mark_told tree) rs) (moved ∙ (λ i. r i ++ moved_between (λ n. ltb n next) (k i) tree next_tree ts))
+    told ∙ ap (λ z. z ++ flat_map (mark_told tree) rs) (moved ∙ ap (λ z. z ++ moved_between tree next_tree ts) r)
 
 -- what is put for the next of a list, behind what was put for those before it
 pub one_more : {A B : Type 0} (f : A → List B) (x : A) (xs rest : List A) (all before after : List B) → xs ≡ x ∷ rest → after ≡ before ++ f x →
@@ -56,13 +56,14 @@ sorted_marks ms h = subst Rising (sym (numbers_map ms)) (rising (λ (m : Mark). 
 
 pub compared_so : (p : NumberedPage) (b : Block) (m : PageMemo) (c : Change) (number : Address → Option ℕ) (tree : Forest Kind) (next : ℕ)
     (ts rs : List Marked) (os : List Op) (n : ℕ) → Compares p b m c number tree next → Operate p (lines_shape b m) ts rs →
-    ((after : Forest Kind) → AllFit (λ j. ltb j next) next ts after → os ≡ ops_towards tree after next ts rs) → n ≡ number_behind next ts →
+    ((after : Forest Kind) → AllFit tree next ts after → os ≡ ops_towards tree after ts rs) → n ≡ number_behind next ts →
     LeadOn p (lines_shape b m) os n
 compared_so p b m c number tree next ts rs os n h o plan count =
     let shape = lines_shape b m in
     let after = tree_of (renumbered p shape) in
     lead_on p shape ts rs os n h.page h.formed o
-    (plan after (subst (λ z. AllFit (λ j. ltb j z) z ts after) (sym h.count) o.fits) ∙ (λ i. ops_towards (h.stands i) after (h.count i) ts rs))
+    (plan after (subst (λ z. AllFit z next ts after) (sym h.stands) (subst (λ z. AllFit (tree_of p) z ts after) (sym h.count) o.fits))
+    ∙ ap (λ z. ops_towards z after ts rs) h.stands)
     (count ∙ ap (λ z. number_behind z ts) h.count)
 
 -- what comes has the numbers from the next unused one on

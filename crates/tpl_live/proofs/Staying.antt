@@ -1,21 +1,17 @@
 -- Of the children of nodes that are compared, those stay whose numbers are said to: they are on the next page too.
-use Rattle.std.proofs.Common.{◌≡◌, ℕ, ◌≤◌, ◌==◌, Bool, true, false, cond, ltb, not, Some, None, List, [], ◌∷◌, ◌++◌, map, refl, sym, ap, subst, ◌∙◌, arith, eqb-true, eq-eqb, inl, inr}
+use Rattle.std.proofs.Common.{◌≡◌, ℕ, ◌==◌, Bool, true, false, cond, not, Some, None, List, [], ◌∷◌, ◌++◌, map, refl, sym, ap, ◌∙◌, eqb-true, eq-eqb, inl, inr}
 use Rattle.std.specs.List.{flat_map}
 use Rattle.std.proofs.lemmas.Bool.{cases_Bool, false≢true, true≢false, or_cases}
 use Rattle.page_model.specs.Edits.{listed, siblings}
-use Rattle.page_model.specs.Forest.{Forest, none, node, has, kids, numbered, on, parent, tally}
-use Rattle.page_model.specs.Labels.{Root, Kind, Look, shown}
-use Rattle.page_model.specs.Pages.{IsPage, IsShape, NumberedPage, SameOrigin, carried, looks, number_of, page_shape, those, tree_of}
-use Rattle.page_model.proofs.Shared.{has_listed, has_on, has_parent, on_kids, on_tally, or_left, or_right}
+use Rattle.page_model.specs.Forest.{Forest, none, node, kids, on}
+use Rattle.page_model.specs.Labels.{Look}
+use Rattle.page_model.specs.Pages.{IsPage, IsShape, NumberedPage, SameOrigin, number_of, page_shape, those, tree_of}
+use Rattle.page_model.proofs.Shared.{or_left, or_right}
 use Rattle.tpl_comparing.specs.Comparing.{Each, IsTouched, known_of}
-use Rattle.tpl_found.specs.Coming.{coming, spelled}
-use Rattle.tpl_found.specs.Operations.{children_done}
-use Rattle.tpl_found.specs.Reading.{TellsKept, gone_numbers, kept_numbers}
-use Rattle.tpl_found.proofs.Shared.{by_number_is, child_on, from_those, in_map, kids_num, map_in, parent_is, siblings_num, to_those}
+use Rattle.tpl_found.specs.Reading.{TellsKept, gone_numbers}
+use Rattle.tpl_found.proofs.Shared.{child_on, children_read, from_those, in_map, map_in, stays_child, to_those}
 use Rattle.tpl_marks.specs.Marks.{children_in, next_of}
-use Rattle.tpl_memos.specs.ChildSteps.{step_name}
 use Rattle.tpl_shapes.specs.Shapes.{Marked, Next}
-use Rattle.update_laws.specs.Children.{forward_edits}
 use Rattle.update_laws.proofs.Shared.{in_both}
 use Rattle.tpl_live.specs.Plans.{children_staying, numbers_staying}
 
@@ -62,40 +58,6 @@ children_so p shape (a ∷ ws) [] h = absurd h
 
 -- ---- they are those of the next page
 
--- a child isn't the root
-not_root : (t below : Forest Look) (a b : ℕ) → t ≡ node 0 Root below none → tally 0 t ≤ 1 → has b (kids a t) ≡ true → (0 == b) ≡ false
-not_root t below a b is once h = elim (cases_Bool (0 == b)) [
-  | inl e ↦ (
-      let z : on 0 (kids a t) ≡ true = ap (λ j. on j (kids a t)) (eqb-true 0 b e) ∙ has_on b (kids a t) h in
-      let i : on 0 (kids a (node 0 Root below none)) ≡ true = subst (λ u. on 0 (kids a u) ≡ true) is z in
-      let o : tally 0 (node 0 Root below none) ≤ 1 = subst (λ u. tally 0 u ≤ 1) is once in
-      let j = on_tally 0 below (inside i) in
-      absurd (omega (arith, o, j)))
-  | inr e ↦ e
-]
-  where
-    inside : on 0 (kids a (node 0 Root below none)) ≡ true → on 0 below ≡ true
-    inside i = elim (cases_Bool (0 == a)) [
-      | inl e ↦ rw e at i
-      | inr e ↦ elim (cases_Bool (on a below)) [
-        | inl f ↦ on_kids a 0 below (rw (e, f) at i)
-        | inr f ↦ absurd (false≢true (rw (e, f) at i))
-      ]
-    ]
-
--- a child of a node stays its child
-stays_child : (p : NumberedPage) (shape : Forest Look) (a b : ℕ) → IsPage p → IsShape shape → SameOrigin (page_shape p) shape → on a (page_shape p) ≡ true →
-    listed b (siblings (kids a (page_shape p))) ≡ true → on b shape ≡ true → listed b (siblings (kids a shape)) ≡ true
-stays_child p shape a b q s so o h i =
-    let old = page_shape p in
-    let there : on b old ≡ true = child_on a b old h in
-    let h' : has b (kids a old) ≡ true = has_listed b (kids a old) ∙ h in
-    let up : parent b old ≡ a = parent_is a b old (q.once b) o h' in
-    let below : (0 == b) ≡ false = not_root old (looks q.rooted.below) a b (ap looks q.rooted.is) (q.once 0) h' in
-    let top : has b shape ≡ false = ap (has b) s.rooted.is ∙ rw below refl in
-    let at = has_parent b shape s.once i top in
-    sym (has_listed b (kids a shape)) ∙ (ap (λ z. has b (kids z shape)) (sym (sym (so.parents b there i) ∙ up)) ∙ at.0)
-
 -- of a compared node's old children those are said to stay that are on the next page
 told_staying : (p : NumberedPage) (shape : Forest Look) (ws : List ℕ) → IsPage p → IsShape shape → SameOrigin (page_shape p) shape → (a b : ℕ) →
     listed a ws ≡ true → on a (page_shape p) ≡ true → listed b (siblings (kids a (page_shape p))) ≡ true →
@@ -132,34 +94,12 @@ those_same num f g (x ∷ xs) h =
     let i = those_same num f g xs (λ j k. h j (or_right (x == j) (listed j xs) k)) in
     (λ t. cond (e t) (num x ∷ i t) (i t))
 
-children_read : (p : NumberedPage) (a : ℕ) → IsPage p → on a (page_shape p) ≡ true →
-    siblings (kids (number_of p a) (tree_of p)) ≡ map (number_of p) (siblings (kids a (page_shape p)))
-children_read p a q o =
-    let num = number_of p in
-    let t = page_shape p in
-    ap (λ z. siblings (kids (num a) (shown z))) (by_number_is p q.once)
-    ∙ (ap siblings (kids_num num a t (λ b h e. q.distinct a b o h e)) ∙ siblings_num num (kids a t))
-
-kept_same : (p : NumberedPage) (f g : ℕ → Bool) (a : ℕ) → IsPage p → on a (page_shape p) ≡ true → SayAlike p f g a →
-    kept_numbers f (tree_of p) (number_of p a) ≡ kept_numbers g (tree_of p) (number_of p a)
-kept_same p f g a q o h =
-    let xs = siblings (kids a (page_shape p)) in
-    ap (those f) (children_read p a q o) ∙ (those_same (number_of p) f g xs h ∙ sym (ap (those g) (children_read p a q o)))
-
 gone_same : (p : NumberedPage) (f g : ℕ → Bool) (a : ℕ) → IsPage p → on a (page_shape p) ≡ true → SayAlike p f g a →
     gone_numbers f (tree_of p) (number_of p a) ≡ gone_numbers g (tree_of p) (number_of p a)
 gone_same p f g a q o h =
     let xs = siblings (kids a (page_shape p)) in
     ap (those (λ c. not (f c))) (children_read p a q o)
     ∙ (those_same (number_of p) (λ c. not (f c)) (λ c. not (g c)) xs (λ b i. ap not (h b i)) ∙ sym (ap (those (λ c. not (g c))) (children_read p a q o)))
-
-done_same : (p : NumberedPage) (shape : Forest Look) (f g : ℕ → Bool) (a : ℕ) → IsPage p → on a (page_shape p) ≡ true → SayAlike p f g a →
-    children_done p shape f a ≡ children_done p shape g a
-done_same p shape f g a q o h =
-    let next : Forest Kind = shown (numbered (carried p shape) (kids a shape)) in
-    let given : ℕ → Bool = λ n. ltb n p.next in
-    let n = number_of p a in
-    ap (λ old. spelled n (map step_name (forward_edits given n 0 old [] next)) (coming given next)) (kept_same p f g a q o h)
 
 -- ---- of all compared nodes
 
@@ -187,11 +127,6 @@ gone_alike p f g ws q h =
     mapped : (k : ℕ → List ℕ) (xs : List ℕ) → flat_map k (map (number_of p) xs) ≡ flat_map (λ a. k (number_of p a)) xs
     mapped k [] = refl
     mapped k (x ∷ xs) = ap (λ z. k (number_of p x) ++ z) (mapped k xs)
-
-pub done_alike : (p : NumberedPage) (shape : Forest Look) (f g : ℕ → Bool) (ws : List ℕ) → IsPage p → AreAlike p f g ws →
-    flat_map (children_done p shape f) ws ≡ flat_map (children_done p shape g) ws
-done_alike p shape f g ws q h =
-    flat_same (children_done p shape f) (children_done p shape g) ws (λ a i. done_same p shape f g a q (h.there a i) (h.alike a i))
 
 -- what is said to stay is what is kept
 pub staying_alike : (p : NumberedPage) (shape : Forest Look) (kept : ℕ → Bool) (ws : List ℕ) (ms : List Marked) → IsPage p → IsShape shape →

@@ -1,5 +1,5 @@
 -- The operations that bring a page up to date, as they are read from the tree that stands by the marks of the nodes that are compared.
-use Rattle.std.specs.Prelude.{◌≡◌, ℕ, ltb, Bool, List, [], ◌∷◌, ◌++◌, map, Option}
+use Rattle.std.specs.Prelude.{◌≡◌, ℕ, Bool, List, [], ◌∷◌, ◌++◌, map, Option}
 use Rattle.std.specs.List.{flat_map}
 use Rattle.page_model.specs.Edits.{ascending, listed}
 use Rattle.page_model.specs.Forest.{Forest}
@@ -37,10 +37,10 @@ children_staying ms = flat_map (λ (m : Marked). numbers_staying m.children) ms
 
 -- What is removed and what is done to children towards the next tree, by the nodes whose children may differ, and what those nodes say that may
 -- say something else. The other children of these parents are gone.
-abbrev pub ops_towards : Forest Kind → Forest Kind → ℕ → List Marked → List Marked → List Op
-ops_towards tree after next touched restated =
+abbrev pub ops_towards : Forest Kind → Forest Kind → List Marked → List Marked → List Op
+ops_towards tree after touched restated =
     let kept : ℕ → Bool = λ n. listed n (children_staying touched) in
-    (map OpRemove (ascending (flat_map (gone_numbers kept tree) (numbers_of touched))) ++ moved_between (λ n. ltb n next) kept tree after touched)
+    (map OpRemove (ascending (flat_map (gone_numbers kept tree) (numbers_of touched))) ++ moved_between tree after touched)
     ++ flat_map (mark_told tree) restated
 
 -- what each of these brings are nodes

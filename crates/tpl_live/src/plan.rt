@@ -1,5 +1,5 @@
 // How a page comes up to date: the numbers of its nodes, and the operations that lead to the next tree, all read from the tree that stands.
-ghost use Rattle.std.specs.Prelude.{◌≡◌, ◌<◌, ◌^◌, ◌+◌, ◌++◌, ltb, length, map, IfOk, OnOk};
+ghost use Rattle.std.specs.Prelude.{◌≡◌, ◌<◌, ◌^◌, ◌+◌, ◌++◌, length, map, IfOk, OnOk};
 ghost use Rattle.page_model.specs.Forest.{Forest, keys};
 ghost use Rattle.page_model.specs.Labels.{Kind};
 ghost use Rattle.page_model.specs.Pages.{NumberedPage, IsPage, new_order, page_shape, tree_of};
@@ -135,7 +135,7 @@ pub struct Plan {
 }
 
 // The operations that lead from a tree to the next one, by the marks of the nodes whose children may differ and of those that may say something
-// else: removals, then what is done to the children of each, then texts and attributes. Numbers below `next` were given before.
+// else: removals, then what is done to the children of each, then texts and attributes. What comes has the numbers from `next` on.
 fn operations(
     alloc: Global,
     tree: &Tree,
@@ -146,14 +146,14 @@ fn operations(
     requires { AllSound (map mark_of touched.items) }
     ensures next { IfOk result (λ p. p.next ≡ number_behind next (map mark_of touched.items)) }
     ensures coming { IfOk result (λ p. map address_of p.coming.items ≡ coming_below (map mark_of touched.items)) }
-    ensures ops { (after : Forest Kind) → AllFit (λ n. ltb n next) next (map mark_of touched.items) after →
-        IfOk result (λ p. map op_of p.ops.items ≡ ops_towards tree.now after next (map mark_of touched.items) (map mark_of restated.now)) }
+    ensures ops { (after : Forest Kind) → AllFit tree.now next (map mark_of touched.items) after →
+        IfOk result (λ p. map op_of p.ops.items ≡ ops_towards tree.now after (map mark_of touched.items) (map mark_of restated.now)) }
 {
     let parents = mark_numbers(alloc, &touched)?;
     let children = staying(alloc, &touched)?;
     let kept = NumberSet::of(alloc, &children)?;
     let mut ops = removals(alloc, tree, &kept, &parents)?;
-    let behind = put_moves(alloc, tree, &kept, next, next, &touched, &mut ops)?;
+    let behind = put_moves(alloc, tree, next, &touched, &mut ops)?;
     put_looks(tree, restated, &mut ops)?;
     let mut coming = Vec::new(alloc);
     put_coming(touched, &mut coming)?;

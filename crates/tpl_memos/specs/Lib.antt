@@ -1,2 +1,1 @@
-pub mod ChildSteps
 pub mod Kept

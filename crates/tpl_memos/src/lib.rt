@@ -1,8 +1,6 @@
-//! What a page keeps of its template's lines, and the steps between the children of a node.
+//! What a page keeps of its template's lines.
 #![tactic(auto)]
 
-mod children;
 mod memo;
 
-pub use children::{ChildStep, child_steps};
 pub use memo::{Heard, PageMemo};

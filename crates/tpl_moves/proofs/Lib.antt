@@ -1,2 +1,3 @@
 mod Arriving
+mod Linking
 mod Spelling

@@ -1,16 +1,14 @@
 -- The next children of nodes that stay on a page: which stay, and what comes under the next numbers.
-use Rattle.std.specs.Prelude.{◌≡◌, ℕ, ◌+◌, Bool, List, [], ◌∷◌, length, map}
-use Rattle.std.specs.List.{flat_map}
-use Rattle.page_model.specs.Edits.{siblings}
+use Rattle.std.specs.Prelude.{◌≡◌, ℕ, ◌+◌, nat_eq, List, [], ◌∷◌, length}
+use Rattle.std.specs.List.{flat_map, IsDistinct}
+use Rattle.page_model.specs.Edits.{listed, siblings}
 use Rattle.page_model.specs.Forest.{Forest, none, after, keys, kids}
 use Rattle.page_model.specs.Labels.{Kind, Look, Sound, shown}
 use Rattle.page_model.specs.Replay.{Op}
-use Rattle.tpl_found.specs.Coming.{coming, spelled}
-use Rattle.tpl_found.specs.Reading.{kept_numbers}
-use Rattle.tpl_memos.specs.ChildSteps.{step_name}
+use Rattle.tpl_found.specs.Coming.{coming}
+use Rattle.tpl_found.specs.Following.{children_moved}
 use Rattle.tpl_model.specs.Sources.{in_order}
 use Rattle.tpl_shapes.specs.Shapes.{Marked, Next, stays, comes}
-use Rattle.update_laws.specs.Children.{forward_edits}
 
 -- the nodes that come, one after the other
 abbrev pub arrivals : List Next → Forest Look
@@ -39,26 +37,25 @@ abbrev pub AllSound : List Marked → Type 0
 AllSound [] = Unit {0}
 AllSound (m ∷ ms) = AreSound m.children × AllSound ms
 
--- these are the next children of a node: they stay under their numbers, or come under the numbers from n on
-pub record Fits (given : ℕ → Bool) (n : ℕ) (cs : List Next) (children : Forest Kind) : Type 0 where
+-- These are the next children of a node that has those of these numbers: they stay under their numbers, or come under the numbers from n on, and
+-- no number stands twice.
+pub record Fits (olds : List ℕ) (n : ℕ) (cs : List Next) (children : Forest Kind) : Type 0 where
+  pub old_once : IsDistinct nat_eq olds
+  pub once : IsDistinct nat_eq (siblings children)
   pub numbers : siblings children ≡ next_numbers n cs
-  pub arrive : coming given children ≡ shown (in_order n (arrivals cs))
+  pub arrive : coming (λ m. listed m olds) children ≡ shown (in_order n (arrivals cs))
 
--- the next tree has the next children of each marked node; what comes has the numbers from n on, in the order of the marks
-abbrev pub AllFit : (ℕ → Bool) → ℕ → List Marked → Forest Kind → Type 0
-AllFit given n [] tree = Unit {0}
-AllFit given n (m ∷ ms) tree = Fits given n m.children (kids m.number tree) × AllFit given (number_after n m.children) ms tree
+-- the next tree has the next children of each marked node of this one; what comes has the numbers from n on, in the order of the marks
+abbrev pub AllFit : Forest Kind → ℕ → List Marked → Forest Kind → Type 0
+AllFit tree n [] next = Unit {0}
+AllFit tree n (m ∷ ms) next =
+    Fits (siblings (kids m.number tree)) n m.children (kids m.number next) × AllFit tree (number_after n m.children) ms next
 
 -- the next number after those of what comes to all marked nodes
 abbrev pub number_behind : ℕ → List Marked → ℕ
 number_behind n [] = n
 number_behind n (m ∷ ms) = number_behind (number_after n m.children) ms
 
--- the operations on the children of a node that has these in the next tree
-abbrev pub children_moved : (ℕ → Bool) → (ℕ → Bool) → Forest Kind → ℕ → Forest Kind → List Op
-children_moved given kept tree p children =
-    spelled p (map step_name (forward_edits given p 0 (kept_numbers kept tree p) [] children)) (coming given children)
-
--- those on the children of each marked node, between two trees
-abbrev pub moved_between : (ℕ → Bool) → (ℕ → Bool) → Forest Kind → Forest Kind → List Marked → List Op
-moved_between given kept tree next ms = flat_map (λ (m : Marked). children_moved given kept tree m.number (kids m.number next)) ms
+-- the operations on the children of each marked node, between two trees
+abbrev pub moved_between : Forest Kind → Forest Kind → List Marked → List Op
+moved_between tree next ms = flat_map (λ (m : Marked). children_moved tree m.number (kids m.number next)) ms

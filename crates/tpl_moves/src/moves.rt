@@ -1,23 +1,23 @@
 // The operations on the children of nodes that stay.
-ghost use Rattle.std.specs.Prelude.{◌≡◌, ◌++◌, ◌∷◌, ℕ, ltb, List, map, OnOk, IfOk};
-ghost use Rattle.page_model.specs.Forest.{Forest};
+ghost use Rattle.std.specs.Prelude.{◌≡◌, ◌++◌, ◌∷◌, ◌<◌, ℕ, suc, List, length, map, slice_get, Some, OnOk, IfOk};
+ghost use Rattle.keyed_each.specs.declared.placing.RowStep.{RowStep};
+ghost use Rattle.page_model.specs.Edits.{siblings};
+ghost use Rattle.page_model.specs.Forest.{Forest, kids};
 ghost use Rattle.page_model.specs.Labels.{Kind};
 ghost use Rattle.page_ops.specs.Ops.{op_of};
 ghost use Rattle.page_tree.specs.Subs.{side_by_side, sub_tree};
-ghost use Rattle.tpl_found.specs.Coming.{spelled};
-ghost use Rattle.tpl_memos.specs.ChildSteps.{Comes, Step, step_of};
-ghost use Rattle.tpl_moves.specs.Moves.{AllFit, AllSound, AreSound, Fits, children_moved, moved_between, number_after, number_behind};
-ghost use Rattle.tpl_removals.specs.Sets.{tells};
+ghost use Rattle.tpl_found.specs.Following.{children_moved};
+ghost use Rattle.tpl_moves.specs.Moves.{AllFit, AllSound, AreSound, Fits, moved_between, number_after, number_behind};
+ghost use Rattle.tpl_moves.specs.Spelled.{spelled};
 ghost use Rattle.tpl_shapes.specs.Shapes.{child_of, mark_of};
 
 use crate::coming::{Row, row_of};
+use keyed_each::{RowStep, place};
 use page_ops::Op;
 use page_tree::{Sub, Tree};
 use sig_base::NoMemory;
 use std::alloc::Global;
 use std::collections::VecDeque;
-use tpl_memos::{ChildStep, child_steps};
-use tpl_removals::{NumberSet, kept_children};
 use tpl_scratch::Nodes;
 use tpl_shapes::{Child, Mark};
 
@@ -28,9 +28,9 @@ fn put_arrival(
     waiting: &mut VecDeque<Sub>,
     ops: &mut Vec<Op>,
 ) -> Result<(), NoMemory>
-    ensures { (n : ℕ) (steps : List Step) → OnOk result (
-        map op_of ops.new.items ++ spelled parent steps (side_by_side (map sub_tree waiting.new.items))
-        ≡ map op_of ops.old.items ++ spelled parent (Comes place n ∷ steps) (side_by_side (map sub_tree waiting.old.items))) }
+    ensures { (n j : ℕ) (numbers : List ℕ) (steps : List RowStep) → OnOk result (
+        map op_of ops.new.items ++ spelled parent (suc place) numbers steps (side_by_side (map sub_tree waiting.new.items))
+        ≡ map op_of ops.old.items ++ spelled parent place (n ∷ numbers) (RowStep.Insert j ∷ steps) (side_by_side (map sub_tree waiting.old.items))) }
 {
     let Some(sub) = waiting.pop_front() else {
         return Ok(());
@@ -41,42 +41,62 @@ fn put_arrival(
     Ok(())
 }
 
-// One step; what comes is taken from these subtrees in order.
+// The step for the child of this number at this place; what comes is taken from these subtrees in order.
 fn put_step(
     parent: u64,
-    step: ChildStep,
+    place: usize,
+    number: u64,
+    step: RowStep,
     waiting: &mut VecDeque<Sub>,
     ops: &mut Vec<Op>,
 ) -> Result<(), NoMemory>
-    ensures { (steps : List Step) → OnOk result (
-        map op_of ops.new.items ++ spelled parent steps (side_by_side (map sub_tree waiting.new.items))
-        ≡ map op_of ops.old.items ++ spelled parent (step_of step ∷ steps) (side_by_side (map sub_tree waiting.old.items))) }
+    ensures { (numbers : List ℕ) (steps : List RowStep) → OnOk result (
+        map op_of ops.new.items ++ spelled parent (suc place) numbers steps (side_by_side (map sub_tree waiting.new.items))
+        ≡ map op_of ops.old.items ++ spelled parent place (number ∷ numbers) (step ∷ steps) (side_by_side (map sub_tree waiting.old.items))) }
 {
     match step {
-        ChildStep::Move(number, place) => {
+        RowStep::Keep => Ok(()),
+        RowStep::Move(_) => {
             ops.push(Op::Move(number, place as u64))?;
             Ok(())
         }
-        ChildStep::Insert(place, _) => {
+        RowStep::Insert(_) => {
             put_arrival(parent, place, waiting, ops)?;
             Ok(())
         }
     }
 }
 
-// The operations that steps are, with what comes.
+// The step at a place.
+fn step_at(steps: &[RowStep], place: usize) -> RowStep
+    requires { place < length steps.now }
+    ensures { slice_get steps.now place ≡ Some result }
+{
+    steps[place]
+}
+
+// The operations that the steps for children of these numbers are, with what comes.
 fn put_steps(
     parent: u64,
-    steps: Vec<ChildStep>,
+    numbers: &[u64],
+    steps: &[RowStep],
     subs: Vec<Sub>,
     ops: &mut Vec<Op>,
 ) -> Result<(), NoMemory>
+    requires { length steps.now ≡ length numbers.now }
     ensures { OnOk result (map op_of ops.new.items ≡
-        map op_of ops.old.items ++ spelled parent (map step_of steps.items) (side_by_side (map sub_tree subs.items))) }
+        map op_of ops.old.items ++ spelled parent 0 numbers.now steps.now (side_by_side (map sub_tree subs.items))) }
 {
     let mut waiting = VecDeque::from_vec(subs);
-    for step in steps {
-        put_step(parent, step, &mut waiting, ops)?;
+    for (place, number) in numbers.iter().enumerate() {
+        put_step(
+            parent,
+            place,
+            *number,
+            step_at(steps, place),
+            &mut waiting,
+            ops,
+        )?;
     }
     Ok(())
 }
@@ -85,8 +105,6 @@ fn put_steps(
 fn put_children(
     alloc: Global,
     tree: &Tree,
-    kept: &NumberSet,
-    given: u64,
     next: u64,
     parent: u64,
     children: &[Child],
@@ -94,21 +112,20 @@ fn put_children(
 ) -> Result<u64, NoMemory>
     requires { AreSound (map child_of children.now) }
     ensures next { IfOk result (λ n. n ≡ number_after next (map child_of children.now)) }
-    ensures ops { (row : Forest Kind) → Fits (λ n. ltb n given) next (map child_of children.now) row → OnOk result (
-        map op_of ops.new.items ≡ map op_of ops.old.items ++ children_moved (λ n. ltb n given) (tells kept.now) tree.now parent row) }
+    ensures ops { (row : Forest Kind) → Fits (siblings (kids parent tree.now)) next (map child_of children.now) row → OnOk result (
+        map op_of ops.new.items ≡ map op_of ops.old.items ++ children_moved tree.now parent row) }
 {
-    let old = kept_children(alloc, tree, kept, parent)?;
     let row = row_of(alloc, next, children)?;
     let Row { numbers, coming } = row;
-    let steps = child_steps(alloc, given, &old, &numbers)?;
+    let steps = place(alloc, tree.children(parent), &numbers)?;
     let Nodes { subs, next } = coming;
-    put_steps(parent, steps, subs, ops)?;
+    put_steps(parent, &numbers, &steps, subs, ops)?;
     Ok(next)
 }
 
-/// Appends the operations on the children of marked nodes, one node after the other, as they lead from this tree to the next one: those that stay
-/// are in the set of kept numbers, numbers below `given` were given before, and what comes has the numbers from `next` on. The answer is the next
-/// number after these.
+/// Appends the operations on the children of marked nodes, one node after the other, as they lead from this tree to the next one, where what comes
+/// has the numbers from `next` on: a child whose number stood under its node moves exactly where it doesn't stand at its place. The answer is the
+/// next number after these.
 ///
 /// # Errors
 ///
@@ -116,21 +133,19 @@ fn put_children(
 pub fn put_moves(
     alloc: Global,
     tree: &Tree,
-    kept: &NumberSet,
-    given: u64,
     next: u64,
     marks: &[Mark],
     ops: &mut Vec<Op>,
 ) -> Result<u64, NoMemory>
     requires { AllSound (map mark_of marks.now) }
     ensures next { IfOk result (λ n. n ≡ number_behind next (map mark_of marks.now)) }
-    ensures ops { (after : Forest Kind) → AllFit (λ n. ltb n given) next (map mark_of marks.now) after → OnOk result (
-        map op_of ops.new.items ≡ map op_of ops.old.items ++ moved_between (λ n. ltb n given) (tells kept.now) tree.now after (map mark_of marks.now)) }
+    ensures ops { (after : Forest Kind) → AllFit tree.now next (map mark_of marks.now) after → OnOk result (
+        map op_of ops.new.items ≡ map op_of ops.old.items ++ moved_between tree.now after (map mark_of marks.now)) }
 {
     let mut number = next;
     for mark in marks {
         let children = &mark.children;
-        number = put_children(alloc, tree, kept, given, number, mark.number, children, ops)?;
+        number = put_children(alloc, tree, number, mark.number, children, ops)?;
     }
     Ok(number)
 }

@@ -5,7 +5,7 @@ ghost use Rattle.page_model.specs.Edits.{ascending};
 ghost use Rattle.page_model.specs.Pages.{those};
 ghost use Rattle.page_model.specs.Replay.{OpRemove};
 ghost use Rattle.page_ops.specs.Ops.{op_of};
-ghost use Rattle.tpl_found.specs.Reading.{gone_numbers, kept_numbers};
+ghost use Rattle.tpl_found.specs.Reading.{gone_numbers};
 ghost use Rattle.tpl_removals.specs.Sets.{tells};
 
 use crate::set::NumberSet;
@@ -82,26 +82,4 @@ pub fn removals(
     put_ascending(&mut gone);
     let ops = removals_of(alloc, &gone)?;
     Ok(ops)
-}
-
-/// The children of a node that are in the set of kept numbers, in their order.
-///
-/// # Errors
-///
-/// `NoMemory` alone.
-pub fn kept_children(
-    alloc: Global,
-    tree: &Tree,
-    kept: &NumberSet,
-    number: u64,
-) -> Result<Vec<u64>, NoMemory>
-    ensures { IfOk result (λ numbers. numbers.items ≡ kept_numbers (tells kept.now) tree.now number) }
-{
-    let mut numbers = Vec::new(alloc);
-    for child in tree.children(number) {
-        if kept.has(*child) {
-            numbers.push(*child)?;
-        }
-    }
-    Ok(numbers)
 }

@@ -4,5 +4,5 @@
 mod leaving;
 mod set;
 
-pub use leaving::{kept_children, removals};
+pub use leaving::removals;
 pub use set::NumberSet;

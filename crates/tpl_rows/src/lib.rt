@@ -1,8 +1,6 @@
-//! Worked pages: which steps lead from old children to new ones, what a copied formula is, what lines hear, and what is kept of them.
+//! Worked pages: what a copied formula is, what lines hear, and what is kept of them.
 #![tactic(auto)]
 
-#[cfg(test)]
-mod children;
 #[cfg(test)]
 mod copies;
 #[cfg(test)]

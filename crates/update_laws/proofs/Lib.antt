@@ -3,7 +3,6 @@ mod Sorting
 mod Addressed
 mod Summary
 mod Walk
-mod Onward
 mod Showings
 mod Renewing
 mod Asking

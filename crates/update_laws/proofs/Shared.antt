@@ -1,7 +1,7 @@
 -- What crates above may cite of these proofs: laws of updates, and of parts of two trees. All else in this folder is this crate's own.
 
 -- what is kept
-pub use Rattle.update_laws.proofs.Placing.{read_law, child_law, number_law}
+pub use Rattle.update_laws.proofs.Placing.{read_law, number_law}
 pub use Rattle.update_laws.proofs.Mounting.{mount_law, source_law}
 pub use Rattle.update_laws.proofs.Showings.{shape_shown, shows}
 pub use Rattle.update_laws.proofs.Evaluations.{steady, begins}

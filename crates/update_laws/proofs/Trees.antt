@@ -2,34 +2,18 @@
 use Rattle.std.proofs.Common.{◌≡◌, ℕ, suc, ◌+◌, ◌≤◌, ◌==◌, Bool, true, false, ◌||◌, refl, sym, ap, subst, ◌∙◌, append_assoc, arith, leb, eqb-true, eq-eqb, inl, inr, List, [], ◌∷◌, ◌++◌, length, Option, Some, None}
 use Rattle.std.specs.Str.{bytes_eq}
 use Rattle.std.proofs.lemmas.List.{length-append}
-use Rattle.std.proofs.lemmas.Bool.{cases_Bool, false≢true, true≢false, or_cases}
+use Rattle.std.proofs.lemmas.Bool.{cases_Bool, false≢true, or_cases}
 use Rattle.std.proofs.lemmas.Slice.Eq.{bytes_eq-Decides}
 use Rattle.page_model.specs.Edits.{listed, placed, siblings, child_edits, attribute_edits, told}
 use Rattle.page_model.specs.Forest.{Forest, none, node, after, has, one, on, tally, keys, kids, parent, label_in, pruned, tops, numbered}
 use Rattle.page_model.specs.Labels.{Root, Text, Element, Kind, Look, shown}
 use Rattle.page_model.specs.Pages.{NumberedPage, IsPage, IsShape, looks, by_number, page_shape, number_of, into_by, ascending_by, new_order, place_in, carried, with_numbers, renumbered}
-use Rattle.page_model.proofs.Shared.{has_on, has_parent, kept_number, off_has, on_tally, or_left, or_right, page_after, self_on, shape_after, tally_off, tally_on, unused_number}
-
--- each number once
-abbrev pub Once : List ℕ → Type 0
-Once [] = Unit {0}
-Once (p ∷ ps) = (listed p ps ≡ false) × Once ps
-
--- no key stands twice among the siblings
-abbrev pub Apart : {A : Type 0} → Forest A → Type 0
-Apart none = Unit {0}
-Apart (node n x k r) = (has n r ≡ false) × Apart r
+use Rattle.page_model.proofs.Shared.{has_parent, kept_number, off_has, on_tally, or_left, or_right, page_after, self_on, shape_after, tally_off, tally_on, unused_number}
 
 -- each node of the trees has the children that `look` gives
 abbrev pub Knows : {A : Type 0} → (ℕ → Forest A) → Forest A → Type 0
 Knows look none = Unit {0}
 Knows look (node n x k r) = (look n ≡ k) × Knows look k × Knows look r
-
-pub flipped : (m p : ℕ) → (m == p) ≡ false → (p == m) ≡ false
-flipped m p h = elim (cases_Bool (p == m)) [
-  | inl e ↦ (let q : p ≡ m = eqb-true p m e in absurd (false≢true (sym h ∙ eq-eqb m p (sym q))))
-  | inr e ↦ e
-]
 
 pub in_both : (n : ℕ) (xs ys : List ℕ) → listed n (xs ++ ys) ≡ (listed n xs || listed n ys)
 in_both n [] ys = refl
@@ -94,14 +78,6 @@ parent_is p n (node m x k r) l o h = elim (cases_Bool (m == p)) [
 pub tally_after : {A : Type 0} (j : ℕ) (xs ys : Forest A) → tally j (after xs ys) ≡ tally j xs + tally j ys
 tally_after j none ys = omega arith
 tally_after j (node m x k r) ys = omega (arith, tally_after j r ys)
-
-pub apart_of : {A : Type 0} (t : Forest A) → ((j : ℕ) → tally j t ≤ 1) → Apart t
-apart_of none l = tt
-apart_of (node m x k r) l =
-    let here : (m == m) ≡ true = eq-eqb m m refl in
-    let lm = rw here at (l m) in
-    let z : on m r ≡ false = tally_off m r (omega arith) in
-    (elim (cases_Bool (has m r)) [ inl e ↦ absurd (true≢false (sym (has_on m r e) ∙ z)) | inr e ↦ e ], apart_of r (λ j. (let i = l j in omega arith)))
 
 -- where a node of a forest with distinct keys is looked for
 in_kids : {A : Type 0} (n m : ℕ) (x : A) (k r : Forest A) → ((j : ℕ) → tally j (node m x k r) ≤ 1) → on n k ≡ true → kids n (node m x k r) ≡ kids n k

@@ -1,4 +1,3 @@
 pub mod Differences
-pub mod Children
 pub mod PageMemos
 pub mod Updating

@@ -1,9 +1,9 @@
 -- A page that is made from a template, and how it is brought up to date by what changed.
-use Rattle.std.specs.Prelude.{◌≡◌, ℕ, ◌+◌, ltb, length, map, Bool, true, false, List, [], ◌∷◌, ◌++◌, None}
+use Rattle.std.specs.Prelude.{◌≡◌, ℕ, ◌+◌, length, map, Bool, true, false, List, [], ◌∷◌, ◌++◌, None}
 use Rattle.sig_base.specs.declared.value.Outcome.{Outcome}
 use Rattle.page_model.specs.Edits.{listed, siblings}
-use Rattle.page_model.specs.Forest.{Forest, none, node, on, kids, numbered}
-use Rattle.page_model.specs.Labels.{Root, Look, Kind, shown}
+use Rattle.page_model.specs.Forest.{Forest, none, node, on, kids}
+use Rattle.page_model.specs.Labels.{Root, Look, Kind}
 use Rattle.page_model.specs.Pages.{NumberedPage, IsPage, IsShape, SameOrigin, bare, carried, edits_between, new_order, number_of}
 use Rattle.page_model.specs.Pages.{page_shape, renumbered, those, tree_of, with_numbers}
 use Rattle.page_model.specs.Replay.{Done, replay}
@@ -12,8 +12,7 @@ use Rattle.tpl_model.specs.Lines.{Line, block_of}
 use Rattle.tpl_model.specs.Laws.{GivesRows, IsTemplate}
 use Rattle.tpl_model.specs.Shapes.{shape_of, shown_lines}
 use Rattle.tpl_model.specs.Sources.{evaluating}
-use Rattle.update_laws.specs.Children.{forward_edits}
-use Rattle.update_laws.specs.Differences.{Finds, Found, children_at, found_edits, found_order}
+use Rattle.update_laws.specs.Differences.{Finds, Found, found_edits, found_order}
 use Rattle.update_laws.specs.PageMemos.{PageMemo, hearing, memo_of, names, nodes}
 
 -- ---- what is kept
@@ -76,13 +75,6 @@ ReadLaw = (p : NumberedPage) (shape : Forest Look) (f : Found) → IsPage p → 
 -- the numbers of the old children of a node that are on the next page
 abbrev pub kept_children : NumberedPage → Forest Look → ℕ → List ℕ
 kept_children p shape a = map (number_of p) (those (λ b. on b shape) (siblings (kids a (page_shape p))))
-
--- the operations on the children of a kept node come from one go: a child is kept where its number is below the page's next unused one
-abbrev pub ChildLaw : Type 0
-ChildLaw = (p : NumberedPage) (shape : Forest Look) → IsPage p → IsShape shape → SameOrigin (page_shape p) shape → (a : ℕ) →
-    on a (page_shape p) ≡ true → on a shape ≡ true →
-    children_at (number_of p) (carried p shape) (page_shape p) shape a
-    ≡ forward_edits (λ n. ltb n p.next) (number_of p a) 0 (kept_children p shape a) [] (shown (numbered (carried p shape) (kids a shape)))
 
 -- a new address gets the next number at its place in their order, and a part whose addresses were all there keeps its numbers
 pub record Numbers (p : NumberedPage) (shape : Forest Look) : Type 0 where

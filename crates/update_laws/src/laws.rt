@@ -1,14 +1,9 @@
 // The laws of bringing a page up to date, each the contract of a call that does nothing.
-ghost use Rattle.update_laws.specs.Updating.{ChildLaw, MountLaw, NumberLaw, ReadLaw, SourceLaw};
+ghost use Rattle.update_laws.specs.Updating.{MountLaw, NumberLaw, ReadLaw, SourceLaw};
 
 /// Whatever finds what differs, in any order, gives the operations and the order of the new numbers.
 pub fn read_law()
     ensures { ReadLaw }
-{}
-
-/// The operations on the children of one node come from one go over its old children and its new ones.
-pub fn child_law()
-    ensures { ChildLaw }
 {}
 
 /// New nodes get the next numbers in their order, and what stays keeps its numbers.

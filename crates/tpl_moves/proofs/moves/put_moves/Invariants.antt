@@ -1,11 +1,10 @@
-use Rattle.std.proofs.Common.{ltb, map, drop}
+use Rattle.std.proofs.Common.{map, drop}
 use Rattle.page_ops.specs.Ops.{op_of}
-use Rattle.tpl_removals.specs.Sets.{tells}
 use Rattle.tpl_shapes.specs.Shapes.{mark_of}
 use Rattle.tpl_moves.proofs.Spelling.{AreMoved}
 use Rattle.tpl_moves.proofs.moves.put_moves.Given as goal
 
 abbrev pub invariant-loop-mark : goal.invariant-loop-mark
 invariant-loop-mark l =
-    AreMoved (λ n. ltb n l.given) (tells l.kept) l.tree (map mark_of l.marks) (map mark_of (drop l.mark-index l.marks)) l.next l.number
+    AreMoved l.tree (map mark_of l.marks) (map mark_of (drop l.mark-index l.marks)) l.next l.number
     (map op_of l.initial.ops.items) (map op_of l.ops.items)

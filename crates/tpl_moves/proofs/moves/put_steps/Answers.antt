@@ -1,24 +1,27 @@
-use Rattle.std.proofs.Common.{◌≡◌, [], ◌∷◌, ◌++◌, ap, ◌∙◌, map}
+use Rattle.std.proofs.Common.{◌++◌, ◌+◌, ap, arith, ◌∙◌, drop, map, slice_index_or}
+use Rattle.std.proofs.lemmas.List.{drop_all, drop_more}
 use Rattle.page_ops.specs.Ops.{op_of}
-use Rattle.tpl_found.specs.Coming.{spelled}
-use Rattle.tpl_memos.specs.ChildSteps.{step_of}
-use Rattle.tpl_moves.proofs.Spelling.{no_items, side, step_spelled, steps_spelled}
+use Rattle.tpl_moves.specs.Spelled.{spelled}
+use Rattle.tpl_moves.proofs.Spelling.{all_spelled, one_spelled, side, step_there}
 use Rattle.tpl_moves.proofs.moves.put_steps.Goals as goal
 
-pub loop-step-preserved : goal.loop-step-preserved
-loop-step-preserved c =
-    let rest = c.next.new.self.rest.items in
-    let e : c.loop-step.step-iterator.rest.items ≡ c.in-Some.step ∷ rest = c.in-Some.ensures.steps.0 in
-    step_spelled c.args.parent (step_of c.in-Some.step) (map step_of c.loop-step.step-iterator.rest.items) (map step_of rest) (side c.loop-step.waiting.items)
-    (side c.put_step.new.waiting.items) (map op_of c.loop-step.ops.items) (map op_of c.put_step.new.ops.items) _ (ap (map step_of) e)
-    (c.in_ok-put_step.ensures (map step_of rest)) c.loop-step.invariant
+pub step_at-requires : goal.step_at-requires
+step_at-requires c = omega (arith, c.requires, c.loop-place-test.true)
+
+pub loop-place-preserved : goal.loop-place-preserved
+loop-place-preserved c =
+    let i = c.loop-place.place in
+    let ns = c.args.numbers.now in
+    let steps = c.args.steps.now in
+    one_spelled c.args.parent i (slice_index_or ns i 0) c.step_at.result (drop i ns) (drop (i + 1) ns) (drop i steps) (drop (i + 1) steps)
+    (side c.loop-place.waiting.items) (side c.put_step.new.waiting.items) (map op_of c.loop-place.ops.items) (map op_of c.put_step.new.ops.items) _
+    (drop_more ns i 0 c.loop-place-test.true) (step_there steps i c.step_at.result (omega (arith, c.requires, c.loop-place-test.true)) c.step_at.ensures)
+    c.in_ok-put_step.ensures c.loop-place.invariant
 
 pub returns : goal.returns
 returns c =
-    let rest = c.loop-step.step-iterator.rest in
-    let none : rest.items ≡ [] = no_items rest.items rest.len rest.ok.0 c.in-None.ensures.steps.0 in
-    let given : c.into_iter-step-iterator.result.rest.items ≡ c.args.steps.items = c.into_iter-step-iterator.ensures.into_iter_gives.0 in
+    let i = c.loop-place.place in
     let os = map op_of c.args.ops.now.items in
-    steps_spelled c.args.parent (map step_of rest.items) (side c.loop-step.waiting.items) (map op_of c.loop-step.ops.items) _ (ap (map step_of) none) c.loop-step.invariant
-    ∙ (ap (λ z. os ++ spelled c.args.parent (map step_of z) (side c.from_vec-waiting.result.items)) given
-    ∙ ap (λ z. os ++ spelled c.args.parent (map step_of c.args.steps.items) (side z)) c.from_vec-waiting.ensures.items)
+    all_spelled c.args.parent i (drop i c.args.numbers.now) (drop i c.args.steps.now) (side c.loop-place.waiting.items) (map op_of c.loop-place.ops.items) _
+    (drop_all i c.args.numbers.now c.loop-place-test.false) c.loop-place.invariant
+    ∙ ap (λ z. os ++ spelled c.args.parent 0 c.args.numbers.now c.args.steps.now (side z)) c.from_vec-waiting.ensures.items
