@@ -1,63 +1,59 @@
 // Limits of bodies, of what lives and of what one line names, each reached and passed by one.
 
-use crate::limits::{assert_joined, joined, numbered, repeated};
+use crate::limits::{assert_joined, assert_repeated, joined, numbered};
 use crate::rows::assert_prints;
 use std::test::Fail;
 
 #[test]
 fn bounds_a_body(rt: HostRuntime) -> Result<(), Fail> {
     let alloc = rt.alloc();
-    let most = repeated(alloc, "log 1\n", 64)?;
-    let more = repeated(alloc, "log 1\n", 65)?;
-    let some = repeated(alloc, "log 1\n", 31)?;
-    let unknown = repeated(alloc, "log zz\n", 65)?;
-    assert_joined(
+    assert_repeated(
         &rt,
         alloc,
-        &["effect e\n", most.as_str(), "end\nget e\n"],
+        &[("effect e\n", 1), ("log 1\n", 64), ("end\nget e\n", 1)],
         "error 4 e\n",
     )?;
-    assert_joined(
+    assert_repeated(
         &rt,
         alloc,
-        &["effect e\n", more.as_str(), "end\nget e\n"],
+        &[("effect e\n", 1), ("log 1\n", 65), ("end\nget e\n", 1)],
         "error 5 body\nerror 2 e\n",
     )?;
     // the lines of a nested effect count, those too that begin and end it
-    assert_joined(
+    assert_repeated(
         &rt,
         alloc,
         &[
-            "effect e\neffect\n",
-            some.as_str(),
-            "end\n",
-            some.as_str(),
-            "end\nget e\n",
+            ("effect e\neffect\n", 1),
+            ("log 1\n", 31),
+            ("end\n", 1),
+            ("log 1\n", 31),
+            ("end\nget e\n", 1),
         ],
         "error 4 e\n",
     )?;
-    assert_joined(
+    assert_repeated(
         &rt,
         alloc,
         &[
-            "effect e\neffect\n",
-            some.as_str(),
-            "log 1\nend\n",
-            some.as_str(),
-            "end\nget e\n",
+            ("effect e\neffect\n", 1),
+            ("log 1\n", 32),
+            ("end\n", 1),
+            ("log 1\n", 31),
+            ("end\nget e\n", 1),
         ],
         "error 5 body\nerror 2 e\n",
     )?;
     // before names, also its own
-    assert_joined(
+    assert_repeated(
         &rt,
         alloc,
         &[
-            "cell e = 1\neffect e\n",
-            more.as_str(),
-            "end\neffect f\n",
-            unknown.as_str(),
-            "end\neffect e\nlog 1\nend\n",
+            ("cell e = 1\neffect e\n", 1),
+            ("log 1\n", 65),
+            ("end\neffect f\n", 1),
+            ("log zz\n", 65),
+            ("end\neffect e\nlog 1\nend\n", 1),
         ],
         "error 5 body\nerror 5 body\nerror 3 e\n",
     )
@@ -146,29 +142,27 @@ fn bounds_a_host_formula(rt: HostRuntime) -> Result<(), Fail> {
 #[test]
 fn bounds_a_row(rt: HostRuntime) -> Result<(), Fail> {
     let alloc = rt.alloc();
-    let key = repeated(alloc, "k", 1024)?;
-    let key = key.as_str();
-    assert_joined(
+    assert_repeated(
         &rt,
         alloc,
         &[
-            "list l (n)\ninsert l 0 \"",
-            key,
-            "\" (1)\ninsert l 1 \"",
-            key,
-            "k\" (1)\nremove l \"",
-            key,
-            "k\"\nmove l \"",
-            key,
-            "k\" 0\nput l \"",
-            key,
-            "k\" n 1\ninsert zz 0 \"",
-            key,
-            "k\" (1)\nmove l \"",
-            key,
-            "\" 1\nput l \"",
-            key,
-            "\" n 7\ncomputed s = sum(l, it.n)\nget s\n",
+            ("list l (n)\ninsert l 0 \"", 1),
+            ("k", 1024),
+            ("\" (1)\ninsert l 1 \"", 1),
+            ("k", 1025),
+            ("\" (1)\nremove l \"", 1),
+            ("k", 1025),
+            ("\"\nmove l \"", 1),
+            ("k", 1025),
+            ("\" 0\nput l \"", 1),
+            ("k", 1025),
+            ("\" n 1\ninsert zz 0 \"", 1),
+            ("k", 1025),
+            ("\" (1)\nmove l \"", 1),
+            ("k", 1024),
+            ("\" 1\nput l \"", 1),
+            ("k", 1024),
+            ("\" n 7\ncomputed s = sum(l, it.n)\nget s\n", 1),
         ],
         "error 5 text\nerror 5 text\nerror 5 text\nerror 5 text\nerror 5 text\nerror 11 1\ns = 7\n",
     )?;

@@ -53,49 +53,68 @@ pub(crate) fn assert_joined(
     assert_prints(rt, alloc, script.as_str(), output)
 }
 
-// `flush` with so many blanks behind it that the line has this many bytes.
-fn flush_of(alloc: Global, length: u32) -> Result<String, AllocError> {
-    let blanks = repeated(alloc, " ", length.saturating_sub(5))?;
-    format!(in alloc; "flush{blanks}\n")
+/// Runs the script of these texts, each so often, which is to print this.
+pub(crate) fn assert_repeated(
+    rt: &impl Abort,
+    alloc: Global,
+    pieces: &[(&str, u32)],
+    output: &str,
+) -> Result<(), Fail> {
+    let mut script = String::new(alloc);
+    for piece in pieces {
+        for _ in 0..piece.1 {
+            script.push_str(piece.0)?;
+        }
+    }
+    assert_prints(rt, alloc, script.as_str(), output)
 }
 
 #[test]
 fn bounds_a_line(rt: HostRuntime) -> Result<(), Fail> {
     let alloc = rt.alloc();
-    let longest = flush_of(alloc, 4096)?;
-    let longer = flush_of(alloc, 4097)?;
-    let comment = repeated(alloc, "-", 4095)?;
-    let name = repeated(alloc, "a", 4093)?;
-    let number = repeated(alloc, "1", 4092)?;
-    assert_prints(&rt, alloc, longest.as_str(), "")?;
-    assert_prints(&rt, alloc, longer.as_str(), "error 5 line\n")?;
-    assert_joined(&rt, alloc, &["get ", name.as_str(), "\n"], "error 5 line\n")?;
-    // a block with such a line, also one without its end
-    assert_joined(
+    assert_repeated(&rt, alloc, &[("flush", 1), (" ", 4091), ("\n", 1)], "")?;
+    assert_repeated(
         &rt,
         alloc,
-        &["template t\ntext\n", longer.as_str(), "end\nget t"],
+        &[("flush", 1), (" ", 4092), ("\n", 1)],
+        "error 5 line\n",
+    )?;
+    assert_repeated(
+        &rt,
+        alloc,
+        &[("get ", 1), ("a", 4093), ("\n", 1)],
+        "error 5 line\n",
+    )?;
+    // a block with such a line, also one without its end
+    assert_repeated(
+        &rt,
+        alloc,
+        &[
+            ("template t\ntext\nflush", 1),
+            (" ", 4092),
+            ("\nend\nget t", 1),
+        ],
         "error 5 line\nerror 2 t\n",
     )?;
-    assert_joined(
+    assert_repeated(
         &rt,
         alloc,
-        &["template t\n", longer.as_str()],
+        &[("template t\nflush", 1), (" ", 4092), ("\n", 1)],
         "error 5 line\n",
     )?;
     // before a line of the block that says nothing
-    assert_joined(
+    assert_repeated(
         &rt,
         alloc,
-        &["template t\ntext ", number.as_str(), "\nfoo\nend\n"],
+        &[("template t\ntext ", 1), ("1", 4092), ("\nfoo\nend\n", 1)],
         "error 5 line\n",
     )?;
     // a passed-over line has any length
-    assert_joined(&rt, alloc, &["#", comment.as_str(), "\n"], "")?;
-    assert_joined(
+    assert_repeated(&rt, alloc, &[("#", 1), ("-", 4095), ("\n", 1)], "")?;
+    assert_repeated(
         &rt,
         alloc,
-        &["#", comment.as_str(), "-\nget a"],
+        &[("#", 1), ("-", 4096), ("\nget a", 1)],
         "error 2 a\n",
     )
 }
@@ -103,72 +122,73 @@ fn bounds_a_line(rt: HostRuntime) -> Result<(), Fail> {
 #[test]
 fn bounds_a_text(rt: HostRuntime) -> Result<(), Fail> {
     let alloc = rt.alloc();
-    let longest = repeated(alloc, "\u{a0}", 512)?;
-    let letters = repeated(alloc, "z", 1024)?;
-    assert_joined(
+    assert_repeated(
         &rt,
         alloc,
         &[
-            "cell c = \"",
-            letters.as_str(),
-            "\"\ncomputed x = c ++ \"y\"\nget x\n",
+            ("cell c = \"", 1),
+            ("z", 1024),
+            ("\"\ncomputed x = c ++ \"y\"\nget x\n", 1),
         ],
         "x ! long\n",
     )?;
-    assert_joined(
+    assert_repeated(
         &rt,
         alloc,
-        &["cell c = \"", letters.as_str(), "z\"\n"],
+        &[("cell c = \"", 1), ("z", 1025), ("\"\n", 1)],
         "error 5 text\n",
     )?;
     // it is counted in bytes
-    assert_joined(
+    assert_repeated(
         &rt,
         alloc,
         &[
-            "cell c = \"",
-            longest.as_str(),
-            "\"\ncomputed x = c ++ \"\"\ncomputed y = c ++ \"y\"\ncomputed z = x == c\nget z\nget y",
+            ("cell c = \"", 1),
+            ("\u{a0}", 512),
+            (
+                "\"\ncomputed x = c ++ \"\"\ncomputed y = c ++ \"y\"\ncomputed z = x == c\nget z\nget y",
+                1,
+            ),
         ],
         "z = true\ny ! long\n",
     )?;
-    assert_joined(
+    assert_repeated(
         &rt,
         alloc,
         &[
-            "cell c = \"",
-            longest.as_str(),
-            "y\"\nset c \"",
-            longest.as_str(),
-            "y\"\ncomputed x = 1 ++ \"",
-            longest.as_str(),
-            "y\"",
+            ("cell c = \"", 1),
+            ("\u{a0}", 512),
+            ("y\"\nset c \"", 1),
+            ("\u{a0}", 512),
+            ("y\"\ncomputed x = 1 ++ \"", 1),
+            ("\u{a0}", 512),
+            ("y\"", 1),
         ],
         "error 5 text\nerror 5 text\nerror 5 text\n",
     )?;
     // also as the value of a row
-    assert_joined(
+    assert_repeated(
         &rt,
         alloc,
         &[
-            "list l (t)\ninsert l 0 \"k\" (\"",
-            letters.as_str(),
-            "z\")\ninsert l 0 \"k\" (\"",
-            letters.as_str(),
-            "\")\nput l \"k\" t \"",
-            letters.as_str(),
-            "z\"\ncomputed n = count(l)\nget n\n",
+            ("list l (t)\ninsert l 0 \"k\" (\"", 1),
+            ("z", 1025),
+            ("\")\ninsert l 0 \"k\" (\"", 1),
+            ("z", 1024),
+            ("\")\nput l \"k\" t \"", 1),
+            ("z", 1025),
+            ("\"\ncomputed n = count(l)\nget n\n", 1),
         ],
         "error 5 text\nerror 5 text\nn = 1\n",
     )?;
     // a text that is too long comes after an `untrack` on a later line
-    assert_joined(
+    assert_repeated(
         &rt,
         alloc,
         &[
-            "template t\ntext \"",
-            longest.as_str(),
-            "y\"\ntext untrack(1)\nend",
+            ("template t\ntext \"", 1),
+            ("\u{a0}", 512),
+            ("y\"\ntext untrack(1)\nend", 1),
         ],
         "error 15 3\n",
     )
@@ -192,8 +212,6 @@ fn bounds_a_formula(rt: HostRuntime) -> Result<(), Fail> {
     let cells = numbered(alloc, 65, "cell c", " = 1\n")?;
     let most = sum_of(alloc, 64)?;
     let more = sum_of(alloc, 65)?;
-    let highest = repeated(alloc, "not ", 63)?;
-    let higher = repeated(alloc, "not ", 64)?;
     assert_joined(
         &rt,
         alloc,
@@ -206,16 +224,16 @@ fn bounds_a_formula(rt: HostRuntime) -> Result<(), Fail> {
         &[cells.as_str(), more.as_str(), "get s"],
         "error 5 sources\nerror 2 s\n",
     )?;
-    assert_joined(
+    assert_repeated(
         &rt,
         alloc,
-        &["computed x = ", highest.as_str(), "true\nget x\n"],
+        &[("computed x = ", 1), ("not ", 63), ("true\nget x\n", 1)],
         "x = false\n",
     )?;
-    assert_joined(
+    assert_repeated(
         &rt,
         alloc,
-        &["computed x = ", higher.as_str(), "true\nget x\n"],
+        &[("computed x = ", 1), ("not ", 64), ("true\nget x\n", 1)],
         "error 19 1\nerror 2 x\n",
     )
 }
@@ -223,30 +241,32 @@ fn bounds_a_formula(rt: HostRuntime) -> Result<(), Fail> {
 #[test]
 fn bounds_a_template(rt: HostRuntime) -> Result<(), Fail> {
     let alloc = rt.alloc();
-    let most = repeated(alloc, "text 1\n# a comment\n", 128)?;
-    let more = repeated(alloc, "text 1\n", 129)?;
-    assert_joined(
-        &rt,
-        alloc,
-        &["template t\n", most.as_str(), "end\nget t"],
-        "error 4 t\n",
-    )?;
-    assert_joined(
-        &rt,
-        alloc,
-        &["template t\n", more.as_str(), "end\nget t"],
-        "error 5 template\nerror 2 t\n",
-    )?;
-    // at the block's end, and before names
-    assert_joined(
+    assert_repeated(
         &rt,
         alloc,
         &[
-            "cell t = 1\ntemplate t\n",
-            more.as_str(),
-            "text untrack(1)\nend\ntemplate t\n",
-            more.as_str(),
-            "text a\nend",
+            ("template t\n", 1),
+            ("text 1\n# a comment\n", 128),
+            ("end\nget t", 1),
+        ],
+        "error 4 t\n",
+    )?;
+    assert_repeated(
+        &rt,
+        alloc,
+        &[("template t\n", 1), ("text 1\n", 129), ("end\nget t", 1)],
+        "error 5 template\nerror 2 t\n",
+    )?;
+    // at the block's end, and before names
+    assert_repeated(
+        &rt,
+        alloc,
+        &[
+            ("cell t = 1\ntemplate t\n", 1),
+            ("text 1\n", 129),
+            ("text untrack(1)\nend\ntemplate t\n", 1),
+            ("text 1\n", 129),
+            ("text a\nend", 1),
         ],
         "error 15 132\nerror 5 template\n",
     )
@@ -328,20 +348,11 @@ fn bounds_what_is_made(rt: HostRuntime) -> Result<(), Fail> {
     )
 }
 
-// A template of elements in one another, so many.
-fn nested(alloc: Global, count: u32) -> Result<String, AllocError> {
-    let tags = repeated(alloc, "tag @b\n", count)?;
-    let ends = repeated(alloc, "end\n", count)?;
-    format!(in alloc; "template t\n{tags}{ends}end\n")
-}
-
 #[test]
 fn bounds_lists_and_elements(rt: HostRuntime) -> Result<(), Fail> {
     let alloc = rt.alloc();
     let rows = numbered(alloc, 512, "insert l 0 \"k", "\" (1)\n")?;
     let fields = numbered(alloc, 8, "f", ", ")?;
-    let deep = nested(alloc, 31)?;
-    let deeper = nested(alloc, 32)?;
     assert_joined(
         &rt,
         alloc,
@@ -365,25 +376,36 @@ fn bounds_lists_and_elements(rt: HostRuntime) -> Result<(), Fail> {
         ],
         "error 5 fields\nerror 1 2\nerror 2 l\n",
     )?;
-    assert_prints(&rt, alloc, deep.as_str(), "")?;
-    assert_prints(&rt, alloc, deeper.as_str(), "error 19 33\n")
-}
-
-// An effect of such lines in one another, so many.
-fn body_of(alloc: Global, line: &str, count: u32) -> Result<String, AllocError> {
-    let lines = repeated(alloc, line, count)?;
-    let ends = repeated(alloc, "end\n", count)?;
-    format!(in alloc; "effect e\n{lines}{ends}end\nget e\n")
+    assert_repeated(
+        &rt,
+        alloc,
+        &[("template t\n", 1), ("tag @b\n", 31), ("end\n", 32)],
+        "",
+    )?;
+    assert_repeated(
+        &rt,
+        alloc,
+        &[("template t\n", 1), ("tag @b\n", 32), ("end\n", 33)],
+        "error 19 33\n",
+    )
 }
 
 #[test]
 fn bounds_levels(rt: HostRuntime) -> Result<(), Fail> {
     let alloc = rt.alloc();
     for line in ["when true\n", "effect\n"] {
-        let deep = body_of(alloc, line, 31)?;
-        let deeper = body_of(alloc, line, 32)?;
-        assert_prints(&rt, alloc, deep.as_str(), "error 4 e\n")?;
-        assert_prints(&rt, alloc, deeper.as_str(), "error 19 33\nerror 2 e\n")?;
+        assert_repeated(
+            &rt,
+            alloc,
+            &[("effect e\n", 1), (line, 31), ("end\n", 32), ("get e\n", 1)],
+            "error 4 e\n",
+        )?;
+        assert_repeated(
+            &rt,
+            alloc,
+            &[("effect e\n", 1), (line, 32), ("end\n", 33), ("get e\n", 1)],
+            "error 19 33\nerror 2 e\n",
+        )?;
     }
     Ok(())
 }
