@@ -11,7 +11,7 @@ use Rattle.signal_model.specs.Memos.{Memo, Memos, Entry, entry_at, holds_cycle, 
 use Rattle.signal_model.proofs.Shared.{tested}
 use Rattle.sig_marks.specs.Tables.{Drops, MarkTable, Pushes, Relinks, Spreads, depends, marked_at, with_place}
 use Rattle.std.specs.List.{All}
-use Rattle.sig_nodes.specs.Search.{is_flagged, is_marked, search_unmarks, some_flagged, some_marked_at, stays_marked, stop_unmarks_by, Explores}
+use Rattle.sig_nodes.specs.Search.{is_seated, search_unmarks, some_marked_at, some_seated, stays_marked, stop_unmarks_by, Reaches}
 use Rattle.sig_marks.proofs.Shared.{all_in, depends_end, depends_past, mark_end, mark_past, mark_set, mark_set_len}
 use Rattle.mark_laws.proofs.Shared.{marked_spread}
 use Rattle.mark_laws.specs.Marked.{AreMarked, HasSpread, IsSearched, IsUnmarked, IsUnused, ended, relinked, run_unmarks, some_marked, stop_unmarks, unlinked, without_marks}
@@ -25,7 +25,8 @@ use Rattle.sig_nodes.proofs.KeptFinds.{known_found}
 use Rattle.sig_nodes.proofs.Parts.{entry_found, memo_found, progress_found, stands}
 use Rattle.sig_nodes.proofs.Edits.{body_changed, body_past, changed_length, gone_state, known_state, memo_made, new_state, rewired_state, run_state, set_state}
 use Rattle.sig_nodes.proofs.Holding.{computed_below, computed_here, computed_live, computing_here, known_holds, live_here}
-use Rattle.sig_nodes.proofs.FlaggedSeats.{flagged_at, flagged_is, named_holder, HasFlagged}
+use Rattle.sig_nodes.proofs.ReachedSeats.{named_holder, seated_at, seated_is, HasSeated}
+use Rattle.sig_nodes.proofs.Reaching.{clear_end}
 use Rattle.sig_nodes.proofs.Searching.{calm_run}
 use Rattle.sig_nodes.specs.Places.{Holds, IsGraph, KeepsMarks}
 use Rattle.sig_nodes.specs.StateMarks.{AreStateMarks}
@@ -314,17 +315,17 @@ gone_kept n xs gen t dss us live spread drop h =
         let old : ((m == n) ≡ false) × (is_there (standing (signals_of xs) m) ≡ true) = was m s in
         drop.now m d old.0 ∙ by m d old.1 (tested (n == d))
 
--- a signal whose mark goes after a search with these flags
-record IsThrough (xs : List Node) (seen : List Bool) (holders : List (Option ℕ)) (m : ℕ) : Type 0 where
-  none : some_flagged (stays_marked xs) seen holders ≡ false
+-- a signal whose mark goes after a search that came to these seats
+record IsThrough (xs : List Node) (ss : List ℕ) (holders : List (Option ℕ)) (m : ℕ) : Type 0 where
+  none : some_seated (stays_marked xs) ss holders ≡ false
   has : holder holders (seat_at xs m) ≡ Some m
-  up : is_marked seen (seat_at xs m) ≡ true
+  listed : is_in (seat_at xs m) ss ≡ true
 
 -- a search that found nothing that must run
-pub searched_kept : (xs : List Node) (seats : Seating) (gen w n : ℕ) (t : MarkTable) (old seen us : List Bool) → Holds xs seats gen w → ((s : ℕ) → is_marked old s ≡ false) →
-    Explores xs t.marked gen old seen (n ∷ []) → length us ≡ length t.marked → ((m : ℕ) → marked_at us m ≡ without_marks (marked_at t.marked) (search_unmarks xs seen seats.holders) m) →
+pub searched_kept : (xs : List Node) (seats : Seating) (gen w : ℕ) (t : MarkTable) (ss : List ℕ) (us : List Bool) → Holds xs seats gen w →
+    Reaches xs t.marked gen ss [] → length us ≡ length t.marked → ((m : ℕ) → marked_at us m ≡ without_marks (marked_at t.marked) (search_unmarks xs ss seats.holders) m) →
     KeepsMarks xs gen t → KeepsMarks xs gen (record { dependants = t.dependants; marked = us })
-searched_kept xs seats gen w n t old seen us holds down e size marks h = record {
+searched_kept xs seats gen w t ss us holds e size marks h = record {
   links = h.links;
   flags = size ∙ h.flags;
   marked = same_marks (signals_of xs) (memos_of gen xs) (depends t.dependants) (without_marks (marked_at t.marked) gone) (marked_at us) (is_computing (state_of xs gen 0 0)) marks
@@ -332,24 +333,24 @@ searched_kept xs seats gen w n t old seen us holds down e size marks h = record 
 }
   where
     gone : ℕ → Bool
-    gone = search_unmarks xs seen seats.holders
+    gone = search_unmarks xs ss seats.holders
 
-    through : (m : ℕ) → gone m ≡ true → IsThrough xs seen seats.holders m
-    through m q = go (tested (some_flagged (stays_marked xs) seen seats.holders))
+    through : (m : ℕ) → gone m ≡ true → IsThrough xs ss seats.holders m
+    through m q = go (tested (some_seated (stays_marked xs) ss seats.holders))
       where
-        go : (some_flagged (stays_marked xs) seen seats.holders ≡ true) ⊎ (some_flagged (stays_marked xs) seen seats.holders ≡ false) → IsThrough xs seen seats.holders m
-        go (inl on) = absurd (true≢false (sym q ∙ ap (λ b. not b && is_flagged seen seats.holders m) on))
+        go : (some_seated (stays_marked xs) ss seats.holders ≡ true) ⊎ (some_seated (stays_marked xs) ss seats.holders ≡ false) → IsThrough xs ss seats.holders m
+        go (inl on) = absurd (true≢false (sym q ∙ ap (λ b. not b && is_seated ss seats.holders m) on))
         go (inr off) =
-            let x : HasFlagged (λ k. k == m) seen seats.holders = flagged_at (λ k. k == m) seen seats.holders (sym (ap (λ b. not b && is_flagged seen seats.holders m) off) ∙ q) in
+            let x : HasSeated (λ k. k == m) ss seats.holders = seated_at (λ k. k == m) ss seats.holders (sym (ap (λ b. not b && is_seated ss seats.holders m) off) ∙ q) in
             let at : seat_at xs m ≡ x.seat = (holds.living x.seat m (named_holder (holder seats.holders x.seat) m x.passes)).1 in
-            record { none = off; has = ap (holder seats.holders) at ∙ named_holder (holder seats.holders x.seat) m x.passes; up = ap (is_marked seen) at ∙ x.up }
+            record { none = off; has = ap (holder seats.holders) at ∙ named_holder (holder seats.holders x.seat) m x.passes; listed = ap (λ s. is_in s ss) at ∙ x.listed }
 
     -- it keeps no mark
     free : (m : ℕ) → gone m ≡ true → stays_marked xs m ≡ false
     free m q = go (tested (stays_marked xs m))
       where
         go : (stays_marked xs m ≡ true) ⊎ (stays_marked xs m ≡ false) → stays_marked xs m ≡ false
-        go (inl on) = let x : IsThrough xs seen seats.holders m = through m q in absurd (true≢false (sym (flagged_is (stays_marked xs) seen seats.holders (seat_at xs m) m x.up x.has on) ∙ x.none))
+        go (inl on) = let x : IsThrough xs ss seats.holders m = through m q in absurd (true≢false (sym (seated_is (stays_marked xs) ss seats.holders (seat_at xs m) m x.listed x.has on) ∙ x.none))
         go (inr off) = off
 
     neither : (a b : Bool) → (a || b) ≡ false → (a ≡ false) × (b ≡ false)
@@ -359,12 +360,12 @@ searched_kept xs seats gen w n t old seen us holds down e size marks h = record 
     searched : IsSearched (signals_of xs) (memos_of gen xs) (marked_at t.marked) (is_computing (state_of xs gen 0 0)) gone
     searched = record {
       idle = λ m q. ap is_some (progress_found xs m) ∙ (neither (is_some (known_body (body_at xs m))) (memo_is_cycle (memo_body (body_at xs m))) (free m q)).0;
-      calm = λ m c q. calm_run xs gen m (computed_here xs m c) (e.calm m (computed_here xs m c) (down (seat_at xs m)) (through m q).up);
+      calm = λ m c q. calm_run xs gen m (computed_here xs m c) (e.calm m (computed_here xs m c) (through m q).listed);
       fine = λ m c q. ap memo_is_cycle (memo_found xs gen m) ∙ (neither (is_some (known_body (body_at xs m))) (memo_is_cycle (memo_body (body_at xs m))) (free m q)).1;
       closed = λ m p c q k d on.
-          let up : is_marked seen (seat_at xs p) ≡ true = e.closed m p (computed_here xs m c) (down (seat_at xs m)) (through m q).up k (computed_here xs p d) on in
+          let listed : is_in (seat_at xs p) ss ≡ true = clear_end xs t.marked gen ss m p e (computed_here xs m c) (through m q).listed k (computed_here xs p d) on in
           let has : holder seats.holders (seat_at xs p) ≡ Some p = holds.seated p (computed_live (body_at xs p) (computed_here xs p d)) in
-          (λ i. not ((through m q).none i) && flagged_is (λ j. j == p) seen seats.holders (seat_at xs p) p up has (eq-eqb p p refl) i);
+          (λ i. not ((through m q).none i) && seated_is (λ j. j == p) ss seats.holders (seat_at xs p) p listed has (eq-eqb p p refl) i);
     }
 
 -- a making, of what isn't marked if it is a cell, and is if it is a computed

@@ -5,7 +5,8 @@ pub mod Seating
 pub mod Holding
 pub mod Looking
 pub mod Searching
-mod FlaggedSeats
+mod ReachedSeats
+mod Reaching
 pub mod Using
 pub mod Shared
 mod Found

@@ -76,7 +76,7 @@ due_found xs g n =
 
 -- ---- flags
 
-set_here : (t : List Bool) (d : ℕ) → d < length t → is_marked (slice_set t d true) d ≡ true
+pub set_here : (t : List Bool) (d : ℕ) → d < length t → is_marked (slice_set t d true) d ≡ true
 set_here [] d h = absurd (omega arith)
 set_here (x ∷ xs) zero h = refl
 set_here (x ∷ xs) (suc d) h = let l : d < length xs = omega arith in set_here xs d l

@@ -56,7 +56,7 @@ holder_set hs s k h l = go (tested (s == k))
 
 -- ---- lists without repetition
 
-in_more : (s : ℕ) (xs : List ℕ) (y : ℕ) → is_in s (xs ++ y ∷ []) ≡ (is_in s xs || (s == y))
+pub in_more : (s : ℕ) (xs : List ℕ) (y : ℕ) → is_in s (xs ++ y ∷ []) ≡ (is_in s xs || (s == y))
 in_more s [] y = go (s == y)
   where
     go : (b : Bool) → (b || false) ≡ b

@@ -5,6 +5,8 @@ use Rattle.signal_model.specs.Memos.{Memo, keeps, memo_is_cycle, must_run_by, so
 use Rattle.sig_marks.specs.Tables.{marked_at}
 use Rattle.signal_model.specs.Marks.{HasBelow, is_due}
 use Rattle.sig_nodes.specs.declared.node.Node.{Node}
+use Rattle.sig_base.specs.declared.limits.TheConstants.{MOST_NODES}
+use Rattle.sig_nodes.specs.Seats.{holder}
 use Rattle.sig_nodes.specs.Nodes.{body_at, is_computed_body, known_body, memo_body, memos_of, seat_at, signals_of}
 
 -- whether the flag of a seat is up
@@ -18,15 +20,14 @@ abbrev pub of_holder : (ℕ → Bool) → Option ℕ → Bool
 of_holder f None = false
 of_holder f (Some n) = f n
 
--- whether one of those whose flags are up passes a test
-abbrev pub some_flagged : (ℕ → Bool) → List Bool → List (Option ℕ) → Bool
-some_flagged f [] hs = false
-some_flagged f (t ∷ ts) [] = false
-some_flagged f (t ∷ ts) (h ∷ hs) = (t && of_holder f h) || some_flagged f ts hs
+-- whether one of those who have these seats passes a test
+abbrev pub some_seated : (ℕ → Bool) → List ℕ → List (Option ℕ) → Bool
+some_seated f [] hs = false
+some_seated f (s ∷ ss) hs = of_holder f (holder hs s) || some_seated f ss hs
 
 -- whether this one is among them
-abbrev pub is_flagged : List Bool → List (Option ℕ) → ℕ → Bool
-is_flagged ts hs n = some_flagged (λ m. m == n) ts hs
+abbrev pub is_seated : List ℕ → List (Option ℕ) → ℕ → Bool
+is_seated ss hs n = some_seated (λ m. m == n) ss hs
 
 -- how many flags are down
 abbrev pub unmarked : List Bool → ℕ
@@ -60,9 +61,9 @@ stop_unmarks_by xs g t m = not (must_run_by (memos_of g xs) m []) && (not (memo_
 abbrev pub stays_marked : List Node → ℕ → Bool
 stays_marked xs n = is_some (known_body (body_at xs n)) || memo_is_cycle (memo_body (body_at xs n))
 
--- whether a search with these flags takes the mark of a signal: it went through it, and through none that keeps its mark
-abbrev pub search_unmarks : List Node → List Bool → List (Option ℕ) → ℕ → Bool
-search_unmarks xs ts hs n = not (some_flagged (stays_marked xs) ts hs) && is_flagged ts hs n
+-- whether a search that came to these seats takes the mark of a signal: it came to it, and to none that keeps its mark
+abbrev pub search_unmarks : List Node → List ℕ → List (Option ℕ) → ℕ → Bool
+search_unmarks xs ss hs n = not (some_seated (stays_marked xs) ss hs) && is_seated ss hs n
 
 -- each computed has its own flag among so many
 pub record AreSeated (xs : List Node) (count : ℕ) : Type 0 where
@@ -83,3 +84,37 @@ pub record Explores (xs : List Node) (t : List Bool) (g : ℕ) (old new : List B
       is_marked new (seat_at xs m) ≡ true → keeps (memos_of g xs) m p ≡ true →
       is_computed_body (body_at xs p) ≡ true → marked_at t p ≡ true → is_marked new (seat_at xs p) ≡ true
   pub fewer : unmarked new ≤ unmarked old
+
+-- Flags that are up for exactly these seats, each of which is listed once; there is room for all that are down.
+pub record AreReached (flags : List Bool) (seats : List ℕ) (capacity : ℕ) : Type 0 where
+  pub size : length flags ≡ MOST_NODES
+  pub up : (s : ℕ) → is_marked flags s ≡ is_in s seats
+  pub count : length seats + unmarked flags ≡ MOST_NODES
+  pub room : MOST_NODES ≤ capacity
+
+-- whether a marked computed stands there whose seat is none of these
+abbrev pub is_new : List Node → List Bool → List ℕ → ℕ → Bool
+is_new xs t ss n = marked_at t n && (is_computed_body (body_at xs n) && not (is_in (seat_at xs n) ss))
+
+-- the first such one
+abbrev pub first_new : List Node → List Bool → List ℕ → List ℕ → Option ℕ
+first_new xs t ss [] = None
+first_new xs t ss (n ∷ ns) = if is_new xs t ss n then Some n else first_new xs t ss ns
+
+-- A search came to these seats, and is still to go on from the computeds on its trail: none of those who have the seats must run, and but for
+-- those on the trail each keeps only marked computeds whose seats it came to.
+pub record Reaches (xs : List Node) (t : List Bool) (g : ℕ) (seats trail : List ℕ) : Type 0 where
+  pub calm : (m : ℕ) → is_computed_body (body_at xs m) ≡ true → is_in (seat_at xs m) seats ≡ true → is_due_at xs g m ≡ false
+  pub closed : (m p : ℕ) → is_computed_body (body_at xs m) ≡ true → is_in (seat_at xs m) seats ≡ true → keeps (memos_of g xs) m p ≡ true →
+      is_computed_body (body_at xs p) ≡ true → marked_at t p ≡ true → (is_in (seat_at xs p) seats ≡ true) ⊎ (is_in m trail ≡ true)
+
+-- A trail leads from a computed back to where it began: each on it is kept by the one behind it.
+abbrev pub IsWay : List Node → ℕ → ℕ → List ℕ → Type 0
+IsWay xs g root [] = Unit {0}
+IsWay xs g root (n ∷ []) = n ≡ root
+IsWay xs g root (n ∷ m ∷ ms) = (keeps (memos_of g xs) m n ≡ true) × IsWay xs g root (m ∷ ms)
+
+-- each of these, or something below it, must run
+abbrev pub AreDue : List Node → ℕ → List ℕ → Type 0
+AreDue xs g [] = Unit {0}
+AreDue xs g (n ∷ ns) = HasDue xs g n × AreDue xs g ns

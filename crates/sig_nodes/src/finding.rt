@@ -9,9 +9,9 @@ ghost use Rattle.sig_nodes.specs.States.{is_computing, with_look, Becomes};
 use crate::answers::{Mark, Standing};
 use crate::evaluation::counted;
 use crate::graph::Graph;
-use crate::marks::searched_mark;
-use crate::unmarking::unmark_seen;
-use sig_base::{MOST_NODES, NodeId};
+use crate::search::search;
+use crate::unmarking::unmark_reached;
+use sig_base::NodeId;
 
 /// What a look at an id finds.
 #[derive(Clone, Copy, Debug, PartialEq, Eq)]
@@ -54,8 +54,9 @@ fn found(graph: &mut Graph, id: NodeId) -> Look
 }
 
 impl Graph {
-    // The mark of a computed. A search that found nothing that must run takes the marks of all that it went through, if it may.
-    fn mark_found(&mut self, id: NodeId) -> Mark
+    /// The mark of a computed, as `mark_of` tells it, by a search in tables that the graph has. A search that found nothing that must run
+    /// takes the marks of all that it went through, if it may. It is no counted step, and takes no memory.
+    pub fn mark_found(&mut self, id: NodeId) -> Mark
         requires { is_computed (standing self.old.state.signals id) ≡ true }
         ensures mark { mark_meant result ≡ mark_of self.old.state.signals self.old.state.memos id }
         ensures same { self.new ≡ self.old }
@@ -64,18 +65,23 @@ impl Graph {
         if !self.marks.is_marked(id) {
             return Mark::Clean;
         }
-        let mut seen = [false; MOST_NODES];
-        match searched_mark(
+        match search(
             &self.nodes,
             self.generation,
             self.worn,
             &self.marks,
             id,
-            &mut seen,
+            &mut self.reached,
+            &mut self.trail,
             &mut self.finds,
         ) {
             Mark::Clean => {
-                unmark_seen(&self.nodes, &self.seats, &mut self.marks, &seen);
+                unmark_reached(
+                    &self.nodes,
+                    &self.seats,
+                    &mut self.marks,
+                    self.reached.seats(),
+                );
                 Mark::Clean
             }
             mark => mark,

@@ -14,8 +14,10 @@ use crate::bodies::{host_at, is_computed, is_linkable_at, is_live_at, seat_at, s
 use crate::errors::NodeFault;
 use crate::finds::Finds;
 use crate::node::{Body, Computation, Node};
+use crate::reached::Reached;
 use crate::seats::{Seats, push_in};
 use crate::store::{dispose_at, rewire_at, set_value_at};
+use crate::trail::Trail;
 use sig_base::{MOST_NODES, NoMemory, NodeId, Value};
 use sig_marks::Marks;
 use std::alloc::Global;
@@ -31,6 +33,8 @@ pub struct Graph {
     pub(crate) worn: u128,
     pub(crate) marks: Marks,
     pub(crate) finds: Finds,
+    pub(crate) reached: Reached,
+    pub(crate) trail: Trail,
 }
 
 impl Drop for Graph {
@@ -44,6 +48,8 @@ impl Drop for Graph {
             worn: _,
             marks: _,
             finds: _,
+            reached: _,
+            trail: _,
         } = self;
     }
 }
@@ -81,6 +87,8 @@ impl Graph {
             worn: 0,
             marks: Marks::new(alloc),
             finds: Finds::new(alloc)?,
+            reached: Reached::new(alloc)?,
+            trail: Trail::new(alloc)?,
         })
     }
 

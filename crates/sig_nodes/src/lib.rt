@@ -12,8 +12,11 @@ mod looks;
 mod marking;
 mod marks;
 mod node;
+mod reached;
+mod search;
 mod seats;
 mod store;
+mod trail;
 mod unmarking;
 
 pub use answers::{Asked, Mark, Recipe, Standing};

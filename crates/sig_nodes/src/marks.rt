@@ -48,8 +48,8 @@ pub(crate) fn must_run(nodes: &[Node], generation: u128, computation: &Computati
     !computation.holds_cycle() && some_moved(nodes, computation)
 }
 
-// Whether a computed stands there that must run.
-fn is_due(nodes: &[Node], generation: u128, id: NodeId) -> bool
+/// Whether a computed stands there that must run.
+pub(crate) fn is_due(nodes: &[Node], generation: u128, id: NodeId) -> bool
     ensures { result ≡ is_due_at nodes.now generation id }
 {
     match computation_at(nodes, id) {
@@ -58,8 +58,8 @@ fn is_due(nodes: &[Node], generation: u128, id: NodeId) -> bool
     }
 }
 
-// The seat of a computed, none where no computed stands.
-fn computed_seat(nodes: &[Node], id: NodeId) -> Option<usize>
+/// The seat of a computed, none where no computed stands.
+pub(crate) fn computed_seat(nodes: &[Node], id: NodeId) -> Option<usize>
     ensures some { IfSome result (λ s. (is_computed_body (body_at nodes.now id) ≡ true) × (s ≡ seat_at nodes.now id)) }
     ensures none { IfNone result (is_computed_body (body_at nodes.now id) ≡ false) }
 {
@@ -69,8 +69,8 @@ fn computed_seat(nodes: &[Node], id: NodeId) -> Option<usize>
     }
 }
 
-// Whether it is told without a search that a computed, or something below it, must run: a search has found it, or it must run itself.
-fn is_told(
+/// Whether it is told without a search that a computed, or something below it, must run: a search has found it, or it must run itself.
+pub(crate) fn is_told(
     nodes: &[Node],
     generation: u128,
     worn: u128,

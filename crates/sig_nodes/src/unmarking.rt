@@ -1,8 +1,8 @@
 // The marks that a search takes which found nothing that must run.
-ghost use Rattle.std.specs.Prelude.{◌≡◌, ℕ, ◌<◌, ◌==◌, ◌&&◌, length, false, Some, if◌then◌else◌};
+ghost use Rattle.std.specs.Prelude.{◌≡◌, ℕ, ◌<◌, ◌==◌, length, false, Some, if◌then◌else◌};
 ghost use Rattle.mark_laws.specs.Marked.{without_marks};
 ghost use Rattle.sig_marks.specs.Tables.{marked_at};
-ghost use Rattle.sig_nodes.specs.Search.{is_flagged, is_marked, of_holder, search_unmarks, some_flagged, stays_marked};
+ghost use Rattle.sig_nodes.specs.Search.{is_seated, of_holder, search_unmarks, some_seated, stays_marked};
 ghost use Rattle.sig_nodes.specs.Seats.{holder};
 
 use crate::bodies::computation_at;
@@ -31,65 +31,53 @@ fn holder_stays(nodes: &[Node], seats: &Seats, seat: usize) -> bool
     }
 }
 
-// Whether the flag of a seat is up, and who has the seat keeps the mark.
-fn flagged_stays(nodes: &[Node], seats: &Seats, seen: &[bool], seat: usize) -> bool
-    requires { seat < length seen.now }
-    ensures { result ≡ (is_marked seen.now seat && of_holder (stays_marked nodes.now) (holder seats.now.holders seat)) }
+// Whether one of those who have these seats does.
+fn some_stays(nodes: &[Node], seats: &Seats, reached: &[usize]) -> bool
+    ensures { result ≡ some_seated (stays_marked nodes.now) reached.now seats.now.holders }
 {
-    seen[seat] && holder_stays(nodes, seats, seat)
-}
-
-// Whether one of all whose flags are up keeps the mark.
-fn some_stays(nodes: &[Node], seats: &Seats, seen: &[bool]) -> bool
-    ensures { result ≡ some_flagged (stays_marked nodes.now) seen.now seats.now.holders }
-{
-    for seat in 0..seen.len() {
-        if flagged_stays(nodes, seats, seen, seat) {
+    for seat in reached {
+        if holder_stays(nodes, seats, *seat) {
             return true;
         }
     }
     false
 }
 
-// Takes the mark of who has a seat, if its flag is up.
-fn unmark_flagged(seats: &Seats, marks: &mut Marks, seen: &[bool], seat: usize)
-    requires flag { seat < length seen.now }
-    requires place { (n : ℕ) → holder seats.now.holders seat ≡ Some n → n < length marks.old.marked }
+// Takes the mark of who has a seat.
+fn unmark_holder(seats: &Seats, marks: &mut Marks, seat: usize)
+    requires { (n : ℕ) → holder seats.now.holders seat ≡ Some n → n < length marks.old.marked }
     ensures marks { (n : ℕ) → marked_at marks.new.marked n ≡
-        (if is_marked seen.now seat && of_holder (λ m. m == n) (holder seats.now.holders seat) then false else marked_at marks.old.marked n) }
+        (if of_holder (λ m. m == n) (holder seats.now.holders seat) then false else marked_at marks.old.marked n) }
     ensures size { length marks.new.marked ≡ length marks.old.marked }
     ensures dependants { marks.new.dependants ≡ marks.old.dependants }
 {
-    if !seen[seat] {
-        return;
-    }
     if let Some(id) = seats.holder(seat) {
         marks.unmark(id);
     }
 }
 
-// Takes the marks of all whose flags are up.
-fn unmark_all(seats: &Seats, marks: &mut Marks, seen: &[bool])
+// Takes the marks of all who have these seats.
+fn unmark_all(seats: &Seats, marks: &mut Marks, reached: &[usize])
     requires { (seat n : ℕ) → holder seats.now.holders seat ≡ Some n → n < length marks.old.marked }
-    ensures marks { (n : ℕ) → marked_at marks.new.marked n ≡ without_marks (marked_at marks.old.marked) (is_flagged seen.now seats.now.holders) n }
+    ensures marks { (n : ℕ) → marked_at marks.new.marked n ≡ without_marks (marked_at marks.old.marked) (is_seated reached.now seats.now.holders) n }
     ensures size { length marks.new.marked ≡ length marks.old.marked }
     ensures dependants { marks.new.dependants ≡ marks.old.dependants }
 {
-    for seat in 0..seen.len() {
-        unmark_flagged(seats, marks, seen, seat);
+    for seat in reached {
+        unmark_holder(seats, marks, *seat);
     }
 }
 
-/// Takes the marks of all that a search went through, whose flags are up: of all, or where one of them is being evaluated or holds
-/// `cycle`, of none.
-pub(crate) fn unmark_seen(nodes: &[Node], seats: &Seats, marks: &mut Marks, seen: &[bool])
+/// Takes the marks of all whose seats a search came to: of all, or where one of them is being evaluated or holds `cycle`, of none.
+pub(crate) fn unmark_reached(nodes: &[Node], seats: &Seats, marks: &mut Marks, reached: &[usize])
     requires { (seat n : ℕ) → holder seats.now.holders seat ≡ Some n → n < length marks.old.marked }
-    ensures marks { (n : ℕ) → marked_at marks.new.marked n ≡ without_marks (marked_at marks.old.marked) (search_unmarks nodes.now seen.now seats.now.holders) n }
+    ensures marks { (n : ℕ) → marked_at marks.new.marked n ≡
+        without_marks (marked_at marks.old.marked) (search_unmarks nodes.now reached.now seats.now.holders) n }
     ensures size { length marks.new.marked ≡ length marks.old.marked }
     ensures dependants { marks.new.dependants ≡ marks.old.dependants }
 {
-    if some_stays(nodes, seats, seen) {
+    if some_stays(nodes, seats, reached) {
         return;
     }
-    unmark_all(seats, marks, seen);
+    unmark_all(seats, marks, reached);
 }

@@ -1,17 +1,18 @@
 use Rattle.std.proofs.Common.{◌<◌, sym, ◌∙◌, subst}
+use Rattle.std.specs.Prelude.{get_or}
 use Rattle.sig_marks.specs.Tables.{marked_at}
-use Rattle.sig_nodes.proofs.FlaggedSeats.{unmarked_step}
+use Rattle.sig_nodes.proofs.ReachedSeats.{unmarked_step}
 use Rattle.sig_nodes.proofs.unmarking.unmark_all.Goals as goal
 
-pub unmark_flagged-requires-clause-place : goal.unmark_flagged-requires-clause-place
-unmark_flagged-requires-clause-place c = λ n has. subst (λ l. n < l) (sym c.loop-seat.invariant.size) (c.requires c.loop-seat.seat n has)
+pub unmark_holder-requires : goal.unmark_holder-requires
+unmark_holder-requires c = λ n has. subst (λ l. n < l) (sym c.loop-seat.invariant.size) (c.requires (get_or c.args.reached.now c.loop-seat.seat-index 0) n has)
 
 pub loop-seat-preserved : goal.loop-seat-preserved
 loop-seat-preserved c =
-    let step = c.unmark_flagged.ensures in
+    let step = c.unmark_holder.ensures in
     let inv = c.loop-seat.invariant in
     record {
-      marks = λ n. unmarked_step c.args.seen.now c.args.seats.now.holders c.loop-seat.seat n (marked_at c.loop-seat.marks.marked) (marked_at c.unmark_flagged.new.marks.marked) (step.marks n) ∙ inv.marks n;
+      marks = λ n. unmarked_step c.args.reached.now c.args.seats.now.holders c.loop-seat.seat-index n (marked_at c.loop-seat.marks.marked) (marked_at c.unmark_holder.new.marks.marked) c.loop-seat-test.true (step.marks n) ∙ inv.marks n;
       size = step.size ∙ inv.size;
       dependants = step.dependants ∙ inv.dependants;
     }

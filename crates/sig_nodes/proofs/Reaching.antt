@@ -1,0 +1,368 @@
+-- A search that goes from one computed to the next.
+use Rattle.std.proofs.Common.{◌≡◌, ℕ, zero, suc, ◌+◌, ◌<◌, ◌≤◌, ◌==◌, ◌||◌, ◌&&◌, not, Bool, true, false, if◌then◌else◌, List, [], ◌∷◌, ◌++◌, length, length-append, drop, Option, Some, None, refl, sym, ap, ◌∙◌, subst, arith, ◌⊎◌, inl, inr, true≢false}
+use Rattle.std.specs.Prelude.{get_or, reverse, slice_set, slice_index_or, option_to_list, IfNone, IfSome, MatchOption}
+use Rattle.std.proofs.lemmas.List.{reverse-append}
+use Rattle.std.proofs.lemmas.Bool.{eqb-true, eq-eqb}
+use Rattle.sig_base.specs.declared.limits.TheConstants.{MOST_NODES}
+use Rattle.signal_model.specs.Standing.{is_in}
+use Rattle.signal_model.specs.Marks.{IsBelow, Clean, mark_of}
+use Rattle.signal_model.specs.Memos.{keeps, source_names, sources_in}
+use Rattle.signal_model.proofs.Shared.{either, mark_law, tested}
+use Rattle.mark_laws.proofs.Shared.{explored_law}
+use Rattle.sig_marks.specs.Tables.{MarkTable, depends, marked_at}
+use Rattle.sig_nodes.specs.declared.node.Node.{Node}
+use Rattle.sig_nodes.specs.Nodes.{body_at, is_computed_body, memo_body, memos_of, seat_at, signals_of, state_of}
+use Rattle.sig_nodes.specs.Places.{KeepsMarks}
+use Rattle.sig_nodes.specs.States.{is_computing}
+use Rattle.sig_nodes.specs.Search.{first_new, is_due_at, is_marked, is_new, unmarked, AreDue, AreReached, AreSeated, HasDue, IsWay, Reaches}
+use Rattle.sig_nodes.proofs.Holding.{computed_here}
+use Rattle.sig_nodes.proofs.Parts.{memo_found}
+use Rattle.sig_nodes.proofs.Searching.{calm_run, due_below, only_keep, set_fewer, set_here, set_size}
+use Rattle.sig_nodes.proofs.Seating.{in_more}
+
+-- ---- flags
+
+other_flag : (t : List Bool) (d s : ℕ) (b : Bool) → (s ≡ d → ⊥) → is_marked (slice_set t d b) s ≡ is_marked t s
+other_flag [] d s b ne = refl
+other_flag (x ∷ xs) zero zero b ne = absurd (ne refl)
+other_flag (x ∷ xs) zero (suc s) b ne = refl
+other_flag (x ∷ xs) (suc d) zero b ne = refl
+other_flag (x ∷ xs) (suc d) (suc s) b ne = other_flag xs d s b (λ e. ne (ap suc e))
+
+flag_down : (t : List Bool) (d : ℕ) → is_marked (slice_set t d false) d ≡ false
+flag_down [] d = refl
+flag_down (x ∷ xs) zero = refl
+flag_down (x ∷ xs) (suc d) = flag_down xs d
+
+pub down_size : (t : List Bool) (d : ℕ) → length (slice_set t d false) ≡ length t
+down_size [] d = refl
+down_size (x ∷ xs) zero = refl
+down_size (x ∷ xs) (suc d) = ap suc (down_size xs d)
+
+-- past the last flag none is up
+pub flag_past : (t : List Bool) (s : ℕ) → length t ≤ s → is_marked t s ≡ false
+flag_past [] s l = refl
+flag_past (x ∷ xs) zero l = absurd (omega arith)
+flag_past (x ∷ xs) (suc s) l = let k : length xs ≤ s = omega arith in flag_past xs s k
+
+-- a flag that is read
+pub flag_read : (t : List Bool) (s : ℕ) (b : Bool) → s < length t → b ≡ slice_index_or t s b → b ≡ is_marked t s
+flag_read [] s b l e = absurd (omega arith)
+flag_read (x ∷ xs) zero b l e = e
+flag_read (x ∷ xs) (suc s) b l e = let k : s < length xs = omega arith in flag_read xs s b k e
+
+pub flag_inside : (t : List Bool) (s : ℕ) → is_marked t s ≡ true → s < length t
+flag_inside [] s up = cc
+flag_inside (x ∷ xs) zero up = omega arith
+flag_inside (x ∷ xs) (suc s) up = omega (arith, flag_inside xs s up)
+
+-- as many are down as there are, where none is up
+all_down : (t : List Bool) → ((s : ℕ) → is_marked t s ≡ false) → unmarked t ≡ length t
+all_down [] h = refl
+all_down (x ∷ xs) h = (λ i. (if h 0 i then 0 else 1) + all_down xs (λ s. h (suc s)) i) ∙ more (length xs)
+  where
+    more : (n : ℕ) → 1 + n ≡ suc n
+    more n = omega arith
+
+same_or_not : (s d : ℕ) → (s ≡ d) ⊎ (((s == d) ≡ false) × (s ≡ d → ⊥))
+same_or_not s d = elim (tested (s == d)) [
+  | inl e ↦ inl (eqb-true s d e)
+  | inr e ↦ inr (e, λ q. true≢false (sym (eq-eqb s d q) ∙ e))
+]
+
+off : (b : Bool) → (b && false) ≡ false
+off true = refl
+off false = refl
+
+on : (b : Bool) → (b && true) ≡ b
+on true = refl
+on false = refl
+
+-- ---- listed seats
+
+pub in_get : (ss : List ℕ) (i : ℕ) → i < length ss → is_in (get_or ss i 0) ss ≡ true
+in_get [] i l = absurd (omega arith)
+in_get (s ∷ ss) zero l = ap (λ b. b || is_in s ss) (eq-eqb s s refl)
+in_get (s ∷ ss) (suc i) l = let k : i < length ss = omega arith in later (get_or ss i 0 == s) (is_in (get_or ss i 0) ss) (in_get ss i k)
+  where
+    later : (a b : Bool) → b ≡ true → (a || b) ≡ true
+    later true b q = refl
+    later false b q = q
+
+in_step : (s : ℕ) (ss : List ℕ) (i : ℕ) → i < length ss → is_in s (drop i ss) ≡ (s == get_or ss i 0 || is_in s (drop (i + 1) ss))
+in_step s [] i l = absurd (omega arith)
+in_step s (r ∷ ss) zero l = refl
+in_step s (r ∷ ss) (suc i) l =
+    let k : i < length ss = omega arith in
+    let e : suc i + 1 ≡ suc (i + 1) = omega arith in
+    rw e (in_step s ss i k)
+
+-- the flag of one seat more is taken down
+pub lowered_step : (t : List Bool) (ss : List ℕ) (i s : ℕ) → i < length ss →
+    (is_marked (slice_set t (get_or ss i 0) false) s && not (is_in s (drop (i + 1) ss))) ≡ (is_marked t s && not (is_in s (drop i ss)))
+lowered_step t ss i s l = elim (same_or_not s (get_or ss i 0)) [
+  | inl e ↦
+      ap (λ b. b && not (is_in s (drop (i + 1) ss))) (ap (is_marked (slice_set t (get_or ss i 0) false)) e ∙ flag_down t (get_or ss i 0))
+      ∙ sym (off (is_marked t s))
+      ∙ ap (λ b. is_marked t s && not (b || is_in s (drop (i + 1) ss))) (sym (eq-eqb s (get_or ss i 0) e))
+      ∙ ap (λ b. is_marked t s && not b) (sym (in_step s ss i l))
+  | inr q ↦
+      ap (λ b. b && not (is_in s (drop (i + 1) ss))) (other_flag t (get_or ss i 0) s false q.1)
+      ∙ ap (λ b. is_marked t s && not (b || is_in s (drop (i + 1) ss))) (sym q.0)
+      ∙ ap (λ b. is_marked t s && not b) (sym (in_step s ss i l))
+]
+
+-- all of them are down
+pub lowered_end : (b : Bool) (s : ℕ) (ss : List ℕ) (i : ℕ) → length ss ≤ i → (b && not (is_in s (drop i ss))) ≡ b
+lowered_end b s [] zero l = on b
+lowered_end b s [] (suc i) l = on b
+lowered_end b s (r ∷ ss) zero l = absurd (omega arith)
+lowered_end b s (r ∷ ss) (suc i) l = let k : length ss ≤ i = omega arith in lowered_end b s ss i k
+
+-- no seats
+pub none_reached : (t : List Bool) (capacity : ℕ) → length t ≡ MOST_NODES → ((s : ℕ) → is_marked t s ≡ false) → MOST_NODES ≤ capacity → AreReached t [] capacity
+none_reached t capacity size down room = record {
+  size = size;
+  up = down;
+  count = let u : unmarked t ≡ length t = all_down t down in omega (arith, u, size);
+  room = room;
+}
+
+-- once the flags of all listed seats are down
+pub cleared : (t u : List Bool) (ss : List ℕ) (capacity : ℕ) → AreReached t ss capacity → length u ≡ length t → ((s : ℕ) → is_marked u s ≡ (is_marked t s && not (is_in s ss))) → AreReached u [] capacity
+cleared t u ss capacity h size lowered =
+    none_reached u capacity (size ∙ h.size) (λ s. lowered s ∙ ap (λ b. b && not (is_in s ss)) (h.up s) ∙ go (is_in s ss)) h.room
+  where
+    go : (b : Bool) → (b && not b) ≡ false
+    go true = refl
+    go false = refl
+
+-- the flag of a seat that isn't listed is down
+fresh_down : (t : List Bool) (ss : List ℕ) (capacity d : ℕ) → AreReached t ss capacity → is_in d ss ≡ false → is_marked t d ≡ false
+fresh_down t ss capacity d h off = h.up d ∙ off
+
+-- so there is room for it
+pub room_more : (t : List Bool) (ss : List ℕ) (capacity d : ℕ) → AreReached t ss capacity → d < MOST_NODES → is_in d ss ≡ false → length ss + 1 ≤ MOST_NODES
+room_more t ss capacity d h inside off =
+    let size : length t ≡ MOST_NODES = h.size in
+    let fewer : unmarked (slice_set t d true) + 1 ≡ unmarked t = set_fewer t d (omega (arith, size, inside)) (fresh_down t ss capacity d h off) in
+    let count : length ss + unmarked t ≡ MOST_NODES = h.count in
+    omega (arith, fewer, count)
+
+-- one seat more
+pub reached_more : (t : List Bool) (ss : List ℕ) (capacity room d : ℕ) → AreReached t ss capacity → d < MOST_NODES → is_in d ss ≡ false → capacity ≤ room → AreReached (slice_set t d true) (ss ++ d ∷ []) room
+reached_more t ss capacity room d h inside off more = record {
+  size = set_size t d ∙ h.size;
+  up = λ s. up s (same_or_not s d);
+  count =
+      let fewer : unmarked (slice_set t d true) + 1 ≡ unmarked t = set_fewer t d in_table (fresh_down t ss capacity d h off) in
+      let len : length (ss ++ d ∷ []) ≡ length ss + 1 = length-append ss (d ∷ []) in
+      let count : length ss + unmarked t ≡ MOST_NODES = h.count in
+      omega (arith, fewer, len, count);
+  room = let r : MOST_NODES ≤ capacity = h.room in omega (arith, r, more);
+}
+  where
+    in_table : d < length t
+    in_table = let size : length t ≡ MOST_NODES = h.size in omega (arith, size, inside)
+
+    last : (a b : Bool) → b ≡ true → (a || b) ≡ true
+    last true b q = refl
+    last false b q = q
+
+    none : (a : Bool) → (a || false) ≡ a
+    none true = refl
+    none false = refl
+
+    up : (s : ℕ) → (s ≡ d) ⊎ (((s == d) ≡ false) × (s ≡ d → ⊥)) → is_marked (slice_set t d true) s ≡ is_in s (ss ++ d ∷ [])
+    up s (inl e) = ap (is_marked (slice_set t d true)) e ∙ set_here t d in_table ∙ sym (in_more s ss d ∙ last (is_in s ss) (s == d) (eq-eqb s d e))
+    up s (inr q) = other_flag t d s true q.1 ∙ h.up s ∙ sym (in_more s ss d ∙ ap (λ b. is_in s ss || b) q.0 ∙ none (is_in s ss))
+
+-- ---- what is new
+
+pub first_step : (xs : List Node) (t : List Bool) (ss ns : List ℕ) (i n : ℕ) → i < length ns → n ≡ slice_index_or ns i n →
+    first_new xs t ss (drop i ns) ≡ (if is_new xs t ss n then Some n else first_new xs t ss (drop (i + 1) ns))
+first_step xs t ss [] i n l e = absurd (omega arith)
+first_step xs t ss (m ∷ ns) zero n l e = ap (λ k. if is_new xs t ss k then Some k else first_new xs t ss ns) (sym e)
+first_step xs t ss (m ∷ ns) (suc i) n l e =
+    let k : i < length ns = omega arith in
+    let s : suc i + 1 ≡ suc (i + 1) = omega arith in
+    rw s (first_step xs t ss ns i n k e)
+
+pub first_end : (xs : List Node) (t : List Bool) (ss ns : List ℕ) (i : ℕ) → length ns ≤ i → first_new xs t ss (drop i ns) ≡ None
+first_end xs t ss [] zero l = refl
+first_end xs t ss [] (suc i) l = refl
+first_end xs t ss (m ∷ ns) zero l = absurd (omega arith)
+first_end xs t ss (m ∷ ns) (suc i) l = let k : length ns ≤ i = omega arith in first_end xs t ss ns i k
+
+-- a source that is kept
+pub keeps_name : (xs : List Node) (g n p : ℕ) → keeps (memos_of g xs) n p ≡ is_in p (source_names (sources_in (memo_body (body_at xs n))))
+keeps_name xs g n p = ap (λ o. is_in p (source_names (sources_in o))) (memo_found xs g n)
+
+-- a new one among these
+pub record IsNewAmong (xs : List Node) (t : List Bool) (ss ns : List ℕ) (n : ℕ) : Type 0 where
+  pub among : is_in n ns ≡ true
+  pub live : is_computed_body (body_at xs n) ≡ true
+  pub fresh : is_in (seat_at xs n) ss ≡ false
+
+first_step_found : (xs : List Node) (t : List Bool) (ss ns : List ℕ) (m n : ℕ) (b : Bool) → is_new xs t ss m ≡ b → (Some n ≡ first_new xs t ss ns → IsNewAmong xs t ss ns n) →
+    Some n ≡ (if b then Some m else first_new xs t ss ns) → IsNewAmong xs t ss (m ∷ ns) n
+first_step_found xs t ss ns m n true at rest q =
+    let same : n ≡ m = cc in
+    let p : (is_computed_body (body_at xs m) ≡ true) × (is_in (seat_at xs m) ss ≡ false) = parts (marked_at t m) (is_computed_body (body_at xs m)) (is_in (seat_at xs m) ss) at in
+    record {
+      among = ap (λ b. b || is_in n ns) (eq-eqb n m same);
+      live = ap (λ k. is_computed_body (body_at xs k)) same ∙ p.0;
+      fresh = ap (λ k. is_in (seat_at xs k) ss) same ∙ p.1;
+    }
+  where
+    parts : (a b c : Bool) → (a && (b && not c)) ≡ true → (b ≡ true) × (c ≡ false)
+    parts true true true q = cc
+    parts true true false q = (refl, refl)
+    parts true false c q = cc
+    parts false b c q = cc
+first_step_found xs t ss ns m n false at rest q =
+    let r : IsNewAmong xs t ss ns n = rest q in
+    record { among = later (n == m) (is_in n ns) r.among; live = r.live; fresh = r.fresh }
+  where
+    later : (a b : Bool) → b ≡ true → (a || b) ≡ true
+    later true b q = refl
+    later false b q = q
+
+pub first_found : (xs : List Node) (t : List Bool) (ss ns : List ℕ) (n : ℕ) → Some n ≡ first_new xs t ss ns → IsNewAmong xs t ss ns n
+first_found xs t ss [] n e = cc
+first_found xs t ss (m ∷ ns) n e = first_step_found xs t ss ns m n (is_new xs t ss m) refl (first_found xs t ss ns n) e
+
+-- where there is none, the seat of each marked computed among these was reached
+none_step_found : (xs : List Node) (t : List Bool) (ss ns : List ℕ) (m p : ℕ) (b : Bool) → is_new xs t ss m ≡ b → (None ≡ first_new xs t ss ns → is_in p ns ≡ true → is_in (seat_at xs p) ss ≡ true) →
+    None ≡ (if b then Some m else first_new xs t ss ns) → is_in p (m ∷ ns) ≡ true → is_computed_body (body_at xs p) ≡ true → marked_at t p ≡ true → is_in (seat_at xs p) ss ≡ true
+none_step_found xs t ss ns m p true at rest q among live mark = cc
+none_step_found xs t ss ns m p false at rest q among live mark = elim (either (p == m) (is_in p ns) among) [
+  | inl same ↦ old (marked_at t p) (is_computed_body (body_at xs p)) (is_in (seat_at xs p) ss) (ap (is_new xs t ss) (eqb-true p m same) ∙ at) live mark
+  | inr more ↦ rest q more
+]
+  where
+    old : (a b c : Bool) → (a && (b && not c)) ≡ false → b ≡ true → a ≡ true → c ≡ true
+    old true true true q h k = refl
+    old true true false q h k = cc
+    old true false c q h k = cc
+    old false b c q h k = cc
+
+pub none_found : (xs : List Node) (t : List Bool) (ss ns : List ℕ) (p : ℕ) → None ≡ first_new xs t ss ns → is_in p ns ≡ true → is_computed_body (body_at xs p) ≡ true → marked_at t p ≡ true →
+    is_in (seat_at xs p) ss ≡ true
+none_found xs t ss [] p e among live mark = cc
+none_found xs t ss (m ∷ ns) p e among live mark = none_step_found xs t ss ns m p (is_new xs t ss m) refl (λ q more. none_found xs t ss ns p q more live mark) e among live mark
+
+-- ---- where a search came to
+
+no_more : (m n : ℕ) → is_in m (n ∷ []) ≡ true → m ≡ n
+no_more m n h = eqb-true m n (go (m == n) h)
+  where
+    go : (b : Bool) → (b || false) ≡ true → b ≡ true
+    go true q = refl
+    go false q = q
+
+-- it begins at a computed
+pub reach_begin : (xs : List Node) (t : List Bool) (g n : ℕ) → AreSeated xs MOST_NODES → is_computed_body (body_at xs n) ≡ true → is_due_at xs g n ≡ false → Reaches xs t g (seat_at xs n ∷ []) (n ∷ [])
+reach_begin xs t g n seated live calm = record {
+  calm = λ m c h. ap (is_due_at xs g) (same m c h) ∙ calm;
+  closed = λ m p c h k d mk. inr (ap (λ b. b || false) (eq-eqb m n (same m c h)));
+}
+  where
+    same : (m : ℕ) → is_computed_body (body_at xs m) ≡ true → is_in (seat_at xs m) (seat_at xs n ∷ []) ≡ true → m ≡ n
+    same m c h = seated.one m n c live (no_more (seat_at xs m) (seat_at xs n) h)
+
+-- it is through with the computed where it is
+pub reach_left : (xs : List Node) (t : List Bool) (g n : ℕ) (ss rest : List ℕ) → Reaches xs t g ss (n ∷ rest) →
+    ((p : ℕ) → keeps (memos_of g xs) n p ≡ true → is_computed_body (body_at xs p) ≡ true → marked_at t p ≡ true → is_in (seat_at xs p) ss ≡ true) → Reaches xs t g ss rest
+reach_left xs t g n ss rest r all = record {
+  calm = r.calm;
+  closed = λ m p c h k d mk. elim (r.closed m p c h k d mk) [
+    | inl x ↦ inl x
+    | inr way ↦ elim (either (m == n) (is_in m rest) way) [
+      | inl same ↦ inl (all p (ap (λ z. keeps (memos_of g xs) z p) (sym (eqb-true m n same)) ∙ k) d mk)
+      | inr on ↦ inr on
+    ]
+  ];
+}
+
+-- it goes to the next one
+pub reach_next : (xs : List Node) (t : List Bool) (g n : ℕ) (ss way : List ℕ) → AreSeated xs MOST_NODES → is_computed_body (body_at xs n) ≡ true → is_due_at xs g n ≡ false → Reaches xs t g ss way →
+    Reaches xs t g (ss ++ seat_at xs n ∷ []) (n ∷ way)
+reach_next xs t g n ss way seated live calm r = record {
+  calm = λ m c h. elim (split m c h) [ inl a ↦ r.calm m c a | inr same ↦ ap (is_due_at xs g) same ∙ calm ];
+  closed = λ m p c h k d mk. elim (split m c h) [
+    | inl a ↦ elim (r.closed m p c a k d mk) [
+      | inl x ↦ inl (more (seat_at xs p) x)
+      | inr y ↦ inr (later (m == n) (is_in m way) y)
+    ]
+    | inr same ↦ inr (ap (λ b. b || is_in m way) (eq-eqb m n same))
+  ];
+}
+  where
+    later : (a b : Bool) → b ≡ true → (a || b) ≡ true
+    later true b q = refl
+    later false b q = q
+
+    first : (a b : Bool) → a ≡ true → (a || b) ≡ true
+    first true b q = refl
+    first false b q = cc
+
+    more : (s : ℕ) → is_in s ss ≡ true → is_in s (ss ++ seat_at xs n ∷ []) ≡ true
+    more s h = in_more s ss (seat_at xs n) ∙ first (is_in s ss) (s == seat_at xs n) h
+
+    split : (m : ℕ) → is_computed_body (body_at xs m) ≡ true → is_in (seat_at xs m) (ss ++ seat_at xs n ∷ []) ≡ true → (is_in (seat_at xs m) ss ≡ true) ⊎ (m ≡ n)
+    split m c h = elim (either (is_in (seat_at xs m) ss) (seat_at xs m == seat_at xs n) (sym (in_more (seat_at xs m) ss (seat_at xs n)) ∙ h)) [
+      | inl a ↦ inl a
+      | inr e ↦ inr (seated.one m n c live (eqb-true (seat_at xs m) (seat_at xs n) e))
+    ]
+
+-- it came to its end
+pub clear_end : (xs : List Node) (t : List Bool) (g : ℕ) (ss : List ℕ) (m p : ℕ) → Reaches xs t g ss [] → is_computed_body (body_at xs m) ≡ true → is_in (seat_at xs m) ss ≡ true → keeps (memos_of g xs) m p ≡ true →
+    is_computed_body (body_at xs p) ≡ true → marked_at t p ≡ true → is_in (seat_at xs p) ss ≡ true
+clear_end xs t g ss m p r c h k d mk = elim (r.closed m p c h k d mk) [ inl x ↦ x | inr y ↦ absurd (true≢false (sym y)) ]
+
+-- what it came to then tells that nothing below a computed must run, so that it is clean
+pub reached_clean : (xs : List Node) (g : ℕ) (table : MarkTable) (n : ℕ) (ss : List ℕ) → KeepsMarks xs g table → is_computed_body (body_at xs n) ≡ true → is_due_at xs g n ≡ false → Reaches xs table.marked g ss [] →
+    is_in (seat_at xs n) ss ≡ true → Clean ≡ mark_of (signals_of xs) (memos_of g xs) n
+reached_clean xs g table n ss h live calm r listed = (mark_law (signals_of xs) (memos_of g xs) n Clean (only_keep xs g)).1 (calm_run xs g n live calm, below)
+  where
+    below : (m : ℕ) → IsBelow (memos_of g xs) n m → is_due_at xs g m ≡ false
+    below m b =
+        explored_law (signals_of xs) (memos_of g xs) (depends table.dependants) (marked_at table.marked) (is_computing (state_of xs g 0 0)) (λ k. is_in (seat_at xs k) ss) n h.marked (record {
+          here = λ p k c mk. clear_end xs table.marked g ss n p r live listed k (computed_here xs p c) mk;
+          calm = λ k c up. calm_run xs g k (computed_here xs k c) (r.calm k (computed_here xs k c) up);
+          closed = λ k p c up has d mk. clear_end xs table.marked g ss k p r (computed_here xs k c) up has (computed_here xs p d) mk;
+        }) m b
+
+-- what was listed still is
+pub listed_more : (s d : ℕ) (ss : List ℕ) → is_in s ss ≡ true → is_in s (ss ++ d ∷ []) ≡ true
+listed_more s d ss h = in_more s ss d ∙ first (is_in s ss) (s == d) h
+  where
+    first : (a b : Bool) → a ≡ true → (a || b) ≡ true
+    first true b q = refl
+    first false b q = cc
+
+-- ---- trails
+
+nothing : (xs : List ℕ) → length xs ≡ 0 → xs ≡ []
+nothing [] e = refl
+nothing (x ∷ xs) e = absurd (omega (arith, e))
+
+pub popped_some : (o : Option ℕ) (old xs ys : List ℕ) → reverse xs ≡ old → xs ≡ ys ++ option_to_list o → IfSome o (λ n. old ≡ n ∷ reverse ys)
+popped_some None old xs ys v e = tt
+popped_some (Some n) old xs ys v e = sym v ∙ ap reverse e ∙ reverse-append ys (n ∷ [])
+
+pub popped_none : (o : Option ℕ) (old xs : List ℕ) (count rest : ℕ) → reverse xs ≡ old → count ≡ length xs → MatchOption o ((count ≡ 0) × (rest ≡ 0)) (λ n. rest + 1 ≡ count) → IfNone o (old ≡ [])
+popped_none None old xs count rest v len e = sym v ∙ ap reverse (nothing xs (sym len ∙ e.0))
+popped_none (Some n) old xs count rest v len e = tt
+
+pub way_left : (xs : List Node) (g root n : ℕ) (rest : List ℕ) → IsWay xs g root (n ∷ rest) → IsWay xs g root rest
+way_left xs g root n [] w = tt
+way_left xs g root n (m ∷ ms) w = w.1
+
+-- where one must run, or something below it, so it is with all that lead there
+pub way_due : (xs : List Node) (g root n : ℕ) (rest : List ℕ) → IsWay xs g root (n ∷ rest) → HasDue xs g n → AreDue xs g (n ∷ rest) × HasDue xs g root
+way_due xs g root n [] w d = ((d, tt), subst (HasDue xs g) w d)
+way_due xs g root n (m ∷ ms) w d =
+    let r : AreDue xs g (m ∷ ms) × HasDue xs g root = way_due xs g root m ms w.1 (inr (due_below xs g m n w.0 d)) in
+    ((d, r.0), r.1)

@@ -1,0 +1,10 @@
+use Rattle.std.proofs.Common.{ℕ, length}
+use Rattle.sig_nodes.specs.Places.{KeepsFound}
+use Rattle.sig_nodes.specs.Search.{AreDue}
+use Rattle.sig_nodes.proofs.search.note_all.Given as goal
+
+abbrev pub invariant-loop-id : goal.invariant-loop-id
+invariant-loop-id l = (g : ℕ) → AreDue l.nodes g l.fn.trail → KeepsFound l.nodes g l.worn l.fn.finds → AreDue l.nodes g l.trail × KeepsFound l.nodes g l.worn l.finds
+
+abbrev pub decreases-loop-id : goal.decreases-loop-id
+decreases-loop-id l = length l.trail

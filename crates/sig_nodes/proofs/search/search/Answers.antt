@@ -1,0 +1,65 @@
+use Rattle.std.proofs.Common.{ℕ, ◌≡◌, ◌||◌, ◌∷◌, [], List, true, false, length, ap, sym, ◌∙◌, refl, subst, arith}
+use Rattle.std.proofs.lemmas.Bool.{eq-eqb}
+use Rattle.signal_model.specs.Standing.{is_in}
+use Rattle.sig_nodes.specs.Nodes.{seat_at}
+use Rattle.sig_nodes.specs.Search.{found_at, IsWay, Reaches}
+use Rattle.sig_nodes.proofs.Holding.{computed_below}
+use Rattle.sig_nodes.proofs.KeptFinds.{found_below}
+use Rattle.sig_nodes.proofs.Reaching.{reach_begin, reached_clean}
+use Rattle.sig_nodes.proofs.Searching.{checked_mark}
+use Rattle.sig_nodes.proofs.search.search.Goals as goal
+
+pub seat_at-requires : goal.seat_at-requires
+seat_at-requires c = computed_below c.args.nodes.now c.args.id c.requires.live
+
+pub returns-then-is_found-clause-mark : goal.returns-then-is_found-clause-mark
+returns-then-is_found-clause-mark c =
+    let xs = c.args.nodes.now in
+    let g = c.args.generation in
+    let calm = sym c.is_due.ensures ∙ c.if-is_due.false in
+    let due = c.requires.kept.due c.args.id c.requires.live (ap (found_at c.args.finds.now) (sym c.seat_at.ensures) ∙ c.is_found.ensures c.if-is_found.true) in
+    checked_mark xs g c.args.id c.requires.live calm (found_below xs g c.args.id calm due)
+
+pub goes_to_due-requires-clause-part : goal.goes_to_due-requires-clause-part
+goes_to_due-requires-clause-part c =
+    let xs = c.args.nodes.now in
+    let g = c.args.generation in
+    let t = c.args.marks.now.marked in
+    let calm = sym c.is_due.ensures ∙ c.if-is_due.false in
+    subst (λ (ns : List ℕ). Reaches xs t g c.begin.new.reached ns) (sym c.begin.ensures.trail)
+    (subst (λ (ss : List ℕ). Reaches xs t g ss (c.args.id ∷ [])) (sym c.begin.ensures.reached) (reach_begin xs t g c.args.id c.requires.seats c.requires.live calm))
+
+pub goes_to_due-requires-clause-room : goal.goes_to_due-requires-clause-room
+goes_to_due-requires-clause-room c =
+    let reached = ap (λ (ss : List ℕ). length ss) c.begin.ensures.reached in
+    let trail = ap (λ (ns : List ℕ). length ns) c.begin.ensures.trail in
+    omega (arith, reached, trail)
+
+pub goes_to_due-requires-clause-most : goal.goes_to_due-requires-clause-most
+goes_to_due-requires-clause-most c =
+    let reached = ap (λ (ss : List ℕ). length ss) c.begin.ensures.reached in
+    omega (arith, reached)
+
+pub returns-then-goes_to_due-clause-kept : goal.returns-then-goes_to_due-clause-kept
+returns-then-goes_to_due-clause-kept c =
+    let way = subst (λ (ns : List ℕ). IsWay c.args.nodes.now c.args.generation c.args.id ns) (sym c.begin.ensures.trail) refl in
+    c.note_all.ensures c.args.generation (c.goes_to_due.ensures.due c.if-goes_to_due.true c.args.id way).0 c.requires.kept
+
+pub returns-then-goes_to_due-clause-mark : goal.returns-then-goes_to_due-clause-mark
+returns-then-goes_to_due-clause-mark c =
+    let xs = c.args.nodes.now in
+    let g = c.args.generation in
+    let calm = sym c.is_due.ensures ∙ c.if-is_due.false in
+    let way = subst (λ (ns : List ℕ). IsWay xs g c.args.id ns) (sym c.begin.ensures.trail) refl in
+    checked_mark xs g c.args.id c.requires.live calm (found_below xs g c.args.id calm (c.goes_to_due.ensures.due c.if-goes_to_due.true c.args.id way).1)
+
+pub returns-clause-mark : goal.returns-clause-mark
+returns-clause-mark c =
+    let xs = c.args.nodes.now in
+    let calm = sym c.is_due.ensures ∙ c.if-is_due.false in
+    let here = subst (λ (ss : List ℕ). is_in (seat_at xs c.args.id) ss ≡ true) (sym c.begin.ensures.reached) (ap (λ b. b || false) (eq-eqb (seat_at xs c.args.id) (seat_at xs c.args.id) refl)) in
+    reached_clean xs c.args.generation c.args.marks.now c.args.id c.goes_to_due.new.reached c.requires.marks c.requires.live calm (c.goes_to_due.ensures.part c.if-goes_to_due.false)
+    (c.goes_to_due.ensures.more (seat_at xs c.args.id) here)
+
+pub returns-clause-reached : goal.returns-clause-reached
+returns-clause-reached c = λ clean. c.goes_to_due.ensures.part c.if-goes_to_due.false

@@ -1,0 +1,96 @@
+use Rattle.std.proofs.Common.{◌≡◌, ◌∷◌, [], ℕ, List, true, length, length-append, ap, sym, ◌∙◌, subst, arith}
+use Rattle.signal_model.specs.Standing.{is_in}
+use Rattle.signal_model.specs.Memos.{source_names, sources_in}
+use Rattle.sig_nodes.specs.Nodes.{body_at, memo_body, seat_at}
+use Rattle.sig_nodes.specs.Search.{AreDue, IsWay, Reaches}
+use Rattle.sig_nodes.proofs.Holding.{computed_below}
+use Rattle.sig_nodes.proofs.Reaching.{first_found, keeps_name, listed_more, none_found, reach_left, reach_next, way_due}
+use Rattle.sig_nodes.proofs.search.turn.Goals as goal
+
+pub enter-requires : goal.enter-requires
+enter-requires c =
+    let room = c.requires.room in
+    let most = c.requires.most in
+    omega (arith, room, most)
+
+pub returns-in_default-clause-part : goal.returns-in_default-clause-part
+returns-in_default-clause-part c = λ none.
+    let xs = c.args.nodes.now in
+    let g = c.args.generation in
+    let t = c.args.marks.now.marked in
+    let ss = c.args.reached.now in
+    reach_left xs t g c.args.id ss c.args.trail.now c.requires.part (λ p k live on.
+    none_found xs t ss (source_names (sources_in (memo_body (body_at xs c.args.id)))) p c.in_default.ensures (sym (keeps_name xs g c.args.id p) ∙ k) live on)
+
+pub go_to-requires-clause-live : goal.go_to-requires-clause-live
+go_to-requires-clause-live c =
+    let xs = c.args.nodes.now in
+    (first_found xs c.args.marks.now.marked c.args.reached.now (source_names (sources_in (memo_body (body_at xs c.args.id)))) c.in-Some.next c.in-Some.ensures).live
+
+pub go_to-requires-clause-fresh : goal.go_to-requires-clause-fresh
+go_to-requires-clause-fresh c =
+    let xs = c.args.nodes.now in
+    (first_found xs c.args.marks.now.marked c.args.reached.now (source_names (sources_in (memo_body (body_at xs c.args.id)))) c.in-Some.next c.in-Some.ensures).fresh
+
+pub go_to-requires-clause-room : goal.go_to-requires-clause-room
+go_to-requires-clause-room c =
+    let len = ap (λ (ns : List ℕ). length ns) c.enter.ensures in
+    let room = c.requires.room in
+    omega (arith, len, room)
+
+pub seat_at-requires : goal.seat_at-requires
+seat_at-requires c =
+    let xs = c.args.nodes.now in
+    computed_below xs c.in-Some.next (first_found xs c.args.marks.now.marked c.args.reached.now (source_names (sources_in (memo_body (body_at xs c.args.id)))) c.in-Some.next c.in-Some.ensures).live
+
+pub is_told-requires-clause-live : goal.is_told-requires-clause-live
+is_told-requires-clause-live c =
+    let xs = c.args.nodes.now in
+    (first_found xs c.args.marks.now.marked c.args.reached.now (source_names (sources_in (memo_body (body_at xs c.args.id)))) c.in-Some.next c.in-Some.ensures).live
+
+pub returns-clause-way : goal.returns-clause-way
+returns-clause-way c = λ root way.
+    let xs = c.args.nodes.now in
+    let g = c.args.generation in
+    let new = first_found xs c.args.marks.now.marked c.args.reached.now (source_names (sources_in (memo_body (body_at xs c.args.id)))) c.in-Some.next c.in-Some.ensures in
+    let trail = c.go_to.ensures.trail ∙ ap (λ (ns : List ℕ). c.in-Some.next ∷ ns) c.enter.ensures in
+    subst (λ (ns : List ℕ). IsWay xs g root ns) (sym trail) (keeps_name xs g c.args.id c.in-Some.next ∙ new.among, way)
+
+pub returns-clause-due : goal.returns-clause-due
+returns-clause-due c = λ told root way.
+    let xs = c.args.nodes.now in
+    let g = c.args.generation in
+    let new = first_found xs c.args.marks.now.marked c.args.reached.now (source_names (sources_in (memo_body (body_at xs c.args.id)))) c.in-Some.next c.in-Some.ensures in
+    let trail = c.go_to.ensures.trail ∙ ap (λ (ns : List ℕ). c.in-Some.next ∷ ns) c.enter.ensures in
+    let all = way_due xs g root c.in-Some.next (c.args.id ∷ c.args.trail.now) (keeps_name xs g c.args.id c.in-Some.next ∙ new.among, way) (c.is_told.ensures.due told) in
+    (subst (λ (ns : List ℕ). AreDue xs g ns) (sym trail) all.0, all.1)
+
+pub returns-clause-part : goal.returns-clause-part
+returns-clause-part c = λ calm.
+    let xs = c.args.nodes.now in
+    let g = c.args.generation in
+    let t = c.args.marks.now.marked in
+    let ss = c.args.reached.now in
+    let next = c.in-Some.next in
+    let new = first_found xs t ss (source_names (sources_in (memo_body (body_at xs c.args.id)))) next c.in-Some.ensures in
+    let trail = c.go_to.ensures.trail ∙ ap (λ (ns : List ℕ). next ∷ ns) c.enter.ensures in
+    let r = reach_next xs t g next ss (c.args.id ∷ c.args.trail.now) c.requires.seats new.live (c.is_told.ensures.calm calm) c.requires.part in
+    subst (λ (ns : List ℕ). Reaches xs t g c.go_to.new.reached ns) (sym trail)
+    (subst (λ (rs : List ℕ). Reaches xs t g rs (next ∷ c.args.id ∷ c.args.trail.now)) (sym c.go_to.ensures.reached) r)
+
+pub returns-clause-more : goal.returns-clause-more
+returns-clause-more c = λ s listed.
+    subst (λ (ss : List ℕ). is_in s ss ≡ true) (sym c.go_to.ensures.reached) (listed_more s (seat_at c.args.nodes.now c.in-Some.next) c.args.reached.now listed)
+
+pub returns-clause-room : goal.returns-clause-room
+returns-clause-room c =
+    let trail = ap (λ (ns : List ℕ). length ns) (c.go_to.ensures.trail ∙ ap (λ (ns : List ℕ). c.in-Some.next ∷ ns) c.enter.ensures) in
+    let reached = ap (λ (ss : List ℕ). length ss) c.go_to.ensures.reached ∙ length-append c.args.reached.now (seat_at c.args.nodes.now c.in-Some.next ∷ []) in
+    let room = c.requires.room in
+    omega (arith, trail, reached, room)
+
+pub returns-clause-steps : goal.returns-clause-steps
+returns-clause-steps c =
+    let trail = ap (λ (ns : List ℕ). length ns) (c.go_to.ensures.trail ∙ ap (λ (ns : List ℕ). c.in-Some.next ∷ ns) c.enter.ensures) in
+    let reached = ap (λ (ss : List ℕ). length ss) c.go_to.ensures.reached ∙ length-append c.args.reached.now (seat_at c.args.nodes.now c.in-Some.next ∷ []) in
+    omega (arith, trail, reached)

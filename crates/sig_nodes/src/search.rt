@@ -1,0 +1,187 @@
+// The search for a computed that must run, among what is marked below a computed.
+ghost use Rattle.std.specs.Prelude.{◌≡◌, ℕ, ◌+◌, ◌*◌, ◌<◌, ◌≤◌, ◌++◌, ◌∷◌, [], length, true, false};
+ghost use Rattle.signal_model.specs.Standing.{is_in};
+ghost use Rattle.signal_model.specs.Memos.{source_names, sources_in};
+ghost use Rattle.signal_model.specs.Marks.{mark_of};
+ghost use Rattle.sig_marks.specs.Tables.{marked_at};
+ghost use Rattle.sig_nodes.specs.declared.answers.Mark.TheVariants as mark;
+ghost use Rattle.sig_nodes.specs.Answers.{mark_meant};
+ghost use Rattle.sig_nodes.specs.Nodes.{body_at, is_computed_body, memo_body, memos_of, seat_at, signals_of};
+ghost use Rattle.sig_nodes.specs.Places.{KeepsFound, KeepsMarks};
+ghost use Rattle.sig_nodes.specs.Search.{first_new, is_new, AreDue, AreSeated, HasDue, IsWay, Reaches};
+
+use crate::answers::Mark;
+use crate::bodies::{seat_at, sources_at};
+use crate::finds::Finds;
+use crate::marks::{computed_seat, is_due, is_told};
+use crate::node::Node;
+use crate::reached::Reached;
+use crate::trail::Trail;
+use sig_base::{MOST_NODES, NodeId};
+use sig_marks::Marks;
+
+// Whether a marked computed stands there whose seat isn't reached yet.
+fn is_new(nodes: &[Node], marks: &Marks, reached: &Reached, id: NodeId) -> bool
+    ensures { result ≡ is_new nodes.now marks.now.marked reached.now id }
+{
+    if !marks.is_marked(id) {
+        return false;
+    }
+    match computed_seat(nodes, id) {
+        Some(seat) => !reached.has(seat),
+        None => false,
+    }
+}
+
+// The first such one among the sources that a computed keeps.
+fn next_below(nodes: &[Node], marks: &Marks, reached: &Reached, id: NodeId) -> Option<NodeId>
+    ensures { result ≡ first_new nodes.now marks.now.marked reached.now (source_names (sources_in (memo_body (body_at nodes.now id)))) }
+{
+    for source in sources_at(nodes, id) {
+        if is_new(nodes, marks, reached, *source) {
+            return Some(*source);
+        }
+    }
+    None
+}
+
+// Goes to a computed, whose seat is reached from then on.
+fn go_to(nodes: &[Node], id: NodeId, reached: &mut Reached, trail: &mut Trail)
+    requires live { is_computed_body (body_at nodes.now id) ≡ true }
+    requires seats { AreSeated nodes.now MOST_NODES }
+    requires fresh { is_in (seat_at nodes.now id) reached.old ≡ false }
+    requires room { length trail.old ≤ length reached.old }
+    ensures reached { reached.new ≡ reached.old ++ seat_at nodes.now id ∷ [] }
+    ensures trail { trail.new ≡ id ∷ trail.old }
+    ensures room { length reached.new ≤ MOST_NODES }
+{
+    reached.add(seat_at(nodes, id));
+    trail.enter(id);
+}
+
+// One turn at a computed that was left: goes to the next one below it, and tells whether that one, or something below it, must run; where
+// there is none, the search is through with the computed.
+fn turn(
+    nodes: &[Node],
+    generation: u128,
+    worn: u128,
+    marks: &Marks,
+    finds: &Finds,
+    id: NodeId,
+    reached: &mut Reached,
+    trail: &mut Trail,
+) -> bool
+    requires seats { AreSeated nodes.now MOST_NODES }
+    requires kept { KeepsFound nodes.now generation worn finds.now }
+    requires part { Reaches nodes.now marks.now.marked generation reached.old (id ∷ trail.old) }
+    requires room { length trail.old < length reached.old }
+    requires most { length reached.old ≤ MOST_NODES }
+    ensures way { (root : ℕ) → IsWay nodes.now generation root (id ∷ trail.old) → IsWay nodes.now generation root trail.new }
+    ensures due { result ≡ true → (root : ℕ) → IsWay nodes.now generation root (id ∷ trail.old) → AreDue nodes.now generation trail.new × HasDue nodes.now generation root }
+    ensures part { result ≡ false → Reaches nodes.now marks.now.marked generation reached.new trail.new }
+    ensures more { (s : ℕ) → is_in s reached.old ≡ true → is_in s reached.new ≡ true }
+    ensures room { length trail.new ≤ length reached.new }
+    ensures most { length reached.new ≤ MOST_NODES }
+    ensures steps { length trail.new + 2 * length reached.old ≡ length trail.old + 2 * length reached.new }
+{
+    let Some(next) = next_below(nodes, marks, reached, id) else {
+        return false;
+    };
+    trail.enter(id);
+    go_to(nodes, next, reached, trail);
+    is_told(nodes, generation, worn, next, seat_at(nodes, next), finds)
+}
+
+// Goes on from where the search is, and tells whether it comes to what must run. The trail leads there then, and else is empty.
+fn goes_to_due(
+    nodes: &[Node],
+    generation: u128,
+    worn: u128,
+    marks: &Marks,
+    finds: &Finds,
+    reached: &mut Reached,
+    trail: &mut Trail,
+) -> bool
+    requires seats { AreSeated nodes.now MOST_NODES }
+    requires kept { KeepsFound nodes.now generation worn finds.now }
+    requires part { Reaches nodes.now marks.now.marked generation reached.old trail.old }
+    requires room { length trail.old ≤ length reached.old }
+    requires most { length reached.old ≤ MOST_NODES }
+    ensures due { result ≡ true → (root : ℕ) → IsWay nodes.now generation root trail.old → AreDue nodes.now generation trail.new × HasDue nodes.now generation root }
+    ensures part { result ≡ false → Reaches nodes.now marks.now.marked generation reached.new [] }
+    ensures more { (s : ℕ) → is_in s reached.old ≡ true → is_in s reached.new ≡ true }
+{
+    while let Some(id) = trail.leave() {
+        if turn(nodes, generation, worn, marks, finds, id, reached, trail) {
+            return true;
+        }
+    }
+    false
+}
+
+// Notes that a computed, or something below it, must run.
+fn note(nodes: &[Node], worn: u128, id: NodeId, finds: &mut Finds)
+    requires { AreSeated nodes.now MOST_NODES }
+    ensures { (g : ℕ) → HasDue nodes.now g id → KeepsFound nodes.now g worn finds.old → KeepsFound nodes.now g worn finds.new }
+{
+    if let Some(seat) = computed_seat(nodes, id) {
+        finds.note(worn, seat);
+    }
+}
+
+// The same of all on a trail, which is empty then.
+fn note_all(nodes: &[Node], worn: u128, trail: &mut Trail, finds: &mut Finds)
+    requires { AreSeated nodes.now MOST_NODES }
+    ensures { (g : ℕ) → AreDue nodes.now g trail.old → KeepsFound nodes.now g worn finds.old → KeepsFound nodes.now g worn finds.new }
+{
+    while let Some(id) = trail.leave() {
+        note(nodes, worn, id, finds);
+    }
+}
+
+// Begins at a computed.
+fn begin(nodes: &[Node], id: NodeId, reached: &mut Reached, trail: &mut Trail)
+    requires live { is_computed_body (body_at nodes.now id) ≡ true }
+    requires seats { AreSeated nodes.now MOST_NODES }
+    ensures reached { reached.new ≡ seat_at nodes.now id ∷ [] }
+    ensures trail { trail.new ≡ id ∷ [] }
+{
+    reached.clear();
+    trail.clear();
+    go_to(nodes, id, reached, trail);
+}
+
+/// The mark of a marked computed. Where it is clean, all seats that the search came to are reached afterwards. What it found is noted by
+/// seat, with the count of changes at which it did, and isn't searched for anew until the next change.
+pub(crate) fn search(
+    nodes: &[Node],
+    generation: u128,
+    worn: u128,
+    marks: &Marks,
+    id: NodeId,
+    reached: &mut Reached,
+    trail: &mut Trail,
+    finds: &mut Finds,
+) -> Mark
+    requires live { is_computed_body (body_at nodes.now id) ≡ true }
+    requires marked { marked_at marks.now.marked id ≡ true }
+    requires marks { KeepsMarks nodes.now generation marks.now }
+    requires seats { AreSeated nodes.now MOST_NODES }
+    requires kept { KeepsFound nodes.now generation worn finds.old }
+    ensures mark { mark_meant result ≡ mark_of (signals_of nodes.now) (memos_of generation nodes.now) id }
+    ensures reached { result ≡ mark.Clean → Reaches nodes.now marks.now.marked generation reached.new [] }
+    ensures kept { KeepsFound nodes.now generation worn finds.new }
+{
+    if is_due(nodes, generation, id) {
+        return Mark::Dirty;
+    }
+    if finds.is_found(worn, seat_at(nodes, id)) {
+        return Mark::Checked;
+    }
+    begin(nodes, id, reached, trail);
+    if goes_to_due(nodes, generation, worn, marks, finds, reached, trail) {
+        note_all(nodes, worn, trail, finds);
+        return Mark::Checked;
+    }
+    Mark::Clean
+}
