@@ -1,75 +1,156 @@
--- One branch of a choice, and one row of those that are gone over.
-use Rattle.std.proofs.Common.{◌≡◌, ◌∙◌, ◌+◌, ◌<◌, ◌++◌, ℕ, Bool, List, [], ◌∷◌, length, drop, get_or, ap, sym, subst}
-use Rattle.std.specs.Prelude.{Result, IfOk}
-use Rattle.std.proofs.lemmas.List.{drop_more, length-append}
-use Rattle.sig_base.specs.Tables.{Table}
-use Rattle.sig_base.specs.declared.errors.NoMemory.{NoMemory}
+-- One row of those that are gone over, by what its part or its test comes to, and the forms of formula that go over rows.
+use Rattle.std.proofs.Common.{◌≡◌, ◌∙◌, ◌+◌, ◌<◌, ◌≤◌, ◌++◌, ℕ, Bool, List, [], ◌∷◌, Option, Some, None, ap, sym, length, drop}
+use Rattle.std.proofs.lemmas.List.{drop_all, drop_more}
+use Rattle.sig_base.specs.Tables.{Table, marked}
 use Rattle.sig_base.specs.declared.rows.Row.{Row}
+use Rattle.sig_base.specs.declared.value.Fault.{Fault}
+use Rattle.sig_base.specs.declared.value.Fault.TheVariants.{Kind}
 use Rattle.sig_base.specs.declared.value.Value.{Value}
-use Rattle.sig_formula.specs.declared.evaluate.FormulaStep.{FormulaStep}
-use Rattle.sig_formula.specs.declared.evaluate.FormulaStep.TheVariants.{End}
+use Rattle.sig_base.specs.declared.value.Value.TheVariants as value
+use Rattle.sig_base.specs.declared.value.Known.{Known}
+use Rattle.sig_base.specs.declared.value.Outcome.{Outcome}
+use Rattle.sig_base.specs.declared.value.Outcome.TheVariants.{Good, Bad}
 use Rattle.sig_formula.specs.declared.formula.BinOp.TheVariants as op
-use Rattle.sig_formula.specs.Answering.{calculation, chosen, kept_from, sum_from, with_truth, with_value}
-
--- what a branch comes to is what the choice comes to
-pub as_branch : (r : Result FormulaStep NoMemory) (step test branch x y : FormulaStep) → step ≡ test → with_value step (λ v. chosen v x y) ≡ branch
-    → IfOk r (λ s. s ≡ branch) → IfOk r (λ s. s ≡ with_value test (λ v. chosen v x y))
-as_branch r step test branch x y is e h =
-    subst (λ (u : FormulaStep). IfOk r (λ (s : FormulaStep). s ≡ u)) (sym (ap (λ (s : FormulaStep). with_value s (λ v. chosen v x y)) (sym is) ∙ e)) h
+use Rattle.sig_formula.specs.declared.formula.RowRef.{RowRef}
+use Rattle.sig_formula.specs.declared.evaluate.FormulaStep.TheVariants.{Ask, End}
+use Rattle.sig_formula.specs.declared.frames.Adding.{Adding}
+use Rattle.sig_formula.specs.declared.frames.Frame.{Frame}
+use Rattle.sig_formula.specs.declared.frames.Frame.TheVariants as frame
+use Rattle.sig_formula.specs.Answering.{calculation, row_at}
+use Rattle.sig_formula.specs.Marked.{MarkedRows}
+use Rattle.sig_formula.specs.Resuming.{Stop, adding_of, adding_stop, and_then, keep_stop, keeping_of, keeping_stop, kept_stop, number_stop, others, resumed, stop}
+use Rattle.sig_formula.specs.Resuming.{sum_stop, summed_stop, truth_of, truth_stop}
+use Rattle.sig_formula.specs.Trees.{Tree, rows_where, sum_of}
 
 no_row : Row
 no_row = record { key = []; values = [] }
 
--- the rows from a place on are one and those behind it
-next_row : {Y : Type 0} (F : List Row → Y) (rs : List Row) (at : ℕ) → at < length rs → F (drop at rs) ≡ F (get_or rs at no_row ∷ drop (at + 1) rs)
-next_row F rs at small = ap F (drop_more rs at no_row small)
+-- the sum from a row on is what that row's part comes to
+row_first : (k : Bool) (b : Tree) (ts us : List Known) (t : Table) (sum : Value) (at : ℕ) (fs : List Frame) (s : Stop) → at < length t.rows →
+    s ≡ resumed k fs b (row_at t at) ts us →
+    and_then s (frame.Adding (record { rows = t; place = at; sum = sum }))
+    (λ v gs. number_stop (calculation op.Add sum v) gs
+    (λ next. adding_stop (λ n g. resumed k g b (row_at t n) ts us) t next (at + 1) (drop (at + 1) t.rows) []))
+    ≡ adding_stop (λ n g. resumed k g b (row_at t n) ts us) t sum at (drop at t.rows) fs
+row_first k b ts us t sum at fs s l e =
+    ap (λ z. and_then z (frame.Adding (record { rows = t; place = at; sum = sum }))
+    (λ v gs. number_stop (calculation op.Add sum v) gs
+    (λ next. adding_stop (λ n g. resumed k g b (row_at t n) ts us) t next (at + 1) (drop (at + 1) t.rows) []))) e
+    ∙ ap (λ rs. adding_stop (λ n g. resumed k g b (row_at t n) ts us) t sum at rs fs) (sym (drop_more t.rows at no_row l))
 
--- what one part makes of a sum, and what is left, are the whole
-summed : (part : ℕ → FormulaStep) (sum : Value) (rs : List Row) (at : ℕ) (step whole : FormulaStep) → at < length rs → step ≡ part at
-    → sum_from part sum at (drop at rs) ≡ whole
-    → with_value step (λ v. with_value (End (calculation op.Add sum v)) (λ next. sum_from part next (at + 1) (drop (at + 1) rs))) ≡ whole
-summed part sum rs at step whole small is h =
-    ap (λ (s : FormulaStep). with_value s (λ v. with_value (End (calculation op.Add sum v)) (λ next. sum_from part next (at + 1) (drop (at + 1) rs)))) is
-    ∙ sym (next_row (sum_from part sum at) rs at small) ∙ h
+pub adding_asks : (k : Bool) (b : Tree) (ts us : List Known) (t : Table) (sum : Value) (at : ℕ) (fs gs : List Frame) (n : ℕ) (way : Bool) →
+    at < length t.rows → stop (Ask n way) gs ≡ resumed k fs b (row_at t at) ts us →
+    stop (Ask n way) (frame.Adding (record { rows = t; place = at; sum = sum }) ∷ gs)
+    ≡ adding_stop (λ m g. resumed k g b (row_at t m) ts us) t sum at (drop at t.rows) fs
+adding_asks k b ts us t sum at fs gs n way l e = row_first k b ts us t sum at fs (stop (Ask n way) gs) l e
 
--- a part that ends the sum ends the whole
-pub sum_ends : (part : ℕ → FormulaStep) (sum : Value) (rs : List Row) (at : ℕ) (step whole end : FormulaStep) → at < length rs → step ≡ part at
-    → sum_from part sum at (drop at rs) ≡ whole
-    → ((go : Value → FormulaStep) → with_value step (λ v. with_value (End (calculation op.Add sum v)) go) ≡ end) → end ≡ whole
-sum_ends part sum rs at step whole end small is h ends =
-    sym (ends (λ next. sum_from part next (at + 1) (drop (at + 1) rs))) ∙ summed part sum rs at step whole small is h
+pub adding_fails : (k : Bool) (b : Tree) (ts us : List Known) (t : Table) (sum : Value) (at : ℕ) (fs gs : List Frame) (f : Fault) →
+    at < length t.rows → stop (End (Bad f)) gs ≡ resumed k fs b (row_at t at) ts us →
+    stop (End (Bad f)) gs ≡ adding_stop (λ m g. resumed k g b (row_at t m) ts us) t sum at (drop at t.rows) fs
+adding_fails k b ts us t sum at fs gs f l e = row_first k b ts us t sum at fs (stop (End (Bad f)) gs) l e
 
--- a part that is added leaves the others
-pub sum_goes : (part : ℕ → FormulaStep) (sum : Value) (rs : List Row) (at : ℕ) (step whole : FormulaStep) (next : Value) → at < length rs → step ≡ part at
-    → sum_from part sum at (drop at rs) ≡ whole
-    → ((go : Value → FormulaStep) → with_value step (λ v. with_value (End (calculation op.Add sum v)) go) ≡ go next)
-    → sum_from part next (at + 1) (drop (at + 1) rs) ≡ whole
-sum_goes part sum rs at step whole next small is h goes =
-    sym (goes (λ n. sum_from part n (at + 1) (drop (at + 1) rs))) ∙ summed part sum rs at step whole small is h
+added : (o u : Outcome) (gs : List Frame) (go : Value → Stop) → o ≡ u → number_stop o gs go ≡ number_stop u gs go
+added o u gs go e = ap (λ z. number_stop z gs go) e
 
--- what one test tells, and what is left, are the whole
-kept : (test : ℕ → FormulaStep) (t : Table) (marks : List Bool) (rs : List Row) (at : ℕ) (step whole : FormulaStep) → at < length rs → step ≡ test at
-    → kept_from test t marks at (drop at rs) ≡ whole
-    → with_value step (λ v. with_truth v (λ b. kept_from test t (marks ++ b ∷ []) (at + 1) (drop (at + 1) rs))) ≡ whole
-kept test t marks rs at step whole small is h =
-    ap (λ (s : FormulaStep). with_value s (λ v. with_truth v (λ b. kept_from test t (marks ++ b ∷ []) (at + 1) (drop (at + 1) rs)))) is
-    ∙ sym (next_row (kept_from test t marks at) rs at small) ∙ h
+pub adding_overflows : (k : Bool) (b : Tree) (ts us : List Known) (t : Table) (sum v : Value) (at : ℕ) (fs gs : List Frame) (f : Fault) →
+    at < length t.rows → stop (End (Good v)) gs ≡ resumed k fs b (row_at t at) ts us → Bad f ≡ calculation op.Add sum v →
+    stop (End (Bad f)) gs ≡ adding_stop (λ m g. resumed k g b (row_at t m) ts us) t sum at (drop at t.rows) fs
+adding_overflows k b ts us t sum v at fs gs f l e o =
+    added (Bad f) (calculation op.Add sum v) gs
+    (λ next. adding_stop (λ n g. resumed k g b (row_at t n) ts us) t next (at + 1) (drop (at + 1) t.rows) []) o
+    ∙ row_first k b ts us t sum at fs (stop (End (Good v)) gs) l e
 
--- a test that ends the choice ends the whole
-pub keep_ends : (test : ℕ → FormulaStep) (t : Table) (marks : List Bool) (rs : List Row) (at : ℕ) (step whole end : FormulaStep) → at < length rs → step ≡ test at
-    → kept_from test t marks at (drop at rs) ≡ whole
-    → ((go : Bool → FormulaStep) → with_value step (λ v. with_truth v go) ≡ end) → end ≡ whole
-keep_ends test t marks rs at step whole end small is h ends =
-    sym (ends (λ b. kept_from test t (marks ++ b ∷ []) (at + 1) (drop (at + 1) rs))) ∙ kept test t marks rs at step whole small is h
+pub adding_goes_on : (k : Bool) (b : Tree) (ts us : List Known) (t : Table) (sum v next : Value) (at : ℕ) (fs gs : List Frame) →
+    at < length t.rows → stop (End (Good v)) gs ≡ resumed k fs b (row_at t at) ts us → Good next ≡ calculation op.Add sum v →
+    adding_stop (λ m g. resumed k g b (row_at t m) ts us) t next (at + 1) (drop (at + 1) t.rows) []
+    ≡ adding_stop (λ m g. resumed k g b (row_at t m) ts us) t sum at (drop at t.rows) fs
+adding_goes_on k b ts us t sum v next at fs gs l e o =
+    added (Good next) (calculation op.Add sum v) gs
+    (λ z. adding_stop (λ n g. resumed k g b (row_at t n) ts us) t z (at + 1) (drop (at + 1) t.rows) []) o
+    ∙ row_first k b ts us t sum at fs (stop (End (Good v)) gs) l e
 
--- a test that tells a truth leaves the others
-pub keep_goes : (test : ℕ → FormulaStep) (t : Table) (marks : List Bool) (rs : List Row) (at : ℕ) (step whole : FormulaStep) (mark : Bool) → at < length rs → step ≡ test at
-    → kept_from test t marks at (drop at rs) ≡ whole
-    → ((go : Bool → FormulaStep) → with_value step (λ v. with_truth v go) ≡ go mark)
-    → kept_from test t (marks ++ mark ∷ []) (at + 1) (drop (at + 1) rs) ≡ whole
-keep_goes test t marks rs at step whole mark small is h goes =
-    sym (goes (λ b. kept_from test t (marks ++ b ∷ []) (at + 1) (drop (at + 1) rs))) ∙ kept test t marks rs at step whole small is h
+-- ---- tests
 
--- one mark more
-pub one_more : (marks : List Bool) (mark : Bool) (n : ℕ) → length marks ≡ n → length (marks ++ mark ∷ []) ≡ n + 1
-one_more marks mark n is = length-append marks (mark ∷ []) ∙ ap (λ (m : ℕ). m + 1) is
+-- the choice from a row on is what that row's test tells
+test_first : (k : Bool) (b : Tree) (ts us : List Known) (t : Table) (marks : List Bool) (at : ℕ) (fs : List Frame) (s : Stop) → at < length t.rows →
+    s ≡ resumed k fs b (row_at t at) ts us →
+    and_then s (frame.Keeping (record { rows = t; marks = marks }))
+    (λ v gs. truth_stop (truth_of v) gs
+    (λ mark. keeping_stop (λ n g. resumed k g b (row_at t n) ts us) t (marks ++ mark ∷ []) (at + 1) (drop (at + 1) t.rows) []))
+    ≡ keeping_stop (λ n g. resumed k g b (row_at t n) ts us) t marks at (drop at t.rows) fs
+test_first k b ts us t marks at fs s l e =
+    ap (λ z. and_then z (frame.Keeping (record { rows = t; marks = marks }))
+    (λ v gs. truth_stop (truth_of v) gs
+    (λ mark. keeping_stop (λ n g. resumed k g b (row_at t n) ts us) t (marks ++ mark ∷ []) (at + 1) (drop (at + 1) t.rows) []))) e
+    ∙ ap (λ rs. keeping_stop (λ n g. resumed k g b (row_at t n) ts us) t marks at rs fs) (sym (drop_more t.rows at no_row l))
+
+pub keeping_asks : (k : Bool) (b : Tree) (ts us : List Known) (t : Table) (marks : List Bool) (at : ℕ) (fs gs : List Frame) (n : ℕ) (way : Bool) →
+    at < length t.rows → stop (Ask n way) gs ≡ resumed k fs b (row_at t at) ts us →
+    stop (Ask n way) (frame.Keeping (record { rows = t; marks = marks }) ∷ gs)
+    ≡ keeping_stop (λ m g. resumed k g b (row_at t m) ts us) t marks at (drop at t.rows) fs
+keeping_asks k b ts us t marks at fs gs n way l e = test_first k b ts us t marks at fs (stop (Ask n way) gs) l e
+
+pub keeping_fails : (k : Bool) (b : Tree) (ts us : List Known) (t : Table) (marks : List Bool) (at : ℕ) (fs gs : List Frame) (f : Fault) →
+    at < length t.rows → stop (End (Bad f)) gs ≡ resumed k fs b (row_at t at) ts us →
+    stop (End (Bad f)) gs ≡ keeping_stop (λ m g. resumed k g b (row_at t m) ts us) t marks at (drop at t.rows) fs
+keeping_fails k b ts us t marks at fs gs f l e = test_first k b ts us t marks at fs (stop (End (Bad f)) gs) l e
+
+told : (o u : Option Bool) (gs : List Frame) (go : Bool → Stop) → o ≡ u → truth_stop o gs go ≡ truth_stop u gs go
+told o u gs go e = ap (λ z. truth_stop z gs go) e
+
+-- a value of another kind is no truth
+pub keeping_stops : (k : Bool) (b : Tree) (ts us : List Known) (t : Table) (marks : List Bool) (v : Value) (at : ℕ) (fs gs : List Frame) →
+    at < length t.rows → stop (End (Good v)) gs ≡ resumed k fs b (row_at t at) ts us → None ≡ truth_of v →
+    stop (End (Bad Kind)) gs ≡ keeping_stop (λ m g. resumed k g b (row_at t m) ts us) t marks at (drop at t.rows) fs
+keeping_stops k b ts us t marks v at fs gs l e o =
+    told None (truth_of v) gs
+    (λ mark. keeping_stop (λ n g. resumed k g b (row_at t n) ts us) t (marks ++ mark ∷ []) (at + 1) (drop (at + 1) t.rows) []) o
+    ∙ test_first k b ts us t marks at fs (stop (End (Good v)) gs) l e
+
+pub keeping_goes_on : (k : Bool) (b : Tree) (ts us : List Known) (t : Table) (marks : List Bool) (v : Value) (mark : Bool) (at : ℕ) (fs gs : List Frame) →
+    at < length t.rows → stop (End (Good v)) gs ≡ resumed k fs b (row_at t at) ts us → Some mark ≡ truth_of v →
+    keeping_stop (λ m g. resumed k g b (row_at t m) ts us) t (marks ++ mark ∷ []) (at + 1) (drop (at + 1) t.rows) []
+    ≡ keeping_stop (λ m g. resumed k g b (row_at t m) ts us) t marks at (drop at t.rows) fs
+keeping_goes_on k b ts us t marks v mark at fs gs l e o =
+    told (Some mark) (truth_of v) gs
+    (λ z. keeping_stop (λ n g. resumed k g b (row_at t n) ts us) t (marks ++ z ∷ []) (at + 1) (drop (at + 1) t.rows) []) o
+    ∙ test_first k b ts us t marks at fs (stop (End (Good v)) gs) l e
+
+-- behind the last row
+pub keeping_ends : (k : Bool) (b : Tree) (ts us : List Known) (t : Table) (marks : List Bool) (at : ℕ) (fs : List Frame) → length t.rows ≤ at →
+    stop (End (Good (value.Rows (record { fields = t.fields; rows = marked marks t.rows })))) fs
+    ≡ keeping_stop (λ m g. resumed k g b (row_at t m) ts us) t marks at (drop at t.rows) fs
+keeping_ends k b ts us t marks at fs l = ap (λ rs. keeping_stop (λ m g. resumed k g b (row_at t m) ts us) t marks at rs fs) (sym (drop_all at t.rows l))
+
+-- ---- formulas that go over rows
+
+-- a sum that stands at a row
+pub sum_again : (k : Bool) (a b : Tree) (row : Option RowRef) (ts us : List Known) (fs : List Frame) (at : Adding) (s : Stop) →
+    Some at ≡ adding_of fs → s ≡ adding_stop (λ n g. resumed k g b (row_at at.rows n) ts us) at.rows at.sum at.place (drop at.place at.rows.rows) (others fs) →
+    s ≡ resumed k fs (sum_of a b) row ts us
+sum_again k a b row ts us fs at s o e =
+    e ∙ ap (λ z. sum_stop (λ g. resumed k g a row ts us) (λ t n g. resumed k g b (row_at t n) ts us) z (others fs)) o
+
+-- a sum whose rows are evaluated
+pub sum_anew : (k : Bool) (a b : Tree) (row : Option RowRef) (ts us : List Known) (fs : List Frame) (rows s : Stop) →
+    None ≡ adding_of fs → rows ≡ resumed k (others fs) a row ts us → s ≡ summed_stop (λ t n g. resumed k g b (row_at t n) ts us) rows →
+    s ≡ resumed k fs (sum_of a b) row ts us
+sum_anew k a b row ts us fs rows s o r e =
+    e ∙ (ap (summed_stop (λ t n g. resumed k g b (row_at t n) ts us)) r
+    ∙ ap (λ z. sum_stop (λ g. resumed k g a row ts us) (λ t n g. resumed k g b (row_at t n) ts us) z (others fs)) o)
+
+-- a choice that stands at a row
+pub keep_again : (k : Bool) (a b : Tree) (row : Option RowRef) (ts us : List Known) (fs : List Frame) (at : MarkedRows) (s : Stop) →
+    Some at ≡ keeping_of fs →
+    s ≡ keeping_stop (λ n g. resumed k g b (row_at at.rows n) ts us) at.rows at.marks (length at.marks) (drop (length at.marks) at.rows.rows) (others fs) →
+    s ≡ resumed k fs (rows_where a b) row ts us
+keep_again k a b row ts us fs at s o e =
+    e ∙ ap (λ z. keep_stop (λ g. resumed k g a row ts us) (λ t n g. resumed k g b (row_at t n) ts us) z (others fs)) o
+
+-- a choice whose rows are evaluated
+pub keep_anew : (k : Bool) (a b : Tree) (row : Option RowRef) (ts us : List Known) (fs : List Frame) (rows s : Stop) →
+    None ≡ keeping_of fs → rows ≡ resumed k (others fs) a row ts us → s ≡ kept_stop (λ t n g. resumed k g b (row_at t n) ts us) rows →
+    s ≡ resumed k fs (rows_where a b) row ts us
+keep_anew k a b row ts us fs rows s o r e =
+    e ∙ (ap (kept_stop (λ t n g. resumed k g b (row_at t n) ts us)) r
+    ∙ ap (λ z. keep_stop (λ g. resumed k g a row ts us) (λ t n g. resumed k g b (row_at t n) ts us) z (others fs)) o)

@@ -225,10 +225,6 @@ plain_step (Ask s tracked) = Read s
 plain_step (End (Good v)) = Done v
 plain_step (End (Bad e)) = Fail e
 
--- what the left operand decides, or else what the right one comes to with it
-abbrev pub right_step : Bool → BinOp → Value → Tree → Option RowRef → List Known → List Known → FormulaStep
-right_step tracking o v b row ts us = unless_decided (decided o v) (with_value (formula_step tracking b row ts us) (λ w. End (operated o v w)))
-
 -- the parts of rows, added up: a part speaks of each row in turn
 abbrev pub sum_step : Bool → Table → Tree → List Known → List Known → FormulaStep
 sum_step tracking t b ts us = sum_from (λ n. formula_step tracking b (row_at t n) ts us) (value.Int (pos 0)) 0 t.rows

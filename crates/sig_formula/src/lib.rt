@@ -4,11 +4,14 @@
 mod copying;
 mod evaluate;
 mod formula;
+mod frames;
 mod laws;
 mod operate;
+mod resume;
 mod row;
 
 pub use copying::copy_formula;
 pub use evaluate::{FormulaStep, formula_step, step};
 pub use formula::{BinOp, Formula, RowRef};
+pub use frames::{Adding, Frame, Keeping, Paused};
 pub use laws::{formulas_ask_own_unknown_slots, rows_are_asked_by_it_alone};

@@ -1,0 +1,179 @@
+// The path from a formula to the slot at which its evaluation stopped.
+ghost use Rattle.std.specs.Prelude.{◌≡◌, ◌<◌, ◌≤◌, [], ◌∷◌, ◌++◌, length, OnOk, IfOk};
+ghost use Rattle.sig_base.specs.Tables.{marked};
+ghost use Rattle.sig_formula.specs.Resuming.{adding_of, branch_of, keeping_of, others, second_value};
+
+use sig_base::{NoMemory, Rows, Value};
+use std::alloc::Global;
+use std::marker::Model;
+
+/// Where an evaluation stands in what is added up: at a row, with the sum before it.
+#[derive(Drop)]
+pub struct Adding {
+    pub(crate) rows: Rows,
+    pub(crate) place: usize,
+    pub(crate) sum: Value,
+}
+
+/// Where an evaluation stands in the test of rows: at the row behind those that are marked.
+#[derive(Drop)]
+pub struct Keeping {
+    rows: Rows,
+    marks: Vec<bool>,
+}
+
+impl Model for Keeping {
+    ghost use Rattle.std.specs.Prelude.{◌≤◌, length};
+    ghost use Rattle.sig_formula.specs.Marked.{MarkedRows};
+
+    ghost Value = { MarkedRows };
+
+    ghost view = { λ k. record { rows = k.rows; marks = k.marks.items } };
+
+    ghost invariant = { λ k. length k.marks.items ≤ length k.rows.rows };
+}
+
+impl Keeping {
+    /// These rows, none of which is marked.
+    pub(crate) fn new(alloc: Global, rows: Rows) -> Keeping
+        ensures { result ≡ record { rows = rows; marks = [] } }
+    {
+        Keeping {
+            rows,
+            marks: Vec::new(alloc),
+        }
+    }
+
+    /// The rows, marked or not.
+    pub(crate) fn rows(&self) -> &Rows
+        ensures { result.now ≡ self.now.rows }
+    {
+        &self.rows
+    }
+
+    /// The place of the row that is tested next.
+    pub(crate) fn place(&self) -> usize
+        ensures place { result ≡ length self.now.marks }
+        ensures within { result ≤ length self.now.rows.rows }
+    {
+        self.marks.len()
+    }
+
+    /// Marks the row that is tested next.
+    pub(crate) fn mark(&mut self, mark: bool) -> Result<(), NoMemory>
+        requires { length self.old.marks < length self.old.rows.rows }
+        ensures { OnOk result (self.new ≡ record { rows = self.old.rows; marks = self.old.marks ++ mark ∷ [] }) }
+    {
+        self.marks.push(mark)?;
+        Ok(())
+    }
+
+    /// The rows whose mark is true, once each has one.
+    pub(crate) fn kept(&self, alloc: Global) -> Result<Rows, NoMemory>
+        requires { length self.now.marks ≡ length self.now.rows.rows }
+        ensures { IfOk result (λ r. r ≡ record { fields = self.now.rows.fields; rows = marked self.now.marks self.now.rows.rows }) }
+    {
+        let kept = self.rows.keep_by(alloc, self.marks.as_slice())?;
+        Ok(kept)
+    }
+}
+
+/// Where an evaluation stands in a formula that has several parts, and what the parts before came to.
+#[derive(Drop)]
+pub enum Frame {
+    /// In the first part.
+    First,
+    /// In the right operand, by the value of the left one.
+    Second(Value),
+    /// In the branch for a truth.
+    Branch(bool),
+    /// In what is added up over rows.
+    Adding(Adding),
+    /// In the test of rows.
+    Keeping(Keeping),
+}
+
+/// The frames of an evaluation.
+#[derive(Drop)]
+pub struct Paused {
+    // the innermost first
+    frames: Vec<Frame>,
+}
+
+impl Model for Paused {
+    ghost use Rattle.std.specs.Prelude.{List, reverse};
+    ghost use Rattle.sig_formula.specs.declared.frames.Frame.{Frame};
+
+    ghost Value = { List Frame };
+
+    ghost view = { λ p. reverse p.frames.items };
+}
+
+impl Paused {
+    /// None, where nothing was evaluated.
+    pub(crate) fn none(alloc: Global) -> Paused
+        ensures { result ≡ [] }
+    {
+        Paused {
+            frames: Vec::new(alloc),
+        }
+    }
+
+    pub(crate) fn clear(&mut self)
+        ensures { self.new ≡ [] }
+    {
+        self.frames.clear();
+    }
+
+    /// Puts a frame round the others.
+    pub(crate) fn enclose(&mut self, frame: Frame) -> Result<(), NoMemory>
+        ensures { OnOk result (self.new ≡ frame ∷ self.old) }
+    {
+        self.frames.push(frame)?;
+        Ok(())
+    }
+
+    /// Takes the outermost frame off: the value of the left operand, where the evaluation stands in the right one.
+    pub(crate) fn enter_second(&mut self) -> Option<Value>
+        ensures value { result ≡ second_value self.old }
+        ensures rest { self.new ≡ others self.old }
+    {
+        match self.frames.pop() {
+            Some(Frame::Second(value)) => Some(value),
+            _ => None,
+        }
+    }
+
+    /// Takes the outermost frame off: the branch in which the evaluation stands.
+    pub(crate) fn enter_branch(&mut self) -> Option<bool>
+        ensures branch { result ≡ branch_of self.old }
+        ensures rest { self.new ≡ others self.old }
+    {
+        match self.frames.pop() {
+            Some(Frame::Branch(branch)) => Some(branch),
+            _ => None,
+        }
+    }
+
+    /// Takes the outermost frame off: where the evaluation stands in a sum.
+    pub(crate) fn enter_adding(&mut self) -> Option<Adding>
+        ensures adding { result ≡ adding_of self.old }
+        ensures rest { self.new ≡ others self.old }
+    {
+        match self.frames.pop() {
+            Some(Frame::Adding(adding)) => Some(adding),
+            _ => None,
+        }
+    }
+
+    /// Takes the outermost frame off: where the evaluation stands in the test of rows.
+    pub(crate) fn enter_keeping(&mut self) -> Option<Keeping>
+        ensures keeping { result ≡ keeping_of self.old }
+        ensures rest { self.new ≡ others self.old }
+    {
+        match self.frames.pop() {
+            Some(Frame::Keeping(keeping)) => Some(keeping),
+            _ => None,
+        }
+    }
+}
