@@ -16,10 +16,15 @@ pub struct Adding {
 }
 
 /// Where an evaluation stands in the test of rows: at the row behind those that are marked.
-#[derive(Drop)]
 pub struct Keeping {
     rows: Rows,
     marks: Vec<bool>,
+}
+
+impl Drop for Keeping {
+    fn drop(self) {
+        let Keeping { rows: _, marks: _ } = self;
+    }
 }
 
 impl Model for Keeping {

@@ -1,7 +1,7 @@
 // Evaluations that stop at a slot that they need and go on from there.
-ghost use Rattle.std.specs.Prelude.{◌≡◌, ◌<◌, [], ◌∷◌, drop, length, Option, IfOk, IfSome, OnOk};
+ghost use Rattle.std.specs.Prelude.{◌≡◌, ◌<◌, [], drop, length, Option, IfOk, IfSome, OnOk};
 ghost use Rattle.std.specs.Option.{option_copied};
-ghost use Rattle.sig_formula.specs.Answering.{answer_of, plain_step, row_at};
+ghost use Rattle.sig_formula.specs.Answering.{answer_of, row_at};
 ghost use Rattle.sig_formula.specs.Resuming.{adding_stop, branch_stop, keeping_stop, kept_stop, left_stop, resumed, second_stop, stop, summed_stop, truth_of, IsPaused};
 ghost use Rattle.sig_formula.specs.declared.formula.RowRef.{RowRef};
 ghost use Rattle.sig_formula.specs.Trees.{tree};
@@ -396,7 +396,11 @@ impl Paused {
     }
 
     /// Goes on with the evaluation of the formula and the row of the calls before, by values that begin with those of the call before: what
-    /// the formula answers to them. Without memory it may only be dropped.
+    /// the formula answers to them.
+    ///
+    /// # Errors
+    ///
+    /// `NoMemory` alone, after which it may only be dropped.
     #[tactic(auto, using(crate::proofs::Halting::new_is_paused, crate::proofs::Halting::paused_answers, crate::proofs::Halting::asked_is_paused))]
     pub fn advance(
         &mut self,
