@@ -9,6 +9,7 @@ mod ReachedSeats
 mod Reaching
 pub mod Using
 pub mod Shared
+mod Pausing
 mod Found
 mod KeptFinds
 mod MarkedStates

@@ -93,26 +93,6 @@ pub names_now : (k : Memos) (ns : List ℕ) → source_names (map (named_now k) 
 names_now k [] = refl
 names_now k (n ∷ ns) = ap (λ (r : List ℕ). n ∷ r) (names_now k ns)
 
--- a step of an evaluation leaves what stands there
-pub known_stands : (k : Option (List Known)) (n : ℕ) (xs : List Node) → stands_of n (body_at (changed_at (known_node k) n xs) n) ≡ stands_of n (body_at xs n)
-known_stands k n xs = ap (stands_of n) (body_changed (known_node k) (λ b. with_body_known b k) n n xs (λ x. refl) refl) ∙ go (n == n) (body_at xs n)
-  where
-    go : (t : Bool) (b : Body) → stands_of n (if t then with_body_known b k else b) ≡ stands_of n b
-    go false b = refl
-    go true Gone = refl
-    go true (CellBody v r) = refl
-    go true (ComputedBody c) = refl
-
--- and its slots
-pub known_slots : (k : Option (List Known)) (n : ℕ) (xs : List Node) → slots_body (body_at (changed_at (known_node k) n xs) n) ≡ slots_body (body_at xs n)
-known_slots k n xs = ap slots_body (body_changed (known_node k) (λ b. with_body_known b k) n n xs (λ x. refl) refl) ∙ go (n == n) (body_at xs n)
-  where
-    go : (t : Bool) (b : Body) → slots_body (if t then with_body_known b k else b) ≡ slots_body b
-    go false b = refl
-    go true Gone = refl
-    go true (CellBody v r) = refl
-    go true (ComputedBody c) = refl
-
 -- an evaluation that goes on is of a node that is there
 pub known_below : (xs : List Node) (n : ℕ) (known : List Known) → GoesOn (known_body (body_at xs n)) known → n < length xs
 known_below xs n known h = computed_below xs n (go (body_at xs n) h)

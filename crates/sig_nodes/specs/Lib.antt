@@ -7,3 +7,4 @@ pub mod Seats
 pub mod Places
 pub mod Search
 pub mod Looks
+pub mod Pausing

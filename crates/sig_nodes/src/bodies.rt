@@ -5,13 +5,13 @@ ghost use Rattle.signal_model.specs.Standing.{is_computed};
 ghost use Rattle.signal_model.specs.Memos.{is_stale_by, same_number, source_names, sources_in};
 ghost use Rattle.signal_model.specs.Sound.{kept_outcome};
 ghost use Rattle.sig_nodes.specs.declared.node.Body.TheVariants as body;
-ghost use Rattle.sig_nodes.specs.Answers.{host_here, kind_here, rule_here, slots_here, value_here, IsAnswerHere, IsJudgedAnswer};
+ghost use Rattle.sig_nodes.specs.Answers.{host_here, kind_here, rule_here, slots_here, value_here};
 ghost use Rattle.sig_nodes.specs.Nodes.{are_live_bodies, asks_host_body, body_at, change_at, has_moved_body, is_computed_body, is_live_body, known_body, memo_body, number_at, number_body, seat_at, slots_body, some_asks_body, stands_of};
 ghost use Rattle.sig_nodes.specs.Computations.{at_generation};
 
-use crate::answers::{Asked, Standing};
+use crate::answers::Standing;
 use crate::node::{Body, Computation, Node, Source};
-use sig_base::{Known, NoMemory, NodeId, Outcome, Value};
+use sig_base::{NoMemory, NodeId, Outcome, Value};
 use std::alloc::Global;
 
 /// What lives at a place, none past the last place.
@@ -222,23 +222,6 @@ pub(crate) fn is_stale_at(nodes: &[Node], generation: u128, id: NodeId) -> bool
     match body_at(nodes, id) {
         Some(Body::Computed(computation)) => computation.is_stale(generation),
         _ => true,
-    }
-}
-
-/// The recipe's answer of the computed there.
-pub(crate) fn answer_at(
-    alloc: Global,
-    nodes: &[Node],
-    id: NodeId,
-    known: &[Known],
-) -> Result<Asked, NoMemory>
-    requires { is_computed_body (body_at nodes.now id) ≡ true }
-    ensures answer { IfOk result (λ a. IsAnswerHere (stands_of id (body_at nodes.now id)) known.now a) }
-    ensures judged { IfOk result (λ a. IsJudgedAnswer (length (slots_body (body_at nodes.now id))) known.now a) }
-{
-    match computation_at(nodes, id) {
-        Some(computation) => computation.answer(alloc, known),
-        None => unreachable!(),
     }
 }
 

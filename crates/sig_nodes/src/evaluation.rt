@@ -7,11 +7,11 @@ ghost use Rattle.sig_nodes.specs.Answers.{has_moved, slots_here, IsAnswerHere, I
 ghost use Rattle.sig_nodes.specs.States.{counted, is_computing, is_given, progress_at, with_kept_run, with_look, with_progress, Becomes, CanWear, GoesOn};
 
 use crate::answers::Asked;
-use crate::bodies::{answer_at, is_stale_at, moved_at, numbers_now, sources_at};
+use crate::bodies::{is_stale_at, moved_at, numbers_now, sources_at};
 use crate::graph::Graph;
 use crate::marking::{end_mark, run_unmarks, stop_unmarks};
 use crate::node::Memo;
-use crate::store::{begin_at, end_at, keep_memo_at, note_at};
+use crate::store::{ask_at, begin_at, end_at, keep_memo_at};
 use sig_base::{Known, NoMemory, NodeId, Outcome};
 
 /// One counted step more.
@@ -51,8 +51,7 @@ impl Graph {
     {
         let _count = self.nodes.len();
         self.looked = counted(self.looked);
-        note_at(&mut self.nodes, id, known)?;
-        let answer = answer_at(self.alloc, &self.nodes, id, known)?;
+        let answer = ask_at(self.alloc, &mut self.nodes, id, known)?;
         Ok(answer)
     }
 

@@ -11,10 +11,14 @@ ghost use Rattle.signal_model.specs.Changes.{memo_rewired};
 ghost use Rattle.sig_nodes.specs.States.{GoesOn};
 ghost use Rattle.sig_nodes.specs.Answers.{expression_of, host_place, IsAnswerOf, IsJudgedAnswer};
 ghost use Rattle.sig_nodes.specs.Computations.{at_generation, paired, recipe_made};
+ghost use Rattle.sig_nodes.specs.Pausing.{IsHeldOf};
+ghost use Rattle.sig_base.specs.declared.value.Known.{Known};
+ghost use Rattle.sig_formula.specs.Resuming.{IsPaused};
+ghost use Rattle.sig_formula.specs.Trees.{tree};
 
 use crate::answers::{Asked, Recipe};
 use sig_base::{Fault, Known, NoMemory, NodeId, Outcome, Value};
-use sig_formula::step;
+use sig_formula::{Formula, Paused};
 use signal_model::judged;
 use std::alloc::Global;
 use std::marker::Model;
@@ -136,7 +140,8 @@ pub(crate) fn is_cycle(outcome: &Outcome) -> bool
     }
 }
 
-/// What is kept of a computed, and while it is computing the values that its recipe was last asked with.
+/// What is kept of a computed, and while it is computing the values that its recipe was last asked with, and where the evaluation of its
+/// formula stands by them.
 #[derive(Drop)]
 pub(crate) struct Computation {
     recipe: Recipe,
@@ -144,6 +149,8 @@ pub(crate) struct Computation {
     memo: Option<Memo>,
     computing: bool,
     known: Vec<Known>,
+    // none before the first answer, and for a host formula
+    paused: Option<Paused>,
 }
 
 impl Model for Computation {
@@ -158,12 +165,15 @@ impl Model for Computation {
 
     ghost use Rattle.sig_nodes.specs.States.{GoesOn};
     ghost use Rattle.sig_nodes.specs.Answers.{expression_of};
+    ghost use Rattle.sig_nodes.specs.Pausing.{IsHeld};
 
     ghost view = { λ c. record {
       recipe = recipe_made (expression_of c.recipe) c.slots.items;
       memo = c.memo;
       known = (if c.computing then Some c.known.items else None);
     } };
+
+    ghost invariant = { λ c. IsHeld c.paused c.recipe c.known.items };
 }
 
 impl Computation {
@@ -177,6 +187,7 @@ impl Computation {
             memo: None,
             computing: false,
             known: Vec::new(alloc),
+            paused: None,
         }
     }
 
@@ -270,40 +281,41 @@ impl Computation {
         &self.slots
     }
 
-    /// The recipe's answer to the values known so far.
-    pub(crate) fn answer(&self, alloc: Global, known: &[Known]) -> Result<Asked, NoMemory>
-        ensures answer { IfOk result (λ a. IsAnswerOf self.now.recipe known.now a) }
-        ensures judged { IfOk result (λ a. IsJudgedAnswer (length self.now.recipe.slots) known.now a) }
-    {
-        match &self.recipe {
-            Recipe::Formula(formula) => {
-                let step = step(alloc, formula, None, known)?;
-                Ok(Asked::Step(judged(self.slots.len(), known, step)))
-            }
-            Recipe::Host(place) => Ok(Asked::Host(*place)),
-        }
-    }
-
     pub(crate) fn begin(&mut self)
         ensures { self.new ≡ record self.old { known = Some [] } }
     {
         self.known.clear();
+        self.paused = None;
         self.computing = true;
     }
 
     pub(crate) fn end(&mut self)
         ensures { self.new ≡ record self.old { known = None } }
     {
+        self.paused = None;
         self.computing = false;
     }
 
-    /// Notes the values that the recipe is asked with, of which the earlier ones are noted already.
-    pub(crate) fn note(&mut self, known: &[Known]) -> Result<(), NoMemory>
+    /// The recipe's answer to the values known so far, of which the earlier ones are noted already. It notes the others, and the evaluation
+    /// of a formula goes on from where it stands.
+    pub(crate) fn ask(&mut self, alloc: Global, known: &[Known]) -> Result<Asked, NoMemory>
         requires { GoesOn self.old.known known.now }
         ensures kept { self.new ≡ record self.old { known = self.new.known } }
         ensures noted { OnOk result (self.new.known ≡ Some known.now) }
+        ensures answer { IfOk result (λ a. IsAnswerOf self.old.recipe known.now a) }
+        ensures judged { IfOk result (λ a. IsJudgedAnswer (length self.old.recipe.slots) known.now a) }
     {
-        note_rest(&mut self.known, known)
+        let held = self.paused.take();
+        note_rest(&mut self.known, known)?;
+        match &self.recipe {
+            Recipe::Formula(formula) => {
+                let mut paused = begun(alloc, formula, held)?;
+                let step = paused.advance(alloc, formula, None, known)?;
+                self.paused = Some(paused);
+                Ok(Asked::Step(judged(self.slots.len(), known, step)))
+            }
+            Recipe::Host(place) => Ok(Asked::Host(*place)),
+        }
     }
 
     /// Keeps a run, which ends the evaluation.
@@ -311,6 +323,7 @@ impl Computation {
         ensures { self.new ≡ record self.old { memo = Some memo; known = None } }
     {
         self.memo = Some(memo);
+        self.paused = None;
         self.computing = false;
     }
 
@@ -320,6 +333,7 @@ impl Computation {
     {
         self.recipe = recipe;
         self.slots = slots;
+        self.paused = None; // it stood in the former recipe
         if let Some(memo) = &mut self.memo {
             memo.mark_rewired();
         }
@@ -353,6 +367,16 @@ fn note_rest(held: &mut Vec<Known>, known: &[Known]) -> Result<(), NoMemory>
         held.push(one.copy()?)?;
     }
     Ok(())
+}
+
+// The evaluation of a formula that is held, or else one that has read nothing.
+fn begun(alloc: Global, formula: &Formula, held: Option<Paused>) -> Result<Paused, NoMemory>
+    ensures { IfOk result (λ p. (known : List Known) → IsHeldOf held (tree formula.now) known → IsPaused p (tree formula.now) None known) }
+{
+    match held {
+        Some(paused) => Ok(paused),
+        None => Paused::new(alloc, formula),
+    }
 }
 
 fn host_place(recipe: &Recipe) -> Option<usize>

@@ -2,13 +2,14 @@
 ghost use Rattle.std.specs.Prelude.{◌≡◌, ℕ, ◌+◌, ◌<◌, ◌^◌, ◌++◌, ◌∷◌, [], List, length, take, true, false, None, Some, IfOk, IfSome, OnOk, slice_get};
 ghost use Rattle.std.specs.Option.{option_copied};
 ghost use Rattle.sig_nodes.specs.States.{GoesOn};
-ghost use Rattle.sig_nodes.specs.Answers.{expression_of};
+ghost use Rattle.sig_nodes.specs.Answers.{expression_of, IsAnswerHere, IsJudgedAnswer};
 ghost use Rattle.sig_nodes.specs.Computations.{recipe_made};
-ghost use Rattle.sig_nodes.specs.Nodes.{body_at, change_at, changed_at, gone_node, is_cell_body, is_computed_body, known_body, known_node, rewired_node, run_node, set_node, value_body};
+ghost use Rattle.sig_nodes.specs.Nodes.{body_at, change_at, changed_at, gone_node, is_cell_body, is_computed_body, known_body, known_node, rewired_node, run_node, set_node, slots_body, stands_of, value_body};
 
-use crate::answers::Recipe;
+use crate::answers::{Asked, Recipe};
 use crate::node::{Body, Memo, Node};
 use sig_base::{Known, NoMemory, NodeId, Value};
+use std::alloc::Global;
 use std::mem;
 
 // Gives a cell's node another value, and gives back the one before.
@@ -147,25 +148,38 @@ pub(crate) fn end_at(nodes: &mut Vec<Node>, id: NodeId)
     end(&mut nodes[id.number() as usize]);
 }
 
-// Notes the values that a computed's recipe is asked with.
-fn note(node: &mut Node, known: &[Known]) -> Result<(), NoMemory>
+// Asks the recipe of a computed's node.
+fn ask(alloc: Global, node: &mut Node, known: &[Known]) -> Result<Asked, NoMemory>
     requires { GoesOn (known_body node.old.body) known.now }
     ensures kept { node.new ≡ known_node (known_body node.new.body) node.old }
     ensures noted { OnOk result (known_body node.new.body ≡ Some known.now) }
+    ensures answer { IfOk result (λ a. (name : ℕ) → IsAnswerHere (stands_of name node.old.body) known.now a) }
+    ensures judged { IfOk result (λ a. IsJudgedAnswer (length (slots_body node.old.body)) known.now a) }
 {
     match &mut node.body {
-        Body::Computed(computation) => computation.note(known),
+        Body::Computed(computation) => {
+            let answer = computation.ask(alloc, known)?;
+            Ok(answer)
+        }
         _ => unreachable!(),
     }
 }
 
-/// Notes the values that a computed's recipe is asked with, of which the earlier ones are noted already.
-pub(crate) fn note_at(nodes: &mut Vec<Node>, id: NodeId, known: &[Known]) -> Result<(), NoMemory>
+/// Asks a computed's recipe with the values known so far, of which the earlier ones are noted already, and notes the others.
+pub(crate) fn ask_at(
+    alloc: Global,
+    nodes: &mut Vec<Node>,
+    id: NodeId,
+    known: &[Known],
+) -> Result<Asked, NoMemory>
     requires place { id < length nodes.old.items }
     requires known { GoesOn (known_body (body_at nodes.old.items id)) known.now }
     ensures kept { nodes.new.items ≡ changed_at (known_node (known_body (body_at nodes.new.items id))) id nodes.old.items }
     ensures noted { OnOk result (known_body (body_at nodes.new.items id) ≡ Some known.now) }
+    ensures answer { IfOk result (λ a. IsAnswerHere (stands_of id (body_at nodes.old.items id)) known.now a) }
+    ensures judged { IfOk result (λ a. IsJudgedAnswer (length (slots_body (body_at nodes.old.items id))) known.now a) }
 {
     let _count = nodes.len();
-    note(&mut nodes[id.number() as usize], known)
+    let answer = ask(alloc, &mut nodes[id.number() as usize], known)?;
+    Ok(answer)
 }
