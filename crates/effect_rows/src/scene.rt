@@ -1,9 +1,10 @@
-// Two cells, what was told of their settling, and no host formulas.
+// Two cells, what was noted of their settling, and no host formulas.
 ghost use Rattle.std.specs.Prelude.{IfOk};
-ghost use Rattle.effect_runs.specs.Settling.{scene, CanSettle};
+ghost use Rattle.sig_computed.specs.Scenes.{scene, CanSettle};
 
 use sig_base::{NodeId, Value};
-use sig_effect::{Event, World};
+use sig_computed::RunNote;
+use sig_effect::World;
 use sig_host::{Lent, Shelf};
 use std::alloc::Global;
 use std::test::Fail;
@@ -13,7 +14,7 @@ use std::test::Fail;
 pub(crate) struct Scene {
     pub(crate) world: World,
     pub(crate) shelf: Shelf,
-    pub(crate) events: Vec<Event>,
+    pub(crate) notes: Vec<RunNote>,
     pub(crate) first: NodeId,
     pub(crate) second: NodeId,
 }
@@ -21,7 +22,7 @@ pub(crate) struct Scene {
 impl Scene {
     /// Cells of these values.
     pub(crate) fn new(alloc: Global, first: i64, second: i64) -> Result<Scene, Fail>
-        ensures can { IfOk result (λ s. CanSettle (scene s.world (⟦<Shelf as Lent>⟧.asked s.shelf) s.events.items)) }
+        ensures can { IfOk result (λ s. CanSettle (scene s.world.graph (⟦<Shelf as Lent>⟧.asked s.shelf) s.notes.items)) }
         ensures counted { IfOk result (λ s. ⟦<Shelf as Lent>⟧.counted s.shelf) }
     {
         let hosts = Vec::new(alloc);
@@ -29,11 +30,11 @@ impl Scene {
         let mut world = World::new(alloc)?;
         let first = world.make_cell(Value::Int(first), None)?;
         let second = world.make_cell(Value::Int(second), None)?;
-        let events = Vec::new(alloc);
+        let notes = Vec::new(alloc);
         Ok(Scene {
             world,
             shelf,
-            events,
+            notes,
             first,
             second,
         })

@@ -8,8 +8,9 @@ use Rattle.sig_base.specs.declared.value.Known.{Known}
 use Rattle.sig_base.specs.declared.value.Outcome.{Outcome}
 use Rattle.sig_base.specs.declared.value.Outcome.TheVariants.{Good, Bad}
 use Rattle.signal_model.specs.Recipes.{Hosts}
-use Rattle.signal_model.specs.Values.{Seen, learnt, value_of}
+use Rattle.signal_model.specs.Values.{Seen, value_of}
 use Rattle.signal_model.specs.Sound.{names_of}
+use Rattle.signal_model.specs.Kept.{AreKept}
 use Rattle.signal_laws.specs.ReadingLaws.{HaveOutcomes}
 use Rattle.signal_laws.proofs.Shared.{all_snoc}
 use Rattle.effect_model.specs.Bodies as model
@@ -20,13 +21,14 @@ use Rattle.effect_laws.proofs.Shared.{body_law}
 use Rattle.sig_untrack.specs.declared.body.Body.{Body}
 use Rattle.sig_untrack.specs.declared.body.BodyStep.{BodyStep as AStep}
 use Rattle.sig_untrack.specs.Linking.{Parts, step_of}
-use Rattle.sig_effect.specs.Agreeing.{Agrees, IsSound}
+use Rattle.sig_computed.specs.Notes.{IsIdle}
+use Rattle.sig_computed.specs.Scenes.{Scene, Settles}
+use Rattle.sig_computed.proofs.Shared.{nothing_settled, then_settled}
 use Rattle.effect_runs.specs.declared.reading.BodyEnd.{BodyEnd}
 use Rattle.effect_runs.specs.declared.reading.BodyEnd.TheVariants.{Fail}
 use Rattle.effect_runs.specs.declared.reading.BodyRun.{BodyRun}
 use Rattle.effect_runs.specs.Evaluating.{body_seen, learnt_if, result_of, HasNames, IsRunOf}
-use Rattle.effect_runs.specs.Settling.{Scene, Settles}
-use Rattle.effect_runs.proofs.Settlings.{nothing_settled, same_settled, sound_still, then_settled}
+use Rattle.effect_runs.proofs.Settlings.{same_settled}
 
 -- ---- evaluations of which some reads are done
 
@@ -67,12 +69,12 @@ have_last source (r ∷ rs) s all = have_last source rs s all.1
 
 -- the values from scratch
 abbrev pub scratch : Hosts → Scene → ℕ → Outcome
-scratch hosts x m = value_of hosts x.world.graph.state.signals m []
+scratch hosts x m = value_of hosts x.graph.state.signals m []
 
 -- What was read was settled, and its outcomes are from scratch.
 pub record IsRead (x y : Scene) (before after : Hosts → Type 0) (rs : List Seen) : Type 0 where
   pub settles : Settles x y before after (λ _. names_of rs)
-  pub outcomes : (hosts : Hosts) → before hosts → IsSound hosts x.asked x.world → HaveOutcomes (scratch hosts x) rs
+  pub outcomes : (hosts : Hosts) → before hosts → AreKept hosts x.graph.state.signals x.graph.state.memos → HaveOutcomes (scratch hosts x) rs
 
 -- what was read so far, and what is read and comes of it then, is the whole evaluation
 pub record IsAsking (x y : Scene) (before after : Hosts → Type 0) (b : Body) (names : List ℕ) (ts us : List Known) (tracked : List Seen) : Type 0 where
@@ -83,7 +85,7 @@ pub record IsAsking (x y : Scene) (before after : Hosts → Type 0) (b : Body) (
 
 -- so it is where the body has ended
 pub record IsWhole (x : Scene) (before : Hosts → Type 0) (b : Body) (names : List ℕ) (rs tracked : List Seen) (end : BodyEnd) : Type 0 where
-  pub outcomes : (hosts : Hosts) → before hosts → IsSound hosts x.asked x.world → HaveOutcomes (scratch hosts x) rs
+  pub outcomes : (hosts : Hosts) → before hosts → AreKept hosts x.graph.state.signals x.graph.state.memos → HaveOutcomes (scratch hosts x) rs
   pub whole : (p : Parts) (source : ℕ → Outcome) → HaveOutcomes source rs →
       begun rs tracked (body_ended (result_of p end)) ≡ body_asked_from (body_seen p b names) source [] []
 
@@ -100,10 +102,10 @@ answers_by b names ts us vs ws given step said t u is =
 
 -- nothing is known yet
 pub nothing_read : (x : Scene) (before : Hosts → Type 0) (b : Body) (names : List ℕ) (ts us : List Known) (tracked : List Seen) →
-    ts ≡ [] → us ≡ [] → tracked ≡ [] → Agrees x.asked x.world → IsAsking x x before before b names ts us tracked
-nothing_read x before b names ts us tracked t u r agrees = record {
+    ts ≡ [] → us ≡ [] → tracked ≡ [] → IsIdle x.graph.state → IsAsking x x before before b names ts us tracked
+nothing_read x before b names ts us tracked t u r idle = record {
   reads = [];
-  read = record { settles = nothing_settled x before agrees; outcomes = λ hosts all sound. tt };
+  read = record { settles = nothing_settled x before idle; outcomes = λ hosts all kept. tt };
   rest = λ p source have. (λ i. begun [] (r i) (body_asked_from (body_seen p b names) source (t i) (u i)));
 }
 
@@ -123,15 +125,15 @@ settled_one x y z before mid after rs n o a s =
 
 -- and its outcome is from scratch
 outcomes_one : (x y : Scene) (before mid : Hosts → Type 0) (rs : List Seen) (n : ℕ) (o : Outcome) → IsRead x y before mid rs →
-    ((hosts : Hosts) → mid hosts → IsSound hosts y.asked y.world → o ≡ scratch hosts y n) →
-    (hosts : Hosts) → before hosts → IsSound hosts x.asked x.world → HaveOutcomes (scratch hosts x) (rs ++ record { name = n; outcome = o } ∷ [])
-outcomes_one x y before mid rs n o a value hosts all sound =
-    all_snoc (λ (r : Seen). scratch hosts x r.name ≡ r.outcome) rs (record { name = n; outcome = o }) (a.outcomes hosts all sound)
-    (sym (value hosts (a.settles.answers hosts all) (sound_still x y before mid (λ _. names_of rs) hosts a.settles all sound)
+    ((hosts : Hosts) → mid hosts → AreKept hosts y.graph.state.signals y.graph.state.memos → o ≡ scratch hosts y n) →
+    (hosts : Hosts) → before hosts → AreKept hosts x.graph.state.signals x.graph.state.memos → HaveOutcomes (scratch hosts x) (rs ++ record { name = n; outcome = o } ∷ [])
+outcomes_one x y before mid rs n o a value hosts all kept =
+    all_snoc (λ (r : Seen). scratch hosts x r.name ≡ r.outcome) rs (record { name = n; outcome = o }) (a.outcomes hosts all kept)
+    (sym (value hosts (a.settles.answers hosts all) (a.settles.kept hosts all kept)
     ∙ ap (λ w. value_of hosts w n []) a.settles.signals))
 
 pub read_one : (x y z : Scene) (before mid after : Hosts → Type 0) (rs : List Seen) (n : ℕ) (o : Outcome) → IsRead x y before mid rs →
-    Settles y z mid after (λ _. n ∷ []) → ((hosts : Hosts) → mid hosts → IsSound hosts y.asked y.world → o ≡ scratch hosts y n) →
+    Settles y z mid after (λ _. n ∷ []) → ((hosts : Hosts) → mid hosts → AreKept hosts y.graph.state.signals y.graph.state.memos → o ≡ scratch hosts y n) →
     IsRead x z before after (rs ++ record { name = n; outcome = o } ∷ [])
 read_one x y z before mid after rs n o a s value = record {
   settles = settled_one x y z before mid after rs n o a.settles s;
@@ -154,7 +156,7 @@ ends x y before after b names ts us tracked end step fit i answers is = record {
 -- or by the fault of a signal
 pub fails_by : (x y : Scene) (before mid : Hosts → Type 0) (b : Body) (names : List ℕ) (ts us : List Known) (tracked : List Seen) (s n : ℕ) (c : Bool) (e : Fault) →
     HasNames b names → (i : IsAsking x y before mid b names ts us tracked) → n ≡ slice_index names s → Answers b names ts us (λ _. reads s c) →
-    ((hosts : Hosts) → mid hosts → IsSound hosts y.asked y.world → Bad e ≡ scratch hosts y n) →
+    ((hosts : Hosts) → mid hosts → AreKept hosts y.graph.state.signals y.graph.state.memos → Bad e ≡ scratch hosts y n) →
     IsWhole x before b names (i.reads ++ record { name = n; outcome = Bad e } ∷ []) (read_next c (record { name = n; outcome = Bad e }) tracked) (Fail e)
 fails_by x y before mid b names ts us tracked s n c e fit i at answers value =
     let r : Seen = record { name = n; outcome = Bad e } in
@@ -175,7 +177,7 @@ module _ (x y z : Scene) (before mid after : Hosts → Type 0) (b : Body) (names
     (fit : HasNames b names) (i : IsAsking x y before mid b names ts us tracked) (at : n ≡ slice_index names s) (answers : Answers b names ts us (λ _. reads s c))
     (settles : Settles y z mid after (λ _. n ∷ [])) where
   -- it has read the value of a signal
-  learnt_so : (v : Value) → ((hosts : Hosts) → mid hosts → IsSound hosts y.asked y.world → Good v ≡ scratch hosts y n) →
+  learnt_so : (v : Value) → ((hosts : Hosts) → mid hosts → AreKept hosts y.graph.state.signals y.graph.state.memos → Good v ≡ scratch hosts y n) →
       IsAsking x z before after b names (learnt_if c ts s v) (learnt_if (not c) us s v) (read_next c (record { name = n; outcome = Good v }) tracked)
   learnt_so v value =
       let r : Seen = record { name = n; outcome = Good v } in
@@ -194,7 +196,7 @@ module _ (x y z : Scene) (before mid after : Hosts → Type 0) (b : Body) (names
             ∙ i.rest p source (have_front source i.reads r have);
       }
 
-  pub learns : (vs ws : List Known) (more : List Seen) (v : Value) → ((hosts : Hosts) → mid hosts → IsSound hosts y.asked y.world → Good v ≡ scratch hosts y n) →
+  pub learns : (vs ws : List Known) (more : List Seen) (v : Value) → ((hosts : Hosts) → mid hosts → AreKept hosts y.graph.state.signals y.graph.state.memos → Good v ≡ scratch hosts y n) →
       vs ≡ learnt_if c ts s v → ws ≡ learnt_if (not c) us s v → more ≡ read_next c (record { name = n; outcome = Good v }) tracked →
       IsAsking x z before after b names vs ws more
   learns vs ws more v value t u r = subst (λ a. a) (λ i. IsAsking x z before after b names (sym t i) (sym u i) (sym r i)) (learnt_so v value)
@@ -203,21 +205,21 @@ module _ (x y z : Scene) (before mid after : Hosts → Type 0) (b : Body) (names
 
 module _ (x : Scene) (before : Hosts → Type 0) (b : Body) (names : List ℕ) (rs tracked : List Seen) (end : BodyEnd)
     (h : IsWhole x before b names rs tracked end) where
-  evaluation_is : (hosts : Hosts) (p : Parts) → before hosts → IsSound hosts x.asked x.world →
-      begun rs tracked (body_ended (result_of p end)) ≡ body_evaluation hosts x.world.graph.state.signals (body_seen p b names)
-  evaluation_is hosts p all sound = h.whole p (scratch hosts x) (h.outcomes hosts all sound)
+  evaluation_is : (hosts : Hosts) (p : Parts) → before hosts → AreKept hosts x.graph.state.signals x.graph.state.memos →
+      begun rs tracked (body_ended (result_of p end)) ≡ body_evaluation hosts x.graph.state.signals (body_seen p b names)
+  evaluation_is hosts p all kept = h.whole p (scratch hosts x) (h.outcomes hosts all kept)
 
   -- the run is that of the evaluation
-  pub run_is : (r : BodyRun) → r.tracked.items ≡ tracked → r.end ≡ end → (hosts : Hosts) (p : Parts) → before hosts → IsSound hosts x.asked x.world →
-      IsRunOf p (body_evaluation hosts x.world.graph.state.signals (body_seen p b names)) r
-  run_is r some last hosts p all sound = record {
-    tracked = some ∙ sym (append-nil tracked) ∙ ap (λ (e : BodyEvaluation). e.tracked) (evaluation_is hosts p all sound);
-    result = ap (result_of p) last ∙ ap (λ (e : BodyEvaluation). e.result) (evaluation_is hosts p all sound);
+  pub run_is : (r : BodyRun) → r.tracked.items ≡ tracked → r.end ≡ end → (hosts : Hosts) (p : Parts) → before hosts → AreKept hosts x.graph.state.signals x.graph.state.memos →
+      IsRunOf p (body_evaluation hosts x.graph.state.signals (body_seen p b names)) r
+  run_is r some last hosts p all kept = record {
+    tracked = some ∙ sym (append-nil tracked) ∙ ap (λ (e : BodyEvaluation). e.tracked) (evaluation_is hosts p all kept);
+    result = ap (result_of p) last ∙ ap (λ (e : BodyEvaluation). e.result) (evaluation_is hosts p all kept);
   }
 
   -- and what it read was settled
   pub reads_settled : (y : Scene) (after : Hosts → Type 0) → Settles x y before after (λ _. names_of rs) →
-      (p : Parts) → Settles x y before after (λ hosts. names_of (body_evaluation hosts x.world.graph.state.signals (body_seen p b names)).reads)
+      (p : Parts) → Settles x y before after (λ hosts. names_of (body_evaluation hosts x.graph.state.signals (body_seen p b names)).reads)
   reads_settled y after s p =
-      same_settled x y before after (λ _. names_of rs) (λ hosts. names_of (body_evaluation hosts x.world.graph.state.signals (body_seen p b names)).reads) s
-      (λ hosts all sound. ap names_of (sym (append-nil rs) ∙ ap (λ (e : BodyEvaluation). e.reads) (evaluation_is hosts p all sound)))
+      same_settled x y before after (λ _. names_of rs) (λ hosts. names_of (body_evaluation hosts x.graph.state.signals (body_seen p b names)).reads) s
+      (λ hosts all kept. ap names_of (sym (append-nil rs) ∙ ap (λ (e : BodyEvaluation). e.reads) (evaluation_is hosts p all kept)))

@@ -1,17 +1,19 @@
 -- What was read is looked at again.
-use Rattle.std.proofs.Common.{◌≡◌, ◌<◌, ◌≤◌, ◌+◌, ℕ, Bool, true, false, cond, List, [], ◌∷◌, ◌++◌, length, take, drop, get_or, Option, Some, None, refl, sym, ap, subst, ◌∙◌}
+use Rattle.std.proofs.Common.{◌≡◌, ◌<◌, ◌≤◌, ◌+◌, ℕ, true, false, cond, List, [], ◌∷◌, ◌++◌, length, take, drop, get_or, Option, Some, None, refl, sym, ap, subst, ◌∙◌}
 use Rattle.std.proofs.lemmas.List.{append-nil, drop_more, take_all, take_more, take-append-drop}
 use Rattle.sig_base.specs.declared.value.Outcome.{Outcome}
 use Rattle.sig_base.specs.Values.{same_outcome, same_outcome-Decides}
 use Rattle.signal_model.specs.Recipes.{Hosts}
 use Rattle.signal_model.specs.Values.{Seen, value_of}
 use Rattle.signal_model.specs.Sound.{names_of}
+use Rattle.signal_model.specs.Kept.{AreKept}
 use Rattle.signal_laws.specs.ReadingLaws.{HaveOutcomes}
 use Rattle.effect_model.specs.Running.{looked_at, looked_names, some_differs}
-use Rattle.sig_effect.specs.Agreeing.{Agrees, IsSound}
-use Rattle.effect_runs.specs.Settling.{Scene, Settles}
+use Rattle.sig_computed.specs.Notes.{IsIdle}
+use Rattle.sig_computed.specs.Scenes.{Scene, Settles}
+use Rattle.sig_computed.proofs.Shared.{nothing_settled, then_settled}
 use Rattle.effect_runs.proofs.Askings.{read_one, scratch, IsRead}
-use Rattle.effect_runs.proofs.Settlings.{nothing_settled, same_settled, sound_still, then_settled}
+use Rattle.effect_runs.proofs.Settlings.{same_settled}
 
 -- ---- signals that have the outcomes that were read
 
@@ -31,23 +33,23 @@ looked_behind source (s ∷ ss) more all =
 -- ---- one signal after the other
 
 -- none was looked at yet
-pub none_read : (x : Scene) (before : Hosts → Type 0) → Agrees x.asked x.world → IsRead x x before before []
-none_read x before agrees = record { settles = nothing_settled x before agrees; outcomes = λ hosts all sound. tt }
+pub none_read : (x : Scene) (before : Hosts → Type 0) → IsIdle x.graph.state → IsRead x x before before []
+none_read x before idle = record { settles = nothing_settled x before idle; outcomes = λ hosts all kept. tt }
 
 -- all were
 pub none_differs : (x y : Scene) (before after : Hosts → Type 0) (reads : List Seen) (place : ℕ) → length reads ≤ place →
-    IsRead x y before after (take place reads) → (hosts : Hosts) → before hosts → IsSound hosts x.asked x.world → false ≡ some_differs (scratch hosts x) reads
-none_differs x y before after reads place end a hosts all sound =
+    IsRead x y before after (take place reads) → (hosts : Hosts) → before hosts → AreKept hosts x.graph.state.signals x.graph.state.memos → false ≡ some_differs (scratch hosts x) reads
+none_differs x y before after reads place end a hosts all kept =
     let rs : IsRead x y before after reads = subst (IsRead x y before after) (take_all place reads end) a in
-    sym (ap (some_differs (scratch hosts x)) (sym (append-nil reads)) ∙ differs_behind (scratch hosts x) reads [] (rs.outcomes hosts all sound))
+    sym (ap (some_differs (scratch hosts x)) (sym (append-nil reads)) ∙ differs_behind (scratch hosts x) reads [] (rs.outcomes hosts all kept))
 
 pub all_looked : (x y : Scene) (before after : Hosts → Type 0) (reads : List Seen) (place : ℕ) → length reads ≤ place →
     IsRead x y before after (take place reads) → Settles x y before after (λ hosts. looked_at (scratch hosts x) reads)
 all_looked x y before after reads place end a =
     let rs : IsRead x y before after reads = subst (IsRead x y before after) (take_all place reads end) a in
     same_settled x y before after (λ _. names_of reads) (λ hosts. looked_at (scratch hosts x) reads) rs.settles
-    (λ hosts all sound.
-    sym (ap (looked_at (scratch hosts x)) (sym (append-nil reads)) ∙ looked_behind (scratch hosts x) reads [] (rs.outcomes hosts all sound)
+    (λ hosts all kept.
+    sym (ap (looked_at (scratch hosts x)) (sym (append-nil reads)) ∙ looked_behind (scratch hosts x) reads [] (rs.outcomes hosts all kept)
     ∙ append-nil (names_of reads)))
 
 -- the next of what was read, and its present outcome
@@ -55,7 +57,7 @@ pub record IsNext (y : Scene) (mid : Hosts → Type 0) (reads : List Seen) (plac
   pub inside : place < length reads
   pub read : s ≡ get_or reads place s
   pub name : n ≡ s.name
-  pub value : (hosts : Hosts) → mid hosts → IsSound hosts y.asked y.world → o ≡ scratch hosts y n
+  pub value : (hosts : Hosts) → mid hosts → AreKept hosts y.graph.state.signals y.graph.state.memos → o ≡ scratch hosts y n
 
 module _ (x y : Scene) (before mid : Hosts → Type 0) (reads : List Seen) (place : ℕ) (s : Seen) (n : ℕ) (o : Outcome)
     (next : IsNext y mid reads place s n o) (a : IsRead x y before mid (take place reads)) where
@@ -74,20 +76,20 @@ module _ (x y : Scene) (before mid : Hosts → Type 0) (reads : List Seen) (plac
       sym (take-append-drop place reads)
       ∙ ap (λ r. take place reads ++ r) (drop_more reads place s next.inside ∙ ap (λ r. r ∷ drop (place + 1) reads) (sym next.read))
 
-  other_now : same_outcome o s.outcome ≡ false → (hosts : Hosts) → before hosts → IsSound hosts x.asked x.world → same_outcome (scratch hosts x s.name) s.outcome ≡ false
-  other_now other hosts all sound =
+  other_now : same_outcome o s.outcome ≡ false → (hosts : Hosts) → before hosts → AreKept hosts x.graph.state.signals x.graph.state.memos → same_outcome (scratch hosts x s.name) s.outcome ≡ false
+  other_now other hosts all kept =
       ap (λ w. same_outcome (value_of hosts w s.name []) s.outcome) (sym a.settles.signals)
       ∙ ap (λ m. same_outcome (scratch hosts y m) s.outcome) (sym next.name)
       ∙ ap (λ v. same_outcome v s.outcome)
-      (sym (next.value hosts (a.settles.answers hosts all) (sound_still x y before mid (λ _. names_of (take place reads)) hosts a.settles all sound)))
+      (sym (next.value hosts (a.settles.answers hosts all) (a.settles.kept hosts all kept)))
       ∙ other
 
   -- it has another one
-  pub next_differs : same_outcome o s.outcome ≡ false → (hosts : Hosts) → before hosts → IsSound hosts x.asked x.world → true ≡ some_differs (scratch hosts x) reads
-  next_differs other hosts all sound =
+  pub next_differs : same_outcome o s.outcome ≡ false → (hosts : Hosts) → before hosts → AreKept hosts x.graph.state.signals x.graph.state.memos → true ≡ some_differs (scratch hosts x) reads
+  next_differs other hosts all kept =
       sym (ap (some_differs (scratch hosts x)) parts
-      ∙ differs_behind (scratch hosts x) (take place reads) (s ∷ drop (place + 1) reads) (a.outcomes hosts all sound)
-      ∙ ap (λ b. cond b (some_differs (scratch hosts x) (drop (place + 1) reads)) true) (other_now other hosts all sound))
+      ∙ differs_behind (scratch hosts x) (take place reads) (s ∷ drop (place + 1) reads) (a.outcomes hosts all kept)
+      ∙ ap (λ b. cond b (some_differs (scratch hosts x) (drop (place + 1) reads)) true) (other_now other hosts all kept))
 
   -- and so the look ends there
   pub next_looked : (z : Scene) (after : Hosts → Type 0) → Settles y z mid after (λ _. n ∷ []) → same_outcome o s.outcome ≡ false →
@@ -96,18 +98,18 @@ module _ (x y : Scene) (before mid : Hosts → Type 0) (reads : List Seen) (plac
       same_settled x z before after (λ _. names_of (take place reads) ++ s.name ∷ []) (λ hosts. looked_at (scratch hosts x) reads)
       (then_settled x y z before mid after (λ _. names_of (take place reads)) (λ _. s.name ∷ []) a.settles
       (subst (λ m. Settles y z mid after (λ _. m ∷ [])) next.name later))
-      (λ hosts all sound.
+      (λ hosts all kept.
       sym (ap (looked_at (scratch hosts x)) parts
-      ∙ looked_behind (scratch hosts x) (take place reads) (s ∷ drop (place + 1) reads) (a.outcomes hosts all sound)
-      ∙ ap (λ b. names_of (take place reads) ++ s.name ∷ cond b (looked_at (scratch hosts x) (drop (place + 1) reads)) []) (other_now other hosts all sound)))
+      ∙ looked_behind (scratch hosts x) (take place reads) (s ∷ drop (place + 1) reads) (a.outcomes hosts all kept)
+      ∙ ap (λ b. names_of (take place reads) ++ s.name ∷ cond b (looked_at (scratch hosts x) (drop (place + 1) reads)) []) (other_now other hosts all kept)))
 
 -- ---- what an effect keeps
 
 -- it has never run, so nothing is looked at
-pub never_looked : (x : Scene) (before : Hosts → Type 0) (k : Option (List Seen)) → k ≡ None → Agrees x.asked x.world →
+pub never_looked : (x : Scene) (before : Hosts → Type 0) (k : Option (List Seen)) → k ≡ None → IsIdle x.graph.state →
     Settles x x before before (λ hosts. looked_names (scratch hosts x) k)
-never_looked x before k e agrees =
-    subst (λ o. Settles x x before before (λ hosts. looked_names (scratch hosts x) o)) (sym e) (nothing_settled x before agrees)
+never_looked x before k e idle =
+    subst (λ o. Settles x x before before (λ hosts. looked_names (scratch hosts x) o)) (sym e) (nothing_settled x before idle)
 
 -- or what it has read is
 pub kept_looked : (x y : Scene) (before after : Hosts → Type 0) (k : Option (List Seen)) (reads : List Seen) → k ≡ Some reads →

@@ -1,19 +1,21 @@
 // The evaluation of a body.
 ghost use Rattle.std.specs.Prelude.{◌≡◌, ◌<◌, length, slice_index, IfOk, OnOk};
 ghost use Rattle.signal_model.specs.Recipes.{Hosts};
+ghost use Rattle.signal_model.specs.Kept.{AreKept};
 ghost use Rattle.signal_model.specs.Sound.{names_of};
 ghost use Rattle.effect_model.specs.Bodies.{body_evaluation};
-ghost use Rattle.sig_effect.specs.Agreeing.{IsSound};
 ghost use Rattle.sig_untrack.specs.Linking.{Parts};
 ghost use Rattle.sig_untrack.specs.Stated.{before, no_bodies, statements_of};
 ghost use Rattle.effect_tables.specs.Fitting.{count_of};
 ghost use Rattle.effect_runs.specs.Evaluating.{body_seen, HasNames, IsRunOf, IsShort};
-ghost use Rattle.effect_runs.specs.Settling.{scene, CanSettle, Settles};
+ghost use Rattle.sig_computed.specs.Scenes.{scene, CanSettle, Settles};
 
+use crate::asking::ask;
 use crate::reading::{BodyEnd, BodyRun, Reading};
 use sig_base::{NoMemory, NodeId, Outcome};
-use sig_effect::{Event, World};
+use sig_computed::RunNote;
 use sig_host::{Lent, Shelf};
+use sig_nodes::Graph;
 use sig_untrack::{Body, BodyStep, body_step};
 
 // The signal that a slot stands for.
@@ -30,28 +32,28 @@ fn slot_name(names: &[NodeId], slot: u32) -> NodeId
 ///
 /// # Errors
 ///
-/// After `NoMemory` world and shelf may only be dropped.
+/// After `NoMemory` graph and shelf may only be dropped.
 pub fn evaluate_body(
-    world: &mut World,
+    graph: &mut Graph,
     shelf: &mut Shelf,
     body: &Body,
     names: &[NodeId],
-    events: &mut Vec<Event>,
+    notes: &mut Vec<RunNote>,
 ) -> Result<BodyRun, NoMemory>
-    requires can { CanSettle (scene world.old (⟦<Shelf as Lent>⟧.asked shelf.old) events.old.items) }
+    requires can { CanSettle (scene graph.old (⟦<Shelf as Lent>⟧.asked shelf.old) notes.old.items) }
     requires counted { ⟦<Shelf as Lent>⟧.counted shelf.old }
     requires fit { HasNames body.now names.now }
-    ensures run { (hosts : Hosts) (p : Parts) → ⟦<Shelf as Lent>⟧.answers hosts shelf.old → IsSound hosts (⟦<Shelf as Lent>⟧.asked shelf.old) world.old →
-        IfOk result (IsRunOf p (body_evaluation hosts world.old.graph.state.signals (body_seen p body.now names.now))) }
+    ensures run { (hosts : Hosts) (p : Parts) → ⟦<Shelf as Lent>⟧.answers hosts shelf.old → AreKept hosts graph.old.state.signals graph.old.state.memos →
+        IfOk result (IsRunOf p (body_evaluation hosts graph.old.state.signals (body_seen p body.now names.now))) }
     ensures after { (p : Parts) → OnOk result (Settles
-        (scene world.old (⟦<Shelf as Lent>⟧.asked shelf.old) events.old.items) (scene world.new (⟦<Shelf as Lent>⟧.asked shelf.new) events.new.items)
+        (scene graph.old (⟦<Shelf as Lent>⟧.asked shelf.old) notes.old.items) (scene graph.new (⟦<Shelf as Lent>⟧.asked shelf.new) notes.new.items)
         (λ hosts. ⟦<Shelf as Lent>⟧.answers hosts shelf.old) (λ hosts. ⟦<Shelf as Lent>⟧.answers hosts shelf.new)
-        (λ hosts. names_of (body_evaluation hosts world.old.graph.state.signals (body_seen p body.now names.now)).reads)) }
+        (λ hosts. names_of (body_evaluation hosts graph.old.state.signals (body_seen p body.now names.now)).reads)) }
     ensures few { IfOk result (λ r. IsShort (count_of (statements_of (before body.now no_bodies))) r.end) }
-    ensures can { OnOk result (CanSettle (scene world.new (⟦<Shelf as Lent>⟧.asked shelf.new) events.new.items)) }
+    ensures can { OnOk result (CanSettle (scene graph.new (⟦<Shelf as Lent>⟧.asked shelf.new) notes.new.items)) }
     ensures counted { OnOk result (⟦<Shelf as Lent>⟧.counted shelf.new) }
 {
-    let alloc = *events.allocator();
+    let alloc = *notes.allocator();
     let mut reading = Reading::new(alloc);
     'asking: loop {
         let (slot, tracked) = match body_step(alloc, body, &reading.tracked, &reading.untracked)? {
@@ -70,7 +72,7 @@ pub fn evaluate_body(
             }
         };
         let id = slot_name(names, slot);
-        match world.ask(shelf, id, events)? {
+        match ask(graph, shelf, id, notes)? {
             Outcome::Good(value) => reading.learn(slot, tracked, id, value)?,
             Outcome::Bad(fault) => {
                 let run = reading.fail(tracked, id, fault)?;

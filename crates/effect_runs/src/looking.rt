@@ -3,35 +3,37 @@ ghost use Rattle.std.specs.Prelude.{◌≡◌, [], IfOk, OnOk};
 ghost use Rattle.std.specs.Option.{option_copied};
 ghost use Rattle.signal_model.specs.Recipes.{Hosts};
 ghost use Rattle.signal_model.specs.Values.{value_of};
+ghost use Rattle.signal_model.specs.Kept.{AreKept};
 ghost use Rattle.effect_model.specs.Running.{is_effect_due, looked_at, looked_names, some_differs};
-ghost use Rattle.sig_effect.specs.Agreeing.{IsSound};
-ghost use Rattle.effect_runs.specs.Settling.{scene, CanSettle, Settles};
+ghost use Rattle.sig_computed.specs.Scenes.{scene, CanSettle, Settles};
 
+use crate::asking::ask;
 use sig_base::NoMemory;
-use sig_effect::{Event, World};
+use sig_computed::RunNote;
 use sig_host::{Lent, Shelf};
+use sig_nodes::Graph;
 use sig_untrack::Read;
 
 // Settles what was read up to the first signal that has another outcome now; whether there is one.
 fn look_at(
-    world: &mut World,
+    graph: &mut Graph,
     shelf: &mut Shelf,
     reads: &[Read],
-    events: &mut Vec<Event>,
+    notes: &mut Vec<RunNote>,
 ) -> Result<bool, NoMemory>
-    requires can { CanSettle (scene world.old (⟦<Shelf as Lent>⟧.asked shelf.old) events.old.items) }
+    requires can { CanSettle (scene graph.old (⟦<Shelf as Lent>⟧.asked shelf.old) notes.old.items) }
     requires counted { ⟦<Shelf as Lent>⟧.counted shelf.old }
-    ensures differs { (hosts : Hosts) → ⟦<Shelf as Lent>⟧.answers hosts shelf.old → IsSound hosts (⟦<Shelf as Lent>⟧.asked shelf.old) world.old →
-        IfOk result (λ b. b ≡ some_differs (λ m. value_of hosts world.old.graph.state.signals m []) reads.now) }
+    ensures differs { (hosts : Hosts) → ⟦<Shelf as Lent>⟧.answers hosts shelf.old → AreKept hosts graph.old.state.signals graph.old.state.memos →
+        IfOk result (λ b. b ≡ some_differs (λ m. value_of hosts graph.old.state.signals m []) reads.now) }
     ensures after { OnOk result (Settles
-        (scene world.old (⟦<Shelf as Lent>⟧.asked shelf.old) events.old.items) (scene world.new (⟦<Shelf as Lent>⟧.asked shelf.new) events.new.items)
+        (scene graph.old (⟦<Shelf as Lent>⟧.asked shelf.old) notes.old.items) (scene graph.new (⟦<Shelf as Lent>⟧.asked shelf.new) notes.new.items)
         (λ hosts. ⟦<Shelf as Lent>⟧.answers hosts shelf.old) (λ hosts. ⟦<Shelf as Lent>⟧.answers hosts shelf.new)
-        (λ hosts. looked_at (λ m. value_of hosts world.old.graph.state.signals m []) reads.now)) }
-    ensures can { OnOk result (CanSettle (scene world.new (⟦<Shelf as Lent>⟧.asked shelf.new) events.new.items)) }
+        (λ hosts. looked_at (λ m. value_of hosts graph.old.state.signals m []) reads.now)) }
+    ensures can { OnOk result (CanSettle (scene graph.new (⟦<Shelf as Lent>⟧.asked shelf.new) notes.new.items)) }
     ensures counted { OnOk result (⟦<Shelf as Lent>⟧.counted shelf.new) }
 {
     for read in reads {
-        let outcome = world.ask(shelf, read.id, events)?;
+        let outcome = ask(graph, shelf, read.id, notes)?;
         if !outcome.same(&read.outcome) {
             return Ok(true);
         }
@@ -44,27 +46,27 @@ fn look_at(
 ///
 /// # Errors
 ///
-/// After `NoMemory` world and shelf may only be dropped.
+/// After `NoMemory` graph and shelf may only be dropped.
 pub fn look(
-    world: &mut World,
+    graph: &mut Graph,
     shelf: &mut Shelf,
     kept: Option<&[Read]>,
-    events: &mut Vec<Event>,
+    notes: &mut Vec<RunNote>,
 ) -> Result<bool, NoMemory>
-    requires can { CanSettle (scene world.old (⟦<Shelf as Lent>⟧.asked shelf.old) events.old.items) }
+    requires can { CanSettle (scene graph.old (⟦<Shelf as Lent>⟧.asked shelf.old) notes.old.items) }
     requires counted { ⟦<Shelf as Lent>⟧.counted shelf.old }
-    ensures due { (hosts : Hosts) → ⟦<Shelf as Lent>⟧.answers hosts shelf.old → IsSound hosts (⟦<Shelf as Lent>⟧.asked shelf.old) world.old →
-        IfOk result (λ b. b ≡ is_effect_due (λ m. value_of hosts world.old.graph.state.signals m []) (option_copied kept.entry)) }
+    ensures due { (hosts : Hosts) → ⟦<Shelf as Lent>⟧.answers hosts shelf.old → AreKept hosts graph.old.state.signals graph.old.state.memos →
+        IfOk result (λ b. b ≡ is_effect_due (λ m. value_of hosts graph.old.state.signals m []) (option_copied kept.entry)) }
     ensures after { OnOk result (Settles
-        (scene world.old (⟦<Shelf as Lent>⟧.asked shelf.old) events.old.items) (scene world.new (⟦<Shelf as Lent>⟧.asked shelf.new) events.new.items)
+        (scene graph.old (⟦<Shelf as Lent>⟧.asked shelf.old) notes.old.items) (scene graph.new (⟦<Shelf as Lent>⟧.asked shelf.new) notes.new.items)
         (λ hosts. ⟦<Shelf as Lent>⟧.answers hosts shelf.old) (λ hosts. ⟦<Shelf as Lent>⟧.answers hosts shelf.new)
-        (λ hosts. looked_names (λ m. value_of hosts world.old.graph.state.signals m []) (option_copied kept.entry))) }
-    ensures can { OnOk result (CanSettle (scene world.new (⟦<Shelf as Lent>⟧.asked shelf.new) events.new.items)) }
+        (λ hosts. looked_names (λ m. value_of hosts graph.old.state.signals m []) (option_copied kept.entry))) }
+    ensures can { OnOk result (CanSettle (scene graph.new (⟦<Shelf as Lent>⟧.asked shelf.new) notes.new.items)) }
     ensures counted { OnOk result (⟦<Shelf as Lent>⟧.counted shelf.new) }
 {
     let Some(reads) = kept else {
         return Ok(true);
     };
-    let differs = look_at(world, shelf, reads, events)?;
+    let differs = look_at(graph, shelf, reads, notes)?;
     Ok(differs)
 }

@@ -1,5 +1,6 @@
 -- What single steps leave.
-use Rattle.std.proofs.Common.{◌≡◌, ℕ, ◌+◌, ◌*◌, ◌^◌, ◌<◌, ◌≤◌, List, [], ◌∷◌, ◌++◌, suc, length, length-append, map, refl, sym, ap, subst, ◌∙◌, arith}
+use Rattle.std.proofs.Common.{◌≡◌, ℕ, ◌+◌, ◌*◌, ◌^◌, ◌<◌, ◌≤◌, List, [], ◌∷◌, ◌++◌, length, length-append, map, refl, sym, ap, subst, ◌∙◌, arith}
+use Rattle.std.proofs.lemmas.List.{length-map}
 use Rattle.signal_model.specs.Recipes.{Hosts}
 use Rattle.effect_model.specs.Worlds as plain
 use Rattle.effect_model.specs.Worlds.{settle}
@@ -8,11 +9,14 @@ use Rattle.effect_tables.specs.Placed.{at_rest}
 use Rattle.effect_tables.proofs.Shared.{placed_rests}
 use Rattle.sig_host.specs.Hosts.{HostPlace, most_asked}
 use Rattle.sig_watcher.specs.Tables.{Table}
-use Rattle.sig_effect.specs.declared.events.Event.{Event as SignalEvent}
+use Rattle.sig_computed.specs.declared.notes.RunNote.{RunNote}
+use Rattle.sig_computed.specs.Notes.{note_of, IsSettling}
+use Rattle.sig_computed.specs.Scenes as settling
+use Rattle.sig_computed.specs.Scenes.{Settles}
+use Rattle.sig_effect.specs.declared.events.Event.TheVariants as signals
 use Rattle.sig_effect.specs.Agreeing.{AreRuled, environment}
 use Rattle.sig_effect.specs.Wholes as wholes
-use Rattle.effect_runs.specs.Settling as settling
-use Rattle.effect_runs.specs.Settling.{CanSettle, Settles}
+use Rattle.sig_effect.proofs.Shared.{agrees_settled, settle_does}
 use Rattle.effect_world.specs.declared.events.Event.{Event}
 use Rattle.effect_world.specs.declared.events.Event.TheVariants as event
 use Rattle.effect_world.specs.declared.world.World.{World}
@@ -23,7 +27,7 @@ use Rattle.effect_world.specs.Weighing.{weight}
 use Rattle.effect_world.specs.Wholes.{whole_of}
 use Rattle.effect_world.proofs.Shared.{owned_still, settle_done, tells_none}
 use Rattle.effect_acts.specs.Acting.{Acted}
-use Rattle.effect_turns.specs.Running.{CanRun, Runs, Spends}
+use Rattle.effect_turns.specs.Running.{run_told, CanRun, Runs, Spends}
 
 -- ---- the same act in other words
 
@@ -125,35 +129,46 @@ acted_runs slacks old new before after steps act a = record {
   made = a.made;
 }
 
-pub settled_runs : (slacks : List ℕ) (old new : World) (asked later : List HostPlace) (none told : List SignalEvent) (before after : List Event) (first last : Hosts → Type 0)
-    (names : Hosts → List ℕ) → none ≡ [] → after ≡ before ++ map event.Signals told → new.tables ≡ old.tables → Agrees asked old →
-    Settles (settling.scene old.signals asked none) (settling.scene new.signals later told) first last names →
+-- runs are told by the world as the signals tell them
+told_below : (notes : List RunNote) → map run_told notes ≡ map event.Signals (map signals.Run notes)
+told_below [] = refl
+told_below (n ∷ ns) = ap (λ es. run_told n ∷ es) (told_below ns)
+
+pub settled_runs : (slacks : List ℕ) (old new : World) (asked later : List HostPlace) (none notes : List RunNote) (before after : List Event) (first last : Hosts → Type 0)
+    (names : Hosts → List ℕ) → none ≡ [] → after ≡ before ++ map run_told notes → new.tables ≡ old.tables → new.signals.watchers ≡ old.signals.watchers → Agrees asked old →
+    Settles (settling.scene old.signals.graph asked none) (settling.scene new.signals.graph later notes) first last names →
     Runs slacks (scene old asked before) (scene new later after) first last (λ env. settle env (names env.hosts))
-settled_runs slacks old new asked later none told before after first last names empty is same a s = record {
+settled_runs slacks old new asked later none notes before after first last names empty is same watched a s = record {
   does = λ hosts all sound.
-      settle_done hosts slacks asked later old new before after none told (names hosts) empty (s.does hosts slacks all sound) same a.owned.tables is;
-  agrees = record { signals = s.agrees; owned = owned_still old new s.given same a.owned };
+      settle_done hosts slacks asked later old new before after [] (map signals.Run notes) (names hosts) refl
+      (settle_does hosts slacks asked later old.signals new.signals (names hosts) notes [] (map signals.Run notes) s.signals s.given watched
+      (subst (λ (ns : List RunNote). IsSettling hosts old.signals.graph.state.signals old.signals.graph.state.memos (names hosts) (map note_of ns) (map note_of notes)
+      new.signals.graph.state.memos) empty (s.settled hosts all sound.kept))
+      (s.asked hosts all sound.kept) refl (s.kept hosts all sound.kept) sound)
+      same a.owned.tables (is ∙ ap (λ es. before ++ es) (told_below notes));
+  agrees = record {
+    signals = agrees_settled asked later old.signals new.signals s.signals s.idle s.there watched a.signals;
+    owned = owned_still old new s.given same a.owned;
+  };
   answers = s.answers;
   rules = λ count h. subst (AreRuled count) (sym s.signals) h;
   given = s.given;
-  made = ap (λ (t : Table). t.made) s.watchers;
+  made = ap (λ (t : Table). t.made) watched;
 }
 
-length_told : (told : List SignalEvent) → length (map event.Signals told) ≡ length told
-length_told [] = refl
-length_told (e ∷ es) = ap suc (length_told es)
-
-pub settled_spends : (old new : World) (asked later : List HostPlace) (none told : List SignalEvent) (before after : List Event) (first last : Hosts → Type 0)
-    (names : Hosts → List ℕ) → none ≡ [] → after ≡ before ++ map event.Signals told → new.tables ≡ old.tables →
-    Settles (settling.scene old.signals asked none) (settling.scene new.signals later told) first last names → Spends (scene old asked before) (scene new later after)
-settled_spends old new asked later none told before after first last names empty is same s =
-    let n : length none ≡ 0 = ap length empty in
-    let e : length after ≡ length before + length told =
-    ap length is ∙ length-append before (map event.Signals told) ∙ ap (λ k. length before + k) (length_told told) in
-    let w : new.signals.graph.state.worn + length none ≡ old.signals.graph.state.worn + length told = s.worn in
-    let m : most_asked later + 65 * length none ≤ most_asked asked + 65 * length told = s.most in
+pub settled_spends : (old new : World) (asked later : List HostPlace) (none notes : List RunNote) (before after : List Event) (first last : Hosts → Type 0)
+    (names : Hosts → List ℕ) → none ≡ [] → after ≡ before ++ map run_told notes → new.tables ≡ old.tables →
+    Settles (settling.scene old.signals.graph asked none) (settling.scene new.signals.graph later notes) first last names →
+    Spends (scene old asked before) (scene new later after)
+settled_spends old new asked later none notes before after first last names empty is same s =
+    let n : length (map note_of none) ≡ 0 = ap (λ (ns : List RunNote). length (map note_of ns)) empty in
+    let k : length (map note_of notes) ≡ length notes = length-map notes note_of in
+    let e : length after ≡ length before + length notes =
+    ap length is ∙ length-append before (map run_told notes) ∙ ap (λ k. length before + k) (length-map notes run_told) in
+    let w : new.signals.graph.state.worn + length (map note_of none) ≡ old.signals.graph.state.worn + length (map note_of notes) = s.worn in
+    let m : most_asked later + 65 * length (map note_of none) ≤ most_asked asked + 65 * length (map note_of notes) = s.most in
     let t : weight new ≡ weight (record new { tables = old.tables }) = ap (λ (x : Tables). weight (record new { tables = x })) same in
-    record { weight = omega (arith, n, e, w, t); most = omega (arith, n, e, m) }
+    record { weight = omega (arith, n, k, e, w, t); most = omega (arith, n, k, e, m) }
 
 -- ---- what is spent
 
@@ -199,17 +214,6 @@ low_after slacks act old mid kept c s k kl l =
     let sw = s.weight in
     let kw = k.worn in
     omega (arith, w, sw, kw, kl, l)
-
-pub low_worn : (x : Scene) → CanRun x → length x.events < 2 ^ 64 → x.world.signals.graph.state.worn < 2 ^ 126
-low_worn x c l =
-    let w : x.world.signals.graph.state.worn + x.world.tables.effects_made < 2 ^ 124 + 128 * length x.events = c.weight in
-    omega (arith, w, l)
-
-pub can_settle : (x : Scene) (told : List SignalEvent) → CanRun x → length x.events < 2 ^ 64 → CanSettle (settling.scene x.world.signals x.asked told)
-can_settle x told c l =
-    let w = low_worn x c l in
-    let r = c.room in
-    record { agrees = c.agrees.signals; worn = omega (arith, w); room = omega (arith, r, l) }
 
 -- more effects may run
 pub can_then : (slacks : List ℕ) (old new : Scene) (before after : Hosts → Type 0) (act : plain.Environment → plain.World → plain.World) →

@@ -3,10 +3,18 @@ use Rattle.std.specs.Prelude.{◌≡◌, ℕ, ◌+◌, ◌*◌, ◌^◌, ◌<◌
 use Rattle.signal_model.specs.Recipes.{Hosts}
 use Rattle.effect_model.specs.Worlds as plain
 use Rattle.sig_host.specs.Hosts.{most_asked}
+use Rattle.sig_computed.specs.declared.notes.RunNote.{RunNote}
+use Rattle.sig_effect.specs.declared.events.Event.TheVariants as signals
 use Rattle.sig_effect.specs.Agreeing.{AreRuled, environment}
+use Rattle.effect_world.specs.declared.events.Event.{Event}
+use Rattle.effect_world.specs.declared.events.Event.TheVariants as event
 use Rattle.effect_world.specs.Acting.{Scene}
 use Rattle.effect_world.specs.Agreeing.{Agrees, Does, IsSound}
 use Rattle.effect_world.specs.Weighing.{weight}
+
+-- how the world tells of the run of a computed
+abbrev pub run_told : RunNote → Event
+run_told n = event.Signals (signals.Run n)
 
 -- By equality rules of these slacks, and by the meanings by which the shelf answers, an act was done to the world; the shelf answers by these
 -- afterwards too. No signal and no watcher was made.

@@ -2,49 +2,51 @@
 ghost use Rattle.std.specs.Prelude.{◌≡◌, [], ℕ, List, IfOk, OnOk};
 ghost use Rattle.signal_model.specs.Recipes.{Hosts};
 ghost use Rattle.signal_model.specs.Values.{value_of};
+ghost use Rattle.signal_model.specs.Kept.{AreKept};
 ghost use Rattle.effect_model.specs.Running.{is_effect_due, looked_names};
 ghost use Rattle.effect_tables.specs.Placed.{effect_of};
-ghost use Rattle.sig_effect.specs.Agreeing as below;
 ghost use Rattle.sig_effect.specs.Agreeing.{environment};
-ghost use Rattle.effect_runs.specs.Settling as settling;
-ghost use Rattle.effect_runs.specs.Settling.{CanSettle, Settles};
+ghost use Rattle.sig_computed.specs.Scenes as settling;
+ghost use Rattle.sig_computed.specs.Scenes.{CanSettle, Settles};
 ghost use Rattle.effect_world.specs.Acting.{scene};
 ghost use Rattle.effect_world.specs.Agreeing.{IsSound};
 ghost use Rattle.effect_world.specs.Wholes.{whole_of};
 ghost use Rattle.effect_turns.specs.Running.{CanRun, Runs, Spends};
 ghost use Rattle.effect_resting.specs.Visiting.{glance, is_due};
 
+use crate::telling::tell_notes;
 use effect_tables::{Effect, effect_at};
-use effect_world::{Event, World, tell_signals};
+use effect_world::{Event, World};
 use sig_base::{EffectId, NoMemory};
-use sig_effect::{Event as SignalEvent, World as Signals};
+use sig_computed::RunNote;
 use sig_host::{Lent, Shelf};
+use sig_nodes::Graph;
 
 // Settles what an effect keeps of its last run, up to the first that differs now: whether it is due.
 fn look_at(
-    signals: &mut Signals,
+    graph: &mut Graph,
     shelf: &mut Shelf,
     effect: &Effect,
-    told: &mut Vec<SignalEvent>,
+    notes: &mut Vec<RunNote>,
 ) -> Result<bool, NoMemory>
-    requires can { CanSettle (settling.scene signals.old (⟦<Shelf as Lent>⟧.asked shelf.old) told.old.items) }
+    requires can { CanSettle (settling.scene graph.old (⟦<Shelf as Lent>⟧.asked shelf.old) notes.old.items) }
     requires counted { ⟦<Shelf as Lent>⟧.counted shelf.old }
-    ensures due { (hosts : Hosts) → ⟦<Shelf as Lent>⟧.answers hosts shelf.old → below.IsSound hosts (⟦<Shelf as Lent>⟧.asked shelf.old) signals.old →
-        IfOk result (λ b. b ≡ is_effect_due (λ m. value_of hosts signals.old.graph.state.signals m []) (effect_of effect.now).kept) }
+    ensures due { (hosts : Hosts) → ⟦<Shelf as Lent>⟧.answers hosts shelf.old → AreKept hosts graph.old.state.signals graph.old.state.memos →
+        IfOk result (λ b. b ≡ is_effect_due (λ m. value_of hosts graph.old.state.signals m []) (effect_of effect.now).kept) }
     ensures after { OnOk result (Settles
-        (settling.scene signals.old (⟦<Shelf as Lent>⟧.asked shelf.old) told.old.items)
-        (settling.scene signals.new (⟦<Shelf as Lent>⟧.asked shelf.new) told.new.items)
+        (settling.scene graph.old (⟦<Shelf as Lent>⟧.asked shelf.old) notes.old.items)
+        (settling.scene graph.new (⟦<Shelf as Lent>⟧.asked shelf.new) notes.new.items)
         (λ hosts. ⟦<Shelf as Lent>⟧.answers hosts shelf.old) (λ hosts. ⟦<Shelf as Lent>⟧.answers hosts shelf.new)
-        (λ hosts. looked_names (λ m. value_of hosts signals.old.graph.state.signals m []) (effect_of effect.now).kept)) }
+        (λ hosts. looked_names (λ m. value_of hosts graph.old.state.signals m []) (effect_of effect.now).kept)) }
     ensures counted { OnOk result (⟦<Shelf as Lent>⟧.counted shelf.new) }
 {
     match &effect.kept {
         Some(reads) => {
-            let due = effect_runs::look(signals, shelf, Some(reads.as_slice()), told)?;
+            let due = effect_runs::look(graph, shelf, Some(reads.as_slice()), notes)?;
             Ok(due)
         }
         None => {
-            let due = effect_runs::look(signals, shelf, None, told)?;
+            let due = effect_runs::look(graph, shelf, None, notes)?;
             Ok(due)
         }
     }
@@ -74,11 +76,11 @@ pub(crate) fn glance(
     ensures counted { OnOk result (⟦<Shelf as Lent>⟧.counted shelf.new) }
 {
     let _count = events.len();
-    let mut told = Vec::new(*events.allocator());
+    let mut notes = Vec::new(*events.allocator());
     let Some(effect) = effect_at(&world.tables, id) else {
         return Ok(false);
     };
-    let due = look_at(&mut world.signals, shelf, effect, &mut told)?;
-    tell_signals(events, told)?;
+    let due = look_at(&mut world.signals.graph, shelf, effect, &mut notes)?;
+    tell_notes(events, notes)?;
     Ok(due)
 }

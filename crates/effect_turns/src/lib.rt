@@ -4,6 +4,7 @@
 mod flushing;
 mod glancing;
 mod rerunning;
+mod telling;
 mod turning;
 
 pub use flushing::{FlushEnd, MOST_TURNS, flush};

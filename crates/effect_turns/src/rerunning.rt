@@ -1,5 +1,5 @@
 // An effect runs.
-ghost use Rattle.std.specs.Prelude.{◌≡◌, ◌<◌, ◌≤◌, ◌+◌, ◌^◌, ℕ, List, None, IfOk, OnOk, length, map};
+ghost use Rattle.std.specs.Prelude.{◌<◌, ◌≤◌, ◌+◌, ◌^◌, ℕ, List, None, IfOk, OnOk, length, map};
 ghost use Rattle.std.specs.Rc.{rc_value};
 ghost use Rattle.signal_model.specs.Recipes.{Hosts};
 ghost use Rattle.signal_model.specs.Sound.{names_of};
@@ -24,11 +24,12 @@ ghost use Rattle.effect_world.specs.Weighing.{weight};
 ghost use Rattle.effect_turns.specs.Running.{CanRun, Runs, Spends};
 ghost use Rattle.effect_resting.specs.Visiting.{rerun};
 
+use crate::telling::tell_notes;
 use effect_acts::{do_acts, fail, keep_reads};
 use effect_runs::{BodyEnd, BodyRun, evaluate_body};
 use effect_tables::{Links, Site, effect_at};
 use effect_undoing::{body_at, links_at};
-use effect_world::{Event, World, tell_signals};
+use effect_world::{Event, World};
 use sig_base::{EffectId, NoMemory};
 use sig_host::{EqualsRule, Lent, Shelf};
 use sig_untrack::Body;
@@ -82,9 +83,15 @@ fn evaluate(
     ensures counted { OnOk result (⟦<Shelf as Lent>⟧.counted shelf.new) }
 {
     let _count = events.len();
-    let mut told = Vec::new(*events.allocator());
-    let run = evaluate_body(&mut world.signals, shelf, body, &links.names, &mut told)?;
-    tell_signals(events, told)?;
+    let mut notes = Vec::new(*events.allocator());
+    let run = evaluate_body(
+        &mut world.signals.graph,
+        shelf,
+        body,
+        &links.names,
+        &mut notes,
+    )?;
+    tell_notes(events, notes)?;
     Ok(run)
 }
 

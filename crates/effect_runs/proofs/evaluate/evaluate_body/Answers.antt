@@ -1,4 +1,4 @@
-use Rattle.std.proofs.Common.{refl, sym, ap, ◌∙◌, arith}
+use Rattle.std.proofs.Common.{refl, sym, ap, ◌∙◌}
 use Rattle.sig_base.specs.declared.value.Outcome.TheVariants.{Bad}
 use Rattle.sig_untrack.specs.declared.body.BodyStep.TheVariants as step
 use Rattle.sig_untrack.specs.Linking.{step_of}
@@ -13,7 +13,7 @@ asking-init g c =
     let e = c.new-reading.ensures in
     record {
       asking = nothing_read _ _ c.args.body.now c.args.names.now c.new-reading.result.tracked.items c.new-reading.result.untracked.items
-          c.new-reading.result.reads.items e.tracked e.untracked e.reads c.requires.can.agrees;
+          c.new-reading.result.reads.items e.tracked e.untracked e.reads c.requires.can.idle;
       can = c.requires.can;
       counted = c.requires.counted;
     }
@@ -87,32 +87,15 @@ asking-preserved g c =
     let now = c.asking.reading in
     let next = c.in_ok-learn-in-Good.ensures in
     let e = c.in_ok-value.ensures in
-    let can = c.asking.invariant.can in
-    let worn = e.worn in
-    let most = e.most in
     record {
       asking = learns _ _ _ _ _ _ c.args.body.now c.args.names.now now.tracked.items now.untracked.items now.reads.items c.in-Read.slot c.slot_name-id.result
           c.in-Read.tracked c.requires.fit c.asking.invariant.asking c.slot_name-id.ensures
           (answers_by c.args.body.now c.args.names.now now.tracked.items now.untracked.items c.deref.result.now c.deref-in-asking.result.now c.in_ok-slot.field-0
           (step.Read c.in-Read.slot c.in-Read.tracked) c.in_ok-slot.ensures c.deref.ensures.value c.deref-in-asking.ensures.value c.in-Read.is)
-          (record {
-            does = e.does;
-            answers = e.answers;
-            agrees = e.agrees;
-            most = e.most;
-            signals = e.signals;
-            named = e.named;
-            given = e.given;
-            watchers = e.watchers;
-            worn = e.worn;
-          })
+          e.settles
           c.learn.new.self.tracked.items c.learn.new.self.untracked.items c.learn.new.self.reads.items c.in-Good.value
-          (λ hosts all sound. sym c.in-Good.is ∙ e.value hosts all sound) next.tracked next.untracked next.reads;
-      can = record {
-        agrees = e.agrees;
-        worn = let low = can.worn in omega (arith, worn, low);
-        room = let low = can.room in omega (arith, most, low);
-      };
+          (λ hosts all kept. sym c.in-Good.is ∙ e.value hosts all kept) next.tracked next.untracked next.reads;
+      can = e.can;
       counted = e.counted;
     }
 
@@ -125,7 +108,7 @@ returns-in-Bad-clause-run g c =
     c.in-Read.tracked c.in-Bad.fault c.requires.fit c.asking.invariant.asking c.slot_name-id.ensures
     (answers_by c.args.body.now c.args.names.now now.tracked.items now.untracked.items c.deref.result.now c.deref-in-asking.result.now c.in_ok-slot.field-0
     (step.Read c.in-Read.slot c.in-Read.tracked) c.in_ok-slot.ensures c.deref.ensures.value c.deref-in-asking.ensures.value c.in-Read.is)
-    (λ hosts all sound. sym c.in-Bad.is ∙ e.value hosts all sound))
+    (λ hosts all kept. sym c.in-Bad.is ∙ e.value hosts all kept))
     _ c.in_ok-run-in-Bad.ensures.reads c.in_ok-run-in-Bad.ensures.end
 
 pub returns-in-Bad-clause-after : goal.returns-in-Bad-clause-after
@@ -137,20 +120,10 @@ returns-in-Bad-clause-after g c =
     c.in-Read.tracked c.in-Bad.fault c.requires.fit c.asking.invariant.asking c.slot_name-id.ensures
     (answers_by c.args.body.now c.args.names.now now.tracked.items now.untracked.items c.deref.result.now c.deref-in-asking.result.now c.in_ok-slot.field-0
     (step.Read c.in-Read.slot c.in-Read.tracked) c.in_ok-slot.ensures c.deref.ensures.value c.deref-in-asking.ensures.value c.in-Read.is)
-    (λ hosts all sound. sym c.in-Bad.is ∙ e.value hosts all sound))
+    (λ hosts all kept. sym c.in-Bad.is ∙ e.value hosts all kept))
     _ _
     (settled_one _ _ _ _ _ _ c.asking.invariant.asking.reads c.slot_name-id.result (Bad c.in-Bad.fault) c.asking.invariant.asking.read.settles
-    (record {
-      does = e.does;
-      answers = e.answers;
-      agrees = e.agrees;
-      most = e.most;
-      signals = e.signals;
-      named = e.named;
-      given = e.given;
-      watchers = e.watchers;
-      worn = e.worn;
-    }))
+    e.settles)
 
 pub returns-in-Bad-clause-few : goal.returns-in-Bad-clause-few
 returns-in-Bad-clause-few g c = fault_is_short _ _ c.in-Bad.fault c.in_ok-run-in-Bad.ensures.end

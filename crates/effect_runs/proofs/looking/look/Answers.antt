@@ -6,12 +6,12 @@ use Rattle.effect_runs.proofs.Looks.{kept_looked, never_looked}
 use Rattle.effect_runs.proofs.looking.look.Goals as goal
 
 pub returns-in_default-clause-after : goal.returns-in_default-clause-after
-returns-in_default-clause-after g c = never_looked _ _ (option_copied c.args.kept) (ap option_copied c.in_default.is) c.requires.can.agrees
+returns-in_default-clause-after g c = never_looked _ _ (option_copied c.args.kept) (ap option_copied c.in_default.is) c.requires.can.idle
 
 pub returns-clause-due : goal.returns-clause-due
-returns-clause-due g c = λ hosts all sound.
-    c.in_ok-differs.ensures.differs hosts all sound
-    ∙ ap (is_effect_due (λ m. value_of hosts c.args.world.now.graph.state.signals m [])) (sym (ap option_copied c.in-Some.is))
+returns-clause-due g c = λ hosts all kept.
+    c.in_ok-differs.ensures.differs hosts all kept
+    ∙ ap (is_effect_due (λ m. value_of hosts c.args.graph.now.state.signals m [])) (sym (ap option_copied c.in-Some.is))
 
 pub returns-clause-after : goal.returns-clause-after
 returns-clause-after g c =

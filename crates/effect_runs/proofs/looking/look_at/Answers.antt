@@ -1,4 +1,4 @@
-use Rattle.std.proofs.Common.{sym, ap, ◌∙◌, arith}
+use Rattle.std.proofs.Common.{sym, ap, ◌∙◌}
 use Rattle.sig_base.specs.Values.{same_outcome}
 use Rattle.signal_model.specs.Values.{Seen}
 use Rattle.effect_runs.proofs.Looks.{all_looked, next_differs, next_looked, next_same, none_differs, none_read}
@@ -6,7 +6,7 @@ use Rattle.effect_runs.proofs.looking.look_at.Goals as goal
 
 pub loop-read-init : goal.loop-read-init
 loop-read-init g c = record {
-  read = none_read _ _ c.requires.can.agrees;
+  read = none_read _ _ c.requires.can.idle;
   can = c.requires.can;
   counted = c.requires.counted;
 }
@@ -36,25 +36,12 @@ returns-then-not-same-clause-after g c =
     })
     c.loop-read.invariant.read
     _ _
-    (record {
-      does = e.does;
-      answers = e.answers;
-      agrees = e.agrees;
-      most = e.most;
-      signals = e.signals;
-      named = e.named;
-      given = e.given;
-      watchers = e.watchers;
-      worn = e.worn;
-    })
+    e.settles
     (sym (c.same.ensures.value ∙ ap (λ (s : Seen). same_outcome c.in_ok-outcome.outcome s.outcome) c.read.view_is) ∙ c.if-not-same.true)
 
 pub loop-read-preserved : goal.loop-read-preserved
 loop-read-preserved g c =
     let e = c.in_ok-outcome.ensures in
-    let can = c.loop-read.invariant.can in
-    let worn = e.worn in
-    let most = e.most in
     record {
       read = next_same _ _ _ _ c.args.reads.now c.loop-read.read-index c.read-item.result _ c.in_ok-outcome.outcome
           (record {
@@ -65,23 +52,9 @@ loop-read-preserved g c =
           })
           c.loop-read.invariant.read
           _ _
-          (record {
-            does = e.does;
-            answers = e.answers;
-            agrees = e.agrees;
-            most = e.most;
-            signals = e.signals;
-            named = e.named;
-            given = e.given;
-            watchers = e.watchers;
-            worn = e.worn;
-          })
+          e.settles
           (c.same.ensures.exact.0 c.if-not-same.false ∙ ap (λ (s : Seen). s.outcome) c.read.view_is);
-      can = record {
-        agrees = e.agrees;
-        worn = let low = can.worn in omega (arith, worn, low);
-        room = let low = can.room in omega (arith, most, low);
-      };
+      can = e.can;
       counted = e.counted;
     }
 
