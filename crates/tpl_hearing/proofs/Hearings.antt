@@ -78,6 +78,11 @@ nothing_heard x before heard idle = record {
   scratch = λ hosts all kept. tt;
 }
 
+-- what was heard, told in other words
+pub heard_as : (x y : Scene) (before after : Hosts → Type 0) (first heard now : Outcomes) → heard ≡ now → Hears x y before after first heard →
+    Hears x y before after first now
+heard_as x y before after first heard now e h = subst (Hears x y before after first) e h
+
 -- hearing some names, and then others
 pub then_heard : (x y z : Scene) (before mid after : Hosts → Type 0) (first heard last : Outcomes) → Hears x y before mid first heard →
     Hears y z mid after heard last → Hears x z before after first last

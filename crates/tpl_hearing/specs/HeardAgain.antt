@@ -1,5 +1,5 @@
 -- Names that were heard at another time, heard again.
-use Rattle.std.specs.Prelude.{◌≡◌, ℕ, ◌+◌, ◌<◌, Bool, true, false, List, length, take, Some}
+use Rattle.std.specs.Prelude.{◌≡◌, ℕ, ◌+◌, ◌<◌, ◌++◌, ◌∷◌, [], Bool, true, false, List, length, slice_get, take, Some}
 use Rattle.std.specs.List.{AllByRecursion}
 use Rattle.std.specs.Map.{keys_of}
 use Rattle.sig_base.specs.declared.value.Outcome.{Outcome}
@@ -32,3 +32,12 @@ pub record AreSameUpTo (before : Outcomes) (ns : List ℕ) (earlier now : Outcom
 abbrev pub AreHeardAgain : Bool → Outcomes → List ℕ → Outcomes → Outcomes → Type 0
 AreHeardAgain true before ns earlier now = AreSame before ns earlier now
 AreHeardAgain false before ns earlier now = AreSameUpTo before ns earlier now
+
+-- all names that were heard before were heard again, up to one whose outcome may be another
+pub record IsFront (before now : Outcomes) : Type 0 where
+  pub count : ℕ
+  pub name : ℕ
+  pub was : Outcome
+  pub outcome : Outcome
+  pub at : slice_get before count ≡ Some (name, was)
+  pub all : now ≡ take count before ++ (name, outcome) ∷ []

@@ -5,6 +5,6 @@ mod again;
 mod evaluating;
 mod outcomes;
 
-pub use again::hear_again;
+pub use again::{hear_again, hear_all_again};
 pub use evaluating::{Evaluated, Read, evaluate};
 pub use outcomes::{Outcomes, hear};

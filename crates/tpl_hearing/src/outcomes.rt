@@ -1,9 +1,10 @@
 // What is heard of names while a page is brought up to date: each of them is settled once.
-ghost use Rattle.std.specs.Prelude.{◌≡◌, ◌++◌, ◌∷◌, [], true, None, Some, IfOk, OnOk};
+ghost use Rattle.std.specs.Prelude.{◌≡◌, ◌<◌, ◌++◌, ◌∷◌, [], length, nat_eq, slice_get, true, None, Some, IfOk, OnOk};
+ghost use Rattle.std.specs.List.{IsDistinct};
 ghost use Rattle.std.specs.Map.{keys_of};
 ghost use Rattle.sig_base.specs.declared.value.Outcome.TheVariants.{Good};
 ghost use Rattle.signal_laws.specs.ReadingLaws.{joined};
-ghost use Rattle.tpl_hearing.specs.Hearing.{heard_of, scene, CanSettle, HasRows, HaveRows, Hears};
+ghost use Rattle.tpl_hearing.specs.Hearing.{heard_of, scene, CanSettle, HasRows, HaveRows, Hears, Outcomes as Heard};
 
 use indexmap::IndexMap;
 use sig_base::{NoMemory, NodeId, Outcome, Value};
@@ -105,14 +106,62 @@ impl Outcomes {
         }
     }
 
-    // Puts a name behind the others.
-    fn put(&mut self, id: NodeId, outcome: Outcome) -> Result<(), NoMemory>
+    /// How many names were heard, each of them once.
+    pub(crate) fn count(&self) -> usize
+        ensures count { result ≡ length self.now }
+        ensures once { IsDistinct nat_eq (keys_of self.now) }
+    {
+        self.outcomes.len()
+    }
+
+    /// The name that was heard at a place, and its outcome.
+    pub(crate) fn at(&self, place: usize) -> (NodeId, &Outcome)
+        requires { place < length self.now }
+        ensures at { slice_get self.now place ≡ Some (result.0, result.1.now) }
+        ensures heard { heard_of self.now result.0 ≡ Some result.1.now }
+    {
+        let Some((id, outcome)) = self.outcomes.get_index(place) else {
+            unreachable!();
+        };
+        (*id, outcome)
+    }
+
+    /// Puts a name behind the others.
+    ///
+    /// # Errors
+    ///
+    /// `NoMemory` alone.
+    pub(crate) fn put(&mut self, id: NodeId, outcome: Outcome) -> Result<(), NoMemory>
         requires { heard_of self.old id ≡ None }
         ensures { OnOk result (self.new ≡ self.old ++ (id, outcome) ∷ []) }
     {
         self.outcomes.insert(id, outcome)?;
         Ok(())
     }
+}
+
+/// Settles a name, which may then be put behind those that were heard.
+///
+/// # Errors
+///
+/// `NoMemory` alone; it may then have been settled.
+pub(crate) fn settle_name(
+    graph: &mut Graph,
+    shelf: &mut Shelf,
+    id: NodeId,
+    notes: &mut Vec<RunNote>,
+) -> Result<Outcome, NoMemory>
+    requires can { CanSettle (scene graph.old (⟦<Shelf as Lent>⟧.asked shelf.old) notes.old.items) }
+    requires counted { ⟦<Shelf as Lent>⟧.counted shelf.old }
+    ensures after { IfOk result (λ o. (heard now : Heard) → now ≡ heard ++ (id, o) ∷ [] → Hears
+        (scene graph.old (⟦<Shelf as Lent>⟧.asked shelf.old) notes.old.items) (scene graph.new (⟦<Shelf as Lent>⟧.asked shelf.new) notes.new.items)
+        (λ hosts. ⟦<Shelf as Lent>⟧.answers hosts shelf.old) (λ hosts. ⟦<Shelf as Lent>⟧.answers hosts shelf.new) heard now) }
+    ensures can { OnOk result (CanSettle (scene graph.new (⟦<Shelf as Lent>⟧.asked shelf.new) notes.new.items)) }
+    ensures counted { OnOk result (⟦<Shelf as Lent>⟧.counted shelf.new) }
+{
+    let _count = notes.len();
+    let outcome = settle(graph, shelf, id, notes)?;
+    Ok(outcome)
 }
 
 /// Hears a name: the first time it is settled.
@@ -137,11 +186,10 @@ pub fn hear(
     ensures can { OnOk result (CanSettle (scene graph.new (⟦<Shelf as Lent>⟧.asked shelf.new) notes.new.items)) }
     ensures counted { OnOk result (⟦<Shelf as Lent>⟧.counted shelf.new) }
 {
-    let _count = notes.len();
     if let Some(outcome) = heard.outcome(id)? {
         return Ok(outcome);
     }
-    let outcome = settle(graph, shelf, id, notes)?;
+    let outcome = settle_name(graph, shelf, id, notes)?;
     heard.put(id, outcome.copy()?)?;
     Ok(outcome)
 }

@@ -1,8 +1,6 @@
-use Rattle.std.proofs.Common.{◌++◌, [], ◌∷◌, Some, sym, ap, arith, ◌∙◌}
-use Rattle.std.proofs.lemmas.List.{length-map}
-use Rattle.sig_computed.specs.Notes.{note_of}
+use Rattle.std.proofs.Common.{◌++◌, [], ◌∷◌, Some, sym, ap, ◌∙◌}
 use Rattle.tpl_hearing.specs.Hearing.{heard_of}
-use Rattle.tpl_hearing.proofs.Hearings.{joins_last, joins_not, last_heard, nothing_heard, one_heard}
+use Rattle.tpl_hearing.proofs.Hearings.{joins_last, joins_not, last_heard, nothing_heard}
 use Rattle.tpl_hearing.proofs.outcomes.hear.Goals as goal
 
 pub returns-in-Some-clause-names : goal.returns-in-Some-clause-names
@@ -23,26 +21,5 @@ returns-clause-names g c =
 
 pub returns-clause-after : goal.returns-clause-after
 returns-clause-after g c =
-    let s = c.in_ok-outcome-2.ensures in
-    let most = s.most in
-    let worn = s.worn in
-    let old = length-map c.args.notes.now.items note_of in
-    let new = length-map c.settle.new.notes.items note_of in
-    one_heard _ _ _ _ c.args.heard.now c.put.new.self c.args.id c.in_ok-outcome-2.outcome
-    (record {
-      settled = s.settled;
-      kept = s.kept;
-      asked = s.asked;
-      steps = s.steps;
-      answers = s.answers;
-      there = s.there;
-      most = omega (arith, most, old, new);
-      signals = s.signals;
-      idle = s.idle;
-      seats = s.seats;
-      given = s.given;
-      named = s.named;
-      worn = omega (arith, worn, old, new);
-    })
-    s.value
+    c.in_ok-outcome-2.ensures.after c.args.heard.now c.put.new.self
     (c.in_ok-put.ensures ∙ ap (λ o. c.args.heard.now ++ (c.args.id, o) ∷ []) c.in_ok-copy.ensures)

@@ -1,0 +1,9 @@
+use Rattle.std.proofs.Common.{◌≡◌, ◌≤◌, take}
+use Rattle.tpl_hearing.proofs.again.front.Given as goal
+
+-- so many of them so far
+abbrev pub invariant-loop-place : goal.invariant-loop-place
+invariant-loop-place l = record {
+  front : l.heard ≡ take l.place l.before;
+  low : l.place ≤ l.count;
+}
