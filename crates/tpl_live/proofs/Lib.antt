@@ -10,6 +10,7 @@ mod Operated
 mod Planned
 mod Followed
 mod Carried
+mod Reheard
 mod Renewed
 mod Quiet
 mod Learning

@@ -1,23 +1,21 @@
 -- A page that is brought up to date, in the terms of the code.
-use Rattle.std.proofs.Common.{◌≡◌, ℕ, ◌||◌, Bool, true, false, cond, List, [], ◌∷◌, nat_eq, Option, Some, None, refl, sym, ap, subst, ◌∙◌}
+use Rattle.std.proofs.Common.{◌≡◌, ℕ, false, List, [], Option, Some, None, refl, sym, ap, subst, ◌∙◌}
 use Rattle.std.specs.Map.{keys_of}
 use Rattle.std.specs.Prelude.{unwrap_or}
-use Rattle.std.proofs.lemmas.Bool.{false≢true}
 use Rattle.sig_base.specs.declared.value.Outcome.{Outcome}
 use Rattle.sig_base.specs.declared.value.Outcome.TheVariants.{Bad}
 use Rattle.sig_base.specs.declared.value.Fault.TheVariants.{Gone}
 use Rattle.signal_model.specs.Recipes.{Hosts}
 use Rattle.signal_model.specs.Kept.{AreKept}
 use Rattle.signal_model.specs.Standing.{Signals, is_in}
-use Rattle.signal_laws.proofs.Shared.{firsts_hold_law}
 use Rattle.page_model.specs.Forest.{Forest, node, none}
 use Rattle.page_model.specs.Labels.{Kind, Root, Sound}
 use Rattle.page_model.specs.Pages.{IsShape, SameOrigin, carried, edits_between, page_shape, renumbered, tree_of, with_numbers}
 use Rattle.page_model.specs.Replay.{Op}
 use Rattle.tpl_found.specs.Updates.{Updates}
 use Rattle.tpl_found.proofs.Shared.{update_law}
-use Rattle.tpl_hearing.specs.Hearing.{AreFromScratch, Grows, HaveRows, Hears, Outcomes, Scene, heard_of}
-use Rattle.tpl_hearing.specs.HeardAgain.{AreHeardAgain}
+use Rattle.tpl_hearing.specs.Hearing.{AreFromScratch, Grows, HaveRows, Hears, Outcomes, Scene}
+use Rattle.tpl_hearing.specs.HeardAgain.{IsFront}
 use Rattle.tpl_hearing.proofs.Shared.{heard_scratch}
 use Rattle.tpl_listening.specs.Makings.{Agrees, Makes, lines_memo}
 use Rattle.tpl_listening.specs.Renewals.{WasMade, WasMadeIfRead}
@@ -38,21 +36,10 @@ use Rattle.tpl_listening.specs.Changes.{Change, Tells}
 use Rattle.tpl_shapes.specs.declared.shown.Address.{Address}
 use Rattle.tpl_live.proofs.Mounted.{numbers_back}
 use Rattle.tpl_live.proofs.Mounting.{AreMade, are_made}
-use Rattle.tpl_live.proofs.Sourced.{firsts_are, heard_agrees, made_right, names_heard}
+use Rattle.tpl_live.proofs.Reheard.{all_same, heard_so, reads_in, same_up_to}
+use Rattle.tpl_live.proofs.Sourced.{heard_agrees, made_right, names_heard}
 
 -- ---- what was kept
-
-heard_so : (heard : Outcomes) (n : ℕ) → is_in n (keys_of heard) ≡ true → (o : Outcome) × (heard_of heard n ≡ Some o)
-heard_so [] n h = absurd (false≢true h)
-heard_so (p ∷ ps) n h = go (nat_eq n p.0) h (heard_so ps n)
-  where
-    go : (b : Bool) → (b || is_in n (keys_of ps)) ≡ true → (is_in n (keys_of ps) ≡ true → (o : Outcome) × (heard_of ps n ≡ Some o)) →
-        (o : Outcome) × (cond b (Some p.1) (heard_of ps n) ≡ Some o)
-    go true h later = (p.1, refl)
-    go false h later = later h
-
-reads_in : (ns xs : List ℕ) → ns ≡ firsts [] xs → (n : ℕ) → is_in n xs ≡ true → is_in n ns ≡ true
-reads_in ns xs e n i = ap (is_in n) (e ∙ sym (firsts_are [] [] xs (λ j. refl))) ∙ (firsts_hold_law n [] xs ∙ i)
 
 -- what is kept on what was heard was made wherever the names have these outcomes
 pub was_made : (lines : List Line) (b : Block) (links : List ℕ) (heard : Outcomes) (m : PageMemo) → b ≡ block_of lines →
@@ -166,21 +153,16 @@ was_made_there lines links s st =
     record { made = λ u. subst (λ z. WasMade (lines_memo s.lines) z None s.heard s.memo) (sym st.linked) (made_before lines links s st) }
 
 -- where its names have the outcomes of before, it would be made so again
-pub made_still : (lines : List Line) (links : List ℕ) (s : Standing) (first heard : Outcomes) (same : Bool) → Stands lines links s → first ≡ [] → same ≡ true →
-    AreHeardAgain same s.heard (names s.memo) first heard → Makes (lines_memo s.lines) links None [] heard s.memo
-made_still lines links s first heard same st fresh is again =
-    subst (λ z. Makes (lines_memo s.lines) links None z heard s.memo) fresh
-    (stayed s.lines links None s.heard first heard s.memo (made_before lines links s st) (subst (λ z. AreHeardAgain z s.heard (names s.memo) first heard) is again))
+pub made_still : (lines : List Line) (links : List ℕ) (s : Standing) → Stands lines links s → Makes (lines_memo s.lines) links None [] s.heard s.memo
+made_still lines links s st = stayed s.lines links None s.heard [] s.heard s.memo (made_before lines links s st) (all_same (names s.memo) s.heard st.names)
 
--- what is kept next, where names were heard first, up to one that has changed
-pub made_anew : (lines : List Line) (links : List ℕ) (s : Standing) (first mid heard : Outcomes) (m : PageMemo) (same : Bool) → Stands lines links s → first ≡ [] →
-    same ≡ false → AreHeardAgain same s.heard (names s.memo) first mid → Grows mid heard → Makes (lines_memo s.lines) s.links None mid heard m → HaveRows heard →
-    AreMade lines links heard m
-made_anew lines links s first mid heard m same st fresh is again grows made good =
-    are_made lines s.lines links first heard m st.template st.block fresh
-    (remade s.lines links None s.heard first mid heard s.memo m (made_before lines links s st)
-    (subst (λ z. AreHeardAgain z s.heard (names s.memo) first mid) is again) grows
-    (subst (λ z. Makes (lines_memo s.lines) z None mid heard m) st.linked made)) good
+-- what is kept next, where names were heard first, up to one that may have changed
+pub made_anew : (lines : List Line) (links : List ℕ) (s : Standing) (front heard : Outcomes) (m : PageMemo) → Stands lines links s → IsFront s.heard front →
+    Grows front heard → Makes (lines_memo s.lines) s.links None front heard m → HaveRows heard → AreMade lines links heard m
+made_anew lines links s front heard m st f grows made good =
+    are_made lines s.lines links [] heard m st.template st.block refl
+    (remade s.lines links None s.heard [] front heard s.memo m (made_before lines links s st) (same_up_to (names s.memo) s.heard front st.names f) grows
+    (subst (λ z. Makes (lines_memo s.lines) z None front heard m) st.linked made)) good
 
 -- what became of what is kept tells what has to be compared
 compared_there : (lines : List Line) (links : List ℕ) (s : Standing) (heard : Outcomes) (m : PageMemo) (c : Change) → Stands lines links s →

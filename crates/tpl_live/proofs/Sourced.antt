@@ -51,6 +51,10 @@ firsts_are before ns (x ∷ xs) same =
 pub names_heard : (ns : List ℕ) (xs : List ℕ) → ns ≡ firsts_after [] xs → ns ≡ firsts [] xs
 names_heard ns xs e = e ∙ firsts_are [] [] xs (λ j. refl)
 
+-- and the other way
+pub names_read : (ns : List ℕ) (xs : List ℕ) → ns ≡ firsts [] xs → ns ≡ firsts_after [] xs
+names_read ns xs e = e ∙ sym (firsts_are [] [] xs (λ j. refl))
+
 -- ---- what was heard
 
 -- the outcomes that were heard agree with what was heard

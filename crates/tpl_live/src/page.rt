@@ -25,11 +25,11 @@ use sig_computed::RunNote;
 use sig_host::{Lent, Shelf};
 use sig_nodes::Graph;
 use tpl_blocks::{Block, block_of};
-use tpl_hearing::Outcomes;
+use tpl_hearing::{Outcomes, hear_all_again};
 use tpl_making::make;
 use tpl_marks::PageNodes;
 use tpl_memos::PageMemo;
-use tpl_renewing::{Renewed, names_stay, renew};
+use tpl_renewing::{Renewed, renew};
 use tpl_syntax::Template;
 
 /// A page that is made from a template and stands on signals: what it keeps of the template's lines and of the names that it read, and its nodes.
@@ -127,7 +127,7 @@ impl Page {
 
     /// Brings the page up to date with the signals, and gives the operations that lead there: nodes that stay keep their numbers, and new ones
     /// get the next numbers. The names that its lines read are settled, each once, in the order in which they are first read; a line whose names
-    /// have the outcomes of before isn't evaluated, and where all have them, nothing is built. Host formulas are asked exactly as the runs of this
+    /// have the outcomes of before isn't evaluated, and where all have them, no line is looked at. Host formulas are asked exactly as the runs of this
     /// call ask them. Signals stay, and nothing is being evaluated before and after. Without memory graph, shelf and page may only be dropped.
     ///
     /// # Errors
@@ -159,19 +159,10 @@ impl Page {
         ensures counted { OnOk result (⟦<Shelf as Lent>⟧.counted shelf.new) }
     {
         let alloc = *notes.allocator();
-        let mut heard_now = Outcomes::new(alloc);
-        let same = names_stay(
-            alloc,
-            graph,
-            shelf,
-            &self.heard,
-            &mut heard_now,
-            &self.memo,
-            notes,
-        )?;
-        if same {
+        let Some(front) = hear_all_again(graph, shelf, &self.heard, notes)? else {
             return Ok(Vec::new(alloc));
-        }
+        };
+        let mut heard_now = front;
         let was = Box::replace(&mut self.memo, PageMemo::blank());
         let fresh = renew(
             alloc,

@@ -1,4 +1,4 @@
-use Rattle.std.proofs.Common.{None, map, arith, ap, ◌∙◌}
+use Rattle.std.proofs.Common.{[], None, map, refl, arith, ap, ◌∙◌}
 use Rattle.page_ops.specs.Ops.{op_of}
 use Rattle.tpl_listening.specs.Changes.{Tells, changed}
 use Rattle.tpl_hearing.proofs.Shared.{then_heard}
@@ -7,42 +7,43 @@ use Rattle.tpl_memos.specs.Kept.{kept}
 use Rattle.tpl_live.specs.Pages.{page_in}
 use Rattle.tpl_live.specs.Standings.{standing}
 use Rattle.tpl_live.proofs.Mounting.{AreMade}
+use Rattle.tpl_live.proofs.Reheard.{all_heard, found_front, front_heard}
 use Rattle.tpl_live.proofs.Renewed.{compares_there, is_carried, made_anew, made_still, next_of, next_stands, was_made_there}
 use Rattle.tpl_live.proofs.Quiet.{is_quiet}
 use Rattle.tpl_live.proofs.Sourced.{made_on, settled_right}
 use Rattle.tpl_live.proofs.page.Page.update.Goals as goal
 
-pub names_stay-requires-clause-can : goal.names_stay-requires-clause-can
-names_stay-requires-clause-can g c =
+pub hear_all_again-requires-clause-can : goal.hear_all_again-requires-clause-can
+hear_all_again-requires-clause-can g c =
     let worn = c.requires.worn in
     let room = c.requires.room in
     record { idle = c.requires.idle; there = c.requires.there; worn = omega (arith, worn); room = omega (arith, room) }
 
-pub returns-then-same-clause-stands : goal.returns-then-same-clause-stands
-returns-then-same-clause-stands g c = λ lines links st. st
+pub returns-in_default-clause-stands : goal.returns-in_default-clause-stands
+returns-in_default-clause-stands g c = λ lines links st. st
 
-pub returns-then-same-clause-page : goal.returns-then-same-clause-page
-returns-then-same-clause-page g c = λ lines links st hosts all stay.
+pub returns-in_default-clause-page : goal.returns-in_default-clause-page
+returns-in_default-clause-page g c = λ lines links st hosts all stay.
     let s = standing c.args.self.now in
-    let made = made_still lines links s c.new-heard_now.result c.names_stay.new.heard c.in_ok-same.same st c.new-heard_now.ensures c.if-same.true (rw c.deref.ensures at c.in_ok-same.ensures.again) in
-    (is_quiet _ _ _ _ lines links c.new-heard_now.result c.names_stay.new.heard s hosts c.new-heard_now.ensures c.in_ok-same.ensures.after all stay st made).page
+    (is_quiet _ _ _ _ lines links [] s.heard s hosts refl (all_heard _ _ _ _ _ s.heard c.in_default.is c.in_ok-front.ensures.after) all stay st
+    (made_still lines links s st)).page
 
-pub returns-then-same-clause-ops : goal.returns-then-same-clause-ops
-returns-then-same-clause-ops g c = λ lines links st hosts all stay.
+pub returns-in_default-clause-ops : goal.returns-in_default-clause-ops
+returns-in_default-clause-ops g c = λ lines links st hosts all stay.
     let s = standing c.args.self.now in
-    let made = made_still lines links s c.new-heard_now.result c.names_stay.new.heard c.in_ok-same.same st c.new-heard_now.ensures c.if-same.true (rw c.deref.ensures at c.in_ok-same.ensures.again) in
     ap (map op_of) c.new.ensures.items
-    ∙ (is_quiet _ _ _ _ lines links c.new-heard_now.result c.names_stay.new.heard s hosts c.new-heard_now.ensures c.in_ok-same.ensures.after all stay st made).ops
+    ∙ (is_quiet _ _ _ _ lines links [] s.heard s hosts refl (all_heard _ _ _ _ _ s.heard c.in_default.is c.in_ok-front.ensures.after) all stay st
+    (made_still lines links s st)).ops
 
-pub returns-then-same-clause-settles : goal.returns-then-same-clause-settles
-returns-then-same-clause-settles g c = λ lines links st.
+pub returns-in_default-clause-settles : goal.returns-in_default-clause-settles
+returns-in_default-clause-settles g c = λ lines links st.
     let s = standing c.args.self.now in
-    let made = made_still lines links s c.new-heard_now.result c.names_stay.new.heard c.in_ok-same.same st c.new-heard_now.ensures c.if-same.true (rw c.deref.ensures at c.in_ok-same.ensures.again) in
-    settled_right _ _ _ _ lines links c.new-heard_now.result c.names_stay.new.heard s.memo c.new-heard_now.ensures c.in_ok-same.ensures.after
-    (made_on lines s.lines links c.names_stay.new.heard s.memo st.block made) made.order
+    let made = made_still lines links s st in
+    settled_right _ _ _ _ lines links [] s.heard s.memo refl (all_heard _ _ _ _ _ s.heard c.in_default.is c.in_ok-front.ensures.after)
+    (made_on lines s.lines links s.heard s.memo st.block made) made.order
 
 pub renew-requires-clause-was : goal.renew-requires-clause-was
-renew-requires-clause-was g c = rw (c.deref-2.ensures, c.deref-3.ensures.value, c.replace-was.ensures.value) (was_made_there c.requires.stands.lines c.requires.stands.links (standing c.args.self.now) c.requires.stands.stands)
+renew-requires-clause-was g c = rw (c.deref.ensures, c.deref-2.ensures.value, c.replace-was.ensures.value) (was_made_there c.requires.stands.lines c.requires.stands.links (standing c.args.self.now) c.requires.stands.stands)
 
 pub carry-requires : goal.carry-requires
 carry-requires g c =
@@ -52,22 +53,22 @@ carry-requires g c =
     let s = standing c.args.self.now in
     let m = kept c.in_ok-fresh.fresh.memo in
     let made : AreMade lines links c.renew.new.heard m =
-    made_anew lines links s c.new-heard_now.result c.names_stay.new.heard c.renew.new.heard m c.in_ok-same.same st c.new-heard_now.ensures c.if-same.false
-    (rw c.deref.ensures at c.in_ok-same.ensures.again) c.in_ok-fresh.ensures.after.grows (rw (c.deref-2.ensures, c.deref-3.ensures.value) at c.in_ok-fresh.ensures.made) c.good.ensures in
+    made_anew lines links s c.in-Some.front c.renew.new.heard m st (found_front _ s.heard c.in-Some.front c.in-Some.is c.in_ok-front.ensures.front)
+    c.in_ok-fresh.ensures.after.grows (rw (c.deref.ensures, c.deref-2.ensures.value) at c.in_ok-fresh.ensures.made) c.good.ensures in
     let change = changed c.in_ok-fresh.fresh.change in
-    let told : Tells s.lines s.links None s.heard m change = rw (c.deref-2.ensures, c.deref-3.ensures.value) at c.in_ok-fresh.ensures.told in
-    rw (c.deref-4.ensures, c.deref-5.ensures, c.in_ok-renewed.ensures.ok) (record { old = page_in s; compares = compares_there lines links s c.renew.new.heard m change st made told })
+    let told : Tells s.lines s.links None s.heard m change = rw (c.deref.ensures, c.deref-2.ensures.value) at c.in_ok-fresh.ensures.told in
+    rw (c.deref-3.ensures, c.deref-4.ensures, c.in_ok-renewed.ensures.ok) (record { old = page_in s; compares = compares_there lines links s c.renew.new.heard m change st made told })
 
 pub returns-clause-stands : goal.returns-clause-stands
 returns-clause-stands g c = rw (c.in_ok-memo.ensures.ok, c.memo_in.ensures, c.in_ok-renewed.ensures.ok) (λ lines links st.
     let s = standing c.args.self.now in
     let m = kept c.in_ok-fresh.fresh.memo in
     let made : AreMade lines links c.renew.new.heard m =
-    made_anew lines links s c.new-heard_now.result c.names_stay.new.heard c.renew.new.heard m c.in_ok-same.same st c.new-heard_now.ensures c.if-same.false
-    (rw c.deref.ensures at c.in_ok-same.ensures.again) c.in_ok-fresh.ensures.after.grows (rw (c.deref-2.ensures, c.deref-3.ensures.value) at c.in_ok-fresh.ensures.made) c.good.ensures in
+    made_anew lines links s c.in-Some.front c.renew.new.heard m st (found_front _ s.heard c.in-Some.front c.in-Some.is c.in_ok-front.ensures.front)
+    c.in_ok-fresh.ensures.after.grows (rw (c.deref.ensures, c.deref-2.ensures.value) at c.in_ok-fresh.ensures.made) c.good.ensures in
     let change = changed c.in_ok-fresh.fresh.change in
-    let told : Tells s.lines s.links None s.heard m change = rw (c.deref-2.ensures, c.deref-3.ensures.value) at c.in_ok-fresh.ensures.told in
-    let carried = (rw (c.deref-4.ensures, c.deref-5.ensures, c.in_ok-renewed.ensures.ok) at c.in_ok-ops.ensures) (page_in s) (compares_there lines links s c.renew.new.heard m change st made told) in
+    let told : Tells s.lines s.links None s.heard m change = rw (c.deref.ensures, c.deref-2.ensures.value) at c.in_ok-fresh.ensures.told in
+    let carried = (rw (c.deref-3.ensures, c.deref-4.ensures, c.in_ok-renewed.ensures.ok) at c.in_ok-ops.ensures) (page_in s) (compares_there lines links s c.renew.new.heard m change st made told) in
     let os = map op_of c.in_ok-ops.ops.items in
     let next = c.carry.new.nodes.next in
     let number = number_at c.carry.new.nodes.numbers in
@@ -78,40 +79,40 @@ returns-clause-page g c = λ lines links st hosts all stay.
     let s = standing c.args.self.now in
     let m = kept c.in_ok-fresh.fresh.memo in
     let made : AreMade lines links c.renew.new.heard m =
-    made_anew lines links s c.new-heard_now.result c.names_stay.new.heard c.renew.new.heard m c.in_ok-same.same st c.new-heard_now.ensures c.if-same.false
-    (rw c.deref.ensures at c.in_ok-same.ensures.again) c.in_ok-fresh.ensures.after.grows (rw (c.deref-2.ensures, c.deref-3.ensures.value) at c.in_ok-fresh.ensures.made) c.good.ensures in
+    made_anew lines links s c.in-Some.front c.renew.new.heard m st (found_front _ s.heard c.in-Some.front c.in-Some.is c.in_ok-front.ensures.front)
+    c.in_ok-fresh.ensures.after.grows (rw (c.deref.ensures, c.deref-2.ensures.value) at c.in_ok-fresh.ensures.made) c.good.ensures in
     let change = changed c.in_ok-fresh.fresh.change in
-    let told : Tells s.lines s.links None s.heard m change = rw (c.deref-2.ensures, c.deref-3.ensures.value) at c.in_ok-fresh.ensures.told in
-    let carried = (rw (c.deref-4.ensures, c.deref-5.ensures, c.in_ok-renewed.ensures.ok) at c.in_ok-ops.ensures) (page_in s) (compares_there lines links s c.renew.new.heard m change st made told) in
+    let told : Tells s.lines s.links None s.heard m change = rw (c.deref.ensures, c.deref-2.ensures.value) at c.in_ok-fresh.ensures.told in
+    let carried = (rw (c.deref-3.ensures, c.deref-4.ensures, c.in_ok-renewed.ensures.ok) at c.in_ok-ops.ensures) (page_in s) (compares_there lines links s c.renew.new.heard m change st made told) in
     let os = map op_of c.in_ok-ops.ops.items in
     let next = c.carry.new.nodes.next in
     let number = number_at c.carry.new.nodes.numbers in
     let same = ap kept (rw (c.memo_in.ensures, c.in_ok-renewed.ensures.ok) at c.in_ok-memo.ensures.ok) in
     ap (λ z. page_in (next_of s c.renew.new.heard z next c.carry.new.nodes.tree number)) same
-    ∙ (is_carried _ _ _ _ lines links c.new-heard_now.result c.renew.new.heard s m next c.carry.new.nodes.tree number os hosts c.new-heard_now.ensures
-    (then_heard _ _ _ _ _ _ _ _ _ c.in_ok-same.ensures.after c.in_ok-fresh.ensures.after) all stay st made carried).page
+    ∙ (is_carried _ _ _ _ lines links [] c.renew.new.heard s m next c.carry.new.nodes.tree number os hosts refl
+    (then_heard _ _ _ _ _ _ _ _ _ (front_heard _ _ _ _ _ s.heard c.in-Some.front c.in-Some.is c.in_ok-front.ensures.after) c.in_ok-fresh.ensures.after) all stay st made carried).page
 
 pub returns-clause-ops : goal.returns-clause-ops
 returns-clause-ops g c = λ lines links st hosts all stay.
     let s = standing c.args.self.now in
     let m = kept c.in_ok-fresh.fresh.memo in
     let made : AreMade lines links c.renew.new.heard m =
-    made_anew lines links s c.new-heard_now.result c.names_stay.new.heard c.renew.new.heard m c.in_ok-same.same st c.new-heard_now.ensures c.if-same.false
-    (rw c.deref.ensures at c.in_ok-same.ensures.again) c.in_ok-fresh.ensures.after.grows (rw (c.deref-2.ensures, c.deref-3.ensures.value) at c.in_ok-fresh.ensures.made) c.good.ensures in
+    made_anew lines links s c.in-Some.front c.renew.new.heard m st (found_front _ s.heard c.in-Some.front c.in-Some.is c.in_ok-front.ensures.front)
+    c.in_ok-fresh.ensures.after.grows (rw (c.deref.ensures, c.deref-2.ensures.value) at c.in_ok-fresh.ensures.made) c.good.ensures in
     let change = changed c.in_ok-fresh.fresh.change in
-    let told : Tells s.lines s.links None s.heard m change = rw (c.deref-2.ensures, c.deref-3.ensures.value) at c.in_ok-fresh.ensures.told in
-    let carried = (rw (c.deref-4.ensures, c.deref-5.ensures, c.in_ok-renewed.ensures.ok) at c.in_ok-ops.ensures) (page_in s) (compares_there lines links s c.renew.new.heard m change st made told) in
+    let told : Tells s.lines s.links None s.heard m change = rw (c.deref.ensures, c.deref-2.ensures.value) at c.in_ok-fresh.ensures.told in
+    let carried = (rw (c.deref-3.ensures, c.deref-4.ensures, c.in_ok-renewed.ensures.ok) at c.in_ok-ops.ensures) (page_in s) (compares_there lines links s c.renew.new.heard m change st made told) in
     let os = map op_of c.in_ok-ops.ops.items in
     let next = c.carry.new.nodes.next in
     let number = number_at c.carry.new.nodes.numbers in
-    (is_carried _ _ _ _ lines links c.new-heard_now.result c.renew.new.heard s m next c.carry.new.nodes.tree number os hosts c.new-heard_now.ensures
-    (then_heard _ _ _ _ _ _ _ _ _ c.in_ok-same.ensures.after c.in_ok-fresh.ensures.after) all stay st made carried).ops
+    (is_carried _ _ _ _ lines links [] c.renew.new.heard s m next c.carry.new.nodes.tree number os hosts refl
+    (then_heard _ _ _ _ _ _ _ _ _ (front_heard _ _ _ _ _ s.heard c.in-Some.front c.in-Some.is c.in_ok-front.ensures.after) c.in_ok-fresh.ensures.after) all stay st made carried).ops
 
 pub returns-clause-settles : goal.returns-clause-settles
 returns-clause-settles g c = λ lines links st.
     let s = standing c.args.self.now in
     let m = kept c.in_ok-fresh.fresh.memo in
     let made : AreMade lines links c.renew.new.heard m =
-    made_anew lines links s c.new-heard_now.result c.names_stay.new.heard c.renew.new.heard m c.in_ok-same.same st c.new-heard_now.ensures c.if-same.false
-    (rw c.deref.ensures at c.in_ok-same.ensures.again) c.in_ok-fresh.ensures.after.grows (rw (c.deref-2.ensures, c.deref-3.ensures.value) at c.in_ok-fresh.ensures.made) c.good.ensures in
-    settled_right _ _ _ _ lines links c.new-heard_now.result c.renew.new.heard m c.new-heard_now.ensures (then_heard _ _ _ _ _ _ _ _ _ c.in_ok-same.ensures.after c.in_ok-fresh.ensures.after) made.memo made.order
+    made_anew lines links s c.in-Some.front c.renew.new.heard m st (found_front _ s.heard c.in-Some.front c.in-Some.is c.in_ok-front.ensures.front)
+    c.in_ok-fresh.ensures.after.grows (rw (c.deref.ensures, c.deref-2.ensures.value) at c.in_ok-fresh.ensures.made) c.good.ensures in
+    settled_right _ _ _ _ lines links [] c.renew.new.heard m refl (then_heard _ _ _ _ _ _ _ _ _ (front_heard _ _ _ _ _ s.heard c.in-Some.front c.in-Some.is c.in_ok-front.ensures.after) c.in_ok-fresh.ensures.after) made.memo made.order
