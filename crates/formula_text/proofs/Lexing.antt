@@ -1,10 +1,10 @@
 -- The text of a form is cut into its tokens.
-use Rattle.std.proofs.Common.{◌≡◌, ℕ, suc, ◌+◌, ◌-◌, ◌<◌, ◌≤◌, Bool, true, false, List, [], ◌∷◌, ◌++◌, length, take, drop, refl, sym, ap, subst, ◌∙◌, append_assoc, arith, inl, inr}
+use Rattle.std.proofs.Common.{◌≡◌, ℕ, suc, ◌+◌, ◌-◌, ◌<◌, ◌≤◌, Bool, true, false, cond, List, [], ◌∷◌, ◌++◌, length, take, drop, refl, sym, ap, subst, ◌∙◌, append_assoc, arith, inl, inr}
 use Rattle.std.specs.Prelude.{◌||◌, ◌&&◌, ◌==◌, codes, slice_index}
 use Rattle.std.specs.Char.{is_ascii_digit}
 use Rattle.std.specs.List.{list_all}
 use Rattle.std.proofs.Math.Seq.{drop-append_seam}
-use Rattle.std.proofs.lemmas.Bool.{cases_Bool}
+use Rattle.std.proofs.lemmas.Bool.{and_right, cases_Bool}
 use Rattle.std.proofs.lemmas.List.{drop-drop, length-append, length-drop, map-append, take_at}
 use Rattle.sig_base.specs.Words.{is_blank, in_word, is_word}
 use Rattle.sig_formula.specs.declared.formula.BinOp.{BinOp}
@@ -13,13 +13,13 @@ use Rattle.sig_words.specs.declared.token.Token.{Token}
 use Rattle.sig_words.specs.declared.token.TokenKind.{TokenKind}
 use Rattle.sig_words.specs.declared.token.TokenKind.TheVariants as kind
 use Rattle.sig_words.specs.Lexemes.{lexeme, lexeme_of, lexemes}
-use Rattle.sig_words.specs.Tokens.{is_two, Form, IsToken, Cuts, may_sign}
+use Rattle.sig_words.specs.Tokens.{is_two, Form, IsSymbol, IsToken, Cuts, may_sign}
 use Rattle.sig_words.proofs.Shared.{index_drop}
 use Rattle.formula_text.specs.declared.rough.Around.{Around}
 use Rattle.formula_text.specs.declared.rough.OverRows.{OverRows}
 use Rattle.formula_text.specs.declared.rough.Around.TheVariants as form
 use Rattle.formula_text.specs.declared.rough.OverRows.TheVariants as each
-use Rattle.formula_text.specs.Signs.{Leaf, Sign, name, sign, signs, word_sign, symbol_sign, later_word_sign, last_word_sign, later_symbol_sign, last_symbol_sign}
+use Rattle.formula_text.specs.Signs.{Leaf, Sign, name, sign, signs, word_sign, symbol_sign, later_word_sign, last_word_sign, later_symbol_sign}
 use Rattle.formula_text.specs.Signs as t
 use Rattle.formula_text.specs.Grammar.{Written, single, group, it_dot, around, over_rows, negated, chain, pick, spelled}
 use Rattle.formula_text.specs.Canonical.{written, around_text, over_text, operator_text, leaf_text}
@@ -147,19 +147,19 @@ dot_token next sg = record {
 }
 
 comma_sign : symbol_sign (44 ∷ []) ≡ t.comma
-unfolding symbol_sign later_symbol_sign last_symbol_sign
+unfolding symbol_sign later_symbol_sign
 comma_sign = refl
 
 dot_sign : symbol_sign (46 ∷ []) ≡ t.dot
-unfolding symbol_sign later_symbol_sign last_symbol_sign
+unfolding symbol_sign later_symbol_sign
 dot_sign = refl
 
 opening_sign : symbol_sign (40 ∷ []) ≡ t.opening
-unfolding symbol_sign later_symbol_sign last_symbol_sign
+unfolding symbol_sign later_symbol_sign
 opening_sign = refl
 
 closing_sign : symbol_sign (41 ∷ []) ≡ t.closing
-unfolding symbol_sign later_symbol_sign last_symbol_sign
+unfolding symbol_sign later_symbol_sign
 closing_sign = refl
 
 not_key : IsKey (codes "not") t.not_word
@@ -196,6 +196,8 @@ key : (line : List ℕ) (f s : ℕ) (w back : List ℕ) (sg : Sign) → IsKey w 
     → CutsInto line f (s + length w) (sg ∷ [])
 key line f s w back sg k gap h ends = one line f s kind.Word w back sg gap h k.some (record { form = k.word; ends = ends; signed = tt }) k.says
 
+-- ---- operators
+
 -- an operator as a token
 record IsOperator (o : BinOp) (k : TokenKind) : Type 0 where
   token : (next : List ℕ) (sg : Bool) → slice_index next 0 ≡ 32 → IsToken sg k (operator_text o) next
@@ -206,81 +208,46 @@ no_sign : (sg : Bool) (b : ℕ) → b ≡ 32 → (sg && is_ascii_digit b) ≡ fa
 no_sign true b e = rw e refl
 no_sign false b e = refl
 
-is_Or : IsOperator op.Or kind.Word
-unfolding word_sign later_word_sign last_word_sign
-is_Or = record { token = λ next sg e. record { form = refl; ends = rw e refl; signed = tt }; some = omega arith; says = refl }
+-- words end before a blank, and so do symbols
+word_token : (text next : List ℕ) (sg : Bool) → is_word text ≡ true → slice_index next 0 ≡ 32 → IsToken sg kind.Word text next
+word_token text next sg f e = record { form = f; ends = rw e refl; signed = tt }
 
-is_And : IsOperator op.And kind.Word
-unfolding word_sign later_word_sign last_word_sign
-is_And = record { token = λ next sg e. record { form = refl; ends = rw e refl; signed = tt }; some = omega arith; says = refl }
+symbol_token : (text next : List ℕ) (sg : Bool) → IsSymbol text → slice_index next 0 ≡ 32 → IsToken sg kind.Symbol text next
+symbol_token text next sg f e = record {
+  form = f;
+  ends = λ one. rw e (and_right (slice_index text 0 == 43) false refl);
+  signed = λ is. no_sign sg (slice_index next 0) e;
+}
 
-is_Lt : IsOperator op.Lt kind.Symbol
-unfolding symbol_sign later_symbol_sign last_symbol_sign
-is_Lt = record { token = λ next sg e. record { form = refl; ends = λ _. rw e refl; signed = λ is. absurd (omega (arith, ap (λ (l : List ℕ). slice_index l 0) is)) }; some = omega arith; says = refl }
+-- the kind of what is a word, or else a symbol
+abbrev kind_of : Bool → TokenKind
+kind_of b = cond b kind.Word kind.Symbol
 
-is_Gt : IsOperator op.Gt kind.Symbol
-unfolding symbol_sign later_symbol_sign last_symbol_sign
-is_Gt = record { token = λ next sg e. record { form = refl; ends = λ _. rw e refl; signed = λ is. absurd (omega (arith, ap (λ (l : List ℕ). slice_index l 0) is)) }; some = omega arith; says = refl }
+-- how an operator is written is a word or a symbol
+operator_form : (o : BinOp) → Form (kind_of (is_word (operator_text o))) (operator_text o)
+operator_form op.Or = refl
+operator_form _ = refl
 
-is_Add : IsOperator op.Add kind.Symbol
-unfolding symbol_sign later_symbol_sign last_symbol_sign
-is_Add = record { token = λ next sg e. record { form = refl; ends = λ _. rw e refl; signed = λ is. absurd (omega (arith, ap (λ (l : List ℕ). slice_index l 0) is)) }; some = omega arith; says = refl }
+-- and says the operator
+operator_says : (o : BinOp) → sign (lexeme_of (kind_of (is_word (operator_text o))) (operator_text o)) ≡ t.operator o
+unfolding word_sign symbol_sign
+operator_says op.Or = refl
+operator_says _ = refl
 
-is_Mul : IsOperator op.Mul kind.Symbol
-unfolding symbol_sign later_symbol_sign last_symbol_sign
-is_Mul = record { token = λ next sg e. record { form = refl; ends = λ _. rw e refl; signed = λ is. absurd (omega (arith, ap (λ (l : List ℕ). slice_index l 0) is)) }; some = omega arith; says = refl }
+operator_some : (o : BinOp) → 0 < length (operator_text o)
+operator_some op.Or = omega arith
+operator_some _ = omega arith
 
-is_Div : IsOperator op.Div kind.Symbol
-unfolding symbol_sign later_symbol_sign last_symbol_sign
-is_Div = record { token = λ next sg e. record { form = refl; ends = λ _. rw e refl; signed = λ is. absurd (omega (arith, ap (λ (l : List ℕ). slice_index l 0) is)) }; some = omega arith; says = refl }
+either_token : (b : Bool) (text next : List ℕ) (sg : Bool) → Form (kind_of b) text → slice_index next 0 ≡ 32 → IsToken sg (kind_of b) text next
+either_token true text next sg f e = word_token text next sg f e
+either_token false text next sg f e = symbol_token text next sg f e
 
-is_Rem : IsOperator op.Rem kind.Symbol
-unfolding symbol_sign later_symbol_sign last_symbol_sign
-is_Rem = record { token = λ next sg e. record { form = refl; ends = λ _. rw e refl; signed = λ is. absurd (omega (arith, ap (λ (l : List ℕ). slice_index l 0) is)) }; some = omega arith; says = refl }
-
-is_Sub : IsOperator op.Sub kind.Symbol
-unfolding symbol_sign later_symbol_sign last_symbol_sign
-is_Sub = record { token = λ next sg e. record { form = refl; ends = λ _. rw e refl; signed = λ is. no_sign sg (slice_index next 0) e }; some = omega arith; says = refl }
-
-is_Eq : IsOperator op.Eq kind.Symbol
-unfolding symbol_sign later_symbol_sign last_symbol_sign
-is_Eq = record { token = λ next sg e. record { form = refl; ends = λ is. absurd (omega (arith, is)); signed = λ is. absurd cc }; some = omega arith; says = refl }
-
-is_Ne : IsOperator op.Ne kind.Symbol
-unfolding symbol_sign later_symbol_sign last_symbol_sign
-is_Ne = record { token = λ next sg e. record { form = refl; ends = λ is. absurd (omega (arith, is)); signed = λ is. absurd cc }; some = omega arith; says = refl }
-
-is_Le : IsOperator op.Le kind.Symbol
-unfolding symbol_sign later_symbol_sign last_symbol_sign
-is_Le = record { token = λ next sg e. record { form = refl; ends = λ is. absurd (omega (arith, is)); signed = λ is. absurd cc }; some = omega arith; says = refl }
-
-is_Ge : IsOperator op.Ge kind.Symbol
-unfolding symbol_sign later_symbol_sign last_symbol_sign
-is_Ge = record { token = λ next sg e. record { form = refl; ends = λ is. absurd (omega (arith, is)); signed = λ is. absurd cc }; some = omega arith; says = refl }
-
-is_Join : IsOperator op.Join kind.Symbol
-unfolding symbol_sign later_symbol_sign last_symbol_sign
-is_Join = record { token = λ next sg e. record { form = refl; ends = λ is. absurd (omega (arith, is)); signed = λ is. absurd cc }; some = omega arith; says = refl }
-
-record Operator (o : BinOp) : Type 0 where
-  kind_is : TokenKind
-  is : IsOperator o kind_is
-
-operator : (o : BinOp) → Operator o
-operator op.Or = record { kind_is = kind.Word; is = is_Or }
-operator op.And = record { kind_is = kind.Word; is = is_And }
-operator op.Eq = record { kind_is = kind.Symbol; is = is_Eq }
-operator op.Ne = record { kind_is = kind.Symbol; is = is_Ne }
-operator op.Lt = record { kind_is = kind.Symbol; is = is_Lt }
-operator op.Le = record { kind_is = kind.Symbol; is = is_Le }
-operator op.Gt = record { kind_is = kind.Symbol; is = is_Gt }
-operator op.Ge = record { kind_is = kind.Symbol; is = is_Ge }
-operator op.Join = record { kind_is = kind.Symbol; is = is_Join }
-operator op.Add = record { kind_is = kind.Symbol; is = is_Add }
-operator op.Sub = record { kind_is = kind.Symbol; is = is_Sub }
-operator op.Mul = record { kind_is = kind.Symbol; is = is_Mul }
-operator op.Div = record { kind_is = kind.Symbol; is = is_Div }
-operator op.Rem = record { kind_is = kind.Symbol; is = is_Rem }
+operator : (o : BinOp) → IsOperator o (kind_of (is_word (operator_text o)))
+operator o = record {
+  token = λ next sg e. either_token (is_word (operator_text o)) (operator_text o) next sg (operator_form o) e;
+  some = operator_some o;
+  says = operator_says o;
+}
 
 parentheses : (line : List ℕ) (f s : ℕ) (inner back : List ℕ) (ss : List Sign) → Gap line f s → drop s line ≡ (40 ∷ (inner ++ 41 ∷ [])) ++ back
     → (drop (suc s) line ≡ inner ++ (41 ∷ back) → may_sign line (suc s) ≡ true → CutsInto line (suc s) (suc s + length inner) ss)
@@ -358,8 +325,7 @@ cut_written (negated w) line f s back gap h sg ends good =
     up_to line f (suc p + length (written w)) _ _ (omega arith)
     (join line f p (suc p + length (written w)) (t.not_word ∷ []) (spelled w) word (cut_written w line p (suc p) back b.gap b.rest_is b.sign_is ends good))
 cut_written (chain o a b) line f s back gap h sg ends good =
-    let o-is = operator o in
-    let i = o-is.is in
+    let i = operator o in
     let tail = 32 ∷ (operator_text o ++ (32 ∷ (written b ++ back))) in
     let whole : drop s line ≡ written a ++ tail =
     h ∙ append_assoc (written a) (32 ∷ (operator_text o ++ (32 ∷ written b))) back ∙ ap (λ (x : List ℕ). written a ++ (32 ∷ x)) (append_assoc (operator_text o) (32 ∷ written b) back) in
@@ -367,7 +333,7 @@ cut_written (chain o a b) line f s back gap h sg ends good =
     let left = cut_written a line f s tail gap whole sg refl good.0 in
     let m = behind_blank line (operator_text o ++ (32 ∷ (written b ++ back))) p (move line (written a) tail s whole) in
     let q = suc p + length (operator_text o) in
-    let mid = one line p (suc p) o-is.kind_is (operator_text o) (32 ∷ (written b ++ back)) (t.operator o) m.gap m.rest_is i.some (i.token _ _ refl) i.says in
+    let mid = one line p (suc p) (kind_of (is_word (operator_text o))) (operator_text o) (32 ∷ (written b ++ back)) (t.operator o) m.gap m.rest_is i.some (i.token _ _ refl) i.says in
     let n = behind_blank line (written b ++ back) q (move line (operator_text o) (32 ∷ (written b ++ back)) (suc p) m.rest_is) in
     let right = cut_written b line q (suc q) back n.gap n.rest_is n.sign_is ends good.1 in
     up_to line f (suc q + length (written b)) _ _ (omega (arith, length-append (written a) (32 ∷ (operator_text o ++ (32 ∷ written b))), length-append (operator_text o) (32 ∷ written b)))

@@ -1,5 +1,5 @@
 -- What is written of a formula that was read is read back.
-use Rattle.std.proofs.Common.{◌≡◌, ℕ, None, zero, suc, ◌+◌, ◌-◌, ◌<◌, Bool, true, false, cond, List, [], ◌∷◌, ◌++◌, length, take, drop, refl, sym, ap, subst, ◌∙◌, arith, inl, inr}
+use Rattle.std.proofs.Common.{◌≡◌, ℕ, Option, Some, None, zero, suc, ◌+◌, ◌-◌, ◌<◌, Bool, true, false, cond, List, [], ◌∷◌, ◌++◌, length, take, drop, refl, sym, ap, subst, ◌∙◌, arith, inl, inr}
 use Rattle.std.specs.Prelude.{◌==◌, ◌&&◌, nat_lt, codes}
 use Rattle.std.specs.Char.{is_ascii_digit}
 use Rattle.std.specs.Fmt.{signed_decimal}
@@ -27,10 +27,11 @@ use Rattle.formula_text.specs.declared.rough.OverRows.{OverRows}
 use Rattle.formula_text.specs.declared.rough.Around.TheVariants as form
 use Rattle.formula_text.specs.declared.rough.OverRows.TheVariants as each
 use Rattle.formula_text.specs.declared.wired.Allow.{Allow}
-use Rattle.formula_text.specs.Signs.{Leaf, Sign, name, constant, sign, signs, word_sign, symbol_sign, NoOperator, later_word_sign, last_word_sign, later_symbol_sign, last_symbol_sign}
+use Rattle.formula_text.specs.Signs.{Leaf, Sign, name, constant, operator_or, sign, signs, word_sign, symbol_sign, NoOperator, later_word_sign, last_word_sign, later_symbol_sign}
 use Rattle.formula_text.specs.Signs as t
 use Rattle.formula_text.specs.Grammar.{IsLongest, Draft, leaf, negation, binary, choice, of_row, one_part, each_row, spelled, meant, level, before, Spells}
 use Rattle.formula_text.specs.Grammar.{Written, single, group, it_dot, around, over_rows, negated, chain, pick}
+use Rattle.formula_text.specs.Operators.{operator_of}
 use Rattle.formula_text.specs.Canonical.{minimal, written, canonical_text, around_text, over_text, operator_text, leaf_text}
 use Rattle.formula_text.specs.Lexing.{IsOneToken}
 use Rattle.formula_text.specs.Wiring.{Wiring, wired, refusal, Reads, IsWired}
@@ -61,12 +62,14 @@ good_name : (w : List ℕ) (b : Bool) → is_name w ≡ b → Good (cond b (t.le
 good_name w true h = h
 good_name w false h = tt
 
-pub good_word : (w : List ℕ) → Good (word_sign w)
-unfolding word_sign later_word_sign last_word_sign
-good_word w =
-    good_if (bytes_eq w (codes "or")) _ _ tt
-    (good_if (bytes_eq w (codes "and")) _ _ tt
-    (good_if (bytes_eq w (codes "not")) _ _ tt
+good_operator : (o : Option BinOp) (s : Sign) → Good s → Good (operator_or o s)
+good_operator (Some o) s h = tt
+good_operator None s h = h
+
+good_later : (w : List ℕ) → Good (later_word_sign w)
+unfolding later_word_sign last_word_sign
+good_later w =
+    good_if (bytes_eq w (codes "not")) _ _ tt
     (good_if (bytes_eq w (codes "if")) _ _ tt
     (good_if (bytes_eq w (codes "then")) _ _ tt
     (good_if (bytes_eq w (codes "else")) _ _ tt
@@ -77,27 +80,23 @@ good_word w =
     (good_if (bytes_eq w (codes "it")) _ _ tt
     (good_if (bytes_eq w (codes "true")) _ _ tt
     (good_if (bytes_eq w (codes "false")) _ _ tt
-    (good_name w (is_name w) refl)))))))))))))
+    (good_name w (is_name w) refl)))))))))))
 
-pub good_symbol : (s : List ℕ) → Good (symbol_sign s)
-unfolding symbol_sign later_symbol_sign last_symbol_sign
-good_symbol s =
+pub good_word : (w : List ℕ) → Good (word_sign w)
+unfolding word_sign
+good_word w = good_operator (operator_of w) (later_word_sign w) (good_later w)
+
+good_later_symbol : (s : List ℕ) → Good (later_symbol_sign s)
+unfolding later_symbol_sign
+good_later_symbol s =
     good_if (bytes_eq s (codes "(")) _ _ tt
     (good_if (bytes_eq s (codes ")")) _ _ tt
     (good_if (bytes_eq s (codes ",")) _ _ tt
-    (good_if (bytes_eq s (codes ".")) _ _ tt
-    (good_if (bytes_eq s (codes "==")) _ _ tt
-    (good_if (bytes_eq s (codes "!=")) _ _ tt
-    (good_if (bytes_eq s (codes "<")) _ _ tt
-    (good_if (bytes_eq s (codes "<=")) _ _ tt
-    (good_if (bytes_eq s (codes ">")) _ _ tt
-    (good_if (bytes_eq s (codes ">=")) _ _ tt
-    (good_if (bytes_eq s (codes "++")) _ _ tt
-    (good_if (bytes_eq s (codes "+")) _ _ tt
-    (good_if (bytes_eq s (codes "-")) _ _ tt
-    (good_if (bytes_eq s (codes "*")) _ _ tt
-    (good_if (bytes_eq s (codes "/")) _ _ tt
-    (good_if (bytes_eq s (codes "%")) (t.operator op.Rem) t.other tt tt)))))))))))))))
+    (good_if (bytes_eq s (codes ".")) t.dot t.other tt tt)))
+
+pub good_symbol : (s : List ℕ) → Good (symbol_sign s)
+unfolding symbol_sign
+good_symbol s = good_operator (operator_of s) (later_symbol_sign s) (good_later_symbol s)
 
 meaning_scalar : (c : ℕ) → is_scalar c ≡ true → is_scalar (meaning c) ≡ true
 meaning_scalar c h = elim (cases_Bool (c == 110)) [
@@ -307,21 +306,12 @@ leaf_utf8 (constant (scalar.Bool false)) h = ascii (codes "false") refl
 leaf_utf8 (constant (scalar.Int z)) h = number_utf8 (signed_decimal z) (numeric z h)
 leaf_utf8 (constant (scalar.Text s)) h = quoted_utf8 s h
 
+operator_ascii : (o : BinOp) → are_ascii (operator_text o) ≡ true
+operator_ascii op.Or = refl
+operator_ascii _ = refl
+
 operator_utf8 : (o : BinOp) → IsUtf8 (operator_text o)
-operator_utf8 op.Or = ascii (codes "or") refl
-operator_utf8 op.And = ascii (codes "and") refl
-operator_utf8 op.Eq = ascii (codes "==") refl
-operator_utf8 op.Ne = ascii (codes "!=") refl
-operator_utf8 op.Lt = ascii (codes "<") refl
-operator_utf8 op.Le = ascii (codes "<=") refl
-operator_utf8 op.Gt = ascii (codes ">") refl
-operator_utf8 op.Ge = ascii (codes ">=") refl
-operator_utf8 op.Join = ascii (codes "++") refl
-operator_utf8 op.Add = ascii (codes "+") refl
-operator_utf8 op.Sub = ascii (codes "-") refl
-operator_utf8 op.Mul = ascii (codes "*") refl
-operator_utf8 op.Div = ascii (codes "/") refl
-operator_utf8 op.Rem = ascii (codes "%") refl
+operator_utf8 o = ascii (operator_text o) (operator_ascii o)
 
 around_utf8 : (f : Around) → IsUtf8 (around_text f)
 around_utf8 form.Count = ascii (codes "count") refl

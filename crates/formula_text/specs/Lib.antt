@@ -2,6 +2,7 @@ pub mod Canonical
 pub mod Grammar
 pub mod Judging
 pub mod Lexing
+pub mod Operators
 pub mod Reading
 pub mod Rereading
 pub mod Rough

@@ -3,6 +3,7 @@
 
 mod judge;
 mod meaning;
+mod operators;
 mod reader;
 mod rough;
 mod sign;

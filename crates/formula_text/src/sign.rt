@@ -2,9 +2,10 @@
 ghost use Rattle.std.specs.Prelude.{◌≡◌, ◌∷◌, ◌+◌, ◌<◌, [], length, true, IfSome, MatchOption};
 ghost use Rattle.sig_base.specs.Words.{is_name};
 ghost use Rattle.sig_words.specs.Lexemes.{lexeme, text_at};
-ghost use Rattle.formula_text.specs.Signs.{last_symbol_sign, last_word_sign, later_symbol_sign, later_word_sign, sign, symbol_sign, word_sign};
+ghost use Rattle.formula_text.specs.Signs.{form_sign, last_word_sign, later_symbol_sign, later_word_sign, sign, symbol_sign, word_sign};
 ghost use Rattle.formula_text.specs.Rough.{bytes_at, sign_of, IsSeen, IsSeenAt, signs_from};
 
+use crate::operators::operator_of;
 use crate::rough::{Around, OverRows};
 use sig_base::is_name;
 use sig_formula::BinOp;
@@ -38,11 +39,19 @@ fn word_sign(text: &[u8]) -> Sign
     ensures name { result ≡ Sign.Name → is_name text.now ≡ true }
     ensures no_text { result ≡ Sign.Text → ⊥ }
 {
-    if text == b"or".as_slice() {
-        Sign::Operator(BinOp::Or)
-    } else if text == b"and".as_slice() {
-        Sign::Operator(BinOp::And)
-    } else if text == b"not".as_slice() {
+    match operator_of(text) {
+        Some(operator) => Sign::Operator(operator),
+        None => later_word_sign(text),
+    }
+}
+
+#[tactic(auto, unfolding(crate::specs::Signs::later_word_sign))]
+fn later_word_sign(text: &[u8]) -> Sign
+    ensures sign { sign_of text.now result ≡ later_word_sign text.now }
+    ensures name { result ≡ Sign.Name → is_name text.now ≡ true }
+    ensures no_text { result ≡ Sign.Text → ⊥ }
+{
+    if text == b"not".as_slice() {
         Sign::Not
     } else if text == b"if".as_slice() {
         Sign::If
@@ -51,13 +60,12 @@ fn word_sign(text: &[u8]) -> Sign
     } else if text == b"else".as_slice() {
         Sign::Else
     } else {
-        later_word_sign(text)
+        form_sign(text)
     }
 }
 
-#[tactic(auto, unfolding(crate::specs::Signs::later_word_sign))]
-fn later_word_sign(text: &[u8]) -> Sign
-    ensures sign { sign_of text.now result ≡ later_word_sign text.now }
+fn form_sign(text: &[u8]) -> Sign
+    ensures sign { sign_of text.now result ≡ form_sign text.now }
     ensures name { result ≡ Sign.Name → is_name text.now ≡ true }
     ensures no_text { result ≡ Sign.Text → ⊥ }
 {
@@ -99,18 +107,9 @@ fn symbol_sign(text: &[u8]) -> Sign
     ensures no_name { result ≡ Sign.Name → ⊥ }
     ensures no_text { result ≡ Sign.Text → ⊥ }
 {
-    if text == b"(".as_slice() {
-        Sign::Open
-    } else if text == b")".as_slice() {
-        Sign::Close
-    } else if text == b",".as_slice() {
-        Sign::Comma
-    } else if text == b".".as_slice() {
-        Sign::Dot
-    } else if text == b"==".as_slice() {
-        Sign::Operator(BinOp::Eq)
-    } else {
-        later_symbol_sign(text)
+    match operator_of(text) {
+        Some(operator) => Sign::Operator(operator),
+        None => later_symbol_sign(text),
     }
 }
 
@@ -120,39 +119,14 @@ fn later_symbol_sign(text: &[u8]) -> Sign
     ensures no_name { result ≡ Sign.Name → ⊥ }
     ensures no_text { result ≡ Sign.Text → ⊥ }
 {
-    if text == b"!=".as_slice() {
-        Sign::Operator(BinOp::Ne)
-    } else if text == b"<".as_slice() {
-        Sign::Operator(BinOp::Lt)
-    } else if text == b"<=".as_slice() {
-        Sign::Operator(BinOp::Le)
-    } else if text == b">".as_slice() {
-        Sign::Operator(BinOp::Gt)
-    } else if text == b">=".as_slice() {
-        Sign::Operator(BinOp::Ge)
-    } else if text == b"++".as_slice() {
-        Sign::Operator(BinOp::Join)
-    } else {
-        last_symbol_sign(text)
-    }
-}
-
-#[tactic(auto, unfolding(crate::specs::Signs::last_symbol_sign))]
-fn last_symbol_sign(text: &[u8]) -> Sign
-    ensures sign { sign_of text.now result ≡ last_symbol_sign text.now }
-    ensures no_name { result ≡ Sign.Name → ⊥ }
-    ensures no_text { result ≡ Sign.Text → ⊥ }
-{
-    if text == b"+".as_slice() {
-        Sign::Operator(BinOp::Add)
-    } else if text == b"-".as_slice() {
-        Sign::Operator(BinOp::Sub)
-    } else if text == b"*".as_slice() {
-        Sign::Operator(BinOp::Mul)
-    } else if text == b"/".as_slice() {
-        Sign::Operator(BinOp::Div)
-    } else if text == b"%".as_slice() {
-        Sign::Operator(BinOp::Rem)
+    if text == b"(".as_slice() {
+        Sign::Open
+    } else if text == b")".as_slice() {
+        Sign::Close
+    } else if text == b",".as_slice() {
+        Sign::Comma
+    } else if text == b".".as_slice() {
+        Sign::Dot
     } else {
         Sign::Other
     }
