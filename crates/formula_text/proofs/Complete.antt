@@ -6,11 +6,11 @@ use Rattle.std.proofs.lemmas.List.{length-append}
 use Rattle.formula_text.specs.Signs.{Sign}
 use Rattle.formula_text.specs.Signs as t
 use Rattle.sig_formula.specs.declared.formula.BinOp.{BinOp}
-use Rattle.sig_formula.specs.declared.formula.BinOp.TheVariants as op
 use Rattle.formula_text.specs.declared.rough.OverRows.{OverRows}
 use Rattle.formula_text.specs.Grammar.{Draft, binary, choice, each_row, spelled, meant, level, before, rule, Fits}
 use Rattle.formula_text.specs.Grammar.{Written, single, group, it_dot, around, over_rows, negated, chain, pick}
 use Rattle.formula_text.specs.Reading.{Part, Reader, head, goes_on, tail_at, tail, expr, choice_at, each_row_at}
+use Rattle.formula_text.proofs.Groups.{level_before, level_not, level_some}
 use Rattle.formula_text.proofs.Sound.{each_tokens, pick_tokens}
 
 -- no operator goes on here with a part of rule least or tighter
@@ -37,38 +37,9 @@ pub record Leads (n least : ℕ) (ts : List Sign) (p : Part) : Type 0 where
   pub enough : length p.2 ≤ turns
   pub reads : expr n least ts ≡ Some (tail (expr inner) turns least p)
 
-pub level_before : (o : BinOp) → level o ≤ before o
-level_before op.Or = omega arith
-level_before op.And = omega arith
-level_before op.Eq = omega arith
-level_before op.Ne = omega arith
-level_before op.Lt = omega arith
-level_before op.Le = omega arith
-level_before op.Gt = omega arith
-level_before op.Ge = omega arith
-level_before op.Join = omega arith
-level_before op.Add = omega arith
-level_before op.Sub = omega arith
-level_before op.Mul = omega arith
-level_before op.Div = omega arith
-level_before op.Rem = omega arith
-
--- an operator that does not bind tighter than not binds looser
+-- where an operator binds tighter than `not` none goes on, nor does one that binds as it does
 Stops-not : (rest : List Sign) → Stops 4 rest → Stops 3 rest
-Stops-not (t.operator op.Or ∷ ts) h = omega arith
-Stops-not (t.operator op.And ∷ ts) h = omega arith
-Stops-not (t.operator op.Eq ∷ ts) h = absurd (omega arith)
-Stops-not (t.operator op.Ne ∷ ts) h = absurd (omega arith)
-Stops-not (t.operator op.Lt ∷ ts) h = absurd (omega arith)
-Stops-not (t.operator op.Le ∷ ts) h = absurd (omega arith)
-Stops-not (t.operator op.Gt ∷ ts) h = absurd (omega arith)
-Stops-not (t.operator op.Ge ∷ ts) h = absurd (omega arith)
-Stops-not (t.operator op.Join ∷ ts) h = absurd (omega arith)
-Stops-not (t.operator op.Add ∷ ts) h = absurd (omega arith)
-Stops-not (t.operator op.Sub ∷ ts) h = absurd (omega arith)
-Stops-not (t.operator op.Mul ∷ ts) h = absurd (omega arith)
-Stops-not (t.operator op.Div ∷ ts) h = absurd (omega arith)
-Stops-not (t.operator op.Rem ∷ ts) h = absurd (omega arith)
+Stops-not (t.operator o ∷ ts) h = level_not o h
 Stops-not _ h = tt
 
 pub Stops-more : (a b : ℕ) (rest : List Sign) → a ≤ b → Stops a rest → Stops b rest
@@ -106,22 +77,6 @@ chain_leads : (o : BinOp) (a b : Written) (n least : ℕ) (rest : List Sign) →
     → ((m : ℕ) → n ≡ suc m → expr m (level o + 1) (spelled b ++ rest) ≡ Some (meant b, rule b, rest))
     → Leads n least ((spelled a ++ (t.operator o ∷ spelled b)) ++ rest) (binary o (meant a) (meant b), level o, rest)
 chain_leads o a b n least rest low high left right = chain_turn o a b n least rest low high left.inner left.turns left.n-is left.enough left.reads (right left.inner left.n-is)
-
-pub level_some : (o : BinOp) → 0 < level o
-level_some op.Or = omega arith
-level_some op.And = omega arith
-level_some op.Eq = omega arith
-level_some op.Ne = omega arith
-level_some op.Lt = omega arith
-level_some op.Le = omega arith
-level_some op.Gt = omega arith
-level_some op.Ge = omega arith
-level_some op.Join = omega arith
-level_some op.Add = omega arith
-level_some op.Sub = omega arith
-level_some op.Mul = omega arith
-level_some op.Div = omega arith
-level_some op.Rem = omega arith
 
 pub Stops-zero : (rest : List Sign) → Stops 1 rest → Stops 0 rest
 Stops-zero (t.operator o ∷ ts) h = absurd (omega (arith, level_some o))

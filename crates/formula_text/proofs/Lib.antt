@@ -1,4 +1,5 @@
 mod Complete
+mod Groups
 mod Laws
 mod Lexing
 mod Minimal

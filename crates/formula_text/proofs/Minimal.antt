@@ -4,14 +4,12 @@ use Rattle.std.specs.Prelude.{nat_lt}
 use Rattle.std.proofs.lemmas.Bool.{ltb-false, cases_Bool}
 use Rattle.std.proofs.lemmas.List.{append-nil, length-map, take-append-drop, map-append}
 use Rattle.sig_words.specs.Lexemes.{Lexeme}
-use Rattle.sig_formula.specs.declared.formula.BinOp.{BinOp}
-use Rattle.sig_formula.specs.declared.formula.BinOp.TheVariants as op
 use Rattle.formula_text.specs.Signs.{Sign, NoOperator, signs}
 use Rattle.formula_text.specs.Signs as t
 use Rattle.formula_text.specs.Grammar.{Draft, leaf, negation, binary, choice, of_row, one_part, each_row, Written, group, negated, chain, pick, spelled, meant, level, before, rule, Fits, Spells, IsFormula, IsLongest}
 use Rattle.formula_text.specs.Reading.{expr}
 use Rattle.formula_text.specs.Canonical.{grouped, minimal, written, opened, shut}
-use Rattle.formula_text.proofs.Sound.{level_small}
+use Rattle.formula_text.proofs.Groups.{before_small, level_small}
 use Rattle.formula_text.proofs.Complete.{Stops}
 use Rattle.formula_text.proofs.Laws.{longest, one_meaning, reads_front}
 
@@ -33,22 +31,6 @@ grouped_is own asked x w small is fits meaning = elim (cases_Bool (nat_lt own as
   | inl holds ↦ rw holds (record { fits = fits; in_place = small; meaning = meaning })
   | inr fails ↦ rw fails (record { fits = fits; in_place = omega (arith, ltb-false own asked fails, is); meaning = meaning })
 ]
-
-before_small : (o : BinOp) → before o ≤ 8
-before_small op.Or = omega arith
-before_small op.And = omega arith
-before_small op.Eq = omega arith
-before_small op.Ne = omega arith
-before_small op.Lt = omega arith
-before_small op.Le = omega arith
-before_small op.Gt = omega arith
-before_small op.Ge = omega arith
-before_small op.Join = omega arith
-before_small op.Add = omega arith
-before_small op.Sub = omega arith
-before_small op.Mul = omega arith
-before_small op.Div = omega arith
-before_small op.Rem = omega arith
 
 minimal_is : (asked : ℕ) (x : Draft) → asked ≤ 8 → IsMinimal asked x (minimal asked x)
 minimal_is asked (leaf l) small = record { fits = tt; in_place = small; meaning = refl }

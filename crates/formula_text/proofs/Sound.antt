@@ -6,7 +6,6 @@ use Rattle.std.proofs.lemmas.Option.{same_Some}
 use Rattle.formula_text.specs.Signs.{Sign, name}
 use Rattle.formula_text.specs.Signs as t
 use Rattle.sig_formula.specs.declared.formula.BinOp.{BinOp}
-use Rattle.sig_formula.specs.declared.formula.BinOp.TheVariants as op
 use Rattle.formula_text.specs.declared.rough.Around.{Around}
 use Rattle.formula_text.specs.declared.rough.OverRows.{OverRows}
 use Rattle.formula_text.specs.Grammar.{Draft, negation, binary, of_row, one_part, each_row, spelled, meant, level, before, rule, Fits}
@@ -14,6 +13,7 @@ use Rattle.formula_text.specs.Grammar.{Written, single, group, it_dot, around, o
 use Rattle.formula_text.specs.Reading.{Part, Reader, closed_at, closed, one_closed, one_part_at, each_closed, comma_at, after_rows, each_row_at, field_at}
 use Rattle.formula_text.specs.Reading.{row_part_at, negate, chosen, else_at, after_branch, then_at, after_test, choice_at, head, goes_on, extended, tail_at}
 use Rattle.formula_text.specs.Reading.{tail, expr}
+use Rattle.formula_text.proofs.Groups.{level_small}
 
 pub record Took (least : ℕ) (ts : List Sign) (p : Part) : Type 0 where
   pub form : Written
@@ -33,22 +33,6 @@ and_then_some (Some x) f y e = (x, refl, e)
 map_some : {A B : Type 0} (o : Option A) (f : A → B) (y : B) → option_map f o ≡ Some y → (x : A) × (o ≡ Some x) × (f x ≡ y)
 map_some None f y e = absurd cc
 map_some (Some x) f y e = (x, refl, same_Some _ _ e)
-
-pub level_small : (o : BinOp) → level o + 1 ≤ 8
-level_small op.Or = omega arith
-level_small op.And = omega arith
-level_small op.Eq = omega arith
-level_small op.Ne = omega arith
-level_small op.Lt = omega arith
-level_small op.Le = omega arith
-level_small op.Gt = omega arith
-level_small op.Ge = omega arith
-level_small op.Join = omega arith
-level_small op.Add = omega arith
-level_small op.Sub = omega arith
-level_small op.Mul = omega arith
-level_small op.Div = omega arith
-level_small op.Rem = omega arith
 
 closed_some : (x : Draft) (ts : List Sign) (p : Part) → closed_at x ts ≡ Some p → (after : List Sign) × (ts ≡ t.closing ∷ after) × (p ≡ (x, 8, after))
 closed_some x (t.closing ∷ ts) p e = (ts, refl, sym (same_Some _ _ e))

@@ -1,10 +1,12 @@
 -- Formulas as they are written.
 use Rattle.std.specs.Prelude.{◌≡◌, ℕ, ◌<◌, ◌≤◌, List, [], ◌∷◌, ◌++◌, length, take}
 use Rattle.sig_formula.specs.declared.formula.BinOp.{BinOp}
-use Rattle.sig_formula.specs.declared.formula.BinOp.TheVariants as op
 use Rattle.sig_words.specs.Lexemes.{Lexeme}
 use Rattle.formula_text.specs.declared.rough.Around.{Around}
 use Rattle.formula_text.specs.declared.rough.OverRows.{OverRows}
+use Rattle.formula_text.specs.declared.operators.Group.{Group}
+use Rattle.formula_text.specs.declared.operators.Group.TheVariants as groups
+use Rattle.formula_text.specs.Operators.{row}
 use Rattle.formula_text.specs.Signs.{Leaf, Sign, name, signs}
 use Rattle.formula_text.specs.Signs as t
 
@@ -53,39 +55,31 @@ meant (chain o a b) = binary o (meant a) (meant b)
 meant (pick w a b) = choice (meant w) (meant a) (meant b)
 
 -- The rules of the grammar by number, from the loosest on: 0 if, 1 or, 2 and, 3 not, 4 comparisons, 5 `++`, 6 `+` and `-`,
--- 7 `*`, `/` and `%`, 8 a leaf, `it`, parentheses and what has its parts in them. This is the rule of an operator.
-abbrev pub level : BinOp → ℕ
-level op.Or = 1
-level op.And = 2
-level op.Eq = 4
-level op.Ne = 4
-level op.Lt = 4
-level op.Le = 4
-level op.Gt = 4
-level op.Ge = 4
-level op.Join = 5
-level op.Add = 6
-level op.Sub = 6
-level op.Mul = 7
-level op.Div = 7
-level op.Rem = 7
+-- 7 `*`, `/` and `%`, 8 a leaf, `it`, parentheses and what has its parts in them. This is the rule of operators that bind alike.
+abbrev pub rank : Group → ℕ
+rank groups.Or = 1
+rank groups.And = 2
+rank groups.Compare = 4
+rank groups.Join = 5
+rank groups.Add = 6
+rank groups.Multiply = 7
 
--- the loosest rule of what stands before the operator: chains group to the left, and comparisons make no chain
+-- the loosest rule of what stands before them: chains group to the left, and comparisons make no chain
+abbrev pub left : Group → ℕ
+left groups.Or = 1
+left groups.And = 2
+left groups.Compare = 5
+left groups.Join = 5
+left groups.Add = 6
+left groups.Multiply = 7
+
+-- the rule of an operator
+abbrev pub level : BinOp → ℕ
+level o = rank (row o).group
+
+-- the loosest rule of what stands before it
 abbrev pub before : BinOp → ℕ
-before op.Or = 1
-before op.And = 2
-before op.Eq = 5
-before op.Ne = 5
-before op.Lt = 5
-before op.Le = 5
-before op.Gt = 5
-before op.Ge = 5
-before op.Join = 5
-before op.Add = 6
-before op.Sub = 6
-before op.Mul = 7
-before op.Div = 7
-before op.Rem = 7
+before o = left (row o).group
 
 -- the rule by which it is written
 abbrev pub rule : Written → ℕ

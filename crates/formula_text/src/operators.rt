@@ -1,6 +1,6 @@
 // The operators in texts: how each is written, and how it binds.
 ghost use Rattle.std.specs.Prelude.{◌≡◌, map};
-ghost use Rattle.formula_text.specs.Operators.{found, operator_of};
+ghost use Rattle.formula_text.specs.Operators.{found, operator_of, row};
 
 use sig_formula::BinOp;
 
@@ -32,6 +32,13 @@ const OPERATORS: [(BinOp, &[u8], Group); 14] = [
     (BinOp::Div, b"/", Group::Multiply),
     (BinOp::Rem, b"%", Group::Multiply),
 ];
+
+/// The operators that bind as it does.
+pub fn group_of(operator: BinOp) -> Group
+    ensures { result ≡ (row operator).group }
+{
+    OPERATORS[operator as usize].2
+}
 
 // The operator of the first of these rows that is written so.
 fn found(mut rows: &[(BinOp, &[u8], Group)], text: &[u8]) -> Option<BinOp>

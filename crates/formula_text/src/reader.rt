@@ -5,6 +5,7 @@ ghost use Rattle.formula_text.specs.Grammar.{before, level};
 ghost use Rattle.formula_text.specs.Reading.{choice_at, each_row_at, expr, head, one_part_at, row_part_at};
 ghost use Rattle.formula_text.specs.Rough.{IsPartFrom, part_of, signs_from, unboxed};
 
+use crate::operators::{Group, group_of};
 use crate::rough::{Around, OverRows, Rough};
 use crate::sign::{Sign, sign_at};
 use sig_base::NoMemory;
@@ -23,13 +24,13 @@ const PRIMARY: u8 = 8;
 pub fn level(o: BinOp) -> u8
     ensures { result ≡ level o }
 {
-    match o {
-        BinOp::Or => 1,
-        BinOp::And => 2,
-        BinOp::Eq | BinOp::Ne | BinOp::Lt | BinOp::Le | BinOp::Gt | BinOp::Ge => 4,
-        BinOp::Join => 5,
-        BinOp::Add | BinOp::Sub => 6,
-        BinOp::Mul | BinOp::Div | BinOp::Rem => 7,
+    match group_of(o) {
+        Group::Or => 1,
+        Group::And => 2,
+        Group::Compare => 4,
+        Group::Join => 5,
+        Group::Add => 6,
+        Group::Multiply => 7,
     }
 }
 
@@ -37,13 +38,13 @@ pub fn level(o: BinOp) -> u8
 pub fn before(o: BinOp) -> u8
     ensures { result ≡ before o }
 {
-    match o {
-        BinOp::Or => 1,
-        BinOp::And => 2,
-        BinOp::Eq | BinOp::Ne | BinOp::Lt | BinOp::Le | BinOp::Gt | BinOp::Ge => 5,
-        BinOp::Join => 5,
-        BinOp::Add | BinOp::Sub => 6,
-        BinOp::Mul | BinOp::Div | BinOp::Rem => 7,
+    match group_of(o) {
+        Group::Or => 1,
+        Group::And => 2,
+        Group::Compare => 5,
+        Group::Join => 5,
+        Group::Add => 6,
+        Group::Multiply => 7,
     }
 }
 
