@@ -37,7 +37,7 @@ pub record Leads (n least : ℕ) (ts : List Sign) (p : Part) : Type 0 where
   pub enough : length p.2 ≤ turns
   pub reads : expr n least ts ≡ Some (tail (expr inner) turns least p)
 
--- where an operator binds tighter than `not` none goes on, nor does one that binds as it does
+-- what stops behind a comparison's operands stops behind `not`, which no operator binds like
 Stops-not : (rest : List Sign) → Stops 4 rest → Stops 3 rest
 Stops-not (t.operator o ∷ ts) h = level_not o h
 Stops-not _ h = tt

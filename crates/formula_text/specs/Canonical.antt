@@ -2,9 +2,9 @@
 use Rattle.std.specs.Prelude.{ℕ, ◌+◌, nat_lt, if◌then◌else◌, Bool, List, [], ◌++◌, codes, unwrap_or, slice_get}
 use Rattle.sig_base.specs.Printing.{printed_scalar}
 use Rattle.sig_formula.specs.declared.formula.BinOp.{BinOp}
-use Rattle.sig_formula.specs.declared.formula.BinOp.TheVariants as op
 use Rattle.sig_formula.specs.Trees.{Tree}
 use Rattle.sig_formula.specs.Trees as tree
+use Rattle.formula_text.specs.Operators.{row}
 use Rattle.formula_text.specs.Signs.{Leaf, name, constant}
 use Rattle.formula_text.specs.declared.rough.Around.{Around}
 use Rattle.formula_text.specs.declared.rough.OverRows.{OverRows}
@@ -29,20 +29,7 @@ minimal asked (each_row f x y) = over_rows f (minimal 0 x) (minimal 0 y)
 
 -- how an operator is written
 abbrev pub operator_text : BinOp → List ℕ
-operator_text op.Or = codes "or"
-operator_text op.And = codes "and"
-operator_text op.Eq = codes "=="
-operator_text op.Ne = codes "!="
-operator_text op.Lt = codes "<"
-operator_text op.Le = codes "<="
-operator_text op.Gt = codes ">"
-operator_text op.Ge = codes ">="
-operator_text op.Join = codes "++"
-operator_text op.Add = codes "+"
-operator_text op.Sub = codes "-"
-operator_text op.Mul = codes "*"
-operator_text op.Div = codes "/"
-operator_text op.Rem = codes "%"
+operator_text o = (row o).text
 
 -- how what stands before one part is written
 abbrev pub around_text : Around → List ℕ

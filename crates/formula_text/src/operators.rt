@@ -33,6 +33,13 @@ const OPERATORS: [(BinOp, &[u8], Group); 14] = [
     (BinOp::Rem, b"%", Group::Multiply),
 ];
 
+/// How an operator is written.
+pub fn operator_bytes(operator: BinOp) -> &'static [u8]
+    ensures { result.now ≡ (row operator).text }
+{
+    OPERATORS[operator as usize].1
+}
+
 /// The operators that bind as it does.
 pub fn group_of(operator: BinOp) -> Group
     ensures { result ≡ (row operator).group }

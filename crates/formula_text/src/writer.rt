@@ -5,6 +5,7 @@ ghost use Rattle.formula_text.specs.Canonical.{canonical_text, minimal, named, o
 ghost use Rattle.formula_text.specs.Grammar.{it_dot};
 ghost use Rattle.formula_text.specs.Rereading.{text_of_wiring};
 
+use crate::operators::operator_bytes;
 use crate::reader::{CHOICE, NEGATION, before, level};
 use crate::wired::Wired;
 use sig_base::{Name, NoMemory, put_scalar};
@@ -23,27 +24,6 @@ pub fn put_formula_of(out: &mut Vec<u8>, names: &[Name], formula: &Formula) -> R
     ensures { OnOk result (out.new.items ≡ out.old.items ++ canonical_text (unslotted names.now (tree formula.now))) }
 {
     put_at(out, names, formula, CHOICE)
-}
-
-fn operator_bytes(operator: BinOp) -> &'static [u8]
-    ensures { result.now ≡ operator_text operator }
-{
-    match operator {
-        BinOp::Or => b"or",
-        BinOp::And => b"and",
-        BinOp::Eq => b"==",
-        BinOp::Ne => b"!=",
-        BinOp::Lt => b"<",
-        BinOp::Le => b"<=",
-        BinOp::Gt => b">",
-        BinOp::Ge => b">=",
-        BinOp::Join => b"++",
-        BinOp::Add => b"+",
-        BinOp::Sub => b"-",
-        BinOp::Mul => b"*",
-        BinOp::Div => b"/",
-        BinOp::Rem => b"%",
-    }
 }
 
 fn put_operator(out: &mut Vec<u8>, operator: BinOp) -> Result<(), NoMemory>
