@@ -46,13 +46,6 @@ none_kept fs h = record {
   due = λ n c e. absurd (true≢false (sym c));
 }
 
--- nor by an empty table
-pub empty_kept : (xs : List Node) (g : ℕ) → KeepsFound xs g 1 []
-empty_kept xs g = record {
-  past = λ s. omega arith;
-  due = λ n c e. absurd (omega (arith, e));
-}
-
 -- after one more change nothing is found
 pub raised_kept : (xs ys : List Node) (g h w : ℕ) (fs : List ℕ) → KeepsFound xs g w fs → KeepsFound ys h (w + 1) fs
 raised_kept xs ys g h w fs k = record {

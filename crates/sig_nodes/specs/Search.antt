@@ -71,20 +71,6 @@ pub record AreSeated (xs : List Node) (count : ℕ) : Type 0 where
   pub one : (n m : ℕ) → is_computed_body (body_at xs n) ≡ true → is_computed_body (body_at xs m) ≡ true →
       seat_at xs n ≡ seat_at xs m → n ≡ m
 
--- The flags after a search among what is marked that found nothing: no flag went down, those of the names' marked computeds are up, and each
--- computed whose flag went up needn't run and keeps only marked computeds whose flags are up.
-pub record Explores (xs : List Node) (t : List Bool) (g : ℕ) (old new : List Bool) (names : List ℕ) : Type 0 where
-  pub size : length new ≡ length old
-  pub more : (s : ℕ) → is_marked old s ≡ true → is_marked new s ≡ true
-  pub here : (m : ℕ) → is_in m names ≡ true → is_computed_body (body_at xs m) ≡ true → marked_at t m ≡ true →
-      is_marked new (seat_at xs m) ≡ true
-  pub calm : (m : ℕ) → is_computed_body (body_at xs m) ≡ true → is_marked old (seat_at xs m) ≡ false →
-      is_marked new (seat_at xs m) ≡ true → is_due_at xs g m ≡ false
-  pub closed : (m p : ℕ) → is_computed_body (body_at xs m) ≡ true → is_marked old (seat_at xs m) ≡ false →
-      is_marked new (seat_at xs m) ≡ true → keeps (memos_of g xs) m p ≡ true →
-      is_computed_body (body_at xs p) ≡ true → marked_at t p ≡ true → is_marked new (seat_at xs p) ≡ true
-  pub fewer : unmarked new ≤ unmarked old
-
 -- Flags that are up for exactly these seats, each of which is listed once; there is room for all that are down.
 pub record AreReached (flags : List Bool) (seats : List ℕ) (capacity : ℕ) : Type 0 where
   pub size : length flags ≡ MOST_NODES

@@ -1,4 +1,4 @@
-// A look at a signal.
+// Looks at signals, and the marks of computeds.
 ghost use Rattle.std.specs.Prelude.{◌≡◌, true};
 ghost use Rattle.signal_model.specs.Standing.{is_computed, standing};
 ghost use Rattle.signal_model.specs.Marks.{mark_of};
@@ -49,14 +49,14 @@ fn found(graph: &mut Graph, id: NodeId) -> Look
         Standing::Gone => Look::Gone,
         Standing::Cell => Look::Cell,
         Standing::Computing => Look::Computing,
-        Standing::Computed => look_of(graph.mark_found(id)),
+        Standing::Computed => look_of(graph.mark_of(id)),
     }
 }
 
 impl Graph {
-    /// The mark of a computed, as `mark_of` tells it, by a search in tables that the graph has. A search that found nothing that must run
-    /// takes the marks of all that it went through, if it may. It is no counted step, and takes no memory.
-    pub fn mark_found(&mut self, id: NodeId) -> Mark
+    /// The mark of a computed: whether it must run, or else something below it along kept sources. A search that found nothing that must
+    /// run takes the marks of all that it went through, if it may. It is no counted step, and takes no memory.
+    pub fn mark_of(&mut self, id: NodeId) -> Mark
         requires { is_computed (standing self.old.state.signals id) ≡ true }
         ensures mark { mark_meant result ≡ mark_of self.old.state.signals self.old.state.memos id }
         ensures same { self.new ≡ self.old }

@@ -1,5 +1,5 @@
 // What searches have found, by seat.
-ghost use Rattle.std.specs.Prelude.{◌≡◌, ℕ, ◌⊎◌, [], true, IfOk};
+ghost use Rattle.std.specs.Prelude.{◌≡◌, ℕ, ◌⊎◌, true, IfOk};
 ghost use Rattle.sig_nodes.specs.Search.{found_at};
 
 use sig_base::{MOST_NODES, NoMemory};
@@ -31,15 +31,6 @@ impl Finds {
             at.push(0)?;
         }
         Ok(Finds { at })
-    }
-
-    /// Without places: nothing is noted.
-    pub(crate) fn none(alloc: Global) -> Finds
-        ensures { result ≡ [] }
-    {
-        Finds {
-            at: Vec::new(alloc),
-        }
     }
 
     /// Whether a search has found it at this count of changes.

@@ -5,20 +5,18 @@ ghost use Rattle.signal_model.specs.Standing.{is_computed, is_in, is_there, stan
 ghost use Rattle.signal_model.specs.Memos.{keeps, memo_of, source_names, sources_of};
 ghost use Rattle.signal_model.specs.Kept.{AreGiven, OnlyComputedsKeep};
 ghost use Rattle.signal_model.specs.Sound.{kept_outcome};
-ghost use Rattle.signal_model.specs.Marks.{mark_of};
 ghost use Rattle.signal_model.specs.Changes.{live_count};
 ghost use Rattle.signal_model.specs.Laws.{AreDistinct};
 ghost use Rattle.sig_marks.specs.Tables.{dependants_at};
-ghost use Rattle.sig_nodes.specs.Answers.{kind_here, mark_meant, rule_here, slots_here, uses_host, value_here, HaveFewSlots};
+ghost use Rattle.sig_nodes.specs.Answers.{kind_here, rule_here, slots_here, uses_host, value_here, HaveFewSlots};
 ghost use Rattle.sig_nodes.specs.Seats.{holder, AreAllSeated};
 ghost use Rattle.sig_nodes.specs.States.{is_computing, is_given};
 
-use crate::answers::{Mark, Standing};
+use crate::answers::Standing;
 use crate::bodies::{
     kept_at, rule_at, seat_at, slot_at, slots_at, sources_at, standing_at, uses_host, value_at,
 };
 use crate::graph::Graph;
-use crate::marks::mark_at;
 use sig_base::{MOST_NODES, NodeId, Outcome, Value};
 
 impl Graph {
@@ -137,14 +135,5 @@ impl Graph {
     {
         let _count = self.nodes.len();
         self.marks.dependant(id, place)
-    }
-
-    /// The mark of a computed: whether it must run, or else something below it along kept sources. It takes no memory.
-    pub fn mark_of(&self, id: NodeId) -> Mark
-        requires { is_computed (standing self.now.state.signals id) ≡ true }
-        ensures { mark_meant result ≡ mark_of self.now.state.signals self.now.state.memos id }
-    {
-        let _count = self.nodes.len();
-        mark_at(self.alloc, &self.nodes, self.generation, &self.marks, id)
     }
 }

@@ -97,8 +97,9 @@ pub(crate) fn is_some_watching(watchers: &[Watcher]) -> bool
 // ---- what is pending
 
 // Whether a signal is a computed whose mark isn't clean.
-fn is_pending(graph: &Graph, id: NodeId) -> bool
-    ensures { result ≡ is_pending graph.now.state.signals graph.now.state.memos id }
+fn is_pending(graph: &mut Graph, id: NodeId) -> bool
+    ensures pending { result ≡ is_pending graph.old.state.signals graph.old.state.memos id }
+    ensures same { graph.new ≡ graph.old }
 {
     match graph.standing(id) {
         Standing::Gone => false,
@@ -119,8 +120,9 @@ fn is_clean(mark: Mark) -> bool
 }
 
 // Puts a signal behind the others where it is pending.
-fn push_pending(pending: &mut Vec<NodeId>, graph: &Graph, id: NodeId) -> Result<(), NoMemory>
-    ensures { OnOk result (pending.new.items ≡ pending.old.items ++ pending_of graph.now.state.signals graph.now.state.memos (id ∷ [])) }
+fn push_pending(pending: &mut Vec<NodeId>, graph: &mut Graph, id: NodeId) -> Result<(), NoMemory>
+    ensures pending { OnOk result (pending.new.items ≡ pending.old.items ++ pending_of graph.old.state.signals graph.old.state.memos (id ∷ [])) }
+    ensures same { graph.new ≡ graph.old }
 {
     if is_pending(graph, id) {
         pending.push(id)?;
@@ -132,10 +134,11 @@ fn push_pending(pending: &mut Vec<NodeId>, graph: &Graph, id: NodeId) -> Result<
 /// The pending computeds among these, in order.
 pub(crate) fn pending_of(
     alloc: Global,
-    graph: &Graph,
+    graph: &mut Graph,
     ids: &[NodeId],
 ) -> Result<Vec<NodeId>, NoMemory>
-    ensures { IfOk result (λ v. v.items ≡ pending_of graph.now.state.signals graph.now.state.memos ids.now) }
+    ensures pending { IfOk result (λ v. v.items ≡ pending_of graph.old.state.signals graph.old.state.memos ids.now) }
+    ensures same { graph.new ≡ graph.old }
 {
     let mut pending = Vec::new(alloc);
     for id in ids {

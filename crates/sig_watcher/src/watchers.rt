@@ -149,8 +149,9 @@ impl Watchers {
 
     /// The computeds among a watcher's signals that must run, or else something below them along kept sources, in the order in
     /// which they are watched. It is refused where the watcher is gone.
-    pub fn pending(&self, graph: &Graph, w: WatcherId) -> Result<Vec<NodeId>, WatchFault>
-        ensures names { IfOk result (λ v. v.items ≡ pending_of graph.now.state.signals graph.now.state.memos (signals_at self.now.watchers w)) }
+    pub fn pending(&self, graph: &mut Graph, w: WatcherId) -> Result<Vec<NodeId>, WatchFault>
+        ensures names { IfOk result (λ v. v.items ≡ pending_of graph.old.state.signals graph.old.state.memos (signals_at self.now.watchers w)) }
+        ensures same { graph.new ≡ graph.old }
         ensures gone { IsErrOf result fault.Gone ↔ (is_alive self.now.watchers w ≡ false) }
         ensures fault { IfErr result (λ e. (e ≡ fault.Gone) ⊎ (e ≡ fault.NoMemory)) }
     {
@@ -246,12 +247,13 @@ fn watches_at(watchers: &[Watcher], place: usize, id: NodeId) -> bool
 // The pending computeds among the signals of the watcher at a place.
 fn pending_at(
     alloc: Global,
-    graph: &Graph,
+    graph: &mut Graph,
     watchers: &[Watcher],
     place: usize,
 ) -> Result<Vec<NodeId>, NoMemory>
     requires { place < length watchers.now }
-    ensures { (w : ℕ) → IsFirst watchers.now w place → IfOk result (λ v. v.items ≡ pending_of graph.now.state.signals graph.now.state.memos (signals_at watchers.now w)) }
+    ensures pending { (w : ℕ) → IsFirst watchers.now w place → IfOk result (λ v. v.items ≡ pending_of graph.old.state.signals graph.old.state.memos (signals_at watchers.now w)) }
+    ensures same { graph.new ≡ graph.old }
 {
     let pending = pending_of(alloc, graph, watchers[place].signals())?;
     Ok(pending)

@@ -21,13 +21,13 @@ returns-in-Computing-clause-look c =
     let s = c.args.graph.now.state in
     found_computing (standing s.signals c.args.id) (is_computing s c.args.id) (mark_of s.signals s.memos c.args.id) c.in-Computing.ensures
 
-pub mark_found-requires : goal.mark_found-requires
-mark_found-requires c =
+pub mark_of-requires : goal.mark_of-requires
+mark_of-requires c =
     let s = c.args.graph.now.state in
     computed_found (standing s.signals c.args.id) (is_computing s c.args.id) c.in-Computed.ensures
 
 pub returns-in-Computed-clause-look : goal.returns-in-Computed-clause-look
 returns-in-Computed-clause-look c =
     let s = c.args.graph.now.state in
-    c.look_of.ensures ∙ ap look_meant c.mark_found.ensures.mark
+    c.look_of.ensures ∙ ap look_meant c.mark_of.ensures.mark
     ∙ found_computed (standing s.signals c.args.id) (is_computing s c.args.id) (mark_of s.signals s.memos c.args.id) c.in-Computed.ensures

@@ -3,4 +3,7 @@ use Rattle.effect_model.specs.Watching.{pending_of}
 use Rattle.sig_watcher.proofs.telling.pending_of.Given as goal
 
 abbrev pub invariant-loop-id : goal.invariant-loop-id
-invariant-loop-id l = l.pending.items ≡ pending_of l.graph.state.signals l.graph.state.memos (take l.id-index l.ids)
+invariant-loop-id l = record {
+  pending : l.pending.items ≡ pending_of l.fn.graph.state.signals l.fn.graph.state.memos (take l.id-index l.ids);
+  same : l.graph ≡ l.fn.graph;
+}

@@ -1,29 +1,52 @@
-use Rattle.sig_nodes.specs.Places.{KeepsMarks}
-use Rattle.std.proofs.Common.{◌≡◌, true, List, sym, ap, ◌∙◌, subst}
+use Rattle.std.proofs.Common.{◌≡◌, ◌<◌, ℕ, [], true, List, sym, ap, ◌∙◌, refl, subst}
+use Rattle.sig_base.specs.declared.limits.TheConstants.{MOST_NODES}
 use Rattle.signal_model.specs.Standing.{is_computed, standing}
 use Rattle.signal_model.specs.Marks.{mark_of}
-use Rattle.sig_base.specs.declared.limits.TheConstants.{MOST_NODES}
+use Rattle.mark_laws.specs.Marked.{without_marks}
+use Rattle.sig_marks.specs.Tables.{marked_at}
 use Rattle.sig_nodes.specs.declared.node.Node.{Node}
 use Rattle.sig_nodes.specs.States.{Seen}
-use Rattle.sig_nodes.specs.Nodes.{body_at, is_computed_body, memos_of, signals_of}
-use Rattle.sig_nodes.specs.Search.{AreSeated}
-use Rattle.sig_nodes.proofs.Holding.{computed_here}
-use Rattle.sig_nodes.proofs.Searching.{seats_apart}
+use Rattle.sig_nodes.specs.Places.{KeepsFound}
+use Rattle.sig_nodes.specs.Nodes.{body_at, is_computed_body}
+use Rattle.sig_nodes.specs.Search.{search_unmarks, AreSeated, Reaches}
+use Rattle.sig_nodes.proofs.Holding.{computed_here, live_below}
+use Rattle.sig_nodes.proofs.KeptMarks.{same_table, searched_kept}
+use Rattle.sig_nodes.proofs.Searching.{seats_apart, unmarked_clean}
 use Rattle.sig_nodes.proofs.graph.Graph.mark_of.Goals as goal
 
-pub mark_at-requires-clause-live : goal.mark_at-requires-clause-live
-mark_at-requires-clause-live c =
+pub returns-then-not-is_marked-clause-mark : goal.returns-then-not-is_marked-clause-mark
+returns-then-not-is_marked-clause-mark c =
+    let xs = c.self.inside.nodes.items in
+    let live = computed_here xs c.args.id (ap (λ (s : Seen). is_computed (standing s.state.signals c.args.id)) c.self.view_is ∙ c.requires) in
+    unmarked_clean xs c.self.inside.generation c.self.inside.marks c.args.id c.self.invariant.marks live (sym c.is_marked.ensures ∙ c.if-not-is_marked.true)
+    ∙ ap (λ (s : Seen). mark_of s.state.signals s.state.memos c.args.id) c.self.view_is
+
+pub search-requires-clause-live : goal.search-requires-clause-live
+search-requires-clause-live c =
     subst (λ (xs : List Node). is_computed_body (body_at xs c.args.id) ≡ true) (sym c.deref.ensures.value)
     (computed_here c.self.inside.nodes.items c.args.id (ap (λ (s : Seen). is_computed (standing s.state.signals c.args.id)) c.self.view_is ∙ c.requires))
 
-pub mark_at-requires-clause-seats : goal.mark_at-requires-clause-seats
-mark_at-requires-clause-seats c =
+pub search-requires-clause-seats : goal.search-requires-clause-seats
+search-requires-clause-seats c =
     subst (λ (xs : List Node). AreSeated xs MOST_NODES) (sym c.deref.ensures.value) (seats_apart c.self.inside.nodes.items c.self.inside.seats c.self.inside.generation c.self.inside.worn c.self.invariant.fields)
 
-pub mark_at-requires-clause-marks : goal.mark_at-requires-clause-marks
-mark_at-requires-clause-marks c = subst (λ (xs : List Node). KeepsMarks xs c.self.inside.generation c.self.inside.marks) (sym c.deref.ensures.value) c.self.invariant.marks
+pub unmark_reached-requires : goal.unmark_reached-requires
+unmark_reached-requires c = λ seat n has. subst (λ l. n < l) (sym c.self.invariant.marks.flags) (live_below c.self.inside.nodes.items n (c.self.invariant.fields.living seat n has).0)
 
-pub returns : goal.returns
-returns c =
-    c.mark_at.ensures ∙ ap (λ (xs : List Node). mark_of (signals_of xs) (memos_of c.self.inside.generation xs) c.args.id) c.deref.ensures.value
-    ∙ ap (λ (s : Seen). mark_of s.state.signals s.state.memos c.args.id) c.self.view_is
+pub invariant_of-self : goal.invariant_of-self
+invariant_of-self c =
+    let xs = c.self.inside.nodes.items in
+    let g = c.self.inside.generation in
+    let t = c.self.inside.marks in
+    let seats = c.self.inside.seats in
+    let reached = c.search.new.reached in
+    let e = subst (λ (ys : List Node). Reaches ys t.marked g reached []) c.deref.ensures.value (c.in-Clean.ensures.reached refl) in
+    let took = c.unmark_reached.ensures in
+    record {
+      fields = c.self.invariant.fields;
+      marks = same_table xs g c.unmark_reached.new.marks t.dependants took.dependants
+          (searched_kept xs seats g c.self.inside.worn t reached c.unmark_reached.new.marks.marked c.self.invariant.fields e took.size
+          (λ m. took.marks m ∙ ap (λ (ys : List Node). without_marks (marked_at t.marked) (search_unmarks ys c.seats.result.now seats.holders) m) c.deref-in-Clean.ensures.value
+          ∙ ap (λ (ss : List ℕ). without_marks (marked_at t.marked) (search_unmarks xs ss seats.holders) m) c.seats.ensures) c.self.invariant.marks);
+      found = subst (λ (ys : List Node). KeepsFound ys g c.self.inside.worn c.search.new.finds) c.deref.ensures.value c.search.ensures.kept;
+    }
