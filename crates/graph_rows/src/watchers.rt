@@ -47,10 +47,12 @@ fn are_told(
 // Whether a watcher's pending computeds are these.
 fn are_pending(
     watchers: &Watchers,
-    graph: &Graph,
+    graph: &mut Graph,
     w: WatcherId,
     wanted: &[NodeId],
-) -> Result<bool, WatchFault> {
+) -> Result<bool, WatchFault>
+    ensures { graph.new ≡ graph.old }
+{
     let pending = watchers.pending(graph, w)?;
     Ok(pending.as_slice() == wanted)
 }

@@ -94,12 +94,13 @@ impl Machine {
     }
 
     /// Tells how a computed stands.
-    pub(crate) fn state(&self, name: Name) -> Result<Vec<Entry>, EffectFault>
-        requires ready { IsReady self.now }
-        requires fine { AreFine self.now (command.Named verb.State name) }
-        ensures steps { (hosts : Hosts) (slacks : List ℕ) (asked : List HostPlace) → IsSound hosts asked self.now.world →
-            IfOk result (λ es. Steps hosts asked self.now es.items
-            (done (environment hosts slacks) (plain_of asked self.now) (command.Named verb.State name))) }
+    pub(crate) fn state(&mut self, name: Name) -> Result<Vec<Entry>, EffectFault>
+        requires ready { IsReady self.old }
+        requires fine { AreFine self.old (command.Named verb.State name) }
+        ensures steps { (hosts : Hosts) (slacks : List ℕ) (asked : List HostPlace) → IsSound hosts asked self.old.world →
+            IfOk result (λ es. Steps hosts asked self.new es.items
+            (done (environment hosts slacks) (plain_of asked self.old) (command.Named verb.State name))) }
+        ensures same { self.new ≡ self.old }
         ensures memory { IfErr result (λ e. e ≡ fault.NoMemory) }
     {
         let computed = NodeId::of(self.names.number_of(&name));
@@ -127,12 +128,13 @@ impl Machine {
     }
 
     /// Tells the computeds that a watcher watches and that have to run, or something below them.
-    pub(crate) fn pending(&self, name: Name) -> Result<Vec<Entry>, EffectFault>
-        requires ready { IsReady self.now }
-        requires fine { AreFine self.now (command.Named verb.Pending name) }
-        ensures steps { (hosts : Hosts) (slacks : List ℕ) (asked : List HostPlace) → IsSound hosts asked self.now.world →
-            IfOk result (λ es. Steps hosts asked self.now es.items
-            (done (environment hosts slacks) (plain_of asked self.now) (command.Named verb.Pending name))) }
+    pub(crate) fn pending(&mut self, name: Name) -> Result<Vec<Entry>, EffectFault>
+        requires ready { IsReady self.old }
+        requires fine { AreFine self.old (command.Named verb.Pending name) }
+        ensures steps { (hosts : Hosts) (slacks : List ℕ) (asked : List HostPlace) → IsSound hosts asked self.old.world →
+            IfOk result (λ es. Steps hosts asked self.new es.items
+            (done (environment hosts slacks) (plain_of asked self.old) (command.Named verb.Pending name))) }
+        ensures same { self.new ≡ self.old }
         ensures memory { IfErr result (λ e. e ≡ fault.NoMemory) }
     {
         let watcher = WatcherId::of(self.names.number_of(&name));
@@ -140,7 +142,7 @@ impl Machine {
             .world
             .signals
             .watchers
-            .pending(&self.world.signals.graph, watcher)?;
+            .pending(&mut self.world.signals.graph, watcher)?;
         let pending = names_of_signals(self.alloc, &self.labels.signals, &pending)?;
         let told = one(self.alloc, Entry::Pending(name, pending))?;
         Ok(told)
