@@ -1,0 +1,5 @@
+use Rattle.sig_store.proofs.Placing.{entries-none}
+use Rattle.sig_store.proofs.store.Store.new.Goals as goal
+
+pub returns : goal.returns
+returns g c = entries-none _ _

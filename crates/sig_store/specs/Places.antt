@@ -1,0 +1,30 @@
+-- How the places of values make what callers see.
+use Rattle.std.specs.Prelude.{◌≡◌, ℕ, zero, suc, ◌-◌, ◌<◌, min, List, [], ◌∷◌, ◌++◌, Option, Some, None}
+use Rattle.std.specs.Option.{option_map}
+use Rattle.indexmap.specs.IndexMap.{IndexMap, spare}
+use Rattle.slab.specs.Slab.{Slab, slab_len}
+use Rattle.sig_store.specs.declared.store.Held.{Held}
+
+-- what f gives for each number below n
+abbrev pub counted_up : {A : Type 0} → (ℕ → A) → ℕ → List A
+counted_up f zero = []
+counted_up f (suc n) = counted_up f n ++ f n ∷ []
+
+module _ {T : Type 0} where
+  -- what a place holds, if there is one
+  abbrev pub value_there : (ℕ → Option (Held T)) → Option ℕ → Option T
+  value_there look None = None
+  value_there look (Some p) = option_map (λ (h : Held T). h.value) (look p)
+
+  -- what stands under each number that was given, by the places of numbers and by what places hold
+  unfoldable pub entries_by : (ℕ → Option ℕ) → (ℕ → Option (Held T)) → ℕ → List (Option T)
+  entries_by at look made = counted_up (λ n. value_there look (at n)) made
+
+  -- What holds of them: a number's place holds it, and the number was given.
+  pub record IsStore (at : ℕ → Option ℕ) (look : ℕ → Option (Held T)) (made : ℕ) : Type 0 where
+    pub stands : (n p : ℕ) → at n ≡ Some p → option_map (λ (h : Held T). h.number) (look p) ≡ Some n
+    pub below : (n p : ℕ) → at n ≡ Some p → n < made
+
+  -- how many more fit without memory
+  abbrev pub room_of : {S : Type 0} → IndexMap ℕ ℕ S → Slab T → ℕ
+  room_of places held = min (spare places) (held.capacity - slab_len held)

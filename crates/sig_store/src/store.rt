@@ -1,0 +1,179 @@
+// Values by number.
+ghost use Rattle.std.specs.Prelude.{◌≡◌, ◌+◌, ◌<◌, ◌≤◌, ◌^◌, ◌++◌, ◌∷◌, [], length, IsSome, Some, None, OnOk, nat_eq, option_copied, slice_set};
+ghost use Rattle.std.specs.Borrow.{sem};
+ghost use Rattle.indexmap.specs.IndexMap.{get, spare, Updates};
+ghost use Rattle.slab.specs.Slab.{get as held_at};
+ghost use Rattle.sig_store.specs.Stored.{entry};
+ghost use Rattle.sig_store.specs.Places.{value_there};
+
+use indexmap::IndexMap;
+use sig_base::NoMemory;
+use slab::Slab;
+use std::alloc::Global;
+use std::marker::Model;
+
+// A value and its number.
+#[derive(Drop)]
+struct Held<T> {
+    number: u128,
+    value: T,
+}
+
+/// Values, each under the count of those that were put in before it. A number never comes again; the place of a value that was taken out
+/// does, so that only the values that stand take memory.
+#[derive(Drop)]
+pub struct Store<T> {
+    places: IndexMap<u128, usize>,
+    held: Slab<Held<T>>,
+    made: u128,
+}
+
+impl<T> Model for Store<T> {
+    ghost use Rattle.std.specs.Prelude.{nat_eq};
+    ghost use Rattle.sig_store.specs.Stored.{Stored, stored_code};
+
+    ghost Value = { Stored T };
+
+    ghost coded = { stored_code T.code };
+
+    ghost use Rattle.indexmap.specs.IndexMap.{get};
+    ghost use Rattle.slab.specs.Slab.{get as held_at};
+    ghost use Rattle.sig_store.specs.Places.{entries_by, room_of, IsStore};
+
+    ghost view = { λ s. record { entries = entries_by (get nat_eq s.places) (held_at s.held) s.made; room = room_of s.places s.held } };
+
+    ghost invariant = { λ s. IsStore (get nat_eq s.places) (held_at s.held) s.made };
+}
+
+// Where the value of a number stands.
+fn place_of(places: &IndexMap<u128, usize>, number: u128) -> Option<usize>
+    ensures { result ≡ get nat_eq places.now number }
+{
+    places.get(&number).copied()
+}
+
+// Where the value of a number that stands does.
+fn standing_place(places: &IndexMap<u128, usize>, number: u128) -> usize
+    requires { IsSome (get nat_eq places.now number) }
+    ensures { get nat_eq places.now number ≡ Some result }
+{
+    match place_of(places, number) {
+        Some(place) => place,
+        None => unreachable!(),
+    }
+}
+
+// Notes the place of a number, in room that is there.
+fn note_place(places: &mut IndexMap<u128, usize>, number: u128, place: usize)
+    requires { 0 < spare places.old }
+    ensures noted { Updates nat_eq places.old places.new number (Some place) }
+    ensures left { spare places.old ≤ spare places.new + 1 }
+{
+    match places.insert(number, place) {
+        Ok(_) => {}
+        Err(_) => unreachable!(),
+    }
+}
+
+// Forgets the place of a number, and tells it.
+fn forget_place(places: &mut IndexMap<u128, usize>, number: u128) -> usize
+    requires { IsSome (get nat_eq places.old number) }
+    ensures place { get nat_eq places.old number ≡ Some result }
+    ensures forgotten { Updates nat_eq places.old places.new number None }
+    ensures left { spare places.old ≤ spare places.new }
+{
+    match places.swap_remove(&number) {
+        Some(place) => place,
+        None => unreachable!(),
+    }
+}
+
+// The value that a place holds.
+fn value_in<T>(held: &Slab<Held<T>>, place: usize) -> Option<&T>
+    ensures { option_copied result ≡ value_there (held_at held.now) (Some place) }
+{
+    match held.get(place) {
+        Some(one) => Some(&one.value),
+        None => None,
+    }
+}
+
+impl<T> Store<T> {
+    ghost use Rattle.sig_store.specs.Lends.{lends_value};
+
+    /// Nothing stands, and no number was given.
+    pub fn new(alloc: Global) -> Store<T>
+        ensures { result.entries ≡ [] }
+    {
+        Store {
+            places: IndexMap::new(alloc),
+            held: Slab::new(alloc),
+            made: 0,
+        }
+    }
+
+    /// Makes room for so many values more, which `push` then takes without memory.
+    pub fn reserve(&mut self, more: usize) -> Result<(), NoMemory>
+        ensures room { OnOk result (more ≤ self.new.room) }
+        ensures entries { self.new.entries ≡ self.old.entries }
+    {
+        self.places.reserve(more)?;
+        self.held.reserve(more)?;
+        Ok(())
+    }
+
+    /// How many numbers were given.
+    pub fn made(&self) -> u128
+        ensures { result ≡ length self.now.entries }
+    {
+        self.made
+    }
+
+    /// The value of a number, none where it was taken out or wasn't given.
+    pub fn get(&self, number: u128) -> Option<&T>
+        ensures { option_copied result ≡ entry self.now.entries number }
+    {
+        match place_of(&self.places, number) {
+            Some(place) => value_in(&self.held, place),
+            None => None,
+        }
+    }
+
+    /// The value of a number that stands, for writing.
+    pub fn value_mut(&mut self, number: u128) -> &mut T
+        requires { IsSome (entry self.old.entries number) }
+        ensures* writes_back { sem 𝓛 (lends_value T.row self.entry number result) }
+        ensures value { entry self.old.entries number ≡ Some result.now }
+    {
+        let place = standing_place(&self.places, number);
+        let held = &mut self.held[place];
+        &mut held.value
+    }
+
+    /// Puts a value in, in room that is there, and gives its number.
+    pub fn push(&mut self, value: T) -> u128
+        requires room { 0 < self.old.room }
+        requires count { length self.old.entries + 1 < 2 ^ 128 }
+        ensures number { result ≡ length self.old.entries }
+        ensures entries { self.new.entries ≡ self.old.entries ++ Some value ∷ [] }
+        ensures left { self.old.room ≤ self.new.room + 1 }
+    {
+        let number = self.made;
+        let place = self.held.insert_reserved(Held { number, value });
+        note_place(&mut self.places, number, place);
+        self.made += 1;
+        number
+    }
+
+    /// Takes the value of a number out.
+    pub fn remove(&mut self, number: u128) -> T
+        requires { IsSome (entry self.old.entries number) }
+        ensures value { entry self.old.entries number ≡ Some result }
+        ensures entries { self.new.entries ≡ slice_set self.old.entries number None }
+        ensures left { self.old.room ≤ self.new.room }
+    {
+        let place = forget_place(&mut self.places, number);
+        let Held { number: _, value } = self.held.remove(place);
+        value
+    }
+}
