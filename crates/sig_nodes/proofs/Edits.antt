@@ -1,6 +1,6 @@
 -- What an edit of one node means for the state.
-use Rattle.std.proofs.Common.{◌≡◌, ℕ, zero, suc, ◌+◌, ◌<◌, ◌≤◌, ◌==◌, Bool, true, false, cond, List, [], ◌∷◌, ◌++◌, append-nil, length, map, Option, Some, None, refl, sym, ap, ◌∙◌, subst, arith, if◌then◌else◌, ◌⊎◌, inl, inr, true≢false}
-use Rattle.std.specs.Prelude.{slice_get, slice_set, slice_index_or}
+use Rattle.std.proofs.Common.{◌≡◌, ℕ, zero, suc, ◌+◌, ◌≤◌, ◌==◌, Bool, true, false, cond, List, [], ◌∷◌, ◌++◌, append-nil, length, map, Option, Some, None, refl, sym, ap, ◌∙◌, subst, arith, if◌then◌else◌, ◌⊎◌, inl, inr, true≢false}
+use Rattle.std.specs.Prelude.{slice_get, slice_set}
 use Rattle.std.proofs.lemmas.Bool.{eqb-true, eq-eqb}
 use Rattle.sig_base.specs.declared.value.Value.{Value}
 use Rattle.sig_base.specs.declared.value.Outcome.{Outcome}
@@ -20,31 +20,22 @@ use Rattle.sig_nodes.proofs.Parts.{parts-push, parts-same, parts-changed, parts-
 -- ---- the node at a place
 
 -- the body of the node that is read at a place
-pub body_read : (xs : List Node) (n i : ℕ) (x : Node) → i ≡ n → n < length xs → x ≡ slice_index_or xs i x → x.body ≡ body_at xs n
-body_read xs n i x e l is = ap (λ (z : Node). z.body) (is ∙ ap (λ k. slice_index_or xs k x) e) ∙ go xs n l
-  where
-    go : (ys : List Node) (k : ℕ) → k < length ys → (slice_index_or ys k x).body ≡ body_at ys k
-    go [] k h = absurd (omega arith)
-    go (y ∷ ys) zero h = refl
-    go (y ∷ ys) (suc k) h = let z : k < length ys = omega arith in go ys k z
+pub body_got : (xs : List Node) (n : ℕ) (x : Node) → slice_get xs n ≡ Some x → body_at xs n ≡ x.body
+body_got [] n x h = cc
+body_got (y ∷ ys) zero x h = let e : y ≡ x = cc in ap (λ (z : Node). z.body) e
+body_got (y ∷ ys) (suc n) x h = body_got ys n x h
 
 -- its change number
-pub change_read : (xs : List Node) (n i : ℕ) (x : Node) → i ≡ n → n < length xs → x ≡ slice_index_or xs i x → x.number ≡ change_at xs n
-change_read xs n i x e l is = ap (λ (z : Node). z.number) (is ∙ ap (λ k. slice_index_or xs k x) e) ∙ go xs n l
-  where
-    go : (ys : List Node) (k : ℕ) → k < length ys → (slice_index_or ys k x).number ≡ change_at ys k
-    go [] k h = absurd (omega arith)
-    go (y ∷ ys) zero h = refl
-    go (y ∷ ys) (suc k) h = let z : k < length ys = omega arith in go ys k z
+pub change_got : (xs : List Node) (n : ℕ) (x : Node) → slice_get xs n ≡ Some x → change_at xs n ≡ x.number
+change_got [] n x h = cc
+change_got (y ∷ ys) zero x h = let e : y ≡ x = cc in ap (λ (z : Node). z.number) e
+change_got (y ∷ ys) (suc n) x h = change_got ys n x h
 
 -- its seat
-pub seat_read : (xs : List Node) (n i : ℕ) (x : Node) → i ≡ n → n < length xs → x ≡ slice_index_or xs i x → x.seat ≡ seat_at xs n
-seat_read xs n i x e l is = ap (λ (z : Node). z.seat) (is ∙ ap (λ k. slice_index_or xs k x) e) ∙ go xs n l
-  where
-    go : (ys : List Node) (k : ℕ) → k < length ys → (slice_index_or ys k x).seat ≡ seat_at ys k
-    go [] k h = absurd (omega arith)
-    go (y ∷ ys) zero h = refl
-    go (y ∷ ys) (suc k) h = let z : k < length ys = omega arith in go ys k z
+pub seat_got : (xs : List Node) (n : ℕ) (x : Node) → slice_get xs n ≡ Some x → seat_at xs n ≡ x.seat
+seat_got [] n x h = cc
+seat_got (y ∷ ys) zero x h = let e : y ≡ x = cc in ap (λ (z : Node). z.seat) e
+seat_got (y ∷ ys) (suc n) x h = seat_got ys n x h
 
 -- past the last place nothing lives
 pub body_past : (xs : List Node) (n : ℕ) → length xs ≤ n → body_at xs n ≡ Gone
@@ -53,22 +44,16 @@ body_past (x ∷ xs) zero h = absurd (omega arith)
 body_past (x ∷ xs) (suc n) h = let l : length xs ≤ n = omega arith in body_past xs n l
 
 -- the node that is read at a place is written as g makes it
-pub written : (xs : List Node) (n i : ℕ) (x y : Node) (g : Node → Node) → i ≡ n → n < length xs → x ≡ slice_index_or xs i x → y ≡ g x → slice_set xs i y ≡ changed_at g n xs
-written xs n i x y g e l is made = ap (λ k. slice_set xs k y) e ∙ ap (slice_set xs n) (made ∙ ap g (is ∙ ap (λ k. slice_index_or xs k x) e)) ∙ go xs n l
-  where
-    go : (ys : List Node) (k : ℕ) → k < length ys → slice_set ys k (g (slice_index_or ys k x)) ≡ changed_at g k ys
-    go [] k h = absurd (omega arith)
-    go (z ∷ ys) zero h = refl
-    go (z ∷ ys) (suc k) h = let q : k < length ys = omega arith in ap (λ (r : List Node). z ∷ r) (go ys k q)
+pub written : (xs : List Node) (n : ℕ) (x y : Node) (g : Node → Node) → slice_get xs n ≡ Some x → y ≡ g x → slice_set xs n y ≡ changed_at g n xs
+written [] n x y g h made = refl
+written (z ∷ xs) zero x y g h made = let e : z ≡ x = cc in ap (λ w. w ∷ xs) (made ∙ ap g (sym e))
+written (z ∷ xs) (suc n) x y g h made = ap (λ (ys : List Node). z ∷ ys) (written xs n x y g h made)
 
 -- and stands there then
-pub body_written : (xs : List Node) (n i : ℕ) (y : Node) → i ≡ n → n < length xs → body_at (slice_set xs i y) n ≡ y.body
-body_written xs n i y e l = ap (λ k. body_at (slice_set xs k y) n) e ∙ go xs n l
-  where
-    go : (ys : List Node) (k : ℕ) → k < length ys → body_at (slice_set ys k y) k ≡ y.body
-    go [] k h = absurd (omega arith)
-    go (z ∷ ys) zero h = refl
-    go (z ∷ ys) (suc k) h = let q : k < length ys = omega arith in go ys k q
+pub body_written : (xs : List Node) (n : ℕ) (x y : Node) → slice_get xs n ≡ Some x → body_at (slice_set xs n y) n ≡ y.body
+body_written [] n x y h = cc
+body_written (z ∷ xs) zero x y h = refl
+body_written (z ∷ xs) (suc n) x y h = body_written xs n x y h
 
 pub changed_length : (g : Node → Node) (n : ℕ) (xs : List Node) → length (changed_at g n xs) ≡ length xs
 changed_length g n [] = refl
@@ -116,11 +101,13 @@ seat_stays g zero (suc m) (x ∷ xs) h = refl
 seat_stays g (suc n) zero (x ∷ xs) h = refl
 seat_stays g (suc n) (suc m) (x ∷ xs) h = seat_stays g n m xs h
 
--- the body at the place that is read
-pub body_got : (xs : List Node) (n : ℕ) (x : Node) → slice_get xs n ≡ Some x → body_at xs n ≡ x.body
-body_got [] n x h = cc
-body_got (y ∷ ys) zero x h = let e : y ≡ x = cc in ap (λ (z : Node). z.body) e
-body_got (y ∷ ys) (suc n) x h = body_got ys n x h
+-- and those of other places in any case
+pub seat_other : (g : Node → Node) (n m : ℕ) (xs : List Node) → (n ≡ m → ⊥) → seat_at (changed_at g n xs) m ≡ seat_at xs m
+seat_other g n m [] h = refl
+seat_other g zero zero (x ∷ xs) h = absurd (h refl)
+seat_other g zero (suc m) (x ∷ xs) h = refl
+seat_other g (suc n) zero (x ∷ xs) h = refl
+seat_other g (suc n) (suc m) (x ∷ xs) h = seat_other g n m xs (λ e. h (ap suc e))
 
 -- ---- states
 

@@ -22,7 +22,7 @@ use Rattle.sig_nodes.specs.Places.{seen, Holds}
 use Rattle.sig_nodes.specs.Nodes.{are_live_bodies, parts, cell_part, computed_part, signals_of, memos_of, state_of, body_at, change_at, seat_at, changed_at, is_live_body, is_cell_body, is_computed_body, memo_body, known_body, slots_body, stands_of, gone_node, known_node, new_node, rewired_node, run_node, set_node, with_body_known, with_body_memo, with_body_recipe, with_body_value, FewSlotsBody, IsFresh}
 use Rattle.sig_nodes.specs.Answers.{HasFewSlots, HaveFewSlots}
 use Rattle.sig_nodes.proofs.Parts.{stands, memo_found}
-use Rattle.sig_nodes.proofs.Edits.{body_changed, changed_length, seat_stays}
+use Rattle.sig_nodes.proofs.Edits.{body_changed, changed_length, seat_other, seat_stays}
 use Rattle.sig_nodes.proofs.Seating.{held_inside, holder_set, set_size}
 
 pub tested : (b : Bool) → (b ≡ true) ⊎ (b ≡ false)
@@ -45,7 +45,7 @@ computed_live Gone h = h
 computed_live (CellBody v r) h = refl
 computed_live (ComputedBody c) h = refl
 
-cell_live : (b : Body) → is_cell_body b ≡ true → is_live_body b ≡ true
+pub cell_live : (b : Body) → is_cell_body b ≡ true → is_live_body b ≡ true
 cell_live Gone h = h
 cell_live (CellBody v r) h = refl
 cell_live (ComputedBody c) h = refl
@@ -356,7 +356,7 @@ gone_holds n xs t gen w live h = record {
       let off : (n == k) ≡ false = apart k q in
       let old : is_live_body (body_at xs k) ≡ true = sym (ap is_live_body (at k ∙ ap (λ b. if b then Gone else body_at xs k) off)) ∙ q in
       let held : holder t.holders (seat_at xs k) ≡ Some k = h.seated k old in
-      ap (holder (slice_set t.holders s None)) (seat_stays gone_node n k xs (λ x. refl)) ∙ holder_set t.holders s (seat_at xs k) None below ∙ others k (s == seat_at xs k) refl off held;
+      ap (holder (slice_set t.holders s None)) (seat_other gone_node n k xs (λ e. true≢false (sym (eq-eqb n k e) ∙ off))) ∙ holder_set t.holders s (seat_at xs k) None below ∙ others k (s == seat_at xs k) refl off held;
   living = λ z k q. went z k (s == z) refl (sym (holder_set t.holders s z None below) ∙ q);
   room =
       let a : counted_from 0 (changed_at gone_node n xs) ≡ live_nodes (changed_at gone_node n xs) = counted 0 (changed_at gone_node n xs) in
@@ -409,7 +409,7 @@ gone_holds n xs t gen w live h = record {
     went z k false e q =
         let old : (is_live_body (body_at xs k) ≡ true) × (seat_at xs k ≡ z) = h.living z k q in
         let off : (n == k) ≡ false = elim (tested (n == k)) [ inl f ↦ absurd (true≢false (sym (eq-eqb s z (ap (seat_at xs) (eqb-true n k f) ∙ old.1)) ∙ e)) | inr f ↦ f ] in
-        (ap is_live_body (at k ∙ ap (λ b. if b then Gone else body_at xs k) off) ∙ old.0, seat_stays gone_node n k xs (λ x. refl) ∙ old.1)
+        (ap is_live_body (at k ∙ ap (λ b. if b then Gone else body_at xs k) off) ∙ old.0, seat_other gone_node n k xs (λ e. true≢false (sym (eq-eqb n k e) ∙ off)) ∙ old.1)
 
 -- ---- a making
 

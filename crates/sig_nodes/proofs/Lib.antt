@@ -11,6 +11,8 @@ pub mod Using
 pub mod Shared
 mod Pausing
 mod Found
+mod Gaps
+mod Seated
 mod KeptFinds
 mod MarkedStates
 mod KeptMarks

@@ -1,5 +1,5 @@
 -- What nodes answer, by what they stand for.
-use Rattle.std.proofs.Common.{◌≡◌, ℕ, zero, suc, ◌+◌, ◌<◌, ◌==◌, ◌||◌, not, Bool, true, false, List, [], ◌∷◌, ◌++◌, length, map, Option, Some, None, refl, sym, ap, ◌∙◌, subst, is_some, if◌then◌else◌}
+use Rattle.std.proofs.Common.{◌≡◌, ℕ, zero, suc, ◌+◌, ◌<◌, ◌==◌, ◌||◌, not, Bool, true, false, List, [], ◌∷◌, ◌++◌, map, Option, Some, None, refl, sym, ap, ◌∙◌, subst, is_some, if◌then◌else◌}
 use Rattle.std.specs.Prelude.{slice_get, IfSome}
 use Rattle.std.proofs.lemmas.Bool.{eq-eqb}
 use Rattle.signal_model.specs.Standing.{Computed, is_in, is_there, standing}
@@ -12,11 +12,11 @@ use Rattle.sig_nodes.specs.Computations.{paired}
 use Rattle.sig_nodes.specs.States.{GoesOn, progress_at, State, Seen, is_given}
 use Rattle.sig_nodes.specs.Seats.{Seating, holder}
 use Rattle.sig_nodes.specs.Places.{seen, Holds}
-use Rattle.sig_nodes.specs.Nodes.{asks_host_body, computed_part, parts, progress_of, some_asks_body, body_at, changed_at, is_computed_body, known_node, with_body_known, has_moved_body, known_body, memo_body, memos_of, number_at, signals_of, slots_body, stands_of, state_of, value_body}
+use Rattle.sig_nodes.specs.Nodes.{asks_host_body, computed_part, parts, progress_of, some_asks_body, body_at, changed_at, is_computed_body, is_live_body, known_node, with_body_known, has_moved_body, known_body, memo_body, memos_of, number_at, signals_of, slots_body, stands_of, state_of, value_body}
 use Rattle.sig_base.specs.declared.value.Known.{Known}
 use Rattle.sig_nodes.proofs.Edits.{body_changed}
 use Rattle.sig_nodes.proofs.Parts.{memo_found, number_found, progress_found, stands}
-use Rattle.sig_nodes.proofs.Holding.{below_given, computed_below, live_here}
+use Rattle.sig_nodes.proofs.Holding.{below_given, live_here}
 
 -- the slots under an id
 pub slots_found : (xs : List Node) (n : ℕ) → slots_here (standing (signals_of xs) n) ≡ slots_body (body_at xs n)
@@ -93,14 +93,11 @@ pub names_now : (k : Memos) (ns : List ℕ) → source_names (map (named_now k) 
 names_now k [] = refl
 names_now k (n ∷ ns) = ap (λ (r : List ℕ). n ∷ r) (names_now k ns)
 
--- an evaluation that goes on is of a node that is there
-pub known_below : (xs : List Node) (n : ℕ) (known : List Known) → GoesOn (known_body (body_at xs n)) known → n < length xs
-known_below xs n known h = computed_below xs n (go (body_at xs n) h)
-  where
-    go : (b : Body) → GoesOn (known_body b) known → is_computed_body b ≡ true
-    go Gone q = absurd q
-    go (CellBody v r) q = absurd q
-    go (ComputedBody c) q = refl
+-- an evaluation that goes on is of a signal that lives
+pub asked_live : (b : Body) (known : List Known) → GoesOn (known_body b) known → is_live_body b ≡ true
+asked_live Gone known h = absurd h
+asked_live (CellBody v r) known h = absurd h
+asked_live (ComputedBody c) known h = refl
 
 -- a computed is at the values that its evaluation is given
 pub begun_here : (k : Option (List Known)) (n : ℕ) (xs : List Node) → is_computed_body (body_at xs n) ≡ true → progress_at n (progress_of (changed_at (known_node k) n xs)) ≡ k

@@ -8,3 +8,5 @@ pub mod Places
 pub mod Search
 pub mod Looks
 pub mod Pausing
+pub mod Gaps
+pub mod Lends

@@ -162,6 +162,10 @@ abbrev pub asks_host_body : ℕ → Body → Bool
 asks_host_body place (ComputedBody c) = is_host place c.recipe.expression
 asks_host_body place _ = false
 
+-- the same of a place
+abbrev pub asks_host_here : ℕ → List Node → ℕ → Bool
+asks_host_here place xs n = asks_host_body place (body_at xs n)
+
 -- whether one of these does
 abbrev pub some_asks_body : ℕ → List Node → Bool
 some_asks_body place [] = false
@@ -227,9 +231,13 @@ rewired_node r x = record x { number = x.number + 1; body = with_body_recipe x.b
 abbrev pub known_node : Option (List Known) → Node → Node
 known_node k x = record x { body = with_body_known x.body k }
 
--- a node whose signal is gone
+-- what is left of a node whose signal is gone
+abbrev pub gone : Node
+gone = record { number = 0; seat = 0; body = Gone }
+
+-- a node's signal is gone
 abbrev pub gone_node : Node → Node
-gone_node x = record x { body = Gone }
+gone_node x = gone
 
 -- a node as it is made
 abbrev pub new_node : ℕ → Body → Node

@@ -20,6 +20,11 @@ abbrev pub of_holder : (ℕ → Bool) → Option ℕ → Bool
 of_holder f None = false
 of_holder f (Some n) = f n
 
+-- whether one of all who have seats does
+abbrev pub some_holder : (ℕ → Bool) → List (Option ℕ) → Bool
+some_holder f [] = false
+some_holder f (h ∷ hs) = of_holder f h || some_holder f hs
+
 -- whether one of those who have these seats passes a test
 abbrev pub some_seated : (ℕ → Bool) → List ℕ → List (Option ℕ) → Bool
 some_seated f [] hs = false

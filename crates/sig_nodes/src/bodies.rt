@@ -6,30 +6,32 @@ ghost use Rattle.signal_model.specs.Memos.{is_stale_by, same_number, source_name
 ghost use Rattle.signal_model.specs.Sound.{kept_outcome};
 ghost use Rattle.sig_nodes.specs.declared.node.Body.TheVariants as body;
 ghost use Rattle.sig_nodes.specs.Answers.{host_here, kind_here, rule_here, slots_here, value_here};
-ghost use Rattle.sig_nodes.specs.Nodes.{are_live_bodies, asks_host_body, body_at, change_at, has_moved_body, is_computed_body, is_live_body, known_body, memo_body, number_at, number_body, seat_at, slots_body, some_asks_body, stands_of};
+ghost use Rattle.sig_nodes.specs.Nodes.{are_live_bodies, asks_host_body, asks_host_here, body_at, change_at, has_moved_body, is_computed_body, is_live_body, known_body, memo_body, number_at, number_body, seat_at, slots_body, stands_of};
 ghost use Rattle.sig_nodes.specs.Computations.{at_generation};
+ghost use Rattle.sig_nodes.specs.Search.{of_holder, some_holder};
 
 use crate::answers::Standing;
 use crate::node::{Body, Computation, Node, Source};
+use crate::nodes::Nodes;
+use crate::seats::Seats;
 use sig_base::{NoMemory, NodeId, Outcome, Value};
 use std::alloc::Global;
 
 /// What lives at a place, none past the last place.
-pub(crate) fn body_at(nodes: &[Node], id: NodeId) -> Option<&Body>
-    ensures some { IfSome result (λ b. b.now ≡ body_at nodes.now id) }
-    ensures none { IfNone result (body_at nodes.now id ≡ body.Gone) }
+pub(crate) fn body_at(nodes: &Nodes, id: NodeId) -> Option<&Body>
+    ensures some { IfSome result (λ b. b.now ≡ body_at nodes.now.items id) }
+    ensures none { IfNone result (body_at nodes.now.items id ≡ body.Gone) }
 {
-    if id.number() < nodes.len() as u128 {
-        Some(&nodes[id.number() as usize].body)
-    } else {
-        None
+    match nodes.at(id) {
+        Some(node) => Some(&node.body),
+        None => None,
     }
 }
 
 /// The computed that lives there.
-pub(crate) fn computation_at(nodes: &[Node], id: NodeId) -> Option<&Computation>
-    ensures some { IfSome result (λ c. body_at nodes.now id ≡ body.Computed c.now) }
-    ensures none { IfNone result (is_computed_body (body_at nodes.now id) ≡ false) }
+pub(crate) fn computation_at(nodes: &Nodes, id: NodeId) -> Option<&Computation>
+    ensures some { IfSome result (λ c. body_at nodes.now.items id ≡ body.Computed c.now) }
+    ensures none { IfNone result (is_computed_body (body_at nodes.now.items id) ≡ false) }
 {
     match body_at(nodes, id) {
         Some(Body::Computed(computation)) => Some(computation),
@@ -48,17 +50,18 @@ pub(crate) fn is_computed(body: &Body) -> bool
 }
 
 /// The seat of a live signal.
-pub(crate) fn seat_at(nodes: &[Node], id: NodeId) -> usize
-    requires { id < length nodes.now }
-    ensures { result ≡ seat_at nodes.now id }
+pub(crate) fn seat_at(nodes: &Nodes, id: NodeId) -> usize
+    ensures { result ≡ seat_at nodes.now.items id }
 {
-    let _count = nodes.len();
-    nodes[id.number() as usize].seat
+    match nodes.at(id) {
+        Some(node) => node.seat,
+        None => 0,
+    }
 }
 
 /// Whether a signal lives there.
-pub(crate) fn is_live_at(nodes: &[Node], id: NodeId) -> bool
-    ensures { result ≡ is_live_body (body_at nodes.now id) }
+pub(crate) fn is_live_at(nodes: &Nodes, id: NodeId) -> bool
+    ensures { result ≡ is_live_body (body_at nodes.now.items id) }
 {
     match body_at(nodes, id) {
         Some(Body::Cell(_, _)) => true,
@@ -68,8 +71,8 @@ pub(crate) fn is_live_at(nodes: &[Node], id: NodeId) -> bool
 }
 
 // Whether all of these live.
-fn are_live_at(nodes: &[Node], ids: &[NodeId]) -> bool
-    ensures { result ≡ are_live_bodies nodes.now ids.now }
+fn are_live_at(nodes: &Nodes, ids: &[NodeId]) -> bool
+    ensures { result ≡ are_live_bodies nodes.now.items ids.now }
 {
     for id in ids {
         if !is_live_at(nodes, *id) {
@@ -80,15 +83,15 @@ fn are_live_at(nodes: &[Node], ids: &[NodeId]) -> bool
 }
 
 /// Whether a signal lives there, and all that its slots would stand for.
-pub(crate) fn is_linkable_at(nodes: &[Node], id: NodeId, slots: &[NodeId]) -> bool
-    ensures { result ≡ are_live_bodies nodes.now (id ∷ slots.now) }
+pub(crate) fn is_linkable_at(nodes: &Nodes, id: NodeId, slots: &[NodeId]) -> bool
+    ensures { result ≡ are_live_bodies nodes.now.items (id ∷ slots.now) }
 {
     is_live_at(nodes, id) && are_live_at(nodes, slots)
 }
 
 /// What stands there.
-pub(crate) fn standing_at(nodes: &[Node], id: NodeId) -> Standing
-    ensures { result ≡ kind_here (stands_of id (body_at nodes.now id)) (is_some (known_body (body_at nodes.now id))) }
+pub(crate) fn standing_at(nodes: &Nodes, id: NodeId) -> Standing
+    ensures { result ≡ kind_here (stands_of id (body_at nodes.now.items id)) (is_some (known_body (body_at nodes.now.items id))) }
 {
     match body_at(nodes, id) {
         Some(Body::Cell(_, _)) => Standing::Cell,
@@ -104,8 +107,8 @@ pub(crate) fn standing_at(nodes: &[Node], id: NodeId) -> Standing
 }
 
 /// Whether a computed there is computing.
-pub(crate) fn is_computing_at(nodes: &[Node], id: NodeId) -> bool
-    ensures { result ≡ is_some (known_body (body_at nodes.now id)) }
+pub(crate) fn is_computing_at(nodes: &Nodes, id: NodeId) -> bool
+    ensures { result ≡ is_some (known_body (body_at nodes.now.items id)) }
 {
     match body_at(nodes, id) {
         Some(Body::Computed(computation)) => computation.is_computing(),
@@ -114,8 +117,8 @@ pub(crate) fn is_computing_at(nodes: &[Node], id: NodeId) -> bool
 }
 
 /// A cell's value.
-pub(crate) fn value_at(nodes: &[Node], id: NodeId) -> Option<&Value>
-    ensures { option_copied result ≡ value_here (stands_of id (body_at nodes.now id)) }
+pub(crate) fn value_at(nodes: &Nodes, id: NodeId) -> Option<&Value>
+    ensures { option_copied result ≡ value_here (stands_of id (body_at nodes.now.items id)) }
 {
     match body_at(nodes, id) {
         Some(Body::Cell(value, _)) => Some(value),
@@ -124,8 +127,8 @@ pub(crate) fn value_at(nodes: &[Node], id: NodeId) -> Option<&Value>
 }
 
 /// The place of a cell's equality rule.
-pub(crate) fn rule_at(nodes: &[Node], id: NodeId) -> Option<usize>
-    ensures { result ≡ rule_here (stands_of id (body_at nodes.now id)) }
+pub(crate) fn rule_at(nodes: &Nodes, id: NodeId) -> Option<usize>
+    ensures { result ≡ rule_here (stands_of id (body_at nodes.now.items id)) }
 {
     match body_at(nodes, id) {
         Some(Body::Cell(_, rule)) => *rule,
@@ -134,8 +137,8 @@ pub(crate) fn rule_at(nodes: &[Node], id: NodeId) -> Option<usize>
 }
 
 /// The place of the host formula that a computed asks.
-pub(crate) fn host_at(nodes: &[Node], id: NodeId) -> Option<usize>
-    ensures { result ≡ host_here (stands_of id (body_at nodes.now id)) }
+pub(crate) fn host_at(nodes: &Nodes, id: NodeId) -> Option<usize>
+    ensures { result ≡ host_here (stands_of id (body_at nodes.now.items id)) }
 {
     match body_at(nodes, id) {
         Some(Body::Computed(computation)) => computation.host(),
@@ -143,22 +146,32 @@ pub(crate) fn host_at(nodes: &[Node], id: NodeId) -> Option<usize>
     }
 }
 
-// Whether a node's computed asks the host formula at a place.
-fn asks_host(node: &Node, place: usize) -> bool
-    ensures { result ≡ asks_host_body place node.now.body }
+// Whether a computed asks the host formula at a place.
+fn asks_host_at(nodes: &Nodes, id: NodeId, place: usize) -> bool
+    ensures { result ≡ asks_host_body place (body_at nodes.now.items id) }
 {
-    match &node.body {
-        Body::Computed(computation) => computation.asks(place),
+    match body_at(nodes, id) {
+        Some(Body::Computed(computation)) => computation.asks(place),
         _ => false,
     }
 }
 
-/// Whether a live computed asks the host formula at a place. It goes over all nodes.
-pub(crate) fn uses_host(nodes: &[Node], place: usize) -> bool
-    ensures { result ≡ some_asks_body place nodes.now }
+// Whether who has a seat does; of a free seat nobody.
+fn holder_asks(nodes: &Nodes, holder: Option<NodeId>, place: usize) -> bool
+    ensures { result ≡ of_holder (asks_host_here place nodes.now.items) holder }
 {
-    for node in nodes {
-        if asks_host(node, place) {
+    match holder {
+        Some(id) => asks_host_at(nodes, id, place),
+        None => false,
+    }
+}
+
+/// Whether one of those who have seats asks the host formula at a place.
+pub(crate) fn uses_host(nodes: &Nodes, seats: &Seats, place: usize) -> bool
+    ensures { result ≡ some_holder (asks_host_here place nodes.now.items) seats.now.holders }
+{
+    for holder in seats.holders() {
+        if holder_asks(nodes, *holder, place) {
             return true;
         }
     }
@@ -166,8 +179,8 @@ pub(crate) fn uses_host(nodes: &[Node], place: usize) -> bool
 }
 
 /// The signals that a computed's slots stand for.
-pub(crate) fn slots_at(nodes: &[Node], id: NodeId) -> &[NodeId]
-    ensures { result.now ≡ slots_body (body_at nodes.now id) }
+pub(crate) fn slots_at(nodes: &Nodes, id: NodeId) -> &[NodeId]
+    ensures { result.now ≡ slots_body (body_at nodes.now.items id) }
 {
     match body_at(nodes, id) {
         Some(Body::Computed(computation)) => computation.slots(),
@@ -176,8 +189,8 @@ pub(crate) fn slots_at(nodes: &[Node], id: NodeId) -> &[NodeId]
 }
 
 /// The signal that a computed's slot stands for.
-pub(crate) fn slot_at(nodes: &[Node], id: NodeId, slot: u32) -> Option<NodeId>
-    ensures { result ≡ slice_get (slots_body (body_at nodes.now id)) slot }
+pub(crate) fn slot_at(nodes: &Nodes, id: NodeId, slot: u32) -> Option<NodeId>
+    ensures { result ≡ slice_get (slots_body (body_at nodes.now.items id)) slot }
 {
     match body_at(nodes, id) {
         Some(Body::Computed(computation)) => computation.slot(slot),
@@ -186,8 +199,8 @@ pub(crate) fn slot_at(nodes: &[Node], id: NodeId, slot: u32) -> Option<NodeId>
 }
 
 /// The outcome that a computed keeps.
-pub(crate) fn kept_at(nodes: &[Node], id: NodeId) -> Option<&Outcome>
-    ensures { option_copied result ≡ kept_outcome (memo_body (body_at nodes.now id)) }
+pub(crate) fn kept_at(nodes: &Nodes, id: NodeId) -> Option<&Outcome>
+    ensures { option_copied result ≡ kept_outcome (memo_body (body_at nodes.now.items id)) }
 {
     match body_at(nodes, id) {
         Some(Body::Computed(computation)) => computation.kept(),
@@ -196,8 +209,8 @@ pub(crate) fn kept_at(nodes: &[Node], id: NodeId) -> Option<&Outcome>
 }
 
 /// The sources that a computed keeps.
-pub(crate) fn sources_at(nodes: &[Node], id: NodeId) -> &[NodeId]
-    ensures { result.now ≡ source_names (sources_in (memo_body (body_at nodes.now id))) }
+pub(crate) fn sources_at(nodes: &Nodes, id: NodeId) -> &[NodeId]
+    ensures { result.now ≡ source_names (sources_in (memo_body (body_at nodes.now.items id))) }
 {
     match body_at(nodes, id) {
         Some(Body::Computed(computation)) => computation.sources(),
@@ -206,8 +219,8 @@ pub(crate) fn sources_at(nodes: &[Node], id: NodeId) -> &[NodeId]
 }
 
 // The kept source at a place of a computed's.
-fn source_at(nodes: &[Node], id: NodeId, place: usize) -> Option<Source>
-    ensures { result ≡ slice_get (sources_in (memo_body (body_at nodes.now id))) place }
+fn source_at(nodes: &Nodes, id: NodeId, place: usize) -> Option<Source>
+    ensures { result ≡ slice_get (sources_in (memo_body (body_at nodes.now.items id))) place }
 {
     match body_at(nodes, id) {
         Some(Body::Computed(computation)) => computation.source(place),
@@ -216,8 +229,8 @@ fn source_at(nodes: &[Node], id: NodeId, place: usize) -> Option<Source>
 }
 
 /// Whether a computed has to run whatever its sources are.
-pub(crate) fn is_stale_at(nodes: &[Node], generation: u128, id: NodeId) -> bool
-    ensures { result ≡ is_stale_by (at_generation generation) (memo_body (body_at nodes.now id)) }
+pub(crate) fn is_stale_at(nodes: &Nodes, generation: u128, id: NodeId) -> bool
+    ensures { result ≡ is_stale_by (at_generation generation) (memo_body (body_at nodes.now.items id)) }
 {
     match body_at(nodes, id) {
         Some(Body::Computed(computation)) => computation.is_stale(generation),
@@ -226,13 +239,12 @@ pub(crate) fn is_stale_at(nodes: &[Node], generation: u128, id: NodeId) -> bool
 }
 
 // The change number of a signal, none where it is gone.
-fn number_at(nodes: &[Node], id: NodeId) -> Option<u128>
-    ensures { result ≡ number_at nodes.now id }
+fn number_at(nodes: &Nodes, id: NodeId) -> Option<u128>
+    ensures { result ≡ number_at nodes.now.items id }
 {
-    if id.number() < nodes.len() as u128 {
-        number_of(&nodes[id.number() as usize])
-    } else {
-        None
+    match nodes.at(id) {
+        Some(node) => number_of(node),
+        None => None,
     }
 }
 
@@ -248,10 +260,10 @@ fn number_of(node: &Node) -> Option<u128>
 /// The present change numbers of these.
 pub(crate) fn numbers_now(
     alloc: Global,
-    nodes: &[Node],
+    nodes: &Nodes,
     ids: &[NodeId],
 ) -> Result<Vec<Option<u128>>, NoMemory>
-    ensures { IfOk result (λ v. v.items ≡ map (number_at nodes.now) ids.now) }
+    ensures { IfOk result (λ v. v.items ≡ map (number_at nodes.now.items) ids.now) }
 {
     let mut numbers = Vec::with_capacity(alloc, ids.len())?;
     for id in ids {
@@ -271,15 +283,15 @@ fn same_number(a: Option<u128>, b: Option<u128>) -> bool
 }
 
 /// Whether a source has another number than the one that was read.
-pub(crate) fn differs(nodes: &[Node], source: Source) -> bool
-    ensures { result ≡ not (same_number (number_at nodes.now source.name) source.number) }
+pub(crate) fn differs(nodes: &Nodes, source: Source) -> bool
+    ensures { result ≡ not (same_number (number_at nodes.now.items source.name) source.number) }
 {
     !same_number(number_at(nodes, source.name), source.number)
 }
 
 /// Whether a computed's kept source at a place has another number than the one that was read, or is computing.
-pub(crate) fn moved_at(nodes: &[Node], id: NodeId, place: usize) -> bool
-    ensures { result ≡ has_moved_body nodes.now (slice_get (sources_in (memo_body (body_at nodes.now id))) place) }
+pub(crate) fn moved_at(nodes: &Nodes, id: NodeId, place: usize) -> bool
+    ensures { result ≡ has_moved_body nodes.now.items (slice_get (sources_in (memo_body (body_at nodes.now.items id))) place) }
 {
     match source_at(nodes, id, place) {
         Some(source) => differs(nodes, source) || is_computing_at(nodes, source.name),

@@ -34,7 +34,7 @@ impl Graph {
         ensures begun { progress_at id self.new.state.progress ≡ Some [] }
         ensures seats { self.new.seats ≡ self.old.seats }
     {
-        let _count = self.nodes.len();
+        let _count = self.nodes.made();
         self.marks.push(id);
         begin_at(&mut self.nodes, id);
     }
@@ -49,7 +49,7 @@ impl Graph {
         ensures after { OnOk result (Becomes self.old self.new (with_look (with_progress self.old.state id (Some known.now)))) }
         ensures seats { OnOk result (self.new.seats ≡ self.old.seats) }
     {
-        let _count = self.nodes.len();
+        let _count = self.nodes.made();
         self.looked = counted(self.looked);
         let answer = ask_at(self.alloc, &mut self.nodes, id, known)?;
         Ok(answer)
@@ -91,7 +91,7 @@ impl Graph {
         ensures after { OnOk result (Becomes self.old self.new (with_kept_run self.old.state id outcome reads.items)) }
         ensures seats { OnOk result (self.new.seats ≡ self.old.seats) }
     {
-        let _count = self.nodes.len();
+        let _count = self.nodes.made();
         let numbers = numbers_now(self.alloc, &self.nodes, &reads)?;
         self.marks.relink(sources_at(&self.nodes, id), &reads, id)?;
         let unmarks = run_unmarks(&self.nodes, &self.marks, &outcome, &reads);
@@ -108,7 +108,7 @@ impl Graph {
         ensures after { Becomes self.old self.new (with_progress self.old.state id None) }
         ensures seats { self.new.seats ≡ self.old.seats }
     {
-        let _count = self.nodes.len();
+        let _count = self.nodes.made();
         let unmarks = stop_unmarks(&self.nodes, self.generation, &self.marks, id);
         end_mark(&mut self.marks, id, unmarks);
         end_at(&mut self.nodes, id);

@@ -61,7 +61,7 @@ impl Graph {
         ensures mark { mark_meant result ≡ mark_of self.old.state.signals self.old.state.memos id }
         ensures same { self.new ≡ self.old }
     {
-        let _count = self.nodes.len();
+        let _count = self.nodes.made();
         if !self.marks.is_marked(id) {
             return Mark::Clean;
         }

@@ -14,9 +14,10 @@ use crate::bodies::{host_at, is_computed, is_linkable_at, is_live_at, seat_at, s
 use crate::errors::NodeFault;
 use crate::finds::Finds;
 use crate::node::{Body, Computation, Node};
+use crate::nodes::Nodes;
 use crate::reached::Reached;
-use crate::seats::{Seats, push_in};
-use crate::store::{dispose_at, rewire_at, set_value_at};
+use crate::seats::Seats;
+use crate::store::{rewire_at, set_value_at};
 use crate::trail::Trail;
 use sig_base::{MOST_NODES, NoMemory, NodeId, Value};
 use sig_marks::Marks;
@@ -26,7 +27,7 @@ use std::marker::Model;
 /// Signals: cells and computeds, with what is kept of the computeds' evaluations.
 pub struct Graph {
     pub(crate) alloc: Global,
-    pub(crate) nodes: Vec<Node>,
+    pub(crate) nodes: Nodes,
     pub(crate) seats: Seats,
     pub(crate) generation: u128,
     pub(crate) looked: u128,
@@ -80,7 +81,7 @@ impl Graph {
     {
         Ok(Graph {
             alloc,
-            nodes: Vec::new(alloc),
+            nodes: Nodes::new(alloc)?,
             seats: Seats::new(alloc)?,
             generation: 0,
             looked: 0,
@@ -106,16 +107,16 @@ impl Graph {
         if self.seats.free() == 0 {
             return Err(NodeFault::Limit);
         }
-        self.nodes.reserve(1)?;
+        self.nodes.reserve()?;
         self.marks.add(is_computed(&body))?;
-        let id = NodeId::of(self.nodes.len() as u128);
+        let id = NodeId::of(self.nodes.made());
         let seat = self.seats.take(id);
         let node = Node {
             number: 0,
             seat,
             body,
         };
-        push_in(&mut self.nodes, node);
+        self.nodes.push(node);
         self.worn += 1;
         Ok(id)
     }
@@ -156,7 +157,7 @@ impl Graph {
         ensures after { Becomes self.old self.new (with_set self.old.state id value) }
         ensures before { value_here (standing self.old.state.signals id) ≡ Some result }
     {
-        let _count = self.nodes.len();
+        let _count = self.nodes.made();
         self.marks.spread(id);
         self.generation += 1;
         self.worn += 1;
@@ -210,7 +211,7 @@ impl Graph {
         self.marks.spread(id);
         self.marks.take_out(id, sources_at(&self.nodes, id));
         self.seats.leave(id, seat_at(&self.nodes, id));
-        dispose_at(&mut self.nodes, id);
+        self.nodes.take_out(id);
         self.generation += 1;
         self.worn += 1;
         Ok(host)

@@ -12,6 +12,7 @@ mod looks;
 mod marking;
 mod marks;
 mod node;
+mod nodes;
 mod reached;
 mod search;
 mod seats;

@@ -36,7 +36,7 @@ impl Graph {
         ensures few { HaveFewSlots self.now.state.signals }
         ensures seats { AreAllSeated self.now.state.signals self.now.seats }
     {
-        self.nodes.len() as u128
+        self.nodes.made()
     }
 
     /// The seat of a live signal, which no other live signal has.
@@ -46,7 +46,7 @@ impl Graph {
         ensures own { holder self.now.seats result ≡ Some id }
         ensures only { (s : ℕ) → holder self.now.seats s ≡ Some id → s ≡ result }
     {
-        let _count = self.nodes.len();
+        let _count = self.nodes.made();
         seat_at(&self.nodes, id)
     }
 
@@ -86,11 +86,11 @@ impl Graph {
         rule_at(&self.nodes, id)
     }
 
-    /// Whether a live computed asks the host formula at a place. It goes over all signals that were made, and takes no memory.
+    /// Whether a live computed asks the host formula at a place. It goes over all signals that live, and takes no memory.
     pub fn uses_host(&self, place: usize) -> bool
         ensures { result ≡ uses_host self.now.state.signals place }
     {
-        uses_host(&self.nodes, place)
+        uses_host(&self.nodes, &self.seats, place)
     }
 
     /// The signals that a computed's slots stand for, none where no computed stands.
@@ -133,7 +133,7 @@ impl Graph {
             IfSome result (λ d. is_computed (standing self.now.state.signals d) ≡ true) }
         ensures next { IfSome result (λ d. place + 1 < 2 ^ 64) }
     {
-        let _count = self.nodes.len();
+        let _count = self.nodes.made();
         self.marks.dependant(id, place)
     }
 }

@@ -8,13 +8,14 @@ ghost use Rattle.sig_nodes.specs.Search.{some_marked_at, stop_unmarks_by};
 
 use crate::bodies::computation_at;
 use crate::marks::must_run;
-use crate::node::{Computation, Node, is_cycle};
+use crate::node::{Computation, is_cycle};
+use crate::nodes::Nodes;
 use sig_base::{NodeId, Outcome};
 use sig_marks::Marks;
 
 // Whether a marked computed stands at a place.
-fn is_marked_at(nodes: &[Node], marks: &Marks, id: NodeId) -> bool
-    ensures { result ≡ (is_computed_body (body_at nodes.now id) && marked_at marks.now.marked id) }
+fn is_marked_at(nodes: &Nodes, marks: &Marks, id: NodeId) -> bool
+    ensures { result ≡ (is_computed_body (body_at nodes.now.items id) && marked_at marks.now.marked id) }
 {
     match computation_at(nodes, id) {
         Some(_) => marks.is_marked(id),
@@ -23,8 +24,8 @@ fn is_marked_at(nodes: &[Node], marks: &Marks, id: NodeId) -> bool
 }
 
 // Whether one stands at one of these.
-fn some_marked(nodes: &[Node], marks: &Marks, ids: &[NodeId]) -> bool
-    ensures { result ≡ some_marked_at nodes.now marks.now.marked ids.now }
+fn some_marked(nodes: &Nodes, marks: &Marks, ids: &[NodeId]) -> bool
+    ensures { result ≡ some_marked_at nodes.now.items marks.now.marked ids.now }
 {
     for id in ids {
         if is_marked_at(nodes, marks, *id) {
@@ -35,20 +36,15 @@ fn some_marked(nodes: &[Node], marks: &Marks, ids: &[NodeId]) -> bool
 }
 
 /// Whether a run takes the mark of its computed: it came to an outcome other than `cycle`, and read no marked computed.
-pub(crate) fn run_unmarks(
-    nodes: &[Node],
-    marks: &Marks,
-    outcome: &Outcome,
-    reads: &[NodeId],
-) -> bool
-    ensures { result ≡ (not (is_cycle outcome.now) && not (some_marked_at nodes.now marks.now.marked reads.now)) }
+pub(crate) fn run_unmarks(nodes: &Nodes, marks: &Marks, outcome: &Outcome, reads: &[NodeId]) -> bool
+    ensures { result ≡ (not (is_cycle outcome.now) && not (some_marked_at nodes.now.items marks.now.marked reads.now)) }
 {
     !is_cycle(outcome) && !some_marked(nodes, marks, reads)
 }
 
 // Whether an end without a run takes the mark of a computed.
-fn unmarks(nodes: &[Node], generation: u128, marks: &Marks, computation: &Computation) -> bool
-    ensures { result ≡ stop_unmarks_by nodes.now generation marks.now.marked computation.now.memo }
+fn unmarks(nodes: &Nodes, generation: u128, marks: &Marks, computation: &Computation) -> bool
+    ensures { result ≡ stop_unmarks_by nodes.now.items generation marks.now.marked computation.now.memo }
 {
     !must_run(nodes, generation, computation)
         && !computation.holds_cycle()
@@ -57,9 +53,9 @@ fn unmarks(nodes: &[Node], generation: u128, marks: &Marks, computation: &Comput
 
 /// Whether an evaluation that ends without a run takes the mark of its computed: it needn't run, doesn't hold `cycle`, and keeps no
 /// marked computed.
-pub(crate) fn stop_unmarks(nodes: &[Node], generation: u128, marks: &Marks, id: NodeId) -> bool
-    requires { is_computed_body (body_at nodes.now id) ≡ true }
-    ensures { result ≡ stop_unmarks_by nodes.now generation marks.now.marked (memo_body (body_at nodes.now id)) }
+pub(crate) fn stop_unmarks(nodes: &Nodes, generation: u128, marks: &Marks, id: NodeId) -> bool
+    requires { is_computed_body (body_at nodes.now.items id) ≡ true }
+    ensures { result ≡ stop_unmarks_by nodes.now.items generation marks.now.marked (memo_body (body_at nodes.now.items id)) }
 {
     match computation_at(nodes, id) {
         Some(computation) => unmarks(nodes, generation, marks, computation),

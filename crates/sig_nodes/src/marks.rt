@@ -7,12 +7,13 @@ ghost use Rattle.sig_nodes.specs.Search.{is_due_at, HasDue};
 
 use crate::bodies::{computation_at, differs, seat_at};
 use crate::finds::Finds;
-use crate::node::{Computation, Node};
+use crate::node::Computation;
+use crate::nodes::Nodes;
 use sig_base::NodeId;
 
 // Whether one of the sources that a computed keeps has another number than the one that was read.
-fn some_moved(nodes: &[Node], computation: &Computation) -> bool
-    ensures { result ≡ some_moved (memos_of 0 nodes.now) [] (sources_in computation.now.memo) }
+fn some_moved(nodes: &Nodes, computation: &Computation) -> bool
+    ensures { result ≡ some_moved (memos_of 0 nodes.now.items) [] (sources_in computation.now.memo) }
 {
     for place in 0..computation.sources().len() {
         if has_moved(nodes, computation, place) {
@@ -22,8 +23,8 @@ fn some_moved(nodes: &[Node], computation: &Computation) -> bool
     false
 }
 
-fn has_moved(nodes: &[Node], computation: &Computation, place: usize) -> bool
-    ensures { result ≡ has_differed nodes.now (slice_get (sources_in computation.now.memo) place) }
+fn has_moved(nodes: &Nodes, computation: &Computation, place: usize) -> bool
+    ensures { result ≡ has_differed nodes.now.items (slice_get (sources_in computation.now.memo) place) }
 {
     match computation.source(place) {
         Some(source) => differs(nodes, source),
@@ -32,8 +33,8 @@ fn has_moved(nodes: &[Node], computation: &Computation, place: usize) -> bool
 }
 
 /// Whether a computed must run, while nothing is evaluated.
-pub(crate) fn must_run(nodes: &[Node], generation: u128, computation: &Computation) -> bool
-    ensures { result ≡ must_run_by (memos_of generation nodes.now) computation.now.memo [] }
+pub(crate) fn must_run(nodes: &Nodes, generation: u128, computation: &Computation) -> bool
+    ensures { result ≡ must_run_by (memos_of generation nodes.now.items) computation.now.memo [] }
 {
     if computation.is_stale(generation) {
         return true;
@@ -42,8 +43,8 @@ pub(crate) fn must_run(nodes: &[Node], generation: u128, computation: &Computati
 }
 
 /// Whether a computed stands there that must run.
-pub(crate) fn is_due(nodes: &[Node], generation: u128, id: NodeId) -> bool
-    ensures { result ≡ is_due_at nodes.now generation id }
+pub(crate) fn is_due(nodes: &Nodes, generation: u128, id: NodeId) -> bool
+    ensures { result ≡ is_due_at nodes.now.items generation id }
 {
     match computation_at(nodes, id) {
         Some(computation) => must_run(nodes, generation, computation),
@@ -52,9 +53,9 @@ pub(crate) fn is_due(nodes: &[Node], generation: u128, id: NodeId) -> bool
 }
 
 /// The seat of a computed, none where no computed stands.
-pub(crate) fn computed_seat(nodes: &[Node], id: NodeId) -> Option<usize>
-    ensures some { IfSome result (λ s. (is_computed_body (body_at nodes.now id) ≡ true) × (s ≡ seat_at nodes.now id)) }
-    ensures none { IfNone result (is_computed_body (body_at nodes.now id) ≡ false) }
+pub(crate) fn computed_seat(nodes: &Nodes, id: NodeId) -> Option<usize>
+    ensures some { IfSome result (λ s. (is_computed_body (body_at nodes.now.items id) ≡ true) × (s ≡ seat_at nodes.now.items id)) }
+    ensures none { IfNone result (is_computed_body (body_at nodes.now.items id) ≡ false) }
 {
     match computation_at(nodes, id) {
         Some(_) => Some(seat_at(nodes, id)),
@@ -64,18 +65,18 @@ pub(crate) fn computed_seat(nodes: &[Node], id: NodeId) -> Option<usize>
 
 /// Whether it is told without a search that a computed, or something below it, must run: a search has found it, or it must run itself.
 pub(crate) fn is_told(
-    nodes: &[Node],
+    nodes: &Nodes,
     generation: u128,
     worn: u128,
     id: NodeId,
     seat: usize,
     finds: &Finds,
 ) -> bool
-    requires live { is_computed_body (body_at nodes.now id) ≡ true }
-    requires seat { seat ≡ seat_at nodes.now id }
-    requires kept { KeepsFound nodes.now generation worn finds.now }
-    ensures due { result ≡ true → HasDue nodes.now generation id }
-    ensures calm { result ≡ false → is_due_at nodes.now generation id ≡ false }
+    requires live { is_computed_body (body_at nodes.now.items id) ≡ true }
+    requires seat { seat ≡ seat_at nodes.now.items id }
+    requires kept { KeepsFound nodes.now.items generation worn finds.now }
+    ensures due { result ≡ true → HasDue nodes.now.items generation id }
+    ensures calm { result ≡ false → is_due_at nodes.now.items generation id ≡ false }
 {
     finds.is_found(worn, seat) || is_due(nodes, generation, id)
 }

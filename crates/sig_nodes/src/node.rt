@@ -343,6 +343,7 @@ impl Computation {
 /// What lives in a node.
 #[derive(Drop)]
 pub(crate) enum Body {
+    /// Nothing. No node is kept of such a signal: clauses see this where there is none.
     Gone,
     /// A value, and the place of an equality rule.
     Cell(Value, Option<usize>),

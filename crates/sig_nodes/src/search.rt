@@ -14,15 +14,15 @@ use crate::answers::Mark;
 use crate::bodies::{seat_at, sources_at};
 use crate::finds::Finds;
 use crate::marks::{computed_seat, is_due, is_told};
-use crate::node::Node;
+use crate::nodes::Nodes;
 use crate::reached::Reached;
 use crate::trail::Trail;
 use sig_base::{MOST_NODES, NodeId};
 use sig_marks::Marks;
 
 // Whether a marked computed stands there whose seat isn't reached yet.
-fn is_new(nodes: &[Node], marks: &Marks, reached: &Reached, id: NodeId) -> bool
-    ensures { result ≡ is_new nodes.now marks.now.marked reached.now id }
+fn is_new(nodes: &Nodes, marks: &Marks, reached: &Reached, id: NodeId) -> bool
+    ensures { result ≡ is_new nodes.now.items marks.now.marked reached.now id }
 {
     if !marks.is_marked(id) {
         return false;
@@ -34,8 +34,8 @@ fn is_new(nodes: &[Node], marks: &Marks, reached: &Reached, id: NodeId) -> bool
 }
 
 // The first such one among the sources that a computed keeps.
-fn next_below(nodes: &[Node], marks: &Marks, reached: &Reached, id: NodeId) -> Option<NodeId>
-    ensures { result ≡ first_new nodes.now marks.now.marked reached.now (source_names (sources_in (memo_body (body_at nodes.now id)))) }
+fn next_below(nodes: &Nodes, marks: &Marks, reached: &Reached, id: NodeId) -> Option<NodeId>
+    ensures { result ≡ first_new nodes.now.items marks.now.marked reached.now (source_names (sources_in (memo_body (body_at nodes.now.items id)))) }
 {
     for source in sources_at(nodes, id) {
         if is_new(nodes, marks, reached, *source) {
@@ -46,12 +46,12 @@ fn next_below(nodes: &[Node], marks: &Marks, reached: &Reached, id: NodeId) -> O
 }
 
 // Goes to a computed, whose seat is reached from then on.
-fn go_to(nodes: &[Node], id: NodeId, reached: &mut Reached, trail: &mut Trail)
-    requires live { is_computed_body (body_at nodes.now id) ≡ true }
-    requires seats { AreSeated nodes.now MOST_NODES }
-    requires fresh { is_in (seat_at nodes.now id) reached.old ≡ false }
+fn go_to(nodes: &Nodes, id: NodeId, reached: &mut Reached, trail: &mut Trail)
+    requires live { is_computed_body (body_at nodes.now.items id) ≡ true }
+    requires seats { AreSeated nodes.now.items MOST_NODES }
+    requires fresh { is_in (seat_at nodes.now.items id) reached.old ≡ false }
     requires room { length trail.old ≤ length reached.old }
-    ensures reached { reached.new ≡ reached.old ++ seat_at nodes.now id ∷ [] }
+    ensures reached { reached.new ≡ reached.old ++ seat_at nodes.now.items id ∷ [] }
     ensures trail { trail.new ≡ id ∷ trail.old }
     ensures room { length reached.new ≤ MOST_NODES }
 {
@@ -62,7 +62,7 @@ fn go_to(nodes: &[Node], id: NodeId, reached: &mut Reached, trail: &mut Trail)
 // One turn at a computed that was left: goes to the next one below it, and tells whether that one, or something below it, must run; where
 // there is none, the search is through with the computed.
 fn turn(
-    nodes: &[Node],
+    nodes: &Nodes,
     generation: u128,
     worn: u128,
     marks: &Marks,
@@ -71,14 +71,14 @@ fn turn(
     reached: &mut Reached,
     trail: &mut Trail,
 ) -> bool
-    requires seats { AreSeated nodes.now MOST_NODES }
-    requires kept { KeepsFound nodes.now generation worn finds.now }
-    requires part { Reaches nodes.now marks.now.marked generation reached.old (id ∷ trail.old) }
+    requires seats { AreSeated nodes.now.items MOST_NODES }
+    requires kept { KeepsFound nodes.now.items generation worn finds.now }
+    requires part { Reaches nodes.now.items marks.now.marked generation reached.old (id ∷ trail.old) }
     requires room { length trail.old < length reached.old }
     requires most { length reached.old ≤ MOST_NODES }
-    ensures way { (root : ℕ) → IsWay nodes.now generation root (id ∷ trail.old) → IsWay nodes.now generation root trail.new }
-    ensures due { result ≡ true → (root : ℕ) → IsWay nodes.now generation root (id ∷ trail.old) → AreDue nodes.now generation trail.new × HasDue nodes.now generation root }
-    ensures part { result ≡ false → Reaches nodes.now marks.now.marked generation reached.new trail.new }
+    ensures way { (root : ℕ) → IsWay nodes.now.items generation root (id ∷ trail.old) → IsWay nodes.now.items generation root trail.new }
+    ensures due { result ≡ true → (root : ℕ) → IsWay nodes.now.items generation root (id ∷ trail.old) → AreDue nodes.now.items generation trail.new × HasDue nodes.now.items generation root }
+    ensures part { result ≡ false → Reaches nodes.now.items marks.now.marked generation reached.new trail.new }
     ensures more { (s : ℕ) → is_in s reached.old ≡ true → is_in s reached.new ≡ true }
     ensures room { length trail.new ≤ length reached.new }
     ensures most { length reached.new ≤ MOST_NODES }
@@ -94,7 +94,7 @@ fn turn(
 
 // Goes on from where the search is, and tells whether it comes to what must run. The trail leads there then, and else is empty.
 fn goes_to_due(
-    nodes: &[Node],
+    nodes: &Nodes,
     generation: u128,
     worn: u128,
     marks: &Marks,
@@ -102,13 +102,13 @@ fn goes_to_due(
     reached: &mut Reached,
     trail: &mut Trail,
 ) -> bool
-    requires seats { AreSeated nodes.now MOST_NODES }
-    requires kept { KeepsFound nodes.now generation worn finds.now }
-    requires part { Reaches nodes.now marks.now.marked generation reached.old trail.old }
+    requires seats { AreSeated nodes.now.items MOST_NODES }
+    requires kept { KeepsFound nodes.now.items generation worn finds.now }
+    requires part { Reaches nodes.now.items marks.now.marked generation reached.old trail.old }
     requires room { length trail.old ≤ length reached.old }
     requires most { length reached.old ≤ MOST_NODES }
-    ensures due { result ≡ true → (root : ℕ) → IsWay nodes.now generation root trail.old → AreDue nodes.now generation trail.new × HasDue nodes.now generation root }
-    ensures part { result ≡ false → Reaches nodes.now marks.now.marked generation reached.new [] }
+    ensures due { result ≡ true → (root : ℕ) → IsWay nodes.now.items generation root trail.old → AreDue nodes.now.items generation trail.new × HasDue nodes.now.items generation root }
+    ensures part { result ≡ false → Reaches nodes.now.items marks.now.marked generation reached.new [] }
     ensures more { (s : ℕ) → is_in s reached.old ≡ true → is_in s reached.new ≡ true }
 {
     while let Some(id) = trail.leave() {
@@ -120,9 +120,9 @@ fn goes_to_due(
 }
 
 // Notes that a computed, or something below it, must run.
-fn note(nodes: &[Node], worn: u128, id: NodeId, finds: &mut Finds)
-    requires { AreSeated nodes.now MOST_NODES }
-    ensures { (g : ℕ) → HasDue nodes.now g id → KeepsFound nodes.now g worn finds.old → KeepsFound nodes.now g worn finds.new }
+fn note(nodes: &Nodes, worn: u128, id: NodeId, finds: &mut Finds)
+    requires { AreSeated nodes.now.items MOST_NODES }
+    ensures { (g : ℕ) → HasDue nodes.now.items g id → KeepsFound nodes.now.items g worn finds.old → KeepsFound nodes.now.items g worn finds.new }
 {
     if let Some(seat) = computed_seat(nodes, id) {
         finds.note(worn, seat);
@@ -130,9 +130,9 @@ fn note(nodes: &[Node], worn: u128, id: NodeId, finds: &mut Finds)
 }
 
 // The same of all on a trail, which is empty then.
-fn note_all(nodes: &[Node], worn: u128, trail: &mut Trail, finds: &mut Finds)
-    requires { AreSeated nodes.now MOST_NODES }
-    ensures { (g : ℕ) → AreDue nodes.now g trail.old → KeepsFound nodes.now g worn finds.old → KeepsFound nodes.now g worn finds.new }
+fn note_all(nodes: &Nodes, worn: u128, trail: &mut Trail, finds: &mut Finds)
+    requires { AreSeated nodes.now.items MOST_NODES }
+    ensures { (g : ℕ) → AreDue nodes.now.items g trail.old → KeepsFound nodes.now.items g worn finds.old → KeepsFound nodes.now.items g worn finds.new }
 {
     while let Some(id) = trail.leave() {
         note(nodes, worn, id, finds);
@@ -140,10 +140,10 @@ fn note_all(nodes: &[Node], worn: u128, trail: &mut Trail, finds: &mut Finds)
 }
 
 // Begins at a computed.
-fn begin(nodes: &[Node], id: NodeId, reached: &mut Reached, trail: &mut Trail)
-    requires live { is_computed_body (body_at nodes.now id) ≡ true }
-    requires seats { AreSeated nodes.now MOST_NODES }
-    ensures reached { reached.new ≡ seat_at nodes.now id ∷ [] }
+fn begin(nodes: &Nodes, id: NodeId, reached: &mut Reached, trail: &mut Trail)
+    requires live { is_computed_body (body_at nodes.now.items id) ≡ true }
+    requires seats { AreSeated nodes.now.items MOST_NODES }
+    ensures reached { reached.new ≡ seat_at nodes.now.items id ∷ [] }
     ensures trail { trail.new ≡ id ∷ [] }
 {
     reached.clear();
@@ -154,7 +154,7 @@ fn begin(nodes: &[Node], id: NodeId, reached: &mut Reached, trail: &mut Trail)
 /// The mark of a marked computed. Where it is clean, all seats that the search came to are reached afterwards. What it found is noted by
 /// seat, with the count of changes at which it did, and isn't searched for anew until the next change.
 pub(crate) fn search(
-    nodes: &[Node],
+    nodes: &Nodes,
     generation: u128,
     worn: u128,
     marks: &Marks,
@@ -163,14 +163,14 @@ pub(crate) fn search(
     trail: &mut Trail,
     finds: &mut Finds,
 ) -> Mark
-    requires live { is_computed_body (body_at nodes.now id) ≡ true }
+    requires live { is_computed_body (body_at nodes.now.items id) ≡ true }
     requires marked { marked_at marks.now.marked id ≡ true }
-    requires marks { KeepsMarks nodes.now generation marks.now }
-    requires seats { AreSeated nodes.now MOST_NODES }
-    requires kept { KeepsFound nodes.now generation worn finds.old }
-    ensures mark { mark_meant result ≡ mark_of (signals_of nodes.now) (memos_of generation nodes.now) id }
-    ensures reached { result ≡ mark.Clean → Reaches nodes.now marks.now.marked generation reached.new [] }
-    ensures kept { KeepsFound nodes.now generation worn finds.new }
+    requires marks { KeepsMarks nodes.now.items generation marks.now }
+    requires seats { AreSeated nodes.now.items MOST_NODES }
+    requires kept { KeepsFound nodes.now.items generation worn finds.old }
+    ensures mark { mark_meant result ≡ mark_of (signals_of nodes.now.items) (memos_of generation nodes.now.items) id }
+    ensures reached { result ≡ mark.Clean → Reaches nodes.now.items marks.now.marked generation reached.new [] }
+    ensures kept { KeepsFound nodes.now.items generation worn finds.new }
 {
     if is_due(nodes, generation, id) {
         return Mark::Dirty;

@@ -47,6 +47,13 @@ impl Seats {
         self.free.len()
     }
 
+    /// Who has each seat.
+    pub(crate) fn holders(&self) -> &[Option<NodeId>]
+        ensures { result.now ≡ self.now.holders }
+    {
+        &self.holders
+    }
+
     /// Who has a seat.
     pub(crate) fn holder(&self, seat: usize) -> Option<NodeId>
         ensures { result ≡ holder self.now.holders seat }

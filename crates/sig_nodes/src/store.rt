@@ -1,13 +1,14 @@
-// The nodes of a graph, each at the place that is its id's number.
+// Edits of the nodes of a graph.
 ghost use Rattle.std.specs.Prelude.{◌≡◌, ℕ, ◌+◌, ◌<◌, ◌^◌, ◌++◌, ◌∷◌, [], List, length, take, true, false, None, Some, IfOk, IfSome, OnOk, slice_get};
 ghost use Rattle.std.specs.Option.{option_copied};
 ghost use Rattle.sig_nodes.specs.States.{GoesOn};
 ghost use Rattle.sig_nodes.specs.Answers.{expression_of, IsAnswerHere, IsJudgedAnswer};
 ghost use Rattle.sig_nodes.specs.Computations.{recipe_made};
-ghost use Rattle.sig_nodes.specs.Nodes.{body_at, change_at, changed_at, gone_node, is_cell_body, is_computed_body, known_body, known_node, rewired_node, run_node, set_node, slots_body, stands_of, value_body};
+ghost use Rattle.sig_nodes.specs.Nodes.{body_at, change_at, changed_at, is_cell_body, is_computed_body, known_body, known_node, rewired_node, run_node, set_node, slots_body, stands_of, value_body};
 
 use crate::answers::{Asked, Recipe};
 use crate::node::{Body, Memo, Node};
+use crate::nodes::Nodes;
 use sig_base::{Known, NoMemory, NodeId, Value};
 use std::alloc::Global;
 use std::mem;
@@ -27,15 +28,13 @@ fn set_value(node: &mut Node, value: Value) -> Value
 }
 
 /// Gives a cell another value, and gives back the one before.
-pub(crate) fn set_value_at(nodes: &mut Vec<Node>, id: NodeId, value: Value) -> Value
-    requires place { id < length nodes.old.items }
+pub(crate) fn set_value_at(nodes: &mut Nodes, id: NodeId, value: Value) -> Value
     requires live { is_cell_body (body_at nodes.old.items id) ≡ true }
     requires worn { change_at nodes.old.items id + 1 < 2 ^ 128 }
     ensures nodes { nodes.new.items ≡ changed_at (set_node value) id nodes.old.items }
     ensures before { value_body (body_at nodes.old.items id) ≡ Some result }
 {
-    let _count = nodes.len();
-    set_value(&mut nodes[id.number() as usize], value)
+    set_value(nodes.node_mut(id), value)
 }
 
 // Keeps a run in a computed's node, whose number rises where the outcome is another.
@@ -56,14 +55,12 @@ fn keep_memo(node: &mut Node, memo: Memo)
 }
 
 /// Keeps a run of a computed, which ends its evaluation.
-pub(crate) fn keep_memo_at(nodes: &mut Vec<Node>, id: NodeId, memo: Memo)
-    requires place { id < length nodes.old.items }
+pub(crate) fn keep_memo_at(nodes: &mut Nodes, id: NodeId, memo: Memo)
     requires live { is_computed_body (body_at nodes.old.items id) ≡ true }
     requires worn { change_at nodes.old.items id + 1 < 2 ^ 128 }
     ensures { nodes.new.items ≡ changed_at (run_node memo) id nodes.old.items }
 {
-    let _count = nodes.len();
-    keep_memo(&mut nodes[id.number() as usize], memo);
+    keep_memo(nodes.node_mut(id), memo);
 }
 
 // Gives a computed's node another recipe.
@@ -80,30 +77,12 @@ fn rewire(node: &mut Node, recipe: Recipe, slots: Vec<NodeId>)
 }
 
 /// Gives a computed another recipe.
-pub(crate) fn rewire_at(nodes: &mut Vec<Node>, id: NodeId, recipe: Recipe, slots: Vec<NodeId>)
-    requires place { id < length nodes.old.items }
+pub(crate) fn rewire_at(nodes: &mut Nodes, id: NodeId, recipe: Recipe, slots: Vec<NodeId>)
     requires live { is_computed_body (body_at nodes.old.items id) ≡ true }
     requires worn { change_at nodes.old.items id + 1 < 2 ^ 128 }
     ensures { nodes.new.items ≡ changed_at (rewired_node (recipe_made (expression_of recipe) slots.items)) id nodes.old.items }
 {
-    let _count = nodes.len();
-    rewire(&mut nodes[id.number() as usize], recipe, slots);
-}
-
-// Takes what lives in a node away.
-fn empty(node: &mut Node)
-    ensures { node.new ≡ gone_node node.old }
-{
-    node.body = Body::Gone;
-}
-
-/// Takes a signal away.
-pub(crate) fn dispose_at(nodes: &mut Vec<Node>, id: NodeId)
-    requires { id < length nodes.old.items }
-    ensures { nodes.new.items ≡ changed_at gone_node id nodes.old.items }
-{
-    let _count = nodes.len();
-    empty(&mut nodes[id.number() as usize]);
+    rewire(nodes.node_mut(id), recipe, slots);
 }
 
 // Begins the evaluation of a computed's node.
@@ -118,13 +97,11 @@ fn begin(node: &mut Node)
 }
 
 /// Begins the evaluation of a computed.
-pub(crate) fn begin_at(nodes: &mut Vec<Node>, id: NodeId)
-    requires place { id < length nodes.old.items }
-    requires live { is_computed_body (body_at nodes.old.items id) ≡ true }
+pub(crate) fn begin_at(nodes: &mut Nodes, id: NodeId)
+    requires { is_computed_body (body_at nodes.old.items id) ≡ true }
     ensures { nodes.new.items ≡ changed_at (known_node (Some [])) id nodes.old.items }
 {
-    let _count = nodes.len();
-    begin(&mut nodes[id.number() as usize]);
+    begin(nodes.node_mut(id));
 }
 
 // Ends the evaluation of a computed's node.
@@ -139,13 +116,11 @@ fn end(node: &mut Node)
 }
 
 /// Ends the evaluation of a computed.
-pub(crate) fn end_at(nodes: &mut Vec<Node>, id: NodeId)
-    requires place { id < length nodes.old.items }
-    requires live { is_computed_body (body_at nodes.old.items id) ≡ true }
+pub(crate) fn end_at(nodes: &mut Nodes, id: NodeId)
+    requires { is_computed_body (body_at nodes.old.items id) ≡ true }
     ensures { nodes.new.items ≡ changed_at (known_node None) id nodes.old.items }
 {
-    let _count = nodes.len();
-    end(&mut nodes[id.number() as usize]);
+    end(nodes.node_mut(id));
 }
 
 // Asks the recipe of a computed's node.
@@ -168,18 +143,16 @@ fn ask(alloc: Global, node: &mut Node, known: &[Known]) -> Result<Asked, NoMemor
 /// Asks a computed's recipe with the values known so far, of which the earlier ones are noted already, and notes the others.
 pub(crate) fn ask_at(
     alloc: Global,
-    nodes: &mut Vec<Node>,
+    nodes: &mut Nodes,
     id: NodeId,
     known: &[Known],
 ) -> Result<Asked, NoMemory>
-    requires place { id < length nodes.old.items }
-    requires known { GoesOn (known_body (body_at nodes.old.items id)) known.now }
+    requires { GoesOn (known_body (body_at nodes.old.items id)) known.now }
     ensures kept { nodes.new.items ≡ changed_at (known_node (known_body (body_at nodes.new.items id))) id nodes.old.items }
     ensures noted { OnOk result (known_body (body_at nodes.new.items id) ≡ Some known.now) }
     ensures answer { IfOk result (λ a. IsAnswerHere (stands_of id (body_at nodes.old.items id)) known.now a) }
     ensures judged { IfOk result (λ a. IsJudgedAnswer (length (slots_body (body_at nodes.old.items id))) known.now a) }
 {
-    let _count = nodes.len();
-    let answer = ask(alloc, &mut nodes[id.number() as usize], known)?;
+    let answer = ask(alloc, nodes.node_mut(id), known)?;
     Ok(answer)
 }

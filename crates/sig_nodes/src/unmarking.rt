@@ -6,14 +6,14 @@ ghost use Rattle.sig_nodes.specs.Search.{is_seated, of_holder, search_unmarks, s
 ghost use Rattle.sig_nodes.specs.Seats.{holder};
 
 use crate::bodies::computation_at;
-use crate::node::Node;
+use crate::nodes::Nodes;
 use crate::seats::Seats;
 use sig_base::NodeId;
 use sig_marks::Marks;
 
 // Whether a signal keeps its mark though nothing below it must run: it is being evaluated, or holds `cycle`.
-fn stays_marked(nodes: &[Node], id: NodeId) -> bool
-    ensures { result ≡ stays_marked nodes.now id }
+fn stays_marked(nodes: &Nodes, id: NodeId) -> bool
+    ensures { result ≡ stays_marked nodes.now.items id }
 {
     match computation_at(nodes, id) {
         Some(computation) => computation.is_computing() || computation.holds_cycle(),
@@ -22,8 +22,8 @@ fn stays_marked(nodes: &[Node], id: NodeId) -> bool
 }
 
 // Whether who has a seat does; of a free seat nobody.
-fn holder_stays(nodes: &[Node], seats: &Seats, seat: usize) -> bool
-    ensures { result ≡ of_holder (stays_marked nodes.now) (holder seats.now.holders seat) }
+fn holder_stays(nodes: &Nodes, seats: &Seats, seat: usize) -> bool
+    ensures { result ≡ of_holder (stays_marked nodes.now.items) (holder seats.now.holders seat) }
 {
     match seats.holder(seat) {
         Some(id) => stays_marked(nodes, id),
@@ -32,8 +32,8 @@ fn holder_stays(nodes: &[Node], seats: &Seats, seat: usize) -> bool
 }
 
 // Whether one of those who have these seats does.
-fn some_stays(nodes: &[Node], seats: &Seats, reached: &[usize]) -> bool
-    ensures { result ≡ some_seated (stays_marked nodes.now) reached.now seats.now.holders }
+fn some_stays(nodes: &Nodes, seats: &Seats, reached: &[usize]) -> bool
+    ensures { result ≡ some_seated (stays_marked nodes.now.items) reached.now seats.now.holders }
 {
     for seat in reached {
         if holder_stays(nodes, seats, *seat) {
@@ -69,10 +69,10 @@ fn unmark_all(seats: &Seats, marks: &mut Marks, reached: &[usize])
 }
 
 /// Takes the marks of all whose seats a search came to: of all, or where one of them is being evaluated or holds `cycle`, of none.
-pub(crate) fn unmark_reached(nodes: &[Node], seats: &Seats, marks: &mut Marks, reached: &[usize])
+pub(crate) fn unmark_reached(nodes: &Nodes, seats: &Seats, marks: &mut Marks, reached: &[usize])
     requires { (seat n : ℕ) → holder seats.now.holders seat ≡ Some n → n < length marks.old.marked }
     ensures marks { (n : ℕ) → marked_at marks.new.marked n ≡
-        without_marks (marked_at marks.old.marked) (search_unmarks nodes.now reached.now seats.now.holders) n }
+        without_marks (marked_at marks.old.marked) (search_unmarks nodes.now.items reached.now seats.now.holders) n }
     ensures size { length marks.new.marked ≡ length marks.old.marked }
     ensures dependants { marks.new.dependants ≡ marks.old.dependants }
 {

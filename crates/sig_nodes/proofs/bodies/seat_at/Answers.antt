@@ -1,9 +1,6 @@
-use Rattle.std.proofs.Common.{sym, ap, ◌∙◌}
-use Rattle.sig_nodes.specs.declared.node.Node.{Node}
-use Rattle.sig_nodes.proofs.Edits.{seat_read}
+use Rattle.std.proofs.Common.{sym}
+use Rattle.sig_nodes.proofs.Edits.{seat_got}
 use Rattle.sig_nodes.proofs.bodies.seat_at.Goals as goal
 
-pub returns : goal.returns
-returns c =
-    ap (λ (x : Node). x.seat) (sym c.index-nodes-number.is)
-    ∙ seat_read c.args.nodes.now c.args.id c.number.result c.index-nodes-number.result c.number.ensures c.requires c.index-nodes-number.is
+pub returns-in-Some : goal.returns-in-Some
+returns-in-Some c = sym (seat_got c.args.nodes.now.items c.args.id c.in-Some.node.now c.in-Some.ensures.some)

@@ -1,6 +1,7 @@
 use Rattle.std.proofs.Common.{◌≡◌, drop}
-use Rattle.sig_nodes.specs.Nodes.{some_asks_body}
+use Rattle.sig_nodes.specs.Nodes.{asks_host_here}
+use Rattle.sig_nodes.specs.Search.{some_holder}
 use Rattle.sig_nodes.proofs.bodies.uses_host.Given as goal
 
-abbrev pub invariant-loop-node : goal.invariant-loop-node
-invariant-loop-node l = some_asks_body l.place (drop l.node-index l.nodes) ≡ some_asks_body l.place l.nodes
+abbrev pub invariant-loop-holder : goal.invariant-loop-holder
+invariant-loop-holder l = some_holder (asks_host_here l.place l.nodes.items) (drop l.holder-index l.holder-items) ≡ some_holder (asks_host_here l.place l.nodes.items) l.holder-items

@@ -7,8 +7,8 @@ use Rattle.sig_nodes.proofs.marks.is_due.Goals as goal
 
 pub returns-in-Some : goal.returns-in-Some
 returns-in-Some c =
-    let k = memos_of c.args.generation c.args.nodes.now in
-    c.must_run.ensures ∙ sym (due_found c.args.nodes.now c.args.generation c.args.id ∙ ap (λ (b : Body). is_computed_body b && must_run_by k (memo_body b) []) c.in-Some.ensures.some)
+    let k = memos_of c.args.generation c.args.nodes.now.items in
+    c.must_run.ensures ∙ sym (due_found c.args.nodes.now.items c.args.generation c.args.id ∙ ap (λ (b : Body). is_computed_body b && must_run_by k (memo_body b) []) c.in-Some.ensures.some)
 
 pub returns-in-None : goal.returns-in-None
-returns-in-None c = sym (due_computed c.args.nodes.now c.args.generation c.args.id c.in-None.ensures.none)
+returns-in-None c = sym (due_computed c.args.nodes.now.items c.args.generation c.args.id c.in-None.ensures.none)

@@ -1,11 +1,7 @@
 use Rattle.std.proofs.Common.{◌<◌, ◌∷◌, [], ◌++◌, ℕ, List, length, length-append, ap, sym, ◌∙◌, subst, arith}
 use Rattle.signal_model.specs.Standing.{is_in}
 use Rattle.sig_base.specs.declared.limits.TheConstants.{MOST_NODES}
-use Rattle.sig_nodes.proofs.Holding.{computed_below}
 use Rattle.sig_nodes.proofs.search.go_to.Goals as goal
-
-pub seat_at-requires : goal.seat_at-requires
-seat_at-requires c = computed_below c.args.nodes.now c.args.id c.requires.live
 
 pub add-requires-clause-inside : goal.add-requires-clause-inside
 add-requires-clause-inside c = subst (λ s. s < MOST_NODES) (sym c.seat_at.ensures) (c.requires.seats.below c.args.id c.requires.live)

@@ -4,7 +4,7 @@ use Rattle.sig_nodes.proofs.search.goes_to_due.Goals as goal
 
 pub turn-requires-clause-part : goal.turn-requires-clause-part
 turn-requires-clause-part c =
-    subst (λ (ns : List ℕ). Reaches c.args.nodes.now c.args.marks.now.marked c.args.generation c.loop-id.reached ns) c.in-Some.ensures.some c.loop-id.invariant.part
+    subst (λ (ns : List ℕ). Reaches c.args.nodes.now.items c.args.marks.now.marked c.args.generation c.loop-id.reached ns) c.in-Some.ensures.some c.loop-id.invariant.part
 
 pub turn-requires-clause-room : goal.turn-requires-clause-room
 turn-requires-clause-room c =
@@ -14,7 +14,7 @@ turn-requires-clause-room c =
 
 pub returns-then-turn-clause-due : goal.returns-then-turn-clause-due
 returns-then-turn-clause-due c = λ told root way.
-    c.turn.ensures.due c.if-turn.true root (subst (λ (ns : List ℕ). IsWay c.args.nodes.now c.args.generation root ns) c.in-Some.ensures.some (c.loop-id.invariant.way root way))
+    c.turn.ensures.due c.if-turn.true root (subst (λ (ns : List ℕ). IsWay c.args.nodes.now.items c.args.generation root ns) c.in-Some.ensures.some (c.loop-id.invariant.way root way))
 
 pub returns-then-turn-clause-more : goal.returns-then-turn-clause-more
 returns-then-turn-clause-more c = λ s listed. c.turn.ensures.more s (c.loop-id.invariant.more s listed)
@@ -24,7 +24,7 @@ loop-id-preserved c =
     let inv = c.loop-id.invariant in
     let step = c.turn.ensures in
     record {
-      way = λ root way. step.way root (subst (λ (ns : List ℕ). IsWay c.args.nodes.now c.args.generation root ns) c.in-Some.ensures.some (inv.way root way));
+      way = λ root way. step.way root (subst (λ (ns : List ℕ). IsWay c.args.nodes.now.items c.args.generation root ns) c.in-Some.ensures.some (inv.way root way));
       part = step.part c.if-turn.false;
       more = λ s listed. step.more s (inv.more s listed);
       room = step.room;
@@ -33,4 +33,4 @@ loop-id-preserved c =
 
 pub returns-clause-part : goal.returns-clause-part
 returns-clause-part c = λ calm.
-    subst (λ (ns : List ℕ). Reaches c.args.nodes.now c.args.marks.now.marked c.args.generation c.loop-id.reached ns) c.in_default.ensures.none c.loop-id.invariant.part
+    subst (λ (ns : List ℕ). Reaches c.args.nodes.now.items c.args.marks.now.marked c.args.generation c.loop-id.reached ns) c.in_default.ensures.none c.loop-id.invariant.part

@@ -6,8 +6,8 @@ use Rattle.sig_nodes.proofs.search.goes_to_due.Given as goal
 
 abbrev pub invariant-loop-id : goal.invariant-loop-id
 invariant-loop-id l = record {
-  way : (root : ℕ) → IsWay l.nodes l.generation root l.fn.trail → IsWay l.nodes l.generation root l.trail;
-  part : Reaches l.nodes l.marks.marked l.generation l.reached l.trail;
+  way : (root : ℕ) → IsWay l.nodes.items l.generation root l.fn.trail → IsWay l.nodes.items l.generation root l.trail;
+  part : Reaches l.nodes.items l.marks.marked l.generation l.reached l.trail;
   more : (s : ℕ) → is_in s l.fn.reached ≡ true → is_in s l.reached ≡ true;
   room : length l.trail ≤ length l.reached;
   most : length l.reached ≤ MOST_NODES;

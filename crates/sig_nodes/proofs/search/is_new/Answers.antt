@@ -5,12 +5,12 @@ use Rattle.sig_nodes.proofs.search.is_new.Goals as goal
 
 pub returns-then-not-is_marked : goal.returns-then-not-is_marked
 returns-then-not-is_marked c =
-    let xs = c.args.nodes.now in
+    let xs = c.args.nodes.now.items in
     sym (ap (λ b. b && (is_computed_body (body_at xs c.args.id) && not (is_in (seat_at xs c.args.id) c.args.reached.now))) (sym c.is_marked.ensures ∙ c.if-not-is_marked.true))
 
 pub returns-in-Some : goal.returns-in-Some
 returns-in-Some c =
-    let xs = c.args.nodes.now in
+    let xs = c.args.nodes.now.items in
     let on = sym c.is_marked.ensures ∙ c.if-not-is_marked.false in
     let some = c.in-Some.ensures.some in
     ap not (c.has.ensures ∙ ap (λ s. is_in s c.args.reached.now) some.1)
@@ -18,7 +18,7 @@ returns-in-Some c =
 
 pub returns-in-None : goal.returns-in-None
 returns-in-None c =
-    let xs = c.args.nodes.now in
+    let xs = c.args.nodes.now.items in
     let on = sym c.is_marked.ensures ∙ c.if-not-is_marked.false in
     let none = c.in-None.ensures.none in
     sym (λ i. on i && (none i && not (is_in (seat_at xs c.args.id) c.args.reached.now)))

@@ -5,7 +5,7 @@ use Rattle.sig_nodes.proofs.search.next_below.Goals as goal
 
 pub returns-then-is_new : goal.returns-then-is_new
 returns-then-is_new c =
-    let xs = c.args.nodes.now in
+    let xs = c.args.nodes.now.items in
     let t = c.args.marks.now.marked in
     let ss = c.args.reached.now in
     let items = c.sources_at-source-items.result.now in
@@ -17,7 +17,7 @@ returns-then-is_new c =
 
 pub loop-source-preserved : goal.loop-source-preserved
 loop-source-preserved c =
-    let xs = c.args.nodes.now in
+    let xs = c.args.nodes.now.items in
     let t = c.args.marks.now.marked in
     let ss = c.args.reached.now in
     let items = c.sources_at-source-items.result.now in
@@ -29,7 +29,7 @@ loop-source-preserved c =
 
 pub returns : goal.returns
 returns c =
-    let xs = c.args.nodes.now in
+    let xs = c.args.nodes.now.items in
     let t = c.args.marks.now.marked in
     let ss = c.args.reached.now in
     let items = c.sources_at-source-items.result.now in

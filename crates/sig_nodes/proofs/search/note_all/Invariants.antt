@@ -4,7 +4,7 @@ use Rattle.sig_nodes.specs.Search.{AreDue}
 use Rattle.sig_nodes.proofs.search.note_all.Given as goal
 
 abbrev pub invariant-loop-id : goal.invariant-loop-id
-invariant-loop-id l = (g : ℕ) → AreDue l.nodes g l.fn.trail → KeepsFound l.nodes g l.worn l.fn.finds → AreDue l.nodes g l.trail × KeepsFound l.nodes g l.worn l.finds
+invariant-loop-id l = (g : ℕ) → AreDue l.nodes.items g l.fn.trail → KeepsFound l.nodes.items g l.worn l.fn.finds → AreDue l.nodes.items g l.trail × KeepsFound l.nodes.items g l.worn l.finds
 
 abbrev pub decreases-loop-id : goal.decreases-loop-id
 decreases-loop-id l = length l.trail

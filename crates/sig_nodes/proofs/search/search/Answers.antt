@@ -3,18 +3,14 @@ use Rattle.std.proofs.lemmas.Bool.{eq-eqb}
 use Rattle.signal_model.specs.Standing.{is_in}
 use Rattle.sig_nodes.specs.Nodes.{seat_at}
 use Rattle.sig_nodes.specs.Search.{found_at, IsWay, Reaches}
-use Rattle.sig_nodes.proofs.Holding.{computed_below}
 use Rattle.sig_nodes.proofs.KeptFinds.{found_below}
 use Rattle.sig_nodes.proofs.Reaching.{reach_begin, reached_clean}
 use Rattle.sig_nodes.proofs.Searching.{checked_mark}
 use Rattle.sig_nodes.proofs.search.search.Goals as goal
 
-pub seat_at-requires : goal.seat_at-requires
-seat_at-requires c = computed_below c.args.nodes.now c.args.id c.requires.live
-
 pub returns-then-is_found-clause-mark : goal.returns-then-is_found-clause-mark
 returns-then-is_found-clause-mark c =
-    let xs = c.args.nodes.now in
+    let xs = c.args.nodes.now.items in
     let g = c.args.generation in
     let calm = sym c.is_due.ensures ∙ c.if-is_due.false in
     let due = c.requires.kept.due c.args.id c.requires.live (ap (found_at c.args.finds.now) (sym c.seat_at.ensures) ∙ c.is_found.ensures c.if-is_found.true) in
@@ -22,7 +18,7 @@ returns-then-is_found-clause-mark c =
 
 pub goes_to_due-requires-clause-part : goal.goes_to_due-requires-clause-part
 goes_to_due-requires-clause-part c =
-    let xs = c.args.nodes.now in
+    let xs = c.args.nodes.now.items in
     let g = c.args.generation in
     let t = c.args.marks.now.marked in
     let calm = sym c.is_due.ensures ∙ c.if-is_due.false in
@@ -42,12 +38,12 @@ goes_to_due-requires-clause-most c =
 
 pub returns-then-goes_to_due-clause-kept : goal.returns-then-goes_to_due-clause-kept
 returns-then-goes_to_due-clause-kept c =
-    let way = subst (λ (ns : List ℕ). IsWay c.args.nodes.now c.args.generation c.args.id ns) (sym c.begin.ensures.trail) refl in
+    let way = subst (λ (ns : List ℕ). IsWay c.args.nodes.now.items c.args.generation c.args.id ns) (sym c.begin.ensures.trail) refl in
     c.note_all.ensures c.args.generation (c.goes_to_due.ensures.due c.if-goes_to_due.true c.args.id way).0 c.requires.kept
 
 pub returns-then-goes_to_due-clause-mark : goal.returns-then-goes_to_due-clause-mark
 returns-then-goes_to_due-clause-mark c =
-    let xs = c.args.nodes.now in
+    let xs = c.args.nodes.now.items in
     let g = c.args.generation in
     let calm = sym c.is_due.ensures ∙ c.if-is_due.false in
     let way = subst (λ (ns : List ℕ). IsWay xs g c.args.id ns) (sym c.begin.ensures.trail) refl in
@@ -55,7 +51,7 @@ returns-then-goes_to_due-clause-mark c =
 
 pub returns-clause-mark : goal.returns-clause-mark
 returns-clause-mark c =
-    let xs = c.args.nodes.now in
+    let xs = c.args.nodes.now.items in
     let calm = sym c.is_due.ensures ∙ c.if-is_due.false in
     let here = subst (λ (ss : List ℕ). is_in (seat_at xs c.args.id) ss ≡ true) (sym c.begin.ensures.reached) (ap (λ b. b || false) (eq-eqb (seat_at xs c.args.id) (seat_at xs c.args.id) refl)) in
     reached_clean xs c.args.generation c.args.marks.now c.args.id c.goes_to_due.new.reached c.requires.marks c.requires.live calm (c.goes_to_due.ensures.part c.if-goes_to_due.false)

@@ -3,7 +3,6 @@ use Rattle.signal_model.specs.Standing.{is_in}
 use Rattle.signal_model.specs.Memos.{source_names, sources_in}
 use Rattle.sig_nodes.specs.Nodes.{body_at, memo_body, seat_at}
 use Rattle.sig_nodes.specs.Search.{AreDue, IsWay, Reaches}
-use Rattle.sig_nodes.proofs.Holding.{computed_below}
 use Rattle.sig_nodes.proofs.Reaching.{first_found, keeps_name, listed_more, none_found, reach_left, reach_next, way_due}
 use Rattle.sig_nodes.proofs.search.turn.Goals as goal
 
@@ -15,7 +14,7 @@ enter-requires c =
 
 pub returns-in_default-clause-part : goal.returns-in_default-clause-part
 returns-in_default-clause-part c = λ none.
-    let xs = c.args.nodes.now in
+    let xs = c.args.nodes.now.items in
     let g = c.args.generation in
     let t = c.args.marks.now.marked in
     let ss = c.args.reached.now in
@@ -24,12 +23,12 @@ returns-in_default-clause-part c = λ none.
 
 pub go_to-requires-clause-live : goal.go_to-requires-clause-live
 go_to-requires-clause-live c =
-    let xs = c.args.nodes.now in
+    let xs = c.args.nodes.now.items in
     (first_found xs c.args.marks.now.marked c.args.reached.now (source_names (sources_in (memo_body (body_at xs c.args.id)))) c.in-Some.next c.in-Some.ensures).live
 
 pub go_to-requires-clause-fresh : goal.go_to-requires-clause-fresh
 go_to-requires-clause-fresh c =
-    let xs = c.args.nodes.now in
+    let xs = c.args.nodes.now.items in
     (first_found xs c.args.marks.now.marked c.args.reached.now (source_names (sources_in (memo_body (body_at xs c.args.id)))) c.in-Some.next c.in-Some.ensures).fresh
 
 pub go_to-requires-clause-room : goal.go_to-requires-clause-room
@@ -38,19 +37,14 @@ go_to-requires-clause-room c =
     let room = c.requires.room in
     omega (arith, len, room)
 
-pub seat_at-requires : goal.seat_at-requires
-seat_at-requires c =
-    let xs = c.args.nodes.now in
-    computed_below xs c.in-Some.next (first_found xs c.args.marks.now.marked c.args.reached.now (source_names (sources_in (memo_body (body_at xs c.args.id)))) c.in-Some.next c.in-Some.ensures).live
-
 pub is_told-requires-clause-live : goal.is_told-requires-clause-live
 is_told-requires-clause-live c =
-    let xs = c.args.nodes.now in
+    let xs = c.args.nodes.now.items in
     (first_found xs c.args.marks.now.marked c.args.reached.now (source_names (sources_in (memo_body (body_at xs c.args.id)))) c.in-Some.next c.in-Some.ensures).live
 
 pub returns-clause-way : goal.returns-clause-way
 returns-clause-way c = λ root way.
-    let xs = c.args.nodes.now in
+    let xs = c.args.nodes.now.items in
     let g = c.args.generation in
     let new = first_found xs c.args.marks.now.marked c.args.reached.now (source_names (sources_in (memo_body (body_at xs c.args.id)))) c.in-Some.next c.in-Some.ensures in
     let trail = c.go_to.ensures.trail ∙ ap (λ (ns : List ℕ). c.in-Some.next ∷ ns) c.enter.ensures in
@@ -58,7 +52,7 @@ returns-clause-way c = λ root way.
 
 pub returns-clause-due : goal.returns-clause-due
 returns-clause-due c = λ told root way.
-    let xs = c.args.nodes.now in
+    let xs = c.args.nodes.now.items in
     let g = c.args.generation in
     let new = first_found xs c.args.marks.now.marked c.args.reached.now (source_names (sources_in (memo_body (body_at xs c.args.id)))) c.in-Some.next c.in-Some.ensures in
     let trail = c.go_to.ensures.trail ∙ ap (λ (ns : List ℕ). c.in-Some.next ∷ ns) c.enter.ensures in
@@ -67,7 +61,7 @@ returns-clause-due c = λ told root way.
 
 pub returns-clause-part : goal.returns-clause-part
 returns-clause-part c = λ calm.
-    let xs = c.args.nodes.now in
+    let xs = c.args.nodes.now.items in
     let g = c.args.generation in
     let t = c.args.marks.now.marked in
     let ss = c.args.reached.now in
@@ -80,17 +74,17 @@ returns-clause-part c = λ calm.
 
 pub returns-clause-more : goal.returns-clause-more
 returns-clause-more c = λ s listed.
-    subst (λ (ss : List ℕ). is_in s ss ≡ true) (sym c.go_to.ensures.reached) (listed_more s (seat_at c.args.nodes.now c.in-Some.next) c.args.reached.now listed)
+    subst (λ (ss : List ℕ). is_in s ss ≡ true) (sym c.go_to.ensures.reached) (listed_more s (seat_at c.args.nodes.now.items c.in-Some.next) c.args.reached.now listed)
 
 pub returns-clause-room : goal.returns-clause-room
 returns-clause-room c =
     let trail = ap (λ (ns : List ℕ). length ns) (c.go_to.ensures.trail ∙ ap (λ (ns : List ℕ). c.in-Some.next ∷ ns) c.enter.ensures) in
-    let reached = ap (λ (ss : List ℕ). length ss) c.go_to.ensures.reached ∙ length-append c.args.reached.now (seat_at c.args.nodes.now c.in-Some.next ∷ []) in
+    let reached = ap (λ (ss : List ℕ). length ss) c.go_to.ensures.reached ∙ length-append c.args.reached.now (seat_at c.args.nodes.now.items c.in-Some.next ∷ []) in
     let room = c.requires.room in
     omega (arith, trail, reached, room)
 
 pub returns-clause-steps : goal.returns-clause-steps
 returns-clause-steps c =
     let trail = ap (λ (ns : List ℕ). length ns) (c.go_to.ensures.trail ∙ ap (λ (ns : List ℕ). c.in-Some.next ∷ ns) c.enter.ensures) in
-    let reached = ap (λ (ss : List ℕ). length ss) c.go_to.ensures.reached ∙ length-append c.args.reached.now (seat_at c.args.nodes.now c.in-Some.next ∷ []) in
+    let reached = ap (λ (ss : List ℕ). length ss) c.go_to.ensures.reached ∙ length-append c.args.reached.now (seat_at c.args.nodes.now.items c.in-Some.next ∷ []) in
     omega (arith, trail, reached)

@@ -3,4 +3,4 @@ use Rattle.sig_nodes.specs.Search.{some_seated, stays_marked}
 use Rattle.sig_nodes.proofs.unmarking.some_stays.Given as goal
 
 abbrev pub invariant-loop-seat : goal.invariant-loop-seat
-invariant-loop-seat l = some_seated (stays_marked l.nodes) (drop l.seat-index l.reached) l.seats.holders ≡ some_seated (stays_marked l.nodes) l.reached l.seats.holders
+invariant-loop-seat l = some_seated (stays_marked l.nodes.items) (drop l.seat-index l.reached) l.seats.holders ≡ some_seated (stays_marked l.nodes.items) l.reached l.seats.holders

@@ -11,11 +11,8 @@ use Rattle.sig_nodes.proofs.Holding.{became, computed_below, computed_here, know
 use Rattle.sig_nodes.proofs.Looking.{begun_here}
 use Rattle.sig_nodes.proofs.graph.Graph.begin.Goals as goal
 
-pub begin_at-requires-clause-place : goal.begin_at-requires-clause-place
-begin_at-requires-clause-place c = let live = computed_here c.self.inside.nodes.items c.args.id (ap (λ (s : Seen). is_computed (standing s.state.signals c.args.id)) c.self.view_is ∙ c.requires.live) in computed_below c.self.inside.nodes.items c.args.id live
-
-pub begin_at-requires-clause-live : goal.begin_at-requires-clause-live
-begin_at-requires-clause-live c = computed_here c.self.inside.nodes.items c.args.id (ap (λ (s : Seen). is_computed (standing s.state.signals c.args.id)) c.self.view_is ∙ c.requires.live)
+pub begin_at-requires : goal.begin_at-requires
+begin_at-requires c = computed_here c.self.inside.nodes.items c.args.id (ap (λ (s : Seen). is_computed (standing s.state.signals c.args.id)) c.self.view_is ∙ c.requires.live)
 
 pub push-requires : goal.push-requires
 push-requires c =

@@ -20,9 +20,6 @@ use Rattle.sig_nodes.specs.Computations.{paired}
 use Rattle.sig_nodes.proofs.Looking.{names_now, paired_here}
 use Rattle.sig_nodes.proofs.graph.Graph.keep_run.Goals as goal
 
-pub keep_memo_at-requires-clause-place : goal.keep_memo_at-requires-clause-place
-keep_memo_at-requires-clause-place c = let live = computing_here (body_at c.self.inside.nodes.items c.args.id) (sym (ap is_some (progress_found c.self.inside.nodes.items c.args.id)) ∙ ap (λ (s : Seen). is_computing s.state c.args.id) c.self.view_is ∙ c.requires.computing) in computed_below c.self.inside.nodes.items c.args.id live
-
 pub keep_memo_at-requires-clause-live : goal.keep_memo_at-requires-clause-live
 keep_memo_at-requires-clause-live c = computing_here (body_at c.self.inside.nodes.items c.args.id) (sym (ap is_some (progress_found c.self.inside.nodes.items c.args.id)) ∙ ap (λ (s : Seen). is_computing s.state c.args.id) c.self.view_is ∙ c.requires.computing)
 
@@ -30,7 +27,7 @@ pub relink-requires-clause-sources : goal.relink-requires-clause-sources
 relink-requires-clause-sources c =
     let xs = c.self.inside.nodes.items in
     let t = c.self.inside.marks in
-    let names = c.sources_at.ensures ∙ ap (λ (ys : List Node). kept_names ys c.args.id) c.deref-3.ensures.value in
+    let names = c.sources_at.ensures in
     let below = names_below xs c.self.inside.seats c.self.inside.generation c.self.inside.worn c.args.id t c.self.invariant.fields c.self.invariant.marks in
     subst (λ (ns : List ℕ). All (λ m. m < length t.marked) ns) (sym names) below
 
@@ -39,7 +36,7 @@ relink-requires-clause-reads c =
     let xs = c.self.inside.nodes.items in
     let t = c.self.inside.marks in
     let given = given_below c.args.self.now (state_of xs c.self.inside.generation c.self.inside.looked c.self.inside.worn) c.self.inside.seats.holders (length xs) c.args.reads.items c.self.view_is c.requires.given in
-    subst (λ (ns : List ℕ). All (λ m. m < length t.marked) ns) (sym c.deref-4.ensures.value) (subst (λ z. All (λ m. m < z) c.args.reads.items) (sym c.self.invariant.marks.flags) given)
+    subst (λ (ns : List ℕ). All (λ m. m < length t.marked) ns) (sym c.deref-2.ensures.value) (subst (λ z. All (λ m. m < z) c.args.reads.items) (sym c.self.invariant.marks.flags) given)
 
 pub relink-requires-clause-reader : goal.relink-requires-clause-reader
 relink-requires-clause-reader c =
@@ -58,7 +55,7 @@ invariant_of-self-2 c =
     let t = c.self.inside.marks in
     let o = c.args.outcome in
     let rs = c.args.reads.items in
-    let numbers = c.in_ok-numbers.ensures ∙ (λ i. map (number_at (c.deref.ensures.value i)) (c.deref-2.ensures.value i)) in
+    let numbers = c.in_ok-numbers.ensures ∙ ap (map (number_at xs)) c.deref.ensures.value in
     let sources = ap (paired rs) numbers ∙ paired_here xs g rs in
     let memo = c.new-memo.ensures ∙ ap (λ ss. memo_made o ss g) sources in
     let made = memo_made o (map (named_now (memos_of g xs)) rs) g in
@@ -66,10 +63,10 @@ invariant_of-self-2 c =
     let given = given_below c.args.self.now (state_of xs g c.self.inside.looked c.self.inside.worn) c.self.inside.seats.holders (length xs) rs c.self.view_is c.requires.given in
     let named = subst (λ (ns : List ℕ). All (λ m. m < length xs) ns) (sym (names_now (memos_of g xs) rs)) given in
     let on = sym (ap is_some (progress_found c.self.inside.nodes.items c.args.id)) ∙ ap (λ (s : Seen). is_computing s.state c.args.id) c.self.view_is ∙ c.requires.computing in
-    let names = c.sources_at.ensures ∙ ap (λ (ys : List Node). kept_names ys c.args.id) c.deref-3.ensures.value in
-    let link = subst (λ (ns : List ℕ). Relinks t.dependants c.relink.new.self.dependants (kept_names xs c.args.id) ns c.args.id) c.deref-4.ensures.value
-    (subst (λ (ns : List ℕ). Relinks t.dependants c.relink.new.self.dependants ns c.deref-4.result.now c.args.id) names c.in_ok-relink.ensures.after) in
-    let unmarks = c.run_unmarks-unmarks.ensures ∙ (λ i. not (is_cycle o) && not (some_marked_at (c.deref-5.ensures.value i) (c.relink.ensures.marks i) (c.deref-6.ensures.value i))) ∙ run_is xs t.marked o rs in
+    let names = c.sources_at.ensures in
+    let link = subst (λ (ns : List ℕ). Relinks t.dependants c.relink.new.self.dependants (kept_names xs c.args.id) ns c.args.id) c.deref-2.ensures.value
+    (subst (λ (ns : List ℕ). Relinks t.dependants c.relink.new.self.dependants ns c.deref-2.result.now c.args.id) names c.in_ok-relink.ensures.after) in
+    let unmarks = c.run_unmarks-unmarks.ensures ∙ (λ i. not (is_cycle o) && not (some_marked_at xs (c.relink.ensures.marks i) (c.deref-3.ensures.value i))) ∙ run_is xs t.marked o rs in
     let size = c.end_mark.ensures.size ∙ ap (λ (us : List Bool). length us) c.relink.ensures.marks in
     let marks = run_kept o rs c.args.id xs g t c.relink.new.self.dependants c.end_mark.new.marks.marked on link size
     (λ m. c.end_mark.ensures.marks m ∙ (λ i. ended (marked_at (c.relink.ensures.marks i)) c.args.id (unmarks i) m)) c.self.invariant.marks in
@@ -88,7 +85,7 @@ returns-clause-after c =
     let l = c.self.inside.looked in
     let w = c.self.inside.worn in
     let live = computing_here (body_at c.self.inside.nodes.items c.args.id) (sym (ap is_some (progress_found c.self.inside.nodes.items c.args.id)) ∙ ap (λ (s : Seen). is_computing s.state c.args.id) c.self.view_is ∙ c.requires.computing) in
-    let numbers = c.in_ok-numbers.ensures ∙ (λ i. map (number_at (c.deref.ensures.value i)) (c.deref-2.ensures.value i)) in
+    let numbers = c.in_ok-numbers.ensures ∙ ap (map (number_at xs)) c.deref.ensures.value in
     let sources = ap (paired c.args.reads.items) numbers ∙ paired_here xs g c.args.reads.items in
     let memo = c.new-memo.ensures ∙ ap (λ ss. memo_made c.args.outcome ss g) sources in
     let made = memo_made c.args.outcome (map (named_now (memos_of g xs)) c.args.reads.items) g in

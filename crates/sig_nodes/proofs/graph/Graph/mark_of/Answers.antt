@@ -1,14 +1,10 @@
-use Rattle.std.proofs.Common.{◌≡◌, ◌<◌, ℕ, [], true, List, sym, ap, ◌∙◌, refl, subst}
-use Rattle.sig_base.specs.declared.limits.TheConstants.{MOST_NODES}
+use Rattle.std.proofs.Common.{◌<◌, ℕ, List, sym, ap, ◌∙◌, refl, subst}
 use Rattle.signal_model.specs.Standing.{is_computed, standing}
 use Rattle.signal_model.specs.Marks.{mark_of}
 use Rattle.mark_laws.specs.Marked.{without_marks}
 use Rattle.sig_marks.specs.Tables.{marked_at}
-use Rattle.sig_nodes.specs.declared.node.Node.{Node}
 use Rattle.sig_nodes.specs.States.{Seen}
-use Rattle.sig_nodes.specs.Places.{KeepsFound}
-use Rattle.sig_nodes.specs.Nodes.{body_at, is_computed_body}
-use Rattle.sig_nodes.specs.Search.{search_unmarks, AreSeated, Reaches}
+use Rattle.sig_nodes.specs.Search.{search_unmarks}
 use Rattle.sig_nodes.proofs.Holding.{computed_here, live_below}
 use Rattle.sig_nodes.proofs.KeptMarks.{same_table, searched_kept}
 use Rattle.sig_nodes.proofs.Searching.{seats_apart, unmarked_clean}
@@ -23,12 +19,11 @@ returns-then-not-is_marked-clause-mark c =
 
 pub search-requires-clause-live : goal.search-requires-clause-live
 search-requires-clause-live c =
-    subst (λ (xs : List Node). is_computed_body (body_at xs c.args.id) ≡ true) (sym c.deref.ensures.value)
     (computed_here c.self.inside.nodes.items c.args.id (ap (λ (s : Seen). is_computed (standing s.state.signals c.args.id)) c.self.view_is ∙ c.requires))
 
 pub search-requires-clause-seats : goal.search-requires-clause-seats
 search-requires-clause-seats c =
-    subst (λ (xs : List Node). AreSeated xs MOST_NODES) (sym c.deref.ensures.value) (seats_apart c.self.inside.nodes.items c.self.inside.seats c.self.inside.generation c.self.inside.worn c.self.invariant.fields)
+    (seats_apart c.self.inside.nodes.items c.self.inside.seats c.self.inside.generation c.self.inside.worn c.self.invariant.fields)
 
 pub unmark_reached-requires : goal.unmark_reached-requires
 unmark_reached-requires c = λ seat n has. subst (λ l. n < l) (sym c.self.invariant.marks.flags) (live_below c.self.inside.nodes.items n (c.self.invariant.fields.living seat n has).0)
@@ -40,13 +35,13 @@ invariant_of-self c =
     let t = c.self.inside.marks in
     let seats = c.self.inside.seats in
     let reached = c.search.new.reached in
-    let e = subst (λ (ys : List Node). Reaches ys t.marked g reached []) c.deref.ensures.value (c.in-Clean.ensures.reached refl) in
+    let e = c.in-Clean.ensures.reached refl in
     let took = c.unmark_reached.ensures in
     record {
       fields = c.self.invariant.fields;
       marks = same_table xs g c.unmark_reached.new.marks t.dependants took.dependants
           (searched_kept xs seats g c.self.inside.worn t reached c.unmark_reached.new.marks.marked c.self.invariant.fields e took.size
-          (λ m. took.marks m ∙ ap (λ (ys : List Node). without_marks (marked_at t.marked) (search_unmarks ys c.seats.result.now seats.holders) m) c.deref-in-Clean.ensures.value
+          (λ m. took.marks m
           ∙ ap (λ (ss : List ℕ). without_marks (marked_at t.marked) (search_unmarks xs ss seats.holders) m) c.seats.ensures) c.self.invariant.marks);
-      found = subst (λ (ys : List Node). KeepsFound ys g c.self.inside.worn c.search.new.finds) c.deref.ensures.value c.search.ensures.kept;
+      found = c.search.ensures.kept;
     }

@@ -1,17 +1,16 @@
-use Rattle.std.proofs.Common.{List, length, ap, ◌∙◌, refl}
+use Rattle.std.proofs.Common.{length, ap, ◌∙◌, refl}
 use Rattle.std.specs.Prelude.{slice_get}
-use Rattle.signal_model.specs.Memos.{sources_in, sources_of}
-use Rattle.sig_nodes.specs.declared.node.Node.{Node}
+use Rattle.signal_model.specs.Memos.{sources_of}
 use Rattle.sig_nodes.specs.Answers.{has_moved}
 use Rattle.sig_nodes.specs.States.{Seen, with_look}
-use Rattle.sig_nodes.specs.Nodes.{body_at, has_moved_body, memo_body, state_of}
+use Rattle.sig_nodes.specs.Nodes.{state_of}
 use Rattle.sig_nodes.proofs.Holding.{became}
 use Rattle.sig_nodes.proofs.graph.Graph.moved.Goals as goal
 use Rattle.sig_nodes.proofs.Looking.{moved_found}
 
 pub returns-clause-moved : goal.returns-clause-moved
 returns-clause-moved c =
-    c.moved_at.ensures ∙ ap (λ (xs : List Node). has_moved_body xs (slice_get (sources_in (memo_body (body_at xs c.args.id))) c.args.place)) c.deref.ensures.value
+    c.moved_at.ensures
     ∙ moved_found c.self.inside.nodes.items c.self.inside.generation c.self.inside.looked c.self.inside.worn c.args.id c.args.place
     ∙ ap (λ (s : Seen). has_moved s.state (slice_get (sources_of s.state.memos c.args.id) c.args.place)) c.self.view_is
 

@@ -11,16 +11,11 @@ use Rattle.sig_nodes.proofs.Holding.{became}
 use Rattle.sig_nodes.proofs.KeptMarks.{known_graph, under_way}
 use Rattle.sig_base.specs.declared.value.Known.{Known}
 use Rattle.sig_nodes.specs.States.{GoesOn}
-use Rattle.sig_nodes.proofs.Looking.{known_below, slots_found}
+use Rattle.sig_nodes.proofs.Looking.{slots_found}
 use Rattle.sig_nodes.proofs.graph.Graph.recipe.Goals as goal
 
-pub ask_at-requires-clause-place : goal.ask_at-requires-clause-place
-ask_at-requires-clause-place c =
-    let known = subst (λ (k : Option (List Known)). GoesOn k c.args.known.now) (progress_found c.self.inside.nodes.items c.args.id) (subst (λ (s : Seen). GoesOn (progress_at c.args.id s.state.progress) c.args.known.now) (sym c.self.view_is) c.requires) in
-    known_below c.self.inside.nodes.items c.args.id c.args.known.now known
-
-pub ask_at-requires-clause-known : goal.ask_at-requires-clause-known
-ask_at-requires-clause-known c = subst (λ (k : Option (List Known)). GoesOn k c.args.known.now) (progress_found c.self.inside.nodes.items c.args.id) (subst (λ (s : Seen). GoesOn (progress_at c.args.id s.state.progress) c.args.known.now) (sym c.self.view_is) c.requires)
+pub ask_at-requires : goal.ask_at-requires
+ask_at-requires c = subst (λ (k : Option (List Known)). GoesOn k c.args.known.now) (progress_found c.self.inside.nodes.items c.args.id) (subst (λ (s : Seen). GoesOn (progress_at c.args.id s.state.progress) c.args.known.now) (sym c.self.view_is) c.requires)
 
 pub invariant_of-self : goal.invariant_of-self
 invariant_of-self c =

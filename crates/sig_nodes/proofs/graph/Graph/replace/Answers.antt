@@ -12,9 +12,6 @@ use Rattle.sig_nodes.proofs.Holding.{became, cell_below, cell_here, set_holds}
 use Rattle.sig_nodes.proofs.graph.Graph.replace.Goals as goal
 use Rattle.sig_nodes.proofs.Looking.{value_found}
 
-pub set_value_at-requires-clause-place : goal.set_value_at-requires-clause-place
-set_value_at-requires-clause-place c = let live = cell_here c.self.inside.nodes.items c.args.id (ap (λ (s : Seen). is_cell (standing s.state.signals c.args.id)) c.self.view_is ∙ c.requires.live) in cell_below c.self.inside.nodes.items c.args.id live
-
 pub set_value_at-requires-clause-live : goal.set_value_at-requires-clause-live
 set_value_at-requires-clause-live c = cell_here c.self.inside.nodes.items c.args.id (ap (λ (s : Seen). is_cell (standing s.state.signals c.args.id)) c.self.view_is ∙ c.requires.live)
 

@@ -7,7 +7,7 @@ use Rattle.sig_nodes.specs.Answers.{expression_of, host_here}
 use Rattle.sig_nodes.specs.Computations.{recipe_made}
 use Rattle.sig_nodes.specs.States.{Seen, is_cell, with_rewiring}
 use Rattle.sig_nodes.specs.Places.{Holds, KeepsMarks}
-use Rattle.sig_nodes.specs.Nodes.{body_at, changed_at, is_live_body, rewired_node, are_live_bodies, stands_of, state_of}
+use Rattle.sig_nodes.specs.Nodes.{body_at, changed_at, is_live_body, rewired_node, are_live_bodies, state_of}
 use Rattle.sig_nodes.proofs.Parts.{stands}
 use Rattle.sig_nodes.proofs.Edits.{changed_length, rewired_state}
 use Rattle.sig_nodes.proofs.Holding.{became, given_below, live_below, rewired_holds}
@@ -18,25 +18,19 @@ use Rattle.sig_nodes.proofs.graph.Graph.rewire.Goals as goal
 
 pub returns-then-not-is_linkable_at-clause-gone : goal.returns-then-not-is_linkable_at-clause-gone
 returns-then-not-is_linkable_at-clause-gone c =
-    let all = ap (λ (s : Seen). are_there s.state.signals (c.args.id ∷ c.args.slots.items)) (sym c.self.view_is) ∙ all_here c.self.inside.nodes.items (c.args.id ∷ c.args.slots.items) ∙ sym (c.is_linkable_at.ensures ∙ (λ i. are_live_bodies (c.deref.ensures.value i) (c.args.id ∷ c.deref-2.ensures.value i)))
+    let all = ap (λ (s : Seen). are_there s.state.signals (c.args.id ∷ c.args.slots.items)) (sym c.self.view_is) ∙ all_here c.self.inside.nodes.items (c.args.id ∷ c.args.slots.items) ∙ sym (c.is_linkable_at.ensures ∙ ap (λ ns. are_live_bodies c.self.inside.nodes.items (c.args.id ∷ ns)) c.deref.ensures.value)
     ∙ c.if-not-is_linkable_at.true in
     (λ q. all, λ q. refl)
 
-pub rewire_at-requires-clause-place : goal.rewire_at-requires-clause-place
-rewire_at-requires-clause-place c =
-    let all = sym (c.is_linkable_at.ensures ∙ (λ i. are_live_bodies (c.deref.ensures.value i) (c.args.id ∷ c.deref-2.ensures.value i))) ∙ c.if-not-is_linkable_at.false in
-    let live = and_left (is_live_body (body_at c.self.inside.nodes.items c.args.id)) (are_live_bodies c.self.inside.nodes.items c.args.slots.items) all in
-    live_below c.self.inside.nodes.items c.args.id live
-
 pub rewire_at-requires-clause-live : goal.rewire_at-requires-clause-live
 rewire_at-requires-clause-live c =
-    let all = sym (c.is_linkable_at.ensures ∙ (λ i. are_live_bodies (c.deref.ensures.value i) (c.args.id ∷ c.deref-2.ensures.value i))) ∙ c.if-not-is_linkable_at.false in
+    let all = sym (c.is_linkable_at.ensures ∙ ap (λ ns. are_live_bodies c.self.inside.nodes.items (c.args.id ∷ ns)) c.deref.ensures.value) ∙ c.if-not-is_linkable_at.false in
     let live = and_left (is_live_body (body_at c.self.inside.nodes.items c.args.id)) (are_live_bodies c.self.inside.nodes.items c.args.slots.items) all in
     computed_left c.self.inside.nodes.items c.args.id live (ap (λ (s : Seen). is_cell (standing s.state.signals c.args.id)) c.self.view_is ∙ c.requires.kind)
 
 pub push-requires : goal.push-requires
 push-requires c =
-    let all = sym (c.is_linkable_at.ensures ∙ (λ i. are_live_bodies (c.deref.ensures.value i) (c.args.id ∷ c.deref-2.ensures.value i))) ∙ c.if-not-is_linkable_at.false in
+    let all = sym (c.is_linkable_at.ensures ∙ ap (λ ns. are_live_bodies c.self.inside.nodes.items (c.args.id ∷ ns)) c.deref.ensures.value) ∙ c.if-not-is_linkable_at.false in
     let alive = and_left (is_live_body (body_at c.self.inside.nodes.items c.args.id)) (are_live_bodies c.self.inside.nodes.items c.args.slots.items) all in
     subst (λ z. c.args.id < z) (sym c.self.invariant.marks.flags) (live_below c.self.inside.nodes.items c.args.id alive)
 
@@ -45,7 +39,7 @@ invariant_of-self c =
     let xs = c.self.inside.nodes.items in
     let g = c.self.inside.generation in
     let recipe = recipe_made (expression_of c.args.recipe) c.args.slots.items in
-    let all = sym (c.is_linkable_at.ensures ∙ (λ i. are_live_bodies (c.deref.ensures.value i) (c.args.id ∷ c.deref-2.ensures.value i))) ∙ c.if-not-is_linkable_at.false in
+    let all = sym (c.is_linkable_at.ensures ∙ ap (λ ns. are_live_bodies c.self.inside.nodes.items (c.args.id ∷ ns)) c.deref.ensures.value) ∙ c.if-not-is_linkable_at.false in
     let alive = and_left (is_live_body (body_at c.self.inside.nodes.items c.args.id)) (are_live_bodies c.self.inside.nodes.items c.args.slots.items) all in
     let live = computed_left xs c.args.id alive (ap (λ (s : Seen). is_cell (standing s.state.signals c.args.id)) c.self.view_is ∙ c.requires.kind) in
     let marks = rewired_kept recipe c.args.id xs g c.self.inside.marks c.push.new.self.marked live c.push.ensures.marks c.self.invariant.marks in
@@ -71,11 +65,11 @@ returns-clause-after c =
 
 pub returns-clause-host : goal.returns-clause-host
 returns-clause-host c =
-    c.host_at-host.ensures ∙ ap (λ (xs : List Node). host_here (stands_of c.args.id (body_at xs c.args.id))) c.deref-3.ensures.value
+    c.host_at-host.ensures
     ∙ ap host_here (sym (stands c.self.inside.nodes.items c.args.id)) ∙ ap (λ (s : Seen). host_here (standing s.state.signals c.args.id)) c.self.view_is
 
 pub returns-clause-gone : goal.returns-clause-gone
 returns-clause-gone c =
-    let all = sym (c.is_linkable_at.ensures ∙ (λ i. are_live_bodies (c.deref.ensures.value i) (c.args.id ∷ c.deref-2.ensures.value i))) ∙ c.if-not-is_linkable_at.false in
+    let all = sym (c.is_linkable_at.ensures ∙ ap (λ ns. are_live_bodies c.self.inside.nodes.items (c.args.id ∷ ns)) c.deref.ensures.value) ∙ c.if-not-is_linkable_at.false in
     let there = ap (λ (s : Seen). are_there s.state.signals (c.args.id ∷ c.args.slots.items)) (sym c.self.view_is) ∙ all_here c.self.inside.nodes.items (c.args.id ∷ c.args.slots.items) ∙ all in
     (λ q. absurd (true≢false (sym q)), λ q. absurd (true≢false (sym there ∙ q)))

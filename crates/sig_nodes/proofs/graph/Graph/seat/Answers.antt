@@ -1,23 +1,17 @@
-use Rattle.std.proofs.Common.{◌<◌, List, length, sym, ap, ◌∙◌, subst, arith}
+use Rattle.std.proofs.Common.{sym, ap, ◌∙◌, arith}
 use Rattle.signal_model.specs.Standing.{is_there, standing}
-use Rattle.sig_nodes.specs.declared.node.Node.{Node}
 use Rattle.sig_nodes.specs.States.{Seen}
 use Rattle.sig_nodes.specs.Seats.{holder}
 use Rattle.sig_nodes.specs.Nodes.{seat_at}
-use Rattle.sig_nodes.proofs.Holding.{live_below, live_here}
+use Rattle.sig_nodes.proofs.Holding.{live_here}
 use Rattle.sig_nodes.proofs.Seating.{held_inside}
 use Rattle.sig_nodes.proofs.graph.Graph.seat.Goals as goal
-
-pub seat_at-requires : goal.seat_at-requires
-seat_at-requires c =
-    let live = sym (live_here c.self.inside.nodes.items c.args.id) ∙ ap (λ (s : Seen). is_there (standing s.state.signals c.args.id)) c.self.view_is ∙ c.requires in
-    subst (λ (xs : List Node). c.args.id < length xs) (sym c.deref.ensures.value) (live_below c.self.inside.nodes.items c.args.id live)
 
 pub returns-clause-own : goal.returns-clause-own
 returns-clause-own c =
     let live = sym (live_here c.self.inside.nodes.items c.args.id) ∙ ap (λ (s : Seen). is_there (standing s.state.signals c.args.id)) c.self.view_is ∙ c.requires in
     sym (ap (λ (s : Seen). holder s.seats c.seat_at.result) c.self.view_is)
-    ∙ ap (holder c.self.inside.seats.holders) (c.seat_at.ensures ∙ ap (λ (xs : List Node). seat_at xs c.args.id) c.deref.ensures.value)
+    ∙ ap (holder c.self.inside.seats.holders) c.seat_at.ensures
     ∙ c.self.invariant.fields.seated c.args.id live
 
 pub returns-clause-below : goal.returns-clause-below
@@ -25,11 +19,11 @@ returns-clause-below c =
     let live = sym (live_here c.self.inside.nodes.items c.args.id) ∙ ap (λ (s : Seen). is_there (standing s.state.signals c.args.id)) c.self.view_is ∙ c.requires in
     let held = c.self.invariant.fields.seated c.args.id live in
     let inside = held_inside c.self.inside.seats.holders (seat_at c.self.inside.nodes.items c.args.id) c.args.id held in
-    let at = c.seat_at.ensures ∙ ap (λ (xs : List Node). seat_at xs c.args.id) c.deref.ensures.value in
+    let at = c.seat_at.ensures in
     let size = c.self.invariant.fields.size in
     omega (arith, inside, at, size)
 
 pub returns-clause-only : goal.returns-clause-only
 returns-clause-only c = λ s held.
-    let at = c.seat_at.ensures ∙ ap (λ (xs : List Node). seat_at xs c.args.id) c.deref.ensures.value in
+    let at = c.seat_at.ensures in
     sym ((c.self.invariant.fields.living s c.args.id (ap (λ (g : Seen). holder g.seats s) c.self.view_is ∙ held)).1) ∙ sym at

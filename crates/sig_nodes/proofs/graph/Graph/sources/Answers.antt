@@ -1,12 +1,10 @@
-use Rattle.std.proofs.Common.{List, Option, sym, ap, ◌∙◌}
+use Rattle.std.proofs.Common.{Option, sym, ap, ◌∙◌}
 use Rattle.signal_model.specs.Memos.{Memo, memo_of, source_names, sources_in}
-use Rattle.sig_nodes.specs.declared.node.Node.{Node}
 use Rattle.sig_nodes.specs.States.{Seen}
-use Rattle.sig_nodes.specs.Nodes.{body_at, memo_body}
 use Rattle.sig_nodes.proofs.Parts.{memo_found}
 use Rattle.sig_nodes.proofs.graph.Graph.sources.Goals as goal
 
 pub returns : goal.returns
 returns c =
-    c.sources_at.ensures ∙ ap (λ (xs : List Node). (λ (m : Option Memo). source_names (sources_in m)) (memo_body (body_at xs c.args.id))) c.deref.ensures.value
+    c.sources_at.ensures
     ∙ ap (λ (m : Option Memo). source_names (sources_in m)) (sym (memo_found c.self.inside.nodes.items c.self.inside.generation c.args.id)) ∙ ap (λ (s : Seen). (λ (m : Option Memo). source_names (sources_in m)) (memo_of s.state.memos c.args.id)) c.self.view_is

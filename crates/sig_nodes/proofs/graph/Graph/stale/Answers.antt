@@ -1,16 +1,15 @@
-use Rattle.std.proofs.Common.{List, length, sym, ap, ◌∙◌, refl}
+use Rattle.std.proofs.Common.{length, sym, ap, ◌∙◌, refl}
 use Rattle.signal_model.specs.Memos.{is_stale, is_stale_by}
-use Rattle.sig_nodes.specs.declared.node.Node.{Node}
 use Rattle.sig_nodes.specs.Computations.{at_generation}
 use Rattle.sig_nodes.specs.States.{Seen, with_look}
-use Rattle.sig_nodes.specs.Nodes.{body_at, memo_body, state_of}
+use Rattle.sig_nodes.specs.Nodes.{state_of}
 use Rattle.sig_nodes.proofs.Parts.{memo_found}
 use Rattle.sig_nodes.proofs.Holding.{became}
 use Rattle.sig_nodes.proofs.graph.Graph.stale.Goals as goal
 
 pub returns-clause-stale : goal.returns-clause-stale
 returns-clause-stale c =
-    c.is_stale_at.ensures ∙ ap (λ (xs : List Node). is_stale_by (at_generation c.self.inside.generation) (memo_body (body_at xs c.args.id))) c.deref.ensures.value
+    c.is_stale_at.ensures
     ∙ ap (is_stale_by (at_generation c.self.inside.generation)) (sym (memo_found c.self.inside.nodes.items c.self.inside.generation c.args.id)) ∙ ap (λ (s : Seen). is_stale s.state.memos c.args.id) c.self.view_is
 
 pub returns-clause-after : goal.returns-clause-after

@@ -1,14 +1,13 @@
-use Rattle.std.proofs.Common.{List, sym, ap, ◌∙◌, is_some}
+use Rattle.std.proofs.Common.{sym, ap, ◌∙◌, is_some}
 use Rattle.signal_model.specs.Standing.{standing}
-use Rattle.sig_nodes.specs.declared.node.Node.{Node}
 use Rattle.sig_nodes.specs.Answers.{kind_here}
 use Rattle.sig_nodes.specs.States.{Seen, is_computing}
-use Rattle.sig_nodes.specs.Nodes.{body_at, known_body, signals_of, stands_of}
+use Rattle.sig_nodes.specs.Nodes.{body_at, known_body, signals_of}
 use Rattle.sig_nodes.proofs.Parts.{progress_found, stands}
 use Rattle.sig_nodes.proofs.graph.Graph.standing.Goals as goal
 
 pub returns : goal.returns
 returns c =
     let xs = c.self.inside.nodes.items in
-    c.standing_at.ensures ∙ ap (λ (ys : List Node). kind_here (stands_of c.args.id (body_at ys c.args.id)) (is_some (known_body (body_at ys c.args.id)))) c.deref.ensures.value
+    c.standing_at.ensures
     ∙ ap (λ z. kind_here z (is_some (known_body (body_at xs c.args.id)))) (sym (stands xs c.args.id)) ∙ ap (λ k. kind_here (standing (signals_of xs) c.args.id) (is_some k)) (sym (progress_found xs c.args.id)) ∙ ap (λ (s : Seen). kind_here (standing s.state.signals c.args.id) (is_computing s.state c.args.id)) c.self.view_is

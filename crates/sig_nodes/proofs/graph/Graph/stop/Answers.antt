@@ -1,27 +1,22 @@
 use Rattle.mark_laws.specs.Marked.{ended}
 use Rattle.sig_marks.specs.Tables.{marked_at}
-use Rattle.sig_nodes.specs.Search.{stop_unmarks_by}
 use Rattle.sig_nodes.proofs.KeptFinds.{known_found}
 use Rattle.sig_nodes.proofs.KeptMarks.{same_table, stop_is, stopped_kept}
-use Rattle.std.proofs.Common.{◌≡◌, ◌<◌, true, List, None, length, sym, ap, ◌∙◌, subst, is_some}
+use Rattle.std.proofs.Common.{◌<◌, List, None, length, sym, ap, ◌∙◌, subst, is_some}
 use Rattle.sig_nodes.specs.declared.node.Node.{Node}
 use Rattle.sig_nodes.specs.States.{Seen, is_computing, with_progress}
 use Rattle.sig_nodes.specs.Places.{Holds, KeepsFound, KeepsMarks}
-use Rattle.sig_nodes.specs.Nodes.{body_at, changed_at, is_computed_body, known_node, memo_body, state_of}
+use Rattle.sig_nodes.specs.Nodes.{body_at, changed_at, known_node, state_of}
 use Rattle.sig_nodes.proofs.Parts.{progress_found}
 use Rattle.sig_nodes.proofs.Edits.{changed_length, known_state}
 use Rattle.sig_nodes.proofs.Holding.{became, computed_below, computing_here, known_holds}
 use Rattle.sig_nodes.proofs.graph.Graph.stop.Goals as goal
 
-pub end_at-requires-clause-place : goal.end_at-requires-clause-place
-end_at-requires-clause-place c = let live = computing_here (body_at c.self.inside.nodes.items c.args.id) (sym (ap is_some (progress_found c.self.inside.nodes.items c.args.id)) ∙ ap (λ (s : Seen). is_computing s.state c.args.id) c.self.view_is ∙ c.requires) in computed_below c.self.inside.nodes.items c.args.id live
-
-pub end_at-requires-clause-live : goal.end_at-requires-clause-live
-end_at-requires-clause-live c = computing_here (body_at c.self.inside.nodes.items c.args.id) (sym (ap is_some (progress_found c.self.inside.nodes.items c.args.id)) ∙ ap (λ (s : Seen). is_computing s.state c.args.id) c.self.view_is ∙ c.requires)
+pub end_at-requires : goal.end_at-requires
+end_at-requires c = computing_here (body_at c.self.inside.nodes.items c.args.id) (sym (ap is_some (progress_found c.self.inside.nodes.items c.args.id)) ∙ ap (λ (s : Seen). is_computing s.state c.args.id) c.self.view_is ∙ c.requires)
 
 pub stop_unmarks-unmarks-requires : goal.stop_unmarks-unmarks-requires
 stop_unmarks-unmarks-requires c =
-    subst (λ (xs : List Node). is_computed_body (body_at xs c.args.id) ≡ true) (sym c.deref.ensures.value)
     (computing_here (body_at c.self.inside.nodes.items c.args.id) (sym (ap is_some (progress_found c.self.inside.nodes.items c.args.id)) ∙ ap (λ (s : Seen). is_computing s.state c.args.id) c.self.view_is ∙ c.requires))
 
 pub end_mark-requires : goal.end_mark-requires
@@ -35,7 +30,7 @@ invariant_of-self c =
     let g = c.self.inside.generation in
     let t = c.self.inside.marks in
     let on = sym (ap is_some (progress_found c.self.inside.nodes.items c.args.id)) ∙ ap (λ (s : Seen). is_computing s.state c.args.id) c.self.view_is ∙ c.requires in
-    let unmarks = c.stop_unmarks-unmarks.ensures ∙ ap (λ (ys : List Node). stop_unmarks_by ys g t.marked (memo_body (body_at ys c.args.id))) c.deref.ensures.value ∙ stop_is xs g t.marked c.args.id in
+    let unmarks = c.stop_unmarks-unmarks.ensures ∙ stop_is xs g t.marked c.args.id in
     let marks = stopped_kept c.args.id xs g t c.end_mark.new.marks.marked on c.end_mark.ensures.size (λ m. c.end_mark.ensures.marks m ∙ ap (λ f. ended (marked_at t.marked) c.args.id f m) unmarks) c.self.invariant.marks in
     record {
       fields = subst (λ (ys : List Node). Holds ys c.self.inside.seats g c.self.inside.worn) (sym c.end_at.ensures)

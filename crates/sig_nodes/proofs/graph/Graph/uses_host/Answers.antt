@@ -1,12 +1,11 @@
-use Rattle.std.proofs.Common.{List, sym, ap, ◌∙◌}
-use Rattle.sig_nodes.specs.declared.node.Node.{Node}
+use Rattle.std.proofs.Common.{sym, ap, ◌∙◌}
 use Rattle.sig_nodes.specs.Answers.{uses_host}
 use Rattle.sig_nodes.specs.States.{Seen}
-use Rattle.sig_nodes.specs.Nodes.{some_asks_body}
 use Rattle.sig_nodes.proofs.Looking.{uses_found}
+use Rattle.sig_nodes.proofs.Seated.{holders_ask}
 use Rattle.sig_nodes.proofs.graph.Graph.uses_host.Goals as goal
 
 pub returns : goal.returns
 returns c =
-    c.uses_host.ensures ∙ ap (λ (ys : List Node). some_asks_body c.args.place ys) c.deref.ensures.value
+    c.uses_host.ensures ∙ holders_ask c.args.place c.self.inside.nodes.items c.self.inside.seats.holders c.self.invariant.fields.seated
     ∙ sym (uses_found c.args.place c.self.inside.nodes.items) ∙ ap (λ (s : Seen). uses_host s.state.signals c.args.place) c.self.view_is
