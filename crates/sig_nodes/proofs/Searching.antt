@@ -5,7 +5,7 @@ use Rattle.sig_nodes.specs.Places.{KeepsMarks}
 use Rattle.sig_nodes.specs.States.{is_computing}
 use Rattle.sig_nodes.specs.Nodes.{state_of}
 use Rattle.std.proofs.Common.{◌≡◌, ℕ, zero, suc, ◌+◌, ◌<◌, ◌≤◌, ◌==◌, ◌||◌, ◌&&◌, not, Bool, true, false, List, [], ◌∷◌, length, drop, Option, Some, None, refl, sym, ap, ◌∙◌, subst, arith, if◌then◌else◌, inl, inr, true≢false}
-use Rattle.std.specs.Prelude.{slice_get, slice_set, replicate}
+use Rattle.std.specs.Prelude.{slice_get}
 use Rattle.signal_model.specs.Standing.{is_computed, standing}
 use Rattle.signal_model.specs.Memos.{Source, Memo, differs, is_cycle, is_moved, is_stale_by, keeps, memo_is_cycle, must_run, must_run_by, same_number, some_moved, source_names, sources_in}
 use Rattle.signal_model.specs.Marks.{HasBelow, Checked, Clean, Dirty, kept, kept_below, mark_of}
@@ -17,7 +17,7 @@ use Rattle.sig_nodes.specs.declared.node.Body.TheVariants.{Gone, Cell as CellBod
 use Rattle.sig_nodes.specs.Computations.{at_generation}
 use Rattle.sig_nodes.specs.Nodes.{body_at, has_differed, is_computed_body, memo_body, memos_of, seat_at, signals_of, stands_of}
 use Rattle.sig_nodes.specs.Places.{Holds}
-use Rattle.sig_nodes.specs.Search.{is_due_at, is_marked, unmarked, AreSeated, HasDue}
+use Rattle.sig_nodes.specs.Search.{is_due_at, AreSeated, HasDue}
 use Rattle.sig_nodes.specs.Seats.{Seating, holder}
 use Rattle.sig_base.specs.declared.limits.TheConstants.{MOST_NODES}
 use Rattle.sig_nodes.proofs.Parts.{memo_found, number_found, stands}
@@ -71,31 +71,6 @@ due_found xs g n =
     go Gone = refl
     go (CellBody v r) = refl
     go (ComputedBody c) = refl
-
--- ---- flags
-
-pub set_here : (t : List Bool) (d : ℕ) → d < length t → is_marked (slice_set t d true) d ≡ true
-set_here [] d h = absurd (omega arith)
-set_here (x ∷ xs) zero h = refl
-set_here (x ∷ xs) (suc d) h = let l : d < length xs = omega arith in set_here xs d l
-
-pub set_size : (t : List Bool) (d : ℕ) → length (slice_set t d true) ≡ length t
-set_size [] d = refl
-set_size (x ∷ xs) zero = refl
-set_size (x ∷ xs) (suc d) = ap suc (set_size xs d)
-
-pub set_fewer : (t : List Bool) (d : ℕ) → d < length t → is_marked t d ≡ false → unmarked (slice_set t d true) + 1 ≡ unmarked t
-set_fewer [] d l h = absurd (omega arith)
-set_fewer (true ∷ xs) zero l h = cc
-set_fewer (false ∷ xs) zero l h = omega arith
-set_fewer (true ∷ xs) (suc d) l h = let k : d < length xs = omega arith in omega (arith, set_fewer xs d k h)
-set_fewer (false ∷ xs) (suc d) l h = let k : d < length xs = omega arith in omega (arith, set_fewer xs d k h)
-
--- all flags are down at first
-pub flags_down : (k s : ℕ) → is_marked (replicate k false) s ≡ false
-flags_down zero s = refl
-flags_down (suc k) zero = refl
-flags_down (suc k) (suc s) = flags_down k s
 
 -- ---- the mark
 

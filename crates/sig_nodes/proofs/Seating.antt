@@ -4,6 +4,7 @@ use Rattle.std.specs.Prelude.{slice_set, slice_index_or}
 use Rattle.std.proofs.lemmas.Bool.{eqb-true, eq-eqb}
 use Rattle.signal_model.specs.Standing.{is_in}
 use Rattle.signal_model.specs.Laws.{AreDistinct}
+use Rattle.sig_seats.proofs.Shared.{in_more}
 use Rattle.sig_nodes.specs.Seats.{AreSeats, holder}
 
 -- a seat that is read
@@ -55,18 +56,6 @@ holder_set hs s k h l = go (tested (s == k))
     go (inr e) = other hs s k (λ q. true≢false (sym (eq-eqb s k q) ∙ e)) ∙ ap (λ c. cond c h (holder hs k)) (sym e)
 
 -- ---- lists without repetition
-
-pub in_more : (s : ℕ) (xs : List ℕ) (y : ℕ) → is_in s (xs ++ y ∷ []) ≡ (is_in s xs || (s == y))
-in_more s [] y = go (s == y)
-  where
-    go : (b : Bool) → (b || false) ≡ b
-    go true = refl
-    go false = refl
-in_more s (x ∷ xs) y = ap (λ r. s == x || r) (in_more s xs y) ∙ sym (assoc (s == x) (is_in s xs) (s == y))
-  where
-    assoc : (a b c : Bool) → ((a || b) || c) ≡ (a || (b || c))
-    assoc true b c = refl
-    assoc false b c = refl
 
 either : (a b : Bool) → (a || b) ≡ true → (a ≡ true) ⊎ (b ≡ true)
 either true b h = inl refl

@@ -1,19 +1,12 @@
 -- The search for a computed that must run, along kept sources.
-use Rattle.std.specs.Prelude.{◌≡◌, ℕ, zero, suc, ◌+◌, ◌<◌, ◌≤◌, ◌==◌, ◌⊎◌, ◌||◌, ◌&&◌, not, Bool, true, false, List, [], ◌∷◌, Option, Some, None, is_some, length, if◌then◌else◌}
+use Rattle.std.specs.Prelude.{◌≡◌, ℕ, zero, suc, ◌<◌, ◌==◌, ◌⊎◌, ◌||◌, ◌&&◌, not, Bool, true, false, List, [], ◌∷◌, Option, Some, None, is_some, if◌then◌else◌}
 use Rattle.signal_model.specs.Standing.{is_in}
 use Rattle.signal_model.specs.Memos.{Memo, keeps, memo_is_cycle, must_run_by, source_names, sources_in}
 use Rattle.sig_marks.specs.Tables.{marked_at}
 use Rattle.signal_model.specs.Marks.{HasBelow, is_due}
 use Rattle.sig_nodes.specs.declared.node.Node.{Node}
-use Rattle.sig_base.specs.declared.limits.TheConstants.{MOST_NODES}
 use Rattle.sig_nodes.specs.Seats.{holder}
 use Rattle.sig_nodes.specs.Nodes.{body_at, is_computed_body, known_body, memo_body, memos_of, seat_at, signals_of}
-
--- whether the flag of a seat is up
-abbrev pub is_marked : List Bool → ℕ → Bool
-is_marked [] s = false
-is_marked (t ∷ ts) zero = t
-is_marked (t ∷ ts) (suc s) = is_marked ts s
 
 -- whether who has a seat passes a test; of a free seat nobody does
 abbrev pub of_holder : (ℕ → Bool) → Option ℕ → Bool
@@ -33,11 +26,6 @@ some_seated f (s ∷ ss) hs = of_holder f (holder hs s) || some_seated f ss hs
 -- whether this one is among them
 abbrev pub is_seated : List ℕ → List (Option ℕ) → ℕ → Bool
 is_seated ss hs n = some_seated (λ m. m == n) ss hs
-
--- how many flags are down
-abbrev pub unmarked : List Bool → ℕ
-unmarked [] = 0
-unmarked (t ∷ ts) = (if t then 0 else 1) + unmarked ts
 
 -- whether a computed must run
 abbrev pub is_due_at : List Node → ℕ → ℕ → Bool
@@ -75,13 +63,6 @@ pub record AreSeated (xs : List Node) (count : ℕ) : Type 0 where
   pub below : (n : ℕ) → is_computed_body (body_at xs n) ≡ true → seat_at xs n < count
   pub one : (n m : ℕ) → is_computed_body (body_at xs n) ≡ true → is_computed_body (body_at xs m) ≡ true →
       seat_at xs n ≡ seat_at xs m → n ≡ m
-
--- Flags that are up for exactly these seats, each of which is listed once; there is room for all that are down.
-pub record AreReached (flags : List Bool) (seats : List ℕ) (capacity : ℕ) : Type 0 where
-  pub size : length flags ≡ MOST_NODES
-  pub up : (s : ℕ) → is_marked flags s ≡ is_in s seats
-  pub count : length seats + unmarked flags ≡ MOST_NODES
-  pub room : MOST_NODES ≤ capacity
 
 -- whether a marked computed stands there whose seat is none of these
 abbrev pub is_new : List Node → List Bool → List ℕ → ℕ → Bool

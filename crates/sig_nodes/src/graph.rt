@@ -15,12 +15,12 @@ use crate::errors::NodeFault;
 use crate::finds::Finds;
 use crate::node::{Body, Computation, Node};
 use crate::nodes::Nodes;
-use crate::reached::Reached;
 use crate::seats::Seats;
 use crate::store::{rewire_at, set_value_at};
 use crate::trail::Trail;
 use sig_base::{MOST_NODES, NoMemory, NodeId, Value};
 use sig_marks::Marks;
+use sig_seats::{Reached, push_in};
 use std::alloc::Global;
 use std::marker::Model;
 

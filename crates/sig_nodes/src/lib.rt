@@ -13,7 +13,6 @@ mod marking;
 mod marks;
 mod node;
 mod nodes;
-mod reached;
 mod search;
 mod seats;
 mod store;

@@ -15,10 +15,10 @@ use crate::bodies::{seat_at, sources_at};
 use crate::finds::Finds;
 use crate::marks::{computed_seat, is_due, is_told};
 use crate::nodes::Nodes;
-use crate::reached::Reached;
 use crate::trail::Trail;
 use sig_base::{MOST_NODES, NodeId};
 use sig_marks::Marks;
+use sig_seats::Reached;
 
 // Whether a marked computed stands there whose seat isn't reached yet.
 fn is_new(nodes: &Nodes, marks: &Marks, reached: &Reached, id: NodeId) -> bool

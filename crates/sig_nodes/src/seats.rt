@@ -1,8 +1,9 @@
 // The seats of live signals: numbers below the limit of signals.
-ghost use Rattle.std.specs.Prelude.{◌≡◌, ℕ, ◌+◌, ◌<◌, ◌≤◌, ◌++◌, ◌∷◌, [], None, Some, length, vec_len, vec_capacity, IfOk};
+ghost use Rattle.std.specs.Prelude.{◌≡◌, ℕ, ◌<◌, None, Some, length, IfOk};
 ghost use Rattle.sig_nodes.specs.Seats.{holder, with_left, with_taken};
 
 use sig_base::{MOST_NODES, NoMemory, NodeId};
+use sig_seats::push_in;
 use std::alloc::Global;
 use std::marker::Model;
 
@@ -90,17 +91,5 @@ impl Seats {
         let _count = self.holders.len();
         self.holders[seat] = None;
         push_in(&mut self.free, seat);
-    }
-}
-
-/// Puts last, in room that is there.
-pub(crate) fn push_in<T: Drop>(all: &mut Vec<T>, one: T)
-    requires { vec_len all.old < vec_capacity all.old }
-    ensures items { all.new.items ≡ all.old.items ++ one ∷ [] }
-    ensures capacity { vec_capacity all.old ≤ vec_capacity all.new }
-{
-    match all.push(one) {
-        Ok(_) => {}
-        Err(_) => unreachable!(),
     }
 }

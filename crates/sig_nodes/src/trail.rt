@@ -1,8 +1,8 @@
 // The way of a search.
 ghost use Rattle.std.specs.Prelude.{◌≡◌, ◌<◌, ◌∷◌, [], length, IfOk, IfSome, IfNone};
 
-use crate::seats::push_in;
 use sig_base::{MOST_NODES, NoMemory, NodeId};
+use sig_seats::push_in;
 use std::alloc::Global;
 use std::marker::Model;
 

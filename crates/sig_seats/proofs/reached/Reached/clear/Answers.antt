@@ -1,9 +1,9 @@
 use Rattle.std.proofs.Common.{ℕ, ◌∙◌, ◌&&◌, not, [], List, ap, sym, subst}
 use Rattle.std.specs.Prelude.{vec_capacity}
 use Rattle.signal_model.specs.Standing.{is_in}
-use Rattle.sig_nodes.specs.Search.{is_marked, AreReached}
-use Rattle.sig_nodes.proofs.Reaching.{cleared, flag_inside}
-use Rattle.sig_nodes.proofs.reached.Reached.clear.Goals as goal
+use Rattle.sig_seats.specs.Flags.{is_up, AreReached}
+use Rattle.sig_seats.proofs.Flagged.{cleared, flag_inside}
+use Rattle.sig_seats.proofs.reached.Reached.clear.Goals as goal
 
 pub lower-requires : goal.lower-requires
 lower-requires c = λ s listed.
@@ -13,6 +13,6 @@ pub invariant_of-self : goal.invariant_of-self
 invariant_of-self c =
     let seats = c.deref.ensures.value in
     let none = cleared c.self.inside.flags.items c.lower.new.flags.items c.self.inside.seats.items (vec_capacity c.self.inside.seats) c.self.invariant
-    c.lower.ensures.size (λ s. c.lower.ensures.flags s ∙ (λ i. is_marked c.self.inside.flags.items s && not (is_in s (seats i)))) in
+    c.lower.ensures.size (λ s. c.lower.ensures.flags s ∙ (λ i. is_up c.self.inside.flags.items s && not (is_in s (seats i)))) in
     subst (λ (ss : List ℕ). AreReached c.lower.new.flags.items ss (vec_capacity c.clear.new.self)) (sym c.clear.ensures.items)
     (subst (λ (n : ℕ). AreReached c.lower.new.flags.items [] n) (sym c.clear.ensures.capacity) none)

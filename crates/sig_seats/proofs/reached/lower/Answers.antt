@@ -1,8 +1,8 @@
 use Rattle.std.proofs.Common.{sym, ◌∙◌, arith}
 use Rattle.std.specs.Prelude.{get_or}
-use Rattle.sig_nodes.specs.Search.{is_marked}
-use Rattle.sig_nodes.proofs.Reaching.{down_size, in_get, lowered_end, lowered_step}
-use Rattle.sig_nodes.proofs.reached.lower.Goals as goal
+use Rattle.sig_seats.specs.Flags.{is_up}
+use Rattle.sig_seats.proofs.Flagged.{down_size, in_get, lowered_end, lowered_step}
+use Rattle.sig_seats.proofs.reached.lower.Goals as goal
 
 pub index_mut-requires : goal.index_mut-requires
 index_mut-requires c =
@@ -21,4 +21,4 @@ loop-seat-preserved c =
 
 pub returns-clause-flags : goal.returns-clause-flags
 returns-clause-flags c = λ s.
-    sym (lowered_end (is_marked c.loop-seat.flags.items s) s c.args.seats.now c.loop-seat.seat-index (omega arith)) ∙ c.loop-seat.invariant.flags s
+    sym (lowered_end (is_up c.loop-seat.flags.items s) s c.args.seats.now c.loop-seat.seat-index (omega arith)) ∙ c.loop-seat.invariant.flags s

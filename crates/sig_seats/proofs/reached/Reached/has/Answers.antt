@@ -1,7 +1,7 @@
 use Rattle.std.proofs.Common.{ℕ, List, ap, sym, ◌∙◌, arith}
 use Rattle.signal_model.specs.Standing.{is_in}
-use Rattle.sig_nodes.proofs.Reaching.{flag_past, flag_read}
-use Rattle.sig_nodes.proofs.reached.Reached.has.Goals as goal
+use Rattle.sig_seats.proofs.Flagged.{flag_past, flag_read}
+use Rattle.sig_seats.proofs.reached.Reached.has.Goals as goal
 
 pub returns-then-seat-len : goal.returns-then-seat-len
 returns-then-seat-len c =

@@ -1,9 +1,8 @@
 // The seats that a search has reached.
-ghost use Rattle.std.specs.Prelude.{◌≡◌, ℕ, ◌<◌, ◌≤◌, ◌&&◌, ◌++◌, ◌∷◌, not, [], length, true, false, IfOk};
+ghost use Rattle.std.specs.Prelude.{◌≡◌, ℕ, ◌<◌, ◌≤◌, ◌&&◌, ◌++◌, ◌∷◌, not, [], length, true, false, vec_len, vec_capacity, slice_get, IfOk, IfSome};
 ghost use Rattle.signal_model.specs.Standing.{is_in};
-ghost use Rattle.sig_nodes.specs.Search.{is_marked};
+ghost use Rattle.sig_seats.specs.Flags.{is_up};
 
-use crate::seats::push_in;
 use sig_base::{MOST_NODES, NoMemory};
 use std::alloc::Global;
 use std::marker::Model;
@@ -11,14 +10,14 @@ use std::marker::Model;
 /// Seats in the order in which a search came to them, with a flag for each seat. Both tables are made once, and of the flags only
 /// those of the listed seats are ever cleared.
 #[derive(Drop)]
-pub(crate) struct Reached {
+pub struct Reached {
     flags: Vec<bool>,
     seats: Vec<usize>,
 }
 
 impl Model for Reached {
     ghost use Rattle.std.specs.Prelude.{ℕ, List, vec_capacity};
-    ghost use Rattle.sig_nodes.specs.Search.{AreReached};
+    ghost use Rattle.sig_seats.specs.Flags.{AreReached};
 
     ghost Value = { List ℕ };
 
@@ -27,10 +26,22 @@ impl Model for Reached {
     ghost invariant = { λ r. AreReached r.flags.items r.seats.items (vec_capacity r.seats) };
 }
 
+/// Puts last, in room that is there.
+pub fn push_in<T: Drop>(all: &mut Vec<T>, one: T)
+    requires { vec_len all.old < vec_capacity all.old }
+    ensures items { all.new.items ≡ all.old.items ++ one ∷ [] }
+    ensures capacity { vec_capacity all.old ≤ vec_capacity all.new }
+{
+    match all.push(one) {
+        Ok(_) => {}
+        Err(_) => unreachable!(),
+    }
+}
+
 // Takes the flags of these seats down.
 fn lower(flags: &mut Vec<bool>, seats: &[usize])
     requires { (s : ℕ) → is_in s seats.now ≡ true → s < length flags.old.items }
-    ensures flags { (s : ℕ) → is_marked flags.new.items s ≡ (is_marked flags.old.items s && not (is_in s seats.now)) }
+    ensures flags { (s : ℕ) → is_up flags.new.items s ≡ (is_up flags.old.items s && not (is_in s seats.now)) }
     ensures size { length flags.new.items ≡ length flags.old.items }
 {
     for seat in seats {
@@ -40,7 +51,7 @@ fn lower(flags: &mut Vec<bool>, seats: &[usize])
 
 impl Reached {
     /// No seats.
-    pub(crate) fn new(alloc: Global) -> Result<Reached, NoMemory>
+    pub fn new(alloc: Global) -> Result<Reached, NoMemory>
         ensures { IfOk result (λ r. r ≡ []) }
     {
         let flags = vec![in alloc; false; MOST_NODES]?;
@@ -49,14 +60,27 @@ impl Reached {
     }
 
     /// The seats, in order.
-    pub(crate) fn seats(&self) -> &[usize]
+    pub fn seats(&self) -> &[usize]
         ensures { result.now ≡ self.now }
     {
         &self.seats
     }
 
+    /// The seat at a place, none past the last one. It takes no memory.
+    pub fn at(&self, place: usize) -> Option<usize>
+        ensures at { result ≡ slice_get self.now place }
+        ensures room { IfSome result (λ s. place < MOST_NODES) }
+    {
+        let count = self.seats.len();
+        if place < count {
+            Some(self.seats[place])
+        } else {
+            None
+        }
+    }
+
     /// Whether a seat is among them.
-    pub(crate) fn has(&self, seat: usize) -> bool
+    pub fn has(&self, seat: usize) -> bool
         ensures { result ≡ is_in seat self.now }
     {
         if seat < self.flags.len() {
@@ -66,8 +90,8 @@ impl Reached {
         }
     }
 
-    /// One seat more.
-    pub(crate) fn add(&mut self, seat: usize)
+    /// One seat more. It takes no memory.
+    pub fn add(&mut self, seat: usize)
         requires inside { seat < MOST_NODES }
         requires fresh { is_in seat self.old ≡ false }
         ensures seats { self.new ≡ self.old ++ seat ∷ [] }
@@ -78,8 +102,8 @@ impl Reached {
         push_in(&mut self.seats, seat);
     }
 
-    /// No seats any more.
-    pub(crate) fn clear(&mut self)
+    /// No seats any more. It goes over those that there were, and over no others.
+    pub fn clear(&mut self)
         ensures { self.new ≡ [] }
     {
         lower(&mut self.flags, &self.seats);

@@ -1,0 +1,2 @@
+mod Flagged
+pub mod Shared
