@@ -11,7 +11,7 @@ use Rattle.effect_model.specs.Worlds.{Watcher, watcher_numbers}
 use Rattle.effect_model.specs.Acts.{frozen_by, is_notified, is_reached, notified_by, some_name, waiting_if}
 use Rattle.sig_watcher.specs.declared.telling.Told.{Told}
 use Rattle.sig_watcher.specs.Numbers.{changed_at, AreNumbered}
-use Rattle.sig_watcher.specs.Reach.{AreReaching, NoneFlagged, SomeFlagged}
+use Rattle.sig_watcher.specs.Reach.{AreReaching, NoneFound, SomeFound}
 use Rattle.sig_watcher.specs.Tables.{waiting}
 use Rattle.sig_watcher.specs.Telling.{passes_at, told_at, told_entry, waiting_after}
 use Rattle.sig_watcher.proofs.Places.{length_changed, map_step, rises_changed}
@@ -56,11 +56,11 @@ numbered_after hit p made xs h = record {
 
 -- ---- whether it is notified
 
--- some of its signals are flagged exactly where one of them is reached
-pub flagged_is : (g : Seen) (n : ℕ) (flags : List Bool) (names : List ℕ) (b : Bool) → (b ≡ true → SomeFlagged g n flags names) → (b ≡ false → NoneFlagged g n flags names) →
-    OnlyComputedsKeep g.state.signals g.state.memos → AreReaching g n flags → b ≡ some_name (is_reached g.state.signals g.state.memos n) names
-flagged_is g n flags names true found clear only reaching = sym (some_reached g n flags names only reaching (found refl))
-flagged_is g n flags names false found clear only reaching = sym (none_reached g n flags names only reaching (clear refl))
+-- some of its signals are found exactly where one of them is reached
+pub found_is : (g : Seen) (n : ℕ) (seats : List ℕ) (names : List ℕ) (b : Bool) → (b ≡ true → SomeFound g n seats names) → (b ≡ false → NoneFound g n seats names) →
+    OnlyComputedsKeep g.state.signals g.state.memos → AreReaching g n seats → b ≡ some_name (is_reached g.state.signals g.state.memos n) names
+found_is g n seats names true found clear only reaching = sym (some_reached g n seats names only reaching (found refl))
+found_is g n seats names false found clear only reaching = sym (none_reached g n seats names only reaching (clear refl))
 
 -- ---- one after the other
 

@@ -1,56 +1,44 @@
--- Which live signals have a signal in the closure of their kept sources, by a flag for each seat.
-use Rattle.std.specs.Prelude.{◌≡◌, ℕ, ◌+◌, ◌==◌, ◌⊎◌, Bool, true, false, List, ◌++◌, length, Some, sum_by, slice_index_or, if◌then◌else◌}
+-- Which live signals have a signal in the closure of their kept sources, by the seats that a search reached.
+use Rattle.std.specs.Prelude.{◌≡◌, ℕ, ◌==◌, ◌⊎◌, Bool, true, false, List, ◌++◌, Some}
 use Rattle.signal_model.specs.Standing.{is_in, is_there, standing}
 use Rattle.signal_model.specs.Memos.{keeps}
 use Rattle.signal_model.specs.Marks.{IsBelow}
 use Rattle.sig_nodes.specs.Seats.{holder}
 use Rattle.sig_nodes.specs.States.{Seen}
 
--- whether the flag of a seat is up
-abbrev pub is_up : List Bool → ℕ → Bool
-is_up flags s = slice_index_or flags s false
-
--- how many flags are down
-abbrev pub flags_down : List Bool → ℕ
-flags_down flags = sum_by (λ b. if b then 0 else 1) flags
-
--- the flag of a live signal's seat is up
-pub record HasFlag (g : Seen) (flags : List Bool) (m : ℕ) : Type 0 where
+-- a live signal's seat is one of these
+pub record HasSeat (g : Seen) (seats : List ℕ) (m : ℕ) : Type 0 where
   pub seat : ℕ
   pub holds : holder g.seats seat ≡ Some m
-  pub flag : is_up flags seat ≡ true
+  pub listed : is_in seat seats ≡ true
 
--- a signal is the one that is looked for, or its flag is up
-abbrev pub IsFlagged : Seen → ℕ → List Bool → ℕ → Type 0
-IsFlagged g n flags m = (m ≡ n) ⊎ HasFlag g flags m
+-- a signal is the one that is looked for, or its seat was reached
+abbrev pub IsFound : Seen → ℕ → List ℕ → ℕ → Type 0
+IsFound g n seats m = (m ≡ n) ⊎ HasSeat g seats m
 
--- a signal is another one, and its flag is down, unless it is gone
-pub record IsUnflagged (g : Seen) (n : ℕ) (flags : List Bool) (m : ℕ) : Type 0 where
+-- a signal is another one, and its seat wasn't reached, unless it is gone
+pub record IsUnfound (g : Seen) (n : ℕ) (seats : List ℕ) (m : ℕ) : Type 0 where
   pub other : (m == n) ≡ false
-  pub down : (is_there (standing g.state.signals m) ≡ false) ⊎ ((s : ℕ) → holder g.seats s ≡ Some m → is_up flags s ≡ false)
+  pub off : (is_there (standing g.state.signals m) ≡ false) ⊎ ((s : ℕ) → holder g.seats s ≡ Some m → is_in s seats ≡ false)
 
--- one of these is flagged
-pub record SomeFlagged (g : Seen) (n : ℕ) (flags : List Bool) (names : List ℕ) : Type 0 where
+-- one of these is found
+pub record SomeFound (g : Seen) (n : ℕ) (seats : List ℕ) (names : List ℕ) : Type 0 where
   pub name : ℕ
   pub here : is_in name names ≡ true
-  pub flagged : IsFlagged g n flags name
+  pub found : IsFound g n seats name
 
--- none of these is flagged
-abbrev pub NoneFlagged : Seen → ℕ → List Bool → List ℕ → Type 0
-NoneFlagged g n flags names = (m : ℕ) → is_in m names ≡ true → IsUnflagged g n flags m
+-- none of these is found
+abbrev pub NoneFound : Seen → ℕ → List ℕ → List ℕ → Type 0
+NoneFound g n seats names = (m : ℕ) → is_in m names ≡ true → IsUnfound g n seats m
 
--- The flags that are up are those of the signals that have the signal in the closure of their kept sources: whose flag is up has it there,
--- and up is the flag of each that keeps the signal or one whose flag is up.
-pub record AreReaching (g : Seen) (n : ℕ) (flags : List Bool) : Type 0 where
-  pub sound : (m : ℕ) → HasFlag g flags m → IsBelow g.state.memos m n
-  pub settled : (m p : ℕ) → keeps g.state.memos m p ≡ true → IsFlagged g n flags p → HasFlag g flags m
+-- The seats that were reached are those of the signals that have the signal in the closure of their kept sources: who has one has it there,
+-- and reached is the seat of each that keeps the signal or one whose seat is reached.
+pub record AreReaching (g : Seen) (n : ℕ) (seats : List ℕ) : Type 0 where
+  pub sound : (m : ℕ) → HasSeat g seats m → IsBelow g.state.memos m n
+  pub settled : (m p : ℕ) → keeps g.state.memos m p ≡ true → IsFound g n seats p → HasSeat g seats m
 
--- Some flags went up and none went down. Those of whom they are pass a test, and wait behind the others.
-pub record Raises (g : Seen) (test : ℕ → Bool) (old new : List Bool) (before after : List ℕ) : Type 0 where
-  pub size : length new ≡ length old
-  pub room : flags_down new + length after ≡ flags_down old + length before
-  pub more : (m : ℕ) → HasFlag g old m → HasFlag g new m
-  pub raised : List ℕ
-  pub behind : after ≡ before ++ raised
-  pub passes : (m : ℕ) → is_in m raised ≡ true → test m ≡ true
-  pub listed : (m : ℕ) → HasFlag g new m → HasFlag g old m ⊎ (is_in m raised ≡ true)
+-- Some seats are reached too, behind the others. Who has one of them passes a test.
+pub record Adds (g : Seen) (test : ℕ → Bool) (old new : List ℕ) : Type 0 where
+  pub added : List ℕ
+  pub behind : new ≡ old ++ added
+  pub passes : (m : ℕ) → HasSeat g added m → test m ≡ true

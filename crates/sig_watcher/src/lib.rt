@@ -4,7 +4,6 @@
 mod errors;
 mod reach;
 mod telling;
-mod waiting;
 mod watcher;
 mod watchers;
 

@@ -1,15 +1,16 @@
-// Which live signals have a signal in the closure of their kept sources: from it along dependants, with a flag for each seat. A signal
-// whose flag went up waits for its own dependants to be looked at.
-ghost use Rattle.std.specs.Prelude.{◌≡◌, ℕ, ◌+◌, ◌==◌, ◌<◌, ◌≤◌, true, false, length, Some};
+// Which live signals have a signal in the closure of their kept sources: from it along dependants, by seats, each of which is reached
+// once. The list of reached seats is the queue too: those from a place on wait for the dependants of who has them.
+ghost use Rattle.std.specs.Prelude.{◌≡◌, ℕ, ◌==◌, true, false, Some};
 ghost use Rattle.signal_model.specs.Standing.{is_there, standing};
 ghost use Rattle.signal_model.specs.Memos.{keeps};
+ghost use Rattle.sig_nodes.specs.Search.{of_holder};
 ghost use Rattle.sig_nodes.specs.Seats.{holder};
-ghost use Rattle.sig_watcher.specs.Reach.{flags_down, is_up, AreReaching, HasFlag, IsFlagged, IsUnflagged, NoneFlagged, Raises, SomeFlagged};
+ghost use Rattle.sig_watcher.specs.Reach.{Adds, AreReaching, HasSeat, IsFound, IsUnfound, NoneFound, SomeFound};
 
-use crate::waiting::Waiting;
 use crate::watcher::is_among;
 use sig_base::{MOST_NODES, NodeId};
 use sig_nodes::{Graph, Standing};
+use sig_seats::Reached;
 
 fn is_live(graph: &Graph, name: NodeId) -> bool
     ensures { result ≡ is_there (standing graph.now.state.signals name) }
@@ -22,11 +23,10 @@ fn is_live(graph: &Graph, name: NodeId) -> bool
     }
 }
 
-// Whether a signal is the one that is looked for, or its flag is up.
-fn is_flagged(graph: &Graph, id: NodeId, flags: &[bool], name: NodeId) -> bool
-    requires { length flags.now ≡ MOST_NODES }
-    ensures found { result ≡ true → IsFlagged graph.now id flags.now name }
-    ensures clear { result ≡ false → IsUnflagged graph.now id flags.now name }
+// Whether a signal is the one that is looked for, or its seat was reached.
+fn is_found(graph: &Graph, id: NodeId, reached: &Reached, name: NodeId) -> bool
+    ensures found { result ≡ true → IsFound graph.now id reached.now name }
+    ensures clear { result ≡ false → IsUnfound graph.now id reached.now name }
 {
     if name == id {
         return true;
@@ -34,60 +34,52 @@ fn is_flagged(graph: &Graph, id: NodeId, flags: &[bool], name: NodeId) -> bool
     if !is_live(graph, name) {
         return false;
     }
-    flags[graph.seat(name)]
+    reached.has(graph.seat(name))
 }
 
-/// Whether one of these is the signal that is looked for, or has its flag up.
-pub(crate) fn is_some_flagged(graph: &Graph, id: NodeId, flags: &[bool], names: &[NodeId]) -> bool
-    requires { length flags.now ≡ MOST_NODES }
-    ensures found { result ≡ true → SomeFlagged graph.now id flags.now names.now }
-    ensures clear { result ≡ false → NoneFlagged graph.now id flags.now names.now }
+/// Whether one of these is the signal that is looked for, or has a seat that was reached.
+pub(crate) fn is_some_found(graph: &Graph, id: NodeId, reached: &Reached, names: &[NodeId]) -> bool
+    ensures found { result ≡ true → SomeFound graph.now id reached.now names.now }
+    ensures clear { result ≡ false → NoneFound graph.now id reached.now names.now }
 {
     for name in names {
-        if is_flagged(graph, id, flags, *name) {
+        if is_found(graph, id, reached, *name) {
             return true;
         }
     }
     false
 }
 
-// Raises the flag of a live signal, which waits from then on, unless it is up.
-fn raise(graph: &Graph, name: NodeId, flags: &mut [bool], waiting: &mut Waiting)
-    requires live { is_there (standing graph.now.state.signals name) ≡ true }
-    requires size { length flags.old ≡ MOST_NODES }
-    requires room { flags_down flags.old + length waiting.old ≤ MOST_NODES }
-    ensures raises { Raises graph.now (λ m. m == name) flags.old flags.new waiting.old waiting.new }
-    ensures up { HasFlag graph.now flags.new name }
+// Reaches the seat of a live signal, unless it was reached.
+fn add(graph: &Graph, name: NodeId, reached: &mut Reached)
+    requires { is_there (standing graph.now.state.signals name) ≡ true }
+    ensures adds { Adds graph.now (λ m. m == name) reached.old reached.new }
+    ensures there { HasSeat graph.now reached.new name }
 {
     let seat = graph.seat(name);
-    if flags[seat] {
+    if reached.has(seat) {
         return;
     }
-    flags[seat] = true;
-    waiting.push(name);
+    reached.add(seat);
 }
 
-// Raises the flags of those that keep a live signal, which are its dependants.
-fn raise_dependants(graph: &Graph, id: NodeId, flags: &mut [bool], waiting: &mut Waiting)
-    requires live { is_there (standing graph.now.state.signals id) ≡ true }
-    requires size { length flags.old ≡ MOST_NODES }
-    requires room { flags_down flags.old + length waiting.old ≤ MOST_NODES }
-    ensures raises { Raises graph.now (λ m. keeps graph.now.state.memos m id) flags.old flags.new waiting.old waiting.new }
-    ensures up { (m : ℕ) → keeps graph.now.state.memos m id ≡ true → HasFlag graph.now flags.new m }
+// Reaches the seats of those that keep a live signal, which are its dependants.
+fn add_dependants(graph: &Graph, id: NodeId, reached: &mut Reached)
+    requires { is_there (standing graph.now.state.signals id) ≡ true }
+    ensures adds { Adds graph.now (λ m. keeps graph.now.state.memos m id) reached.old reached.new }
+    ensures there { (m : ℕ) → keeps graph.now.state.memos m id ≡ true → HasSeat graph.now reached.new m }
 {
     let mut place: usize = 0;
     while let Some(name) = graph.dependant(id, place) {
-        raise(graph, name, flags, waiting);
+        add(graph, name, reached);
         place += 1;
     }
 }
 
-// Raises the flag of a seat's signal if it keeps another one.
-fn raise_at(graph: &Graph, id: NodeId, seat: usize, flags: &mut [bool], waiting: &mut Waiting)
-    requires size { length flags.old ≡ MOST_NODES }
-    requires room { flags_down flags.old + length waiting.old ≤ MOST_NODES }
-    ensures raises { Raises graph.now (λ m. keeps graph.now.state.memos m id) flags.old flags.new waiting.old waiting.new }
-    ensures up { (m : ℕ) → holder graph.now.seats seat ≡ Some m → keeps graph.now.state.memos m id ≡ true → HasFlag graph.now flags.new m }
+// Reaches a seat if its signal keeps another one.
+fn add_keeper(graph: &Graph, id: NodeId, seat: usize, reached: &mut Reached)
+    ensures adds { Adds graph.now (λ m. keeps graph.now.state.memos m id) reached.old reached.new }
+    ensures there { (m : ℕ) → holder graph.now.seats seat ≡ Some m → keeps graph.now.state.memos m id ≡ true → HasSeat graph.now reached.new m }
 {
     let Some(name) = graph.at_seat(seat) else {
         return;
@@ -95,45 +87,52 @@ fn raise_at(graph: &Graph, id: NodeId, seat: usize, flags: &mut [bool], waiting:
     if !is_among(graph.sources(name), id) {
         return;
     }
-    raise(graph, name, flags, waiting);
+    add(graph, name, reached);
 }
 
-// Raises the flags of those that keep a signal that is gone: it goes over all seats, since of such a signal no dependants are known.
-fn raise_keepers(graph: &Graph, id: NodeId, flags: &mut [bool], waiting: &mut Waiting)
-    requires size { length flags.old ≡ MOST_NODES }
-    requires room { flags_down flags.old + length waiting.old ≤ MOST_NODES }
-    ensures raises { Raises graph.now (λ m. keeps graph.now.state.memos m id) flags.old flags.new waiting.old waiting.new }
-    ensures up { (m : ℕ) → keeps graph.now.state.memos m id ≡ true → HasFlag graph.now flags.new m }
+// Reaches the seats of those that keep a signal that is gone: it goes over all seats, since of such a signal no dependants are known.
+fn add_keepers(graph: &Graph, id: NodeId, reached: &mut Reached)
+    ensures adds { Adds graph.now (λ m. keeps graph.now.state.memos m id) reached.old reached.new }
+    ensures there { (m : ℕ) → keeps graph.now.state.memos m id ≡ true → HasSeat graph.now reached.new m }
 {
     let _made = graph.made();
     for seat in 0..MOST_NODES {
-        raise_at(graph, id, seat, flags, waiting);
+        add_keeper(graph, id, seat, reached);
     }
 }
 
-// Raises the flags of those that keep a signal.
-fn raise_readers(graph: &Graph, id: NodeId, flags: &mut [bool], waiting: &mut Waiting)
-    requires size { length flags.old ≡ MOST_NODES }
-    requires room { flags_down flags.old + length waiting.old ≤ MOST_NODES }
-    ensures raises { Raises graph.now (λ m. keeps graph.now.state.memos m id) flags.old flags.new waiting.old waiting.new }
-    ensures up { (m : ℕ) → keeps graph.now.state.memos m id ≡ true → HasFlag graph.now flags.new m }
+// Reaches the seats of those that keep a signal.
+fn add_readers(graph: &Graph, id: NodeId, reached: &mut Reached)
+    ensures adds { Adds graph.now (λ m. keeps graph.now.state.memos m id) reached.old reached.new }
+    ensures there { (m : ℕ) → keeps graph.now.state.memos m id ≡ true → HasSeat graph.now reached.new m }
 {
     if !is_live(graph, id) {
-        raise_keepers(graph, id, flags, waiting);
+        add_keepers(graph, id, reached);
         return;
     }
-    raise_dependants(graph, id, flags, waiting);
+    add_dependants(graph, id, reached);
 }
 
-/// Raises, where all are down, the flags of those that have a signal in the closure of their kept sources. It takes no memory.
-pub(crate) fn reach(graph: &Graph, id: NodeId, flags: &mut [bool])
-    requires size { length flags.old ≡ MOST_NODES }
-    requires down { (s : ℕ) → is_up flags.old s ≡ false }
-    ensures { AreReaching graph.now id flags.new }
+// Reaches the seats of those that keep who has a seat.
+fn add_from(graph: &Graph, seat: usize, reached: &mut Reached)
+    ensures adds { Adds graph.now (λ m. of_holder (keeps graph.now.state.memos m) (holder graph.now.seats seat)) reached.old reached.new }
+    ensures there { (m p : ℕ) → holder graph.now.seats seat ≡ Some p → keeps graph.now.state.memos m p ≡ true → HasSeat graph.now reached.new m }
 {
-    let mut waiting = Waiting::new();
-    raise_readers(graph, id, flags, &mut waiting);
-    while let Some(next) = waiting.pop() {
-        raise_readers(graph, next, flags, &mut waiting);
+    let Some(name) = graph.at_seat(seat) else {
+        return;
+    };
+    add_dependants(graph, name, reached);
+}
+
+/// Reaches the seats of those that have a signal in the closure of their kept sources, and no others. It takes no memory.
+pub(crate) fn reach(graph: &Graph, id: NodeId, reached: &mut Reached)
+    ensures { AreReaching graph.now id reached.new }
+{
+    reached.clear();
+    add_readers(graph, id, reached);
+    let mut place: usize = 0;
+    while let Some(seat) = reached.at(place) {
+        add_from(graph, seat, reached);
+        place += 1;
     }
 }

@@ -9,10 +9,11 @@ ghost use Rattle.sig_watcher.specs.Reach.{AreReaching};
 ghost use Rattle.effect_model.specs.Watching.{is_clean, is_pending, pending_of};
 ghost use Rattle.sig_watcher.specs.Telling.{passes_at, told_at, told_entry, waiting_after};
 
-use crate::reach::{is_some_flagged, reach};
+use crate::reach::{is_some_found, reach};
 use crate::watcher::Watcher;
-use sig_base::{MOST_NODES, NoMemory, NodeId, WatcherId};
+use sig_base::{NoMemory, NodeId, WatcherId};
 use sig_nodes::{Graph, Mark, Standing};
+use sig_seats::Reached;
 use std::alloc::Global;
 
 /// A watcher that was notified.
@@ -25,15 +26,14 @@ pub struct Told {
 
 // ---- who is told
 
-// Whether the watcher at a place is notified of a change, by the flags of those that the change reaches.
-fn is_hit(graph: &Graph, id: NodeId, flags: &[bool], watchers: &[Watcher], place: usize) -> bool
-    requires size { length flags.now ≡ MOST_NODES }
-    requires place { place < length watchers.now }
-    ensures { OnlyComputedsKeep graph.now.state.signals graph.now.state.memos → AreReaching graph.now id flags.now →
+// Whether the watcher at a place is notified of a change, by the seats that the change reaches.
+fn is_hit(graph: &Graph, id: NodeId, reached: &Reached, watchers: &[Watcher], place: usize) -> bool
+    requires { place < length watchers.now }
+    ensures { OnlyComputedsKeep graph.now.state.signals graph.now.state.memos → AreReaching graph.now id reached.now →
         result ≡ passes_at (is_notified graph.now.state.signals graph.now.state.memos id) place watchers.now }
 {
     let watcher = &watchers[place];
-    watcher.is_watching() && is_some_flagged(graph, id, flags, watcher.signals())
+    watcher.is_watching() && is_some_found(graph, id, reached, watcher.signals())
 }
 
 // Tells of the watcher at a place where it is notified, which is waiting afterwards.
@@ -65,8 +65,15 @@ fn told_entry(watcher: &Watcher) -> Told
     }
 }
 
-/// Tells of all watchers that a change of a signal notifies, which are waiting afterwards.
-pub(crate) fn tell_all(watchers: &mut Vec<Watcher>, graph: &Graph, id: NodeId, told: &mut Vec<Told>)
+/// Tells of all watchers that a change of a signal notifies, which are waiting afterwards. Of the table of seats it clears those that the
+/// change before reached.
+pub(crate) fn tell_all(
+    watchers: &mut Vec<Watcher>,
+    reached: &mut Reached,
+    graph: &Graph,
+    id: NodeId,
+    told: &mut Vec<Told>,
+)
     requires room { vec_len told.old + length watchers.old.items ≤ vec_capacity told.old }
     ensures told { OnlyComputedsKeep graph.now.state.signals graph.now.state.memos →
         told.new.items ≡ told.old.items ++ map told_entry (notified_by graph.now.state.signals graph.now.state.memos id watchers.old.items) }
@@ -74,10 +81,9 @@ pub(crate) fn tell_all(watchers: &mut Vec<Watcher>, graph: &Graph, id: NodeId, t
         watchers.new.items ≡ map (waiting_if (is_notified graph.now.state.signals graph.now.state.memos id)) watchers.old.items }
     ensures numbered { (made : ℕ) → AreNumbered watchers.old.items made → AreNumbered watchers.new.items made }
 {
-    let mut flags = [false; MOST_NODES];
-    reach(graph, id, &mut flags);
+    reach(graph, id, reached);
     for place in 0..watchers.len() {
-        let hit = is_hit(graph, id, &flags, watchers, place);
+        let hit = is_hit(graph, id, reached, watchers, place);
         tell_at(hit, watchers, place, told);
     }
 }

@@ -15,14 +15,17 @@ use crate::watcher::{Watcher, is_among};
 use effect_model::MOST_WATCHERS;
 use sig_base::{NoMemory, NodeId, WatcherId};
 use sig_nodes::Graph;
+use sig_seats::Reached;
 use std::alloc::Global;
 use std::marker::Model;
 
-/// Watchers, with the signals that each watches. Signals that are disposed are to be forgotten.
+/// Watchers, with the signals that each watches, and the table of the seats that the last change reached. Signals that are disposed are
+/// to be forgotten.
 pub struct Watchers {
     alloc: Global,
     watchers: Vec<Watcher>,
     made: u128,
+    reached: Reached,
 }
 
 impl Drop for Watchers {
@@ -31,6 +34,7 @@ impl Drop for Watchers {
             alloc: _,
             watchers: _,
             made: _,
+            reached: _,
         } = self;
     }
 }
@@ -56,6 +60,7 @@ impl Watchers {
             alloc,
             watchers: Vec::new(alloc),
             made: 0,
+            reached: Reached::new(alloc)?,
         })
     }
 
@@ -164,7 +169,8 @@ impl Watchers {
 
     /// Tells of a change of a signal: of each watcher that is watching, and one of whose signals is the changed one or has it in the
     /// closure of its kept sources, in the order of making. They are put behind what the list has, in room that is there for all
-    /// that live, and are waiting afterwards. It takes no memory.
+    /// that live, and are waiting afterwards. It takes no memory, and costs what the change before reached, what this one reaches, and
+    /// the watchers; of a signal that is gone it looks at all seats.
     pub fn tell(&mut self, graph: &Graph, id: NodeId, told: &mut Vec<Told>)
         requires room { vec_len told.old + length self.old.watchers ≤ vec_capacity told.old }
         ensures told { told.new.items ≡ told.old.items ++ map told_entry (notified_by graph.now.state.signals graph.now.state.memos id self.old.watchers) }
@@ -174,7 +180,7 @@ impl Watchers {
             return;
         }
         let _made = graph.made();
-        tell_all(&mut self.watchers, graph, id, told);
+        tell_all(&mut self.watchers, &mut self.reached, graph, id, told);
     }
 
     /// Takes a signal out of all watchers. It takes no memory.

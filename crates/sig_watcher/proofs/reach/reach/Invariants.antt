@@ -1,10 +1,10 @@
-use Rattle.std.proofs.Common.{◌+◌, length}
-use Rattle.sig_watcher.specs.Reach.{flags_down}
+use Rattle.std.proofs.Common.{◌-◌}
+use Rattle.sig_base.specs.declared.limits.TheConstants.{MOST_NODES}
 use Rattle.sig_watcher.proofs.Reaching.{IsUnderway}
 use Rattle.sig_watcher.proofs.reach.reach.Given as goal
 
-abbrev pub decreases-loop-next : goal.decreases-loop-next
-decreases-loop-next l = flags_down l.flags + length l.waiting
+abbrev pub decreases-loop-seat : goal.decreases-loop-seat
+decreases-loop-seat l = MOST_NODES - l.place
 
-abbrev pub invariant-loop-next : goal.invariant-loop-next
-invariant-loop-next l = IsUnderway l.graph l.fn.id l.flags l.waiting
+abbrev pub invariant-loop-seat : goal.invariant-loop-seat
+invariant-loop-seat l = IsUnderway l.graph l.fn.id l.reached l.place

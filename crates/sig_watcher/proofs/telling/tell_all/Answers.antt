@@ -5,11 +5,7 @@ use Rattle.sig_watcher.specs.Numbers.{AreNumbered}
 use Rattle.sig_watcher.specs.Telling.{passes_at, waiting_after}
 use Rattle.sig_watcher.proofs.Notices.{numbered_after, told_step, waiting_step}
 use Rattle.sig_watcher.proofs.Places.{length_changed}
-use Rattle.sig_watcher.proofs.Reaching.{all_down}
 use Rattle.sig_watcher.proofs.telling.tell_all.Goals as goal
-
-pub reach-requires-clause-down : goal.reach-requires-clause-down
-reach-requires-clause-down c = all_down 512
 
 pub loop-place-preserved : goal.loop-place-preserved
 loop-place-preserved c =
