@@ -98,9 +98,9 @@ fn bounds_what_lives(rt: HostRuntime) -> Result<(), Fail> {
 #[test]
 fn bounds_signals(rt: HostRuntime) -> Result<(), Fail> {
     let alloc = rt.alloc();
-    let lists = numbered(alloc, 170, "list l", " (n)\n")?;
-    let cells = numbered(alloc, 171, "cell c", " = 1\n")?;
-    let computeds = numbered(alloc, 171, "computed d", " = 1\n")?;
+    let lists = numbered(alloc, 5460, "list l", " (n)\n")?;
+    let cells = numbered(alloc, 5462, "cell c", " = 1\n")?;
+    let computeds = numbered(alloc, 5462, "computed d", " = 1\n")?;
     assert_joined(
         &rt,
         alloc,

@@ -8,6 +8,8 @@ mod clean;
 #[cfg(test)]
 mod cuts;
 #[cfg(test)]
+mod deep;
+#[cfg(test)]
 mod effects;
 #[cfg(test)]
 mod elements;

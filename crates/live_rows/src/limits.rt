@@ -285,7 +285,7 @@ fn mounted(alloc: Global, count: u32) -> Result<String, AllocError> {
 #[test]
 fn bounds_what_is_made(rt: HostRuntime) -> Result<(), Fail> {
     let alloc = rt.alloc();
-    let cells = numbered(alloc, 511, "cell c", " = 1\n")?;
+    let cells = numbered(alloc, 16_383, "cell c", " = 1\n")?;
     let templates = numbered(alloc, 64, "template t", "\ntext 1\nend\n")?;
     let pages = numbered(alloc, 9, "mount p", " t\n")?;
     let passed = joined(alloc, &[mounted(alloc, 8)?.as_str(), "error 5 pages\n"])?;
@@ -305,7 +305,7 @@ fn bounds_what_is_made(rt: HostRuntime) -> Result<(), Fail> {
         alloc,
         &[
             cells.as_str(),
-            "computed x = c0 + c510\nget x\ncell y = 1\ncomputed y = zz\ncomputed y = 1\ncell x = 1\nget y\ndispose c0\ncell y = 1\nget x\nget y",
+            "computed x = c0 + c16382\nget x\ncell y = 1\ncomputed y = zz\ncomputed y = 1\ncell x = 1\nget y\ndispose c0\ncell y = 1\nget x\nget y",
         ],
         "x = 2\nerror 5 nodes\nerror 2 zz\nerror 5 nodes\nerror 3 x\nerror 2 y\nx ! gone\ny = 1\n",
     )?;

@@ -25,6 +25,9 @@ pub(crate) const TODO: &str =
 pub(crate) const TODO_OUTPUT: &str =
     "op main insert 0 0 (1 section class=\"todo\" (2 ul (3 li data-key=\"a\" (4 \"Milk\")) (5 li data-key=\"b\" (6 \"Tea\")) (7 li data-key=\"c\" (8 \"Bread\"))) (9 p (10 \"2 open\")))\npage main 132\n<section class=\"todo\"><ul><li data-key=\"a\">Milk</li><li data-key=\"b\">Tea</li><li data-key=\"c\">Bread</li></ul><p>2 open</p></section>\nop side insert 0 0 (1 section class=\"todo\" (2 ul (3 li data-key=\"a\" (4 \"Milk\")) (5 li data-key=\"b\" (6 \"Tea\")) (7 li data-key=\"c\" (8 \"Bread\"))) (9 p (10 \"2 open\")))\npage side 132\n<section class=\"todo\"><ul><li data-key=\"a\">Milk</li><li data-key=\"b\">Tea</li><li data-key=\"c\">Bread</li></ul><p>2 open</p></section>\nop main remove 3\nop main remove 5\nop main text 10 \"1 open\"\npage main 81\n<section class=\"todo\"><ul><li data-key=\"c\">Bread</li></ul><p>1 open</p></section>\nop side remove 3\nop side remove 5\nop side text 10 \"1 open\"\npage side 81\n<section class=\"todo\"><ul><li data-key=\"c\">Bread</li></ul><p>1 open</p></section>\nop main remove 7\nop main insert 1 1 (11 p (12 \"Nothing here.\"))\nop main text 10 \"0 open\"\npage main 74\n<section class=\"todo\"><ul></ul><p>Nothing here.</p><p>0 open</p></section>\n";
 
+// The room of a sink that never fails, in bytes.
+const MOST_HELD: usize = 1_048_576;
+
 /// A run: its status and what the sink holds after it.
 #[derive(Drop)]
 pub(crate) struct Run {
@@ -82,7 +85,7 @@ pub(crate) fn run_over(
 {
     let bytes = script.to_vec(alloc)?;
     let mut source = MemSource::new(bytes, most, takes);
-    let mut sink = MemSink::new(alloc, 100_000, most, puts)?;
+    let mut sink = MemSink::new(alloc, MOST_HELD, most, puts)?;
     let status = run_between(alloc, line, &mut source, &mut sink)?;
     Ok(Run {
         status,

@@ -27,8 +27,8 @@ pub const MOST_LINE: usize = 4096;
 /// The most lines of a template, without its first and its `end`.
 pub const MOST_TEMPLATE_LINES: usize = 128;
 
-/// The most cells and computeds that live at once.
-pub const MOST_NODES: usize = 512;
+/// The most cells, lists and computeds that live at once.
+pub const MOST_NODES: usize = 16_384;
 
 /// The most templates.
 pub const MOST_TEMPLATES: usize = 64;
