@@ -7,7 +7,7 @@ use Rattle.sig_store.specs.declared.store.Held.{Held}
 use Rattle.std.proofs.lemmas.Bool.{eqb-true}
 use Rattle.std.proofs.lemmas.List.Sums.{sum_by-set}
 use Rattle.sig_store.specs.Stored.{entry, seen}
-use Rattle.sig_store.specs.Places.{counted_up, value_there, entries_by, IsStore}
+use Rattle.sig_store.specs.Places.{counted_up, number_there, value_there, entries_by, IsStore}
 
 module _ {A : Type 0} where
   pub length-counted_up : (f : ℕ → A) (n : ℕ) → length (counted_up f n) ≡ n
@@ -148,10 +148,20 @@ module _ {T : Type 0} (at later : ℕ → Option ℕ) (look after : ℕ → Opti
       let before : at m ≡ Some q = sym (edit.numbers m other) ∙ there in
       ap (option_map (λ (h : Held T). h.number)) (edit.places q (λ same. edit.own m other (before ∙ ap Some same))) ∙ store.stands m q before
 
+  -- what other places hold has its place
+  elsewhere_own : (made : ℕ) → IsStore at look made → Edits at later look after n p → ((q : ℕ) → q ≢ p → at n ≡ Some q → ⊥) → (m q : ℕ) → q ≢ p → number_there after q ≡ Some m → later m ≡ Some q
+  elsewhere_own made store edit away m q other holding =
+      let before : at m ≡ Some q = store.own.place m q (ap (option_map (λ (h : Held T). h.number)) (sym (edit.places q other)) ∙ holding) in
+      elim (cases_eq m n) [
+        | inl same ↦ absurd (away q other (ap at (sym same) ∙ before))
+        | inr apart ↦ edit.numbers m apart ∙ before
+      ]
+
   -- all that is known of a store holds where it holds of the number that is edited
   pub stays_store : (made next : ℕ) → IsStore at look made → Edits at later look after n p → made ≤ next
-      → ((q : ℕ) → later n ≡ Some q → (option_map (λ (h : Held T). h.number) (after q) ≡ Some n) × (n < next)) → IsStore later after next
-  stays_store made next store edit more here = record {
+      → ((q : ℕ) → later n ≡ Some q → (option_map (λ (h : Held T). h.number) (after q) ≡ Some n) × (n < next))
+      → ((m : ℕ) → number_there after p ≡ Some m → later m ≡ Some p) → ((q : ℕ) → q ≢ p → at n ≡ Some q → ⊥) → IsStore later after next
+  stays_store made next store edit more here mine away = record {
     stands = λ m q there. elim (cases_eq m n) [
       | inl same ↦ (here q (ap later (sym same) ∙ there)).0 ∙ ap Some (sym same)
       | inr other ↦ others_stand made store edit m q other there
@@ -160,6 +170,12 @@ module _ {T : Type 0} (at later : ℕ → Option ℕ) (look after : ℕ → Opti
       | inl same ↦ let l = (here q (ap later (sym same) ∙ there)).1 in omega (arith, same, l)
       | inr other ↦ let l = store.below m q (sym (edit.numbers m other) ∙ there) in omega (arith, l, more)
     ];
+    own = record {
+      place = λ m q holding. elim (cases_eq q p) [
+        | inl same ↦ mine m (ap (number_there after) (sym same) ∙ holding) ∙ ap Some (sym same)
+        | inr other ↦ elsewhere_own made store edit away m q other holding
+      ];
+    };
   }
 
 -- another number is another key
@@ -169,6 +185,13 @@ differs n j other = by (nat_eq n j) refl
     by : (b : Bool) → nat_eq n j ≡ b → b ≡ false
     by true e = absurd (other (sym (eqb-true n j e)))
     by false e = refl
+
+-- a number has one place
+pub one_place : (at : ℕ → Option ℕ) (n p : ℕ) → at n ≡ Some p → (q : ℕ) → q ≢ p → at n ≡ Some q → ⊥
+one_place at n p here q other there =
+    let e : Some q ≡ Some p = sym there ∙ here in
+    let same : q ≡ p = cc in
+    other same
 
 -- how much a slot counts
 abbrev one_if : Bool → ℕ
@@ -190,6 +213,20 @@ module _ {T : Type 0} where
       let e : Some q ≡ Some p = sym there ∙ here in
       let same : q ≡ p = cc in
       (ap (λ k. option_map (λ (x : Held T). x.number) (after k)) same ∙ ap (option_map (λ (x : Held T). x.number)) found ∙ ap Some number, below)
+
+  -- what it holds is that number's
+  pub owns : (later : ℕ → Option ℕ) (after : ℕ → Option (Held T)) (n p : ℕ) (h : Held T) → later n ≡ Some p → after p ≡ Some h → h.number ≡ n
+      → (m : ℕ) → number_there after p ≡ Some m → later m ≡ Some p
+  owns later after n p h here found number m holding =
+      let e : Some m ≡ Some n = sym holding ∙ ap (option_map (λ (x : Held T). x.number)) found ∙ ap Some number in
+      let same : m ≡ n = cc in
+      ap later same ∙ here
+
+  -- an empty place holds nothing
+  pub owns_none : (later : ℕ → Option ℕ) (after : ℕ → Option (Held T)) (p : ℕ) → after p ≡ None → (m : ℕ) → number_there after p ≡ Some m → later m ≡ Some p
+  owns_none later after p empty m holding =
+      let e : None ≡ Some m = ap (option_map (λ (x : Held T). x.number)) (sym empty) ∙ holding in
+      absurd (cc)
 
   -- the same entries and the same room are the same
   pub alike : (es ds : List (Option T)) (r q : ℕ) → es ≡ ds → r ≡ q → seen es r ≡ seen ds q

@@ -16,14 +16,23 @@ module _ {T : Type 0} where
   value_there look None = None
   value_there look (Some p) = option_map (λ (h : Held T). h.value) (look p)
 
+  -- the number of which a place holds the value, if it holds one
+  abbrev pub number_there : (ℕ → Option (Held T)) → ℕ → Option ℕ
+  number_there look p = option_map (λ (h : Held T). h.number) (look p)
+
+  -- what a place holds is of the number that has the place
+  pub record AreOwn (at : ℕ → Option ℕ) (look : ℕ → Option (Held T)) : Type 0 where
+    pub place : (n p : ℕ) → number_there look p ≡ Some n → at n ≡ Some p
+
   -- what stands under each number that was given, by the places of numbers and by what places hold
   unfoldable pub entries_by : (ℕ → Option ℕ) → (ℕ → Option (Held T)) → ℕ → List (Option T)
   entries_by at look made = counted_up (λ n. value_there look (at n)) made
 
-  -- What holds of them: a number's place holds it, and the number was given.
+  -- What holds of them: a number's place holds it, and the number was given; and a place that holds something is that number's.
   pub record IsStore (at : ℕ → Option ℕ) (look : ℕ → Option (Held T)) (made : ℕ) : Type 0 where
-    pub stands : (n p : ℕ) → at n ≡ Some p → option_map (λ (h : Held T). h.number) (look p) ≡ Some n
+    pub stands : (n p : ℕ) → at n ≡ Some p → number_there look p ≡ Some n
     pub below : (n p : ℕ) → at n ≡ Some p → n < made
+    pub own : AreOwn at look
 
   -- how many more fit without memory
   abbrev pub room_of : {S : Type 0} → IndexMap ℕ ℕ S → Slab T → ℕ

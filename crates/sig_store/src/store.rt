@@ -1,16 +1,19 @@
 // Values by number.
-ghost use Rattle.std.specs.Prelude.{◌≡◌, ◌+◌, ◌<◌, ◌≤◌, ◌^◌, ◌++◌, ◌∷◌, [], length, IsSome, Some, None, OnOk, nat_eq, option_copied, slice_set};
+ghost use Rattle.std.specs.Prelude.{◌≡◌, ◌+◌, ◌<◌, ◌≤◌, ◌^◌, ◌++◌, ◌∷◌, [], length, IsSome, IfSome, Some, None, OnOk, nat_eq, option_copied, slice_set};
 ghost use Rattle.std.specs.Borrow.{sem};
 ghost use Rattle.indexmap.specs.IndexMap.{get, spare, Updates};
 ghost use Rattle.slab.specs.Slab.{get as held_at};
 ghost use Rattle.sig_store.specs.Stored.{entry};
-ghost use Rattle.sig_store.specs.Places.{value_there};
+ghost use Rattle.sig_store.specs.Places.{number_there, value_there, AreOwn};
 
 use indexmap::IndexMap;
 use sig_base::NoMemory;
 use slab::Slab;
 use std::alloc::Global;
 use std::marker::Model;
+
+// How many hints there are: the place that was given last to a number with a remainder by this is told without the index.
+const HINTS: usize = 32_768;
 
 // A value and its number.
 #[derive(Drop)]
@@ -24,6 +27,8 @@ struct Held<T> {
 #[derive(Drop)]
 pub struct Store<T> {
     places: IndexMap<u128, usize>,
+    // the place that was given last to a number with each remainder, be its value there still or not
+    hints: Vec<usize>,
     held: Slab<Held<T>>,
     made: u128,
 }
@@ -45,19 +50,65 @@ impl<T> Model for Store<T> {
     ghost invariant = { λ s. IsStore (get nat_eq s.places) (held_at s.held) s.made };
 }
 
+// The hint that is a number's.
+fn hint_of(number: u128) -> usize {
+    (number % HINTS as u128) as usize
+}
+
+// Makes each hint, where there is none yet.
+fn fill_hints(hints: &mut Vec<usize>) -> Result<(), NoMemory> {
+    hints.resize(HINTS, 0)?;
+    Ok(())
+}
+
+// Makes a place the hint of a number, if there are hints.
+fn note_hint(hints: &mut [usize], number: u128, place: usize) {
+    if let Some(hint) = hints.get_mut(hint_of(number)) {
+        *hint = place;
+    }
+}
+
+// The place that is a number's hint, where it holds the value of that number.
+fn hinted_place<T>(hints: &[usize], held: &Slab<Held<T>>, number: u128) -> Option<usize>
+    ensures { IfSome result (λ p. number_there (held_at held.now) p ≡ Some number) }
+{
+    let place = *hints.get(hint_of(number))?;
+    let one = held.get(place)?;
+    if one.number == number {
+        Some(place)
+    } else {
+        None
+    }
+}
+
 // Where the value of a number stands.
-fn place_of(places: &IndexMap<u128, usize>, number: u128) -> Option<usize>
+fn place_of<T>(
+    places: &IndexMap<u128, usize>,
+    hints: &[usize],
+    held: &Slab<Held<T>>,
+    number: u128,
+) -> Option<usize>
+    requires { AreOwn (get nat_eq places.now) (held_at held.now) }
     ensures { result ≡ get nat_eq places.now number }
 {
-    places.get(&number).copied()
+    match hinted_place(hints, held, number) {
+        Some(place) => Some(place),
+        None => places.get(&number).copied(),
+    }
 }
 
 // Where the value of a number that stands does.
-fn standing_place(places: &IndexMap<u128, usize>, number: u128) -> usize
-    requires { IsSome (get nat_eq places.now number) }
+fn standing_place<T>(
+    places: &IndexMap<u128, usize>,
+    hints: &[usize],
+    held: &Slab<Held<T>>,
+    number: u128,
+) -> usize
+    requires own { AreOwn (get nat_eq places.now) (held_at held.now) }
+    requires stands { IsSome (get nat_eq places.now number) }
     ensures { get nat_eq places.now number ≡ Some result }
 {
-    match place_of(places, number) {
+    match place_of(places, hints, held, number) {
         Some(place) => place,
         None => unreachable!(),
     }
@@ -107,6 +158,7 @@ impl<T> Store<T> {
     {
         Store {
             places: IndexMap::new(alloc),
+            hints: Vec::new(alloc),
             held: Slab::new(alloc),
             made: 0,
         }
@@ -119,6 +171,7 @@ impl<T> Store<T> {
     {
         self.places.reserve(more)?;
         self.held.reserve(more)?;
+        fill_hints(&mut self.hints)?;
         Ok(())
     }
 
@@ -133,7 +186,7 @@ impl<T> Store<T> {
     pub fn get(&self, number: u128) -> Option<&T>
         ensures { option_copied result ≡ entry self.now.entries number }
     {
-        match place_of(&self.places, number) {
+        match place_of(&self.places, &self.hints, &self.held, number) {
             Some(place) => value_in(&self.held, place),
             None => None,
         }
@@ -145,7 +198,7 @@ impl<T> Store<T> {
         ensures* writes_back { sem 𝓛 (lends_value T.row self.entry number result) }
         ensures value { entry self.old.entries number ≡ Some result.now }
     {
-        let place = standing_place(&self.places, number);
+        let place = standing_place(&self.places, &self.hints, &self.held, number);
         let held = &mut self.held[place];
         &mut held.value
     }
@@ -161,6 +214,7 @@ impl<T> Store<T> {
         let number = self.made;
         let place = self.held.insert_reserved(Held { number, value });
         note_place(&mut self.places, number, place);
+        note_hint(&mut self.hints, number, place);
         self.made += 1;
         number
     }

@@ -5,6 +5,9 @@ use Rattle.sig_store.specs.Places.{value_there}
 use Rattle.sig_store.proofs.Placing.{entry-there}
 use Rattle.sig_store.proofs.store.Store.get.Goals as goal
 
+pub place_of-requires : goal.place_of-requires
+place_of-requires g c = c.self.invariant.own
+
 pub returns-in-Some : goal.returns-in-Some
 returns-in-Some g c =
     rw (← c.self.view_is) (

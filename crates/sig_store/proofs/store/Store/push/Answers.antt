@@ -3,7 +3,7 @@ use Rattle.indexmap.specs.IndexMap.{get}
 use Rattle.slab.specs.Slab.{get as held_at}
 use Rattle.std.specs.Option.{option_map}
 use Rattle.sig_store.specs.Places.{value_there}
-use Rattle.sig_store.proofs.Placing.{entries-length, unused, differs, Edits, added, stays_store, holds}
+use Rattle.sig_store.proofs.Placing.{entries-length, unused, differs, Edits, added, stays_store, holds, owns}
 use Rattle.sig_store.proofs.store.Store.push.Goals as goal
 
 pub overflow_add-self : goal.overflow_add-self
@@ -27,6 +27,8 @@ invariant_of-self g c =
     } in
     stays_store at later look after n p n (n + 1) c.self.invariant edit (omega arith)
     (holds later after n p (n + 1) (record { number = n; value = c.args.value }) c.note_place.ensures.noted.1 c.insert_reserved-place.ensures.updates.changed refl (omega arith))
+    (owns later after n p (record { number = n; value = c.args.value }) c.note_place.ensures.noted.1 c.insert_reserved-place.ensures.updates.changed refl)
+    (λ q d there. let l = c.self.invariant.below n q there in absurd (omega (arith, l)))
 
 pub returns-clause-number : goal.returns-clause-number
 returns-clause-number g c = rw (← c.self.view_is) (sym (entries-length _ _ _))

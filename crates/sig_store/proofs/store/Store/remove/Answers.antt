@@ -3,7 +3,7 @@ use Rattle.indexmap.specs.IndexMap.{get}
 use Rattle.slab.specs.Slab.{get as held_at}
 use Rattle.std.specs.Option.{option_map}
 use Rattle.sig_store.specs.Places.{value_there}
-use Rattle.sig_store.proofs.Placing.{entry-there, place-there, held-there, apart, differs, Edits, edited, stays_store}
+use Rattle.sig_store.proofs.Placing.{entry-there, place-there, held-there, apart, differs, Edits, edited, stays_store, owns_none, one_place}
 use Rattle.sig_store.proofs.store.Store.remove.Goals as goal
 
 pub forget_place-place-requires : goal.forget_place-place-requires
@@ -32,6 +32,7 @@ invariant_of-self g c =
     } in
     stays_store at later look after n p made made c.self.invariant edit (omega arith)
     (λ q there. let e : None ≡ Some q = sym c.forget_place-place.ensures.forgotten.1 ∙ there in absurd (cc))
+    (owns_none later after p c.remove-value.ensures.updates.changed) (one_place at n p here)
 
 pub returns-clause-value : goal.returns-clause-value
 returns-clause-value g c =

@@ -4,14 +4,17 @@ use Rattle.slab.specs.Slab.{get as held_at}
 use Rattle.std.specs.Option.{option_map}
 use Rattle.sig_store.specs.declared.store.Held.{Held}
 use Rattle.sig_store.specs.Places.{value_there}
-use Rattle.sig_store.proofs.Placing.{entry-there, place-there, held-there, number-there, apart, Edits, edited, stays_store, holds, count-kept, alike}
+use Rattle.sig_store.proofs.Placing.{entry-there, place-there, held-there, number-there, apart, Edits, edited, stays_store, holds, owns, one_place, count-kept, alike}
 use Rattle.sig_store.proofs.store.Store.value_mut.Goals as goal
 use Rattle.slab.specs.Slab.{with_value}
 use Rattle.slab.proofs.SlabLemmas.{Updates-with_value}
 use Rattle.indexmap.specs.IndexMap.{spare}
 
-pub standing_place-place-requires : goal.standing_place-place-requires
-standing_place-place-requires g c =
+pub standing_place-place-requires-clause-own : goal.standing_place-place-requires-clause-own
+standing_place-place-requires-clause-own g c = c.self.invariant.own
+
+pub standing_place-place-requires-clause-stands : goal.standing_place-place-requires-clause-stands
+standing_place-place-requires-clause-stands g c =
     let there = entry-there (get nat_eq c.self.inside.places) (held_at c.self.inside.held) c.self.inside.made c.args.number c.self.invariant in
     place-there (held_at c.self.inside.held) (get nat_eq c.self.inside.places c.args.number) (subst IsSome there (rw (← c.self.view_is) at c.requires))
 
@@ -37,6 +40,7 @@ invariant_of-self-lent g c w =
     let number = number-there at look made n p c.index_mut-held.result.now c.self.invariant here c.index_mut-held.ensures.value in
     stays_store at at look (held_at (with_value c.self.inside.held p now)) n p made made c.self.invariant edit (omega arith)
     (holds at (held_at (with_value c.self.inside.held p now)) n p made now here written.changed number (c.self.invariant.below n p here))
+    (owns at (held_at (with_value c.self.inside.held p now)) n p now here written.changed number) (one_place at n p here)
 
 pub returns : goal.returns
 returns g c =
