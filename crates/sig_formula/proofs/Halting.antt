@@ -17,12 +17,16 @@ use Rattle.sig_formula.specs.declared.evaluate.FormulaStep.TheVariants.{Ask, End
 use Rattle.sig_formula.specs.declared.frames.Adding.{Adding}
 use Rattle.sig_formula.specs.declared.frames.Frame.{Frame}
 use Rattle.sig_formula.specs.declared.frames.Frame.TheVariants as frame
+use Rattle.sig_formula.specs.declared.frames.Gathering.{Gathering}
+use Rattle.sig_formula.specs.declared.frames.Gathering.TheVariants as gathering
 use Rattle.sig_formula.specs.Answering.{calculation, chosen, count_outcome, decided, formula_step, kept_from, known_at, negated, operated, row_at, served, slot_step}
 use Rattle.sig_formula.specs.Answering.{sum_from, unless_decided, with_rows, with_truth, with_value}
 use Rattle.sig_formula.specs.Marked.{MarkedRows}
-use Rattle.sig_formula.specs.Resuming.{Extends, IsPaused, Stop, adding_stop, and_then, binary_rest, binary_stop, branch_stop, choice_rest, choice_stop, chosen_stop}
-use Rattle.sig_formula.specs.Resuming.{adding_of, branch_of, decided_stop, keep_rest, keeping_of, keep_stop, keep_then, keeping_stop, mapped, number_stop, others, rest, second_value}
-use Rattle.sig_formula.specs.Resuming.{resumed, rows_stop, stop, sum_rest, sum_stop, sum_then, truth_of, truth_stop}
+use Rattle.sig_formula.specs.Resuming.{Extends, IsPaused, Next, Stop, added_next, binary_rest, binary_stop, choice_rest, choice_stop, decided_next, each_on}
+use Rattle.sig_formula.specs.Resuming.{each_stop, either_stop, enclosed, gathered, gathering_frame, is_later, is_true_branch, keep_then, left_next, mapped, marked_next}
+use Rattle.sig_formula.specs.Resuming.{next_stop, over_rest, over_stop, parted, rest, resumed, right_end, righted, row_next, rows_next, second_stop, stop}
+use Rattle.sig_formula.specs.Resuming.{sum_then, test_next, truth_of}
+use Rattle.sig_formula.specs.Ways.{first_of}
 use Rattle.sig_formula.specs.Trees.{Tree, literal, slot, row_field, row_key, negation, binary, choice, count_of, sum_of, rows_where, untracked}
 
 abbrev pub step_of : Stop → FormulaStep
@@ -72,20 +76,20 @@ alike : (ts us : List Known) (s : Stop) (p q : List Known → List Known → For
 alike ts us s p q r h e = record { now = h.now ∙ e ts us; later = λ xs ys x. sym (e xs ys) ∙ h.later xs ys x }
 
 -- A part that asks leaves its frame, round which the whole is left; one with a value goes on.
-goes : (ts us : List Known) (s : Stop) (f : Frame) (go : Value → List Frame → Stop) (p : List Known → List Known → FormulaStep)
+goes : (ts us : List Known) (s : Stop) (f : Frame) (n : List Frame → Value → Next) (go : List Frame → Stop) (p : List Known → List Known → FormulaStep)
     (q r : List Frame → List Known → List Known → FormulaStep) (k : List Known → List Known → Value → FormulaStep) → Halts ts us s p q →
     ((fs : List Frame) (xs ys : List Known) → r (f ∷ fs) xs ys ≡ with_value (q fs xs ys) (k xs ys)) →
-    ((v : Value) (gs : List Frame) → Halts ts us (go v gs) (λ xs ys. k xs ys v) r) →
-    Halts ts us (and_then s f go) (λ xs ys. with_value (p xs ys) (k xs ys)) r
-goes ts us (stop (Ask n b) fs) f go p q r k h e g = record {
+    ((v : Value) (gs : List Frame) → Halts ts us (next_stop (n (f ∷ gs) v) go) (λ xs ys. k xs ys v) r) →
+    Halts ts us (next_stop (parted s f n) go) (λ xs ys. with_value (p xs ys) (k xs ys)) r
+goes ts us (stop (Ask m b) fs) f n go p q r k h e g = record {
   now = ap (λ s. with_value s (k ts us)) h.now;
   later = λ xs ys x. ap (λ s. with_value s (k xs ys)) (h.later xs ys x) ∙ sym (e fs xs ys);
 }
-goes ts us (stop (End (Good v)) fs) f go p q r k h e g = record {
+goes ts us (stop (End (Good v)) fs) f n go p q r k h e g = record {
   now = (g v fs).now ∙ ap (λ s. with_value s (k ts us)) h.now;
   later = λ xs ys x. ap (λ s. with_value s (k xs ys)) (h.later xs ys x) ∙ (g v fs).later xs ys x;
 }
-goes ts us (stop (End (Bad o)) fs) f go p q r k h e g = record {
+goes ts us (stop (End (Bad o)) fs) f n go p q r k h e g = record {
   now = ap (λ s. with_value s (k ts us)) h.now;
   later = λ xs ys x. ap (λ s. with_value s (k xs ys)) (h.later xs ys x);
 }
@@ -115,114 +119,146 @@ slot_later tracking n (Some v) u e = ap (slot_step tracking n) (e v refl)
 
 -- ---- operators
 
-undecided : (ts us : List Known) (d : Option Outcome) (gs : List Frame) (s : Stop) (p : List Known → List Known → FormulaStep)
-    (r : List Frame → List Known → List Known → FormulaStep) → Halts ts us s p r →
-    Halts ts us (decided_stop d gs s) (λ xs ys. unless_decided d (p xs ys)) r
-undecided ts us None gs s p r h = h
-undecided ts us (Some o) gs s p r h = ended ts us o gs r
+-- what is left of an operator
+abbrev binary_left : (List Frame → List Known → List Known → FormulaStep) → (List Frame → List Known → List Known → FormulaStep) → (List Known → List Known → FormulaStep) → BinOp →
+    List Frame → List Known → List Known → FormulaStep
+binary_left p q b o g xs ys = binary_rest (λ h. p h xs ys) (λ h. q h xs ys) (b xs ys) o (is_later (first_of g)) g
+
+deciding : (ts us : List Known) (d : Option Outcome) (gs : List Frame) (v : Value) (go : List Frame → Stop) (p : List Known → List Known → FormulaStep)
+    (r : List Frame → List Known → List Known → FormulaStep) → Halts ts us (go (frame.Second v ∷ [])) p r →
+    Halts ts us (next_stop (decided_next d gs v) go) (λ xs ys. unless_decided d (p xs ys)) r
+deciding ts us None gs v go p r h = h
+deciding ts us (Some o) gs v go p r h = ended ts us o gs r
+
+-- the right operand, by the frame round it
+righting : (ts us : List Known) (o : BinOp) (f : Frame) (s : Stop) (p : List Known → List Known → FormulaStep) (q r : List Frame → List Known → List Known → FormulaStep) →
+    Halts ts us s p q →
+    ((fs : List Frame) (xs ys : List Known) → r (f ∷ fs) xs ys ≡ with_value (q fs xs ys) (λ w. End (right_end (Some f) o w))) →
+    Halts ts us (righted o f s) (λ xs ys. with_value (p xs ys) (λ w. End (right_end (Some f) o w))) r
+righting ts us o f (stop (Ask n b) fs) p q r h e = record {
+  now = ap (λ s. with_value s (λ w. End (right_end (Some f) o w))) h.now;
+  later = λ xs ys x. ap (λ s. with_value s (λ w. End (right_end (Some f) o w))) (h.later xs ys x) ∙ sym (e fs xs ys);
+}
+righting ts us o f (stop (End (Good v)) fs) p q r h e = record {
+  now = ap (λ s. with_value s (λ w. End (right_end (Some f) o w))) h.now;
+  later = λ xs ys x. ap (λ s. with_value s (λ w. End (right_end (Some f) o w))) (h.later xs ys x);
+}
+righting ts us o f (stop (End (Bad b)) fs) p q r h e = record {
+  now = ap (λ s. with_value s (λ w. End (right_end (Some f) o w))) h.now;
+  later = λ xs ys x. ap (λ s. with_value s (λ w. End (right_end (Some f) o w))) (h.later xs ys x);
+}
+
+-- the left operand
+binary_first : (ts us : List Known) (left right : List Frame → Stop) (p q : List Frame → List Known → List Known → FormulaStep)
+    (b : List Known → List Known → FormulaStep) (o : BinOp) (fs : List Frame) → Halts ts us (left fs) (p fs) p → Halts ts us (right []) b q →
+    Halts ts us (next_stop (parted (left fs) frame.First (left_next o)) (second_stop right o)) (binary_left p q b o (frame.First ∷ fs)) (binary_left p q b o)
+binary_first ts us left right p q b o fs hp hb =
+    goes ts us (left fs) frame.First (left_next o) (second_stop right o) (p fs) p (binary_left p q b o)
+    (λ xs ys v. unless_decided (decided o v) (with_value (b xs ys) (λ w. End (operated o v w)))) hp (λ g xs ys. refl)
+    (λ v gs. deciding ts us (decided o v) (frame.First ∷ gs) v (second_stop right o) (λ xs ys. with_value (b xs ys) (λ w. End (operated o v w)))
+    (binary_left p q b o) (righting ts us o (frame.Second v) (right []) b q (binary_left p q b o) hb (λ g xs ys. refl)))
 
 -- the parts of an operator, by what is left of each
 binaries : (ts us : List Known) (left right : List Frame → Stop) (p q : List Frame → List Known → List Known → FormulaStep)
-    (b : List Known → List Known → FormulaStep) (o : BinOp) (at : Option Value) (fs : List Frame) →
+    (b : List Known → List Known → FormulaStep) (o : BinOp) (fs : List Frame) →
     ((g : List Frame) → Halts ts us (left g) (p g) p) → ((g : List Frame) → Halts ts us (right g) (q g) q) → Halts ts us (right []) b q →
-    Halts ts us (binary_stop left right o at fs) (λ xs ys. binary_rest (λ g. p g xs ys) (λ g. q g xs ys) (b xs ys) o at fs)
-    (λ g xs ys. binary_rest (λ h. p h xs ys) (λ h. q h xs ys) (b xs ys) o (second_value g) (others g))
-binaries ts us left right p q b o (Some v) fs hp hq hb =
-    goes ts us (right fs) (frame.Second v) (λ w gs. stop (End (operated o v w)) gs) (q fs) q
-    (λ g xs ys. binary_rest (λ h. p h xs ys) (λ h. q h xs ys) (b xs ys) o (second_value g) (others g))
-    (λ xs ys w. End (operated o v w)) (hq fs) (λ g xs ys. refl)
-    (λ w gs. ended ts us (operated o v w) gs (λ g xs ys. binary_rest (λ h. p h xs ys) (λ h. q h xs ys) (b xs ys) o (second_value g) (others g)))
-binaries ts us left right p q b o None fs hp hq hb =
-    goes ts us (left fs) frame.First
-    (λ v gs. decided_stop (decided o v) gs (and_then (right []) (frame.Second v) (λ w hs. stop (End (operated o v w)) hs)))
-    (p fs) p
-    (λ g xs ys. binary_rest (λ h. p h xs ys) (λ h. q h xs ys) (b xs ys) o (second_value g) (others g))
-    (λ xs ys v. unless_decided (decided o v) (with_value (b xs ys) (λ w. End (operated o v w)))) (hp fs) (λ g xs ys. refl)
-    (λ v gs. undecided ts us (decided o v) gs (and_then (right []) (frame.Second v) (λ w hs. stop (End (operated o v w)) hs))
-    (λ xs ys. with_value (b xs ys) (λ w. End (operated o v w)))
-    (λ g xs ys. binary_rest (λ h. p h xs ys) (λ h. q h xs ys) (b xs ys) o (second_value g) (others g))
-    (goes ts us (right []) (frame.Second v) (λ w hs. stop (End (operated o v w)) hs) b q
-    (λ g xs ys. binary_rest (λ h. p h xs ys) (λ h. q h xs ys) (b xs ys) o (second_value g) (others g))
-    (λ xs ys w. End (operated o v w)) hb (λ g xs ys. refl)
-    (λ w hs. ended ts us (operated o v w) hs (λ g xs ys. binary_rest (λ h. p h xs ys) (λ h. q h xs ys) (b xs ys) o (second_value g) (others g)))))
+    Halts ts us (binary_stop left right o (is_later (first_of fs)) fs) (binary_left p q b o fs) (binary_left p q b o)
+binaries ts us left right p q b o [] hp hq hb = binary_first ts us left right p q b o [] (hp []) hb
+binaries ts us left right p q b o (frame.First ∷ fs) hp hq hb = binary_first ts us left right p q b o fs (hp fs) hb
+binaries ts us left right p q b o (frame.Second v ∷ fs) hp hq hb =
+    righting ts us o (frame.Second v) (right fs) (q fs) q (binary_left p q b o) (hq fs) (λ g xs ys. refl)
+binaries ts us left right p q b o (frame.Branch w ∷ fs) hp hq hb =
+    righting ts us o (frame.Branch w) (right fs) (q fs) q (binary_left p q b o) (hq fs) (λ g xs ys. refl)
+binaries ts us left right p q b o (frame.Adding a ∷ fs) hp hq hb =
+    righting ts us o (frame.Adding a) (right fs) (q fs) q (binary_left p q b o) (hq fs) (λ g xs ys. refl)
+binaries ts us left right p q b o (frame.Keeping k ∷ fs) hp hq hb =
+    righting ts us o (frame.Keeping k) (right fs) (q fs) q (binary_left p q b o) (hq fs) (λ g xs ys. refl)
 
--- ---- branches
+-- ---- choices
 
-itself : (s : FormulaStep) → with_value s (λ v. End (Good v)) ≡ s
-itself (Ask n b) = refl
-itself (End (Good v)) = refl
-itself (End (Bad e)) = refl
+-- what is left of a choice
+abbrev choice_left : (List Frame → List Known → List Known → FormulaStep) → (List Frame → List Known → List Known → FormulaStep) → (List Frame → List Known → List Known → FormulaStep) →
+    (List Known → List Known → FormulaStep) → (List Known → List Known → FormulaStep) → List Frame → List Known → List Known → FormulaStep
+choice_left p q w a b g xs ys = choice_rest (λ h. p h xs ys) (λ h. q h xs ys) (λ h. w h xs ys) (a xs ys) (b xs ys) (is_later (first_of g)) g
 
-branching : (ts us : List Known) (way : Bool) (s : Stop) (p : List Known → List Known → FormulaStep)
-    (q r : List Frame → List Known → List Known → FormulaStep) → Halts ts us s p q →
-    ((fs : List Frame) (xs ys : List Known) → r (frame.Branch way ∷ fs) xs ys ≡ q fs xs ys) → Halts ts us (branch_stop way s) p r
-branching ts us way s p q r h e =
-    alike ts us (branch_stop way s) (λ xs ys. with_value (p xs ys) (λ v. End (Good v))) p r
-    (goes ts us s (frame.Branch way) (λ v gs. stop (End (Good v)) gs) p q r (λ xs ys v. End (Good v)) h
-    (λ fs xs ys. e fs xs ys ∙ sym (itself (q fs xs ys))) (λ v gs. ended ts us (Good v) gs r))
-    (λ xs ys. itself (p xs ys))
+-- a branch, with its frame round it
+enclosing : (ts us : List Known) (s : Stop) (f : Frame) (p : List Known → List Known → FormulaStep) (q r : List Frame → List Known → List Known → FormulaStep) →
+    Halts ts us s p q → ((fs : List Frame) (xs ys : List Known) → r (f ∷ fs) xs ys ≡ q fs xs ys) → Halts ts us (enclosed s f) p r
+enclosing ts us (stop s fs) f p q r h e = record { now = h.now; later = λ xs ys x. h.later xs ys x ∙ ap (goes_on s) (sym (e fs xs ys)) }
 
-choosing : (ts us : List Known) (v : Value) (gs : List Frame) (x y : Stop) (p q : List Known → List Known → FormulaStep)
-    (r : List Frame → List Known → List Known → FormulaStep) → Halts ts us x p r → Halts ts us y q r →
-    Halts ts us (chosen_stop v gs x y) (λ xs ys. chosen v (p xs ys) (q xs ys)) r
-choosing ts us (value.Bool true) gs x y p q r hx hy = hx
-choosing ts us (value.Bool false) gs x y p q r hx hy = hy
-choosing ts us (value.Int n) gs x y p q r hx hy = record { now = refl; later = λ xs ys e. refl }
-choosing ts us (value.Text n) gs x y p q r hx hy = record { now = refl; later = λ xs ys e. refl }
-choosing ts us (value.Rows n) gs x y p q r hx hy = record { now = refl; later = λ xs ys e. refl }
+-- the branch for a test's value
+testing : (ts us : List Known) (v : Value) (gs : List Frame) (one other : List Frame → Stop) (a b : List Known → List Known → FormulaStep)
+    (r : List Frame → List Known → List Known → FormulaStep) → Halts ts us (enclosed (one []) (frame.Branch true)) a r →
+    Halts ts us (enclosed (other []) (frame.Branch false)) b r →
+    Halts ts us (next_stop (test_next gs v) (λ hs. either_stop one other (is_true_branch (first_of hs)) hs)) (λ xs ys. chosen v (a xs ys) (b xs ys)) r
+testing ts us (value.Bool true) gs one other a b r ha hb = ha
+testing ts us (value.Bool false) gs one other a b r ha hb = hb
+testing ts us (value.Int n) gs one other a b r ha hb = record { now = refl; later = λ xs ys e. refl }
+testing ts us (value.Text n) gs one other a b r ha hb = record { now = refl; later = λ xs ys e. refl }
+testing ts us (value.Rows n) gs one other a b r ha hb = record { now = refl; later = λ xs ys e. refl }
+
+-- the test
+choice_first : (ts us : List Known) (test one other : List Frame → Stop) (p q w : List Frame → List Known → List Known → FormulaStep)
+    (a b : List Known → List Known → FormulaStep) (fs : List Frame) → Halts ts us (test fs) (p fs) p →
+    Halts ts us (one []) a q → Halts ts us (other []) b w →
+    Halts ts us (next_stop (parted (test fs) frame.First test_next) (λ gs. either_stop one other (is_true_branch (first_of gs)) gs))
+    (choice_left p q w a b (frame.First ∷ fs)) (choice_left p q w a b)
+choice_first ts us test one other p q w a b fs hp ha hb =
+    goes ts us (test fs) frame.First test_next (λ gs. either_stop one other (is_true_branch (first_of gs)) gs) (p fs) p (choice_left p q w a b)
+    (λ xs ys v. chosen v (a xs ys) (b xs ys)) hp (λ g xs ys. refl)
+    (λ v gs. testing ts us v (frame.First ∷ gs) one other a b (choice_left p q w a b)
+    (enclosing ts us (one []) (frame.Branch true) a q (choice_left p q w a b) ha (λ g xs ys. refl))
+    (enclosing ts us (other []) (frame.Branch false) b w (choice_left p q w a b) hb (λ g xs ys. refl)))
 
 -- the parts of a choice, by what is left of each
 choices : (ts us : List Known) (test one other : List Frame → Stop) (p q w : List Frame → List Known → List Known → FormulaStep)
-    (a b : List Known → List Known → FormulaStep) (at : Option Bool) (fs : List Frame) →
+    (a b : List Known → List Known → FormulaStep) (fs : List Frame) →
     ((g : List Frame) → Halts ts us (test g) (p g) p) → ((g : List Frame) → Halts ts us (one g) (q g) q) →
     ((g : List Frame) → Halts ts us (other g) (w g) w) → Halts ts us (one []) a q → Halts ts us (other []) b w →
-    Halts ts us (choice_stop test one other at fs)
-    (λ xs ys. choice_rest (λ g. p g xs ys) (λ g. q g xs ys) (λ g. w g xs ys) (a xs ys) (b xs ys) at fs)
-    (λ g xs ys. choice_rest (λ h. p h xs ys) (λ h. q h xs ys) (λ h. w h xs ys) (a xs ys) (b xs ys) (branch_of g) (others g))
-choices ts us test one other p q w a b (Some true) fs hp hq hw ha hb =
-    branching ts us true (one fs) (q fs) q
-    (λ g xs ys. choice_rest (λ h. p h xs ys) (λ h. q h xs ys) (λ h. w h xs ys) (a xs ys) (b xs ys) (branch_of g) (others g))
-    (hq fs) (λ g xs ys. refl)
-choices ts us test one other p q w a b (Some false) fs hp hq hw ha hb =
-    branching ts us false (other fs) (w fs) w
-    (λ g xs ys. choice_rest (λ h. p h xs ys) (λ h. q h xs ys) (λ h. w h xs ys) (a xs ys) (b xs ys) (branch_of g) (others g))
-    (hw fs) (λ g xs ys. refl)
-choices ts us test one other p q w a b None fs hp hq hw ha hb =
-    goes ts us (test fs) frame.First
-    (λ v gs. chosen_stop v gs (branch_stop true (one [])) (branch_stop false (other [])))
-    (p fs) p
-    (λ g xs ys. choice_rest (λ h. p h xs ys) (λ h. q h xs ys) (λ h. w h xs ys) (a xs ys) (b xs ys) (branch_of g) (others g))
-    (λ xs ys v. chosen v (a xs ys) (b xs ys)) (hp fs) (λ g xs ys. refl)
-    (λ v gs. choosing ts us v gs (branch_stop true (one [])) (branch_stop false (other [])) a b
-    (λ g xs ys. choice_rest (λ h. p h xs ys) (λ h. q h xs ys) (λ h. w h xs ys) (a xs ys) (b xs ys) (branch_of g) (others g))
-    (branching ts us true (one []) a q
-    (λ g xs ys. choice_rest (λ h. p h xs ys) (λ h. q h xs ys) (λ h. w h xs ys) (a xs ys) (b xs ys) (branch_of g) (others g)) ha (λ g xs ys. refl))
-    (branching ts us false (other []) b w
-    (λ g xs ys. choice_rest (λ h. p h xs ys) (λ h. q h xs ys) (λ h. w h xs ys) (a xs ys) (b xs ys) (branch_of g) (others g)) hb (λ g xs ys. refl)))
+    Halts ts us (choice_stop test one other (is_later (first_of fs)) fs) (choice_left p q w a b fs) (choice_left p q w a b)
+choices ts us test one other p q w a b [] hp hq hw ha hb = choice_first ts us test one other p q w a b [] (hp []) ha hb
+choices ts us test one other p q w a b (frame.First ∷ fs) hp hq hw ha hb = choice_first ts us test one other p q w a b fs (hp fs) ha hb
+choices ts us test one other p q w a b (frame.Branch true ∷ fs) hp hq hw ha hb =
+    enclosing ts us (one fs) (frame.Branch true) (q fs) q (choice_left p q w a b) (hq fs) (λ g xs ys. refl)
+choices ts us test one other p q w a b (frame.Branch false ∷ fs) hp hq hw ha hb =
+    enclosing ts us (other fs) (frame.Branch false) (w fs) w (choice_left p q w a b) (hw fs) (λ g xs ys. refl)
+choices ts us test one other p q w a b (frame.Second v ∷ fs) hp hq hw ha hb =
+    enclosing ts us (other fs) (frame.Second v) (w fs) w (choice_left p q w a b) (hw fs) (λ g xs ys. refl)
+choices ts us test one other p q w a b (frame.Adding k ∷ fs) hp hq hw ha hb =
+    enclosing ts us (other fs) (frame.Adding k) (w fs) w (choice_left p q w a b) (hw fs) (λ g xs ys. refl)
+choices ts us test one other p q w a b (frame.Keeping k ∷ fs) hp hq hw ha hb =
+    enclosing ts us (other fs) (frame.Keeping k) (w fs) w (choice_left p q w a b) (hw fs) (λ g xs ys. refl)
 
 -- ---- rows
 
-tables : (ts us : List Known) (v : Value) (gs : List Frame) (go : Table → Stop) (k : Table → List Known → List Known → FormulaStep)
-    (r : List Frame → List Known → List Known → FormulaStep) → ((t : Table) → Halts ts us (go t) (k t) r) →
-    Halts ts us (rows_stop v gs go) (λ xs ys. with_rows v (λ t. k t xs ys)) r
-tables ts us (value.Rows t) gs go k r h = h t
-tables ts us (value.Int t) gs go k r h = record { now = refl; later = λ xs ys e. refl }
-tables ts us (value.Text t) gs go k r h = record { now = refl; later = λ xs ys e. refl }
-tables ts us (value.Bool t) gs go k r h = record { now = refl; later = λ xs ys e. refl }
+-- what is left of a formula that goes over rows
+abbrev over_left : Gathering → (List Frame → List Known → List Known → FormulaStep) → (Table → ℕ → List Known → List Known → FormulaStep) →
+    (Table → ℕ → List Frame → List Known → List Known → FormulaStep) → List Frame → List Known → List Known → FormulaStep
+over_left k p c q g xs ys = over_rest k (λ h. p h xs ys) (λ t n. c t n xs ys) (λ t n h. q t n h xs ys) (is_later (first_of g)) g
 
-numbers : (ts us : List Known) (o : Outcome) (gs : List Frame) (go : Value → Stop) (k : List Known → List Known → Value → FormulaStep)
-    (r : List Frame → List Known → List Known → FormulaStep) → ((v : Value) → Halts ts us (go v) (λ xs ys. k xs ys v) r) →
-    Halts ts us (number_stop o gs go) (λ xs ys. with_value (End o) (k xs ys)) r
-numbers ts us (Good v) gs go k r h = h v
-numbers ts us (Bad e) gs go k r h = record { now = refl; later = λ xs ys e. refl }
+tables : (ts us : List Known) (k : Gathering) (v : Value) (gs : List Frame) (go : List Frame → Stop) (m : Table → List Known → List Known → FormulaStep)
+    (r : List Frame → List Known → List Known → FormulaStep) → ((t : Table) → Halts ts us (go (gathering_frame k t ∷ [])) (m t) r) →
+    Halts ts us (next_stop (rows_next k gs v) go) (λ xs ys. with_rows v (λ t. m t xs ys)) r
+tables ts us k (value.Rows t) gs go m r h = h t
+tables ts us k (value.Int t) gs go m r h = record { now = refl; later = λ xs ys e. refl }
+tables ts us k (value.Text t) gs go m r h = record { now = refl; later = λ xs ys e. refl }
+tables ts us k (value.Bool t) gs go m r h = record { now = refl; later = λ xs ys e. refl }
 
-truths : (ts us : List Known) (v : Value) (gs : List Frame) (go : Bool → Stop) (k : List Known → List Known → Bool → FormulaStep)
-    (r : List Frame → List Known → List Known → FormulaStep) → ((b : Bool) → Halts ts us (go b) (λ xs ys. k xs ys b) r) →
-    Halts ts us (truth_stop (truth_of v) gs go) (λ xs ys. with_truth v (k xs ys)) r
-truths ts us (value.Bool b) gs go k r h = h b
-truths ts us (value.Int t) gs go k r h = record { now = refl; later = λ xs ys e. refl }
-truths ts us (value.Text t) gs go k r h = record { now = refl; later = λ xs ys e. refl }
-truths ts us (value.Rows t) gs go k r h = record { now = refl; later = λ xs ys e. refl }
+numbers : (ts us : List Known) (a : Adding) (o : Outcome) (go : List Frame → Stop) (m : List Known → List Known → Value → FormulaStep)
+    (r : List Frame → List Known → List Known → FormulaStep) →
+    ((v : Value) → Halts ts us (go (frame.Adding (record { rows = a.rows; place = a.place + 1; sum = v }) ∷ [])) (λ xs ys. m xs ys v) r) →
+    Halts ts us (next_stop (added_next a o) go) (λ xs ys. with_value (End o) (m xs ys)) r
+numbers ts us a (Good v) go m r h = h v
+numbers ts us a (Bad e) go m r h = record { now = refl; later = λ xs ys e. refl }
+
+truths : (ts us : List Known) (k : MarkedRows) (v : Value) (go : List Frame → Stop) (m : List Known → List Known → Bool → FormulaStep)
+    (r : List Frame → List Known → List Known → FormulaStep) →
+    ((b : Bool) → Halts ts us (go (frame.Keeping (record { rows = k.rows; marks = k.marks ++ b ∷ [] }) ∷ [])) (λ xs ys. m xs ys b) r) →
+    Halts ts us (next_stop (marked_next k (truth_of v)) go) (λ xs ys. with_truth v (m xs ys)) r
+truths ts us k (value.Bool b) go m r h = h b
+truths ts us k (value.Int t) go m r h = record { now = refl; later = λ xs ys e. refl }
+truths ts us k (value.Text t) go m r h = record { now = refl; later = λ xs ys e. refl }
+truths ts us k (value.Rows t) go m r h = record { now = refl; later = λ xs ys e. refl }
 
 next_drop : {A : Type 0} (xs : List A) (at : ℕ) (x : A) (rest : List A) → drop at xs ≡ x ∷ rest → drop (at + 1) xs ≡ rest
 next_drop xs at x rest e = sym (drop-drop 1 at xs) ∙ ap (drop 1) e
@@ -238,52 +274,21 @@ adds : (ts us : List Known) (part : ℕ → List Frame → Stop) (q : ℕ → Li
     ((sum : Value) (n : ℕ) (g : List Frame) (xs ys : List Known) →
     r (frame.Adding (record { rows = t; place = n; sum = sum }) ∷ g) xs ys ≡ sum_then (λ m. c m xs ys) sum n (drop n t.rows) (q n g xs ys)) →
     (rs : List Row) (sum : Value) (at : ℕ) (fs : List Frame) → drop at t.rows ≡ rs →
-    Halts ts us (adding_stop part t sum at rs fs) (λ xs ys. sum_then (λ m. c m xs ys) sum at rs (q at fs xs ys)) r
-adds ts us part q c r t hq hc hr [] sum at fs e = ended ts us (Good sum) fs r
+    Halts ts us (each_on part at rs (frame.Adding (record { rows = t; place = at; sum = sum }) ∷ fs))
+    (λ xs ys. sum_then (λ m. c m xs ys) sum at rs (q at fs xs ys)) r
+adds ts us part q c r t hq hc hr [] sum at fs e = ended ts us (Good sum) [] r
 adds ts us part q c r t hq hc hr (x ∷ rs) sum at fs e =
-    goes ts us (part at fs) (frame.Adding (record { rows = t; place = at; sum = sum }))
-    (λ v gs. number_stop (calculation op.Add sum v) gs (λ next. adding_stop part t next (at + 1) rs []))
+    goes ts us (part at fs) (frame.Adding (record { rows = t; place = at; sum = sum })) (λ gs v. row_next (first_of gs) v) (each_on part (at + 1) rs)
     (q at fs) (q at) r
     (λ xs ys v. with_value (End (calculation op.Add sum v)) (λ next. sum_from (λ m. c m xs ys) next (at + 1) rs))
     (hq at fs)
     (λ g xs ys. hr sum at g xs ys ∙ ap (λ z. sum_then (λ m. c m xs ys) sum at z (q at g xs ys)) e)
-    (λ v gs. numbers ts us (calculation op.Add sum v) gs (λ next. adding_stop part t next (at + 1) rs [])
+    (λ v gs. numbers ts us (record { rows = t; place = at; sum = sum }) (calculation op.Add sum v) (each_on part (at + 1) rs)
     (λ xs ys next. sum_from (λ m. c m xs ys) next (at + 1) rs) r
-    (λ next. alike ts us (adding_stop part t next (at + 1) rs [])
+    (λ next. alike ts us (each_on part (at + 1) rs (frame.Adding (record { rows = t; place = at + 1; sum = next }) ∷ []))
     (λ xs ys. sum_then (λ m. c m xs ys) next (at + 1) rs (q (at + 1) [] xs ys)) (λ xs ys. sum_from (λ m. c m xs ys) next (at + 1) rs) r
     (adds ts us part q c r t hq hc hr rs next (at + 1) [] (next_drop t.rows at x rs e))
     (λ xs ys. ap (λ z. sum_then (λ m. c m xs ys) next (at + 1) rs z) (hc (at + 1) xs ys) ∙ sum_fresh (λ m. c m xs ys) next (at + 1) rs)))
-
--- the parts of a sum, by what is left of each
-sums : (ts us : List Known) (rows : List Frame → Stop) (part : Table → ℕ → List Frame → Stop) (p : List Frame → List Known → List Known → FormulaStep)
-    (q : Table → ℕ → List Frame → List Known → List Known → FormulaStep) (c : Table → ℕ → List Known → List Known → FormulaStep)
-    (at : Option Adding) (fs : List Frame) → ((g : List Frame) → Halts ts us (rows g) (p g) p) →
-    ((t : Table) (n : ℕ) (g : List Frame) → Halts ts us (part t n g) (q t n g) (q t n)) →
-    ((t : Table) (n : ℕ) (xs ys : List Known) → q t n [] xs ys ≡ c t n xs ys) →
-    Halts ts us (sum_stop rows part at fs)
-    (λ xs ys. sum_rest (λ g. p g xs ys) (λ t n. c t n xs ys) (λ t n g. q t n g xs ys) at fs)
-    (λ g xs ys. sum_rest (λ h. p h xs ys) (λ t n. c t n xs ys) (λ t n h. q t n h xs ys) (adding_of g) (others g))
-sums ts us rows part p q c (Some a) fs hp hq hc =
-    adds ts us (part a.rows) (q a.rows) (c a.rows)
-    (λ g xs ys. sum_rest (λ h. p h xs ys) (λ t n. c t n xs ys) (λ t n h. q t n h xs ys) (adding_of g) (others g)) a.rows
-    (hq a.rows) (hc a.rows) (λ s m g xs ys. refl) (drop a.place a.rows.rows) a.sum a.place fs refl
-sums ts us rows part p q c None fs hp hq hc =
-    goes ts us (rows fs) frame.First
-    (λ v gs. rows_stop v gs (λ t. adding_stop (part t) t (value.Int (pos 0)) 0 t.rows [])) (p fs) p
-    (λ g xs ys. sum_rest (λ h. p h xs ys) (λ t n. c t n xs ys) (λ t n h. q t n h xs ys) (adding_of g) (others g))
-    (λ xs ys v. with_rows v (λ t. sum_from (λ n. c t n xs ys) (value.Int (pos 0)) 0 t.rows)) (hp fs) (λ g xs ys. refl)
-    (λ v gs. tables ts us v gs (λ t. adding_stop (part t) t (value.Int (pos 0)) 0 t.rows [])
-    (λ t xs ys. sum_from (λ n. c t n xs ys) (value.Int (pos 0)) 0 t.rows)
-    (λ g xs ys. sum_rest (λ h. p h xs ys) (λ t n. c t n xs ys) (λ t n h. q t n h xs ys) (adding_of g) (others g))
-    (λ t. alike ts us (adding_stop (part t) t (value.Int (pos 0)) 0 t.rows [])
-    (λ xs ys. sum_then (λ n. c t n xs ys) (value.Int (pos 0)) 0 t.rows (q t 0 [] xs ys))
-    (λ xs ys. sum_from (λ n. c t n xs ys) (value.Int (pos 0)) 0 t.rows)
-    (λ g xs ys. sum_rest (λ h. p h xs ys) (λ t n. c t n xs ys) (λ t n h. q t n h xs ys) (adding_of g) (others g))
-    (adds ts us (part t) (q t) (c t)
-    (λ g xs ys. sum_rest (λ h. p h xs ys) (λ t n. c t n xs ys) (λ t n h. q t n h xs ys) (adding_of g) (others g)) t
-    (hq t) (hc t) (λ s m g xs ys. refl) t.rows (value.Int (pos 0)) 0 [] refl)
-    (λ xs ys. ap (λ z. sum_then (λ n. c t n xs ys) (value.Int (pos 0)) 0 t.rows z) (hc t 0 xs ys)
-    ∙ sum_fresh (λ n. c t n xs ys) (value.Int (pos 0)) 0 t.rows)))
 
 keep_fresh : (test : ℕ → FormulaStep) (t : Table) (marks : List Bool) (at : ℕ) (rs : List Row) →
     keep_then test t marks at rs (test at) ≡ kept_from test t marks at rs
@@ -296,20 +301,20 @@ keeps : (ts us : List Known) (test : ℕ → List Frame → Stop) (q : ℕ → L
     ((marks : List Bool) (g : List Frame) (xs ys : List Known) →
     r (frame.Keeping (record { rows = t; marks = marks }) ∷ g) xs ys ≡ keep_then (λ m. c m xs ys) t marks (length marks) (drop (length marks) t.rows) (q (length marks) g xs ys)) →
     (rs : List Row) (marks : List Bool) (at : ℕ) (fs : List Frame) → length marks ≡ at → drop at t.rows ≡ rs →
-    Halts ts us (keeping_stop test t marks at rs fs) (λ xs ys. keep_then (λ m. c m xs ys) t marks at rs (q at fs xs ys)) r
+    Halts ts us (each_on test at rs (frame.Keeping (record { rows = t; marks = marks }) ∷ fs))
+    (λ xs ys. keep_then (λ m. c m xs ys) t marks at rs (q at fs xs ys)) r
 keeps ts us test q c r t hq hc hr [] marks at fs l e =
-    ended ts us (Good (value.Rows (record { fields = t.fields; rows = marked marks t.rows }))) fs r
+    ended ts us (Good (value.Rows (record { fields = t.fields; rows = marked marks t.rows }))) [] r
 keeps ts us test q c r t hq hc hr (x ∷ rs) marks at fs l e =
-    goes ts us (test at fs) (frame.Keeping (record { rows = t; marks = marks }))
-    (λ v gs. truth_stop (truth_of v) gs (λ b. keeping_stop test t (marks ++ b ∷ []) (at + 1) rs []))
+    goes ts us (test at fs) (frame.Keeping (record { rows = t; marks = marks })) (λ gs v. row_next (first_of gs) v) (each_on test (at + 1) rs)
     (q at fs) (q at) r
     (λ xs ys v. with_truth v (λ b. kept_from (λ m. c m xs ys) t (marks ++ b ∷ []) (at + 1) rs))
     (hq at fs)
     (λ g xs ys. hr marks g xs ys ∙ (ap (λ n. keep_then (λ m. c m xs ys) t marks n (drop n t.rows) (q n g xs ys)) l
     ∙ ap (λ z. keep_then (λ m. c m xs ys) t marks at z (q at g xs ys)) e))
-    (λ v gs. truths ts us v gs (λ b. keeping_stop test t (marks ++ b ∷ []) (at + 1) rs [])
+    (λ v gs. truths ts us (record { rows = t; marks = marks }) v (each_on test (at + 1) rs)
     (λ xs ys b. kept_from (λ m. c m xs ys) t (marks ++ b ∷ []) (at + 1) rs) r
-    (λ b. alike ts us (keeping_stop test t (marks ++ b ∷ []) (at + 1) rs [])
+    (λ b. alike ts us (each_on test (at + 1) rs (frame.Keeping (record { rows = t; marks = marks ++ b ∷ [] }) ∷ []))
     (λ xs ys. keep_then (λ m. c m xs ys) t (marks ++ b ∷ []) (at + 1) rs (q (at + 1) [] xs ys))
     (λ xs ys. kept_from (λ m. c m xs ys) t (marks ++ b ∷ []) (at + 1) rs) r
     (keeps ts us test q c r t hq hc hr rs (marks ++ b ∷ []) (at + 1) [] (one_more marks b at l) (next_drop t.rows at x rs e))
@@ -319,36 +324,51 @@ keeps ts us test q c r t hq hc hr (x ∷ rs) marks at fs l e =
     one_more : (marks : List Bool) (b : Bool) (at : ℕ) → length marks ≡ at → length (marks ++ b ∷ []) ≡ at + 1
     one_more marks b at l = length_push marks b ∙ ap (λ n. n + 1) l
 
--- the parts of what keeps rows, by what is left of each
-keepings : (ts us : List Known) (rows : List Frame → Stop) (test : Table → ℕ → List Frame → Stop) (p : List Frame → List Known → List Known → FormulaStep)
+-- the rows from the first one on
+begins : (ts us : List Known) (k k2 : Gathering) (part : Table → ℕ → List Frame → Stop) (p : List Frame → List Known → List Known → FormulaStep)
     (q : Table → ℕ → List Frame → List Known → List Known → FormulaStep) (c : Table → ℕ → List Known → List Known → FormulaStep)
-    (at : Option MarkedRows) (fs : List Frame) → ((g : List Frame) → Halts ts us (rows g) (p g) p) →
-    ((t : Table) (n : ℕ) (g : List Frame) → Halts ts us (test t n g) (q t n g) (q t n)) →
-    ((t : Table) (n : ℕ) (xs ys : List Known) → q t n [] xs ys ≡ c t n xs ys) →
-    Halts ts us (keep_stop rows test at fs)
-    (λ xs ys. keep_rest (λ g. p g xs ys) (λ t n. c t n xs ys) (λ t n g. q t n g xs ys) at fs)
-    (λ g xs ys. keep_rest (λ h. p h xs ys) (λ t n. c t n xs ys) (λ t n h. q t n h xs ys) (keeping_of g) (others g))
-keepings ts us rows test p q c (Some k) fs hp hq hc =
-    keeps ts us (test k.rows) (q k.rows) (c k.rows)
-    (λ g xs ys. keep_rest (λ h. p h xs ys) (λ t n. c t n xs ys) (λ t n h. q t n h xs ys) (keeping_of g) (others g)) k.rows
-    (hq k.rows) (hc k.rows) (λ m g xs ys. refl) (drop (length k.marks) k.rows.rows) k.marks (length k.marks) fs refl refl
-keepings ts us rows test p q c None fs hp hq hc =
-    goes ts us (rows fs) frame.First
-    (λ v gs. rows_stop v gs (λ t. keeping_stop (test t) t [] 0 t.rows [])) (p fs) p
-    (λ g xs ys. keep_rest (λ h. p h xs ys) (λ t n. c t n xs ys) (λ t n h. q t n h xs ys) (keeping_of g) (others g))
-    (λ xs ys v. with_rows v (λ t. kept_from (λ n. c t n xs ys) t [] 0 t.rows)) (hp fs) (λ g xs ys. refl)
-    (λ v gs. tables ts us v gs (λ t. keeping_stop (test t) t [] 0 t.rows [])
-    (λ t xs ys. kept_from (λ n. c t n xs ys) t [] 0 t.rows)
-    (λ g xs ys. keep_rest (λ h. p h xs ys) (λ t n. c t n xs ys) (λ t n h. q t n h xs ys) (keeping_of g) (others g))
-    (λ t. alike ts us (keeping_stop (test t) t [] 0 t.rows [])
-    (λ xs ys. keep_then (λ n. c t n xs ys) t [] 0 t.rows (q t 0 [] xs ys))
-    (λ xs ys. kept_from (λ n. c t n xs ys) t [] 0 t.rows)
-    (λ g xs ys. keep_rest (λ h. p h xs ys) (λ t n. c t n xs ys) (λ t n h. q t n h xs ys) (keeping_of g) (others g))
-    (keeps ts us (test t) (q t) (c t)
-    (λ g xs ys. keep_rest (λ h. p h xs ys) (λ t n. c t n xs ys) (λ t n h. q t n h xs ys) (keeping_of g) (others g)) t
-    (hq t) (hc t) (λ m g xs ys. refl) t.rows [] 0 [] refl refl)
-    (λ xs ys. ap (λ z. keep_then (λ n. c t n xs ys) t [] 0 t.rows z) (hc t 0 xs ys)
-    ∙ keep_fresh (λ n. c t n xs ys) t [] 0 t.rows)))
+    (t : Table) → ((t : Table) (n : ℕ) (g : List Frame) → Halts ts us (part t n g) (q t n g) (q t n)) → ((t : Table) (n : ℕ) (xs ys : List Known) → q t n [] xs ys ≡ c t n xs ys) →
+    Halts ts us (each_stop part (gathering_frame k t ∷ [])) (λ xs ys. gathered k (λ n. c t n xs ys) t) (over_left k2 p c q)
+begins ts us gathering.Sum k2 part p q c t hq hc =
+    alike ts us (each_stop part (gathering_frame gathering.Sum t ∷ [])) (λ xs ys. sum_then (λ n. c t n xs ys) (value.Int (pos 0)) 0 t.rows (q t 0 [] xs ys))
+    (λ xs ys. sum_from (λ n. c t n xs ys) (value.Int (pos 0)) 0 t.rows) (over_left k2 p c q)
+    (adds ts us (part t) (q t) (c t) (over_left k2 p c q) t (hq t) (hc t) (λ s m g xs ys. refl) t.rows (value.Int (pos 0)) 0 [] refl)
+    (λ xs ys. ap (λ z. sum_then (λ n. c t n xs ys) (value.Int (pos 0)) 0 t.rows z) (hc t 0 xs ys)
+    ∙ sum_fresh (λ n. c t n xs ys) (value.Int (pos 0)) 0 t.rows)
+begins ts us gathering.Keep k2 part p q c t hq hc =
+    alike ts us (each_stop part (gathering_frame gathering.Keep t ∷ [])) (λ xs ys. keep_then (λ n. c t n xs ys) t [] 0 t.rows (q t 0 [] xs ys))
+    (λ xs ys. kept_from (λ n. c t n xs ys) t [] 0 t.rows) (over_left k2 p c q)
+    (keeps ts us (part t) (q t) (c t) (over_left k2 p c q) t (hq t) (hc t) (λ m g xs ys. refl) t.rows [] 0 [] refl refl)
+    (λ xs ys. ap (λ z. keep_then (λ n. c t n xs ys) t [] 0 t.rows z) (hc t 0 xs ys) ∙ keep_fresh (λ n. c t n xs ys) t [] 0 t.rows)
+
+-- what must be rows
+over_first : (ts us : List Known) (k : Gathering) (rows : List Frame → Stop) (part : Table → ℕ → List Frame → Stop) (p : List Frame → List Known → List Known → FormulaStep)
+    (q : Table → ℕ → List Frame → List Known → List Known → FormulaStep) (c : Table → ℕ → List Known → List Known → FormulaStep)
+    (fs : List Frame) → Halts ts us (rows fs) (p fs) p →
+    ((t : Table) (n : ℕ) (g : List Frame) → Halts ts us (part t n g) (q t n g) (q t n)) → ((t : Table) (n : ℕ) (xs ys : List Known) → q t n [] xs ys ≡ c t n xs ys) →
+    Halts ts us (next_stop (parted (rows fs) frame.First (rows_next k)) (each_stop part)) (over_left k p c q (frame.First ∷ fs)) (over_left k p c q)
+over_first ts us k rows part p q c fs hp hq hc =
+    goes ts us (rows fs) frame.First (rows_next k) (each_stop part) (p fs) p (over_left k p c q)
+    (λ xs ys v. with_rows v (λ t. gathered k (λ n. c t n xs ys) t)) hp (λ g xs ys. refl)
+    (λ v gs. tables ts us k v (frame.First ∷ gs) (each_stop part) (λ t xs ys. gathered k (λ n. c t n xs ys) t) (over_left k p c q)
+    (λ t. begins ts us k k part p q c t hq hc))
+
+-- the parts of what goes over rows, by what is left of each
+overs : (ts us : List Known) (k : Gathering) (rows : List Frame → Stop) (part : Table → ℕ → List Frame → Stop) (p : List Frame → List Known → List Known → FormulaStep)
+    (q : Table → ℕ → List Frame → List Known → List Known → FormulaStep) (c : Table → ℕ → List Known → List Known → FormulaStep)
+    (fs : List Frame) → ((g : List Frame) → Halts ts us (rows g) (p g) p) →
+    ((t : Table) (n : ℕ) (g : List Frame) → Halts ts us (part t n g) (q t n g) (q t n)) → ((t : Table) (n : ℕ) (xs ys : List Known) → q t n [] xs ys ≡ c t n xs ys) →
+    Halts ts us (over_stop k rows part (is_later (first_of fs)) fs) (over_left k p c q fs) (over_left k p c q)
+overs ts us k rows part p q c [] hp hq hc = over_first ts us k rows part p q c [] (hp []) hq hc
+overs ts us k rows part p q c (frame.First ∷ fs) hp hq hc = over_first ts us k rows part p q c fs (hp fs) hq hc
+overs ts us k rows part p q c (frame.Second v ∷ fs) hp hq hc = record { now = refl; later = λ xs ys e. refl }
+overs ts us k rows part p q c (frame.Branch b ∷ fs) hp hq hc = record { now = refl; later = λ xs ys e. refl }
+overs ts us k rows part p q c (frame.Adding a ∷ fs) hp hq hc =
+    adds ts us (part a.rows) (q a.rows) (c a.rows) (over_left k p c q) a.rows (hq a.rows) (hc a.rows) (λ s m g xs ys. refl)
+    (drop a.place a.rows.rows) a.sum a.place fs refl
+overs ts us k rows part p q c (frame.Keeping m ∷ fs) hp hq hc =
+    keeps ts us (part m.rows) (q m.rows) (c m.rows) (over_left k p c q) m.rows (hq m.rows) (hc m.rows) (λ s g xs ys. refl)
+    (drop (length m.marks) m.rows.rows) m.marks (length m.marks) fs refl refl
 
 -- ---- formulas
 
@@ -366,14 +386,14 @@ halts tracking (negation a) fs row ts us =
     (halts tracking a fs row ts us)
 halts tracking (binary o a b) fs row ts us =
     binaries ts us (λ g. resumed tracking g a row ts us) (λ g. resumed tracking g b row ts us) (λ g xs ys. rest tracking g a row xs ys)
-    (λ g xs ys. rest tracking g b row xs ys) (λ xs ys. formula_step tracking b row xs ys) o (second_value fs) (others fs)
+    (λ g xs ys. rest tracking g b row xs ys) (λ xs ys. formula_step tracking b row xs ys) o fs
     (λ g. halts tracking a g row ts us) (λ g. halts tracking b g row ts us)
     (alike ts us (resumed tracking [] b row ts us) (λ xs ys. rest tracking [] b row xs ys) (λ xs ys. formula_step tracking b row xs ys)
     (λ g xs ys. rest tracking g b row xs ys) (halts tracking b [] row ts us) (λ xs ys. rest_fresh tracking b row xs ys))
 halts tracking (choice t a b) fs row ts us =
     choices ts us (λ g. resumed tracking g t row ts us) (λ g. resumed tracking g a row ts us) (λ g. resumed tracking g b row ts us)
     (λ g xs ys. rest tracking g t row xs ys) (λ g xs ys. rest tracking g a row xs ys) (λ g xs ys. rest tracking g b row xs ys)
-    (λ xs ys. formula_step tracking a row xs ys) (λ xs ys. formula_step tracking b row xs ys) (branch_of fs) (others fs)
+    (λ xs ys. formula_step tracking a row xs ys) (λ xs ys. formula_step tracking b row xs ys) fs
     (λ g. halts tracking t g row ts us) (λ g. halts tracking a g row ts us) (λ g. halts tracking b g row ts us)
     (alike ts us (resumed tracking [] a row ts us) (λ xs ys. rest tracking [] a row xs ys) (λ xs ys. formula_step tracking a row xs ys)
     (λ g xs ys. rest tracking g a row xs ys) (halts tracking a [] row ts us) (λ xs ys. rest_fresh tracking a row xs ys))
@@ -383,12 +403,12 @@ halts tracking (count_of a) fs row ts us =
     mapping ts us (resumed tracking fs a row ts us) count_outcome (λ xs ys. rest tracking fs a row xs ys) (λ g xs ys. rest tracking g a row xs ys)
     (halts tracking a fs row ts us)
 halts tracking (sum_of a b) fs row ts us =
-    sums ts us (λ g. resumed tracking g a row ts us) (λ t n g. resumed tracking g b (row_at t n) ts us) (λ g xs ys. rest tracking g a row xs ys)
-    (λ t n g xs ys. rest tracking g b (row_at t n) xs ys) (λ t n xs ys. formula_step tracking b (row_at t n) xs ys) (adding_of fs) (others fs)
+    overs ts us gathering.Sum (λ g. resumed tracking g a row ts us) (λ t n g. resumed tracking g b (row_at t n) ts us) (λ g xs ys. rest tracking g a row xs ys)
+    (λ t n g xs ys. rest tracking g b (row_at t n) xs ys) (λ t n xs ys. formula_step tracking b (row_at t n) xs ys) fs
     (λ g. halts tracking a g row ts us) (λ t n g. halts tracking b g (row_at t n) ts us) (λ t n xs ys. rest_fresh tracking b (row_at t n) xs ys)
 halts tracking (rows_where a b) fs row ts us =
-    keepings ts us (λ g. resumed tracking g a row ts us) (λ t n g. resumed tracking g b (row_at t n) ts us) (λ g xs ys. rest tracking g a row xs ys)
-    (λ t n g xs ys. rest tracking g b (row_at t n) xs ys) (λ t n xs ys. formula_step tracking b (row_at t n) xs ys) (keeping_of fs) (others fs)
+    overs ts us gathering.Keep (λ g. resumed tracking g a row ts us) (λ t n g. resumed tracking g b (row_at t n) ts us) (λ g xs ys. rest tracking g a row xs ys)
+    (λ t n g xs ys. rest tracking g b (row_at t n) xs ys) (λ t n xs ys. formula_step tracking b (row_at t n) xs ys) fs
     (λ g. halts tracking a g row ts us) (λ t n g. halts tracking b g (row_at t n) ts us) (λ t n xs ys. rest_fresh tracking b (row_at t n) xs ys)
 halts tracking (untracked a) fs row ts us = halts false a fs row ts us
 

@@ -6,3 +6,4 @@ pub mod Marked
 pub mod Resuming
 pub mod Stops
 pub mod Trees
+pub mod Ways

@@ -1,8 +1,9 @@
 // The path from a formula to the slot at which its evaluation stopped.
 ghost use Rattle.std.specs.Prelude.{◌≡◌, ◌<◌, ◌≤◌, [], ◌∷◌, ◌++◌, length, OnOk, IfOk};
 ghost use Rattle.sig_base.specs.Tables.{marked};
-ghost use Rattle.sig_formula.specs.Resuming.{adding_of, branch_of, keeping_of, others, second_value};
+ghost use Rattle.sig_formula.specs.Resuming.{gathering_frame};
 
+use crate::way::Way;
 use sig_base::{NoMemory, Rows, Value};
 use std::alloc::Global;
 use std::marker::Model;
@@ -98,87 +99,40 @@ pub enum Frame {
     Keeping(Keeping),
 }
 
-/// The frames of an evaluation.
+/// What is made of rows: a sum over them, or those that are kept.
+#[derive(Clone, Copy)]
+pub(crate) enum Gathering {
+    Sum,
+    Keep,
+}
+
+impl Gathering {
+    /// The frame with which rows are gone over from the first one on.
+    pub(crate) fn frame(self, alloc: Global, rows: Rows) -> Frame
+        ensures { result ≡ gathering_frame self rows }
+    {
+        match self {
+            Gathering::Sum => Frame::Adding(Adding {
+                rows,
+                place: 0,
+                sum: Value::Int(0),
+            }),
+            Gathering::Keep => Frame::Keeping(Keeping::new(alloc, rows)),
+        }
+    }
+}
+
+/// The frames of an evaluation, the outermost first.
 #[derive(Drop)]
 pub struct Paused {
-    // the innermost first
-    frames: Vec<Frame>,
+    pub(crate) way: Way,
 }
 
 impl Model for Paused {
-    ghost use Rattle.std.specs.Prelude.{List, reverse};
+    ghost use Rattle.std.specs.Prelude.{List};
     ghost use Rattle.sig_formula.specs.declared.frames.Frame.{Frame};
 
     ghost Value = { List Frame };
 
-    ghost view = { λ p. reverse p.frames.items };
-}
-
-impl Paused {
-    /// None, where nothing was evaluated.
-    pub(crate) fn none(alloc: Global) -> Paused
-        ensures { result ≡ [] }
-    {
-        Paused {
-            frames: Vec::new(alloc),
-        }
-    }
-
-    pub(crate) fn clear(&mut self)
-        ensures { self.new ≡ [] }
-    {
-        self.frames.clear();
-    }
-
-    /// Puts a frame round the others.
-    pub(crate) fn enclose(&mut self, frame: Frame) -> Result<(), NoMemory>
-        ensures { OnOk result (self.new ≡ frame ∷ self.old) }
-    {
-        self.frames.push(frame)?;
-        Ok(())
-    }
-
-    /// Takes the outermost frame off: the value of the left operand, where the evaluation stands in the right one.
-    pub(crate) fn enter_second(&mut self) -> Option<Value>
-        ensures value { result ≡ second_value self.old }
-        ensures rest { self.new ≡ others self.old }
-    {
-        match self.frames.pop() {
-            Some(Frame::Second(value)) => Some(value),
-            _ => None,
-        }
-    }
-
-    /// Takes the outermost frame off: the branch in which the evaluation stands.
-    pub(crate) fn enter_branch(&mut self) -> Option<bool>
-        ensures branch { result ≡ branch_of self.old }
-        ensures rest { self.new ≡ others self.old }
-    {
-        match self.frames.pop() {
-            Some(Frame::Branch(branch)) => Some(branch),
-            _ => None,
-        }
-    }
-
-    /// Takes the outermost frame off: where the evaluation stands in a sum.
-    pub(crate) fn enter_adding(&mut self) -> Option<Adding>
-        ensures adding { result ≡ adding_of self.old }
-        ensures rest { self.new ≡ others self.old }
-    {
-        match self.frames.pop() {
-            Some(Frame::Adding(adding)) => Some(adding),
-            _ => None,
-        }
-    }
-
-    /// Takes the outermost frame off: where the evaluation stands in the test of rows.
-    pub(crate) fn enter_keeping(&mut self) -> Option<Keeping>
-        ensures keeping { result ≡ keeping_of self.old }
-        ensures rest { self.new ≡ others self.old }
-    {
-        match self.frames.pop() {
-            Some(Frame::Keeping(keeping)) => Some(keeping),
-            _ => None,
-        }
-    }
+    ghost view = { λ p. p.way.inside };
 }

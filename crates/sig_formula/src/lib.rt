@@ -3,12 +3,14 @@
 
 mod copying;
 mod evaluate;
+mod follow;
 mod formula;
 mod frames;
 mod laws;
 mod operate;
 mod resume;
 mod row;
+mod way;
 
 pub use copying::copy_formula;
 pub use evaluate::{FormulaStep, formula_step, step};

@@ -1,20 +1,23 @@
 // Evaluations that stop at a slot that they need and go on from there.
-ghost use Rattle.std.specs.Prelude.{◌≡◌, ◌<◌, [], drop, length, Option, IfOk, IfSome, OnOk};
+ghost use Rattle.std.specs.Prelude.{◌≡◌, ◌<◌, [], length, Option, IfOk, IfSome, OnOk};
 ghost use Rattle.std.specs.Option.{option_copied};
 ghost use Rattle.sig_formula.specs.Answering.{answer_of, row_at};
-ghost use Rattle.sig_formula.specs.Resuming.{adding_stop, branch_stop, keeping_stop, kept_stop, left_stop, resumed, second_stop, stop, summed_stop, truth_of, IsPaused};
+ghost use Rattle.sig_formula.specs.Resuming.{binary_stop, choice_stop, each_stop, either_stop, is_later, is_true_branch, over_stop, resumed, second_stop, stop, IsPaused};
 ghost use Rattle.sig_formula.specs.declared.formula.RowRef.{RowRef};
 ghost use Rattle.sig_formula.specs.Trees.{tree};
+ghost use Rattle.sig_formula.specs.Ways.{first_of};
 
-use crate::evaluate::{counted_step, negated_step, served, slot_step};
-use crate::frames::{Adding, Frame, Keeping, Paused};
-use crate::operate::{calculation, decided, operated};
-use crate::row::{field_outcome, key_outcome};
+use crate::evaluate::{
+    counted_step, field_step, key_step, literal_step, negated_step, slot_answer,
+};
+use crate::follow::{after_left, after_right, after_row, after_rows, after_test, gathered, row_of};
+use crate::frames::{Gathering, Paused};
+use crate::way::Way;
 use crate::{BinOp, Formula, FormulaStep, RowRef};
-use sig_base::{Fault, Known, NoMemory, Outcome, Rows, Step, Value};
+use sig_base::{Fault, Known, NoMemory, Outcome, Step};
 use std::alloc::Global;
 
-/// Goes on with the evaluation of a formula: what it comes to, or the slot that it needs, with the frames that lead to it.
+/// Goes on with the evaluation of a formula by the frames inside: what it comes to, or the slot that it needs, to which the frames lead then.
 #[cycle(resuming)]
 pub(crate) fn resume(
     alloc: Global,
@@ -23,364 +26,220 @@ pub(crate) fn resume(
     row: Option<&RowRef>,
     tracked: &[Known],
     untracked: &[Known],
-    paused: &mut Paused,
+    way: &mut Way,
 ) -> Result<FormulaStep, NoMemory>
     requires { IfSome row (λ r. r.now.place < length r.now.rows.rows) }
-    ensures { IfOk result (λ s. stop s paused.new ≡ resumed tracking paused.old (tree f.now) (option_copied row.entry) tracked.now untracked.now) }
+    ensures around { OnOk result (way.new.around ≡ way.old.around) }
+    ensures stop { IfOk result (λ s. stop s way.new.inside ≡ resumed tracking way.old.inside (tree f.now) (option_copied row.entry) tracked.now untracked.now) }
 {
     match f {
-        Formula::Lit(scalar) => Ok(FormulaStep::End(Outcome::Good(Value::from(scalar.copy()?)))),
-        Formula::Slot(slot) => {
-            let value = served(tracking, *slot, tracked, untracked)?;
-            Ok(slot_step(tracking, *slot, value))
-        }
-        Formula::It(field) => Ok(FormulaStep::End(field_outcome(field, row)?)),
-        Formula::ItKey => Ok(FormulaStep::End(key_outcome(row)?)),
+        Formula::Lit(scalar) => literal_step(scalar),
+        Formula::Slot(slot) => slot_answer(tracking, *slot, tracked, untracked),
+        Formula::It(field) => field_step(field, row),
+        Formula::ItKey => key_step(row),
         Formula::Not(inner) => {
-            let step = resume(alloc, tracking, inner, row, tracked, untracked, paused)?;
+            let step = resume(alloc, tracking, inner, row, tracked, untracked, way)?;
             Ok(negated_step(step))
         }
-        Formula::Bin(op, left, right) => match paused.enter_second() {
-            Some(value) => {
-                second(
-                    alloc, tracking, *op, value, right, row, tracked, untracked, paused,
-                )
-            }
-            None => {
-                let step = resume(alloc, tracking, left, row, tracked, untracked, paused)?;
-                after_left(
-                    alloc, tracking, *op, step, right, row, tracked, untracked, paused,
-                )
-            }
-        },
-        Formula::If(test, one, other) => match paused.enter_branch() {
-            Some(true) => branch(alloc, tracking, true, one, row, tracked, untracked, paused),
-            Some(false) => branch(
-                alloc, tracking, false, other, row, tracked, untracked, paused,
-            ),
-            None => match resume(alloc, tracking, test, row, tracked, untracked, paused)? {
-                FormulaStep::Ask(slot, tracked) => {
-                    paused.enclose(Frame::First)?;
-                    Ok(FormulaStep::Ask(slot, tracked))
-                }
-                FormulaStep::End(Outcome::Bad(fault)) => Ok(FormulaStep::End(Outcome::Bad(fault))),
-                FormulaStep::End(Outcome::Good(Value::Bool(true))) => {
-                    paused.clear();
-                    branch(alloc, tracking, true, one, row, tracked, untracked, paused)
-                }
-                FormulaStep::End(Outcome::Good(Value::Bool(false))) => {
-                    paused.clear();
-                    branch(
-                        alloc, tracking, false, other, row, tracked, untracked, paused,
-                    )
-                }
-                FormulaStep::End(Outcome::Good(_)) => {
-                    Ok(FormulaStep::End(Outcome::Bad(Fault::Kind)))
-                }
-            },
-        },
+        Formula::Bin(op, left, right) => {
+            let step = binary(
+                alloc, tracking, *op, left, right, row, tracked, untracked, way,
+            )?;
+            Ok(step)
+        }
+        Formula::If(test, one, other) => choice(
+            alloc, tracking, test, one, other, row, tracked, untracked, way,
+        ),
         Formula::Count(rows) => {
-            let step = resume(alloc, tracking, rows, row, tracked, untracked, paused)?;
+            let step = resume(alloc, tracking, rows, row, tracked, untracked, way)?;
             Ok(counted_step(step))
         }
-        Formula::Sum(rows, part) => match paused.enter_adding() {
-            Some(at) => {
-                let Adding { rows, place, sum } = at;
-                let sum = adding(
-                    alloc, tracking, &rows, place, sum, part, tracked, untracked, paused,
-                )?;
-                Ok(sum)
-            }
-            None => {
-                let step = resume(alloc, tracking, rows, row, tracked, untracked, paused)?;
-                let sum = after_summed(alloc, tracking, step, part, tracked, untracked, paused)?;
-                Ok(sum)
-            }
-        },
-        Formula::Keep(rows, test) => match paused.enter_keeping() {
-            Some(at) => {
-                let kept = keeping(alloc, tracking, at, test, tracked, untracked, paused)?;
-                Ok(kept)
-            }
-            None => {
-                let step = resume(alloc, tracking, rows, row, tracked, untracked, paused)?;
-                let kept = after_kept(alloc, tracking, step, test, tracked, untracked, paused)?;
-                Ok(kept)
-            }
-        },
-        Formula::Untrack(inner) => resume(alloc, false, inner, row, tracked, untracked, paused),
+        Formula::Sum(rows, part) => {
+            let made = Gathering::Sum;
+            let step = over(
+                alloc, tracking, made, rows, part, row, tracked, untracked, way,
+            )?;
+            Ok(step)
+        }
+        Formula::Keep(rows, part) => {
+            let made = Gathering::Keep;
+            let step = over(
+                alloc, tracking, made, rows, part, row, tracked, untracked, way,
+            )?;
+            Ok(step)
+        }
+        Formula::Untrack(inner) => resume(alloc, false, inner, row, tracked, untracked, way),
     }
 }
 
-// What the left operand decides, or else what the right one comes to with it.
+// What an operator comes to.
 #[cycle(resuming)]
-fn after_left(
+fn binary(
     alloc: Global,
     tracking: bool,
     op: BinOp,
-    left: FormulaStep,
+    left: &Formula,
     right: &Formula,
     row: Option<&RowRef>,
     tracked: &[Known],
     untracked: &[Known],
-    paused: &mut Paused,
+    way: &mut Way,
 ) -> Result<FormulaStep, NoMemory>
     requires { IfSome row (λ r. r.now.place < length r.now.rows.rows) }
-    ensures { IfOk result (λ s. stop s paused.new ≡ left_stop
-        (λ g. resumed tracking g (tree right.now) (option_copied row.entry) tracked.now untracked.now) op (stop left paused.old)) }
+    ensures around { OnOk result (way.new.around ≡ way.old.around) }
+    ensures stop { IfOk result (λ s. stop s way.new.inside ≡ binary_stop (λ g. resumed tracking g (tree left.now) (option_copied row.entry) tracked.now untracked.now)
+        (λ g. resumed tracking g (tree right.now) (option_copied row.entry) tracked.now untracked.now) op (is_later (first_of way.old.inside)) way.old.inside) }
 {
-    match left {
-        FormulaStep::Ask(slot, tracked) => {
-            paused.enclose(Frame::First)?;
-            Ok(FormulaStep::Ask(slot, tracked))
-        }
-        FormulaStep::End(Outcome::Bad(fault)) => Ok(FormulaStep::End(Outcome::Bad(fault))),
-        FormulaStep::End(Outcome::Good(value)) => match decided(op, &value) {
-            Some(outcome) => Ok(FormulaStep::End(outcome)),
-            None => {
-                paused.clear();
-                second(
-                    alloc, tracking, op, value, right, row, tracked, untracked, paused,
-                )
-            }
-        },
+    if way.is_past_first() {
+        return second(alloc, tracking, op, right, row, tracked, untracked, way);
+    }
+    way.enter()?;
+    let step = resume(alloc, tracking, left, row, tracked, untracked, way)?;
+    match after_left(way, op, step)? {
+        Some(end) => Ok(end),
+        None => second(alloc, tracking, op, right, row, tracked, untracked, way),
     }
 }
 
-// What the right operand comes to with the left one.
+// What the right operand comes to with the left one, whose value the outermost frame holds.
 #[cycle(resuming)]
 fn second(
     alloc: Global,
     tracking: bool,
     op: BinOp,
-    left: Value,
     right: &Formula,
     row: Option<&RowRef>,
     tracked: &[Known],
     untracked: &[Known],
-    paused: &mut Paused,
+    way: &mut Way,
 ) -> Result<FormulaStep, NoMemory>
     requires { IfSome row (λ r. r.now.place < length r.now.rows.rows) }
-    ensures { IfOk result (λ s. stop s paused.new ≡ second_stop
-        (λ g. resumed tracking g (tree right.now) (option_copied row.entry) tracked.now untracked.now) op left paused.old) }
+    ensures around { OnOk result (way.new.around ≡ way.old.around) }
+    ensures stop { IfOk result (λ s. stop s way.new.inside ≡ second_stop (λ g. resumed tracking g (tree right.now) (option_copied row.entry) tracked.now untracked.now) op way.old.inside) }
 {
-    match resume(alloc, tracking, right, row, tracked, untracked, paused)? {
-        FormulaStep::Ask(slot, tracked) => {
-            paused.enclose(Frame::Second(left))?;
-            Ok(FormulaStep::Ask(slot, tracked))
-        }
-        FormulaStep::End(Outcome::Bad(fault)) => Ok(FormulaStep::End(Outcome::Bad(fault))),
-        FormulaStep::End(Outcome::Good(value)) => {
-            Ok(FormulaStep::End(operated(alloc, op, left, value)?))
-        }
-    }
+    way.enter()?;
+    let step = resume(alloc, tracking, right, row, tracked, untracked, way)?;
+    let end = after_right(alloc, way, op, step)?;
+    Ok(end)
 }
 
-// A branch, which leaves its frame where it asks.
+// What a choice comes to.
 #[cycle(resuming)]
-fn branch(
+fn choice(
     alloc: Global,
     tracking: bool,
-    way: bool,
-    formula: &Formula,
+    test: &Formula,
+    one: &Formula,
+    other: &Formula,
     row: Option<&RowRef>,
     tracked: &[Known],
     untracked: &[Known],
-    paused: &mut Paused,
+    way: &mut Way,
 ) -> Result<FormulaStep, NoMemory>
     requires { IfSome row (λ r. r.now.place < length r.now.rows.rows) }
-    ensures { IfOk result (λ s. stop s paused.new ≡ branch_stop way
-        (resumed tracking paused.old (tree formula.now) (option_copied row.entry) tracked.now untracked.now)) }
+    ensures around { OnOk result (way.new.around ≡ way.old.around) }
+    ensures stop { IfOk result (λ s. stop s way.new.inside ≡ choice_stop (λ g. resumed tracking g (tree test.now) (option_copied row.entry) tracked.now untracked.now)
+        (λ g. resumed tracking g (tree one.now) (option_copied row.entry) tracked.now untracked.now)
+        (λ g. resumed tracking g (tree other.now) (option_copied row.entry) tracked.now untracked.now) (is_later (first_of way.old.inside)) way.old.inside) }
 {
-    match resume(alloc, tracking, formula, row, tracked, untracked, paused)? {
-        FormulaStep::Ask(slot, tracked) => {
-            paused.enclose(Frame::Branch(way))?;
-            Ok(FormulaStep::Ask(slot, tracked))
-        }
-        FormulaStep::End(outcome) => Ok(FormulaStep::End(outcome)),
+    if way.is_past_first() {
+        return either(alloc, tracking, one, other, row, tracked, untracked, way);
+    }
+    way.enter()?;
+    let step = resume(alloc, tracking, test, row, tracked, untracked, way)?;
+    match after_test(way, step)? {
+        Some(end) => Ok(end),
+        None => either(alloc, tracking, one, other, row, tracked, untracked, way),
     }
 }
 
-// The parts of what must be rows, added up.
+// What the branch comes to that the outermost frame tells.
 #[cycle(resuming)]
-fn after_summed(
+fn either(
     alloc: Global,
     tracking: bool,
-    rows: FormulaStep,
+    one: &Formula,
+    other: &Formula,
+    row: Option<&RowRef>,
+    tracked: &[Known],
+    untracked: &[Known],
+    way: &mut Way,
+) -> Result<FormulaStep, NoMemory>
+    requires { IfSome row (λ r. r.now.place < length r.now.rows.rows) }
+    ensures around { OnOk result (way.new.around ≡ way.old.around) }
+    ensures stop { IfOk result (λ s. stop s way.new.inside ≡ either_stop (λ g. resumed tracking g (tree one.now) (option_copied row.entry) tracked.now untracked.now)
+        (λ g. resumed tracking g (tree other.now) (option_copied row.entry) tracked.now untracked.now) (is_true_branch (first_of way.old.inside)) way.old.inside) }
+{
+    if way.is_on_true() {
+        way.enter()?;
+        let step = resume(alloc, tracking, one, row, tracked, untracked, way)?;
+        way.leave();
+        return Ok(step);
+    }
+    way.enter()?;
+    let step = resume(alloc, tracking, other, row, tracked, untracked, way)?;
+    way.leave();
+    Ok(step)
+}
+
+// What a formula comes to that goes over rows.
+#[cycle(resuming)]
+fn over(
+    alloc: Global,
+    tracking: bool,
+    gathering: Gathering,
+    rows: &Formula,
+    part: &Formula,
+    row: Option<&RowRef>,
+    tracked: &[Known],
+    untracked: &[Known],
+    way: &mut Way,
+) -> Result<FormulaStep, NoMemory>
+    requires { IfSome row (λ r. r.now.place < length r.now.rows.rows) }
+    ensures around { OnOk result (way.new.around ≡ way.old.around) }
+    ensures stop { IfOk result (λ s. stop s way.new.inside ≡ over_stop gathering (λ g. resumed tracking g (tree rows.now) (option_copied row.entry) tracked.now untracked.now)
+        (λ t n g. resumed tracking g (tree part.now) (row_at t n) tracked.now untracked.now) (is_later (first_of way.old.inside)) way.old.inside) }
+{
+    if way.is_past_first() {
+        return each_row(alloc, tracking, part, tracked, untracked, way);
+    }
+    way.enter()?;
+    let step = resume(alloc, tracking, rows, row, tracked, untracked, way)?;
+    match after_rows(alloc, way, gathering, step)? {
+        Some(end) => Ok(end),
+        None => each_row(alloc, tracking, part, tracked, untracked, way),
+    }
+}
+
+// What the parts of the rows come to from the one on at which the outermost frame stands: each is used before the next one is evaluated.
+#[cycle(resuming)]
+fn each_row(
+    alloc: Global,
+    tracking: bool,
     part: &Formula,
     tracked: &[Known],
     untracked: &[Known],
-    paused: &mut Paused,
+    way: &mut Way,
 ) -> Result<FormulaStep, NoMemory>
-    ensures { IfOk result (λ s. stop s paused.new ≡ summed_stop
-        (λ t n g. resumed tracking g (tree part.now) (row_at t n) tracked.now untracked.now) (stop rows paused.old)) }
+    ensures around { OnOk result (way.new.around ≡ way.old.around) }
+    ensures stop { IfOk result (λ s. stop s way.new.inside ≡ each_stop (λ t n g. resumed tracking g (tree part.now) (row_at t n) tracked.now untracked.now) way.old.inside) }
 {
-    match rows {
-        FormulaStep::Ask(slot, tracked) => {
-            paused.enclose(Frame::First)?;
-            Ok(FormulaStep::Ask(slot, tracked))
-        }
-        FormulaStep::End(Outcome::Bad(fault)) => Ok(FormulaStep::End(Outcome::Bad(fault))),
-        FormulaStep::End(Outcome::Good(Value::Rows(rows))) => {
-            paused.clear();
-            adding(
-                alloc,
-                tracking,
-                &rows,
-                0,
-                Value::Int(0),
-                part,
-                tracked,
-                untracked,
-                paused,
-            )
-        }
-        FormulaStep::End(Outcome::Good(_)) => Ok(FormulaStep::End(Outcome::Bad(Fault::Kind))),
-    }
-}
-
-// The parts of the rows from a place on, each added before the next row's is evaluated.
-#[cycle(resuming)]
-fn adding(
-    alloc: Global,
-    tracking: bool,
-    rows: &Rows,
-    from: usize,
-    first: Value,
-    part: &Formula,
-    tracked: &[Known],
-    untracked: &[Known],
-    paused: &mut Paused,
-) -> Result<FormulaStep, NoMemory>
-    ensures { IfOk result (λ s. stop s paused.new ≡ adding_stop
-        (λ n g. resumed tracking g (tree part.now) (row_at rows.now n) tracked.now untracked.now) rows.now first from (drop from rows.now.rows) paused.old) }
-{
-    let mut sum = first;
-    for place in from..rows.len() {
+    let Some(at) = row_of(way)? else {
+        return Ok(FormulaStep::End(Outcome::Bad(Fault::Kind)));
+    };
+    for place in at.place..at.rows.len() {
         let row = RowRef {
-            rows: rows.copy()?,
+            rows: at.rows.copy()?,
             place,
         };
-        match resume(
-            alloc,
-            tracking,
-            part,
-            Some(&row),
-            tracked,
-            untracked,
-            paused,
-        )? {
-            FormulaStep::Ask(slot, tracked) => {
-                let at = Adding {
-                    rows: rows.copy()?,
-                    place,
-                    sum,
-                };
-                paused.enclose(Frame::Adding(at))?;
-                return Ok(FormulaStep::Ask(slot, tracked));
-            }
-            FormulaStep::End(Outcome::Good(value)) => match calculation(BinOp::Add, &sum, &value) {
-                Outcome::Good(next) => {
-                    sum = next;
-                    paused.clear();
-                }
-                Outcome::Bad(fault) => return Ok(FormulaStep::End(Outcome::Bad(fault))),
-            },
-            FormulaStep::End(Outcome::Bad(fault)) => {
-                return Ok(FormulaStep::End(Outcome::Bad(fault)));
-            }
+        way.enter()?;
+        let step = resume(alloc, tracking, part, Some(&row), tracked, untracked, way)?;
+        if let Some(end) = after_row(way, step)? {
+            return Ok(end);
         }
     }
-    Ok(FormulaStep::End(Outcome::Good(sum)))
-}
-
-// Of what must be rows, those whose test is true.
-#[cycle(resuming)]
-fn after_kept(
-    alloc: Global,
-    tracking: bool,
-    rows: FormulaStep,
-    test: &Formula,
-    tracked: &[Known],
-    untracked: &[Known],
-    paused: &mut Paused,
-) -> Result<FormulaStep, NoMemory>
-    ensures { IfOk result (λ s. stop s paused.new ≡ kept_stop
-        (λ t n g. resumed tracking g (tree test.now) (row_at t n) tracked.now untracked.now) (stop rows paused.old)) }
-{
-    match rows {
-        FormulaStep::Ask(slot, tracked) => {
-            paused.enclose(Frame::First)?;
-            Ok(FormulaStep::Ask(slot, tracked))
-        }
-        FormulaStep::End(Outcome::Bad(fault)) => Ok(FormulaStep::End(Outcome::Bad(fault))),
-        FormulaStep::End(Outcome::Good(Value::Rows(rows))) => {
-            paused.clear();
-            let at = Keeping::new(alloc, rows);
-            keeping(alloc, tracking, at, test, tracked, untracked, paused)
-        }
-        FormulaStep::End(Outcome::Good(_)) => Ok(FormulaStep::End(Outcome::Bad(Fault::Kind))),
-    }
-}
-
-// The truth that a value is.
-fn truth_of(value: &Value) -> Option<bool>
-    ensures { result ≡ truth_of value.now }
-{
-    match value {
-        Value::Bool(truth) => Some(*truth),
-        _ => None,
-    }
-}
-
-// The rows of which a condition holds, each judged before the next row's is evaluated.
-#[cycle(resuming)]
-fn keeping(
-    alloc: Global,
-    tracking: bool,
-    at: Keeping,
-    condition: &Formula,
-    tracked: &[Known],
-    untracked: &[Known],
-    paused: &mut Paused,
-) -> Result<FormulaStep, NoMemory>
-    ensures { IfOk result (λ s. stop s paused.new ≡ keeping_stop
-        (λ n g. resumed tracking g (tree condition.now) (row_at at.rows n) tracked.now untracked.now) at.rows at.marks (length at.marks)
-        (drop (length at.marks) at.rows.rows) paused.old) }
-{
-    let mut at = at;
-    for place in at.place()..at.rows().len() {
-        let row = RowRef {
-            rows: at.rows().copy()?,
-            place,
-        };
-        match resume(
-            alloc,
-            tracking,
-            condition,
-            Some(&row),
-            tracked,
-            untracked,
-            paused,
-        )? {
-            FormulaStep::Ask(slot, tracked) => {
-                paused.enclose(Frame::Keeping(at))?;
-                return Ok(FormulaStep::Ask(slot, tracked));
-            }
-            FormulaStep::End(Outcome::Good(value)) => match truth_of(&value) {
-                Some(mark) => {
-                    at.mark(mark)?;
-                    paused.clear();
-                }
-                None => return Ok(FormulaStep::End(Outcome::Bad(Fault::Kind))),
-            },
-            FormulaStep::End(Outcome::Bad(fault)) => {
-                return Ok(FormulaStep::End(Outcome::Bad(fault)));
-            }
-        }
-    }
-    let kept = at.kept(alloc)?;
-    Ok(FormulaStep::End(Outcome::Good(Value::Rows(kept))))
+    let end = gathered(alloc, way)?;
+    Ok(FormulaStep::End(end))
 }
 
 impl Paused {
@@ -392,7 +251,9 @@ impl Paused {
     pub fn new(alloc: Global, f: &Formula) -> Result<Paused, NoMemory>
         ensures { IfOk result (λ p. (row : Option RowRef) → IsPaused p (tree f.now) row []) }
     {
-        Ok(Paused::none(alloc))
+        Ok(Paused {
+            way: Way::new(alloc),
+        })
     }
 
     /// Goes on with the evaluation of the formula and the row of the calls before, by values that begin with those of the call before: what
@@ -414,14 +275,14 @@ impl Paused {
         ensures answer { IfOk result (λ s. s ≡ answer_of (tree f.now) (option_copied row.entry) known.now) }
         ensures paused { OnOk result (IsPaused self.new (tree f.now) (option_copied row.entry) known.now) }
     {
-        match resume(alloc, false, f, row, known, &[], self)? {
+        match resume(alloc, false, f, row, known, &[], &mut self.way)? {
             FormulaStep::Ask(slot, _) => Ok(Step::Read(slot)),
             FormulaStep::End(Outcome::Good(value)) => {
-                self.clear();
+                self.way.clear();
                 Ok(Step::Done(value))
             }
             FormulaStep::End(Outcome::Bad(fault)) => {
-                self.clear();
+                self.way.clear();
                 Ok(Step::Fail(fault))
             }
         }

@@ -1,22 +1,37 @@
-use Rattle.std.proofs.Common.{◌≡◌, drop, length}
+use Rattle.std.proofs.Common.{◌≡◌, ◌+◌, ◌*◌, drop, Some}
 use Rattle.sig_formula.specs.Answering.{row_at}
-use Rattle.sig_formula.specs.Resuming.{adding_stop, keeping_stop, resumed}
+use Rattle.sig_formula.specs.Resuming.{each_on, each_stop, resumed, row_of}
 use Rattle.sig_formula.specs.Trees.{tree}
+use Rattle.sig_formula.specs.Ways.{first_of}
+use Rattle.sig_formula.proofs.Parts.{parts}
 use Rattle.sig_formula.proofs.resume.+resuming.Given as goal
 
-abbrev pub invariant-adding-loop-place : goal.invariant-adding-loop-place
-invariant-adding-loop-place l =
-    adding_stop (λ n g. resumed l.tracking g (tree l.part) (row_at l.rows n) l.tracked l.untracked) l.rows l.sum l.place (drop l.place l.rows.rows) l.paused
-    ≡ adding_stop (λ n g. resumed l.tracking g (tree l.part) (row_at l.rows n) l.tracked l.untracked) l.rows l.fn.first l.from
-    (drop l.from l.rows.rows) l.fn.paused
-
-abbrev pub invariant-keeping-loop-place : goal.invariant-keeping-loop-place
-invariant-keeping-loop-place l = record {
-  rows : l.at.rows ≡ l.fn.at.rows;
-  made : length l.at.marks ≡ l.place;
+abbrev pub invariant-each_row-loop-place : goal.invariant-each_row-loop-place
+invariant-each_row-loop-place l = record {
+  around : l.way.around ≡ l.fn.way.around;
+  at : row_of (first_of l.way.inside) ≡ Some (record { rows = l.at.rows; place = l.place });
   is :
-      keeping_stop (λ n g. resumed l.tracking g (tree l.condition) (row_at l.at.rows n) l.tracked l.untracked) l.at.rows l.at.marks l.place
-      (drop l.place l.at.rows.rows) l.paused
-      ≡ keeping_stop (λ n g. resumed l.tracking g (tree l.condition) (row_at l.fn.at.rows n) l.tracked l.untracked) l.fn.at.rows l.fn.at.marks
-      (length l.fn.at.marks) (drop (length l.fn.at.marks) l.fn.at.rows.rows) l.fn.paused;
+      each_on (λ n g. resumed l.tracking g (tree l.part) (row_at l.at.rows n) l.tracked l.untracked) l.place (drop l.place l.at.rows.rows) l.way.inside
+      ≡ each_stop (λ t n g. resumed l.tracking g (tree l.part) (row_at t n) l.tracked l.untracked) l.fn.way.inside;
 }
+
+abbrev pub decreases-resume : goal.decreases-resume
+decreases-resume l = 3 * (parts (tree l.f.now))
+
+abbrev pub decreases-binary : goal.decreases-binary
+decreases-binary l = 3 * (parts (tree l.left.now) + parts (tree l.right.now)) + 2
+
+abbrev pub decreases-second : goal.decreases-second
+decreases-second l = 3 * (parts (tree l.right.now)) + 1
+
+abbrev pub decreases-choice : goal.decreases-choice
+decreases-choice l = 3 * (parts (tree l.test.now) + parts (tree l.one.now) + parts (tree l.other.now)) + 2
+
+abbrev pub decreases-either : goal.decreases-either
+decreases-either l = 3 * (parts (tree l.one.now) + parts (tree l.other.now)) + 1
+
+abbrev pub decreases-over : goal.decreases-over
+decreases-over l = 3 * (parts (tree l.rows.now) + parts (tree l.part.now)) + 2
+
+abbrev pub decreases-each_row : goal.decreases-each_row
+decreases-each_row l = 3 * (parts (tree l.part.now)) + 1

@@ -4,4 +4,4 @@ use Rattle.sig_formula.proofs.Halting.{new_is_paused}
 use Rattle.sig_formula.proofs.frames.Paused.new.Goals as goal
 
 pub returns : goal.returns
-returns c = rw c.none.ensures (λ row. new_is_paused (tree c.args.f.now) row [])
+returns c = rw c.new.ensures (λ row. new_is_paused (tree c.args.f.now) row [])
