@@ -1,8 +1,7 @@
 -- How often host formulas are asked: exactly by the runs and the frames so far, and never often.
-use Rattle.std.proofs.Common.{◌≡◌, ℕ, zero, suc, ◌+◌, ◌-◌, ◌*◌, ◌^◌, ◌<◌, ◌≤◌, ◌==◌, ◌||◌, ◌&&◌, not, Bool, true, false, cond, List, [], ◌∷◌, ◌++◌, map, drop, length}
-use Rattle.std.proofs.Common.{Option, Some, None, IsTrue, refl, sym, ap, ◌∙◌, subst, arith, inl, inr, true≢false}
+use Rattle.std.proofs.Common.{◌≡◌, ℕ, suc, ◌+◌, ◌-◌, ◌*◌, ◌^◌, ◌<◌, ◌≤◌, ◌==◌, ◌&&◌, not, Bool, true, false, cond, List, [], ◌∷◌, ◌++◌, drop, length}
+use Rattle.std.proofs.Common.{Option, Some, None, IsTrue, refl, sym, ap, ◌∙◌, arith, true≢false}
 use Rattle.std.specs.Prelude.{slice_index, if◌then◌else◌}
-use Rattle.std.proofs.lemmas.Bool.{eqb-true}
 use Rattle.std.proofs.lemmas.Bool.Decides.{nat_tests}
 use Rattle.sig_base.specs.declared.value.Known.{Known}
 use Rattle.sig_base.specs.declared.value.Step.{Step}
@@ -10,14 +9,13 @@ use Rattle.sig_base.specs.declared.value.Step.TheVariants.{Read, Done, Fail}
 use Rattle.sig_base.specs.declared.value.Outcome.{Outcome}
 use Rattle.sig_base.specs.declared.value.Outcome.TheVariants.{Good, Bad}
 use Rattle.signal_model.specs.Recipes.{Expression, formula, host}
-use Rattle.signal_model.specs.Standing.{Signals, Cell, Computed, Stands, IsGone, IsCell, IsComputed, cell_at, computed_at, or_computed, is_in, standing}
-use Rattle.signal_model.specs.Values.{Seen, Evaluation, unknown_slots}
+use Rattle.signal_model.specs.Standing.{Signals, Stands, IsGone, IsCell, IsComputed, is_in, standing}
+use Rattle.signal_model.specs.Values.{Seen, unknown_slots}
 use Rattle.signal_model.specs.Memos.{Source, Memos, holds_cycle, is_moved, is_stale, sources_of}
 use Rattle.signal_model.specs.Sound.{standing_outcome}
 use Rattle.signal_model.specs.Settling.{Run}
 use Rattle.signal_model.specs.Asks.{Moment, asks_host, asks_of, good_reads, is_good, is_host, moments}
-use Rattle.signal_model.proofs.Shared.{tested}
-use Rattle.sig_host.specs.Hosts.{HostPlace, asked_more_at, count_at, is_there, last_ask, most_asked, places_after}
+use Rattle.sig_host.specs.Hosts.{HostPlace, count_at, is_there, last_ask, most_asked, places_after}
 use Rattle.sig_host.proofs.Shared.{count_at-asked, count_at-most, is_there-more, length-asked, most_asked-least}
 use Rattle.sig_nodes.specs.States as states
 use Rattle.sig_nodes.proofs.Shared.{uses_standing}

@@ -1,4 +1,3 @@
-mod Bits
 mod Progresses
 mod Sources
 mod Leaves

@@ -1,10 +1,11 @@
 -- A look at the sources from a place on, and what it counts.
-use Rattle.std.proofs.Common.{◌≡◌, ℕ, ◌+◌, ◌≤◌, ◌||◌, Bool, true, false, cond, List, [], ◌∷◌, Some, None, map, refl, sym, ap, ◌∙◌, subst, arith}
+use Rattle.std.proofs.Common.{◌≡◌, ℕ, ◌+◌, ◌≤◌, ◌==◌, ◌||◌, inl, inr, true≢false, Bool, true, false, cond, List, [], ◌∷◌, Some, None, map, refl, sym, ap, ◌∙◌, subst, arith}
 use Rattle.std.specs.Prelude.{is_some}
+use Rattle.std.proofs.lemmas.Bool.{eqb-true, eq-eqb}
 use Rattle.signal_model.specs.Standing.{Signals, Computed, Stands, IsGone, IsCell, IsComputed, is_in, is_computed, standing}
 use Rattle.signal_model.specs.Memos.{Source, Memos}
 use Rattle.signal_model.specs.Marks.{mark_of}
-use Rattle.signal_model.proofs.Shared.{or_left, stands-computed}
+use Rattle.signal_model.proofs.Shared.{or_left, stands-computed, tested}
 use Rattle.signal_laws.proofs.Shared.{in_append}
 use Rattle.sig_computed.specs.Stepping.{LookedAt, Move, Needs, Stops, decided, is_ready, looked}
 use Rattle.sig_computed.specs.Passing.{clean_among, compare_steps, is_clean, look_steps, passed_over, source_steps}
@@ -126,3 +127,14 @@ found_other (IsComputed c) true m live idle isnt = cc idle
 found_other (IsComputed c) false marks.Clean live idle isnt = absurd (isnt refl)
 found_other (IsComputed c) false marks.Checked live idle isnt = refl
 found_other (IsComputed c) false marks.Dirty live idle isnt = refl
+
+-- who is found once one more was put in
+pub one_more : (n m : ℕ) (rest : Bool) → cond (n == m) true rest ≡ (m == n || rest)
+one_more n m rest = elim (tested (n == m)) [
+  | inl e ↦ ap (λ b. cond b true rest) e ∙ ap (λ b. b || rest) (sym (eq-eqb m n (sym (eqb-true n m e))))
+  | inr e ↦ ap (λ b. cond b true rest) e ∙ ap (λ b. b || rest) (sym (other (m == n) refl e))
+]
+  where
+    other : (b : Bool) → (m == n) ≡ b → (n == m) ≡ false → b ≡ false
+    other false is e = refl
+    other true is e = absurd (true≢false (sym (eq-eqb n m (sym (eqb-true m n is))) ∙ e))

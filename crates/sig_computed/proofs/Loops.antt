@@ -1,5 +1,5 @@
 -- One turn of the loop.
-use Rattle.std.proofs.Common.{◌≡◌, ℕ, ◌+◌, ◌-◌, ◌^◌, ◌<◌, ◌≤◌, Bool, cond, List, [], ◌∷◌, ◌++◌, map, reverse, take, length, refl, sym, ap, ◌∙◌, subst, arith}
+use Rattle.std.proofs.Common.{◌≡◌, ℕ, ◌+◌, ◌-◌, ◌^◌, ◌<◌, ◌≤◌, cond, List, [], ◌∷◌, ◌++◌, map, reverse, take, length, refl, sym, ap, ◌∙◌, subst, arith}
 use Rattle.std.proofs.lemmas.List.{reverse-append, length-append, length-map, length-reverse}
 use Rattle.signal_model.specs.Recipes.{Hosts}
 use Rattle.signal_model.specs.Kept.{AreGiven, AreKept}
@@ -11,13 +11,12 @@ use Rattle.signal_model.specs.Asks.{asks_host}
 use Rattle.sig_host.specs.Hosts.{HostPlace, count_at, most_asked}
 use Rattle.sig_nodes.specs.Answers.{host_here, HaveFewSlots}
 use Rattle.sig_nodes.specs.States as states
-use Rattle.sig_nodes.specs.States.{is_computing, is_given}
+use Rattle.sig_nodes.specs.States.{is_given}
 use Rattle.sig_computed.specs.Stepping.{Move, GoesOn, Needs, Stops, Ends, frame_names}
 use Rattle.sig_computed.specs.declared.frames.Open.{Open}
 use Rattle.sig_computed.specs.declared.notes.RunNote.{RunNote}
 use Rattle.sig_computed.specs.Notes.{Note, note_of, AreNotesGiven}
 use Rattle.sig_computed.specs.Views.{evaluating, frame_of, phase_of, tops, Stays}
-use Rattle.sig_computed.specs.Visited.{marked}
 use Rattle.sig_computed.specs.Asked.{places_by, AreThere, CanAsk}
 use Rattle.sig_computed.specs.Turns.{memos_after, move_by, move_reads, move_steps, notes_of, progress_by, runs_of, stack_after, turn_steps, visited_after, AreReadsGiven, IsMove, IsMoved}
 use Rattle.sig_computed.proofs.Asking.{can_ask, move_asked, move_counts, phase_asked, phase_asks, places_count, step_asked, HasAsked}
@@ -44,28 +43,26 @@ frame_can start g stack n old new before after signals slots frames are room few
     (omega (arith, a, b, few)) notes (subst (λ w. HasAsked w old new before after (tops stack)) (sym signals) h)
 
 -- The innermost frame f was taken off, and has come to a move: the graph g is h by then.
-pub record IsTurn (start g h : states.Seen) (stack rest : List Open) (f : Open) (bits bits' : List Bool) (mv : Move) : Type 0 where
+pub record IsTurn (start g h : states.Seen) (stack rest : List Open) (f : Open) (visited : List ℕ) (mv : Move) : Type 0 where
   pub popped : stack ≡ rest ++ f ∷ []
   pub signals : g.state.signals ≡ start.state.signals
-  pub seats : g.seats ≡ start.seats
   pub frames : HasStack g (tops stack)
-  pub same : bits' ≡ bits
-  pub some : IsMove g.state.signals g.state.memos (evaluating g.state) (passed_over g.state.signals g.state.memos (marked g.seats bits')) f.id (phase_of f.doing) mv
+  pub some : IsMove g.state.signals g.state.memos (evaluating g.state) (passed_over g.state.signals g.state.memos visited) f.id (phase_of f.doing) mv
   pub given : AreReadsGiven g (move_reads mv)
   pub stays : Stays g h (progress_by f.id (phase_of f.doing) g.state.progress)
-      (turn_steps g.state.signals g.state.memos (evaluating g.state) (marked g.seats bits') f.id (phase_of f.doing) mv)
+      (turn_steps g.state.signals g.state.memos (evaluating g.state) visited f.id (phase_of f.doing) mv)
 
 -- The move is made: h is i.
-pub record IsMade (h i : states.Seen) (rest next : List Open) (f : Open) (bits bits' : List Bool) (mv : Move) : Type 0 where
+pub record IsMade (h i : states.Seen) (rest next : List Open) (f : Open) (visited visited' : List ℕ) (mv : Move) : Type 0 where
   pub stack : tops next ≡ stack_after h.state.memos f.id mv (tops rest)
-  pub visited : (m : ℕ) → is_in m (marked h.seats bits') ≡ is_in m (visited_after f.id mv (marked h.seats bits))
+  pub visits : (m : ℕ) → is_in m visited' ≡ is_in m (visited_after f.id mv visited)
   pub graph : IsMoved h i f.id mv
 
 -- steps of a turn and of its move, where those of the turn are told otherwise
 steps_by : (a b c turn turn' more : ℕ) → a ≤ c + turn → b ≤ a + more → turn ≡ turn' → b ≤ c + turn' + more
 steps_by a b c turn turn' more x y e = omega (arith, x, y, e)
 
-module _ (start g h : states.Seen) (stack rest : List Open) (f : Open) (bits bits' : List Bool) (mv : Move) (t : IsTurn start g h stack rest f bits bits' mv) where
+module _ (start g h : states.Seen) (stack rest : List Open) (f : Open) (visited : List ℕ) (mv : Move) (t : IsTurn start g h stack rest f visited mv) where
   top : tops stack ≡ frame_of f ∷ tops rest
   top = tops_last stack rest f t.popped
 
@@ -74,11 +71,11 @@ module _ (start g h : states.Seen) (stack rest : List Open) (f : Open) (bits bit
 
   -- the move takes the asks of its frame along
   counts : phase_asked (phase_of f.doing) + phase_asks (phase_of f.doing) ≡ move_asked mv
-  counts = move_counts g.state.signals g.state.memos (evaluating g.state) (passed_over g.state.signals g.state.memos (marked g.seats bits')) f.id (phase_of f.doing) mv t.some
+  counts = move_counts g.state.signals g.state.memos (evaluating g.state) (passed_over g.state.signals g.state.memos visited) f.id (phase_of f.doing) mv t.some
 
   -- what the move needs
   pub turn_move : HasMove h f.id (tops rest) mv
-  turn_move = after_turn g h (frame_of f) (tops rest) frames.fits frames.idle (passed_over g.state.signals g.state.memos (marked g.seats bits')) (phase_of f.doing) refl mv t.some t.given t.stays
+  turn_move = after_turn g h (frame_of f) (tops rest) frames.fits frames.idle (passed_over g.state.signals g.state.memos visited) (phase_of f.doing) refl mv t.some t.given t.stays
 
   -- who is being evaluated
   who : (m : ℕ) → is_in m (evaluating g.state) ≡ is_in m (f.id ∷ frame_names (tops rest))
@@ -90,17 +87,10 @@ module _ (start g h : states.Seen) (stack rest : List Open) (f : Open) (bits bit
       let stands = ap (λ w. standing w f.id) (sym t.signals) ∙ frames.fits.0.stands in
       move_given start f.id mv (used.names f.id (ap is_there stands)) (given_stays g start (move_reads mv) (sym same) t.given)
 
-  module _ (i : states.Seen) (stack' : List Open) (bits'' : List Bool) (d : IsMade h i rest stack' f bits bits'' mv) where
+  module _ (i : states.Seen) (stack' : List Open) (visited' : List ℕ) (d : IsMade h i rest stack' f visited visited' mv) where
     -- the frames have what they need
     pub turn_frames : HasStack i (tops stack')
     turn_frames = subst (HasStack i) (sym d.stack) (after_move h i h.state.memos f.id (tops rest) mv turn_move d.graph)
-
-    -- the names that were visited
-    visits : (m : ℕ) → is_in m (marked start.seats bits'') ≡ is_in m (visited_after f.id mv (marked start.seats bits'))
-    visits m =
-        let e : h.seats ≡ start.seats = t.stays.seats ∙ t.seats in
-        ap (λ x. is_in m (marked x bits'')) (sym e) ∙ d.visited m
-        ∙ (λ j. is_in m (visited_after f.id mv (marked (e j) (sym t.same j))))
 
     -- the same stack, by what was kept before
     stack_is : tops stack' ≡ stack_after g.state.memos f.id mv (tops rest)
@@ -110,66 +100,63 @@ module _ (start g h : states.Seen) (stack rest : List Open) (f : Open) (bits bit
     memos_is = d.graph.memos ∙ ap (λ k. memos_after k f.id mv) t.stays.memos
 
     -- the move, over the signals at the start
-    move_is : IsMove start.state.signals g.state.memos (evaluating g.state) (passed_over start.state.signals g.state.memos (marked start.seats bits')) f.id (phase_of f.doing) mv
-    move_is = subst (λ x. IsMove start.state.signals g.state.memos (evaluating g.state) (passed_over start.state.signals g.state.memos (marked x bits')) f.id (phase_of f.doing) mv) t.seats
-        (subst (λ x. IsMove x g.state.memos (evaluating g.state) (passed_over x g.state.memos (marked g.seats bits')) f.id (phase_of f.doing) mv) t.signals t.some)
+    move_is : IsMove start.state.signals g.state.memos (evaluating g.state) (passed_over start.state.signals g.state.memos visited) f.id (phase_of f.doing) mv
+    move_is = subst (λ x. IsMove x g.state.memos (evaluating g.state) (passed_over x g.state.memos visited) f.id (phase_of f.doing) mv) t.signals t.some
 
     -- less is left to do
-    pub turn_less : work start.state.signals i.state.memos (tops stack') (marked start.seats bits'')
-        < work start.state.signals g.state.memos (tops stack) (marked start.seats bits)
+    pub turn_less : work start.state.signals i.state.memos (tops stack') visited'
+        < work start.state.signals g.state.memos (tops stack) visited
     turn_less =
         let stands = ap (λ w. standing w f.id) (sym t.signals) ∙ frames.fits.0.stands in
-        let low : work start.state.signals (memos_after g.state.memos f.id mv) (stack_after g.state.memos f.id mv (tops rest)) (marked start.seats bits'')
-        < work start.state.signals g.state.memos (frame_of f ∷ tops rest) (marked start.seats bits') =
-        turn_lowers start.state.signals g.state.memos (evaluating g.state) (passed_over start.state.signals g.state.memos (marked start.seats bits')) (marked start.seats bits')
-        (marked start.seats bits'') (frame_of f) (tops rest) mv frames.fits.0.computed stands frames.fits.1 who
-        (λ m on. in_append m (marked start.seats bits') (clean_among start.state.signals g.state.memos start.state.signals.computeds)
-        ∙ or_left (is_in m (marked start.seats bits')) (is_in m (clean_among start.state.signals g.state.memos start.state.signals.computeds)) on) move_is visits in
-        let a : work start.state.signals i.state.memos (tops stack') (marked start.seats bits'')
-        ≡ work start.state.signals (memos_after g.state.memos f.id mv) (stack_after g.state.memos f.id mv (tops rest)) (marked start.seats bits'') =
-        (λ j. work start.state.signals (memos_is j) (stack_is j) (marked start.seats bits'')) in
-        let b : work start.state.signals g.state.memos (frame_of f ∷ tops rest) (marked start.seats bits')
-        ≡ work start.state.signals g.state.memos (tops stack) (marked start.seats bits) =
-        (λ j. work start.state.signals g.state.memos (sym top j) (marked start.seats (t.same j))) in
+        let low : work start.state.signals (memos_after g.state.memos f.id mv) (stack_after g.state.memos f.id mv (tops rest)) visited'
+        < work start.state.signals g.state.memos (frame_of f ∷ tops rest) visited =
+        turn_lowers start.state.signals g.state.memos (evaluating g.state) (passed_over start.state.signals g.state.memos visited) visited
+        visited' (frame_of f) (tops rest) mv frames.fits.0.computed stands frames.fits.1 who
+        (λ m on. in_append m visited (clean_among start.state.signals g.state.memos start.state.signals.computeds)
+        ∙ or_left (is_in m visited) (is_in m (clean_among start.state.signals g.state.memos start.state.signals.computeds)) on) move_is d.visits in
+        let a : work start.state.signals i.state.memos (tops stack') visited'
+        ≡ work start.state.signals (memos_after g.state.memos f.id mv) (stack_after g.state.memos f.id mv (tops rest)) visited' =
+        (λ j. work start.state.signals (memos_is j) (stack_is j) visited') in
+        let b : work start.state.signals g.state.memos (frame_of f ∷ tops rest) visited
+        ≡ work start.state.signals g.state.memos (tops stack) visited =
+        (λ j. work start.state.signals g.state.memos (sym top j) visited) in
         omega (arith, low, a, b)
 
     -- the steps of the turn and of its move
-    steps_more : i.state.looked ≤ g.state.looked + turn_steps start.state.signals g.state.memos (evaluating g.state) (marked start.seats bits') f.id (phase_of f.doing) mv + move_steps mv
+    steps_more : i.state.looked ≤ g.state.looked + turn_steps start.state.signals g.state.memos (evaluating g.state) visited f.id (phase_of f.doing) mv + move_steps mv
     steps_more =
         let a = t.stays.steps in
         let b = d.graph.steps in
-        let same : turn_steps g.state.signals g.state.memos (evaluating g.state) (marked g.seats bits') f.id (phase_of f.doing) mv
-        ≡ turn_steps start.state.signals g.state.memos (evaluating g.state) (marked start.seats bits') f.id (phase_of f.doing) mv =
-        (λ j. turn_steps (t.signals j) g.state.memos (evaluating g.state) (marked (t.seats j) bits') f.id (phase_of f.doing) mv) in
+        let same : turn_steps g.state.signals g.state.memos (evaluating g.state) visited f.id (phase_of f.doing) mv
+        ≡ turn_steps start.state.signals g.state.memos (evaluating g.state) visited f.id (phase_of f.doing) mv =
+        (λ j. turn_steps (t.signals j) g.state.memos (evaluating g.state) visited f.id (phase_of f.doing) mv) in
         steps_by h.state.looked i.state.looked g.state.looked
-        (turn_steps g.state.signals g.state.memos (evaluating g.state) (marked g.seats bits') f.id (phase_of f.doing) mv)
-        (turn_steps start.state.signals g.state.memos (evaluating g.state) (marked start.seats bits') f.id (phase_of f.doing) mv) (move_steps mv) a b same
+        (turn_steps g.state.signals g.state.memos (evaluating g.state) visited f.id (phase_of f.doing) mv)
+        (turn_steps start.state.signals g.state.memos (evaluating g.state) visited f.id (phase_of f.doing) mv) (move_steps mv) a b same
 
     -- the whole stays the whole
     pub turn_whole : (hosts : Hosts) (k0 : Memos) (kept0 : AreKept hosts start.state.signals k0) (steps0 : ℕ) (places0 places places' : List HostPlace) (asked : List ℕ) (before after after' : List Note) →
         after' ≡ after ++ notes_of f.id mv → CanAsk (host_here (standing g.state.signals f.id)) places →
         places' ≡ places_by (standing g.state.signals f.id) (phase_of f.doing) places →
-        mv ≡ move_by hosts g.state.signals g.state.memos (evaluating g.state) (passed_over g.state.signals g.state.memos (marked g.seats bits')) f.id (phase_of f.doing) →
-        IsWhole hosts start.state.signals k0 kept0 steps0 places0 asked g.state.memos g.state.looked places before after (marked start.seats bits) (tops stack) →
-        IsWhole hosts start.state.signals k0 kept0 steps0 places0 asked i.state.memos i.state.looked places' before after' (marked start.seats bits'') (tops stack')
+        mv ≡ move_by hosts g.state.signals g.state.memos (evaluating g.state) (passed_over g.state.signals g.state.memos visited) f.id (phase_of f.doing) →
+        IsWhole hosts start.state.signals k0 kept0 steps0 places0 asked g.state.memos g.state.looked places before after visited (tops stack) →
+        IsWhole hosts start.state.signals k0 kept0 steps0 places0 asked i.state.memos i.state.looked places' before after' visited' (tops stack')
     turn_whole hosts k0 kept0 steps0 places0 places places' asked before after after' notes can once is x =
         let stands = ap (λ w. standing w f.id) (sym t.signals) ∙ frames.fits.0.stands in
-        let is' : mv ≡ move_by hosts start.state.signals g.state.memos (evaluating g.state) (passed_over start.state.signals g.state.memos (marked start.seats bits')) f.id (phase_of f.doing) =
-        is ∙ (λ j. move_by hosts (t.signals j) g.state.memos (evaluating g.state) (passed_over (t.signals j) g.state.memos (marked (t.seats j) bits')) f.id (phase_of f.doing)) in
+        let is' : mv ≡ move_by hosts start.state.signals g.state.memos (evaluating g.state) (passed_over start.state.signals g.state.memos visited) f.id (phase_of f.doing) =
+        is ∙ (λ j. move_by hosts (t.signals j) g.state.memos (evaluating g.state) (passed_over (t.signals j) g.state.memos visited) f.id (phase_of f.doing)) in
         let more : (q : ℕ) → count_at places' q ≡ count_at places q + cond (asks_host q (standing start.state.signals f.id)) (phase_asks (phase_of f.doing)) 0 =
         λ q. ap (λ l. count_at l q) once ∙ places_count (standing g.state.signals f.id) (phase_of f.doing) places q can
         ∙ ap (λ v. count_at places q + cond (asks_host q (standing v f.id)) (phase_asks (phase_of f.doing)) 0) t.signals in
-        let x' : IsWhole hosts start.state.signals k0 kept0 steps0 places0 asked g.state.memos g.state.looked places before after (marked start.seats bits')
+        let x' : IsWhole hosts start.state.signals k0 kept0 steps0 places0 asked g.state.memos g.state.looked places before after visited
         (frame_of f ∷ tops rest) =
-        subst (λ y. IsWhole hosts start.state.signals k0 kept0 steps0 places0 asked g.state.memos g.state.looked places before after (marked start.seats y) (frame_of f ∷ tops rest))
-        (sym t.same)
-        (subst (λ y. IsWhole hosts start.state.signals k0 kept0 steps0 places0 asked g.state.memos g.state.looked places before after (marked start.seats bits) y) top x) in
+        subst (λ y. IsWhole hosts start.state.signals k0 kept0 steps0 places0 asked g.state.memos g.state.looked places before after visited y) top x in
         let y : IsWhole hosts start.state.signals k0 kept0 steps0 places0 asked (memos_after g.state.memos f.id mv) i.state.looked places' before (after ++ notes_of f.id mv)
-        (marked start.seats bits'') (stack_after g.state.memos f.id mv (tops rest)) =
+        visited' (stack_after g.state.memos f.id mv (tops rest)) =
         step_whole hosts start.state.signals k0 kept0 steps0 places0 asked g.state.memos g.state.looked i.state.looked places places' before after (evaluating g.state)
-        (marked start.seats bits') (marked start.seats bits'') (frame_of f) (tops rest) mv frames.fits.0.computed stands x' who is' visits steps_more counts more in
+        visited visited' (frame_of f) (tops rest) mv frames.fits.0.computed stands x' who is' d.visits steps_more counts more in
         subst (λ z. z)
-        (λ j. IsWhole hosts start.state.signals k0 kept0 steps0 places0 asked (sym memos_is j) i.state.looked places' before (sym notes j) (marked start.seats bits'') (sym stack_is j)) y
+        (λ j. IsWhole hosts start.state.signals k0 kept0 steps0 places0 asked (sym memos_is j) i.state.looked places' before (sym notes j) visited' (sym stack_is j)) y
 
     -- what is known of the places
     pub turn_asked : (old new new' : List HostPlace) (before after after' : ℕ) → HaveFewSlots start.state.signals →

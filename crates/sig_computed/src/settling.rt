@@ -1,7 +1,7 @@
 // Settling by a loop over a stack of frames, so its depth rests on no machine stack.
 ghost use Rattle.std.specs.Prelude.{◌≡◌, ◌+◌, ◌*◌, ◌<◌, ◌≤◌, ◌^◌, ◌++◌, ◌∷◌, ℕ, [], List, true, false, None, Some, IfOk, IfSome, OnOk, map, reverse, length, vec_len};
 ghost use Rattle.signal_model.specs.Recipes.{Hosts};
-ghost use Rattle.signal_model.specs.Standing.{is_computed, is_in, is_there, standing};
+ghost use Rattle.signal_model.specs.Standing.{is_computed, is_in, standing};
 ghost use Rattle.signal_model.specs.Values.{value_of};
 ghost use Rattle.signal_model.specs.Kept.{AreKept};
 ghost use Rattle.signal_model.specs.Sound.{names_of};
@@ -12,14 +12,13 @@ ghost use Rattle.sig_computed.specs.Asked.{AreThere, IsAsking, StayThere};
 ghost use Rattle.sig_computed.specs.Notes.{note_of, AreNotesGiven, HasRoom, IsIdle, IsSettling};
 ghost use Rattle.sig_computed.specs.Costs.{step_bound};
 ghost use Rattle.sig_computed.specs.Views.{evaluating, evaluation_of, frame_of, move_of, progressed, seen_of, tops, Stays};
-ghost use Rattle.sig_computed.specs.Visited.{marked};
 ghost use Rattle.sig_computed.specs.Turns.{evaluation_note, first_stack, notes_of, stack_after, visited_after, AreReadsGiven, CanMove, HasFirst, IsKept, IsMoved};
 
 use crate::frames::{Doing, Open, Ran, Read, Turn};
 use crate::notes::RunNote;
 use crate::turns::{is_clean, outcome_of, turn_of};
-use crate::visited::{none_visited, visit};
-use sig_base::{MOST_NODES, NoMemory, NodeId, Outcome};
+use crate::visited::Visited;
+use sig_base::{NoMemory, NodeId, Outcome};
 use sig_host::{Lent, Shelf};
 use sig_nodes::{Graph, Standing};
 use std::alloc::Global;
@@ -106,19 +105,16 @@ fn apply(
     alloc: Global,
     graph: &mut Graph,
     stack: &mut Vec<Open>,
-    visited: &mut Vec<bool>,
+    visited: &mut Visited,
     notes: &mut Vec<RunNote>,
     node: NodeId,
     turn: Turn,
 ) -> Result<(), NoMemory>
-    requires live { is_there (standing graph.old.state.signals node) ≡ true }
     requires computing { is_computing graph.old.state node ≡ true }
-    requires size { length visited.old.items ≡ MOST_NODES }
     requires worn { CanWear graph.old.state }
     requires can { CanMove graph.old (move_of turn) }
     ensures stack { OnOk result (tops stack.new.items ≡ stack_after graph.old.state.memos node (move_of turn) (tops stack.old.items)) }
-    ensures size { OnOk result (length visited.new.items ≡ MOST_NODES) }
-    ensures visited { (m : ℕ) → OnOk result (is_in m (marked graph.old.seats visited.new.items) ≡ is_in m (visited_after node (move_of turn) (marked graph.old.seats visited.old.items))) }
+    ensures visited { (m : ℕ) → OnOk result (is_in m visited.new ≡ is_in m (visited_after node (move_of turn) visited.old)) }
     ensures notes { OnOk result (map note_of notes.new.items ≡ map note_of notes.old.items ++ notes_of node (move_of turn)) }
     ensures graph { OnOk result (IsMoved graph.old graph.new node (move_of turn)) }
 {
@@ -135,12 +131,12 @@ fn apply(
         }
         Turn::Stops => {
             graph.stop(node);
-            visit(graph, visited, node);
+            visited.add(node)?;
             Ok(())
         }
         Turn::Ends(ran) => {
             keep(alloc, graph, notes, node, ran)?;
-            visit(graph, visited, node);
+            visited.add(node)?;
             Ok(())
         }
     }
@@ -200,7 +196,7 @@ pub fn settle(
         return Ok(shown);
     };
     let alloc = *notes.allocator();
-    let mut visited = none_visited(alloc)?;
+    let mut visited = Visited::new(alloc);
     let mut stack = first(alloc, graph, id)?;
     while let Some(frame) = stack.pop() {
         let node = frame.id;

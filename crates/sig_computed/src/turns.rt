@@ -10,13 +10,12 @@ ghost use Rattle.sig_nodes.specs.Answers.{answer_here, host_here, slots_here, Is
 ghost use Rattle.sig_nodes.specs.States.{is_cell, is_computing, is_given, progress_at, GoesOn};
 ghost use Rattle.sig_computed.specs.Stepping.{answered, decided, is_ready, Ends, looked, ready_outcome, told};
 ghost use Rattle.sig_computed.specs.Views.{evaluating, first_moved, first_name, frame_of, move_of, or_cycle, phase_of, progressed, seen_of, Stays};
-ghost use Rattle.sig_computed.specs.Visited.{marked};
 ghost use Rattle.sig_computed.specs.Asked.{asked_once, places_by, CanAsk};
 ghost use Rattle.sig_computed.specs.Turns.{move_by, move_reads, progress_by, turn_steps, waits, AreReadsGiven, Fits, IsAnswered, IsMove};
 
 use crate::frames::{Doing, Open, Ran, Read, Turn};
-use crate::visited::is_visited;
-use sig_base::{Fault, Known, MOST_NODES, NoMemory, NodeId, Outcome, Step};
+use crate::visited::Visited;
+use sig_base::{Fault, Known, NoMemory, NodeId, Outcome, Step};
 use sig_host::{Lent, Shelf};
 use sig_nodes::{Asked, Graph, Look, Standing};
 use signal_model::judged;
@@ -36,14 +35,13 @@ pub(crate) fn is_clean(graph: &mut Graph, id: NodeId) -> bool
 }
 
 // Whether a source needs no settling first: it is no computed, is being evaluated, was visited, or is clean.
-fn is_ready(graph: &mut Graph, visited: &[bool], id: NodeId) -> bool
-    requires { length visited.now ≡ MOST_NODES }
-    ensures ready { result ≡ is_ready (standing graph.old.state.signals id) (is_in id (evaluating graph.old.state)) (is_in id (passed_over graph.old.state.signals graph.old.state.memos (marked graph.old.seats visited.now))) }
-    ensures after { Stays graph.old graph.new graph.old.state.progress (look_steps (standing graph.old.state.signals id) (is_in id (evaluating graph.old.state)) (is_in id (marked graph.old.seats visited.now))) }
+fn is_ready(graph: &mut Graph, visited: &Visited, id: NodeId) -> bool
+    ensures ready { result ≡ is_ready (standing graph.old.state.signals id) (is_in id (evaluating graph.old.state)) (is_in id (passed_over graph.old.state.signals graph.old.state.memos visited.now)) }
+    ensures after { Stays graph.old graph.new graph.old.state.progress (look_steps (standing graph.old.state.signals id) (is_in id (evaluating graph.old.state)) (is_in id visited.now)) }
 {
     match graph.standing(id) {
         Standing::Computed => {
-            if is_visited(graph, visited, id) {
+            if visited.has(id) {
                 return true;
             }
             is_clean(graph, id)
@@ -92,11 +90,10 @@ fn decide(alloc: Global, graph: &mut Graph, node: NodeId, place: usize) -> Turn
 }
 
 // A look at the kept sources from a place on.
-fn look(alloc: Global, graph: &mut Graph, visited: &[bool], node: NodeId, place: usize) -> Turn
-    requires { length visited.now ≡ MOST_NODES }
-    ensures turn { move_of result ≡ looked graph.old.state.signals graph.old.state.memos (evaluating graph.old.state) (passed_over graph.old.state.signals graph.old.state.memos (marked graph.old.seats visited.now)) (holds_cycle graph.old.state.memos node) place (drop place (sources_of graph.old.state.memos node)) }
+fn look(alloc: Global, graph: &mut Graph, visited: &Visited, node: NodeId, place: usize) -> Turn
+    ensures turn { move_of result ≡ looked graph.old.state.signals graph.old.state.memos (evaluating graph.old.state) (passed_over graph.old.state.signals graph.old.state.memos visited.now) (holds_cycle graph.old.state.memos node) place (drop place (sources_of graph.old.state.memos node)) }
     ensures given { AreReadsGiven graph.old (move_reads (move_of result)) }
-    ensures after { Stays graph.old graph.new graph.old.state.progress (source_steps graph.old.state.signals (evaluating graph.old.state) (marked graph.old.seats visited.now) (drop place (sources_of graph.old.state.memos node)) (move_of result)) }
+    ensures after { Stays graph.old graph.new graph.old.state.progress (source_steps graph.old.state.signals (evaluating graph.old.state) visited.now (drop place (sources_of graph.old.state.memos node)) (move_of result)) }
 {
     let Some(id) = source_at(graph, node, place) else {
         return Turn::Stops;
@@ -196,18 +193,17 @@ fn slot_of(graph: &Graph, node: NodeId, slot: u32) -> NodeId
 // A slot is waited for.
 fn wait(
     graph: &mut Graph,
-    visited: &[bool],
+    visited: &Visited,
     node: NodeId,
     slot: u32,
     known: Vec<Known>,
     reads: Vec<Read>,
 ) -> Result<Turn, NoMemory>
-    requires size { length visited.now ≡ MOST_NODES }
     requires slot { slot < length (slots_here (standing graph.old.state.signals node)) }
     requires given { AreReadsGiven graph.old (map seen_of reads.items) }
-    ensures turn { IfOk result (λ t. move_of t ≡ waits graph.old.state.signals graph.old.state.memos (evaluating graph.old.state) (passed_over graph.old.state.signals graph.old.state.memos (marked graph.old.seats visited.now)) slot (slice_index (slots_here (standing graph.old.state.signals node)) slot) known.items (map seen_of reads.items)) }
+    ensures turn { IfOk result (λ t. move_of t ≡ waits graph.old.state.signals graph.old.state.memos (evaluating graph.old.state) (passed_over graph.old.state.signals graph.old.state.memos visited.now) slot (slice_index (slots_here (standing graph.old.state.signals node)) slot) known.items (map seen_of reads.items)) }
     ensures given { IfOk result (λ t. AreReadsGiven graph.old (move_reads (move_of t))) }
-    ensures after { OnOk result (Stays graph.old graph.new graph.old.state.progress (look_steps (standing graph.old.state.signals (slice_index (slots_here (standing graph.old.state.signals node)) slot)) (is_in (slice_index (slots_here (standing graph.old.state.signals node)) slot) (evaluating graph.old.state)) (is_in (slice_index (slots_here (standing graph.old.state.signals node)) slot) (marked graph.old.seats visited.now)))) }
+    ensures after { OnOk result (Stays graph.old graph.new graph.old.state.progress (look_steps (standing graph.old.state.signals (slice_index (slots_here (standing graph.old.state.signals node)) slot)) (is_in (slice_index (slots_here (standing graph.old.state.signals node)) slot) (evaluating graph.old.state)) (is_in (slice_index (slots_here (standing graph.old.state.signals node)) slot) visited.now))) }
 {
     let id = slot_of(graph, node, slot);
     if !is_ready(graph, visited, id) {
@@ -288,17 +284,16 @@ pub(crate) fn turn_of(
     alloc: Global,
     graph: &mut Graph,
     shelf: &mut Shelf,
-    visited: &[bool],
+    visited: &Visited,
     frame: Open,
 ) -> Result<Turn, NoMemory>
-    requires size { length visited.now ≡ MOST_NODES }
     requires fits { Fits graph.old (frame_of frame) }
     requires counted { ⟦<Shelf as Lent>⟧.counted shelf.old }
     requires host { CanAsk (host_here (standing graph.old.state.signals frame.id)) (⟦<Shelf as Lent>⟧.asked shelf.old) }
-    ensures turn { (hosts : Hosts) → ⟦<Shelf as Lent>⟧.answers hosts shelf.old → IfOk result (λ t. move_of t ≡ move_by hosts graph.old.state.signals graph.old.state.memos (evaluating graph.old.state) (passed_over graph.old.state.signals graph.old.state.memos (marked graph.old.seats visited.now)) frame.id (phase_of frame.doing)) }
-    ensures some { IfOk result (λ t. IsMove graph.old.state.signals graph.old.state.memos (evaluating graph.old.state) (passed_over graph.old.state.signals graph.old.state.memos (marked graph.old.seats visited.now)) frame.id (phase_of frame.doing) (move_of t)) }
+    ensures turn { (hosts : Hosts) → ⟦<Shelf as Lent>⟧.answers hosts shelf.old → IfOk result (λ t. move_of t ≡ move_by hosts graph.old.state.signals graph.old.state.memos (evaluating graph.old.state) (passed_over graph.old.state.signals graph.old.state.memos visited.now) frame.id (phase_of frame.doing)) }
+    ensures some { IfOk result (λ t. IsMove graph.old.state.signals graph.old.state.memos (evaluating graph.old.state) (passed_over graph.old.state.signals graph.old.state.memos visited.now) frame.id (phase_of frame.doing) (move_of t)) }
     ensures given { IfOk result (λ t. AreReadsGiven graph.old (move_reads (move_of t))) }
-    ensures after { IfOk result (λ t. Stays graph.old graph.new (progress_by frame.id (phase_of frame.doing) graph.old.state.progress) (turn_steps graph.old.state.signals graph.old.state.memos (evaluating graph.old.state) (marked graph.old.seats visited.now) frame.id (phase_of frame.doing) (move_of t))) }
+    ensures after { IfOk result (λ t. Stays graph.old graph.new (progress_by frame.id (phase_of frame.doing) graph.old.state.progress) (turn_steps graph.old.state.signals graph.old.state.memos (evaluating graph.old.state) visited.now frame.id (phase_of frame.doing) (move_of t))) }
     ensures answers { (hosts : Hosts) → ⟦<Shelf as Lent>⟧.answers hosts shelf.old → OnOk result (⟦<Shelf as Lent>⟧.answers hosts shelf.new) }
     ensures counted { OnOk result (⟦<Shelf as Lent>⟧.counted shelf.new) }
     ensures asked { OnOk result (⟦<Shelf as Lent>⟧.asked shelf.new ≡ places_by (standing graph.old.state.signals frame.id) (phase_of frame.doing) (⟦<Shelf as Lent>⟧.asked shelf.old)) }

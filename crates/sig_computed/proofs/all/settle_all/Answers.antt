@@ -1,4 +1,4 @@
-use Rattle.std.proofs.Common.{◌+◌, ◌++◌, [], ◌∷◌, map, take, sym, ap, arith, ◌∙◌}
+use Rattle.std.proofs.Common.{◌++◌, [], ◌∷◌, map, take, sym, ap, arith, ◌∙◌}
 use Rattle.std.proofs.lemmas.List.{length-map, map-append, take_all, take_more}
 use Rattle.signal_model.specs.Values.{value_of}
 use Rattle.sig_computed.specs.Notes.{note_of}

@@ -12,7 +12,6 @@ use Rattle.sig_computed.specs.Stepping.{frame_names}
 use Rattle.sig_computed.specs.Notes.{note_of, IsNoteGiven}
 use Rattle.sig_computed.specs.Turns.{notes_of}
 use Rattle.sig_computed.specs.Views.{evaluating, move_of, tops}
-use Rattle.sig_computed.specs.Visited.{marked}
 use Rattle.sig_computed.proofs.Fitting.{frames_are, notes_stay}
 use Rattle.sig_computed.proofs.Leaves.{kind_computed, ready_other}
 use Rattle.sig_computed.proofs.Progresses.{in_evaluating}
@@ -31,7 +30,6 @@ loop-frame-init g c =
       given = e.given;
       named = λ all. all;
       worn = ap (λ x. x + length c.args.notes.now.items) e.worn;
-      size = c.in_ok-visited.ensures.size;
       frames = record { fits = e.fits; idle = e.idle };
       counted = c.requires.counted;
       answers = λ hosts all. all;
@@ -43,9 +41,9 @@ loop-frame-init g c =
           subst (λ x. x)
           (λ i. IsWhole hosts w k kept c.args.graph.now.state.looked places (c.args.id ∷ []) (sym e.memos i) c.first.new.graph.state.looked places
           (map note_of c.args.notes.now.items) (map note_of c.args.notes.now.items)
-          (marked c.args.graph.now.seats c.in_ok-visited.visited.items) (sym c.in_ok-stack.ensures.stack i))
+          c.new-visited.result (sym c.in_ok-stack.ensures.stack i))
           (first_whole hosts w k c.args.graph.now.state.looked c.first.new.graph.state.looked places c.args.id (map note_of c.args.notes.now.items)
-          (marked c.args.graph.now.seats c.in_ok-visited.visited.items) kept (c.in_ok-visited.ensures.none c.args.graph.now.seats)
+          c.new-visited.result kept c.new-visited.ensures
           (kind_computed (standing w c.args.id) (is_computing c.args.graph.now.state c.args.id) c.in-Computed.ensures)
           (subst (λ fs. c.first.new.graph.state.looked ≤ c.args.graph.now.state.looked + 1 + length fs) c.in_ok-stack.ensures.stack e.steps));
     }
@@ -60,12 +58,10 @@ pub apply-requires-clause-computing : goal.apply-requires-clause-computing
 apply-requires-clause-computing g c =
     let i = c.loop-frame.invariant in
     (turn_move c.args.graph.now c.loop-frame.graph c.turn_of.new.graph c.loop-frame.stack.items c.pop.new.self.items c.in-Some.frame
-    c.loop-frame.visited.items c.deref.result.now (move_of c.in_ok-turn.turn) (record {
+    c.loop-frame.visited (move_of c.in_ok-turn.turn) (record {
       popped = c.in-Some.ensures.items;
       signals = i.signals;
-      seats = i.seats;
       frames = i.frames;
-      same = c.deref.ensures.value;
       some = c.in_ok-turn.ensures.some;
       given = c.in_ok-turn.ensures.given;
       stays = c.in_ok-turn.ensures.after;
@@ -75,12 +71,10 @@ pub apply-requires-clause-can : goal.apply-requires-clause-can
 apply-requires-clause-can g c =
     let i = c.loop-frame.invariant in
     (turn_move c.args.graph.now c.loop-frame.graph c.turn_of.new.graph c.loop-frame.stack.items c.pop.new.self.items c.in-Some.frame
-    c.loop-frame.visited.items c.deref.result.now (move_of c.in_ok-turn.turn) (record {
+    c.loop-frame.visited (move_of c.in_ok-turn.turn) (record {
       popped = c.in-Some.ensures.items;
       signals = i.signals;
-      seats = i.seats;
       frames = i.frames;
-      same = c.deref.ensures.value;
       some = c.in_ok-turn.ensures.some;
       given = c.in_ok-turn.ensures.given;
       stays = c.in_ok-turn.ensures.after;
@@ -90,17 +84,15 @@ pub loop-frame-smaller : goal.loop-frame-smaller
 loop-frame-smaller g c =
     let i = c.loop-frame.invariant in
     turn_less c.args.graph.now c.loop-frame.graph c.turn_of.new.graph c.loop-frame.stack.items c.pop.new.self.items c.in-Some.frame
-    c.loop-frame.visited.items c.deref.result.now (move_of c.in_ok-turn.turn) (record {
+    c.loop-frame.visited (move_of c.in_ok-turn.turn) (record {
       popped = c.in-Some.ensures.items;
       signals = i.signals;
-      seats = i.seats;
       frames = i.frames;
-      same = c.deref.ensures.value;
       some = c.in_ok-turn.ensures.some;
       given = c.in_ok-turn.ensures.given;
       stays = c.in_ok-turn.ensures.after;
-    }) c.apply.new.graph c.apply.new.stack.items c.apply.new.visited.items
-    (record { stack = c.in_ok-apply.ensures.stack; visited = λ m. c.in_ok-apply.ensures.visited m; graph = c.in_ok-apply.ensures.graph })
+    }) c.apply.new.graph c.apply.new.stack.items c.apply.new.visited
+    (record { stack = c.in_ok-apply.ensures.stack; visits = λ m. c.in_ok-apply.ensures.visited m; graph = c.in_ok-apply.ensures.graph })
 
 pub loop-frame-preserved : goal.loop-frame-preserved
 loop-frame-preserved g c =
@@ -108,20 +100,18 @@ loop-frame-preserved g c =
     let s = c.in_ok-turn.ensures.after in
     let m = c.in_ok-apply.ensures.graph in
     let t : IsTurn c.args.graph.now c.loop-frame.graph c.turn_of.new.graph c.loop-frame.stack.items c.pop.new.self.items c.in-Some.frame
-    c.loop-frame.visited.items c.deref.result.now (move_of c.in_ok-turn.turn) =
+    c.loop-frame.visited (move_of c.in_ok-turn.turn) =
     record {
       popped = c.in-Some.ensures.items;
       signals = i.signals;
-      seats = i.seats;
       frames = i.frames;
-      same = c.deref.ensures.value;
       some = c.in_ok-turn.ensures.some;
       given = c.in_ok-turn.ensures.given;
       stays = s;
     } in
-    let d : IsMade c.turn_of.new.graph c.apply.new.graph c.pop.new.self.items c.apply.new.stack.items c.in-Some.frame c.loop-frame.visited.items
-    c.apply.new.visited.items (move_of c.in_ok-turn.turn) =
-    record { stack = c.in_ok-apply.ensures.stack; visited = λ x. c.in_ok-apply.ensures.visited x; graph = m } in
+    let d : IsMade c.turn_of.new.graph c.apply.new.graph c.pop.new.self.items c.apply.new.stack.items c.in-Some.frame c.loop-frame.visited
+    c.apply.new.visited (move_of c.in_ok-turn.turn) =
+    record { stack = c.in_ok-apply.ensures.stack; visits = λ x. c.in_ok-apply.ensures.visited x; graph = m } in
     let can =
     frame_can c.args.graph.now c.loop-frame.graph c.loop-frame.stack.items c.in-Some.frame.id _ _ (length c.args.notes.now.items) (length c.loop-frame.notes.items) i.signals
     c.made-made.ensures.few i.frames c.requires.there c.requires.room (omega arith) (omega arith) i.asked in
@@ -135,21 +125,20 @@ loop-frame-preserved g c =
           (All-append (IsNoteGiven c.args.graph.now) (map note_of c.loop-frame.notes.items)
           (notes_of c.in-Some.frame.id (move_of c.in_ok-turn.turn)) (i.named all)
           (turn_given c.args.graph.now c.loop-frame.graph c.turn_of.new.graph c.loop-frame.stack.items c.pop.new.self.items c.in-Some.frame
-          c.loop-frame.visited.items c.deref.result.now (move_of c.in_ok-turn.turn) t i.given c.made-made.ensures.used));
+          c.loop-frame.visited (move_of c.in_ok-turn.turn) t i.given c.made-made.ensures.used));
       worn = let a = m.worn in let b = s.worn in let e = i.worn in omega (arith, a, b, e, count);
-      size = c.in_ok-apply.ensures.size;
       frames = turn_frames c.args.graph.now c.loop-frame.graph c.turn_of.new.graph c.loop-frame.stack.items c.pop.new.self.items c.in-Some.frame
-          c.loop-frame.visited.items c.deref.result.now (move_of c.in_ok-turn.turn) t c.apply.new.graph c.apply.new.stack.items
-          c.apply.new.visited.items d;
+          c.loop-frame.visited (move_of c.in_ok-turn.turn) t c.apply.new.graph c.apply.new.stack.items
+          c.apply.new.visited d;
       counted = c.in_ok-turn.ensures.counted;
       answers = λ hosts all. c.in_ok-turn.ensures.answers hosts (i.answers hosts all);
       asked = turn_asked c.args.graph.now c.loop-frame.graph c.turn_of.new.graph c.loop-frame.stack.items c.pop.new.self.items
-          c.in-Some.frame c.loop-frame.visited.items c.deref.result.now (move_of c.in_ok-turn.turn) t c.apply.new.graph c.apply.new.stack.items
-          c.apply.new.visited.items d _ _ _ (length c.args.notes.now.items) (length c.loop-frame.notes.items) (length c.apply.new.notes.items)
+          c.in-Some.frame c.loop-frame.visited (move_of c.in_ok-turn.turn) t c.apply.new.graph c.apply.new.stack.items
+          c.apply.new.visited d _ _ _ (length c.args.notes.now.items) (length c.loop-frame.notes.items) (length c.apply.new.notes.items)
           c.made-made.ensures.few can c.in_ok-turn.ensures.asked count i.asked;
       whole = λ hosts all kept. turn_whole c.args.graph.now c.loop-frame.graph c.turn_of.new.graph c.loop-frame.stack.items c.pop.new.self.items
-          c.in-Some.frame c.loop-frame.visited.items c.deref.result.now (move_of c.in_ok-turn.turn) t c.apply.new.graph c.apply.new.stack.items
-          c.apply.new.visited.items d hosts c.args.graph.now.state.memos kept c.args.graph.now.state.looked _ _ _ (c.args.id ∷ [])
+          c.in-Some.frame c.loop-frame.visited (move_of c.in_ok-turn.turn) t c.apply.new.graph c.apply.new.stack.items
+          c.apply.new.visited d hosts c.args.graph.now.state.memos kept c.args.graph.now.state.looked _ _ _ (c.args.id ∷ [])
           (map note_of c.args.notes.now.items) (map note_of c.loop-frame.notes.items) (map note_of c.apply.new.notes.items) c.in_ok-apply.ensures.notes
           can c.in_ok-turn.ensures.asked (c.in_ok-turn.ensures.turn hosts (i.answers hosts all)) (i.whole hosts all kept);
     }
@@ -195,7 +184,7 @@ returns-clause-value g c = λ hosts all kept.
     let none = ap tops (none_left c.loop-frame.stack.items c.pop.new.self.items (vec_len c.loop-frame.stack) c.in_default-pop.ensures.items
     c.in_default-pop.ensures.rest c.in_default-pop.ensures.cases.0) in
     let x = last_whole hosts w c.args.graph.now.state.memos c.loop-frame.graph.state.memos c.args.graph.now.state.looked c.loop-frame.graph.state.looked _ _ c.args.id
-    (map note_of c.args.notes.now.items) (map note_of c.loop-frame.notes.items) (marked c.args.graph.now.seats c.loop-frame.visited.items)
+    (map note_of c.args.notes.now.items) (map note_of c.loop-frame.notes.items) c.loop-frame.visited
     (tops c.loop-frame.stack.items) kept none (i.whole hosts all kept) in
     let off = frames_are c.loop-frame.graph (tops c.loop-frame.stack.items) i.frames c.args.id ∙ ap (λ fs. is_in c.args.id (frame_names fs)) none in
     c.in_ok-outcome.ensures
@@ -209,7 +198,7 @@ returns-clause-settled g c = λ hosts all kept.
     c.in_default-pop.ensures.rest c.in_default-pop.ensures.cases.0) in
     (last_whole hosts c.args.graph.now.state.signals c.args.graph.now.state.memos c.loop-frame.graph.state.memos c.args.graph.now.state.looked
     c.loop-frame.graph.state.looked _ _ c.args.id (map note_of c.args.notes.now.items) (map note_of c.loop-frame.notes.items)
-    (marked c.args.graph.now.seats c.loop-frame.visited.items) (tops c.loop-frame.stack.items) kept none (c.loop-frame.invariant.whole hosts all kept)).settling
+    c.loop-frame.visited (tops c.loop-frame.stack.items) kept none (c.loop-frame.invariant.whole hosts all kept)).settling
 
 pub returns-clause-kept : goal.returns-clause-kept
 returns-clause-kept g c = λ hosts all kept.
@@ -218,7 +207,7 @@ returns-clause-kept g c = λ hosts all kept.
     subst (λ w. AreKept hosts w c.loop-frame.graph.state.memos) (sym c.loop-frame.invariant.signals)
     (last_whole hosts c.args.graph.now.state.signals c.args.graph.now.state.memos c.loop-frame.graph.state.memos c.args.graph.now.state.looked
     c.loop-frame.graph.state.looked _ _ c.args.id (map note_of c.args.notes.now.items) (map note_of c.loop-frame.notes.items)
-    (marked c.args.graph.now.seats c.loop-frame.visited.items) (tops c.loop-frame.stack.items) kept none (c.loop-frame.invariant.whole hosts all kept)).kept
+    c.loop-frame.visited (tops c.loop-frame.stack.items) kept none (c.loop-frame.invariant.whole hosts all kept)).kept
 
 pub returns-clause-steps : goal.returns-clause-steps
 returns-clause-steps g c = λ hosts all kept.
@@ -226,7 +215,7 @@ returns-clause-steps g c = λ hosts all kept.
     c.in_default-pop.ensures.rest c.in_default-pop.ensures.cases.0) in
     (last_whole hosts c.args.graph.now.state.signals c.args.graph.now.state.memos c.loop-frame.graph.state.memos c.args.graph.now.state.looked
     c.loop-frame.graph.state.looked _ _ c.args.id (map note_of c.args.notes.now.items) (map note_of c.loop-frame.notes.items)
-    (marked c.args.graph.now.seats c.loop-frame.visited.items) (tops c.loop-frame.stack.items) kept none (c.loop-frame.invariant.whole hosts all kept)).counted
+    c.loop-frame.visited (tops c.loop-frame.stack.items) kept none (c.loop-frame.invariant.whole hosts all kept)).counted
 
 pub returns-clause-asked : goal.returns-clause-asked
 returns-clause-asked g c = λ hosts all kept.
@@ -236,7 +225,7 @@ returns-clause-asked g c = λ hosts all kept.
     c.in_default-pop.ensures.rest c.in_default-pop.ensures.cases.0) in
     let x = last_whole hosts w k c.loop-frame.graph.state.memos c.args.graph.now.state.looked
     c.loop-frame.graph.state.looked _ _ c.args.id (map note_of c.args.notes.now.items) (map note_of c.loop-frame.notes.items)
-    (marked c.args.graph.now.seats c.loop-frame.visited.items) (tops c.loop-frame.stack.items) kept none (c.loop-frame.invariant.whole hosts all kept) in
+    c.loop-frame.visited (tops c.loop-frame.stack.items) kept none (c.loop-frame.invariant.whole hosts all kept) in
     record {
       places = exact_places w (settled hosts w k (c.args.id ∷ [])).runs _ _ (length c.args.notes.now.items) (length c.loop-frame.notes.items)
           (tops c.loop-frame.stack.items) c.requires.there c.loop-frame.invariant.asked x.asks;

@@ -1,10 +1,8 @@
 use Rattle.std.proofs.Common.{◌≡◌, ◌+◌, [], ◌∷◌, length, map, is_some, option_map}
-use Rattle.sig_base.specs.declared.limits.TheConstants.{MOST_NODES}
 use Rattle.signal_model.specs.Recipes.{Hosts}
 use Rattle.signal_model.specs.Kept.{AreKept}
 use Rattle.sig_computed.specs.Notes.{note_of, AreNotesGiven}
 use Rattle.sig_computed.specs.Views.{tops}
-use Rattle.sig_computed.specs.Visited.{marked}
 use Rattle.sig_host.specs.Hosts.{AnswersBy, IsCounted}
 use Rattle.sig_computed.proofs.Asking.{HasAsked}
 use Rattle.sig_computed.proofs.Fitting.{HasStack}
@@ -19,7 +17,6 @@ invariant-loop-frame g l = record {
   given : l.graph.given ≡ l.fn.graph.given;
   named : AreNotesGiven l.fn.graph (map note_of l.fn.notes.items) → AreNotesGiven l.fn.graph (map note_of l.notes.items);
   worn : l.graph.state.worn + length l.fn.notes.items ≡ l.fn.graph.state.worn + length l.notes.items;
-  size : length l.visited.items ≡ MOST_NODES;
   frames : HasStack l.graph (tops l.stack.items);
   counted : IsCounted (map (λ p. option_map (λ h. (goal.HostFormula-dyn g (h.vtable, h.value)).asks h.value) p.host) l.shelf.places.items)
       (map (λ p. record { there = is_some p.host; asks = p.count }) l.shelf.places.items);
@@ -31,8 +28,8 @@ invariant-loop-frame g l = record {
       (kept : AreKept hosts l.fn.graph.state.signals l.fn.graph.state.memos) →
       IsWhole hosts l.fn.graph.state.signals l.fn.graph.state.memos kept l.fn.graph.state.looked (map (λ p. record { there = is_some p.host; asks = p.count }) l.fn.shelf.places.items)
       (l.fn.id ∷ []) l.graph.state.memos l.graph.state.looked (map (λ p. record { there = is_some p.host; asks = p.count }) l.shelf.places.items)
-      (map note_of l.fn.notes.items) (map note_of l.notes.items) (marked l.fn.graph.seats l.visited.items) (tops l.stack.items);
+      (map note_of l.fn.notes.items) (map note_of l.notes.items) l.visited (tops l.stack.items);
 }
 
 abbrev pub decreases-loop-frame : goal.decreases-loop-frame
-decreases-loop-frame g l = work l.fn.graph.state.signals l.graph.state.memos (tops l.stack.items) (marked l.fn.graph.seats l.visited.items)
+decreases-loop-frame g l = work l.fn.graph.state.signals l.graph.state.memos (tops l.stack.items) l.visited

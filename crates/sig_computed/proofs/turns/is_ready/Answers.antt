@@ -3,35 +3,34 @@ use Rattle.signal_model.specs.Standing.{standing, is_in}
 use Rattle.sig_nodes.specs.States.{is_computing}
 use Rattle.sig_computed.specs.Passing.{look_steps, passed_over}
 use Rattle.sig_computed.specs.Views.{evaluating, Stays}
-use Rattle.sig_computed.specs.Visited.{marked}
 use Rattle.sig_computed.proofs.Leaves.{kind_computed, ready_computed, ready_other}
 use Rattle.sig_computed.proofs.Looks.{kind_idle, over_clean, over_visited, stays_here}
 use Rattle.sig_computed.proofs.Progresses.{in_evaluating}
 use Rattle.sig_computed.proofs.turns.is_ready.Goals as goal
 
-pub returns-then-is_visited-clause-ready : goal.returns-then-is_visited-clause-ready
-returns-then-is_visited-clause-ready c =
+pub returns-then-has-clause-ready : goal.returns-then-has-clause-ready
+returns-then-has-clause-ready c =
     let s = c.args.graph.now.state in
-    let visited = marked c.args.graph.now.seats c.args.visited.now in
-    sym (over_visited s.signals s.memos visited c.args.id (sym c.if-is_visited.ensures))
+    let visited = c.args.visited.now in
+    sym (over_visited s.signals s.memos visited c.args.id (sym c.if-has.ensures))
     ∙ ready_computed (standing s.signals c.args.id) (is_computing s c.args.id) (is_in c.args.id (evaluating s))
     (is_in c.args.id (passed_over s.signals s.memos visited)) c.in-Computed.ensures (in_evaluating s c.args.id)
 
-pub returns-else-is_visited-clause-ready : goal.returns-else-is_visited-clause-ready
-returns-else-is_visited-clause-ready c =
+pub returns-else-has-clause-ready : goal.returns-else-has-clause-ready
+returns-else-has-clause-ready c =
     let s = c.args.graph.now.state in
-    let visited = marked c.args.graph.now.seats c.args.visited.now in
+    let visited = c.args.visited.now in
     c.is_clean.ensures.clean
     ∙ over_clean s.signals s.memos visited c.args.id (kind_computed (standing s.signals c.args.id) (is_computing s c.args.id) c.in-Computed.ensures)
-    (sym c.if-is_visited.ensures)
+    (sym c.if-has.ensures)
     ∙ ready_computed (standing s.signals c.args.id) (is_computing s c.args.id) (is_in c.args.id (evaluating s))
     (is_in c.args.id (passed_over s.signals s.memos visited)) c.in-Computed.ensures (in_evaluating s c.args.id)
 
-pub returns-else-is_visited-clause-after : goal.returns-else-is_visited-clause-after
-returns-else-is_visited-clause-after c =
+pub returns-else-has-clause-after : goal.returns-else-has-clause-after
+returns-else-has-clause-after c =
     let s = c.args.graph.now.state in
-    let visited = marked c.args.graph.now.seats c.args.visited.now in
-    let off = c.if-is_visited.ensures
+    let visited = c.args.visited.now in
+    let off = c.if-has.ensures
     ∙ ready_computed (standing s.signals c.args.id) (is_computing s c.args.id) (is_in c.args.id (evaluating s))
     (is_in c.args.id visited) c.in-Computed.ensures (in_evaluating s c.args.id) in
     subst (Stays c.args.graph.now c.is_clean.new.graph s.progress) (ap (λ b. cond b 0 1) off) c.is_clean.ensures.after
@@ -39,7 +38,7 @@ returns-else-is_visited-clause-after c =
 pub returns-in_default : goal.returns-in_default
 returns-in_default c =
     let s = c.args.graph.now.state in
-    let visited = marked c.args.graph.now.seats c.args.visited.now in
+    let visited = c.args.visited.now in
     record {
       ready = ready_other (standing s.signals c.args.id) (is_computing s c.args.id) (is_in c.args.id (evaluating s))
           (is_in c.args.id (passed_over s.signals s.memos visited)) (λ k. c.in_default.not-Computed (c.standing.ensures ∙ k)) (in_evaluating s c.args.id);

@@ -3,7 +3,6 @@ use Rattle.signal_model.specs.Memos.{holds_cycle, sources_of}
 use Rattle.sig_computed.specs.Stepping.{decided}
 use Rattle.sig_computed.specs.Passing.{passed_over}
 use Rattle.sig_computed.specs.Views.{evaluating, first_moved}
-use Rattle.sig_computed.specs.Visited.{marked}
 use Rattle.sig_computed.proofs.Looks.{evaluating_stays, look_decides}
 use Rattle.sig_computed.proofs.turns.look.Goals as goal
 
@@ -11,7 +10,7 @@ pub returns-clause-turn : goal.returns-clause-turn
 returns-clause-turn c =
     let s = c.args.graph.now.state in
     let a = c.is_ready.ensures.after in
-    let visited = marked c.args.graph.now.seats c.args.visited.now in
+    let visited = c.args.visited.now in
     c.decide.ensures.turn
     ∙ (λ i. decided (holds_cycle (a.memos i) c.args.node)
     (first_moved (a.memos i) (evaluating_stays c.args.graph.now c.is_ready.new.graph _ a i) (drop c.args.place (sources_of (a.memos i) c.args.node))) c.args.place)
