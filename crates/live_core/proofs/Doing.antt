@@ -1,5 +1,5 @@
 -- What commands leave, and what they come to, where the stores do their part.
-use Rattle.std.proofs.Common.{◌≡◌, ◌≤◌, ◌<◌, ◌+◌, ◌^◌, ℕ, zero, suc, arith, Bool, true, false, cond, List, [], ◌∷◌, ◌++◌, ◌⊎◌, inl, inr, length, map, nat_lt, Option, Some, None, refl, sym, ap, subst, ◌∙◌}
+use Rattle.std.proofs.Common.{◌≡◌, ◌≤◌, ◌<◌, ◌+◌, ◌^◌, ℕ, zero, suc, arith, Bool, true, false, cond, List, [], ◌∷◌, ◌++◌, ◌⊎◌, inl, inr, length, map, nat_lt, Option, Some, None, Result, Ok, Err, OnOk, refl, sym, ap, subst, ◌∙◌}
 use Rattle.std.specs.Prelude.{is_some, slice_get}
 use Rattle.std.specs.List.{All, AllByRecursion, filter}
 use Rattle.std.proofs.lemmas.List.{length-map}
@@ -83,6 +83,11 @@ room_below most count word e = at (nat_lt count most) refl e
     at : (b : Bool) → nat_lt count most ≡ b → cond b None (Some (refusal.Limit word)) ≡ None → count < most
     at true is h = ltb-true count most is
     at false is h = absurd cc
+
+-- what holds anyway holds where a call gave its answer
+pub anyway : {A E P : Type 0} (r : Result A E) → P → OnOk r P
+anyway (Ok x) p = p
+anyway (Err e) p = tt
 
 -- what is below isn't the most
 pub not_most : (count most : ℕ) → count < most → count ≡ most → ⊥
@@ -256,6 +261,10 @@ leaves_ended asked later rules m new r keeps stays pages agrees ruled few = reco
 -- nothing changed
 pub leaves_same : (asked : List HostPlace) (rules : ℕ) (m : Machine) → IsReady m → Leaves asked asked rules m m
 leaves_same asked rules m r = record { ready = r; holds = λ h. h; weight = omega arith }
+
+-- what is the same was left as it was
+pub leaves_as : (asked : List HostPlace) (rules : ℕ) (m new : Machine) → IsReady m → new ≡ m → Leaves asked asked rules m new
+leaves_as asked rules m new r same = subst (λ (n : Machine). Leaves asked asked rules m n) (sym same) (leaves_same asked rules m r)
 
 -- a list isn't a computed either
 pub list_is : (s : Stands) → is_of_kind kind.List s ≡ true → is_computed s ≡ false

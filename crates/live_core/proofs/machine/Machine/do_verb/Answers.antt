@@ -1,4 +1,5 @@
 use Rattle.std.proofs.Common.{length, map}
+use Rattle.live_core.proofs.Doing.{anyway, leaves_as}
 use Rattle.live_core.proofs.machine.Machine.do_verb.Goals as goal
 
 pub returns-in-Get-clause-steps : goal.returns-in-Get-clause-steps
@@ -7,11 +8,17 @@ returns-in-Get-clause-steps g c = λ hosts all sound. rw c.in-Get.is (c.get.ensu
 pub returns-in-State-clause-steps : goal.returns-in-State-clause-steps
 returns-in-State-clause-steps g c = λ hosts all sound. rw c.in-State.is (c.state.ensures.steps hosts (map (λ r. r.slack) c.args.rules.now) _ sound)
 
+pub returns-in-State-clause-leaves : goal.returns-in-State-clause-leaves
+returns-in-State-clause-leaves g c = λ hosts all sound. anyway c.state.result (leaves_as _ (length c.args.rules.now) c.args.self.now _ c.requires.ready c.state.ensures.same)
+
 pub returns-in-Sources-clause-steps : goal.returns-in-Sources-clause-steps
 returns-in-Sources-clause-steps g c = λ hosts all sound. rw c.in-Sources.is (c.sources.ensures.steps hosts (map (λ r. r.slack) c.args.rules.now) _ sound)
 
 pub returns-in-Pending-clause-steps : goal.returns-in-Pending-clause-steps
 returns-in-Pending-clause-steps g c = λ hosts all sound. rw c.in-Pending.is (c.pending.ensures.steps hosts (map (λ r. r.slack) c.args.rules.now) _ sound)
+
+pub returns-in-Pending-clause-leaves : goal.returns-in-Pending-clause-leaves
+returns-in-Pending-clause-leaves g c = λ hosts all sound. anyway c.pending.result (leaves_as _ (length c.args.rules.now) c.args.self.now _ c.requires.ready c.pending.ensures.same)
 
 pub returns-in-Show-clause-steps : goal.returns-in-Show-clause-steps
 returns-in-Show-clause-steps g c = λ hosts all sound. rw c.in-Show.is (c.show.ensures.steps hosts (map (λ r. r.slack) c.args.rules.now) _ sound)
