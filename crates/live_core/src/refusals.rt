@@ -8,6 +8,8 @@ ghost use Rattle.effect_tables.specs.Placed.{effect_of};
 ghost use Rattle.effect_world.specs.Wholes.{whole_of};
 ghost use Rattle.sig_effect.specs.Wholes.{host_states};
 ghost use Rattle.sig_host.specs.Hosts.{HostPlace};
+ghost use Rattle.effect_tables.specs.declared.tables.TheConstants.{MOST_EFFECTS};
+ghost use Rattle.live_entries.specs.declared.refusal.LimitWord.TheVariants as limit;
 ghost use Rattle.live_model.specs.Labels.{is_named, label_at};
 ghost use Rattle.live_model.specs.Machine.{body_refusal, host_refusal, later_refusal, name_refusal};
 ghost use Rattle.live_model.specs.Machine.{one_too_many, outside_refusal, over_limit, place_refusal, refusal_of};
@@ -225,6 +227,17 @@ impl Machine {
         named_count(&self.labels.effects, &self.world.tables.effects)
     }
 
+    // The refusal of one effect more than the most that a command made. Where fewer live in all none is looked up.
+    fn effect_refusal(&self) -> Option<Refusal>
+        ensures { result ≡ one_too_many MOST_EFFECTS (length (filter (λ x. is_named (label_at self.now.labels.effects.items x.number))
+            (map effect_of self.now.world.tables.effects.items))) limit.Effects }
+    {
+        if self.world.tables.effects.len() < MOST_EFFECTS {
+            return None;
+        }
+        one_too_many(MOST_EFFECTS, self.named_effects(), LimitWord::Effects)
+    }
+
     // The refusal of what there would be too much of.
     fn over_limit(&self, command: &Command) -> Option<Refusal>
         ensures { (asked : List HostPlace) → result ≡ over_limit (plain_of asked self.now) command.now }
@@ -244,9 +257,7 @@ impl Machine {
                     LimitWord::Owners,
                 )
             }
-            Command::Effect { .. } => {
-                one_too_many(MOST_EFFECTS, self.named_effects(), LimitWord::Effects)
-            }
+            Command::Effect { .. } => self.effect_refusal(),
             Command::Watcher { .. } => {
                 one_too_many(
                     MOST_WATCHERS,
