@@ -9,7 +9,6 @@ use Rattle.page_model.specs.Pages.{bare}
 use Rattle.tpl_model.specs.Updates.{Updated}
 use Rattle.signal_model.specs.Recipes.{Recipe}
 use Rattle.signal_model.specs.Values.{value_of}
-use Rattle.signal_model.specs.Marks.{mark_of}
 use Rattle.effect_model.specs.Owning.{Thing, the_signal, the_watcher}
 use Rattle.effect_model.specs.Worlds.{Environment, Event, refused, still_due, World, settle}
 use Rattle.effect_model.specs.Acts.{gone_refused, host_of, host_refused, or_refused, some_gone, with_use}
@@ -35,7 +34,7 @@ use Rattle.live_model.specs.Linking.{linked_body, owner_of, recipe_of}
 use Rattle.live_model.specs.Machine as machine
 use Rattle.live_model.specs.Machine.{Machine, Told, acted_on_pages, after_turns, body_refusal, brought_up, carried_on, disposing, done, empty}
 use Rattle.live_model.specs.Machine.{entries_of, is_trying, later_refusal, name_refusal, named, ops_told, over_limit, page_at, place_refusal, refusal_of, row_refusal}
-use Rattle.live_model.specs.Machine.{news_of, pending_labels, seen_of, scratching, settling, shown_of, source_labels, step, template_at, template_reads, unwatch_refusal, update_all}
+use Rattle.live_model.specs.Machine.{news_of, scratching, settling, step, template_at, template_reads, unwatch_refusal, update_all}
 use Rattle.live_model.specs.Pages.{Page, page_html, scratch_html}
 use Rattle.live_model.specs.Rows.{edited, no_rows, rows_at}
 use Rattle.live_model.specs.Names.{Use, first_refusal, meaning_of, number_of, refusal_at, thing_named}
@@ -167,12 +166,9 @@ verbs_do env m verb.Get n i =
       told = told_then m.labels w.told [] (entry.Outcome n (value_of env.hosts m.world.signals i []) ∷ [])
           (answer_only (labels_after w.told m.labels) (entry.Outcome n (value_of env.hosts m.world.signals i [])) refl);
     }
-verbs_do env m verb.State n i = record { world = refl; told = answer_only m.labels (entry.State n (seen_of (mark_of m.world.signals m.world.memos i))) refl }
-verbs_do env m verb.Sources n i = record { world = refl; told = answer_only m.labels (entry.Sources n (source_labels m i)) refl }
-verbs_do env m verb.Pending n i = record { world = refl; told = answer_only m.labels (entry.Pending n (pending_labels m i)) refl }
-verbs_do env m verb.Show n i = record { world = refl; told = answer_only m.labels (entry.Page n (shown_of m i)) refl }
 verbs_do env m verb.Scratch n i = askings_do env m n (page_at m.pages i)
 verbs_do env m verb.Dispose n i = disposals_do env m (thing_named (meaning_of m.names n))
+verbs_do env m v n i = record { world = refl; told = answers_only m.labels (named env m v n i).entries refl }
 
 commands_do : (env : Environment) (m : Machine) (c : Command) → m.world.told ≡ [] → refusal_of env.slacks m c ≡ None → Does env m (deeds_of env m c) (done env m c)
 commands_do env m (command.Cell n v equals inside) quiet e =

@@ -86,17 +86,17 @@ happened env m (i ∷ is) = told_by env m.world (deeds_of_item env m i) ++ happe
 
 -- ---- how it is told
 
--- whether an entry answers: it says how something stands, or that a command is refused
+-- whether an entry answers: it says how something stands, or that a command is refused, where the others say what has happened
 abbrev pub is_answer : Entry → Bool
-is_answer (entry.Outcome n o) = true
-is_answer (entry.State n s) = true
-is_answer (entry.Sources n names) = true
-is_answer (entry.Pending n names) = true
-is_answer (entry.Op n o) = true
-is_answer (entry.Page n html) = true
-is_answer (entry.Scratch n html) = true
-is_answer (entry.Error r) = true
-is_answer e = false
+is_answer (entry.Notify w) = false
+is_answer (entry.Log v) = false
+is_answer (entry.Fail e f) = false
+is_answer (entry.Drop place asks) = false
+is_answer (entry.Run n names o) = false
+is_answer (entry.Effect e names) = false
+is_answer (entry.Cleanup e) = false
+is_answer (entry.Gone t) = false
+is_answer _ = true
 
 -- Entries tell what happened, each event by the labels of its moment, in order, with answers between them.
 pub data IsTold : Labels → List Event → List Entry → Type 0 where

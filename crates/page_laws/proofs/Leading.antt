@@ -114,26 +114,12 @@ either_way true ops = refl
 either_way false ops = refl
 
 sized_here : (n : List ℕ) (e : Entry) → IsSizedEntry e → AllByRecursion IsSized (op_here n e)
-sized_here n (entry.Outcome m o) h = tt
-sized_here n (entry.State m s) h = tt
-sized_here n (entry.Sources m ms) h = tt
-sized_here n (entry.Pending m ms) h = tt
-sized_here n (entry.Notify m) h = tt
-sized_here n (entry.Log v) h = tt
-sized_here n (entry.Fail l f) h = tt
-sized_here n (entry.Drop place asks) h = tt
 sized_here n (entry.Op m o) h = go (bytes_eq n m)
   where
     go : (b : Bool) → AllByRecursion IsSized (cond b (o ∷ []) [])
     go true = (h, tt)
     go false = tt
-sized_here n (entry.Page m html) h = tt
-sized_here n (entry.Scratch m html) h = tt
-sized_here n (entry.Error r) h = tt
-sized_here n (entry.Run m ms o) h = tt
-sized_here n (entry.Effect l ms) h = tt
-sized_here n (entry.Cleanup l) h = tt
-sized_here n (entry.Gone l) h = tt
+sized_here n _ h = tt
 
 -- what is told of a page can be printed and read
 pub sized_ops : (n : List ℕ) (es : List Entry) → AllByRecursion IsSizedEntry es → AllByRecursion IsSized (ops_of n es)

@@ -12,7 +12,6 @@ use Rattle.signal_model.specs.Recipes.{Hosts, Recipe}
 use Rattle.signal_model.specs.Standing.{Signals, is_in}
 use Rattle.signal_model.specs.Values.{value_of}
 use Rattle.signal_laws.proofs.Shared.{all_snoc}
-use Rattle.signal_model.specs.Marks.{mark_of}
 use Rattle.effect_model.specs.Owning.{Thing, the_signal, the_owner, the_effect, the_page}
 use Rattle.effect_model.specs.Worlds.{Environment, World, settle}
 use Rattle.effect_model.specs.Acts.{dispose_thing, forget, host_of, rewire_signal, set_cell, with_use}
@@ -49,8 +48,8 @@ use Rattle.live_model.specs.Labels.{Labels, labels_after, named as a_label}
 use Rattle.live_model.specs.Linking.{linked_body, linked_template, owner_of, recipe_of}
 use Rattle.live_model.specs.Machine as machine
 use Rattle.live_model.specs.Machine.{Machine, Told, acted, acted_on_pages, after_turns, body_refusal, disposing, done, entries_of}
-use Rattle.live_model.specs.Machine.{is_trying, later_refusal, mounted, name_refusal, ops_told, over_limit, page_at, pending_labels, place_refusal}
-use Rattle.live_model.specs.Machine.{refusal_of, row_refusal, scratching, seen_of, shown_of, source_labels, step, template_at, template_reads, told}
+use Rattle.live_model.specs.Machine.{is_trying, later_refusal, mounted, name_refusal, ops_told, over_limit, page_at, place_refusal}
+use Rattle.live_model.specs.Machine.{refusal_of, row_refusal, scratching, step, template_at, template_reads, told}
 use Rattle.live_model.specs.Machine.{unwatch_refusal, update_all, with_signal}
 use Rattle.live_model.specs.Names.{Names, first_refusal, meaning_of, number_of, refusal_at, thing_named}
 use Rattle.live_model.specs.Pages.{Page, Template, page_html, scratch_html, template_in}
@@ -100,7 +99,7 @@ same_step m es s q = record { sound = s; led = λ z. quiet_led m m.pages es q (n
 
 -- the pages stay, and the world comes to another one
 world_step : (m : Machine) (names : Names) (labels : Labels) (w : World) (es : List Entry) → IsSound m → AllByRecursion (IsNamed names) m.pages →
-    IsGoodWorld w → AreQuiet es → Steps m (told (record { names = names; labels = labels; world = w; templates = m.templates; pages = m.pages }) es)
+    IsGoodWorld w → AreQuiet es → Steps m (told (record m { names = names; labels = labels; world = w }) es)
 world_step m names labels w es s named good q = record {
   sound = record { templates = s.templates; pages = s.pages; named = named; apart = s.apart; world = good };
   led = λ z. quiet_led m m.pages es q (named_trees m.pages s.apart);
@@ -108,7 +107,7 @@ world_step m names labels w es s named good q = record {
 
 -- some pages may end
 ended_step : (m : Machine) (f : Page → Bool) (labels : Labels) (w : World) (es : List Entry) → IsSound m → IsGoodWorld w → AreQuiet es →
-    Steps m (told (record { names = m.names; labels = labels; world = w; templates = m.templates; pages = filter f m.pages }) es)
+    Steps m (told (record m { labels = labels; world = w; pages = filter f m.pages }) es)
 ended_step m f labels w es s good q = record {
   sound = record {
     templates = s.templates;
@@ -148,7 +147,7 @@ some_end_step m w s good =
 
 -- a thing is made under a name
 make_step : (m : Machine) (n : List ℕ) (x : Meaning) (labels : Labels) (w : World) → IsSound m → IsGoodWorld w →
-    Steps m (told (record { names = m.names ++ (n, x) ∷ []; labels = labels; world = at_rest w; templates = m.templates; pages = m.pages }) [])
+    Steps m (told (record m { names = m.names ++ (n, x) ∷ []; labels = labels; world = at_rest w }) [])
 make_step m n x labels w s good =
     world_step m (m.names ++ (n, x) ∷ []) labels (at_rest w) [] s (all_named m.names (n, x) m.pages s.named) (rest_good w good) (λ k. refl)
 
@@ -277,12 +276,9 @@ dispose_step env m (Some t) s = some_end_step m (dispose_thing env t m.world) s 
 
 verb_step : (env : Environment) (m : Machine) (v : Verb) (n : List ℕ) (i : ℕ) → IsSound m → Steps m (machine.named env m v n i)
 verb_step env m verb.Get n i s = answer_step m (settle env (i ∷ []) m.world) (entry.Outcome n (value_of env.hosts m.world.signals i []) ∷ []) s s.world (λ k. refl)
-verb_step env m verb.State n i s = same_step m (entry.State n (seen_of (mark_of m.world.signals m.world.memos i)) ∷ []) s (λ k. refl)
-verb_step env m verb.Sources n i s = same_step m (entry.Sources n (source_labels m i) ∷ []) s (λ k. refl)
-verb_step env m verb.Pending n i s = same_step m (entry.Pending n (pending_labels m i) ∷ []) s (λ k. refl)
-verb_step env m verb.Show n i s = same_step m (entry.Page n (shown_of m i) ∷ []) s (λ k. refl)
 verb_step env m verb.Scratch n i s = scratch_step env m n (page_at m.pages i) s
 verb_step env m verb.Dispose n i s = dispose_step env m (thing_named (meaning_of m.names n)) s
+verb_step env m v n i s = same_step m (machine.named env m v n i).entries s (λ k. refl)
 
 -- a cell or a computed is made
 signal_step : (m : Machine) (n : List ℕ) (k : Kind) (w : World) → IsSound m → IsGoodWorld w → Steps m (told (with_signal m n k w) [])
