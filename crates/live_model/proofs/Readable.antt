@@ -4,6 +4,7 @@ use Rattle.std.specs.Option.{option_or}
 use Rattle.std.proofs.lemmas.Bool.{and_from, ltb-false}
 use Rattle.sig_base.specs.declared.limits.TheConstants.{MOST_SOURCES}
 use Rattle.formula_text.specs.declared.wired.FormulaFault.TheVariants as fault
+use Rattle.line_forms.specs.Forms.{Args}
 use Rattle.line_forms.specs.Told.{fault_of_arguments}
 use Rattle.script_lines.specs.Lines.{NumberedLine}
 use Rattle.script_lines.specs.Pieces.{Piece}
@@ -21,10 +22,9 @@ use Rattle.live_cmd.specs.declared.contents.Content.{Content}
 use Rattle.live_cmd.specs.declared.contents.Content.TheVariants as content
 use Rattle.live_cmd.specs.declared.line.Line.{Line}
 use Rattle.live_cmd.specs.declared.line.Line.TheVariants as line
-use Rattle.live_cmd.specs.Blocks.{block_item, body_refused, effect_content, template_content, template_refused, IsContent}
+use Rattle.live_cmd.specs.Blocks.{block_item, body_refused, effect_content, template_content, template_refused, IsContentOf}
 use Rattle.live_cmd.specs.declared.place.Place.TheVariants as place
-use Rattle.live_cmd.specs.Grammar.{Said, are_fields, line_of, verb, cell, set, list, insert_row, remove_row, move_row, put_field, computed, computed_host, rewire, rewire_host, owner}
-use Rattle.live_cmd.specs.Grammar.{watcher, tries_get, tries_set, tries_watch, tries_unwatch, watch, unwatch, mount, flush, effect, template, close}
+use Rattle.live_cmd.specs.Grammar.{Row, row, are_fields, line_of, list, computed_host, rewire_host, effect, template, close}
 use Rattle.live_cmd.specs.Items.{command_of, first_number, has_many_fields, item_or, unless_refused, IsItem, Say, long, unended, block, faulty, says}
 use Rattle.live_cmd.specs.Judging.{Sayings, excess, fault_of, faults_of, first_excess, first_misplaced, refusal_of}
 use Rattle.live_cmd.specs.Places.{fits, kind_of, kind_with}
@@ -51,32 +51,14 @@ few_arguments ns e = at (nat_lt MOST_SOURCES (length ns)) refl e
     at false is h = ltb-false MOST_SOURCES (length ns) is
 
 -- what a line says that may stand where a command begins, and has not too much of anything
-line_read : (x : Said) → fits place.First (kind_of x) ≡ true → excess (fault_of x) ≡ None → IsReadLine (line_of x)
-line_read (verb v, (a, tt)) may e = λ few. tt
-line_read (cell, (a, (b, (c, (d, tt))))) may e = λ few. tt
-line_read (set, (a, (b, tt))) may e = λ few. tt
-line_read (list, (n, (fields, (o, tt)))) may e = λ few. and_from _ _ (alone (are_fields fields) may) (ap not few)
-line_read (insert_row, (a, (b, (c, (d, tt))))) may e = λ few. tt
-line_read (remove_row, (a, (b, tt))) may e = λ few. tt
-line_read (move_row, (a, (b, (c, tt)))) may e = λ few. tt
-line_read (put_field, (a, (b, (c, (d, tt))))) may e = λ few. tt
-line_read (computed, (a, (b, (c, tt)))) may e = λ few. tt
-line_read (computed_host, (n, (place, (arguments, (o, tt))))) may e = λ few. few_arguments arguments e
-line_read (rewire, (a, (b, tt))) may e = λ few. tt
-line_read (rewire_host, (n, (place, (arguments, tt)))) may e = λ few. few_arguments arguments e
-line_read (owner, (a, (b, tt))) may e = λ few. tt
-line_read (watcher, (a, tt)) may e = λ few. tt
-line_read (tries_get, (a, (b, tt))) may e = λ few. tt
-line_read (tries_set, (a, (b, (c, tt)))) may e = λ few. tt
-line_read (tries_watch, (a, (b, (c, tt)))) may e = λ few. tt
-line_read (tries_unwatch, (a, (b, (c, tt)))) may e = λ few. tt
-line_read (watch, (a, (b, tt))) may e = λ few. tt
-line_read (unwatch, (a, (b, tt))) may e = λ few. tt
-line_read (mount, (a, (b, (c, tt)))) may e = λ few. tt
-line_read (flush, tt) may e = λ few. tt
-line_read (effect, (a, (b, tt))) may e = tt
-line_read (template, (a, tt)) may e = tt
-line_read (close, tt) may e = tt
+line_read : (r : Row) (a : Args (row r).1) → fits place.First (kind_of (r, a)) ≡ true → excess (fault_of (r, a)) ≡ None → IsReadLine (line_of (r, a))
+line_read list a may e = λ few. and_from _ _ (alone (are_fields a.1.0) may) (ap not few)
+line_read computed_host a may e = λ few. few_arguments a.1.1.0 e
+line_read rewire_host a may e = λ few. few_arguments a.1.1.0 e
+line_read effect a may e = tt
+line_read template a may e = tt
+line_read close a may e = tt
+line_read _ a may e = λ few. tt
 
 -- what lines are, if they are a command
 abbrev IsReadMaybe : Option Command → Type 0
@@ -100,7 +82,7 @@ says_read : (ls : List NumberedLine) (xs : Sayings) → Say place.First ls xs �
     → IsReadMaybe (command_of (map (λ x. line_of x.1) xs))
 says_read ls [] say e = tt
 says_read [] (x ∷ xs) say e = absurd say
-says_read (l ∷ ls) (x ∷ []) say e = one_read (line_of x.1) (line_read x.1 say.2 (neither (excess (fault_of x.1)) None e).0)
+says_read (l ∷ ls) (x ∷ []) say e = one_read (line_of x.1) (line_read x.1.0 x.1.1 say.2 (neither (excess (fault_of x.1)) None e).0)
 says_read (l ∷ ls) (x ∷ y ∷ xs) say e = more_read (line_of x.1) (line_of y.1) (map (λ x. line_of x.1) xs)
 
 -- a choice of a refusal
@@ -152,32 +134,10 @@ template_read n ls (Ok t) read = read_law ls t read
 template_read n ls (Err f) read = untold_template f.at f.why
 
 -- what lines behind a first line come to
-content_read : (x : Said) (ls : List NumberedLine) (c : Content) → IsContent x ls c → IsReadContent c
-content_read (effect, (n, (o, tt))) ls c is = subst IsReadContent (sym is.2) (effect_read n o ls is.0 is.1)
-content_read (template, (n, tt)) ls c is = subst IsReadContent (sym is.2) (template_read n ls is.0 is.1)
-content_read (verb v, a) ls c is = absurd is
-content_read (cell, a) ls c is = absurd is
-content_read (set, a) ls c is = absurd is
-content_read (list, a) ls c is = absurd is
-content_read (insert_row, a) ls c is = absurd is
-content_read (remove_row, a) ls c is = absurd is
-content_read (move_row, a) ls c is = absurd is
-content_read (put_field, a) ls c is = absurd is
-content_read (computed, a) ls c is = absurd is
-content_read (computed_host, a) ls c is = absurd is
-content_read (rewire, a) ls c is = absurd is
-content_read (rewire_host, a) ls c is = absurd is
-content_read (owner, a) ls c is = absurd is
-content_read (watcher, a) ls c is = absurd is
-content_read (tries_get, a) ls c is = absurd is
-content_read (tries_set, a) ls c is = absurd is
-content_read (tries_watch, a) ls c is = absurd is
-content_read (tries_unwatch, a) ls c is = absurd is
-content_read (watch, a) ls c is = absurd is
-content_read (unwatch, a) ls c is = absurd is
-content_read (mount, a) ls c is = absurd is
-content_read (flush, a) ls c is = absurd is
-content_read (close, a) ls c is = absurd is
+content_read : (r : Row) (a : Args (row r).1) (ls : List NumberedLine) (c : Content) → IsContentOf r a ls c → IsReadContent c
+content_read effect a ls c is = subst IsReadContent (sym is.2) (effect_read a.0 a.1.0 ls is.0 is.1)
+content_read template a ls c is = subst IsReadContent (sym is.2) (template_read a.0 ls is.0 is.1)
+content_read _ a ls c is = absurd is
 
 block_read : (b : Bool) (n : ℕ) (c : Content) → IsReadContent c → IsReadItem (block_item b n c)
 block_read b n (content.Faulty k) read = tt
@@ -190,7 +150,7 @@ block_read false n (content.Makes c) read = tt
 pub item_read : (p : Piece) (i : Item) → IsItem p i → IsReadItem i
 item_read p _ (long a) = tt
 item_read p _ (unended a b) = tt
-item_read p _ (block b c a d is) = block_read b.ends b.last.0 c (content_read b.head b.inner c is)
+item_read p _ (block b c a d is) = block_read b.ends b.last.0 c (content_read b.head.0 b.head.1 b.inner c is)
 item_read p _ (faulty k a b d is) = tt
 item_read p _ (says xs a b is) =
     let made = command_of (map (λ x. line_of x.1) xs) in
