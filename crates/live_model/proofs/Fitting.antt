@@ -151,18 +151,15 @@ parted : (ls ms : List Line) → AllByRecursion IsFewLine (ls ++ ms) → AllByRe
 parted [] ms h = (tt, h)
 parted (l ∷ ls) ms h = let rest = parted ls ms h.1 in ((h.0, rest.0), rest.1)
 
+one_rewires : (us : List (List ℕ)) (t : ℕ) (s : Source) → nat_lt t (length us) ≡ true → IsFewSource s
+    → list_all (is_rewiring (length us)) (rewiring_of t s ∷ []) ≡ true
+one_rewires us t (source.Formula x) below few = and_from _ _ (and_from _ _ below (ap not few)) refl
+one_rewires us t (source.Host k ns) below few = and_from _ _ (and_from _ _ below (ap not few)) refl
+
 line_rewires : (us ts : List (List ℕ)) (a : Plain) → ((n : List ℕ) → Has (with_target ts (target_of a)) n → Has us n) → IsFewLine (line.Plain a)
     → list_all (is_rewiring (length us)) (rewired_by us a) ≡ true
-line_rewires us ts (p.Set n x) a few = refl
-line_rewires us ts (p.Log x) a few = refl
-line_rewires us ts (p.CleanupSet n x) a few = refl
-line_rewires us ts (p.CleanupLog x) a few = refl
-line_rewires us ts (p.Dispose n) a few = refl
-line_rewires us ts (p.Rewire n s) a few = rewired (slot_of us n) s (slot_below us n (a n (each_there ts (leaf (name n))))) few
-  where
-    rewired : (t : ℕ) (s : Source) → nat_lt t (length us) ≡ true → IsFewSource s → list_all (is_rewiring (length us)) (rewiring_of t s ∷ []) ≡ true
-    rewired t (source.Formula x) below few = and_from _ _ (and_from _ _ below (ap not few)) refl
-    rewired t (source.Host k ns) below few = and_from _ _ (and_from _ _ below (ap not few)) refl
+line_rewires us ts (p.Rewire n s) a few = one_rewires us (slot_of us n) s (slot_below us n (a n (each_there ts (leaf (name n))))) few
+line_rewires us ts _ a few = refl
 
 all_rewire : (us ts : List (List ℕ)) (s : Statements) → ((n : List ℕ) → Has (with_targets ts s) n → Has us n) → AllByRecursion IsFewLine (lines_of s)
     → list_all (is_rewiring (length us)) (rewirings_of us s) ≡ true
@@ -186,12 +183,8 @@ effects_count (when x i s) others = let a = effects_count i (effects_of s others
 effects_count (effect i s) others = let a = effects_count s others in omega (arith, a)
 
 rewired_count : (us : List (List ℕ)) (a : Plain) → length (rewired_by us a) ≡ rewires_in a
-rewired_count us (p.Set n x) = refl
-rewired_count us (p.Log x) = refl
-rewired_count us (p.CleanupSet n x) = refl
-rewired_count us (p.CleanupLog x) = refl
-rewired_count us (p.Dispose n) = refl
 rewired_count us (p.Rewire n s) = refl
+rewired_count us _ = refl
 
 rewires_count : (us : List (List ℕ)) (s : Statements) → length (rewirings_of us s) ≡ own_rewires s
 rewires_count us done = refl
@@ -232,12 +225,8 @@ all_linked s few = body_linked s no_bodies few (effects_linked s no_bodies few r
 -- ---- statements and lines
 
 line_counts : (us ms : List (List ℕ)) (r : ℕ) (a : Plain) (rest : Stated) → statement_count (placed_line us ms r a rest) ≡ 1 + statement_count rest
-line_counts us ms r (p.Set n x) rest = refl
-line_counts us ms r (p.Log x) rest = refl
-line_counts us ms r (p.CleanupSet n x) rest = refl
-line_counts us ms r (p.CleanupLog x) rest = refl
-line_counts us ms r (p.Dispose n) rest = refl
 line_counts us ms r (p.Rewire n s) rest = refl
+line_counts us ms r _ rest = refl
 
 -- statements and those of their nested effects, before others
 few_statements : (us ms : List (List ℕ)) (e r : ℕ) (s : Statements) (rest : Stated) (others : Bodies)

@@ -14,8 +14,9 @@ use Rattle.formula_text.specs.Judging.{has_long_text, has_untrack, is_above, nam
 use Rattle.script_lines.specs.Lines.{NumberedLine}
 use Rattle.body_text.specs.declared.fault.BodyFault.{BodyFault}
 use Rattle.body_text.specs.declared.judge.TheConstants.{MOST_BODY_LINES}
+use Rattle.line_forms.specs.Forms.{Args}
 use Rattle.body_text.specs.declared.line.LineKind.TheVariants as kind
-use Rattle.body_text.specs.Grammar.{Said, line_of, set, log, guard, cleanup_set, cleanup_log, effect, dispose, rewire, host, close}
+use Rattle.body_text.specs.Grammar.{Row, row, line_of, rewire, host}
 use Rattle.body_text.specs.Judging.{excess, fault_at, fault_of, first_excess, first_misplaced, judged, judged_at, many_lines, misplacing, refusal_of}
 use Rattle.body_text.specs.Places.{kind_of, moved}
 use Rattle.body_text.specs.Readings.{Answer, IsRead, Sayings, faulty, unended, says, said_lines, unless_refused}
@@ -60,18 +61,12 @@ few_arguments false e = refl
 few_arguments true e = absurd cc
 
 -- a line that isn't refused
-few_said : (depth : ℕ) (x : Said) → misplacing depth (kind_of (line_of x)) (fault_of x) ≡ None → excess (fault_of x) ≡ None → IsFewLine (line_of x)
-few_said depth (set, (n, (x, tt))) a b = tt
-few_said depth (log, (x, tt)) a b = tt
-few_said depth (guard, (x, tt)) a b = tt
-few_said depth (cleanup_set, (n, (x, tt))) a b = tt
-few_said depth (cleanup_log, (x, tt)) a b = tt
-few_said depth (effect, tt) a b = tt
-few_said depth (dispose, (n, tt)) a b = tt
-few_said depth (rewire, (n, (x, tt))) a b =
+few_said : (depth : ℕ) (r : Row) (t : Args (row r).1) → misplacing depth (kind_of (line_of (r, t))) (fault_of (r, t)) ≡ None
+    → excess (fault_of (r, t)) ≡ None → IsFewLine (line_of (r, t))
+few_said depth rewire (n, (x, tt)) a b =
     few_told depth (has_untrack x) (needs_row x) (is_above MOST_HEIGHT x) (has_long_text x) (nat_lt MOST_SOURCES (length (names x))) a b
-few_said depth (host, (n, (k, (ns, tt)))) a b = few_arguments (nat_lt MOST_SOURCES (length ns)) b
-few_said depth (close, tt) a b = tt
+few_said depth host (n, (k, (ns, tt))) a b = few_arguments (nat_lt MOST_SOURCES (length ns)) b
+few_said depth _ t a b = tt
 
 all_few : (depth : ℕ) (xs : Sayings) → first_misplaced (judged depth xs) ≡ None → first_excess (judged depth xs) ≡ None
     → AllByRecursion IsFewLine (said_lines xs)
@@ -81,7 +76,7 @@ all_few depth (x ∷ xs) a b =
     let next = moved depth (kind_of (line_of x.1)) in
     let c = neither (option_map (fault_at x.0) j.misplaced) (first_misplaced (judged next xs)) a in
     let d = neither (option_map (fault_at x.0) j.excess) (first_excess (judged next xs)) b in
-    (few_said depth x.1 (none_of (fault_at x.0) j.misplaced c.0) (none_of (fault_at x.0) j.excess d.0), all_few next xs c.1 d.1)
+    (few_said depth x.1.0 x.1.1 (none_of (fault_at x.0) j.misplaced c.0) (none_of (fault_at x.0) j.excess d.0), all_few next xs c.1 d.1)
 
 -- ---- a body that isn't refused
 
