@@ -1,3 +1,4 @@
+mod Kept
 mod LinkedSets
 mod PushedMarks
 pub mod Shared

@@ -1,16 +1,16 @@
 -- Sets of dependants, edited at places.
-use Rattle.std.proofs.Common.{◌≡◌, ℕ, zero, suc, ◌+◌, ◌<◌, ◌≤◌, ◌==◌, ◌||◌, ◌&&◌, Bool, true, false, cond, if◌then◌else◌, List, [], ◌∷◌, length, length-append, drop, ◌++◌, refl, sym, ap, ◌∙◌, subst, arith, ◌⊎◌, inl, inr}
-use Rattle.std.specs.Prelude.{slice_set, slice_index_or, get_or, nat_eq}
+use Rattle.std.proofs.Common.{◌≡◌, ℕ, zero, suc, ◌+◌, ◌<◌, ◌≤◌, ◌==◌, ◌||◌, ◌&&◌, Bool, true, false, cond, if◌then◌else◌, List, [], ◌∷◌, length, drop, ◌++◌, refl, sym, ap, ◌∙◌, subst, arith, ◌⊎◌, inl, inr, Option, Some, None, is_some}
+use Rattle.std.specs.Prelude.{slice_set, get_or, nat_eq, Result, Ok, Err, OnOk}
 use Rattle.std.specs.List.{All, AllByRecursion, IsDistinct}
 use Rattle.std.proofs.lemmas.Map.Keys.{IsDistinct-head, IsDistinct-tail}
-use Rattle.std.specs.Prelude.{Result, Ok, Err, OnOk}
 use Rattle.std.proofs.lemmas.Bool.{eqb-true, eq-eqb}
 use Rattle.indexmap.specs.IndexSet.{IndexSet, spare}
 use Rattle.signal_model.specs.Laws.{AreDistinct}
 use Rattle.signal_model.specs.Standing.{is_in}
 use Rattle.signal_model.proofs.Shared.{tested}
-use Rattle.sig_marks.specs.Tables.{dependants_at, depends, Drops, IsMarkTable, Relinks}
-use Rattle.sig_marks.specs.Sets.{Links, Makes, Unlinks, depends_in, keys_of, spare_at, table_of}
+use Rattle.sig_store.specs.Stored.{entry}
+use Rattle.sig_marks.specs.Tables.{dependants_at, depends, marked_at, Drops, Relinks}
+use Rattle.sig_marks.specs.Sets.{HasRoom, Links, Makes, Unlinks, depends_in, keys_in, keys_of, spare_at, spare_in, stands_of, standing_count}
 
 -- tests of places
 apart : (a b : ℕ) → (a ≡ b → ⊥) → (a == b) ≡ false
@@ -28,49 +28,156 @@ suc_suc a b = elim (tested (a == b)) [
   | inr e ↦ apart (suc a) (suc b) (λ q. let r : a ≡ b = omega (arith, q) in cc (sym (eq-eqb a b r) ∙ e)) ∙ sym e
 ]
 
+-- ---- which entries stand
+
+module _ {A : Type 0} where
+  pub there_below : (es : List (Option A)) (i : ℕ) → is_some (entry es i) ≡ true → i < length es
+  there_below [] i h = cc
+  there_below (e ∷ es) zero h = omega arith
+  there_below (e ∷ es) (suc i) h = let k : i < length es = there_below es i h in omega (arith, k)
+
+  -- an entry that is set
+  entry_set : (es : List (Option A)) (i : ℕ) (x : Option A) (m : ℕ) → i < length es → entry (slice_set es i x) m ≡ (if m == i then x else entry es m)
+  entry_set [] i x m l = absurd (omega arith)
+  entry_set (e ∷ es) zero x zero l = refl
+  entry_set (e ∷ es) zero x (suc m) l = ap (λ b. cond b x (entry es m)) (sym (suc_zero m))
+  entry_set (e ∷ es) (suc i) x zero l = ap (λ b. cond b x e) (sym (zero_suc i))
+  entry_set (e ∷ es) (suc i) x (suc m) l = let k : i < length es = omega arith in entry_set es i x m k ∙ ap (λ b. cond b x (entry es m)) (sym (suc_suc m i))
+
+  pub stands_len : (es : List (Option A)) → length (stands_of es) ≡ length es
+  stands_len [] = refl
+  stands_len (e ∷ es) = ap suc (stands_len es)
+
+  pub stands_is : (es : List (Option A)) (m : ℕ) → marked_at (stands_of es) m ≡ is_some (entry es m)
+  stands_is [] m = refl
+  stands_is (e ∷ es) zero = refl
+  stands_is (e ∷ es) (suc m) = stands_is es m
+
+  pub stands_set : (es : List (Option A)) (i : ℕ) (x : Option A) → stands_of (slice_set es i x) ≡ slice_set (stands_of es) i (is_some x)
+  stands_set [] i x = refl
+  stands_set (e ∷ es) zero x = refl
+  stands_set (e ∷ es) (suc i) x = ap (λ bs. is_some e ∷ bs) (stands_set es i x)
+
+  -- what stood stands
+  pub stands_same : (es : List (Option A)) (i : ℕ) (x y : A) → entry es i ≡ Some y → stands_of (slice_set es i (Some x)) ≡ stands_of es
+  stands_same [] i x y h = refl
+  stands_same (e ∷ es) zero x y h = ap (λ (o : Option A). is_some o ∷ stands_of es) (sym h)
+  stands_same (e ∷ es) (suc i) x y h = ap (λ bs. is_some e ∷ bs) (stands_same es i x y h)
+
+  -- what is gone stays gone
+  pub stands_gap : (es : List (Option A)) (i : ℕ) → is_some (entry es i) ≡ false → stands_of es ≡ slice_set (stands_of es) i false
+  stands_gap [] i h = refl
+  stands_gap (e ∷ es) zero h = ap (λ b. b ∷ stands_of es) h
+  stands_gap (e ∷ es) (suc i) h = ap (λ bs. is_some e ∷ bs) (stands_gap es i h)
+
+  pub stands_end : (es : List (Option A)) (x : A) → stands_of (es ++ Some x ∷ []) ≡ stands_of es ++ true ∷ []
+  stands_end [] x = refl
+  stands_end (e ∷ es) x = ap (λ bs. is_some e ∷ bs) (stands_end es x)
+
+  pub stands_alike : (xs ys : List (Option A)) (m : ℕ) → stands_of xs ≡ stands_of ys → is_some (entry xs m) ≡ is_some (entry ys m)
+  stands_alike xs ys m e = sym (stands_is xs m) ∙ ap (λ ts. marked_at ts m) e ∙ stands_is ys m
+
+  pub alike_len : (xs ys : List (Option A)) → stands_of xs ≡ stands_of ys → length xs ≡ length ys
+  alike_len xs ys e = sym (stands_len xs) ∙ ap length e ∙ stands_len ys
+
+pub count_end : (bs : List Bool) → standing_count (bs ++ true ∷ []) ≡ standing_count bs + 1
+count_end [] = refl
+count_end (true ∷ bs) = omega (arith, count_end bs)
+count_end (false ∷ bs) = omega (arith, count_end bs)
+
+pub count_less : (bs : List Bool) (i : ℕ) → marked_at bs i ≡ true → standing_count (slice_set bs i false) + 1 ≡ standing_count bs
+count_less [] i h = cc
+count_less (true ∷ bs) zero h = omega arith
+count_less (false ∷ bs) zero h = cc
+count_less (true ∷ bs) (suc i) h = omega (arith, count_less bs i h)
+count_less (false ∷ bs) (suc i) h = omega (arith, count_less bs i h)
+
+-- ---- sets
+
 module _ {S : Type 0} where
-  pub set_len : (ss : List (IndexSet ℕ S)) (i : ℕ) (x : IndexSet ℕ S) → length (slice_set ss i x) ≡ length ss
-  set_len [] i x = refl
-  set_len (s ∷ ss) zero x = refl
-  set_len (s ∷ ss) (suc i) x = ap suc (set_len ss i x)
+  pub keys_len : (ss : List (Option (IndexSet ℕ S))) → length (keys_of ss) ≡ length ss
+  keys_len [] = refl
+  keys_len (s ∷ ss) = ap suc (keys_len ss)
 
-  pub set_linked : (ss : List (IndexSet ℕ S)) (i : ℕ) (x : IndexSet ℕ S) (m d : ℕ) → i < length ss → depends_in (slice_set ss i x) m d ≡ (if m == i then is_in d x.keys else depends_in ss m d)
-  set_linked [] i x m d l = absurd (omega arith)
-  set_linked (s ∷ ss) zero x zero d l = refl
-  set_linked (s ∷ ss) zero x (suc m) d l = ap (λ b. cond b (is_in d x.keys) (depends_in ss m d)) (sym (suc_zero m))
-  set_linked (s ∷ ss) (suc i) x zero d l = ap (λ b. cond b (is_in d x.keys) (is_in d s.keys)) (sym (zero_suc i))
-  set_linked (s ∷ ss) (suc i) x (suc m) d l = let k : i < length ss = omega arith in set_linked ss i x m d k ∙ ap (λ b. cond b (is_in d x.keys) (depends_in ss m d)) (sym (suc_suc m i))
+  pub keys_at : (ss : List (Option (IndexSet ℕ S))) (m : ℕ) → dependants_at (keys_of ss) m ≡ keys_in (entry ss m)
+  keys_at [] m = refl
+  keys_at (s ∷ ss) zero = refl
+  keys_at (s ∷ ss) (suc m) = keys_at ss m
 
-  pub set_spare : (ss : List (IndexSet ℕ S)) (i : ℕ) (x : IndexSet ℕ S) (m : ℕ) → i < length ss → spare_at (slice_set ss i x) m ≡ (if m == i then spare x else spare_at ss m)
-  set_spare [] i x m l = absurd (omega arith)
-  set_spare (s ∷ ss) zero x zero l = refl
-  set_spare (s ∷ ss) zero x (suc m) l = ap (λ b. cond b (spare x) (spare_at ss m)) (sym (suc_zero m))
-  set_spare (s ∷ ss) (suc i) x zero l = ap (λ b. cond b (spare x) (spare s)) (sym (zero_suc i))
-  set_spare (s ∷ ss) (suc i) x (suc m) l = let k : i < length ss = omega arith in set_spare ss i x m k ∙ ap (λ b. cond b (spare x) (spare_at ss m)) (sym (suc_suc m i))
+  linked_is : (ss : List (Option (IndexSet ℕ S))) (m d : ℕ) → depends_in ss m d ≡ is_in d (keys_in (entry ss m))
+  linked_is ss m d = ap (is_in d) (keys_at ss m)
 
-  pub at_linked : (ss : List (IndexSet ℕ S)) (i d : ℕ) (v : IndexSet ℕ S) → i < length ss → is_in d (slice_index_or ss i v).keys ≡ depends_in ss i d
-  at_linked [] i d v l = absurd (omega arith)
-  at_linked (s ∷ ss) zero d v l = refl
-  at_linked (s ∷ ss) (suc i) d v l = let k : i < length ss = omega arith in at_linked ss i d v k
+  pub set_linked : (ss : List (Option (IndexSet ℕ S))) (i : ℕ) (x : Option (IndexSet ℕ S)) (m d : ℕ) → i < length ss →
+      depends_in (slice_set ss i x) m d ≡ (if m == i then is_in d (keys_in x) else depends_in ss m d)
+  set_linked ss i x m d l = linked_is (slice_set ss i x) m d ∙ ap (λ (o : Option (IndexSet ℕ S)). is_in d (keys_in o)) (entry_set ss i x m l) ∙ by (m == i)
+    where
+      by : (b : Bool) → is_in d (keys_in (cond b x (entry ss m))) ≡ cond b (is_in d (keys_in x)) (depends_in ss m d)
+      by true = refl
+      by false = sym (linked_is ss m d)
 
-  pub at_spare : (ss : List (IndexSet ℕ S)) (i : ℕ) (v : IndexSet ℕ S) → i < length ss → spare (slice_index_or ss i v) ≡ spare_at ss i
-  at_spare [] i v l = absurd (omega arith)
-  at_spare (s ∷ ss) zero v l = refl
-  at_spare (s ∷ ss) (suc i) v l = let k : i < length ss = omega arith in at_spare ss i v k
+  set_spare : (ss : List (Option (IndexSet ℕ S))) (i : ℕ) (x : Option (IndexSet ℕ S)) (m : ℕ) → i < length ss → spare_at (slice_set ss i x) m ≡ (if m == i then spare_in x else spare_at ss m)
+  set_spare ss i x m l = ap (λ (o : Option (IndexSet ℕ S)). spare_in o) (entry_set ss i x m l) ∙ by (m == i)
+    where
+      by : (b : Bool) → spare_in (cond b x (entry ss m)) ≡ cond b (spare_in x) (spare_at ss m)
+      by true = refl
+      by false = refl
+
+  gap_linked : (ss : List (Option (IndexSet ℕ S))) (i d : ℕ) → is_some (entry ss i) ≡ false → depends_in ss i d ≡ false
+  gap_linked ss i d h = linked_is ss i d ∙ by (entry ss i) h
+    where
+      by : (o : Option (IndexSet ℕ S)) → is_some o ≡ false → is_in d (keys_in o) ≡ false
+      by None q = refl
+      by (Some s) q = cc
+
+  pub gap_spare : (ss : List (Option (IndexSet ℕ S))) (i : ℕ) → is_some (entry ss i) ≡ false → 0 < spare_at ss i
+  gap_spare ss i h = by (entry ss i) h
+    where
+      by : (o : Option (IndexSet ℕ S)) → is_some o ≡ false → 0 < spare_in o
+      by None q = omega arith
+      by (Some s) q = cc
+
+  pub at_linked : (ss : List (Option (IndexSet ℕ S))) (i d : ℕ) (s : IndexSet ℕ S) → entry ss i ≡ Some s → is_in d s.keys ≡ depends_in ss i d
+  at_linked ss i d s here = sym (linked_is ss i d ∙ ap (λ (o : Option (IndexSet ℕ S)). is_in d (keys_in o)) here)
+
+  pub at_spare : (ss : List (Option (IndexSet ℕ S))) (i : ℕ) (s : IndexSet ℕ S) → entry ss i ≡ Some s → spare s ≡ spare_at ss i
+  at_spare ss i s here = sym (ap (λ (o : Option (IndexSet ℕ S)). spare_in o) here)
+
+  below : (ss : List (Option (IndexSet ℕ S))) (i : ℕ) (s : IndexSet ℕ S) → entry ss i ≡ Some s → i < length ss
+  below ss i s here = there_below ss i (ap (λ (o : Option (IndexSet ℕ S)). is_some o) here)
+
+  -- room doesn't go where one set has no less
+  roomy : (ss : List (Option (IndexSet ℕ S))) (i : ℕ) (x s : IndexSet ℕ S) → entry ss i ≡ Some s → spare s ≤ spare x → (m : ℕ) → spare_at ss m ≤ spare_at (slice_set ss i (Some x)) m
+  roomy ss i x s here room m = by (tested (m == i))
+    where
+      set : spare_at (slice_set ss i (Some x)) m ≡ (if m == i then spare x else spare_at ss m)
+      set = set_spare ss i (Some x) m (below ss i s here)
+
+      by : ((m == i) ≡ true) ⊎ ((m == i) ≡ false) → spare_at ss m ≤ spare_at (slice_set ss i (Some x)) m
+      by (inl e) =
+          let a : spare_at (slice_set ss i (Some x)) m ≡ spare x = set ∙ ap (λ c. cond c (spare x) (spare_at ss m)) e in
+          let b : spare_at ss m ≡ spare s = ap (spare_at ss) (eqb-true m i e) ∙ sym (at_spare ss i s here) in
+          omega (arith, a, b, room)
+      by (inr e) = let a : spare_at (slice_set ss i (Some x)) m ≡ spare_at ss m = set ∙ ap (λ c. cond c (spare x) (spare_at ss m)) e in omega (arith, a)
+
+  none_off : (ss : List (Option (IndexSet ℕ S))) (i reader m d : ℕ) → ((d : ℕ) → depends_in ss i d ≡ false) → depends_in ss m d ≡ (if reader == d && (m == i || false) then false else depends_in ss m d)
+  none_off ss i reader m d none = by (reader == d) (m == i) refl
+    where
+      by : (r b : Bool) → (m == i) ≡ b → depends_in ss m d ≡ (if r && (b || false) then false else depends_in ss m d)
+      by false b e = refl
+      by true false e = refl
+      by true true e = ap (λ z. depends_in ss z d) (eqb-true m i e) ∙ none d
 
   -- an edit of one set is one of them all
-  pub unlinked : (ss : List (IndexSet ℕ S)) (i reader : ℕ) (x v : IndexSet ℕ S) → i < length ss →
-      ((d : ℕ) → is_in d x.keys ≡ (if reader == d then false else is_in d (slice_index_or ss i v).keys)) → spare (slice_index_or ss i v) ≤ spare x → Unlinks ss (slice_set ss i x) (i ∷ []) reader
-  unlinked ss i reader x v l off room = record {
-    len = set_len ss i x;
-    off = λ m d. set_linked ss i x m d l ∙ go m d (m == i) refl;
-    room = λ m. roomy m (m == i) refl;
+  pub unlinked : (ss : List (Option (IndexSet ℕ S))) (i reader : ℕ) (x s : IndexSet ℕ S) → entry ss i ≡ Some s →
+      ((d : ℕ) → is_in d x.keys ≡ (if reader == d then false else is_in d s.keys)) → spare s ≤ spare x → Unlinks ss (slice_set ss i (Some x)) (i ∷ []) reader
+  unlinked ss i reader x s here off room = record {
+    stands = stands_same ss i x s here;
+    off = λ m d. set_linked ss i (Some x) m d (below ss i s here) ∙ go m d (m == i) refl;
+    room = roomy ss i x s here room;
   }
     where
       go : (m d : ℕ) (b : Bool) → (m == i) ≡ b → cond b (is_in d x.keys) (depends_in ss m d) ≡ cond (reader == d && (m == i || false)) false (depends_in ss m d)
-      go m d true e =
-          off d ∙ ap (λ y. cond (reader == d) false y) (at_linked ss i d v l ∙ ap (λ z. depends_in ss z d) (sym (eqb-true m i e)))
-          ∙ both (reader == d)
+      go m d true e = off d ∙ ap (λ y. cond (reader == d) false y) (at_linked ss i d s here ∙ ap (λ z. depends_in ss z d) (sym (eqb-true m i e))) ∙ both (reader == d)
         where
           both : (c : Bool) → cond c false (depends_in ss m d) ≡ cond (c && (m == i || false)) false (depends_in ss m d)
           both false = refl
@@ -81,23 +188,27 @@ module _ {S : Type 0} where
           none false = refl
           none true = refl
 
-      roomy : (m : ℕ) (b : Bool) → (m == i) ≡ b → spare_at ss m ≤ spare_at (slice_set ss i x) m
-      roomy m true e =
-          let a : spare_at (slice_set ss i x) m ≡ spare x = set_spare ss i x m l ∙ ap (λ c. cond c (spare x) (spare_at ss m)) e in
-          let b : spare_at ss m ≡ spare (slice_index_or ss i v) = ap (spare_at ss) (eqb-true m i e) ∙ sym (at_spare ss i v l) in
-          omega (arith, a, b, room)
-      roomy m false e = let a : spare_at (slice_set ss i x) m ≡ spare_at ss m = set_spare ss i x m l ∙ ap (λ c. cond c (spare x) (spare_at ss m)) e in omega (arith, a)
+  pub unlinked_gap : (ss : List (Option (IndexSet ℕ S))) (i reader : ℕ) → is_some (entry ss i) ≡ false → Unlinks ss ss (i ∷ []) reader
+  unlinked_gap ss i reader gone = record {
+    stands = refl;
+    off = λ m d. none_off ss i reader m d (λ k. gap_linked ss i k gone);
+    room = λ m. let e : spare_at ss m ≡ spare_at ss m = refl in omega (arith, e);
+  }
 
-  pub linked : (ss : List (IndexSet ℕ S)) (i reader : ℕ) (x v : IndexSet ℕ S) → i < length ss → ((d : ℕ) → is_in d x.keys ≡ (if reader == d then true else is_in d (slice_index_or ss i v).keys)) → Links ss (slice_set ss i x) (i ∷ []) reader
-  linked ss i reader x v l on = record {
-    len = set_len ss i x;
-    on = λ m d. set_linked ss i x m d l ∙ go m d (m == i) refl;
+  pub linked : (ss : List (Option (IndexSet ℕ S))) (i reader : ℕ) (x s : IndexSet ℕ S) → entry ss i ≡ Some s → ((d : ℕ) → is_in d x.keys ≡ (if reader == d then true else is_in d s.keys)) →
+      Links ss (slice_set ss i (Some x)) (i ∷ []) reader
+  linked ss i reader x s here on = record {
+    stands = stands_same ss i x s here;
+    on = λ m d there. all m d;
+    few = λ m d q. fewer (reader == d) (m == i) refl (depends_in ss m d) (sym (all m d) ∙ q);
   }
     where
+      fewer : {d : ℕ} (r b : Bool) → (reader == d) ≡ r → (y : Bool) → cond (r && (b || false)) true y ≡ true → (reader ≡ d) ⊎ (y ≡ true)
+      fewer {d} true b e y q = inl (eqb-true reader d e)
+      fewer {d} false b e y q = inr q
+
       go : (m d : ℕ) (b : Bool) → (m == i) ≡ b → cond b (is_in d x.keys) (depends_in ss m d) ≡ cond (reader == d && (m == i || false)) true (depends_in ss m d)
-      go m d true e =
-          on d ∙ ap (λ y. cond (reader == d) true y) (at_linked ss i d v l ∙ ap (λ z. depends_in ss z d) (sym (eqb-true m i e)))
-          ∙ both (reader == d)
+      go m d true e = on d ∙ ap (λ y. cond (reader == d) true y) (at_linked ss i d s here ∙ ap (λ z. depends_in ss z d) (sym (eqb-true m i e))) ∙ both (reader == d)
         where
           both : (c : Bool) → cond c true (depends_in ss m d) ≡ cond (c && (m == i || false)) true (depends_in ss m d)
           both false = refl
@@ -108,47 +219,48 @@ module _ {S : Type 0} where
           none false = refl
           none true = refl
 
-  pub spare_other : (ss : List (IndexSet ℕ S)) (i : ℕ) (x : IndexSet ℕ S) (m : ℕ) → i < length ss → (m == i) ≡ false → spare_at (slice_set ss i x) m ≡ spare_at ss m
-  spare_other ss i x m l e = set_spare ss i x m l ∙ ap (λ c. cond c (spare x) (spare_at ss m)) e
+      all : (m d : ℕ) → depends_in (slice_set ss i (Some x)) m d ≡ cond (reader == d && (m == i || false)) true (depends_in ss m d)
+      all m d = set_linked ss i (Some x) m d (below ss i s here) ∙ go m d (m == i) refl
 
-  pub spare_here : (ss : List (IndexSet ℕ S)) (i : ℕ) (x : IndexSet ℕ S) → i < length ss → spare_at (slice_set ss i x) i ≡ spare x
-  spare_here ss i x l = set_spare ss i x i l ∙ ap (λ c. cond c (spare x) (spare_at ss i)) (eq-eqb i i refl)
-
-  keys_same : (ss : List (IndexSet ℕ S)) (i : ℕ) (x v : IndexSet ℕ S) → i < length ss → x.keys ≡ (slice_index_or ss i v).keys → keys_of (slice_set ss i x) ≡ keys_of ss
-  keys_same [] i x v l e = absurd (omega arith)
-  keys_same (s ∷ ss) zero x v l e = ap (λ ks. ks ∷ keys_of ss) e
-  keys_same (s ∷ ss) (suc i) x v l e = let k : i < length ss = omega arith in ap (λ kss. s.keys ∷ kss) (keys_same ss i x v k e)
-
-  pub roomier : (ss : List (IndexSet ℕ S)) (i : ℕ) (x v : IndexSet ℕ S) → i < length ss → x.keys ≡ (slice_index_or ss i v).keys → spare (slice_index_or ss i v) ≤ spare x → Makes ss (slice_set ss i x)
-  roomier ss i x v l keys room = record {
-    keys = keys_same ss i x v l keys;
-    len = set_len ss i x;
-    room = λ m. roomy m (m == i) refl;
+  pub linked_gap : (ss : List (Option (IndexSet ℕ S))) (i reader : ℕ) → is_some (entry ss i) ≡ false → Links ss ss (i ∷ []) reader
+  linked_gap ss i reader gone = record {
+    stands = refl;
+    on = λ m d there. by m d (reader == d) (m == i) refl there;
+    few = λ m d q. inr q;
   }
     where
-      roomy : (m : ℕ) (b : Bool) → (m == i) ≡ b → spare_at ss m ≤ spare_at (slice_set ss i x) m
-      roomy m true e =
-          let a : spare_at (slice_set ss i x) m ≡ spare x = set_spare ss i x m l ∙ ap (λ c. cond c (spare x) (spare_at ss m)) e in
-          let b : spare_at ss m ≡ spare (slice_index_or ss i v) = ap (spare_at ss) (eqb-true m i e) ∙ sym (at_spare ss i v l) in
-          omega (arith, a, b, room)
-      roomy m false e = let a : spare_at (slice_set ss i x) m ≡ spare_at ss m = set_spare ss i x m l ∙ ap (λ c. cond c (spare x) (spare_at ss m)) e in omega (arith, a)
+      by : (m d : ℕ) (r b : Bool) → (m == i) ≡ b → is_some (entry ss m) ≡ true → depends_in ss m d ≡ cond (r && (b || false)) true (depends_in ss m d)
+      by m d false b e there = refl
+      by m d true false e there = refl
+      by m d true true e there = let q : is_some (entry ss i) ≡ true = ap (λ z. is_some (entry ss z)) (sym (eqb-true m i e)) ∙ there in cc (sym q ∙ gone)
 
-  -- room for a reader, or it is there already
-  pub roomed : (a b : List (IndexSet ℕ S)) (n reader : ℕ) → Links a b (n ∷ []) reader → ((m : ℕ) → (m == n) ≡ false → spare_at b m ≡ spare_at a m) → (m : ℕ) →
-      (depends_in a m reader ≡ true) ⊎ (0 < spare_at a m) → (depends_in b m reader ≡ true) ⊎ (0 < spare_at b m)
-  roomed a b n reader f g m h = go (tested (m == n)) h
+  -- a reader has room in the other sets, and is in this one
+  pub linked_room : (ss : List (Option (IndexSet ℕ S))) (i reader : ℕ) (x s : IndexSet ℕ S) → entry ss i ≡ Some s → ((d : ℕ) → is_in d x.keys ≡ (if reader == d then true else is_in d s.keys)) →
+      (m : ℕ) → HasRoom ss reader m → HasRoom (slice_set ss i (Some x)) reader m
+  linked_room ss i reader x s here on m h = by (tested (m == i)) h
     where
-      keep : (r y : Bool) → cond (r && y) true true ≡ true
-      keep true true = refl
-      keep true false = refl
-      keep false y = refl
+      keys : depends_in (slice_set ss i (Some x)) m reader ≡ (if m == i then is_in reader x.keys else depends_in ss m reader)
+      keys = set_linked ss i (Some x) m reader (below ss i s here)
 
-      go : ((m == n) ≡ true) ⊎ ((m == n) ≡ false) → (depends_in a m reader ≡ true) ⊎ (0 < spare_at a m) → (depends_in b m reader ≡ true) ⊎ (0 < spare_at b m)
-      go e (inl on) = inl (f.on m reader ∙ ap (λ z. cond (reader == reader && (m == n || false)) true z) on ∙ keep (reader == reader) (m == n || false))
-      go (inr e) (inr room) = inr (let a : spare_at b m ≡ spare_at a m = g m e in omega (arith, a, room))
-      go (inl e) (inr room) = inl (f.on m reader ∙ (λ i. cond (eq-eqb reader reader refl i && (e i || false)) true (depends_in a m reader)))
+      by : ((m == i) ≡ true) ⊎ ((m == i) ≡ false) → HasRoom ss reader m → HasRoom (slice_set ss i (Some x)) reader m
+      by (inl e) q =
+          inl (keys ∙ ap (λ b. cond b (is_in reader x.keys) (depends_in ss m reader)) e ∙ on reader ∙ ap (λ b. cond b true (is_in reader s.keys)) (eq-eqb reader reader refl))
+      by (inr e) (inl q) = inl (keys ∙ ap (λ b. cond b (is_in reader x.keys) (depends_in ss m reader)) e ∙ q)
+      by (inr e) (inr q) =
+          inr (let a : spare_at (slice_set ss i (Some x)) m ≡ spare_at ss m = set_spare ss i (Some x) m (below ss i s here) ∙ ap (λ c. cond c (spare x) (spare_at ss m)) e in omega (arith, a, q))
 
-  pub reserved : (a b : List (IndexSet ℕ S)) (reads : List ℕ) (at x : ℕ) → x ≡ get_or reads at x → ((m : ℕ) → spare_at a m ≤ spare_at b m) →
+  pub spare_here : (ss : List (Option (IndexSet ℕ S))) (i : ℕ) (x s : IndexSet ℕ S) → entry ss i ≡ Some s → spare_at (slice_set ss i (Some x)) i ≡ spare x
+  spare_here ss i x s here = set_spare ss i (Some x) i (below ss i s here) ∙ ap (λ c. cond c (spare x) (spare_at ss i)) (eq-eqb i i refl)
+
+  keys_same : (ss : List (Option (IndexSet ℕ S))) (i : ℕ) (x s : IndexSet ℕ S) → entry ss i ≡ Some s → x.keys ≡ s.keys → keys_of (slice_set ss i (Some x)) ≡ keys_of ss
+  keys_same [] i x s here e = refl
+  keys_same (o ∷ ss) zero x s here e = ap (λ ks. ks ∷ keys_of ss) (e ∙ ap (λ (q : Option (IndexSet ℕ S)). keys_in q) (sym here))
+  keys_same (o ∷ ss) (suc i) x s here e = ap (λ kss. keys_in o ∷ kss) (keys_same ss i x s here e)
+
+  pub roomier : (ss : List (Option (IndexSet ℕ S))) (i : ℕ) (x s : IndexSet ℕ S) → entry ss i ≡ Some s → x.keys ≡ s.keys → spare s ≤ spare x → Makes ss (slice_set ss i (Some x))
+  roomier ss i x s here keys room = record { keys = keys_same ss i x s here keys; stands = stands_same ss i x s here; room = roomy ss i x s here room }
+
+  pub reserved : (a b : List (Option (IndexSet ℕ S))) (reads : List ℕ) (at x : ℕ) → x ≡ get_or reads at x → ((m : ℕ) → spare_at a m ≤ spare_at b m) →
       ((i d : ℕ) → i < at → i < length reads → 0 < spare_at a (get_or reads i d)) → 0 < spare_at b x → (i d : ℕ) → i < at + 1 → i < length reads → 0 < spare_at b (get_or reads i d)
   reserved a b reads at x is more before here i d l k = go (tested (i == at))
     where
@@ -176,16 +288,16 @@ module _ {S : Type 0} where
 
   -- ---- one after the other
 
-  pub unlinks_none : (a : List (IndexSet ℕ S)) (reader : ℕ) → Unlinks a a [] reader
-  unlinks_none a reader = record { len = refl; off = λ m d. none (reader == d) m d; room = λ m. let e : spare_at a m ≡ spare_at a m = refl in omega (arith, e) }
+  pub unlinks_none : (a : List (Option (IndexSet ℕ S))) (reader : ℕ) → Unlinks a a [] reader
+  unlinks_none a reader = record { stands = refl; off = λ m d. none (reader == d) m d; room = λ m. let e : spare_at a m ≡ spare_at a m = refl in omega (arith, e) }
     where
       none : (c : Bool) (m d : ℕ) → depends_in a m d ≡ cond (c && false) false (depends_in a m d)
       none true m d = refl
       none false m d = refl
 
-  pub unlinks_more : (a b c : List (IndexSet ℕ S)) (n : ℕ) (ns : List ℕ) (reader : ℕ) → Unlinks a b (n ∷ []) reader → Unlinks b c ns reader → Unlinks a c (n ∷ ns) reader
+  pub unlinks_more : (a b c : List (Option (IndexSet ℕ S))) (n : ℕ) (ns : List ℕ) (reader : ℕ) → Unlinks a b (n ∷ []) reader → Unlinks b c ns reader → Unlinks a c (n ∷ ns) reader
   unlinks_more a b c n ns reader f g = record {
-    len = g.len ∙ f.len;
+    stands = g.stands ∙ f.stands;
     off = λ m d. g.off m d ∙ ap (λ x. cond (reader == d && is_in m ns) false x) (f.off m d) ∙ join (reader == d) (m == n) (is_in m ns) (depends_in a m d);
     room = λ m. let x = f.room m in let y = g.room m in omega (arith, x, y);
   }
@@ -197,17 +309,20 @@ module _ {S : Type 0} where
       join true false false z = refl
       join false x y z = refl
 
-  pub links_none : (a : List (IndexSet ℕ S)) (reader : ℕ) → Links a a [] reader
-  links_none a reader = record { len = refl; on = λ m d. none (reader == d) m d }
+  pub links_none : (a : List (Option (IndexSet ℕ S))) (reader : ℕ) → Links a a [] reader
+  links_none a reader = record { stands = refl; on = λ m d there. none (reader == d) m d; few = λ m d q. inr q }
     where
       none : (c : Bool) (m d : ℕ) → depends_in a m d ≡ cond (c && false) true (depends_in a m d)
       none true m d = refl
       none false m d = refl
 
-  pub links_more : (a b c : List (IndexSet ℕ S)) (n : ℕ) (ns : List ℕ) (reader : ℕ) → Links a b (n ∷ []) reader → Links b c ns reader → Links a c (n ∷ ns) reader
+  pub links_more : (a b c : List (Option (IndexSet ℕ S))) (n : ℕ) (ns : List ℕ) (reader : ℕ) → Links a b (n ∷ []) reader → Links b c ns reader → Links a c (n ∷ ns) reader
   links_more a b c n ns reader f g = record {
-    len = g.len ∙ f.len;
-    on = λ m d. g.on m d ∙ ap (λ x. cond (reader == d && is_in m ns) true x) (f.on m d) ∙ join (reader == d) (m == n) (is_in m ns) (depends_in a m d);
+    stands = g.stands ∙ f.stands;
+    on = λ m d there.
+        g.on m d (stands_alike b a m f.stands ∙ there)
+        ∙ ap (λ x. cond (reader == d && is_in m ns) true x) (f.on m d there) ∙ join (reader == d) (m == n) (is_in m ns) (depends_in a m d);
+    few = λ m d q. elim (g.few m d q) [ inl e ↦ inl e | inr was ↦ f.few m d was ];
   }
     where
       join : (r x y z : Bool) → cond (r && y) true (cond (r && (x || false)) true z) ≡ cond (r && (x || y)) true z
@@ -217,32 +332,54 @@ module _ {S : Type 0} where
       join true false false z = refl
       join false x y z = refl
 
-  pub makes_none : (a : List (IndexSet ℕ S)) → Makes a a
-  makes_none a = record { keys = refl; len = refl; room = λ m. let e : spare_at a m ≡ spare_at a m = refl in omega (arith, e) }
+  pub makes_none : (a : List (Option (IndexSet ℕ S))) → Makes a a
+  makes_none a = record { keys = refl; stands = refl; room = λ m. let e : spare_at a m ≡ spare_at a m = refl in omega (arith, e) }
 
-  pub makes_more : (a b c : List (IndexSet ℕ S)) → Makes a b → Makes b c → Makes a c
-  makes_more a b c f g = record { keys = g.keys ∙ f.keys; len = g.len ∙ f.len; room = λ m. let x = f.room m in let y = g.room m in omega (arith, x, y) }
+  pub makes_more : (a b c : List (Option (IndexSet ℕ S))) → Makes a b → Makes b c → Makes a c
+  makes_more a b c f g = record { keys = g.keys ∙ f.keys; stands = g.stands ∙ f.stands; room = λ m. let x = f.room m in let y = g.room m in omega (arith, x, y) }
 
   -- ---- of all sets
 
-  pub keys_len : (ss : List (IndexSet ℕ S)) → length (keys_of ss) ≡ length ss
-  keys_len [] = refl
-  keys_len (s ∷ ss) = ap suc (keys_len ss)
-
   -- room, an unlinking and a linking
-  pub relinked : (a b c e : List (IndexSet ℕ S)) (sources reads : List ℕ) (reader : ℕ) → Makes a b → Unlinks b c sources reader → Links c e reads reader →
-      Relinks (keys_of a) (keys_of e) sources reads reader
+  pub relinked : (a b c e : List (Option (IndexSet ℕ S))) (sources reads : List ℕ) (reader : ℕ) → Makes a b → Unlinks b c sources reader → Links c e reads reader →
+      Relinks (keys_of a) (keys_of e) (stands_of a) sources reads reader
   relinked a b c e sources reads reader made off on = record {
-    len = keys_len e ∙ on.len ∙ off.len ∙ made.len ∙ sym (keys_len a);
-    now = λ m d. on.on m d ∙ ap (λ x. if reader == d && is_in m reads then true else x)
+    len = keys_len e ∙ alike_len e a (on.stands ∙ off.stands ∙ made.stands) ∙ sym (keys_len a);
+    now = λ m d there.
+        on.on m d (stands_alike c a m (off.stands ∙ made.stands) ∙ sym (stands_is a m) ∙ there)
+        ∙ ap (λ x. if reader == d && is_in m reads then true else x)
         (off.off m d ∙ ap (λ (kss : List (List ℕ)). if reader == d && is_in m sources then false else depends kss m d) made.keys);
   }
 
-  -- an unlinking and an emptying
-  pub dropped : (a b c : List (IndexSet ℕ S)) (sources : List ℕ) (n : ℕ) → Unlinks a b sources n → length c ≡ length b →
+  -- of who depends on what then, the reader is the only one that is new
+  pub relinked_few : (a b c e : List (Option (IndexSet ℕ S))) (sources reads : List ℕ) (reader : ℕ) → Makes a b → Unlinks b c sources reader → Links c e reads reader →
+      (m d : ℕ) → depends_in e m d ≡ true → (reader ≡ d) ⊎ (depends_in a m d ≡ true)
+  relinked_few a b c e sources reads reader made off on m d q = elim (on.few m d q) [
+    | inl is ↦ inl is
+    | inr was ↦ inr (sym (ap (λ (kss : List (List ℕ)). depends kss m d) made.keys) ∙ by (reader == d && is_in m sources) (depends_in b m d) (sym (off.off m d) ∙ was))
+  ]
+    where
+      by : (x y : Bool) → cond x false y ≡ true → y ≡ true
+      by true y p = cc
+      by false y p = p
+
+  -- a set that is taken away
+  pub forgotten : (ss : List (Option (IndexSet ℕ S))) (i : ℕ) (s : IndexSet ℕ S) → entry ss i ≡ Some s → (m d : ℕ) →
+      depends_in (slice_set ss i None) m d ≡ (if m == i then false else depends_in ss m d)
+  forgotten ss i s here m d = set_linked ss i None m d (below ss i s here)
+
+  pub forgotten_gap : (ss : List (Option (IndexSet ℕ S))) (i m d : ℕ) → is_some (entry ss i) ≡ false → depends_in ss m d ≡ (if m == i then false else depends_in ss m d)
+  forgotten_gap ss i m d gone = by (m == i) refl
+    where
+      by : (b : Bool) → (m == i) ≡ b → depends_in ss m d ≡ cond b false (depends_in ss m d)
+      by false e = refl
+      by true e = ap (λ z. depends_in ss z d) (eqb-true m i e) ∙ gap_linked ss i d gone
+
+  -- an unlinking, and a set that is taken away
+  pub dropped : (a b c : List (Option (IndexSet ℕ S))) (sources : List ℕ) (n : ℕ) → Unlinks a b sources n → length c ≡ length b →
       ((m d : ℕ) → depends_in c m d ≡ (if m == n then false else depends_in b m d)) → Drops (keys_of a) (keys_of c) sources n
   dropped a b c sources n off len empty = record {
-    len = keys_len c ∙ len ∙ off.len ∙ sym (keys_len a);
+    len = keys_len c ∙ len ∙ alike_len b a off.stands ∙ sym (keys_len a);
     now = λ m d other. empty m d ∙ ap (λ x. cond x false (depends_in b m d)) other ∙ off.off m d;
     own = λ d. empty n d ∙ ap (λ x. cond x false (depends_in b n d)) (eq-eqb n n refl);
     less = λ m d on. by m d (n == d && is_in m sources) (sym (off.off m d) ∙ kept m d (m == n) (sym (empty m d) ∙ on));
@@ -256,28 +393,11 @@ module _ {S : Type 0} where
       by m d true q = cc
       by m d false q = q
 
-  -- a place more
-  more_depends : (ss : List (IndexSet ℕ S)) (x : IndexSet ℕ S) → x.keys ≡ [] → (m d : ℕ) → depends_in (ss ++ x ∷ []) m d ≡ depends_in ss m d
+  pub more_depends : (ss : List (Option (IndexSet ℕ S))) (x : IndexSet ℕ S) → x.keys ≡ [] → (m d : ℕ) → depends_in (ss ++ Some x ∷ []) m d ≡ depends_in ss m d
   more_depends [] x e zero d = ap (is_in d) e
   more_depends [] x e (suc m) d = refl
   more_depends (s ∷ ss) x e zero d = refl
   more_depends (s ∷ ss) x e (suc m) d = more_depends ss x e m d
-
-  pub placed : (ss : List (IndexSet ℕ S)) (x : IndexSet ℕ S) (t : List Bool) (b : Bool) (st st' : List ℕ) (cap cap' : ℕ) → x.keys ≡ [] → st' ≡ st → length t + 1 ≤ cap' →
-      IsMarkTable (table_of ss t) st cap → IsMarkTable (table_of (ss ++ x ∷ []) (t ++ b ∷ [])) st' cap'
-  placed ss x t b st st' cap cap' e same room h =
-      let more : length (t ++ b ∷ []) ≡ length t + 1 = length-append t (b ∷ []) in
-      record {
-        sizes =
-            let p : length (keys_of (ss ++ x ∷ [])) ≡ length (ss ++ x ∷ []) = keys_len (ss ++ x ∷ []) in
-            let q : length (ss ++ x ∷ []) ≡ length ss + 1 = length-append ss (x ∷ []) in
-            let r : length (keys_of ss) ≡ length ss = keys_len ss in
-            let s : length (keys_of ss) ≡ length t = h.sizes in
-            omega (arith, more, p, q, r, s);
-        within = λ m d on. let l : d < length t = h.within m d (sym (more_depends ss x e m d) ∙ on) in omega (arith, more, l);
-        empty = same ∙ h.empty;
-        room = omega (arith, more, room);
-      }
 
 -- what is left from a place on
 pub drop_at : {A : Type 0} (xs : List A) (i : ℕ) (x : A) → i < length xs → drop i xs ≡ get_or xs i x ∷ drop (i + 1) xs
@@ -310,15 +430,6 @@ all_in (d ∷ ds) n h = λ k e l. go k e l (all_in ds n (λ x q. h x (later (x =
     go zero e l rest = h d (ap (λ b. b || is_in d ds) (eq-eqb d d refl))
     go (suc k) e l rest = let z : k < length ds = omega arith in rest k e z
 
-module _ {S : Type 0} where
-  pub all_within : (ss : List (IndexSet ℕ S)) (n : ℕ) → ((m d : ℕ) → depends_in ss m d ≡ true → d < n) → All (λ (s : IndexSet ℕ S). All (λ d. d < n) s.keys) ss
-  all_within [] n h = λ k e l. absurd (omega arith)
-  all_within (s ∷ ss) n h = λ k e l. go k e l (all_within ss n (λ m d q. h (suc m) d q))
-    where
-      go : (k : ℕ) (e : IndexSet ℕ S) → k < length (s ∷ ss) → All (λ (x : IndexSet ℕ S). All (λ d. d < n) x.keys) ss → All (λ d. d < n) (get_or (s ∷ ss) k e).keys
-      go zero e l rest = all_in s.keys n (λ d q. h 0 d q)
-      go (suc k) e l rest = let z : k < length ss = omega arith in rest k e z
-
 -- ---- the dependants of one place
 
 -- the keys of a set are apart
@@ -329,9 +440,3 @@ distinct_keys (k ∷ ks) d = (none k ks (IsDistinct-head nat_eq k ks d), distinc
     none : (m : ℕ) (ns : List ℕ) → AllByRecursion (λ n. nat_eq m n ≡ false) ns → is_in m ns ≡ false
     none m [] h = refl
     none m (n ∷ ns) h = rw h.0 (none m ns h.1)
-
--- past the last place there are none
-pub dependants_past : (dss : List (List ℕ)) (n : ℕ) → length dss ≤ n → [] ≡ dependants_at dss n
-dependants_past [] n l = refl
-dependants_past (ds ∷ dss) zero l = absurd (omega arith)
-dependants_past (ds ∷ dss) (suc n) l = let k : length dss ≤ n = omega arith in dependants_past dss n k

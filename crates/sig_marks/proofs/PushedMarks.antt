@@ -1,12 +1,12 @@
 -- Lists of marks.
-use Rattle.std.proofs.Common.{◌≡◌, ℕ, zero, suc, ◌+◌, ◌<◌, ◌≤◌, ◌==◌, ◌||◌, Bool, true, false, cond, List, [], ◌∷◌, ◌++◌, length, drop, refl, sym, ap, ◌∙◌, subst, arith, ◌⊎◌, inl, inr}
+use Rattle.std.proofs.Common.{◌≡◌, ℕ, zero, suc, ◌+◌, ◌<◌, ◌≤◌, ◌==◌, ◌||◌, Bool, true, false, cond, List, [], ◌∷◌, ◌++◌, length, drop, refl, sym, ap, ◌∙◌, subst, arith, ◌⊎◌, inl, inr, Option, Some, None, is_some, append_assoc}
 use Rattle.std.specs.Prelude.{slice_set, get_or}
 use Rattle.std.specs.List.{All}
-use Rattle.indexmap.specs.IndexSet.{IndexSet}
 use Rattle.std.proofs.lemmas.Bool.{eqb-true, eq-eqb}
 use Rattle.signal_model.specs.Standing.{is_in}
 use Rattle.sig_marks.specs.Tables.{Reached, Spreads, dependants_at, first, marked_at, next}
-use Rattle.sig_marks.specs.Sets.{keys_of, newly_marked, unmarked_count, with_marks}
+use Rattle.sig_store.specs.Stored.{entry}
+use Rattle.sig_marks.specs.Sets.{mark_in, marks_of, newly_marked, standing_count, stands_of, unmarked_count, with_marks}
 
 pub tested : (b : Bool) → (b ≡ true) ⊎ (b ≡ false)
 tested true = inl refl
@@ -47,11 +47,6 @@ pub set_length : (t : List Bool) (d : ℕ) → length (slice_set t d true) ≡ l
 set_length [] d = refl
 set_length (x ∷ xs) zero = refl
 set_length (x ∷ xs) (suc d) = ap suc (set_length xs d)
-
-pub unmarked_le : (t : List Bool) → unmarked_count t ≤ length t
-unmarked_le [] = omega arith
-unmarked_le (true ∷ xs) = omega (arith, unmarked_le xs)
-unmarked_le (false ∷ xs) = omega (arith, unmarked_le xs)
 
 pub marked_length : (ds : List ℕ) (t : List Bool) → length (with_marks ds t) ≡ length t
 marked_length [] t = refl
@@ -121,11 +116,6 @@ pushed_all (d ∷ ds) t m h n = go (marked_at t d) refl (λ z. pushed_all ds t m
 
 -- ---- lists of the code
 
-pub get_is : (t : List Bool) (d : ℕ) → get_or t d false ≡ marked_at t d
-get_is [] d = refl
-get_is (x ∷ xs) zero = refl
-get_is (x ∷ xs) (suc d) = get_is xs d
-
 drop_suc : (xs : List ℕ) (i : ℕ) → i < length xs → drop i xs ≡ get_or xs i 0 ∷ drop (suc i) xs
 drop_suc [] i h = absurd (omega arith)
 drop_suc (x ∷ xs) zero h = refl
@@ -146,42 +136,60 @@ rest_within xs i n m l q h = λ k d lt.
     let z : suc k < suc (length (drop (i + 1) xs)) = omega (arith, lt) in
     subst (λ y. get_or (drop (i + 1) xs) k d < y) q (subst (λ (ys : List ℕ). get_or ys (suc k) d < n) e (h (suc k) d (subst (λ (ys : List ℕ). suc k < length ys) (sym e) z)))
 
-pub step_seen : (rs : List ℕ) (i : ℕ) (t : List Bool) → i < length rs → marked_at t (get_or rs i 0) ≡ true → (with_marks (drop (i + 1) rs) t ≡ with_marks (drop i rs) t) × (newly_marked (drop (i + 1) rs) t ≡ newly_marked (drop i rs) t)
-step_seen rs i t l h =
-    let e : drop i rs ≡ get_or rs i 0 ∷ drop (i + 1) rs = drop_here rs i l in (
-      ap (with_marks (drop (i + 1) rs)) (sym (set_same t (get_or rs i 0) h)) ∙ sym (ap (λ ds. with_marks ds t) e),
-      sym (ap (λ ds. newly_marked ds t) e ∙ ap (λ b. cond b (newly_marked (drop (i + 1) rs) t) (get_or rs i 0 ∷ newly_marked (drop (i + 1) rs) (slice_set t (get_or rs i 0) true))) h),
-    )
-
-pub step_new : (rs : List ℕ) (i : ℕ) (t : List Bool) → i < length rs → marked_at t (get_or rs i 0) ≡ false →
-    (with_marks (drop (i + 1) rs) (slice_set t (get_or rs i 0) true) ≡ with_marks (drop i rs) t) × (get_or rs i 0 ∷ newly_marked (drop (i + 1) rs) (slice_set t (get_or rs i 0) true) ≡ newly_marked (drop i rs) t)
-step_new rs i t l h =
-    let e : drop i rs ≡ get_or rs i 0 ∷ drop (i + 1) rs = drop_here rs i l in (
-      sym (ap (λ ds. with_marks ds t) e),
-      sym (ap (λ ds. newly_marked ds t) e ∙ ap (λ b. cond b (newly_marked (drop (i + 1) rs) t) (get_or rs i 0 ∷ newly_marked (drop (i + 1) rs) (slice_set t (get_or rs i 0) true))) h),
-    )
-
-pub deps_at : {S : Type 0} (dss : List (IndexSet ℕ S)) (i : ℕ) (v : IndexSet ℕ S) → i < length dss → v ≡ get_or dss i v → dependants_at (keys_of dss) i ≡ v.keys
-deps_at [] i v l e = absurd (omega arith)
-deps_at (d ∷ dss) zero v l e = ap (λ (x : IndexSet ℕ _). x.keys) (sym e)
-deps_at (d ∷ dss) (suc i) v l e = let k : i < length dss = omega arith in deps_at dss i v k e
-
-pub in_all : (ds : List ℕ) (n m : ℕ) → All (λ d. d < n) ds → is_in m ds ≡ true → m < n
-in_all [] n m h on = cc
-in_all (d ∷ ds) n m h on = go (m == d) refl on (in_all ds n m (λ k e l. h (suc k) e (omega (arith, l))))
+-- what is new among several is new at the first, or among the others
+pub newly_step : (d : ℕ) (ds : List ℕ) (t : List Bool) → newly_marked (d ∷ ds) t ≡ newly_marked (d ∷ []) t ++ newly_marked ds (slice_set t d true)
+newly_step d ds t = go (marked_at t d) refl
   where
-    go : (b : Bool) → (m == d) ≡ b → (b || is_in m ds) ≡ true → (is_in m ds ≡ true → m < n) → m < n
-    go true e q r = let z : 0 < suc (length ds) = omega arith in subst (λ x. x < n) (sym (eqb-true m d e)) (h 0 0 z)
-    go false e q r = r q
+    go : (b : Bool) → marked_at t d ≡ b → cond b (newly_marked ds t) (d ∷ newly_marked ds (slice_set t d true)) ≡ cond b [] (d ∷ []) ++ newly_marked ds (slice_set t d true)
+    go true e = ap (newly_marked ds) (sym (set_same t d e))
+    go false e = refl
 
-pub within_all : {S : Type 0} (dss : List (IndexSet ℕ S)) (n : ℕ) → All (λ (v : IndexSet ℕ S). All (λ d. d < n) v.keys) dss → (p m : ℕ) → is_in m (dependants_at (keys_of dss) p) ≡ true → m < n
-within_all [] n h p m on = cc
-within_all (d ∷ dss) n h zero m on = let z : 0 < suc (length dss) = omega arith in in_all d.keys n m (h 0 d z) on
-within_all (d ∷ dss) n h (suc p) m on = within_all dss n (λ k e l. h (suc k) e (omega (arith, l))) p m on
+-- what is left to mark after one more
+pub onward : (rs : List ℕ) (i : ℕ) (t u : List Bool) → i < length rs → u ≡ slice_set t (get_or rs i 0) true → with_marks (drop (i + 1) rs) u ≡ with_marks (drop i rs) t
+onward rs i t u l e = ap (with_marks (drop (i + 1) rs)) e ∙ sym (ap (λ ds. with_marks ds t) (drop_here rs i l))
 
-pub reached_within : (deps : List (List ℕ)) (t0 : List Bool) (len : ℕ) → ((p m : ℕ) → is_in m (dependants_at deps p) ≡ true → m < len) → {n m : ℕ} → Reached deps t0 n m → m < len
-reached_within deps t0 len h {n} {m} (first on off) = h n m on
-reached_within deps t0 len h {n} {m} (next {p = p} r on off) = h p m on
+pub onward_new : (rs : List ℕ) (i : ℕ) (t u : List Bool) (st st' : List ℕ) → i < length rs → u ≡ slice_set t (get_or rs i 0) true → st' ≡ st ++ newly_marked (get_or rs i 0 ∷ []) t →
+    st' ++ newly_marked (drop (i + 1) rs) u ≡ st ++ newly_marked (drop i rs) t
+onward_new rs i t u st st' l e f =
+    (λ j. f j ++ newly_marked (drop (i + 1) rs) (e j))
+    ∙ append_assoc st (newly_marked (get_or rs i 0 ∷ []) t) (newly_marked (drop (i + 1) rs) (slice_set t (get_or rs i 0) true))
+    ∙ ap (λ ys. st ++ ys) (sym (newly_step (get_or rs i 0) (drop (i + 1) rs) t) ∙ sym (ap (λ ds. newly_marked ds t) (drop_here rs i l)))
+
+-- ---- marks of what stands
+
+pub marks_len : (ms : List (Option Bool)) → length (marks_of ms) ≡ length ms
+marks_len [] = refl
+marks_len (m ∷ ms) = ap suc (marks_len ms)
+
+pub marks_set : (ms : List (Option Bool)) (i : ℕ) (x : Option Bool) → marks_of (slice_set ms i x) ≡ slice_set (marks_of ms) i (mark_in x)
+marks_set [] i x = refl
+marks_set (m ∷ ms) zero x = refl
+marks_set (m ∷ ms) (suc i) x = ap (λ ts. mark_in m ∷ ts) (marks_set ms i x)
+
+pub marks_at : (ms : List (Option Bool)) (i : ℕ) (x : Option Bool) → i < length ms → entry ms i ≡ x → marked_at (marks_of ms) i ≡ mark_in x
+marks_at [] i x l h = absurd (omega arith)
+marks_at (m ∷ ms) zero x l h = ap mark_in h
+marks_at (m ∷ ms) (suc i) x l h = let k : i < length ms = omega arith in marks_at ms i x k h
+
+-- what is gone counts as marked
+pub marks_gap : (ms : List (Option Bool)) (i : ℕ) → is_some (entry ms i) ≡ false → marks_of ms ≡ slice_set (marks_of ms) i true
+marks_gap [] i h = refl
+marks_gap (None ∷ ms) zero h = refl
+marks_gap (Some b ∷ ms) zero h = cc
+marks_gap (m ∷ ms) (suc i) h = ap (λ ts. mark_in m ∷ ts) (marks_gap ms i h)
+
+-- what isn't marked stands
+pub unmarked_stands : (ms : List (Option Bool)) (i : ℕ) → i < length ms → marked_at (marks_of ms) i ≡ false → is_some (entry ms i) ≡ true
+unmarked_stands [] i l h = absurd (omega arith)
+unmarked_stands (None ∷ ms) zero l h = cc
+unmarked_stands (Some b ∷ ms) zero l h = refl
+unmarked_stands (m ∷ ms) (suc i) l h = let k : i < length ms = omega arith in unmarked_stands ms i k h
+
+pub unmarked_few : (ms : List (Option Bool)) → unmarked_count (marks_of ms) ≤ standing_count (stands_of ms)
+unmarked_few [] = omega arith
+unmarked_few (None ∷ ms) = omega (arith, unmarked_few ms)
+unmarked_few (Some true ∷ ms) = omega (arith, unmarked_few ms)
+unmarked_few (Some false ∷ ms) = omega (arith, unmarked_few ms)
 
 -- ---- the invariant
 
@@ -213,9 +221,6 @@ or_left a b h = rw h refl
 or_right : (a b : Bool) → b ≡ true → (a || b) ≡ true
 or_right true b h = refl
 or_right false b h = h
-
-pub end_in : (m : ℕ) (xs : List ℕ) → is_in m (xs ++ m ∷ []) ≡ true
-end_in m xs = is_in_append m xs (m ∷ []) ∙ or_right (is_in m xs) (is_in m (m ∷ [])) (or_left (m == m) false (eq-eqb m m refl))
 
 abbrev Within : List (List ℕ) → ℕ → Type 0
 Within deps len = (p m : ℕ) → is_in m (dependants_at deps p) ≡ true → m < len
@@ -312,15 +317,6 @@ ended deps t0 n t i = record {
   ];
   only = i.only;
 }
-
--- a mark as it is read
-pub mark_read : (t : List Bool) (n i : ℕ) (b : Bool) → i ≡ n → n < length t → b ≡ get_or t i b → b ≡ marked_at t n
-mark_read t n i b e l h = h ∙ ap (λ j. get_or t j b) e ∙ go t n l
-  where
-    go : (ts : List Bool) (m : ℕ) → m < length ts → get_or ts m b ≡ marked_at ts m
-    go [] m k = absurd (omega arith)
-    go (x ∷ xs) zero k = refl
-    go (x ∷ xs) (suc m) k = let j : m < length xs = omega arith in go xs m j
 
 pub mark_past : (t : List Bool) (n : ℕ) → length t ≤ n → false ≡ marked_at t n
 mark_past [] n l = refl

@@ -4,7 +4,7 @@ use Rattle.std.specs.Prelude.{slice_set}
 use Rattle.sig_marks.specs.Tables.{depends, marked_at}
 use Rattle.sig_marks.proofs.LinkedSets.{suc_suc, suc_zero, zero_suc}
 pub use Rattle.sig_marks.proofs.LinkedSets.{all_in}
-pub use Rattle.sig_marks.proofs.PushedMarks.{mark_past}
+pub use Rattle.sig_marks.proofs.PushedMarks.{mark_past, set_more}
 
 -- one mark is set or taken
 pub mark_set : (t : List Bool) (n m : ℕ) (b : Bool) → n < length t → marked_at (slice_set t n b) m ≡ (if n == m then b else marked_at t m)
@@ -13,6 +13,13 @@ mark_set (x ∷ xs) zero zero b l = refl
 mark_set (x ∷ xs) zero (suc m) b l = ap (λ q. cond q b (marked_at xs m)) (sym (zero_suc m))
 mark_set (x ∷ xs) (suc n) zero b l = ap (λ q. cond q b x) (sym (suc_zero n))
 mark_set (x ∷ xs) (suc n) (suc m) b l = let k : n < length xs = omega arith in mark_set xs n m b k ∙ ap (λ q. cond q b (marked_at xs m)) (sym (suc_suc n m))
+
+pub mark_other : (t : List Bool) (n m : ℕ) (b : Bool) → (n == m) ≡ false → marked_at (slice_set t n b) m ≡ marked_at t m
+mark_other [] n m b e = refl
+mark_other (x ∷ xs) zero zero b e = cc
+mark_other (x ∷ xs) zero (suc m) b e = refl
+mark_other (x ∷ xs) (suc n) zero b e = refl
+mark_other (x ∷ xs) (suc n) (suc m) b e = mark_other xs n m b (sym (suc_suc n m) ∙ e)
 
 pub mark_set_len : (t : List Bool) (n : ℕ) (b : Bool) → length (slice_set t n b) ≡ length t
 mark_set_len [] n b = refl

@@ -1,39 +1,71 @@
--- Sets of dependants, and what pushing marks does to them, step by step.
-use Rattle.std.specs.Prelude.{◌≡◌, ℕ, zero, suc, ◌+◌, ◌≤◌, ◌==◌, ◌&&◌, Bool, true, false, List, [], ◌∷◌, length, map, if◌then◌else◌, slice_set}
+-- Sets of dependants and marks of the signals that stand, and what pushing marks does to them, step by step.
+use Rattle.std.specs.Prelude.{◌≡◌, ℕ, ◌+◌, ◌<◌, ◌≤◌, ◌==◌, ◌&&◌, ◌⊎◌, Bool, true, false, List, [], ◌∷◌, length, map, if◌then◌else◌, slice_set, Option, Some, None, is_some}
 use Rattle.indexmap.specs.IndexSet.{IndexSet, spare}
 use Rattle.signal_model.specs.Standing.{is_in}
+use Rattle.sig_store.specs.Stored.{entry}
 use Rattle.sig_marks.specs.Tables.{MarkTable, depends, marked_at}
 
+-- which entries stand
+abbrev pub stands_of : {A : Type 0} → List (Option A) → List Bool
+stands_of {A} es = map (λ (e : Option A). is_some e) es
+
+-- how many do
+abbrev pub standing_count : List Bool → ℕ
+standing_count [] = 0
+standing_count (b ∷ bs) = (if b then 1 else 0) + standing_count bs
+
+-- the members of a set; what is gone has none
+abbrev pub keys_in : {S : Type 0} → Option (IndexSet ℕ S) → List ℕ
+keys_in None = []
+keys_in (Some s) = s.keys
+
 -- the members of each set
-abbrev pub keys_of : {S : Type 0} → List (IndexSet ℕ S) → List (List ℕ)
-keys_of {S} ss = map (λ (s : IndexSet ℕ S). s.keys) ss
+abbrev pub keys_of : {S : Type 0} → List (Option (IndexSet ℕ S)) → List (List ℕ)
+keys_of {S} ss = map (λ (s : Option (IndexSet ℕ S)). keys_in s) ss
 
 -- whether d is in the set of m
-abbrev pub depends_in : {S : Type 0} → List (IndexSet ℕ S) → ℕ → ℕ → Bool
+abbrev pub depends_in : {S : Type 0} → List (Option (IndexSet ℕ S)) → ℕ → ℕ → Bool
 depends_in ss m d = depends (keys_of ss) m d
 
--- how many more fit into the set of m without memory
-abbrev pub spare_at : {S : Type 0} → List (IndexSet ℕ S) → ℕ → ℕ
-spare_at [] m = 0
-spare_at (s ∷ ss) zero = spare s
-spare_at (s ∷ ss) (suc m) = spare_at ss m
+-- how many more fit into a set without memory; what is gone needs none for one more
+abbrev pub spare_in : {S : Type 0} → Option (IndexSet ℕ S) → ℕ
+spare_in None = 1
+spare_in (Some s) = spare s
+
+-- how many more fit into the set of m
+abbrev pub spare_at : {S : Type 0} → List (Option (IndexSet ℕ S)) → ℕ → ℕ
+spare_at ss m = spare_in (entry ss m)
+
+-- a reader is in the set of m, or it fits
+abbrev pub HasRoom : {S : Type 0} → List (Option (IndexSet ℕ S)) → ℕ → ℕ → Type 0
+HasRoom ss reader m = (depends_in ss m reader ≡ true) ⊎ (0 < spare_at ss m)
 
 -- a reader is taken out of the sets of these
-pub record Unlinks {S : Type 0} (old new : List (IndexSet ℕ S)) (names : List ℕ) (reader : ℕ) : Type 0 where
-  pub len : length new ≡ length old
+pub record Unlinks {S : Type 0} (old new : List (Option (IndexSet ℕ S))) (names : List ℕ) (reader : ℕ) : Type 0 where
+  pub stands : stands_of new ≡ stands_of old
   pub off : (m d : ℕ) → depends_in new m d ≡ (if reader == d && is_in m names then false else depends_in old m d)
   pub room : (m : ℕ) → spare_at old m ≤ spare_at new m
 
--- it is put into the sets of these
-pub record Links {S : Type 0} (old new : List (IndexSet ℕ S)) (names : List ℕ) (reader : ℕ) : Type 0 where
-  pub len : length new ≡ length old
-  pub on : (m d : ℕ) → depends_in new m d ≡ (if reader == d && is_in m names then true else depends_in old m d)
+-- it is put into the sets of those of these that stand
+pub record Links {S : Type 0} (old new : List (Option (IndexSet ℕ S))) (names : List ℕ) (reader : ℕ) : Type 0 where
+  pub stands : stands_of new ≡ stands_of old
+  pub on : (m d : ℕ) → is_some (entry old m) ≡ true → depends_in new m d ≡ (if reader == d && is_in m names then true else depends_in old m d)
+  pub few : (m d : ℕ) → depends_in new m d ≡ true → (reader ≡ d) ⊎ (depends_in old m d ≡ true)
 
 -- nothing but room is made
-pub record Makes {S : Type 0} (old new : List (IndexSet ℕ S)) : Type 0 where
+pub record Makes {S : Type 0} (old new : List (Option (IndexSet ℕ S))) : Type 0 where
   pub keys : keys_of new ≡ keys_of old
-  pub len : length new ≡ length old
+  pub stands : stands_of new ≡ stands_of old
   pub room : (m : ℕ) → spare_at old m ≤ spare_at new m
+
+-- a mark; what is gone counts as marked
+abbrev pub mark_in : Option Bool → Bool
+mark_in None = true
+mark_in (Some b) = b
+
+-- the marks
+abbrev pub marks_of : List (Option Bool) → List Bool
+marks_of ms = map mark_in ms
 
 -- marks once each of these is marked
 abbrev pub with_marks : List ℕ → List Bool → List Bool
@@ -51,5 +83,14 @@ unmarked_count [] = 0
 unmarked_count (t ∷ ts) = (if t then 0 else 1) + unmarked_count ts
 
 -- the table that sets and marks make
-abbrev pub table_of : {S : Type 0} → List (IndexSet ℕ S) → List Bool → MarkTable
-table_of ss t = record { dependants = keys_of ss; marked = t }
+abbrev pub table_of : {S : Type 0} → List (Option (IndexSet ℕ S)) → List (Option Bool) → MarkTable
+table_of ss ms = record { dependants = keys_of ss; marked = marks_of ms; stands = stands_of ms }
+
+-- What holds of sets and marks, of the count of signals that stand, and of the stack by which marks are pushed: a signal that stands has both,
+-- dependants were given, and the stack has room for all that stand.
+pub record IsMarkTable {S : Type 0} (ss : List (Option (IndexSet ℕ S))) (ms : List (Option Bool)) (live : ℕ) (stack : List ℕ) (capacity : ℕ) : Type 0 where
+  pub alike : stands_of ss ≡ stands_of ms
+  pub within : (m d : ℕ) → depends_in ss m d ≡ true → d < length ms
+  pub count : standing_count (stands_of ms) ≡ live
+  pub empty : stack ≡ []
+  pub room : live ≤ capacity

@@ -1,11 +1,13 @@
 -- The dependants of signals and their pushed marks, by the signals' places.
-use Rattle.std.specs.Prelude.{◌≡◌, ℕ, zero, suc, ◌<◌, ◌≤◌, ◌==◌, ◌&&◌, Bool, true, false, List, [], ◌∷◌, ◌++◌, length, ◌⊎◌, if◌then◌else◌, slice_set}
+use Rattle.std.specs.Prelude.{◌≡◌, ℕ, zero, suc, ◌==◌, ◌&&◌, Bool, true, false, List, [], ◌∷◌, ◌++◌, length, ◌⊎◌, if◌then◌else◌, slice_set}
 use Rattle.signal_model.specs.Standing.{is_in}
 
--- the dependants of the signal at each place, and whether it is marked
+-- The dependants of each signal by its number, whether it is marked, and whether it still stands. What is gone has no dependants, and counts
+-- as marked: no marking goes on from it.
 pub record MarkTable : Type 0 where
   pub dependants : List (List ℕ)
   pub marked : List Bool
+  pub stands : List Bool
 
 -- the dependants at a place; past the end there are none
 abbrev pub dependants_at : List (List ℕ) → ℕ → List ℕ
@@ -23,18 +25,26 @@ marked_at [] n = false
 marked_at (t ∷ ts) zero = t
 marked_at (t ∷ ts) (suc n) = marked_at ts n
 
--- a place more, with its mark and without dependants
+-- whether a signal stands at a place; past the end none does
+abbrev pub stands_at : List Bool → ℕ → Bool
+stands_at ss n = marked_at ss n
+
+-- a signal more, with its mark and without dependants
 abbrev pub with_place : MarkTable → Bool → MarkTable
-with_place t b = record { dependants = t.dependants ++ [] ∷ []; marked = t.marked ++ b ∷ [] }
+with_place t b = record { dependants = t.dependants ++ [] ∷ []; marked = t.marked ++ b ∷ []; stands = t.stands ++ true ∷ [] }
 
 -- a place is marked, or isn't any more
 abbrev pub with_mark : MarkTable → ℕ → Bool → MarkTable
 with_mark t n b = record t { marked = slice_set t.marked n b }
 
--- a reader has these sources in place of the earlier ones
-pub record Relinks (old new : List (List ℕ)) (sources reads : List ℕ) (reader : ℕ) : Type 0 where
+-- the mark of a signal that stands is taken
+abbrev pub without_mark : MarkTable → ℕ → MarkTable
+without_mark t n = if stands_at t.stands n then with_mark t n false else t
+
+-- a reader has these sources in place of the earlier ones, of which those that stand know of it
+pub record Relinks (old new : List (List ℕ)) (stands : List Bool) (sources reads : List ℕ) (reader : ℕ) : Type 0 where
   pub len : length new ≡ length old
-  pub now : (m d : ℕ) → depends new m d ≡ (if reader == d && is_in m reads then true else (if reader == d && is_in m sources then false else depends old m d))
+  pub now : (m d : ℕ) → stands_at stands m ≡ true → depends new m d ≡ (if reader == d && is_in m reads then true else (if reader == d && is_in m sources then false else depends old m d))
 
 -- a signal is no dependant of its sources any more, and has none
 pub record Drops (old new : List (List ℕ)) (sources : List ℕ) (n : ℕ) : Type 0 where
@@ -60,10 +70,3 @@ pub record Spreads (dss : List (List ℕ)) (t u : List Bool) (n : ℕ) : Type 0 
 -- n is marked, and then its dependants are; where n was marked already nothing changes
 abbrev pub Pushes : List (List ℕ) → List Bool → List Bool → ℕ → Type 0
 Pushes dss t u n = ((marked_at t n ≡ true) × (u ≡ t)) ⊎ Spreads dss (slice_set t n true) u n
-
--- What holds of a table and of the stack by which marks are pushed: each place has both, dependants are places, and the stack has room for all.
-pub record IsMarkTable (t : MarkTable) (stack : List ℕ) (capacity : ℕ) : Type 0 where
-  pub sizes : length t.dependants ≡ length t.marked
-  pub within : (m d : ℕ) → depends t.dependants m d ≡ true → d < length t.marked
-  pub empty : stack ≡ []
-  pub room : length t.marked ≤ capacity

@@ -1,22 +1,25 @@
 // The dependants and the marks of a store's signals.
-ghost use Rattle.std.specs.Prelude.{◌≡◌, ◌+◌, ◌<◌, ◌^◌, [], length, true, false, vec_len, vec_capacity, ◌++◌, ◌∷◌, slice_get, IfSome, OnOk, OnErr};
+ghost use Rattle.std.specs.Prelude.{◌≡◌, ◌+◌, ◌<◌, ◌^◌, [], length, true, false, vec_capacity, slice_get, slice_set, IfSome, OnOk, OnErr};
 ghost use Rattle.std.specs.List.{All};
 ghost use Rattle.signal_model.specs.Laws.{AreDistinct};
-ghost use Rattle.sig_marks.specs.Tables.{dependants_at, marked_at, with_mark, with_place, Drops, Pushes, Relinks, Spreads};
+ghost use Rattle.sig_marks.specs.Tables.{dependants_at, marked_at, with_mark, with_place, without_mark, Drops, Pushes, Relinks, Spreads};
 
 use crate::linking::{drop_links, reader_at, relink};
-use crate::pushing::spread;
+use crate::pushing::{drop_mark, is_marked_in, mark_one, spread, unmark_one};
 use indexmap::IndexSet;
 use sig_base::{NoMemory, NodeId};
+use sig_store::Store;
 use std::alloc::Global;
 use std::marker::Model;
 
-/// The dependants of each signal, and whether it is marked, by the signals' places. A mark is pushed to all that depend on a signal.
+/// The dependants of each signal that stands, and whether it is marked, by the signals' numbers. A mark is pushed to all that depend on a
+/// signal. What is gone takes no memory.
 pub struct Marks {
     alloc: Global,
-    dependants: Vec<IndexSet<usize>>,
-    marked: Vec<bool>,
-    stack: Vec<usize>,
+    dependants: Store<IndexSet<u128>>,
+    marked: Store<bool>,
+    live: usize,
+    stack: Vec<u128>,
 }
 
 impl Drop for Marks {
@@ -25,6 +28,7 @@ impl Drop for Marks {
             alloc: _,
             dependants: _,
             marked: _,
+            live: _,
             stack: _,
         } = self;
     }
@@ -32,62 +36,50 @@ impl Drop for Marks {
 
 impl Model for Marks {
     ghost use Rattle.std.specs.Prelude.{vec_capacity};
-    ghost use Rattle.sig_marks.specs.Tables.{IsMarkTable, MarkTable};
-    ghost use Rattle.sig_marks.specs.Sets.{table_of};
+    ghost use Rattle.sig_marks.specs.Tables.{MarkTable};
+    ghost use Rattle.sig_marks.specs.Sets.{table_of, IsMarkTable};
 
     ghost Value = { MarkTable };
 
-    ghost view = { λ m. table_of m.dependants.items m.marked.items };
+    ghost view = { λ m. table_of m.dependants.entries m.marked.entries };
 
-    ghost invariant = { λ m. IsMarkTable (table_of m.dependants.items m.marked.items) m.stack.items (vec_capacity m.stack) };
-}
-
-// Puts last, in room that is there.
-fn push_in<T: Drop>(all: &mut Vec<T>, one: T)
-    requires { vec_len all.old < vec_capacity all.old }
-    ensures { all.new.items ≡ all.old.items ++ one ∷ [] }
-{
-    match all.push(one) {
-        Ok(_) => {}
-        Err(_) => unreachable!(),
-    }
+    ghost invariant = { λ m. IsMarkTable m.dependants.entries m.marked.entries m.live m.stack.items (vec_capacity m.stack) };
 }
 
 impl Marks {
-    /// No places.
+    /// No signals.
     pub fn new(alloc: Global) -> Marks
-        ensures { result ≡ record { dependants = []; marked = [] } }
+        ensures { result ≡ record { dependants = []; marked = []; stands = [] } }
     {
         Marks {
             alloc,
-            dependants: Vec::new(alloc),
-            marked: Vec::new(alloc),
+            dependants: Store::new(alloc),
+            marked: Store::new(alloc),
+            live: 0,
             stack: Vec::new(alloc),
         }
     }
 
-    /// A place more at the end, marked or not, without dependants. Without memory all is as before.
+    /// A signal more, marked or not, without dependants. Without memory all is as before.
     pub fn add(&mut self, marked: bool) -> Result<(), NoMemory>
+        requires { length self.old.marked + 1 < 2 ^ 128 }
         ensures after { OnOk result (self.new ≡ with_place self.old marked) }
         ensures err { OnErr result (self.new ≡ self.old) }
     {
         self.dependants.reserve(1)?;
         self.marked.reserve(1)?;
-        self.stack.reserve(self.marked.len() + 1)?;
-        push_in(&mut self.dependants, IndexSet::new(self.alloc));
-        push_in(&mut self.marked, marked);
+        self.stack.reserve(self.live + 1)?;
+        self.dependants.push(IndexSet::new(self.alloc));
+        self.marked.push(marked);
+        self.live += 1;
         Ok(())
     }
 
-    /// Whether the signal at a place is marked; past the last place none is.
+    /// Whether a signal is marked, as what is gone counts; past the last one none is.
     pub fn is_marked(&self, id: NodeId) -> bool
         ensures { result ≡ marked_at self.now.marked id }
     {
-        if id.number() < self.marked.len() as u128 {
-            self.marked[id.number() as usize]
-        } else {
-            false
-        }
+        is_marked_in(&self.marked, id.number())
     }
 
     /// The dependant of a signal at a place, none past the last one; each has one place, and where there is one, the next place is a
@@ -97,28 +89,26 @@ impl Marks {
         ensures once { AreDistinct (dependants_at self.now.dependants id) }
         ensures next { IfSome result (λ d. place + 1 < 2 ^ 64) }
     {
-        if id.number() >= self.dependants.len() as u128 {
-            return None;
+        match self.dependants.get(id.number()) {
+            Some(readers) => reader_at(readers, place),
+            None => None,
         }
-        reader_at(&self.dependants[id.number() as usize], place)
     }
 
-    // Marks one signal.
-    fn mark(&mut self, id: NodeId)
+    // Marks one signal, and tells whether it was marked before.
+    fn mark(&mut self, id: NodeId) -> bool
         requires { id < length self.old.marked }
-        ensures { self.new ≡ with_mark self.old id true }
+        ensures after { self.new ≡ with_mark self.old id true }
+        ensures was { result ≡ marked_at self.old.marked id }
     {
-        let _count = self.marked.len();
-        self.marked[id.number() as usize] = true;
+        mark_one(&mut self.marked, id.number())
     }
 
-    /// Takes the mark of one signal.
+    /// Takes the mark of a signal that stands.
     pub fn unmark(&mut self, id: NodeId)
-        requires { id < length self.old.marked }
-        ensures { self.new ≡ with_mark self.old id false }
+        ensures { self.new ≡ without_mark self.old id }
     {
-        let _count = self.marked.len();
-        self.marked[id.number() as usize] = false;
+        unmark_one(&mut self.marked, id.number());
     }
 
     /// Marks the dependants of a signal, theirs, and so on; it stops at what is marked already. It takes no memory.
@@ -126,13 +116,14 @@ impl Marks {
         requires { id < length self.old.marked }
         ensures marks { Spreads self.old.dependants self.old.marked self.new.marked id }
         ensures dependants { self.new.dependants ≡ self.old.dependants }
+        ensures stands { self.new.stands ≡ self.old.stands }
     {
-        let _count = self.marked.len();
+        let _count = self.marked.made();
         spread(
             &self.dependants,
             &mut self.marked,
             &mut self.stack,
-            id.number() as usize,
+            id.number(),
         );
     }
 
@@ -141,15 +132,15 @@ impl Marks {
         requires { id < length self.old.marked }
         ensures marks { Pushes self.old.dependants self.old.marked self.new.marked id }
         ensures dependants { self.new.dependants ≡ self.old.dependants }
+        ensures stands { self.new.stands ≡ self.old.stands }
     {
-        if self.is_marked(id) {
+        if self.mark(id) {
             return;
         }
-        self.mark(id);
         self.spread(id);
     }
 
-    /// Gives a reader these sources in place of the earlier ones. Without memory all is as before.
+    /// Gives a reader these sources in place of the earlier ones; those that are gone don't note it. Without memory all is as before.
     pub fn relink(
         &mut self,
         sources: &[NodeId],
@@ -159,28 +150,27 @@ impl Marks {
         requires sources { All (λ n. n < length self.old.marked) sources.now }
         requires reads { All (λ n. n < length self.old.marked) reads.now }
         requires reader { reader < length self.old.marked }
-        ensures after { OnOk result (Relinks self.old.dependants self.new.dependants sources.now reads.now reader) }
+        ensures after { OnOk result (Relinks self.old.dependants self.new.dependants self.old.stands sources.now reads.now reader) }
         ensures marks { self.new.marked ≡ self.old.marked }
+        ensures stands { self.new.stands ≡ self.old.stands }
         ensures err { OnErr result (self.new ≡ self.old) }
     {
-        let _count = self.marked.len();
-        relink(
-            &mut self.dependants,
-            sources,
-            reads,
-            reader.number() as usize,
-        )?;
+        let _count = self.marked.made();
+        relink(&mut self.dependants, sources, reads, reader.number())?;
         Ok(())
     }
 
-    /// Takes a signal out of the dependants of its sources, and takes its own dependants away. It takes no memory.
+    /// Takes a signal out of the dependants of its sources, and takes its own dependants and its mark away, so that nothing is left of it.
+    /// It takes no memory.
     pub fn take_out(&mut self, id: NodeId, sources: &[NodeId])
         requires place { id < length self.old.marked }
         requires sources { All (λ n. n < length self.old.marked) sources.now }
         ensures after { Drops self.old.dependants self.new.dependants sources.now id }
-        ensures marks { self.new.marked ≡ self.old.marked }
+        ensures marks { self.new.marked ≡ slice_set self.old.marked id true }
+        ensures stands { self.new.stands ≡ slice_set self.old.stands id false }
     {
-        let _count = self.marked.len();
-        drop_links(&mut self.dependants, sources, id.number() as usize);
+        let _count = self.marked.made();
+        drop_links(&mut self.dependants, sources, id.number());
+        drop_mark(&mut self.marked, &mut self.live, id.number());
     }
 }

@@ -1,18 +1,18 @@
 -- Dependants and marks after each edit of a graph's nodes.
-use Rattle.std.proofs.Common.{◌≡◌, ℕ, ◌+◌, ◌<◌, ◌==◌, ◌||◌, ◌&&◌, not, Bool, true, false, cond, if◌then◌else◌, List, [], ◌∷◌, ◌++◌, length, length-append, map, Option, Some, None, refl, sym, ap, ◌∙◌, subst, arith, ◌⊎◌, inl, inr, true≢false}
+use Rattle.std.proofs.Common.{◌≡◌, ℕ, zero, suc, ◌+◌, ◌<◌, ◌==◌, ◌||◌, ◌&&◌, not, Bool, true, false, cond, if◌then◌else◌, List, [], ◌∷◌, ◌++◌, length, length-append, map, Option, Some, None, refl, sym, ap, ◌∙◌, subst, arith, ◌⊎◌, inl, inr, true≢false}
 use Rattle.std.specs.Prelude.{slice_set, is_some}
 use Rattle.std.proofs.lemmas.Bool.{eqb-true, eq-eqb}
 use Rattle.sig_base.specs.declared.value.Value.{Value}
 use Rattle.sig_base.specs.declared.value.Outcome.{Outcome}
 use Rattle.sig_base.specs.declared.value.Known.{Known}
 use Rattle.signal_model.specs.Recipes.{Recipe}
-use Rattle.signal_model.specs.Standing.{Signals, Cell, Computed, IsCell, IsComputed, is_computed, is_in, is_there, standing}
+use Rattle.signal_model.specs.Standing.{Signals, Stands, Cell, Computed, IsCell, IsComputed, IsGone, is_computed, is_in, is_there, standing}
 use Rattle.signal_model.specs.Memos.{Memo, Memos, Entry, entry_at, holds_cycle, is_cycle, memo_is_cycle, must_run, keeps, named_now, source_names, sources_in, sources_of}
 use Rattle.signal_model.proofs.Shared.{tested}
-use Rattle.sig_marks.specs.Tables.{Drops, MarkTable, Pushes, Relinks, Spreads, depends, marked_at, with_place}
+use Rattle.sig_marks.specs.Tables.{Drops, MarkTable, Pushes, Relinks, Spreads, depends, marked_at, stands_at, with_place}
 use Rattle.std.specs.List.{All}
 use Rattle.sig_nodes.specs.Search.{is_seated, search_unmarks, some_marked_at, some_seated, stays_marked, stop_unmarks_by, Reaches}
-use Rattle.sig_marks.proofs.Shared.{all_in, depends_end, depends_past, mark_end, mark_past, mark_set, mark_set_len}
+use Rattle.sig_marks.proofs.Shared.{all_in, depends_end, depends_past, mark_end, mark_other, mark_past, mark_set, mark_set_len, set_more}
 use Rattle.mark_laws.proofs.Shared.{marked_spread}
 use Rattle.mark_laws.specs.Marked.{AreMarked, HasSpread, IsSearched, IsUnmarked, IsUnused, ended, relinked, run_unmarks, some_marked, stop_unmarks, unlinked, without_marks}
 use Rattle.sig_nodes.specs.declared.node.Node.{Node}
@@ -20,7 +20,7 @@ use Rattle.sig_nodes.specs.declared.node.Body.{Body}
 use Rattle.sig_nodes.specs.declared.node.Body.TheVariants.{Gone, Cell as CellBody, Computed as ComputedBody}
 use Rattle.sig_nodes.specs.States.{GoesOn, State, is_computing, with_disposal, with_kept_run, with_progress}
 use Rattle.sig_nodes.specs.Seats.{Seating, holder}
-use Rattle.sig_nodes.specs.Nodes.{IsFresh, body_at, changed_at, change_at, entries_of, entry_of, gone_node, is_cell_body, is_computed_body, is_live_body, known_body, known_node, memo_body, memos_of, new_node, rewired_node, run_node, seat_at, set_node, signals_of, state_of, stands_of, with_new}
+use Rattle.sig_nodes.specs.Nodes.{IsFresh, body_at, changed_at, change_at, entries_of, entry_of, gone_node, is_cell_body, is_computed_body, is_live_body, known_body, known_node, memo_body, memos_of, new_node, rewired_node, run_node, seat_at, set_node, signals_of, state_of, stands_of, with_body_known, with_body_memo, with_body_recipe, with_body_value, with_new}
 use Rattle.sig_nodes.proofs.KeptFinds.{known_found}
 use Rattle.sig_nodes.proofs.Parts.{entry_found, memo_found, progress_found, stands}
 use Rattle.sig_nodes.proofs.Edits.{body_changed, body_past, changed_length, gone_state, known_state, memo_made, new_state, rewired_state, run_state, set_state}
@@ -28,7 +28,7 @@ use Rattle.sig_nodes.proofs.Holding.{computed_below, computed_here, computed_liv
 use Rattle.sig_nodes.proofs.ReachedSeats.{named_holder, seated_at, seated_is, HasSeated}
 use Rattle.sig_nodes.proofs.Reaching.{clear_end}
 use Rattle.sig_nodes.proofs.Searching.{calm_run}
-use Rattle.sig_nodes.specs.Places.{Holds, IsGraph, KeepsMarks}
+use Rattle.sig_nodes.specs.Places.{Holds, IsGraph, KeepsMarks, KeepsStanding}
 use Rattle.sig_nodes.specs.StateMarks.{AreStateMarks}
 use Rattle.sig_nodes.proofs.MarkedStates.{begin_law, cell_law, computed_law, dispose_law, keep_law, onward_law, rewire_law, set_law, stop_law, turned, unmark_law}
 
@@ -138,13 +138,58 @@ pushed_is xs gen t us n live h (inr s) = record {
     by m d off on q (inl e) = s.start d (ap (λ z. depends t.dependants z d) (eqb-true n m e) ∙ q)
     by m d off on q (inr e) = s.on m d (set m ∙ ap (λ b. cond b true (marked_at t.marked m)) e ∙ off) on q
 
+-- ---- what stands among the marks
+
+-- after an edit of a node what lives lived before
+kept_standing : (g : Node → Node) (f : Body → Body) (n : ℕ) (xs : List Node) (ss : List Bool) → ((x : Node) → (g x).body ≡ f x.body) → f Gone ≡ Gone → KeepsStanding xs ss → KeepsStanding (changed_at g n xs) ss
+kept_standing g f n xs ss same gone h = record {
+  size = h.size ∙ sym (changed_length g n xs);
+  live = λ m q. h.live m (go m (n == m) (sym (ap is_live_body (body_changed g f n m xs same gone)) ∙ q));
+}
+  where
+    lived : (b : Body) → is_live_body (f b) ≡ true → is_live_body b ≡ true
+    lived Gone q = ap is_live_body (sym gone) ∙ q
+    lived (CellBody v r) q = refl
+    lived (ComputedBody c) q = refl
+
+    go : (m : ℕ) (b : Bool) → is_live_body (if b then f (body_at xs m) else body_at xs m) ≡ true → is_live_body (body_at xs m) ≡ true
+    go m true q = lived (body_at xs m) q
+    go m false q = q
+
+-- after a disposal it isn't the signal that is gone
+gone_standing : (n : ℕ) (xs : List Node) (ss : List Bool) → KeepsStanding xs ss → KeepsStanding (changed_at gone_node n xs) (slice_set ss n false)
+gone_standing n xs ss h = record {
+  size = mark_set_len ss n false ∙ h.size ∙ sym (changed_length gone_node n xs);
+  live = λ m q. go m (tested (n == m)) (sym (ap is_live_body (body_changed gone_node (λ b. Gone) n m xs (λ x. refl) refl)) ∙ q);
+}
+  where
+    go : (m : ℕ) → ((n == m) ≡ true) ⊎ ((n == m) ≡ false) → is_live_body (if n == m then Gone else body_at xs m) ≡ true → stands_at (slice_set ss n false) m ≡ true
+    go m (inl e) q = absurd (true≢false (sym q ∙ ap (λ b. is_live_body (if b then Gone else body_at xs m)) e))
+    go m (inr e) q = mark_other ss n m false e ∙ h.live m (sym (ap (λ b. is_live_body (if b then Gone else body_at xs m)) e) ∙ q)
+
+-- what is made stands
+new_standing : (xs : List Node) (ss : List Bool) (x : Node) → KeepsStanding xs ss → KeepsStanding (xs ++ x ∷ []) (ss ++ true ∷ [])
+new_standing xs ss x h = record {
+  size = length-append ss (true ∷ []) ∙ ap (λ z. z + 1) h.size ∙ sym (length-append xs (x ∷ []));
+  live = λ n q. go xs ss n h.size h.live q;
+}
+  where
+    go : (ys : List Node) (ts : List Bool) (n : ℕ) → length ts ≡ length ys → ((k : ℕ) → is_live_body (body_at ys k) ≡ true → stands_at ts k ≡ true) → is_live_body (body_at (ys ++ x ∷ []) n) ≡ true → stands_at (ts ++ true ∷ []) n ≡ true
+    go [] [] zero e l q = refl
+    go [] [] (suc n) e l q = absurd (true≢false (sym q))
+    go [] (t ∷ ts) n e l q = absurd (omega (arith, e))
+    go (y ∷ ys) [] n e l q = absurd (omega (arith, e))
+    go (y ∷ ys) (t ∷ ts) zero e l q = l zero q
+    go (y ∷ ys) (t ∷ ts) (suc n) e l q = let k : length ts ≡ length ys = omega (arith, e) in go ys ts n k (λ j r. l (suc j) r) q
+
 -- ---- each edit
 
 -- no nodes
-pub none_kept : KeepsMarks [] 0 (record { dependants = []; marked = [] })
+pub none_kept : KeepsMarks [] 0 (record { dependants = []; marked = []; stands = [] })
 none_kept = record {
   links = refl;
   flags = refl;
+  standing = record { size = refl; live = λ n q. absurd (true≢false (sym q)) };
   marked = record {
     links = λ m d s. absurd (true≢false (sym s));
     clean = λ n s off. absurd (true≢false (sym s));
@@ -155,20 +200,21 @@ none_kept = record {
 
 -- a set
 pub set_kept : (v : Value) (n : ℕ) (xs : List Node) (gen : ℕ) (t : MarkTable) (us : List Bool) → is_cell_body (body_at xs n) ≡ true → Spreads t.dependants t.marked us n →
-    KeepsMarks xs gen t → KeepsMarks (changed_at (set_node v) n xs) (gen + 1) (record { dependants = t.dependants; marked = us })
+    KeepsMarks xs gen t → KeepsMarks (changed_at (set_node v) n xs) (gen + 1) (record { dependants = t.dependants; marked = us; stands = t.stands })
 set_kept v n xs gen t us cell spread h =
     let c : (c : Cell) × (standing (signals_of xs) n ≡ IsCell c) = cell_stands xs n cell in
     let len : length (changed_at (set_node v) n xs) ≡ length xs = changed_length (set_node v) n xs in
     record {
       links = h.links ∙ sym len;
       flags = spread.len ∙ h.flags ∙ sym len;
+      standing = kept_standing (set_node v) (λ b. with_body_value b v) n xs t.stands (λ x. refl) refl h.standing;
       marked = subst (λ (s : State). AreStateMarks s (depends t.dependants) (marked_at us)) (sym (set_state xs n v gen 0 0))
           (set_law (state_of xs gen 0 0) (depends t.dependants) (marked_at t.marked) (marked_at us) n c.0 v c.1 (spread_is (signals_of xs) t.dependants t.marked us n spread) h.marked);
     }
 
 -- a rewiring
 pub rewired_kept : (r : Recipe) (n : ℕ) (xs : List Node) (gen : ℕ) (t : MarkTable) (us : List Bool) → is_computed_body (body_at xs n) ≡ true → Pushes t.dependants t.marked us n →
-    KeepsMarks xs gen t → KeepsMarks (changed_at (rewired_node r) n xs) (gen + 1) (record { dependants = t.dependants; marked = us })
+    KeepsMarks xs gen t → KeepsMarks (changed_at (rewired_node r) n xs) (gen + 1) (record { dependants = t.dependants; marked = us; stands = t.stands })
 rewired_kept r n xs gen t us live pushes h =
     let c : (c : Computed) × (standing (signals_of xs) n ≡ IsComputed c) = computed_stands xs n live in
     let len : length (changed_at (rewired_node r) n xs) ≡ length xs = changed_length (rewired_node r) n xs in
@@ -176,13 +222,14 @@ rewired_kept r n xs gen t us live pushes h =
     record {
       links = h.links ∙ sym len;
       flags = p.len ∙ h.flags ∙ sym len;
+      standing = kept_standing (rewired_node r) (λ b. with_body_recipe b r) n xs t.stands (λ x. refl) refl h.standing;
       marked = subst (λ (s : State). AreStateMarks s (depends t.dependants) (marked_at us)) (sym (rewired_state xs n r gen 0 0))
           (rewire_law (state_of xs gen 0 0) (depends t.dependants) (marked_at t.marked) (marked_at us) n c.0 r c.1 p.spread p.here h.marked);
     }
 
 -- a beginning
 pub begun_kept : (n : ℕ) (xs : List Node) (gen : ℕ) (t : MarkTable) (us : List Bool) → is_computed_body (body_at xs n) ≡ true → Pushes t.dependants t.marked us n →
-    KeepsMarks xs gen t → KeepsMarks (changed_at (known_node (Some [])) n xs) gen (record { dependants = t.dependants; marked = us })
+    KeepsMarks xs gen t → KeepsMarks (changed_at (known_node (Some [])) n xs) gen (record { dependants = t.dependants; marked = us; stands = t.stands })
 begun_kept n xs gen t us live pushes h =
     let c : (c : Computed) × (standing (signals_of xs) n ≡ IsComputed c) = computed_stands xs n live in
     let len : length (changed_at (known_node (Some [])) n xs) ≡ length xs = changed_length (known_node (Some [])) n xs in
@@ -190,6 +237,7 @@ begun_kept n xs gen t us live pushes h =
     record {
       links = h.links ∙ sym len;
       flags = p.len ∙ h.flags ∙ sym len;
+      standing = kept_standing (known_node (Some [])) (λ b. with_body_known b (Some [])) n xs t.stands (λ x. refl) refl h.standing;
       marked = subst (λ (s : State). AreStateMarks s (depends t.dependants) (marked_at us)) (sym (known_state xs n (Some []) gen 0 0))
           (begin_law (state_of xs gen 0 0) (depends t.dependants) (marked_at t.marked) (marked_at us) n c.0 c.1 p.spread p.here h.marked);
     }
@@ -202,6 +250,7 @@ known_kept k n xs gen t on h =
     record {
       links = h.links ∙ sym len;
       flags = h.flags ∙ sym len;
+      standing = kept_standing (known_node k) (λ b. with_body_known b k) n xs t.stands (λ x. refl) refl h.standing;
       marked = subst (λ (s : State). AreStateMarks s (depends t.dependants) (marked_at t.marked)) (sym (known_state xs n k gen 0 0))
           (onward_law (state_of xs gen 0 0) (depends t.dependants) (marked_at t.marked) n k (computing_at xs gen n on) h.marked);
     }
@@ -209,7 +258,7 @@ known_kept k n xs gen t on h =
 -- an end without a run
 pub stopped_kept : (n : ℕ) (xs : List Node) (gen : ℕ) (t : MarkTable) (us : List Bool) → is_some (known_body (body_at xs n)) ≡ true → length us ≡ length t.marked →
     ((m : ℕ) → marked_at us m ≡ ended (marked_at t.marked) n (stop_unmarks (signals_of xs) (memos_of gen xs) (marked_at t.marked) n) m) →
-    KeepsMarks xs gen t → KeepsMarks (changed_at (known_node None) n xs) gen (record { dependants = t.dependants; marked = us })
+    KeepsMarks xs gen t → KeepsMarks (changed_at (known_node None) n xs) gen (record { dependants = t.dependants; marked = us; stands = t.stands })
 stopped_kept n xs gen t us on size marks h =
     let live : is_computed_body (body_at xs n) ≡ true = computing_here (body_at xs n) on in
     let c : (c : Computed) × (standing (signals_of xs) n ≡ IsComputed c) = computed_stands xs n live in
@@ -220,6 +269,7 @@ stopped_kept n xs gen t us on size marks h =
     record {
       links = h.links ∙ sym len;
       flags = size ∙ h.flags ∙ sym len;
+      standing = kept_standing (known_node None) (λ b. with_body_known b None) n xs t.stands (λ x. refl) refl h.standing;
       marked = subst (λ (z : State). AreStateMarks z (depends t.dependants) (marked_at us)) (sym (known_state xs n None gen 0 0))
           (same_marks after.signals after.memos (depends t.dependants) (ended (marked_at t.marked) n f) (marked_at us) (is_computing after) marks
           (stop_law s (depends t.dependants) (marked_at t.marked) n c.0 c.1 (computing_at xs gen n on) h.marked));
@@ -227,9 +277,9 @@ stopped_kept n xs gen t us on size marks h =
 
 -- an end with a run
 pub run_kept : (o : Outcome) (reads : List ℕ) (n : ℕ) (xs : List Node) (gen : ℕ) (t : MarkTable) (dss : List (List ℕ)) (us : List Bool) → is_some (known_body (body_at xs n)) ≡ true →
-    Relinks t.dependants dss (kept_names xs n) reads n → length us ≡ length t.marked →
+    Relinks t.dependants dss t.stands (kept_names xs n) reads n → length us ≡ length t.marked →
     ((m : ℕ) → marked_at us m ≡ ended (marked_at t.marked) n (run_unmarks (signals_of xs) (marked_at t.marked) o reads) m) →
-    KeepsMarks xs gen t → KeepsMarks (changed_at (run_node (memo_made o (map (named_now (memos_of gen xs)) reads) gen)) n xs) gen (record { dependants = dss; marked = us })
+    KeepsMarks xs gen t → KeepsMarks (changed_at (run_node (memo_made o (map (named_now (memos_of gen xs)) reads) gen)) n xs) gen (record { dependants = dss; marked = us; stands = t.stands })
 run_kept o reads n xs gen t dss us on link size marks h =
     let live : is_computed_body (body_at xs n) ≡ true = computing_here (body_at xs n) on in
     let c : (c : Computed) × (standing (signals_of xs) n ≡ IsComputed c) = computed_stands xs n live in
@@ -240,8 +290,9 @@ run_kept o reads n xs gen t dss us on link size marks h =
     record {
       links = link.len ∙ h.links ∙ sym len;
       flags = size ∙ h.flags ∙ sym len;
+      standing = kept_standing (run_node memo) (λ b. with_body_memo b memo) n xs t.stands (λ x. refl) refl h.standing;
       marked = subst (λ (z : State). AreStateMarks z (depends dss) (marked_at us)) (sym (run_state xs n o reads gen 0 0 live))
-          (same_links (signals_of xs) after.memos (relinked (depends t.dependants) n reads) (depends dss) (marked_at us) (is_computing after) (λ m d s. link.now m d ∙ by m d s (tested (n == d)))
+          (same_links (signals_of xs) after.memos (relinked (depends t.dependants) n reads) (depends dss) (marked_at us) (is_computing after) (λ m d s. link.now m d (h.standing.live m (sym (live_here xs m) ∙ s)) ∙ by m d s (tested (n == d)))
           (same_marks (signals_of xs) after.memos (relinked (depends t.dependants) n reads) (ended (marked_at t.marked) n f) (marked_at us) (is_computing after) marks done));
     }
   where
@@ -270,16 +321,18 @@ run_kept o reads n xs gen t dss us on link size marks h =
 
 -- a disposal
 pub gone_kept : (n : ℕ) (xs : List Node) (gen : ℕ) (t : MarkTable) (dss : List (List ℕ)) (us : List Bool) → is_live_body (body_at xs n) ≡ true → Spreads t.dependants t.marked us n →
-    Drops t.dependants dss (kept_names xs n) n → KeepsMarks xs gen t → KeepsMarks (changed_at gone_node n xs) (gen + 1) (record { dependants = dss; marked = us })
+    Drops t.dependants dss (kept_names xs n) n → KeepsMarks xs gen t → KeepsMarks (changed_at gone_node n xs) (gen + 1) (record { dependants = dss; marked = slice_set us n true; stands = slice_set t.stands n false })
 gone_kept n xs gen t dss us live spread drop h =
     let len : length (changed_at gone_node n xs) ≡ length xs = changed_length gone_node n xs in
     let there : is_there (standing (signals_of xs) n) ≡ true = live_here xs n ∙ live in
     record {
       links = drop.len ∙ h.links ∙ sym len;
-      flags = spread.len ∙ h.flags ∙ sym len;
-      marked = subst (λ (z : State). AreStateMarks z (depends dss) (marked_at us)) (sym (gone_state xs n gen 0 0))
+      flags = mark_set_len us n true ∙ spread.len ∙ h.flags ∙ sym len;
+      standing = gone_standing n xs t.stands h.standing;
+      marked = subst (λ (z : State). AreStateMarks z (depends dss) (marked_at (slice_set us n true))) (sym (gone_state xs n gen 0 0))
+          (more_marks after.signals after.memos (depends dss) (marked_at us) (marked_at (slice_set us n true)) (is_computing after) (λ m on. set_more us n m on) untouched
           (same_links after.signals after.memos (unlinked (depends t.dependants) n) (depends dss) (marked_at us) (is_computing after) same
-          (dispose_law (state_of xs gen 0 0) (depends t.dependants) (marked_at t.marked) (marked_at us) n there (spread_is (signals_of xs) t.dependants t.marked us n spread) h.marked));
+          (dispose_law (state_of xs gen 0 0) (depends t.dependants) (marked_at t.marked) (marked_at us) n there (spread_is (signals_of xs) t.dependants t.marked us n spread) h.marked)));
     }
   where
     after : State
@@ -310,6 +363,15 @@ gone_kept n xs gen t dss us live spread drop h =
         go (inl e) = absurd (true≢false (sym live_after ∙ ap is_live_body (at ∙ ap (λ b. if b then Gone else body_at xs m) e)))
         go (inr e) = (turned n m e, live_here xs m ∙ ap is_live_body (sym (at ∙ ap (λ b. if b then Gone else body_at xs m) e)) ∙ live_after)
 
+    -- a computed that is left keeps its mark or lacks it
+    untouched : (m : ℕ) → is_computed (standing after.signals m) ≡ true → marked_at (slice_set us n true) m ≡ marked_at us m
+    untouched m kind = mark_other us n m true (turned m n (was m (there (standing after.signals m) kind)).0)
+      where
+        there : (s : Stands) → is_computed s ≡ true → is_there s ≡ true
+        there IsGone q = q
+        there (IsCell c) q = refl
+        there (IsComputed c) q = refl
+
     same : (m d : ℕ) → is_there (standing after.signals m) ≡ true → depends dss m d ≡ unlinked (depends t.dependants) n m d
     same m d s =
         let old : ((m == n) ≡ false) × (is_there (standing (signals_of xs) m) ≡ true) = was m s in
@@ -324,10 +386,11 @@ record IsThrough (xs : List Node) (ss : List ℕ) (holders : List (Option ℕ)) 
 -- a search that found nothing that must run
 pub searched_kept : (xs : List Node) (seats : Seating) (gen w : ℕ) (t : MarkTable) (ss : List ℕ) (us : List Bool) → Holds xs seats gen w →
     Reaches xs t.marked gen ss [] → length us ≡ length t.marked → ((m : ℕ) → marked_at us m ≡ without_marks (marked_at t.marked) (search_unmarks xs ss seats.holders) m) →
-    KeepsMarks xs gen t → KeepsMarks xs gen (record { dependants = t.dependants; marked = us })
+    KeepsMarks xs gen t → KeepsMarks xs gen (record { dependants = t.dependants; marked = us; stands = t.stands })
 searched_kept xs seats gen w t ss us holds e size marks h = record {
   links = h.links;
   flags = size ∙ h.flags;
+  standing = h.standing;
   marked = same_marks (signals_of xs) (memos_of gen xs) (depends t.dependants) (without_marks (marked_at t.marked) gone) (marked_at us) (is_computing (state_of xs gen 0 0)) marks
       (unmark_law (state_of xs gen 0 0) (depends t.dependants) (marked_at t.marked) gone searched h.marked);
 }
@@ -374,6 +437,7 @@ pub new_kept : (xs : List Node) (seat : ℕ) (b : Body) (gen w : ℕ) (seats : S
 new_kept xs seat b gen w seats t fresh holds h = record {
   links = length-append t.dependants ([] ∷ []) ∙ ap (λ z. z + 1) h.links ∙ sym (length-append xs (new_node seat b ∷ []));
   flags = length-append t.marked (is_computed_body b ∷ []) ∙ ap (λ z. z + 1) h.flags ∙ sym (length-append xs (new_node seat b ∷ []));
+  standing = new_standing xs t.stands (new_node seat b) h.standing;
   marked = subst (λ (z : State). AreStateMarks z (depends (t.dependants ++ [] ∷ [])) (marked_at (t.marked ++ is_computed_body b ∷ []))) (sym (new_state xs seat b gen 0 0 fresh)) (go b fresh);
 }
   where
@@ -471,12 +535,15 @@ stop_is xs g t n =
 pub names_below : (xs : List Node) (seats : Seating) (gen w n : ℕ) (t : MarkTable) → Holds xs seats gen w → KeepsMarks xs gen t → All (λ m. m < length t.marked) (kept_names xs n)
 names_below xs seats gen w n t holds h = all_in (kept_names xs n) (length t.marked) (λ m q. subst (λ z. m < z) (sym h.flags) (holds.sources n m q))
 
--- a table with these dependants
-pub same_table : (xs : List Node) (gen : ℕ) (u : MarkTable) (dss : List (List ℕ)) → u.dependants ≡ dss → KeepsMarks xs gen (record { dependants = dss; marked = u.marked }) → KeepsMarks xs gen u
-same_table xs gen u dss e h = record {
+-- a table of these dependants, marks and signals that stand
+pub same_table : (xs : List Node) (gen : ℕ) (u : MarkTable) (dss : List (List ℕ)) (us ss : List Bool) → u.dependants ≡ dss → u.marked ≡ us → u.stands ≡ ss →
+    KeepsMarks xs gen (record { dependants = dss; marked = us; stands = ss }) → KeepsMarks xs gen u
+same_table xs gen u dss us ss e f g h = record {
   links = ap length e ∙ h.links;
-  flags = h.flags;
-  marked = subst (λ (ds : List (List ℕ)). AreStateMarks (state_of xs gen 0 0) (depends ds) (marked_at u.marked)) (sym e) h.marked;
+  flags = ap length f ∙ h.flags;
+  standing = subst (KeepsStanding xs) (sym g) h.standing;
+  marked = subst (λ (ts : List Bool). AreStateMarks (state_of xs gen 0 0) (depends u.dependants) (marked_at ts)) (sym f)
+      (subst (λ (ds : List (List ℕ)). AreStateMarks (state_of xs gen 0 0) (depends ds) (marked_at us)) (sym e) h.marked);
 }
 
 -- a step of an evaluation that is under way

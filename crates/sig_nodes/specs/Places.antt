@@ -1,5 +1,5 @@
 -- What holds of a graph's fields between its calls.
-use Rattle.std.specs.Prelude.{◌≡◌, ℕ, ◌+◌, ◌<◌, ◌≤◌, true, List, length, Option, Some}
+use Rattle.std.specs.Prelude.{◌≡◌, ℕ, ◌+◌, ◌<◌, ◌≤◌, Bool, true, List, length, Option, Some}
 use Rattle.sig_base.specs.declared.limits.TheConstants.{MOST_NODES}
 use Rattle.signal_model.specs.Standing.{is_in}
 use Rattle.signal_model.specs.Memos.{source_names, sources_in}
@@ -9,7 +9,7 @@ use Rattle.sig_nodes.specs.Search.{found_at, HasDue}
 use Rattle.sig_nodes.specs.Seats.{Seating, holder}
 use Rattle.sig_nodes.specs.States.{State, Seen}
 use Rattle.sig_nodes.specs.StateMarks.{AreStateMarks}
-use Rattle.sig_marks.specs.Tables.{MarkTable, depends, marked_at}
+use Rattle.sig_marks.specs.Tables.{MarkTable, depends, marked_at, stands_at}
 
 -- No counter is above the last number; slots and kept sources are of ids that were given; host formulas have few arguments; each live
 -- signal has its own seat, and what has a seat lives.
@@ -25,10 +25,16 @@ pub record Holds (nodes : List Node) (seats : Seating) (generation worn : ℕ) :
   pub room : length (cells_of nodes) + length (computeds_of nodes) + seats.free ≡ MOST_NODES
   pub size : length seats.holders ≡ MOST_NODES
 
+-- each node that lives has its place among the marks
+pub record KeepsStanding (nodes : List Node) (stands : List Bool) : Type 0 where
+  pub size : length stands ≡ length nodes
+  pub live : (n : ℕ) → is_live_body (body_at nodes n) ≡ true → stands_at stands n ≡ true
+
 -- each node has dependants and a mark, and these are true of the state
 pub record KeepsMarks (nodes : List Node) (generation : ℕ) (t : MarkTable) : Type 0 where
   pub links : length t.dependants ≡ length nodes
   pub flags : length t.marked ≡ length nodes
+  pub standing : KeepsStanding nodes t.stands
   pub marked : AreStateMarks (state_of nodes generation 0 0) (depends t.dependants) (marked_at t.marked)
 
 -- What searches found is of no later count of changes than the present one, and what they found at that is so.

@@ -2,7 +2,7 @@
 ghost use Rattle.std.specs.Prelude.{◌≡◌, ℕ, ◌<◌, ◌&&◌, not, [], length, true, false};
 ghost use Rattle.signal_model.specs.Memos.{is_cycle};
 ghost use Rattle.mark_laws.specs.Marked.{ended};
-ghost use Rattle.sig_marks.specs.Tables.{marked_at};
+ghost use Rattle.sig_marks.specs.Tables.{marked_at, stands_at};
 ghost use Rattle.sig_nodes.specs.Nodes.{body_at, is_computed_body, memo_body};
 ghost use Rattle.sig_nodes.specs.Search.{some_marked_at, stop_unmarks_by};
 
@@ -65,10 +65,12 @@ pub(crate) fn stop_unmarks(nodes: &Nodes, generation: u128, marks: &Marks, id: N
 
 /// Takes the mark of a signal, or leaves it.
 pub(crate) fn end_mark(marks: &mut Marks, id: NodeId, unmarks: bool)
-    requires { id < length marks.old.marked }
+    requires place { id < length marks.old.marked }
+    requires stands { stands_at marks.old.stands id ≡ true }
     ensures marks { (m : ℕ) → marked_at marks.new.marked m ≡ ended (marked_at marks.old.marked) id unmarks m }
     ensures size { length marks.new.marked ≡ length marks.old.marked }
     ensures dependants { marks.new.dependants ≡ marks.old.dependants }
+    ensures stands { marks.new.stands ≡ marks.old.stands }
 {
     if !unmarks {
         return;

@@ -1,7 +1,7 @@
 // The marks that a search takes which found nothing that must run.
-ghost use Rattle.std.specs.Prelude.{◌≡◌, ℕ, ◌<◌, ◌==◌, length, false, Some, if◌then◌else◌};
+ghost use Rattle.std.specs.Prelude.{◌≡◌, ℕ, ◌<◌, ◌==◌, length, true, false, Some, if◌then◌else◌};
 ghost use Rattle.mark_laws.specs.Marked.{without_marks};
-ghost use Rattle.sig_marks.specs.Tables.{marked_at};
+ghost use Rattle.sig_marks.specs.Tables.{marked_at, stands_at};
 ghost use Rattle.sig_nodes.specs.Search.{is_seated, of_holder, search_unmarks, some_seated, stays_marked};
 ghost use Rattle.sig_nodes.specs.Seats.{holder};
 
@@ -45,11 +45,13 @@ fn some_stays(nodes: &Nodes, seats: &Seats, reached: &[usize]) -> bool
 
 // Takes the mark of who has a seat.
 fn unmark_holder(seats: &Seats, marks: &mut Marks, seat: usize)
-    requires { (n : ℕ) → holder seats.now.holders seat ≡ Some n → n < length marks.old.marked }
+    requires places { (n : ℕ) → holder seats.now.holders seat ≡ Some n → n < length marks.old.marked }
+    requires stands { (n : ℕ) → holder seats.now.holders seat ≡ Some n → stands_at marks.old.stands n ≡ true }
     ensures marks { (n : ℕ) → marked_at marks.new.marked n ≡
         (if of_holder (λ m. m == n) (holder seats.now.holders seat) then false else marked_at marks.old.marked n) }
     ensures size { length marks.new.marked ≡ length marks.old.marked }
     ensures dependants { marks.new.dependants ≡ marks.old.dependants }
+    ensures stands { marks.new.stands ≡ marks.old.stands }
 {
     if let Some(id) = seats.holder(seat) {
         marks.unmark(id);
@@ -58,10 +60,12 @@ fn unmark_holder(seats: &Seats, marks: &mut Marks, seat: usize)
 
 // Takes the marks of all who have these seats.
 fn unmark_all(seats: &Seats, marks: &mut Marks, reached: &[usize])
-    requires { (seat n : ℕ) → holder seats.now.holders seat ≡ Some n → n < length marks.old.marked }
+    requires places { (seat n : ℕ) → holder seats.now.holders seat ≡ Some n → n < length marks.old.marked }
+    requires stands { (seat n : ℕ) → holder seats.now.holders seat ≡ Some n → stands_at marks.old.stands n ≡ true }
     ensures marks { (n : ℕ) → marked_at marks.new.marked n ≡ without_marks (marked_at marks.old.marked) (is_seated reached.now seats.now.holders) n }
     ensures size { length marks.new.marked ≡ length marks.old.marked }
     ensures dependants { marks.new.dependants ≡ marks.old.dependants }
+    ensures stands { marks.new.stands ≡ marks.old.stands }
 {
     for seat in reached {
         unmark_holder(seats, marks, *seat);
@@ -70,11 +74,13 @@ fn unmark_all(seats: &Seats, marks: &mut Marks, reached: &[usize])
 
 /// Takes the marks of all whose seats a search came to: of all, or where one of them is being evaluated or holds `cycle`, of none.
 pub(crate) fn unmark_reached(nodes: &Nodes, seats: &Seats, marks: &mut Marks, reached: &[usize])
-    requires { (seat n : ℕ) → holder seats.now.holders seat ≡ Some n → n < length marks.old.marked }
+    requires places { (seat n : ℕ) → holder seats.now.holders seat ≡ Some n → n < length marks.old.marked }
+    requires stands { (seat n : ℕ) → holder seats.now.holders seat ≡ Some n → stands_at marks.old.stands n ≡ true }
     ensures marks { (n : ℕ) → marked_at marks.new.marked n ≡
         without_marks (marked_at marks.old.marked) (search_unmarks nodes.now.items reached.now seats.now.holders) n }
     ensures size { length marks.new.marked ≡ length marks.old.marked }
     ensures dependants { marks.new.dependants ≡ marks.old.dependants }
+    ensures stands { marks.new.stands ≡ marks.old.stands }
 {
     if some_stays(nodes, seats, reached) {
         return;

@@ -10,4 +10,5 @@ invariant-loop-seat l = record {
       without_marks (marked_at l.fn.marks.marked) (is_seated l.reached l.seats.holders) n;
   size : length l.marks.marked ≡ length l.fn.marks.marked;
   dependants : l.marks.dependants ≡ l.fn.marks.dependants;
+  stands : l.marks.stands ≡ l.fn.marks.stands;
 }

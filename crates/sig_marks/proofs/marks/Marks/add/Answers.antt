@@ -1,21 +1,19 @@
-use Rattle.std.proofs.Common.{◌++◌, ◌∷◌, [], Bool, List, length, sym, ap, ◌∙◌, subst, arith}
+use Rattle.std.proofs.Common.{◌+◌, ◌++◌, ◌∷◌, [], Bool, List, Option, Some, ap, sym, ◌∙◌, subst, arith}
 use Rattle.std.specs.Prelude.{vec_capacity}
-use Rattle.sig_marks.specs.Tables.{IsMarkTable}
-use Rattle.sig_marks.specs.Sets.{table_of}
-use Rattle.sig_marks.proofs.LinkedSets.{placed}
+use Rattle.sig_marks.specs.Sets.{IsMarkTable}
+use Rattle.sig_marks.proofs.Kept.{placed}
 use Rattle.sig_marks.proofs.marks.Marks.add.Goals as goal
 
 pub invariant_of-self-2 : goal.invariant_of-self-2
 invariant_of-self-2 c =
-    let ss = c.self.inside.dependants.items in
-    let t = c.self.inside.marked.items in
+    let ss = c.self.inside.dependants.entries in
+    let ms = c.self.inside.marked.entries in
+    let live = c.self.inside.live in
     let st = c.reserve-3.new.self.items in
     let cap = vec_capacity c.reserve-3.new.self in
-    let sets = c.push_in.ensures ∙ ap (λ ys. ys ++ c.new.result ∷ []) c.in_ok-reserve.ensures.items in
-    let marks = c.push_in-2.ensures ∙ ap (λ (ys : List Bool). ys ++ c.args.marked ∷ []) c.in_ok-reserve-2.ensures.items in
+    let sets = c.push.ensures.entries ∙ ap (λ ys. ys ++ Some c.new.result ∷ []) c.reserve.ensures.entries in
+    let marks = c.push-2.ensures.entries ∙ ap (λ (ys : List (Option Bool)). ys ++ Some c.args.marked ∷ []) c.reserve-2.ensures.entries in
     let ok = c.in_ok-reserve-3.ensures.ok in
-    let count = c.len.ensures in
-    let kept = ap length c.in_ok-reserve-2.ensures.items in
-    let h = placed ss c.new.result t c.args.marked c.self.inside.stack.items st (vec_capacity c.self.inside.stack) cap c.new.ensures.empty c.in_ok-reserve-3.ensures.items (omega (arith, ok, count, kept)) c.self.invariant in
-    subst (λ yss. IsMarkTable (table_of yss c.push_in-2.new.all.items) st cap) (sym sets)
-    (subst (λ (ts : List Bool). IsMarkTable (table_of (ss ++ c.new.result ∷ []) ts) st cap) (sym marks) h)
+    let h = placed ss ms live c.self.inside.stack.items (vec_capacity c.self.inside.stack) c.new.result c.args.marked st cap c.new.ensures.empty c.in_ok-reserve-3.ensures.items (omega (arith, ok)) c.self.invariant in
+    subst (λ yss. IsMarkTable yss c.push-2.new.self.entries (live + 1) st cap) (sym sets)
+    (subst (λ (ts : List (Option Bool)). IsMarkTable (ss ++ Some c.new.result ∷ []) ts (live + 1) st cap) (sym marks) h)

@@ -23,6 +23,14 @@ push-requires-clause-count c =
     let worn = c.requires.worn in
     omega (arith, kept, made, wears, worn)
 
+pub add-requires : goal.add-requires
+add-requires c =
+    let count = c.self.invariant.marks.flags in
+    let made = c.self.invariant.fields.made in
+    let worn = ap (λ (s : Seen). s.state.worn) c.self.view_is in
+    let room = c.requires.worn in
+    omega (arith, count, made, worn, room)
+
 pub invariant_of-self-2 : goal.invariant_of-self-2
 invariant_of-self-2 c =
     let xs = c.self.inside.nodes.items in

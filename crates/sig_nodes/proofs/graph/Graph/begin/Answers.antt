@@ -1,6 +1,6 @@
 use Rattle.sig_nodes.proofs.KeptFinds.{known_found}
 use Rattle.sig_nodes.proofs.KeptMarks.{begun_kept, same_table}
-use Rattle.std.proofs.Common.{◌<◌, [], List, Some, length, sym, ap, ◌∙◌, subst}
+use Rattle.std.proofs.Common.{refl, ◌<◌, [], List, Some, length, sym, ap, ◌∙◌, subst}
 use Rattle.signal_model.specs.Standing.{is_computed, standing}
 use Rattle.sig_nodes.specs.declared.node.Node.{Node}
 use Rattle.sig_nodes.specs.States.{progress_at, Seen, with_progress}
@@ -29,7 +29,7 @@ invariant_of-self c =
       fields = subst (λ (ys : List Node). Holds ys c.self.inside.seats g c.self.inside.worn) (sym c.begin_at.ensures)
           (known_holds (Some []) c.args.id xs c.self.inside.seats g c.self.inside.worn c.self.invariant.fields);
       marks = subst (λ (ys : List Node). KeepsMarks ys g c.push.new.self) (sym c.begin_at.ensures)
-          (same_table (changed_at (known_node (Some [])) c.args.id xs) g c.push.new.self c.self.inside.marks.dependants c.push.ensures.dependants marks);
+          (same_table (changed_at (known_node (Some [])) c.args.id xs) g c.push.new.self c.self.inside.marks.dependants c.push.new.self.marked c.self.inside.marks.stands c.push.ensures.dependants refl c.push.ensures.stands marks);
       found = subst (λ (ys : List Node). KeepsFound ys g c.self.inside.worn c.self.inside.finds) (sym c.begin_at.ensures)
           (known_found (Some []) c.args.id xs g c.self.inside.worn c.self.inside.finds c.self.invariant.found);
     }

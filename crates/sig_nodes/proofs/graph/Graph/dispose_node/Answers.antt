@@ -1,5 +1,6 @@
 use Rattle.std.specs.List.{All}
-use Rattle.sig_marks.specs.Tables.{Drops, Spreads}
+use Rattle.std.specs.Prelude.{slice_set, true, false}
+use Rattle.sig_marks.specs.Tables.{Drops}
 use Rattle.sig_nodes.proofs.KeptFinds.{raised_kept}
 use Rattle.sig_nodes.proofs.KeptMarks.{gone_kept, kept_names, names_below, same_table}
 use Rattle.std.proofs.Common.{ℕ, Bool, ◌+◌, ◌<◌, List, length, refl, sym, ap, ◌∙◌, subst}
@@ -62,17 +63,17 @@ invariant_of-self c =
     let names = c.sources_at.ensures in
     let drops = subst (λ (ns : List ℕ). Drops c.self.inside.marks.dependants c.take_out.new.self.dependants ns c.args.id) names
     (subst (λ (dss : List (List ℕ)). Drops dss c.take_out.new.self.dependants c.sources_at.result.now c.args.id) c.spread.ensures.dependants c.take_out.ensures.after) in
-    let spreads = subst (λ (us : List Bool). Spreads c.self.inside.marks.dependants c.self.inside.marks.marked us c.args.id) (sym c.take_out.ensures.marks) c.spread.ensures.marks in
     let live = sym c.is_live_at.ensures ∙ c.if-not-is_live_at.false in
     let seat = c.seat_at.ensures in
     let seats = c.leave.ensures ∙ ap (with_left c.self.inside.seats) seat in
     let h = gone_holds c.args.id c.self.inside.nodes.items c.self.inside.seats c.self.inside.generation c.self.inside.worn live c.self.invariant.fields in
-    let marks = gone_kept c.args.id xs g c.self.inside.marks c.take_out.new.self.dependants c.take_out.new.self.marked live spreads drops c.self.invariant.marks in
+    let marks = gone_kept c.args.id xs g c.self.inside.marks c.take_out.new.self.dependants c.spread.new.self.marked live c.spread.ensures.marks drops c.self.invariant.marks in
     record {
       fields = subst (λ (t : Seating). Holds c.take_out-2.new.self.items t (g + 1) (c.self.inside.worn + 1)) (sym seats)
           (subst (λ (ys : List Node). Holds ys (with_left c.self.inside.seats (seat_at xs c.args.id)) (g + 1) (c.self.inside.worn + 1)) (sym c.take_out-2.ensures) h);
       marks = subst (λ (ys : List Node). KeepsMarks ys (g + 1) c.take_out.new.self) (sym c.take_out-2.ensures)
-          (same_table (changed_at gone_node c.args.id xs) (g + 1) c.take_out.new.self c.take_out.new.self.dependants refl marks);
+          (same_table (changed_at gone_node c.args.id xs) (g + 1) c.take_out.new.self c.take_out.new.self.dependants (slice_set c.spread.new.self.marked c.args.id true) (slice_set c.self.inside.marks.stands c.args.id false) refl c.take_out.ensures.marks
+          (c.take_out.ensures.stands ∙ ap (λ (ss : List Bool). slice_set ss c.args.id false) c.spread.ensures.stands) marks);
       found = raised_kept xs c.take_out-2.new.self.items g (g + 1) c.self.inside.worn c.self.inside.finds c.self.invariant.found;
     }
 

@@ -1,11 +1,11 @@
-use Rattle.std.proofs.Common.{Bool, ◌&&◌, not}
+use Rattle.std.proofs.Common.{refl, Bool, ◌&&◌, not}
 use Rattle.signal_model.specs.Memos.{is_cycle}
 use Rattle.mark_laws.specs.Marked.{ended}
-use Rattle.sig_marks.specs.Tables.{Relinks, marked_at}
+use Rattle.sig_marks.specs.Tables.{Relinks, marked_at, stands_at}
 use Rattle.sig_nodes.specs.Search.{some_marked_at}
 use Rattle.sig_nodes.proofs.KeptFinds.{raised_kept}
 use Rattle.sig_nodes.proofs.KeptMarks.{kept_names, names_below, run_is, run_kept, same_table}
-use Rattle.std.proofs.Common.{◌+◌, ◌<◌, List, length, map, sym, ap, ◌∙◌, subst, is_some}
+use Rattle.std.proofs.Common.{◌≡◌, ◌+◌, ◌<◌, true, List, length, map, sym, ap, ◌∙◌, subst, is_some}
 use Rattle.std.specs.List.{All}
 use Rattle.signal_model.specs.Memos.{Memo, named_now}
 use Rattle.sig_nodes.specs.declared.node.Node.{Node}
@@ -14,7 +14,7 @@ use Rattle.sig_nodes.specs.Places.{Holds, KeepsMarks}
 use Rattle.sig_nodes.specs.Nodes.{body_at, changed_at, memos_of, number_at, run_node, state_of}
 use Rattle.sig_nodes.proofs.Parts.{progress_found}
 use Rattle.sig_nodes.proofs.Edits.{changed_length, memo_made, run_state}
-use Rattle.sig_nodes.proofs.Holding.{became, computed_below, computing_here, given_below, run_holds}
+use Rattle.sig_nodes.proofs.Holding.{became, computed_below, computed_live, computing_here, given_below, run_holds}
 use Rattle.std.proofs.Common.{ℕ}
 use Rattle.sig_nodes.specs.Computations.{paired}
 use Rattle.sig_nodes.proofs.Looking.{names_now, paired_here}
@@ -43,8 +43,14 @@ relink-requires-clause-reader c =
     let live = computing_here (body_at c.self.inside.nodes.items c.args.id) (sym (ap is_some (progress_found c.self.inside.nodes.items c.args.id)) ∙ ap (λ (s : Seen). is_computing s.state c.args.id) c.self.view_is ∙ c.requires.computing) in
     subst (λ z. c.args.id < z) (sym c.self.invariant.marks.flags) (computed_below c.self.inside.nodes.items c.args.id live)
 
-pub end_mark-requires : goal.end_mark-requires
-end_mark-requires c =
+pub end_mark-requires-clause-stands : goal.end_mark-requires-clause-stands
+end_mark-requires-clause-stands c =
+    let live = computing_here (body_at c.self.inside.nodes.items c.args.id) (sym (ap is_some (progress_found c.self.inside.nodes.items c.args.id)) ∙ ap (λ (s : Seen). is_computing s.state c.args.id) c.self.view_is ∙ c.requires.computing) in
+    subst (λ (ss : List Bool). stands_at ss c.args.id ≡ true) (sym c.relink.ensures.stands)
+    (c.self.invariant.marks.standing.live c.args.id (computed_live (body_at c.self.inside.nodes.items c.args.id) live))
+
+pub end_mark-requires-clause-place : goal.end_mark-requires-clause-place
+end_mark-requires-clause-place c =
     let live = computing_here (body_at c.self.inside.nodes.items c.args.id) (sym (ap is_some (progress_found c.self.inside.nodes.items c.args.id)) ∙ ap (λ (s : Seen). is_computing s.state c.args.id) c.self.view_is ∙ c.requires.computing) in
     subst (λ z. c.args.id < z) (sym (ap (λ (us : List Bool). length us) c.relink.ensures.marks ∙ c.self.invariant.marks.flags)) (computed_below c.self.inside.nodes.items c.args.id live)
 
@@ -64,8 +70,8 @@ invariant_of-self-2 c =
     let named = subst (λ (ns : List ℕ). All (λ m. m < length xs) ns) (sym (names_now (memos_of g xs) rs)) given in
     let on = sym (ap is_some (progress_found c.self.inside.nodes.items c.args.id)) ∙ ap (λ (s : Seen). is_computing s.state c.args.id) c.self.view_is ∙ c.requires.computing in
     let names = c.sources_at.ensures in
-    let link = subst (λ (ns : List ℕ). Relinks t.dependants c.relink.new.self.dependants (kept_names xs c.args.id) ns c.args.id) c.deref-2.ensures.value
-    (subst (λ (ns : List ℕ). Relinks t.dependants c.relink.new.self.dependants ns c.deref-2.result.now c.args.id) names c.in_ok-relink.ensures.after) in
+    let link = subst (λ (ns : List ℕ). Relinks t.dependants c.relink.new.self.dependants t.stands (kept_names xs c.args.id) ns c.args.id) c.deref-2.ensures.value
+    (subst (λ (ns : List ℕ). Relinks t.dependants c.relink.new.self.dependants t.stands ns c.deref-2.result.now c.args.id) names c.in_ok-relink.ensures.after) in
     let unmarks = c.run_unmarks-unmarks.ensures ∙ (λ i. not (is_cycle o) && not (some_marked_at xs (c.relink.ensures.marks i) (c.deref-3.ensures.value i))) ∙ run_is xs t.marked o rs in
     let size = c.end_mark.ensures.size ∙ ap (λ (us : List Bool). length us) c.relink.ensures.marks in
     let marks = run_kept o rs c.args.id xs g t c.relink.new.self.dependants c.end_mark.new.marks.marked on link size
@@ -73,7 +79,7 @@ invariant_of-self-2 c =
     record {
       fields = subst (λ (ys : List Node). Holds ys c.self.inside.seats g (c.self.inside.worn + 1)) (sym nodes) (run_holds made c.args.id xs c.self.inside.seats g c.self.inside.worn named c.self.invariant.fields);
       marks = subst (λ (ys : List Node). KeepsMarks ys g c.end_mark.new.marks) (sym nodes)
-          (same_table (changed_at (run_node made) c.args.id xs) g c.end_mark.new.marks c.relink.new.self.dependants c.end_mark.ensures.dependants marks);
+          (same_table (changed_at (run_node made) c.args.id xs) g c.end_mark.new.marks c.relink.new.self.dependants c.end_mark.new.marks.marked t.stands c.end_mark.ensures.dependants refl (c.end_mark.ensures.stands ∙ c.relink.ensures.stands) marks);
       found = raised_kept xs c.keep_memo_at.new.nodes.items g g c.self.inside.worn c.self.inside.finds c.self.invariant.found;
     }
 

@@ -25,8 +25,11 @@ pub search-requires-clause-seats : goal.search-requires-clause-seats
 search-requires-clause-seats c =
     (seats_apart c.self.inside.nodes.items c.self.inside.seats c.self.inside.generation c.self.inside.worn c.self.invariant.fields)
 
-pub unmark_reached-requires : goal.unmark_reached-requires
-unmark_reached-requires c = λ seat n has. subst (λ l. n < l) (sym c.self.invariant.marks.flags) (live_below c.self.inside.nodes.items n (c.self.invariant.fields.living seat n has).0)
+pub unmark_reached-requires-clause-stands : goal.unmark_reached-requires-clause-stands
+unmark_reached-requires-clause-stands c = λ seat n has. c.self.invariant.marks.standing.live n (c.self.invariant.fields.living seat n has).0
+
+pub unmark_reached-requires-clause-places : goal.unmark_reached-requires-clause-places
+unmark_reached-requires-clause-places c = λ seat n has. subst (λ l. n < l) (sym c.self.invariant.marks.flags) (live_below c.self.inside.nodes.items n (c.self.invariant.fields.living seat n has).0)
 
 pub invariant_of-self : goal.invariant_of-self
 invariant_of-self c =
@@ -39,7 +42,7 @@ invariant_of-self c =
     let took = c.unmark_reached.ensures in
     record {
       fields = c.self.invariant.fields;
-      marks = same_table xs g c.unmark_reached.new.marks t.dependants took.dependants
+      marks = same_table xs g c.unmark_reached.new.marks t.dependants c.unmark_reached.new.marks.marked t.stands took.dependants refl took.stands
           (searched_kept xs seats g c.self.inside.worn t reached c.unmark_reached.new.marks.marked c.self.invariant.fields e took.size
           (λ m. took.marks m
           ∙ ap (λ (ss : List ℕ). without_marks (marked_at t.marked) (search_unmarks xs ss seats.holders) m) c.seats.ensures) c.self.invariant.marks);

@@ -1,6 +1,6 @@
 use Rattle.sig_nodes.proofs.KeptFinds.{raised_kept}
 use Rattle.sig_nodes.proofs.KeptMarks.{same_table, set_kept}
-use Rattle.std.proofs.Common.{◌+◌, ◌<◌, List, length, sym, ap, ◌∙◌, subst, arith}
+use Rattle.std.proofs.Common.{refl, ◌+◌, ◌<◌, List, length, sym, ap, ◌∙◌, subst, arith}
 use Rattle.signal_model.specs.Standing.{standing}
 use Rattle.sig_nodes.specs.declared.node.Node.{Node}
 use Rattle.sig_nodes.specs.Answers.{value_here}
@@ -37,7 +37,7 @@ invariant_of-self c =
       fields = subst (λ (ys : List Node). Holds ys c.self.inside.seats (g + 1) (c.self.inside.worn + 1)) (sym c.set_value_at.ensures.nodes)
           (set_holds c.args.value c.args.id xs c.self.inside.seats g c.self.inside.worn c.self.invariant.fields);
       marks = subst (λ (ys : List Node). KeepsMarks ys (g + 1) c.spread.new.self) (sym c.set_value_at.ensures.nodes)
-          (same_table (changed_at (set_node c.args.value) c.args.id xs) (g + 1) c.spread.new.self c.self.inside.marks.dependants c.spread.ensures.dependants marks);
+          (same_table (changed_at (set_node c.args.value) c.args.id xs) (g + 1) c.spread.new.self c.self.inside.marks.dependants c.spread.new.self.marked c.self.inside.marks.stands c.spread.ensures.dependants refl c.spread.ensures.stands marks);
       found = raised_kept xs c.set_value_at.new.nodes.items g (g + 1) c.self.inside.worn c.self.inside.finds c.self.invariant.found;
     }
 

@@ -48,7 +48,7 @@ invariant_of-self c =
       fields = subst (λ (ys : List Node). Holds ys c.self.inside.seats (g + 1) (c.self.inside.worn + 1)) (sym c.rewire_at.ensures)
           (rewired_holds recipe c.args.id xs c.self.inside.seats g c.self.inside.worn below c.requires.few c.self.invariant.fields);
       marks = subst (λ (ys : List Node). KeepsMarks ys (g + 1) c.push.new.self) (sym c.rewire_at.ensures)
-          (same_table (changed_at (rewired_node recipe) c.args.id xs) (g + 1) c.push.new.self c.self.inside.marks.dependants c.push.ensures.dependants marks);
+          (same_table (changed_at (rewired_node recipe) c.args.id xs) (g + 1) c.push.new.self c.self.inside.marks.dependants c.push.new.self.marked c.self.inside.marks.stands c.push.ensures.dependants refl c.push.ensures.stands marks);
       found = raised_kept xs c.rewire_at.new.nodes.items g (g + 1) c.self.inside.worn c.self.inside.finds c.self.invariant.found;
     }
 

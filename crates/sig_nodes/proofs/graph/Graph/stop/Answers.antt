@@ -2,14 +2,14 @@ use Rattle.mark_laws.specs.Marked.{ended}
 use Rattle.sig_marks.specs.Tables.{marked_at}
 use Rattle.sig_nodes.proofs.KeptFinds.{known_found}
 use Rattle.sig_nodes.proofs.KeptMarks.{same_table, stop_is, stopped_kept}
-use Rattle.std.proofs.Common.{◌<◌, List, None, length, sym, ap, ◌∙◌, subst, is_some}
+use Rattle.std.proofs.Common.{refl, ◌≡◌, ◌<◌, true, List, None, length, sym, ap, ◌∙◌, subst, is_some}
 use Rattle.sig_nodes.specs.declared.node.Node.{Node}
 use Rattle.sig_nodes.specs.States.{Seen, is_computing, with_progress}
 use Rattle.sig_nodes.specs.Places.{Holds, KeepsFound, KeepsMarks}
 use Rattle.sig_nodes.specs.Nodes.{body_at, changed_at, known_node, state_of}
 use Rattle.sig_nodes.proofs.Parts.{progress_found}
 use Rattle.sig_nodes.proofs.Edits.{changed_length, known_state}
-use Rattle.sig_nodes.proofs.Holding.{became, computed_below, computing_here, known_holds}
+use Rattle.sig_nodes.proofs.Holding.{became, computed_below, computed_live, computing_here, known_holds}
 use Rattle.sig_nodes.proofs.graph.Graph.stop.Goals as goal
 
 pub end_at-requires : goal.end_at-requires
@@ -19,8 +19,13 @@ pub stop_unmarks-unmarks-requires : goal.stop_unmarks-unmarks-requires
 stop_unmarks-unmarks-requires c =
     (computing_here (body_at c.self.inside.nodes.items c.args.id) (sym (ap is_some (progress_found c.self.inside.nodes.items c.args.id)) ∙ ap (λ (s : Seen). is_computing s.state c.args.id) c.self.view_is ∙ c.requires))
 
-pub end_mark-requires : goal.end_mark-requires
-end_mark-requires c =
+pub end_mark-requires-clause-stands : goal.end_mark-requires-clause-stands
+end_mark-requires-clause-stands c =
+    let live = computing_here (body_at c.self.inside.nodes.items c.args.id) (sym (ap is_some (progress_found c.self.inside.nodes.items c.args.id)) ∙ ap (λ (s : Seen). is_computing s.state c.args.id) c.self.view_is ∙ c.requires) in
+    c.self.invariant.marks.standing.live c.args.id (computed_live (body_at c.self.inside.nodes.items c.args.id) live)
+
+pub end_mark-requires-clause-place : goal.end_mark-requires-clause-place
+end_mark-requires-clause-place c =
     let live = computing_here (body_at c.self.inside.nodes.items c.args.id) (sym (ap is_some (progress_found c.self.inside.nodes.items c.args.id)) ∙ ap (λ (s : Seen). is_computing s.state c.args.id) c.self.view_is ∙ c.requires) in
     subst (λ z. c.args.id < z) (sym c.self.invariant.marks.flags) (computed_below c.self.inside.nodes.items c.args.id live)
 
@@ -36,7 +41,7 @@ invariant_of-self c =
       fields = subst (λ (ys : List Node). Holds ys c.self.inside.seats g c.self.inside.worn) (sym c.end_at.ensures)
           (known_holds None c.args.id xs c.self.inside.seats g c.self.inside.worn c.self.invariant.fields);
       marks = subst (λ (ys : List Node). KeepsMarks ys g c.end_mark.new.marks) (sym c.end_at.ensures)
-          (same_table (changed_at (known_node None) c.args.id xs) g c.end_mark.new.marks t.dependants c.end_mark.ensures.dependants marks);
+          (same_table (changed_at (known_node None) c.args.id xs) g c.end_mark.new.marks t.dependants c.end_mark.new.marks.marked t.stands c.end_mark.ensures.dependants refl c.end_mark.ensures.stands marks);
       found = subst (λ (ys : List Node). KeepsFound ys g c.self.inside.worn c.self.inside.finds) (sym c.end_at.ensures)
           (known_found None c.args.id xs g c.self.inside.worn c.self.inside.finds c.self.invariant.found);
     }
