@@ -25,50 +25,39 @@ pub(crate) fn resume(
     f: &Formula,
     row: Option<&RowRef>,
     tracked: &[Known],
-    untracked: &[Known],
+    aside: &[Known],
     way: &mut Way,
 ) -> Result<FormulaStep, NoMemory>
     requires { IfSome row (λ r. r.now.place < length r.now.rows.rows) }
     ensures around { OnOk result (way.new.around ≡ way.old.around) }
-    ensures stop { IfOk result (λ s. stop s way.new.inside ≡ resumed tracking way.old.inside (tree f.now) (option_copied row.entry) tracked.now untracked.now) }
+    ensures stop { IfOk result (λ s. stop s way.new.inside ≡ resumed tracking way.old.inside (tree f.now) (option_copied row.entry) tracked.now aside.now) }
 {
     match f {
         Formula::Lit(scalar) => literal_step(scalar),
-        Formula::Slot(slot) => slot_answer(tracking, *slot, tracked, untracked),
+        Formula::Slot(slot) => slot_answer(tracking, *slot, tracked, aside),
         Formula::It(field) => field_step(field, row),
         Formula::ItKey => key_step(row),
         Formula::Not(inner) => {
-            let step = resume(alloc, tracking, inner, row, tracked, untracked, way)?;
-            Ok(negated_step(step))
+            Ok(negated_step(resume(alloc, tracking, inner, row, tracked, aside, way)?))
         }
         Formula::Bin(op, left, right) => {
-            let step = binary(
-                alloc, tracking, *op, left, right, row, tracked, untracked, way,
-            )?;
-            Ok(step)
+            binary(alloc, tracking, *op, left, right, row, tracked, aside, way)
         }
         Formula::If(test, one, other) => choice(
-            alloc, tracking, test, one, other, row, tracked, untracked, way,
+            alloc, tracking, test, one, other, row, tracked, aside, way,
         ),
         Formula::Count(rows) => {
-            let step = resume(alloc, tracking, rows, row, tracked, untracked, way)?;
-            Ok(counted_step(step))
+            Ok(counted_step(resume(alloc, tracking, rows, row, tracked, aside, way)?))
         }
         Formula::Sum(rows, part) => {
             let made = Gathering::Sum;
-            let step = over(
-                alloc, tracking, made, rows, part, row, tracked, untracked, way,
-            )?;
-            Ok(step)
+            over(alloc, tracking, made, rows, part, row, tracked, aside, way)
         }
         Formula::Keep(rows, part) => {
             let made = Gathering::Keep;
-            let step = over(
-                alloc, tracking, made, rows, part, row, tracked, untracked, way,
-            )?;
-            Ok(step)
+            over(alloc, tracking, made, rows, part, row, tracked, aside, way)
         }
-        Formula::Untrack(inner) => resume(alloc, false, inner, row, tracked, untracked, way),
+        Formula::Untrack(inner) => resume(alloc, false, inner, row, tracked, aside, way),
     }
 }
 
@@ -82,22 +71,22 @@ fn binary(
     right: &Formula,
     row: Option<&RowRef>,
     tracked: &[Known],
-    untracked: &[Known],
+    aside: &[Known],
     way: &mut Way,
 ) -> Result<FormulaStep, NoMemory>
     requires { IfSome row (λ r. r.now.place < length r.now.rows.rows) }
     ensures around { OnOk result (way.new.around ≡ way.old.around) }
-    ensures stop { IfOk result (λ s. stop s way.new.inside ≡ binary_stop (λ g. resumed tracking g (tree left.now) (option_copied row.entry) tracked.now untracked.now)
-        (λ g. resumed tracking g (tree right.now) (option_copied row.entry) tracked.now untracked.now) op (is_later (first_of way.old.inside)) way.old.inside) }
+    ensures stop { IfOk result (λ s. stop s way.new.inside ≡ binary_stop (λ g. resumed tracking g (tree left.now) (option_copied row.entry) tracked.now aside.now)
+        (λ g. resumed tracking g (tree right.now) (option_copied row.entry) tracked.now aside.now) op (is_later (first_of way.old.inside)) way.old.inside) }
 {
     if way.is_past_first() {
-        return second(alloc, tracking, op, right, row, tracked, untracked, way);
+        return second(alloc, tracking, op, right, row, tracked, aside, way);
     }
     way.enter()?;
-    let step = resume(alloc, tracking, left, row, tracked, untracked, way)?;
+    let step = resume(alloc, tracking, left, row, tracked, aside, way)?;
     match after_left(way, op, step)? {
         Some(end) => Ok(end),
-        None => second(alloc, tracking, op, right, row, tracked, untracked, way),
+        None => second(alloc, tracking, op, right, row, tracked, aside, way),
     }
 }
 
@@ -110,15 +99,15 @@ fn second(
     right: &Formula,
     row: Option<&RowRef>,
     tracked: &[Known],
-    untracked: &[Known],
+    aside: &[Known],
     way: &mut Way,
 ) -> Result<FormulaStep, NoMemory>
     requires { IfSome row (λ r. r.now.place < length r.now.rows.rows) }
     ensures around { OnOk result (way.new.around ≡ way.old.around) }
-    ensures stop { IfOk result (λ s. stop s way.new.inside ≡ second_stop (λ g. resumed tracking g (tree right.now) (option_copied row.entry) tracked.now untracked.now) op way.old.inside) }
+    ensures stop { IfOk result (λ s. stop s way.new.inside ≡ second_stop (λ g. resumed tracking g (tree right.now) (option_copied row.entry) tracked.now aside.now) op way.old.inside) }
 {
     way.enter()?;
-    let step = resume(alloc, tracking, right, row, tracked, untracked, way)?;
+    let step = resume(alloc, tracking, right, row, tracked, aside, way)?;
     let end = after_right(alloc, way, op, step)?;
     Ok(end)
 }
@@ -133,23 +122,23 @@ fn choice(
     other: &Formula,
     row: Option<&RowRef>,
     tracked: &[Known],
-    untracked: &[Known],
+    aside: &[Known],
     way: &mut Way,
 ) -> Result<FormulaStep, NoMemory>
     requires { IfSome row (λ r. r.now.place < length r.now.rows.rows) }
     ensures around { OnOk result (way.new.around ≡ way.old.around) }
-    ensures stop { IfOk result (λ s. stop s way.new.inside ≡ choice_stop (λ g. resumed tracking g (tree test.now) (option_copied row.entry) tracked.now untracked.now)
-        (λ g. resumed tracking g (tree one.now) (option_copied row.entry) tracked.now untracked.now)
-        (λ g. resumed tracking g (tree other.now) (option_copied row.entry) tracked.now untracked.now) (is_later (first_of way.old.inside)) way.old.inside) }
+    ensures stop { IfOk result (λ s. stop s way.new.inside ≡ choice_stop (λ g. resumed tracking g (tree test.now) (option_copied row.entry) tracked.now aside.now)
+        (λ g. resumed tracking g (tree one.now) (option_copied row.entry) tracked.now aside.now)
+        (λ g. resumed tracking g (tree other.now) (option_copied row.entry) tracked.now aside.now) (is_later (first_of way.old.inside)) way.old.inside) }
 {
     if way.is_past_first() {
-        return either(alloc, tracking, one, other, row, tracked, untracked, way);
+        return either(alloc, tracking, one, other, row, tracked, aside, way);
     }
     way.enter()?;
-    let step = resume(alloc, tracking, test, row, tracked, untracked, way)?;
+    let step = resume(alloc, tracking, test, row, tracked, aside, way)?;
     match after_test(way, step)? {
         Some(end) => Ok(end),
-        None => either(alloc, tracking, one, other, row, tracked, untracked, way),
+        None => either(alloc, tracking, one, other, row, tracked, aside, way),
     }
 }
 
@@ -162,22 +151,22 @@ fn either(
     other: &Formula,
     row: Option<&RowRef>,
     tracked: &[Known],
-    untracked: &[Known],
+    aside: &[Known],
     way: &mut Way,
 ) -> Result<FormulaStep, NoMemory>
     requires { IfSome row (λ r. r.now.place < length r.now.rows.rows) }
     ensures around { OnOk result (way.new.around ≡ way.old.around) }
-    ensures stop { IfOk result (λ s. stop s way.new.inside ≡ either_stop (λ g. resumed tracking g (tree one.now) (option_copied row.entry) tracked.now untracked.now)
-        (λ g. resumed tracking g (tree other.now) (option_copied row.entry) tracked.now untracked.now) (is_true_branch (first_of way.old.inside)) way.old.inside) }
+    ensures stop { IfOk result (λ s. stop s way.new.inside ≡ either_stop (λ g. resumed tracking g (tree one.now) (option_copied row.entry) tracked.now aside.now)
+        (λ g. resumed tracking g (tree other.now) (option_copied row.entry) tracked.now aside.now) (is_true_branch (first_of way.old.inside)) way.old.inside) }
 {
     if way.is_on_true() {
         way.enter()?;
-        let step = resume(alloc, tracking, one, row, tracked, untracked, way)?;
+        let step = resume(alloc, tracking, one, row, tracked, aside, way)?;
         way.leave();
         return Ok(step);
     }
     way.enter()?;
-    let step = resume(alloc, tracking, other, row, tracked, untracked, way)?;
+    let step = resume(alloc, tracking, other, row, tracked, aside, way)?;
     way.leave();
     Ok(step)
 }
@@ -192,22 +181,22 @@ fn over(
     part: &Formula,
     row: Option<&RowRef>,
     tracked: &[Known],
-    untracked: &[Known],
+    aside: &[Known],
     way: &mut Way,
 ) -> Result<FormulaStep, NoMemory>
     requires { IfSome row (λ r. r.now.place < length r.now.rows.rows) }
     ensures around { OnOk result (way.new.around ≡ way.old.around) }
-    ensures stop { IfOk result (λ s. stop s way.new.inside ≡ over_stop gathering (λ g. resumed tracking g (tree rows.now) (option_copied row.entry) tracked.now untracked.now)
-        (λ t n g. resumed tracking g (tree part.now) (row_at t n) tracked.now untracked.now) (is_later (first_of way.old.inside)) way.old.inside) }
+    ensures stop { IfOk result (λ s. stop s way.new.inside ≡ over_stop gathering (λ g. resumed tracking g (tree rows.now) (option_copied row.entry) tracked.now aside.now)
+        (λ t n g. resumed tracking g (tree part.now) (row_at t n) tracked.now aside.now) (is_later (first_of way.old.inside)) way.old.inside) }
 {
     if way.is_past_first() {
-        return each_row(alloc, tracking, part, tracked, untracked, way);
+        return each_row(alloc, tracking, part, tracked, aside, way);
     }
     way.enter()?;
-    let step = resume(alloc, tracking, rows, row, tracked, untracked, way)?;
+    let step = resume(alloc, tracking, rows, row, tracked, aside, way)?;
     match after_rows(alloc, way, gathering, step)? {
         Some(end) => Ok(end),
-        None => each_row(alloc, tracking, part, tracked, untracked, way),
+        None => each_row(alloc, tracking, part, tracked, aside, way),
     }
 }
 
@@ -218,11 +207,11 @@ fn each_row(
     tracking: bool,
     part: &Formula,
     tracked: &[Known],
-    untracked: &[Known],
+    aside: &[Known],
     way: &mut Way,
 ) -> Result<FormulaStep, NoMemory>
     ensures around { OnOk result (way.new.around ≡ way.old.around) }
-    ensures stop { IfOk result (λ s. stop s way.new.inside ≡ each_stop (λ t n g. resumed tracking g (tree part.now) (row_at t n) tracked.now untracked.now) way.old.inside) }
+    ensures stop { IfOk result (λ s. stop s way.new.inside ≡ each_stop (λ t n g. resumed tracking g (tree part.now) (row_at t n) tracked.now aside.now) way.old.inside) }
 {
     let Some(at) = row_of(way)? else {
         return Ok(FormulaStep::End(Outcome::Bad(Fault::Kind)));
@@ -233,7 +222,7 @@ fn each_row(
             place,
         };
         way.enter()?;
-        let step = resume(alloc, tracking, part, Some(&row), tracked, untracked, way)?;
+        let step = resume(alloc, tracking, part, Some(&row), tracked, aside, way)?;
         if let Some(end) = after_row(way, step)? {
             return Ok(end);
         }

@@ -11,8 +11,8 @@ invariant-each_row-loop-place l = record {
   around : l.way.around ≡ l.fn.way.around;
   at : row_of (first_of l.way.inside) ≡ Some (record { rows = l.at.rows; place = l.place });
   is :
-      each_on (λ n g. resumed l.tracking g (tree l.part) (row_at l.at.rows n) l.tracked l.untracked) l.place (drop l.place l.at.rows.rows) l.way.inside
-      ≡ each_stop (λ t n g. resumed l.tracking g (tree l.part) (row_at t n) l.tracked l.untracked) l.fn.way.inside;
+      each_on (λ n g. resumed l.tracking g (tree l.part) (row_at l.at.rows n) l.tracked l.aside) l.place (drop l.place l.at.rows.rows) l.way.inside
+      ≡ each_stop (λ t n g. resumed l.tracking g (tree l.part) (row_at t n) l.tracked l.aside) l.fn.way.inside;
 }
 
 abbrev pub decreases-resume : goal.decreases-resume
