@@ -1,9 +1,10 @@
 -- What is read of a line is what its bytes write.
-use Rattle.std.proofs.Common.{◌≡◌, ℕ, List, [], ◌∷◌, Option, Some, None, option_map, refl, sym, ap, subst, ◌∙◌, ◌⊎◌, arith}
+use Rattle.std.proofs.Common.{◌≡◌, ℕ, Bool, true, false, cond, List, [], ◌∷◌, Option, Some, None, option_map, refl, sym, ap, subst, ◌∙◌, ◌⊎◌, arith}
 use Rattle.std.specs.Prelude.{Result, Ok, Err, IfOk, MatchOption, slice_get}
 use Rattle.std.specs.Global.{Box}
 use Rattle.std.specs.Str.{IsUtf8}
-use Rattle.std.specs.Option.{option_or}
+use Rattle.std.specs.Option.{option_map_or, option_or}
+use Rattle.std.specs.Str.{bytes_eq}
 use Rattle.sig_words.specs.declared.token.Token.{Token}
 use Rattle.sig_words.specs.declared.token.TokenKind.TheVariants as kind
 use Rattle.sig_words.specs.Lexemes.{Lexeme, word, lexeme, lexemes, text_at}
@@ -11,12 +12,14 @@ use Rattle.sig_words.specs.Tokens.{AreTokens, IsBad, IsTokenOf}
 use Rattle.sig_words.proofs.Shared.{each_token, token_word_utf8, lexeme-Word}
 use Rattle.line_forms.specs.Forms.{Args}
 use Rattle.line_forms.specs.Reading.{read_form}
-use Rattle.line_forms.specs.Rows.{first_of, rows_of, said_of}
+use Rattle.line_forms.specs.Rows.{Table, first_of, rows_of, said_of}
 use Rattle.line_forms.specs.Told.{ahead}
 use Rattle.line_forms.proofs.Shared as lines
+use Rattle.live_cmd.specs.declared.command.Verb.{Verb}
 use Rattle.live_cmd.specs.declared.line.Found.{Found}
-use Rattle.live_cmd.specs.Grammar.{Row, row, table, Said, Writes}
+use Rattle.live_cmd.specs.Grammar.{Row, row, table, verb, rows_before, later_rows, Said, Writes}
 use Rattle.live_cmd.specs.Views.{found_of, found_as, found_first}
+use Rattle.live_cmd.specs.Words.{all_verbs, by_word, found, verb_of, verb_word}
 use Rattle.live_cmd.proofs.Grammars.{is_grammar}
 
 -- ---- the rows of a word
@@ -54,6 +57,34 @@ first_utf8 line (u ∷ us) t a e k =
     let same : u ≡ t = cc in
     let i : IsTokenOf line u = each_token line (u ∷ us) a 0 u (omega arith) in
     token_word_utf8 line t (subst (IsTokenOf line) same i) k
+
+-- ---- rows that stand at the words of some
+
+first_row : {A : Type 0} (as_row : A → Row) (b : Bool) (x : A) (o : Option A) (rows others : List Row)
+    → rows ≡ option_map_or (λ (y : A). as_row y ∷ []) o others
+    → cond b (as_row x ∷ []) rows ≡ option_map_or (λ (y : A). as_row y ∷ []) (cond b (Some x) o) others
+first_row as_row true x o rows others e = refl
+first_row as_row false x o rows others e = e
+
+-- the row of what has the word, and else those of the others
+rows_by_word : {A : Type 0} (word_of : A → List ℕ) (as_row : A → Row) (xs : List A) (others : Table Row) (w : List ℕ)
+    → rows_of w (rows_before word_of as_row xs others) ≡ option_map_or (λ (y : A). as_row y ∷ []) (found (by_word word_of xs) w) (rows_of w others)
+rows_by_word word_of as_row [] others w = refl
+rows_by_word word_of as_row (x ∷ xs) others w =
+    first_row as_row (bytes_eq w (word_of x)) x (found (by_word word_of xs) w) (rows_of w (rows_before word_of as_row xs others)) (rows_of w others)
+    (rows_by_word word_of as_row xs others w)
+
+-- a verb's word has the row of the verb
+pub verb_rows : (w : List ℕ) (v : Verb) → Some v ≡ verb_of w → rows_of w table ≡ verb v ∷ []
+verb_rows w v e =
+    rows_by_word verb_word verb all_verbs later_rows w
+    ∙ ap (λ (o : Option Verb). option_map_or (λ (y : Verb). verb y ∷ []) o (rows_of w later_rows)) (sym e)
+
+-- another word has the rows of the others
+pub other_rows : (w : List ℕ) → None ≡ verb_of w → rows_of w table ≡ rows_of w later_rows
+other_rows w e =
+    rows_by_word verb_word verb all_verbs later_rows w
+    ∙ ap (λ (o : Option Verb). option_map_or (λ (y : Verb). verb y ∷ []) o (rows_of w later_rows)) (sym e)
 
 -- ---- lines of bytes
 

@@ -13,9 +13,9 @@ use Rattle.live_cmd.specs.declared.command.RowEdit.TheVariants as edit
 use Rattle.live_cmd.specs.declared.command.SourceText.TheVariants as source
 use Rattle.live_cmd.specs.declared.command.Try.TheVariants as tried
 use Rattle.live_cmd.specs.declared.command.Verb.{Verb}
-use Rattle.live_cmd.specs.declared.command.Verb.TheVariants as verbs
 use Rattle.live_cmd.specs.declared.line.Line.{Line}
 use Rattle.live_cmd.specs.declared.line.Line.TheVariants as line
+use Rattle.live_cmd.specs.Words.{all_verbs, verb_word}
 
 -- the rows of the grammar
 pub data Row : Type 0 where
@@ -56,16 +56,6 @@ is_field n = not (bytes_eq n (codes "key"))
 -- whether names can be those of a list's fields: none of them stands there twice
 abbrev pub are_fields : List (List ℕ) → Bool
 are_fields ns = list_all is_field ns && are_distinct ns
-
--- the word of a verb
-abbrev pub verb_word : Verb → List ℕ
-verb_word verbs.Get = codes "get"
-verb_word verbs.State = codes "state"
-verb_word verbs.Sources = codes "sources"
-verb_word verbs.Show = codes "show"
-verb_word verbs.Scratch = codes "scratch"
-verb_word verbs.Dispose = codes "dispose"
-verb_word verbs.Pending = codes "pending"
 
 -- a name
 abbrev N : Piece
@@ -164,7 +154,8 @@ last_rows =
 -- those before them too
 abbrev pub later_rows : grammar.Table Row
 later_rows =
-    (codes "set", set ∷ [])
+    (codes "cell", cell ∷ [])
+    ∷ (codes "set", set ∷ [])
     ∷ (codes "list", list ∷ [])
     ∷ (codes "insert", insert_row ∷ [])
     ∷ (codes "remove", remove_row ∷ [])
@@ -174,18 +165,14 @@ later_rows =
     ∷ (codes "rewire", rewire_host ∷ rewire ∷ [])
     ∷ last_rows
 
+-- these, each a row at its word, before others
+abbrev pub rows_before : {A : Type 0} → (A → List ℕ) → (A → Row) → List A → grammar.Table Row → grammar.Table Row
+rows_before word_of as_row [] others = others
+rows_before word_of as_row (x ∷ xs) others = (word_of x, as_row x ∷ []) ∷ rows_before word_of as_row xs others
+
 -- the rows that begin with each word
 abbrev pub table : grammar.Table Row
-table =
-    (codes "get", verb verbs.Get ∷ [])
-    ∷ (codes "state", verb verbs.State ∷ [])
-    ∷ (codes "sources", verb verbs.Sources ∷ [])
-    ∷ (codes "show", verb verbs.Show ∷ [])
-    ∷ (codes "scratch", verb verbs.Scratch ∷ [])
-    ∷ (codes "dispose", verb verbs.Dispose ∷ [])
-    ∷ (codes "pending", verb verbs.Pending ∷ [])
-    ∷ (codes "cell", cell ∷ [])
-    ∷ later_rows
+table = rows_before verb_word verb all_verbs later_rows
 
 -- what a row gives of what stands in its parts: its formula with slots for its names
 abbrev pub line_makes : (r : Row) → Made (row r).1 Line

@@ -5,4 +5,5 @@ pub mod Items
 pub mod Judging
 pub mod Places
 pub mod Views
+pub mod Words
 pub mod Writing

@@ -1,6 +1,6 @@
 // Commands and the items of a script.
-ghost use Rattle.std.specs.Prelude.{◌≡◌};
-ghost use Rattle.live_cmd.specs.Grammar.{verb_word};
+ghost use Rattle.std.specs.Prelude.{◌≡◌, map};
+ghost use Rattle.live_cmd.specs.Words.{found, verb_of, verb_word};
 ghost use Rattle.sig_untrack.specs.Stated.{before, no_bodies};
 
 use formula_text::Wired;
@@ -71,20 +71,43 @@ pub enum Verb {
     Pending,
 }
 
+// The word of each verb, at the place of its number.
+const VERBS: [(Verb, &str); 7] = [
+    (Verb::Get, "get"),
+    (Verb::State, "state"),
+    (Verb::Sources, "sources"),
+    (Verb::Show, "show"),
+    (Verb::Scratch, "scratch"),
+    (Verb::Dispose, "dispose"),
+    (Verb::Pending, "pending"),
+];
+
+// The verb of the first of these rows that has this word.
+fn found(mut rows: &[(Verb, &str)], word: &str) -> Option<Verb>
+    ensures { result ≡ found (map (λ r. (r.1.now, r.0)) rows.entry.now) word.now }
+{
+    while let [row, rest @ ..] = rows {
+        if word == row.1 {
+            return Some(row.0);
+        }
+        rows = rest;
+    }
+    None
+}
+
 impl Verb {
     /// Its word.
     pub fn word(self) -> &'static str
         ensures { result.now ≡ verb_word self }
     {
-        match self {
-            Verb::Get => "get",
-            Verb::State => "state",
-            Verb::Sources => "sources",
-            Verb::Show => "show",
-            Verb::Scratch => "scratch",
-            Verb::Dispose => "dispose",
-            Verb::Pending => "pending",
-        }
+        VERBS[self as usize].1
+    }
+
+    /// The verb that has this word.
+    pub fn of(word: &str) -> Option<Verb>
+        ensures { result ≡ verb_of word.now }
+    {
+        found(&VERBS, word)
     }
 }
 

@@ -244,6 +244,7 @@ fn behind_later_word(
     ensures { IfOk result (λ found. found ≡ found_first (rows_of word.now later_rows) (ahead line.now tokens.now 1)) }
 {
     match word {
+        "cell" => cell(alloc, line, tokens),
         "set" => set(alloc, line, tokens),
         "list" => list(alloc, line, tokens),
         "insert" => insert(alloc, line, tokens),
@@ -266,16 +267,9 @@ fn behind_word(
     requires { AreTokens line.now tokens.now }
     ensures { IfOk result (λ found. found ≡ found_first (rows_of word.now table) (ahead line.now tokens.now 1)) }
 {
-    match word {
-        "get" => named(alloc, line, tokens, Verb::Get),
-        "state" => named(alloc, line, tokens, Verb::State),
-        "sources" => named(alloc, line, tokens, Verb::Sources),
-        "show" => named(alloc, line, tokens, Verb::Show),
-        "scratch" => named(alloc, line, tokens, Verb::Scratch),
-        "dispose" => named(alloc, line, tokens, Verb::Dispose),
-        "pending" => named(alloc, line, tokens, Verb::Pending),
-        "cell" => cell(alloc, line, tokens),
-        _ => behind_later_word(alloc, line, tokens, word),
+    match Verb::of(word) {
+        Some(verb) => named(alloc, line, tokens, verb),
+        None => behind_later_word(alloc, line, tokens, word),
     }
 }
 
