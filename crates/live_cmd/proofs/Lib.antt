@@ -3,18 +3,14 @@ mod Ends
 mod Grammars
 mod Held
 mod Items
-mod Levels
 mod Lengths
 mod Heading
 mod NameBytes
-mod Numbered
 mod Numbering
 mod Parting
 mod Places
 mod Plain
 mod Refusing
-mod Rewriting
 mod Spellings
-mod Standing
 mod TemplateNumbers
 pub mod Shared

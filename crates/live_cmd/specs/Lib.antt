@@ -6,4 +6,3 @@ pub mod Judging
 pub mod Places
 pub mod Views
 pub mod Words
-pub mod Writing

@@ -1,13 +1,11 @@
 // What holds of every line and every script.
-ghost use Rattle.std.specs.Prelude.{◌≡◌, ◌∷◌, ◌+◌, ◌++◌, ℕ, List, false, length, drop};
+ghost use Rattle.std.specs.Prelude.{◌≡◌, ◌∷◌, ◌+◌, ◌++◌, ℕ, List, length, drop};
 ghost use Rattle.script_lines.specs.Lines.{EndsLine, kept_lines, lines};
 ghost use Rattle.script_lines.specs.Pieces.{Piece, outside, place_after};
-ghost use Rattle.live_cmd.specs.declared.command.Command.{Command};
 ghost use Rattle.live_cmd.specs.declared.command.Item.{Item};
 ghost use Rattle.live_cmd.specs.declared.command.Item.TheVariants as item;
 ghost use Rattle.live_cmd.specs.Grammar.{Said, Writes};
-ghost use Rattle.live_cmd.specs.Items.{any_long, Begins, IsItem, ItemsFrom};
-ghost use Rattle.live_cmd.specs.Writing.{command_text, lines_by, lines_of_command};
+ghost use Rattle.live_cmd.specs.Items.{Begins, IsItem, ItemsFrom};
 
 /// The bytes of a line say one thing.
 pub fn one_meaning()
@@ -36,12 +34,4 @@ pub fn items_cut()
 pub fn items_in_turn()
     ensures { (script : List ℕ) (at line next after : ℕ) (i : Item) (is : List Item) → Begins script at line i next after
         → ItemsFrom after (drop next script) is → ItemsFrom line (drop at script) (i ∷ is) }
-{}
-
-/// What `command_line` writes of a command that a script has is read back as the same command, wherever it stands, if none of its
-/// lines has more than `MOST_LINE` bytes.
-pub fn commands_read_back()
-    ensures { (p : Piece) (c : Command) → IsItem p (item.Do c) → (script : List ℕ) (at line : ℕ) (rest : List ℕ)
-        → drop at script ≡ command_text c ++ rest → any_long (lines_of_command line c) ≡ false
-        → Begins script at line (item.Do c) (at + length (command_text c)) (line + length (lines_by c)) }
 {}

@@ -1,11 +1,10 @@
-//! The commands of a script and how they are read and written.
+//! The commands of a script and how they are read.
 #![tactic(auto)]
 
 mod block;
 mod command;
 mod contents;
 mod fields;
-mod inside;
 mod item;
 mod judge;
 mod last;
@@ -17,15 +16,10 @@ mod reading;
 mod row_lines;
 mod sources;
 mod watching;
-mod writing;
-mod writing_rows;
-mod writing_sources;
-mod writing_watchers;
 
 pub use command::{Command, EffectBody, Item, RowEdit, SourceText, Try, Verb};
 pub use fields::are_fields;
 pub use item::next_item;
-pub use laws::{commands_read_back, items_cut, items_in_turn, one_item, one_list, one_meaning};
+pub use laws::{items_cut, items_in_turn, one_item, one_list, one_meaning};
 pub use line::Line;
 pub use line_forms::NameList;
-pub use writing::command_line;

@@ -24,7 +24,7 @@ use Rattle.tpl_syntax.specs.Places.{Place, content_of, fits, is_choice, moved, t
 use Rattle.tpl_syntax.specs.Templates as templates
 use Rattle.tpl_syntax.specs.Writing as template_text
 use Rattle.tpl_syntax.proofs.Shared.{written}
-use Rattle.live_cmd.specs.Writing.{template_lines}
+use Rattle.live_writing.specs.Writing.{template_lines}
 
 -- each is one line, which isn't passed over
 abbrev pub AllLines : List (List ℕ) → Type 0

@@ -1,4 +1,4 @@
-use Rattle.live_cmd.proofs.writing_rows.put_edit.Goals as goal
+use Rattle.live_writing.proofs.writing_rows.put_edit.Goals as goal
 
 pub returns-in-Insert : goal.returns-in-Insert
 returns-in-Insert c = rw c.in-Insert.is c.put_insert.ensures

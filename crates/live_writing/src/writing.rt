@@ -2,18 +2,17 @@
 ghost use Rattle.std.specs.Prelude.{◌≡◌, ◌++◌, OnOk};
 ghost use Rattle.live_cmd.specs.declared.command.Command.TheVariants as command;
 ghost use Rattle.live_cmd.specs.Grammar as rows;
-ghost use Rattle.live_cmd.specs.Writing.{command_text, ended_line};
+ghost use Rattle.live_writing.specs.Writing.{command_text, ended_line};
 ghost use Rattle.body_text.specs.Writing.{body_text};
 ghost use Rattle.tpl_syntax.specs.Writing.{plan_text};
 
-use crate::command::EffectBody;
 use crate::inside::put_inside;
 use crate::writing_rows::{put_edit, put_list};
 use crate::writing_sources::{put_computed, put_rewire};
 use crate::writing_watchers::{put_unwatch, put_watch, put_watcher};
-use crate::{Command, Verb};
 use body_text::put_body;
 use line_forms::{put_count_behind, put_fixed, put_name, put_value};
+use live_cmd::{Command, EffectBody, Verb};
 use sig_base::{Name, NoMemory, Scalar};
 use tpl_syntax::Template;
 

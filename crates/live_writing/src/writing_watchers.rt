@@ -2,10 +2,10 @@
 ghost use Rattle.std.specs.Prelude.{◌≡◌, ◌∷◌, ◌++◌, OnOk, Some, codes};
 ghost use Rattle.live_cmd.specs.declared.command.Try.TheVariants as tried;
 ghost use Rattle.live_cmd.specs.Grammar as rows;
-ghost use Rattle.live_cmd.specs.Writing.{ended_line, watcher_line};
+ghost use Rattle.live_writing.specs.Writing.{ended_line, watcher_line};
 
-use crate::{NameList, Try};
 use line_forms::{put_fixed, put_name, put_names, put_value};
+use live_cmd::{NameList, Try};
 use sig_base::{Name, NoMemory, Scalar};
 
 // A watcher, and the word of what it tries.

@@ -2,12 +2,12 @@
 ghost use Rattle.std.specs.Prelude.{◌≡◌, ◌++◌, OnOk};
 ghost use Rattle.live_cmd.specs.declared.command.SourceText.TheVariants as source;
 ghost use Rattle.live_cmd.specs.Grammar as rows;
-ghost use Rattle.live_cmd.specs.Writing.{computed_line, ended_line, rewire_line};
+ghost use Rattle.live_writing.specs.Writing.{computed_line, ended_line, rewire_line};
 
 use crate::inside::put_inside;
-use crate::{NameList, SourceText};
 use formula_text::Wired;
 use line_forms::{put_arguments, put_count, put_fixed, put_name, put_wired};
+use live_cmd::{NameList, SourceText};
 use sig_base::{Name, NoMemory};
 
 fn put_computed_formula(

@@ -1,4 +1,4 @@
-use Rattle.live_cmd.proofs.writing_sources.put_computed.Goals as goal
+use Rattle.live_writing.proofs.writing_sources.put_computed.Goals as goal
 
 pub returns-in-Formula : goal.returns-in-Formula
 returns-in-Formula c = rw c.in-Formula.is c.put_computed_formula.ensures

@@ -44,9 +44,9 @@ use Rattle.live_cmd.specs.Places.{kind_of, moved}
 use Rattle.live_cmd.specs.Judging.{Sayings, faults_of, misplacing, excess, first_misplaced, first_excess, refusal_of}
 use Rattle.live_cmd.specs.Blocks.{Block, Ends, IsContent, IsContentOf, block_item, body_refused, effect_content, is_head, template_content, template_refused}
 use Rattle.live_cmd.specs.Items.{Say, IsItem, long, unended, block, faulty, says, any_long, first_number, command_of, has_many_fields, item_made, item_or, unless_refused, item_of}
-use Rattle.live_cmd.specs.Writing.{said_by, bytes_of, ended_line, command_text, lines_by, body_lines, template_lines, lines_of_command}
-use Rattle.live_cmd.proofs.Levels.{AllLines, Stays, body_stays, ended, template_stays}
-use Rattle.live_cmd.proofs.Numbered.{numbered-append, numbered_one}
+use Rattle.live_writing.specs.Writing.{said_by, bytes_of, ended_line, command_text, lines_by, body_lines, template_lines, lines_of_command}
+use Rattle.live_writing.proofs.Levels.{AllLines, Stays, body_stays, ended, template_stays}
+use Rattle.live_writing.proofs.Numbered.{numbered-append, numbered_one}
 
 -- ---- what the lines of a command say is what they said
 

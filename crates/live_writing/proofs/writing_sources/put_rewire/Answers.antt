@@ -1,4 +1,4 @@
-use Rattle.live_cmd.proofs.writing_sources.put_rewire.Goals as goal
+use Rattle.live_writing.proofs.writing_sources.put_rewire.Goals as goal
 
 pub returns-in-Formula : goal.returns-in-Formula
 returns-in-Formula c = rw c.in-Formula.is c.put_rewire_formula.ensures

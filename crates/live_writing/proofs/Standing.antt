@@ -27,10 +27,10 @@ use Rattle.live_cmd.specs.Grammar.{Row, row, Said, Writes, effect, template, clo
 use Rattle.live_cmd.specs.Places.{kind_of, moved}
 use Rattle.live_cmd.specs.Judging.{Sayings}
 use Rattle.live_cmd.specs.Items.{Say, IsItem, any_long, Begins}
-use Rattle.live_cmd.specs.Writing.{said_by, bytes_of, ended_line, command_text, lines_by, lines_of_command}
-use Rattle.live_cmd.proofs.Levels.{AllLines, Stays, ended}
-use Rattle.live_cmd.proofs.Numbered.{numbered-append, numbered_one}
-use Rattle.live_cmd.proofs.Rewriting.{DoneIn, block_is, done_by, is_flat, flat_done, flat_lines, said_is, said_in, lines_are}
+use Rattle.live_writing.specs.Writing.{said_by, bytes_of, ended_line, command_text, lines_by, lines_of_command}
+use Rattle.live_writing.proofs.Levels.{AllLines, Stays, ended}
+use Rattle.live_writing.proofs.Numbered.{numbered-append, numbered_one}
+use Rattle.live_writing.proofs.Rewriting.{DoneIn, block_is, done_by, is_flat, flat_done, flat_lines, said_is, said_in, lines_are}
 
 -- ---- one line
 

@@ -1,4 +1,4 @@
-use Rattle.live_cmd.proofs.writing_watchers.put_trying.Goals as goal
+use Rattle.live_writing.proofs.writing_watchers.put_trying.Goals as goal
 
 pub returns-in-Get : goal.returns-in-Get
 returns-in-Get c = rw c.in-Get.is c.put_tries_get.ensures

@@ -1,13 +1,13 @@
 // Writes lists and the edits of their rows.
 ghost use Rattle.std.specs.Prelude.{◌≡◌, ◌++◌, OnOk};
 ghost use Rattle.live_cmd.specs.Grammar as rows;
-ghost use Rattle.live_cmd.specs.Writing.{edit_line, ended_line};
+ghost use Rattle.live_writing.specs.Writing.{edit_line, ended_line};
 
-use crate::RowEdit;
 use crate::inside::put_inside;
 use line_forms::{
     NameList, put_count, put_key, put_listed_names, put_listed_values, put_name, put_value,
 };
+use live_cmd::RowEdit;
 use sig_base::{Name, NoMemory, Scalar, Scalars, Text};
 
 /// Appends the line that makes a list.

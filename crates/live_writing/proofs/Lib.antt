@@ -1,0 +1,4 @@
+mod Levels
+mod Numbered
+mod Rewriting
+mod Standing

@@ -1,0 +1,5 @@
+use Rattle.live_writing.proofs.Standing.{begins}
+use Rattle.live_writing.proofs.laws.commands_read_back.Goals as goal
+
+pub returns : goal.returns
+returns c = begins
