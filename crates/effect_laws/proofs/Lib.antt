@@ -8,6 +8,7 @@ mod Runs
 mod Scripts
 mod Silence
 mod Closing
+pub mod SharedAsking
 mod Asking
 mod Changes
 mod KeptWorlds
