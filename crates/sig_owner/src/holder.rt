@@ -166,12 +166,12 @@ pub(crate) fn clear_at(holders: &mut Vec<Holder>, id: OwnerId)
     clear(&mut holders[id.number() as usize]);
 }
 
-// Ends a holder.
+// Ends a holder, which keeps no room for what stood under it.
 fn end(holder: &mut Holder)
     ensures { row_of holder.new ≡ ended_row (row_of holder.old) }
 {
     holder.live = false;
-    clear(holder);
+    holder.made = Vec::new(*holder.made.allocator());
 }
 
 /// Ends a holder, and takes away what stands under it.
