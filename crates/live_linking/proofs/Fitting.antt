@@ -10,10 +10,10 @@ use Rattle.effect_laws.specs.Asking.{AreFit, SlotsBelow}
 use Rattle.sig_untrack.specs.Linking.{Parts, linked}
 use Rattle.sig_untrack.specs.Stated as stated
 use Rattle.sig_untrack.specs.Stated.{Bodies, Rewiring, Source, Stated, body, no_bodies}
-use Rattle.effect_tables.specs.Fitting.{count_of, AreFew, AreFitting, IsFew}
+use Rattle.effect_tables.specs.Fitting.{AreFew, AreFitting, IsFew}
 use Rattle.live_model.specs.Linking.{links_of}
 use Rattle.live_model.specs.Names.{Names, number_of}
-use Rattle.live_model.specs.Uses.{Counts, are_below, are_linked, are_placed, bodies_count, count_in_bodies, is_fit, is_rewiring, slots_in, statement_count}
+use Rattle.live_model.specs.Uses.{Counts, are_below, are_linked, are_placed, bodies_count, count_in_bodies, is_fit, is_rewiring, slots_in}
 
 -- ---- slots
 
@@ -77,20 +77,6 @@ all_fit c p (stated.effect n rest) e = all_fit c p rest (and_parts (nat_lt n c.e
 all_fit c p (stated.dispose t rest) e = all_fit c p rest (and_parts (nat_lt t c.targets) (are_placed c rest) e).1
 all_fit c p (stated.rewire n rest) e = all_fit c p rest (and_parts (nat_lt n c.rewirings) (are_placed c rest) e).1
 
--- ---- counts
-
--- statements counted both ways
-same_count : (ss : Stated) → statement_count ss ≡ count_of ss
-same_count stated.no_more = refl
-same_count (stated.set t f rest) = let a = same_count rest in omega (arith, a)
-same_count (stated.log f rest) = let a = same_count rest in omega (arith, a)
-same_count (stated.when f inner rest) = let a = same_count inner in let b = same_count rest in omega (arith, a, b)
-same_count (stated.cleanup_set t f rest) = let a = same_count rest in omega (arith, a)
-same_count (stated.cleanup_log f rest) = let a = same_count rest in omega (arith, a)
-same_count (stated.effect n rest) = let a = same_count rest in omega (arith, a)
-same_count (stated.dispose t rest) = let a = same_count rest in omega (arith, a)
-same_count (stated.rewire n rest) = let a = same_count rest in omega (arith, a)
-
 -- ---- rewirings
 
 -- no more than the most
@@ -123,11 +109,10 @@ all_fitting names own (body ss targets signals inner rewirings others) e le =
     let one = and_parts (are_placed c ss && (list_all (is_rewiring (length targets)) rewirings && are_linked inner)) (are_linked others) e in
     let two = and_parts (are_placed c ss) (list_all (is_rewiring (length targets)) rewirings && are_linked inner) one.0 in
     let three = and_parts (list_all (is_rewiring (length targets)) rewirings) (are_linked inner) two.1 in
-    let same = length-map signals (number_of names) in
-    let count = same_count ss in (
+    let same = length-map signals (number_of names) in (
       record {
         named = λ p. subst (λ (n : ℕ). AreFit n (linked p ss)) (sym same) (all_fit c p ss two.0);
-        few = omega (arith, le, count);
+        few = omega (arith, le);
       },
       few_all names (length targets) rewirings three.0,
       all_fitting names own inner three.1 (omega (arith, le)),

@@ -9,6 +9,7 @@ use Rattle.std.proofs.lemmas.List.Folds.{list_all-append}
 use Rattle.sig_base.specs.declared.limits.TheConstants.{MOST_SOURCES}
 use Rattle.sig_untrack.specs.Stated as stated
 use Rattle.sig_untrack.specs.Stated.{Bodies, Stated, no_bodies}
+use Rattle.effect_tables.specs.Fitting.{count_of}
 use Rattle.formula_text.specs.declared.rough.Around.TheVariants as around
 use Rattle.formula_text.specs.declared.rough.OverRows.TheVariants as over
 use Rattle.formula_text.specs.Grammar.{Draft, leaf, negation, binary, choice, of_row, one_part, each_row}
@@ -22,7 +23,7 @@ use Rattle.body_text.specs.declared.line.Plain.TheVariants as p
 use Rattle.body_text.specs.declared.line.Source.{Source}
 use Rattle.body_text.specs.declared.line.Source.TheVariants as source
 use Rattle.body_text.specs.Statements.{Statements, done, plain, when, effect, body_of, body_with, effects_of, formula_of, lines_of, own_effects, own_rewires, placed, placed_line, rewired_by, rewires_in, rewiring_of, rewirings_of, target_of, with_formula, with_own, with_target, with_targets}
-use Rattle.live_model.specs.Uses.{Counts, are_below, are_linked, are_placed, bodies_count, count_in_bodies, is_rewiring, statement_count}
+use Rattle.live_model.specs.Uses.{Counts, are_below, are_linked, are_placed, bodies_count, count_in_bodies, is_rewiring}
 
 -- ---- slots
 
@@ -224,14 +225,14 @@ all_linked s few = body_linked s no_bodies few (effects_linked s no_bodies few r
 
 -- ---- statements and lines
 
-line_counts : (us ms : List (List ℕ)) (r : ℕ) (a : Plain) (rest : Stated) → statement_count (placed_line us ms r a rest) ≡ 1 + statement_count rest
+line_counts : (us ms : List (List ℕ)) (r : ℕ) (a : Plain) (rest : Stated) → count_of (placed_line us ms r a rest) ≡ suc (count_of rest)
 line_counts us ms r (p.Rewire n s) rest = refl
 line_counts us ms r _ rest = refl
 
 -- statements and those of their nested effects, before others
 few_statements : (us ms : List (List ℕ)) (e r : ℕ) (s : Statements) (rest : Stated) (others : Bodies)
-    → statement_count (placed us ms e r s rest) + count_in_bodies (effects_of s others)
-    ≤ length (lines_of s) + (statement_count rest + count_in_bodies others)
+    → count_of (placed us ms e r s rest) + count_in_bodies (effects_of s others)
+    ≤ length (lines_of s) + (count_of rest + count_in_bodies others)
 few_statements us ms e r done rest others = omega arith
 few_statements us ms e r (plain a s) rest others =
     let one = line_counts us ms r a (placed us ms e (r + rewires_in a) s rest) in

@@ -5,6 +5,7 @@ use Rattle.std.specs.List.{list_all}
 use Rattle.sig_base.specs.declared.limits.TheConstants.{MOST_SOURCES}
 use Rattle.sig_formula.specs.Trees.{Tree, literal, slot, row_field, row_key, negation, binary, choice, count_of, sum_of, rows_where, untracked}
 use Rattle.formula_text.specs.Wiring.{Wiring}
+use Rattle.effect_tables.specs.Fitting as fitting
 use Rattle.sig_untrack.specs.Stated as stated
 use Rattle.sig_untrack.specs.Stated.{Stated, Source, Rewiring, Bodies, no_bodies, body}
 use Rattle.body_text.specs.declared.judge.TheConstants.{MOST_BODY_LINES}
@@ -166,22 +167,10 @@ abbrev pub bodies_count : Bodies → ℕ
 bodies_count no_bodies = 0
 bodies_count (body ss targets names inner rewirings others) = 1 + bodies_count others
 
--- how many statements there are
-abbrev pub statement_count : Stated → ℕ
-statement_count stated.no_more = 0
-statement_count (stated.set t f rest) = 1 + statement_count rest
-statement_count (stated.log f rest) = 1 + statement_count rest
-statement_count (stated.when f inner rest) = 1 + (statement_count inner + statement_count rest)
-statement_count (stated.cleanup_set t f rest) = 1 + statement_count rest
-statement_count (stated.cleanup_log f rest) = 1 + statement_count rest
-statement_count (stated.effect n rest) = 1 + statement_count rest
-statement_count (stated.dispose t rest) = 1 + statement_count rest
-statement_count (stated.rewire n rest) = 1 + statement_count rest
-
--- in these bodies and in those of their nested effects
+-- how many statements there are in these bodies and in those of their nested effects
 abbrev pub count_in_bodies : Bodies → ℕ
 count_in_bodies no_bodies = 0
-count_in_bodies (body ss targets names inner rewirings others) = statement_count ss + (count_in_bodies inner + count_in_bodies others)
+count_in_bodies (body ss targets names inner rewirings others) = fitting.count_of ss + (count_in_bodies inner + count_in_bodies others)
 
 -- whether something stands at each place of these bodies, and no rewiring has more names than a formula may have
 abbrev pub are_linked : Bodies → Bool
