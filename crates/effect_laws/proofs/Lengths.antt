@@ -1,5 +1,5 @@
 -- How much acts tell.
-use Rattle.std.proofs.Common.{◌≡◌, ◌≤◌, ◌+◌, ℕ, suc, List, [], ◌∷◌, ◌++◌, append-nil, arith, length, length-append, cond, Bool, true, false, sym, ap, subst, ◌∙◌}
+use Rattle.std.proofs.Common.{◌≡◌, ◌≤◌, ◌+◌, List, [], ◌∷◌, append-nil, arith, length, length-append, cond, Bool, true, sym, ap, subst, ◌∙◌}
 use Rattle.effect_model.specs.Owning.{Thing, Undoing, cleans, ends, disposal_of, emptied, taken_out, teardown_of, under}
 use Rattle.effect_model.specs.Worlds.{Environment, Event, cleaned, gone, refused, thing_gone, World, lives, tell}
 use Rattle.effect_model.specs.Acts.{do_cleanup, end_of, undo, undo_all, take_back, dispose_live, dispose_thing}

@@ -1,5 +1,5 @@
 -- A teardown by its parts.
-use Rattle.std.proofs.Common.{◌≡◌, ℕ, List, [], ◌∷◌, refl, sym, ap, ◌∙◌}
+use Rattle.std.proofs.Common.{◌≡◌, List, [], ◌∷◌, refl, sym, ap, ◌∙◌}
 use Rattle.effect_model.specs.Owning.{the_owner, the_effect, the_page, the_signal, the_watcher, Undoing, cleans, ends}
 use Rattle.effect_model.specs.Worlds.{Environment, World, cleaned, gone, tell}
 use Rattle.effect_model.specs.Acts.{do_cleanup, end_of, undo, undo_all}

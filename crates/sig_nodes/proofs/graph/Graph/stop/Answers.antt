@@ -2,7 +2,7 @@ use Rattle.mark_laws.specs.Marked.{ended}
 use Rattle.sig_marks.specs.Tables.{marked_at}
 use Rattle.sig_nodes.proofs.KeptFinds.{known_found}
 use Rattle.sig_nodes.proofs.KeptMarks.{same_table, stop_is, stopped_kept}
-use Rattle.std.proofs.Common.{refl, ◌≡◌, ◌<◌, true, List, None, length, sym, ap, ◌∙◌, subst, is_some}
+use Rattle.std.proofs.Common.{refl, ◌<◌, List, None, length, sym, ap, ◌∙◌, subst, is_some}
 use Rattle.sig_nodes.specs.declared.node.Node.{Node}
 use Rattle.sig_nodes.specs.States.{Seen, is_computing, with_progress}
 use Rattle.sig_nodes.specs.Places.{Holds, KeepsFound, KeepsMarks}
