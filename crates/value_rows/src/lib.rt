@@ -1,4 +1,4 @@
-//! Worked values and rows: how they are printed, compared, copied, edited and placed, and the sources and sinks of bytes.
+//! Worked values and rows: how they are printed, compared, copied, edited and placed, stores of values by number, and the sources and sinks of bytes.
 #![tactic(auto)]
 
 #[cfg(test)]
@@ -7,6 +7,8 @@ mod children;
 mod placing;
 #[cfg(test)]
 mod rows;
+#[cfg(test)]
+mod stores;
 #[cfg(test)]
 mod streams;
 #[cfg(test)]
