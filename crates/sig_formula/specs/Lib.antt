@@ -3,7 +3,7 @@ pub mod Coding
 pub mod Examples
 pub mod Laws
 pub mod Marked
-pub mod Resuming
+pub mod Programs
+pub mod Running
 pub mod Stops
 pub mod Trees
-pub mod Ways

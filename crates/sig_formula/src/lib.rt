@@ -3,17 +3,17 @@
 
 mod copying;
 mod evaluate;
-mod follow;
 mod formula;
-mod frames;
 mod laws;
+mod machine;
 mod operate;
+mod program;
 mod resume;
+mod rounds;
 mod row;
-mod way;
 
 pub use copying::copy_formula;
 pub use evaluate::{FormulaStep, formula_step, step};
 pub use formula::{BinOp, Formula, RowRef};
-pub use frames::{Adding, Frame, Keeping, Paused};
 pub use laws::{formulas_ask_own_unknown_slots, rows_are_asked_by_it_alone};
+pub use resume::Paused;

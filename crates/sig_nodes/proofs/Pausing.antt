@@ -3,19 +3,18 @@ use Rattle.std.proofs.Common.{◌≡◌, List, ◌++◌, drop, length, take, Opt
 use Rattle.std.proofs.lemmas.List.{take-append-drop}
 use Rattle.sig_base.specs.declared.value.Known.{Known}
 use Rattle.sig_formula.specs.declared.formula.Formula.{Formula}
-use Rattle.sig_formula.specs.declared.frames.Frame.{Frame}
 use Rattle.sig_formula.specs.Trees.{tree}
-use Rattle.sig_formula.specs.Resuming.{IsPaused}
+use Rattle.sig_formula.specs.Running.{Evaluation, IsPaused}
 use Rattle.sig_formula.proofs.Shared.{more_is_paused}
 use Rattle.sig_nodes.specs.declared.answers.Recipe.{Recipe}
 use Rattle.sig_nodes.specs.declared.answers.Recipe.TheVariants as recipe
 use Rattle.sig_nodes.specs.Pausing.{IsHeld, IsHeldOf}
 
 -- what is held with a formula stands for the same where more is known
-pub held_more : (held : Option (List Frame)) (r : Recipe) (f : Formula) (earlier known : List Known) → r ≡ recipe.Formula f →
+pub held_more : (held : Option Evaluation) (r : Recipe) (f : Formula) (earlier known : List Known) → r ≡ recipe.Formula f →
     take (length earlier) known ≡ earlier → IsHeld held r earlier → IsHeldOf held (tree f) known
 held_more None r f earlier known is e h = tt
-held_more (Some fs) r f earlier known is e h =
+held_more (Some p) r f earlier known is e h =
     let more = drop (length earlier) known in
-    subst (λ (ks : List Known). IsPaused fs (tree f) None ks) (ap (λ (ks : List Known). ks ++ more) (sym e) ∙ take-append-drop (length earlier) known)
-    (more_is_paused fs (tree f) None earlier more (subst (λ (x : Recipe). IsHeld (Some fs) x earlier) is h))
+    subst (λ (ks : List Known). IsPaused p (tree f) None ks) (ap (λ (ks : List Known). ks ++ more) (sym e) ∙ take-append-drop (length earlier) known)
+    (more_is_paused p (tree f) None earlier more (subst (λ (x : Recipe). IsHeld (Some p) x earlier) is h))

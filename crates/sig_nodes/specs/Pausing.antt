@@ -1,19 +1,18 @@
 -- What a computed holds of the evaluation of its formula.
 use Rattle.std.specs.Prelude.{List, Option, Some, None}
 use Rattle.sig_base.specs.declared.value.Known.{Known}
-use Rattle.sig_formula.specs.declared.frames.Frame.{Frame}
 use Rattle.sig_formula.specs.Trees.{Tree, tree}
-use Rattle.sig_formula.specs.Resuming.{IsPaused}
+use Rattle.sig_formula.specs.Running.{Evaluation, IsPaused}
 use Rattle.sig_nodes.specs.declared.answers.Recipe.{Recipe}
 use Rattle.sig_nodes.specs.declared.answers.Recipe.TheVariants.{Formula, Host}
 
--- frames that are held of a formula which was asked with these values
-abbrev pub IsHeldOf : Option (List Frame) → Tree → List Known → Type 0
+-- an evaluation that is held of a formula which was asked with these values
+abbrev pub IsHeldOf : Option Evaluation → Tree → List Known → Type 0
 IsHeldOf None t known = Unit {0}
-IsHeldOf (Some fs) t known = IsPaused fs t None known
+IsHeldOf (Some p) t known = IsPaused p t None known
 
--- the same of frames that are held with a recipe
-abbrev pub IsHeld : Option (List Frame) → Recipe → List Known → Type 0
+-- the same of one that is held with a recipe
+abbrev pub IsHeld : Option Evaluation → Recipe → List Known → Type 0
 IsHeld None r known = Unit {0}
-IsHeld (Some fs) (Formula f) known = IsPaused fs (tree f) None known
-IsHeld (Some fs) (Host place) known = Unit {0}
+IsHeld (Some p) (Formula f) known = IsPaused p (tree f) None known
+IsHeld (Some p) (Host place) known = Unit {0}

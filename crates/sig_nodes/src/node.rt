@@ -13,7 +13,7 @@ ghost use Rattle.sig_nodes.specs.Answers.{expression_of, host_place, IsAnswerOf,
 ghost use Rattle.sig_nodes.specs.Computations.{at_generation, paired, recipe_made};
 ghost use Rattle.sig_nodes.specs.Pausing.{IsHeldOf};
 ghost use Rattle.sig_base.specs.declared.value.Known.{Known};
-ghost use Rattle.sig_formula.specs.Resuming.{IsPaused};
+ghost use Rattle.sig_formula.specs.Running.{IsPaused};
 ghost use Rattle.sig_formula.specs.Trees.{tree};
 
 use crate::answers::{Asked, Recipe};

@@ -1,9 +1,11 @@
-// The path from a formula to the slot at which its evaluation stopped.
-ghost use Rattle.std.specs.Prelude.{◌≡◌, ◌<◌, ◌≤◌, [], ◌∷◌, ◌++◌, length, OnOk, IfOk};
+// Rows that are gone over, and what is made of those that were gone over.
+ghost use Rattle.std.specs.Prelude.{◌≡◌, ◌<◌, ◌≤◌, [], ◌∷◌, ◌++◌, false, length, OnOk, IfOk, IfSome};
 ghost use Rattle.sig_base.specs.Tables.{marked};
-ghost use Rattle.sig_formula.specs.Resuming.{gathering_frame};
+ghost use Rattle.sig_base.specs.declared.value.Value.TheVariants as value;
+ghost use Rattle.sig_formula.specs.Running.{going_over, is_within, made, place_of, row_of, rows_of};
 
-use crate::way::Way;
+use crate::RowRef;
+use crate::program::Gathering;
 use sig_base::{NoMemory, Rows, Value};
 use std::alloc::Global;
 use std::marker::Model;
@@ -84,55 +86,84 @@ impl Keeping {
     }
 }
 
-/// Where an evaluation stands in a formula that has several parts, and what the parts before came to.
+/// What is made of rows, and the row at which it stands.
 #[derive(Drop)]
-pub enum Frame {
-    /// In the first part.
-    First,
-    /// In the right operand, by the value of the left one.
-    Second(Value),
-    /// In the branch for a truth.
-    Branch(bool),
-    /// In what is added up over rows.
+pub enum Going {
+    /// A sum over them.
     Adding(Adding),
-    /// In the test of rows.
+    /// Those that are kept.
     Keeping(Keeping),
 }
 
-/// What is made of rows: a sum over them, or those that are kept.
-#[derive(Clone, Copy)]
-pub(crate) enum Gathering {
-    Sum,
-    Keep,
-}
-
-impl Gathering {
-    /// The frame with which rows are gone over from the first one on.
-    pub(crate) fn frame(self, alloc: Global, rows: Rows) -> Frame
-        ensures { result ≡ gathering_frame self rows }
+impl Going {
+    /// At the first of these rows.
+    pub(crate) fn over(alloc: Global, gathering: Gathering, rows: Rows) -> Going
+        ensures { result ≡ going_over gathering rows }
     {
-        match self {
-            Gathering::Sum => Frame::Adding(Adding {
+        match gathering {
+            Gathering::Sum => Going::Adding(Adding {
                 rows,
                 place: 0,
                 sum: Value::Int(0),
             }),
-            Gathering::Keep => Frame::Keeping(Keeping::new(alloc, rows)),
+            Gathering::Keep => Going::Keeping(Keeping::new(alloc, rows)),
+        }
+    }
+
+    fn rows(&self) -> &Rows
+        ensures { result.now ≡ rows_of self.now }
+    {
+        match self {
+            Going::Adding(at) => &at.rows,
+            Going::Keeping(at) => at.rows(),
+        }
+    }
+
+    fn place(&self) -> usize
+        ensures { result ≡ place_of self.now }
+    {
+        match self {
+            Going::Adding(at) => at.place,
+            Going::Keeping(at) => at.place(),
+        }
+    }
+
+    /// Whether it stands at a row, and not behind the last one.
+    pub(crate) fn is_within(&self) -> bool
+        ensures { result ≡ is_within self.now }
+    {
+        self.place() < self.rows().len()
+    }
+
+    /// The row at which it stands.
+    pub(crate) fn row(&self) -> Result<Option<RowRef>, NoMemory>
+        ensures row { IfOk result (λ r. r ≡ row_of self.now) }
+        ensures within { IfOk result (λ o. IfSome o (λ r. r.place < length r.rows.rows)) }
+    {
+        if self.is_within() {
+            return Ok(Some(RowRef {
+                rows: self.rows().copy()?,
+                place: self.place(),
+            }));
+        }
+        Ok(None)
+    }
+
+    /// What it comes to behind the last row.
+    pub(crate) fn end(self, alloc: Global) -> Result<Value, NoMemory>
+        requires { is_within self ≡ false }
+        ensures { IfOk result (λ v. v ≡ made self) }
+    {
+        match self {
+            Going::Adding(at) => Ok(at.sum),
+            Going::Keeping(at) => Ok(Value::Rows(at.kept(alloc)?)),
         }
     }
 }
 
-/// The frames of an evaluation, the outermost first.
+/// Rows that are gone over, and the place of the instructions for each of them.
 #[derive(Drop)]
-pub struct Paused {
-    pub(crate) way: Way,
-}
-
-impl Model for Paused {
-    ghost use Rattle.std.specs.Prelude.{List};
-    ghost use Rattle.sig_formula.specs.declared.frames.Frame.{Frame};
-
-    ghost Value = { List Frame };
-
-    ghost view = { λ p. p.way.inside };
+pub struct Round {
+    pub(crate) going: Going,
+    pub(crate) body: usize,
 }
