@@ -1,5 +1,5 @@
 -- What is held of an evaluation goes on standing for its formula.
-use Rattle.std.proofs.Common.{◌≡◌, List, ◌++◌, drop, length, take, Option, Some, None, sym, ap, ◌∙◌, subst}
+use Rattle.std.proofs.Common.{◌≡◌, List, [], ◌++◌, drop, length, take, Option, Some, None, sym, ap, ◌∙◌, subst}
 use Rattle.std.proofs.lemmas.List.{take-append-drop}
 use Rattle.sig_base.specs.declared.value.Known.{Known}
 use Rattle.sig_formula.specs.declared.formula.Formula.{Formula}
@@ -18,3 +18,7 @@ held_more (Some p) r f earlier known is e h =
     let more = drop (length earlier) known in
     subst (λ (ks : List Known). IsPaused p (tree f) None ks) (ap (λ (ks : List Known). ks ++ more) (sym e) ∙ take-append-drop (length earlier) known)
     (more_is_paused p (tree f) None earlier more (subst (λ (x : Recipe). IsHeld (Some p) x earlier) is h))
+
+-- what has read nothing stands for the formula whatever is known
+pub new_held : (p : Evaluation) (f : Formula) → IsPaused p (tree f) None [] → (known : List Known) → IsPaused p (tree f) None known
+new_held p f h known = more_is_paused p (tree f) None [] known h
