@@ -14,7 +14,6 @@ use Rattle.effect_model.specs.Owning.{sets, logs}
 use Rattle.sig_untrack.specs.declared.body.Body.{Body}
 use Rattle.sig_untrack.specs.declared.body.Act.{Act as AnAct}
 use Rattle.sig_untrack.specs.declared.body.BodyStep.{BodyStep as AStep}
-use Rattle.sig_untrack.specs.declared.body.BodyStep.TheVariants as step
 use Rattle.sig_untrack.specs.Linking.{Parts, acts_of, linked, step_of}
 use Rattle.sig_untrack.specs.Stated.{Stated, no_more, set, log, when, cleanup_set, cleanup_log, effect, dispose, rewire, before, no_bodies, statements_of}
 use Rattle.effect_tables.specs.Fitting.{count_of}

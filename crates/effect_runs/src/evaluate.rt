@@ -10,10 +10,9 @@ ghost use Rattle.effect_tables.specs.Fitting.{count_of};
 ghost use Rattle.effect_runs.specs.Evaluating.{body_seen, HasNames, IsRunOf, IsShort};
 ghost use Rattle.sig_computed.specs.Scenes.{scene, CanSettle, Settles};
 
-use crate::asking::ask;
 use crate::reading::{BodyEnd, BodyRun, Reading};
 use sig_base::{NoMemory, NodeId, Outcome};
-use sig_computed::RunNote;
+use sig_computed::{RunNote, settle};
 use sig_host::{Lent, Shelf};
 use sig_nodes::Graph;
 use sig_untrack::{Body, BodyStep, body_step};
@@ -72,7 +71,8 @@ pub fn evaluate_body(
             }
         };
         let id = slot_name(names, slot);
-        match ask(graph, shelf, id, notes)? {
+        let _count = notes.len();
+        match settle(graph, shelf, id, notes)? {
             Outcome::Good(value) => reading.learn(slot, tracked, id, value)?,
             Outcome::Bad(fault) => {
                 let run = reading.fail(tracked, id, fault)?;

@@ -1,7 +1,6 @@
 //! How the body of an effect is evaluated, and when an effect is due.
 #![tactic(auto)]
 
-mod asking;
 mod evaluate;
 mod looking;
 mod reading;

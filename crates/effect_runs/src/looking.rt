@@ -7,9 +7,8 @@ ghost use Rattle.signal_model.specs.Kept.{AreKept};
 ghost use Rattle.effect_model.specs.Running.{is_effect_due, looked_at, looked_names, some_differs};
 ghost use Rattle.sig_computed.specs.Scenes.{scene, CanSettle, Settles};
 
-use crate::asking::ask;
 use sig_base::NoMemory;
-use sig_computed::RunNote;
+use sig_computed::{RunNote, settle};
 use sig_host::{Lent, Shelf};
 use sig_nodes::Graph;
 use sig_untrack::Read;
@@ -33,7 +32,8 @@ fn look_at(
     ensures counted { OnOk result (⟦<Shelf as Lent>⟧.counted shelf.new) }
 {
     for read in reads {
-        let outcome = ask(graph, shelf, read.id, notes)?;
+        let _count = notes.len();
+        let outcome = settle(graph, shelf, read.id, notes)?;
         if !outcome.same(&read.outcome) {
             return Ok(true);
         }

@@ -8,9 +8,9 @@ ghost use Rattle.signal_model.specs.Sound.{names_of};
 ghost use Rattle.sig_nodes.specs.States.{is_computing, progress_at, CanWear};
 ghost use Rattle.sig_computed.specs.Stepping.{frame_names, new_frame};
 ghost use Rattle.sig_host.specs.Hosts.{most_asked};
-ghost use Rattle.sig_computed.specs.Asked.{AreThere, IsAsking, StayThere};
-ghost use Rattle.sig_computed.specs.Notes.{note_of, AreNotesGiven, HasRoom, IsIdle, IsSettling};
-ghost use Rattle.sig_computed.specs.Costs.{step_bound};
+ghost use Rattle.sig_computed.specs.Asked.{AreThere};
+ghost use Rattle.sig_computed.specs.Notes.{note_of, HasRoom, IsIdle};
+ghost use Rattle.sig_computed.specs.Scenes.{scene, CanSettle, Settles};
 ghost use Rattle.sig_computed.specs.Views.{evaluating, evaluation_of, frame_of, move_of, progressed, seen_of, tops, Stays};
 ghost use Rattle.sig_computed.specs.Turns.{evaluation_note, first_stack, notes_of, stack_after, visited_after, AreReadsGiven, CanMove, HasFirst, IsKept, IsMoved};
 
@@ -174,21 +174,14 @@ pub fn settle(
     requires counted { ⟦<Shelf as Lent>⟧.counted shelf.old }
     requires there { AreThere graph.old.state.signals (⟦<Shelf as Lent>⟧.asked shelf.old) }
     requires room { most_asked (⟦<Shelf as Lent>⟧.asked shelf.old) < 2 ^ 127 }
-    ensures value { (hosts : Hosts) → ⟦<Shelf as Lent>⟧.answers hosts shelf.old → AreKept hosts graph.old.state.signals graph.old.state.memos → IfOk result (λ o. o ≡ value_of hosts graph.old.state.signals id []) }
-    ensures settled { (hosts : Hosts) → ⟦<Shelf as Lent>⟧.answers hosts shelf.old → AreKept hosts graph.old.state.signals graph.old.state.memos → OnOk result (IsSettling hosts graph.old.state.signals graph.old.state.memos (id ∷ []) (map note_of notes.old.items) (map note_of notes.new.items) graph.new.state.memos) }
-    ensures kept { (hosts : Hosts) → ⟦<Shelf as Lent>⟧.answers hosts shelf.old → AreKept hosts graph.old.state.signals graph.old.state.memos → OnOk result (AreKept hosts graph.new.state.signals graph.new.state.memos) }
-    ensures asked { (hosts : Hosts) → ⟦<Shelf as Lent>⟧.answers hosts shelf.old → AreKept hosts graph.old.state.signals graph.old.state.memos → OnOk result (IsAsking hosts graph.old.state.signals graph.old.state.memos (id ∷ []) (⟦<Shelf as Lent>⟧.asked shelf.old) (⟦<Shelf as Lent>⟧.asked shelf.new)) }
-    ensures answers { (hosts : Hosts) → ⟦<Shelf as Lent>⟧.answers hosts shelf.old → OnOk result (⟦<Shelf as Lent>⟧.answers hosts shelf.new) }
+    ensures value { (hosts : Hosts) → ⟦<Shelf as Lent>⟧.answers hosts shelf.old → AreKept hosts graph.old.state.signals graph.old.state.memos →
+        IfOk result (λ o. o ≡ value_of hosts graph.old.state.signals id []) }
+    ensures settles { OnOk result (Settles
+        (scene graph.old (⟦<Shelf as Lent>⟧.asked shelf.old) notes.old.items) (scene graph.new (⟦<Shelf as Lent>⟧.asked shelf.new) notes.new.items)
+        (λ hosts. ⟦<Shelf as Lent>⟧.answers hosts shelf.old) (λ hosts. ⟦<Shelf as Lent>⟧.answers hosts shelf.new) (λ _. id ∷ [])) }
+    ensures can { CanSettle (scene graph.old (⟦<Shelf as Lent>⟧.asked shelf.old) notes.old.items) →
+        OnOk result (CanSettle (scene graph.new (⟦<Shelf as Lent>⟧.asked shelf.new) notes.new.items)) }
     ensures counted { OnOk result (⟦<Shelf as Lent>⟧.counted shelf.new) }
-    ensures there { OnOk result (StayThere (⟦<Shelf as Lent>⟧.asked shelf.old) (⟦<Shelf as Lent>⟧.asked shelf.new)) }
-    ensures most { OnOk result (most_asked (⟦<Shelf as Lent>⟧.asked shelf.new) + 65 * length notes.old.items ≤ most_asked (⟦<Shelf as Lent>⟧.asked shelf.old) + 65 * length notes.new.items) }
-    ensures signals { OnOk result (graph.new.state.signals ≡ graph.old.state.signals) }
-    ensures idle { OnOk result (IsIdle graph.new.state) }
-    ensures seats { OnOk result (graph.new.seats ≡ graph.old.seats) }
-    ensures given { OnOk result (graph.new.given ≡ graph.old.given) }
-    ensures named { OnOk result (AreNotesGiven graph.old (map note_of notes.old.items) → AreNotesGiven graph.new (map note_of notes.new.items)) }
-    ensures steps { (hosts : Hosts) → ⟦<Shelf as Lent>⟧.answers hosts shelf.old → AreKept hosts graph.old.state.signals graph.old.state.memos → OnOk result (graph.new.state.looked ≤ graph.old.state.looked + step_bound hosts graph.old.state.signals graph.old.state.memos (id ∷ [])) }
-    ensures worn { OnOk result (graph.new.state.worn + length notes.old.items ≡ graph.old.state.worn + length notes.new.items) }
 {
     let _made = graph.made();
     let Standing::Computed = graph.standing(id) else {

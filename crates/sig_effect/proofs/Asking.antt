@@ -1,26 +1,23 @@
 -- What settling does, where the stores do their part.
-use Rattle.std.proofs.Common.{◌≡◌, ◌==◌, ◌<◌, ◌≤◌, ◌+◌, ◌++◌, ℕ, zero, suc, Bool, true, false, cond, List, [], ◌∷◌, map, length, slice_get, Option, Some, None, refl, sym, ap, subst, ◌∙◌, arith, ◌⊎◌, inl, inr}
-use Rattle.std.specs.List.{All, AllByRecursion}
-use Rattle.signal_model.specs.Recipes.{Hosts, Expression}
-use Rattle.signal_model.specs.Standing.{Signals, Computed, Stands, IsGone, IsCell, IsComputed, standing}
-use Rattle.signal_model.specs.Memos.{Memos}
+use Rattle.std.proofs.Common.{◌≡◌, ◌+◌, ◌++◌, ℕ, zero, suc, Bool, true, false, cond, List, [], ◌∷◌, map, refl, sym, ap, subst, ◌∙◌, arith, inl, inr}
+use Rattle.signal_model.specs.Recipes.{Hosts}
+use Rattle.signal_model.specs.Standing.{Signals, Stands, IsGone, IsCell, IsComputed, standing}
 use Rattle.signal_model.specs.Kept.{AreKept}
 use Rattle.signal_model.specs.Settling.{Run, settled}
 use Rattle.signal_model.specs.Asks.{Moment, asks_host, asks_in, asks_of, good_reads, is_host, moments}
 use Rattle.signal_model.proofs.Shared.{tested}
 use Rattle.effect_model.specs.Worlds as plain
 use Rattle.effect_model.specs.Worlds.{HostState, asked_by, asked_more, ran}
-use Rattle.sig_host.specs.Hosts.{HostPlace, count_at, is_there, place_after, places_after, no_place, place_at}
+use Rattle.sig_host.specs.Hosts.{HostPlace, count_at, is_there, place_after, places_after, place_at}
 use Rattle.sig_nodes.specs.Answers.{host_here, uses_host}
-use Rattle.sig_nodes.specs.States.{Seen, State, is_computing}
 use Rattle.sig_watcher.specs.Tables.{Table}
 use Rattle.sig_computed.specs.declared.notes.RunNote.{RunNote}
-use Rattle.sig_computed.specs.Asked.{AreThere, IsAsking, StayThere}
-use Rattle.sig_computed.specs.Notes.{note_of, run_note, IsIdle, IsSettling, Note}
+use Rattle.sig_computed.specs.Asked.{IsAsking, StayThere}
+use Rattle.sig_computed.specs.Notes.{note_of, run_note, IsIdle, IsSettling}
 use Rattle.sig_effect.specs.declared.events.Event.{Event}
 use Rattle.sig_effect.specs.declared.events.Event.TheVariants as event
 use Rattle.sig_effect.specs.declared.world.World.{World}
-use Rattle.sig_effect.specs.Events.{AreTold, Tells}
+use Rattle.sig_effect.specs.Events.{AreTold}
 use Rattle.sig_effect.specs.Wholes.{host_state, host_states, whole_of}
 use Rattle.sig_effect.specs.Agreeing.{environment, Agrees, AreListed, AreOwn, AreUnasked, AreWatched, Does, IsSound}
 use Rattle.sig_effect.proofs.Users.{place_is, uses_by}

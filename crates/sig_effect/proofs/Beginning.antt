@@ -1,7 +1,6 @@
 -- The world at the beginning.
-use Rattle.std.proofs.Common.{◌≡◌, ◌+◌, ℕ, zero, suc, Bool, true, false, List, [], ◌∷◌, length, refl, sym, ap, subst, ◌∙◌}
+use Rattle.std.proofs.Common.{◌≡◌, ℕ, zero, suc, List, [], ◌∷◌, length, refl, sym, ap, subst, ◌∙◌}
 use Rattle.signal_model.specs.Recipes.{Hosts}
-use Rattle.signal_model.specs.Standing.{Signals}
 use Rattle.signal_model.specs.Kept.{AreKept}
 use Rattle.signal_laws.proofs.Shared.{empty_law}
 use Rattle.effect_model.specs.Commands.{new_world}
@@ -9,9 +8,8 @@ use Rattle.sig_host.specs.Hosts.{HostPlace, count_at}
 use Rattle.sig_nodes.specs.Answers.{uses_host}
 use Rattle.sig_nodes.specs.States.{Seen, State, no_state}
 use Rattle.sig_watcher.specs.Tables.{Table, no_watchers}
-use Rattle.sig_effect.specs.declared.world.World.{World}
-use Rattle.sig_effect.specs.Wholes.{host_states, whole, whole_of}
-use Rattle.sig_effect.specs.Agreeing.{AreNew, AreUnasked, IsSound}
+use Rattle.sig_effect.specs.Wholes.{host_states, whole_of}
+use Rattle.sig_effect.specs.Agreeing.{AreNew, IsSound}
 use Rattle.sig_effect.proofs.HostStates.{states_new}
 
 pub new_whole : (asked : List HostPlace) (g : Seen) (t : Table) → g.state ≡ no_state → g.given ≡ 0 → t ≡ no_watchers → AreNew asked →

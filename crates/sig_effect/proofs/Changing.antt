@@ -1,28 +1,24 @@
 -- What rewirings, disposals and sets do, where the stores do their part.
-use Rattle.std.proofs.Common.{◌≡◌, ◌==◌, ◌<◌, ◌≤◌, ◌+◌, ◌++◌, ◌||◌, ◌&&◌, not, ℕ, zero, suc, Bool, true, false, cond, List, [], ◌∷◌, map, length, slice_get, Option, Some, None, refl, sym, ap, subst, ◌∙◌, arith, append-nil, append_assoc, ◌⊎◌, ◌↔◌, inl, inr}
+use Rattle.std.proofs.Common.{◌≡◌, ◌≤◌, ◌++◌, ℕ, Bool, true, false, cond, List, [], ◌∷◌, map, slice_get, Option, Some, None, refl, sym, ap, subst, ◌∙◌, arith, append-nil, append_assoc, ◌↔◌}
 use Rattle.std.specs.Option.{option_or}
 use Rattle.std.specs.Prelude.{IsErr, Ok, Err}
 use Rattle.std.specs.declared.result.Result.{Result}
-use Rattle.std.specs.List.{All, AllByRecursion, filter}
-use Rattle.std.proofs.lemmas.Bool.{eqb-true, eq-eqb}
+use Rattle.std.proofs.lemmas.Bool.{eq-eqb}
 use Rattle.sig_base.specs.declared.value.Value.{Value}
 use Rattle.signal_model.specs.Recipes.{Hosts, Recipe}
-use Rattle.signal_model.specs.Standing.{Signals, Cell, Computed, Stands, IsGone, IsCell, IsComputed, is_computed, is_in, is_there, standing, without}
+use Rattle.signal_model.specs.Standing.{Signals, Cell, Computed, Stands, IsGone, IsCell, IsComputed, is_computed, is_in, is_there, standing}
 use Rattle.signal_model.specs.Changes.{with_value, with_recipe, without_signal, after_change, after_disposal, after_rewiring}
 use Rattle.signal_model.specs.Kept.{AreKept}
 use Rattle.signal_model.specs.Memos.{Memos}
-use Rattle.signal_model.proofs.Shared.{tested}
 use Rattle.signal_laws.proofs.Shared.{set_law, rewire_law, dispose_law}
 use Rattle.effect_model.specs.Owning.{the_signal, the_watcher}
 use Rattle.effect_model.specs.Worlds as plain
 use Rattle.effect_model.specs.Worlds.{Environment, HostState, Watcher, dropped_host, watcher_numbers}
 use Rattle.effect_model.specs.Acts.{are_alike, asks_so_far, dispose_thing, forget, frozen_by, host_of, host_refused, is_notified, notified_by, or_refused, rewire_signal, rewire_standing, rewiring_refused, set_cell, set_standing, some_gone, told_frozen, told_of, waiting_if, with_drop, with_new_value, with_use, without_node, end_standing}
-use Rattle.effect_model.specs.Watching.{at_rest}
 use Rattle.sig_host.specs.Hosts.{HostPlace, count_at, most_asked}
 use Rattle.sig_host.proofs.Shared.{most_asked-dropped}
 use Rattle.sig_nodes.specs.Answers.{host_here, host_place, uses_host}
 use Rattle.sig_nodes.specs.States.{Seen, State, Becomes, are_there, is_cell, is_computing, with_disposal, with_rewiring, with_set}
-use Rattle.sig_watcher.specs.Numbers.{AreNumbered, Rises}
 use Rattle.sig_watcher.specs.Tables.{Table, with_each, with_removal}
 use Rattle.sig_watcher.specs.Telling.{told_entry}
 use Rattle.sig_watcher.proofs.Shared.{entries_told, entries_frozen}
@@ -39,12 +35,11 @@ use Rattle.sig_effect.specs.declared.events.Thing.TheVariants as thing
 use Rattle.sig_effect.specs.declared.world.World.{World}
 use Rattle.sig_effect.specs.Events.{thing_of, AreTold, IsTold, Tells}
 use Rattle.sig_effect.specs.Telling.{drop_events, dropped_if, AreFrozen, AreNotices, IsFrozen}
-use Rattle.sig_effect.specs.Wholes.{host_states, whole, whole_of}
+use Rattle.sig_effect.specs.Wholes.{host_states, whole_of}
 use Rattle.sig_effect.specs.Agreeing.{environment, Agrees, AreListed, AreOwn, AreUnasked, AreWatched, Does, IsSound}
 use Rattle.sig_effect.proofs.Standings.{gone_now, left_now, recipe_beside, recipe_now, value_host}
 use Rattle.sig_effect.proofs.Standings.{listed_left, listed_recipe, listed_value, watched_left, watched_still, recipe_keeps, value_keeps, idle_left}
-use Rattle.sig_effect.proofs.Users.{host_same, IsEdit, states_after, there_after, unasked_after, own_after, left_count, left_there, use_states, drop_states, none_some}
-use Rattle.sig_effect.proofs.HostStates.{states_same}
+use Rattle.sig_effect.proofs.Users.{host_same, IsEdit, states_after, there_after, unasked_after, own_after, left_count, use_states, drop_states, none_some}
 use Rattle.sig_effect.proofs.Watched.{all_mapped, all_without, both}
 use Rattle.sig_effect.proofs.Doing.{does_by, free_place, fresh_place, tells_none, IsWhole}
 

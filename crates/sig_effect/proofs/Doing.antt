@@ -1,40 +1,34 @@
 -- What each change does, where the stores do their part.
-use Rattle.std.proofs.Common.{◌≡◌, ◌==◌, ◌<◌, ◌≤◌, ◌+◌, ◌++◌, ◌||◌, ◌&&◌, not, ℕ, Bool, true, false, cond, List, [], ◌∷◌, map, slice_get, Option, Some, None, refl, sym, ap, subst, ◌∙◌, arith, append-nil, ◌⊎◌, inl, inr}
-use Rattle.std.specs.Prelude.{is_some}
-use Rattle.std.specs.Option.{option_or}
-use Rattle.std.specs.List.{AllByRecursion}
-use Rattle.std.proofs.lemmas.Bool.{eqb-true, eq-eqb}
+use Rattle.std.proofs.Common.{◌≡◌, ◌==◌, ◌+◌, ◌&&◌, not, ℕ, Bool, true, false, cond, List, [], slice_get, Option, Some, None, refl, sym, ap, subst, ◌∙◌, arith, append-nil, inl, inr}
+use Rattle.std.proofs.lemmas.Bool.{eqb-true}
 use Rattle.sig_base.specs.declared.value.Value.{Value}
-use Rattle.signal_model.specs.Recipes.{Hosts, Recipe, Expression, formula, host}
-use Rattle.signal_model.specs.Standing.{Signals, Cell, Computed, Stands, IsGone, IsCell, IsComputed, is_there, standing}
-use Rattle.signal_model.specs.Changes.{with_cell, with_computed, with_value, with_recipe, without_signal}
+use Rattle.signal_model.specs.Recipes.{Hosts, Recipe, Expression}
+use Rattle.signal_model.specs.Standing.{Signals, Cell, Computed, is_there, standing}
+use Rattle.signal_model.specs.Changes.{with_cell, with_computed}
 use Rattle.signal_model.specs.Kept.{AreKept}
 use Rattle.signal_model.proofs.Shared.{tested}
-use Rattle.signal_laws.proofs.Shared.{cell_law, computed_law, set_law, rewire_law, dispose_law}
-use Rattle.effect_model.specs.Owning.{the_signal, nothing}
+use Rattle.signal_laws.proofs.Shared.{cell_law, computed_law}
+use Rattle.effect_model.specs.Owning.{nothing}
 use Rattle.effect_model.specs.Worlds as plain
 use Rattle.effect_model.specs.Worlds.{HostState, Refused, dropped_host, lives, used, unused}
-use Rattle.effect_model.specs.Acts.{asks_so_far, gone_refused, host_of, host_refused, is_free, or_refused, rewire_signal, rewire_standing, rewiring_refused, some_gone, with_drop, with_use}
+use Rattle.effect_model.specs.Acts.{host_of, host_refused, is_free, with_use}
 use Rattle.effect_model.specs.Commands.{with_new_cell, with_new_computed}
 use Rattle.effect_model.specs.Watching.{at_rest}
 use Rattle.sig_host.specs.Hosts.{HostPlace, count_at, is_there as is_there_at}
-use Rattle.sig_nodes.specs.Answers.{host_here, host_place, uses_host}
+use Rattle.sig_nodes.specs.Answers.{host_here, uses_host}
 use Rattle.sig_nodes.specs.States.{Seen, State, Makes, Becomes, are_there, is_computing, is_given, progress_at}
 use Rattle.sig_nodes.specs.States as states
 use Rattle.sig_watcher.specs.Tables.{Table}
 use Rattle.sig_computed.specs.Asked.{AreThere}
 use Rattle.sig_effect.specs.declared.events.Event.{Event}
-use Rattle.sig_effect.specs.declared.events.Event.TheVariants as event
 use Rattle.sig_effect.specs.declared.world.World.{World}
-use Rattle.sig_effect.specs.Events.{AreTold, Tells}
-use Rattle.sig_effect.specs.Telling.{drop_events, dropped_if}
+use Rattle.sig_effect.specs.Events.{Tells}
 use Rattle.sig_effect.specs.Wholes.{host_states, whole, whole_of}
 use Rattle.sig_effect.specs.Agreeing.{Agrees, AreListed, AreOwn, AreUnasked, AreWatched, Does, IsSound}
-use Rattle.sig_effect.proofs.HostStates.{free_at, states_same}
-use Rattle.sig_effect.proofs.Standings.{gone_host, none_there, cell_beside, cell_made, computed_beside, computed_made, recipe_beside, recipe_now}
-use Rattle.sig_effect.proofs.Standings.{listed_cell, listed_computed, listed_recipe, watched_still, cell_keeps, computed_keeps, recipe_keeps, idle_made}
-use Rattle.sig_effect.proofs.Users.{host_same, uses_by, IsEdit, states_after, there_after, unasked_after, own_after, left_there, use_states, drop_states}
-use Rattle.sig_effect.proofs.Watched.{both}
+use Rattle.sig_effect.proofs.HostStates.{free_at}
+use Rattle.sig_effect.proofs.Standings.{gone_host, none_there, cell_beside, cell_made, computed_beside, computed_made}
+use Rattle.sig_effect.proofs.Standings.{listed_cell, listed_computed, watched_still, cell_keeps, computed_keeps, idle_made}
+use Rattle.sig_effect.proofs.Users.{host_same, IsEdit, states_after, there_after, unasked_after, own_after, use_states}
 
 -- ---- an act by its plain world
 

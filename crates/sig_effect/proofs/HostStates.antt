@@ -1,11 +1,9 @@
 -- How host formulas stand, place by place.
-use Rattle.std.proofs.Common.{◌≡◌, ◌==◌, ◌+◌, ◌≤◌, ℕ, zero, suc, Bool, true, false, cond, not, ◌&&◌, ◌||◌, List, [], ◌∷◌, length, slice_get, replicate, Option, Some, None, refl, sym, ap, ◌∙◌, subst, arith, set as put_at}
-use Rattle.std.proofs.lemmas.Bool.{eqb-true}
+use Rattle.std.proofs.Common.{◌≡◌, ◌==◌, ◌+◌, ◌≤◌, ℕ, zero, suc, Bool, true, false, cond, not, ◌&&◌, List, [], ◌∷◌, length, slice_get, replicate, Some, refl, sym, ap, ◌∙◌, arith, set as put_at}
 use Rattle.std.proofs.lemmas.Bool.Decides.{nat_tests}
-use Rattle.std.specs.List.{AllByRecursion}
-use Rattle.effect_model.specs.Worlds.{HostState, unused, used, dropped}
+use Rattle.effect_model.specs.Worlds.{unused, used, dropped}
 use Rattle.effect_model.specs.Acts.{asks_so_far, is_free}
-use Rattle.sig_host.specs.Hosts.{HostPlace, count_at, dropped_at, is_there, unasked_place}
+use Rattle.sig_host.specs.Hosts.{HostPlace, count_at, dropped_at, is_there}
 use Rattle.sig_effect.specs.Wholes.{host_state, host_states}
 use Rattle.sig_effect.specs.Agreeing.{AreNew}
 

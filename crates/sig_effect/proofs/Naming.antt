@@ -1,17 +1,17 @@
 -- What events name was made.
-use Rattle.std.proofs.Common.{◌≡◌, ◌==◌, ◌<◌, ◌≤◌, ◌+◌, ◌++◌, ◌||◌, ℕ, zero, suc, Bool, true, false, cond, List, [], ◌∷◌, map, length, Option, Some, None, refl, sym, ap, subst, ◌∙◌, arith, ◌⊎◌, inl, inr}
+use Rattle.std.proofs.Common.{◌≡◌, ◌==◌, ◌<◌, ◌≤◌, ◌+◌, ◌++◌, ℕ, zero, suc, Bool, true, false, cond, List, [], ◌∷◌, map, Option, Some, None, refl, sym, subst, ◌∙◌, arith, inl, inr}
 use Rattle.std.specs.List.{All, AllByRecursion, filter}
 use Rattle.std.proofs.lemmas.Bool.{eqb-true}
 use Rattle.std.proofs.lemmas.List.Elements.{All-append, All-from_recursion}
 use Rattle.signal_model.specs.Standing.{is_in}
 use Rattle.signal_model.proofs.Shared.{either}
 use Rattle.effect_model.specs.Worlds.{Watcher, watcher_numbers}
-use Rattle.effect_model.specs.Acts.{frozen_by, is_notified, notified_by}
-use Rattle.sig_host.specs.Hosts.{HostPlace, count_at}
+use Rattle.effect_model.specs.Acts.{frozen_by}
+use Rattle.sig_host.specs.Hosts.{HostPlace}
 use Rattle.sig_nodes.specs.States.{Seen, is_given}
 use Rattle.sig_nodes.proofs.Shared.{given_same}
 use Rattle.sig_computed.specs.declared.notes.RunNote.{RunNote}
-use Rattle.sig_computed.specs.Notes.{note_of, IsNoteGiven, AreNotesGiven}
+use Rattle.sig_computed.specs.Notes.{note_of, AreNotesGiven}
 use Rattle.sig_watcher.specs.Numbers.{AreNumbered, Rises}
 use Rattle.sig_watcher.specs.Telling.{told_entry}
 use Rattle.sig_watcher.proofs.Shared.{entries_told, entries_frozen}

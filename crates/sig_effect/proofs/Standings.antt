@@ -1,20 +1,20 @@
 -- What stands after each change, and what stays listed, watched and ruled.
-use Rattle.std.proofs.Common.{◌≡◌, ◌==◌, ◌<◌, ◌++◌, ℕ, Bool, true, false, cond, List, [], ◌∷◌, map, Option, Some, None, refl, sym, ap, subst, ◌∙◌, ◌⊎◌, inl, inr}
+use Rattle.std.proofs.Common.{◌≡◌, ◌==◌, ◌<◌, ◌++◌, ℕ, Bool, true, false, cond, List, [], ◌∷◌, map, Option, Some, None, refl, sym, ap, subst, ◌∙◌, inl, inr}
 use Rattle.std.specs.Prelude.{is_some}
-use Rattle.std.specs.Option.{option_map, option_or}
+use Rattle.std.specs.Option.{option_map}
 use Rattle.std.specs.List.{AllByRecursion}
 use Rattle.std.proofs.lemmas.Bool.{eqb-true, eq-eqb}
 use Rattle.sig_base.specs.declared.value.Value.{Value}
 use Rattle.signal_model.specs.Recipes.{Recipe}
-use Rattle.signal_model.specs.Standing.{Signals, Cell, Computed, Stands, IsGone, IsCell, IsComputed, or_computed, is_in, is_there, cell_at, computed_at, standing, changed, without}
+use Rattle.signal_model.specs.Standing.{Signals, Cell, Computed, Stands, IsGone, IsCell, IsComputed, or_computed, is_there, cell_at, computed_at, standing, changed, without}
 use Rattle.signal_model.specs.Changes.{with_cell, with_computed, with_value, with_recipe, without_signal}
 use Rattle.signal_model.specs.Kept.{AreGiven}
 use Rattle.signal_model.proofs.Shared.{tested, stands-computed}
-use Rattle.signal_laws.proofs.Shared.{SameKind, set_kind, rewire_kind, cell_append, cell_more, cell_out, cell_left, cell_new, cell_changed}
+use Rattle.signal_laws.proofs.Shared.{set_kind, rewire_kind, cell_more, cell_out, cell_left, cell_new, cell_changed}
 use Rattle.signal_laws.proofs.Shared.{computed_more, computed_out, computed_left, computed_new, computed_changed, computed_other}
 use Rattle.effect_model.specs.Worlds.{Watcher}
 use Rattle.effect_model.specs.Acts.{forget}
-use Rattle.sig_nodes.specs.Answers.{host_here, host_place, rule_here}
+use Rattle.sig_nodes.specs.Answers.{host_here, rule_here}
 use Rattle.sig_nodes.specs.States.{Progress, Seen, is_given, progress_at}
 use Rattle.sig_state.specs.Equality.{IsRuled}
 use Rattle.sig_effect.specs.Agreeing.{AreListed, AreRuled, AreWatched}

@@ -9,7 +9,7 @@ use Rattle.signal_model.specs.Asks.{is_host}
 use Rattle.signal_model.proofs.Shared.{either, or_left, or_right, tested, stands-computed}
 use Rattle.effect_model.specs.Worlds.{HostState, used, dropped}
 use Rattle.effect_model.specs.Acts.{asks_so_far, host_of}
-use Rattle.sig_host.specs.Hosts.{HostPlace, count_at, dropped_at, is_there}
+use Rattle.sig_host.specs.Hosts.{HostPlace, count_at, is_there}
 use Rattle.sig_host.proofs.Shared.{is_there-dropped, count_at-dropped}
 use Rattle.sig_nodes.specs.Answers.{host_here, host_place, some_asks, uses_host}
 use Rattle.sig_computed.specs.Asked.{AreThere}

@@ -1,12 +1,12 @@
 -- What is watched stands, whoever watches it.
-use Rattle.std.proofs.Common.{◌≡◌, ◌==◌, ◌||◌, ◌&&◌, ◌++◌, ℕ, Bool, true, false, cond, List, [], ◌∷◌, map, refl, sym, ap, subst, ◌∙◌, arith, ◌⊎◌, inl, inr}
+use Rattle.std.proofs.Common.{◌≡◌, ◌==◌, ◌||◌, ◌&&◌, ◌++◌, ℕ, Bool, true, false, cond, List, [], ◌∷◌, map, refl, ap, ◌∙◌, arith, ◌⊎◌, inl, inr}
 use Rattle.std.proofs.lemmas.Bool.{eqb-true}
 use Rattle.std.proofs.lemmas.Bool.Decides.{nat_tests}
 use Rattle.std.specs.List.{AllByRecursion}
 use Rattle.signal_model.specs.Standing.{Signals, changed, is_in, is_there, standing, without}
 use Rattle.signal_model.proofs.Shared.{either, or_left, or_right}
 use Rattle.effect_model.specs.Worlds.{Watcher}
-use Rattle.effect_model.specs.Acts.{forget, waiting_if}
+use Rattle.effect_model.specs.Acts.{forget}
 use Rattle.effect_model.specs.Commands.{also_watched, armed}
 use Rattle.sig_nodes.specs.States.{are_there}
 use Rattle.sig_effect.specs.Agreeing.{AreWatched}

@@ -1,10 +1,10 @@
 -- What changes tell, and what they leave.
-use Rattle.std.specs.Prelude.{◌≡◌, ℕ, true, List, [], ◌∷◌, ◌++◌, map, Option, Some, None}
+use Rattle.std.specs.Prelude.{◌≡◌, ℕ, List, [], ◌∷◌, ◌++◌, map, Option, Some, None}
 use Rattle.std.specs.List.{filter}
 use Rattle.sig_host.specs.Hosts.{HostPlace, count_at, dropped_at}
 use Rattle.sig_watcher.specs.declared.telling.Told.{Told}
 use Rattle.sig_effect.specs.declared.events.Event.{Event}
-use Rattle.sig_effect.specs.declared.events.Event.TheVariants.{Run, Notify, Frozen, Dropped, Gone}
+use Rattle.sig_effect.specs.declared.events.Event.TheVariants.{Notify, Frozen, Dropped}
 
 -- the host formula of a place that was left is dropped, where one was
 abbrev pub dropped_if : Option ℕ → List HostPlace → List HostPlace

@@ -1,5 +1,5 @@
 -- The first names that were heard, so many of them.
-use Rattle.std.proofs.Common.{◌≡◌, ℕ, zero, suc, ◌+◌, ◌≤◌, false, Option, [], ◌∷◌, ◌++◌, length, nat_eq, slice_get, take, Some, None, eq-eqb, inl, inr, refl, sym, ap, subst, ◌∙◌}
+use Rattle.std.proofs.Common.{◌≡◌, ℕ, zero, suc, ◌+◌, false, Option, [], ◌∷◌, ◌++◌, nat_eq, slice_get, take, Some, None, eq-eqb, inl, inr, refl, sym, ap, subst, ◌∙◌}
 use Rattle.std.specs.Prelude.{unwrap_or}
 use Rattle.std.specs.List.{AllByRecursion, IsDistinct}
 use Rattle.std.specs.Map.{keys_of}

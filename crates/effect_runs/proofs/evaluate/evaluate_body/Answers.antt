@@ -95,7 +95,7 @@ asking-preserved g c =
           e.settles
           c.learn.new.self.tracked.items c.learn.new.self.untracked.items c.learn.new.self.reads.items c.in-Good.value
           (λ hosts all kept. sym c.in-Good.is ∙ e.value hosts all kept) next.tracked next.untracked next.reads;
-      can = e.can;
+      can = e.can c.asking.invariant.can;
       counted = e.counted;
     }
 

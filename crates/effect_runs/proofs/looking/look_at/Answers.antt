@@ -54,7 +54,7 @@ loop-read-preserved g c =
           _ _
           e.settles
           (c.same.ensures.exact.0 c.if-not-same.false ∙ ap (λ (s : Seen). s.outcome) c.read.view_is);
-      can = e.can;
+      can = e.can c.loop-read.invariant.can;
       counted = e.counted;
     }
 

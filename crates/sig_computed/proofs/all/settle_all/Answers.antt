@@ -1,8 +1,7 @@
-use Rattle.std.proofs.Common.{◌++◌, [], ◌∷◌, map, take, sym, ap, arith, ◌∙◌}
-use Rattle.std.proofs.lemmas.List.{length-map, map-append, take_all, take_more}
+use Rattle.std.proofs.Common.{◌++◌, [], ◌∷◌, map, take, sym, ap, ◌∙◌}
+use Rattle.std.proofs.lemmas.List.{map-append, take_all, take_more}
 use Rattle.signal_model.specs.Values.{value_of}
-use Rattle.sig_computed.specs.Notes.{note_of}
-use Rattle.sig_computed.proofs.Settlings.{can_still, nothing_settled, settles_names, then_settled}
+use Rattle.sig_computed.proofs.Settlings.{nothing_settled, settles_names, then_settled}
 use Rattle.sig_computed.proofs.all.settle_all.Goals as goal
 
 pub loop-id-init : goal.loop-id-init
@@ -17,27 +16,9 @@ pub loop-id-preserved : goal.loop-id-preserved
 loop-id-preserved g c =
     let i = c.loop-id.invariant in
     let s = c.in_ok-outcome.ensures in
-    let most = s.most in
-    let worn = s.worn in
-    let old = length-map c.loop-id.notes.items note_of in
-    let new = length-map c.settle.new.notes.items note_of in
     let up_to = take_more c.args.ids.now c.loop-id.id-index c.id-item.result c.loop-id-test.true
     ∙ ap (λ m. take c.loop-id.id-index c.args.ids.now ++ m ∷ []) (sym c.id-item.is) in
-    let one = then_settled _ _ _ _ _ _ (λ _. take c.loop-id.id-index c.args.ids.now) (λ _. c.id-item.result ∷ []) i.settles (record {
-      settled = s.settled;
-      kept = s.kept;
-      asked = s.asked;
-      steps = s.steps;
-      answers = s.answers;
-      there = s.there;
-      most = omega (arith, most, old, new);
-      signals = s.signals;
-      idle = s.idle;
-      seats = s.seats;
-      given = s.given;
-      named = s.named;
-      worn = omega (arith, worn, old, new);
-    }) in
+    let one = then_settled _ _ _ _ _ _ (λ _. take c.loop-id.id-index c.args.ids.now) (λ _. c.id-item.result ∷ []) i.settles s.settles in
     let whole = settles_names _ _ _ _ _ _ (sym up_to) one in
     record {
       values = λ hosts all kept.
@@ -49,7 +30,7 @@ loop-id-preserved g c =
           ∙ sym (map-append (λ n. value_of hosts c.args.graph.now.state.signals n []) (take c.loop-id.id-index c.args.ids.now) (c.id-item.result ∷ []))
           ∙ ap (map (λ n. value_of hosts c.args.graph.now.state.signals n [])) (sym up_to);
       settles = whole;
-      can = can_still _ _ _ _ _ whole c.requires.can;
+      can = s.can i.can;
       counted = s.counted;
     }
 

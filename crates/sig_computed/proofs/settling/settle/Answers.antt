@@ -1,5 +1,6 @@
 use Rattle.std.proofs.Common.{◌+◌, ◌≤◌, ◌++◌, false, List, [], ◌∷◌, map, length, is_some, refl, sym, ap, ◌∙◌, subst, arith}
 use Rattle.std.specs.Vec.{vec_len}
+use Rattle.std.proofs.lemmas.List.{length-map}
 use Rattle.std.proofs.lemmas.List.Elements.{All-append, All-same}
 use Rattle.signal_model.specs.Standing.{is_in, standing}
 use Rattle.signal_model.specs.Values.{value_of}
@@ -19,6 +20,7 @@ use Rattle.sig_computed.proofs.Asking.{asked_most, exact_places, none_asked}
 use Rattle.sig_computed.proofs.Loops.{IsMade, IsTurn, frame_can, none_left, notes_count, turn_asked, turn_frames, turn_given, turn_less, turn_move, turn_whole}
 use Rattle.sig_computed.specs.Passing.{passed_over}
 use Rattle.sig_computed.proofs.Wholes.{IsWhole, first_whole, last_whole, plain_ended, shown_value}
+use Rattle.sig_computed.proofs.Settlings.{can_still}
 use Rattle.sig_computed.proofs.settling.settle.Goals as goal
 
 pub loop-frame-init : goal.loop-frame-init
@@ -158,23 +160,26 @@ returns-in_default g c =
           ∙ shown_value (standing w c.args.id) (is_in c.args.id (evaluating c.args.graph.now.state)) (standing_outcome w k c.args.id)
           (value_of hosts w c.args.id []) (in_evaluating c.args.graph.now.state c.args.id ∙ idle)
           (plain_ended hosts w k looked places c.args.id notes kept ready).value;
-      settled = λ hosts all kept. (plain_ended hosts w k looked places c.args.id notes kept ready).settling;
-      kept = λ hosts all kept. kept;
-      asked = λ hosts all kept. record {
-        places = exact_places w (settled hosts w k (c.args.id ∷ [])).runs places places 0 0 [] c.requires.there (none_asked w places 0 [])
-            (plain_ended hosts w k looked places c.args.id notes kept ready).asks;
+      settles = record {
+        settled = λ hosts all kept. (plain_ended hosts w k looked places c.args.id notes kept ready).settling;
+        kept = λ hosts all kept. kept;
+        asked = λ hosts all kept. record {
+          places = exact_places w (settled hosts w k (c.args.id ∷ [])).runs places places 0 0 [] c.requires.there (none_asked w places 0 [])
+              (plain_ended hosts w k looked places c.args.id notes kept ready).asks;
+        };
+        steps = λ hosts all kept. (plain_ended hosts w k looked places c.args.id notes kept ready).counted;
+        answers = λ hosts all. all;
+        there = λ place. refl;
+        most = omega arith;
+        signals = refl;
+        idle = c.requires.idle;
+        seats = refl;
+        given = refl;
+        named = λ all. all;
+        worn = refl;
       };
-      answers = λ hosts all. all;
+      can = λ can. can;
       counted = c.requires.counted;
-      there = λ place. refl;
-      most = omega arith;
-      signals = refl;
-      idle = c.requires.idle;
-      seats = refl;
-      given = refl;
-      named = λ all. all;
-      steps = λ hosts all kept. (plain_ended hosts w k looked places c.args.id notes kept ready).counted;
-      worn = refl;
     }
 
 pub returns-clause-value : goal.returns-clause-value
@@ -192,59 +197,41 @@ returns-clause-value g c = λ hosts all kept.
     (standing_outcome c.loop-frame.graph.state.signals c.loop-frame.graph.state.memos c.args.id) (value_of hosts w c.args.id []) off
     (ap (λ y. standing_outcome y c.loop-frame.graph.state.memos c.args.id) i.signals ∙ x.value)
 
-pub returns-clause-settled : goal.returns-clause-settled
-returns-clause-settled g c = λ hosts all kept.
-    let none = ap tops (none_left c.loop-frame.stack.items c.pop.new.self.items (vec_len c.loop-frame.stack) c.in_default-pop.ensures.items
-    c.in_default-pop.ensures.rest c.in_default-pop.ensures.cases.0) in
-    (last_whole hosts c.args.graph.now.state.signals c.args.graph.now.state.memos c.loop-frame.graph.state.memos c.args.graph.now.state.looked
-    c.loop-frame.graph.state.looked _ _ c.args.id (map note_of c.args.notes.now.items) (map note_of c.loop-frame.notes.items)
-    c.loop-frame.visited (tops c.loop-frame.stack.items) kept none (c.loop-frame.invariant.whole hosts all kept)).settling
-
-pub returns-clause-kept : goal.returns-clause-kept
-returns-clause-kept g c = λ hosts all kept.
-    let none = ap tops (none_left c.loop-frame.stack.items c.pop.new.self.items (vec_len c.loop-frame.stack) c.in_default-pop.ensures.items
-    c.in_default-pop.ensures.rest c.in_default-pop.ensures.cases.0) in
-    subst (λ w. AreKept hosts w c.loop-frame.graph.state.memos) (sym c.loop-frame.invariant.signals)
-    (last_whole hosts c.args.graph.now.state.signals c.args.graph.now.state.memos c.loop-frame.graph.state.memos c.args.graph.now.state.looked
-    c.loop-frame.graph.state.looked _ _ c.args.id (map note_of c.args.notes.now.items) (map note_of c.loop-frame.notes.items)
-    c.loop-frame.visited (tops c.loop-frame.stack.items) kept none (c.loop-frame.invariant.whole hosts all kept)).kept
-
-pub returns-clause-steps : goal.returns-clause-steps
-returns-clause-steps g c = λ hosts all kept.
-    let none = ap tops (none_left c.loop-frame.stack.items c.pop.new.self.items (vec_len c.loop-frame.stack) c.in_default-pop.ensures.items
-    c.in_default-pop.ensures.rest c.in_default-pop.ensures.cases.0) in
-    (last_whole hosts c.args.graph.now.state.signals c.args.graph.now.state.memos c.loop-frame.graph.state.memos c.args.graph.now.state.looked
-    c.loop-frame.graph.state.looked _ _ c.args.id (map note_of c.args.notes.now.items) (map note_of c.loop-frame.notes.items)
-    c.loop-frame.visited (tops c.loop-frame.stack.items) kept none (c.loop-frame.invariant.whole hosts all kept)).counted
-
-pub returns-clause-asked : goal.returns-clause-asked
-returns-clause-asked g c = λ hosts all kept.
+pub returns-clause-settles : goal.returns-clause-settles
+returns-clause-settles g c =
     let w = c.args.graph.now.state.signals in
     let k = c.args.graph.now.state.memos in
+    let i = c.loop-frame.invariant in
+    let now = tops c.loop-frame.stack.items in
     let none = ap tops (none_left c.loop-frame.stack.items c.pop.new.self.items (vec_len c.loop-frame.stack) c.in_default-pop.ensures.items
     c.in_default-pop.ensures.rest c.in_default-pop.ensures.cases.0) in
-    let x = last_whole hosts w k c.loop-frame.graph.state.memos c.args.graph.now.state.looked
-    c.loop-frame.graph.state.looked _ _ c.args.id (map note_of c.args.notes.now.items) (map note_of c.loop-frame.notes.items)
-    c.loop-frame.visited (tops c.loop-frame.stack.items) kept none (c.loop-frame.invariant.whole hosts all kept) in
+    let old = length-map c.args.notes.now.items note_of in
+    let new = length-map c.loop-frame.notes.items note_of in
+    let most = asked_most w _ _ (length c.args.notes.now.items) (length c.loop-frame.notes.items) now none i.asked in
+    let worn = i.worn in
     record {
-      places = exact_places w (settled hosts w k (c.args.id ∷ [])).runs _ _ (length c.args.notes.now.items) (length c.loop-frame.notes.items)
-          (tops c.loop-frame.stack.items) c.requires.there c.loop-frame.invariant.asked x.asks;
+      settled = λ hosts all kept. (last_whole hosts w k c.loop-frame.graph.state.memos c.args.graph.now.state.looked c.loop-frame.graph.state.looked _ _ c.args.id
+          (map note_of c.args.notes.now.items) (map note_of c.loop-frame.notes.items) c.loop-frame.visited now kept none (i.whole hosts all kept)).settling;
+      kept = λ hosts all kept. subst (λ s. AreKept hosts s c.loop-frame.graph.state.memos) (sym i.signals) (last_whole hosts w k c.loop-frame.graph.state.memos c.args.graph.now.state.looked c.loop-frame.graph.state.looked _ _ c.args.id
+          (map note_of c.args.notes.now.items) (map note_of c.loop-frame.notes.items) c.loop-frame.visited now kept none (i.whole hosts all kept)).kept;
+      asked = λ hosts all kept. record {
+        places = exact_places w (settled hosts w k (c.args.id ∷ [])).runs _ _ (length c.args.notes.now.items) (length c.loop-frame.notes.items) now
+            c.requires.there i.asked (last_whole hosts w k c.loop-frame.graph.state.memos c.args.graph.now.state.looked c.loop-frame.graph.state.looked _ _ c.args.id
+            (map note_of c.args.notes.now.items) (map note_of c.loop-frame.notes.items) c.loop-frame.visited now kept none (i.whole hosts all kept)).asks;
+      };
+      steps = λ hosts all kept. (last_whole hosts w k c.loop-frame.graph.state.memos c.args.graph.now.state.looked c.loop-frame.graph.state.looked _ _ c.args.id
+          (map note_of c.args.notes.now.items) (map note_of c.loop-frame.notes.items) c.loop-frame.visited now kept none (i.whole hosts all kept)).counted;
+      answers = i.answers;
+      there = i.asked.there;
+      most = omega (arith, most, old, new);
+      signals = i.signals;
+      idle = λ m. sym (in_evaluating c.loop-frame.graph.state m) ∙ frames_are c.loop-frame.graph now i.frames m ∙ ap (λ fs. is_in m (frame_names fs)) none;
+      seats = i.seats;
+      given = i.given;
+      named = λ all.
+          notes_stay c.args.graph.now c.loop-frame.graph (map note_of c.loop-frame.notes.items) i.given (i.named all);
+      worn = omega (arith, worn, old, new);
     }
 
-pub returns-clause-answers : goal.returns-clause-answers
-returns-clause-answers g c = λ hosts all. c.loop-frame.invariant.answers hosts all
-
-pub returns-clause-there : goal.returns-clause-there
-returns-clause-there g c = c.loop-frame.invariant.asked.there
-
-pub returns-clause-most : goal.returns-clause-most
-returns-clause-most g c =
-    let none = ap tops (none_left c.loop-frame.stack.items c.pop.new.self.items (vec_len c.loop-frame.stack) c.in_default-pop.ensures.items
-    c.in_default-pop.ensures.rest c.in_default-pop.ensures.cases.0) in
-    asked_most c.args.graph.now.state.signals _ _ (length c.args.notes.now.items) (length c.loop-frame.notes.items) (tops c.loop-frame.stack.items) none
-    c.loop-frame.invariant.asked
-
-pub returns-clause-named : goal.returns-clause-named
-returns-clause-named g c = λ all.
-    notes_stay c.args.graph.now c.loop-frame.graph (map note_of c.loop-frame.notes.items) c.loop-frame.invariant.given
-    (c.loop-frame.invariant.named all)
+pub returns-clause-can : goal.returns-clause-can
+returns-clause-can g c = λ can. can_still _ _ _ _ _ (returns-clause-settles g c) can

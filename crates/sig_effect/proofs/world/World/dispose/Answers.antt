@@ -1,6 +1,5 @@
 use Rattle.std.proofs.Common.{sym, ap, subst}
 use Rattle.signal_model.specs.Standing.{Signals}
-use Rattle.sig_nodes.specs.Answers.{host_here}
 use Rattle.sig_nodes.specs.States.{State}
 use Rattle.sig_watcher.specs.Tables.{Table}
 use Rattle.sig_effect.specs.Agreeing.{AreRuled}

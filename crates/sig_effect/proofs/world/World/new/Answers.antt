@@ -1,8 +1,3 @@
-use Rattle.std.proofs.Common.{◌≡◌, ℕ, List, Bool, false, refl, sym, ap, subst, ◌∙◌}
-use Rattle.signal_model.specs.Recipes.{Hosts}
-use Rattle.signal_model.specs.Standing.{Signals}
-use Rattle.signal_laws.proofs.Shared.{empty_law}
-use Rattle.effect_model.specs.Commands.{new_world}
 use Rattle.sig_effect.proofs.Beginning.{new_sound, new_whole}
 use Rattle.sig_effect.proofs.world.World.new.Goals as goal
 

@@ -1,5 +1,4 @@
 use Rattle.std.proofs.Common.{sym, subst}
-use Rattle.effect_model.specs.Watching.{watches}
 use Rattle.sig_watcher.specs.Tables.{Table}
 use Rattle.sig_effect.specs.Agreeing.{AreWatched}
 use Rattle.sig_effect.proofs.Watched.{watched_less}
