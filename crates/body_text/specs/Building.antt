@@ -41,7 +41,8 @@ pub record IsBuilt (t : Statements) (old new : Lists) (ws : List Stmt) : Type 0 
   pub names : new.names.items ≡ with_own old.names.items t
   pub effects : (others : Bodies) → bodies_before new.effects.items others ≡ bodies_before old.effects.items (effects_of t others)
   pub nested : length new.effects.items ≡ length old.effects.items + own_effects t
-  pub rewirings : (ts : List (List ℕ)) → GoOn new.targets.items ts → map rewiring new.rewires.items ≡ map rewiring old.rewires.items ++ rewirings_of ts t
+  pub rewirings : (ts : List (List ℕ)) → GoOn new.targets.items ts →
+      map rewiring new.rewires.items ≡ map rewiring old.rewires.items ++ rewirings_of ts t
   pub rewires : length new.rewires.items ≡ length old.rewires.items + own_rewires t
   pub statements : (ts ns : List (List ℕ)) (after : Stated) → GoOn new.targets.items ts → GoOn new.names.items ns
       → stated ws after ≡ placed ts ns (length old.effects.items) (length old.rewires.items) t after

@@ -53,4 +53,5 @@ EntriesLaw = (env : Environment) (m : Machine) (is js : List Item) →
 abbrev pub OutputLaw : Job → Type 0
 OutputLaw j = (env : Environment) (m : Machine) (n : ℕ) (x y : List ℕ) (is ks : List Item) → IsWhole x → ItemsFrom n x is → ItemsFrom n (x ++ y) ks →
     (js : List Item) × ItemsFrom (next_number n x) y js
-    × (output_of j ks (entries_from env m ks) ≡ output_of j is (entries_from env m is) ++ output_of j js (entries_from env (machine_after env m is) js))
+    × (output_of j ks (entries_from env m ks)
+    ≡ output_of j is (entries_from env m is) ++ output_of j js (entries_from env (machine_after env m is) js))

@@ -18,7 +18,8 @@ run_told n = event.Signals (signals.Run n)
 
 -- By equality rules of these slacks, and by the meanings by which the shelf answers, an act was done to the world; the shelf answers by these
 -- afterwards too. No signal and no watcher was made.
-pub record Runs (slacks : List ℕ) (old new : Scene) (before after : Hosts → Type 0) (act : plain.Environment → plain.World → plain.World) : Type 0 where
+pub record Runs (slacks : List ℕ) (old new : Scene) (before after : Hosts → Type 0)
+    (act : plain.Environment → plain.World → plain.World) : Type 0 where
   pub does : (hosts : Hosts) → before hosts → IsSound hosts old.asked old.world →
       Does hosts old.asked new.asked old.world new.world old.events new.events (act (environment hosts slacks))
   pub agrees : Agrees new.asked new.world

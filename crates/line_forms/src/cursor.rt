@@ -41,7 +41,11 @@ fn as_name(alloc: Global, text: &[u8]) -> Result<Option<Name>, NoMemory>
     }
 }
 
-// The name that a token says.
+/// The name that a token says; none where it says no name.
+///
+/// # Errors
+///
+/// `NoMemory` alone.
 pub fn name_of(alloc: Global, line: &[u8], token: &Token) -> Result<Option<Name>, NoMemory>
     ensures { IfOk result (λ found. found ≡ name_of (lexeme line.now token.now)) }
 {

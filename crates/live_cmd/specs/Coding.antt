@@ -124,7 +124,8 @@ first_bodies [] = no_bodies
 first_bodies (b ∷ bs) = b
 
 -- the parts of bodies put them on the stack
-pub bodies_of-body_parts : (b : Bodies) (rest : List BodyPart) (stack : List Bodies) → bodies_of (body_parts b rest) stack ≡ bodies_of rest (b ∷ stack)
+pub bodies_of-body_parts : (b : Bodies) (rest : List BodyPart) (stack : List Bodies) →
+    bodies_of (body_parts b rest) stack ≡ bodies_of rest (b ∷ stack)
 bodies_of-body_parts no_bodies rest stack = refl
 bodies_of-body_parts (body ss ts ns inner rs others) rest stack =
     let own : List BodyPart = inl (ss, (ts, (ns, rs))) ∷ rest in
@@ -134,5 +135,6 @@ bodies_of-body_parts (body ss ts ns inner rs others) rest stack =
 abbrev pub bodies_code : Coded Bodies
 bodies_code =
     code_by (List BodyPart)
-    (coded_list (coded⊎ (coded× stated_code (coded× (coded_list (coded_list coded_ℕ)) (coded× (coded_list (coded_list coded_ℕ)) (coded_list rewiring_code)))) coded_ℕ))
+    (coded_list (coded⊎ (coded× stated_code (coded× (coded_list (coded_list coded_ℕ))
+      (coded× (coded_list (coded_list coded_ℕ)) (coded_list rewiring_code)))) coded_ℕ))
     (λ b. body_parts b []) (λ ps. first_bodies (bodies_of ps [])) (λ b. ap first_bodies (bodies_of-body_parts b [] []))

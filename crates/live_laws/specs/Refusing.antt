@@ -33,7 +33,8 @@ why_refused slacks m (item.Refused r) = Some r
 
 -- such an item tells the one refusal, and leaves all as it was
 abbrev pub RefusedLaw : Type 0
-RefusedLaw = (env : Environment) (m : Machine) (i : Item) (r : Refusal) → why_refused env.slacks m i ≡ Some r → step env m i ≡ told m (entry.Error r ∷ [])
+RefusedLaw = (env : Environment) (m : Machine) (i : Item) (r : Refusal) → why_refused env.slacks m i ≡ Some r →
+    step env m i ≡ told m (entry.Error r ∷ [])
 
 -- ---- a change of which somebody can't be told
 

@@ -70,7 +70,8 @@ chosen_told = refl
 
 -- the lines of a list, each with the row's t
 abbrev pub lines_of_rows : List (Line Tree)
-lines_of_rows = line.Tag (codes "ul") ∷ line.Each (slot 0) ∷ line.Tag (codes "li") ∷ line.Text (row_field (codes "t")) ∷ line.End ∷ line.End ∷ line.End ∷ []
+lines_of_rows = line.Tag (codes "ul") ∷ line.Each (slot 0) ∷ line.Tag (codes "li") ∷ line.Text (row_field (codes "t")) ∷ line.End ∷ line.End
+    ∷ line.End ∷ []
 
 -- three rows are shown; the third becomes the first, the second goes, one comes behind, and the first of before changes its text. Then that one
 -- goes, and another one comes with its key.
@@ -84,7 +85,8 @@ rows_change = a_list (codes "l") (codes "t" ∷ []) ∷ an_insert (codes "l") 0 
 
 -- a row keeps its node as long as its key stands on the page
 pub rows_change_told : ops_of rows_change
-    ≡ op (codes "p") (OpInsert 0 0 1 (Element (codes "ul") []) (element 2 (codes "li") (a_text 3 (codes "A")) (element 4 (codes "li") (a_text 5 (codes "B"))
+    ≡ op (codes "p") (OpInsert 0 0 1 (Element (codes "ul") []) (element 2 (codes "li") (a_text 3 (codes "A"))
+      (element 4 (codes "li") (a_text 5 (codes "B"))
     (element 6 (codes "li") (a_text 7 (codes "C")) none))))
     ∷ op (codes "p") (OpRemove 4) ∷ op (codes "p") (OpMove 6 0) ∷ op (codes "p") (OpInsert 1 2 8 (Element (codes "li") []) (a_text 9 (codes "D")))
     ∷ op (codes "p") (OpText 3 (codes "Z")) ∷ op (codes "p") (OpMove 2 0) ∷ op (codes "p") (OpText 3 (codes "Q")) ∷ []

@@ -110,7 +110,8 @@ pub record IsFreshTree (env : Environment) (ls : called.Labels) (t : Template) (
 -- A page was made, on the signals of a machine: what it reads is settled and told, then the operations that lead to it, and then the page.
 pub record IsMounted (env : Environment) (ls : called.Labels) (templates : List Template) (asked later : List HostPlace)
     (old new : World) (name : List ℕ) (template : ℕ) (made : NumberedPage) (before after : List Entry) : Type 0 where
-  pub world : whole_of later new ≡ (settling env (bare ls asked old templates) (template_reads env (bare ls asked old templates) template)).machine.world
+  pub world : whole_of later new ≡ (settling env (bare ls asked old templates)
+      (template_reads env (bare ls asked old templates) template)).machine.world
   pub told : after
       ≡ before ++ ((settling env (bare ls asked old templates) (template_reads env (bare ls asked old templates) template)).entries
       ++ ops_told name (carried_on env (bare ls asked old templates) template paged.bare).ops
@@ -122,7 +123,8 @@ pub record IsMounted (env : Environment) (ls : called.Labels) (templates : List 
 -- What a template reads was settled and told, and this is the HTML of what it shows from scratch.
 pub record IsScratched (env : Environment) (ls : called.Labels) (templates : List Template) (asked later : List HostPlace)
     (old new : World) (template : ℕ) (bytes : List ℕ) (before after : List Entry) : Type 0 where
-  pub world : whole_of later new ≡ (settling env (bare ls asked old templates) (template_reads env (bare ls asked old templates) template)).machine.world
+  pub world : whole_of later new ≡ (settling env (bare ls asked old templates)
+      (template_reads env (bare ls asked old templates) template)).machine.world
   pub told : after ≡ before ++ (settling env (bare ls asked old templates) (template_reads env (bare ls asked old templates) template)).entries
   pub labels : ls ≡ (settling env (bare ls asked old templates) (template_reads env (bare ls asked old templates) template)).machine.labels
   pub html : bytes ≡ scratch_html env.hosts (whole_of asked old).signals (template_in templates template)

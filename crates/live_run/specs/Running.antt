@@ -67,7 +67,8 @@ pub record DidItem (env : Environment) (old new : Machine) (i : Item) (r next : 
   pub took : TookIn r next out now i entries
 
 -- the item that begins at a byte of a script was done
-pub record DidNext (env : Environment) (old new : Machine) (script : List ℕ) (at line next_at after : ℕ) (r next : Report) (out now : List ℕ) : Type 0 where
+pub record DidNext (env : Environment) (old new : Machine) (script : List ℕ) (at line next_at after : ℕ) (r next : Report)
+    (out now : List ℕ) : Type 0 where
   pub item : Item
   pub begins : Begins script at line item next_at after
   pub did : DidItem env old new item r next out now

@@ -47,7 +47,8 @@ phase_steps w k evaluating visited n c (Looking place) mv = source_steps w evalu
 phase_steps w k evaluating visited n c (LookedAt place) mv = source_steps w evaluating visited (drop place (sources_of k n)) mv
 phase_steps w k evaluating visited n c (Running known reads) mv = 1
 phase_steps w k evaluating visited n c (Waiting slot known reads) mv =
-    look_steps (standing w (slice_index c.recipe.slots slot)) (is_in (slice_index c.recipe.slots slot) evaluating) (is_in (slice_index c.recipe.slots slot) visited)
+    look_steps (standing w (slice_index c.recipe.slots slot)) (is_in (slice_index c.recipe.slots slot) evaluating)
+      (is_in (slice_index c.recipe.slots slot) visited)
 
 -- those of a frame
 abbrev pub frame_steps : Signals → Memos → List ℕ → List ℕ → Frame → Stands → Move → ℕ
@@ -81,7 +82,8 @@ passing_next w x (n ∷ ns) =
 abbrev pub passing_stack : Hosts → Signals → Counted → List Frame → Counted
 passing_stack hosts w x [] = passing_next w x x.underway.asked
 passing_stack hosts w x (f ∷ fs) =
-    passing_moved w x f fs (frame_move hosts w x.underway.memos (frame_names fs) (passed_over w x.underway.memos x.underway.visited) f (standing w f.name))
+    passing_moved w x f fs (frame_move hosts w x.underway.memos (frame_names fs)
+      (passed_over w x.underway.memos x.underway.visited) f (standing w f.name))
 
 -- one step
 abbrev pub passing_step : Hosts → Signals → Counted → Counted

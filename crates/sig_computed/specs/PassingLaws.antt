@@ -22,7 +22,8 @@ pub record IsPassed (hosts : Hosts) (w : Signals) (k : Memos) (asked : List ℕ)
 -- where the steps are over, what was asked for is settled, and no more was counted than the bound
 abbrev pub PassingLaw : Type 0
 PassingLaw = (hosts : Hosts) (w : Signals) (k : Memos) (asked : List ℕ) (turns : ℕ) → AreKept hosts w k →
-    IsOver (passing_times turns hosts w (passing_begun k asked)).underway → IsPassed hosts w k asked (passing_times turns hosts w (passing_begun k asked))
+    IsOver (passing_times turns hosts w (passing_begun k asked)).underway →
+      IsPassed hosts w k asked (passing_times turns hosts w (passing_begun k asked))
 
 -- Names that are settled one list after the other keep to the bound of the one list.
 abbrev pub BoundBothLaw : Type 0

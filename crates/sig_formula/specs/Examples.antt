@@ -135,7 +135,8 @@ pub comparisons : map compared_by (Eq ∷ Ne ∷ Lt ∷ Le ∷ Gt ∷ Ge ∷ [])
 comparisons = refl
 
 -- capitals stand before small letters, and these before what isn't ASCII
-pub text_orders : answers Lt (texts (codes "Z") (codes "a") ∷ texts (codes "z") (codes "é") ∷ texts (codes "ﬀ") (codes "😀") ∷ texts [] (codes "a") ∷ [])
+pub text_orders : answers Lt (texts (codes "Z") (codes "a") ∷ texts (codes "z") (codes "é") ∷ texts (codes "ﬀ") (codes "😀")
+    ∷ texts [] (codes "a") ∷ [])
     ≡ is_true ∷ is_true ∷ is_true ∷ is_true ∷ []
 text_orders = refl
 
@@ -145,7 +146,8 @@ pub truths : map (λ (o : BinOp). alone (binary o (truth false) (truth true))) (
 truths = refl
 
 -- what is shown of two scalars is joined, up to 1,024 bytes
-pub joins : answers Join (two (text (codes "é")) (truth false) ∷ texts [] [] ∷ texts (letters 1000) (letters 24) ∷ texts (letters 1000) (letters 25) ∷ [])
+pub joins : answers Join (two (text (codes "é")) (truth false) ∷ texts [] [] ∷ texts (letters 1000) (letters 24)
+    ∷ texts (letters 1000) (letters 25) ∷ [])
     ≡ Done (value.Text (codes "éfalse")) ∷ Done (value.Text []) ∷ Done (value.Text (letters 1024)) ∷ Fail Long ∷ []
 joins = refl
 
@@ -198,14 +200,16 @@ pub left_first : map alone
 left_first = refl
 
 -- `or` and `and` need their right side only where the left one doesn't decide
-pub decided_early : answers Or (two (truth true) by_zero ∷ two (truth false) by_zero ∷ two (truth false) (slot 3) ∷ two (truth false) (number (pos 1)) ∷ [])
+pub decided_early : answers Or (two (truth true) by_zero ∷ two (truth false) by_zero ∷ two (truth false) (slot 3)
+    ∷ two (truth false) (number (pos 1)) ∷ [])
     ++ answers And (two (truth false) by_zero ∷ two (truth true) by_zero ∷ two (truth true) (slot 3) ∷ two (truth true) (number (pos 1)) ∷ [])
     ≡ is_true ∷ Fail Zero ∷ Read 3 ∷ Fail Kind ∷ is_false ∷ Fail Zero ∷ Read 3 ∷ Fail Kind ∷ []
 decided_early = refl
 
 -- of a choice one branch is evaluated, by a truth
 pub choices : map alone
-    (choice (truth true) (number (pos 1)) by_zero ∷ choice (truth false) by_zero (slot 1) ∷ choice (number (pos 1)) (slot 0) (slot 1) ∷ choice by_zero (slot 0) (slot 1)
+    (choice (truth true) (number (pos 1)) by_zero ∷ choice (truth false) by_zero (slot 1) ∷ choice (number (pos 1)) (slot 0) (slot 1)
+      ∷ choice by_zero (slot 0) (slot 1)
     ∷ choice (slot 4) by_zero by_zero ∷ [])
     ≡ int (pos 1) ∷ Read 1 ∷ Fail Kind ∷ Fail Zero ∷ Read 4 ∷ []
 choices = refl
@@ -216,7 +220,8 @@ pub negations : map alone (negation (truth true) ∷ negation (truth false) ∷ 
 negations = refl
 
 -- a slot is asked for until it is known, tracked or not
-pub slots : map (λ (t : Tree). answer_of t None known) (binary Mul (untracked (slot 2)) (slot 2) ∷ slot 1 ∷ slot 0 ∷ negation (slot 0) ∷ choice (slot 0) by_zero by_zero ∷ [])
+pub slots : map (λ (t : Tree). answer_of t None known) (binary Mul (untracked (slot 2)) (slot 2) ∷ slot 1 ∷ slot 0 ∷ negation (slot 0)
+    ∷ choice (slot 0) by_zero by_zero ∷ [])
     ≡ int (pos 49) ∷ Read 1 ∷ Done (value.Rows (record { fields = []; rows = [] })) ∷ Fail Kind ∷ Fail Kind ∷ []
 slots = refl
 
@@ -258,7 +263,8 @@ pub counts : over_tables (count_of (slot 0) ∷ count_of (slot 1) ∷ count_of (
 counts = refl
 
 -- a field of each row is added; a part that is no whole number is of the wrong kind, and so is what is no rows
-pub sums_of_rows : over_tables (sum_of (slot 1) field ∷ sum_of (slot 1) (number (pos 5)) ∷ sum_of (slot 1) row_key ∷ sum_of (number (pos 1)) (slot 3) ∷ [])
+pub sums_of_rows : over_tables (sum_of (slot 1) field ∷ sum_of (slot 1) (number (pos 5)) ∷ sum_of (slot 1) row_key
+    ∷ sum_of (number (pos 1)) (slot 3) ∷ [])
     ≡ int (pos 3) ∷ int (pos 10) ∷ Fail Kind ∷ Fail Kind ∷ []
 sums_of_rows = refl
 

@@ -135,6 +135,7 @@ abbrev pub settled : Option Outcome → Value → ℕ → ℕ → Machine → Ne
 settled None v end left m = given (Good v) left m
 settled (Some o) v end left m = given o end m
 
+-- the same of a left operand, which has to be there
 abbrev pub after_left : BinOp → Option Value → ℕ → ℕ → Machine → Next
 after_left o None end left m = over (End (Bad Kind))
 after_left o (Some v) end left m = settled (decided o v) v end left m
@@ -155,6 +156,7 @@ abbrev pub turned : Bool → Going → ℕ → ℕ → Machine → Next
 turned true g body end m = on (record { left = body; values = m.values; rounds = record { going = g; body = body } ∷ m.rounds })
 turned false g body end m = given (Good (made g)) end m
 
+-- the same by whether a row is left
 abbrev pub arrived : Going → ℕ → ℕ → Machine → Next
 arrived g body end m = turned (is_within g) g body end m
 
@@ -183,6 +185,7 @@ abbrev pub used_within : Bool → Going → Value → ℕ → ℕ → Machine �
 used_within true g v body end m = used g v body end m
 used_within false g v body end m = over (End (Bad Kind))
 
+-- the same of what was put on top, and the innermost round
 abbrev pub after_part : Option Value → Option Round → ℕ → Machine → Next
 after_part (Some v) (Some r) end m = used_within (is_within r.going) r.going v r.body end m
 after_part _ _ end m = over (End (Bad Kind))
@@ -196,7 +199,7 @@ row_by (Some r) row = row_of r.going
 abbrev pub row_at_hand : List Round → Option RowRef → Option RowRef
 row_at_hand rs row = row_by (first_of rs) row
 
--- what is done leads to, by the number of the instructions behind
+-- what an act leads to, by the number of the instructions behind
 abbrev pub done : Act → ℕ → Option RowRef → Machine → Next
 done (act.Lit s) left row m = given (Good (scalar_value s)) left m
 done (act.It f) left row m = given (field_outcome f (row_at_hand m.rounds row)) left m
@@ -220,6 +223,7 @@ abbrev pub ended : Option Value → Outcome
 ended None = Bad Kind
 ended (Some v) = Good v
 
+-- the same of one that has to be there
 abbrev pub executed_at : Option Instruction → ℕ → Option RowRef → List Known → List Known → Machine → Next
 executed_at None left row ts us m = over (End (Bad Kind))
 executed_at (Some i) left row ts us m = executed i left row ts us m
@@ -234,6 +238,7 @@ abbrev pub stepped_at : List Instruction → Option ℕ → Option RowRef → Li
 stepped_at xs None row ts us m = over (End (ended (first_of m.values)))
 stepped_at xs (Some n) row ts us m = executed_at (slice_get xs n) n row ts us m
 
+-- one step of the machine
 abbrev pub stepped : List Instruction → Option RowRef → List Known → List Known → Machine → Next
 stepped xs row ts us m = stepped_at xs (before m.left) row ts us m
 

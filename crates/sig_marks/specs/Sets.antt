@@ -88,7 +88,8 @@ table_of ss ms = record { dependants = keys_of ss; marked = marks_of ms; stands 
 
 -- What holds of sets and marks, of the count of signals that stand, and of the stack by which marks are pushed: a signal that stands has both,
 -- dependants were given, and the stack has room for all that stand.
-pub record IsMarkTable {S : Type 0} (ss : List (Option (IndexSet ℕ S))) (ms : List (Option Bool)) (live : ℕ) (stack : List ℕ) (capacity : ℕ) : Type 0 where
+pub record IsMarkTable {S : Type 0} (ss : List (Option (IndexSet ℕ S))) (ms : List (Option Bool)) (live : ℕ) (stack : List ℕ)
+    (capacity : ℕ) : Type 0 where
   pub alike : stands_of ss ≡ stands_of ms
   pub within : (m d : ℕ) → depends_in ss m d ≡ true → d < length ms
   pub count : standing_count (stands_of ms) ≡ live

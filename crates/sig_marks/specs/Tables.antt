@@ -44,7 +44,8 @@ without_mark t n = if stands_at t.stands n then with_mark t n false else t
 -- a reader has these sources in place of the earlier ones, of which those that stand know of it
 pub record Relinks (old new : List (List ℕ)) (stands : List Bool) (sources reads : List ℕ) (reader : ℕ) : Type 0 where
   pub len : length new ≡ length old
-  pub now : (m d : ℕ) → stands_at stands m ≡ true → depends new m d ≡ (if reader == d && is_in m reads then true else (if reader == d && is_in m sources then false else depends old m d))
+  pub now : (m d : ℕ) → stands_at stands m ≡ true → depends new m d
+      ≡ (if reader == d && is_in m reads then true else (if reader == d && is_in m sources then false else depends old m d))
 
 -- a signal is no dependant of its sources any more, and has none
 pub record Drops (old new : List (List ℕ)) (sources : List ℕ) (n : ℕ) : Type 0 where

@@ -48,7 +48,8 @@ some_marked_at xs t (n ∷ ns) = (is_computed_body (body_at xs n) && marked_at t
 
 -- whether an evaluation that ends without a run takes the mark of a computed with this memo
 abbrev pub stop_unmarks_by : List Node → ℕ → List Bool → Option Memo → Bool
-stop_unmarks_by xs g t m = not (must_run_by (memos_of g xs) m []) && (not (memo_is_cycle m) && not (some_marked_at xs t (source_names (sources_in m))))
+stop_unmarks_by xs g t m =
+    not (must_run_by (memos_of g xs) m []) && (not (memo_is_cycle m) && not (some_marked_at xs t (source_names (sources_in m))))
 
 -- whether a signal keeps its mark though nothing below it must run: it is being evaluated, or holds `cycle`
 abbrev pub stays_marked : List Node → ℕ → Bool

@@ -21,7 +21,8 @@ NewCellLaw = (s : State) (dependants : ℕ → ℕ → Bool) (t : ℕ → Bool) 
 
 -- a computed is made: so is its name, and it is marked
 abbrev pub NewComputedLaw : Type 0
-NewComputedLaw = (s : State) (dependants : ℕ → ℕ → Bool) (t : ℕ → Bool) (c : Computed) → IsUnused s.memos c.name → ((d : ℕ) → dependants c.name d ≡ false) → t c.name ≡ true →
+NewComputedLaw = (s : State) (dependants : ℕ → ℕ → Bool) (t : ℕ → Bool) (c : Computed) → IsUnused s.memos c.name →
+    ((d : ℕ) → dependants c.name d ≡ false) → t c.name ≡ true →
     AreStateMarks s dependants t → AreStateMarks (with_new_computed s c) dependants t
 
 -- a cell has another value: its dependants are marked, and theirs
@@ -51,18 +52,21 @@ OnwardLaw = (s : State) (dependants : ℕ → ℕ → Bool) (t : ℕ → Bool) (
 
 -- it ends with a run: its sources are those that it read, and its mark goes unless it came to `cycle` or read a marked computed
 abbrev pub KeepLaw : Type 0
-KeepLaw = (s : State) (dependants : ℕ → ℕ → Bool) (t : ℕ → Bool) (n : ℕ) (c : Computed) (o : Outcome) (reads : List ℕ) (e : Entry) → standing s.signals n ≡ IsComputed c →
+KeepLaw = (s : State) (dependants : ℕ → ℕ → Bool) (t : ℕ → Bool) (n : ℕ) (c : Computed) (o : Outcome) (reads : List ℕ) (e : Entry) →
+    standing s.signals n ≡ IsComputed c →
     entry_at n s.memos.entries ≡ Some e → is_computing s n ≡ true → AreStateMarks s dependants t →
     AreStateMarks (with_kept_run s n o reads) (relinked dependants n reads) (ended t n (run_unmarks s.signals t o reads))
 
 -- it ends without one: its mark goes unless it must run, holds `cycle` or keeps a marked computed
 abbrev pub StopLaw : Type 0
-StopLaw = (s : State) (dependants : ℕ → ℕ → Bool) (t : ℕ → Bool) (n : ℕ) (c : Computed) → standing s.signals n ≡ IsComputed c → is_computing s n ≡ true → AreStateMarks s dependants t →
+StopLaw = (s : State) (dependants : ℕ → ℕ → Bool) (t : ℕ → Bool) (n : ℕ) (c : Computed) → standing s.signals n ≡ IsComputed c →
+    is_computing s n ≡ true → AreStateMarks s dependants t →
     AreStateMarks (with_progress s n None) dependants (ended t n (stop_unmarks s.signals s.memos t n))
 
 -- a look that found nothing due takes the marks of what it went through, if it may
 abbrev pub UnmarkLaw : Type 0
-UnmarkLaw = (s : State) (dependants : ℕ → ℕ → Bool) (t unmarked : ℕ → Bool) → IsSearched s.signals s.memos t (is_computing s) unmarked → AreStateMarks s dependants t →
+UnmarkLaw = (s : State) (dependants : ℕ → ℕ → Bool) (t unmarked : ℕ → Bool) → IsSearched s.signals s.memos t (is_computing s) unmarked →
+    AreStateMarks s dependants t →
     AreStateMarks (with_look s) dependants (without_marks t unmarked)
 
 -- and what marks tell of a computed is its state

@@ -50,7 +50,8 @@ AllBring (o ∷ os) = Brings o × AllBring os
 
 -- A page and what is kept of its lines next: the noted numbers, the tree and the next unused number are those of the page, the shape comes
 -- from the same template, and what became of what is kept tells what has to be compared.
-pub record Compares (p : NumberedPage) (b : Block) (m : PageMemo) (c : Change) (number : Address → Option ℕ) (tree : Forest Kind) (next : ℕ) : Type 0 where
+pub record Compares (p : NumberedPage) (b : Block) (m : PageMemo) (c : Change) (number : Address → Option ℕ) (tree : Forest Kind)
+    (next : ℕ) : Type 0 where
   pub page : IsPage p
   pub sound : Sound (page_shape p)
   pub formed : IsShape (lines_shape b m)
@@ -73,7 +74,8 @@ pub record LeadOn (p : NumberedPage) (shape : Forest Look) (os : List Op) (next 
   pub count : next ≡ (renumbered p shape).next
 
 -- they were done, and the numbers by address are those of the next page
-pub record Carries (p : NumberedPage) (shape : Forest Look) (os : List Op) (next : ℕ) (tree : Forest Kind) (number : Address → Option ℕ) : Type 0 where
+pub record Carries (p : NumberedPage) (shape : Forest Look) (os : List Op) (next : ℕ) (tree : Forest Kind)
+    (number : Address → Option ℕ) : Type 0 where
   pub leads : LeadOn p shape os next
   pub stands : tree ≡ tree_of (renumbered p shape)
   pub known : AreKnown (renumbered p shape) tree number

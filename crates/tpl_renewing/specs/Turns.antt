@@ -123,7 +123,8 @@ kept_of (start.Whole x) inside later = kept x.memo
 kept_of (start.Line h) inside later = closed h inside later
 
 -- Lines that were kept are looked at, where they are to be, and the first of them is heard again; what was kept inside it and behind it is at hand.
-pub record OpensAgain (b : Block) (links : List ℕ) (row : Option RowRef) (before earlier now : Outcomes) (h : Head) (inside later : List PageMemo) : Type 0 where
+pub record OpensAgain (b : Block) (links : List ℕ) (row : Option RowRef) (before earlier now : Outcomes) (h : Head)
+    (inside later : List PageMemo) : Type 0 where
   pub memo : PageMemo
   pub mid : Outcomes
   pub was : WasMade (lines_memo b) links row before memo

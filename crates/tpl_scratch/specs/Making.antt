@@ -83,7 +83,8 @@ abbrev pub attributes_in : List (List ℕ × Formula) → List (List ℕ × Tree
 attributes_in xs = map (λ (a : List ℕ × Formula). (a.0, tree a.1)) xs
 
 -- all that attributes read is known, and these are present
-pub record HasAttributes (known : List (Option Outcome)) (row : Option RowRef) (xs : List (List ℕ × Tree)) (found : List (List ℕ × List ℕ)) : Type 0 where
+pub record HasAttributes (known : List (Option Outcome)) (row : Option RowRef) (xs : List (List ℕ × Tree))
+    (found : List (List ℕ × List ℕ)) : Type 0 where
   pub reads : first_missing known (attributes_told false (on_known known) row xs).reads ≡ None
   pub values : found ≡ present (attributes_of (on_known known) row xs)
 
