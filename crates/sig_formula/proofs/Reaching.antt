@@ -72,6 +72,12 @@ pub anew_is_paused : (p : Evaluation) (xs : List Instruction) (t : Tree) (row : 
     xs ≡ p.program → IsPaused (begun xs) t row known
 anew_is_paused p xs t row known h same = record { compiled = same ∙ h.compiled; steps = 0; come = refl }
 
+-- so it is whatever was read before, and is known later
+pub anew_from : (p q : Evaluation) (t : Tree) (row : Option RowRef) (known later : List Known) → q ≡ begun p.program → IsPaused p t row known →
+    IsPaused q t row later
+anew_from p q t row known later same h =
+    subst (λ (e : Evaluation). IsPaused e t row later) (sym same) (record { compiled = h.compiled; steps = 0; come = refl })
+
 -- one step more
 pub reached_on : (tracking : Bool) (p q : Evaluation) (t : Tree) (row : Option RowRef) (ts us : List Known) → IsReached tracking p t row ts us →
     q.program ≡ p.program → on q.machine ≡ stepped p.program row ts us p.machine → IsReached tracking q t row ts us

@@ -209,7 +209,7 @@ decided_early = refl
 -- of a choice one branch is evaluated, by a truth
 pub choices : map alone
     (choice (truth true) (number (pos 1)) by_zero ∷ choice (truth false) by_zero (slot 1) ∷ choice (number (pos 1)) (slot 0) (slot 1)
-      ∷ choice by_zero (slot 0) (slot 1)
+    ∷ choice by_zero (slot 0) (slot 1)
     ∷ choice (slot 4) by_zero by_zero ∷ [])
     ≡ int (pos 1) ∷ Read 1 ∷ Fail Kind ∷ Fail Zero ∷ Read 4 ∷ []
 choices = refl

@@ -1,11 +1,12 @@
 // An evaluation that goes on from the slot at which it stopped.
-ghost use Rattle.std.specs.Prelude.{◌≡◌, ◌<◌, [], length, true, Option, Some, IfOk, IfSome, OnOk};
+ghost use Rattle.std.specs.Prelude.{◌≡◌, ◌<◌, [], length, true, List, Option, Some, IfOk, IfSome, OnOk};
 ghost use Rattle.std.specs.Option.{option_copied};
+ghost use Rattle.sig_base.specs.declared.value.Known.{Known};
 ghost use Rattle.sig_formula.specs.declared.formula.RowRef.{RowRef};
 ghost use Rattle.sig_formula.specs.Answering.{answer_of, formula_step};
 ghost use Rattle.sig_formula.specs.Programs.{code};
 ghost use Rattle.sig_formula.specs.Running.{IsPaused, IsReached, begun, is_asked, next_by, stepped};
-ghost use Rattle.sig_formula.specs.Trees.{tree};
+ghost use Rattle.sig_formula.specs.Trees.{Tree, tree};
 
 use crate::evaluate::served;
 use crate::machine::Machine;
@@ -123,11 +124,19 @@ impl Paused {
         }
     }
 
-    // Begins anew.
-    fn restart(&mut self)
+    // Goes back to the first of the instructions.
+    fn rewind(&mut self)
         ensures { self.new ≡ begun self.old.program }
     {
         self.machine.restart(place(&self.program));
+    }
+
+    /// Begins the evaluation of the same formula anew: nothing is read then. It takes no memory.
+    #[tactic(auto, using(crate::proofs::Reaching::anew_from))]
+    pub fn restart(&mut self)
+        ensures { (t : Tree) (row : Option RowRef) (known : List Known) → IsPaused self.old t row known → IsPaused self.new t row [] }
+    {
+        self.rewind();
     }
 
     /// Goes on with the evaluation of the formula and the row of the calls before, by values that begin with those of the call before: what
@@ -152,11 +161,11 @@ impl Paused {
         match self.run(alloc, false, f, row, known, &[])? {
             FormulaStep::Ask(slot, _) => Ok(Step::Read(slot)),
             FormulaStep::End(Outcome::Good(value)) => {
-                self.restart();
+                self.rewind();
                 Ok(Step::Done(value))
             }
             FormulaStep::End(Outcome::Bad(fault)) => {
-                self.restart();
+                self.rewind();
                 Ok(Step::Fail(fault))
             }
         }

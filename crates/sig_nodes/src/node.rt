@@ -149,7 +149,7 @@ pub(crate) struct Computation {
     memo: Option<Memo>,
     computing: bool,
     known: Vec<Known>,
-    // none before the first answer, and for a host formula
+    // none before the first answer, and for a host formula; it is kept from one run to the next
     paused: Option<Paused>,
 }
 
@@ -285,14 +285,15 @@ impl Computation {
         ensures { self.new ≡ record self.old { known = Some [] } }
     {
         self.known.clear();
-        self.paused = None;
+        if let Some(paused) = &mut self.paused {
+            paused.restart();
+        }
         self.computing = true;
     }
 
     pub(crate) fn end(&mut self)
         ensures { self.new ≡ record self.old { known = None } }
     {
-        self.paused = None;
         self.computing = false;
     }
 
@@ -323,7 +324,6 @@ impl Computation {
         ensures { self.new ≡ record self.old { memo = Some memo; known = None } }
     {
         self.memo = Some(memo);
-        self.paused = None;
         self.computing = false;
     }
 
