@@ -4,12 +4,14 @@ use Rattle.sig_base.specs.Words.{is_name, is_reserved}
 use Rattle.formula_text.specs.Signs.{last_word_sign, later_word_sign, word_sign}
 use Rattle.line_forms.specs.Reading.{is_clear}
 use Rattle.line_forms.specs.Rows.{rows_of, Reaches, IsGrammar}
+use Rattle.live_cmd.specs.declared.command.Bare.TheVariants as bares
 use Rattle.live_cmd.specs.declared.command.Verb.TheVariants as verbs
-use Rattle.live_cmd.specs.Grammar.{Row, row, table, verb, computed, rewire, tries_get, tries_set, tries_watch, tries_unwatch, flush}
+use Rattle.live_cmd.specs.Grammar.{Row, row, table, verb, bare, computed, rewire, tries_get, tries_set, tries_watch, tries_unwatch, close}
 
 reached : (r : Row) → Reaches Row row r (rows_of (row r).0 table)
 unfolding word_sign later_word_sign last_word_sign is_name is_reserved
 reached (verb verbs.Get) = inl refl
+reached (bare bares.Flush) = inl refl
 reached computed = inr (refl, inl refl)
 reached rewire = inr (refl, inl refl)
 reached tries_get = inr (refl, inl refl)
@@ -20,7 +22,7 @@ reached _ = inl refl
 
 clear : (r : Row) → is_clear (row r).1 ≡ true
 unfolding word_sign later_word_sign last_word_sign is_name is_reserved
-clear flush = refl
+clear close = refl
 clear _ = refl
 
 pub is_grammar : IsGrammar Row row table

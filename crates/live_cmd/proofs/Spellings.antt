@@ -15,11 +15,12 @@ use Rattle.line_forms.specs.Reading.{read_form}
 use Rattle.line_forms.specs.Rows.{Table, first_of, rows_of, said_of}
 use Rattle.line_forms.specs.Told.{ahead}
 use Rattle.line_forms.proofs.Shared as lines
+use Rattle.live_cmd.specs.declared.command.Bare.{Bare}
 use Rattle.live_cmd.specs.declared.command.Verb.{Verb}
 use Rattle.live_cmd.specs.declared.line.Found.{Found}
-use Rattle.live_cmd.specs.Grammar.{Row, row, table, verb, rows_before, later_rows, Said, Writes}
+use Rattle.live_cmd.specs.Grammar.{Row, row, table, bare, verb, rows_before, later_rows, other_rows, Said, Writes}
 use Rattle.live_cmd.specs.Views.{found_of, found_as, found_first}
-use Rattle.live_cmd.specs.Words.{all_verbs, by_word, found, verb_of, verb_word}
+use Rattle.live_cmd.specs.Words.{all_bares, all_verbs, bare_of, bare_word, by_word, found, verb_of, verb_word}
 use Rattle.live_cmd.proofs.Grammars.{is_grammar}
 
 -- ---- the rows of a word
@@ -77,14 +78,26 @@ rows_by_word word_of as_row (x ∷ xs) others w =
 -- a verb's word has the row of the verb
 pub verb_rows : (w : List ℕ) (v : Verb) → Some v ≡ verb_of w → rows_of w table ≡ verb v ∷ []
 verb_rows w v e =
-    rows_by_word verb_word verb all_verbs later_rows w
-    ∙ ap (λ (o : Option Verb). option_map_or (λ (y : Verb). verb y ∷ []) o (rows_of w later_rows)) (sym e)
+    rows_by_word verb_word verb all_verbs other_rows w
+    ∙ ap (λ (o : Option Verb). option_map_or (λ (y : Verb). verb y ∷ []) o (rows_of w other_rows)) (sym e)
 
 -- another word has the rows of the others
-pub other_rows : (w : List ℕ) → None ≡ verb_of w → rows_of w table ≡ rows_of w later_rows
-other_rows w e =
-    rows_by_word verb_word verb all_verbs later_rows w
-    ∙ ap (λ (o : Option Verb). option_map_or (λ (y : Verb). verb y ∷ []) o (rows_of w later_rows)) (sym e)
+pub rows_of_other : (w : List ℕ) → None ≡ verb_of w → rows_of w table ≡ rows_of w other_rows
+rows_of_other w e =
+    rows_by_word verb_word verb all_verbs other_rows w
+    ∙ ap (λ (o : Option Verb). option_map_or (λ (y : Verb). verb y ∷ []) o (rows_of w other_rows)) (sym e)
+
+-- so it is with the words that stand alone
+pub bare_rows : (w : List ℕ) (b : Bare) → Some b ≡ bare_of w → rows_of w other_rows ≡ bare b ∷ []
+bare_rows w b e =
+    rows_by_word bare_word bare all_bares later_rows w
+    ∙ ap (λ (o : Option Bare). option_map_or (λ (y : Bare). bare y ∷ []) o (rows_of w later_rows)) (sym e)
+
+-- and with those that don't
+pub rows_of_later : (w : List ℕ) → None ≡ bare_of w → rows_of w other_rows ≡ rows_of w later_rows
+rows_of_later w e =
+    rows_by_word bare_word bare all_bares later_rows w
+    ∙ ap (λ (o : Option Bare). option_map_or (λ (y : Bare). bare y ∷ []) o (rows_of w later_rows)) (sym e)
 
 -- ---- lines of bytes
 

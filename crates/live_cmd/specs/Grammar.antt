@@ -8,6 +8,7 @@ use Rattle.line_forms.specs.Blocks as blocks
 use Rattle.line_forms.specs.Forms.{Piece, part, fixed, one, perhaps, many, listed, arguments, formula, name, value, key, count, are_distinct}
 use Rattle.line_forms.specs.Rows as grammar
 use Rattle.line_forms.specs.Told.{Made, made}
+use Rattle.live_cmd.specs.declared.command.Bare.{Bare}
 use Rattle.live_cmd.specs.declared.command.Command.TheVariants as command
 use Rattle.live_cmd.specs.declared.command.RowEdit.TheVariants as edit
 use Rattle.live_cmd.specs.declared.command.SourceText.TheVariants as source
@@ -15,12 +16,14 @@ use Rattle.live_cmd.specs.declared.command.Try.TheVariants as tried
 use Rattle.live_cmd.specs.declared.command.Verb.{Verb}
 use Rattle.live_cmd.specs.declared.line.Line.{Line}
 use Rattle.live_cmd.specs.declared.line.Line.TheVariants as line
-use Rattle.live_cmd.specs.Words.{all_verbs, verb_word}
+use Rattle.live_cmd.specs.Words.{all_bares, all_verbs, bare_word, verb_word}
 
 -- the rows of the grammar
 pub data Row : Type 0 where
   -- a verb and a name
   verb : Verb → Row
+  -- a word alone
+  bare : Bare → Row
   cell : Row
   set : Row
   -- a list, and the edits of its rows
@@ -44,7 +47,6 @@ pub data Row : Type 0 where
   watch : Row
   unwatch : Row
   mount : Row
-  flush : Row
   effect : Row
   template : Row
   close : Row
@@ -112,6 +114,7 @@ mark s = fixed (symbol s)
 -- the first word of a row, and what follows it
 abbrev pub row : Row → grammar.Line
 row (verb v) = (verb_word v, N ∷ [])
+row (bare b) = (bare_word b, [])
 row cell = (codes "cell", N ∷ mark (codes "=") ∷ LIT ∷ equals_K ∷ in_O ∷ [])
 row set = (codes "set", N ∷ LIT ∷ [])
 row list = (codes "list", N ∷ FIELDS ∷ in_O ∷ [])
@@ -132,7 +135,6 @@ row tries_unwatch = (codes "watcher", N ∷ says (codes "tries") ∷ says (codes
 row watch = (codes "watch", N ∷ NAMES ∷ [])
 row unwatch = (codes "unwatch", N ∷ N ∷ [])
 row mount = (codes "mount", N ∷ N ∷ in_O ∷ [])
-row flush = (codes "flush", [])
 row effect = (codes "effect", N ∷ in_O ∷ [])
 row template = (codes "template", N ∷ [])
 row close = (codes "end", [])
@@ -145,7 +147,6 @@ last_rows =
     ∷ (codes "watch", watch ∷ [])
     ∷ (codes "unwatch", unwatch ∷ [])
     ∷ (codes "mount", mount ∷ [])
-    ∷ (codes "flush", flush ∷ [])
     ∷ (codes "effect", effect ∷ [])
     ∷ (codes "template", template ∷ [])
     ∷ (codes "end", close ∷ [])
@@ -170,13 +171,18 @@ abbrev pub rows_before : {A : Type 0} → (A → List ℕ) → (A → Row) → L
 rows_before word_of as_row [] others = others
 rows_before word_of as_row (x ∷ xs) others = (word_of x, as_row x ∷ []) ∷ rows_before word_of as_row xs others
 
+-- those of the words that aren't verbs
+abbrev pub other_rows : grammar.Table Row
+other_rows = rows_before bare_word bare all_bares later_rows
+
 -- the rows that begin with each word
 abbrev pub table : grammar.Table Row
-table = rows_before verb_word verb all_verbs later_rows
+table = rows_before verb_word verb all_verbs other_rows
 
 -- what a row gives of what stands in its parts: its formula with slots for its names
 abbrev pub line_makes : (r : Row) → Made (row r).1 Line
 line_makes (verb v) = λ n. line.Alone (command.Named v n)
+line_makes (bare b) = line.Alone (command.Bare b)
 line_makes cell = λ n v k o. line.Alone (command.Cell n v k o)
 line_makes set = λ n v. line.Alone (command.Set n v)
 line_makes list = λ n fs o. line.Alone (command.List n fs o)
@@ -197,7 +203,6 @@ line_makes tries_unwatch = λ w n m. line.Alone (command.Watcher w (Some (tried.
 line_makes watch = λ w ns. line.Alone (command.Watch w ns)
 line_makes unwatch = λ w n. line.Alone (command.Unwatch w n)
 line_makes mount = λ n t o. line.Alone (command.Mount n t o)
-line_makes flush = line.Alone command.Flush
 line_makes effect = λ n o. line.Effect n o
 line_makes template = λ n. line.Template n
 line_makes close = line.End

@@ -1,6 +1,8 @@
--- The words of the commands that are a verb and a name: one table, by which they are read and written.
+-- The words of the commands that are a verb and a name, and of those of one word: tables, by which they are read and written.
 use Rattle.std.specs.Prelude.{ℕ, if◌then◌else◌, List, [], ◌∷◌, map, codes, Option, Some, None}
 use Rattle.std.specs.Str.{bytes_eq}
+use Rattle.live_cmd.specs.declared.command.Bare.{Bare}
+use Rattle.live_cmd.specs.declared.command.Bare.TheVariants as bares
 use Rattle.live_cmd.specs.declared.command.Verb.{Verb}
 use Rattle.live_cmd.specs.declared.command.Verb.TheVariants as verbs
 
@@ -18,6 +20,14 @@ verb_word verbs.Pending = codes "pending"
 abbrev pub all_verbs : List Verb
 all_verbs = verbs.Get ∷ verbs.State ∷ verbs.Sources ∷ verbs.Show ∷ verbs.Scratch ∷ verbs.Dispose ∷ verbs.Pending ∷ []
 
+-- the word of a command of one word
+abbrev pub bare_word : Bare → List ℕ
+bare_word bares.Flush = codes "flush"
+
+-- all commands of one word
+abbrev pub all_bares : List Bare
+all_bares = bares.Flush ∷ []
+
 -- what has this word, by the word of each
 abbrev pub found : {A : Type 0} → List (List ℕ × A) → List ℕ → Option A
 found [] w = None
@@ -30,3 +40,7 @@ by_word word_of xs = map (λ x. (word_of x, x)) xs
 -- the verb that has this word
 abbrev pub verb_of : List ℕ → Option Verb
 verb_of w = found (by_word verb_word all_verbs) w
+
+-- the command of one word that has it
+abbrev pub bare_of : List ℕ → Option Bare
+bare_of w = found (by_word bare_word all_bares) w

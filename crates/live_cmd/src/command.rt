@@ -1,6 +1,6 @@
 // Commands and the items of a script.
 ghost use Rattle.std.specs.Prelude.{◌≡◌, map};
-ghost use Rattle.live_cmd.specs.Words.{found, verb_of, verb_word};
+ghost use Rattle.live_cmd.specs.Words.{bare_of, bare_word, found, verb_of, verb_word};
 ghost use Rattle.sig_untrack.specs.Stated.{before, no_bodies};
 
 use formula_text::Wired;
@@ -71,6 +71,13 @@ pub enum Verb {
     Pending,
 }
 
+/// The commands of one word.
+#[derive(Clone, Copy)]
+pub enum Bare {
+    /// `flush` runs the effects that are due, and brings the pages up to date.
+    Flush,
+}
+
 // The word of each verb, at the place of its number.
 const VERBS: [(Verb, &str); 7] = [
     (Verb::Get, "get"),
@@ -82,8 +89,11 @@ const VERBS: [(Verb, &str); 7] = [
     (Verb::Pending, "pending"),
 ];
 
-// The verb of the first of these rows that has this word.
-fn found(mut rows: &[(Verb, &str)], word: &str) -> Option<Verb>
+// So it is for the commands of one word.
+const BARES: [(Bare, &str); 1] = [(Bare::Flush, "flush")];
+
+// What stands in the first of these rows that has this word.
+fn found<T: Copy>(mut rows: &[(T, &str)], word: &str) -> Option<T>
     ensures { result ≡ found (map (λ r. (r.1.now, r.0)) rows.entry.now) word.now }
 {
     while let [row, rest @ ..] = rows {
@@ -108,6 +118,22 @@ impl Verb {
         ensures { result ≡ verb_of word.now }
     {
         found(&VERBS, word)
+    }
+}
+
+impl Bare {
+    /// Its word.
+    pub fn word(self) -> &'static str
+        ensures { result.now ≡ bare_word self }
+    {
+        BARES[self as usize].1
+    }
+
+    /// The command of one word that has this word.
+    pub fn of(word: &str) -> Option<Bare>
+        ensures { result ≡ bare_of word.now }
+    {
+        found(&BARES, word)
     }
 }
 
@@ -261,8 +287,8 @@ pub enum Command {
         template: Name,
         inside: Option<Name>,
     },
-    /// `flush` runs the effects that are due, and brings the pages up to date.
-    Flush,
+    /// A word alone.
+    Bare(Bare),
 }
 
 /// What a piece of a script is: a command, or lines that are refused.

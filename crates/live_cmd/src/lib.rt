@@ -17,7 +17,7 @@ mod row_lines;
 mod sources;
 mod watching;
 
-pub use command::{Command, EffectBody, Item, RowEdit, SourceText, Try, Verb};
+pub use command::{Bare, Command, EffectBody, Item, RowEdit, SourceText, Try, Verb};
 pub use fields::are_fields;
 pub use item::next_item;
 pub use laws::{items_cut, items_in_turn, one_item, one_list, one_meaning};

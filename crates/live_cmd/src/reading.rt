@@ -7,7 +7,7 @@ ghost use Rattle.sig_words.specs.Lexemes.{lexemes};
 ghost use Rattle.line_forms.specs.Reading.{read_form};
 ghost use Rattle.line_forms.specs.Rows.{rows_of, said_of};
 ghost use Rattle.line_forms.specs.Told.{ahead, IsToldScalar};
-ghost use Rattle.live_cmd.specs.Grammar.{last_rows, later_rows, row, table, Row, Said, Writes};
+ghost use Rattle.live_cmd.specs.Grammar.{last_rows, later_rows, other_rows, row, table, Row, Said, Writes};
 ghost use Rattle.live_cmd.specs.Grammar as rows;
 ghost use Rattle.live_cmd.specs.Views.{found_as, found_first, found_of};
 
@@ -17,7 +17,7 @@ use crate::naming::{inside_text_last, made, made_owned, name_text_at, name_text_
 use crate::row_lines::{insert, list, move_row, put_field, remove};
 use crate::sources::{any_computed, any_rewire};
 use crate::watching::{any_watcher, unwatch, watch};
-use crate::{Command, Line, Verb};
+use crate::{Bare, Command, Line, Verb};
 use formula_text::Allow;
 use line_forms::{ToldValue, count_behind, ends_at, symbol_at, value_at};
 use sig_base::{MOST_LINE, Name, NoMemory};
@@ -45,6 +45,17 @@ fn named(
     };
     let name = made(alloc, name)?;
     Ok(Some(alone(Command::Named { verb, name })))
+}
+
+// A word alone.
+fn only(line: &[u8], tokens: &[Token], bare: Bare) -> Option<Found>
+    ensures { result ≡ found_as (rows.bare bare) (ahead line.now tokens.now 1) }
+{
+    if ends_at(tokens, 1) {
+        Some(alone(Command::Bare(bare)))
+    } else {
+        None
+    }
 }
 
 // What may stand behind the value of a cell.
@@ -162,17 +173,6 @@ fn mount(alloc: Global, line: &[u8], tokens: &[Token]) -> Result<Option<Found>, 
     })))
 }
 
-// `flush`
-fn flush(line: &[u8], tokens: &[Token]) -> Option<Found>
-    ensures { result ≡ found_as rows.flush (ahead line.now tokens.now 1) }
-{
-    if ends_at(tokens, 1) {
-        Some(alone(Command::Flush))
-    } else {
-        None
-    }
-}
-
 // `effect E [in O]`
 fn effect(alloc: Global, line: &[u8], tokens: &[Token]) -> Result<Option<Found>, NoMemory>
     ensures { IfOk result (λ found. found ≡ found_as rows.effect (ahead line.now tokens.now 1)) }
@@ -225,7 +225,6 @@ fn behind_last_word(
         "watch" => watch(alloc, line, tokens),
         "unwatch" => unwatch(alloc, line, tokens),
         "mount" => mount(alloc, line, tokens),
-        "flush" => Ok(flush(line, tokens)),
         "effect" => effect(alloc, line, tokens),
         "template" => template(alloc, line, tokens),
         "end" => Ok(close(line, tokens)),
@@ -257,6 +256,22 @@ fn behind_later_word(
     }
 }
 
+// What the tokens behind a word say that isn't a verb.
+fn behind_other_word(
+    alloc: Global,
+    line: &[u8],
+    tokens: &[Token],
+    word: &str,
+) -> Result<Option<Found>, NoMemory>
+    requires { AreTokens line.now tokens.now }
+    ensures { IfOk result (λ found. found ≡ found_first (rows_of word.now other_rows) (ahead line.now tokens.now 1)) }
+{
+    match Bare::of(word) {
+        Some(bare) => Ok(only(line, tokens, bare)),
+        None => behind_later_word(alloc, line, tokens, word),
+    }
+}
+
 // What the tokens behind a first word say.
 fn behind_word(
     alloc: Global,
@@ -269,7 +284,7 @@ fn behind_word(
 {
     match Verb::of(word) {
         Some(verb) => named(alloc, line, tokens, verb),
-        None => behind_later_word(alloc, line, tokens, word),
+        None => behind_other_word(alloc, line, tokens, word),
     }
 }
 

@@ -326,20 +326,7 @@ within_here asked w names own ((n, needed) ∷ us) =
 
 body_here : (asked : List HostPlace) (m : Machine) (c : Command) → body_refusal (plain_of asked m) c ≡ body_refusal (plain_of [] m) c
 body_here asked m (command.Effect n b inside) = within_here asked m.world m.names n (uses_of_body b)
-body_here asked m (command.Cell n v equals inside) = refl
-body_here asked m (command.List n fields inside) = refl
-body_here asked m (command.Edit n e) = refl
-body_here asked m (command.Set n v) = refl
-body_here asked m (command.Computed n s inside) = refl
-body_here asked m (command.Rewire n s) = refl
-body_here asked m (command.Named v n) = refl
-body_here asked m (command.Owner n inside) = refl
-body_here asked m (command.Watcher n tries) = refl
-body_here asked m (command.Watch n signals) = refl
-body_here asked m (command.Unwatch n s) = refl
-body_here asked m (command.Template n texts) = refl
-body_here asked m (command.Mount n t inside) = refl
-body_here asked m command.Flush = refl
+body_here asked m _ = refl
 
 -- no name is refused
 pub fine_here : (asked : List HostPlace) (m : Machine) (c : Command) → name_refusal (plain_of asked m) c ≡ None → AreFine m c

@@ -7,6 +7,7 @@ ghost use Rattle.sig_effect.specs.declared.errors.EffectFault.TheVariants as fau
 ghost use Rattle.sig_effect.specs.Agreeing.{environment, AreRuled};
 ghost use Rattle.effect_world.specs.Agreeing.{Agrees, IsSound};
 ghost use Rattle.effect_world.specs.Weighing.{weight};
+ghost use Rattle.live_cmd.specs.declared.command.Bare.TheVariants as bares;
 ghost use Rattle.live_cmd.specs.declared.command.Command.TheVariants as command;
 ghost use Rattle.live_model.specs.Machine.{after_turns, done, over_limit};
 ghost use Rattle.live_model.specs.declared.names.Kind.TheVariants as kind;
@@ -160,7 +161,7 @@ impl Machine {
         ensures steps { (hosts : Hosts) → ⟦<Shelf as Lent>⟧.answers hosts shelf.old →
             IsSound hosts (⟦<Shelf as Lent>⟧.asked shelf.old) self.old.world →
             IfOk result (λ es. Steps hosts (⟦<Shelf as Lent>⟧.asked shelf.new) self.new es.items
-            (done (environment hosts (map (λ r. r.slack) rules.now)) (plain_of (⟦<Shelf as Lent>⟧.asked shelf.old) self.old) command.Flush)) }
+            (done (environment hosts (map (λ r. r.slack) rules.now)) (plain_of (⟦<Shelf as Lent>⟧.asked shelf.old) self.old) (command.Bare bares.Flush))) }
         ensures leaves { (hosts : Hosts) → ⟦<Shelf as Lent>⟧.answers hosts shelf.old →
             IsSound hosts (⟦<Shelf as Lent>⟧.asked shelf.old) self.old.world → OnOk result
             (Leaves (⟦<Shelf as Lent>⟧.asked shelf.old) (⟦<Shelf as Lent>⟧.asked shelf.new) (length rules.now) self.old self.new) }

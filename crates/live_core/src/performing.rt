@@ -17,7 +17,7 @@ use crate::answers::one;
 use crate::faults::memory_of;
 use crate::machine::Machine;
 use effect_world::World;
-use live_cmd::{Command, Item, Verb};
+use live_cmd::{Bare, Command, Item, Verb};
 use live_entries::Entry;
 use live_labels::Labels;
 use live_names::Names;
@@ -83,6 +83,35 @@ impl Machine {
         }
     }
 
+    // Does a command of one word.
+    fn do_bare(
+        &mut self,
+        shelf: &mut Shelf,
+        rules: &[EqualsRule],
+        bare: Bare,
+    ) -> Result<Vec<Entry>, EffectFault>
+        requires ready { IsReady self.old }
+        requires weight { weight self.old.world < 2 ^ 124 }
+        requires holds { Holds (⟦<Shelf as Lent>⟧.asked shelf.old) (length rules.now) self.old.world }
+        requires counted { ⟦<Shelf as Lent>⟧.counted shelf.old }
+        requires most { most_asked (⟦<Shelf as Lent>⟧.asked shelf.old) < 2 ^ 124 }
+        ensures steps { (hosts : Hosts) → ⟦<Shelf as Lent>⟧.answers hosts shelf.old →
+            IsSound hosts (⟦<Shelf as Lent>⟧.asked shelf.old) self.old.world →
+            IfOk result (λ es. Steps hosts (⟦<Shelf as Lent>⟧.asked shelf.new) self.new es.items
+            (done (environment hosts (map (λ r. r.slack) rules.now)) (plain_of (⟦<Shelf as Lent>⟧.asked shelf.old) self.old) (command.Bare bare))) }
+        ensures leaves { (hosts : Hosts) → ⟦<Shelf as Lent>⟧.answers hosts shelf.old →
+            IsSound hosts (⟦<Shelf as Lent>⟧.asked shelf.old) self.old.world → OnOk result
+            (Leaves (⟦<Shelf as Lent>⟧.asked shelf.old) (⟦<Shelf as Lent>⟧.asked shelf.new) (length rules.now) self.old self.new) }
+        ensures answers { (hosts : Hosts) → ⟦<Shelf as Lent>⟧.answers hosts shelf.old → OnOk result (⟦<Shelf as Lent>⟧.answers hosts shelf.new) }
+        ensures counted { OnOk result (⟦<Shelf as Lent>⟧.counted shelf.new) }
+        ensures most { OnOk result (most_asked (⟦<Shelf as Lent>⟧.asked shelf.new) ≤ most_asked (⟦<Shelf as Lent>⟧.asked shelf.old) + 2 ^ 80) }
+        ensures memory { IfErr result (λ e. e ≡ fault.NoMemory) }
+    {
+        match bare {
+            Bare::Flush => self.flush(shelf, rules),
+        }
+    }
+
     // Does a command that isn't refused.
     fn perform(
         &mut self,
@@ -145,7 +174,7 @@ impl Machine {
                 inside,
             } => self.mount(shelf, name, &template, &inside),
             Command::Named { verb, name } => self.do_verb(shelf, rules, verb, name),
-            Command::Flush => self.flush(shelf, rules),
+            Command::Bare(bare) => self.do_bare(shelf, rules, bare),
         }
     }
 

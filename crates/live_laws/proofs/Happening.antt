@@ -17,6 +17,8 @@ use Rattle.effect_model.specs.Commands.{after_command, command_refused, done_by,
 use Rattle.effect_model.specs.Commands.{with_new_computed, with_new_page}
 use Rattle.effect_model.specs.Running.{flush}
 use Rattle.effect_tables.specs.Placed.{at_rest}
+use Rattle.live_cmd.specs.declared.command.Bare.{Bare}
+use Rattle.live_cmd.specs.declared.command.Bare.TheVariants as bares
 use Rattle.live_cmd.specs.declared.command.Verb.{Verb}
 use Rattle.live_cmd.specs.declared.command.Verb.TheVariants as verb
 use Rattle.live_cmd.specs.declared.command.Command.{Command}
@@ -32,7 +34,7 @@ use Rattle.live_model.specs.declared.names.Need.TheVariants as need
 use Rattle.live_model.specs.Labels.{labels_after}
 use Rattle.live_model.specs.Linking.{linked_body, owner_of, recipe_of}
 use Rattle.live_model.specs.Machine as machine
-use Rattle.live_model.specs.Machine.{Machine, Told, acted_on_pages, after_turns, body_refusal, brought_up, carried_on, disposing, done, empty}
+use Rattle.live_model.specs.Machine.{Machine, Told, acted_on_pages, after_turns, body_refusal, brought_up, carried_on, disposing, done, done_alone, empty}
 use Rattle.live_model.specs.Machine.{entries_of, is_trying, later_refusal, name_refusal, named, ops_told, over_limit, page_at, place_refusal, refusal_of, row_refusal}
 use Rattle.live_model.specs.Machine.{news_of, scratching, settling, step, template_at, template_reads, unwatch_refusal, update_all}
 use Rattle.live_model.specs.Pages.{Page, page_html, scratch_html}
@@ -40,7 +42,7 @@ use Rattle.live_model.specs.Rows.{edited, no_rows, rows_at}
 use Rattle.live_model.specs.Names.{Use, first_refusal, meaning_of, number_of, refusal_at, thing_named}
 use Rattle.live_model.specs.Uses.{uses_of, uses_of_inside, uses_of_signals, uses_of_source}
 use Rattle.live_laws.specs.Rested.{AreAsked, AreEnds, rested_after, told_by}
-use Rattle.live_laws.specs.Happening.{askings_of, EndsLaw, HappensLaw, HostsLaw, IsTold, deeds_after_turns, deeds_of, deeds_of_item, deeds_of_pages, deeds_of_verb, disposals_of}
+use Rattle.live_laws.specs.Happening.{askings_of, EndsLaw, HappensLaw, HostsLaw, IsTold, deeds_after_turns, deeds_alone, deeds_of, deeds_of_item, deeds_of_pages, deeds_of_verb, disposals_of}
 use Rattle.live_laws.specs.Happening.{event_told, happened, no_more}
 use Rattle.live_laws.proofs.Fine.{first_of_both, host_fine, inside_fine, none_by, none_of, signal_fine, signals_fine, source_fine, watcher_fine}
 use Rattle.live_laws.proofs.Rests.{quiet_after, rested_law, told_more}
@@ -170,6 +172,12 @@ verbs_do env m verb.Scratch n i = askings_do env m n (page_at m.pages i)
 verbs_do env m verb.Dispose n i = disposals_do env m (thing_named (meaning_of m.names n))
 verbs_do env m v n i = record { world = refl; told = answers_only m.labels (named env m v n i).entries refl }
 
+words_do : (env : Environment) (m : Machine) (b : Bare) → Does env m (deeds_alone env m b) (done_alone env m b)
+words_do env m bares.Flush = record {
+  world = turns_do env m (flush env m.world).refused (flush env m.world).world;
+  told = turns_told env m (flush env m.world).refused (flush env m.world).world;
+}
+
 commands_do : (env : Environment) (m : Machine) (c : Command) → m.world.told ≡ [] → refusal_of env.slacks m c ≡ None → Does env m (deeds_of env m c) (done env m c)
 commands_do env m (command.Cell n v equals inside) quiet e =
     let c : plain.Command = plain.cell (scalar_value v) equals (owner_of m.names inside) in
@@ -245,10 +253,7 @@ commands_do env m (command.Mount n t inside) quiet e =
           (subst (λ es. IsTold (labels_after w.told m.labels) (es ++ []) told) (ap (λ (v : World). v.told) (sym page))
           (answers_only (labels_after w.told m.labels) told (page_answers n u.ops (page_html q)))));
     }
-commands_do env m command.Flush quiet e = record {
-  world = turns_do env m (flush env m.world).refused (flush env m.world).world;
-  told = turns_told env m (flush env m.world).refused (flush env m.world).world;
-}
+commands_do env m (command.Bare b) quiet e = words_do env m b
 
 -- ---- items
 

@@ -11,6 +11,7 @@ use Rattle.effect_model.specs.Acts.{are_alike, frozen_by, set_cell, set_standing
 use Rattle.effect_model.specs.Running.{flush}
 use Rattle.effect_tables.specs.Placed.{at_rest}
 use Rattle.live_cmd.specs.declared.command.Command.{Command}
+use Rattle.live_cmd.specs.declared.command.Bare.TheVariants as bares
 use Rattle.live_cmd.specs.declared.command.Command.TheVariants as command
 use Rattle.live_cmd.specs.declared.command.Item.TheVariants as item
 use Rattle.live_entries.specs.declared.entry.Entry.{Entry}
@@ -72,5 +73,5 @@ change_law env m c i v x quiet fine change stands other =
 pub refused_flush_law : RefusedFlushLaw
 refused_flush_law env m e =
     let t : Told = acted_on_pages m (flush env m.world).world in
-    let s : step env m (item.Do command.Flush) ≡ after_turns env true t = ap (λ (b : Bool). after_turns env b t) e in
+    let s : step env m (item.Do (command.Bare bares.Flush)) ≡ after_turns env true t = ap (λ (b : Bool). after_turns env b t) e in
     record { done = s; pages = ap (λ (r : Told). r.machine.pages) s }

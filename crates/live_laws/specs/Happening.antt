@@ -9,6 +9,8 @@ use Rattle.effect_model.specs.Commands as plain
 use Rattle.effect_model.specs.Commands.{after_command}
 use Rattle.effect_model.specs.Running.{flush}
 use Rattle.effect_tables.specs.Placed.{at_rest}
+use Rattle.live_cmd.specs.declared.command.Bare.{Bare}
+use Rattle.live_cmd.specs.declared.command.Bare.TheVariants as bares
 use Rattle.live_cmd.specs.declared.command.Verb.{Verb}
 use Rattle.live_cmd.specs.declared.command.Verb.TheVariants as verb
 use Rattle.live_cmd.specs.declared.command.Command.{Command}
@@ -56,6 +58,10 @@ abbrev pub deeds_after_turns : Environment → Bool → Machine → List plain.C
 deeds_after_turns env true m = []
 deeds_after_turns env false m = deeds_of_pages env m.templates m.pages m.world
 
+-- what a command of one word does
+abbrev pub deeds_alone : Environment → Machine → Bare → List plain.Command
+deeds_alone env m bares.Flush = let f = flush env m.world in plain.flush_all ∷ deeds_after_turns env f.refused (acted_on_pages m f.world).machine
+
 -- what a command of the script that isn't refused does, in order
 abbrev pub deeds_of : Environment → Machine → Command → List plain.Command
 deeds_of env m (command.Cell n v equals inside) = plain.cell (scalar_value v) equals (owner_of m.names inside) ∷ []
@@ -72,7 +78,7 @@ deeds_of env m (command.Named v n) = deeds_of_verb env m v n (number_of m.names 
 deeds_of env m (command.Effect n b inside) = plain.effect (linked_body m.names n m.world.made.effects b) (owner_of m.names inside) ∷ []
 deeds_of env m (command.Template n t) = []
 deeds_of env m (command.Mount n t inside) = plain.ask (template_reads env m (number_of m.names t)) ∷ plain.page (owner_of m.names inside) ∷ []
-deeds_of env m command.Flush = let f = flush env m.world in plain.flush_all ∷ deeds_after_turns env f.refused (acted_on_pages m f.world).machine
+deeds_of env m (command.Bare b) = deeds_alone env m b
 
 -- what an item does; a refused one does nothing
 abbrev pub deeds_of_item : Environment → Machine → Item → List plain.Command

@@ -11,6 +11,7 @@ use Rattle.effect_model.specs.Acts.{are_alike, frozen_by, is_notified, notified_
 use Rattle.effect_model.specs.Running.{flush}
 use Rattle.effect_tables.specs.Placed.{at_rest}
 use Rattle.live_cmd.specs.declared.command.Command.{Command}
+use Rattle.live_cmd.specs.declared.command.Bare.TheVariants as bares
 use Rattle.live_cmd.specs.declared.command.Command.TheVariants as command
 use Rattle.live_cmd.specs.declared.command.Item.{Item}
 use Rattle.live_cmd.specs.declared.command.Item.TheVariants as item
@@ -74,9 +75,9 @@ ChangeLaw = (env : Environment) (m : Machine) (c : Command) (i : ℕ) (v : Value
 
 -- A flush that is refused leaves all as its turns left it: the pages that still live are as they were before, and the refusal is told last.
 pub record LeavesPages (env : Environment) (m : Machine) : Type 0 where
-  pub done : step env m (item.Do command.Flush)
+  pub done : step env m (item.Do (command.Bare bares.Flush))
       ≡ (let t = acted_on_pages m (flush env m.world).world in told t.machine (t.entries ++ entry.Error refusal.Turns ∷ []))
-  pub pages : (step env m (item.Do command.Flush)).machine.pages ≡ filter (λ (p : Page). is_in p.number (flush env m.world).world.pages) m.pages
+  pub pages : (step env m (item.Do (command.Bare bares.Flush))).machine.pages ≡ filter (λ (p : Page). is_in p.number (flush env m.world).world.pages) m.pages
 
 -- so it is with each flush that is refused
 abbrev pub RefusedFlushLaw : Type 0

@@ -10,6 +10,7 @@ use Rattle.sig_untrack.specs.Stated.{Stated, Bodies, no_bodies, body, no_more, s
 use Rattle.sig_untrack.specs.Stated as stated
 use Rattle.live_cmd.specs.declared.command.SourceText.TheVariants as source
 use Rattle.live_cmd.specs.declared.command.Verb.TheVariants as verb
+use Rattle.live_cmd.specs.declared.command.Bare.TheVariants as bares
 use Rattle.live_cmd.specs.declared.command.Command.TheVariants as command
 use Rattle.live_cmd.specs.declared.command.Item.{Item}
 use Rattle.live_cmd.specs.declared.command.Item.TheVariants as item
@@ -38,7 +39,7 @@ abbrev pub an_owner : List ℕ → Item
 an_owner n = item.Do (command.Owner n None)
 
 abbrev pub a_flush : Item
-a_flush = item.Do command.Flush
+a_flush = item.Do (command.Bare bares.Flush)
 
 -- the label of a child
 abbrev pub child : List ℕ → List ℕ → Label

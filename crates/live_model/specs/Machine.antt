@@ -31,6 +31,8 @@ use Rattle.sig_owner.specs.declared.limits.TheConstants.{MOST_OWNERS}
 use Rattle.sig_untrack.specs.Stated.{Bodies}
 use Rattle.effect_tables.specs.declared.tables.TheConstants.{MOST_EFFECTS}
 use Rattle.effect_tables.specs.Placed.{at_rest}
+use Rattle.live_cmd.specs.declared.command.Bare.{Bare}
+use Rattle.live_cmd.specs.declared.command.Bare.TheVariants as bares
 use Rattle.live_cmd.specs.declared.command.SourceText.{SourceText}
 use Rattle.live_cmd.specs.declared.command.SourceText.TheVariants as source
 use Rattle.live_cmd.specs.declared.command.RowEdit.{RowEdit}
@@ -286,6 +288,10 @@ after_turns env false t =
 abbrev pub flushing : Environment → Machine → Told
 flushing env m = let f = flush env m.world in after_turns env f.refused (acted_on_pages m f.world)
 
+-- what a command of one word does
+abbrev pub done_alone : Environment → Machine → Bare → Told
+done_alone env m bares.Flush = flushing env m
+
 -- the rows of a list are edited, which is done as a set is: nothing happens where they stay the same
 abbrev pub editing : Environment → Machine → ℕ → RowEdit → Told
 editing env m i e = acted m (set_cell env i (value.Rows (edited e (rows_at m.world.signals i))) m.world)
@@ -311,7 +317,7 @@ done env m (command.Effect n b inside) = told (with_effect m n b (owner_of m.nam
 done env m (command.Template n t) =
     told (with_name (record m { templates = m.templates ++ linked_template m.names t ∷ [] }) n kind.Template (length m.templates)) []
 done env m (command.Mount n t inside) = mounted env m n (number_of m.names t) (owner_of m.names inside)
-done env m command.Flush = flushing env m
+done env m (command.Bare b) = done_alone env m b
 
 -- ---- refusals
 

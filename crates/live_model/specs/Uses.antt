@@ -212,4 +212,4 @@ uses_of (command.Named v n) = (n, need_of v) ∷ []
 uses_of (command.Effect n b inside) = (n, need.New) ∷ uses_of_inside inside
 uses_of (command.Template n t) = (n, need.New) ∷ uses_of_signals t.names
 uses_of (command.Mount n t inside) = (n, need.New) ∷ (t, need.Of kind.Template) ∷ uses_of_inside inside
-uses_of command.Flush = []
+uses_of (command.Bare b) = []

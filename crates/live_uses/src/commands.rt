@@ -108,7 +108,7 @@ fn put_uses<'a>(uses: &mut Vec<Use<'a>>, command: &'a Command) -> Result<(), NoM
             put_inside(uses, inside)
         }
         Command::Named { verb, name } => put_use(uses, name, need_of(*verb)),
-        Command::Flush => Ok(()),
+        Command::Bare(_) => Ok(()),
     }
 }
 

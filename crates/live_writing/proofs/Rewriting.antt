@@ -39,7 +39,7 @@ use Rattle.live_cmd.specs.declared.line.Line.{Line}
 use Rattle.live_cmd.specs.declared.line.Line.TheVariants as line
 use Rattle.live_cmd.specs.declared.place.Place.{Place}
 use Rattle.live_cmd.specs.declared.place.Place.TheVariants as place
-use Rattle.live_cmd.specs.Grammar.{Row, row, Said, Writes, line_of, computed, rewire, flush, effect, template, close}
+use Rattle.live_cmd.specs.Grammar.{Row, row, Said, Writes, line_of, computed, rewire, effect, template, close}
 use Rattle.live_cmd.specs.Places.{kind_of, moved}
 use Rattle.live_cmd.specs.Judging.{Sayings, faults_of, misplacing, excess, first_misplaced, first_excess, refusal_of}
 use Rattle.live_cmd.specs.Blocks.{Block, Ends, IsContent, IsContentOf, block_item, body_refused, effect_content, is_head, template_content, template_refused}
@@ -88,7 +88,7 @@ gives_flat (line.Alone c) = is_flat c
 gives_flat _ = true
 
 row_flat : (r : Row) (a : Args (row r).1) → gives_flat (line_of (r, a)) ≡ true
-row_flat flush a = refl
+row_flat close a = refl
 row_flat _ a = refl
 
 first_flat : (l : Line) (ls : List Line) (c : Command) → gives_flat l ≡ true → command_of (l ∷ ls) ≡ Some c → is_flat c ≡ true

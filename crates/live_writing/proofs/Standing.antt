@@ -14,6 +14,7 @@ use Rattle.line_forms.proofs.Shared.{in_line, is_line, whole_line, rewrites}
 use Rattle.script_lines.specs.Lines.{NumberedLine, is_passed, kept_lines, lines, numbered}
 use Rattle.script_lines.specs.Pieces.{Piece, pieces, pieces_of, outside, inside, begins_block, closes, level_after, opens}
 use Rattle.script_lines.proofs.Shared.{kept_first, line_alone, block_begins, block_goes_on, block_ends}
+use Rattle.live_cmd.specs.declared.command.Bare.TheVariants as bares
 use Rattle.live_cmd.specs.declared.command.Command.{Command}
 use Rattle.live_cmd.specs.declared.command.Command.TheVariants as command
 use Rattle.live_cmd.specs.declared.command.Item.TheVariants as item
@@ -178,6 +179,7 @@ flat_single (command.Watcher m (Some (tried.Set x v))) h = refl
 flat_single (command.Watcher m (Some (tried.Watch x ns))) h = refl
 flat_single (command.Watcher m (Some (tried.Unwatch x y))) h = refl
 flat_single (command.Named verbs.Get m) h = refl
+flat_single (command.Bare bares.Flush) h = refl
 flat_single c h = refl
 
 flat_stands : (c : Command) → is_flat c ≡ true → AllLines (lines_by c) → Stands (lines_by c)

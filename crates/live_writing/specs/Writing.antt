@@ -18,9 +18,9 @@ use Rattle.live_cmd.specs.declared.command.SourceText.TheVariants as source
 use Rattle.live_cmd.specs.declared.command.Try.{Try}
 use Rattle.live_cmd.specs.declared.command.Try.TheVariants as tried
 use Rattle.live_cmd.specs.declared.command.SourceText.{SourceText}
-use Rattle.live_cmd.specs.Grammar.{Row, row, Said, verb, cell, set, list, insert_row, remove_row, move_row, put_field, computed, computed_host}
+use Rattle.live_cmd.specs.Grammar.{Row, row, Said, verb, bare, cell, set, list, insert_row, remove_row, move_row, put_field, computed, computed_host}
 use Rattle.live_cmd.specs.Grammar.{rewire, rewire_host, owner, watcher, tries_get, tries_set, tries_watch, tries_unwatch, watch, unwatch, mount}
-use Rattle.live_cmd.specs.Grammar.{flush, effect, template, close}
+use Rattle.live_cmd.specs.Grammar.{effect, template, close}
 
 -- the formula with names in place of its slots
 abbrev pub draft_of : Wiring → Draft
@@ -65,7 +65,7 @@ said_by (command.Watcher w t) = watcher_line w t ∷ []
 said_by (command.Watch w ns) = (watch, (w, (ns, tt))) ∷ []
 said_by (command.Unwatch w n) = (unwatch, (w, (n, tt))) ∷ []
 said_by (command.Mount n t o) = (mount, (n, (t, (o, tt)))) ∷ []
-said_by command.Flush = (flush, tt) ∷ []
+said_by (command.Bare b) = (bare b, tt) ∷ []
 said_by (command.Effect n b o) = (effect, (n, (o, tt))) ∷ (close, tt) ∷ []
 said_by (command.Template n t) = (template, (n, tt)) ∷ (close, tt) ∷ []
 

@@ -12,7 +12,7 @@ use crate::writing_sources::{put_computed, put_rewire};
 use crate::writing_watchers::{put_unwatch, put_watch, put_watcher};
 use body_text::put_body;
 use line_forms::{put_count_behind, put_fixed, put_name, put_value};
-use live_cmd::{Command, EffectBody, Verb};
+use live_cmd::{Bare, Command, EffectBody, Verb};
 use sig_base::{Name, NoMemory, Scalar};
 use tpl_syntax::Template;
 
@@ -21,6 +21,14 @@ fn put_named(out: &mut Vec<u8>, verb: Verb, name: &Name) -> Result<(), NoMemory>
 {
     out.extend_from_slice(verb.word().as_bytes())?;
     put_name(out, name)?;
+    out.push(b'\n')?;
+    Ok(())
+}
+
+fn put_bare(out: &mut Vec<u8>, bare: Bare) -> Result<(), NoMemory>
+    ensures { OnOk result (out.new.items ≡ out.old.items ++ ended_line (rows.bare bare, tt)) }
+{
+    out.extend_from_slice(bare.word().as_bytes())?;
     out.push(b'\n')?;
     Ok(())
 }
@@ -182,9 +190,6 @@ pub fn command_line(out: &mut Vec<u8>, command: &Command) -> Result<(), NoMemory
             inside,
         } => put_mount(out, name, template, inside),
         Command::Template { name, template } => put_template(out, name, template),
-        Command::Flush => {
-            out.extend_from_slice(b"flush\n")?;
-            Ok(())
-        }
+        Command::Bare(bare) => put_bare(out, *bare),
     }
 }

@@ -29,6 +29,8 @@ use Rattle.sig_host.specs.Lending.{IsGood, LendsRows}
 use Rattle.tpl_model.specs.Laws.{GivesRows, IsMade, IsTemplate, begun, carried_on}
 use Rattle.tpl_model.specs.Sources.{on_signals}
 use Rattle.tpl_model.specs.Updates.{Updated}
+use Rattle.live_cmd.specs.declared.command.Bare.{Bare}
+use Rattle.live_cmd.specs.declared.command.Bare.TheVariants as bares
 use Rattle.live_cmd.specs.declared.command.Command.{Command}
 use Rattle.live_cmd.specs.declared.command.Command.TheVariants as command
 use Rattle.live_cmd.specs.declared.command.Item.{Item}
@@ -280,6 +282,10 @@ verb_step env m verb.Scratch n i s = scratch_step env m n (page_at m.pages i) s
 verb_step env m verb.Dispose n i s = dispose_step env m (thing_named (meaning_of m.names n)) s
 verb_step env m v n i s = same_step m (machine.named env m v n i).entries s (λ k. refl)
 
+alone_step : (one : OneReading) (env : Environment) (m : Machine) (b : Bare) → LendsRows env.hosts → IsSound m → Steps m (machine.done_alone env m b)
+alone_step one env m bares.Flush lends s =
+    turns_step one env m (flush env m.world).world (flush env m.world).refused lends s (flushed_good env m.world s.world)
+
 -- a cell or a computed is made
 signal_step : (m : Machine) (n : List ℕ) (k : Kind) (w : World) → IsSound m → IsGoodWorld w → Steps m (told (with_signal m n k w) [])
 signal_step m n k w s good =
@@ -351,8 +357,7 @@ done_step one env m (command.Mount n t inside) lends s read e =
     let first = (neither (refusal_at m.world (n, need.New) (meaning_of m.names n))
     (first_refusal m.world m.names ((t, need.Of kind.Template) ∷ uses_of_inside inside)) uses).0 in
     mount_step one env m n (number_of m.names t) (owner_of m.names inside) lends s (name_free m.world n (meaning_of m.names n) first)
-done_step one env m command.Flush lends s read e =
-    turns_step one env m (flush env m.world).world (flush env m.world).refused lends s (flushed_good env m.world s.world)
+done_step one env m (command.Bare b) lends s read e = alone_step one env m b lends s
 
 -- an item
 pub item_step : (one : OneReading) (env : Environment) (m : Machine) (i : Item) → LendsRows env.hosts → IsSound m → IsReadItem i → Steps m (step env m i)

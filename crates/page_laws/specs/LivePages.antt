@@ -13,6 +13,7 @@ use Rattle.page_model.specs.Replay.{Op, replay}
 use Rattle.page_model.specs.Texts.{op_text}
 use Rattle.page_ops.specs.Ops.{HasText}
 use Rattle.live_cmd.specs.Items.{ItemsFrom}
+use Rattle.live_cmd.specs.declared.command.Bare.TheVariants as bares
 use Rattle.live_cmd.specs.declared.command.Command.TheVariants as command
 use Rattle.live_cmd.specs.declared.command.Item.{Item}
 use Rattle.live_cmd.specs.declared.command.Item.TheVariants as item
@@ -57,7 +58,7 @@ pub record Lead (ops : List Op) (before after : Forest Kind) : Type 0 where
 
 -- the item is a flush, and it isn't refused
 abbrev pub IsFlush : Environment → Machine → Item → Type 0
-IsFlush env m i = (i ≡ item.Do command.Flush) × ((flush env m.world).refused ≡ false)
+IsFlush env m i = (i ≡ item.Do (command.Bare bares.Flush)) × ((flush env m.world).refused ≡ false)
 
 -- after a flush that isn't refused each page that lives is, byte for byte, its template evaluated from scratch on the signals as they are now
 abbrev pub IsShown : Environment → Machine → Item → Type 0

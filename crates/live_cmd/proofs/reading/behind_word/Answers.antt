@@ -3,7 +3,7 @@ use Rattle.std.specs.Prelude.{IfOk}
 use Rattle.line_forms.specs.Told.{ahead}
 use Rattle.live_cmd.specs.Grammar.{Row}
 use Rattle.live_cmd.specs.Views.{found_first}
-use Rattle.live_cmd.proofs.Spellings.{other_rows, verb_rows}
+use Rattle.live_cmd.proofs.Spellings.{rows_of_other, verb_rows}
 use Rattle.live_cmd.proofs.reading.behind_word.Goals as goal
 
 pub returns-in-Some : goal.returns-in-Some
@@ -13,5 +13,5 @@ returns-in-Some c =
 
 pub returns-in-None : goal.returns-in-None
 returns-in-None c =
-    subst (λ (rs : List Row). IfOk c.behind_later_word.result (λ found. found ≡ found_first rs (ahead c.args.line.now c.args.tokens.now 1)))
-    (sym (other_rows c.args.word.now c.in-None.ensures)) c.behind_later_word.ensures
+    subst (λ (rs : List Row). IfOk c.behind_other_word.result (λ found. found ≡ found_first rs (ahead c.args.line.now c.args.tokens.now 1)))
+    (sym (rows_of_other c.args.word.now c.in-None.ensures)) c.behind_other_word.ensures

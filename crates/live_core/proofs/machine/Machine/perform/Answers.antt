@@ -74,8 +74,8 @@ returns-in-Mount-clause-leaves g c = λ hosts all sound. c.mount.ensures.leaves 
 pub returns-in-Named-clause-steps : goal.returns-in-Named-clause-steps
 returns-in-Named-clause-steps g c = λ hosts all sound. rw c.in-Named.is (c.do_verb.ensures.steps hosts all sound)
 
-pub returns-in-Flush-clause-steps : goal.returns-in-Flush-clause-steps
-returns-in-Flush-clause-steps g c = λ hosts all sound. rw c.in-Flush.is (c.flush.ensures.steps hosts all sound)
+pub returns-in-Bare-clause-steps : goal.returns-in-Bare-clause-steps
+returns-in-Bare-clause-steps g c = λ hosts all sound. rw c.in-Bare.is (c.do_bare.ensures.steps hosts all sound)
 
 pub returns-in-List-clause-steps : goal.returns-in-List-clause-steps
 returns-in-List-clause-steps g c = λ hosts all sound. rw c.in-List.is (c.make_list.ensures.steps hosts (map (λ r. r.slack) c.args.rules.now) _ sound)
