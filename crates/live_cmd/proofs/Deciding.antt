@@ -1,31 +1,27 @@
 -- Each piece of a script is some item.
 use Rattle.std.proofs.Common.{ℕ, List, [], ◌∷◌, inl, inr}
 use Rattle.std.proofs.lemmas.Bool.{cases_Bool}
-use Rattle.line_forms.proofs.Shared as lines
 use Rattle.script_lines.specs.Pieces.{Piece, pieces_of}
 use Rattle.live_cmd.specs.declared.command.Item.{Item}
 use Rattle.live_cmd.specs.declared.command.Item.TheVariants as item
-use Rattle.live_cmd.specs.declared.place.Place.TheVariants as place
 use Rattle.live_entries.specs.declared.refusal.LimitWord.TheVariants as limit
 use Rattle.live_entries.specs.declared.refusal.Refusal.TheVariants as refusal
 use Rattle.live_cmd.specs.Blocks.{block_item}
-use Rattle.live_cmd.specs.Grammar.{Row, row, table}
-use Rattle.live_cmd.specs.Places.{places}
-use Rattle.live_cmd.specs.Items.{IsItem, long, unended, block, faulty, says, any_long, first_number, item_of, AreItems, ItemsFrom}
-use Rattle.live_cmd.proofs.Grammars.{is_grammar}
+use Rattle.live_cmd.specs.Items.{IsItem, long, unended, block, faulty, says, any_long, first_line, is_alone, item_of, AreItems, ItemsFrom}
 use Rattle.live_cmd.proofs.Parting.{block_or_none}
+use Rattle.live_cmd.proofs.Spellings.{such_or_none}
 
 -- each piece is some item
 pub some_item : (p : Piece) → (i : Item) × IsItem p i
-some_item p = elim (cases_Bool (any_long p.lines)) [
+some_item p = let line = first_line p.lines in elim (cases_Bool (any_long p.lines)) [
   | inl a ↦ (item.Refused (refusal.Limit limit.Line), long a)
   | inr a ↦ elim (cases_Bool p.ended) [
-    | inr e ↦ (item.Refused (refusal.Syntax (first_number p.lines)), unended a e)
+    | inr e ↦ (item.Refused (refusal.Syntax line.0), unended a e)
     | inl e ↦ elim (block_or_none p.lines) [
       | inl b ↦ (block_item b.0.ends b.0.last.0 b.1, block b.0 b.1 a e b.2)
-      | inr none ↦ elim (lines.lines_or_fault Row row table is_grammar places place.First p.lines) [
-        | inl s ↦ (item_of (first_number p.lines) s.0, says s.0 a e s.1)
-        | inr f ↦ (item.Refused (refusal.Syntax f.0), faulty f.0 a e none f.1)
+      | inr none ↦ elim (such_or_none is_alone line.1) [
+        | inl x ↦ (item_of line.0 x.0, says x.0 a e x.1 x.2)
+        | inr other ↦ (item.Refused (refusal.Syntax line.0), faulty a e none other)
       ]
     ]
   ]

@@ -1,5 +1,5 @@
 -- What was found in a line says what its bytes begin or end.
-use Rattle.std.proofs.Common.{◌≡◌, ℕ, Bool, true, false, List, Option, Some, None, refl, sym, ap, subst, ◌∙◌}
+use Rattle.std.proofs.Common.{◌≡◌, ℕ, Bool, false, List, Option, Some, None, refl, sym, subst}
 use Rattle.std.specs.Prelude.{MatchOption}
 use Rattle.formula_text.specs.declared.wired.FormulaFault.{FormulaFault}
 use Rattle.line_forms.specs.Forms.{Args}
@@ -12,7 +12,7 @@ use Rattle.live_cmd.specs.Grammar.{Row, row, Said, Writes, line_of, effect, temp
 use Rattle.live_cmd.specs.Judging.{fault_of}
 use Rattle.live_cmd.specs.Views.{end_told, found_of, head_of, head_told, is_end, told}
 use Rattle.live_cmd.proofs.Parting.{no_close}
-use Rattle.live_cmd.proofs.Spellings.{one_writing}
+use Rattle.live_cmd.proofs.Spellings.{none_such}
 
 -- ---- ends
 
@@ -43,18 +43,12 @@ no_head : (o : Option FormulaFault) (l : Line) → head_of l ≡ None → head_t
 no_head None l e = e
 no_head (Some f) l e = refl
 
-other_head : (bytes : List ℕ) (x : Said) → Writes x bytes → is_head x.0 ≡ false → IsNoHead bytes
-other_head bytes x w h y v k =
-    let same : x ≡ y = one_writing bytes x y w v in
-    let is : is_head x.0 ≡ true = ap (λ (z : Said). is_head z.0) same ∙ k in
-    absurd cc
-
 head_row : (r : Row) (a : Args (row r).1) (bytes : List ℕ) → Writes (r, a) bytes → IsHead bytes (head_told (told (r, a)))
 head_row effect a bytes w = w
 head_row template a bytes w = w
 head_row r a bytes w =
     subst (λ (h : Option Head). IsHead bytes h) (sym (no_head (fault_of (r, a)) (line_of (r, a)) refl))
-    (other_head bytes (r, a) w refl)
+    (none_such (λ y. is_head y.0) bytes (r, a) w refl)
 
 -- what was found in a line says whether it begins a block
 pub head_found : (bytes : List ℕ) (f : Found) → (x : Said) × Writes x bytes × (f ≡ found_of x) → IsHead bytes (head_told f.line)

@@ -4,6 +4,7 @@ use Rattle.std.specs.Prelude.{nat_lt, slice_index_or}
 use Rattle.std.specs.List.{list_any, All}
 use Rattle.std.proofs.lemmas.Bool.{cases_Bool}
 use Rattle.std.proofs.lemmas.Bool.Decides.{nat_tests}
+use Rattle.std.proofs.lemmas.List.Elements.{All-head}
 use Rattle.std.proofs.lemmas.List.Folds.{list_any_at}
 use Rattle.sig_base.specs.declared.limits.TheConstants.{MOST_LINE}
 use Rattle.script_lines.specs.declared.line.NumberedLine as held
@@ -12,7 +13,7 @@ use Rattle.script_lines.specs.Views.{line_of, piece_of}
 use Rattle.live_cmd.specs.declared.command.Item.TheVariants as item
 use Rattle.live_entries.specs.declared.refusal.LimitWord.TheVariants as limit
 use Rattle.live_entries.specs.declared.refusal.Refusal.TheVariants as refusal
-use Rattle.live_cmd.specs.Items.{any_long, long, IsItem}
+use Rattle.live_cmd.specs.Items.{any_long, first_line, long, IsItem}
 
 any_map : {A B : Type 0} (p : B → Bool) (f : A → B) (xs : List A) → list_any p (map f xs) ≡ list_any (λ x. p (f x)) xs
 any_map p f [] = refl
@@ -31,6 +32,11 @@ all_short ls e k d h = elim (cases_Bool (nat_lt MOST_LINE (length (slice_index_o
       absurd cc
   | inr f ↦ grind (arith, nat_tests)
 ]
+
+-- so is the first line then
+pub first_short : (ls : List held.NumberedLine) → any_long (map line_of ls) ≡ false → length (first_line (map line_of ls)).1 ≤ MOST_LINE
+first_short [] e = omega arith
+first_short (l ∷ ls) e = All-head (λ l. length l.text.now ≤ MOST_LINE) l ls (all_short (l ∷ ls) e)
 
 -- ---- pieces with a line that is too long
 

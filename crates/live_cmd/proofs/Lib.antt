@@ -8,9 +8,7 @@ mod Heading
 mod NameBytes
 mod Numbering
 mod Parting
-mod Places
 mod Plain
-mod Refusing
 mod Spellings
 mod TemplateNumbers
 pub mod Shared

@@ -1,6 +1,5 @@
 -- Blocks whose lines have a grammar of their own: each is one, or none, and comes to one thing.
 use Rattle.std.proofs.Common.{◌≡◌, ◌⊎◌, ◌<◌, ℕ, Bool, true, false, List, [], ◌∷◌, ◌++◌, length, refl, sym, ap, subst, ◌∙◌, inl, inr, arith}
-use Rattle.std.proofs.lemmas.Bool.{cases_Bool}
 use Rattle.line_forms.specs.Forms.{Args}
 use Rattle.script_lines.specs.Lines.{NumberedLine}
 use Rattle.body_text.specs.Readings.{Answer}
@@ -8,13 +7,10 @@ use Rattle.body_text.proofs.Shared.{one_answer, some_answer}
 use Rattle.tpl_syntax.specs.Templates as templates
 use Rattle.tpl_syntax.proofs.Shared as template_laws
 use Rattle.live_cmd.specs.declared.contents.Content.{Content}
-use Rattle.live_cmd.specs.declared.place.Place.TheVariants as place
 use Rattle.live_cmd.specs.Blocks.{Block, Ends, IsContent, IsContentOf, IsNoHead, block_item, effect_content, template_content, is_head}
 use Rattle.live_cmd.specs.Grammar.{Row, row, Said, Writes, effect, template, close}
-use Rattle.live_cmd.specs.Places.{fits, kind_of}
-use Rattle.live_cmd.specs.Judging.{Sayings}
-use Rattle.live_cmd.specs.Items.{Say}
-use Rattle.live_cmd.proofs.Spellings.{one_writing, line_or_none}
+use Rattle.live_cmd.specs.Items.{first_line, is_alone, IsNoCommand}
+use Rattle.live_cmd.proofs.Spellings.{none_such, one_writing, such_or_none}
 
 -- ---- lists with a last
 
@@ -84,51 +80,26 @@ close_said _ a bytes h w = absurd cc
 
 -- a line that says something else isn't an `end`
 pub no_close : (bytes : List ℕ) (x : Said) → Writes x bytes → is_close x.0 ≡ false → Writes (close, tt) bytes → ⊥
-no_close bytes x w h v =
-    let same : x ≡ (close, tt) = one_writing bytes x (close, tt) w v in
-    let is : is_close x.0 ≡ true = ap (λ (y : Said). is_close y.0) same in
-    absurd cc
+no_close bytes x w h v = none_such (λ y. is_close y.0) bytes x w h (close, tt) v refl
 
 pub some_end : (bytes : List ℕ) → (b : Bool) × Ends b bytes
-some_end bytes = elim (line_or_none bytes) [
-  | inr none ↦ (false, λ w. none (close, tt) w)
-  | inl l ↦ elim (cases_Bool (is_close l.0.0)) [
-    | inl e ↦ (true, close_said l.0.0 l.0.1 bytes e l.1)
-    | inr e ↦ (false, no_close bytes l.0 l.1 e)
-  ]
+some_end bytes = elim (such_or_none (λ x. is_close x.0) bytes) [
+  | inl c ↦ (true, close_said c.0.0 c.0.1 bytes c.2 c.1)
+  | inr none ↦ (false, λ w. none (close, tt) w refl)
 ]
 
 -- ---- its first line
 
-pub head_or_none : (bytes : List ℕ) → ((x : Said) × Writes x bytes × (is_head x.0 ≡ true)) ⊎ IsNoHead bytes
-head_or_none bytes = elim (line_or_none bytes) [
-  | inr none ↦ inr (λ x w h. none x w)
-  | inl l ↦ elim (cases_Bool (is_head l.0.0)) [
-    | inl e ↦ inl (l.0, l.1, e)
-    | inr e ↦ inr (λ x w h.
-        let same : l.0 ≡ x = one_writing bytes l.0 x l.1 w in
-        let is : is_head l.0.0 ≡ true = ap (λ (y : Said). is_head y.0) same ∙ h in
-        absurd cc)
-  ]
-]
+head_alone : (r : Row) (a : Args (row r).1) → is_head r ≡ true → is_alone (r, a) ≡ false
+head_alone effect a h = refl
+head_alone template a h = refl
+head_alone _ a h = absurd cc
 
-head_misfits : (r : Row) (a : Args (row r).1) → is_head r ≡ true → fits place.First (kind_of (r, a)) ≡ false
-head_misfits effect a h = refl
-head_misfits template a h = refl
-head_misfits _ a h = absurd cc
-
-says_at : (l : NumberedLine) (ls : List NumberedLine) (x : Said) (xs : Sayings) → Writes x l.1 → is_head x.0 ≡ true → Say place.First (l ∷ ls) xs → ⊥
-says_at l ls x [] w h s = s
-says_at l ls x (y ∷ ys) w h s =
-    let same : y.1 ≡ x = one_writing l.1 y.1 x s.1 w in
-    let no : fits place.First (kind_of y.1) ≡ false = ap (λ (z : Said). fits place.First (kind_of z)) same ∙ head_misfits x.0 x.1 h in
-    let is : fits place.First (kind_of y.1) ≡ true = s.2 in
-    absurd cc
-
--- the lines of a block aren't lines one by one
-pub no_says : (ls : List NumberedLine) (b : Block ls) (xs : Sayings) → Say place.First ls xs → ⊥
-no_says ls b xs s =
-    says_at b.first (b.inner ++ b.last ∷ []) b.head xs b.writes b.begins (subst (λ (ms : List NumberedLine). Say place.First ms xs) b.whole s)
+-- the first line of a block is no command by itself
+pub no_command : (ls : List NumberedLine) → Block ls → IsNoCommand (first_line ls).1
+no_command ls b =
+    let writes : Writes b.head (first_line ls).1 = subst (λ (ms : List NumberedLine). Writes b.head (first_line ms).1) (sym b.whole) b.writes in
+    none_such is_alone (first_line ls).1 b.head writes (head_alone b.head.0 b.head.1 b.begins)
 
 -- ---- one block
 
@@ -154,7 +125,7 @@ Found ls = (b : Block ls) × (c : Content) × IsContent b.head b.inner c
 pub block_or_none : (ls : List NumberedLine) → Found ls ⊎ (Block ls → ⊥)
 block_or_none [] = inr (λ b. let e = b.whole in absurd cc)
 block_or_none (l ∷ []) = inr (λ b. no_end b.inner b.last (cons_tail l b.first [] (b.inner ++ b.last ∷ []) b.whole))
-block_or_none (l ∷ m ∷ ls) = elim (head_or_none l.1) [
+block_or_none (l ∷ m ∷ ls) = elim (such_or_none (λ x. is_head x.0) l.1) [
   | inr none ↦ inr (λ b.
       let first : l ≡ b.first = cons_head l b.first _ _ b.whole in
       none b.head (subst (λ (k : NumberedLine). Writes b.head k.1) (sym first) b.writes) b.begins)

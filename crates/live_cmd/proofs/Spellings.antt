@@ -1,10 +1,11 @@
 -- What is read of a line is what its bytes write.
-use Rattle.std.proofs.Common.{◌≡◌, ℕ, Bool, true, false, cond, List, [], ◌∷◌, Option, Some, None, option_map, refl, sym, ap, subst, ◌∙◌, ◌⊎◌, arith}
+use Rattle.std.proofs.Common.{◌≡◌, ℕ, Bool, true, false, cond, List, [], ◌∷◌, Option, Some, None, option_map, refl, sym, ap, subst, ◌∙◌, ◌⊎◌, inl, inr, arith}
 use Rattle.std.specs.Prelude.{Result, Ok, Err, IfOk, MatchOption, slice_get}
 use Rattle.std.specs.Global.{Box}
 use Rattle.std.specs.Str.{IsUtf8}
 use Rattle.std.specs.Option.{option_map_or, option_or}
 use Rattle.std.specs.Str.{bytes_eq}
+use Rattle.std.proofs.lemmas.Bool.{cases_Bool}
 use Rattle.sig_words.specs.declared.token.Token.{Token}
 use Rattle.sig_words.specs.declared.token.TokenKind.TheVariants as kind
 use Rattle.sig_words.specs.Lexemes.{Lexeme, word, lexeme, lexemes, text_at}
@@ -108,6 +109,22 @@ one_writing bytes x y v w = lines.one_writing Row row table is_grammar bytes x y
 -- bytes write a line, or none
 pub line_or_none : (bytes : List ℕ) → ((x : Said) × Writes x bytes) ⊎ ((x : Said) → Writes x bytes → ⊥)
 line_or_none bytes = lines.line_or_none Row row table is_grammar bytes
+
+-- where a test fails of what bytes write, they write nothing of which it holds
+pub none_such : (p : Said → Bool) (bytes : List ℕ) (x : Said) → Writes x bytes → p x ≡ false → (y : Said) → Writes y bytes → p y ≡ true → ⊥
+none_such p bytes x w fails y v holds =
+    let both : false ≡ true = sym fails ∙ ap p (one_writing bytes x y w v) ∙ holds in
+    absurd cc
+
+-- bytes write something of which a test holds, or nothing such
+pub such_or_none : (p : Said → Bool) (bytes : List ℕ) → ((x : Said) × Writes x bytes × (p x ≡ true)) ⊎ ((x : Said) → Writes x bytes → p x ≡ true → ⊥)
+such_or_none p bytes = elim (line_or_none bytes) [
+  | inr none ↦ inr (λ x w h. none x w)
+  | inl l ↦ elim (cases_Bool (p l.0)) [
+    | inl e ↦ inl (l.0, l.1, e)
+    | inr e ↦ inr (none_such p bytes l.0 l.1 e)
+  ]
+]
 
 -- a line without tokens says nothing
 pub bad_none : (bytes : List ℕ) (at : ℕ) → IsBad bytes at → (x : Said) → Writes x bytes → ⊥

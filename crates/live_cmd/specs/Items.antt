@@ -1,8 +1,8 @@
 -- What the pieces of a script are: commands, or refused.
-use Rattle.std.specs.Prelude.{◌≡◌, ℕ, nat_lt, Bool, true, false, List, [], ◌∷◌, length, map, Option, Some, None, drop, if◌then◌else◌}
+use Rattle.std.specs.Prelude.{◌≡◌, ℕ, nat_lt, Bool, true, false, List, [], ◌∷◌, length, Option, Some, None, drop, if◌then◌else◌, IsTrue}
 use Rattle.std.specs.List.{list_any}
+use Rattle.std.specs.Option.{option_map_or}
 use Rattle.sig_base.specs.declared.limits.TheConstants.{MOST_FIELDS, MOST_LINE}
-use Rattle.line_forms.specs.Blocks as blocks
 use Rattle.script_lines.specs.Lines.{NumberedLine}
 use Rattle.script_lines.specs.Pieces.{Piece, pieces_of}
 use Rattle.live_cmd.specs.declared.line.Line.{Line}
@@ -11,37 +11,41 @@ use Rattle.live_cmd.specs.declared.command.Command.{Command}
 use Rattle.live_cmd.specs.declared.command.Command.TheVariants as command
 use Rattle.live_cmd.specs.declared.command.Item.{Item}
 use Rattle.live_cmd.specs.declared.command.Item.TheVariants as item
-use Rattle.live_cmd.specs.declared.place.Place.{Place}
-use Rattle.live_cmd.specs.declared.place.Place.TheVariants as place
-use Rattle.live_entries.specs.declared.refusal.LimitWord.TheVariants as limit
-use Rattle.live_entries.specs.declared.refusal.Refusal.{Refusal}
-use Rattle.live_entries.specs.declared.refusal.Refusal.TheVariants as refusal
-use Rattle.live_cmd.specs.Grammar.{Row, row, line_of}
-use Rattle.live_cmd.specs.Places.{places}
+use Rattle.live_cmd.specs.declared.command.RowEdit.TheVariants as edit
 use Rattle.live_cmd.specs.declared.contents.Content.{Content}
+use Rattle.live_entries.specs.declared.refusal.LimitWord.TheVariants as limit
+use Rattle.live_entries.specs.declared.refusal.Refusal.TheVariants as refusal
+use Rattle.live_cmd.specs.Grammar.{Said, Writes, are_fields, is_field, line_of}
+use Rattle.live_cmd.specs.Judging.{fault_of, refused_for}
 use Rattle.live_cmd.specs.Blocks.{Block, IsContent, block_item}
-use Rattle.live_cmd.specs.Judging.{Sayings, faults_of, refusal_of}
 
--- from a place on, the lines say this, each where it may stand
-abbrev pub Say : Place → List NumberedLine → Sayings → Type 0
-Say p ls xs = blocks.Say Row row places p ls xs
-
--- from a place on, the line of this number is the first that says nothing which may stand there
-abbrev pub IsFaulty : Place → List NumberedLine → ℕ → Type 0
-IsFaulty p ls k = blocks.IsFaulty Row row places p ls k
-
--- the number of the first line
-abbrev pub first_number : List NumberedLine → ℕ
-first_number [] = 0
-first_number (l ∷ ls) = l.0
+-- the first of lines, and one without a byte where there is none
+abbrev pub first_line : List NumberedLine → NumberedLine
+first_line [] = (0, [])
+first_line (l ∷ ls) = l
 
 -- whether a line has more than `MOST_LINE` bytes
 abbrev pub any_long : List NumberedLine → Bool
 any_long ls = list_any (λ l. nat_lt MOST_LINE (length l.1)) ls
 
--- the command that lines are
-abbrev pub command_of : List Line → Option Command
-command_of (line.Alone c ∷ []) = Some c
+-- whether a line that gives this is a command by itself: what begins a block or ends it isn't, nor is what names fields that no list can have
+abbrev pub gives_command : Line → Bool
+gives_command (line.Alone (command.List n fs o)) = are_fields fs
+gives_command (line.Alone (command.Edit n (edit.Put k f v))) = is_field f
+gives_command (line.Alone c) = true
+gives_command _ = false
+
+-- so it is with a line that says this
+abbrev pub is_alone : Said → Bool
+is_alone x = gives_command (line_of x)
+
+-- bytes write nothing that is a command by itself
+abbrev pub IsNoCommand : List ℕ → Type 0
+IsNoCommand bytes = (x : Said) → Writes x bytes → IsTrue (is_alone x) → ⊥
+
+-- the command that a line is
+abbrev pub command_of : Line → Option Command
+command_of (line.Alone c) = Some c
 command_of _ = None
 
 -- whether a command makes a list of more than `MOST_FIELDS` fields
@@ -53,30 +57,27 @@ has_many_fields _ = false
 abbrev pub item_made : Command → Item
 item_made c = if has_many_fields c then item.Refused (refusal.Limit limit.Fields) else item.Do c
 
--- lines that are no command are refused at the first
+-- a line that is no command is refused
 abbrev pub item_or : ℕ → Option Command → Item
 item_or k None = item.Refused (refusal.Syntax k)
 item_or k (Some c) = item_made c
 
--- what lines are where nothing is refused of them
-abbrev pub unless_refused : Option Refusal → Item → Item
-unless_refused None i = i
-unless_refused (Some r) i = item.Refused r
-
--- what lines are that say something, of which the first has this number
-abbrev pub item_of : ℕ → Sayings → Item
-item_of k xs = unless_refused (refusal_of (faults_of xs)) (item_or k (command_of (map (λ x. line_of x.1) xs)))
+-- what a line of this number is that says this: refused for what is wrong with it, or the command that it gives
+abbrev pub item_of : ℕ → Said → Item
+item_of k x = option_map_or (λ f. item.Refused (refused_for k f)) (fault_of x) (item_or k (command_of (line_of x)))
 
 -- What a piece is: one with a line that is too long is refused for that, a block without its end at its first line. A block whose lines
--- have a grammar of their own is what they come to. Another piece is refused at its first faulty line, or is what its lines say.
+-- have a grammar of their own is what they come to. Only blocks have several lines, so another piece is what its line says, or refused
+-- where it says nothing that is a command by itself.
 pub data IsItem (p : Piece) : Item → Type 0 where
   long : any_long p.lines ≡ true → IsItem p (item.Refused (refusal.Limit limit.Line))
-  unended : any_long p.lines ≡ false → p.ended ≡ false → IsItem p (item.Refused (refusal.Syntax (first_number p.lines)))
+  unended : any_long p.lines ≡ false → p.ended ≡ false → IsItem p (item.Refused (refusal.Syntax (first_line p.lines).0))
   block : (b : Block p.lines) (c : Content) → any_long p.lines ≡ false → p.ended ≡ true → IsContent b.head b.inner c
       → IsItem p (block_item b.ends b.last.0 c)
-  faulty : (k : ℕ) → any_long p.lines ≡ false → p.ended ≡ true → (Block p.lines → ⊥) → IsFaulty place.First p.lines k
-      → IsItem p (item.Refused (refusal.Syntax k))
-  says : (xs : Sayings) → any_long p.lines ≡ false → p.ended ≡ true → Say place.First p.lines xs → IsItem p (item_of (first_number p.lines) xs)
+  faulty : any_long p.lines ≡ false → p.ended ≡ true → (Block p.lines → ⊥) → IsNoCommand (first_line p.lines).1
+      → IsItem p (item.Refused (refusal.Syntax (first_line p.lines).0))
+  says : (x : Said) → any_long p.lines ≡ false → p.ended ≡ true → Writes x (first_line p.lines).1 → IsTrue (is_alone x)
+      → IsItem p (item_of (first_line p.lines).0 x)
 
 -- what pieces are, one by one
 abbrev pub AreItems : List Piece → List Item → Type 0

@@ -3,6 +3,5 @@ pub mod Coding
 pub mod Grammar
 pub mod Items
 pub mod Judging
-pub mod Places
 pub mod Views
 pub mod Words

@@ -1,19 +1,15 @@
 -- What the program holds of lines that it read.
-use Rattle.std.specs.Prelude.{◌≡◌, ◌⊎◌, ◌==◌, if◌then◌else◌, ℕ, Bool, true, false, List, [], ◌∷◌, Option, Some, None, option_map, Result, Ok, Err}
+use Rattle.std.specs.Prelude.{◌≡◌, ◌⊎◌, ◌==◌, if◌then◌else◌, ℕ, Bool, true, false, List, [], ◌∷◌, Option, Some, None, option_map, Result, Ok, Err, IsTrue}
 use Rattle.std.specs.Option.{option_or}
 use Rattle.sig_words.specs.Lexemes.{Lexeme}
 use Rattle.formula_text.specs.declared.wired.FormulaFault.{FormulaFault}
-use Rattle.formula_text.specs.declared.wired.FormulaFault.TheVariants as fault
 use Rattle.line_forms.specs.Reading.{read_form}
 use Rattle.line_forms.specs.Told.{unless_faulty}
 use Rattle.script_lines.specs.Lines.{NumberedLine}
-use Rattle.live_entries.specs.declared.refusal.LimitWord.TheVariants as limit
-use Rattle.live_entries.specs.declared.refusal.Refusal.{Refusal}
 use Rattle.live_entries.specs.declared.refusal.Refusal.TheVariants as refusal
-use Rattle.live_cmd.specs.Grammar.{Row, row, Said, line_of}
-use Rattle.live_cmd.specs.Places.{kind_of}
-use Rattle.live_cmd.specs.Judging.{Sayings, fault_of}
-use Rattle.live_cmd.specs.Items.{command_of, first_number, has_many_fields, item_of, item_or, IsFaulty, Say}
+use Rattle.live_cmd.specs.Grammar.{Row, row, Said, Writes, line_of}
+use Rattle.live_cmd.specs.Judging.{fault_of, refused_for}
+use Rattle.live_cmd.specs.Items.{command_of, has_many_fields, is_alone, item_of, item_or, IsNoCommand}
 use Rattle.live_cmd.specs.declared.command.Item.{Item}
 use Rattle.live_cmd.specs.declared.command.Item.TheVariants as item
 use Rattle.live_cmd.specs.declared.line.Line.{Line}
@@ -21,7 +17,6 @@ use Rattle.live_cmd.specs.declared.line.Line.TheVariants as line
 use Rattle.live_cmd.specs.declared.contents.Head.{Head}
 use Rattle.live_cmd.specs.declared.contents.Head.TheVariants as heads
 use Rattle.live_cmd.specs.declared.line.Found.{Found}
-use Rattle.live_cmd.specs.declared.place.Place.TheVariants as place
 
 -- what a line gives, or what is wrong with it
 abbrev pub told : Said → Result Line FormulaFault
@@ -29,7 +24,7 @@ told x = unless_faulty (fault_of x) (line_of x)
 
 -- what is found in a line that says this
 abbrev pub found_of : Said → Found
-found_of x = record { kind = kind_of x; line = told x }
+found_of x = record { alone = is_alone x; line = told x }
 
 -- the first line of a block, where a line is one
 abbrev pub head_of : Line → Option Head
@@ -67,32 +62,17 @@ found_first [] ls = None
 found_first (r ∷ []) ls = found_as r ls
 found_first (r ∷ s ∷ rs) ls = option_or (found_as r ls) (found_first (s ∷ rs) ls)
 
--- what a line of this number is refused for that has this wrong with it
-abbrev pub refused_for : ℕ → FormulaFault → Refusal
-refused_for k fault.UntrackHere = refusal.UntrackHere k
-refused_for k fault.ItHere = refusal.ItHere k
-refused_for k fault.Nest = refusal.Nest k
-refused_for k fault.TextLong = refusal.Limit limit.Text
-refused_for k fault.Sources = refusal.Limit limit.Sources
-refused_for k fault.Syntax = refusal.Syntax k
-refused_for k (fault.NoMemory e) = refusal.Syntax k
-
 -- whether a line that was read makes a list of too many fields
 abbrev pub many_told : Result Line FormulaFault → Bool
 many_told (Ok (line.Alone c)) = has_many_fields c
 many_told _ = false
 
--- what a line of this number is, alone
-abbrev pub line_item : ℕ → Line → Item
-line_item k l = item_or k (command_of (l ∷ []))
-
--- so it is with a line that was read
+-- what a line of this number is that was read
 abbrev pub item_read : ℕ → Result Line FormulaFault → Item
-item_read k (Ok l) = line_item k l
+item_read k (Ok l) = item_or k (command_of l)
 item_read k (Err f) = item.Refused (refused_for k f)
 
--- lines that are no block are what they say, or refused at the first that says nothing which may stand there
-abbrev pub IsPlain : List NumberedLine → Item → Type 0
-IsPlain ls i =
-    ((xs : Sayings) × Say place.First ls xs × (i ≡ item_of (first_number ls) xs))
-    ⊎ ((k : ℕ) × IsFaulty place.First ls k × (i ≡ item.Refused (refusal.Syntax k)))
+-- a line that begins no block is what it says, or refused where it says nothing that is a command by itself
+abbrev pub IsPlain : NumberedLine → Item → Type 0
+IsPlain l i =
+    ((x : Said) × Writes x l.1 × IsTrue (is_alone x) × (i ≡ item_of l.0 x)) ⊎ (IsNoCommand l.1 × (i ≡ item.Refused (refusal.Syntax l.0)))

@@ -3,15 +3,13 @@ ghost use Rattle.std.specs.Prelude.{◌≡◌};
 ghost use Rattle.std.specs.List.{list_all};
 ghost use Rattle.live_cmd.specs.Grammar.{are_fields, is_field};
 ghost use Rattle.live_cmd.specs.Items.{has_many_fields};
-ghost use Rattle.live_cmd.specs.Places.{kind_with};
 
 use crate::Command;
-use crate::line::LineKind;
 use line_forms::are_distinct;
 use sig_base::{MOST_FIELDS, Name};
 
-// Whether a name can be that of a field: the key has another place.
-fn is_field(name: &Name) -> bool
+/// Whether a name can be that of a field: the key has another place.
+pub fn is_field(name: &Name) -> bool
     ensures { result ≡ is_field name.now }
 {
     name.as_str() != "key"
@@ -29,31 +27,6 @@ pub fn are_fields(names: &[Name]) -> bool
     ensures { result ≡ are_fields names.now }
 {
     each_is_field(names) && are_distinct(names)
-}
-
-// The kind of a line that can be a command, if the fields that it names can be those of a list.
-fn kind_with(good: bool) -> LineKind
-    ensures { result ≡ kind_with good }
-{
-    if good {
-        LineKind::Alone
-    } else {
-        LineKind::Astray
-    }
-}
-
-/// The kind of a line that names a field.
-pub fn kind_of_field(name: &Name) -> LineKind
-    ensures { result ≡ kind_with (is_field name.now) }
-{
-    kind_with(is_field(name))
-}
-
-/// The kind of a line that names the fields of a list.
-pub fn kind_of_fields(names: &[Name]) -> LineKind
-    ensures { result ≡ kind_with (are_fields names.now) }
-{
-    kind_with(are_fields(names))
 }
 
 /// Whether a command makes a list of more than `MOST_FIELDS` fields.

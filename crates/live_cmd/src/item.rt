@@ -4,15 +4,13 @@ ghost use Rattle.std.specs.List.{list_any};
 ghost use Rattle.script_lines.specs.Pieces.{pieces_of};
 ghost use Rattle.script_lines.specs.Views.{line_of, piece_of};
 ghost use Rattle.live_cmd.specs.Grammar.{Said, Writes};
-ghost use Rattle.live_cmd.specs.Places.{fits, kind_of};
-ghost use Rattle.live_cmd.specs.Items.{first_number, Begins, IsItem};
-ghost use Rattle.live_cmd.specs.Views.{found_of, item_read, line_item, many_told, IsPlain};
+ghost use Rattle.live_cmd.specs.Items.{command_of, first_line, is_alone, item_or, Begins, IsItem, IsNoCommand};
+ghost use Rattle.live_cmd.specs.Views.{found_of, item_read, many_told, IsPlain};
 
 use crate::block::block_of;
 use crate::fields::has_many_fields;
 use crate::judge::refused_for;
 use crate::line::Found;
-use crate::place::{Place, fits};
 use crate::reading::read_line;
 use crate::{Item, Line};
 use formula_text::FormulaFault;
@@ -21,17 +19,16 @@ use script_lines::{NumberedLine, Piece, next_piece};
 use sig_base::{MOST_LINE, NoMemory};
 use std::alloc::Global;
 
-// What a line says, if it may stand there.
-fn read_at(alloc: Global, at: Place, line: &[u8]) -> Result<Option<Box<Found>>, NoMemory>
+// What a line says that is a command by itself.
+fn read_command(alloc: Global, line: &[u8]) -> Result<Option<Box<Found>>, NoMemory>
     requires { length line.now ≤ MOST_LINE }
-    ensures { IfOk result (λ found. MatchOption found
-        ((x : Said) → Writes x line.now → IsTrue (fits at (kind_of x)) → ⊥)
-        (λ f. (x : Said) × Writes x line.now × IsTrue (fits at (kind_of x)) × (f.value ≡ found_of x))) }
+    ensures { IfOk result (λ found. MatchOption found (IsNoCommand line.now)
+        (λ f. (x : Said) × Writes x line.now × IsTrue (is_alone x) × (f.value ≡ found_of x))) }
 {
     let Some(found) = read_line(alloc, line)? else {
         return Ok(None);
     };
-    if !fits(at, found.kind) {
+    if !found.alone {
         return Ok(None);
     }
     Ok(Some(found))
@@ -47,10 +44,10 @@ fn many_told(line: &Result<Line, FormulaFault>) -> bool
     }
 }
 
-// What a line of this number is, alone, which makes no list of too many fields.
+// What a line of this number gives, which makes no list of too many fields.
 fn line_item(number: u32, line: Line) -> Item
     requires { many_told (Ok line) ≡ false }
-    ensures { result ≡ line_item number line }
+    ensures { result ≡ item_or number (command_of line) }
 {
     match line {
         Line::Alone(command) => Item::Do(command),
@@ -79,40 +76,28 @@ fn found_item(number: u32, found: Box<Found>) -> Item
     told_item(number, Box::into_inner(found))
 }
 
-// The first line, and those behind it.
-fn first_line<'a, 'b>(
-    lines: &'b [NumberedLine<'a>],
-) -> Option<(NumberedLine<'a>, &'b [NumberedLine<'a>])>
-    ensures { MatchOption result (lines.now ≡ []) (λ x. lines.now ≡ x.0 ∷ x.1.now) }
+// What a line is that begins no block.
+fn plain_item(alloc: Global, line: NumberedLine) -> Result<Item, NoMemory>
+    requires { length line.text.now ≤ MOST_LINE }
+    ensures { IfOk result (λ i. IsPlain (line_of line.entry) i) }
 {
-    let Some((first, rest)) = lines.split_first() else {
-        return None;
+    let Some(found) = read_command(alloc, line.text)? else {
+        return Ok(Item::Refused(Refusal::Syntax(line.number)));
     };
-    Some((*first, rest))
+    Ok(found_item(line.number, found))
 }
 
-// What lines are that are no block: the first is a command, and no line stands behind it.
-fn plain_item(alloc: Global, lines: &[NumberedLine]) -> Result<Item, NoMemory>
-    requires { All (λ l. length l.text.now ≤ MOST_LINE) lines.now }
-    ensures { IfOk result (λ i. IsPlain (map line_of lines.now) i) }
+// The first of lines, and one without a byte where there is none.
+fn first_line<'a>(lines: &[NumberedLine<'a>]) -> NumberedLine<'a>
+    ensures { line_of result ≡ first_line (map line_of lines.now) }
 {
-    let Some((first, rest)) = first_line(lines) else {
-        return Ok(Item::Refused(Refusal::Syntax(0)));
-    };
-    let Some(found) = read_at(alloc, Place::First, first.text)? else {
-        return Ok(Item::Refused(Refusal::Syntax(first.number)));
-    };
-    if let Some((second, _)) = first_line(rest) {
-        return Ok(Item::Refused(Refusal::Syntax(second.number)));
+    match lines.first() {
+        Some(line) => *line,
+        None => NumberedLine {
+            number: 0,
+            text: b"",
+        },
     }
-    Ok(found_item(first.number, found))
-}
-
-// The number of the first line.
-fn first_number(lines: &[NumberedLine]) -> u32
-    ensures { result ≡ first_number (map line_of lines.now) }
-{
-    if lines.is_empty() { 0 } else { lines[0].number }
 }
 
 // Whether a line has more than `MOST_LINE` bytes.
@@ -129,14 +114,14 @@ fn item_of(alloc: Global, piece: &Piece) -> Result<Item, NoMemory>
     if any_long(&piece.lines) {
         return Ok(Item::Refused(Refusal::Limit(LimitWord::Line)));
     }
-    let first = first_number(&piece.lines);
+    let first = first_line(&piece.lines);
     if !piece.ended {
-        return Ok(Item::Refused(Refusal::Syntax(first)));
+        return Ok(Item::Refused(Refusal::Syntax(first.number)));
     }
     if let Some(item) = block_of(alloc, &piece.lines)? {
         return Ok(item);
     }
-    let item = plain_item(alloc, &piece.lines)?;
+    let item = plain_item(alloc, first)?;
     Ok(item)
 }
 

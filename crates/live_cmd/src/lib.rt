@@ -11,7 +11,6 @@ mod last;
 mod laws;
 mod line;
 mod naming;
-mod place;
 mod reading;
 mod row_lines;
 mod sources;

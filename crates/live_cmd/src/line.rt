@@ -1,5 +1,5 @@
 // What one line of a script says.
-ghost use Rattle.std.specs.Prelude.{◌≡◌, Ok, Err};
+ghost use Rattle.std.specs.Prelude.{◌≡◌, true, false, Ok, Err};
 ghost use Rattle.live_cmd.specs.declared.line.Line.TheVariants as given;
 
 use crate::Command;
@@ -19,45 +19,40 @@ pub enum Line {
     End,
 }
 
-/// What a line is for the place where it stands.
-#[derive(Clone, Copy)]
-pub enum LineKind {
-    /// A command by itself.
-    Alone,
-    /// What is no command by itself: the first line or the last of a block, or one that names fields which no list can have.
-    Astray,
-}
-
-/// What a line says: what it is for its place, and the line, or what is wrong with it.
+/// What a line says: whether it is a command by itself, and the line, or what is wrong with it. No command by itself are the first line
+/// of a block and the last, and a line that names fields which no list can have.
 #[derive(Drop)]
 pub struct Found {
-    pub kind: LineKind,
+    pub alone: bool,
     pub line: Result<Line, FormulaFault>,
 }
 
-/// A line that nothing is wrong with.
-pub fn sound(kind: LineKind, line: Line) -> Found
-    ensures { result ≡ record { kind = kind; line = Ok line } }
+/// A command of one line.
+pub fn alone(command: Command) -> Found
+    ensures { result ≡ record { alone = true; line = Ok (given.Alone command) } }
 {
     Found {
-        kind,
-        line: Ok(line),
+        alone: true,
+        line: Ok(Line::Alone(command)),
     }
 }
 
-/// A command of one line, which nothing is wrong with.
-pub fn alone(command: Command) -> Found
-    ensures { result ≡ record { kind = LineKind.Alone; line = Ok (given.Alone command) } }
-{
-    sound(LineKind::Alone, Line::Alone(command))
-}
-
-/// A line that something is wrong with.
-pub fn faulty(kind: LineKind, fault: FormulaFault) -> Found
-    ensures { result ≡ record { kind = kind; line = Err fault } }
+/// A command of one line that something is wrong with.
+pub fn faulty(fault: FormulaFault) -> Found
+    ensures { result ≡ record { alone = true; line = Err fault } }
 {
     Found {
-        kind,
+        alone: true,
         line: Err(fault),
+    }
+}
+
+/// The first line of a block, or the last.
+pub fn around(line: Line) -> Found
+    ensures { result ≡ record { alone = false; line = Ok line } }
+{
+    Found {
+        alone: false,
+        line: Ok(line),
     }
 }

@@ -12,7 +12,7 @@ ghost use Rattle.live_cmd.specs.Grammar as rows;
 ghost use Rattle.live_cmd.specs.Views.{found_as, found_first, found_of};
 
 use crate::last::value_last;
-use crate::line::{Found, LineKind, alone, faulty, sound};
+use crate::line::{Found, alone, around, faulty};
 use crate::naming::{inside_text_last, made, made_owned, name_text_at, name_text_last};
 use crate::row_lines::{insert, list, move_row, put_field, remove};
 use crate::sources::{any_computed, any_rewire};
@@ -87,7 +87,7 @@ fn cell_found(name: Name, value: ToldValue, equals: Option<u64>, inside: Option<
             equals,
             inside,
         }),
-        Err(fault) => faulty(LineKind::Alone, fault),
+        Err(fault) => faulty(fault),
     }
 }
 
@@ -118,7 +118,7 @@ fn set_found(name: Name, value: ToldValue) -> Found
 {
     match value {
         Ok(value) => alone(Command::Set { name, value }),
-        Err(fault) => faulty(LineKind::Alone, fault),
+        Err(fault) => faulty(fault),
     }
 }
 
@@ -184,7 +184,7 @@ fn effect(alloc: Global, line: &[u8], tokens: &[Token]) -> Result<Option<Found>,
         return Ok(None);
     };
     let (name, inside) = made_owned(alloc, name, inside)?;
-    Ok(Some(sound(LineKind::Astray, Line::Effect(name, inside))))
+    Ok(Some(around(Line::Effect(name, inside))))
 }
 
 // `template T`
@@ -195,7 +195,7 @@ fn template(alloc: Global, line: &[u8], tokens: &[Token]) -> Result<Option<Found
         return Ok(None);
     };
     let name = made(alloc, name)?;
-    Ok(Some(sound(LineKind::Astray, Line::Template(name))))
+    Ok(Some(around(Line::Template(name))))
 }
 
 // `end`
@@ -203,7 +203,7 @@ fn close(line: &[u8], tokens: &[Token]) -> Option<Found>
     ensures { result ≡ found_as rows.close (ahead line.now tokens.now 1) }
 {
     if ends_at(tokens, 1) {
-        Some(sound(LineKind::Astray, Line::End))
+        Some(around(Line::End))
     } else {
         None
     }

@@ -4,13 +4,14 @@ ghost use Rattle.sig_base.specs.declared.scalar.Scalar.{Scalar};
 ghost use Rattle.sig_words.specs.Tokens.{AreTokens};
 ghost use Rattle.line_forms.specs.Told.{ahead, AreToldValues, IsToldKey, IsToldScalar};
 ghost use Rattle.live_cmd.specs.Grammar as rows;
-ghost use Rattle.live_cmd.specs.Views.{found_as, found_of};
+ghost use Rattle.live_cmd.specs.Views.{found_as, found_of, told};
 
-use crate::fields::{kind_of_field, kind_of_fields};
+use crate::fields::{are_fields, is_field};
 use crate::last::value_last;
-use crate::line::{Found, Line, LineKind, alone, faulty, sound};
+use crate::line::{Found, Line, alone, faulty};
 use crate::naming::{inside_text_last, made, made_both, made_owned, name_text_at};
 use crate::{Command, RowEdit};
+use formula_text::FormulaFault;
 use line_forms::{
     ToldKey, ToldValue, ToldValues, count_at, ends_at, key_at, listed_names_at, values_at,
 };
@@ -32,13 +33,14 @@ pub fn list(alloc: Global, line: &[u8], tokens: &[Token]) -> Result<Option<Found
         return Ok(None);
     };
     let (name, inside) = made_owned(alloc, name, inside)?;
-    let kind = kind_of_fields(fields.as_slice());
+    let alone = are_fields(fields.as_slice());
     let command = Command::List {
         name,
         fields,
         inside,
     };
-    Ok(Some(sound(kind, Line::Alone(command))))
+    let line = Ok(Line::Alone(command));
+    Ok(Some(Found { alone, line }))
 }
 
 // What is found of an insertion, or what is wrong with its key or else with its values.
@@ -48,14 +50,14 @@ fn inserted(name: Name, place: u64, key: ToldKey, values: ToldValues) -> Found
 {
     let key = match key {
         Ok(key) => key,
-        Err(fault) => return faulty(LineKind::Alone, fault),
+        Err(fault) => return faulty(fault),
     };
     match values {
         Ok(values) => {
             let edit = RowEdit::Insert { place, key, values };
             alone(Command::Edit { name, edit })
         }
-        Err(fault) => faulty(LineKind::Alone, fault),
+        Err(fault) => faulty(fault),
     }
 }
 
@@ -92,7 +94,7 @@ fn removed(name: Name, key: ToldKey) -> Found
             let edit = RowEdit::Remove(key);
             alone(Command::Edit { name, edit })
         }
-        Err(fault) => faulty(LineKind::Alone, fault),
+        Err(fault) => faulty(fault),
     }
 }
 
@@ -123,7 +125,7 @@ fn moved(name: Name, key: ToldKey, place: u64) -> Found
             let edit = RowEdit::Move(key, place);
             alone(Command::Edit { name, edit })
         }
-        Err(fault) => faulty(LineKind::Alone, fault),
+        Err(fault) => faulty(fault),
     }
 }
 
@@ -148,23 +150,25 @@ pub fn move_row(alloc: Global, line: &[u8], tokens: &[Token]) -> Result<Option<F
     Ok(Some(moved(name, key, place)))
 }
 
-// What is found of a new value, or what is wrong with its key or else with the value.
+// What the line of a new value gives, or what is wrong with its key or else with the value.
+fn put_line(name: Name, key: ToldKey, field: Name, value: ToldValue) -> Result<Line, FormulaFault>
+    ensures { (k : List ℕ) (v : Scalar) → IsToldKey k key → IsToldScalar v value
+        → result ≡ told (rows.put_field, (name, (k, (field, (v, tt))))) }
+{
+    let key = key?;
+    let value = value?;
+    let edit = RowEdit::Put { key, field, value };
+    Ok(Line::Alone(Command::Edit { name, edit }))
+}
+
+// So it is with what is found of it.
 fn put_found(name: Name, key: ToldKey, field: Name, value: ToldValue) -> Found
     ensures { (k : List ℕ) (v : Scalar) → IsToldKey k key → IsToldScalar v value
         → result ≡ found_of (rows.put_field, (name, (k, (field, (v, tt))))) }
 {
-    let kind = kind_of_field(&field);
-    let key = match key {
-        Ok(key) => key,
-        Err(fault) => return faulty(kind, fault),
-    };
-    match value {
-        Ok(value) => {
-            let edit = RowEdit::Put { key, field, value };
-            sound(kind, Line::Alone(Command::Edit { name, edit }))
-        }
-        Err(fault) => faulty(kind, fault),
-    }
+    let alone = is_field(&field);
+    let line = put_line(name, key, field, value);
+    Found { alone, line }
 }
 
 /// `put N KEY FIELD LIT`

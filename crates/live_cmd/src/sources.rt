@@ -9,7 +9,7 @@ ghost use Rattle.live_cmd.specs.Grammar as rows;
 ghost use Rattle.live_cmd.specs.Judging.{tracked};
 ghost use Rattle.live_cmd.specs.Views.{found_as, found_first, found_of};
 
-use crate::line::{Found, LineKind, alone, faulty};
+use crate::line::{Found, alone, faulty};
 use crate::naming::{inside_text_last, made, made_owned, name_text_at};
 use crate::reading::TRACKED;
 use crate::{Command, SourceText};
@@ -51,7 +51,7 @@ fn computed_found(name: Name, formula: Box<ToldFormula>, inside: Option<Name>) -
                 inside,
             })
         }
-        Err(fault) => faulty(LineKind::Alone, fault),
+        Err(fault) => faulty(fault),
     }
 }
 
@@ -95,7 +95,7 @@ fn computed_host_found(
                 inside,
             })
         }
-        Err(fault) => faulty(LineKind::Alone, fault),
+        Err(fault) => faulty(fault),
     }
 }
 
@@ -145,7 +145,7 @@ fn rewire_found(name: Name, formula: Box<ToldFormula>) -> Found
             let source = SourceText::Formula(formula);
             alone(Command::Rewire { name, source })
         }
-        Err(fault) => faulty(LineKind::Alone, fault),
+        Err(fault) => faulty(fault),
     }
 }
 
@@ -179,7 +179,7 @@ fn rewire_host_found(name: Name, place: u64, arguments: ToldArguments) -> Found
             let source = SourceText::Host(place, arguments);
             alone(Command::Rewire { name, source })
         }
-        Err(fault) => faulty(LineKind::Alone, fault),
+        Err(fault) => faulty(fault),
     }
 }
 

@@ -1,5 +1,5 @@
 // Reads the lines of watchers.
-ghost use Rattle.std.specs.Prelude.{◌≡◌, ◌∷◌, [], IfOk, Ok, Some};
+ghost use Rattle.std.specs.Prelude.{◌≡◌, ◌∷◌, [], true, IfOk, Ok, Some};
 ghost use Rattle.sig_base.specs.declared.scalar.Scalar.{Scalar};
 ghost use Rattle.sig_words.specs.Tokens.{AreTokens};
 ghost use Rattle.line_forms.specs.Told.{ahead, IsToldScalar};
@@ -9,7 +9,7 @@ ghost use Rattle.live_cmd.specs.Grammar as rows;
 ghost use Rattle.live_cmd.specs.Views.{found_as, found_first, found_of};
 
 use crate::last::value_last;
-use crate::line::{Found, LineKind, alone, faulty};
+use crate::line::{Found, alone, faulty};
 use crate::naming::{made, made_both, name_text_at, name_text_last};
 use crate::{Command, Try};
 use line_forms::{ToldValue, ends_at, names_at, word_at};
@@ -19,7 +19,7 @@ use std::alloc::Global;
 
 // A watcher that tries something.
 fn trying(name: Name, tried: Try) -> Found
-    ensures { result ≡ record { kind = LineKind.Alone; line = Ok (given.Alone (command.Watcher name (Some tried))) } }
+    ensures { result ≡ record { alone = true; line = Ok (given.Alone (command.Watcher name (Some tried))) } }
 {
     alone(Command::Watcher {
         name,
@@ -64,7 +64,7 @@ fn setting(name: Name, cell: Name, value: ToldValue) -> Found
 {
     match value {
         Ok(value) => trying(name, Try::Set(cell, value)),
-        Err(fault) => faulty(LineKind::Alone, fault),
+        Err(fault) => faulty(fault),
     }
 }
 

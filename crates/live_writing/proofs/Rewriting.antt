@@ -1,12 +1,11 @@
 -- The lines of a command say the command.
 use Rattle.std.proofs.Common.{◌≡◌, ◌⊎◌, ℕ, ◌+◌, Bool, true, false, cond, List, [], ◌∷◌, ◌++◌, length, map, flat_map, Option, Some, None, refl, sym, ap, subst, ◌∙◌, inl, inr, arith}
 use Rattle.std.specs.Prelude.{Ok, Err}
-use Rattle.std.specs.Option.{option_or}
+use Rattle.std.specs.Option.{option_map_or}
 use Rattle.std.proofs.lemmas.Grind.{flat_map-append}
 use Rattle.std.proofs.lemmas.List.{append-nil}
 use Rattle.std.proofs.lemmas.List.Folds.{flat_map-map}
 use Rattle.formula_text.specs.declared.wired.FormulaFault.{FormulaFault}
-use Rattle.formula_text.specs.declared.wired.FormulaFault.TheVariants as fault
 use Rattle.formula_text.specs.Grammar.{Draft}
 use Rattle.formula_text.proofs.Shared.{named_back}
 use Rattle.line_forms.specs.Forms.{Args}
@@ -27,7 +26,6 @@ use Rattle.tpl_syntax.specs.Templates as templates
 use Rattle.tpl_syntax.specs.Writing as template_text
 use Rattle.tpl_syntax.proofs.Shared as template_laws
 use Rattle.live_entries.specs.declared.refusal.LimitWord.TheVariants as limit
-use Rattle.live_entries.specs.declared.refusal.Refusal.{Refusal}
 use Rattle.live_entries.specs.declared.refusal.Refusal.TheVariants as refusal
 use Rattle.live_cmd.specs.declared.contents.Content.{Content}
 use Rattle.live_cmd.specs.declared.contents.Content.TheVariants as content
@@ -37,13 +35,10 @@ use Rattle.live_cmd.specs.declared.command.Item.{Item}
 use Rattle.live_cmd.specs.declared.command.Item.TheVariants as item
 use Rattle.live_cmd.specs.declared.line.Line.{Line}
 use Rattle.live_cmd.specs.declared.line.Line.TheVariants as line
-use Rattle.live_cmd.specs.declared.place.Place.{Place}
-use Rattle.live_cmd.specs.declared.place.Place.TheVariants as place
 use Rattle.live_cmd.specs.Grammar.{Row, row, Said, Writes, line_of, computed, rewire, effect, template, close}
-use Rattle.live_cmd.specs.Places.{kind_of, moved}
-use Rattle.live_cmd.specs.Judging.{Sayings, faults_of, misplacing, excess, first_misplaced, first_excess, refusal_of}
+use Rattle.live_cmd.specs.Judging.{fault_of, refused_for}
 use Rattle.live_cmd.specs.Blocks.{Block, Ends, IsContent, IsContentOf, block_item, body_refused, effect_content, is_head, template_content, template_refused}
-use Rattle.live_cmd.specs.Items.{Say, IsItem, long, unended, block, faulty, says, any_long, first_number, command_of, has_many_fields, item_made, item_or, unless_refused, item_of}
+use Rattle.live_cmd.specs.Items.{IsItem, long, unended, block, faulty, says, any_long, command_of, first_line, has_many_fields, is_alone, item_of, item_or}
 use Rattle.live_writing.specs.Writing.{said_by, bytes_of, ended_line, command_text, lines_by, body_lines, template_lines, lines_of_command}
 use Rattle.live_writing.proofs.Levels.{AllLines, Stays, body_stays, ended, template_stays}
 use Rattle.live_writing.proofs.Numbered.{numbered-append, numbered_one}
@@ -62,17 +57,15 @@ again computed a = ap (λ (f : Draft). (computed, (a.0, (f, (a.1.1.0, tt)))) ∷
 again rewire a = ap (λ (f : Draft). (rewire, (a.0, (f, tt))) ∷ []) (named_back a.1.0)
 again _ a = refl
 
-first_again : (l : Line) (x : Said) (xs : List Said) (c : Command) → Again l x → command_of (l ∷ map line_of xs) ≡ Some c → said_by c ≡ x ∷ xs
-first_again (line.Alone d) x [] c g e = let same : d ≡ c = cc in rw (sym same) g
-first_again (line.Alone d) x (y ∷ ys) c g e = absurd cc
-first_again (line.Effect n o) x xs c g e = absurd cc
-first_again (line.Template n) x xs c g e = absurd cc
-first_again line.End x xs c g e = absurd cc
+first_again : (l : Line) (x : Said) (c : Command) → Again l x → command_of l ≡ Some c → said_by c ≡ x ∷ []
+first_again (line.Alone d) x c g e = let same : d ≡ c = cc in rw (sym same) g
+first_again (line.Effect n o) x c g e = absurd cc
+first_again (line.Template n) x c g e = absurd cc
+first_again line.End x c g e = absurd cc
 
--- what the lines of a command say is what was said
-said_again : (xs : List Said) (c : Command) → command_of (map line_of xs) ≡ Some c → said_by c ≡ xs
-said_again [] c e = absurd cc
-said_again (x ∷ xs) c e = first_again (line_of x) x xs c (again x.0 x.1) e
+-- what the line of a command says is what was said
+said_again : (x : Said) (c : Command) → command_of (line_of x) ≡ Some c → said_by c ≡ x ∷ []
+said_again x c e = first_again (line_of x) x c (again x.0 x.1) e
 
 -- ---- no line alone has a body
 
@@ -91,16 +84,11 @@ row_flat : (r : Row) (a : Args (row r).1) → gives_flat (line_of (r, a)) ≡ tr
 row_flat close a = refl
 row_flat _ a = refl
 
-first_flat : (l : Line) (ls : List Line) (c : Command) → gives_flat l ≡ true → command_of (l ∷ ls) ≡ Some c → is_flat c ≡ true
-first_flat (line.Alone d) [] c f e = let same : d ≡ c = cc in ap is_flat (sym same) ∙ f
-first_flat (line.Alone d) (m ∷ ms) c f e = absurd cc
-first_flat (line.Effect n o) ls c f e = absurd cc
-first_flat (line.Template n) ls c f e = absurd cc
-first_flat line.End ls c f e = absurd cc
-
-all_flat : (xs : List Said) (c : Command) → command_of (map line_of xs) ≡ Some c → is_flat c ≡ true
-all_flat [] c e = absurd cc
-all_flat (x ∷ xs) c e = first_flat (line_of x) (map line_of xs) c (row_flat x.0 x.1) e
+first_flat : (l : Line) (c : Command) → gives_flat l ≡ true → command_of l ≡ Some c → is_flat c ≡ true
+first_flat (line.Alone d) c f e = let same : d ≡ c = cc in ap is_flat (sym same) ∙ f
+first_flat (line.Effect n o) c f e = absurd cc
+first_flat (line.Template n) c f e = absurd cc
+first_flat line.End c f e = absurd cc
 
 -- its lines are those that say it
 pub flat_lines : (c : Command) → is_flat c ≡ true → lines_by c ≡ map bytes_of (said_by c)
@@ -108,76 +96,20 @@ flat_lines (command.Effect n b o) h = absurd cc
 flat_lines (command.Template n t) h = absurd cc
 flat_lines _ h = refl
 
--- ---- from other numbers on
-
--- the sayings without their numbers
-abbrev pub said_in : Sayings → List Said
-said_in xs = map (λ x. x.1) xs
-
--- the sayings, numbered from n on
-abbrev from : ℕ → Sayings → Sayings
-from n [] = []
-from n (x ∷ xs) = (n, x.1) ∷ from (n + 1) xs
-
--- printed lines say what was said
-say_again : (p : Place) (ls : List NumberedLine) (xs : Sayings) (n : ℕ) → Say p ls xs → Say p (numbered n (map bytes_of (said_in xs))) (from n xs)
-unfolding numbered
-say_again p [] [] n s = tt
-say_again p [] (x ∷ xs) n s = absurd s
-say_again p (l ∷ ls) [] n s = absurd s
-say_again p (l ∷ ls) (x ∷ xs) n s =
-    (refl, prints_back Row row x.1 l.1 s.1, s.2, say_again (moved p (kind_of x.1)) ls xs (n + 1) s.3)
-
-lines_from : (n : ℕ) (xs : Sayings) → map (λ x. line_of x.1) (from n xs) ≡ map line_of (said_in xs)
-lines_from n [] = refl
-lines_from n (x ∷ xs) = ap (λ (ls : List Line). line_of x.1 ∷ ls) (lines_from (n + 1) xs)
-
-lines_in : (xs : Sayings) → map (λ x. line_of x.1) xs ≡ map line_of (said_in xs)
-lines_in [] = refl
-lines_in (x ∷ xs) = ap (λ (ls : List Line). line_of x.1 ∷ ls) (lines_in xs)
-
-neither : {A : Type 0} (o p : Option A) → option_or o p ≡ None → (o ≡ None) × (p ≡ None)
-neither None p e = (refl, e)
-neither (Some x) p e = absurd cc
-
--- a number changes nothing where nothing is misplaced
-not_misplaced : (j k : ℕ) (o : Option FormulaFault) → misplacing k o ≡ None → misplacing j o ≡ None
-not_misplaced j k None e = refl
-not_misplaced j k (Some fault.Syntax) e = refl
-not_misplaced j k (Some fault.UntrackHere) e = absurd cc
-not_misplaced j k (Some fault.ItHere) e = absurd cc
-not_misplaced j k (Some fault.Nest) e = absurd cc
-not_misplaced j k (Some fault.TextLong) e = refl
-not_misplaced j k (Some fault.Sources) e = refl
-not_misplaced j k (Some (fault.NoMemory x)) e = refl
-
-none_misplaced : (n : ℕ) (xs : Sayings) → first_misplaced (faults_of xs) ≡ None → first_misplaced (faults_of (from n xs)) ≡ None
-none_misplaced n [] e = refl
-none_misplaced n (x ∷ xs) e =
-    let both = neither (misplacing x.0 _) (first_misplaced (faults_of xs)) e in
-    rw (not_misplaced n x.0 _ both.0) (none_misplaced (n + 1) xs both.1)
-
-same_excess : (n : ℕ) (xs : Sayings) → first_excess (faults_of (from n xs)) ≡ first_excess (faults_of xs)
-same_excess n [] = refl
-same_excess n (x ∷ xs) = ap (option_or (excess _)) (same_excess (n + 1) xs)
-
-none_refused : (n : ℕ) (xs : Sayings) → refusal_of (faults_of xs) ≡ None → refusal_of (faults_of (from n xs)) ≡ None
-none_refused n xs e =
-    let a = neither (first_misplaced (faults_of xs)) (first_excess (faults_of xs)) e in
-    rw (none_misplaced n xs a.0, same_excess n xs) a.1
-
 -- ---- what a piece that is a command says
 
--- what a piece says that is this command, line by line
-pub record DoneBy (p : Piece) (c : Command) : Type 0 where
-  pub xs : Sayings
-  pub say : Say place.First p.lines xs
-  pub sound : refusal_of (faults_of xs) ≡ None
-  pub is : command_of (map (λ x. line_of x.1) xs) ≡ Some c
+-- a piece that is this command as a line: what the line says
+pub record DoneBy (c : Command) : Type 0 where
+  pub line : List ℕ
+  pub said : Said
+  pub writes : Writes said line
+  pub alone : is_alone said ≡ true
+  pub sound : fault_of said ≡ None
+  pub is : command_of (line_of said) ≡ Some c
   pub few : has_many_fields c ≡ false
 
 -- a piece that is this command as a block: its first line and its last, and what is written of those between them
-pub record DoneIn (p : Piece) (c : Command) : Type 0 where
+pub record DoneIn (c : Command) : Type 0 where
   pub first : List ℕ
   pub last : List ℕ
   pub head : Said
@@ -196,13 +128,18 @@ made_few : (b : Bool) (c d : Command) → cond b (item.Refused (refusal.Limit li
 made_few true c d e = absurd cc
 made_few false c d e = (cc, refl)
 
-parted : (k : ℕ) (r : Option Refusal) (o : Option Command) (c : Command) → unless_refused r (item_or k o) ≡ item.Do c
-    → (r ≡ None) × (o ≡ Some c) × (has_many_fields c ≡ false)
+-- a line is a command where nothing is wrong with it, and it gives the command
+parted : (k : ℕ) (r : Option FormulaFault) (o : Option Command) (c : Command)
+    → option_map_or (λ f. item.Refused (refused_for k f)) r (item_or k o) ≡ item.Do c → (r ≡ None) × (o ≡ Some c) × (has_many_fields c ≡ false)
 parted k None None c e = absurd cc
 parted k None (Some d) c e =
     let both = made_few (has_many_fields d) d c e in
     (refl, ap (λ (x : Command). Some x) both.0, ap has_many_fields (sym both.0) ∙ both.1)
-parted k (Some r) o c e = absurd cc
+parted k (Some f) o c e = absurd cc
+
+joined : (k : ℕ) (r : Option FormulaFault) (o : Option Command) (c : Command) → r ≡ None → o ≡ Some c → has_many_fields c ≡ false
+    → option_map_or (λ f. item.Refused (refused_for k f)) r (item_or k o) ≡ item.Do c
+joined k r o c sound is few = rw (sound, is, few) refl
 
 -- a block that is a command ends, and makes it
 block_parted : (b : Bool) (k : ℕ) (x : Content) (c : Command) → block_item b k x ≡ item.Do c → (b ≡ true) × (x ≡ content.Makes c)
@@ -269,12 +206,12 @@ template_text_is n t =
 
 -- ---- a block
 
-module _ (p : Piece) (c : Command) (first last : List ℕ) (ls : List NumberedLine) where
+module _ (c : Command) (first last : List ℕ) (ls : List NumberedLine) where
   -- an effect that its lines make
   effect_done : (a : Args (row effect).1) (b : Bodies) → Writes (effect, a) first → IsRead ls (Ok b) → command.Effect a.0 b a.1.0 ≡ c
-      → Writes (close, tt) last → DoneIn p c
+      → Writes (close, tt) last → DoneIn c
   effect_done a b w r e v =
-      let d : DoneIn p (command.Effect a.0 b a.1.0) = record {
+      let d : DoneIn (command.Effect a.0 b a.1.0) = record {
         first = first;
         last = last;
         head = (effect, a);
@@ -288,13 +225,13 @@ module _ (p : Piece) (c : Command) (first last : List ℕ) (ls : List NumberedLi
         stays = body_stays (body.meaning b) 1 (omega arith);
         again = λ n. (Ok b, read_anew n ls b r, refl);
       } in
-      subst (λ (f : Command). DoneIn p f) e d
+      subst (λ (f : Command). DoneIn f) e d
 
   -- a template that its lines make
   template_done : (a : Args (row template).1) (t : Plan) → Writes (template, a) first → templates.IsRead ls (Ok t) → command.Template a.0 t ≡ c
-      → Writes (close, tt) last → DoneIn p c
+      → Writes (close, tt) last → DoneIn c
   template_done a t w r e v =
-      let d : DoneIn p (command.Template a.0 t) = record {
+      let d : DoneIn (command.Template a.0 t) = record {
         first = first;
         last = last;
         head = (template, a);
@@ -308,11 +245,11 @@ module _ (p : Piece) (c : Command) (first last : List ℕ) (ls : List NumberedLi
         stays = template_stays ls t r;
         again = λ n. (Ok t, template_laws.read_anew n ls t r, refl);
       } in
-      subst (λ (f : Command). DoneIn p f) e d
+      subst (λ (f : Command). DoneIn f) e d
 
   -- a block that its lines make
   content_done : (r : Row) (a : Args (row r).1) (x : Content) → Writes (r, a) first → IsContentOf r a ls x → x ≡ content.Makes c
-      → Writes (close, tt) last → DoneIn p c
+      → Writes (close, tt) last → DoneIn c
   content_done effect a x w h e v =
       let made = body_made a.0 a.1.0 h.0 c (sym h.2 ∙ e) in
       effect_done a made.0 w (subst (λ (y : Answer). IsRead ls y) made.1 h.1) made.2 v
@@ -321,52 +258,48 @@ module _ (p : Piece) (c : Command) (first last : List ℕ) (ls : List NumberedLi
       template_done a made.0 w (subst (λ (y : templates.Answer). templates.IsRead ls y) made.1 h.1) made.2 v
   content_done _ a x w h e v = absurd h
 
-block_done : (p : Piece) (c : Command) (b : Block p.lines) (x : Content) → IsContent b.head b.inner x → block_item b.ends b.last.0 x ≡ item.Do c → DoneIn p c
+block_done : (p : Piece) (c : Command) (b : Block p.lines) (x : Content) → IsContent b.head b.inner x → block_item b.ends b.last.0 x ≡ item.Do c → DoneIn c
 block_done p c b x h e =
     let both = block_parted b.ends b.last.0 x c e in
-    content_done p c b.first.1 b.last.1 b.inner b.head.0 b.head.1 x b.writes h both.1 (subst (λ (d : Bool). Ends d b.last.1) both.0 b.end)
+    content_done c b.first.1 b.last.1 b.inner b.head.0 b.head.1 x b.writes h both.1 (subst (λ (d : Bool). Ends d b.last.1) both.0 b.end)
 
 -- what a piece says that is this command
-pub done_by : (p : Piece) (i : Item) (c : Command) → IsItem p i → i ≡ item.Do c → DoneBy p c ⊎ DoneIn p c
+pub done_by : (p : Piece) (i : Item) (c : Command) → IsItem p i → i ≡ item.Do c → DoneBy c ⊎ DoneIn c
 done_by p _ c (long a) e = absurd cc
 done_by p _ c (unended a b) e = absurd cc
 done_by p _ c (block b x a d h) e = inr (block_done p c b x h e)
-done_by p _ c (faulty k a b n f) e = absurd cc
-done_by p _ c (says xs a b s) e =
-    let all = parted (first_number p.lines) (refusal_of (faults_of xs)) (command_of (map (λ x. line_of x.1) xs)) c e in
-    inl (record { xs = xs; say = s; sound = all.0; is = all.1; few = all.2 })
+done_by p _ c (faulty a b n f) e = absurd cc
+done_by p _ c (says x a b w t) e =
+    let all = parted (first_line p.lines).0 (fault_of x) (command_of (line_of x)) c e in
+    inl (record { line = (first_line p.lines).1; said = x; writes = w; alone = t; sound = all.0; is = all.1; few = all.2 })
 
 -- it has no body
-pub flat_done : (p : Piece) (c : Command) → DoneBy p c → is_flat c ≡ true
-flat_done p c d = all_flat (said_in d.xs) c (ap command_of (sym (lines_in d.xs)) ∙ d.is)
+pub flat_done : (c : Command) → DoneBy c → is_flat c ≡ true
+flat_done c d = first_flat (line_of d.said) c (row_flat d.said.0 d.said.1) d.is
 
--- the lines of a command say what was said
-pub said_is : (p : Piece) (c : Command) (d : DoneBy p c) → lines_by c ≡ map bytes_of (said_in d.xs)
-said_is p c d =
-    let same : command_of (map line_of (said_in d.xs)) ≡ Some c = ap command_of (sym (lines_in d.xs)) ∙ d.is in
-    flat_lines c (all_flat (said_in d.xs) c same) ∙ ap (map bytes_of) (said_again (said_in d.xs) c same)
+-- the line of a command says what was said
+pub said_is : (c : Command) (d : DoneBy c) → lines_by c ≡ bytes_of d.said ∷ []
+said_is c d = flat_lines c (flat_done c d) ∙ ap (map bytes_of) (said_again d.said c d.is)
 
 -- ---- printed lines are the command
 
--- the lines of a command are the command
-pub lines_are : (p : Piece) (c : Command) (n : ℕ) → DoneBy p c → any_long (lines_of_command n c) ≡ false
-    → IsItem (record { ended = true; lines = lines_of_command n c }) (item.Do c)
-lines_are p c n d short =
-    let again = from n d.xs in
-    let lines : lines_of_command n c ≡ numbered n (map bytes_of (said_in d.xs)) = ap (numbered n) (said_is p c d) in
-    let say : Say place.First (lines_of_command n c) again = subst (λ (ls : List NumberedLine). Say place.First ls again) (sym lines) (say_again place.First p.lines d.xs n d.say) in
-    let sound = none_refused n d.xs d.sound in
-    let is : command_of (map (λ x. line_of x.1) again) ≡ Some c = ap command_of (lines_from n d.xs ∙ sym (lines_in d.xs)) ∙ d.is in
-    let made : item_of (first_number (lines_of_command n c)) again ≡ item_made c = rw (sound, is) refl in
-    let whole : item_of (first_number (lines_of_command n c)) again ≡ item.Do c =
-    made ∙ ap (λ (b : Bool). cond b (item.Refused (refusal.Limit limit.Fields)) (item.Do c)) d.few in
-    subst (λ (i : Item). IsItem (record { ended = true; lines = lines_of_command n c }) i) whole (says again short refl say)
-
--- the lines of a block are the command that it is
-pub block_is : (p : Piece) (c : Command) (n : ℕ) (d : DoneIn p c) → any_long (lines_of_command n c) ≡ false
+-- the line of a command is the command
+pub line_is : (c : Command) (n : ℕ) → DoneBy c → any_long (lines_of_command n c) ≡ false
     → IsItem (record { ended = true; lines = lines_of_command n c }) (item.Do c)
 unfolding numbered
-block_is p c n d short =
+line_is c n d short =
+    let lines : lines_of_command n c ≡ (n, bytes_of d.said) ∷ [] = ap (numbered n) (said_is c d) in
+    let whole : item_of n d.said ≡ item.Do c = joined n (fault_of d.said) (command_of (line_of d.said)) c d.sound d.is d.few in
+    let is : IsItem (record { ended = true; lines = (n, bytes_of d.said) ∷ [] }) (item_of n d.said) =
+    says d.said (ap any_long (sym lines) ∙ short) refl (prints_back Row row d.said d.line d.writes) d.alone in
+    subst (λ (ls : List NumberedLine). IsItem (record { ended = true; lines = ls }) (item.Do c)) (sym lines)
+    (subst (λ (i : Item). IsItem (record { ended = true; lines = (n, bytes_of d.said) ∷ [] }) i) whole is)
+
+-- the lines of a block are the command that it is
+pub block_is : (c : Command) (n : ℕ) (d : DoneIn c) → any_long (lines_of_command n c) ≡ false
+    → IsItem (record { ended = true; lines = lines_of_command n c }) (item.Do c)
+unfolding numbered
+block_is c n d short =
     let end : List ℕ = bytes_of (close, tt) in
     let whole : lines_of_command n c ≡ (n, bytes_of d.head) ∷ (numbered (n + 1) d.inner ++ ((n + 1) + length d.inner, end) ∷ []) =
     ap (numbered n) d.lines

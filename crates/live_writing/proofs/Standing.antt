@@ -1,7 +1,7 @@
 -- The text of a command stands in a script as a piece.
-use Rattle.std.proofs.Common.{◌≡◌, ℕ, ◌+◌, Bool, true, false, List, [], ◌∷◌, ◌++◌, length, map, drop, flat_map, codes, refl, sym, ap, ap₂, subst, ◌∙◌, append_assoc, arith, inl, inr, Some, None}
+use Rattle.std.proofs.Common.{◌≡◌, ℕ, ◌+◌, true, false, List, [], ◌∷◌, ◌++◌, length, drop, flat_map, codes, refl, sym, ap, ap₂, subst, ◌∙◌, append_assoc, arith, inl, inr}
 use Rattle.std.specs.List.{list_all}
-use Rattle.std.specs.Prelude.{◌==◌, not}
+use Rattle.std.specs.Prelude.{◌==◌}
 use Rattle.std.proofs.Math.Seq.{drop-append_seam}
 use Rattle.std.proofs.lemmas.Bool.{and_parts, ne_eqb}
 use Rattle.std.proofs.lemmas.Bool.Decides.{nat_tests}
@@ -18,20 +18,14 @@ use Rattle.live_cmd.specs.declared.command.Bare.TheVariants as bares
 use Rattle.live_cmd.specs.declared.command.Command.{Command}
 use Rattle.live_cmd.specs.declared.command.Command.TheVariants as command
 use Rattle.live_cmd.specs.declared.command.Item.TheVariants as item
-use Rattle.live_cmd.specs.declared.command.RowEdit.TheVariants as edit
-use Rattle.live_cmd.specs.declared.command.SourceText.TheVariants as source
-use Rattle.live_cmd.specs.declared.command.Try.TheVariants as tried
 use Rattle.live_cmd.specs.declared.command.Verb.TheVariants as verbs
-use Rattle.live_cmd.specs.declared.place.Place.{Place}
 use Rattle.live_cmd.specs.Blocks.{is_head}
-use Rattle.live_cmd.specs.Grammar.{Row, row, Said, Writes, effect, template, close}
-use Rattle.live_cmd.specs.Places.{kind_of, moved}
-use Rattle.live_cmd.specs.Judging.{Sayings}
-use Rattle.live_cmd.specs.Items.{Say, IsItem, any_long, Begins}
+use Rattle.live_cmd.specs.Grammar.{Row, row, Said, Writes, bare, effect, template, close, verb}
+use Rattle.live_cmd.specs.Items.{IsItem, any_long, is_alone, Begins}
 use Rattle.live_writing.specs.Writing.{said_by, bytes_of, ended_line, command_text, lines_by, lines_of_command}
 use Rattle.live_writing.proofs.Levels.{AllLines, Stays, ended}
 use Rattle.live_writing.proofs.Numbered.{numbered-append, numbered_one}
-use Rattle.live_writing.proofs.Rewriting.{DoneIn, block_is, done_by, is_flat, flat_done, flat_lines, said_is, said_in, lines_are}
+use Rattle.live_writing.proofs.Rewriting.{DoneIn, block_is, done_by, is_flat, flat_done, flat_lines, line_is, said_is}
 
 -- ---- one line
 
@@ -56,16 +50,6 @@ not_passed (b ∷ bs) rest h =
     let first = word_first b (and_parts (begins_word b) (list_all in_word (b ∷ bs)) h).0 in
     let some : (length (b ∷ (bs ++ rest)) == 0) ≡ false = ne_eqb (length (b ∷ (bs ++ rest))) 0 (λ e. omega arith) in
     rw (first.0, some, first.1) refl
-
-all_lines : (p : Place) (ls : List NumberedLine) (xs : Sayings) → Say p ls xs → AllLines (map bytes_of (said_in xs))
-all_lines p [] [] s = tt
-all_lines p [] (x ∷ xs) s = absurd s
-all_lines p (l ∷ ls) [] s = absurd s
-all_lines p (l ∷ ls) (x ∷ xs) s =
-    let w = s.1 in
-    let r = rewrites Row row l.1 w.tokens x.1 w.cut w.spelled in
-    let text = form_text (row x.1.0).1 x.1.1 in
-    ((whole_line (row x.1.0).0 (row x.1.0).1 x.1.1 r.first r.parts, not_passed (row x.1.0).0 text r.first), all_lines (moved p (kind_of x.1)) ls xs s.3)
 
 -- the line stands first, and the others behind it
 kept_line : (n : ℕ) (l more : List ℕ) → is_line l ≡ true → is_passed l ≡ false → kept_lines n (ended l ++ more) ≡ (n, l) ∷ kept_lines (n + 1) more
@@ -107,24 +91,10 @@ pieces_kept : (n : ℕ) (ls : List (List ℕ)) (rest : List ℕ) → AllLines ls
 pieces_kept n ls rest s = ap (pieces outside) (kept_all n ls rest s)
 
 -- one line, which begins no block
-abbrev is_single : List Said → Bool
-is_single (x ∷ []) = not (begins_block (bytes_of x))
-is_single _ = false
-
-is_false : (b : Bool) → not b ≡ true → b ≡ false
-is_false true e = absurd cc
-is_false false e = refl
-
 one_line : (l : List ℕ) (n : ℕ) (rest : List ℕ) → AllLines (l ∷ []) → begins_block l ≡ false
     → pieces_of n (flat_map ended (l ∷ []) ++ rest) ≡ piece_of n (l ∷ []) ∷ pieces_of (n + 1) rest
 unfolding numbered
 one_line l n rest s h = pieces_kept n (l ∷ []) rest s ∙ line_alone (n, l) (kept_lines (n + 1) rest) h
-
-single : (xs : List Said) (n : ℕ) (rest : List ℕ) → AllLines (map bytes_of xs) → is_single xs ≡ true
-    → pieces_of n (flat_map ended (map bytes_of xs) ++ rest) ≡ piece_of n (map bytes_of xs) ∷ pieces_of (n + length (map bytes_of xs)) rest
-single [] n rest s h = absurd cc
-single (x ∷ []) n rest s h = one_line (bytes_of x) n rest s (is_false (begins_block (bytes_of x)) h)
-single (x ∷ y ∷ xs) n rest s h = absurd cc
 
 -- a line that begins a block, lines that leave it open, and one that ends it
 block : (b e : List ℕ) (ls : List (List ℕ)) (n : ℕ) (rest : List ℕ) → AllLines (b ∷ (ls ++ e ∷ [])) → begins_block b ≡ true → Stays 1 ls 1
@@ -160,32 +130,14 @@ text_of c h =
 abbrev Stands : List (List ℕ) → Type 0
 Stands ls = (n : ℕ) (rest : List ℕ) → pieces_of n (flat_map ended ls ++ rest) ≡ piece_of n ls ∷ pieces_of (n + length ls) rest
 
--- the line of a command without a block stands alone
-flat_single : (c : Command) → is_flat c ≡ true → is_single (said_by c) ≡ true
-unfolding begins_block opens closes
-flat_single (command.Effect m b o) h = absurd cc
-flat_single (command.Template m t) h = absurd cc
-flat_single (command.Computed m (source.Formula w) o) h = refl
-flat_single (command.Computed m (source.Host k ns) o) h = refl
-flat_single (command.Rewire m (source.Formula w)) h = refl
-flat_single (command.Rewire m (source.Host k ns)) h = refl
-flat_single (command.Edit m (edit.Insert p k vs)) h = refl
-flat_single (command.Edit m (edit.Remove k)) h = refl
-flat_single (command.Edit m (edit.Move k p)) h = refl
-flat_single (command.Edit m (edit.Put k f v)) h = refl
-flat_single (command.Watcher m None) h = refl
-flat_single (command.Watcher m (Some (tried.Get x))) h = refl
-flat_single (command.Watcher m (Some (tried.Set x v))) h = refl
-flat_single (command.Watcher m (Some (tried.Watch x ns))) h = refl
-flat_single (command.Watcher m (Some (tried.Unwatch x y))) h = refl
-flat_single (command.Named verbs.Get m) h = refl
-flat_single (command.Bare bares.Flush) h = refl
-flat_single c h = refl
-
-flat_stands : (c : Command) → is_flat c ≡ true → AllLines (lines_by c) → Stands (lines_by c)
-flat_stands c h all n rest =
-    subst (λ (ls : List (List ℕ)). pieces_of n (flat_map ended ls ++ rest) ≡ piece_of n ls ∷ pieces_of (n + length ls) rest) (sym (flat_lines c h))
-    (single (said_by c) n rest (subst AllLines (flat_lines c h) all) (flat_single c h))
+-- a command by itself begins no block
+alone_line : (r : Row) (a : Args (row r).1) → is_alone (r, a) ≡ true → begins_block (bytes_of (r, a)) ≡ false
+unfolding begins_block
+alone_line effect a h = absurd cc
+alone_line template a h = absurd cc
+alone_line (verb verbs.Get) a h = refl
+alone_line (bare bares.Flush) a h = refl
+alone_line _ a h = refl
 
 -- the first line of a block begins it
 head_begins : (r : Row) (a : Args (row r).1) → is_head r ≡ true → begins_block (bytes_of (r, a)) ≡ true
@@ -211,8 +163,8 @@ all_behind [] l h k = (k, tt)
 all_behind (m ∷ ls) l h k = (h.0, all_behind ls l h.1 k)
 
 -- the lines of a block stand
-block_stands : (p : Piece) (c : Command) → DoneIn p c → Stands (lines_by c)
-block_stands p c d n rest =
+block_stands : (c : Command) → DoneIn c → Stands (lines_by c)
+block_stands c d n rest =
     let end : List ℕ = bytes_of (close, tt) in
     let all : AllLines (bytes_of d.head ∷ (d.inner ++ end ∷ [])) =
     (said_whole d.head d.first d.writes, all_behind d.inner end d.whole (said_whole (close, tt) d.last d.end)) in
@@ -241,8 +193,8 @@ pub begins : (p : Piece) (c : Command) → IsItem p (item.Do c) → (script : Li
     → any_long (lines_of_command line c) ≡ false → Begins script at line (item.Do c) (at + length (command_text c)) (line + length (lines_by c))
 begins p c i script at line rest e short = elim (done_by p (item.Do c) c i refl) [
   | inl d ↦
-      let all : AllLines (lines_by c) = subst AllLines (sym (said_is p c d)) (all_lines _ p.lines d.xs d.say) in
-      let flat = flat_done p c d in
-      begins_by c script at line rest e (text_of c flat) (flat_stands c flat all) (lines_are p c line d short)
-  | inr d ↦ begins_by c script at line rest e d.text (block_stands p c d) (block_is p c line d short)
+      let all : AllLines (bytes_of d.said ∷ []) = (said_whole d.said d.line d.writes, tt) in
+      let stands : Stands (bytes_of d.said ∷ []) = λ n rest. one_line (bytes_of d.said) n rest all (alone_line d.said.0 d.said.1 d.alone) in
+      begins_by c script at line rest e (text_of c (flat_done c d)) (subst Stands (sym (said_is c d)) stands) (line_is c line d short)
+  | inr d ↦ begins_by c script at line rest e d.text (block_stands c d) (block_is c line d short)
 ]
