@@ -1,5 +1,6 @@
 mod Deciding
 mod Ends
+mod FirstWords
 mod Grammars
 mod Held
 mod Items

@@ -2,3 +2,5 @@
 
 -- each script has items
 pub use Rattle.live_cmd.proofs.Deciding.{some_items}
+-- a command by itself begins no block
+pub use Rattle.live_cmd.proofs.FirstWords.{begins_none}

@@ -39,6 +39,10 @@ gives_command _ = false
 abbrev pub is_alone : Said → Bool
 is_alone x = gives_command (line_of x)
 
+-- a command by itself is all of this piece, if the piece begins with one
+abbrev pub IsSingle : Piece → Type 0
+IsSingle p = (x : Said) → Writes x (first_line p.lines).1 → IsTrue (is_alone x) → p.lines ≡ first_line p.lines ∷ []
+
 -- bytes write nothing that is a command by itself
 abbrev pub IsNoCommand : List ℕ → Type 0
 IsNoCommand bytes = (x : Said) → Writes x bytes → IsTrue (is_alone x) → ⊥
@@ -67,8 +71,8 @@ abbrev pub item_of : ℕ → Said → Item
 item_of k x = option_map_or (λ f. item.Refused (refused_for k f)) (fault_of x) (item_or k (command_of (line_of x)))
 
 -- What a piece is: one with a line that is too long is refused for that, a block without its end at its first line. A block whose lines
--- have a grammar of their own is what they come to. Only blocks have several lines, so another piece is what its line says, or refused
--- where it says nothing that is a command by itself.
+-- have a grammar of their own is what they come to. Another piece is what its first line says, which is all of it where it is a command by
+-- itself (`commands_alone`), or is refused where that line says no such command.
 pub data IsItem (p : Piece) : Item → Type 0 where
   long : any_long p.lines ≡ true → IsItem p (item.Refused (refusal.Limit limit.Line))
   unended : any_long p.lines ≡ false → p.ended ≡ false → IsItem p (item.Refused (refusal.Syntax (first_line p.lines).0))

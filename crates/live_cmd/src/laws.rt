@@ -1,15 +1,21 @@
 // What holds of every line and every script.
 ghost use Rattle.std.specs.Prelude.{◌≡◌, ◌∷◌, ◌+◌, ◌++◌, ℕ, List, length, drop};
+ghost use Rattle.std.specs.List.{AllByRecursion};
 ghost use Rattle.script_lines.specs.Lines.{EndsLine, kept_lines, lines};
-ghost use Rattle.script_lines.specs.Pieces.{Piece, outside, place_after};
+ghost use Rattle.script_lines.specs.Pieces.{Piece, outside, pieces_of, place_after};
 ghost use Rattle.live_cmd.specs.declared.command.Item.{Item};
 ghost use Rattle.live_cmd.specs.declared.command.Item.TheVariants as item;
 ghost use Rattle.live_cmd.specs.Grammar.{Said, Writes};
-ghost use Rattle.live_cmd.specs.Items.{Begins, IsItem, ItemsFrom};
+ghost use Rattle.live_cmd.specs.Items.{Begins, IsItem, IsSingle, ItemsFrom};
 
 /// The bytes of a line say one thing.
 pub fn one_meaning()
     ensures { (bytes : List ℕ) (x y : Said) → Writes x bytes → Writes y bytes → x ≡ y }
+{}
+
+/// A command by itself is all of its piece of a script: no line stands behind it there.
+pub fn commands_alone()
+    ensures { (n : ℕ) (script : List ℕ) → AllByRecursion IsSingle (pieces_of n script) }
 {}
 
 /// A piece of a script is exactly one item.

@@ -19,6 +19,6 @@ mod watching;
 pub use command::{Bare, Command, EffectBody, Item, RowEdit, SourceText, Try, Verb};
 pub use fields::are_fields;
 pub use item::next_item;
-pub use laws::{items_cut, items_in_turn, one_item, one_list, one_meaning};
+pub use laws::{commands_alone, items_cut, items_in_turn, one_item, one_list, one_meaning};
 pub use line::Line;
 pub use line_forms::NameList;

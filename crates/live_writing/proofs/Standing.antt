@@ -10,18 +10,17 @@ use Rattle.std.proofs.lemmas.List.Folds.{flat_map-map}
 use Rattle.sig_base.specs.Words.{begins_word, in_word, is_blank, is_word}
 use Rattle.line_forms.specs.Forms.{Args}
 use Rattle.line_forms.specs.Printed.{form_text}
-use Rattle.line_forms.proofs.Shared.{in_line, is_line, whole_line, rewrites}
+use Rattle.line_forms.proofs.Shared.{in_line, is_line, prints_back, rewrites, whole_line}
 use Rattle.script_lines.specs.Lines.{NumberedLine, is_passed, kept_lines, lines, numbered}
 use Rattle.script_lines.specs.Pieces.{Piece, pieces, pieces_of, outside, inside, begins_block, closes, level_after, opens}
 use Rattle.script_lines.proofs.Shared.{kept_first, line_alone, block_begins, block_goes_on, block_ends}
-use Rattle.live_cmd.specs.declared.command.Bare.TheVariants as bares
 use Rattle.live_cmd.specs.declared.command.Command.{Command}
 use Rattle.live_cmd.specs.declared.command.Command.TheVariants as command
 use Rattle.live_cmd.specs.declared.command.Item.TheVariants as item
-use Rattle.live_cmd.specs.declared.command.Verb.TheVariants as verbs
 use Rattle.live_cmd.specs.Blocks.{is_head}
-use Rattle.live_cmd.specs.Grammar.{Row, row, Said, Writes, bare, effect, template, close, verb}
-use Rattle.live_cmd.specs.Items.{IsItem, any_long, is_alone, Begins}
+use Rattle.live_cmd.specs.Grammar.{Row, row, Said, Writes, effect, template, close}
+use Rattle.live_cmd.specs.Items.{IsItem, any_long, Begins}
+use Rattle.live_cmd.proofs.Shared.{begins_none}
 use Rattle.live_writing.specs.Writing.{said_by, bytes_of, ended_line, command_text, lines_by, lines_of_command}
 use Rattle.live_writing.proofs.Levels.{AllLines, Stays, ended}
 use Rattle.live_writing.proofs.Numbered.{numbered-append, numbered_one}
@@ -130,15 +129,6 @@ text_of c h =
 abbrev Stands : List (List ℕ) → Type 0
 Stands ls = (n : ℕ) (rest : List ℕ) → pieces_of n (flat_map ended ls ++ rest) ≡ piece_of n ls ∷ pieces_of (n + length ls) rest
 
--- a command by itself begins no block
-alone_line : (r : Row) (a : Args (row r).1) → is_alone (r, a) ≡ true → begins_block (bytes_of (r, a)) ≡ false
-unfolding begins_block
-alone_line effect a h = absurd cc
-alone_line template a h = absurd cc
-alone_line (verb verbs.Get) a h = refl
-alone_line (bare bares.Flush) a h = refl
-alone_line _ a h = refl
-
 -- the first line of a block begins it
 head_begins : (r : Row) (a : Args (row r).1) → is_head r ≡ true → begins_block (bytes_of (r, a)) ≡ true
 unfolding begins_block
@@ -194,7 +184,8 @@ pub begins : (p : Piece) (c : Command) → IsItem p (item.Do c) → (script : Li
 begins p c i script at line rest e short = elim (done_by p (item.Do c) c i refl) [
   | inl d ↦
       let all : AllLines (bytes_of d.said ∷ []) = (said_whole d.said d.line d.writes, tt) in
-      let stands : Stands (bytes_of d.said ∷ []) = λ n rest. one_line (bytes_of d.said) n rest all (alone_line d.said.0 d.said.1 d.alone) in
+      let flat = begins_none (bytes_of d.said) d.said (prints_back Row row d.said d.line d.writes) d.alone in
+      let stands : Stands (bytes_of d.said ∷ []) = λ n rest. one_line (bytes_of d.said) n rest all flat in
       begins_by c script at line rest e (text_of c (flat_done c d)) (subst Stands (sym (said_is c d)) stands) (line_is c line d short)
   | inr d ↦ begins_by c script at line rest e d.text (block_stands c d) (block_is c line d short)
 ]
