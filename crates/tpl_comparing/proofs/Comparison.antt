@@ -1,8 +1,8 @@
 -- What is marked of the next page is all that differs.
-use Rattle.std.proofs.Common.{◌≡◌, ℕ, ◌==◌, Bool, true, false, if◌then◌else◌, List, [], Some, None, refl, sym, ap, subst, ◌∙◌, eq-eqb}
+use Rattle.std.proofs.Common.{◌≡◌, ℕ, ◌==◌, Bool, true, false, List, [], Some, None, refl, sym, ap, subst, ◌∙◌, eq-eqb}
 use Rattle.sig_base.specs.declared.value.Outcome.{Outcome}
 use Rattle.page_model.specs.Edits.{siblings}
-use Rattle.page_model.specs.Forest.{Forest, none, node, kids, label_in, on}
+use Rattle.page_model.specs.Forest.{Forest, none, node, kids, label_in}
 use Rattle.page_model.specs.Labels.{Root, Look, Kind}
 use Rattle.page_model.specs.Pages.{IsShape, NumberedPage, SameOrigin, looks, number_of, page_shape}
 use Rattle.page_model.proofs.Shared.{self_on}
@@ -12,17 +12,18 @@ use Rattle.tpl_model.specs.Sources.{evaluating}
 use Rattle.tpl_model.proofs.Shared.{origin_law, shape_law}
 use Rattle.tpl_hearing.specs.Hearing.{Outcomes}
 use Rattle.tpl_listening.specs.Makings.{Agrees}
-use Rattle.tpl_listening.specs.Changes.{Change, is_stays, Tells}
+use Rattle.tpl_listening.specs.Changes.{Change, Tells}
 use Rattle.tpl_shapes.specs.Shapes.{Marked}
-use Rattle.tpl_marks.specs.Marks.{children_in, marked_at, root_mark}
+use Rattle.tpl_marks.specs.Marks.{children_in}
 use Rattle.tpl_found.proofs.Shared.{all_new}
 use Rattle.update_laws.specs.Differences.{SameChildren, SameLook, Within}
 use Rattle.update_laws.specs.PageMemos.{PageMemo, nodes}
 use Rattle.update_laws.specs.Updating.{Keeps, memo_on, memo_shape, shape_on}
 use Rattle.update_laws.proofs.Shared.{Half, Single, shape_shown, within_whole}
-use Rattle.tpl_comparing.specs.Comparing.{CompareLaw, Compared, IsRestated, IsTouched, known_of, restated_in, restated_part, restating, touched_in, touched_part, touching}
+use Rattle.tpl_comparing.specs.Comparing.{CompareLaw, Compared, IsRestated, IsTouched, is_plain, known_of, marked_by, marked_unless, restated_in, restated_part, restating, touched_in, touched_part, touching}
 use Rattle.tpl_comparing.proofs.Covering.{Covered, covered_bare, covered_marked}
 use Rattle.tpl_comparing.proofs.Sides.{Beside, beside_kids}
+use Rattle.tpl_comparing.proofs.Tops.{plain_siblings}
 use Rattle.tpl_comparing.proofs.Walking.{Rules, walk}
 
 -- what a node of a part has in the whole
@@ -34,17 +35,14 @@ look_there whole a x k w = (let here : (a == a) ≡ true = eq-eqb a a refl in w.
 
 -- ---- marks for the children
 
-one_touched : (p : NumberedPage) (new : Forest Look) (a : ℕ) (x x' : Look) (k k' : Forest Look) (b : Bool) (below : List Marked) →
-    Half (page_shape p) new (node a x k none) (node a x' k' none) → (b ≡ true → (k ≡ k') × (below ≡ [])) →
+one_touched : (p : NumberedPage) (new : Forest Look) (a : ℕ) (x x' : Look) (k k' : Forest Look) (keeps : Bool) (below : List Marked) →
+    Half (page_shape p) new (node a x k none) (node a x' k' none) → (keeps ≡ true → siblings k ≡ siblings k') →
     Covered (page_shape p) (IsTouched p new) (SameChildren (page_shape p) new) k' below →
     Covered (page_shape p) (IsTouched p new) (SameChildren (page_shape p) new) (node a x' k' none)
-    (if b then [] else marked_at (Some (number_of p a)) Root (children_in (known_of p) k') below)
+    (marked_unless keeps (Some (number_of p a)) Root (children_in (known_of p) k') below)
 one_touched p new a x x' k k' true below h s c =
-    let Is = IsTouched p new in
-    let Same = SameChildren (page_shape p) new in
-    let e = s refl in
-    let same : Same a = ap siblings (kids_there (page_shape p) a x k h.within_old ∙ (e.0 ∙ sym (kids_there new a x' k' h.within_new))) in
-    covered_bare (page_shape p) Is Same a x' k' [] same (subst (Covered (page_shape p) Is Same k') e.1 c)
+    covered_bare (page_shape p) (IsTouched p new) (SameChildren (page_shape p) new) a x' k' below
+    (ap siblings (kids_there (page_shape p) a x k h.within_old) ∙ (s refl ∙ ap siblings (sym (kids_there new a x' k' h.within_new)))) c
 one_touched p new a x x' k k' false below h s c =
     covered_marked (page_shape p) (IsTouched p new) (SameChildren (page_shape p) new) a x' k' below
     (record { number = number_of p a; look = Root; children = children_in (known_of p) k' })
@@ -60,24 +58,33 @@ touching_rules : (p : NumberedPage) (new : Forest Look) → Rules p new touching
 touching_rules p new = record {
   marks = λ a x k h n e f. record { here = h; there = n; number = refl; children = ap (children_in (known_of p)) (sym e) };
   skip = λ q w v j h. ap siblings (w.kids_there j h ∙ sym (v.kids_there j h));
-  step = λ a x x' k k' inside below h s c. one_touched p new a x x' k k' (is_stays inside) below h s c;
+  step = λ a x x' k k' s keeps below h e f c. one_touched p new a x x' k k' keeps below h f c;
 }
 
 -- ---- marks for the look
+
+one_restated : (p : NumberedPage) (new : Forest Look) (a : ℕ) (x x' : Look) (k k' : Forest Look) (s : Bool) (below : List Marked) →
+    Half (page_shape p) new (node a x k none) (node a x' k' none) → (s ≡ true → x ≡ x') →
+    Covered (page_shape p) (IsRestated p new) (SameLook (page_shape p) new) k' below →
+    Covered (page_shape p) (IsRestated p new) (SameLook (page_shape p) new) (node a x' k' none) (marked_unless s (Some (number_of p a)) x' [] below)
+one_restated p new a x x' k k' true below h e c =
+    covered_bare (page_shape p) (IsRestated p new) (SameLook (page_shape p) new) a x' k' below
+    (look_there (page_shape p) a x k h.within_old ∙ (e refl ∙ sym (look_there new a x' k' h.within_new))) c
+one_restated p new a x x' k k' false below h e c =
+    covered_marked (page_shape p) (IsRestated p new) (SameLook (page_shape p) new) a x' k' below (record { number = number_of p a; look = x'; children = [] })
+    (h.within_old.there a (self_on a x k none)) (
+    record {
+      here = h.within_old.there a (self_on a x k none);
+      there = h.within_new.there a (self_on a x' k' none);
+      number = refl;
+      look = sym (look_there new a x' k' h.within_new);
+    }) c
 
 restating_rules : (p : NumberedPage) (new : Forest Look) → Rules p new restating restated_part (IsRestated p new) (SameLook (page_shape p) new)
 restating_rules p new = record {
   marks = λ a x k h n e f. record { here = h; there = n; number = refl; look = sym f };
   skip = λ q w v j h. w.look_there j h ∙ sym (v.look_there j h);
-  step = λ a x x' k k' inside below h s c.
-      covered_marked (page_shape p) (IsRestated p new) (SameLook (page_shape p) new) a x' k' below (record { number = number_of p a; look = x'; children = [] })
-      (h.within_old.there a (self_on a x k none)) (
-      record {
-        here = h.within_old.there a (self_on a x k none);
-        there = h.within_new.there a (self_on a x' k' none);
-        number = refl;
-        look = sym (look_there new a x' k' h.within_new);
-      }) c;
+  step = λ a x x' k k' s keeps below h e f c. one_restated p new a x x' k k' s below h e c;
 }
 
 -- ---- the whole page
@@ -110,9 +117,11 @@ on_now lines links before source now was p tree c template agrees keeps rows tel
     let below = beside_kids old new 0 Root Root t t' whole in
     let touched = walk p new touching touched_part (IsTouched p new) (SameChildren old new) links before source now (touching_rules p new) agrees b None None None c (λ f. refl) below tells in
     let restated = walk p new restating restated_part (IsRestated p new) (SameLook old new) links before source now (restating_rules p new) agrees b None None None c (λ f. refl) below tells in
-    let here : on 0 old ≡ true = ap (on 0) stood in
-    let root = covered_marked old (IsTouched p new) (SameChildren old new) 0 Root t' _ (root_mark (known_of p) t') here (
-    record { here = here; there = refl; number = sym (ap (λ (z : Forest (ℕ × Look)). (label_in (0, Root) 0 z).0) keeps.page.rooted.is); children = refl }) touched in
+    let tops = is_plain b in
+    let marks_below = marked_by touching touched_part (known_of p) None b (memo_on lines links now) c in
+    let root = subst (λ z. Covered old (IsTouched p new) (SameChildren old new) (node 0 Root t' none) (marked_unless tops (Some z) Root (children_in (known_of p) t') marks_below))
+    (ap (λ (z : Forest (ℕ × Look)). (label_in (0, Root) 0 z).0) keeps.page.rooted.is)
+    (one_touched p new 0 Root Root t t' tops marks_below whole.half (λ e. plain_siblings links source now b e None None None) touched) in
     let looks_root = covered_bare old (IsRestated p new) (SameLook old new) 0 Root t' _ (ap (label_in Root 0) stood) restated in
     record {
       children = root.addresses;

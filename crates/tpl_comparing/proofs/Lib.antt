@@ -1,6 +1,7 @@
 mod Marks
 mod Rows
 mod Siblings
+mod Tops
 mod Walks
 mod Comparison
 mod Covering

@@ -94,7 +94,7 @@ stays_kept links before source now agrees (each f inner rest) here here' stays l
 stays_kept links before source now agrees (attempt first second rest) here here' stays like s t =
     same_kept links before source now agrees (attempt first second rest) here here' like t
 stays_kept links before source now agrees b here here' made like s t = absurd (false≢true s)
-stays_kept links before source now agrees b here here' (over inside later) like s t = absurd (false≢true s)
+stays_kept links before source now agrees b here here' (over e inside later) like s t = absurd (false≢true s)
 stays_kept links before source now agrees b here here' (also first others) like s t = absurd (false≢true s)
 stays_kept links before source now agrees b here here' nothing like s t = absurd (false≢true s)
 
@@ -103,7 +103,7 @@ stays_kept links before source now agrees b here here' nothing like s t = absurd
 pub made_is : (c : Change) → is_made c ≡ true → c ≡ made
 made_is made h = refl
 made_is stays h = absurd (false≢true h)
-made_is (over inside later) h = absurd (false≢true h)
+made_is (over s inside later) h = absurd (false≢true h)
 made_is (also first others) h = absurd (false≢true h)
 made_is nothing h = absurd (false≢true h)
 

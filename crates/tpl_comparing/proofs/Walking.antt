@@ -12,6 +12,7 @@ use Rattle.sig_base.specs.declared.value.Outcome.TheVariants.{Good, Bad}
 use Rattle.sig_formula.specs.Trees.{Tree}
 use Rattle.sig_formula.specs.declared.formula.RowRef.{RowRef}
 use Rattle.page_model.specs.Addresses.{address}
+use Rattle.page_model.specs.Edits.{siblings}
 use Rattle.page_model.specs.Forest.{Forest, none, node, on}
 use Rattle.page_model.specs.Labels.{Text, Element, Look}
 use Rattle.page_model.specs.Pages.{NumberedPage, number_of, page_shape}
@@ -20,25 +21,27 @@ use Rattle.tpl_model.specs.Lines.{Block, empty, text, tag, choice, each, attempt
 use Rattle.tpl_model.specs.Shapes.{Here, row_here, node_text}
 use Rattle.tpl_model.specs.Sources.{evaluating, same_here, same_place}
 use Rattle.tpl_hearing.specs.Hearing.{Outcomes}
+use Rattle.tpl_nodes.specs.Shown.{attributes_of}
 use Rattle.tpl_shapes.specs.Shapes.{Marked}
 use Rattle.tpl_marks.specs.Marks.{children_in}
 use Rattle.tpl_listening.specs.Makings.{Agrees, table_in, truth_in}
-use Rattle.tpl_listening.specs.Changes.{BranchTells, Change, RowsTell, Tells, WasRow, stays, made, over, also, nothing, first_in, is_made, is_stays}
+use Rattle.tpl_listening.specs.Changes.{BranchTells, Change, RowsTell, Tells, WasRow, stays, made, over, also, nothing, first_in, is_made}
 use Rattle.update_laws.specs.Differences.{Within}
 use Rattle.update_laws.specs.PageMemos.{PageMemo, blank, hearing, attributes_heard, each_memo, nodes, picks, row_nodes, rows_memo, values}
-use Rattle.update_laws.proofs.Shared.{Half, Single, steady, within_first, within_later}
-use Rattle.tpl_comparing.specs.Comparing.{Marking, known_of, marked_by, row_marks}
+use Rattle.update_laws.proofs.Shared.{Half, Single, memo_like, steady, within_first, within_later}
+use Rattle.tpl_comparing.specs.Comparing.{Marking, keeps_nodes, known_of, marked_by, row_marks}
 use Rattle.tpl_comparing.proofs.Covering.{AreMarks, Covered, covered_after, covered_made, covered_none, covered_skip}
-use Rattle.tpl_comparing.proofs.Sides.{Alike, Beside, Side, beside_first, beside_kids, beside_later, kept, made_is, same_kept, side_first, side_later, side_of, stays_kept, truth_is}
+use Rattle.tpl_comparing.proofs.Sides.{Alike, Beside, Side, beside_first, beside_kids, beside_later, kept, made_is, same_kept, side_first, side_later, side_of, truth_is}
+use Rattle.tpl_comparing.proofs.Tops.{kept_siblings}
 
--- A way to mark: what a mark is, what holds where all stays, and a node that stood over what stands below it. Where its inside stays, the same
--- stands below it, and nothing there is marked.
+-- A way to mark: what a mark is, what holds where all stays, and a node that stood over what stands below it. Where its line was heard so before it
+-- says the same, and where its inside keeps its topmost nodes, the same stand below it.
 pub record Rules (p : NumberedPage) (new : Forest Look) (mark : Marking) (part : Marked → Marked) (Is : ℕ → Marked → Type 0) (Same : ℕ → Type 0) : Type 0 where
   pub marks : AreMarks p new part Is
   pub skip : (q : Forest Look) → Within (page_shape p) q → Within new q → (j : ℕ) → on j q ≡ true → Same j
-  pub step : (a : ℕ) (x x' : Look) (k k' : Forest Look) (inside : Change) (below : List Marked) → Half (page_shape p) new (node a x k none) (node a x' k' none) →
-      (is_stays inside ≡ true → (k ≡ k') × (below ≡ [])) → Covered (page_shape p) Is Same k' below →
-      Covered (page_shape p) Is Same (node a x' k' none) (mark (Some (number_of p a)) x' (children_in (known_of p) k') inside below)
+  pub step : (a : ℕ) (x x' : Look) (k k' : Forest Look) (s keeps : Bool) (below : List Marked) → Half (page_shape p) new (node a x k none) (node a x' k' none) →
+      (s ≡ true → x ≡ x') → (keeps ≡ true → siblings k ≡ siblings k') → Covered (page_shape p) Is Same k' below →
+      Covered (page_shape p) Is Same (node a x' k' none) (mark s keeps (Some (number_of p a)) x' (children_in (known_of p) k') below)
 
 -- ---- rows
 
@@ -119,28 +122,15 @@ module _ (p : NumberedPage) (new : Forest Look) (mark : Marking) (part : Marked 
   fresh rules (attempt first second rest) k here d =
       covered_made p new part Is Same rules.marks (nodes k (attempt first second rest) (kept links now here (attempt first second rest))) d.within d.single d.fresh
 
-  -- lines that stay have no marks
-  no_marks : (b : Block) (k : Option (List ℕ)) (here : Option Here) (c : Change) → is_stays c ≡ true → marks k b (kept links now here b) c ≡ []
-  no_marks empty k here c s = refl
-  no_marks (text n f rest) k here stays s = refl
-  no_marks (tag n name xs inner rest) k here stays s = refl
-  no_marks (choice f one other rest) k here stays s = refl
-  no_marks (each f inner rest) k here stays s = refl
-  no_marks (attempt first second rest) k here stays s = refl
-  no_marks b k here made s = absurd (false≢true s)
-  no_marks b k here (over inside later) s = absurd (false≢true s)
-  no_marks b k here (also first others) s = absurd (false≢true s)
-  no_marks b k here nothing s = absurd (false≢true s)
-
   -- a node that stood on the page, over what stands below it
-  stood : Rules p new mark part Is Same → (a : ℕ) (x x' : Look) (k k' : Forest Look) (inside : Change) (below : List Marked) →
-      Beside (page_shape p) new (node a x k none) (node a x' k' none) → (is_stays inside ≡ true → (k ≡ k') × (below ≡ [])) → Covers k' below →
-      Covers (node a x' k' none) (mark (known_of p a) x' (children_in (known_of p) k') inside below)
-  stood rules a x x' k k' inside below d s c =
+  stood : Rules p new mark part Is Same → (a : ℕ) (x x' : Look) (k k' : Forest Look) (s keeps : Bool) (below : List Marked) →
+      Beside (page_shape p) new (node a x k none) (node a x' k' none) → (s ≡ true → x ≡ x') → (keeps ≡ true → siblings k ≡ siblings k') → Covers k' below →
+      Covers (node a x' k' none) (mark s keeps (known_of p a) x' (children_in (known_of p) k') below)
+  stood rules a x x' k k' s keeps below d same kept_below c =
       let here : on a (page_shape p) ≡ true = d.half.within_old.there a (self_on a x k none) in
       let known : known_of p a ≡ Some (number_of p a) = rw here refl in
-      let P : Option ℕ → Type 0 = λ z. Covers (node a x' k' none) (mark z x' (children_in (known_of p) k') inside below) in
-      subst P (sym known) (rules.step a x x' k k' inside below d.half s c)
+      let P : Option ℕ → Type 0 = λ z. Covers (node a x' k' none) (mark s keeps z x' (children_in (known_of p) k') below) in
+      subst P (sym known) (rules.step a x x' k k' s keeps below d.half same kept_below c)
 
   -- the branch that is shown
   picked : Rules p new mark part Is Same → (one other : Block) → Goes one → Goes other → (k : Option (List ℕ)) (here here' : Option Here) (o o' : Outcome) (c : Change) →
@@ -236,7 +226,7 @@ module _ (p : NumberedPage) (new : Forest Look) (mark : Marking) (part : Marked 
       (rows_walk rules agrees f inner goes here here' like w l t (suc i) rs onward ds (side_later (page_shape p) new (show s (go s)) (row_nodes show next) side) tells.1)
   rows_walk rules agrees f inner goes here here' like w l t i (r ∷ rs) at stays side tells = absurd tells
   rows_walk rules agrees f inner goes here here' like w l t i (r ∷ rs) at made side tells = absurd tells
-  rows_walk rules agrees f inner goes here here' like w l t i (r ∷ rs) at (over inside later) side tells = absurd tells
+  rows_walk rules agrees f inner goes here here' like w l t i (r ∷ rs) at (over s inside later) side tells = absurd tells
   rows_walk rules agrees f inner goes here here' like w l t i (r ∷ rs) at nothing side tells = absurd tells
 
   -- the rows of a loop
@@ -264,7 +254,7 @@ module _ (p : NumberedPage) (new : Forest Look) (mark : Marking) (part : Marked 
   walk rules agrees (text n f rest) k here here' made like d t =
       let b : Block = text n f rest in
       fresh rules b k here' (side_of (page_shape p) new (nodes k b (kept links source here b)) (nodes k b (kept links now here' b)) d)
-  walk rules agrees (text n f rest) k here here' (over inside later) like d t =
+  walk rules agrees (text n f rest) k here here' (over s inside later) like d t =
       let h = hearing (evaluating links source) (row_here here) f in
       let h' = hearing (evaluating links now) (row_here here') f in
       let a = address n k in
@@ -272,9 +262,10 @@ module _ (p : NumberedPage) (new : Forest Look) (mark : Marking) (part : Marked 
       let x' : Look = Text (node_text h'.outcome) in
       let r = nodes k rest (kept links source here rest) in
       let r' = nodes k rest (kept links now here' rest) in
-      covered_after (page_shape p) Is Same (node a x' none none) r' (mark (known_of p a) x' [] stays []) (marks k rest (kept links now here' rest) later)
-      (stood rules a x x' none none stays [] (beside_first (page_shape p) new (node a x none none) r (node a x' none none) r' d) (λ s. (refl, refl)) (covered_none (page_shape p) Is Same))
-      (walk rules agrees rest k here here' later like (beside_later (page_shape p) new (node a x none none) r (node a x' none none) r' d) t)
+      covered_after (page_shape p) Is Same (node a x' none none) r' (mark s true (known_of p a) x' [] []) (marks k rest (kept links now here' rest) later)
+      (stood rules a x x' none none s true [] (beside_first (page_shape p) new (node a x none none) r (node a x' none none) r' d)
+      (λ e. ap (λ z. Text (node_text z.outcome)) (like f ∙ sym ((t.0 e).is source agrees))) (λ e. refl) (covered_none (page_shape p) Is Same))
+      (walk rules agrees rest k here here' later like (beside_later (page_shape p) new (node a x none none) r (node a x' none none) r' d) t.1)
   walk rules agrees (text n f rest) k here here' (also first others) like d t = absurd t
   walk rules agrees (text n f rest) k here here' nothing like d t = absurd t
   walk rules agrees (tag n name xs inner rest) k here here' stays like d t =
@@ -283,7 +274,7 @@ module _ (p : NumberedPage) (new : Forest Look) (mark : Marking) (part : Marked 
   walk rules agrees (tag n name xs inner rest) k here here' made like d t =
       let b : Block = tag n name xs inner rest in
       fresh rules b k here' (side_of (page_shape p) new (nodes k b (kept links source here b)) (nodes k b (kept links now here' b)) d)
-  walk rules agrees (tag n name xs inner rest) k here here' (over inside later) like d t =
+  walk rules agrees (tag n name xs inner rest) k here here' (over s inside later) like d t =
       let hs = attributes_heard false (hearing (evaluating links source)) (row_here here) xs in
       let hs' = attributes_heard false (hearing (evaluating links now)) (row_here here') xs in
       let a = address n k in
@@ -295,12 +286,15 @@ module _ (p : NumberedPage) (new : Forest Look) (mark : Marking) (part : Marked 
       let r' = nodes k rest (kept links now here' rest) in
       let below = marks k inner (kept links now here' inner) (first_in inside) in
       let own = beside_first (page_shape p) new (node a x i none) r (node a x' i' none) r' d in
-      covered_after (page_shape p) Is Same (node a x' i' none) r' (mark (known_of p a) x' (children_in (known_of p) i') (first_in inside) below)
+      let keeps = keeps_nodes inner (first_in inside) in
+      covered_after (page_shape p) Is Same (node a x' i' none) r' (mark s keeps (known_of p a) x' (children_in (known_of p) i') below)
       (marks k rest (kept links now here' rest) later)
-      (stood rules a x x' i i' (first_in inside) below own
-      (λ s. (ap (nodes k inner) (stays_kept links before source now agrees inner here here' (first_in inside) like s t.0), no_marks inner k here' (first_in inside) s))
-      (walk rules agrees inner k here here' (first_in inside) like (beside_kids (page_shape p) new a x x' i i' own) t.0))
-      (walk rules agrees rest k here here' later like (beside_later (page_shape p) new (node a x i none) r (node a x' i' none) r' d) t.1)
+      (stood rules a x x' i i' s keeps below own
+      (λ e. ap (λ z. Element name (values xs z)) (ap attributes_of (memo_like (hearing (evaluating links source)) (tag n name xs inner rest) false here here' like)
+      ∙ sym ((t.0 e).is source agrees)))
+      (λ e. kept_siblings links before source now agrees inner k here here' (first_in inside) like t.1.0 e)
+      (walk rules agrees inner k here here' (first_in inside) like (beside_kids (page_shape p) new a x x' i i' own) t.1.0))
+      (walk rules agrees rest k here here' later like (beside_later (page_shape p) new (node a x i none) r (node a x' i' none) r' d) t.1.1)
   walk rules agrees (tag n name xs inner rest) k here here' (also first others) like d t = absurd t
   walk rules agrees (tag n name xs inner rest) k here here' nothing like d t = absurd t
   walk rules agrees (choice f one other rest) k here here' stays like d t =
@@ -309,7 +303,7 @@ module _ (p : NumberedPage) (new : Forest Look) (mark : Marking) (part : Marked 
   walk rules agrees (choice f one other rest) k here here' made like d t =
       let b : Block = choice f one other rest in
       fresh rules b k here' (side_of (page_shape p) new (nodes k b (kept links source here b)) (nodes k b (kept links now here' b)) d)
-  walk rules agrees (choice f one other rest) k here here' (over inside later) like d t =
+  walk rules agrees (choice f one other rest) k here here' (over s inside later) like d t =
       let o = (hearing (evaluating links source) (row_here here) f).outcome in
       let o' = (hearing (evaluating links now) (row_here here') f).outcome in
       let i = picks o (kept links source here one) (kept links source here other) blank in
@@ -332,7 +326,7 @@ module _ (p : NumberedPage) (new : Forest Look) (mark : Marking) (part : Marked 
   walk rules agrees (each f inner rest) k here here' made like d t =
       let b : Block = each f inner rest in
       fresh rules b k here' (side_of (page_shape p) new (nodes k b (kept links source here b)) (nodes k b (kept links now here' b)) d)
-  walk rules agrees (each f inner rest) k here here' (over inside later) like d t =
+  walk rules agrees (each f inner rest) k here here' (over s inside later) like d t =
       let o = (hearing (evaluating links source) (row_here here) f).outcome in
       let o' = (hearing (evaluating links now) (row_here here') f).outcome in
       let show : Here → PageMemo → Forest Look = λ s m. nodes (Some s.key) inner m in
@@ -354,7 +348,7 @@ module _ (p : NumberedPage) (new : Forest Look) (mark : Marking) (part : Marked 
   walk rules agrees (attempt first second rest) k here here' made like d t =
       let b : Block = attempt first second rest in
       fresh rules b k here' (side_of (page_shape p) new (nodes k b (kept links source here b)) (nodes k b (kept links now here' b)) d)
-  walk rules agrees (attempt first second rest) k here here' (over inside later) like d t =
+  walk rules agrees (attempt first second rest) k here here' (over s inside later) like d t =
       let b : Block = attempt first second rest in
       fresh rules b k here' (side_of (page_shape p) new (nodes k b (kept links source here b)) (nodes k b (kept links now here' b)) d)
   walk rules agrees (attempt first second rest) k here here' (also one others) like d t = absurd t

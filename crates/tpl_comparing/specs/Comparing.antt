@@ -1,19 +1,19 @@
 -- Which nodes of a page are compared when it is brought up to date, by what became of what is kept of its lines.
-use Rattle.std.specs.Prelude.{◌≡◌, ℕ, true, List, [], ◌∷◌, ◌++◌, map, Option, Some, None, if◌then◌else◌}
+use Rattle.std.specs.Prelude.{◌≡◌, ℕ, Bool, true, false, List, [], ◌∷◌, ◌++◌, map, Option, Some, None, if◌then◌else◌}
 use Rattle.sig_base.specs.declared.value.Outcome.{Outcome}
 use Rattle.page_model.specs.Addresses.{address}
 use Rattle.page_model.specs.Forest.{Forest, on, kids, label_in}
 use Rattle.page_model.specs.Labels.{Root, Text, Element, Kind, Look}
 use Rattle.page_model.specs.Pages.{NumberedPage, number_of, page_shape}
 use Rattle.tpl_model.specs.Laws.{GivesRows, IsTemplate}
-use Rattle.tpl_model.specs.Lines.{Block, text, tag, choice, each, attempt, block_of, Line}
+use Rattle.tpl_model.specs.Lines.{Block, empty, text, tag, choice, each, attempt, block_of, Line}
 use Rattle.tpl_model.specs.Shapes.{Here, node_text}
 use Rattle.tpl_model.specs.Sources.{evaluating}
 use Rattle.tpl_hearing.specs.Hearing.{Outcomes}
 use Rattle.update_laws.specs.PageMemos.{PageMemo, line, element, branch, loop, row, nodes, picks, values}
 use Rattle.update_laws.specs.Updating.{Keeps, memo_on, memo_shape}
 use Rattle.tpl_shapes.specs.Shapes.{Marked, Next}
-use Rattle.tpl_marks.specs.Marks.{children_in, marked_at, marks_in, root_mark}
+use Rattle.tpl_marks.specs.Marks.{children_in, marked_at, marks_in}
 use Rattle.tpl_found.specs.Seeing.{Sees}
 use Rattle.tpl_listening.specs.Makings.{Agrees}
 use Rattle.tpl_listening.specs.Changes.{Change, stays, made, over, also, first_in, is_stays, Tells}
@@ -31,23 +31,41 @@ touched_part m = record { number = m.number; look = Root; children = m.children 
 abbrev pub restated_part : Marked → Marked
 restated_part m = record { number = m.number; look = m.look; children = [] }
 
--- how a node is marked: by its number, its look, its children, what became of its inside, and the marks below it
+-- a node is marked behind those below it, where it has a number, unless it is the same
+abbrev pub marked_unless : (same : Bool) → Option ℕ → Look → List Next → List Marked → List Marked
+marked_unless same None x children below = []
+marked_unless true (Some n) x children below = below
+marked_unless false (Some n) x children below = marked_at (Some n) x children below
+
+-- how a node is marked: by whether its line was heard so before, whether its inside keeps its topmost nodes, its number, its look, its children, and
+-- the marks below it
 abbrev pub Marking : Type 0
-Marking = Option ℕ → Look → List Next → Change → List Marked → List Marked
+Marking = (same keeps : Bool) → Option ℕ → Look → List Next → List Marked → List Marked
 
--- children may differ unless the inside stays; then nothing below is marked either
+-- children may differ unless the inside keeps them
 abbrev pub touching : Marking
-touching n x children inside below = if is_stays inside then [] else marked_at n Root children below
+touching same keeps n x children below = marked_unless keeps n Root children below
 
--- a look may differ wherever the line was heard again
+-- a look may differ unless the line was heard so before
 abbrev pub restating : Marking
-restating n x children inside below = marked_at n x [] below
+restating same keeps n x children below = marked_unless same n x [] below
+
+-- whether lines are texts and elements alone, which always show the same topmost nodes
+abbrev pub is_plain : Block → Bool
+is_plain empty = true
+is_plain (text n f rest) = is_plain rest
+is_plain (tag n name xs inner rest) = is_plain rest
+is_plain b = false
+
+-- whether lines keep their topmost nodes, where this became of them
+abbrev pub keeps_nodes : Block → Change → Bool
+keeps_nodes b c = if is_stays c then true else is_plain b
 
 -- nothing of what stays, all of what was made anew, and of the rest its parts
-abbrev pub marks_by : List Marked → (Change → Change → List Marked) → Change → List Marked
+abbrev pub marks_by : List Marked → (Bool → Change → Change → List Marked) → Change → List Marked
 marks_by all parts stays = []
 marks_by all parts made = all
-marks_by all parts (over inside later) = parts inside later
+marks_by all parts (over same inside later) = parts same inside later
 marks_by all parts c = []
 
 -- the marks of rows, one row after the other
@@ -59,27 +77,28 @@ row_marks go m c = []
 abbrev pub marked_by : Marking → (Marked → Marked) → (ℕ → Option ℕ) → Option (List ℕ) → Block → PageMemo → Change → List Marked
 marked_by mark part known k (text n f rest) (line h r) c =
     marks_by (map part (marks_in known (nodes k (text n f rest) (line h r))))
-    (λ inside later. mark (known (address n k)) (Text (node_text h.outcome)) [] stays [] ++ marked_by mark part known k rest r later) c
+    (λ same inside later. mark same true (known (address n k)) (Text (node_text h.outcome)) [] [] ++ marked_by mark part known k rest r later) c
 marked_by mark part known k (tag n name xs inner rest) (element hs i r) c =
     marks_by (map part (marks_in known (nodes k (tag n name xs inner rest) (element hs i r))))
-    (λ inside later. mark (known (address n k)) (Element name (values xs hs)) (children_in known (nodes k inner i)) (first_in inside)
+    (λ same inside later. mark same (keeps_nodes inner (first_in inside)) (known (address n k)) (Element name (values xs hs)) (children_in known (nodes k inner i))
     (marked_by mark part known k inner i (first_in inside)) ++ marked_by mark part known k rest r later) c
 marked_by mark part known k (choice f one other rest) (branch h i r) c =
     marks_by (map part (marks_in known (nodes k (choice f one other rest) (branch h i r))))
-    (λ inside later. picks h.outcome (marked_by mark part known k one i (first_in inside)) (marked_by mark part known k other i (first_in inside)) []
+    (λ same inside later. picks h.outcome (marked_by mark part known k one i (first_in inside)) (marked_by mark part known k other i (first_in inside)) []
     ++ marked_by mark part known k rest r later) c
 marked_by mark part known k (each f inner rest) (loop h i r) c =
     marks_by (map part (marks_in known (nodes k (each f inner rest) (loop h i r))))
-    (λ inside later. row_marks (λ (here : Here) (m : PageMemo) (d : Change). marked_by mark part known (Some here.key) inner m d) i inside
+    (λ same inside later. row_marks (λ (here : Here) (m : PageMemo) (d : Change). marked_by mark part known (Some here.key) inner m d) i inside
     ++ marked_by mark part known k rest r later) c
 marked_by mark part known k (attempt first second rest) m c =
     let all : List Marked = map part (marks_in known (nodes k (attempt first second rest) m)) in
-    marks_by all (λ inside later. all) c
+    marks_by all (λ same inside later. all) c
 marked_by mark part known k b m c = []
 
 -- the nodes whose children may differ, the root behind those below it
 abbrev pub touched_in : (ℕ → Option ℕ) → Block → PageMemo → Change → List Marked
-touched_in known b m c = marked_by touching touched_part known None b m c ++ root_mark known (nodes None b m) ∷ []
+touched_in known b m c =
+    marked_unless (is_plain b) (Some 0) Root (children_in known (nodes None b m)) (marked_by touching touched_part known None b m c)
 
 -- the nodes whose look may differ
 abbrev pub restated_in : (ℕ → Option ℕ) → Block → PageMemo → Change → List Marked

@@ -1,5 +1,5 @@
 -- What comes of going over lines by what became of what is kept of them.
-use Rattle.std.specs.Prelude.{ℕ, Bool, true, false, List, [], ◌++◌, map, Option, Some, None}
+use Rattle.std.specs.Prelude.{ℕ, Bool, true, false, List, [], ◌++◌, map, Option, Some, None, if◌then◌else◌}
 use Rattle.page_model.specs.Addresses.{address}
 use Rattle.page_model.specs.Forest.{Forest, none, node}
 use Rattle.page_model.specs.Labels.{Root, Look}
@@ -10,7 +10,7 @@ use Rattle.tpl_shapes.specs.declared.mark.Child.{Child}
 use Rattle.tpl_marks.specs.Marks.{children_in, marks_in}
 use Rattle.tpl_listening.specs.Changes.{Change, changed, first_in, stays}
 use Rattle.update_laws.specs.PageMemos.{PageMemo, nodes, row_nodes}
-use Rattle.tpl_comparing.specs.Comparing.{Marking, marked_by, restated_part, restating, row_marks, touched_part, touching}
+use Rattle.tpl_comparing.specs.Comparing.{Marking, keeps_nodes, marked_by, restated_part, restating, row_marks, touched_part, touching}
 use Rattle.tpl_listening.specs.declared.change.Change as code
 use Rattle.tpl_comparing.specs.declared.marking.Compared.{Compared}
 
@@ -58,37 +58,37 @@ of_made known shape = record {
   restated = map restated_part (marks_in known shape);
 }
 
--- of a text that was heard again
-abbrev pub of_text : (ℕ → Option ℕ) → Forest Look → Walk
-of_text known shape = record { children = children_in known shape; touched = []; restated = marks_in known shape }
+-- of a text that was heard again, which may be as it was heard before
+abbrev pub of_text : (ℕ → Option ℕ) → (same : Bool) → Forest Look → Walk
+of_text known same shape = record { children = children_in known shape; touched = []; restated = if same then [] else marks_in known shape }
 
 -- the marks of an element that was heard again, of this number and look, and of what is inside it
-abbrev pub marks_of : Marking → (Marked → Marked) → (ℕ → Option ℕ) → Option (List ℕ) → Option ℕ → Look → Block → PageMemo → Change → List Marked
-marks_of mark part known k n x inner i inside =
-    mark n x (children_in known (nodes k inner i)) (first_in inside) (marked_by mark part known k inner i (first_in inside))
+abbrev pub marks_of : Marking → (Marked → Marked) → (ℕ → Option ℕ) → Option (List ℕ) → (same : Bool) → Option ℕ → Look → Block → PageMemo → Change → List Marked
+marks_of mark part known k same n x inner i inside =
+    mark same (keeps_nodes inner (first_in inside)) n x (children_in known (nodes k inner i)) (marked_by mark part known k inner i (first_in inside))
 
 -- of an element that has this number and was heard again, its marks alone
-abbrev pub of_marks : (ℕ → Option ℕ) → Option (List ℕ) → Option ℕ → Look → Block → PageMemo → Change → Walk
-of_marks known k n x inner i inside = record {
+abbrev pub of_marks : (ℕ → Option ℕ) → Option (List ℕ) → (same : Bool) → Option ℕ → Look → Block → PageMemo → Change → Walk
+of_marks known k same n x inner i inside = record {
   children = [];
-  touched = marks_of touching touched_part known k n x inner i inside;
-  restated = marks_of restating restated_part known k n x inner i inside;
+  touched = marks_of touching touched_part known k same n x inner i inside;
+  restated = marks_of restating restated_part known k same n x inner i inside;
 }
 
 -- of its inside, with its own mark for the children
 abbrev pub of_inside : (ℕ → Option ℕ) → Option (List ℕ) → ℕ → Block → PageMemo → Change → Walk
 of_inside known k n inner i inside = record {
   children = [];
-  touched = marks_of touching touched_part known k (Some n) Root inner i inside;
+  touched = marks_of touching touched_part known k true (Some n) Root inner i inside;
   restated = marked_by restating restated_part known k inner i (first_in inside);
 }
 
 -- of an element of this address that was heard again
-abbrev pub of_element : (ℕ → Option ℕ) → Option (List ℕ) → ℕ → Look → Block → PageMemo → Change → Walk
-of_element known k a x inner i inside = record {
+abbrev pub of_element : (ℕ → Option ℕ) → Option (List ℕ) → (same : Bool) → ℕ → Look → Block → PageMemo → Change → Walk
+of_element known k same a x inner i inside = record {
   children = children_in known (node a x (nodes k inner i) none);
-  touched = (of_marks known k (known a) x inner i inside).touched;
-  restated = (of_marks known k (known a) x inner i inside).restated;
+  touched = (of_marks known k same (known a) x inner i inside).touched;
+  restated = (of_marks known k same (known a) x inner i inside).restated;
 }
 
 -- of rows

@@ -1,10 +1,26 @@
 // The children of a node whose inside is gone over.
 ghost use Rattle.std.specs.Prelude.{◌≡◌, ◌++◌, None, map, OnOk};
+ghost use Rattle.tpl_blocks.specs.Blocks.{block};
+ghost use Rattle.tpl_comparing.specs.Comparing.{is_plain};
 ghost use Rattle.tpl_marks.specs.Marks.{children_in};
 ghost use Rattle.tpl_shapes.specs.Shapes.{all_shown, child_of};
 
 use sig_base::NoMemory;
+use tpl_blocks::Block;
 use tpl_shapes::{Child, Shown};
+
+/// Whether lines are texts and elements alone, which always show the same topmost nodes.
+pub fn is_plain(lines: &Block) -> bool
+    ensures { result ≡ is_plain (block lines.now) }
+{
+    match lines {
+        Block::Empty => true,
+        Block::Text(_, _, rest) => is_plain(rest),
+        Block::Tag(_, _, _, _, rest) => is_plain(rest),
+        Block::Choice(_, _, _, _) => false,
+        Block::Each(_, _, _) => false,
+    }
+}
 
 /// Appends children.
 ///

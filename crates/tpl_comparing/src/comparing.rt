@@ -18,6 +18,7 @@ ghost use Rattle.tpl_shapes.specs.declared.mark.Mark.{Mark as AMark};
 ghost use Rattle.update_laws.specs.PageMemos.{values};
 ghost use Rattle.tpl_comparing.specs.Walking.{further, of_element, of_inside, of_lines, of_marks, of_rows, or_stays, walk_of, where_gone};
 
+use crate::children::is_plain;
 use crate::marking::{Compared, put_made, put_text_again};
 use crate::staying::{put_kept, put_staying};
 use sig_base::{NoMemory, Row, Text};
@@ -38,7 +39,7 @@ fn is_stays(change: &Change) -> bool
     match change {
         Change::Stays => true,
         Change::Made => false,
-        Change::Over(_, _) => false,
+        Change::Over(_, _, _) => false,
     }
 }
 
@@ -76,7 +77,7 @@ fn compare_first(
     Ok(())
 }
 
-// What is inside an element of this number, with a mark of the element for its children unless they stay.
+// What is inside an element of this number, with a mark of the element for its children unless it always has the same.
 #[cycle(comparing)]
 fn compare_inside(
     alloc: Global,
@@ -97,6 +98,9 @@ fn compare_inside(
     }
     let mut children = Vec::new(alloc);
     compare_first(alloc, key, inner, memo, inside, page, &mut children, out)?;
+    if is_plain(inner) {
+        return Ok(());
+    }
     out.touched.push(Mark {
         number,
         look: None,
@@ -105,10 +109,11 @@ fn compare_inside(
     Ok(())
 }
 
-// The marks of an element of this number and of all below it.
+// The marks of an element of this number, whose attributes may be as they were heard before, and of all below it.
 #[cycle(comparing)]
 fn compare_kept(
     alloc: Global,
+    same: bool,
     number: u64,
     key: Option<&Text>,
     name: &Text,
@@ -121,7 +126,7 @@ fn compare_kept(
 ) -> Result<(), NoMemory>
     ensures { (known : ℕ → Option ℕ) → Knows (number_on page.now) known →
         OnOk result (walk_of [] out.new ≡ further (walk_of [] out.old)
-        (of_marks known (option_copied key.entry) (Some number) (label.Element name.now (values (waiting attributes.now) (attributes_of (kept memo.now))))
+        (of_marks known (option_copied key.entry) same (Some number) (label.Element name.now (values (waiting attributes.now) (attributes_of (kept memo.now))))
         (block inner.now) (inside_of (kept memo.now)) (chain (map changed inside.now)))) }
 {
     compare_inside(
@@ -134,6 +139,9 @@ fn compare_kept(
         page,
         out,
     )?;
+    if same {
+        return Ok(());
+    }
     let mut values = Vec::new(alloc);
     put_attributes(alloc, attributes, attributes_of(memo), &mut values)?;
     let name = name.copy()?;
@@ -149,6 +157,7 @@ fn compare_kept(
 #[cycle(comparing)]
 fn compare_element(
     alloc: Global,
+    same: bool,
     line: usize,
     key: Option<&Text>,
     name: &Text,
@@ -162,7 +171,7 @@ fn compare_element(
 ) -> Result<(), NoMemory>
     ensures { (known : ℕ → Option ℕ) → Knows (number_on page.now) known →
         OnOk result (walk_of children.new.items out.new ≡ further (walk_of children.old.items out.old)
-        (of_element known (option_copied key.entry) (address line (option_copied key.entry))
+        (of_element known (option_copied key.entry) same (address line (option_copied key.entry))
         (label.Element name.now (values (waiting attributes.now) (attributes_of (kept memo.now))))
         (block inner.now) (inside_of (kept memo.now)) (chain (map changed inside.now)))) }
 {
@@ -173,7 +182,7 @@ fn compare_element(
         return Ok(());
     };
     compare_kept(
-        alloc, number, key, name, attributes, inner, memo, inside, page, out,
+        alloc, same, number, key, name, attributes, inner, memo, inside, page, out,
     )?;
     Ok(())
 }
@@ -299,10 +308,11 @@ fn compare_each(
     }
 }
 
-// Lines of which the first was heard again.
+// Lines of which the first was heard again, and may be as it was heard before.
 #[cycle(comparing)]
 fn compare_parts(
     alloc: Global,
+    same: bool,
     key: Option<&Text>,
     lines: &Block,
     memo: &PageMemo,
@@ -314,7 +324,7 @@ fn compare_parts(
 ) -> Result<(), NoMemory>
     ensures { (known : ℕ → Option ℕ) → Knows (number_on page.now) known →
         OnOk result (walk_of children.new.items out.new ≡ further (walk_of children.old.items out.old)
-        (of_lines known (option_copied key.entry) (block lines.now) (kept memo.now) (model.over (chain (map changed inside.now)) (changed later.now)))) }
+        (of_lines known (option_copied key.entry) (block lines.now) (kept memo.now) (model.over same (chain (map changed inside.now)) (changed later.now)))) }
 {
     if !fits(lines, memo) {
         return Ok(());
@@ -323,13 +333,13 @@ fn compare_parts(
     match lines {
         Block::Empty => Ok(()),
         Block::Text(line, _, rest) => {
-            put_text_again(alloc, *line, key, memo, page, children, out)?;
+            put_text_again(alloc, same, *line, key, memo, page, children, out)?;
             compare_lines(alloc, key, rest, behind, later, page, children, out)?;
             Ok(())
         }
         Block::Tag(line, name, attributes, inner, rest) => {
             compare_element(
-                alloc, *line, key, name, attributes, inner, memo, inside, page, children, out,
+                alloc, same, *line, key, name, attributes, inner, memo, inside, page, children, out,
             )?;
             compare_lines(alloc, key, rest, behind, later, page, children, out)?;
             Ok(())
@@ -374,14 +384,16 @@ fn compare_lines(
             put_made(alloc, key, lines, memo, page, children, out)?;
             Ok(())
         }
-        Change::Over(inside, later) => {
-            compare_parts(alloc, key, lines, memo, inside, later, page, children, out)?;
+        Change::Over(same, inside, later) => {
+            compare_parts(
+                alloc, *same, key, lines, memo, inside, later, page, children, out,
+            )?;
             Ok(())
         }
     }
 }
 
-// All marks, as they come.
+// All marks, as they come, the root's behind the others unless it always has the same children.
 fn all_compared(
     alloc: Global,
     lines: &Block,
@@ -409,6 +421,9 @@ fn all_compared(
         &mut children,
         &mut out,
     )?;
+    if is_plain(lines) {
+        return Ok(out);
+    }
     out.touched.push(Mark {
         number: 0,
         look: None,
@@ -418,8 +433,8 @@ fn all_compared(
 }
 
 /// The nodes of both pages that are compared when a page of these numbers is brought up to date, by ascending numbers: those whose children may
-/// differ, the root among them, and those whose text or attributes may differ. What is kept of its lines now tells of the next page, and the
-/// change of what became of it; of lines that stay only the topmost nodes are looked up.
+/// differ, and those whose text or attributes may differ. What is kept of its lines now tells of the next page, and the
+/// change of what became of it; of lines that stay only the topmost nodes are looked up, and so are texts and elements that were heard so before.
 ///
 /// # Errors
 ///

@@ -1,5 +1,5 @@
 // The marks of nodes that are compared.
-ghost use Rattle.std.specs.Prelude.{◌≡◌, ◌++◌, ◌∷◌, ℕ, [], Option, map, OnOk};
+ghost use Rattle.std.specs.Prelude.{◌≡◌, ◌++◌, ◌∷◌, ℕ, [], true, Option, map, OnOk};
 ghost use Rattle.std.specs.Option.{option_copied};
 ghost use Rattle.page_model.specs.Addresses.{address};
 ghost use Rattle.tpl_comparing.specs.Comparing.{restated_part, touched_part};
@@ -7,12 +7,14 @@ ghost use Rattle.tpl_blocks.specs.Blocks.{block};
 ghost use Rattle.tpl_marks.specs.Marks.{Knows};
 ghost use Rattle.tpl_marks.specs.Numbering.{number_on};
 ghost use Rattle.tpl_memos.specs.Kept.{kept};
+ghost use Rattle.tpl_nodes.specs.Shown.{is_line};
 ghost use Rattle.tpl_shapes.specs.Shapes.{mark_of};
 ghost use Rattle.tpl_shown.specs.Showing.{text_at};
 ghost use Rattle.update_laws.specs.PageMemos.{nodes};
 ghost use Rattle.tpl_comparing.specs.Walking.{further, of_made, of_text, walk_of};
 
 use crate::children::put_children;
+use crate::staying::put_staying_text;
 use sig_base::{NoMemory, Text};
 use std::alloc::Global;
 use tpl_blocks::Block;
@@ -91,13 +93,14 @@ pub fn put_made(
     Ok(())
 }
 
-/// Goes over a text that was heard again.
+/// Goes over a text that was heard again; where it was heard so before, it stays.
 ///
 /// # Errors
 ///
 /// `NoMemory` alone.
 pub fn put_text_again(
     alloc: Global,
+    same: bool,
     line: usize,
     key: Option<&Text>,
     memo: &PageMemo,
@@ -105,10 +108,14 @@ pub fn put_text_again(
     children: &mut Vec<Child>,
     out: &mut Compared,
 ) -> Result<(), NoMemory>
-    ensures { (known : ℕ → Option ℕ) → Knows (number_on page.now) known →
+    ensures { is_line (kept memo.now) ≡ true → (known : ℕ → Option ℕ) → Knows (number_on page.now) known →
         OnOk result (walk_of children.new.items out.new ≡ further (walk_of children.old.items out.old)
-        (of_text known (text_at (address line (option_copied key.entry)) (kept memo.now)))) }
+        (of_text known same (text_at (address line (option_copied key.entry)) (kept memo.now)))) }
 {
+    if same {
+        put_staying_text(alloc, line, key, memo, page, children)?;
+        return Ok(());
+    }
     let mut shown = Vec::new(alloc);
     put_text(alloc, line, key, memo, &mut shown)?;
     let more = mark_all(alloc, shown, page, &mut out.restated)?;

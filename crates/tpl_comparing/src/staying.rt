@@ -25,8 +25,12 @@ use tpl_nodes::{fits, inside_of, later_of, shows};
 use tpl_shapes::{Address, Child};
 use tpl_shown::{put_element, put_text, rows_in};
 
-// A text that stays.
-fn put_staying_text(
+/// Appends a text that stays as a child.
+///
+/// # Errors
+///
+/// `NoMemory` alone.
+pub fn put_staying_text(
     alloc: Global,
     line: usize,
     key: Option<&Text>,

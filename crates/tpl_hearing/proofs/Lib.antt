@@ -1,5 +1,6 @@
 mod Hearings
 mod Askings
+mod Compared
 mod Rehearings
 mod Fronts
 mod Tabled

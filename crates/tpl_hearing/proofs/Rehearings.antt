@@ -45,11 +45,10 @@ module _ (before : Outcomes) (ns : List ℕ) (place n : ℕ) (earlier mid now : 
       ∙ ap (firsts_after (keys_of earlier)) (sym up_to)
 
   -- it has the outcome of before
-  pub same_again : (o : Outcome) → heard_of before n ≡ Some o → heard_of now n ≡ Some o → AreSame before (take (place + 1) ns) earlier now
-  same_again o was is = record {
+  pub same_again : IsAsBefore before now n → AreSame before (take (place + 1) ns) earlier now
+  same_again is = record {
     same = subst (AreAsBefore before now) (sym up_to)
-        (all_snoc (IsAsBefore before now) (take place ns) n (still_as_before before mid now (take place ns) x.grows x.same.same)
-        (record { outcome = o; was = was; is = is }));
+        (all_snoc (IsAsBefore before now) (take place ns) n (still_as_before before mid now (take place ns) x.grows x.same.same) is);
     order = order_next;
   }
 

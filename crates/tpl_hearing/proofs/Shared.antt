@@ -6,3 +6,5 @@ pub use Rattle.tpl_hearing.proofs.Hearings.{heard_in, heard_scratch, keys_append
 pub use Rattle.tpl_hearing.proofs.Askings.{have_heard, outcome_in, were_still}
 -- names that are heard again
 pub use Rattle.tpl_hearing.proofs.Rehearings.{still_as_before}
+-- and of which it is known whether they have the outcomes of before
+pub use Rattle.tpl_hearing.proofs.Compared.{still_compared}

@@ -1,10 +1,11 @@
 -- Names that were heard at another time, heard again.
-use Rattle.std.specs.Prelude.{◌≡◌, ℕ, ◌+◌, ◌<◌, ◌++◌, ◌∷◌, [], Bool, true, false, List, length, slice_get, take, Some}
+use Rattle.std.specs.Prelude.{◌≡◌, ℕ, ◌+◌, ◌<◌, ◌++◌, ◌∷◌, [], Bool, true, false, List, length, slice_get, take, Option, None, Some}
 use Rattle.std.specs.List.{AllByRecursion}
 use Rattle.std.specs.Map.{keys_of}
 use Rattle.sig_base.specs.declared.value.Outcome.{Outcome}
 use Rattle.signal_laws.specs.ReadingLaws.{firsts_after}
 use Rattle.tpl_hearing.specs.Hearing.{Outcomes, heard_of}
+use Rattle.tpl_hearing.specs.declared.rehearing.Rehearing.{Rehearing}
 
 -- a name has the outcome that it had before
 pub record IsAsBefore (before now : Outcomes) (n : ℕ) : Type 0 where
@@ -15,6 +16,21 @@ pub record IsAsBefore (before now : Outcomes) (n : ℕ) : Type 0 where
 -- so have these names
 abbrev pub AreAsBefore : Outcomes → Outcomes → List ℕ → Type 0
 AreAsBefore before now ns = AllByRecursion (IsAsBefore before now) ns
+
+-- a name was heard, and where it is said to be the same, it has the outcome that it had before
+pub record IsCompared (before now : Outcomes) (n : ℕ) (same : Bool) : Type 0 where
+  pub outcome : Outcome
+  pub is : heard_of now n ≡ Some outcome
+  pub was : same ≡ true → heard_of before n ≡ Some outcome
+
+-- so it is with each name of which this is known
+abbrev pub AreCompared : Outcomes → Rehearing → Type 0
+AreCompared before h = AllByRecursion (λ (p : ℕ × Bool). IsCompared before h.heard p.0 p.1) h.compared
+
+-- what was heard, where it is not all that was heard before
+abbrev pub heard_by : Option Rehearing → Outcomes → Outcomes
+heard_by (Some h) before = h.heard
+heard_by None before = before
 
 -- names were heard, and each has the outcome of before
 pub record AreSame (before : Outcomes) (ns : List ℕ) (earlier now : Outcomes) : Type 0 where

@@ -1,5 +1,5 @@
 -- What is heard of names while a page is brought up to date, and what hearing them leaves.
-use Rattle.std.specs.Prelude.{◌≡◌, ℕ, List, ◌++◌, [], nat_eq, Option, Some}
+use Rattle.std.specs.Prelude.{◌≡◌, ℕ, Bool, List, ◌++◌, [], nat_eq, Option, Some}
 use Rattle.std.specs.List.{AllByRecursion}
 use Rattle.std.specs.Map.{lookup, keys_of}
 use Rattle.sig_base.specs.Tables.{AreRows}
@@ -19,6 +19,10 @@ pub use Rattle.sig_computed.specs.Scenes.{scene, CanSettle, Scene, Settles}
 -- names with their outcomes, in the order of hearing
 abbrev pub Outcomes : Type 0
 Outcomes = List (ℕ × Outcome)
+
+-- names, and whether they have the outcomes of before
+abbrev pub Comparisons : Type 0
+Comparisons = List (ℕ × Bool)
 
 -- the outcome that was heard of a name
 abbrev pub heard_of : Outcomes → ℕ → Option Outcome

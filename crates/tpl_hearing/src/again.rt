@@ -1,9 +1,10 @@
 // Names that were heard at another time, heard again.
-ghost use Rattle.std.specs.Prelude.{◌≡◌, ◌≤◌, ◌++◌, ◌∷◌, [], length, slice_get, take, true, unwrap_or, IfOk, IfSome, OnOk, Some};
-ghost use Rattle.tpl_hearing.specs.Hearing.{heard_of, scene, CanSettle, Hears};
-ghost use Rattle.tpl_hearing.specs.HeardAgain.{AreHeardAgain, IsFront};
+ghost use Rattle.std.specs.Prelude.{◌≡◌, ◌≤◌, [], length, take, IfOk, IfSome, OnOk};
+ghost use Rattle.tpl_hearing.specs.Hearing.{scene, CanSettle, Hears};
+ghost use Rattle.tpl_hearing.specs.HeardAgain.{heard_by, AreCompared, AreHeardAgain, IsFront};
 
-use crate::outcomes::{Outcomes, hear, settle_name};
+use crate::outcomes::{Outcomes, settle_name};
+use crate::rehearing::{Rehearing, hear_compared};
 use sig_base::{NoMemory, NodeId};
 use sig_computed::RunNote;
 use sig_host::{Lent, Shelf};
@@ -19,22 +20,23 @@ pub fn hear_again(
     graph: &mut Graph,
     shelf: &mut Shelf,
     before: &Outcomes,
-    heard: &mut Outcomes,
+    hearing: &mut Rehearing,
     ids: &[NodeId],
     notes: &mut Vec<RunNote>,
 ) -> Result<bool, NoMemory>
     requires can { CanSettle (scene graph.old (⟦<Shelf as Lent>⟧.asked shelf.old) notes.old.items) }
     requires counted { ⟦<Shelf as Lent>⟧.counted shelf.old }
-    ensures again { IfOk result (λ same. AreHeardAgain same before.now ids.now heard.old heard.new) }
+    requires compared { AreCompared before.now hearing.old }
+    ensures again { IfOk result (λ same. AreHeardAgain same before.now ids.now hearing.old.heard hearing.new.heard) }
     ensures after { OnOk result (Hears
         (scene graph.old (⟦<Shelf as Lent>⟧.asked shelf.old) notes.old.items) (scene graph.new (⟦<Shelf as Lent>⟧.asked shelf.new) notes.new.items)
-        (λ hosts. ⟦<Shelf as Lent>⟧.answers hosts shelf.old) (λ hosts. ⟦<Shelf as Lent>⟧.answers hosts shelf.new) heard.old heard.new) }
+        (λ hosts. ⟦<Shelf as Lent>⟧.answers hosts shelf.old) (λ hosts. ⟦<Shelf as Lent>⟧.answers hosts shelf.new) hearing.old.heard hearing.new.heard) }
     ensures can { OnOk result (CanSettle (scene graph.new (⟦<Shelf as Lent>⟧.asked shelf.new) notes.new.items)) }
     ensures counted { OnOk result (⟦<Shelf as Lent>⟧.counted shelf.new) }
+    ensures compared { OnOk result (AreCompared before.now hearing.new) }
 {
     for id in ids {
-        let outcome = hear(graph, shelf, heard, *id, notes)?;
-        if !before.had(*id, &outcome) {
+        if !hear_compared(graph, shelf, before, hearing, *id, notes)? {
             return Ok(false);
         }
     }
@@ -42,18 +44,19 @@ pub fn hear_again(
 }
 
 // The first names that were heard, so many of them.
-fn front(alloc: Global, before: &Outcomes, count: usize) -> Result<Outcomes, NoMemory>
+fn front(alloc: Global, before: &Outcomes, count: usize) -> Result<Rehearing, NoMemory>
     requires { count ≤ length before.now }
-    ensures { IfOk result (λ heard. heard ≡ take count before.now) }
+    ensures front { IfOk result (λ h. h.heard ≡ take count before.now) }
+    ensures compared { IfOk result (λ h. AreCompared before.now h) }
 {
     let _once = before.count();
-    let mut heard = Outcomes::new(alloc);
+    let mut hearing = Rehearing::new(alloc);
     for place in 0..count {
         let (id, outcome) = before.at(place);
         let outcome = outcome.copy()?;
-        heard.put(id, outcome)?;
+        hearing.put(id, outcome, true)?;
     }
-    Ok(heard)
+    Ok(hearing)
 }
 
 /// Hears all names that were heard before again, in their order, up to the first that has another outcome: what was heard then, or nothing where
@@ -67,13 +70,14 @@ pub fn hear_all_again(
     shelf: &mut Shelf,
     before: &Outcomes,
     notes: &mut Vec<RunNote>,
-) -> Result<Option<Outcomes>, NoMemory>
+) -> Result<Option<Rehearing>, NoMemory>
     requires can { CanSettle (scene graph.old (⟦<Shelf as Lent>⟧.asked shelf.old) notes.old.items) }
     requires counted { ⟦<Shelf as Lent>⟧.counted shelf.old }
-    ensures front { IfOk result (λ r. IfSome r (λ heard. IsFront before.now heard)) }
+    ensures front { IfOk result (λ r. IfSome r (λ h. IsFront before.now h.heard)) }
+    ensures compared { IfOk result (λ r. IfSome r (λ h. AreCompared before.now h)) }
     ensures after { IfOk result (λ r. Hears
         (scene graph.old (⟦<Shelf as Lent>⟧.asked shelf.old) notes.old.items) (scene graph.new (⟦<Shelf as Lent>⟧.asked shelf.new) notes.new.items)
-        (λ hosts. ⟦<Shelf as Lent>⟧.answers hosts shelf.old) (λ hosts. ⟦<Shelf as Lent>⟧.answers hosts shelf.new) [] (unwrap_or r before.now)) }
+        (λ hosts. ⟦<Shelf as Lent>⟧.answers hosts shelf.old) (λ hosts. ⟦<Shelf as Lent>⟧.answers hosts shelf.new) [] (heard_by r before.now)) }
     ensures can { OnOk result (CanSettle (scene graph.new (⟦<Shelf as Lent>⟧.asked shelf.new) notes.new.items)) }
     ensures counted { OnOk result (⟦<Shelf as Lent>⟧.counted shelf.new) }
 {
@@ -81,9 +85,9 @@ pub fn hear_all_again(
         let (id, was) = before.at(place);
         let outcome = settle_name(graph, shelf, id, notes)?;
         if !outcome.same(was) {
-            let mut heard = front(*notes.allocator(), before, place)?;
-            heard.put(id, outcome)?;
-            return Ok(Some(heard));
+            let mut hearing = front(*notes.allocator(), before, place)?;
+            hearing.put(id, outcome, false)?;
+            return Ok(Some(hearing));
         }
     }
     Ok(None)

@@ -16,6 +16,6 @@ pub changed_made : changed change.Made ≡ model.made
 unfolding changed
 changed_made = ap changed (sym rolls-Made) ∙ fold-roll-Change model.Change changed_node Change-F.Made
 
-pub changed_over : (inside later : _) → changed (change.Over inside later) ≡ model.over (chain (map changed inside.items)) (changed (box_value later))
+pub changed_over : (same inside later : _) → changed (change.Over same inside later) ≡ model.over same (chain (map changed inside.items)) (changed (box_value later))
 unfolding changed
-changed_over inside later = ap changed (sym (rolls-Over inside later)) ∙ fold-roll-Change model.Change changed_node (Change-F.Over inside later)
+changed_over same inside later = ap changed (sym (rolls-Over same inside later)) ∙ fold-roll-Change model.Change changed_node (Change-F.Over same inside later)

@@ -10,17 +10,17 @@ use Rattle.tpl_model.specs.Sources.{evaluating, same_here}
 use Rattle.tpl_hearing.specs.Hearing.{Outcomes}
 use Rattle.update_laws.specs.PageMemos.{PageMemo, line, element, branch, loop, row, hearing}
 use Rattle.tpl_listening.specs.Makings.{Agrees, lines_memo, table_in, truth_in}
-use Rattle.tpl_listening.specs.Renewals.{WasMade}
+use Rattle.tpl_listening.specs.Renewals.{WasListened, WasListenedAll, WasMade}
 use Rattle.tpl_listening.specs.declared.change.Change as code
 use Rattle.tpl_listening.specs.declared.change.Change.TheOpen.{Change-F}
 use Rattle.tpl_listening.specs.declared.change.Change.TheFolds.{fold-Change}
 
--- what became of lines: all of it stays, it was made anew, or the first line was heard again, with what became of its inside and of the lines
--- behind it; `also` and `nothing` are the parts of an inside, one after the other
+-- what became of lines: all of it stays, it was made anew, or the first line was heard again, with whether all its names have the outcomes of
+-- before, what became of its inside and of the lines behind it; `also` and `nothing` are the parts of an inside, one after the other
 pub data Change : Type 0 where
   stays : Change
   made : Change
-  over : (inside later : Change) → Change
+  over : (same : Bool) (inside later : Change) → Change
   also : (first others : Change) → Change
   nothing : Change
 
@@ -33,7 +33,7 @@ chain (c ∷ cs) = also c (chain cs)
 abbrev pub changed_node : Change-F Change → Change
 changed_node Change-F.Stays = stays
 changed_node Change-F.Made = made
-changed_node (Change-F.Over inside later) = over (chain inside.items) (box_value later)
+changed_node (Change-F.Over same inside later) = over same (chain inside.items) (box_value later)
 
 -- a change as the code has it
 unfoldable pub changed : code.Change → Change
@@ -57,10 +57,10 @@ is_stays c = false
 -- ---- what a change tells
 
 -- of lines that stay one thing, of lines that were made anew nothing, and of the others what is told of their parts
-abbrev pub told : Type 0 → (Change → Change → Type 0) → Change → Type 0
+abbrev pub told : Type 0 → (Bool → Change → Change → Type 0) → Change → Type 0
 told Same Parts stays = Same
 told Same Parts made = Unit {0}
-told Same Parts (over inside later) = Parts inside later
+told Same Parts (over same inside later) = Parts same inside later
 told Same Parts c = ⊥
 
 -- a test came to this truth on the outcomes of before
@@ -87,23 +87,25 @@ RowsTell Go (row here m next) (also c cs) = Go here m c × RowsTell Go next cs
 RowsTell Go (row here m next) c = ⊥
 RowsTell Go m c = Unit {0}
 
--- Lines that stay are kept now as they were made on the outcomes of before; of a branch that wasn't made anew the test had its truth before, and a
--- row that wasn't made anew stood among the rows of before.
+-- Lines that stay are kept now as they were made on the outcomes of before; a text or attributes whose names have the outcomes of before were heard
+-- so before; of a branch that wasn't made anew the test had its truth before, and a row that wasn't made anew stood among the rows of before.
 abbrev pub Tells : Block → List ℕ → Option RowRef → Outcomes → PageMemo → Change → Type 0
 Tells (text n f rest) links place before (line h r) c =
-    told (WasMade (lines_memo (text n f rest)) links place before (line h r)) (λ inside later. Tells rest links place before r later) c
+    told (WasMade (lines_memo (text n f rest)) links place before (line h r))
+    (λ same inside later. (same ≡ true → WasListened f links place before h) × Tells rest links place before r later) c
 Tells (tag n name xs inner rest) links place before (element hs i r) c =
     told (WasMade (lines_memo (tag n name xs inner rest)) links place before (element hs i r))
-    (λ inside later. Tells inner links place before i (first_in inside) × Tells rest links place before r later) c
+    (λ same inside later. (same ≡ true → WasListenedAll xs links place before hs)
+    × (Tells inner links place before i (first_in inside) × Tells rest links place before r later)) c
 Tells (choice f one other rest) links place before (branch h i r) c =
     told (WasMade (lines_memo (choice f one other rest)) links place before (branch h i r))
-    (λ inside later. (is_made (first_in inside) ≡ false → WasTrue f links place before (truth_in h.outcome))
+    (λ same inside later. (is_made (first_in inside) ≡ false → WasTrue f links place before (truth_in h.outcome))
     × (BranchTells (truth_in h.outcome) (Tells one links place before i (first_in inside)) (Tells other links place before i (first_in inside))
     × Tells rest links place before r later)) c
 Tells (each f inner rest) links place before (loop h i r) c =
     told (WasMade (lines_memo (each f inner rest)) links place before (loop h i r))
-    (λ inside later. RowsTell (λ (here : Here) (m : PageMemo) (d : Change). (is_made d ≡ false → WasRow f links place before here.row)
+    (λ same inside later. RowsTell (λ (here : Here) (m : PageMemo) (d : Change). (is_made d ≡ false → WasRow f links place before here.row)
     × Tells inner links (Some here.row) before m d) i inside × Tells rest links place before r later) c
 Tells (attempt first second rest) links place before m c =
-    told (WasMade (lines_memo (attempt first second rest)) links place before m) (λ inside later. Unit {0}) c
+    told (WasMade (lines_memo (attempt first second rest)) links place before m) (λ same inside later. Unit {0}) c
 Tells b links place before m c = Unit {0}

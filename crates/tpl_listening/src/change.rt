@@ -13,8 +13,9 @@ pub enum Change {
     Stays,
     /// It was made anew.
     Made,
-    /// The first line was heard again: what became of what is kept inside it, in order, and of what is kept behind it.
-    Over(Vec<Change>, Box<Change>),
+    /// The first line was heard again: whether all its names have the outcomes of before, what became of what is kept inside it, in order, and of what
+    /// is kept behind it.
+    Over(bool, Vec<Change>, Box<Change>),
 }
 
 impl Change {
@@ -34,15 +35,20 @@ impl Change {
         Change::Made
     }
 
-    /// The first line was heard again: what became of its inside, and of the lines behind it.
+    /// The first line was heard again: whether all its names have the outcomes of before, what became of its inside, and of the lines behind it.
     ///
     /// # Errors
     ///
     /// `NoMemory` alone.
     #[tactic(auto, using(crate::proofs::Equations::changed_over))]
-    pub fn over(alloc: Global, inside: Vec<Change>, later: Change) -> Result<Change, NoMemory>
-        ensures { IfOk result (λ c. changed c ≡ model.over (chain (map changed inside.items)) (changed later)) }
+    pub fn over(
+        alloc: Global,
+        same: bool,
+        inside: Vec<Change>,
+        later: Change,
+    ) -> Result<Change, NoMemory>
+        ensures { IfOk result (λ c. changed c ≡ model.over same (chain (map changed inside.items)) (changed later)) }
     {
-        Ok(Change::Over(inside, Box::new(alloc, later)?))
+        Ok(Change::Over(same, inside, Box::new(alloc, later)?))
     }
 }

@@ -5,14 +5,15 @@ use Rattle.std.proofs.lemmas.Bool.{false≢true}
 use Rattle.std.proofs.lemmas.List.{append-nil, length-map, take-append-drop, take_more}
 use Rattle.std.proofs.lemmas.Option.{get_or_from_slice_get, slice_get-map, slice_get_within}
 use Rattle.std.specs.List.{take-map}
-use Rattle.std.specs.Prelude.{unwrap_or, IfSome}
+use Rattle.std.specs.Prelude.{IfSome}
 use Rattle.sig_base.specs.declared.value.Outcome.{Outcome}
 use Rattle.signal_model.specs.Recipes.{Hosts}
 use Rattle.signal_model.specs.Standing.{is_in}
 use Rattle.signal_laws.proofs.Shared.{firsts_hold_law, in_head, in_tail}
 use Rattle.tpl_model.specs.Sources.{firsts}
 use Rattle.tpl_hearing.specs.Hearing.{Grows, Hears, Outcomes, Scene, heard_of}
-use Rattle.tpl_hearing.specs.HeardAgain.{AreAsBefore, AreSame, AreSameUpTo, IsFront}
+use Rattle.tpl_hearing.specs.HeardAgain.{AreAsBefore, AreCompared, AreSame, AreSameUpTo, IsFront, heard_by}
+use Rattle.tpl_hearing.specs.declared.rehearing.Rehearing.{Rehearing}
 use Rattle.tpl_hearing.proofs.Shared.{keys_append, still_heard}
 use Rattle.tpl_live.proofs.Sourced.{firsts_are, names_read}
 
@@ -117,15 +118,21 @@ same_up_to xs before now names f =
 -- ---- as the code has it
 
 -- all of before was heard where none has changed
-pub all_heard : (x y : Scene) (before after : Hosts → Type 0) (r : Option Outcomes) (was : Outcomes) → r ≡ None →
-    Hears x y before after [] (unwrap_or r was) → Hears x y before after [] was
-all_heard x y before after r was e h = subst (λ (z : Option Outcomes). Hears x y before after [] (unwrap_or z was)) e h
+pub all_heard : (x y : Scene) (before after : Hosts → Type 0) (r : Option Rehearing) (was : Outcomes) → r ≡ None →
+    Hears x y before after [] (heard_by r was) → Hears x y before after [] was
+all_heard x y before after r was e h = subst (λ (z : Option Rehearing). Hears x y before after [] (heard_by z was)) e h
 
 -- and otherwise what was noted
-pub front_heard : (x y : Scene) (before after : Hosts → Type 0) (r : Option Outcomes) (was front : Outcomes) → r ≡ Some front →
-    Hears x y before after [] (unwrap_or r was) → Hears x y before after [] front
-front_heard x y before after r was front e h = subst (λ (z : Option Outcomes). Hears x y before after [] (unwrap_or z was)) e h
+pub front_heard : (x y : Scene) (before after : Hosts → Type 0) (r : Option Rehearing) (was : Outcomes) (front : Rehearing) → r ≡ Some front →
+    Hears x y before after [] (heard_by r was) → Hears x y before after [] front.heard
+front_heard x y before after r was front e h = subst (λ (z : Option Rehearing). Hears x y before after [] (heard_by z was)) e h
 
 -- which is a front of it
-pub found_front : (r : Option Outcomes) (before front : Outcomes) → r ≡ Some front → IfSome r (λ (h : Outcomes). IsFront before h) → IsFront before front
-found_front r before front e f = subst (λ z. IfSome z (λ (h : Outcomes). IsFront before h)) e f
+pub found_front : (r : Option Rehearing) (before : Outcomes) (front : Rehearing) → r ≡ Some front → IfSome r (λ (h : Rehearing). IsFront before h.heard) →
+    IsFront before front.heard
+found_front r before front e f = subst (λ z. IfSome z (λ (h : Rehearing). IsFront before h.heard)) e f
+
+-- of which is known which names have the outcomes of before
+pub found_compared : (r : Option Rehearing) (before : Outcomes) (front : Rehearing) → r ≡ Some front → IfSome r (λ (h : Rehearing). AreCompared before h) →
+    AreCompared before front
+found_compared r before front e f = subst (λ z. IfSome z (λ (h : Rehearing). AreCompared before h)) e f

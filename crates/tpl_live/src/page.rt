@@ -25,7 +25,7 @@ use sig_computed::RunNote;
 use sig_host::{Lent, Shelf};
 use sig_nodes::Graph;
 use tpl_blocks::{Block, block_of};
-use tpl_hearing::{Outcomes, hear_all_again};
+use tpl_hearing::{Outcomes, Rehearing, hear_all_again};
 use tpl_making::make;
 use tpl_marks::PageNodes;
 use tpl_memos::PageMemo;
@@ -162,26 +162,26 @@ impl Page {
         let Some(front) = hear_all_again(graph, shelf, &self.heard, notes)? else {
             return Ok(Vec::new(alloc));
         };
-        let mut heard_now = front;
+        let mut hearing = front;
         let was = Box::replace(&mut self.memo, PageMemo::blank());
         let fresh = renew(
             alloc,
             graph,
             shelf,
             &self.heard,
-            &mut heard_now,
+            &mut hearing,
             &self.lines,
             was,
-            false,
             &self.links,
             None,
             notes,
         )?;
         let renewed = Box::new(alloc, fresh)?;
-        heard_now.good();
+        hearing.heard.good();
         let ops = carry(alloc, &self.lines, &renewed, &mut self.nodes)?;
         let memo = Box::new(alloc, memo_in(renewed))?;
-        self.heard = heard_now;
+        let Rehearing { heard, .. } = hearing;
+        self.heard = heard;
         self.memo = memo;
         Ok(ops)
     }

@@ -18,7 +18,7 @@ use Rattle.tpl_hearing.specs.Hearing.{Outcomes}
 use Rattle.tpl_memos.specs.Kept.{heard_of, kept, rows_from, rows_of}
 use Rattle.update_laws.specs.PageMemos.{Heard, PageMemo, unread, blank, line, element, branch, loop, row, either}
 use Rattle.tpl_listening.specs.Makings.{lines_memo, table_in, truth_in}
-use Rattle.tpl_listening.specs.Renewals.{WasListened, WasMade, is_unread}
+use Rattle.tpl_listening.specs.Renewals.{WasListened, WasListenedAll, WasMade, is_unread}
 use Rattle.tpl_listening.proofs.Shared.{mapped_put}
 use Rattle.tpl_listening.specs.Changes.{Change, stays, made, over, chain, changed, first_in, is_made, told, BranchTells, RowsTell, Tells, WasRow, WasTrue}
 use Rattle.tpl_listening.specs.declared.change.Change as code
@@ -34,11 +34,11 @@ use Rattle.tpl_renewing.specs.declared.parts.First.TheVariants as start
 
 -- what tells of lines whichever parts they have
 tells_whole : (b : Block) (links : List ℕ) (at : Option RowRef) (before : Outcomes) (m : PageMemo) (c : Change) →
-    ((Parts : Change → Change → Type 0) → told (WasMade (lines_memo b) links at before m) Parts c) → Tells b links at before m c
+    ((Parts : Bool → Change → Change → Type 0) → told (WasMade (lines_memo b) links at before m) Parts c) → Tells b links at before m c
 tells_whole empty links at before m c x = tt
 tells_whole (text n f rest) links at before unread c x = tt
 tells_whole (text n f rest) links at before blank c x = tt
-tells_whole (text n f rest) links at before (line h r) c x = x (λ inside later. Tells rest links at before r later)
+tells_whole (text n f rest) links at before (line h r) c x = x (λ same inside later. (same ≡ true → WasListened f links at before h) × Tells rest links at before r later)
 tells_whole (text n f rest) links at before (element hs i r) c x = tt
 tells_whole (text n f rest) links at before (branch h i r) c x = tt
 tells_whole (text n f rest) links at before (loop h i r) c x = tt
@@ -48,7 +48,8 @@ tells_whole (tag n name xs inner rest) links at before unread c x = tt
 tells_whole (tag n name xs inner rest) links at before blank c x = tt
 tells_whole (tag n name xs inner rest) links at before (line h r) c x = tt
 tells_whole (tag n name xs inner rest) links at before (element hs i r) c x =
-    x (λ inside later. Tells inner links at before i (first_in inside) × Tells rest links at before r later)
+    x (λ same inside later. (same ≡ true → WasListenedAll xs links at before hs)
+    × (Tells inner links at before i (first_in inside) × Tells rest links at before r later))
 tells_whole (tag n name xs inner rest) links at before (branch h i r) c x = tt
 tells_whole (tag n name xs inner rest) links at before (loop h i r) c x = tt
 tells_whole (tag n name xs inner rest) links at before (row h i r) c x = tt
@@ -58,7 +59,7 @@ tells_whole (choice f one other rest) links at before blank c x = tt
 tells_whole (choice f one other rest) links at before (line h r) c x = tt
 tells_whole (choice f one other rest) links at before (element hs i r) c x = tt
 tells_whole (choice f one other rest) links at before (branch h i r) c x =
-    x (λ inside later. (is_made (first_in inside) ≡ false → WasTrue f links at before (truth_in h.outcome))
+    x (λ same inside later. (is_made (first_in inside) ≡ false → WasTrue f links at before (truth_in h.outcome))
     × (BranchTells (truth_in h.outcome) (Tells one links at before i (first_in inside)) (Tells other links at before i (first_in inside))
     × Tells rest links at before r later))
 tells_whole (choice f one other rest) links at before (loop h i r) c x = tt
@@ -70,11 +71,11 @@ tells_whole (each f inner rest) links at before (line h r) c x = tt
 tells_whole (each f inner rest) links at before (element hs i r) c x = tt
 tells_whole (each f inner rest) links at before (branch h i r) c x = tt
 tells_whole (each f inner rest) links at before (loop h i r) c x =
-    x (λ inside later. RowsTell (λ (here : Here) (m : PageMemo) (d : Change). (is_made d ≡ false → WasRow f links at before here.row)
+    x (λ same inside later. RowsTell (λ (here : Here) (m : PageMemo) (d : Change). (is_made d ≡ false → WasRow f links at before here.row)
     × Tells inner links (Some here.row) before m d) i inside × Tells rest links at before r later)
 tells_whole (each f inner rest) links at before (row h i r) c x = tt
 tells_whole (each f inner rest) links at before (either a d r) c x = tt
-tells_whole (attempt one other rest) links at before m c x = x (λ inside later. Unit {0})
+tells_whole (attempt one other rest) links at before m c x = x (λ same inside later. Unit {0})
 
 -- lines that are made
 pub made_told : (b : Block) (links : List ℕ) (at : Option RowRef) (before : Outcomes) (was m : PageMemo) (c : Change) → c ≡ made →
@@ -219,46 +220,51 @@ loop_told (Bad e) f inner links at before was ms cs w x = tt
 
 -- ---- a line that is heard again
 
-line_told : (b : Block) (links : List ℕ) (at : Option RowRef) (before a c : Outcomes) (h : Head) (ins lat is rs : List PageMemo) (cs ds : List Change) →
-    Opens b links at a c h → WasKnown b links at before h ins → AreTold (inner_in b (shows_first h)) links (places_in h at) before ins is cs →
-    AreTold (rest_in b) links (behind h at) before lat rs ds → Tells b links at before (closed h is rs) (over (chain cs) (last_change ds))
-line_told empty links at before a c h ins lat is rs cs ds o k inside later = tt
-line_told (text n f rest) links at before a c h ins lat is rs cs ds o k inside later =
-    subst (λ z. Tells (text n f rest) links at before (closed z is rs) (over (chain cs) (last_change ds))) (sym o.1.0)
-    (alone_told rest links at before lat rs ds (subst (λ z. AreTold rest links (behind z at) before lat rs ds) o.1.0 later)).tells
-line_told (tag n name xs inner rest) links at before a c h ins lat is rs cs ds o k inside later =
+line_told : (b : Block) (links : List ℕ) (at : Option RowRef) (before a c : Outcomes) (h : Head) (same : Bool) (ins lat is rs : List PageMemo) (cs ds : List Change) →
+    Opens b links at a c h → WasKnown b links at before h ins → (same ≡ true → WasOpened b links at before h) → AreTold (inner_in b (shows_first h)) links (places_in h at) before ins is cs →
+    AreTold (rest_in b) links (behind h at) before lat rs ds → Tells b links at before (closed h is rs) (over same (chain cs) (last_change ds))
+line_told empty links at before a c h same ins lat is rs cs ds o k w inside later = tt
+line_told (text n f rest) links at before a c h same ins lat is rs cs ds o k w inside later =
+    subst (λ z. Tells (text n f rest) links at before (closed z is rs) (over same (chain cs) (last_change ds))) (sym o.1.0) (
+      subst (λ z. same ≡ true → WasOpened (text n f rest) links at before z) o.1.0 w,
+      (alone_told rest links at before lat rs ds (subst (λ z. AreTold rest links (behind z at) before lat rs ds) o.1.0 later)).tells,
+    )
+line_told (tag n name xs inner rest) links at before a c h same ins lat is rs cs ds o k w inside later =
     let i = subst (λ z. AreTold (inner_in (tag n name xs inner rest) (shows_first z)) links (places_in z at) before ins is cs) o.1.0 inside in
-    subst (λ z. Tells (tag n name xs inner rest) links at before (closed z is rs) (over (chain cs) (last_change ds))) (sym o.1.0) (
-      (first_told inner links at before ins is cs i).tells,
-      (alone_told rest links at before lat rs ds (subst (λ z. AreTold rest links (behind z at) before lat rs ds) o.1.0 later)).tells,
+    subst (λ z. Tells (tag n name xs inner rest) links at before (closed z is rs) (over same (chain cs) (last_change ds))) (sym o.1.0) (
+      subst (λ z. same ≡ true → WasOpened (tag n name xs inner rest) links at before z) o.1.0 w,
+      (
+        (first_told inner links at before ins is cs i).tells,
+        (alone_told rest links at before lat rs ds (subst (λ z. AreTold rest links (behind z at) before lat rs ds) o.1.0 later)).tells,
+      ),
     )
-line_told (choice f one other rest) links at before a c h ins lat is rs cs ds o k inside later =
-    let w = subst (λ z. WasKnown (choice f one other rest) links at before z ins) o.1.0 k in
+line_told (choice f one other rest) links at before a c h same ins lat is rs cs ds o k w inside later =
+    let known = subst (λ z. WasKnown (choice f one other rest) links at before z ins) o.1.0 k in
     let i = subst (λ z. AreTold (inner_in (choice f one other rest) (shows_first z)) links (places_in z at) before ins is cs) o.1.0 inside in
-    let t = branch_told (truth_in (o.0).outcome) f one other rest links at before ins is cs w i in
-    subst (λ z. Tells (choice f one other rest) links at before (closed z is rs) (over (chain cs) (last_change ds))) (sym o.1.0)
+    let t = branch_told (truth_in (o.0).outcome) f one other rest links at before ins is cs known i in
+    subst (λ z. Tells (choice f one other rest) links at before (closed z is rs) (over same (chain cs) (last_change ds))) (sym o.1.0)
     (t.0, (t.1, (alone_told rest links at before lat rs ds (subst (λ z. AreTold rest links (behind z at) before lat rs ds) o.1.0 later)).tells))
-line_told (each f inner rest) links at before a c h ins lat is rs cs ds o k inside later =
-    let w = subst (λ z. WasKnown (each f inner rest) links at before z ins) o.1.0 k in
+line_told (each f inner rest) links at before a c h same ins lat is rs cs ds o k w inside later =
+    let known = subst (λ z. WasKnown (each f inner rest) links at before z ins) o.1.0 k in
     let i = subst (λ z. AreTold (inner_in (each f inner rest) (shows_first z)) links (places_in z at) before ins is cs) o.1.0 inside in
-    subst (λ z. Tells (each f inner rest) links at before (closed z is rs) (over (chain cs) (last_change ds))) (sym o.1.0) (
-      loop_told (o.0).outcome f inner links at before ins is cs w i,
+    subst (λ z. Tells (each f inner rest) links at before (closed z is rs) (over same (chain cs) (last_change ds))) (sym o.1.0) (
+      loop_told (o.0).outcome f inner links at before ins is cs known i,
       (alone_told rest links at before lat rs ds (subst (λ z. AreTold rest links (behind z at) before lat rs ds) o.1.0 later)).tells,
     )
-line_told (attempt one other rest) links at before a c h ins lat is rs cs ds o k inside later = absurd o
+line_told (attempt one other rest) links at before a c h same ins lat is rs cs ds o k w inside later = absurd o
 
 -- ---- one turn
 
 -- lines in the first of some rows
-begun_told : (b : Block) (links : List ℕ) (at : Option RowRef) (before a c : Outcomes) (first : First) (was : PageMemo) (ins lat is rs : List PageMemo)
-    (cs ds : List Change) → Begins b links at before a c first ins lat → BeginsTold b links at before was first ins →
+begun_told : (b : Block) (links : List ℕ) (at : Option RowRef) (before a c : Outcomes) (first : First) (same : Bool) (was : PageMemo) (ins lat is rs : List PageMemo)
+    (cs ds : List Change) → Begins b links at before a c first ins lat → BeginsTold b links at before was first same ins →
     AreTold (inner_in b (shows_of first)) links (places_of first at) before ins is cs →
     AreTold (rest_in b) links (behind_of first at) before lat rs ds →
-    IsTold b links at before was (kept_of first is rs) (changed_of first cs ds)
-begun_told b links at before a c (start.Whole x) was ins lat is rs cs ds begins k inside later = k
-begun_told b links at before a c (start.Line h) was ins lat is rs cs ds begins k inside later = record {
+    IsTold b links at before was (kept_of first is rs) (changed_of first same cs ds)
+begun_told b links at before a c (start.Whole x) same was ins lat is rs cs ds begins k inside later = k
+begun_told b links at before a c (start.Line h) same was ins lat is rs cs ds begins k inside later = record {
   known = λ u. k.0;
-  tells = line_told b links at before begins.mid c h ins lat is rs cs ds begins.opens k.1 inside later;
+  tells = line_told b links at before begins.mid c h same ins lat is rs cs ds begins.opens k.1.0 k.1.1 inside later;
 }
 
 -- what was put where there was nothing
@@ -282,44 +288,47 @@ none_told b links [] before was dones changes e = record {
 none_told b links (r ∷ rs) before was dones changes e = absurd (omega (arith, e))
 
 -- lines in the first of some rows, and then in the others
-pub turn_told : (b : Block) (links : List ℕ) (rows : List (Option RowRef)) (at : Option RowRef) (others : List (Option RowRef)) (first : First)
+pub turn_told : (b : Block) (links : List ℕ) (rows : List (Option RowRef)) (at : Option RowRef) (others : List (Option RowRef)) (first : First) (same : Bool)
     (before a c : Outcomes) (inner rest : Block) (shows : Bool) (places behinds : List (Option RowRef)) (m : PageMemo)
     (was left ins lat none is nil rs dones put after : List PageMemo) (start_cs cs start_ds ds changes added became : List Change) → rows ≡ at ∷ others →
-    Begins b links at before a c first ins lat → BeginsTold b links at before m first ins → m ≡ first_of was → left ≡ later_of was →
+    Begins b links at before a c first ins lat → BeginsTold b links at before m first same ins → m ≡ first_of was → left ≡ later_of was →
     shows ≡ shows_of first → inner ≡ inner_in b shows → places ≡ places_of first at → rest ≡ rest_in b → behinds ≡ behind_of first at → none ≡ [] →
     nil ≡ [] → start_cs ≡ [] → start_ds ≡ [] → TellsEach inner links places before ins none is start_cs cs → TellsEach rest links behinds before lat nil rs start_ds ds →
-    put ≡ dones ++ kept_of first is rs ∷ [] → added ≡ changes ++ changed_of first cs ds ∷ [] →
+    put ≡ dones ++ kept_of first is rs ∷ [] → added ≡ changes ++ changed_of first same cs ds ∷ [] →
     TellsEach b links others before left put after added became → TellsEach b links rows before was dones after changes became
-turn_told b links rows at others first before a c inner rest shows places behinds m was left ins lat none is nil rs dones put after start_cs cs start_ds ds changes
+turn_told b links rows at others first same before a c inner rest shows places behinds m was left ins lat none is nil rs dones put after start_cs cs start_ds ds changes
     added became split begins k em ek ef ei ep er el e0 e1 e2 e3 inside laters es ec others_told =
     let i : AreTold (inner_in b (shows_of first)) links (places_of first at) before ins is cs =
     subst (λ y. y) (λ j. AreTold ((ei ∙ ap (inner_in b) ef) j) links (ep j) before ins is cs)
     (from_none inner links places before ins none is start_cs cs e0 e2 inside) in
     let r : AreTold (rest_in b) links (behind_of first at) before lat rs ds =
     subst (λ y. y) (λ j. AreTold (er j) links (el j) before lat rs ds) (from_none rest links behinds before lat nil rs start_ds ds e1 e3 laters) in
-    let one : IsTold b links at before (first_of was) (kept_of first is rs) (changed_of first cs ds) =
-    subst (λ z. IsTold b links at before z (kept_of first is rs) (changed_of first cs ds)) em
-    (begun_told b links at before a c first m ins lat is rs cs ds begins k i r) in
+    let one : IsTold b links at before (first_of was) (kept_of first is rs) (changed_of first same cs ds) =
+    subst (λ z. IsTold b links at before z (kept_of first is rs) (changed_of first same cs ds)) em
+    (begun_told b links at before a c first same m ins lat is rs cs ds begins k i r) in
     let next : AreTold b links others before (later_of was) others_told.memos others_told.became =
     subst (λ z. AreTold b links others before z others_told.memos others_told.became) ek others_told.told in
     record {
       memos = kept_of first is rs ∷ others_told.memos;
-      became = changed_of first cs ds ∷ others_told.became;
+      became = changed_of first same cs ds ∷ others_told.became;
       put = others_told.put ∙ (ap (λ z. z ++ others_told.memos) es ∙ append_assoc dones (kept_of first is rs ∷ []) others_told.memos);
-      added = others_told.added ∙ (ap (λ z. z ++ others_told.became) ec ∙ append_assoc changes (changed_of first cs ds ∷ []) others_told.became);
-      told = subst (λ z. AreTold b links z before was (kept_of first is rs ∷ others_told.memos) (changed_of first cs ds ∷ others_told.became)) (sym split)
+      added = others_told.added ∙ (ap (λ z. z ++ others_told.became) ec ∙ append_assoc changes (changed_of first same cs ds ∷ []) others_told.became);
+      told = subst (λ z. AreTold b links z before was (kept_of first is rs ∷ others_told.memos) (changed_of first same cs ds ∷ others_told.became)) (sym split)
           (one, next);
     }
 
 -- ---- as the code has it
 
-pub whole_told : (b : Block) (links : List ℕ) (at : Option RowRef) (before : Outcomes) (was : PageMemo) (first : First) (m k : _) (ins : List PageMemo) →
-    first ≡ start.Whole (record { memo = m; change = k }) → IsTold b links at before was (kept m) (changed k) → BeginsTold b links at before was first ins
-whole_told b links at before was first m k ins e x = subst (λ z. BeginsTold b links at before was z ins) (sym e) x
+pub whole_told : (b : Block) (links : List ℕ) (at : Option RowRef) (before : Outcomes) (was : PageMemo) (first : First) (same : Bool) (m k : _)
+    (ins : List PageMemo) → first ≡ start.Whole (record { memo = m; change = k }) → IsTold b links at before was (kept m) (changed k) →
+    BeginsTold b links at before was first same ins
+whole_told b links at before was first same m k ins e x = subst (λ z. BeginsTold b links at before was z same ins) (sym e) x
 
-pub heard_told : (b : Block) (links : List ℕ) (at : Option RowRef) (before : Outcomes) (was : PageMemo) (first : First) (h : Head) (ins : List PageMemo) →
-    first ≡ start.Line h → is_unread was ≡ false → WasKnown b links at before h ins → BeginsTold b links at before was first ins
-heard_told b links at before was first h ins e u k = subst (λ z. BeginsTold b links at before was z ins) (sym e) (u, k)
+pub heard_told : (b : Block) (links : List ℕ) (at : Option RowRef) (before : Outcomes) (was : PageMemo) (first : First) (h : Head) (same is : Bool)
+    (ins : List PageMemo) → first ≡ start.Line h → same ≡ is → is_unread was ≡ false → WasKnown b links at before h ins →
+    (is ≡ true → WasOpened b links at before h) → BeginsTold b links at before was first same ins
+heard_told b links at before was first h same is ins e i u k w =
+    subst (λ z. BeginsTold b links at before was z same ins) (sym e) (u, (k, (λ j. w (sym i ∙ j))))
 
 -- what became of lines in one row
 pub one_told : (b : Block) (links : List ℕ) (rows : List (Option RowRef)) (at : Option RowRef) (before : Outcomes) (was none ms : List PageMemo)

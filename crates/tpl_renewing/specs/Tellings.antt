@@ -1,5 +1,5 @@
 -- What became of what was kept of lines that are brought up to date, and what is known of before where they are gone over again.
-use Rattle.std.specs.Prelude.{◌≡◌, ℕ, false, List, [], ◌∷◌, ◌++◌, length, Option, IfSome}
+use Rattle.std.specs.Prelude.{◌≡◌, ℕ, Bool, true, false, List, [], ◌∷◌, ◌++◌, length, Option, IfSome}
 use Rattle.sig_formula.specs.Trees.{Tree}
 use Rattle.sig_formula.specs.declared.formula.RowRef.{RowRef}
 use Rattle.tpl_model.specs.Lines.{Block, choice, each}
@@ -12,7 +12,7 @@ use Rattle.tpl_listening.specs.Changes.{Change, made, over, chain, changed, is_m
 use Rattle.tpl_making.specs.declared.head.Head.{Head}
 use Rattle.tpl_making.specs.declared.head.Head.TheVariants as head
 use Rattle.tpl_making.specs.Heads.{places_from}
-use Rattle.tpl_renewing.specs.Turns.{first_of, later_of}
+use Rattle.tpl_renewing.specs.Turns.{first_of, later_of, WasOpened}
 use Rattle.tpl_renewing.specs.declared.parts.First.{First}
 use Rattle.tpl_renewing.specs.declared.parts.First.TheVariants as start
 
@@ -25,9 +25,9 @@ last_change (c ∷ []) = c
 last_change (c ∷ d ∷ cs) = last_change (d ∷ cs)
 
 -- what became of all lines
-abbrev pub changed_of : First → List Change → List Change → Change
-changed_of (start.Whole x) inside later = changed x.change
-changed_of (start.Line h) inside later = over (chain inside) (last_change later)
+abbrev pub changed_of : First → Bool → List Change → List Change → Change
+changed_of (start.Whole x) same inside later = changed x.change
+changed_of (start.Line h) same inside later = over same (chain inside) (last_change later)
 
 -- what became of lines in one row tells of before, and where nothing was kept they were made anew
 pub record IsTold (b : Block) (links : List ℕ) (row : Option RowRef) (before : Outcomes) (was m : PageMemo) (c : Change) : Type 0 where
@@ -65,7 +65,8 @@ WasKnown (each f inner rest) links row before (head.Each h) ms =
     WereRows f links row before (places_from (table_in h.outcome) 0 (length (table_in h.outcome).rows)) ms
 WasKnown b links row before h ms = Unit {0}
 
--- what became of lines is told, or their first is heard again where something was kept
-abbrev pub BeginsTold : Block → List ℕ → Option RowRef → Outcomes → PageMemo → First → List PageMemo → Type 0
-BeginsTold b links row before was (start.Whole x) ms = IsTold b links row before was (kept x.memo) (changed x.change)
-BeginsTold b links row before was (start.Line h) ms = (is_unread was ≡ false) × WasKnown b links row before h ms
+-- what became of lines is told, or their first is heard again where something was kept, as it was heard before if all its names are as before
+abbrev pub BeginsTold : Block → List ℕ → Option RowRef → Outcomes → PageMemo → First → Bool → List PageMemo → Type 0
+BeginsTold b links row before was (start.Whole x) same ms = IsTold b links row before was (kept x.memo) (changed x.change)
+BeginsTold b links row before was (start.Line h) same ms =
+    (is_unread was ≡ false) × (WasKnown b links row before h ms × (same ≡ true → WasOpened b links row before h))

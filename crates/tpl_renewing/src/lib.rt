@@ -1,6 +1,7 @@
 //! What a page keeps of its lines, brought up to date by what changed.
 #![tactic(auto)]
 
+mod looking;
 mod naming;
 mod parts;
 mod renewing;

@@ -37,10 +37,11 @@ pub(crate) enum First {
 }
 
 /// Lines that are brought up to date: what is kept of them next, where those inside the first of them are gone over, what was kept inside
-/// it and behind it, what is kept there next, and what became of what was kept there.
+/// it and behind it, what is kept there next, and what became of what was kept there; and whether all names of the first have the outcomes of before.
 #[derive(Drop)]
 pub(crate) struct Turn {
     pub first: Box<First>,
+    pub same: bool,
     pub places: Vec<Option<RowRef>>,
     pub inside_was: VecDeque<PageMemo>,
     pub later_was: VecDeque<PageMemo>,
@@ -242,6 +243,7 @@ pub(crate) fn whole(alloc: Global, memo: PageMemo, change: Change) -> Result<Tur
     let first = Box::new(alloc, First::Whole(Renewed { memo, change }))?;
     Ok(Turn {
         first,
+        same: true,
         places: Vec::new(alloc),
         inside_was: VecDeque::new(alloc),
         later_was: VecDeque::new(alloc),
@@ -252,7 +254,8 @@ pub(crate) fn whole(alloc: Global, memo: PageMemo, change: Change) -> Result<Tur
     })
 }
 
-/// The first line was heard again, in the row where it stands; `was` is what its test or its rows came to before.
+/// The first line was heard again, in the row where it stands, and whether all its names have the outcomes of before; `was` is what its test or its
+/// rows came to before.
 ///
 /// # Errors
 ///
@@ -261,11 +264,13 @@ pub(crate) fn taken_up(
     alloc: Global,
     was: &Outcome,
     head: Box<Head>,
+    same: bool,
     inside: Vec<PageMemo>,
     later: Box<PageMemo>,
     row: Option<&RowRef>,
 ) -> Result<Turn, NoMemory>
     ensures first { IfOk result (λ t. t.first.value ≡ start.Line head.value) }
+    ensures same { IfOk result (λ t. t.same ≡ same) }
     ensures places { IfOk result (λ t. t.places.items ≡ places_in head.value (option_copied row.entry)) }
     ensures inside_was { IfOk result (λ t. ServeInside was.now head.value (map kept inside.items) (map kept t.inside_was.items)) }
     ensures later_was { IfOk result (λ t. map kept t.later_was.items ≡ kept later.value ∷ []) }
@@ -280,6 +285,7 @@ pub(crate) fn taken_up(
     let first = Box::new(alloc, First::Line(Box::into_inner(head)))?;
     Ok(Turn {
         first,
+        same,
         places,
         inside_was,
         later_was,
@@ -324,13 +330,14 @@ pub(crate) fn last_change(changes: Vec<Change>) -> Change
 // Puts what became of lines behind what became of others.
 fn put_over(
     alloc: Global,
+    same: bool,
     inside: Vec<Change>,
     later: Vec<Change>,
     changes: &mut Vec<Change>,
 ) -> Result<(), NoMemory>
-    ensures { OnOk result (map changed changes.new.items ≡ map changed changes.old.items ++ over (chain (map changed inside.items)) (last_change (map changed later.items)) ∷ []) }
+    ensures { OnOk result (map changed changes.new.items ≡ map changed changes.old.items ++ over same (chain (map changed inside.items)) (last_change (map changed later.items)) ∷ []) }
 {
-    let change = Change::over(alloc, inside, last_change(later))?;
+    let change = Change::over(alloc, same, inside, last_change(later))?;
     changes.push(change)?;
     Ok(())
 }
@@ -347,10 +354,11 @@ pub(crate) fn put_turn(
     changes: &mut Vec<Change>,
 ) -> Result<(), NoMemory>
     ensures kept { OnOk result (map kept done.new.items ≡ map kept done.old.items ++ kept_of turn.first.value (map kept turn.inside.items) (map kept turn.later.items) ∷ []) }
-    ensures changed { OnOk result (map changed changes.new.items ≡ map changed changes.old.items ++ changed_of turn.first.value (map changed turn.inside_changes.items) (map changed turn.later_changes.items) ∷ []) }
+    ensures changed { OnOk result (map changed changes.new.items ≡ map changed changes.old.items ++ changed_of turn.first.value turn.same (map changed turn.inside_changes.items) (map changed turn.later_changes.items) ∷ []) }
 {
     let Turn {
         first,
+        same,
         places: _places,
         inside_was: _inside_was,
         later_was: _later_was,
@@ -367,7 +375,7 @@ pub(crate) fn put_turn(
         }
         First::Line(head) => {
             put_closed(alloc, head, inside, later, done)?;
-            put_over(alloc, inside_changes, later_changes, changes)?;
+            put_over(alloc, same, inside_changes, later_changes, changes)?;
             Ok(())
         }
     }

@@ -1,10 +1,10 @@
 // What is kept of lines, brought up to date.
-ghost use Rattle.std.specs.Prelude.{◌≡◌, ◌<◌, ◌^◌, [], length, map, IfOk, IfSome, OnOk};
+ghost use Rattle.std.specs.Prelude.{◌≡◌, ◌<◌, ◌^◌, [], length, map, true, IfOk, IfSome, OnOk};
 ghost use Rattle.std.specs.Option.{option_copied};
 ghost use Rattle.update_laws.specs.PageMemos.{names};
 ghost use Rattle.tpl_blocks.specs.Blocks.{block};
 ghost use Rattle.tpl_hearing.specs.Hearing.{scene, CanSettle, Hears};
-ghost use Rattle.tpl_hearing.specs.HeardAgain.{AreHeardAgain};
+ghost use Rattle.tpl_hearing.specs.HeardAgain.{AreCompared, AreHeardAgain};
 ghost use Rattle.tpl_memos.specs.Kept.{kept};
 ghost use Rattle.tpl_listening.specs.Makings.{lines_memo, Makes};
 ghost use Rattle.tpl_listening.specs.Renewals.{AreLooked, WasMadeIfRead};
@@ -13,6 +13,7 @@ ghost use Rattle.tpl_listening.specs.Changes.{changed, Tells};
 ghost use Rattle.tpl_renewing.specs.Tellings.{BeginsTold, TellsEach};
 ghost use Rattle.tpl_renewing.specs.Turns.{places_of, Begins, WasOpened, WereEach};
 
+use crate::looking::{Look, hears_first, look_behind, look_inside};
 use crate::naming::put_names;
 use crate::parts::{
     Parts, Renewed, Turn, apart, behind_of, last_change, next_kept, outcome_of, put_turn, shows_of,
@@ -27,7 +28,7 @@ use std::alloc::Global;
 use std::collections::VecDeque;
 use std::slice;
 use tpl_blocks::Block;
-use tpl_hearing::{Outcomes, hear_again};
+use tpl_hearing::{Outcomes, Rehearing, hear_again};
 use tpl_listening::{Change, listen_again, listen_all_again};
 use tpl_making::{Head, inner_of, last, lent_row, make, own_row, rest_of};
 use tpl_memos::PageMemo;
@@ -42,22 +43,24 @@ pub fn names_stay(
     graph: &mut Graph,
     shelf: &mut Shelf,
     before: &Outcomes,
-    heard: &mut Outcomes,
+    hearing: &mut Rehearing,
     memo: &PageMemo,
     notes: &mut Vec<RunNote>,
 ) -> Result<bool, NoMemory>
     requires can { CanSettle (scene graph.old (⟦<Shelf as Lent>⟧.asked shelf.old) notes.old.items) }
     requires counted { ⟦<Shelf as Lent>⟧.counted shelf.old }
-    ensures again { IfOk result (λ same. AreHeardAgain same before.now (names (kept memo.now)) heard.old heard.new) }
+    requires compared { AreCompared before.now hearing.old }
+    ensures again { IfOk result (λ same. AreHeardAgain same before.now (names (kept memo.now)) hearing.old.heard hearing.new.heard) }
     ensures after { OnOk result (Hears
         (scene graph.old (⟦<Shelf as Lent>⟧.asked shelf.old) notes.old.items) (scene graph.new (⟦<Shelf as Lent>⟧.asked shelf.new) notes.new.items)
-        (λ hosts. ⟦<Shelf as Lent>⟧.answers hosts shelf.old) (λ hosts. ⟦<Shelf as Lent>⟧.answers hosts shelf.new) heard.old heard.new) }
+        (λ hosts. ⟦<Shelf as Lent>⟧.answers hosts shelf.old) (λ hosts. ⟦<Shelf as Lent>⟧.answers hosts shelf.new) hearing.old.heard hearing.new.heard) }
     ensures can { OnOk result (CanSettle (scene graph.new (⟦<Shelf as Lent>⟧.asked shelf.new) notes.new.items)) }
     ensures counted { OnOk result (⟦<Shelf as Lent>⟧.counted shelf.new) }
+    ensures compared { OnOk result (AreCompared before.now hearing.new) }
 {
     let mut ids = Vec::new(alloc);
     put_names(&mut ids, memo)?;
-    let same = hear_again(graph, shelf, before, heard, &ids, notes)?;
+    let same = hear_again(graph, shelf, before, hearing, &ids, notes)?;
     Ok(same)
 }
 
@@ -67,90 +70,95 @@ fn stays(
     graph: &mut Graph,
     shelf: &mut Shelf,
     before: &Outcomes,
-    heard: &mut Outcomes,
+    hearing: &mut Rehearing,
     memo: &PageMemo,
     look: bool,
     notes: &mut Vec<RunNote>,
 ) -> Result<bool, NoMemory>
     requires can { CanSettle (scene graph.old (⟦<Shelf as Lent>⟧.asked shelf.old) notes.old.items) }
     requires counted { ⟦<Shelf as Lent>⟧.counted shelf.old }
-    ensures looked { IfOk result (λ same. AreLooked same before.now (names (kept memo.now)) heard.old heard.new) }
+    requires compared { AreCompared before.now hearing.old }
+    ensures looked { IfOk result (λ same. AreLooked same before.now (names (kept memo.now)) hearing.old.heard hearing.new.heard) }
     ensures after { OnOk result (Hears
         (scene graph.old (⟦<Shelf as Lent>⟧.asked shelf.old) notes.old.items) (scene graph.new (⟦<Shelf as Lent>⟧.asked shelf.new) notes.new.items)
-        (λ hosts. ⟦<Shelf as Lent>⟧.answers hosts shelf.old) (λ hosts. ⟦<Shelf as Lent>⟧.answers hosts shelf.new) heard.old heard.new) }
+        (λ hosts. ⟦<Shelf as Lent>⟧.answers hosts shelf.old) (λ hosts. ⟦<Shelf as Lent>⟧.answers hosts shelf.new) hearing.old.heard hearing.new.heard) }
     ensures can { OnOk result (CanSettle (scene graph.new (⟦<Shelf as Lent>⟧.asked shelf.new) notes.new.items)) }
     ensures counted { OnOk result (⟦<Shelf as Lent>⟧.counted shelf.new) }
+    ensures compared { OnOk result (AreCompared before.now hearing.new) }
 {
     if !look {
         return Ok(false);
     }
-    let same = names_stay(alloc, graph, shelf, before, heard, memo, notes)?;
+    let same = names_stay(alloc, graph, shelf, before, hearing, memo, notes)?;
     Ok(same)
 }
 
-// What is heard of the first of some lines now: where its names are as before, it isn't evaluated.
+// What is heard of the first of some lines now, and whether all its names are as before: then it isn't evaluated, and this was heard of it before.
 fn hear_first_again(
     alloc: Global,
     graph: &mut Graph,
     shelf: &mut Shelf,
     before: &Outcomes,
-    heard: &mut Outcomes,
+    hearing: &mut Rehearing,
     lines: &Block,
     head: Box<Head>,
     links: &[NodeId],
     row: Option<&RowRef>,
     notes: &mut Vec<RunNote>,
-) -> Result<Head, NoMemory>
+) -> Result<(Head, bool), NoMemory>
     requires place { IfSome row (λ r. r.now.place < length r.now.rows.rows) }
     requires can { CanSettle (scene graph.old (⟦<Shelf as Lent>⟧.asked shelf.old) notes.old.items) }
     requires counted { ⟦<Shelf as Lent>⟧.counted shelf.old }
+    requires compared { AreCompared before.now hearing.old }
     requires was { WasOpened (block lines.now) links.now (option_copied row) before.now head.value }
-    ensures opens { IfOk result (λ h. Opens (block lines.now) links.now (option_copied row.entry) heard.old heard.new h) }
+    ensures opens { IfOk result (λ r. Opens (block lines.now) links.now (option_copied row.entry) hearing.old.heard hearing.new.heard r.0) }
+    ensures same { IfOk result (λ r. r.1 ≡ true → WasOpened (block lines.now) links.now (option_copied row.entry) before.now r.0) }
     ensures after { OnOk result (Hears
         (scene graph.old (⟦<Shelf as Lent>⟧.asked shelf.old) notes.old.items) (scene graph.new (⟦<Shelf as Lent>⟧.asked shelf.new) notes.new.items)
-        (λ hosts. ⟦<Shelf as Lent>⟧.answers hosts shelf.old) (λ hosts. ⟦<Shelf as Lent>⟧.answers hosts shelf.new) heard.old heard.new) }
+        (λ hosts. ⟦<Shelf as Lent>⟧.answers hosts shelf.old) (λ hosts. ⟦<Shelf as Lent>⟧.answers hosts shelf.new) hearing.old.heard hearing.new.heard) }
     ensures can { OnOk result (CanSettle (scene graph.new (⟦<Shelf as Lent>⟧.asked shelf.new) notes.new.items)) }
     ensures counted { OnOk result (⟦<Shelf as Lent>⟧.counted shelf.new) }
+    ensures compared { OnOk result (AreCompared before.now hearing.new) }
 {
     match lines {
-        Block::Empty => Ok(Head::Nothing),
+        Block::Empty => Ok((Head::Nothing, true)),
         Block::Text(_, formula, _) => {
             let head = Box::into_inner(head);
             let Head::Text(line) = head else {
                 unreachable!()
             };
-            let line = listen_again(
-                alloc, graph, shelf, before, heard, formula, line, links, row, notes,
+            let heard = listen_again(
+                alloc, graph, shelf, before, hearing, formula, line, links, row, notes,
             )?;
-            Ok(Head::Text(line))
+            Ok((Head::Text(heard.0), heard.1))
         }
         Block::Tag(_, _, attributes, _, _) => {
             let head = Box::into_inner(head);
             let Head::Tag(all) = head else { unreachable!() };
-            let all = listen_all_again(
-                alloc, graph, shelf, before, heard, attributes, all, links, row, notes,
+            let heard = listen_all_again(
+                alloc, graph, shelf, before, hearing, attributes, all, links, row, notes,
             )?;
-            Ok(Head::Tag(all))
+            Ok((Head::Tag(heard.0), heard.1))
         }
         Block::Choice(test, _, _, _) => {
             let head = Box::into_inner(head);
             let Head::Choice(line) = head else {
                 unreachable!()
             };
-            let line = listen_again(
-                alloc, graph, shelf, before, heard, test, line, links, row, notes,
+            let heard = listen_again(
+                alloc, graph, shelf, before, hearing, test, line, links, row, notes,
             )?;
-            Ok(Head::Choice(line))
+            Ok((Head::Choice(heard.0), heard.1))
         }
         Block::Each(rows, _, _) => {
             let head = Box::into_inner(head);
             let Head::Each(line) = head else {
                 unreachable!()
             };
-            let line = listen_again(
-                alloc, graph, shelf, before, heard, rows, line, links, row, notes,
+            let heard = listen_again(
+                alloc, graph, shelf, before, hearing, rows, line, links, row, notes,
             )?;
-            Ok(Head::Each(line))
+            Ok((Head::Each(heard.0), heard.1))
         }
     }
 }
@@ -161,10 +169,10 @@ fn begin(
     graph: &mut Graph,
     shelf: &mut Shelf,
     before: &Outcomes,
-    heard: &mut Outcomes,
+    hearing: &mut Rehearing,
     lines: &Block,
     memo: Box<PageMemo>,
-    look: bool,
+    look: Look,
     links: &[NodeId],
     row: &Option<RowRef>,
     notes: &mut Vec<RunNote>,
@@ -172,27 +180,47 @@ fn begin(
     requires row { IsRow row.now }
     requires can { CanSettle (scene graph.old (⟦<Shelf as Lent>⟧.asked shelf.old) notes.old.items) }
     requires counted { ⟦<Shelf as Lent>⟧.counted shelf.old }
+    requires compared { AreCompared before.now hearing.old }
     requires was { WasMadeIfRead (lines_memo (block lines.now)) links.now row.now before.now (kept memo.value) }
-    ensures begins { IfOk result (λ t. Begins (block lines.now) links.now row.now before.now heard.old heard.new t.first.value (map kept t.inside_was.items) (map kept t.later_was.items)) }
+    ensures begins { IfOk result (λ t. Begins (block lines.now) links.now row.now before.now hearing.old.heard hearing.new.heard t.first.value (map kept t.inside_was.items) (map kept t.later_was.items)) }
     ensures places { IfOk result (λ t. t.places.items ≡ places_of t.first.value row.now) }
     ensures inside { IfOk result (λ t. t.inside.items ≡ []) }
     ensures later { IfOk result (λ t. t.later.items ≡ []) }
     ensures inside_changes { IfOk result (λ t. t.inside_changes.items ≡ []) }
     ensures later_changes { IfOk result (λ t. t.later_changes.items ≡ []) }
-    ensures told { IfOk result (λ t. BeginsTold (block lines.now) links.now row.now before.now (kept memo.value) t.first.value (map kept t.inside_was.items)) }
+    ensures told { IfOk result (λ t. BeginsTold (block lines.now) links.now row.now before.now (kept memo.value) t.first.value t.same (map kept t.inside_was.items)) }
     ensures after { OnOk result (Hears
         (scene graph.old (⟦<Shelf as Lent>⟧.asked shelf.old) notes.old.items) (scene graph.new (⟦<Shelf as Lent>⟧.asked shelf.new) notes.new.items)
-        (λ hosts. ⟦<Shelf as Lent>⟧.answers hosts shelf.old) (λ hosts. ⟦<Shelf as Lent>⟧.answers hosts shelf.new) heard.old heard.new) }
+        (λ hosts. ⟦<Shelf as Lent>⟧.answers hosts shelf.old) (λ hosts. ⟦<Shelf as Lent>⟧.answers hosts shelf.new) hearing.old.heard hearing.new.heard) }
     ensures can { OnOk result (CanSettle (scene graph.new (⟦<Shelf as Lent>⟧.asked shelf.new) notes.new.items)) }
     ensures counted { OnOk result (⟦<Shelf as Lent>⟧.counted shelf.new) }
+    ensures compared { OnOk result (AreCompared before.now hearing.new) }
 {
     let here = lent_row(row);
     if unread(&memo) {
-        let memo = make(alloc, graph, shelf, heard, lines, links, here, notes)?;
+        let memo = make(
+            alloc,
+            graph,
+            shelf,
+            &mut hearing.heard,
+            lines,
+            links,
+            here,
+            notes,
+        )?;
         let all = whole(alloc, memo, Change::made())?;
         return Ok(all);
     }
-    if stays(alloc, graph, shelf, before, heard, &memo, look, notes)? {
+    if stays(
+        alloc,
+        graph,
+        shelf,
+        before,
+        hearing,
+        &memo,
+        hears_first(look),
+        notes,
+    )? {
         let all = whole(alloc, Box::into_inner(memo), Change::stays())?;
         return Ok(all);
     }
@@ -203,11 +231,11 @@ fn begin(
     } = apart(alloc, memo)?;
     let was = outcome_of(&head)?;
     let was = Box::new(alloc, was)?;
-    let head = hear_first_again(
-        alloc, graph, shelf, before, heard, lines, head, links, here, notes,
+    let heard = hear_first_again(
+        alloc, graph, shelf, before, hearing, lines, head, links, here, notes,
     )?;
-    let head = Box::new(alloc, head)?;
-    let turn = taken_up(alloc, &was, head, inside, later, here)?;
+    let head = Box::new(alloc, heard.0)?;
+    let turn = taken_up(alloc, &was, head, heard.1, inside, later, here)?;
     Ok(turn)
 }
 
@@ -217,12 +245,12 @@ fn renew_each(
     graph: &mut Graph,
     shelf: &mut Shelf,
     before: &Outcomes,
-    heard: &mut Outcomes,
+    hearing: &mut Rehearing,
     lines: &Block,
     links: &[NodeId],
     rows: &[Option<RowRef>],
     was: &mut VecDeque<PageMemo>,
-    look: bool,
+    look: Look,
     notes: &mut Vec<RunNote>,
     done: &mut Vec<PageMemo>,
     changes: &mut Vec<Change>,
@@ -231,14 +259,16 @@ fn renew_each(
     requires rows { AreRows rows.now }
     requires can { CanSettle (scene graph.old (⟦<Shelf as Lent>⟧.asked shelf.old) notes.old.items) }
     requires counted { ⟦<Shelf as Lent>⟧.counted shelf.old }
+    requires compared { AreCompared before.now hearing.old }
     requires was { WereEach (block lines.now) links.now rows.now before.now (map kept was.old.items) }
-    ensures made { OnOk result (MakesEach (block lines.now) links.now rows.now heard.old heard.new (map kept done.old.items) (map kept done.new.items)) }
+    ensures made { OnOk result (MakesEach (block lines.now) links.now rows.now hearing.old.heard hearing.new.heard (map kept done.old.items) (map kept done.new.items)) }
     ensures told { OnOk result (TellsEach (block lines.now) links.now rows.now before.now (map kept was.old.items) (map kept done.old.items) (map kept done.new.items) (map changed changes.old.items) (map changed changes.new.items)) }
     ensures after { OnOk result (Hears
         (scene graph.old (⟦<Shelf as Lent>⟧.asked shelf.old) notes.old.items) (scene graph.new (⟦<Shelf as Lent>⟧.asked shelf.new) notes.new.items)
-        (λ hosts. ⟦<Shelf as Lent>⟧.answers hosts shelf.old) (λ hosts. ⟦<Shelf as Lent>⟧.answers hosts shelf.new) heard.old heard.new) }
+        (λ hosts. ⟦<Shelf as Lent>⟧.answers hosts shelf.old) (λ hosts. ⟦<Shelf as Lent>⟧.answers hosts shelf.new) hearing.old.heard hearing.new.heard) }
     ensures can { OnOk result (CanSettle (scene graph.new (⟦<Shelf as Lent>⟧.asked shelf.new) notes.new.items)) }
     ensures counted { OnOk result (⟦<Shelf as Lent>⟧.counted shelf.new) }
+    ensures compared { OnOk result (AreCompared before.now hearing.new) }
 {
     let Some((row, others)) = rows.split_first() else {
         return Ok(());
@@ -246,51 +276,54 @@ fn renew_each(
     let memo = next_kept(was);
     let memo = Box::new(alloc, memo)?;
     let mut turn = begin(
-        alloc, graph, shelf, before, heard, lines, memo, look, links, row, notes,
+        alloc, graph, shelf, before, hearing, lines, memo, look, links, row, notes,
     )?;
     let inner = inner_of(lines, shows_of(&turn.first));
+    let within = look_inside(look, &turn);
     renew_each(
         alloc,
         graph,
         shelf,
         before,
-        heard,
+        hearing,
         inner,
         links,
         &turn.places,
         &mut turn.inside_was,
-        true,
+        within,
         notes,
         &mut turn.inside,
         &mut turn.inside_changes,
     )?;
     let behind = behind_of(&turn.first, row);
+    let after = look_behind(look, &turn);
     renew_each(
         alloc,
         graph,
         shelf,
         before,
-        heard,
+        hearing,
         rest_of(lines),
         links,
         behind,
         &mut turn.later_was,
-        false,
+        after,
         notes,
         &mut turn.later,
         &mut turn.later_changes,
     )?;
     put_turn(alloc, turn, done, changes)?;
     renew_each(
-        alloc, graph, shelf, before, heard, lines, links, others, was, look, notes, done, changes,
+        alloc, graph, shelf, before, hearing, lines, links, others, was, look, notes, done, changes,
     )?;
     Ok(())
 }
 
-/// Brings what a page keeps of these lines up to date, in the row where they stand: it is what `make` would make. `before` are the outcomes on which
-/// it was made. With `look` its names are heard again first, and where each has the outcome of before, it stays as it is. Otherwise it is
-/// gone over: a line whose names are as before isn't evaluated, the branch that was shown before is gone over again, and a row that has its
-/// key and its values still keeps what was kept of it. Where nothing is kept yet, all is made. Beside it comes what became of what was kept.
+/// Brings what a page keeps of these lines up to date, in the row where they stand, once one of its names has another outcome: it is what `make`
+/// would make. `before` are the outcomes on which it was made. A line whose names are as before isn't evaluated, the branch that was shown before is
+/// gone over again, a row that has its key and its values still keeps what was kept of it, and lines inside another one stay as they are where
+/// each of their names has the outcome of before: these are heard again first, unless it is known already that one of them hasn't. Where nothing is
+/// kept yet, all is made. Beside it comes what became of what was kept.
 ///
 /// # Errors
 ///
@@ -300,10 +333,9 @@ pub fn renew(
     graph: &mut Graph,
     shelf: &mut Shelf,
     before: &Outcomes,
-    heard: &mut Outcomes,
+    hearing: &mut Rehearing,
     lines: &Block,
     memo: PageMemo,
-    look: bool,
     links: &[NodeId],
     row: Option<&RowRef>,
     notes: &mut Vec<RunNote>,
@@ -311,14 +343,16 @@ pub fn renew(
     requires place { IfSome row (λ r. r.now.place < length r.now.rows.rows) }
     requires can { CanSettle (scene graph.old (⟦<Shelf as Lent>⟧.asked shelf.old) notes.old.items) }
     requires counted { ⟦<Shelf as Lent>⟧.counted shelf.old }
+    requires compared { AreCompared before.now hearing.old }
     requires was { WasMadeIfRead (lines_memo (block lines.now)) links.now (option_copied row) before.now (kept memo) }
-    ensures made { IfOk result (λ r. Makes (lines_memo (block lines.now)) links.now (option_copied row.entry) heard.old heard.new (kept r.memo)) }
+    ensures made { IfOk result (λ r. Makes (lines_memo (block lines.now)) links.now (option_copied row.entry) hearing.old.heard hearing.new.heard (kept r.memo)) }
     ensures told { IfOk result (λ r. Tells (block lines.now) links.now (option_copied row.entry) before.now (kept r.memo) (changed r.change)) }
     ensures after { OnOk result (Hears
         (scene graph.old (⟦<Shelf as Lent>⟧.asked shelf.old) notes.old.items) (scene graph.new (⟦<Shelf as Lent>⟧.asked shelf.new) notes.new.items)
-        (λ hosts. ⟦<Shelf as Lent>⟧.answers hosts shelf.old) (λ hosts. ⟦<Shelf as Lent>⟧.answers hosts shelf.new) heard.old heard.new) }
+        (λ hosts. ⟦<Shelf as Lent>⟧.answers hosts shelf.old) (λ hosts. ⟦<Shelf as Lent>⟧.answers hosts shelf.new) hearing.old.heard hearing.new.heard) }
     ensures can { OnOk result (CanSettle (scene graph.new (⟦<Shelf as Lent>⟧.asked shelf.new) notes.new.items)) }
     ensures counted { OnOk result (⟦<Shelf as Lent>⟧.counted shelf.new) }
+    ensures compared { OnOk result (AreCompared before.now hearing.new) }
 {
     let mut was = waiting(alloc, memo)?;
     let own = own_row(row)?;
@@ -329,12 +363,12 @@ pub fn renew(
         graph,
         shelf,
         before,
-        heard,
+        hearing,
         lines,
         links,
         slice::from_ref(&own),
         &mut was,
-        look,
+        Look::Changed,
         notes,
         &mut done,
         &mut changes,

@@ -18,18 +18,40 @@ use std::mem;
 use tpl_listening::row_count;
 use tpl_memos::PageMemo;
 
-// The places of rows by their keys; none where the rows are the same, since each is then found at its own place.
-fn places(alloc: Global, was: &Outcome, next: &Outcome) -> Result<IndexMap<Text, usize>, NoMemory> {
-    let mut places = IndexMap::new(alloc);
-    if was.same(next) {
-        return Ok(places);
-    }
-    if let Outcome::Good(Value::Rows(rows)) = was {
-        for (place, row) in rows.rows().iter().enumerate() {
-            places.insert(row.key.copy()?, place)?;
+// Whether each row has the key of the row that stood at its place, as far as one stood there: then its key stood at no other place.
+fn keys_stand(was: &Rows, rows: &Rows) -> bool {
+    for place in 0..rows.len() {
+        if place >= was.len() {
+            return true;
+        }
+        if was.row(place).key != rows.row(place).key {
+            return false;
         }
     }
+    true
+}
+
+// The places of rows by their keys; none where no row is found but at its own place.
+fn places_among(alloc: Global, was: &Rows, rows: &Rows) -> Result<IndexMap<Text, usize>, NoMemory> {
+    let mut places = IndexMap::new(alloc);
+    if keys_stand(was, rows) {
+        return Ok(places);
+    }
+    for (place, row) in was.rows().iter().enumerate() {
+        places.insert(row.key.copy()?, place)?;
+    }
     Ok(places)
+}
+
+// So it is of the rows that an outcome was, for those that it is now.
+fn places(alloc: Global, was: &Outcome, next: &Outcome) -> Result<IndexMap<Text, usize>, NoMemory> {
+    match (was, next) {
+        (Outcome::Good(Value::Rows(was)), Outcome::Good(Value::Rows(rows))) => {
+            let places = places_among(alloc, was, rows)?;
+            Ok(places)
+        }
+        _ => Ok(IndexMap::new(alloc)),
+    }
 }
 
 // Whether two rows of tables are alike.

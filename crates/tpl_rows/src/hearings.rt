@@ -9,7 +9,7 @@ use sig_host::{Lent, Shelf};
 use std::alloc::Global;
 use std::process::Abort;
 use std::test::Fail;
-use tpl_hearing::{Evaluated, Outcomes, evaluate, hear, hear_again};
+use tpl_hearing::{Evaluated, Outcomes, Rehearing, evaluate, hear, hear_again};
 
 // Whether the first name is heard as this number.
 fn is_heard(s: &mut Scene, heard: &mut Outcomes, wanted: i64) -> Result<bool, NoMemory>
@@ -28,12 +28,12 @@ fn is_heard_again(alloc: Global, s: &mut Scene, before: &Outcomes) -> Result<boo
     requires counted { ⟦<Shelf as Lent>⟧.counted s.old.shelf }
 {
     let ids = [s.first];
-    let mut heard = Outcomes::new(alloc);
+    let mut hearing = Rehearing::new(alloc);
     let same = hear_again(
         &mut s.graph,
         &mut s.shelf,
         before,
-        &mut heard,
+        &mut hearing,
         &ids,
         &mut s.notes,
     )?;

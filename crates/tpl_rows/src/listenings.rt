@@ -7,7 +7,7 @@ use sig_formula::{BinOp, Formula};
 use sig_host::{Lent, Shelf};
 use std::alloc::Global;
 use std::test::Fail;
-use tpl_hearing::Outcomes;
+use tpl_hearing::{Outcomes, Rehearing};
 use tpl_listening::{listen, listen_again, listen_all, listen_all_again};
 use tpl_memos::Heard;
 
@@ -34,20 +34,20 @@ fn stays(
         &mut s.notes,
     )?;
     let found = is_number(&line.outcome, wanted);
-    let mut heard = Outcomes::new(alloc);
-    let next = listen_again(
+    let mut hearing = Rehearing::new(alloc);
+    let (next, same) = listen_again(
         alloc,
         &mut s.graph,
         &mut s.shelf,
         &before,
-        &mut heard,
+        &mut hearing,
         formula,
         line,
         &links,
         None,
         &mut s.notes,
     )?;
-    Ok((found, is_number(&next.outcome, wanted)))
+    Ok((found, same && is_number(&next.outcome, wanted)))
 }
 
 #[test]
@@ -90,20 +90,20 @@ fn all_stay(
         None,
         &mut s.notes,
     )?;
-    let mut heard = Outcomes::new(alloc);
-    let next = listen_all_again(
+    let mut hearing = Rehearing::new(alloc);
+    let (next, same) = listen_all_again(
         alloc,
         &mut s.graph,
         &mut s.shelf,
         &before,
-        &mut heard,
+        &mut hearing,
         attributes,
         all,
         &links,
         None,
         &mut s.notes,
     )?;
-    Ok(is_only(&next, wanted))
+    Ok(same && is_only(&next, wanted))
 }
 
 // One attribute, of the sum of the two names.

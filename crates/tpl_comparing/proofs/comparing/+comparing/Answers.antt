@@ -1,4 +1,4 @@
-use Rattle.std.proofs.Common.{◌≡◌, ◌<◌, ◌+◌, ◌++◌, [], ◌∷◌, Some, length, map, drop, arith, refl, sym, ap, ◌∙◌, inl, inr}
+use Rattle.std.proofs.Common.{◌≡◌, ◌<◌, ◌+◌, ◌++◌, [], ◌∷◌, Some, true, false, length, map, drop, arith, refl, sym, ap, ◌∙◌, inl, inr}
 use Rattle.std.proofs.lemmas.Bool.Decides.{nat_tests}
 use Rattle.std.proofs.lemmas.List.{map-append}
 use Rattle.std.specs.Option.{option_copied}
@@ -16,7 +16,8 @@ use Rattle.tpl_shapes.specs.Shapes.{child_of, mark_of}
 use Rattle.update_laws.specs.PageMemos.{values}
 use Rattle.tpl_comparing.specs.Walking.{further, of_lines, of_rows, or_stays, walk_of}
 use Rattle.tpl_comparing.proofs.Rows.{all_left, item_at, left_of, one_left, past, rows_gone, rows_held, told_at}
-use Rattle.tpl_comparing.proofs.Walks.{both_gone, branch_off, branch_on, choice_parts, each_parts, element_goes, first_none, first_some, inside_goes, inside_stays, kept_goes, made_gone, none_gone, parts_gone, put_staying_gone, stays_gone, tag_parts, text_parts, unfit_gone, unknown_element}
+use Rattle.tpl_comparing.proofs.Tops.{others_keep}
+use Rattle.tpl_comparing.proofs.Walks.{both_gone, branch_off, branch_on, choice_parts, each_parts, element_goes, first_none, first_some, inside_goes, inside_keeps, inside_stays, kept_goes, kept_same, made_gone, none_gone, parts_gone, put_staying_gone, stays_gone, tag_parts, text_parts, unfit_gone, unknown_element}
 use Rattle.tpl_comparing.proofs.comparing.+comparing.Goals as goal
 
 -- ---- the first of some parts
@@ -44,17 +45,38 @@ compare_inside-returns-then-first_stays u c = λ known k.
     (inside_stays known (option_copied c.args.key) c.args.number (block c.args.inner.now) (kept c.args.memo.now) (chain (map changed c.args.inside.now))
     (sym c.first_stays.ensures ∙ c.if-first_stays.true))
 
+pub compare_inside-returns-then-is_plain : goal.compare_inside-returns-then-is_plain
+compare_inside-returns-then-is_plain u c = λ known k.
+    let out = c.compare_first.new.out in
+    inside_keeps known (option_copied c.args.key) c.args.number (block c.args.inner.now) (kept c.args.memo.now) (chain (map changed c.args.inside.now))
+    (map child_of c.compare_first.new.children.items) (map mark_of out.touched.items) (map mark_of out.restated.items) (walk_of [] c.args.out.now) (walk_of [] out)
+    (others_keep (block c.args.inner.now) (first_in (chain (map changed c.args.inside.now))) true (sym c.first_stays.ensures ∙ c.if-first_stays.false)
+    (sym c.is_plain.ensures ∙ c.if-is_plain.true))
+    (c.in_ok-compare_first.ensures known k
+    ∙ ap (λ z. further (walk_of z c.args.out.now) (of_lines known (option_copied c.args.key) (block c.args.inner.now) (kept c.args.memo.now)
+    (first_in (chain (map changed c.args.inside.now))))) c.new-children.ensures.items)
+    refl refl refl refl
+
 pub compare_inside-returns : goal.compare_inside-returns
 compare_inside-returns u c = λ known k.
     let out = c.compare_first.new.out in
     inside_goes known (option_copied c.args.key) c.args.number (block c.args.inner.now) (kept c.args.memo.now) (chain (map changed c.args.inside.now))
     (map child_of c.compare_first.new.children.items) (map mark_of out.touched.items) (map mark_of out.restated.items) (walk_of [] c.args.out.now)
     (record { children = []; touched = map mark_of c.push.new.self.items; restated = map mark_of out.restated.items })
-    (sym c.first_stays.ensures ∙ c.if-first_stays.false)
+    (others_keep (block c.args.inner.now) (first_in (chain (map changed c.args.inside.now))) false (sym c.first_stays.ensures ∙ c.if-first_stays.false)
+    (sym c.is_plain.ensures ∙ c.if-is_plain.false))
     (c.in_ok-compare_first.ensures known k
     ∙ ap (λ z. further (walk_of z c.args.out.now) (of_lines known (option_copied c.args.key) (block c.args.inner.now) (kept c.args.memo.now)
     (first_in (chain (map changed c.args.inside.now))))) c.new-children.ensures.items)
     refl refl (ap (map mark_of) c.in_ok-push.ensures.items ∙ map-append mark_of out.touched.items _) refl
+
+pub compare_kept-returns-then-same : goal.compare_kept-returns-then-same
+compare_kept-returns-then-same u c = λ known k.
+    let m = kept c.args.memo.now in
+    kept_same known (option_copied c.args.key) c.args.same c.args.number
+    (Element c.args.name.now (values (waiting c.args.attributes.now) (attributes_of m))) (block c.args.inner.now) (inside_of m)
+    (chain (map changed c.args.inside.now)) (walk_of [] c.args.out.now) (walk_of [] c.compare_inside.new.out) c.if-same.true
+    (rw c.inside_of.ensures at (c.in_ok-compare_inside.ensures known k))
 
 pub compare_kept-returns : goal.compare_kept-returns
 compare_kept-returns u c = λ known k.
@@ -64,10 +86,10 @@ compare_kept-returns u c = λ known k.
     let read : c.put_attributes.new.out.items ≡ values all (attributes_of m) =
     c.in_ok-put_attributes.ensures ∙ (ap (λ z. z ++ values all (map heard_of c.attributes_of.result.now)) c.new-values.ensures.items
     ∙ ap (values all) c.attributes_of.ensures) in
-    kept_goes known (option_copied c.args.key) c.args.number (Element c.args.name.now (values all (attributes_of m))) (block c.args.inner.now) (inside_of m)
+    kept_goes known (option_copied c.args.key) c.args.same c.args.number (Element c.args.name.now (values all (attributes_of m))) (block c.args.inner.now) (inside_of m)
     (chain (map changed c.args.inside.now)) (walk_of [] c.args.out.now) (walk_of [] out)
     (record { children = []; touched = map mark_of out.touched.items; restated = map mark_of c.push.new.self.items })
-    (rw c.inside_of.ensures at (c.in_ok-compare_inside.ensures known k)) refl refl
+    c.if-same.false (rw c.inside_of.ensures at (c.in_ok-compare_inside.ensures known k)) refl refl
     (ap (map mark_of) c.in_ok-push.ensures.items
     ∙ (map-append mark_of out.restated.items _
     ∙ (λ i. map mark_of out.restated.items
@@ -78,7 +100,7 @@ compare_element-returns-in_default u c = λ known k.
     let key = option_copied c.args.key in
     let m = kept c.args.memo.now in
     put_staying_gone (map child_of c.args.children.now.items) (map child_of c.put_kept.new.children.items) (walk_of c.args.children.now.items c.args.out.now) _
-    (unknown_element known key (address c.args.line key) (Element c.args.name.now (values (waiting c.args.attributes.now) (attributes_of m)))
+    (unknown_element known key c.args.same (address c.args.line key) (Element c.args.name.now (values (waiting c.args.attributes.now) (attributes_of m)))
     (block c.args.inner.now) (inside_of m) (chain (map changed c.args.inside.now)) (sym (c.in_ok-number.ensures.number known k) ∙ c.in_default.is)) refl
     (c.in_ok-number.ensures.child known k)
 
@@ -86,7 +108,7 @@ pub compare_element-returns : goal.compare_element-returns
 compare_element-returns u c = λ known k.
     let key = option_copied c.args.key in
     let m = kept c.args.memo.now in
-    element_goes known key (address c.args.line key) c.in-Some.number (Element c.args.name.now (values (waiting c.args.attributes.now) (attributes_of m)))
+    element_goes known key c.args.same (address c.args.line key) c.in-Some.number (Element c.args.name.now (values (waiting c.args.attributes.now) (attributes_of m)))
     (block c.args.inner.now) (inside_of m) (chain (map changed c.args.inside.now)) (map child_of c.args.children.now.items) (map child_of c.put_kept.new.children.items)
     (walk_of [] c.args.out.now) (walk_of [] c.compare_kept.new.out) (sym (c.in_ok-number.ensures.number known k) ∙ c.in-Some.is)
     (c.in_ok-number.ensures.child known k) (c.in_ok-compare_kept.ensures known k)
@@ -189,7 +211,7 @@ compare_each-returns-in-Branch u c = λ known k.
 pub compare_parts-returns-then-not-fits : goal.compare_parts-returns-then-not-fits
 compare_parts-returns-then-not-fits u c = λ known k.
     none_gone _ _
-    (unfit_gone known (option_copied c.args.key) (block c.args.lines.now) (kept c.args.memo.now) (over (chain (map changed c.args.inside.now)) (changed c.args.later.now))
+    (unfit_gone known (option_copied c.args.key) (block c.args.lines.now) (kept c.args.memo.now) (over c.args.same (chain (map changed c.args.inside.now)) (changed c.args.later.now))
     (sym c.fits.ensures ∙ c.if-not-fits.true))
 
 pub compare_parts-returns-in-Empty : goal.compare_parts-returns-in-Empty
@@ -201,9 +223,9 @@ compare_parts-returns-in_ok-compare_lines-in-Text u c = λ known k.
     rw c.in-Text.is
     (parts_gone (walk_of c.args.children.now.items c.args.out.now) (walk_of c.put_text_again.new.children.items c.put_text_again.new.out)
     (walk_of c.compare_lines.new.children.items c.compare_lines.new.out) _ _ _
-    (text_parts known (option_copied c.args.key) c.in-Text.line (tree c.in-Text.field-1) (block c.in-Text.rest.value) (kept c.args.memo.now)
+    (text_parts known (option_copied c.args.key) c.in-Text.line (tree c.in-Text.field-1) (block c.in-Text.rest.value) (kept c.args.memo.now) c.args.same
     (chain (map changed c.args.inside.now)) (changed c.args.later.now) fit)
-    (c.in_ok-put_text_again-in-Text.ensures known k) (rw (c.deref.ensures, c.later_of-behind.ensures) at (c.in_ok-compare_lines-in-Text.ensures known k)))
+    (c.in_ok-put_text_again-in-Text.ensures fit known k) (rw (c.deref.ensures, c.later_of-behind.ensures) at (c.in_ok-compare_lines-in-Text.ensures known k)))
 
 pub compare_parts-returns-in_ok-compare_lines-in-Tag : goal.compare_parts-returns-in_ok-compare_lines-in-Tag
 compare_parts-returns-in_ok-compare_lines-in-Tag u c = λ known k.
@@ -212,7 +234,7 @@ compare_parts-returns-in_ok-compare_lines-in-Tag u c = λ known k.
     (parts_gone (walk_of c.args.children.now.items c.args.out.now) (walk_of c.compare_element.new.children.items c.compare_element.new.out)
     (walk_of c.compare_lines-in-Tag.new.children.items c.compare_lines-in-Tag.new.out) _ _ _
     (tag_parts known (option_copied c.args.key) c.in-Tag.line c.in-Tag.name (waiting c.in-Tag.attributes.items) (block c.in-Tag.inner.value)
-    (block c.in-Tag.rest.value) (kept c.args.memo.now) (chain (map changed c.args.inside.now)) (changed c.args.later.now) fit)
+    (block c.in-Tag.rest.value) (kept c.args.memo.now) c.args.same (chain (map changed c.args.inside.now)) (changed c.args.later.now) fit)
     (rw (c.deref-in-Tag.ensures.value, c.deref-in-Tag-2.ensures) at (c.in_ok-compare_element-in-Tag.ensures known k))
     (rw (c.deref-in-Tag-3.ensures, c.later_of-behind.ensures) at (c.in_ok-compare_lines-in-Tag.ensures known k)))
 
@@ -223,7 +245,7 @@ compare_parts-returns-in_ok-compare_lines-in-Choice u c = λ known k.
     (parts_gone (walk_of c.args.children.now.items c.args.out.now) (walk_of c.compare_branch-in-Choice.new.children.items c.compare_branch-in-Choice.new.out)
     (walk_of c.compare_lines-in-Choice.new.children.items c.compare_lines-in-Choice.new.out) _ _ _
     (choice_parts known (option_copied c.args.key) (tree c.in-Choice.field-0) (block c.in-Choice.one.value) (block c.in-Choice.other.value)
-    (block c.in-Choice.rest.value) (kept c.args.memo.now) (chain (map changed c.args.inside.now)) (changed c.args.later.now) fit)
+    (block c.in-Choice.rest.value) (kept c.args.memo.now) c.args.same (chain (map changed c.args.inside.now)) (changed c.args.later.now) fit)
     (both_gone (walk_of c.args.children.now.items c.args.out.now) (walk_of c.compare_branch.new.children.items c.compare_branch.new.out)
     (walk_of c.compare_branch-in-Choice.new.children.items c.compare_branch-in-Choice.new.out) _ _
     (rw c.deref-in-Choice.ensures at (c.in_ok-compare_branch-in-Choice.ensures known k))
@@ -237,7 +259,7 @@ compare_parts-returns-in_ok-compare_lines-in-Each u c = λ known k.
     (parts_gone (walk_of c.args.children.now.items c.args.out.now) (walk_of c.compare_each.new.children.items c.compare_each.new.out)
     (walk_of c.compare_lines-in-Each.new.children.items c.compare_lines-in-Each.new.out) _ _ _
     (each_parts known (option_copied c.args.key) (tree c.in-Each.field-0) (block c.in-Each.inner.value) (block c.in-Each.rest.value) (kept c.args.memo.now)
-    (chain (map changed c.args.inside.now)) (changed c.args.later.now) fit)
+    c.args.same (chain (map changed c.args.inside.now)) (changed c.args.later.now) fit)
     (rw c.deref-in-Each.ensures at (c.in_ok-compare_each-in-Each.ensures known k))
     (rw (c.deref-in-Each-2.ensures, c.later_of-behind.ensures) at (c.in_ok-compare_lines-in-Each.ensures known k)))
 
@@ -263,4 +285,4 @@ pub compare_lines-returns-in_ok-compare_parts-in-Over : goal.compare_lines-retur
 compare_lines-returns-in_ok-compare_parts-in-Over u c = λ known k.
     rw (c.deref.ensures.value, c.deref-in-Over.ensures) at (c.in_ok-compare_parts-in-Over.ensures known k)
     ∙ ap (λ z. further (walk_of c.args.children.now.items c.args.out.now) (of_lines known (option_copied c.args.key) (block c.args.lines.now) (kept c.args.memo.now) z))
-    (sym (ap changed c.in-Over.is ∙ changed_over c.in-Over.inside c.in-Over.later))
+    (sym (ap changed c.in-Over.is ∙ changed_over c.in-Over.same c.in-Over.inside c.in-Over.later))

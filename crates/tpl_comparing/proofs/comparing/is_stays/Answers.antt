@@ -10,4 +10,4 @@ pub returns-in-Made : goal.returns-in-Made
 returns-in-Made c = sym (ap is_stays (ap changed c.in-Made.is ∙ changed_made))
 
 pub returns-in-Over : goal.returns-in-Over
-returns-in-Over c = sym (ap is_stays (ap changed c.in-Over.is ∙ changed_over _ _))
+returns-in-Over c = sym (ap is_stays (ap changed c.in-Over.is ∙ changed_over _ _ _))

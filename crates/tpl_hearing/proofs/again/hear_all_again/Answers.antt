@@ -14,14 +14,14 @@ loop-place-init g c = record {
 
 pub put-requires : goal.put-requires
 put-requires g c =
-    subst (λ (h : Outcomes). heard_of h c.at-id.result.0 ≡ None) (sym c.in_ok-heard.ensures)
+    subst (λ (h : Outcomes). heard_of h c.at-id.result.0 ≡ None) (sym c.in_ok-hearing.ensures.front)
     (not_before c.args.before.now c.loop-place.place c.at-id.result.0 c.at-id.result.1.now c.count-place-end.ensures.once c.at-id.ensures.at)
 
 pub returns-then-not-same-clause-after : goal.returns-then-not-same-clause-after
 returns-then-not-same-clause-after g c =
     then_heard _ _ _ _ _ _ _ _ _ c.loop-place.invariant.after
-    (c.in_ok-outcome.ensures.after (take c.loop-place.place c.args.before.now) c.put.new.self
-    (c.in_ok-put.ensures ∙ ap (λ h. h ++ (c.at-id.result.0, c.in_ok-outcome.outcome) ∷ []) c.in_ok-heard.ensures))
+    (c.in_ok-outcome.ensures.after (take c.loop-place.place c.args.before.now) c.put.new.self.heard
+    (c.in_ok-put.ensures.heard ∙ ap (λ h. h ++ (c.at-id.result.0, c.in_ok-outcome.outcome) ∷ []) c.in_ok-hearing.ensures.front))
 
 pub loop-place-preserved : goal.loop-place-preserved
 loop-place-preserved g c =

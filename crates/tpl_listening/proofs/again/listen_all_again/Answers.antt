@@ -2,7 +2,7 @@ use Rattle.std.proofs.Common.{◌≡◌, ◌++◌, ◌∙◌, map, true, false, 
 use Rattle.std.specs.Option.{option_copied}
 use Rattle.sig_formula.specs.Trees.{tree}
 use Rattle.update_laws.specs.PageMemos.{all_names}
-use Rattle.tpl_hearing.proofs.Shared.{then_heard}
+use Rattle.tpl_hearing.proofs.Shared.{still_compared, then_heard}
 use Rattle.tpl_memos.specs.Kept.{heard_of}
 use Rattle.tpl_listening.proofs.Rereading.{all_stayed, all_remade}
 use Rattle.tpl_listening.proofs.Unmaking.{again_as}
@@ -15,10 +15,10 @@ returns-then-branch-clause-heard g c =
     ∙ (c.in_ok-put_each.ensures
     ∙ (ap (λ z. z ++ all_names (map heard_of c.deref.result.now)) c.new-ids.ensures.items
     ∙ ap (λ z. all_names (map heard_of z)) c.deref.ensures.value)) in
-    all_stayed (map (λ a. (a.0, tree a.1)) c.args.attributes.now) c.args.links.now (option_copied c.args.row) c.args.before.now c.args.heard.now
-    c.hear_again.new.heard (map heard_of c.args.all.items) c.requires.was
-    (again_as c.in_ok-hear_again.field-0 true c.args.before.now c.deref-2.result.now (all_names (map heard_of c.args.all.items)) c.args.heard.now
-    c.hear_again.new.heard c.if-branch.true ids c.in_ok-hear_again.ensures.again)
+    all_stayed (map (λ a. (a.0, tree a.1)) c.args.attributes.now) c.args.links.now (option_copied c.args.row) c.args.before.now c.args.hearing.now.heard
+    c.hear_again.new.hearing.heard (map heard_of c.args.all.items) c.requires.was
+    (again_as c.in_ok-hear_again.field-0 true c.args.before.now c.deref-2.result.now (all_names (map heard_of c.args.all.items)) c.args.hearing.now.heard
+    c.hear_again.new.hearing.heard c.if-branch.true ids c.in_ok-hear_again.ensures.again)
 
 pub returns-clause-heard : goal.returns-clause-heard
 returns-clause-heard g c =
@@ -27,11 +27,16 @@ returns-clause-heard g c =
     ∙ (c.in_ok-put_each.ensures
     ∙ (ap (λ z. z ++ all_names (map heard_of c.deref.result.now)) c.new-ids.ensures.items
     ∙ ap (λ z. all_names (map heard_of z)) c.deref.ensures.value)) in
-    all_remade (map (λ a. (a.0, tree a.1)) c.args.attributes.now) c.args.links.now (option_copied c.args.row) c.args.before.now c.args.heard.now
-    c.hear_again.new.heard c.listen_all.new.heard (map heard_of c.args.all.items) (map heard_of c.in_ok-next.next.items) c.requires.was
-    (again_as c.in_ok-hear_again.field-0 false c.args.before.now c.deref-2.result.now (all_names (map heard_of c.args.all.items)) c.args.heard.now
-    c.hear_again.new.heard c.if-branch.false ids c.in_ok-hear_again.ensures.again)
+    all_remade (map (λ a. (a.0, tree a.1)) c.args.attributes.now) c.args.links.now (option_copied c.args.row) c.args.before.now c.args.hearing.now.heard
+    c.hear_again.new.hearing.heard c.listen_all.new.heard (map heard_of c.args.all.items) (map heard_of c.in_ok-next.next.items) c.requires.was
+    (again_as c.in_ok-hear_again.field-0 false c.args.before.now c.deref-2.result.now (all_names (map heard_of c.args.all.items)) c.args.hearing.now.heard
+    c.hear_again.new.hearing.heard c.if-branch.false ids c.in_ok-hear_again.ensures.again)
     c.in_ok-next.ensures.after.grows c.in_ok-next.ensures.heard
 
 pub returns-clause-after : goal.returns-clause-after
 returns-clause-after g c = then_heard _ _ _ _ _ _ _ _ _ c.in_ok-hear_again.ensures.after c.in_ok-next.ensures.after
+
+pub returns-clause-compared : goal.returns-clause-compared
+returns-clause-compared g c =
+    still_compared c.args.before.now c.hear_again.new.hearing.heard c.listen_all.new.heard c.hear_again.new.hearing.compared c.in_ok-next.ensures.after.grows
+    c.in_ok-hear_again.ensures.compared

@@ -13,7 +13,7 @@ use Rattle.tpl_renewing.proofs.renewing.+renew_each.Goals as goal
 
 pub returns-in_default-clause-made : goal.returns-in_default-clause-made
 returns-in_default-clause-made g t c =
-    none_each (block c.args.lines.now) c.args.links.now c.args.rows.now c.args.heard.now (map kept c.args.done.now.items) c.in_default.ensures.cases
+    none_each (block c.args.lines.now) c.args.links.now c.args.rows.now c.args.hearing.now.heard (map kept c.args.done.now.items) c.in_default.ensures.cases
 
 pub returns-in_default-clause-told : goal.returns-in_default-clause-told
 returns-in_default-clause-told g t c =
@@ -21,7 +21,7 @@ returns-in_default-clause-told g t c =
     (map changed c.args.changes.now.items) c.in_default.ensures.cases
 
 pub returns-in_default-clause-after : goal.returns-in_default-clause-after
-returns-in_default-clause-after g t c = nothing_heard _ _ c.args.heard.now c.requires.can.idle
+returns-in_default-clause-after g t c = nothing_heard _ _ c.args.hearing.now.heard c.requires.can.idle
 
 pub begin-requires-clause-row : goal.begin-requires-clause-row
 begin-requires-clause-row g t c = (subst AreRows c.in-Some.ensures.cases.0 c.requires.rows).0
@@ -44,13 +44,13 @@ renew_each-requires g t c =
     let same : c.deref-2.result.now ≡ places_of (box_value turn.first) row = c.deref-2.ensures.value ∙ o.places in
     let few : length c.deref-2.result.now < 2 ^ 64 = omega arith in
     let rows : AreRows c.deref-2.result.now = subst AreRows (sym same) (places_are (box_value turn.first) row (subst AreRows split c.requires.rows).0) in
-    let was = inside_at b c.args.links.now row c.args.before.now c.args.heard.now c.begin.new.heard (box_value turn.first) ins lat inner c.shows_of.result
+    let was = inside_at b c.args.links.now row c.args.before.now c.args.hearing.now.heard c.begin.new.hearing.heard (box_value turn.first) ins lat inner c.shows_of.result
     c.deref-2.result.now o.begins (c.shows_of.ensures ∙ ap shows_of c.deref.ensures) c.inner_of-inner.ensures same in
     let smaller : lines_size inner + length c.deref-2.result.now < lines_size b + length c.args.rows.now =
-    inside_fewer b c.args.links.now row c.args.before.now c.args.heard.now c.begin.new.heard (box_value turn.first) ins lat c.args.rows.now c.in-Some.others.now
+    inside_fewer b c.args.links.now row c.args.before.now c.args.hearing.now.heard c.begin.new.hearing.heard (box_value turn.first) ins lat c.args.rows.now c.in-Some.others.now
     inner c.shows_of.result c.deref-2.result.now o.begins split same few (c.shows_of.ensures ∙ ap shows_of c.deref.ensures) c.inner_of-inner.ensures in (
       omega (arith, smaller),
-      (few, (rows, (o.can, (o.counted, was)))),
+      (few, (rows, (o.can, (o.counted, (o.compared, was))))),
     )
 
 pub renew_each-requires-2 : goal.renew_each-requires-2
@@ -70,13 +70,13 @@ renew_each-requires-2 g t c =
     let one = later_few (box_value turn.first) row in
     let few : length behinds < 2 ^ 64 = omega (arith, count, one) in
     let rows : AreRows behinds = subst AreRows (sym same) (later_are (box_value turn.first) row (subst AreRows split c.requires.rows).0) in
-    let was = later_at b c.args.links.now row c.args.before.now c.args.heard.now c.begin.new.heard (box_value turn.first) ins lat rest behinds o.begins
+    let was = later_at b c.args.links.now row c.args.before.now c.args.hearing.now.heard c.begin.new.hearing.heard (box_value turn.first) ins lat rest behinds o.begins
     c.rest_of.ensures same in
     let smaller : lines_size rest + length behinds < lines_size b + length c.args.rows.now =
-    later_fewer b c.args.links.now row c.args.before.now c.args.heard.now c.begin.new.heard (box_value turn.first) ins lat c.args.rows.now c.in-Some.others.now
+    later_fewer b c.args.links.now row c.args.before.now c.args.hearing.now.heard c.begin.new.hearing.heard (box_value turn.first) ins lat c.args.rows.now c.in-Some.others.now
     rest behinds o.begins split same c.rest_of.ensures in (
       omega (arith, smaller),
-      (few, (rows, (i.can, (i.counted, was)))),
+      (few, (rows, (i.can, (i.counted, (i.compared, was))))),
     )
 
 pub renew_each-requires-3 : goal.renew_each-requires-3
@@ -88,7 +88,7 @@ renew_each-requires-3 g t c =
     let was = others_at (block c.args.lines.now) c.args.links.now c.args.rows.now c.in-Some.row.now c.in-Some.others.now c.args.before.now
     (map kept c.args.was.now.items) (map kept c.next_kept-memo.new.was.items) split c.requires.was c.next_kept-memo.ensures.later in (
       omega (arith, count),
-      (omega (arith, count, most), ((subst AreRows split c.requires.rows).1, (r.can, (r.counted, was)))),
+      (omega (arith, count, most), ((subst AreRows split c.requires.rows).1, (r.can, (r.counted, (r.compared, was))))),
     )
 
 pub returns-clause-made : goal.returns-clause-made
@@ -99,8 +99,8 @@ returns-clause-made g t c =
     let i = c.in_ok-renew_each.ensures in
     let r = c.in_ok-renew_each-2.ensures in
     let l = c.in_ok-renew_each-3.ensures in
-    turn_renewed (block c.args.lines.now) c.args.links.now c.args.rows.now row c.in-Some.others.now (box_value turn.first) c.args.before.now c.args.heard.now
-    c.begin.new.heard c.renew_each.new.heard c.renew_each-2.new.heard c.renew_each-3.new.heard
+    turn_renewed (block c.args.lines.now) c.args.links.now c.args.rows.now row c.in-Some.others.now (box_value turn.first) c.args.before.now c.args.hearing.now.heard
+    c.begin.new.hearing.heard c.renew_each.new.hearing.heard c.renew_each-2.new.hearing.heard c.renew_each-3.new.hearing.heard
     (block c.inner_of-inner.result.now) (block c.rest_of.result.now) c.shows_of.result c.deref-2.result.now c.behind_of-behind.result.now
     (map kept turn.inside_was.items) (map kept turn.later_was.items)
     (map kept turn.inside.items) (map kept c.renew_each.new.done.items) (map kept turn.later.items) (map kept c.renew_each-2.new.done.items)
@@ -121,8 +121,8 @@ returns-clause-told g t c =
     let o = c.in_ok-turn.ensures in
     let turn = c.in_ok-turn.turn in
     let row = c.in-Some.row.now in
-    turn_told (block c.args.lines.now) c.args.links.now c.args.rows.now c.in-Some.row.now c.in-Some.others.now (box_value turn.first) c.args.before.now
-    c.args.heard.now c.begin.new.heard (block c.inner_of-inner.result.now) (block c.rest_of.result.now) c.shows_of.result c.deref-2.result.now
+    turn_told (block c.args.lines.now) c.args.links.now c.args.rows.now c.in-Some.row.now c.in-Some.others.now (box_value turn.first) turn.same c.args.before.now
+    c.args.hearing.now.heard c.begin.new.hearing.heard (block c.inner_of-inner.result.now) (block c.rest_of.result.now) c.shows_of.result c.deref-2.result.now
     c.behind_of-behind.result.now (kept (box_value c.in_ok-memo.memo)) (map kept c.args.was.now.items) (map kept c.next_kept-memo.new.was.items)
     (map kept turn.inside_was.items) (map kept turn.later_was.items)
     (map kept turn.inside.items) (map kept c.renew_each.new.done.items) (map kept turn.later.items) (map kept c.renew_each-2.new.done.items)

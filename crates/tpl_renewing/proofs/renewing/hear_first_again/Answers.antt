@@ -11,21 +11,40 @@ pub returns-in-Empty-clause-opens : goal.returns-in-Empty-clause-opens
 returns-in-Empty-clause-opens g c = rw c.in-Empty.is (refl, refl)
 
 pub returns-in-Empty-clause-after : goal.returns-in-Empty-clause-after
-returns-in-Empty-clause-after g c = nothing_heard _ _ c.args.heard.now c.requires.can.idle
+returns-in-Empty-clause-after g c = nothing_heard _ _ c.args.hearing.now.heard c.requires.can.idle
 
-pub returns-in_ok-line-in-Text-clause-opens : goal.returns-in_ok-line-in-Text-clause-opens
-returns-in_ok-line-in-Text-clause-opens g c = rw c.in-Text.is (c.in_ok-line-in-Text.line, (refl, c.in_ok-line-in-Text.ensures.heard))
+pub returns-in_ok-heard-in-Text-clause-opens : goal.returns-in_ok-heard-in-Text-clause-opens
+returns-in_ok-heard-in-Text-clause-opens g c = rw c.in-Text.is (c.in_ok-heard-in-Text.heard.0, (refl, c.in_ok-heard-in-Text.ensures.heard))
 
-pub returns-in_ok-all-in-Tag-clause-opens : goal.returns-in_ok-all-in-Tag-clause-opens
-returns-in_ok-all-in-Tag-clause-opens g c =
-    let l = c.in_ok-all-in-Tag.ensures in
-    rw c.in-Tag.is (c.in_ok-all-in-Tag.all, (refl, rw c.deref.ensures.value at l.heard))
+pub returns-in_ok-heard-in-Tag-clause-opens : goal.returns-in_ok-heard-in-Tag-clause-opens
+returns-in_ok-heard-in-Tag-clause-opens g c =
+    let l = c.in_ok-heard-in-Tag.ensures in
+    rw c.in-Tag.is (c.in_ok-heard-in-Tag.heard.0, (refl, rw c.deref.ensures.value at l.heard))
 
-pub returns-in_ok-line-in-Choice-clause-opens : goal.returns-in_ok-line-in-Choice-clause-opens
-returns-in_ok-line-in-Choice-clause-opens g c = rw c.in-Choice.is (c.in_ok-line-in-Choice.line, (refl, c.in_ok-line-in-Choice.ensures.heard))
+pub returns-in_ok-heard-in-Choice-clause-opens : goal.returns-in_ok-heard-in-Choice-clause-opens
+returns-in_ok-heard-in-Choice-clause-opens g c = rw c.in-Choice.is (c.in_ok-heard-in-Choice.heard.0, (refl, c.in_ok-heard-in-Choice.ensures.heard))
 
-pub returns-in_ok-line-in-Each-clause-opens : goal.returns-in_ok-line-in-Each-clause-opens
-returns-in_ok-line-in-Each-clause-opens g c = rw c.in-Each.is (c.in_ok-line-in-Each.line, (refl, c.in_ok-line-in-Each.ensures.heard))
+pub returns-in_ok-heard-in-Each-clause-opens : goal.returns-in_ok-heard-in-Each-clause-opens
+returns-in_ok-heard-in-Each-clause-opens g c = rw c.in-Each.is (c.in_ok-heard-in-Each.heard.0, (refl, c.in_ok-heard-in-Each.ensures.heard))
+
+-- ---- so it was heard before
+
+pub returns-in_ok-heard-in-Text-clause-same : goal.returns-in_ok-heard-in-Text-clause-same
+returns-in_ok-heard-in-Text-clause-same g c = rw c.in-Text.is c.in_ok-heard-in-Text.ensures.same
+
+pub returns-in_ok-heard-in-Tag-clause-same : goal.returns-in_ok-heard-in-Tag-clause-same
+returns-in_ok-heard-in-Tag-clause-same g c =
+    let l = c.in_ok-heard-in-Tag.ensures in
+    rw c.in-Tag.is (rw c.deref.ensures.value at l.same)
+
+pub returns-in_ok-heard-in-Choice-clause-same : goal.returns-in_ok-heard-in-Choice-clause-same
+returns-in_ok-heard-in-Choice-clause-same g c = rw c.in-Choice.is c.in_ok-heard-in-Choice.ensures.same
+
+pub returns-in_ok-heard-in-Each-clause-same : goal.returns-in_ok-heard-in-Each-clause-same
+returns-in_ok-heard-in-Each-clause-same g c = rw c.in-Each.is c.in_ok-heard-in-Each.ensures.same
+
+pub returns-in-Empty-clause-same : goal.returns-in-Empty-clause-same
+returns-in-Empty-clause-same g c = rw c.in-Empty.is (λ e. tt)
 
 -- ---- what was heard is of the line's kind
 

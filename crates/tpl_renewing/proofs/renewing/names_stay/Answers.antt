@@ -8,4 +8,4 @@ pub returns-clause-again : goal.returns-clause-again
 returns-clause-again g c =
     let all = names (kept c.args.memo.now) in
     let ids : c.deref.result.now ≡ all = c.deref.ensures.value ∙ (c.in_ok-put_names.ensures ∙ ap (λ z. z ++ all) c.new-ids.ensures.items) in
-    again_as c.in_ok-same.same c.in_ok-same.same c.args.before.now c.deref.result.now all c.args.heard.now c.hear_again.new.heard refl ids c.in_ok-same.ensures.again
+    again_as c.in_ok-same.same c.in_ok-same.same c.args.before.now c.deref.result.now all c.args.hearing.now.heard c.hear_again.new.hearing.heard refl ids c.in_ok-same.ensures.again

@@ -10,7 +10,7 @@ pub returns-then-not-look-clause-looked : goal.returns-then-not-look-clause-look
 returns-then-not-look-clause-looked g c = unheard refl
 
 pub returns-then-not-look-clause-after : goal.returns-then-not-look-clause-after
-returns-then-not-look-clause-after g c = nothing_heard _ _ c.args.heard.now c.requires.can.idle
+returns-then-not-look-clause-after g c = nothing_heard _ _ c.args.hearing.now.heard c.requires.can.idle
 
 pub returns-clause-looked : goal.returns-clause-looked
-returns-clause-looked g c = looked c.in_ok-same.same c.args.before.now (names (kept c.args.memo.now)) c.args.heard.now c.names_stay.new.heard c.in_ok-same.ensures.again
+returns-clause-looked g c = looked c.in_ok-same.same c.args.before.now (names (kept c.args.memo.now)) c.args.hearing.now.heard c.names_stay.new.hearing.heard c.in_ok-same.ensures.again

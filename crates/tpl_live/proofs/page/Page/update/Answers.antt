@@ -7,7 +7,7 @@ use Rattle.tpl_memos.specs.Kept.{kept}
 use Rattle.tpl_live.specs.Pages.{page_in}
 use Rattle.tpl_live.specs.Standings.{standing}
 use Rattle.tpl_live.proofs.Mounting.{AreMade}
-use Rattle.tpl_live.proofs.Reheard.{all_heard, found_front, front_heard}
+use Rattle.tpl_live.proofs.Reheard.{all_heard, found_compared, found_front, front_heard}
 use Rattle.tpl_live.proofs.Renewed.{compares_there, is_carried, made_anew, made_still, next_of, next_stands, was_made_there}
 use Rattle.tpl_live.proofs.Quiet.{is_quiet}
 use Rattle.tpl_live.proofs.Sourced.{made_on, settled_right}
@@ -45,6 +45,9 @@ returns-in_default-clause-settles g c = λ lines links st.
 pub renew-requires-clause-was : goal.renew-requires-clause-was
 renew-requires-clause-was g c = rw (c.deref.ensures, c.deref-2.ensures.value, c.replace-was.ensures.value) (was_made_there c.requires.stands.lines c.requires.stands.links (standing c.args.self.now) c.requires.stands.stands)
 
+pub renew-requires-clause-compared : goal.renew-requires-clause-compared
+renew-requires-clause-compared g c = found_compared _ (standing c.args.self.now).heard c.in-Some.front c.in-Some.is c.in_ok-front.ensures.compared
+
 pub carry-requires : goal.carry-requires
 carry-requires g c =
     let lines = c.requires.stands.lines in
@@ -52,67 +55,67 @@ carry-requires g c =
     let st = c.requires.stands.stands in
     let s = standing c.args.self.now in
     let m = kept c.in_ok-fresh.fresh.memo in
-    let made : AreMade lines links c.renew.new.heard m =
-    made_anew lines links s c.in-Some.front c.renew.new.heard m st (found_front _ s.heard c.in-Some.front c.in-Some.is c.in_ok-front.ensures.front)
+    let made : AreMade lines links c.renew.new.hearing.heard m =
+    made_anew lines links s c.in-Some.front.heard c.renew.new.hearing.heard m st (found_front _ s.heard c.in-Some.front c.in-Some.is c.in_ok-front.ensures.front)
     c.in_ok-fresh.ensures.after.grows (rw (c.deref.ensures, c.deref-2.ensures.value) at c.in_ok-fresh.ensures.made) c.good.ensures in
     let change = changed c.in_ok-fresh.fresh.change in
     let told : Tells s.lines s.links None s.heard m change = rw (c.deref.ensures, c.deref-2.ensures.value) at c.in_ok-fresh.ensures.told in
-    rw (c.deref-3.ensures, c.deref-4.ensures, c.in_ok-renewed.ensures.ok) (record { old = page_in s; compares = compares_there lines links s c.renew.new.heard m change st made told })
+    rw (c.deref-3.ensures, c.deref-4.ensures, c.in_ok-renewed.ensures.ok) (record { old = page_in s; compares = compares_there lines links s c.renew.new.hearing.heard m change st made told })
 
 pub returns-clause-stands : goal.returns-clause-stands
 returns-clause-stands g c = rw (c.in_ok-memo.ensures.ok, c.memo_in.ensures, c.in_ok-renewed.ensures.ok) (λ lines links st.
     let s = standing c.args.self.now in
     let m = kept c.in_ok-fresh.fresh.memo in
-    let made : AreMade lines links c.renew.new.heard m =
-    made_anew lines links s c.in-Some.front c.renew.new.heard m st (found_front _ s.heard c.in-Some.front c.in-Some.is c.in_ok-front.ensures.front)
+    let made : AreMade lines links c.renew.new.hearing.heard m =
+    made_anew lines links s c.in-Some.front.heard c.renew.new.hearing.heard m st (found_front _ s.heard c.in-Some.front c.in-Some.is c.in_ok-front.ensures.front)
     c.in_ok-fresh.ensures.after.grows (rw (c.deref.ensures, c.deref-2.ensures.value) at c.in_ok-fresh.ensures.made) c.good.ensures in
     let change = changed c.in_ok-fresh.fresh.change in
     let told : Tells s.lines s.links None s.heard m change = rw (c.deref.ensures, c.deref-2.ensures.value) at c.in_ok-fresh.ensures.told in
-    let carried = (rw (c.deref-3.ensures, c.deref-4.ensures, c.in_ok-renewed.ensures.ok) at c.in_ok-ops.ensures) (page_in s) (compares_there lines links s c.renew.new.heard m change st made told) in
+    let carried = (rw (c.deref-3.ensures, c.deref-4.ensures, c.in_ok-renewed.ensures.ok) at c.in_ok-ops.ensures) (page_in s) (compares_there lines links s c.renew.new.hearing.heard m change st made told) in
     let os = map op_of c.in_ok-ops.ops.items in
     let next = c.carry.new.nodes.next in
     let number = number_at c.carry.new.nodes.numbers in
-    (next_stands lines links s c.renew.new.heard m next c.carry.new.nodes.tree number os st made carried).stands)
+    (next_stands lines links s c.renew.new.hearing.heard m next c.carry.new.nodes.tree number os st made carried).stands)
 
 pub returns-clause-page : goal.returns-clause-page
 returns-clause-page g c = λ lines links st hosts all stay.
     let s = standing c.args.self.now in
     let m = kept c.in_ok-fresh.fresh.memo in
-    let made : AreMade lines links c.renew.new.heard m =
-    made_anew lines links s c.in-Some.front c.renew.new.heard m st (found_front _ s.heard c.in-Some.front c.in-Some.is c.in_ok-front.ensures.front)
+    let made : AreMade lines links c.renew.new.hearing.heard m =
+    made_anew lines links s c.in-Some.front.heard c.renew.new.hearing.heard m st (found_front _ s.heard c.in-Some.front c.in-Some.is c.in_ok-front.ensures.front)
     c.in_ok-fresh.ensures.after.grows (rw (c.deref.ensures, c.deref-2.ensures.value) at c.in_ok-fresh.ensures.made) c.good.ensures in
     let change = changed c.in_ok-fresh.fresh.change in
     let told : Tells s.lines s.links None s.heard m change = rw (c.deref.ensures, c.deref-2.ensures.value) at c.in_ok-fresh.ensures.told in
-    let carried = (rw (c.deref-3.ensures, c.deref-4.ensures, c.in_ok-renewed.ensures.ok) at c.in_ok-ops.ensures) (page_in s) (compares_there lines links s c.renew.new.heard m change st made told) in
+    let carried = (rw (c.deref-3.ensures, c.deref-4.ensures, c.in_ok-renewed.ensures.ok) at c.in_ok-ops.ensures) (page_in s) (compares_there lines links s c.renew.new.hearing.heard m change st made told) in
     let os = map op_of c.in_ok-ops.ops.items in
     let next = c.carry.new.nodes.next in
     let number = number_at c.carry.new.nodes.numbers in
     let same = ap kept (rw (c.memo_in.ensures, c.in_ok-renewed.ensures.ok) at c.in_ok-memo.ensures.ok) in
-    ap (λ z. page_in (next_of s c.renew.new.heard z next c.carry.new.nodes.tree number)) same
-    ∙ (is_carried _ _ _ _ lines links [] c.renew.new.heard s m next c.carry.new.nodes.tree number os hosts refl
+    ap (λ z. page_in (next_of s c.renew.new.hearing.heard z next c.carry.new.nodes.tree number)) same
+    ∙ (is_carried _ _ _ _ lines links [] c.renew.new.hearing.heard s m next c.carry.new.nodes.tree number os hosts refl
     (then_heard _ _ _ _ _ _ _ _ _ (front_heard _ _ _ _ _ s.heard c.in-Some.front c.in-Some.is c.in_ok-front.ensures.after) c.in_ok-fresh.ensures.after) all stay st made carried).page
 
 pub returns-clause-ops : goal.returns-clause-ops
 returns-clause-ops g c = λ lines links st hosts all stay.
     let s = standing c.args.self.now in
     let m = kept c.in_ok-fresh.fresh.memo in
-    let made : AreMade lines links c.renew.new.heard m =
-    made_anew lines links s c.in-Some.front c.renew.new.heard m st (found_front _ s.heard c.in-Some.front c.in-Some.is c.in_ok-front.ensures.front)
+    let made : AreMade lines links c.renew.new.hearing.heard m =
+    made_anew lines links s c.in-Some.front.heard c.renew.new.hearing.heard m st (found_front _ s.heard c.in-Some.front c.in-Some.is c.in_ok-front.ensures.front)
     c.in_ok-fresh.ensures.after.grows (rw (c.deref.ensures, c.deref-2.ensures.value) at c.in_ok-fresh.ensures.made) c.good.ensures in
     let change = changed c.in_ok-fresh.fresh.change in
     let told : Tells s.lines s.links None s.heard m change = rw (c.deref.ensures, c.deref-2.ensures.value) at c.in_ok-fresh.ensures.told in
-    let carried = (rw (c.deref-3.ensures, c.deref-4.ensures, c.in_ok-renewed.ensures.ok) at c.in_ok-ops.ensures) (page_in s) (compares_there lines links s c.renew.new.heard m change st made told) in
+    let carried = (rw (c.deref-3.ensures, c.deref-4.ensures, c.in_ok-renewed.ensures.ok) at c.in_ok-ops.ensures) (page_in s) (compares_there lines links s c.renew.new.hearing.heard m change st made told) in
     let os = map op_of c.in_ok-ops.ops.items in
     let next = c.carry.new.nodes.next in
     let number = number_at c.carry.new.nodes.numbers in
-    (is_carried _ _ _ _ lines links [] c.renew.new.heard s m next c.carry.new.nodes.tree number os hosts refl
+    (is_carried _ _ _ _ lines links [] c.renew.new.hearing.heard s m next c.carry.new.nodes.tree number os hosts refl
     (then_heard _ _ _ _ _ _ _ _ _ (front_heard _ _ _ _ _ s.heard c.in-Some.front c.in-Some.is c.in_ok-front.ensures.after) c.in_ok-fresh.ensures.after) all stay st made carried).ops
 
 pub returns-clause-settles : goal.returns-clause-settles
 returns-clause-settles g c = λ lines links st.
     let s = standing c.args.self.now in
     let m = kept c.in_ok-fresh.fresh.memo in
-    let made : AreMade lines links c.renew.new.heard m =
-    made_anew lines links s c.in-Some.front c.renew.new.heard m st (found_front _ s.heard c.in-Some.front c.in-Some.is c.in_ok-front.ensures.front)
+    let made : AreMade lines links c.renew.new.hearing.heard m =
+    made_anew lines links s c.in-Some.front.heard c.renew.new.hearing.heard m st (found_front _ s.heard c.in-Some.front c.in-Some.is c.in_ok-front.ensures.front)
     c.in_ok-fresh.ensures.after.grows (rw (c.deref.ensures, c.deref-2.ensures.value) at c.in_ok-fresh.ensures.made) c.good.ensures in
-    settled_right _ _ _ _ lines links [] c.renew.new.heard m refl (then_heard _ _ _ _ _ _ _ _ _ (front_heard _ _ _ _ _ s.heard c.in-Some.front c.in-Some.is c.in_ok-front.ensures.after) c.in_ok-fresh.ensures.after) made.memo made.order
+    settled_right _ _ _ _ lines links [] c.renew.new.hearing.heard m refl (then_heard _ _ _ _ _ _ _ _ _ (front_heard _ _ _ _ _ s.heard c.in-Some.front c.in-Some.is c.in_ok-front.ensures.after) c.in_ok-fresh.ensures.after) made.memo made.order
