@@ -4,6 +4,7 @@ mod Sourced
 mod Numbered
 mod Mounting
 mod Sorting
+mod LeftOut
 mod Matched
 mod Staying
 mod Operated

@@ -15,6 +15,7 @@ use Rattle.tpl_listening.specs.Changes.{Change}
 use Rattle.tpl_found.specs.Following.{children_moved, next_children}
 use Rattle.tpl_found.specs.Operations.{children_done, look_done, operations}
 use Rattle.tpl_found.specs.Reading.{gone_numbers}
+use Rattle.tpl_found.specs.Seeing.{Sees}
 use Rattle.tpl_found.specs.Telling.{told_on}
 use Rattle.tpl_found.specs.Updates.{is_kept}
 use Rattle.tpl_found.proofs.Shared.{kept_law, marks_law, operations_law}
@@ -27,8 +28,9 @@ use Rattle.tpl_shapes.specs.Shapes.{Marked}
 use Rattle.tpl_shapes.specs.declared.shown.Address.{Address}
 use Rattle.update_laws.specs.PageMemos.{PageMemo}
 use Rattle.tpl_live.specs.Pages.{lines_shape}
-use Rattle.tpl_live.specs.Plans.{AllBring, Compares, LeadOn, children_staying, numbers_of, ops_towards}
+use Rattle.tpl_live.specs.Plans.{AllBring, Compares, LeadOn, children_staying, moving, numbers_of, ops_towards}
 use Rattle.tpl_live.proofs.Matched.{all_come, all_fit, all_sound, kids_next}
+use Rattle.tpl_live.proofs.LeftOut.{covers_left, each_left, rising_left}
 use Rattle.tpl_live.proofs.Sorting.{Rising, address_in, moved_so, numbers_so, restated_marks, sees_so, stays_sorted, touched_marks}
 use Rattle.tpl_live.proofs.Staying.{gone_alike, staying_alike}
 
@@ -66,37 +68,40 @@ pub record Operate (p : NumberedPage) (shape : Forest Look) (touched restated : 
   pub edits : edits_between p (renumbered p shape) ≡ ops_towards (tree_of p) (tree_of (renumbered p shape)) touched restated
   pub replays : replay (ops_towards (tree_of p) (tree_of (renumbered p shape)) touched restated) (tree_of p) ≡ Done (tree_of (renumbered p shape))
 
-pub operate : (p : NumberedPage) (shape : Forest Look) (ts0 rs0 ts rs : List Marked) → IsPage p → Sound (page_shape p) → IsShape shape →
-    SameOrigin (page_shape p) shape → Compared p shape ts0 rs0 → IsPermutation ts0 ts → IsPermutation rs0 rs → Rising (numbers_of ts) →
-    Rising (numbers_of rs) → Operate p shape ts rs
-operate p shape ts0 rs0 ts rs q snd s so cmp ts_moved rs_moved ts_up rs_up =
+pub operate : (p : NumberedPage) (shape : Forest Look) (ts0 rs0 all rs : List Marked) → IsPage p → Sound (page_shape p) → IsShape shape →
+    SameOrigin (page_shape p) shape → Compared p shape ts0 rs0 → IsPermutation ts0 all → IsPermutation rs0 rs → Rising (numbers_of all) →
+    Rising (numbers_of rs) → Operate p shape (moving (tree_of p) all) rs
+operate p shape ts0 rs0 all rs q snd s so cmp ts_moved rs_moved all_up rs_up =
+    let ts = moving (tree_of p) all in
     let old = page_shape p in
     let num = number_of p in
     let kept : ℕ → Bool = is_kept p shape in
     let staying : ℕ → Bool = λ n. listed n (children_staying ts) in
     let cs = map (address_in p) ts in
     let ls = map (address_in p) rs in
-    let ct = moved_so p (IsTouched p shape) cmp.children ts0 ts q (touched_marks p shape) cmp.are_touched ts_moved in
+    let ct_all = moved_so p (IsTouched p shape) cmp.children ts0 all q (touched_marks p shape) cmp.are_touched ts_moved in
+    let at : Each (IsTouched p shape) cs ts = each_left p (IsTouched p shape) (tree_of p) all ct_all.at in
     let cr = moved_so p (IsRestated p shape) cmp.looks rs0 rs q (restated_marks p shape) cmp.are_restated rs_moved in
-    let sees = sees_so old shape cs cmp.children ls cmp.looks ct.often cr.often cmp.sees in
-    let nums : map num cs ≡ numbers_of ts = numbers_so p (IsTouched p shape) cs ts (touched_marks p shape) ct.at in
+    let sees_all = sees_so old shape (map (address_in p) all) cmp.children ls cmp.looks ct_all.often cr.often cmp.sees in
+    let sees : Sees old shape shape cs ls = record { children = covers_left p shape all q ct_all.at sees_all.children; looks = sees_all.looks } in
+    let nums : map num cs ≡ numbers_of ts = numbers_so p (IsTouched p shape) cs ts (touched_marks p shape) at in
     let told_nums : map num ls ≡ numbers_of rs = numbers_so p (IsRestated p shape) ls rs (restated_marks p shape) cr.at in
-    let sorted : ascending_by num cs ≡ cs = stays_sorted num cs (subst Rising (sym nums) ts_up) in
+    let sorted : ascending_by num cs ≡ cs = stays_sorted num cs (subst Rising (sym nums) (rising_left (tree_of p) all all_up)) in
     let told_sorted : ascending_by num ls ≡ ls = stays_sorted num ls (subst Rising (sym told_nums) rs_up) in
-    let alike = staying_alike p shape kept cs ts q s so (kept_law p shape q) ct.at sees.children.there in
+    let alike = staying_alike p shape kept cs ts q s so (kept_law p shape q) at sees.children.there in
     let leads = operations_law p shape kept cs ls q snd s so (kept_law p shape q) sees in
     let gives = marks_law p shape cs ls q s so sees in
     let order = gives.order ∙ ap (flat_map (λ a. newcomers (λ c. on c old) (kids a shape))) sorted in
-    let fit = all_fit p shape [] cs ts p.next q s so ct.at order (omega arith) in
+    let fit = all_fit p shape [] cs ts p.next q s so at order (omega arith) in
     let gone = ap (λ z. map OpRemove (ascending z)) (gone_alike p kept staying cs q alike ∙ ap (flat_map (gone_numbers staying (tree_of p))) nums) in
-    let moves = ap (flat_map (children_done p shape)) sorted ∙ moves_so p shape cs ts q s ct.at in
+    let moves = ap (flat_map (children_done p shape)) sorted ∙ moves_so p shape cs ts q s at in
     let told = ap (flat_map (look_done p shape)) told_sorted ∙ looks_so p shape ls rs cr.at in
     let same : operations p shape kept cs ls ≡ ops_towards (tree_of p) (tree_of (renumbered p shape)) ts rs = (λ i. (gone i ++ moves i) ++ told i) in
     record {
-      sound = all_sound p shape cs ts s.sound ct.at;
+      sound = all_sound p shape cs ts s.sound at;
       fits = fit.0;
       next = fit.1;
-      order = all_come p shape cs ts ct.at ∙ sym order;
+      order = all_come p shape cs ts at ∙ sym order;
       edits = leads.edits ∙ same;
       replays = ap (λ z. replay z (tree_of p)) (sym same) ∙ leads.replays;
     }
@@ -117,13 +122,15 @@ all_bring (o ∷ os) h = (brings_one o h.0, all_bring os h.1)
     brings_one (OpUnattr n name) w = tt
 
 -- the page and what is kept of its lines next, with marks by what is known of the page's numbers
-pub compare : (p : NumberedPage) (b : Block) (m : PageMemo) (c : Change) (number : Address → Option ℕ) (tree : Forest Kind) (next : ℕ) (ts rs : List Marked) →
-    Compares p b m c number tree next → ((known : ℕ → Option ℕ) → Knows (among tree number) known → IsPermutation (touched_in known b m c) ts) →
-    ((known : ℕ → Option ℕ) → Knows (among tree number) known → IsPermutation (restated_in known b m c) rs) → Rising (numbers_of ts) → Rising (numbers_of rs) →
-    Operate p (lines_shape b m) ts rs
-compare p b m c number tree next ts rs h touched restated ts_up rs_up =
-    operate p (lines_shape b m) (touched_in (known_of p) b m c) (restated_in (known_of p) b m c) ts rs h.page h.sound h.formed h.origin h.compared
-    (touched (known_of p) h.known.knows) (restated (known_of p) h.known.knows) ts_up rs_up
+pub compare : (p : NumberedPage) (b : Block) (m : PageMemo) (c : Change) (number : Address → Option ℕ) (tree : Forest Kind) (next : ℕ)
+    (all ts rs : List Marked) → Compares p b m c number tree next →
+    ((known : ℕ → Option ℕ) → Knows (among tree number) known → IsPermutation (touched_in known b m c) all) →
+    ((known : ℕ → Option ℕ) → Knows (among tree number) known → IsPermutation (restated_in known b m c) rs) → Rising (numbers_of all) →
+    Rising (numbers_of rs) → ts ≡ moving tree all → Operate p (lines_shape b m) ts rs
+compare p b m c number tree next all ts rs h touched restated all_up rs_up left =
+    subst (λ z. Operate p (lines_shape b m) z rs) (sym (left ∙ ap (λ z. moving z all) h.stands))
+    (operate p (lines_shape b m) (touched_in (known_of p) b m c) (restated_in (known_of p) b m c) all rs h.page h.sound h.formed h.origin h.compared
+    (touched (known_of p) h.known.knows) (restated (known_of p) h.known.knows) all_up rs_up)
 
 pub lead_on : (p : NumberedPage) (shape : Forest Look) (ts rs : List Marked) (os : List Op) (next : ℕ) → IsPage p → IsShape shape → Operate p shape ts rs →
     os ≡ ops_towards (tree_of p) (tree_of (renumbered p shape)) ts rs → next ≡ number_behind p.next ts → LeadOn p shape os next

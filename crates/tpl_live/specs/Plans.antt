@@ -1,8 +1,9 @@
 -- The operations that bring a page up to date, as they are read from the tree that stands by the marks of the nodes that are compared.
-use Rattle.std.specs.Prelude.{◌≡◌, ℕ, Bool, List, [], ◌∷◌, ◌++◌, map, Option}
+use Rattle.std.specs.Prelude.{◌≡◌, ◌==◌, ◌&&◌, ℕ, Bool, List, [], ◌∷◌, ◌++◌, length, map, nat_eq, if◌then◌else◌, Option}
+use lib.Pointwise.{pointwise}
 use Rattle.std.specs.List.{flat_map}
-use Rattle.page_model.specs.Edits.{ascending, listed}
-use Rattle.page_model.specs.Forest.{Forest}
+use Rattle.page_model.specs.Edits.{ascending, listed, siblings}
+use Rattle.page_model.specs.Forest.{Forest, kids}
 use Rattle.page_model.specs.Labels.{Kind, Look, Sound}
 use Rattle.page_model.specs.Pages.{IsPage, IsShape, NumberedPage, SameOrigin, edits_between, page_shape, renumbered, tree_of}
 use Rattle.page_model.specs.Replay.{Done, Op, OpRemove, replay}
@@ -34,6 +35,15 @@ numbers_staying cs = flat_map number_staying cs
 -- those of the children of marked nodes
 abbrev pub children_staying : List Marked → List ℕ
 children_staying ms = flat_map (λ (m : Marked). numbers_staying m.children) ms
+
+-- whether the next children of a marked node are those that it has
+abbrev pub keeps_children : Forest Kind → Marked → Bool
+keeps_children tree m =
+    (length (numbers_staying m.children) == length m.children) && pointwise nat_eq (numbers_staying m.children) (siblings (kids m.number tree))
+
+-- the marks of the other nodes
+abbrev pub moving : Forest Kind → List Marked → List Marked
+moving tree ms = flat_map (λ (m : Marked). if keeps_children tree m then [] else m ∷ []) ms
 
 -- What is removed and what is done to children towards the next tree, by the nodes whose children may differ, and what those nodes say that may
 -- say something else. The other children of these parents are gone.

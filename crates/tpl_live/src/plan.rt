@@ -1,5 +1,5 @@
 // How a page comes up to date: the numbers of its nodes, and the operations that lead to the next tree, all read from the tree that stands.
-ghost use Rattle.std.specs.Prelude.{◌≡◌, ◌<◌, ◌^◌, ◌+◌, ◌++◌, length, map, IfOk, OnOk};
+ghost use Rattle.std.specs.Prelude.{◌≡◌, ◌<◌, ◌^◌, ◌+◌, ◌++◌, ◌∷◌, [], length, map, IfOk, OnOk};
 ghost use Rattle.page_model.specs.Forest.{Forest, keys};
 ghost use Rattle.page_model.specs.Labels.{Kind};
 ghost use Rattle.page_model.specs.Pages.{NumberedPage, IsPage, new_order, page_shape, tree_of};
@@ -15,7 +15,7 @@ ghost use Rattle.tpl_moves.specs.Moves.{AllFit, AllSound, number_behind};
 ghost use Rattle.tpl_shapes.specs.Addresses.{address_of};
 ghost use Rattle.tpl_shapes.specs.Shapes.{child_of, mark_of};
 ghost use Rattle.tpl_live.specs.Pages.{lines_shape, shown_in, AreKnown};
-ghost use Rattle.tpl_live.specs.Plans.{children_staying, number_staying, numbers_of as numbers_in, numbers_staying, ops_towards, AllBring, CanCompare, Carries, Compares, LeadOn};
+ghost use Rattle.tpl_live.specs.Plans.{children_staying, number_staying, keeps_children, moving, numbers_of as numbers_in, numbers_staying, ops_towards, AllBring, CanCompare, Carries, Compares, LeadOn};
 
 use page_ops::{Op, apply};
 use page_tree::Tree;
@@ -126,6 +126,40 @@ fn staying(alloc: Global, marks: &[Mark]) -> Result<Vec<u64>, NoMemory>
     Ok(numbers)
 }
 
+// Whether the next children of a marked node are those that it has.
+fn keeps_children(alloc: Global, tree: &Tree, mark: &Mark) -> Result<bool, NoMemory>
+    ensures { IfOk result (λ b. b ≡ keeps_children tree.now (mark_of mark.now)) }
+{
+    let mut numbers = Vec::new(alloc);
+    put_all_staying(&mark.children, &mut numbers)?;
+    if numbers.len() == mark.children.len() {
+        return Ok(numbers.as_slice() == tree.children(mark.number));
+    }
+    Ok(false)
+}
+
+// Appends a mark unless the node keeps its children.
+fn put_moving(alloc: Global, tree: &Tree, mark: Mark, out: &mut Vec<Mark>) -> Result<(), NoMemory>
+    ensures { OnOk result (map mark_of out.new.items ≡ map mark_of out.old.items ++ moving tree.now (mark_of mark ∷ [])) }
+{
+    if keeps_children(alloc, tree, &mark)? {
+        return Ok(());
+    }
+    out.push(mark)?;
+    Ok(())
+}
+
+// The marks of those nodes whose next children aren't those that they have.
+fn moving(alloc: Global, tree: &Tree, marks: Vec<Mark>) -> Result<Vec<Mark>, NoMemory>
+    ensures { IfOk result (λ ms. map mark_of ms.items ≡ moving tree.now (map mark_of marks.items)) }
+{
+    let mut left = Vec::new(alloc);
+    for mark in marks {
+        put_moving(alloc, tree, mark, &mut left)?;
+    }
+    Ok(left)
+}
+
 /// The operations that bring a page up to date, the addresses of what comes in the order of the new numbers, and the next unused number then.
 #[derive(Drop)]
 pub struct Plan {
@@ -181,6 +215,7 @@ fn planned(
 {
     let marks = compared(alloc, lines, memo, change, page)?;
     let Compared { touched, restated } = marks;
+    let touched = moving(alloc, &page.tree, touched)?;
     let plan = operations(alloc, &page.tree, page.next, touched, &restated)?;
     Ok(plan)
 }

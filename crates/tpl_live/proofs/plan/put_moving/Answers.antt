@@ -1,0 +1,15 @@
+use Rattle.std.proofs.Common.{◌++◌, ◌∷◌, [], append-nil, if◌then◌else◌, map, sym, ap, ◌∙◌}
+use Rattle.std.proofs.lemmas.List.{map-append}
+use Rattle.tpl_shapes.specs.Shapes.{mark_of}
+use Rattle.tpl_live.proofs.plan.put_moving.Goals as goal
+
+pub returns-then-branch : goal.returns-then-branch
+returns-then-branch c =
+    sym (append-nil (map mark_of c.args.out.now.items))
+    ∙ ap (λ b. map mark_of c.args.out.now.items ++ ((if b then [] else mark_of c.args.mark ∷ []) ++ [])) (sym (sym c.in_ok-keeps_children.ensures ∙ c.if-branch.true))
+
+pub returns : goal.returns
+returns c =
+    ap (map mark_of) c.in_ok-push.ensures.items
+    ∙ (map-append mark_of c.args.out.now.items _
+    ∙ ap (λ b. map mark_of c.args.out.now.items ++ ((if b then [] else mark_of c.args.mark ∷ []) ++ [])) (sym (sym c.in_ok-keeps_children.ensures ∙ c.if-branch.false)))
