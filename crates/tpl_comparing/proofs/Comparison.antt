@@ -4,7 +4,7 @@ use Rattle.sig_base.specs.declared.value.Outcome.{Outcome}
 use Rattle.page_model.specs.Edits.{siblings}
 use Rattle.page_model.specs.Forest.{Forest, none, node, kids, label_in}
 use Rattle.page_model.specs.Labels.{Root, Look, Kind}
-use Rattle.page_model.specs.Pages.{IsShape, NumberedPage, SameOrigin, looks, number_of, page_shape}
+use Rattle.page_model.specs.Pages.{IsShape, NumberedPage, SameOrigin, number_of, page_shape}
 use Rattle.page_model.proofs.Shared.{self_on}
 use Rattle.tpl_model.specs.Laws.{GivesRows, IsTemplate}
 use Rattle.tpl_model.specs.Lines.{Line, block_of}

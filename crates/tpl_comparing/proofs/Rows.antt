@@ -10,7 +10,7 @@ use Rattle.sig_base.specs.declared.rows.Row.{Row}
 use Rattle.sig_base.specs.declared.value.Value.TheVariants as value
 use Rattle.sig_base.specs.declared.value.Outcome.{Outcome}
 use Rattle.sig_base.specs.declared.value.Outcome.TheVariants.{Good, Bad}
-use Rattle.page_model.specs.Forest.{Forest, none, after}
+use Rattle.page_model.specs.Forest.{Forest}
 use Rattle.page_model.specs.Labels.{Look}
 use Rattle.tpl_listening.specs.Changes.{Change, also, nothing, stays, chain, changed}
 use Rattle.tpl_listening.specs.declared.change.Change as code

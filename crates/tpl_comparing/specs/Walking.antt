@@ -1,6 +1,5 @@
 -- What comes of going over lines by what became of what is kept of them.
 use Rattle.std.specs.Prelude.{ℕ, Bool, true, false, List, [], ◌++◌, map, Option, Some, None, if◌then◌else◌}
-use Rattle.page_model.specs.Addresses.{address}
 use Rattle.page_model.specs.Forest.{Forest, none, node}
 use Rattle.page_model.specs.Labels.{Root, Look}
 use Rattle.tpl_model.specs.Lines.{Block}

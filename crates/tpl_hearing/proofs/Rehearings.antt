@@ -1,8 +1,7 @@
 -- Names that were heard at another time, heard again.
-use Rattle.std.proofs.Common.{◌≡◌, ℕ, ◌+◌, ◌<◌, List, [], ◌∷◌, ◌++◌, length, take, get_or, Some, refl, sym, ap, subst, ◌∙◌}
+use Rattle.std.proofs.Common.{◌≡◌, ℕ, ◌+◌, ◌<◌, List, [], ◌∷◌, ◌++◌, length, take, get_or, refl, sym, ap, subst, ◌∙◌}
 use Rattle.std.specs.Map.{keys_of}
 use Rattle.std.proofs.lemmas.List.{take_more}
-use Rattle.sig_base.specs.declared.value.Outcome.{Outcome}
 use Rattle.signal_laws.specs.ReadingLaws.{joined, firsts_after}
 use Rattle.signal_laws.proofs.Shared.{all_snoc, firsts_append_law}
 use Rattle.tpl_hearing.specs.Hearing.{Grows, Outcomes, heard_of}

@@ -1,4 +1,4 @@
-use Rattle.std.proofs.Common.{[], ◌∷◌, sym, ap, ◌∙◌}
+use Rattle.std.proofs.Common.{[], ◌∷◌, ap, ◌∙◌}
 use Rattle.tpl_hearing.specs.Hearing.{heard_of}
 use Rattle.tpl_hearing.proofs.Compared.{one_compared, still_compared}
 use Rattle.tpl_hearing.proofs.Hearings.{last_heard}
