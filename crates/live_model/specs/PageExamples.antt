@@ -11,6 +11,8 @@ use Rattle.page_model.specs.Labels.{Kind, Text, Element}
 use Rattle.page_model.specs.Replay.{Op, OpRemove, OpInsert, OpMove, OpText, OpUnattr}
 use Rattle.tpl_syntax.specs.declared.line.Line.{Line}
 use Rattle.tpl_syntax.specs.declared.line.Line.TheVariants as line
+use Rattle.tpl_syntax.specs.declared.line.Mark.TheVariants as mark
+use Rattle.tpl_syntax.specs.declared.line.Purpose.TheVariants as purpose
 use Rattle.live_cmd.specs.declared.command.Command.TheVariants as command
 use Rattle.live_cmd.specs.declared.command.Verb.TheVariants as verb
 use Rattle.live_cmd.specs.declared.command.Item.{Item}
@@ -48,13 +50,35 @@ element n name inner rest = node n (Element name []) inner rest
 abbrev pub a_text : ℕ → List ℕ → Forest Kind
 a_text n t = node n (Text t) none none
 
+-- lines of a template
+abbrev pub text_line : Tree → Line Tree
+text_line f = line.Over purpose.Text f
+
+abbrev pub attr_line : List ℕ → Tree → Line Tree
+attr_line n f = line.Over (purpose.Attr n) f
+
+abbrev pub if_line : Tree → Line Tree
+if_line f = line.Over purpose.If f
+
+abbrev pub each_line : Tree → Line Tree
+each_line f = line.Over purpose.Each f
+
+abbrev pub tag_line : List ℕ → Line Tree
+tag_line n = line.Plain (mark.Tag n)
+
+abbrev pub else_line : Line Tree
+else_line = line.Plain mark.Else
+
+abbrev pub end_line : Line Tree
+end_line = line.Plain mark.End
+
 -- ---- choices and attributes
 
 -- c and d are true; the page has one of two texts by c, and an input that is disabled by d. c is set twice and is as before, and then d is set
 abbrev pub chosen : List Item
 chosen = a_cell (codes "c") (scalar.Bool true) ∷ a_cell (codes "d") (scalar.Bool true)
-    ∷ a_template (codes "t") (line.If (slot 0) ∷ line.Text (literal (words (codes "yes"))) ∷ line.Else ∷ line.Text (literal (words (codes "no")))
-    ∷ line.End ∷ line.Tag (codes "input") ∷ line.Attr (codes "disabled") (slot 1) ∷ line.End ∷ []) (codes "c" ∷ codes "d" ∷ [])
+    ∷ a_template (codes "t") (if_line (slot 0) ∷ text_line (literal (words (codes "yes"))) ∷ else_line ∷ text_line (literal (words (codes "no")))
+    ∷ end_line ∷ tag_line (codes "input") ∷ attr_line (codes "disabled") (slot 1) ∷ end_line ∷ []) (codes "c" ∷ codes "d" ∷ [])
     ∷ a_mount (codes "p") (codes "t") ∷ a_set (codes "c") (scalar.Bool false) ∷ a_set (codes "c") (scalar.Bool true) ∷ a_flush
     ∷ a_set (codes "d") (scalar.Bool false) ∷ a_flush ∷ []
 
@@ -70,8 +94,7 @@ chosen_told = refl
 
 -- the lines of a list, each with the row's t
 abbrev pub lines_of_rows : List (Line Tree)
-lines_of_rows = line.Tag (codes "ul") ∷ line.Each (slot 0) ∷ line.Tag (codes "li") ∷ line.Text (row_field (codes "t")) ∷ line.End ∷ line.End
-    ∷ line.End ∷ []
+lines_of_rows = tag_line (codes "ul") ∷ each_line (slot 0) ∷ tag_line (codes "li") ∷ text_line (row_field (codes "t")) ∷ end_line ∷ end_line ∷ end_line ∷ []
 
 -- three rows are shown; the third becomes the first, the second goes, one comes behind, and the first of before changes its text. Then that one
 -- goes, and another one comes with its key.
@@ -85,8 +108,7 @@ rows_change = a_list (codes "l") (codes "t" ∷ []) ∷ an_insert (codes "l") 0 
 
 -- a row keeps its node as long as its key stands on the page
 pub rows_change_told : ops_of rows_change
-    ≡ op (codes "p") (OpInsert 0 0 1 (Element (codes "ul") []) (element 2 (codes "li") (a_text 3 (codes "A"))
-      (element 4 (codes "li") (a_text 5 (codes "B"))
+    ≡ op (codes "p") (OpInsert 0 0 1 (Element (codes "ul") []) (element 2 (codes "li") (a_text 3 (codes "A")) (element 4 (codes "li") (a_text 5 (codes "B"))
     (element 6 (codes "li") (a_text 7 (codes "C")) none))))
     ∷ op (codes "p") (OpRemove 4) ∷ op (codes "p") (OpMove 6 0) ∷ op (codes "p") (OpInsert 1 2 8 (Element (codes "li") []) (a_text 9 (codes "D")))
     ∷ op (codes "p") (OpText 3 (codes "Z")) ∷ op (codes "p") (OpMove 2 0) ∷ op (codes "p") (OpText 3 (codes "Q")) ∷ []
@@ -97,7 +119,7 @@ rows_change_told = refl
 
 -- a page of an element without anything in it is mounted, flushed, shown and made from scratch
 abbrev pub empty_element : List Item
-empty_element = a_template (codes "t") (line.Tag (codes "ul") ∷ line.End ∷ []) [] ∷ a_mount (codes "p") (codes "t") ∷ a_flush
+empty_element = a_template (codes "t") (tag_line (codes "ul") ∷ end_line ∷ []) [] ∷ a_mount (codes "p") (codes "t") ∷ a_flush
     ∷ item.Do (command.Named verb.Show (codes "p")) ∷ item.Do (command.Named verb.Scratch (codes "p")) ∷ []
 
 -- a flush tells a page only where it has an operation

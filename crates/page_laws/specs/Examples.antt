@@ -6,12 +6,11 @@ use Rattle.page_model.specs.Addresses.{address}
 use Rattle.page_model.specs.Forest.{Forest, none, node}
 use Rattle.page_model.specs.Labels.{Kind, Root, Text, Element}
 use Rattle.page_model.specs.Replay.{OpInsert, OpText, Done, replay}
-use Rattle.tpl_syntax.specs.declared.line.Line.TheVariants as line
 use Rattle.live_cmd.specs.declared.command.Item.{Item}
 use Rattle.live_model.specs.EffectExamples.{a_flush}
 use Rattle.live_model.specs.Examples.{a_cell, a_set, a_template, environment}
 use Rattle.live_model.specs.Machine.{Machine, empty, step, template_at}
-use Rattle.live_model.specs.PageExamples.{a_mount}
+use Rattle.live_model.specs.PageExamples.{a_mount, end_line, tag_line, text_line}
 use Rattle.live_model.specs.Pages.{page_html, scratch_html}
 use Rattle.live_model.specs.RowExamples.{words}
 use Rattle.page_laws.specs.LivePages.{ops_of, tree_named}
@@ -25,7 +24,7 @@ machine_after m (i ∷ is) = machine_after (step environment m i).machine is
 abbrev pub made : Machine
 made =
     machine_after (empty 0) (a_cell (codes "c") (words (codes "A"))
-    ∷ a_template (codes "t") (line.Tag (codes "b") ∷ line.Text (slot 0) ∷ line.End ∷ []) (codes "c" ∷ []) ∷ [])
+    ∷ a_template (codes "t") (tag_line (codes "b") ∷ text_line (slot 0) ∷ end_line ∷ []) (codes "c" ∷ []) ∷ [])
 
 abbrev pub mounted : Machine
 mounted = machine_after made (a_mount (codes "p") (codes "t") ∷ [])

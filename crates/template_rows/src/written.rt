@@ -4,7 +4,7 @@ use crate::blocks::{is_written, read};
 use sig_base::{Name, NoMemory};
 use sig_formula::Formula;
 use std::alloc::Global;
-use tpl_syntax::Line;
+use tpl_syntax::{Line, Mark, Purpose};
 
 const TODO: &str = "tag @section
 attr @class \"todo\"
@@ -55,9 +55,9 @@ fn are_slots(lines: &[Line<Formula>]) -> bool {
     match lines {
         [
             _,
-            Line::If(Formula::Slot(2)),
-            Line::Text(Formula::Slot(1)),
-            Line::End,
+            Line::Over(Purpose::If, Formula::Slot(2)),
+            Line::Over(Purpose::Text, Formula::Slot(1)),
+            Line::Plain(Mark::End),
         ] => true,
         _ => false,
     }

@@ -23,6 +23,8 @@ use Rattle.tpl_syntax.specs.declared.fault.TemplateWhy.{TemplateWhy}
 use Rattle.tpl_syntax.specs.declared.fault.TemplateWhy.TheVariants as why
 use Rattle.tpl_syntax.specs.declared.line.Line.{Line}
 use Rattle.tpl_syntax.specs.declared.line.Line.TheVariants as line
+use Rattle.tpl_syntax.specs.declared.line.Mark.TheVariants as mark
+use Rattle.tpl_syntax.specs.declared.line.Purpose.TheVariants as purpose
 use Rattle.tpl_syntax.specs.declared.place.Content.{Content}
 use Rattle.tpl_syntax.specs.declared.place.Content.TheVariants as content
 use Rattle.tpl_syntax.specs.declared.place.Level.{Level}
@@ -30,8 +32,8 @@ use Rattle.tpl_syntax.specs.declared.place.Level.TheVariants as level
 use Rattle.tpl_syntax.specs.Grammar as grammar
 use Rattle.tpl_syntax.specs.Grammar.{Row, row, Said, Writes, line_of}
 use Rattle.tpl_syntax.specs.Judging.{fault_at, fault_of, first_misplaced, high, in_element, is_bare_text, is_nested, judged, misplacing, missing, refusal_of}
-use Rattle.tpl_syntax.specs.Lines.{Plan, is_child, mapped}
-use Rattle.tpl_syntax.specs.Places.{Place, among, content_at, content_of, fits, in_loop, is_choice, is_closed, moved, top}
+use Rattle.tpl_syntax.specs.Lines.{Plan, mapped}
+use Rattle.tpl_syntax.specs.Places.{Place, Role, leaf, begins, among, content_at, content_of, fits, in_loop, is_child, is_choice, is_closed, moved, role_of, top}
 use Rattle.tpl_syntax.specs.Templates.{Answer, IsRead, Say, Sayings, faulty, names_of, plan_of, reached, says, unended, unless_refused}
 use Rattle.tpl_blocks.specs.Blocks.{lines_of, model_line}
 
@@ -122,18 +124,18 @@ other_attributes (l ∷ ls) d xs q (r ∷ qs) h = h
 -- ---- one line
 
 -- a child stands where there may be some
-some_children : (c : Content) (bare : Bool) (l : Line Draft) → is_child l ≡ true → in_element c bare l ≡ None → c ≡ content.Nothing → ⊥
-some_children content.Nothing bare l child h e = let k : Some why.VoidChild ≡ None = rw child at h in cc
-some_children content.Bare bare l child h e = cc
-some_children content.Lines bare l child h e = cc
+some_children : (c : Content) (bare : Bool) (r : Role) → is_child r ≡ true → in_element c bare r ≡ None → c ≡ content.Nothing → ⊥
+some_children content.Nothing bare r child h e = let k : Some why.VoidChild ≡ None = rw child at h in cc
+some_children content.Bare bare r child h e = cc
+some_children content.Lines bare r child h e = cc
 
 void_content : (n : List ℕ) → is_void n ≡ true → content_of n ≡ content.Nothing
 void_content n h = rw h refl
 
 -- the names of a line are names of HTML
 abbrev GoodLine : Line Draft → Type 0
-GoodLine (line.Tag n) = good_name n ≡ true
-GoodLine (line.Attr n f) = good_name n ≡ true
+GoodLine (line.Plain (mark.Tag n)) = good_name n ≡ true
+GoodLine (line.Over (purpose.Attr n) f) = good_name n ≡ true
 GoodLine l = Unit {0}
 
 -- how deep lines nest behind a line, where they nest so deep before it
@@ -145,21 +147,21 @@ abbrev Stepped : Place → ℕ → ℕ → Line Tree → List model.Part → Typ
 Stepped p d n l parts = FitFrom p d (model.with_line n (model_line l) parts)
 
 text_step : (p : Place) (d n : ℕ) (f : Tree) (parts : List model.Part) → (content_at p.levels ≡ content.Nothing → ⊥) → FitFrom (among p.levels) d parts →
-    Stepped p d n (line.Text f) parts
+    Stepped p d n (line.Over purpose.Text f) parts
 text_step p d n f [] some h = absurd h
 text_step p d n f (q ∷ qs) some h =
     (none_wait p.in_tag p.attributes q.attributes h.0, other_lines p.levels d (model.text n f q.lines) q qs some (λ k. k) h.1)
 
 attr_step : (p : Place) (d n : ℕ) (name : List ℕ) (f : Tree) (parts : List model.Part) →
     (p.in_tag && not (list_any (λ m. bytes_eq m name) p.attributes)) ≡ true → good_name name ≡ true →
-    FitFrom (record p { attributes = p.attributes ++ name ∷ [] }) d parts → Stepped p d n (line.Attr name f) parts
+    FitFrom (record p { attributes = p.attributes ++ name ∷ [] }) d parts → Stepped p d n (line.Over (purpose.Attr name) f) parts
 attr_step p d n name f [] fit good h = absurd h
 attr_step p d n name f (q ∷ qs) fit good h =
     (more_wait p.in_tag p.attributes name f q.attributes fit good h.0, other_attributes p.levels d ((name, f) ∷ q.attributes) q qs h.1)
 
 tag_step : (p : Place) (d n : ℕ) (name : List ℕ) (parts : List model.Part) → (content_at p.levels ≡ content.Nothing → ⊥) → good_name name ≡ true →
     FitFrom (record { levels = level.Element (content_of name) ∷ p.levels; in_tag = true; attributes = [] }) d parts →
-    Stepped p (suc d) n (line.Tag name) parts
+    Stepped p (suc d) n (line.Plain (mark.Tag name)) parts
 tag_step p d n name [] some good h = absurd h
 tag_step p d n name (i ∷ []) some good h = absurd h.1
 tag_step p d n name (i ∷ q ∷ qs) some good h = (
@@ -169,7 +171,7 @@ tag_step p d n name (i ∷ q ∷ qs) some good h = (
 )
 
 if_step : (p : Place) (d n : ℕ) (f : Tree) (parts : List model.Part) → (content_at p.levels ≡ content.Nothing → ⊥) →
-    FitFrom (among (level.Choice ∷ p.levels)) d parts → Stepped p (suc d) n (line.If f) parts
+    FitFrom (among (level.Choice ∷ p.levels)) d parts → Stepped p (suc d) n (line.Over purpose.If f) parts
 if_step p d n f [] some h = absurd h
 if_step p d n f (i ∷ []) some h = absurd h.1
 if_step p d n f (i ∷ q ∷ qs) some h = (
@@ -178,7 +180,7 @@ if_step p d n f (i ∷ q ∷ qs) some h = (
 )
 
 each_step : (p : Place) (d n : ℕ) (f : Tree) (parts : List model.Part) → (content_at p.levels ≡ content.Nothing → ⊥) → in_loop p.levels ≡ false →
-    FitFrom (among (level.Loop ∷ p.levels)) d parts → Stepped p (suc d) n (line.Each f) parts
+    FitFrom (among (level.Loop ∷ p.levels)) d parts → Stepped p (suc d) n (line.Over purpose.Each f) parts
 each_step p d n f [] some alone h = absurd h
 each_step p d n f (i ∷ []) some alone h = absurd h.1
 each_step p d n f (i ∷ q ∷ qs) some alone h = (
@@ -187,19 +189,19 @@ each_step p d n f (i ∷ q ∷ qs) some alone h = (
 )
 
 else_step : (ls : List Level) (t : Bool) (before : List (List ℕ)) (d n : ℕ) (parts : List model.Part) → FitFrom (among (level.Other ∷ ls)) d parts →
-    Stepped (record { levels = level.Choice ∷ ls; in_tag = t; attributes = before }) d n line.Else parts
+    Stepped (record { levels = level.Choice ∷ ls; in_tag = t; attributes = before }) d n (line.Plain mark.Else) parts
 else_step ls t before d n [] h = absurd h
 else_step ls t before d n (i ∷ []) h = absurd h.1
 else_step ls t before d n (i ∷ q ∷ qs) h = (none_wait t before [] refl, ((tt, (λ e. h.1.0.0), (λ e. refl)), h.1.1, h.1.2))
 
 end_step : (l : Level) (ls : List Level) (t : Bool) (before : List (List ℕ)) (d n : ℕ) (parts : List model.Part) → FitFrom (among ls) (suc d) parts →
-    Stepped (record { levels = l ∷ ls; in_tag = t; attributes = before }) d n line.End parts
+    Stepped (record { levels = l ∷ ls; in_tag = t; attributes = before }) d n (line.Plain mark.End) parts
 end_step l ls t before d n [] h = absurd h
 end_step l ls t before d n (q ∷ qs) h = (none_wait t before [] refl, ((tt, (λ e. tt), (λ e. refl)), h.0, h.1))
 
 else_any : (ls : List Level) (t : Bool) (before : List (List ℕ)) (d n : ℕ) (parts : List model.Part) → is_choice ls ≡ true → Room ls d →
     ((e : ℕ) → Room (level.Other ∷ drop 1 ls) e → FitFrom (among (level.Other ∷ drop 1 ls)) e parts) →
-    Stepped (record { levels = ls; in_tag = t; attributes = before }) d n line.Else parts
+    Stepped (record { levels = ls; in_tag = t; attributes = before }) d n (line.Plain mark.Else) parts
 else_any [] t before d n parts fit room rest = absurd cc
 else_any (level.Element c ∷ ls) t before d n parts fit room rest = absurd cc
 else_any (level.Choice ∷ ls) t before d n parts fit room rest = else_step ls t before d n parts (rest d room)
@@ -207,7 +209,7 @@ else_any (level.Other ∷ ls) t before d n parts fit room rest = absurd cc
 else_any (level.Loop ∷ ls) t before d n parts fit room rest = absurd cc
 
 end_any : (ls : List Level) (t : Bool) (before : List (List ℕ)) (d n : ℕ) (parts : List model.Part) → not (length ls == 0) ≡ true → Room ls d →
-    ((e : ℕ) → Room (drop 1 ls) e → FitFrom (among (drop 1 ls)) e parts) → Stepped (record { levels = ls; in_tag = t; attributes = before }) d n line.End parts
+    ((e : ℕ) → Room (drop 1 ls) e → FitFrom (among (drop 1 ls)) e parts) → Stepped (record { levels = ls; in_tag = t; attributes = before }) d n (line.Plain mark.End) parts
 end_any [] t before d n parts fit room rest = absurd cc
 end_any (l ∷ ls) t before d n parts fit room rest = end_step l ls t before d n parts (rest (suc d) (omega arith))
 
@@ -217,26 +219,26 @@ deeper ls zero room flat = absurd (omega (arith, ltb-false 32 (length ls + 2) fl
 deeper ls (suc e) room flat = (e, refl, omega arith)
 
 stepped : (g : Draft → Tree) (p : Place) (d n : ℕ) (l : Line Draft) (bare : Bool) (parts : List model.Part) → Room p.levels d → fits p l ≡ true →
-    in_element (content_at p.levels) bare l ≡ None → is_nested p l ≡ false → GoodLine l →
+    in_element (content_at p.levels) bare (role_of l) ≡ None → is_nested p (role_of l) ≡ false → GoodLine l →
     ((e : ℕ) → Room (moved p l).levels e → FitFrom (moved p l) e parts) → Stepped p d n (mapped g l) parts
-stepped g p d n (line.Text f) bare parts room fit inside flat good rest =
-    text_step p d n (g f) parts (some_children (content_at p.levels) bare (line.Text f) refl inside) (rest d room)
-stepped g p d n (line.Tag name) bare parts room fit inside flat good rest =
+stepped g p d n (line.Over purpose.Text f) bare parts room fit inside flat good rest =
+    text_step p d n (g f) parts (some_children (content_at p.levels) bare leaf refl inside) (rest d room)
+stepped g p d n (line.Plain (mark.Tag name)) bare parts room fit inside flat good rest =
     let e = deeper p.levels d room flat in
-    subst (λ x. Stepped p x n (line.Tag name) parts) (sym e.1)
-    (tag_step p e.0 n name parts (some_children (content_at p.levels) bare (line.Tag name) refl inside) good (rest e.0 e.2))
-stepped g p d n (line.Attr name f) bare parts room fit inside flat good rest = attr_step p d n name (g f) parts fit good (rest d room)
-stepped g p d n (line.If f) bare parts room fit inside flat good rest =
+    subst (λ x. Stepped p x n (line.Plain (mark.Tag name)) parts) (sym e.1)
+    (tag_step p e.0 n name parts (some_children (content_at p.levels) bare (begins (level.Element (content_of name))) refl inside) good (rest e.0 e.2))
+stepped g p d n (line.Over (purpose.Attr name) f) bare parts room fit inside flat good rest = attr_step p d n name (g f) parts fit good (rest d room)
+stepped g p d n (line.Over purpose.If f) bare parts room fit inside flat good rest =
     let e = deeper p.levels d room flat in
-    subst (λ x. Stepped p x n (line.If (g f)) parts) (sym e.1)
-    (if_step p e.0 n (g f) parts (some_children (content_at p.levels) bare (line.If f) refl inside) (rest e.0 e.2))
-stepped g p d n line.Else bare parts room fit inside flat good rest = else_any p.levels p.in_tag p.attributes d n parts fit room rest
-stepped g p d n (line.Each f) bare parts room fit inside flat good rest =
+    subst (λ x. Stepped p x n (line.Over purpose.If (g f)) parts) (sym e.1)
+    (if_step p e.0 n (g f) parts (some_children (content_at p.levels) bare (begins level.Choice) refl inside) (rest e.0 e.2))
+stepped g p d n (line.Plain mark.Else) bare parts room fit inside flat good rest = else_any p.levels p.in_tag p.attributes d n parts fit room rest
+stepped g p d n (line.Over purpose.Each f) bare parts room fit inside flat good rest =
     let both = or_parts (in_loop p.levels) (nat_lt 32 (length p.levels + 2)) flat in
     let e = deeper p.levels d room both.1 in
-    subst (λ x. Stepped p x n (line.Each (g f)) parts) (sym e.1)
-    (each_step p e.0 n (g f) parts (some_children (content_at p.levels) bare (line.Each f) refl inside) both.0 (rest e.0 e.2))
-stepped g p d n line.End bare parts room fit inside flat good rest = end_any p.levels p.in_tag p.attributes d n parts fit room rest
+    subst (λ x. Stepped p x n (line.Over purpose.Each (g f)) parts) (sym e.1)
+    (each_step p e.0 n (g f) parts (some_children (content_at p.levels) bare (begins level.Loop) refl inside) both.0 (rest e.0 e.2))
+stepped g p d n (line.Plain mark.End) bare parts room fit inside flat good rest = end_any p.levels p.in_tag p.attributes d n parts fit room rest
 
 -- ---- what the names of a line are
 
@@ -245,17 +247,13 @@ unfolding good_name
 name_good n h k = and_from (is_tag n) (nat_le (length n) MOST_TAG) h (le-leb (length n) MOST_TAG k)
 
 good_said : (bytes : List ℕ) (r : Row) (a : Args (row r).1) → Writes (r, a) bytes → GoodLine (line_of (r, a))
-good_said bytes grammar.text a w = tt
 good_said bytes grammar.tag a w =
     let k = (rewrites Row row bytes w.tokens (grammar.tag, a) w.cut w.spelled).parts.0.1 in
     name_good a.0 k.0 k.1
 good_said bytes grammar.attr a w =
     let k = (rewrites Row row bytes w.tokens (grammar.attr, a) w.cut w.spelled).parts.0.1 in
     name_good a.0 k.0 k.1
-good_said bytes grammar.choice a w = tt
-good_said bytes grammar.other a w = tt
-good_said bytes grammar.loop a w = tt
-good_said bytes grammar.close a w = tt
+good_said bytes _ a w = tt
 
 -- ---- all lines
 
@@ -289,11 +287,11 @@ fit_all g p d n (l ∷ ls) (x ∷ xs) s m c room =
     let said = line_of x.1 in
     let wrong = fault_of p said in
     let bare = is_bare_text said in
-    let both = neither (option_map (fault_at x.0) (misplacing p wrong bare said)) (first_misplaced (judged (moved p said) xs)) m in
-    let placed = neither (missing wrong) _ (no_why x.0 (misplacing p wrong bare said) both.0) in
-    let held = neither (in_element (content_at p.levels) bare said) _ placed.1 in
+    let both = neither (option_map (fault_at x.0) (misplacing p wrong bare (role_of said))) (first_misplaced (judged (moved p said) xs)) m in
+    let placed = neither (missing wrong) _ (no_why x.0 (misplacing p wrong bare (role_of said)) both.0) in
+    let held = neither (in_element (content_at p.levels) bare (role_of said)) _ placed.1 in
     stepped g p d n said bare (model.parts_from (suc n) (lines_on g xs)) room s.2 held.0
-    (not_so (is_nested p said) why.Nest (high wrong) held.1) (good_said l.1 x.1.0 x.1.1 s.1)
+    (not_so (is_nested p (role_of said)) why.Nest (high wrong) held.1) (good_said l.1 x.1.0 x.1.1 s.1)
     (λ e deep. fit_all g (moved p said) e (suc n) ls xs s.3 both.1 c deep)
 
 first_fits : (parts : List model.Part) → FitFrom top 31 parts → Fits (model.first_block parts) 31 false

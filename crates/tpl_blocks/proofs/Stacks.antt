@@ -5,9 +5,7 @@ use Rattle.std.proofs.lemmas.List.{reverse-append, map-append}
 use Rattle.tpl_model.specs.Lines as model
 use Rattle.tpl_syntax.specs.declared.line.Line.{Line}
 use Rattle.sig_formula.specs.declared.formula.Formula.{Formula}
-use Rattle.tpl_blocks.specs.Blocks.{held, line_of, part_of, IsAround, IsTop}
-use Rattle.tpl_blocks.specs.Blocks.{attribute_before, choice_before, each_before, else_before, tag_before, text_before}
-use Rattle.sig_formula.specs.Trees.{Tree}
+use Rattle.tpl_blocks.specs.Blocks.{held, line_of, part_of, GoesAround, IsTop, StandsBefore}
 use Rattle.tpl_blocks.specs.declared.building.Part.{Part}
 
 -- a part is put there
@@ -31,45 +29,23 @@ top_of None before now m n Rest l k e c = (nobody_there m before l c.0, nobody_t
 top_of (Some p) before now m n Rest l k e c = ap held e ∙ held_push now p
 
 -- where there are fewer than two, a line that goes around them says nothing
-pub short : (parts : List Part) → length parts < 2 → (n : ℕ) (l : model.Line) → IsAround l → held parts ≡ model.with_line n l (held parts)
+pub short : (parts : List Part) → length parts < 2 → (n : ℕ) (l : model.Line) → GoesAround n l → held parts ≡ model.with_line n l (held parts)
 unfolding held
-short [] h n (model.TagLine name) a = refl
-short [] h n (model.IfLine f) a = refl
-short [] h n (model.EachLine f) a = refl
-short [] h n (model.TextLine f) a = absurd a
-short [] h n (model.AttrLine name f) a = absurd a
-short [] h n model.ElseLine a = absurd a
-short [] h n model.TryLine a = absurd a
-short [] h n model.EndLine a = absurd a
-short (p ∷ []) h n (model.TagLine name) a = refl
-short (p ∷ []) h n (model.IfLine f) a = refl
-short (p ∷ []) h n (model.EachLine f) a = refl
-short (p ∷ []) h n (model.TextLine f) a = absurd a
-short (p ∷ []) h n (model.AttrLine name f) a = absurd a
-short (p ∷ []) h n model.ElseLine a = absurd a
-short (p ∷ []) h n model.TryLine a = absurd a
-short (p ∷ []) h n model.EndLine a = absurd a
+short [] h n l a = sym a.0
+short (p ∷ []) h n l a = sym (a.1 (part_of p))
 short (p ∷ q ∷ parts) h n l a = absurd (omega arith)
 
 -- ---- what a line does to the parts
 
-pub text_line : (n : ℕ) (f : Tree) (p q : model.Part) (before rest now : List model.Part) → before ≡ p ∷ rest → q ≡ text_before n f p → now ≡ q ∷ rest → now ≡ model.with_line n (model.TextLine f) before
-text_line n f p q before rest now e g h = h ∙ (ap (λ z. z ∷ rest) g ∙ sym (ap (model.with_line n (model.TextLine f)) e))
+-- it stands before the lines of the innermost
+pub line_before : (n : ℕ) (l : model.Line) (p q : model.Part) (before rest now : List model.Part) → StandsBefore n l → before ≡ p ∷ rest →
+    q ∷ [] ≡ model.with_line n l (p ∷ []) → now ≡ q ∷ rest → now ≡ model.with_line n l before
+line_before n l p q before rest now a e g h = h ∙ (ap (λ z. z ++ rest) g ∙ (sym (a.1 p rest) ∙ sym (ap (model.with_line n l) e)))
 
-pub attribute_line : (n : ℕ) (name : List ℕ) (f : Tree) (p q : model.Part) (before rest now : List model.Part) → before ≡ p ∷ rest → q ≡ attribute_before name f p → now ≡ q ∷ rest → now ≡ model.with_line n (model.AttrLine name f) before
-attribute_line n name f p q before rest now e g h = h ∙ (ap (λ z. z ∷ rest) g ∙ sym (ap (model.with_line n (model.AttrLine name f)) e))
-
-pub else_line : (n : ℕ) (p q : model.Part) (before rest now : List model.Part) → before ≡ p ∷ rest → q ≡ else_before p → now ≡ q ∷ rest → now ≡ model.with_line n model.ElseLine before
-else_line n p q before rest now e g h = h ∙ (ap (λ z. z ∷ rest) g ∙ sym (ap (model.with_line n model.ElseLine) e))
-
-pub tag_line : (n : ℕ) (name : List ℕ) (i p q : model.Part) (before rest now : List model.Part) → before ≡ i ∷ p ∷ rest → q ≡ tag_before n name i p → now ≡ q ∷ rest → now ≡ model.with_line n (model.TagLine name) before
-tag_line n name i p q before rest now e g h = h ∙ (ap (λ z. z ∷ rest) g ∙ sym (ap (model.with_line n (model.TagLine name)) e))
-
-pub choice_line : (n : ℕ) (f : Tree) (i p q : model.Part) (before rest now : List model.Part) → before ≡ i ∷ p ∷ rest → q ≡ choice_before f i p → now ≡ q ∷ rest → now ≡ model.with_line n (model.IfLine f) before
-choice_line n f i p q before rest now e g h = h ∙ (ap (λ z. z ∷ rest) g ∙ sym (ap (model.with_line n (model.IfLine f)) e))
-
-pub each_line : (n : ℕ) (f : Tree) (i p q : model.Part) (before rest now : List model.Part) → before ≡ i ∷ p ∷ rest → q ≡ each_before f i p → now ≡ q ∷ rest → now ≡ model.with_line n (model.EachLine f) before
-each_line n f i p q before rest now e g h = h ∙ (ap (λ z. z ∷ rest) g ∙ sym (ap (model.with_line n (model.EachLine f)) e))
+-- it goes around the innermost
+pub line_around : (n : ℕ) (l : model.Line) (i p q : model.Part) (before rest now : List model.Part) → GoesAround n l → before ≡ i ∷ p ∷ rest →
+    q ∷ [] ≡ model.with_line n l (i ∷ p ∷ []) → now ≡ q ∷ rest → now ≡ model.with_line n l before
+line_around n l i p q before rest now a e g h = h ∙ (ap (λ z. z ++ rest) g ∙ (sym (a.2 i p rest) ∙ sym (ap (model.with_line n l) e)))
 
 -- one more line, the one before those that were gone over
 pub one_back : (lines : List (Line Formula)) (x : Line Formula) (at : ℕ) (before now : List model.Part) → 0 < at → drop (at - 1) lines ≡ x ∷ drop at lines →

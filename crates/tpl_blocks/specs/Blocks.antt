@@ -1,24 +1,36 @@
 -- Templates that were read, as the definitions of what a page shows see them.
-use Rattle.std.specs.Prelude.{◌≡◌, List, [], ◌∷◌, map, reverse, Option, Some, None, ℕ}
+use Rattle.std.specs.Prelude.{◌≡◌, List, [], ◌∷◌, ◌++◌, map, reverse, Option, Some, None, ℕ}
 use Rattle.sig_formula.specs.Trees.{Tree, tree}
 use Rattle.sig_formula.specs.declared.formula.Formula.{Formula}
 use Rattle.tpl_model.specs.Lines as model
 use Rattle.tpl_syntax.specs.Lines.{Plan, mapped}
 use Rattle.tpl_syntax.specs.declared.line.Line.{Line}
 use Rattle.tpl_syntax.specs.declared.line.Line.TheVariants as line
+use Rattle.tpl_syntax.specs.declared.line.Mark.{Mark}
+use Rattle.tpl_syntax.specs.declared.line.Mark.TheVariants as mark
+use Rattle.tpl_syntax.specs.declared.line.Purpose.{Purpose}
+use Rattle.tpl_syntax.specs.declared.line.Purpose.TheVariants as purpose
 use Rattle.tpl_blocks.specs.declared.block.Block.{Block}
 use Rattle.tpl_blocks.specs.declared.block.Block.TheVariants as held_block
 use Rattle.tpl_blocks.specs.declared.building.Part.{Part}
 
--- a line that was read, as a line of the model
+-- a line without a formula, as a line of the model
+abbrev pub mark_line : Mark → model.Line
+mark_line (mark.Tag n) = model.TagLine n
+mark_line mark.Else = model.ElseLine
+mark_line mark.End = model.EndLine
+
+-- a line with a formula
+abbrev pub purpose_line : Purpose → Tree → model.Line
+purpose_line purpose.Text f = model.TextLine f
+purpose_line (purpose.Attr n) f = model.AttrLine n f
+purpose_line purpose.If f = model.IfLine f
+purpose_line purpose.Each f = model.EachLine f
+
+-- a line that was read
 abbrev pub model_line : Line Tree → model.Line
-model_line (line.Text f) = model.TextLine f
-model_line (line.Tag n) = model.TagLine n
-model_line (line.Attr n f) = model.AttrLine n f
-model_line (line.If f) = model.IfLine f
-model_line line.Else = model.ElseLine
-model_line (line.Each f) = model.EachLine f
-model_line line.End = model.EndLine
+model_line (line.Plain m) = mark_line m
+model_line (line.Over p f) = purpose_line p f
 
 -- the lines of a template
 abbrev pub lines_of : Plan → List model.Line
@@ -47,30 +59,6 @@ line_of l = model_line (mapped tree l)
 abbrev pub part_of : Part → model.Part
 part_of p = record { lines = block p.lines.value; others = block p.others.value; attributes = waiting p.attributes.items }
 
--- a text before the lines of a part
-abbrev pub text_before : ℕ → Tree → model.Part → model.Part
-text_before n f p = record p { lines = model.text n f p.lines }
-
--- an attribute before those that wait
-abbrev pub attribute_before : List ℕ → Tree → model.Part → model.Part
-attribute_before name f p = record p { attributes = (name, f) ∷ p.attributes }
-
--- an element around a part, before the lines of another
-abbrev pub tag_before : ℕ → List ℕ → model.Part → model.Part → model.Part
-tag_before n name inner p = record p { lines = model.tag n name inner.attributes inner.lines p.lines }
-
--- a choice around a part, before the lines of another
-abbrev pub choice_before : Tree → model.Part → model.Part → model.Part
-choice_before f inner p = record p { lines = model.choice f inner.lines inner.others p.lines }
-
--- a part once for each row, before the lines of another
-abbrev pub each_before : Tree → model.Part → model.Part → model.Part
-each_before f inner p = record p { lines = model.each f inner.lines p.lines }
-
--- the lines of a part apart from those that are still to come
-abbrev pub else_before : model.Part → model.Part
-else_before p = record { lines = model.empty; others = p.lines; attributes = [] }
-
 -- the open parts, held with the innermost last
 unfoldable pub held : List Part → List model.Part
 held parts = reverse (map part_of parts)
@@ -80,14 +68,19 @@ abbrev pub IsTop : Option Part → List model.Part → List model.Part → Type 
 IsTop None before now = (before ≡ []) × (now ≡ [])
 IsTop (Some p) before now = before ≡ part_of p ∷ now
 
--- a line that goes around what was read behind it
-abbrev pub IsAround : model.Line → Type 0
-IsAround (model.TagLine name) = Unit {0}
-IsAround (model.IfLine f) = Unit {0}
-IsAround (model.EachLine f) = Unit {0}
-IsAround l = ⊥
+-- a line that stands before those of the innermost part, and leaves the others
+abbrev pub StandsBefore : ℕ → model.Line → Type 0
+StandsBefore n l =
+    (model.with_line n l [] ≡ [])
+    × ((p : model.Part) (rest : List model.Part) → model.with_line n l (p ∷ rest) ≡ model.with_line n l (p ∷ []) ++ rest)
+
+-- a line that goes around the innermost part, before the lines of the next, and leaves the others; it needs both
+abbrev pub GoesAround : ℕ → model.Line → Type 0
+GoesAround n l =
+    (model.with_line n l [] ≡ []) × ((p : model.Part) → model.with_line n l (p ∷ []) ≡ p ∷ [])
+    × ((i p : model.Part) (rest : List model.Part) → model.with_line n l (i ∷ p ∷ rest) ≡ model.with_line n l (i ∷ p ∷ []) ++ rest)
 
 -- The innermost part, the one around it, and the others; or there aren't two, all are left, and a line that goes around them says nothing.
 abbrev pub IsPair : Option (Part × Part) → List model.Part → List model.Part → Type 0
-IsPair None before now = (n : ℕ) (l : model.Line) → IsAround l → now ≡ model.with_line n l before
+IsPair None before now = (n : ℕ) (l : model.Line) → GoesAround n l → now ≡ model.with_line n l before
 IsPair (Some p) before now = before ≡ part_of p.0 ∷ part_of p.1 ∷ now

@@ -1,15 +1,14 @@
 // The blocks of a template, read from its last line back.
-ghost use Rattle.std.specs.Prelude.{◌≡◌, ◌∷◌, [], map, IfOk, OnOk};
+ghost use Rattle.std.specs.Prelude.{◌≡◌, ◌∷◌, [], ℕ, map, IfOk, OnOk};
 ghost use Rattle.sig_formula.specs.Trees.{tree};
 ghost use Rattle.tpl_model.specs.Lines as model;
-ghost use Rattle.tpl_blocks.specs.Blocks.{block, held, line_of, lines_of, part_of, waiting, IsPair, IsTop};
-ghost use Rattle.tpl_blocks.specs.Blocks.{attribute_before, choice_before, each_before, else_before, tag_before, text_before};
+ghost use Rattle.tpl_blocks.specs.Blocks.{block, held, line_of, lines_of, mark_line, part_of, purpose_line, waiting, IsPair, IsTop};
 
 use crate::Block;
 use sig_base::{NoMemory, Text};
 use sig_formula::{Formula, copy_formula};
 use std::alloc::Global;
-use tpl_syntax::{Template, TplLine};
+use tpl_syntax::{Mark, Purpose, Template, TplLine};
 
 /// What stands before an `end`, read from there back: the lines, those after an `else`, and attributes that wait for their tag.
 #[derive(Drop)]
@@ -127,7 +126,7 @@ fn each_block(
 
 // A text before the lines of a part.
 fn with_text(alloc: Global, part: Part, line: usize, formula: &Formula) -> Result<Part, NoMemory>
-    ensures { IfOk result (λ p. part_of p ≡ text_before line (tree formula.now) (part_of part)) }
+    ensures { IfOk result (λ p. part_of p ∷ [] ≡ model.with_line line (model.TextLine (tree formula.now)) (part_of part ∷ [])) }
 {
     let Part {
         lines,
@@ -173,7 +172,7 @@ fn with_attribute(
     name: &Text,
     formula: &Formula,
 ) -> Result<Part, NoMemory>
-    ensures { IfOk result (λ p. part_of p ≡ attribute_before name.now (tree formula.now) (part_of part)) }
+    ensures { IfOk result (λ p. (n : ℕ) → part_of p ∷ [] ≡ model.with_line n (model.AttrLine name.now (tree formula.now)) (part_of part ∷ [])) }
 {
     let Part {
         lines,
@@ -196,7 +195,7 @@ fn with_tag(
     line: usize,
     name: &Text,
 ) -> Result<Part, NoMemory>
-    ensures { IfOk result (λ p. part_of p ≡ tag_before line name.now (part_of inner) (part_of part)) }
+    ensures { IfOk result (λ p. part_of p ∷ [] ≡ model.with_line line (model.TagLine name.now) (part_of inner ∷ part_of part ∷ [])) }
 {
     let Part {
         lines: inside,
@@ -218,7 +217,7 @@ fn with_tag(
 
 // A choice around a part, before the lines of the one around that.
 fn with_choice(alloc: Global, inner: Part, part: Part, test: &Formula) -> Result<Part, NoMemory>
-    ensures { IfOk result (λ p. part_of p ≡ choice_before (tree test.now) (part_of inner) (part_of part)) }
+    ensures { IfOk result (λ p. (n : ℕ) → part_of p ∷ [] ≡ model.with_line n (model.IfLine (tree test.now)) (part_of inner ∷ part_of part ∷ [])) }
 {
     let Part {
         lines: one,
@@ -240,7 +239,7 @@ fn with_choice(alloc: Global, inner: Part, part: Part, test: &Formula) -> Result
 
 // A part once for each row, before the lines of the one around it.
 fn with_each(alloc: Global, inner: Part, part: Part, rows: &Formula) -> Result<Part, NoMemory>
-    ensures { IfOk result (λ p. part_of p ≡ each_before (tree rows.now) (part_of inner) (part_of part)) }
+    ensures { IfOk result (λ p. (n : ℕ) → part_of p ∷ [] ≡ model.with_line n (model.EachLine (tree rows.now)) (part_of inner ∷ part_of part ∷ [])) }
 {
     let Part {
         lines: inside,
@@ -262,7 +261,7 @@ fn with_each(alloc: Global, inner: Part, part: Part, rows: &Formula) -> Result<P
 
 // Where something is begun: the lines before an `else` are still to come, and those behind it stand apart.
 fn with_else(alloc: Global, part: Part) -> Result<Part, NoMemory>
-    ensures { IfOk result (λ p. part_of p ≡ else_before (part_of part)) }
+    ensures { IfOk result (λ p. (n : ℕ) → part_of p ∷ [] ≡ model.with_line n model.ElseLine (part_of part ∷ [])) }
 {
     let Part {
         lines: others,
@@ -278,7 +277,6 @@ fn with_else(alloc: Global, part: Part) -> Result<Part, NoMemory>
 }
 
 // A text before the lines of the innermost part.
-#[tactic(auto, using(crate::proofs::Stacks::text_line))]
 fn put_text(
     alloc: Global,
     parts: &mut Vec<Part>,
@@ -380,7 +378,41 @@ fn put_end(alloc: Global, parts: &mut Vec<Part>) -> Result<(), NoMemory>
     Ok(())
 }
 
-// A line before the parts that are open behind it.
+// A line without a formula before the parts that are open behind it.
+fn put_mark(
+    alloc: Global,
+    parts: &mut Vec<Part>,
+    ordinal: usize,
+    mark: &Mark,
+) -> Result<(), NoMemory>
+    ensures { OnOk result (held parts.new.items ≡ model.with_line ordinal (mark_line mark.now) (held parts.old.items)) }
+{
+    match mark {
+        Mark::Tag(name) => put_tag(alloc, parts, ordinal, name),
+        Mark::Else => put_else(alloc, parts, ordinal),
+        Mark::End => put_end(alloc, parts),
+    }
+}
+
+// A line with a formula before them.
+fn put_over(
+    alloc: Global,
+    parts: &mut Vec<Part>,
+    ordinal: usize,
+    purpose: &Purpose,
+    formula: &Formula,
+) -> Result<(), NoMemory>
+    ensures { OnOk result (held parts.new.items ≡ model.with_line ordinal (purpose_line purpose.now (tree formula.now)) (held parts.old.items)) }
+{
+    match purpose {
+        Purpose::Text => put_text(alloc, parts, ordinal, formula),
+        Purpose::Attr(name) => put_attribute(alloc, parts, ordinal, name, formula),
+        Purpose::If => put_choice(alloc, parts, ordinal, formula),
+        Purpose::Each => put_each(alloc, parts, ordinal, formula),
+    }
+}
+
+// A line before them.
 fn put_line(
     alloc: Global,
     parts: &mut Vec<Part>,
@@ -390,13 +422,8 @@ fn put_line(
     ensures { OnOk result (held parts.new.items ≡ model.with_line ordinal (line_of line.now) (held parts.old.items)) }
 {
     match line {
-        TplLine::Text(formula) => put_text(alloc, parts, ordinal, formula),
-        TplLine::Tag(name) => put_tag(alloc, parts, ordinal, name),
-        TplLine::Attr(name, formula) => put_attribute(alloc, parts, ordinal, name, formula),
-        TplLine::If(test) => put_choice(alloc, parts, ordinal, test),
-        TplLine::Else => put_else(alloc, parts, ordinal),
-        TplLine::Each(rows) => put_each(alloc, parts, ordinal, rows),
-        TplLine::End => put_end(alloc, parts),
+        TplLine::Plain(mark) => put_mark(alloc, parts, ordinal, mark),
+        TplLine::Over(purpose, formula) => put_over(alloc, parts, ordinal, purpose, formula),
     }
 }
 

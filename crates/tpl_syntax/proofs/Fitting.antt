@@ -8,28 +8,20 @@ use Rattle.tpl_syntax.specs.declared.line.Line.TheVariants as line
 use Rattle.tpl_syntax.specs.declared.reading.Seen.{Seen}
 use Rattle.tpl_syntax.specs.Grammar.{Row, row, table, Said, Writes, line_of}
 use Rattle.tpl_syntax.specs.Lines.{mapped}
-use Rattle.tpl_syntax.specs.Places.{Place, fits, moved}
+use Rattle.tpl_syntax.specs.Places.{Place, behind, fits, moved, role_of, stands}
 use Rattle.tpl_syntax.specs.Views.{found_of}
 use Rattle.tpl_syntax.proofs.Grammars.{is_grammar}
 
--- whether a line fits, and where the next one stands, isn't told by its formula
+-- what a line is, whether it fits, and where the next one stands, isn't told by its formula
+pub same_role : {F G : Type 0} (f : F → G) (l : Line F) → role_of (mapped f l) ≡ role_of l
+same_role f (line.Plain m) = refl
+same_role f (line.Over p x) = refl
+
 pub same_fits : {F G : Type 0} (p : Place) (f : F → G) (l : Line F) → fits p (mapped f l) ≡ fits p l
-same_fits p f (line.Text x) = refl
-same_fits p f (line.Tag n) = refl
-same_fits p f (line.Attr n x) = refl
-same_fits p f (line.If x) = refl
-same_fits p f line.Else = refl
-same_fits p f (line.Each x) = refl
-same_fits p f line.End = refl
+same_fits p f l = ap (stands p) (same_role f l)
 
 pub same_moved : {F G : Type 0} (p : Place) (f : F → G) (l : Line F) → moved p (mapped f l) ≡ moved p l
-same_moved p f (line.Text x) = refl
-same_moved p f (line.Tag n) = refl
-same_moved p f (line.Attr n x) = refl
-same_moved p f (line.If x) = refl
-same_moved p f line.Else = refl
-same_moved p f (line.Each x) = refl
-same_moved p f line.End = refl
+same_moved p f l = ap (behind p) (same_role f l)
 
 fits_of : (p : Place) (allow : Allow) (l : Line Seen) (x : Said) → l ≡ found_of allow x → fits p l ≡ fits p (line_of x)
 fits_of p allow l x e = ap (λ (m : Line Seen). fits p m) e ∙ same_fits p _ (line_of x)

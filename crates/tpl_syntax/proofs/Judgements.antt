@@ -1,6 +1,6 @@
 -- What is judged of lines that were read is judged of what they say.
 use Rattle.std.proofs.Common.{◌≡◌, ℕ, Bool, true, false, cond, List, [], ◌∷◌, map, Option, Some, None, refl, ap, ap₂, ◌∙◌}
-use Rattle.std.specs.Prelude.{option_map, Ok, not, ◌&&◌, if◌then◌else◌}
+use Rattle.std.specs.Prelude.{option_map, Ok}
 use Rattle.std.specs.Option.{option_or}
 use Rattle.formula_text.specs.declared.wired.Allow.{Allow}
 use Rattle.formula_text.specs.declared.wired.FormulaFault.{FormulaFault}
@@ -14,14 +14,14 @@ use Rattle.tpl_syntax.specs.declared.fault.TemplateWhy.TheVariants as why
 use Rattle.tpl_syntax.specs.declared.judge.ReadLine.{ReadLine}
 use Rattle.tpl_syntax.specs.declared.line.Line.{Line}
 use Rattle.tpl_syntax.specs.declared.line.Line.TheVariants as line
-use Rattle.tpl_syntax.specs.declared.place.Content.{Content}
-use Rattle.tpl_syntax.specs.declared.place.Content.TheVariants as content
+use Rattle.tpl_syntax.specs.declared.line.Purpose.TheVariants as purpose
 use Rattle.tpl_syntax.specs.Grammar.{Said, line_of}
 use Rattle.tpl_syntax.specs.Judging.{Judged, allowed, excess, fault_at, fault_of, first_excess, first_misplaced, high, in_element, is_bare_text, is_nested, judged, judged_at, many_lines, misplacing, missing, refusal_of}
-use Rattle.tpl_syntax.specs.Lines.{is_child, mapped}
-use Rattle.tpl_syntax.specs.Places.{Place, content_at, moved}
+use Rattle.tpl_syntax.specs.Lines.{mapped}
+use Rattle.tpl_syntax.specs.Places.{Place, content_at, moved, role_of}
 use Rattle.tpl_syntax.specs.Templates.{Sayings, Say, reached}
 use Rattle.tpl_syntax.specs.Views.{AreRead, bare_seen, fault_seen, fault_told, judged_read, readings, read_of, seen, sound_lines, wired_line, with_line}
+use Rattle.tpl_syntax.proofs.Fitting.{same_role}
 
 -- ---- lines that were read say something
 
@@ -48,51 +48,13 @@ told_fault None w = refl
 told_fault (Some f) w = refl
 
 seen_fault : (p : Place) (l : Line Draft) → fault_seen (mapped (seen (allowed p)) l) ≡ fault_of p l
-seen_fault p (line.Text x) = told_fault (refusal (allowed p) x) (wired x)
-seen_fault p (line.Tag n) = refl
-seen_fault p (line.Attr n x) = told_fault (refusal (allowed p) x) (wired x)
-seen_fault p (line.If x) = told_fault (refusal (allowed p) x) (wired x)
-seen_fault p line.Else = refl
-seen_fault p (line.Each x) = told_fault (refusal (allowed p) x) (wired x)
-seen_fault p line.End = refl
+seen_fault p (line.Plain m) = refl
+seen_fault p (line.Over u x) = told_fault (refusal (allowed p) x) (wired x)
 
 seen_bare : (a : Allow) (l : Line Draft) → bare_seen (mapped (seen a) l) ≡ is_bare_text l
-seen_bare a (line.Text x) = refl
-seen_bare a (line.Tag n) = refl
-seen_bare a (line.Attr n x) = refl
-seen_bare a (line.If x) = refl
-seen_bare a line.Else = refl
-seen_bare a (line.Each x) = refl
-seen_bare a line.End = refl
-
-same_child : {F G : Type 0} (f : F → G) (l : Line F) → is_child (mapped f l) ≡ is_child l
-same_child f (line.Text x) = refl
-same_child f (line.Tag n) = refl
-same_child f (line.Attr n x) = refl
-same_child f (line.If x) = refl
-same_child f line.Else = refl
-same_child f (line.Each x) = refl
-same_child f line.End = refl
-
-same_element : {F G : Type 0} (c : Content) (bare : Bool) (f : F → G) (l : Line F) → in_element c bare (mapped f l) ≡ in_element c bare l
-same_element content.Nothing bare f l = ap (λ (b : Bool). if b then Some why.VoidChild else None) (same_child f l)
-same_element content.Bare bare f l = ap (λ (b : Bool). if b && not bare then Some why.RawText else None) (same_child f l)
-same_element content.Lines bare f l = refl
-
-same_nested : {F G : Type 0} (p : Place) (f : F → G) (l : Line F) → is_nested p (mapped f l) ≡ is_nested p l
-same_nested p f (line.Text x) = refl
-same_nested p f (line.Tag n) = refl
-same_nested p f (line.Attr n x) = refl
-same_nested p f (line.If x) = refl
-same_nested p f line.Else = refl
-same_nested p f (line.Each x) = refl
-same_nested p f line.End = refl
-
-same_misplacing : {F G : Type 0} (p : Place) (w : Option FormulaFault) (bare : Bool) (f : F → G) (l : Line F)
-    → misplacing p w bare (mapped f l) ≡ misplacing p w bare l
-same_misplacing p w bare f l =
-    ap₂ (λ (o : Option TemplateWhy) (n : Bool). option_or (missing w) (option_or o (if n then Some why.Nest else high w)))
-    (same_element (content_at p.levels) bare f l) (same_nested p f l)
+seen_bare a (line.Plain m) = refl
+seen_bare a (line.Over purpose.Text x) = refl
+seen_bare a (line.Over _ x) = refl
 
 -- what is judged of a line that was read
 judged_same : (p : Place) (x : ℕ × Said) → judged_read (read_of p x) ≡ judged_at p x.0 (line_of x.1)
@@ -101,10 +63,10 @@ judged_same p x =
     let a = allowed p in
     let found = mapped (seen a) l in
     let whole : ℕ → Option TemplateWhy → Option TemplateWhy → Judged = λ k m e. record { number = k; misplaced = m; excess = e } in
-    let placed : misplacing p (fault_seen found) (bare_seen found) found ≡ misplacing p (fault_of p l) (is_bare_text l) l =
-    same_misplacing p (fault_seen found) (bare_seen found) (seen a) l
-    ∙ ap (λ (w : Option FormulaFault). misplacing p w (bare_seen found) l) (seen_fault p l)
-    ∙ ap (λ (b : Bool). misplacing p (fault_of p l) b l) (seen_bare a l) in
+    let placed : misplacing p (fault_seen found) (bare_seen found) (role_of found) ≡ misplacing p (fault_of p l) (is_bare_text l) (role_of l) =
+    ap (misplacing p (fault_seen found) (bare_seen found)) (same_role (seen a) l)
+    ∙ ap (λ (w : Option FormulaFault). misplacing p w (bare_seen found) (role_of l)) (seen_fault p l)
+    ∙ ap (λ (b : Bool). misplacing p (fault_of p l) b (role_of l)) (seen_bare a l) in
     let much : excess (fault_seen found) ≡ excess (fault_of p l) = ap excess (seen_fault p l) in
     ap₂ (whole x.0) placed much
 
@@ -133,13 +95,8 @@ formula_cause : (a : Allow) (x : Draft) → IsCause (refusal a x)
 formula_cause a x = either _ _ _ untrack (either _ _ _ row (either _ _ _ nest (either _ _ _ long (either _ _ _ sources nothing))))
 
 line_cause : (p : Place) (l : Line Draft) → IsCause (fault_of p l)
-line_cause p (line.Text x) = formula_cause (allowed p) x
-line_cause p (line.Tag n) = nothing
-line_cause p (line.Attr n x) = formula_cause (allowed p) x
-line_cause p (line.If x) = formula_cause (allowed p) x
-line_cause p line.Else = nothing
-line_cause p (line.Each x) = formula_cause (allowed p) x
-line_cause p line.End = nothing
+line_cause p (line.Plain m) = nothing
+line_cause p (line.Over u x) = formula_cause (allowed p) x
 
 pub neither : {A : Type 0} (o p : Option A) → option_or o p ≡ None → (o ≡ None) × (p ≡ None)
 neither None p e = (refl, e)
@@ -157,12 +114,12 @@ no_cause _ nest m h e = absurd cc
 no_cause _ long m h e = absurd cc
 no_cause _ sources m h e = absurd cc
 
-no_fault : (p : Place) (l : Line Draft) → misplacing p (fault_of p l) (is_bare_text l) l ≡ None → excess (fault_of p l) ≡ None → fault_of p l ≡ None
+no_fault : (p : Place) (l : Line Draft) → misplacing p (fault_of p l) (is_bare_text l) (role_of l) ≡ None → excess (fault_of p l) ≡ None → fault_of p l ≡ None
 no_fault p l m e =
     let w = fault_of p l in
     let a = neither (missing w) _ m in
-    let b = neither (in_element (content_at p.levels) (is_bare_text l) l) _ a.1 in
-    no_cause w (line_cause p l) a.0 (not_chosen (is_nested p l) why.Nest (high w) b.1) e
+    let b = neither (in_element (content_at p.levels) (is_bare_text l) (role_of l)) _ a.1 in
+    no_cause w (line_cause p l) a.0 (not_chosen (is_nested p (role_of l)) why.Nest (high w) b.1) e
 
 -- nothing is wrong with the formulas of these lines
 abbrev pub AllSound : Place → Sayings → Type 0
@@ -196,13 +153,8 @@ told_wired : (a : Allow) (x : Draft) → refusal a x ≡ None → unless_faulty 
 told_wired a x e = ap (λ (o : Option FormulaFault). unless_faulty o (wired x)) e
 
 line_wired : (p : Place) (l : Line Draft) → fault_of p l ≡ None → wired_line (mapped (seen (allowed p)) l) ≡ Some (mapped wired l)
-line_wired p (line.Text x) e = rw (told_wired (allowed p) x e) refl
-line_wired p (line.Tag n) e = refl
-line_wired p (line.Attr n x) e = rw (told_wired (allowed p) x e) refl
-line_wired p (line.If x) e = rw (told_wired (allowed p) x e) refl
-line_wired p line.Else e = refl
-line_wired p (line.Each x) e = rw (told_wired (allowed p) x e) refl
-line_wired p line.End e = refl
+line_wired p (line.Plain m) e = refl
+line_wired p (line.Over u x) e = rw (told_wired (allowed p) x e) refl
 
 -- the lines that nothing is wrong with are all
 pub all_kept : (p : Place) (xs : Sayings) → AllSound p xs → sound_lines (readings p xs) ≡ map (mapped wired) (map (λ x. line_of x.1) xs)

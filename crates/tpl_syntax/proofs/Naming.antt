@@ -74,13 +74,8 @@ each_names ns ms (each_row f x y) = each_names ns (with_names ms x) y ∙ ap (λ
 -- ---- the names of lines
 
 line_names : (ns : List (List ℕ)) (l : Line Draft) → with_wired ns (formula_of (mapped wired l)) ≡ with_formula ns (formula_of l)
-line_names ns (line.Text x) = each_names ns [] x
-line_names ns (line.Tag n) = refl
-line_names ns (line.Attr n x) = each_names ns [] x
-line_names ns (line.If x) = each_names ns [] x
-line_names ns line.Else = refl
-line_names ns (line.Each x) = each_names ns [] x
-line_names ns line.End = refl
+line_names ns (line.Plain m) = refl
+line_names ns (line.Over p x) = each_names ns [] x
 
 all_names : (ns : List (List ℕ)) (ls : List (Line Draft)) → with_all ns (map (mapped wired) ls) ≡ with_lines ns ls
 all_names ns [] = refl
@@ -132,13 +127,8 @@ pub among_is : (ns : List (List ℕ)) (x : Draft) → among_names ns (wired x) �
 among_is ns x = reslotted_is ns (names x) x (each_there [] x)
 
 mapped_is : {F G H : Type 0} (f : G → H) (g : F → G) (h : F → H) (l : Line F) → ((x : F) → f (g x) ≡ h x) → mapped f (mapped g l) ≡ mapped h l
-mapped_is f g h (line.Text x) e = ap line.Text (e x)
-mapped_is f g h (line.Tag n) e = refl
-mapped_is f g h (line.Attr n x) e = ap (line.Attr n) (e x)
-mapped_is f g h (line.If x) e = ap line.If (e x)
-mapped_is f g h line.Else e = refl
-mapped_is f g h (line.Each x) e = ap line.Each (e x)
-mapped_is f g h line.End e = refl
+mapped_is f g h (line.Plain m) e = refl
+mapped_is f g h (line.Over p x) e = ap (line.Over p) (e x)
 
 all_among : (ns : List (List ℕ)) (ls : List (Line Draft)) → map (mapped (among_names ns)) (map (mapped wired) ls) ≡ map (mapped (slotted ns)) ls
 all_among ns [] = refl
@@ -186,13 +176,8 @@ few_names a x e =
     grind (arith, nat_tests)
 
 few_line : (p : Place) (ns : List (List ℕ)) (l : Line Draft) → fault_of p l ≡ None → length (with_wired ns (formula_of (mapped wired l))) ≤ length ns + 64
-few_line p ns (line.Text x) e = let a = few_each ns (names x) in let b = few_names (allowed p) x e in omega arith
-few_line p ns (line.Tag n) e = omega arith
-few_line p ns (line.Attr n x) e = let a = few_each ns (names x) in let b = few_names (allowed p) x e in omega arith
-few_line p ns (line.If x) e = let a = few_each ns (names x) in let b = few_names (allowed p) x e in omega arith
-few_line p ns line.Else e = omega arith
-few_line p ns (line.Each x) e = let a = few_each ns (names x) in let b = few_names (allowed p) x e in omega arith
-few_line p ns line.End e = omega arith
+few_line p ns (line.Plain m) e = omega arith
+few_line p ns (line.Over u x) e = let a = few_each ns (names x) in let b = few_names (allowed p) x e in omega arith
 
 few_lines : (p : Place) (ns : List (List ℕ)) (xs : Sayings) → AllSound p xs
     → length (with_all ns (map (mapped wired) (map (λ x. line_of x.1) xs))) ≤ length ns + 64 * length xs

@@ -30,20 +30,12 @@ said_back _ a = refl
 
 -- each name of the line's formula is there
 abbrev HasLine : List (List ℕ) → Line Draft → Type 0
-HasLine ns (line.Text x) = HasEach ns x
-HasLine ns (line.Attr n x) = HasEach ns x
-HasLine ns (line.If x) = HasEach ns x
-HasLine ns (line.Each x) = HasEach ns x
-HasLine ns _ = Unit {0}
+HasLine ns (line.Plain m) = Unit {0}
+HasLine ns (line.Over p x) = HasEach ns x
 
 line_back : (ns : List (List ℕ)) (l : Line Draft) → HasLine ns l → mapped (unslotted ns) (mapped (slotted ns) l) ≡ l
-line_back ns (line.Text x) h = ap line.Text (named_again ns x h)
-line_back ns (line.Tag n) h = refl
-line_back ns (line.Attr n x) h = ap (line.Attr n) (named_again ns x h)
-line_back ns (line.If x) h = ap line.If (named_again ns x h)
-line_back ns line.Else h = refl
-line_back ns (line.Each x) h = ap line.Each (named_again ns x h)
-line_back ns line.End h = refl
+line_back ns (line.Plain m) h = refl
+line_back ns (line.Over p x) h = ap (line.Over p) (named_again ns x h)
 
 -- each name of the lines' formulas is there
 abbrev HasLines : List (List ℕ) → List (Line Draft) → Type 0
@@ -51,13 +43,8 @@ HasLines ns [] = Unit {0}
 HasLines ns (l ∷ ls) = HasLine ns l × HasLines ns ls
 
 keeps_line : (ns : List (List ℕ)) (x : Draft) (l : Line Draft) → HasLine ns l → HasLine (with_names ns x) l
-keeps_line ns x (line.Text y) h = keeps_each ns x y h
-keeps_line ns x (line.Tag n) h = tt
-keeps_line ns x (line.Attr n y) h = keeps_each ns x y h
-keeps_line ns x (line.If y) h = keeps_each ns x y h
-keeps_line ns x line.Else h = tt
-keeps_line ns x (line.Each y) h = keeps_each ns x y h
-keeps_line ns x line.End h = tt
+keeps_line ns x (line.Plain m) h = tt
+keeps_line ns x (line.Over p y) h = keeps_each ns x y h
 
 keeps_formula : (ns : List (List ℕ)) (o : Option Draft) (l : Line Draft) → HasLine ns l → HasLine (with_formula ns o) l
 keeps_formula ns None l h = h
@@ -68,13 +55,8 @@ keeps_lines ns [] l h = h
 keeps_lines ns (m ∷ ls) l h = keeps_lines (with_formula ns (formula_of m)) ls l (keeps_formula ns (formula_of m) l h)
 
 line_there : (ns : List (List ℕ)) (l : Line Draft) → HasLine (with_formula ns (formula_of l)) l
-line_there ns (line.Text x) = each_there ns x
-line_there ns (line.Tag n) = tt
-line_there ns (line.Attr n x) = each_there ns x
-line_there ns (line.If x) = each_there ns x
-line_there ns line.Else = tt
-line_there ns (line.Each x) = each_there ns x
-line_there ns line.End = tt
+line_there ns (line.Plain m) = tt
+line_there ns (line.Over p x) = each_there ns x
 
 lines_there : (ns : List (List ℕ)) (ls : List (Line Draft)) → HasLines (with_lines ns ls) ls
 lines_there ns [] = tt

@@ -1,12 +1,16 @@
 -- The lines of a template: which bytes write each, and what it says.
-use Rattle.std.specs.Prelude.{ℕ, List, [], ◌∷◌, codes}
+use Rattle.std.specs.Prelude.{ℕ, List, [], ◌∷◌, codes, map}
 use Rattle.formula_text.specs.Grammar.{Draft}
 use Rattle.line_forms.specs.Blocks as blocks
-use Rattle.line_forms.specs.Forms.{Piece, part, one, formula, tagged}
+use Rattle.line_forms.specs.Forms.{Form, Piece, part, one, formula, tagged}
 use Rattle.line_forms.specs.Rows as grammar
 use Rattle.line_forms.specs.Told.{Made, made}
 use Rattle.tpl_syntax.specs.declared.line.Line.{Line}
 use Rattle.tpl_syntax.specs.declared.line.Line.TheVariants as line
+use Rattle.tpl_syntax.specs.declared.line.Mark.{Mark}
+use Rattle.tpl_syntax.specs.declared.line.Mark.TheVariants as mark
+use Rattle.tpl_syntax.specs.declared.line.Purpose.{Purpose}
+use Rattle.tpl_syntax.specs.declared.line.Purpose.TheVariants as purpose
 
 -- the rows of the grammar
 pub data Row : Type 0 where
@@ -18,6 +22,10 @@ pub data Row : Type 0 where
   loop : Row
   close : Row
 
+-- all rows
+abbrev pub all_rows : List Row
+all_rows = text ∷ tag ∷ attr ∷ choice ∷ other ∷ loop ∷ close ∷ []
+
 -- a name behind @
 abbrev NAME : Piece
 NAME = part (one tagged)
@@ -26,37 +34,37 @@ NAME = part (one tagged)
 abbrev FORMULA : Piece
 FORMULA = part formula
 
+-- what stands in a row: its first word, what follows it, and the line that it gives of what stands in the parts of that
+pub record Entry : Type 0 where
+  pub word : List ℕ
+  pub form : Form
+  pub makes : Made form (Line Draft)
+
+-- a word alone
+abbrev alone : List ℕ → Mark → Entry
+alone w m = record { word = w; form = []; makes = line.Plain m }
+
+-- a word and a formula
+abbrev over : List ℕ → Purpose → Entry
+over w p = record { word = w; form = FORMULA ∷ []; makes = λ f. line.Over p f }
+
+-- what stands in each row
+abbrev pub entry : Row → Entry
+entry text = over (codes "text") purpose.Text
+entry tag = record { word = codes "tag"; form = NAME ∷ []; makes = λ n. line.Plain (mark.Tag n) }
+entry attr = record { word = codes "attr"; form = NAME ∷ FORMULA ∷ []; makes = λ n f. line.Over (purpose.Attr n) f }
+entry choice = over (codes "if") purpose.If
+entry other = alone (codes "else") mark.Else
+entry loop = over (codes "each") purpose.Each
+entry close = alone (codes "end") mark.End
+
 -- the first word of a row, and what follows it
 abbrev pub row : Row → grammar.Line
-row text = (codes "text", FORMULA ∷ [])
-row tag = (codes "tag", NAME ∷ [])
-row attr = (codes "attr", NAME ∷ FORMULA ∷ [])
-row choice = (codes "if", FORMULA ∷ [])
-row other = (codes "else", [])
-row loop = (codes "each", FORMULA ∷ [])
-row close = (codes "end", [])
+row r = ((entry r).word, (entry r).form)
 
 -- the row that begins with each word
 abbrev pub table : grammar.Table Row
-table =
-    (codes "text", text ∷ [])
-    ∷ (codes "tag", tag ∷ [])
-    ∷ (codes "attr", attr ∷ [])
-    ∷ (codes "if", choice ∷ [])
-    ∷ (codes "else", other ∷ [])
-    ∷ (codes "each", loop ∷ [])
-    ∷ (codes "end", close ∷ [])
-    ∷ []
-
--- what a row gives of what stands in its parts
-abbrev pub line_makes : (r : Row) → Made (row r).1 (Line Draft)
-line_makes text = λ f. line.Text f
-line_makes tag = λ n. line.Tag n
-line_makes attr = λ n f. line.Attr n f
-line_makes choice = λ f. line.If f
-line_makes other = line.Else
-line_makes loop = λ f. line.Each f
-line_makes close = line.End
+table = map (λ (r : Row). ((row r).0, r ∷ [])) all_rows
 
 -- what a line says by itself; its texts may be of any length, and its formulas of any height
 abbrev pub Said : Type 0
@@ -64,7 +72,7 @@ Said = grammar.Said Row row
 
 -- the line, its formula with names
 abbrev pub line_of : Said → Line Draft
-line_of x = made (row x.0).1 (line_makes x.0) x.1
+line_of x = made (row x.0).1 (entry x.0).makes x.1
 
 -- bytes write a line: their tokens spell it
 abbrev pub Writes : Said → List ℕ → Type 0

@@ -18,11 +18,12 @@ use Rattle.tpl_syntax.specs.declared.fault.TemplateWhy.TheVariants as why
 use Rattle.tpl_syntax.specs.declared.judge.TheConstants.{MOST_DEPTH}
 use Rattle.tpl_syntax.specs.declared.line.Line.{Line}
 use Rattle.tpl_syntax.specs.declared.line.Line.TheVariants as line
+use Rattle.tpl_syntax.specs.declared.line.Purpose.TheVariants as purpose
 use Rattle.tpl_syntax.specs.declared.place.Content.{Content}
 use Rattle.tpl_syntax.specs.declared.place.Content.TheVariants as content
 use Rattle.tpl_syntax.specs.Grammar.{Said, line_of}
-use Rattle.tpl_syntax.specs.Lines.{formula_of, is_child, opens}
-use Rattle.tpl_syntax.specs.Places.{Place, content_at, in_loop, moved}
+use Rattle.tpl_syntax.specs.Lines.{formula_of}
+use Rattle.tpl_syntax.specs.Places.{Place, Role, content_at, in_loop, is_child, is_each, is_opening, moved, role_of}
 
 -- ---- one line
 
@@ -46,7 +47,7 @@ is_bare _ = false
 
 -- whether a line is a text of such a literal
 abbrev pub is_bare_text : Line Draft → Bool
-is_bare_text (line.Text f) = is_bare f
+is_bare_text (line.Over purpose.Text f) = is_bare f
 is_bare_text _ = false
 
 -- a formula that speaks of what isn't there
@@ -56,15 +57,14 @@ missing (Some fault.ItHere) = Some why.ItHere
 missing _ = None
 
 -- a child where the element has none, or one that isn't a bare text where it has no others
-abbrev pub in_element : {F : Type 0} → Content → Bool → Line F → Option TemplateWhy
-in_element content.Nothing bare l = if is_child l then Some why.VoidChild else None
-in_element content.Bare bare l = if is_child l && not bare then Some why.RawText else None
-in_element content.Lines bare l = None
+abbrev pub in_element : Content → Bool → Role → Option TemplateWhy
+in_element content.Nothing bare r = if is_child r then Some why.VoidChild else None
+in_element content.Bare bare r = if is_child r && not bare then Some why.RawText else None
+in_element content.Lines bare r = None
 
 -- an `each` in an `each`, or more than `MOST_DEPTH` levels, of which the template is one
-abbrev pub is_nested : {F : Type 0} → Place → Line F → Bool
-is_nested p (line.Each x) = in_loop p.levels || nat_lt MOST_DEPTH (length p.levels + 2)
-is_nested p l = opens l && nat_lt MOST_DEPTH (length p.levels + 2)
+abbrev pub is_nested : Place → Role → Bool
+is_nested p r = (is_each r && in_loop p.levels) || (is_opening r && nat_lt MOST_DEPTH (length p.levels + 2))
 
 -- a formula that is too high
 abbrev pub high : Option FormulaFault → Option TemplateWhy
@@ -78,9 +78,9 @@ excess (Some fault.Sources) = Some why.Sources
 excess _ = None
 
 -- why a line has something that may not stand there, by what is wrong with its formula and whether it is a bare text
-abbrev pub misplacing : {F : Type 0} → Place → Option FormulaFault → Bool → Line F → Option TemplateWhy
-misplacing p wrong bare l =
-    option_or (missing wrong) (option_or (in_element (content_at p.levels) bare l) (if is_nested p l then Some why.Nest else high wrong))
+abbrev pub misplacing : Place → Option FormulaFault → Bool → Role → Option TemplateWhy
+misplacing p wrong bare r =
+    option_or (missing wrong) (option_or (in_element (content_at p.levels) bare r) (if is_nested p r then Some why.Nest else high wrong))
 
 -- ---- all lines
 
@@ -92,7 +92,8 @@ pub record Judged : Type 0 where
 
 -- the same of a line that says this
 abbrev pub judged_at : Place → ℕ → Line Draft → Judged
-judged_at p k l = record { number = k; misplaced = misplacing p (fault_of p l) (is_bare_text l) l; excess = excess (fault_of p l) }
+judged_at p k l =
+    record { number = k; misplaced = misplacing p (fault_of p l) (is_bare_text l) (role_of l); excess = excess (fault_of p l) }
 
 -- the same of lines from a place on
 abbrev pub judged : Place → List (ℕ × Said) → List Judged

@@ -6,6 +6,10 @@ use Rattle.html_out.specs.Html.{is_raw, is_void}
 use Rattle.line_forms.specs.Blocks as blocks
 use Rattle.tpl_syntax.specs.declared.line.Line.{Line}
 use Rattle.tpl_syntax.specs.declared.line.Line.TheVariants as line
+use Rattle.tpl_syntax.specs.declared.line.Mark.{Mark}
+use Rattle.tpl_syntax.specs.declared.line.Mark.TheVariants as mark
+use Rattle.tpl_syntax.specs.declared.line.Purpose.{Purpose}
+use Rattle.tpl_syntax.specs.declared.line.Purpose.TheVariants as purpose
 use Rattle.tpl_syntax.specs.declared.place.Content.{Content}
 use Rattle.tpl_syntax.specs.declared.place.Content.TheVariants as content
 use Rattle.tpl_syntax.specs.declared.place.Level.{Level}
@@ -15,6 +19,43 @@ use Rattle.tpl_syntax.specs.Grammar.{Said, line_of}
 -- what an element of this name may hold
 abbrev pub content_of : List ℕ → Content
 content_of n = if is_void n then content.Nothing else (if is_raw n then content.Bare else content.Lines)
+
+-- What a line is among others: it stands by itself; it is an attribute, of this name, of the element before it; it begins this, which an
+-- `end` ends; it begins the part behind an `else`; or it ends the innermost of what is begun.
+pub data Role : Type 0 where
+  leaf : Role
+  attribute : (name : List ℕ) → Role
+  begins : (level : Level) → Role
+  turns : Role
+  ends : Role
+
+-- what a line without a formula is
+abbrev pub mark_role : Mark → Role
+mark_role (mark.Tag n) = begins (level.Element (content_of n))
+mark_role mark.Else = turns
+mark_role mark.End = ends
+
+-- what a line with a formula is, whatever the formula
+abbrev pub purpose_role : Purpose → Role
+purpose_role purpose.Text = leaf
+purpose_role (purpose.Attr n) = attribute n
+purpose_role purpose.If = begins level.Choice
+purpose_role purpose.Each = begins level.Loop
+
+-- what a line is
+abbrev pub role_of : {F : Type 0} → Line F → Role
+role_of (line.Plain m) = mark_role m
+role_of (line.Over p x) = purpose_role p
+
+-- whether an `end` ends what it begins
+abbrev pub is_opening : Role → Bool
+is_opening (begins l) = true
+is_opening _ = false
+
+-- whether it, or what it shows, is a child of the element around it
+abbrev pub is_child : Role → Bool
+is_child leaf = true
+is_child r = is_opening r
 
 -- a place: what is begun there, the innermost first, and, right behind a tag and its attributes, the names of these
 pub record Place : Type 0 where
@@ -58,23 +99,39 @@ abbrev pub content_at : List Level → Content
 content_at (level.Element c ∷ ls) = c
 content_at _ = content.Lines
 
+-- whether it begins an `each`
+abbrev pub is_each : Role → Bool
+is_each (begins l) = is_loop l
+is_each _ = false
+
+-- whether it is an element
+abbrev pub is_element : Level → Bool
+is_element (level.Element c) = true
+is_element _ = false
+
 -- Whether a line may stand there: an attribute right behind a tag and other attributes, once of each name; an `else` in an `if` that
 -- has none; an `end` where something is begun.
-abbrev pub fits : {F : Type 0} → Place → Line F → Bool
-fits p (line.Attr n x) = p.in_tag && not (list_any (λ m. bytes_eq m n) p.attributes)
-fits p line.Else = is_choice p.levels
-fits p line.End = not (is_closed p)
-fits p l = true
+abbrev pub stands : Place → Role → Bool
+stands p (attribute n) = p.in_tag && not (list_any (λ m. bytes_eq m n) p.attributes)
+stands p turns = is_choice p.levels
+stands p ends = not (is_closed p)
+stands p r = true
 
 -- the place behind a line
+abbrev pub behind : Place → Role → Place
+behind p leaf = among p.levels
+behind p (attribute n) = record p { attributes = p.attributes ++ n ∷ [] }
+behind p (begins l) = record { levels = l ∷ p.levels; in_tag = is_element l; attributes = [] }
+behind p turns = among (level.Other ∷ drop 1 p.levels)
+behind p ends = among (drop 1 p.levels)
+
+-- whether the line may stand there
+abbrev pub fits : {F : Type 0} → Place → Line F → Bool
+fits p l = stands p (role_of l)
+
+-- the place behind the line
 abbrev pub moved : {F : Type 0} → Place → Line F → Place
-moved p (line.Text x) = among p.levels
-moved p (line.Tag n) = record { levels = level.Element (content_of n) ∷ p.levels; in_tag = true; attributes = [] }
-moved p (line.Attr n x) = record p { attributes = p.attributes ++ n ∷ [] }
-moved p (line.If x) = among (level.Choice ∷ p.levels)
-moved p line.Else = among (level.Other ∷ drop 1 p.levels)
-moved p (line.Each x) = among (level.Loop ∷ p.levels)
-moved p line.End = among (drop 1 p.levels)
+moved p l = behind p (role_of l)
 
 -- the places of a template's lines
 abbrev pub places : blocks.Places Said Place

@@ -17,8 +17,11 @@ use Rattle.script_lines.specs.Lines.{NumberedLine}
 use Rattle.tpl_syntax.specs.declared.judge.ReadLine.{ReadLine}
 use Rattle.tpl_syntax.specs.declared.line.Line.{Line}
 use Rattle.tpl_syntax.specs.declared.line.Line.TheVariants as line
+use Rattle.tpl_syntax.specs.declared.line.Purpose.TheVariants as purpose
 use Rattle.tpl_syntax.specs.declared.place.Level.{Level}
 use Rattle.tpl_syntax.specs.declared.place.Place.{Place as HeldPlace}
+use Rattle.tpl_syntax.specs.declared.place.Role.{Role as HeldRole}
+use Rattle.tpl_syntax.specs.declared.place.Role.TheVariants as held_role
 use Rattle.tpl_syntax.specs.declared.read.Reading.{Reading}
 use Rattle.tpl_syntax.specs.declared.read.Reading.TheVariants as reading
 use Rattle.tpl_syntax.specs.declared.reading.Scan.{Scan}
@@ -26,7 +29,7 @@ use Rattle.tpl_syntax.specs.declared.reading.Seen.{Seen}
 use Rattle.tpl_syntax.specs.Grammar.{Row, row, Said, Writes, line_of}
 use Rattle.tpl_syntax.specs.Judging.{Judged, allowed, excess, has_end, is_bare, misplacing, refusal_of}
 use Rattle.tpl_syntax.specs.Lines.{Plan, formula_of, mapped}
-use Rattle.tpl_syntax.specs.Places.{Place, fits, is_closed, moved, top}
+use Rattle.tpl_syntax.specs.Places.{Place, Role, leaf, attribute, begins, turns, ends, fits, is_closed, moved, role_of, top}
 use Rattle.tpl_syntax.specs.Templates.{Answer, IsFaulty, Say, Sayings, reached, unless_refused}
 
 -- what is begun, held with the innermost last
@@ -36,6 +39,14 @@ levels_of held = reverse held
 -- a place that is held
 abbrev pub place_of : HeldPlace → Place
 place_of p = record { levels = levels_of p.levels.items; in_tag = p.in_tag; attributes = p.attributes.items }
+
+-- what a line is, as it is held
+abbrev pub role_seen : HeldRole → Role
+role_seen held_role.Leaf = leaf
+role_seen (held_role.Attribute n) = attribute n.now
+role_seen (held_role.Begins l) = begins l
+role_seen held_role.Turns = turns
+role_seen held_role.Ends = ends
 
 -- ---- one line
 
@@ -72,12 +83,13 @@ fault_seen l = option_and_then (λ s. fault_told s.told) (formula_of l)
 
 -- whether a line that was read is a bare text
 abbrev pub bare_seen : Line Seen → Bool
-bare_seen (line.Text s) = s.bare
+bare_seen (line.Over purpose.Text s) = s.bare
 bare_seen _ = false
 
 -- a line that was found at a place
 abbrev pub read_at : Place → ℕ → Line Seen → ReadLine
-read_at p k l = record { number = k; misplaced = misplacing p (fault_seen l) (bare_seen l) l; excess = excess (fault_seen l); line = l }
+read_at p k l =
+    record { number = k; misplaced = misplacing p (fault_seen l) (bare_seen l) (role_of l); excess = excess (fault_seen l); line = l }
 
 -- what is read at a place of the line of a number that says this
 abbrev pub read_of : Place → ℕ × Said → ReadLine
@@ -128,13 +140,8 @@ wired_told (Err f) = None
 
 -- a line that nothing is wrong with
 abbrev pub wired_line : Line Seen → Option (Line Wiring)
-wired_line (line.Text s) = option_map (λ w. line.Text w) (wired_told s.told)
-wired_line (line.Tag n) = Some (line.Tag n)
-wired_line (line.Attr n s) = option_map (λ w. line.Attr n w) (wired_told s.told)
-wired_line (line.If s) = option_map (λ w. line.If w) (wired_told s.told)
-wired_line line.Else = Some line.Else
-wired_line (line.Each s) = option_map (λ w. line.Each w) (wired_told s.told)
-wired_line line.End = Some line.End
+wired_line (line.Plain m) = Some (line.Plain m)
+wired_line (line.Over p s) = option_map (λ w. line.Over p w) (wired_told s.told)
 
 -- a line before those that nothing is wrong with, if nothing is wrong with it
 abbrev pub with_line : Option (Line Wiring) → List (Line Wiring) → List (Line Wiring)

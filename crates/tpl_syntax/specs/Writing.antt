@@ -7,18 +7,20 @@ use Rattle.script_lines.specs.Lines.{NumberedLine, numbered}
 use Rattle.sig_formula.specs.Trees.{Tree}
 use Rattle.tpl_syntax.specs.declared.line.Line.{Line}
 use Rattle.tpl_syntax.specs.declared.line.Line.TheVariants as line
+use Rattle.tpl_syntax.specs.declared.line.Mark.TheVariants as mark
+use Rattle.tpl_syntax.specs.declared.line.Purpose.TheVariants as purpose
 use Rattle.tpl_syntax.specs.Grammar.{Row, row, Said, text, tag, attr, choice, other, loop, close}
 use Rattle.tpl_syntax.specs.Lines.{Plan, mapped}
 
 -- what a line says
 abbrev pub said_of : Line Draft → Said
-said_of (line.Text f) = (text, (f, tt))
-said_of (line.Tag n) = (tag, (n, tt))
-said_of (line.Attr n f) = (attr, (n, (f, tt)))
-said_of (line.If f) = (choice, (f, tt))
-said_of line.Else = (other, tt)
-said_of (line.Each f) = (loop, (f, tt))
-said_of line.End = (close, tt)
+said_of (line.Plain (mark.Tag n)) = (tag, (n, tt))
+said_of (line.Plain mark.Else) = (other, tt)
+said_of (line.Plain mark.End) = (close, tt)
+said_of (line.Over purpose.Text f) = (text, (f, tt))
+said_of (line.Over (purpose.Attr n) f) = (attr, (n, (f, tt)))
+said_of (line.Over purpose.If f) = (choice, (f, tt))
+said_of (line.Over purpose.Each f) = (loop, (f, tt))
 
 -- what the line of a template with these names says
 abbrev pub said_in : List (List ℕ) → Line Tree → Said

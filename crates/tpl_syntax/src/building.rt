@@ -21,13 +21,8 @@ fn wired_line(line: Line<Seen>) -> Option<Line<Wired>>
     ensures { result ≡ wired_line line }
 {
     match line {
-        Line::Text(seen) => Some(Line::Text(seen.told.ok()?)),
-        Line::Tag(name) => Some(Line::Tag(name)),
-        Line::Attr(name, seen) => Some(Line::Attr(name, seen.told.ok()?)),
-        Line::If(seen) => Some(Line::If(seen.told.ok()?)),
-        Line::Else => Some(Line::Else),
-        Line::Each(seen) => Some(Line::Each(seen.told.ok()?)),
-        Line::End => Some(Line::End),
+        Line::Plain(mark) => Some(Line::Plain(mark)),
+        Line::Over(purpose, seen) => Some(Line::Over(purpose, seen.told.ok()?)),
     }
 }
 
@@ -84,10 +79,8 @@ fn put_line_names(names: &mut Vec<Name>, line: &Line<Wired>) -> Result<(), NoMem
     ensures { OnOk result (names.new.items ≡ with_wired names.old.items (formula_of line.now)) }
 {
     match line {
-        Line::Text(wired) | Line::Attr(_, wired) | Line::If(wired) | Line::Each(wired) => {
-            put_names(names, &wired.names)
-        }
-        Line::Tag(_) | Line::Else | Line::End => Ok(()),
+        Line::Plain(_) => Ok(()),
+        Line::Over(_, wired) => put_names(names, &wired.names),
     }
 }
 
@@ -194,20 +187,15 @@ fn among_names(alloc: Global, names: &[Name], wired: &Wired) -> Result<Formula, 
 }
 
 // A line over a template's names.
-fn line_among(alloc: Global, names: &[Name], line: &Line<Wired>) -> Result<TplLine, NoMemory>
-    ensures { length names.now < 2 ^ 32 → IfOk result (λ l. mapped tree l ≡ mapped (among_names names.now) line.now) }
+fn line_among(alloc: Global, names: &[Name], line: Line<Wired>) -> Result<TplLine, NoMemory>
+    ensures { length names.now < 2 ^ 32 → IfOk result (λ l. mapped tree l ≡ mapped (among_names names.now) line) }
 {
     match line {
-        Line::Text(wired) => Ok(Line::Text(among_names(alloc, names, wired)?)),
-        Line::Tag(name) => Ok(Line::Tag(name.copy()?)),
-        Line::Attr(name, wired) => {
-            let formula = among_names(alloc, names, wired)?;
-            Ok(Line::Attr(name.copy()?, formula))
+        Line::Plain(mark) => Ok(Line::Plain(mark)),
+        Line::Over(purpose, wired) => {
+            let formula = among_names(alloc, names, &wired)?;
+            Ok(Line::Over(purpose, formula))
         }
-        Line::If(wired) => Ok(Line::If(among_names(alloc, names, wired)?)),
-        Line::Else => Ok(Line::Else),
-        Line::Each(wired) => Ok(Line::Each(among_names(alloc, names, wired)?)),
-        Line::End => Ok(Line::End),
     }
 }
 
@@ -215,9 +203,9 @@ fn line_among(alloc: Global, names: &[Name], line: &Line<Wired>) -> Result<TplLi
 fn lines_among(
     alloc: Global,
     names: &[Name],
-    lines: &[Line<Wired>],
+    lines: Vec<Line<Wired>>,
 ) -> Result<Vec<TplLine>, NoMemory>
-    ensures { length names.now < 2 ^ 32 → IfOk result (λ v. map (mapped tree) v.items ≡ map (mapped (among_names names.now)) lines.now) }
+    ensures { length names.now < 2 ^ 32 → IfOk result (λ v. map (mapped tree) v.items ≡ map (mapped (among_names names.now)) lines.items) }
 {
     let mut out = Vec::new(alloc);
     for line in lines {
@@ -227,10 +215,10 @@ fn lines_among(
 }
 
 /// The template of wired lines with few names.
-pub fn template_of(alloc: Global, lines: &[Line<Wired>]) -> Result<Template, NoMemory>
-    ensures { length (with_all [] lines.now) < 2 ^ 32 → IfOk result (λ t. t ≡ plan_wired lines.now) }
+pub fn template_of(alloc: Global, lines: Vec<Line<Wired>>) -> Result<Template, NoMemory>
+    ensures { length (with_all [] lines.items) < 2 ^ 32 → IfOk result (λ t. t ≡ plan_wired lines.items) }
 {
-    let names = names_of(alloc, lines)?;
+    let names = names_of(alloc, &lines)?;
     let lines = lines_among(alloc, &names, lines)?;
     Ok(Template { names, lines })
 }

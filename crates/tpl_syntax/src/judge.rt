@@ -2,12 +2,13 @@
 ghost use Rattle.std.specs.Prelude.{◌≡◌, ◌∷◌, [], map, option_map, MatchOption};
 ghost use Rattle.tpl_syntax.specs.Judging.{excess, first_excess, first_misplaced, high, in_element, is_nested};
 ghost use Rattle.tpl_syntax.specs.Judging.{many_lines, misplacing, missing, refusal_of};
-ghost use Rattle.tpl_syntax.specs.Lines.{formula_of, is_child, opens};
-ghost use Rattle.tpl_syntax.specs.Views.{bare_seen, fault_seen, judged_read, place_of, read_at};
+ghost use Rattle.tpl_syntax.specs.Lines.{formula_of};
+ghost use Rattle.tpl_syntax.specs.Places.{role_of};
+ghost use Rattle.tpl_syntax.specs.Views.{bare_seen, fault_seen, judged_read, place_of, read_at, role_seen};
 
-use crate::place::{Content, Place};
+use crate::place::{Content, Place, Role, is_child, is_each, is_opening, role_of};
 use crate::reading::Seen;
-use crate::{Line, TemplateFault, TemplateWhy};
+use crate::{Line, Purpose, TemplateFault, TemplateWhy};
 use formula_text::FormulaFault;
 use sig_base::MOST_TEMPLATE_LINES;
 
@@ -30,8 +31,8 @@ fn formula_of(line: &Line<Seen>) -> Option<&Seen>
     ensures { option_map (λ s. s.now) result ≡ formula_of line.now }
 {
     match line {
-        Line::Text(seen) | Line::Attr(_, seen) | Line::If(seen) | Line::Each(seen) => Some(seen),
-        Line::Tag(_) | Line::Else | Line::End => None,
+        Line::Plain(_) => None,
+        Line::Over(_, seen) => Some(seen),
     }
 }
 
@@ -52,21 +53,9 @@ fn is_bare(line: &Line<Seen>) -> bool
     ensures { result ≡ bare_seen line.now }
 {
     match line {
-        Line::Text(seen) => seen.bare,
+        Line::Over(Purpose::Text, seen) => seen.bare,
         _ => false,
     }
-}
-
-fn opens(line: &Line<Seen>) -> bool
-    ensures { result ≡ opens line.now }
-{
-    matches!(line, Line::Tag(_) | Line::If(_) | Line::Each(_))
-}
-
-fn is_child(line: &Line<Seen>) -> bool
-    ensures { result ≡ is_child line.now }
-{
-    matches!(line, Line::Text(_)) || opens(line)
 }
 
 // A formula that speaks of what isn't there.
@@ -81,25 +70,23 @@ fn missing(fault: Option<FormulaFault>) -> Option<TemplateWhy>
 }
 
 // A child that may not stand in the element around it.
-fn in_element(content: Content, bare: bool, line: &Line<Seen>) -> Option<TemplateWhy>
-    ensures { result ≡ in_element content bare line.now }
+fn in_element(content: Content, bare: bool, role: &Role<'_>) -> Option<TemplateWhy>
+    ensures { result ≡ in_element content bare (role_seen role.now) }
 {
     match content {
-        Content::Nothing if is_child(line) => Some(TemplateWhy::VoidChild),
-        Content::Bare if is_child(line) && !bare => Some(TemplateWhy::RawText),
+        Content::Nothing if is_child(role) => Some(TemplateWhy::VoidChild),
+        Content::Bare if is_child(role) && !bare => Some(TemplateWhy::RawText),
         _ => None,
     }
 }
 
 // An `each` in an `each`, or too many levels.
-fn is_nested(place: &Place, line: &Line<Seen>) -> bool
-    ensures { result ≡ is_nested (place_of place.now) line.now }
+fn is_nested(place: &Place, role: &Role<'_>) -> bool
+    ensures { result ≡ is_nested (place_of place.now) (role_seen role.now) }
 {
-    let deep = opens(line) && MOST_DEPTH < place.depth() + 2;
-    match line {
-        Line::Each(_) => place.in_loop() || deep,
-        _ => deep,
-    }
+    let again = is_each(role) && place.in_loop();
+    let deep = is_opening(role) && MOST_DEPTH < place.depth() + 2;
+    again || deep
 }
 
 // A formula that is too high.
@@ -125,16 +112,17 @@ fn excess(fault: Option<FormulaFault>) -> Option<TemplateWhy>
 
 // What may not stand there of a line.
 fn misplacing(place: &Place, line: &Line<Seen>) -> Option<TemplateWhy>
-    ensures { result ≡ misplacing (place_of place.now) (fault_seen line.now) (bare_seen line.now) line.now }
+    ensures { result ≡ misplacing (place_of place.now) (fault_seen line.now) (bare_seen line.now) (role_of line.now) }
 {
     let fault = fault_of(line);
+    let role = role_of(line);
     if let Some(why) = missing(fault) {
         return Some(why);
     }
-    if let Some(why) = in_element(place.content(), is_bare(line), line) {
+    if let Some(why) = in_element(place.content(), is_bare(line), &role) {
         return Some(why);
     }
-    if is_nested(place, line) {
+    if is_nested(place, &role) {
         return Some(TemplateWhy::Nest);
     }
     high(fault)

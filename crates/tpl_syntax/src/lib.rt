@@ -15,7 +15,7 @@ mod writing;
 pub use fault::{TemplateFault, TemplateWhy};
 pub use judge::MOST_DEPTH;
 pub use laws::{one_line, one_template, templates_read_back};
-pub use line::{Line, TplLine};
+pub use line::{Line, Mark, Purpose, TplLine};
 pub use read::{read_numbered, read_template};
 pub use template::Template;
 pub use writing::put_template;

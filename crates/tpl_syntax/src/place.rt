@@ -3,10 +3,11 @@ ghost use Rattle.std.specs.Prelude.{◌≡◌, ◌∷◌, ◌++◌, [], true, le
 ghost use Rattle.std.specs.List.{list_any};
 ghost use Rattle.std.specs.Str.{bytes_eq};
 ghost use Rattle.tpl_syntax.specs.declared.place.Level.TheVariants as level;
-ghost use Rattle.tpl_syntax.specs.Places.{among, content_at, content_of, fits, in_loop, innermost, is_choice, is_closed, is_loop, moved, top};
-ghost use Rattle.tpl_syntax.specs.Views.{levels_of, place_of};
+ghost use Rattle.tpl_syntax.specs.Places.{among, behind, content_at, content_of, fits, in_loop, innermost, is_choice, is_child, is_closed, is_each, is_element};
+ghost use Rattle.tpl_syntax.specs.Places.{is_loop, is_opening, mark_role, moved, purpose_role, role_of, stands, top};
+ghost use Rattle.tpl_syntax.specs.Views.{levels_of, place_of, role_seen};
 
-use crate::Line;
+use crate::{Line, Mark, Purpose};
 use html_out::{is_raw, is_void};
 use sig_base::{NoMemory, Text};
 use std::alloc::Global;
@@ -31,6 +32,21 @@ pub enum Level {
     /// What stands behind an `else`.
     Other,
     Loop,
+}
+
+/// What a line is among others.
+#[derive(Clone, Copy)]
+pub enum Role<'a> {
+    /// It stands by itself.
+    Leaf,
+    /// It is an attribute, of this name, of the element before it.
+    Attribute(&'a Text),
+    /// It begins this.
+    Begins(Level),
+    /// It begins the part behind an `else`.
+    Turns,
+    /// It ends the innermost of what is begun.
+    Ends,
 }
 
 /// A place among the lines of a template.
@@ -82,6 +98,63 @@ fn any_loop(levels: &[Level]) -> bool
     levels.iter().any(|level| matches!(level, Level::Loop))
 }
 
+// What a line without a formula is.
+fn mark_role(mark: &Mark) -> Role<'_>
+    ensures { role_seen result ≡ mark_role mark.now }
+{
+    match mark {
+        Mark::Tag(name) => Role::Begins(Level::Element(content_of(name.as_str()))),
+        Mark::Else => Role::Turns,
+        Mark::End => Role::Ends,
+    }
+}
+
+// What a line with a formula is.
+fn purpose_role(purpose: &Purpose) -> Role<'_>
+    ensures { role_seen result ≡ purpose_role purpose.now }
+{
+    match purpose {
+        Purpose::Text => Role::Leaf,
+        Purpose::Attr(name) => Role::Attribute(name),
+        Purpose::If => Role::Begins(Level::Choice),
+        Purpose::Each => Role::Begins(Level::Loop),
+    }
+}
+
+/// What a line is.
+pub fn role_of<F: Drop>(line: &Line<F>) -> Role<'_>
+    ensures { role_seen result ≡ role_of line.now }
+{
+    match line {
+        Line::Plain(mark) => mark_role(mark),
+        Line::Over(purpose, _) => purpose_role(purpose),
+    }
+}
+
+/// Whether an `end` ends what it begins.
+pub fn is_opening(role: &Role<'_>) -> bool
+    ensures { result ≡ is_opening (role_seen role.now) }
+{
+    matches!(role, Role::Begins(_))
+}
+
+/// Whether it, or what it shows, is a child of the element around it.
+pub fn is_child(role: &Role<'_>) -> bool
+    ensures { result ≡ is_child (role_seen role.now) }
+{
+    matches!(role, Role::Leaf) || is_opening(role)
+}
+
+/// Whether it begins an `each`.
+pub fn is_each(role: &Role<'_>) -> bool
+    ensures { result ≡ is_each (role_seen role.now) }
+{
+    match role {
+        Role::Begins(level) => matches!(level, Level::Loop),
+        _ => false,
+    }
+}
+
 impl Place {
     /// The place of the first line.
     pub fn first(alloc: Global) -> Place
@@ -125,24 +198,31 @@ impl Place {
         self.levels.len()
     }
 
+    // Whether a line that is this may stand there.
+    fn stands(&self, role: &Role<'_>) -> bool
+        ensures { result ≡ stands (place_of self.now) (role_seen role.now) }
+    {
+        match role {
+            Role::Attribute(name) => self.in_tag && !is_among(&self.attributes, name),
+            Role::Turns => is_choice(&self.levels),
+            Role::Ends => !self.levels.is_empty(),
+            Role::Leaf | Role::Begins(_) => true,
+        }
+    }
+
     /// Whether the line may stand there.
     pub fn fits<F: Drop>(&self, line: &Line<F>) -> bool
         ensures { result ≡ fits (place_of self.now) line.now }
     {
-        match line {
-            Line::Attr(name, _) => self.in_tag && !is_among(&self.attributes, name),
-            Line::Else => is_choice(&self.levels),
-            Line::End => !self.levels.is_empty(),
-            Line::Text(_) | Line::Tag(_) | Line::If(_) | Line::Each(_) => true,
-        }
+        self.stands(&role_of(line))
     }
 
     // Begins a level.
     fn begin(&mut self, level: Level) -> Result<(), NoMemory>
-        ensures { OnOk result (place_of self.new ≡ among (level ∷ (place_of self.old).levels)) }
+        ensures { OnOk result (place_of self.new ≡ record { levels = level ∷ (place_of self.old).levels; in_tag = is_element level; attributes = [] }) }
     {
         self.levels.push(level)?;
-        self.in_tag = false;
+        self.in_tag = matches!(level, Level::Element(_));
         self.attributes.clear();
         Ok(())
     }
@@ -164,16 +244,6 @@ impl Place {
         self.attributes.clear();
     }
 
-    // Begins an element.
-    fn begin_element(&mut self, name: &Text) -> Result<(), NoMemory>
-        ensures { OnOk result (place_of self.new
-            ≡ record { levels = level.Element (content_of name.now) ∷ (place_of self.old).levels; in_tag = true; attributes = [] }) }
-    {
-        self.begin(Level::Element(content_of(name.as_str())))?;
-        self.in_tag = true;
-        Ok(())
-    }
-
     // Goes behind an attribute.
     fn pass_attribute(&mut self, name: &Text) -> Result<(), NoMemory>
         ensures { OnOk result (place_of self.new ≡ record (place_of self.old) { attributes = (place_of self.old).attributes ++ name.now ∷ [] }) }
@@ -182,27 +252,33 @@ impl Place {
         Ok(())
     }
 
-    /// Goes behind a line.
-    pub fn step<F: Drop>(&mut self, line: &Line<F>) -> Result<(), NoMemory>
-        ensures { OnOk result (place_of self.new ≡ moved (place_of self.old) line.now) }
+    // Goes behind a line that is this.
+    fn pass(&mut self, role: &Role<'_>) -> Result<(), NoMemory>
+        ensures { OnOk result (place_of self.new ≡ behind (place_of self.old) (role_seen role.now)) }
     {
-        match line {
-            Line::Text(_) => {
+        match role {
+            Role::Leaf => {
                 self.leave_tag();
                 Ok(())
             }
-            Line::Tag(name) => self.begin_element(name),
-            Line::Attr(name, _) => self.pass_attribute(name),
-            Line::If(_) => self.begin(Level::Choice),
-            Line::Else => {
+            Role::Attribute(name) => self.pass_attribute(name),
+            Role::Begins(level) => self.begin(*level),
+            Role::Turns => {
                 self.end();
                 self.begin(Level::Other)
             }
-            Line::Each(_) => self.begin(Level::Loop),
-            Line::End => {
+            Role::Ends => {
                 self.end();
                 Ok(())
             }
         }
+    }
+
+    /// Goes behind a line.
+    pub fn step<F: Drop>(&mut self, line: &Line<F>) -> Result<(), NoMemory>
+        ensures { OnOk result (place_of self.new ≡ moved (place_of self.old) line.now) }
+    {
+        self.pass(&role_of(line))?;
+        Ok(())
     }
 }

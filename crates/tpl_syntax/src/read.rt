@@ -104,7 +104,7 @@ fn judged(alloc: Global, lines: Vec<ReadLine>) -> Result<Result<Template, Templa
         return Ok(Err(fault));
     }
     let lines = sound_lines(alloc, lines)?;
-    let template = template_of(alloc, &lines)?;
+    let template = template_of(alloc, lines)?;
     Ok(Ok(template))
 }
 

@@ -11,12 +11,13 @@ ghost use Rattle.line_forms.specs.Forms as forms;
 ghost use Rattle.line_forms.specs.Reading.{read_form, read_formula};
 ghost use Rattle.line_forms.specs.Rows.{rows_of, said_of};
 ghost use Rattle.line_forms.specs.Told.{ahead};
+ghost use Rattle.tpl_syntax.specs.declared.line.Line.TheVariants as lines;
 ghost use Rattle.tpl_syntax.specs.Grammar as rows;
 ghost use Rattle.tpl_syntax.specs.Grammar.{row, table, Row, Said, Writes};
 ghost use Rattle.tpl_syntax.specs.Judging.{has_end, is_bare};
 ghost use Rattle.tpl_syntax.specs.Views.{finds, found_as, found_first, found_of, seen};
 
-use crate::Line;
+use crate::{Line, Mark, Purpose};
 use formula_text::{Allow, Rough};
 use line_forms::{ToldFormula, ends_at, rough_at, tag_at, told};
 use sig_base::{MOST_LINE, NoMemory};
@@ -144,51 +145,32 @@ fn seen_last(
     Ok(Some(seen))
 }
 
-// `text FORMULA`
-fn text(
+// A word and a formula.
+fn over(
     alloc: Global,
     line: &[u8],
     tokens: &[Token],
     allow: Allow,
+    purpose: Purpose,
 ) -> Result<Option<Line<Seen>>, NoMemory>
     requires { AreTokens line.now tokens.now }
-    ensures { IfOk result (λ found. found ≡ found_as allow rows.text (ahead line.now tokens.now 1)) }
+    ensures { IfOk result (λ found. found
+        ≡ option_map (λ a. lines.Over purpose (seen allow a.0)) (read_form (forms.part forms.formula ∷ []) (ahead line.now tokens.now 1))) }
 {
     match seen_last(alloc, line, tokens, 1, allow)? {
-        Some(seen) => Ok(Some(Line::Text(seen))),
+        Some(seen) => Ok(Some(Line::Over(purpose, seen))),
         None => Ok(None),
     }
 }
 
-// `if FORMULA`
-fn choice(
-    alloc: Global,
-    line: &[u8],
-    tokens: &[Token],
-    allow: Allow,
-) -> Result<Option<Line<Seen>>, NoMemory>
-    requires { AreTokens line.now tokens.now }
-    ensures { IfOk result (λ found. found ≡ found_as allow rows.choice (ahead line.now tokens.now 1)) }
+// A word alone.
+fn alone(tokens: &[Token], mark: Mark) -> Option<Line<Seen>>
+    ensures { (line : List ℕ) → result ≡ option_map (λ a. lines.Plain mark) (read_form [] (ahead line tokens.now 1)) }
 {
-    match seen_last(alloc, line, tokens, 1, allow)? {
-        Some(seen) => Ok(Some(Line::If(seen))),
-        None => Ok(None),
-    }
-}
-
-// `each FORMULA`
-fn each(
-    alloc: Global,
-    line: &[u8],
-    tokens: &[Token],
-    allow: Allow,
-) -> Result<Option<Line<Seen>>, NoMemory>
-    requires { AreTokens line.now tokens.now }
-    ensures { IfOk result (λ found. found ≡ found_as allow rows.loop (ahead line.now tokens.now 1)) }
-{
-    match seen_last(alloc, line, tokens, 1, allow)? {
-        Some(seen) => Ok(Some(Line::Each(seen))),
-        None => Ok(None),
+    if ends_at(tokens, 1) {
+        Some(Line::Plain(mark))
+    } else {
+        None
     }
 }
 
@@ -208,7 +190,7 @@ fn tag(
     if !ends_at(tokens, at) {
         return Ok(None);
     }
-    Ok(Some(Line::Tag(name)))
+    Ok(Some(Line::Plain(Mark::Tag(name))))
 }
 
 // `attr @NAME FORMULA`
@@ -225,30 +207,8 @@ fn attribute(
         return Ok(None);
     };
     match seen_last(alloc, line, tokens, at, allow)? {
-        Some(seen) => Ok(Some(Line::Attr(name, seen))),
+        Some(seen) => Ok(Some(Line::Over(Purpose::Attr(name), seen))),
         None => Ok(None),
-    }
-}
-
-// `else`
-fn other(tokens: &[Token]) -> Option<Line<Seen>>
-    ensures { (line : List ℕ) (allow : Allow) → result ≡ found_as allow rows.other (ahead line tokens.now 1) }
-{
-    if ends_at(tokens, 1) {
-        Some(Line::Else)
-    } else {
-        None
-    }
-}
-
-// `end`
-fn close(tokens: &[Token]) -> Option<Line<Seen>>
-    ensures { (line : List ℕ) (allow : Allow) → result ≡ found_as allow rows.close (ahead line tokens.now 1) }
-{
-    if ends_at(tokens, 1) {
-        Some(Line::End)
-    } else {
-        None
     }
 }
 
@@ -264,13 +224,13 @@ fn behind_word(
     ensures { IfOk result (λ found. found ≡ found_first allow (rows_of word.now table) (ahead line.now tokens.now 1)) }
 {
     match word {
-        "text" => text(alloc, line, tokens, allow),
+        "text" => over(alloc, line, tokens, allow, Purpose::Text),
         "tag" => tag(alloc, line, tokens, allow),
         "attr" => attribute(alloc, line, tokens, allow),
-        "if" => choice(alloc, line, tokens, allow),
-        "else" => Ok(other(tokens)),
-        "each" => each(alloc, line, tokens, allow),
-        "end" => Ok(close(tokens)),
+        "if" => over(alloc, line, tokens, allow, Purpose::If),
+        "else" => Ok(alone(tokens, Mark::Else)),
+        "each" => over(alloc, line, tokens, allow, Purpose::Each),
+        "end" => Ok(alone(tokens, Mark::End)),
         _ => Ok(None),
     }
 }

@@ -4,11 +4,12 @@ ghost use Rattle.sig_formula.specs.Trees.{tree};
 ghost use Rattle.formula_text.specs.Canonical.{unslotted};
 ghost use Rattle.line_forms.specs.Forms as forms;
 ghost use Rattle.line_forms.specs.Printed.{form_text, part_text};
+ghost use Rattle.tpl_syntax.specs.declared.line.Line.TheVariants as line;
 ghost use Rattle.tpl_syntax.specs.Grammar as rows;
 ghost use Rattle.tpl_syntax.specs.Lines.{mapped};
-ghost use Rattle.tpl_syntax.specs.Writing.{bytes_of, ended_line, plan_text, said_in};
+ghost use Rattle.tpl_syntax.specs.Writing.{bytes_of, ended_line, plan_text, said_in, said_of};
 
-use crate::{Line, Template, TplLine};
+use crate::{Line, Mark, Purpose, Template, TplLine};
 use formula_text::put_formula_of;
 use line_forms::put_tag;
 use sig_base::{Name, NoMemory, Text};
@@ -69,18 +70,41 @@ fn put_word(out: &mut Vec<u8>, word: &[u8]) -> Result<(), NoMemory>
     Ok(())
 }
 
+// Appends a line without a formula.
+fn put_mark(out: &mut Vec<u8>, mark: &Mark) -> Result<(), NoMemory>
+    ensures { OnOk result (out.new.items ≡ out.old.items ++ bytes_of (said_of (line.Plain mark.now))) }
+{
+    match mark {
+        Mark::Tag(name) => put_element(out, name),
+        Mark::Else => put_word(out, b"else"),
+        Mark::End => put_word(out, b"end"),
+    }
+}
+
+// Appends a line with a formula.
+fn put_over(
+    out: &mut Vec<u8>,
+    purpose: &Purpose,
+    names: &[Name],
+    formula: &Formula,
+) -> Result<(), NoMemory>
+    ensures { OnOk result (out.new.items ≡ out.old.items ++ bytes_of (said_of (line.Over purpose.now (unslotted names.now (tree formula.now))))) }
+{
+    match purpose {
+        Purpose::Text => put_alone(out, b"text", names, formula),
+        Purpose::Attr(name) => put_attribute(out, name, names, formula),
+        Purpose::If => put_alone(out, b"if", names, formula),
+        Purpose::Each => put_alone(out, b"each", names, formula),
+    }
+}
+
 // Appends a line.
 fn put_line(out: &mut Vec<u8>, names: &[Name], line: &TplLine) -> Result<(), NoMemory>
     ensures { OnOk result (out.new.items ≡ out.old.items ++ bytes_of (said_in names.now (mapped tree line.now))) }
 {
     match line {
-        Line::Text(formula) => put_alone(out, b"text", names, formula),
-        Line::Tag(name) => put_element(out, name),
-        Line::Attr(name, formula) => put_attribute(out, name, names, formula),
-        Line::If(formula) => put_alone(out, b"if", names, formula),
-        Line::Else => put_word(out, b"else"),
-        Line::Each(formula) => put_alone(out, b"each", names, formula),
-        Line::End => put_word(out, b"end"),
+        Line::Plain(mark) => put_mark(out, mark),
+        Line::Over(purpose, formula) => put_over(out, purpose, names, formula),
     }
 }
 

@@ -3,7 +3,7 @@ use Rattle.std.proofs.lemmas.List.{drop_all, drop_more}
 use Rattle.sig_formula.specs.declared.formula.Formula.{Formula}
 use Rattle.tpl_syntax.specs.declared.line.Line.{Line}
 use Rattle.tpl_model.specs.Lines as model
-use Rattle.tpl_blocks.specs.Blocks.{held, line_of, part_of}
+use Rattle.tpl_blocks.specs.Blocks.{held, line_of}
 use Rattle.tpl_blocks.proofs.Stacks.{held_none, one_back}
 use Rattle.tpl_blocks.proofs.building.parts_of.Goals as goal
 

@@ -1,7 +1,7 @@
-use Rattle.std.proofs.Common.{◌∙◌, sym, ap}
+use Rattle.std.proofs.Common.{◌∙◌, refl, sym, ap}
 use Rattle.tpl_model.specs.Lines as model
 use Rattle.tpl_blocks.specs.Blocks.{held, part_of}
-use Rattle.tpl_blocks.proofs.Stacks.{else_line}
+use Rattle.tpl_blocks.proofs.Stacks.{line_before}
 use Rattle.tpl_blocks.proofs.building.put_else.Goals as goal
 
 pub returns-in_default : goal.returns-in_default
@@ -9,5 +9,5 @@ returns-in_default c = c.in_default.ensures.1 ∙ sym (ap (model.with_line c.arg
 
 pub returns : goal.returns
 returns c =
-    else_line c.args.line (part_of c.in-Some.part) (part_of c.in_ok-part.part) (held c.args.parts.now.items) (held c.innermost.new.parts.items)
-    (held c.open.new.parts.items) c.in-Some.ensures c.in_ok-part.ensures c.in_ok-open.ensures
+    line_before c.args.line model.ElseLine (part_of c.in-Some.part) (part_of c.in_ok-part.part) (held c.args.parts.now.items)
+    (held c.innermost.new.parts.items) (held c.open.new.parts.items) (refl, λ p rest. refl) c.in-Some.ensures (c.in_ok-part.ensures c.args.line) c.in_ok-open.ensures
