@@ -9,15 +9,14 @@ use Rattle.effect_model.specs.Worlds.{lives, tell}
 use Rattle.effect_laws.specs.Frames.{IsOfSignals}
 use Rattle.sig_owner.specs.Tables.{Row, changed_at, live_at, noted, thing_at, with_item}
 use Rattle.sig_owner.specs.Trees.{has_thing, owned_of}
-use Rattle.sig_owner.proofs.Shared.{has_put, item_length, item_lives, item_thing, renamed_put}
+use Rattle.sig_owner.proofs.Shared.{has_put, item_lives, item_thing, renamed_put}
 use Rattle.effect_tables.specs.declared.tables.Tables.{Tables}
 use Rattle.effect_tables.specs.Holding.{Holds}
-use Rattle.effect_tables.specs.Numbering.{rows_in}
 use Rattle.effect_tables.specs.Placed.{at_rest, numbering, tree_of}
 use Rattle.effect_tables.proofs.Shared.{number_apart, placed_rests}
 use Rattle.effect_undoing.specs.Forming.{AreFormed}
 use Rattle.effect_undoing.specs.Taking.{EndsIn, Takes}
-use Rattle.effect_undoing.proofs.Shared.{formed_put, names_alike, taken}
+use Rattle.effect_undoing.proofs.Shared.{formed_put, taken}
 use Rattle.sig_host.specs.Hosts.{HostPlace}
 use Rattle.sig_effect.specs.Agreeing.{environment}
 use Rattle.sig_effect.specs.Wholes as wholes
@@ -146,12 +145,20 @@ acted_undoes slacks old new first last steps act framed a told p = record {
 pub noted_in : (rows later : List Row) (n : ℕ) (c : owning.Cleanup) → later ≡ changed_at (with_item (noted c)) n rows →
     owned_of later ≡ put_under (thing_at rows n) (owning.cleanup c owning.nothing) (owned_of rows) → EndsIn rows later [] (put_under (thing_at rows n) (owning.cleanup c owning.nothing) (owned_of rows))
 noted_in rows later n c after tree = record {
-  names = names_alike rows later (ap length after ∙ item_length (noted c) n rows) (λ k. ap (λ rs. thing_at rs k) after ∙ item_thing (noted c) n k rows);
-  lives = λ k. ap (λ rs. live_at rs k) after ∙ item_lives (noted c) n k rows ∙ kept (live_at rows k);
+  things = λ k on. same k;
+  effects = λ all k e is. alive k ∙ all k e (sym (same k) ∙ is);
+  gone = λ before m off. ap (has_thing (owning.the_owner m)) tree ∙ has_put (owning.the_owner m) (thing_at rows n) (owning.cleanup c owning.nothing) (owned_of rows) refl (before m (sym (alive m) ∙ off));
+  lives = λ k. alive k ∙ kept (live_at rows k);
   nowhere = λ t h. ap (has_thing t) tree ∙ has_put t (thing_at rows n) (owning.cleanup c owning.nothing) (owned_of rows) refl h;
   tree = tree;
 }
   where
+    same : (k : ℕ) → thing_at later k ≡ thing_at rows k
+    same k = ap (λ rs. thing_at rs k) after ∙ item_thing (noted c) n k rows
+
+    alive : (k : ℕ) → live_at later k ≡ live_at rows k
+    alive k = ap (λ rs. live_at rs k) after ∙ item_lives (noted c) n k rows
+
     kept : (b : Bool) → b ≡ (b && not false)
     kept true = refl
     kept false = refl
@@ -166,9 +173,9 @@ noted_takes : (t : Tables) (later : List Row) (e n : ℕ) (c : owning.Cleanup) �
 noted_takes t later e n c h f is ends =
     taken t (record t { store = later }) later [] [] (put_under (owning.the_effect e) (owning.cleanup c owning.nothing) (owned_of t.store)) h
     (subst (λ (s : owning.Thing). EndsIn t.store later [] (put_under s (owning.cleanup c owning.nothing) (owned_of t.store))) is ends)
-    (record { store = refl; things = refl; owners = refl; effects = refl; pages = refl; effects_made = refl; pages_made = refl }) refl
+    (record { store = refl; things = λ k. refl; owners = refl; effects = refl; pages = refl; effects_made = refl; pages_made = refl }) refl
     (put_under (owning.the_effect e) (owning.cleanup c owning.nothing) (tree_of t))
-    (renamed_put (numbering t) (number_apart (rows_in t.owners.items)) (owning.the_effect e) (owning.cleanup c owning.nothing) (owned_of t.store))
+    (renamed_put (numbering t) (number_apart t.owners.items) (owning.the_effect e) (owning.cleanup c owning.nothing) (owned_of t.store))
     (record { formed = formed_put (owning.the_owner 0) (owning.the_effect e) (owning.cleanup c owning.nothing) (tree_of t) refl (tt, tt) f.formed })
 
 none_some : (k : ℕ) → None ≡ Some k → ⊥

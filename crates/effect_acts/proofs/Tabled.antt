@@ -9,7 +9,7 @@ use Rattle.sig_owner.specs.Trees.{has_thing, owned_of}
 use Rattle.effect_tables.specs.declared.tables.Tables.{Tables}
 use Rattle.effect_tables.specs.Adopting.{with_child}
 use Rattle.effect_tables.specs.Holding.{Holds, LeavesOut}
-use Rattle.effect_tables.specs.Numbering.{number_in, rows_in}
+use Rattle.effect_tables.specs.Numbering.{number_in}
 use Rattle.effect_tables.specs.Placed.{at_rest, placed, tree_of}
 use Rattle.effect_tables.proofs.Shared.{placed_rests}
 use Rattle.effect_undoing.specs.Forming.{AreFormed}
@@ -54,7 +54,7 @@ acted_tabled slacks old u asked before after ev t act change does is quiet one m
 -- all stands where it stood
 pub owned_kept : (old : World) (u : Tables) → u.store ≡ old.tables.store → u.owners ≡ old.tables.owners → Holds u → AreOwned old → AreOwned (record old { tables = u })
 owned_kept old u store owners h o =
-    let tree : tree_of u ≡ tree_of old.tables = λ i. renamed (number_in (rows_in (owners i).items)) (owned_of (store i)) in
+    let tree : tree_of u ≡ tree_of old.tables = λ i. renamed (number_in (owners i).items) (owned_of (store i)) in
     record {
       tables = h;
       formed = subst AreFormed (sym tree) o.formed;

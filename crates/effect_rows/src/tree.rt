@@ -97,9 +97,9 @@ impl Tree {
     }
 
     /// How many owners were made, and how many effects and pages live.
-    pub(crate) fn counts(&self) -> (usize, usize, usize) {
+    pub(crate) fn counts(&self) -> (u128, usize, usize) {
         (
-            self.tables.owners.len(),
+            self.tables.owners.made(),
             self.tables.effects.len(),
             self.tables.pages.len(),
         )

@@ -1,29 +1,26 @@
 -- What is left where a signal or a page is put under an owner.
-use Rattle.std.proofs.Common.{◌≡◌, ℕ, ◌<◌, ◌≤◌, ◌||◌, true, false, cond, List, map, length, Option, Some, None, refl, sym, ap, subst, ◌∙◌}
-use Rattle.std.specs.List.{AllByRecursion}
+use Rattle.std.proofs.Common.{◌≡◌, ℕ, ◌≤◌, ◌||◌, false, cond, List, Option, Some, None, refl, sym, ap, subst, ◌∙◌}
 use Rattle.effect_model.specs.Owning.{Thing, the_owner, the_effect, the_page, Owned, nothing, thing, alone, made_inside, put_under, same_thing}
-use Rattle.sig_owner.specs.Tables.{Row, changed_at, is_holder, is_owner, leaf, live_at, thing_at, with_item}
+use Rattle.sig_owner.specs.Tables.{Row, changed_at, is_holder, leaf, live_at, thing_at, with_item}
 use Rattle.sig_owner.specs.Renaming.{renamed, renamed_thing}
 use Rattle.sig_owner.specs.Trees.{has_thing, owned_of}
-use Rattle.sig_owner.proofs.Shared.{has_put, item_length, item_lives, item_thing, renamed_put}
+use Rattle.sig_owner.proofs.Shared.{has_put, item_lives, item_thing, renamed_put}
 use Rattle.effect_tables.specs.declared.effect.Effect.{Effect}
-use Rattle.effect_tables.specs.declared.tables.OwnerEntry.{OwnerEntry}
+use Rattle.effect_tables.specs.declared.thing.Thing.{Thing as AThing}
 use Rattle.effect_tables.specs.Adopting.{Adopts, put_in}
-use Rattle.effect_tables.specs.Holding.{AreAlive, AreFresh, AreNumbered, IsEffect, IsKnown, IsOwner, names_of}
-use Rattle.effect_tables.specs.Numbering.{number_in, rows_in}
+use Rattle.effect_tables.specs.Holding.{AreAlive, AreFresh, AreNumbered, IsEffect, IsKnown}
+use Rattle.effect_tables.specs.Numbering.{number_in}
 use Rattle.effect_tables.specs.Placed.{listed}
 use Rattle.effect_tables.proofs.Making.{Stands}
-use Rattle.effect_tables.proofs.Rows.{all_weaker, names_item}
+use Rattle.effect_tables.proofs.Rows.{all_weaker}
 
 -- nothing is put where nobody is to own it
 pub adopts_none : (rows : List Row) (t : Thing) → Adopts rows rows None t
-adopts_none rows t = record { names = refl; count = refl; things = λ k. refl; lives = λ k. refl; tree = refl }
+adopts_none rows t = record { things = λ k. refl; lives = λ k. refl; tree = refl }
 
 pub adopts_some : (rows later : List Row) (r : ℕ) (t : Thing) → later ≡ changed_at (with_item (leaf t)) r rows → owned_of later ≡ put_under (thing_at rows r) (alone t) (owned_of rows) →
     Adopts rows later (Some r) t
 adopts_some rows later r t after tree = record {
-  names = ap names_of after ∙ names_item (leaf t) r rows;
-  count = ap length after ∙ item_length (leaf t) r rows;
   things = λ k. ap (λ rs. thing_at rs k) after ∙ item_thing (leaf t) r k rows;
   lives = λ k. ap (λ rs. live_at rs k) after ∙ item_lives (leaf t) r k rows;
   tree = tree;
@@ -44,21 +41,18 @@ adopted_tree g apart rows (Some o) (Some r) t x s kind same =
     ap listed (renamed_put g apart (thing_at rows r) (alone t) x ∙ (λ i. put_under (s i) (alone (same i)) (renamed g x)))
 
 module _ (rows later : List Row) (outer : Option ℕ) (t : Thing) (a : Adopts rows later outer t) where
-  pub adopted_numbered : (owners : List ℕ) (things : List Thing) → ((m : ℕ) → same_thing (the_owner m) t ≡ false) → AreNumbered owners things rows → AreNumbered owners things later
+  pub adopted_numbered : (owners : List (Option ℕ)) (things : ℕ → Option AThing) → ((m : ℕ) → same_thing (the_owner m) t ≡ false) → AreNumbered owners things rows → AreNumbered owners things later
   adopted_numbered owners things kind h = record {
-    named = h.named ∙ ap (map (renamed_thing (number_in owners))) (sym a.names);
-    known = subst (AllByRecursion (IsKnown owners)) (sym a.names) h.known;
+    named = λ k on. h.named k (sym (a.lives k) ∙ on) ∙ ap (renamed_thing (number_in owners)) (sym (a.things k));
+    known = λ k on. subst (IsKnown owners k) (sym (a.things k)) (h.known k (sym (a.lives k) ∙ on));
+    effects = λ k e q. a.lives k ∙ h.effects k e (sym (a.things k) ∙ q);
     apart = h.apart;
-    below = subst (λ (n : ℕ). AllByRecursion (λ (m : ℕ). m < n) owners) (sym a.count) h.below;
-    own = λ m on. a.things m ∙ h.own m on;
     stand = λ m off. ap (has_thing (the_owner m)) a.tree ∙ has_in (the_owner m) t rows outer (owned_of rows) (kind m) (h.stand m off);
   }
 
-  pub adopted_alive : (es : List OwnerEntry) (xs : List Effect) → AreAlive es xs rows → AreAlive es xs later
+  pub adopted_alive : (es : List (Option ℕ)) (xs : List Effect) → AreAlive es xs rows → AreAlive es xs later
   adopted_alive es xs h = record {
-    owners = all_weaker (λ (e : OwnerEntry). e.live ≡ true → IsOwner rows e) (λ (e : OwnerEntry). e.live ≡ true → IsOwner later e) es
-        (λ e f live. record { lives = a.lives e.row ∙ (f live).lives; thing = a.things e.row ∙ (f live).thing }) h.owners;
-    listed = λ k live owner. h.listed k (sym (a.lives k) ∙ live) (ap is_owner (sym (a.things k)) ∙ owner);
+    owners = λ k on. record { lives = a.lives k ∙ (h.owners k on).lives; thing = a.things k ∙ (h.owners k on).thing };
     effects = all_weaker (IsEffect rows) (IsEffect later) xs (λ x f. record { lives = a.lives x.row ∙ f.lives; thing = a.things x.row ∙ f.thing }) h.effects;
   }
 

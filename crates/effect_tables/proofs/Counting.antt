@@ -1,17 +1,16 @@
 -- Owners that live are as many in the store as by the tables.
-use Rattle.std.proofs.Common.{◌≡◌, ℕ, zero, suc, ◌+◌, ◌==◌, ◌&&◌, ◌||◌, ◌++◌, Bool, true, false, cond, List, [], ◌∷◌, length, Option, Some, refl, sym, ap, ◌∙◌, arith, inl, inr}
-use Rattle.std.specs.Prelude.{slice_get}
-use Rattle.std.specs.List.{AllByRecursion}
-use Rattle.std.proofs.lemmas.Bool.{eqb-true}
+use Rattle.std.proofs.Common.{◌≡◌, ℕ, zero, suc, ◌+◌, ◌==◌, ◌&&◌, Bool, true, false, cond, List, [], ◌∷◌, length, Option, Some, None, refl, sym, ap, ◌∙◌, arith, inl, inr}
+use Rattle.std.proofs.lemmas.Bool.{eq-eqb, eqb-true}
 use Rattle.std.proofs.lemmas.Bool.Decides.{nat_tests}
-use Rattle.signal_model.specs.Standing.{is_in}
-use Rattle.signal_model.proofs.Shared.{tested}
+use Rattle.signal_model.proofs.Shared.{either, or_left, or_right, tested}
+use Rattle.effect_model.specs.Owning.{Thing, the_signal, the_owner, the_effect, the_page, the_watcher}
 use Rattle.sig_owner.specs.Tables.{Row, changed_at, ended_row, is_owner, is_owner_row, live_at, owner_count, row_at, thing_at}
-use Rattle.effect_tables.specs.declared.tables.OwnerEntry.{OwnerEntry}
 use Rattle.effect_tables.specs.declared.tables.Tables.{Tables}
-use Rattle.effect_tables.specs.Holding.{AreApart, AreListed, Holds, IsOwner}
-use Rattle.effect_tables.specs.Numbering.{is_live, living, number_in, rows_in}
-use Rattle.effect_tables.proofs.Numbers.{left_off, off_on, right_off, swapped}
+use Rattle.effect_tables.specs.declared.thing.Thing.{Thing as AThing}
+use Rattle.effect_tables.specs.Holding.{AreNumbered, HaveOwnRows, Holds, IsKnown, IsOwner}
+use Rattle.effect_tables.specs.Noting.{noted}
+use Rattle.effect_tables.specs.Numbering.{is_row, living}
+use Rattle.effect_tables.proofs.Numbers.{off_on}
 
 -- ---- in the store
 
@@ -52,75 +51,51 @@ ended_here (x ∷ xs) (suc r) = ended_here xs r
 
 -- ---- in both
 
+-- each owner that lives in the store has its row by the tables
+abbrev AreListed : List (Option ℕ) → List Row → Type 0
+AreListed es rows = (k : ℕ) → live_at rows k ≡ true → is_owner (thing_at rows k) ≡ true → is_row k es ≡ true
+
+-- and owners of the tables live there
+abbrev AreOwners : List (Option ℕ) → List Row → Type 0
+AreOwners es rows = (k : ℕ) → is_row k es ≡ true → IsOwner rows k
+
+owner_listed : (es : List (Option ℕ)) (k : ℕ) (t : Thing) → IsKnown es k t → is_owner t ≡ true → is_row k es ≡ true
+owner_listed es k (the_owner n) h q = h.1
+owner_listed es k (the_signal n) h q = cc
+owner_listed es k (the_effect n) h q = cc
+owner_listed es k (the_page n) h q = cc
+owner_listed es k (the_watcher n) h q = cc
+
+pub are_listed : (es : List (Option ℕ)) (things : ℕ → Option AThing) (rows : List Row) → AreNumbered es things rows → AreListed es rows
+are_listed es things rows h k on owner = owner_listed es k (thing_at rows k) (h.known k on) owner
+
 apart_from : (m n : ℕ) → (m == n) ≡ false → m ≡ n → ⊥
 apart_from m n off e = let on : (m == n) ≡ true = grind (arith, nat_tests, e) in off_on (m == n) off on
 
-still_owners : (es : List OwnerEntry) (rows : List Row) (r : ℕ) → is_in r (rows_in es) ≡ false →
-    AllByRecursion (λ (e : OwnerEntry). e.live ≡ true → IsOwner rows e) es → AllByRecursion (λ (e : OwnerEntry). e.live ≡ true → IsOwner (changed_at ended_row r rows) e) es
-still_owners [] rows r off h = tt
-still_owners (e ∷ es) rows r off h =
-    let same : row_at (changed_at ended_row r rows) e.row ≡ row_at rows e.row = other_row rows r e.row (apart_from r e.row (left_off (r == e.row) (is_in r (rows_in es)) off)) in (
-      λ live. record { lives = ap (λ (x : Row). x.live) same ∙ (h.0 live).lives; thing = ap (λ (x : Row). x.holder) same ∙ (h.0 live).thing },
-      still_owners es rows r (right_off (r == e.row) (is_in r (rows_in es)) off) h.1,
-    )
-
--- what is listed, and isn't the first, is among the others
-among_others : (e : OwnerEntry) (es : List OwnerEntry) (k : ℕ) → (k == e.row) ≡ false → is_live (slice_get (e ∷ es) (number_in (rows_in (e ∷ es)) k)) ≡ true →
-    is_live (slice_get es (number_in (rows_in es) k)) ≡ true
-among_others e es k off h = sym (ap (λ b. is_live (slice_get (e ∷ es) (cond b 0 (suc (number_in (rows_in es) k))))) off) ∙ h
-
-is_first : (e : OwnerEntry) (es : List OwnerEntry) (k : ℕ) → (k == e.row) ≡ true → is_live (slice_get (e ∷ es) (number_in (rows_in (e ∷ es)) k)) ≡ true → e.live ≡ true
-is_first e es k on h = sym (ap (λ b. is_live (slice_get (e ∷ es) (cond b 0 (suc (number_in (rows_in es) k))))) on) ∙ h
+still_owners : (es : List (Option ℕ)) (rows : List Row) (r : ℕ) → is_row r es ≡ false → AreOwners es rows → AreOwners es (changed_at ended_row r rows)
+still_owners es rows r off h k on =
+    let other : r ≡ k → ⊥ = λ e. off_on (is_row r es) off (ap (λ j. is_row j es) e ∙ on) in
+    let same : row_at (changed_at ended_row r rows) k ≡ row_at rows k = other_row rows r k other in
+    record { lives = ap (λ (x : Row). x.live) same ∙ (h k on).lives; thing = ap (λ (x : Row). x.holder) same ∙ (h k on).thing }
 
 -- without the first, which has ended
-others_listed : (e : OwnerEntry) (es : List OwnerEntry) (rows : List Row) → AreListed (e ∷ es) rows → AreListed es (changed_at ended_row e.row rows)
-others_listed e es rows h k lives owner = elim (tested (k == e.row)) [
-  | inl on ↦ absurd (off_on (live_at (changed_at ended_row e.row rows) k) (ap (live_at (changed_at ended_row e.row rows)) (eqb-true k e.row on) ∙ ended_here rows e.row) lives)
-  | inr off ↦ (let same : row_at (changed_at ended_row e.row rows) k ≡ row_at rows k = other_row rows e.row k (apart_from e.row k (swapped e.row k off)) in
-      among_others e es k off (h k (ap (λ (x : Row). x.live) (sym same) ∙ lives) (ap (λ (x : Row). is_owner x.holder) (sym same) ∙ owner)))
+others_listed : (r : ℕ) (es : List (Option ℕ)) (rows : List Row) → AreListed (Some r ∷ es) rows → AreListed es (changed_at ended_row r rows)
+others_listed r es rows h k lives owner = elim (tested (r == k)) [
+  | inl on ↦ absurd (off_on (live_at (changed_at ended_row r rows) k) (ap (live_at (changed_at ended_row r rows)) (sym (eqb-true r k on)) ∙ ended_here rows r) lives)
+  | inr off ↦ (let same : row_at (changed_at ended_row r rows) k ≡ row_at rows k = other_row rows r k (apart_from r k off) in
+      elim (either (k == r) (is_row k es) (h k (ap (λ (x : Row). x.live) (sym same) ∙ lives) (ap (λ (x : Row). is_owner x.holder) (sym same) ∙ owner))) [
+        | inl q ↦ absurd (apart_from r k off (sym (eqb-true k r q)))
+        | inr q ↦ q
+      ])
 ]
 
--- without the first, which didn't live
-others_still : (e : OwnerEntry) (es : List OwnerEntry) (rows : List Row) → e.live ≡ false → AreListed (e ∷ es) rows → AreListed es rows
-others_still e es rows dead h k lives owner = elim (tested (k == e.row)) [
-  | inl on ↦ absurd (off_on e.live dead (is_first e es k on (h k lives owner)))
-  | inr off ↦ among_others e es k off (h k lives owner)
-]
-
-counted : (es : List OwnerEntry) (rows : List Row) (n : ℕ) → AreApart (rows_in es) → AllByRecursion (λ (e : OwnerEntry). e.live ≡ true → IsOwner rows e) es → AreListed es rows →
-    owner_count rows ≡ length (living n es)
+counted : (es : List (Option ℕ)) (rows : List Row) (n : ℕ) → HaveOwnRows es → AreOwners es rows → AreListed es rows → owner_count rows ≡ length (living n es)
 counted [] rows n apart own h = none_lives rows (λ k lives owner. let e : false ≡ true = h k lives owner in cc)
-counted (e ∷ es) rows n apart own h = go e.live refl (λ later. counted es later (suc n) apart.1)
-  where
-    go : (b : Bool) → e.live ≡ b →
-        ((later : List Row) → AllByRecursion (λ (x : OwnerEntry). x.live ≡ true → IsOwner later x) es → AreListed es later → owner_count later ≡ length (living (suc n) es)) →
-        owner_count rows ≡ length (cond b (n ∷ living (suc n) es) (living (suc n) es))
-    go true live more =
-        one_fewer rows e.row (both_on (live_at rows e.row) (is_owner (thing_at rows e.row)) (own.0 live).lives (ap is_owner (own.0 live).thing))
-        ∙ ap suc (more (changed_at ended_row e.row rows) (still_owners es rows e.row apart.0 own.1) (others_listed e es rows h))
-    go false dead more = more rows own.1 (others_still e es rows dead h)
+counted (None ∷ es) rows n apart own h = counted es rows (suc n) apart.1 own h
+counted (Some r ∷ es) rows n apart own h =
+    let first : IsOwner rows r = own r (or_left (r == r) (is_row r es) (eq-eqb r r refl)) in
+    one_fewer rows r (both_on (live_at rows r) (is_owner (thing_at rows r)) first.lives (ap is_owner first.thing))
+    ∙ ap suc (counted es (changed_at ended_row r rows) (suc n) apart.1 (still_owners es rows r apart.0 (λ k on. own k (or_right (k == r) (is_row k es) on))) (others_listed r es rows h))
 
 pub owners_counted : (t : Tables) → Holds t → owner_count t.store ≡ length (living 0 t.owners.items)
-owners_counted t h = counted t.owners.items t.store 0 h.numbered.apart h.alive.owners h.alive.listed
-
--- ---- what is listed stays so
-
--- what is listed has a row
-pub listed_row : (es : List OwnerEntry) (k : ℕ) → is_live (slice_get es (number_in (rows_in es) k)) ≡ true → is_in k (rows_in es) ≡ true
-listed_row [] k h = cc
-listed_row (e ∷ es) k h = go (k == e.row) h (listed_row es k)
-  where
-    go : (b : Bool) → is_live (slice_get (e ∷ es) (cond b 0 (suc (number_in (rows_in es) k)))) ≡ true → (is_live (slice_get es (number_in (rows_in es) k)) ≡ true → is_in k (rows_in es) ≡ true) →
-        (b || is_in k (rows_in es)) ≡ true
-    go true q more = refl
-    go false q more = more q
-
--- one more behind
-pub live_before : (es : List OwnerEntry) (e : OwnerEntry) (j : ℕ) → is_live (slice_get es j) ≡ true → is_live (slice_get (es ++ e ∷ []) j) ≡ true
-live_before [] e j h = cc
-live_before (x ∷ xs) e zero h = h
-live_before (x ∷ xs) e (suc j) h = live_before xs e j h
-
-pub live_last : (es : List OwnerEntry) (e : OwnerEntry) → is_live (slice_get (es ++ e ∷ []) (length es)) ≡ e.live
-live_last [] e = refl
-live_last (x ∷ xs) e = live_last xs e
+owners_counted t h = counted t.owners.items t.store 0 h.numbered.apart h.alive.owners (are_listed t.owners.items (noted t.things) t.store h.numbered)

@@ -1,5 +1,5 @@
 -- What effects keep of their runs.
-use Rattle.std.proofs.Common.{◌≡◌, ℕ, zero, suc, ◌==◌, ◌<◌, ◌≤◌, true, false, if◌then◌else◌, List, [], ◌∷◌, map, get_or, refl, sym, ap, subst, ◌∙◌, arith}
+use Rattle.std.proofs.Common.{◌≡◌, ℕ, zero, suc, ◌==◌, ◌<◌, ◌≤◌, false, if◌then◌else◌, List, [], ◌∷◌, map, get_or, refl, sym, ap, subst, ◌∙◌, arith}
 use Rattle.std.specs.Prelude.{slice_set}
 use Rattle.std.specs.List.{AllByRecursion}
 use Rattle.std.proofs.lemmas.Bool.Decides.{nat_tests}
@@ -92,7 +92,7 @@ module _ (e : ℕ) (ss : List Seen) (t u : Tables) (same : u ≡ record t { effe
   pub kept_holds : Holds t → Holds u
   kept_holds h = subst Holds (sym same) (record {
     numbered = h.numbered;
-    alive = record { owners = h.alive.owners; listed = h.alive.listed; effects = kept_alive e ss t.store t.effects.items u.effects.items k h.alive.effects };
+    alive = record { owners = h.alive.owners; effects = kept_alive e ss t.store t.effects.items u.effects.items k h.alive.effects };
     fresh = h.fresh;
     ordered = record { rising = kept_rising e ss 0 t.effects.items u.effects.items k h.ordered.rising; below = kept_below e ss t.effects_made t.effects.items u.effects.items k h.ordered.below };
     fitting = kept_fitting e ss t.effects.items u.effects.items k h.fitting;

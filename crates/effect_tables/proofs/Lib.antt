@@ -1,4 +1,5 @@
 mod Numbers
+mod Gone
 mod Rows
 mod Making
 mod Adopted

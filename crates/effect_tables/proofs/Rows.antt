@@ -1,48 +1,15 @@
 -- The rows of the store after an edit, and its tree by the owners' own numbers.
-use Rattle.std.proofs.Common.{◌≡◌, ℕ, zero, suc, ◌+◌, ◌<◌, ◌||◌, ◌++◌, Bool, true, false, cond, List, [], ◌∷◌, map, length, Option, Some, None, refl, sym, ap, ◌∙◌, arith}
+use Rattle.std.proofs.Common.{◌≡◌, ℕ, zero, suc, ◌<◌, ◌==◌, ◌||◌, ◌++◌, Bool, true, false, List, [], ◌∷◌, length, Option, refl, sym, ap, ◌∙◌, arith, ◌⊎◌, inl, inr}
 use Rattle.std.specs.List.{AllByRecursion}
-use Rattle.std.proofs.lemmas.Bool.{eq-eqb}
-use Rattle.std.proofs.lemmas.List.{map-append}
-use Rattle.signal_model.specs.Standing.{is_in}
-use Rattle.signal_model.proofs.Shared.{or_left, or_right}
+use Rattle.std.proofs.lemmas.Bool.{eq-eqb, eqb-true}
+use Rattle.signal_model.proofs.Shared.{or_left, or_right, tested}
 use Rattle.effect_model.specs.Owning.{Thing, the_signal, the_owner, the_effect, the_page, the_watcher, Owned, nothing, thing, cleanup, same_thing}
-use Rattle.sig_owner.specs.Tables.{Item, held, Row, above_row, changed_at, live_at, put_inside, with_holder, with_item}
+use Rattle.sig_owner.specs.Tables.{Row, live_at, thing_at, with_holder}
 use Rattle.sig_owner.specs.Renaming.{renamed, renamed_thing}
 use Rattle.sig_owner.specs.Trees.{has_thing}
-use Rattle.effect_tables.specs.Holding.{IsKnown, names_of}
-
--- ---- things of rows
-
-names_changed : (f : Row → Row) → ((r : Row) → (f r).holder ≡ r.holder) → (n : ℕ) (rows : List Row) → names_of (changed_at f n rows) ≡ names_of rows
-names_changed f h n [] = refl
-names_changed f h zero (r ∷ rs) = ap (λ (t : Thing). t ∷ names_of rs) (h r)
-names_changed f h (suc n) (r ∷ rs) = ap (λ (ts : List Thing). r.holder ∷ ts) (names_changed f h n rs)
-
--- one item more
-pub names_item : (i : Item) (n : ℕ) (rows : List Row) → names_of (changed_at (with_item i) n rows) ≡ names_of rows
-names_item i n rows = names_changed (with_item i) (λ r. refl) n rows
-
-names_put : (o : Option ℕ) (i : Item) (rows : List Row) → names_of (put_inside o i rows) ≡ names_of rows
-names_put None i rows = refl
-names_put (Some n) i rows = names_item i n rows
-
--- one holder more
-pub names_holder : (rows : List Row) (o : Option ℕ) (t : Thing) → names_of (with_holder rows o t) ≡ names_of rows ++ t ∷ []
-names_holder rows o t =
-    map-append (λ (r : Row). r.holder) (put_inside o (held (length rows)) rows) (above_row t o ∷ [])
-    ∙ ap (λ (ts : List Thing). ts ++ t ∷ []) (names_put o (held (length rows)) rows)
-
-pub length_names : (rows : List Row) → length (names_of rows) ≡ length rows
-length_names [] = refl
-length_names (r ∷ rs) = ap suc (length_names rs)
-
-length_behind : {A : Type 0} (xs : List A) (x : A) → length (xs ++ x ∷ []) ≡ suc (length xs)
-length_behind [] x = refl
-length_behind (y ∷ ys) x = ap suc (length_behind ys x)
-
-pub length_holder : (rows : List Row) (o : Option ℕ) (t : Thing) → length (with_holder rows o t) ≡ suc (length rows)
-length_holder rows o t =
-    sym (length_names (with_holder rows o t)) ∙ ap length (names_holder rows o t) ∙ length_behind (names_of rows) t ∙ ap suc (length_names rows)
+use Rattle.sig_owner.proofs.Shared.{new_thing, other_lives, other_thing}
+use Rattle.effect_tables.specs.Holding.{IsKnown}
+use Rattle.effect_tables.specs.Numbering.{is_row}
 
 -- what lives is one of the rows
 pub live_below : (rows : List Row) (n : ℕ) → live_at rows n ≡ true → n < length rows
@@ -66,17 +33,34 @@ renamed_by g k (thing t made rest) h = λ i. thing (one t (λ m e. h m (or_left 
     one (the_page n) q = refl
     one (the_watcher n) q = refl
 
--- names by other numbers
-pub names_by : (g k : ℕ → ℕ) (owners : List ℕ) (ts : List Thing) → ((m : ℕ) → is_in m owners ≡ true → g m ≡ k m) → AllByRecursion (IsKnown owners) ts → map (renamed_thing g) ts ≡ map (renamed_thing k) ts
-names_by g k owners [] h all = refl
-names_by g k owners (t ∷ ts) h all = λ i. one t all.0 i ∷ names_by g k owners ts h all.1 i
-  where
-    one : (u : Thing) → IsKnown owners u → renamed_thing g u ≡ renamed_thing k u
-    one (the_owner n) q = ap the_owner (h n q)
-    one (the_effect n) q = refl
-    one (the_signal n) q = absurd q
-    one (the_page n) q = absurd q
-    one (the_watcher n) q = absurd q
+-- a thing of a row by other numbers
+pub name_by : (g h : ℕ → ℕ) (owners : List (Option ℕ)) (k : ℕ) (t : Thing) → (is_row k owners ≡ true → g k ≡ h k) → IsKnown owners k t → renamed_thing g t ≡ renamed_thing h t
+name_by g h owners k (the_owner n) same q = ap the_owner (ap g (sym q.0) ∙ same q.1 ∙ ap h q.0)
+name_by g h owners k (the_effect n) same q = refl
+name_by g h owners k (the_signal n) same q = absurd q
+name_by g h owners k (the_page n) same q = absurd q
+name_by g h owners k (the_watcher n) same q = absurd q
+
+-- ---- rows
+
+-- where one was made a row is the last, or as it was
+pub record IsLast (rows : List Row) (o : Option ℕ) (t : Thing) (k : ℕ) : Type 0 where
+  pub place : k ≡ length rows
+  pub thing : thing_at (with_holder rows o t) k ≡ t
+
+pub record IsOlder (rows : List Row) (o : Option ℕ) (t : Thing) (k : ℕ) : Type 0 where
+  pub off : k ≡ length rows → ⊥
+  pub lives : live_at (with_holder rows o t) k ≡ live_at rows k
+  pub thing : thing_at (with_holder rows o t) k ≡ thing_at rows k
+
+differ : (m n : ℕ) → (m == n) ≡ false → m ≡ n → ⊥
+differ m n e q = let z : true ≡ false = sym (eq-eqb m n q) ∙ e in cc
+
+pub made_row : (rows : List Row) (o : Option ℕ) (t : Thing) (k : ℕ) → IsLast rows o t k ⊎ IsOlder rows o t k
+made_row rows o t k = elim (tested (k == length rows)) [
+  | inl e ↦ (let q = eqb-true k (length rows) e in inl (record { place = q; thing = ap (thing_at (with_holder rows o t)) q ∙ new_thing rows o t }))
+  | inr e ↦ (let off : k ≡ length rows → ⊥ = differ k (length rows) e in inr (record { off = off; lives = other_lives rows o t k off; thing = other_thing rows o t k off }))
+]
 
 -- ---- facts of all
 
@@ -89,8 +73,8 @@ all_behind P [] x all one = (one, tt)
 all_behind P (y ∷ ys) x all one = (all.0, all_behind P ys x all.1 one)
 
 -- what passes unless it is known is known
-pub unless_known : (owners : List ℕ) (m : ℕ) (b : Bool) → b ≡ true → (is_in m owners ≡ false → b ≡ false) → is_in m owners ≡ true
-unless_known owners m b on off = go (is_in m owners) off
+pub unless_known : (owners : List (Option ℕ)) (m : ℕ) (b : Bool) → b ≡ true → (is_row m owners ≡ false → b ≡ false) → is_row m owners ≡ true
+unless_known owners m b on off = go (is_row m owners) off
   where
     go : (c : Bool) → (c ≡ false → b ≡ false) → c ≡ true
     go true h = refl

@@ -1,5 +1,5 @@
 -- The tables before anything was made.
-use Rattle.std.proofs.Common.{◌≡◌, [], map, length, refl, sym, ap, subst, ◌∙◌}
+use Rattle.std.proofs.Common.{◌≡◌, [], map, length, sym, ap, subst, ◌∙◌}
 use Rattle.std.specs.List.{AllByRecursion}
 use Rattle.effect_model.specs.Owning.{nothing, the_effect, the_owner, the_page}
 use Rattle.effect_model.specs.Worlds.{World}
@@ -7,16 +7,15 @@ use Rattle.sig_owner.specs.Renaming.{renamed}
 use Rattle.sig_owner.specs.Trees.{has_thing, owned_of}
 use Rattle.effect_tables.specs.declared.tables.Tables.{Tables}
 use Rattle.effect_tables.specs.Fitting.{IsFitted}
-use Rattle.effect_tables.specs.Holding.{AreAlive, AreFresh, AreNumbered, AreOrdered, Holds}
-use Rattle.effect_tables.specs.Linking.{thing_of}
-use Rattle.effect_tables.specs.Numbering.{living, number_in, rows_in}
+use Rattle.effect_tables.specs.Holding.{AreAlive, AreNumbered, AreOrdered, Holds}
+use Rattle.effect_tables.specs.Noting.{noted}
+use Rattle.effect_tables.specs.Numbering.{living, number_in}
 use Rattle.effect_tables.specs.Placed.{effect_of, placed, untouched}
 
 -- nothing is in the tables
 pub record AreBare (t : Tables) : Type 0 where
   pub store : t.store ≡ []
   pub tree : owned_of t.store ≡ nothing
-  pub things : t.things.items ≡ []
   pub owners : t.owners.items ≡ []
   pub effects : t.effects.items ≡ []
   pub pages : t.pages.items ≡ []
@@ -28,7 +27,7 @@ bare_placed t b w = λ i. record w {
   owners = living 0 (b.owners i);
   effects = map effect_of (b.effects i);
   pages = b.pages i;
-  owned = renamed (number_in (rows_in (b.owners i))) (b.tree i);
+  owned = renamed (number_in (b.owners i)) (b.tree i);
   made = record (w.made) { owners = length (b.owners i); effects = b.effects_made i; pages = b.pages_made i };
 }
 
@@ -36,9 +35,9 @@ pub bare_holds : (t : Tables) → AreBare t → Holds t
 bare_holds t b =
     let tree : owned_of [] ≡ nothing = ap owned_of (sym b.store) ∙ b.tree in
     record {
-      numbered = subst (λ x. x) (λ i. AreNumbered (rows_in (sym b.owners i)) (map thing_of (sym b.things i)) (sym b.store i))
-          (record { named = refl; known = tt; apart = tt; below = tt; own = λ m q. cc; stand = λ m off. ap (has_thing (the_owner m)) tree });
-      alive = subst (λ x. x) (λ i. AreAlive (sym b.owners i) (sym b.effects i) (sym b.store i)) (record { owners = tt; listed = λ k lives. cc; effects = tt });
+      numbered = subst (λ x. x) (λ i. AreNumbered (sym b.owners i) (noted t.things) (sym b.store i))
+          (record { named = λ k q. cc; known = λ k q. cc; effects = λ k e q. cc; apart = tt; stand = λ m off. ap (has_thing (the_owner m)) tree });
+      alive = subst (λ x. x) (λ i. AreAlive (sym b.owners i) (sym b.effects i) (sym b.store i)) (record { owners = λ k q. cc; effects = tt });
       fresh = record { effects = λ n l. ap (has_thing (the_effect n)) b.tree; pages = λ n l. ap (has_thing (the_page n)) b.tree };
       ordered = subst (AreOrdered t.effects_made) (sym b.effects) (record { rising = tt; below = tt });
       fitting = subst (AllByRecursion IsFitted) (sym b.effects) tt;

@@ -1,5 +1,5 @@
 -- The tables after each making.
-use Rattle.std.proofs.Common.{◌≡◌, ℕ, ◌+◌, ◌≤◌, ◌==◌, ◌++◌, true, false, List, [], ◌∷◌, map, length, Option, Some, None, refl, sym, ap, subst, ◌∙◌, arith, inl, inr}
+use Rattle.std.proofs.Common.{◌≡◌, ℕ, ◌+◌, ◌≤◌, ◌==◌, ◌++◌, false, List, [], ◌∷◌, map, length, Option, Some, None, refl, sym, ap, subst, ◌∙◌, arith, inl, inr}
 use Rattle.std.proofs.lemmas.Bool.{eqb-true}
 use Rattle.signal_model.proofs.Shared.{tested}
 use Rattle.std.proofs.lemmas.Bool.Decides.{nat_tests}
@@ -14,18 +14,18 @@ use Rattle.sig_owner.specs.Tables.{thing_at}
 use Rattle.sig_owner.specs.Trees.{has_thing, owned_of}
 use Rattle.effect_tables.specs.declared.effect.Effect.{Effect}
 use Rattle.effect_tables.specs.declared.effect.Script.{Script}
-use Rattle.effect_tables.specs.declared.tables.OwnerEntry.{OwnerEntry}
 use Rattle.effect_tables.specs.declared.tables.Tables.{Tables}
 use Rattle.effect_tables.specs.declared.thing.Thing.TheVariants as a
 use Rattle.effect_tables.specs.Adopting.{Adopts, MakesEffect, MakesOwner, adopted, with_child}
 use Rattle.effect_tables.specs.Fitting.{IsFitted}
 use Rattle.effect_tables.specs.Holding.{AreAlive, AreFresh, AreNumbered, AreOrdered, Holds, LeavesOut}
-use Rattle.effect_tables.specs.Linking.{body_of, thing_of}
+use Rattle.effect_tables.specs.Linking.{body_of}
 use Rattle.effect_tables.specs.Looking.{IsInside}
-use Rattle.effect_tables.specs.Numbering.{living, number_in, rows_in}
+use Rattle.effect_tables.specs.Noting.{noted}
+use Rattle.effect_tables.specs.Numbering.{living, number_in}
 use Rattle.effect_tables.specs.Placed.{at_rest, effect_of, listed, placed, tree_of}
 use Rattle.effect_tables.proofs.Adopted.{adopted_alive, adopted_fresh, adopted_numbered, adopted_tree, has_in}
-use Rattle.effect_tables.proofs.Making.{child_tree, effect_alive, effect_fresh, effect_numbered, effect_tree, has_made, inside_stands, owner_alive, owner_fresh, owner_living, owner_numbered, owner_tree}
+use Rattle.effect_tables.proofs.Making.{IsPut, child_tree, effect_alive, effect_fresh, effect_numbered, effect_tree, has_made, inside_stands, owner_alive, owner_fresh, owner_living, owner_numbered, owner_tree}
 use Rattle.effect_tables.proofs.Numbers.{number_apart}
 use Rattle.effect_tables.proofs.Ordered.{ordered_more}
 use Rattle.effect_tables.proofs.Rows.{all_behind}
@@ -40,8 +40,8 @@ one_more (y ∷ ys) x = let e : length (ys ++ x ∷ []) ≡ length ys + 1 = one_
 pub record HasOwner (t u : Tables) (outer : Option ℕ) (n k : ℕ) : Type 0 where
   pub made : MakesOwner t.store u.store outer n
   pub number : k ≡ length t.owners.items
-  pub things : u.things.items ≡ t.things.items ++ a.Owner k ∷ []
-  pub owners : u.owners.items ≡ t.owners.items ++ record { row = n; live = true } ∷ []
+  pub things : IsPut (noted t.things) (noted u.things) n (a.Owner k)
+  pub owners : u.owners.items ≡ t.owners.items ++ Some n ∷ []
   pub effects : u.effects ≡ t.effects
   pub pages : u.pages ≡ t.pages
   pub effects_made : u.effects_made ≡ t.effects_made
@@ -50,30 +50,23 @@ pub record HasOwner (t u : Tables) (outer : Option ℕ) (n k : ℕ) : Type 0 whe
 pub owner_does : (t u : Tables) (inside outer : Option ℕ) (n k : ℕ) → HasOwner t u outer n k → IsInside t.owners.items inside outer → Holds t →
     (w : World) → placed u w ≡ with_new_owner inside (placed t w)
 owner_does t u inside outer n k m i h w =
-    let tree = owner_tree t.owners.items t.effects.items (map thing_of t.things.items) t.store u.store inside outer n m.made h.numbered h.alive i in
+    let tree = owner_tree t.owners.items t.effects.items (noted t.things) (noted u.things) t.store u.store inside outer n k m.made h.numbered h.alive i m.number m.things in
     λ j. record w {
-      owners = (ap (living 0) m.owners ∙ owner_living t.owners.items t.effects.items (map thing_of t.things.items) t.store u.store inside outer n m.made h.numbered h.alive i) j;
+      owners = (ap (living 0) m.owners ∙ owner_living t.owners.items t.effects.items (noted t.things) (noted u.things) t.store u.store inside outer n k m.made h.numbered h.alive i m.number m.things) j;
       effects = map effect_of (m.effects j).items;
       pages = (m.pages j).items;
-      owned = ((λ l. renamed (number_in (rows_in (m.owners l))) (owned_of u.store)) ∙ tree) j;
-      made = record (w.made) { owners = (ap length m.owners ∙ one_more t.owners.items (record { row = n; live = true })) j; effects = m.effects_made j; pages = m.pages_made j };
+      owned = ((λ l. renamed (number_in (m.owners l)) (owned_of u.store)) ∙ tree) j;
+      made = record (w.made) { owners = (ap length m.owners ∙ one_more t.owners.items (Some n)) j; effects = m.effects_made j; pages = m.pages_made j };
     }
 
 pub owner_holds : (t u : Tables) (inside outer : Option ℕ) (n k : ℕ) → HasOwner t u outer n k → IsInside t.owners.items inside outer → Holds t → Holds u
-owner_holds t u inside outer n k m i h =
-    let es : List OwnerEntry = t.owners.items ++ record { row = n; live = true } ∷ [] in
-    let things : map thing_of u.things.items ≡ map thing_of t.things.items ++ the_owner (length t.owners.items) ∷ [] =
-    ap (map thing_of) m.things ∙ map-append thing_of t.things.items (a.Owner k ∷ []) ∙ ap (λ l. map thing_of t.things.items ++ the_owner l ∷ []) m.number in
-    record {
-      numbered = subst (λ x. x) (λ j. AreNumbered (rows_in (sym m.owners j)) (sym things j) u.store)
-          (owner_numbered t.owners.items t.effects.items (map thing_of t.things.items) t.store u.store inside outer n m.made h.numbered h.alive i);
-      alive = subst (λ x. x) (λ j. AreAlive (sym m.owners j) (sym m.effects j).items u.store)
-          (owner_alive t.owners.items t.effects.items (map thing_of t.things.items) t.store u.store inside outer n m.made h.numbered h.alive i);
-      fresh = subst (λ x. x) (λ j. AreFresh (sym m.effects_made j) (sym m.pages_made j) u.store)
-          (owner_fresh t.owners.items t.effects.items (map thing_of t.things.items) t.store u.store inside outer n m.made h.numbered h.alive i t.effects_made t.pages_made h.fresh);
-      ordered = subst (λ x. x) (λ j. AreOrdered (sym m.effects_made j) (sym m.effects j).items) h.ordered;
-      fitting = subst (λ x. x) (λ j. AllByRecursion IsFitted (sym m.effects j).items) h.fitting;
-    }
+owner_holds t u inside outer n k m i h = record {
+  numbered = subst (λ es. AreNumbered es (noted u.things) u.store) (sym m.owners) (owner_numbered t.owners.items t.effects.items (noted t.things) (noted u.things) t.store u.store inside outer n k m.made h.numbered h.alive i m.number m.things);
+  alive = subst (λ x. x) (λ j. AreAlive (sym m.owners j) (sym m.effects j).items u.store) (owner_alive t.owners.items t.effects.items (noted t.things) (noted u.things) t.store u.store inside outer n k m.made h.numbered h.alive i m.number m.things);
+  fresh = subst (λ x. x) (λ j. AreFresh (sym m.effects_made j) (sym m.pages_made j) u.store) (owner_fresh t.owners.items t.effects.items (noted t.things) (noted u.things) t.store u.store inside outer n k m.made h.numbered h.alive i m.number m.things t.effects_made t.pages_made h.fresh);
+  ordered = subst (λ x. x) (λ j. AreOrdered (sym m.effects_made j) (sym m.effects j).items) h.ordered;
+  fitting = subst (λ x. x) (λ j. AllByRecursion IsFitted (sym m.effects j).items) h.fitting;
+}
 
 pub owner_leaves : (t u : Tables) (outer : Option ℕ) (n : ℕ) → MakesOwner t.store u.store outer n → LeavesOut None t.store u.store
 owner_leaves t u outer n m = record { still = λ k off h. ap (has_thing (the_signal k)) m.tree ∙ has_made (the_signal k) (the_owner n) t.store outer (owned_of t.store) refl h }
@@ -84,9 +77,9 @@ owner_leaves t u outer n m = record { still = λ k off h. ap (has_thing (the_sig
 pub record HasEffect (t u : Tables) (outer : Option ℕ) (x : Effect) : Type 0 where
   pub made : MakesEffect t.store u.store outer x.id x.row
   pub number : x.id ≡ t.effects_made
-  pub things : u.things.items ≡ t.things.items ++ a.Effect x.id ∷ []
+  pub things : IsPut (noted t.things) (noted u.things) x.row (a.Effect x.id)
   pub effects : u.effects.items ≡ t.effects.items ++ x ∷ []
-  pub owners : u.owners ≡ t.owners
+  pub owners : u.owners.items ≡ t.owners.items
   pub pages : u.pages ≡ t.pages
   pub fits : IsFitted x
   pub effects_made : u.effects_made ≡ t.effects_made + 1
@@ -94,16 +87,12 @@ pub record HasEffect (t u : Tables) (outer : Option ℕ) (x : Effect) : Type 0 w
 
 pub effect_holds : (t u : Tables) (outer : Option ℕ) (x : Effect) → HasEffect t u outer x → Holds t → Holds u
 effect_holds t u outer x m h =
-    let things : map thing_of u.things.items ≡ map thing_of t.things.items ++ the_effect x.id ∷ [] = ap (map thing_of) m.things ∙ map-append thing_of t.things.items (a.Effect x.id ∷ []) in
-    let es : List OwnerEntry = t.owners.items in
     let next : x.id + 1 ≡ u.effects_made = ap (λ k. k + 1) m.number ∙ sym m.effects_made in
     record {
-      numbered = subst (λ x. x) (λ j. AreNumbered (rows_in (sym m.owners j).items) (sym things j) u.store)
-          (effect_numbered es t.effects.items (map thing_of t.things.items) t.store u.store outer x m.made h.numbered h.alive);
-      alive = subst (λ x. x) (λ j. AreAlive (sym m.owners j).items (sym m.effects j) u.store)
-          (effect_alive es t.effects.items (map thing_of t.things.items) t.store u.store outer x m.made h.numbered h.alive);
+      numbered = subst (λ es. AreNumbered es (noted u.things) u.store) (sym m.owners) (effect_numbered t.owners.items t.effects.items (noted t.things) (noted u.things) t.store u.store outer x m.made h.numbered h.alive m.things);
+      alive = subst (λ x. x) (λ j. AreAlive (sym m.owners j) (sym m.effects j) u.store) (effect_alive t.owners.items t.effects.items (noted t.things) (noted u.things) t.store u.store outer x m.made h.numbered h.alive m.things);
       fresh = subst (λ x. x) (λ j. AreFresh (next j) (sym m.pages_made j) u.store)
-          (effect_fresh es t.effects.items (map thing_of t.things.items) t.store u.store outer x m.made h.numbered h.alive t.pages_made
+          (effect_fresh t.owners.items t.effects.items (noted t.things) (noted u.things) t.store u.store outer x m.made h.numbered h.alive m.things t.pages_made
           (subst (λ k. AreFresh k t.pages_made t.store) (sym m.number) h.fresh));
       ordered = subst (λ x. x) (λ j. AreOrdered (sym m.effects_made j) (sym m.effects j)) (ordered_more t.effects_made t.effects.items x m.number h.ordered);
       fitting = subst (AllByRecursion IsFitted) (sym m.effects) (all_behind IsFitted t.effects.items x h.fitting m.fits);
@@ -118,13 +107,13 @@ pub effect_does : (t u : Tables) (inside outer : Option ℕ) (x : Effect) (s : S
     IsInside t.owners.items inside outer → Holds t → (w : World) → placed u w ≡ with_new_effect (body_of t.effects_made s []) inside (placed t w)
 effect_does t u inside outer x s m is i h w =
     λ j. record w {
-      owners = living 0 (m.owners j).items;
+      owners = living 0 (m.owners j);
       effects = effects_more t u outer x (body_of t.effects_made s []) m is j;
       pages = (m.pages j).items;
-      owned = ((λ l. renamed (number_in (rows_in (m.owners l).items)) (owned_of u.store))
-          ∙ effect_tree t.owners.items t.effects.items (map thing_of t.things.items) t.store u.store outer x m.made h.numbered h.alive inside i
+      owned = ((λ l. renamed (number_in (m.owners l)) (owned_of u.store))
+          ∙ effect_tree t.owners.items t.effects.items (noted t.things) (noted u.things) t.store u.store outer x m.made h.numbered h.alive m.things inside i
           ∙ ap (λ k. made_inside inside (the_effect k) (tree_of t)) m.number) j;
-      made = record (w.made) { owners = length (m.owners j).items; effects = m.effects_made j; pages = m.pages_made j };
+      made = record (w.made) { owners = length (m.owners j); effects = m.effects_made j; pages = m.pages_made j };
     }
 
 -- a child of an effect
@@ -132,13 +121,13 @@ pub child_does : (t u : Tables) (e r : ℕ) (x : Effect) (b : Body) → HasEffec
     thing_at t.store r ≡ the_effect e → Holds t → (w : World) → placed u w ≡ with_child e b (placed t w)
 child_does t u e r x b m is stands h w =
     λ j. record w {
-      owners = living 0 (m.owners j).items;
+      owners = living 0 (m.owners j);
       effects = effects_more t u (Some r) x b m is j;
       pages = (m.pages j).items;
-      owned = ((λ l. renamed (number_in (rows_in (m.owners l).items)) (owned_of u.store))
-          ∙ child_tree t.owners.items t.effects.items (map thing_of t.things.items) t.store u.store (Some r) x m.made h.numbered h.alive e r refl stands
+      owned = ((λ l. renamed (number_in (m.owners l)) (owned_of u.store))
+          ∙ child_tree t.owners.items t.effects.items (noted t.things) (noted u.things) t.store u.store (Some r) x m.made h.numbered h.alive m.things e r refl stands
           ∙ ap (λ k. put_under (the_effect e) (alone (the_effect k)) (tree_of t)) m.number) j;
-      made = record (w.made) { owners = length (m.owners j).items; effects = m.effects_made j; pages = m.pages_made j };
+      made = record (w.made) { owners = length (m.owners j); effects = m.effects_made j; pages = m.pages_made j };
     }
 
 pub effect_leaves : (t u : Tables) (outer : Option ℕ) (e n : ℕ) → MakesEffect t.store u.store outer e n → LeavesOut None t.store u.store
@@ -152,16 +141,16 @@ pub record HasPage (t u : Tables) (outer : Option ℕ) (n : ℕ) : Type 0 where
   pub number : n ≡ t.pages_made
   pub pages : u.pages.items ≡ t.pages.items ++ n ∷ []
   pub things : u.things ≡ t.things
-  pub owners : u.owners ≡ t.owners
+  pub owners : u.owners.items ≡ t.owners.items
   pub effects : u.effects ≡ t.effects
   pub effects_made : u.effects_made ≡ t.effects_made
   pub pages_made : u.pages_made ≡ t.pages_made + 1
 
 pub page_holds : (t u : Tables) (outer : Option ℕ) (n : ℕ) → HasPage t u outer n → Holds t → Holds u
 page_holds t u outer n m h = record {
-  numbered = subst (λ x. x) (λ j. AreNumbered (rows_in (sym m.owners j).items) (map thing_of (sym m.things j).items) u.store)
-      (adopted_numbered t.store u.store outer (the_page n) m.adopts (rows_in t.owners.items) (map thing_of t.things.items) (λ k. refl) h.numbered);
-  alive = subst (λ x. x) (λ j. AreAlive (sym m.owners j).items (sym m.effects j).items u.store)
+  numbered = subst (λ x. x) (λ j. AreNumbered (sym m.owners j) (noted (sym m.things j)) u.store)
+      (adopted_numbered t.store u.store outer (the_page n) m.adopts t.owners.items (noted t.things) (λ k. refl) h.numbered);
+  alive = subst (λ x. x) (λ j. AreAlive (sym m.owners j) (sym m.effects j).items u.store)
       (adopted_alive t.store u.store outer (the_page n) m.adopts t.owners.items t.effects.items h.alive);
   fresh = subst (λ x. x) (λ j. AreFresh (sym m.effects_made j) (sym m.pages_made j) u.store)
       (adopted_fresh t.store u.store outer (the_page n) m.adopts t.effects_made t.pages_made (t.pages_made + 1) (λ k. refl) (λ k l. beyond k l) h.fresh);
@@ -175,16 +164,16 @@ page_holds t u outer n m h = record {
 pub page_does : (t u : Tables) (inside outer : Option ℕ) (n : ℕ) → HasPage t u outer n → IsInside t.owners.items inside outer → Holds t →
     (w : World) → at_rest (placed u w) ≡ at_rest (with_new_page inside (placed t w))
 page_does t u inside outer n m i h w =
-    let g : ℕ → ℕ = number_in (rows_in t.owners.items) in
+    let g : ℕ → ℕ = number_in t.owners.items in
     λ j. record w {
-      owners = living 0 (m.owners j).items;
+      owners = living 0 (m.owners j);
       effects = map effect_of (m.effects j).items;
       pages = (m.pages ∙ ap (λ k. t.pages.items ++ k ∷ []) m.number) j;
-      owned = ((λ l. listed (renamed (number_in (rows_in (m.owners l).items)) (owned_of u.store))) ∙ ap (λ x. listed (renamed g x)) m.adopts.tree
-          ∙ adopted_tree g (number_apart (rows_in t.owners.items)) t.store inside outer (the_page n) (owned_of t.store)
-          (inside_stands g t.owners.items t.effects.items (map thing_of t.things.items) t.store inside outer i h.numbered h.alive (λ k q. refl)) refl refl
+      owned = ((λ l. listed (renamed (number_in (m.owners l)) (owned_of u.store))) ∙ ap (λ x. listed (renamed g x)) m.adopts.tree
+          ∙ adopted_tree g (number_apart t.owners.items) t.store inside outer (the_page n) (owned_of t.store)
+          (inside_stands g t.owners.items t.effects.items (noted t.things) t.store inside outer i h.numbered h.alive (λ k q. refl)) refl refl
           ∙ ap (λ k. listed (made_inside inside (the_page k) (tree_of t))) m.number) j;
-      made = record (w.made) { owners = length (m.owners j).items; effects = m.effects_made j; pages = m.pages_made j };
+      made = record (w.made) { owners = length (m.owners j); effects = m.effects_made j; pages = m.pages_made j };
       told = [];
     }
 
@@ -196,7 +185,7 @@ page_leaves t u outer n m = record { still = λ k off h. ap (has_thing (the_sign
 module _ (t u : Tables) (outer : Option ℕ) (n : ℕ) (m : Adopts t.store u.store outer (the_signal n)) (same : u ≡ record t { store = u.store }) where
   pub signal_holds : Holds t → Holds u
   signal_holds h = subst Holds (sym same) (record {
-    numbered = adopted_numbered t.store u.store outer (the_signal n) m (rows_in t.owners.items) (map thing_of t.things.items) (λ k. refl) h.numbered;
+    numbered = adopted_numbered t.store u.store outer (the_signal n) m t.owners.items (noted t.things) (λ k. refl) h.numbered;
     alive = adopted_alive t.store u.store outer (the_signal n) m t.owners.items t.effects.items h.alive;
     fresh = adopted_fresh t.store u.store outer (the_signal n) m t.effects_made t.pages_made t.pages_made (λ k. refl) (λ k l. (l, refl)) h.fresh;
     ordered = h.ordered;
@@ -205,11 +194,11 @@ module _ (t u : Tables) (outer : Option ℕ) (n : ℕ) (m : Adopts t.store u.sto
 
   pub signal_does : (inside : Option ℕ) → IsInside t.owners.items inside outer → Holds t → (w : World) → at_rest (placed u w) ≡ at_rest (adopted n inside (placed t w))
   signal_does inside i h w =
-      let g : ℕ → ℕ = number_in (rows_in t.owners.items) in
+      let g : ℕ → ℕ = number_in t.owners.items in
       ap (λ (v : Tables). at_rest (placed v w)) same
       ∙ (λ j. record (placed t w) {
-        owned = (ap (λ x. listed (renamed g x)) m.tree ∙ adopted_tree g (number_apart (rows_in t.owners.items)) t.store inside outer (the_signal n) (owned_of t.store)
-            (inside_stands g t.owners.items t.effects.items (map thing_of t.things.items) t.store inside outer i h.numbered h.alive (λ k q. refl)) refl refl) j;
+        owned = (ap (λ x. listed (renamed g x)) m.tree ∙ adopted_tree g (number_apart t.owners.items) t.store inside outer (the_signal n) (owned_of t.store)
+            (inside_stands g t.owners.items t.effects.items (noted t.things) t.store inside outer i h.numbered h.alive (λ k q. refl)) refl refl) j;
         told = [];
       })
 

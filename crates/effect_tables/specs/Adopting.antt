@@ -6,7 +6,6 @@ use Rattle.effect_model.specs.Running.{with_effect}
 use Rattle.effect_model.specs.Worlds.{World}
 use Rattle.sig_owner.specs.Tables.{Row, live_at, thing_at, with_holder}
 use Rattle.sig_owner.specs.Trees.{made_in, owned_of}
-use Rattle.effect_tables.specs.Holding.{names_of}
 
 -- a thing is put under the row that is given, if any
 abbrev pub put_in : List Row → Option ℕ → Thing → Owned → Owned
@@ -15,8 +14,6 @@ put_in rows (Some r) t owned = put_under (thing_at rows r) (alone t) owned
 
 -- the store has a thing more there, and is as before otherwise
 pub record Adopts (rows later : List Row) (outer : Option ℕ) (t : Thing) : Type 0 where
-  pub names : names_of later ≡ names_of rows
-  pub count : length later ≡ length rows
   pub things : (k : ℕ) → thing_at later k ≡ thing_at rows k
   pub lives : (k : ℕ) → live_at later k ≡ live_at rows k
   pub tree : owned_of later ≡ put_in rows outer t (owned_of rows)

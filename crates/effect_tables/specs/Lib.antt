@@ -2,6 +2,7 @@ pub mod Linking
 pub mod Fitting
 pub mod Keeping
 pub mod Numbering
+pub mod Noting
 pub mod Placed
 pub mod Holding
 pub mod Looking

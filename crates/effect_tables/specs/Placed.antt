@@ -11,7 +11,7 @@ use Rattle.sig_owner.specs.Renaming.{renamed}
 use Rattle.effect_tables.specs.declared.effect.Effect.{Effect}
 use Rattle.effect_tables.specs.declared.tables.Tables.{Tables}
 use Rattle.effect_tables.specs.Linking.{body_of}
-use Rattle.effect_tables.specs.Numbering.{living, number_in, rows_in}
+use Rattle.effect_tables.specs.Numbering.{living, number_in}
 
 -- an effect as the definitions have it
 abbrev pub effect_of : Effect → plain.Effect
@@ -19,7 +19,7 @@ effect_of x = record { number = x.id; body = body_of x.origin (rc_value x.script
 
 -- the number of an owner, by the row that it has in the store
 abbrev pub numbering : Tables → ℕ → ℕ
-numbering t = number_in (rows_in t.owners.items)
+numbering t = number_in t.owners.items
 
 -- all that stands, by the owners' own numbers
 abbrev pub tree_of : Tables → Owned

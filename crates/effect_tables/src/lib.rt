@@ -8,12 +8,15 @@ mod keeping;
 mod links;
 mod looks;
 mod makings;
+mod noted;
+mod owner_rows;
 mod tables;
 mod thing;
 
 pub use effect::{Effect, MOST_STATEMENTS, Script, Site};
 pub use finding::{effect_at, effect_place};
 pub use links::{Links, Slots, Target};
-pub use looks::live_row;
-pub use tables::{MOST_EFFECTS, OwnerEntry, Tables};
+pub use noted::{forget_row, noted_thing};
+pub use owner_rows::OwnerRows;
+pub use tables::{MOST_EFFECTS, Tables};
 pub use thing::{Thing, Undoing};

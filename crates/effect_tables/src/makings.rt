@@ -19,7 +19,8 @@ ghost use Rattle.effect_tables.specs.Placed.{at_rest, is_open, placed};
 
 use crate::effect::{Effect, Script, Site};
 use crate::looks::{is_open, row_inside};
-use crate::tables::{OwnerEntry, Tables};
+use crate::noted::note_thing;
+use crate::tables::Tables;
 use crate::thing::Thing;
 use sig_base::{EffectId, MOST_PAGES, NoMemory, NodeId, OwnerId, PageId};
 use sig_owner::{OwnFault, Owners, Thing as Stored};
@@ -113,9 +114,9 @@ impl Tables {
     {
         let outer = row_inside(&self.owners, inside)?;
         let row = make_in(&mut self.store, outer)?;
-        let id = OwnerId::of(self.owners.len() as u128);
-        self.things.push(Thing::Owner(id))?;
-        self.owners.push(OwnerEntry { row, live: true })?;
+        let id = OwnerId::of(self.owners.made());
+        note_thing(&mut self.things, row, Thing::Owner(id))?;
+        self.owners.add(row)?;
         Ok(id)
     }
 
@@ -148,7 +149,7 @@ impl Tables {
         let id = EffectId::of(self.effects_made);
         let row = make_for_in(&mut self.store, id, outer)?;
         let effect = Effect::named(alloc, id, row, script)?;
-        self.things.push(Thing::Effect(id))?;
+        note_thing(&mut self.things, row, Thing::Effect(id))?;
         self.effects.push(effect)?;
         self.effects_made += 1;
         Ok(id)
@@ -182,7 +183,7 @@ impl Tables {
         let id = EffectId::of(self.effects_made);
         let own_row = child_row(&mut self.store, id, row)?;
         let effect = Effect::child(alloc, id, own_row, site, place)?;
-        self.things.push(Thing::Effect(id))?;
+        note_thing(&mut self.things, own_row, Thing::Effect(id))?;
         self.effects.push(effect)?;
         self.effects_made += 1;
         Ok(id)

@@ -7,7 +7,9 @@ ghost use Rattle.effect_tables.specs.Holding.{Holds};
 ghost use Rattle.effect_tables.specs.Placed.{placed, untouched};
 
 use crate::effect::Effect;
+use crate::owner_rows::OwnerRows;
 use crate::thing::Thing;
+use indexmap::IndexMap;
 use sig_base::{NoMemory, OwnerId, PageId};
 use sig_owner::Owners;
 use std::alloc::Global;
@@ -15,19 +17,12 @@ use std::alloc::Global;
 /// The most effects that a command made and that live at once. The tables themselves take any number: whoever makes effects keeps to it.
 pub const MOST_EFFECTS: usize = 1_024;
 
-/// An owner: the row of the store that has what stands under it, and whether it lives.
-#[derive(Clone, Copy)]
-pub struct OwnerEntry {
-    pub row: OwnerId,
-    pub live: bool,
-}
-
-/// Owners, effects and pages. The store has what stands under what, by rows of its own, and `things` says which thing each row is. All
-/// owners that were made are listed, each at the place that is its number; of effects and pages those that live, in the order of making.
+/// Owners, effects and pages. The store has what stands under what, by rows of its own; `things` says which thing each row is that lives,
+/// and `owners` which row an owner has. Effects and pages stand in the order of making. Of what ended nothing is kept.
 pub struct Tables {
     pub store: Owners,
-    pub things: Vec<Thing>,
-    pub owners: Vec<OwnerEntry>,
+    pub things: IndexMap<OwnerId, Thing>,
+    pub owners: OwnerRows,
     pub effects: Vec<Effect>,
     pub pages: Vec<PageId>,
     pub effects_made: u128,
@@ -60,8 +55,8 @@ impl Tables {
         ensures bare { IfOk result (λ t. owned_of t.store ≡ nothing) }
     {
         let store = Owners::new(alloc)?;
-        let things = Vec::new(alloc);
-        let owners = Vec::new(alloc);
+        let things = IndexMap::new(alloc);
+        let owners = OwnerRows::new(alloc);
         let effects = Vec::new(alloc);
         let pages = Vec::new(alloc);
         Ok(Tables {

@@ -1,17 +1,17 @@
 -- What lives by the tables lives in the store.
-use Rattle.std.proofs.Common.{◌≡◌, ℕ, zero, suc, ◌==◌, ◌||◌, Bool, true, false, cond, List, [], ◌∷◌, map, get_or, Some, None, refl, sym, ap, subst, ◌∙◌}
-use Rattle.std.specs.Prelude.{slice_get}
+use Rattle.std.proofs.Common.{◌≡◌, ℕ, zero, suc, ◌==◌, ◌||◌, Bool, true, false, cond, List, [], ◌∷◌, map, get_or, Some, None, refl, sym, ap, ◌∙◌}
+use Rattle.std.specs.Prelude.{is_some}
 use Rattle.std.specs.List.{AllByRecursion}
 use Rattle.std.proofs.lemmas.Bool.{eqb-true}
 use Rattle.signal_model.specs.Standing.{is_in}
 use Rattle.effect_model.specs.Owning.{Thing, the_effect, the_owner}
+use Rattle.sig_store.specs.Stored.{entry}
 use Rattle.sig_owner.specs.Renaming.{renamed_thing}
 use Rattle.sig_owner.specs.Tables.{Row, live_at, thing_at}
 use Rattle.effect_tables.specs.declared.effect.Effect.{Effect}
-use Rattle.effect_tables.specs.declared.tables.OwnerEntry.{OwnerEntry}
 use Rattle.effect_tables.specs.declared.tables.Tables.{Tables}
 use Rattle.effect_tables.specs.Holding.{Holds, IsEffect, IsOwner}
-use Rattle.effect_tables.specs.Numbering.{is_live, living, rows_in}
+use Rattle.effect_tables.specs.Numbering.{is_row, living}
 use Rattle.effect_tables.specs.Placed.{numbering}
 use Rattle.effect_tables.proofs.Shared.{IsNowhere, IsPlace, lives_at, number_at}
 use Rattle.effect_undoing.specs.Finding.{effect_row}
@@ -51,11 +51,6 @@ effect_unlisted n (x ∷ xs) e = go (n == x.id) e (effect_unlisted n xs)
     go true h more = cc
     go false h more = more h
 
-all_at : {A : Type 0} (P : A → Type 0) (xs : List A) (k : ℕ) (x : A) → slice_get xs k ≡ Some x → AllByRecursion P xs → P x
-all_at P [] k x h all = cc
-all_at P (y ∷ ys) zero x h all = subst P (let e : y ≡ x = cc in e) all.0
-all_at P (y ∷ ys) (suc k) x h all = all_at P ys k x h all.1
-
 -- the row of the effect at the place of its number
 pub placed_row : (n : ℕ) (xs : List Effect) (i : ℕ) (d : Effect) → IsPlace n xs i → effect_row n xs ≡ Some (get_or xs i d).row
 placed_row n [] i d p = absurd p
@@ -70,20 +65,19 @@ unplaced_row n (x ∷ xs) h = ap (λ b. cond b (Some x.row) (effect_row n xs)) h
 pub record IsOwnerFound (t : Tables) (n r : ℕ) : Type 0 where
   pub found : IsFound t.store r (the_owner r)
   pub number : renamed_thing (numbering t) (the_owner r) ≡ the_owner n
-  pub listed : is_in r (rows_in t.owners.items) ≡ true
+  pub listed : is_row r t.owners.items ≡ true
   pub on : is_in n (living 0 t.owners.items) ≡ true
 
-pub owner_found : (t : Tables) (n r : ℕ) → Holds t → slice_get t.owners.items n ≡ Some (record { row = r; live = true }) → IsOwnerFound t n r
+pub owner_found : (t : Tables) (n r : ℕ) → Holds t → Some r ≡ entry t.owners.items n → IsOwnerFound t n r
 owner_found t n r h e =
-    let y : OwnerEntry = record { row = r; live = true } in
-    let own : IsOwner t.store y = all_at (λ (x : OwnerEntry). x.live ≡ true → IsOwner t.store x) t.owners.items n y e h.alive.owners refl in
-    let two = number_at t.owners.items n y h.numbered.apart e in
+    let two = number_at t.owners.items n r h.numbered.apart (sym e) in
+    let own : IsOwner t.store r = h.alive.owners r two.1 in
     record {
       found = record { lives = own.lives; thing = own.thing };
       number = ap the_owner two.0;
       listed = two.1;
-      on = lives_at t.owners.items n ∙ ap is_live e;
+      on = lives_at t.owners.items n ∙ sym (ap is_some e);
     }
 
-pub owner_gone : (t : Tables) (n : ℕ) → is_live (slice_get t.owners.items n) ≡ false → is_in n (living 0 t.owners.items) ≡ false
-owner_gone t n off = lives_at t.owners.items n ∙ off
+pub owner_gone : (t : Tables) (n : ℕ) → None ≡ entry t.owners.items n → is_in n (living 0 t.owners.items) ≡ false
+owner_gone t n off = lives_at t.owners.items n ∙ sym (ap is_some off)

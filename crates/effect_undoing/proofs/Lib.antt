@@ -1,6 +1,7 @@
 mod Forms
 mod Steps
 mod Lists
+mod Living
 mod Taken
 mod Found
 pub mod Shared

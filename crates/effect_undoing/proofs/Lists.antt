@@ -1,37 +1,25 @@
 -- What is left in the tables after steps of taking back.
-use Rattle.std.proofs.Common.{◌≡◌, ℕ, zero, suc, ◌+◌, ◌<◌, ◌≤◌, ◌==◌, ◌||◌, not, Bool, true, false, cond, List, [], ◌∷◌, map, length, Some, refl, sym, ap, ◌∙◌, arith}
-use Rattle.std.specs.Prelude.{slice_get, slice_index_or, slice_set}
+use Rattle.std.proofs.Common.{◌≡◌, ℕ, zero, suc, ◌+◌, ◌<◌, ◌≤◌, ◌==◌, ◌||◌, not, Bool, true, false, cond, List, [], ◌∷◌, map, length, Option, Some, None, refl, sym, ap, subst, ◌∙◌, arith, inl, inr}
+use Rattle.std.specs.Prelude.{is_some}
 use Rattle.std.specs.List.{AllByRecursion, filter, remove}
-use Rattle.std.proofs.lemmas.Bool.{eq-eqb, ne_eqb}
+use Rattle.std.proofs.lemmas.Bool.{eq-eqb, eqb-true, ne_eqb}
 use Rattle.std.proofs.lemmas.Bool.Decides.{nat_tests}
 use Rattle.signal_model.specs.Standing.{is_in, without}
+use Rattle.signal_model.proofs.Shared.{tested}
 use Rattle.effect_model.specs.Owning.{the_signal, the_owner, the_effect, the_page, the_watcher, Undoing, cleans, ends}
 use Rattle.effect_model.specs.Worlds as plain
 use Rattle.effect_model.specs.Worlds.{World}
 use Rattle.effect_laws.specs.Frames.{ended_all, ended_one}
+use Rattle.sig_store.specs.Stored.{entry}
 use Rattle.sig_owner.specs.Walks.{is_ended}
 use Rattle.effect_tables.specs.declared.effect.Effect.{Effect}
-use Rattle.effect_tables.specs.declared.tables.OwnerEntry.{OwnerEntry}
-use Rattle.effect_tables.specs.Holding.{AreOrdered, AreRising}
-use Rattle.effect_tables.specs.Numbering.{living, rows_in}
+use Rattle.effect_tables.specs.declared.thing.Thing.{Thing}
+use Rattle.effect_tables.specs.Holding.{AreOrdered, AreRising, HasOwnRow, HaveOwnRows}
+use Rattle.effect_tables.specs.Numbering.{closed_at, has_row, is_row, living, number_in}
 use Rattle.effect_tables.specs.Placed.{effect_of}
-use Rattle.effect_tables.proofs.Shared.{IsNowhere, IsPlace, left_off, living_below, none_behind, right_off, swapped}
-use Rattle.effect_undoing.specs.Ending.{closed_at, effects_after, effects_without, owners_after, owners_without, pages_after, pages_without}
-
--- ---- the program's list of owners
-
-pub closed_written : (es : List OwnerEntry) (n i : ℕ) (h y : OwnerEntry) → i ≡ n → n < length es → h ≡ slice_index_or es i h → y ≡ record h { live = false } → slice_set es i y ≡ closed_at n es
-closed_written es n i h y e l is made = ap (λ k. slice_set es k y) e ∙ go es n l (made ∙ ap (λ (x : OwnerEntry). record x { live = false }) (is ∙ ap (λ k. slice_index_or es k h) e))
-  where
-    go : (ys : List OwnerEntry) (k : ℕ) → k < length ys → y ≡ record (slice_index_or ys k h) { live = false } → slice_set ys k y ≡ closed_at k ys
-    go [] k l q = absurd (omega arith)
-    go (z ∷ zs) zero l q = ap (λ (x : OwnerEntry). x ∷ zs) q
-    go (z ∷ zs) (suc k) l q = let m : k < length zs = omega arith in ap (λ (xs : List OwnerEntry). z ∷ xs) (go zs k m q)
-
-pub closed_past : (es : List OwnerEntry) (n : ℕ) → length es ≤ n → closed_at n es ≡ es
-closed_past [] n l = refl
-closed_past (e ∷ es) zero l = absurd (omega arith)
-closed_past (e ∷ es) (suc n) l = ap (λ (xs : List OwnerEntry). e ∷ xs) (closed_past es n (omega arith))
+use Rattle.effect_tables.proofs.Shared.{IsNowhere, IsPlace, left_off, living_below, none_behind, off_on, right_off, row_is, swapped}
+use Rattle.effect_undoing.specs.Ending.{effects_after, effects_without, forgotten, owners_after, owners_without, pages_after, pages_without, things_after, things_without}
+use Rattle.effect_undoing.specs.Finding.{effect_row}
 
 -- ---- the list of effects without one
 
@@ -49,27 +37,171 @@ left_out n low (x ∷ xs) zero o p =
 left_out n low (x ∷ xs) (suc i) o p =
     ap (λ b. cond (not b) (x ∷ filter (λ y. not (n == y.id)) xs) (filter (λ y. not (n == y.id)) xs)) p.0 ∙ ap (λ (ys : List Effect). x ∷ ys) (left_out n (suc x.id) xs i o.1 p.1)
 
--- ---- owners keep their rows
+-- ---- owners keep their rows and their numbers until they are gone
 
-rows_closed : (n : ℕ) (es : List OwnerEntry) → rows_in (closed_at n es) ≡ rows_in es
-rows_closed n [] = refl
-rows_closed zero (e ∷ es) = refl
-rows_closed (suc n) (e ∷ es) = ap (λ (rs : List ℕ). e.row ∷ rs) (rows_closed n es)
+length_closed : (n : ℕ) (es : List (Option ℕ)) → length (closed_at n es) ≡ length es
+length_closed n [] = refl
+length_closed zero (e ∷ es) = refl
+length_closed (suc n) (e ∷ es) = ap suc (length_closed n es)
 
-rows_without : (u : Undoing) (es : List OwnerEntry) → rows_in (owners_without u es) ≡ rows_in es
-rows_without (ends (the_owner n)) es = rows_closed n es
-rows_without _ es = refl
+pub length_after : (us : List Undoing) (es : List (Option ℕ)) → length (owners_after us es) ≡ length es
+length_after [] es = refl
+length_after (ends (the_owner n) ∷ us) es = length_after us (closed_at n es) ∙ length_closed n es
+length_after (ends (the_signal n) ∷ us) es = length_after us es
+length_after (ends (the_effect n) ∷ us) es = length_after us es
+length_after (ends (the_page n) ∷ us) es = length_after us es
+length_after (ends (the_watcher n) ∷ us) es = length_after us es
+length_after (cleans t c ∷ us) es = length_after us es
 
-pub rows_after : (us : List Undoing) (es : List OwnerEntry) → rows_in (owners_after us es) ≡ rows_in es
-rows_after [] es = refl
-rows_after (u ∷ us) es = rows_after us (owners_without u es) ∙ rows_without u es
+one_less : (j n : ℕ) → (suc j == suc n) ≡ false → (j == n) ≡ false
+one_less j n off = ne_eqb j n (λ q. let on : (suc j == suc n) ≡ true = eq-eqb (suc j) (suc n) (ap suc q) in off_on (suc j == suc n) off on)
 
-length_rows : (es : List OwnerEntry) → length (rows_in es) ≡ length es
-length_rows [] = refl
-length_rows (e ∷ es) = ap suc (length_rows es)
+one_more : (j n : ℕ) → (j == n) ≡ false → (suc j == suc n) ≡ false
+one_more j n off = ne_eqb (suc j) (suc n) (λ q. let e : j ≡ n = omega (arith, q) in off_on (j == n) off (eq-eqb j n e))
 
-pub length_after : (us : List Undoing) (es : List OwnerEntry) → length (owners_after us es) ≡ length es
-length_after us es = sym (length_rows (owners_after us es)) ∙ ap length (rows_after us es) ∙ length_rows es
+-- where another owner is gone
+kept_closed : (n k : ℕ) (es : List (Option ℕ)) → is_row k es ≡ true → (number_in es k == n) ≡ false →
+    (is_row k (closed_at n es) ≡ true) × (number_in (closed_at n es) k ≡ number_in es k)
+kept_closed n k [] h off = cc
+kept_closed zero k (e ∷ es) h off = go (has_row k e) h off
+  where
+    go : (b : Bool) → (b || is_row k es) ≡ true → (cond b 0 (suc (number_in es k)) == 0) ≡ false → (is_row k es ≡ true) × (suc (number_in es k) ≡ cond b 0 (suc (number_in es k)))
+    go true p q = let z : true ≡ false = q in cc
+    go false p q = (p, refl)
+kept_closed (suc n) k (e ∷ es) h off = go (has_row k e) h off (kept_closed n k es)
+  where
+    go : (b : Bool) → (b || is_row k es) ≡ true → (cond b 0 (suc (number_in es k)) == suc n) ≡ false →
+        (is_row k es ≡ true → (number_in es k == n) ≡ false → (is_row k (closed_at n es) ≡ true) × (number_in (closed_at n es) k ≡ number_in es k)) →
+        ((b || is_row k (closed_at n es)) ≡ true) × (cond b 0 (suc (number_in (closed_at n es) k)) ≡ cond b 0 (suc (number_in es k)))
+    go true p q more = (refl, refl)
+    go false p q more = let two = more p (one_less (number_in es k) n q) in (two.0, ap suc two.1)
+
+pub kept_after : (us : List Undoing) (es : List (Option ℕ)) (k : ℕ) → is_row k es ≡ true → is_ended (the_owner (number_in es k)) us ≡ false →
+    (is_row k (owners_after us es) ≡ true) × (number_in (owners_after us es) k ≡ number_in es k)
+kept_after [] es k h off = (h, refl)
+kept_after (ends (the_owner n) ∷ us) es k h off =
+    let one = kept_closed n k es h (left_off (number_in es k == n) (is_ended (the_owner (number_in es k)) us) off) in
+    let two = kept_after us (closed_at n es) k one.0 (ap (λ j. is_ended (the_owner j) us) one.1 ∙ right_off (number_in es k == n) (is_ended (the_owner (number_in es k)) us) off) in
+    (two.0, two.1 ∙ one.1)
+kept_after (ends (the_signal n) ∷ us) es k h off = kept_after us es k h off
+kept_after (ends (the_effect n) ∷ us) es k h off = kept_after us es k h off
+kept_after (ends (the_page n) ∷ us) es k h off = kept_after us es k h off
+kept_after (ends (the_watcher n) ∷ us) es k h off = kept_after us es k h off
+kept_after (cleans t c ∷ us) es k h off = kept_after us es k h off
+
+-- none has a row that none had before
+fewer_closed : (n k : ℕ) (es : List (Option ℕ)) → is_row k es ≡ false → is_row k (closed_at n es) ≡ false
+fewer_closed n k [] h = h
+fewer_closed zero k (e ∷ es) h = right_off (has_row k e) (is_row k es) h
+fewer_closed (suc n) k (e ∷ es) h = λ i. left_off (has_row k e) (is_row k es) h i || fewer_closed n k es (right_off (has_row k e) (is_row k es) h) i
+
+one_apart : (n : ℕ) (e : Option ℕ) (es : List (Option ℕ)) → HasOwnRow e es → HasOwnRow e (closed_at n es)
+one_apart n None es a = tt
+one_apart n (Some m) es a = fewer_closed n m es a
+
+apart_closed : (n : ℕ) (es : List (Option ℕ)) → HaveOwnRows es → HaveOwnRows (closed_at n es)
+apart_closed n [] a = tt
+apart_closed zero (e ∷ es) a = (tt, a.1)
+apart_closed (suc n) (e ∷ es) a = (one_apart n e es a.0, apart_closed n es a.1)
+
+pub apart_after : (us : List Undoing) (es : List (Option ℕ)) → HaveOwnRows es → HaveOwnRows (owners_after us es)
+apart_after [] es a = a
+apart_after (ends (the_owner n) ∷ us) es a = apart_after us (closed_at n es) (apart_closed n es a)
+apart_after (ends (the_signal n) ∷ us) es a = apart_after us es a
+apart_after (ends (the_effect n) ∷ us) es a = apart_after us es a
+apart_after (ends (the_page n) ∷ us) es a = apart_after us es a
+apart_after (ends (the_watcher n) ∷ us) es a = apart_after us es a
+apart_after (cleans t c ∷ us) es a = apart_after us es a
+
+-- who has a row after one is gone had it before, and is another one
+off_closed : (n k : ℕ) (es : List (Option ℕ)) → HaveOwnRows es → is_row k (closed_at n es) ≡ true → (is_row k es ≡ true) × ((number_in es k == n) ≡ false)
+off_closed n k [] a h = cc
+off_closed zero k (e ∷ es) a h = go (has_row k e) refl
+  where
+    go : (b : Bool) → has_row k e ≡ b → ((b || is_row k es) ≡ true) × ((cond b 0 (suc (number_in es k)) == 0) ≡ false)
+    go true p = absurd (off_on (is_row k es) (subst (λ o. HasOwnRow o es) (row_is k e p) a.0) h)
+    go false p = (h, ne_eqb (suc (number_in es k)) 0 (λ q. omega (arith, q)))
+off_closed (suc n) k (e ∷ es) a h = go (has_row k e) h (off_closed n k es a.1)
+  where
+    go : (b : Bool) → (b || is_row k (closed_at n es)) ≡ true → (is_row k (closed_at n es) ≡ true → (is_row k es ≡ true) × ((number_in es k == n) ≡ false)) →
+        ((b || is_row k es) ≡ true) × ((cond b 0 (suc (number_in es k)) == suc n) ≡ false)
+    go true p more = (refl, ne_eqb 0 (suc n) (λ q. omega (arith, q)))
+    go false p more = let two = more p in (two.0, one_more (number_in es k) n two.1)
+
+pub off_after : (us : List Undoing) (es : List (Option ℕ)) (k : ℕ) → HaveOwnRows es → is_row k (owners_after us es) ≡ true → (is_row k es ≡ true) × (is_ended (the_owner (number_in es k)) us ≡ false)
+off_after [] es k a h = (h, refl)
+off_after (ends (the_owner n) ∷ us) es k a h =
+    let two = off_after us (closed_at n es) k (apart_closed n es a) h in
+    let one = off_closed n k es a two.0 in
+    let kept = kept_closed n k es one.0 one.1 in
+    (one.0, λ i. one.1 i || (ap (λ j. is_ended (the_owner j) us) (sym kept.1) ∙ two.1) i)
+off_after (ends (the_signal n) ∷ us) es k a h = off_after us es k a h
+off_after (ends (the_effect n) ∷ us) es k a h = off_after us es k a h
+off_after (ends (the_page n) ∷ us) es k a h = off_after us es k a h
+off_after (ends (the_watcher n) ∷ us) es k a h = off_after us es k a h
+off_after (cleans t c ∷ us) es k a h = off_after us es k a h
+
+-- ---- what is noted of rows
+
+entry_closed : (n m : ℕ) (es : List (Option ℕ)) (k : ℕ) → entry (closed_at n es) m ≡ Some k → entry es m ≡ Some k
+entry_closed n m [] k h = h
+entry_closed zero zero (e ∷ es) k h = cc
+entry_closed zero (suc m) (e ∷ es) k h = h
+entry_closed (suc n) zero (e ∷ es) k h = h
+entry_closed (suc n) (suc m) (e ∷ es) k h = entry_closed n m es k h
+
+none_filtered : (n : ℕ) (xs : List Effect) → effect_row n (filter (λ x. not (n == x.id)) xs) ≡ None
+none_filtered n [] = refl
+none_filtered n (x ∷ xs) = go (n == x.id) refl (none_filtered n xs)
+  where
+    go : (b : Bool) → (n == x.id) ≡ b → effect_row n (filter (λ y. not (n == y.id)) xs) ≡ None →
+        effect_row n (cond (not b) (x ∷ filter (λ y. not (n == y.id)) xs) (filter (λ y. not (n == y.id)) xs)) ≡ None
+    go true p more = more
+    go false p more = ap (λ b. cond b (Some x.row) (effect_row n (filter (λ y. not (n == y.id)) xs))) p ∙ more
+
+row_filtered : (n m k : ℕ) (xs : List Effect) → effect_row m (filter (λ x. not (n == x.id)) xs) ≡ Some k → effect_row m xs ≡ Some k
+row_filtered n m k [] h = h
+row_filtered n m k (x ∷ xs) h = go (n == x.id) refl h (row_filtered n m k xs)
+  where
+    rest : List Effect
+    rest = filter (λ y. not (n == y.id)) xs
+
+    go : (b : Bool) → (n == x.id) ≡ b → effect_row m (cond (not b) (x ∷ rest) rest) ≡ Some k → (effect_row m rest ≡ Some k → effect_row m xs ≡ Some k) →
+        cond (m == x.id) (Some x.row) (effect_row m xs) ≡ Some k
+    go true p q more = elim (tested (m == x.id)) [
+      | inl e ↦ (let same : n ≡ m = eqb-true n x.id p ∙ sym (eqb-true m x.id e) in
+          let z : None ≡ Some k = sym (none_filtered n xs) ∙ ap (λ j. effect_row j rest) same ∙ q in cc)
+      | inr e ↦ ap (λ b. cond b (Some x.row) (effect_row m xs)) e ∙ more q
+    ]
+    go false p q more = elim (tested (m == x.id)) [
+      | inl e ↦ ap (λ b. cond b (Some x.row) (effect_row m xs)) e ∙ (sym (ap (λ b. cond b (Some x.row) (effect_row m rest)) e) ∙ q)
+      | inr e ↦ ap (λ b. cond b (Some x.row) (effect_row m xs)) e ∙ more (sym (ap (λ b. cond b (Some x.row) (effect_row m rest)) e) ∙ q)
+    ]
+
+kept_row : (o : Option ℕ) (f : ℕ → Option Thing) (k : ℕ) → (o ≡ Some k → ⊥) → forgotten o f k ≡ f k
+kept_row None f k h = refl
+kept_row (Some r) f k h = go (r == k) refl
+  where
+    go : (b : Bool) → (r == k) ≡ b → cond b None (f k) ≡ f k
+    go true p = absurd (h (ap Some (eqb-true r k p)))
+    go false p = refl
+
+-- what is neither an owner's nor an effect's that ends stays noted
+pub kept_noted : (us : List Undoing) (es : List (Option ℕ)) (xs : List Effect) (f : ℕ → Option Thing) (k : ℕ) → ((n : ℕ) → entry es n ≡ Some k → is_ended (the_owner n) us ≡ false) →
+    ((n : ℕ) → effect_row n xs ≡ Some k → is_ended (the_effect n) us ≡ false) → things_after us es xs f k ≡ f k
+kept_noted [] es xs f k owners effects = refl
+kept_noted (ends (the_owner n) ∷ us) es xs f k owners effects =
+    kept_noted us (closed_at n es) xs (things_without (ends (the_owner n)) es xs f) k
+    (λ m q. right_off (m == n) (is_ended (the_owner m) us) (owners m (entry_closed n m es k q))) effects
+    ∙ kept_row (entry es n) f k (λ q. off_on (n == n) (left_off (n == n) (is_ended (the_owner n) us) (owners n q)) (eq-eqb n n refl))
+kept_noted (ends (the_effect n) ∷ us) es xs f k owners effects =
+    kept_noted us es (filter (λ x. not (n == x.id)) xs) (things_without (ends (the_effect n)) es xs f) k owners
+    (λ m q. right_off (m == n) (is_ended (the_effect m) us) (effects m (row_filtered n m k xs q)))
+    ∙ kept_row (effect_row n xs) f k (λ q. off_on (n == n) (left_off (n == n) (is_ended (the_effect n) us) (effects n q)) (eq-eqb n n refl))
+kept_noted (ends (the_signal n) ∷ us) es xs f k owners effects = kept_noted us es xs f k owners effects
+kept_noted (ends (the_page n) ∷ us) es xs f k owners effects = kept_noted us es xs f k owners effects
+kept_noted (ends (the_watcher n) ∷ us) es xs f k owners effects = kept_noted us es xs f k owners effects
+kept_noted (cleans t c ∷ us) es xs f k owners effects = kept_noted us es xs f k owners effects
 
 -- ---- what lives
 
@@ -79,16 +211,16 @@ without_none m (n ∷ ns) h =
     ap (λ b. cond b (without (λ (i : ℕ). i) m ns) (n ∷ without (λ (i : ℕ). i) m ns)) (left_off (m == n) (is_in m ns) h)
     ∙ ap (λ (k : List ℕ). n ∷ k) (without_none m ns (right_off (m == n) (is_in m ns) h))
 
-living_closed : (k j m : ℕ) (es : List OwnerEntry) → m ≡ k + j → living k (closed_at j es) ≡ without (λ (i : ℕ). i) m (living k es)
+living_closed : (k j m : ℕ) (es : List (Option ℕ)) → m ≡ k + j → living k (closed_at j es) ≡ without (λ (i : ℕ). i) m (living k es)
 living_closed k j m [] q = refl
-living_closed k zero m (e ∷ es) q = go e.live (without_none m (living (suc k) es) (living_below es (suc k) m (omega (arith, q))))
+living_closed k zero m (e ∷ es) q = go (is_some e) (without_none m (living (suc k) es) (living_below es (suc k) m (omega (arith, q))))
   where
     go : (b : Bool) → without (λ (i : ℕ). i) m (living (suc k) es) ≡ living (suc k) es →
         living (suc k) es ≡ without (λ (i : ℕ). i) m (cond b (k ∷ living (suc k) es) (living (suc k) es))
     go true none =
         sym (ap (λ b. cond b (without (λ (i : ℕ). i) m (living (suc k) es)) (k ∷ without (λ (i : ℕ). i) m (living (suc k) es))) (eq-eqb m k (omega (arith, q))) ∙ none)
     go false none = sym none
-living_closed k (suc j) m (e ∷ es) q = go e.live (living_closed (suc k) j m es (omega (arith, q)))
+living_closed k (suc j) m (e ∷ es) q = go (is_some e) (living_closed (suc k) j m es (omega (arith, q)))
   where
     off : (m == k) ≡ false
     off = ne_eqb m k (λ e. omega (arith, e, q))
@@ -119,7 +251,7 @@ pages_kept n (m ∷ ms) = go (n == m) (pages_kept n ms)
     go true more = more
     go false more = ap (λ (ks : List ℕ). m ∷ ks) more
 
-world_one : (u : Undoing) (es : List OwnerEntry) (xs : List Effect) (ns : List ℕ) (w : World) →
+world_one : (u : Undoing) (es : List (Option ℕ)) (xs : List Effect) (ns : List ℕ) (w : World) →
     record w { owners = living 0 (owners_without u es); effects = map effect_of (effects_without u xs); pages = pages_without u ns }
     ≡ ended_one u (record w { owners = living 0 es; effects = map effect_of xs; pages = ns })
 world_one (ends (the_owner n)) es xs ns w = λ i. record w { owners = living_closed 0 n n es (omega arith) i; effects = map effect_of xs; pages = ns }
@@ -129,7 +261,7 @@ world_one (ends (the_signal n)) es xs ns w = refl
 world_one (ends (the_watcher n)) es xs ns w = refl
 world_one (cleans t c) es xs ns w = refl
 
-pub world_after : (us : List Undoing) (es : List OwnerEntry) (xs : List Effect) (ns : List ℕ) (w : World) →
+pub world_after : (us : List Undoing) (es : List (Option ℕ)) (xs : List Effect) (ns : List ℕ) (w : World) →
     record w { owners = living 0 (owners_after us es); effects = map effect_of (effects_after us xs); pages = pages_after us ns }
     ≡ ended_all us (record w { owners = living 0 es; effects = map effect_of xs; pages = ns })
 world_after [] es xs ns w = refl
@@ -145,95 +277,6 @@ all_two P Q R (x ∷ xs) both p q = (both x p.0 q.0, all_two P Q R xs both p.1 q
 all_any : {A : Type 0} (P : A → Type 0) (xs : List A) → ((x : A) → P x) → AllByRecursion P xs
 all_any P [] p = tt
 all_any P (x ∷ xs) p = (p x, all_any P xs p)
-
--- what holds of each owner that lives
-abbrev pub OfLiving : (OwnerEntry → Type 0) → List OwnerEntry → Type 0
-OfLiving P es = AllByRecursion (λ (e : OwnerEntry). e.live ≡ true → P e) es
-
-off_on : false ≡ true → ⊥
-off_on q = cc
-
-all_closed : (P : OwnerEntry → Type 0) (n : ℕ) (es : List OwnerEntry) → OfLiving P es → OfLiving P (closed_at n es)
-all_closed P n [] all = tt
-all_closed P zero (e ∷ es) all = (λ q. absurd (off_on q), all.1)
-all_closed P (suc n) (e ∷ es) all = (all.0, all_closed P n es all.1)
-
-all_without : (P : OwnerEntry → Type 0) (u : Undoing) (es : List OwnerEntry) → OfLiving P es → OfLiving P (owners_without u es)
-all_without P (ends (the_owner n)) es all = all_closed P n es all
-all_without P (ends (the_signal n)) es all = all
-all_without P (ends (the_effect n)) es all = all
-all_without P (ends (the_page n)) es all = all
-all_without P (ends (the_watcher n)) es all = all
-all_without P (cleans t c) es all = all
-
-pub all_after : (P : OwnerEntry → Type 0) (us : List Undoing) (es : List OwnerEntry) → OfLiving P es → OfLiving P (owners_after us es)
-all_after P [] es all = all
-all_after P (u ∷ us) es all = all_after P us (owners_without u es) (all_without P u es all)
-
--- the number of each is its place, from one on
-abbrev pub AreAt : (ℕ → ℕ) → ℕ → List OwnerEntry → Type 0
-AreAt g k [] = Unit {0}
-AreAt g k (e ∷ es) = (g e.row ≡ k) × AreAt g (suc k) es
-
-pub numbers_at : (g : ℕ → ℕ) (k : ℕ) (es : List OwnerEntry) → ((j : ℕ) (e : OwnerEntry) → slice_get es j ≡ Some e → g e.row ≡ k + j) → AreAt g k es
-numbers_at g k [] h = tt
-numbers_at g k (e ∷ es) h =
-    (let q : g e.row ≡ k + 0 = h 0 e refl in omega (arith, q), numbers_at g (suc k) es (λ j x s. let q : g x.row ≡ k + suc j = h (suc j) x s in omega (arith, q)))
-
-at_closed : (g : ℕ → ℕ) (k n : ℕ) (es : List OwnerEntry) → AreAt g k es → AreAt g k (closed_at n es)
-at_closed g k n [] h = tt
-at_closed g k zero (e ∷ es) h = h
-at_closed g k (suc n) (e ∷ es) h = (h.0, at_closed g (suc k) n es h.1)
-
-at_without : (g : ℕ → ℕ) (u : Undoing) (es : List OwnerEntry) → AreAt g 0 es → AreAt g 0 (owners_without u es)
-at_without g (ends (the_owner n)) es h = at_closed g 0 n es h
-at_without g (ends (the_signal n)) es h = h
-at_without g (ends (the_effect n)) es h = h
-at_without g (ends (the_page n)) es h = h
-at_without g (ends (the_watcher n)) es h = h
-at_without g (cleans t c) es h = h
-
--- those behind a number have other ones
-above_off : (g : ℕ → ℕ) (k m : ℕ) (es : List OwnerEntry) → m < k → AreAt g k es → OfLiving (λ e. (g e.row == m) ≡ false) es
-above_off g k m [] l h = tt
-above_off g k m (e ∷ es) l h = (λ q. ne_eqb (g e.row) m (λ s. omega (arith, s, h.0, l)), above_off g (suc k) m es (omega (arith, l)) h.1)
-
-closed_off : (g : ℕ → ℕ) (k n m : ℕ) (es : List OwnerEntry) → m ≡ k + n → AreAt g k es → OfLiving (λ e. (g e.row == m) ≡ false) (closed_at n es)
-closed_off g k n m [] q h = tt
-closed_off g k zero m (e ∷ es) q h = (λ s. absurd (off_on s), above_off g (suc k) m es (omega (arith, q)) h.1)
-closed_off g k (suc n) m (e ∷ es) q h = (λ t. ne_eqb (g e.row) m (λ s. omega (arith, s, h.0, q)), closed_off g (suc k) n m es (omega (arith, q)) h.1)
-
-pub owners_off : (g : ℕ → ℕ) (us : List Undoing) (es : List OwnerEntry) → AreAt g 0 es → OfLiving (λ e. is_ended (the_owner (g e.row)) us ≡ false) (owners_after us es)
-owners_off g [] es h = all_any (λ (e : OwnerEntry). e.live ≡ true → false ≡ false) es (λ e q. refl)
-owners_off g (ends (the_owner n) ∷ us) es h =
-    all_two (λ (e : OwnerEntry). e.live ≡ true → (g e.row == n) ≡ false) (λ (e : OwnerEntry). e.live ≡ true → is_ended (the_owner (g e.row)) us ≡ false)
-    (λ (e : OwnerEntry). e.live ≡ true → is_ended (the_owner (g e.row)) (ends (the_owner n) ∷ us) ≡ false) (owners_after us (closed_at n es))
-    (λ e a b live. λ i. a live i || b live i)
-    (all_after (λ e. (g e.row == n) ≡ false) us (closed_at n es) (closed_off g 0 n n es (omega arith) h))
-    (owners_off g us (closed_at n es) (at_closed g 0 n es h))
-owners_off g (ends (the_signal n) ∷ us) es h = owners_off g us es h
-owners_off g (ends (the_effect n) ∷ us) es h = owners_off g us es h
-owners_off g (ends (the_page n) ∷ us) es h = owners_off g us es h
-owners_off g (ends (the_watcher n) ∷ us) es h = owners_off g us es h
-owners_off g (cleans t c ∷ us) es h = owners_off g us es h
-
--- an owner that doesn't end is as before
-still_closed : (n j : ℕ) (es : List OwnerEntry) → (j == n) ≡ false → slice_get (closed_at n es) j ≡ slice_get es j
-still_closed n j [] off = refl
-still_closed zero zero (e ∷ es) off = cc
-still_closed zero (suc j) (e ∷ es) off = refl
-still_closed (suc n) zero (e ∷ es) off = refl
-still_closed (suc n) (suc j) (e ∷ es) off = still_closed n j es (ne_eqb j n (λ q. let on : (suc j == suc n) ≡ true = eq-eqb (suc j) (suc n) (ap suc q) in off_on (sym off ∙ on)))
-
-pub still_after : (us : List Undoing) (es : List OwnerEntry) (j : ℕ) → is_ended (the_owner j) us ≡ false → slice_get (owners_after us es) j ≡ slice_get es j
-still_after [] es j off = refl
-still_after (ends (the_owner n) ∷ us) es j off =
-    still_after us (closed_at n es) j (right_off (j == n) (is_ended (the_owner j) us) off) ∙ still_closed n j es (left_off (j == n) (is_ended (the_owner j) us) off)
-still_after (ends (the_signal n) ∷ us) es j off = still_after us es j off
-still_after (ends (the_effect n) ∷ us) es j off = still_after us es j off
-still_after (ends (the_page n) ∷ us) es j off = still_after us es j off
-still_after (ends (the_watcher n) ∷ us) es j off = still_after us es j off
-still_after (cleans t c ∷ us) es j off = still_after us es j off
 
 -- ---- effects that live don't end
 

@@ -1,45 +1,34 @@
 -- What was taken back in the store and in the tables.
-use Rattle.std.proofs.Common.{◌≡◌, ℕ, suc, ◌+◌, ◌<◌, ◌&&◌, ◌||◌, ◌++◌, not, Bool, true, false, cond, List, [], ◌∷◌, map, length, refl, sym, ap, subst, ◌∙◌, arith, inl, inr}
-use Rattle.std.specs.Prelude.{slice_get}
+use Rattle.std.proofs.Common.{◌≡◌, ℕ, ◌+◌, ◌&&◌, ◌||◌, ◌++◌, not, Bool, true, false, cond, List, [], ◌∷◌, map, length, refl, sym, ap, subst, ◌∙◌, inl, inr}
 use Rattle.std.specs.List.{AllByRecursion}
 use Rattle.std.proofs.lemmas.List.{map-append}
-use Rattle.signal_model.specs.Standing.{is_in}
 use Rattle.signal_model.proofs.Shared.{tested}
 use Rattle.effect_model.specs.Owning.{Thing, the_signal, the_owner, the_effect, the_page, the_watcher, Owned, nothing, thing, cleanup, Undoing, cleans, ends, disposal_of, emptied, same_thing, taken_out, teardown_of, under}
 use Rattle.sig_owner.specs.declared.thing.Undoing.{Undoing as AnUndoing}
 use Rattle.sig_owner.specs.Renaming.{renamed, renamed_thing, renamed_undoing, renamed_undoings}
-use Rattle.sig_owner.specs.Tables.{Row, dropped, dropped_row, is_holder, is_owner, live_at, thing_at}
+use Rattle.sig_owner.specs.Tables.{Row, dropped, is_holder, live_at, thing_at}
 use Rattle.sig_owner.specs.Trees.{has_thing, owned_of}
 use Rattle.sig_owner.specs.Walks.{is_ended, undoings_of, with_taken_back}
-use Rattle.sig_owner.proofs.Shared.{dropped_lives, dropped_thing, has_emptied, renamed_emptied, renamed_taken, renamed_teardown, renamed_under, taken_back_length, taken_back_thing}
+use Rattle.sig_owner.proofs.Shared.{dropped_lives, dropped_thing, has_emptied, renamed_emptied, renamed_taken, renamed_teardown, renamed_under, taken_back_thing}
 use Rattle.effect_tables.specs.declared.effect.Effect.{Effect}
-use Rattle.effect_tables.specs.declared.tables.OwnerEntry.{OwnerEntry}
 use Rattle.effect_tables.specs.declared.tables.Tables.{Tables}
 use Rattle.effect_tables.specs.Fitting.{IsFitted}
-use Rattle.effect_tables.specs.Holding.{AreAlive, AreFresh, AreListed, AreNumbered, AreOrdered, Holds, IsEffect, IsKnown, IsOwner, names_of}
-use Rattle.effect_tables.specs.Linking.{thing_of}
-use Rattle.effect_tables.specs.Numbering.{is_live, living, number_in, rows_in}
+use Rattle.effect_tables.specs.Holding.{AreAbsent, AreAlive, AreFresh, AreLiving, AreNumbered, AreOrdered, Holds, IsEffect, IsKnown, IsOwner}
+use Rattle.effect_tables.specs.Noting.{named_thing, noted}
+use Rattle.effect_tables.specs.Numbering.{is_row, living, number_in}
 use Rattle.effect_tables.specs.Placed.{effect_of, numbering, placed, tree_of}
-use Rattle.effect_tables.proofs.Shared.{in_below, left_off, length_names, listed_row, number_apart, number_at, right_off}
+use Rattle.effect_tables.proofs.Shared.{left_off, name_by, number_apart, number_at, off_on, renamed_by, right_off, unless_known}
 use Rattle.effect_undoing.specs.Ending.{effects_after, owners_after}
 use Rattle.effect_undoing.specs.Forming.{AreFormed, IsFormed, OnEffects}
-use Rattle.effect_undoing.specs.Retelling.{named_at, retold}
+use Rattle.effect_undoing.specs.Retelling.{retold}
 use Rattle.effect_undoing.specs.Taking.{Ends, EndsIn, Takes, TakesBack, TakesOut}
+use Rattle.effect_undoing.proofs.Found.{effect_found}
 use Rattle.effect_undoing.proofs.Forms.{formed_back, formed_emptied, formed_out, formed_top, formed_under, out_emptied, out_watcher, same_swapped, under_leaf}
-use Rattle.effect_undoing.proofs.Lists.{AreAt, all_after, all_two, effects_all_after, effects_off, length_after, numbers_at, ordered_after, owners_off, rows_after, still_after, world_after}
-use Rattle.effect_undoing.proofs.Steps.{AreOwn, IsKnownStep, all_both, has_under, known_more, known_teardown, named_row, on_effects, renamed_ended, retold_all}
+use Rattle.effect_undoing.proofs.Living.{back_living, drop_living}
+use Rattle.effect_undoing.proofs.Lists.{all_two, apart_after, effects_all_after, effects_off, kept_after, kept_noted, length_after, off_after, ordered_after, world_after}
+use Rattle.effect_undoing.proofs.Steps.{IsKnownStep, all_both, has_under, known_more, known_teardown, on_effects, renamed_ended, retold_all}
 
 -- ---- in the store
-
--- rows of the same things in the same places
-pub names_alike : (rows later : List Row) → length later ≡ length rows → ((k : ℕ) → thing_at later k ≡ thing_at rows k) → names_of later ≡ names_of rows
-names_alike [] [] l h = refl
-names_alike [] (x ∷ xs) l h = cc
-names_alike (r ∷ rs) [] l h = cc
-names_alike (r ∷ rs) (x ∷ xs) l h = λ i. h 0 i ∷ names_alike rs xs (shorter l) (λ k. h (suc k)) i
-  where
-    shorter : suc (length xs) ≡ suc (length rs) → length xs ≡ length rs
-    shorter e = cc
 
 has_out : (s t : Thing) (x : Owned) → has_thing s x ≡ false → has_thing s (taken_out t x) ≡ false
 has_out s t nothing h = h
@@ -56,25 +45,25 @@ has_out s t (thing v made rest) h =
     go false p q = λ i. left_off (same_thing s v) (has_thing s made || has_thing s rest) h i || (p i || q i)
 
 pub back_done : (rows later : List Row) (n : ℕ) (us : List Undoing) → later ≡ with_taken_back rows n → owned_of later ≡ emptied (thing_at rows n) (owned_of rows) →
-    ((k : ℕ) → live_at later k ≡ (live_at rows k && not (is_ended (thing_at rows k) us))) → EndsIn rows later us (emptied (thing_at rows n) (owned_of rows))
-back_done rows later n us after tree lives = record {
-  names = names_alike rows later (ap length after ∙ taken_back_length rows n) (λ k. ap (λ rs. thing_at rs k) after ∙ taken_back_thing rows n k);
+    ((k : ℕ) → live_at later k ≡ (live_at rows k && not (is_ended (thing_at rows k) us))) → AreAbsent later → EndsIn rows later us (emptied (thing_at rows n) (owned_of rows))
+back_done rows later n us after tree lives absent = record {
+  things = λ k on. ap (λ rs. thing_at rs k) after ∙ taken_back_thing rows n k (sym (ap (λ rs. live_at rs k) after) ∙ on);
+  effects = λ all. subst AreLiving (sym after) (back_living rows n all);
+  gone = λ before. absent;
   lives = lives;
   nowhere = λ t h. ap (has_thing t) tree ∙ has_emptied t (thing_at rows n) (owned_of rows) h;
   tree = tree;
 }
 
-length_dropped : (f : Row → Row) (rows : List Row) → length (map f rows) ≡ length rows
-length_dropped f [] = refl
-length_dropped f (r ∷ rs) = ap suc (length_dropped f rs)
-
 one_off : (b : Bool) → b ≡ (b || false)
 one_off true = refl
 one_off false = refl
 
-pub drop_done : (rows later : List Row) (t : Thing) → later ≡ dropped t rows → owned_of later ≡ taken_out t (owned_of rows) → EndsIn rows later (ends t ∷ []) (taken_out t (owned_of rows))
-drop_done rows later t after tree = record {
-  names = names_alike rows later (ap length after ∙ length_dropped (dropped_row (thing_at rows) t) rows) (λ k. ap (λ rs. thing_at rs k) after ∙ dropped_thing t rows k);
+pub drop_done : (rows later : List Row) (t : Thing) → later ≡ dropped t rows → owned_of later ≡ taken_out t (owned_of rows) → AreAbsent later → EndsIn rows later (ends t ∷ []) (taken_out t (owned_of rows))
+drop_done rows later t after tree absent = record {
+  things = λ k on. ap (λ rs. thing_at rs k) after ∙ dropped_thing t rows k (sym (ap (λ rs. live_at rs k) after) ∙ on);
+  effects = λ all. subst AreLiving (sym after) (drop_living t rows all);
+  gone = λ before. absent;
   lives = λ k.
       ap (λ rs. live_at rs k) after ∙ dropped_lives t rows k
       ∙ ap (λ b. live_at rows k && not b) (same_swapped t (thing_at rows k) ∙ one_off (same_thing (thing_at rows k) t));
@@ -96,23 +85,31 @@ off_twice false b c = refl
 off_twice true true c = refl
 off_twice true false c = refl
 
--- the thing in a row
-pub thing_still : (rows later : List Row) → names_of later ≡ names_of rows → (k : ℕ) → thing_at later k ≡ thing_at rows k
-thing_still rows later names k = named_row later k ∙ ap (λ ns. named_at ns k) names ∙ sym (named_row rows k)
+both_on : (a b : Bool) → (a && b) ≡ true → a ≡ true
+both_on true b q = refl
+both_on false b q = q
 
 -- what was emptied is taken out behind that
 pub out_done : (rows mid later : List Row) (t : Thing) (us : List Undoing) → EndsIn rows mid us (emptied t (owned_of rows)) → EndsIn mid later (ends t ∷ []) (taken_out t (owned_of mid)) →
     EndsIn rows later (us ++ ends t ∷ []) (taken_out t (owned_of rows))
 out_done rows mid later t us a b = record {
-  names = b.names ∙ a.names;
+  things = λ k on. b.things k on ∙ a.things k (both_on (live_at mid k) (not (is_ended (thing_at mid k) (ends t ∷ []))) (sym (b.lives k) ∙ on));
+  effects = λ all. b.effects (a.effects all);
+  gone = λ before. b.gone (a.gone before);
   lives = λ k.
-      b.lives k
-      ∙ (λ i. a.lives k i && not (is_ended (thing_still rows mid a.names k i) (ends t ∷ [])))
+      b.lives k ∙ same k
+      ∙ ap (λ v. v && not (is_ended (thing_at rows k) (ends t ∷ []))) (a.lives k)
       ∙ off_twice (live_at rows k) (is_ended (thing_at rows k) us) (is_ended (thing_at rows k) (ends t ∷ []))
       ∙ ap (λ x. live_at rows k && not x) (sym (ended_more (thing_at rows k) t us));
   nowhere = λ s h. b.nowhere s (a.nowhere s h);
   tree = b.tree ∙ ap (taken_out t) a.tree ∙ out_emptied t (owned_of rows);
 }
+  where
+    same : (k : ℕ) → (live_at mid k && not (is_ended (thing_at mid k) (ends t ∷ []))) ≡ (live_at mid k && not (is_ended (thing_at rows k) (ends t ∷ [])))
+    same k = elim (tested (live_at mid k)) [
+      | inl on ↦ ap (λ v. live_at mid k && not (is_ended v (ends t ∷ []))) (a.things k on)
+      | inr off ↦ ap (λ v. v && not (is_ended (thing_at mid k) (ends t ∷ []))) off ∙ sym (ap (λ v. v && not (is_ended (thing_at rows k) (ends t ∷ []))) off)
+    ]
 
 -- ---- in the tables
 
@@ -122,28 +119,13 @@ module _ (t u : Tables) (later : List Row) (sus us : List Undoing) (left : Owned
   g = numbering t
 
   apart : (m n : ℕ) → numbering t m ≡ numbering t n → m ≡ n
-  apart = number_apart (rows_in t.owners.items)
-
-  rows_now : rows_in u.owners.items ≡ rows_in t.owners.items
-  rows_now = ap rows_in x.owners ∙ rows_after us t.owners.items
-
-  tree_now : tree_of u ≡ renamed (numbering t) left
-  tree_now = (λ i. renamed (number_in (rows_now i)) (owned_of (x.store i))) ∙ ap (renamed (numbering t)) e.tree
-
-  still : (k : ℕ) → thing_at later k ≡ thing_at t.store k
-  still k = thing_still t.store later e.names k
-
-  count : length later ≡ length t.store
-  count = sym (length_names later) ∙ ap length e.names ∙ length_names t.store
+  apart = number_apart t.owners.items
 
   -- what lived, and doesn't end, lives
   lives_on : (k : ℕ) (s : Thing) → live_at t.store k ≡ true → thing_at t.store k ≡ s → is_ended (renamed_thing (numbering t) s) us ≡ false → live_at later k ≡ true
   lives_on k s live is off =
       e.lives k
       ∙ (λ i. live i && not ((ap (λ v. is_ended v sus) is ∙ sym (renamed_ended (numbering t) apart s sus) ∙ ap (is_ended (renamed_thing (numbering t) s)) (sym same) ∙ off) i))
-
-  places : AreAt (numbering t) 0 t.owners.items
-  places = numbers_at (numbering t) 0 t.owners.items (λ j y q. let n : numbering t y.row ≡ j = (number_at t.owners.items j y h.numbered.apart q).0 in omega (arith, n))
 
   -- what lives on in the store didn't end
   lived : (k : ℕ) → live_at later k ≡ true → (live_at t.store k ≡ true) × (is_ended (thing_at t.store k) sus ≡ false)
@@ -154,41 +136,92 @@ module _ (t u : Tables) (later : List Row) (sus us : List Undoing) (left : Owned
       go true false q = (refl, refl)
       go false b q = cc
 
-  listed_now : AreListed (owners_after us t.owners.items) later
-  listed_now k on owner =
-      let was = lived k on in
-      let there : is_live (slice_get t.owners.items (numbering t k)) ≡ true = h.alive.listed k was.0 (ap is_owner (sym (still k)) ∙ owner) in
-      let its : thing_at t.store k ≡ the_owner k = h.numbered.own k (listed_row t.owners.items k there) in
-      let off : is_ended (the_owner (numbering t k)) us ≡ false =
-      ap (is_ended (the_owner (numbering t k))) same ∙ renamed_ended (numbering t) apart (the_owner k) sus ∙ ap (λ v. is_ended v sus) (sym its) ∙ was.1 in
-      ap (λ ms. is_live (slice_get (owners_after us t.owners.items) (number_in ms k))) (rows_after us t.owners.items)
-      ∙ ap is_live (still_after us t.owners.items (numbering t k) off) ∙ there
+  -- nor by the owners' own numbers
+  on_by : (k : ℕ) (s : Thing) → live_at later k ≡ true → thing_at t.store k ≡ s → is_ended (renamed_thing (numbering t) s) us ≡ false
+  on_by k s on is = ap (is_ended (renamed_thing (numbering t) s)) same ∙ renamed_ended (numbering t) apart s sus ∙ ap (λ v. is_ended v sus) (sym is) ∙ (lived k on).1
+
+  -- an owner that lives on keeps its row and its number
+  row_kept : (k : ℕ) → live_at later k ≡ true → is_row k t.owners.items ≡ true →
+      (is_row k (owners_after us t.owners.items) ≡ true) × (number_in (owners_after us t.owners.items) k ≡ number_in t.owners.items k)
+  row_kept k on there = kept_after us t.owners.items k there (on_by k (the_owner k) on (h.alive.owners k there).thing)
+
+  -- what had a row and has it still didn't end
+  owner_on : (k : ℕ) → is_row k (owners_after us t.owners.items) ≡ true → IsOwner later k
+  owner_on k there =
+      let was = off_after us t.owners.items k h.numbered.apart there in
+      let own = h.alive.owners k was.0 in
+      let on : live_at later k ≡ true = lives_on k (the_owner k) own.lives own.thing was.1 in
+      record { lives = on; thing = e.things k on ∙ own.thing }
 
   alive_now : AreAlive (owners_after us t.owners.items) (effects_after us t.effects.items) later
   alive_now = record {
-    owners = all_two (λ (y : OwnerEntry). y.live ≡ true → IsOwner t.store y) (λ (y : OwnerEntry). y.live ≡ true → is_ended (the_owner (numbering t y.row)) us ≡ false)
-        (λ (y : OwnerEntry). y.live ≡ true → IsOwner later y) (owners_after us t.owners.items)
-        (λ y a b live. record { lives = lives_on y.row (the_owner y.row) (a live).lives (a live).thing (b live); thing = still y.row ∙ (a live).thing })
-        (all_after (IsOwner t.store) us t.owners.items h.alive.owners) (owners_off (numbering t) us t.owners.items places);
-    listed = listed_now;
+    owners = owner_on;
     effects = all_two (IsEffect t.store) (λ (y : Effect). is_ended (the_effect y.id) us ≡ false) (IsEffect later) (effects_after us t.effects.items)
-        (λ y a b. record { lives = lives_on y.row (the_effect y.id) a.lives a.thing b; thing = still y.row ∙ a.thing })
+        (λ y a b. let on = lives_on y.row (the_effect y.id) a.lives a.thing b in record { lives = on; thing = e.things y.row on ∙ a.thing })
         (effects_all_after (IsEffect t.store) us t.effects.items h.alive.effects) (effects_off us t.effects.items);
   }
 
-  numbered_now : AreNumbered (rows_in t.owners.items) (map thing_of t.things.items) later
+  -- what lives on is noted still
+  noted_on : (k : ℕ) → live_at later k ≡ true → noted u.things k ≡ noted t.things k
+  noted_on k on =
+      x.things k
+      ∙ kept_noted us t.owners.items t.effects.items (noted t.things) k
+      (λ n q. let two = number_at t.owners.items n k h.numbered.apart q in
+      ap (λ j. is_ended (the_owner j) us) (sym two.0) ∙ on_by k (the_owner k) on (h.alive.owners k two.1).thing)
+      (λ n q. on_by k (the_effect n) on (effect_found t.store n k t.effects.items (sym q) h.alive.effects).thing)
+
+  known_on : (k : ℕ) → live_at later k ≡ true → (s : Thing) → IsKnown t.owners.items k s → IsKnown (owners_after us t.owners.items) k s
+  known_on k on (the_owner n) q = (q.0, (row_kept k on q.1).0)
+  known_on k on (the_effect n) q = q
+  known_on k on (the_signal n) q = absurd q
+  known_on k on (the_page n) q = absurd q
+  known_on k on (the_watcher n) q = absurd q
+
+  renamed_on : (k : ℕ) → live_at later k ≡ true → (s : Thing) → IsKnown t.owners.items k s → renamed_thing (number_in t.owners.items) s ≡ renamed_thing (number_in (owners_after us t.owners.items)) s
+  renamed_on k on s q = name_by (number_in t.owners.items) (number_in (owners_after us t.owners.items)) t.owners.items k s (λ there. sym (row_kept k on there).1) q
+
+  gone_before : AreAbsent t.store
+  gone_before m dead = elim (tested (is_row m t.owners.items)) [
+    | inl on ↦ absurd (off_on (live_at t.store m) dead (h.alive.owners m on).lives)
+    | inr off ↦ h.numbered.stand m off
+  ]
+
+  -- an owner without a row stands nowhere
+  stand_now : (m : ℕ) → is_row m (owners_after us t.owners.items) ≡ false → has_thing (the_owner m) (owned_of later) ≡ false
+  stand_now m off = elim (tested (live_at later m)) [
+    | inl on ↦ elim (tested (is_row m t.owners.items)) [
+      | inl there ↦ absurd (off_on (is_row m (owners_after us t.owners.items)) off (row_kept m on there).0)
+      | inr none ↦ e.nowhere (the_owner m) (h.numbered.stand m none)
+    ]
+    | inr dead ↦ e.gone gone_before m dead
+  ]
+
+  numbered_now : AreNumbered (owners_after us t.owners.items) (noted u.things) later
   numbered_now = record {
-    named = h.numbered.named ∙ ap (map (renamed_thing (numbering t))) (sym e.names);
-    known = subst (AllByRecursion (IsKnown (rows_in t.owners.items))) (sym e.names) h.numbered.known;
-    apart = h.numbered.apart;
-    below = subst (λ (n : ℕ). AllByRecursion (λ (m : ℕ). m < n) (rows_in t.owners.items)) (sym count) h.numbered.below;
-    own = λ m on. still m ∙ h.numbered.own m on;
-    stand = λ m off. e.nowhere (the_owner m) (h.numbered.stand m off);
+    named = λ k on.
+        ap named_thing (noted_on k on) ∙ h.numbered.named k (lived k on).0 ∙ renamed_on k on (thing_at t.store k) (h.numbered.known k (lived k on).0)
+        ∙ ap (renamed_thing (number_in (owners_after us t.owners.items))) (sym (e.things k on));
+    known = λ k on. subst (IsKnown (owners_after us t.owners.items) k) (sym (e.things k on)) (known_on k on (thing_at t.store k) (h.numbered.known k (lived k on).0));
+    effects = e.effects h.numbered.effects;
+    apart = apart_after us t.owners.items h.numbered.apart;
+    stand = stand_now;
   }
+
+  -- of what stands the numbers are as before
+  number_now : (m : ℕ) → has_thing (the_owner m) (owned_of later) ≡ true → number_in (owners_after us t.owners.items) m ≡ number_in t.owners.items m
+  number_now m there =
+      let row = unless_known (owners_after us t.owners.items) m (has_thing (the_owner m) (owned_of later)) there (stand_now m) in
+      (row_kept m (owner_on m row).lives (off_after us t.owners.items m h.numbered.apart row).0).1
+
+  tree_now : tree_of u ≡ renamed (numbering t) left
+  tree_now =
+      (λ i. renamed (number_in (x.owners i)) (owned_of (x.store i)))
+      ∙ renamed_by (number_in (owners_after us t.owners.items)) (number_in t.owners.items) (owned_of later) number_now
+      ∙ ap (renamed (numbering t)) e.tree
 
   pub holds_now : Holds u
   holds_now = record {
-    numbered = subst (λ y. y) (λ i. AreNumbered (sym rows_now i) (map thing_of (sym x.things i).items) (sym x.store i)) numbered_now;
+    numbered = subst (λ y. y) (λ i. AreNumbered (sym x.owners i) (noted u.things) (sym x.store i)) numbered_now;
     alive = subst (λ y. y) (λ i. AreAlive (sym x.owners i) (sym x.effects i) (sym x.store i)) alive_now;
     fresh = subst (λ y. y) (λ i. AreFresh (sym x.effects_made i) (sym x.pages_made i) (sym x.store i))
         (record { effects = λ n l. e.nowhere (the_effect n) (h.fresh.effects n l); pages = λ n l. e.nowhere (the_page n) (h.fresh.pages n l) });
@@ -218,28 +251,31 @@ module _ (t u : Tables) (later : List Row) (sus us : List Undoing) (left : Owned
 -- ---- what was taken back, and what was taken out
 
 module _ (t u : Tables) (later : List Row) (steps : List AnUndoing) (us : List Undoing) (h : Holds t) (f : AreFormed (tree_of t)) (x : Ends (record t { store = later }) u us)
-    (told : us ≡ map (retold (map thing_of t.things.items)) steps) (s : Thing) where
+    (told : us ≡ map (retold (noted t.things)) steps) (s : Thing) where
   formed_rows : IsFormed (the_owner 0) (owned_of t.store)
   formed_rows = formed_back (numbering t) (the_owner 0) (owned_of t.store) (formed_top 0 (numbering t 0) (tree_of t) f.formed)
 
-  stands : (n : ℕ) → has_thing (the_owner n) (owned_of t.store) ≡ true → is_in n (rows_in t.owners.items) ≡ true
-  stands n q = elim (tested (is_in n (rows_in t.owners.items))) [
-    | inl on ↦ on
-    | inr off ↦ (let r : has_thing (the_owner n) (owned_of t.store) ≡ false = h.numbered.stand n off in cc)
-  ]
+  stands : (n : ℕ) → has_thing (the_owner n) (owned_of t.store) ≡ true → (is_row n t.owners.items ≡ true) × (live_at t.store n ≡ true)
+  stands n q = (listed, lives)
+    where
+      listed : is_row n t.owners.items ≡ true
+      listed = elim (tested (is_row n t.owners.items)) [
+        | inl on ↦ on
+        | inr off ↦ (let r : has_thing (the_owner n) (owned_of t.store) ≡ false = h.numbered.stand n off in cc)
+      ]
 
-  own : AreOwn (rows_in t.owners.items) t.store
-  own = record { below = λ m on. in_below (rows_in t.owners.items) (length t.store) m on h.numbered.below; own = h.numbered.own }
+      lives : live_at t.store n ≡ true
+      lives = (h.alive.owners n listed).lives
 
-  known_under : AllByRecursion (IsKnownStep (rows_in t.owners.items)) (teardown_of s (under s (owned_of t.store)))
-  known_under = known_teardown (rows_in t.owners.items) s (under s (owned_of t.store)) (formed_under (the_owner 0) s (owned_of t.store) formed_rows)
+  known_under : AllByRecursion (IsKnownStep t.owners.items t.store) (teardown_of s (under s (owned_of t.store)))
+  known_under = known_teardown t.owners.items t.store s (under s (owned_of t.store)) (formed_under (the_owner 0) s (owned_of t.store) formed_rows)
       (λ n q. stands n (has_under (the_owner n) s (owned_of t.store) q))
 
-  by_numbers : AllByRecursion (IsKnownStep (rows_in t.owners.items)) (undoings_of (thing_at t.store) steps) → us ≡ renamed_undoings (numbering t) (undoings_of (thing_at t.store) steps)
-  by_numbers known = told ∙ retold_all (numbering t) (rows_in t.owners.items) t.store (map thing_of t.things.items) h.numbered.named own steps known
+  by_numbers : AllByRecursion (IsKnownStep t.owners.items t.store) (undoings_of (thing_at t.store) steps) → us ≡ renamed_undoings (numbering t) (undoings_of (thing_at t.store) steps)
+  by_numbers known = told ∙ retold_all t.owners.items (noted t.things) t.store h.numbered h.alive.owners steps known
 
   apart_now : (m n : ℕ) → numbering t m ≡ numbering t n → m ≡ n
-  apart_now = number_apart (rows_in t.owners.items)
+  apart_now = number_apart t.owners.items
 
   back_steps : renamed_undoings (numbering t) (teardown_of s (under s (owned_of t.store))) ≡ teardown_of (renamed_thing (numbering t) s) (under (renamed_thing (numbering t) s) (tree_of t))
   back_steps =
@@ -252,7 +288,7 @@ module _ (t u : Tables) (later : List Row) (steps : List AnUndoing) (us : List U
   pub taken_back : undoings_of (thing_at t.store) steps ≡ teardown_of s (under s (owned_of t.store)) →
       EndsIn t.store later (undoings_of (thing_at t.store) steps) (emptied s (owned_of t.store)) → TakesBack t u (renamed_thing (numbering t) s) us
   taken_back is e =
-      let same : us ≡ renamed_undoings (numbering t) (undoings_of (thing_at t.store) steps) = by_numbers (subst (AllByRecursion (IsKnownStep (rows_in t.owners.items))) (sym is) known_under) in
+      let same : us ≡ renamed_undoings (numbering t) (undoings_of (thing_at t.store) steps) = by_numbers (subst (AllByRecursion (IsKnownStep t.owners.items t.store)) (sym is) known_under) in
       record {
         steps = same ∙ ap (renamed_undoings (numbering t)) is ∙ back_steps;
         takes = taken t u later (undoings_of (thing_at t.store) steps) us (emptied s (owned_of t.store)) h e x same (emptied (renamed_thing (numbering t) s) (tree_of t))
@@ -260,12 +296,12 @@ module _ (t u : Tables) (later : List Row) (steps : List AnUndoing) (us : List U
         cleanups = subst (AllByRecursion OnEffects) (sym (same ∙ ap (renamed_undoings (numbering t)) is ∙ back_steps)) on_under;
       }
 
-  pub taken_away : IsKnownStep (rows_in t.owners.items) (ends s) → undoings_of (thing_at t.store) steps ≡ disposal_of s (owned_of t.store) →
+  pub taken_away : IsKnownStep t.owners.items t.store (ends s) → undoings_of (thing_at t.store) steps ≡ disposal_of s (owned_of t.store) →
       EndsIn t.store later (undoings_of (thing_at t.store) steps) (taken_out s (owned_of t.store)) → TakesOut t u (renamed_thing (numbering t) s) us
   taken_away end is e =
       let same : us ≡ renamed_undoings (numbering t) (undoings_of (thing_at t.store) steps) =
-      by_numbers (subst (AllByRecursion (IsKnownStep (rows_in t.owners.items))) (sym is)
-      (known_more (rows_in t.owners.items) (teardown_of s (under s (owned_of t.store))) s known_under end)) in
+      by_numbers (subst (AllByRecursion (IsKnownStep t.owners.items t.store)) (sym is)
+      (known_more t.owners.items t.store (teardown_of s (under s (owned_of t.store))) s known_under end)) in
       record {
         steps = same ∙ ap (renamed_undoings (numbering t)) is
             ∙ map-append (renamed_undoing (numbering t)) (teardown_of s (under s (owned_of t.store))) (ends s ∷ [])

@@ -1,18 +1,15 @@
 -- What ends in the steps of a teardown goes out of the tables.
-use Rattle.std.specs.Prelude.{ℕ, zero, suc, ◌==◌, not, false, List, [], ◌∷◌}
+use Rattle.std.specs.Prelude.{ℕ, ◌==◌, not, List, [], ◌∷◌, Option, Some, None, if◌then◌else◌}
 use Rattle.std.specs.List.{filter}
 use Rattle.effect_model.specs.Owning.{the_owner, the_effect, the_page, Undoing, ends}
+use Rattle.sig_store.specs.Stored.{entry}
 use Rattle.effect_tables.specs.declared.effect.Effect.{Effect}
-use Rattle.effect_tables.specs.declared.tables.OwnerEntry.{OwnerEntry}
-
--- the owner of a number no longer lives
-abbrev pub closed_at : ℕ → List OwnerEntry → List OwnerEntry
-closed_at n [] = []
-closed_at zero (e ∷ es) = record e { live = false } ∷ es
-closed_at (suc n) (e ∷ es) = e ∷ closed_at n es
+use Rattle.effect_tables.specs.declared.thing.Thing.{Thing}
+use Rattle.effect_tables.specs.Numbering.{closed_at}
+use Rattle.effect_undoing.specs.Finding.{effect_row}
 
 -- the owners after one step
-abbrev pub owners_without : Undoing → List OwnerEntry → List OwnerEntry
+abbrev pub owners_without : Undoing → List (Option ℕ) → List (Option ℕ)
 owners_without (ends (the_owner n)) es = closed_at n es
 owners_without _ es = es
 
@@ -26,8 +23,19 @@ abbrev pub pages_without : Undoing → List ℕ → List ℕ
 pages_without (ends (the_page n)) ns = filter (λ m. not (n == m)) ns
 pages_without _ ns = ns
 
+-- what is noted of rows, but for the one that is given, if any
+abbrev pub forgotten : Option ℕ → (ℕ → Option Thing) → ℕ → Option Thing
+forgotten None f k = f k
+forgotten (Some r) f k = if r == k then None else f k
+
+-- what is noted of rows after one step, by the owners and the effects before it
+abbrev pub things_without : Undoing → List (Option ℕ) → List Effect → (ℕ → Option Thing) → ℕ → Option Thing
+things_without (ends (the_owner n)) es xs f k = forgotten (entry es n) f k
+things_without (ends (the_effect n)) es xs f k = forgotten (effect_row n xs) f k
+things_without _ es xs f k = f k
+
 -- the same after steps in order
-abbrev pub owners_after : List Undoing → List OwnerEntry → List OwnerEntry
+abbrev pub owners_after : List Undoing → List (Option ℕ) → List (Option ℕ)
 owners_after [] es = es
 owners_after (u ∷ us) es = owners_after us (owners_without u es)
 
@@ -38,3 +46,7 @@ effects_after (u ∷ us) xs = effects_after us (effects_without u xs)
 abbrev pub pages_after : List Undoing → List ℕ → List ℕ
 pages_after [] ns = ns
 pages_after (u ∷ us) ns = pages_after us (pages_without u ns)
+
+abbrev pub things_after : List Undoing → List (Option ℕ) → List Effect → (ℕ → Option Thing) → ℕ → Option Thing
+things_after [] es xs f k = f k
+things_after (u ∷ us) es xs f k = things_after us (owners_without u es) (effects_without u xs) (things_without u es xs f) k

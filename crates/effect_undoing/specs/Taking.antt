@@ -1,5 +1,5 @@
 -- What taking back leaves of the store and of the tables.
-use Rattle.std.specs.Prelude.{◌≡◌, ℕ, ◌&&◌, not, false, List, None}
+use Rattle.std.specs.Prelude.{◌≡◌, ℕ, ◌&&◌, not, true, false, List, None}
 use Rattle.std.specs.List.{AllByRecursion}
 use Rattle.effect_model.specs.Owning.{Thing, Owned, Undoing, disposal_of, emptied, taken_out, teardown_of, under}
 use Rattle.effect_model.specs.Worlds.{World}
@@ -8,14 +8,18 @@ use Rattle.sig_owner.specs.Tables.{Row, live_at, thing_at}
 use Rattle.sig_owner.specs.Trees.{has_thing, owned_of}
 use Rattle.sig_owner.specs.Walks.{is_ended}
 use Rattle.effect_tables.specs.declared.tables.Tables.{Tables}
-use Rattle.effect_tables.specs.Holding.{Holds, LeavesOut, names_of}
+use Rattle.effect_tables.specs.Holding.{AreAbsent, AreLiving, Holds, LeavesOut}
+use Rattle.effect_tables.specs.Noting.{noted}
 use Rattle.effect_tables.specs.Placed.{placed, tree_of}
-use Rattle.effect_undoing.specs.Ending.{effects_after, owners_after, pages_after}
+use Rattle.effect_undoing.specs.Ending.{effects_after, owners_after, pages_after, things_after}
 use Rattle.effect_undoing.specs.Forming.{AreFormed, OnEffects}
 
--- In the store these steps were done: what ends no longer lives, and what stood nowhere stands nowhere. This is left of what stood.
+-- In the store these steps were done: what ends no longer lives, what lives is what it was, and what stood nowhere stands nowhere; effects'
+-- rows live, and owners that are gone stand nowhere, as before. This is left of what stood.
 pub record EndsIn (rows later : List Row) (us : List Undoing) (left : Owned) : Type 0 where
-  pub names : names_of later ≡ names_of rows
+  pub things : (k : ℕ) → live_at later k ≡ true → thing_at later k ≡ thing_at rows k
+  pub effects : AreLiving rows → AreLiving later
+  pub gone : AreAbsent rows → AreAbsent later
   pub lives : (k : ℕ) → live_at later k ≡ (live_at rows k && not (is_ended (thing_at rows k) us))
   pub nowhere : (t : Thing) → has_thing t (owned_of rows) ≡ false → has_thing t (owned_of later) ≡ false
   pub tree : owned_of later ≡ left
@@ -23,7 +27,7 @@ pub record EndsIn (rows later : List Row) (us : List Undoing) (left : Owned) : T
 -- What ends in these steps is out of the tables beside the store, and all else is as before.
 pub record Ends (old new : Tables) (us : List Undoing) : Type 0 where
   pub store : new.store ≡ old.store
-  pub things : new.things ≡ old.things
+  pub things : (k : ℕ) → noted new.things k ≡ things_after us old.owners.items old.effects.items (noted old.things) k
   pub owners : new.owners.items ≡ owners_after us old.owners.items
   pub effects : new.effects.items ≡ effects_after us old.effects.items
   pub pages : new.pages.items ≡ pages_after us old.pages.items

@@ -5,6 +5,7 @@ ghost use Rattle.sig_owner.specs.declared.errors.OwnFault.TheVariants as fault;
 ghost use Rattle.effect_tables.specs.declared.thing.Undoing.TheVariants as undoing;
 ghost use Rattle.effect_tables.specs.Holding.{AreRising, Holds};
 ghost use Rattle.effect_tables.specs.Linking.{thing_of, undoings_of};
+ghost use Rattle.effect_tables.specs.Noting.{noted};
 ghost use Rattle.effect_tables.specs.Placed.{tree_of};
 ghost use Rattle.effect_undoing.specs.Finding.{is_tabled};
 ghost use Rattle.effect_undoing.specs.Forming.{AreFormed};
@@ -15,21 +16,22 @@ use crate::ending::end_all;
 use crate::finding::{effect_row, has_page};
 use crate::retelling::retold_all;
 use crate::stored::{holder_out, leaf_out, take_back_in};
-use effect_tables::{Tables, Thing, Undoing, live_row};
+use effect_tables::{Tables, Thing, Undoing};
 use sig_base::{EffectId, NoMemory, NodeId, OwnerId, PageId};
 use sig_owner::{OwnFault, Thing as Stored, Undoing as Step};
 
 // What ends in these steps of the store goes out of the tables; the steps are given by things.
 fn finish(tables: &mut Tables, steps: Vec<Step>) -> Result<Vec<Undoing>, NoMemory>
     requires { AreRising 0 tables.old.effects.items }
-    ensures told { IfOk result (λ us. undoings_of us.items ≡ map (retold (map thing_of tables.old.things.items)) steps.items) }
+    ensures told { IfOk result (λ us. undoings_of us.items ≡ map (retold (noted tables.old.things)) steps.items) }
     ensures done { IfOk result (λ us. Ends tables.old tables.new (undoings_of us.items)) }
 {
-    let undoings = retold_all(*tables.things.allocator(), &tables.things, &steps)?;
+    let undoings = retold_all(*tables.effects.allocator(), &tables.things, &steps)?;
     end_all(
         &mut tables.owners,
         &mut tables.effects,
         &mut tables.pages,
+        &mut tables.things,
         &undoings,
     );
     Ok(undoings)
@@ -68,7 +70,7 @@ fn owner_out(tables: &mut Tables, id: OwnerId) -> Result<Vec<Undoing>, OwnFault>
     ensures limit { IsErrOf result fault.Limit → ⊥ }
     ensures err { IfErr result (λ e. (e ≡ fault.NoMemory) ⊎ (tables.new ≡ tables.old)) }
 {
-    let Some(row) = live_row(&tables.owners, id) else {
+    let Some(row) = tables.owners.get(id) else {
         return Err(OwnFault::Gone);
     };
     let steps = holder_out(&mut tables.store, row, Stored::Owner(row))?;
@@ -107,7 +109,7 @@ fn page_out(tables: &mut Tables, id: PageId) -> Result<Vec<Undoing>, OwnFault>
     if !has_page(&tables.pages, id) {
         return Err(OwnFault::Gone);
     }
-    let alloc = *tables.things.allocator();
+    let alloc = *tables.effects.allocator();
     let steps = leaf_out(alloc, &mut tables.store, Stored::Page(id))?;
     let undoings = finish(tables, steps)?;
     Ok(undoings)
@@ -119,7 +121,7 @@ fn signal_out(tables: &mut Tables, id: NodeId) -> Result<Vec<Undoing>, NoMemory>
     requires formed { AreFormed (tree_of tables.old) }
     ensures takes { IfOk result (λ us. TakesOut tables.old tables.new (the_signal id) (undoings_of us.items)) }
 {
-    let alloc = *tables.things.allocator();
+    let alloc = *tables.effects.allocator();
     let steps = leaf_out(alloc, &mut tables.store, Stored::Node(id))?;
     let undoings = finish(tables, steps)?;
     Ok(undoings)
@@ -129,7 +131,7 @@ fn signal_out(tables: &mut Tables, id: NodeId) -> Result<Vec<Undoing>, NoMemory>
 fn alone_out(tables: &Tables, thing: Thing) -> Result<Vec<Undoing>, NoMemory>
     ensures { IfOk result (λ us. us.items ≡ undoing.Gone thing ∷ []) }
 {
-    let mut undoings = Vec::new(*tables.things.allocator());
+    let mut undoings = Vec::new(*tables.effects.allocator());
     undoings.push(Undoing::Gone(thing))?;
     Ok(undoings)
 }

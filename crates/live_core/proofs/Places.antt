@@ -1,13 +1,10 @@
 -- Places of host formulas: which are there, and which are free.
 use Rattle.std.proofs.Common.{◌≡◌, ◌≤◌, ◌<◌, ℕ, zero, suc, arith, Bool, true, false, cond, List, [], ◌∷◌, length, map, Option, Some, None, refl, sym, ap, subst, ◌∙◌}
 use Rattle.std.specs.Prelude.{is_some, max, slice_get}
-use Rattle.std.specs.List.{filter}
 use Rattle.std.proofs.lemmas.List.{length-map}
 use Rattle.sig_effect.specs.Agreeing.{AreNew}
 use Rattle.effect_model.specs.Worlds.{HostState, unused, used, dropped}
 use Rattle.effect_model.specs.Acts.{is_free}
-use Rattle.effect_tables.specs.declared.tables.OwnerEntry.{OwnerEntry}
-use Rattle.effect_tables.specs.Numbering.{living}
 use Rattle.sig_host.specs.Hosts.{HostPlace, most_asked, unasked_place}
 use Rattle.sig_effect.specs.Wholes.{host_states}
 use Rattle.live_entries.specs.declared.refusal.Refusal.TheVariants as refusal
@@ -76,13 +73,3 @@ most_new xs asked e = ap most_asked e ∙ none xs
 pub states_count : (uses : ℕ → Bool) (from : ℕ) (ps : List HostPlace) → length (host_states uses from ps) ≡ length ps
 states_count uses from [] = refl
 states_count uses from (p ∷ ps) = ap suc (states_count uses (suc from) ps)
-
--- as many owners live as entries do
-pub living_count : (n : ℕ) (es : List OwnerEntry) → length (living n es) ≡ length (filter (λ (e : OwnerEntry). e.live) es)
-living_count n [] = refl
-living_count n (e ∷ es) = at e.live (living_count (suc n) es)
-  where
-    at : (b : Bool) → length (living (suc n) es) ≡ length (filter (λ (x : OwnerEntry). x.live) es) →
-        length (cond b (n ∷ living (suc n) es) (living (suc n) es)) ≡ length (cond b (e ∷ filter (λ (x : OwnerEntry). x.live) es) (filter (λ (x : OwnerEntry). x.live) es))
-    at true h = ap suc h
-    at false h = h

@@ -3,7 +3,6 @@
 ghost use Rattle.std.specs.Prelude.{◌≡◌, ℕ, Bool, List, IfOk, length, map, slice_get};
 ghost use Rattle.std.specs.List.{filter};
 ghost use Rattle.effect_model.specs.Watching.{watches};
-ghost use Rattle.effect_tables.specs.Numbering.{living};
 ghost use Rattle.effect_tables.specs.Placed.{effect_of};
 ghost use Rattle.effect_world.specs.Wholes.{whole_of};
 ghost use Rattle.sig_effect.specs.Wholes.{host_states};
@@ -22,7 +21,7 @@ ghost use Rattle.live_core.specs.Views.{plain_of};
 use crate::listing::edit_refusal;
 use crate::machine::Machine;
 use effect_model::MOST_WATCHERS;
-use effect_tables::{MOST_EFFECTS, OwnerEntry};
+use effect_tables::MOST_EFFECTS;
 use effect_world::World;
 use live_cmd::{Command, EffectBody, RowEdit, SourceText};
 use live_entries::{LimitWord, Refusal};
@@ -32,26 +31,6 @@ use sig_base::{MOST_NODES, MOST_PAGES, MOST_TEMPLATES, Name, NoMemory, NodeId, W
 use sig_host::{EqualsRule, Lent, Shelf};
 use sig_owner::MOST_OWNERS;
 use std::alloc::Global;
-
-// How many of these entries live.
-fn live_entries(owners: &[OwnerEntry]) -> usize
-    ensures { result ≡ length (filter (λ o. o.live) owners.now) }
-{
-    let mut count = 0;
-    for owner in owners {
-        if owner.live {
-            count += 1;
-        }
-    }
-    count
-}
-
-// How many owners live.
-fn live_owners(owners: &[OwnerEntry]) -> usize
-    ensures { result ≡ length (living 0 owners.now) }
-{
-    live_entries(owners)
-}
 
 // The refusal of one more than the most.
 fn one_too_many(most: usize, count: usize, limit: LimitWord) -> Option<Refusal>
@@ -253,7 +232,7 @@ impl Machine {
             Command::Owner { .. } => {
                 one_too_many(
                     MOST_OWNERS,
-                    live_owners(&self.world.tables.owners),
+                    self.world.tables.owners.live(),
                     LimitWord::Owners,
                 )
             }

@@ -138,20 +138,14 @@ row_is t r e = elim (cases_Bool r.live) [ inl q ↦ (q, (let s : same_thing t r.
 -- ---- what holds afterwards
 
 module _ (rows : List Row) (owners left : ℕ) (t : Thing) (h : Holds rows owners) where
-  pub name_kept : (k : ℕ) → thing_at (dropped t rows) k ≡ thing_at rows k
-  name_kept k = ap (λ (r : Row). r.holder) (dropped_at t rows k) ∙ elim (cases_Bool (is_row_of t (row_at rows k))) [
-    | inl q ↦ ap (λ (r : Row). r.holder) (row_out (thing_at rows) t (row_at rows k) q)
-    | inr q ↦ ap (λ (r : Row). r.holder) (row_in (thing_at rows) t (row_at rows k) q)
-  ]
-
-  above_kept : (k : ℕ) → above_at (dropped t rows) k ≡ above_at rows k
-  above_kept k = ap (λ (r : Row). r.above) (dropped_at t rows k) ∙ elim (cases_Bool (is_row_of t (row_at rows k))) [
-    | inl q ↦ ap (λ (r : Row). r.above) (row_out (thing_at rows) t (row_at rows k) q)
-    | inr q ↦ ap (λ (r : Row). r.above) (row_in (thing_at rows) t (row_at rows k) q)
-  ]
-
   pub in_kept : (k : ℕ) → is_row_of t (row_at rows k) ≡ false → row_at (dropped t rows) k ≡ record (row_at rows k) { items = without (thing_at rows) t (items_at rows k) }
   in_kept k q = dropped_at t rows k ∙ row_in (thing_at rows) t (row_at rows k) q
+
+  pub name_kept : (k : ℕ) → is_row_of t (row_at rows k) ≡ false → thing_at (dropped t rows) k ≡ thing_at rows k
+  name_kept k q = ap (λ (r : Row). r.holder) (in_kept k q)
+
+  above_kept : (k : ℕ) → is_row_of t (row_at rows k) ≡ false → above_at (dropped t rows) k ≡ above_at rows k
+  above_kept k q = ap (λ (r : Row). r.above) (in_kept k q)
 
   pub out_gone : (k : ℕ) → is_row_of t (row_at rows k) ≡ true → row_at (dropped t rows) k ≡ ended_row (row_at rows k)
   out_gone k q = dropped_at t rows k ∙ row_out (thing_at rows) t (row_at rows k) q
@@ -178,14 +172,13 @@ module _ (rows : List Row) (owners left : ℕ) (t : Thing) (h : Holds rows owner
   dropped_holds bare counted = record {
     table = record {
       later = λ n m e. h.table.later n m (was_held n m e).0;
-      there = λ n m e. let x = h.table.there n m (was_held n m e).0 in let l = mapped_length (dropped_row (thing_at rows) t) rows in omega (arith, x, l);
+      lives = λ n m e. let w = was_held n m e in still_lives m (h.table.lives n m w.0) w.1;
     };
     count = counted;
-    living = λ n m e. let w = was_held n m e in still_lives m (h.living n m w.0) w.1;
-    above = λ n m e. above_kept m ∙ h.above n m (was_held n m e).0;
+    above = λ n m e. let w = was_held n m e in above_kept m (other_row m (h.table.lives n m w.0) w.1) ∙ h.above n m w.0;
     once = λ n m e a.
         let l = lived m e in
-        let c = h.once n m l.0 (sym (above_kept m) ∙ a) in
+        let c = h.once n m l.0 (sym (above_kept m l.1) ∙ a) in
         let off : same_thing t (thing_at rows m) ≡ false = sym (row_alive t (row_at rows m) l.0) ∙ l.1 in
         elim (cases_Bool (is_row_of t (row_at rows n))) [
           | inl q ↦ (let r = row_is t (row_at rows n) q in
@@ -200,9 +193,9 @@ module _ (rows : List Row) (owners left : ℕ) (t : Thing) (h : Holds rows owner
       | inl q ↦ subst (λ (r : Row). AreLeaves r.items) (sym (out_gone n q)) tt
       | inr q ↦ subst (λ (r : Row). AreLeaves r.items) (sym (in_kept n q)) (leaves_left (thing_at rows) t (items_at rows n) (h.leaves n))
     ];
-    kinds = λ n e. ap is_holder (name_kept n) ∙ h.kinds n (lived n e).0;
-    numbers = λ n k e g. h.numbers n k (lived n e).0 (sym (name_kept n) ∙ g);
-    names = λ n m e g s. h.names n m (lived n e).0 (lived m g).0 (sym (λ j. same_thing (name_kept n j) (name_kept m j)) ∙ s);
+    kinds = λ n e. let l = lived n e in ap is_holder (name_kept n l.1) ∙ h.kinds n l.0;
+    numbers = λ n k e g. let l = lived n e in h.numbers n k l.0 (sym (name_kept n l.1) ∙ g);
+    names = λ n m e g s. let l = lived n e in let x = lived m g in h.names n m l.0 x.0 (sym (λ j. same_thing (name_kept n l.1 j) (name_kept m x.1 j)) ∙ s);
   }
 
   leaf_was : (n : ℕ) (u : Thing) → has_leaf u (items_at (dropped t rows) n) ≡ true → has_leaf u (items_at rows n) ≡ true
@@ -245,7 +238,7 @@ module _ (rows : List Row) (owners left : ℕ) (place place' : AThing → Option
     holds = subst (λ rs. Holds rs left) (sym e) (dropped_holds rows owners left (thing_of t) k.holds bare (n ∙ ap owner_count e));
     placed = subst (λ rs. ArePlaced rs place') (sym e) (record {
       leaves = leaf_stays;
-      effects = λ m c l q. effect_stays m c l (sym (name_kept rows owners left (thing_of t) k.holds m) ∙ q);
+      effects = λ m c l q. effect_stays m c l (sym (name_kept rows owners left (thing_of t) k.holds m (lived rows owners left (thing_of t) k.holds m l).1) ∙ q);
     });
   }
 
@@ -281,7 +274,7 @@ module _ (rows : List Row) (owners : ℕ) (place : AThing → Option ℕ) (t : A
   no_row_of k f = elim (cases_Bool (is_row_of (thing_of t) (row_at rows k))) [ inl q ↦ absurd (f q) | inr q ↦ q ]
 
   held_other : (k m : ℕ) → is_held m (items_at rows k) ≡ true → is_row_of (thing_of t) (row_at rows m) ≡ false → same_thing (thing_of t) (thing_at rows m) ≡ false
-  held_other k m e f = sym (row_alive (thing_of t) (row_at rows m) (h.holds.living k m e)) ∙ f
+  held_other k m e f = sym (row_alive (thing_of t) (row_at rows m) (h.holds.table.lives k m e)) ∙ f
 
   -- a row from which nothing is taken
   row_same : (k : ℕ) → is_row_of (thing_of t) (row_at rows k) ≡ false → ((m : ℕ) → is_held m (items_at rows k) ≡ true → same_thing (thing_of t) (thing_at rows m) ≡ false) → has_leaf (thing_of t) (items_at rows k) ≡ false →
@@ -317,7 +310,7 @@ module _ (rows : List Row) (owners : ℕ) (place : AThing → Option ℕ) (t : A
   held_is id k m e q = elim (cases_eq m id) [
     | inl w ↦ (row_is (thing_of t) (row_at rows m) (ap (λ j. is_row_of (thing_of t) (row_at rows j)) w ∙ e)).1 ∙ sym (eq-eqb m id w)
     | inr w ↦ elim (cases_Bool (same_thing (thing_of t) (thing_at rows m))) [
-      | inl s ↦ absurd (w (sym (only_row id m e (h.holds.living k m q) s)))
+      | inl s ↦ absurd (w (sym (only_row id m e (h.holds.table.lives k m q) s)))
       | inr s ↦ s ∙ sym (ne_eqb m id w)
     ]
   ]
@@ -389,11 +382,3 @@ module _ (rows : List Row) (owners : ℕ) (place : AThing → Option ℕ) (t : A
   -- it is the row under which the thing may stand
   pub at_outer : (id : ℕ) → hinted place t ≡ Some id → is_row_of (thing_of t) (row_at rows id) ≡ false → live_at rows id ≡ true → changed_at (sifted_row (is_leaf_of t)) id rows ≡ dropped (thing_of t) rows
   at_outer id e f l = leaf_dropped id (live_there rows id l) (not_there id e f) (λ k q. hint_one id k e (hint_leaf rows owners place t k h q))
-
--- a holder that lives stands in a row that is there
-pub above_there : (rows : List Row) (owners id : ℕ) → Holds rows owners → live_at rows id ≡ true → (o : Option ℕ) → o ≡ above_at rows id → IfSome o (λ n. n < length rows)
-above_there rows owners id h l None e = tt
-above_there rows owners id h l (Some p) e = elim (cases_lt p (length rows)) [
-  | inl lt ↦ lt
-  | inr le ↦ (let c = h.once p id l (sym e) in let n = ap (λ (r : Row). held_count id r.items) (row_past rows p le) in absurd (omega (arith, c, n)))
-]

@@ -1,5 +1,5 @@
 -- What holds of a store holds after things were taken back.
-use Rattle.std.proofs.Common.{◌≡◌, ℕ, zero, suc, get_or, ◌+◌, ◌<◌, ◌==◌, true, false, List, [], ◌∷◌, ◌++◌, length, Some, ◌⊎◌, inl, inr, eq-eqb, refl, sym, ap, subst, ◌∙◌, arith, cond}
+use Rattle.std.proofs.Common.{◌≡◌, ℕ, zero, suc, ◌+◌, ◌<◌, ◌==◌, true, false, List, [], ◌∷◌, ◌++◌, length, Some, ◌⊎◌, inl, inr, eq-eqb, refl, sym, ap, subst, ◌∙◌, arith, cond}
 use Rattle.std.proofs.lemmas.Bool.{cases_Bool, cases_eq, ne_eqb, or_left, or_right, true≢false}
 use Rattle.effect_model.specs.Owning.{Thing, same_thing}
 use Rattle.signal_model.specs.Standing.{is_in}
@@ -139,10 +139,6 @@ ended_held rows o m e = outer_ends rows (length rows) m o e
 
 -- ---- the rows afterwards
 
-pub ended_keeps : {A : Type 0} (P : Row → A) → ((r : Row) → P (ended_row r) ≡ P r) → (ns : List ℕ) (rows : List Row) (k : ℕ) → P (row_at (all_ended ns rows) k) ≡ P (row_at rows k)
-ended_keeps P h [] rows k = refl
-ended_keeps P h (n ∷ ns) rows k = ended_keeps P h ns (changed_at ended_row n rows) k ∙ changed_keeps P ended_row h n rows k
-
 ended_all : (P : Row → Type 0) → ((r : Row) → P r → P (ended_row r)) → (ns : List ℕ) (rows : List Row) → ((k : ℕ) → P (row_at rows k)) → (k : ℕ) → P (row_at (all_ended ns rows) k)
 ended_all P h [] rows all = all
 ended_all P h (n ∷ ns) rows all = ended_all P h ns (changed_at ended_row n rows) (changed_all P ended_row n rows (λ l. h (row_at rows n) (all n)) all)
@@ -182,8 +178,9 @@ emptied_here (r ∷ rs) zero = refl
 emptied_here (r ∷ rs) (suc n) = emptied_here rs n
 
 module _ (rows : List Row) (owners o : ℕ) (left : ℕ) (h : Holds rows owners) where
-  pub keeps : {A : Type 0} (P : Row → A) → ((r : Row) → P (ended_row r) ≡ P r) → ((r : Row) → P (emptied_row r) ≡ P r) → (k : ℕ) → P (row_at (with_taken_back rows o) k) ≡ P (row_at rows k)
-  keeps P f g k = changed_keeps P emptied_row g o (all_ended (ended_under rows o) rows) k ∙ ended_keeps P f (ended_under rows o) rows k
+  -- a row that doesn't end keeps what emptying keeps
+  pub keeps : {A : Type 0} (P : Row → A) → ((r : Row) → P (emptied_row r) ≡ P r) → (k : ℕ) → is_in k (ended_under rows o) ≡ false → P (row_at (with_taken_back rows o) k) ≡ P (row_at rows k)
+  keeps P g k e = changed_keeps P emptied_row g o (all_ended (ended_under rows o) rows) k ∙ ap P (other_row_at (ended_under rows o) rows k e)
 
   all_keep : (P : Row → Type 0) → ((r : Row) → P r → P (ended_row r)) → ((r : Row) → P r → P (emptied_row r)) → ((k : ℕ) → P (row_at rows k)) → (k : ℕ) → P (row_at (with_taken_back rows o) k)
   all_keep P f g all =
@@ -207,7 +204,7 @@ module _ (rows : List Row) (owners o : ℕ) (left : ℕ) (h : Holds rows owners)
   gone_there k e = changed_keeps (λ r. r.live) emptied_row (λ r. refl) o (all_ended (ended_under rows o) rows) k ∙ ap (λ (r : Row). r.live) (ended_row_at (ended_under rows o) rows k e)
 
   pub live_there_still : (k : ℕ) → is_in k (ended_under rows o) ≡ false → live_at (with_taken_back rows o) k ≡ live_at rows k
-  live_there_still k e = changed_keeps (λ r. r.live) emptied_row (λ r. refl) o (all_ended (ended_under rows o) rows) k ∙ ap (λ (r : Row). r.live) (other_row_at (ended_under rows o) rows k e)
+  live_there_still k e = keeps (λ r. r.live) (λ r. refl) k e
 
   -- what is held afterwards was held, and its holder neither ended nor was emptied
   pub still_held : (n m : ℕ) → is_held m (items_at (with_taken_back rows o) n) ≡ true → ((n ≡ o → ⊥) × (is_in n (ended_under rows o) ≡ false)) × (is_held m (items_at rows n) ≡ true)
@@ -251,19 +248,18 @@ module _ (rows : List Row) (owners o : ℕ) (left : ℕ) (h : Holds rows owners)
 
   pub taken_back_holds : left ≡ owner_count (all_ended (ended_under rows o) rows) → Holds (with_taken_back rows o) left
   taken_back_holds counted =
-      let above = keeps (λ r. r.above) (λ r. refl) (λ r. refl) in
-      let name = keeps (λ r. r.holder) (λ r. refl) (λ r. refl) in
+      let above = keeps (λ r. r.above) (λ r. refl) in
+      let name = keeps (λ r. r.holder) (λ r. refl) in
       record {
         table = record {
           later = λ n m e. h.table.later n m ((still_held n m e).1);
-          there = λ n m e. let x = h.table.there n m ((still_held n m e).1) in let l = taken_length in omega (arith, x, l);
+          lives = λ n m e. let s = still_held n m e in live_there_still m (held_lives n m s.0.0 s.0.1 s.1) ∙ h.table.lives n m s.1;
         };
         count = counted ∙ sym (count_emptied o (all_ended (ended_under rows o) rows));
-        living = λ n m e. let s = still_held n m e in live_there_still m (held_lives n m s.0.0 s.0.1 s.1) ∙ h.living n m s.1;
-        above = λ n m e. above m ∙ h.above n m ((still_held n m e).1);
+        above = λ n m e. let s = still_held n m e in above m (held_lives n m s.0.0 s.0.1 s.1) ∙ h.above n m s.1;
         once = λ n m e a.
             let l = lives_still m e in
-            let c = h.once n m l.1 (sym (above m) ∙ a) in
+            let c = h.once n m l.1 (sym (above m l.0) ∙ a) in
             let was = held_counted m (items_at rows n) c in
             elim (cases_eq n o) [
               | inl q ↦ absurd (true≢false (sym (ended_closed rows h.table o n m was (inl q)) ∙ l.0))
@@ -280,18 +276,7 @@ module _ (rows : List Row) (owners o : ℕ) (left : ℕ) (h : Holds rows owners)
           ]
         ];
         leaves = all_keep (λ r. AreLeaves r.items) (λ r a. tt) (λ r a. tt) h.leaves;
-        kinds = λ n e. ap is_holder (name n) ∙ h.kinds n ((lives_still n e).1);
-        numbers = λ n k e g. h.numbers n k ((lives_still n e).1) (sym (name n) ∙ g);
-        names = λ n m e g s. h.names n m ((lives_still n e).1) ((lives_still m g).1) (sym (λ j. same_thing (name n j) (name m j)) ∙ s);
+        kinds = λ n e. let l = lives_still n e in ap is_holder (name n l.0) ∙ h.kinds n l.1;
+        numbers = λ n k e g. let l = lives_still n e in h.numbers n k l.1 (sym (name n l.0) ∙ g);
+        names = λ n m e g s. let l = lives_still n e in let x = lives_still m g in h.names n m l.1 x.1 (sym (λ j. same_thing (name n l.0 j) (name m x.0 j)) ∙ s);
       }
-
--- each holder that ends has a row
-pub ended_there : (rows : List Row) → IsTable rows → (o : ℕ) → (ns : List ℕ) → ns ≡ ended_under rows o → (k d : ℕ) → k < length ns → get_or ns k d < length rows
-ended_there rows t o ns e k d l =
-    let x = ended_held rows o (get_or ns k d) (ap (is_in (get_or ns k d)) (sym e) ∙ is_among ns k d l) in
-    t.there x.above (get_or ns k d) x.held
-  where
-    is_among : (ms : List ℕ) (i d : ℕ) → i < length ms → is_in (get_or ms i d) ms ≡ true
-    is_among [] i d l = absurd (omega arith)
-    is_among (m ∷ ms) zero d l = or_left (m == m) (is_in m ms) (eq-eqb m m refl)
-    is_among (m ∷ ms) (suc i) d l = or_right (get_or ms i d == m) (is_in (get_or ms i d) ms) (is_among ms i d (let z : i < length ms = omega arith in z))

@@ -210,14 +210,14 @@ module _ (rows : List Row) (owners : ℕ) (h : Holds rows owners) where
   none_below zero o n l s q = ap (under (thing_at rows o)) (stands_past rows h.table n (omega (arith, s)))
   none_below (suc b) o n l s q = under_here (thing_at rows o) n ∙ given_none (part (thing_at rows) (stands_under rows) (thing_at rows o)) (items_at rows n) nothing
       (λ m e. let x = h.table.later n m e in
-      part_other o m l (h.living n m e) (λ z. absurd (omega (arith, x, z, q))) ∙ none_below b o m l (omega (arith, x, s)) (omega (arith, x, q)))
+      part_other o m l (h.table.lives n m e) (λ z. absurd (omega (arith, x, z, q))) ∙ none_below b o m l (omega (arith, x, s)) (omega (arith, x, q)))
 
   -- one at the top stands under none
   top_below : (b o n : ℕ) → live_at rows o ≡ true → above_at rows o ≡ None → length rows ≤ b + n → under (thing_at rows o) (stands_under rows n) ≡ nothing
   top_below zero o n l a s = ap (under (thing_at rows o)) (stands_past rows h.table n (omega (arith, s)))
   top_below (suc b) o n l a s = under_here (thing_at rows o) n ∙ given_none (part (thing_at rows) (stands_under rows) (thing_at rows o)) (items_at rows n) nothing
       (λ m e. let x = h.table.later n m e in
-      part_other o m l (h.living n m e) (λ z. let y : None ≡ Some n = sym a ∙ (ap (above_at rows) z ∙ h.above n m e) in cc) ∙ top_below b o m l a (omega (arith, x, s)))
+      part_other o m l (h.table.lives n m e) (λ z. let y : None ≡ Some n = sym a ∙ (ap (above_at rows) z ∙ h.above n m e) in cc) ∙ top_below b o m l a (omega (arith, x, s)))
 
   -- a holder stands only where the one does in which it stands
   through_items : (o p : ℕ) (is : List Item) → live_at rows o ≡ true → live_at rows p ≡ true → ((m : ℕ) → is_held m is ≡ true → (live_at rows m ≡ true) × (o ≡ m → ⊥)) →
@@ -241,7 +241,7 @@ module _ (rows : List Row) (owners : ℕ) (h : Holds rows owners) where
       let z = stands_here rows h.table n in
       ap (under (thing_at rows o)) z
       ∙ (through_items o p (items_at rows n) l k
-      (λ m e. (h.living n m e, λ w. q (let y : Some p ≡ Some n = sym a ∙ (ap (above_at rows) w ∙ h.above n m e) in cc)))
+      (λ m e. (h.table.lives n m e, λ w. q (let y : Some p ≡ Some n = sym a ∙ (ap (above_at rows) w ∙ h.above n m e) in cc)))
       (λ m e w. let x = h.table.later n m e in through b o p m l k a (omega (arith, x, s)) w)
       ∙ sym (ap (λ x. under (thing_at rows o) (under (thing_at rows p) x)) z))
 
@@ -251,7 +251,7 @@ module _ (rows : List Row) (owners : ℕ) (h : Holds rows owners) where
       under_here (thing_at rows o) p
       ∙ (given_one (part (thing_at rows) (stands_under rows) (thing_at rows o)) o (items_at rows p) (h.once p o l a)
       (λ m e q. let x = h.table.later p m e in
-      part_other o m l (h.living p m e) (λ w. q (sym w))
+      part_other o m l (h.table.lives p m e) (λ w. q (sym w))
       ∙ (through (length rows) o p m l k a (omega arith) (λ w. absurd (omega (arith, w, x)))
       ∙ ap (under (thing_at rows o)) (none_below (length rows) p m k (omega arith) (omega (arith, x)))))
       ∙ part_same o o l l refl)

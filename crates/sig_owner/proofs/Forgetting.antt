@@ -107,7 +107,7 @@ pub record LeafOf (rows : List Row) (ended : List ℕ) (o : ℕ) (t : Thing) : T
 leaf_from : (rows : List Row) (owners : ℕ) (t : Thing) → Holds rows owners → is_holder t ≡ false → (l o : ℕ) → is_ended t (steps_undoings (thing_at rows) (steps_within l rows o)) ≡ true → LeafOf rows (left_in (steps_within l rows o)) o t
 leaf_from rows owners t h k zero o e = absurd (true≢false (sym e))
 leaf_from rows owners t h k (suc l) o e =
-    elim (ended_item t (thing_at rows) (steps_within l rows) o (items_at rows o) (λ m q. no_holder m (h.living o m q)) e) [
+    elim (ended_item t (thing_at rows) (steps_within l rows) o (items_at rows o) (λ m q. no_holder m (h.table.lives o m q)) e) [
       | inl x ↦ record { row = o; stood = x; which = inl refl }
       | inr x ↦ (let y = leaf_from rows owners t h k l x.0 x.1.1 in record {
         row = y.row;
@@ -166,6 +166,6 @@ module _ (rows : List Row) (owners o left : ℕ) (place place' : AThing → Opti
     holds = subst (λ rs. Holds rs left) (sym e) (taken_back_holds rows owners o left k.holds n);
     placed = subst (λ rs. ArePlaced rs place') (sym e) (record {
       leaves = leaf_place;
-      effects = λ m c l q. effect_place m c l (sym (keeps rows owners o left k.holds (λ r. r.holder) (λ r. refl) (λ r. refl) m) ∙ q);
+      effects = λ m c l q. effect_place m c l (sym (keeps rows owners o left k.holds (λ r. r.holder) (λ r. refl) m (lives_still rows owners o left k.holds m l).0) ∙ q);
     });
   }

@@ -45,11 +45,11 @@ emptied_piled names f t (leaf u ∷ is) e = emptied_piled names f t is (thing u 
     none false = refl
 
 module _ (rows : List Row) (owners o : ℕ) (h : Holds rows owners) (live : live_at rows o ≡ true) (table : IsTable (with_taken_back rows o)) where
-  name_back : (k : ℕ) → thing_at (with_taken_back rows o) k ≡ thing_at rows k
-  name_back = keeps rows owners o owners h (λ r. r.holder) (λ r. refl) (λ r. refl)
+  name_back : (k : ℕ) → is_in k (ended_under rows o) ≡ false → thing_at (with_taken_back rows o) k ≡ thing_at rows k
+  name_back = keeps rows owners o owners h (λ r. r.holder) (λ r. refl)
 
-  above_back : (k : ℕ) → above_at (with_taken_back rows o) k ≡ above_at rows k
-  above_back = keeps rows owners o owners h (λ r. r.above) (λ r. refl) (λ r. refl)
+  above_back : (k : ℕ) → is_in k (ended_under rows o) ≡ false → above_at (with_taken_back rows o) k ≡ above_at rows k
+  above_back = keeps rows owners o owners h (λ r. r.above) (λ r. refl)
 
   -- one of the items that are left
   kept_item : (m : ℕ) → live_at rows m ≡ true → ((o ≡ m → ⊥) → stands_under (with_taken_back rows o) m ≡ emptied (thing_at rows o) (stands_under rows m)) →
@@ -68,8 +68,8 @@ module _ (rows : List Row) (owners o : ℕ) (h : Holds rows owners) (live : live
       stands_here (with_taken_back rows o) table n
       ∙ (ap (λ (r : Row). piled (thing_at (with_taken_back rows o)) (stands_under (with_taken_back rows o)) r.items nothing) (outside rows owners o owners h n (λ z. q (sym z)) x)
       ∙ (piled_same (thing_at (with_taken_back rows o)) (thing_at rows) (stands_under (with_taken_back rows o)) (kept (thing_at rows) (stands_under rows) (thing_at rows o)) (items_at rows n) nothing
-      (λ m e. let y = h.table.later n m e in
-      (name_back m, kept_item m (h.living n m e) (λ w. back_under b m (omega (arith, y, s)) w (held_lives rows owners o owners h n m (λ z. q (sym z)) x e))))
+      (λ m e. let y = h.table.later n m e in let l = held_lives rows owners o owners h n m (λ z. q (sym z)) x e in
+      (name_back m l, kept_item m (h.table.lives n m e) (λ w. back_under b m (omega (arith, y, s)) w l)))
       ∙ sym (ap (emptied (thing_at rows o)) (stands_here rows h.table n) ∙ emptied_piled (thing_at rows) (stands_under rows) (thing_at rows o) (items_at rows n) nothing)))
 
   top_stays : (k : ℕ) → is_top (row_at (with_taken_back rows o) k) ≡ is_top (row_at rows k)
@@ -77,7 +77,7 @@ module _ (rows : List Row) (owners o : ℕ) (h : Holds rows owners) (live : live
     | inl x ↦ (let z = ended_held rows o k x in
         (λ i. (gone_there rows owners o owners h k x i) && not (is_some (above_at (with_taken_back rows o) k)))
         ∙ sym (ap (λ a. live_at rows k && not (is_some a)) (h.above z.above k z.held) ∙ off (live_at rows k)))
-    | inr x ↦ (λ i. (live_there_still rows owners o owners h k x i) && not (is_some (above_back k i)))
+    | inr x ↦ (λ i. (live_there_still rows owners o owners h k x i) && not (is_some (above_back k x i)))
   ]
     where
       off : (b : Bool) → (b && false) ≡ false
@@ -96,7 +96,7 @@ module _ (rows : List Row) (owners o : ℕ) (h : Holds rows owners) (live : live
   emptied_is =
       ap (λ is. piled (thing_at (with_taken_back rows o)) (stands_under (with_taken_back rows o)) is nothing) (tops_same (with_taken_back rows o) rows 0 (taken_length rows owners o owners h) top_stays)
       ∙ (piled_same (thing_at (with_taken_back rows o)) (thing_at rows) (stands_under (with_taken_back rows o)) (kept (thing_at rows) (stands_under rows) (thing_at rows o)) (top_items 0 rows) nothing
-      (λ m e. let t = top_lives rows owners h m e in (name_back m, kept_item m t.0 (λ w. back_under (length rows) m (omega arith) w (top_not_ended m t.1))))
+      (λ m e. let t = top_lives rows owners h m e in let l = top_not_ended m t.1 in (name_back m l, kept_item m t.0 (λ w. back_under (length rows) m (omega arith) w l)))
       ∙ sym (emptied_piled (thing_at rows) (stands_under rows) (thing_at rows o) (top_items 0 rows) nothing))
 
 -- ---- a thing is taken out
@@ -143,8 +143,8 @@ module _ (rows : List Row) (owners : ℕ) (t : Thing) (h : Holds rows owners) (t
       stands_here (dropped t rows) table n
       ∙ (ap (λ (r : Row). piled (thing_at (dropped t rows)) (stands_under (dropped t rows)) r.items nothing) (in_kept rows owners owners t h n q)
       ∙ (piled_same (thing_at (dropped t rows)) (thing_at rows) (stands_under (dropped t rows)) (λ m. taken_out t (stands_under rows m)) (without (thing_at rows) t (items_at rows n)) nothing
-      (λ m e. let w = held_left (thing_at rows) t m (items_at rows n) e in let y = h.table.later n m w.0 in
-      (name_kept rows owners owners t h m, out_under b m (omega (arith, y, s)) (other_row rows owners owners t h m (h.living n m w.0) w.1)))
+      (λ m e. let w = held_left (thing_at rows) t m (items_at rows n) e in let y = h.table.later n m w.0 in let f = other_row rows owners owners t h m (h.table.lives n m w.0) w.1 in
+      (name_kept rows owners owners t h m f, out_under b m (omega (arith, y, s)) f))
       ∙ sym (ap (taken_out t) (stands_here rows h.table n) ∙ taken_piled (thing_at rows) (stands_under rows) t (items_at rows n) nothing)))
 
   top_left : (j : ℕ) → is_top (row_at (dropped t rows) j) ≡ (is_top (row_at rows j) && not (same_thing t (thing_at rows j)))
@@ -170,8 +170,8 @@ module _ (rows : List Row) (owners : ℕ) (t : Thing) (h : Holds rows owners) (t
       ap (λ is. piled (thing_at (dropped t rows)) (stands_under (dropped t rows)) is nothing)
       (tops_without (thing_at rows) t rows (dropped t rows) 0 (dropped_length t rows) (λ j lt. ap (thing_at rows) (let e : 0 + j ≡ j = omega arith in e)) top_left)
       ∙ (piled_same (thing_at (dropped t rows)) (thing_at rows) (stands_under (dropped t rows)) (λ m. taken_out t (stands_under rows m)) (without (thing_at rows) t (top_items 0 rows)) nothing
-      (λ m e. let w = held_left (thing_at rows) t m (top_items 0 rows) e in
-      (name_kept rows owners owners t h m, out_under (length rows) m (omega arith) (other_row rows owners owners t h m (top_lives rows owners h m w.0).0 w.1)))
+      (λ m e. let w = held_left (thing_at rows) t m (top_items 0 rows) e in let f = other_row rows owners owners t h m (top_lives rows owners h m w.0).0 w.1 in
+      (name_kept rows owners owners t h m f, out_under (length rows) m (omega arith) f))
       ∙ sym (taken_piled (thing_at rows) (stands_under rows) t (top_items 0 rows) nothing))
 
 -- ---- one more is put under a holder
@@ -199,7 +199,8 @@ laid_earlier names f (held m) x = refl
 laid_earlier names f (leaf t) x = refl
 laid_earlier names f (noted c) x = refl
 
-tops_leaf : (t : Thing) (k : ℕ) (rs : List Row) → has_leaf t (top_items k rs) ≡ false
+-- no thing that holds nothing is among the holders at the top
+pub tops_leaf : (t : Thing) (k : ℕ) (rs : List Row) → has_leaf t (top_items k rs) ≡ false
 tops_leaf t k [] = refl
 tops_leaf t k (r ∷ rs) = by (is_top r) (tops_leaf t (k + 1) rs)
   where
@@ -215,7 +216,7 @@ alike_under rows rows' t t' le names low same (suc b) n s q =
     stands_here rows' t' n
     ∙ (ap (λ is. piled (thing_at rows') (stands_under rows') is nothing) (same n q)
     ∙ (piled_same (thing_at rows') (thing_at rows) (stands_under rows') (stands_under rows) (items_at rows n) nothing
-    (λ m e. let x = t.later n m e in let y = t.there n m e in (names m y, alike_under rows rows' t t' le names low same b m (omega (arith, x, s)) (omega (arith, x, q))))
+    (λ m e. let x = t.later n m e in let y = live_there rows m (t.lives n m e) in (names m y, alike_under rows rows' t t' le names low same b m (omega (arith, x, s)) (omega (arith, x, q))))
     ∙ sym (stands_here rows t n)))
 
 -- rows with one item more under one holder
@@ -242,7 +243,7 @@ module _ (rows rows' : List Row) (owners o : ℕ) (i : Item) (h : Holds rows own
       ∙ (ap (laid (thing_at rows') (stands_under rows') i)
       (piled_same (thing_at rows') (thing_at rows) (stands_under rows') (stands_under rows) (items_at rows o) nothing
       (λ m e. let x = h.table.later o m e in
-      (p.names m (h.table.there o m e), alike_under rows rows' h.table p.table p.more p.names (suc o) (λ n q. p.others n (λ z. absurd (omega (arith, q, z)))) (length rows') m (omega arith) (omega (arith, x))))
+      (p.names m (live_there rows m (h.table.lives o m e)), alike_under rows rows' h.table p.table p.more p.names (suc o) (λ n q. p.others n (λ z. absurd (omega (arith, q, z)))) (length rows') m (omega arith) (omega (arith, x))))
       ∙ sym (stands_here rows h.table o))
       ∙ laid_earlier (thing_at rows') (stands_under rows') i (stands_under rows o))))
 
@@ -263,7 +264,7 @@ module _ (rows rows' : List Row) (owners o : ℕ) (i : Item) (h : Holds rows own
       stands_here rows' p.table n
       ∙ (ap (λ is. piled (thing_at rows') (stands_under rows') is nothing) (p.others n q)
       ∙ (piled_same (thing_at rows') (thing_at rows) (stands_under rows') (grown (thing_at rows) (stands_under rows) (thing_at rows o) (laid (thing_at rows') (stands_under rows') i nothing)) (items_at rows n) nothing
-      (λ m e. let x = h.table.later n m e in (p.names m (h.table.there n m e), grown_item m (h.living n m e) (λ w. put_there b m (omega (arith, x, s)) w)))
+      (λ m e. let x = h.table.later n m e in (p.names m (live_there rows m (h.table.lives n m e)), grown_item m (h.table.lives n m e) (λ w. put_there b m (omega (arith, x, s)) w)))
       ∙ sym (ap (put_under (thing_at rows o) (laid (thing_at rows') (stands_under rows') i nothing)) (stands_here rows h.table n)
       ∙ put_piled (thing_at rows) (stands_under rows) (thing_at rows o) (laid (thing_at rows') (stands_under rows') i nothing) (items_at rows n) nothing (has_none n))))
 

@@ -51,10 +51,9 @@ item_holds rows owners n i p live h =
     record {
       table = record {
         later = λ k m e. h.table.later k m (sym (q m k) ∙ e);
-        there = λ k m e. let x = h.table.there k m (sym (q m k) ∙ e) in omega (arith, x, changed_length f n rows);
+        lives = λ k m e. l m ∙ h.table.lives k m (sym (q m k) ∙ e);
       };
       count = h.count ∙ sym (count_item i n rows);
-      living = λ k m e. l m ∙ h.living k m (sym (q m k) ∙ e);
       above = λ k m e. a m ∙ h.above k m (sym (q m k) ∙ e);
       once = λ k m e g. c m k ∙ h.once k m (sym (l m) ∙ e) (sym (a m) ∙ g);
       empty = changed_all (λ r. r.live ≡ false → r.items ≡ []) f n rows (λ x e. absurd (true≢false (sym live ∙ e))) h.empty;
@@ -193,7 +192,7 @@ module _ (rows : List Row) (owners : ℕ) (inside : Option ℕ) (t : Thing) (new
   within n e = live_there rows n (sym (ap (is_open rows) e) ∙ may)
 
   other : (n m : ℕ) → is_held m (items_at rows n) ≡ true → m ≡ length rows → ⊥
-  other n m e q = let l = h.table.there n m e in omega (arith, l, q)
+  other n m e q = let l = live_there rows m (h.table.lives n m e) in omega (arith, l, q)
 
   stood : (n m : ℕ) → is_held m (items_at (with_holder rows inside t) n) ≡ true → (is_held m (items_at rows n) ≡ true) ⊎ ((m ≡ length rows) × (inside ≡ Some n))
   stood n m e = elim (holder_row rows inside t n) [
@@ -247,10 +246,9 @@ module _ (rows : List Row) (owners : ℕ) (inside : Option ℕ) (t : Thing) (new
   holder_holds = record {
     table = record {
       later = λ n m e. elim (stood n m e) [ inl x ↦ h.table.later n m x | inr x ↦ (let l = within n x.1 in omega (arith, l, x.0)) ];
-      there = λ n m e. let l = size in elim (stood n m e) [ inl x ↦ (let k = h.table.there n m x in omega (arith, k, l)) | inr x ↦ omega (arith, l, x.0) ];
+      lives = λ n m e. elim (stood n m e) [ inl x ↦ live m (other n m x) ∙ h.table.lives n m x | inr x ↦ ap (λ (r : Row). r.live) (last m x.0) ];
     };
     count = ap (λ (k : ℕ). k + cond (is_owner t) 1 0) (h.count ∙ sym (count_inside inside (held (length rows)) rows)) ∙ sym (count_last (put_inside inside (held (length rows)) rows) (above_row t inside));
-    living = λ n m e. elim (stood n m e) [ inl x ↦ live m (other n m x) ∙ h.living n m x | inr x ↦ ap (λ (r : Row). r.live) (last m x.0) ];
     above = λ n m e. elim (stood n m e) [ inl x ↦ above m (other n m x) ∙ h.above n m x | inr x ↦ ap (λ (r : Row). r.above) (last m x.0) ∙ x.1 ];
     once = λ n m l a. elim (cases_eq m (length rows)) [ inl e ↦ once_last n m e a | inr ne ↦ once_other n m ne l a ];
     empty = λ n e. elim (holder_row rows inside t n) [

@@ -41,7 +41,7 @@ items_are rows f n (held k ∷ is) a h =
 levels_are : (rows : List Row) (owners : ℕ) → Holds rows owners → (l n : ℕ) → AreSteps rows (steps_within l rows n)
 unfolding AreSteps
 levels_are rows owners h zero n = tt
-levels_are rows owners h (suc l) n = items_are rows (steps_within l rows) n (items_at rows n) (h.leaves n) (λ m q. (h.living n m q, levels_are rows owners h l m))
+levels_are rows owners h (suc l) n = items_are rows (steps_within l rows) n (items_at rows n) (h.leaves n) (λ m q. (h.table.lives n m q, levels_are rows owners h l m))
 
 ended_is : (rows : List Row) (owners n : ℕ) → Holds rows owners → live_at rows n ≡ true → (ss : List Step) → AreSteps rows ss → is_ended (thing_at rows n) (steps_undoings (thing_at rows) ss) ≡ is_in n (left_in ss)
 unfolding AreSteps
@@ -63,7 +63,7 @@ lasting rows owners o h n = elim (cases_Bool (live_at rows n)) [
         | inr q ↦ live_there_still rows owners o owners h n q ∙ (l ∙ rw l (sym (ap not (e ∙ q))))
       ])
   | inr l ↦ elim (cases_Bool (is_in n (left_in (steps_within (length rows) rows o)))) [
-    | inl q ↦ (let x = ended_held rows o n q in absurd (true≢false (sym (h.living x.above n x.held) ∙ l)))
+    | inl q ↦ (let x = ended_held rows o n q in absurd (true≢false (sym (h.table.lives x.above n x.held) ∙ l)))
     | inr q ↦ live_there_still rows owners o owners h n q ∙ (l ∙ rw l refl)
   ]
 ]

@@ -11,6 +11,7 @@ mod Standing
 mod Lasting
 mod Forgetting
 mod Growing
+mod Absent
 mod Looks
 mod TreeLaws
 mod Renamed

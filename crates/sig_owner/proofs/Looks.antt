@@ -1,13 +1,14 @@
--- How the rows look after each edit: how many there are, which thing each is, and which live.
+-- How the rows look after each edit: how many there are, which live, and which thing each of these is.
 use Rattle.std.proofs.Common.{◌≡◌, ℕ, ◌&&◌, Bool, true, false, List, length, Option, refl, sym, ap, ◌∙◌, inl, inr}
 use Rattle.std.specs.Prelude.{not}
-use Rattle.std.proofs.lemmas.Bool.{cases_Bool}
+use Rattle.std.proofs.lemmas.Bool.{cases_Bool, true≢false}
+use Rattle.signal_model.specs.Standing.{is_in}
 use Rattle.effect_model.specs.Owning.{Thing, same_thing}
 use Rattle.sig_owner.specs.Tables.{Item, held, Row, changed_at, dropped, emptied_row, is_row_of, live_at, row_at, thing_at, with_holder, with_item}
 use Rattle.sig_owner.specs.Walks.{ended_under, with_taken_back}
 use Rattle.sig_owner.proofs.Counting.{ended_length}
 use Rattle.sig_owner.proofs.Dropping.{dropped_at, row_in, row_is, row_out}
-use Rattle.sig_owner.proofs.Ending.{ended_keeps}
+use Rattle.sig_owner.proofs.Ending.{ended_row_at, other_row_at}
 use Rattle.sig_owner.proofs.Holding.{holder_row, inside_keeps}
 use Rattle.sig_owner.proofs.Reading.{changed_keeps, changed_length}
 
@@ -44,18 +45,21 @@ new_lives rows inside t = elim (holder_row rows inside t (length rows)) [ inl x 
 
 -- ---- things taken back
 
-pub taken_back_thing : (rows : List Row) (n k : ℕ) → thing_at (with_taken_back rows n) k ≡ thing_at rows k
-taken_back_thing rows n k = changed_keeps (λ r. r.holder) emptied_row (λ r. refl) n _ k ∙ ended_keeps (λ r. r.holder) (λ r. refl) (ended_under rows n) rows k
+pub taken_back_thing : (rows : List Row) (n k : ℕ) → live_at (with_taken_back rows n) k ≡ true → thing_at (with_taken_back rows n) k ≡ thing_at rows k
+taken_back_thing rows n k e = elim (cases_Bool (is_in k (ended_under rows n))) [
+  | inl x ↦ absurd (true≢false (sym e ∙ (changed_keeps (λ r. r.live) emptied_row (λ r. refl) n _ k ∙ ap (λ (r : Row). r.live) (ended_row_at (ended_under rows n) rows k x))))
+  | inr x ↦ changed_keeps (λ r. r.holder) emptied_row (λ r. refl) n _ k ∙ ap (λ (r : Row). r.holder) (other_row_at (ended_under rows n) rows k x)
+]
 
 pub taken_back_length : (rows : List Row) (n : ℕ) → length (with_taken_back rows n) ≡ length rows
 taken_back_length rows n = changed_length emptied_row n _ ∙ ended_length (ended_under rows n) rows
 
 -- ---- one thing taken out
 
-pub dropped_thing : (t : Thing) (rows : List Row) (k : ℕ) → thing_at (dropped t rows) k ≡ thing_at rows k
-dropped_thing t rows k = ap (λ (r : Row). r.holder) (dropped_at t rows k) ∙ elim (cases_Bool (is_row_of t (row_at rows k))) [
-  | inl q ↦ ap (λ (r : Row). r.holder) (row_out (thing_at rows) t (row_at rows k) q)
-  | inr q ↦ ap (λ (r : Row). r.holder) (row_in (thing_at rows) t (row_at rows k) q)
+pub dropped_thing : (t : Thing) (rows : List Row) (k : ℕ) → live_at (dropped t rows) k ≡ true → thing_at (dropped t rows) k ≡ thing_at rows k
+dropped_thing t rows k e = elim (cases_Bool (is_row_of t (row_at rows k))) [
+  | inl q ↦ absurd (true≢false (sym e ∙ ap (λ (r : Row). r.live) (dropped_at t rows k ∙ row_out (thing_at rows) t (row_at rows k) q)))
+  | inr q ↦ ap (λ (r : Row). r.holder) (dropped_at t rows k ∙ row_in (thing_at rows) t (row_at rows k) q)
 ]
 
 pub dropped_lives : (t : Thing) (rows : List Row) (k : ℕ) → live_at (dropped t rows) k ≡ (live_at rows k && not (same_thing t (thing_at rows k)))

@@ -1,23 +1,50 @@
 -- The rows of holders are read and written as the holders are.
-use Rattle.std.proofs.Common.{◌≡◌, ℕ, zero, suc, ◌<◌, ◌≤◌, Bool, cond, true, false, List, [], ◌∷◌, ◌++◌, length, refl, sym, ap, ◌∙◌, arith}
-use Rattle.std.specs.Prelude.{slice_index_or, slice_set}
+use Rattle.std.proofs.Common.{◌≡◌, ℕ, zero, suc, ◌<◌, ◌≤◌, Bool, cond, true, false, List, [], ◌∷◌, ◌++◌, length, Option, Some, None, IsSome, IfSome, IfNone, Bor, refl, sym, ap, ◌∙◌, arith}
+use Rattle.std.specs.Prelude.{filter, not, slice_set}
+use Rattle.std.specs.Option.{option_copied}
+use Rattle.std.proofs.lemmas.Bool.{true≢false}
+use Rattle.sig_store.specs.Stored.{entry}
 use Rattle.sig_owner.specs.declared.holder.Holder.{Holder}
-use Rattle.std.specs.Prelude.{filter, not}
 use Rattle.sig_owner.specs.declared.holder.Made.{Made}
-use Rattle.sig_owner.specs.Tables.{Item, Row, changed_at, item_of, items_of, no_row, row_at, row_of, rows_of}
+use Rattle.sig_owner.specs.Tables.{Item, Row, changed_at, ended_row, entry_row, item_of, items_of, live_at, no_row, row_at, row_of, rows_of}
 
-pub rows_length : (hs : List Holder) → length (rows_of hs) ≡ length hs
+-- a row for each number
+pub rows_length : (es : List (Option Holder)) → length (rows_of es) ≡ length es
 rows_length [] = refl
-rows_length (h ∷ hs) = ap suc (rows_length hs)
+rows_length (e ∷ es) = ap suc (rows_length es)
 
--- the row of a holder that was read
-pub row_read : (hs : List Holder) (n i : ℕ) (h : Holder) → i ≡ n → n < length hs → h ≡ slice_index_or hs i h → row_of h ≡ row_at (rows_of hs) n
-row_read hs n i h e l is = ap row_of (is ∙ ap (λ k. slice_index_or hs k h) e) ∙ go hs n l
+-- one more
+pub rows_push : (es : List (Option Holder)) (h : Holder) → rows_of (es ++ Some h ∷ []) ≡ rows_of es ++ row_of h ∷ []
+rows_push [] h = refl
+rows_push (e ∷ es) h = ap (λ (rs : List Row). entry_row e ∷ rs) (rows_push es h)
+
+row_entry : (es : List (Option Holder)) (n : ℕ) → row_at (rows_of es) n ≡ entry_row (entry es n)
+row_entry [] n = refl
+row_entry (e ∷ es) zero = refl
+row_entry (e ∷ es) (suc n) = row_entry es n
+
+row_found : (es : List (Option Holder)) (n i : ℕ) (o : Option (Bor Holder)) → i ≡ n → option_copied o ≡ entry es i → row_at (rows_of es) n ≡ entry_row (option_copied o)
+row_found es n i o e is = ap (row_at (rows_of es)) (sym e) ∙ (row_entry es i ∙ ap entry_row (sym is))
+
+-- a look at a number finds the holder whose row it is
+pub found_holder : (es : List (Option Holder)) (n i : ℕ) (o : Option (Bor Holder)) → i ≡ n → option_copied o ≡ entry es i → IfSome o (λ h. row_at (rows_of es) n ≡ row_of h.now)
+found_holder es n i None e is = tt
+found_holder es n i (Some h) e is = row_found es n i (Some h) e is
+
+-- where it finds none nothing is left
+pub found_nobody : (es : List (Option Holder)) (n i : ℕ) (o : Option (Bor Holder)) → i ≡ n → option_copied o ≡ entry es i → IfNone o (row_at (rows_of es) n ≡ no_row)
+found_nobody es n i None e is = row_found es n i None e is
+found_nobody es n i (Some h) e is = tt
+
+-- what lives stands there
+pub live_stands : (es : List (Option Holder)) (n i : ℕ) → i ≡ n → live_at (rows_of es) n ≡ true → IsSome (entry es i)
+live_stands es n i e l = go es i (ap (live_at (rows_of es)) e ∙ l)
   where
-    go : (ys : List Holder) (k : ℕ) → k < length ys → row_of (slice_index_or ys k h) ≡ row_at (rows_of ys) k
-    go [] k l = absurd (omega arith)
-    go (y ∷ ys) zero l = refl
-    go (y ∷ ys) (suc k) l = let z : k < length ys = omega arith in go ys k z
+    go : (xs : List (Option Holder)) (k : ℕ) → live_at (rows_of xs) k ≡ true → IsSome (entry xs k)
+    go [] k q = absurd (true≢false (sym q))
+    go (None ∷ xs) zero q = absurd (true≢false (sym q))
+    go (Some h ∷ xs) zero q = refl
+    go (x ∷ xs) (suc k) q = go xs k q
 
 -- past the last
 pub row_past : (rows : List Row) (n : ℕ) → length rows ≤ n → row_at rows n ≡ no_row
@@ -26,14 +53,29 @@ row_past (r ∷ rs) zero h = absurd (omega arith)
 row_past (r ∷ rs) (suc n) h = row_past rs n (omega arith)
 
 -- the rows after a holder was written
-pub written : (hs : List Holder) (n i : ℕ) (h y : Holder) (f : Row → Row) → i ≡ n → n < length hs → h ≡ slice_index_or hs i h → row_of y ≡ f (row_of h) →
-    rows_of (slice_set hs i y) ≡ changed_at f n (rows_of hs)
-written hs n i h y f e l is made = ap (λ k. rows_of (slice_set hs k y)) e ∙ go hs n l (made ∙ ap f (row_read hs n i h e l is))
+pub written : (es : List (Option Holder)) (n i : ℕ) (h y : Holder) (f : Row → Row) → i ≡ n → entry es i ≡ Some h → row_of y ≡ f (row_of h) → rows_of (slice_set es i (Some y)) ≡ changed_at f n (rows_of es)
+written es n i h y f e is made = go es i is ∙ ap (λ k. changed_at f k (rows_of es)) e
   where
-    go : (ys : List Holder) (k : ℕ) → k < length ys → row_of y ≡ f (row_at (rows_of ys) k) → rows_of (slice_set ys k y) ≡ changed_at f k (rows_of ys)
-    go [] k l q = absurd (omega arith)
-    go (z ∷ zs) zero l q = ap (λ (r : Row). r ∷ rows_of zs) q
-    go (z ∷ zs) (suc k) l q = let m : k < length zs = omega arith in ap (λ (rs : List Row). row_of z ∷ rs) (go zs k m q)
+    go : (xs : List (Option Holder)) (k : ℕ) → entry xs k ≡ Some h → rows_of (slice_set xs k (Some y)) ≡ changed_at f k (rows_of xs)
+    go [] k q = refl
+    go (x ∷ xs) zero q = ap (λ (r : Row). r ∷ rows_of xs) (made ∙ ap (λ o. f (entry_row o)) (sym q))
+    go (x ∷ xs) (suc k) q = ap (λ (rs : List Row). entry_row x ∷ rs) (go xs k q)
+
+-- after one was taken out
+pub removed : (es : List (Option Holder)) (n i : ℕ) → i ≡ n → rows_of (slice_set es i None) ≡ changed_at ended_row n (rows_of es)
+removed es n i e = go es i ∙ ap (λ k. changed_at ended_row k (rows_of es)) e
+  where
+    go : (xs : List (Option Holder)) (k : ℕ) → rows_of (slice_set xs k None) ≡ changed_at ended_row k (rows_of xs)
+    go [] k = refl
+    go (x ∷ xs) zero = refl
+    go (x ∷ xs) (suc k) = ap (λ (rs : List Row). entry_row x ∷ rs) (go xs k)
+
+-- an edit that leaves alone what is gone does nothing where nothing lives
+pub untouched : (f : Row → Row) → f no_row ≡ no_row → (es : List (Option Holder)) (n : ℕ) → live_at (rows_of es) n ≡ false → rows_of es ≡ changed_at f n (rows_of es)
+untouched f z [] n e = refl
+untouched f z (None ∷ es) zero e = ap (λ (r : Row). r ∷ rows_of es) (sym z)
+untouched f z (Some h ∷ es) zero e = absurd (true≢false e)
+untouched f z (x ∷ es) (suc n) e = ap (λ (rs : List Row). entry_row x ∷ rs) (untouched f z es n e)
 
 -- ---- a row after an edit
 
@@ -60,12 +102,8 @@ changed_same zero (r ∷ rs) = refl
 changed_same (suc n) (r ∷ rs) = ap (λ (xs : List Row). r ∷ xs) (changed_same n rs)
 
 -- the rows after a holder was written as it was
-pub unwritten : (hs : List Holder) (n i : ℕ) (h y : Holder) → i ≡ n → n < length hs → h ≡ slice_index_or hs i h → row_of y ≡ row_of h → rows_of (slice_set hs i y) ≡ rows_of hs
-unwritten hs n i h y e l is same = written hs n i h y (λ r. r) e l is same ∙ changed_same n (rows_of hs)
-
--- the same of an element of the list
-pub row_got : (hs : List Holder) (n i : ℕ) (h : Holder) → i ≡ n → n < length hs → h ≡ slice_index_or hs i h → row_of (slice_index_or hs i h) ≡ row_at (rows_of hs) n
-row_got hs n i h e l is = ap row_of (sym is) ∙ row_read hs n i h e l is
+pub unwritten : (es : List (Option Holder)) (n i : ℕ) (h y : Holder) → i ≡ n → entry es i ≡ Some h → row_of y ≡ row_of h → rows_of (slice_set es i (Some y)) ≡ rows_of es
+unwritten es n i h y e is same = written es n i h y (λ r. r) e is same ∙ changed_same n (rows_of es)
 
 -- what an edit of one row keeps of it is kept everywhere
 pub changed_keeps : {A : Type 0} (P : Row → A) (f : Row → Row) → ((r : Row) → P (f r) ≡ P r) → (n : ℕ) (rows : List Row) (k : ℕ) → P (row_at (changed_at f n rows) k) ≡ P (row_at rows k)

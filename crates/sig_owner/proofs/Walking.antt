@@ -5,7 +5,7 @@ use Rattle.std.proofs.lemmas.List.{map-append, take_more}
 use Rattle.std.proofs.Math.Seq.{take-length}
 use Rattle.effect_model.specs.Owning.{Thing, Undoing, ends}
 use Rattle.sig_owner.specs.declared.walk.Pending.{Pending}
-use Rattle.sig_owner.specs.Tables.{Item, held, leaf, noted, Row, items_at, thing_at}
+use Rattle.sig_owner.specs.Tables.{Item, held, leaf, noted, Row, items_at, live_at, thing_at}
 use Rattle.sig_owner.specs.declared.thing.Undoing.{Undoing as AnUndoing}
 use Rattle.sig_owner.specs.declared.walk.Walk.{Walk}
 use Rattle.sig_owner.specs.Walks.{Step, does, leaves, ArePending, GoesOn, IsPending, IsTable, IsWalk, rest, work, closed, is_held, item_steps, items_steps, left_in, pending_steps, rest_of, steps_at, steps_under, steps_undoings, steps_within, told, undoing_of, undoings_of, unwound}
@@ -132,7 +132,7 @@ entered_rest rows t w v m lt is a l p = (λ i. rest_of rows (a i) (l i) (p i)) �
 pub entered_walk : (rows : List Row) → IsTable rows → (w v : Walk) (m : ℕ) → IsWalk rows w → w.left < length (items_at rows w.at) → held m ≡ get_or (items_at rows w.at) w.left (held m) →
     v.at ≡ m → v.left ≡ length (items_at rows m) → v.pending.items ≡ w.pending.items ++ record { holder = w.at; left = w.left; inner = m } ∷ [] → IsWalk rows v
 entered_walk rows t w v m ok lt is a l p =
-    let there : m < length rows = t.there w.at m (held_at (items_at rows w.at) w.left m lt is) in
+    let there : live_at rows m ≡ true = t.lives w.at m (held_at (items_at rows w.at) w.left m lt is) in
     record {
       left = let e : v.left ≡ length (items_at rows v.at) = l ∙ ap (λ n. length (items_at rows n)) (sym a) in omega (arith, e);
       pending = subst (ArePending rows) (sym p) (pending_more rows w.pending.items (record { holder = w.at; left = w.left; inner = m }) ok.pending (omega arith, there));

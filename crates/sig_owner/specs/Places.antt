@@ -35,7 +35,6 @@ has_leaf t (_ ∷ is) = has_leaf t is
 pub record Holds (rows : List Row) (owners : ℕ) : Type 0 where
   pub table : IsTable rows
   pub count : owners ≡ owner_count rows
-  pub living : (n m : ℕ) → is_held m (items_at rows n) ≡ true → live_at rows m ≡ true
   pub above : (n m : ℕ) → is_held m (items_at rows n) ≡ true → above_at rows m ≡ Some n
   pub once : (n m : ℕ) → live_at rows m ≡ true → above_at rows m ≡ Some n → held_count m (items_at rows n) ≡ 1
   pub empty : (n : ℕ) → live_at rows n ≡ false → items_at rows n ≡ []

@@ -28,7 +28,8 @@ pub data Item : Type 0 where
   leaf : Thing → Item
   noted : Cleanup → Item
 
--- an owner or an effect: the number of the holder in which it stands, none at the top; whether it lives; what was made under it, in order
+-- an owner or an effect: which it is; the number of the holder in which it stands, none at the top; whether it lives; what was made under it,
+-- in order
 pub record Row : Type 0 where
   pub holder : Thing
   pub above : Option ℕ
@@ -45,27 +46,32 @@ item_of (made.Cleanup c) = noted (cleanup_of c)
 abbrev pub items_of : List Made → List Item
 items_of ms = map item_of ms
 
--- a row of what a holder has
-abbrev pub row_with : AThing → Option ℕ → Bool → List Made → Row
-row_with t above live ms = record { holder = thing_of t; above = above; live = live; items = items_of ms }
+-- what is gone, and what is past the last row
+abbrev pub no_row : Row
+no_row = record { holder = the_owner 0; above = None; live = false; items = [] }
+
+-- the row of what a holder has
+abbrev pub row_with : AThing → Option ℕ → List Made → Row
+row_with t above ms = record { holder = thing_of t; above = above; live = true; items = items_of ms }
 
 -- a holder as a row
 abbrev pub row_of : Holder → Row
-row_of h = row_with h.thing h.above h.live h.made.items
+row_of h = row_with h.thing h.above h.made.items
 
--- in order
-abbrev pub rows_of : List Holder → List Row
-rows_of hs = map row_of hs
+-- what stands under a number as a row
+abbrev pub entry_row : Option Holder → Row
+entry_row None = no_row
+entry_row (Some h) = row_of h
+
+-- the same of each number
+abbrev pub rows_of : List (Option Holder) → List Row
+rows_of es = map entry_row es
 
 -- a row as it is made
 abbrev pub above_row : Thing → Option ℕ → Row
 above_row t above = record { holder = t; above = above; live = true; items = [] }
 
 -- ---- one row
-
--- what is past the last row
-abbrev pub no_row : Row
-no_row = record { holder = the_owner 0; above = None; live = false; items = [] }
 
 -- the row of a number
 abbrev pub row_at : List Row → ℕ → Row
@@ -103,9 +109,9 @@ with_item i r = record r { items = r.items ++ i ∷ [] }
 abbrev pub emptied_row : Row → Row
 emptied_row r = record r { items = [] }
 
--- a row is gone
+-- a row is gone, and nothing of it is left
 abbrev pub ended_row : Row → Row
-ended_row r = record r { live = false; items = [] }
+ended_row r = no_row
 
 -- ---- owners
 

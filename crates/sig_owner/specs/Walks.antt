@@ -5,7 +5,7 @@ use Rattle.sig_owner.specs.declared.thing.Undoing.{Undoing as AnUndoing}
 use Rattle.sig_owner.specs.declared.thing.Undoing.TheVariants as undoing
 use Rattle.sig_owner.specs.declared.walk.Pending.{Pending}
 use Rattle.sig_owner.specs.declared.walk.Walk.{Walk}
-use Rattle.sig_owner.specs.Tables.{Item, held, leaf, noted, Row, all_ended, changed_at, cleanup_of, emptied_row, items_at, thing_at, thing_of}
+use Rattle.sig_owner.specs.Tables.{Item, held, leaf, noted, Row, all_ended, changed_at, cleanup_of, emptied_row, items_at, live_at, thing_at, thing_of}
 
 -- a step of taking back, by the things that the numbers stand for
 abbrev pub undoing_of : (ℕ → Thing) → AnUndoing → Undoing
@@ -95,14 +95,14 @@ is_held m [] = false
 is_held m (held k ∷ is) = (m == k) || is_held m is
 is_held m (_ ∷ is) = is_held m is
 
--- What is held has a later number than its holder, and a row.
+-- What is held has a later number than its holder, and lives.
 pub record IsTable (rows : List Row) : Type 0 where
   pub later : (n m : ℕ) → is_held m (items_at rows n) ≡ true → n < m
-  pub there : (n m : ℕ) → is_held m (items_at rows n) ≡ true → m < length rows
+  pub lives : (n m : ℕ) → is_held m (items_at rows n) ≡ true → live_at rows m ≡ true
 
--- a frame speaks of rows that are there
+-- a frame speaks of items that are there and of a holder that lives
 abbrev pub IsPending : List Row → Pending → Type 0
-IsPending rows p = (p.left ≤ length (items_at rows p.holder)) × (p.inner < length rows)
+IsPending rows p = (p.left ≤ length (items_at rows p.holder)) × (live_at rows p.inner ≡ true)
 
 -- the same of each
 abbrev pub ArePending : List Row → List Pending → Type 0
@@ -121,7 +121,7 @@ closed ended rest = ended ++ left_in rest
 abbrev pub rest : List Row → Walk → List Step
 rest rows w = rest_of rows w.at w.left w.pending.items
 
--- A walk speaks of rows that are there.
+-- A walk speaks of items that are there.
 pub record IsWalk (rows : List Row) (w : Walk) : Type 0 where
   pub left : w.left ≤ length (items_at rows w.at)
   pub pending : ArePending rows w.pending.items

@@ -1,12 +1,12 @@
-// The holders of a store, each at the place that is its owner's number, and edits of one of them. Past the last place nothing is held.
-ghost use Rattle.std.specs.Prelude.{◌≡◌, ◌<◌, ◌+◌, if◌then◌else◌, true, ◌++◌, ◌∷◌, [], length, vec_len, vec_capacity, filter, not, IfSome, OnOk, OnErr};
-ghost use Rattle.std.specs.List.{All};
+// Owners and effects by number, and edits of one of them. Of what ended nothing is kept.
+ghost use Rattle.std.specs.Prelude.{◌≡◌, ◌<◌, ◌+◌, ◌^◌, if◌then◌else◌, true, ◌++◌, ◌∷◌, [], length, filter, not, IfSome, IfNone, OnOk, OnErr};
 ghost use Rattle.sig_owner.specs.Sifting.{is_held_of, is_leaf_of, sifted_inside, sifted_row};
 ghost use Rattle.sig_owner.specs.Tables as tables;
-ghost use Rattle.sig_owner.specs.Tables.{above_at, above_row, all_ended, changed_at, ended_row, emptied_row, is_owner_row, is_row_of, item_of, items_at, items_of, live_at, owner_count, row_at, row_of, rows_of, thing_at, thing_of, with_holder, with_item};
+ghost use Rattle.sig_owner.specs.Tables.{above_at, all_ended, changed_at, ended_row, emptied_row, is_owner_row, is_row_of, item_of, items_at, items_of, live_at, no_row, owner_count, row_at, row_of, rows_of, thing_at, thing_of, with_holder, with_item};
 
 use crate::thing::{CleanupAct, Thing};
 use sig_base::{NoMemory, OwnerId};
+use sig_store::Store;
 use std::alloc::Global;
 
 /// What was made under a holder: another holder, a node or a page, or a cleanup.
@@ -17,40 +17,38 @@ pub(crate) enum Made {
     Cleanup(CleanupAct),
 }
 
-/// An owner, or an effect with the owner that was made for it: what it stands in, and what was made under it, in the order of making.
+/// An owner that lives, or an effect that does with the owner that was made for it: what it stands in, and what was made under it, in the
+/// order of making.
 #[derive(Drop)]
 pub(crate) struct Holder {
     pub thing: Thing,
     pub above: Option<OwnerId>,
-    pub live: bool,
     pub made: Vec<Made>,
 }
 
 // ---- looks
 
-fn is_live_owner(holder: &Holder) -> bool
-    ensures { result ≡ is_owner_row (row_of holder.now) }
+// The holder that lives there, if any.
+fn holder_at(holders: &Store<Holder>, id: OwnerId) -> Option<&Holder>
+    ensures some { IfSome result (λ h. row_at (rows_of holders.now.entries) id ≡ row_of h.now) }
+    ensures none { IfNone result (row_at (rows_of holders.now.entries) id ≡ no_row) }
 {
-    match holder.thing {
-        Thing::Owner(_) => holder.live,
-        _ => false,
-    }
+    holders.get(id.number())
 }
 
 /// Whether a holder lives there.
-pub(crate) fn is_live_at(holders: &[Holder], id: OwnerId) -> bool
-    ensures { result ≡ live_at (rows_of holders.now) id }
+pub(crate) fn is_live_at(holders: &Store<Holder>, id: OwnerId) -> bool
+    ensures { result ≡ live_at (rows_of holders.now.entries) id }
 {
-    if id.number() < holders.len() as u128 {
-        holders[id.number() as usize].live
-    } else {
-        false
+    match holder_at(holders, id) {
+        Some(_) => true,
+        None => false,
     }
 }
 
 /// Whether more can be made there: at the top, or inside a holder that lives.
-pub(crate) fn is_open(holders: &[Holder], inside: &Option<OwnerId>) -> bool
-    ensures { result ≡ tables.is_open (rows_of holders.now) inside.now }
+pub(crate) fn is_open(holders: &Store<Holder>, inside: &Option<OwnerId>) -> bool
+    ensures { result ≡ tables.is_open (rows_of holders.now.entries) inside.now }
 {
     match inside {
         Some(outer) => is_live_at(holders, *outer),
@@ -59,74 +57,72 @@ pub(crate) fn is_open(holders: &[Holder], inside: &Option<OwnerId>) -> bool
 }
 
 /// What was made under a holder, in order.
-pub(crate) fn made_at(holders: &[Holder], id: OwnerId) -> &[Made]
-    ensures { items_of result.now ≡ items_at (rows_of holders.now) id }
+pub(crate) fn made_at(holders: &Store<Holder>, id: OwnerId) -> &[Made]
+    ensures { items_of result.now ≡ items_at (rows_of holders.now.entries) id }
 {
-    if id.number() < holders.len() as u128 {
-        &holders[id.number() as usize].made
-    } else {
-        &[]
+    match holder_at(holders, id) {
+        Some(holder) => &holder.made,
+        None => &[],
     }
 }
 
-/// Which thing a holder is.
-pub(crate) fn thing_at(holders: &[Holder], id: OwnerId) -> Thing
-    requires { id < length holders.now }
-    ensures { thing_of result ≡ thing_at (rows_of holders.now) id }
+/// Which thing a holder is that lives.
+pub(crate) fn thing_at(holders: &Store<Holder>, id: OwnerId) -> Thing
+    requires { live_at (rows_of holders.now.entries) id ≡ true }
+    ensures { thing_of result ≡ thing_at (rows_of holders.now.entries) id }
 {
-    let _count = holders.len();
-    holders[id.number() as usize].thing
+    match holder_at(holders, id) {
+        Some(holder) => holder.thing,
+        None => unreachable!(),
+    }
+}
+
+fn is_owner(holder: &Holder) -> bool
+    ensures { result ≡ is_owner_row (row_of holder.now) }
+{
+    match holder.thing {
+        Thing::Owner(_) => true,
+        _ => false,
+    }
 }
 
 // Whether an owner lives there that is no effect's.
-fn is_owner_at(holders: &[Holder], id: OwnerId) -> bool
-    ensures { result ≡ is_owner_row (row_at (rows_of holders.now) id) }
+fn is_owner_at(holders: &Store<Holder>, id: OwnerId) -> bool
+    ensures { result ≡ is_owner_row (row_at (rows_of holders.now.entries) id) }
 {
-    if id.number() < holders.len() as u128 {
-        is_live_owner(&holders[id.number() as usize])
-    } else {
-        false
+    match holder_at(holders, id) {
+        Some(holder) => is_owner(holder),
+        None => false,
     }
 }
 
 fn is_thing(holder: &Holder, thing: &Thing) -> bool
     ensures { result ≡ is_row_of (thing_of thing.now) (row_of holder.now) }
 {
-    holder.live && *thing == holder.thing
+    *thing == holder.thing
 }
 
 /// Whether the holder there lives and is this thing.
-pub(crate) fn is_thing_at(holders: &[Holder], id: OwnerId, thing: &Thing) -> bool
-    ensures { result ≡ is_row_of (thing_of thing.now) (row_at (rows_of holders.now) id) }
+pub(crate) fn is_thing_at(holders: &Store<Holder>, id: OwnerId, thing: &Thing) -> bool
+    ensures { result ≡ is_row_of (thing_of thing.now) (row_at (rows_of holders.now.entries) id) }
 {
-    if id.number() < holders.len() as u128 {
-        is_thing(&holders[id.number() as usize], thing)
-    } else {
-        false
+    match holder_at(holders, id) {
+        Some(holder) => is_thing(holder, thing),
+        None => false,
     }
 }
 
 // In which holder the one there stands, if any.
-fn above_at(holders: &[Holder], id: OwnerId) -> Option<OwnerId>
-    requires { id < length holders.now }
-    ensures { result ≡ above_at (rows_of holders.now) id }
+fn above_at(holders: &Store<Holder>, id: OwnerId) -> Option<OwnerId>
+    ensures { result ≡ above_at (rows_of holders.now.entries) id }
 {
-    let _count = holders.len();
-    holders[id.number() as usize].above
+    match holder_at(holders, id) {
+        Some(holder) => holder.above,
+        None => None,
+    }
 }
 
 // ---- edits
-
-/// Puts last, in room that is there.
-pub(crate) fn push_in<T: Drop>(all: &mut Vec<T>, one: T)
-    requires { vec_len all.old < vec_capacity all.old }
-    ensures { all.new.items ≡ all.old.items ++ one ∷ [] }
-{
-    match all.push(one) {
-        Ok(_) => {}
-        Err(_) => unreachable!(),
-    }
-}
 
 // Puts one more under a holder.
 fn put(holder: &mut Holder, made: Made) -> Result<(), NoMemory>
@@ -137,16 +133,14 @@ fn put(holder: &mut Holder, made: Made) -> Result<(), NoMemory>
     Ok(())
 }
 
-/// Puts one more under a holder; without memory all is as before.
-pub(crate) fn put_at(holders: &mut Vec<Holder>, id: OwnerId, made: Made) -> Result<(), NoMemory>
-    requires { id < length holders.old.items }
-    ensures ok { OnOk result (rows_of holders.new.items ≡ changed_at (with_item (item_of made)) id (rows_of holders.old.items)) }
-    ensures err { OnErr result (rows_of holders.new.items ≡ rows_of holders.old.items) }
-    ensures len { vec_len holders.new ≡ vec_len holders.old }
-    ensures room { vec_capacity holders.new ≡ vec_capacity holders.old }
+/// Puts one more under a holder that lives; without memory all is as before.
+pub(crate) fn put_at(holders: &mut Store<Holder>, id: OwnerId, made: Made) -> Result<(), NoMemory>
+    requires { live_at (rows_of holders.old.entries) id ≡ true }
+    ensures ok { OnOk result (rows_of holders.new.entries ≡ changed_at (with_item (item_of made)) id (rows_of holders.old.entries)) }
+    ensures err { OnErr result (rows_of holders.new.entries ≡ rows_of holders.old.entries) }
+    ensures room { holders.new.room ≡ holders.old.room }
 {
-    let _count = holders.len();
-    put(&mut holders[id.number() as usize], made)?;
+    put(holders.value_mut(id.number()), made)?;
     Ok(())
 }
 
@@ -158,42 +152,35 @@ fn clear(holder: &mut Holder)
 }
 
 /// Takes away what stands under a holder.
-pub(crate) fn clear_at(holders: &mut Vec<Holder>, id: OwnerId)
-    requires { id < length holders.old.items }
-    ensures { rows_of holders.new.items ≡ changed_at emptied_row id (rows_of holders.old.items) }
+pub(crate) fn clear_at(holders: &mut Store<Holder>, id: OwnerId)
+    ensures { rows_of holders.new.entries ≡ changed_at emptied_row id (rows_of holders.old.entries) }
 {
-    let _count = holders.len();
-    clear(&mut holders[id.number() as usize]);
+    if !is_live_at(holders, id) {
+        return;
+    }
+    clear(holders.value_mut(id.number()));
 }
 
-// Ends a holder, which keeps no room for what stood under it.
-fn end(holder: &mut Holder)
-    ensures { row_of holder.new ≡ ended_row (row_of holder.old) }
+/// Ends a holder, of which nothing is kept then.
+pub(crate) fn end_at(holders: &mut Store<Holder>, id: OwnerId)
+    ensures { rows_of holders.new.entries ≡ changed_at ended_row id (rows_of holders.old.entries) }
 {
-    holder.live = false;
-    holder.made = Vec::new(*holder.made.allocator());
-}
-
-/// Ends a holder, and takes away what stands under it.
-pub(crate) fn end_at(holders: &mut Vec<Holder>, id: OwnerId)
-    requires { id < length holders.old.items }
-    ensures { rows_of holders.new.items ≡ changed_at ended_row id (rows_of holders.old.items) }
-{
-    let _count = holders.len();
-    end(&mut holders[id.number() as usize]);
+    if !is_live_at(holders, id) {
+        return;
+    }
+    holders.remove(id.number());
 }
 
 // Puts an item under the holder that is given, if any; without memory all is as before.
 fn put_inside(
-    holders: &mut Vec<Holder>,
+    holders: &mut Store<Holder>,
     inside: &Option<OwnerId>,
     made: Made,
 ) -> Result<(), NoMemory>
-    requires { tables.is_open (rows_of holders.old.items) inside.now ≡ true }
-    ensures ok { OnOk result (rows_of holders.new.items ≡ tables.put_inside inside.now (item_of made) (rows_of holders.old.items)) }
-    ensures err { OnErr result (rows_of holders.new.items ≡ rows_of holders.old.items) }
-    ensures len { vec_len holders.new ≡ vec_len holders.old }
-    ensures room { vec_capacity holders.new ≡ vec_capacity holders.old }
+    requires { tables.is_open (rows_of holders.old.entries) inside.now ≡ true }
+    ensures ok { OnOk result (rows_of holders.new.entries ≡ tables.put_inside inside.now (item_of made) (rows_of holders.old.entries)) }
+    ensures err { OnErr result (rows_of holders.new.entries ≡ rows_of holders.old.entries) }
+    ensures room { holders.new.room ≡ holders.old.room }
 {
     match inside {
         Some(outer) => {
@@ -204,34 +191,45 @@ fn put_inside(
     }
 }
 
+// Makes room for one holder more. There is none where each number was given.
+fn make_room(holders: &mut Store<Holder>) -> Result<(), NoMemory>
+    ensures room { OnOk result (0 < holders.new.room) }
+    ensures number { OnOk result (length holders.new.entries + 1 < 2 ^ 128) }
+    ensures entries { holders.new.entries ≡ holders.old.entries }
+{
+    if holders.made() == u128::MAX {
+        return Err(NoMemory);
+    }
+    holders.reserve(1)?;
+    Ok(())
+}
+
 /// One holder more, whose number is the next; without memory all is as before.
 pub(crate) fn add_holder(
     alloc: Global,
-    holders: &mut Vec<Holder>,
+    holders: &mut Store<Holder>,
     thing: Thing,
     inside: Option<OwnerId>,
 ) -> Result<(), NoMemory>
-    requires { tables.is_open (rows_of holders.old.items) inside ≡ true }
-    ensures ok { OnOk result (rows_of holders.new.items ≡ with_holder (rows_of holders.old.items) inside (thing_of thing)) }
-    ensures err { OnErr result (rows_of holders.new.items ≡ rows_of holders.old.items) }
+    requires { tables.is_open (rows_of holders.old.entries) inside ≡ true }
+    ensures ok { OnOk result (rows_of holders.new.entries ≡ with_holder (rows_of holders.old.entries) inside (thing_of thing)) }
+    ensures err { OnErr result (rows_of holders.new.entries ≡ rows_of holders.old.entries) }
 {
-    holders.reserve(1)?;
-    let id = OwnerId::of(holders.len() as u128);
+    make_room(holders)?;
+    let id = OwnerId::of(holders.made());
     put_inside(holders, &inside, Made::Held(id))?;
-    let holder = Holder {
+    holders.push(Holder {
         thing,
         above: inside,
-        live: true,
         made: Vec::new(alloc),
-    };
-    push_in(holders, holder);
+    });
     Ok(())
 }
 
 // Takes one off the count of owners where an owner lives there.
-fn discount(holders: &[Holder], owners: &mut usize, id: OwnerId)
-    requires { owners.old ≡ owner_count (rows_of holders.now) }
-    ensures { owners.new + (if is_owner_row (row_at (rows_of holders.now) id) then 1 else 0) ≡ owners.old }
+fn discount(holders: &Store<Holder>, owners: &mut usize, id: OwnerId)
+    requires { owners.old ≡ owner_count (rows_of holders.now.entries) }
+    ensures { owners.new + (if is_owner_row (row_at (rows_of holders.now.entries) id) then 1 else 0) ≡ owners.old }
 {
     if is_owner_at(holders, id) {
         *owners -= 1;
@@ -239,22 +237,20 @@ fn discount(holders: &[Holder], owners: &mut usize, id: OwnerId)
 }
 
 // Ends a holder, and counts the owners that are left.
-fn end_one(holders: &mut Vec<Holder>, owners: &mut usize, id: OwnerId)
-    requires there { id < length (rows_of holders.old.items) }
-    requires count { owners.old ≡ owner_count (rows_of holders.old.items) }
-    ensures rows { rows_of holders.new.items ≡ changed_at ended_row id (rows_of holders.old.items) }
-    ensures count { owners.new ≡ owner_count (rows_of holders.new.items) }
+fn end_one(holders: &mut Store<Holder>, owners: &mut usize, id: OwnerId)
+    requires { owners.old ≡ owner_count (rows_of holders.old.entries) }
+    ensures rows { rows_of holders.new.entries ≡ changed_at ended_row id (rows_of holders.old.entries) }
+    ensures count { owners.new ≡ owner_count (rows_of holders.new.entries) }
 {
     discount(holders, owners, id);
     end_at(holders, id);
 }
 
 /// Ends these holders, and counts the owners that are left.
-pub(crate) fn end_each(holders: &mut Vec<Holder>, owners: &mut usize, ended: &[OwnerId])
-    requires there { All (λ n. n < length (rows_of holders.old.items)) ended.now }
-    requires count { owners.old ≡ owner_count (rows_of holders.old.items) }
-    ensures rows { rows_of holders.new.items ≡ all_ended ended.now (rows_of holders.old.items) }
-    ensures count { owners.new ≡ owner_count (rows_of holders.new.items) }
+pub(crate) fn end_each(holders: &mut Store<Holder>, owners: &mut usize, ended: &[OwnerId])
+    requires { owners.old ≡ owner_count (rows_of holders.old.entries) }
+    ensures rows { rows_of holders.new.entries ≡ all_ended ended.now (rows_of holders.old.entries) }
+    ensures count { owners.new ≡ owner_count (rows_of holders.new.entries) }
 {
     for id in ended {
         end_one(holders, owners, *id);
@@ -301,12 +297,13 @@ fn drop_leaf(holder: &mut Holder, thing: &Thing)
 }
 
 /// Takes a node or a page out of what was made under a holder.
-pub(crate) fn drop_leaf_at(holders: &mut Vec<Holder>, id: OwnerId, thing: &Thing)
-    requires { id < length holders.old.items }
-    ensures { rows_of holders.new.items ≡ changed_at (sifted_row (is_leaf_of thing.now)) id (rows_of holders.old.items) }
+pub(crate) fn drop_leaf_at(holders: &mut Store<Holder>, id: OwnerId, thing: &Thing)
+    ensures { rows_of holders.new.entries ≡ changed_at (sifted_row (is_leaf_of thing.now)) id (rows_of holders.old.entries) }
 {
-    let _count = holders.len();
-    drop_leaf(&mut holders[id.number() as usize], thing);
+    if !is_live_at(holders, id) {
+        return;
+    }
+    drop_leaf(holders.value_mut(id.number()), thing);
 }
 
 // Takes a holder out of what was made under another.
@@ -316,26 +313,32 @@ fn drop_held(holder: &mut Holder, id: OwnerId)
     sift_held(&mut holder.made, id);
 }
 
-// Takes a holder out of what was made under the one that is given, if any.
-fn drop_inside(holders: &mut Vec<Holder>, inside: Option<OwnerId>, id: OwnerId)
-    requires { IfSome inside (λ n. n < length holders.old.items) }
-    ensures { rows_of holders.new.items ≡ sifted_inside inside (is_held_of id) (rows_of holders.old.items) }
+// Takes a holder out of what was made under another one of a number.
+fn drop_held_at(holders: &mut Store<Holder>, outer: OwnerId, id: OwnerId)
+    ensures { rows_of holders.new.entries ≡ changed_at (sifted_row (is_held_of id)) outer (rows_of holders.old.entries) }
 {
-    let Some(outer) = inside else {
+    if !is_live_at(holders, outer) {
         return;
-    };
-    let _count = holders.len();
-    drop_held(&mut holders[outer.number() as usize], id);
+    }
+    drop_held(holders.value_mut(outer.number()), id);
+}
+
+// Takes a holder out of what was made under the one that is given, if any.
+fn drop_inside(holders: &mut Store<Holder>, inside: Option<OwnerId>, id: OwnerId)
+    ensures { rows_of holders.new.entries ≡ sifted_inside inside (is_held_of id) (rows_of holders.old.entries) }
+{
+    match inside {
+        Some(outer) => drop_held_at(holders, outer, id),
+        None => {}
+    }
 }
 
 /// Takes a holder out of the one in which it stands, ends it, and counts the owners that are left.
-pub(crate) fn drop_holder_at(holders: &mut Vec<Holder>, owners: &mut usize, id: OwnerId)
-    requires there { id < length holders.old.items }
-    requires above { IfSome (above_at (rows_of holders.old.items) id) (λ n. n < length holders.old.items) }
-    requires count { owners.old ≡ owner_count (rows_of holders.old.items) }
-    ensures rows { rows_of holders.new.items
-        ≡ changed_at ended_row id (sifted_inside (above_at (rows_of holders.old.items) id) (is_held_of id) (rows_of holders.old.items)) }
-    ensures count { owners.new ≡ owner_count (rows_of holders.new.items) }
+pub(crate) fn drop_holder_at(holders: &mut Store<Holder>, owners: &mut usize, id: OwnerId)
+    requires { owners.old ≡ owner_count (rows_of holders.old.entries) }
+    ensures rows { rows_of holders.new.entries
+        ≡ changed_at ended_row id (sifted_inside (above_at (rows_of holders.old.entries) id) (is_held_of id) (rows_of holders.old.entries)) }
+    ensures count { owners.new ≡ owner_count (rows_of holders.new.entries) }
 {
     let above = above_at(holders, id);
     drop_inside(holders, above, id);

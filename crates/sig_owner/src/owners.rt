@@ -18,13 +18,15 @@ use crate::thing::{CleanupAct, Thing, Undoing};
 use crate::walk::teardown_under;
 use indexmap::IndexMap;
 use sig_base::{EffectId, NoMemory, OwnerId};
+use sig_store::Store;
 use std::alloc::Global;
 use std::marker::Model;
 
-/// Owners, and effects with the owner that was made for each: what stands under what, and the cleanups that are noted there.
+/// Owners, and effects with the owner that was made for each: what stands under what, and the cleanups that are noted there. What ended
+/// leaves nothing behind.
 pub struct Owners {
     alloc: Global,
-    holders: Vec<Holder>,
+    holders: Store<Holder>,
     owners: usize,
     places: IndexMap<Thing, OwnerId>,
 }
@@ -50,9 +52,9 @@ impl Model for Owners {
     ghost use Rattle.sig_owner.specs.Keys.{placed};
     ghost use Rattle.sig_owner.specs.Places.{Keeps};
 
-    ghost view = { λ o. rows_of o.holders.items };
+    ghost view = { λ o. rows_of o.holders.entries };
 
-    ghost invariant = { λ o. Keeps (rows_of o.holders.items) o.owners (placed o.places) };
+    ghost invariant = { λ o. Keeps (rows_of o.holders.entries) o.owners (placed o.places) };
 }
 
 impl Owners {
@@ -63,7 +65,7 @@ impl Owners {
     {
         Ok(Owners {
             alloc,
-            holders: Vec::new(alloc),
+            holders: Store::new(alloc),
             owners: 0,
             places: IndexMap::new(alloc),
         })
@@ -85,7 +87,7 @@ impl Owners {
         if !is_open(&self.holders, &inside) {
             return Err(OwnFault::Gone);
         }
-        let id = OwnerId::of(self.holders.len() as u128);
+        let id = OwnerId::of(self.holders.made());
         add_holder(self.alloc, &mut self.holders, Thing::Owner(id), inside)?;
         self.owners += 1;
         Ok(id)
@@ -109,7 +111,7 @@ impl Owners {
         if !is_open(&self.holders, &inside) {
             return Err(OwnFault::Gone);
         }
-        let id = OwnerId::of(self.holders.len() as u128);
+        let id = OwnerId::of(self.holders.made());
         note_place(&mut self.places, &Thing::Effect(effect), id)?;
         add_holder(self.alloc, &mut self.holders, Thing::Effect(effect), inside)?;
         Ok(id)
@@ -160,6 +162,7 @@ impl Owners {
         ensures tree { OnOk result (owned_of self.new ≡ emptied (thing_at self.old id) (owned_of self.old)) }
         ensures lives { IfOk result (λ us. (n : ℕ) →
             live_at self.new n ≡ (live_at self.old n && not (is_ended (thing_at self.old n) (undoings_of (thing_at self.old) us.items)))) }
+        ensures nowhere { OnOk result ((n : ℕ) → live_at self.new n ≡ false → has_thing (the_owner n) (owned_of self.new) ≡ false) }
         ensures limit { IsErrOf result fault.Limit → ⊥ }
         ensures gone { IsErrOf result fault.Gone ↔ (live_at self.old id ≡ false) }
         ensures err { OnErr result (self.new ≡ self.old) }
@@ -180,6 +183,7 @@ impl Owners {
         requires { is_holder (thing_of thing) ≡ true → under (thing_of thing) (owned_of self.old) ≡ owning.nothing }
         ensures after { self.new ≡ dropped (thing_of thing) self.old }
         ensures tree { owned_of self.new ≡ taken_out (thing_of thing) (owned_of self.old) }
+        ensures nowhere { (n : ℕ) → live_at self.new n ≡ false → has_thing (the_owner n) (owned_of self.new) ≡ false }
     {
         let Some(id) = hint_of(&self.places, &thing) else {
             return;

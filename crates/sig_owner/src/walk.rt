@@ -1,13 +1,14 @@
 // How what stands under a holder is taken back: a walk with a stack of its own, which changes nothing.
 ghost use Rattle.std.specs.Prelude.{◌≡◌, ◌<◌, ◌≤◌, ◌+◌, ◌-◌, ◌*◌, ◌++◌, ◌∷◌, [], length, slice_index_or, true, false, IfOk, OnOk};
 ghost use Rattle.effect_model.specs.Owning.{ends, teardown_of};
-ghost use Rattle.sig_owner.specs.Tables.{item_of, items_at, items_of, rows_of, thing_at};
+ghost use Rattle.sig_owner.specs.Tables.{item_of, items_at, items_of, live_at, rows_of, thing_at};
 ghost use Rattle.sig_owner.specs.Trees.{stands_under};
 ghost use Rattle.sig_owner.specs.Walks.{ArePending, GoesOn, ended_under, IsTable, IsWalk, left_in, rest, rest_of, steps_undoings, steps_under, undoings_of, work};
 
 use crate::holder::{Holder, Made, made_at, thing_at};
 use crate::thing::Undoing;
 use sig_base::{NoMemory, OwnerId};
+use sig_store::Store;
 use std::alloc::Global;
 
 /// What waits for an inner holder to end: so many items are still to be taken back under its own holder.
@@ -31,9 +32,9 @@ pub(crate) struct Walk {
 
 impl Walk {
     // A walk at a holder.
-    fn new(alloc: Global, holders: &[Holder], id: OwnerId) -> Walk
+    fn new(alloc: Global, holders: &Store<Holder>, id: OwnerId) -> Walk
         ensures at { result.at ≡ id }
-        ensures left { result.left ≡ length (items_at (rows_of holders.now) id) }
+        ensures left { result.left ≡ length (items_at (rows_of holders.now.entries) id) }
         ensures pending { result.pending.items ≡ [] }
         ensures undoings { result.undoings.items ≡ [] }
         ensures ended { result.ended.items ≡ [] }
@@ -48,9 +49,9 @@ impl Walk {
     }
 
     // Goes on at an inner holder.
-    fn enter(&mut self, holders: &[Holder], inner: OwnerId) -> Result<(), NoMemory>
+    fn enter(&mut self, holders: &Store<Holder>, inner: OwnerId) -> Result<(), NoMemory>
         ensures at { OnOk result (self.new.at ≡ inner) }
-        ensures left { OnOk result (self.new.left ≡ length (items_at (rows_of holders.now) inner)) }
+        ensures left { OnOk result (self.new.left ≡ length (items_at (rows_of holders.now.entries) inner)) }
         ensures pending { OnOk result (self.new.pending.items ≡ self.old.pending.items ++ record { holder = self.old.at; left = self.old.left; inner = inner } ∷ []) }
         ensures undoings { OnOk result (self.new.undoings.items ≡ self.old.undoings.items) }
         ensures ended { OnOk result (self.new.ended.items ≡ self.old.ended.items) }
@@ -67,16 +68,16 @@ impl Walk {
     }
 
     // Takes back one item, which is no longer counted as left.
-    fn take_one(&mut self, holders: &[Holder], made: &Made) -> Result<(), NoMemory>
-        requires table { IsTable (rows_of holders.now) }
-        requires walk { IsWalk (rows_of holders.now) self.old }
-        requires left { self.old.left < length (items_at (rows_of holders.now) self.old.at) }
-        requires item { item_of made.now ≡ slice_index_or (items_at (rows_of holders.now) self.old.at) self.old.left (item_of made.now) }
-        ensures walk { OnOk result (IsWalk (rows_of holders.now) self.new) }
-        ensures goes { OnOk result (let rows = rows_of holders.now in
+    fn take_one(&mut self, holders: &Store<Holder>, made: &Made) -> Result<(), NoMemory>
+        requires table { IsTable (rows_of holders.now.entries) }
+        requires walk { IsWalk (rows_of holders.now.entries) self.old }
+        requires left { self.old.left < length (items_at (rows_of holders.now.entries) self.old.at) }
+        requires item { item_of made.now ≡ slice_index_or (items_at (rows_of holders.now.entries) self.old.at) self.old.left (item_of made.now) }
+        ensures walk { OnOk result (IsWalk (rows_of holders.now.entries) self.new) }
+        ensures goes { OnOk result (let rows = rows_of holders.now.entries in
             GoesOn rows self.old.undoings.items self.new.undoings.items self.old.ended.items self.new.ended.items
             (rest_of rows self.old.at (self.old.left + 1) self.old.pending.items) (rest rows self.new)) }
-        ensures work { OnOk result (let rows = rows_of holders.now in
+        ensures work { OnOk result (let rows = rows_of holders.now.entries in
             work (rest rows self.new) self.new.pending.items < work (rest_of rows self.old.at (self.old.left + 1) self.old.pending.items) self.old.pending.items) }
     {
         match made {
@@ -91,13 +92,13 @@ impl Walk {
     }
 
     // Ends an inner holder, and goes on where it stands.
-    fn leave(&mut self, holders: &[Holder], pending: Pending) -> Result<(), NoMemory>
-        requires { pending.inner < length (rows_of holders.now) }
+    fn leave(&mut self, holders: &Store<Holder>, pending: Pending) -> Result<(), NoMemory>
+        requires { live_at (rows_of holders.now.entries) pending.inner ≡ true }
         ensures at { OnOk result (self.new.at ≡ pending.holder) }
         ensures left { OnOk result (self.new.left ≡ pending.left) }
         ensures pending { OnOk result (self.new.pending.items ≡ self.old.pending.items) }
-        ensures undoings { OnOk result (undoings_of (thing_at (rows_of holders.now)) self.new.undoings.items
-            ≡ undoings_of (thing_at (rows_of holders.now)) self.old.undoings.items ++ ends (thing_at (rows_of holders.now) pending.inner) ∷ []) }
+        ensures undoings { OnOk result (undoings_of (thing_at (rows_of holders.now.entries)) self.new.undoings.items
+            ≡ undoings_of (thing_at (rows_of holders.now.entries)) self.old.undoings.items ++ ends (thing_at (rows_of holders.now.entries) pending.inner) ∷ []) }
         ensures ended { OnOk result (self.new.ended.items ≡ self.old.ended.items ++ pending.inner ∷ []) }
     {
         let thing = thing_at(holders, pending.inner);
@@ -109,15 +110,15 @@ impl Walk {
     }
 
     // One step; false where nothing is left.
-    fn step(&mut self, holders: &[Holder]) -> Result<bool, NoMemory>
-        requires table { IsTable (rows_of holders.now) }
-        requires walk { IsWalk (rows_of holders.now) self.old }
-        ensures walk { OnOk result (IsWalk (rows_of holders.now) self.new) }
-        ensures goes { OnOk result (let rows = rows_of holders.now in
+    fn step(&mut self, holders: &Store<Holder>) -> Result<bool, NoMemory>
+        requires table { IsTable (rows_of holders.now.entries) }
+        requires walk { IsWalk (rows_of holders.now.entries) self.old }
+        ensures walk { OnOk result (IsWalk (rows_of holders.now.entries) self.new) }
+        ensures goes { OnOk result (let rows = rows_of holders.now.entries in
             GoesOn rows self.old.undoings.items self.new.undoings.items self.old.ended.items self.new.ended.items (rest rows self.old) (rest rows self.new)) }
-        ensures work { IfOk result (λ on. let rows = rows_of holders.now in
+        ensures work { IfOk result (λ on. let rows = rows_of holders.now.entries in
             on ≡ true → work (rest rows self.new) self.new.pending.items < work (rest rows self.old) self.old.pending.items) }
-        ensures end { IfOk result (λ on. on ≡ false → rest (rows_of holders.now) self.new ≡ []) }
+        ensures end { IfOk result (λ on. on ≡ false → rest (rows_of holders.now.entries) self.new ≡ []) }
     {
         if self.left == 0 {
             let Some(pending) = self.pending.pop() else {
@@ -143,13 +144,13 @@ pub(crate) struct Teardown {
 /// How what stands under a holder is taken back, the last made first. It changes nothing.
 pub(crate) fn teardown_under(
     alloc: Global,
-    holders: &[Holder],
+    holders: &Store<Holder>,
     id: OwnerId,
 ) -> Result<Teardown, NoMemory>
-    requires { IsTable (rows_of holders.now) }
-    ensures undoings { IfOk result (λ t. let rows = rows_of holders.now in
+    requires { IsTable (rows_of holders.now.entries) }
+    ensures undoings { IfOk result (λ t. let rows = rows_of holders.now.entries in
         undoings_of (thing_at rows) t.undoings.items ≡ teardown_of (thing_at rows id) (stands_under rows id)) }
-    ensures ended { IfOk result (λ t. t.ended.items ≡ ended_under (rows_of holders.now) id) }
+    ensures ended { IfOk result (λ t. t.ended.items ≡ ended_under (rows_of holders.now.entries) id) }
 {
     let mut walk = Walk::new(alloc, holders, id);
     while walk.step(holders)? {}

@@ -6,4 +6,4 @@ pub drop_thing-requires : goal.drop_thing-requires
 drop_thing-requires c = λ k. c.requires
 
 pub returns : goal.returns
-returns c = drop_done c.args.store.now c.drop_thing.new.self (thing_of c.args.thing.now) c.drop_thing.ensures.after c.drop_thing.ensures.tree
+returns c = drop_done c.args.store.now c.drop_thing.new.self (thing_of c.args.thing.now) c.drop_thing.ensures.after c.drop_thing.ensures.tree c.drop_thing.ensures.nowhere

@@ -5,4 +5,4 @@ use Rattle.effect_undoing.proofs.stored.take_back_in.Goals as goal
 
 pub returns-in-Ok-clause-done : goal.returns-in-Ok-clause-done
 returns-in-Ok-clause-done c =
-    back_done c.args.store.now c.take_back.new.self c.args.row (undoings_of (thing_at c.args.store.now) c.in-Ok.steps.items) c.in-Ok.ensures.after c.in-Ok.ensures.tree c.in-Ok.ensures.lives
+    back_done c.args.store.now c.take_back.new.self c.args.row (undoings_of (thing_at c.args.store.now) c.in-Ok.steps.items) c.in-Ok.ensures.after c.in-Ok.ensures.tree c.in-Ok.ensures.lives c.in-Ok.ensures.nowhere

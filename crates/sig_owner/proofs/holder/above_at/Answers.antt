@@ -1,8 +1,9 @@
-use Rattle.std.proofs.Common.{ap}
+use Rattle.std.proofs.Common.{sym, ap}
 use Rattle.sig_owner.specs.Tables.{Row}
-use Rattle.sig_owner.proofs.Reading.{row_got}
 use Rattle.sig_owner.proofs.holder.above_at.Goals as goal
 
-pub returns : goal.returns
-returns c =
-    ap (λ (r : Row). r.above) (row_got c.args.holders.now c.args.id c.number.result c.index-holders-number.result c.number.ensures c.requires c.index-holders-number.is)
+pub returns-in-Some : goal.returns-in-Some
+returns-in-Some c = sym (ap (λ (r : Row). r.above) c.in-Some.ensures.some)
+
+pub returns-in-None : goal.returns-in-None
+returns-in-None c = sym (ap (λ (r : Row). r.above) c.in-None.ensures.none)

@@ -1,12 +1,9 @@
-use Rattle.std.proofs.Common.{sym, ap, ◌∙◌, arith}
-use Rattle.sig_owner.specs.Tables.{is_row_of, rows_of, thing_of}
-use Rattle.sig_owner.proofs.Reading.{row_past, row_read, rows_length}
+use Rattle.std.proofs.Common.{sym, ap, ◌∙◌}
+use Rattle.sig_owner.specs.Tables.{is_row_of, thing_of}
 use Rattle.sig_owner.proofs.holder.is_thing_at.Goals as goal
 
-pub returns-then-number-holders : goal.returns-then-number-holders
-returns-then-number-holders c =
-    c.is_thing.ensures
-    ∙ ap (is_row_of (thing_of c.args.thing.now)) (row_read c.args.holders.now c.args.id c.number-then-number-holders.result c.index-holders-number.result c.number-then-number-holders.ensures (omega arith) c.index-holders-number.is)
+pub returns-in-Some : goal.returns-in-Some
+returns-in-Some c = c.is_thing.ensures ∙ sym (ap (is_row_of (thing_of c.args.thing.now)) c.in-Some.ensures.some)
 
-pub returns-else-number-holders : goal.returns-else-number-holders
-returns-else-number-holders c = ap (is_row_of (thing_of c.args.thing.now)) (sym (row_past (rows_of c.args.holders.now) c.args.id (omega (arith, rows_length c.args.holders.now))))
+pub returns-in-None : goal.returns-in-None
+returns-in-None c = sym (ap (is_row_of (thing_of c.args.thing.now)) c.in-None.ensures.none)

@@ -1,12 +1,9 @@
-use Rattle.std.proofs.Common.{sym, ap, ◌∙◌, arith}
-use Rattle.sig_owner.specs.Tables.{Row, items_of, rows_of}
-use Rattle.sig_owner.proofs.Reading.{row_past, row_got, rows_length}
+use Rattle.std.proofs.Common.{sym, ap, ◌∙◌}
+use Rattle.sig_owner.specs.Tables.{Row, items_of}
 use Rattle.sig_owner.proofs.holder.made_at.Goals as goal
 
-pub returns-then-number-holders : goal.returns-then-number-holders
-returns-then-number-holders c =
-    ap items_of c.deref.ensures.value
-    ∙ ap (λ (r : Row). r.items) (row_got c.args.holders.now c.args.id c.number-then-number-holders.result c.index-holders-number.result c.number-then-number-holders.ensures (omega arith) c.index-holders-number.is)
+pub returns-in-Some : goal.returns-in-Some
+returns-in-Some c = ap items_of c.deref.ensures.value ∙ sym (ap (λ (r : Row). r.items) c.in-Some.ensures.some)
 
-pub returns-else-number-holders : goal.returns-else-number-holders
-returns-else-number-holders c = ap (λ (r : Row). r.items) (sym (row_past (rows_of c.args.holders.now) c.args.id (omega (arith, rows_length c.args.holders.now))))
+pub returns-in-None : goal.returns-in-None
+returns-in-None c = sym (ap (λ (r : Row). r.items) c.in-None.ensures.none)

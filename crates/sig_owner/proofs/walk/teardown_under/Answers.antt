@@ -7,7 +7,7 @@ use Rattle.sig_owner.proofs.walk.teardown_under.Goals as goal
 
 pub loop-walk-init : goal.loop-walk-init
 loop-walk-init c =
-    let rows = rows_of c.args.holders.now in
+    let rows = rows_of c.args.holders.now.entries in
     let w = c.new-walk.result in
     let e = c.new-walk.ensures in
     record {
@@ -17,7 +17,7 @@ loop-walk-init c =
 
 pub returns-clause-undoings : goal.returns-clause-undoings
 returns-clause-undoings c =
-    let rows = rows_of c.args.holders.now in
+    let rows = rows_of c.args.holders.now.entries in
     let v = c.step.new.self in
     let w = c.loop-walk.walk in
     let g = goes_on rows [] w.undoings.items v.undoings.items [] w.ended.items v.ended.items (steps_under rows c.args.id) (rest rows w) (rest rows v) c.loop-walk.invariant.goes c.in_ok-step.ensures.goes in

@@ -1,7 +1,5 @@
-use Rattle.std.proofs.Common.{List, refl, subst}
-use Rattle.effect_tables.specs.declared.tables.OwnerEntry.{OwnerEntry}
+use Rattle.std.proofs.Common.{refl}
 use Rattle.effect_tables.specs.declared.tables.Tables.{Tables}
-use Rattle.effect_tables.specs.Looking.{IsInside}
 use Rattle.effect_tables.proofs.Tabled.{signal_does, signal_holds, signal_leaves}
 use Rattle.effect_tables.proofs.tables.Tables.adopt_signal.Goals as goal
 
@@ -17,7 +15,7 @@ returns-clause-does c =
       pages_made = c.args.self.now.pages_made;
     } in
     signal_does c.args.self.now t c.in_ok-outer.outer c.args.id c.in_ok-adopt_in.ensures.adopts refl c.args.inside
-    (subst (λ (es : List OwnerEntry). IsInside es c.args.inside c.in_ok-outer.outer) c.deref.ensures.value c.in_ok-outer.ensures.inside) c.requires.holds
+    c.in_ok-outer.ensures.inside c.requires.holds
 
 pub returns-clause-holds : goal.returns-clause-holds
 returns-clause-holds c =

@@ -1,4 +1,4 @@
-use Rattle.std.proofs.Common.{◌≡◌, ◌++◌, ◌∷◌, [], refl, sym, ap, subst, ◌∙◌}
+use Rattle.std.proofs.Common.{◌≡◌, ◌++◌, ◌∷◌, [], refl, sym, subst, ◌∙◌}
 use Rattle.std.specs.Prelude.{◌+◌, None, Some}
 use Rattle.std.specs.Rc.{rc_value}
 use Rattle.effect_tables.specs.declared.tables.Tables.{Tables}
@@ -7,6 +7,8 @@ use Rattle.effect_tables.specs.Adopting.{MakesEffect}
 use Rattle.effect_tables.specs.Fitting.{IsFitting}
 use Rattle.effect_tables.specs.Linking.{body_of}
 use Rattle.effect_tables.specs.Placed.{effect_of}
+use Rattle.effect_tables.specs.Noting.{noted}
+use Rattle.effect_tables.proofs.Making.{IsPut}
 use Rattle.effect_tables.proofs.Tabled.{child_does, effect_holds, effect_leaves}
 use Rattle.effect_tables.proofs.tables.Tables.make_child.Goals as goal
 
@@ -14,9 +16,9 @@ pub returns-clause-does : goal.returns-clause-does
 returns-clause-does c =
     let t : Tables = record {
       store = c.child_row.new.store;
-      things = c.push.new.self;
+      things = c.note_thing.new.things;
       owners = c.args.self.now.owners;
-      effects = c.push-2.new.self;
+      effects = c.push.new.self;
       pages = c.args.self.now.pages;
       effects_made = c.args.self.now.effects_made + 1;
       pages_made = c.args.self.now.pages_made;
@@ -26,8 +28,8 @@ returns-clause-does c =
     child_does c.args.self.now t c.args.parent c.args.row c.in_ok-effect.effect b (record {
       made = subst (λ x. x) (λ i. MakesEffect c.args.self.now.store c.child_row.new.store (Some c.args.row) (sym e.number i) (sym e.place i)) c.in_ok-own_row.ensures;
       number = e.number ∙ c.of-id.ensures;
-      things = c.in_ok-push.ensures.items ∙ ap (λ k. c.args.self.now.things.items ++ a.Effect k ∷ []) (sym e.number);
-      effects = c.in_ok-push-2.ensures.items;
+      things = subst (λ x. x) (λ i. IsPut (noted c.args.self.now.things) (noted c.note_thing.new.things) (sym e.place i) (a.Effect (sym e.number i))) c.in_ok-note_thing.ensures;
+      effects = c.in_ok-push.ensures.items;
       owners = refl;
       pages = refl;
       fits = subst IsFitting (sym e.script) c.requires.fits;
@@ -40,9 +42,9 @@ pub returns-clause-holds : goal.returns-clause-holds
 returns-clause-holds c =
     let t : Tables = record {
       store = c.child_row.new.store;
-      things = c.push.new.self;
+      things = c.note_thing.new.things;
       owners = c.args.self.now.owners;
-      effects = c.push-2.new.self;
+      effects = c.push.new.self;
       pages = c.args.self.now.pages;
       effects_made = c.args.self.now.effects_made + 1;
       pages_made = c.args.self.now.pages_made;
@@ -51,8 +53,8 @@ returns-clause-holds c =
     effect_holds c.args.self.now t (Some c.args.row) c.in_ok-effect.effect (record {
       made = subst (λ x. x) (λ i. MakesEffect c.args.self.now.store c.child_row.new.store (Some c.args.row) (sym e.number i) (sym e.place i)) c.in_ok-own_row.ensures;
       number = e.number ∙ c.of-id.ensures;
-      things = c.in_ok-push.ensures.items ∙ ap (λ k. c.args.self.now.things.items ++ a.Effect k ∷ []) (sym e.number);
-      effects = c.in_ok-push-2.ensures.items;
+      things = subst (λ x. x) (λ i. IsPut (noted c.args.self.now.things) (noted c.note_thing.new.things) (sym e.place i) (a.Effect (sym e.number i))) c.in_ok-note_thing.ensures;
+      effects = c.in_ok-push.ensures.items;
       owners = refl;
       pages = refl;
       fits = subst IsFitting (sym e.script) c.requires.fits;
@@ -64,9 +66,9 @@ pub returns-clause-signals : goal.returns-clause-signals
 returns-clause-signals c =
     let t : Tables = record {
       store = c.child_row.new.store;
-      things = c.push.new.self;
+      things = c.note_thing.new.things;
       owners = c.args.self.now.owners;
-      effects = c.push-2.new.self;
+      effects = c.push.new.self;
       pages = c.args.self.now.pages;
       effects_made = c.args.self.now.effects_made + 1;
       pages_made = c.args.self.now.pages_made;

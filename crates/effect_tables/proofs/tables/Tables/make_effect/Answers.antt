@@ -1,29 +1,28 @@
-use Rattle.std.proofs.Common.{◌≡◌, ◌++◌, ◌∷◌, [], List, refl, sym, ap, subst, ◌∙◌}
+use Rattle.std.proofs.Common.{◌≡◌, [], refl, sym, subst, ◌∙◌}
 use Rattle.std.specs.Prelude.{◌+◌, None}
-use Rattle.effect_tables.specs.declared.tables.OwnerEntry.{OwnerEntry}
 use Rattle.effect_tables.specs.declared.tables.Tables.{Tables}
 use Rattle.effect_tables.specs.declared.thing.Thing.TheVariants as a
 use Rattle.effect_tables.specs.Adopting.{MakesEffect}
 use Rattle.effect_tables.specs.Fitting.{IsFitting}
-use Rattle.effect_tables.specs.Looking.{IsInside}
 use Rattle.effect_tables.specs.Linking.{body_of}
 use Rattle.effect_tables.specs.Placed.{effect_of}
-use Rattle.effect_tables.proofs.Making.{open_row}
+use Rattle.effect_tables.specs.Noting.{noted}
+use Rattle.effect_tables.proofs.Making.{IsPut, open_row}
 use Rattle.effect_tables.proofs.Tabled.{effect_does, effect_holds, effect_leaves}
 use Rattle.effect_tables.proofs.tables.Tables.make_effect.Goals as goal
 
 pub make_for_in-requires-clause-open : goal.make_for_in-requires-clause-open
 make_for_in-requires-clause-open c =
-    open_row c.args.self.now.owners.items c.args.self.now.effects.items c.args.self.now.store c.args.inside c.in_ok-outer.outer
-    (subst (λ (es : List OwnerEntry). IsInside es c.args.inside c.in_ok-outer.outer) c.deref.ensures.value c.in_ok-outer.ensures.inside) c.requires.holds.alive
+    open_row c.args.self.now.owners.items c.args.self.now.effects.items (noted c.args.self.now.things) c.args.self.now.store c.args.inside c.in_ok-outer.outer
+    c.in_ok-outer.ensures.inside c.requires.holds.numbered c.requires.holds.alive
 
 pub returns-clause-does : goal.returns-clause-does
 returns-clause-does c =
     let t : Tables = record {
       store = c.make_for_in.new.store;
-      things = c.push.new.self;
+      things = c.note_thing.new.things;
       owners = c.args.self.now.owners;
-      effects = c.push-2.new.self;
+      effects = c.push.new.self;
       pages = c.args.self.now.pages;
       effects_made = c.args.self.now.effects_made + 1;
       pages_made = c.args.self.now.pages_made;
@@ -32,8 +31,8 @@ returns-clause-does c =
     effect_does c.args.self.now t c.args.inside c.in_ok-outer.outer c.in_ok-effect.effect c.args.script (record {
       made = subst (λ x. x) (λ i. MakesEffect c.args.self.now.store c.make_for_in.new.store c.in_ok-outer.outer (sym e.number i) (sym e.place i)) c.in_ok-row.ensures.made;
       number = e.number ∙ c.of-id.ensures;
-      things = c.in_ok-push.ensures.items ∙ ap (λ k. c.args.self.now.things.items ++ a.Effect k ∷ []) (sym e.number);
-      effects = c.in_ok-push-2.ensures.items;
+      things = subst (λ x. x) (λ i. IsPut (noted c.args.self.now.things) (noted c.note_thing.new.things) (sym e.place i) (a.Effect (sym e.number i))) c.in_ok-note_thing.ensures;
+      effects = c.in_ok-push.ensures.items;
       owners = refl;
       pages = refl;
       fits = subst IsFitting (sym e.script) c.requires.fits;
@@ -41,15 +40,15 @@ returns-clause-does c =
       pages_made = refl;
     })
     (subst (λ k. effect_of c.in_ok-effect.effect ≡ record { number = k; body = body_of k c.args.script []; kept = None }) c.of-id.ensures e.seen)
-    (subst (λ (es : List OwnerEntry). IsInside es c.args.inside c.in_ok-outer.outer) c.deref.ensures.value c.in_ok-outer.ensures.inside) c.requires.holds
+    c.in_ok-outer.ensures.inside c.requires.holds
 
 pub returns-clause-holds : goal.returns-clause-holds
 returns-clause-holds c =
     let t : Tables = record {
       store = c.make_for_in.new.store;
-      things = c.push.new.self;
+      things = c.note_thing.new.things;
       owners = c.args.self.now.owners;
-      effects = c.push-2.new.self;
+      effects = c.push.new.self;
       pages = c.args.self.now.pages;
       effects_made = c.args.self.now.effects_made + 1;
       pages_made = c.args.self.now.pages_made;
@@ -58,8 +57,8 @@ returns-clause-holds c =
     effect_holds c.args.self.now t c.in_ok-outer.outer c.in_ok-effect.effect (record {
       made = subst (λ x. x) (λ i. MakesEffect c.args.self.now.store c.make_for_in.new.store c.in_ok-outer.outer (sym e.number i) (sym e.place i)) c.in_ok-row.ensures.made;
       number = e.number ∙ c.of-id.ensures;
-      things = c.in_ok-push.ensures.items ∙ ap (λ k. c.args.self.now.things.items ++ a.Effect k ∷ []) (sym e.number);
-      effects = c.in_ok-push-2.ensures.items;
+      things = subst (λ x. x) (λ i. IsPut (noted c.args.self.now.things) (noted c.note_thing.new.things) (sym e.place i) (a.Effect (sym e.number i))) c.in_ok-note_thing.ensures;
+      effects = c.in_ok-push.ensures.items;
       owners = refl;
       pages = refl;
       fits = subst IsFitting (sym e.script) c.requires.fits;
@@ -71,9 +70,9 @@ pub returns-clause-signals : goal.returns-clause-signals
 returns-clause-signals c =
     let t : Tables = record {
       store = c.make_for_in.new.store;
-      things = c.push.new.self;
+      things = c.note_thing.new.things;
       owners = c.args.self.now.owners;
-      effects = c.push-2.new.self;
+      effects = c.push.new.self;
       pages = c.args.self.now.pages;
       effects_made = c.args.self.now.effects_made + 1;
       pages_made = c.args.self.now.pages_made;

@@ -1,21 +1,20 @@
-use Rattle.std.proofs.Common.{◌≡◌, ◌<◌, ◌≤◌, true, List, length, refl, subst, arith, rules}
+use Rattle.std.proofs.Common.{◌≡◌, ◌<◌, ◌≤◌, true, refl, subst, ◌∙◌, rules}
 use Rattle.std.specs.Prelude.{IsErrOf}
 use Rattle.sig_owner.specs.declared.errors.OwnFault.TheVariants as fault
 use Rattle.sig_owner.specs.declared.limits.TheConstants.{MOST_OWNERS}
-use Rattle.effect_tables.specs.declared.tables.OwnerEntry.{OwnerEntry}
 use Rattle.effect_tables.specs.declared.tables.Tables.{Tables}
-use Rattle.effect_tables.specs.Looking.{IsInside}
 use Rattle.effect_tables.specs.Numbering.{living}
 use Rattle.effect_tables.specs.Placed.{is_open}
 use Rattle.effect_tables.proofs.Counting.{owners_counted}
+use Rattle.effect_tables.specs.Noting.{noted}
 use Rattle.effect_tables.proofs.Making.{open_row}
 use Rattle.effect_tables.proofs.Tabled.{owner_does, owner_holds, owner_leaves}
 use Rattle.effect_tables.proofs.tables.Tables.make_owner.Goals as goal
 
 pub make_in-requires : goal.make_in-requires
 make_in-requires c =
-    open_row c.args.self.now.owners.items c.args.self.now.effects.items c.args.self.now.store c.args.inside c.in_ok-outer.outer
-    (subst (λ (es : List OwnerEntry). IsInside es c.args.inside c.in_ok-outer.outer) c.deref.ensures.value c.in_ok-outer.ensures.inside) c.requires.alive
+    open_row c.args.self.now.owners.items c.args.self.now.effects.items (noted c.args.self.now.things) c.args.self.now.store c.args.inside c.in_ok-outer.outer
+    c.in_ok-outer.ensures.inside c.requires.numbered c.requires.alive
 
 pub returns-in_err-row-clause-limit : goal.returns-in_err-row-clause-limit
 returns-in_err-row-clause-limit c =
@@ -29,8 +28,8 @@ pub returns-clause-does : goal.returns-clause-does
 returns-clause-does c =
     let t : Tables = record {
       store = c.make_in.new.store;
-      things = c.push.new.self;
-      owners = c.push-2.new.self;
+      things = c.note_thing.new.things;
+      owners = c.add.new.self;
       effects = c.args.self.now.effects;
       pages = c.args.self.now.pages;
       effects_made = c.args.self.now.effects_made;
@@ -38,22 +37,22 @@ returns-clause-does c =
     } in
     owner_does c.args.self.now t c.args.inside c.in_ok-outer.outer c.in_ok-row.row c.of-id.result (record {
       made = c.in_ok-row.ensures.made;
-      number = omega (arith, c.of-id.ensures);
-      things = c.in_ok-push.ensures.items;
-      owners = c.in_ok-push-2.ensures.items;
+      number = c.of-id.ensures ∙ c.made.ensures;
+      things = c.in_ok-note_thing.ensures;
+      owners = c.in_ok-add.ensures;
       effects = refl;
       pages = refl;
       effects_made = refl;
       pages_made = refl;
     })
-    (subst (λ (es : List OwnerEntry). IsInside es c.args.inside c.in_ok-outer.outer) c.deref.ensures.value c.in_ok-outer.ensures.inside) c.requires
+    c.in_ok-outer.ensures.inside c.requires
 
 pub returns-clause-holds : goal.returns-clause-holds
 returns-clause-holds c =
     let t : Tables = record {
       store = c.make_in.new.store;
-      things = c.push.new.self;
-      owners = c.push-2.new.self;
+      things = c.note_thing.new.things;
+      owners = c.add.new.self;
       effects = c.args.self.now.effects;
       pages = c.args.self.now.pages;
       effects_made = c.args.self.now.effects_made;
@@ -61,22 +60,22 @@ returns-clause-holds c =
     } in
     owner_holds c.args.self.now t c.args.inside c.in_ok-outer.outer c.in_ok-row.row c.of-id.result (record {
       made = c.in_ok-row.ensures.made;
-      number = omega (arith, c.of-id.ensures);
-      things = c.in_ok-push.ensures.items;
-      owners = c.in_ok-push-2.ensures.items;
+      number = c.of-id.ensures ∙ c.made.ensures;
+      things = c.in_ok-note_thing.ensures;
+      owners = c.in_ok-add.ensures;
       effects = refl;
       pages = refl;
       effects_made = refl;
       pages_made = refl;
     })
-    (subst (λ (es : List OwnerEntry). IsInside es c.args.inside c.in_ok-outer.outer) c.deref.ensures.value c.in_ok-outer.ensures.inside) c.requires
+    c.in_ok-outer.ensures.inside c.requires
 
 pub returns-clause-signals : goal.returns-clause-signals
 returns-clause-signals c =
     let t : Tables = record {
       store = c.make_in.new.store;
-      things = c.push.new.self;
-      owners = c.push-2.new.self;
+      things = c.note_thing.new.things;
+      owners = c.add.new.self;
       effects = c.args.self.now.effects;
       pages = c.args.self.now.pages;
       effects_made = c.args.self.now.effects_made;

@@ -1,8 +1,6 @@
-use Rattle.std.proofs.Common.{List, refl, subst}
+use Rattle.std.proofs.Common.{refl}
 use Rattle.std.specs.Prelude.{◌+◌}
-use Rattle.effect_tables.specs.declared.tables.OwnerEntry.{OwnerEntry}
 use Rattle.effect_tables.specs.declared.tables.Tables.{Tables}
-use Rattle.effect_tables.specs.Looking.{IsInside}
 use Rattle.effect_tables.proofs.Tabled.{page_does, page_holds, page_leaves}
 use Rattle.effect_tables.proofs.tables.Tables.make_page.Goals as goal
 
@@ -27,7 +25,7 @@ returns-clause-does c =
       effects_made = refl;
       pages_made = refl;
     })
-    (subst (λ (es : List OwnerEntry). IsInside es c.args.inside c.in_ok-outer.outer) c.deref.ensures.value c.in_ok-outer.ensures.inside) c.requires.holds
+    c.in_ok-outer.ensures.inside c.requires.holds
 
 pub returns-clause-holds : goal.returns-clause-holds
 returns-clause-holds c =

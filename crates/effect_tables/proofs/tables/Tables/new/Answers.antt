@@ -1,6 +1,6 @@
 use Rattle.std.proofs.Common.{refl}
 use Rattle.effect_tables.specs.declared.tables.Tables.{Tables}
-use Rattle.effect_tables.proofs.Starting.{AreBare, bare_holds, bare_placed}
+use Rattle.effect_tables.proofs.Starting.{bare_holds, bare_placed}
 use Rattle.effect_tables.proofs.tables.Tables.new.Goals as goal
 
 pub returns-clause-placed : goal.returns-clause-placed
@@ -17,8 +17,7 @@ returns-clause-placed c =
     bare_placed t (record {
       store = c.in_ok-store.ensures.after;
       tree = c.in_ok-store.ensures.tree;
-      things = c.new-things.ensures.items;
-      owners = c.new-owners.ensures.items;
+      owners = c.new-owners.ensures;
       effects = c.new-effects.ensures.items;
       pages = c.new-pages.ensures.items;
       effects_made = refl;
@@ -39,8 +38,7 @@ returns-clause-holds c =
     bare_holds t (record {
       store = c.in_ok-store.ensures.after;
       tree = c.in_ok-store.ensures.tree;
-      things = c.new-things.ensures.items;
-      owners = c.new-owners.ensures.items;
+      owners = c.new-owners.ensures;
       effects = c.new-effects.ensures.items;
       pages = c.new-pages.ensures.items;
       effects_made = refl;
