@@ -1,6 +1,7 @@
 // Bodies, and their lists.
 
 use crate::blocks::read;
+use effect_model::Plain;
 use sig_base::Name;
 use sig_formula::Formula;
 use sig_untrack::{Body, Recipe2, Stmt};
@@ -41,8 +42,18 @@ fn no_lines(rt: HostRuntime) {
 fn assert_read_both_ways(rt: &impl Abort, body: &Body) {
     assert!(rt; are_names(&body.names, &["a", "b", "c"]));
     assert!(rt; are_names(&body.targets, &["c"]));
-    assert!(rt; matches!(body.statements.get(1), Some(Stmt::Set(0, Formula::Slot(0)))));
-    assert!(rt; matches!(body.statements.get(2), Some(Stmt::Log(Formula::Slot(2)))));
+    assert!(rt;
+        matches!(
+            body.statements.get(1),
+            Some(Stmt::Plain(Plain::Set(0, Formula::Slot(0))))
+        )
+    );
+    assert!(rt;
+        matches!(
+            body.statements.get(2),
+            Some(Stmt::Plain(Plain::Log(Formula::Slot(2))))
+        )
+    );
 }
 
 #[test]
@@ -66,7 +77,12 @@ fn assert_nested(rt: &impl Abort, body: &Body) {
     assert!(rt; are_names(&first.targets, &["c"]));
     assert!(rt; first.effects.len() == 1 && second.effects.is_empty());
     assert!(rt; matches!(body.statements.get(1), Some(Stmt::Effect(0))));
-    assert!(rt; matches!(body.statements.get(3), Some(Stmt::Log(Formula::Slot(2)))));
+    assert!(rt;
+        matches!(
+            body.statements.get(3),
+            Some(Stmt::Plain(Plain::Log(Formula::Slot(2))))
+        )
+    );
 }
 
 #[test]

@@ -1,55 +1,61 @@
 -- Statements one after the other.
-use Rattle.std.proofs.Common.{◌≡◌, ℕ, ◌+◌, List, ◌++◌, refl, sym, ap, ap₂, ◌∙◌, append_assoc, arith}
-use Rattle.formula_text.specs.Judging.{slotted, with_names}
+use Rattle.std.proofs.Common.{◌≡◌, ℕ, ◌+◌, List, ◌∷◌, ◌++◌, Option, Some, None, refl, sym, ap, ap₂, ◌∙◌, append_assoc, arith}
+use Rattle.formula_text.specs.Judging.{slot_of, slotted, with_name, with_names}
 use Rattle.sig_untrack.specs.Stated as stated
 use Rattle.sig_untrack.specs.Stated.{Stated, Rewiring, Bodies, no_bodies}
-use Rattle.body_text.specs.declared.line.Plain.{Plain}
-use Rattle.body_text.specs.declared.line.Plain.TheVariants as p
+use Rattle.effect_model.specs.Lines.{formula_of, target_of}
+use Rattle.formula_text.specs.Grammar.{Draft}
 use Rattle.body_text.specs.Building.{joined}
 use Rattle.body_text.specs.Naming.{GoOn}
-use Rattle.body_text.specs.Statements.{Statements, done, plain, when, effect, body_with, effects_of, formula_of, own_effects, own_rewires, placed, placed_line, rewired_by, rewires_in, rewirings_of, target_of, with_formula, with_own, with_target, with_targets}
+use Rattle.body_text.specs.Statements.{Statements, done, plain, rewire, when, effect, body_with, effects_of, own_effects, own_rewires, placed, placed_line, rewiring_of, rewirings_of, with_formula, with_own, with_target, with_targets}
 use Rattle.body_text.proofs.Slotting.{go_on, go_further, goes_name, goes_names}
 
 pub then_more : (s t u : Statements) → joined (joined s t) u ≡ joined s (joined t u)
 then_more done t u = refl
 then_more (plain a s) t u = ap (plain a) (then_more s t u)
+then_more (rewire n x s) t u = ap (rewire n x) (then_more s t u)
 then_more (when x i s) t u = ap (when x i) (then_more s t u)
 then_more (effect i s) t u = ap (effect i) (then_more s t u)
 
 pub then_targets : (ts : List (List ℕ)) (s u : Statements) → with_targets ts (joined s u) ≡ with_targets (with_targets ts s) u
 then_targets ts done u = refl
 then_targets ts (plain a s) u = then_targets (with_target ts (target_of a)) s u
+then_targets ts (rewire n x s) u = then_targets (with_name ts n) s u
 then_targets ts (when x i s) u = then_targets (with_targets ts i) s u
 then_targets ts (effect i s) u = then_targets ts s u
 
 pub then_own : (ns : List (List ℕ)) (s u : Statements) → with_own ns (joined s u) ≡ with_own (with_own ns s) u
 then_own ns done u = refl
 then_own ns (plain a s) u = then_own (with_formula ns (formula_of a)) s u
+then_own ns (rewire n x s) u = then_own ns s u
 then_own ns (when x i s) u = then_own (with_own (with_names ns x) i) s u
 then_own ns (effect i s) u = then_own ns s u
 
 pub then_effects : (s u : Statements) (others : Bodies) → effects_of (joined s u) others ≡ effects_of s (effects_of u others)
 then_effects done u others = refl
 then_effects (plain a s) u others = then_effects s u others
+then_effects (rewire n x s) u others = then_effects s u others
 then_effects (when x i s) u others = ap (effects_of i) (then_effects s u others)
 then_effects (effect i s) u others = ap (body_with i (effects_of i no_bodies)) (then_effects s u others)
 
 pub then_nested : (s u : Statements) → own_effects (joined s u) ≡ own_effects s + own_effects u
 then_nested done u = omega arith
 then_nested (plain a s) u = then_nested s u
+then_nested (rewire n x s) u = then_nested s u
 then_nested (when x i s) u = let e = then_nested s u in omega arith
 then_nested (effect i s) u = let e = then_nested s u in omega arith
 
 pub then_rewires : (s u : Statements) → own_rewires (joined s u) ≡ own_rewires s + own_rewires u
 then_rewires done u = omega arith
-then_rewires (plain a s) u = let e = then_rewires s u in omega arith
+then_rewires (plain a s) u = then_rewires s u
+then_rewires (rewire n x s) u = let e = then_rewires s u in omega arith
 then_rewires (when x i s) u = let e = then_rewires s u in omega arith
 then_rewires (effect i s) u = then_rewires s u
 
 pub then_rewirings : (ts : List (List ℕ)) (s u : Statements) → rewirings_of ts (joined s u) ≡ rewirings_of ts s ++ rewirings_of ts u
 then_rewirings ts done u = refl
-then_rewirings ts (plain a s) u =
-    ap (λ (rs : List Rewiring). rewired_by ts a ++ rs) (then_rewirings ts s u) ∙ sym (append_assoc (rewired_by ts a) (rewirings_of ts s) (rewirings_of ts u))
+then_rewirings ts (plain a s) u = then_rewirings ts s u
+then_rewirings ts (rewire n x s) u = ap (λ (rs : List Rewiring). rewiring_of (slot_of ts n) x ∷ rs) (then_rewirings ts s u)
 then_rewirings ts (when x i s) u =
     ap (λ (rs : List Rewiring). rewirings_of ts i ++ rs) (then_rewirings ts s u)
     ∙ sym (append_assoc (rewirings_of ts i) (rewirings_of ts s) (rewirings_of ts u))
@@ -65,11 +71,11 @@ then_placed ts ns e r done u after =
     let a : e ≡ e + 0 = omega arith in
     let b : r ≡ r + 0 = omega arith in
     ap₂ (λ (m n : ℕ). placed ts ns m n u after) a b
-then_placed ts ns e r (plain a s) u after =
-    let b : (r + rewires_in a) + own_rewires s ≡ r + (rewires_in a + own_rewires s) = omega arith in
-    ap (placed_line ts ns r a)
-    (then_placed ts ns e (r + rewires_in a) s u after
-    ∙ ap (λ (n : ℕ). placed ts ns e (r + rewires_in a) s (placed ts ns (e + own_effects s) n u after)) b)
+then_placed ts ns e r (plain a s) u after = ap (stated.plain (placed_line ts ns a)) (then_placed ts ns e r s u after)
+then_placed ts ns e r (rewire n x s) u after =
+    let b : (r + 1) + own_rewires s ≡ r + (1 + own_rewires s) = omega arith in
+    ap (stated.rewire r)
+    (then_placed ts ns e (r + 1) s u after ∙ ap (λ (m : ℕ). placed ts ns e (r + 1) s (placed ts ns (e + own_effects s) m u after)) b)
 then_placed ts ns e r (when x i s) u after =
     let a : (e + own_effects i) + own_effects s ≡ e + (own_effects i + own_effects s) = omega arith in
     let b : (r + own_rewires i) + own_rewires s ≡ r + (own_rewires i + own_rewires s) = omega arith in
@@ -83,25 +89,18 @@ then_placed ts ns e r (effect i s) u after =
 
 -- ---- names go on
 
-goes_formula : (ns : List (List ℕ)) (a : Plain) → GoOn ns (with_formula ns (formula_of a))
-goes_formula ns (p.Set n x) = goes_names ns x
-goes_formula ns (p.Log x) = goes_names ns x
-goes_formula ns (p.CleanupSet n x) = goes_names ns x
-goes_formula ns (p.CleanupLog x) = goes_names ns x
-goes_formula ns (p.Dispose n) = go_on ns
-goes_formula ns (p.Rewire n s) = go_on ns
+goes_formula : (ns : List (List ℕ)) (o : Option Draft) → GoOn ns (with_formula ns o)
+goes_formula ns None = go_on ns
+goes_formula ns (Some x) = goes_names ns x
 
-goes_target : (ts : List (List ℕ)) (a : Plain) → GoOn ts (with_target ts (target_of a))
-goes_target ts (p.Set n x) = goes_name ts n
-goes_target ts (p.Log x) = go_on ts
-goes_target ts (p.CleanupSet n x) = goes_name ts n
-goes_target ts (p.CleanupLog x) = go_on ts
-goes_target ts (p.Dispose n) = goes_name ts n
-goes_target ts (p.Rewire n s) = goes_name ts n
+goes_target : (ts : List (List ℕ)) (o : Option (List ℕ)) → GoOn ts (with_target ts o)
+goes_target ts None = go_on ts
+goes_target ts (Some n) = goes_name ts n
 
 pub goes_own : (ns : List (List ℕ)) (s : Statements) → GoOn ns (with_own ns s)
 goes_own ns done = go_on ns
-goes_own ns (plain a s) = let ms = with_formula ns (formula_of a) in go_further ns ms _ (goes_formula ns a) (goes_own ms s)
+goes_own ns (plain a s) = let ms = with_formula ns (formula_of a) in go_further ns ms _ (goes_formula ns (formula_of a)) (goes_own ms s)
+goes_own ns (rewire n x s) = goes_own ns s
 goes_own ns (when x i s) =
     let ms = with_names ns x in
     let ks = with_own ms i in
@@ -110,6 +109,7 @@ goes_own ns (effect i s) = goes_own ns s
 
 pub goes_targets : (ts : List (List ℕ)) (s : Statements) → GoOn ts (with_targets ts s)
 goes_targets ts done = go_on ts
-goes_targets ts (plain a s) = let us = with_target ts (target_of a) in go_further ts us _ (goes_target ts a) (goes_targets us s)
+goes_targets ts (plain a s) = let us = with_target ts (target_of a) in go_further ts us _ (goes_target ts (target_of a)) (goes_targets us s)
+goes_targets ts (rewire n x s) = let us = with_name ts n in go_further ts us _ (goes_name ts n) (goes_targets us s)
 goes_targets ts (when x i s) = let us = with_targets ts i in go_further ts us _ (goes_targets ts i) (goes_targets us s)
 goes_targets ts (effect i s) = goes_targets ts s

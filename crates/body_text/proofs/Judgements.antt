@@ -1,22 +1,23 @@
 -- What is judged of lines that were read is judged of what they say.
-use Rattle.std.proofs.Common.{◌≡◌, ◌≤◌, ℕ, Bool, true, false, cond, List, [], ◌∷◌, length, map, Option, Some, None, refl, sym, ap, ap₂, subst, ◌∙◌, arith}
+use Rattle.std.proofs.Common.{◌≡◌, ◌≤◌, ℕ, Bool, true, false, cond, List, [], ◌∷◌, length, map, Option, Some, None, refl, ap, ap₂, ◌∙◌, arith}
 use Rattle.std.specs.Prelude.{option_map, Result, Ok, ◌&&◌, nat_lt}
 use Rattle.std.specs.Option.{option_or}
 use Rattle.std.proofs.lemmas.Bool.Decides.{nat_tests}
 use Rattle.std.proofs.lemmas.List.{length-map}
+use Rattle.sig_base.specs.declared.scalar.Scalar.{Scalar}
 use Rattle.formula_text.specs.declared.wired.FormulaFault.{FormulaFault}
 use Rattle.formula_text.specs.declared.wired.FormulaFault.TheVariants as fault
 use Rattle.formula_text.specs.Grammar.{Draft}
 use Rattle.formula_text.specs.Judging.{has_untrack}
 use Rattle.formula_text.specs.Wiring.{refusal}
-use Rattle.line_forms.specs.Forms.{Args}
-use Rattle.line_forms.specs.Told.{fault_along, fault_of_arguments, unless_faulty}
+use Rattle.line_forms.specs.Forms.{Args, Form, Holds, Of, One, Part, arguments, fixed, formula, key, listed, many, one, part, perhaps, value}
+use Rattle.line_forms.specs.Told.{fault_along, fault_in, fault_of_arguments, fault_of_list, fault_of_one, fault_of_scalar, first_long, unless_faulty}
 use Rattle.script_lines.specs.Lines.{NumberedLine}
 use Rattle.body_text.specs.declared.fault.BodyWhy.{BodyWhy}
 use Rattle.body_text.specs.declared.fault.BodyWhy.TheVariants as why
 use Rattle.body_text.specs.declared.judge.ReadLine.{ReadLine}
 use Rattle.body_text.specs.declared.line.Line.{Line}
-use Rattle.body_text.specs.Grammar.{Row, row, Said, line_of, set, log, guard, cleanup_set, cleanup_log, effect, dispose, rewire, host, close}
+use Rattle.body_text.specs.Grammar.{row, Said, line_of}
 use Rattle.body_text.specs.Judging.{Judged, allowed, excess, fault_at, fault_of, first_excess, first_misplaced, high, is_nested, judged, judged_at, many_lines, misplacing, missing, refusal_of}
 use Rattle.body_text.specs.Places.{kind_of, moved}
 use Rattle.body_text.specs.Readings.{Sayings, Say, reached, said_lines}
@@ -82,24 +83,35 @@ formula_cause x = no_untrack (has_untrack x) _ _ (either _ _ _ row_here (either 
 arguments_cause : (ns : List (List ℕ)) → IsCause (fault_of_arguments ns)
 arguments_cause ns = either _ _ _ sources nothing
 
-or_none : {A : Type 0} (o : Option A) → option_or o None ≡ o
-or_none None = refl
-or_none (Some a) = refl
+or_cause : (o q : Option FormulaFault) → IsCause o → IsCause q → IsCause (option_or o q)
+or_cause None q c d = d
+or_cause (Some f) q c d = c
 
-last_cause : (o : Option FormulaFault) → IsCause o → IsCause (option_or o None)
-last_cause o c = subst (λ (p : Option FormulaFault). IsCause p) (sym (or_none o)) c
+long_cause : (vs : List Scalar) → IsCause (first_long vs)
+long_cause [] = nothing
+long_cause (v ∷ vs) = or_cause (fault_of_scalar v) (first_long vs) (either _ _ _ long nothing) (long_cause vs)
 
-line_cause : (r : Row) (a : Args (row r).1) → IsCause (fault_along allowed (row r).1 a)
-line_cause set a = last_cause _ (formula_cause a.1.0)
-line_cause log a = last_cause _ (formula_cause a.0)
-line_cause guard a = last_cause _ (formula_cause a.0)
-line_cause cleanup_set a = last_cause _ (formula_cause a.1.0)
-line_cause cleanup_log a = last_cause _ (formula_cause a.0)
-line_cause effect a = nothing
-line_cause dispose a = nothing
-line_cause rewire a = last_cause _ (formula_cause a.1.0)
-line_cause host a = last_cause _ (arguments_cause a.1.1.0)
-line_cause close a = nothing
+one_cause : (o : One) (v : Of o) → IsCause (fault_of_one o v)
+one_cause value v = either _ _ _ long nothing
+one_cause key t = either _ _ _ long nothing
+one_cause _ v = nothing
+
+list_cause : (o : One) (vs : List (Of o)) → IsCause (fault_of_list o vs)
+list_cause value vs = long_cause vs
+list_cause _ vs = nothing
+
+part_cause : (p : Part) (v : Holds p) → IsCause (fault_in allowed p v)
+part_cause (one o) v = one_cause o v
+part_cause (perhaps w o) v = nothing
+part_cause (many o) vs = list_cause o vs
+part_cause (listed o) vs = list_cause o vs
+part_cause arguments ns = arguments_cause ns
+part_cause formula f = formula_cause f
+
+line_cause : (ps : Form) (a : Args ps) → IsCause (fault_along allowed ps a)
+line_cause [] a = nothing
+line_cause (fixed l ∷ ps) a = line_cause ps a
+line_cause (part p ∷ ps) a = or_cause (fault_in allowed p a.0) (fault_along allowed ps a.1) (part_cause p a.0) (line_cause ps a.1)
 
 pub neither : {A : Type 0} (o p : Option A) → option_or o p ≡ None → (o ≡ None) × (p ≡ None)
 neither None p e = (refl, e)
@@ -120,7 +132,7 @@ no_fault : (depth : ℕ) (x : Said) → misplacing depth (kind_of (line_of x)) (
 no_fault depth x m e =
     let w = fault_of x in
     let a = neither (missing w) _ m in
-    no_cause w (line_cause x.0 x.1) a.0 (not_chosen (is_nested depth (kind_of (line_of x))) why.Nest (high w) a.1).1 e
+    no_cause w (line_cause (row x.0).1 x.1) a.0 (not_chosen (is_nested depth (kind_of (line_of x))) why.Nest (high w) a.1).1 e
 
 -- nothing is wrong with these lines
 abbrev pub AllSound : Sayings → Type 0

@@ -1,20 +1,21 @@
 -- The body of statements means them.
-use Rattle.std.proofs.Common.{◌≡◌, ℕ, zero, suc, ◌+◌, List, [], ◌∷◌, ◌++◌, drop, length, refl, sym, ap, ap₂, ◌∙◌, append_assoc, arith}
+use Rattle.std.proofs.Common.{◌≡◌, ℕ, zero, suc, ◌+◌, List, [], ◌∷◌, ◌++◌, drop, length, Option, Some, refl, subst, sym, ap, ap₂, ◌∙◌, append_assoc, arith}
 use Rattle.std.proofs.lemmas.List.{append-nil, drop-drop, drop_at, length-append}
+use Rattle.effect_model.specs.Lines.{formula_of, target_of}
+use Rattle.effect_model.proofs.SharedLines.{mapped_back}
 use Rattle.sig_untrack.specs.Stated as stated
 use Rattle.sig_untrack.specs.Stated.{Stated, Rewiring, Bodies, no_bodies}
 use Rattle.formula_text.specs.Grammar.{Draft, leaf, negation, binary, choice, of_row, one_part, each_row}
-use Rattle.formula_text.specs.Judging.{slot_of, with_names}
+use Rattle.formula_text.specs.Judging.{slot_of, slotted, with_name, with_names}
+use Rattle.formula_text.specs.Canonical.{named, unslotted}
 use Rattle.formula_text.specs.Signs.{name, constant}
 use Rattle.formula_text.proofs.Shared.{Has, HasEach, each_there, named_again, named_back, named_slot}
-use Rattle.body_text.specs.declared.line.Plain.{Plain}
-use Rattle.body_text.specs.declared.line.Plain.TheVariants as p
 use Rattle.body_text.specs.declared.line.Source.{Source}
 use Rattle.body_text.specs.declared.line.Source.TheVariants as source
 use Rattle.body_text.specs.Building.{joined}
 use Rattle.body_text.specs.Naming.{GoOn}
-use Rattle.body_text.specs.Statements.{Statements, done, plain, when, effect, body_of, effects_of, formula_of, own_effects, own_rewires, placed, placed_line, rewired_by, rewires_in, rewiring_of, rewirings_of, target_of, with_formula, with_own, with_target, with_targets}
-use Rattle.body_text.specs.Writing.{Parts, effect_at, meaning, meanings, meant, rewire_line, rewired_at}
+use Rattle.body_text.specs.Statements.{Statement, Statements, done, plain, rewire, when, effect, body_of, effects_of, own_effects, own_rewires, placed, placed_line, rewiring_of, rewirings_of, with_formula, with_own, with_target, with_targets}
+use Rattle.body_text.specs.Writing.{Parts, effect_at, meaning, meanings, meant, named_line, rewired_at, source_of}
 use Rattle.body_text.proofs.Appending.{goes_own, goes_targets}
 use Rattle.body_text.proofs.Slotting.{there}
 
@@ -32,42 +33,34 @@ each_on ns ms (one_part f x) g h = each_on ns ms x g h
 each_on ns ms (each_row f x y) g h = (each_on ns ms x g h.0, each_on ns ms y g h.1)
 
 -- what a statement acts on and reads is there
-abbrev pub HasLine : List (List ℕ) → List (List ℕ) → Plain → Type 0
-HasLine ts ns (p.Set n x) = Has ts n × HasEach ns x
-HasLine ts ns (p.Log x) = HasEach ns x
-HasLine ts ns (p.CleanupSet n x) = Has ts n × HasEach ns x
-HasLine ts ns (p.CleanupLog x) = HasEach ns x
-HasLine ts ns (p.Dispose n) = Has ts n
-HasLine ts ns (p.Rewire n s) = Has ts n
+pub record HasLine (ts ns : List (List ℕ)) (a : Statement) : Type 0 where
+  pub target : (n : List ℕ) → target_of a ≡ Some n → Has ts n
+  pub formula : (x : Draft) → formula_of a ≡ Some x → HasEach ns x
 
 -- the same of the own statements of a body
 abbrev pub HasOwn : List (List ℕ) → List (List ℕ) → Statements → Type 0
 HasOwn ts ns done = Unit {0}
 HasOwn ts ns (plain a s) = HasLine ts ns a × HasOwn ts ns s
+HasOwn ts ns (rewire n x s) = Has ts n × HasOwn ts ns s
 HasOwn ts ns (when x i s) = HasEach ns x × HasOwn ts ns i × HasOwn ts ns s
 HasOwn ts ns (effect i s) = HasOwn ts ns s
 
-line_on : (ts us ns ms : List (List ℕ)) (a : Plain) → GoOn ts us → GoOn ns ms → HasLine ts ns a → HasLine us ms a
-line_on ts us ns ms (p.Set n x) g h l = ((g.kept n l.0).0, each_on ns ms x h l.1)
-line_on ts us ns ms (p.Log x) g h l = each_on ns ms x h l
-line_on ts us ns ms (p.CleanupSet n x) g h l = ((g.kept n l.0).0, each_on ns ms x h l.1)
-line_on ts us ns ms (p.CleanupLog x) g h l = each_on ns ms x h l
-line_on ts us ns ms (p.Dispose n) g h l = (g.kept n l).0
-line_on ts us ns ms (p.Rewire n s) g h l = (g.kept n l).0
+line_on : (ts us ns ms : List (List ℕ)) (a : Statement) → GoOn ts us → GoOn ns ms → HasLine ts ns a → HasLine us ms a
+line_on ts us ns ms a g h l =
+    record { target = λ n e. (g.kept n (l.target n e)).0; formula = λ x e. each_on ns ms x h (l.formula x e) }
 
 own_on : (ts us ns ms : List (List ℕ)) (s : Statements) → GoOn ts us → GoOn ns ms → HasOwn ts ns s → HasOwn us ms s
 own_on ts us ns ms done g h o = tt
 own_on ts us ns ms (plain a s) g h o = (line_on ts us ns ms a g h o.0, own_on ts us ns ms s g h o.1)
+own_on ts us ns ms (rewire n x s) g h o = ((g.kept n o.0).0, own_on ts us ns ms s g h o.1)
 own_on ts us ns ms (when x i s) g h o = (each_on ns ms x h o.0, own_on ts us ns ms i g h o.1, own_on ts us ns ms s g h o.2)
 own_on ts us ns ms (effect i s) g h o = own_on ts us ns ms s g h o
 
-line_there : (ts ns : List (List ℕ)) (a : Plain) → HasLine (with_target ts (target_of a)) (with_formula ns (formula_of a)) a
-line_there ts ns (p.Set n x) = (there ts n, each_there ns x)
-line_there ts ns (p.Log x) = each_there ns x
-line_there ts ns (p.CleanupSet n x) = (there ts n, each_there ns x)
-line_there ts ns (p.CleanupLog x) = each_there ns x
-line_there ts ns (p.Dispose n) = there ts n
-line_there ts ns (p.Rewire n s) = there ts n
+line_there : (ts ns : List (List ℕ)) (a : Statement) → HasLine (with_target ts (target_of a)) (with_formula ns (formula_of a)) a
+line_there ts ns a = record {
+  target = λ n e. subst (λ (o : Option (List ℕ)). Has (with_target ts o) n) (sym e) (there ts n);
+  formula = λ x e. subst (λ (o : Option Draft). HasEach (with_formula ns o) x) (sym e) (each_there ns x);
+}
 
 pub own_there : (ts ns : List (List ℕ)) (s : Statements) → HasOwn (with_targets ts s) (with_own ns s) s
 own_there ts ns done = tt
@@ -75,6 +68,8 @@ own_there ts ns (plain a s) =
     let us = with_target ts (target_of a) in
     let ms = with_formula ns (formula_of a) in
     (line_on us (with_targets us s) ms (with_own ms s) a (goes_targets us s) (goes_own ms s) (line_there ts ns a), own_there us ms s)
+own_there ts ns (rewire n x s) =
+    let us = with_name ts n in (((goes_targets us s).kept n (there ts n)).0, own_there us ns s)
 own_there ts ns (when x i s) =
     let ms = with_names ns x in
     let us = with_targets ts i in
@@ -91,27 +86,21 @@ own_there ts ns (effect i s) = own_there ts ns s
 abbrev pub nested_of : Statements → List Statements
 nested_of done = []
 nested_of (plain a s) = nested_of s
+nested_of (rewire n x s) = nested_of s
 nested_of (when x i s) = nested_of i ++ nested_of s
 nested_of (effect i s) = i ∷ nested_of s
 
 nested_count : (s : Statements) → length (nested_of s) ≡ own_effects s
 nested_count done = refl
 nested_count (plain a s) = nested_count s
+nested_count (rewire n x s) = nested_count s
 nested_count (when x i s) = let e = nested_count i in let f = nested_count s in let g = length-append (nested_of i) (nested_of s) in omega arith
 nested_count (effect i s) = let e = nested_count s in omega arith
 
-rewired_count : (ts : List (List ℕ)) (a : Plain) → length (rewired_by ts a) ≡ rewires_in a
-rewired_count ts (p.Set n x) = refl
-rewired_count ts (p.Log x) = refl
-rewired_count ts (p.CleanupSet n x) = refl
-rewired_count ts (p.CleanupLog x) = refl
-rewired_count ts (p.Dispose n) = refl
-rewired_count ts (p.Rewire n s) = refl
-
 rewires_count : (ts : List (List ℕ)) (s : Statements) → length (rewirings_of ts s) ≡ own_rewires s
 rewires_count ts done = refl
-rewires_count ts (plain a s) =
-    let e = rewired_count ts a in let f = rewires_count ts s in let g = length-append (rewired_by ts a) (rewirings_of ts s) in omega arith
+rewires_count ts (plain a s) = rewires_count ts s
+rewires_count ts (rewire n x s) = let e = rewires_count ts s in omega arith
 rewires_count ts (when x i s) =
     let e = rewires_count ts i in let f = rewires_count ts s in let g = length-append (rewirings_of ts i) (rewirings_of ts s) in omega arith
 rewires_count ts (effect i s) = rewires_count ts s
@@ -127,34 +116,29 @@ effect_there (suc n) [] y ys e = absurd cc
 effect_there (suc n) (x ∷ xs) y ys e = effect_there n xs y ys e
 
 rewired_there : (ts : List (List ℕ)) (n : ℕ) (xs : List Rewiring) (y : Rewiring) (ys : List Rewiring) (rest : Statements) → drop n xs ≡ y ∷ ys
-    → rewired_at ts xs n rest ≡ plain (rewire_line ts y) rest
+    → rewired_at ts xs n rest ≡ rewire (named ts y.target) (source_of y.source y.names) rest
 rewired_there ts zero [] y ys rest e = absurd cc
-rewired_there ts zero (x ∷ xs) y ys rest e = let same : x ≡ y = cc in ap (λ (z : Rewiring). plain (rewire_line ts z) rest) same
+rewired_there ts zero (x ∷ xs) y ys rest e =
+    let same : x ≡ y = cc in ap (λ (z : Rewiring). rewire (named ts z.target) (source_of z.source z.names) rest) same
 rewired_there ts (suc n) [] y ys rest e = absurd cc
 rewired_there ts (suc n) (x ∷ xs) y ys rest e = rewired_there ts n xs y ys rest e
 
-rewire_back : (ts : List (List ℕ)) (n : List ℕ) (s : Source) → Has ts n → rewire_line ts (rewiring_of (slot_of ts n) s) ≡ p.Rewire n s
-rewire_back ts n (source.Formula x) h = ap₂ (λ (m : List ℕ) (y : Draft). p.Rewire m (source.Formula y)) (named_slot ts n h) (named_back x)
-rewire_back ts n (source.Host k ns) h = ap (λ (m : List ℕ). p.Rewire m (source.Host k ns)) (named_slot ts n h)
+rewire_back : (ts : List (List ℕ)) (n : List ℕ) (s : Source) (rest : Statements) → Has ts n
+    → rewire (named ts (rewiring_of (slot_of ts n) s).target) (source_of (rewiring_of (slot_of ts n) s).source (rewiring_of (slot_of ts n) s).names) rest
+    ≡ rewire n s rest
+rewire_back ts n (source.Formula x) rest h = ap₂ (λ (m : List ℕ) (y : Draft). rewire m (source.Formula y) rest) (named_slot ts n h) (named_back x)
+rewire_back ts n (source.Host k ns) rest h = ap (λ (m : List ℕ). rewire m (source.Host k ns) rest) (named_slot ts n h)
 
 -- ---- statements mean themselves
 
-line_back : (b : Parts) (r : ℕ) (a : Plain) (after : Stated) (rs : List Rewiring) → HasLine b.targets b.names a
-    → drop r b.rewires ≡ rewired_by b.targets a ++ rs → meant b (placed_line b.targets b.names r a after) ≡ plain a (meant b after)
-line_back b r (p.Set n x) after rs h e =
-    ap₂ (λ (m : List ℕ) (y : Draft). plain (p.Set m y) (meant b after)) (named_slot b.targets n h.0) (named_again b.names x h.1)
-line_back b r (p.Log x) after rs h e = ap (λ (y : Draft). plain (p.Log y) (meant b after)) (named_again b.names x h)
-line_back b r (p.CleanupSet n x) after rs h e =
-    ap₂ (λ (m : List ℕ) (y : Draft). plain (p.CleanupSet m y) (meant b after)) (named_slot b.targets n h.0) (named_again b.names x h.1)
-line_back b r (p.CleanupLog x) after rs h e = ap (λ (y : Draft). plain (p.CleanupLog y) (meant b after)) (named_again b.names x h)
-line_back b r (p.Dispose n) after rs h e = ap (λ (m : List ℕ). plain (p.Dispose m) (meant b after)) (named_slot b.targets n h)
-line_back b r (p.Rewire n s) after rs h e =
-    rewired_there b.targets r b.rewires (rewiring_of (slot_of b.targets n) s) rs (meant b after) e
-    ∙ ap (λ (a : Plain). plain a (meant b after)) (rewire_back b.targets n s h)
+line_back : (ts ns : List (List ℕ)) (a : Statement) → HasLine ts ns a → named_line ts ns (placed_line ts ns a) ≡ a
+line_back ts ns a h =
+    mapped_back (slot_of ts) (named ts) (slotted ns) (unslotted ns) a (λ n e. named_slot ts n (h.target n e)) (λ x e. named_again ns x (h.formula x e))
 
 then_none : (s : Statements) → joined s done ≡ s
 then_none done = refl
 then_none (plain a s) = ap (plain a) (then_none s)
+then_none (rewire n x s) = ap (rewire n x) (then_none s)
 then_none (when x i s) = ap (when x i) (then_none s)
 then_none (effect i s) = ap (effect i) (then_none s)
 
@@ -162,11 +146,13 @@ pub back : (b : Parts) (e r : ℕ) (s : Statements) (es : List Statements) (rs :
     → drop e b.effects ≡ nested_of s ++ es → drop r b.rewires ≡ rewirings_of b.targets s ++ rs
     → meant b (placed b.targets b.names e r s after) ≡ joined s (meant b after)
 back b e r done es rs after h f g = refl
-back b e r (plain a s) es rs after h f g =
-    let more = g ∙ append_assoc (rewired_by b.targets a) (rewirings_of b.targets s) rs in
-    let next = drop_past r (rewires_in a) b.rewires (rewired_by b.targets a) (rewirings_of b.targets s ++ rs) more (rewired_count b.targets a) in
-    line_back b r a (placed b.targets b.names e (r + rewires_in a) s after) (rewirings_of b.targets s ++ rs) h.0 more
-    ∙ ap (plain a) (back b e (r + rewires_in a) s es rs after h.1 f next)
+back b e r (plain a s) es rs after h f g = ap₂ plain (line_back b.targets b.names a h.0) (back b e r s es rs after h.1 f g)
+back b e r (rewire n x s) es rs after h f g =
+    let one = rewiring_of (slot_of b.targets n) x in
+    let next = drop_past r 1 b.rewires (one ∷ []) (rewirings_of b.targets s ++ rs) g refl in
+    rewired_there b.targets r b.rewires one (rewirings_of b.targets s ++ rs) (meant b (placed b.targets b.names e (r + 1) s after)) g
+    ∙ rewire_back b.targets n x (meant b (placed b.targets b.names e (r + 1) s after)) h.0
+    ∙ ap (rewire n x) (back b e (r + 1) s es rs after h.1 f next)
 back b e r (when x i s) es rs after h f g =
     let effects = f ∙ append_assoc (nested_of i) (nested_of s) es in
     let rewires = g ∙ append_assoc (rewirings_of b.targets i) (rewirings_of b.targets s) rs in
@@ -193,6 +179,7 @@ own_back s inner e =
 pub nested_back : (s : Statements) (others : Bodies) → meanings (effects_of s others) ≡ nested_of s ++ meanings others
 nested_back done others = refl
 nested_back (plain a s) others = nested_back s others
+nested_back (rewire n x s) others = nested_back s others
 nested_back (when x i s) others =
     nested_back i (effects_of s others) ∙ ap (λ (ms : List Statements). nested_of i ++ ms) (nested_back s others)
     ∙ sym (append_assoc (nested_of i) (nested_of s) (meanings others))

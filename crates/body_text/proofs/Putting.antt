@@ -1,6 +1,9 @@
 -- What statements bring is put one after the other.
-use Rattle.std.proofs.Common.{◌≡◌, ◌≤◌, ℕ, ◌+◌, List, [], ◌∷◌, ◌++◌, Some, None, length, map, refl, sym, ap, ap₂, subst, ◌∙◌, append_assoc, arith}
+use Rattle.std.proofs.Common.{◌≡◌, ℕ, ◌+◌, List, [], ◌∷◌, ◌++◌, Option, Some, None, length, map, refl, sym, ap, ap₂, subst, ◌∙◌, append_assoc, arith}
 use Rattle.std.proofs.lemmas.List.{append-nil, length-append}
+use Rattle.effect_model.specs.declared.plain.Plain.{Plain}
+use Rattle.effect_model.specs.Lines.{formula_of, target_of}
+use Rattle.effect_model.proofs.SharedLines.{mapped_alike}
 use Rattle.sig_untrack.specs.declared.body.Body.{Body}
 use Rattle.sig_untrack.specs.declared.body.Rewire.{Rewire as ARewire}
 use Rattle.sig_untrack.specs.declared.body.Stmt.{Stmt}
@@ -8,16 +11,14 @@ use Rattle.sig_untrack.specs.Stated as stated
 use Rattle.sig_untrack.specs.Stated.{Stated, Rewiring, Bodies, bodies_before, before, body, no_bodies, put, rewiring}
 use Rattle.sig_formula.specs.Trees.{Tree}
 use Rattle.formula_text.specs.Grammar.{Draft}
-use Rattle.formula_text.specs.Judging.{slot_of, slotted, with_names}
+use Rattle.formula_text.specs.Judging.{slot_of, slotted, with_name, with_names}
 use Rattle.body_text.specs.declared.line.Line.{Line}
 use Rattle.body_text.specs.declared.line.Line.TheVariants as line
-use Rattle.body_text.specs.declared.line.Plain.{Plain}
-use Rattle.body_text.specs.declared.line.Plain.TheVariants as p
 use Rattle.body_text.specs.declared.line.Source.{Source}
 use Rattle.body_text.specs.declared.lists.Lists.{Lists}
-use Rattle.body_text.specs.Building.{BeginsSo, IsBuilt, IsPut, most_more, size, joined}
+use Rattle.body_text.specs.Building.{BeginsSo, IsBuilt, IsPut, joined}
 use Rattle.body_text.specs.Naming.{GoOn}
-use Rattle.body_text.specs.Statements.{Statements, done, plain, when, effect, lines_of, body_with, effects_of, formula_of, own_effects, own_rewires, placed, placed_line, rewired_by, rewires_in, rewiring_of, rewirings_of, target_of, with_formula, with_own, with_target, with_targets}
+use Rattle.body_text.specs.Statements.{Statement, Statements, done, plain, rewire, when, effect, lines_of, body_with, effects_of, own_effects, own_rewires, placed, placed_line, rewiring_of, rewirings_of, with_formula, with_own, with_target, with_targets}
 use Rattle.body_text.proofs.Appending.{goes_own, goes_targets, then_effects, then_more, then_nested, then_own, then_placed, then_rewires, then_rewirings, then_targets}
 use Rattle.body_text.proofs.Slotting.{go_further, go_on, put_slot, put_slots}
 use Rattle.body_text.proofs.Spelling.{apart, tail_of}
@@ -25,81 +26,57 @@ use Rattle.body_text.proofs.Spelling.{apart, tail_of}
 -- ---- one line
 
 -- the same statement, where targets and names go on behind its own
-same_line : (ts ns us ms : List (List ℕ)) (r : ℕ) (a : Plain) (rest : Stated) → GoOn (with_target ts (target_of a)) us → GoOn (with_formula ns (formula_of a)) ms
-    → placed_line (with_target ts (target_of a)) (with_formula ns (formula_of a)) r a rest ≡ placed_line us ms r a rest
-same_line ts ns us ms r (p.Set n x) rest g h =
-    ap₂ (λ (k : ℕ) (t : Tree). stated.set k t rest) (sym (put_slot ts us n g)) (sym (put_slots ns ms x h))
-same_line ts ns us ms r (p.Log x) rest g h = ap (λ (t : Tree). stated.log t rest) (sym (put_slots ns ms x h))
-same_line ts ns us ms r (p.CleanupSet n x) rest g h =
-    ap₂ (λ (k : ℕ) (t : Tree). stated.cleanup_set k t rest) (sym (put_slot ts us n g)) (sym (put_slots ns ms x h))
-same_line ts ns us ms r (p.CleanupLog x) rest g h = ap (λ (t : Tree). stated.cleanup_log t rest) (sym (put_slots ns ms x h))
-same_line ts ns us ms r (p.Dispose n) rest g h = ap (λ (k : ℕ). stated.dispose k rest) (sym (put_slot ts us n g))
-same_line ts ns us ms r (p.Rewire n s) rest g h = refl
-
-same_rewired : (ts us : List (List ℕ)) (a : Plain) → GoOn (with_target ts (target_of a)) us → rewired_by (with_target ts (target_of a)) a ≡ rewired_by us a
-same_rewired ts us (p.Set n x) g = refl
-same_rewired ts us (p.Log x) g = refl
-same_rewired ts us (p.CleanupSet n x) g = refl
-same_rewired ts us (p.CleanupLog x) g = refl
-same_rewired ts us (p.Dispose n) g = refl
-same_rewired ts us (p.Rewire n s) g = ap (λ (k : ℕ). rewiring_of k s ∷ []) (sym (put_slot ts us n g))
+same_line : (ts ns us ms : List (List ℕ)) (a : Statement) → GoOn (with_target ts (target_of a)) us → GoOn (with_formula ns (formula_of a)) ms
+    → placed_line (with_target ts (target_of a)) (with_formula ns (formula_of a)) a ≡ placed_line us ms a
+same_line ts ns us ms a g h =
+    mapped_alike (slot_of (with_target ts (target_of a))) (slot_of us) (slotted (with_formula ns (formula_of a))) (slotted ms) a
+    (λ n e. subst (λ (o : Option (List ℕ)). GoOn (with_target ts o) us → slot_of (with_target ts o) n ≡ slot_of us n) (sym e)
+    (λ (k : GoOn (with_name ts n) us). sym (put_slot ts us n k)) g)
+    (λ x e. subst (λ (o : Option Draft). GoOn (with_formula ns o) ms → slotted (with_formula ns o) x ≡ slotted ms x) (sym e)
+    (λ (k : GoOn (with_names ns x) ms). sym (put_slots ns ms x k)) h)
 
 from_equal : (ns ms us : List (List ℕ)) → ns ≡ ms → GoOn ns us → GoOn ms us
 from_equal ns ms us e g = subst (λ (ks : List (List ℕ)). GoOn ks us) e g
-
--- a statement that is no rewiring was put
-pub no_rewiring : (a : Plain) (old new : Lists) (s : Stmt) → ((ts : List (List ℕ)) → rewired_by ts a ≡ []) → rewires_in a ≡ 0
-    → new.targets.items ≡ with_target old.targets.items (target_of a) → new.names.items ≡ with_formula old.names.items (formula_of a)
-    → new.effects.items ≡ old.effects.items → new.rewires.items ≡ old.rewires.items
-    → ((rest : Stated) → put s rest ≡ placed_line new.targets.items new.names.items (length old.rewires.items) a rest)
-    → size new ≤ size old + most_more → IsPut a old new s
-no_rewiring a old new s none zero et en ee er e few = record {
-  targets = et;
-  names = en;
-  effects = ee;
-  rewirings = ap (map rewiring) er ∙ sym (append-nil (map rewiring old.rewires.items)) ∙ ap (λ (rs : List Rewiring). map rewiring old.rewires.items ++ rs) (sym (none new.targets.items));
-  rewires = let g = ap length er in omega (arith, g, zero);
-  statement = e;
-  few = few;
-}
 
 map_more : (rs : List ARewire) (r : ARewire) → map rewiring (rs ++ r ∷ []) ≡ map rewiring rs ++ rewiring r ∷ []
 map_more [] r = refl
 map_more (q ∷ rs) r = ap (λ (ks : List Rewiring). rewiring q ∷ ks) (map_more rs r)
 
 -- a rewiring was put
-pub one_rewiring : (n : List ℕ) (x : Source) (old new : Lists) (s : Stmt) (r : ARewire) → rewiring r ≡ rewiring_of (slot_of new.targets.items n) x
-    → new.targets.items ≡ with_target old.targets.items (Some n) → new.names.items ≡ old.names.items
+pub rewire_built : (n : List ℕ) (x : Source) (old new : Lists) (s : Stmt) (r : ARewire) → rewiring r ≡ rewiring_of (slot_of new.targets.items n) x
+    → new.targets.items ≡ with_name old.targets.items n → new.names.items ≡ old.names.items
     → new.effects.items ≡ old.effects.items → new.rewires.items ≡ old.rewires.items ++ r ∷ []
-    → ((rest : Stated) → put s rest ≡ stated.rewire (length old.rewires.items) rest)
-    → size new ≤ size old + most_more → IsPut (p.Rewire n x) old new s
-one_rewiring n x old new s r is et en ee er e few = record {
+    → ((rest : Stated) → put s rest ≡ stated.rewire (length old.rewires.items) rest) → IsBuilt (rewire n x done) old new (s ∷ [])
+rewire_built n x old new s r is et en ee er e = record {
   targets = et;
   names = en;
-  effects = ee;
-  rewirings = ap (map rewiring) er ∙ map_more old.rewires.items r ∙ ap (λ (k : Rewiring). map rewiring old.rewires.items ++ k ∷ []) is;
+  effects = λ others. ap (λ (bs : List Body). bodies_before bs others) ee;
+  nested = let f = ap length ee in omega arith;
+  rewirings = λ ts g.
+      let ups = from_equal new.targets.items (with_name old.targets.items n) ts et g in
+      let same = ap (λ (us : List (List ℕ)). slot_of us n) et ∙ sym (put_slot old.targets.items ts n ups) in
+      ap (map rewiring) er ∙ map_more old.rewires.items r
+      ∙ ap (λ (k : Rewiring). map rewiring old.rewires.items ++ k ∷ []) (is ∙ ap (λ (k : ℕ). rewiring_of k x) same);
   rewires = ap length er ∙ length-append old.rewires.items (r ∷ []);
-  statement = e;
-  few = few;
+  statements = λ ts ns after g h. e after;
 }
 
-pub line_built : (a : Plain) (old new : Lists) (s : Stmt) → IsPut a old new s → IsBuilt (plain a done) old new (s ∷ [])
+-- what a statement of one line brings was put
+pub line_built : (a : Statement) (old new : Lists) (s : Stmt) → IsPut a old new s → IsBuilt (plain a done) old new (s ∷ [])
 line_built a old new s i = record {
   targets = i.targets;
   names = i.names;
   effects = λ others. ap (λ (bs : List Body). bodies_before bs others) i.effects;
   nested = let e = ap length i.effects in omega arith;
-  rewirings = λ ts g.
-      let ups = from_equal new.targets.items (with_target old.targets.items (target_of a)) ts i.targets g in
-      let same = ap (λ (us : List (List ℕ)). rewired_by us a) i.targets ∙ same_rewired old.targets.items ts a ups in
-      i.rewirings ∙ ap (λ (rs : List Rewiring). map rewiring old.rewires.items ++ rs) (same ∙ sym (append-nil (rewired_by ts a)));
-  rewires = let e = i.rewires in omega arith;
+  rewirings = λ ts g. ap (map rewiring) i.rewires ∙ sym (append-nil (map rewiring old.rewires.items));
+  rewires = let e = ap length i.rewires in omega arith;
   statements = λ ts ns after g h.
-      let r = length old.rewires.items in
-      i.statement after ∙ ap₂ (λ (us ms : List (List ℕ)). placed_line us ms r a after) i.targets i.names
-      ∙ same_line old.targets.items old.names.items ts ns r a after
+      i.statement after
+      ∙ ap (λ (b : Plain ℕ ℕ Tree). stated.plain b after)
+      (ap₂ (λ (us ms : List (List ℕ)). placed_line us ms a) i.targets i.names
+      ∙ same_line old.targets.items old.names.items ts ns a
       (from_equal new.targets.items (with_target old.targets.items (target_of a)) ts i.targets g)
-      (from_equal new.names.items (with_formula old.names.items (formula_of a)) ns i.names h);
+      (from_equal new.names.items (with_formula old.names.items (formula_of a)) ns i.names h));
 }
 
 -- ---- one after the other
@@ -151,26 +128,38 @@ then_built t u old mid new ws vs a b = record {
 pub none_front : (s : Statements) (r : List Line) → [] ≡ lines_of s ++ (line.End ∷ r) → ⊥
 none_front done r e = absurd cc
 none_front (plain a s) r e = absurd cc
+none_front (rewire n x s) r e = absurd cc
 none_front (when x i s) r e = absurd cc
 none_front (effect i s) r e = absurd cc
 
 pub end_front : (s : Statements) (more r : List Line) → line.End ∷ more ≡ lines_of s ++ (line.End ∷ r) → (s ≡ done) × (more ≡ r)
 end_front done more r e = (refl, tail_of _ _ _ _ e)
 end_front (plain a s) more r e = absurd cc
+end_front (rewire n x s) more r e = absurd cc
 end_front (when x i s) more r e = absurd cc
 end_front (effect i s) more r e = absurd cc
 
-pub line_front : (a : Plain) (s : Statements) (more r : List Line) → line.Plain a ∷ more ≡ lines_of s ++ (line.End ∷ r)
+pub line_front : (a : Statement) (s : Statements) (more r : List Line) → line.Plain a ∷ more ≡ lines_of s ++ (line.End ∷ r)
     → (u : Statements) × (s ≡ plain a u) × (more ≡ lines_of u ++ (line.End ∷ r))
 line_front a done more r e = absurd cc
 line_front a (plain b s) more r e = (s, cc, tail_of _ _ _ _ e)
+line_front a (rewire n x s) more r e = absurd cc
 line_front a (when x i s) more r e = absurd cc
 line_front a (effect i s) more r e = absurd cc
+
+pub rewire_front : (n : List ℕ) (x : Source) (s : Statements) (more r : List Line) → line.Rewire n x ∷ more ≡ lines_of s ++ (line.End ∷ r)
+    → (u : Statements) × (s ≡ rewire n x u) × (more ≡ lines_of u ++ (line.End ∷ r))
+rewire_front n x done more r e = absurd cc
+rewire_front n x (plain b s) more r e = absurd cc
+rewire_front n x (rewire m y s) more r e = (s, cc, tail_of _ _ _ _ e)
+rewire_front n x (when y i s) more r e = absurd cc
+rewire_front n x (effect i s) more r e = absurd cc
 
 pub when_front : (x : Draft) (s : Statements) (more r : List Line) → line.When x ∷ more ≡ lines_of s ++ (line.End ∷ r)
     → (i u : Statements) × (s ≡ when x i u) × (more ≡ lines_of i ++ (line.End ∷ (lines_of u ++ (line.End ∷ r))))
 when_front x done more r e = absurd cc
 when_front x (plain b s) more r e = absurd cc
+when_front x (rewire n y s) more r e = absurd cc
 when_front x (when y i s) more r e = (i, s, cc, tail_of _ _ _ _ e ∙ apart i s r)
 when_front x (effect i s) more r e = absurd cc
 
@@ -178,6 +167,7 @@ pub effect_front : (s : Statements) (more r : List Line) → line.Effect ∷ mor
     → (i u : Statements) × (s ≡ effect i u) × (more ≡ lines_of i ++ (line.End ∷ (lines_of u ++ (line.End ∷ r))))
 effect_front done more r e = absurd cc
 effect_front (plain b s) more r e = absurd cc
+effect_front (rewire n y s) more r e = absurd cc
 effect_front (when y i s) more r e = absurd cc
 effect_front (effect i s) more r e = (i, s, cc, tail_of _ _ _ _ e ∙ apart i s r)
 
@@ -268,9 +258,13 @@ begun s r l left e = record { front = done; rest = s; is = refl; ahead = e; buil
 pub end_begins : (s : Statements) (r more : List Line) (l : Lists) → line.End ∷ more ≡ lines_of s ++ (line.End ∷ r) → BeginsSo s r l l more None
 end_begins s r more l e = let a = end_front s more r e in (a.0, a.1, none_built l)
 
-pub line_begins : (a : Plain) (s : Statements) (r more : List Line) (old new : Lists) (w : Stmt) → line.Plain a ∷ more ≡ lines_of s ++ (line.End ∷ r)
+pub line_begins : (a : Statement) (s : Statements) (r more : List Line) (old new : Lists) (w : Stmt) → line.Plain a ∷ more ≡ lines_of s ++ (line.End ∷ r)
     → IsPut a old new w → BeginsSo s r old new more (Some w)
 line_begins a s r more old new w e i = let b = line_front a s more r e in (plain a done, b.0, b.1, b.2, line_built a old new w i)
+
+pub rewire_begins : (n : List ℕ) (x : Source) (s : Statements) (r more : List Line) (old new : Lists) (w : Stmt)
+    → line.Rewire n x ∷ more ≡ lines_of s ++ (line.End ∷ r) → IsBuilt (rewire n x done) old new (w ∷ []) → BeginsSo s r old new more (Some w)
+rewire_begins n x s r more old new w e i = let b = rewire_front n x s more r e in (rewire n x done, b.0, b.1, b.2, i)
 
 pub when_begins : (x : Draft) (s : Statements) (r more left : List Line) (old new : Lists) (w : Stmt) → line.When x ∷ more ≡ lines_of s ++ (line.End ∷ r)
     → ((i : Statements) (q : List Line) → more ≡ lines_of i ++ (line.End ∷ q) → (left ≡ q) × IsBuilt (when x i done) old new (w ∷ []))

@@ -7,7 +7,7 @@ use Rattle.body_text.specs.declared.line.Line.TheVariants as line
 use Rattle.body_text.specs.Grammar.{line_of}
 use Rattle.body_text.specs.Places.{fits, kind_of, moved}
 use Rattle.body_text.specs.Readings.{Sayings, Say, reached, said_lines}
-use Rattle.body_text.specs.Statements.{Statements, done, plain, when, effect, lines_of}
+use Rattle.body_text.specs.Statements.{Statements, done, plain, rewire, when, effect, lines_of}
 
 -- ---- one list of statements
 
@@ -24,6 +24,9 @@ one_block done _ r q e = absurd cc
 one_block (plain a s) (plain b u) r q e =
     let rest = one_block s u r q (tail_of _ _ _ _ e) in let f = rest.0 in (cc, rest.1)
 one_block (plain a s) _ r q e = absurd cc
+one_block (rewire n x s) (rewire m y u) r q e =
+    let rest = one_block s u r q (tail_of _ _ _ _ e) in let f = rest.0 in (cc, rest.1)
+one_block (rewire n x s) _ r q e = absurd cc
 one_block (when x i s) (when y j u) r q e =
     let whole = sym (apart i s r) ∙ tail_of _ _ _ _ e ∙ apart j u q in
     let first = one_block i j (lines_of s ++ (line.End ∷ r)) (lines_of u ++ (line.End ∷ q)) whole in
@@ -51,6 +54,10 @@ Parts (suc n) ls = (s : Statements) × (rest : List Line) × (ls ≡ lines_of s 
 put_plain : (n : ℕ) (a : _) (ls : List Line) → Parts n ls → Parts n (line.Plain a ∷ ls)
 put_plain zero a ls p = (plain a p.0, ap (λ (ms : List Line). line.Plain a ∷ ms) p.1)
 put_plain (suc n) a ls p = (plain a p.0, p.1, ap (λ (ms : List Line). line.Plain a ∷ ms) p.2, p.3)
+
+put_rewire : (n : ℕ) (m : _) (x : _) (ls : List Line) → Parts n ls → Parts n (line.Rewire m x ∷ ls)
+put_rewire zero m x ls p = (rewire m x p.0, ap (λ (ms : List Line). line.Rewire m x ∷ ms) p.1)
+put_rewire (suc n) m x ls p = (rewire m x p.0, p.1, ap (λ (ms : List Line). line.Rewire m x ∷ ms) p.2, p.3)
 
 put_when : (n : ℕ) (x : _) (ls : List Line) → Parts (suc n) ls → Parts n (line.When x ∷ ls)
 put_when zero x ls p =
@@ -82,6 +89,7 @@ put_end (suc n) ls h p =
 
 put_line : (n : ℕ) (l : Line) (ls : List Line) → fits n (kind_of l) ≡ true → Parts (moved n (kind_of l)) ls → Parts n (l ∷ ls)
 put_line n (line.Plain a) ls h p = put_plain n a ls p
+put_line n (line.Rewire m x) ls h p = put_rewire n m x ls p
 put_line n (line.When x) ls h p = let e : n + 1 ≡ suc n = omega arith in put_when n x ls (subst (λ (m : ℕ). Parts m ls) e p)
 put_line n line.Effect ls h p = let e : n + 1 ≡ suc n = omega arith in put_effect n ls (subst (λ (m : ℕ). Parts m ls) e p)
 put_line n line.End ls h p = put_end n ls h p
@@ -113,6 +121,7 @@ reached_said n (x ∷ xs) = reached_said (moved n (kind_of (line_of x.1))) xs
 behind_all : (n : ℕ) (s : Statements) (r : List Line) → behind n (lines_of s ++ r) ≡ behind n r
 behind_all n done r = refl
 behind_all n (plain a s) r = behind_all n s r
+behind_all n (rewire m x s) r = behind_all n s r
 behind_all n (when x i s) r =
     let back : (n + 1) - 1 ≡ n = omega arith in
     ap (behind (n + 1)) (append_assoc (lines_of i) (line.End ∷ lines_of s) r) ∙ behind_all (n + 1) i (line.End ∷ (lines_of s ++ r))

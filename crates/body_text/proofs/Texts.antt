@@ -2,6 +2,7 @@
 use Rattle.std.proofs.Common.{◌≡◌, ℕ, zero, suc, List, [], ◌∷◌, ◌++◌, map, refl, sym, ap, ap₂, ◌∙◌, append_assoc}
 use Rattle.std.specs.Prelude.{Some, None, option_map, slice_get}
 use Rattle.std.proofs.lemmas.Option.{slice_get-map}
+use Rattle.effect_model.specs.declared.plain.Plain.{Plain}
 use Rattle.sig_formula.specs.declared.formula.Formula.{Formula}
 use Rattle.sig_formula.specs.Trees.{tree}
 use Rattle.formula_text.specs.Canonical.{named, unslotted}
@@ -11,20 +12,19 @@ use Rattle.sig_untrack.specs.declared.body.Recipe2.TheVariants as recipe
 use Rattle.sig_untrack.specs.declared.body.Rewire.{Rewire as ARewire}
 use Rattle.sig_untrack.specs.declared.body.Stmt.{Stmt}
 use Rattle.sig_untrack.specs.declared.body.Stmt.TheVariants as stmt
-use Rattle.sig_untrack.specs.declared.body.Stmt.TheVariants.{rolls-CleanupLog, rolls-Dispose}
+use Rattle.sig_untrack.specs.declared.body.Stmt.TheVariants.{rolls-Plain}
 use Rattle.sig_untrack.specs.declared.body.Stmt.TheOpen.{Stmt-F}
 use Rattle.sig_untrack.specs.declared.body.Stmt.TheFolds.{fold-roll-Stmt}
 use Rattle.sig_untrack.specs.declared.body.Body.TheViews.{out-Body}
 use Rattle.sig_untrack.specs.declared.body.Body.TheFolds.{fold_out-Body}
 use Rattle.sig_untrack.specs.Stated as stated
-use Rattle.sig_untrack.specs.Stated.{Stated, Rewiring, Bodies, Putting, no_bodies, before, before_step, bodies_before, put, put_step, rewiring}
+use Rattle.sig_untrack.specs.Stated.{Stated, Rewiring, Bodies, Putting, held_line, no_bodies, before, before_step, bodies_before, put, put_step, rewiring}
 use Rattle.body_text.specs.declared.line.Line.{Line}
 use Rattle.body_text.specs.declared.line.Line.TheVariants as line
-use Rattle.body_text.specs.declared.line.Plain.TheVariants as p
 use Rattle.body_text.specs.declared.line.Source.TheVariants as source
 use Rattle.body_text.specs.Printing.{TextParts, end_line, parts_text, plain_text, rewire_text, text_at}
 use Rattle.body_text.specs.Statements.{Statements, lines_of}
-use Rattle.body_text.specs.Writing.{Parts, body_text, effect_at, ended_line, lines_text, meaning, meanings, meant, rewire_line, rewired_at, said_of, source_of, text_of}
+use Rattle.body_text.specs.Writing.{Parts, body_text, effect_at, ended_line, lines_text, meaning, meanings, meant, named_line, rewire_line, rewired_at, said_of, source_of, text_of}
 
 -- ---- what stands at a place
 
@@ -65,19 +65,15 @@ with_texts b = record { targets = b.targets; names = b.names; texts = map text_o
 -- the text of statements is that of what they mean
 same_text : (b : Parts) (ss : Stated) → parts_text (with_texts b) ss ≡ text_of (meant b ss)
 same_text b stated.no_more = refl
-same_text b (stated.set t x rest) = ap (λ (k : List ℕ). plain_text (p.Set (named b.targets t) (unslotted b.names x)) ++ k) (same_text b rest)
-same_text b (stated.log x rest) = ap (λ (k : List ℕ). plain_text (p.Log (unslotted b.names x)) ++ k) (same_text b rest)
+same_text b (stated.plain a rest) = ap (λ (k : List ℕ). plain_text (named_line b.targets b.names a) ++ k) (same_text b rest)
 same_text b (stated.when x inner rest) =
     let first = ended_line (said_of (line.When (unslotted b.names x))) in
     ap₂ (λ (i k : List ℕ). first ++ (i ++ (end_line ++ k))) (same_text b inner) (same_text b rest)
     ∙ ap (λ (k : List ℕ). first ++ k) (sym (block_text (meant b inner) (meant b rest)))
-same_text b (stated.cleanup_set t x rest) = ap (λ (k : List ℕ). plain_text (p.CleanupSet (named b.targets t) (unslotted b.names x)) ++ k) (same_text b rest)
-same_text b (stated.cleanup_log x rest) = ap (λ (k : List ℕ). plain_text (p.CleanupLog (unslotted b.names x)) ++ k) (same_text b rest)
 same_text b (stated.effect n rest) =
     let first = ended_line (said_of line.Effect) in
     ap₂ (λ (i k : List ℕ). first ++ (i ++ (end_line ++ k))) (at_place b.effects n) (same_text b rest)
     ∙ ap (λ (k : List ℕ). first ++ k) (sym (block_text (effect_at b.effects n) (meant b rest)))
-same_text b (stated.dispose t rest) = ap (λ (k : List ℕ). plain_text (p.Dispose (named b.targets t)) ++ k) (same_text b rest)
 same_text b (stated.rewire n rest) =
     ap (λ (k : List ℕ). rewire_text b.targets (slice_get b.rewires n) ++ k) (same_text b rest) ∙ rewired_text b.targets b.rewires n (meant b rest)
 
@@ -100,23 +96,23 @@ joined_text old a b c new w t s f end whole ea eb ec en ew =
 -- the line of a rewiring to a formula, or to a host formula
 module _ (ts : List (List ℕ)) (r : ARewire) where
   pub formula_line : (f : Formula) → r.recipe ≡ recipe.Formula f
-      → plain_text (rewire_line ts (rewiring r)) ≡ plain_text (p.Rewire (named ts r.target) (source.Formula (unslotted r.names.items (tree f))))
-  formula_line f e = ap (λ (q : Recipe2). plain_text (p.Rewire (named ts r.target) (source_of (stated.source q) r.names.items))) e
+      → ended_line (said_of (rewire_line ts (rewiring r))) ≡ ended_line (said_of (line.Rewire (named ts r.target) (source.Formula (unslotted r.names.items (tree f)))))
+  formula_line f e = ap (λ (q : Recipe2). ended_line (said_of (line.Rewire (named ts r.target) (source_of (stated.source q) r.names.items)))) e
 
-  pub host_line : (k : ℕ) → r.recipe ≡ recipe.Host k → plain_text (rewire_line ts (rewiring r)) ≡ plain_text (p.Rewire (named ts r.target) (source.Host k r.names.items))
-  host_line k e = ap (λ (q : Recipe2). plain_text (p.Rewire (named ts r.target) (source_of (stated.source q) r.names.items))) e
+  pub host_line : (k : ℕ) → r.recipe ≡ recipe.Host k → ended_line (said_of (rewire_line ts (rewiring r))) ≡ ended_line (said_of (line.Rewire (named ts r.target) (source.Host k r.names.items)))
+  host_line k e = ap (λ (q : Recipe2). ended_line (said_of (line.Rewire (named ts r.target) (source_of (stated.source q) r.names.items)))) e
 
--- the text of statements that begin with one of these
-module _ (h : TextParts) (rest : Stated) where
-  pub cleanup_text : (f : Formula) → parts_text h (put (stmt.CleanupLog f) rest) ≡ plain_text (p.CleanupLog (unslotted h.names (tree f))) ++ parts_text h rest
-  cleanup_text f =
-      ap (λ (s : Stmt). parts_text h (put s rest)) (sym (rolls-CleanupLog f))
-      ∙ ap (λ (g : Putting). parts_text h (g rest)) (fold-roll-Stmt Putting put_step (Stmt-F.CleanupLog f))
+-- the text of statements that begin with one of one line
+pub line_begins : (h : TextParts) (rest : Stated) (a : Plain ℕ ℕ Formula)
+    → parts_text h (put (stmt.Plain a) rest) ≡ plain_text (named_line h.targets h.names (held_line a)) ++ parts_text h rest
+line_begins h rest a =
+    ap (λ (s : Stmt). parts_text h (put s rest)) (sym (rolls-Plain a))
+    ∙ ap (λ (g : Putting). parts_text h (g rest)) (fold-roll-Stmt Putting put_step (Stmt-F.Plain a))
 
-  pub dispose_text : (n : ℕ) → parts_text h (put (stmt.Dispose n) rest) ≡ plain_text (p.Dispose (named h.targets n)) ++ parts_text h rest
-  dispose_text n =
-      ap (λ (s : Stmt). parts_text h (put s rest)) (sym (rolls-Dispose n))
-      ∙ ap (λ (g : Putting). parts_text h (g rest)) (fold-roll-Stmt Putting put_step (Stmt-F.Dispose n))
+-- what was put is the text of this line, where it is that of one like it
+pub line_put : (out new : List ℕ) (ts ns : List (List ℕ)) (a b : Plain ℕ ℕ Formula) → a ≡ b
+    → new ≡ out ++ plain_text (named_line ts ns (held_line b)) → new ≡ out ++ plain_text (named_line ts ns (held_line a))
+line_put out new ts ns a b is put = put ∙ ap (λ (l : Plain ℕ ℕ Formula). out ++ plain_text (named_line ts ns (held_line l))) (sym is)
 
 -- ---- whole bodies
 

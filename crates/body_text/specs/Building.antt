@@ -2,18 +2,20 @@
 use Rattle.std.specs.Prelude.{◌≡◌, ◌≤◌, ℕ, ◌+◌, List, [], ◌∷◌, ◌++◌, length, map, Option, MatchOption}
 use Rattle.sig_base.specs.declared.limits.TheConstants.{MOST_SOURCES}
 use Rattle.sig_untrack.specs.declared.body.Stmt.{Stmt}
-use Rattle.sig_untrack.specs.Stated.{Stated, Bodies, bodies_before, put, rewiring, stated}
+use Rattle.effect_model.specs.Lines.{formula_of, target_of}
+use Rattle.sig_untrack.specs.Stated as stated
+use Rattle.sig_untrack.specs.Stated.{Stated, Bodies, bodies_before, put, rewiring}
 use Rattle.body_text.specs.declared.line.Line.{Line}
 use Rattle.body_text.specs.declared.line.Line.TheVariants.{End}
-use Rattle.body_text.specs.declared.line.Plain.{Plain}
 use Rattle.body_text.specs.declared.lists.Lists.{Lists}
 use Rattle.body_text.specs.Naming.{GoOn}
-use Rattle.body_text.specs.Statements.{Statements, done, plain, when, effect, lines_of, formula_of, target_of, with_formula, with_target, with_own, with_targets, effects_of, own_effects, own_rewires, rewired_by, rewires_in, rewirings_of, placed, placed_line}
+use Rattle.body_text.specs.Statements.{Statement, Statements, done, plain, rewire, when, effect, lines_of, with_formula, with_target, with_own, with_targets, effects_of, own_effects, own_rewires, rewirings_of, placed, placed_line}
 
 -- statements, and others behind them
 abbrev pub joined : Statements → Statements → Statements
 joined done u = u
 joined (plain a s) u = plain a (joined s u)
+joined (rewire n x s) u = rewire n x (joined s u)
 joined (when x i s) u = when x i (joined s u)
 joined (effect i s) u = effect i (joined s u)
 
@@ -26,13 +28,12 @@ abbrev pub most_more : ℕ
 most_more = 2 + MOST_SOURCES
 
 -- what a statement of one line brings was put, and it is this one
-pub record IsPut (a : Plain) (old new : Lists) (s : Stmt) : Type 0 where
+pub record IsPut (a : Statement) (old new : Lists) (s : Stmt) : Type 0 where
   pub targets : new.targets.items ≡ with_target old.targets.items (target_of a)
   pub names : new.names.items ≡ with_formula old.names.items (formula_of a)
   pub effects : new.effects.items ≡ old.effects.items
-  pub rewirings : map rewiring new.rewires.items ≡ map rewiring old.rewires.items ++ rewired_by new.targets.items a
-  pub rewires : length new.rewires.items ≡ length old.rewires.items + rewires_in a
-  pub statement : (rest : Stated) → put s rest ≡ placed_line new.targets.items new.names.items (length old.rewires.items) a rest
+  pub rewires : new.rewires.items ≡ old.rewires.items
+  pub statement : (rest : Stated) → put s rest ≡ stated.plain (placed_line new.targets.items new.names.items a) rest
   pub few : size new ≤ size old + most_more
 
 -- what statements bring was put, and they are these; their places stay, whatever is put behind
@@ -45,7 +46,7 @@ pub record IsBuilt (t : Statements) (old new : Lists) (ws : List Stmt) : Type 0 
       map rewiring new.rewires.items ≡ map rewiring old.rewires.items ++ rewirings_of ts t
   pub rewires : length new.rewires.items ≡ length old.rewires.items + own_rewires t
   pub statements : (ts ns : List (List ℕ)) (after : Stated) → GoOn new.targets.items ts → GoOn new.names.items ns
-      → stated ws after ≡ placed ts ns (length old.effects.items) (length old.rewires.items) t after
+      → stated.stated ws after ≡ placed ts ns (length old.effects.items) (length old.rewires.items) t after
 
 -- Of statements up to an `end`, behind which these lines stand, the first was put and is this one, with those lines left that spell the
 -- others; or there is none, and the `end` is taken.

@@ -1,5 +1,6 @@
 -- The lines of a body: which bytes write each, and what it says.
 use Rattle.std.specs.Prelude.{ℕ, List, [], ◌∷◌, codes}
+use Rattle.effect_model.specs.declared.plain.Plain.TheVariants as statement
 use Rattle.sig_words.specs.Lexemes.{symbol, word}
 use Rattle.line_forms.specs.Blocks as blocks
 use Rattle.line_forms.specs.Forms.{Piece, part, fixed, one, arguments, formula, name, count}
@@ -7,7 +8,6 @@ use Rattle.line_forms.specs.Rows as grammar
 use Rattle.line_forms.specs.Told.{Made, made}
 use Rattle.body_text.specs.declared.line.Line.{Line}
 use Rattle.body_text.specs.declared.line.Line.TheVariants as line
-use Rattle.body_text.specs.declared.line.Plain.TheVariants as statement
 use Rattle.body_text.specs.declared.line.Source.TheVariants as source
 
 -- the rows of the grammar
@@ -87,8 +87,8 @@ line_makes cleanup_set = λ n x. line.Plain (statement.CleanupSet n x)
 line_makes cleanup_log = λ x. line.Plain (statement.CleanupLog x)
 line_makes effect = line.Effect
 line_makes dispose = λ n. line.Plain (statement.Dispose n)
-line_makes rewire = λ n x. line.Plain (statement.Rewire n (source.Formula x))
-line_makes host = λ n k ns. line.Plain (statement.Rewire n (source.Host k ns))
+line_makes rewire = λ n x. line.Rewire n (source.Formula x)
+line_makes host = λ n k ns. line.Rewire n (source.Host k ns)
 line_makes close = line.End
 
 -- what a line says by itself; its texts may be of any length, and its formulas of any height

@@ -9,7 +9,8 @@ use Rattle.body_text.specs.Grammar.{Said, line_of}
 
 -- what a line is for its place
 abbrev pub kind_of : Line → LineKind
-kind_of (line.Plain p) = kind.Plain
+kind_of (line.Plain a) = kind.Plain
+kind_of (line.Rewire n s) = kind.Plain
 kind_of (line.When x) = kind.Opens
 kind_of line.Effect = kind.Opens
 kind_of line.End = kind.End

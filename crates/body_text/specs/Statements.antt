@@ -1,21 +1,27 @@
 -- Bodies as they are written: the lines that spell them, and their lists.
 use Rattle.std.specs.Prelude.{ℕ, ◌+◌, List, [], ◌∷◌, ◌++◌, Option, Some, None}
+use Rattle.effect_model.specs.declared.plain.Plain.{Plain}
+use Rattle.effect_model.specs.Lines.{formula_of, mapped, target_of}
 use Rattle.formula_text.specs.Grammar.{Draft}
 use Rattle.formula_text.specs.Judging.{names, slot_of, slotted, with_name, with_names}
+use Rattle.sig_formula.specs.Trees.{Tree}
 use Rattle.sig_untrack.specs.Stated as stated
 use Rattle.sig_untrack.specs.Stated.{Stated, Rewiring, Bodies, body, no_bodies}
 use Rattle.body_text.specs.declared.line.Line.{Line}
 use Rattle.body_text.specs.declared.line.Line.TheVariants as line
-use Rattle.body_text.specs.declared.line.Plain.{Plain}
-use Rattle.body_text.specs.declared.line.Plain.TheVariants as p
 use Rattle.body_text.specs.declared.line.Source.{Source}
 use Rattle.body_text.specs.declared.line.Source.TheVariants as source
+
+-- a statement of one line
+abbrev pub Statement : Type 0
+Statement = Plain (List ℕ) (List ℕ) Draft
 
 -- the statements of a body: the first, and those after it
 pub data Statements : Type 0 where
   done : Statements
-  -- one line
-  plain : Plain → Statements → Statements
+  -- one line, and a rewiring
+  plain : Statement → Statements → Statements
+  rewire : List ℕ → Source → Statements → Statements
   -- a guard, what it guards, and what stands after both
   when : Draft → Statements → Statements → Statements
   -- the statements of a nested effect, and those after it
@@ -25,26 +31,11 @@ pub data Statements : Type 0 where
 abbrev pub lines_of : Statements → List Line
 lines_of done = []
 lines_of (plain a rest) = line.Plain a ∷ lines_of rest
+lines_of (rewire n s rest) = line.Rewire n s ∷ lines_of rest
 lines_of (when x inner rest) = line.When x ∷ (lines_of inner ++ (line.End ∷ lines_of rest))
 lines_of (effect inner rest) = line.Effect ∷ (lines_of inner ++ (line.End ∷ lines_of rest))
 
 -- ---- the lists of a body, each in the order of the text
-
--- the formula that is evaluated with the body; a rewiring's isn't
-abbrev pub formula_of : Plain → Option Draft
-formula_of (p.Set n x) = Some x
-formula_of (p.Log x) = Some x
-formula_of (p.CleanupSet n x) = Some x
-formula_of (p.CleanupLog x) = Some x
-formula_of _ = None
-
--- what a statement acts on
-abbrev pub target_of : Plain → Option (List ℕ)
-target_of (p.Set n x) = Some n
-target_of (p.CleanupSet n x) = Some n
-target_of (p.Dispose n) = Some n
-target_of (p.Rewire n s) = Some n
-target_of _ = None
 
 -- those names, and behind them the others of a formula
 abbrev pub with_formula : List (List ℕ) → Option Draft → List (List ℕ)
@@ -56,10 +47,11 @@ abbrev pub with_target : List (List ℕ) → Option (List ℕ) → List (List �
 with_target ts None = ts
 with_target ts (Some n) = with_name ts n
 
--- those names, and behind them the others in the formulas of the body's own statements
+-- those names, and behind them the others in the formulas of the body's own statements; that of a rewiring isn't evaluated with the body
 abbrev pub with_own : List (List ℕ) → Statements → List (List ℕ)
 with_own ns done = ns
 with_own ns (plain a rest) = with_own (with_formula ns (formula_of a)) rest
+with_own ns (rewire n s rest) = with_own ns rest
 with_own ns (when x inner rest) = with_own (with_own (with_names ns x) inner) rest
 with_own ns (effect inner rest) = with_own ns rest
 
@@ -67,6 +59,7 @@ with_own ns (effect inner rest) = with_own ns rest
 abbrev pub with_targets : List (List ℕ) → Statements → List (List ℕ)
 with_targets ts done = ts
 with_targets ts (plain a rest) = with_targets (with_target ts (target_of a)) rest
+with_targets ts (rewire n s rest) = with_targets (with_name ts n) rest
 with_targets ts (when x inner rest) = with_targets (with_targets ts inner) rest
 with_targets ts (effect inner rest) = with_targets ts rest
 
@@ -75,50 +68,40 @@ abbrev pub rewiring_of : ℕ → Source → Rewiring
 rewiring_of t (source.Formula x) = record { target = t; source = stated.formula (slotted (names x) x); names = names x }
 rewiring_of t (source.Host k ns) = record { target = t; source = stated.host k; names = ns }
 
--- the rewirings of a statement
-abbrev pub rewired_by : List (List ℕ) → Plain → List Rewiring
-rewired_by ts (p.Rewire n s) = rewiring_of (slot_of ts n) s ∷ []
-rewired_by ts _ = []
-
 -- the rewirings of the body's own statements
 abbrev pub rewirings_of : List (List ℕ) → Statements → List Rewiring
 rewirings_of ts done = []
-rewirings_of ts (plain a rest) = rewired_by ts a ++ rewirings_of ts rest
+rewirings_of ts (plain a rest) = rewirings_of ts rest
+rewirings_of ts (rewire n s rest) = rewiring_of (slot_of ts n) s ∷ rewirings_of ts rest
 rewirings_of ts (when x inner rest) = rewirings_of ts inner ++ rewirings_of ts rest
 rewirings_of ts (effect inner rest) = rewirings_of ts rest
 
 -- how many of its own statements are rewirings, and how many nested effects
-abbrev pub rewires_in : Plain → ℕ
-rewires_in (p.Rewire n s) = 1
-rewires_in _ = 0
-
 abbrev pub own_rewires : Statements → ℕ
 own_rewires done = 0
-own_rewires (plain a rest) = rewires_in a + own_rewires rest
+own_rewires (plain a rest) = own_rewires rest
+own_rewires (rewire n s rest) = 1 + own_rewires rest
 own_rewires (when x inner rest) = own_rewires inner + own_rewires rest
 own_rewires (effect inner rest) = own_rewires rest
 
 abbrev pub own_effects : Statements → ℕ
 own_effects done = 0
 own_effects (plain a rest) = own_effects rest
+own_effects (rewire n s rest) = own_effects rest
 own_effects (when x inner rest) = own_effects inner + own_effects rest
 own_effects (effect inner rest) = 1 + own_effects rest
 
 -- ---- statements with places in place of names
 
--- one line, in a body with these targets and names, where so many rewirings stand before it
-abbrev pub placed_line : List (List ℕ) → List (List ℕ) → ℕ → Plain → Stated → Stated
-placed_line ts ns r (p.Set n x) rest = stated.set (slot_of ts n) (slotted ns x) rest
-placed_line ts ns r (p.Log x) rest = stated.log (slotted ns x) rest
-placed_line ts ns r (p.CleanupSet n x) rest = stated.cleanup_set (slot_of ts n) (slotted ns x) rest
-placed_line ts ns r (p.CleanupLog x) rest = stated.cleanup_log (slotted ns x) rest
-placed_line ts ns r (p.Dispose n) rest = stated.dispose (slot_of ts n) rest
-placed_line ts ns r (p.Rewire n s) rest = stated.rewire r rest
+-- one line, in a body with these targets and names
+abbrev pub placed_line : List (List ℕ) → List (List ℕ) → Statement → Plain ℕ ℕ Tree
+placed_line ts ns a = mapped (slot_of ts) (slot_of ts) (slotted ns) a
 
 -- all of them before others, where so many nested effects and so many rewirings stand before them
 abbrev pub placed : List (List ℕ) → List (List ℕ) → ℕ → ℕ → Statements → Stated → Stated
 placed ts ns e r done after = after
-placed ts ns e r (plain a rest) after = placed_line ts ns r a (placed ts ns e (r + rewires_in a) rest after)
+placed ts ns e r (plain a rest) after = stated.plain (placed_line ts ns a) (placed ts ns e r rest after)
+placed ts ns e r (rewire n s rest) after = stated.rewire r (placed ts ns e (r + 1) rest after)
 placed ts ns e r (when x inner rest) after =
     stated.when (slotted ns x) (placed ts ns e r inner stated.no_more) (placed ts ns (e + own_effects inner) (r + own_rewires inner) rest after)
 placed ts ns e r (effect inner rest) after = stated.effect e (placed ts ns (e + 1) r rest after)
@@ -135,6 +118,7 @@ body_with s inner others =
 abbrev pub effects_of : Statements → Bodies → Bodies
 effects_of done others = others
 effects_of (plain a rest) others = effects_of rest others
+effects_of (rewire n s rest) others = effects_of rest others
 effects_of (when x inner rest) others = effects_of inner (effects_of rest others)
 effects_of (effect inner rest) others = body_with inner (effects_of inner no_bodies) (effects_of rest others)
 

@@ -1,5 +1,9 @@
 -- The lines that write a body.
 use Rattle.std.specs.Prelude.{ℕ, zero, suc, List, [], ◌∷◌, ◌++◌, map, flat_map, codes}
+use Rattle.effect_model.specs.declared.plain.Plain.{Plain}
+use Rattle.effect_model.specs.declared.plain.Plain.TheVariants as p
+use Rattle.effect_model.specs.Lines.{mapped}
+use Rattle.sig_formula.specs.Trees.{Tree}
 use Rattle.formula_text.specs.Canonical.{named, unslotted}
 use Rattle.line_forms.specs.Printed.{line_text}
 use Rattle.script_lines.specs.Lines.{NumberedLine, numbered}
@@ -7,13 +11,11 @@ use Rattle.sig_untrack.specs.Stated as stated
 use Rattle.sig_untrack.specs.Stated.{Stated, Rewiring, Bodies, no_bodies, body}
 use Rattle.body_text.specs.declared.line.Line.{Line}
 use Rattle.body_text.specs.declared.line.Line.TheVariants as line
-use Rattle.body_text.specs.declared.line.Plain.{Plain}
-use Rattle.body_text.specs.declared.line.Plain.TheVariants as p
 use Rattle.body_text.specs.declared.line.Source.{Source}
 use Rattle.body_text.specs.declared.line.Source.TheVariants as source
 use Rattle.body_text.specs.Grammar as rows
 use Rattle.body_text.specs.Grammar.{Row, row, Said}
-use Rattle.body_text.specs.Statements.{Statements, done, plain, when, effect, lines_of}
+use Rattle.body_text.specs.Statements.{Statement, Statements, done, plain, rewire, when, effect, lines_of}
 
 -- ---- the text of statements
 
@@ -24,8 +26,8 @@ said_of (line.Plain (p.Log x)) = (rows.log, (x, tt))
 said_of (line.Plain (p.CleanupSet n x)) = (rows.cleanup_set, (n, (x, tt)))
 said_of (line.Plain (p.CleanupLog x)) = (rows.cleanup_log, (x, tt))
 said_of (line.Plain (p.Dispose n)) = (rows.dispose, (n, tt))
-said_of (line.Plain (p.Rewire n (source.Formula x))) = (rows.rewire, (n, (x, tt)))
-said_of (line.Plain (p.Rewire n (source.Host k ns))) = (rows.host, (n, (k, (ns, tt))))
+said_of (line.Rewire n (source.Formula x)) = (rows.rewire, (n, (x, tt)))
+said_of (line.Rewire n (source.Host k ns)) = (rows.host, (n, (k, (ns, tt))))
 said_of (line.When x) = (rows.guard, (x, tt))
 said_of line.Effect = (rows.effect, tt)
 said_of line.End = (rows.close, tt)
@@ -71,25 +73,25 @@ source_of (stated.formula t) ns = source.Formula (unslotted ns t)
 source_of (stated.host k) ns = source.Host k ns
 
 -- a rewiring with names in place of places
-abbrev pub rewire_line : List (List ℕ) → Rewiring → Plain
-rewire_line ts r = p.Rewire (named ts r.target) (source_of r.source r.names)
+abbrev pub rewire_line : List (List ℕ) → Rewiring → Line
+rewire_line ts r = line.Rewire (named ts r.target) (source_of r.source r.names)
+
+-- one line with names in place of places and slots
+abbrev pub named_line : List (List ℕ) → List (List ℕ) → Plain ℕ ℕ Tree → Statement
+named_line ts ns a = mapped (named ts) (named ts) (unslotted ns) a
 
 -- the rewiring at a place, before others; nothing where none is there
 abbrev pub rewired_at : List (List ℕ) → List Rewiring → ℕ → Statements → Statements
 rewired_at ts [] n rest = rest
-rewired_at ts (r ∷ rs) zero rest = plain (rewire_line ts r) rest
+rewired_at ts (r ∷ rs) zero rest = rewire (named ts r.target) (source_of r.source r.names) rest
 rewired_at ts (r ∷ rs) (suc n) rest = rewired_at ts rs n rest
 
 -- statements with names in place of places
 abbrev pub meant : Parts → Stated → Statements
 meant b stated.no_more = done
-meant b (stated.set t x rest) = plain (p.Set (named b.targets t) (unslotted b.names x)) (meant b rest)
-meant b (stated.log x rest) = plain (p.Log (unslotted b.names x)) (meant b rest)
+meant b (stated.plain a rest) = plain (named_line b.targets b.names a) (meant b rest)
 meant b (stated.when x inner rest) = when (unslotted b.names x) (meant b inner) (meant b rest)
-meant b (stated.cleanup_set t x rest) = plain (p.CleanupSet (named b.targets t) (unslotted b.names x)) (meant b rest)
-meant b (stated.cleanup_log x rest) = plain (p.CleanupLog (unslotted b.names x)) (meant b rest)
 meant b (stated.effect n rest) = effect (effect_at b.effects n) (meant b rest)
-meant b (stated.dispose t rest) = plain (p.Dispose (named b.targets t)) (meant b rest)
 meant b (stated.rewire n rest) = rewired_at b.targets b.rewires n (meant b rest)
 
 -- the statements of each of these bodies

@@ -99,7 +99,11 @@ fn statement(
     match line {
         Line::End => Ok(None),
         Line::Plain(plain) => {
-            let statement = lists.put(alloc, plain)?;
+            let statement = lists.put(alloc, &plain)?;
+            Ok(Some(boxed(alloc, statement)?))
+        }
+        Line::Rewire(name, source) => {
+            let statement = lists.put_rewire(alloc, &name, source)?;
             Ok(Some(boxed(alloc, statement)?))
         }
         Line::When(formula) => {

@@ -16,7 +16,7 @@ mod writing;
 pub use fault::{BodyFault, BodyWhy};
 pub use judge::{MOST_BODY_LINES, MOST_LEVELS};
 pub use laws::{bodies_read_back, one_body, one_line};
-pub use line::{Line, Plain, Source};
+pub use line::{Line, PlainLine, Source};
 pub use named::NamedFormula;
 pub use read::{read_body, read_numbered};
 pub use writing::put_body;

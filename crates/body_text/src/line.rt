@@ -3,6 +3,7 @@ ghost use Rattle.std.specs.Prelude.{◌≡◌, Ok, Err};
 ghost use Rattle.body_text.specs.declared.line.Line.TheVariants as given;
 
 use crate::NamedFormula;
+use effect_model::Plain;
 use formula_text::FormulaFault;
 use line_forms::NameList;
 use sig_base::Name;
@@ -16,28 +17,16 @@ pub enum Source {
     Host(u64, NameList),
 }
 
-/// A statement of one line.
-#[derive(Drop)]
-pub enum Plain {
-    /// `set N F` sets a cell.
-    Set(Name, NamedFormula),
-    /// `log F` logs a value.
-    Log(NamedFormula),
-    /// `cleanup set N F` sets a cell when the effect is taken back.
-    CleanupSet(Name, NamedFormula),
-    /// `cleanup log F` logs a value when the effect is taken back.
-    CleanupLog(NamedFormula),
-    /// `dispose N` disposes a thing.
-    Dispose(Name),
-    /// `rewire N = SOURCE` gives a computed another source.
-    Rewire(Name, Source),
-}
+/// A statement of one line, with names and formulas as they are written.
+pub type PlainLine = Plain<Name, Name, NamedFormula>;
 
 /// A line of a body.
 #[derive(Drop)]
 pub enum Line {
     /// A statement of one line.
-    Plain(Plain),
+    Plain(PlainLine),
+    /// `rewire N = SOURCE` gives a computed another source.
+    Rewire(Name, Source),
     /// `when F` begins what is done only where F is true.
     When(NamedFormula),
     /// `effect` begins a nested effect.
@@ -78,7 +67,7 @@ pub fn sound(kind: LineKind, line: Line) -> Found
 }
 
 /// A statement of one line that nothing is wrong with.
-pub fn statement(plain: Plain) -> Found
+pub fn statement(plain: PlainLine) -> Found
     ensures { result ≡ record { kind = LineKind.Plain; line = Ok (given.Plain plain) } }
 {
     sound(LineKind::Plain, Line::Plain(plain))

@@ -1,15 +1,17 @@
 // The lists of a body that is built.
-ghost use Rattle.std.specs.Prelude.{◌≡◌, ◌+◌, ◌*◌, ◌≤◌, ◌<◌, ◌^◌, ◌++◌, ◌∷◌, [], length, map, IfOk};
+ghost use Rattle.std.specs.Prelude.{◌≡◌, ◌+◌, ◌≤◌, ◌<◌, ◌^◌, ◌++◌, ◌∷◌, [], length, map, option_map, IfOk, OnOk};
 ghost use Rattle.sig_formula.specs.Trees.{tree};
 ghost use Rattle.formula_text.specs.Judging.{slot_of, slotted, with_name, with_names};
-ghost use Rattle.sig_untrack.specs.Stated.{before, bodies_before, body, no_bodies, rewiring, stated, no_more, Bodies};
-ghost use Rattle.body_text.specs.declared.line.Plain.TheVariants as given;
-ghost use Rattle.body_text.specs.Building.{most_more, size, IsPut};
-ghost use Rattle.body_text.specs.Statements.{rewiring_of};
+ghost use Rattle.sig_untrack.specs.Stated.{before, bodies_before, body, held_line, no_bodies, rewiring, stated, no_more, Bodies};
+ghost use Rattle.effect_model.specs.Lines.{formula_of, target_of};
+ghost use Rattle.body_text.specs.Building.{most_more, size, IsBuilt, IsPut};
+ghost use Rattle.body_text.specs.Statements as written;
+ghost use Rattle.body_text.specs.Statements.{placed_line, rewiring_of, with_formula, with_target};
 
-use crate::line::{Plain, Source};
+use crate::line::{PlainLine, Source};
 use crate::named::{NamedFormula, put_name, slot_of};
-use crate::stmt::{cleanup_log, cleanup_set, dispose, log, rewire, set};
+use crate::stmt::{line, rewire};
+use effect_model::Plain;
 use sig_base::{MOST_SOURCES, Name, NoMemory};
 use sig_formula::Formula;
 use sig_untrack::{Body, Recipe2, Rewire, Stmt};
@@ -24,6 +26,27 @@ pub struct Lists {
     pub rewires: Vec<Rewire>,
 }
 
+// What a statement acts on.
+fn target_of(plain: &PlainLine) -> Option<&Name>
+    ensures { option_map (λ n. n.now) result ≡ target_of plain.now }
+{
+    match plain {
+        Plain::Set(name, _) | Plain::CleanupSet(name, _) | Plain::Dispose(name) => Some(name),
+        Plain::Log(_) | Plain::CleanupLog(_) => None,
+    }
+}
+
+// The formula of a statement.
+fn formula_of(plain: &PlainLine) -> Option<&NamedFormula>
+    ensures { option_map (λ x. x.now) result ≡ formula_of plain.now }
+{
+    match plain {
+        Plain::Set(_, formula) | Plain::CleanupSet(_, formula) => Some(formula),
+        Plain::Log(formula) | Plain::CleanupLog(formula) => Some(formula),
+        Plain::Dispose(_) => None,
+    }
+}
+
 // The place of a target among few, where it is put if it isn't there.
 fn put_target(targets: &mut Vec<Name>, name: &Name) -> Result<u32, NoMemory>
     requires { length targets.old.items + 1 < 2 ^ 32 }
@@ -32,6 +55,66 @@ fn put_target(targets: &mut Vec<Name>, name: &Name) -> Result<u32, NoMemory>
 {
     put_name(targets, name)?;
     Ok(slot_of(targets, name))
+}
+
+// Appends a target, if there is one and it isn't there.
+fn put_perhaps(targets: &mut Vec<Name>, target: Option<&Name>) -> Result<(), NoMemory>
+    ensures put { OnOk result (targets.new.items ≡ with_target targets.old.items (option_map (λ n. n.now) target.entry)) }
+    ensures few { OnOk result (length targets.new.items ≤ length targets.old.items + 1) }
+{
+    match target {
+        Some(target) => {
+            put_name(targets, target)?;
+            Ok(())
+        }
+        None => Ok(()),
+    }
+}
+
+// Appends the names of a formula that aren't there, if there is one.
+fn put_names(names: &mut Vec<Name>, formula: Option<&NamedFormula>) -> Result<(), NoMemory>
+    ensures put { OnOk result (names.new.items ≡ with_formula names.old.items (option_map (λ x. x.now) formula.entry)) }
+    ensures few { OnOk result (length names.new.items ≤ length names.old.items + MOST_SOURCES) }
+{
+    match formula {
+        Some(formula) => {
+            formula.put_names(names)?;
+            Ok(())
+        }
+        None => Ok(()),
+    }
+}
+
+// The line with places among few targets and names.
+fn placed(
+    alloc: Global,
+    targets: &[Name],
+    names: &[Name],
+    plain: &PlainLine,
+) -> Result<Plain<u32, u32, Formula>, NoMemory>
+    requires targets { length targets.now < 2 ^ 32 }
+    requires names { length names.now < 2 ^ 32 }
+    ensures { IfOk result (λ b. held_line b ≡ placed_line targets.now names.now plain.now) }
+{
+    match plain {
+        Plain::Set(name, formula) => {
+            let formula = formula.among(alloc, names)?;
+            Ok(Plain::Set(slot_of(targets, name), Box::into_inner(formula)))
+        }
+        Plain::Log(formula) => {
+            let formula = formula.among(alloc, names)?;
+            Ok(Plain::Log(Box::into_inner(formula)))
+        }
+        Plain::CleanupSet(name, formula) => {
+            let formula = formula.among(alloc, names)?;
+            Ok(Plain::CleanupSet(slot_of(targets, name), Box::into_inner(formula)))
+        }
+        Plain::CleanupLog(formula) => {
+            let formula = formula.among(alloc, names)?;
+            Ok(Plain::CleanupLog(Box::into_inner(formula)))
+        }
+        Plain::Dispose(name) => Ok(Plain::Dispose(slot_of(targets, name))),
+    }
 }
 
 /// The formula over few names, where its names are put that aren't there.
@@ -113,87 +196,32 @@ impl Lists {
         }
     }
 
-    // `set N F`
-    fn put_set(
+    /// Puts what a statement of one line brings, and gives the statement.
+    pub fn put(&mut self, alloc: Global, plain: &PlainLine) -> Result<Stmt, NoMemory>
+        requires { size self.old + most_more < 2 ^ 32 }
+        ensures { IfOk result (λ s. IsPut plain.now self.old self.new s) }
+    {
+        put_perhaps(&mut self.targets, target_of(plain))?;
+        put_names(&mut self.names, formula_of(plain))?;
+        let placed = placed(alloc, &self.targets, &self.names, plain)?;
+        Ok(line(placed))
+    }
+
+    /// Puts what a rewiring brings, and gives its statement.
+    pub fn put_rewire(
         &mut self,
         alloc: Global,
         name: &Name,
-        formula: &NamedFormula,
+        source: Source,
     ) -> Result<Stmt, NoMemory>
         requires { size self.old + most_more < 2 ^ 32 }
-        ensures { IfOk result (λ s. IsPut (given.Set name.now formula.now) self.old self.new s) }
-    {
-        let target = put_target(&mut self.targets, name)?;
-        let formula = put_formula(alloc, &mut self.names, formula)?;
-        Ok(set(target, formula))
-    }
-
-    // `log F`
-    fn put_log(&mut self, alloc: Global, formula: &NamedFormula) -> Result<Stmt, NoMemory>
-        requires { size self.old + most_more < 2 ^ 32 }
-        ensures { IfOk result (λ s. IsPut (given.Log formula.now) self.old self.new s) }
-    {
-        let formula = put_formula(alloc, &mut self.names, formula)?;
-        Ok(log(formula))
-    }
-
-    // `cleanup set N F`
-    fn put_cleanup_set(
-        &mut self,
-        alloc: Global,
-        name: &Name,
-        formula: &NamedFormula,
-    ) -> Result<Stmt, NoMemory>
-        requires { size self.old + most_more < 2 ^ 32 }
-        ensures { IfOk result (λ s. IsPut (given.CleanupSet name.now formula.now) self.old self.new s) }
-    {
-        let target = put_target(&mut self.targets, name)?;
-        let formula = put_formula(alloc, &mut self.names, formula)?;
-        Ok(cleanup_set(target, formula))
-    }
-
-    // `cleanup log F`
-    fn put_cleanup_log(&mut self, alloc: Global, formula: &NamedFormula) -> Result<Stmt, NoMemory>
-        requires { size self.old + most_more < 2 ^ 32 }
-        ensures { IfOk result (λ s. IsPut (given.CleanupLog formula.now) self.old self.new s) }
-    {
-        let formula = put_formula(alloc, &mut self.names, formula)?;
-        Ok(cleanup_log(formula))
-    }
-
-    // `dispose N`
-    fn put_dispose(&mut self, name: &Name) -> Result<Stmt, NoMemory>
-        requires { size self.old + most_more < 2 ^ 32 }
-        ensures { IfOk result (λ s. IsPut (given.Dispose name.now) self.old self.new s) }
-    {
-        let target = put_target(&mut self.targets, name)?;
-        Ok(dispose(target))
-    }
-
-    // `rewire N = SOURCE`
-    fn put_rewire(&mut self, alloc: Global, name: &Name, source: Source) -> Result<Stmt, NoMemory>
-        requires { size self.old + most_more < 2 ^ 32 }
-        ensures { IfOk result (λ s. IsPut (given.Rewire name.now source) self.old self.new s) }
+        ensures built { IfOk result (λ s. IsBuilt (written.rewire name.now source written.done) self.old self.new (s ∷ [])) }
+        ensures few { IfOk result (λ s. size self.new ≤ size self.old + most_more) }
     {
         let target = put_target(&mut self.targets, name)?;
         let rewiring = rewiring(alloc, target, source)?;
         let place = put_rewiring(&mut self.rewires, rewiring)?;
         Ok(rewire(place))
-    }
-
-    /// Puts what a statement of one line brings, and gives the statement.
-    pub fn put(&mut self, alloc: Global, plain: Plain) -> Result<Stmt, NoMemory>
-        requires { size self.old + most_more < 2 ^ 32 }
-        ensures { IfOk result (λ s. IsPut plain self.old self.new s) }
-    {
-        match plain {
-            Plain::Set(name, formula) => self.put_set(alloc, &name, &formula),
-            Plain::Log(formula) => self.put_log(alloc, &formula),
-            Plain::CleanupSet(name, formula) => self.put_cleanup_set(alloc, &name, &formula),
-            Plain::CleanupLog(formula) => self.put_cleanup_log(alloc, &formula),
-            Plain::Dispose(name) => self.put_dispose(&name),
-            Plain::Rewire(name, source) => self.put_rewire(alloc, &name, source),
-        }
     }
 
     /// The body with these lists and statements.

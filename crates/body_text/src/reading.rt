@@ -13,8 +13,9 @@ ghost use Rattle.body_text.specs.Grammar.{last_words, row, table, Row, Said, Wri
 ghost use Rattle.body_text.specs.Judging.{allowed};
 ghost use Rattle.body_text.specs.Views.{found_as, found_first, found_of, IsTold};
 
-use crate::line::{Found, Line, LineKind, Plain, Source, faulty, sound, statement};
+use crate::line::{Found, Line, LineKind, Source, faulty, sound, statement};
 use crate::named::NamedFormula;
+use effect_model::Plain;
 use formula_text::{Allow, FormulaFault};
 use line_forms::{
     ToldFormula, arguments_at, count_at, ends_at, formula_at, name_at, symbol_at, word_at,
@@ -216,7 +217,10 @@ fn rewire(alloc: Global, line: &[u8], tokens: &[Token]) -> Result<Option<Found>,
         return Ok(None);
     };
     match last_formula(alloc, line, tokens, at)? {
-        Some(Ok(formula)) => Ok(Some(statement(Plain::Rewire(name, Source::Formula(formula))))),
+        Some(Ok(formula)) => {
+            let line = Line::Rewire(name, Source::Formula(formula));
+            Ok(Some(sound(LineKind::Plain, line)))
+        }
         Some(Err(fault)) => Ok(Some(faulty(LineKind::Plain, fault))),
         None => Ok(None),
     }
@@ -246,7 +250,10 @@ fn host(alloc: Global, line: &[u8], tokens: &[Token]) -> Result<Option<Found>, N
         return Ok(None);
     }
     match arguments {
-        Ok(names) => Ok(Some(statement(Plain::Rewire(name, Source::Host(place, names))))),
+        Ok(names) => {
+            let line = Line::Rewire(name, Source::Host(place, names));
+            Ok(Some(sound(LineKind::Plain, line)))
+        }
         Err(fault) => Ok(Some(faulty(LineKind::Plain, fault))),
     }
 }

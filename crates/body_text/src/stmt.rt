@@ -2,23 +2,17 @@
 ghost use Rattle.std.specs.Prelude.{◌≡◌};
 ghost use Rattle.sig_formula.specs.Trees.{tree};
 ghost use Rattle.sig_untrack.specs.Stated as stated;
-ghost use Rattle.sig_untrack.specs.Stated.{Stated, put};
+ghost use Rattle.sig_untrack.specs.Stated.{Stated, held_line, put};
 
+use effect_model::Plain;
 use sig_formula::Formula;
 use sig_untrack::Stmt;
 
-/// The statement that sets a target to the value of a formula.
-pub fn set(target: u32, formula: Box<Formula>) -> Stmt
-    ensures { (rest : Stated) → put result rest ≡ stated.set target (tree formula.value) rest }
+/// The statement that is this line.
+pub fn line(plain: Plain<u32, u32, Formula>) -> Stmt
+    ensures { (rest : Stated) → put result rest ≡ stated.plain (held_line plain) rest }
 {
-    Stmt::Set(target, Box::into_inner(formula))
-}
-
-/// The statement that logs the value of a formula.
-pub fn log(formula: Box<Formula>) -> Stmt
-    ensures { (rest : Stated) → put result rest ≡ stated.log (tree formula.value) rest }
-{
-    Stmt::Log(Box::into_inner(formula))
+    Stmt::Plain(plain)
 }
 
 /// The statement that does others only where a formula is true.
@@ -28,32 +22,11 @@ pub fn when(formula: Box<Formula>, inner: Vec<Stmt>) -> Stmt
     Stmt::When(Box::into_inner(formula), inner)
 }
 
-/// The statement that sets a target when the effect is taken back.
-pub fn cleanup_set(target: u32, formula: Box<Formula>) -> Stmt
-    ensures { (rest : Stated) → put result rest ≡ stated.cleanup_set target (tree formula.value) rest }
-{
-    Stmt::CleanupSet(target, Box::into_inner(formula))
-}
-
-/// The statement that logs a value when the effect is taken back.
-pub fn cleanup_log(formula: Box<Formula>) -> Stmt
-    ensures { (rest : Stated) → put result rest ≡ stated.cleanup_log (tree formula.value) rest }
-{
-    Stmt::CleanupLog(Box::into_inner(formula))
-}
-
 /// The statement that makes the nested effect at a place.
 pub fn effect(place: u32) -> Stmt
     ensures { (rest : Stated) → put result rest ≡ stated.effect place rest }
 {
     Stmt::Effect(place)
-}
-
-/// The statement that disposes a target.
-pub fn dispose(target: u32) -> Stmt
-    ensures { (rest : Stated) → put result rest ≡ stated.dispose target rest }
-{
-    Stmt::Dispose(target)
 }
 
 /// The statement that does the rewiring at a place.

@@ -6,11 +6,11 @@ ghost use Rattle.formula_text.specs.Canonical.{named, unslotted};
 ghost use Rattle.line_forms.specs.Forms as forms;
 ghost use Rattle.line_forms.specs.Printed.{form_text, part_text};
 ghost use Rattle.sig_untrack.specs.Stated as stated;
-ghost use Rattle.sig_untrack.specs.Stated.{before, no_bodies, put, rewiring, Stated};
-ghost use Rattle.body_text.specs.declared.line.Plain.TheVariants as plain;
+ghost use Rattle.sig_untrack.specs.Stated.{before, held_line, no_bodies, put, rewiring, Stated};
 ghost use Rattle.body_text.specs.Printing.{end_line, held_parts, parts_text, plain_text, rewire_text, text_at};
-ghost use Rattle.body_text.specs.Writing.{body_text, rewire_line};
+ghost use Rattle.body_text.specs.Writing.{body_text, ended_line, named_line, rewire_line, said_of};
 
+use effect_model::Plain;
 use formula_text::put_formula_of;
 use line_forms::{put_arguments, put_count, put_fixed, put_name};
 use sig_base::{Name, NoMemory};
@@ -78,11 +78,17 @@ fn put_alone(
     put_formula(out, parts.names, formula)
 }
 
-// Appends the line of a disposal.
-fn put_dispose(out: &mut Vec<u8>, parts: &HeldParts, target: u32) -> Result<(), NoMemory>
-    ensures { OnOk result (out.new.items ≡ out.old.items ++ plain_text (plain.Dispose (named parts.now.targets.now target))) }
+// Appends words and a target, and the end of the line.
+fn put_acted(
+    out: &mut Vec<u8>,
+    words: &[u8],
+    parts: &HeldParts,
+    target: u32,
+) -> Result<(), NoMemory>
+    ensures { OnOk result (out.new.items ≡ out.old.items ++ ((words.now
+        ++ form_text (forms.part (forms.one forms.name) ∷ []) (named parts.now.targets.now target, tt)) ++ 10 ∷ [])) }
 {
-    out.extend_from_slice(b"dispose")?;
+    out.extend_from_slice(words)?;
     put_target(out, parts.targets, target)?;
     out.push(b'\n')?;
     Ok(())
@@ -103,7 +109,7 @@ fn put_host(out: &mut Vec<u8>, place: u64, names: &[Name]) -> Result<(), NoMemor
 
 // Appends the line of a rewiring.
 fn put_rewiring(out: &mut Vec<u8>, targets: &[Name], rewire: &Rewire) -> Result<(), NoMemory>
-    ensures { OnOk result (out.new.items ≡ out.old.items ++ plain_text (rewire_line targets.now (rewiring rewire.now))) }
+    ensures { OnOk result (out.new.items ≡ out.old.items ++ ended_line (said_of (rewire_line targets.now (rewiring rewire.now)))) }
 {
     let names = rewire.names.as_slice();
     out.extend_from_slice(b"rewire")?;
@@ -173,6 +179,39 @@ fn put_effect(out: &mut Vec<u8>, parts: &HeldParts, place: u32) -> Result<(), No
     Ok(())
 }
 
+// Appends a statement of one line.
+fn put_line(
+    out: &mut Vec<u8>,
+    parts: &HeldParts,
+    line: &Plain<u32, u32, Formula>,
+) -> Result<(), NoMemory>
+    ensures { OnOk result (out.new.items ≡ out.old.items
+        ++ plain_text (named_line parts.now.targets.now parts.now.names.now (held_line line.now))) }
+{
+    match line {
+        Plain::Set(target, formula) => {
+            put_targeted(out, b"set", parts, *target, formula)?;
+            Ok(())
+        }
+        Plain::Log(formula) => {
+            put_alone(out, b"log", parts, formula)?;
+            Ok(())
+        }
+        Plain::CleanupSet(target, formula) => {
+            put_targeted(out, b"cleanup set", parts, *target, formula)?;
+            Ok(())
+        }
+        Plain::CleanupLog(formula) => {
+            put_alone(out, b"cleanup log", parts, formula)?;
+            Ok(())
+        }
+        Plain::Dispose(target) => {
+            put_acted(out, b"dispose", parts, *target)?;
+            Ok(())
+        }
+    }
+}
+
 // Appends a statement.
 #[cycle(writing)]
 fn put_statement(out: &mut Vec<u8>, parts: &HeldParts, statement: &Stmt) -> Result<(), NoMemory>
@@ -180,12 +219,8 @@ fn put_statement(out: &mut Vec<u8>, parts: &HeldParts, statement: &Stmt) -> Resu
         ≡ out.old.items ++ parts_text (held_parts parts.now) (put statement.now rest)) }
 {
     match statement {
-        Stmt::Set(target, formula) => {
-            put_targeted(out, b"set", parts, *target, formula)?;
-            Ok(())
-        }
-        Stmt::Log(formula) => {
-            put_alone(out, b"log", parts, formula)?;
+        Stmt::Plain(line) => {
+            put_line(out, parts, line)?;
             Ok(())
         }
         Stmt::When(formula, inner) => {
@@ -194,20 +229,8 @@ fn put_statement(out: &mut Vec<u8>, parts: &HeldParts, statement: &Stmt) -> Resu
             put_end(out)?;
             Ok(())
         }
-        Stmt::CleanupSet(target, formula) => {
-            put_targeted(out, b"cleanup set", parts, *target, formula)?;
-            Ok(())
-        }
-        Stmt::CleanupLog(formula) => {
-            put_alone(out, b"cleanup log", parts, formula)?;
-            Ok(())
-        }
         Stmt::Effect(place) => {
             put_effect(out, parts, *place)?;
-            Ok(())
-        }
-        Stmt::Dispose(target) => {
-            put_dispose(out, parts, *target)?;
             Ok(())
         }
         Stmt::Rewire(place) => {

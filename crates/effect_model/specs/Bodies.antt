@@ -14,23 +14,20 @@ use Rattle.sig_formula.specs.Answering.{formula_step}
 use Rattle.signal_model.specs.Recipes.{Hosts, Recipe}
 use Rattle.signal_model.specs.Standing.{Signals}
 use Rattle.signal_model.specs.Values.{Seen, learnt, unknown_slots, value_of}
+use Rattle.effect_model.specs.declared.plain.Plain.{Plain}
+use Rattle.effect_model.specs.declared.plain.Plain.TheVariants as p
 use Rattle.effect_model.specs.Owning.{Thing, Cleanup, sets, logs}
 
 -- The statements of a body, the first with those after it. The slots of their formulas are places among the names of the body.
 pub data Statements : Type 0 where
   no_more : Statements
-  -- a cell by its number, and a value, are set or logged
-  set : ℕ → Tree → Statements → Statements
-  log : Tree → Statements → Statements
+  -- one line, with cells by their numbers
+  plain : Plain ℕ Thing Tree → Statements → Statements
   -- a guard, what it guards, and what stands after both
   when : Tree → Statements → Statements → Statements
-  -- the same two as cleanups
-  cleanup_set : ℕ → Tree → Statements → Statements
-  cleanup_log : Tree → Statements → Statements
   -- the statements of a nested effect, and its own names
   effect : Statements → List ℕ → Statements → Statements
-  -- a thing, and a computed with another recipe
-  dispose : Thing → Statements → Statements
+  -- a computed with another recipe
   rewire : ℕ → Recipe → Statements → Statements
 
 -- statements, and the signals that their slots name
@@ -87,20 +84,21 @@ abbrev pub guarded : Value → BodyStep → BodyStep → BodyStep
 guarded (value.Bool b) inner rest = if b then and_then inner rest else rest
 guarded _ inner rest = fails Kind
 
--- The statements in order, by what was read so far, tracked and untracked. A nested effect isn't evaluated.
+-- what one line answers by itself, by what was read so far, tracked and untracked
+abbrev pub plain_step : Plain ℕ Thing Tree → List Known → List Known → BodyStep
+plain_step (p.Set n f) ts us = with_answer (formula_step true f None ts us) (λ v. if_scalar v (acts (to_set n v ∷ [])))
+plain_step (p.Log f) ts us = with_answer (formula_step true f None ts us) (λ v. acts (to_log v ∷ []))
+plain_step (p.CleanupSet n f) ts us = with_answer (formula_step true f None ts us) (λ v. if_scalar v (acts (to_note (sets n v) ∷ [])))
+plain_step (p.CleanupLog f) ts us = with_answer (formula_step true f None ts us) (λ v. acts (to_note (logs v) ∷ []))
+plain_step (p.Dispose t) ts us = acts (to_dispose t ∷ [])
+
+-- The statements in order. A nested effect isn't evaluated.
 abbrev pub body_step : Statements → List Known → List Known → BodyStep
 body_step no_more ts us = acts []
-body_step (set n f rest) ts us =
-    with_answer (formula_step true f None ts us) (λ v. if_scalar v (one_first (to_set n v) (body_step rest ts us)))
-body_step (log f rest) ts us = with_answer (formula_step true f None ts us) (λ v. one_first (to_log v) (body_step rest ts us))
+body_step (plain a rest) ts us = and_then (plain_step a ts us) (body_step rest ts us)
 body_step (when f inner rest) ts us =
     with_answer (formula_step true f None ts us) (λ v. guarded v (body_step inner ts us) (body_step rest ts us))
-body_step (cleanup_set n f rest) ts us =
-    with_answer (formula_step true f None ts us) (λ v. if_scalar v (one_first (to_note (sets n v)) (body_step rest ts us)))
-body_step (cleanup_log f rest) ts us =
-    with_answer (formula_step true f None ts us) (λ v. one_first (to_note (logs v)) (body_step rest ts us))
 body_step (effect inner names rest) ts us = one_first (to_make (record { statements = inner; names = names })) (body_step rest ts us)
-body_step (dispose t rest) ts us = one_first (to_dispose t) (body_step rest ts us)
 body_step (rewire n r rest) ts us = one_first (to_rewire n r) (body_step rest ts us)
 
 -- ---- the whole body

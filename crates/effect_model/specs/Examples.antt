@@ -15,6 +15,7 @@ use Rattle.signal_model.specs.Recipes.{formula_recipe, host}
 use Rattle.signal_model.specs.Standing.{Cell}
 use Rattle.signal_model.specs.Sound.{names_of}
 use Rattle.signal_model.specs.Examples.{int, number}
+use Rattle.effect_model.specs.declared.plain.Plain.TheVariants as p
 use Rattle.effect_model.specs.Owning.{Thing, the_signal, the_owner, the_effect}
 use Rattle.effect_model.specs.Bodies.{Statements, no_more, Body}
 use Rattle.effect_model.specs.Bodies as body
@@ -102,6 +103,22 @@ words s = literal (scalar.Text s)
 abbrev pub new_cell : Value → Command
 new_cell v = cell v None None
 
+-- a statement of one line, before others
+abbrev pub line_set : ℕ → Tree → Statements → Statements
+line_set n f rest = body.plain (p.Set n f) rest
+
+abbrev pub line_log : Tree → Statements → Statements
+line_log f rest = body.plain (p.Log f) rest
+
+abbrev pub line_cleanup_set : ℕ → Tree → Statements → Statements
+line_cleanup_set n f rest = body.plain (p.CleanupSet n f) rest
+
+abbrev pub line_cleanup_log : Tree → Statements → Statements
+line_cleanup_log f rest = body.plain (p.CleanupLog f) rest
+
+abbrev pub line_dispose : Thing → Statements → Statements
+line_dispose t rest = body.plain (p.Dispose t) rest
+
 -- an effect with these statements on these names, inside an owner or outside of any
 abbrev pub effect_in : Option ℕ → Statements → List ℕ → Command
 effect_in inside ss names = effect (record { statements = ss; names = names }) inside
@@ -126,13 +143,13 @@ in_owner ss = owner None ∷ cell (int 1) None (Some 0) ∷ computed (formula_re
     ∷ effect_in (Some 0) ss (1 ∷ []) ∷ flush_all ∷ dispose (the_owner 0) ∷ []
 
 -- where e logs b
-pub owner_ends : printed_by (in_owner (body.log (slot 0) no_more))
+pub owner_ends : printed_by (in_owner (line_log (slot 0) no_more))
     ≡ run 1 (0 ∷ []) (Good (int 1)) ∷ evaluate (an_effect 0) (1 ∷ []) ∷ log (int 1)
     ∷ end_effect (an_effect 0) ∷ end (the_signal 1) ∷ end (the_signal 0) ∷ end (the_owner 0) ∷ []
 owner_ends = refl
 
 -- where e notes a cleanup
-pub cleanup_at_end : printed_by (in_owner (body.cleanup_log (number 9) no_more))
+pub cleanup_at_end : printed_by (in_owner (line_cleanup_log (number 9) no_more))
     ≡ evaluate (an_effect 0) [] ∷ clean (an_effect 0) ∷ log (int 9)
     ∷ end_effect (an_effect 0) ∷ end (the_signal 1) ∷ end (the_signal 0) ∷ end (the_owner 0) ∷ []
 cleanup_at_end = refl
@@ -141,7 +158,7 @@ cleanup_at_end = refl
 
 -- cell a = 1; the effect logs "never", and is guarded by a, which is no truth at first
 pub guards : printed_by (new_cell (int 1)
-    ∷ new_effect (body.log (words (codes "never")) (body.when (slot 0) (body.log (number 2) no_more) no_more)) (0 ∷ [])
+    ∷ new_effect (line_log (words (codes "never")) (body.when (slot 0) (line_log (number 2) no_more) no_more)) (0 ∷ [])
     ∷ flush_all ∷ set 0 (value.Bool true) ∷ flush_all ∷ [])
     ≡ evaluate (an_effect 0) (0 ∷ []) ∷ fail (an_effect 0) fault.Kind
     ∷ evaluate (an_effect 0) (0 ∷ []) ∷ log (text (codes "never")) ∷ log (int 2) ∷ []
@@ -152,8 +169,8 @@ guards = refl
 -- effect e: cleanup log "first"; effect: cleanup log a; log "child"; end; cleanup log "last"; log a
 abbrev pub nested : Command
 nested = new_effect
-    (body.cleanup_log (words (codes "first")) (body.effect (body.cleanup_log (slot 0) (body.log (words (codes "child")) no_more)) (0 ∷ [])
-    (body.cleanup_log (words (codes "last")) (body.log (slot 0) no_more)))) (0 ∷ [])
+    (line_cleanup_log (words (codes "first")) (body.effect (line_cleanup_log (slot 0) (line_log (words (codes "child")) no_more)) (0 ∷ [])
+    (line_cleanup_log (words (codes "last")) (line_log (slot 0) no_more)))) (0 ∷ [])
 
 -- e and its child are evaluated, where a is n
 abbrev pub nested_runs : ℕ → List Line
@@ -171,7 +188,7 @@ children = refl
 
 -- the child is made in the first turn and runs in the second; it disposes its parent, and does none of its later acts
 pub child_ends_parent : printed_by (new_cell (int 1)
-    ∷ new_effect (body.effect (body.dispose (the_effect 0) (body.log (number 5) no_more)) [] (body.log (slot 0) no_more)) (0 ∷ [])
+    ∷ new_effect (body.effect (line_dispose (the_effect 0) (line_log (number 5) no_more)) [] (line_log (slot 0) no_more)) (0 ∷ [])
     ∷ flush_all ∷ flush_all ∷ [])
     ≡ evaluate (an_effect 0) (0 ∷ []) ∷ log (int 1) ∷ evaluate (a_child 0 1) [] ∷ end_effect (a_child 0 1) ∷ end_effect (an_effect 0) ∷ []
 child_ends_parent = refl
@@ -179,21 +196,21 @@ child_ends_parent = refl
 -- ---- disposals by acts
 
 -- an effect that disposes itself does none of its later acts
-pub ends_itself : printed_by (new_effect (body.log (number 1) (body.dispose (the_effect 0) (body.log (number 2) no_more))) [] ∷ flush_all ∷ [])
+pub ends_itself : printed_by (new_effect (line_log (number 1) (line_dispose (the_effect 0) (line_log (number 2) no_more))) [] ∷ flush_all ∷ [])
     ≡ evaluate (an_effect 0) [] ∷ log (int 1) ∷ end_effect (an_effect 0) ∷ []
 ends_itself = refl
 
 -- The first effect disposes the owner of the second when a > 0. In the second flush both are due, and the second never runs.
 pub ended_in_turn : printed_by (new_cell (int 0) ∷ owner None
-    ∷ new_effect (body.when (binary Gt (slot 0) (number 0)) (body.dispose (the_owner 0) no_more) no_more) (0 ∷ [])
-    ∷ effect_in (Some 0) (body.log (slot 0) no_more) (0 ∷ []) ∷ flush_all ∷ set 0 (int 1) ∷ flush_all ∷ [])
+    ∷ new_effect (body.when (binary Gt (slot 0) (number 0)) (line_dispose (the_owner 0) no_more) no_more) (0 ∷ [])
+    ∷ effect_in (Some 0) (line_log (slot 0) no_more) (0 ∷ []) ∷ flush_all ∷ set 0 (int 1) ∷ flush_all ∷ [])
     ≡ evaluate (an_effect 0) (0 ∷ []) ∷ evaluate (an_effect 1) (0 ∷ []) ∷ log (int 0)
     ∷ evaluate (an_effect 0) (0 ∷ []) ∷ end_effect (an_effect 1) ∷ end (the_owner 0) ∷ []
 ended_in_turn = refl
 
 -- a refused act is told, and the later acts go on
 pub refused_act : printed_by (new_cell (int 1) ∷ new_cell (int 2)
-    ∷ new_effect (body.dispose (the_signal 1) (body.set 1 (number 3) (body.log (slot 0) no_more))) (0 ∷ []) ∷ flush_all ∷ [])
+    ∷ new_effect (line_dispose (the_signal 1) (line_set 1 (number 3) (line_log (slot 0) no_more))) (0 ∷ []) ∷ flush_all ∷ [])
     ≡ evaluate (an_effect 0) (0 ∷ []) ∷ end (the_signal 1) ∷ error (thing_gone (the_signal 1)) ∷ log (int 1) ∷ []
 refused_act = refl
 
@@ -201,14 +218,14 @@ refused_act = refl
 
 -- a = "1"; b = "2"; the effect logs untrack(a) ++ b: a change of a alone runs nothing
 pub untracked_reads : printed_by (new_cell (text (codes "1")) ∷ new_cell (text (codes "2"))
-    ∷ new_effect (body.log (binary Join (untracked (slot 0)) (slot 1)) no_more) (0 ∷ 1 ∷ [])
+    ∷ new_effect (line_log (binary Join (untracked (slot 0)) (slot 1)) no_more) (0 ∷ 1 ∷ [])
     ∷ flush_all ∷ set 0 (text (codes "5")) ∷ flush_all ∷ set 1 (text (codes "3")) ∷ flush_all ∷ [])
     ≡ evaluate (an_effect 0) (1 ∷ []) ∷ log (text (codes "12")) ∷ evaluate (an_effect 0) (1 ∷ []) ∷ log (text (codes "53")) ∷ []
 untracked_reads = refl
 
 -- b = a + 1; the effect logs a + b. After a was changed there and back, b runs for the look, and the effect isn't due.
 pub due_by_outcomes : printed_by (new_cell (int 1) ∷ computed (formula_recipe (binary Add (slot 0) (number 1)) (0 ∷ [])) None
-    ∷ new_effect (body.log (binary Add (slot 0) (slot 1)) no_more) (0 ∷ 1 ∷ []) ∷ flush_all ∷ set 0 (int 2) ∷ set 0 (int 1) ∷ flush_all ∷ [])
+    ∷ new_effect (line_log (binary Add (slot 0) (slot 1)) no_more) (0 ∷ 1 ∷ []) ∷ flush_all ∷ set 0 (int 2) ∷ set 0 (int 1) ∷ flush_all ∷ [])
     ≡ run 1 (0 ∷ []) (Good (int 2)) ∷ evaluate (an_effect 0) (0 ∷ 1 ∷ []) ∷ log (int 3) ∷ run 1 (0 ∷ []) (Good (int 2)) ∷ []
 due_by_outcomes = refl
 
@@ -222,7 +239,7 @@ with_host = new_cell (value.Bool true) ∷ new_cell (int 1) ∷ new_cell (int 2)
 -- The effect rewires h to 7 when go, and logs h. Its body reads h before its acts rewire it, and the next turn sees 7. That turn rewires it
 -- once more, so the look of the turn after it runs h again. The host formula is dropped, and can't be taken again.
 pub host_dropped : printed_by (with_host ++ new_cell (value.Bool false)
-    ∷ new_effect (body.when (slot 0) (body.rewire 3 (formula_recipe (number 7) []) no_more) (body.log (slot 1) no_more)) (4 ∷ 3 ∷ [])
+    ∷ new_effect (body.when (slot 0) (body.rewire 3 (formula_recipe (number 7) []) no_more) (line_log (slot 1) no_more)) (4 ∷ 3 ∷ [])
     ∷ flush_all ∷ set 0 (value.Bool false) ∷ flush_all ∷ set 4 (value.Bool true) ∷ flush_all
     ∷ computed (record { expression = host 0; slots = 0 ∷ [] }) None ∷ [])
     ≡ run 3 (0 ∷ 1 ∷ []) (Good (int 1)) ∷ evaluate (an_effect 0) (4 ∷ 3 ∷ []) ∷ log (int 1)
@@ -235,11 +252,11 @@ host_dropped = refl
 
 -- an effect sets x to x + 1
 abbrev pub endless : Command
-endless = new_effect (body.set 0 (binary Add (slot 0) (number 1)) no_more) (0 ∷ [])
+endless = new_effect (line_set 0 (binary Add (slot 0) (number 1)) no_more) (0 ∷ [])
 
 -- the same where x is below a bound
 abbrev pub bounded : ℕ → Command
-bounded n = new_effect (body.when (binary Lt (slot 0) (number n)) (body.set 0 (binary Add (slot 0) (number 1)) no_more) no_more) (0 ∷ [])
+bounded n = new_effect (body.when (binary Lt (slot 0) (number n)) (line_set 0 (binary Add (slot 0) (number 1)) no_more) no_more) (0 ∷ [])
 
 -- what is printed but for the evaluations of bodies
 abbrev pub but_bodies : List Line → List Line
@@ -278,7 +295,7 @@ ended_too_late = (refl, refl)
 pub notified_once : printed_by (new_cell (int 1)
     ∷ computed (formula_recipe (binary Add (slot 0) (number 1)) (0 ∷ [])) None ∷ computed (formula_recipe (slot 0) (0 ∷ [])) None
     ∷ watcher false ∷ watcher true ∷ watcher false ∷ watch 0 (1 ∷ []) ∷ watch 1 (0 ∷ []) ∷ watch 2 (2 ∷ []) ∷ ask (1 ∷ [])
-    ∷ new_effect (body.set 0 (number 2) (body.set 0 (number 3) no_more)) [] ∷ flush_all ∷ [])
+    ∷ new_effect (line_set 0 (number 2) (line_set 0 (number 3) no_more)) [] ∷ flush_all ∷ [])
     ≡ run 1 (0 ∷ []) (Good (int 2)) ∷ evaluate (an_effect 0) [] ∷ notify 0 ∷ notify 1 ∷ error_frozen (1 ∷ []) ∷ []
 notified_once = refl
 
@@ -290,10 +307,10 @@ notified_once = refl
 abbrev pub nested_owners : List Command
 nested_owners = new_cell (int 1) ∷ new_cell (int 10) ∷ owner None ∷ owner (Some 0)
     ∷ computed (formula_recipe (binary Add (slot 0) (slot 1)) (0 ∷ 1 ∷ [])) (Some 1)
-    ∷ effect_in (Some 1) (body.cleanup_set 1 (binary Add (slot 0) (number 100)) (body.effect
-    (body.cleanup_log (slot 0) (body.log (slot 0) (body.when (binary Gt (slot 1) (number 1))
-    (body.dispose (the_owner 0) (body.log (words (codes "never")) no_more)) no_more)))
-    (2 ∷ 0 ∷ []) (body.log (untracked (slot 1)) no_more))) (0 ∷ 1 ∷ [])
+    ∷ effect_in (Some 1) (line_cleanup_set 1 (binary Add (slot 0) (number 100)) (body.effect
+    (line_cleanup_log (slot 0) (line_log (slot 0) (body.when (binary Gt (slot 1) (number 1))
+    (line_dispose (the_owner 0) (line_log (words (codes "never")) no_more)) no_more)))
+    (2 ∷ 0 ∷ []) (line_log (untracked (slot 1)) no_more))) (0 ∷ 1 ∷ [])
     ∷ watcher false ∷ watch 0 (1 ∷ []) ∷ flush_all ∷ set 0 (int 2) ∷ flush_all ∷ watch 0 [] ∷ dispose (the_owner 0) ∷ dispose (the_effect 0) ∷ []
 
 -- what it tells
@@ -310,8 +327,8 @@ nested_owners_told = (refl, refl)
 -- flush, set y 2, flush, watch, dispose x, flush, dispose o.
 abbrev pub cleanups_set : List Command
 cleanups_set = new_cell (int 1) ∷ owner None ∷ cell (int 0) None (Some 0)
-    ∷ effect_in (Some 0) (body.cleanup_set 1 (slot 0) (body.log (slot 0) (body.cleanup_set 0 (number 7)
-    (body.effect (body.log (slot 0) no_more) (1 ∷ []) no_more)))) (0 ∷ [])
+    ∷ effect_in (Some 0) (line_cleanup_set 1 (slot 0) (line_log (slot 0) (line_cleanup_set 0 (number 7)
+    (body.effect (line_log (slot 0) no_more) (1 ∷ []) no_more)))) (0 ∷ [])
     ∷ watcher true ∷ watch 0 (0 ∷ []) ∷ flush_all ∷ set 0 (int 2) ∷ flush_all
     ∷ watch 0 [] ∷ dispose (the_signal 1) ∷ flush_all ∷ dispose (the_owner 0) ∷ []
 
@@ -329,11 +346,11 @@ cleanups_set_told = (refl, refl)
 -- log "two". The third: log h; rewire h to the same host formula. Then flush, set n 1, flush.
 abbrev pub three_effects : List Command
 three_effects = with_host ++ new_cell (int 0) ∷ owner None
-    ∷ new_effect (body.log (slot 0) (body.effect (body.when (binary Eq (slot 0) (number 1))
-    (body.dispose (the_owner 0) (body.set 4 (number 2) (body.dispose (the_signal 3) (body.set 1 (number 8) no_more)))) no_more)
+    ∷ new_effect (line_log (slot 0) (body.effect (body.when (binary Eq (slot 0) (number 1))
+    (line_dispose (the_owner 0) (line_set 4 (number 2) (line_dispose (the_signal 3) (line_set 1 (number 8) no_more)))) no_more)
     (4 ∷ []) no_more)) (4 ∷ [])
-    ∷ effect_in (Some 0) (body.log (slot 0) (body.cleanup_log (words (codes "two")) no_more)) (3 ∷ [])
-    ∷ new_effect (body.log (slot 0) (body.rewire 3 (record { expression = host 0; slots = 0 ∷ 1 ∷ 2 ∷ [] }) no_more)) (3 ∷ [])
+    ∷ effect_in (Some 0) (line_log (slot 0) (line_cleanup_log (words (codes "two")) no_more)) (3 ∷ [])
+    ∷ new_effect (line_log (slot 0) (body.rewire 3 (record { expression = host 0; slots = 0 ∷ 1 ∷ 2 ∷ [] }) no_more)) (3 ∷ [])
     ∷ flush_all ∷ set 4 (int 1) ∷ flush_all ∷ []
 
 -- what it tells

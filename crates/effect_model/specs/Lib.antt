@@ -1,4 +1,5 @@
 pub mod Owning
+pub mod Lines
 pub mod Bodies
 pub mod Worlds
 pub mod Acts

@@ -3,6 +3,8 @@
 
 mod laws;
 mod limits;
+mod plain;
 
 pub use laws::flush_by_turns;
 pub use limits::MOST_WATCHERS;
+pub use plain::Plain;

@@ -4,11 +4,12 @@ use Rattle.std.proofs.lemmas.Bool.{eqb-true}
 use Rattle.sig_base.specs.declared.scalar.Scalar.{Scalar}
 use Rattle.sig_formula.specs.declared.formula.BinOp.{BinOp}
 use Rattle.sig_formula.specs.Trees.{Tree, binary, literal, slot}
+use Rattle.effect_model.specs.declared.plain.Plain.TheVariants as p
 use Rattle.effect_laws.specs.Asking.{AreFit, SlotsBelow}
 use Rattle.sig_untrack.specs.declared.body.Body.{Body}
 use Rattle.sig_untrack.specs.declared.body.Stmt.{Stmt}
 use Rattle.sig_untrack.specs.Linking.{linked}
-use Rattle.sig_untrack.specs.Stated.{Stated, before, no_bodies, no_more, put, set, stated, statements_of}
+use Rattle.sig_untrack.specs.Stated.{Stated, before, no_bodies, no_more, plain, put, stated, statements_of}
 use Rattle.effect_runs.specs.Evaluating.{HasNames}
 
 -- the slots of a formula of the first slot and a literal
@@ -25,8 +26,8 @@ one_pushed old ss s e f = f ∙ ap (λ (l : List Stmt). l ++ s ∷ []) e
 
 -- a body of one statement, which sets by such a formula, on one name
 pub one_named : (b : Body) (s : Stmt) (ss : List Stmt) (t : Tree) (n : ℕ) (o : BinOp) (x : Scalar) → statements_of (before b no_bodies) ≡ stated ss no_more → ss ≡ s ∷ [] →
-    ((rest : Stated) → put s rest ≡ set 0 t rest) → t ≡ binary o (slot 0) (literal x) → HasNames b (n ∷ [])
-one_named b s ss t n o x eb es sets et = λ p.
-    let all : statements_of (before b no_bodies) ≡ set 0 (binary o (slot 0) (literal x)) no_more =
-    eb ∙ ap (λ (l : List Stmt). stated l no_more) es ∙ sets no_more ∙ ap (λ (f : Tree). set 0 f no_more) et in
-    subst (λ (y : Stated). AreFit 1 (linked p y)) (sym all) (first_slot o x, tt)
+    ((rest : Stated) → put s rest ≡ plain (p.Set 0 t) rest) → t ≡ binary o (slot 0) (literal x) → HasNames b (n ∷ [])
+one_named b s ss t n o x eb es sets et = λ q.
+    let all : statements_of (before b no_bodies) ≡ plain (p.Set 0 (binary o (slot 0) (literal x))) no_more =
+    eb ∙ ap (λ (l : List Stmt). stated l no_more) es ∙ sets no_more ∙ ap (λ (f : Tree). plain (p.Set 0 f) no_more) et in
+    subst (λ (y : Stated). AreFit 1 (linked q y)) (sym all) (first_slot o x, tt)

@@ -3,12 +3,14 @@ ghost use Rattle.std.specs.Prelude.{◌≡◌, ℕ, ◌∷◌, [], IfOk, OnOk};
 ghost use Rattle.sig_base.specs.declared.scalar.Scalar.TheVariants as scalar;
 ghost use Rattle.sig_formula.specs.Trees.{tree, binary, literal, slot};
 ghost use Rattle.sig_formula.specs.declared.formula.BinOp.TheVariants as operator;
+ghost use Rattle.effect_model.specs.declared.plain.Plain.TheVariants as plain;
 ghost use Rattle.sig_untrack.specs.Stated as stated;
 ghost use Rattle.sig_untrack.specs.Stated.{Stated, before, no_bodies, put, statements_of};
 ghost use Rattle.sig_computed.specs.Scenes.{scene, CanSettle};
 ghost use Rattle.effect_runs.specs.Evaluating.{HasNames};
 
 use crate::scene::Scene;
+use effect_model::Plain;
 use effect_runs::{BodyEnd, BodyRun, evaluate_body, look};
 use sig_base::{NodeId, Outcome, Scalar, Value};
 use sig_formula::{BinOp, Formula};
@@ -28,9 +30,9 @@ fn plus(alloc: Global, number: i64) -> Result<Formula, Fail>
 
 // A statement that sets the first target.
 fn sets(formula: Formula) -> Stmt
-    ensures { (rest : Stated) → put result rest ≡ stated.set 0 (tree formula) rest }
+    ensures { (rest : Stated) → put result rest ≡ stated.plain (plain.Set 0 (tree formula)) rest }
 {
-    Stmt::Set(0, formula)
+    Stmt::Plain(Plain::Set(0, formula))
 }
 
 // A body of these statements, with no lists.

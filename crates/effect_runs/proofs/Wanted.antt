@@ -8,14 +8,16 @@ use Rattle.sig_base.specs.declared.value.Outcome.TheVariants.{Good, Bad}
 use Rattle.sig_formula.specs.declared.evaluate.FormulaStep.{FormulaStep}
 use Rattle.sig_formula.specs.declared.evaluate.FormulaStep.TheVariants.{Ask, End}
 use Rattle.sig_formula.specs.Answering.{formula_step}
-use Rattle.effect_model.specs.Bodies.{Act, to_set, to_log, to_note, to_make, to_dispose, to_rewire, BodyStep, reads, acts, fails}
-use Rattle.effect_model.specs.Bodies.{followed_by, one_first, and_then, with_answer, if_scalar, guarded, body_step}
-use Rattle.effect_model.specs.Owning.{sets, logs}
+use Rattle.sig_formula.specs.Trees.{Tree}
+use Rattle.effect_model.specs.Bodies.{Act, to_make, to_rewire, BodyStep, reads, acts, fails}
+use Rattle.effect_model.specs.Bodies.{followed_by, one_first, and_then, with_answer, guarded, plain_step, body_step}
+use Rattle.effect_model.specs.Lines.{mapped}
+use Rattle.effect_laws.proofs.SharedAsking.{plain_cases}
 use Rattle.sig_untrack.specs.declared.body.Body.{Body}
 use Rattle.sig_untrack.specs.declared.body.Act.{Act as AnAct}
 use Rattle.sig_untrack.specs.declared.body.BodyStep.{BodyStep as AStep}
 use Rattle.sig_untrack.specs.Linking.{Parts, acts_of, linked, step_of}
-use Rattle.sig_untrack.specs.Stated.{Stated, no_more, set, log, when, cleanup_set, cleanup_log, effect, dispose, rewire, before, no_bodies, statements_of}
+use Rattle.sig_untrack.specs.Stated.{Stated, no_more, plain, when, effect, rewire, before, no_bodies, statements_of}
 use Rattle.effect_tables.specs.Fitting.{count_of}
 use Rattle.effect_runs.specs.declared.reading.BodyEnd.{BodyEnd}
 use Rattle.effect_runs.specs.declared.reading.BodyEnd.TheVariants.{Fail}
@@ -41,14 +43,13 @@ both_wanted (reads s tracked) y n m h k = omega arith
 both_wanted (acts as') y n m h k = let e : wanted (followed_by as' y) ≤ length as' + wanted y = more_wanted as' y in omega (arith, h, k, e)
 both_wanted (fails e) y n m h k = omega arith
 
+one_before : (x y : BodyStep) (n : ℕ) → wanted x ≤ 1 → wanted y ≤ n → wanted (and_then x y) ≤ suc n
+one_before x y n h k = let b : wanted (and_then x y) ≤ 1 + n = both_wanted x y 1 n h k in omega (arith, b)
+
 answer_wanted : (f : FormulaStep) (go : Value → BodyStep) (n : ℕ) → ((v : Value) → wanted (go v) ≤ n) → wanted (with_answer f go) ≤ n
 answer_wanted (Ask s tracked) go n h = omega arith
 answer_wanted (End (Good v)) go n h = h v
 answer_wanted (End (Bad e)) go n h = omega arith
-
-scalar_wanted : (v : Value) (x : BodyStep) (n : ℕ) → wanted x ≤ n → wanted (if_scalar v x) ≤ n
-scalar_wanted (value.Rows t) x n h = omega arith
-scalar_wanted _ x n h = h
 
 guard_wanted : (v : Value) (x y : BodyStep) (n m : ℕ) → wanted x ≤ n → wanted y ≤ m → wanted (guarded v x y) ≤ suc (n + m)
 guard_wanted (value.Bool true) x y n m h k = let b : wanted (and_then x y) ≤ n + m = both_wanted x y n m h k in omega (arith, b)
@@ -58,25 +59,15 @@ guard_wanted _ x y n m h k = omega arith
 module _ (p : Parts) (ts us : List Known) where
   some_wanted : (ss : Stated) → wanted (body_step (linked p ss) ts us) ≤ count_of ss
   some_wanted no_more = omega arith
-  some_wanted (set t f rest) =
-      answer_wanted (formula_step true f None ts us) _ (suc (count_of rest))
-      (λ v. scalar_wanted v (one_first (to_set (p.cells t) v) (body_step (linked p rest) ts us)) (suc (count_of rest))
-      (one_wanted (to_set (p.cells t) v) (body_step (linked p rest) ts us) (count_of rest) (some_wanted rest)))
-  some_wanted (log f rest) =
-      answer_wanted (formula_step true f None ts us) _ (suc (count_of rest))
-      (λ v. one_wanted (to_log v) (body_step (linked p rest) ts us) (count_of rest) (some_wanted rest))
+  some_wanted (plain a rest) =
+      let x = mapped p.cells p.things (λ (f : Tree). f) a in
+      let one : wanted (plain_step x ts us) ≤ 1 =
+      plain_cases (λ y. wanted y ≤ 1) x ts us (λ f m c is e. omega arith) (λ e. omega arith) (λ y. omega arith) in
+      one_before (plain_step x ts us) (body_step (linked p rest) ts us) (count_of rest) one (some_wanted rest)
   some_wanted (when f inner rest) =
       answer_wanted (formula_step true f None ts us) _ (suc (count_of inner + count_of rest))
       (λ v. guard_wanted v (body_step (linked p inner) ts us) (body_step (linked p rest) ts us) (count_of inner) (count_of rest) (some_wanted inner) (some_wanted rest))
-  some_wanted (cleanup_set t f rest) =
-      answer_wanted (formula_step true f None ts us) _ (suc (count_of rest))
-      (λ v. scalar_wanted v (one_first (to_note (sets (p.cells t) v)) (body_step (linked p rest) ts us)) (suc (count_of rest))
-      (one_wanted (to_note (sets (p.cells t) v)) (body_step (linked p rest) ts us) (count_of rest) (some_wanted rest)))
-  some_wanted (cleanup_log f rest) =
-      answer_wanted (formula_step true f None ts us) _ (suc (count_of rest))
-      (λ v. one_wanted (to_note (logs v)) (body_step (linked p rest) ts us) (count_of rest) (some_wanted rest))
   some_wanted (effect n rest) = one_wanted (to_make (p.bodies n)) (body_step (linked p rest) ts us) (count_of rest) (some_wanted rest)
-  some_wanted (dispose t rest) = one_wanted (to_dispose (p.things t)) (body_step (linked p rest) ts us) (count_of rest) (some_wanted rest)
   some_wanted (rewire n rest) =
       one_wanted (to_rewire (p.rewirings n).target (p.rewirings n).recipe) (body_step (linked p rest) ts us) (count_of rest) (some_wanted rest)
 

@@ -4,7 +4,7 @@ use Rattle.std.specs.Rc.{rc_value}
 use Rattle.sig_base.specs.declared.limits.TheConstants.{MOST_SOURCES}
 use Rattle.effect_laws.specs.Asking.{AreFit}
 use Rattle.sig_untrack.specs.Linking.{Parts, linked}
-use Rattle.sig_untrack.specs.Stated.{Stated, no_more, set, log, when, cleanup_set, cleanup_log, effect, dispose, rewire}
+use Rattle.sig_untrack.specs.Stated.{Stated, no_more, plain, when, effect, rewire}
 use Rattle.sig_untrack.specs.Stated.{Bodies, no_bodies, body, before, Rewiring, Source, formula, host}
 use Rattle.effect_tables.specs.declared.effect.Effect.{Effect}
 use Rattle.effect_tables.specs.declared.effect.Script.{Script}
@@ -14,13 +14,9 @@ use Rattle.effect_tables.specs.Linking.{Linking, no_links, links, links_before}
 -- how many statements there are, guarded ones too, but for those of nested effects
 abbrev pub count_of : Stated → ℕ
 count_of no_more = 0
-count_of (set t x rest) = suc (count_of rest)
-count_of (log x rest) = suc (count_of rest)
+count_of (plain a rest) = suc (count_of rest)
 count_of (when x inner rest) = suc (count_of inner + count_of rest)
-count_of (cleanup_set t x rest) = suc (count_of rest)
-count_of (cleanup_log x rest) = suc (count_of rest)
 count_of (effect n rest) = suc (count_of rest)
-count_of (dispose t rest) = suc (count_of rest)
 count_of (rewire n rest) = suc (count_of rest)
 
 -- each slot of the formulas is one of so many names, whatever the places stand for, and the statements are few

@@ -1,6 +1,7 @@
 // What bodies answer.
 use crate::plain::Plain::Int;
 use crate::plain::{Plain, is_number, is_value, known_of};
+use effect_model::Plain as Line;
 use sig_base::{Fault, NoMemory, Scalar};
 use sig_formula::{BinOp, Formula};
 use sig_untrack::{Act, Body, BodyStep, Stmt, body_step};
@@ -115,7 +116,7 @@ fn is_above_zero(alloc: Global) -> Result<Formula, AllocError> {
 // What a guard over slot 0 guards.
 fn guarded(alloc: Global) -> Result<Stmt, AllocError> {
     let mut statements = Vec::with_capacity(alloc, 2)?;
-    statements.push(Stmt::Set(3, int(7)))?;
+    statements.push(Stmt::Plain(Line::Set(3, int(7))))?;
     statements.push(Stmt::Effect(0))?;
     Ok(Stmt::When(is_above_zero(alloc)?, statements))
 }
@@ -123,7 +124,7 @@ fn guarded(alloc: Global) -> Result<Stmt, AllocError> {
 // A log of slot 1, which isn't tracked.
 fn logged(alloc: Global) -> Result<Stmt, AllocError> {
     let inner = Box::new(alloc, slot(1))?;
-    Ok(Stmt::Log(Formula::Untrack(inner)))
+    Ok(Stmt::Plain(Line::Log(Formula::Untrack(inner))))
 }
 
 // A guard over slot 0 and what it guards, and a log of slot 1 behind them.
@@ -131,7 +132,7 @@ fn guarded_body(alloc: Global) -> Result<Body, AllocError> {
     let mut statements = Vec::with_capacity(alloc, 3)?;
     statements.push(guarded(alloc)?)?;
     statements.push(logged(alloc)?)?;
-    statements.push(Stmt::Dispose(1))?;
+    statements.push(Stmt::Plain(Line::Dispose(1)))?;
     Ok(body_of(alloc, statements))
 }
 
@@ -181,9 +182,9 @@ fn acts_in_order(rt: HostRuntime) -> Result<(), Fail> {
 // A cleanup, a guard that is no truth, and a log behind it.
 fn faulty_body(alloc: Global) -> Result<Body, AllocError> {
     let mut statements = Vec::with_capacity(alloc, 3)?;
-    statements.push(Stmt::CleanupLog(int(1)))?;
+    statements.push(Stmt::Plain(Line::CleanupLog(int(1))))?;
     statements.push(Stmt::When(int(1), Vec::new(alloc)))?;
-    statements.push(Stmt::Log(slot(0)))?;
+    statements.push(Stmt::Plain(Line::Log(slot(0))))?;
     Ok(body_of(alloc, statements))
 }
 
@@ -198,9 +199,9 @@ fn fails_at_the_first_fault(rt: HostRuntime) -> Result<(), Fail> {
 // Two cleanups, and a rewiring between them.
 fn noting_body(alloc: Global) -> Result<Body, AllocError> {
     let mut statements = Vec::with_capacity(alloc, 3)?;
-    statements.push(Stmt::CleanupSet(0, int(4)))?;
+    statements.push(Stmt::Plain(Line::CleanupSet(0, int(4))))?;
     statements.push(Stmt::Rewire(2))?;
-    statements.push(Stmt::CleanupLog(int(5)))?;
+    statements.push(Stmt::Plain(Line::CleanupLog(int(5))))?;
     Ok(body_of(alloc, statements))
 }
 

@@ -4,7 +4,9 @@ use Rattle.std.specs.Coded.{Coded, code_by, coded_list, coded_ℕ, coded×, code
 use Rattle.std.proofs.Common.{◌∙◌, ap, inl, inr}
 use Rattle.sig_formula.specs.Coding.{tree_code}
 use Rattle.sig_formula.specs.Trees.{Tree, slot}
-use Rattle.sig_untrack.specs.Stated.{Stated, no_more, set, log, when, cleanup_set, cleanup_log, effect, dispose, rewire}
+use Rattle.effect_model.specs.declared.plain.Plain.{Plain}
+use Rattle.effect_model.specs.declared.plain.Plain.TheVariants as line
+use Rattle.sig_untrack.specs.Stated.{Stated, no_more, plain, when, effect, rewire}
 use Rattle.sig_untrack.specs.Stated.{Source, formula, host, Rewiring, Bodies, no_bodies, body}
 
 -- ---- statements
@@ -17,29 +19,37 @@ Part = ℕ × (ℕ × Tree)
 abbrev placed : ℕ → ℕ → Part
 placed tag n = (tag, (n, slot 0))
 
+-- a statement of one line; the numbers before theirs are of the others
+abbrev line_part : Plain ℕ ℕ Tree → Part
+line_part (line.Set n t) = (4, (n, t))
+line_part (line.Log t) = (5, (0, t))
+line_part (line.CleanupSet n t) = (6, (n, t))
+line_part (line.CleanupLog t) = (7, (0, t))
+line_part (line.Dispose n) = placed 8 n
+
+-- the one with a number, from the first of them on
+abbrev line_with : ℕ → ℕ → Tree → Plain ℕ ℕ Tree
+line_with zero n t = line.Set n t
+line_with (suc zero) n t = line.Log t
+line_with (suc (suc zero)) n t = line.CleanupSet n t
+line_with (suc (suc (suc zero))) n t = line.CleanupLog t
+line_with _ n t = line.Dispose n
+
 -- the parts of statements, and those behind them
 abbrev parts_of : Stated → List Part → List Part
 parts_of no_more rest = placed 0 0 ∷ rest
-parts_of (set n t s) rest = parts_of s ((1, (n, t)) ∷ rest)
-parts_of (log t s) rest = parts_of s ((2, (0, t)) ∷ rest)
-parts_of (when t i s) rest = parts_of i (parts_of s ((3, (0, t)) ∷ rest))
-parts_of (cleanup_set n t s) rest = parts_of s ((4, (n, t)) ∷ rest)
-parts_of (cleanup_log t s) rest = parts_of s ((5, (0, t)) ∷ rest)
-parts_of (effect n s) rest = parts_of s (placed 6 n ∷ rest)
-parts_of (dispose n s) rest = parts_of s (placed 7 n ∷ rest)
-parts_of (rewire n s) rest = parts_of s (placed 8 n ∷ rest)
+parts_of (plain a s) rest = parts_of s (line_part a ∷ rest)
+parts_of (when t i s) rest = parts_of i (parts_of s ((1, (0, t)) ∷ rest))
+parts_of (effect n s) rest = parts_of s (placed 2 n ∷ rest)
+parts_of (rewire n s) rest = parts_of s (placed 3 n ∷ rest)
 
 -- the statements of a stack, once one more is put before those on top
 abbrev with_tag : ℕ → ℕ → Tree → List Stated → List Stated
 with_tag zero n t stack = no_more ∷ stack
-with_tag (suc zero) n t (s ∷ stack) = set n t s ∷ stack
-with_tag (suc (suc zero)) n t (s ∷ stack) = log t s ∷ stack
-with_tag (suc (suc (suc zero))) n t (s ∷ i ∷ stack) = when t i s ∷ stack
-with_tag (suc (suc (suc (suc zero)))) n t (s ∷ stack) = cleanup_set n t s ∷ stack
-with_tag (suc (suc (suc (suc (suc zero))))) n t (s ∷ stack) = cleanup_log t s ∷ stack
-with_tag (suc (suc (suc (suc (suc (suc zero)))))) n t (s ∷ stack) = effect n s ∷ stack
-with_tag (suc (suc (suc (suc (suc (suc (suc zero))))))) n t (s ∷ stack) = dispose n s ∷ stack
-with_tag _ n t (s ∷ stack) = rewire n s ∷ stack
+with_tag (suc zero) n t (s ∷ i ∷ stack) = when t i s ∷ stack
+with_tag (suc (suc zero)) n t (s ∷ stack) = effect n s ∷ stack
+with_tag (suc (suc (suc zero))) n t (s ∷ stack) = rewire n s ∷ stack
+with_tag (suc (suc (suc (suc k)))) n t (s ∷ stack) = plain (line_with k n t) s ∷ stack
 with_tag _ n t stack = stack
 
 -- the statements of a stack, once all parts are put on
@@ -52,18 +62,20 @@ abbrev first_of : List Stated → Stated
 first_of [] = no_more
 first_of (s ∷ ss) = s
 
+-- a statement of one line is had back
+line_back : (a : Plain ℕ ℕ Tree) (s : Stated) (stack : List Stated)
+    → with_tag (line_part a).0 (line_part a).1.0 (line_part a).1.1 (s ∷ stack) ≡ plain a s ∷ stack
+line_back (line.Set n t) s stack = refl
+line_back _ s stack = refl
+
 -- the parts of statements put them on the stack
 pub stack_of-parts_of : (s : Stated) (rest : List Part) (stack : List Stated) → stack_of (parts_of s rest) stack ≡ stack_of rest (s ∷ stack)
 stack_of-parts_of no_more rest stack = refl
-stack_of-parts_of (set n t s) rest stack = stack_of-parts_of s ((1, (n, t)) ∷ rest) stack
-stack_of-parts_of (log t s) rest stack = stack_of-parts_of s ((2, (0, t)) ∷ rest) stack
+stack_of-parts_of (plain a s) rest stack = stack_of-parts_of s (line_part a ∷ rest) stack ∙ ap (stack_of rest) (line_back a s stack)
 stack_of-parts_of (when t i s) rest stack =
-    stack_of-parts_of i (parts_of s ((3, (0, t)) ∷ rest)) stack ∙ stack_of-parts_of s ((3, (0, t)) ∷ rest) (i ∷ stack)
-stack_of-parts_of (cleanup_set n t s) rest stack = stack_of-parts_of s ((4, (n, t)) ∷ rest) stack
-stack_of-parts_of (cleanup_log t s) rest stack = stack_of-parts_of s ((5, (0, t)) ∷ rest) stack
-stack_of-parts_of (effect n s) rest stack = stack_of-parts_of s (placed 6 n ∷ rest) stack
-stack_of-parts_of (dispose n s) rest stack = stack_of-parts_of s (placed 7 n ∷ rest) stack
-stack_of-parts_of (rewire n s) rest stack = stack_of-parts_of s (placed 8 n ∷ rest) stack
+    stack_of-parts_of i (parts_of s ((1, (0, t)) ∷ rest)) stack ∙ stack_of-parts_of s ((1, (0, t)) ∷ rest) (i ∷ stack)
+stack_of-parts_of (effect n s) rest stack = stack_of-parts_of s (placed 2 n ∷ rest) stack
+stack_of-parts_of (rewire n s) rest stack = stack_of-parts_of s (placed 3 n ∷ rest) stack
 
 -- statements are stored as their parts
 abbrev pub stated_code : Coded Stated

@@ -1,19 +1,22 @@
 -- A body that a script can have fits its links.
 use Rattle.std.proofs.Common.{◌≡◌, ◌≤◌, ◌<◌, ◌+◌, ◌&&◌, ◌||◌, ℕ, nat_lt, not, arith, Bool, true, false, List, [], ◌∷◌, ◌++◌, length, map, refl, sym, ap, subst, ◌∙◌}
+use Rattle.std.specs.Prelude.{Option, Some, None, option_map}
 use Rattle.std.specs.List.{list_all}
 use Rattle.std.proofs.lemmas.Bool.{and_parts, eqb-true, ltb-false, ltb-true}
 use Rattle.std.proofs.lemmas.List.{length-map}
 use Rattle.sig_base.specs.declared.limits.TheConstants.{MOST_SOURCES}
 use Rattle.sig_formula.specs.Trees.{Tree, literal, slot, row_field, row_key, negation, binary, choice, count_of as counted, sum_of, rows_where, untracked, has_slot}
 use Rattle.body_text.specs.declared.judge.TheConstants.{MOST_BODY_LINES}
-use Rattle.effect_laws.specs.Asking.{AreFit, SlotsBelow}
+use Rattle.effect_model.specs.Lines.{formula_of, target_of}
+use Rattle.effect_model.proofs.SharedLines.{formula_mapped}
+use Rattle.effect_laws.specs.Asking.{AreFit, IsFitFormula, SlotsBelow}
 use Rattle.sig_untrack.specs.Linking.{Parts, linked}
 use Rattle.sig_untrack.specs.Stated as stated
 use Rattle.sig_untrack.specs.Stated.{Bodies, Rewiring, Source, Stated, body, no_bodies}
 use Rattle.effect_tables.specs.Fitting.{AreFew, AreFitting, IsFew}
 use Rattle.live_model.specs.Linking.{links_of}
 use Rattle.live_model.specs.Names.{Names, number_of}
-use Rattle.live_model.specs.Uses.{Counts, are_below, are_linked, are_placed, bodies_count, count_in_bodies, is_fit, is_rewiring, slots_in}
+use Rattle.live_model.specs.Uses.{Counts, are_below, are_below_if, is_target_if, are_linked, are_placed, bodies_count, count_in_bodies, is_fit, is_rewiring, slots_in}
 
 -- ---- slots
 
@@ -56,25 +59,22 @@ slots_below n (rows_where a b) e s h =
     either (has_slot s a) (has_slot s b) (s < n) (slots_below n a p.0 s) (slots_below n b p.1 s) h
 slots_below n (untracked a) e s h = slots_below n a e s h
 
+formula_fits : (n : ℕ) (o : Option Tree) → are_below_if n o ≡ true → IsFitFormula n (option_map (λ (f : Tree). f) o)
+formula_fits n None e = tt
+formula_fits n (Some f) e = slots_below n f e
+
 -- so are those of statements, whatever their places stand for
 all_fit : (c : Counts) (p : Parts) (ss : Stated) → are_placed c ss ≡ true → AreFit c.names (linked p ss)
 all_fit c p stated.no_more e = tt
-all_fit c p (stated.set t f rest) e =
-    let one = and_parts (nat_lt t c.targets && are_below c.names f) (are_placed c rest) e in
-    (slots_below c.names f (and_parts (nat_lt t c.targets) (are_below c.names f) one.0).1, all_fit c p rest one.1)
-all_fit c p (stated.log f rest) e =
-    let one = and_parts (are_below c.names f) (are_placed c rest) e in (slots_below c.names f one.0, all_fit c p rest one.1)
+all_fit c p (stated.plain a rest) e =
+    let one = and_parts (is_target_if c.targets (target_of a) && are_below_if c.names (formula_of a)) (are_placed c rest) e in
+    let two = and_parts (is_target_if c.targets (target_of a)) (are_below_if c.names (formula_of a)) one.0 in
+    (rw (formula_mapped p.cells p.things (λ (f : Tree). f) a) (formula_fits c.names (formula_of a) two.1), all_fit c p rest one.1)
 all_fit c p (stated.when f inner rest) e =
     let one = and_parts (are_below c.names f && are_placed c inner) (are_placed c rest) e in
     let two = and_parts (are_below c.names f) (are_placed c inner) one.0 in
     (slots_below c.names f two.0, all_fit c p inner two.1, all_fit c p rest one.1)
-all_fit c p (stated.cleanup_set t f rest) e =
-    let one = and_parts (nat_lt t c.targets && are_below c.names f) (are_placed c rest) e in
-    (slots_below c.names f (and_parts (nat_lt t c.targets) (are_below c.names f) one.0).1, all_fit c p rest one.1)
-all_fit c p (stated.cleanup_log f rest) e =
-    let one = and_parts (are_below c.names f) (are_placed c rest) e in (slots_below c.names f one.0, all_fit c p rest one.1)
 all_fit c p (stated.effect n rest) e = all_fit c p rest (and_parts (nat_lt n c.effects) (are_placed c rest) e).1
-all_fit c p (stated.dispose t rest) e = all_fit c p rest (and_parts (nat_lt t c.targets) (are_placed c rest) e).1
 all_fit c p (stated.rewire n rest) e = all_fit c p rest (and_parts (nat_lt n c.rewirings) (are_placed c rest) e).1
 
 -- ---- rewirings

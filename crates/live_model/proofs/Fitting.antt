@@ -1,29 +1,29 @@
 -- The body that statements are: something stands at each of its places, and it has no more statements than lines.
-use Rattle.std.proofs.Common.{◌≡◌, ◌≤◌, ◌<◌, ◌+◌, ◌&&◌, ℕ, suc, nat_lt, not, arith, Bool, true, false, List, [], ◌∷◌, ◌++◌, length, refl, ap, inl, inr}
-use Rattle.std.specs.Prelude.{codes, Option, Some, None}
+use Rattle.std.proofs.Common.{◌≡◌, ◌≤◌, ◌<◌, ◌+◌, ◌&&◌, ℕ, suc, nat_lt, not, arith, Bool, true, false, List, [], ◌∷◌, ◌++◌, length, refl, ap, ◌∙◌, inl, inr}
+use Rattle.std.specs.Prelude.{codes, Option, Some, None, option_map}
 use Rattle.std.specs.List.{AllByRecursion, list_all, list_any, position_or_len}
 use Rattle.std.specs.Str.{bytes_eq}
 use Rattle.std.proofs.lemmas.Bool.{and_from, cases_Bool, lt-ltb}
 use Rattle.std.proofs.lemmas.List.{length-append}
 use Rattle.std.proofs.lemmas.List.Folds.{list_all-append}
 use Rattle.sig_base.specs.declared.limits.TheConstants.{MOST_SOURCES}
+use Rattle.effect_model.specs.Lines.{formula_of, target_of}
+use Rattle.effect_model.proofs.SharedLines.{formula_mapped, target_mapped}
 use Rattle.sig_untrack.specs.Stated as stated
 use Rattle.sig_untrack.specs.Stated.{Bodies, Stated, no_bodies}
 use Rattle.effect_tables.specs.Fitting.{count_of}
 use Rattle.formula_text.specs.declared.rough.Around.TheVariants as around
 use Rattle.formula_text.specs.declared.rough.OverRows.TheVariants as over
 use Rattle.formula_text.specs.Grammar.{Draft, leaf, negation, binary, choice, of_row, one_part, each_row}
-use Rattle.formula_text.specs.Judging.{row_tree, slot_of, slotted, with_names}
+use Rattle.formula_text.specs.Judging.{row_tree, slot_of, slotted, with_name, with_names}
 use Rattle.formula_text.specs.Signs.{name, constant}
 use Rattle.formula_text.proofs.Shared.{Has, HasEach, each_there, keeps_each}
 use Rattle.body_text.specs.declared.line.Line.{Line}
 use Rattle.body_text.specs.declared.line.Line.TheVariants as line
-use Rattle.body_text.specs.declared.line.Plain.{Plain}
-use Rattle.body_text.specs.declared.line.Plain.TheVariants as p
 use Rattle.body_text.specs.declared.line.Source.{Source}
 use Rattle.body_text.specs.declared.line.Source.TheVariants as source
-use Rattle.body_text.specs.Statements.{Statements, done, plain, when, effect, body_of, body_with, effects_of, formula_of, lines_of, own_effects, own_rewires, placed, placed_line, rewired_by, rewires_in, rewiring_of, rewirings_of, target_of, with_formula, with_own, with_target, with_targets}
-use Rattle.live_model.specs.Uses.{Counts, are_below, are_linked, are_placed, bodies_count, count_in_bodies, is_rewiring}
+use Rattle.body_text.specs.Statements.{Statement, Statements, done, plain, rewire, when, effect, body_of, body_with, effects_of, lines_of, own_effects, own_rewires, placed, placed_line, rewiring_of, rewirings_of, with_formula, with_own, with_target, with_targets}
+use Rattle.live_model.specs.Uses.{Counts, are_below, are_below_if, is_target_if, are_linked, are_placed, bodies_count, count_in_bodies, is_rewiring}
 
 -- ---- slots
 
@@ -73,6 +73,7 @@ formula_stays ns (Some y) x h = keeps_each ns y x h
 own_stays : (ns : List (List ℕ)) (s : Statements) (x : Draft) → HasEach ns x → HasEach (with_own ns s) x
 own_stays ns done x h = h
 own_stays ns (plain a s) x h = own_stays (with_formula ns (formula_of a)) s x (formula_stays ns (formula_of a) x h)
+own_stays ns (rewire n z s) x h = own_stays ns s x h
 own_stays ns (when y i s) x h = own_stays (with_own (with_names ns y) i) s x (own_stays (with_names ns y) i x (keeps_each ns y x h))
 own_stays ns (effect i s) x h = own_stays ns s x h
 
@@ -83,6 +84,7 @@ target_stays ts (Some m) n h = keeps_each ts (leaf (name m)) (leaf (name n)) h
 targets_stay : (ts : List (List ℕ)) (s : Statements) (n : List ℕ) → Has ts n → Has (with_targets ts s) n
 targets_stay ts done n h = h
 targets_stay ts (plain a s) n h = targets_stay (with_target ts (target_of a)) s n (target_stays ts (target_of a) n h)
+targets_stay ts (rewire m x s) n h = targets_stay (with_name ts m) s n (keeps_each ts (leaf (name m)) (leaf (name n)) h)
 targets_stay ts (when y i s) n h = targets_stay (with_targets ts i) s n (targets_stay ts i n h)
 targets_stay ts (effect i s) n h = targets_stay ts s n h
 
@@ -97,21 +99,21 @@ module _ (us ms : List (List ℕ)) (effects rewirings : ℕ) where
   abbrev counts : Counts
   counts = record { names = length ms; targets = length us; effects = effects; rewirings = rewirings }
 
-  -- a target and a formula
-  two_there : (ts ns : List (List ℕ)) (n : List ℕ) (x : Draft) → AreAmong (with_target ts (Some n)) (with_names ns x) us ms
-      → (nat_lt (slot_of us n) (length us) && are_below (length ms) (slotted ms x)) ≡ true
-  two_there ts ns n x a =
-      and_from _ _ (slot_below us n (a.target n (each_there ts (leaf (name n))))) (slots_below ms x (a.names x (each_there ns x)))
+  target_there : (ts : List (List ℕ)) (o : Option (List ℕ)) → ((n : List ℕ) → Has (with_target ts o) n → Has us n)
+      → is_target_if (length us) (option_map (slot_of us) o) ≡ true
+  target_there ts None a = refl
+  target_there ts (Some n) a = slot_below us n (a n (each_there ts (leaf (name n))))
 
-  line_placed : (ts ns : List (List ℕ)) (r : ℕ) (a : Plain) (rest : Stated)
-      → AreAmong (with_target ts (target_of a)) (with_formula ns (formula_of a)) us ms → r + rewires_in a ≤ rewirings
-      → are_placed counts rest ≡ true → are_placed counts (placed_line us ms r a rest) ≡ true
-  line_placed ts ns r (p.Set n x) rest a le h = and_from _ _ (two_there ts ns n x a) h
-  line_placed ts ns r (p.Log x) rest a le h = and_from _ _ (slots_below ms x (a.names x (each_there ns x))) h
-  line_placed ts ns r (p.CleanupSet n x) rest a le h = and_from _ _ (two_there ts ns n x a) h
-  line_placed ts ns r (p.CleanupLog x) rest a le h = and_from _ _ (slots_below ms x (a.names x (each_there ns x))) h
-  line_placed ts ns r (p.Dispose n) rest a le h = and_from _ _ (slot_below us n (a.target n (each_there ts (leaf (name n))))) h
-  line_placed ts ns r (p.Rewire n s) rest a le h = and_from _ _ (lt-ltb _ _ (omega (arith, le))) h
+  formula_there : (ns : List (List ℕ)) (o : Option Draft) → ((x : Draft) → HasEach (with_formula ns o) x → HasEach ms x)
+      → are_below_if (length ms) (option_map (slotted ms) o) ≡ true
+  formula_there ns None a = refl
+  formula_there ns (Some x) a = slots_below ms x (a x (each_there ns x))
+
+  line_placed : (ts ns : List (List ℕ)) (b : Statement) → AreAmong (with_target ts (target_of b)) (with_formula ns (formula_of b)) us ms
+      → (is_target_if (length us) (target_of (placed_line us ms b)) && are_below_if (length ms) (formula_of (placed_line us ms b))) ≡ true
+  line_placed ts ns b a =
+      and_from _ _ (ap (is_target_if (length us)) (target_mapped (slot_of us) (slotted ms) b) ∙ target_there ts (target_of b) a.target)
+      (ap (are_below_if (length ms)) (formula_mapped (slot_of us) (slot_of us) (slotted ms) b) ∙ formula_there ns (formula_of b) a.names)
 
   all_placed : (ts ns : List (List ℕ)) (e r : ℕ) (s : Statements) (rest : Stated) → AreAmong (with_targets ts s) (with_own ns s) us ms
       → e + own_effects s ≤ effects → r + own_rewires s ≤ rewirings → are_placed counts rest ≡ true
@@ -122,8 +124,10 @@ module _ (us ms : List (List ℕ)) (effects rewirings : ℕ) where
         target = λ n k. a.target n (targets_stay (with_target ts (target_of b)) s n k);
         names = λ x k. a.names x (own_stays (with_formula ns (formula_of b)) s x k);
       } in
-      line_placed ts ns r b (placed us ms e (r + rewires_in b) s rest) first (omega (arith, few))
-      (all_placed (with_target ts (target_of b)) (with_formula ns (formula_of b)) e (r + rewires_in b) s rest a le (omega (arith, few)) h)
+      and_from _ _ (line_placed ts ns b first)
+      (all_placed (with_target ts (target_of b)) (with_formula ns (formula_of b)) e r s rest a le few h)
+  all_placed ts ns e r (rewire n x s) rest a le few h =
+      and_from _ _ (lt-ltb _ _ (omega (arith, few))) (all_placed (with_name ts n) ns e (r + 1) s rest a le (omega (arith, few)) h)
   all_placed ts ns e r (when x i s) rest a le few h =
       let inner : AreAmong (with_targets ts i) (with_own (with_names ns x) i) us ms = record {
         target = λ n k. a.target n (targets_stay (with_targets ts i) s n k);
@@ -144,7 +148,7 @@ IsFewSource s = nat_lt MOST_SOURCES (length (rewiring_of 0 s).names) ≡ false
 
 -- the source of a line
 abbrev pub IsFewLine : Line → Type 0
-IsFewLine (line.Plain (p.Rewire n s)) = IsFewSource s
+IsFewLine (line.Rewire n s) = IsFewSource s
 IsFewLine _ = Unit {0}
 
 -- of all lines, those of the first part and those behind it
@@ -152,23 +156,17 @@ parted : (ls ms : List Line) → AllByRecursion IsFewLine (ls ++ ms) → AllByRe
 parted [] ms h = (tt, h)
 parted (l ∷ ls) ms h = let rest = parted ls ms h.1 in ((h.0, rest.0), rest.1)
 
-one_rewires : (us : List (List ℕ)) (t : ℕ) (s : Source) → nat_lt t (length us) ≡ true → IsFewSource s
-    → list_all (is_rewiring (length us)) (rewiring_of t s ∷ []) ≡ true
-one_rewires us t (source.Formula x) below few = and_from _ _ (and_from _ _ below (ap not few)) refl
-one_rewires us t (source.Host k ns) below few = and_from _ _ (and_from _ _ below (ap not few)) refl
-
-line_rewires : (us ts : List (List ℕ)) (a : Plain) → ((n : List ℕ) → Has (with_target ts (target_of a)) n → Has us n) → IsFewLine (line.Plain a)
-    → list_all (is_rewiring (length us)) (rewired_by us a) ≡ true
-line_rewires us ts (p.Rewire n s) a few = one_rewires us (slot_of us n) s (slot_below us n (a n (each_there ts (leaf (name n))))) few
-line_rewires us ts _ a few = refl
+rewired : (us : List (List ℕ)) (t : ℕ) (s : Source) → nat_lt t (length us) ≡ true → IsFewSource s → is_rewiring (length us) (rewiring_of t s) ≡ true
+rewired us t (source.Formula x) below few = and_from _ _ below (ap not few)
+rewired us t (source.Host k ns) below few = and_from _ _ below (ap not few)
 
 all_rewire : (us ts : List (List ℕ)) (s : Statements) → ((n : List ℕ) → Has (with_targets ts s) n → Has us n) → AllByRecursion IsFewLine (lines_of s)
     → list_all (is_rewiring (length us)) (rewirings_of us s) ≡ true
 all_rewire us ts done a few = refl
-all_rewire us ts (plain b s) a few =
-    rw (list_all-append (is_rewiring (length us)) (rewired_by us b) (rewirings_of us s))
-    (and_from _ _ (line_rewires us ts b (λ n k. a n (targets_stay (with_target ts (target_of b)) s n k)) few.0)
-    (all_rewire us (with_target ts (target_of b)) s a few.1))
+all_rewire us ts (plain b s) a few = all_rewire us (with_target ts (target_of b)) s a few.1
+all_rewire us ts (rewire n x s) a few =
+    and_from _ _ (rewired us (slot_of us n) x (slot_below us n (a n (targets_stay (with_name ts n) s n (each_there ts (leaf (name n)))))) few.0)
+    (all_rewire us (with_name ts n) s a few.1)
 all_rewire us ts (when x i s) a few =
     let two = parted (lines_of i) (line.End ∷ lines_of s) few.1 in
     rw (list_all-append (is_rewiring (length us)) (rewirings_of us i) (rewirings_of us s))
@@ -180,17 +178,14 @@ all_rewire us ts (effect i s) a few = all_rewire us ts s a (parted (lines_of i) 
 effects_count : (s : Statements) (others : Bodies) → bodies_count (effects_of s others) ≡ own_effects s + bodies_count others
 effects_count done others = omega arith
 effects_count (plain a s) others = effects_count s others
+effects_count (rewire n x s) others = effects_count s others
 effects_count (when x i s) others = let a = effects_count i (effects_of s others) in let b = effects_count s others in omega (arith, a, b)
 effects_count (effect i s) others = let a = effects_count s others in omega (arith, a)
 
-rewired_count : (us : List (List ℕ)) (a : Plain) → length (rewired_by us a) ≡ rewires_in a
-rewired_count us (p.Rewire n s) = refl
-rewired_count us _ = refl
-
 rewires_count : (us : List (List ℕ)) (s : Statements) → length (rewirings_of us s) ≡ own_rewires s
 rewires_count us done = refl
-rewires_count us (plain a s) =
-    let e = rewired_count us a in let f = rewires_count us s in let g = length-append (rewired_by us a) (rewirings_of us s) in omega (arith, e, f, g)
+rewires_count us (plain a s) = rewires_count us s
+rewires_count us (rewire n x s) = let e = rewires_count us s in omega (arith, e)
 rewires_count us (when x i s) =
     let e = rewires_count us i in let f = rewires_count us s in let g = length-append (rewirings_of us i) (rewirings_of us s) in omega (arith, e, f, g)
 rewires_count us (effect i s) = rewires_count us s
@@ -212,6 +207,7 @@ effects_linked : (s : Statements) (others : Bodies) → AllByRecursion IsFewLine
     → are_linked (effects_of s others) ≡ true
 effects_linked done others few behind = behind
 effects_linked (plain a s) others few behind = effects_linked s others few.1 behind
+effects_linked (rewire n x s) others few behind = effects_linked s others few.1 behind
 effects_linked (when x i s) others few behind =
     let two = parted (lines_of i) (line.End ∷ lines_of s) few.1 in
     effects_linked i (effects_of s others) two.0 (effects_linked s others two.1.1 behind)
@@ -225,19 +221,13 @@ all_linked s few = body_linked s no_bodies few (effects_linked s no_bodies few r
 
 -- ---- statements and lines
 
-line_counts : (us ms : List (List ℕ)) (r : ℕ) (a : Plain) (rest : Stated) → count_of (placed_line us ms r a rest) ≡ suc (count_of rest)
-line_counts us ms r (p.Rewire n s) rest = refl
-line_counts us ms r _ rest = refl
-
 -- statements and those of their nested effects, before others
 few_statements : (us ms : List (List ℕ)) (e r : ℕ) (s : Statements) (rest : Stated) (others : Bodies)
     → count_of (placed us ms e r s rest) + count_in_bodies (effects_of s others)
     ≤ length (lines_of s) + (count_of rest + count_in_bodies others)
 few_statements us ms e r done rest others = omega arith
-few_statements us ms e r (plain a s) rest others =
-    let one = line_counts us ms r a (placed us ms e (r + rewires_in a) s rest) in
-    let more = few_statements us ms e (r + rewires_in a) s rest others in
-    omega (arith, one, more)
+few_statements us ms e r (plain a s) rest others = let more = few_statements us ms e r s rest others in omega (arith, more)
+few_statements us ms e r (rewire n x s) rest others = let more = few_statements us ms e (r + 1) s rest others in omega (arith, more)
 few_statements us ms e r (when x i s) rest others =
     let inner = few_statements us ms e r i stated.no_more (effects_of s others) in
     let more = few_statements us ms (e + own_effects i) (r + own_rewires i) s rest others in

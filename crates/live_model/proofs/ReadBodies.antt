@@ -16,7 +16,7 @@ use Rattle.body_text.specs.declared.fault.BodyFault.{BodyFault}
 use Rattle.body_text.specs.declared.judge.TheConstants.{MOST_BODY_LINES}
 use Rattle.line_forms.specs.Forms.{Args}
 use Rattle.body_text.specs.declared.line.LineKind.TheVariants as kind
-use Rattle.body_text.specs.Grammar.{Row, row, line_of, rewire, host}
+use Rattle.body_text.specs.Grammar.{Row, row, line_of, set, rewire, host}
 use Rattle.body_text.specs.Judging.{excess, fault_at, fault_of, first_excess, first_misplaced, judged, judged_at, many_lines, misplacing, refusal_of}
 use Rattle.body_text.specs.Places.{kind_of, moved}
 use Rattle.body_text.specs.Readings.{Answer, IsRead, Sayings, faulty, unended, says, said_lines, unless_refused}
@@ -66,6 +66,7 @@ few_said : (depth : ℕ) (r : Row) (t : Args (row r).1) → misplacing depth (ki
 few_said depth rewire (n, (x, tt)) a b =
     few_told depth (has_untrack x) (needs_row x) (is_above MOST_HEIGHT x) (has_long_text x) (nat_lt MOST_SOURCES (length (names x))) a b
 few_said depth host (n, (k, (ns, tt))) a b = few_arguments (nat_lt MOST_SOURCES (length ns)) b
+few_said depth set t a b = tt
 few_said depth _ t a b = tt
 
 all_few : (depth : ℕ) (xs : Sayings) → first_misplaced (judged depth xs) ≡ None → first_excess (judged depth xs) ≡ None

@@ -6,7 +6,8 @@ use Rattle.sig_base.specs.declared.value.Value.TheVariants as value
 use Rattle.sig_base.specs.declared.value.Fault.TheVariants as fault
 use Rattle.sig_formula.specs.declared.formula.BinOp.TheVariants.{Add}
 use Rattle.sig_formula.specs.Trees.{Tree, literal, slot, binary}
-use Rattle.sig_untrack.specs.Stated.{Stated, Bodies, no_bodies, body, no_more, set, log, when, cleanup_log, effect, dispose, rewire}
+use Rattle.effect_model.specs.declared.plain.Plain.TheVariants as p
+use Rattle.sig_untrack.specs.Stated.{Stated, Bodies, no_bodies, body, no_more, plain, when, effect, rewire}
 use Rattle.sig_untrack.specs.Stated as stated
 use Rattle.live_cmd.specs.declared.command.SourceText.TheVariants as source
 use Rattle.live_cmd.specs.declared.command.Verb.TheVariants as verb
@@ -26,6 +27,19 @@ use Rattle.live_model.specs.Examples.{told_by, a_cell, int, a_host, a_template, 
 -- a whole number as a formula
 abbrev pub number : ℕ → Tree
 number n = literal (int n)
+
+-- a statement of one line, before others
+abbrev pub line_set : ℕ → Tree → Stated → Stated
+line_set t f rest = plain (p.Set t f) rest
+
+abbrev pub line_log : Tree → Stated → Stated
+line_log f rest = plain (p.Log f) rest
+
+abbrev pub line_cleanup_log : Tree → Stated → Stated
+line_cleanup_log f rest = plain (p.CleanupLog f) rest
+
+abbrev pub line_dispose : ℕ → Stated → Stated
+line_dispose t rest = plain (p.Dispose t) rest
 
 -- a body of statements that act on these things and read these signals, without nested effects and rewirings
 abbrev pub simple : Stated → List (List ℕ) → List (List ℕ) → Bodies
@@ -69,13 +83,13 @@ in_owner b = an_owner (codes "o") ∷ item.Do (command.Cell (codes "a") (int 1) 
     ∷ item.Do (command.Effect (codes "e") b (Some (codes "o"))) ∷ a_flush ∷ a_dispose (codes "o") ∷ []
 
 -- where e logs b
-pub owner_told : told_by 0 (in_owner (simple (log (slot 0) no_more) [] (codes "b" ∷ [])))
+pub owner_told : told_by 0 (in_owner (simple (line_log (slot 0) no_more) [] (codes "b" ∷ [])))
     ≡ ran_to (codes "b") (codes "a" ∷ []) 1 ∷ evaluated (codes "e") [] (codes "b" ∷ []) ∷ logged 1
     ∷ gone (codes "e") ∷ gone (codes "b") ∷ gone (codes "a") ∷ gone (codes "o") ∷ []
 owner_told = refl
 
 -- where e notes a cleanup
-pub cleanup_told : told_by 0 (in_owner (simple (cleanup_log (number 9) no_more) [] []))
+pub cleanup_told : told_by 0 (in_owner (simple (line_cleanup_log (number 9) no_more) [] []))
     ≡ evaluated (codes "e") [] [] ∷ cleaned (codes "e") [] ∷ logged 9
     ∷ gone (codes "e") ∷ gone (codes "b") ∷ gone (codes "a") ∷ gone (codes "o") ∷ []
 cleanup_told = refl
@@ -97,7 +111,7 @@ page_told = refl
 -- a = 1; b = 2; the effect disposes b, sets it, which is refused, and logs a
 abbrev pub refused_act : List Item
 refused_act = a_cell (codes "a") (int 1) ∷ a_cell (codes "b") (int 2)
-    ∷ an_effect (codes "e") (simple (dispose 0 (set 0 (number 3) (log (slot 0) no_more))) (codes "b" ∷ []) (codes "a" ∷ [])) ∷ a_flush ∷ []
+    ∷ an_effect (codes "e") (simple (line_dispose 0 (line_set 0 (number 3) (line_log (slot 0) no_more))) (codes "b" ∷ []) (codes "a" ∷ [])) ∷ a_flush ∷ []
 
 -- what it tells
 pub refused_act_told : told_by 0 refused_act
@@ -107,8 +121,8 @@ refused_act_told = refl
 -- a = 1; the effect logs a; its child disposes it, and would log 5
 abbrev pub child_ends : List Item
 child_ends = a_cell (codes "a") (int 1)
-    ∷ an_effect (codes "e") (body (effect 0 (log (slot 0) no_more)) [] (codes "a" ∷ [])
-    (simple (dispose 0 (log (number 5) no_more)) (codes "e" ∷ []) []) [] no_bodies) ∷ a_flush ∷ a_flush ∷ a_dispose (codes "e") ∷ []
+    ∷ an_effect (codes "e") (body (effect 0 (line_log (slot 0) no_more)) [] (codes "a" ∷ [])
+    (simple (line_dispose 0 (line_log (number 5) no_more)) (codes "e" ∷ []) []) [] no_bodies) ∷ a_flush ∷ a_flush ∷ a_dispose (codes "e") ∷ []
 
 -- the child is made in the first turn and runs in the second
 pub child_ends_told : told_by 0 child_ends
@@ -120,7 +134,7 @@ child_ends_told = refl
 abbrev pub grandchild : List Item
 grandchild = a_cell (codes "a") (int 1)
     ∷ an_effect (codes "e") (body (effect 0 no_more) [] []
-    (body (log (slot 0) (effect 0 no_more)) [] (codes "a" ∷ []) (simple (log (number 7) no_more) [] []) [] no_bodies) [] no_bodies)
+    (body (line_log (slot 0) (effect 0 no_more)) [] (codes "a" ∷ []) (simple (line_log (number 7) no_more) [] []) [] no_bodies) [] no_bodies)
     ∷ a_flush ∷ a_set (codes "a") (int 2) ∷ a_flush ∷ a_dispose (codes "e") ∷ []
 
 -- the child is taken back and runs again; its own child is another one with the same label
@@ -133,7 +147,7 @@ grandchild_told = refl
 
 -- a body fails and does nothing
 pub failed_told : told_by 0 (a_cell (codes "a") (int 1)
-    ∷ an_effect (codes "e") (simple (log (number 3) (when (slot 0) (log (number 2) no_more) no_more)) [] (codes "a" ∷ [])) ∷ a_flush ∷ [])
+    ∷ an_effect (codes "e") (simple (line_log (number 3) (when (slot 0) (line_log (number 2) no_more) no_more)) [] (codes "a" ∷ [])) ∷ a_flush ∷ [])
     ≡ evaluated (codes "e") [] (codes "a" ∷ []) ∷ entry.Fail (child (codes "e") []) fault.Kind ∷ []
 failed_told = refl
 
@@ -142,7 +156,7 @@ failed_told = refl
 -- x = 0; the effect sets x to x + 1, so it is due after the last turn of a flush
 abbrev pub endless : List Item
 endless = a_cell (codes "x") (int 0)
-    ∷ an_effect (codes "e") (simple (set 0 (binary Add (slot 0) (number 1)) no_more) (codes "x" ∷ []) (codes "x" ∷ [])) ∷ a_flush
+    ∷ an_effect (codes "e") (simple (line_set 0 (binary Add (slot 0) (number 1)) no_more) (codes "x" ∷ []) (codes "x" ∷ [])) ∷ a_flush
     ∷ a_get (codes "x") ∷ []
 
 -- the flush is refused, and what the turns did stands
@@ -155,9 +169,9 @@ endless_told = refl
 -- rewires to a host formula that isn't there, and one to one that is used, which is refused when it is done
 abbrev pub refusals : List Item
 refusals = a_cell (codes "a") (int 1) ∷ item.Do (command.Effect (codes "e") (simple no_more [] []) (Some (codes "e")))
-    ∷ an_effect (codes "e") (simple (log (slot 0) no_more) [] (codes "e" ∷ []))
-    ∷ an_effect (codes "e") (simple (log (slot 0) (set 0 (number 1) no_more)) (codes "z" ∷ []) (codes "a" ∷ []))
-    ∷ an_effect (codes "e") (simple (dispose 0 no_more) (codes "e" ∷ []) [])
+    ∷ an_effect (codes "e") (simple (line_log (slot 0) no_more) [] (codes "e" ∷ []))
+    ∷ an_effect (codes "e") (simple (line_log (slot 0) (line_set 0 (number 1) no_more)) (codes "z" ∷ []) (codes "a" ∷ []))
+    ∷ an_effect (codes "e") (simple (line_dispose 0 no_more) (codes "e" ∷ []) [])
     ∷ a_host (codes "h") 0 (codes "a" ∷ [])
     ∷ an_effect (codes "f") (body (rewire 0 no_more) (codes "h" ∷ []) [] no_bodies (record { target = 0; source = stated.host 6; names = [] } ∷ []) no_bodies)
     ∷ an_effect (codes "f") (body (rewire 0 no_more) (codes "h" ∷ []) [] no_bodies

@@ -5,6 +5,9 @@ use Rattle.std.specs.List.{list_all}
 use Rattle.sig_base.specs.declared.limits.TheConstants.{MOST_SOURCES}
 use Rattle.sig_formula.specs.Trees.{Tree, literal, slot, row_field, row_key, negation, binary, choice, count_of, sum_of, rows_where, untracked}
 use Rattle.formula_text.specs.Wiring.{Wiring}
+use Rattle.effect_model.specs.declared.plain.Plain.{Plain}
+use Rattle.effect_model.specs.declared.plain.Plain.TheVariants as p
+use Rattle.effect_model.specs.Lines.{formula_of, target_of}
 use Rattle.effect_tables.specs.Fitting as fitting
 use Rattle.sig_untrack.specs.Stated as stated
 use Rattle.sig_untrack.specs.Stated.{Stated, Source, Rewiring, Bodies, no_bodies, body}
@@ -79,16 +82,20 @@ uses_at names n needed = map (λ m. (m, needed)) (there names n)
 abbrev pub uses_in : Named → Tree → List Use
 uses_in b f = flat_map (λ s. uses_at b.names s need.Signal) (slots_in f)
 
+-- the names in a statement of one line
+abbrev pub uses_of_plain : Named → Plain ℕ ℕ Tree → List Use
+uses_of_plain b (p.Set t f) = uses_at b.targets t (need.Of kind.Cell) ++ uses_in b f
+uses_of_plain b (p.Log f) = uses_in b f
+uses_of_plain b (p.CleanupSet t f) = uses_at b.targets t (need.Of kind.Cell) ++ uses_in b f
+uses_of_plain b (p.CleanupLog f) = uses_in b f
+uses_of_plain b (p.Dispose t) = uses_at b.targets t need.Thing
+
 -- the names in statements
 abbrev pub uses_of_statements : Named → Stated → List Use
 uses_of_statements b stated.no_more = []
-uses_of_statements b (stated.set t f rest) = uses_at b.targets t (need.Of kind.Cell) ++ (uses_in b f ++ uses_of_statements b rest)
-uses_of_statements b (stated.log f rest) = uses_in b f ++ uses_of_statements b rest
+uses_of_statements b (stated.plain a rest) = uses_of_plain b a ++ uses_of_statements b rest
 uses_of_statements b (stated.when f inner rest) = uses_in b f ++ (uses_of_statements b inner ++ uses_of_statements b rest)
-uses_of_statements b (stated.cleanup_set t f rest) = uses_at b.targets t (need.Of kind.Cell) ++ (uses_in b f ++ uses_of_statements b rest)
-uses_of_statements b (stated.cleanup_log f rest) = uses_in b f ++ uses_of_statements b rest
 uses_of_statements b (stated.effect n rest) = at_place b.effects n ++ uses_of_statements b rest
-uses_of_statements b (stated.dispose t rest) = uses_at b.targets t need.Thing ++ uses_of_statements b rest
 uses_of_statements b (stated.rewire n rest) = at_place b.rewirings n ++ uses_of_statements b rest
 
 -- the names in a rewiring, of a body with these targets
@@ -119,11 +126,7 @@ hosts_of_statements effects rewirings (stated.when f inner rest) =
     hosts_of_statements effects rewirings inner ++ hosts_of_statements effects rewirings rest
 hosts_of_statements effects rewirings (stated.effect n rest) = at_place effects n ++ hosts_of_statements effects rewirings rest
 hosts_of_statements effects rewirings (stated.rewire n rest) = at_place rewirings n ++ hosts_of_statements effects rewirings rest
-hosts_of_statements effects rewirings (stated.set t f rest) = hosts_of_statements effects rewirings rest
-hosts_of_statements effects rewirings (stated.log f rest) = hosts_of_statements effects rewirings rest
-hosts_of_statements effects rewirings (stated.cleanup_set t f rest) = hosts_of_statements effects rewirings rest
-hosts_of_statements effects rewirings (stated.cleanup_log f rest) = hosts_of_statements effects rewirings rest
-hosts_of_statements effects rewirings (stated.dispose t rest) = hosts_of_statements effects rewirings rest
+hosts_of_statements effects rewirings (stated.plain a rest) = hosts_of_statements effects rewirings rest
 
 -- those in each of these bodies
 abbrev pub hosts_of_bodies : Bodies → List (List ℕ)
@@ -146,16 +149,22 @@ pub record Counts : Type 0 where
 abbrev pub are_below : ℕ → Tree → Bool
 are_below count f = list_all (λ s. nat_lt s count) (slots_in f)
 
+-- the same of a formula that may be there
+abbrev pub are_below_if : ℕ → Option Tree → Bool
+are_below_if count None = true
+are_below_if count (Some f) = are_below count f
+
+-- whether a target that may be there is among so many
+abbrev pub is_target_if : ℕ → Option ℕ → Bool
+is_target_if count None = true
+is_target_if count (Some t) = nat_lt t count
+
 -- whether something stands at each place in statements
 abbrev pub are_placed : Counts → Stated → Bool
 are_placed c stated.no_more = true
-are_placed c (stated.set t f rest) = (nat_lt t c.targets && are_below c.names f) && are_placed c rest
-are_placed c (stated.log f rest) = are_below c.names f && are_placed c rest
+are_placed c (stated.plain a rest) = (is_target_if c.targets (target_of a) && are_below_if c.names (formula_of a)) && are_placed c rest
 are_placed c (stated.when f inner rest) = (are_below c.names f && are_placed c inner) && are_placed c rest
-are_placed c (stated.cleanup_set t f rest) = (nat_lt t c.targets && are_below c.names f) && are_placed c rest
-are_placed c (stated.cleanup_log f rest) = are_below c.names f && are_placed c rest
 are_placed c (stated.effect n rest) = nat_lt n c.effects && are_placed c rest
-are_placed c (stated.dispose t rest) = nat_lt t c.targets && are_placed c rest
 are_placed c (stated.rewire n rest) = nat_lt n c.rewirings && are_placed c rest
 
 -- whether a rewiring has a target among so many, and no more names than a formula may have

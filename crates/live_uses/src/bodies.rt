@@ -2,14 +2,15 @@
 ghost use Rattle.std.specs.Prelude.{◌≡◌, ◌++◌, IfOk, OnOk, flat_map, map};
 ghost use Rattle.sig_formula.specs.Trees.{tree};
 ghost use Rattle.sig_untrack.specs.Stated as stated;
-ghost use Rattle.sig_untrack.specs.Stated.{before, no_bodies, put, rewiring, Stated};
-ghost use Rattle.live_model.specs.Uses.{at_place, slots_in, uses_at, uses_in, uses_of_body, uses_of_rewiring, uses_of_statements};
+ghost use Rattle.sig_untrack.specs.Stated.{before, held_line, no_bodies, put, rewiring, Stated};
+ghost use Rattle.live_model.specs.Uses.{at_place, slots_in, uses_at, uses_in, uses_of_body, uses_of_plain, uses_of_rewiring, uses_of_statements};
 ghost use Rattle.live_model.specs.declared.names.Kind.TheVariants as kind;
 ghost use Rattle.live_model.specs.declared.names.Need.TheVariants as need;
 ghost use Rattle.live_uses.specs.Views.{named_by, use_of};
 
 use crate::slots::slots_in;
 use crate::uses::{Use, put_signals, put_use};
+use effect_model::Plain;
 use live_model::{Kind, Need};
 use sig_base::{Name, NoMemory};
 use sig_formula::Formula;
@@ -145,6 +146,31 @@ fn put_rewired<'a, 'b>(
     }
 }
 
+// Puts the names in a statement of one line.
+fn put_line<'a, 'b>(
+    alloc: Global,
+    uses: &mut Vec<Use<'a>>,
+    named: &Named<'a, 'b>,
+    line: &Plain<u32, u32, Formula>,
+) -> Result<(), NoMemory>
+    ensures { OnOk result (map use_of uses.new.items ≡ map use_of uses.old.items ++ uses_of_plain (named_by named.now) (held_line line.now)) }
+{
+    match line {
+        Plain::Set(target, formula) | Plain::CleanupSet(target, formula) => {
+            put_set(alloc, uses, named, *target, formula)?;
+            Ok(())
+        }
+        Plain::Log(formula) | Plain::CleanupLog(formula) => {
+            put_formula(alloc, uses, named.names, formula)?;
+            Ok(())
+        }
+        Plain::Dispose(target) => {
+            put_there(uses, named.targets, *target, Need::Thing)?;
+            Ok(())
+        }
+    }
+}
+
 // Puts the names in a statement.
 #[cycle(naming)]
 fn put_statement<'a, 'b>(
@@ -157,12 +183,8 @@ fn put_statement<'a, 'b>(
         ≡ map use_of uses.old.items ++ uses_of_statements (named_by named.now) (put statement.now rest)) }
 {
     match statement {
-        Stmt::Set(target, formula) => {
-            put_set(alloc, uses, named, *target, formula)?;
-            Ok(())
-        }
-        Stmt::Log(formula) => {
-            put_formula(alloc, uses, named.names, formula)?;
+        Stmt::Plain(line) => {
+            put_line(alloc, uses, named, line)?;
             Ok(())
         }
         Stmt::When(formula, inner) => {
@@ -170,20 +192,8 @@ fn put_statement<'a, 'b>(
             put_statements(alloc, uses, named, inner)?;
             Ok(())
         }
-        Stmt::CleanupSet(target, formula) => {
-            put_set(alloc, uses, named, *target, formula)?;
-            Ok(())
-        }
-        Stmt::CleanupLog(formula) => {
-            put_formula(alloc, uses, named.names, formula)?;
-            Ok(())
-        }
         Stmt::Effect(place) => {
             put_effect(uses, named.effects, *place)?;
-            Ok(())
-        }
-        Stmt::Dispose(target) => {
-            put_there(uses, named.targets, *target, Need::Thing)?;
             Ok(())
         }
         Stmt::Rewire(place) => {

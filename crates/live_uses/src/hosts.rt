@@ -63,19 +63,15 @@ fn put_statement(places: &mut Vec<u64>, hosting: &Hosting, statement: &Stmt) -> 
         ≡ places.old.items ++ hosts_of_statements (inner_hosts hosting.now) (rewired_hosts hosting.now.rewires.now) (put statement.now rest)) }
 {
     match statement {
-        Stmt::Set(_, _) => Ok(()),
-        Stmt::Log(_) => Ok(()),
+        Stmt::Plain(_) => Ok(()),
         Stmt::When(_, inner) => {
             put_statements(places, hosting, inner)?;
             Ok(())
         }
-        Stmt::CleanupSet(_, _) => Ok(()),
-        Stmt::CleanupLog(_) => Ok(()),
         Stmt::Effect(place) => {
             put_effect(places, hosting.effects, *place)?;
             Ok(())
         }
-        Stmt::Dispose(_) => Ok(()),
         Stmt::Rewire(place) => {
             put_rewired(places, hosting.rewires, *place)?;
             Ok(())

@@ -10,11 +10,11 @@ use Rattle.script_lines.specs.Lines.{NumberedLine, is_passed}
 use Rattle.script_lines.specs.Pieces.{closes, level_after, opens}
 use Rattle.body_text.specs.declared.line.Line.{Line as BodyLine}
 use Rattle.body_text.specs.declared.line.Line.TheVariants as body_line
-use Rattle.body_text.specs.declared.line.Plain.{Plain}
-use Rattle.body_text.specs.declared.line.Plain.TheVariants as plain_line
+use Rattle.body_text.specs.declared.line.Source.{Source}
 use Rattle.body_text.specs.declared.line.Source.TheVariants as body_source
+use Rattle.effect_model.specs.declared.plain.Plain.TheVariants as plain_line
 use Rattle.body_text.specs.Statements as statements
-use Rattle.body_text.specs.Statements.{Statements, lines_of}
+use Rattle.body_text.specs.Statements.{Statement, Statements, lines_of}
 use Rattle.body_text.specs.Writing as body
 use Rattle.tpl_syntax.specs.declared.place.Level.{Level}
 use Rattle.tpl_syntax.specs.declared.place.Level.TheVariants as levels
@@ -51,15 +51,15 @@ stays-append level mid to (l ∷ ls) ms h k = (h.0, stays-append (level_after le
 abbrev bytes_in : Statements → List (List ℕ)
 bytes_in s = map (λ l. body.bytes_of (body.said_of l)) (lines_of s)
 
-plain_stays : (a : Plain) (level : ℕ) → level_after level (body.bytes_of (body.said_of (body_line.Plain a))) ≡ level
+plain_stays : (a : Statement) (level : ℕ) → level_after level (body.bytes_of (body.said_of (body_line.Plain a))) ≡ level
 unfolding opens closes
 plain_stays (plain_line.Set n x) level = refl
-plain_stays (plain_line.Log x) level = refl
-plain_stays (plain_line.CleanupSet n x) level = refl
-plain_stays (plain_line.CleanupLog x) level = refl
-plain_stays (plain_line.Dispose n) level = refl
-plain_stays (plain_line.Rewire n (body_source.Formula x)) level = refl
-plain_stays (plain_line.Rewire n (body_source.Host k ns)) level = refl
+plain_stays _ level = refl
+
+rewire_stays : (n : List ℕ) (s : Source) (level : ℕ) → level_after level (body.bytes_of (body.said_of (body_line.Rewire n s))) ≡ level
+unfolding opens closes
+rewire_stays n (body_source.Formula x) level = refl
+rewire_stays n (body_source.Host k ns) level = refl
 
 when_opens : (x : Draft) (level : ℕ) → level_after level (body.bytes_of (body.said_of (body_line.When x))) ≡ level + 1
 unfolding opens closes
@@ -100,6 +100,8 @@ pub body_stays : (s : Statements) (level : ℕ) → 0 < level → Stays level (b
 body_stays statements.done level h = refl
 body_stays (statements.plain a s) level h =
     one_more level level level (body.bytes_of (body.said_of (body_line.Plain a))) (bytes_in s) (plain_stays a level) h (body_stays s level h)
+body_stays (statements.rewire n x s) level h =
+    one_more level level level (body.bytes_of (body.said_of (body_line.Rewire n x))) (bytes_in s) (rewire_stays n x level) h (body_stays s level h)
 body_stays (statements.when x s t) level h =
     opened_stays s t level (body_line.When x) h (when_opens x level) (body_stays s (level + 1) (omega arith)) (body_stays t level h)
 body_stays (statements.effect s t) level h =

@@ -9,17 +9,20 @@ use Rattle.sig_base.specs.declared.value.Value.TheVariants as value
 use Rattle.sig_formula.specs.declared.evaluate.FormulaStep.{FormulaStep}
 use Rattle.sig_formula.specs.declared.evaluate.FormulaStep.TheVariants.{Ask, End}
 use Rattle.sig_formula.specs.Answering.{formula_step}
+use Rattle.sig_formula.specs.Trees.{Tree}
 use Rattle.signal_model.specs.Recipes.{Hosts, Recipe}
 use Rattle.signal_model.specs.Standing.{Cell, Signals, Stands, IsGone, IsCell, IsComputed, changed, standing, without}
 use Rattle.signal_model.specs.Changes.{after_rewiring, with_recipe}
 use Rattle.signal_model.specs.Sound.{names_of}
 use Rattle.signal_model.specs.Values.{learnt, unknown_slots, value_of}
 use Rattle.signal_laws.proofs.Shared.{all_append, all_snoc}
+use Rattle.effect_model.specs.declared.plain.Plain.{Plain}
+use Rattle.effect_model.specs.declared.plain.Plain.TheVariants as p
 use Rattle.effect_model.specs.Owning.{Thing, the_signal, the_owner, the_effect, the_page, the_watcher, Cleanup, sets, logs, nothing, cleanup, alone, Undoing, cleans, ends}
 use Rattle.effect_model.specs.Owning.{disposal_of, emptied, taken_out, teardown_of, under}
 use Rattle.effect_model.specs.Bodies.{Act, to_set, to_log, to_note, to_make, to_dispose, to_rewire, Body, BodyStep, reads, acts, fails, BodyEvaluation, BodyResult}
-use Rattle.effect_model.specs.Bodies.{to_do, failed_by, Statements, no_more, set, log, when, cleanup_set, cleanup_log, effect, dispose, rewire, followed_by, one_first}
-use Rattle.effect_model.specs.Bodies.{and_then, with_answer, if_scalar, guarded, body_step, after_body_read, after_body_step, with_known, body_asked_within}
+use Rattle.effect_model.specs.Bodies.{to_do, failed_by, Statements, no_more, plain, when, effect, rewire, followed_by, one_first}
+use Rattle.effect_model.specs.Bodies.{and_then, with_answer, if_scalar, guarded, plain_step, body_step, after_body_read, after_body_step, with_known, body_asked_within}
 use Rattle.effect_model.specs.Bodies.{body_evaluation}
 use Rattle.effect_model.specs.Worlds.{Environment, Effect, Refused, thing_gone, cleaned, refused, World, tell, lives, settle}
 use Rattle.effect_model.specs.Acts.{are_alike, with_new_value, set_standing, set_cell, host_of, with_drop, with_use, or_refused, rewiring_refused, rewire_standing}
@@ -162,17 +165,24 @@ answer_good (End (Good v)) go h = h v
 answer_good (End (Bad e)) go h = tt
 
 -- what is set is no rows
-scalar_set : (n : ℕ) (v : Value) (s : BodyStep) → IsGoodBodyStep s → IsGoodBodyStep (if_scalar v (one_first (to_set n v) s))
-scalar_set n (value.Rows t) s h = tt
-scalar_set n (value.Bool b) s h = first_good (to_set n (value.Bool b)) s tt h
-scalar_set n (value.Int i) s h = first_good (to_set n (value.Int i)) s tt h
-scalar_set n (value.Text t) s h = first_good (to_set n (value.Text t)) s tt h
+scalar_set : (n : ℕ) (v : Value) → IsGoodBodyStep (if_scalar v (acts (to_set n v ∷ [])))
+scalar_set n (value.Rows t) = tt
+scalar_set n (value.Bool b) = (tt, tt)
+scalar_set n (value.Int i) = (tt, tt)
+scalar_set n (value.Text t) = (tt, tt)
 
-scalar_noted : (n : ℕ) (v : Value) (s : BodyStep) → IsGoodBodyStep s → IsGoodBodyStep (if_scalar v (one_first (to_note (sets n v)) s))
-scalar_noted n (value.Rows t) s h = tt
-scalar_noted n (value.Bool b) s h = first_good (to_note (sets n (value.Bool b))) s tt h
-scalar_noted n (value.Int i) s h = first_good (to_note (sets n (value.Int i))) s tt h
-scalar_noted n (value.Text t) s h = first_good (to_note (sets n (value.Text t))) s tt h
+scalar_noted : (n : ℕ) (v : Value) → IsGoodBodyStep (if_scalar v (acts (to_note (sets n v) ∷ [])))
+scalar_noted n (value.Rows t) = tt
+scalar_noted n (value.Bool b) = (tt, tt)
+scalar_noted n (value.Int i) = (tt, tt)
+scalar_noted n (value.Text t) = (tt, tt)
+
+plain_good : (a : Plain ℕ Thing Tree) (ts us : List Known) → IsGoodBodyStep (plain_step a ts us)
+plain_good (p.Set n f) ts us = answer_good (formula_step true f None ts us) (λ v. if_scalar v (acts (to_set n v ∷ []))) (scalar_set n)
+plain_good (p.Log f) ts us = answer_good (formula_step true f None ts us) (λ v. acts (to_log v ∷ [])) (λ v. (tt, tt))
+plain_good (p.CleanupSet n f) ts us = answer_good (formula_step true f None ts us) (λ v. if_scalar v (acts (to_note (sets n v) ∷ []))) (scalar_noted n)
+plain_good (p.CleanupLog f) ts us = answer_good (formula_step true f None ts us) (λ v. acts (to_note (logs v) ∷ [])) (λ v. (tt, tt))
+plain_good _ ts us = (tt, tt)
 
 guarded_good : (v : Value) (s rest : BodyStep) → IsGoodBodyStep s → IsGoodBodyStep rest → IsGoodBodyStep (guarded v s rest)
 guarded_good (value.Bool true) s rest g h = then_good s rest g h
@@ -183,24 +193,12 @@ guarded_good (value.Rows t) s rest g h = tt
 
 statements_good : (ss : Statements) (ts us : List Known) → IsGoodBodyStep (body_step ss ts us)
 statements_good no_more ts us = tt
-statements_good (set n f rest) ts us =
-    answer_good (formula_step true f None ts us) (λ v. if_scalar v (one_first (to_set n v) (body_step rest ts us)))
-    (λ v. scalar_set n v (body_step rest ts us) (statements_good rest ts us))
-statements_good (log f rest) ts us =
-    answer_good (formula_step true f None ts us) (λ v. one_first (to_log v) (body_step rest ts us))
-    (λ v. first_good (to_log v) (body_step rest ts us) tt (statements_good rest ts us))
+statements_good (plain a rest) ts us = then_good (plain_step a ts us) (body_step rest ts us) (plain_good a ts us) (statements_good rest ts us)
 statements_good (when f inner rest) ts us =
     answer_good (formula_step true f None ts us) (λ v. guarded v (body_step inner ts us) (body_step rest ts us))
     (λ v. guarded_good v (body_step inner ts us) (body_step rest ts us) (statements_good inner ts us) (statements_good rest ts us))
-statements_good (cleanup_set n f rest) ts us =
-    answer_good (formula_step true f None ts us) (λ v. if_scalar v (one_first (to_note (sets n v)) (body_step rest ts us)))
-    (λ v. scalar_noted n v (body_step rest ts us) (statements_good rest ts us))
-statements_good (cleanup_log f rest) ts us =
-    answer_good (formula_step true f None ts us) (λ v. one_first (to_note (logs v)) (body_step rest ts us))
-    (λ v. first_good (to_note (logs v)) (body_step rest ts us) tt (statements_good rest ts us))
 statements_good (effect inner names rest) ts us =
     first_good (to_make (record { statements = inner; names = names })) (body_step rest ts us) tt (statements_good rest ts us)
-statements_good (dispose t rest) ts us = first_good (to_dispose t) (body_step rest ts us) tt (statements_good rest ts us)
 statements_good (rewire n r rest) ts us = first_good (to_rewire n r) (body_step rest ts us) tt (statements_good rest ts us)
 
 abbrev IsGoodResult : BodyResult → Type 0

@@ -3,13 +3,16 @@ use Rattle.std.specs.Prelude.{ℕ, List, map}
 use Rattle.sig_base.specs.Values.{scalar_value}
 use Rattle.signal_model.specs.Recipes.{Recipe}
 use Rattle.effect_model.specs.Owning.{Thing, sets, logs}
+use Rattle.effect_model.specs.declared.plain.Plain.{Plain}
+use Rattle.effect_model.specs.Lines.{mapped}
+use Rattle.sig_formula.specs.Trees.{Tree}
 use Rattle.effect_model.specs.Bodies.{Statements, Body, Act, to_set, to_log, to_note, to_make, to_dispose, to_rewire, BodyStep, reads, acts, fails}
 use Rattle.effect_model.specs.Bodies as model
 use Rattle.sig_untrack.specs.declared.body.Act.{Act as AnAct}
 use Rattle.sig_untrack.specs.declared.body.Act.TheVariants as act
 use Rattle.sig_untrack.specs.declared.body.BodyStep.{BodyStep as AStep}
 use Rattle.sig_untrack.specs.declared.body.BodyStep.TheVariants as step
-use Rattle.sig_untrack.specs.Stated.{Stated, no_more, set, log, when, cleanup_set, cleanup_log, effect, dispose, rewire}
+use Rattle.sig_untrack.specs.Stated.{Stated, no_more, plain, when, effect, rewire}
 
 -- a computed, and the recipe that it gets
 pub record Rewired : Type 0 where
@@ -23,16 +26,16 @@ pub record Parts : Type 0 where
   pub bodies : ℕ → Body
   pub rewirings : ℕ → Rewired
 
+-- one line, likewise
+abbrev pub linked_line : Parts → Plain ℕ ℕ Tree → Plain ℕ Thing Tree
+linked_line p a = mapped p.cells p.things (λ x. x) a
+
 -- the statements that a body makes of what its places stand for
 abbrev pub linked : Parts → Stated → Statements
 linked p no_more = model.no_more
-linked p (set t x rest) = model.set (p.cells t) x (linked p rest)
-linked p (log x rest) = model.log x (linked p rest)
+linked p (plain a rest) = model.plain (linked_line p a) (linked p rest)
 linked p (when x inner rest) = model.when x (linked p inner) (linked p rest)
-linked p (cleanup_set t x rest) = model.cleanup_set (p.cells t) x (linked p rest)
-linked p (cleanup_log x rest) = model.cleanup_log x (linked p rest)
 linked p (effect n rest) = model.effect (p.bodies n).statements (p.bodies n).names (linked p rest)
-linked p (dispose t rest) = model.dispose (p.things t) (linked p rest)
 linked p (rewire n rest) = model.rewire (p.rewirings n).target (p.rewirings n).recipe (linked p rest)
 
 -- the act that is meant

@@ -1,8 +1,12 @@
 -- Bodies of effects, apart from where they lie in memory. Their numbers are places in their lists.
 use Rattle.std.specs.Prelude.{ℕ, List, [], ◌∷◌, map}
 use Rattle.sig_formula.specs.Trees.{Tree, tree}
+use Rattle.effect_model.specs.declared.plain.Plain.{Plain}
+use Rattle.effect_model.specs.Lines.{mapped}
+use Rattle.sig_formula.specs.declared.formula.Formula.{Formula}
 use Rattle.sig_untrack.specs.declared.body.Stmt.{Stmt}
-use Rattle.sig_untrack.specs.declared.body.Stmt.TheOpen.{Stmt-F, Set, Log, When, CleanupSet, CleanupLog, Effect, Dispose, Rewire}
+use Rattle.sig_untrack.specs.declared.body.Stmt.TheOpen.{Stmt-F, When, Effect, Rewire}
+use Rattle.sig_untrack.specs.declared.body.Stmt.TheOpen as given
 use Rattle.sig_untrack.specs.declared.body.Stmt.TheFolds.{fold-Stmt}
 use Rattle.sig_untrack.specs.declared.body.Recipe2.{Recipe2}
 use Rattle.sig_untrack.specs.declared.body.Recipe2.TheVariants as recipe
@@ -14,17 +18,12 @@ use Rattle.sig_untrack.specs.declared.body.Body.TheFolds.{fold-Body}
 -- the statements of a body, the first with those after it
 pub data Stated : Type 0 where
   no_more : Stated
-  -- a target and a value, or a value alone
-  set : ℕ → Tree → Stated → Stated
-  log : Tree → Stated → Stated
+  -- one line, on targets
+  plain : Plain ℕ ℕ Tree → Stated → Stated
   -- a guard, what it guards, and what stands after both
   when : Tree → Stated → Stated → Stated
-  -- the first two as cleanups
-  cleanup_set : ℕ → Tree → Stated → Stated
-  cleanup_log : Tree → Stated → Stated
-  -- a nested effect, a target, and a rewiring
+  -- a nested effect, and a rewiring
   effect : ℕ → Stated → Stated
-  dispose : ℕ → Stated → Stated
   rewire : ℕ → Stated → Stated
 
 -- what statements put before others
@@ -36,15 +35,15 @@ abbrev pub all_put : List Putting → Putting
 all_put [] rest = rest
 all_put (s ∷ ss) rest = s (all_put ss rest)
 
+-- the line that the program holds
+abbrev pub held_line : Plain ℕ ℕ Formula → Plain ℕ ℕ Tree
+held_line a = mapped (λ n. n) (λ n. n) tree a
+
 -- one statement, where of those that it guards it is known what they put
 abbrev pub put_step : Stmt-F Putting → Putting
-put_step (Set t f) rest = set t (tree f) rest
-put_step (Log f) rest = log (tree f) rest
+put_step (given.Plain a) rest = plain (held_line a) rest
 put_step (When f inner) rest = when (tree f) (all_put inner.items no_more) rest
-put_step (CleanupSet t f) rest = cleanup_set t (tree f) rest
-put_step (CleanupLog f) rest = cleanup_log (tree f) rest
 put_step (Effect n) rest = effect n rest
-put_step (Dispose t) rest = dispose t rest
 put_step (Rewire n) rest = rewire n rest
 
 -- what a statement puts before others

@@ -1,25 +1,18 @@
 // Bodies of effects.
 
+use effect_model::Plain;
 use sig_base::{Fault, Name, Scalar, Value};
 use sig_formula::Formula;
 
 /// A statement of a body. Its numbers are places in the lists of the body, and the slots of its formulas are places among the names.
 #[derive(Drop)]
 pub enum Stmt {
-    /// A cell, by its place among the targets, is set.
-    Set(u32, Formula),
-    /// A value is logged.
-    Log(Formula),
+    /// A statement of one line; its cells and things are places among the targets.
+    Plain(Plain<u32, u32, Formula>),
     /// A guard, and what is done only where it is true.
     When(Formula, Vec<Stmt>),
-    /// A cell is set when the effect is taken back.
-    CleanupSet(u32, Formula),
-    /// A value is logged when the effect is taken back.
-    CleanupLog(Formula),
     /// A nested effect, by its place among the effects, is made.
     Effect(u32),
-    /// A thing, by its place among the targets, is disposed.
-    Dispose(u32),
     /// A computed gets another recipe, by the place of the rewiring.
     Rewire(u32),
 }
@@ -81,6 +74,7 @@ impl Drop for Body {
 }
 
 /// What a body wants done, with numbers as in its statements.
+#[derive(Drop)]
 pub enum Act {
     Set(u32, Scalar),
     Log(Value),
@@ -89,20 +83,6 @@ pub enum Act {
     Effect(u32),
     Dispose(u32),
     Rewire(u32),
-}
-
-impl Drop for Act {
-    fn drop(self) {
-        match self {
-            Act::Set(_, _) => {}
-            Act::Log(_) => {}
-            Act::CleanupSet(_, _) => {}
-            Act::CleanupLog(_) => {}
-            Act::Effect(_) => {}
-            Act::Dispose(_) => {}
-            Act::Rewire(_) => {}
-        }
-    }
 }
 
 /// What a body answers: the first slot that it needs and doesn't know, and whether that read is tracked; all its acts, in order; or its

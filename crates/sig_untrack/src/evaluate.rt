@@ -1,17 +1,18 @@
 // What a body answers to the values known so far.
-ghost use Rattle.std.specs.Prelude.{◌≡◌, IfOk, None, true};
+ghost use Rattle.std.specs.Prelude.{◌≡◌, ◌∷◌, [], IfOk, None, true};
 ghost use Rattle.sig_base.specs.Values.{scalar_value};
 ghost use Rattle.sig_formula.specs.Answering.{formula_step};
 ghost use Rattle.sig_formula.specs.Trees.{tree};
-ghost use Rattle.effect_model.specs.Bodies.{body_step, followed_by, guarded, if_scalar, one_first, to_dispose, to_log, to_make, to_note, to_rewire, to_set, with_answer};
+ghost use Rattle.effect_model.specs.declared.plain.Plain.TheVariants as plain;
+ghost use Rattle.effect_model.specs.Bodies.{and_then, body_step, followed_by, guarded, if_scalar, one_first, plain_step, to_note, to_set, with_answer};
 ghost use Rattle.effect_model.specs.Bodies as model;
-ghost use Rattle.effect_model.specs.Owning.{logs, sets};
-ghost use Rattle.sig_untrack.specs.Stated as given;
-ghost use Rattle.sig_untrack.specs.Stated.{Stated, before, no_bodies, put, stated, statements_of};
-ghost use Rattle.sig_untrack.specs.Linking.{Parts, acts_of, linked, step_of};
+ghost use Rattle.effect_model.specs.Owning.{sets};
+ghost use Rattle.sig_untrack.specs.Stated.{Stated, before, held_line, no_bodies, put, stated, statements_of};
+ghost use Rattle.sig_untrack.specs.Linking.{Parts, act_of, acts_of, linked, linked_line, step_of};
 ghost use Rattle.sig_untrack.specs.Stopping.{answered, guarded_by, stopped};
 
 use crate::{Act, Body, BodyStep, Stmt};
+use effect_model::Plain;
 use sig_base::{Fault, Known, NoMemory, Outcome, Value};
 use sig_formula::{Formula, FormulaStep, formula_step};
 use std::alloc::Global;
@@ -56,55 +57,19 @@ fn truth_of(
     }
 }
 
-// A value is to be logged.
-fn log_act(acts: &mut Vec<Act>, value: Value) -> Result<Option<Stop>, NoMemory>
+// An act is wanted, behind the others.
+fn want(acts: &mut Vec<Act>, act: Act) -> Result<Option<Stop>, NoMemory>
     ensures { IfOk result (λ r. (p : Parts) (rest : model.BodyStep) → stopped r (acts_of p acts.new.items) rest
-        ≡ followed_by (acts_of p acts.old.items) (one_first (to_log value) rest)) }
+        ≡ followed_by (acts_of p acts.old.items) (one_first (act_of p act) rest)) }
 {
-    acts.push(Act::Log(value))?;
-    Ok(None)
-}
-
-// A cleanup that logs is to be noted.
-fn note_act(acts: &mut Vec<Act>, value: Value) -> Result<Option<Stop>, NoMemory>
-    ensures { IfOk result (λ r. (p : Parts) (rest : model.BodyStep) → stopped r (acts_of p acts.new.items) rest
-        ≡ followed_by (acts_of p acts.old.items) (one_first (to_note (logs value)) rest)) }
-{
-    acts.push(Act::CleanupLog(value))?;
-    Ok(None)
-}
-
-// A nested effect is to be made.
-fn make_act(acts: &mut Vec<Act>, place: u32) -> Result<Option<Stop>, NoMemory>
-    ensures { IfOk result (λ r. (p : Parts) (rest : model.BodyStep) → stopped r (acts_of p acts.new.items) rest
-        ≡ followed_by (acts_of p acts.old.items) (one_first (to_make (p.bodies place)) rest)) }
-{
-    acts.push(Act::Effect(place))?;
-    Ok(None)
-}
-
-// A thing is to be disposed.
-fn dispose_act(acts: &mut Vec<Act>, target: u32) -> Result<Option<Stop>, NoMemory>
-    ensures { IfOk result (λ r. (p : Parts) (rest : model.BodyStep) → stopped r (acts_of p acts.new.items) rest
-        ≡ followed_by (acts_of p acts.old.items) (one_first (to_dispose (p.things target)) rest)) }
-{
-    acts.push(Act::Dispose(target))?;
-    Ok(None)
-}
-
-// A computed is to be rewired.
-fn rewire_act(acts: &mut Vec<Act>, place: u32) -> Result<Option<Stop>, NoMemory>
-    ensures { IfOk result (λ r. (p : Parts) (rest : model.BodyStep) → stopped r (acts_of p acts.new.items) rest
-        ≡ followed_by (acts_of p acts.old.items) (one_first (to_rewire (p.rewirings place).target (p.rewirings place).recipe) rest)) }
-{
-    acts.push(Act::Rewire(place))?;
+    acts.push(act)?;
     Ok(None)
 }
 
 // A cell is to be set; rows are no scalar.
 fn set_act(acts: &mut Vec<Act>, target: u32, value: Value) -> Result<Option<Stop>, NoMemory>
     ensures { IfOk result (λ r. (p : Parts) (rest : model.BodyStep) → stopped r (acts_of p acts.new.items) rest
-        ≡ followed_by (acts_of p acts.old.items) (if_scalar value (one_first (to_set (p.cells target) value) rest))) }
+        ≡ followed_by (acts_of p acts.old.items) (and_then (if_scalar value (model.acts (to_set (p.cells target) value ∷ []))) rest)) }
 {
     let Some(scalar) = value.into_scalar() else {
         return Ok(Some(Stop::Fail(Fault::Kind)));
@@ -116,7 +81,7 @@ fn set_act(acts: &mut Vec<Act>, target: u32, value: Value) -> Result<Option<Stop
 // A cleanup that sets a cell is to be noted; rows are no scalar.
 fn cleanup_act(acts: &mut Vec<Act>, target: u32, value: Value) -> Result<Option<Stop>, NoMemory>
     ensures { IfOk result (λ r. (p : Parts) (rest : model.BodyStep) → stopped r (acts_of p acts.new.items) rest
-        ≡ followed_by (acts_of p acts.old.items) (if_scalar value (one_first (to_note (sets (p.cells target) value)) rest))) }
+        ≡ followed_by (acts_of p acts.old.items) (and_then (if_scalar value (model.acts (to_note (sets (p.cells target) value) ∷ []))) rest)) }
 {
     let Some(scalar) = value.into_scalar() else {
         return Ok(Some(Stop::Fail(Fault::Kind)));
@@ -134,8 +99,8 @@ fn set_step(
     untracked: &[Known],
     acts: &mut Vec<Act>,
 ) -> Result<Option<Stop>, NoMemory>
-    ensures { IfOk result (λ r. (p : Parts) (rest : Stated) → stopped r (acts_of p acts.new.items) (body_step (linked p rest) tracked.now untracked.now)
-        ≡ followed_by (acts_of p acts.old.items) (body_step (linked p (given.set target (tree formula.now) rest)) tracked.now untracked.now)) }
+    ensures { IfOk result (λ r. (p : Parts) (rest : model.BodyStep) → stopped r (acts_of p acts.new.items) rest
+        ≡ followed_by (acts_of p acts.old.items) (and_then (plain_step (plain.Set (p.cells target) (tree formula.now)) tracked.now untracked.now) rest)) }
 {
     match value_of(alloc, formula, tracked, untracked)? {
         Ok(value) => set_act(acts, target, value),
@@ -151,12 +116,12 @@ fn log_step(
     untracked: &[Known],
     acts: &mut Vec<Act>,
 ) -> Result<Option<Stop>, NoMemory>
-    ensures { IfOk result (λ r. (p : Parts) (rest : Stated) → stopped r (acts_of p acts.new.items) (body_step (linked p rest) tracked.now untracked.now)
-        ≡ followed_by (acts_of p acts.old.items) (body_step (linked p (given.log (tree formula.now) rest)) tracked.now untracked.now)) }
+    ensures { IfOk result (λ r. (p : Parts) (rest : model.BodyStep) → stopped r (acts_of p acts.new.items) rest
+        ≡ followed_by (acts_of p acts.old.items) (and_then (plain_step (plain.Log (tree formula.now)) tracked.now untracked.now) rest)) }
 {
     match value_of(alloc, formula, tracked, untracked)? {
         Ok(value) => {
-            let stop = log_act(acts, value)?;
+            let stop = want(acts, Act::Log(value))?;
             Ok(stop)
         }
         Err(stop) => Ok(Some(stop)),
@@ -172,8 +137,8 @@ fn cleanup_set_step(
     untracked: &[Known],
     acts: &mut Vec<Act>,
 ) -> Result<Option<Stop>, NoMemory>
-    ensures { IfOk result (λ r. (p : Parts) (rest : Stated) → stopped r (acts_of p acts.new.items) (body_step (linked p rest) tracked.now untracked.now)
-        ≡ followed_by (acts_of p acts.old.items) (body_step (linked p (given.cleanup_set target (tree formula.now) rest)) tracked.now untracked.now)) }
+    ensures { IfOk result (λ r. (p : Parts) (rest : model.BodyStep) → stopped r (acts_of p acts.new.items) rest
+        ≡ followed_by (acts_of p acts.old.items) (and_then (plain_step (plain.CleanupSet (p.cells target) (tree formula.now)) tracked.now untracked.now) rest)) }
 {
     match value_of(alloc, formula, tracked, untracked)? {
         Ok(value) => cleanup_act(acts, target, value),
@@ -189,15 +154,50 @@ fn cleanup_log_step(
     untracked: &[Known],
     acts: &mut Vec<Act>,
 ) -> Result<Option<Stop>, NoMemory>
-    ensures { IfOk result (λ r. (p : Parts) (rest : Stated) → stopped r (acts_of p acts.new.items) (body_step (linked p rest) tracked.now untracked.now)
-        ≡ followed_by (acts_of p acts.old.items) (body_step (linked p (given.cleanup_log (tree formula.now) rest)) tracked.now untracked.now)) }
+    ensures { IfOk result (λ r. (p : Parts) (rest : model.BodyStep) → stopped r (acts_of p acts.new.items) rest
+        ≡ followed_by (acts_of p acts.old.items) (and_then (plain_step (plain.CleanupLog (tree formula.now)) tracked.now untracked.now) rest)) }
 {
     match value_of(alloc, formula, tracked, untracked)? {
         Ok(value) => {
-            let stop = note_act(acts, value)?;
+            let stop = want(acts, Act::CleanupLog(value))?;
             Ok(stop)
         }
         Err(stop) => Ok(Some(stop)),
+    }
+}
+
+// One line: what it wants done stands behind the other acts.
+fn line_step(
+    alloc: Global,
+    line: &Plain<u32, u32, Formula>,
+    tracked: &[Known],
+    untracked: &[Known],
+    acts: &mut Vec<Act>,
+) -> Result<Option<Stop>, NoMemory>
+    ensures { IfOk result (λ r. (p : Parts) (rest : model.BodyStep) → stopped r (acts_of p acts.new.items) rest
+        ≡ followed_by (acts_of p acts.old.items) (and_then (plain_step (linked_line p (held_line line.now)) tracked.now untracked.now) rest)) }
+{
+    match line {
+        Plain::Set(target, formula) => {
+            let stop = set_step(alloc, *target, formula, tracked, untracked, acts)?;
+            Ok(stop)
+        }
+        Plain::Log(formula) => {
+            let stop = log_step(alloc, formula, tracked, untracked, acts)?;
+            Ok(stop)
+        }
+        Plain::CleanupSet(target, formula) => {
+            let stop = cleanup_set_step(alloc, *target, formula, tracked, untracked, acts)?;
+            Ok(stop)
+        }
+        Plain::CleanupLog(formula) => {
+            let stop = cleanup_log_step(alloc, formula, tracked, untracked, acts)?;
+            Ok(stop)
+        }
+        Plain::Dispose(target) => {
+            let stop = want(acts, Act::Dispose(*target))?;
+            Ok(stop)
+        }
     }
 }
 
@@ -214,12 +214,8 @@ fn statement_step(
         ≡ followed_by (acts_of p acts.old.items) (body_step (linked p (put statement.now rest)) tracked.now untracked.now)) }
 {
     match statement {
-        Stmt::Set(target, formula) => {
-            let stop = set_step(alloc, *target, formula, tracked, untracked, acts)?;
-            Ok(stop)
-        }
-        Stmt::Log(formula) => {
-            let stop = log_step(alloc, formula, tracked, untracked, acts)?;
+        Stmt::Plain(line) => {
+            let stop = line_step(alloc, line, tracked, untracked, acts)?;
             Ok(stop)
         }
         Stmt::When(guard, inner) => match truth_of(alloc, guard, tracked, untracked)? {
@@ -230,24 +226,12 @@ fn statement_step(
             Ok(false) => Ok(None),
             Err(stop) => Ok(Some(stop)),
         },
-        Stmt::CleanupSet(target, formula) => {
-            let stop = cleanup_set_step(alloc, *target, formula, tracked, untracked, acts)?;
-            Ok(stop)
-        }
-        Stmt::CleanupLog(formula) => {
-            let stop = cleanup_log_step(alloc, formula, tracked, untracked, acts)?;
-            Ok(stop)
-        }
         Stmt::Effect(place) => {
-            let stop = make_act(acts, *place)?;
-            Ok(stop)
-        }
-        Stmt::Dispose(target) => {
-            let stop = dispose_act(acts, *target)?;
+            let stop = want(acts, Act::Effect(*place))?;
             Ok(stop)
         }
         Stmt::Rewire(place) => {
-            let stop = rewire_act(acts, *place)?;
+            let stop = want(acts, Act::Rewire(*place))?;
             Ok(stop)
         }
     }

@@ -1,6 +1,6 @@
 use Rattle.std.proofs.Common.{◌≡◌, ◌∷◌, [], refl, sym, ap, ◌∙◌, length, arith}
 use Rattle.std.proofs.lemmas.List.{length-append, nil_from_length}
-use Rattle.body_text.proofs.Putting.{all_put, begun, effect_begins, effect_built, end_begins, line_begins, none_front, one_further, when_begins, when_built}
+use Rattle.body_text.proofs.Putting.{all_put, begun, effect_begins, effect_built, end_begins, line_begins, none_front, one_further, rewire_begins, when_begins, when_built}
 use Rattle.body_text.proofs.building.+building.Goals as goal
 
 pub guarded-returns-clause-built : goal.guarded-returns-clause-built
@@ -36,6 +36,10 @@ statement-returns-in-End-clause-built u c = λ s r e. end_begins s r c.args.line
 pub statement-returns-in_ok-boxed-in-Plain-clause-built : goal.statement-returns-in_ok-boxed-in-Plain-clause-built
 statement-returns-in_ok-boxed-in-Plain-clause-built u c = λ s r e.
     rw c.in_ok-boxed-in-Plain.ensures (line_begins c.in-Plain.plain s r _ _ _ _ (rw c.in-Plain.is at e) c.in_ok-statement-in-Plain.ensures)
+
+pub statement-returns-in_ok-boxed-in-Rewire-clause-built : goal.statement-returns-in_ok-boxed-in-Rewire-clause-built
+statement-returns-in_ok-boxed-in-Rewire-clause-built u c = λ s r e.
+    rw c.in_ok-boxed-in-Rewire.ensures (rewire_begins c.in-Rewire.name c.in-Rewire.source s r _ _ _ _ (rw c.in-Rewire.is at e) c.in_ok-statement-in-Rewire.ensures.built)
 
 pub statement-returns-in_ok-boxed-in-When-clause-built : goal.statement-returns-in_ok-boxed-in-When-clause-built
 statement-returns-in_ok-boxed-in-When-clause-built u c = λ s r e.

@@ -1,19 +1,28 @@
+use Rattle.std.proofs.Common.{refl, ap, ◌∙◌, arith, List, ℕ, Option}
+use Rattle.sig_formula.specs.Trees.{Tree}
+use Rattle.formula_text.specs.Grammar.{Draft}
+use Rattle.effect_model.specs.declared.plain.Plain.{Plain}
+use Rattle.sig_untrack.specs.Stated as stated
+use Rattle.body_text.specs.Statements.{with_formula, with_target}
 use Rattle.body_text.proofs.lists.Lists.put.Goals as goal
 
-pub returns-in-Set : goal.returns-in-Set
-returns-in-Set c = rw c.in-Set.is c.put_set.ensures
+pub placed-requires-clause-targets : goal.placed-requires-clause-targets
+placed-requires-clause-targets c =
+    let t = c.in_ok-put_perhaps.ensures in rw c.deref.ensures.value (omega (arith, c.requires, t.few))
 
-pub returns-in-Log : goal.returns-in-Log
-returns-in-Log c = rw c.in-Log.is c.put_log.ensures
+pub placed-requires-clause-names : goal.placed-requires-clause-names
+placed-requires-clause-names c =
+    let f = c.in_ok-put_names.ensures in rw c.deref-2.ensures.value (omega (arith, c.requires, f.few))
 
-pub returns-in-CleanupSet : goal.returns-in-CleanupSet
-returns-in-CleanupSet c = rw c.in-CleanupSet.is c.put_cleanup_set.ensures
-
-pub returns-in-CleanupLog : goal.returns-in-CleanupLog
-returns-in-CleanupLog c = rw c.in-CleanupLog.is c.put_cleanup_log.ensures
-
-pub returns-in-Dispose : goal.returns-in-Dispose
-returns-in-Dispose c = rw c.in-Dispose.is c.put_dispose.ensures
-
-pub returns-in-Rewire : goal.returns-in-Rewire
-returns-in-Rewire c = rw c.in-Rewire.is c.put_rewire.ensures
+pub returns : goal.returns
+returns c =
+    let t = c.in_ok-put_perhaps.ensures in
+    let f = c.in_ok-put_names.ensures in
+    record {
+      targets = t.put ∙ ap (λ (o : Option (List ℕ)). with_target c.args.self.now.targets.items o) c.target_of.ensures;
+      names = f.put ∙ ap (λ (o : Option Draft). with_formula c.args.self.now.names.items o) c.formula_of.ensures;
+      effects = refl;
+      rewires = refl;
+      statement = λ rest. c.line.ensures rest ∙ ap (λ (b : Plain ℕ ℕ Tree). stated.plain b rest) (rw (c.deref.ensures.value, c.deref-2.ensures.value) at c.in_ok-placed.ensures);
+      few = omega (arith, t.few, f.few);
+    }
