@@ -1,18 +1,10 @@
 -- What acts of bodies mean.
 use Rattle.std.proofs.Common.{◌≡◌, ℕ, zero, suc, List, [], ◌∷◌, map, Option, Some, None, refl, sym, ap, subst, ◌∙◌}
 use Rattle.std.specs.Prelude.{slice_get}
-use Rattle.sig_base.specs.declared.scalar.Scalar.{Scalar}
-use Rattle.sig_base.specs.declared.value.Value.{Value}
-use Rattle.sig_base.specs.Values.{scalar_value}
-use Rattle.effect_model.specs.Acts.{dispose_thing, set_cell}
-use Rattle.effect_model.specs.Owning.{Thing, sets, the_signal}
-use Rattle.effect_model.specs.Running.{do_act}
-use Rattle.effect_model.specs.Worlds.{Environment}
-use Rattle.effect_model.specs.Bodies as plain
-use Rattle.sig_untrack.specs.declared.body.Act.TheVariants as act
+use Rattle.effect_model.specs.Owning.{Thing, the_signal}
 use Rattle.sig_untrack.specs.declared.body.Body.{Body}
 use Rattle.sig_untrack.specs.declared.body.Body.TheViews.{out-Body}
-use Rattle.sig_untrack.specs.Linking.{Parts, Rewired, act_of}
+use Rattle.sig_untrack.specs.Linking.{Parts, Rewired}
 use Rattle.sig_untrack.specs.Stated.{Rewiring, Source, formula, host, rewiring}
 use Rattle.sig_nodes.specs.Answers.{HasFewSlots}
 use Rattle.effect_tables.specs.declared.effect.Script.{Script}
@@ -56,24 +48,12 @@ meant_as x r s e m = subst (IsMeant x) e m
 -- ---- acts
 
 module _ (s : Script) (path : List ℕ) (b : Body) (l : Links) (is : IsPart s path b l) (origin : ℕ) where
-  -- the target of a place
-  target_is : (t : ℕ) → target_thing origin (slice_get (out-Links l).targets.items t) ≡ (parts_of origin s path).things t
-  target_is t = ap (λ (p : Parts). p.things t) (sym (part_parts s path b l is origin))
+  -- the target of a place, as a cell and as a thing
+  pub cell_meant : (t n : ℕ) → n ≡ signal_number (target_thing origin (slice_get (out-Links l).targets.items t)) → n ≡ (parts_of origin s path).cells t
+  cell_meant t n cell = cell ∙ ap (λ (p : Parts). p.cells t) (sym (part_parts s path b l is origin))
 
-  cell_is : (t : ℕ) → signal_number (target_thing origin (slice_get (out-Links l).targets.items t)) ≡ (parts_of origin s path).cells t
-  cell_is t = ap (λ (p : Parts). p.cells t) (sym (part_parts s path b l is origin))
-
-  pub set_meant : (env : Environment) (e k t n : ℕ) (c : Scalar) (v : Value) → n ≡ signal_number (target_thing origin (slice_get (out-Links l).targets.items t)) → v ≡ scalar_value c →
-      set_cell env n v ≡ do_act env e k (act_of (parts_of origin s path) (act.Set t c))
-  set_meant env e k t n c v cell value = λ i. set_cell env ((cell ∙ cell_is t) i) (value i)
-
-  pub note_meant : (env : Environment) (e k t n : ℕ) (c : Scalar) → n ≡ signal_number (target_thing origin (slice_get (out-Links l).targets.items t)) →
-      do_act env e 0 (plain.to_note (sets n (scalar_value c))) ≡ do_act env e k (act_of (parts_of origin s path) (act.CleanupSet t c))
-  note_meant env e k t n c cell = λ i. do_act env e 0 (plain.to_note (sets ((cell ∙ cell_is t) i) (scalar_value c)))
-
-  pub dispose_meant : (env : Environment) (e k t : ℕ) (x : Thing) → x ≡ target_thing origin (slice_get (out-Links l).targets.items t) →
-      dispose_thing env x ≡ do_act env e k (act_of (parts_of origin s path) (act.Dispose t))
-  dispose_meant env e k t x thing = λ i. dispose_thing env ((thing ∙ target_is t) i)
+  pub thing_meant : (t : ℕ) (x : Thing) → x ≡ target_thing origin (slice_get (out-Links l).targets.items t) → x ≡ (parts_of origin s path).things t
+  thing_meant t x thing = thing ∙ ap (λ (p : Parts). p.things t) (sym (part_parts s path b l is origin))
 
   pub rewire_is : (n : ℕ) → rewired (λ m. target_thing origin (slice_get (out-Links l).targets.items m)) (slice_get (map rewiring (out-Body b).rewires.items) n) (slice_get (slots_in (out-Links l).rewires.items) n) ≡
       (parts_of origin s path).rewirings n

@@ -3,7 +3,7 @@ use Rattle.std.proofs.Common.{◌≡◌, ℕ, ◌+◌, ◌<◌, ◌≤◌, ◌++
 use Rattle.std.specs.Prelude.{if◌then◌else◌}
 use Rattle.std.proofs.lemmas.List.{map-append, take_all, take_more}
 use Rattle.signal_model.specs.Recipes.{Hosts}
-use Rattle.effect_model.specs.Bodies.{Act, to_set, to_log, to_note, to_make, to_dispose, to_rewire}
+use Rattle.effect_model.specs.Bodies.{Act, to_make}
 use Rattle.effect_model.specs.Owning.{the_effect}
 use Rattle.effect_model.specs.Running.{do_act, do_acts, next_child}
 use Rattle.effect_model.specs.Worlds as plain
@@ -27,11 +27,7 @@ labelled_more k (b ∷ as') a = labelled_more (next_child b k) as' a
 -- an act makes one child at most
 pub one_child : (a : Act) (k : ℕ) → next_child a k ≤ k + 1
 one_child (to_make b) k = omega arith
-one_child (to_set n v) k = omega arith
-one_child (to_log v) k = omega arith
-one_child (to_note c) k = omega arith
-one_child (to_dispose t) k = omega arith
-one_child (to_rewire n r) k = omega arith
+one_child _ k = omega arith
 
 -- ---- acts
 

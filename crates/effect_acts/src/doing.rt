@@ -26,12 +26,7 @@ fn next_label(act: &Act, label: u64) -> u64
 {
     match act {
         Act::Effect(_) => label + 1,
-        Act::Set(_, _) => label,
-        Act::Log(_) => label,
-        Act::CleanupSet(_, _) => label,
-        Act::CleanupLog(_) => label,
-        Act::Dispose(_) => label,
-        Act::Rewire(_) => label,
+        _ => label,
     }
 }
 

@@ -17,14 +17,15 @@ use Rattle.effect_model.specs.Owning.{Thing, the_signal, the_effect, sets, logs,
 use Rattle.effect_model.specs.Owning.{disposal_of}
 use Rattle.effect_model.specs.Bodies.{Act, to_set, to_log, to_note, to_make, to_dispose, to_rewire, BodyEvaluation, BodyResult, to_do, failed_by}
 use Rattle.effect_model.specs.Bodies.{body_evaluation}
-use Rattle.effect_model.specs.Worlds.{Environment, HostState, used, dropped, Watcher, Effect, Event, ran, logged, cleaned, gone, failed, dropped_host}
+use Rattle.effect_model.specs.Worlds.{Counts, Environment, HostState, used, dropped, Watcher, Effect, Event, ran, logged, cleaned, gone, failed, dropped_host}
 use Rattle.effect_model.specs.Worlds.{thing_gone, host_taken, still_due, refused, World, tell, tell_all, lives, asked_by, settle}
-use Rattle.effect_model.specs.Acts.{notified_by, frozen_by, told_of, told_frozen, notify, are_alike, with_new_value, set_standing, host_of}
+use Rattle.effect_model.specs.Acts.{notified_by, frozen_by, told_of, told_frozen, notify, are_alike, with_new_value, set_standing, set_cell, host_of}
 use Rattle.effect_model.specs.Acts.{asks_so_far, with_drop, with_use, is_free, host_refused, gone_refused, some_gone, rewiring_refused}
 use Rattle.effect_model.specs.Acts.{rewire_standing, rewire_signal, end_standing, end_of, undo, undo_all, take_back, dispose_live, dispose_thing}
 use Rattle.effect_model.specs.Running.{do_act, keep_reads, do_result, run_effect, turn, flush}
 use Rattle.effect_model.specs.Commands.{Command, cell, computed, owner, effect, page, watcher, watch, unwatch, set, rewire, ask, dispose, flush_all}
 use Rattle.effect_model.specs.Commands.{inside_refused, with_new_computed, told_if, command_refused, done_by, after_command, after_commands}
+use Rattle.effect_laws.specs.Counts.{others}
 use Rattle.effect_laws.specs.KeptWorlds.{runs_told}
 use Rattle.effect_laws.specs.HostUse.{Drop, drops_told}
 use Rattle.effect_laws.proofs.Names.{neither, either_way}
@@ -32,12 +33,12 @@ use Rattle.effect_laws.proofs.Turns.{IsKeptByRuns, turn_keeps, flush_keeps, acts
 
 -- ---- the part of a world that changes of signals change
 
--- signals, memos, host formulas, how many signals were made, and the runs and drops that were told
+-- signals, memos, host formulas, how many of each kind were made, effects aside, and the runs and drops that were told
 pub record Core : Type 0 where
   pub signals : Signals
   pub memos : Memos
   pub host_states : List HostState
-  pub made : ℕ
+  pub made : Counts
   pub runs : List Moment
   pub drops : List Drop
 
@@ -47,7 +48,7 @@ core_of w = record {
   signals = w.signals;
   memos = w.memos;
   host_states = w.host_states;
-  made = w.made.signals;
+  made = others w;
   runs = runs_told w.told;
   drops = drops_told w.told;
 }
@@ -98,18 +99,23 @@ after_end n old c = record c {
 -- a cell is made, and a computed
 abbrev pub with_made_cell : Value → Option ℕ → Core → Core
 with_made_cell v rule c = record c {
-  signals = with_cell c.signals (record { name = c.made; value = v; rule = rule });
-  memos = after_making c.memos c.made;
-  made = c.made + 1;
+  signals = with_cell c.signals (record { name = c.made.signals; value = v; rule = rule });
+  memos = after_making c.memos c.made.signals;
+  made = record (c.made) { signals = c.made.signals + 1 };
 }
 
 abbrev pub with_made_computed : Recipe → Core → Core
 with_made_computed r c = record c {
-  signals = with_computed c.signals (record { name = c.made; recipe = r });
-  memos = after_making c.memos c.made;
+  signals = with_computed c.signals (record { name = c.made.signals; recipe = r });
+  memos = after_making c.memos c.made.signals;
   host_states = used_states (host_of r.expression) c.host_states;
-  made = c.made + 1;
+  made = record (c.made) { signals = c.made.signals + 1 };
 }
+
+-- so many owners, pages and watchers were made
+abbrev pub with_made : ℕ → ℕ → ℕ → Core → Core
+with_made owners pages watchers c =
+    record c { made = record { signals = c.made.signals; owners = owners; effects = 0; pages = pages; watchers = watchers } }
 
 -- all these stand
 abbrev pub AllStand : Signals → List ℕ → Type 0
@@ -123,16 +129,25 @@ IsFree p hs = (k : ℕ) → p ≡ Some k → is_free (slice_get hs k) ≡ true
 abbrev pub IsHostOf : Signals → ℕ → Option ℕ → Type 0
 IsHostOf w n p = (k : ℕ) → p ≡ Some k → (x : Computed) × (standing w n ≡ IsComputed x) × (host_of x.recipe.expression ≡ Some k)
 
--- each change keeps it
-pub record IsKeptByChanges (env : Environment) (P : Core → Type 0) : Type 0 where
-  pub settles : (names : List ℕ) (c : Core) → P c → P (after_settling env names c)
+-- each change of what stands keeps it
+pub record IsKeptByEdits (P : Core → Type 0) : Type 0 where
   pub sets : (n : ℕ) (v : Value) (x : Cell) (c : Core) → standing c.signals n ≡ IsCell x → P c → P (after_set n v c)
   pub rewires : (n : ℕ) (r : Recipe) (x : Computed) (c : Core) → standing c.signals n ≡ IsComputed x → AllStand c.signals r.slots →
       IsFree (host_of r.expression) c.host_states → P c → P (after_rewire n r (host_of x.recipe.expression) c)
   pub ends : (n : ℕ) (old : Option ℕ) (c : Core) → is_there (standing c.signals n) ≡ true → IsHostOf c.signals n old → P c → P (after_end n old c)
+
+-- so does settling
+pub record IsKeptByActs (env : Environment) (P : Core → Type 0) : Type 0 where
+  pub edits : IsKeptByEdits P
+  pub settles : (names : List ℕ) (c : Core) → P c → P (after_settling env names c)
+
+-- and so does making
+pub record IsKeptByChanges (env : Environment) (P : Core → Type 0) : Type 0 where
+  pub acts : IsKeptByActs env P
   pub makes_cell : (v : Value) (rule : Option ℕ) (c : Core) → P c → P (with_made_cell v rule c)
   pub makes_computed : (r : Recipe) (c : Core) → AllStand c.signals r.slots → IsFree (host_of r.expression) c.host_states → P c →
       P (with_made_computed r c)
+  pub makes_others : (owners pages watchers : ℕ) (c : Core) → P c → P (with_made owners pages watchers c)
 
 -- ---- what is told
 
@@ -182,9 +197,9 @@ settled_drops (m ∷ ms) = settled_drops ms
 
 -- ---- changes of a world
 
-settle_keeps : (env : Environment) (P : Core → Type 0) → IsKeptByChanges env P → (names : List ℕ) (w : World) → P (core_of w) →
+pub settle_keeps_core : (env : Environment) (P : Core → Type 0) → IsKeptByActs env P → (names : List ℕ) (w : World) → P (core_of w) →
     P (core_of (settle env names w))
-settle_keeps env P k names w p =
+settle_keeps_core env P k names w p =
     let s : Settled = settled env.hosts w.signals w.memos names in
     let runs : List Moment = moments w.signals s.runs in
     told_more P (record w { memos = s.memos; host_states = asked_by runs 0 w.host_states }) (map ran runs) runs [] (settled_runs runs)
@@ -197,7 +212,7 @@ notify_keeps P n w p =
     let xs : List Watcher = notified_by w.signals w.memos n w.watchers in
     told P w (told_of xs ++ told_frozen (frozen_by xs)) (notified_runs xs (frozen_by xs)) (notified_drops xs (frozen_by xs)) p
 
-set_case : (env : Environment) (P : Core → Type 0) → IsKeptByChanges env P → (n : ℕ) (v : Value) (s : Stands) (w : World) → standing w.signals n ≡ s →
+set_case : (env : Environment) (P : Core → Type 0) → IsKeptByEdits P → (n : ℕ) (v : Value) (s : Stands) (w : World) → standing w.signals n ≡ s →
     P (core_of w) → P (core_of (set_standing s env n v w))
 set_case env P k n v IsGone w e p = told P w (refused (thing_gone (the_signal n)) ∷ []) refl refl p
 set_case env P k n v (IsCell x) w e p = go (are_alike env.slacks x.rule x.value v)
@@ -255,32 +270,36 @@ free_host (Some place) w h k e = subst (λ m. is_free (slice_get w.host_states m
     go true h = refl
     go false h = cc
 
-rewire_case : (env : Environment) (P : Core → Type 0) → IsKeptByChanges env P → (n : ℕ) (r : Recipe) (s : Stands) (w : World) →
+rewire_case : (P : Core → Type 0) → IsKeptByEdits P → (n : ℕ) (r : Recipe) (s : Stands) (w : World) →
     standing w.signals n ≡ s →
     AllStand w.signals r.slots → IsFree (host_of r.expression) w.host_states → P (core_of w) → P (core_of (rewire_standing s n r w))
-rewire_case env P k n r IsGone w e a f p = p
-rewire_case env P k n r (IsCell x) w e a f p = p
-rewire_case env P k n r (IsComputed x) w e a f p =
+rewire_case P k n r IsGone w e a f p = p
+rewire_case P k n r (IsCell x) w e a f p = p
+rewire_case P k n r (IsComputed x) w e a f p =
     let old : Option ℕ = host_of x.recipe.expression in
     let w' : World = record w { signals = with_recipe w.signals n r; memos = after_rewiring w.memos n } in
     drop_keeps P old (with_use (host_of r.expression) w')
     (use_keeps (λ c. P (record c { host_states = dropped_states old c.host_states; drops = drops_more old c.host_states c.drops }))
     (host_of r.expression) w' (k.rewires n r x (core_of w) e a f p))
 
-rewire_keeps : (env : Environment) (P : Core → Type 0) → IsKeptByChanges env P → (n : ℕ) (r : Recipe) (w : World) → P (core_of w) →
+pub rewire_keeps_core : (P : Core → Type 0) → IsKeptByEdits P → (n : ℕ) (r : Recipe) (w : World) → P (core_of w) →
     P (core_of (rewire_signal n r w))
-rewire_keeps env P k n r w p =
+rewire_keeps_core P k n r w p =
     either_way (λ v. P (core_of v)) (rewiring_refused n r w) (rewire_standing (standing w.signals n) n r w) w
     (λ h. let fine : (some_gone r.slots w ≡ None) × (host_refused (host_of r.expression) w ≡ None) =
     neither (some_gone r.slots w) (host_refused (host_of r.expression) w)
     (neither (gone_refused (the_signal n) w) (option_or (some_gone r.slots w) (host_refused (host_of r.expression) w)) h).1 in
-    rewire_case env P k n r (standing w.signals n) w refl (all_stand r.slots w fine.0) (free_host (host_of r.expression) w fine.1) p)
+    rewire_case P k n r (standing w.signals n) w refl (all_stand r.slots w fine.0) (free_host (host_of r.expression) w fine.1) p)
     (λ why. told P w (refused why ∷ []) refl refl p)
+
+pub set_keeps_core : (env : Environment) (P : Core → Type 0) → IsKeptByEdits P → (n : ℕ) (v : Value) (w : World) → P (core_of w) →
+    P (core_of (set_cell env n v w))
+set_keeps_core env P k n v w p = set_case env P k n v (standing w.signals n) w refl p
 
 -- ---- ends and teardowns
 
-end_keeps : (env : Environment) (P : Core → Type 0) → IsKeptByChanges env P → (t : Thing) (w : World) → P (core_of w) → P (core_of (end_of t w))
-end_keeps env P k (the_signal n) w p = go (standing w.signals n) refl
+end_keeps : (P : Core → Type 0) → IsKeptByEdits P → (t : Thing) (w : World) → P (core_of w) → P (core_of (end_of t w))
+end_keeps P k (the_signal n) w p = go (standing w.signals n) refl
   where
     go : (s : Stands) → standing w.signals n ≡ s → P (core_of (end_standing s n w))
     go IsGone e = p
@@ -288,23 +307,27 @@ end_keeps env P k (the_signal n) w p = go (standing w.signals n) refl
     go (IsComputed x) e =
         drop_keeps (λ c. P (after_end n None c)) (host_of x.recipe.expression) w
         (k.ends n (host_of x.recipe.expression) (core_of w) (ap is_there e) (λ j h. (x, e, h)) p)
-end_keeps env P k _ w p = p
+end_keeps P k _ w p = p
 
-undo_keeps : (env : Environment) (P : Core → Type 0) → IsKeptByChanges env P → (u : Undoing) (w : World) → P (core_of w) → P (core_of (undo env u w))
+undo_keeps : (env : Environment) (P : Core → Type 0) → IsKeptByEdits P → (u : Undoing) (w : World) → P (core_of w) → P (core_of (undo env u w))
 undo_keeps env P k (cleans h (sets n v)) w p =
     set_case env P k n v (standing w.signals n) (tell (cleaned h (sets n v)) w) refl (told P w (cleaned h (sets n v) ∷ []) refl refl p)
 undo_keeps env P k (cleans h (logs v)) w p =
     told P (tell (cleaned h (logs v)) w) (logged v ∷ []) refl refl (told P w (cleaned h (logs v) ∷ []) refl refl p)
-undo_keeps env P k (ends h) w p = told P (end_of h w) (gone h ∷ []) refl refl (end_keeps env P k h w p)
+undo_keeps env P k (ends h) w p = told P (end_of h w) (gone h ∷ []) refl refl (end_keeps P k h w p)
 
-undo_all_keeps : (env : Environment) (P : Core → Type 0) → IsKeptByChanges env P → (us : List Undoing) (w : World) → P (core_of w) →
+undo_all_keeps : (env : Environment) (P : Core → Type 0) → IsKeptByEdits P → (us : List Undoing) (w : World) → P (core_of w) →
     P (core_of (undo_all env us w))
 undo_all_keeps env P k [] w p = p
 undo_all_keeps env P k (u ∷ us) w p = undo_all_keeps env P k us (undo env u w) (undo_keeps env P k u w p)
 
-dispose_keeps : (env : Environment) (P : Core → Type 0) → IsKeptByChanges env P → (t : Thing) (w : World) → P (core_of w) →
+pub back_keeps_core : (env : Environment) (P : Core → Type 0) → IsKeptByEdits P → (t : Thing) (w : World) → P (core_of w) →
+    P (core_of (take_back env t w))
+back_keeps_core env P k t w p = undo_all_keeps env P k (teardown_of t (under t w.owned)) (record w { owned = emptied t w.owned }) p
+
+pub dispose_keeps_core : (env : Environment) (P : Core → Type 0) → IsKeptByEdits P → (t : Thing) (w : World) → P (core_of w) →
     P (core_of (dispose_thing env t w))
-dispose_keeps env P k t w p = go (lives t w)
+dispose_keeps_core env P k t w p = go (lives t w)
   where
     go : (b : Bool) → P (core_of (cond b (dispose_live env t w) (tell (refused (thing_gone t)) w)))
     go true = undo_all_keeps env P k (disposal_of t w.owned) (record w { owned = taken_out t w.owned }) p
@@ -312,39 +335,39 @@ dispose_keeps env P k t w p = go (lives t w)
 
 -- ---- acts, runs and commands
 
-act_keeps : (env : Environment) (P : Core → Type 0) → IsKeptByChanges env P → (e j : ℕ) (a : Act) (w : World) → P (core_of w) →
+act_keeps : (env : Environment) (P : Core → Type 0) → IsKeptByActs env P → (e j : ℕ) (a : Act) (w : World) → P (core_of w) →
     P (core_of (do_act env e j a w))
-act_keeps env P k e j (to_set n v) w p = set_case env P k n v (standing w.signals n) w refl p
+act_keeps env P k e j (to_set n v) w p = set_keeps_core env P k.edits n v w p
 act_keeps env P k e j (to_log v) w p = told P w (logged v ∷ []) refl refl p
 act_keeps env P k e j (to_note c) w p = told P w _ refl refl p
 act_keeps env P k e j (to_make b) w p = told P w _ refl refl p
-act_keeps env P k e j (to_dispose t) w p = dispose_keeps env P k t w p
-act_keeps env P k e j (to_rewire n r) w p = rewire_keeps env P k n r w p
+act_keeps env P k e j (to_dispose t) w p = dispose_keeps_core env P k.edits t w p
+act_keeps env P k e j (to_rewire n r) w p = rewire_keeps_core P k.edits n r w p
 
-result_keeps : (env : Environment) (P : Core → Type 0) → IsKeptByChanges env P → (e : ℕ) (r : BodyResult) (w : World) → P (core_of w) →
+result_keeps : (env : Environment) (P : Core → Type 0) → IsKeptByActs env P → (e : ℕ) (r : BodyResult) (w : World) → P (core_of w) →
     P (core_of (do_result env e r w))
 result_keeps env P k e (failed_by f) w p = told P w (failed e f ∷ []) refl refl p
 result_keeps env P k e (to_do as') w p = acts_keep env (λ v. P (core_of v)) e (λ j a v h q. act_keeps env P k e j a v q) 1 as' w p
 
-run_keeps : (env : Environment) (P : Core → Type 0) → IsKeptByChanges env P → (x : Effect) (w : World) → P (core_of w) →
+pub run_keeps_core : (env : Environment) (P : Core → Type 0) → IsKeptByActs env P → (x : Effect) (w : World) → P (core_of w) →
     P (core_of (run_effect env x w))
-run_keeps env P k x w p =
+run_keeps_core env P k x w p =
     let e : Thing = the_effect x.number in
     let w' : World = take_back env e w in
     let b : BodyEvaluation = body_evaluation env.hosts w'.signals x.body in
     let v : World = settle env (names_of b.reads) w' in
     result_keeps env P k x.number b.result (keep_reads x.number b.tracked v)
-    (told P v _ refl refl (settle_keeps env P k (names_of b.reads) w'
-    (undo_all_keeps env P k (teardown_of e (under e w.owned)) (record w { owned = emptied e w.owned }) p)))
+    (told P v _ refl refl (settle_keeps_core env P k (names_of b.reads) w'
+    (back_keeps_core env P k.edits e w p)))
 
-by_runs : (env : Environment) (P : Core → Type 0) → IsKeptByChanges env P → IsKeptByRuns env (λ v. P (core_of v))
-by_runs env P k = record { settles = λ names v q. settle_keeps env P k names v q; runs = λ e x v h q. run_keeps env P k x v q }
+by_runs : (env : Environment) (P : Core → Type 0) → IsKeptByActs env P → IsKeptByRuns env (λ v. P (core_of v))
+by_runs env P k = record { settles = λ names v q. settle_keeps_core env P k names v q; runs = λ e x v h q. run_keeps_core env P k x v q }
 
 -- a turn keeps it, and a flush
-pub turn_keeps_core : (env : Environment) (P : Core → Type 0) → IsKeptByChanges env P → (w : World) → P (core_of w) → P (core_of (turn env w).world)
+pub turn_keeps_core : (env : Environment) (P : Core → Type 0) → IsKeptByActs env P → (w : World) → P (core_of w) → P (core_of (turn env w).world)
 turn_keeps_core env P k w p = turn_keeps env (λ v. P (core_of v)) (by_runs env P k) w p
 
-pub flush_keeps_core : (env : Environment) (P : Core → Type 0) → IsKeptByChanges env P → (w : World) → P (core_of w) → P (core_of (flush env w).world)
+pub flush_keeps_core : (env : Environment) (P : Core → Type 0) → IsKeptByActs env P → (w : World) → P (core_of w) → P (core_of (flush env w).world)
 flush_keeps_core env P k w p = flush_keeps env (λ v. P (core_of v)) (by_runs env P k) 100 w p
 
 told_if_keeps : (P : Core → Type 0) (b : Bool) (w : World) → P (core_of w) → P (core_of (told_if b w))
@@ -360,17 +383,17 @@ done_keeps env P k (computed r inside) w h p =
     let free : host_refused (host_of r.expression) w ≡ None = (neither (inside_refused inside w) (host_refused (host_of r.expression) w) fine.1).1 in
     use_keeps P (host_of r.expression) (with_new_computed r inside w)
     (k.makes_computed r (core_of w) (all_stand r.slots w fine.0) (free_host (host_of r.expression) w free) p)
-done_keeps env P k (owner inside) w h p = p
+done_keeps env P k (owner inside) w h p = k.makes_others (w.made.owners + 1) w.made.pages w.made.watchers (core_of w) p
 done_keeps env P k (effect b inside) w h p = p
-done_keeps env P k (page inside) w h p = p
-done_keeps env P k (watcher tries) w h p = p
+done_keeps env P k (page inside) w h p = k.makes_others w.made.owners (w.made.pages + 1) w.made.watchers (core_of w) p
+done_keeps env P k (watcher tries) w h p = k.makes_others w.made.owners w.made.pages (w.made.watchers + 1) (core_of w) p
 done_keeps env P k (watch n names) w h p = p
 done_keeps env P k (unwatch n m) w h p = p
-done_keeps env P k (set n v) w h p = set_case env P k n v (standing w.signals n) w refl p
-done_keeps env P k (rewire n r) w h p = rewire_keeps env P k n r w p
-done_keeps env P k (ask names) w h p = settle_keeps env P k names w p
-done_keeps env P k (dispose t) w h p = dispose_keeps env P k t w p
-done_keeps env P k flush_all w h p = told_if_keeps P (flush env w).refused (flush env w).world (flush_keeps_core env P k w p)
+done_keeps env P k (set n v) w h p = set_keeps_core env P k.acts.edits n v w p
+done_keeps env P k (rewire n r) w h p = rewire_keeps_core P k.acts.edits n r w p
+done_keeps env P k (ask names) w h p = settle_keeps_core env P k.acts names w p
+done_keeps env P k (dispose t) w h p = dispose_keeps_core env P k.acts.edits t w p
+done_keeps env P k flush_all w h p = told_if_keeps P (flush env w).refused (flush env w).world (flush_keeps_core env P k.acts w p)
 
 -- one command keeps it
 pub command_keeps : (env : Environment) (P : Core → Type 0) → IsKeptByChanges env P → (w : World) (c : Command) → P (core_of w) →

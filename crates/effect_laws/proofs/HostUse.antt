@@ -397,41 +397,46 @@ settled_asks env names c h k =
 
 changes_host : (env : Environment) → IsKeptByChanges env Hosted
 changes_host env = record {
-  settles = λ names c h. (
-    record {
-      there = λ n x k at e. used_after (moments c.signals (settled env.hosts c.signals c.memos names).runs) 0 c.host_states k ∙ h.0.there n x k at e;
-      own = h.0.own;
-    },
-    settled_asks env names c h,
-    each_so (IsDropped c.host_states)
-        (IsDropped (asked_by (moments c.signals (settled env.hosts c.signals c.memos names).runs) 0 c.host_states)) c.drops
-        (λ d g. dropped_after (moments c.signals (settled env.hosts c.signals c.memos names).runs) 0 c.host_states d g) h.2,
-  );
-  sets = λ n v x c e h. h;
-  rewires = λ n r x c e stand free h. (
-    rewired n r c.signals.computeds c.host_states x (stands-computed c.signals n x e) free h.0,
-    λ k. drop_asks (host_of x.recipe.expression) (used_states (host_of r.expression) c.host_states) k
-        ∙ (use_asks (host_of r.expression) c.host_states k free ∙ h.1 k),
-    drops_stand (host_of x.recipe.expression) (used_states (host_of r.expression) c.host_states) c.drops
-        (λ k f. let u : is_used (slice_get c.host_states k) ≡ true = h.0.there n x k (stands-computed c.signals n x e) f in
-        ap is_used (use_stays (host_of r.expression) c.host_states k free u) ∙ u)
-        (each_so (IsDropped c.host_states) (IsDropped (used_states (host_of r.expression) c.host_states)) c.drops
-        (λ d g. use_dropped (host_of r.expression) c.host_states d free g) h.2),
-  );
-  ends = λ n old c stands whose h. (
-    ends_of n c.signals.computeds c.host_states old
-        (λ k e. let y : (x : Computed) × (standing c.signals n ≡ IsComputed x) × (host_of x.recipe.expression ≡ Some k) = whose k e in
-        (y.0, stands-computed c.signals n y.0 y.1, y.2)) h.0,
-    λ k. drop_asks old c.host_states k ∙ h.1 k,
-    drops_stand old c.host_states c.drops (used_host c n old h.0 whose) h.2,
-  );
+  acts = record {
+    edits = record {
+      sets = λ n v x c e h. h;
+      rewires = λ n r x c e stand free h. (
+        rewired n r c.signals.computeds c.host_states x (stands-computed c.signals n x e) free h.0,
+        λ k. drop_asks (host_of x.recipe.expression) (used_states (host_of r.expression) c.host_states) k
+            ∙ (use_asks (host_of r.expression) c.host_states k free ∙ h.1 k),
+        drops_stand (host_of x.recipe.expression) (used_states (host_of r.expression) c.host_states) c.drops
+            (λ k f. let u : is_used (slice_get c.host_states k) ≡ true = h.0.there n x k (stands-computed c.signals n x e) f in
+            ap is_used (use_stays (host_of r.expression) c.host_states k free u) ∙ u)
+            (each_so (IsDropped c.host_states) (IsDropped (used_states (host_of r.expression) c.host_states)) c.drops
+            (λ d g. use_dropped (host_of r.expression) c.host_states d free g) h.2),
+      );
+      ends = λ n old c stands whose h. (
+        ends_of n c.signals.computeds c.host_states old
+            (λ k e. let y : (x : Computed) × (standing c.signals n ≡ IsComputed x) × (host_of x.recipe.expression ≡ Some k) = whose k e in
+            (y.0, stands-computed c.signals n y.0 y.1, y.2)) h.0,
+        λ k. drop_asks old c.host_states k ∙ h.1 k,
+        drops_stand old c.host_states c.drops (used_host c n old h.0 whose) h.2,
+      );
+    };
+    settles = λ names c h. (
+      record {
+        there = λ n x k at e. used_after (moments c.signals (settled env.hosts c.signals c.memos names).runs) 0 c.host_states k ∙ h.0.there n x k at e;
+        own = h.0.own;
+      },
+      settled_asks env names c h,
+      each_so (IsDropped c.host_states)
+          (IsDropped (asked_by (moments c.signals (settled env.hosts c.signals c.memos names).runs) 0 c.host_states)) c.drops
+          (λ d g. dropped_after (moments c.signals (settled env.hosts c.signals c.memos names).runs) 0 c.host_states d g) h.2,
+    );
+  };
   makes_cell = λ v rule c h. h;
   makes_computed = λ r c stand free h. (
-    more c.signals.computeds c.host_states (record { name = c.made; recipe = r }) free h.0,
+    more c.signals.computeds c.host_states (record { name = c.made.signals; recipe = r }) free h.0,
     λ k. use_asks (host_of r.expression) c.host_states k free ∙ h.1 k,
     each_so (IsDropped c.host_states) (IsDropped (used_states (host_of r.expression) c.host_states)) c.drops
         (λ d g. use_dropped (host_of r.expression) c.host_states d free g) h.2,
   );
+  makes_others = λ owners pages watchers c h. h;
 }
 
 unused_asks : (n k : ℕ) → asks_so_far (slice_get (replicate n unused) k) ≡ 0

@@ -17,7 +17,7 @@ use Rattle.effect_laws.proofs.Changes.{Core, core_of, AllStand, IsKeptByChanges,
 
 -- the memos of the part that changes, the names in use, and the runs that were told
 abbrev pub Kept : Environment → Core → Type 0
-Kept env c = AreKept env.hosts c.signals c.memos × AreGiven (given_below c.made) c.signals c.memos × AllByRecursion (IsCurrentMoment env) c.runs
+Kept env c = AreKept env.hosts c.signals c.memos × AreGiven (given_below c.made.signals) c.signals c.memos × AllByRecursion (IsCurrentMoment env) c.runs
 
 -- the runs of a settling are current at its moment
 moments_current : (env : Environment) (w : Signals) (k : Memos) (asked : List ℕ) → AreKept env.hosts w k → (rs : List Run) →
@@ -32,43 +32,48 @@ stand_given made w k ns g s n i = g.names n (s n i)
 
 pub changes_keep : (env : Environment) → IsKeptByChanges env (Kept env)
 changes_keep env = record {
-  settles = λ names c k. (
-    settle_law env.hosts c.signals c.memos names k.0,
-    given_settle_law env.hosts (given_below c.made) c.signals c.memos names k.1,
-    all_append (IsCurrentMoment env) c.runs _ k.2
-        (moments_current env c.signals c.memos names k.0 (settled env.hosts c.signals c.memos names).runs
-        (currency_law env.hosts c.signals c.memos names k.0)),
-  );
-  sets = λ n v x c e k. (set_law env.hosts c.signals c.memos n x v e k.0, given_set_law (given_below c.made) c.signals c.memos n v k.1, k.2);
-  rewires = λ n r x c e stand free k. (
-    rewire_law env.hosts c.signals c.memos n x r e k.0,
-    given_rewire_law (given_below c.made) c.signals c.memos n r (stand_given c.made c.signals c.memos r.slots k.1 stand) k.1,
-    k.2,
-  );
-  ends = λ n old c stands host k. (
-    dispose_law env.hosts c.signals c.memos n stands k.0,
-    given_dispose_law (given_below c.made) c.signals c.memos n k.1,
-    k.2,
-  );
+  acts = record {
+    edits = record {
+      sets = λ n v x c e k. (set_law env.hosts c.signals c.memos n x v e k.0, given_set_law (given_below c.made.signals) c.signals c.memos n v k.1, k.2);
+      rewires = λ n r x c e stand free k. (
+        rewire_law env.hosts c.signals c.memos n x r e k.0,
+        given_rewire_law (given_below c.made.signals) c.signals c.memos n r (stand_given c.made.signals c.signals c.memos r.slots k.1 stand) k.1,
+        k.2,
+      );
+      ends = λ n old c stands host k. (
+        dispose_law env.hosts c.signals c.memos n stands k.0,
+        given_dispose_law (given_below c.made.signals) c.signals c.memos n k.1,
+        k.2,
+      );
+    };
+    settles = λ names c k. (
+      settle_law env.hosts c.signals c.memos names k.0,
+      given_settle_law env.hosts (given_below c.made.signals) c.signals c.memos names k.1,
+      all_append (IsCurrentMoment env) c.runs _ k.2
+          (moments_current env c.signals c.memos names k.0 (settled env.hosts c.signals c.memos names).runs
+          (currency_law env.hosts c.signals c.memos names k.0)),
+    );
+  };
   makes_cell = λ v rule c k.
-      let x : Cell = record { name = c.made; value = v; rule = rule } in
-      let next : IsNext c.made = given_next_law c.made in
-      let more : AreGiven (given_below (c.made + 1)) c.signals c.memos =
-      given_more_law (given_below c.made) (given_below (c.made + 1)) c.signals c.memos next.stay k.1 in (
-        cell_law env.hosts (given_below c.made) c.signals c.memos x k.1 next.new k.0,
-        given_cell_law (given_below (c.made + 1)) c.signals c.memos x next.given more,
+      let x : Cell = record { name = c.made.signals; value = v; rule = rule } in
+      let next : IsNext c.made.signals = given_next_law c.made.signals in
+      let more : AreGiven (given_below (c.made.signals + 1)) c.signals c.memos =
+      given_more_law (given_below c.made.signals) (given_below (c.made.signals + 1)) c.signals c.memos next.stay k.1 in (
+        cell_law env.hosts (given_below c.made.signals) c.signals c.memos x k.1 next.new k.0,
+        given_cell_law (given_below (c.made.signals + 1)) c.signals c.memos x next.given more,
         k.2,
       );
   makes_computed = λ r c stand free k.
-      let x : Computed = record { name = c.made; recipe = r } in
-      let next : IsNext c.made = given_next_law c.made in
-      let more : AreGiven (given_below (c.made + 1)) c.signals c.memos =
-      given_more_law (given_below c.made) (given_below (c.made + 1)) c.signals c.memos next.stay k.1 in (
-        computed_law env.hosts (given_below c.made) c.signals c.memos x k.1 next.new k.0,
-        given_computed_law (given_below (c.made + 1)) c.signals c.memos x next.given
-            (stand_given (c.made + 1) c.signals c.memos r.slots more stand) more,
+      let x : Computed = record { name = c.made.signals; recipe = r } in
+      let next : IsNext c.made.signals = given_next_law c.made.signals in
+      let more : AreGiven (given_below (c.made.signals + 1)) c.signals c.memos =
+      given_more_law (given_below c.made.signals) (given_below (c.made.signals + 1)) c.signals c.memos next.stay k.1 in (
+        computed_law env.hosts (given_below c.made.signals) c.signals c.memos x k.1 next.new k.0,
+        given_computed_law (given_below (c.made.signals + 1)) c.signals c.memos x next.given
+            (stand_given (c.made.signals + 1) c.signals c.memos r.slots more stand) more,
         k.2,
       );
+  makes_others = λ owners pages watchers c k. k;
 }
 
 pub of_world : (env : Environment) (w : World) → IsKeptWorld env w → Kept env (core_of w)
@@ -84,7 +89,7 @@ pub command_law : CommandLaw
 command_law env w c k = to_world env (after_command env w c) (command_keeps env (Kept env) (changes_keep env) w c (of_world env w k))
 
 pub flush_law : FlushLaw
-flush_law env w k = to_world env (flush env w).world (flush_keeps_core env (Kept env) (changes_keep env) w (of_world env w k))
+flush_law env w k = to_world env (flush env w).world (flush_keeps_core env (Kept env) (changes_keep env).acts w (of_world env w k))
 
 pub commands_law : CommandsLaw
 commands_law env n cs =

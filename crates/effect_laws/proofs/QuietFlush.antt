@@ -117,7 +117,7 @@ flush_done zero env w k h =
     let l : Ends env w es (last_look env es w) = last_ends env es w in
     done_on env w (last_look env es w).world (l.rests h) (last_settles env es w k.0 h).0
 flush_done (suc more) env w k h =
-    go (turn env w).ran refl h (λ j. flush_done more env (turn env w).world (turn_keeps_core env (Kept env) (changes_keep env) w k) j)
+    go (turn env w).ran refl h (λ j. flush_done more env (turn env w).world (turn_keeps_core env (Kept env) (changes_keep env).acts w k) j)
   where
     go : (b : Bool) → (turn env w).ran ≡ b → (after_turn b (turn env w).world (flush_within more env)).refused ≡ false →
         ((flush_within more env (turn env w).world).refused ≡ false →

@@ -15,5 +15,7 @@ pub use Rattle.effect_laws.proofs.QuietFlush.{quiet_flush_law}
 
 -- what looks and runs keep, turns and flushes keep
 pub use Rattle.effect_laws.proofs.Turns.{IsKeptByRuns, turn_keeps, flush_keeps, acts_keep}
--- what each change of the signals keeps, commands keep
-pub use Rattle.effect_laws.proofs.Changes.{Core, core_of, IsKeptByChanges, turn_keeps_core, flush_keeps_core, command_keeps, commands_keep}
+-- what each change of the signals keeps, acts, runs and commands keep
+pub use Rattle.effect_laws.proofs.Changes.{Core, core_of, IsKeptByEdits, IsKeptByActs, IsKeptByChanges}
+pub use Rattle.effect_laws.proofs.Changes.{settle_keeps_core, set_keeps_core, rewire_keeps_core, back_keeps_core, dispose_keeps_core, run_keeps_core}
+pub use Rattle.effect_laws.proofs.Changes.{turn_keeps_core, flush_keeps_core, command_keeps, commands_keep}

@@ -12,15 +12,15 @@ use Rattle.effect_tables.specs.Linking.{signal_number, target_thing, thing_of}
 use Rattle.effect_undoing.specs.Sites.{parts_of}
 use Rattle.effect_acts.specs.Changing.{rewire_meant}
 use Rattle.effect_acts.proofs.Acts.{acted_as, acted_lent}
-use Rattle.effect_acts.proofs.Meant.{dispose_meant, note_meant, set_meant}
+use Rattle.effect_acts.proofs.Meant.{cell_meant, thing_meant}
 use Rattle.effect_acts.proofs.acting.do_act.Goals as goal
 
 pub returns-in_ok-set-in-Set-clause-done : goal.returns-in_ok-set-in-Set-clause-done
 returns-in_ok-set-in-Set-clause-done g c =
     let p = parts_of c.args.site.now.origin (rc_value c.args.site.now.script) c.args.site.now.path.items in
     acted_as _ _ _ _ 1 1 (λ env. set_cell env c.cell_at-cell.result c.in_ok-value-in-Set.value) (λ env. do_act env c.args.id c.args.label (act_of p c.args.act.now))
-    (λ env. set_meant (rc_value c.args.site.now.script) c.args.site.now.path.items c.args.body.now c.args.links.now c.requires.part c.args.site.now.origin env c.args.id c.args.label c.in-Set.target c.cell_at-cell.result c.in-Set.scalar c.in_ok-value-in-Set.value
-    (c.cell_at-cell.ensures ∙ ap (λ xs. signal_number (target_thing c.args.site.now.origin (slice_get xs c.in-Set.target))) c.deref.ensures.value) c.in_ok-value-in-Set.ensures
+    (λ env. (λ i. set_cell env (cell_meant (rc_value c.args.site.now.script) c.args.site.now.path.items c.args.body.now c.args.links.now c.requires.part c.args.site.now.origin c.in-Set.target c.cell_at-cell.result
+    (c.cell_at-cell.ensures ∙ ap (λ xs. signal_number (target_thing c.args.site.now.origin (slice_get xs c.in-Set.target))) c.deref.ensures.value) i) (c.in_ok-value-in-Set.ensures i))
     ∙ ap (λ a. do_act env c.args.id c.args.label (act_of p a)) (sym c.in-Set.is))
     (omega arith) (c.in_ok-set-in-Set.ensures _ c.requires.agrees)
 
@@ -36,9 +36,8 @@ returns-in_ok-note_there-in-CleanupSet-clause-done g c =
     let p = parts_of c.args.site.now.origin (rc_value c.args.site.now.script) c.args.site.now.path.items in
     let n = c.cell_at-cell-in-CleanupSet.result in
     acted_as _ _ _ _ 0 1 (λ env. do_act env c.args.id 0 (to_note (sets n (scalar_value c.in_ok-scalar-in-CleanupSet.scalar)))) (λ env. do_act env c.args.id c.args.label (act_of p c.args.act.now))
-    (λ env. (λ i. do_act env c.args.id 0 (to_note (sets n (scalar_value (c.in_ok-scalar-in-CleanupSet.ensures i)))))
-    ∙ note_meant (rc_value c.args.site.now.script) c.args.site.now.path.items c.args.body.now c.args.links.now c.requires.part c.args.site.now.origin env c.args.id c.args.label c.in-CleanupSet.target n c.in-CleanupSet.scalar
-    (c.cell_at-cell-in-CleanupSet.ensures ∙ ap (λ xs. signal_number (target_thing c.args.site.now.origin (slice_get xs c.in-CleanupSet.target))) c.deref-in-CleanupSet.ensures.value)
+    (λ env. (λ i. do_act env c.args.id 0 (to_note (sets (cell_meant (rc_value c.args.site.now.script) c.args.site.now.path.items c.args.body.now c.args.links.now c.requires.part c.args.site.now.origin c.in-CleanupSet.target n
+    (c.cell_at-cell-in-CleanupSet.ensures ∙ ap (λ xs. signal_number (target_thing c.args.site.now.origin (slice_get xs c.in-CleanupSet.target))) c.deref-in-CleanupSet.ensures.value) i) (scalar_value (c.in_ok-scalar-in-CleanupSet.ensures i)))))
     ∙ ap (λ a. do_act env c.args.id c.args.label (act_of p a)) (sym c.in-CleanupSet.is))
     (omega arith) (c.in_ok-note_there-in-CleanupSet.ensures _ _ c.requires.agrees)
 
@@ -59,8 +58,8 @@ pub returns-in_ok-dispose-in-Dispose-clause-done : goal.returns-in_ok-dispose-in
 returns-in_ok-dispose-in-Dispose-clause-done g c =
     let p = parts_of c.args.site.now.origin (rc_value c.args.site.now.script) c.args.site.now.path.items in
     acted_lent _ _ _ _ _ 0 1 (λ env. dispose_thing env (thing_of c.thing_at-thing.result)) (λ env. do_act env c.args.id c.args.label (act_of p c.args.act.now))
-    (λ env. dispose_meant (rc_value c.args.site.now.script) c.args.site.now.path.items c.args.body.now c.args.links.now c.requires.part c.args.site.now.origin env c.args.id c.args.label c.in-Dispose.target (thing_of c.thing_at-thing.result)
-    (c.thing_at-thing.ensures ∙ ap (λ xs. target_thing c.args.site.now.origin (slice_get xs c.in-Dispose.target)) c.deref-in-Dispose.ensures.value)
+    (λ env. (λ i. dispose_thing env (thing_meant (rc_value c.args.site.now.script) c.args.site.now.path.items c.args.body.now c.args.links.now c.requires.part c.args.site.now.origin c.in-Dispose.target (thing_of c.thing_at-thing.result)
+    (c.thing_at-thing.ensures ∙ ap (λ xs. target_thing c.args.site.now.origin (slice_get xs c.in-Dispose.target)) c.deref-in-Dispose.ensures.value) i))
     ∙ ap (λ a. do_act env c.args.id c.args.label (act_of p a)) (sym c.in-Dispose.is))
     (omega arith) c.in_ok-dispose-in-Dispose.ensures.done
 
