@@ -9,12 +9,12 @@ use Rattle.sig_untrack.specs.Stated.{Bodies}
 use Rattle.body_text.specs.declared.fault.BodyFault.{BodyFault}
 use Rattle.body_text.specs.declared.fault.BodyWhy.{BodyWhy}
 use Rattle.body_text.specs.declared.line.Line.{Line}
-use Rattle.body_text.specs.Grammar.{Row, row, Said, line_of, set}
+use Rattle.body_text.specs.Grammar.{Row, row, Said, line_of, set, said_of}
 use Rattle.body_text.specs.Judging.{fault_at, first_excess, first_misplaced, judged, many_lines, refusal_of}
 use Rattle.body_text.specs.Places.{kind_of, moved}
 use Rattle.body_text.specs.Readings.{Answer, IsRead, faulty, unended, says, Say, Sayings, answer_of, said_lines, unless_refused}
 use Rattle.body_text.specs.Statements.{Statements, body_of, lines_of}
-use Rattle.body_text.specs.Writing.{body_text, bytes_of, ended_line, lines_of_text, lines_text, meaning, said_of, text_of}
+use Rattle.body_text.specs.Writing.{body_text, bytes_of, ended_line, lines_of_text, lines_text, meaning, text_of}
 use Rattle.body_text.proofs.Judgements.{neither}
 use Rattle.body_text.proofs.Meaning.{meant_back}
 use Rattle.body_text.proofs.Standing.{said_all, AllLines, all_lines, kept_all}

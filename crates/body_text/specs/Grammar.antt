@@ -99,6 +99,19 @@ Said = grammar.Said Row row
 abbrev pub line_of : Said → Line
 line_of x = made (row x.0).1 (line_makes x.0) x.1
 
+-- what says a line
+abbrev pub said_of : Line → Said
+said_of (line.Plain (statement.Set n x)) = (set, (n, (x, tt)))
+said_of (line.Plain (statement.Log x)) = (log, (x, tt))
+said_of (line.Plain (statement.CleanupSet n x)) = (cleanup_set, (n, (x, tt)))
+said_of (line.Plain (statement.CleanupLog x)) = (cleanup_log, (x, tt))
+said_of (line.Plain (statement.Dispose n)) = (dispose, (n, tt))
+said_of (line.Rewire n (source.Formula x)) = (rewire, (n, (x, tt)))
+said_of (line.Rewire n (source.Host k ns)) = (host, (n, (k, (ns, tt))))
+said_of (line.When x) = (guard, (x, tt))
+said_of line.Effect = (effect, tt)
+said_of line.End = (close, tt)
+
 -- bytes write a line: their tokens spell it
 abbrev pub Writes : Said → List ℕ → Type 0
 Writes said bytes = blocks.Writes Row row said bytes

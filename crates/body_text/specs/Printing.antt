@@ -6,7 +6,8 @@ use Rattle.sig_untrack.specs.Stated.{Stated, Rewiring, rewiring}
 use Rattle.body_text.specs.declared.line.Line.TheVariants as line
 use Rattle.body_text.specs.declared.writing.HeldParts.{HeldParts}
 use Rattle.body_text.specs.Statements.{Statement}
-use Rattle.body_text.specs.Writing.{ended_line, named_line, rewire_line, said_of}
+use Rattle.body_text.specs.Grammar.{said_of}
+use Rattle.body_text.specs.Writing.{ended_line, named_line, rewire_line}
 
 -- what the places of a body stand for, nested effects as their texts
 pub record TextParts : Type 0 where

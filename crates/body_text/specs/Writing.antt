@@ -1,7 +1,6 @@
 -- The lines that write a body.
 use Rattle.std.specs.Prelude.{ℕ, zero, suc, List, [], ◌∷◌, ◌++◌, map, flat_map, codes}
 use Rattle.effect_model.specs.declared.plain.Plain.{Plain}
-use Rattle.effect_model.specs.declared.plain.Plain.TheVariants as p
 use Rattle.effect_model.specs.Lines.{mapped}
 use Rattle.sig_formula.specs.Trees.{Tree}
 use Rattle.formula_text.specs.Canonical.{named, unslotted}
@@ -13,24 +12,10 @@ use Rattle.body_text.specs.declared.line.Line.{Line}
 use Rattle.body_text.specs.declared.line.Line.TheVariants as line
 use Rattle.body_text.specs.declared.line.Source.{Source}
 use Rattle.body_text.specs.declared.line.Source.TheVariants as source
-use Rattle.body_text.specs.Grammar as rows
-use Rattle.body_text.specs.Grammar.{Row, row, Said}
+use Rattle.body_text.specs.Grammar.{Row, row, Said, said_of}
 use Rattle.body_text.specs.Statements.{Statement, Statements, done, plain, rewire, when, effect, lines_of}
 
 -- ---- the text of statements
-
--- what a line says
-abbrev pub said_of : Line → Said
-said_of (line.Plain (p.Set n x)) = (rows.set, (n, (x, tt)))
-said_of (line.Plain (p.Log x)) = (rows.log, (x, tt))
-said_of (line.Plain (p.CleanupSet n x)) = (rows.cleanup_set, (n, (x, tt)))
-said_of (line.Plain (p.CleanupLog x)) = (rows.cleanup_log, (x, tt))
-said_of (line.Plain (p.Dispose n)) = (rows.dispose, (n, tt))
-said_of (line.Rewire n (source.Formula x)) = (rows.rewire, (n, (x, tt)))
-said_of (line.Rewire n (source.Host k ns)) = (rows.host, (n, (k, (ns, tt))))
-said_of (line.When x) = (rows.guard, (x, tt))
-said_of line.Effect = (rows.effect, tt)
-said_of line.End = (rows.close, tt)
 
 -- the bytes of a line
 abbrev pub bytes_of : Said → List ℕ

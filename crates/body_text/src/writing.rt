@@ -8,7 +8,8 @@ ghost use Rattle.line_forms.specs.Printed.{form_text, part_text};
 ghost use Rattle.sig_untrack.specs.Stated as stated;
 ghost use Rattle.sig_untrack.specs.Stated.{before, held_line, no_bodies, put, rewiring, Stated};
 ghost use Rattle.body_text.specs.Printing.{end_line, held_parts, parts_text, plain_text, rewire_text, text_at};
-ghost use Rattle.body_text.specs.Writing.{body_text, ended_line, named_line, rewire_line, said_of};
+ghost use Rattle.body_text.specs.Grammar.{said_of};
+ghost use Rattle.body_text.specs.Writing.{body_text, ended_line, named_line, rewire_line};
 
 use effect_model::Plain;
 use formula_text::put_formula_of;

@@ -15,6 +15,7 @@ use Rattle.body_text.specs.declared.line.Source.TheVariants as body_source
 use Rattle.effect_model.specs.declared.plain.Plain.TheVariants as plain_line
 use Rattle.body_text.specs.Statements as statements
 use Rattle.body_text.specs.Statements.{Statement, Statements, lines_of}
+use Rattle.body_text.specs.Grammar as body_grammar
 use Rattle.body_text.specs.Writing as body
 use Rattle.tpl_syntax.specs.declared.place.Level.{Level}
 use Rattle.tpl_syntax.specs.declared.place.Level.TheVariants as levels
@@ -49,27 +50,27 @@ stays-append level mid to (l ∷ ls) ms h k = (h.0, stays-append (level_after le
 
 -- the bytes of lines of a body
 abbrev bytes_in : Statements → List (List ℕ)
-bytes_in s = map (λ l. body.bytes_of (body.said_of l)) (lines_of s)
+bytes_in s = map (λ l. body.bytes_of (body_grammar.said_of l)) (lines_of s)
 
-plain_stays : (a : Statement) (level : ℕ) → level_after level (body.bytes_of (body.said_of (body_line.Plain a))) ≡ level
+plain_stays : (a : Statement) (level : ℕ) → level_after level (body.bytes_of (body_grammar.said_of (body_line.Plain a))) ≡ level
 unfolding opens closes
 plain_stays (plain_line.Set n x) level = refl
 plain_stays _ level = refl
 
-rewire_stays : (n : List ℕ) (s : Source) (level : ℕ) → level_after level (body.bytes_of (body.said_of (body_line.Rewire n s))) ≡ level
+rewire_stays : (n : List ℕ) (s : Source) (level : ℕ) → level_after level (body.bytes_of (body_grammar.said_of (body_line.Rewire n s))) ≡ level
 unfolding opens closes
 rewire_stays n (body_source.Formula x) level = refl
 rewire_stays n (body_source.Host k ns) level = refl
 
-when_opens : (x : Draft) (level : ℕ) → level_after level (body.bytes_of (body.said_of (body_line.When x))) ≡ level + 1
+when_opens : (x : Draft) (level : ℕ) → level_after level (body.bytes_of (body_grammar.said_of (body_line.When x))) ≡ level + 1
 unfolding opens closes
 when_opens x level = refl
 
-effect_opens : (level : ℕ) → level_after level (body.bytes_of (body.said_of body_line.Effect)) ≡ level + 1
+effect_opens : (level : ℕ) → level_after level (body.bytes_of (body_grammar.said_of body_line.Effect)) ≡ level + 1
 unfolding opens closes
 effect_opens level = refl
 
-end_closes : (level : ℕ) → level_after level (body.bytes_of (body.said_of body_line.End)) ≡ level - 1
+end_closes : (level : ℕ) → level_after level (body.bytes_of (body_grammar.said_of body_line.End)) ≡ level - 1
 unfolding opens closes
 end_closes level = refl
 
@@ -82,26 +83,26 @@ map-append f [] ys = refl
 map-append f (x ∷ xs) ys = let rest = map-append f xs ys in rw rest refl
 
 -- what stands between a line that opens a level and the one that closes it, and what stands behind both
-opened_stays : (s t : Statements) (level : ℕ) (l : BodyLine) → 0 < level → level_after level (body.bytes_of (body.said_of l)) ≡ level + 1
+opened_stays : (s t : Statements) (level : ℕ) (l : BodyLine) → 0 < level → level_after level (body.bytes_of (body_grammar.said_of l)) ≡ level + 1
     → Stays (level + 1) (bytes_in s) (level + 1) → Stays level (bytes_in t) level
-    → Stays level (map (λ k. body.bytes_of (body.said_of k)) (l ∷ (lines_of s ++ (body_line.End ∷ lines_of t)))) level
+    → Stays level (map (λ k. body.bytes_of (body_grammar.said_of k)) (l ∷ (lines_of s ++ (body_line.End ∷ lines_of t)))) level
 opened_stays s t level l h e inner rest =
     let back : (level + 1) - 1 ≡ level = omega arith in
     let above : 0 < level + 1 = omega arith in
-    let closing : Stays (level + 1) (body.bytes_of (body.said_of body_line.End) ∷ bytes_in t) level =
-    one_more (level + 1) level level (body.bytes_of (body.said_of body_line.End)) (bytes_in t) (end_closes (level + 1) ∙ back) h rest in
-    let both : Stays (level + 1) (bytes_in s ++ (body.bytes_of (body.said_of body_line.End) ∷ bytes_in t)) level =
-    stays-append (level + 1) (level + 1) level (bytes_in s) (body.bytes_of (body.said_of body_line.End) ∷ bytes_in t) inner closing in
-    let all = map-append (λ k. body.bytes_of (body.said_of k)) (lines_of s) (body_line.End ∷ lines_of t) in
-    one_more level (level + 1) level (body.bytes_of (body.said_of l)) (map (λ k. body.bytes_of (body.said_of k)) (lines_of s ++ (body_line.End ∷ lines_of t))) e above
+    let closing : Stays (level + 1) (body.bytes_of (body_grammar.said_of body_line.End) ∷ bytes_in t) level =
+    one_more (level + 1) level level (body.bytes_of (body_grammar.said_of body_line.End)) (bytes_in t) (end_closes (level + 1) ∙ back) h rest in
+    let both : Stays (level + 1) (bytes_in s ++ (body.bytes_of (body_grammar.said_of body_line.End) ∷ bytes_in t)) level =
+    stays-append (level + 1) (level + 1) level (bytes_in s) (body.bytes_of (body_grammar.said_of body_line.End) ∷ bytes_in t) inner closing in
+    let all = map-append (λ k. body.bytes_of (body_grammar.said_of k)) (lines_of s) (body_line.End ∷ lines_of t) in
+    one_more level (level + 1) level (body.bytes_of (body_grammar.said_of l)) (map (λ k. body.bytes_of (body_grammar.said_of k)) (lines_of s ++ (body_line.End ∷ lines_of t))) e above
     (subst (λ (ls : List (List ℕ)). Stays (level + 1) ls level) (sym all) both)
 
 pub body_stays : (s : Statements) (level : ℕ) → 0 < level → Stays level (bytes_in s) level
 body_stays statements.done level h = refl
 body_stays (statements.plain a s) level h =
-    one_more level level level (body.bytes_of (body.said_of (body_line.Plain a))) (bytes_in s) (plain_stays a level) h (body_stays s level h)
+    one_more level level level (body.bytes_of (body_grammar.said_of (body_line.Plain a))) (bytes_in s) (plain_stays a level) h (body_stays s level h)
 body_stays (statements.rewire n x s) level h =
-    one_more level level level (body.bytes_of (body.said_of (body_line.Rewire n x))) (bytes_in s) (rewire_stays n x level) h (body_stays s level h)
+    one_more level level level (body.bytes_of (body_grammar.said_of (body_line.Rewire n x))) (bytes_in s) (rewire_stays n x level) h (body_stays s level h)
 body_stays (statements.when x s t) level h =
     opened_stays s t level (body_line.When x) h (when_opens x level) (body_stays s (level + 1) (omega arith)) (body_stays t level h)
 body_stays (statements.effect s t) level h =

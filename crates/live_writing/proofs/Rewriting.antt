@@ -17,6 +17,7 @@ use Rattle.body_text.specs.declared.fault.BodyWhy.{BodyWhy}
 use Rattle.body_text.specs.declared.fault.BodyWhy.TheVariants as why
 use Rattle.body_text.specs.Readings.{Answer, IsRead}
 use Rattle.body_text.specs.Statements.{lines_of}
+use Rattle.body_text.specs.Grammar as body_grammar
 use Rattle.body_text.specs.Writing as body
 use Rattle.body_text.proofs.Shared.{read_anew, whole_lines}
 use Rattle.tpl_syntax.specs.declared.fault.TemplateWhy.{TemplateWhy}
@@ -170,7 +171,7 @@ body_made n o (Err f) c e = absurd (no_body f.at f.why c e)
 effect_text : (n : List ℕ) (b : Bodies) (o : Option (List ℕ)) → command_text (command.Effect n b o) ≡ flat_map ended (lines_by (command.Effect n b o))
 effect_text n b o =
     let end = bytes_of (close, tt) in
-    let inner : body.body_text b ≡ flat_map ended (body_lines b) = sym (flat_map-map ended (λ l. body.bytes_of (body.said_of l)) (lines_of (body.meaning b))) in
+    let inner : body.body_text b ≡ flat_map ended (body_lines b) = sym (flat_map-map ended (λ l. body.bytes_of (body_grammar.said_of l)) (lines_of (body.meaning b))) in
     ap (λ (bs : List ℕ). ended_line (effect, (n, (o, tt))) ++ bs)
     (ap (λ (bs : List ℕ). bs ++ ended_line (close, tt)) inner ∙ ap (λ (bs : List ℕ). flat_map ended (body_lines b) ++ bs) (sym (append-nil (ended end)))
     ∙ sym (flat_map-append ended (body_lines b) (end ∷ [])))

@@ -7,6 +7,7 @@ use Rattle.line_forms.specs.Printed.{line_text}
 use Rattle.script_lines.specs.Lines.{NumberedLine, numbered}
 use Rattle.sig_untrack.specs.Stated.{Bodies}
 use Rattle.body_text.specs.Statements.{lines_of}
+use Rattle.body_text.specs.Grammar as body_grammar
 use Rattle.body_text.specs.Writing as body
 use Rattle.tpl_syntax.specs.Lines.{Plan}
 use Rattle.tpl_syntax.specs.Writing as template_text
@@ -79,7 +80,7 @@ ended_line x = bytes_of x ++ codes "\n"
 
 -- the bytes of a body's lines
 abbrev pub body_lines : Bodies → List (List ℕ)
-body_lines b = map (λ l. body.bytes_of (body.said_of l)) (lines_of (body.meaning b))
+body_lines b = map (λ l. body.bytes_of (body_grammar.said_of l)) (lines_of (body.meaning b))
 
 -- the bytes of a template's lines
 abbrev pub template_lines : Plan → List (List ℕ)
