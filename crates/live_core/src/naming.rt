@@ -1,13 +1,14 @@
 // What is made gets its name.
-ghost use Rattle.std.specs.Prelude.{◌≡◌, ◌++◌, ◌∷◌, [], None, OnOk};
+ghost use Rattle.std.specs.Prelude.{◌≡◌, ◌++◌, ◌∷◌, [], None, Some, OnOk};
 ghost use Rattle.live_model.specs.declared.names.Kind.TheVariants as kind;
-ghost use Rattle.live_model.specs.Labels.{named};
+ghost use Rattle.live_model.specs.Labels.{named, with_label};
 ghost use Rattle.live_model.specs.Names.{meaning_of};
 ghost use Rattle.live_labels.specs.Views.{labels_of};
 ghost use Rattle.live_core.specs.Parts.{KeepsParts};
 
 use crate::machine::Machine;
 use live_entries::Label;
+use live_labels::label_effect;
 use live_model::Kind;
 use sig_base::{EffectId, Name, NoMemory, NodeId, OwnerId, PageId, WatcherId};
 
@@ -41,11 +42,11 @@ impl Machine {
         requires { meaning_of self.old.names name ≡ None }
         ensures names { OnOk result (self.new.names ≡ self.old.names ++ (name, record { kind = kind.Effect; number = id }) ∷ []) }
         ensures labels { OnOk result (labels_of self.new.labels
-            ≡ record (labels_of self.old.labels) { effects = self.old.labels.effects.items ++ (id, named name) ∷ [] }) }
+            ≡ record (labels_of self.old.labels) { effects = with_label id (Some (named name)) (labels_of self.old.labels).effects }) }
         ensures parts { KeepsParts self.old self.new }
     {
         let label = Label::named(self.alloc, name.copy()?);
-        self.labels.effects.push((id, label))?;
+        label_effect(&mut self.labels.effects, id, label)?;
         self.names.make(name, Kind::Effect, id.number())?;
         Ok(())
     }

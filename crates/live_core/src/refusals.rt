@@ -9,6 +9,7 @@ ghost use Rattle.sig_effect.specs.Wholes.{host_states};
 ghost use Rattle.sig_host.specs.Hosts.{HostPlace};
 ghost use Rattle.effect_tables.specs.declared.tables.TheConstants.{MOST_EFFECTS};
 ghost use Rattle.live_entries.specs.declared.refusal.LimitWord.TheVariants as limit;
+ghost use Rattle.live_labels.specs.Views.{labels_of};
 ghost use Rattle.live_model.specs.Labels.{is_named, label_at};
 ghost use Rattle.live_model.specs.Machine.{body_refusal, host_refusal, later_refusal, name_refusal};
 ghost use Rattle.live_model.specs.Machine.{one_too_many, outside_refusal, over_limit, place_refusal, refusal_of};
@@ -201,14 +202,14 @@ impl Machine {
 
     // How many effects live that a command made.
     fn named_effects(&self) -> usize
-        ensures { result ≡ length (filter (λ x. is_named (label_at self.now.labels.effects.items x.number)) (map effect_of self.now.world.tables.effects.items)) }
+        ensures { result ≡ length (filter (λ x. is_named (label_at (labels_of self.now.labels).effects x.number)) (map effect_of self.now.world.tables.effects.items)) }
     {
         named_count(&self.labels.effects, &self.world.tables.effects)
     }
 
     // The refusal of one effect more than the most that a command made. Where fewer live in all none is looked up.
     fn effect_refusal(&self) -> Option<Refusal>
-        ensures { result ≡ one_too_many MOST_EFFECTS (length (filter (λ x. is_named (label_at self.now.labels.effects.items x.number))
+        ensures { result ≡ one_too_many MOST_EFFECTS (length (filter (λ x. is_named (label_at (labels_of self.now.labels).effects x.number))
             (map effect_of self.now.world.tables.effects.items))) limit.Effects }
     {
         if self.world.tables.effects.len() < MOST_EFFECTS {

@@ -1,2 +1,3 @@
+mod Lasting
 mod Told
 pub mod Shared

@@ -1,5 +1,6 @@
 -- What the program holds, as the definitions speak of it.
-use Rattle.std.specs.Prelude.{◌≡◌}
+use Rattle.std.specs.Prelude.{◌≡◌, nat_eq}
+use Rattle.indexmap.specs.IndexMap.{get}
 use Rattle.live_model.specs.Labels as plain
 use Rattle.live_labels.specs.declared.labels.Labels.{Labels}
 
@@ -10,7 +11,7 @@ labels_of l = record {
   owners = l.owners.items;
   pages = l.pages.items;
   watchers = l.watchers.items;
-  effects = l.effects.items;
+  effects = get nat_eq l.effects;
 }
 
 -- labels of effects aside all is called as before

@@ -1,13 +1,15 @@
 // What a thing is called. What was never made is called so too.
-ghost use Rattle.std.specs.Prelude.{◌≡◌, ◌++◌, ◌∷◌, ◌-◌, ◌^◌, [], min, IfOk, OnOk, length, map};
+ghost use Rattle.std.specs.Prelude.{◌≡◌, ◌-◌, ◌^◌, min, IfOk, OnOk, Some, length, map, nat_eq};
 ghost use Rattle.std.specs.List.{filter};
+ghost use Rattle.indexmap.specs.IndexMap.{get};
 ghost use Rattle.effect_tables.specs.Linking.{thing_of};
 ghost use Rattle.effect_tables.specs.Placed.{effect_of};
-ghost use Rattle.live_model.specs.Labels.{child_label, is_named, is_other, label_at, label_of, name_at, named, nobody};
+ghost use Rattle.live_model.specs.Labels.{child_label, is_named, label_at, label_of, lasting, name_at, named, nobody, with_label};
 ghost use Rattle.live_labels.specs.Views.{labels_of};
 
-use crate::labels::{EffectLabel, Labels};
+use crate::labels::Labels;
 use effect_tables::{Effect, Thing};
+use indexmap::IndexMap;
 use live_cmd::NameList;
 use live_entries::{ChildPath, Label};
 use sig_base::{EffectId, Name, NameFault, NoMemory, NodeId, WatcherId};
@@ -84,19 +86,21 @@ fn named(alloc: Global, names: &[Name], number: u128) -> Result<Label, NoMemory>
 /// The label of an effect.
 pub(crate) fn label_at(
     alloc: Global,
-    labels: &[EffectLabel],
+    labels: &IndexMap<u128, Label>,
     id: EffectId,
 ) -> Result<Label, NoMemory>
-    ensures { IfOk result (λ l. l ≡ label_at labels.now id) }
+    ensures { IfOk result (λ l. l ≡ label_at (get nat_eq labels.now) id) }
 {
-    for held in labels {
-        if id == held.0 {
-            let label = held.1.copy()?;
-            return Ok(label);
+    match labels.get(&id.number()) {
+        Some(label) => {
+            let label = label.copy()?;
+            Ok(label)
+        }
+        None => {
+            let name = nobody(alloc)?;
+            Ok(Label::named(alloc, name))
         }
     }
-    let name = nobody(alloc)?;
-    Ok(Label::named(alloc, name))
 }
 
 /// The label of a thing.
@@ -140,20 +144,36 @@ fn child_label(alloc: Global, parent: &Label, number: u64) -> Result<Label, NoMe
     })
 }
 
+/// An effect gets a label.
+///
+/// # Errors
+///
+/// `NoMemory` where memory ran out.
+pub fn label_effect(
+    labels: &mut IndexMap<u128, Label>,
+    id: EffectId,
+    label: Label,
+) -> Result<(), NoMemory>
+    ensures { OnOk result (get nat_eq labels.new ≡ with_label id (Some label) (get nat_eq labels.old)) }
+{
+    labels.insert(id.number(), label)?;
+    Ok(())
+}
+
 /// A child gets its label, by that of its parent.
 pub(crate) fn name_child(
-    effects: &mut Vec<EffectLabel>,
+    alloc: Global,
+    labels: &mut IndexMap<u128, Label>,
     child: EffectId,
     parent: EffectId,
     number: u64,
 ) -> Result<(), NoMemory>
-    ensures { OnOk result (effects.new.items
-        ≡ effects.old.items ++ (child, child_label (label_at effects.old.items parent) number) ∷ []) }
+    ensures { OnOk result (get nat_eq labels.new
+        ≡ with_label child (Some (child_label (label_at (get nat_eq labels.old) parent) number)) (get nat_eq labels.old)) }
 {
-    let alloc = *effects.allocator();
-    let parent = label_at(alloc, effects, parent)?;
+    let parent = label_at(alloc, labels, parent)?;
     let label = child_label(alloc, &parent, number)?;
-    effects.push((child, label))?;
+    label_effect(labels, child, label)?;
     Ok(())
 }
 
@@ -164,35 +184,29 @@ fn is_named(label: &Label) -> bool
     label.path.as_slice().len() == 0
 }
 
-// Whether it is the label of another effect than this one, or of one that a command made.
-fn is_other(id: EffectId, held: &EffectLabel) -> bool
-    ensures { result ≡ is_other id held.now }
+// Whether a command made the effect of a number.
+fn is_made_by_name(labels: &IndexMap<u128, Label>, id: EffectId) -> bool
+    ensures { result ≡ is_named (label_at (get nat_eq labels.now) id) }
 {
-    !(id == held.0 && !is_named(&held.1))
+    match labels.get(&id.number()) {
+        Some(label) => is_named(label),
+        None => true,
+    }
 }
 
 /// The label of an effect goes out, unless a command made it.
-pub(crate) fn unname_child(effects: &mut Vec<EffectLabel>, id: EffectId)
-    ensures { effects.new.items ≡ filter (is_other id) effects.old.items }
+pub(crate) fn unname_child(labels: &mut IndexMap<u128, Label>, id: EffectId)
+    ensures { get nat_eq labels.new ≡ with_label id (lasting (get nat_eq labels.old id)) (get nat_eq labels.old) }
 {
-    effects.retain(|held| is_other(id, held));
-}
-
-// Whether a command made the effect of a number.
-fn is_made_by_name(labels: &[EffectLabel], id: EffectId) -> bool
-    ensures { result ≡ is_named (label_at labels.now id) }
-{
-    for held in labels {
-        if id == held.0 {
-            return is_named(&held.1);
-        }
+    if is_made_by_name(labels, id) {
+        return;
     }
-    true
+    labels.swap_remove(&id.number());
 }
 
 /// How many of these effects a command made.
-pub fn named_count(labels: &[EffectLabel], effects: &[Effect]) -> usize
-    ensures { result ≡ length (filter (λ x. is_named (label_at labels.now x.number)) (map effect_of effects.now)) }
+pub fn named_count(labels: &IndexMap<u128, Label>, effects: &[Effect]) -> usize
+    ensures { result ≡ length (filter (λ x. is_named (label_at (get nat_eq labels.now) x.number)) (map effect_of effects.now)) }
 {
     let mut count = 0;
     for effect in effects {

@@ -3,20 +3,19 @@ ghost use Rattle.std.specs.Prelude.{◌≡◌};
 ghost use Rattle.live_model.specs.Labels.{no_labels};
 ghost use Rattle.live_labels.specs.Views.{labels_of};
 
+use indexmap::IndexMap;
 use live_entries::Label;
-use sig_base::{EffectId, Name};
+use sig_base::Name;
 use std::alloc::Global;
 
-/// The number of an effect, and its label.
-pub type EffectLabel = (EffectId, Label);
-
-/// The names of signals, owners, pages and watchers, each at its number, and the labels of effects with their numbers.
+/// The names of signals, owners, pages and watchers, each at its number, and the labels of effects by their numbers. An effect that a
+/// command made keeps its label, a child has it as long as it lives.
 pub struct Labels {
     pub signals: Vec<Name>,
     pub owners: Vec<Name>,
     pub pages: Vec<Name>,
     pub watchers: Vec<Name>,
-    pub effects: Vec<EffectLabel>,
+    pub effects: IndexMap<u128, Label>,
 }
 
 impl Drop for Labels {
@@ -41,7 +40,7 @@ impl Labels {
             owners: Vec::new(alloc),
             pages: Vec::new(alloc),
             watchers: Vec::new(alloc),
-            effects: Vec::new(alloc),
+            effects: IndexMap::new(alloc),
         }
     }
 }

@@ -5,6 +5,6 @@ mod calling;
 mod labels;
 mod telling;
 
-pub use calling::{named_count, names_of_signals};
-pub use labels::{EffectLabel, Labels};
+pub use calling::{label_effect, named_count, names_of_signals};
+pub use labels::Labels;
 pub use telling::{tell_all, tell_runs};

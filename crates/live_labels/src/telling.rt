@@ -196,7 +196,7 @@ fn rename_gone(labels: &mut Labels, thing: &Thing)
 }
 
 // Labels are given, and go out, by an event.
-fn rename(labels: &mut Labels, event: &Event) -> Result<(), NoMemory>
+fn rename(alloc: Global, labels: &mut Labels, event: &Event) -> Result<(), NoMemory>
     ensures effects { OnOk result (labels_of labels.new ≡ renamed event.now (labels_of labels.old)) }
     ensures names { KeepsNames labels.old labels.new }
 {
@@ -206,7 +206,13 @@ fn rename(labels: &mut Labels, event: &Event) -> Result<(), NoMemory>
             parent,
             label,
         } => {
-            name_child(&mut labels.effects, *child, *parent, u64::from(*label))?;
+            name_child(
+                alloc,
+                &mut labels.effects,
+                *child,
+                *parent,
+                u64::from(*label),
+            )?;
             Ok(())
         }
         Event::Gone(thing) => {
@@ -236,9 +242,10 @@ fn tell_one(told: &mut Vec<Entry>, labels: &mut Labels, event: &Event) -> Result
     ensures labels { OnOk result (labels_of labels.new ≡ renamed event.now (labels_of labels.old)) }
     ensures names { KeepsNames labels.old labels.new }
 {
-    let entry = entry_of(*told.allocator(), labels, event)?;
+    let alloc = *told.allocator();
+    let entry = entry_of(alloc, labels, event)?;
     put_some(told, entry)?;
-    rename(labels, event)?;
+    rename(alloc, labels, event)?;
     Ok(())
 }
 

@@ -1,21 +1,21 @@
 -- What things are called in what is told.
-use Rattle.std.specs.Prelude.{ℕ, ◌==◌, ◌&&◌, not, Bool, List, [], ◌∷◌, ◌++◌, length, slice_get, unwrap_or, codes, if◌then◌else◌}
+use Rattle.std.specs.Prelude.{ℕ, ◌==◌, Bool, List, [], ◌∷◌, ◌++◌, Option, Some, None, length, slice_get, unwrap_or, codes, cond, if◌then◌else◌}
 use Rattle.std.specs.List.{filter}
 use Rattle.effect_model.specs.Owning.{Thing, the_signal, the_owner, the_effect, the_page, the_watcher}
 use Rattle.effect_model.specs.Worlds.{Effect, Event, gone, made_child}
 use Rattle.live_entries.specs.declared.label.Label.{Label}
 
--- the names of signals, owners, pages and watchers, each at its number, and the labels of effects with their numbers
+-- the names of signals, owners, pages and watchers, each at its number, and the label of each effect that has one
 pub record Labels : Type 0 where
   pub signals : List (List ℕ)
   pub owners : List (List ℕ)
   pub pages : List (List ℕ)
   pub watchers : List (List ℕ)
-  pub effects : List (ℕ × Label)
+  pub effects : ℕ → Option Label
 
 -- nothing was made
 abbrev pub no_labels : Labels
-no_labels = record { signals = []; owners = []; pages = []; watchers = []; effects = [] }
+no_labels = record { signals = []; owners = []; pages = []; watchers = []; effects = λ e. None }
 
 -- what would be told of what was never made
 abbrev pub nobody : List ℕ
@@ -34,9 +34,8 @@ abbrev pub is_named : Label → Bool
 is_named l = length l.path == 0
 
 -- the label of an effect
-abbrev pub label_at : List (ℕ × Label) → ℕ → Label
-label_at [] n = named nobody
-label_at (l ∷ ls) n = if n == l.0 then l.1 else label_at ls n
+abbrev pub label_at : (ℕ → Option Label) → ℕ → Label
+label_at labels n = unwrap_or (labels n) (named nobody)
 
 -- the label of a thing
 abbrev pub label_of : Labels → Thing → Label
@@ -50,15 +49,20 @@ label_of labels (the_watcher n) = named (name_at labels.watchers n)
 abbrev pub child_label : Label → ℕ → Label
 child_label l k = record { name = l.name; path = l.path ++ k ∷ [] }
 
--- whether it is the label of another effect than this one, or of one that a command made
-abbrev pub is_other : ℕ → ℕ × Label → Bool
-is_other n l = not (n == l.0 && not (is_named l.1))
+-- the labels, of which this effect has that one, or none
+abbrev pub with_label : ℕ → Option Label → (ℕ → Option Label) → ℕ → Option Label
+with_label n l labels = λ e. cond (n == e) l (labels e)
+
+-- what is left of a label when its effect ends: that of what a command made
+abbrev pub lasting : Option Label → Option Label
+lasting None = None
+lasting (Some l) = if is_named l then Some l else None
 
 -- A child has its label from its making to its end. What a command made keeps its name.
 abbrev pub relabelled : Event → Labels → Labels
 relabelled (made_child child parent k) labels =
-    record labels { effects = labels.effects ++ (child, child_label (label_at labels.effects parent) k) ∷ [] }
-relabelled (gone (the_effect n)) labels = record labels { effects = filter (is_other n) labels.effects }
+    record labels { effects = with_label child (Some (child_label (label_at labels.effects parent) k)) labels.effects }
+relabelled (gone (the_effect n)) labels = record labels { effects = with_label n (lasting (labels.effects n)) labels.effects }
 relabelled e labels = labels
 
 -- the labels after these events

@@ -53,7 +53,7 @@ use Rattle.live_entries.specs.declared.refusal.Refusal.{Refusal}
 use Rattle.live_entries.specs.declared.refusal.Refusal.TheVariants as refusal
 use Rattle.live_model.specs.declared.names.Kind.{Kind}
 use Rattle.live_model.specs.declared.names.Kind.TheVariants as kind
-use Rattle.live_model.specs.Labels.{Labels, no_labels, name_at, named as a_label, label_at, label_of, relabelled, labels_after, named_count}
+use Rattle.live_model.specs.Labels.{Labels, no_labels, name_at, named as a_label, label_at, label_of, with_label, relabelled, labels_after, named_count}
 use Rattle.live_model.specs.Linking.{recipe_of, owner_of, linked_body, linked_template}
 use Rattle.live_model.specs.Names.{Names, meaning_of, number_of, thing_named, first_refusal, first_within}
 use Rattle.live_model.specs.Pages.{Template, template_in, Page, page_html, scratch_html, asked_of}
@@ -164,7 +164,7 @@ with_owner m n inside =
 abbrev pub with_effect : Machine → List ℕ → Bodies → Option ℕ → Machine
 with_effect m n b inside =
     let e = m.world.made.effects in
-    with_name (with_labels m (record (m.labels) { effects = m.labels.effects ++ (e, a_label n) ∷ [] })
+    with_name (with_labels m (record (m.labels) { effects = with_label e (Some (a_label n)) m.labels.effects })
     (with_new_effect (linked_body m.names n e b) inside m.world))
     n kind.Effect e
 

@@ -46,7 +46,7 @@ use Rattle.live_model.specs.declared.names.Kind.{Kind}
 use Rattle.live_model.specs.declared.names.Kind.TheVariants as kind
 use Rattle.live_model.specs.declared.names.Meaning.{Meaning}
 use Rattle.live_model.specs.declared.names.Need.TheVariants as need
-use Rattle.live_model.specs.Labels.{Labels, labels_after, named as a_label}
+use Rattle.live_model.specs.Labels.{Labels, labels_after, named as a_label, with_label}
 use Rattle.live_model.specs.Linking.{linked_body, linked_template, owner_of, recipe_of}
 use Rattle.live_model.specs.Machine as machine
 use Rattle.live_model.specs.Machine.{Machine, Told, acted, acted_on_pages, after_turns, body_refusal, disposing, done, entries_of}
@@ -335,7 +335,7 @@ done_step one env m (command.Named v n) lends s read e = verb_step env m v n (nu
 done_step one env m (command.Effect n b inside) lends s read e =
     let owner : Option ℕ = owner_of m.names inside in
     let i : ℕ = m.world.made.effects in
-    make_step m n (record { kind = kind.Effect; number = i }) (record (m.labels) { effects = m.labels.effects ++ (i, a_label n) ∷ [] })
+    make_step m n (record { kind = kind.Effect; number = i }) (record (m.labels) { effects = with_label i (Some (a_label n)) m.labels.effects })
     (with_new_effect (linked_body m.names n i b) owner m.world) s (s.world.0, made_good owner (the_effect i) m.world.owned s.world.1)
 done_step one env m (command.Template n t) lends s read e =
     let x : Template = linked_template m.names t in

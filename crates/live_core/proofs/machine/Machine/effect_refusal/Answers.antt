@@ -4,6 +4,7 @@ use Rattle.effect_model.specs.Worlds as told
 use Rattle.effect_tables.specs.Placed.{effect_of}
 use Rattle.effect_tables.specs.declared.tables.TheConstants.{MOST_EFFECTS}
 use Rattle.live_entries.specs.declared.refusal.LimitWord.TheVariants as limit
+use Rattle.live_labels.specs.Views.{labels_of}
 use Rattle.live_model.specs.Labels.{is_named, label_at}
 use Rattle.live_core.proofs.Doing.{no_more_named, none_below}
 use Rattle.live_core.proofs.machine.Machine.effect_refusal.Goals as goal
@@ -11,7 +12,7 @@ use Rattle.live_core.proofs.machine.Machine.effect_refusal.Goals as goal
 pub returns-then-len-lt-MOST_EFFECTS : goal.returns-then-len-lt-MOST_EFFECTS
 returns-then-len-lt-MOST_EFFECTS c =
     let m = c.args.self.now in
-    let made : told.Effect → Bool = λ x. is_named (label_at m.labels.effects.items x.number) in
+    let made : told.Effect → Bool = λ x. is_named (label_at (labels_of m.labels).effects x.number) in
     let few = no_more_named made m.world.tables.effects.items in
     let count = c.len.ensures in
     let below = c.if-len-lt-MOST_EFFECTS.true in

@@ -3,7 +3,7 @@ use Rattle.effect_tables.specs.Placed.{at_rest, is_open}
 use Rattle.live_cmd.specs.declared.command.Command.TheVariants as command
 use Rattle.live_model.specs.declared.names.Need.TheVariants as need
 use Rattle.live_core.proofs.Rightly.{inside_open, neither, new_name, refused_at, uses_fine}
-use Rattle.std.proofs.Common.{true, ◌≡◌, ◌∙◌, ◌∷◌, [], ◌++◌, ◌+◌, refl, sym, ap, subst, arith}
+use Rattle.std.proofs.Common.{true, ◌≡◌, ◌∙◌, [], Some, refl, sym, ap, subst, arith}
 use Rattle.effect_model.specs.Commands.{with_new_effect}
 use Rattle.sig_untrack.specs.Stated.{no_bodies}
 use Rattle.effect_tables.specs.Fitting.{AreFitting}
@@ -12,7 +12,7 @@ use Rattle.sig_effect.specs.Agreeing.{AreRuled}
 use Rattle.effect_world.specs.Agreeing.{IsSound}
 use Rattle.effect_world.specs.Wholes.{whole_of}
 use Rattle.live_model.specs.declared.names.Kind.TheVariants as kind
-use Rattle.live_model.specs.Labels.{named}
+use Rattle.live_model.specs.Labels.{named, with_label}
 use Rattle.live_model.specs.Linking.{linked_body, links_of, owner_of}
 use Rattle.live_labels.specs.Views.{labels_of}
 use Rattle.live_core.specs.Keeping.{Holds}
@@ -27,7 +27,7 @@ returns-clause-steps c = λ hosts slacks asked sound.
     let n = c.in_ok-name_effect.ensures in
     let d = e.does hosts asked sound in
     let number = m.world.tables.effects_made in
-    let labels = record (labels_of m.labels) { effects = m.labels.effects.items ++ (number, named c.args.name) ∷ [] } in
+    let labels = record (labels_of m.labels) { effects = with_label number (Some (named c.args.name)) (labels_of m.labels).effects } in
     let body : body_of number (record { body = c.into_body.result; links = c.in_ok-links.links }) [] ≡ linked_body m.names c.args.name number c.args.body =
     (λ i. body_along number (c.into_body.ensures i)
     ((c.in_ok-links.ensures no_bodies ∙ ap (links_of m.names c.args.name) c.as_body.ensures) i) 0 []) in
@@ -36,7 +36,7 @@ returns-clause-steps c = λ hosts slacks asked sound.
     (ap (whole_of asked) n.parts.world ∙ d.whole ∙ (λ i. at_rest (with_new_effect (body i) (c.owner_of-owner.ensures i) (whole_of asked m.world))))
     (record {
       names = n.names;
-      labels = n.labels ∙ ap (λ k. record (labels_of m.labels) { effects = m.labels.effects.items ++ (k, named c.args.name) ∷ [] }) e.id;
+      labels = n.labels ∙ ap (λ k. record (labels_of m.labels) { effects = with_label k (Some (named c.args.name)) (labels_of m.labels).effects }) e.id;
       templates = n.parts.templates;
       pages = n.parts.pages;
     }) c.new.ensures.items
@@ -50,7 +50,7 @@ returns-clause-leaves c = λ hosts asked rules sound.
     let whole = ap (whole_of asked) n.parts.world ∙ (e.does hosts asked sound).whole in
     let same = ap (λ w. w.signals) n.parts.world ∙ e.signals in
     leaves_other asked rules m c.name_effect.new.self c.args.name kind.Effect c.in_ok-id.id
-    (record (labels_of m.labels) { effects = m.labels.effects.items ++ (c.in_ok-id.id, named c.args.name) ∷ [] }) c.requires.ready other_effect
+    (record (labels_of m.labels) { effects = with_label c.in_ok-id.id (Some (named c.args.name)) (labels_of m.labels).effects }) c.requires.ready other_effect
     (record { names = n.names; labels = n.labels; templates = n.parts.templates; pages = n.parts.pages }) refl refl
     (record { watchers = ap (λ x. x.made.watchers) whole; pages = ap (λ x. x.pages) whole; paged = ap (λ x. x.made.pages) whole }) same
     (let a = ap (λ s. s.graph.state.worn) same in let b = ap (λ x. x.made.effects) whole in omega (arith, a, b))
