@@ -1,7 +1,6 @@
 // Reads and writes that fail, each call in turn, and sinks that fill.
 ghost use Rattle.std.specs.Prelude.{◌<◌};
 
-use crate::limits::repeated;
 use crate::run::{FIRST_OUTPUT, FIRST_PAGE, Run, run_between, run_over};
 use live_run::Status;
 use sig_io::{MemSink, MemSource};
@@ -143,6 +142,15 @@ fn tells_each_failed_write(rt: HostRuntime) -> Result<(), Fail> {
     assert_writes(&rt, alloc, FIRST_PAGE, FIRST_OUTPUT, 4, 26)?;
     assert_writes(&rt, alloc, DIAMOND, DIAMOND_OUTPUT, 4, 12)?;
     assert_writes(&rt, alloc, DIAMOND, DIAMOND_OUTPUT, 1, 43)
+}
+
+// The text so often, one after the other.
+fn repeated(alloc: Global, text: &str, count: u32) -> Result<String, AllocError> {
+    let mut out = String::new(alloc);
+    for _ in 0..count {
+        out.push_str(text)?;
+    }
+    Ok(out)
 }
 
 // A line of 1,031 bytes.

@@ -1,6 +1,7 @@
 // Computeds of host formulas: what they come to, when they run, and how often they were asked when they are dropped.
 
-use crate::rows::{assert_all_print, assert_all_trace};
+use crate::rows::{assert_all_print, assert_all_trace, assert_prints};
+use std::alloc::{AllocError, Global};
 use std::test::Fail;
 
 #[test]
@@ -59,5 +60,37 @@ fn prints_sample_formulas(rt: HostRuntime) -> Result<(), Fail> {
                 "n ! slot\nerror 1 4\nerror 1 5\nerror 2 zz\nerror 3 a\nerror 7 9\nerror 1 9\nerror 2 zz\nerror 2 t\n",
             ),
         ],
+    )
+}
+
+// For each number below the count: what stands before it, the number, and what stands behind it.
+fn numbered(alloc: Global, count: u32, before: &str, after: &str) -> Result<String, AllocError> {
+    let mut lines = String::new(alloc);
+    for number in 0..count {
+        lines.push_str(before)?;
+        lines.push_str(number.to_string(alloc)?.as_str())?;
+        lines.push_str(after)?;
+    }
+    Ok(lines)
+}
+
+// Cells, and computeds of host formulas that have 65 or 64 of them.
+fn slotted(alloc: Global) -> Result<String, AllocError> {
+    let cells = numbered(alloc, 65, "cell c", " = 1\n")?;
+    let most = numbered(alloc, 63, "c", ", ")?;
+    format!(in alloc;
+        "{cells}computed h = host 0 ({most}c63, c64)\ncomputed h = host 9 ({most}c63, c64)\ncomputed h = host 2 ({most}c63)\nget h\nrewire h = host 1 ({most}c63, c64)\n"
+    )
+}
+
+// The most slots of a host formula, reached and passed by one.
+#[test]
+fn bounds_a_host_formula(rt: HostRuntime) -> Result<(), Fail> {
+    let script = slotted(rt.alloc())?;
+    assert_prints(
+        &rt,
+        rt.alloc(),
+        script.as_str(),
+        "error 5 sources\nerror 5 sources\nh = 1\nerror 5 sources\n",
     )
 }

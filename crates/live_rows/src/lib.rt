@@ -2,13 +2,7 @@
 #![tactic(auto)]
 
 #[cfg(test)]
-mod bounds;
-#[cfg(test)]
-mod clean;
-#[cfg(test)]
 mod cuts;
-#[cfg(test)]
-mod deep;
 #[cfg(test)]
 mod effects;
 #[cfg(test)]
@@ -19,8 +13,6 @@ mod faults;
 mod graph;
 #[cfg(test)]
 mod hosts;
-#[cfg(test)]
-mod limits;
 #[cfg(test)]
 mod lists;
 #[cfg(test)]

@@ -222,3 +222,14 @@ fn tells_its_usage(rt: HostRuntime) -> Result<(), Fail> {
         ],
     )
 }
+
+#[test]
+fn refuses_bytes_that_are_no_text(rt: HostRuntime) -> Result<(), Fail> {
+    let alloc = rt.alloc();
+    assert_output(&rt, alloc, "live run", b"get \xff\n", "error 1 1\n")?;
+    // a sequence of two bytes that the line's end cuts off
+    let cut = b"cell a = \"x\"\nget \xc2\nget a";
+    assert_output(&rt, alloc, "live run", cut, "error 1 2\na = \"x\"\n")?;
+    // a passed-over line has any bytes
+    assert_output(&rt, alloc, "live run", b"# \xff\nget a", "error 2 a\n")
+}

@@ -1,6 +1,7 @@
 // Thousands of signals, one below the other or one after the other.
 
-use crate::limits::{assert_joined, numbered, repeated};
+use crate::pieces::Piece::{Numbered, Often, Once};
+use crate::run::{assert_both_long, assert_long, assert_prints};
 use std::alloc::{AllocError, Global};
 use std::test::Fail;
 
@@ -19,54 +20,51 @@ fn chain(alloc: Global, count: u32) -> Result<String, AllocError> {
 fn goes_along_a_long_chain(rt: HostRuntime) -> Result<(), Fail> {
     let alloc = rt.alloc();
     let chain = chain(alloc, 10_000)?;
-    assert_joined(
-        &rt,
-        alloc,
-        &[chain.as_str(), "get c10000\nset c0 5\nget c10000\n"],
-        "c10000 = 10000\nc10000 = 10005\n",
-    )?;
-    // who is told of a change at its start, and a page and an effect at its end
-    assert_joined(
+    assert_long(
         &rt,
         alloc,
         &[
-            chain.as_str(),
-            "template t\ntext c10000\nend\nmount p t\neffect e\nlog c10000\nend\nwatcher w\nwatch w c10000\nset c0 5\nflush\n",
+            Once(chain.as_str()),
+            Once("get c10000\nset c0 5\nget c10000\n"),
+        ],
+        "c10000 = 10000\nc10000 = 10005\n",
+    )?;
+    // who is told of a change at its start, and a page and an effect at its end
+    assert_long(
+        &rt,
+        alloc,
+        &[
+            Once(chain.as_str()),
+            Once(
+                "template t\ntext c10000\nend\nmount p t\neffect e\nlog c10000\nend\nwatcher w\nwatch w c10000\nset c0 5\nflush\n",
+            ),
         ],
         "op p insert 0 0 (1 \"10000\")\npage p 5\n10000\nnotify w\nlog 10005\nop p text 1 \"10005\"\npage p 5\n10005\n",
     )?;
     // its start reads its end, and no more; a computed in its middle ends
-    assert_joined(
+    assert_long(
         &rt,
         alloc,
         &[
-            chain.as_str(),
-            "get c10000\nrewire c1 = c10000 + 1\nget c10000\nget c1\nrewire c1 = c0 + 1\nget c10000\ndispose c5000\nget c4999\nget c10000\n",
+            Once(chain.as_str()),
+            Once(
+                "get c10000\nrewire c1 = c10000 + 1\nget c10000\nget c1\nrewire c1 = c0 + 1\nget c10000\ndispose c5000\nget c4999\nget c10000\n",
+            ),
         ],
         "c10000 = 10000\nc10000 ! cycle\nc1 ! cycle\nc10000 = 10000\nc4999 = 4999\nc10000 ! gone\n",
     )
 }
 
-// So often a cell and its end.
-fn made_and_ended(alloc: Global, count: u32) -> Result<String, AllocError> {
-    let mut lines = String::new(alloc);
-    for number in 0..count {
-        let both = format!(in alloc; "cell a{number} = 0\ndispose a{number}\n")?;
-        lines.push_str(both.as_str())?;
-    }
-    Ok(lines)
-}
-
 // What has ended takes no room, however much of it there was.
 #[test]
 fn counts_what_lives(rt: HostRuntime) -> Result<(), Fail> {
-    let alloc = rt.alloc();
-    let ended = made_and_ended(alloc, 20_000)?;
-    let cells = numbered(alloc, 16_385, "cell b", " = 0\n")?;
-    assert_joined(
+    assert_long(
         &rt,
-        alloc,
-        &[ended.as_str(), cells.as_str()],
+        rt.alloc(),
+        &[
+            Numbered(&["cell a", " = 0\ndispose a", "\n"], 20_000),
+            Numbered(&["cell b", " = 0\n"], 16_385),
+        ],
         "error 5 nodes\n",
     )
 }
@@ -97,17 +95,34 @@ fn sums(alloc: Global, count: u32) -> Result<String, AllocError> {
 fn asks_a_clean_graph_often(rt: HostRuntime) -> Result<(), Fail> {
     let alloc = rt.alloc();
     let sums = sums(alloc, 5000)?;
-    let asks = repeated(alloc, "set u 1\nget c5000\nset u 0\nget c5000\n", 50_000)?;
-    let output = repeated(alloc, "c5000 = 0\n", 100_001)?;
-    assert_joined(
+    assert_both_long(
         &rt,
         alloc,
         &[
-            "cell u = 0\ncell c0 = 0\n",
-            sums.as_str(),
-            "get c5000\n",
-            asks.as_str(),
+            Once("cell u = 0\ncell c0 = 0\n"),
+            Once(sums.as_str()),
+            Once("get c5000\n"),
+            Often("set u 1\nget c5000\nset u 0\nget c5000\n", 50_000),
         ],
-        output.as_str(),
+        &[Often("c5000 = 0\n", 100_001)],
+    )
+}
+
+// Eighty computeds, each the sum of the two before it, are evaluated once each.
+#[test]
+fn evaluates_each_computed_once(rt: HostRuntime) -> Result<(), Fail> {
+    let alloc = rt.alloc();
+    let mut script = String::from_str(alloc, "cell c0 = 1\ncell c1 = 1\n")?;
+    for number in 2..82u32 {
+        let (one, two) = (number - 1, number - 2);
+        let line = format!(in alloc; "computed c{number} = c{one} + c{two}\n")?;
+        script.push_str(line.as_str())?;
+    }
+    script.push_str("get c81\nset c1 0\nget c81\n")?;
+    assert_prints(
+        &rt,
+        alloc,
+        script.as_str(),
+        "c81 = 61305790721611591\nc81 = 23416728348467685\n",
     )
 }

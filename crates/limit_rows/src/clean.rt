@@ -1,6 +1,7 @@
 // A deep graph that stays clean, while a cell is set that it doesn't read.
 
-use crate::limits::{assert_joined, repeated};
+use crate::pieces::Piece::{Often, Once};
+use crate::run::assert_both_long;
 use std::alloc::{AllocError, Global};
 use std::test::Fail;
 
@@ -26,17 +27,15 @@ fn sums(alloc: Global, count: u32) -> Result<String, AllocError> {
 fn passes_over_what_is_clean(rt: HostRuntime) -> Result<(), Fail> {
     let alloc = rt.alloc();
     let sums = sums(alloc, 511)?;
-    let asks = repeated(alloc, "set u 1\nget c510\nset u 0\nget c510\n", 512)?;
-    let output = repeated(alloc, "c510 = 0\n", 1025)?;
-    assert_joined(
+    assert_both_long(
         &rt,
         alloc,
         &[
-            "cell u = 0\ncell c0 = 0\n",
-            sums.as_str(),
-            "get c510\n",
-            asks.as_str(),
+            Once("cell u = 0\ncell c0 = 0\n"),
+            Once(sums.as_str()),
+            Once("get c510\n"),
+            Often("set u 1\nget c510\nset u 0\nget c510\n", 512),
         ],
-        output.as_str(),
+        &[Often("c510 = 0\n", 1025)],
     )
 }
