@@ -3,8 +3,7 @@ use Rattle.std.proofs.Common.{◌≡◌, ◌≤◌, ◌<◌, ◌+◌, ◌^◌, �
 use Rattle.std.specs.Prelude.{is_some, slice_get}
 use Rattle.std.specs.List.{All, AllByRecursion, filter}
 use Rattle.std.proofs.lemmas.List.{length-map}
-use Rattle.std.proofs.lemmas.Bool.{lt-ltb, ltb-true}
-use Rattle.std.proofs.lemmas.List.Sums.{count_by-le-length, length-filter}
+use Rattle.std.proofs.lemmas.Bool.{ltb-true}
 use Rattle.signal_model.specs.Kept.{AreGiven}
 use Rattle.signal_model.specs.Recipes.{Hosts, Recipe}
 use Rattle.signal_model.specs.Standing.{Signals, Stands, IsGone, IsCell, IsComputed, is_computed, is_in, is_there, standing}
@@ -15,7 +14,7 @@ use Rattle.effect_model.specs.Acts.{host_of, host_refused, is_free, with_use}
 use Rattle.effect_laws.specs.Counts.{KeepsCounts}
 use Rattle.sig_effect.specs.Kinds.{AreKindsOf, KeepsKinds}
 use Rattle.effect_tables.specs.declared.effect.Effect.{Effect}
-use Rattle.effect_tables.specs.Placed.{at_rest, effect_of}
+use Rattle.effect_tables.specs.Placed.{at_rest}
 use Rattle.sig_host.specs.Hosts.{HostPlace}
 use Rattle.sig_nodes.specs.Answers.{HasFewSlots}
 use Rattle.sig_nodes.specs.States.{Seen, is_cell, is_given}
@@ -90,18 +89,6 @@ room_below most count word e = at (nat_lt count most) refl e
 pub anyway : {A E P : Type 0} (r : Result A E) → P → OnOk r P
 anyway (Ok x) p = p
 anyway (Err e) p = tt
-
--- where there is room there is no refusal
-pub none_below : (most count : ℕ) (word : LimitWord) → count < most → one_too_many most count word ≡ None
-none_below most count word lt = ap (λ (b : Bool). cond b None (Some (refusal.Limit word))) (lt-ltb count most lt)
-
--- of so many effects no more were made by a command
-pub no_more_named : (P : told.Effect → Bool) (xs : List Effect) → length (filter P (map effect_of xs)) ≤ length xs
-no_more_named P xs =
-    let few = length-filter P (map effect_of xs) in
-    let all = count_by-le-length P (map effect_of xs) in
-    let same = length-map xs effect_of in
-    omega (arith, few, all, same)
 
 -- what is below isn't the most
 pub not_most : (count most : ℕ) → count < most → count ≡ most → ⊥

@@ -5,4 +5,4 @@ mod Doing
 mod Making
 mod Mounts
 mod Watching
-mod Places
+pub mod Shared

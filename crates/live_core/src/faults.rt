@@ -1,4 +1,4 @@
-// Owners, effects and pages are made, and of a command that isn't refused want of memory is the only fault.
+// Owners, effects and pages are made; want of memory is the only fault.
 ghost use Rattle.std.specs.Prelude.{◌≡◌, ◌<◌, ◌+◌, ◌^◌, true, [], List, IfOk, IfErr, OnOk, length};
 ghost use Rattle.signal_model.specs.Recipes.{Hosts};
 ghost use Rattle.effect_model.specs.Commands.{with_new_effect, with_new_owner, with_new_page};
@@ -14,20 +14,10 @@ ghost use Rattle.effect_world.specs.Agreeing.{Agrees, AreOwned, Does, IsSound};
 
 use effect_tables::Script;
 use effect_world::World;
-use sig_base::{EffectId, NoMemory, OwnerId, PageId};
+use sig_base::{EffectId, OwnerId, PageId};
 use sig_effect::EffectFault;
 use sig_owner::OwnFault;
 use std::alloc::Global;
-
-/// Want of memory.
-pub(crate) fn memory_of(why: EffectFault) -> NoMemory
-    requires { why ≡ fault.NoMemory }
-{
-    match why {
-        EffectFault::NoMemory => NoMemory,
-        EffectFault::Limit | EffectFault::Gone => unreachable!(),
-    }
-}
 
 /// Makes an owner inside one that lives, or at the top, where there is room for one.
 pub(crate) fn make_owner(world: &mut World, inside: Option<OwnerId>) -> Result<OwnerId, EffectFault>

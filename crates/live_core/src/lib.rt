@@ -1,16 +1,15 @@
-//! The machine that does a script's commands, one step of the plain machine for each.
+//! What a script made, and what each command that isn't refused does to it.
 #![tactic(auto)]
 
 mod answers;
 mod changes;
 mod faults;
 mod listing;
-mod live;
 mod machine;
 mod makings;
 mod mounting;
 mod naming;
 mod performing;
-mod refusals;
 
-pub use live::{Live, Running};
+pub use listing::edit_refusal;
+pub use machine::Machine;

@@ -25,7 +25,7 @@ fn rows_at(alloc: Global, world: &World, list: NodeId) -> Result<Rows, NoMemory>
 /// # Errors
 ///
 /// `NoMemory` alone.
-pub(crate) fn edit_refusal(
+pub fn edit_refusal(
     alloc: Global,
     world: &World,
     list: NodeId,

@@ -9,11 +9,11 @@ use std::alloc::Global;
 /// What a script made: what its names stand for, what things are called, the signals, watchers, owners and effects, the templates, and
 /// the pages that live. Host formulas and equality rules stand beside it, and are handed to each act that needs them.
 #[derive(Drop)]
-pub(crate) struct Machine {
-    pub(crate) alloc: Global,
-    pub(crate) names: Names,
-    pub(crate) labels: Labels,
-    pub(crate) world: World,
-    pub(crate) templates: Vec<LinkedTemplate>,
-    pub(crate) pages: Vec<Mounted>,
+pub struct Machine {
+    pub alloc: Global,
+    pub names: Names,
+    pub labels: Labels,
+    pub world: World,
+    pub templates: Vec<LinkedTemplate>,
+    pub pages: Vec<Mounted>,
 }

@@ -1,4 +1,4 @@
-// One item: refused, or done.
+// Commands that aren't refused are done.
 ghost use Rattle.std.specs.Prelude.{◌≡◌, ◌+◌, ◌≤◌, ◌<◌, ◌^◌, ℕ, List, None, IfOk, IfErr, OnOk, length, map};
 ghost use Rattle.signal_model.specs.Recipes.{Hosts};
 ghost use Rattle.sig_host.specs.Hosts.{HostPlace, most_asked};
@@ -6,18 +6,15 @@ ghost use Rattle.sig_effect.specs.declared.errors.EffectFault.TheVariants as fau
 ghost use Rattle.sig_effect.specs.Agreeing.{environment, AreNew};
 ghost use Rattle.effect_world.specs.Agreeing.{IsSound};
 ghost use Rattle.effect_world.specs.Weighing.{weight};
-ghost use Rattle.live_cmd.specs.declared.command.Item.TheVariants as item;
 ghost use Rattle.live_cmd.specs.declared.command.Command.TheVariants as command;
-ghost use Rattle.live_model.specs.Machine.{done, empty, over_limit, place_refusal, row_refusal, step, unwatch_refusal};
-ghost use Rattle.live_core.specs.Keeping.{AreFine, Holds, IsReadable, IsReadItem, IsReady, Leaves, Steps};
+ghost use Rattle.live_model.specs.Machine.{done, empty, over_limit, place_refusal, row_refusal, unwatch_refusal};
+ghost use Rattle.live_core.specs.Keeping.{AreFine, Holds, IsReadable, IsReady, Leaves, Steps};
 ghost use Rattle.live_core.specs.Views.{plain_of};
 ghost use Rattle.effect_world.specs.Wholes.{whole_of};
 
-use crate::answers::one;
-use crate::faults::memory_of;
 use crate::machine::Machine;
 use effect_world::World;
-use live_cmd::{Bare, Command, Item, Verb};
+use live_cmd::{Bare, Command, Verb};
 use live_entries::Entry;
 use live_labels::Labels;
 use live_names::Names;
@@ -28,7 +25,11 @@ use std::alloc::Global;
 
 impl Machine {
     /// The machine before the first command.
-    pub(crate) fn new(alloc: Global) -> Result<Machine, NoMemory>
+    ///
+    /// # Errors
+    ///
+    /// `NoMemory` where memory ran out.
+    pub fn new(alloc: Global) -> Result<Machine, NoMemory>
         ensures plain { (asked : List HostPlace) → AreNew asked → IfOk result (λ m. plain_of asked m ≡ empty (length asked)) }
         ensures sound { (hosts : Hosts) (asked : List HostPlace) → AreNew asked → IfOk result (λ m. IsSound hosts asked m.world) }
         ensures holds { (asked : List HostPlace) (rules : ℕ) → IfOk result (λ m. Holds asked rules m.world) }
@@ -112,8 +113,12 @@ impl Machine {
         }
     }
 
-    // Does a command that isn't refused.
-    fn perform(
+    /// Does a command that isn't refused.
+    ///
+    /// # Errors
+    ///
+    /// `NoMemory` alone.
+    pub fn perform(
         &mut self,
         shelf: &mut Shelf,
         rules: &[EqualsRule],
@@ -175,74 +180,6 @@ impl Machine {
             } => self.mount(shelf, name, &template, &inside),
             Command::Named { verb, name } => self.do_verb(shelf, rules, verb, name),
             Command::Bare(bare) => self.do_bare(shelf, rules, bare),
-        }
-    }
-
-    // Does a command, or refuses it.
-    fn try_command(
-        &mut self,
-        shelf: &mut Shelf,
-        rules: &[EqualsRule],
-        command: Command,
-    ) -> Result<Vec<Entry>, NoMemory>
-        requires ready { IsReady self.old }
-        requires read { IsReadable command }
-        requires weight { weight self.old.world < 2 ^ 124 }
-        requires holds { Holds (⟦<Shelf as Lent>⟧.asked shelf.old) (length rules.now) self.old.world }
-        requires counted { ⟦<Shelf as Lent>⟧.counted shelf.old }
-        requires most { most_asked (⟦<Shelf as Lent>⟧.asked shelf.old) < 2 ^ 124 }
-        ensures steps { (hosts : Hosts) → ⟦<Shelf as Lent>⟧.answers hosts shelf.old →
-            IsSound hosts (⟦<Shelf as Lent>⟧.asked shelf.old) self.old.world →
-            IfOk result (λ es. Steps hosts (⟦<Shelf as Lent>⟧.asked shelf.new) self.new es.items
-            (step (environment hosts (map (λ r. r.slack) rules.now)) (plain_of (⟦<Shelf as Lent>⟧.asked shelf.old) self.old) (item.Do command))) }
-        ensures leaves { (hosts : Hosts) → ⟦<Shelf as Lent>⟧.answers hosts shelf.old →
-            IsSound hosts (⟦<Shelf as Lent>⟧.asked shelf.old) self.old.world → OnOk result
-            (Leaves (⟦<Shelf as Lent>⟧.asked shelf.old) (⟦<Shelf as Lent>⟧.asked shelf.new) (length rules.now) self.old self.new) }
-        ensures answers { (hosts : Hosts) → ⟦<Shelf as Lent>⟧.answers hosts shelf.old → OnOk result (⟦<Shelf as Lent>⟧.answers hosts shelf.new) }
-        ensures counted { OnOk result (⟦<Shelf as Lent>⟧.counted shelf.new) }
-        ensures most { OnOk result (most_asked (⟦<Shelf as Lent>⟧.asked shelf.new) ≤ most_asked (⟦<Shelf as Lent>⟧.asked shelf.old) + 2 ^ 80) }
-    {
-        let Ok(refusal) = self.refusal_of(shelf, rules, &command) else {
-            drop(command);
-            return Err(NoMemory);
-        };
-        if let Some(refusal) = refusal {
-            drop(command);
-            return one(self.alloc, Entry::Error(refusal));
-        }
-        match self.perform(shelf, rules, command) {
-            Ok(entries) => Ok(entries),
-            Err(fault) => Err(memory_of(fault)),
-        }
-    }
-
-    /// Does one item. A refused one changes nothing.
-    pub(crate) fn act(
-        &mut self,
-        shelf: &mut Shelf,
-        rules: &[EqualsRule],
-        item: Item,
-    ) -> Result<Vec<Entry>, NoMemory>
-        requires ready { IsReady self.old }
-        requires read { IsReadItem item }
-        requires weight { weight self.old.world < 2 ^ 124 }
-        requires holds { Holds (⟦<Shelf as Lent>⟧.asked shelf.old) (length rules.now) self.old.world }
-        requires counted { ⟦<Shelf as Lent>⟧.counted shelf.old }
-        requires most { most_asked (⟦<Shelf as Lent>⟧.asked shelf.old) < 2 ^ 124 }
-        ensures steps { (hosts : Hosts) → ⟦<Shelf as Lent>⟧.answers hosts shelf.old →
-            IsSound hosts (⟦<Shelf as Lent>⟧.asked shelf.old) self.old.world →
-            IfOk result (λ es. Steps hosts (⟦<Shelf as Lent>⟧.asked shelf.new) self.new es.items
-            (step (environment hosts (map (λ r. r.slack) rules.now)) (plain_of (⟦<Shelf as Lent>⟧.asked shelf.old) self.old) item)) }
-        ensures leaves { (hosts : Hosts) → ⟦<Shelf as Lent>⟧.answers hosts shelf.old →
-            IsSound hosts (⟦<Shelf as Lent>⟧.asked shelf.old) self.old.world → OnOk result
-            (Leaves (⟦<Shelf as Lent>⟧.asked shelf.old) (⟦<Shelf as Lent>⟧.asked shelf.new) (length rules.now) self.old self.new) }
-        ensures answers { (hosts : Hosts) → ⟦<Shelf as Lent>⟧.answers hosts shelf.old → OnOk result (⟦<Shelf as Lent>⟧.answers hosts shelf.new) }
-        ensures counted { OnOk result (⟦<Shelf as Lent>⟧.counted shelf.new) }
-        ensures most { OnOk result (most_asked (⟦<Shelf as Lent>⟧.asked shelf.new) ≤ most_asked (⟦<Shelf as Lent>⟧.asked shelf.old) + 2 ^ 80) }
-    {
-        match item {
-            Item::Do(command) => self.try_command(shelf, rules, command),
-            Item::Refused(refusal) => one(self.alloc, Entry::Error(refusal)),
         }
     }
 }

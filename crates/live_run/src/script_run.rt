@@ -13,7 +13,7 @@ ghost use Rattle.live_core.specs.Keeping.{IsReadItem, SomeHosts};
 ghost use Rattle.live_run.specs.Running.{DidItem, DidNext};
 
 use live_cmd::{Item, next_item};
-use live_core::{Live, Running};
+use live_items::{Live, Running};
 use live_report::Report;
 use live_words::Job;
 use sig_base::NoMemory;

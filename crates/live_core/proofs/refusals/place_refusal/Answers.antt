@@ -1,4 +1,0 @@
-use Rattle.live_core.proofs.refusals.place_refusal.Goals as goal
-
-pub returns-in_ok-refusal-in-Effect : goal.returns-in_ok-refusal-in-Effect
-returns-in_ok-refusal-in-Effect g c = rw c.in-Effect.is (c.in_ok-refusal-in-Effect.ensures _)

@@ -1,0 +1,117 @@
+-- Why a command is refused, and that it is done where it isn't.
+use Rattle.std.proofs.Common.{◌≡◌, ℕ, Bool, cond, List, [], ◌∷◌, Option, Some, None, refl, sym, ap, subst, ◌∙◌}
+use Rattle.std.specs.Option.{option_or, option_map_or}
+use Rattle.std.specs.Str.{bytes_eq}
+use Rattle.signal_model.specs.Recipes.{Hosts}
+use Rattle.effect_model.specs.Worlds.{Environment}
+use Rattle.effect_world.specs.declared.world.World.{World}
+use Rattle.effect_world.specs.Wholes.{whole_of}
+use Rattle.sig_host.specs.Hosts.{HostPlace}
+use Rattle.live_cmd.specs.declared.command.Command.{Command}
+use Rattle.live_cmd.specs.declared.command.Command.TheVariants as command
+use Rattle.live_cmd.specs.declared.command.Item.TheVariants as item
+use Rattle.live_entries.specs.declared.entry.Entry.{Entry}
+use Rattle.live_entries.specs.declared.refusal.Refusal.{Refusal}
+use Rattle.live_entries.specs.declared.refusal.Refusal.TheVariants as refusal
+use Rattle.live_model.specs.declared.names.Kind.{Kind}
+use Rattle.live_model.specs.declared.names.Kind.TheVariants as kind
+use Rattle.live_model.specs.declared.names.Meaning.{Meaning}
+use Rattle.live_model.specs.declared.names.Need.{Need}
+use Rattle.live_model.specs.declared.names.Need.TheVariants as need
+use Rattle.live_model.specs.Names.{Names, Use, first_refusal, first_within, is_gone, meaning_of, meets, misuse, refusal_at}
+use Rattle.live_model.specs.Uses.{uses_of, uses_of_body}
+use Rattle.live_model.specs.Machine as plain
+use Rattle.live_model.specs.Machine.{body_refusal, done, later_refusal, name_refusal, over_limit, place_refusal, refusal_of, refused, row_refusal, step, unwatch_refusal}
+use Rattle.live_core.specs.declared.machine.Machine.{Machine}
+use Rattle.live_core.specs.Keeping.{AreFine, Steps}
+use Rattle.live_core.specs.Views.{plain_of}
+use Rattle.live_core.proofs.Shared.{neither}
+
+-- the first of two answers
+pub first_of : {A : Type 0} (a b : Option A) (r : A) → Some r ≡ a → Some r ≡ option_or a b
+first_of a b r is = ap (λ o. option_or o b) is
+
+-- and the second, where the first doesn't answer
+pub last_of : {A : Type 0} (a b r : Option A) → a ≡ None → r ≡ b → r ≡ option_or a b
+last_of a b r none is = is ∙ sym (ap (λ o. option_or o b) none)
+
+-- the second of three answers, where the first doesn't answer
+pub second_of : {A : Type 0} (a b d : Option A) (r : A) → a ≡ None → Some r ≡ b → Some r ≡ option_or a (option_or b d)
+second_of a b d r none is = sym (ap (λ o. option_or o (option_or b d)) none ∙ ap (λ o. option_or o d) (sym is))
+
+-- and the third, where neither does
+third_of : {A : Type 0} (a b d r : Option A) → a ≡ None → b ≡ None → r ≡ d → r ≡ option_or a (option_or b d)
+third_of a b d r none nor is = is ∙ sym (ap (λ o. option_or o (option_or b d)) none ∙ ap (λ o. option_or o d) nor)
+
+-- so it is with four
+pub third_of_four : {A : Type 0} (a b d f : Option A) (r : A) → a ≡ None → b ≡ None → Some r ≡ d → Some r ≡ option_or a (option_or b (option_or d f))
+third_of_four a b d f r none nor is = first_of d f r is ∙ sym (ap (λ o. option_or o (option_or b (option_or d f))) none ∙ ap (λ o. option_or o (option_or d f)) nor)
+
+pub fourth_of : {A : Type 0} (a b d f r : Option A) → a ≡ None → b ≡ None → d ≡ None → r ≡ f → r ≡ option_or a (option_or b (option_or d f))
+fourth_of a b d f r none nor neither_is is = third_of a b (option_or d f) r none nor (last_of d f r neither_is is)
+
+-- ---- whatever is known of the places of host formulas, the same names are refused
+
+gone_here : (asked : List HostPlace) (w : World) (k : Kind) (n : ℕ) → is_gone (whole_of asked w) k n ≡ is_gone (whole_of [] w) k n
+gone_here asked w kind.Cell n = refl
+gone_here asked w kind.List n = refl
+gone_here asked w kind.Computed n = refl
+gone_here asked w kind.Owner n = refl
+gone_here asked w kind.Effect n = refl
+gone_here asked w kind.Watcher n = refl
+gone_here asked w kind.Template n = refl
+gone_here asked w kind.Page n = refl
+
+misused_here : (asked : List HostPlace) (w : World) (n : List ℕ) (needed : Need) (m : Meaning) → misuse (whole_of asked w) (n, needed) m ≡ misuse (whole_of [] w) (n, needed) m
+misused_here asked w n needed m =
+    ap (λ (b : Bool). cond b (Some (refusal.Gone n)) (cond (meets needed m.kind) None (Some (refusal.Kind n)))) (gone_here asked w m.kind m.number)
+
+at_here : (asked : List HostPlace) (w : World) (n : List ℕ) (needed : Need) (o : Option Meaning) → refusal_at (whole_of asked w) (n, needed) o ≡ refusal_at (whole_of [] w) (n, needed) o
+at_here asked w n need.New None = refl
+at_here asked w n need.New (Some m) = refl
+at_here asked w n (need.Of k) None = refl
+at_here asked w n (need.Of k) (Some m) = misused_here asked w n (need.Of k) m
+at_here asked w n need.Signal None = refl
+at_here asked w n need.Signal (Some m) = misused_here asked w n need.Signal m
+at_here asked w n need.Thing None = refl
+at_here asked w n need.Thing (Some m) = misused_here asked w n need.Thing m
+
+all_here : (asked : List HostPlace) (w : World) (names : Names) (us : List Use) → first_refusal (whole_of asked w) names us ≡ first_refusal (whole_of [] w) names us
+all_here asked w names [] = refl
+all_here asked w names ((n, needed) ∷ us) =
+    (λ i. option_or (at_here asked w n needed (meaning_of names n) i) (all_here asked w names us i))
+
+within_here : (asked : List HostPlace) (w : World) (names : Names) (own : List ℕ) (us : List Use) →
+    first_within (whole_of asked w) names own us ≡ first_within (whole_of [] w) names own us
+within_here asked w names own [] = refl
+within_here asked w names own ((n, needed) ∷ us) =
+    (λ i. option_or (cond (bytes_eq own n) (cond (meets needed kind.Effect) None (Some (refusal.Kind n))) (at_here asked w n needed (meaning_of names n) i))
+    (within_here asked w names own us i))
+
+body_here : (asked : List HostPlace) (m : Machine) (c : Command) → body_refusal (plain_of asked m) c ≡ body_refusal (plain_of [] m) c
+body_here asked m (command.Effect n b inside) = within_here asked m.world m.names n (uses_of_body b)
+body_here asked m _ = refl
+
+-- no name is refused
+pub fine_here : (asked : List HostPlace) (m : Machine) (c : Command) → name_refusal (plain_of asked m) c ≡ None → AreFine m c
+fine_here asked m c e = sym (λ i. option_or (all_here asked m.world m.names (uses_of c) i) (body_here asked m c i)) ∙ e
+
+-- what isn't refused has no name that is
+pub unrefused_names : (slacks : List ℕ) (m : plain.Machine) (c : Command) → refusal_of slacks m c ≡ None → name_refusal m c ≡ None
+unrefused_names slacks m c none = (neither (name_refusal m c) (later_refusal slacks m c) none).0
+
+-- nor is it behind them
+unrefused_later : (slacks : List ℕ) (m : plain.Machine) (c : Command) → refusal_of slacks m c ≡ None → later_refusal slacks m c ≡ None
+unrefused_later slacks m c none = (neither (name_refusal m c) (later_refusal slacks m c) none).1
+
+-- there is room for it, and what it unwatches is watched
+pub unrefused_last : (slacks : List ℕ) (m : plain.Machine) (c : Command) → refusal_of slacks m c ≡ None → (over_limit m c ≡ None) × (unwatch_refusal m c ≡ None)
+unrefused_last slacks m c none =
+    let behind = neither (place_refusal slacks m.world c) (option_or (row_refusal m c) (option_or (over_limit m c) (unwatch_refusal m c))) (unrefused_later slacks m c none) in
+    neither (over_limit m c) (unwatch_refusal m c) (neither (row_refusal m c) (option_or (over_limit m c) (unwatch_refusal m c)) behind.1).1
+
+-- what isn't refused is done
+pub done_so : (hosts : Hosts) (later : List HostPlace) (new : Machine) (entries : List Entry) (env : Environment) (m : plain.Machine) (c : Command) →
+    refusal_of env.slacks m c ≡ None → Steps hosts later new entries (done env m c) → Steps hosts later new entries (step env m (item.Do c))
+done_so hosts later new entries env m c none s =
+    subst (λ (o : Option Refusal). Steps hosts later new entries (option_map_or (refused m) o (done env m c))) (sym none) s

@@ -1,0 +1,328 @@
+// Why commands are refused, in this order: the names, the places of host formulas and rules, what the rows of a list don't allow, what there
+// would be too much of, and a signal that isn't watched.
+ghost use Rattle.std.specs.Prelude.{◌≡◌, ℕ, Bool, List, IfOk, length, map, slice_get};
+ghost use Rattle.std.specs.List.{filter};
+ghost use Rattle.effect_model.specs.Watching.{watches};
+ghost use Rattle.effect_tables.specs.Placed.{effect_of};
+ghost use Rattle.effect_world.specs.Wholes.{whole_of};
+ghost use Rattle.sig_effect.specs.Wholes.{host_states};
+ghost use Rattle.sig_host.specs.Hosts.{HostPlace};
+ghost use Rattle.effect_tables.specs.declared.tables.TheConstants.{MOST_EFFECTS};
+ghost use Rattle.live_entries.specs.declared.refusal.LimitWord.TheVariants as limit;
+ghost use Rattle.live_labels.specs.Views.{labels_of};
+ghost use Rattle.live_model.specs.Labels.{is_named, label_at};
+ghost use Rattle.live_model.specs.Machine.{body_refusal, host_refusal, later_refusal, name_refusal};
+ghost use Rattle.live_model.specs.Machine.{one_too_many, outside_refusal, over_limit, place_refusal, refusal_of};
+ghost use Rattle.live_model.specs.Machine.{row_refusal, rule_refusal, taken_refusal, unwatch_refusal};
+ghost use Rattle.live_model.specs.Names.{first_within, number_of};
+ghost use Rattle.live_model.specs.Rows.{edit_refusal, rows_at};
+ghost use Rattle.live_model.specs.Uses.{hosts_of_body, uses_of_body};
+ghost use Rattle.live_core.specs.Views.{plain_of};
+
+use effect_model::MOST_WATCHERS;
+use effect_tables::MOST_EFFECTS;
+use effect_world::World;
+use live_cmd::{Command, EffectBody, RowEdit, SourceText};
+use live_core::{Machine, edit_refusal};
+use live_entries::{LimitWord, Refusal};
+use live_labels::named_count;
+use live_uses::{hosts_of_body, uses_of, uses_of_body};
+use sig_base::{MOST_NODES, MOST_PAGES, MOST_TEMPLATES, Name, NoMemory, NodeId, WatcherId};
+use sig_host::{EqualsRule, Lent, Shelf};
+use sig_owner::MOST_OWNERS;
+use std::alloc::Global;
+
+// The refusal of one more than the most.
+fn one_too_many(most: usize, count: usize, limit: LimitWord) -> Option<Refusal>
+    ensures { result ≡ one_too_many most count limit }
+{
+    if count < most {
+        None
+    } else {
+        Some(Refusal::Limit(limit))
+    }
+}
+
+// The refusal of a host formula that isn't there, or that is used or was dropped.
+fn taken_refusal(world: &World, shelf: &Shelf, place: u64) -> Option<Refusal>
+    ensures { result ≡ taken_refusal place (slice_get (whole_of (⟦<Shelf as Lent>⟧.asked shelf.now) world.now).host_states place) }
+{
+    if shelf.len() <= place as usize {
+        return Some(Refusal::HostPlace(place));
+    }
+    if world.signals.is_free(shelf, place as usize) {
+        None
+    } else {
+        Some(Refusal::HostTaken(place))
+    }
+}
+
+// So it is for what a computed is computed by.
+fn host_refusal(world: &World, shelf: &Shelf, source: &SourceText) -> Option<Refusal>
+    ensures { result ≡ host_refusal (whole_of (⟦<Shelf as Lent>⟧.asked shelf.now) world.now) source.now }
+{
+    match source {
+        SourceText::Formula(_) => None,
+        SourceText::Host(place, _) => taken_refusal(world, shelf, *place),
+    }
+}
+
+// The refusal of an equality rule that isn't there.
+fn rule_refusal(rules: &[EqualsRule], equals: Option<u64>) -> Option<Refusal>
+    ensures { result ≡ rule_refusal (map (λ r. r.slack) rules.now) equals }
+{
+    match equals {
+        None => None,
+        Some(place) => {
+            if (place as usize) < rules.len() {
+                None
+            } else {
+                Some(Refusal::RulePlace(place))
+            }
+        }
+    }
+}
+
+// The refusal of the first of these places that is past the last host formula.
+fn outside_refusal(count: usize, places: &[u64]) -> Option<Refusal>
+    ensures { result ≡ outside_refusal count places.now }
+{
+    for place in places {
+        if count <= *place as usize {
+            return Some(Refusal::HostPlace(*place));
+        }
+    }
+    None
+}
+
+// The refusal of a host formula in a body that isn't there.
+fn hosts_refusal(
+    alloc: Global,
+    count: usize,
+    body: &EffectBody,
+) -> Result<Option<Refusal>, NoMemory>
+    ensures { IfOk result (λ r. r ≡ outside_refusal count (hosts_of_body body.now)) }
+{
+    let places = hosts_of_body(alloc, body.as_body())?;
+    Ok(outside_refusal(count, &places))
+}
+
+// So it is for those that aren't on the shelf.
+fn unshelved_refusal(
+    alloc: Global,
+    shelf: &Shelf,
+    body: &EffectBody,
+) -> Result<Option<Refusal>, NoMemory>
+    ensures { (uses : ℕ → Bool) → IfOk result (λ r. r ≡ outside_refusal (length (host_states uses 0 (⟦<Shelf as Lent>⟧.asked shelf.now))) (hosts_of_body body.now)) }
+{
+    let refusal = hosts_refusal(alloc, shelf.len(), body)?;
+    Ok(refusal)
+}
+
+// The refusal of the place of a host formula or of a rule.
+fn place_refusal(
+    alloc: Global,
+    world: &World,
+    shelf: &Shelf,
+    rules: &[EqualsRule],
+    command: &Command,
+) -> Result<Option<Refusal>, NoMemory>
+    ensures { IfOk result (λ r. r ≡ place_refusal (map (λ r. r.slack) rules.now)
+        (whole_of (⟦<Shelf as Lent>⟧.asked shelf.now) world.now) command.now) }
+{
+    match command {
+        Command::Cell { equals, .. } => Ok(rule_refusal(rules, *equals)),
+        Command::Computed { source, .. } => Ok(host_refusal(world, shelf, source)),
+        Command::Rewire { source, .. } => Ok(host_refusal(world, shelf, source)),
+        Command::Effect { body, .. } => {
+            let refusal = unshelved_refusal(alloc, shelf, body)?;
+            Ok(refusal)
+        }
+        _ => Ok(None),
+    }
+}
+
+// The refusal of the first name in the body of an effect that has one.
+fn within_refusal(
+    machine: &Machine,
+    name: &Name,
+    body: &EffectBody,
+) -> Result<Option<Refusal>, NoMemory>
+    ensures { (asked : List HostPlace) → IfOk result (λ r. r ≡ first_within (whole_of asked machine.now.world) machine.now.names name.now (uses_of_body body.now)) }
+{
+    let uses = uses_of_body(machine.alloc, body.as_body())?;
+    let refusal = machine.names.first_within(&machine.world, name, &uses)?;
+    Ok(refusal)
+}
+
+// The refusal of a name in the body of an effect, if the command makes one.
+fn body_refusal(machine: &Machine, command: &Command) -> Result<Option<Refusal>, NoMemory>
+    ensures { (asked : List HostPlace) → IfOk result (λ r. r ≡ body_refusal (plain_of asked machine.now) command.now) }
+{
+    match command {
+        Command::Effect { name, body, .. } => {
+            let refusal = within_refusal(machine, name, body)?;
+            Ok(refusal)
+        }
+        _ => Ok(None),
+    }
+}
+
+// The refusal of the first name that has one.
+fn name_refusal(machine: &Machine, command: &Command) -> Result<Option<Refusal>, NoMemory>
+    ensures { (asked : List HostPlace) → IfOk result (λ r. r ≡ name_refusal (plain_of asked machine.now) command.now) }
+{
+    let uses = uses_of(machine.alloc, command)?;
+    if let Some(refusal) = machine.names.first_refusal(&machine.world, &uses)? {
+        return Ok(Some(refusal));
+    }
+    let refusal = body_refusal(machine, command)?;
+    Ok(refusal)
+}
+
+// The refusal of an edit that the rows of a list don't allow.
+fn rows_refusal(machine: &Machine, name: &Name, edit: &RowEdit) -> Result<Option<Refusal>, NoMemory>
+    ensures { IfOk result (λ r. r ≡ edit_refusal edit.now (rows_at machine.now.world.signals.graph.state.signals (number_of machine.now.names name.now))) }
+{
+    let list = NodeId::of(machine.names.number_of(name));
+    let refusal = edit_refusal(machine.alloc, &machine.world, list, edit)?;
+    Ok(refusal)
+}
+
+// So it is for a command.
+fn row_refusal(machine: &Machine, command: &Command) -> Result<Option<Refusal>, NoMemory>
+    ensures { (asked : List HostPlace) → IfOk result (λ r. r ≡ row_refusal (plain_of asked machine.now) command.now) }
+{
+    match command {
+        Command::Edit { name, edit } => {
+            let refusal = rows_refusal(machine, name, edit)?;
+            Ok(refusal)
+        }
+        _ => Ok(None),
+    }
+}
+
+// How many effects live that a command made.
+fn named_effects(machine: &Machine) -> usize
+    ensures { result ≡ length (filter (λ x. is_named (label_at (labels_of machine.now.labels).effects x.number)) (map effect_of machine.now.world.tables.effects.items)) }
+{
+    named_count(&machine.labels.effects, &machine.world.tables.effects)
+}
+
+// The refusal of one effect more than the most that a command made. Where fewer live in all none is looked up.
+fn effect_refusal(machine: &Machine) -> Option<Refusal>
+    ensures { result ≡ one_too_many MOST_EFFECTS (length (filter (λ x. is_named (label_at (labels_of machine.now.labels).effects x.number))
+        (map effect_of machine.now.world.tables.effects.items))) limit.Effects }
+{
+    if machine.world.tables.effects.len() < MOST_EFFECTS {
+        return None;
+    }
+    one_too_many(MOST_EFFECTS, named_effects(machine), LimitWord::Effects)
+}
+
+// The refusal of what there would be too much of.
+fn over_limit(machine: &Machine, command: &Command) -> Option<Refusal>
+    ensures { (asked : List HostPlace) → result ≡ over_limit (plain_of asked machine.now) command.now }
+{
+    match command {
+        Command::Cell { .. } | Command::List { .. } | Command::Computed { .. } => {
+            one_too_many(
+                MOST_NODES,
+                machine.world.signals.graph.live(),
+                LimitWord::Nodes,
+            )
+        }
+        Command::Owner { .. } => one_too_many(
+            MOST_OWNERS,
+            machine.world.tables.owners.live(),
+            LimitWord::Owners,
+        ),
+        Command::Effect { .. } => effect_refusal(machine),
+        Command::Watcher { .. } => {
+            one_too_many(
+                MOST_WATCHERS,
+                machine.world.signals.watchers.live(),
+                LimitWord::Watchers,
+            )
+        }
+        Command::Template { .. } => {
+            one_too_many(
+                MOST_TEMPLATES,
+                machine.templates.len(),
+                LimitWord::Templates,
+            )
+        }
+        Command::Mount { .. } => {
+            one_too_many(
+                MOST_PAGES,
+                machine.world.tables.pages.len(),
+                LimitWord::Pages,
+            )
+        }
+        _ => None,
+    }
+}
+
+// Whether a watcher watches a signal.
+fn is_watched(machine: &Machine, watcher: &Name, signal: &Name) -> bool
+    ensures { result ≡ watches machine.now.world.signals.watchers.watchers (number_of machine.now.names watcher.now) (number_of machine.now.names signal.now) }
+{
+    let watcher = WatcherId::of(machine.names.number_of(watcher));
+    let signal = NodeId::of(machine.names.number_of(signal));
+    machine.world.signals.watchers.watches(watcher, signal)
+}
+
+// The refusal of a signal that isn't watched.
+fn unwatch_refusal(machine: &Machine, command: &Command) -> Result<Option<Refusal>, NoMemory>
+    ensures { (asked : List HostPlace) → IfOk result (λ r. r ≡ unwatch_refusal (plain_of asked machine.now) command.now) }
+{
+    match command {
+        Command::Unwatch { name, signal } => {
+            if is_watched(machine, name, signal) {
+                return Ok(None);
+            }
+            Ok(Some(Refusal::NotWatched(signal.copy()?)))
+        }
+        _ => Ok(None),
+    }
+}
+
+// The refusal of what stands behind the names.
+fn later_refusal(
+    machine: &Machine,
+    shelf: &Shelf,
+    rules: &[EqualsRule],
+    command: &Command,
+) -> Result<Option<Refusal>, NoMemory>
+    ensures { IfOk result (λ r. r ≡ later_refusal (map (λ r. r.slack) rules.now)
+        (plain_of (⟦<Shelf as Lent>⟧.asked shelf.now) machine.now) command.now) }
+{
+    if let Some(refusal) = place_refusal(machine.alloc, &machine.world, shelf, rules, command)? {
+        return Ok(Some(refusal));
+    }
+    if let Some(refusal) = row_refusal(machine, command)? {
+        return Ok(Some(refusal));
+    }
+    if let Some(refusal) = over_limit(machine, command) {
+        return Ok(Some(refusal));
+    }
+    let refusal = unwatch_refusal(machine, command)?;
+    Ok(refusal)
+}
+
+/// Why a command is refused, if it is.
+pub(crate) fn refusal_of(
+    machine: &Machine,
+    shelf: &Shelf,
+    rules: &[EqualsRule],
+    command: &Command,
+) -> Result<Option<Refusal>, NoMemory>
+    ensures { IfOk result (λ r. r ≡ refusal_of (map (λ r. r.slack) rules.now)
+        (plain_of (⟦<Shelf as Lent>⟧.asked shelf.now) machine.now) command.now) }
+{
+    if let Some(refusal) = name_refusal(machine, command)? {
+        return Ok(Some(refusal));
+    }
+    let refusal = later_refusal(machine, shelf, rules, command)?;
+    Ok(refusal)
+}
