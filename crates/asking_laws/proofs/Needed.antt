@@ -4,8 +4,8 @@ use Rattle.std.proofs.Common.{◌≡◌, ◌<◌, ◌+◌, ℕ, zero, suc, ◌==
 use Rattle.std.specs.Prelude.{nat_lt, slice_get, slice_index, unwrap_or}
 use Rattle.std.proofs.lemmas.Bool.{cases_Bool, eqb-true, false≢true, lt-ltb, ltb-true}
 use Rattle.sig_base.specs.declared.value.Outcome.{Outcome}
-use Rattle.signal_model.specs.Standing.{is_in}
-use Rattle.signal_laws.specs.ReadingLaws.{firsts_after, joined}
+use Rattle.signal_model.specs.Signals.{is_in}
+use Rattle.signal_laws.specs.ReadLaws.{firsts_after, with_name}
 use Rattle.signal_laws.proofs.Shared.{firsts_hold_law, in_head, or_right}
 use Rattle.page_model.specs.Forest.{Forest, node, none}
 use Rattle.page_model.specs.Labels.{Look, Root}
@@ -14,9 +14,9 @@ use Rattle.tpl_model.specs.Shapes.{Showing, shown_lines}
 use Rattle.tpl_model.specs.Sources.{counted, evaluating, first_missing, is_there, needed, on_known, or_gone}
 use Rattle.tpl_model.proofs.Shared.{shown_agree}
 use Rattle.update_laws.specs.PageMemos.{hearing, up_to_change}
-use Rattle.update_laws.specs.Updating.{Tells, reads_on}
+use Rattle.update_laws.specs.Updates.{Tells, reads_on}
 use Rattle.update_laws.proofs.Shared.{begins, memo_upto, shows, steady}
-use Rattle.asking_laws.specs.Asking.{AreKnown, InsideLaw, LastLaw, NextLaw, PlacesLaw, placed, shown_anew}
+use Rattle.asking_laws.specs.Outcomes.{AreKnown, InsideLaw, LastLaw, NextLaw, PlacesLaw, placed, shown_anew}
 use Rattle.asking_laws.proofs.Renamed.{AreCalled, lines_anew}
 
 -- ---- the first that isn't known
@@ -130,17 +130,17 @@ inside_law lines known i h =
 
 -- ---- the order of asking
 
-stays_joined : (ns : List ℕ) (n : ℕ) → is_in n ns ≡ true → joined ns n ≡ ns
+stays_joined : (ns : List ℕ) (n : ℕ) → is_in n ns ≡ true → with_name ns n ≡ ns
 stays_joined ns n h = ap (λ b. cond b ns (ns ++ n ∷ [])) h
 
 -- what is needed first is the first that joins those that were heard
 next_joins : (known : List (Option Outcome)) (g : ℕ → ℕ) (ns : List ℕ) (i : ℕ) → ((n : ℕ) → knows known n ≡ true → is_in (g n) ns ≡ true) →
-    (xs : List ℕ) → first_missing known xs ≡ Some i → firsts_after (joined ns (g i)) (map g xs) ≡ firsts_after ns (map g xs)
+    (xs : List ℕ) → first_missing known xs ≡ Some i → firsts_after (with_name ns (g i)) (map g xs) ≡ firsts_after ns (map g xs)
 next_joins known g ns i had [] h = cc
 next_joins known g ns i had (x ∷ xs) h = go (knows known x) refl h (next_joins known g ns i had xs)
   where
     now : List ℕ
-    now = joined ns (g i)
+    now = with_name ns (g i)
 
     there : is_in (g i) now ≡ true
     there = firsts_hold_law (g i) ns (g i ∷ []) ∙ or_right (is_in (g i) ns) (is_in (g i) (g i ∷ [])) (in_head (g i) [])
@@ -150,15 +150,15 @@ next_joins known g ns i had (x ∷ xs) h = go (knows known x) refl h (next_joins
 
     go : (b : Bool) → knows known x ≡ b → cond b (first_missing known xs) (Some x) ≡ Some i →
         (first_missing known xs ≡ Some i → firsts_after now (map g xs) ≡ firsts_after ns (map g xs)) →
-        firsts_after (joined now (g x)) (map g xs) ≡ firsts_after (joined ns (g x)) (map g xs)
+        firsts_after (with_name now (g x)) (map g xs) ≡ firsts_after (with_name ns (g x)) (map g xs)
     go true e is later =
         let a = had x e in
         ap (λ z. firsts_after z (map g xs)) (stays_joined now (g x) (still a))
         ∙ (later is ∙ ap (λ z. firsts_after z (map g xs)) (sym (stays_joined ns (g x) a)))
     go false e is later =
         let same : x ≡ i = ap (λ z. unwrap_or z i) is in
-        ap (λ z. firsts_after (joined now (g z)) (map g xs)) same
-        ∙ (ap (λ z. firsts_after z (map g xs)) (stays_joined now (g i) there) ∙ ap (λ z. firsts_after (joined ns (g z)) (map g xs)) (sym same))
+        ap (λ z. firsts_after (with_name now (g z)) (map g xs)) same
+        ∙ (ap (λ z. firsts_after z (map g xs)) (stays_joined now (g i) there) ∙ ap (λ z. firsts_after (with_name ns (g z)) (map g xs)) (sym same))
 
 -- where all are known, none joins
 none_joins : (known : List (Option Outcome)) (g : ℕ → ℕ) (ns : List ℕ) → ((n : ℕ) → knows known n ≡ true → is_in (g n) ns ≡ true) →
@@ -167,7 +167,7 @@ none_joins known g ns had [] h = refl
 none_joins known g ns had (x ∷ xs) h = go (knows known x) refl h (none_joins known g ns had xs)
   where
     go : (b : Bool) → knows known x ≡ b → cond b (first_missing known xs) (Some x) ≡ None → (first_missing known xs ≡ None → firsts_after ns (map g xs) ≡ ns) →
-        firsts_after (joined ns (g x)) (map g xs) ≡ ns
+        firsts_after (with_name ns (g x)) (map g xs) ≡ ns
     go true e is later = ap (λ z. firsts_after z (map g xs)) (stays_joined ns (g x) (had x e)) ∙ later is
     go false e is later = cc
 
@@ -209,7 +209,7 @@ next_law lines links source known asked i k need =
     let reads : reads_on lines links source ≡ map (slice_index links) later
     = ap (λ (s : Showing). s.reads) (on_places lines links source (length known) k.count) in
     let first = sym (needed_is known lines (placed links source) (known_tells links source known asked k)) ∙ need in
-    ap (firsts_after (joined asked (slice_index links i))) reads
+    ap (firsts_after (with_name asked (slice_index links i))) reads
     ∙ (next_joins known (slice_index links) asked i k.asked later first ∙ ap (firsts_after asked) (sym reads))
 
 pub last_law : LastLaw

@@ -13,7 +13,7 @@ use Rattle.sig_base.specs.declared.value.Step.TheVariants.{Read, Done, Fail}
 use Rattle.sig_base.specs.declared.value.Outcome.{Outcome}
 use Rattle.sig_base.specs.declared.value.Outcome.TheVariants.{Good, Bad}
 use Rattle.sig_formula.specs.Trees.{Tree}
-use Rattle.sig_formula.specs.Answering as formulas
+use Rattle.sig_formula.specs.Evaluation as formulas
 use Rattle.sig_formula.specs.declared.formula.RowRef.{RowRef}
 use Rattle.signal_model.specs.Recipes.{formula, is_known, judged, no_hosts}
 use Rattle.signal_model.specs.Values.{Evaluation, Seen, after_read, after_step, asked_within, learnt, read_first, unknown_slots}
@@ -22,9 +22,9 @@ use Rattle.page_model.specs.Forest.{Forest, after, node, none}
 use Rattle.page_model.specs.Labels.{Element, Look, Text}
 use Rattle.tpl_model.specs.Lines.{Block, Line, attempt, block_of, choice, each, empty, tag, text}
 use Rattle.tpl_model.specs.Shapes.{Evaluating, Here, Showing, attempted, attribute_value, attributes_of, attributes_told, chosen, each_row, is_fault, key_here, node_text}
-use Rattle.tpl_model.specs.Shapes.{row_here, rows_from, shown_block, shown_lines, then_shown, told, within}
+use Rattle.tpl_model.specs.Shapes.{row_here, rows_from, shown_block, shown_lines, then_shown, formula_shown, within}
 use Rattle.tpl_model.specs.Sources.{evaluating}
-use Rattle.asking_laws.specs.Asking.{shown_anew}
+use Rattle.asking_laws.specs.Outcomes.{shown_anew}
 
 -- ---- one formula
 
@@ -100,7 +100,7 @@ names_anew : (g : ℕ → ℕ) (rs : List Seen) →
 names_anew g [] = refl
 names_anew g (r ∷ rs) = ap (λ ns. g r.name ∷ ns) (names_anew g rs)
 
-told_anew : (g : ℕ → ℕ) (e : Evaluation) (nodes : Forest Look) → told (called_anew g e) nodes ≡ shown_anew g (told e nodes)
+told_anew : (g : ℕ → ℕ) (e : Evaluation) (nodes : Forest Look) → formula_shown (called_anew g e) nodes ≡ shown_anew g (formula_shown e nodes)
 told_anew g e nodes = ap (λ (r : List ℕ). record { nodes = nodes; reads = r; failed = is_fault e.outcome }) (names_anew g e.reads)
 
 attributes_anew : (g : ℕ → ℕ) (evaluate : Evaluating) (ends : Bool) (row : Option RowRef) (xs : List (List ℕ × Tree)) →
@@ -108,7 +108,7 @@ attributes_anew : (g : ℕ → ℕ) (evaluate : Evaluating) (ends : Bool) (row :
 attributes_anew g evaluate ends row [] = refl
 attributes_anew g evaluate ends row (x ∷ xs) =
     ap₂ (then_shown ends) (told_anew g (evaluate row x.1) none) (attributes_anew g evaluate ends row xs)
-    ∙ then_anew g ends (told (evaluate row x.1) none) (attributes_told ends evaluate row xs)
+    ∙ then_anew g ends (formula_shown (evaluate row x.1) none) (attributes_told ends evaluate row xs)
 
 values_anew : (g : ℕ → ℕ) (evaluate : Evaluating) (row : Option RowRef) (xs : List (List ℕ × Tree)) →
     attributes_of (on_anew g evaluate) row xs ≡ attributes_of evaluate row xs
@@ -153,7 +153,7 @@ block_anew g evaluate (text n f rest) ends here =
     let e = evaluate (row_here here) f in
     let nodes : Forest Look = node (address n (key_here here)) (Text (node_text e.outcome)) none none in
     ap₂ (then_shown ends) (told_anew g e nodes) (block_anew g evaluate rest ends here)
-    ∙ then_anew g ends (told e nodes) (shown_block evaluate ends here rest)
+    ∙ then_anew g ends (formula_shown e nodes) (shown_block evaluate ends here rest)
 block_anew g evaluate (tag n name xs inner rest) ends here =
     let a = address n (key_here here) in
     let r = row_here here in
@@ -174,17 +174,17 @@ block_anew g evaluate (choice f one other rest) ends here =
     let y = shown_block evaluate ends here other in
     let inside = ap₂ (then_shown ends) (told_anew g e none)
     (ap₂ (chosen e.outcome) (block_anew g evaluate one ends here) (block_anew g evaluate other ends here) ∙ chosen_anew g e.outcome x y)
-    ∙ then_anew g ends (told e none) (chosen e.outcome x y) in
+    ∙ then_anew g ends (formula_shown e none) (chosen e.outcome x y) in
     ap₂ (then_shown ends) inside (block_anew g evaluate rest ends here)
-    ∙ then_anew g ends (then_shown ends (told e none) (chosen e.outcome x y)) (shown_block evaluate ends here rest)
+    ∙ then_anew g ends (then_shown ends (formula_shown e none) (chosen e.outcome x y)) (shown_block evaluate ends here rest)
 block_anew g evaluate (each f inner rest) ends here =
     let e = evaluate (row_here here) f in
     let go : Here → Showing = λ h. shown_block evaluate ends (Some h) inner in
     let anew : Here → Showing = λ h. shown_block (on_anew g evaluate) ends (Some h) inner in
     let inside = ap₂ (then_shown ends) (told_anew g e none) (each_anew g ends go anew (λ h. block_anew g evaluate inner ends (Some h)) e.outcome)
-    ∙ then_anew g ends (told e none) (each_row ends go e.outcome) in
+    ∙ then_anew g ends (formula_shown e none) (each_row ends go e.outcome) in
     ap₂ (then_shown ends) inside (block_anew g evaluate rest ends here)
-    ∙ then_anew g ends (then_shown ends (told e none) (each_row ends go e.outcome)) (shown_block evaluate ends here rest)
+    ∙ then_anew g ends (then_shown ends (formula_shown e none) (each_row ends go e.outcome)) (shown_block evaluate ends here rest)
 block_anew g evaluate (attempt first second rest) ends here =
     let x = shown_block evaluate true here first in
     let y = shown_block evaluate ends here second in

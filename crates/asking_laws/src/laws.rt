@@ -1,5 +1,5 @@
 // The laws of asking for a template's names, each the contract of a call that does nothing.
-ghost use Rattle.asking_laws.specs.Asking.{InsideLaw, LastLaw, NextLaw, PlacesLaw};
+ghost use Rattle.asking_laws.specs.Outcomes.{InsideLaw, LastLaw, NextLaw, PlacesLaw};
 
 /// What a template shows doesn't rest on what its names are called: on the places of its names it shows the same, and reads these in their order.
 pub fn places_law()

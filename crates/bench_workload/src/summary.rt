@@ -1,7 +1,7 @@
 // What running the workload came to, in five lines.
 ghost use Rattle.std.specs.Prelude.{◌≡◌, ◌++◌, OnOk};
 ghost use Rattle.std.specs.Fmt.{decimal};
-ghost use Rattle.bench_workload.specs.Summary.{line_of, summary_text};
+ghost use Rattle.bench_workload.specs.Summary.{word_line, summary_text};
 
 use sig_base::NoMemory;
 
@@ -24,7 +24,7 @@ fn put(out: &mut Vec<u8>, bytes: &[u8]) -> Result<(), NoMemory>
 }
 
 fn put_line(out: &mut Vec<u8>, word: &[u8], told: &[u8]) -> Result<(), NoMemory>
-    ensures { OnOk result (out.new.items ≡ out.old.items ++ line_of word.now told.now) }
+    ensures { OnOk result (out.new.items ≡ out.old.items ++ word_line word.now told.now) }
 {
     put(out, word)?;
     put(out, b" ")?;
@@ -33,7 +33,7 @@ fn put_line(out: &mut Vec<u8>, word: &[u8], told: &[u8]) -> Result<(), NoMemory>
 }
 
 fn put_number(out: &mut Vec<u8>, word: &[u8], number: u128) -> Result<(), NoMemory>
-    ensures { OnOk result (out.new.items ≡ out.old.items ++ line_of word.now (decimal number)) }
+    ensures { OnOk result (out.new.items ≡ out.old.items ++ word_line word.now (decimal number)) }
 {
     let digits = number.to_string(*out.allocator())?;
     put_line(out, word, digits.as_bytes())

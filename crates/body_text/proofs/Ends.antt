@@ -2,7 +2,7 @@
 use Rattle.std.proofs.Common.{◌≡◌, ◌<◌, suc, ◌-◌, List, [], ◌∷◌, length, map, get_or, refl, arith}
 use Rattle.script_lines.specs.declared.line.NumberedLine.{NumberedLine}
 use Rattle.script_lines.specs.Views.{line_of}
-use Rattle.body_text.specs.Readings.{last_number}
+use Rattle.body_text.specs.Verdicts.{last_number}
 
 -- the number of the last line
 pub last_is : (ls : List NumberedLine) (d : NumberedLine) → 0 < length ls → (get_or ls (length ls - 1) d).number ≡ last_number (map line_of ls)

@@ -8,21 +8,21 @@ use Rattle.sig_base.specs.declared.scalar.Scalar.{Scalar}
 use Rattle.formula_text.specs.declared.wired.FormulaFault.{FormulaFault}
 use Rattle.formula_text.specs.declared.wired.FormulaFault.TheVariants as fault
 use Rattle.formula_text.specs.Grammar.{Draft}
-use Rattle.formula_text.specs.Judging.{has_untrack}
-use Rattle.formula_text.specs.Wiring.{refusal}
-use Rattle.line_forms.specs.Forms.{Args, Form, Holds, Of, One, Part, arguments, fixed, formula, key, listed, many, one, part, perhaps, value}
+use Rattle.formula_text.specs.Refusals.{has_untrack}
+use Rattle.formula_text.specs.Slots.{refusal}
+use Rattle.line_forms.specs.Forms.{Args, Form, Contents, Of, One, Part, arguments, fixed, formula, key, listed, many, one, part, perhaps, value}
 use Rattle.line_forms.specs.Told.{fault_along, fault_in, fault_of_arguments, fault_of_list, fault_of_one, fault_of_scalar, first_long, unless_faulty}
 use Rattle.script_lines.specs.Lines.{NumberedLine}
 use Rattle.body_text.specs.declared.fault.BodyWhy.{BodyWhy}
 use Rattle.body_text.specs.declared.fault.BodyWhy.TheVariants as why
 use Rattle.body_text.specs.declared.judge.ReadLine.{ReadLine}
 use Rattle.body_text.specs.declared.line.Line.{Line}
-use Rattle.body_text.specs.Grammar.{row, Said, line_of}
-use Rattle.body_text.specs.Judging.{Judged, allowed, excess, fault_at, fault_of, first_excess, first_misplaced, high, is_nested, judged, judged_at, many_lines, misplacing, missing, refusal_of}
+use Rattle.body_text.specs.Grammar.{row, Said, said_line}
+use Rattle.body_text.specs.Refusals.{Judged, allowed, excess, fault_at, fault_of, first_excess, first_misplaced, high, is_nested, judged, judged_at, many_lines, misplacing, missing, refusal_of}
 use Rattle.body_text.specs.Places.{kind_of, moved}
-use Rattle.body_text.specs.Readings.{Sayings, Say, reached, said_lines}
-use Rattle.body_text.specs.Views.{AreRead, fault_told, judged_read, readings, read_of, sound_lines, told, with_line}
-use Rattle.body_text.proofs.Sounding.{sound_length}
+use Rattle.body_text.specs.Verdicts.{Sayings, Say, reached, said_lines}
+use Rattle.body_text.specs.Views.{AreRead, fault_told, judged_read, readings, read_of, sound_lines, line_or_fault, with_line}
+use Rattle.body_text.proofs.Soundness.{sound_length}
 
 -- ---- lines that were read say something
 
@@ -38,7 +38,7 @@ says_read depth [] [] to a = record { xs = []; say = tt; is = refl; end = a }
 says_read depth [] (r ∷ rs) to a = absurd a
 says_read depth (l ∷ ls) [] to a = absurd a
 says_read depth (l ∷ ls) (r ∷ rs) to a =
-    let rest = says_read (moved depth (kind_of (line_of a.0))) ls rs to a.4 in
+    let rest = says_read (moved depth (kind_of (said_line a.0))) ls rs to a.4 in
     let x : ℕ × Said = (l.0, a.0) in
     record { xs = x ∷ rest.xs; say = (refl, a.1, a.2, rest.say); is = let e = a.3 in let f = rest.is in cc; end = rest.end }
 
@@ -49,14 +49,14 @@ told_fault None l = refl
 told_fault (Some f) l = refl
 
 -- what is judged of a line that was read
-judged_same : (depth : ℕ) (x : ℕ × Said) → judged_read (read_of depth x) ≡ judged_at depth x.0 (kind_of (line_of x.1)) (fault_of x.1)
-judged_same depth x = ap (judged_at depth x.0 (kind_of (line_of x.1))) (told_fault (fault_of x.1) (line_of x.1))
+judged_same : (depth : ℕ) (x : ℕ × Said) → judged_read (read_of depth x) ≡ judged_at depth x.0 (kind_of (said_line x.1)) (fault_of x.1)
+judged_same depth x = ap (judged_at depth x.0 (kind_of (said_line x.1))) (told_fault (fault_of x.1) (said_line x.1))
 
 -- what is judged of lines that were read
 pub all_judged : (depth : ℕ) (xs : Sayings) → map judged_read (readings depth xs) ≡ judged depth xs
 all_judged depth [] = refl
 all_judged depth (x ∷ xs) =
-    ap₂ (λ (j : Judged) (js : List Judged). j ∷ js) (judged_same depth x) (all_judged (moved depth (kind_of (line_of x.1))) xs)
+    ap₂ (λ (j : Judged) (js : List Judged). j ∷ js) (judged_same depth x) (all_judged (moved depth (kind_of (said_line x.1))) xs)
 
 -- ---- nothing is wrong with lines that aren't refused
 
@@ -100,7 +100,7 @@ list_cause : (o : One) (vs : List (Of o)) → IsCause (fault_of_list o vs)
 list_cause value vs = long_cause vs
 list_cause _ vs = nothing
 
-part_cause : (p : Part) (v : Holds p) → IsCause (fault_in allowed p v)
+part_cause : (p : Part) (v : Contents p) → IsCause (fault_in allowed p v)
 part_cause (one o) v = one_cause o v
 part_cause (perhaps w o) v = nothing
 part_cause (many o) vs = list_cause o vs
@@ -128,11 +128,11 @@ no_cause _ nest m h e = absurd cc
 no_cause _ long m h e = absurd cc
 no_cause _ sources m h e = absurd cc
 
-no_fault : (depth : ℕ) (x : Said) → misplacing depth (kind_of (line_of x)) (fault_of x) ≡ None → excess (fault_of x) ≡ None → fault_of x ≡ None
+no_fault : (depth : ℕ) (x : Said) → misplacing depth (kind_of (said_line x)) (fault_of x) ≡ None → excess (fault_of x) ≡ None → fault_of x ≡ None
 no_fault depth x m e =
     let w = fault_of x in
     let a = neither (missing w) _ m in
-    no_cause w (line_cause (row x.0).1 x.1) a.0 (not_chosen (is_nested depth (kind_of (line_of x))) why.Nest (high w) a.1).1 e
+    no_cause w (line_cause (row x.0).1 x.1) a.0 (not_chosen (is_nested depth (kind_of (said_line x))) why.Nest (high w) a.1).1 e
 
 -- nothing is wrong with these lines
 abbrev pub AllSound : Sayings → Type 0
@@ -146,8 +146,8 @@ no_why k (Some w) e = absurd cc
 sound_by : (depth : ℕ) (xs : Sayings) → first_misplaced (judged depth xs) ≡ None → first_excess (judged depth xs) ≡ None → AllSound xs
 sound_by depth [] m e = tt
 sound_by depth (x ∷ xs) m e =
-    let j = judged_at depth x.0 (kind_of (line_of x.1)) (fault_of x.1) in
-    let next = moved depth (kind_of (line_of x.1)) in
+    let j = judged_at depth x.0 (kind_of (said_line x.1)) (fault_of x.1) in
+    let next = moved depth (kind_of (said_line x.1)) in
     let a = neither (option_map (fault_at x.0) j.misplaced) (first_misplaced (judged next xs)) m in
     let b = neither (option_map (fault_at x.0) j.excess) (first_excess (judged next xs)) e in
     (no_fault depth x.1 (no_why x.0 j.misplaced a.0) (no_why x.0 j.excess b.0), sound_by next xs a.1 b.1)
@@ -165,10 +165,10 @@ sound depth xs e =
 pub all_kept : (depth : ℕ) (xs : Sayings) → AllSound xs → sound_lines (readings depth xs) ≡ said_lines xs
 all_kept depth [] s = refl
 all_kept depth (x ∷ xs) s =
-    let told_whole : told x.1 ≡ Ok (line_of x.1) = ap (λ (o : Option FormulaFault). unless_faulty o (line_of x.1)) s.0 in
-    let next = moved depth (kind_of (line_of x.1)) in
+    let told_whole : line_or_fault x.1 ≡ Ok (said_line x.1) = ap (λ (o : Option FormulaFault). unless_faulty o (said_line x.1)) s.0 in
+    let next = moved depth (kind_of (said_line x.1)) in
     ap (λ (o : Result Line FormulaFault). with_line o (sound_lines (readings next xs))) told_whole
-    ∙ ap (λ (ls : List Line). line_of x.1 ∷ ls) (all_kept next xs s.1)
+    ∙ ap (λ (ls : List Line). said_line x.1 ∷ ls) (all_kept next xs s.1)
 
 not_many : (n : ℕ) → nat_lt 64 n ≡ false → n ≤ 64
 not_many n e = grind (arith, nat_tests)

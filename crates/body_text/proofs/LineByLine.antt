@@ -10,9 +10,9 @@ use Rattle.body_text.specs.declared.judge.ReadLine.{ReadLine}
 use Rattle.body_text.specs.declared.line.Found.{Found}
 use Rattle.body_text.specs.declared.line.LineKind.{LineKind}
 use Rattle.body_text.specs.declared.line.LineKind.TheVariants as kind
-use Rattle.body_text.specs.Grammar.{Said, Writes, line_of}
+use Rattle.body_text.specs.Grammar.{Said, Writes, said_line}
 use Rattle.body_text.specs.Places.{fits, kind_of, moved}
-use Rattle.body_text.specs.Readings.{IsFaulty}
+use Rattle.body_text.specs.Verdicts.{IsFaulty}
 use Rattle.body_text.specs.Views.{AreRead, Unended, found_of, read_at}
 use Rattle.body_text.proofs.Judgements.{says_read}
 
@@ -20,13 +20,13 @@ use Rattle.body_text.proofs.Judgements.{says_read}
 pub record FoundAt (depth : ℕ) (bytes : List ℕ) (f : Found) : Type 0 where
   pub said : Said
   pub writes : Writes said bytes
-  pub stands : IsTrue (fits depth (kind_of (line_of said)))
+  pub stands : IsTrue (fits depth (kind_of (said_line said)))
   pub is : f ≡ found_of said
 
-pub found_at : (depth : ℕ) (bytes : List ℕ) (f : Found) → (x : Said) × Writes x bytes × IsTrue (fits depth (kind_of (line_of x))) × (f ≡ found_of x) → FoundAt depth bytes f
+pub found_at : (depth : ℕ) (bytes : List ℕ) (f : Found) → (x : Said) × Writes x bytes × IsTrue (fits depth (kind_of (said_line x))) × (f ≡ found_of x) → FoundAt depth bytes f
 found_at depth bytes f h = record { said = h.0; writes = h.1; stands = h.2; is = h.3 }
 
-after_line : (n m : ℕ) (bytes : List ℕ) (f : Found) (a : FoundAt n bytes f) → m ≡ moved n f.kind → m ≡ moved n (kind_of (line_of a.said))
+after_line : (n m : ℕ) (bytes : List ℕ) (f : Found) (a : FoundAt n bytes f) → m ≡ moved n f.kind → m ≡ moved n (kind_of (said_line a.said))
 after_line n m bytes f a e = e ∙ ap (λ (g : Found). moved n g.kind) a.is
 
 -- the lines from a place on are the one there and those behind it

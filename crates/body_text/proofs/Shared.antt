@@ -1,6 +1,6 @@
 -- What crates above may cite of these proofs. All else in this folder is this crate's own.
 
 -- lines are exactly one body, or refused for exactly one cause
-pub use Rattle.body_text.proofs.Deciding.{one_answer, some_answer}
+pub use Rattle.body_text.proofs.Uniqueness.{one_answer, some_answer}
 -- what is printed of a body is read back as it, line by line
-pub use Rattle.body_text.proofs.Rewriting.{read_anew, whole_lines}
+pub use Rattle.body_text.proofs.Printer.{read_anew, whole_lines}

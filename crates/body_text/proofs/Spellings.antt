@@ -9,7 +9,7 @@ use Rattle.sig_words.specs.Lexemes.{Lexeme, word, lexeme, lexemes, text_at}
 use Rattle.sig_words.specs.Tokens.{AreTokens, IsBad, IsTokenOf}
 use Rattle.sig_words.proofs.Shared.{each_token, token_word_utf8, lexeme-Word}
 use Rattle.line_forms.specs.Forms.{Args}
-use Rattle.line_forms.specs.Reading.{read_form}
+use Rattle.line_forms.specs.Reader.{read_form}
 use Rattle.line_forms.specs.Rows.{first_of, rows_of, said_of}
 use Rattle.line_forms.specs.Told.{ahead}
 use Rattle.line_forms.proofs.Shared as lines

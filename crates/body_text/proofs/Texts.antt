@@ -22,10 +22,10 @@ use Rattle.sig_untrack.specs.Stated.{Stated, Rewiring, Bodies, Putting, held_lin
 use Rattle.body_text.specs.declared.line.Line.{Line}
 use Rattle.body_text.specs.declared.line.Line.TheVariants as line
 use Rattle.body_text.specs.declared.line.Source.TheVariants as source
-use Rattle.body_text.specs.Printing.{TextParts, end_line, parts_text, plain_text, rewire_text, text_at}
+use Rattle.body_text.specs.Texts.{TextParts, end_line, parts_text, plain_text, rewire_text, text_at}
 use Rattle.body_text.specs.Statements.{Statements, lines_of}
 use Rattle.body_text.specs.Grammar.{said_of}
-use Rattle.body_text.specs.Writing.{Parts, body_text, effect_at, ended_line, lines_text, meaning, meanings, meant, named_line, rewire_line, rewired_at, source_of, text_of}
+use Rattle.body_text.specs.Printer.{Parts, body_text, effect_at, ended_line, lines_text, meaning, meanings, meant, named_line, rewire_line, rewired_at, source_of, text_of}
 
 -- ---- what stands at a place
 

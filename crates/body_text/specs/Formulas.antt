@@ -2,10 +2,10 @@
 use Rattle.std.specs.Prelude.{◌≡◌, ◌≤◌, length}
 use Rattle.std.specs.Coded.{Coded, code_by, coded_list, coded_ℕ, coded×}
 use Rattle.sig_base.specs.declared.limits.TheConstants.{MOST_SOURCES}
-use Rattle.sig_formula.specs.Coding.{tree_code}
+use Rattle.sig_formula.specs.Codes.{tree_code}
 use Rattle.formula_text.specs.Canonical.{unslotted}
 use Rattle.formula_text.specs.Grammar.{Draft}
-use Rattle.formula_text.specs.Wiring.{Wiring, wired}
+use Rattle.formula_text.specs.Slots.{Wiring, wired}
 use Rattle.formula_text.proofs.Shared.{named_back}
 
 -- the formula with its names in place of their slots

@@ -96,8 +96,8 @@ abbrev pub Said : Type 0
 Said = grammar.Said Row row
 
 -- the line, its formula with names
-abbrev pub line_of : Said → Line
-line_of x = made (row x.0).1 (line_makes x.0) x.1
+abbrev pub said_line : Said → Line
+said_line x = made (row x.0).1 (line_makes x.0) x.1
 
 -- what says a line
 abbrev pub said_of : Line → Said

@@ -1,11 +1,11 @@
-pub mod Building
+pub mod Parts
 pub mod Formulas
 pub mod Grammar
-pub mod Judging
-pub mod Naming
+pub mod Refusals
+pub mod Names
 pub mod Places
-pub mod Printing
-pub mod Readings
+pub mod Texts
+pub mod Verdicts
 pub mod Statements
 pub mod Views
-pub mod Writing
+pub mod Printer

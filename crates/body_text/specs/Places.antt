@@ -5,7 +5,7 @@ use Rattle.body_text.specs.declared.line.Line.{Line}
 use Rattle.body_text.specs.declared.line.Line.TheVariants as line
 use Rattle.body_text.specs.declared.line.LineKind.{LineKind}
 use Rattle.body_text.specs.declared.line.LineKind.TheVariants as kind
-use Rattle.body_text.specs.Grammar.{Said, line_of}
+use Rattle.body_text.specs.Grammar.{Said, said_line}
 
 -- what a line is for its place
 abbrev pub kind_of : Line → LineKind
@@ -28,4 +28,4 @@ moved depth kind.End = depth - 1
 
 -- the places of a body's lines
 abbrev pub places : blocks.Places Said ℕ
-places = record { fits = λ n x. fits n (kind_of (line_of x)); moved = λ n x. moved n (kind_of (line_of x)) }
+places = record { fits = λ n x. fits n (kind_of (said_line x)); moved = λ n x. moved n (kind_of (said_line x)) }

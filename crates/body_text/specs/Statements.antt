@@ -3,7 +3,7 @@ use Rattle.std.specs.Prelude.{ℕ, ◌+◌, List, [], ◌∷◌, ◌++◌, Optio
 use Rattle.effect_model.specs.declared.plain.Plain.{Plain}
 use Rattle.effect_model.specs.Lines.{formula_of, mapped, target_of}
 use Rattle.formula_text.specs.Grammar.{Draft}
-use Rattle.formula_text.specs.Judging.{names, slot_of, slotted, with_name, with_names}
+use Rattle.formula_text.specs.Refusals.{names, slot_of, slotted, with_name, with_names}
 use Rattle.sig_formula.specs.Trees.{Tree}
 use Rattle.sig_untrack.specs.Stated as stated
 use Rattle.sig_untrack.specs.Stated.{Stated, Rewiring, Bodies, body, no_bodies}

@@ -2,7 +2,7 @@
 use Rattle.std.specs.Prelude.{◌≡◌, ◌<◌, ℕ, List, [], ◌∷◌, Option, Some, None, option_map, Result, Ok, Err, IsTrue}
 use Rattle.std.specs.Option.{option_or}
 use Rattle.formula_text.specs.declared.wired.FormulaFault.{FormulaFault}
-use Rattle.line_forms.specs.Reading.{read_form}
+use Rattle.line_forms.specs.Reader.{read_form}
 use Rattle.line_forms.specs.Told.{unless_faulty}
 use Rattle.script_lines.specs.Lines.{NumberedLine}
 use Rattle.sig_untrack.specs.declared.body.Body.{Body}
@@ -14,10 +14,10 @@ use Rattle.body_text.specs.declared.line.Found.{Found}
 use Rattle.body_text.specs.declared.line.Line.{Line}
 use Rattle.body_text.specs.declared.read.Reading.{Reading}
 use Rattle.body_text.specs.declared.read.Reading.TheVariants as reading
-use Rattle.body_text.specs.Grammar.{Row, row, Said, Writes, line_of}
-use Rattle.body_text.specs.Judging.{Judged, excess, fault_of, misplacing}
+use Rattle.body_text.specs.Grammar.{Row, row, Said, Writes, said_line}
+use Rattle.body_text.specs.Refusals.{Judged, excess, fault_of, misplacing}
 use Rattle.body_text.specs.Places.{fits, kind_of, moved}
-use Rattle.body_text.specs.Readings.{Answer, IsFaulty, Say, Sayings, reached}
+use Rattle.body_text.specs.Verdicts.{Answer, IsFaulty, Say, Sayings, reached}
 
 -- ---- one line
 
@@ -27,12 +27,12 @@ IsTold wrong x (Ok y) = (y ≡ x) × (wrong ≡ None)
 IsTold wrong x (Err f) = wrong ≡ Some f
 
 -- a line that says this, or what is wrong with it
-abbrev pub told : Said → Result Line FormulaFault
-told x = unless_faulty (fault_of x) (line_of x)
+abbrev pub line_or_fault : Said → Result Line FormulaFault
+line_or_fault x = unless_faulty (fault_of x) (said_line x)
 
 -- what is found in a line that says this
 abbrev pub found_of : Said → Found
-found_of x = record { kind = kind_of (line_of x); line = told x }
+found_of x = record { kind = kind_of (said_line x); line = line_or_fault x }
 
 -- what is found in the tokens behind the first word, as a line of this row
 abbrev pub found_as : Row → List Lexeme → Option Found
@@ -62,14 +62,14 @@ read_of depth x = read_at depth x.0 (found_of x.1)
 -- what is read of lines that say this
 abbrev pub readings : ℕ → Sayings → List ReadLine
 readings depth [] = []
-readings depth (x ∷ xs) = read_of depth x ∷ readings (moved depth (kind_of (line_of x.1))) xs
+readings depth (x ∷ xs) = read_of depth x ∷ readings (moved depth (kind_of (said_line x.1))) xs
 
 -- from where so many are begun up to where so many are, the lines were read so
 abbrev pub AreRead : ℕ → List NumberedLine → List ReadLine → ℕ → Type 0
 AreRead depth [] [] to = depth ≡ to
 AreRead depth (l ∷ ls) (r ∷ rs) to =
-    (x : Said) × Writes x l.1 × IsTrue (fits depth (kind_of (line_of x))) × (r ≡ read_of depth (l.0, x))
-    × AreRead (moved depth (kind_of (line_of x))) ls rs to
+    (x : Said) × Writes x l.1 × IsTrue (fits depth (kind_of (said_line x))) × (r ≡ read_of depth (l.0, x))
+    × AreRead (moved depth (kind_of (said_line x))) ls rs to
 AreRead depth _ _ to = ⊥
 
 -- lines say something, and something that they begin isn't ended

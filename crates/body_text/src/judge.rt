@@ -1,6 +1,6 @@
 // What the lines of a body are refused for.
 ghost use Rattle.std.specs.Prelude.{◌≡◌, ◌∷◌, ◌+◌, ◌<◌, ◌^◌, [], map, MatchOption};
-ghost use Rattle.body_text.specs.Judging.{excess, first_excess, first_misplaced, high, is_nested, many_lines, misplacing, missing, refusal_of};
+ghost use Rattle.body_text.specs.Refusals.{excess, first_excess, first_misplaced, high, is_nested, many_lines, misplacing, missing, refusal_of};
 ghost use Rattle.body_text.specs.Places.{fits, moved};
 ghost use Rattle.body_text.specs.Views.{fault_told, judged_read, read_at};
 

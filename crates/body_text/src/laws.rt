@@ -3,9 +3,9 @@ ghost use Rattle.std.specs.Prelude.{◌≡◌, ℕ, List, Ok};
 ghost use Rattle.script_lines.specs.Lines.{NumberedLine, kept_lines};
 ghost use Rattle.sig_untrack.specs.Stated.{Bodies};
 ghost use Rattle.body_text.specs.Grammar.{Said, Writes};
-ghost use Rattle.body_text.specs.Readings.{Answer, IsRead};
+ghost use Rattle.body_text.specs.Verdicts.{Answer, IsRead};
 ghost use Rattle.body_text.specs.Statements.{lines_of, Statements};
-ghost use Rattle.body_text.specs.Writing.{body_text, lines_of_text, meaning};
+ghost use Rattle.body_text.specs.Printer.{body_text, lines_of_text, meaning};
 
 /// The bytes of a line say one thing.
 pub fn one_line()

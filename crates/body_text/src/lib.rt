@@ -1,7 +1,7 @@
 //! Bodies of effects as text, in both directions.
 #![tactic(auto)]
 
-mod building;
+mod builder;
 mod fault;
 mod judge;
 mod laws;
@@ -9,9 +9,9 @@ mod line;
 mod lists;
 mod named;
 mod read;
-mod reading;
+mod reader;
 mod stmt;
-mod writing;
+mod writer;
 
 pub use fault::{BodyFault, BodyWhy};
 pub use judge::{MOST_BODY_LINES, MOST_LEVELS};
@@ -19,4 +19,4 @@ pub use laws::{bodies_read_back, one_body, one_line};
 pub use line::{Line, PlainLine, Source};
 pub use named::NamedFormula;
 pub use read::{read_body, read_numbered};
-pub use writing::put_body;
+pub use writer::put_body;

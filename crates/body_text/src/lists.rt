@@ -1,10 +1,10 @@
 // The lists of a body that is built.
 ghost use Rattle.std.specs.Prelude.{◌≡◌, ◌+◌, ◌≤◌, ◌<◌, ◌^◌, ◌++◌, ◌∷◌, [], length, map, option_map, IfOk, OnOk};
 ghost use Rattle.sig_formula.specs.Trees.{tree};
-ghost use Rattle.formula_text.specs.Judging.{slot_of, slotted, with_name, with_names};
+ghost use Rattle.formula_text.specs.Refusals.{slot_of, slotted, with_name, with_names};
 ghost use Rattle.sig_untrack.specs.Stated.{before, bodies_before, body, held_line, no_bodies, rewiring, stated, no_more, Bodies};
 ghost use Rattle.effect_model.specs.Lines.{formula_of, target_of};
-ghost use Rattle.body_text.specs.Building.{most_more, size, IsBuilt, IsPut};
+ghost use Rattle.body_text.specs.Parts.{most_more, size, IsBuilt, IsPut};
 ghost use Rattle.body_text.specs.Statements as written;
 ghost use Rattle.body_text.specs.Statements.{placed_line, rewiring_of, with_formula, with_target};
 

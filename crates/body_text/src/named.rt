@@ -3,10 +3,10 @@ ghost use Rattle.std.specs.Prelude.{◌≡◌, ◌+◌, ◌<◌, ◌≤◌, ◌^
 ghost use Rattle.std.specs.List.{list_any};
 ghost use Rattle.std.specs.Str.{bytes_eq};
 ghost use Rattle.sig_formula.specs.Trees.{tree};
-ghost use Rattle.formula_text.specs.Judging.{slot_of, slotted, with_name, with_names};
-ghost use Rattle.formula_text.specs.Wiring.{wired};
+ghost use Rattle.formula_text.specs.Refusals.{slot_of, slotted, with_name, with_names};
+ghost use Rattle.formula_text.specs.Slots.{wired};
 ghost use Rattle.body_text.specs.Formulas.{unwired, IsOwn};
-ghost use Rattle.body_text.specs.Naming.{reslotted, slot_in, with_each};
+ghost use Rattle.body_text.specs.Names.{reslotted, slot_in, with_each};
 
 use formula_text::Wired;
 use sig_base::{MOST_SOURCES, Name, NoMemory};
@@ -160,7 +160,7 @@ impl NamedFormula {
     }
 
     /// Appends the names that aren't there, in the order of the text.
-    #[tactic(auto, using(crate::proofs::Slotting::own_names, crate::proofs::Slotting::few_each))]
+    #[tactic(auto, using(crate::proofs::Slots::own_names, crate::proofs::Slots::few_each))]
     pub(crate) fn put_names(&self, names: &mut Vec<Name>) -> Result<(), NoMemory>
         ensures names { OnOk result (names.new.items ≡ with_names names.old.items self.now) }
         ensures few { OnOk result (length names.new.items ≤ length names.old.items + MOST_SOURCES) }
@@ -169,7 +169,7 @@ impl NamedFormula {
     }
 
     /// The formula with its places among few names as slots.
-    #[tactic(auto, using(crate::proofs::Slotting::among_is))]
+    #[tactic(auto, using(crate::proofs::Slots::among_is))]
     pub(crate) fn among(&self, alloc: Global, names: &[Name]) -> Result<Box<Formula>, NoMemory>
         ensures { length names.now < 2 ^ 32 → IfOk result (λ f. tree f.value ≡ slotted names.now self.now) }
     {

@@ -5,17 +5,17 @@ ghost use Rattle.script_lines.specs.Views.{line_of};
 ghost use Rattle.sig_untrack.specs.Stated.{before, no_bodies};
 ghost use Rattle.body_text.specs.Grammar as rows;
 ghost use Rattle.body_text.specs.Grammar.{Said, Writes};
-ghost use Rattle.body_text.specs.Judging.{refusal_of};
+ghost use Rattle.body_text.specs.Refusals.{refusal_of};
 ghost use Rattle.body_text.specs.Places.{fits, kind_of};
-ghost use Rattle.body_text.specs.Readings.{last_number, unless_refused, IsRead, Refuses};
+ghost use Rattle.body_text.specs.Verdicts.{last_number, unless_refused, IsRead, Refuses};
 ghost use Rattle.body_text.specs.Statements as written;
 ghost use Rattle.body_text.specs.Statements.{lines_of, Statements};
 ghost use Rattle.body_text.specs.Views.{answer_held, found_of, judged_read, sound_lines, IsReading};
 
-use crate::building::{body_of, sound_lines};
+use crate::builder::{body_of, sound_lines};
 use crate::judge::{ReadLine, fits, moved, read_at, refusal_of};
 use crate::line::Found;
-use crate::reading::read_line;
+use crate::reader::read_line;
 use crate::{BodyFault, BodyWhy};
 use script_lines::{NumberedLine, next_piece};
 use sig_base::{MOST_LINE, NoMemory};
@@ -34,8 +34,8 @@ pub enum Reading {
 fn found_at(alloc: Global, depth: usize, line: &[u8]) -> Result<Option<Found>, NoMemory>
     requires { length line.now ≤ MOST_LINE }
     ensures { IfOk result (λ found. MatchOption found
-        ((x : Said) → Writes x line.now → IsTrue (fits depth (kind_of (rows.line_of x))) → ⊥)
-        (λ f. (x : Said) × Writes x line.now × IsTrue (fits depth (kind_of (rows.line_of x))) × (f ≡ found_of x))) }
+        ((x : Said) → Writes x line.now → IsTrue (fits depth (kind_of (rows.said_line x))) → ⊥)
+        (λ f. (x : Said) × Writes x line.now × IsTrue (fits depth (kind_of (rows.said_line x))) × (f ≡ found_of x))) }
 {
     let Some(found) = read_line(alloc, line)? else {
         return Ok(None);

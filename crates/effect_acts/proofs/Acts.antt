@@ -2,8 +2,8 @@
 use Rattle.std.proofs.Common.{◌≡◌, ℕ, ◌+◌, ◌≤◌, ◌++◌, ◌&&◌, not, Bool, true, false, List, [], ◌∷◌, length, Some, None, cond, refl, sym, ap, subst, ◌∙◌, arith}
 use Rattle.signal_model.specs.Recipes.{Hosts}
 use Rattle.effect_model.specs.Acts.{dispose_live, dispose_thing}
-use Rattle.effect_model.specs.Owning as owning
-use Rattle.effect_model.specs.Owning.{put_under}
+use Rattle.effect_model.specs.Owners as owning
+use Rattle.effect_model.specs.Owners.{put_under}
 use Rattle.effect_model.specs.Worlds as plain
 use Rattle.effect_model.specs.Worlds.{lives, tell}
 use Rattle.effect_laws.specs.Frames.{IsOfSignals}
@@ -11,24 +11,24 @@ use Rattle.sig_owner.specs.Tables.{Row, changed_at, live_at, noted, thing_at, wi
 use Rattle.sig_owner.specs.Trees.{has_thing, owned_of}
 use Rattle.sig_owner.proofs.Shared.{has_put, item_lives, item_thing, renamed_put}
 use Rattle.effect_tables.specs.declared.tables.Tables.{Tables}
-use Rattle.effect_tables.specs.Holding.{Holds}
+use Rattle.effect_tables.specs.Consistency.{TablesAgree}
 use Rattle.effect_tables.specs.Placed.{at_rest, numbering, tree_of}
 use Rattle.effect_tables.proofs.Shared.{number_apart, placed_rests}
-use Rattle.effect_undoing.specs.Forming.{AreFormed}
-use Rattle.effect_undoing.specs.Taking.{EndsIn, Takes}
+use Rattle.effect_undoing.specs.Trees.{AreFormed}
+use Rattle.effect_undoing.specs.Teardowns.{EndsIn, Takes}
 use Rattle.effect_undoing.proofs.Shared.{formed_put, taken}
 use Rattle.sig_host.specs.Hosts.{HostPlace}
-use Rattle.sig_effect.specs.Agreeing.{environment}
+use Rattle.sig_effect.specs.Stores.{environment}
 use Rattle.sig_effect.specs.Wholes as wholes
 use Rattle.effect_world.specs.declared.events.Event.{Event}
 use Rattle.effect_world.specs.declared.events.Event.TheVariants as event
 use Rattle.effect_world.specs.declared.world.World.{World}
-use Rattle.effect_world.specs.Acting.{Scene, Undoes, any_hosts, scene}
-use Rattle.effect_world.specs.Agreeing.{Agrees, Does, IsSound}
+use Rattle.effect_world.specs.Signals.{Scene, Undoes, any_hosts, scene}
+use Rattle.effect_world.specs.Stores.{Agrees, Does, IsSound}
 use Rattle.effect_world.specs.Events.{IsTold, Tells}
 use Rattle.effect_world.specs.Wholes.{whole_of}
 use Rattle.effect_world.proofs.Shared.{does_acts, one_told, owned_still, tells_none, tells_one}
-use Rattle.effect_acts.specs.Acting.{Acted}
+use Rattle.effect_acts.specs.Acts.{Acted}
 
 -- one event is told of a world that stays as it is
 told_does : (hosts : Hosts) (asked : List HostPlace) (old : World) (before after : List Event) (ev : Event) (t : plain.Event) (act : plain.World → plain.World) → after ≡ before ++ ev ∷ [] →
@@ -167,7 +167,7 @@ noted_in rows later n c after tree = record {
 abbrev pub with_note : ℕ → owning.Cleanup → plain.World → plain.World
 with_note e c w = record w { owned = put_under (owning.the_effect e) (owning.cleanup c owning.nothing) w.owned }
 
-noted_takes : (t : Tables) (later : List Row) (e n : ℕ) (c : owning.Cleanup) → Holds t → AreFormed (tree_of t) → thing_at t.store n ≡ owning.the_effect e →
+noted_takes : (t : Tables) (later : List Row) (e n : ℕ) (c : owning.Cleanup) → TablesAgree t → AreFormed (tree_of t) → thing_at t.store n ≡ owning.the_effect e →
     EndsIn t.store later [] (put_under (thing_at t.store n) (owning.cleanup c owning.nothing) (owned_of t.store)) →
     Takes t (record t { store = later }) [] (put_under (owning.the_effect e) (owning.cleanup c owning.nothing) (tree_of t))
 noted_takes t later e n c h f is ends =

@@ -3,6 +3,6 @@ mod Refusals
 mod Meant
 mod Tabled
 pub mod Shared
-mod Composing
+mod Sequences
 mod Ordered
-pub mod SharedDoing
+pub mod SharedActs

@@ -1,22 +1,22 @@
 -- What acts of bodies mean.
 use Rattle.std.proofs.Common.{◌≡◌, ℕ, zero, suc, List, [], ◌∷◌, map, Option, Some, None, refl, sym, ap, subst, ◌∙◌}
 use Rattle.std.specs.Prelude.{slice_get}
-use Rattle.effect_model.specs.Owning.{Thing, the_signal}
+use Rattle.effect_model.specs.Owners.{Thing, the_signal}
 use Rattle.sig_untrack.specs.declared.body.Body.{Body}
 use Rattle.sig_untrack.specs.declared.body.Body.TheViews.{out-Body}
-use Rattle.sig_untrack.specs.Linking.{Parts, Rewired}
+use Rattle.sig_untrack.specs.Links.{Parts, Rewired}
 use Rattle.sig_untrack.specs.Stated.{Rewiring, Source, formula, host, rewiring}
 use Rattle.sig_nodes.specs.Answers.{HasFewSlots}
 use Rattle.effect_tables.specs.declared.effect.Script.{Script}
 use Rattle.effect_tables.specs.declared.links.Links.{Links}
 use Rattle.effect_tables.specs.declared.links.Links.TheViews.{out-Links}
-use Rattle.effect_tables.specs.Fitting.{AreFew, IsFew}
-use Rattle.effect_tables.specs.Linking as tables
-use Rattle.effect_tables.specs.Linking.{rewired, signal_number, target_thing}
+use Rattle.effect_tables.specs.Scripts.{AreFew, IsFew}
+use Rattle.effect_tables.specs.Bodies as tables
+use Rattle.effect_tables.specs.Bodies.{rewired, signal_number, target_thing}
 use Rattle.effect_undoing.specs.Sites.{IsPart, parts_of, slots_in}
 use Rattle.effect_undoing.proofs.SharedSites.{part_parts}
 use Rattle.effect_acts.specs.declared.changes.Change.{Change}
-use Rattle.effect_acts.specs.Changing.{IsMeant}
+use Rattle.effect_acts.specs.Rewires.{IsMeant}
 
 -- ---- a host formula has few arguments
 

@@ -4,19 +4,19 @@ use Rattle.std.specs.Prelude.{if◌then◌else◌}
 use Rattle.std.proofs.lemmas.List.{map-append, take_all, take_more}
 use Rattle.signal_model.specs.Recipes.{Hosts}
 use Rattle.effect_model.specs.Bodies.{Act, to_make}
-use Rattle.effect_model.specs.Owning.{the_effect}
-use Rattle.effect_model.specs.Running.{do_act, do_acts, next_child}
+use Rattle.effect_model.specs.Owners.{the_effect}
+use Rattle.effect_model.specs.Runs.{do_act, do_acts, next_child}
 use Rattle.effect_model.specs.Worlds as plain
 use Rattle.effect_model.specs.Worlds.{lives}
 use Rattle.effect_resting.proofs.Shared.{all_rest}
 use Rattle.sig_untrack.specs.declared.body.Act.{Act as AnAct}
-use Rattle.sig_untrack.specs.Linking.{Parts, act_of, acts_of}
-use Rattle.effect_world.specs.Acting.{Scene}
-use Rattle.effect_world.specs.Agreeing.{Agrees}
-use Rattle.effect_acts.specs.Acting.{Acted}
+use Rattle.sig_untrack.specs.Links.{Parts, act_of, acts_of}
+use Rattle.effect_world.specs.Signals.{Scene}
+use Rattle.effect_world.specs.Stores.{Agrees}
+use Rattle.effect_acts.specs.Acts.{Acted}
 use Rattle.effect_acts.proofs.Shared.{acted_lent}
-use Rattle.effect_acts.specs.Labelling.{labelled}
-use Rattle.effect_acts.proofs.Composing.{acted_then}
+use Rattle.effect_acts.specs.Labels.{labelled}
+use Rattle.effect_acts.proofs.Sequences.{acted_then}
 
 -- ---- labels
 

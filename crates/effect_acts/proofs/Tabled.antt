@@ -1,30 +1,30 @@
 -- What acts leave of the tables.
 use Rattle.std.proofs.Common.{◌≡◌, ℕ, ◌+◌, ◌≤◌, ◌++◌, List, [], ◌∷◌, length, Some, None, refl, sym, ap, subst, ◌∙◌, arith}
 use Rattle.effect_model.specs.Bodies.{Body}
-use Rattle.effect_model.specs.Owning.{Owned, alone, put_under, the_effect, the_owner, the_signal}
+use Rattle.effect_model.specs.Owners.{Owned, alone, put_under, the_effect, the_owner, the_signal}
 use Rattle.effect_model.specs.Worlds as plain
 use Rattle.effect_model.specs.Worlds.{tell}
-use Rattle.sig_owner.specs.Renaming.{renamed}
+use Rattle.sig_owner.specs.Renames.{renamed}
 use Rattle.sig_owner.specs.Trees.{has_thing, owned_of}
 use Rattle.effect_tables.specs.declared.tables.Tables.{Tables}
-use Rattle.effect_tables.specs.Adopting.{with_child}
-use Rattle.effect_tables.specs.Holding.{Holds, LeavesOut}
-use Rattle.effect_tables.specs.Numbering.{number_in}
+use Rattle.effect_tables.specs.Children.{with_child}
+use Rattle.effect_tables.specs.Consistency.{TablesAgree, LeavesOut}
+use Rattle.effect_tables.specs.Owners.{number_in}
 use Rattle.effect_tables.specs.Placed.{at_rest, placed, tree_of}
 use Rattle.effect_tables.proofs.Shared.{placed_rests}
-use Rattle.effect_undoing.specs.Forming.{AreFormed}
+use Rattle.effect_undoing.specs.Trees.{AreFormed}
 use Rattle.effect_undoing.proofs.Shared.{formed_put}
 use Rattle.sig_host.specs.Hosts.{HostPlace}
-use Rattle.sig_effect.specs.Agreeing.{environment}
+use Rattle.sig_effect.specs.Stores.{environment}
 use Rattle.sig_effect.specs.Wholes as wholes
 use Rattle.effect_world.specs.declared.events.Event.{Event}
 use Rattle.effect_world.specs.declared.world.World.{World}
-use Rattle.effect_world.specs.Acting.{any_hosts, scene}
-use Rattle.effect_world.specs.Agreeing.{Agrees, AreOwned}
+use Rattle.effect_world.specs.Signals.{any_hosts, scene}
+use Rattle.effect_world.specs.Stores.{Agrees, AreOwned}
 use Rattle.effect_world.specs.Events.{IsTold, Tells}
 use Rattle.effect_world.specs.Wholes.{whole_of}
 use Rattle.effect_world.proofs.Shared.{one_told, tells_one}
-use Rattle.effect_acts.specs.Acting.{Acted}
+use Rattle.effect_acts.specs.Acts.{Acted}
 
 -- the tables were changed, and one event told
 pub acted_tabled : (slacks : List ℕ) (old : World) (u : Tables) (asked : List HostPlace) (before after : List Event) (ev : Event) (t : plain.Event)
@@ -52,7 +52,7 @@ acted_tabled slacks old u asked before after ev t act change does is quiet one m
     }
 
 -- all stands where it stood
-pub owned_kept : (old : World) (u : Tables) → u.store ≡ old.tables.store → u.owners ≡ old.tables.owners → Holds u → AreOwned old → AreOwned (record old { tables = u })
+pub owned_kept : (old : World) (u : Tables) → u.store ≡ old.tables.store → u.owners ≡ old.tables.owners → TablesAgree u → AreOwned old → AreOwned (record old { tables = u })
 owned_kept old u store owners h o =
     let tree : tree_of u ≡ tree_of old.tables = λ i. renamed (number_in (owners i).items) (owned_of (store i)) in
     record {
@@ -65,7 +65,7 @@ none_some : (k : ℕ) → None ≡ Some k → ⊥
 none_some k e = cc
 
 -- a child stands under its parent
-pub owned_child : (asked : List HostPlace) (old : World) (u : Tables) (e : ℕ) (b : Body) → ((w : plain.World) → placed u w ≡ with_child e b (placed old.tables w)) → LeavesOut None old.tables.store u.store → Holds u →
+pub owned_child : (asked : List HostPlace) (old : World) (u : Tables) (e : ℕ) (b : Body) → ((w : plain.World) → placed u w ≡ with_child e b (placed old.tables w)) → LeavesOut None old.tables.store u.store → TablesAgree u →
     AreOwned old → AreOwned (record old { tables = u })
 owned_child asked old u e b does out h o =
     let s : plain.World = wholes.whole_of asked old.signals in

@@ -1,3 +1,3 @@
-pub mod Acting
-pub mod Changing
-pub mod Labelling
+pub mod Acts
+pub mod Rewires
+pub mod Labels

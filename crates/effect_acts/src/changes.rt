@@ -1,13 +1,13 @@
 // What the places of a body stand for.
 ghost use Rattle.std.specs.Prelude.{◌≡◌, IfOk, None, Some, map, slice_get};
-ghost use Rattle.effect_model.specs.Owning.{the_signal};
+ghost use Rattle.effect_model.specs.Owners.{the_signal};
 ghost use Rattle.sig_untrack.specs.Stated.{rewiring, source};
 ghost use Rattle.sig_nodes.specs.Answers.{expression_of, HasFewSlots};
-ghost use Rattle.effect_tables.specs.Fitting.{AreFew, IsFew};
-ghost use Rattle.effect_tables.specs.Linking as tables;
-ghost use Rattle.effect_tables.specs.Linking.{rewired, signal_number, target_thing, thing_of};
+ghost use Rattle.effect_tables.specs.Scripts.{AreFew, IsFew};
+ghost use Rattle.effect_tables.specs.Bodies as tables;
+ghost use Rattle.effect_tables.specs.Bodies.{rewired, signal_number, target_thing, thing_of};
 ghost use Rattle.effect_undoing.specs.Sites.{slots_in};
-ghost use Rattle.effect_acts.specs.Changing.{IsMeant};
+ghost use Rattle.effect_acts.specs.Rewires.{IsMeant};
 
 use effect_tables::{Slots, Target, Thing};
 use sig_base::{EffectId, NoMemory, NodeId};

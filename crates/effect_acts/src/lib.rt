@@ -1,24 +1,24 @@
 //! What a run of an effect does to the world, act by act and in order. What an act names that is gone is told as refused.
 #![tactic(auto)]
 
-mod acting;
+mod act;
+mod cells;
 mod changes;
-mod changing;
-mod disposing;
-mod doing;
-mod keeping;
-mod making;
-mod noting;
-mod rewiring;
-mod saying;
+mod children;
+mod cleanups;
+mod disposal;
+mod messages;
+mod reads;
+mod recipes;
+mod sequence;
 
-pub use acting::do_act;
+pub use act::do_act;
+pub use cells::set;
 pub use changes::Change;
-pub use changing::set;
-pub use disposing::dispose;
-pub use doing::do_acts;
-pub use keeping::keep_reads;
-pub use making::make_child;
-pub use noting::note;
-pub use rewiring::rewire;
-pub use saying::{fail, log};
+pub use children::make_child;
+pub use cleanups::note;
+pub use disposal::dispose;
+pub use messages::{fail, log};
+pub use reads::keep_reads;
+pub use recipes::rewire;
+pub use sequence::do_acts;

@@ -6,15 +6,15 @@ use Rattle.std.proofs.lemmas.Bool.{eqb-true}
 use Rattle.std.proofs.lemmas.List.{append-nil}
 use Rattle.sig_base.specs.declared.value.Value.{Value}
 use Rattle.signal_model.specs.Recipes.{Recipe}
-use Rattle.signal_model.specs.Standing.{Signals, Cell, Computed, Stands, IsGone, IsCell, IsComputed, is_in, is_there, standing}
+use Rattle.signal_model.specs.Signals.{Signals, Cell, Computed, Stands, IsGone, IsCell, IsComputed, is_in, is_there, standing}
 use Rattle.signal_model.specs.Sound.{names_of}
 use Rattle.signal_model.specs.Memos.{Memos}
 use Rattle.signal_model.specs.Settling.{Settled, settled}
 use Rattle.signal_model.specs.Asks.{Moment, moments}
 use Rattle.signal_model.specs.Changes.{with_cell, with_computed, after_making, with_value, after_change, with_recipe, after_rewiring, without_signal}
 use Rattle.signal_model.specs.Changes.{after_disposal}
-use Rattle.effect_model.specs.Owning.{Thing, the_signal, the_effect, sets, logs, Undoing, cleans, ends, teardown_of, under, emptied, taken_out}
-use Rattle.effect_model.specs.Owning.{disposal_of}
+use Rattle.effect_model.specs.Owners.{Thing, the_signal, the_effect, sets, logs, Undoing, cleans, ends, teardown_of, under, emptied, taken_out}
+use Rattle.effect_model.specs.Owners.{disposal_of}
 use Rattle.effect_model.specs.Bodies.{Act, to_set, to_log, to_note, to_make, to_dispose, to_rewire, BodyEvaluation, BodyResult, to_do, failed_by}
 use Rattle.effect_model.specs.Bodies.{body_evaluation}
 use Rattle.effect_model.specs.Worlds.{Counts, Environment, HostState, used, dropped, Watcher, Effect, Event, ran, logged, cleaned, gone, failed, dropped_host}
@@ -22,7 +22,7 @@ use Rattle.effect_model.specs.Worlds.{thing_gone, host_taken, still_due, refused
 use Rattle.effect_model.specs.Acts.{notified_by, frozen_by, told_of, told_frozen, notify, are_alike, with_new_value, set_standing, set_cell, host_of}
 use Rattle.effect_model.specs.Acts.{asks_so_far, with_drop, with_use, is_free, host_refused, gone_refused, some_gone, rewiring_refused}
 use Rattle.effect_model.specs.Acts.{rewire_standing, rewire_signal, end_standing, end_of, undo, undo_all, take_back, dispose_live, dispose_thing}
-use Rattle.effect_model.specs.Running.{do_act, keep_reads, do_result, run_effect, turn, flush}
+use Rattle.effect_model.specs.Runs.{do_act, keep_reads, do_result, run_effect, turn, flush}
 use Rattle.effect_model.specs.Commands.{Command, cell, computed, owner, effect, page, watcher, watch, unwatch, set, rewire, ask, dispose, flush_all}
 use Rattle.effect_model.specs.Commands.{inside_refused, with_new_computed, told_if, command_refused, done_by, after_command, after_commands}
 use Rattle.effect_laws.specs.Counts.{others}
@@ -171,8 +171,8 @@ told_more P w es ms ds h k p =
     (sym (drops_append w.told es ∙ ap (λ xs. drops_told w.told ++ xs) k)) p)
 
 -- what tells of neither
-told : (P : Core → Type 0) (w : World) (es : List Event) → runs_told es ≡ [] → drops_told es ≡ [] → P (core_of w) → P (core_of (tell_all es w))
-told P w es h k p =
+tells_neither : (P : Core → Type 0) (w : World) (es : List Event) → runs_told es ≡ [] → drops_told es ≡ [] → P (core_of w) → P (core_of (tell_all es w))
+tells_neither P w es h k p =
     told_more P w es [] [] h k
     (subst (λ rs. P (record (core_of w) { runs = rs; drops = drops_told w.told ++ [] })) (sym (append-nil (runs_told w.told)))
     (subst (λ ds. P (record (core_of w) { drops = ds })) (sym (append-nil (drops_told w.told))) p))
@@ -210,11 +210,11 @@ settle_keeps_core env P k names w p =
 notify_keeps : (P : Core → Type 0) (n : ℕ) (w : World) → P (core_of w) → P (core_of (notify n w))
 notify_keeps P n w p =
     let xs : List Watcher = notified_by w.signals w.memos n w.watchers in
-    told P w (told_of xs ++ told_frozen (frozen_by xs)) (notified_runs xs (frozen_by xs)) (notified_drops xs (frozen_by xs)) p
+    tells_neither P w (told_of xs ++ told_frozen (frozen_by xs)) (notified_runs xs (frozen_by xs)) (notified_drops xs (frozen_by xs)) p
 
 set_case : (env : Environment) (P : Core → Type 0) → IsKeptByEdits P → (n : ℕ) (v : Value) (s : Stands) (w : World) → standing w.signals n ≡ s →
     P (core_of w) → P (core_of (set_standing s env n v w))
-set_case env P k n v IsGone w e p = told P w (refused (thing_gone (the_signal n)) ∷ []) refl refl p
+set_case env P k n v IsGone w e p = tells_neither P w (refused (thing_gone (the_signal n)) ∷ []) refl refl p
 set_case env P k n v (IsCell x) w e p = go (are_alike env.slacks x.rule x.value v)
   where
     go : (b : Bool) → P (core_of (cond b w (with_new_value n v w)))
@@ -290,7 +290,7 @@ rewire_keeps_core P k n r w p =
     neither (some_gone r.slots w) (host_refused (host_of r.expression) w)
     (neither (gone_refused (the_signal n) w) (option_or (some_gone r.slots w) (host_refused (host_of r.expression) w)) h).1 in
     rewire_case P k n r (standing w.signals n) w refl (all_stand r.slots w fine.0) (free_host (host_of r.expression) w fine.1) p)
-    (λ why. told P w (refused why ∷ []) refl refl p)
+    (λ why. tells_neither P w (refused why ∷ []) refl refl p)
 
 pub set_keeps_core : (env : Environment) (P : Core → Type 0) → IsKeptByEdits P → (n : ℕ) (v : Value) (w : World) → P (core_of w) →
     P (core_of (set_cell env n v w))
@@ -311,10 +311,10 @@ end_keeps P k _ w p = p
 
 undo_keeps : (env : Environment) (P : Core → Type 0) → IsKeptByEdits P → (u : Undoing) (w : World) → P (core_of w) → P (core_of (undo env u w))
 undo_keeps env P k (cleans h (sets n v)) w p =
-    set_case env P k n v (standing w.signals n) (tell (cleaned h (sets n v)) w) refl (told P w (cleaned h (sets n v) ∷ []) refl refl p)
+    set_case env P k n v (standing w.signals n) (tell (cleaned h (sets n v)) w) refl (tells_neither P w (cleaned h (sets n v) ∷ []) refl refl p)
 undo_keeps env P k (cleans h (logs v)) w p =
-    told P (tell (cleaned h (logs v)) w) (logged v ∷ []) refl refl (told P w (cleaned h (logs v) ∷ []) refl refl p)
-undo_keeps env P k (ends h) w p = told P (end_of h w) (gone h ∷ []) refl refl (end_keeps P k h w p)
+    tells_neither P (tell (cleaned h (logs v)) w) (logged v ∷ []) refl refl (tells_neither P w (cleaned h (logs v) ∷ []) refl refl p)
+undo_keeps env P k (ends h) w p = tells_neither P (end_of h w) (gone h ∷ []) refl refl (end_keeps P k h w p)
 
 undo_all_keeps : (env : Environment) (P : Core → Type 0) → IsKeptByEdits P → (us : List Undoing) (w : World) → P (core_of w) →
     P (core_of (undo_all env us w))
@@ -331,22 +331,22 @@ dispose_keeps_core env P k t w p = go (lives t w)
   where
     go : (b : Bool) → P (core_of (cond b (dispose_live env t w) (tell (refused (thing_gone t)) w)))
     go true = undo_all_keeps env P k (disposal_of t w.owned) (record w { owned = taken_out t w.owned }) p
-    go false = told P w (refused (thing_gone t) ∷ []) refl refl p
+    go false = tells_neither P w (refused (thing_gone t) ∷ []) refl refl p
 
 -- ---- acts, runs and commands
 
 act_keeps : (env : Environment) (P : Core → Type 0) → IsKeptByActs env P → (e j : ℕ) (a : Act) (w : World) → P (core_of w) →
     P (core_of (do_act env e j a w))
 act_keeps env P k e j (to_set n v) w p = set_keeps_core env P k.edits n v w p
-act_keeps env P k e j (to_log v) w p = told P w (logged v ∷ []) refl refl p
-act_keeps env P k e j (to_note c) w p = told P w _ refl refl p
-act_keeps env P k e j (to_make b) w p = told P w _ refl refl p
+act_keeps env P k e j (to_log v) w p = tells_neither P w (logged v ∷ []) refl refl p
+act_keeps env P k e j (to_note c) w p = tells_neither P w _ refl refl p
+act_keeps env P k e j (to_make b) w p = tells_neither P w _ refl refl p
 act_keeps env P k e j (to_dispose t) w p = dispose_keeps_core env P k.edits t w p
 act_keeps env P k e j (to_rewire n r) w p = rewire_keeps_core P k.edits n r w p
 
 result_keeps : (env : Environment) (P : Core → Type 0) → IsKeptByActs env P → (e : ℕ) (r : BodyResult) (w : World) → P (core_of w) →
     P (core_of (do_result env e r w))
-result_keeps env P k e (failed_by f) w p = told P w (failed e f ∷ []) refl refl p
+result_keeps env P k e (failed_by f) w p = tells_neither P w (failed e f ∷ []) refl refl p
 result_keeps env P k e (to_do as') w p = acts_keep env (λ v. P (core_of v)) e (λ j a v h q. act_keeps env P k e j a v q) 1 as' w p
 
 pub run_keeps_core : (env : Environment) (P : Core → Type 0) → IsKeptByActs env P → (x : Effect) (w : World) → P (core_of w) →
@@ -357,7 +357,7 @@ run_keeps_core env P k x w p =
     let b : BodyEvaluation = body_evaluation env.hosts w'.signals x.body in
     let v : World = settle env (names_of b.reads) w' in
     result_keeps env P k x.number b.result (keep_reads x.number b.tracked v)
-    (told P v _ refl refl (settle_keeps_core env P k (names_of b.reads) w'
+    (tells_neither P v _ refl refl (settle_keeps_core env P k (names_of b.reads) w'
     (back_keeps_core env P k.edits e w p)))
 
 by_runs : (env : Environment) (P : Core → Type 0) → IsKeptByActs env P → IsKeptByRuns env (λ v. P (core_of v))
@@ -371,7 +371,7 @@ pub flush_keeps_core : (env : Environment) (P : Core → Type 0) → IsKeptByAct
 flush_keeps_core env P k w p = flush_keeps env (λ v. P (core_of v)) (by_runs env P k) 100 w p
 
 told_if_keeps : (P : Core → Type 0) (b : Bool) (w : World) → P (core_of w) → P (core_of (told_if b w))
-told_if_keeps P true w p = told P w (refused still_due ∷ []) refl refl p
+told_if_keeps P true w p = tells_neither P w (refused still_due ∷ []) refl refl p
 told_if_keeps P false w p = p
 
 done_keeps : (env : Environment) (P : Core → Type 0) → IsKeptByChanges env P → (c : Command) (w : World) → command_refused c w ≡ None →
@@ -400,7 +400,7 @@ pub command_keeps : (env : Environment) (P : Core → Type 0) → IsKeptByChange
     P (core_of (after_command env w c))
 command_keeps env P k w c p =
     either_way (λ v. P (core_of v)) (command_refused c w) (done_by env c w) w (λ h. done_keeps env P k c w h p)
-    (λ why. told P w (refused why ∷ []) refl refl p)
+    (λ why. tells_neither P w (refused why ∷ []) refl refl p)
 
 -- and so do any
 pub commands_keep : (env : Environment) (P : Core → Type 0) → IsKeptByChanges env P → (cs : List Command) (w : World) → P (core_of w) →

@@ -5,7 +5,7 @@ use Rattle.std.proofs.lemmas.Bool.{eqb-true, eq-eqb}
 use Rattle.std.proofs.lemmas.Bool.Decides.{nat_tests}
 use Rattle.std.specs.List.{AllByRecursion}
 use Rattle.signal_model.specs.Recipes.{Hosts, Recipe, Expression, formula, host}
-use Rattle.signal_model.specs.Standing.{Signals, Computed, IsComputed, standing, computed_at, changed, without}
+use Rattle.signal_model.specs.Signals.{Signals, Computed, IsComputed, standing, computed_at, changed, without}
 use Rattle.signal_model.specs.Settling.{Run, settled}
 use Rattle.signal_model.specs.Asks.{Moment, moments, is_host, asks_host, good_reads, asks_of}
 use Rattle.signal_model.proofs.Shared.{tested, stands-computed}

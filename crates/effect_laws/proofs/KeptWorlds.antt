@@ -1,7 +1,7 @@
 -- Commands keep the memos sound, and tell current runs.
 use Rattle.std.proofs.Common.{ℕ, ◌+◌, List, [], ◌∷◌}
 use Rattle.std.specs.List.{AllByRecursion}
-use Rattle.signal_model.specs.Standing.{Signals, Cell, Computed}
+use Rattle.signal_model.specs.Signals.{Signals, Cell, Computed}
 use Rattle.signal_model.specs.Memos.{Memos}
 use Rattle.signal_model.specs.Settling.{Run, settled}
 use Rattle.signal_model.specs.Asks.{moments}
@@ -10,7 +10,7 @@ use Rattle.signal_laws.specs.ChangeLaws.{AllGiven, given_below, IsNext}
 use Rattle.signal_laws.specs.RunLaws.{IsCurrentRun}
 use Rattle.signal_laws.proofs.Shared.{empty_law, set_law, rewire_law, dispose_law, cell_law, computed_law, settle_law, currency_law, all_append, given_next_law, given_empty_law, given_more_law, given_cell_law, given_computed_law, given_set_law, given_rewire_law, given_dispose_law, given_settle_law}
 use Rattle.effect_model.specs.Worlds.{Environment, World}
-use Rattle.effect_model.specs.Running.{flush}
+use Rattle.effect_model.specs.Runs.{flush}
 use Rattle.effect_model.specs.Commands.{new_world, after_command, after_commands}
 use Rattle.effect_laws.specs.KeptWorlds.{IsCurrentMoment, IsKeptWorld, NewWorldLaw, CommandLaw, FlushLaw, CommandsLaw}
 use Rattle.effect_laws.proofs.Changes.{Core, core_of, AllStand, IsKeptByChanges, flush_keeps_core, command_keeps, commands_keep}

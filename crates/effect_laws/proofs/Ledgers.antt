@@ -1,10 +1,10 @@
 -- What is told, what lives, what is owned and what is still to be undone agree.
 use Rattle.std.proofs.Common.{◌≡◌, ℕ, zero, suc, ◌+◌, ◌*◌, ◌≤◌, ◌&&◌, Bool, true, false, cond, List, [], ◌∷◌, ◌++◌, refl, sym, ap, subst, arith}
 use Rattle.std.proofs.lemmas.List.{append_assoc, append-nil}
-use Rattle.effect_model.specs.Owning.{Thing, the_owner, the_effect, same_thing, Cleanup, Owned, nothing, cleanup, Undoing, cleans, ends, teardown_of}
-use Rattle.effect_model.specs.Owning.{under, emptied, taken_out, put_under, disposal_of}
+use Rattle.effect_model.specs.Owners.{Thing, the_owner, the_effect, same_thing, Cleanup, Owned, nothing, cleanup, Undoing, cleans, ends, teardown_of}
+use Rattle.effect_model.specs.Owners.{under, emptied, taken_out, put_under, disposal_of}
 use Rattle.effect_model.specs.Worlds.{Counts, Event, body_ran, cleaned, gone, noted}
-use Rattle.effect_laws.specs.Counting.{bit, Roll, alive, was_made, times, found, waiting_under, ends_in, cleans_in, ends_of, noted_by, cleaned_by}
+use Rattle.effect_laws.specs.Rolls.{bit, Roll, alive, was_made, times, found, waiting_under, ends_in, cleans_in, ends_of, noted_by, cleaned_by}
 use Rattle.effect_laws.specs.Ends.{about, NoneEnded, KeepsCleanups, AreInTime}
 use Rattle.effect_laws.proofs.Trees.{same_is, same_self, ends_append, cleans_append, ends_teardown, cleans_teardown, times_emptied, waiting_emptied}
 use Rattle.effect_laws.proofs.Trees.{none_waits, times_taken, self_taken, waiting_taken, found_least, found_emptied, times_put, waiting_put}

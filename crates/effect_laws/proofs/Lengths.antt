@@ -1,10 +1,10 @@
 -- How much acts tell.
 use Rattle.std.proofs.Common.{◌≡◌, ◌≤◌, ◌+◌, List, [], ◌∷◌, append-nil, arith, length, length-append, cond, Bool, true, sym, ap, subst, ◌∙◌}
-use Rattle.effect_model.specs.Owning.{Thing, Undoing, cleans, ends, disposal_of, emptied, taken_out, teardown_of, under}
+use Rattle.effect_model.specs.Owners.{Thing, Undoing, cleans, ends, disposal_of, emptied, taken_out, teardown_of, under}
 use Rattle.effect_model.specs.Worlds.{Environment, Event, cleaned, gone, refused, thing_gone, World, lives, tell}
 use Rattle.effect_model.specs.Acts.{do_cleanup, end_of, undo, undo_all, take_back, dispose_live, dispose_thing}
-use Rattle.effect_laws.specs.Telling.{behind, OnlyTells}
-use Rattle.effect_laws.proofs.Acting.{cleanup_only, end_only}
+use Rattle.effect_laws.specs.Events.{behind, OnlyTells}
+use Rattle.effect_laws.proofs.Acts.{cleanup_only, end_only}
 
 -- a world with nothing told
 abbrev pub silent : World → World

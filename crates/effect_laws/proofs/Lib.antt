@@ -3,26 +3,26 @@ mod Ledgers
 mod Names
 mod Turns
 mod Steps
-mod Makings
+mod Creations
 mod Runs
 mod Scripts
 mod Silence
-mod Closing
-pub mod SharedAsking
-mod Asking
+mod Cleanups
+pub mod SharedAsks
+mod Asks
 mod Changes
 mod KeptWorlds
 mod HostUse
 mod Notified
-mod Resting
+mod Flushes
 mod QuietFlush
 pub mod Shared
-mod Framing
-mod Tearing
+mod Frames
+mod Teardowns
 pub mod SharedFrames
-mod Acting
-mod Turning
+mod Acts
+mod Events
 mod Lengths
-pub mod SharedTelling
-mod Keeping
+pub mod SharedEvents
+mod Preservation
 pub mod SharedCounts

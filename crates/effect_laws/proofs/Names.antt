@@ -2,13 +2,13 @@
 use Rattle.std.proofs.Common.{◌≡◌, ℕ, ◌+◌, ◌≤◌, ◌==◌, ◌||◌, Bool, true, false, cond, List, [], ◌∷◌, ◌++◌, map, Option, Some, None, refl, sym, ap, ◌∙◌}
 use Rattle.std.proofs.Common.{arith}
 use Rattle.std.proofs.lemmas.Bool.{eqb-true}
-use Rattle.signal_model.specs.Standing.{Signals, Cell, Computed, IsGone, is_in, is_there, cell_at, computed_at, or_computed, standing, changed}
-use Rattle.signal_model.specs.Standing.{without}
-use Rattle.effect_model.specs.Owning.{Thing, the_signal, the_owner, the_effect, the_page, the_watcher}
+use Rattle.signal_model.specs.Signals.{Signals, Cell, Computed, IsGone, is_in, is_there, cell_at, computed_at, or_computed, standing, changed}
+use Rattle.signal_model.specs.Signals.{without}
+use Rattle.effect_model.specs.Owners.{Thing, the_signal, the_owner, the_effect, the_page, the_watcher}
 use Rattle.effect_model.specs.Worlds.{Effect, Watcher, Refused, refused, World, tell, effect_at, effect_numbers, lives}
 use Rattle.effect_model.specs.Acts.{or_refused}
 use Rattle.std.specs.Option.{option_or}
-use Rattle.effect_laws.specs.Counting.{bit, times_in, cell_names, computed_names, roll_of, alive}
+use Rattle.effect_laws.specs.Rolls.{bit, times_in, cell_names, computed_names, roll_of, alive}
 
 -- a change that leaves names leaves the list of names
 pub names_changed : {A : Type 0} (name : A → ℕ) (n : ℕ) (f : A → A) → ((x : A) → name (f x) ≡ name x) → (xs : List A) →

@@ -1,7 +1,7 @@
 -- A change notifies those that are watching a signal that it reaches.
 use Rattle.std.proofs.Common.{◌≡◌, ◌==◌, ◌&&◌, ℕ, Bool, true, false, List, [], ◌∷◌, length, refl, subst, inl, inr}
 use Rattle.std.proofs.lemmas.Bool.{eqb-true, eq-eqb}
-use Rattle.signal_model.specs.Standing.{Signals}
+use Rattle.signal_model.specs.Signals.{Signals}
 use Rattle.signal_model.specs.Memos.{Memos}
 use Rattle.signal_model.specs.Marks.{IsBelow, HasBelow, found_below}
 use Rattle.signal_model.specs.Laws.{Searches}

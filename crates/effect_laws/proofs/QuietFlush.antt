@@ -1,7 +1,7 @@
 -- After a flush that wasn't refused, all that a look settles is settled, so another flush does nothing.
 use Rattle.std.proofs.Common.{◌≡◌, ℕ, zero, suc, ◌+◌, Bool, true, false, List, [], ◌∷◌, Option, Some, None, refl, sym, ap, ◌∙◌, subst, arith}
 use Rattle.std.proofs.lemmas.List.{append-nil}
-use Rattle.signal_model.specs.Standing.{Signals}
+use Rattle.signal_model.specs.Signals.{Signals}
 use Rattle.signal_model.specs.Values.{value_of}
 use Rattle.signal_model.specs.Memos.{Memos}
 use Rattle.signal_model.specs.Settling.{Settled}
@@ -9,12 +9,12 @@ use Rattle.signal_model.specs.Kept.{AreKept}
 use Rattle.signal_laws.proofs.Shared.{settle_law, IsSettled, settles, stays_settled, settled_same}
 use Rattle.effect_model.specs.Worlds.{Environment, HostState, unused, used, dropped, Effect, World, effect_at, effect_numbers, asked_by, with_settled}
 use Rattle.effect_model.specs.Worlds.{settle}
-use Rattle.effect_model.specs.Running.{is_effect_due, looked_names, value_now, look, Turned, after_look, at_place, turn_over, turn, after_last}
-use Rattle.effect_model.specs.Running.{last_case, last_look, after_turn, flush_within, flush}
+use Rattle.effect_model.specs.Runs.{is_effect_due, looked_names, value_now, look, Turned, after_look, at_place, turn_over, turn, after_last}
+use Rattle.effect_model.specs.Runs.{last_case, last_look, after_turn, flush_within, flush}
 use Rattle.effect_laws.specs.QuietFlush.{QuietFlushLaw}
 use Rattle.effect_laws.proofs.Changes.{core_of, turn_keeps_core}
 use Rattle.effect_laws.proofs.KeptWorlds.{Kept, changes_keep, of_world}
-use Rattle.effect_laws.proofs.Resting.{is_due_on, NoneOf, Rests, Ends, last_ends, ran_stays, turn_rests}
+use Rattle.effect_laws.proofs.Flushes.{is_due_on, NoneOf, Rests, Ends, last_ends, ran_stays, turn_rests}
 
 -- what a look at an effect settles is settled
 abbrev SettledAt : Environment → Signals → Memos → Option Effect → Type 0

@@ -1,23 +1,23 @@
 -- Runs of effects, turns and a flush keep the ledger.
 use Rattle.std.proofs.Common.{◌≡◌, ℕ, ◌+◌, ◌≤◌, ◌==◌, Bool, false, List, [], Some, None, refl, sym, ap, subst, arith}
 use Rattle.std.proofs.lemmas.Bool.{eq-eqb}
-use Rattle.signal_model.specs.Standing.{standing}
+use Rattle.signal_model.specs.Signals.{standing}
 use Rattle.signal_model.specs.Values.{Seen}
 use Rattle.signal_model.specs.Sound.{names_of}
-use Rattle.effect_model.specs.Owning.{Thing, the_effect, same_thing, Cleanup, Owned, teardown_of, under, emptied, put_under, alone}
+use Rattle.effect_model.specs.Owners.{Thing, the_effect, same_thing, Cleanup, Owned, teardown_of, under, emptied, put_under, alone}
 use Rattle.effect_model.specs.Bodies.{Body, Act, to_set, to_log, to_note, to_make, to_dispose, to_rewire, BodyEvaluation, BodyResult, to_do}
 use Rattle.effect_model.specs.Bodies.{failed_by, body_evaluation}
 use Rattle.effect_model.specs.Worlds.{Environment, Effect, logged, body_ran, failed, made_child, World, tell, effect_at, effect_numbers, settle}
 use Rattle.effect_model.specs.Acts.{take_back}
-use Rattle.effect_model.specs.Running.{with_effect, make_child, do_act, keep_reads, do_result, run_body, run_effect, flush}
+use Rattle.effect_model.specs.Runs.{with_effect, make_child, do_act, keep_reads, do_result, run_body, run_effect, flush}
 use Rattle.effect_laws.proofs.Turns.{flush_keeps, acts_keep}
-use Rattle.effect_laws.specs.Counting.{bit, times_in, roll_of, alive, times, found, waiting_under}
+use Rattle.effect_laws.specs.Rolls.{bit, times_in, roll_of, alive, times, found, waiting_under}
 use Rattle.effect_laws.proofs.Trees.{found_least, found_emptied, none_emptied}
 use Rattle.effect_laws.proofs.Ledgers.{made_thing, noted_told, body_told}
 use Rattle.effect_laws.proofs.Names.{names_changed, lives_alive, effect_counted}
 use Rattle.effect_laws.proofs.Steps.{Tidy, same_roll, tell_tidy, settle_tidy, set_tidy, rewire_signal_tidy, dispose_tidy, take_back_tidy}
 use Rattle.effect_laws.proofs.Steps.{undo_all_owned}
-use Rattle.effect_laws.proofs.Makings.{not_below_self, put_below, making, more_effects, names_more}
+use Rattle.effect_laws.proofs.Creations.{not_below_self, put_below, making, more_effects, names_more}
 
 -- a live effect stands among what is owned
 pub effect_there : (w : World) (n : ℕ) → Tidy w [] → 1 ≤ alive (the_effect n) (roll_of w) → 1 ≤ times (the_effect n) w.owned

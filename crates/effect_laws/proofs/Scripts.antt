@@ -5,23 +5,23 @@ use Rattle.std.specs.Option.{option_or}
 use Rattle.std.proofs.lemmas.Bool.Decides.{nat_tests}
 use Rattle.sig_base.specs.declared.value.Value.{Value}
 use Rattle.signal_model.specs.Recipes.{Recipe}
-use Rattle.signal_model.specs.Standing.{Cell, Computed, standing}
-use Rattle.effect_model.specs.Owning.{Thing, the_signal, the_owner, the_effect, the_page, the_watcher, same_thing, made_inside}
+use Rattle.signal_model.specs.Signals.{Cell, Computed, standing}
+use Rattle.effect_model.specs.Owners.{Thing, the_signal, the_owner, the_effect, the_page, the_watcher, same_thing, made_inside}
 use Rattle.effect_model.specs.Bodies.{Body}
 use Rattle.effect_model.specs.Worlds.{Environment, Watcher, thing_gone, still_due, refused, World, lives}
 use Rattle.effect_model.specs.Acts.{forget, host_of, host_refused, some_gone}
-use Rattle.effect_model.specs.Running.{flush}
+use Rattle.effect_model.specs.Runs.{flush}
 use Rattle.effect_model.specs.Commands.{Command, cell, computed, owner, effect, page, watcher, watch, unwatch, set, rewire, ask, dispose, flush_all}
 use Rattle.effect_model.specs.Commands.{new_world, inside_refused, with_new_cell, with_new_computed, with_new_owner, with_new_effect, with_new_page}
 use Rattle.effect_model.specs.Commands.{with_new_watcher, armed, changed_watcher, told_if, command_refused, done_by, after_command, after_commands}
-use Rattle.effect_laws.specs.Counting.{bit, times_in, roll_of, alive, was_made, times}
+use Rattle.effect_laws.specs.Rolls.{bit, times_in, roll_of, alive, was_made, times}
 use Rattle.effect_laws.specs.Ends.{EndLaw}
-use Rattle.effect_laws.specs.Living.{LifeLaw}
+use Rattle.effect_laws.specs.Lifetimes.{LifeLaw}
 use Rattle.effect_laws.proofs.Ledgers.{Ledger, made_thing}
 use Rattle.effect_laws.proofs.Names.{names_changed, lives_alive, count_more, neither, either_way}
 use Rattle.effect_laws.proofs.Steps.{Tidy, same_roll, tell_tidy, settle_tidy, set_tidy, use_tidy, rewire_signal_tidy, dispose_tidy}
-use Rattle.effect_laws.proofs.Makings.{IsPut, put_inside, making, not_below_self, more_signals, more_owners, more_effects, more_pages, more_watchers}
-use Rattle.effect_laws.proofs.Makings.{names_more}
+use Rattle.effect_laws.proofs.Creations.{IsPut, put_inside, making, not_below_self, more_signals, more_owners, more_effects, more_pages, more_watchers}
+use Rattle.effect_laws.proofs.Creations.{names_more}
 use Rattle.effect_laws.proofs.Runs.{with_effect_roll, flush_tidy}
 
 -- an owner that isn't refused stands among what is owned

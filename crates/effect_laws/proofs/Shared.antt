@@ -4,12 +4,12 @@
 
 pub use Rattle.effect_laws.proofs.Scripts.{end_law, life_law}
 pub use Rattle.effect_laws.proofs.Silence.{silence_law}
-pub use Rattle.effect_laws.proofs.Closing.{closing_law}
-pub use Rattle.effect_laws.proofs.Asking.{body_law}
+pub use Rattle.effect_laws.proofs.Cleanups.{closing_law}
+pub use Rattle.effect_laws.proofs.Asks.{body_law}
 pub use Rattle.effect_laws.proofs.KeptWorlds.{new_world_law, command_law, flush_law, commands_law}
 pub use Rattle.effect_laws.proofs.HostUse.{host_law}
 pub use Rattle.effect_laws.proofs.Notified.{notified_law}
-pub use Rattle.effect_laws.proofs.Resting.{rest_law}
+pub use Rattle.effect_laws.proofs.Flushes.{rest_law}
 pub use Rattle.effect_laws.proofs.QuietFlush.{quiet_flush_law}
 -- ---- what steps keep
 

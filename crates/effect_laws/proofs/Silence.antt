@@ -2,9 +2,9 @@
 use Rattle.std.proofs.Common.{◌≡◌, ◌+◌, ◌≤◌, false, List, [], ◌∷◌, ◌++◌, refl, sym, ap, subst, arith, inl, inr}
 use Rattle.std.proofs.lemmas.List.{append_assoc, append-nil}
 use Rattle.signal_model.proofs.Shared.{tested}
-use Rattle.effect_model.specs.Owning.{Thing, same_thing}
+use Rattle.effect_model.specs.Owners.{Thing, same_thing}
 use Rattle.effect_model.specs.Worlds.{Event, gone}
-use Rattle.effect_laws.specs.Counting.{bit, ends_of}
+use Rattle.effect_laws.specs.Rolls.{bit, ends_of}
 use Rattle.effect_laws.specs.Ends.{about, NoneEnded, AreInTime, is_among, IsSilent, SilenceLaw}
 use Rattle.effect_laws.proofs.Trees.{same_is, same_self}
 use Rattle.effect_laws.proofs.Ledgers.{ended_more}

@@ -5,21 +5,21 @@ use Rattle.std.proofs.lemmas.Bool.{eq-eqb}
 use Rattle.std.specs.List.{filter, AllByRecursion}
 use Rattle.sig_base.specs.declared.value.Value.{Value}
 use Rattle.signal_model.specs.Recipes.{Hosts, Recipe}
-use Rattle.signal_model.specs.Standing.{Cell, Computed, Stands, IsGone, IsCell, IsComputed, standing, without}
+use Rattle.signal_model.specs.Signals.{Cell, Computed, Stands, IsGone, IsCell, IsComputed, standing, without}
 use Rattle.signal_model.specs.Settling.{Run, settled}
 use Rattle.signal_model.specs.Asks.{moments}
 use Rattle.signal_model.specs.Changes.{with_value, after_change, with_recipe, after_rewiring}
 use Rattle.signal_model.proofs.Shared.{stands-computed}
 use Rattle.signal_laws.specs.RunLaws.{IsScratchRun}
 use Rattle.signal_laws.proofs.Shared.{scratch_runs_law}
-use Rattle.effect_model.specs.Owning.{Thing, the_signal, the_owner, the_effect, the_page, the_watcher, same_thing, Cleanup, sets, logs, Undoing}
-use Rattle.effect_model.specs.Owning.{cleans, ends, teardown_of, under, emptied, taken_out, disposal_of}
+use Rattle.effect_model.specs.Owners.{Thing, the_signal, the_owner, the_effect, the_page, the_watcher, same_thing, Cleanup, sets, logs, Undoing}
+use Rattle.effect_model.specs.Owners.{cleans, ends, teardown_of, under, emptied, taken_out, disposal_of}
 use Rattle.effect_model.specs.Worlds.{Environment, Watcher, Effect, Event, ran, logged, cleaned, gone, refused, Refused, thing_gone, World, tell}
 use Rattle.effect_model.specs.Worlds.{tell_all, lives, settle}
 use Rattle.effect_model.specs.Acts.{is_notified, notified_by, frozen_by, told_of, told_frozen, waiting_if, notify, with_new_value, are_alike}
 use Rattle.effect_model.specs.Acts.{set_standing, host_of, with_drop, with_use, rewiring_refused, rewire_standing, or_refused, rewire_signal, forget}
 use Rattle.effect_model.specs.Acts.{without_node, end_standing, end_of, do_cleanup, undo, undo_all, take_back, dispose_live, dispose_thing}
-use Rattle.effect_laws.specs.Counting.{bit, times_in, computed_names, Roll, roll_of, alive, times, ends_in}
+use Rattle.effect_laws.specs.Rolls.{bit, times_in, computed_names, Roll, roll_of, alive, times, ends_in}
 use Rattle.effect_laws.proofs.Ledgers.{Ledger, AllAlive, IsPlain, ArePlain, plain_told, plain_all, cleaned_told, gone_told, taken_back, disposed}
 use Rattle.effect_laws.proofs.Names.{names_changed, names_map, count_without, computed_counted, lives_alive, gone_uncounted}
 

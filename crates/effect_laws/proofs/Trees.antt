@@ -3,9 +3,9 @@ use Rattle.std.proofs.Common.{◌≡◌, ℕ, zero, suc, ◌+◌, ◌*◌, ◌�
 use Rattle.std.proofs.lemmas.Bool.{eqb-true, eq-eqb}
 use Rattle.std.proofs.lemmas.List.{append_assoc}
 use Rattle.signal_model.proofs.Shared.{tested}
-use Rattle.effect_model.specs.Owning.{Thing, the_signal, the_owner, the_effect, the_page, the_watcher, same_thing, Cleanup, Owned, nothing, thing}
-use Rattle.effect_model.specs.Owning.{cleanup, Undoing, cleans, ends, teardown_of, with_earlier, under, emptied, taken_out, put_under}
-use Rattle.effect_laws.specs.Counting.{bit, times, found, waiting_under, ends_in, cleans_in}
+use Rattle.effect_model.specs.Owners.{Thing, the_signal, the_owner, the_effect, the_page, the_watcher, same_thing, Cleanup, Owned, nothing, thing}
+use Rattle.effect_model.specs.Owners.{cleanup, Undoing, cleans, ends, teardown_of, with_earlier, under, emptied, taken_out, put_under}
+use Rattle.effect_laws.specs.Rolls.{bit, times, found, waiting_under, ends_in, cleans_in}
 
 -- ---- one thing and another
 

@@ -1,10 +1,10 @@
 -- What looks and runs keep, turns and flushes keep.
 use Rattle.std.proofs.Common.{◌≡◌, ℕ, zero, suc, Bool, true, false, cond, List, [], ◌∷◌, Option, Some, None, refl}
 use Rattle.effect_model.specs.Bodies.{Act}
-use Rattle.effect_model.specs.Owning.{the_effect}
+use Rattle.effect_model.specs.Owners.{the_effect}
 use Rattle.effect_model.specs.Worlds.{Environment, Effect, World, effect_at, effect_numbers, lives, settle}
-use Rattle.effect_model.specs.Running.{is_effect_due, looked_names, value_now, look, do_act, next_child, do_acts, run_effect, Turned, after_look}
-use Rattle.effect_model.specs.Running.{at_place, turn_over, Flushed, after_last, last_case, last_look, after_turn, turn, flush_within}
+use Rattle.effect_model.specs.Runs.{is_effect_due, looked_names, value_now, look, do_act, next_child, do_acts, run_effect, Turned, after_look}
+use Rattle.effect_model.specs.Runs.{at_place, turn_over, Flushed, after_last, last_case, last_look, after_turn, turn, flush_within}
 
 -- it is kept by settling, and by each run of an effect that lives
 pub record IsKeptByRuns (env : Environment) (P : World → Type 0) : Type 0 where

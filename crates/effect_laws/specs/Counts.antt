@@ -2,10 +2,10 @@
 use Rattle.std.specs.Prelude.{◌≡◌, ℕ}
 use Rattle.sig_base.specs.declared.value.Value.{Value}
 use Rattle.signal_model.specs.Recipes.{Recipe}
-use Rattle.effect_model.specs.Owning.{Thing}
+use Rattle.effect_model.specs.Owners.{Thing}
 use Rattle.effect_model.specs.Worlds.{Counts, Environment, Effect, World, settle}
 use Rattle.effect_model.specs.Acts.{set_cell, rewire_signal, take_back, dispose_thing}
-use Rattle.effect_model.specs.Running.{run_effect, flush}
+use Rattle.effect_model.specs.Runs.{run_effect, flush}
 use Rattle.std.specs.Prelude.{List}
 
 -- how many of each kind were made, effects aside

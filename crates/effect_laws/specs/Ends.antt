@@ -1,9 +1,9 @@
 -- The end-of-life law.
 use Rattle.std.specs.Prelude.{◌≡◌, ℕ, ◌+◌, ◌≤◌, ◌||◌, Bool, false, List, [], ◌∷◌, ◌++◌, map}
-use Rattle.effect_model.specs.Owning.{Thing, the_signal, the_effect, the_watcher, same_thing, Cleanup}
+use Rattle.effect_model.specs.Owners.{Thing, the_signal, the_effect, the_watcher, same_thing, Cleanup}
 use Rattle.effect_model.specs.Worlds.{Environment, Event, ran, notified, frozen, body_ran, failed, cleaned, gone, made_child, noted}
 use Rattle.effect_model.specs.Commands.{Command, new_world, after_commands}
-use Rattle.effect_laws.specs.Counting.{bit, open_cleanups, ends_of, noted_by, cleaned_by, waiting_under}
+use Rattle.effect_laws.specs.Rolls.{bit, open_cleanups, ends_of, noted_by, cleaned_by, waiting_under}
 
 -- the things that an event tells something of; a refusal may name what is gone
 abbrev pub about : Event → List Thing

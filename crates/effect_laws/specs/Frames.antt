@@ -1,7 +1,7 @@
 -- The part of a plain world that acts on signals read and change.
 use Rattle.std.specs.Prelude.{◌≡◌, ℕ, List, [], ◌∷◌, ◌++◌}
-use Rattle.signal_model.specs.Standing.{without}
-use Rattle.effect_model.specs.Owning.{the_owner, the_effect, the_page, nothing, Undoing, ends}
+use Rattle.signal_model.specs.Signals.{without}
+use Rattle.effect_model.specs.Owners.{the_owner, the_effect, the_page, nothing, Undoing, ends}
 use Rattle.effect_model.specs.Worlds.{Effect, World}
 
 -- the signals of a world, with their watchers and host formulas, in a world where nothing else was made and nothing was told

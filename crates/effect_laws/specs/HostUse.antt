@@ -1,7 +1,7 @@
 -- Which computed has which host formula, and how often each is asked.
 use Rattle.std.specs.Prelude.{◌≡◌, ℕ, Bool, true, false, List, [], ◌∷◌, slice_get, Option, Some}
 use Rattle.std.specs.List.{AllByRecursion}
-use Rattle.signal_model.specs.Standing.{Computed, computed_at}
+use Rattle.signal_model.specs.Signals.{Computed, computed_at}
 use Rattle.signal_model.specs.Asks.{asks_of}
 use Rattle.effect_model.specs.Worlds.{Environment, HostState, used, Event, dropped_host, World}
 use Rattle.effect_model.specs.Acts.{host_of, asks_so_far}

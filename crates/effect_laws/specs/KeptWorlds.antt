@@ -7,7 +7,7 @@ use Rattle.signal_model.specs.Kept.{AreKept, AreGiven}
 use Rattle.signal_laws.specs.ChangeLaws.{given_below}
 use Rattle.signal_laws.specs.RunLaws.{IsCurrentRun}
 use Rattle.effect_model.specs.Worlds.{Environment, Event, ran, World}
-use Rattle.effect_model.specs.Running.{flush}
+use Rattle.effect_model.specs.Runs.{flush}
 use Rattle.effect_model.specs.Commands.{Command, new_world, after_command, after_commands}
 
 -- whether a signal's name was given: they are given in order

@@ -1,12 +1,12 @@
-pub mod Counting
+pub mod Rolls
 pub mod Ends
-pub mod Asking
+pub mod Asks
 pub mod KeptWorlds
 pub mod HostUse
 pub mod Notified
-pub mod Resting
-pub mod Living
+pub mod Refusals
+pub mod Lifetimes
 pub mod QuietFlush
 pub mod Frames
-pub mod Telling
+pub mod Events
 pub mod Counts

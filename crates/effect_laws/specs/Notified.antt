@@ -1,6 +1,6 @@
 -- Whom a change notifies, with no search in sight.
 use Rattle.std.specs.Prelude.{◌≡◌, ℕ, true, List, [], ◌∷◌, ◌⊎◌}
-use Rattle.signal_model.specs.Standing.{Signals}
+use Rattle.signal_model.specs.Signals.{Signals}
 use Rattle.signal_model.specs.Memos.{Memos}
 use Rattle.signal_model.specs.Marks.{IsBelow}
 use Rattle.signal_model.specs.Kept.{OnlyComputedsKeep}

@@ -1,7 +1,7 @@
 -- What a flush leaves to do.
 use Rattle.std.specs.Prelude.{◌≡◌, false}
 use Rattle.effect_model.specs.Worlds.{Environment, World}
-use Rattle.effect_model.specs.Running.{flush}
+use Rattle.effect_model.specs.Runs.{flush}
 use Rattle.effect_laws.specs.KeptWorlds.{IsKeptWorld}
 
 -- a flush after one that wasn't refused does nothing at all: it runs nothing, tells nothing, and leaves everything as it stands

@@ -1,18 +1,18 @@
 // Laws of effects, for all environments and all lists of commands.
 ghost use Rattle.effect_laws.specs.Counts.{AllKeepCounts, FlushesKeepCounts};
 ghost use Rattle.effect_laws.specs.Frames.{ended_all, signal_part, with_part};
-ghost use Rattle.effect_laws.specs.Asking.{BodyLaw};
+ghost use Rattle.effect_laws.specs.Asks.{BodyLaw};
 ghost use Rattle.effect_laws.specs.Ends.{ClosingLaw, EndLaw, SilenceLaw};
 ghost use Rattle.effect_laws.specs.HostUse.{HostLaw};
 ghost use Rattle.effect_laws.specs.KeptWorlds.{CommandLaw, CommandsLaw, FlushLaw, NewWorldLaw};
-ghost use Rattle.effect_laws.specs.Living.{LifeLaw};
+ghost use Rattle.effect_laws.specs.Lifetimes.{LifeLaw};
 ghost use Rattle.effect_laws.specs.Notified.{NotifiedLaw};
 ghost use Rattle.effect_laws.specs.QuietFlush.{QuietFlushLaw};
-ghost use Rattle.effect_laws.specs.Resting.{RestLaw};
+ghost use Rattle.effect_laws.specs.Refusals.{RestLaw};
 ghost use Rattle.effect_model.specs.Acts.{undo_all};
-ghost use Rattle.effect_model.specs.Owning.{Undoing};
+ghost use Rattle.effect_model.specs.Owners.{Undoing};
 ghost use Rattle.effect_model.specs.Worlds.{Environment, World};
-ghost use Rattle.effect_laws.specs.Telling.{AllOnlyTell, FlushesOnlyTell, TurnsOnlyTell};
+ghost use Rattle.effect_laws.specs.Events.{AllOnlyTell, FlushesOnlyTell, TurnsOnlyTell};
 ghost use Rattle.std.specs.Prelude.{◌≡◌, List};
 
 /// Nothing that has ended runs, is evaluated, is notified, is cleaned up or ends again; and each cleanup that was noted is done once

@@ -6,12 +6,12 @@ use Rattle.std.specs.List.{filter}
 use Rattle.sig_base.specs.declared.value.Value.{Value}
 use Rattle.sig_base.specs.Values.{same_value, is_alike}
 use Rattle.signal_model.specs.Recipes.{Recipe, Expression, formula, host}
-use Rattle.signal_model.specs.Standing.{Signals, Stands, IsGone, IsCell, IsComputed, standing, without}
+use Rattle.signal_model.specs.Signals.{Signals, Stands, IsGone, IsCell, IsComputed, standing, without}
 use Rattle.signal_model.specs.Memos.{Memos}
 use Rattle.signal_model.specs.Marks.{found_below}
 use Rattle.signal_model.specs.Changes.{with_value, after_change, with_recipe, after_rewiring, without_signal, after_disposal}
-use Rattle.effect_model.specs.Owning.{Thing, the_signal, the_owner, the_effect, the_page, the_watcher, Cleanup, sets, logs, Undoing, cleans, ends}
-use Rattle.effect_model.specs.Owning.{teardown_of, under, emptied, taken_out, disposal_of}
+use Rattle.effect_model.specs.Owners.{Thing, the_signal, the_owner, the_effect, the_page, the_watcher, Cleanup, sets, logs, Undoing, cleans, ends}
+use Rattle.effect_model.specs.Owners.{teardown_of, under, emptied, taken_out, disposal_of}
 use Rattle.effect_model.specs.Worlds.{Environment, HostState, unused, used, dropped, Watcher, Effect, Refused, thing_gone, host_taken, Event}
 use Rattle.effect_model.specs.Worlds.{notified, frozen, logged, cleaned, gone, dropped_host, refused, World, tell, tell_all, lives}
 

@@ -10,13 +10,13 @@ use Rattle.sig_base.specs.declared.value.Outcome.TheVariants.{Good, Bad}
 use Rattle.sig_formula.specs.declared.evaluate.FormulaStep.{FormulaStep}
 use Rattle.sig_formula.specs.declared.evaluate.FormulaStep.TheVariants.{Ask, End}
 use Rattle.sig_formula.specs.Trees.{Tree}
-use Rattle.sig_formula.specs.Answering.{formula_step}
+use Rattle.sig_formula.specs.Evaluation.{formula_step}
 use Rattle.signal_model.specs.Recipes.{Hosts, Recipe}
-use Rattle.signal_model.specs.Standing.{Signals}
+use Rattle.signal_model.specs.Signals.{Signals}
 use Rattle.signal_model.specs.Values.{Seen, learnt, unknown_slots, value_of}
 use Rattle.effect_model.specs.declared.plain.Plain.{Plain}
 use Rattle.effect_model.specs.declared.plain.Plain.TheVariants as p
-use Rattle.effect_model.specs.Owning.{Thing, Cleanup, sets, logs}
+use Rattle.effect_model.specs.Owners.{Thing, Cleanup, sets, logs}
 
 -- The statements of a body, the first with those after it. The slots of their formulas are places among the names of the body.
 pub data Statements : Type 0 where

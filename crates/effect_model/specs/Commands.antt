@@ -3,14 +3,14 @@ use Rattle.std.specs.Prelude.{ℕ, ◌+◌, Bool, true, false, List, [], ◌∷�
 use Rattle.std.specs.Option.{option_or}
 use Rattle.sig_base.specs.declared.value.Value.{Value}
 use Rattle.signal_model.specs.Recipes.{Recipe}
-use Rattle.signal_model.specs.Standing.{is_in, changed}
+use Rattle.signal_model.specs.Signals.{is_in, changed}
 use Rattle.signal_model.specs.Changes.{no_signals, no_memos, with_cell, with_computed, after_making}
-use Rattle.effect_model.specs.Owning.{Thing, the_signal, the_owner, the_effect, the_page, the_watcher, nothing, made_inside}
+use Rattle.effect_model.specs.Owners.{Thing, the_signal, the_owner, the_effect, the_page, the_watcher, nothing, made_inside}
 use Rattle.effect_model.specs.Bodies.{Body}
 use Rattle.effect_model.specs.Worlds.{Environment, unused, Watcher, Refused, still_due, refused, World, tell, settle}
 use Rattle.effect_model.specs.Acts.{set_cell, rewire_signal, dispose_thing, host_of, with_use, host_refused, gone_refused, some_gone, or_refused}
 use Rattle.effect_model.specs.Acts.{forget}
-use Rattle.effect_model.specs.Running.{with_effect, flush}
+use Rattle.effect_model.specs.Runs.{with_effect, flush}
 
 -- a command, with the things that its names stand for
 pub data Command : Type 0 where

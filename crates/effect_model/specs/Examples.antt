@@ -8,15 +8,15 @@ use Rattle.sig_base.specs.declared.value.Fault.TheVariants as fault
 use Rattle.sig_base.specs.declared.value.Outcome.{Outcome}
 use Rattle.sig_base.specs.declared.value.Outcome.TheVariants.{Good}
 use Rattle.sig_base.specs.declared.scalar.Scalar.TheVariants as scalar
-use Rattle.sig_formula.specs.Answering.{answer_of}
+use Rattle.sig_formula.specs.Evaluation.{answer_of}
 use Rattle.sig_formula.specs.declared.formula.BinOp.TheVariants.{Add, Eq, Lt, Gt, Join}
 use Rattle.sig_formula.specs.Trees.{Tree, literal, slot, binary, choice, untracked}
 use Rattle.signal_model.specs.Recipes.{formula_recipe, host}
-use Rattle.signal_model.specs.Standing.{Cell}
+use Rattle.signal_model.specs.Signals.{Cell}
 use Rattle.signal_model.specs.Sound.{names_of}
 use Rattle.signal_model.specs.Examples.{int, number}
 use Rattle.effect_model.specs.declared.plain.Plain.TheVariants as p
-use Rattle.effect_model.specs.Owning.{Thing, the_signal, the_owner, the_effect}
+use Rattle.effect_model.specs.Owners.{Thing, the_signal, the_owner, the_effect}
 use Rattle.effect_model.specs.Bodies.{Statements, no_more, Body}
 use Rattle.effect_model.specs.Bodies as body
 use Rattle.effect_model.specs.Worlds.{Environment, Event, ran, notified, frozen, logged, body_ran, failed, cleaned, gone, dropped_host, refused}

@@ -1,10 +1,10 @@
-pub mod Owning
+pub mod Owners
 pub mod Lines
 pub mod Bodies
 pub mod Worlds
 pub mod Acts
-pub mod Running
-pub mod Watching
+pub mod Runs
+pub mod Watchers
 pub mod Commands
 pub mod Labels
 pub mod Examples

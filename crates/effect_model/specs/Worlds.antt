@@ -3,12 +3,12 @@ use Rattle.std.specs.Prelude.{ℕ, suc, ◌+◌, ◌==◌, Bool, List, [], ◌�
 use Rattle.sig_base.specs.declared.value.Value.{Value}
 use Rattle.sig_base.specs.declared.value.Fault.{Fault}
 use Rattle.signal_model.specs.Recipes.{Hosts}
-use Rattle.signal_model.specs.Standing.{Signals, standing, is_in, is_there}
+use Rattle.signal_model.specs.Signals.{Signals, standing, is_in, is_there}
 use Rattle.signal_model.specs.Values.{Seen}
 use Rattle.signal_model.specs.Memos.{Memos}
 use Rattle.signal_model.specs.Settling.{Settled, settled}
 use Rattle.signal_model.specs.Asks.{Moment, moments, asks_of}
-use Rattle.effect_model.specs.Owning.{Thing, the_signal, the_owner, the_effect, the_page, the_watcher, Cleanup, Owned}
+use Rattle.effect_model.specs.Owners.{Thing, the_signal, the_owner, the_effect, the_page, the_watcher, Cleanup, Owned}
 use Rattle.effect_model.specs.Bodies.{Body}
 
 -- what comes from outside: what the host formulas answer, and the slack of each equality rule

@@ -1,6 +1,6 @@
 // Laws over the definitions.
 ghost use Rattle.std.specs.Prelude.{◌≡◌};
-ghost use Rattle.effect_model.specs.Running.{flush, flush_within};
+ghost use Rattle.effect_model.specs.Runs.{flush, flush_within};
 ghost use Rattle.effect_model.specs.Worlds.{Environment, World};
 
 /// A flush makes at most 100 turns that run an effect.

@@ -1,7 +1,7 @@
-mod Listing
-mod Acting
-mod Turning
-mod Making
+mod Trees
+mod Acts
+mod Turns
+mod Commands
 pub mod Shared
 mod Visits
 mod TurnByTurn

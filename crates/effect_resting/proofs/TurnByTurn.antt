@@ -1,7 +1,7 @@
 -- A flush, turn by turn.
 use Rattle.std.proofs.Common.{arith, ◌≡◌, ℕ, suc, ◌+◌, ◌-◌, ◌<◌, ◌≤◌, true, false, sym, ap, ◌∙◌}
 use Rattle.effect_model.specs.Worlds.{Environment, World, effect_numbers}
-use Rattle.effect_model.specs.Running.{Flushed, turn, after_turn, flush, flush_within, last_look}
+use Rattle.effect_model.specs.Runs.{Flushed, turn, after_turn, flush, flush_within, last_look}
 use Rattle.effect_resting.specs.Turned.{added, after_turns, FlushesByTurns}
 
 added_none : (f : Flushed) → added 0 f ≡ f

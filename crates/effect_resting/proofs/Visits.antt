@@ -2,12 +2,12 @@
 use Rattle.std.proofs.Common.{◌≡◌, ℕ, zero, suc, Bool, true, false, ◌||◌, cond, List, [], ◌∷◌, ◌++◌, Option, Some, None, append-nil, refl, sym, ap, ◌∙◌}
 use Rattle.effect_model.specs.Bodies.{Body, BodyEvaluation, body_evaluation}
 use Rattle.effect_model.specs.Worlds.{Environment, Effect, World, effect_at, effect_numbers, settle}
-use Rattle.effect_model.specs.Running.{is_effect_due, value_now, look, keep_reads, do_result, run_body, run_effect}
-use Rattle.effect_model.specs.Running.{Turned, after_look, at_place, turn_over, turn, after_last, last_case, last_look}
+use Rattle.effect_model.specs.Runs.{is_effect_due, value_now, look, keep_reads, do_result, run_body, run_effect}
+use Rattle.effect_model.specs.Runs.{Turned, after_look, at_place, turn_over, turn, after_last, last_case, last_look}
 use Rattle.signal_model.specs.Sound.{names_of}
-use Rattle.effect_resting.specs.Resting.{Rests}
+use Rattle.effect_resting.specs.Roots.{Rests}
 use Rattle.effect_resting.proofs.Shared.{all_rest, listed_twice, looks_rest, rests_then, turns_rest}
-use Rattle.effect_resting.specs.Visiting.{to_effect, glance, rerun, due_of, is_due, visit, visit_all, some_ran, glance_all}
+use Rattle.effect_resting.specs.Visits.{to_effect, glance, rerun, due_of, is_due, visit, visit_all, some_ran, glance_all}
 use Rattle.effect_resting.specs.Turned.{after_turns}
 
 -- ---- one more

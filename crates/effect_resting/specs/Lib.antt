@@ -1,3 +1,3 @@
-pub mod Resting
-pub mod Visiting
+pub mod Roots
+pub mod Visits
 pub mod Turned

@@ -1,7 +1,7 @@
 -- A flush, turn by turn.
 use Rattle.std.specs.Prelude.{◌≡◌, ℕ, zero, suc, ◌+◌, ◌-◌, ◌<◌, true, false}
 use Rattle.effect_model.specs.Worlds.{Environment, World}
-use Rattle.effect_model.specs.Running.{Flushed, flush, flush_within, turn}
+use Rattle.effect_model.specs.Runs.{Flushed, flush, flush_within, turn}
 
 -- the world after so many turns
 abbrev pub after_turns : ℕ → Environment → World → World

@@ -2,9 +2,9 @@
 #![tactic(auto)]
 
 ghost use Rattle.effect_model.specs.Worlds.{Environment};
-ghost use Rattle.effect_resting.specs.Resting.{AllRest, CommandsRest, FlushRests, LastRests, TurnRests};
+ghost use Rattle.effect_resting.specs.Roots.{AllRest, CommandsRest, FlushRests, LastRests, TurnRests};
 ghost use Rattle.effect_resting.specs.Turned.{FlushesByTurns};
-ghost use Rattle.effect_resting.specs.Visiting.{TurnsByVisits};
+ghost use Rattle.effect_resting.specs.Visits.{TurnsByVisits};
 ghost use Rattle.std.specs.Prelude.{ℕ, List};
 
 /// Whatever is done, it does the same to a world at rest as to the world itself: it rests neither on what was told before nor on what

@@ -1,4 +1,4 @@
-mod Idling
-mod Naming
-mod Readying
-mod Settling
+mod Bodies
+mod Names
+mod Tables
+mod Cells

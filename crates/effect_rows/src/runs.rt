@@ -7,7 +7,7 @@ ghost use Rattle.effect_model.specs.declared.plain.Plain.TheVariants as plain;
 ghost use Rattle.sig_untrack.specs.Stated as stated;
 ghost use Rattle.sig_untrack.specs.Stated.{Stated, before, no_bodies, put, statements_of};
 ghost use Rattle.sig_computed.specs.Scenes.{scene, CanSettle};
-ghost use Rattle.effect_runs.specs.Evaluating.{HasNames};
+ghost use Rattle.effect_runs.specs.Evaluations.{HasNames};
 
 use crate::scene::Scene;
 use effect_model::Plain;

@@ -2,9 +2,9 @@
 ghost use Rattle.std.specs.Prelude.{◌≡◌, []};
 ghost use Rattle.sig_untrack.specs.Stated as stated;
 ghost use Rattle.sig_untrack.specs.Stated.{before, no_bodies};
-ghost use Rattle.effect_tables.specs.Fitting.{IsFitting};
-ghost use Rattle.effect_tables.specs.Linking as linking;
-ghost use Rattle.effect_tables.specs.Linking.{links_before, no_links};
+ghost use Rattle.effect_tables.specs.Scripts.{IsFitting};
+ghost use Rattle.effect_tables.specs.Bodies as linking;
+ghost use Rattle.effect_tables.specs.Bodies.{links_before, no_links};
 
 use effect_tables::{Links, Script, Target};
 use sig_untrack::Body;

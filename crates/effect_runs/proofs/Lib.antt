@@ -1,5 +1,5 @@
-mod Settlings
+mod Names
 mod Slots
 mod Wanted
-mod Askings
+mod Asks
 mod Looks

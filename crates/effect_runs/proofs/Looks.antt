@@ -7,13 +7,13 @@ use Rattle.signal_model.specs.Recipes.{Hosts}
 use Rattle.signal_model.specs.Values.{Seen, value_of}
 use Rattle.signal_model.specs.Sound.{names_of}
 use Rattle.signal_model.specs.Kept.{AreKept}
-use Rattle.signal_laws.specs.ReadingLaws.{HaveOutcomes}
-use Rattle.effect_model.specs.Running.{looked_at, looked_names, some_differs}
+use Rattle.signal_laws.specs.ReadLaws.{HaveOutcomes}
+use Rattle.effect_model.specs.Runs.{looked_at, looked_names, some_differs}
 use Rattle.sig_computed.specs.Notes.{IsIdle}
 use Rattle.sig_computed.specs.Scenes.{Scene, Settles}
 use Rattle.sig_computed.proofs.Shared.{nothing_settled, then_settled}
-use Rattle.effect_runs.proofs.Askings.{read_one, scratch, IsRead}
-use Rattle.effect_runs.proofs.Settlings.{same_settled}
+use Rattle.effect_runs.proofs.Asks.{read_one, scratch, IsRead}
+use Rattle.effect_runs.proofs.Names.{same_settled}
 
 -- ---- signals that have the outcomes that were read
 

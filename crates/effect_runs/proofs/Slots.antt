@@ -6,13 +6,13 @@ use Rattle.signal_model.specs.Recipes.{host}
 use Rattle.signal_model.specs.Values.{unknown_slots}
 use Rattle.signal_model.proofs.Shared.{unknown_less}
 use Rattle.effect_model.specs.Bodies.{no_more, body_step}
-use Rattle.effect_model.specs.Owning.{the_signal}
-use Rattle.effect_laws.proofs.SharedAsking.{IsNew, body_asks}
+use Rattle.effect_model.specs.Owners.{the_signal}
+use Rattle.effect_laws.proofs.SharedAsks.{IsNew, body_asks}
 use Rattle.sig_untrack.specs.declared.body.Body.{Body}
 use Rattle.sig_untrack.specs.declared.body.BodyStep.{BodyStep as AStep}
 use Rattle.sig_untrack.specs.declared.body.BodyStep.TheVariants as step
-use Rattle.sig_untrack.specs.Linking.{Parts, step_of}
-use Rattle.effect_runs.specs.Evaluating.{body_seen, learnt_if, HasNames}
+use Rattle.sig_untrack.specs.Links.{Parts, step_of}
+use Rattle.effect_runs.specs.Evaluations.{body_seen, learnt_if, HasNames}
 
 -- once its value is known, fewer slots aren't known to tracked or to untracked reads
 pub fewer_unknown : (n : ℕ) (ts us : List Known) (s : ℕ) (b : Bool) (v : Value) → IsNew n ts us s b →

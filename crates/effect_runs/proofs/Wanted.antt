@@ -7,21 +7,21 @@ use Rattle.sig_base.specs.declared.value.Known.{Known}
 use Rattle.sig_base.specs.declared.value.Outcome.TheVariants.{Good, Bad}
 use Rattle.sig_formula.specs.declared.evaluate.FormulaStep.{FormulaStep}
 use Rattle.sig_formula.specs.declared.evaluate.FormulaStep.TheVariants.{Ask, End}
-use Rattle.sig_formula.specs.Answering.{formula_step}
+use Rattle.sig_formula.specs.Evaluation.{formula_step}
 use Rattle.sig_formula.specs.Trees.{Tree}
 use Rattle.effect_model.specs.Bodies.{Act, to_make, to_rewire, BodyStep, reads, acts, fails}
 use Rattle.effect_model.specs.Bodies.{followed_by, one_first, and_then, with_answer, guarded, plain_step, body_step}
 use Rattle.effect_model.specs.Lines.{mapped}
-use Rattle.effect_laws.proofs.SharedAsking.{plain_cases}
+use Rattle.effect_laws.proofs.SharedAsks.{plain_cases}
 use Rattle.sig_untrack.specs.declared.body.Body.{Body}
 use Rattle.sig_untrack.specs.declared.body.Act.{Act as AnAct}
 use Rattle.sig_untrack.specs.declared.body.BodyStep.{BodyStep as AStep}
-use Rattle.sig_untrack.specs.Linking.{Parts, acts_of, linked, step_of}
+use Rattle.sig_untrack.specs.Links.{Parts, acts_of, linked, step_of}
 use Rattle.sig_untrack.specs.Stated.{Stated, no_more, plain, when, effect, rewire, before, no_bodies, statements_of}
-use Rattle.effect_tables.specs.Fitting.{count_of}
-use Rattle.effect_runs.specs.declared.reading.BodyEnd.{BodyEnd}
-use Rattle.effect_runs.specs.declared.reading.BodyEnd.TheVariants.{Fail}
-use Rattle.effect_runs.specs.Evaluating.{IsShort}
+use Rattle.effect_tables.specs.Scripts.{count_of}
+use Rattle.effect_runs.specs.declared.run.BodyEnd.{BodyEnd}
+use Rattle.effect_runs.specs.declared.run.BodyEnd.TheVariants.{Fail}
+use Rattle.effect_runs.specs.Evaluations.{IsShort}
 use Rattle.effect_runs.proofs.Slots.{some_parts}
 
 -- how many acts an answer has

@@ -4,13 +4,13 @@ ghost use Rattle.signal_model.specs.Recipes.{Hosts};
 ghost use Rattle.signal_model.specs.Kept.{AreKept};
 ghost use Rattle.signal_model.specs.Sound.{names_of};
 ghost use Rattle.effect_model.specs.Bodies.{body_evaluation};
-ghost use Rattle.sig_untrack.specs.Linking.{Parts};
+ghost use Rattle.sig_untrack.specs.Links.{Parts};
 ghost use Rattle.sig_untrack.specs.Stated.{before, no_bodies, statements_of};
-ghost use Rattle.effect_tables.specs.Fitting.{count_of};
-ghost use Rattle.effect_runs.specs.Evaluating.{body_seen, HasNames, IsRunOf, IsShort};
+ghost use Rattle.effect_tables.specs.Scripts.{count_of};
+ghost use Rattle.effect_runs.specs.Evaluations.{body_seen, HasNames, IsRunOf, IsShort};
 ghost use Rattle.sig_computed.specs.Scenes.{scene, CanSettle, Settles};
 
-use crate::reading::{BodyEnd, BodyRun, Reading};
+use crate::run::{BodyEnd, BodyRun, Reading};
 use sig_base::{NoMemory, NodeId, Outcome};
 use sig_computed::{RunNote, settle};
 use sig_host::{Lent, Shelf};

@@ -1,10 +1,10 @@
 //! How the body of an effect is evaluated, and when an effect is due.
 #![tactic(auto)]
 
+mod due;
 mod evaluate;
-mod looking;
-mod reading;
+mod run;
 
+pub use due::look;
 pub use evaluate::evaluate_body;
-pub use looking::look;
-pub use reading::{BodyEnd, BodyRun};
+pub use run::{BodyEnd, BodyRun};

@@ -4,7 +4,7 @@ use Rattle.std.specs.Prelude.{IfNone}
 use Rattle.std.specs.List.{AllByRecursion}
 use Rattle.effect_model.specs.Worlds.{effect_at}
 use Rattle.effect_tables.specs.declared.effect.Effect.{Effect}
-use Rattle.effect_tables.specs.Looking.{effect_place}
+use Rattle.effect_tables.specs.Locations.{effect_place}
 use Rattle.effect_tables.specs.Placed.{effect_of}
 
 -- at this place stands the first effect of the number

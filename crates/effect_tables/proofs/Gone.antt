@@ -2,7 +2,7 @@
 use Rattle.std.proofs.Common.{◌≡◌, ℕ, zero, suc, ◌+◌, ◌++◌, true, false, List, [], ◌∷◌, length, Option, Some, None, refl, ap, ◌∙◌, arith, length-append}
 use Rattle.std.specs.Prelude.{is_some, slice_set}
 use Rattle.sig_store.specs.Stored.{entry}
-use Rattle.effect_tables.specs.Numbering.{closed_at, living}
+use Rattle.effect_tables.specs.Owners.{closed_at, living}
 use Rattle.effect_tables.proofs.Numbers.{living_fewer, living_more}
 
 -- its row is taken out

@@ -7,8 +7,8 @@ use Rattle.std.specs.declared.cmp.Ordering.TheVariants.{Less, Equal, Greater}
 use Rattle.std.proofs.lemmas.Bool.{cases_lt}
 use Rattle.std.proofs.lemmas.Bool.Decides.{nat_tests}
 use Rattle.effect_tables.specs.declared.effect.Effect.{Effect}
-use Rattle.effect_tables.specs.Holding.{AreRising}
-use Rattle.effect_tables.specs.Looking.{effect_place}
+use Rattle.effect_tables.specs.Consistency.{AreRising}
+use Rattle.effect_tables.specs.Locations.{effect_place}
 
 -- none is below the lower bound
 at_least : (low : ℕ) (xs : List Effect) → AreRising low xs → (i : ℕ) (d : Effect) → i < length xs → low ≤ (get_or xs i d).id

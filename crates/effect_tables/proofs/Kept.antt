@@ -4,17 +4,17 @@ use Rattle.std.specs.Prelude.{slice_set}
 use Rattle.std.specs.List.{AllByRecursion}
 use Rattle.std.proofs.lemmas.Bool.Decides.{nat_tests}
 use Rattle.std.specs.Rc.{rc_value}
-use Rattle.signal_model.specs.Standing.{changed}
+use Rattle.signal_model.specs.Signals.{changed}
 use Rattle.signal_model.specs.Values.{Seen}
-use Rattle.effect_model.specs.Owning.{the_effect}
+use Rattle.effect_model.specs.Owners.{the_effect}
 use Rattle.effect_model.specs.Worlds as plain
 use Rattle.effect_model.specs.Worlds.{World}
 use Rattle.sig_owner.specs.Tables.{Row, live_at, thing_at}
 use Rattle.effect_tables.specs.declared.effect.Effect.{Effect}
 use Rattle.effect_tables.specs.declared.tables.Tables.{Tables}
-use Rattle.effect_tables.specs.Fitting.{IsFitted, IsFitting}
-use Rattle.effect_tables.specs.Holding.{AreRising, Holds, IsEffect}
-use Rattle.effect_tables.specs.Keeping.{IsKept, with_kept, with_reads}
+use Rattle.effect_tables.specs.Scripts.{IsFitted, IsFitting}
+use Rattle.effect_tables.specs.Consistency.{AreRising, TablesAgree, IsEffect}
+use Rattle.effect_tables.specs.Runs.{IsKept, with_kept, with_reads}
 use Rattle.effect_tables.specs.Placed.{effect_of, placed}
 use Rattle.effect_tables.proofs.Found.{IsNowhere, IsPlace}
 
@@ -89,8 +89,8 @@ kept_fitting e ss (x ∷ xs) [] h a = absurd h
 kept_fitting e ss (x ∷ xs) (y ∷ ys) h a = (subst (λ x. x) (λ i. IsFitting (rc_value (sym h.0.script i))) a.0, kept_fitting e ss xs ys h.1 a.1)
 
 module _ (e : ℕ) (ss : List Seen) (t u : Tables) (same : u ≡ record t { effects = u.effects }) (k : AreKept e ss t.effects.items u.effects.items) where
-  pub kept_holds : Holds t → Holds u
-  kept_holds h = subst Holds (sym same) (record {
+  pub kept_holds : TablesAgree t → TablesAgree u
+  kept_holds h = subst TablesAgree (sym same) (record {
     numbered = h.numbered;
     alive = record { owners = h.alive.owners; effects = kept_alive e ss t.store t.effects.items u.effects.items k h.alive.effects };
     fresh = h.fresh;

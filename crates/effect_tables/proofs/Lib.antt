@@ -1,14 +1,14 @@
 mod Numbers
 mod Gone
 mod Rows
-mod Making
+mod Creations
 mod Adopted
 mod Tabled
-mod Starting
-mod Counting
+mod Start
+mod Counts
 mod Ordered
 mod Found
 mod Halves
 mod Kept
-mod Resting
+mod Rest
 pub mod Shared

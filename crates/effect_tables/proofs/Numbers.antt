@@ -3,11 +3,11 @@ use Rattle.std.proofs.Common.{◌≡◌, ℕ, zero, suc, ◌+◌, ◌<◌, ◌==
 use Rattle.std.specs.Prelude.{is_some}
 use Rattle.std.proofs.lemmas.Bool.{eqb-true, eq-eqb}
 use Rattle.std.proofs.lemmas.Bool.Decides.{nat_tests}
-use Rattle.signal_model.specs.Standing.{is_in}
+use Rattle.signal_model.specs.Signals.{is_in}
 use Rattle.signal_model.proofs.Shared.{either, or_left, or_right, tested}
 use Rattle.sig_store.specs.Stored.{entry}
-use Rattle.effect_tables.specs.Holding.{HasOwnRow, HaveOwnRows}
-use Rattle.effect_tables.specs.Numbering.{closed_at, has_row, is_row, living, number_in}
+use Rattle.effect_tables.specs.Consistency.{HasOwnRow, HaveOwnRows}
+use Rattle.effect_tables.specs.Owners.{closed_at, has_row, is_row, living, number_in}
 
 suc_apart : (a b : ℕ) → suc a ≡ suc b → a ≡ b
 suc_apart a b e = omega (arith, e)

@@ -2,7 +2,7 @@
 use Rattle.std.proofs.Common.{◌≡◌, ℕ, zero, suc, ◌+◌, ◌<◌, ◌≤◌, ◌++◌, List, [], ◌∷◌, sym, ap, subst, ◌∙◌, arith}
 use Rattle.std.specs.List.{AllByRecursion}
 use Rattle.effect_tables.specs.declared.effect.Effect.{Effect}
-use Rattle.effect_tables.specs.Holding.{AreOrdered, AreRising}
+use Rattle.effect_tables.specs.Consistency.{AreOrdered, AreRising}
 use Rattle.effect_tables.proofs.Rows.{all_behind, all_weaker}
 
 rising_more : (n : ℕ) (xs : List Effect) (x : Effect) → n ≤ x.id → AllByRecursion (λ (y : Effect). y.id < x.id) xs → AreRising n xs → AreRising n (xs ++ x ∷ [])

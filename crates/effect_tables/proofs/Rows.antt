@@ -3,13 +3,13 @@ use Rattle.std.proofs.Common.{◌≡◌, ℕ, zero, suc, ◌<◌, ◌==◌, ◌|
 use Rattle.std.specs.List.{AllByRecursion}
 use Rattle.std.proofs.lemmas.Bool.{eq-eqb, eqb-true}
 use Rattle.signal_model.proofs.Shared.{or_left, or_right, tested}
-use Rattle.effect_model.specs.Owning.{Thing, the_signal, the_owner, the_effect, the_page, the_watcher, Owned, nothing, thing, cleanup, same_thing}
+use Rattle.effect_model.specs.Owners.{Thing, the_signal, the_owner, the_effect, the_page, the_watcher, Owned, nothing, thing, cleanup, same_thing}
 use Rattle.sig_owner.specs.Tables.{Row, live_at, thing_at, with_holder}
-use Rattle.sig_owner.specs.Renaming.{renamed, renamed_thing}
+use Rattle.sig_owner.specs.Renames.{renamed, renamed_thing}
 use Rattle.sig_owner.specs.Trees.{has_thing}
 use Rattle.sig_owner.proofs.Shared.{new_thing, other_lives, other_thing}
-use Rattle.effect_tables.specs.Holding.{IsKnown}
-use Rattle.effect_tables.specs.Numbering.{is_row}
+use Rattle.effect_tables.specs.Consistency.{IsKnown}
+use Rattle.effect_tables.specs.Owners.{is_row}
 
 -- what lives is one of the rows
 pub live_below : (rows : List Row) (n : ℕ) → live_at rows n ≡ true → n < length rows

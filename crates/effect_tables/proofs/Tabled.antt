@@ -6,26 +6,26 @@ use Rattle.std.proofs.lemmas.Bool.Decides.{nat_tests}
 use Rattle.std.proofs.lemmas.List.{map-append}
 use Rattle.std.specs.List.{AllByRecursion}
 use Rattle.effect_model.specs.Bodies.{Body}
-use Rattle.effect_model.specs.Owning.{the_effect, the_owner, the_page, the_signal, alone, made_inside, put_under}
+use Rattle.effect_model.specs.Owners.{the_effect, the_owner, the_page, the_signal, alone, made_inside, put_under}
 use Rattle.effect_model.specs.Commands.{with_new_effect, with_new_owner, with_new_page}
 use Rattle.effect_model.specs.Worlds.{World}
-use Rattle.sig_owner.specs.Renaming.{renamed}
+use Rattle.sig_owner.specs.Renames.{renamed}
 use Rattle.sig_owner.specs.Tables.{thing_at}
 use Rattle.sig_owner.specs.Trees.{has_thing, owned_of}
 use Rattle.effect_tables.specs.declared.effect.Effect.{Effect}
 use Rattle.effect_tables.specs.declared.effect.Script.{Script}
 use Rattle.effect_tables.specs.declared.tables.Tables.{Tables}
 use Rattle.effect_tables.specs.declared.thing.Thing.TheVariants as a
-use Rattle.effect_tables.specs.Adopting.{Adopts, MakesEffect, MakesOwner, adopted, with_child}
-use Rattle.effect_tables.specs.Fitting.{IsFitted}
-use Rattle.effect_tables.specs.Holding.{AreAlive, AreFresh, AreNumbered, AreOrdered, Holds, LeavesOut}
-use Rattle.effect_tables.specs.Linking.{body_of}
-use Rattle.effect_tables.specs.Looking.{IsInside}
-use Rattle.effect_tables.specs.Noting.{noted}
-use Rattle.effect_tables.specs.Numbering.{living, number_in}
+use Rattle.effect_tables.specs.Children.{Adopts, MakesEffect, MakesOwner, adopted, with_child}
+use Rattle.effect_tables.specs.Scripts.{IsFitted}
+use Rattle.effect_tables.specs.Consistency.{AreAlive, AreFresh, AreNumbered, AreOrdered, TablesAgree, LeavesOut}
+use Rattle.effect_tables.specs.Bodies.{body_of}
+use Rattle.effect_tables.specs.Locations.{IsInside}
+use Rattle.effect_tables.specs.Things.{noted}
+use Rattle.effect_tables.specs.Owners.{living, number_in}
 use Rattle.effect_tables.specs.Placed.{at_rest, effect_of, listed, placed, tree_of}
 use Rattle.effect_tables.proofs.Adopted.{adopted_alive, adopted_fresh, adopted_numbered, adopted_tree, has_in}
-use Rattle.effect_tables.proofs.Making.{IsPut, child_tree, effect_alive, effect_fresh, effect_numbered, effect_tree, has_made, inside_stands, owner_alive, owner_fresh, owner_living, owner_numbered, owner_tree}
+use Rattle.effect_tables.proofs.Creations.{IsPut, child_tree, effect_alive, effect_fresh, effect_numbered, effect_tree, has_made, inside_stands, owner_alive, owner_fresh, owner_living, owner_numbered, owner_tree}
 use Rattle.effect_tables.proofs.Numbers.{number_apart}
 use Rattle.effect_tables.proofs.Ordered.{ordered_more}
 use Rattle.effect_tables.proofs.Rows.{all_behind}
@@ -47,7 +47,7 @@ pub record HasOwner (t u : Tables) (outer : Option ℕ) (n k : ℕ) : Type 0 whe
   pub effects_made : u.effects_made ≡ t.effects_made
   pub pages_made : u.pages_made ≡ t.pages_made
 
-pub owner_does : (t u : Tables) (inside outer : Option ℕ) (n k : ℕ) → HasOwner t u outer n k → IsInside t.owners.items inside outer → Holds t →
+pub owner_does : (t u : Tables) (inside outer : Option ℕ) (n k : ℕ) → HasOwner t u outer n k → IsInside t.owners.items inside outer → TablesAgree t →
     (w : World) → placed u w ≡ with_new_owner inside (placed t w)
 owner_does t u inside outer n k m i h w =
     let tree = owner_tree t.owners.items t.effects.items (noted t.things) (noted u.things) t.store u.store inside outer n k m.made h.numbered h.alive i m.number m.things in
@@ -59,7 +59,7 @@ owner_does t u inside outer n k m i h w =
       made = record (w.made) { owners = (ap length m.owners ∙ one_more t.owners.items (Some n)) j; effects = m.effects_made j; pages = m.pages_made j };
     }
 
-pub owner_holds : (t u : Tables) (inside outer : Option ℕ) (n k : ℕ) → HasOwner t u outer n k → IsInside t.owners.items inside outer → Holds t → Holds u
+pub owner_holds : (t u : Tables) (inside outer : Option ℕ) (n k : ℕ) → HasOwner t u outer n k → IsInside t.owners.items inside outer → TablesAgree t → TablesAgree u
 owner_holds t u inside outer n k m i h = record {
   numbered = subst (λ es. AreNumbered es (noted u.things) u.store) (sym m.owners) (owner_numbered t.owners.items t.effects.items (noted t.things) (noted u.things) t.store u.store inside outer n k m.made h.numbered h.alive i m.number m.things);
   alive = subst (λ x. x) (λ j. AreAlive (sym m.owners j) (sym m.effects j).items u.store) (owner_alive t.owners.items t.effects.items (noted t.things) (noted u.things) t.store u.store inside outer n k m.made h.numbered h.alive i m.number m.things);
@@ -85,7 +85,7 @@ pub record HasEffect (t u : Tables) (outer : Option ℕ) (x : Effect) : Type 0 w
   pub effects_made : u.effects_made ≡ t.effects_made + 1
   pub pages_made : u.pages_made ≡ t.pages_made
 
-pub effect_holds : (t u : Tables) (outer : Option ℕ) (x : Effect) → HasEffect t u outer x → Holds t → Holds u
+pub effect_holds : (t u : Tables) (outer : Option ℕ) (x : Effect) → HasEffect t u outer x → TablesAgree t → TablesAgree u
 effect_holds t u outer x m h =
     let next : x.id + 1 ≡ u.effects_made = ap (λ k. k + 1) m.number ∙ sym m.effects_made in
     record {
@@ -104,7 +104,7 @@ effects_more : (t u : Tables) (outer : Option ℕ) (x : Effect) (b : Body) → H
 effects_more t u outer x b m is = ap (map effect_of) m.effects ∙ map-append effect_of t.effects.items (x ∷ []) ∙ ap (λ y. map effect_of t.effects.items ++ y ∷ []) is
 
 pub effect_does : (t u : Tables) (inside outer : Option ℕ) (x : Effect) (s : Script) → HasEffect t u outer x → effect_of x ≡ record { number = t.effects_made; body = body_of t.effects_made s []; kept = None } →
-    IsInside t.owners.items inside outer → Holds t → (w : World) → placed u w ≡ with_new_effect (body_of t.effects_made s []) inside (placed t w)
+    IsInside t.owners.items inside outer → TablesAgree t → (w : World) → placed u w ≡ with_new_effect (body_of t.effects_made s []) inside (placed t w)
 effect_does t u inside outer x s m is i h w =
     λ j. record w {
       owners = living 0 (m.owners j);
@@ -118,7 +118,7 @@ effect_does t u inside outer x s m is i h w =
 
 -- a child of an effect
 pub child_does : (t u : Tables) (e r : ℕ) (x : Effect) (b : Body) → HasEffect t u (Some r) x → effect_of x ≡ record { number = t.effects_made; body = b; kept = None } →
-    thing_at t.store r ≡ the_effect e → Holds t → (w : World) → placed u w ≡ with_child e b (placed t w)
+    thing_at t.store r ≡ the_effect e → TablesAgree t → (w : World) → placed u w ≡ with_child e b (placed t w)
 child_does t u e r x b m is stands h w =
     λ j. record w {
       owners = living 0 (m.owners j);
@@ -146,7 +146,7 @@ pub record HasPage (t u : Tables) (outer : Option ℕ) (n : ℕ) : Type 0 where
   pub effects_made : u.effects_made ≡ t.effects_made
   pub pages_made : u.pages_made ≡ t.pages_made + 1
 
-pub page_holds : (t u : Tables) (outer : Option ℕ) (n : ℕ) → HasPage t u outer n → Holds t → Holds u
+pub page_holds : (t u : Tables) (outer : Option ℕ) (n : ℕ) → HasPage t u outer n → TablesAgree t → TablesAgree u
 page_holds t u outer n m h = record {
   numbered = subst (λ x. x) (λ j. AreNumbered (sym m.owners j) (noted (sym m.things j)) u.store)
       (adopted_numbered t.store u.store outer (the_page n) m.adopts t.owners.items (noted t.things) (λ k. refl) h.numbered);
@@ -161,7 +161,7 @@ page_holds t u outer n m h = record {
     beyond : (k : ℕ) → t.pages_made + 1 ≤ k → (t.pages_made ≤ k) × ((k == n) ≡ false)
     beyond k l = let e : n ≡ t.pages_made = m.number in (omega (arith, l), grind (arith, nat_tests, l, e))
 
-pub page_does : (t u : Tables) (inside outer : Option ℕ) (n : ℕ) → HasPage t u outer n → IsInside t.owners.items inside outer → Holds t →
+pub page_does : (t u : Tables) (inside outer : Option ℕ) (n : ℕ) → HasPage t u outer n → IsInside t.owners.items inside outer → TablesAgree t →
     (w : World) → at_rest (placed u w) ≡ at_rest (with_new_page inside (placed t w))
 page_does t u inside outer n m i h w =
     let g : ℕ → ℕ = number_in t.owners.items in
@@ -183,8 +183,8 @@ page_leaves t u outer n m = record { still = λ k off h. ap (has_thing (the_sign
 -- ---- a signal
 
 module _ (t u : Tables) (outer : Option ℕ) (n : ℕ) (m : Adopts t.store u.store outer (the_signal n)) (same : u ≡ record t { store = u.store }) where
-  pub signal_holds : Holds t → Holds u
-  signal_holds h = subst Holds (sym same) (record {
+  pub signal_holds : TablesAgree t → TablesAgree u
+  signal_holds h = subst TablesAgree (sym same) (record {
     numbered = adopted_numbered t.store u.store outer (the_signal n) m t.owners.items (noted t.things) (λ k. refl) h.numbered;
     alive = adopted_alive t.store u.store outer (the_signal n) m t.owners.items t.effects.items h.alive;
     fresh = adopted_fresh t.store u.store outer (the_signal n) m t.effects_made t.pages_made t.pages_made (λ k. refl) (λ k l. (l, refl)) h.fresh;
@@ -192,7 +192,7 @@ module _ (t u : Tables) (outer : Option ℕ) (n : ℕ) (m : Adopts t.store u.sto
     fitting = h.fitting;
   })
 
-  pub signal_does : (inside : Option ℕ) → IsInside t.owners.items inside outer → Holds t → (w : World) → at_rest (placed u w) ≡ at_rest (adopted n inside (placed t w))
+  pub signal_does : (inside : Option ℕ) → IsInside t.owners.items inside outer → TablesAgree t → (w : World) → at_rest (placed u w) ≡ at_rest (adopted n inside (placed t w))
   signal_does inside i h w =
       let g : ℕ → ℕ = number_in t.owners.items in
       ap (λ (v : Tables). at_rest (placed v w)) same

@@ -1,9 +1,9 @@
-pub mod Linking
-pub mod Fitting
-pub mod Keeping
-pub mod Numbering
-pub mod Noting
+pub mod Bodies
+pub mod Scripts
+pub mod Runs
+pub mod Owners
+pub mod Things
 pub mod Placed
-pub mod Holding
-pub mod Looking
-pub mod Adopting
+pub mod Consistency
+pub mod Locations
+pub mod Children

@@ -1,17 +1,17 @@
 -- What the tables stand for.
 use Rattle.std.specs.Prelude.{ℕ, Bool, true, List, [], map, length, Option, Some, None, option_map, if◌then◌else◌}
 use Rattle.std.specs.Rc.{rc_value}
-use Rattle.signal_model.specs.Standing.{is_in}
-use Rattle.effect_model.specs.Owning.{Owned, nothing, thing, cleanup}
+use Rattle.signal_model.specs.Signals.{is_in}
+use Rattle.effect_model.specs.Owners.{Owned, nothing, thing, cleanup}
 use Rattle.effect_model.specs.Worlds as plain
 use Rattle.effect_model.specs.Worlds.{World}
 use Rattle.sig_owner.specs.Tables.{is_holder}
 use Rattle.sig_owner.specs.Trees.{owned_of}
-use Rattle.sig_owner.specs.Renaming.{renamed}
+use Rattle.sig_owner.specs.Renames.{renamed}
 use Rattle.effect_tables.specs.declared.effect.Effect.{Effect}
 use Rattle.effect_tables.specs.declared.tables.Tables.{Tables}
-use Rattle.effect_tables.specs.Linking.{body_of}
-use Rattle.effect_tables.specs.Numbering.{living, number_in}
+use Rattle.effect_tables.specs.Bodies.{body_of}
+use Rattle.effect_tables.specs.Owners.{living, number_in}
 
 -- an effect as the definitions have it
 abbrev pub effect_of : Effect → plain.Effect

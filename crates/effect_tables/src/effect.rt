@@ -1,7 +1,7 @@
 // Effects that live.
 ghost use Rattle.std.specs.Prelude.{◌≡◌, ◌++◌, ◌∷◌, [], None, IfOk};
 ghost use Rattle.std.specs.Rc.{rc_value};
-ghost use Rattle.effect_tables.specs.Linking.{body_of};
+ghost use Rattle.effect_tables.specs.Bodies.{body_of};
 ghost use Rattle.effect_tables.specs.Placed.{effect_of};
 
 use crate::links::Links;

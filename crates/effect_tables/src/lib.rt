@@ -2,20 +2,20 @@
 //! have.
 #![tactic(auto)]
 
+mod creation;
 mod effect;
-mod finding;
-mod keeping;
 mod links;
 mod looks;
-mod makings;
+mod lookup;
 mod noted;
 mod owner_rows;
+mod reads;
 mod tables;
 mod thing;
 
 pub use effect::{Effect, MOST_STATEMENTS, Script, Site};
-pub use finding::{effect_at, effect_place};
 pub use links::{Links, Slots, Target};
+pub use lookup::{effect_at, effect_place};
 pub use noted::{forget_row, noted_thing};
 pub use owner_rows::OwnerRows;
 pub use tables::{MOST_EFFECTS, Tables};

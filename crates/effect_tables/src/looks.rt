@@ -1,7 +1,7 @@
 // Where something that is made is to stand in the store.
 ghost use Rattle.std.specs.Prelude.{◌≡◌, true, false, IfOk, IsErrOf, IfErr};
-ghost use Rattle.effect_tables.specs.Looking.{IsInside};
-ghost use Rattle.effect_tables.specs.Numbering.{living};
+ghost use Rattle.effect_tables.specs.Locations.{IsInside};
+ghost use Rattle.effect_tables.specs.Owners.{living};
 ghost use Rattle.effect_tables.specs.Placed.{is_open};
 ghost use Rattle.sig_owner.specs.declared.errors.OwnFault.TheVariants as fault;
 

@@ -1,6 +1,6 @@
 // Which thing each row is.
 ghost use Rattle.std.specs.Prelude.{◌≡◌, ◌==◌, ℕ, None, Some, if◌then◌else◌, OnOk};
-ghost use Rattle.effect_tables.specs.Noting.{noted};
+ghost use Rattle.effect_tables.specs.Things.{noted};
 
 use crate::thing::Thing;
 use indexmap::IndexMap;

@@ -1,6 +1,6 @@
 // Owners by their own numbers.
 ghost use Rattle.std.specs.Prelude.{◌≡◌, ◌<◌, ◌+◌, ◌^◌, ◌++◌, ◌∷◌, [], length, Some, IfOk, OnOk};
-ghost use Rattle.effect_tables.specs.Numbering.{closed_at, living};
+ghost use Rattle.effect_tables.specs.Owners.{closed_at, living};
 ghost use Rattle.sig_store.specs.Stored.{entry};
 
 use sig_base::{NoMemory, OwnerId};
@@ -16,12 +16,12 @@ pub struct OwnerRows {
 }
 
 impl Model for OwnerRows {
-    ghost use Rattle.effect_tables.specs.Numbering.{OwnerList};
+    ghost use Rattle.effect_tables.specs.Owners.{OwnerList};
 
     ghost Value = { OwnerList };
 
     ghost use Rattle.std.specs.Prelude.{◌≡◌, length};
-    ghost use Rattle.effect_tables.specs.Numbering.{living};
+    ghost use Rattle.effect_tables.specs.Owners.{living};
 
     ghost view = { λ o. record { items = o.rows.entries } };
 

@@ -1,9 +1,9 @@
 // The tables.
 ghost use Rattle.std.specs.Prelude.{◌≡◌, IfOk};
-ghost use Rattle.effect_model.specs.Owning.{nothing};
+ghost use Rattle.effect_model.specs.Owners.{nothing};
 ghost use Rattle.effect_model.specs.Worlds.{World};
 ghost use Rattle.sig_owner.specs.Trees.{owned_of};
-ghost use Rattle.effect_tables.specs.Holding.{Holds};
+ghost use Rattle.effect_tables.specs.Consistency.{TablesAgree};
 ghost use Rattle.effect_tables.specs.Placed.{placed, untouched};
 
 use crate::effect::Effect;
@@ -51,7 +51,7 @@ impl Tables {
     /// `NoMemory` where memory ran out.
     pub fn new(alloc: Global) -> Result<Tables, NoMemory>
         ensures placed { (w : World) → IfOk result (λ t. placed t w ≡ untouched w) }
-        ensures holds { IfOk result (λ t. Holds t) }
+        ensures holds { IfOk result (λ t. TablesAgree t) }
         ensures bare { IfOk result (λ t. owned_of t.store ≡ nothing) }
     {
         let store = Owners::new(alloc)?;

@@ -14,20 +14,20 @@ use Rattle.sig_computed.specs.Notes.{note_of, IsSettling}
 use Rattle.sig_computed.specs.Scenes as settling
 use Rattle.sig_computed.specs.Scenes.{Settles}
 use Rattle.sig_effect.specs.declared.events.Event.TheVariants as signals
-use Rattle.sig_effect.specs.Agreeing.{AreRuled, environment}
+use Rattle.sig_effect.specs.Stores.{AreRuled, environment}
 use Rattle.sig_effect.specs.Wholes as wholes
 use Rattle.sig_effect.proofs.Shared.{agrees_settled, settle_does}
 use Rattle.effect_world.specs.declared.events.Event.{Event}
 use Rattle.effect_world.specs.declared.events.Event.TheVariants as event
 use Rattle.effect_world.specs.declared.world.World.{World}
-use Rattle.effect_world.specs.Acting.{Scene, any_hosts, scene}
-use Rattle.effect_world.specs.Agreeing.{Agrees, Does, IsSound}
+use Rattle.effect_world.specs.Signals.{Scene, any_hosts, scene}
+use Rattle.effect_world.specs.Stores.{Agrees, Does, IsSound}
 use Rattle.effect_world.specs.Events.{Tells}
-use Rattle.effect_world.specs.Weighing.{weight}
+use Rattle.effect_world.specs.Costs.{weight}
 use Rattle.effect_world.specs.Wholes.{whole_of}
 use Rattle.effect_world.proofs.Shared.{owned_still, settle_done, tells_none}
-use Rattle.effect_acts.specs.Acting.{Acted}
-use Rattle.effect_turns.specs.Running.{run_told, CanRun, Runs, Spends}
+use Rattle.effect_acts.specs.Acts.{Acted}
+use Rattle.effect_turns.specs.Runs.{run_told, CanRun, Runs, Spends}
 
 -- ---- the same act in other words
 

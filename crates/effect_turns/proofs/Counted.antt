@@ -2,11 +2,11 @@
 use Rattle.std.proofs.Common.{ℕ, ◌≤◌, [], length, arith}
 use Rattle.signal_model.specs.Recipes.{host}
 use Rattle.effect_model.specs.Bodies.{no_more}
-use Rattle.effect_model.specs.Owning.{the_signal}
-use Rattle.sig_untrack.specs.Linking.{Parts}
-use Rattle.effect_runs.specs.declared.reading.BodyEnd.{BodyEnd}
-use Rattle.effect_runs.specs.declared.reading.BodyEnd.TheVariants.{Acts, Fail}
-use Rattle.effect_runs.specs.Evaluating.{IsShort}
+use Rattle.effect_model.specs.Owners.{the_signal}
+use Rattle.sig_untrack.specs.Links.{Parts}
+use Rattle.effect_runs.specs.declared.run.BodyEnd.{BodyEnd}
+use Rattle.effect_runs.specs.declared.run.BodyEnd.TheVariants.{Acts, Fail}
+use Rattle.effect_runs.specs.Evaluations.{IsShort}
 
 -- places that stand for nothing in particular
 pub any_parts : Parts

@@ -1,25 +1,25 @@
 -- An effect that is looked at.
 use Rattle.std.proofs.Common.{◌≡◌, ℕ, ◌++◌, List, [], map, Option, Some, None, sym, ap, subst}
 use Rattle.signal_model.specs.Recipes.{Hosts}
-use Rattle.signal_model.specs.Standing.{Signals}
+use Rattle.signal_model.specs.Signals.{Signals}
 use Rattle.signal_model.specs.Values.{Seen, value_of}
-use Rattle.effect_model.specs.Running.{look, looked_names}
+use Rattle.effect_model.specs.Runs.{look, looked_names}
 use Rattle.effect_model.specs.Worlds as plain
 use Rattle.effect_model.specs.Worlds.{effect_at, settle}
 use Rattle.effect_tables.specs.declared.effect.Effect.{Effect}
 use Rattle.effect_tables.specs.Placed.{effect_of}
-use Rattle.effect_resting.specs.Visiting.{glance, to_effect}
+use Rattle.effect_resting.specs.Visits.{glance, to_effect}
 use Rattle.sig_host.specs.Hosts.{HostPlace}
-use Rattle.sig_effect.specs.Agreeing.{environment}
+use Rattle.sig_effect.specs.Stores.{environment}
 use Rattle.sig_computed.specs.declared.notes.RunNote.{RunNote}
 use Rattle.sig_computed.specs.Scenes as settling
 use Rattle.sig_computed.specs.Scenes.{Settles}
 use Rattle.effect_world.specs.declared.events.Event.{Event}
 use Rattle.effect_world.specs.declared.world.World.{World}
-use Rattle.effect_world.specs.Acting.{Scene, scene}
-use Rattle.effect_world.specs.Agreeing.{Agrees}
+use Rattle.effect_world.specs.Signals.{Scene, scene}
+use Rattle.effect_world.specs.Stores.{Agrees}
 use Rattle.effect_world.specs.Wholes.{whole_of}
-use Rattle.effect_turns.specs.Running.{run_told, Runs}
+use Rattle.effect_turns.specs.Runs.{run_told, Runs}
 use Rattle.effect_turns.proofs.Carried.{runs_as, runs_still, settled_runs}
 
 -- what is kept, in other words

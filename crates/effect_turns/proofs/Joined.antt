@@ -3,38 +3,38 @@ use Rattle.std.proofs.Common.{◌≡◌, ℕ, suc, ◌+◌, List, [], ◌∷◌,
 use Rattle.std.specs.Rc.{rc_value}
 use Rattle.signal_model.specs.Recipes.{Hosts}
 use Rattle.signal_model.specs.Sound.{names_of}
-use Rattle.signal_model.specs.Standing.{Signals}
+use Rattle.signal_model.specs.Signals.{Signals}
 use Rattle.signal_model.specs.Values.{Seen}
 use Rattle.effect_model.specs.Acts.{take_back}
 use Rattle.effect_model.specs.Bodies as model
 use Rattle.effect_model.specs.Bodies.{BodyEvaluation, body_evaluation}
-use Rattle.effect_model.specs.Owning.{the_effect}
-use Rattle.effect_model.specs.Running.{do_result, keep_reads, run_body, run_effect}
+use Rattle.effect_model.specs.Owners.{the_effect}
+use Rattle.effect_model.specs.Runs.{do_result, keep_reads, run_body, run_effect}
 use Rattle.effect_model.specs.Worlds as plain
 use Rattle.effect_model.specs.Worlds.{HostState, unused, used, dropped, asked_by, asked_more, effect_at, settle}
 use Rattle.effect_resting.proofs.Shared.{all_rest, rests_then}
 use Rattle.effect_tables.specs.declared.effect.Effect.{Effect}
 use Rattle.effect_tables.specs.declared.effect.Script.{Script}
-use Rattle.effect_tables.specs.Linking.{body_of, links_before, no_body, no_links}
+use Rattle.effect_tables.specs.Bodies.{body_of, links_before, no_body, no_links}
 use Rattle.effect_undoing.specs.Sites.{body_at, links_at}
 use Rattle.effect_undoing.proofs.SharedSites.{none_seen, unlinked_seen}
 use Rattle.effect_tables.specs.Placed.{effect_of}
-use Rattle.effect_resting.specs.Visiting.{rerun, to_effect}
+use Rattle.effect_resting.specs.Visits.{rerun, to_effect}
 use Rattle.effect_resting.proofs.SharedVisits.{body_rests}
-use Rattle.sig_effect.specs.Agreeing.{environment}
+use Rattle.sig_effect.specs.Stores.{environment}
 use Rattle.sig_untrack.specs.declared.body.Body.{Body}
-use Rattle.sig_untrack.specs.Linking.{Parts}
+use Rattle.sig_untrack.specs.Links.{Parts}
 use Rattle.sig_untrack.specs.Stated as stated
 use Rattle.sig_untrack.specs.Stated.{no_bodies}
-use Rattle.effect_runs.specs.declared.reading.BodyRun.{BodyRun}
-use Rattle.effect_runs.specs.Evaluating.{body_seen, result_of, IsRunOf}
-use Rattle.effect_world.specs.Acting.{Scene, any_hosts}
-use Rattle.effect_world.specs.Agreeing.{Agrees, IsSound}
+use Rattle.effect_runs.specs.declared.run.BodyRun.{BodyRun}
+use Rattle.effect_runs.specs.Evaluations.{body_seen, result_of, IsRunOf}
+use Rattle.effect_world.specs.Signals.{Scene, any_hosts}
+use Rattle.effect_world.specs.Stores.{Agrees, IsSound}
 use Rattle.effect_world.specs.Wholes.{whole_of}
-use Rattle.effect_acts.specs.Acting.{Acted}
-use Rattle.effect_turns.specs.Running.{Runs}
+use Rattle.effect_acts.specs.Acts.{Acted}
+use Rattle.effect_turns.specs.Runs.{Runs}
 use Rattle.effect_turns.proofs.Carried.{acted_runs, runs_any, runs_as, runs_still}
-use Rattle.effect_turns.proofs.Composing.{runs_then}
+use Rattle.effect_turns.proofs.Sequences.{runs_then}
 
 -- ---- a body that is evaluated
 

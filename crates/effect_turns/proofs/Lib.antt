@@ -1,7 +1,7 @@
-mod Composing
+mod Sequences
 mod Carried
 mod Counted
-mod Ending
+mod Ends
 mod Glanced
 mod Joined
 mod Loops

@@ -3,23 +3,23 @@ use Rattle.std.proofs.Common.{◌≡◌, ℕ, suc, ◌+◌, ◌-◌, ◌<◌, �
 use Rattle.std.proofs.lemmas.List.{drop_all, drop_more, take_all, take_more}
 use Rattle.signal_model.specs.Recipes.{Hosts}
 use Rattle.effect_model.specs.Worlds as plain
-use Rattle.effect_model.specs.Owning.{the_owner}
+use Rattle.effect_model.specs.Owners.{the_owner}
 use Rattle.effect_model.specs.Worlds.{effect_at, effect_numbers}
-use Rattle.effect_model.specs.Running.{Flushed, after_last, flush, flush_within, is_effect_due, last_case, last_look, look, turn, value_now}
+use Rattle.effect_model.specs.Runs.{Flushed, after_last, flush, flush_within, is_effect_due, last_case, last_look, look, turn, value_now}
 use Rattle.effect_tables.specs.Placed.{tree_of}
-use Rattle.effect_resting.specs.Resting.{AreBare}
+use Rattle.effect_resting.specs.Roots.{AreBare}
 use Rattle.effect_resting.proofs.Shared.{looks_rest, turns_rest}
-use Rattle.sig_effect.specs.Agreeing.{environment}
-use Rattle.effect_resting.specs.Visiting.{glance, glance_all, is_due, rerun, some_ran, visit, visit_all}
+use Rattle.sig_effect.specs.Stores.{environment}
+use Rattle.effect_resting.specs.Visits.{glance, glance_all, is_due, rerun, some_ran, visit, visit_all}
 use Rattle.effect_resting.specs.Turned.{added, after_turns}
 use Rattle.effect_resting.proofs.SharedVisits.{at_end, at_start, glance_more, glance_rests, glances_rest, goes_on, last_rests, look_found, look_passed, ran_more, rerun_rests, turn_ran, turn_world, turns_so_far_rest, visit_more, visit_rests, visits_rest}
-use Rattle.effect_acts.proofs.SharedDoing.{formed_bare}
-use Rattle.effect_world.specs.Acting.{Scene}
-use Rattle.effect_world.specs.Agreeing.{Agrees, IsSound}
+use Rattle.effect_acts.proofs.SharedActs.{formed_bare}
+use Rattle.effect_world.specs.Signals.{Scene}
+use Rattle.effect_world.specs.Stores.{Agrees, IsSound}
 use Rattle.effect_world.specs.Wholes.{whole_of}
-use Rattle.effect_turns.specs.Running.{Runs}
+use Rattle.effect_turns.specs.Runs.{Runs}
 use Rattle.effect_turns.proofs.Carried.{runs_as}
-use Rattle.effect_turns.proofs.Composing.{runs_then}
+use Rattle.effect_turns.proofs.Sequences.{runs_then}
 
 -- the plain world that a scene stands for
 abbrev pub seen : Scene → plain.World

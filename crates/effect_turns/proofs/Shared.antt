@@ -1,5 +1,5 @@
 -- What crates above may cite of these proofs.
 
 -- acts one after the other
-pub use Rattle.effect_turns.proofs.Composing.{runs_then}
+pub use Rattle.effect_turns.proofs.Sequences.{runs_then}
 pub use Rattle.effect_turns.proofs.Carried.{runs_as, spends_then, can_then}

@@ -1,12 +1,12 @@
 //! Runs of effects, turns and flushes.
 #![tactic(auto)]
 
-mod flushing;
-mod glancing;
-mod rerunning;
-mod telling;
-mod turning;
+mod flushes;
+mod glance;
+mod notes;
+mod run;
+mod turns;
 
-pub use flushing::{FlushEnd, MOST_TURNS, flush};
-pub use rerunning::run_effect;
-pub use turning::turn;
+pub use flushes::{FlushEnd, MOST_TURNS, flush};
+pub use run::run_effect;
+pub use turns::turn;

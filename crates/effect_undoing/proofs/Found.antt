@@ -3,18 +3,18 @@ use Rattle.std.proofs.Common.{◌≡◌, ℕ, zero, suc, ◌==◌, ◌||◌, Boo
 use Rattle.std.specs.Prelude.{is_some}
 use Rattle.std.specs.List.{AllByRecursion}
 use Rattle.std.proofs.lemmas.Bool.{eqb-true}
-use Rattle.signal_model.specs.Standing.{is_in}
-use Rattle.effect_model.specs.Owning.{Thing, the_effect, the_owner}
+use Rattle.signal_model.specs.Signals.{is_in}
+use Rattle.effect_model.specs.Owners.{Thing, the_effect, the_owner}
 use Rattle.sig_store.specs.Stored.{entry}
-use Rattle.sig_owner.specs.Renaming.{renamed_thing}
+use Rattle.sig_owner.specs.Renames.{renamed_thing}
 use Rattle.sig_owner.specs.Tables.{Row, live_at, thing_at}
 use Rattle.effect_tables.specs.declared.effect.Effect.{Effect}
 use Rattle.effect_tables.specs.declared.tables.Tables.{Tables}
-use Rattle.effect_tables.specs.Holding.{Holds, IsEffect, IsOwner}
-use Rattle.effect_tables.specs.Numbering.{is_row, living}
+use Rattle.effect_tables.specs.Consistency.{TablesAgree, IsEffect, IsOwner}
+use Rattle.effect_tables.specs.Owners.{is_row, living}
 use Rattle.effect_tables.specs.Placed.{numbering}
 use Rattle.effect_tables.proofs.Shared.{IsNowhere, IsPlace, lives_at, number_at}
-use Rattle.effect_undoing.specs.Finding.{effect_row}
+use Rattle.effect_undoing.specs.Rows.{effect_row}
 
 -- a thing lives in this row
 pub record IsFound (rows : List Row) (n : ℕ) (t : Thing) : Type 0 where
@@ -68,7 +68,7 @@ pub record IsOwnerFound (t : Tables) (n r : ℕ) : Type 0 where
   pub listed : is_row r t.owners.items ≡ true
   pub on : is_in n (living 0 t.owners.items) ≡ true
 
-pub owner_found : (t : Tables) (n r : ℕ) → Holds t → Some r ≡ entry t.owners.items n → IsOwnerFound t n r
+pub owner_found : (t : Tables) (n r : ℕ) → TablesAgree t → Some r ≡ entry t.owners.items n → IsOwnerFound t n r
 owner_found t n r h e =
     let two = number_at t.owners.items n r h.numbered.apart (sym e) in
     let own : IsOwner t.store r = h.alive.owners r two.1 in

@@ -1,7 +1,7 @@
 mod Forms
 mod Steps
 mod Lists
-mod Living
+mod Survivors
 mod Taken
 mod Found
 pub mod Shared

@@ -4,9 +4,9 @@ use Rattle.std.specs.Prelude.{is_some}
 use Rattle.std.specs.List.{AllByRecursion, filter, remove}
 use Rattle.std.proofs.lemmas.Bool.{eq-eqb, eqb-true, ne_eqb}
 use Rattle.std.proofs.lemmas.Bool.Decides.{nat_tests}
-use Rattle.signal_model.specs.Standing.{is_in, without}
+use Rattle.signal_model.specs.Signals.{is_in, without}
 use Rattle.signal_model.proofs.Shared.{tested}
-use Rattle.effect_model.specs.Owning.{the_signal, the_owner, the_effect, the_page, the_watcher, Undoing, cleans, ends}
+use Rattle.effect_model.specs.Owners.{the_signal, the_owner, the_effect, the_page, the_watcher, Undoing, cleans, ends}
 use Rattle.effect_model.specs.Worlds as plain
 use Rattle.effect_model.specs.Worlds.{World}
 use Rattle.effect_laws.specs.Frames.{ended_all, ended_one}
@@ -14,12 +14,12 @@ use Rattle.sig_store.specs.Stored.{entry}
 use Rattle.sig_owner.specs.Walks.{is_ended}
 use Rattle.effect_tables.specs.declared.effect.Effect.{Effect}
 use Rattle.effect_tables.specs.declared.thing.Thing.{Thing}
-use Rattle.effect_tables.specs.Holding.{AreOrdered, AreRising, HasOwnRow, HaveOwnRows}
-use Rattle.effect_tables.specs.Numbering.{closed_at, has_row, is_row, living, number_in}
+use Rattle.effect_tables.specs.Consistency.{AreOrdered, AreRising, HasOwnRow, HaveOwnRows}
+use Rattle.effect_tables.specs.Owners.{closed_at, has_row, is_row, living, number_in}
 use Rattle.effect_tables.specs.Placed.{effect_of}
 use Rattle.effect_tables.proofs.Shared.{IsNowhere, IsPlace, left_off, living_below, none_behind, off_on, right_off, row_is, swapped}
-use Rattle.effect_undoing.specs.Ending.{effects_after, effects_without, forgotten, owners_after, owners_without, pages_after, pages_without, things_after, things_without}
-use Rattle.effect_undoing.specs.Finding.{effect_row}
+use Rattle.effect_undoing.specs.Ends.{effects_after, effects_without, forgotten, owners_after, owners_without, pages_after, pages_without, things_after, things_without}
+use Rattle.effect_undoing.specs.Rows.{effect_row}
 
 -- ---- the list of effects without one
 

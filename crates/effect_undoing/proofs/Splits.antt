@@ -4,18 +4,18 @@ use Rattle.std.specs.Prelude.{slice_get}
 use Rattle.effect_model.specs.Bodies as plain
 use Rattle.sig_untrack.specs.declared.body.Body.{Body}
 use Rattle.sig_untrack.specs.declared.body.Body.TheViews.{out-Body}
-use Rattle.sig_untrack.specs.Linking.{linked}
+use Rattle.sig_untrack.specs.Links.{linked}
 use Rattle.sig_untrack.specs.Stated.{Bodies, no_bodies, body, before, bodies_before, no_more, rewiring, stated, statements_of}
 use Rattle.effect_tables.specs.declared.effect.Script.{Script}
 use Rattle.effect_tables.specs.declared.links.Links.{Links}
 use Rattle.effect_tables.specs.declared.links.Links.TheViews.{out-Links}
-use Rattle.effect_tables.specs.Fitting.{AreFew, AreFitting, FitsNames, IsFitting}
-use Rattle.effect_tables.specs.Linking.{Linking, no_links, links, links_before, all_before, bodies_in, body_along, body_of, body_or_none, links_in, joined, no_body, parts}
+use Rattle.effect_tables.specs.Scripts.{AreFew, AreFitting, FitsNames, IsFitting}
+use Rattle.effect_tables.specs.Bodies.{Linking, no_links, links, links_before, all_before, bodies_in, body_along, body_of, body_or_none, links_in, linked_bodies, no_body, parts}
 use Rattle.effect_undoing.specs.Sites.{IsPart, bodies_from, body_at, first_body, first_links, links_at, links_from, parts_of, parts_with}
 use Rattle.effect_undoing.proofs.Walks.{before_is, links_are, slots_of}
 
 -- without links no body is made
-joined_none : (origin : ℕ) (bs : Bodies) → joined origin bs no_links ≡ []
+joined_none : (origin : ℕ) (bs : Bodies) → linked_bodies origin bs no_links ≡ []
 joined_none origin no_bodies = refl
 joined_none origin (body ss targets names inner rewires rest) = refl
 
@@ -23,9 +23,9 @@ joined_none origin (body ss targets names inner rewires rest) = refl
 
 -- the plain body of the first of these
 abbrev pub made_of : ℕ → Bodies → Linking → plain.Body
-made_of origin bs ls = body_or_none (slice_get (joined origin bs ls) 0)
+made_of origin bs ls = body_or_none (slice_get (linked_bodies origin bs ls) 0)
 
-split_here : (origin : ℕ) (bs : Bodies) (ls : Linking) (n : ℕ) → body_or_none (slice_get (joined origin bs ls) n) ≡ made_of origin (first_body (bodies_from bs n)) (first_links (links_from ls n))
+split_here : (origin : ℕ) (bs : Bodies) (ls : Linking) (n : ℕ) → body_or_none (slice_get (linked_bodies origin bs ls) n) ≡ made_of origin (first_body (bodies_from bs n)) (first_links (links_from ls n))
 split_here origin no_bodies ls n = refl
 split_here origin (body ss targets names inner rewires rest) no_links n =
     sym (ap (λ (xs : List plain.Body). body_or_none (slice_get xs 0)) (joined_none origin (first_body (bodies_from (body ss targets names inner rewires rest) n))))
@@ -39,7 +39,7 @@ split_along origin bs ls n (m ∷ path) = split_along origin (bodies_in bs n) (l
 -- ---- a nested one
 
 nested_here : (origin : ℕ) (bs : Bodies) (ls : Linking) (n m : ℕ) →
-    body_or_none (slice_get (joined origin (bodies_in bs n) (links_in ls n)) m) ≡ (parts_with origin (first_body (bodies_from bs n)) (first_links (links_from ls n))).bodies m
+    body_or_none (slice_get (linked_bodies origin (bodies_in bs n) (links_in ls n)) m) ≡ (parts_with origin (first_body (bodies_from bs n)) (first_links (links_from ls n))).bodies m
 nested_here origin no_bodies ls n m = refl
 nested_here origin (body ss targets names inner rewires rest) no_links n m =
     ap (λ (xs : List plain.Body). body_or_none (slice_get xs m)) (joined_none origin (bodies_in (body ss targets names inner rewires rest) n)) ∙ go (first_body (bodies_from (body ss targets names inner rewires rest) n))
@@ -85,7 +85,7 @@ fits_along bs ls n (m ∷ path) h = fits_along (bodies_in bs n) (links_in ls n) 
 
 -- the nested bodies of a body, with their links
 abbrev pub nested_of : ℕ → Body → Links → List plain.Body
-nested_of origin b l = joined origin (bodies_before (out-Body b).effects.items no_bodies) (all_before (map links_before (out-Links l).inner.items) no_links)
+nested_of origin b l = linked_bodies origin (bodies_before (out-Body b).effects.items no_bodies) (all_before (map links_before (out-Links l).inner.items) no_links)
 
 module _ (s : Script) (path : List ℕ) (b : Body) (l : Links) (is : IsPart s path b l) where
   -- what its places stand for

@@ -3,20 +3,20 @@ use Rattle.std.proofs.Common.{Option, ◌≡◌, ℕ, ◌||◌, ◌++◌, Bool, 
 use Rattle.std.specs.List.{AllByRecursion}
 use Rattle.std.proofs.lemmas.Bool.{eq-eqb}
 use Rattle.signal_model.proofs.Shared.{either, or_left, or_right}
-use Rattle.effect_model.specs.Owning.{Thing, the_signal, the_owner, the_effect, the_page, the_watcher, Owned, nothing, thing, cleanup, Undoing, cleans, ends, same_thing, teardown_of, under, with_earlier}
+use Rattle.effect_model.specs.Owners.{Thing, the_signal, the_owner, the_effect, the_page, the_watcher, Owned, nothing, thing, cleanup, Undoing, cleans, ends, same_thing, teardown_of, under, with_earlier}
 use Rattle.sig_owner.specs.declared.thing.Thing.TheVariants as a
 use Rattle.sig_owner.specs.declared.thing.Undoing.{Undoing as AnUndoing}
 use Rattle.sig_owner.specs.declared.thing.Undoing.TheVariants as undoing
-use Rattle.sig_owner.specs.Renaming.{renamed_thing, renamed_undoing, renamed_undoings}
+use Rattle.sig_owner.specs.Renames.{renamed_thing, renamed_undoing, renamed_undoings}
 use Rattle.sig_owner.specs.Tables.{Row, cleanup_of, live_at, thing_at}
 use Rattle.sig_owner.specs.Trees.{has_thing}
 use Rattle.sig_owner.specs.Walks.{is_ended, undoing_of, undoings_of}
 use Rattle.sig_owner.proofs.Shared.{renamed_same}
 use Rattle.effect_tables.specs.declared.thing.Thing.{Thing as AThing}
-use Rattle.effect_tables.specs.Holding.{AreLiving, AreNumbered, IsOwner}
-use Rattle.effect_tables.specs.Numbering.{is_row, number_in}
-use Rattle.effect_undoing.specs.Forming.{IsEffect, IsFormed, OnEffects}
-use Rattle.effect_undoing.specs.Retelling.{retold}
+use Rattle.effect_tables.specs.Consistency.{AreLiving, AreNumbered, IsOwner}
+use Rattle.effect_tables.specs.Owners.{is_row, number_in}
+use Rattle.effect_undoing.specs.Trees.{IsEffect, IsFormed, OnEffects}
+use Rattle.effect_undoing.specs.Steps.{retold}
 
 -- a cleanup is that of an effect, and an owner that ends is one of these and lives
 abbrev pub IsKnownStep : List (Option ℕ) → List Row → Undoing → Type 0

@@ -3,28 +3,28 @@ use Rattle.std.proofs.Common.{◌≡◌, ℕ, ◌+◌, ◌&&◌, ◌||◌, ◌++
 use Rattle.std.specs.List.{AllByRecursion}
 use Rattle.std.proofs.lemmas.List.{map-append}
 use Rattle.signal_model.proofs.Shared.{tested}
-use Rattle.effect_model.specs.Owning.{Thing, the_signal, the_owner, the_effect, the_page, the_watcher, Owned, nothing, thing, cleanup, Undoing, cleans, ends, disposal_of, emptied, same_thing, taken_out, teardown_of, under}
+use Rattle.effect_model.specs.Owners.{Thing, the_signal, the_owner, the_effect, the_page, the_watcher, Owned, nothing, thing, cleanup, Undoing, cleans, ends, disposal_of, emptied, same_thing, taken_out, teardown_of, under}
 use Rattle.sig_owner.specs.declared.thing.Undoing.{Undoing as AnUndoing}
-use Rattle.sig_owner.specs.Renaming.{renamed, renamed_thing, renamed_undoing, renamed_undoings}
+use Rattle.sig_owner.specs.Renames.{renamed, renamed_thing, renamed_undoing, renamed_undoings}
 use Rattle.sig_owner.specs.Tables.{Row, dropped, is_holder, live_at, thing_at}
 use Rattle.sig_owner.specs.Trees.{has_thing, owned_of}
 use Rattle.sig_owner.specs.Walks.{is_ended, undoings_of, with_taken_back}
 use Rattle.sig_owner.proofs.Shared.{dropped_lives, dropped_thing, has_emptied, renamed_emptied, renamed_taken, renamed_teardown, renamed_under, taken_back_thing}
 use Rattle.effect_tables.specs.declared.effect.Effect.{Effect}
 use Rattle.effect_tables.specs.declared.tables.Tables.{Tables}
-use Rattle.effect_tables.specs.Fitting.{IsFitted}
-use Rattle.effect_tables.specs.Holding.{AreAbsent, AreAlive, AreFresh, AreLiving, AreNumbered, AreOrdered, Holds, IsEffect, IsKnown, IsOwner}
-use Rattle.effect_tables.specs.Noting.{named_thing, noted}
-use Rattle.effect_tables.specs.Numbering.{is_row, living, number_in}
+use Rattle.effect_tables.specs.Scripts.{IsFitted}
+use Rattle.effect_tables.specs.Consistency.{AreAbsent, AreAlive, AreFresh, AreLiving, AreNumbered, AreOrdered, TablesAgree, IsEffect, IsKnown, IsOwner}
+use Rattle.effect_tables.specs.Things.{named_thing, noted}
+use Rattle.effect_tables.specs.Owners.{is_row, living, number_in}
 use Rattle.effect_tables.specs.Placed.{effect_of, numbering, placed, tree_of}
 use Rattle.effect_tables.proofs.Shared.{left_off, name_by, number_apart, number_at, off_on, renamed_by, right_off, unless_known}
-use Rattle.effect_undoing.specs.Ending.{effects_after, owners_after}
-use Rattle.effect_undoing.specs.Forming.{AreFormed, IsFormed, OnEffects}
-use Rattle.effect_undoing.specs.Retelling.{retold}
-use Rattle.effect_undoing.specs.Taking.{Ends, EndsIn, Takes, TakesBack, TakesOut}
+use Rattle.effect_undoing.specs.Ends.{effects_after, owners_after}
+use Rattle.effect_undoing.specs.Trees.{AreFormed, IsFormed, OnEffects}
+use Rattle.effect_undoing.specs.Steps.{retold}
+use Rattle.effect_undoing.specs.Teardowns.{Ends, EndsIn, Takes, TakesBack, TakesOut}
 use Rattle.effect_undoing.proofs.Found.{effect_found}
 use Rattle.effect_undoing.proofs.Forms.{formed_back, formed_emptied, formed_out, formed_top, formed_under, out_emptied, out_watcher, same_swapped, under_leaf}
-use Rattle.effect_undoing.proofs.Living.{back_living, drop_living}
+use Rattle.effect_undoing.proofs.Survivors.{back_living, drop_living}
 use Rattle.effect_undoing.proofs.Lists.{all_two, apart_after, effects_all_after, effects_off, kept_after, kept_noted, length_after, off_after, ordered_after, world_after}
 use Rattle.effect_undoing.proofs.Steps.{IsKnownStep, all_both, has_under, known_more, known_teardown, on_effects, renamed_ended, retold_all}
 
@@ -113,7 +113,7 @@ out_done rows mid later t us a b = record {
 
 -- ---- in the tables
 
-module _ (t u : Tables) (later : List Row) (sus us : List Undoing) (left : Owned) (h : Holds t) (e : EndsIn t.store later sus left) (x : Ends (record t { store = later }) u us)
+module _ (t u : Tables) (later : List Row) (sus us : List Undoing) (left : Owned) (h : TablesAgree t) (e : EndsIn t.store later sus left) (x : Ends (record t { store = later }) u us)
     (same : us ≡ renamed_undoings (numbering t) sus) where
   g : ℕ → ℕ
   g = numbering t
@@ -219,7 +219,7 @@ module _ (t u : Tables) (later : List Row) (sus us : List Undoing) (left : Owned
       ∙ renamed_by (number_in (owners_after us t.owners.items)) (number_in t.owners.items) (owned_of later) number_now
       ∙ ap (renamed (numbering t)) e.tree
 
-  pub holds_now : Holds u
+  pub holds_now : TablesAgree u
   holds_now = record {
     numbered = subst (λ y. y) (λ i. AreNumbered (sym x.owners i) (noted u.things) (sym x.store i)) numbered_now;
     alive = subst (λ y. y) (λ i. AreAlive (sym x.owners i) (sym x.effects i) (sym x.store i)) alive_now;
@@ -250,7 +250,7 @@ module _ (t u : Tables) (later : List Row) (sus us : List Undoing) (left : Owned
 
 -- ---- what was taken back, and what was taken out
 
-module _ (t u : Tables) (later : List Row) (steps : List AnUndoing) (us : List Undoing) (h : Holds t) (f : AreFormed (tree_of t)) (x : Ends (record t { store = later }) u us)
+module _ (t u : Tables) (later : List Row) (steps : List AnUndoing) (us : List Undoing) (h : TablesAgree t) (f : AreFormed (tree_of t)) (x : Ends (record t { store = later }) u us)
     (told : us ≡ map (retold (noted t.things)) steps) (s : Thing) where
   formed_rows : IsFormed (the_owner 0) (owned_of t.store)
   formed_rows = formed_back (numbering t) (the_owner 0) (owned_of t.store) (formed_top 0 (numbering t 0) (tree_of t) f.formed)
@@ -316,7 +316,7 @@ module _ (t u : Tables) (later : List Row) (steps : List AnUndoing) (us : List U
       }
 
 -- a watcher stands nowhere
-pub watcher_away : (t : Tables) (n : ℕ) → Holds t → AreFormed (tree_of t) → TakesOut t t (the_watcher n) (ends (the_watcher n) ∷ [])
+pub watcher_away : (t : Tables) (n : ℕ) → TablesAgree t → AreFormed (tree_of t) → TakesOut t t (the_watcher n) (ends (the_watcher n) ∷ [])
 watcher_away t n h f = record {
   steps = ap (λ y. teardown_of (the_watcher n) y ++ ends (the_watcher n) ∷ []) (sym (under_leaf (the_owner 0) (the_watcher n) (tree_of t) refl f.formed));
   takes = record {

@@ -9,7 +9,7 @@ use Rattle.sig_untrack.specs.Stated.{Bodies, no_bodies, body, before, before_ste
 use Rattle.effect_tables.specs.declared.links.Links.{Links}
 use Rattle.effect_tables.specs.declared.links.Links.TheViews.{out-Links}
 use Rattle.effect_tables.specs.declared.links.Links.TheFolds.{fold_out-Links}
-use Rattle.effect_tables.specs.Linking.{Linking, no_links, links, links_before, links_step, all_before}
+use Rattle.effect_tables.specs.Bodies.{Linking, no_links, links, links_before, links_step, all_before}
 use Rattle.effect_undoing.specs.Sites.{body_at, links_at, slots_in}
 
 -- a body before others

@@ -1,6 +1,6 @@
-pub mod Forming
-pub mod Ending
-pub mod Retelling
-pub mod Finding
-pub mod Taking
+pub mod Trees
+pub mod Ends
+pub mod Steps
+pub mod Rows
+pub mod Teardowns
 pub mod Sites

@@ -1,12 +1,12 @@
 -- The body to which places of nested effects lead, and what its places stand for.
 use Rattle.std.specs.Prelude.{◌≡◌, ℕ, zero, suc, List, [], ◌∷◌, ◌++◌, map}
 use Rattle.sig_untrack.specs.declared.body.Body.{Body}
-use Rattle.sig_untrack.specs.Linking.{Parts}
+use Rattle.sig_untrack.specs.Links.{Parts}
 use Rattle.sig_untrack.specs.Stated.{Bodies, no_bodies, body, before}
 use Rattle.effect_tables.specs.declared.effect.Script.{Script}
 use Rattle.effect_tables.specs.declared.links.Links.{Links}
 use Rattle.effect_tables.specs.declared.links.Slots.{Slots}
-use Rattle.effect_tables.specs.Linking.{Linking, no_links, links, links_before, bodies_in, body_of, links_in, joined, parts}
+use Rattle.effect_tables.specs.Bodies.{Linking, no_links, links, links_before, bodies_in, body_of, links_in, linked_bodies, parts}
 
 -- these bodies from a place on
 abbrev pub bodies_from : Bodies → ℕ → Bodies
@@ -46,7 +46,7 @@ slots_in ss = map (λ (s : Slots). s.ids.items) ss
 abbrev pub parts_with : ℕ → Bodies → Linking → Parts
 parts_with origin no_bodies ls = parts origin [] [] [] []
 parts_with origin (body ss targets names inner rewires rest) no_links = parts origin [] [] [] []
-parts_with origin (body ss targets names inner rewires rest) (links ns ts ls slots more) = parts origin ts (joined origin inner ls) rewires slots
+parts_with origin (body ss targets names inner rewires rest) (links ns ts ls slots more) = parts origin ts (linked_bodies origin inner ls) rewires slots
 
 -- what the places of the body of a script stand for, at the end of a path
 abbrev pub parts_of : ℕ → Script → List ℕ → Parts

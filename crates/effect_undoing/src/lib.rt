@@ -1,15 +1,15 @@
 //! What stands in the tables is taken back: in which order, and what is left; and where the bodies of effects stand in their scripts.
 #![tactic(auto)]
 
-mod ending;
-mod finding;
 mod laws;
-mod leading;
-mod retelling;
+mod lookup;
+mod paths;
+mod removal;
 mod stored;
-mod taking;
+mod teardown;
+mod things;
 
-pub use finding::effect_row;
 pub use laws::child_law;
-pub use leading::{body_at, links_at};
-pub use taking::{take_back, take_out};
+pub use lookup::effect_row;
+pub use paths::{body_at, links_at};
+pub use teardown::{take_back, take_out};

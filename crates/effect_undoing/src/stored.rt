@@ -1,10 +1,10 @@
 // Steps of taking back in the store.
 ghost use Rattle.std.specs.Prelude.{◌≡◌, ◌∷◌, [], true, IfOk};
-ghost use Rattle.effect_model.specs.Owning.{disposal_of, emptied, ends, nothing, taken_out, teardown_of, under};
+ghost use Rattle.effect_model.specs.Owners.{disposal_of, emptied, ends, nothing, taken_out, teardown_of, under};
 ghost use Rattle.sig_owner.specs.Tables.{is_holder, live_at, thing_at, thing_of};
 ghost use Rattle.sig_owner.specs.Trees.{owned_of};
 ghost use Rattle.sig_owner.specs.Walks.{undoings_of};
-ghost use Rattle.effect_undoing.specs.Taking.{EndsIn};
+ghost use Rattle.effect_undoing.specs.Teardowns.{EndsIn};
 
 use sig_base::{NoMemory, OwnerId};
 use sig_owner::{Owners, Thing as Stored, Undoing as Step};

@@ -3,22 +3,22 @@ use Rattle.std.proofs.Common.{◌≡◌, ℕ, ◌≤◌, ◌++◌, List, [], ◌
 use Rattle.std.specs.Prelude.{option_to_list}
 use Rattle.signal_model.specs.Recipes.{Hosts}
 use Rattle.effect_model.specs.Acts.{end_of, undo}
-use Rattle.effect_model.specs.Owning as owning
-use Rattle.effect_model.specs.Owning.{ends}
+use Rattle.effect_model.specs.Owners as owning
+use Rattle.effect_model.specs.Owners.{ends}
 use Rattle.effect_model.specs.Worlds as plain
 use Rattle.effect_model.specs.Worlds.{Environment}
 use Rattle.effect_tables.specs.declared.thing.Thing.{Thing}
-use Rattle.effect_tables.specs.Linking.{thing_of}
+use Rattle.effect_tables.specs.Bodies.{thing_of}
 use Rattle.sig_host.specs.Hosts.{HostPlace, most_asked}
 use Rattle.sig_effect.specs.declared.events.Event.{Event as SignalEvent}
-use Rattle.sig_effect.specs.Agreeing as signals
+use Rattle.sig_effect.specs.Stores as signals
 use Rattle.sig_effect.specs.Events as below
 use Rattle.sig_effect.specs.Wholes as wholes
 use Rattle.effect_world.specs.declared.events.Event.{Event}
 use Rattle.effect_world.specs.declared.events.Event.TheVariants as event
 use Rattle.effect_world.specs.declared.world.World.{World}
-use Rattle.effect_world.specs.Acting.{Acts, Undoes, scene}
-use Rattle.effect_world.specs.Agreeing.{IsSound}
+use Rattle.effect_world.specs.Signals.{Acts, Undoes, scene}
+use Rattle.effect_world.specs.Stores.{IsSound}
 use Rattle.effect_world.specs.Events.{IsCut}
 use Rattle.effect_world.proofs.Told.{told_signals}
 use Rattle.effect_world.proofs.Undone.{told_both}

@@ -1,5 +1,5 @@
 mod Told
-mod Carrying
+mod Worlds
 mod Undone
 mod Ended
 pub mod Shared

@@ -4,11 +4,11 @@ use Rattle.std.specs.List.{AllByRecursion}
 use Rattle.std.proofs.lemmas.List.{map-append, take_all, take_more}
 use Rattle.sig_base.specs.declared.value.Value.{Value}
 use Rattle.signal_model.specs.Recipes.{Hosts}
-use Rattle.signal_model.specs.Standing.{IsCell, IsComputed, IsGone, Stands, is_computed, is_in, is_there, standing, without}
+use Rattle.signal_model.specs.Signals.{IsCell, IsComputed, IsGone, Stands, is_computed, is_in, is_there, standing, without}
 use Rattle.effect_model.specs.Acts.{dispose_live, dispose_thing, end_standing, set_cell, set_standing, take_back, undo, undo_all}
-use Rattle.effect_model.specs.Owning as owning
-use Rattle.effect_model.specs.Owning.{Undoing, cleans, emptied, ends, taken_out, the_effect, the_owner, the_page, the_signal, the_watcher}
-use Rattle.effect_model.specs.Watching as signals_rest
+use Rattle.effect_model.specs.Owners as owning
+use Rattle.effect_model.specs.Owners.{Undoing, cleans, emptied, ends, taken_out, the_effect, the_owner, the_page, the_signal, the_watcher}
+use Rattle.effect_model.specs.Watchers as signals_rest
 use Rattle.effect_model.specs.Worlds as plain
 use Rattle.effect_model.specs.Worlds.{Environment, lives, tell}
 use Rattle.effect_laws.specs.Frames.{IsOfSignals, ended_one, signal_part, with_part}
@@ -17,13 +17,13 @@ use Rattle.effect_tables.specs.declared.effect.Effect.{Effect}
 use Rattle.effect_tables.specs.declared.tables.Tables.{Tables}
 use Rattle.effect_tables.specs.declared.thing.Undoing.{Undoing as AnUndoing}
 use Rattle.effect_tables.specs.declared.thing.Undoing.TheVariants as undoing
-use Rattle.effect_tables.specs.Holding.{Holds}
-use Rattle.effect_tables.specs.Linking.{undoing_of, undoings_of}
+use Rattle.effect_tables.specs.Consistency.{TablesAgree}
+use Rattle.effect_tables.specs.Bodies.{undoing_of, undoings_of}
 use Rattle.effect_tables.specs.Placed.{at_rest, effect_of, placed, tree_of}
 use Rattle.effect_tables.proofs.Shared.{left_off, listed_tree, right_off}
-use Rattle.effect_undoing.specs.Finding.{is_tabled}
-use Rattle.effect_undoing.specs.Forming.{AreFormed, OnEffects}
-use Rattle.effect_undoing.specs.Taking.{Takes, TakesBack, TakesOut}
+use Rattle.effect_undoing.specs.Rows.{is_tabled}
+use Rattle.effect_undoing.specs.Trees.{AreFormed, OnEffects}
+use Rattle.effect_undoing.specs.Teardowns.{Takes, TakesBack, TakesOut}
 use Rattle.sig_host.specs.Hosts.{HostPlace, most_asked}
 use Rattle.sig_nodes.specs.Answers.{kind_here}
 use Rattle.sig_nodes.specs.States.{is_cell}
@@ -31,14 +31,14 @@ use Rattle.sig_nodes.specs.declared.answers.Standing.{Standing}
 use Rattle.sig_nodes.specs.declared.answers.Standing.TheVariants.{Gone, Cell, Computed, Computing}
 use Rattle.sig_effect.specs.declared.events.Event.{Event as SignalEvent}
 use Rattle.sig_effect.specs.declared.world.World.{World as Signals}
-use Rattle.sig_effect.specs.Agreeing as signals
+use Rattle.sig_effect.specs.Stores as signals
 use Rattle.sig_effect.specs.Events as below_events
 use Rattle.sig_effect.specs.Wholes as wholes
 use Rattle.effect_world.specs.declared.events.Event.{Event}
 use Rattle.effect_world.specs.declared.events.Event.TheVariants as event
 use Rattle.effect_world.specs.declared.world.World.{World}
-use Rattle.effect_world.specs.Acting.{Acts, IsNoted, Scene, Undoes, any_hosts, is_standing, scene}
-use Rattle.effect_world.specs.Agreeing.{Agrees, AreOwned, Does, IsSound}
+use Rattle.effect_world.specs.Signals.{Acts, IsNoted, Scene, Undoes, any_hosts, is_standing, scene}
+use Rattle.effect_world.specs.Stores.{Agrees, AreOwned, Does, IsSound}
 use Rattle.effect_world.specs.Events.{AreTold, IsTold, Tells}
 use Rattle.effect_world.specs.Wholes.{whole_of}
 use Rattle.effect_world.proofs.Told.{tells_none, tells_signals}
@@ -551,7 +551,7 @@ module _ (slacks : List ℕ) (old mid new : World) (asked later : List HostPlace
 
 -- an act on signals is done to the world
 pub does_acts : (hosts : Hosts) (asked later : List HostPlace) (old new : World) (before after : List Event) (act : plain.World → plain.World) →
-    Acts hosts asked later old new before after act → IsOfSignals act → new.tables ≡ old.tables → Holds old.tables → Does hosts asked later old new before after act
+    Acts hosts asked later old new before after act → IsOfSignals act → new.tables ≡ old.tables → TablesAgree old.tables → Does hosts asked later old new before after act
 does_acts hosts asked later old new before after act a f same h =
     let s : plain.World = wholes.whole_of asked old.signals in
     let x : plain.World = act s in

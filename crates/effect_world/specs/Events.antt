@@ -1,8 +1,8 @@
 -- What is told, beside what the plain world tells.
 use Rattle.std.specs.Prelude.{◌≡◌, ℕ, List, [], ◌∷◌, ◌++◌, Option, None, option_to_list}
-use Rattle.effect_model.specs.Owning.{the_effect, Cleanup}
+use Rattle.effect_model.specs.Owners.{the_effect, Cleanup}
 use Rattle.effect_model.specs.Worlds as told
-use Rattle.effect_tables.specs.Linking.{thing_of}
+use Rattle.effect_tables.specs.Bodies.{thing_of}
 use Rattle.sig_effect.specs.declared.events.Event.{Event as SignalEvent}
 use Rattle.sig_effect.specs.Events as signals
 use Rattle.effect_world.specs.declared.events.Event.{Event}

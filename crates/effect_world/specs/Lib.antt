@@ -1,5 +1,5 @@
 pub mod Events
 pub mod Wholes
-pub mod Weighing
-pub mod Agreeing
-pub mod Acting
+pub mod Costs
+pub mod Stores
+pub mod Signals

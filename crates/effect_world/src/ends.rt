@@ -3,15 +3,15 @@ ghost use Rattle.std.specs.Prelude.{◌≡◌, ◌+◌, ◌<◌, ◌≤◌, ◌^
 ghost use Rattle.signal_model.specs.Recipes.{Hosts};
 ghost use Rattle.effect_model.specs.Acts as acts;
 ghost use Rattle.effect_model.specs.Acts.{dispose_thing};
-ghost use Rattle.effect_model.specs.Owning.{the_effect};
+ghost use Rattle.effect_model.specs.Owners.{the_effect};
 ghost use Rattle.effect_model.specs.Worlds.{lives};
-ghost use Rattle.effect_tables.specs.Linking.{thing_of};
+ghost use Rattle.effect_tables.specs.Bodies.{thing_of};
 ghost use Rattle.sig_host.specs.Hosts.{most_asked};
 ghost use Rattle.sig_effect.specs.declared.errors.EffectFault.TheVariants as fault;
-ghost use Rattle.sig_effect.specs.Agreeing.{environment, AreRuled};
-ghost use Rattle.effect_world.specs.Acting.{is_standing};
-ghost use Rattle.effect_world.specs.Agreeing.{Agrees, Does, IsSound};
-ghost use Rattle.effect_world.specs.Weighing.{weight};
+ghost use Rattle.sig_effect.specs.Stores.{environment, AreRuled};
+ghost use Rattle.effect_world.specs.Signals.{is_standing};
+ghost use Rattle.effect_world.specs.Stores.{Agrees, Does, IsSound};
+ghost use Rattle.effect_world.specs.Costs.{weight};
 ghost use Rattle.effect_world.specs.Wholes.{whole_of};
 
 use crate::events::Event;

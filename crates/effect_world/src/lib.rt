@@ -2,15 +2,15 @@
 #![tactic(auto)]
 
 mod changes;
+mod creation;
 mod ends;
 mod events;
-mod makings;
-mod settling;
-mod telling;
-mod undoing;
-mod watching;
+mod notices;
+mod queries;
+mod teardown;
+mod watchers;
 mod world;
 
 pub use events::Event;
-pub use telling::tell_signals;
+pub use notices::tell_signals;
 pub use world::World;

@@ -3,9 +3,9 @@ ghost use Rattle.std.specs.Prelude.{◌≡◌, ℕ, List, IfOk, length};
 ghost use Rattle.signal_model.specs.Recipes.{Hosts};
 ghost use Rattle.effect_model.specs.Commands.{new_world};
 ghost use Rattle.sig_host.specs.Hosts.{HostPlace};
-ghost use Rattle.sig_effect.specs.Agreeing.{AreNew, AreRuled};
-ghost use Rattle.effect_world.specs.Agreeing.{Agrees, IsSound};
-ghost use Rattle.effect_world.specs.Weighing.{weight};
+ghost use Rattle.sig_effect.specs.Stores.{AreNew, AreRuled};
+ghost use Rattle.effect_world.specs.Stores.{Agrees, IsSound};
+ghost use Rattle.effect_world.specs.Costs.{weight};
 ghost use Rattle.effect_world.specs.Wholes.{whole_of};
 
 use effect_tables::Tables;

@@ -9,7 +9,7 @@ use Rattle.sig_formula.specs.declared.formula.BinOp.{BinOp}
 use Rattle.formula_text.specs.declared.rough.OverRows.{OverRows}
 use Rattle.formula_text.specs.Grammar.{Draft, binary, choice, each_row, spelled, meant, level, before, rule, Fits}
 use Rattle.formula_text.specs.Grammar.{Written, single, group, it_dot, around, over_rows, negated, chain, pick}
-use Rattle.formula_text.specs.Reading.{Part, Reader, head, goes_on, tail_at, tail, expr, choice_at, each_row_at}
+use Rattle.formula_text.specs.Parser.{Part, Reader, head, goes_on, tail_at, tail, expr, choice_at, each_row_at}
 use Rattle.formula_text.proofs.Groups.{level_before, level_not, level_some}
 use Rattle.formula_text.proofs.Sound.{each_tokens, pick_tokens}
 

@@ -10,7 +10,7 @@ use Rattle.formula_text.specs.Signs as t
 use Rattle.sig_formula.specs.declared.formula.BinOp.{BinOp}
 use Rattle.formula_text.specs.Grammar.{Draft, negation, binary, choice, spelled, meant, level, before, rule, Fits, Spells, IsLongest, HasNone}
 use Rattle.formula_text.specs.Grammar.{Written, single, group, it_dot, around, over_rows, negated, chain, pick}
-use Rattle.formula_text.specs.Reading.{Part, Reader, goes_on, extended, tail_at, tail, expr}
+use Rattle.formula_text.specs.Parser.{Part, Reader, goes_on, extended, tail_at, tail, expr}
 use Rattle.formula_text.proofs.Groups.{level_before, level_small}
 use Rattle.formula_text.proofs.Sound.{expr_sound, pick_tokens}
 use Rattle.formula_text.proofs.Complete.{Stops, Stops-more, Leads, exact, ended, Stops-zero, step_chain, pick_reads}

@@ -1,13 +1,13 @@
 mod Complete
 mod Groups
 mod Laws
-mod Lexing
+mod Lexer
 mod Minimal
 mod Places
-mod Quoting
+mod Quotes
 mod Refusals
 mod Slots
-mod Rereading
+mod RoundTrips
 mod Sound
 mod Texts
 pub mod Shared

@@ -7,7 +7,7 @@ use Rattle.sig_words.specs.Lexemes.{Lexeme}
 use Rattle.formula_text.specs.Signs.{Sign, NoOperator, signs}
 use Rattle.formula_text.specs.Signs as t
 use Rattle.formula_text.specs.Grammar.{Draft, leaf, negation, binary, choice, of_row, one_part, each_row, Written, group, negated, chain, pick, spelled, meant, level, before, rule, Fits, Spells, IsFormula, IsLongest}
-use Rattle.formula_text.specs.Reading.{expr}
+use Rattle.formula_text.specs.Parser.{expr}
 use Rattle.formula_text.specs.Canonical.{grouped, minimal, written, opened, shut}
 use Rattle.formula_text.proofs.Groups.{before_small, level_small}
 use Rattle.formula_text.proofs.Complete.{Stops}

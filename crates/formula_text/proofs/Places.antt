@@ -10,8 +10,8 @@ use Rattle.sig_words.proofs.Shared.{word_utf8}
 use Rattle.sig_words.specs.declared.token.TokenKind.TheVariants as kind
 use Rattle.sig_formula.specs.declared.formula.BinOp.{BinOp}
 use Rattle.formula_text.specs.Grammar.{Draft}
-use Rattle.formula_text.specs.Reading.{expr}
-use Rattle.formula_text.specs.Wiring.{Reads, ReadsNone}
+use Rattle.formula_text.specs.Parser.{expr}
+use Rattle.formula_text.specs.Slots.{Reads, ReadsNone}
 use Rattle.formula_text.proofs.Complete.{Stops}
 use Rattle.formula_text.proofs.Laws.{longest, has_none}
 use Rattle.sig_words.specs.declared.token.Token.{Token}

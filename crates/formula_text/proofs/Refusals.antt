@@ -8,9 +8,9 @@ use Rattle.formula_text.specs.declared.wired.Allow.{Allow}
 use Rattle.formula_text.specs.declared.wired.FormulaFault.{FormulaFault}
 use Rattle.formula_text.specs.declared.wired.FormulaFault.TheVariants as fault
 use Rattle.formula_text.specs.Grammar.{Draft}
-use Rattle.formula_text.specs.Judging.{has_untrack, needs_row, is_above, has_long_text, names}
+use Rattle.formula_text.specs.Refusals.{has_untrack, needs_row, is_above, has_long_text, names}
 use Rattle.formula_text.specs.Rough.{draft}
-use Rattle.formula_text.specs.Wiring.{refusal, IsCause, IsRead, Refuses}
+use Rattle.formula_text.specs.Slots.{refusal, IsCause, IsRead, Refuses}
 
 -- whether it isn't what is answered where nothing was read
 abbrev is_judged : Option FormulaFault → Bool

@@ -8,8 +8,8 @@ pub use Rattle.formula_text.proofs.Minimal.{minimal_spells, one_formula}
 pub use Rattle.formula_text.proofs.Slots.{Has, HasEach, each_there, keeps_each, named_again, named_back, named_slot}
 pub use Rattle.formula_text.proofs.Sound.{Took, expr_sound}
 -- the tokens of a text that was written
-pub use Rattle.formula_text.proofs.Lexing.{Gap, cut_written, cuts_append}
-pub use Rattle.formula_text.proofs.Quoting.{inner_form, quoted_says, quoted_utf8}
+pub use Rattle.formula_text.proofs.Lexer.{Gap, cut_written, cuts_append}
+pub use Rattle.formula_text.proofs.Quotes.{inner_form, quoted_says, quoted_utf8}
 -- what can be printed, and that it is UTF-8
-pub use Rattle.formula_text.proofs.Rereading.{Good, AllGood, good_spelled, good_symbol, good_word, printable_tokens}
-pub use Rattle.formula_text.proofs.Rereading.{are_ascii, ascii, number_utf8, text_utf8, written_utf8}
+pub use Rattle.formula_text.proofs.RoundTrips.{Good, AllGood, good_spelled, good_symbol, good_word, printable_tokens}
+pub use Rattle.formula_text.proofs.RoundTrips.{are_ascii, ascii, number_utf8, text_utf8, written_utf8}

@@ -11,7 +11,7 @@ use Rattle.formula_text.specs.declared.rough.Around.TheVariants as form
 use Rattle.formula_text.specs.declared.rough.OverRows.TheVariants as each
 use Rattle.formula_text.specs.Signs.{name, constant}
 use Rattle.formula_text.specs.Grammar.{Draft, leaf, negation, binary, choice, of_row, one_part, each_row}
-use Rattle.formula_text.specs.Judging.{with_name, with_names, names, slot_of, slotted}
+use Rattle.formula_text.specs.Refusals.{with_name, with_names, names, slot_of, slotted}
 use Rattle.formula_text.specs.Canonical.{named, unslotted}
 
 first_found : {X : Type 0} (p : X → Bool) (xs : List X) (d : X) → list_any p xs ≡ true → (position_or_len p xs < length xs) × (p (get_or xs (position_or_len p xs) d) ≡ true)

@@ -10,9 +10,9 @@ use Rattle.formula_text.specs.declared.rough.Around.{Around}
 use Rattle.formula_text.specs.declared.rough.OverRows.{OverRows}
 use Rattle.formula_text.specs.Grammar.{Draft, negation, binary, of_row, one_part, each_row, spelled, meant, level, before, rule, Fits}
 use Rattle.formula_text.specs.Grammar.{Written, single, group, it_dot, around, over_rows, negated, chain, pick}
-use Rattle.formula_text.specs.Reading.{Part, Reader, closed_at, closed, one_closed, one_part_at, each_closed, comma_at, after_rows, each_row_at, field_at}
-use Rattle.formula_text.specs.Reading.{row_part_at, negate, chosen, else_at, after_branch, then_at, after_test, choice_at, head, goes_on, extended, tail_at}
-use Rattle.formula_text.specs.Reading.{tail, expr}
+use Rattle.formula_text.specs.Parser.{Part, Reader, closed_at, closed, one_closed, one_part_at, each_closed, comma_at, after_rows, each_row_at, field_at}
+use Rattle.formula_text.specs.Parser.{row_part_at, negate, chosen, else_at, after_branch, then_at, after_test, choice_at, head, goes_on, extended, tail_at}
+use Rattle.formula_text.specs.Parser.{tail, expr}
 use Rattle.formula_text.proofs.Groups.{level_small}
 
 pub record Took (least : ℕ) (ts : List Sign) (p : Part) : Type 0 where

@@ -23,8 +23,8 @@ use Rattle.formula_text.specs.Signs as t
 use Rattle.formula_text.specs.Operators.{found, operators, row, texts}
 use Rattle.formula_text.specs.Grammar.{Draft, Spells, IsFormula, spelled}
 use Rattle.formula_text.specs.Canonical.{canonical_text, minimal}
-use Rattle.formula_text.specs.Lexing.{IsOneToken, CutsInto}
-use Rattle.formula_text.proofs.Lexing.{HasTokens, IsKey, no_gap, cut_written}
+use Rattle.formula_text.specs.Lexer.{IsOneToken, CutsInto}
+use Rattle.formula_text.proofs.Lexer.{HasTokens, IsKey, no_gap, cut_written}
 use Rattle.formula_text.proofs.Minimal.{minimal_spells}
 
 pub text_in_line : (x : Draft) (line : List ℕ) (from : ℕ) (back : List ℕ) → HasTokens (minimal 0 x) → drop from line ≡ canonical_text x ++ back

@@ -1,6 +1,6 @@
 -- Formulas with the fewest parentheses, and how they are written.
 use Rattle.std.specs.Prelude.{ℕ, ◌+◌, nat_lt, if◌then◌else◌, Bool, List, [], ◌++◌, codes, unwrap_or, slice_get}
-use Rattle.sig_base.specs.Printing.{printed_scalar}
+use Rattle.sig_base.specs.Printer.{printed_scalar}
 use Rattle.sig_formula.specs.declared.formula.BinOp.{BinOp}
 use Rattle.sig_formula.specs.Trees.{Tree}
 use Rattle.sig_formula.specs.Trees as tree

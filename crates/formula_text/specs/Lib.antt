@@ -1,10 +1,10 @@
 pub mod Canonical
 pub mod Grammar
-pub mod Judging
-pub mod Lexing
+pub mod Refusals
+pub mod Lexer
 pub mod Operators
-pub mod Reading
-pub mod Rereading
+pub mod Parser
+pub mod RoundTrips
 pub mod Rough
 pub mod Signs
-pub mod Wiring
+pub mod Slots

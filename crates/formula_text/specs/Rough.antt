@@ -14,7 +14,7 @@ use Rattle.formula_text.specs.declared.sign.Sign.TheVariants as seen
 use Rattle.formula_text.specs.Signs.{Sign, name, constant, signs}
 use Rattle.formula_text.specs.Signs as t
 use Rattle.formula_text.specs.Grammar.{Draft, leaf, negation, binary, choice, of_row, one_part, each_row}
-use Rattle.formula_text.specs.Reading.{Part}
+use Rattle.formula_text.specs.Parser.{Part}
 
 -- the text between the quotes of a literal
 abbrev pub inside : List ℕ → List ℕ

@@ -5,7 +5,7 @@ ghost use Rattle.std.specs.Str.{bytes_eq};
 ghost use Rattle.sig_base.specs.Words.{is_name};
 ghost use Rattle.sig_words.specs.Tokens.{AreTokens};
 ghost use Rattle.formula_text.specs.Rough.{bytes_at, draft, inside, HasLeaves, IsLiteralAt};
-ghost use Rattle.formula_text.specs.Judging.{has_row_form, has_untrack, is_above, needs_row, with_name, with_names};
+ghost use Rattle.formula_text.specs.Refusals.{has_row_form, has_untrack, is_above, needs_row, with_name, with_names};
 
 use crate::rough::{Around, Rough};
 use sig_base::{MOST_TEXT, Name, NameFault, NoMemory, Text, TextFault};
@@ -64,7 +64,7 @@ pub fn has_row_form(rough: &Rough) -> bool
 }
 
 /// Whether it is higher than that: a leaf has height 1, every other form one more than its highest part.
-#[tactic(auto, unfolding(crate::specs::Judging::is_above))]
+#[tactic(auto, unfolding(crate::specs::Refusals::is_above))]
 pub fn is_above(rough: &Rough, most: usize) -> bool
     ensures { (line : List ℕ) (tokens : List Token) → result ≡ is_above most (draft line tokens rough.now) }
 {

@@ -1,8 +1,8 @@
 // Reads the longest formula from a place on.
 ghost use Rattle.std.specs.Prelude.{◌≡◌, ◌<◌, ◌≤◌, ℕ, length, IfOk, IfSome, MatchOption, Some, option_map};
-ghost use Rattle.formula_text.specs.Wiring.{IsRead, ReadsNone};
+ghost use Rattle.formula_text.specs.Slots.{IsRead, ReadsNone};
 ghost use Rattle.formula_text.specs.Grammar.{before, level};
-ghost use Rattle.formula_text.specs.Reading.{choice_at, each_row_at, expr, head, one_part_at, row_part_at};
+ghost use Rattle.formula_text.specs.Parser.{choice_at, each_row_at, expr, head, one_part_at, row_part_at};
 ghost use Rattle.formula_text.specs.Rough.{IsPartFrom, part_of, signs_from, unboxed};
 
 use crate::operators::{Group, group_of};

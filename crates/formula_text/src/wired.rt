@@ -5,9 +5,9 @@ ghost use Rattle.sig_base.specs.declared.text.TextFault.TheVariants as text_faul
 ghost use Rattle.sig_formula.specs.Trees.{tree};
 ghost use Rattle.sig_words.specs.Tokens.{AreTokens};
 ghost use Rattle.formula_text.specs.declared.wired.FormulaFault.TheVariants as fault;
-ghost use Rattle.formula_text.specs.Judging.{each_tree, has_long_text, one_tree, row_tree, slot_of, slotted};
+ghost use Rattle.formula_text.specs.Refusals.{each_tree, has_long_text, one_tree, row_tree, slot_of, slotted};
 ghost use Rattle.formula_text.specs.Rough.{bytes_at, draft, HasLeaves};
-ghost use Rattle.formula_text.specs.Wiring.{of_text_fault, refusal, wired, IsCause, IsLongCause, IsWired, Refuses};
+ghost use Rattle.formula_text.specs.Slots.{of_text_fault, refusal, wired, IsCause, IsLongCause, IsWired, Refuses};
 
 use crate::judge::{has_untrack, is_above, name_at, needs_row, put_names, text_at};
 use crate::reader::read_rough;
@@ -28,9 +28,9 @@ pub struct Wired {
 
 impl Model for Wired {
     ghost use Rattle.sig_formula.specs.Trees.{tree};
-    ghost use Rattle.sig_formula.specs.Coding.{tree_code};
+    ghost use Rattle.sig_formula.specs.Codes.{tree_code};
     ghost use Rattle.std.specs.Coded.{codes};
-    ghost use Rattle.formula_text.specs.Wiring.{Wiring};
+    ghost use Rattle.formula_text.specs.Slots.{Wiring};
 
     ghost Value = { Wiring };
 

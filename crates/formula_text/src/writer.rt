@@ -3,7 +3,7 @@ ghost use Rattle.std.specs.Prelude.{◌≡◌, ◌++◌, codes, OnOk};
 ghost use Rattle.sig_formula.specs.Trees.{tree};
 ghost use Rattle.formula_text.specs.Canonical.{canonical_text, minimal, named, opened, operator_text, shut, unslotted, written};
 ghost use Rattle.formula_text.specs.Grammar.{it_dot};
-ghost use Rattle.formula_text.specs.Rereading.{text_of_wiring};
+ghost use Rattle.formula_text.specs.RoundTrips.{text_of_wiring};
 
 use crate::operators::operator_bytes;
 use crate::reader::{CHOICE, NEGATION, before, level};

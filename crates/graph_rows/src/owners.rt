@@ -1,6 +1,6 @@
 // What is taken back, and in which order.
 ghost use Rattle.std.specs.Prelude.{◌≡◌, IfOk};
-ghost use Rattle.effect_model.specs.Owning.{nothing};
+ghost use Rattle.effect_model.specs.Owners.{nothing};
 ghost use Rattle.sig_owner.specs.Trees.{owned_of};
 
 use crate::plain::Plain::Int;

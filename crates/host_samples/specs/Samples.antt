@@ -7,7 +7,7 @@ use Rattle.sig_base.specs.declared.value.Step.{Step}
 use Rattle.sig_base.specs.declared.value.Step.TheVariants.{Read, Done, Fail}
 use Rattle.sig_base.specs.declared.value.Value.{Value}
 use Rattle.sig_base.specs.declared.value.Value.TheVariants as value
-use Rattle.sig_formula.specs.Answering.{known_at}
+use Rattle.sig_formula.specs.Evaluation.{known_at}
 
 -- goes on with the value of a slot; where it isn't known, the slot is read
 abbrev pub with_value : Option Value → ℕ → (Value → Step) → Step

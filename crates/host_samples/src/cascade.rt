@@ -1,7 +1,7 @@
 // The first of three slots that isn't `false`.
 ghost use Rattle.std.specs.Prelude.{◌≡◌, IfOk};
 ghost use Rattle.sig_base.specs.declared.value.Step.TheVariants.{Done};
-ghost use Rattle.host_samples.specs.Lending.{cascade_lends};
+ghost use Rattle.host_samples.specs.Loans.{cascade_lends};
 ghost use Rattle.host_samples.specs.Samples.{cascade_step, reading, unless_false};
 
 use crate::known::{given, value_at};

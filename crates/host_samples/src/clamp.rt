@@ -1,6 +1,6 @@
 // A number within two bounds.
 ghost use Rattle.std.specs.Prelude.{◌≡◌, IfOk};
-ghost use Rattle.host_samples.specs.Lending.{clamp_lends};
+ghost use Rattle.host_samples.specs.Loans.{clamp_lends};
 ghost use Rattle.host_samples.specs.Samples.{clamp_step, clamped, nearest};
 
 use crate::known::value_at;

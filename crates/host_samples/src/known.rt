@@ -1,7 +1,7 @@
 // What is known of the slots.
 ghost use Rattle.std.specs.Prelude.{◌≡◌, IfOk};
 ghost use Rattle.sig_base.specs.declared.value.Step.TheVariants.{Done};
-ghost use Rattle.sig_formula.specs.Answering.{known_at};
+ghost use Rattle.sig_formula.specs.Evaluation.{known_at};
 ghost use Rattle.host_samples.specs.Samples.{reading};
 
 use sig_base::{Known, NoMemory, Step, Value};

@@ -2,12 +2,12 @@
 #![tactic(auto)]
 
 mod cascade;
+mod chain;
 mod clamp;
 mod known;
-mod lending;
 mod pick;
 
 pub use cascade::Cascade;
+pub use chain::lend;
 pub use clamp::Clamp;
-pub use lending::lend;
 pub use pick::Pick;

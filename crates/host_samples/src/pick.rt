@@ -1,6 +1,6 @@
 // One of two slots, as a first one says.
 ghost use Rattle.std.specs.Prelude.{◌≡◌, IfOk};
-ghost use Rattle.host_samples.specs.Lending.{pick_lends};
+ghost use Rattle.host_samples.specs.Loans.{pick_lends};
 ghost use Rattle.host_samples.specs.Samples.{pick_step};
 
 use crate::known::{given, value_at};

@@ -1,8 +1,8 @@
 //! HTML's names and the escaping of texts and of attribute values.
 #![tactic(auto)]
 
-mod escaping;
+mod escapes;
 mod names;
 
-pub use escaping::{put_attr, put_text};
+pub use escapes::{put_attr, put_text};
 pub use names::{good_name, is_raw, is_void};

@@ -9,7 +9,7 @@ use Rattle.std.proofs.lemmas.List.Quantifiers.{position-Some}
 use Rattle.std.proofs.lemmas.Map.Keys.{IsDistinct-head, IsDistinct-tail}
 use Rattle.indexmap.specs.IndexSet.{insert_key}
 use Rattle.keyed_each.specs.Steps.{listed}
-use Rattle.keyed_each.specs.Waiting.{IsPlaceOf}
+use Rattle.keyed_each.specs.Queue.{IsPlaceOf}
 
 module _ {A : Type 0} (eq : A → A → Bool) where
   -- each key differs from all after it

@@ -4,10 +4,10 @@ use Rattle.std.proofs.Math.Seq.{drop-cons}
 use Rattle.std.proofs.lemmas.Option.{none-some, same_Some}
 use Rattle.std.proofs.lemmas.Bool.{cases_Bool, true≢false, false≢true}
 use Rattle.std.proofs.lemmas.Bool.Decides.{nat_tests}
-use Rattle.keyed_each.specs.declared.placing.RowStep.TheVariants.{Keep, Insert, Move}
-use Rattle.keyed_each.specs.declared.placing.RowStep.{RowStep}
+use Rattle.keyed_each.specs.declared.places.RowStep.TheVariants.{Keep, Insert, Move}
+use Rattle.keyed_each.specs.declared.places.RowStep.{RowStep}
 use Rattle.keyed_each.specs.Steps.{kept, listed, spot, taken}
-use Rattle.keyed_each.specs.Waiting.{first_waiting, judged, leads, left}
+use Rattle.keyed_each.specs.Queue.{first_waiting, judged, leads, left}
 use Rattle.keyed_each.proofs.Distinct.{Apart}
 
 -- what is known of a key that stands at p among distinct keys

@@ -2,10 +2,10 @@
 use Rattle.std.proofs.Common.{◌≡◌, ℕ, suc, true, false, ◌||◌, refl, sym, ap, ◌∙◌, arith, List, [], ◌∷◌, ◌++◌, length, map, Bool, Some, slice_get, Decides, append_assoc, length-append, inl, inr}
 use Rattle.std.proofs.lemmas.Bool.{cases_Bool, true≢false, false≢true}
 use Rattle.std.specs.List.{IsDistinct}
-use Rattle.keyed_each.specs.declared.placing.RowStep.{RowStep}
-use Rattle.keyed_each.specs.declared.placing.RowStep.TheVariants.{Keep, Insert, Move}
+use Rattle.keyed_each.specs.declared.places.RowStep.{RowStep}
+use Rattle.keyed_each.specs.declared.places.RowStep.TheVariants.{Keep, Insert, Move}
 use Rattle.keyed_each.specs.Steps.{after_steps, inserted, kept, listed, placed, put_at, spot, steps_between, steps_from, taken}
-use Rattle.keyed_each.specs.Waiting.{judged, leads, left}
+use Rattle.keyed_each.specs.Queue.{judged, leads, left}
 use Rattle.keyed_each.proofs.Distinct.{Apart, apart}
 use Rattle.keyed_each.proofs.Keys.{marked_kept}
 

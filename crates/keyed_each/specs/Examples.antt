@@ -1,7 +1,7 @@
 -- Worked lists of keys, by computing the steps.
 use Rattle.std.specs.Prelude.{◌≡◌, ℕ, List, [], ◌∷◌, codes}
 use Rattle.std.proofs.Common.{refl}
-use Rattle.keyed_each.specs.declared.placing.RowStep.TheVariants.{Keep, Insert, Move}
+use Rattle.keyed_each.specs.declared.places.RowStep.TheVariants.{Keep, Insert, Move}
 use Rattle.std.specs.Str.{bytes_eq}
 use Rattle.keyed_each.specs.Steps.{steps_between}
 

@@ -1,4 +1,4 @@
 pub mod Examples
 pub mod Keys
 pub mod Steps
-pub mod Waiting
+pub mod Queue

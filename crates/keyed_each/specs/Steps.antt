@@ -1,7 +1,7 @@
 -- The steps from old rows to new ones, by their keys.
 use Rattle.std.specs.Prelude.{ℕ, zero, suc, Bool, false, ◌||◌, if◌then◌else◌, List, [], ◌∷◌, Option, Some, None, slice_get}
-use Rattle.keyed_each.specs.declared.placing.RowStep.{RowStep}
-use Rattle.keyed_each.specs.declared.placing.RowStep.TheVariants.{Keep, Insert, Move}
+use Rattle.keyed_each.specs.declared.places.RowStep.{RowStep}
+use Rattle.keyed_each.specs.declared.places.RowStep.TheVariants.{Keep, Insert, Move}
 
 -- by a test that tells equal keys
 module _ {A : Type 0} (eq : A → A → Bool) where

@@ -2,7 +2,7 @@
 #![tactic(auto)]
 
 mod key;
-mod placing;
+mod places;
 
 pub use key::RowKey;
-pub use placing::{RowStep, place, steps_lead};
+pub use places::{RowStep, place, steps_lead};

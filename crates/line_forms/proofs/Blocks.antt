@@ -9,8 +9,8 @@ use Rattle.sig_words.proofs.Shared.{no_cutting, one_cutting, tokens_or_none}
 use Rattle.line_forms.specs.Blocks.{Writes, Places, Say, IsFaulty}
 use Rattle.line_forms.specs.Printed.{line_text}
 use Rattle.line_forms.specs.Rows.{Line, Table, Said, IsGrammar, said_of}
-use Rattle.line_forms.proofs.Completing.{said_complete, said_spells}
-use Rattle.line_forms.proofs.Reprinting.{rewrites}
+use Rattle.line_forms.proofs.Completeness.{said_complete, said_spells}
+use Rattle.line_forms.proofs.Lexer.{rewrites}
 
 -- ---- one line
 

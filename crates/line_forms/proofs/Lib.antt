@@ -1,14 +1,14 @@
 mod Blocks
-mod Completing
+mod Completeness
 mod Listed
 mod Longest
 mod NameBytes
 mod OneLine
 mod Printable
-mod Printing
-mod Reprinting
+mod Tokens
+mod Lexer
 mod Scalars
-mod Sounding
-mod Spacing
+mod Soundness
+mod Separators
 mod Tags
 pub mod Shared

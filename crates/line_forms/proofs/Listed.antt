@@ -5,8 +5,8 @@ use Rattle.std.proofs.lemmas.Option.{same_Some}
 use Rattle.std.proofs.lemmas.Bool.{cases_Bool}
 use Rattle.sig_words.specs.Lexemes.{Lexeme, symbol}
 use Rattle.line_forms.specs.Forms.{One, Of}
-use Rattle.line_forms.specs.Reading.{one_of, same, read_fixed, read_one, read_behind, read_listed, read_opened, with_first}
-use Rattle.line_forms.proofs.Sounding.{is_same}
+use Rattle.line_forms.specs.Reader.{one_of, same, read_fixed, read_one, read_behind, read_listed, read_opened, with_first}
+use Rattle.line_forms.proofs.Soundness.{is_same}
 
 comma : (ls rest : List Lexeme) → Some rest ≡ read_fixed (symbol (codes ",")) ls → ls ≡ symbol (codes ",") ∷ rest
 comma [] rest e = absurd cc

@@ -5,14 +5,14 @@ use Rattle.sig_words.specs.declared.token.Token.{Token}
 use Rattle.sig_words.specs.Lexemes.{Lexeme, lexeme, lexemes}
 use Rattle.formula_text.specs.Signs.{signs}
 use Rattle.formula_text.specs.Grammar.{Draft, spelled, IsFormula, IsLongest, HasNone}
-use Rattle.formula_text.specs.Reading.{Part as Run, expr}
-use Rattle.formula_text.specs.Wiring.{IsRead, ReadsNone}
+use Rattle.formula_text.specs.Parser.{Part as Run, expr}
+use Rattle.formula_text.specs.Slots.{IsRead, ReadsNone}
 use Rattle.formula_text.specs.declared.rough.Rough.{Rough}
 use Rattle.formula_text.specs.Rough.{draft}
 use Rattle.formula_text.proofs.Shared.{expr_sound, longest, has_none, one_formula}
-use Rattle.line_forms.specs.Reading.{left_of, read_formula}
+use Rattle.line_forms.specs.Reader.{left_of, read_formula}
 use Rattle.line_forms.specs.Told.{ahead}
-use Rattle.line_forms.proofs.Sounding.{split_signs}
+use Rattle.line_forms.proofs.Soundness.{split_signs}
 
 pub longest_read : (ls : List Lexeme) (n : ℕ) (x : Draft) → IsLongest ls n x → read_formula ls ≡ Some (x, drop n ls)
 unfolding read_formula

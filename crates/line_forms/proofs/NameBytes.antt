@@ -6,7 +6,7 @@ use Rattle.std.proofs.lemmas.Bool.{and_parts, cases_Bool}
 use Rattle.sig_base.specs.Words.{is_name, is_word, is_reserved}
 use Rattle.sig_words.specs.Lexemes.{word}
 use Rattle.sig_words.proofs.Shared.{word_utf8}
-use Rattle.line_forms.specs.Reading.{name_of}
+use Rattle.line_forms.specs.Reader.{name_of}
 
 -- a name is a word
 pub name_word : (w : List ℕ) → is_name w ≡ true → is_word w ≡ true

@@ -7,7 +7,7 @@ use Rattle.std.specs.Prelude.{◌==◌, ◌&&◌, nat_lt, not}
 use Rattle.std.proofs.lemmas.Bool.{and_parts, and_from, cases_Bool}
 use Rattle.std.proofs.lemmas.Bool.Decides.{nat_tests}
 use Rattle.sig_base.specs.declared.scalar.Scalar.TheVariants as scalar
-use Rattle.sig_base.specs.Printing.{in_quotes, quoted}
+use Rattle.sig_base.specs.Printer.{in_quotes, quoted}
 use Rattle.sig_base.specs.Words.{in_tag, in_word, is_tag, is_word}
 use Rattle.sig_formula.specs.declared.formula.BinOp.{BinOp}
 use Rattle.sig_formula.specs.declared.formula.BinOp.TheVariants as op
@@ -20,13 +20,13 @@ use Rattle.formula_text.specs.declared.rough.Around.{Around}
 use Rattle.formula_text.specs.declared.rough.Around.TheVariants as forms
 use Rattle.formula_text.specs.declared.rough.OverRows.{OverRows}
 use Rattle.formula_text.specs.declared.rough.OverRows.TheVariants as over
-use Rattle.formula_text.specs.Rereading.{IsPrintable, IsPrintableLeaf}
+use Rattle.formula_text.specs.RoundTrips.{IsPrintable, IsPrintableLeaf}
 use Rattle.formula_text.specs.Signs.{Leaf, name, constant}
-use Rattle.line_forms.specs.Forms.{Part, name as a_name, one, perhaps, many, listed, arguments, formula, Form, fixed, part, Holds, Args, token_of}
+use Rattle.line_forms.specs.Forms.{Part, name as a_name, one, perhaps, many, listed, arguments, formula, Form, fixed, part, Contents, Args, token_of}
 use Rattle.line_forms.specs.Printed.{token_text, spaced, opened_tokens, part_text, form_text}
 use Rattle.line_forms.proofs.NameBytes.{name_word}
 use Rattle.line_forms.proofs.Printable.{IsWritten, AreWritten, PrintsPart, PrintsForm}
-use Rattle.line_forms.proofs.Reprinting.{each_written, open_written, opened_written}
+use Rattle.line_forms.proofs.Lexer.{each_written, open_written, opened_written}
 
 -- a byte that ends no line
 abbrev pub in_line : ℕ → Bool
@@ -36,9 +36,9 @@ in_line b = not (b == 10) && not (b == 13)
 abbrev pub is_line : List ℕ → Bool
 is_line bs = list_all in_line bs
 
-joined : (a b : List ℕ) → is_line a ≡ true → is_line b ≡ true → is_line (a ++ b) ≡ true
-joined [] b h k = k
-joined (x ∷ a) b h k = let both = and_parts (in_line x) (is_line a) h in and_from (in_line x) (is_line (a ++ b)) both.0 (joined a b both.1 k)
+is_line_append : (a b : List ℕ) → is_line a ≡ true → is_line b ≡ true → is_line (a ++ b) ≡ true
+is_line_append [] b h k = k
+is_line_append (x ∷ a) b h k = let both = and_parts (in_line x) (is_line a) h in and_from (in_line x) (is_line (a ++ b)) both.0 (is_line_append a b both.1 k)
 
 -- ---- tokens
 
@@ -100,11 +100,11 @@ quotes_line b = elim (cases_Bool (b == 92)) [
 
 inner_line : (t : List ℕ) → is_line (flat_map in_quotes t) ≡ true
 inner_line [] = refl
-inner_line (b ∷ t) = joined (in_quotes b) (flat_map in_quotes t) (quotes_line b) (inner_line t)
+inner_line (b ∷ t) = is_line_append (in_quotes b) (flat_map in_quotes t) (quotes_line b) (inner_line t)
 
 quoted_line : (t : List ℕ) → is_line (quoted t) ≡ true
 unfolding quoted
-quoted_line t = joined (flat_map in_quotes t) (34 ∷ []) (inner_line t) refl
+quoted_line t = is_line_append (flat_map in_quotes t) (34 ∷ []) (inner_line t) refl
 
 symbol_line : (s : List ℕ) → IsSymbol s → is_line s ≡ true
 symbol_line [] h = absurd h
@@ -141,7 +141,7 @@ over_line over.Sum = refl
 over_line over.Keep = refl
 
 group_line : (b : Bool) (w : Written) → is_line (written w) ≡ true → is_line (written (cond b (group w) w)) ≡ true
-group_line true w h = joined (written w) (codes ")") h refl
+group_line true w h = is_line_append (written w) (codes ")") h refl
 group_line false w h = h
 
 written_line : (asked : ℕ) (x : Draft) → IsPrintable x → is_line (written (minimal asked x)) ≡ true
@@ -150,31 +150,31 @@ written_line asked (negation x) h = group_line (nat_lt 3 asked) (negated (minima
 written_line asked (binary o x y) h =
     let right = written (minimal (level o + 1) y) in
     group_line (nat_lt (level o) asked) (chain o (minimal (before o) x) (minimal (level o + 1) y))
-    (joined (written (minimal (before o) x)) (codes " " ++ (operator_text o ++ (codes " " ++ right))) (written_line (before o) x h.0)
-    (joined (operator_text o) (codes " " ++ right) (operator_line o) (written_line (level o + 1) y h.1)))
+    (is_line_append (written (minimal (before o) x)) (codes " " ++ (operator_text o ++ (codes " " ++ right))) (written_line (before o) x h.0)
+    (is_line_append (operator_text o) (codes " " ++ right) (operator_line o) (written_line (level o + 1) y h.1)))
 written_line asked (choice w x y) h =
     let other = codes " else " ++ written (minimal 0 y) in
     let held = codes " then " ++ (written (minimal 0 x) ++ other) in
     group_line (nat_lt 0 asked) (pick (minimal 0 w) (minimal 0 x) (minimal 0 y))
-    (joined (written (minimal 0 w)) held (written_line 0 w h.0) (joined (written (minimal 0 x)) other (written_line 0 x h.1) (written_line 0 y h.2)))
-written_line asked (of_row n) h = joined (codes "it.") n refl (word_line n (name_word n h))
+    (is_line_append (written (minimal 0 w)) held (written_line 0 w h.0) (is_line_append (written (minimal 0 x)) other (written_line 0 x h.1) (written_line 0 y h.2)))
+written_line asked (of_row n) h = is_line_append (codes "it.") n refl (word_line n (name_word n h))
 written_line asked (one_part f x) h =
     let inner = written (minimal 0 x) in
-    joined (around_text f) (codes "(" ++ (inner ++ codes ")")) (around_line f) (joined inner (codes ")") (written_line 0 x h) refl)
+    is_line_append (around_text f) (codes "(" ++ (inner ++ codes ")")) (around_line f) (is_line_append inner (codes ")") (written_line 0 x h) refl)
 written_line asked (each_row f x y) h =
     let rows = written (minimal 0 x) in
     let part = written (minimal 0 y) in
     let both = rows ++ (codes ", " ++ part) in
-    joined (over_text f) (codes "(" ++ (both ++ codes ")")) (over_line f)
-    (joined both (codes ")") (joined rows (codes ", " ++ part) (written_line 0 x h.0) (written_line 0 y h.1)) refl)
+    is_line_append (over_text f) (codes "(" ++ (both ++ codes ")")) (over_line f)
+    (is_line_append both (codes ")") (is_line_append rows (codes ", " ++ part) (written_line 0 x h.0) (written_line 0 y h.1)) refl)
 
 -- ---- lines
 
 spaced_line : (ls : List Lexeme) → AreWritten ls → is_line (spaced ls) ≡ true
 spaced_line [] h = refl
-spaced_line (l ∷ ls) h = joined (token_text l) (spaced ls) (lexeme_line l h.0) (spaced_line ls h.1)
+spaced_line (l ∷ ls) h = is_line_append (token_text l) (spaced ls) (lexeme_line l h.0) (spaced_line ls h.1)
 
-part_line : (p : Part) (v : Holds p) → PrintsPart p v → is_line (part_text p v) ≡ true
+part_line : (p : Part) (v : Contents p) → PrintsPart p v → is_line (part_text p v) ≡ true
 part_line (one o) v p = spaced_line (token_of o v ∷ []) (p.1, tt)
 part_line (perhaps w o) None p = refl
 part_line (perhaps w o) (Some v) p = spaced_line (word w ∷ token_of o v ∷ []) (p.0, (p.2, tt))
@@ -185,9 +185,9 @@ part_line formula f p = written_line 0 f p
 
 form_line : (ps : Form) (a : Args ps) → PrintsForm ps a → is_line (form_text ps a) ≡ true
 form_line [] a p = refl
-form_line (fixed l ∷ ps) a p = joined (token_text l) (form_text ps a) (lexeme_line l p.0) (form_line ps a p.1)
-form_line (part p ∷ ps) a q = joined (part_text p a.0) (form_text ps a.1) (part_line p a.0 q.0) (form_line ps a.1 q.1)
+form_line (fixed l ∷ ps) a p = is_line_append (token_text l) (form_text ps a) (lexeme_line l p.0) (form_line ps a p.1)
+form_line (part p ∷ ps) a q = is_line_append (part_text p a.0) (form_text ps a.1) (part_line p a.0 q.0) (form_line ps a.1 q.1)
 
 -- what is printed of a line that begins with a word
 pub whole_line : (w : List ℕ) (ps : Form) (a : Args ps) → is_word w ≡ true → PrintsForm ps a → is_line (w ++ form_text ps a) ≡ true
-whole_line w ps a h p = joined w (form_text ps a) (word_line w h) (form_line ps a p)
+whole_line w ps a h p = is_line_append w (form_text ps a) (word_line w h) (form_line ps a p)

@@ -14,11 +14,11 @@ use Rattle.sig_words.specs.Lexemes.{Lexeme, word, tag, number, literal, symbol, 
 use Rattle.sig_words.specs.Literals.{between_quotes}
 use Rattle.sig_words.specs.Tokens.{AreTokens, Form, IsSymbol, IsTokenOf}
 use Rattle.sig_words.proofs.Shared.{each_token, literal_utf8}
-use Rattle.formula_text.specs.Rereading.{IsPrintable}
+use Rattle.formula_text.specs.RoundTrips.{IsPrintable}
 use Rattle.formula_text.specs.Signs.{sign, signs}
 use Rattle.formula_text.proofs.Shared.{Good, AllGood, good_word, good_symbol, good_spelled, text_utf8}
 use Rattle.line_forms.specs.Forms as forms
-use Rattle.line_forms.specs.Forms.{One, Part, one, perhaps, many, listed, arguments, formula, name, fixed, part, Of, Holds, Args, token_of, is_good, are_distinct, Says, SayEach, SayBehind, SayListed, SpellsPart, SpellsForm}
+use Rattle.line_forms.specs.Forms.{One, Part, one, perhaps, many, listed, arguments, formula, name, fixed, part, Of, Contents, Args, token_of, is_good, are_distinct, Says, SayEach, SayBehind, SayListed, SpellsPart, SpellsForm}
 
 -- a token can say it
 abbrev pub IsWritten : Lexeme → Type 0
@@ -79,7 +79,7 @@ EachPrints o [] = Unit {0}
 EachPrints o (v ∷ vs) = IsTrue (is_good o v) × IsWritten (token_of o v) × EachPrints o vs
 
 -- what a part holds can be printed
-abbrev pub PrintsPart : (p : Part) → Holds p → Type 0
+abbrev pub PrintsPart : (p : Part) → Contents p → Type 0
 PrintsPart (one o) v = IsTrue (is_good o v) × IsWritten (token_of o v)
 PrintsPart (perhaps w o) None = Unit {0}
 PrintsPart (perhaps w o) (Some v) = IsWritten (word w) × IsTrue (is_good o v) × IsWritten (token_of o v)
@@ -109,7 +109,7 @@ listed_prints : (o : One) (vs : List (Of o)) (ls : List Lexeme) → SayListed o 
 listed_prints o [] ls t h = tt
 listed_prints o (v ∷ vs) ls t h = let g = subst AreWritten t.2 h in (t.3.good, said_written o v t.0 t.3 g.0, behind_prints o vs t.1 t.4 g.1)
 
-part_prints : (p : Part) (v : Holds p) (own : List Lexeme) → SpellsPart p v own → AreWritten own → PrintsPart p v
+part_prints : (p : Part) (v : Contents p) (own : List Lexeme) → SpellsPart p v own → AreWritten own → PrintsPart p v
 part_prints (one o) v own t h = let g = subst AreWritten t.1 h in (t.2.good, said_written o v t.0 t.2 g.0)
 part_prints (perhaps w o) None own t h = tt
 part_prints (perhaps w o) (Some v) own t h = let g = subst AreWritten t.1 h in (g.0, t.2.good, said_written o v t.0 t.2 g.1.0)

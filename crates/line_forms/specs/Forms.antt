@@ -51,19 +51,19 @@ Of count = ℕ
 Of _ = List ℕ
 
 -- what a part says
-abbrev pub Holds : Part → Type 0
-Holds (one o) = Of o
-Holds (perhaps w o) = Option (Of o)
-Holds (many o) = List (Of o)
-Holds (listed o) = List (Of o)
-Holds arguments = List (List ℕ)
-Holds formula = Draft
+abbrev pub Contents : Part → Type 0
+Contents (one o) = Of o
+Contents (perhaps w o) = Option (Of o)
+Contents (many o) = List (Of o)
+Contents (listed o) = List (Of o)
+Contents arguments = List (List ℕ)
+Contents formula = Draft
 
 -- what a line of this form says, part by part
 abbrev pub Args : Form → Type 0
 Args [] = Unit {0}
 Args (fixed l ∷ ps) = Args ps
-Args (part p ∷ ps) = Holds p × Args ps
+Args (part p ∷ ps) = Contents p × Args ps
 
 -- the token of a value; a text may be of any length
 abbrev pub scalar_token : Scalar → Lexeme
@@ -120,7 +120,7 @@ SayPerhaps w o None ls = ls ≡ []
 SayPerhaps w o (Some v) ls = (l : Lexeme) × (ls ≡ word w ∷ l ∷ []) × Says o v l
 
 -- these tokens spell a part
-abbrev pub SpellsPart : (p : Part) → Holds p → List Lexeme → Type 0
+abbrev pub SpellsPart : (p : Part) → Contents p → List Lexeme → Type 0
 SpellsPart (one o) v ls = (l : Lexeme) × (ls ≡ l ∷ []) × Says o v l
 SpellsPart (perhaps w o) v ls = SayPerhaps w o v ls
 SpellsPart (many o) vs ls = SayEach o vs ls

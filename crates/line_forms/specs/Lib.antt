@@ -1,6 +1,6 @@
 pub mod Blocks
 pub mod Forms
 pub mod Printed
-pub mod Reading
+pub mod Reader
 pub mod Rows
 pub mod Told

@@ -1,11 +1,11 @@
 -- Lines as they are printed.
 use Rattle.std.specs.Prelude.{ℕ, List, [], ◌∷◌, ◌++◌, map, Option, Some, None, codes}
 use Rattle.std.specs.Fmt.{signed_decimal}
-use Rattle.sig_base.specs.Printing.{printed_scalar}
+use Rattle.sig_base.specs.Printer.{printed_scalar}
 use Rattle.sig_base.specs.declared.scalar.Scalar.TheVariants as scalar
 use Rattle.sig_words.specs.Lexemes.{Lexeme, word, tag, number, literal, symbol}
 use Rattle.formula_text.specs.Canonical.{canonical_text}
-use Rattle.line_forms.specs.Forms.{One, Part, one, perhaps, many, listed, arguments, formula, name, Form, fixed, part, Of, Holds, Args, token_of}
+use Rattle.line_forms.specs.Forms.{One, Part, one, perhaps, many, listed, arguments, formula, name, Form, fixed, part, Of, Contents, Args, token_of}
 use Rattle.line_forms.specs.Rows.{Line, Said}
 
 -- the bytes of a token
@@ -37,7 +37,7 @@ perhaps_tokens w o None = []
 perhaps_tokens w o (Some v) = word w ∷ token_of o v ∷ []
 
 -- the text of a part, a formula in its canonical form
-abbrev pub part_text : (p : Part) → Holds p → List ℕ
+abbrev pub part_text : (p : Part) → Contents p → List ℕ
 part_text (one o) v = spaced (token_of o v ∷ [])
 part_text (perhaps w o) v = spaced (perhaps_tokens w o v)
 part_text (many o) vs = spaced (map (token_of o) vs)

@@ -4,7 +4,7 @@ use Rattle.std.specs.Option.{option_or}
 use Rattle.std.specs.Str.{bytes_eq}
 use Rattle.sig_words.specs.Lexemes.{Lexeme, word}
 use Rattle.line_forms.specs.Forms.{Form, Args, SpellsForm}
-use Rattle.line_forms.specs.Reading.{read_form, is_clear, apart}
+use Rattle.line_forms.specs.Reader.{read_form, is_clear, apart}
 
 -- a line's first word, and the form of what follows it
 abbrev pub Line : Type 0

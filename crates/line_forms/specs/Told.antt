@@ -9,10 +9,10 @@ use Rattle.formula_text.specs.declared.wired.Allow.{Allow}
 use Rattle.formula_text.specs.declared.wired.FormulaFault.{FormulaFault}
 use Rattle.formula_text.specs.declared.wired.FormulaFault.TheVariants as fault
 use Rattle.formula_text.specs.Signs.{constant}
-use Rattle.formula_text.specs.Judging.{is_long}
+use Rattle.formula_text.specs.Refusals.{is_long}
 use Rattle.formula_text.specs.Grammar.{Draft}
-use Rattle.formula_text.specs.Wiring.{Wiring, refusal, wired}
-use Rattle.line_forms.specs.Forms.{Form, part, fixed, one, perhaps, many, listed, arguments, formula, value, key, Part, One, Of, Holds, Args}
+use Rattle.formula_text.specs.Slots.{Wiring, refusal, wired}
+use Rattle.line_forms.specs.Forms.{Form, part, fixed, one, perhaps, many, listed, arguments, formula, value, key, Part, One, Of, Contents, Args}
 
 -- what the tokens from a place on say
 unfoldable pub ahead : List ℕ → List Token → ℕ → List Lexeme
@@ -43,7 +43,7 @@ abbrev pub fault_of_arguments : List (List ℕ) → Option FormulaFault
 fault_of_arguments ns = if nat_lt MOST_SOURCES (length ns) then Some fault.Sources else None
 
 -- what is wrong with a part, at a place that allows this to formulas
-abbrev pub fault_in : Allow → (p : Part) → Holds p → Option FormulaFault
+abbrev pub fault_in : Allow → (p : Part) → Contents p → Option FormulaFault
 fault_in allow (one o) v = fault_of_one o v
 fault_in allow (perhaps w o) v = None
 fault_in allow (many o) vs = fault_of_list o vs
@@ -91,7 +91,7 @@ IsToldFormula allow x (Err f) = refusal allow x ≡ Some f
 abbrev pub Made : Form → Type 0 → Type 0
 Made [] A = A
 Made (fixed l ∷ ps) A = Made ps A
-Made (part p ∷ ps) A = Holds p → Made ps A
+Made (part p ∷ ps) A = Contents p → Made ps A
 
 -- what it makes of them
 abbrev pub made : {A : Type 0} → (ps : Form) → Made ps A → Args ps → A

@@ -8,7 +8,7 @@ ghost use Rattle.sig_words.specs.declared.token.TokenKind.TheVariants as kind;
 ghost use Rattle.formula_text.specs.Grammar.{Draft};
 ghost use Rattle.formula_text.specs.Rough.{draft, HasLeaves};
 ghost use Rattle.line_forms.specs.Forms.{count, formula, key, name, tagged, value};
-ghost use Rattle.line_forms.specs.Reading.{count_of, key_of, name_of, read_fixed, read_form, read_formula, read_one, read_part, read_perhaps, same, scalar_of, tag_of, truth_of};
+ghost use Rattle.line_forms.specs.Reader.{count_of, key_of, name_of, read_fixed, read_form, read_formula, read_one, read_part, read_perhaps, same, scalar_of, tag_of, truth_of};
 ghost use Rattle.line_forms.specs.Told.{ahead, IsToldFormula, IsToldKey, IsToldScalar};
 
 use formula_text::{Allow, FormulaFault, Rough, Wired, read_rough, wire};

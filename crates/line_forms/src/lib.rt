@@ -6,7 +6,7 @@ mod laws;
 mod lists;
 mod names;
 mod values;
-mod writing;
+mod writer;
 
 pub use cursor::{
     ToldFormula, ToldKey, ToldValue, count_at, count_behind, ends_at, formula_at, key_at, name_at,
@@ -16,7 +16,7 @@ pub use laws::forms_read;
 pub use lists::{ToldArguments, are_distinct, arguments_at, listed_names_at, names_at};
 pub use names::NameList;
 pub use values::{ToldValues, values_at};
-pub use writing::{
+pub use writer::{
     put_arguments, put_count, put_count_behind, put_fixed, put_key, put_listed_names,
     put_listed_values, put_name, put_names, put_tag, put_value, put_wired,
 };

@@ -4,7 +4,7 @@ ghost use Rattle.std.specs.List.{list_any};
 ghost use Rattle.std.specs.Str.{bytes_eq};
 ghost use Rattle.sig_words.specs.Lexemes.{lexemes};
 ghost use Rattle.line_forms.specs.Forms.{are_distinct, arguments, many, name};
-ghost use Rattle.line_forms.specs.Reading.{each_of, if_distinct, read_behind, read_listed, read_part, with_first};
+ghost use Rattle.line_forms.specs.Reader.{each_of, if_distinct, read_behind, read_listed, read_part, with_first};
 ghost use Rattle.line_forms.specs.Told.{ahead, IsToldArguments};
 
 use crate::cursor::{name_at, name_of, symbol_at};

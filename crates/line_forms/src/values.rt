@@ -3,7 +3,7 @@ ghost use Rattle.std.specs.Prelude.{◌≡◌, ◌∷◌, ◌++◌, [], List, No
 ghost use Rattle.sig_base.specs.declared.scalar.Scalar as scalar;
 ghost use Rattle.sig_words.specs.Tokens.{AreTokens};
 ghost use Rattle.line_forms.specs.Forms.{listed, value};
-ghost use Rattle.line_forms.specs.Reading.{read_behind, read_part, with_first};
+ghost use Rattle.line_forms.specs.Reader.{read_behind, read_part, with_first};
 ghost use Rattle.line_forms.specs.Told.{ahead, first_long, AreToldValues, IsToldScalar};
 
 use crate::cursor::{ToldValue, symbol_at, value_at};

@@ -2,7 +2,7 @@
 use Rattle.std.proofs.Common.{◌≡◌, true, refl, inl, inr}
 use Rattle.sig_base.specs.Words.{is_name, is_reserved}
 use Rattle.formula_text.specs.Signs.{last_word_sign, later_word_sign, word_sign}
-use Rattle.line_forms.specs.Reading.{is_clear}
+use Rattle.line_forms.specs.Reader.{is_clear}
 use Rattle.line_forms.specs.Rows.{rows_of, Reaches, IsGrammar}
 use Rattle.live_cmd.specs.declared.command.Bare.TheVariants as bares
 use Rattle.live_cmd.specs.declared.command.Verb.TheVariants as verbs

@@ -11,7 +11,7 @@ use Rattle.live_cmd.specs.declared.command.Item.{Item}
 use Rattle.live_cmd.specs.Blocks.{Block, Ends, IsContent, IsNoHead, block_item, is_head, said_head}
 use Rattle.live_cmd.specs.Grammar.{Writes}
 use Rattle.live_cmd.proofs.Ends.{parted_map}
-use Rattle.live_cmd.proofs.Parting.{no_block, too_few}
+use Rattle.live_cmd.proofs.Blocks.{no_block, too_few}
 
 -- what holds of all holds of the first, of those behind it, and of the last
 pub all_parted : {A : Type 0} (P : A → Type 0) (xs : List A) (x : A) (ys : List A) (y : A) → xs ≡ x ∷ (ys ++ y ∷ []) → All P xs → P x × All P ys × P y

@@ -10,7 +10,7 @@ use Rattle.live_cmd.specs.declared.contents.Content.{Content}
 use Rattle.live_cmd.specs.Blocks.{Block, IsContent, block_item}
 use Rattle.live_cmd.specs.Items.{IsItem, long, unended, block, faulty, says, any_long, first_line, item_of, AreItems, ItemsFrom, Begins}
 use Rattle.live_cmd.specs.Views.{IsPlain}
-use Rattle.live_cmd.proofs.Parting.{no_command, one_block}
+use Rattle.live_cmd.proofs.Blocks.{no_command, one_block}
 use Rattle.live_cmd.proofs.Spellings.{one_writing}
 
 -- ---- a piece is this

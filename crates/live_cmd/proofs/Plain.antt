@@ -8,8 +8,8 @@ use Rattle.live_cmd.specs.declared.command.Item.{Item}
 use Rattle.live_cmd.specs.declared.command.Item.TheVariants as item
 use Rattle.live_cmd.specs.declared.line.Found.{Found}
 use Rattle.live_cmd.specs.declared.line.Line.{Line}
-use Rattle.live_cmd.specs.Grammar.{Said, Writes, line_of}
-use Rattle.live_cmd.specs.Judging.{fault_of, refused_for}
+use Rattle.live_cmd.specs.Grammar.{Said, Writes, said_line}
+use Rattle.live_cmd.specs.Refusals.{fault_of, refused_for}
 use Rattle.live_cmd.specs.Items.{command_of, is_alone, item_of, item_or, IsNoCommand}
 use Rattle.live_cmd.specs.Views.{found_of, item_read, IsPlain}
 use Rattle.live_cmd.proofs.Spellings.{none_such}
@@ -37,5 +37,5 @@ read_same k l (Some f) = refl
 -- what was read of a command of one line is what the line is
 pub plain_alone : (l : NumberedLine) (f : Found) (i : Item) → IsAlone l.1 f → i ≡ item_read l.0 f.line → IsPlain l i
 plain_alone l f i h is =
-    let same : i ≡ item_of l.0 h.0 = is ∙ ap (λ (g : Found). item_read l.0 g.line) h.3 ∙ read_same l.0 (line_of h.0) (fault_of h.0) in
+    let same : i ≡ item_of l.0 h.0 = is ∙ ap (λ (g : Found). item_read l.0 g.line) h.3 ∙ read_same l.0 (said_line h.0) (fault_of h.0) in
     inl (h.0, h.1, h.2, same)

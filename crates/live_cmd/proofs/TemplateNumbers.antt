@@ -7,20 +7,20 @@ use Rattle.script_lines.specs.Lines.{NumberedLine}
 use Rattle.tpl_syntax.specs.declared.fault.TemplateFault.{TemplateFault}
 use Rattle.tpl_syntax.specs.declared.fault.TemplateWhy.{TemplateWhy}
 use Rattle.tpl_syntax.specs.declared.fault.TemplateWhy.TheVariants as why
-use Rattle.tpl_syntax.specs.Grammar.{line_of}
-use Rattle.tpl_syntax.specs.Judging.{fault_at, first_excess, first_misplaced, judged, judged_at, many_lines, refusal_of}
+use Rattle.tpl_syntax.specs.Grammar.{said_line}
+use Rattle.tpl_syntax.specs.Refusals.{fault_at, first_excess, first_misplaced, judged, judged_at, many_lines, refusal_of}
 use Rattle.tpl_syntax.specs.Lines.{Plan}
 use Rattle.tpl_syntax.specs.Places.{Place, moved, top}
 use Rattle.tpl_syntax.specs.Templates.{Answer, IsFaulty, IsRead, Refuses, Say, Sayings, faulty, last_number, plan_of, says, unended, unless_refused}
 use Rattle.live_cmd.specs.declared.contents.Content.{Content}
 use Rattle.live_cmd.specs.Blocks.{is_want, template_content, template_refused}
 use Rattle.live_cmd.specs.Views.{number_in}
-use Rattle.live_cmd.proofs.Numbering.{HasNumber, IsNumber, either_some, has_first, has_later, number_is}
+use Rattle.live_cmd.proofs.Numbers.{HasNumber, IsNumber, either_some, has_first, has_later, number_is}
 
 faulty_number : (p : Place) (ls : List NumberedLine) (k : ℕ) → IsFaulty p ls k → HasNumber ls k
 faulty_number p [] k f = absurd f
 faulty_number p (l ∷ ls) k (inl f) = has_first l ls k f.0
-faulty_number p (l ∷ ls) k (inr f) = has_later l ls k (faulty_number (moved p (line_of f.0)) ls k f.3)
+faulty_number p (l ∷ ls) k (inr f) = has_later l ls k (faulty_number (moved p (said_line f.0)) ls k f.3)
 
 last_has : (l : NumberedLine) (ls : List NumberedLine) → HasNumber (l ∷ ls) (last_number (l ∷ ls))
 last_has l [] = has_first l [] l.0 refl
@@ -40,8 +40,8 @@ misplaced_number p [] [] f s e = absurd cc
 misplaced_number p [] (x ∷ xs) f s e = absurd s
 misplaced_number p (l ∷ ls) [] f s e = absurd s
 misplaced_number p (l ∷ ls) (x ∷ xs) f s e =
-    let next = moved p (line_of x.1) in
-    let j = judged_at p x.0 (line_of x.1) in
+    let next = moved p (said_line x.1) in
+    let j = judged_at p x.0 (said_line x.1) in
     elim (either_some (option_map (fault_at x.0) j.misplaced) (first_misplaced (judged next xs)) f e) [
       | inl h ↦ has_first l ls f.at (at_number x.0 j.misplaced f h ∙ s.0)
       | inr h ↦ has_later l ls f.at (misplaced_number next ls xs f s.3 h)
@@ -53,8 +53,8 @@ excess_number p [] [] f s e = absurd cc
 excess_number p [] (x ∷ xs) f s e = absurd s
 excess_number p (l ∷ ls) [] f s e = absurd s
 excess_number p (l ∷ ls) (x ∷ xs) f s e =
-    let next = moved p (line_of x.1) in
-    let j = judged_at p x.0 (line_of x.1) in
+    let next = moved p (said_line x.1) in
+    let j = judged_at p x.0 (said_line x.1) in
     elim (either_some (option_map (fault_at x.0) j.excess) (first_excess (judged next xs)) f e) [
       | inl h ↦ has_first l ls f.at (at_number x.0 j.excess f h ∙ s.0)
       | inr h ↦ has_later l ls f.at (excess_number next ls xs f s.3 h)
@@ -99,7 +99,7 @@ fault_number ls _ f (unended xs s h) e n =
     let at : f.at ≡ last_number ls = ap (λ (g : TemplateFault). g.at) (sym same) in
     rw at (last_is ls)
 fault_number ls _ f (says xs s h) e n =
-    judged_number ls xs f s (refused_is (refusal_of (judged top xs)) (plan_of (map (λ x. line_of x.1) xs)) f e) n
+    judged_number ls xs f s (refused_is (refusal_of (judged top xs)) (plan_of (map (λ x. said_line x.1) xs)) f e) n
 
 -- what an answer makes of a template
 abbrev pub IsMade : List NumberedLine → List ℕ → Content → Type 0

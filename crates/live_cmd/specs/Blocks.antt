@@ -4,7 +4,7 @@ use Rattle.script_lines.specs.Lines.{NumberedLine}
 use Rattle.line_forms.specs.Forms.{Args}
 use Rattle.body_text.specs.declared.fault.BodyWhy.{BodyWhy}
 use Rattle.body_text.specs.declared.fault.BodyWhy.TheVariants as why
-use Rattle.body_text.specs.Readings.{Answer, IsRead}
+use Rattle.body_text.specs.Verdicts.{Answer, IsRead}
 use Rattle.tpl_syntax.specs.declared.fault.TemplateWhy.{TemplateWhy}
 use Rattle.tpl_syntax.specs.declared.fault.TemplateWhy.TheVariants as unread
 use Rattle.tpl_syntax.specs.Templates as templates

@@ -3,7 +3,7 @@ use Rattle.std.specs.Prelude.{ℕ, Bool, ◌&&◌, not, List, [], ◌∷◌, cod
 use Rattle.std.specs.List.{list_all}
 use Rattle.std.specs.Str.{bytes_eq}
 use Rattle.sig_words.specs.Lexemes.{symbol, word}
-use Rattle.formula_text.specs.Wiring.{wired}
+use Rattle.formula_text.specs.Slots.{wired}
 use Rattle.line_forms.specs.Blocks as blocks
 use Rattle.line_forms.specs.Forms.{Piece, part, fixed, one, perhaps, many, listed, arguments, formula, name, value, key, count, are_distinct}
 use Rattle.line_forms.specs.Rows as grammar
@@ -212,8 +212,8 @@ abbrev pub Said : Type 0
 Said = grammar.Said Row row
 
 -- what a line gives
-abbrev pub line_of : Said → Line
-line_of x = made (row x.0).1 (line_makes x.0) x.1
+abbrev pub said_line : Said → Line
+said_line x = made (row x.0).1 (line_makes x.0) x.1
 
 -- bytes write a line: their tokens spell it
 abbrev pub Writes : Said → List ℕ → Type 0

@@ -15,8 +15,8 @@ use Rattle.live_cmd.specs.declared.command.RowEdit.TheVariants as edit
 use Rattle.live_cmd.specs.declared.contents.Content.{Content}
 use Rattle.live_entries.specs.declared.refusal.LimitWord.TheVariants as limit
 use Rattle.live_entries.specs.declared.refusal.Refusal.TheVariants as refusal
-use Rattle.live_cmd.specs.Grammar.{Said, Writes, are_fields, is_field, line_of}
-use Rattle.live_cmd.specs.Judging.{fault_of, refused_for}
+use Rattle.live_cmd.specs.Grammar.{Said, Writes, are_fields, is_field, said_line}
+use Rattle.live_cmd.specs.Refusals.{fault_of, refused_for}
 use Rattle.live_cmd.specs.Blocks.{Block, IsContent, block_item}
 
 -- the first of lines, and one without a byte where there is none
@@ -37,7 +37,7 @@ gives_command _ = false
 
 -- so it is with a line that says this
 abbrev pub is_alone : Said → Bool
-is_alone x = gives_command (line_of x)
+is_alone x = gives_command (said_line x)
 
 -- a command by itself is all of this piece, if the piece begins with one
 abbrev pub IsSingle : Piece → Type 0
@@ -68,7 +68,7 @@ item_or k (Some c) = item_made c
 
 -- what a line of this number is that says this: refused for what is wrong with it, or the command that it gives
 abbrev pub item_of : ℕ → Said → Item
-item_of k x = option_map_or (λ f. item.Refused (refused_for k f)) (fault_of x) (item_or k (command_of (line_of x)))
+item_of k x = option_map_or (λ f. item.Refused (refused_for k f)) (fault_of x) (item_or k (command_of (said_line x)))
 
 -- What a piece is: one with a line that is too long is refused for that, a block without its end at its first line. A block whose lines
 -- have a grammar of their own is what they come to. Another piece is what its first line says, which is all of it where it is a command by

@@ -1,7 +1,7 @@
 pub mod Blocks
-pub mod Coding
+pub mod Codes
 pub mod Grammar
 pub mod Items
-pub mod Judging
+pub mod Refusals
 pub mod Views
 pub mod Words

@@ -3,12 +3,12 @@ use Rattle.std.specs.Prelude.{◌≡◌, ◌⊎◌, ◌==◌, if◌then◌else�
 use Rattle.std.specs.Option.{option_or}
 use Rattle.sig_words.specs.Lexemes.{Lexeme}
 use Rattle.formula_text.specs.declared.wired.FormulaFault.{FormulaFault}
-use Rattle.line_forms.specs.Reading.{read_form}
+use Rattle.line_forms.specs.Reader.{read_form}
 use Rattle.line_forms.specs.Told.{unless_faulty}
 use Rattle.script_lines.specs.Lines.{NumberedLine}
 use Rattle.live_entries.specs.declared.refusal.Refusal.TheVariants as refusal
-use Rattle.live_cmd.specs.Grammar.{Row, row, Said, Writes, line_of}
-use Rattle.live_cmd.specs.Judging.{fault_of, refused_for}
+use Rattle.live_cmd.specs.Grammar.{Row, row, Said, Writes, said_line}
+use Rattle.live_cmd.specs.Refusals.{fault_of, refused_for}
 use Rattle.live_cmd.specs.Items.{command_of, has_many_fields, is_alone, item_of, item_or, IsNoCommand}
 use Rattle.live_cmd.specs.declared.command.Item.{Item}
 use Rattle.live_cmd.specs.declared.command.Item.TheVariants as item
@@ -19,12 +19,12 @@ use Rattle.live_cmd.specs.declared.contents.Head.TheVariants as heads
 use Rattle.live_cmd.specs.declared.line.Found.{Found}
 
 -- what a line gives, or what is wrong with it
-abbrev pub told : Said → Result Line FormulaFault
-told x = unless_faulty (fault_of x) (line_of x)
+abbrev pub line_or_fault : Said → Result Line FormulaFault
+line_or_fault x = unless_faulty (fault_of x) (said_line x)
 
 -- what is found in a line that says this
 abbrev pub found_of : Said → Found
-found_of x = record { alone = is_alone x; line = told x }
+found_of x = record { alone = is_alone x; line = line_or_fault x }
 
 -- the first line of a block, where a line is one
 abbrev pub head_of : Line → Option Head

@@ -10,7 +10,7 @@ ghost use Rattle.live_cmd.specs.Grammar.{Writes};
 ghost use Rattle.live_cmd.specs.Views.{end_told, head_told};
 
 use crate::contents::{Content, Head, content_of};
-use crate::reading::read_line;
+use crate::reader::read_line;
 use crate::{Item, Line};
 use formula_text::FormulaFault;
 use live_entries::Refusal;

@@ -20,7 +20,7 @@ pub struct EffectBody {
 
 impl Model for EffectBody {
     ghost use Rattle.sig_untrack.specs.Stated.{before, no_bodies, Bodies};
-    ghost use Rattle.live_cmd.specs.Coding.{bodies_code};
+    ghost use Rattle.live_cmd.specs.Codes.{bodies_code};
 
     ghost Value = { Bodies };
 

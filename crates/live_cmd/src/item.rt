@@ -11,7 +11,7 @@ use crate::block::block_of;
 use crate::fields::has_many_fields;
 use crate::judge::refused_for;
 use crate::line::Found;
-use crate::reading::read_line;
+use crate::reader::read_line;
 use crate::{Item, Line};
 use formula_text::FormulaFault;
 use live_entries::{LimitWord, Refusal};

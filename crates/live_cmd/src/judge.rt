@@ -1,6 +1,6 @@
 // What a line of a command is refused for.
 ghost use Rattle.std.specs.Prelude.{◌≡◌};
-ghost use Rattle.live_cmd.specs.Judging.{refused_for};
+ghost use Rattle.live_cmd.specs.Refusals.{refused_for};
 
 use formula_text::FormulaFault;
 use live_entries::{LimitWord, Refusal};

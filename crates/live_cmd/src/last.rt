@@ -3,7 +3,7 @@ ghost use Rattle.std.specs.Prelude.{◌≡◌, ◌∷◌, [], None, Some, IfOk, 
 ghost use Rattle.sig_base.specs.declared.scalar.Scalar.{Scalar};
 ghost use Rattle.sig_words.specs.Tokens.{AreTokens};
 ghost use Rattle.line_forms.specs.Forms as form;
-ghost use Rattle.line_forms.specs.Reading.{read_form};
+ghost use Rattle.line_forms.specs.Reader.{read_form};
 ghost use Rattle.line_forms.specs.Told.{ahead, IsToldScalar};
 
 use line_forms::{ToldValue, ends_at, value_at};

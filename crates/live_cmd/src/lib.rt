@@ -10,11 +10,11 @@ mod judge;
 mod last;
 mod laws;
 mod line;
-mod naming;
-mod reading;
+mod names;
+mod reader;
 mod row_lines;
 mod sources;
-mod watching;
+mod watchers;
 
 pub use command::{Bare, Command, EffectBody, Item, RowEdit, SourceText, Try, Verb};
 pub use fields::are_fields;

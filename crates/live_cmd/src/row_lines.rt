@@ -4,12 +4,12 @@ ghost use Rattle.sig_base.specs.declared.scalar.Scalar.{Scalar};
 ghost use Rattle.sig_words.specs.Tokens.{AreTokens};
 ghost use Rattle.line_forms.specs.Told.{ahead, AreToldValues, IsToldKey, IsToldScalar};
 ghost use Rattle.live_cmd.specs.Grammar as rows;
-ghost use Rattle.live_cmd.specs.Views.{found_as, found_of, told};
+ghost use Rattle.live_cmd.specs.Views.{found_as, found_of, line_or_fault};
 
 use crate::fields::{are_fields, is_field};
 use crate::last::value_last;
 use crate::line::{Found, Line, alone, faulty};
-use crate::naming::{inside_text_last, made, made_both, made_owned, name_text_at};
+use crate::names::{inside_text_last, made, made_both, made_owned, name_text_at};
 use crate::{Command, RowEdit};
 use formula_text::FormulaFault;
 use line_forms::{
@@ -153,7 +153,7 @@ pub fn move_row(alloc: Global, line: &[u8], tokens: &[Token]) -> Result<Option<F
 // What the line of a new value gives, or what is wrong with its key or else with the value.
 fn put_line(name: Name, key: ToldKey, field: Name, value: ToldValue) -> Result<Line, FormulaFault>
     ensures { (k : List ℕ) (v : Scalar) → IsToldKey k key → IsToldScalar v value
-        → result ≡ told (rows.put_field, (name, (k, (field, (v, tt))))) }
+        → result ≡ line_or_fault (rows.put_field, (name, (k, (field, (v, tt))))) }
 {
     let key = key?;
     let value = value?;

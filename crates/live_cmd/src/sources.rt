@@ -3,15 +3,15 @@ ghost use Rattle.std.specs.Prelude.{◌≡◌, ◌∷◌, [], ℕ, List, None, S
 ghost use Rattle.sig_words.specs.Tokens.{AreTokens};
 ghost use Rattle.formula_text.specs.Grammar.{Draft};
 ghost use Rattle.line_forms.specs.Forms as form;
-ghost use Rattle.line_forms.specs.Reading.{read_part};
+ghost use Rattle.line_forms.specs.Reader.{read_part};
 ghost use Rattle.line_forms.specs.Told.{ahead, IsToldArguments, IsToldFormula};
 ghost use Rattle.live_cmd.specs.Grammar as rows;
-ghost use Rattle.live_cmd.specs.Judging.{tracked};
+ghost use Rattle.live_cmd.specs.Refusals.{tracked};
 ghost use Rattle.live_cmd.specs.Views.{found_as, found_first, found_of};
 
 use crate::line::{Found, alone, faulty};
-use crate::naming::{inside_text_last, made, made_owned, name_text_at};
-use crate::reading::TRACKED;
+use crate::names::{inside_text_last, made, made_owned, name_text_at};
+use crate::reader::TRACKED;
 use crate::{Command, SourceText};
 use line_forms::{
     ToldArguments, ToldFormula, arguments_at, count_at, ends_at, formula_at, symbol_at, word_at,

@@ -1,8 +1,8 @@
 mod OfKind
-mod Meanings
+mod Names
 mod Rightly
-mod Doing
-mod Making
+mod Commands
+mod Creations
 mod Mounts
-mod Watching
+mod Watchers
 pub mod Shared

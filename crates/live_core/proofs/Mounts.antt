@@ -3,17 +3,17 @@ use Rattle.std.proofs.Common.{◌≡◌, ◌≤◌, ◌<◌, ◌+◌, ◌^◌, �
 use Rattle.std.proofs.lemmas.List.{length-append}
 use Rattle.sig_base.specs.declared.limits.TheConstants.{MOST_PAGES}
 use Rattle.signal_model.specs.Recipes.{Hosts}
-use Rattle.signal_model.specs.Standing.{standing}
+use Rattle.signal_model.specs.Signals.{standing}
 use Rattle.effect_model.specs.Commands.{with_new_page}
 use Rattle.page_model.specs.Html.{html_of}
 use Rattle.page_model.specs.Pages.{bare, tree_of}
-use Rattle.effect_model.specs.Running.{flush}
+use Rattle.effect_model.specs.Runs.{flush}
 use Rattle.effect_model.specs.Worlds as told
 use Rattle.effect_tables.specs.Placed.{at_rest}
 use Rattle.sig_host.specs.Hosts.{HostPlace}
-use Rattle.sig_effect.specs.Agreeing.{AreRuled}
+use Rattle.sig_effect.specs.Stores.{AreRuled}
 use Rattle.effect_world.specs.declared.world.World.{World}
-use Rattle.effect_world.specs.Agreeing.{Agrees, IsSound}
+use Rattle.effect_world.specs.Stores.{Agrees, IsSound}
 use Rattle.effect_world.specs.Wholes.{whole_of}
 use Rattle.live_entries.specs.declared.entry.Entry.{Entry}
 use Rattle.live_entries.specs.declared.entry.Entry.TheVariants as entry
@@ -21,54 +21,54 @@ use Rattle.live_entries.specs.declared.refusal.Refusal.TheVariants as refusal
 use Rattle.live_model.specs.declared.names.Kind.TheVariants as kind
 use Rattle.live_model.specs.Labels as called
 use Rattle.live_model.specs.Machine as plain
-use Rattle.live_model.specs.Machine.{acted_on_pages, after_turns, flushing, mounted, told}
+use Rattle.live_model.specs.Machine.{acted_on_pages, after_turns, flushing, mounted, reached}
 use Rattle.live_labels.specs.Views.{labels_of}
 use Rattle.tpl_live.specs.declared.page.Page as live
 use Rattle.tpl_live.specs.Pages.{page_in}
-use Rattle.tpl_live.specs.Standings.{standing as standing_page}
+use Rattle.tpl_live.specs.Contents.{standing as standing_page}
 use Rattle.live_pages.specs.declared.mounted.Mounted.{Mounted}
-use Rattle.live_pages.specs.Updates.{AreBroughtUp, AreShown, ArePages, AreTemplates, IsMounted, IsScratched, IsShown, Settles}
+use Rattle.live_pages.specs.Updates.{AreUpdated, AreShown, ArePages, AreTemplates, IsMounted, IsScratched, IsShown, Settles}
 use Rattle.live_pages.specs.Views.{page_of, template_of}
 use Rattle.live_pages.proofs.Shared.{pages_more, shown_more}
 use Rattle.live_core.specs.declared.machine.Machine.{Machine}
-use Rattle.live_core.specs.Keeping.{is_of_kind, AreMeant, IsReady, Leaves, Steps}
+use Rattle.live_core.specs.Consistency.{is_of_kind, AreMeant, IsReady, Leaves, Steps}
 use Rattle.live_core.specs.Views.{plain_of}
-use Rattle.live_core.proofs.Meanings.{meant_other, meant_still}
+use Rattle.live_core.proofs.Names.{meant_other, meant_still}
 
 -- ---- flushes
 
 -- a flush that is refused
 pub refused_steps : (hosts : Hosts) (env : told.Environment) (asked : List HostPlace) (m : Machine) (told_first es : List Entry) (refused : Bool) → true ≡ refused →
     es ≡ told_first ++ entry.Error refusal.Turns ∷ [] → IsSound hosts asked m.world →
-    Steps hosts asked m es (after_turns env refused (told (plain_of asked m) told_first))
+    Steps hosts asked m es (after_turns env refused (reached (plain_of asked m) told_first))
 refused_steps hosts env asked m told_first es refused by is sound = record {
-  step = ap (λ (x : List Entry). told (plain_of asked m) x) is ∙ ap (λ (b : Bool). after_turns env b (told (plain_of asked m) told_first)) by;
+  step = ap (λ (x : List Entry). reached (plain_of asked m) x) is ∙ ap (λ (b : Bool). after_turns env b (reached (plain_of asked m) told_first)) by;
   sound = sound;
 }
 
 -- pages were brought up to date behind what was told
 pub brought_steps : (hosts : Hosts) (env : told.Environment) (asked later : List HostPlace) (m new : Machine) (w : World) (now : List Mounted) (told_first pages es : List Entry) (refused : Bool) → false ≡ refused →
-    AreBroughtUp env m.names (labels_of m.labels) (map template_of m.templates.items) asked later m.world w m.pages.items now pages → new.names ≡ m.names → new.labels ≡ m.labels →
+    AreUpdated env m.names (labels_of m.labels) (map template_of m.templates.items) asked later m.world w m.pages.items now pages → new.names ≡ m.names → new.labels ≡ m.labels →
     new.world ≡ w → new.templates ≡ m.templates → new.pages.items ≡ now → es ≡ told_first ++ pages → IsSound hosts later w →
-    Steps hosts later new es (after_turns env refused (told (plain_of asked m) told_first))
+    Steps hosts later new es (after_turns env refused (reached (plain_of asked m) told_first))
 brought_steps hosts env asked later m new w now told_first pages es refused by up names labels world templates same is sound = record {
   step =
-      (λ i. told (record {
+      (λ i. reached (record {
         names = names i;
         labels = labels_of (labels i);
         world = whole_of later (world i);
         templates = (ap (λ v. map template_of v.items) templates) i;
         pages = map page_of (same i);
       }) (is i))
-      ∙ ap (λ (t : plain.Told). told t.machine (told_first ++ t.entries)) up.step
-      ∙ ap (λ (b : Bool). after_turns env b (told (plain_of asked m) told_first)) by;
+      ∙ ap (λ (t : plain.Told). reached t.machine (told_first ++ t.entries)) up.step
+      ∙ ap (λ (b : Bool). after_turns env b (reached (plain_of asked m) told_first)) by;
   sound = subst (IsSound hosts later) (sym world) sound;
 }
 
 -- turns, and then pages
 pub flush_steps : (hosts : Hosts) (env : told.Environment) (asked later last : List HostPlace) (m middle new : Machine) (told_first es : List Entry) (refused : Bool) →
     Steps hosts later middle told_first (acted_on_pages (plain_of asked m) (flush env (whole_of asked m.world)).world) →
-    refused ≡ (flush env (whole_of asked m.world)).refused → Steps hosts last new es (after_turns env refused (told (plain_of later middle) told_first)) →
+    refused ≡ (flush env (whole_of asked m.world)).refused → Steps hosts last new es (after_turns env refused (reached (plain_of later middle) told_first)) →
     Steps hosts last new es (flushing env (plain_of asked m))
 flush_steps hosts env asked later last m middle new told_first es refused first is second = record {
   step = second.step ∙ (λ i. after_turns env (is i) (first.step i));
@@ -95,7 +95,7 @@ pub mount_steps : (hosts : Hosts) (env : told.Environment) (asked later : List H
     new.pages.items ≡ m.pages.items ++ (record { name = n; number = id; template = t; page = page }) ∷ [] →
     Steps hosts later new es (mounted env (plain_of asked m) n t inside)
 mount_steps hosts env asked later m new w n t id inside page es up number whole sound names labels templates pages = record {
-  step = (λ i. told (record {
+  step = (λ i. reached (record {
     names = (names ∙ ap (λ (x : ℕ). m.names ++ (n, record { kind = kind.Page; number = x }) ∷ []) number) i;
     labels = (labels ∙ ap (λ (l : called.Labels). record l { pages = l.pages ++ n ∷ [] }) up.labels) i;
     world = (whole ∙ ap (λ (x : told.World). at_rest (with_new_page inside x)) up.world) i;
@@ -103,7 +103,7 @@ mount_steps hosts env asked later m new w n t id inside page es up number whole 
     pages = (ap (map page_of) pages ∙ map_append page_of m.pages.items ((record { name = n; number = id; template = t; page = page }) ∷ [])
         ∙ (λ j. map page_of m.pages.items ++ (record { name = n; number = number j; template = t; content = up.page j }) ∷ [])) i;
   }) ((up.told ∙ ap (λ (bs : List ℕ). (plain.settling env (plain_of asked m) (plain.template_reads env (plain_of asked m) t)).entries
-      ++ plain.ops_told n (plain.carried_on env (plain_of asked m) t bare).ops ++ entry.Page n bs ∷ []) (ap (λ p. html_of (tree_of p)) up.page)) i));
+      ++ plain.ops_told n (plain.update_of env (plain_of asked m) t bare).ops ++ entry.Page n bs ∷ []) (ap (λ p. html_of (tree_of p)) up.page)) i));
   sound = sound;
 }
 
@@ -148,7 +148,7 @@ pub scratch_steps : (hosts : Hosts) (env : told.Environment) (asked later : List
     es ≡ runs ++ entry.Scratch n bytes ∷ [] → IsSound hosts later w →
     Steps hosts later (record m { world = w }) es (plain.scratching env (plain_of asked m) n (plain.page_at (map page_of m.pages.items) k))
 scratch_steps hosts env asked later m w n k p bytes runs es found up is sound = record {
-  step = (λ i. told (record {
+  step = (λ i. reached (record {
     names = m.names;
     labels = up.labels i;
     world = up.world i;
@@ -164,6 +164,6 @@ pub unshown_steps : (hosts : Hosts) (env : told.Environment) (asked : List HostP
     plain.page_at (map page_of m.pages.items) k ≡ None → es ≡ entry.Scratch n [] ∷ [] → IsSound hosts asked m.world →
     Steps hosts asked m es (plain.scratching env (plain_of asked m) n (plain.page_at (map page_of m.pages.items) k))
 unshown_steps hosts env asked m n k es none is sound = record {
-  step = ap (λ (x : List Entry). told (plain_of asked m) x) is ∙ ap (plain.scratching env (plain_of asked m) n) (sym none);
+  step = ap (λ (x : List Entry). reached (plain_of asked m) x) is ∙ ap (plain.scratching env (plain_of asked m) n) (sym none);
   sound = sound;
 }

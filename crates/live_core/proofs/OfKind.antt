@@ -2,7 +2,7 @@
 use Rattle.std.proofs.Common.{◌≡◌, Bool, true, false, cond, not, Option, Some, None, refl, ap, ◌∙◌}
 use Rattle.std.specs.Option.{option_or}
 use Rattle.std.proofs.lemmas.Bool.{eq-eqb}
-use Rattle.signal_model.specs.Standing.{Signals, Cell, Computed, Stands, IsGone, IsCell, IsComputed, or_computed, is_computed, is_there, cell_at, computed_at, standing}
+use Rattle.signal_model.specs.Signals.{Signals, Cell, Computed, Stands, IsGone, IsCell, IsComputed, or_computed, is_computed, is_there, cell_at, computed_at, standing}
 use Rattle.signal_model.specs.Changes.{with_cell, with_computed}
 use Rattle.signal_laws.proofs.Shared.{SameKind, cell_append}
 use Rattle.sig_nodes.specs.States.{is_cell}
@@ -10,7 +10,7 @@ use Rattle.sig_effect.proofs.Shared.{computed_made}
 use Rattle.sig_effect.specs.Kinds.{IsKindOf}
 use Rattle.live_model.specs.declared.names.Kind.{Kind}
 use Rattle.live_model.specs.declared.names.Kind.TheVariants as kind
-use Rattle.live_core.specs.Keeping.{is_of_kind}
+use Rattle.live_core.specs.Consistency.{is_of_kind}
 
 -- what is gone is of any kind
 pub gone_kind : (k : Kind) → is_of_kind k IsGone ≡ true

@@ -2,9 +2,9 @@
 use Rattle.std.proofs.Common.{◌≡◌, ◌<◌, ℕ, not, Bool, true, false, cond, List, [], ◌∷◌, ◌++◌, map, Option, Some, None, refl, sym, ap, subst, ◌∙◌}
 use Rattle.std.specs.Option.{option_or, option_map_or}
 use Rattle.std.specs.List.{AllByRecursion}
-use Rattle.signal_model.specs.Standing.{is_in, is_there, standing}
+use Rattle.signal_model.specs.Signals.{is_in, is_there, standing}
 use Rattle.effect_model.specs.Worlds.{watcher_numbers}
-use Rattle.effect_tables.specs.Numbering.{living}
+use Rattle.effect_tables.specs.Owners.{living}
 use Rattle.effect_tables.specs.Placed.{is_open}
 use Rattle.sig_nodes.specs.States.{Seen, are_there, is_given}
 use Rattle.effect_world.specs.declared.world.World.{World}
@@ -17,11 +17,11 @@ use Rattle.live_model.specs.declared.names.Need.{Need}
 use Rattle.live_model.specs.declared.names.Need.TheVariants as need
 use Rattle.live_model.specs.Names.{Names, Use, first_refusal, is_gone, is_signal, meaning_of, meets, misuse, number_of, refusal_at, same_kind}
 use Rattle.live_model.specs.Uses.{uses_of, uses_of_inside, uses_of_signals}
-use Rattle.live_model.specs.Linking.{owner_of}
+use Rattle.live_model.specs.Links.{owner_of}
 use Rattle.live_cmd.specs.declared.command.Command.{Command}
 use Rattle.live_model.specs.Machine.{body_refusal, name_refusal}
 use Rattle.live_core.specs.declared.machine.Machine.{Machine}
-use Rattle.live_core.specs.Keeping.{is_of_kind, AreFine, AreMeant, IsMeant}
+use Rattle.live_core.specs.Consistency.{is_of_kind, AreFine, AreMeant, IsMeant}
 use Rattle.live_core.specs.Views.{plain_of}
 
 -- where neither answers

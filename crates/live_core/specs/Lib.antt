@@ -1,3 +1,3 @@
-pub mod Keeping
+pub mod Consistency
 pub mod Parts
 pub mod Views

@@ -4,14 +4,14 @@ ghost use Rattle.signal_model.specs.Recipes.{Hosts};
 ghost use Rattle.sig_host.specs.Hosts.{HostPlace, most_asked};
 ghost use Rattle.sig_nodes.specs.Answers.{mark_meant};
 ghost use Rattle.sig_effect.specs.declared.errors.EffectFault.TheVariants as fault;
-ghost use Rattle.sig_effect.specs.Agreeing.{environment};
-ghost use Rattle.effect_world.specs.Agreeing.{Agrees, IsSound};
-ghost use Rattle.effect_world.specs.Weighing.{weight};
+ghost use Rattle.sig_effect.specs.Stores.{environment};
+ghost use Rattle.effect_world.specs.Stores.{Agrees, IsSound};
+ghost use Rattle.effect_world.specs.Costs.{weight};
 ghost use Rattle.live_cmd.specs.declared.command.Command.TheVariants as command;
 ghost use Rattle.live_cmd.specs.declared.command.Verb.TheVariants as verb;
 ghost use Rattle.live_entries.specs.declared.entry.Entry.TheVariants as entry;
 ghost use Rattle.live_model.specs.Machine.{done, seen_of};
-ghost use Rattle.live_core.specs.Keeping.{AreFine, IsReady, Leaves, Steps};
+ghost use Rattle.live_core.specs.Consistency.{AreFine, IsReady, Leaves, Steps};
 ghost use Rattle.live_core.specs.Views.{plain_of};
 
 use crate::machine::Machine;

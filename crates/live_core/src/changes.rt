@@ -3,18 +3,18 @@ ghost use Rattle.std.specs.Prelude.{◌≡◌, ◌<◌, ◌≤◌, ◌^◌, ℕ,
 ghost use Rattle.signal_model.specs.Recipes.{Hosts};
 ghost use Rattle.sig_host.specs.Hosts.{HostPlace, most_asked};
 ghost use Rattle.sig_effect.specs.declared.errors.EffectFault.TheVariants as fault;
-ghost use Rattle.sig_effect.specs.Agreeing.{environment, AreRuled};
-ghost use Rattle.effect_world.specs.Agreeing.{Agrees, AreOwned, IsSound};
-ghost use Rattle.effect_world.specs.Weighing.{weight};
+ghost use Rattle.sig_effect.specs.Stores.{environment, AreRuled};
+ghost use Rattle.effect_world.specs.Stores.{Agrees, AreOwned, IsSound};
+ghost use Rattle.effect_world.specs.Costs.{weight};
 ghost use Rattle.effect_world.specs.Wholes.{whole_of};
 ghost use Rattle.live_cmd.specs.declared.command.Command.TheVariants as command;
 ghost use Rattle.live_cmd.specs.declared.command.Verb.TheVariants as verb;
 ghost use Rattle.live_model.specs.Machine.{done, host_refusal, row_refusal, unwatch_refusal};
-ghost use Rattle.live_model.specs.Reading.{IsReadSource};
-ghost use Rattle.live_core.specs.Keeping.{AreFine, IsReady, Leaves, Steps};
+ghost use Rattle.live_model.specs.Scripts.{IsReadSource};
+ghost use Rattle.live_core.specs.Consistency.{AreFine, IsReady, Leaves, Steps};
 ghost use Rattle.live_core.specs.Views.{plain_of};
 
-use crate::listing::edited_rows;
+use crate::lists::edited_rows;
 use crate::machine::Machine;
 use live_cmd::{NameList, RowEdit, SourceText};
 use live_entries::Entry;

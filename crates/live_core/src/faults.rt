@@ -2,15 +2,15 @@
 ghost use Rattle.std.specs.Prelude.{◌≡◌, ◌<◌, ◌+◌, ◌^◌, true, [], List, IfOk, IfErr, OnOk, length};
 ghost use Rattle.signal_model.specs.Recipes.{Hosts};
 ghost use Rattle.effect_model.specs.Commands.{with_new_effect, with_new_owner, with_new_page};
-ghost use Rattle.effect_tables.specs.Fitting.{IsFitting};
-ghost use Rattle.effect_tables.specs.Linking.{body_of};
-ghost use Rattle.effect_tables.specs.Numbering.{living};
+ghost use Rattle.effect_tables.specs.Scripts.{IsFitting};
+ghost use Rattle.effect_tables.specs.Bodies.{body_of};
+ghost use Rattle.effect_tables.specs.Owners.{living};
 ghost use Rattle.effect_tables.specs.Placed.{is_open};
 ghost use Rattle.sig_base.specs.declared.limits.TheConstants.{MOST_PAGES};
 ghost use Rattle.sig_owner.specs.declared.limits.TheConstants.{MOST_OWNERS};
 ghost use Rattle.sig_host.specs.Hosts.{HostPlace};
 ghost use Rattle.sig_effect.specs.declared.errors.EffectFault.TheVariants as fault;
-ghost use Rattle.effect_world.specs.Agreeing.{Agrees, AreOwned, Does, IsSound};
+ghost use Rattle.effect_world.specs.Stores.{Agrees, AreOwned, Does, IsSound};
 
 use effect_tables::Script;
 use effect_world::World;

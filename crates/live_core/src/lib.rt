@@ -2,14 +2,14 @@
 #![tactic(auto)]
 
 mod answers;
+mod bindings;
 mod changes;
+mod creation;
 mod faults;
-mod listing;
+mod items;
+mod lists;
 mod machine;
-mod makings;
-mod mounting;
-mod naming;
-mod performing;
+mod pages;
 
-pub use listing::edit_refusal;
+pub use lists::edit_refusal;
 pub use machine::Machine;

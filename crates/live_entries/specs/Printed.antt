@@ -1,7 +1,7 @@
 -- The lines in which entries are printed.
 use Rattle.std.specs.Prelude.{ℕ, Bool, true, false, List, [], ◌∷◌, ◌++◌, ◌&&◌, not, length, flat_map, codes, if◌then◌else◌}
 use Rattle.std.specs.Fmt.{decimal}
-use Rattle.sig_base.specs.Printing.{printed as printed_value, fault_name, quoted}
+use Rattle.sig_base.specs.Printer.{printed as printed_value, fault_name, quoted}
 use Rattle.sig_base.specs.declared.value.Fault.{Fault}
 use Rattle.sig_base.specs.declared.value.Outcome.{Outcome}
 use Rattle.sig_base.specs.declared.value.Outcome.TheVariants.{Good, Bad}

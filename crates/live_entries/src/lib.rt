@@ -5,11 +5,11 @@ mod entry;
 mod label;
 mod page;
 mod refusal;
-mod writing;
+mod writer;
 
 pub use entry::{Entry, Seen};
 pub use label::{ChildPath, Label};
 pub use line_forms::NameList;
 pub use page::{PageBytes, PageOp};
 pub use refusal::{FieldDetail, LimitWord, Refusal};
-pub use writing::entry_line;
+pub use writer::entry_line;

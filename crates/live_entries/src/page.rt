@@ -70,7 +70,7 @@ impl Drop for PageOp {
 impl Model for PageOp {
     ghost use Rattle.page_model.specs.Replay.{Op};
     ghost use Rattle.page_ops.specs.Ops.{op_of};
-    ghost use Rattle.live_entries.specs.Coding.{op_code};
+    ghost use Rattle.live_entries.specs.Codes.{op_code};
 
     ghost Value = { Op };
 

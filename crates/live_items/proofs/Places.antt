@@ -5,7 +5,7 @@ use Rattle.std.specs.List.{filter}
 use Rattle.std.proofs.lemmas.Bool.{lt-ltb}
 use Rattle.std.proofs.lemmas.List.{length-map}
 use Rattle.std.proofs.lemmas.List.Sums.{count_by-le-length, length-filter}
-use Rattle.sig_effect.specs.Agreeing.{AreNew}
+use Rattle.sig_effect.specs.Stores.{AreNew}
 use Rattle.effect_model.specs.Worlds as told
 use Rattle.effect_model.specs.Worlds.{HostState, unused, used, dropped}
 use Rattle.effect_model.specs.Acts.{is_free}

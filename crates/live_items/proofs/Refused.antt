@@ -23,7 +23,7 @@ use Rattle.live_model.specs.Uses.{uses_of, uses_of_body}
 use Rattle.live_model.specs.Machine as plain
 use Rattle.live_model.specs.Machine.{body_refusal, done, later_refusal, name_refusal, over_limit, place_refusal, refusal_of, refused, row_refusal, step, unwatch_refusal}
 use Rattle.live_core.specs.declared.machine.Machine.{Machine}
-use Rattle.live_core.specs.Keeping.{AreFine, Steps}
+use Rattle.live_core.specs.Consistency.{AreFine, Steps}
 use Rattle.live_core.specs.Views.{plain_of}
 use Rattle.live_core.proofs.Shared.{neither}
 

@@ -1,7 +1,7 @@
 //! One item after the other: refused, or done by the machine.
 #![tactic(auto)]
 
-mod acting;
+mod commands;
 mod live;
 mod refusals;
 

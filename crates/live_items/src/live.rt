@@ -3,13 +3,13 @@ ghost use Rattle.std.specs.Prelude.{◌≡◌, ◌+◌, ◌*◌, ◌≤◌, ◌<
 ghost use Rattle.signal_model.specs.Recipes.{Hosts};
 ghost use Rattle.effect_model.specs.Worlds.{Environment};
 ghost use Rattle.sig_host.specs.Hosts.{hosts_of};
-ghost use Rattle.sig_effect.specs.Agreeing.{environment};
-ghost use Rattle.effect_world.specs.Agreeing.{IsSound};
-ghost use Rattle.live_model.specs.Machine.{empty, step, told, Machine};
-ghost use Rattle.live_core.specs.Keeping.{IsKept, IsReadItem, SomeHosts};
+ghost use Rattle.sig_effect.specs.Stores.{environment};
+ghost use Rattle.effect_world.specs.Stores.{IsSound};
+ghost use Rattle.live_model.specs.Machine.{empty, step, reached, Machine};
+ghost use Rattle.live_core.specs.Consistency.{IsKept, IsReadItem, SomeHosts};
 ghost use Rattle.live_core.specs.Views.{plain_of};
 
-use crate::acting::act;
+use crate::commands::act;
 use live_cmd::Item;
 use live_entries::Entry;
 use sig_base::NoMemory;
@@ -111,7 +111,7 @@ impl Live {
         requires room { self.old.done < 2 ^ 23 }
         ensures step { (hosts : Hosts) → ⟦<Shelf as Lent>⟧.answers hosts self.old.shelf → ⟦<Live as Running>⟧.sound hosts self.old →
             IfOk result (λ es.
-            (told (⟦<Live as Running>⟧.machine self.new) es.items
+            (reached (⟦<Live as Running>⟧.machine self.new) es.items
             ≡ step (environment hosts (⟦<Live as Running>⟧.slacks self.old)) (⟦<Live as Running>⟧.machine self.old) item)
             × ⟦<Live as Running>⟧.sound hosts self.new × ⟦<Shelf as Lent>⟧.answers hosts self.new.shelf) }
         ensures kept { ⟦<Live as Running>⟧.kept self.new }

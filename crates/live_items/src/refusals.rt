@@ -2,7 +2,7 @@
 // would be too much of, and a signal that isn't watched.
 ghost use Rattle.std.specs.Prelude.{◌≡◌, ℕ, Bool, List, IfOk, length, map, slice_get};
 ghost use Rattle.std.specs.List.{filter};
-ghost use Rattle.effect_model.specs.Watching.{watches};
+ghost use Rattle.effect_model.specs.Watchers.{watches};
 ghost use Rattle.effect_tables.specs.Placed.{effect_of};
 ghost use Rattle.effect_world.specs.Wholes.{whole_of};
 ghost use Rattle.sig_effect.specs.Wholes.{host_states};

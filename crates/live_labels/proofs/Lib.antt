@@ -1,3 +1,3 @@
-mod Lasting
+mod Survivors
 mod Told
 pub mod Shared

@@ -1,7 +1,7 @@
 -- What is told of the events of a world, and what is called otherwise from then on.
 use Rattle.std.specs.Prelude.{List, ℕ, [], ◌∷◌, map}
 use Rattle.effect_model.specs.Worlds.{gone, made_child}
-use Rattle.effect_tables.specs.Linking.{thing_of}
+use Rattle.effect_tables.specs.Bodies.{thing_of}
 use Rattle.sig_computed.specs.Notes.{Note, note_of}
 use Rattle.sig_effect.specs.declared.events.Event.{Event as SignalEvent}
 use Rattle.sig_effect.specs.declared.events.Event.TheVariants as signals

@@ -1,10 +1,10 @@
 //! What things are called in what is told, and what is told of the events of a world.
 #![tactic(auto)]
 
-mod calling;
 mod labels;
-mod telling;
+mod names;
+mod report;
 
-pub use calling::{label_effect, named_count, names_of_signals};
 pub use labels::Labels;
-pub use telling::{tell_all, tell_runs};
+pub use names::{label_effect, named_count, names_of_signals};
+pub use report::{tell_all, tell_runs};

@@ -2,7 +2,7 @@
 use Rattle.std.proofs.Common.{◌≡◌, ℕ, Bool, true, false, cond, not, List, [], ◌∷◌, ◌++◌, map, Option, Some, None, refl, ap, ◌∙◌}
 use Rattle.std.specs.Prelude.{slice_get}
 use Rattle.std.specs.Option.{option_map_or, option_or}
-use Rattle.effect_model.specs.Owning.{the_signal, the_owner, the_effect, the_page, the_watcher}
+use Rattle.effect_model.specs.Owners.{the_signal, the_owner, the_effect, the_page, the_watcher}
 use Rattle.effect_model.specs.Worlds.{HostState, unused, used, dropped, Refused, host_taken, thing_gone, World, lives}
 use Rattle.effect_model.specs.Acts.{gone_refused, host_of, host_refused, is_free, some_gone}
 use Rattle.effect_model.specs.Commands.{inside_refused}
@@ -14,7 +14,7 @@ use Rattle.live_model.specs.declared.names.Kind.{Kind}
 use Rattle.live_model.specs.declared.names.Kind.TheVariants as kind
 use Rattle.live_model.specs.declared.names.Meaning.{Meaning}
 use Rattle.live_model.specs.declared.names.Need.TheVariants as need
-use Rattle.live_model.specs.Linking.{owner_of, recipe_of}
+use Rattle.live_model.specs.Links.{owner_of, recipe_of}
 use Rattle.live_model.specs.Machine.{host_refusal, taken_refusal}
 use Rattle.live_model.specs.Names.{Names, Use, first_refusal, meaning_of, misuse, number_of, refusal_at}
 use Rattle.live_model.specs.Uses.{uses_of_inside, uses_of_signals, uses_of_source}

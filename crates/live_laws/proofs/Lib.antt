@@ -1,5 +1,5 @@
 mod Fine
-mod Telling
+mod Entries
 mod Rests
-mod Happening
-mod Refusing
+mod Events
+mod Refusals

@@ -3,11 +3,11 @@ use Rattle.std.proofs.Common.{◌≡◌, ℕ, List, [], ◌∷◌, ◌++◌, app
 use Rattle.std.proofs.lemmas.List.{append-nil}
 use Rattle.effect_model.specs.Worlds.{Environment, World}
 use Rattle.effect_model.specs.Commands.{Command, after_command, after_commands, new_world}
-use Rattle.effect_laws.specs.Counting.{open_cleanups}
+use Rattle.effect_laws.specs.Rolls.{open_cleanups}
 use Rattle.effect_laws.specs.Ends.{AreInTime}
 use Rattle.effect_laws.proofs.Shared.{closing_law, end_law, host_law, silence_law}
 use Rattle.effect_tables.specs.Placed.{at_rest}
-use Rattle.effect_resting.specs.Resting.{AreBare, Rests}
+use Rattle.effect_resting.specs.Roots.{AreBare, Rests}
 use Rattle.effect_resting.proofs.Shared.{commands_rest}
 use Rattle.live_laws.specs.Rested.{AreAsked, AreEnds, rested_after, RestedLaw, told_by}
 

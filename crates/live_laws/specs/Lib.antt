@@ -1,3 +1,3 @@
-pub mod Happening
-pub mod Refusing
+pub mod Events
+pub mod Refusals
 pub mod Rested

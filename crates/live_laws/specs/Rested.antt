@@ -2,10 +2,10 @@
 use Rattle.std.specs.Prelude.{◌≡◌, ℕ, List, [], ◌∷◌, ◌++◌}
 use Rattle.std.specs.List.{AllByRecursion}
 use Rattle.signal_model.specs.Asks.{asks_of}
-use Rattle.effect_model.specs.Owning.{Thing}
+use Rattle.effect_model.specs.Owners.{Thing}
 use Rattle.effect_model.specs.Worlds.{Environment, Event, gone, World}
 use Rattle.effect_model.specs.Commands.{Command, after_command, new_world}
-use Rattle.effect_laws.specs.Counting.{open_cleanups}
+use Rattle.effect_laws.specs.Rolls.{open_cleanups}
 use Rattle.effect_laws.specs.Ends.{AreInTime, IsSilent}
 use Rattle.effect_laws.specs.HostUse.{Drop, drops_told}
 use Rattle.effect_laws.specs.KeptWorlds.{runs_told}

@@ -1,6 +1,6 @@
 // Laws of scripts, for all environments and all items.
-ghost use Rattle.live_laws.specs.Happening.{EndsLaw, HappensLaw, HostsLaw};
-ghost use Rattle.live_laws.specs.Refusing.{ChangeLaw, RefusedFlushLaw, RefusedLaw};
+ghost use Rattle.live_laws.specs.Events.{EndsLaw, HappensLaw, HostsLaw};
+ghost use Rattle.live_laws.specs.Refusals.{ChangeLaw, RefusedFlushLaw, RefusedLaw};
 
 /// Each item of a script does commands of the world, one after the other, and its entries tell what happens in them, in order, with
 /// answers between.

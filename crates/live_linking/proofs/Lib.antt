@@ -1,3 +1,3 @@
 mod Linked
-mod Fitting
+mod Links
 pub mod Shared

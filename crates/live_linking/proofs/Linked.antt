@@ -6,8 +6,8 @@ use Rattle.sig_untrack.specs.declared.body.Body.TheFolds.{fold_out-Body}
 use Rattle.sig_untrack.specs.Stated.{Bodies, Rewiring, before, before_step, bodies_before, no_bodies, rewiring}
 use Rattle.effect_tables.specs.declared.links.Links.{Links}
 use Rattle.effect_tables.specs.declared.links.Target.{Target}
-use Rattle.effect_tables.specs.Linking.{Linking, all_before, links, links_before, no_links}
-use Rattle.live_model.specs.Linking.{links_of, target_named}
+use Rattle.effect_tables.specs.Bodies.{Linking, all_before, links, links_before, no_links}
+use Rattle.live_model.specs.Links.{links_of, target_named}
 use Rattle.live_model.specs.Names.{Names, number_of}
 
 -- links put last are those before the others

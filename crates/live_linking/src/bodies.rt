@@ -2,8 +2,8 @@
 ghost use Rattle.std.specs.Prelude.{◌≡◌, IfOk, map, if◌then◌else◌};
 ghost use Rattle.sig_untrack.specs.Stated.{before, rewiring, Bodies};
 ghost use Rattle.effect_tables.specs.declared.links.Target.TheVariants as target;
-ghost use Rattle.effect_tables.specs.Linking.{links_before};
-ghost use Rattle.live_model.specs.Linking.{links_of, target_named, thing_meant, thing_or_none};
+ghost use Rattle.effect_tables.specs.Bodies.{links_before};
+ghost use Rattle.live_model.specs.Links.{links_of, target_named, thing_meant, thing_or_none};
 ghost use Rattle.live_model.specs.Names.{number_of};
 
 use crate::sources::signals_of;

@@ -2,7 +2,7 @@
 ghost use Rattle.std.specs.Prelude.{◌≡◌, IfOk, map};
 ghost use Rattle.sig_nodes.specs.Answers.{expression_of};
 ghost use Rattle.sig_nodes.specs.Computations.{recipe_made};
-ghost use Rattle.live_model.specs.Linking.{owner_of, recipe_of};
+ghost use Rattle.live_model.specs.Links.{owner_of, recipe_of};
 ghost use Rattle.live_model.specs.Names.{number_of};
 
 use live_cmd::SourceText;

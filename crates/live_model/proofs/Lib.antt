@@ -1,6 +1,6 @@
-mod Fitting
+mod Bodies
 mod NewRows
 mod ReadBodies
 mod Readable
-mod Showing
+mod Html
 pub mod Shared

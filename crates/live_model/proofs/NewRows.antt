@@ -13,7 +13,7 @@ use Rattle.sig_base.specs.declared.limits.TheConstants.{MOST_FIELDS}
 use Rattle.sig_base.specs.declared.rows.Row.{Row}
 use Rattle.line_forms.specs.Forms.{are_distinct}
 use Rattle.live_cmd.specs.Grammar.{are_fields, is_field}
-use Rattle.live_model.specs.Reading.{is_list}
+use Rattle.live_model.specs.Scripts.{is_list}
 
 -- what is not so isn't
 unsaid : (b : Bool) → not b ≡ true → b ≡ false

@@ -10,19 +10,19 @@ use Rattle.sig_base.specs.declared.limits.TheConstants.{MOST_HEIGHT, MOST_SOURCE
 use Rattle.sig_untrack.specs.Stated.{Bodies}
 use Rattle.formula_text.specs.declared.wired.FormulaFault.{FormulaFault}
 use Rattle.formula_text.specs.declared.wired.FormulaFault.TheVariants as fault
-use Rattle.formula_text.specs.Judging.{has_long_text, has_untrack, is_above, names, needs_row}
+use Rattle.formula_text.specs.Refusals.{has_long_text, has_untrack, is_above, names, needs_row}
 use Rattle.script_lines.specs.Lines.{NumberedLine}
 use Rattle.body_text.specs.declared.fault.BodyFault.{BodyFault}
 use Rattle.body_text.specs.declared.judge.TheConstants.{MOST_BODY_LINES}
 use Rattle.line_forms.specs.Forms.{Args}
 use Rattle.body_text.specs.declared.line.LineKind.TheVariants as kind
-use Rattle.body_text.specs.Grammar.{Row, row, line_of, set, rewire, host}
-use Rattle.body_text.specs.Judging.{excess, fault_at, fault_of, first_excess, first_misplaced, judged, judged_at, many_lines, misplacing, refusal_of}
+use Rattle.body_text.specs.Grammar.{Row, row, said_line, set, rewire, host}
+use Rattle.body_text.specs.Refusals.{excess, fault_at, fault_of, first_excess, first_misplaced, judged, judged_at, many_lines, misplacing, refusal_of}
 use Rattle.body_text.specs.Places.{kind_of, moved}
-use Rattle.body_text.specs.Readings.{Answer, IsRead, Sayings, faulty, unended, says, said_lines, unless_refused}
+use Rattle.body_text.specs.Verdicts.{Answer, IsRead, Sayings, faulty, unended, says, said_lines, unless_refused}
 use Rattle.body_text.specs.Statements.{Statements, body_of, lines_of}
 use Rattle.live_model.specs.Uses.{count_in_bodies, is_fit}
-use Rattle.live_model.proofs.Fitting.{IsFewLine, all_linked, few_in_body}
+use Rattle.live_model.proofs.Bodies.{IsFewLine, all_linked, few_in_body}
 
 -- ---- what isn't refused
 
@@ -36,15 +36,15 @@ none_of f None e = refl
 none_of f (Some x) e = absurd cc
 
 -- what a formula is refused for that may read without tracking and is given no row, by what is so of it
-abbrev told : Bool → Bool → Bool → Bool → Bool → Option FormulaFault
-told untracks row high long many =
+abbrev fault_by : Bool → Bool → Bool → Bool → Bool → Option FormulaFault
+fault_by untracks row high long many =
     cond (untracks && not true) (Some fault.UntrackHere)
     (cond (row && not false) (Some fault.ItHere)
     (cond high (Some fault.Nest) (cond long (Some fault.TextLong) (cond many (Some fault.Sources) None))))
 
 -- one for which its line isn't refused has few names
-few_told : (depth : ℕ) (u r h l m : Bool) → misplacing depth kind.Plain (option_or (told u r h l m) None) ≡ None
-    → excess (option_or (told u r h l m) None) ≡ None → m ≡ false
+few_told : (depth : ℕ) (u r h l m : Bool) → misplacing depth kind.Plain (option_or (fault_by u r h l m) None) ≡ None
+    → excess (option_or (fault_by u r h l m) None) ≡ None → m ≡ false
 few_told depth u r h l false a b = refl
 few_told depth true true h l true a b = absurd cc
 few_told depth false true h l true a b = absurd cc
@@ -61,8 +61,8 @@ few_arguments false e = refl
 few_arguments true e = absurd cc
 
 -- a line that isn't refused
-few_said : (depth : ℕ) (r : Row) (t : Args (row r).1) → misplacing depth (kind_of (line_of (r, t))) (fault_of (r, t)) ≡ None
-    → excess (fault_of (r, t)) ≡ None → IsFewLine (line_of (r, t))
+few_said : (depth : ℕ) (r : Row) (t : Args (row r).1) → misplacing depth (kind_of (said_line (r, t))) (fault_of (r, t)) ≡ None
+    → excess (fault_of (r, t)) ≡ None → IsFewLine (said_line (r, t))
 few_said depth rewire (n, (x, tt)) a b =
     few_told depth (has_untrack x) (needs_row x) (is_above MOST_HEIGHT x) (has_long_text x) (nat_lt MOST_SOURCES (length (names x))) a b
 few_said depth host (n, (k, (ns, tt))) a b = few_arguments (nat_lt MOST_SOURCES (length ns)) b
@@ -73,8 +73,8 @@ all_few : (depth : ℕ) (xs : Sayings) → first_misplaced (judged depth xs) ≡
     → AllByRecursion IsFewLine (said_lines xs)
 all_few depth [] a b = tt
 all_few depth (x ∷ xs) a b =
-    let j = judged_at depth x.0 (kind_of (line_of x.1)) (fault_of x.1) in
-    let next = moved depth (kind_of (line_of x.1)) in
+    let j = judged_at depth x.0 (kind_of (said_line x.1)) (fault_of x.1) in
+    let next = moved depth (kind_of (said_line x.1)) in
     let c = neither (option_map (fault_at x.0) j.misplaced) (first_misplaced (judged next xs)) a in
     let d = neither (option_map (fault_at x.0) j.excess) (first_excess (judged next xs)) b in
     (few_said depth x.1.0 x.1.1 (none_of (fault_at x.0) j.misplaced c.0) (none_of (fault_at x.0) j.excess d.0), all_few next xs c.1 d.1)
@@ -83,7 +83,7 @@ all_few depth (x ∷ xs) a b =
 
 judged_count : (depth : ℕ) (xs : Sayings) → length (judged depth xs) ≡ length xs
 judged_count depth [] = refl
-judged_count depth (x ∷ xs) = let rest = judged_count (moved depth (kind_of (line_of x.1))) xs in omega (arith, rest)
+judged_count depth (x ∷ xs) = let rest = judged_count (moved depth (kind_of (said_line x.1))) xs in omega (arith, rest)
 
 not_many : (m : Bool) (f : BodyFault) → cond m (Some f) None ≡ None → m ≡ false
 not_many false f e = refl
@@ -100,7 +100,7 @@ fit_body xs s same e =
     let few = subst (AllByRecursion IsFewLine) same (all_few 0 xs a.0 b.0) in
     let short = not_many (nat_lt MOST_BODY_LINES (length (judged 0 xs))) _ b.1 in
     let count = judged_count 0 xs in
-    let lines : length xs ≡ length (lines_of s) = sym (length-map xs (λ x. line_of x.1)) ∙ ap length same in
+    let lines : length xs ≡ length (lines_of s) = sym (length-map xs (λ x. said_line x.1)) ∙ ap length same in
     let least = few_in_body s in
     and_from _ _ (all_linked s few) (fewer MOST_BODY_LINES (length (judged 0 xs)) (count_in_bodies (body_of s)) short (omega (arith, count, lines, least)))
 

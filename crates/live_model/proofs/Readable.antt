@@ -11,7 +11,7 @@ use Rattle.script_lines.specs.Lines.{NumberedLine}
 use Rattle.script_lines.specs.Pieces.{Piece}
 use Rattle.body_text.specs.declared.fault.BodyWhy.{BodyWhy}
 use Rattle.body_text.specs.declared.fault.BodyWhy.TheVariants as unbodied
-use Rattle.body_text.specs.Readings as bodies
+use Rattle.body_text.specs.Verdicts as bodies
 use Rattle.tpl_blocks.proofs.Shared.{read_law}
 use Rattle.tpl_syntax.specs.declared.fault.TemplateWhy.{TemplateWhy}
 use Rattle.tpl_syntax.specs.declared.fault.TemplateWhy.TheVariants as unread
@@ -24,11 +24,11 @@ use Rattle.live_cmd.specs.declared.contents.Content.TheVariants as content
 use Rattle.live_cmd.specs.declared.line.Line.{Line}
 use Rattle.live_cmd.specs.declared.line.Line.TheVariants as line
 use Rattle.live_cmd.specs.Blocks.{block_item, body_refused, effect_content, template_content, template_refused, IsContentOf}
-use Rattle.live_cmd.specs.Grammar.{Row, row, line_of, list, computed_host, rewire_host, effect, template, close}
+use Rattle.live_cmd.specs.Grammar.{Row, row, said_line, list, computed_host, rewire_host, effect, template, close}
 use Rattle.live_cmd.specs.Items.{command_of, first_line, has_many_fields, is_alone, item_or, IsItem, long, unended, block, faulty, says}
-use Rattle.live_cmd.specs.Judging.{fault_of, refused_for}
+use Rattle.live_cmd.specs.Refusals.{fault_of, refused_for}
 use Rattle.live_entries.specs.declared.refusal.Refusal.{Refusal}
-use Rattle.live_model.specs.Reading.{IsReadable, IsReadItem}
+use Rattle.live_model.specs.Scripts.{IsReadable, IsReadItem}
 use Rattle.live_model.proofs.ReadBodies.{body_read}
 
 -- what a line makes by itself, if it has not too many fields
@@ -45,7 +45,7 @@ few_arguments ns e = at (nat_lt MOST_SOURCES (length ns)) refl e
     at false is h = ltb-false MOST_SOURCES (length ns) is
 
 -- what a line says that is a command by itself and has nothing wrong with it
-line_read : (r : Row) (a : Args (row r).1) → is_alone (r, a) ≡ true → fault_of (r, a) ≡ None → IsReadLine (line_of (r, a))
+line_read : (r : Row) (a : Args (row r).1) → is_alone (r, a) ≡ true → fault_of (r, a) ≡ None → IsReadLine (said_line (r, a))
 line_read list a alone e = λ few. and_from _ _ alone (ap not few)
 line_read computed_host a alone e = λ few. few_arguments a.1.1.0 e
 line_read rewire_host a alone e = λ few. few_arguments a.1.1.0 e
@@ -126,4 +126,4 @@ item_read p _ (block b c a d is) = block_read b.ends b.last.0 c (content_read b.
 item_read p _ (faulty a b d none) = tt
 item_read p _ (says x a b w alone) =
     let number = (first_line p.lines).0 in
-    unless_read number (fault_of x) (item_or number (command_of (line_of x))) (λ sound. or_read number (line_of x) (line_read x.0 x.1 alone sound))
+    unless_read number (fault_of x) (item_or number (command_of (said_line x))) (λ sound. or_read number (said_line x) (line_read x.0 x.1 alone sound))

@@ -6,7 +6,7 @@ use Rattle.sig_base.specs.declared.scalar.Scalar.TheVariants as scalar
 use Rattle.sig_base.specs.declared.value.Outcome.TheVariants.{Good, Bad}
 use Rattle.sig_base.specs.declared.value.Value.TheVariants as value
 use Rattle.sig_base.specs.declared.value.Fault.TheVariants as fault
-use Rattle.sig_formula.specs.Answering.{answer_of}
+use Rattle.sig_formula.specs.Evaluation.{answer_of}
 use Rattle.sig_formula.specs.declared.formula.BinOp.TheVariants.{Add, Mul}
 use Rattle.sig_formula.specs.Trees.{Tree, literal, slot, binary, choice}
 use Rattle.tpl_syntax.specs.declared.line.Line.{Line}

@@ -1,7 +1,7 @@
 -- What things are called in what is told.
 use Rattle.std.specs.Prelude.{ℕ, ◌==◌, Bool, List, [], ◌∷◌, ◌++◌, Option, Some, None, length, slice_get, unwrap_or, codes, cond, if◌then◌else◌}
 use Rattle.std.specs.List.{filter}
-use Rattle.effect_model.specs.Owning.{Thing, the_signal, the_owner, the_effect, the_page, the_watcher}
+use Rattle.effect_model.specs.Owners.{Thing, the_signal, the_owner, the_effect, the_page, the_watcher}
 use Rattle.effect_model.specs.Worlds.{Effect, Event, gone, made_child}
 use Rattle.live_entries.specs.declared.label.Label.{Label}
 

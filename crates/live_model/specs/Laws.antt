@@ -1,7 +1,7 @@
 -- What holds of the pages of the machine.
 use Rattle.std.specs.Prelude.{◌≡◌, false}
 use Rattle.std.specs.List.{AllByRecursion}
-use Rattle.effect_model.specs.Running.{flush}
+use Rattle.effect_model.specs.Runs.{flush}
 use Rattle.effect_model.specs.Worlds.{Environment}
 use Rattle.page_model.specs.Forest.{Forest}
 use Rattle.page_model.specs.Html.{html_of}

@@ -1,10 +1,10 @@
 pub mod Labels
-pub mod Linking
+pub mod Links
 pub mod Machine
 pub mod Names
 pub mod Output
 pub mod Pages
-pub mod Reading
+pub mod Scripts
 pub mod Rows
 pub mod Laws
 pub mod Uses

@@ -9,7 +9,7 @@ use Rattle.sig_base.specs.declared.value.Value.TheVariants as value
 use Rattle.page_model.specs.Pages.{NumberedPage, bare}
 use Rattle.page_model.specs.Replay.{Op}
 use Rattle.tpl_model.specs.Updates.{Updated, updated}
-use Rattle.signal_model.specs.Standing.{is_in}
+use Rattle.signal_model.specs.Signals.{is_in}
 use Rattle.signal_model.specs.Changes.{live_count}
 use Rattle.signal_model.specs.Values.{value_of}
 use Rattle.signal_model.specs.Memos.{sources_of, source_names}
@@ -17,15 +17,15 @@ use Rattle.signal_model.specs.Settling.{Run}
 use Rattle.signal_model.specs.Marks as marks
 use Rattle.signal_model.specs.Marks.{Mark, mark_of}
 use Rattle.signal_model.specs.Sound.{names_of}
-use Rattle.effect_model.specs.Owning.{Thing, the_effect}
+use Rattle.effect_model.specs.Owners.{Thing, the_effect}
 use Rattle.effect_model.specs.Worlds.{Environment, HostState, unused, Refused, thing_gone, host_taken, still_due, Event, ran, notified, frozen, logged}
 use Rattle.effect_model.specs.Worlds.{body_ran, failed, cleaned, gone, dropped_host, World, settle}
 use Rattle.effect_model.specs.Worlds as worlds
 use Rattle.effect_model.specs.Acts.{set_cell, host_of, with_use, rewire_signal, forget, dispose_thing}
 use Rattle.effect_model.specs.Commands.{new_world, with_new_cell, with_new_computed, with_new_owner, with_new_effect, with_new_page, with_new_watcher}
 use Rattle.effect_model.specs.Commands.{armed, changed_watcher}
-use Rattle.effect_model.specs.Running.{flush}
-use Rattle.effect_model.specs.Watching.{signals_at, watches, pending_of}
+use Rattle.effect_model.specs.Runs.{flush}
+use Rattle.effect_model.specs.Watchers.{signals_at, watches, pending_of}
 use Rattle.effect_model.specs.declared.limits.TheConstants.{MOST_WATCHERS}
 use Rattle.sig_owner.specs.declared.limits.TheConstants.{MOST_OWNERS}
 use Rattle.sig_untrack.specs.Stated.{Bodies}
@@ -54,7 +54,7 @@ use Rattle.live_entries.specs.declared.refusal.Refusal.TheVariants as refusal
 use Rattle.live_model.specs.declared.names.Kind.{Kind}
 use Rattle.live_model.specs.declared.names.Kind.TheVariants as kind
 use Rattle.live_model.specs.Labels.{Labels, no_labels, name_at, named as a_label, label_at, label_of, with_label, relabelled, labels_after, named_count}
-use Rattle.live_model.specs.Linking.{recipe_of, owner_of, linked_body, linked_template}
+use Rattle.live_model.specs.Links.{recipe_of, owner_of, linked_body, linked_template}
 use Rattle.live_model.specs.Names.{Names, meaning_of, number_of, thing_named, first_refusal, first_within}
 use Rattle.live_model.specs.Pages.{Template, template_in, Page, page_html, scratch_html, asked_of}
 use Rattle.live_model.specs.Rows.{edited, edit_refusal, no_rows, rows_at}
@@ -79,8 +79,8 @@ pub record Told : Type 0 where
   pub entries : List Entry
 
 -- this machine, and these entries on the way to it
-abbrev pub told : Machine → List Entry → Told
-told m es = record { machine = m; entries = es }
+abbrev pub reached : Machine → List Entry → Told
+reached m es = record { machine = m; entries = es }
 
 -- the template of a number
 abbrev pub template_at : Machine → ℕ → Template
@@ -125,7 +125,7 @@ entries_of labels (e ∷ es) = event_entries labels e ++ entries_of (relabelled 
 
 -- the world has come to this, and what happened on the way is told
 abbrev pub acted : Machine → World → Told
-acted m w = told (record m { labels = labels_after w.told m.labels; world = at_rest w }) (entries_of m.labels w.told)
+acted m w = reached (record m { labels = labels_after w.told m.labels; world = at_rest w }) (entries_of m.labels w.told)
 
 -- names are settled, and their runs are told
 abbrev pub settling : Environment → Machine → List ℕ → Told
@@ -137,7 +137,7 @@ with_live_pages m = record m { pages = filter (λ (p : Page). is_in p.number m.w
 
 -- the same, where pages may have ended on the way
 abbrev pub acted_on_pages : Machine → World → Told
-acted_on_pages m w = let t = acted m w in told (with_live_pages t.machine) t.entries
+acted_on_pages m w = let t = acted m w in reached (with_live_pages t.machine) t.entries
 
 -- ---- making
 
@@ -186,8 +186,8 @@ abbrev pub template_reads : Environment → Machine → ℕ → List ℕ
 template_reads env m t = asked_of env.hosts m.world.signals (template_at m t)
 
 -- what a page of a template comes to: its nodes of now, and the operations that lead to them
-abbrev pub carried_on : Environment → Machine → ℕ → NumberedPage → Updated
-carried_on env m t old = let x = template_at m t in updated env.hosts m.world.signals x.lines x.links m.world.memos old
+abbrev pub update_of : Environment → Machine → ℕ → NumberedPage → Updated
+update_of env m t old = let x = template_at m t in updated env.hosts m.world.signals x.lines x.links m.world.memos old
 
 -- operations on a page, one after the other
 abbrev pub ops_told : List ℕ → List Op → List Entry
@@ -199,18 +199,18 @@ news_of p [] = []
 news_of p (o ∷ ops) = ops_told p.name (o ∷ ops) ++ entry.Page p.name (page_html p) ∷ []
 
 -- a page brought up to date
-abbrev pub brought_up : Environment → Machine → Page → Page
-brought_up env m p = record p { content = (carried_on env m p.template p.content).page }
+abbrev pub updated_page : Environment → Machine → Page → Page
+updated_page env m p = record p { content = (update_of env m p.template p.content).page }
 
 -- Pages are brought up to date, in order: what each reads is settled, with the runs told, and then it is told itself. Those that were
 -- are put behind the others.
 abbrev pub update_all : Environment → List Page → Machine → Told
-update_all env [] m = told m []
+update_all env [] m = reached m []
 update_all env (p ∷ ps) m =
     let s = settling env m (template_reads env m p.template) in
-    let now = brought_up env m p in
+    let now = updated_page env m p in
     let rest = update_all env ps (record (s.machine) { pages = m.pages ++ now ∷ [] }) in
-    told rest.machine (s.entries ++ news_of now (carried_on env m p.template p.content).ops ++ rest.entries)
+    reached rest.machine (s.entries ++ news_of now (update_of env m p.template p.content).ops ++ rest.entries)
 
 -- the page of a number
 abbrev pub page_at : List Page → ℕ → Option Page
@@ -231,19 +231,19 @@ with_page m p inside =
 abbrev pub mounted : Environment → Machine → List ℕ → ℕ → Option ℕ → Told
 mounted env m n t inside =
     let s = settling env m (template_reads env m t) in
-    let u = carried_on env m t bare in
+    let u = update_of env m t bare in
     let p : Page = record { name = n; number = m.world.made.pages; template = t; content = u.page } in
-    told (with_page s.machine p inside) (s.entries ++ ops_told n u.ops ++ entry.Page n (page_html p) ∷ [])
+    reached (with_page s.machine p inside) (s.entries ++ ops_told n u.ops ++ entry.Page n (page_html p) ∷ [])
 
 -- what a page's template shows from scratch is told, with the runs of what it reads; the page stays as it is
 abbrev pub from_scratch : Environment → Machine → List ℕ → ℕ → Told
 from_scratch env m n t =
     let s = settling env m (template_reads env m t) in
-    told s.machine (s.entries ++ entry.Scratch n (scratch_html env.hosts m.world.signals (template_at m t)) ∷ [])
+    reached s.machine (s.entries ++ entry.Scratch n (scratch_html env.hosts m.world.signals (template_at m t)) ∷ [])
 
 -- so it is with a page's template, and nothing is shown where no page lives
 abbrev pub scratching : Environment → Machine → List ℕ → Option Page → Told
-scratching env m n None = told m (entry.Scratch n [] ∷ [])
+scratching env m n None = reached m (entry.Scratch n [] ∷ [])
 scratching env m n (Some p) = from_scratch env m n p.template
 
 -- ---- what commands do
@@ -264,25 +264,25 @@ pending_labels m i = map (name_at m.labels.signals) (pending_of m.world.signals 
 
 -- a thing is disposed
 abbrev pub disposing : Environment → Machine → Option Thing → Told
-disposing env m None = told m []
+disposing env m None = reached m []
 disposing env m (Some t) = acted_on_pages m (dispose_thing env t m.world)
 
 -- what a verb does to what has this name and this number
 abbrev pub named : Environment → Machine → Verb → List ℕ → ℕ → Told
 named env m verb.Get n i =
-    let s = settling env m (i ∷ []) in told s.machine (s.entries ++ entry.Outcome n (value_of env.hosts m.world.signals i []) ∷ [])
-named env m verb.State n i = told m (entry.State n (seen_of (mark_of m.world.signals m.world.memos i)) ∷ [])
-named env m verb.Sources n i = told m (entry.Sources n (source_labels m i) ∷ [])
-named env m verb.Pending n i = told m (entry.Pending n (pending_labels m i) ∷ [])
-named env m verb.Show n i = told m (entry.Page n (shown_of m i) ∷ [])
+    let s = settling env m (i ∷ []) in reached s.machine (s.entries ++ entry.Outcome n (value_of env.hosts m.world.signals i []) ∷ [])
+named env m verb.State n i = reached m (entry.State n (seen_of (mark_of m.world.signals m.world.memos i)) ∷ [])
+named env m verb.Sources n i = reached m (entry.Sources n (source_labels m i) ∷ [])
+named env m verb.Pending n i = reached m (entry.Pending n (pending_labels m i) ∷ [])
+named env m verb.Show n i = reached m (entry.Page n (shown_of m i) ∷ [])
 named env m verb.Scratch n i = scratching env m n (page_at m.pages i)
 named env m verb.Dispose n i = disposing env m (thing_named (meaning_of m.names n))
 
 -- after the turns of a flush, which may have refused it, the pages are brought up to date
 abbrev pub after_turns : Environment → Bool → Told → Told
-after_turns env true t = told t.machine (t.entries ++ entry.Error refusal.Turns ∷ [])
+after_turns env true t = reached t.machine (t.entries ++ entry.Error refusal.Turns ∷ [])
 after_turns env false t =
-    let pages = update_all env t.machine.pages (record (t.machine) { pages = [] }) in told pages.machine (t.entries ++ pages.entries)
+    let pages = update_all env t.machine.pages (record (t.machine) { pages = [] }) in reached pages.machine (t.entries ++ pages.entries)
 
 -- effects run in turns, and then the pages that live are brought up to date; a refused flush leaves them as they were
 abbrev pub flushing : Environment → Machine → Told
@@ -299,23 +299,23 @@ editing env m i e = acted m (set_cell env i (value.Rows (edited e (rows_at m.wor
 -- what a command does that isn't refused
 abbrev pub done : Environment → Machine → Command → Told
 done env m (command.Cell n v equals inside) =
-    told (with_signal m n kind.Cell (with_new_cell (scalar_value v) equals (owner_of m.names inside) m.world)) []
+    reached (with_signal m n kind.Cell (with_new_cell (scalar_value v) equals (owner_of m.names inside) m.world)) []
 done env m (command.List n fields inside) =
-    told (with_signal m n kind.List (with_new_cell (value.Rows (no_rows fields)) None (owner_of m.names inside) m.world)) []
+    reached (with_signal m n kind.List (with_new_cell (value.Rows (no_rows fields)) None (owner_of m.names inside) m.world)) []
 done env m (command.Edit n e) = editing env m (number_of m.names n) e
 done env m (command.Set n v) = acted m (set_cell env (number_of m.names n) (scalar_value v) m.world)
 done env m (command.Computed n s inside) =
     let r = recipe_of m.names s in
-    told (with_signal m n kind.Computed (with_use (host_of r.expression) (with_new_computed r (owner_of m.names inside) m.world))) []
+    reached (with_signal m n kind.Computed (with_use (host_of r.expression) (with_new_computed r (owner_of m.names inside) m.world))) []
 done env m (command.Rewire n s) = acted m (rewire_signal (number_of m.names n) (recipe_of m.names s) m.world)
-done env m (command.Owner n inside) = told (with_owner m n (owner_of m.names inside)) []
-done env m (command.Watcher n tries) = told (with_watcher m n (is_trying tries)) []
+done env m (command.Owner n inside) = reached (with_owner m n (owner_of m.names inside)) []
+done env m (command.Watcher n tries) = reached (with_watcher m n (is_trying tries)) []
 done env m (command.Watch n signals) = acted m (changed_watcher (number_of m.names n) (armed (map (number_of m.names) signals)) m.world)
 done env m (command.Unwatch n s) = acted m (changed_watcher (number_of m.names n) (forget (number_of m.names s)) m.world)
 done env m (command.Named v n) = named env m v n (number_of m.names n)
-done env m (command.Effect n b inside) = told (with_effect m n b (owner_of m.names inside)) []
+done env m (command.Effect n b inside) = reached (with_effect m n b (owner_of m.names inside)) []
 done env m (command.Template n t) =
-    told (with_name (record m { templates = m.templates ++ linked_template m.names t ∷ [] }) n kind.Template (length m.templates)) []
+    reached (with_name (record m { templates = m.templates ++ linked_template m.names t ∷ [] }) n kind.Template (length m.templates)) []
 done env m (command.Mount n t inside) = mounted env m n (number_of m.names t) (owner_of m.names inside)
 done env m (command.Bare b) = done_alone env m b
 
@@ -399,7 +399,7 @@ refusal_of slacks m c = option_or (name_refusal m c) (later_refusal slacks m c)
 
 -- a refusal is told and changes nothing
 abbrev pub refused : Machine → Refusal → Told
-refused m r = told m (entry.Error r ∷ [])
+refused m r = reached m (entry.Error r ∷ [])
 
 -- one step of the machine
 abbrev pub step : Environment → Machine → Item → Told

@@ -1,7 +1,7 @@
 -- Templates whose names stand for signals, the pages made from them, and what these show.
 use Rattle.std.specs.Prelude.{ℕ, List, [], slice_get, unwrap_or}
 use Rattle.signal_model.specs.Recipes.{Hosts}
-use Rattle.signal_model.specs.Standing.{Signals}
+use Rattle.signal_model.specs.Signals.{Signals}
 use Rattle.page_model.specs.Html.{html_of}
 use Rattle.page_model.specs.Labels.{shown}
 use Rattle.page_model.specs.Pages.{NumberedPage, tree_of}

@@ -7,7 +7,7 @@ use Rattle.sig_rows.specs.declared.fault.RowFault.{RowFault}
 use Rattle.sig_rows.specs.declared.fault.RowFault.TheVariants as fault
 use Rattle.sig_rows.specs.Edits.{changed, field_place, moved, with_row, without}
 use Rattle.sig_rows.specs.Faults.{insert_fault, move_fault, put_fault, remove_fault}
-use Rattle.signal_model.specs.Standing.{Signals, Stands, IsCell, standing}
+use Rattle.signal_model.specs.Signals.{Signals, Stands, IsCell, standing}
 use Rattle.live_cmd.specs.declared.command.RowEdit.{RowEdit}
 use Rattle.live_cmd.specs.declared.command.RowEdit.TheVariants as edit
 use Rattle.live_entries.specs.declared.refusal.FieldDetail.{FieldDetail}

@@ -4,11 +4,11 @@ use Rattle.std.specs.Prelude.{Option, Some, None}
 use Rattle.std.specs.List.{list_all}
 use Rattle.sig_base.specs.declared.limits.TheConstants.{MOST_SOURCES}
 use Rattle.sig_formula.specs.Trees.{Tree, literal, slot, row_field, row_key, negation, binary, choice, count_of, sum_of, rows_where, untracked}
-use Rattle.formula_text.specs.Wiring.{Wiring}
+use Rattle.formula_text.specs.Slots.{Wiring}
 use Rattle.effect_model.specs.declared.plain.Plain.{Plain}
 use Rattle.effect_model.specs.declared.plain.Plain.TheVariants as p
 use Rattle.effect_model.specs.Lines.{formula_of, target_of}
-use Rattle.effect_tables.specs.Fitting as fitting
+use Rattle.effect_tables.specs.Scripts as fitting
 use Rattle.sig_untrack.specs.Stated as stated
 use Rattle.sig_untrack.specs.Stated.{Stated, Source, Rewiring, Bodies, no_bodies, body}
 use Rattle.body_text.specs.declared.judge.TheConstants.{MOST_BODY_LINES}

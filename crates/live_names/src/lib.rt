@@ -1,9 +1,9 @@
 //! The names of a script: what they stand for, and why one is refused at its place.
 #![tactic(auto)]
 
-mod living;
+mod life;
 mod names;
-mod refusing;
+mod refusals;
 
-pub use living::{is_page_among, lives};
+pub use life::{is_page_among, lives};
 pub use names::Names;

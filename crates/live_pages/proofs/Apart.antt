@@ -2,8 +2,8 @@
 use Rattle.std.proofs.Common.{◌≡◌, ◌≤◌, ◌<◌, ◌==◌, ◌||◌, ℕ, suc, arith, Bool, true, false, cond, List, [], ◌∷◌, ◌++◌, length, refl, sym, ap, ◌∙◌}
 use Rattle.std.specs.List.{AllByRecursion}
 use Rattle.std.proofs.lemmas.Bool.{eq-eqb, eqb-true}
-use Rattle.signal_model.specs.Standing.{is_in}
-use Rattle.effect_tables.specs.Holding.{AreApart}
+use Rattle.signal_model.specs.Signals.{is_in}
+use Rattle.effect_tables.specs.Consistency.{AreApart}
 
 -- neither of two
 pub neither : (a b : Bool) → a || b ≡ false → (a ≡ false) × (b ≡ false)

@@ -1,6 +1,6 @@
-mod Paging
+mod Pages
 mod Apart
-mod Standing
+mod Drops
 pub mod Shared
 mod Stood
 mod News

@@ -2,7 +2,7 @@
 use Rattle.std.specs.Prelude.{◌≡◌, ◌<◌, ◌≤◌, true, ℕ, List, [], ◌∷◌, ◌++◌, length, map}
 use Rattle.std.specs.List.{AllByRecursion}
 use Rattle.sig_base.specs.declared.limits.TheConstants.{MOST_PAGES}
-use Rattle.signal_model.specs.Standing.{is_in}
+use Rattle.signal_model.specs.Signals.{is_in}
 use Rattle.page_model.specs.Pages as paged
 use Rattle.page_model.specs.Forest.{Forest}
 use Rattle.page_model.specs.Html.{html_of}
@@ -11,20 +11,20 @@ use Rattle.page_model.specs.Pages.{NumberedPage, tree_of}
 use Rattle.page_model.specs.Replay.{Op}
 use Rattle.tpl_blocks.specs.Blocks.{lines_of}
 use Rattle.tpl_live.specs.Pages.{IsStanding, Stands}
-use Rattle.tpl_live.specs.Standings.{standing}
+use Rattle.tpl_live.specs.Contents.{standing}
 use Rattle.tpl_model.specs.Laws.{IsTemplate}
 use Rattle.tpl_model.specs.Updates.{Updated, updated}
-use Rattle.effect_tables.specs.Holding.{AreApart}
+use Rattle.effect_tables.specs.Consistency.{AreApart}
 use Rattle.effect_model.specs.Worlds.{Environment}
 use Rattle.sig_host.specs.Hosts.{HostPlace}
 use Rattle.effect_world.specs.declared.world.World.{World}
-use Rattle.effect_world.specs.Agreeing.{IsSound}
+use Rattle.effect_world.specs.Stores.{IsSound}
 use Rattle.effect_world.specs.Wholes.{whole_of}
 use Rattle.live_entries.specs.declared.entry.Entry.{Entry}
 use Rattle.live_entries.specs.declared.entry.Entry.TheVariants as entry
 use Rattle.live_model.specs.Labels as called
 use Rattle.live_model.specs.Machine as plain
-use Rattle.live_model.specs.Machine.{brought_up, carried_on, news_of, ops_told, settling, template_reads, told, update_all}
+use Rattle.live_model.specs.Machine.{updated_page, update_of, news_of, ops_told, settling, template_reads, reached, update_all}
 use Rattle.live_model.specs.Names.{Names}
 use Rattle.live_model.specs.Pages.{Template, asked_of, scratch_html, template_in}
 use Rattle.live_pages.specs.declared.mounted.LinkedTemplate.{LinkedTemplate}
@@ -85,8 +85,8 @@ abbrev pub after_reading : Environment → called.Labels → List HostPlace → 
 after_reading env ls asked w t = settling env (bare ls asked w []) (asked_of env.hosts (whole_of asked w).signals t)
 
 -- what a page comes to that is carried to a template's shape
-abbrev pub carried_to : Environment → List HostPlace → World → Template → NumberedPage → Updated
-carried_to env asked w t old = updated env.hosts (whole_of asked w).signals t.lines t.links (whole_of asked w).memos old
+abbrev pub updated_to : Environment → List HostPlace → World → Template → NumberedPage → Updated
+updated_to env asked w t old = updated env.hosts (whole_of asked w).signals t.lines t.links (whole_of asked w).memos old
 
 -- What a template reads was settled and told, and this is what comes of a page without nodes, and how.
 pub record IsFresh (env : Environment) (ls : called.Labels) (t : Template) (asked later : List HostPlace) (old new : World)
@@ -94,8 +94,8 @@ pub record IsFresh (env : Environment) (ls : called.Labels) (t : Template) (aske
   pub world : whole_of later new ≡ (after_reading env ls asked old t).machine.world
   pub told : after ≡ before ++ (after_reading env ls asked old t).entries
   pub labels : ls ≡ (after_reading env ls asked old t).machine.labels
-  pub page : made ≡ (carried_to env asked old t paged.bare).page
-  pub ops : edits ≡ (carried_to env asked old t paged.bare).ops
+  pub page : made ≡ (updated_to env asked old t paged.bare).page
+  pub ops : edits ≡ (updated_to env asked old t paged.bare).ops
   pub sound : IsSound env.hosts later new
 
 -- What a template reads was settled and told, and this is the tree of what it shows from scratch: that of a page which is made of it.
@@ -104,7 +104,7 @@ pub record IsFreshTree (env : Environment) (ls : called.Labels) (t : Template) (
   pub world : whole_of later new ≡ (after_reading env ls asked old t).machine.world
   pub told : after ≡ before ++ (after_reading env ls asked old t).entries
   pub labels : ls ≡ (after_reading env ls asked old t).machine.labels
-  pub tree : made ≡ tree_of (carried_to env asked old t paged.bare).page
+  pub tree : made ≡ tree_of (updated_to env asked old t paged.bare).page
   pub sound : IsSound env.hosts later new
 
 -- A page was made, on the signals of a machine: what it reads is settled and told, then the operations that lead to it, and then the page.
@@ -114,10 +114,10 @@ pub record IsMounted (env : Environment) (ls : called.Labels) (templates : List 
       (template_reads env (bare ls asked old templates) template)).machine.world
   pub told : after
       ≡ before ++ ((settling env (bare ls asked old templates) (template_reads env (bare ls asked old templates) template)).entries
-      ++ ops_told name (carried_on env (bare ls asked old templates) template paged.bare).ops
+      ++ ops_told name (update_of env (bare ls asked old templates) template paged.bare).ops
       ++ entry.Page name (html_of (tree_of made)) ∷ [])
   pub labels : ls ≡ (settling env (bare ls asked old templates) (template_reads env (bare ls asked old templates) template)).machine.labels
-  pub page : made ≡ (carried_on env (bare ls asked old templates) template paged.bare).page
+  pub page : made ≡ (update_of env (bare ls asked old templates) template paged.bare).page
   pub sound : IsSound env.hosts later new
 
 -- What a template reads was settled and told, and this is the HTML of what it shows from scratch.
@@ -131,19 +131,19 @@ pub record IsScratched (env : Environment) (ls : called.Labels) (templates : Lis
   pub sound : IsSound env.hosts later new
 
 -- A page was brought up to date: what it reads is settled and told, and then its news.
-pub record IsBroughtUp (env : Environment) (ls : called.Labels) (templates : List Template) (asked later : List HostPlace)
+pub record IsUpdated (env : Environment) (ls : called.Labels) (templates : List Template) (asked later : List HostPlace)
     (old new : World) (p q : Mounted) (before after : List Entry) : Type 0 where
   pub world : whole_of later new
       ≡ (settling env (bare ls asked old templates) (template_reads env (bare ls asked old templates) p.template)).machine.world
   pub told : after
       ≡ before ++ ((settling env (bare ls asked old templates) (template_reads env (bare ls asked old templates) p.template)).entries
-      ++ news_of (brought_up env (bare ls asked old templates) (page_of p))
-      (carried_on env (bare ls asked old templates) p.template (page_of p).content).ops)
+      ++ news_of (updated_page env (bare ls asked old templates) (page_of p))
+      (update_of env (bare ls asked old templates) p.template (page_of p).content).ops)
   pub labels : ls ≡ (settling env (bare ls asked old templates) (template_reads env (bare ls asked old templates) p.template)).machine.labels
-  pub page : page_of q ≡ brought_up env (bare ls asked old templates) (page_of p)
+  pub page : page_of q ≡ updated_page env (bare ls asked old templates) (page_of p)
 
 -- All pages were.
-pub record AreBroughtUp (env : Environment) (names : Names) (labels : called.Labels) (templates : List Template)
+pub record AreUpdated (env : Environment) (names : Names) (labels : called.Labels) (templates : List Template)
     (asked later : List HostPlace) (old new : World) (pages now : List Mounted) (entries : List Entry) : Type 0 where
-  pub step : told (plain_machine names labels later new templates now) entries
+  pub step : reached (plain_machine names labels later new templates now) entries
       ≡ update_all env (map page_of pages) (plain_machine names labels asked old templates [])

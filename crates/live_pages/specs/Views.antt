@@ -5,7 +5,7 @@ use Rattle.page_model.specs.Pages.{tree_of}
 use Rattle.tpl_blocks.specs.Blocks.{lines_of}
 use Rattle.tpl_live.specs.declared.page.Page as live
 use Rattle.tpl_live.specs.Pages.{page_in}
-use Rattle.tpl_live.specs.Standings.{standing}
+use Rattle.tpl_live.specs.Contents.{standing}
 use Rattle.live_model.specs.Pages.{Page, Template}
 use Rattle.live_pages.specs.declared.mounted.LinkedTemplate.{LinkedTemplate}
 use Rattle.live_pages.specs.declared.mounted.Mounted.{Mounted}

@@ -2,13 +2,13 @@
 //! dropped when they end.
 #![tactic(auto)]
 
-mod looking;
-mod making;
+mod creation;
+mod lookup;
 mod mounted;
-mod telling;
-mod updating;
+mod report;
+mod update;
 
-pub use looking::{keep_live, page_among, shown_of, template_among};
-pub use making::{mount, scratch};
+pub use creation::{mount, scratch};
+pub use lookup::{keep_live, page_among, shown_of, template_among};
 pub use mounted::{LinkedTemplate, Mounted};
-pub use updating::bring_all_up;
+pub use update::bring_all_up;

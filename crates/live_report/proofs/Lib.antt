@@ -1,2 +1,2 @@
-mod Printing
+mod Output
 mod Sums

@@ -5,7 +5,7 @@ use Rattle.std.proofs.lemmas.List.Sums.{sum_by-append}
 use Rattle.bench_workload.specs.declared.summary.Counts.{Counts}
 use Rattle.live_cmd.specs.declared.command.Item.{Item}
 use Rattle.live_entries.specs.declared.entry.Entry.{Entry}
-use Rattle.live_report.specs.Counting.{added, counts_of, is_command, is_op, is_run, page_after, page_with}
+use Rattle.live_report.specs.Counts.{added, counts_of, is_command, is_op, is_run, page_after, page_with}
 
 -- counts are the same where each number is
 same_counts : (a b : Counts) → a.commands ≡ b.commands → a.runs ≡ b.runs → a.ops ≡ b.ops → a ≡ b

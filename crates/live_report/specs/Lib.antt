@@ -1,2 +1,2 @@
-pub mod Counting
+pub mod Counts
 pub mod Reports

@@ -6,7 +6,7 @@ use Rattle.live_entries.specs.declared.entry.Entry.{Entry}
 use Rattle.live_entries.specs.Printed.{printed}
 use Rattle.live_words.specs.declared.jobs.Job.{Job}
 use Rattle.live_words.specs.declared.jobs.Job.TheVariants as job
-use Rattle.live_report.specs.Counting.{added, counts_of, page_after}
+use Rattle.live_report.specs.Counts.{added, counts_of, page_after}
 use Rattle.live_report.specs.declared.report.Report.{Report}
 use Rattle.live_report.specs.declared.report.Report.TheVariants as report
 

@@ -1,7 +1,7 @@
 //! What a job prints of a script's items and of what they tell: the lines as they come, or a summary at the end.
 #![tactic(auto)]
 
-mod counting;
+mod counters;
 mod report;
 
 pub use report::Report;

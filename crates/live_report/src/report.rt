@@ -6,7 +6,7 @@ ghost use Rattle.live_entries.specs.declared.entry.Entry.{Entry as AnEntry};
 ghost use Rattle.live_entries.specs.Printed.{printed, IsSizedEntry};
 ghost use Rattle.live_report.specs.Reports.{counted, output_of, still};
 
-use crate::counting::{no_counts, page_after, with_entries, with_item};
+use crate::counters::{no_counts, page_after, with_entries, with_item};
 use bench_workload::{Counts, put_summary};
 use live_cmd::Item;
 use live_entries::{Entry, PageBytes, entry_line};

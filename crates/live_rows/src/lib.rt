@@ -16,11 +16,11 @@ mod hosts;
 #[cfg(test)]
 mod lists;
 #[cfg(test)]
-mod reading;
-#[cfg(test)]
 mod rows;
 #[cfg(test)]
 mod run;
+#[cfg(test)]
+mod sources;
 #[cfg(test)]
 mod watchers;
 #[cfg(test)]

@@ -8,7 +8,7 @@ use Rattle.sig_io.specs.Counts.{AppendsFront}
 use Rattle.std.proofs.KnownBytes.{Appends-trans, Appends-nil}
 use Rattle.std.proofs.lemmas.List.{append-nil, length-map}
 use Rattle.sig_host.specs.Hosts.{Meaning, hosts_of}
-use Rattle.sig_host.specs.Lending.{LendsRows}
+use Rattle.sig_host.specs.Loans.{LendsRows}
 use Rattle.effect_model.specs.Worlds.{Environment}
 use Rattle.script_lines.specs.Pieces.{Piece, pieces_of}
 use Rattle.live_cmd.specs.declared.command.Item.{Item}
@@ -20,10 +20,10 @@ use Rattle.live_cmd.proofs.Shared.{some_items}
 use Rattle.live_words.specs.declared.jobs.Job.{Job}
 use Rattle.live_report.specs.declared.report.Report.{Report}
 use Rattle.live_report.specs.Reports.{output_of, still}
-use Rattle.live_model.specs.Machine.{Machine, empty, told, step}
+use Rattle.live_model.specs.Machine.{Machine, empty, reached, step}
 use Rattle.live_model.specs.Output.{entries_from}
 use Rattle.page_laws.specs.LivePages.{LiveLaw}
-use Rattle.live_run.specs.Running.{lent, lent_output, script_of, AreSized, Lives, TookIn}
+use Rattle.live_run.specs.Jobs.{lent, lent_output, script_of, AreSized, Lives, TookIn}
 
 -- Whatever items the rest has, the script has some whose output is what is written, what is to be written, and what the report prints yet of
 -- the rest. And what holds of them where all that they tell is sized holds of them, if all that the rest tells is sized.
@@ -40,11 +40,11 @@ pub record HandedOn (held next : Option (List ℕ)) (out left : List ℕ) : Type
   pub whole : out ≡ written ++ left
 
 -- one item done: its entries are told, and the rest goes on from the machine that it leaves
-told_more : (env : Environment) (r after : Report) (out now : List ℕ) (m next : Machine) (i : Item) (es : List Entry) (rest : List Item) → TookIn r after out now i es → told next es ≡ step env m i → now ++ still after rest (entries_from env next rest) ≡ out ++ still r (i ∷ rest) (entries_from env m (i ∷ rest))
+told_more : (env : Environment) (r after : Report) (out now : List ℕ) (m next : Machine) (i : Item) (es : List Entry) (rest : List Item) → TookIn r after out now i es → reached next es ≡ step env m i → now ++ still after rest (entries_from env next rest) ≡ out ++ still r (i ∷ rest) (entries_from env m (i ∷ rest))
 told_more env r after out now m next i es rest e d =
     e rest (entries_from env next rest) ∙ ap (λ t. out ++ still r (i ∷ rest) (t.entries ++ entries_from env t.machine rest)) d
 
-pub next_so_far : (env : Environment) (wanted : List Item → List ℕ) (lives : List Item → Type 0) (first held next_held : Option (List ℕ)) (script : List ℕ) (line after : ℕ) (left after_left : List ℕ) (r next_r : Report) (m next : Machine) (i : Item) (es : List Entry) (out now rest_out : List ℕ) (p : Piece) → pieces_of line left ≡ p ∷ pieces_of after after_left → IsItem p i → told next es ≡ step env m i → AreSized es → TookIn r next_r out now i es → HandedOn held next_held now rest_out → SoFar env wanted lives first held script line left r m out → SoFar env wanted lives first next_held script after after_left next_r next rest_out
+pub next_so_far : (env : Environment) (wanted : List Item → List ℕ) (lives : List Item → Type 0) (first held next_held : Option (List ℕ)) (script : List ℕ) (line after : ℕ) (left after_left : List ℕ) (r next_r : Report) (m next : Machine) (i : Item) (es : List Entry) (out now rest_out : List ℕ) (p : Piece) → pieces_of line left ≡ p ∷ pieces_of after after_left → IsItem p i → reached next es ≡ step env m i → AreSized es → TookIn r next_r out now i es → HandedOn held next_held now rest_out → SoFar env wanted lives first held script line left r m out → SoFar env wanted lives first next_held script after after_left next_r next rest_out
 next_so_far env wanted lives first held next_held script line after left after_left r next_r m next i es out now rest_out p front is d sized e h s = record {
   written = s.written ++ h.written;
   appended = Appends-trans first held next_held s.written h.written s.appended h.appended;

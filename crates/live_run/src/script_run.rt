@@ -3,14 +3,14 @@ ghost use Rattle.std.specs.Prelude.{◌≡◌, ◌≤◌, ◌<◌, ◌+◌, ◌-
 ghost use Rattle.std.specs.Prelude.{IfOk, IfSome, OnOk};
 ghost use Rattle.signal_model.specs.Recipes.{Hosts};
 ghost use Rattle.sig_host.specs.Hosts.{hosts_of};
-ghost use Rattle.sig_effect.specs.Agreeing.{environment};
+ghost use Rattle.sig_effect.specs.Stores.{environment};
 ghost use Rattle.script_lines.specs.Pieces.{pieces_of};
 ghost use Rattle.live_cmd.specs.declared.command.Item.{Item as AnItem};
 ghost use Rattle.live_entries.specs.declared.entry.Entry.{Entry as AnEntry};
 ghost use Rattle.live_report.specs.Reports.{counted, output_of, still};
 ghost use Rattle.live_model.specs.Machine.{empty};
-ghost use Rattle.live_core.specs.Keeping.{IsReadItem, SomeHosts};
-ghost use Rattle.live_run.specs.Running.{DidItem, DidNext};
+ghost use Rattle.live_core.specs.Consistency.{IsReadItem, SomeHosts};
+ghost use Rattle.live_run.specs.Jobs.{DidItem, DidNext};
 
 use live_cmd::{Item, next_item};
 use live_items::{Live, Running};

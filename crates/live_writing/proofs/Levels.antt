@@ -16,16 +16,16 @@ use Rattle.effect_model.specs.declared.plain.Plain.TheVariants as plain_line
 use Rattle.body_text.specs.Statements as statements
 use Rattle.body_text.specs.Statements.{Statement, Statements, lines_of}
 use Rattle.body_text.specs.Grammar as body_grammar
-use Rattle.body_text.specs.Writing as body
+use Rattle.body_text.specs.Printer as body
 use Rattle.tpl_syntax.specs.declared.place.Level.{Level}
 use Rattle.tpl_syntax.specs.declared.place.Level.TheVariants as levels
 use Rattle.tpl_syntax.specs.Grammar as template
 use Rattle.tpl_syntax.specs.Lines.{Plan}
 use Rattle.tpl_syntax.specs.Places.{Place, content_of, fits, is_choice, moved, top}
 use Rattle.tpl_syntax.specs.Templates as templates
-use Rattle.tpl_syntax.specs.Writing as template_text
+use Rattle.tpl_syntax.specs.Printer as template_text
 use Rattle.tpl_syntax.proofs.Shared.{written}
-use Rattle.live_writing.specs.Writing.{template_lines}
+use Rattle.live_writing.specs.Printer.{template_lines}
 
 -- each is one line, which isn't passed over
 abbrev pub AllLines : List (List ℕ) → Type 0
@@ -129,8 +129,8 @@ close_level [] h = absurd cc
 close_level (l ∷ ls) h = omega arith
 
 -- a line that may stand at a place leads to the level of the place behind it
-line_level : (r : template.Row) (a : Args (template.row r).1) (p : Place) → fits p (template.line_of (r, a)) ≡ true
-    → level_after (depth p) (template_text.bytes_of (r, a)) ≡ depth (moved p (template.line_of (r, a)))
+line_level : (r : template.Row) (a : Args (template.row r).1) (p : Place) → fits p (template.said_line (r, a)) ≡ true
+    → level_after (depth p) (template_text.bytes_of (r, a)) ≡ depth (moved p (template.said_line (r, a)))
 unfolding opens closes
 line_level template.text a p h = refl
 line_level template.tag a p h = one_deeper (levels.Element (content_of a.0)) p.levels
@@ -146,7 +146,7 @@ all_stay p [] [] s = refl
 all_stay p [] (x ∷ xs) s = absurd s
 all_stay p (l ∷ ls) [] s = absurd s
 all_stay p (l ∷ ls) (x ∷ xs) s =
-    let next = moved p (template.line_of x.1) in
+    let next = moved p (template.said_line x.1) in
     let above : 0 < depth next = omega arith in
     one_more (depth p) (depth next) (depth (templates.reached next xs)) (template_text.bytes_of x.1) (map template_text.bytes_of (map (λ x. x.1) xs))
     (line_level x.1.0 x.1.1 p s.2) above (all_stay next ls xs s.3)

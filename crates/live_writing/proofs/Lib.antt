@@ -1,4 +1,4 @@
 mod Levels
 mod Numbered
-mod Rewriting
-mod Standing
+mod Printer
+mod Pieces

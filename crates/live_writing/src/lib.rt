@@ -3,10 +3,10 @@
 
 mod inside;
 mod laws;
-mod writing;
-mod writing_rows;
-mod writing_sources;
-mod writing_watchers;
+mod rows;
+mod sources;
+mod watchers;
+mod writer;
 
 pub use laws::commands_read_back;
-pub use writing::command_line;
+pub use writer::command_line;

@@ -2,7 +2,7 @@
 use Rattle.std.proofs.Common.{◌≡◌, ℕ, ◌==◌, ◌||◌, ◌&&◌, not, Bool, true, false, cond, List, [], ◌∷◌, ◌++◌, Option, Some, None, map, refl, sym, ap, ◌∙◌, subst, ◌⊎◌, inl, inr, true≢false, is_some}
 use Rattle.std.proofs.lemmas.Bool.{eqb-true, eq-eqb}
 use Rattle.sig_base.specs.declared.value.Outcome.{Outcome}
-use Rattle.signal_model.specs.Standing.{Signals, Cell, Computed, IsGone, is_computed, is_in, is_there, or_computed, standing, cell_at, computed_at}
+use Rattle.signal_model.specs.Signals.{Signals, Cell, Computed, IsGone, is_computed, is_in, is_there, or_computed, standing, cell_at, computed_at}
 use Rattle.signal_model.specs.Memos.{Memo, Entry, Memos, entry_at, number_in, memo_in, memo_of, number_of, sources_in, sources_of, source_names, keeps, named_now, memo_is_cycle, holds_cycle, must_run, same_number, is_cycle, some_moved}
 use Rattle.signal_model.specs.Settling.{ran_entry, with_memo}
 use Rattle.signal_model.specs.Changes.{with_cell, with_computed, after_making, with_value, after_change, with_recipe, after_rewiring, without_signal, after_disposal}
@@ -11,7 +11,7 @@ use Rattle.signal_laws.proofs.Shared.{entry_other, entry_out, cell_out, computed
 use Rattle.mark_laws.specs.Marked.{IsUnmarked, AreMarked, IsUnused, some_marked, run_unmarks, stop_unmarks, ended, with_flag, relinked, unlinked}
 use Rattle.mark_laws.specs.MarkLaws.{SetMarksLaw, RewireMarksLaw, DisposeMarksLaw, BeginMarksLaw, RunMarksLaw, StopMarksLaw, CellMarksLaw, ComputedMarksLaw}
 use Rattle.mark_laws.proofs.Edited.{mapped, entry_mapped, IsEdit, set_edit, rewire_edit, dispose_edit, no_edit, IsMild, set_mild, rewire_mild, unmoved}
-use Rattle.mark_laws.proofs.Spreading.{pushed, start_of, on_of, mild_links, mild_owners}
+use Rattle.mark_laws.proofs.Marks.{pushed, start_of, on_of, mild_links, mild_owners}
 
 pub set_marks_law : SetMarksLaw
 set_marks_law w k dependants t u computing n c v is marks spread =

@@ -3,7 +3,7 @@ use Rattle.std.proofs.Common.{◌≡◌, ℕ, ◌==◌, ◌||◌, not, Bool, tru
 use Rattle.std.proofs.lemmas.Bool.{eqb-true, eq-eqb}
 use Rattle.sig_base.specs.declared.value.Value.{Value}
 use Rattle.signal_model.specs.Recipes.{Recipe}
-use Rattle.signal_model.specs.Standing.{Signals, Cell, Computed, Stands, IsCell, IsComputed, is_computed, is_in, is_there, or_computed, standing, changed, cell_at, computed_at}
+use Rattle.signal_model.specs.Signals.{Signals, Cell, Computed, Stands, IsCell, IsComputed, is_computed, is_in, is_there, or_computed, standing, changed, cell_at, computed_at}
 use Rattle.signal_model.specs.Memos.{Source, Memo, Entry, Memos, entry_at, number_in, memo_in, number_of, memo_of, sources_in, sources_of, source_names, same_number, some_moved}
 use Rattle.signal_model.specs.Changes.{with_value, raised, after_change, with_recipe, memo_rewired, entry_rewired, after_rewiring, without_signal, after_disposal}
 use Rattle.signal_model.proofs.Shared.{tested}

@@ -1,5 +1,5 @@
 mod Edited
-mod Spreading
+mod Marks
 mod AfterChange
 mod Unmarked
 pub mod Shared

@@ -1,13 +1,13 @@
 -- What is unmarked is clean.
 use Rattle.std.proofs.Common.{◌≡◌, ℕ, zero, suc, ◌==◌, ◌||◌, ◌&&◌, not, Bool, true, false, cond, List, [], ◌∷◌, Option, Some, None, length, refl, sym, ap, ◌∙◌, subst, ◌⊎◌, inl, inr, true≢false}
 use Rattle.std.proofs.lemmas.Bool.{eq-eqb}
-use Rattle.signal_model.specs.Standing.{Signals, is_computed, is_in, standing}
+use Rattle.signal_model.specs.Signals.{Signals, is_computed, is_in, standing}
 use Rattle.signal_model.specs.Memos.{Source, Memo, Memos, memo_of, sources_in, sources_of, source_names, keeps, memo_is_cycle, must_run_by, must_run}
 use Rattle.signal_model.specs.Marks.{Clean, Checked, Dirty, IsBelow, IsMark, kept, kept_below, is_due, some_source, due_below, mark_of}
 use Rattle.signal_model.proofs.Shared.{mark_law, tested}
 use Rattle.signal_model.specs.Kept.{OnlyComputedsKeep}
 use Rattle.mark_laws.specs.Marked.{AreMarked, AreUnmarked, HasSpread, IsExplored, IsUnmarked, due_by_marks, mark_by_marks, without_marks}
-use Rattle.mark_laws.proofs.Spreading.{computed_stands}
+use Rattle.mark_laws.proofs.Marks.{computed_stands}
 use Rattle.signal_laws.proofs.Shared.{Calm, calm_of}
 use Rattle.mark_laws.specs.MarkLaws.{PruneLaw, UnmarkedLaw, UnmarkLaw, SearchedLaw, LookLaw, ExploredLaw}
 

@@ -3,7 +3,7 @@ use Rattle.std.specs.Prelude.{◌≡◌, ℕ, ◌||◌, Bool, true, false, List,
 use Rattle.sig_base.specs.declared.value.Value.{Value}
 use Rattle.sig_base.specs.declared.value.Outcome.{Outcome}
 use Rattle.signal_model.specs.Recipes.{Recipe}
-use Rattle.signal_model.specs.Standing.{Signals, Cell, Computed, IsCell, IsComputed, is_computed, is_there, standing}
+use Rattle.signal_model.specs.Signals.{Signals, Cell, Computed, IsCell, IsComputed, is_computed, is_there, standing}
 use Rattle.signal_model.specs.Memos.{Entry, Memos, entry_at, named_now}
 use Rattle.signal_model.specs.Settling.{with_memo}
 use Rattle.signal_model.specs.Marks.{Clean, IsBelow, is_due, due_below, mark_of}
@@ -21,13 +21,13 @@ abbrev pub RewireMarksLaw : Type 0
 RewireMarksLaw = (w : Signals) (k : Memos) (dependants : ℕ → ℕ → Bool) (t u computing : ℕ → Bool) (n : ℕ) (c : Computed) (r : Recipe) →
     standing w n ≡ IsComputed c →
     AreMarked w k dependants t computing → HasSpread w dependants t u n → u n ≡ true →
-      AreMarked (with_recipe w n r) (after_rewiring k n) dependants u computing
+    AreMarked (with_recipe w n r) (after_rewiring k n) dependants u computing
 
 -- a disposal, which takes the disposed one out of all dependants
 abbrev pub DisposeMarksLaw : Type 0
 DisposeMarksLaw = (w : Signals) (k : Memos) (dependants : ℕ → ℕ → Bool) (t u computing : ℕ → Bool) (n : ℕ) → is_there (standing w n) ≡ true →
     AreMarked w k dependants t computing → HasSpread w dependants t u n →
-      AreMarked (without_signal w n) (after_disposal k n) (unlinked dependants n) u (with_flag computing n false)
+    AreMarked (without_signal w n) (after_disposal k n) (unlinked dependants n) u (with_flag computing n false)
 
 -- an evaluation begins: its computed is marked, and so are its dependants
 abbrev pub BeginMarksLaw : Type 0
@@ -40,7 +40,7 @@ abbrev pub RunMarksLaw : Type 0
 RunMarksLaw = (w : Signals) (k : Memos) (dependants : ℕ → ℕ → Bool) (t computing : ℕ → Bool) (n : ℕ) (c : Computed) (o : Outcome)
     (reads : List ℕ) (e : Entry) → standing w n ≡ IsComputed c → computing n ≡ true → entry_at n k.entries ≡ Some e →
     AreMarked w k dependants t computing → AreMarked w (with_memo k n o (map (named_now k) reads)) (relinked dependants n reads)
-      (ended t n (run_unmarks w t o reads)) (with_flag computing n false)
+    (ended t n (run_unmarks w t o reads)) (with_flag computing n false)
 
 -- it ends without a run
 abbrev pub StopMarksLaw : Type 0

@@ -2,7 +2,7 @@
 -- the computed n is marked: something below it may have changed since it was last found clean. `computing n` says that n is being evaluated.
 use Rattle.std.specs.Prelude.{◌≡◌, ℕ, zero, suc, ◌==◌, ◌||◌, ◌&&◌, not, Bool, true, false, List, [], ◌∷◌, length, Some, None, if◌then◌else◌}
 use Rattle.sig_base.specs.declared.value.Outcome.{Outcome}
-use Rattle.signal_model.specs.Standing.{Signals, is_computed, is_in, is_there, standing}
+use Rattle.signal_model.specs.Signals.{Signals, is_computed, is_in, is_there, standing}
 use Rattle.signal_model.specs.Memos.{Memo, Memos, entry_at, memo_of, sources_of, source_names, keeps, is_cycle, holds_cycle, some_moved, must_run}
 use Rattle.signal_model.specs.Marks.{Mark, Clean, Checked, Dirty, is_due, some_source}
 use Rattle.signal_model.specs.Kept.{OnlyComputedsKeep}

@@ -2,8 +2,8 @@ mod Values
 mod Owned
 mod Worlds
 mod Rows
-mod Leading
-mod Flushing
-mod Naming
-mod Stepping
-mod Living
+mod Operations
+mod Flushes
+mod Names
+mod Steps
+mod LivePages

@@ -14,8 +14,8 @@ use Rattle.sig_rows.specs.Edits.{field_place, has_key}
 use Rattle.sig_rows.specs.declared.fault.RowFault.{RowFault}
 use Rattle.sig_rows.specs.declared.fault.RowFault.TheVariants as fault
 use Rattle.sig_rows.proofs.Shared.{inserted, marked_others, moved_rows, valued}
-use Rattle.signal_model.specs.Standing.{Signals, Stands, IsGone, IsCell, IsComputed, standing}
-use Rattle.sig_host.specs.Lending.{IsGood}
+use Rattle.signal_model.specs.Signals.{Signals, Stands, IsGone, IsCell, IsComputed, standing}
+use Rattle.sig_host.specs.Loans.{IsGood}
 use Rattle.live_cmd.specs.declared.command.RowEdit.{RowEdit}
 use Rattle.live_cmd.specs.declared.command.RowEdit.TheVariants as edit
 use Rattle.live_model.specs.Rows.{edit_fault, edit_refusal, edited, fault_told, rows_at, rows_in, rows_there}

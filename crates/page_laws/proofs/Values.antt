@@ -3,9 +3,9 @@ use Rattle.std.proofs.Common.{ℕ, zero, suc, ◌==◌, Bool, true, false, cond,
 use Rattle.std.specs.List.{AllByRecursion}
 use Rattle.sig_base.specs.declared.value.Outcome.{Outcome}
 use Rattle.signal_model.specs.Recipes.{Hosts, Expression, Recipe, formula, given_answer, host}
-use Rattle.signal_model.specs.Standing.{Cell, Computed, Signals, Stands, IsGone, IsCell, IsComputed, cell_at, computed_at, is_in, or_computed, or_gone, standing}
+use Rattle.signal_model.specs.Signals.{Cell, Computed, Signals, Stands, IsGone, IsCell, IsComputed, cell_at, computed_at, is_in, or_computed, or_gone, standing}
 use Rattle.signal_model.specs.Values.{asked_from, names_left, unknown_slots, value_case, value_of, value_within}
-use Rattle.sig_host.specs.Lending.{IsGood, IsGoodOutcome, IsLending, LendsRows}
+use Rattle.sig_host.specs.Loans.{IsGood, IsGoodOutcome, IsLending, LendsRows}
 use Rattle.sig_host.proofs.Shared.{asked_good}
 use Rattle.tpl_model.specs.Laws.{GivesRows}
 use Rattle.tpl_model.specs.Sources.{on_signals}

@@ -8,18 +8,18 @@ use Rattle.sig_base.specs.declared.value.Value.{Value}
 use Rattle.sig_base.specs.declared.value.Value.TheVariants as value
 use Rattle.sig_formula.specs.declared.evaluate.FormulaStep.{FormulaStep}
 use Rattle.sig_formula.specs.declared.evaluate.FormulaStep.TheVariants.{Ask, End}
-use Rattle.sig_formula.specs.Answering.{formula_step}
+use Rattle.sig_formula.specs.Evaluation.{formula_step}
 use Rattle.sig_formula.specs.Trees.{Tree}
 use Rattle.signal_model.specs.Recipes.{Hosts, Recipe}
-use Rattle.signal_model.specs.Standing.{Cell, Signals, Stands, IsGone, IsCell, IsComputed, changed, standing, without}
+use Rattle.signal_model.specs.Signals.{Cell, Signals, Stands, IsGone, IsCell, IsComputed, changed, standing, without}
 use Rattle.signal_model.specs.Changes.{after_rewiring, with_recipe}
 use Rattle.signal_model.specs.Sound.{names_of}
 use Rattle.signal_model.specs.Values.{learnt, unknown_slots, value_of}
 use Rattle.signal_laws.proofs.Shared.{all_append, all_snoc}
 use Rattle.effect_model.specs.declared.plain.Plain.{Plain}
 use Rattle.effect_model.specs.declared.plain.Plain.TheVariants as p
-use Rattle.effect_model.specs.Owning.{Thing, the_signal, the_owner, the_effect, the_page, the_watcher, Cleanup, sets, logs, nothing, cleanup, alone, Undoing, cleans, ends}
-use Rattle.effect_model.specs.Owning.{disposal_of, emptied, taken_out, teardown_of, under}
+use Rattle.effect_model.specs.Owners.{Thing, the_signal, the_owner, the_effect, the_page, the_watcher, Cleanup, sets, logs, nothing, cleanup, alone, Undoing, cleans, ends}
+use Rattle.effect_model.specs.Owners.{disposal_of, emptied, taken_out, teardown_of, under}
 use Rattle.effect_model.specs.Bodies.{Act, to_set, to_log, to_note, to_make, to_dispose, to_rewire, Body, BodyStep, reads, acts, fails, BodyEvaluation, BodyResult}
 use Rattle.effect_model.specs.Bodies.{to_do, failed_by, Statements, no_more, plain, when, effect, rewire, followed_by, one_first}
 use Rattle.effect_model.specs.Bodies.{and_then, with_answer, if_scalar, guarded, plain_step, body_step, after_body_read, after_body_step, with_known, body_asked_within}
@@ -27,11 +27,11 @@ use Rattle.effect_model.specs.Bodies.{body_evaluation}
 use Rattle.effect_model.specs.Worlds.{Environment, Effect, Refused, thing_gone, cleaned, refused, World, tell, lives, settle}
 use Rattle.effect_model.specs.Acts.{are_alike, with_new_value, set_standing, set_cell, host_of, with_drop, with_use, or_refused, rewiring_refused, rewire_standing}
 use Rattle.effect_model.specs.Acts.{rewire_signal, without_node, end_standing, end_of, do_cleanup, undo, undo_all, take_back, dispose_live, dispose_thing}
-use Rattle.effect_model.specs.Running.{do_act, do_acts, next_child, keep_reads, do_result, run_effect, flush}
+use Rattle.effect_model.specs.Runs.{do_act, do_acts, next_child, keep_reads, do_result, run_effect, flush}
 use Rattle.effect_model.specs.Commands.{with_new_cell}
 use Rattle.effect_laws.proofs.Shared.{IsKeptByRuns, flush_keeps}
 use Rattle.effect_tables.specs.Placed.{at_rest}
-use Rattle.sig_host.specs.Lending.{IsGood}
+use Rattle.sig_host.specs.Loans.{IsGood}
 use Rattle.page_laws.proofs.Owned.{AreGoodOwned, IsGoodCleanup, IsGoodUndoing, disposal_good, emptied_good, listed_good, made_good, put_good, taken_good, undoings_good}
 use Rattle.page_laws.proofs.Values.{AreGoodCells}
 

@@ -2,8 +2,8 @@
 use Rattle.std.specs.Prelude.{◌≡◌, ℕ, false, List, [], ◌∷◌, map, flat_map, if◌then◌else◌}
 use Rattle.std.specs.List.{AllByRecursion}
 use Rattle.std.specs.Str.{bytes_eq}
-use Rattle.sig_host.specs.Lending.{LendsRows}
-use Rattle.effect_model.specs.Running.{flush}
+use Rattle.sig_host.specs.Loans.{LendsRows}
+use Rattle.effect_model.specs.Runs.{flush}
 use Rattle.effect_model.specs.Worlds.{Environment}
 use Rattle.page_model.specs.Forest.{Forest}
 use Rattle.page_model.specs.Labels.{Kind}

@@ -33,9 +33,9 @@ not_same p q ps n h = elim (cases_Bool (p == q)) [
   | inr e ↦ e
 ]
 
-abbrev joined : List ℕ → List ℕ → List ℕ
-joined [] ds = ds
-joined (p ∷ ps) ds = joined ps (p ∷ ds)
+abbrev reversed_onto : List ℕ → List ℕ → List ℕ
+reversed_onto [] ds = ds
+reversed_onto (p ∷ ps) ds = reversed_onto ps (p ∷ ds)
 
 pub at_after : {A : Type 0} (p : ℕ) (f : Forest A → Forest A) (xs ys : Forest A) → at p f (after xs ys) ≡ after (at p f xs) (at p f ys)
 at_after p f none ys = refl
@@ -91,7 +91,7 @@ more kept look p ds l c (node m x k r) s =
           rw (e, ir, flipped m p e, step_at kept look p (λ ks. led_by kept ks (look p)) ds m (rebuild (step kept look ds) k) (c m), ik) refl)
     ]
 
-all_from : {A : Type 0} (kept : ℕ → Bool) (look : ℕ → Forest A) (ps ds : List ℕ) → Once ps → ((p : ℕ) → listed p ps ≡ true → listed p ds ≡ false) → ((p m : ℕ) → listed p ps ≡ true → Clear kept p (look m)) → (xs : Forest A) → Single xs → arrange kept look ps (rebuild (step kept look ds) xs) ≡ rebuild (step kept look (joined ps ds)) xs
+all_from : {A : Type 0} (kept : ℕ → Bool) (look : ℕ → Forest A) (ps ds : List ℕ) → Once ps → ((p : ℕ) → listed p ps ≡ true → listed p ds ≡ false) → ((p m : ℕ) → listed p ps ≡ true → Clear kept p (look m)) → (xs : Forest A) → Single xs → arrange kept look ps (rebuild (step kept look ds) xs) ≡ rebuild (step kept look (reversed_onto ps ds)) xs
 all_from kept look [] ds o n c xs s = refl
 all_from kept look (p ∷ ps) ds o n c xs s =
     let here : listed p (p ∷ ps) ≡ true = rw (eq-eqb p p refl) refl in
@@ -100,7 +100,7 @@ all_from kept look (p ∷ ps) ds o n c xs s =
     (λ q h. rw (not_same p q ps o.0 h) (n q (or_right (p == q) (listed q ps) h)))
     (λ q i h. c q i (or_right (p == q) (listed q ps) h)) xs s
 
-listed_joined : (m : ℕ) (ps ds : List ℕ) → (listed m ps || listed m ds) ≡ true → listed m (joined ps ds) ≡ true
+listed_joined : (m : ℕ) (ps ds : List ℕ) → (listed m ps || listed m ds) ≡ true → listed m (reversed_onto ps ds) ≡ true
 listed_joined m [] ds h = h
 listed_joined m (p ∷ ps) ds h = listed_joined m ps (p ∷ ds) (elim (cases_Bool (p == m)) [
   | inl e ↦ rw e (or_right (listed m ps) true refl)
@@ -140,5 +140,5 @@ pub arranged : {A : Type 0} (kept : ℕ → Bool) (look : ℕ → Forest A) (lab
 arranged kept look label ps x old new o s all c root kn mt =
     let t = node 0 x old none in
     let a = ap (arrange kept look ps) (sym (rebuild_none kept look t)) ∙ all_from kept look ps [] o (λ p h. refl) c t s in
-    let b = rebuild_same (step kept look (joined ps [])) (λ m now. led_by kept now (look m)) t (λ m h now. (let l = listed_joined m ps [] (or_left (listed m ps) false (all m h)) in rw l refl)) in
+    let b = rebuild_same (step kept look (reversed_onto ps [])) (λ m now. led_by kept now (look m)) t (λ m h now. (let l = listed_joined m ps [] (or_left (listed m ps) false (all m h)) in rw l refl)) in
     a ∙ (b ∙ (rw (root, comes kept look label old new kn mt) refl))

@@ -14,7 +14,7 @@ use Rattle.page_model.proofs.Orders.{in_keys, once_keys}
 use Rattle.page_model.proofs.Removals.{in_both}
 use Rattle.page_model.proofs.Newcomers.{in_into_by, in_ascending_by}
 use Rattle.page_model.proofs.Whole.{over, over_none, over_one}
-use Rattle.page_model.proofs.Carrying.{parent_at, new_number, number_after}
+use Rattle.page_model.proofs.Updates.{parent_at, new_number, number_after}
 
 -- a sum over a list
 abbrev pub measure : (ℕ → ℕ) → List ℕ → ℕ

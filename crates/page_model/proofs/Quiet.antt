@@ -6,7 +6,7 @@ use Rattle.std.proofs.lemmas.Slice.Eq.{bytes_eq-Decides}
 use Rattle.page_model.specs.Forest.{Forest, none, node, on, keys, kids, label_in, pruned, tops}
 use Rattle.page_model.specs.Labels.{Root, Text, Element, Kind, Look, shown}
 use Rattle.page_model.specs.Replay.{Op, OpRemove}
-use Rattle.page_model.specs.Edits.{listed, placed, siblings, child_edits, attribute_edits, told, ascending, edits}
+use Rattle.page_model.specs.Edits.{listed, placed, siblings, child_edits, attribute_edits, look_edits, ascending, edits}
 use Rattle.page_model.proofs.Everywhere.{or_left, or_right}
 use Rattle.page_model.proofs.Removals.{in_both}
 
@@ -30,7 +30,7 @@ lines_none n [] i = refl
 lines_none n ((name, None) ∷ xs) i = lines_none n xs i
 lines_none n ((name, Some v) ∷ xs) i = (let e : bytes_eq v v ≡ true = (bytes_eq-Decides v v).1 refl in rw e (lines_none n xs (suc i)))
 
-told_none : (n : ℕ) (x : Look) → told n x x ≡ []
+told_none : (n : ℕ) (x : Look) → look_edits n x x ≡ []
 told_none n Root = refl
 told_none n (Text t) = (let e : bytes_eq t t ≡ true = (bytes_eq-Decides t t).1 refl in rw e refl)
 told_none n (Element name xs) = lines_none n xs 0
@@ -51,7 +51,7 @@ pub edits_none : (t : Forest Look) → edits t t ≡ []
 edits_none t =
     let s = shown t in
     let w = pruned_whole (λ n. on n s) s (λ n e. e) in
-    let tell : ℕ → List Op = λ n. told n (label_in Root n t) (label_in Root n t) in
+    let tell : ℕ → List Op = λ n. look_edits n (label_in Root n t) (label_in Root n t) in
     let whole : List ℕ → Forest Kind → List Op = λ gone left. (map OpRemove (ascending gone) ++ flat_map (λ n. child_edits n 0 (siblings (kids n left)) (kids n s)) (ascending (keys left))) ++ flat_map tell (ascending (keys left)) in
     let a : whole (tops (λ n. on n s) s) (pruned (λ n. on n s) s) ≡ whole [] s = ap (λ z. whole z (pruned (λ n. on n s) s)) w.1 ∙ ap (whole []) w.0 in
     let b = all_none (λ n. child_edits n 0 (siblings (kids n s)) (kids n s)) (ascending (keys s)) (λ n. children_none n [] (kids n s)) in

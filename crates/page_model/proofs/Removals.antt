@@ -113,15 +113,15 @@ tops_gone keep n (node m x k r) h = elim (cases_Bool (keep m)) [
       ])
 ]
 
-abbrev joined : List ℕ → List ℕ → List ℕ
-joined [] es = es
-joined (n ∷ ns) es = joined ns (n ∷ es)
+abbrev reversed_onto : List ℕ → List ℕ → List ℕ
+reversed_onto [] es = es
+reversed_onto (n ∷ ns) es = reversed_onto ns (n ∷ es)
 
-listed_joined : (m : ℕ) (ns es : List ℕ) → listed m (joined ns es) ≡ (listed m ns || listed m es)
+listed_joined : (m : ℕ) (ns es : List ℕ) → listed m (reversed_onto ns es) ≡ (listed m ns || listed m es)
 listed_joined m [] es = refl
 listed_joined m (n ∷ ns) es = listed_joined m ns (n ∷ es) ∙ turned (listed m ns) (n == m) (listed m es)
 
-removed_from : (keep : ℕ → Bool) (ns es : List ℕ) (t : Forest Kind) → keep 0 ≡ true → Once ns → ((m : ℕ) → listed m es ≡ true → keep m ≡ false) → ((n : ℕ) → listed n ns ≡ true → (keep n ≡ false) × (listed n (tops keep t) ≡ true) × (listed n es ≡ false)) → replay (map OpRemove ns) (pruned (λ m. not (listed m es)) t) ≡ Done (pruned (λ m. not (listed m (joined ns es))) t)
+removed_from : (keep : ℕ → Bool) (ns es : List ℕ) (t : Forest Kind) → keep 0 ≡ true → Once ns → ((m : ℕ) → listed m es ≡ true → keep m ≡ false) → ((n : ℕ) → listed n ns ≡ true → (keep n ≡ false) × (listed n (tops keep t) ≡ true) × (listed n es ≡ false)) → replay (map OpRemove ns) (pruned (λ m. not (listed m es)) t) ≡ Done (pruned (λ m. not (listed m (reversed_onto ns es))) t)
 removed_from keep [] es t z o g h = refl
 removed_from keep (n ∷ ns) es t z o g h =
     let f = h n (or_left (n == n) (listed n ns) (eq-eqb n n refl)) in
@@ -140,7 +140,7 @@ pub removed : (keep : ℕ → Bool) (ns : List ℕ) (t : Forest Kind) → keep 0
 removed keep ns t z o e =
     let a = removed_from keep ns [] t z o (λ m i. absurd (false≢true i)) (λ n i. (tops_gone keep n t (sym (e n) ∙ i), sym (e n) ∙ i, refl)) in
     let s = pruned_all t in
-    let b = pruned_tops keep (joined ns []) t
+    let b = pruned_tops keep (reversed_onto ns []) t
     (λ m i. tops_gone keep m t (sym (e m) ∙ (sym (listed_joined m ns [] ∙ or_none (listed m ns)) ∙ i)))
     (λ m i. listed_joined m ns [] ∙ (or_none (listed m ns) ∙ (e m ∙ i))) in
     ap (replay (map OpRemove ns)) (sym s) ∙ a ∙ ap Done b

@@ -5,7 +5,7 @@ use Rattle.html_out.specs.Html.{is_void}
 use Rattle.page_model.specs.Forest.{Forest, none, node, count, has, on, tally, parent, label_in, height, numbered}
 use Rattle.page_model.specs.Labels.{Root, Text, Element, Look, seen, shown, holds, DistinctNames, Alike, Sound}
 use Rattle.page_model.proofs.Whole.{Opened}
-use Rattle.page_model.proofs.Numbering.{count_num}
+use Rattle.page_model.proofs.Keys.{count_num}
 
 pub has_shown : (n : ℕ) (t : Forest Look) → has n (shown t) ≡ has n t
 has_shown n none = refl

@@ -6,7 +6,7 @@ use Rattle.std.proofs.lemmas.Bool.{cases_Bool, true≢false, false≢true, le-le
 use Rattle.page_model.specs.Forest.{Forest, none, node, on, tally, label_in, relabelled}
 use Rattle.page_model.specs.Labels.{Root, Text, Element, Kind, Look, with_value, present, seen, named, Distinct, DistinctNames, SameNames, Alike}
 use Rattle.page_model.specs.Replay.{Op, OpAttr, OpUnattr, Done, others, put_in, do_attr, do_unattr, do_op, then_on, replay}
-use Rattle.page_model.specs.Edits.{line_edits, attribute_edits, told}
+use Rattle.page_model.specs.Edits.{line_edits, attribute_edits, look_edits}
 use Rattle.page_model.proofs.Everywhere.{or_false, or_left, or_right}
 use Rattle.page_model.proofs.Tally.{on_tally, tally_off}
 
@@ -168,7 +168,7 @@ lines_told n e (a ∷ old) (b ∷ new) xs t s d h o l q =
     o l q'
 
 -- a kept node's operations, on each tree where it has its old label
-pub told_leads : (n : ℕ) (a b : Look) (t : Forest Kind) → Alike a b → DistinctNames b → on n t ≡ true → tally n t ≤ 1 → label_in Root n t ≡ seen a → replay (told n a b) t ≡ Done (relabelled n (seen b) t)
+pub told_leads : (n : ℕ) (a b : Look) (t : Forest Kind) → Alike a b → DistinctNames b → on n t ≡ true → tally n t ≤ 1 → label_in Root n t ≡ seen a → replay (look_edits n a b) t ≡ Done (relabelled n (seen b) t)
 told_leads n Root Root t s d o l q = ap Done (sym (relabelled_same Root n Root t o l q))
 told_leads n (Text x) (Text y) t s d o l q = elim (cases_Bool (bytes_eq x y)) [
   | inl e ↦ (let p : x ≡ y = (bytes_eq-Decides x y).0 e in rw e (ap Done (sym (relabelled_same Root n (Text y) t o l (q ∙ ap Text p)))))

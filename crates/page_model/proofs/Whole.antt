@@ -11,7 +11,7 @@ use Rattle.page_model.proofs.Everywhere.{or_false, flipped, not_same, or_right, 
 use Rattle.page_model.proofs.Tally.{off_tally, on_tally, tally_off}
 use Rattle.page_model.proofs.Parents.{Waiting, newly_clear, replay_more, replayed, plan_edits}
 use Rattle.page_model.proofs.Removals.{removed}
-use Rattle.page_model.proofs.Tellings.{Says, told_all}
+use Rattle.page_model.proofs.KeptNodes.{Says, told_all}
 use Rattle.page_model.proofs.Depths.{Fits, fits_kids}
 use Rattle.page_model.proofs.Levels.{depth_parent, depth_low, fits_self, fits_sits}
 use Rattle.page_model.proofs.Linked.{has_on, on_kids, single_of, knows, tells, sits, matches_at, ready_of, clear_of, labelled_of}

@@ -64,10 +64,10 @@ attribute_edits n old [] i = []
 attribute_edits n (a ∷ xs) (b ∷ bs) i = line_edits n i b.0 a.1 b.1 (attribute_edits n xs bs)
 
 -- the text or the attributes of one node that differ
-abbrev pub told : ℕ → Look → Look → List Op
-told n (Text s) (Text t) = if bytes_eq s t then [] else OpText n t ∷ []
-told n (Element name old) (Element name' new) = attribute_edits n old new 0
-told n x y = []
+abbrev pub look_edits : ℕ → Look → Look → List Op
+look_edits n (Text s) (Text t) = if bytes_eq s t then [] else OpText n t ∷ []
+look_edits n (Element name old) (Element name' new) = attribute_edits n old new 0
+look_edits n x y = []
 
 -- ---- the whole
 
@@ -88,4 +88,4 @@ edits old new =
     let kept = ascending (keys left) in
     (map OpRemove (ascending (tops (λ n. on n (shown new)) (shown old)))
     ++ flat_map (λ n. child_edits n 0 (siblings (kids n left)) (kids n (shown new))) kept)
-    ++ flat_map (λ n. told n (label_in Root n old) (label_in Root n new)) kept
+    ++ flat_map (λ n. look_edits n (label_in Root n old) (label_in Root n new)) kept

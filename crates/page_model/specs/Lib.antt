@@ -7,4 +7,4 @@ pub mod Pages
 pub mod Html
 pub mod Trees
 pub mod Texts
-pub mod Coding
+pub mod Codes

@@ -4,7 +4,7 @@ use Rattle.std.specs.List.{flat_map}
 use Rattle.std.specs.Fmt.{decimal}
 use Rattle.std.specs.Str.{IsUtf8}
 use Rattle.sig_base.specs.declared.limits.TheConstants.{MOST_TEXT}
-use Rattle.sig_base.specs.Printing.{quoted}
+use Rattle.sig_base.specs.Printer.{quoted}
 use Rattle.html_out.specs.Html.{good_name}
 use Rattle.page_model.specs.Forest.{Forest, none, node, height}
 use Rattle.page_model.specs.Labels.{Root, Text, Element, Kind, WellNamed}

@@ -1,11 +1,11 @@
-mod Coming
-mod Judging
+mod Subtrees
+mod Refusals
 mod Written
-mod Wording
-mod Quoting
-mod Fitting
+mod Words
+mod Quotes
+mod Attributes
 mod Listed
 mod Nested
-mod Saying
+mod Texts
 mod Readable
 pub mod Shared

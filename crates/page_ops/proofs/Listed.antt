@@ -3,17 +3,17 @@ use Rattle.std.proofs.Common.{◌≡◌, ℕ, ◌-◌, ◌<◌, true, false, Lis
 use Rattle.std.specs.Prelude.{slice_index}
 use Rattle.std.proofs.lemmas.Bool.{false≢true}
 use Rattle.std.proofs.lemmas.List.{length-drop}
-use Rattle.sig_base.specs.Printing.{quoted}
+use Rattle.sig_base.specs.Printer.{quoted}
 use Rattle.html_out.specs.Html.{good_name}
 use Rattle.page_model.specs.Forest.{Forest, none, node}
 use Rattle.page_model.specs.Labels.{Kind, named}
 use Rattle.page_model.specs.Texts.{IsText, written_attributes, written_nodes}
-use Rattle.page_ops.specs.Readings.{AreFit, begins_attribute, behind_front, behind_quote, front}
+use Rattle.page_ops.specs.Parser.{AreFit, begins_attribute, behind_front, behind_quote, front}
 use Rattle.std.specs.List.{prefix_len}
 use Rattle.sig_base.specs.Words.{in_tag}
-use Rattle.page_ops.proofs.Fitting.{fit_name, fit_new, fit_text}
-use Rattle.page_ops.proofs.Quoting.{behind_quoted, behind_shorter}
-use Rattle.page_ops.proofs.Wording.{behind_is, front_is, name_first, name_run}
+use Rattle.page_ops.proofs.Attributes.{fit_name, fit_new, fit_text}
+use Rattle.page_ops.proofs.Quotes.{behind_quoted, behind_shorter}
+use Rattle.page_ops.proofs.Words.{behind_is, front_is, name_first, name_run}
 
 -- attributes that are read already, and those that the bytes begin with
 pub record Left (have : List (List ℕ × List ℕ)) (bytes : List ℕ) (all : List (List ℕ × List ℕ)) (tail : List ℕ) : Type 0 where

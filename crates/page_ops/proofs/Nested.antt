@@ -6,7 +6,7 @@ use Rattle.std.specs.Fmt.{decimal}
 use Rattle.std.proofs.lemmas.Bool.{false≢true}
 use Rattle.std.proofs.lemmas.Bool.Decides.{nat_tests}
 use Rattle.std.proofs.lemmas.List.{length-drop, map-append}
-use Rattle.sig_base.specs.Printing.{quoted}
+use Rattle.sig_base.specs.Printer.{quoted}
 use Rattle.sig_base.specs.Words.{in_tag}
 use Rattle.html_out.specs.Html.{good_name}
 use Rattle.page_model.specs.Forest.{Forest, none, node, after}
@@ -15,10 +15,10 @@ use Rattle.page_model.specs.Texts.{IsNumber, IsText, written_attributes, written
 use Rattle.page_model.specs.Trees.{IsNode}
 use Rattle.page_tree.specs.declared.sub.Sub.{Sub}
 use Rattle.page_tree.specs.Subs.{side_by_side, sub_tree}
-use Rattle.page_ops.specs.Readings.{AreFit, IsFit, begins_node, behind_front, behind_quote, front, node_text}
+use Rattle.page_ops.specs.Parser.{AreFit, IsFit, begins_node, behind_front, behind_quote, front, node_text}
 use Rattle.page_ops.proofs.Listed.{list_stops}
-use Rattle.page_ops.proofs.Quoting.{behind_shorter, quoted_opens}
-use Rattle.page_ops.proofs.Wording.{behind_is, front_is, name_first, name_run}
+use Rattle.page_ops.proofs.Quotes.{behind_shorter, quoted_opens}
+use Rattle.page_ops.proofs.Words.{behind_is, front_is, name_first, name_run}
 
 -- ---- nodes that have a text, put together and taken apart
 

@@ -3,7 +3,7 @@ use Rattle.std.proofs.Common.{◌≡◌, ℕ, ◌<◌, ◌^◌, true, false, Lis
 use Rattle.std.specs.Prelude.{◌==◌, if◌then◌else◌, slice_index}
 use Rattle.std.specs.Fmt.{decimal}
 use Rattle.std.proofs.lemmas.Bool.{false≢true}
-use Rattle.sig_base.specs.Printing.{quoted}
+use Rattle.sig_base.specs.Printer.{quoted}
 use Rattle.sig_base.specs.Words.{in_tag}
 use Rattle.html_out.specs.Html.{good_name}
 use Rattle.page_model.specs.Forest.{Forest, none, node}
@@ -11,15 +11,15 @@ use Rattle.page_model.specs.Labels.{Root, Text, Element, Kind, GoodNames}
 use Rattle.page_model.specs.Replay.{Op, OpRemove, OpInsert, OpMove, OpText, OpAttr, OpUnattr}
 use Rattle.page_model.specs.Texts.{op_text, written_attributes, written_label, written_nodes}
 use Rattle.page_tree.specs.Subs.{insertion}
-use Rattle.page_ops.specs.declared.reading.Verb.{Verb}
-use Rattle.page_ops.specs.declared.reading.Verb.TheVariants as verb
+use Rattle.page_ops.specs.declared.reader.Verb.{Verb}
+use Rattle.page_ops.specs.declared.reader.Verb.TheVariants as verb
 use Rattle.page_ops.specs.Ops.{HasText}
-use Rattle.page_ops.specs.Readings.{IsFit, begins_attribute, begins_node, behind_front, behind_quote, front, node_text, number_of, rest_of, unquoted, verb_of, word_of}
+use Rattle.page_ops.specs.Parser.{IsFit, begins_attribute, begins_node, behind_front, behind_quote, front, node_text, number_of, rest_of, unquoted, verb_of, word_of}
 use Rattle.page_ops.proofs.Listed.{attribute_begins, attribute_text, list_stops, tail_begins}
 use Rattle.page_ops.proofs.Nested.{fit_first, fit_kids, fit_rest, label_stops, nodes_text}
-use Rattle.page_ops.proofs.Quoting.{behind_quoted, quoted_is, quoted_opens}
-use Rattle.page_ops.proofs.Saying.{behind_word, is_number, rest_stops, word_first}
-use Rattle.page_ops.proofs.Wording.{behind_is, front_is, name_first, name_run, number_run, one_number}
+use Rattle.page_ops.proofs.Quotes.{behind_quoted, quoted_is, quoted_opens}
+use Rattle.page_ops.proofs.Texts.{behind_word, is_number, rest_stops, word_first}
+use Rattle.page_ops.proofs.Words.{behind_is, front_is, name_first, name_run, number_run, one_number}
 
 -- ---- numbers, names and texts
 

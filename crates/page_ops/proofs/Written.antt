@@ -1,7 +1,7 @@
 -- How a subtree is written.
 use Rattle.std.proofs.Common.{◌≡◌, ℕ, refl, sym, ap, subst, ◌∙◌, List, [], ◌∷◌, ◌++◌, map, append_assoc}
 use Rattle.std.specs.Fmt.{decimal}
-use Rattle.sig_base.specs.Printing.{quoted}
+use Rattle.sig_base.specs.Printer.{quoted}
 use Rattle.page_model.specs.Forest.{Forest, none, node, after}
 use Rattle.page_model.specs.Labels.{Kind}
 use Rattle.page_model.specs.Texts.{AreSized, op_text, written_attributes, written_label, written_nodes}

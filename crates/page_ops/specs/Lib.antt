@@ -1,3 +1,3 @@
 pub mod Ops
 pub mod Numbers
-pub mod Readings
+pub mod Parser

@@ -5,7 +5,7 @@ use Rattle.std.specs.Fmt.{decimal}
 use Rattle.page_model.specs.Texts.{op_text, written_attributes, IsSized, IsWritable}
 use Rattle.page_model.specs.Replay as replay
 use Rattle.page_model.specs.Replay.{Answer, Done, Refused, others}
-use Rattle.page_tree.specs.Reading.{IsDone}
+use Rattle.page_tree.specs.Queries.{IsDone}
 use Rattle.page_tree.specs.Subs.{insertion, sub_tree}
 use Rattle.page_ops.specs.declared.op.Op.{Op}
 use Rattle.page_ops.specs.declared.op.Op.TheVariants as op

@@ -1,16 +1,16 @@
 //! Operations on a numbered tree: doing them, writing them, and reading them.
 #![tactic(auto)]
 
-mod applying;
-mod checking;
+mod judge;
 mod nodes;
 mod numbers;
 mod op;
 mod parts;
-mod reading;
-mod writing;
+mod reader;
+mod replay;
+mod writer;
 
-pub use applying::apply;
 pub use op::{ApplyFault, Op, OpFault};
-pub use reading::{one_reading, read_op};
-pub use writing::op_line;
+pub use reader::{one_reading, read_op};
+pub use replay::apply;
+pub use writer::op_line;

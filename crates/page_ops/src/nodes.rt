@@ -7,7 +7,7 @@ ghost use Rattle.page_model.specs.Forest.{Forest, node, none};
 ghost use Rattle.page_model.specs.Labels.{Kind, named};
 ghost use Rattle.page_model.specs.Texts.{IsNumber, IsText, written_attributes, written_nodes};
 ghost use Rattle.page_tree.specs.Subs.{sub_tree};
-ghost use Rattle.page_ops.specs.Readings.{AreFit, IsFit, begins_attribute, begins_node, node_text};
+ghost use Rattle.page_ops.specs.Parser.{AreFit, IsFit, begins_attribute, begins_node, node_text};
 
 use crate::parts::{behind, behind_literal, byte_at, literal, name, number, word};
 use page_tree::Sub;

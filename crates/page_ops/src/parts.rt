@@ -3,12 +3,12 @@
 ghost use Rattle.std.specs.Prelude.{◌≡◌, ◌++◌, ◌≤◌, ℕ, List, IfOk, true, false, drop, length, slice_index};
 ghost use Rattle.std.specs.List.{prefix_len};
 ghost use Rattle.std.specs.Fmt.{decimal};
-ghost use Rattle.sig_base.specs.Printing.{quoted};
+ghost use Rattle.sig_base.specs.Printer.{quoted};
 ghost use Rattle.sig_base.specs.Words.{in_tag};
 ghost use Rattle.sig_words.specs.Literals.{meaning};
 ghost use Rattle.html_out.specs.Html.{good_name};
 ghost use Rattle.page_model.specs.Texts.{IsNumber, IsText};
-ghost use Rattle.page_ops.specs.Readings.{behind_front, behind_quote, front, unquoted};
+ghost use Rattle.page_ops.specs.Parser.{behind_front, behind_quote, front, unquoted};
 
 use html_out::good_name;
 use sig_base::{NoMemory, Text, TextFault, in_tag};

@@ -1,10 +1,10 @@
 mod Tables
 mod Lists
 mod Document
-mod Showing
-mod Cutting
-mod Bringing
-mod Doing
+mod Bytes
+mod Cuts
+mod Subtrees
+mod Edits
 mod Queries
 mod Upward
 pub mod Shared

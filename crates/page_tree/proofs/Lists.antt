@@ -5,7 +5,7 @@ use Rattle.std.proofs.lemmas.Bool.{cases_Bool, false≢true}
 use Rattle.page_model.specs.Edits.{listed, put_at, taken}
 use Rattle.page_model.specs.Pages.{place_in}
 use Rattle.page_model.specs.Replay.{others, put_in}
-use Rattle.page_tree.specs.Reading.{after_one, place_named}
+use Rattle.page_tree.specs.Queries.{after_one, place_named}
 
 pub put_is : (i n : ℕ) (ms : List ℕ) → i ≤ length ms → take i ms ++ n ∷ drop i ms ≡ put_at i n ms
 put_is zero n ms h = refl

@@ -9,12 +9,12 @@ use Rattle.page_model.specs.Pages.{place_in}
 use Rattle.page_model.specs.Replay.{OpInsert, OpMove, OpAttr, OpRemove, NoSuchNode, NoSuchPlace, below_root, Done, do_attr, do_op, others, put_in}
 use Rattle.page_model.specs.Trees.{IsTree, Brings}
 use Rattle.page_model.proofs.Shared.{both, done_if, has_listed, has_parent, if_done, kids_off, not_zero, or_false}
-use Rattle.page_tree.specs.Reading.{IsDone, kind_of, kind_at, child_count, place_at}
+use Rattle.page_tree.specs.Queries.{IsDone, kind_of, kind_at, child_count, place_at}
 use Rattle.page_tree.specs.Rows.{Row, IsKept, attributes_of, edited, moved_row, parent_of, parted, removed, removed_row, tree_in, with_attributes, with_children}
 use Rattle.page_tree.specs.Rows as rows_of_table
 use Rattle.page_tree.specs.Subs.{after_rows, insertion, rows_of}
 use Rattle.page_tree.proofs.Tables.{Leads, row_at, found}
-use Rattle.page_tree.proofs.Doing.{attr_leads, done_for, insert_leads, is_done, kept_some, leads_for, move_leads, off_top, remove_leads}
+use Rattle.page_tree.proofs.Edits.{attr_leads, done_for, insert_leads, is_done, kept_some, leads_for, move_leads, off_top, remove_leads}
 
 count_siblings : (t : Forest Kind) → length (siblings t) ≡ count t
 count_siblings none = refl

@@ -4,9 +4,9 @@ use Rattle.std.proofs.lemmas.Bool.{cases_Bool, false≢true}
 use Rattle.page_model.specs.Forest.{Forest, none, node, on, parent, depth, height}
 use Rattle.page_model.specs.Labels.{Kind}
 use Rattle.page_model.proofs.Shared.{depth_low, depth_parent}
-use Rattle.page_tree.specs.Reading.{depth_at}
+use Rattle.page_tree.specs.Queries.{depth_at}
 use Rattle.page_tree.specs.Rows.{Row, IsKept, climbed, climbed_from, tree_in}
-use Rattle.page_tree.proofs.Doing.{kept_some, off_top}
+use Rattle.page_tree.proofs.Edits.{kept_some, off_top}
 use Rattle.page_tree.proofs.Queries.{parent_on, row_there, tree_seen}
 
 pub climb_step : (levels : ℕ) (rows : ℕ → Option Row) (n : ℕ) → 0 < levels → climbed levels rows n ≡ (if n == 0 then 0 else climbed_from (rows n) (climbed (levels - 1) rows))

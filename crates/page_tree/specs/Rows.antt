@@ -63,9 +63,9 @@ unfoldable pub tree_in : (ℕ → Option Row) → Forest Kind
 tree_in rows = build 33 rows (0 ∷ [])
 
 -- each node of these siblings has its row
-abbrev pub Holds : (ℕ → Option Row) → ℕ → Forest Kind → Type 0
-Holds rows above none = Unit {0}
-Holds rows above (node n x k r) = (rows n ≡ Some (record { label = x; parent = above; children = siblings k })) × Holds rows n k × Holds rows above r
+abbrev pub HaveRows : (ℕ → Option Row) → ℕ → Forest Kind → Type 0
+HaveRows rows above none = Unit {0}
+HaveRows rows above (node n x k r) = (rows n ≡ Some (record { label = x; parent = above; children = siblings k })) × HaveRows rows n k × HaveRows rows above r
 
 -- there is a row
 abbrev pub is_row : Option Row → Bool
@@ -75,7 +75,7 @@ is_row (Some r) = true
 -- a table that stands for a tree: each node has its row, and there are no others
 pub record IsKept (rows : ℕ → Option Row) : Type 0 where
   pub tree : IsTree (tree_in rows)
-  pub held : Holds rows 0 (tree_in rows)
+  pub held : HaveRows rows 0 (tree_in rows)
   pub just : (n : ℕ) → is_row (rows n) ≡ true → on n (tree_in rows) ≡ true
 
 -- the row of one number edited

@@ -78,7 +78,7 @@ fn write_element(
 
 // One node and what stands below it.
 #[cycle(html)]
-#[tactic(auto, using(crate::proofs::Showing::shows_cons, crate::proofs::Showing::shows_one, crate::proofs::Showing::shows_none))]
+#[tactic(auto, using(crate::proofs::Bytes::shows_cons, crate::proofs::Bytes::shows_one, crate::proofs::Bytes::shows_none))]
 fn write_node(
     out: &mut Vec<u8>,
     nodes: &IndexMap<u64, Node>,
@@ -105,7 +105,7 @@ fn write_node(
 
 /// Appends the bytes of these nodes and of what stands below them, on so many levels; their texts are escaped or as they are.
 #[cycle(html)]
-#[tactic(auto, using(crate::proofs::Showing::shows_cons, crate::proofs::Showing::shows_one, crate::proofs::Showing::shows_none))]
+#[tactic(auto, using(crate::proofs::Bytes::shows_cons, crate::proofs::Bytes::shows_one, crate::proofs::Bytes::shows_none))]
 pub fn write_nodes(
     out: &mut Vec<u8>,
     nodes: &IndexMap<u64, Node>,

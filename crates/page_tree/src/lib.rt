@@ -2,11 +2,11 @@
 //! its siblings, and never by the page.
 #![tactic(auto)]
 
-mod climbing;
-mod editing;
+mod ancestors;
 mod html;
+mod moves;
 mod numbers;
-mod removing;
+mod removal;
 mod sub;
 mod table;
 mod tree;

@@ -4,7 +4,7 @@ ghost use Rattle.indexmap.specs.IndexMap.{spare};
 ghost use Rattle.page_model.specs.Edits.{listed, put_at, taken};
 ghost use Rattle.page_model.specs.Pages as pages;
 ghost use Rattle.page_model.specs.Replay.{others, put_in};
-ghost use Rattle.page_tree.specs.Reading as reading;
+ghost use Rattle.page_tree.specs.Queries as reading;
 ghost use Rattle.page_tree.specs.Rows.{Row, attributes_of, edited, label_of, look, row_of, with_attributes, with_children, with_label, written};
 
 use indexmap::IndexMap;

@@ -7,14 +7,14 @@ ghost use Rattle.page_model.specs.Html.{html_of};
 ghost use Rattle.page_model.specs.Labels.{Root};
 ghost use Rattle.page_model.specs.Replay as replay;
 ghost use Rattle.page_model.specs.Trees.{Brings, IsTree};
-ghost use Rattle.page_tree.specs.Reading as reading;
-ghost use Rattle.page_tree.specs.Reading.{IsDone};
+ghost use Rattle.page_tree.specs.Queries as reading;
+ghost use Rattle.page_tree.specs.Queries.{IsDone};
 ghost use Rattle.page_tree.specs.Rows.{label_of, look, written};
 ghost use Rattle.page_tree.specs.Subs.{insertion, sub_tree};
 
-use crate::climbing::climb;
-use crate::editing::{insert_rows, move_node, remove_node};
+use crate::ancestors::climb;
 use crate::html::write_nodes;
+use crate::moves::{insert_rows, move_node, remove_node};
 use crate::numbers::put_number;
 use crate::sub::{Sub, put_rows};
 use crate::table::{
@@ -50,7 +50,7 @@ impl Drop for Tree {
 impl Model for Tree {
     ghost use Rattle.page_model.specs.Forest.{Forest};
     ghost use Rattle.page_model.specs.Labels.{Kind};
-    ghost use Rattle.page_model.specs.Coding.{tree_code};
+    ghost use Rattle.page_model.specs.Codes.{tree_code};
 
     ghost Value = { Forest Kind };
 

@@ -1,7 +1,7 @@
 //! Edits of a list's rows as a script has them: what they make, or why they are refused.
 #![tactic(auto)]
 
-mod editing;
-mod refusing;
+mod edits;
+mod refusals;
 
-pub use editing::edited;
+pub use edits::edited;

@@ -1,3 +1,3 @@
-mod Cutting
-mod Reading
+mod Cuts
+mod Reader
 pub mod Shared

@@ -9,7 +9,7 @@ use Rattle.sig_base.specs.declared.value.Value.{Value}
 use Rattle.sig_formula.specs.Trees.{Tree}
 use Rattle.signal_model.specs.Recipes.{formula_recipe, host}
 use Rattle.signal_model.specs.Asks.{is_host}
-use Rattle.signal_model.specs.Standing.{Signals, Cell as CellOf, Computed, Stands, IsGone, IsCell, IsComputed}
+use Rattle.signal_model.specs.Signals.{Signals, Cell as CellOf, Computed, Stands, IsGone, IsCell, IsComputed}
 use Rattle.sig_nodes.specs.declared.answers.Standing.TheVariants.{Cell}
 use Rattle.sig_host.specs.declared.shelf.Shelf.{Shelf}
 use Rattle.sig_host.specs.Hosts.{HostPlace, is_there, most_asked, unasked_place}

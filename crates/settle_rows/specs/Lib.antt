@@ -1,2 +1,2 @@
 pub mod Scenes
-pub mod Lending
+pub mod Loans

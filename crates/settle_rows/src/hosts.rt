@@ -1,7 +1,7 @@
 // Host formulas that tests hand in.
 ghost use Rattle.std.specs.Prelude.{◌≡◌};
 ghost use Rattle.sig_base.specs.declared.value.Step.TheVariants.{Read};
-ghost use Rattle.settle_rows.specs.Lending.{first_lends, first_step};
+ghost use Rattle.settle_rows.specs.Loans.{first_lends, first_step};
 
 use sig_base::{Known, NoMemory, Step};
 use sig_host::HostFormula;

@@ -1,4 +1,4 @@
-pub mod Printing
+pub mod Printer
 pub mod Scalars
 pub mod Tables
 pub mod Values

@@ -49,24 +49,24 @@ same_table t u = pointwise bytes_eq t.fields u.fields && pointwise same_row t.ro
 same_rowed : (r s : Row) → (r.key ≡ s.key) × (r.values ≡ s.values) → r ≡ s
 same_rowed r s h =
     ap {A = List ℕ} {B = Row} (λ k. record { key = k; values = r.values }) h.0
-      ∙ ap {A = List Scalar} {B = Row} (λ v. record { key = s.key; values = v }) h.1
+    ∙ ap {A = List Scalar} {B = Row} (λ v. record { key = s.key; values = v }) h.1
 
 -- the same rows are equal, and the others are not
 pub same_row-Decides : (r s : Row) → Decides (same_row r s) (r ≡ s)
 same_row-Decides r s =
     let d = Decides-and (bytes_eq r.key s.key) (pointwise same_scalar r.values s.values) (bytes_eq-Decides r.key s.key)
-      (slice_eq-Decides same_scalar-Decides r.values s.values _ refl) in
+    (slice_eq-Decides same_scalar-Decides r.values s.values _ refl) in
     (λ h. same_rowed r s (d.0 h), λ (e : r ≡ s). d.1 (ap (λ (x : Row). x.key) e, ap (λ (x : Row). x.values) e))
 
 -- tables of the same fields and rows are equal
 same_tabled : (t u : Table) → (t.fields ≡ u.fields) × (t.rows ≡ u.rows) → t ≡ u
 same_tabled t u h =
     ap {A = List (List ℕ)} {B = Table} (λ f. record { fields = f; rows = t.rows }) h.0
-      ∙ ap {A = List Row} {B = Table} (λ r. record { fields = u.fields; rows = r }) h.1
+    ∙ ap {A = List Row} {B = Table} (λ r. record { fields = u.fields; rows = r }) h.1
 
 -- the same tables are equal, and the others are not
 pub same_table-Decides : (t u : Table) → Decides (same_table t u) (t ≡ u)
 same_table-Decides t u =
     let d = Decides-and (pointwise bytes_eq t.fields u.fields) (pointwise same_row t.rows u.rows)
-      (slice_eq-Decides bytes_eq-Decides t.fields u.fields _ refl) (slice_eq-Decides same_row-Decides t.rows u.rows _ refl) in
+    (slice_eq-Decides bytes_eq-Decides t.fields u.fields _ refl) (slice_eq-Decides same_row-Decides t.rows u.rows _ refl) in
     (λ h. same_tabled t u (d.0 h), λ (e : t ≡ u). d.1 (ap (λ (x : Table). x.fields) e, ap (λ (x : Table). x.rows) e))

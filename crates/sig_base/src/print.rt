@@ -1,7 +1,7 @@
 // The printed forms of values and faults.
 ghost use Rattle.std.specs.Prelude.{◌≡◌, ◌++◌, OnOk, codes};
 ghost use Rattle.std.specs.List.{flat_map, join_by};
-ghost use Rattle.sig_base.specs.Printing.{fault_name, in_quotes, printed, printed_row, printed_rows, printed_scalar, quoted};
+ghost use Rattle.sig_base.specs.Printer.{fault_name, in_quotes, printed, printed_row, printed_rows, printed_scalar, quoted};
 
 use crate::scalar::put_shown;
 use crate::{Fault, NoMemory, Row, Scalar, Value};
@@ -21,7 +21,7 @@ fn put_in_quotes(out: &mut Vec<u8>, byte: u8) -> Result<(), NoMemory>
 }
 
 /// Appends a text in double quotes, with `\\`, `\"`, `\n`, `\r` and `\t` for the characters that they stand for.
-#[tactic(auto, unfolding(crate::specs::Printing::quoted))]
+#[tactic(auto, unfolding(crate::specs::Printer::quoted))]
 pub fn put_quoted(out: &mut Vec<u8>, text: &str) -> Result<(), NoMemory>
     ensures { OnOk result (out.new.items ≡ out.old.items ++ quoted text.now) }
 {
@@ -57,7 +57,7 @@ fn put_scalars(out: &mut Vec<u8>, values: &[Scalar]) -> Result<(), NoMemory>
     Ok(())
 }
 
-#[tactic(auto, unfolding(crate::specs::Printing::printed_row))]
+#[tactic(auto, unfolding(crate::specs::Printer::printed_row))]
 fn put_row(out: &mut Vec<u8>, row: &Row) -> Result<(), NoMemory>
     ensures { OnOk result (out.new.items ≡ out.old.items ++ printed_row row.now) }
 {
@@ -82,7 +82,7 @@ fn put_each_row(out: &mut Vec<u8>, rows: &[Row]) -> Result<(), NoMemory>
     Ok(())
 }
 
-#[tactic(auto, unfolding(crate::specs::Printing::printed_rows))]
+#[tactic(auto, unfolding(crate::specs::Printer::printed_rows))]
 fn put_rows(out: &mut Vec<u8>, rows: &[Row]) -> Result<(), NoMemory>
     ensures { OnOk result (out.new.items ≡ out.old.items ++ printed_rows rows.now) }
 {

@@ -115,7 +115,7 @@ impl From<Scalar> for Value {
 
 impl fmt::Display for Fault {
     ghost use Rattle.std.specs.Prelude.{Some};
-    ghost use Rattle.sig_base.specs.Printing.{fault_name};
+    ghost use Rattle.sig_base.specs.Printer.{fault_name};
 
     ghost output = { λ f. Some (fault_name f) };
 

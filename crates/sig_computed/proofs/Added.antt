@@ -2,14 +2,14 @@
 use Rattle.std.proofs.Common.{◌≡◌, ℕ, zero, suc, ◌==◌, ◌||◌, Bool, true, false, List, [], ◌∷◌, ◌++◌, append_assoc, append-nil, refl, sym, ap, ◌∙◌, subst, ◌⊎◌, inl, inr}
 use Rattle.std.proofs.lemmas.Bool.{eqb-true}
 use Rattle.signal_model.specs.Recipes.{Hosts}
-use Rattle.signal_model.specs.Standing.{Signals, Computed, Stands, IsGone, IsCell, IsComputed, is_in, standing}
+use Rattle.signal_model.specs.Signals.{Signals, Computed, Stands, IsGone, IsCell, IsComputed, is_in, standing}
 use Rattle.signal_model.specs.Values.{Seen, reads_of, names_left}
 use Rattle.signal_model.specs.Orders.{Visit, visited, visits, visit_case, visit_within, visit, order_after, evaluation_order}
 use Rattle.signal_model.specs.Laws.{IsRead}
 use Rattle.signal_model.proofs.Shared.{name_is, tested, either, or_left, or_right}
 use Rattle.signal_laws.specs.OrderLaws.{AreOrdered}
 use Rattle.signal_laws.proofs.Shared.{or_none, or_fst, ordered_first, places_law}
-use Rattle.sig_computed.specs.Stepping.{Frame, frame_names}
+use Rattle.sig_computed.specs.Steps.{Frame, frame_names}
 use Rattle.sig_computed.proofs.VisitsLeft.{finished, completed}
 
 -- visits grew at their end

@@ -3,7 +3,7 @@ use Rattle.std.proofs.Common.{◌≡◌, ℕ, zero, suc, ◌+◌, ◌*◌, ◌<�
 use Rattle.std.specs.List.{AllByRecursion}
 use Rattle.std.proofs.lemmas.Bool.{eqb-true}
 use Rattle.signal_model.specs.Recipes.{Hosts}
-use Rattle.signal_model.specs.Standing.{Signals, Computed, Stands, IsGone, IsCell, IsComputed, is_in, standing}
+use Rattle.signal_model.specs.Signals.{Signals, Computed, Stands, IsGone, IsCell, IsComputed, is_in, standing}
 use Rattle.signal_model.specs.Values.{Seen, evaluated, reads_of, names_left}
 use Rattle.signal_model.specs.Orders.{Visit, visited, visits, visit_case, visit_within, visit, order_after, evaluation_order}
 use Rattle.signal_model.specs.Memos.{Memos, memo_in, memo_of, sources_in, sources_of, must_run}
@@ -14,8 +14,8 @@ use Rattle.signal_model.specs.Laws.{IsRead}
 use Rattle.signal_model.proofs.Shared.{name_is, left_less, tested, either, or_left, or_right, visit_by_cases}
 use Rattle.signal_laws.proofs.Shared.{all_append, clean_moments_law, places_law, run_other, settle_both_law, settled_clean, settles}
 use Rattle.sig_computed.specs.Costs.{kept_count, name_steps, run_steps, unless_clean, visit_steps}
-use Rattle.sig_computed.specs.PassingLaws.{BoundBothLaw}
-use Rattle.sig_computed.proofs.Counting.{visits_more}
+use Rattle.sig_computed.specs.SkipLaws.{BoundBothLaw}
+use Rattle.sig_computed.proofs.Counts.{visits_more}
 
 -- ---- sums
 

@@ -3,7 +3,7 @@ use Rattle.std.proofs.Common.{◌≡◌, ℕ, ◌==◌, ◌||◌, ◌&&◌, not,
 use Rattle.std.proofs.lemmas.Bool.{eqb-true}
 use Rattle.sig_base.specs.declared.value.Outcome.{Outcome}
 use Rattle.signal_model.specs.Recipes.{Hosts}
-use Rattle.signal_model.specs.Standing.{Signals, Computed, IsComputed, is_computed, is_in, standing}
+use Rattle.signal_model.specs.Signals.{Signals, Computed, IsComputed, is_computed, is_in, standing}
 use Rattle.signal_model.specs.Values.{reads_of}
 use Rattle.signal_model.specs.Memos.{Source, Memo, Memos, memo_in, number_in, memo_of, number_of, sources_in, source_names, keeps, same_number, is_cycle, some_moved, must_run_by, must_run}
 use Rattle.signal_model.specs.Settling.{with_memo}

@@ -6,7 +6,7 @@ use Rattle.sig_base.specs.declared.value.Known.{Known}
 use Rattle.sig_base.specs.declared.value.Outcome.{Outcome}
 use Rattle.sig_base.specs.declared.value.Step.TheVariants.{Read}
 use Rattle.signal_model.specs.Recipes.{Hosts, recipe_answer}
-use Rattle.signal_model.specs.Standing.{Signals, Computed, IsComputed, is_in, standing}
+use Rattle.signal_model.specs.Signals.{Signals, Computed, IsComputed, is_in, standing}
 use Rattle.signal_model.specs.Values.{Seen, asked_from, value_of, evaluated}
 use Rattle.signal_model.specs.Orders.{Visit, visited}
 use Rattle.signal_model.specs.Memos.{Source, Memo, Entry, Memos, entry_at, memo_in, number_in, memo_of, number_of, source_names, is_cycle}
@@ -18,7 +18,7 @@ use Rattle.signal_model.specs.Laws.{IsChain}
 use Rattle.signal_model.proofs.Shared.{tested}
 use Rattle.signal_laws.proofs.Shared.{either, or_left, or_right, in_head, in_tail, run_other, run_stays, moved_off}
 use Rattle.signal_model.specs.Memos.{is_stale_by, is_stale}
-use Rattle.sig_computed.specs.Stepping.{Phase, Looking, LookedAt, Running, Waiting, Frame, frame_names, new_frame}
+use Rattle.sig_computed.specs.Steps.{Phase, Looking, LookedAt, Running, Waiting, Frame, frame_names, new_frame}
 use Rattle.sig_computed.proofs.VisitsLeft.{ArePassed, in_snoc}
 
 module _ (hosts : Hosts) (w : Signals) where

@@ -8,12 +8,12 @@ use Rattle.sig_base.specs.declared.value.Step.{Step}
 use Rattle.signal_model.specs.Recipes.{Expression, Hosts, formula, given_answer, host, judged}
 use Rattle.sig_nodes.specs.declared.answers.Asked.{Asked}
 use Rattle.sig_nodes.specs.declared.answers.Asked.TheVariants.{Host as HostAsked}
-use Rattle.signal_model.specs.Standing.{Stands, IsGone, IsCell, IsComputed, is_computed}
+use Rattle.signal_model.specs.Signals.{Stands, IsGone, IsCell, IsComputed, is_computed}
 use Rattle.signal_model.specs.Memos.{Memo}
 use Rattle.signal_model.specs.Sound.{kept_outcome, outcome_here}
 use Rattle.sig_nodes.specs.declared.answers.Standing.TheVariants.{Computed, Computing}
 use Rattle.sig_nodes.specs.Answers.{answer_here, host_place, kind_here, slots_here, IsAnswerHere}
-use Rattle.sig_computed.specs.Stepping.{Running, Looking, GoesOn, is_ready, ready_outcome, decided}
+use Rattle.sig_computed.specs.Steps.{Running, Looking, GoesOn, is_ready, ready_outcome, decided}
 use Rattle.sig_computed.specs.Views.{or_cycle}
 
 -- what is answered as a computed is one

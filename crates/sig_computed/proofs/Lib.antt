@@ -4,10 +4,10 @@ mod Leaves
 mod Looks
 mod Wholes
 mod Measure
-mod Asking
+mod Asks
 mod Loops
 mod Runs
-mod Fitting
+mod Stacks
 mod VisitsLeft
 mod NextReads
 mod FramesLast
@@ -15,9 +15,9 @@ mod StepsHold
 mod StepsEnd
 mod CleanRuns
 mod Added
-mod Counting
+mod Counts
 mod Passed
-mod Passing
+mod Skips
 mod Bounds
-mod Settlings
+mod Names
 pub mod Shared

@@ -2,16 +2,16 @@
 use Rattle.std.proofs.Common.{◌≡◌, ℕ, ◌+◌, ◌≤◌, ◌==◌, ◌||◌, inl, inr, true≢false, Bool, true, false, cond, List, [], ◌∷◌, Some, None, map, refl, sym, ap, ◌∙◌, subst, arith}
 use Rattle.std.specs.Prelude.{is_some}
 use Rattle.std.proofs.lemmas.Bool.{eqb-true, eq-eqb}
-use Rattle.signal_model.specs.Standing.{Signals, Computed, Stands, IsGone, IsCell, IsComputed, is_in, is_computed, standing}
+use Rattle.signal_model.specs.Signals.{Signals, Computed, Stands, IsGone, IsCell, IsComputed, is_in, is_computed, standing}
 use Rattle.signal_model.specs.Memos.{Source, Memos}
 use Rattle.signal_model.specs.Marks.{mark_of}
 use Rattle.signal_model.proofs.Shared.{or_left, stands-computed, tested}
 use Rattle.signal_laws.proofs.Shared.{in_append}
-use Rattle.sig_computed.specs.Stepping.{LookedAt, Move, Needs, Stops, decided, is_ready, looked}
-use Rattle.sig_computed.specs.Passing.{clean_among, compare_steps, is_clean, look_steps, passed_over, source_steps}
-use Rattle.sig_computed.proofs.Passing.{among_clean, clean_found}
+use Rattle.sig_computed.specs.Steps.{LookedAt, Move, Needs, Stops, decided, is_ready, looked}
+use Rattle.sig_computed.specs.Skips.{clean_among, compare_steps, is_clean, look_steps, passed_over, source_steps}
+use Rattle.sig_computed.proofs.Skips.{among_clean, clean_found}
 use Rattle.signal_model.specs.Marks as marks
-use Rattle.sig_nodes.specs.declared.finding.Look.TheVariants as look
+use Rattle.sig_nodes.specs.declared.queries.Look.TheVariants as look
 use Rattle.sig_nodes.specs.declared.answers.Standing.TheVariants as kind
 use Rattle.sig_nodes.specs.Answers.{kind_here}
 use Rattle.sig_nodes.specs.Looks.{look_here}

@@ -4,23 +4,23 @@ use Rattle.std.proofs.lemmas.List.{reverse-append, length-append, length-map, le
 use Rattle.signal_model.specs.Recipes.{Hosts}
 use Rattle.signal_model.specs.Kept.{AreGiven, AreKept}
 use Rattle.signal_laws.proofs.Shared.{in_append, or_left}
-use Rattle.sig_computed.specs.Passing.{clean_among, passed_over}
-use Rattle.signal_model.specs.Standing.{is_in, is_there, standing}
+use Rattle.sig_computed.specs.Skips.{clean_among, passed_over}
+use Rattle.signal_model.specs.Signals.{is_in, is_there, standing}
 use Rattle.signal_model.specs.Memos.{Memos}
 use Rattle.signal_model.specs.Asks.{asks_host}
 use Rattle.sig_host.specs.Hosts.{HostPlace, count_at, most_asked}
 use Rattle.sig_nodes.specs.Answers.{host_here, HaveFewSlots}
 use Rattle.sig_nodes.specs.States as states
 use Rattle.sig_nodes.specs.States.{is_given}
-use Rattle.sig_computed.specs.Stepping.{Move, GoesOn, Needs, Stops, Ends, frame_names}
+use Rattle.sig_computed.specs.Steps.{Move, GoesOn, Needs, Stops, Ends, frame_names}
 use Rattle.sig_computed.specs.declared.frames.Open.{Open}
 use Rattle.sig_computed.specs.declared.notes.RunNote.{RunNote}
 use Rattle.sig_computed.specs.Notes.{Note, note_of, AreNotesGiven}
 use Rattle.sig_computed.specs.Views.{evaluating, frame_of, phase_of, tops, Stays}
 use Rattle.sig_computed.specs.Asked.{places_by, AreThere, CanAsk}
 use Rattle.sig_computed.specs.Turns.{memos_after, move_by, move_reads, move_steps, notes_of, progress_by, runs_of, stack_after, turn_steps, visited_after, AreReadsGiven, IsMove, IsMoved}
-use Rattle.sig_computed.proofs.Asking.{can_ask, move_asked, move_counts, phase_asked, phase_asks, places_count, step_asked, HasAsked}
-use Rattle.sig_computed.proofs.Fitting.{HasMove, HasStack, after_turn, after_move, frames_are, given_stays, move_given}
+use Rattle.sig_computed.proofs.Asks.{can_ask, move_asked, move_counts, phase_asked, phase_asks, places_count, step_asked, HasAsked}
+use Rattle.sig_computed.proofs.Stacks.{HasMove, HasStack, after_turn, after_move, frames_are, given_stays, move_given}
 use Rattle.sig_computed.proofs.Measure.{work, turn_lowers}
 use Rattle.sig_computed.proofs.Wholes.{IsWhole, step_whole}
 

@@ -1,7 +1,7 @@
 -- The measure as one number, which speaks of no host and no soundness.
 use Rattle.std.proofs.Common.{◌≡◌, ℕ, suc, ◌+◌, ◌*◌, ◌-◌, ◌<◌, ◌≤◌, ◌==◌, ◌||◌, Bool, true, false, cond, List, [], ◌∷◌, ◌++◌, map, drop, length, Option, Some, None, refl, sym, ap, ◌∙◌, subst, arith, inl, inr}
 use Rattle.std.proofs.lemmas.Bool.{eqb-true, eq-eqb}
-use Rattle.signal_model.specs.Standing.{Signals, Computed, Stands, IsGone, IsCell, IsComputed, Cell, is_in, cell_at, computed_at, or_computed, standing}
+use Rattle.signal_model.specs.Signals.{Signals, Computed, Stands, IsGone, IsCell, IsComputed, Cell, is_in, cell_at, computed_at, or_computed, standing}
 use Rattle.std.specs.Prelude.{slice_index}
 use Rattle.sig_base.specs.declared.value.Known.{Known}
 use Rattle.sig_base.specs.declared.value.Step.{Step}
@@ -13,9 +13,9 @@ use Rattle.signal_model.specs.Memos.{Memos, holds_cycle, is_stale, memo_of, memo
 use Rattle.signal_model.specs.Settling.{source_now}
 use Rattle.signal_model.proofs.Shared.{tested}
 use Rattle.signal_laws.proofs.Shared.{in_append, in_head, or_none, or_snd, run_other}
-use Rattle.sig_computed.specs.Stepping.{Phase, Looking, LookedAt, Running, Waiting, Frame, frame_names, is_ready, ready_outcome, new_frame}
-use Rattle.sig_computed.specs.Stepping.{Move, GoesOn, Needs, Stops, Ends, told}
-use Rattle.sig_computed.specs.SteppingLaws.{phase_left, left_here}
+use Rattle.sig_computed.specs.Steps.{Phase, Looking, LookedAt, Running, Waiting, Frame, frame_names, is_ready, ready_outcome, new_frame}
+use Rattle.sig_computed.specs.Steps.{Move, GoesOn, Needs, Stops, Ends, slot_read}
+use Rattle.sig_computed.specs.StepLaws.{phase_left, left_here}
 use Rattle.sig_computed.proofs.StepsEnd.{MoveLowers, look_lowers, answer_lowers, read_lowers, few_unknown, middle}
 use Rattle.sig_computed.proofs.StepsHold.{unready}
 use Rattle.sig_nodes.specs.Answers.{slots_here}
@@ -190,7 +190,7 @@ waits_lowers w k evaluating visited n c stands slot m known reads = go (is_ready
   where
     go : (b : Bool) → is_ready (standing w m) (is_in m evaluating) (is_in m visited) ≡ b →
         MoveLowers w k evaluating visited n (Waiting slot known reads)
-        (cond b (told slot m (Some (or_cycle (ready_outcome (standing w m) (is_in m evaluating) (standing_outcome w k m)))) known reads)
+        (cond b (slot_read slot m (Some (or_cycle (ready_outcome (standing w m) (is_in m evaluating) (standing_outcome w k m)))) known reads)
         (Needs m (Waiting slot known reads)))
     go true r = read_lowers w k evaluating visited n c stands slot m
         (Some (or_cycle (ready_outcome (standing w m) (is_in m evaluating) (standing_outcome w k m)))) known reads

@@ -1,7 +1,7 @@
 -- A computed that would begin, and is clean, is passed over: its visits are made, and nothing runs.
 use Rattle.std.proofs.Common.{◌≡◌, ℕ, ◌+◌, ◌≤◌, ◌||◌, true, false, List, [], ◌∷◌, refl, sym, ap, ◌∙◌, subst, arith, ◌⊎◌, inl, inr}
 use Rattle.signal_model.specs.Recipes.{Hosts}
-use Rattle.signal_model.specs.Standing.{Signals, Computed, is_in}
+use Rattle.signal_model.specs.Signals.{Signals, Computed, is_in}
 use Rattle.signal_model.specs.Orders.{Visit, visited, visit, order_after, evaluation_order}
 use Rattle.signal_model.specs.Memos.{Memos, source_names}
 use Rattle.signal_model.specs.Settling.{Run, Settled, settle_visits}
@@ -11,14 +11,14 @@ use Rattle.signal_model.specs.Sound.{names_of, IsSound}
 use Rattle.signal_model.proofs.Shared.{either, or_left, or_right}
 use Rattle.signal_laws.specs.OrderLaws.{seen_after}
 use Rattle.signal_laws.proofs.Shared.{State, first_state, visits_state, in_head, in_tail, or_none, pass_law, seen_is}
-use Rattle.sig_computed.specs.Stepping.{Phase, Looking, LookedAt, Running, Waiting, Frame, Underway, frame_names, new_frame}
+use Rattle.sig_computed.specs.Steps.{Phase, Looking, LookedAt, Running, Waiting, Frame, Underway, frame_names, new_frame}
 use Rattle.sig_computed.proofs.StepsHold.{Holds}
 use Rattle.sig_computed.proofs.VisitsLeft.{ArePassed, completed, visit_came, visit_new}
 use Rattle.sig_computed.proofs.FramesLast.{LookHolds, PhaseHolds, FrameHolds, StackHolds}
 use Rattle.sig_computed.specs.Costs.{visit_steps}
 use Rattle.sig_computed.proofs.CleanRuns.{clean_read}
 use Rattle.sig_computed.proofs.Added.{Adds, are_ordered, in_adds, visit_adds, visit_off, visit_only}
-use Rattle.sig_computed.proofs.Counting.{all_steps, seen_steps, visits_more}
+use Rattle.sig_computed.proofs.Counts.{all_steps, seen_steps, visits_more}
 
 module _ (hosts : Hosts) (w : Signals) where
   -- what is passed is passed still

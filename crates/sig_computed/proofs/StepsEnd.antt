@@ -12,17 +12,17 @@ use Rattle.sig_base.specs.declared.value.Step.TheVariants.{Read, Done, Fail}
 use Rattle.sig_base.specs.declared.value.Outcome.{Outcome}
 use Rattle.sig_base.specs.declared.value.Outcome.TheVariants.{Good, Bad}
 use Rattle.signal_model.specs.Recipes.{Hosts, is_known, given_answer, recipe_answer}
-use Rattle.signal_model.specs.Standing.{Signals, Computed, Stands, IsGone, IsCell, IsComputed, is_computed, is_in, computed_at, or_gone, standing}
+use Rattle.signal_model.specs.Signals.{Signals, Computed, Stands, IsGone, IsCell, IsComputed, is_computed, is_in, computed_at, or_gone, standing}
 use Rattle.signal_model.specs.Values.{Seen, learnt, unknown_slots, names_left}
 use Rattle.signal_model.specs.Memos.{Source, Memos, holds_cycle, sources_of, is_moved}
 use Rattle.signal_model.specs.Sound.{standing_outcome}
 use Rattle.signal_model.specs.Recipes.{IsUnknownSlot}
 use Rattle.signal_model.proofs.Shared.{read_new, unknown_less, name_is, left_less}
 use Rattle.signal_laws.proofs.Shared.{in_append, or_none}
-use Rattle.sig_computed.specs.Stepping.{Phase, Looking, LookedAt, Running, Waiting, Frame, Underway, frame_names, new_frame, is_ready, ready_outcome}
-use Rattle.sig_computed.specs.Stepping.{Move, GoesOn, Needs, Stops, Ends, decided, looked, told, waited, answered, move_of, frame_move, after_move}
-use Rattle.sig_computed.specs.Stepping.{asked_next, stack_step, stepped}
-use Rattle.sig_computed.specs.SteppingLaws.{stepped_times, IsOver, phase_left, left_here, top_left, names_free, IsLower, StepsLowerLaw, StepsEndLaw}
+use Rattle.sig_computed.specs.Steps.{Phase, Looking, LookedAt, Running, Waiting, Frame, Underway, frame_names, new_frame, is_ready, ready_outcome}
+use Rattle.sig_computed.specs.Steps.{Move, GoesOn, Needs, Stops, Ends, decided, looked, slot_read, waited, answered, move_of, frame_move, after_move}
+use Rattle.sig_computed.specs.Steps.{asked_next, stack_step, stepped}
+use Rattle.sig_computed.specs.StepLaws.{stepped_times, IsOver, phase_left, left_here, top_left, names_free, IsLower, StepsLowerLaw, StepsEndLaw}
 use Rattle.sig_computed.proofs.StepsHold.{unready}
 
 -- the measure, against a settling with this stack
@@ -121,7 +121,7 @@ module _ (w : Signals) (k : Memos) (evaluating seen : List ℕ) (n : ℕ) (c : C
 
   -- a read
   pub read_lowers : (slot m : ℕ) (o : Option Outcome) (known : List Known) (reads : List Seen) →
-      MoveLowers w k evaluating seen n (Waiting slot known reads) (told slot m o known reads)
+      MoveLowers w k evaluating seen n (Waiting slot known reads) (slot_read slot m o known reads)
   read_lowers slot m None known reads = tt
   read_lowers slot m (Some (Bad z)) known reads = tt
   read_lowers slot m (Some (Good v)) known reads =
@@ -136,7 +136,7 @@ module _ (w : Signals) (k : Memos) (evaluating seen : List ℕ) (n : ℕ) (c : C
     where
       go : (b : Bool) → is_ready (standing w m) (is_in m evaluating) (is_in m seen) ≡ b →
           MoveLowers w k evaluating seen n (Waiting slot known reads)
-          (cond b (told slot m (ready_outcome (standing w m) (is_in m evaluating) (standing_outcome w k m)) known reads)
+          (cond b (slot_read slot m (ready_outcome (standing w m) (is_in m evaluating) (standing_outcome w k m)) known reads)
           (Needs m (Waiting slot known reads)))
       go true r = read_lowers slot m (ready_outcome (standing w m) (is_in m evaluating) (standing_outcome w k m)) known reads
       go false r = (refl, unready (standing w m) (is_in m evaluating) (is_in m seen) r)

@@ -11,7 +11,7 @@ use Rattle.sig_base.specs.declared.value.Step.TheVariants.{Read, Done, Fail}
 use Rattle.sig_base.specs.declared.value.Outcome.{Outcome}
 use Rattle.sig_base.specs.declared.value.Outcome.TheVariants.{Good, Bad}
 use Rattle.signal_model.specs.Recipes.{Hosts, recipe_answer}
-use Rattle.signal_model.specs.Standing.{Signals, Computed, Stands, IsGone, IsCell, IsComputed, is_in, standing}
+use Rattle.signal_model.specs.Signals.{Signals, Computed, Stands, IsGone, IsCell, IsComputed, is_in, standing}
 use Rattle.signal_model.specs.Values.{Seen, Evaluation, learnt, after_read, asked_from, value_of, evaluated, reads_of}
 use Rattle.signal_model.specs.Orders.{Visit, visited, visits, visit, order_after, evaluation_order}
 use Rattle.signal_model.specs.Memos.{Source, Memo, Entry, Memos, entry_at, memo_is_cycle, holds_cycle, sources_in, sources_of, source_names, is_cycle}
@@ -25,11 +25,11 @@ use Rattle.signal_model.proofs.Shared.{name_is, cycle_law, goes_on, chain_goes, 
 use Rattle.signal_laws.proofs.Shared.{either, or_fst, or_snd, or_none, not_false, CalmOn, calm_on, entry_there, some_is, settle_append, is_read-in, right_source, read_value, IsRun, follows_run, StandAs, in_head, in_tail, seen_is, seen_snoc, State, visit_state, first_state, asked_law, moved_less, moved_off, step_is}
 use Rattle.signal_laws.specs.OrderLaws.{IsPlaced, seen_after}
 use Rattle.signal_model.specs.Kept.{AreKept}
-use Rattle.signal_model.specs.Standing.{is_there}
-use Rattle.sig_computed.specs.SteppingLaws.{stepped_times, IsOver, IsSettled, StepsSettleLaw}
-use Rattle.sig_computed.specs.Stepping.{Phase, Looking, LookedAt, Running, Waiting, Frame, Underway, frame_names, begun, new_frame, is_ready}
-use Rattle.sig_computed.specs.Stepping.{ready_outcome, GoesOn, Needs, Stops, Ends, decided, looked, told, waited, answered, move_of, frame_move}
-use Rattle.sig_computed.specs.Stepping.{after_move, asked_next, stack_step, stepped}
+use Rattle.signal_model.specs.Signals.{is_there}
+use Rattle.sig_computed.specs.StepLaws.{stepped_times, IsOver, IsSettled, StepsSettleLaw}
+use Rattle.sig_computed.specs.Steps.{Phase, Looking, LookedAt, Running, Waiting, Frame, Underway, frame_names, begun, new_frame, is_ready}
+use Rattle.sig_computed.specs.Steps.{ready_outcome, GoesOn, Needs, Stops, Ends, decided, looked, slot_read, waited, answered, move_of, frame_move}
+use Rattle.sig_computed.specs.Steps.{after_move, asked_next, stack_step, stepped}
 use Rattle.sig_computed.proofs.VisitsLeft.{ArePassed, visit_passed, visits_passed, finished, visit_new, next_first, completed}
 use Rattle.sig_computed.proofs.NextReads.{moved_tail, moved_append, NextKept, first_of, next_kept}
 use Rattle.sig_computed.proofs.FramesLast.{LookHolds, RunHolds, PhaseHolds, FrameHolds, StackHolds, Lasts, lasts_same, lasts_run, stack_lasts}
@@ -519,7 +519,7 @@ module _ (hosts : Hosts) (w : Signals) (start : Memos) (names : List ℕ) where
 
         -- it is read
         reads_it : (o : Outcome) → source s ≡ o → is_ready (standing w s) (is_in s evaluating) (is_in s m.visited) ≡ true →
-            Holds (after_move m f.name fs (told slot s (Some o) known reads))
+            Holds (after_move m f.name fs (slot_read slot s (Some o) known reads))
         reads_it (Good v) e r = again (Running (learnt known slot v) (reads ++ record { name = s; outcome = Good v } ∷ [])) (record {
           due = x.due;
           going = good_read hosts c.recipe source known reads slot v asks e ∙ x.going;
@@ -534,10 +534,10 @@ module _ (hosts : Hosts) (w : Signals) (start : Memos) (names : List ℕ) where
           where
             go : (b : Bool) → is_ready (standing w s) (is_in s evaluating) (is_in s m.visited) ≡ b →
                 Holds (after_move m f.name fs
-                (cond b (told slot s (ready_outcome (standing w s) (is_in s evaluating) (standing_outcome w m.memos s)) known reads)
+                (cond b (slot_read slot s (ready_outcome (standing w s) (is_in s evaluating) (standing_outcome w m.memos s)) known reads)
                 (Needs s (Waiting slot known reads))))
             go true r =
-                subst (λ o. Holds (after_move m f.name fs (told slot s o known reads)))
+                subst (λ o. Holds (after_move m f.name fs (slot_read slot s o known reads)))
                 (sym (ready_is s (next_read (reads_of hosts w c) (names_of reads) s wait_next) r)) (reads_it (source s) refl r)
             go false r = first s (Waiting slot known reads) (names_of reads) (x, asks) wait_next x.passed r
 

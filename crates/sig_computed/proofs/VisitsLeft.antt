@@ -1,13 +1,13 @@
 -- What the frames of a stack leave to be visited.
 use Rattle.std.proofs.Common.{◌≡◌, ℕ, zero, suc, ◌==◌, ◌||◌, Bool, true, false, cond, List, [], ◌∷◌, ◌++◌, refl, sym, ap, ◌∙◌, subst, inl, inr}
 use Rattle.signal_model.specs.Recipes.{Hosts}
-use Rattle.signal_model.specs.Standing.{Signals, Computed, Stands, IsGone, IsCell, IsComputed, is_in, standing}
+use Rattle.signal_model.specs.Signals.{Signals, Computed, Stands, IsGone, IsCell, IsComputed, is_in, standing}
 use Rattle.signal_model.specs.Values.{Seen, reads_of, names_left}
 use Rattle.signal_model.specs.Orders.{Visit, visited, visits, visit_case, visit_within, visit}
 use Rattle.signal_model.specs.Sound.{names_of}
 use Rattle.signal_model.proofs.Shared.{name_is, tested, visit_by_cases}
 use Rattle.signal_laws.proofs.Shared.{or_right, in_head, in_tail}
-use Rattle.sig_computed.specs.Stepping.{Frame, frame_names}
+use Rattle.sig_computed.specs.Steps.{Frame, frame_names}
 
 -- one visit more forgets none
 pub in_snoc : (x : ℕ) (vs : List Visit) (v : Visit) → is_in x (visited vs) ≡ true → is_in x (visited (vs ++ v ∷ [])) ≡ true

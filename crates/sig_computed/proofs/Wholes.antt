@@ -5,7 +5,7 @@ use Rattle.std.proofs.lemmas.List.{map-append}
 use Rattle.sig_base.specs.declared.value.Known.{Known}
 use Rattle.sig_base.specs.declared.value.Outcome.{Outcome}
 use Rattle.signal_model.specs.Recipes.{Hosts}
-use Rattle.signal_model.specs.Standing.{Signals, Computed, Stands, IsGone, IsCell, IsComputed, is_computed, is_in, standing}
+use Rattle.signal_model.specs.Signals.{Signals, Computed, Stands, IsGone, IsCell, IsComputed, is_computed, is_in, standing}
 use Rattle.signal_model.specs.Values.{Seen, value_of}
 use Rattle.signal_model.specs.Memos.{Source, Memos, differs, holds_cycle, sources_of}
 use Rattle.signal_model.specs.Settling.{Run, Settled, settled}
@@ -15,16 +15,16 @@ use Rattle.signal_model.specs.Sound.{standing_outcome}
 use Rattle.signal_model.specs.Kept.{AreKept}
 use Rattle.signal_laws.proofs.Shared.{in_append, in_head}
 use Rattle.sig_nodes.specs.Answers.{answer_here, slots_here}
-use Rattle.sig_computed.specs.Stepping.{Phase, Looking, LookedAt, Running, Waiting, Frame, frame_names, new_frame, is_ready, ready_outcome}
-use Rattle.sig_computed.specs.Stepping.{Move, GoesOn, Needs, Stops, Ends, decided, looked, told, waited, answered, move_of, frame_move}
+use Rattle.sig_computed.specs.Steps.{Phase, Looking, LookedAt, Running, Waiting, Frame, frame_names, new_frame, is_ready, ready_outcome}
+use Rattle.sig_computed.specs.Steps.{Move, GoesOn, Needs, Stops, Ends, decided, looked, slot_read, waited, answered, move_of, frame_move}
 use Rattle.sig_computed.specs.Notes.{Note, run_note, IsSettling}
 use Rattle.sig_computed.specs.Views.{or_cycle}
 use Rattle.sig_computed.specs.Costs.{step_bound}
-use Rattle.sig_computed.specs.Passing.{Counted, clean_among, compare_steps, frame_steps, look_steps, passed_over, passing_begun, passing_moved, source_steps}
-use Rattle.sig_computed.specs.PassingLaws.{IsPassed}
-use Rattle.sig_computed.proofs.Passing.{PassesOn, Passes, begun_passes, step_passes, over_passes, shown_passed}
+use Rattle.sig_computed.specs.Skips.{Counted, clean_among, compare_steps, frame_steps, look_steps, passed_over, passing_begun, passing_moved, source_steps}
+use Rattle.sig_computed.specs.SkipLaws.{IsPassed}
+use Rattle.sig_computed.proofs.Skips.{PassesOn, Passes, begun_passes, step_passes, over_passes, shown_passed}
 use Rattle.sig_computed.specs.Turns.{evaluation_note, first_stack, memos_after, move_by, move_steps, notes_of, stack_after, turn_steps, visited_after, waits}
-use Rattle.sig_computed.proofs.Asking.{first_asks, move_asked, phase_asked, phase_asks, runs_after, stack_asked, step_counts}
+use Rattle.sig_computed.proofs.Asks.{first_asks, move_asked, phase_asked, phase_asks, runs_after, stack_asked, step_counts}
 
 -- a settling of which no more names are asked, and what it has counted
 abbrev pub counted_at : Memos → List Run → List ℕ → List Frame → ℕ → Counted
@@ -45,15 +45,15 @@ module _ (w : Signals) (k : Memos) (a b u v : List ℕ) (evaluated : (m : ℕ) �
       waits w k a u slot m known reads ≡ waited w k b v slot m known reads
   waits_same slot m known reads shows =
       (λ i. cond (is_ready (standing w m) (evaluated m i) (visited m i))
-      (told slot m (Some (or_cycle (ready_outcome (standing w m) (evaluated m i) (standing_outcome w k m)))) known reads)
+      (slot_read slot m (Some (or_cycle (ready_outcome (standing w m) (evaluated m i) (standing_outcome w k m)))) known reads)
       (Needs m (Waiting slot known reads)))
       ∙ go (is_ready (standing w m) (is_in m b) (is_in m v)) refl
     where
       go : (r : Bool) → is_ready (standing w m) (is_in m b) (is_in m v) ≡ r →
-          cond r (told slot m (Some (or_cycle (ready_outcome (standing w m) (is_in m b) (standing_outcome w k m)))) known reads) (Needs m (Waiting slot known reads))
-          ≡ cond r (told slot m (ready_outcome (standing w m) (is_in m b) (standing_outcome w k m)) known reads) (Needs m (Waiting slot known reads))
+          cond r (slot_read slot m (Some (or_cycle (ready_outcome (standing w m) (is_in m b) (standing_outcome w k m)))) known reads) (Needs m (Waiting slot known reads))
+          ≡ cond r (slot_read slot m (ready_outcome (standing w m) (is_in m b) (standing_outcome w k m)) known reads) (Needs m (Waiting slot known reads))
       go true e = let x = shows e in
-          (λ i. told slot m (Some (or_cycle (x.1 i))) known reads) ∙ (λ i. told slot m (sym x.1 i) known reads)
+          (λ i. slot_read slot m (Some (or_cycle (x.1 i))) known reads) ∙ (λ i. slot_read slot m (sym x.1 i) known reads)
       go false e = refl
 
 -- ---- and so do steps
@@ -129,43 +129,43 @@ module _ (hosts : Hosts) (w : Signals) (k0 : Memos) (kept0 : AreKept hosts w k0)
       ((place : ℕ) → count_at places' place ≡ count_at places0 place
       + (asks_of place (moments w (runs_after f.name mv rs)) + stack_asked place w (stack_after k f.name mv fs))) →
       IsWhole (memos_after k f.name mv) steps' places' before (after ++ notes_of f.name mv) visited' (stack_after k f.name mv fs)
-  moved_whole k steps steps' places' before after visited visited' names rs f fs (GoesOn p) so_far turn agrees told vi count more same passes asks = record {
+  moved_whole k steps steps' places' before after visited visited' names rs f fs (GoesOn p) so_far turn agrees listed vi count more same passes asks = record {
     names = names;
     agrees = λ m. vi m ∙ agrees m;
     runs = rs;
-    told = append-nil after ∙ told;
+    told = append-nil after ∙ listed;
     looked = so_far + frame_steps w k (frame_names fs) names f (standing w f.name) (GoesOn p) + 0;
     passes = passes;
     counted = omega (arith, count, more, same);
     asks = asks;
   }
-  moved_whole k steps steps' places' before after visited visited' names rs f fs (Needs s p) so_far turn agrees told vi count more same passes asks = record {
+  moved_whole k steps steps' places' before after visited visited' names rs f fs (Needs s p) so_far turn agrees listed vi count more same passes asks = record {
     names = names;
     agrees = λ m. vi m ∙ agrees m;
     runs = rs;
-    told = append-nil after ∙ told;
+    told = append-nil after ∙ listed;
     looked = so_far + frame_steps w k (frame_names fs) names f (standing w f.name) (Needs s p) + 1;
     passes = passes;
     counted = omega (arith, count, more, same);
     asks = asks;
   }
-  moved_whole k steps steps' places' before after visited visited' names rs f fs Stops so_far turn agrees told vi count more same passes asks = record {
+  moved_whole k steps steps' places' before after visited visited' names rs f fs Stops so_far turn agrees listed vi count more same passes asks = record {
     names = f.name ∷ names;
     agrees = λ m. vi m ∙ ap (λ b. m == f.name || b) (agrees m);
     runs = rs;
-    told = append-nil after ∙ told;
+    told = append-nil after ∙ listed;
     looked = so_far + frame_steps w k (frame_names fs) names f (standing w f.name) Stops + 0;
     passes = passes;
     counted = omega (arith, count, more, same);
     asks = asks;
   }
-  moved_whole k steps steps' places' before after visited visited' names rs f fs (Ends e) so_far turn agrees told vi count more same passes asks =
+  moved_whole k steps steps' places' before after visited visited' names rs f fs (Ends e) so_far turn agrees listed vi count more same passes asks =
       let r : Run = record { name = f.name; evaluation = e } in
       record {
         names = f.name ∷ names;
         agrees = λ m. vi m ∙ ap (λ b. m == f.name || b) (agrees m);
         runs = rs ++ r ∷ [];
-        told = ap (λ l. l ++ evaluation_note f.name e ∷ []) told ∙ append_assoc before (map run_note rs) (evaluation_note f.name e ∷ []) ∙ ap (λ l. before ++ l) (sym (map-append run_note rs (r ∷ [])));
+        told = ap (λ l. l ++ evaluation_note f.name e ∷ []) listed ∙ append_assoc before (map run_note rs) (evaluation_note f.name e ∷ []) ∙ ap (λ l. before ++ l) (sym (map-append run_note rs (r ∷ [])));
         looked = so_far + frame_steps w k (frame_names fs) names f (standing w f.name) (Ends e) + 0;
         passes = passes;
         counted = omega (arith, count, more, same);

@@ -1,13 +1,13 @@
 -- What settling asks of host formulas.
 use Rattle.std.specs.Prelude.{◌≡◌, ℕ, ◌<◌, IsTrue, true, List, Option, Some, None}
 use Rattle.signal_model.specs.Recipes.{Hosts}
-use Rattle.signal_model.specs.Standing.{Signals, Stands}
+use Rattle.signal_model.specs.Signals.{Signals, Stands}
 use Rattle.signal_model.specs.Memos.{Memos}
 use Rattle.signal_model.specs.Settling.{settled}
 use Rattle.signal_model.specs.Asks.{moments}
 use Rattle.sig_host.specs.Hosts.{HostPlace, asked_more_at, count_at, is_there, last_ask, places_after}
 use Rattle.sig_nodes.specs.Answers.{host_here, uses_host}
-use Rattle.sig_computed.specs.Stepping.{Phase, Looking, LookedAt, Running, Waiting}
+use Rattle.sig_computed.specs.Steps.{Phase, Looking, LookedAt, Running, Waiting}
 
 -- each host formula that a computed asks is there
 pub record AreThere (w : Signals) (asked : List HostPlace) : Type 0 where

@@ -3,8 +3,8 @@ use Rattle.std.specs.Prelude.{◌≡◌, [], ◌∷◌, ◌++◌}
 use Rattle.std.proofs.Common.{refl}
 use Rattle.signal_model.specs.Examples.{Graph, odd_hosts, acts, empty, diamond, get}
 use Rattle.sig_computed.specs.Costs.{step_bound}
-use Rattle.sig_computed.specs.Passing.{passing_begun}
-use Rattle.sig_computed.specs.PassingLaws.{passing_times}
+use Rattle.sig_computed.specs.Skips.{passing_begun}
+use Rattle.sig_computed.specs.SkipLaws.{passing_times}
 
 -- the diamond after its second set
 abbrev changed : Graph

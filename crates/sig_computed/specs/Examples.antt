@@ -3,11 +3,11 @@
 use Rattle.std.specs.Prelude.{◌≡◌, [], ◌∷◌, map, true, None, refl}
 use Rattle.sig_base.specs.declared.value.Step.TheVariants.{Read}
 use Rattle.signal_model.specs.Recipes.{Hosts, host}
-use Rattle.signal_model.specs.Standing.{Signals}
+use Rattle.signal_model.specs.Signals.{Signals}
 use Rattle.signal_model.specs.Memos.{Memos, sources_of, some_moved}
 use Rattle.signal_model.specs.Settling.{Run}
-use Rattle.sig_computed.specs.Stepping.{Looking, LookedAt, Underway, begun}
-use Rattle.sig_computed.specs.SteppingLaws.{stepped_times}
+use Rattle.sig_computed.specs.Steps.{Looking, LookedAt, Underway, begun}
+use Rattle.sig_computed.specs.StepLaws.{stepped_times}
 
 -- the first slot is read, and read again
 abbrev reads_first : Hosts

@@ -2,11 +2,11 @@ pub mod Notes
 pub mod Asked
 pub mod Views
 pub mod Turns
-pub mod Stepping
-pub mod SteppingLaws
+pub mod Steps
+pub mod StepLaws
 pub mod Costs
-pub mod Passing
-pub mod PassingLaws
+pub mod Skips
+pub mod SkipLaws
 pub mod Scenes
 pub mod Examples
 pub mod BoundExamples

@@ -4,7 +4,7 @@ use Rattle.std.specs.List.{All}
 use Rattle.sig_base.specs.declared.value.Known.{Known}
 use Rattle.sig_base.specs.declared.value.Step.{Step}
 use Rattle.signal_model.specs.Recipes.{Hosts, IsJudged, IsUnknownSlot}
-use Rattle.signal_model.specs.Standing.{Signals, Computed, IsComputed, is_computed, is_in, standing}
+use Rattle.signal_model.specs.Signals.{Signals, Computed, IsComputed, is_computed, is_in, standing}
 use Rattle.signal_model.specs.Values.{Seen, Evaluation, unknown_slots}
 use Rattle.signal_model.specs.Asks.{good_reads}
 use Rattle.signal_model.specs.Memos.{Memos, holds_cycle, sources_of}
@@ -13,9 +13,9 @@ use Rattle.signal_model.specs.Sound.{names_of, standing_outcome}
 use Rattle.sig_nodes.specs.States as states
 use Rattle.sig_nodes.specs.States.{Progress, progress_at, is_computing, is_given}
 use Rattle.sig_nodes.specs.Answers.{answer_here, slots_here}
-use Rattle.sig_computed.specs.Stepping.{Phase, Looking, LookedAt, Running, Waiting, Frame, frame_names, new_frame, is_ready, ready_outcome}
-use Rattle.sig_computed.specs.Stepping.{Move, GoesOn, Needs, Stops, Ends, looked, told, answered}
-use Rattle.sig_computed.specs.Passing.{look_steps, passed_over, source_steps}
+use Rattle.sig_computed.specs.Steps.{Phase, Looking, LookedAt, Running, Waiting, Frame, frame_names, new_frame, is_ready, ready_outcome}
+use Rattle.sig_computed.specs.Steps.{Move, GoesOn, Needs, Stops, Ends, looked, slot_read, answered}
+use Rattle.sig_computed.specs.Skips.{look_steps, passed_over, source_steps}
 use Rattle.sig_computed.specs.Notes.{Note}
 use Rattle.sig_computed.specs.Views.{or_cycle, progressed}
 
@@ -122,7 +122,7 @@ turn_steps w k evaluating visited n (Waiting slot known reads) mv =
 abbrev pub waits : Signals → Memos → List ℕ → List ℕ → ℕ → ℕ → List Known → List Seen → Move
 waits w k evaluating visited slot m known reads =
     if is_ready (standing w m) (is_in m evaluating) (is_in m visited)
-    then told slot m (Some (or_cycle (ready_outcome (standing w m) (is_in m evaluating) (standing_outcome w k m)))) known reads
+    then slot_read slot m (Some (or_cycle (ready_outcome (standing w m) (is_in m evaluating) (standing_outcome w k m)))) known reads
     else Needs m (Waiting slot known reads)
 
 -- a recipe has answered in some way that is judged

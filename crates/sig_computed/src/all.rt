@@ -6,7 +6,7 @@ ghost use Rattle.signal_model.specs.Kept.{AreKept};
 ghost use Rattle.sig_computed.specs.Scenes.{scene, CanSettle, Settles};
 
 use crate::notes::RunNote;
-use crate::settling::settle;
+use crate::settler::settle;
 use sig_base::{NoMemory, NodeId, Outcome};
 use sig_host::{Lent, Shelf};
 use sig_nodes::Graph;

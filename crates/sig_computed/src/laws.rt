@@ -1,6 +1,6 @@
 // Laws of the steps, for all hosts, signals, memos and names.
-ghost use Rattle.sig_computed.specs.SteppingLaws.{StepsEndLaw, StepsLowerLaw, StepsSettleLaw};
-ghost use Rattle.sig_computed.specs.PassingLaws.{BoundBothLaw, PassingLaw};
+ghost use Rattle.sig_computed.specs.StepLaws.{StepsEndLaw, StepsLowerLaw, StepsSettleLaw};
+ghost use Rattle.sig_computed.specs.SkipLaws.{BoundBothLaw, PassingLaw};
 
 /// Where the steps are over, what is kept and what has run is what settling defines.
 pub fn steps_settle_law()

@@ -6,10 +6,10 @@ mod all;
 mod frames;
 pub mod laws;
 mod notes;
-mod settling;
+mod settler;
 mod turns;
 mod visited;
 
 pub use all::settle_all;
 pub use notes::RunNote;
-pub use settling::settle;
+pub use settler::settle;

@@ -1,14 +1,14 @@
 // One step of a frame: a look at a kept source, an answer of the recipe, or a slot that was waited for.
 ghost use Rattle.std.specs.Prelude.{◌≡◌, ◌<◌, ℕ, ◌++◌, ◌∷◌, [], true, false, List, Some, None, IfOk, IfSome, OnOk, map, drop, length, slice_index};
 ghost use Rattle.signal_model.specs.Recipes.{Hosts, IsJudged};
-ghost use Rattle.signal_model.specs.Standing.{is_computed, is_in, standing};
+ghost use Rattle.signal_model.specs.Signals.{is_computed, is_in, standing};
 ghost use Rattle.signal_model.specs.Memos.{holds_cycle, memo_of, sources_of};
 ghost use Rattle.signal_model.specs.Marks.{mark_of};
-ghost use Rattle.sig_computed.specs.Passing.{compare_steps, is_clean, look_steps, passed_over, source_steps};
+ghost use Rattle.sig_computed.specs.Skips.{compare_steps, is_clean, look_steps, passed_over, source_steps};
 ghost use Rattle.signal_model.specs.Sound.{kept_outcome, standing_outcome};
 ghost use Rattle.sig_nodes.specs.Answers.{answer_here, host_here, slots_here, IsAnswerHere, IsJudgedAnswer};
 ghost use Rattle.sig_nodes.specs.States.{is_cell, is_computing, is_given, progress_at, GoesOn};
-ghost use Rattle.sig_computed.specs.Stepping.{answered, decided, is_ready, Ends, looked, ready_outcome, told};
+ghost use Rattle.sig_computed.specs.Steps.{answered, decided, is_ready, Ends, looked, ready_outcome, slot_read};
 ghost use Rattle.sig_computed.specs.Views.{evaluating, first_moved, first_name, frame_of, move_of, or_cycle, phase_of, progressed, seen_of, Stays};
 ghost use Rattle.sig_computed.specs.Asked.{asked_once, places_by, CanAsk};
 ghost use Rattle.sig_computed.specs.Turns.{move_by, move_reads, progress_by, turn_steps, waits, AreReadsGiven, Fits, IsAnswered, IsMove};
@@ -164,7 +164,7 @@ fn tell(
     known: Vec<Known>,
     reads: Vec<Read>,
 ) -> Result<Turn, NoMemory>
-    ensures { IfOk result (λ t. move_of t ≡ told slot id (Some outcome) known.items (map seen_of reads.items)) }
+    ensures { IfOk result (λ t. move_of t ≡ slot_read slot id (Some outcome) known.items (map seen_of reads.items)) }
 {
     let mut known = known;
     let mut reads = reads;

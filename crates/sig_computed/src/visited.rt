@@ -1,6 +1,6 @@
 // Which computeds a call of settling has visited.
 ghost use Rattle.std.specs.Prelude.{◌≡◌, ℕ, ◌∷◌, [], OnOk};
-ghost use Rattle.signal_model.specs.Standing.{is_in};
+ghost use Rattle.signal_model.specs.Signals.{is_in};
 
 use indexmap::IndexSet;
 use sig_base::{NoMemory, NodeId};

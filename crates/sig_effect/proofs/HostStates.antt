@@ -5,7 +5,7 @@ use Rattle.effect_model.specs.Worlds.{unused, used, dropped}
 use Rattle.effect_model.specs.Acts.{asks_so_far, is_free}
 use Rattle.sig_host.specs.Hosts.{HostPlace, count_at, dropped_at, is_there}
 use Rattle.sig_effect.specs.Wholes.{host_state, host_states}
-use Rattle.sig_effect.specs.Agreeing.{AreNew}
+use Rattle.sig_effect.specs.Stores.{AreNew}
 
 -- a place that is there and isn't used is free
 pub free_at : (uses : ℕ → Bool) (from : ℕ) (ps : List HostPlace) (k : ℕ) →

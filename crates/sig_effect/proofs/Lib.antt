@@ -1,12 +1,12 @@
-mod Asking
-mod Beginning
-mod Changing
-mod Doing
+mod Asks
+mod Start
+mod Edits
+mod Acts
 mod HostStates
-mod Naming
+mod Names
 pub mod Shared
-mod Standings
+mod Signals
 mod Users
 mod Watched
-mod Keeping
+mod SameKinds
 pub mod SharedKinds

@@ -4,7 +4,7 @@ use Rattle.std.proofs.lemmas.Bool.{eqb-true, eq-eqb}
 use Rattle.std.proofs.lemmas.Bool.Decides.{nat_tests}
 use Rattle.std.specs.List.{AllByRecursion}
 use Rattle.signal_model.specs.Recipes.{Expression, formula, host}
-use Rattle.signal_model.specs.Standing.{Signals, Computed, Stands, IsGone, IsCell, IsComputed, computed_at, standing}
+use Rattle.signal_model.specs.Signals.{Signals, Computed, Stands, IsGone, IsCell, IsComputed, computed_at, standing}
 use Rattle.signal_model.specs.Asks.{is_host}
 use Rattle.signal_model.proofs.Shared.{either, or_left, or_right, tested, stands-computed}
 use Rattle.effect_model.specs.Worlds.{HostState, used, dropped}
@@ -13,8 +13,8 @@ use Rattle.sig_host.specs.Hosts.{HostPlace, count_at, is_there}
 use Rattle.sig_host.proofs.Shared.{is_there-dropped, count_at-dropped}
 use Rattle.sig_nodes.specs.Answers.{host_here, host_place, some_asks, uses_host}
 use Rattle.sig_computed.specs.Asked.{AreThere}
-use Rattle.sig_effect.specs.Agreeing.{AreListed, AreOwn, AreUnasked}
-use Rattle.sig_effect.specs.Telling.{dropped_if}
+use Rattle.sig_effect.specs.Stores.{AreListed, AreOwn, AreUnasked}
+use Rattle.sig_effect.specs.Results.{dropped_if}
 use Rattle.sig_effect.specs.Wholes.{host_states}
 use Rattle.sig_effect.proofs.HostStates.{count_used, states_dropped, states_same, states_used}
 

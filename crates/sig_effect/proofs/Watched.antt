@@ -3,13 +3,13 @@ use Rattle.std.proofs.Common.{◌≡◌, ◌==◌, ◌||◌, ◌&&◌, ◌++◌,
 use Rattle.std.proofs.lemmas.Bool.{eqb-true}
 use Rattle.std.proofs.lemmas.Bool.Decides.{nat_tests}
 use Rattle.std.specs.List.{AllByRecursion}
-use Rattle.signal_model.specs.Standing.{Signals, changed, is_in, is_there, standing, without}
+use Rattle.signal_model.specs.Signals.{Signals, changed, is_in, is_there, standing, without}
 use Rattle.signal_model.proofs.Shared.{either, or_left, or_right}
 use Rattle.effect_model.specs.Worlds.{Watcher}
 use Rattle.effect_model.specs.Acts.{forget}
 use Rattle.effect_model.specs.Commands.{also_watched, armed}
 use Rattle.sig_nodes.specs.States.{are_there}
-use Rattle.sig_effect.specs.Agreeing.{AreWatched}
+use Rattle.sig_effect.specs.Stores.{AreWatched}
 
 -- the number of a watcher
 abbrev number_of : Watcher → ℕ

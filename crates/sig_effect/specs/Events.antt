@@ -1,10 +1,10 @@
 -- What is told, beside what the plain world tells.
 use Rattle.std.specs.Prelude.{◌≡◌, ℕ, ◌<◌, true, List, [], ◌∷◌, ◌++◌}
 use Rattle.std.specs.List.{All}
-use Rattle.signal_model.specs.Standing.{Signals}
+use Rattle.signal_model.specs.Signals.{Signals}
 use Rattle.signal_model.specs.Changes.{without_signal}
 use Rattle.signal_model.specs.Asks.{Moment}
-use Rattle.effect_model.specs.Owning as things
+use Rattle.effect_model.specs.Owners as things
 use Rattle.effect_model.specs.Worlds as told
 use Rattle.sig_nodes.specs.States.{Seen, is_given}
 use Rattle.sig_computed.specs.Notes.{note_of, run_note, IsNoteGiven, Note}

@@ -1,6 +1,6 @@
 pub mod Answers
 pub mod Events
-pub mod Telling
+pub mod Results
 pub mod Wholes
-pub mod Agreeing
+pub mod Stores
 pub mod Kinds

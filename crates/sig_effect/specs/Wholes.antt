@@ -1,6 +1,6 @@
 -- The plain world that the stores stand for.
 use Rattle.std.specs.Prelude.{ℕ, suc, Bool, List, [], ◌∷◌, if◌then◌else◌}
-use Rattle.effect_model.specs.Owning.{nothing}
+use Rattle.effect_model.specs.Owners.{nothing}
 use Rattle.effect_model.specs.Worlds as plain
 use Rattle.effect_model.specs.Worlds.{HostState, unused, used, dropped}
 use Rattle.sig_host.specs.Hosts.{HostPlace}

@@ -1,7 +1,7 @@
 // Things end.
 ghost use Rattle.std.specs.Prelude.{◌≡◌, ◌++◌, ◌∷◌, ◌<◌, ◌≤◌, ◌⊎◌, ℕ, true, false, [], List, IfErr, IsErrOf, OnOk};
 ghost use Rattle.signal_model.specs.Recipes.{Hosts};
-ghost use Rattle.signal_model.specs.Standing.{is_there, standing};
+ghost use Rattle.signal_model.specs.Signals.{is_there, standing};
 ghost use Rattle.effect_model.specs.Acts.{dispose_thing, forget};
 ghost use Rattle.effect_model.specs.Worlds.{lives};
 ghost use Rattle.sig_host.specs.Hosts.{most_asked};
@@ -9,16 +9,16 @@ ghost use Rattle.sig_nodes.specs.Answers.{host_here};
 ghost use Rattle.sig_nodes.specs.States.{is_given, with_disposal, Becomes, CanWear};
 ghost use Rattle.sig_watcher.specs.Tables.{is_alive, with_each, with_removal};
 ghost use Rattle.sig_effect.specs.declared.errors.EffectFault.TheVariants as fault;
-ghost use Rattle.sig_effect.specs.Agreeing.{environment, Agrees, AreRuled, Does, IsSound, Stays};
+ghost use Rattle.sig_effect.specs.Stores.{environment, Agrees, AreRuled, Does, IsSound, Stays};
 ghost use Rattle.sig_effect.specs.Events.{signals_without, thing_of, AreNamed};
 ghost use Rattle.sig_effect.specs.declared.events.Event.TheVariants as event;
 ghost use Rattle.sig_effect.specs.declared.events.Thing.TheVariants as thing;
-ghost use Rattle.sig_effect.specs.Telling.{drop_events, dropped_if};
+ghost use Rattle.sig_effect.specs.Results.{drop_events, dropped_if};
 ghost use Rattle.sig_effect.specs.Wholes.{whole_of};
 
 use crate::errors::EffectFault;
 use crate::events::{Event, Thing};
-use crate::telling::drop_left;
+use crate::notices::drop_left;
 use crate::world::World;
 use sig_base::{NodeId, WatcherId};
 use sig_host::{Lent, Shelf};

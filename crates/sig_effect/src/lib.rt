@@ -3,14 +3,14 @@
 #![tactic(auto)]
 
 mod changes;
+mod creation;
 mod ends;
 mod errors;
 mod events;
 mod laws;
-mod makings;
-mod settling;
-mod telling;
-mod watching;
+mod notices;
+mod queries;
+mod watchers;
 mod world;
 
 pub use errors::EffectFault;

@@ -4,7 +4,7 @@ ghost use Rattle.signal_model.specs.Recipes.{Hosts};
 ghost use Rattle.effect_model.specs.Acts.{is_free};
 ghost use Rattle.effect_model.specs.Commands.{new_world};
 ghost use Rattle.sig_host.specs.Hosts.{HostPlace};
-ghost use Rattle.sig_effect.specs.Agreeing.{Agrees, AreNew, AreRuled, IsSound};
+ghost use Rattle.sig_effect.specs.Stores.{Agrees, AreNew, AreRuled, IsSound};
 ghost use Rattle.sig_effect.specs.Wholes.{whole_of};
 
 use sig_base::NoMemory;

@@ -1,8 +1,8 @@
 -- A formula that speaks of no given row answers the same whatever row there is.
 use Rattle.std.proofs.Common.{◌≡◌, ◌||◌, ◌∙◌, Bool, true, false, ap, refl}
 use Rattle.sig_formula.specs.declared.evaluate.FormulaStep.TheVariants.{End}
-use Rattle.sig_formula.specs.Answering.{chosen, count_outcome, decided, formula_step, keep_step, negated, operated, sum_step, unless_decided, with_rows}
-use Rattle.sig_formula.specs.Answering.{with_value}
+use Rattle.sig_formula.specs.Evaluation.{chosen, count_outcome, decided, formula_step, keep_step, negated, operated, sum_step, unless_decided, with_rows}
+use Rattle.sig_formula.specs.Evaluation.{with_value}
 use Rattle.sig_formula.specs.Laws.{RowsAside}
 use Rattle.sig_formula.specs.Trees.{literal, slot, row_field, row_key, negation, binary, choice, count_of, sum_of, rows_where, untracked}
 use Rattle.sig_formula.specs.Trees.{needs_row}

@@ -26,12 +26,12 @@ use Rattle.sig_formula.specs.declared.rounds.Adding.{Adding}
 use Rattle.sig_formula.specs.declared.rounds.Going.{Going}
 use Rattle.sig_formula.specs.declared.rounds.Going.TheVariants as going
 use Rattle.sig_formula.specs.declared.rounds.Round.{Round}
-use Rattle.sig_formula.specs.Answering.{calculation, chosen, count_outcome, decided, field_outcome, formula_step, kept_from, key_outcome, negated, operated, row_at}
-use Rattle.sig_formula.specs.Answering.{served, slot_step, sum_from, unless_decided, with_rows, with_truth, with_value}
+use Rattle.sig_formula.specs.Evaluation.{calculation, chosen, count_outcome, decided, field_outcome, formula_step, kept_from, key_outcome, negated, operated, row_at}
+use Rattle.sig_formula.specs.Evaluation.{served, slot_step, sum_from, unless_decided, with_rows, with_truth, with_value}
 use Rattle.sig_formula.specs.Marked.{MarkedRows}
 use Rattle.sig_formula.specs.Programs.{code, with_decision}
-use Rattle.sig_formula.specs.Running.{Machine, Next, over, on, added, after_rows, after_test, arrived, before, begin, executed, executed_at, given, is_within, kept, made, read}
-use Rattle.sig_formula.specs.Running.{row_at_hand, row_of, row_where, run, settled, stepped, stepped_at, turned, used, used_within}
+use Rattle.sig_formula.specs.Machines.{Machine, Next, over, on, added, after_rows, after_test, arrived, before, begin, executed, executed_at, given, is_within, kept, made, read}
+use Rattle.sig_formula.specs.Machines.{row_at_hand, row_of, row_where, run, settled, stepped, stepped_at, turned, used, used_within}
 use Rattle.sig_formula.specs.Trees.{Tree, literal, slot, row_field, row_key, negation, binary, choice, count_of, sum_of, rows_where, untracked}
 
 -- a machine at a place

@@ -1,8 +1,8 @@
 -- What crates above may cite of these proofs. All else in this folder is this crate's own.
 
 -- a formula asks only for slots of its own that aren't known
-pub use Rattle.sig_formula.proofs.Asking.{asks_askable, formula_asks}
+pub use Rattle.sig_formula.proofs.Asks.{asks_askable, formula_asks}
 -- a formula that speaks of no given row answers the same whatever row there is
 pub use Rattle.sig_formula.proofs.Aside.{rows_aside}
 -- an evaluation that was not begun stands for the formula, and one that has read some values does where more are read
-pub use Rattle.sig_formula.proofs.Reaching.{begun_is_paused, more_is_paused}
+pub use Rattle.sig_formula.proofs.Progress.{begun_is_paused, more_is_paused}

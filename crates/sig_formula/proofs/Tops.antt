@@ -4,7 +4,7 @@ use Rattle.std.specs.Prelude.{MatchOption, option_to_list, slice_get}
 use Rattle.std.proofs.Math.Seq.{get_or-append_seam}
 use Rattle.std.proofs.lemmas.List.{reverse-append, reverse-reverse}
 use Rattle.std.proofs.lemmas.Option.{slice_get-get_or}
-use Rattle.sig_formula.specs.Running.{first_of, others}
+use Rattle.sig_formula.specs.Machines.{first_of, others}
 
 nothing_there : {A : Type 0} (n : ℕ) (xs : List A) → n ≡ length xs → n ≡ 0 → xs ≡ []
 nothing_there n [] l e = refl

@@ -9,7 +9,7 @@ use Rattle.sig_base.specs.declared.value.Fault.TheVariants.{Overflow, Zero, Kind
 use Rattle.sig_base.specs.declared.value.Known.{Known}
 use Rattle.sig_base.specs.declared.value.Step.{Step}
 use Rattle.sig_base.specs.declared.value.Step.TheVariants.{Read, Done, Fail}
-use Rattle.sig_formula.specs.Answering.{answer_of, row_at}
+use Rattle.sig_formula.specs.Evaluation.{answer_of, row_at}
 use Rattle.sig_formula.specs.declared.formula.BinOp.{BinOp}
 use Rattle.sig_formula.specs.declared.formula.BinOp.TheVariants.{Or, And, Eq, Ne, Lt, Le, Gt, Ge, Join, Add, Sub, Mul, Div, Rem}
 use Rattle.sig_formula.specs.Trees.{Tree, literal, slot, negation, binary, choice, count_of, sum_of, rows_where, untracked, row_field, row_key}

@@ -5,7 +5,7 @@ use Rattle.sig_base.specs.declared.value.Value.{Value}
 use Rattle.sig_base.specs.declared.value.Step.TheVariants.{Read}
 use Rattle.sig_formula.specs.declared.evaluate.FormulaStep.TheVariants.{Ask}
 use Rattle.sig_formula.specs.declared.formula.RowRef.{RowRef}
-use Rattle.sig_formula.specs.Answering.{answer_of, formula_step, known_at, served}
+use Rattle.sig_formula.specs.Evaluation.{answer_of, formula_step, known_at, served}
 use Rattle.sig_formula.specs.Trees.{Tree, has_slot, needs_row}
 
 -- of a slot that a formula asks for: nothing that was read serves it, and it is a slot of the formula

@@ -1,9 +1,9 @@
-pub mod Answering
-pub mod Coding
+pub mod Evaluation
+pub mod Codes
 pub mod Examples
 pub mod Laws
 pub mod Marked
 pub mod Programs
-pub mod Running
+pub mod Machines
 pub mod Stops
 pub mod Trees

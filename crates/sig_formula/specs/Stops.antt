@@ -13,7 +13,7 @@ use Rattle.sig_formula.specs.declared.program.Instruction.TheVariants as job
 use Rattle.sig_formula.specs.declared.rounds.Going.TheVariants as going
 use Rattle.sig_formula.specs.Examples.{is_first, number, truth, two_rows, with_tables}
 use Rattle.sig_formula.specs.Programs.{code}
-use Rattle.sig_formula.specs.Running.{Machine, over, on, begin, run, stepped}
+use Rattle.sig_formula.specs.Machines.{Machine, over, on, begin, run, stepped}
 use Rattle.sig_formula.specs.Trees.{slot, binary, choice, negation, sum_of, rows_where, untracked}
 
 -- the sum of two slots, back to front

@@ -1,7 +1,7 @@
 // What a formula answers to what was read so far.
 ghost use Rattle.std.specs.Prelude.{◌≡◌, ◌<◌, length, IfOk, IfSome};
 ghost use Rattle.std.specs.Option.{option_copied};
-ghost use Rattle.sig_formula.specs.Answering.{answer_of, formula_step, known_at, served};
+ghost use Rattle.sig_formula.specs.Evaluation.{answer_of, formula_step, known_at, served};
 ghost use Rattle.sig_formula.specs.Trees.{tree};
 
 use crate::{Formula, Paused, RowRef};
@@ -46,7 +46,7 @@ pub(crate) fn served(
 /// What a formula answers to what was read so far, tracked and untracked: the first slot that it needs and doesn't know, its value, or its
 /// first fault. Operands are evaluated from left to right; then their kinds are checked; then the operation is done. The second part of
 /// `sum` and `keep` is evaluated, checked and used for one row before the next. Outside of `untrack` reads are tracked as `tracking` says.
-#[tactic(auto, using(crate::proofs::Reaching::begun_is_reached))]
+#[tactic(auto, using(crate::proofs::Progress::begun_is_reached))]
 pub fn formula_step(
     alloc: Global,
     tracking: bool,

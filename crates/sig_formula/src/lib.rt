@@ -1,7 +1,7 @@
 //! Formulas, and what they answer to the values known so far.
 #![tactic(auto)]
 
-mod copying;
+mod copies;
 mod evaluate;
 mod formula;
 mod laws;
@@ -12,7 +12,7 @@ mod resume;
 mod rounds;
 mod row;
 
-pub use copying::copy_formula;
+pub use copies::copy_formula;
 pub use evaluate::{FormulaStep, formula_step, step};
 pub use formula::{BinOp, Formula, RowRef};
 pub use laws::{formulas_ask_own_unknown_slots, rows_are_asked_by_it_alone};

@@ -4,9 +4,9 @@ ghost use Rattle.std.specs.Option.{option_copied};
 ghost use Rattle.sig_base.specs.Values.{scalar_value};
 ghost use Rattle.sig_base.specs.declared.value.Outcome.TheVariants.{Good};
 ghost use Rattle.sig_formula.specs.declared.formula.BinOp.TheVariants as op;
-ghost use Rattle.sig_formula.specs.Answering.{calculation, count_outcome, field_outcome, key_outcome, negated};
-ghost use Rattle.sig_formula.specs.Running.{added, after_left, after_part, after_right, after_rows, after_test, arrived, before, done, ended, first_of, given, is_within, kept, mapped};
-ghost use Rattle.sig_formula.specs.Running.{moved, next_of, others, out, popped, row_at_hand, used};
+ghost use Rattle.sig_formula.specs.Evaluation.{calculation, count_outcome, field_outcome, key_outcome, negated};
+ghost use Rattle.sig_formula.specs.Machines.{added, after_left, after_part, after_right, after_rows, after_test, arrived, before, done, ended, first_of, given, is_within, kept, mapped};
+ghost use Rattle.sig_formula.specs.Machines.{moved, next_of, others, out, popped, row_at_hand, used};
 
 use crate::operate::{calculation, counted, decided, negated, operated};
 use crate::program::{Act, Gathering};
@@ -30,7 +30,7 @@ pub(crate) struct Machine {
 
 impl Model for Machine {
     ghost use Rattle.std.specs.Prelude.{reverse};
-    ghost use Rattle.sig_formula.specs.Running.{Machine};
+    ghost use Rattle.sig_formula.specs.Machines.{Machine};
 
     ghost Value = { Machine };
 

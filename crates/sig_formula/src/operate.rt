@@ -1,7 +1,7 @@
 // What operators make of their operands.
 ghost use Rattle.std.specs.Prelude.{◌≡◌, IfOk, MatchOption};
 ghost use Rattle.sig_base.specs.Values.{shown};
-ghost use Rattle.sig_formula.specs.Answering.{calculated, calculation, compared, count_outcome, decided, equality, joined, negated, operated, order, text_outcome, truth};
+ghost use Rattle.sig_formula.specs.Evaluation.{calculated, calculation, compared, count_outcome, decided, equality, joined_texts, negated, operated, order, text_outcome, truth};
 
 use crate::BinOp;
 use sig_base::{Fault, NoMemory, Outcome, Text, TextFault, Value};
@@ -97,8 +97,8 @@ fn text_outcome(alloc: Global, text: &str) -> Result<Outcome, NoMemory>
 }
 
 // Two scalars as they are shown, one after the other.
-fn joined(alloc: Global, left: Value, right: Value) -> Result<Outcome, NoMemory>
-    ensures { IfOk result (λ o. o ≡ joined (shown left) (shown right)) }
+fn joined_texts(alloc: Global, left: Value, right: Value) -> Result<Outcome, NoMemory>
+    ensures { IfOk result (λ o. o ≡ joined_texts (shown left) (shown right)) }
 {
     let (Some(first), Some(second)) = (left.into_scalar(), right.into_scalar()) else {
         return Ok(Outcome::Bad(Fault::Kind));
@@ -197,6 +197,6 @@ pub fn operated(alloc: Global, op: BinOp, left: Value, right: Value) -> Result<O
 {
     match outcome_of(op, &left, &right) {
         Some(outcome) => Ok(outcome),
-        None => joined(alloc, left, right),
+        None => joined_texts(alloc, left, right),
     }
 }

@@ -3,9 +3,9 @@ ghost use Rattle.std.specs.Prelude.{◌≡◌, ◌<◌, [], length, true, List, 
 ghost use Rattle.std.specs.Option.{option_copied};
 ghost use Rattle.sig_base.specs.declared.value.Known.{Known};
 ghost use Rattle.sig_formula.specs.declared.formula.RowRef.{RowRef};
-ghost use Rattle.sig_formula.specs.Answering.{answer_of, formula_step};
+ghost use Rattle.sig_formula.specs.Evaluation.{answer_of, formula_step};
 ghost use Rattle.sig_formula.specs.Programs.{code};
-ghost use Rattle.sig_formula.specs.Running.{IsPaused, IsReached, begun, is_asked, next_by, stepped};
+ghost use Rattle.sig_formula.specs.Machines.{IsPaused, IsReached, begun, is_asked, next_by, stepped};
 ghost use Rattle.sig_formula.specs.Trees.{Tree, tree};
 
 use crate::evaluate::served;
@@ -24,7 +24,7 @@ pub struct Paused {
 }
 
 impl Model for Paused {
-    ghost use Rattle.sig_formula.specs.Running.{Evaluation};
+    ghost use Rattle.sig_formula.specs.Machines.{Evaluation};
 
     ghost Value = { Evaluation };
 
@@ -51,7 +51,7 @@ impl Paused {
     /// # Errors
     ///
     /// `NoMemory` alone.
-    #[tactic(auto, using(crate::proofs::Reaching::begun_is_paused))]
+    #[tactic(auto, using(crate::proofs::Progress::begun_is_paused))]
     pub fn new(alloc: Global, f: &Formula) -> Result<Paused, NoMemory>
         ensures { IfOk result (λ p. (row : Option RowRef) → IsPaused p (tree f.now) row []) }
     {
@@ -100,7 +100,7 @@ impl Paused {
     /// # Errors
     ///
     /// `NoMemory` alone.
-    #[tactic(auto, using(crate::proofs::Reaching::reached_on, crate::proofs::Reaching::reached_ends, crate::proofs::Reaching::reached_falls))]
+    #[tactic(auto, using(crate::proofs::Progress::reached_on, crate::proofs::Progress::reached_ends, crate::proofs::Progress::reached_falls))]
     pub(crate) fn run(
         &mut self,
         alloc: Global,
@@ -132,7 +132,7 @@ impl Paused {
     }
 
     /// Begins the evaluation of the same formula anew: nothing is read then. It takes no memory.
-    #[tactic(auto, using(crate::proofs::Reaching::anew_from))]
+    #[tactic(auto, using(crate::proofs::Progress::anew_from))]
     pub fn restart(&mut self)
         ensures { (t : Tree) (row : Option RowRef) (known : List Known) → IsPaused self.old t row known → IsPaused self.new t row [] }
     {
@@ -145,7 +145,7 @@ impl Paused {
     /// # Errors
     ///
     /// `NoMemory` alone, after which it may only be dropped.
-    #[tactic(auto, using(crate::proofs::Reaching::anew_is_paused))]
+    #[tactic(auto, using(crate::proofs::Progress::anew_is_paused))]
     pub fn advance(
         &mut self,
         alloc: Global,

@@ -2,7 +2,7 @@
 ghost use Rattle.std.specs.Prelude.{◌≡◌, ◌<◌, ◌≤◌, [], ◌∷◌, ◌++◌, false, length, OnOk, IfOk, IfSome};
 ghost use Rattle.sig_base.specs.Tables.{marked};
 ghost use Rattle.sig_base.specs.declared.value.Value.TheVariants as value;
-ghost use Rattle.sig_formula.specs.Running.{going_over, is_within, made, place_of, row_of, rows_of};
+ghost use Rattle.sig_formula.specs.Machines.{going_over, is_within, made, place_of, row_of, rows_of};
 
 use crate::RowRef;
 use crate::program::Gathering;

@@ -2,7 +2,7 @@
 ghost use Rattle.std.specs.Prelude.{◌≡◌, ◌<◌, length, option_copied, IfOk, IfSome};
 ghost use Rattle.std.specs.List.{position};
 ghost use Rattle.std.specs.Str.{bytes_eq};
-ghost use Rattle.sig_formula.specs.Answering.{field_outcome, key_outcome, value_under};
+ghost use Rattle.sig_formula.specs.Evaluation.{field_outcome, key_outcome, value_under};
 
 use crate::RowRef;
 use sig_base::{Fault, Name, NoMemory, Outcome, Scalar, Value};

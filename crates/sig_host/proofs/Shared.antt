@@ -7,4 +7,4 @@ pub use Rattle.sig_host.proofs.Asks.{place_at-more, is_there-more, count_at-more
 -- the most that any formula was asked
 pub use Rattle.sig_host.proofs.Asks.{count_at-most, most_asked-least, most_asked-more, most_asked-dropped}
 -- rows that are made of no others
-pub use Rattle.sig_host.proofs.Lending.{asked_good}
+pub use Rattle.sig_host.proofs.Loans.{asked_good}

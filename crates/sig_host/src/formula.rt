@@ -3,7 +3,7 @@ ghost use Rattle.std.specs.Prelude.{◌≡◌, ◌+◌, ◌<◌, List, ℕ, IfOk
 ghost use Rattle.sig_base.specs.declared.value.Known.{Known};
 ghost use Rattle.sig_base.specs.declared.value.Step.{Step};
 ghost use Rattle.sig_host.specs.Hosts.{hosts_of, last_ask};
-ghost use Rattle.sig_host.specs.Lending.{IsLending, LendsRows};
+ghost use Rattle.sig_host.specs.Loans.{IsLending, LendsRows};
 
 use sig_base::{Known, NoMemory, Step};
 use std::alloc::Global;

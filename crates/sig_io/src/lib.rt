@@ -2,11 +2,11 @@
 #![tactic(auto)]
 
 mod memory;
-mod putting;
 mod standard;
 mod traits;
+mod writer;
 
 pub use memory::{MemSink, MemSource};
-pub use putting::put_all;
 pub use standard::{StdSink, StdSource};
 pub use traits::{Sink, Source};
+pub use writer::put_all;

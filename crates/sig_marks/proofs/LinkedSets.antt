@@ -6,7 +6,7 @@ use Rattle.std.proofs.lemmas.Map.Keys.{IsDistinct-head, IsDistinct-tail}
 use Rattle.std.proofs.lemmas.Bool.{eqb-true, eq-eqb}
 use Rattle.indexmap.specs.IndexSet.{IndexSet, spare}
 use Rattle.signal_model.specs.Laws.{AreDistinct}
-use Rattle.signal_model.specs.Standing.{is_in}
+use Rattle.signal_model.specs.Signals.{is_in}
 use Rattle.signal_model.proofs.Shared.{tested}
 use Rattle.sig_store.specs.Stored.{entry}
 use Rattle.sig_marks.specs.Tables.{dependants_at, depends, marked_at, Drops, Relinks}

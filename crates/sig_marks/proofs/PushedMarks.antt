@@ -3,7 +3,7 @@ use Rattle.std.proofs.Common.{◌≡◌, ℕ, zero, suc, ◌+◌, ◌<◌, ◌�
 use Rattle.std.specs.Prelude.{slice_set, get_or}
 use Rattle.std.specs.List.{All}
 use Rattle.std.proofs.lemmas.Bool.{eqb-true, eq-eqb}
-use Rattle.signal_model.specs.Standing.{is_in}
+use Rattle.signal_model.specs.Signals.{is_in}
 use Rattle.sig_marks.specs.Tables.{Reached, Spreads, dependants_at, first, marked_at, next}
 use Rattle.sig_store.specs.Stored.{entry}
 use Rattle.sig_marks.specs.Sets.{mark_in, marks_of, newly_marked, standing_count, stands_of, unmarked_count, with_marks}

@@ -1,7 +1,7 @@
 -- Sets of dependants and marks of the signals that stand, and what pushing marks does to them, step by step.
 use Rattle.std.specs.Prelude.{◌≡◌, ℕ, ◌+◌, ◌<◌, ◌≤◌, ◌==◌, ◌&&◌, ◌⊎◌, Bool, true, false, List, [], ◌∷◌, length, map, if◌then◌else◌, slice_set, Option, Some, None, is_some}
 use Rattle.indexmap.specs.IndexSet.{IndexSet, spare}
-use Rattle.signal_model.specs.Standing.{is_in}
+use Rattle.signal_model.specs.Signals.{is_in}
 use Rattle.sig_store.specs.Stored.{entry}
 use Rattle.sig_marks.specs.Tables.{MarkTable, depends, marked_at}
 

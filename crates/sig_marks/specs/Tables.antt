@@ -1,6 +1,6 @@
 -- The dependants of signals and their pushed marks, by the signals' places.
 use Rattle.std.specs.Prelude.{◌≡◌, ℕ, zero, suc, ◌==◌, ◌&&◌, Bool, true, false, List, [], ◌∷◌, ◌++◌, length, ◌⊎◌, if◌then◌else◌, slice_set}
-use Rattle.signal_model.specs.Standing.{is_in}
+use Rattle.signal_model.specs.Signals.{is_in}
 
 -- The dependants of each signal by its number, whether it is marked, and whether it still stands. What is gone has no dependants, and counts
 -- as marked: no marking goes on from it.

@@ -1,9 +1,9 @@
 //! Whom a change reaches: the dependants of each signal, and marks that are pushed along them, by the signals' numbers.
 #![tactic(auto)]
 
-mod linking;
+mod links;
 mod marks;
-mod pushing;
-mod standing;
+mod presence;
+mod propagation;
 
 pub use marks::Marks;

@@ -4,8 +4,8 @@ ghost use Rattle.std.specs.List.{All};
 ghost use Rattle.signal_model.specs.Laws.{AreDistinct};
 ghost use Rattle.sig_marks.specs.Tables.{dependants_at, marked_at, with_mark, with_place, without_mark, Drops, Pushes, Relinks, Spreads};
 
-use crate::linking::{drop_links, reader_at, relink};
-use crate::pushing::{drop_mark, is_marked_in, mark_one, spread, unmark_one};
+use crate::links::{drop_links, reader_at, relink};
+use crate::propagation::{drop_mark, is_marked_in, mark_one, spread, unmark_one};
 use indexmap::IndexSet;
 use sig_base::{NoMemory, NodeId};
 use sig_store::Store;

@@ -6,7 +6,7 @@ use Rattle.sig_base.specs.declared.value.Value.{Value}
 use Rattle.sig_base.specs.declared.value.Outcome.{Outcome}
 use Rattle.sig_base.specs.declared.value.Known.{Known}
 use Rattle.signal_model.specs.Recipes.{Recipe}
-use Rattle.signal_model.specs.Standing.{Cell, Computed, changed, without}
+use Rattle.signal_model.specs.Signals.{Cell, Computed, changed, without}
 use Rattle.signal_model.specs.Memos.{Source, Memo, Entry, named_now}
 use Rattle.signal_model.specs.Settling.{has_outcome, ran_entry}
 use Rattle.signal_model.specs.Changes.{raised, entry_rewired}

@@ -1,9 +1,9 @@
 -- What a look finds, by what stands there.
 use Rattle.std.proofs.Common.{◌≡◌, Bool, true, false, refl}
-use Rattle.signal_model.specs.Standing.{Stands, IsGone, IsCell, IsComputed, is_computed}
+use Rattle.signal_model.specs.Signals.{Stands, IsGone, IsCell, IsComputed, is_computed}
 use Rattle.signal_model.specs.Marks.{Mark}
 use Rattle.sig_nodes.specs.declared.answers.Standing.TheVariants as kind
-use Rattle.sig_nodes.specs.declared.finding.Look.TheVariants as look
+use Rattle.sig_nodes.specs.declared.queries.Look.TheVariants as look
 use Rattle.sig_nodes.specs.Answers.{kind_here}
 use Rattle.sig_nodes.specs.Looks.{look_here, look_meant}
 

@@ -6,7 +6,7 @@ use Rattle.sig_base.specs.declared.value.Value.{Value}
 use Rattle.sig_base.specs.declared.value.Outcome.{Outcome}
 use Rattle.sig_base.specs.declared.value.Known.{Known}
 use Rattle.signal_model.specs.Recipes.{Recipe}
-use Rattle.signal_model.specs.Standing.{Signals, Stands, Cell, Computed, IsCell, IsComputed, IsGone, is_computed, is_in, is_there, standing}
+use Rattle.signal_model.specs.Signals.{Signals, Stands, Cell, Computed, IsCell, IsComputed, IsGone, is_computed, is_in, is_there, standing}
 use Rattle.signal_model.specs.Memos.{Memo, Memos, Entry, entry_at, holds_cycle, is_cycle, memo_is_cycle, must_run, keeps, named_now, source_names, sources_in, sources_of}
 use Rattle.signal_model.proofs.Shared.{tested}
 use Rattle.sig_marks.specs.Tables.{Drops, MarkTable, Pushes, Relinks, Spreads, depends, marked_at, stands_at, with_place}
@@ -24,11 +24,11 @@ use Rattle.sig_nodes.specs.Nodes.{IsFresh, body_at, changed_at, change_at, entri
 use Rattle.sig_nodes.proofs.KeptFinds.{known_found}
 use Rattle.sig_nodes.proofs.Parts.{entry_found, memo_found, progress_found, stands}
 use Rattle.sig_nodes.proofs.Edits.{body_changed, body_past, changed_length, gone_state, known_state, memo_made, new_state, rewired_state, run_state, set_state}
-use Rattle.sig_nodes.proofs.Holding.{computed_below, computed_here, computed_live, computing_here, known_holds, live_here}
+use Rattle.sig_nodes.proofs.Consistency.{computed_below, computed_here, computed_live, computing_here, known_holds, live_here}
 use Rattle.sig_nodes.proofs.ReachedSeats.{named_holder, seated_at, seated_is, HasSeated}
-use Rattle.sig_nodes.proofs.Reaching.{clear_end}
-use Rattle.sig_nodes.proofs.Searching.{calm_run}
-use Rattle.sig_nodes.specs.Places.{Holds, IsGraph, KeepsMarks, KeepsStanding}
+use Rattle.sig_nodes.proofs.Walks.{clear_end}
+use Rattle.sig_nodes.proofs.Searches.{calm_run}
+use Rattle.sig_nodes.specs.Places.{NodesAgree, IsGraph, KeepsMarks, KeepsStanding}
 use Rattle.sig_nodes.specs.StateMarks.{AreStateMarks}
 use Rattle.sig_nodes.proofs.MarkedStates.{begin_law, cell_law, computed_law, dispose_law, keep_law, onward_law, rewire_law, set_law, stop_law, turned, unmark_law}
 
@@ -384,7 +384,7 @@ record IsThrough (xs : List Node) (ss : List ℕ) (holders : List (Option ℕ)) 
   listed : is_in (seat_at xs m) ss ≡ true
 
 -- a search that found nothing that must run
-pub searched_kept : (xs : List Node) (seats : Seating) (gen w : ℕ) (t : MarkTable) (ss : List ℕ) (us : List Bool) → Holds xs seats gen w →
+pub searched_kept : (xs : List Node) (seats : Seating) (gen w : ℕ) (t : MarkTable) (ss : List ℕ) (us : List Bool) → NodesAgree xs seats gen w →
     Reaches xs t.marked gen ss [] → length us ≡ length t.marked → ((m : ℕ) → marked_at us m ≡ without_marks (marked_at t.marked) (search_unmarks xs ss seats.holders) m) →
     KeepsMarks xs gen t → KeepsMarks xs gen (record { dependants = t.dependants; marked = us; stands = t.stands })
 searched_kept xs seats gen w t ss us holds e size marks h = record {
@@ -432,7 +432,7 @@ searched_kept xs seats gen w t ss us holds e size marks h = record {
     }
 
 -- a making, of what isn't marked if it is a cell, and is if it is a computed
-pub new_kept : (xs : List Node) (seat : ℕ) (b : Body) (gen w : ℕ) (seats : Seating) (t : MarkTable) → IsFresh b → Holds xs seats gen w →
+pub new_kept : (xs : List Node) (seat : ℕ) (b : Body) (gen w : ℕ) (seats : Seating) (t : MarkTable) → IsFresh b → NodesAgree xs seats gen w →
     KeepsMarks xs gen t → KeepsMarks (xs ++ new_node seat b ∷ []) gen (with_place t (is_computed_body b))
 new_kept xs seat b gen w seats t fresh holds h = record {
   links = length-append t.dependants ([] ∷ []) ∙ ap (λ z. z + 1) h.links ∙ sym (length-append xs (new_node seat b ∷ []));
@@ -532,7 +532,7 @@ stop_is xs g t n =
     ∙ ap (λ b. not (must_run (memos_of g xs) n []) && (not (holds_cycle (memos_of g xs) n) && not b)) (some_is xs t (source_names (sources_of (memos_of g xs) n)))
 
 -- the places that a computed keeps are places of the table
-pub names_below : (xs : List Node) (seats : Seating) (gen w n : ℕ) (t : MarkTable) → Holds xs seats gen w → KeepsMarks xs gen t → All (λ m. m < length t.marked) (kept_names xs n)
+pub names_below : (xs : List Node) (seats : Seating) (gen w n : ℕ) (t : MarkTable) → NodesAgree xs seats gen w → KeepsMarks xs gen t → All (λ m. m < length t.marked) (kept_names xs n)
 names_below xs seats gen w n t holds h = all_in (kept_names xs n) (length t.marked) (λ m q. subst (λ z. m < z) (sym h.flags) (holds.sources n m q))
 
 -- a table of these dependants, marks and signals that stand

@@ -1,15 +1,15 @@
 pub mod Sources
 pub mod Parts
 pub mod Edits
-pub mod Seating
-pub mod Holding
-pub mod Looking
-pub mod Searching
+pub mod Occupancy
+pub mod Consistency
+pub mod Lookups
+pub mod Searches
 mod ReachedSeats
-mod Reaching
-pub mod Using
+mod Walks
+pub mod HostUse
 pub mod Shared
-mod Pausing
+mod Pauses
 mod Found
 mod Gaps
 mod Seated

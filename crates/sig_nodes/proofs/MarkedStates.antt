@@ -3,7 +3,7 @@ use Rattle.std.proofs.Common.{◌≡◌, ℕ, ◌==◌, Bool, true, false, cond,
 use Rattle.std.specs.Prelude.{is_some}
 use Rattle.std.proofs.lemmas.Bool.{eqb-true, eq-eqb}
 use Rattle.sig_base.specs.declared.value.Known.{Known}
-use Rattle.signal_model.specs.Standing.{Signals, changed, without}
+use Rattle.signal_model.specs.Signals.{Signals, changed, without}
 use Rattle.signal_model.specs.Memos.{Memos}
 use Rattle.signal_model.proofs.Shared.{tested}
 use Rattle.sig_nodes.specs.States.{State, Progress, progress_at, is_computing, with_disposal, with_new_computed, with_progress}

@@ -5,7 +5,7 @@ use Rattle.std.specs.List.{AllByRecursion}
 use Rattle.std.proofs.lemmas.Bool.{eq-eqb}
 use Rattle.std.proofs.lemmas.Bool.Decides.{nat_tests}
 use Rattle.sig_base.specs.declared.value.Known.{Known}
-use Rattle.signal_model.specs.Standing.{Cell, Computed, changed, without, cell_at, computed_at, or_computed, standing}
+use Rattle.signal_model.specs.Signals.{Cell, Computed, changed, without, cell_at, computed_at, or_computed, standing}
 use Rattle.signal_model.specs.Memos.{Entry, entry_at, memo_in, memo_of, number_in, number_of}
 use Rattle.sig_nodes.specs.declared.node.Node.{Node}
 use Rattle.sig_nodes.specs.declared.node.Body.{Body}

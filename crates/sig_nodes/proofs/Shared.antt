@@ -4,11 +4,11 @@ use Rattle.std.proofs.Common.{◌≡◌, ℕ, ◌+◌, ◌==◌, nat_lt, arith, 
 use Rattle.std.proofs.lemmas.Bool.{eqb-true}
 use Rattle.std.proofs.lemmas.Bool.Decides.{nat_tests}
 use Rattle.sig_base.specs.declared.value.Known.{Known}
-use Rattle.signal_model.specs.Standing.{changed}
+use Rattle.signal_model.specs.Signals.{changed}
 use Rattle.sig_nodes.specs.States.{Progress, Seen, State, Makes, is_given, progress_at, with_progress}
 -- ---- host formulas
 
-pub use Rattle.sig_nodes.proofs.Using.{uses_standing, uses_made, uses_rewired, uses_without}
+pub use Rattle.sig_nodes.proofs.HostUse.{uses_standing, uses_made, uses_rewired, uses_without}
 
 -- ---- ids
 

@@ -9,8 +9,8 @@ use Rattle.sig_base.specs.declared.value.Fault.TheVariants as fault
 use Rattle.sig_formula.specs.Trees.{tree}
 use Rattle.signal_model.specs.Recipes as recipes
 use Rattle.signal_model.specs.Recipes.{Hosts, recipe_answer, IsJudged}
-use Rattle.signal_model.specs.Standing as signals
-use Rattle.signal_model.specs.Standing.{Signals, Stands, IsGone, IsCell, IsComputed, standing}
+use Rattle.signal_model.specs.Signals as signals
+use Rattle.signal_model.specs.Signals.{Signals, Stands, IsGone, IsCell, IsComputed, standing}
 use Rattle.signal_model.specs.Memos.{Source, differs}
 use Rattle.signal_model.specs.Asks.{is_host}
 use Rattle.signal_model.specs.Marks as marks

@@ -7,6 +7,6 @@ pub mod Seats
 pub mod Places
 pub mod Search
 pub mod Looks
-pub mod Pausing
+pub mod Pauses
 pub mod Gaps
 pub mod Lends

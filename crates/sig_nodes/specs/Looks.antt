@@ -1,9 +1,9 @@
 -- What a look at a signal finds.
 use Rattle.std.specs.Prelude.{Bool, if◌then◌else◌}
-use Rattle.signal_model.specs.Standing.{Stands, IsGone, IsCell, IsComputed}
+use Rattle.signal_model.specs.Signals.{Stands, IsGone, IsCell, IsComputed}
 use Rattle.signal_model.specs.Marks as marks
-use Rattle.sig_nodes.specs.declared.finding.Look.{Look}
-use Rattle.sig_nodes.specs.declared.finding.Look.TheVariants as look
+use Rattle.sig_nodes.specs.declared.queries.Look.{Look}
+use Rattle.sig_nodes.specs.declared.queries.Look.TheVariants as look
 
 -- a mark, as a look finds it
 abbrev pub look_meant : marks.Mark → Look

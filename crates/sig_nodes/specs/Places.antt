@@ -1,7 +1,7 @@
 -- What holds of a graph's fields between its calls.
 use Rattle.std.specs.Prelude.{◌≡◌, ℕ, ◌+◌, ◌<◌, ◌≤◌, Bool, true, List, length, Option, Some}
 use Rattle.sig_base.specs.declared.limits.TheConstants.{MOST_NODES}
-use Rattle.signal_model.specs.Standing.{is_in}
+use Rattle.signal_model.specs.Signals.{is_in}
 use Rattle.signal_model.specs.Memos.{source_names, sources_in}
 use Rattle.sig_nodes.specs.declared.node.Node.{Node}
 use Rattle.sig_nodes.specs.Nodes.{cells_of, computeds_of, body_at, change_at, seat_at, is_computed_body, is_live_body, memo_body, slots_body, state_of, FewSlotsBody}
@@ -13,7 +13,7 @@ use Rattle.sig_marks.specs.Tables.{MarkTable, depends, marked_at, stands_at}
 
 -- No counter is above the last number; slots and kept sources are of ids that were given; host formulas have few arguments; each live
 -- signal has its own seat, and what has a seat lives.
-pub record Holds (nodes : List Node) (seats : Seating) (generation worn : ℕ) : Type 0 where
+pub record NodesAgree (nodes : List Node) (seats : Seating) (generation worn : ℕ) : Type 0 where
   pub numbers : (m : ℕ) → change_at nodes m ≤ worn
   pub current : generation ≤ worn
   pub made : length nodes ≤ worn
@@ -44,7 +44,7 @@ pub record KeepsFound (nodes : List Node) (generation worn : ℕ) (found : List 
 
 -- all of them hold
 pub record IsGraph (nodes : List Node) (seats : Seating) (generation worn : ℕ) (t : MarkTable) (finds : List ℕ) : Type 0 where
-  pub fields : Holds nodes seats generation worn
+  pub fields : NodesAgree nodes seats generation worn
   pub marks : KeepsMarks nodes generation t
   pub found : KeepsFound nodes generation worn finds
 

@@ -1,6 +1,6 @@
 -- The search for a computed that must run, along kept sources.
 use Rattle.std.specs.Prelude.{◌≡◌, ℕ, zero, suc, ◌<◌, ◌==◌, ◌⊎◌, ◌||◌, ◌&&◌, not, Bool, true, false, List, [], ◌∷◌, Option, Some, None, is_some, if◌then◌else◌}
-use Rattle.signal_model.specs.Standing.{is_in}
+use Rattle.signal_model.specs.Signals.{is_in}
 use Rattle.signal_model.specs.Memos.{Memo, keeps, memo_is_cycle, must_run_by, source_names, sources_in}
 use Rattle.sig_marks.specs.Tables.{marked_at}
 use Rattle.signal_model.specs.Marks.{HasBelow, is_due}

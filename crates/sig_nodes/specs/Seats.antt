@@ -1,7 +1,7 @@
 -- The seats of live signals.
 use Rattle.std.specs.Prelude.{◌≡◌, ℕ, zero, suc, ◌+◌, ◌-◌, ◌<◌, ◌≤◌, true, List, [], ◌∷◌, length, Option, Some, None, slice_set}
 use Rattle.sig_base.specs.declared.limits.TheConstants.{MOST_NODES}
-use Rattle.signal_model.specs.Standing.{Signals, is_in, is_there, standing}
+use Rattle.signal_model.specs.Signals.{Signals, is_in, is_there, standing}
 use Rattle.signal_model.specs.Laws.{AreDistinct}
 
 -- who has each seat, and how many are free

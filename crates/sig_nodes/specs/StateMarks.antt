@@ -4,7 +4,7 @@ use Rattle.sig_base.specs.declared.value.Value.{Value}
 use Rattle.sig_base.specs.declared.value.Outcome.{Outcome}
 use Rattle.sig_base.specs.declared.value.Known.{Known}
 use Rattle.signal_model.specs.Recipes.{Recipe}
-use Rattle.signal_model.specs.Standing.{Cell, Computed, IsCell, IsComputed, is_computed, is_there, standing}
+use Rattle.signal_model.specs.Signals.{Cell, Computed, IsCell, IsComputed, is_computed, is_there, standing}
 use Rattle.signal_model.specs.Memos.{Entry, entry_at}
 use Rattle.signal_model.specs.Marks.{mark_of}
 use Rattle.sig_nodes.specs.States.{State, is_computing, with_new_cell, with_new_computed, with_set, with_rewiring, with_disposal, with_progress, with_kept_run, with_look}

@@ -1,7 +1,7 @@
 // What the nodes of a graph answer about the signal at one place. Past the last place nothing lives.
 ghost use Rattle.std.specs.Prelude.{◌≡◌, ◌<◌, ◌∷◌, ◌||◌, ◌&&◌, not, map, is_some, true, false, None, Some, IfOk, IfSome, IfNone, slice_get};
 ghost use Rattle.std.specs.Option.{option_copied};
-ghost use Rattle.signal_model.specs.Standing.{is_computed};
+ghost use Rattle.signal_model.specs.Signals.{is_computed};
 ghost use Rattle.signal_model.specs.Memos.{is_stale_by, same_number, source_names, sources_in};
 ghost use Rattle.signal_model.specs.Sound.{kept_outcome};
 ghost use Rattle.sig_nodes.specs.declared.node.Body.TheVariants as body;

@@ -1,15 +1,15 @@
 // The calls of an evaluation.
 ghost use Rattle.std.specs.Prelude.{◌≡◌, ◌<◌, [], length, take, true, false, None, Some, IfOk, IfSome, OnOk, slice_get};
 ghost use Rattle.std.specs.List.{All};
-ghost use Rattle.signal_model.specs.Standing.{is_computed, standing};
+ghost use Rattle.signal_model.specs.Signals.{is_computed, standing};
 ghost use Rattle.signal_model.specs.Memos.{is_stale, sources_of};
 ghost use Rattle.sig_nodes.specs.Answers.{has_moved, slots_here, IsAnswerHere, IsJudgedAnswer};
 ghost use Rattle.sig_nodes.specs.States.{counted, is_computing, is_given, progress_at, with_kept_run, with_look, with_progress, Becomes, CanWear, GoesOn};
 
 use crate::answers::Asked;
 use crate::bodies::{is_stale_at, moved_at, numbers_now, sources_at};
+use crate::end_marks::{end_mark, run_unmarks, stop_unmarks};
 use crate::graph::Graph;
-use crate::marking::{end_mark, run_unmarks, stop_unmarks};
 use crate::node::Memo;
 use crate::store::{ask_at, begin_at, end_at, keep_memo_at};
 use sig_base::{Known, NoMemory, NodeId, Outcome};

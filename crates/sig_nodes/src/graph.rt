@@ -1,7 +1,7 @@
 // The graph, and how signals are made, changed and disposed.
 ghost use Rattle.std.specs.Prelude.{◌≡◌, ℕ, ◌+◌, ◌<◌, ◌↔◌, ◌∷◌, [], length, true, false, None, Some, IfOk, IfErr, IsErr, IsErrOf, OnOk, OnErr};
 ghost use Rattle.std.specs.List.{All};
-ghost use Rattle.signal_model.specs.Standing.{is_there, standing};
+ghost use Rattle.signal_model.specs.Signals.{is_there, standing};
 ghost use Rattle.signal_model.specs.Changes.{live_count};
 ghost use Rattle.sig_nodes.specs.declared.errors.NodeFault.TheVariants as fault;
 ghost use Rattle.sig_nodes.specs.Answers.{expression_of, host_here, value_here, HasFewSlots};
@@ -57,7 +57,7 @@ impl Drop for Graph {
 
 impl Model for Graph {
     ghost use Rattle.std.specs.Prelude.{length};
-    ghost use Rattle.sig_formula.specs.Coding.{tree_code};
+    ghost use Rattle.sig_formula.specs.Codes.{tree_code};
     ghost use Rattle.std.specs.Coded.{codes};
     ghost use Rattle.sig_nodes.specs.States.{Seen};
 

@@ -3,23 +3,23 @@
 
 mod answers;
 mod bodies;
+mod end_marks;
 mod errors;
 mod evaluation;
-mod finding;
 mod finds;
 mod graph;
 mod looks;
-mod marking;
 mod marks;
 mod node;
 mod nodes;
+mod queries;
 mod search;
+mod search_marks;
 mod seats;
 mod store;
 mod trail;
-mod unmarking;
 
 pub use answers::{Asked, Mark, Recipe, Standing};
 pub use errors::NodeFault;
-pub use finding::Look;
 pub use graph::Graph;
+pub use queries::Look;

@@ -1,7 +1,7 @@
 // What a graph answers without changing.
 ghost use Rattle.std.specs.Prelude.{ℕ, ◌≡◌, ◌+◌, ◌<◌, ◌^◌, true, false, Some, IfSome, slice_get};
 ghost use Rattle.std.specs.Option.{option_copied};
-ghost use Rattle.signal_model.specs.Standing.{is_computed, is_in, is_there, standing};
+ghost use Rattle.signal_model.specs.Signals.{is_computed, is_in, is_there, standing};
 ghost use Rattle.signal_model.specs.Memos.{keeps, memo_of, source_names, sources_of};
 ghost use Rattle.signal_model.specs.Kept.{AreGiven, OnlyComputedsKeep};
 ghost use Rattle.signal_model.specs.Sound.{kept_outcome};

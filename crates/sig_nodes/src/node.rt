@@ -11,9 +11,9 @@ ghost use Rattle.signal_model.specs.Changes.{memo_rewired};
 ghost use Rattle.sig_nodes.specs.States.{GoesOn};
 ghost use Rattle.sig_nodes.specs.Answers.{expression_of, host_place, IsAnswerOf, IsJudgedAnswer};
 ghost use Rattle.sig_nodes.specs.Computations.{at_generation, paired, recipe_made};
-ghost use Rattle.sig_nodes.specs.Pausing.{IsHeldOf};
+ghost use Rattle.sig_nodes.specs.Pauses.{IsHeldOf};
 ghost use Rattle.sig_base.specs.declared.value.Known.{Known};
-ghost use Rattle.sig_formula.specs.Running.{IsPaused};
+ghost use Rattle.sig_formula.specs.Machines.{IsPaused};
 ghost use Rattle.sig_formula.specs.Trees.{tree};
 
 use crate::answers::{Asked, Recipe};
@@ -155,7 +155,7 @@ pub(crate) struct Computation {
 
 impl Model for Computation {
     ghost use Rattle.std.specs.Prelude.{Some, None, if◌then◌else◌};
-    ghost use Rattle.sig_formula.specs.Coding.{tree_code};
+    ghost use Rattle.sig_formula.specs.Codes.{tree_code};
     ghost use Rattle.std.specs.Coded.{codes};
     ghost use Rattle.sig_nodes.specs.Computations.{Computation, recipe_made};
 
@@ -165,7 +165,7 @@ impl Model for Computation {
 
     ghost use Rattle.sig_nodes.specs.States.{GoesOn};
     ghost use Rattle.sig_nodes.specs.Answers.{expression_of};
-    ghost use Rattle.sig_nodes.specs.Pausing.{IsHeld};
+    ghost use Rattle.sig_nodes.specs.Pauses.{IsHeld};
 
     ghost view = { λ c. record {
       recipe = recipe_made (expression_of c.recipe) c.slots.items;

@@ -17,7 +17,7 @@ pub(crate) struct Nodes {
 }
 
 impl Model for Nodes {
-    ghost use Rattle.sig_formula.specs.Coding.{tree_code};
+    ghost use Rattle.sig_formula.specs.Codes.{tree_code};
     ghost use Rattle.std.specs.Coded.{codes};
     ghost use Rattle.sig_nodes.specs.Gaps.{NodeTable};
 

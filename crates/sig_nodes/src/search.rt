@@ -1,6 +1,6 @@
 // The search for a computed that must run, among what is marked below a computed.
 ghost use Rattle.std.specs.Prelude.{◌≡◌, ℕ, ◌+◌, ◌*◌, ◌<◌, ◌≤◌, ◌++◌, ◌∷◌, [], length, true, false};
-ghost use Rattle.signal_model.specs.Standing.{is_in};
+ghost use Rattle.signal_model.specs.Signals.{is_in};
 ghost use Rattle.signal_model.specs.Memos.{source_names, sources_in};
 ghost use Rattle.signal_model.specs.Marks.{mark_of};
 ghost use Rattle.sig_marks.specs.Tables.{marked_at};

@@ -1,17 +1,17 @@
 -- An owner that is gone stands nowhere in the tree.
 use Rattle.std.proofs.Common.{◌≡◌, ℕ, zero, suc, ◌+◌, ◌≤◌, ◌||◌, ◌==◌, true, false, List, [], ◌∷◌, length, eq-eqb, refl, sym, ap, ◌∙◌, inl, inr, arith}
 use Rattle.std.proofs.lemmas.Bool.{cases_Bool, or_left, or_right, true≢false}
-use Rattle.effect_model.specs.Owning.{Thing, the_owner, Owned, nothing, thing, cleanup, same_thing}
+use Rattle.effect_model.specs.Owners.{Thing, the_owner, Owned, nothing, thing, cleanup, same_thing}
 use Rattle.sig_owner.specs.Tables.{IsBare, Item, held, leaf, noted, Row, all_ended, dropped, items_at, live_at, owner_count, thing_at}
 use Rattle.sig_owner.specs.Trees.{has_thing, owned_of, piled, stands_under, top_items}
-use Rattle.sig_owner.specs.Places.{Holds, has_leaf}
+use Rattle.sig_owner.specs.Places.{RowsAgree, has_leaf}
 use Rattle.sig_owner.specs.Walks.{ended_under, is_held, with_taken_back}
-use Rattle.sig_owner.proofs.Dropping.{dropped_holds}
-use Rattle.sig_owner.proofs.Ending.{taken_back_holds}
+use Rattle.sig_owner.proofs.Removals.{dropped_holds}
+use Rattle.sig_owner.proofs.Ends.{taken_back_holds}
 use Rattle.sig_owner.proofs.Forests.{stands_here, stands_past, top_lives}
-use Rattle.sig_owner.proofs.Growing.{tops_leaf}
-use Rattle.sig_owner.proofs.Holding.{same_true}
-use Rattle.sig_owner.proofs.Placing.{leaf_kind}
+use Rattle.sig_owner.proofs.Trees.{tops_leaf}
+use Rattle.sig_owner.proofs.Consistency.{same_true}
+use Rattle.sig_owner.proofs.Placement.{leaf_kind}
 
 absent_piled : (names : ℕ → Thing) (f : ℕ → Owned) (t : Thing) (is : List Item) (e : Owned) → ((m : ℕ) → is_held m is ≡ true → (same_thing t (names m) ≡ false) × (has_thing t (f m) ≡ false)) → has_leaf t is ≡ false → has_thing t e ≡ false → has_thing t (piled names f is e) ≡ false
 absent_piled names f t [] e h l q = q
@@ -24,7 +24,7 @@ absent_piled names f t (leaf u ∷ is) e h l q = elim (cases_Bool (same_thing t 
   | inr s ↦ absent_piled names f t is (thing u nothing e) h (let r : has_leaf t is ≡ false = rw s at l in r) (λ i. s i || q i)
 ]
 
-module _ (rows : List Row) (owners : ℕ) (h : Holds rows owners) where
+module _ (rows : List Row) (owners : ℕ) (h : RowsAgree rows owners) where
   not_it : (n m : ℕ) → live_at rows n ≡ false → live_at rows m ≡ true → same_thing (the_owner n) (thing_at rows m) ≡ false
   not_it n m off on = elim (cases_Bool (same_thing (the_owner n) (thing_at rows m))) [
     | inl s ↦ (let q = h.numbers m n on (sym (same_true (the_owner n) (thing_at rows m) s)) in absurd (true≢false (sym on ∙ (ap (live_at rows) (sym q) ∙ off))))
@@ -51,13 +51,13 @@ module _ (rows : List Row) (owners : ℕ) (h : Holds rows owners) where
       (λ m e. (not_it n m off (top_lives rows owners h m e).0, absent_under (length rows) n m off (omega arith))) (tops_leaf (the_owner n) 0 rows) refl
 
 -- after things were taken back
-pub taken_back_absent : (rows rows' : List Row) (owners o : ℕ) → Holds rows owners → rows' ≡ with_taken_back rows o → (n : ℕ) → live_at rows' n ≡ false → has_thing (the_owner n) (owned_of rows') ≡ false
+pub taken_back_absent : (rows rows' : List Row) (owners o : ℕ) → RowsAgree rows owners → rows' ≡ with_taken_back rows o → (n : ℕ) → live_at rows' n ≡ false → has_thing (the_owner n) (owned_of rows') ≡ false
 taken_back_absent rows rows' owners o h e n off =
     let left = owner_count (all_ended (ended_under rows o) rows) in
     ap (λ rs. has_thing (the_owner n) (owned_of rs)) e ∙ gone_nowhere (with_taken_back rows o) left (taken_back_holds rows owners o left h refl) n (sym (ap (λ rs. live_at rs n) e) ∙ off)
 
 -- after a thing was taken out
-pub dropped_absent : (rows rows' : List Row) (owners : ℕ) (t : Thing) → IsBare rows t → Holds rows owners → rows' ≡ dropped t rows → (n : ℕ) → live_at rows' n ≡ false → has_thing (the_owner n) (owned_of rows') ≡ false
+pub dropped_absent : (rows rows' : List Row) (owners : ℕ) (t : Thing) → IsBare rows t → RowsAgree rows owners → rows' ≡ dropped t rows → (n : ℕ) → live_at rows' n ≡ false → has_thing (the_owner n) (owned_of rows') ≡ false
 dropped_absent rows rows' owners t bare h e n off =
     let left = owner_count (dropped t rows) in
     ap (λ rs. has_thing (the_owner n) (owned_of rs)) e ∙ gone_nowhere (dropped t rows) left (dropped_holds rows owners left t h bare refl) n (sym (ap (λ rs. live_at rs n) e) ∙ off)

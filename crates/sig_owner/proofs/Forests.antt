@@ -2,13 +2,13 @@
 use Rattle.std.proofs.Common.{◌≡◌, ℕ, zero, suc, ◌+◌, ◌<◌, ◌≤◌, ◌==◌, ◌&&◌, Bool, true, false, List, [], ◌∷◌, length, Option, Some, None, inl, inr, eq-eqb, refl, sym, ap, subst, ◌∙◌, arith, cond}
 use Rattle.std.specs.Prelude.{not, is_some}
 use Rattle.std.proofs.lemmas.Bool.{cases_Bool, cases_eq, ne_eqb, or_left, or_right, true≢false}
-use Rattle.effect_model.specs.Owning.{Thing, Owned, nothing, thing, cleanup, same_thing, under, with_earlier}
+use Rattle.effect_model.specs.Owners.{Thing, Owned, nothing, thing, cleanup, same_thing, under, with_earlier}
 use Rattle.sig_owner.specs.Tables.{Item, held, leaf, noted, Row, above_at, items_at, live_at, row_at, thing_at}
 use Rattle.sig_owner.specs.Trees.{is_top, owned_of, piled, stands_under, top_items, under_within}
-use Rattle.sig_owner.specs.Places.{Holds, held_count}
+use Rattle.sig_owner.specs.Places.{RowsAgree, held_count}
 use Rattle.sig_owner.specs.Walks.{IsTable, is_held}
-use Rattle.sig_owner.proofs.Holding.{held_counted, same_refl}
-use Rattle.sig_owner.proofs.Reading.{row_past}
+use Rattle.sig_owner.proofs.Consistency.{held_counted, same_refl}
+use Rattle.sig_owner.proofs.Rows.{row_past}
 
 -- ---- levels
 
@@ -180,7 +180,7 @@ top_held k m (r ∷ rs) e = by (is_top r) refl e (top_held (k + 1) m rs)
 
 -- ---- what stands under a holder that lives, in the tree of all that stands
 
-module _ (rows : List Row) (owners : ℕ) (h : Holds rows owners) where
+module _ (rows : List Row) (owners : ℕ) (h : RowsAgree rows owners) where
   pub top_lives : (m : ℕ) → is_held m (top_items 0 rows) ≡ true → (live_at rows m ≡ true) × (above_at rows m ≡ None)
   top_lives m e =
       let t = top_held 0 m rows e in

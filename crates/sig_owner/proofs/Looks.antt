@@ -2,15 +2,15 @@
 use Rattle.std.proofs.Common.{◌≡◌, ℕ, ◌&&◌, Bool, true, false, List, length, Option, refl, sym, ap, ◌∙◌, inl, inr}
 use Rattle.std.specs.Prelude.{not}
 use Rattle.std.proofs.lemmas.Bool.{cases_Bool, true≢false}
-use Rattle.signal_model.specs.Standing.{is_in}
-use Rattle.effect_model.specs.Owning.{Thing, same_thing}
+use Rattle.signal_model.specs.Signals.{is_in}
+use Rattle.effect_model.specs.Owners.{Thing, same_thing}
 use Rattle.sig_owner.specs.Tables.{Item, held, Row, changed_at, dropped, emptied_row, is_row_of, live_at, row_at, thing_at, with_holder, with_item}
 use Rattle.sig_owner.specs.Walks.{ended_under, with_taken_back}
-use Rattle.sig_owner.proofs.Counting.{ended_length}
-use Rattle.sig_owner.proofs.Dropping.{dropped_at, row_in, row_is, row_out}
-use Rattle.sig_owner.proofs.Ending.{ended_row_at, other_row_at}
-use Rattle.sig_owner.proofs.Holding.{holder_row, inside_keeps}
-use Rattle.sig_owner.proofs.Reading.{changed_keeps, changed_length}
+use Rattle.sig_owner.proofs.Counts.{ended_length}
+use Rattle.sig_owner.proofs.Removals.{dropped_at, row_in, row_is, row_out}
+use Rattle.sig_owner.proofs.Ends.{ended_row_at, other_row_at}
+use Rattle.sig_owner.proofs.Consistency.{holder_row, inside_keeps}
+use Rattle.sig_owner.proofs.Rows.{changed_keeps, changed_length}
 
 -- ---- one item more
 

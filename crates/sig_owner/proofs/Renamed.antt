@@ -2,8 +2,8 @@
 use Rattle.std.proofs.Common.{◌≡◌, ℕ, ◌||◌, ◌++◌, ◌∷◌, Bool, true, false, cond, eq-eqb, refl, sym, ap, ◌∙◌, inl, inr}
 use Rattle.std.proofs.lemmas.Bool.{cases_eq, ne_eqb}
 use Rattle.std.proofs.lemmas.List.{map-append}
-use Rattle.effect_model.specs.Owning.{Thing, the_owner, the_signal, the_effect, the_page, the_watcher, Owned, nothing, thing, cleanup, cleans, ends, emptied, put_under, same_thing, taken_out, teardown_of, under, with_earlier}
-use Rattle.sig_owner.specs.Renaming.{renamed, renamed_thing, renamed_undoing, renamed_undoings}
+use Rattle.effect_model.specs.Owners.{Thing, the_owner, the_signal, the_effect, the_page, the_watcher, Owned, nothing, thing, cleanup, cleans, ends, emptied, put_under, same_thing, taken_out, teardown_of, under, with_earlier}
+use Rattle.sig_owner.specs.Renames.{renamed, renamed_thing, renamed_undoing, renamed_undoings}
 use Rattle.sig_owner.specs.Trees.{has_thing}
 
 pub renamed_earlier : (g : ℕ → ℕ) (x y : Owned) → renamed g (with_earlier x y) ≡ with_earlier (renamed g x) (renamed g y)

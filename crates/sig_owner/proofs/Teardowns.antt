@@ -1,7 +1,7 @@
 -- The steps of a walk undo what the tree under the holder says.
 use Rattle.std.proofs.Common.{◌≡◌, ℕ, zero, suc, List, [], ◌∷◌, ◌++◌, length, refl, sym, ap, ◌∙◌, append_assoc, append-nil}
 use Rattle.std.proofs.lemmas.List.{map-append}
-use Rattle.effect_model.specs.Owning.{Thing, Owned, thing, nothing, cleanup, ends, cleans, teardown_of}
+use Rattle.effect_model.specs.Owners.{Thing, Owned, thing, nothing, cleanup, ends, cleans, teardown_of}
 use Rattle.sig_owner.specs.Tables.{Item, held, leaf, noted, Row, items_at, thing_at}
 use Rattle.sig_owner.specs.Trees.{piled, stands_under, under_within}
 use Rattle.sig_owner.specs.Walks.{Step, item_steps, items_steps, leaves, step_undoing, steps_under, steps_undoings, steps_within}

@@ -1,7 +1,7 @@
 -- Laws of trees that callers need: what stands nowhere stands nowhere after an edit, and nothing stands under what was emptied.
 use Rattle.std.proofs.Common.{◌≡◌, ◌||◌, Bool, true, false, cond, refl, ap, ◌∙◌}
 use Rattle.std.proofs.lemmas.Bool.{true≢false}
-use Rattle.effect_model.specs.Owning.{Thing, Owned, nothing, thing, cleanup, emptied, put_under, same_thing, taken_out, under, with_earlier}
+use Rattle.effect_model.specs.Owners.{Thing, Owned, nothing, thing, cleanup, emptied, put_under, same_thing, taken_out, under, with_earlier}
 use Rattle.sig_owner.specs.Trees.{has_thing}
 
 -- nothing stands under a thing that was emptied

@@ -1,7 +1,7 @@
 pub mod Tables
 pub mod Trees
-pub mod Renaming
+pub mod Renames
 pub mod Walks
-pub mod Sifting
+pub mod Removals
 pub mod Places
 pub mod Keys

@@ -1,6 +1,6 @@
 -- What holds of a store's fields between its calls.
 use Rattle.std.specs.Prelude.{◌≡◌, ℕ, ◌+◌, ◌==◌, ◌||◌, Bool, true, false, List, [], ◌∷◌, Option, Some, if◌then◌else◌}
-use Rattle.effect_model.specs.Owning.{Thing, the_owner, the_effect, same_thing}
+use Rattle.effect_model.specs.Owners.{Thing, the_owner, the_effect, same_thing}
 use Rattle.sig_owner.specs.declared.thing.Thing.{Thing as AThing}
 use Rattle.sig_owner.specs.declared.thing.Thing.TheVariants as a
 use Rattle.sig_owner.specs.Tables.{Item, held, leaf, noted, Row, above_at, is_holder, items_at, live_at, owner_count, thing_at, thing_of}
@@ -32,7 +32,7 @@ has_leaf t (_ ∷ is) = has_leaf t is
 
 -- What is held lives, and stands once where its row says, in a later row; what is gone holds nothing; the things that live are distinct
 -- holders, each owner under its own number; and the owners that live are counted.
-pub record Holds (rows : List Row) (owners : ℕ) : Type 0 where
+pub record RowsAgree (rows : List Row) (owners : ℕ) : Type 0 where
   pub table : IsTable rows
   pub count : owners ≡ owner_count rows
   pub above : (n m : ℕ) → is_held m (items_at rows n) ≡ true → above_at rows m ≡ Some n
@@ -50,5 +50,5 @@ pub record ArePlaced (rows : List Row) (place : AThing → Option ℕ) : Type 0 
 
 -- the same of all fields
 pub record Keeps (rows : List Row) (owners : ℕ) (place : AThing → Option ℕ) : Type 0 where
-  pub holds : Holds rows owners
+  pub holds : RowsAgree rows owners
   pub placed : ArePlaced rows place

@@ -1,6 +1,6 @@
 -- The trees that a store's rows stand for.
 use Rattle.std.specs.Prelude.{ℕ, zero, suc, ◌+◌, ◌&&◌, ◌||◌, not, Bool, false, List, [], ◌∷◌, length, Option, Some, None, is_some, if◌then◌else◌}
-use Rattle.effect_model.specs.Owning.{Thing, Owned, nothing, thing, cleanup, alone, put_under, same_thing}
+use Rattle.effect_model.specs.Owners.{Thing, Owned, nothing, thing, cleanup, alone, put_under, same_thing}
 use Rattle.sig_owner.specs.Tables.{Item, held, leaf, noted, Row, items_at, thing_at}
 
 -- one item above those that were made earlier, with what stands under it where it is a holder

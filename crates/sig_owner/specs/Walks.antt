@@ -1,6 +1,6 @@
 -- The walk that takes back what stands under a holder, step by step.
 use Rattle.std.specs.Prelude.{◌≡◌, ℕ, zero, suc, ◌*◌, ◌-◌, ◌<◌, ◌≤◌, ◌==◌, ◌||◌, Bool, true, false, List, [], ◌∷◌, ◌++◌, map, length, take}
-use Rattle.effect_model.specs.Owning.{Thing, Undoing, cleans, ends, same_thing}
+use Rattle.effect_model.specs.Owners.{Thing, Undoing, cleans, ends, same_thing}
 use Rattle.sig_owner.specs.declared.thing.Undoing.{Undoing as AnUndoing}
 use Rattle.sig_owner.specs.declared.thing.Undoing.TheVariants as undoing
 use Rattle.sig_owner.specs.declared.walk.Pending.{Pending}
@@ -110,8 +110,8 @@ ArePending rows [] = Unit {0}
 ArePending rows (p ∷ ps) = IsPending rows p × ArePending rows ps
 
 -- what a walk has undone and is still to undo
-abbrev pub told : List Row → List AnUndoing → List Step → List Undoing
-told rows done rest = undoings_of (thing_at rows) done ++ steps_undoings (thing_at rows) rest
+abbrev pub walk_undoings : List Row → List AnUndoing → List Step → List Undoing
+walk_undoings rows done rest = undoings_of (thing_at rows) done ++ steps_undoings (thing_at rows) rest
 
 -- the holders that a walk has left and is still to leave
 abbrev pub closed : List ℕ → List Step → List ℕ
@@ -128,7 +128,7 @@ pub record IsWalk (rows : List Row) (w : Walk) : Type 0 where
 
 -- From one state of a walk to a later one nothing is lost.
 pub record GoesOn (rows : List Row) (undoings later_undoings : List AnUndoing) (ended later_ended : List ℕ) (before after : List Step) : Type 0 where
-  pub told : told rows later_undoings after ≡ told rows undoings before
+  pub told : walk_undoings rows later_undoings after ≡ walk_undoings rows undoings before
   pub closed : closed later_ended after ≡ closed ended before
 
 -- how much a walk has still to do

@@ -1,6 +1,6 @@
 // Owners and effects by number, and edits of one of them. Of what ended nothing is kept.
 ghost use Rattle.std.specs.Prelude.{◌≡◌, ◌<◌, ◌+◌, ◌^◌, if◌then◌else◌, true, ◌++◌, ◌∷◌, [], length, filter, not, IfSome, IfNone, OnOk, OnErr};
-ghost use Rattle.sig_owner.specs.Sifting.{is_held_of, is_leaf_of, sifted_inside, sifted_row};
+ghost use Rattle.sig_owner.specs.Removals.{is_held_of, is_leaf_of, sifted_inside, sifted_row};
 ghost use Rattle.sig_owner.specs.Tables as tables;
 ghost use Rattle.sig_owner.specs.Tables.{above_at, all_ended, changed_at, ended_row, emptied_row, is_owner_row, is_row_of, item_of, items_at, items_of, live_at, no_row, owner_count, row_at, row_of, rows_of, thing_at, thing_of, with_holder, with_item};
 

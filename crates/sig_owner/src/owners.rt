@@ -1,7 +1,7 @@
 // The store of owners.
 ghost use Rattle.std.specs.Prelude.{◌≡◌, ℕ, ◌&&◌, not, ◌<◌, ◌≤◌, ◌↔◌, [], length, true, false, IfOk, IsErrOf, OnOk, OnErr};
-ghost use Rattle.effect_model.specs.Owning as owning;
-ghost use Rattle.effect_model.specs.Owning.{alone, emptied, put_under, taken_out, teardown_of, the_effect, the_owner, under};
+ghost use Rattle.effect_model.specs.Owners as owning;
+ghost use Rattle.effect_model.specs.Owners.{alone, emptied, put_under, taken_out, teardown_of, the_effect, the_owner, under};
 ghost use Rattle.sig_owner.specs.declared.errors.OwnFault.TheVariants as fault;
 ghost use Rattle.sig_owner.specs.Tables.{changed_at, cleanup_of, dropped, is_holder, is_open, leaf, live_at, noted, owner_count, thing_at, thing_of, with_holder, with_item};
 ghost use Rattle.sig_owner.specs.Trees.{has_thing, made_in, owned_of};

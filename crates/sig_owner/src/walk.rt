@@ -1,6 +1,6 @@
 // How what stands under a holder is taken back: a walk with a stack of its own, which changes nothing.
 ghost use Rattle.std.specs.Prelude.{◌≡◌, ◌<◌, ◌≤◌, ◌+◌, ◌-◌, ◌*◌, ◌++◌, ◌∷◌, [], length, slice_index_or, true, false, IfOk, OnOk};
-ghost use Rattle.effect_model.specs.Owning.{ends, teardown_of};
+ghost use Rattle.effect_model.specs.Owners.{ends, teardown_of};
 ghost use Rattle.sig_owner.specs.Tables.{item_of, items_at, items_of, live_at, rows_of, thing_at};
 ghost use Rattle.sig_owner.specs.Trees.{stands_under};
 ghost use Rattle.sig_owner.specs.Walks.{ArePending, GoesOn, ended_under, IsTable, IsWalk, left_in, rest, rest_of, steps_undoings, steps_under, undoings_of, work};

@@ -3,7 +3,7 @@ use Rattle.std.proofs.Common.{◌≡◌, ℕ, zero, suc, ◌+◌, ◌<◌, ◌�
 use Rattle.std.specs.Prelude.{get_or, replicate, slice_set, slice_index_or}
 use Rattle.std.proofs.lemmas.Bool.{eqb-true, eq-eqb}
 use Rattle.sig_base.specs.declared.limits.TheConstants.{MOST_NODES}
-use Rattle.signal_model.specs.Standing.{is_in}
+use Rattle.signal_model.specs.Signals.{is_in}
 use Rattle.signal_model.proofs.Shared.{tested}
 use Rattle.sig_seats.specs.Flags.{count_down, is_up, AreReached}
 

@@ -1,7 +1,7 @@
 -- A flag for each seat, up for those that are listed.
 use Rattle.std.specs.Prelude.{◌≡◌, ℕ, zero, suc, ◌+◌, ◌≤◌, Bool, false, List, [], ◌∷◌, length, if◌then◌else◌}
 use Rattle.sig_base.specs.declared.limits.TheConstants.{MOST_NODES}
-use Rattle.signal_model.specs.Standing.{is_in}
+use Rattle.signal_model.specs.Signals.{is_in}
 
 -- whether the flag of a seat is up
 abbrev pub is_up : List Bool → ℕ → Bool

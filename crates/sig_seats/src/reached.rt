@@ -1,6 +1,6 @@
 // The seats that a search has reached.
 ghost use Rattle.std.specs.Prelude.{◌≡◌, ℕ, ◌<◌, ◌≤◌, ◌&&◌, ◌++◌, ◌∷◌, not, [], length, true, false, vec_len, vec_capacity, slice_get, IfOk, IfSome};
-ghost use Rattle.signal_model.specs.Standing.{is_in};
+ghost use Rattle.signal_model.specs.Signals.{is_in};
 ghost use Rattle.sig_seats.specs.Flags.{is_up};
 
 use sig_base::{MOST_NODES, NoMemory};

@@ -1,7 +1,7 @@
 -- When a set changes nothing.
 use Rattle.std.specs.Prelude.{◌≡◌, ◌<◌, ℕ, Bool, false, List, Some}
 use Rattle.sig_base.specs.declared.value.Value.{Value}
-use Rattle.signal_model.specs.Standing.{Stands, IsCell}
+use Rattle.signal_model.specs.Signals.{Stands, IsCell}
 use Rattle.sig_nodes.specs.Answers.{rule_here}
 use Rattle.effect_model.specs.Acts.{are_alike}
 

@@ -1,6 +1,6 @@
 // Sets of cells.
 ghost use Rattle.std.specs.Prelude.{◌≡◌, ◌<◌, ◌^◌, ◌↔◌, ℕ, true, false, None, Some, Ok, IsErr, length, map};
-ghost use Rattle.signal_model.specs.Standing.{is_computed, is_there, standing};
+ghost use Rattle.signal_model.specs.Signals.{is_computed, is_there, standing};
 ghost use Rattle.effect_model.specs.Acts.{are_alike};
 ghost use Rattle.sig_nodes.specs.States.{with_set, Becomes};
 ghost use Rattle.sig_state.specs.Equality.{is_alike_here, IsRuled};

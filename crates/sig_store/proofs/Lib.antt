@@ -1,1 +1,1 @@
-mod Placing
+mod Edits

@@ -1,2 +1,2 @@
-mod Acting
-mod Putting
+mod Acts
+mod Statements

@@ -1,3 +1,3 @@
 pub mod Stated
-pub mod Linking
-pub mod Stopping
+pub mod Links
+pub mod Stops

@@ -1,15 +1,15 @@
 // What a body answers to the values known so far.
 ghost use Rattle.std.specs.Prelude.{◌≡◌, ◌∷◌, [], IfOk, None, true};
 ghost use Rattle.sig_base.specs.Values.{scalar_value};
-ghost use Rattle.sig_formula.specs.Answering.{formula_step};
+ghost use Rattle.sig_formula.specs.Evaluation.{formula_step};
 ghost use Rattle.sig_formula.specs.Trees.{tree};
 ghost use Rattle.effect_model.specs.declared.plain.Plain.TheVariants as plain;
 ghost use Rattle.effect_model.specs.Bodies.{and_then, body_step, followed_by, guarded, if_scalar, one_first, plain_step, to_note, to_set, with_answer};
 ghost use Rattle.effect_model.specs.Bodies as model;
-ghost use Rattle.effect_model.specs.Owning.{sets};
+ghost use Rattle.effect_model.specs.Owners.{sets};
 ghost use Rattle.sig_untrack.specs.Stated.{Stated, before, held_line, no_bodies, put, stated, statements_of};
-ghost use Rattle.sig_untrack.specs.Linking.{Parts, act_of, acts_of, linked, linked_line, step_of};
-ghost use Rattle.sig_untrack.specs.Stopping.{answered, guarded_by, stopped};
+ghost use Rattle.sig_untrack.specs.Links.{Parts, act_of, acts_of, linked, linked_line, step_of};
+ghost use Rattle.sig_untrack.specs.Stops.{answered, guarded_by, stopped};
 
 use crate::{Act, Body, BodyStep, Stmt};
 use effect_model::Plain;

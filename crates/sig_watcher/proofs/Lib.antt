@@ -1,5 +1,5 @@
 pub mod Lists
 pub mod Notices
 pub mod Places
-pub mod Reaching
+pub mod Closure
 pub mod Shared

@@ -2,7 +2,7 @@
 use Rattle.std.proofs.Common.{◌≡◌, ℕ, ◌==◌, not, Bool, true, false, cond, List, [], ◌∷◌, refl, ap, subst}
 use Rattle.std.specs.List.{filter}
 use Rattle.std.specs.Prelude.{Result, Err, IsErrAnd}
-use Rattle.signal_model.specs.Standing.{without}
+use Rattle.signal_model.specs.Signals.{without}
 
 -- what doesn't have a name is left
 pub without_filter : {A : Type 0} (name : A → ℕ) (n : ℕ) (xs : List A) → filter (λ x. not (n == name x)) xs ≡ without name n xs

@@ -2,20 +2,20 @@
 use Rattle.std.proofs.Common.{◌≡◌, ℕ, zero, suc, ◌+◌, ◌<◌, ◌&&◌, Bool, true, false, cond, List, [], ◌∷◌, ◌++◌, length, take, drop, map, refl, sym, ap, ◌∙◌, arith, append_assoc}
 use Rattle.std.specs.Prelude.{slice_index_or}
 use Rattle.std.specs.List.{filter, list_any}
-use Rattle.signal_model.specs.Standing.{Signals}
+use Rattle.signal_model.specs.Signals.{Signals}
 use Rattle.signal_model.specs.Memos.{Memos}
 use Rattle.signal_model.specs.Kept.{OnlyComputedsKeep}
 use Rattle.signal_laws.proofs.Shared.{or_fst, or_snd}
 use Rattle.sig_nodes.specs.States.{Seen}
 use Rattle.effect_model.specs.Worlds.{Watcher, watcher_numbers}
 use Rattle.effect_model.specs.Acts.{frozen_by, is_notified, is_reached, notified_by, some_name, waiting_if}
-use Rattle.sig_watcher.specs.declared.telling.Told.{Told}
+use Rattle.sig_watcher.specs.declared.recipients.Told.{Told}
 use Rattle.sig_watcher.specs.Numbers.{changed_at, AreNumbered}
 use Rattle.sig_watcher.specs.Reach.{AreReaching, NoneFound, SomeFound}
 use Rattle.sig_watcher.specs.Tables.{waiting}
-use Rattle.sig_watcher.specs.Telling.{passes_at, told_at, told_entry, waiting_after}
+use Rattle.sig_watcher.specs.Notices.{passes_at, told_at, told_entry, waiting_after}
 use Rattle.sig_watcher.proofs.Places.{length_changed, map_step, rises_changed}
-use Rattle.sig_watcher.proofs.Reaching.{none_reached, some_reached}
+use Rattle.sig_watcher.proofs.Closure.{none_reached, some_reached}
 
 -- ---- the watcher at a place
 

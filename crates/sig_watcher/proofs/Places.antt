@@ -2,10 +2,10 @@
 use Rattle.std.proofs.Common.{◌≡◌, ℕ, zero, suc, ◌+◌, ◌≤◌, ◌<◌, ◌==◌, ◌||◌, Bool, true, false, cond, List, [], ◌∷◌, ◌++◌, length, take, drop, map, refl, sym, ap, ◌∙◌, subst, arith, length-append}
 use Rattle.std.proofs.lemmas.Bool.{eqb-true, eq-eqb}
 use Rattle.std.specs.Prelude.{slice_set, slice_index_or}
-use Rattle.signal_model.specs.Standing.{changed, without}
+use Rattle.signal_model.specs.Signals.{changed, without}
 use Rattle.effect_model.specs.Worlds.{Watcher}
 use Rattle.sig_watcher.specs.Numbers.{changed_at, IsFirst, Rises}
-use Rattle.effect_model.specs.Watching.{signals_at}
+use Rattle.effect_model.specs.Watchers.{signals_at}
 use Rattle.sig_watcher.specs.Tables.{is_alive, new_watcher}
 
 -- the number of a watcher

@@ -1,4 +1,4 @@
 pub mod Numbers
 pub mod Reach
 pub mod Tables
-pub mod Telling
+pub mod Notices

@@ -1,6 +1,6 @@
 -- Which live signals have a signal in the closure of their kept sources, by the seats that a search reached.
 use Rattle.std.specs.Prelude.{◌≡◌, ℕ, ◌==◌, ◌⊎◌, Bool, true, false, List, ◌++◌, Some}
-use Rattle.signal_model.specs.Standing.{is_in, is_there, standing}
+use Rattle.signal_model.specs.Signals.{is_in, is_there, standing}
 use Rattle.signal_model.specs.Memos.{keeps}
 use Rattle.signal_model.specs.Marks.{IsBelow}
 use Rattle.sig_nodes.specs.Seats.{holder}

@@ -1,6 +1,6 @@
 -- What callers see of the watchers, and what each call makes of that.
 use Rattle.std.specs.Prelude.{ℕ, ◌+◌, Bool, false, List, [], ◌∷◌, ◌++◌, map}
-use Rattle.signal_model.specs.Standing.{changed, is_in, without}
+use Rattle.signal_model.specs.Signals.{changed, is_in, without}
 use Rattle.effect_model.specs.Worlds.{Watcher, watcher_numbers}
 
 -- the watchers that live, in the order of making, and how many were made so far

@@ -3,11 +3,11 @@
 
 mod errors;
 mod reach;
-mod telling;
+mod recipients;
 mod watcher;
 mod watchers;
 
 pub use effect_model::MOST_WATCHERS;
 pub use errors::WatchFault;
-pub use telling::Told;
+pub use recipients::Told;
 pub use watchers::Watchers;

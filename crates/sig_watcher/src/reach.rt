@@ -1,7 +1,7 @@
 // Which live signals have a signal in the closure of their kept sources: from it along dependants, by seats, each of which is reached
 // once. The list of reached seats is the queue too: those from a place on wait for the dependants of who has them.
 ghost use Rattle.std.specs.Prelude.{◌≡◌, ℕ, ◌==◌, true, false, Some};
-ghost use Rattle.signal_model.specs.Standing.{is_there, standing};
+ghost use Rattle.signal_model.specs.Signals.{is_there, standing};
 ghost use Rattle.signal_model.specs.Memos.{keeps};
 ghost use Rattle.sig_nodes.specs.Search.{of_holder};
 ghost use Rattle.sig_nodes.specs.Seats.{holder};

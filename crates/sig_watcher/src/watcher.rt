@@ -1,6 +1,6 @@
 // One watcher.
 ghost use Rattle.std.specs.Prelude.{◌≡◌, ◌+◌, ◌≤◌, ◌<◌, ◌++◌, ◌∷◌, [], false, true, length, vec_len, vec_capacity, OnOk, OnErr, if◌then◌else◌};
-ghost use Rattle.signal_model.specs.Standing.{is_in, without};
+ghost use Rattle.signal_model.specs.Signals.{is_in, without};
 ghost use Rattle.effect_model.specs.Acts.{forget};
 ghost use Rattle.effect_model.specs.Commands.{also_watched, armed};
 ghost use Rattle.sig_watcher.specs.Tables.{new_watcher, waiting};

@@ -4,13 +4,13 @@ ghost use Rattle.effect_model.specs.Acts.{forget, is_notified, notified_by, wait
 ghost use Rattle.effect_model.specs.Commands.{armed};
 ghost use Rattle.sig_watcher.specs.declared.errors.WatchFault.TheVariants as fault;
 ghost use Rattle.sig_watcher.specs.Numbers.{changed_at, AreNumbered, IsFirst};
-ghost use Rattle.effect_model.specs.Watching.{signals_at, watches};
+ghost use Rattle.effect_model.specs.Watchers.{signals_at, watches};
 ghost use Rattle.sig_watcher.specs.Tables.{is_alive, no_watchers, with_changed, with_each, with_new, with_removal};
-ghost use Rattle.effect_model.specs.Watching.{pending_of};
-ghost use Rattle.sig_watcher.specs.Telling.{told_entry};
+ghost use Rattle.effect_model.specs.Watchers.{pending_of};
+ghost use Rattle.sig_watcher.specs.Notices.{told_entry};
 
 use crate::errors::WatchFault;
-use crate::telling::{Told, is_some_watching, pending_of, tell_all};
+use crate::recipients::{Told, is_some_watching, pending_of, tell_all};
 use crate::watcher::{Watcher, is_among};
 use effect_model::MOST_WATCHERS;
 use sig_base::{NoMemory, NodeId, WatcherId};

@@ -16,10 +16,10 @@ use Rattle.sig_words.specs.declared.token.Token.{Token}
 use Rattle.sig_words.specs.declared.token.TokenKind.TheVariants.{Word, Tag, Number, Literal, Symbol}
 use Rattle.sig_words.specs.declared.scan.Start.{Start}
 use Rattle.sig_words.specs.declared.scan.Start.TheVariants.{Words, Tags, Numbers, Literals, Symbols}
-use Rattle.sig_words.specs.Scanning.{closing, opens_as}
+use Rattle.sig_words.specs.Scanner.{closing, opens_as}
 use Rattle.std.proofs.lemmas.Option.{same_Some}
 use Rattle.sig_base.specs.Words.{begins_word, in_tag, in_word, is_blank, is_tag, is_word}
-use Rattle.sig_words.specs.Scanning.{is_plain}
+use Rattle.sig_words.specs.Scanner.{is_plain}
 use Rattle.sig_words.specs.Tokens.{is_escape, is_inner, is_one, is_two, IsSymbol, Form, Ends, IsToken, NoToken, StandsAt, Cuts, may_sign}
 use Rattle.sig_words.proofs.Numbers.{small, own, leading, plain_decimal}
 

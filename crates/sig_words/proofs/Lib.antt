@@ -1,5 +1,5 @@
-mod Cuttings
-mod Deciding
+mod Uniqueness
+mod Totality
 mod EachToken
 mod Fronts
 mod LexemeLaws

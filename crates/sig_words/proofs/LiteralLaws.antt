@@ -9,7 +9,7 @@ use Rattle.std.proofs.lemmas.Str.{IsUtf8-drop, IsUtf8-take, IsCharBoundary-befor
 use Rattle.sig_words.specs.declared.token.TokenKind.{TokenKind}
 use Rattle.sig_words.specs.declared.token.TokenKind.TheVariants.{Word, Tag, Number, Literal, Symbol}
 use Rattle.sig_words.specs.declared.token.Token.{Token}
-use Rattle.sig_base.specs.Printing.{in_quotes}
+use Rattle.sig_base.specs.Printer.{in_quotes}
 use Rattle.sig_words.specs.Lexemes.{text_at}
 use Rattle.sig_words.specs.Literals.{plain, between_quotes}
 use Rattle.sig_words.specs.Tokens.{Form, IsTokenOf}

@@ -1,4 +1,4 @@
 pub mod Lexemes
 pub mod Literals
-pub mod Scanning
+pub mod Scanner
 pub mod Tokens

@@ -1,7 +1,7 @@
 // The texts that literals stand for.
 ghost use Rattle.std.specs.Prelude.{◌≡◌, ◌∷◌, ◌++◌, ◌<◌, ◌≤◌, ℕ, List, IfOk, IsErrOf, encode_utf8_all, length, string_bytes, false};
 ghost use Rattle.std.specs.List.{flat_map};
-ghost use Rattle.sig_base.specs.Printing.{in_quotes};
+ghost use Rattle.sig_base.specs.Printer.{in_quotes};
 ghost use Rattle.sig_words.specs.Lexemes.{text_at};
 ghost use Rattle.sig_words.specs.Literals.{between_quotes, meaning, plain, text_of};
 ghost use Rattle.sig_words.specs.Tokens.{IsTokenOf};

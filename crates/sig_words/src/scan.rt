@@ -2,7 +2,7 @@
 ghost use Rattle.std.specs.Prelude.{◌≡◌, ◌∷◌, ◌++◌, ◌+◌, ◌<◌, ◌≤◌, ℕ, ℤ, Bool, List, true, false, length, take, drop, MatchOption, IfSome, slice_index, option_map};
 ghost use Rattle.std.specs.List.{list_all};
 ghost use Rattle.sig_base.specs.Words.{begins_word, in_tag, in_word};
-ghost use Rattle.sig_words.specs.Scanning.{closing, opens_as};
+ghost use Rattle.sig_words.specs.Scanner.{closing, opens_as};
 ghost use Rattle.sig_words.specs.Tokens.{IsSymbol, Form, Ends, IsToken, NoToken};
 
 use crate::bytes::{is_escape, is_one, is_two};
@@ -75,7 +75,7 @@ pub enum Start {
     Symbols,
 }
 
-#[tactic(auto, unfolding(crate::specs::Scanning::opens_as))]
+#[tactic(auto, unfolding(crate::specs::Scanner::opens_as))]
 fn opens_as(sign: bool, b: u8, c: u8) -> Start
     ensures { result ≡ opens_as sign b c }
 {

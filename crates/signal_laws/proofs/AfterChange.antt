@@ -8,8 +8,8 @@ use Rattle.sig_base.specs.declared.value.Outcome.{Outcome}
 use Rattle.sig_base.specs.declared.value.Outcome.TheVariants.{Good, Bad}
 use Rattle.sig_base.specs.declared.value.Known.{Known}
 use Rattle.signal_model.specs.Recipes.{Hosts, Recipe}
-use Rattle.signal_model.specs.Standing.{Signals, Computed, Cell, Stands, IsComputed, is_in, is_computed, standing, changed, cell_at}
-use Rattle.signal_model.specs.Standing.{computed_at, or_computed}
+use Rattle.signal_model.specs.Signals.{Signals, Computed, Cell, Stands, IsComputed, is_in, is_computed, standing, changed, cell_at}
+use Rattle.signal_model.specs.Signals.{computed_at, or_computed}
 use Rattle.signal_model.specs.Values.{learnt, value_of, reads_of}
 use Rattle.signal_model.specs.Memos.{Source, Memo, Entry, Memos, entry_at, number_in, memo_in, number_of, memo_of, source_names, same_number}
 use Rattle.signal_model.specs.Memos.{is_cycle, differs, some_moved, must_run_by, must_run}
@@ -19,7 +19,7 @@ use Rattle.signal_model.specs.Changes.{no_signals, no_memos, with_value, raised,
 use Rattle.signal_model.specs.Changes.{after_rewiring, without_signal, after_disposal}
 use Rattle.signal_model.proofs.Shared.{tested}
 use Rattle.signal_model.specs.Kept.{HaveEntries}
-use Rattle.signal_model.specs.Standing.{is_there}
+use Rattle.signal_model.specs.Signals.{is_there}
 use Rattle.signal_model.specs.Memos.{has_entry}
 use Rattle.signal_laws.specs.ChangeLaws.{NoMemosLaw, EmptyLaw, SetLaw, RewireLaw, DisposeLaw}
 use Rattle.signal_laws.proofs.LookUps.{entry_changed, entry_other, entry_same, entry_out, entry_left}

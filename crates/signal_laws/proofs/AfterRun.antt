@@ -11,7 +11,7 @@ use Rattle.sig_base.specs.declared.value.Step.{Step}
 use Rattle.sig_base.specs.declared.value.Step.TheVariants.{Read, Done, Fail}
 use Rattle.sig_base.specs.declared.value.Known.{Known}
 use Rattle.signal_model.specs.Recipes.{Hosts, Recipe, recipe_answer}
-use Rattle.signal_model.specs.Standing.{Signals, Computed, IsComputed, is_computed, is_in, standing}
+use Rattle.signal_model.specs.Signals.{Signals, Computed, IsComputed, is_computed, is_in, standing}
 use Rattle.signal_model.specs.Values.{Seen, Evaluation, learnt, after_read, after_step, asked_within}
 use Rattle.signal_model.specs.Memos.{Source, Memo, Entry, Memos, entry_at, number_in, memo_in, number_of, memo_of, source_names, same_number}
 use Rattle.signal_model.specs.Memos.{is_cycle, differs, some_moved, must_run_by}

@@ -3,7 +3,7 @@ use Rattle.std.proofs.Common.{◌≡◌, ℕ, suc, ◌<◌, ◌==◌, ◌||◌, 
 use Rattle.std.proofs.Common.{refl, sym, ap, ◌∙◌, subst, arith, inl, inr}
 use Rattle.std.proofs.lemmas.Bool.{eqb-true}
 use Rattle.signal_model.specs.Recipes.{Hosts}
-use Rattle.signal_model.specs.Standing.{Signals, Stands, IsGone, IsCell, IsComputed, is_computed, is_in, standing}
+use Rattle.signal_model.specs.Signals.{Signals, Stands, IsGone, IsCell, IsComputed, is_computed, is_in, standing}
 use Rattle.signal_model.specs.Values.{evaluated, names_left}
 use Rattle.signal_model.specs.Orders.{Visit}
 use Rattle.signal_model.specs.Memos.{Memo, Memos, memo_in, memo_of, sources_in, source_names, keeps, is_cycle, must_run_by, must_run}

@@ -4,7 +4,7 @@ use Rattle.std.proofs.Common.{append_assoc, append-nil, refl, sym, ap, ◌∙◌
 use Rattle.std.specs.List.{AllByRecursion}
 use Rattle.std.proofs.lemmas.Bool.{eqb-true, eq-eqb}
 use Rattle.signal_model.specs.Recipes.{Hosts}
-use Rattle.signal_model.specs.Standing.{Signals, Computed, Stands, IsGone, IsCell, IsComputed, is_computed, is_in, standing, computed_at, or_gone}
+use Rattle.signal_model.specs.Signals.{Signals, Computed, Stands, IsGone, IsCell, IsComputed, is_computed, is_in, standing, computed_at, or_gone}
 use Rattle.signal_model.specs.Values.{Seen, value_of, evaluated, reads_of, names_left}
 use Rattle.signal_model.specs.Orders.{Visit, visited, visits, visit_case, visit}
 use Rattle.signal_model.specs.Memos.{Source, Memo, Memos, memo_of, sources_in, source_names, sources_of, is_cycle, differs, is_moved, some_moved}

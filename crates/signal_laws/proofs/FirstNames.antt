@@ -4,13 +4,13 @@ use Rattle.std.proofs.lemmas.Bool.{eqb-true}
 use Rattle.std.proofs.lemmas.List.{take-append-drop}
 use Rattle.std.proofs.Math.Bool.{or_assoc, or-false}
 use Rattle.std.specs.List.{AllByRecursion}
-use Rattle.signal_model.specs.Standing.{is_in}
+use Rattle.signal_model.specs.Signals.{is_in}
 use Rattle.signal_model.proofs.Shared.{or_right}
-use Rattle.signal_laws.specs.ReadingLaws.{joined, firsts_after, FirstsHoldLaw, FirstsAppendLaw, FirstsFrontLaw}
+use Rattle.signal_laws.specs.ReadLaws.{with_name, firsts_after, FirstsHoldLaw, FirstsAppendLaw, FirstsFrontLaw}
 use Rattle.signal_laws.proofs.Lists.{in_append, in_head}
 
 -- what is among the names and one that joins
-joined_hold : (n : ℕ) (ns : List ℕ) (x : ℕ) → is_in n (joined ns x) ≡ (is_in n ns || n == x)
+joined_hold : (n : ℕ) (ns : List ℕ) (x : ℕ) → is_in n (with_name ns x) ≡ (is_in n ns || n == x)
 joined_hold n ns x = go (is_in x ns) refl
   where
     go : (b : Bool) → is_in x ns ≡ b → is_in n (cond b ns (ns ++ x ∷ [])) ≡ (is_in n ns || n == x)
@@ -24,18 +24,18 @@ joined_hold n ns x = go (is_in x ns) refl
 pub firsts_hold_law : FirstsHoldLaw
 firsts_hold_law n ns [] = sym (or-false (is_in n ns))
 firsts_hold_law n ns (x ∷ xs) =
-    firsts_hold_law n (joined ns x) xs ∙ ap (λ b. b || is_in n xs) (joined_hold n ns x) ∙ or_assoc (is_in n ns) (n == x) (is_in n xs)
+    firsts_hold_law n (with_name ns x) xs ∙ ap (λ b. b || is_in n xs) (joined_hold n ns x) ∙ or_assoc (is_in n ns) (n == x) (is_in n xs)
 
 pub firsts_append_law : FirstsAppendLaw
 firsts_append_law ns [] ys = refl
-firsts_append_law ns (x ∷ xs) ys = firsts_append_law (joined ns x) xs ys
+firsts_append_law ns (x ∷ xs) ys = firsts_append_law (with_name ns x) xs ys
 
 -- each of these names is there
 all_there : (ns xs : List ℕ) → AllByRecursion (λ x. is_in x (firsts_after ns xs) ≡ true) xs
 all_there ns [] = tt
 all_there ns (x ∷ xs) = (
   firsts_hold_law x ns (x ∷ xs) ∙ or_right (is_in x ns) (is_in x (x ∷ xs)) (in_head x xs),
-  all_there (joined ns x) xs,
+  all_there (with_name ns x) xs,
 )
 
 -- names that are there don't join

@@ -8,7 +8,7 @@ use Rattle.sig_base.specs.declared.value.Step.{Step}
 use Rattle.sig_base.specs.declared.value.Step.TheVariants.{Read, Done, Fail}
 use Rattle.sig_base.specs.declared.value.Known.{Known}
 use Rattle.signal_model.specs.Recipes.{Hosts, Recipe, recipe_answer}
-use Rattle.signal_model.specs.Standing.{Signals, is_in}
+use Rattle.signal_model.specs.Signals.{Signals, is_in}
 use Rattle.signal_model.specs.Values.{Evaluation, learnt, after_read, after_step, asked_from}
 use Rattle.signal_model.specs.Memos.{Source, Memos, source_names, differs, some_moved}
 use Rattle.signal_model.specs.Sound.{standing_outcome, EndsWith, AfterSource, Unless, Follows, names_of}

@@ -12,8 +12,8 @@ use Rattle.sig_base.specs.declared.value.Outcome.TheVariants.{Good, Bad}
 use Rattle.sig_base.specs.declared.value.Step.{Step}
 use Rattle.sig_base.specs.declared.value.Step.TheVariants.{Read, Done, Fail}
 use Rattle.signal_model.specs.Recipes.{Hosts, Recipe, given_answer, recipe_answer}
-use Rattle.signal_model.specs.Standing.{Signals, Computed, Cell, IsGone, IsComputed, is_in, standing, changed}
-use Rattle.signal_model.specs.Standing.{cell_at, computed_at, or_computed}
+use Rattle.signal_model.specs.Signals.{Signals, Computed, Cell, IsGone, IsComputed, is_in, standing, changed}
+use Rattle.signal_model.specs.Signals.{cell_at, computed_at, or_computed}
 use Rattle.signal_model.specs.Values.{Evaluation, learnt, after_read, after_step, asked_within, unknown_slots, value_of, evaluated, reads_of}
 use Rattle.signal_model.specs.Orders.{Visit, evaluation_order}
 use Rattle.signal_model.specs.Memos.{Memo, Entry, Memos, entry_at, memo_in, sources_in, sources_of, source_names, must_run}
@@ -25,7 +25,7 @@ use Rattle.signal_model.specs.Changes.{without_signal, after_disposal}
 use Rattle.signal_model.specs.Laws.{IsRead}
 use Rattle.signal_model.proofs.Shared.{read_new, tested}
 use Rattle.signal_model.specs.Kept.{AreGiven}
-use Rattle.signal_model.specs.Standing.{is_there}
+use Rattle.signal_model.specs.Signals.{is_there}
 use Rattle.signal_laws.specs.ChangeLaws.{GivenNextLaw, GivenEmptyLaw, GivenMoreLaw, GivenCellLaw, GivenComputedLaw, GivenSetLaw, GivenRewireLaw, GivenDisposeLaw}
 use Rattle.signal_laws.specs.ChangeLaws.{GivenSettleLaw}
 use Rattle.signal_laws.proofs.LookUps.{entry_changed, entry_append, entry_out, entry_left, cell_append, cell_out, cell_left}

@@ -1,7 +1,7 @@
 -- Ways along kept sources that come back.
 use Rattle.std.proofs.Common.{◌≡◌, ℕ, ◌==◌, ◌||◌, not, true, cond, List, [], ◌∷◌, sym, ap, ◌∙◌, ◌⊎◌, inl, inr}
 use Rattle.std.proofs.lemmas.Bool.{eqb-true}
-use Rattle.signal_model.specs.Standing.{Signals, is_in}
+use Rattle.signal_model.specs.Signals.{Signals, is_in}
 use Rattle.signal_model.specs.Memos.{Source, Memos, memo_is_cycle, holds_cycle, sources_in, source_names, differs, some_moved, must_run_by, must_run}
 use Rattle.signal_model.specs.Sound.{Keeps, IsKeptPath}
 use Rattle.signal_model.proofs.Shared.{tested, either, or_left, or_right}

@@ -4,7 +4,7 @@ mod LookUps
 mod AfterChange
 mod FollowedSources
 mod CleanVisits
-mod AfterMaking
+mod AfterCreation
 mod GivenNames
 mod PlacedVisits
 mod AfterRun
@@ -14,6 +14,6 @@ mod NameByName
 mod CleanMoments
 mod KeptPaths
 mod RecordedRuns
-mod Readings
+mod Outcomes
 mod FirstNames
 pub mod Shared

@@ -1,7 +1,7 @@
 -- What is in a list, and what holds of each in it.
 use Rattle.std.proofs.Common.{◌≡◌, ℕ, ◌==◌, ◌||◌, Bool, true, false, List, [], ◌∷◌, ◌++◌, refl, ap, ◌∙◌}
 use Rattle.std.proofs.lemmas.Bool.{eq-eqb}
-use Rattle.signal_model.specs.Standing.{is_in}
+use Rattle.signal_model.specs.Signals.{is_in}
 use Rattle.signal_model.proofs.Shared.{or_right}
 use Rattle.std.specs.List.{AllByRecursion}
 

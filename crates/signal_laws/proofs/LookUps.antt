@@ -3,7 +3,7 @@ use Rattle.std.proofs.Common.{◌≡◌, ℕ, ◌==◌, Bool, true, false, cond,
 use Rattle.std.specs.Option.{option_or}
 use Rattle.std.proofs.lemmas.Bool.{eqb-true, eq-eqb}
 use Rattle.std.proofs.lemmas.Iterator.Adapters.{option_map_id}
-use Rattle.signal_model.specs.Standing.{Computed, Cell, changed, without, cell_at, computed_at}
+use Rattle.signal_model.specs.Signals.{Computed, Cell, changed, without, cell_at, computed_at}
 use Rattle.signal_model.specs.Memos.{Entry, entry_at}
 
 -- ---- any list of what has names

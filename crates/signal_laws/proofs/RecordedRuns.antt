@@ -7,7 +7,7 @@ use Rattle.std.proofs.lemmas.Bool.{eqb-true}
 use Rattle.sig_base.specs.declared.value.Fault.TheVariants.{Cycle}
 use Rattle.sig_base.specs.declared.value.Outcome.TheVariants.{Bad}
 use Rattle.signal_model.specs.Recipes.{Hosts}
-use Rattle.signal_model.specs.Standing.{Signals, Stands, IsGone, IsCell, IsComputed, is_in, standing}
+use Rattle.signal_model.specs.Signals.{Signals, Stands, IsGone, IsCell, IsComputed, is_in, standing}
 use Rattle.signal_model.specs.Values.{Seen, value_of, evaluated, reads_of}
 use Rattle.signal_model.specs.Orders.{Visit, evaluation_order}
 use Rattle.signal_model.specs.Memos.{Memos, must_run}
@@ -22,8 +22,8 @@ use Rattle.signal_laws.proofs.CleanVisits.{settle_append, right_source, read_val
 use Rattle.signal_laws.specs.OrderLaws.{IsPlaced, AreOrdered, seen_after}
 use Rattle.signal_laws.proofs.PlacedVisits.{seen_snoc, places_law}
 use Rattle.signal_laws.proofs.VisitStates.{State, state_at}
-use Rattle.signal_laws.specs.ReadingLaws.{HaveOutcomes}
-use Rattle.signal_laws.proofs.Readings.{reading_law}
+use Rattle.signal_laws.specs.ReadLaws.{HaveOutcomes}
+use Rattle.signal_laws.proofs.Outcomes.{reading_law}
 use Rattle.signal_laws.proofs.Lists.{all_snoc}
 
 module _ (hosts : Hosts) (w : Signals) where

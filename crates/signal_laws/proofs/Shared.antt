@@ -3,7 +3,7 @@
 -- ---- the laws
 
 pub use Rattle.signal_laws.proofs.AfterChange.{no_memos_law, empty_law, set_law, rewire_law, dispose_law}
-pub use Rattle.signal_laws.proofs.AfterMaking.{cell_law, computed_law}
+pub use Rattle.signal_laws.proofs.AfterCreation.{cell_law, computed_law}
 pub use Rattle.signal_laws.proofs.GivenNames.{given_next_law, given_empty_law, given_more_law, given_cell_law, given_computed_law}
 pub use Rattle.signal_laws.proofs.GivenNames.{given_set_law, given_rewire_law, given_dispose_law, given_settle_law}
 pub use Rattle.signal_laws.proofs.PlacedVisits.{places_law}
@@ -13,7 +13,7 @@ pub use Rattle.signal_laws.proofs.NameByName.{settle_both_law, settle_more_law}
 pub use Rattle.signal_laws.proofs.CleanMoments.{clean_moments_law}
 pub use Rattle.signal_laws.proofs.RecordedRuns.{scratch_runs_law, placed_runs_law, currency_law}
 pub use Rattle.signal_laws.proofs.KeptPaths.{kept_cycle_law, kept_path_law, evaluated_source_law}
-pub use Rattle.signal_laws.proofs.Readings.{reading_law, same_reads_law, next_read_law, no_host_law}
+pub use Rattle.signal_laws.proofs.Outcomes.{reading_law, same_reads_law, next_read_law, no_host_law}
 pub use Rattle.signal_laws.proofs.FirstNames.{firsts_hold_law, firsts_append_law, firsts_front_law}
 -- ---- tests, lists and look-ups
 

@@ -3,7 +3,7 @@ use Rattle.std.proofs.Common.{◌≡◌, ◌==◌, ◌&&◌, ℕ, true, false, L
 use Rattle.std.proofs.lemmas.Bool.{eqb-true}
 use Rattle.std.specs.List.{AllByRecursion}
 use Rattle.signal_model.specs.Recipes.{Hosts}
-use Rattle.signal_model.specs.Standing.{Signals, Computed, Stands, IsGone, IsCell, IsComputed, is_computed, is_in, standing}
+use Rattle.signal_model.specs.Signals.{Signals, Computed, Stands, IsGone, IsCell, IsComputed, is_computed, is_in, standing}
 use Rattle.signal_model.specs.Values.{reads_of}
 use Rattle.signal_model.specs.Orders.{Visit, visited, evaluation_order}
 use Rattle.signal_model.specs.Memos.{Memo, Memos, memo_of, sources_in, source_names, keeps, must_run}

@@ -4,7 +4,7 @@ use Rattle.std.proofs.Common.{subst, arith, inl, inr}
 use Rattle.std.specs.List.{AllByRecursion}
 use Rattle.std.proofs.lemmas.Bool.{eqb-true, eq-eqb}
 use Rattle.signal_model.specs.Recipes.{Hosts}
-use Rattle.signal_model.specs.Standing.{Signals, Computed, IsComputed, is_in, standing}
+use Rattle.signal_model.specs.Signals.{Signals, Computed, IsComputed, is_in, standing}
 use Rattle.signal_model.specs.Values.{Evaluation, unknown_slots, value_of, evaluated, reads_of}
 use Rattle.signal_model.specs.Orders.{Visit, visited, evaluation_order}
 use Rattle.signal_model.specs.Memos.{Source, Memo, Entry, Memos, entry_at, memo_in, memo_of, source_names, is_cycle, differs, is_moved, some_moved}
@@ -14,7 +14,7 @@ use Rattle.signal_model.specs.Sound.{Follows, ArePast, names_of, Keeps, IsSound}
 use Rattle.signal_model.specs.Laws.{IsRead, Reads, Leads, one}
 use Rattle.signal_model.proofs.Shared.{value_run, no_loop, goes_on, chain_goes, tested, either}
 use Rattle.signal_model.specs.Kept.{AreKept}
-use Rattle.signal_model.specs.Standing.{is_there}
+use Rattle.signal_model.specs.Signals.{is_there}
 use Rattle.signal_laws.specs.CleanLaws.{IsUpToDate}
 use Rattle.signal_laws.specs.SettleLaws.{settled_first, SettleLaw, AskedLaw, AskedMemoLaw, AgainLaw, KeptMomentsLaw}
 use Rattle.signal_laws.proofs.AfterChange.{CalmOn, calm_on, Calm, calm_of, all_stay, all_past, follows_on, entry_there, some_is}

@@ -2,7 +2,7 @@
 use Rattle.std.specs.Prelude.{◌≡◌, ℕ, ◌+◌, Bool, true, false, List, nat_lt, None}
 use Rattle.sig_base.specs.declared.value.Value.{Value}
 use Rattle.signal_model.specs.Recipes.{Hosts, Recipe}
-use Rattle.signal_model.specs.Standing.{Signals, Cell, Computed, IsCell, IsComputed, is_in, is_there, standing}
+use Rattle.signal_model.specs.Signals.{Signals, Cell, Computed, IsCell, IsComputed, is_in, is_there, standing}
 use Rattle.signal_model.specs.Memos.{Memos, memo_of}
 use Rattle.signal_model.specs.Settling.{settled}
 use Rattle.signal_model.specs.Sound.{IsSound}

@@ -1,7 +1,7 @@
 -- What a clean computed promises.
 use Rattle.std.specs.Prelude.{◌≡◌, ℕ, List, [], ◌∷◌, Some}
 use Rattle.signal_model.specs.Recipes.{Hosts}
-use Rattle.signal_model.specs.Standing.{Signals, Computed, IsComputed, standing}
+use Rattle.signal_model.specs.Signals.{Signals, Computed, IsComputed, standing}
 use Rattle.signal_model.specs.Values.{value_of, reads_of}
 use Rattle.signal_model.specs.Orders.{Visit, visit}
 use Rattle.signal_model.specs.Memos.{Memo, Memos, memo_of, source_names}

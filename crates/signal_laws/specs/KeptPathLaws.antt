@@ -1,7 +1,7 @@
 -- Ways along kept sources.
 use Rattle.std.specs.Prelude.{◌≡◌, ℕ, true, false, List, [], ◌∷◌, Some, ◌⊎◌}
 use Rattle.signal_model.specs.Recipes.{Hosts}
-use Rattle.signal_model.specs.Standing.{Signals, Computed, IsComputed, is_in, standing}
+use Rattle.signal_model.specs.Signals.{Signals, Computed, IsComputed, is_in, standing}
 use Rattle.signal_model.specs.Memos.{Memo, Memos, memo_of, source_names, keeps, is_cycle, holds_cycle, must_run}
 use Rattle.signal_model.specs.Sound.{IsKeptPath, IsSound}
 

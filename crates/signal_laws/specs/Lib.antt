@@ -4,4 +4,4 @@ pub mod CleanLaws
 pub mod SettleLaws
 pub mod RunLaws
 pub mod KeptPathLaws
-pub mod ReadingLaws
+pub mod ReadLaws

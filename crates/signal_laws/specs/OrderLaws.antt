@@ -1,7 +1,7 @@
 -- The places of computeds in the order of evaluation.
 use Rattle.std.specs.Prelude.{◌≡◌, ℕ, true, false, List, [], ◌∷◌, ◌⊎◌}
 use Rattle.signal_model.specs.Recipes.{Hosts}
-use Rattle.signal_model.specs.Standing.{Signals, Computed, IsComputed, is_in, standing}
+use Rattle.signal_model.specs.Signals.{Signals, Computed, IsComputed, is_in, standing}
 use Rattle.signal_model.specs.Values.{reads_of}
 use Rattle.signal_model.specs.Orders.{Visit, visited, evaluation_order}
 use Rattle.signal_model.specs.Laws.{IsRead, IsChain}

@@ -4,7 +4,7 @@ use Rattle.std.specs.List.{AllByRecursion}
 use Rattle.sig_base.specs.declared.value.Fault.TheVariants.{Cycle}
 use Rattle.sig_base.specs.declared.value.Outcome.TheVariants.{Bad}
 use Rattle.signal_model.specs.Recipes.{Hosts}
-use Rattle.signal_model.specs.Standing.{Signals, Computed, IsComputed, is_in, standing}
+use Rattle.signal_model.specs.Signals.{Signals, Computed, IsComputed, is_in, standing}
 use Rattle.signal_model.specs.Values.{Seen, value_of, evaluated}
 use Rattle.signal_model.specs.Orders.{Visit, evaluation_order}
 use Rattle.signal_model.specs.Memos.{Memos, must_run}

@@ -5,7 +5,7 @@ ghost use Rattle.signal_laws.specs.ChangeLaws.{GivenRewireLaw, GivenSetLaw, Give
 ghost use Rattle.signal_laws.specs.CleanLaws.{CleanLaw, PassLaw};
 ghost use Rattle.signal_laws.specs.KeptPathLaws.{EvaluatedSourceLaw, KeptCycleLaw, KeptPathLaw};
 ghost use Rattle.signal_laws.specs.OrderLaws.{PlacesLaw};
-ghost use Rattle.signal_laws.specs.ReadingLaws.{FirstsAppendLaw, FirstsFrontLaw, FirstsHoldLaw, NextReadLaw, NoHostLaw, ReadingLaw, SameReadsLaw};
+ghost use Rattle.signal_laws.specs.ReadLaws.{FirstsAppendLaw, FirstsFrontLaw, FirstsHoldLaw, NextReadLaw, NoHostLaw, ReadingLaw, SameReadsLaw};
 ghost use Rattle.signal_laws.specs.RunLaws.{CurrencyLaw, PlacedRunsLaw, ScratchRunsLaw};
 ghost use Rattle.signal_laws.specs.SettleLaws.{AgainLaw, AskedLaw, AskedMemoLaw, CleanMomentsLaw, KeptMomentsLaw, SettleBothLaw, SettleLaw, SettleMoreLaw};
 

@@ -2,8 +2,8 @@
 use Rattle.std.proofs.Common.{◌⊎◌, inl, inr, ◌≡◌, ℕ, suc, ◌==◌, Bool, true, false, cond, List, [], ◌∷◌, Option, Some, None, refl, sym, ap, ◌∙◌, arith}
 use Rattle.std.proofs.lemmas.Bool.{eqb-true, eq-eqb}
 use Rattle.std.proofs.lemmas.Bool.Decides.{nat_tests}
-use Rattle.signal_model.specs.Standing.{Signals, Computed, Cell, Stands, IsGone, IsCell, IsComputed, is_in, computed_at, cell_at, or_computed}
-use Rattle.signal_model.specs.Standing.{standing}
+use Rattle.signal_model.specs.Signals.{Signals, Computed, Cell, Stands, IsGone, IsCell, IsComputed, is_in, computed_at, cell_at, or_computed}
+use Rattle.signal_model.specs.Signals.{standing}
 use Rattle.signal_model.specs.Values.{value_within, value_case, asked_from, evaluated, names_left}
 use Rattle.signal_model.specs.Laws.{ValueByCases}
 

@@ -7,7 +7,7 @@ use Rattle.sig_base.specs.declared.value.Step.{Step}
 use Rattle.sig_base.specs.declared.value.Step.TheVariants.{Read, Done, Fail}
 use Rattle.sig_formula.specs.Trees.{Tree}
 use Rattle.sig_formula.specs.declared.formula.RowRef.{RowRef}
-use Rattle.sig_formula.specs.Answering.{answer_of, known_at}
+use Rattle.sig_formula.specs.Evaluation.{answer_of, known_at}
 use Rattle.sig_formula.proofs.Shared.{asks_askable}
 use Rattle.signal_model.specs.Recipes.{is_known, judged}
 use Rattle.signal_model.specs.Laws.{FormulaLaw}

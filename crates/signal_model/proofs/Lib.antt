@@ -1,5 +1,5 @@
 mod Tests
-mod Asking
+mod Asks
 mod Depth
 mod Paths
 mod Visits

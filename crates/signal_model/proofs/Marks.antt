@@ -4,7 +4,7 @@ use Rattle.std.proofs.Common.{sym, ap, ◌∙◌, arith, ◌⊎◌, inl, inr}
 use Rattle.std.specs.Prelude.{nat_le}
 use Rattle.std.proofs.lemmas.Bool.{eqb-true, eq-eqb}
 use Rattle.std.proofs.lemmas.Bool.Decides.{nat_tests}
-use Rattle.signal_model.specs.Standing.{Signals, Computed, Stands, IsGone, IsCell, IsComputed, is_computed, is_in, computed_at, standing}
+use Rattle.signal_model.specs.Signals.{Signals, Computed, Stands, IsGone, IsCell, IsComputed, is_computed, is_in, computed_at, standing}
 use Rattle.signal_model.specs.Memos.{Source, Memo, Memos, keeps, memo_of, must_run, source_names, sources_in, sources_of}
 use Rattle.signal_model.specs.Marks.{IsBelow, kept, kept_below, is_due, HasBelow, Mark, Clean, Checked, Dirty, IsMark, some_source, found_below}
 use Rattle.signal_model.specs.Marks.{due_below}

@@ -12,7 +12,7 @@ use Rattle.sig_base.specs.declared.value.Step.{Step}
 use Rattle.sig_base.specs.declared.value.Step.TheVariants.{Read, Done, Fail}
 use Rattle.sig_base.specs.declared.value.Known.{Known}
 use Rattle.signal_model.specs.Recipes.{Hosts, Recipe, recipe_answer}
-use Rattle.signal_model.specs.Standing.{Signals, Computed, Cell, Stands, IsGone, IsCell, IsComputed, is_in, standing}
+use Rattle.signal_model.specs.Signals.{Signals, Computed, Cell, Stands, IsGone, IsCell, IsComputed, is_in, standing}
 use Rattle.signal_model.specs.Values.{Seen, Evaluation, learnt, read_first, after_read, after_step, asked_within, unknown_slots, value_of, value_case}
 use Rattle.signal_model.specs.Values.{evaluated, reads_of, names_left}
 use Rattle.signal_model.specs.Memos.{is_cycle}

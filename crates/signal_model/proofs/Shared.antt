@@ -3,7 +3,7 @@
 -- tests
 pub use Rattle.signal_model.proofs.Tests.{either, or_left, or_right, tested}
 -- a recipe that is asked again and again
-pub use Rattle.signal_model.proofs.Asking.{asked_by_steps, bad_read, good_read, read_new, unknown_less}
+pub use Rattle.signal_model.proofs.Asks.{asked_by_steps, bad_read, good_read, read_new, unknown_less}
 -- slots that aren't known
 pub use Rattle.signal_model.proofs.Formulas.{asks_unknown, valueless}
 -- what stands

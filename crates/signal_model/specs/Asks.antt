@@ -3,7 +3,7 @@ use Rattle.std.specs.Prelude.{ℕ, ◌+◌, ◌==◌, Bool, true, false, List, [
 use Rattle.sig_base.specs.declared.value.Outcome.{Outcome}
 use Rattle.sig_base.specs.declared.value.Outcome.TheVariants.{Good, Bad}
 use Rattle.signal_model.specs.Recipes.{Expression, formula, host}
-use Rattle.signal_model.specs.Standing.{Signals, Stands, IsGone, IsCell, IsComputed, standing}
+use Rattle.signal_model.specs.Signals.{Signals, Stands, IsGone, IsCell, IsComputed, standing}
 use Rattle.signal_model.specs.Values.{Seen}
 use Rattle.signal_model.specs.Settling.{Run}
 

@@ -2,7 +2,7 @@
 use Rattle.std.specs.Prelude.{ℕ, ◌+◌, true, [], ◌∷◌, ◌++◌, length, Option, Some, None}
 use Rattle.sig_base.specs.declared.value.Value.{Value}
 use Rattle.signal_model.specs.Recipes.{Recipe}
-use Rattle.signal_model.specs.Standing.{Signals, Cell, Computed, changed, without}
+use Rattle.signal_model.specs.Signals.{Signals, Cell, Computed, changed, without}
 use Rattle.signal_model.specs.Memos.{Memo, Entry, Memos}
 
 -- nothing stands yet

@@ -11,7 +11,7 @@ use Rattle.sig_base.specs.declared.scalar.Scalar.TheVariants as scalar
 use Rattle.sig_formula.specs.declared.formula.BinOp.TheVariants.{Add, Mul}
 use Rattle.sig_formula.specs.Trees.{Tree, literal, slot, binary, choice}
 use Rattle.signal_model.specs.Recipes.{Hosts, Recipe, formula_recipe, host}
-use Rattle.signal_model.specs.Standing.{Signals}
+use Rattle.signal_model.specs.Signals.{Signals}
 use Rattle.signal_model.specs.Values.{Evaluation, recipe_evaluation}
 use Rattle.signal_model.specs.Memos.{Memos}
 use Rattle.signal_model.specs.Settling.{Run, Settled, settled}

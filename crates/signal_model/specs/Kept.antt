@@ -1,7 +1,7 @@
 -- What is kept of the signals that stand, exactly.
 use Rattle.std.specs.Prelude.{◌≡◌, ℕ, Bool, true, Some}
 use Rattle.signal_model.specs.Recipes.{Hosts}
-use Rattle.signal_model.specs.Standing.{Signals, Computed, IsComputed, is_computed, is_in, is_there, standing}
+use Rattle.signal_model.specs.Signals.{Signals, Computed, IsComputed, is_computed, is_in, is_there, standing}
 use Rattle.signal_model.specs.Memos.{Memo, Memos, entry_at, has_entry, memo_of, keeps}
 use Rattle.signal_model.specs.Sound.{IsSound}
 

@@ -6,9 +6,9 @@ use Rattle.sig_base.specs.declared.value.Outcome.TheVariants.{Bad}
 use Rattle.sig_base.specs.declared.value.Fault.TheVariants.{Cycle}
 use Rattle.sig_formula.specs.Trees.{Tree, has_slot}
 use Rattle.sig_formula.specs.declared.formula.RowRef.{RowRef}
-use Rattle.sig_formula.specs.Answering.{answer_of}
+use Rattle.sig_formula.specs.Evaluation.{answer_of}
 use Rattle.signal_model.specs.Recipes.{Hosts, Recipe, formula, recipe_answer}
-use Rattle.signal_model.specs.Standing.{Signals, Computed, IsComputed, is_in, standing}
+use Rattle.signal_model.specs.Signals.{Signals, Computed, IsComputed, is_in, standing}
 use Rattle.signal_model.specs.Values.{Seen, learnt, after_step, asked_from, value_of, value_case, evaluated, reads_of}
 use Rattle.signal_model.specs.Orders.{Visit, visited, visits, visit_case, visit, evaluation_order}
 use Rattle.signal_model.specs.Memos.{Memos}

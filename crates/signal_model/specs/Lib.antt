@@ -1,5 +1,5 @@
 pub mod Recipes
-pub mod Standing
+pub mod Signals
 pub mod Values
 pub mod Orders
 pub mod Memos

@@ -1,6 +1,6 @@
 -- How a signal stands while nothing is evaluated.
 use Rattle.std.specs.Prelude.{◌≡◌, ℕ, zero, suc, ◌||◌, ◌&&◌, Bool, true, false, List, [], ◌∷◌, length, if◌then◌else◌}
-use Rattle.signal_model.specs.Standing.{Signals, is_computed, standing}
+use Rattle.signal_model.specs.Signals.{Signals, is_computed, standing}
 use Rattle.signal_model.specs.Memos.{Source, Memos, keeps, must_run, sources_of}
 
 -- what is kept below a name: the sources that it keeps, those that they keep, and so on

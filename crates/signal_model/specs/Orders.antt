@@ -1,7 +1,7 @@
 -- The order in which computeds are evaluated.
 use Rattle.std.specs.Prelude.{ℕ, zero, suc, ◌||◌, Bool, List, [], ◌∷◌, ◌++◌, map, if◌then◌else◌}
 use Rattle.signal_model.specs.Recipes.{Hosts}
-use Rattle.signal_model.specs.Standing.{Computed, Signals, Stands, IsComputed, is_in, standing}
+use Rattle.signal_model.specs.Signals.{Computed, Signals, Stands, IsComputed, is_in, standing}
 use Rattle.signal_model.specs.Values.{Seen, names_left, reads_of}
 
 -- a computed at its place in the order, and the path by which it was come to

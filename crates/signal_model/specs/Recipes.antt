@@ -6,7 +6,7 @@ use Rattle.sig_base.specs.declared.value.Step.TheVariants.{Read, Done, Fail}
 use Rattle.sig_base.specs.declared.value.Fault.TheVariants.{Slot, Twice}
 use Rattle.sig_formula.specs.Trees.{Tree}
 use Rattle.sig_formula.specs.declared.formula.RowRef.{RowRef}
-use Rattle.sig_formula.specs.Answering.{answer_of}
+use Rattle.sig_formula.specs.Evaluation.{answer_of}
 
 -- what the host formula at each place answers to the values known so far
 abbrev pub Hosts : Type 0

@@ -3,7 +3,7 @@ use Rattle.std.specs.Prelude.{ℕ, ◌+◌, Bool, false, List, [], ◌∷◌, �
 use Rattle.sig_base.specs.Values.{same_outcome}
 use Rattle.sig_base.specs.declared.value.Outcome.{Outcome}
 use Rattle.signal_model.specs.Recipes.{Hosts}
-use Rattle.signal_model.specs.Standing.{Signals, changed}
+use Rattle.signal_model.specs.Signals.{Signals, changed}
 use Rattle.signal_model.specs.Values.{Seen, Evaluation, evaluated}
 use Rattle.signal_model.specs.Orders.{Visit, evaluation_order}
 use Rattle.signal_model.specs.Memos.{Source, Memo, Entry, Memos, named_now, must_run}

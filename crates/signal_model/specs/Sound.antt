@@ -8,7 +8,7 @@ use Rattle.sig_base.specs.declared.value.Step.{Step}
 use Rattle.sig_base.specs.declared.value.Step.TheVariants.{Read, Done, Fail}
 use Rattle.sig_base.specs.declared.value.Known.{Known}
 use Rattle.signal_model.specs.Recipes.{Hosts, Recipe, recipe_answer}
-use Rattle.signal_model.specs.Standing.{Signals, Computed, Stands, IsGone, IsCell, IsComputed, is_in, standing}
+use Rattle.signal_model.specs.Signals.{Signals, Computed, Stands, IsGone, IsCell, IsComputed, is_in, standing}
 use Rattle.signal_model.specs.Values.{Seen, learnt, value_of, reads_of}
 use Rattle.signal_model.specs.Memos.{Source, Memo, Memos, number_of, memo_of, source_names, is_cycle, differs, must_run}
 

@@ -8,7 +8,7 @@ use Rattle.sig_base.specs.declared.value.Step.TheVariants.{Read, Done, Fail}
 use Rattle.sig_base.specs.declared.value.Outcome.{Outcome}
 use Rattle.sig_base.specs.declared.value.Outcome.TheVariants.{Good, Bad}
 use Rattle.signal_model.specs.Recipes.{Hosts, Recipe, recipe_answer, is_known}
-use Rattle.signal_model.specs.Standing.{Computed, Signals, Stands, IsGone, IsCell, IsComputed, is_computed, is_in, computed_at, or_gone, standing}
+use Rattle.signal_model.specs.Signals.{Computed, Signals, Stands, IsGone, IsCell, IsComputed, is_computed, is_in, computed_at, or_gone, standing}
 
 -- a source that was read, and its outcome
 pub record Seen : Type 0 where

@@ -2,10 +2,10 @@
 #![tactic(auto)]
 
 #[cfg(test)]
-mod cutting;
-#[cfg(test)]
 mod escapes;
 #[cfg(test)]
 mod formulas;
 #[cfg(test)]
 mod pieces;
+#[cfg(test)]
+mod tokens;

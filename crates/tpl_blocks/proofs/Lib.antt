@@ -1,3 +1,3 @@
-mod Nesting
+mod Levels
 mod Stacks
 pub mod Shared

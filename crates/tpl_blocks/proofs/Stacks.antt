@@ -5,8 +5,8 @@ use Rattle.std.proofs.lemmas.List.{reverse-append, map-append}
 use Rattle.tpl_model.specs.Lines as model
 use Rattle.tpl_syntax.specs.declared.line.Line.{Line}
 use Rattle.sig_formula.specs.declared.formula.Formula.{Formula}
-use Rattle.tpl_blocks.specs.Blocks.{held, line_of, part_of, GoesAround, IsTop, StandsBefore}
-use Rattle.tpl_blocks.specs.declared.building.Part.{Part}
+use Rattle.tpl_blocks.specs.Blocks.{held, plain_line, part_of, GoesAround, IsTop, StandsBefore}
+use Rattle.tpl_blocks.specs.declared.builder.Part.{Part}
 
 -- a part is put there
 pub held_push : (parts : List Part) (p : Part) → held (parts ++ p ∷ []) ≡ part_of p ∷ held parts
@@ -49,10 +49,10 @@ line_around n l i p q before rest now a e g h = h ∙ (ap (λ z. z ++ rest) g �
 
 -- one more line, the one before those that were gone over
 pub one_back : (lines : List (Line Formula)) (x : Line Formula) (at : ℕ) (before now : List model.Part) → 0 < at → drop (at - 1) lines ≡ x ∷ drop at lines →
-    before ≡ model.parts_from (suc at) (map line_of (drop at lines)) → now ≡ model.with_line at (line_of x) before →
-    now ≡ model.parts_from (suc (at - 1)) (map line_of (drop (at - 1) lines))
+    before ≡ model.parts_from (suc at) (map plain_line (drop at lines)) → now ≡ model.with_line at (plain_line x) before →
+    now ≡ model.parts_from (suc (at - 1)) (map plain_line (drop (at - 1) lines))
 one_back lines x zero before now h d e f = absurd (omega arith)
 one_back lines x (suc n) before now h d e f =
     let m : suc n - 1 ≡ n = omega arith in
     let d' : drop n lines ≡ x ∷ drop (suc n) lines = rw m at d in
-    rw m (f ∙ (ap (model.with_line (suc n) (line_of x)) e ∙ sym (ap (λ z. model.parts_from (suc n) (map line_of z)) d')))
+    rw m (f ∙ (ap (model.with_line (suc n) (plain_line x)) e ∙ sym (ap (λ z. model.parts_from (suc n) (map plain_line z)) d')))

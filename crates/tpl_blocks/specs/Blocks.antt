@@ -12,7 +12,7 @@ use Rattle.tpl_syntax.specs.declared.line.Purpose.{Purpose}
 use Rattle.tpl_syntax.specs.declared.line.Purpose.TheVariants as purpose
 use Rattle.tpl_blocks.specs.declared.block.Block.{Block}
 use Rattle.tpl_blocks.specs.declared.block.Block.TheVariants as held_block
-use Rattle.tpl_blocks.specs.declared.building.Part.{Part}
+use Rattle.tpl_blocks.specs.declared.builder.Part.{Part}
 
 -- a line without a formula, as a line of the model
 abbrev pub mark_line : Mark → model.Line
@@ -52,8 +52,8 @@ block (held_block.Each' f p inner q rest) = model.each (tree f) (block inner) (b
 -- ---- as the code holds them
 
 -- a line whose formula is held
-abbrev pub line_of : Line Formula → model.Line
-line_of l = model_line (mapped tree l)
+abbrev pub plain_line : Line Formula → model.Line
+plain_line l = model_line (mapped tree l)
 
 -- an open part
 abbrev pub part_of : Part → model.Part

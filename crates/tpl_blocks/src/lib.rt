@@ -2,9 +2,9 @@
 #![tactic(auto)]
 
 mod block;
-mod building;
+mod builder;
 mod laws;
 
 pub use block::Block;
-pub use building::block_of;
+pub use builder::block_of;
 pub use laws::read_law;

@@ -10,21 +10,21 @@ use Rattle.tpl_model.specs.Laws.{GivesRows, IsTemplate}
 use Rattle.tpl_model.specs.Lines.{Line, block_of}
 use Rattle.tpl_model.specs.Sources.{evaluating}
 use Rattle.tpl_model.proofs.Shared.{origin_law, shape_law}
-use Rattle.tpl_hearing.specs.Hearing.{Outcomes}
-use Rattle.tpl_listening.specs.Makings.{Agrees}
+use Rattle.tpl_hearing.specs.Heard.{Outcomes}
+use Rattle.tpl_listening.specs.Memos.{Agrees}
 use Rattle.tpl_listening.specs.Changes.{Change, Tells}
 use Rattle.tpl_shapes.specs.Shapes.{Marked}
 use Rattle.tpl_marks.specs.Marks.{children_in}
 use Rattle.tpl_found.proofs.Shared.{all_new}
 use Rattle.update_laws.specs.Differences.{SameChildren, SameLook, Within}
 use Rattle.update_laws.specs.PageMemos.{PageMemo, nodes}
-use Rattle.update_laws.specs.Updating.{Keeps, memo_on, memo_shape, shape_on}
+use Rattle.update_laws.specs.Updates.{Keeps, memo_on, memo_shape, shape_on}
 use Rattle.update_laws.proofs.Shared.{Half, Single, shape_shown, within_whole}
-use Rattle.tpl_comparing.specs.Comparing.{CompareLaw, Compared, IsRestated, IsTouched, is_plain, known_of, marked_by, marked_unless, restated_in, restated_part, restating, touched_in, touched_part, touching}
-use Rattle.tpl_comparing.proofs.Covering.{Covered, covered_bare, covered_marked}
+use Rattle.tpl_comparing.specs.Comparison.{CompareLaw, Compared, IsRestated, IsTouched, is_plain, known_of, marked_by, marked_unless, restated_in, restated_part, restating, touched_in, touched_part, touching}
+use Rattle.tpl_comparing.proofs.Coverage.{Covered, covered_bare, covered_marked}
 use Rattle.tpl_comparing.proofs.Sides.{Beside, beside_kids}
 use Rattle.tpl_comparing.proofs.Tops.{plain_siblings}
-use Rattle.tpl_comparing.proofs.Walking.{Rules, walk}
+use Rattle.tpl_comparing.proofs.WalkMarks.{Rules, walk}
 
 -- what a node of a part has in the whole
 kids_there : (whole : Forest Look) (a : ℕ) (x : Look) (k : Forest Look) → Within whole (node a x k none) → kids a whole ≡ k

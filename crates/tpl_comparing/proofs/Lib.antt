@@ -4,7 +4,7 @@ mod Siblings
 mod Tops
 mod Walks
 mod Comparison
-mod Covering
-pub mod SharedComparing
+mod Coverage
+pub mod SharedComparison
 mod Sides
-mod Walking
+mod WalkMarks

@@ -1,7 +1,7 @@
 -- Marks that are split, one after the other.
 use Rattle.std.proofs.Common.{◌≡◌, List, [], ◌∷◌, ◌++◌, map, ap}
 use Rattle.tpl_shapes.specs.Shapes.{Marked}
-use Rattle.tpl_comparing.specs.Comparing.{restated_part, touched_part}
+use Rattle.tpl_comparing.specs.Comparison.{restated_part, touched_part}
 use Rattle.tpl_comparing.proofs.Siblings.{last_out, step_out}
 
 -- marks that are left; with these all come

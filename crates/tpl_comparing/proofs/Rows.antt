@@ -20,12 +20,12 @@ use Rattle.tpl_memos.specs.Kept.{rows_from}
 use Rattle.tpl_memos.specs.Kept as held_rows
 use Rattle.tpl_model.specs.Lines.{Block}
 use Rattle.tpl_model.specs.Shapes.{Here}
-use Rattle.tpl_shown.specs.Showing.{rows_in}
+use Rattle.tpl_shown.specs.Heads.{rows_in}
 use Rattle.tpl_shapes.specs.declared.shown.Address.{Address}
 use Rattle.tpl_shapes.specs.Shapes.{Marked, Next}
 use Rattle.update_laws.specs.PageMemos.{PageMemo, blank, row, nodes, row_nodes}
-use Rattle.tpl_comparing.specs.Comparing.{marked_by, restated_part, restating, row_marks, touched_part, touching}
-use Rattle.tpl_comparing.specs.Walking.{Walk, further, of_lines, of_rows, or_stays}
+use Rattle.tpl_comparing.specs.Comparison.{marked_by, restated_part, restating, row_marks, touched_part, touching}
+use Rattle.tpl_comparing.specs.Walks.{Walk, further, of_lines, of_rows, or_stays}
 use Rattle.tpl_comparing.proofs.Walks.{alone, both_gone, none_gone, stays_gone}
 
 -- what is kept of the lines of a row, as nodes

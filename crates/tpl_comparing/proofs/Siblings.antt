@@ -10,7 +10,7 @@ use Rattle.tpl_marks.specs.Marks.{children_in, next_of}
 use Rattle.tpl_marks.proofs.Shared.{children_after}
 use Rattle.tpl_model.specs.Shapes.{node_text}
 use Rattle.tpl_nodes.specs.Shown.{is_line, where_shown}
-use Rattle.tpl_shown.specs.Showing.{text_at}
+use Rattle.tpl_shown.specs.Heads.{text_at}
 use Rattle.update_laws.specs.PageMemos.{PageMemo, line}
 
 -- one part comes behind those before it

@@ -10,11 +10,11 @@ use Rattle.page_model.specs.Labels.{Look}
 use Rattle.tpl_model.specs.Lines.{Block, empty, text, tag, choice, each, attempt}
 use Rattle.tpl_model.specs.Shapes.{Here, row_here}
 use Rattle.tpl_model.specs.Sources.{evaluating}
-use Rattle.tpl_hearing.specs.Hearing.{Outcomes}
+use Rattle.tpl_hearing.specs.Heard.{Outcomes}
 use Rattle.update_laws.specs.Differences.{Within}
 use Rattle.update_laws.specs.PageMemos.{PageMemo, hearing, memo_of}
 use Rattle.update_laws.proofs.Shared.{Half, Single, half_first, half_kids, half_later, memo_like, within_first, within_later}
-use Rattle.tpl_listening.specs.Makings.{Agrees, lines_memo, truth_in}
+use Rattle.tpl_listening.specs.Memos.{Agrees, lines_memo, truth_in}
 use Rattle.tpl_listening.specs.Renewals.{WasMade}
 use Rattle.tpl_listening.specs.Changes.{Change, stays, made, over, also, nothing, is_made, is_stays, Tells}
 use Rattle.tpl_found.proofs.Shared.{New}

@@ -6,11 +6,11 @@ use Rattle.page_model.specs.Addresses.{address}
 use Rattle.page_model.specs.Edits.{siblings}
 use Rattle.tpl_model.specs.Lines.{Block, empty, text, tag, choice, each, attempt}
 use Rattle.tpl_model.specs.Shapes.{Here, row_here}
-use Rattle.tpl_hearing.specs.Hearing.{Outcomes}
-use Rattle.tpl_listening.specs.Makings.{Agrees}
+use Rattle.tpl_hearing.specs.Heard.{Outcomes}
+use Rattle.tpl_listening.specs.Memos.{Agrees}
 use Rattle.tpl_listening.specs.Changes.{Change, is_stays, Tells}
 use Rattle.update_laws.specs.PageMemos.{nodes}
-use Rattle.tpl_comparing.specs.Comparing.{is_plain, keeps_nodes}
+use Rattle.tpl_comparing.specs.Comparison.{is_plain, keeps_nodes}
 use Rattle.tpl_comparing.proofs.Sides.{Alike, kept, stays_kept}
 
 -- lines that stay do

@@ -18,14 +18,14 @@ use Rattle.tpl_model.specs.Shapes.{node_text}
 use Rattle.tpl_model.specs.Lines.{Block, empty, text, tag, choice, each, attempt}
 use Rattle.tpl_nodes.specs.Shown.{attributes_of, fits, inside_of, later_of, rows_of, shows, where_shown}
 use Rattle.tpl_nodes.proofs.Shared.{unfit_shown}
-use Rattle.tpl_scratch.specs.Making.{shows_branch}
+use Rattle.tpl_scratch.specs.Pages.{shows_branch}
 use Rattle.tpl_shapes.specs.Shapes.{Marked, Next}
-use Rattle.tpl_shown.specs.Showing.{text_at}
+use Rattle.tpl_shown.specs.Heads.{text_at}
 use Rattle.update_laws.specs.PageMemos.{PageMemo, line, element, branch, loop, nodes, picks, row_nodes, values}
 use Rattle.tpl_comparing.proofs.Siblings.{two_more}
 use Rattle.tpl_comparing.proofs.Tops.{stays_keep}
-use Rattle.tpl_comparing.specs.Comparing.{Marking, keeps_nodes, marked_by, marked_unless, restated_part, restating, touched_part, touching}
-use Rattle.tpl_comparing.specs.Walking.{Walk, further, idle, of_element, of_inside, of_lines, of_made, of_marks, of_rows, of_text, where_gone}
+use Rattle.tpl_comparing.specs.Comparison.{Marking, keeps_nodes, marked_by, marked_unless, restated_part, restating, touched_part, touching}
+use Rattle.tpl_comparing.specs.Walks.{Walk, further, idle, of_element, of_inside, of_lines, of_made, of_marks, of_rows, of_text, where_gone}
 
 -- ---- one part behind another
 

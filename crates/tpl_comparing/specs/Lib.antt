@@ -1,2 +1,2 @@
-pub mod Walking
-pub mod Comparing
+pub mod Walks
+pub mod Comparison

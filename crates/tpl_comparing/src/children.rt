@@ -1,7 +1,7 @@
 // The children of a node whose inside is gone over.
 ghost use Rattle.std.specs.Prelude.{◌≡◌, ◌++◌, None, map, OnOk};
 ghost use Rattle.tpl_blocks.specs.Blocks.{block};
-ghost use Rattle.tpl_comparing.specs.Comparing.{is_plain};
+ghost use Rattle.tpl_comparing.specs.Comparison.{is_plain};
 ghost use Rattle.tpl_marks.specs.Marks.{children_in};
 ghost use Rattle.tpl_shapes.specs.Shapes.{all_shown, child_of};
 

@@ -3,11 +3,11 @@
 #![tactic(auto)]
 
 mod children;
-mod comparing;
+mod comparer;
+mod kept;
 mod laws;
-mod marking;
-mod staying;
+mod node_marks;
 
-pub use comparing::compared;
+pub use comparer::compared;
 pub use laws::compare_law;
-pub use marking::Compared;
+pub use node_marks::Compared;

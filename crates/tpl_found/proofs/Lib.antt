@@ -1,9 +1,9 @@
 mod Facts
-mod Following
-mod Marking
-mod Numbering
-mod Ordering
+mod Children
+mod Marks
+mod Lookups
+mod Arrivals
 mod Renewed
-mod Spelling
-mod Telling
+mod Edits
+mod KeptNodes
 pub mod Shared

@@ -6,13 +6,13 @@ use Rattle.page_model.specs.Pages.{IsShape, SameOrigin, page_shape}
 use Rattle.page_model.proofs.Shared.{page_after, shape_after}
 use Rattle.tpl_model.specs.Sources.{evaluating}
 use Rattle.tpl_model.proofs.Shared.{origin_law, shape_law}
-use Rattle.update_laws.specs.Updating.{memo_shape, shape_on}
+use Rattle.update_laws.specs.Updates.{memo_shape, shape_on}
 use Rattle.update_laws.proofs.Shared.{shape_shown}
-use Rattle.tpl_found.specs.Seeing.{common}
+use Rattle.tpl_found.specs.Marks.{common}
 use Rattle.tpl_found.specs.Updates.{UpdateLaw, is_kept}
-use Rattle.tpl_found.proofs.Marking.{whole_law}
-use Rattle.tpl_found.proofs.Numbering.{kept_law}
-use Rattle.tpl_found.proofs.Spelling.{operations_law}
+use Rattle.tpl_found.proofs.Marks.{whole_law}
+use Rattle.tpl_found.proofs.Lookups.{kept_law}
+use Rattle.tpl_found.proofs.Edits.{operations_law}
 
 pub update_law : UpdateLaw
 update_law lines links before now was m p tree t k d rows e =

@@ -1,7 +1,7 @@
-pub mod Seeing
-pub mod Reading
-pub mod Telling
-pub mod Coming
-pub mod Following
+pub mod Marks
+pub mod Lookups
+pub mod KeptNodes
+pub mod Arrivals
+pub mod Children
 pub mod Operations
 pub mod Updates

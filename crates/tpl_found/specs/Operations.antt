@@ -6,10 +6,10 @@ use Rattle.page_model.specs.Forest.{Forest, label_in}
 use Rattle.page_model.specs.Labels.{Root, Look, Sound}
 use Rattle.page_model.specs.Pages.{NumberedPage, IsPage, IsShape, SameOrigin, ascending_by, edits_between, number_of, page_shape, renumbered, tree_of}
 use Rattle.page_model.specs.Replay.{Done, Op, OpRemove, replay}
-use Rattle.tpl_found.specs.Following.{children_moved, next_children}
-use Rattle.tpl_found.specs.Reading.{TellsKept, gone_numbers}
-use Rattle.tpl_found.specs.Seeing.{Sees}
-use Rattle.tpl_found.specs.Telling.{told_on}
+use Rattle.tpl_found.specs.Children.{children_moved, next_children}
+use Rattle.tpl_found.specs.Lookups.{TellsKept, gone_numbers}
+use Rattle.tpl_found.specs.Marks.{Sees}
+use Rattle.tpl_found.specs.KeptNodes.{told_on}
 
 -- the operations on the children of one node
 abbrev pub children_done : NumberedPage → Forest Look → ℕ → List Op

@@ -9,9 +9,9 @@ use Rattle.tpl_model.specs.Laws.{GivesRows, IsTemplate}
 use Rattle.tpl_model.specs.Lines.{Line}
 use Rattle.tpl_model.specs.Sources.{evaluating}
 use Rattle.update_laws.specs.PageMemos.{PageMemo}
-use Rattle.update_laws.specs.Updating.{Keeps, memo_on, memo_shape, shape_on}
+use Rattle.update_laws.specs.Updates.{Keeps, memo_on, memo_shape, shape_on}
 use Rattle.tpl_found.specs.Operations.{Leads}
-use Rattle.tpl_found.specs.Seeing.{common}
+use Rattle.tpl_found.specs.Marks.{common}
 
 -- the number is that of a node of both pages
 abbrev pub is_kept : NumberedPage → Forest Look → ℕ → Bool

@@ -1,10 +1,10 @@
 // The laws of what is compared, each the contract of a call that does nothing.
-ghost use Rattle.tpl_found.specs.Coming.{OrderLaw, SerialLaw};
-ghost use Rattle.tpl_found.specs.Following.{ChildrenLaw};
+ghost use Rattle.tpl_found.specs.Arrivals.{OrderLaw, SerialLaw};
+ghost use Rattle.tpl_found.specs.Children.{ChildrenLaw};
 ghost use Rattle.tpl_found.specs.Operations.{OperationsLaw};
-ghost use Rattle.tpl_found.specs.Reading.{KeptLaw, ReadsLaw, RemovalsLaw};
-ghost use Rattle.tpl_found.specs.Seeing.{MarksLaw, WholeLaw};
-ghost use Rattle.tpl_found.specs.Telling.{ToldLaw};
+ghost use Rattle.tpl_found.specs.Lookups.{KeptLaw, ReadsLaw, RemovalsLaw};
+ghost use Rattle.tpl_found.specs.Marks.{MarksLaw, WholeLaw};
+ghost use Rattle.tpl_found.specs.KeptNodes.{ToldLaw};
 ghost use Rattle.tpl_found.specs.Updates.{UpdateLaw};
 
 /// What is found by marks on the next page gives the operations between the two pages, and the order of the new numbers.

@@ -5,9 +5,9 @@ use Rattle.std.specs.List.{AllByRecursion}
 use Rattle.std.specs.Map.{lookup}
 use Rattle.std.proofs.lemmas.Bool.{eqb-true}
 use Rattle.indexmap.specs.IndexMap.{insert_entry}
-use Rattle.tpl_hearing.specs.Hearing.{Comparisons, Grows, Outcomes, heard_of}
+use Rattle.tpl_hearing.specs.Heard.{Comparisons, Grows, Outcomes, heard_of}
 use Rattle.tpl_hearing.specs.HeardAgain.{IsAsBefore, IsCompared}
-use Rattle.tpl_hearing.proofs.Hearings.{still_heard}
+use Rattle.tpl_hearing.proofs.Names.{still_heard}
 
 -- so it is with each of them
 abbrev pub AllCompared : Outcomes → Outcomes → Comparisons → Type 0

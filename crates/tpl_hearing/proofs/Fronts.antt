@@ -7,7 +7,7 @@ use Rattle.std.proofs.lemmas.Bool.{cases_Bool, eqb-true, false≢true}
 use Rattle.std.proofs.lemmas.List.{take_more}
 use Rattle.std.proofs.lemmas.Option.{get_or_from_slice_get, slice_get_within}
 use Rattle.sig_base.specs.declared.value.Outcome.{Outcome}
-use Rattle.tpl_hearing.specs.Hearing.{Outcomes, heard_of}
+use Rattle.tpl_hearing.specs.Heard.{Outcomes, heard_of}
 
 -- one more of them
 pub front_more : (before : Outcomes) (i n : ℕ) (o : Outcome) → slice_get before i ≡ Some (n, o) → take (i + 1) before ≡ take i before ++ (n, o) ∷ []

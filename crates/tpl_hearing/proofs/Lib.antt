@@ -1,7 +1,7 @@
-mod Hearings
-mod Askings
+mod Names
+mod Asks
 mod Compared
-mod Rehearings
+mod HeardAgain
 mod Fronts
 mod Tabled
 pub mod Shared

@@ -4,7 +4,7 @@ use Rattle.std.proofs.lemmas.List.{take_all, take_more}
 use Rattle.std.proofs.lemmas.Option.{get_or_from_slice_get}
 use Rattle.sig_base.specs.declared.value.Outcome.{Outcome}
 use Rattle.signal_laws.proofs.Shared.{all_snoc}
-use Rattle.tpl_hearing.specs.Hearing.{HasRows, HaveRows, Outcomes}
+use Rattle.tpl_hearing.specs.Heard.{HasRows, HaveRows, Outcomes}
 
 -- one more of them
 pub rows_more : (heard : Outcomes) (place n : ℕ) (o : Outcome) → place < length heard → slice_get heard place ≡ Some (n, o) → HasRows o →

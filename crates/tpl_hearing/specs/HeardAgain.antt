@@ -3,9 +3,9 @@ use Rattle.std.specs.Prelude.{◌≡◌, ℕ, ◌+◌, ◌<◌, ◌++◌, ◌∷
 use Rattle.std.specs.List.{AllByRecursion}
 use Rattle.std.specs.Map.{keys_of}
 use Rattle.sig_base.specs.declared.value.Outcome.{Outcome}
-use Rattle.signal_laws.specs.ReadingLaws.{firsts_after}
-use Rattle.tpl_hearing.specs.Hearing.{Outcomes, heard_of}
-use Rattle.tpl_hearing.specs.declared.rehearing.Rehearing.{Rehearing}
+use Rattle.signal_laws.specs.ReadLaws.{firsts_after}
+use Rattle.tpl_hearing.specs.Heard.{Outcomes, heard_of}
+use Rattle.tpl_hearing.specs.declared.comparisons.Rehearing.{Rehearing}
 
 -- a name has the outcome that it had before
 pub record IsAsBefore (before now : Outcomes) (n : ℕ) : Type 0 where

@@ -1,10 +1,10 @@
 // Names that were heard at another time, heard again.
 ghost use Rattle.std.specs.Prelude.{◌≡◌, ◌≤◌, [], length, take, IfOk, IfSome, OnOk};
-ghost use Rattle.tpl_hearing.specs.Hearing.{scene, CanSettle, Hears};
+ghost use Rattle.tpl_hearing.specs.Heard.{scene, CanSettle, Hears};
 ghost use Rattle.tpl_hearing.specs.HeardAgain.{heard_by, AreCompared, AreHeardAgain, IsFront};
 
+use crate::comparisons::{Rehearing, hear_compared};
 use crate::outcomes::{Outcomes, settle_name};
-use crate::rehearing::{Rehearing, hear_compared};
 use sig_base::{NoMemory, NodeId};
 use sig_computed::RunNote;
 use sig_host::{Lent, Shelf};

@@ -2,11 +2,11 @@
 #![tactic(auto)]
 
 mod again;
-mod evaluating;
+mod comparisons;
+mod evaluation;
 mod outcomes;
-mod rehearing;
 
 pub use again::{hear_again, hear_all_again};
-pub use evaluating::{Evaluated, Read, evaluate};
+pub use comparisons::{Comparisons, Rehearing};
+pub use evaluation::{Evaluated, Read, evaluate};
 pub use outcomes::{Outcomes, hear};
-pub use rehearing::{Comparisons, Rehearing};

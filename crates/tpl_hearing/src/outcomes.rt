@@ -3,8 +3,8 @@ ghost use Rattle.std.specs.Prelude.{◌≡◌, ◌<◌, ◌++◌, ◌∷◌, [],
 ghost use Rattle.std.specs.List.{IsDistinct};
 ghost use Rattle.std.specs.Map.{keys_of};
 ghost use Rattle.sig_base.specs.declared.value.Outcome.TheVariants.{Good};
-ghost use Rattle.signal_laws.specs.ReadingLaws.{joined};
-ghost use Rattle.tpl_hearing.specs.Hearing.{heard_of, scene, CanSettle, HasRows, HaveRows, Hears, Outcomes as Heard};
+ghost use Rattle.signal_laws.specs.ReadLaws.{with_name};
+ghost use Rattle.tpl_hearing.specs.Heard.{heard_of, scene, CanSettle, HasRows, HaveRows, Hears, Outcomes as Heard};
 
 use indexmap::IndexMap;
 use sig_base::{NoMemory, NodeId, Outcome, Value};
@@ -62,7 +62,7 @@ impl Drop for Outcomes {
 }
 
 impl Model for Outcomes {
-    ghost use Rattle.tpl_hearing.specs.Hearing as names;
+    ghost use Rattle.tpl_hearing.specs.Heard as names;
 
     ghost Value = { names.Outcomes };
 
@@ -179,7 +179,7 @@ pub fn hear(
     requires can { CanSettle (scene graph.old (⟦<Shelf as Lent>⟧.asked shelf.old) notes.old.items) }
     requires counted { ⟦<Shelf as Lent>⟧.counted shelf.old }
     ensures outcome { IfOk result (λ o. heard_of heard.new id ≡ Some o) }
-    ensures names { OnOk result (keys_of heard.new ≡ joined (keys_of heard.old) id) }
+    ensures names { OnOk result (keys_of heard.new ≡ with_name (keys_of heard.old) id) }
     ensures after { OnOk result (Hears
         (scene graph.old (⟦<Shelf as Lent>⟧.asked shelf.old) notes.old.items) (scene graph.new (⟦<Shelf as Lent>⟧.asked shelf.new) notes.new.items)
         (λ hosts. ⟦<Shelf as Lent>⟧.answers hosts shelf.old) (λ hosts. ⟦<Shelf as Lent>⟧.answers hosts shelf.new) heard.old heard.new) }

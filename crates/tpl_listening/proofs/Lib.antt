@@ -1,7 +1,7 @@
-mod Composing
+mod Sequences
 mod Rowed
-mod Rereading
-mod Unmaking
+mod Reuse
+mod Splits
 mod Slots
 pub mod Shared
 pub mod Equations

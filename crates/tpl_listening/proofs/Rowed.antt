@@ -7,15 +7,15 @@ use Rattle.sig_base.specs.Tables.{Table}
 use Rattle.sig_base.specs.declared.rows.Row.{Row}
 use Rattle.sig_base.specs.declared.value.Outcome.{Outcome}
 use Rattle.sig_formula.specs.declared.formula.RowRef.{RowRef}
-use Rattle.signal_laws.specs.ReadingLaws.{firsts_after}
+use Rattle.signal_laws.specs.ReadLaws.{firsts_after}
 use Rattle.tpl_model.specs.Lines.{Block}
 use Rattle.tpl_model.specs.Shapes.{Here, row_here}
 use Rattle.tpl_model.specs.Sources.{evaluating}
-use Rattle.tpl_hearing.specs.Hearing.{Grows, Outcomes}
+use Rattle.tpl_hearing.specs.Heard.{Grows, Outcomes}
 use Rattle.tpl_memos.specs.Kept.{rows_from}
 use Rattle.update_laws.specs.PageMemos.{PageMemo, row, hearing, memo_of, names, rows_memo}
-use Rattle.tpl_listening.specs.Makings.{Agrees, Makes, lines_memo, loop_memo, rows_in}
-use Rattle.tpl_listening.proofs.Composing.{agreed, in_order}
+use Rattle.tpl_listening.specs.Memos.{Agrees, Makes, lines_memo, loop_memo, rows_in}
+use Rattle.tpl_listening.proofs.Sequences.{agreed, in_order}
 
 -- the row at a place
 abbrev pub row_at : Table → ℕ → RowRef

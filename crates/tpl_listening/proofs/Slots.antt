@@ -8,14 +8,14 @@ use Rattle.sig_formula.specs.declared.formula.RowRef.{RowRef}
 use Rattle.tpl_model.specs.Lines.{Block}
 use Rattle.tpl_model.specs.Shapes.{Here}
 use Rattle.tpl_model.specs.Sources.{evaluating, same_here}
-use Rattle.tpl_hearing.specs.Hearing.{Outcomes}
+use Rattle.tpl_hearing.specs.Heard.{Outcomes}
 use Rattle.tpl_memos.specs.Kept.{rows_from}
 use Rattle.update_laws.specs.PageMemos.{Hearing, PageMemo, unread, row, hearing, memo_of, rows_memo}
 use Rattle.update_laws.proofs.Shared.{memo_like, steady}
-use Rattle.tpl_listening.specs.Makings.{Agrees, lines_memo, loop_memo, rows_in}
+use Rattle.tpl_listening.specs.Memos.{Agrees, lines_memo, loop_memo, rows_in}
 use Rattle.tpl_listening.specs.Renewals.{WasMade, WasMadeIfRead, SlotsWere, TakesRow, is_unread}
 use Rattle.tpl_listening.proofs.Rowed.{row_at}
-use Rattle.tpl_listening.proofs.Unmaking.{unread_was}
+use Rattle.tpl_listening.proofs.Splits.{unread_was}
 
 -- ---- what a loop keeps
 

@@ -7,9 +7,9 @@ use Rattle.sig_formula.specs.declared.formula.RowRef.{RowRef}
 use Rattle.tpl_model.specs.Lines.{Block, empty, text, tag, choice, each, attempt}
 use Rattle.tpl_model.specs.Shapes.{Here}
 use Rattle.tpl_model.specs.Sources.{evaluating, same_here}
-use Rattle.tpl_hearing.specs.Hearing.{Outcomes}
+use Rattle.tpl_hearing.specs.Heard.{Outcomes}
 use Rattle.update_laws.specs.PageMemos.{PageMemo, line, element, branch, loop, row, hearing}
-use Rattle.tpl_listening.specs.Makings.{Agrees, lines_memo, table_in, truth_in}
+use Rattle.tpl_listening.specs.Memos.{Agrees, lines_memo, table_in, truth_in}
 use Rattle.tpl_listening.specs.Renewals.{WasListened, WasListenedAll, WasMade}
 use Rattle.tpl_listening.specs.declared.change.Change as code
 use Rattle.tpl_listening.specs.declared.change.Change.TheOpen.{Change-F}
@@ -57,11 +57,11 @@ is_stays c = false
 -- ---- what a change tells
 
 -- of lines that stay one thing, of lines that were made anew nothing, and of the others what is told of their parts
-abbrev pub told : Type 0 → (Bool → Change → Change → Type 0) → Change → Type 0
-told Same Parts stays = Same
-told Same Parts made = Unit {0}
-told Same Parts (over same inside later) = Parts same inside later
-told Same Parts c = ⊥
+abbrev pub by_change : Type 0 → (Bool → Change → Change → Type 0) → Change → Type 0
+by_change Same Parts stays = Same
+by_change Same Parts made = Unit {0}
+by_change Same Parts (over same inside later) = Parts same inside later
+by_change Same Parts c = ⊥
 
 -- a test came to this truth on the outcomes of before
 pub record WasTrue (f : Tree) (links : List ℕ) (row : Option RowRef) (before : Outcomes) (truth : Option Bool) : Type 0 where
@@ -91,21 +91,21 @@ RowsTell Go m c = Unit {0}
 -- so before; of a branch that wasn't made anew the test had its truth before, and a row that wasn't made anew stood among the rows of before.
 abbrev pub Tells : Block → List ℕ → Option RowRef → Outcomes → PageMemo → Change → Type 0
 Tells (text n f rest) links place before (line h r) c =
-    told (WasMade (lines_memo (text n f rest)) links place before (line h r))
+    by_change (WasMade (lines_memo (text n f rest)) links place before (line h r))
     (λ same inside later. (same ≡ true → WasListened f links place before h) × Tells rest links place before r later) c
 Tells (tag n name xs inner rest) links place before (element hs i r) c =
-    told (WasMade (lines_memo (tag n name xs inner rest)) links place before (element hs i r))
+    by_change (WasMade (lines_memo (tag n name xs inner rest)) links place before (element hs i r))
     (λ same inside later. (same ≡ true → WasListenedAll xs links place before hs)
     × (Tells inner links place before i (first_in inside) × Tells rest links place before r later)) c
 Tells (choice f one other rest) links place before (branch h i r) c =
-    told (WasMade (lines_memo (choice f one other rest)) links place before (branch h i r))
+    by_change (WasMade (lines_memo (choice f one other rest)) links place before (branch h i r))
     (λ same inside later. (is_made (first_in inside) ≡ false → WasTrue f links place before (truth_in h.outcome))
     × (BranchTells (truth_in h.outcome) (Tells one links place before i (first_in inside)) (Tells other links place before i (first_in inside))
     × Tells rest links place before r later)) c
 Tells (each f inner rest) links place before (loop h i r) c =
-    told (WasMade (lines_memo (each f inner rest)) links place before (loop h i r))
+    by_change (WasMade (lines_memo (each f inner rest)) links place before (loop h i r))
     (λ same inside later. RowsTell (λ (here : Here) (m : PageMemo) (d : Change). (is_made d ≡ false → WasRow f links place before here.row)
     × Tells inner links (Some here.row) before m d) i inside × Tells rest links place before r later) c
 Tells (attempt first second rest) links place before m c =
-    told (WasMade (lines_memo (attempt first second rest)) links place before m) (λ same inside later. Unit {0}) c
+    by_change (WasMade (lines_memo (attempt first second rest)) links place before m) (λ same inside later. Unit {0}) c
 Tells b links place before m c = Unit {0}

@@ -1,3 +1,3 @@
-pub mod Makings
+pub mod Memos
 pub mod Renewals
 pub mod Changes

@@ -7,10 +7,10 @@ use Rattle.sig_formula.specs.declared.formula.RowRef.{RowRef}
 use Rattle.tpl_model.specs.Lines.{Block}
 use Rattle.tpl_model.specs.Shapes.{Here, row_here}
 use Rattle.tpl_model.specs.Sources.{evaluating}
-use Rattle.tpl_hearing.specs.Hearing.{Outcomes}
+use Rattle.tpl_hearing.specs.Heard.{Outcomes}
 use Rattle.tpl_hearing.specs.HeardAgain.{AreSame, AreSameUpTo}
 use Rattle.update_laws.specs.PageMemos.{Heard, PageMemo, unread, hearing, attributes_heard}
-use Rattle.tpl_listening.specs.Makings.{Agrees, Keeping, lines_memo}
+use Rattle.tpl_listening.specs.Memos.{Agrees, Keeping, lines_memo}
 
 -- what was heard of a formula is what it comes to wherever the names have the outcomes of before
 pub record WasListened (f : Tree) (links : List ℕ) (row : Option RowRef) (before : Outcomes) (h : Heard) : Type 0 where

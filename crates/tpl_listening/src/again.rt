@@ -3,13 +3,13 @@ ghost use Rattle.std.specs.Prelude.{◌≡◌, ◌<◌, ◌++◌, length, map, t
 ghost use Rattle.std.specs.Option.{option_copied};
 ghost use Rattle.sig_formula.specs.Trees.{tree};
 ghost use Rattle.update_laws.specs.PageMemos.{all_names};
-ghost use Rattle.tpl_hearing.specs.Hearing.{scene, CanSettle, Hears};
+ghost use Rattle.tpl_hearing.specs.Heard.{scene, CanSettle, Hears};
 ghost use Rattle.tpl_hearing.specs.HeardAgain.{AreCompared};
 ghost use Rattle.tpl_memos.specs.Kept.{heard_of};
-ghost use Rattle.tpl_listening.specs.Makings.{Listens, ListensAll};
+ghost use Rattle.tpl_listening.specs.Memos.{Listens, ListensAll};
 ghost use Rattle.tpl_listening.specs.Renewals.{WasListened, WasListenedAll};
 
-use crate::listening::{listen, listen_all};
+use crate::formulas::{listen, listen_all};
 use sig_base::{NoMemory, NodeId, Text};
 use sig_computed::RunNote;
 use sig_formula::{Formula, RowRef};

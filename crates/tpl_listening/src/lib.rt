@@ -3,10 +3,10 @@
 
 mod again;
 mod change;
-mod listening;
+mod formulas;
 mod outcomes;
 
 pub use again::{listen_again, listen_all_again};
 pub use change::Change;
-pub use listening::{listen, listen_all};
+pub use formulas::{listen, listen_all};
 pub use outcomes::{row_at, row_count, truth_of};

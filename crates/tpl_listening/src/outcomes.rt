@@ -1,6 +1,6 @@
 // What choices and loops take of an outcome.
 ghost use Rattle.std.specs.Prelude.{◌≡◌, ◌<◌, length, IfOk};
-ghost use Rattle.tpl_listening.specs.Makings.{table_in, truth_in};
+ghost use Rattle.tpl_listening.specs.Memos.{table_in, truth_in};
 
 use sig_base::{NoMemory, Outcome, Value};
 use sig_formula::RowRef;

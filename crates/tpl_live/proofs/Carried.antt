@@ -6,7 +6,7 @@ use Rattle.page_model.specs.Pages.{IsPage, NumberedPage, new_order, page_shape, 
 use Rattle.page_model.specs.Replay.{Done, Op, replay}
 use Rattle.page_model.proofs.Shared.{page_after, shape_after}
 use Rattle.tpl_listening.specs.Changes.{Change}
-use Rattle.tpl_marks.specs.Numbering.{noted_from}
+use Rattle.tpl_marks.specs.Addresses.{noted_from}
 use Rattle.tpl_model.specs.Lines.{Block}
 use Rattle.tpl_shapes.specs.Addresses.{address_of}
 use Rattle.tpl_shapes.specs.declared.shown.Address.{Address}

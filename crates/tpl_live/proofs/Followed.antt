@@ -7,10 +7,10 @@ use Rattle.page_model.specs.Forest.{Forest, none, node, keys, kids, numbered, on
 use Rattle.page_model.specs.Labels.{Kind, Look, shown}
 use Rattle.page_model.specs.Pages.{IsPage, IsShape, NumberedPage, SameOrigin, ascending_by, new_order, newcomers, number_of, page_shape, place_in, renumbered, those, tree_of}
 use Rattle.page_model.proofs.Shared.{kept_number, on_kids, or_left, or_right, page_after, self_on, shape_after, unused_number}
-use Rattle.tpl_comparing.specs.Comparing.{known_of}
+use Rattle.tpl_comparing.specs.Comparison.{known_of}
 use Rattle.tpl_found.proofs.Shared.{by_number_is, in_keys, listed_often, on_num, order_law}
 use Rattle.tpl_marks.specs.Marks.{Knows}
-use Rattle.tpl_marks.specs.Numbering.{if_there, noted_from}
+use Rattle.tpl_marks.specs.Addresses.{if_there, noted_from}
 use Rattle.tpl_shapes.specs.Addresses.{address_of, same_address}
 use Rattle.tpl_shapes.specs.declared.shown.Address.{Address}
 use Rattle.tpl_shapes.proofs.Shared.{same_number}

@@ -7,11 +7,11 @@ use Rattle.page_model.specs.Labels.{Kind, Root}
 use Rattle.page_model.specs.Replay.{Answer, Done, Op, Refused, do_op, replay, then_on}
 use Rattle.page_model.specs.Trees.{AreNodes, Brings}
 use Rattle.page_tree.specs.declared.sub.Sub.{Sub}
-use Rattle.page_tree.specs.Reading.{IsDone}
+use Rattle.page_tree.specs.Queries.{IsDone}
 use Rattle.page_tree.specs.Subs.{insertion, side_by_side, sub_tree}
 use Rattle.page_tree.proofs.Shared.{one_node}
 use Rattle.tpl_model.specs.Lines.{Block}
-use Rattle.tpl_scratch.specs.Making.{Numbered, with_nodes}
+use Rattle.tpl_scratch.specs.Pages.{Numbered, with_nodes}
 use Rattle.update_laws.specs.PageMemos.{PageMemo, nodes}
 use Rattle.tpl_live.specs.Pages.{AreInserted, Leads, below_in, inserts, shown_in}
 

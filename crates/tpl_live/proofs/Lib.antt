@@ -2,11 +2,11 @@ mod Inserted
 mod Mounted
 mod Sourced
 mod Numbered
-mod Mounting
-mod Sorting
+mod Mounts
+mod Orders
 mod LeftOut
 mod Matched
-mod Staying
+mod Survivors
 mod Operated
 mod Planned
 mod Followed
@@ -14,4 +14,4 @@ mod Carried
 mod Reheard
 mod Renewed
 mod Quiet
-mod Learning
+mod Outcomes

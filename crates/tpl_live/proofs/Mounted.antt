@@ -15,7 +15,7 @@ use Rattle.tpl_model.specs.Shapes.{shown_lines}
 use Rattle.tpl_model.specs.Sources.{evaluating, in_order}
 use Rattle.tpl_model.proofs.Shared.{scratch_law, shape_law}
 use Rattle.update_laws.specs.PageMemos.{PageMemo, nodes}
-use Rattle.update_laws.specs.Updating.{Keeps, Mounted, memo_on, memo_shape, next_page, shape_on}
+use Rattle.update_laws.specs.Updates.{Keeps, Mounted, memo_on, memo_shape, next_page, shape_on}
 use Rattle.update_laws.proofs.Shared.{in_both, mount_law, shape_shown}
 use Rattle.tpl_live.specs.Pages.{Standing, inserts, numbered_as, page_in, shape_in}
 

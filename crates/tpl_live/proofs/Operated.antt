@@ -10,18 +10,18 @@ use Rattle.page_model.specs.Replay.{Done, Op, OpAttr, OpInsert, OpMove, OpRemove
 use Rattle.page_model.specs.Texts.{AreWritable, IsWritable}
 use Rattle.page_model.specs.Trees.{Brings}
 use Rattle.page_model.proofs.Shared.{edits_writable}
-use Rattle.tpl_comparing.specs.Comparing.{Compared, Each, IsRestated, IsTouched, known_of, restated_in, touched_in}
+use Rattle.tpl_comparing.specs.Comparison.{Compared, Each, IsRestated, IsTouched, known_of, restated_in, touched_in}
 use Rattle.tpl_listening.specs.Changes.{Change}
-use Rattle.tpl_found.specs.Following.{children_moved, next_children}
+use Rattle.tpl_found.specs.Children.{children_moved, next_children}
 use Rattle.tpl_found.specs.Operations.{children_done, look_done, operations}
-use Rattle.tpl_found.specs.Reading.{gone_numbers}
-use Rattle.tpl_found.specs.Seeing.{Sees}
-use Rattle.tpl_found.specs.Telling.{told_on}
+use Rattle.tpl_found.specs.Lookups.{gone_numbers}
+use Rattle.tpl_found.specs.Marks.{Sees}
+use Rattle.tpl_found.specs.KeptNodes.{told_on}
 use Rattle.tpl_found.specs.Updates.{is_kept}
 use Rattle.tpl_found.proofs.Shared.{kept_law, marks_law, operations_law}
 use Rattle.tpl_looks.specs.Attributes.{mark_told}
 use Rattle.tpl_marks.specs.Marks.{Knows}
-use Rattle.tpl_marks.specs.Numbering.{among, coming_below}
+use Rattle.tpl_marks.specs.Addresses.{among, coming_below}
 use Rattle.tpl_model.specs.Lines.{Block}
 use Rattle.tpl_moves.specs.Moves.{AllFit, AllSound, moved_between, number_behind}
 use Rattle.tpl_shapes.specs.Shapes.{Marked}
@@ -31,8 +31,8 @@ use Rattle.tpl_live.specs.Pages.{lines_shape}
 use Rattle.tpl_live.specs.Plans.{AllBring, Compares, LeadOn, children_staying, moving, numbers_of, ops_towards}
 use Rattle.tpl_live.proofs.Matched.{all_come, all_fit, all_sound, kids_next}
 use Rattle.tpl_live.proofs.LeftOut.{covers_left, each_left, rising_left}
-use Rattle.tpl_live.proofs.Sorting.{Rising, address_in, moved_so, numbers_so, restated_marks, sees_so, stays_sorted, touched_marks}
-use Rattle.tpl_live.proofs.Staying.{gone_alike, staying_alike}
+use Rattle.tpl_live.proofs.Orders.{Rising, address_in, moved_so, numbers_so, restated_marks, sees_so, stays_sorted, touched_marks}
+use Rattle.tpl_live.proofs.Survivors.{gone_alike, staying_alike}
 
 moves_so : (p : NumberedPage) (shape : Forest Look) (ws : List ℕ) (ms : List Marked) → IsPage p → IsShape shape → Each (IsTouched p shape) ws ms →
     flat_map (children_done p shape) ws ≡ moved_between (tree_of p) (tree_of (renumbered p shape)) ms

@@ -9,11 +9,11 @@ use Rattle.page_model.specs.Labels.{Kind, Look}
 use Rattle.page_model.specs.Pages.{NumberedPage, new_order, renumbered, tree_of}
 use Rattle.page_model.specs.Replay.{Answer, Done, Op, OpRemove, Refused, do_op, replay, then_on}
 use Rattle.page_model.specs.Trees.{Brings}
-use Rattle.page_tree.specs.Reading.{IsDone}
+use Rattle.page_tree.specs.Queries.{IsDone}
 use Rattle.tpl_listening.specs.Changes.{Change}
-use Rattle.tpl_found.specs.Reading.{gone_numbers}
+use Rattle.tpl_found.specs.Lookups.{gone_numbers}
 use Rattle.tpl_looks.specs.Attributes.{mark_told}
-use Rattle.tpl_marks.specs.Numbering.{coming_below}
+use Rattle.tpl_marks.specs.Addresses.{coming_below}
 use Rattle.tpl_model.specs.Lines.{Block}
 use Rattle.tpl_moves.specs.Moves.{AllFit, moved_between, number_behind}
 use Rattle.tpl_shapes.specs.Addresses.{address_of}
@@ -26,7 +26,7 @@ use Rattle.tpl_live.specs.Plans.{AllBring, Compares, LeadOn, children_staying, n
 use Rattle.tpl_live.proofs.Inserted.{first_done}
 use Rattle.tpl_live.proofs.Numbered.{many_mapped}
 use Rattle.tpl_live.proofs.Operated.{Operate, lead_on}
-use Rattle.tpl_live.proofs.Sorting.{Rising, rising}
+use Rattle.tpl_live.proofs.Orders.{Rising, rising}
 
 -- ---- the list of operations
 

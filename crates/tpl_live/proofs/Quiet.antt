@@ -4,18 +4,18 @@ use Rattle.std.specs.List.{flat_map}
 use Rattle.std.proofs.lemmas.Bool.{cases_Bool}
 use Rattle.signal_model.specs.Recipes.{Hosts}
 use Rattle.signal_model.specs.Kept.{AreKept}
-use Rattle.signal_model.specs.Standing.{Signals}
+use Rattle.signal_model.specs.Signals.{Signals}
 use Rattle.page_model.specs.Forest.{Forest, kids, label_in, node, none, on, tally}
 use Rattle.page_model.specs.Labels.{Look, Root}
 use Rattle.page_model.specs.Pages.{IsPage, NumberedPage, by_number, carried, edits_between, looks, new_order, newcomers, number_of, page_shape, renumbered, with_numbers}
 use Rattle.page_model.proofs.Shared.{edits_none, on_kids, on_tally}
 use Rattle.tpl_model.specs.Lines.{Line}
 use Rattle.tpl_model.specs.Sources.{template_shape}
-use Rattle.update_laws.specs.Updating.{memo_on, memo_shape}
+use Rattle.update_laws.specs.Updates.{memo_on, memo_shape}
 use Rattle.update_laws.proofs.Shared.{number_law, shape_shown}
-use Rattle.tpl_hearing.specs.Hearing.{AreFromScratch, Hears, Outcomes, Scene}
+use Rattle.tpl_hearing.specs.Heard.{AreFromScratch, Hears, Outcomes, Scene}
 use Rattle.tpl_hearing.proofs.Shared.{heard_scratch}
-use Rattle.tpl_listening.specs.Makings.{Makes, lines_memo}
+use Rattle.tpl_listening.specs.Memos.{Makes, lines_memo}
 use Rattle.tpl_live.specs.Pages.{Standing, Stands, outcome_in, page_in}
 use Rattle.tpl_live.proofs.Numbered.{tally_looks}
 use Rattle.tpl_live.proofs.Renewed.{IsCarried}

@@ -8,12 +8,12 @@ use Rattle.std.specs.List.{take-map}
 use Rattle.std.specs.Prelude.{IfSome}
 use Rattle.sig_base.specs.declared.value.Outcome.{Outcome}
 use Rattle.signal_model.specs.Recipes.{Hosts}
-use Rattle.signal_model.specs.Standing.{is_in}
+use Rattle.signal_model.specs.Signals.{is_in}
 use Rattle.signal_laws.proofs.Shared.{firsts_hold_law, in_head, in_tail}
 use Rattle.tpl_model.specs.Sources.{firsts}
-use Rattle.tpl_hearing.specs.Hearing.{Grows, Hears, Outcomes, Scene, heard_of}
+use Rattle.tpl_hearing.specs.Heard.{Grows, Hears, Outcomes, Scene, heard_of}
 use Rattle.tpl_hearing.specs.HeardAgain.{AreAsBefore, AreCompared, AreSame, AreSameUpTo, IsFront, heard_by}
-use Rattle.tpl_hearing.specs.declared.rehearing.Rehearing.{Rehearing}
+use Rattle.tpl_hearing.specs.declared.comparisons.Rehearing.{Rehearing}
 use Rattle.tpl_hearing.proofs.Shared.{keys_append, still_heard}
 use Rattle.tpl_live.proofs.Sourced.{firsts_are, names_read}
 

@@ -7,17 +7,17 @@ use Rattle.sig_base.specs.declared.value.Outcome.TheVariants.{Bad}
 use Rattle.sig_base.specs.declared.value.Fault.TheVariants.{Gone}
 use Rattle.signal_model.specs.Recipes.{Hosts}
 use Rattle.signal_model.specs.Kept.{AreKept}
-use Rattle.signal_model.specs.Standing.{Signals, is_in}
+use Rattle.signal_model.specs.Signals.{Signals, is_in}
 use Rattle.page_model.specs.Forest.{Forest, node, none}
 use Rattle.page_model.specs.Labels.{Kind, Root, Sound}
 use Rattle.page_model.specs.Pages.{IsShape, SameOrigin, carried, edits_between, page_shape, renumbered, tree_of, with_numbers}
 use Rattle.page_model.specs.Replay.{Op}
 use Rattle.tpl_found.specs.Updates.{Updates}
 use Rattle.tpl_found.proofs.Shared.{update_law}
-use Rattle.tpl_hearing.specs.Hearing.{AreFromScratch, Grows, HaveRows, Hears, Outcomes, Scene}
+use Rattle.tpl_hearing.specs.Heard.{AreFromScratch, Grows, HaveRows, Hears, Outcomes, Scene}
 use Rattle.tpl_hearing.specs.HeardAgain.{IsFront}
 use Rattle.tpl_hearing.proofs.Shared.{heard_scratch}
-use Rattle.tpl_listening.specs.Makings.{Agrees, Makes, lines_memo}
+use Rattle.tpl_listening.specs.Memos.{Agrees, Makes, lines_memo}
 use Rattle.tpl_listening.specs.Renewals.{WasMade, WasMadeIfRead}
 use Rattle.tpl_listening.proofs.Shared.{remade, stayed}
 use Rattle.tpl_model.specs.Lines.{Block, Line, block_of}
@@ -26,16 +26,16 @@ use Rattle.tpl_model.specs.Sources.{evaluating, firsts}
 use Rattle.tpl_model.specs.Updates.{updated}
 use Rattle.tpl_model.proofs.Shared.{origin_law, shape_law}
 use Rattle.update_laws.specs.PageMemos.{PageMemo, hearing, memo_of, names, nodes}
-use Rattle.update_laws.specs.Updating.{Keeps, memo_on, memo_shape, shape_on}
+use Rattle.update_laws.specs.Updates.{Keeps, memo_on, memo_shape, shape_on}
 use Rattle.update_laws.proofs.Shared.{shape_shown, source_law}
 use Rattle.tpl_live.specs.Pages.{AreKnown, Standing, Stands, lines_shape, numbered_as, outcome_in, page_in}
 use Rattle.tpl_live.specs.Plans.{Carries, Compares}
-use Rattle.tpl_comparing.specs.Comparing.{Compared, known_of, restated_in, touched_in}
-use Rattle.tpl_comparing.proofs.SharedComparing.{compare_law}
+use Rattle.tpl_comparing.specs.Comparison.{Compared, known_of, restated_in, touched_in}
+use Rattle.tpl_comparing.proofs.SharedComparison.{compare_law}
 use Rattle.tpl_listening.specs.Changes.{Change, Tells}
 use Rattle.tpl_shapes.specs.declared.shown.Address.{Address}
 use Rattle.tpl_live.proofs.Mounted.{numbers_back}
-use Rattle.tpl_live.proofs.Mounting.{AreMade, are_made}
+use Rattle.tpl_live.proofs.Mounts.{AreMade, are_made}
 use Rattle.tpl_live.proofs.Reheard.{all_same, heard_so, reads_in, same_up_to}
 use Rattle.tpl_live.proofs.Sourced.{heard_agrees, made_right, names_heard}
 

@@ -7,11 +7,11 @@ use Rattle.sig_base.specs.declared.value.Outcome.{Outcome}
 use Rattle.sig_base.specs.declared.value.Outcome.TheVariants.{Bad}
 use Rattle.sig_base.specs.declared.value.Fault.TheVariants.{Gone}
 use Rattle.signal_model.specs.Recipes.{Hosts}
-use Rattle.signal_model.specs.Standing.{Signals, is_in}
+use Rattle.signal_model.specs.Signals.{Signals, is_in}
 use Rattle.signal_model.specs.Values.{value_of}
 use Rattle.signal_model.specs.Kept.{AreKept}
 use Rattle.signal_model.specs.Memos.{Memos}
-use Rattle.signal_laws.specs.ReadingLaws.{firsts_after}
+use Rattle.signal_laws.specs.ReadLaws.{firsts_after}
 use Rattle.signal_laws.proofs.Shared.{firsts_hold_law, in_append}
 use Rattle.sig_computed.specs.Asked.{IsAsking}
 use Rattle.sig_computed.specs.Costs.{step_bound}
@@ -19,11 +19,11 @@ use Rattle.sig_computed.specs.Notes.{IsSettling}
 use Rattle.tpl_model.specs.Lines.{Block, Line, block_of}
 use Rattle.tpl_model.specs.Sources.{evaluating, firsts, template_asked, template_shape}
 use Rattle.update_laws.specs.PageMemos.{PageMemo, names}
-use Rattle.update_laws.specs.Updating.{memo_on, memo_shape, reads_on, shape_on}
+use Rattle.update_laws.specs.Updates.{memo_on, memo_shape, reads_on, shape_on}
 use Rattle.update_laws.proofs.Shared.{shape_shown, source_law, shows}
-use Rattle.tpl_hearing.specs.Hearing.{AreFromScratch, Hears, Outcomes, Scene, Settles, heard_of}
+use Rattle.tpl_hearing.specs.Heard.{AreFromScratch, Hears, Outcomes, Scene, Settles, heard_of}
 use Rattle.tpl_hearing.proofs.Shared.{heard_scratch}
-use Rattle.tpl_listening.specs.Makings.{Agrees, Makes, lines_memo}
+use Rattle.tpl_listening.specs.Memos.{Agrees, Makes, lines_memo}
 use Rattle.tpl_live.specs.Pages.{outcome_in}
 
 -- ---- names in order

@@ -1,3 +1,3 @@
 pub mod Pages
 pub mod Plans
-pub mod Standings
+pub mod Contents

@@ -8,9 +8,9 @@ use Rattle.page_model.specs.Labels.{Kind, Look, Sound}
 use Rattle.page_model.specs.Pages.{IsPage, IsShape, NumberedPage, SameOrigin, edits_between, page_shape, renumbered, tree_of}
 use Rattle.page_model.specs.Replay.{Done, Op, OpRemove, replay}
 use Rattle.page_model.specs.Trees.{Brings}
-use Rattle.tpl_comparing.specs.Comparing.{Compared, known_of, restated_in, touched_in}
+use Rattle.tpl_comparing.specs.Comparison.{Compared, known_of, restated_in, touched_in}
 use Rattle.tpl_listening.specs.Changes.{Change}
-use Rattle.tpl_found.specs.Reading.{gone_numbers}
+use Rattle.tpl_found.specs.Lookups.{gone_numbers}
 use Rattle.tpl_looks.specs.Attributes.{mark_told}
 use Rattle.tpl_model.specs.Lines.{Block}
 use Rattle.tpl_moves.specs.Moves.{moved_between}

@@ -12,9 +12,9 @@ ghost use Rattle.tpl_model.specs.Lines.{Line};
 ghost use Rattle.tpl_model.specs.Sources.{template_asked};
 ghost use Rattle.tpl_model.specs.Updates.{updated};
 ghost use Rattle.tpl_blocks.specs.Blocks.{lines_of};
-ghost use Rattle.tpl_hearing.specs.Hearing.{scene, Settles};
+ghost use Rattle.tpl_hearing.specs.Heard.{scene, Settles};
 ghost use Rattle.tpl_live.specs.Pages.{page_in, IsStanding, Stands};
-ghost use Rattle.tpl_live.specs.Standings.{standing};
+ghost use Rattle.tpl_live.specs.Contents.{standing};
 
 use crate::first::{First, first_tree};
 use crate::plan::{carry, numbers_of};

@@ -6,10 +6,10 @@ ghost use Rattle.page_model.specs.Pages.{NumberedPage, IsPage, new_order, page_s
 ghost use Rattle.page_model.specs.Replay.{do_op, replay, Done};
 ghost use Rattle.page_model.specs.Trees.{Brings};
 ghost use Rattle.page_ops.specs.Ops.{op_of};
-ghost use Rattle.page_tree.specs.Reading.{IsDone};
+ghost use Rattle.page_tree.specs.Queries.{IsDone};
 ghost use Rattle.tpl_blocks.specs.Blocks.{block};
 ghost use Rattle.tpl_listening.specs.Changes.{changed};
-ghost use Rattle.tpl_marks.specs.Numbering.{coming_below, noted_from, number_at};
+ghost use Rattle.tpl_marks.specs.Addresses.{coming_below, noted_from, number_at};
 ghost use Rattle.tpl_memos.specs.Kept.{kept};
 ghost use Rattle.tpl_moves.specs.Moves.{AllFit, AllSound, number_behind};
 ghost use Rattle.tpl_shapes.specs.Addresses.{address_of};

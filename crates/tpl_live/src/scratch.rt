@@ -10,7 +10,7 @@ ghost use Rattle.tpl_model.specs.Laws.{IsTemplate};
 ghost use Rattle.tpl_model.specs.Sources.{template_asked};
 ghost use Rattle.tpl_model.specs.Updates.{updated};
 ghost use Rattle.tpl_blocks.specs.Blocks.{lines_of};
-ghost use Rattle.tpl_hearing.specs.Hearing.{scene, Settles};
+ghost use Rattle.tpl_hearing.specs.Heard.{scene, Settles};
 
 use crate::first::tree_below;
 use page_tree::Tree;

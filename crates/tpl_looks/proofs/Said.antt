@@ -9,9 +9,9 @@ use Rattle.page_model.specs.Labels.{Root, Text, Element, Kind}
 use Rattle.page_model.specs.Replay.{Op, OpAttr, OpText, OpUnattr}
 use Rattle.page_ops.specs.Ops.{op_of}
 use Rattle.page_ops.specs.declared.op.Op as held
-use Rattle.page_tree.specs.Reading.{attribute_count, attribute_value, text_in, value_named}
+use Rattle.page_tree.specs.Queries.{attribute_count, attribute_value, text_in, value_named}
 use Rattle.page_tree.specs.Rows.{attributes_of}
-use Rattle.tpl_found.specs.Telling.{attributes_told, told_on}
+use Rattle.tpl_found.specs.KeptNodes.{attributes_told, told_on}
 use Rattle.tpl_looks.specs.Attributes.{set_edits, unset_edits}
 
 -- one operation behind others

@@ -4,7 +4,7 @@ use Rattle.page_model.specs.Edits.{same_value}
 use Rattle.page_model.specs.Forest.{Forest, label_in}
 use Rattle.page_model.specs.Labels.{Root, Kind}
 use Rattle.page_model.specs.Replay.{Op, OpAttr, OpUnattr}
-use Rattle.tpl_found.specs.Telling.{told_on}
+use Rattle.tpl_found.specs.KeptNodes.{told_on}
 use Rattle.tpl_shapes.specs.Shapes.{Marked}
 
 -- an absent one is taken out where the tree has it

@@ -8,8 +8,8 @@ ghost use Rattle.page_model.specs.Labels as label;
 ghost use Rattle.page_model.specs.Labels.{Root};
 ghost use Rattle.page_model.specs.Replay as replay;
 ghost use Rattle.page_ops.specs.Ops.{op_of};
-ghost use Rattle.page_tree.specs.Reading.{attribute_value};
-ghost use Rattle.tpl_found.specs.Telling.{told_on};
+ghost use Rattle.page_tree.specs.Queries.{attribute_value};
+ghost use Rattle.tpl_found.specs.KeptNodes.{told_on};
 ghost use Rattle.tpl_looks.specs.Attributes.{mark_told, set_edits, unset_edits};
 ghost use Rattle.tpl_shapes.specs.Shapes.{look_of, mark_of};
 

@@ -1,2 +1,2 @@
-mod Closing
+mod Memos
 pub mod Shared

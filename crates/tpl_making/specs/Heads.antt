@@ -4,11 +4,11 @@ use Rattle.std.specs.Option.{unwrap_or}
 use Rattle.sig_base.specs.Tables.{Table}
 use Rattle.sig_formula.specs.declared.formula.RowRef.{RowRef}
 use Rattle.tpl_model.specs.Lines.{Block, empty, text, tag, choice, each, attempt}
-use Rattle.tpl_hearing.specs.Hearing.{Grows, Outcomes}
+use Rattle.tpl_hearing.specs.Heard.{Grows, Outcomes}
 use Rattle.tpl_memos.specs.Kept.{heard_of, rows_of}
 use Rattle.tpl_memos.specs.declared.memo.Heard.{Heard}
 use Rattle.update_laws.specs.PageMemos.{PageMemo, blank, line, element, branch, loop}
-use Rattle.tpl_listening.specs.Makings.{Listens, ListensAll, Makes, lines_memo, table_in, truth_in}
+use Rattle.tpl_listening.specs.Memos.{Listens, ListensAll, Makes, lines_memo, table_in, truth_in}
 use Rattle.tpl_making.specs.declared.head.Head.{Head}
 use Rattle.tpl_making.specs.declared.head.Head.TheVariants as head
 

@@ -3,7 +3,7 @@ ghost use Rattle.std.specs.Prelude.{◌≡◌, ◌<◌, [], ◌∷◌, ◌++◌,
 ghost use Rattle.std.specs.Option.{option_copied};
 ghost use Rattle.tpl_blocks.specs.Blocks.{block};
 ghost use Rattle.tpl_memos.specs.Kept.{kept};
-ghost use Rattle.tpl_listening.specs.Makings.{table_in};
+ghost use Rattle.tpl_listening.specs.Memos.{table_in};
 ghost use Rattle.tpl_making.specs.Heads.{behind, closed, inner_in, last_of, places_from, places_in, rest_in, shows_first, IsRow};
 
 use sig_base::{NoMemory, Outcome};

@@ -1,5 +1,5 @@
-mod Arriving
+mod Children
 mod Lists
-mod Noting
+mod Addresses
 pub mod Shared
-mod Standing
+mod Marks

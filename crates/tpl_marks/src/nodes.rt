@@ -1,6 +1,6 @@
 // The nodes of a page that stands.
 ghost use Rattle.std.specs.Prelude.{◌≡◌};
-ghost use Rattle.tpl_marks.specs.Numbering.{number_on};
+ghost use Rattle.tpl_marks.specs.Addresses.{number_on};
 
 use crate::numbers::Numbers;
 use page_tree::Tree;

@@ -7,7 +7,7 @@ ghost use Rattle.page_model.specs.Pages.{by_number};
 ghost use Rattle.tpl_shapes.specs.Addresses.{address_of, same_address};
 ghost use Rattle.tpl_shapes.specs.Shapes.{all_shown, shown_tree};
 ghost use Rattle.tpl_shapes.specs.declared.shown.Address.{Address as AnAddress};
-ghost use Rattle.tpl_marks.specs.Numbering.{noted_from, number_at, number_in, AreNumbersOf};
+ghost use Rattle.tpl_marks.specs.Addresses.{noted_from, number_at, number_in, AreNumbersOf};
 
 use indexmap::IndexMap;
 use sig_base::NoMemory;

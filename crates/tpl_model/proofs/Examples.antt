@@ -37,8 +37,8 @@ abbrev on : List ℕ → List Outcome → Evaluating
 on links outcomes = evaluating links (among outcomes)
 
 -- the page after a page, where the names of its template have these outcomes
-abbrev carried_to : List Line → List ℕ → NumberedPage → List Outcome → NumberedPage
-carried_to lines links p outcomes = renumbered p (shape_of (on links outcomes) lines)
+abbrev updated_page : List Line → List ℕ → NumberedPage → List Outcome → NumberedPage
+updated_page lines links p outcomes = renumbered p (shape_of (on links outcomes) lines)
 
 -- ---- a branch, and an element with an attribute
 
@@ -62,7 +62,7 @@ form_untold : shape_of (on (0 ∷ 1 ∷ []) (Bad Zero ∷ said (codes "1") ∷ [
 form_untold = refl
 
 abbrev form_first : NumberedPage
-form_first = carried_to form_lines (0 ∷ 1 ∷ []) bare (truths true true)
+form_first = updated_page form_lines (0 ∷ 1 ∷ []) bare (truths true true)
 
 form_mounted : edits_between bare form_first
     ≡ OpInsert 0 0 1 (Text (codes "yes")) none ∷ OpInsert 0 1 2 (Element (codes "input") ((codes "disabled", []) ∷ [])) none ∷ []
@@ -70,13 +70,13 @@ unfolding address
 form_mounted = refl
 
 -- an attribute that isn't true any more goes
-form_flushed : edits_between form_first (carried_to form_lines (0 ∷ 1 ∷ []) form_first (truths true false)) ≡ OpUnattr 2
+form_flushed : edits_between form_first (updated_page form_lines (0 ∷ 1 ∷ []) form_first (truths true false)) ≡ OpUnattr 2
     (codes "disabled") ∷ []
 unfolding address
 form_flushed = refl
 
 -- the other branch comes under a new number
-form_turned : edits_between form_first (carried_to form_lines (0 ∷ 1 ∷ []) form_first (truths false true))
+form_turned : edits_between form_first (updated_page form_lines (0 ∷ 1 ∷ []) form_first (truths false true))
     ≡ OpRemove 1 ∷ OpInsert 0 0 3 (Text (codes "no")) none ∷ []
 unfolding address
 form_turned = refl
@@ -130,10 +130,10 @@ list_shape : shape_of (on (0 ∷ []) (rows (row (codes "a") (codes "x") ∷ row 
 list_shape = refl
 
 abbrev list_first : NumberedPage
-list_first = carried_to list_lines (0 ∷ []) bare (rows (row (codes "a") (codes "x") ∷ row (codes "b") (codes "y") ∷ []))
+list_first = updated_page list_lines (0 ∷ []) bare (rows (row (codes "a") (codes "x") ∷ row (codes "b") (codes "y") ∷ []))
 
 -- rows are told apart by their keys: those that change places move, and a field that differs is a text that differs
-list_moved : edits_between list_first (carried_to list_lines (0 ∷ []) list_first (rows (row (codes "b") (codes "y") ∷ row (codes "a")
+list_moved : edits_between list_first (updated_page list_lines (0 ∷ []) list_first (rows (row (codes "b") (codes "y") ∷ row (codes "a")
     (codes "z") ∷ [])))
     ≡ OpMove 4 0 ∷ OpText 3 (codes "z") ∷ []
 unfolding address
@@ -145,10 +145,10 @@ abbrev tried_lines : List Line
 tried_lines = TryLine ∷ TagLine (codes "p") ∷ TextLine (slot 0) ∷ EndLine ∷ ElseLine ∷ TextLine (words (codes "none")) ∷ EndLine ∷ []
 
 abbrev tried_first : NumberedPage
-tried_first = carried_to tried_lines (0 ∷ []) bare (Bad Zero ∷ [])
+tried_first = updated_page tried_lines (0 ∷ []) bare (Bad Zero ∷ [])
 
 abbrev tried_second : NumberedPage
-tried_second = carried_to tried_lines (0 ∷ []) tried_first (said (codes "2") ∷ [])
+tried_second = updated_page tried_lines (0 ∷ []) tried_first (said (codes "2") ∷ [])
 
 -- a fault leaves the second part alone
 tried_mounted : edits_between bare tried_first ≡ OpInsert 0 0 1 (Text (codes "none")) none ∷ []

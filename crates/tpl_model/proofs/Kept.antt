@@ -13,7 +13,7 @@ use Rattle.page_model.specs.Addresses.{address}
 use Rattle.page_model.specs.Forest.{Forest, none, node, after}
 use Rattle.page_model.specs.Labels.{Text, Element, Look, Distinct, GoodLabel, GoodNames, named}
 use Rattle.tpl_model.specs.Lines.{Block, empty, text, tag, choice, each, attempt}
-use Rattle.tpl_model.specs.Shapes.{Evaluating, Here, key_here, row_here, Showing, told, then_shown, within, chosen, rows_from, each_row}
+use Rattle.tpl_model.specs.Shapes.{Evaluating, Here, key_here, row_here, Showing, formula_shown, then_shown, within, chosen, rows_from, each_row}
 use Rattle.tpl_model.specs.Shapes.{attempted, attributes_of, attributes_told, node_text, shown_block}
 use Rattle.tpl_model.specs.Laws.{Fits}
 
@@ -52,7 +52,7 @@ good_of evaluate row (a ∷ xs) h = (h.0, good_of evaluate row xs h.1)
 pub attributes_none : (ends : Bool) (evaluate : Evaluating) (row : Option RowRef) (xs : List (List ℕ × Tree)) →
     (attributes_told ends evaluate row xs).nodes ≡ none
 attributes_none ends evaluate row [] = refl
-attributes_none ends evaluate row (a ∷ xs) = then_has (λ t. t ≡ none) ends (told (evaluate row a.1) none)
+attributes_none ends evaluate row (a ∷ xs) = then_has (λ t. t ≡ none) ends (formula_shown (evaluate row a.1) none)
     (attributes_told ends evaluate row xs) refl (attributes_none ends evaluate row xs)
 
 -- what is inside an element: the attributes show no nodes
@@ -99,7 +99,7 @@ shown_has P C c evaluate (text n t rest) ends here d in_row f h g =
     let e = evaluate (row_here here) t in
     let later = shown_has P C c evaluate rest ends here d in_row f h g in
     let own = c.leaf d n (key_here here) _ h in
-    then_has (P d) ends (told e (node (address n (key_here here)) (Text (node_text e.outcome)) none none))
+    then_has (P d) ends (formula_shown e (node (address n (key_here here)) (Text (node_text e.outcome)) none none))
     (shown_block evaluate ends here rest) (c.nil d) (c.join d _ _ own later)
 shown_has P C c evaluate (tag n name xs inner rest) ends here zero in_row f h g = absurd f
 shown_has P C c evaluate (tag n name xs inner rest) ends here (suc d) in_row f h g =
@@ -117,12 +117,12 @@ shown_has P C c evaluate (tag n name xs inner rest) ends here (suc d) in_row f h
 shown_has P C c evaluate (choice t one other rest) ends here zero in_row f h g = absurd f
 shown_has P C c evaluate (choice t one other rest) ends here (suc d) in_row f h g =
     let e = evaluate (row_here here) t in
-    let own = inside_has (P (suc d)) ends (told e none) (chosen e.outcome (shown_block evaluate ends here one)
+    let own = inside_has (P (suc d)) ends (formula_shown e none) (chosen e.outcome (shown_block evaluate ends here one)
     (shown_block evaluate ends here other)) refl (c.nil (suc d))
     (c.more d _ (chosen_has (P d) (c.nil d) e.outcome (shown_block evaluate ends here one) (shown_block evaluate ends here other)
     (shown_has P C c evaluate one ends here d in_row f.0 h g) (shown_has P C c evaluate other ends here d in_row f.1 h g))) in
     let later = shown_has P C c evaluate rest ends here (suc d) in_row f.2 h g in
-    then_has (P (suc d)) ends (then_shown ends (told e none) (chosen e.outcome (shown_block evaluate ends here one)
+    then_has (P (suc d)) ends (then_shown ends (formula_shown e none) (chosen e.outcome (shown_block evaluate ends here one)
     (shown_block evaluate ends here other))) (shown_block evaluate ends here rest) (c.nil (suc d)) (c.join (suc d) _ _ own later)
 shown_has P C c evaluate (each t inner rest) ends here zero in_row f h g = absurd f
 shown_has P C c evaluate (each t inner rest) ends here (suc d) in_row f h g =
@@ -130,10 +130,10 @@ shown_has P C c evaluate (each t inner rest) ends here (suc d) in_row f h g =
     let go : Here → Showing = λ r. shown_block evaluate ends (Some r) inner in
     let one : (r : Here) → P d (go r).nodes = λ r. shown_has P C c evaluate inner ends (Some r) d true f.1 (g f.0 r.key) (λ q. absurd
     (false≢true (sym q))) in
-    let own = inside_has (P (suc d)) ends (told e none) (each_row ends go e.outcome) refl (c.nil (suc d)) (c.more d _ (each_has (P d)
+    let own = inside_has (P (suc d)) ends (formula_shown e none) (each_row ends go e.outcome) refl (c.nil (suc d)) (c.more d _ (each_has (P d)
     (c.nil d) (c.join d) ends go one e.outcome)) in
     let later = shown_has P C c evaluate rest ends here (suc d) in_row f.2 h g in
-    then_has (P (suc d)) ends (then_shown ends (told e none) (each_row ends go e.outcome)) (shown_block evaluate ends here rest) (c.nil
+    then_has (P (suc d)) ends (then_shown ends (formula_shown e none) (each_row ends go e.outcome)) (shown_block evaluate ends here rest) (c.nil
     (suc d)) (c.join (suc d) _ _ own later)
 shown_has P C c evaluate (attempt first second rest) ends here zero in_row f h g = absurd f
 shown_has P C c evaluate (attempt first second rest) ends here (suc d) in_row f h g =

@@ -9,5 +9,5 @@ mod Evaluated
 mod Sized
 mod Rows
 mod Alike
-mod Agreeing
+mod Dependence
 pub mod Shared

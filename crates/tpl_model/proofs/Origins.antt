@@ -9,7 +9,7 @@ use Rattle.page_model.specs.Forest.{Forest, none, node, after, has, on, parent, 
 use Rattle.page_model.specs.Labels.{Root, Text, Element, Look, SameNames, Alike}
 use Rattle.page_model.proofs.Shared.{one_address, address_above}
 use Rattle.tpl_model.specs.Lines.{Block, empty, text, tag, choice, each, attempt, block_of}
-use Rattle.tpl_model.specs.Shapes.{Evaluating, Here, key_here, row_here, Showing, told, then_shown, within, chosen, each_row, attempted}
+use Rattle.tpl_model.specs.Shapes.{Evaluating, Here, key_here, row_here, Showing, formula_shown, then_shown, within, chosen, each_row, attempted}
 use Rattle.tpl_model.specs.Shapes.{node_text, attributes_of, attributes_told, shown_block, shown_lines}
 use Rattle.tpl_model.specs.Laws.{Fits, OriginLaw}
 use Rattle.tpl_model.proofs.Kept.{then_has, attributes_none, inside_has, each_has, chosen_has, attempted_has}
@@ -102,7 +102,7 @@ given evaluate (text n t rest) ends here q =
     ) in
     let later = each_map (From rest c q) R (widened rest (text n t rest) c c q q (λ l k p x g. inr g)) q
     (shown_block evaluate ends here rest).nodes (given evaluate rest ends here q) in
-    then_has (Each R q) ends (told e (node (address n c) (Text (node_text e.outcome)) none none))
+    then_has (Each R q) ends (formula_shown e (node (address n c) (Text (node_text e.outcome)) none none))
     (shown_block evaluate ends here rest) tt (each_after R q (node (address n c) (Text (node_text e.outcome)) none none)
     (shown_block evaluate ends here rest).nodes own later)
 given evaluate (tag n name xs inner rest) ends here q =
@@ -146,12 +146,12 @@ given evaluate (choice t one' other rest) ends here q =
     (given evaluate one' ends here q) in
     let y = each_map (From other c q) R (widened other b c c q q (λ l k p x g. inr (inl g))) q
     (shown_block evaluate ends here other).nodes (given evaluate other ends here q) in
-    let own = inside_has (Each R q) ends (told e none) (chosen e.outcome (shown_block evaluate ends here one')
+    let own = inside_has (Each R q) ends (formula_shown e none) (chosen e.outcome (shown_block evaluate ends here one')
     (shown_block evaluate ends here other)) refl tt
     (chosen_has (Each R q) tt e.outcome (shown_block evaluate ends here one') (shown_block evaluate ends here other) x y) in
     let later = each_map (From rest c q) R (widened rest b c c q q (λ l k p x g. inr (inr g))) q
     (shown_block evaluate ends here rest).nodes (given evaluate rest ends here q) in
-    let first = then_shown ends (told e none) (chosen e.outcome (shown_block evaluate ends here one')
+    let first = then_shown ends (formula_shown e none) (chosen e.outcome (shown_block evaluate ends here one')
     (shown_block evaluate ends here other)) in
     then_has (Each R q) ends first (shown_block evaluate ends here rest) tt (each_after R q first.nodes
     (shown_block evaluate ends here rest).nodes own later)
@@ -164,11 +164,11 @@ given evaluate (each t inner rest) ends here q =
     let one' : (r : Here) → Each R q (go r).nodes = λ r.
     each_map (From inner (Some r.key) q) R (widened inner b (Some r.key) c q q (λ l k p x g. inl (r.key, g))) q (go r).nodes
     (given evaluate inner ends (Some r) q) in
-    let own = inside_has (Each R q) ends (told e none) (each_row ends go e.outcome) refl tt (each_has (Each R q) tt
+    let own = inside_has (Each R q) ends (formula_shown e none) (each_row ends go e.outcome) refl tt (each_has (Each R q) tt
     (each_after R q) ends go one' e.outcome) in
     let later = each_map (From rest c q) R (widened rest b c c q q (λ l k p x g. inr g)) q (shown_block evaluate ends here rest).nodes
     (given evaluate rest ends here q) in
-    let first = then_shown ends (told e none) (each_row ends go e.outcome) in
+    let first = then_shown ends (formula_shown e none) (each_row ends go e.outcome) in
     then_has (Each R q) ends first (shown_block evaluate ends here rest) tt (each_after R q first.nodes
     (shown_block evaluate ends here rest).nodes own later)
 given evaluate (attempt one' other rest) ends here q =

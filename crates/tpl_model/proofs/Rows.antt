@@ -23,15 +23,15 @@ use Rattle.sig_formula.specs.declared.formula.BinOp.TheVariants as op
 use Rattle.sig_formula.specs.declared.formula.RowRef.{RowRef}
 use Rattle.sig_formula.specs.Trees.{Tree, literal, slot, row_field, row_key, negation, binary, choice, count_of, sum_of, rows_where}
 use Rattle.sig_formula.specs.Trees.{untracked}
-use Rattle.sig_formula.specs.Answering.{answer_of, calculated, calculation, chosen, compared, count_outcome, decided, equality}
-use Rattle.sig_formula.specs.Answering.{field_outcome}
-use Rattle.sig_formula.specs.Answering.{fits_i64, formula_step, joined, kept_from, key_outcome, known_at, negated, number_outcome}
-use Rattle.sig_formula.specs.Answering.{operated, order}
-use Rattle.sig_formula.specs.Answering.{plain_step, present, row_at, served, slot_step, sum_from, text_outcome, truth, unless_decided}
-use Rattle.sig_formula.specs.Answering.{with_rows, with_truth, with_value}
+use Rattle.sig_formula.specs.Evaluation.{answer_of, calculated, calculation, chosen, compared, count_outcome, decided, equality}
+use Rattle.sig_formula.specs.Evaluation.{field_outcome}
+use Rattle.sig_formula.specs.Evaluation.{fits_i64, formula_step, joined_texts, kept_from, key_outcome, known_at, negated, number_outcome}
+use Rattle.sig_formula.specs.Evaluation.{operated, order}
+use Rattle.sig_formula.specs.Evaluation.{plain_step, present, row_at, served, slot_step, sum_from, text_outcome, truth, unless_decided}
+use Rattle.sig_formula.specs.Evaluation.{with_rows, with_truth, with_value}
 use Rattle.signal_model.specs.Recipes.{Recipe, no_hosts, formula}
 use Rattle.signal_model.specs.Values.{unknown_slots}
-use Rattle.sig_host.specs.Lending.{AreGood, IsGood, IsGoodOutcome, IsGoodStep, IsLending}
+use Rattle.sig_host.specs.Loans.{AreGood, IsGood, IsGoodOutcome, IsGoodStep, IsLending}
 use Rattle.sig_host.proofs.Shared.{asked_good}
 use Rattle.tpl_model.specs.Laws.{RowsLaw}
 
@@ -116,7 +116,7 @@ compared_good (Some b) = tt
 text_good : (t : List ℕ) → IsGoodOutcome (text_outcome t)
 text_good t = elim (cases_Bool (nat_le (length t) MOST_TEXT)) [ inl e ↦ rw e tt | inr e ↦ rw e tt ]
 
-joined_good : (a b : Option (List ℕ)) → IsGoodOutcome (joined a b)
+joined_good : (a b : Option (List ℕ)) → IsGoodOutcome (joined_texts a b)
 joined_good None b = tt
 joined_good (Some s) None = tt
 joined_good (Some s) (Some t) = text_good (s ++ t)

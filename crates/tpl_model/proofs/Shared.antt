@@ -1,6 +1,6 @@
 -- What crates above may cite of these proofs: laws of templates. All else in this folder is this crate's own.
 
-pub use Rattle.tpl_model.proofs.Agreeing.{formula_agree, shown_agree}
+pub use Rattle.tpl_model.proofs.Dependence.{formula_agree, shown_agree}
 pub use Rattle.tpl_model.proofs.Alike.{same_rows}
 pub use Rattle.tpl_model.proofs.Evaluated.{evaluating_law}
 pub use Rattle.tpl_model.proofs.Kept.{attributes_none}

@@ -16,7 +16,7 @@ use Rattle.page_model.specs.Labels.{Text, Element, Look}
 use Rattle.page_model.proofs.Shared.{one_address}
 use Rattle.tpl_model.specs.Lines.{Line, TextLine, TagLine, AttrLine, IfLine, ElseLine, EachLine, TryLine, EndLine, Block, empty, text}
 use Rattle.tpl_model.specs.Lines.{tag, choice, each, attempt, Part, with_line, parts_from, first_block, block_of}
-use Rattle.tpl_model.specs.Shapes.{Evaluating, Here, key_here, row_here, Showing, told, then_shown, within, chosen, rows_from, each_row}
+use Rattle.tpl_model.specs.Shapes.{Evaluating, Here, key_here, row_here, Showing, formula_shown, then_shown, within, chosen, rows_from, each_row}
 use Rattle.tpl_model.specs.Shapes.{attempted, node_text, attributes_of, attributes_told, shown_block}
 use Rattle.tpl_model.specs.Laws.{Fits, GivesRows}
 use Rattle.tpl_model.proofs.Kept.{Closed, then_has, attributes_none, inside_has, shown_has}
@@ -138,7 +138,7 @@ pub few : (l : ℕ) (k : Option (List ℕ)) (evaluate : Evaluating) → GivesRow
 few l k evaluate g empty ends here d in_row f = omega arith
 few l k evaluate g (text n t rest) ends here d in_row f =
     let o = own_few l n k (key_here here) in
-    then_few (address l k) (one (n == l)) (times l rest) ends (told (evaluate (row_here here) t) (node (address n (key_here here)) (Text
+    then_few (address l k) (one (n == l)) (times l rest) ends (formula_shown (evaluate (row_here here) t) (node (address n (key_here here)) (Text
     (node_text (evaluate (row_here here) t).outcome)) none none)) (shown_block evaluate ends here rest) (omega arith)
     (few l k evaluate g rest ends here d in_row f)
 few l k evaluate g (tag n name xs inner rest) ends here zero in_row f = absurd f
@@ -159,11 +159,11 @@ few l k evaluate g (choice t one' other rest) ends here (suc d) in_row f =
     let a = few l k evaluate g one' ends here d in_row f.0 in
     let b = few l k evaluate g other ends here d in_row f.1 in
     let r = few l k evaluate g rest ends here (suc d) in_row f.2 in
-    let own = inside_has (λ t. tally (address l k) t ≤ times l one' + times l other) ends (told e none) (chosen e.outcome
+    let own = inside_has (λ t. tally (address l k) t ≤ times l one' + times l other) ends (formula_shown e none) (chosen e.outcome
     (shown_block evaluate ends here one') (shown_block evaluate ends here other)) refl (omega arith)
     (chosen_few (address l k) (times l one') (times l other) e.outcome (shown_block evaluate ends here one')
     (shown_block evaluate ends here other) a b) in
-    let both = then_few (address l k) (times l one' + times l other) (times l rest) ends (then_shown ends (told e none)
+    let both = then_few (address l k) (times l one' + times l other) (times l rest) ends (then_shown ends (formula_shown e none)
     (chosen e.outcome (shown_block evaluate ends here one') (shown_block evaluate ends here other)))
     (shown_block evaluate ends here rest) own r in
     omega (arith, both)
@@ -174,10 +174,10 @@ few l k evaluate g (each t inner rest) ends here (suc d) in_row f =
     let one' : (r : Here) → tally (address l k) (go r).nodes ≤ times l inner = λ r. few l k evaluate g inner ends (Some r) d true f.1 in
     let none' : (r : Here) → (k ≡ Some r.key → ⊥) → tally (address l k) (go r).nodes ≡ 0 = λ r h. other_row l k evaluate inner ends
     (Some r) d f.1 h in
-    let own = inside_has (λ t. tally (address l k) t ≤ times l inner) ends (told e none) (each_row ends go e.outcome) refl (omega arith)
+    let own = inside_has (λ t. tally (address l k) t ≤ times l inner) ends (formula_shown e none) (each_row ends go e.outcome) refl (omega arith)
     (each_few (address l k) (times l inner) k ends go one' none' e.outcome (λ u h. (g (row_here here) t u h).distinct_keys)) in
     let r = few l k evaluate g rest ends here (suc d) in_row f.2 in
-    then_few (address l k) (times l inner) (times l rest) ends (then_shown ends (told e none) (each_row ends go e.outcome))
+    then_few (address l k) (times l inner) (times l rest) ends (then_shown ends (formula_shown e none) (each_row ends go e.outcome))
     (shown_block evaluate ends here rest) own r
 few l k evaluate g (attempt first second rest) ends here zero in_row f = absurd f
 few l k evaluate g (attempt first second rest) ends here (suc d) in_row f =

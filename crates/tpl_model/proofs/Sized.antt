@@ -12,7 +12,7 @@ use Rattle.page_model.specs.Forest.{Forest, none, node, after, keys}
 use Rattle.page_model.specs.Labels.{Text, Element, Look}
 use Rattle.tpl_model.specs.Lines.{Line, TextLine, TagLine, AttrLine, IfLine, ElseLine, EachLine, TryLine, EndLine, Block, empty, text}
 use Rattle.tpl_model.specs.Lines.{tag, choice, each, attempt, Part, with_line, parts_from, first_block, block_of}
-use Rattle.tpl_model.specs.Shapes.{Evaluating, Here, key_here, row_here, Showing, told, then_shown, within, chosen, rows_from, each_row}
+use Rattle.tpl_model.specs.Shapes.{Evaluating, Here, key_here, row_here, Showing, formula_shown, then_shown, within, chosen, rows_from, each_row}
 use Rattle.tpl_model.specs.Shapes.{attempted, node_text, attributes_of, attributes_told, shown_block, shown_lines}
 use Rattle.tpl_model.specs.Laws.{Fits, GivesRows, SizeLaw}
 use Rattle.tpl_model.proofs.Kept.{then_has, attributes_none, inside_has, chosen_has, attempted_has}
@@ -58,7 +58,7 @@ size : (w : ℕ) → 1 ≤ w → (evaluate : Evaluating) (b : Block) (ends : Boo
     nodes_in (shown_block evaluate ends here b).nodes ≤ makers b
 size w h evaluate empty ends here d f = omega arith
 size w h evaluate (text n t rest) ends here d f =
-    then_size 1 (makers rest) ends (told (evaluate (row_here here) t) (node (address n (key_here here)) (Text (node_text (evaluate
+    then_size 1 (makers rest) ends (formula_shown (evaluate (row_here here) t) (node (address n (key_here here)) (Text (node_text (evaluate
     (row_here here) t).outcome)) none none)) (shown_block evaluate ends here rest) (omega arith) (size w h evaluate rest ends here d f)
 size w h evaluate (tag n name xs inner rest) ends here zero f = absurd f
 size w h evaluate (tag n name xs inner rest) ends here (suc d) f =
@@ -74,11 +74,11 @@ size w h evaluate (choice t one' other rest) ends here (suc d) f =
     let e = evaluate (row_here here) t in
     let a = size w h evaluate one' ends here d f.0 in
     let b = size w h evaluate other ends here d f.1 in
-    let own = inside_has (λ t. nodes_in t ≤ makers one' + makers other) ends (told e none) (chosen e.outcome
+    let own = inside_has (λ t. nodes_in t ≤ makers one' + makers other) ends (formula_shown e none) (chosen e.outcome
     (shown_block evaluate ends here one') (shown_block evaluate ends here other)) refl (omega arith)
     (chosen_has (λ t. nodes_in t ≤ makers one' + makers other) (omega arith) e.outcome (shown_block evaluate ends here one')
     (shown_block evaluate ends here other) (omega arith) (omega arith)) in
-    let both = then_size (makers one' + makers other) (makers rest) ends (then_shown ends (told e none) (chosen e.outcome
+    let both = then_size (makers one' + makers other) (makers rest) ends (then_shown ends (formula_shown e none) (chosen e.outcome
     (shown_block evaluate ends here one') (shown_block evaluate ends here other))) (shown_block evaluate ends here rest) own
     (size w h evaluate rest ends here (suc d) f.2) in
     omega (arith, both)
@@ -110,7 +110,7 @@ size_all : (evaluate : Evaluating) → GivesRows evaluate → (b : Block) (ends 
     Fits b d in_row → nodes_in (shown_block evaluate ends here b).nodes ≤ 512 * makers b
 size_all evaluate g empty ends here d in_row f = omega arith
 size_all evaluate g (text n t rest) ends here d in_row f =
-    (let i = then_size 1 (512 * makers rest) ends (told (evaluate (row_here here) t) (node (address n (key_here here)) (Text (node_text
+    (let i = then_size 1 (512 * makers rest) ends (formula_shown (evaluate (row_here here) t) (node (address n (key_here here)) (Text (node_text
     (evaluate (row_here here) t).outcome)) none none)) (shown_block evaluate ends here rest) (omega arith)
     (size_all evaluate g rest ends here d in_row f) in omega (arith, i))
 size_all evaluate g (tag n name xs inner rest) ends here zero in_row f = absurd f
@@ -129,11 +129,11 @@ size_all evaluate g (choice t one' other rest) ends here (suc d) in_row f =
     let e = evaluate (row_here here) t in
     let a = size_all evaluate g one' ends here d in_row f.0 in
     let b = size_all evaluate g other ends here d in_row f.1 in
-    let own = inside_has (λ t. nodes_in t ≤ 512 * makers one' + 512 * makers other) ends (told e none) (chosen e.outcome
+    let own = inside_has (λ t. nodes_in t ≤ 512 * makers one' + 512 * makers other) ends (formula_shown e none) (chosen e.outcome
     (shown_block evaluate ends here one') (shown_block evaluate ends here other)) refl (omega arith)
     (chosen_has (λ t. nodes_in t ≤ 512 * makers one' + 512 * makers other) (omega arith) e.outcome (shown_block evaluate ends here one')
     (shown_block evaluate ends here other) (omega arith) (omega arith)) in
-    let both = then_size (512 * makers one' + 512 * makers other) (512 * makers rest) ends (then_shown ends (told e none)
+    let both = then_size (512 * makers one' + 512 * makers other) (512 * makers rest) ends (then_shown ends (formula_shown e none)
     (chosen e.outcome (shown_block evaluate ends here one') (shown_block evaluate ends here other)))
     (shown_block evaluate ends here rest) own (size_all evaluate g rest ends here (suc d) in_row f.2) in
     omega (arith, both)
@@ -141,9 +141,9 @@ size_all evaluate g (each t inner rest) ends here zero in_row f = absurd f
 size_all evaluate g (each t inner rest) ends here (suc d) in_row f =
     let e = evaluate (row_here here) t in
     let go : Here → Showing = λ r. shown_block evaluate ends (Some r) inner in
-    let own = inside_has (λ t. nodes_in t ≤ 512 * makers inner) ends (told e none) (each_row ends go e.outcome) refl (omega arith)
+    let own = inside_has (λ t. nodes_in t ≤ 512 * makers inner) ends (formula_shown e none) (each_row ends go e.outcome) refl (omega arith)
     (each_size (makers inner) ends go (λ r. size 1 (omega arith) evaluate inner ends (Some r) d f.1) e.outcome (g (row_here here) t)) in
-    let both = then_size (512 * makers inner) (512 * makers rest) ends (then_shown ends (told e none) (each_row ends go e.outcome))
+    let both = then_size (512 * makers inner) (512 * makers rest) ends (then_shown ends (formula_shown e none) (each_row ends go e.outcome))
     (shown_block evaluate ends here rest) own (size_all evaluate g rest ends here (suc d) in_row f.2) in
     omega (arith, both)
 size_all evaluate g (attempt first second rest) ends here zero in_row f = absurd f

@@ -7,7 +7,7 @@ use Rattle.sig_base.specs.declared.value.Known.{Known}
 use Rattle.sig_base.specs.declared.value.Value.TheVariants as value
 use Rattle.sig_base.specs.declared.value.Outcome.{Outcome}
 use Rattle.sig_base.specs.declared.value.Outcome.TheVariants.{Good}
-use Rattle.sig_formula.specs.Answering.{answer_of}
+use Rattle.sig_formula.specs.Evaluation.{answer_of}
 use Rattle.sig_formula.specs.Trees.{Tree}
 use Rattle.sig_formula.specs.declared.formula.RowRef.{RowRef}
 use Rattle.page_model.specs.Forest.{keys, node, none}
@@ -17,9 +17,9 @@ use Rattle.page_model.specs.Replay.{Done, replay}
 use Rattle.tpl_model.specs.Lines.{Line, Block, empty, text, tag, choice, each, attempt, block_of}
 use Rattle.tpl_model.specs.Shapes.{Evaluating, shape_of, shown_lines}
 use Rattle.signal_model.specs.Recipes.{Hosts, formula}
-use Rattle.signal_model.specs.Standing.{is_in}
+use Rattle.signal_model.specs.Signals.{is_in}
 use Rattle.signal_model.specs.Values.{asked_from}
-use Rattle.sig_host.specs.Lending.{IsGoodOutcome}
+use Rattle.sig_host.specs.Loans.{IsGoodOutcome}
 use Rattle.tpl_model.specs.Sources.{evaluating, in_order, same_here}
 
 -- Blocks that nest so deep at most, with no `each` inside an `each`. The attributes of each element are distinct, one that can't hold

@@ -3,7 +3,7 @@ use Rattle.std.specs.Prelude.{ℕ, suc, ◌&&◌, ◌||◌, Bool, true, false, L
 use Rattle.std.specs.Prelude.{if◌then◌else◌}
 use Rattle.std.specs.Option.{option_map}
 use Rattle.sig_base.specs.Tables.{Table}
-use Rattle.sig_base.specs.Printing.{fault_name}
+use Rattle.sig_base.specs.Printer.{fault_name}
 use Rattle.sig_base.specs.Values.{shown}
 use Rattle.sig_base.specs.declared.rows.Row.{Row}
 use Rattle.sig_base.specs.declared.value.Value.TheVariants as value
@@ -50,8 +50,8 @@ is_fault (Good v) = false
 is_fault (Bad e) = true
 
 -- a formula is read, and these nodes are shown of it
-abbrev pub told : Evaluation → Forest Look → Showing
-told e nodes = record { nodes = nodes; reads = map (λ (s : Seen). s.name) e.reads; failed = is_fault e.outcome }
+abbrev pub formula_shown : Evaluation → Forest Look → Showing
+formula_shown e nodes = record { nodes = nodes; reads = map (λ (s : Seen). s.name) e.reads; failed = is_fault e.outcome }
 
 -- One after the other. Where showing ends at the first fault, nothing is read after one, and no nodes are left.
 abbrev pub then_shown : Bool → Showing → Showing → Showing
@@ -81,7 +81,7 @@ attributes_of evaluate row (a ∷ rest) = (a.0, attribute_value (evaluate row a.
 -- the reads of attributes, which show no nodes of their own
 abbrev pub attributes_told : Bool → Evaluating → Option RowRef → List (List ℕ × Tree) → Showing
 attributes_told ends evaluate row [] = nothing
-attributes_told ends evaluate row (a ∷ rest) = then_shown ends (told (evaluate row a.1) none) (attributes_told ends evaluate row rest)
+attributes_told ends evaluate row (a ∷ rest) = then_shown ends (formula_shown (evaluate row a.1) none) (attributes_told ends evaluate row rest)
 
 -- what is inside an element stands under it
 abbrev pub within : ℕ → Look → Showing → Showing
@@ -116,7 +116,7 @@ abbrev pub shown_block : Evaluating → Bool → Option Here → Block → Showi
 shown_block evaluate ends here empty = nothing
 shown_block evaluate ends here (text n f rest) =
     let e = evaluate (row_here here) f in
-    then_shown ends (told e (node (address n (key_here here)) (Text (node_text e.outcome)) none none))
+    then_shown ends (formula_shown e (node (address n (key_here here)) (Text (node_text e.outcome)) none none))
     (shown_block evaluate ends here rest)
 shown_block evaluate ends here (tag n name attributes inner rest) =
     then_shown ends
@@ -126,12 +126,12 @@ shown_block evaluate ends here (tag n name attributes inner rest) =
 shown_block evaluate ends here (choice f one other rest) =
     let e = evaluate (row_here here) f in
     then_shown ends
-    (then_shown ends (told e none) (chosen e.outcome (shown_block evaluate ends here one) (shown_block evaluate ends here other)))
+    (then_shown ends (formula_shown e none) (chosen e.outcome (shown_block evaluate ends here one) (shown_block evaluate ends here other)))
     (shown_block evaluate ends here rest)
 shown_block evaluate ends here (each f inner rest) =
     let e = evaluate (row_here here) f in
     then_shown ends
-    (then_shown ends (told e none) (each_row ends (λ h. shown_block evaluate ends (Some h) inner) e.outcome))
+    (then_shown ends (formula_shown e none) (each_row ends (λ h. shown_block evaluate ends (Some h) inner) e.outcome))
     (shown_block evaluate ends here rest)
 shown_block evaluate ends here (attempt first second rest) =
     then_shown ends

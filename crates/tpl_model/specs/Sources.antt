@@ -10,7 +10,7 @@ use Rattle.sig_base.specs.declared.value.Outcome.{Outcome}
 use Rattle.sig_base.specs.declared.value.Outcome.TheVariants.{Bad}
 use Rattle.sig_formula.specs.declared.formula.RowRef.{RowRef}
 use Rattle.signal_model.specs.Recipes.{Hosts, no_hosts, formula}
-use Rattle.signal_model.specs.Standing.{Signals, is_in}
+use Rattle.signal_model.specs.Signals.{Signals, is_in}
 use Rattle.signal_model.specs.Values.{asked_from, value_of}
 use Rattle.page_model.specs.Forest.{Forest, none, node, keys}
 use Rattle.page_model.specs.Labels.{Kind, Look, shown}

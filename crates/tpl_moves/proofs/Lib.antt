@@ -1,3 +1,3 @@
-mod Arriving
-mod Linking
-mod Spelling
+mod Subtrees
+mod Edits
+mod Operations

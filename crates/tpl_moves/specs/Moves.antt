@@ -5,8 +5,8 @@ use Rattle.page_model.specs.Edits.{listed, siblings}
 use Rattle.page_model.specs.Forest.{Forest, none, after, keys, kids}
 use Rattle.page_model.specs.Labels.{Kind, Look, Sound, shown}
 use Rattle.page_model.specs.Replay.{Op}
-use Rattle.tpl_found.specs.Coming.{coming}
-use Rattle.tpl_found.specs.Following.{children_moved}
+use Rattle.tpl_found.specs.Arrivals.{coming}
+use Rattle.tpl_found.specs.Children.{children_moved}
 use Rattle.tpl_model.specs.Sources.{in_order}
 use Rattle.tpl_shapes.specs.Shapes.{Marked, Next, stays, comes}
 

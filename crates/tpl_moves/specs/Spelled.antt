@@ -1,7 +1,7 @@
 -- Steps between the children of a node, spelled out as operations.
 use Rattle.std.specs.Prelude.{ℕ, suc, List, [], ◌∷◌}
-use Rattle.keyed_each.specs.declared.placing.RowStep.{RowStep}
-use Rattle.keyed_each.specs.declared.placing.RowStep.TheVariants.{Keep, Insert, Move}
+use Rattle.keyed_each.specs.declared.places.RowStep.{RowStep}
+use Rattle.keyed_each.specs.declared.places.RowStep.TheVariants.{Keep, Insert, Move}
 use Rattle.page_model.specs.Forest.{Forest, none, node}
 use Rattle.page_model.specs.Labels.{Kind}
 use Rattle.page_model.specs.Replay.{Op, OpInsert, OpMove}

@@ -1,17 +1,17 @@
 // The operations on the children of nodes that stay.
 ghost use Rattle.std.specs.Prelude.{◌≡◌, ◌++◌, ◌∷◌, ◌<◌, ℕ, suc, List, length, map, slice_get, Some, OnOk, IfOk};
-ghost use Rattle.keyed_each.specs.declared.placing.RowStep.{RowStep};
+ghost use Rattle.keyed_each.specs.declared.places.RowStep.{RowStep};
 ghost use Rattle.page_model.specs.Edits.{siblings};
 ghost use Rattle.page_model.specs.Forest.{Forest, kids};
 ghost use Rattle.page_model.specs.Labels.{Kind};
 ghost use Rattle.page_ops.specs.Ops.{op_of};
 ghost use Rattle.page_tree.specs.Subs.{side_by_side, sub_tree};
-ghost use Rattle.tpl_found.specs.Following.{children_moved};
+ghost use Rattle.tpl_found.specs.Children.{children_moved};
 ghost use Rattle.tpl_moves.specs.Moves.{AllFit, AllSound, AreSound, Fits, moved_between, number_after, number_behind};
 ghost use Rattle.tpl_moves.specs.Spelled.{spelled};
 ghost use Rattle.tpl_shapes.specs.Shapes.{child_of, mark_of};
 
-use crate::coming::{Row, row_of};
+use crate::arrivals::{Row, row_of};
 use keyed_each::{RowStep, place};
 use page_ops::Op;
 use page_tree::{Sub, Tree};

@@ -15,7 +15,7 @@ use Rattle.tpl_memos.specs.Kept.{kept, rows_from}
 use Rattle.tpl_memos.specs.declared.memo.PageMemo as held
 use Rattle.tpl_model.specs.Lines.{Block, empty, text, tag, choice, each, attempt}
 use Rattle.tpl_model.specs.Shapes.{Here, node_text}
-use Rattle.tpl_scratch.specs.Making.{Numbered, shows_branch, with_nodes}
+use Rattle.tpl_scratch.specs.Pages.{Numbered, shows_branch, with_nodes}
 use Rattle.tpl_scratch.proofs.Shared.{after_none, after_after, with_none, with_after}
 use Rattle.update_laws.specs.PageMemos.{PageMemo, blank, line, element, branch, loop, nodes, picks, row_nodes, values}
 use Rattle.tpl_nodes.specs.Shown.{AreRows, attributes_of, fits, inside_of, later_of, shows, text_of, where_shown}

@@ -10,7 +10,7 @@ use Rattle.tpl_memos.specs.Kept.{rows_from}
 use Rattle.tpl_memos.specs.declared.memo.PageMemo as held
 use Rattle.tpl_model.specs.Lines.{Block, empty, text, tag, choice, each, attempt}
 use Rattle.tpl_model.specs.Shapes.{node_text}
-use Rattle.tpl_scratch.specs.Making.{shows_branch}
+use Rattle.tpl_scratch.specs.Pages.{shows_branch}
 use Rattle.update_laws.specs.PageMemos.{Heard, PageMemo, blank, line, element, branch, loop}
 
 -- whether it is kept of a text

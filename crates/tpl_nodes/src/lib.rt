@@ -1,8 +1,8 @@
 //! The nodes that lines show, from what a page keeps of them.
 #![tactic(auto)]
 
+mod nodes;
 mod parts;
-mod placing;
 
+pub use nodes::put_nodes;
 pub use parts::{attributes_of, fits, inside_of, later_of, shows};
-pub use placing::put_nodes;

@@ -2,7 +2,7 @@
 ghost use Rattle.std.specs.Prelude.{◌≡◌, map, OnOk};
 ghost use Rattle.tpl_blocks.specs.Blocks.{block};
 ghost use Rattle.tpl_memos.specs.Kept.{heard_of, kept};
-ghost use Rattle.tpl_scratch.specs.Making.{nodes_of, with_nodes};
+ghost use Rattle.tpl_scratch.specs.Pages.{nodes_of, with_nodes};
 ghost use Rattle.tpl_nodes.specs.Shown.{among_rows, attributes_of, fits, inside_of, is_branch, is_element, is_line, is_loop, later_of, shows, text_of, AreRows};
 
 use sig_base::{NoMemory, Outcome, Value};

@@ -1,3 +1,3 @@
 mod Sorted
-mod Taking
+mod Numbers
 pub mod Shared

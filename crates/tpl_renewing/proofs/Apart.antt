@@ -8,12 +8,12 @@ use Rattle.sig_formula.specs.Trees.{Tree}
 use Rattle.sig_formula.specs.declared.formula.RowRef.{RowRef}
 use Rattle.tpl_model.specs.Lines.{Block, empty, text, tag, choice, each, attempt}
 use Rattle.tpl_model.specs.Shapes.{Here, row_here}
-use Rattle.tpl_hearing.specs.Hearing.{Outcomes}
+use Rattle.tpl_hearing.specs.Heard.{Outcomes}
 use Rattle.tpl_hearing.proofs.Shared.{outcome_in}
 use Rattle.tpl_memos.specs.Kept.{heard_of}
 use Rattle.tpl_memos.specs.declared.memo.Heard.{Heard}
 use Rattle.update_laws.specs.PageMemos.{PageMemo, unread, blank, line, element, branch, loop}
-use Rattle.tpl_listening.specs.Makings.{Agrees, branch_memo, lines_memo, table_in, truth_in}
+use Rattle.tpl_listening.specs.Memos.{Agrees, branch_memo, lines_memo, table_in, truth_in}
 use Rattle.tpl_listening.specs.Renewals.{WasMade, is_unread}
 use Rattle.tpl_listening.proofs.Shared.{branch_stays, branch_was, element_was, if_read, loop_was, slots_were, text_was}
 use Rattle.tpl_making.specs.declared.head.Head.{Head}

@@ -1,5 +1,5 @@
 mod Apart
 mod Named
-mod Serving
-mod Telling
-mod Turning
+mod RowMemos
+mod Changes
+mod Turns

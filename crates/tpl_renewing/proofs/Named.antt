@@ -9,7 +9,7 @@ use Rattle.sig_base.specs.declared.value.Outcome.TheVariants.{Good, Bad}
 use Rattle.sig_base.specs.declared.rows.Row.{Row}
 use Rattle.update_laws.specs.PageMemos.{Heard, PageMemo, line, element, branch, loop, all_names, names}
 use Rattle.tpl_memos.specs.Kept.{rows_from, rows_of}
-use Rattle.tpl_listening.specs.Makings.{rows_in, table_in}
+use Rattle.tpl_listening.specs.Memos.{rows_in, table_in}
 use Rattle.tpl_listening.proofs.Shared.{mapped_more}
 
 -- names, and then others

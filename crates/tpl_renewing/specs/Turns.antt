@@ -8,10 +8,10 @@ use Rattle.sig_base.specs.declared.value.Outcome.TheVariants.{Bad}
 use Rattle.sig_formula.specs.declared.formula.RowRef.{RowRef}
 use Rattle.tpl_model.specs.Lines.{Block, empty, text, tag, choice, each}
 use Rattle.tpl_model.specs.Sources.{same_here}
-use Rattle.tpl_hearing.specs.Hearing.{Grows, Outcomes}
+use Rattle.tpl_hearing.specs.Heard.{Grows, Outcomes}
 use Rattle.tpl_memos.specs.Kept.{heard_of, kept}
 use Rattle.update_laws.specs.PageMemos.{PageMemo, unread, names}
-use Rattle.tpl_listening.specs.Makings.{Makes, branch_memo, lines_memo, loop_memo, rows_in, table_in, truth_in}
+use Rattle.tpl_listening.specs.Memos.{Makes, branch_memo, lines_memo, loop_memo, rows_in, table_in, truth_in}
 use Rattle.tpl_listening.specs.Renewals.{WasListened, WasListenedAll, WasMade, WasMadeIfRead, AreChanged, SlotsWere, is_unread}
 use Rattle.tpl_making.specs.declared.head.Head.{Head}
 use Rattle.tpl_making.specs.declared.head.Head.TheVariants as head

@@ -2,10 +2,10 @@
 #![tactic(auto)]
 
 mod looking;
-mod naming;
+mod names;
 mod parts;
-mod renewing;
 mod rows;
+mod update;
 
 pub use parts::Renewed;
-pub use renewing::{names_stay, renew};
+pub use update::{names_stay, renew};

@@ -3,10 +3,10 @@ ghost use Rattle.std.specs.Prelude.{◌≡◌, ◌++◌, ◌∷◌, [], false, m
 ghost use Rattle.std.specs.Option.{option_copied};
 ghost use Rattle.tpl_memos.specs.Kept.{kept};
 ghost use Rattle.tpl_listening.specs.Changes.{chain, changed, over};
-ghost use Rattle.tpl_listening.specs.Makings.{truth_in};
+ghost use Rattle.tpl_listening.specs.Memos.{truth_in};
 ghost use Rattle.tpl_listening.specs.Renewals.{is_unread};
 ghost use Rattle.tpl_making.specs.Heads.{last_of, places_in};
-ghost use Rattle.tpl_renewing.specs.Tellings.{changed_of, last_change};
+ghost use Rattle.tpl_renewing.specs.Changes.{changed_of, last_change};
 ghost use Rattle.tpl_renewing.specs.Turns.{behind_of, first_of, kept_of, later_of, outcome_of, shows_of, IsApart, ServeInside};
 ghost use Rattle.tpl_making.specs.declared.head.Head.TheVariants as head;
 ghost use Rattle.tpl_renewing.specs.declared.parts.First.TheVariants as start;

@@ -3,9 +3,9 @@ ghost use Rattle.std.specs.Prelude.{◌≡◌, ◌<◌, ℕ, List, length, map, 
 ghost use Rattle.sig_base.specs.Tables.{Table};
 ghost use Rattle.tpl_model.specs.Lines as model;
 ghost use Rattle.tpl_model.specs.Sources.{same_here};
-ghost use Rattle.tpl_hearing.specs.Hearing as hearing;
+ghost use Rattle.tpl_hearing.specs.Heard as hearing;
 ghost use Rattle.tpl_memos.specs.Kept.{kept};
-ghost use Rattle.tpl_listening.specs.Makings.{table_in};
+ghost use Rattle.tpl_listening.specs.Memos.{table_in};
 ghost use Rattle.tpl_listening.specs.Renewals.{is_unread, SlotsWere, TakesRow};
 ghost use Rattle.tpl_making.specs.Heads.{places_from};
 ghost use Rattle.tpl_renewing.specs.Turns.{AreAmong, ServeRows};

@@ -4,10 +4,10 @@
 #[cfg(test)]
 mod copies;
 #[cfg(test)]
-mod hearings;
-#[cfg(test)]
-mod listenings;
+mod formulas;
 #[cfg(test)]
 mod memos;
+#[cfg(test)]
+mod outcomes;
 #[cfg(test)]
 mod scene;

@@ -1,6 +1,6 @@
 // Two cells, what was noted of their settling, and no host formulas.
 ghost use Rattle.std.specs.Prelude.{IfOk};
-ghost use Rattle.tpl_hearing.specs.Hearing.{scene, CanSettle};
+ghost use Rattle.tpl_hearing.specs.Heard.{scene, CanSettle};
 
 use sig_base::{NoMemory, NodeId, Outcome, Value};
 use sig_computed::RunNote;

@@ -1,6 +1,6 @@
-mod Asking
-mod Ending
-mod Missing
+mod Asks
+mod Results
+mod Unknowns
 mod Numbers
-mod Showing
+mod Parts
 pub mod Shared

@@ -5,7 +5,7 @@ use Rattle.page_model.specs.Labels.{Text, Element, Kind, Look, present, seen, sh
 use Rattle.page_tree.specs.declared.sub.Sub.{Sub}
 use Rattle.page_tree.specs.Subs.{side_by_side, sub_tree}
 use Rattle.tpl_model.specs.Sources.{in_order}
-use Rattle.tpl_scratch.specs.Making.{Numbered, with_nodes}
+use Rattle.tpl_scratch.specs.Pages.{Numbered, with_nodes}
 
 pub after_none : {A : Type 0} (x : Forest A) → after x none ≡ x
 after_none none = refl

@@ -4,7 +4,7 @@ use Rattle.sig_base.specs.declared.value.Outcome.{Outcome}
 use Rattle.page_tree.specs.Subs.{side_by_side, sub_tree}
 use Rattle.tpl_model.specs.Lines.{Line}
 use Rattle.tpl_model.specs.Sources.{known_page, needed}
-use Rattle.tpl_scratch.specs.Making.{Numbered}
+use Rattle.tpl_scratch.specs.Pages.{Numbered}
 use Rattle.tpl_scratch.specs.declared.stop.Stop.{Stop}
 use Rattle.tpl_scratch.specs.declared.stop.Stop.TheVariants as stop
 use Rattle.tpl_scratch.specs.declared.scratch.ScratchStep.{ScratchStep}

@@ -7,7 +7,7 @@ ghost use Rattle.signal_model.specs.Sound.{names_of};
 ghost use Rattle.signal_model.specs.Values.{learnt};
 ghost use Rattle.tpl_model.specs.Shapes.{row_here};
 ghost use Rattle.tpl_model.specs.Sources.{on_known};
-ghost use Rattle.tpl_scratch.specs.Making.{answered, IsFound, IsNeed, Stops};
+ghost use Rattle.tpl_scratch.specs.Pages.{answered, IsFound, IsNeed, Stops};
 
 use crate::stop::Stop;
 use sig_base::{Known, NoMemory, Outcome, Step, Text, Value};

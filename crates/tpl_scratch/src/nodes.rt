@@ -3,7 +3,7 @@ ghost use Rattle.std.specs.Prelude.{◌≡◌, ◌+◌, map, IfOk, OnOk};
 ghost use Rattle.page_model.specs.Forest.{after, node, none};
 ghost use Rattle.page_model.specs.Labels as label;
 ghost use Rattle.page_tree.specs.Subs.{side_by_side, sub_tree};
-ghost use Rattle.tpl_scratch.specs.Making.{nodes_of, with_nodes};
+ghost use Rattle.tpl_scratch.specs.Pages.{nodes_of, with_nodes};
 
 use page_tree::Sub;
 use sig_base::{NoMemory, Text};

@@ -1,7 +1,7 @@
 // A page from scratch.
 ghost use Rattle.std.specs.Prelude.{◌≡◌, IfOk};
 ghost use Rattle.tpl_blocks.specs.Blocks.{lines_of};
-ghost use Rattle.tpl_scratch.specs.Making.{nodes_of};
+ghost use Rattle.tpl_scratch.specs.Pages.{nodes_of};
 ghost use Rattle.tpl_scratch.specs.Scratch.{Comes, IsScratch};
 
 use crate::nodes::Nodes;

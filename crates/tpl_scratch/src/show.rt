@@ -7,8 +7,8 @@ ghost use Rattle.page_model.specs.Labels.{with_value};
 ghost use Rattle.tpl_model.specs.Shapes.{attributes_told, row_here, shown_block};
 ghost use Rattle.tpl_model.specs.Sources.{on_known};
 ghost use Rattle.tpl_blocks.specs.Blocks.{block};
-ghost use Rattle.tpl_scratch.specs.Making.{attributes_in, each_shown, element_shown, no_children, nodes_of, rows_of, rows_shown, shown_where, shows_branch, text_shown, with_node};
-ghost use Rattle.tpl_scratch.specs.Making.{AreBranches, HasAttributes, IsHere, Shows, Stops};
+ghost use Rattle.tpl_scratch.specs.Pages.{attributes_in, each_shown, element_shown, no_children, nodes_of, rows_of, rows_shown, shown_where, shows_branch, text_shown, with_node};
+ghost use Rattle.tpl_scratch.specs.Pages.{AreBranches, HasAttributes, IsHere, Shows, Stops};
 
 use crate::evaluate::{Here, evaluated};
 use crate::nodes::Nodes;

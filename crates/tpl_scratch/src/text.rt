@@ -1,6 +1,6 @@
 // What is shown of an outcome.
 ghost use Rattle.std.specs.Prelude.{◌≡◌, ◌++◌, codes, unwrap_or, IfOk};
-ghost use Rattle.sig_base.specs.Printing.{fault_name};
+ghost use Rattle.sig_base.specs.Printer.{fault_name};
 ghost use Rattle.sig_base.specs.Scalars.{shown_text};
 ghost use Rattle.sig_base.specs.Values.{shown};
 ghost use Rattle.tpl_model.specs.Shapes.{attribute_value, node_text};

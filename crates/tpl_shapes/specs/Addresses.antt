@@ -33,7 +33,7 @@ key_decides (Some k) None = (λ e. cc, λ e. cc)
 pub one_of : (a b : Address) → (a.line ≡ b.line) × (a.key ≡ b.key) → a ≡ b
 one_of a b h =
     ap {A = ℕ} {B = Address} (λ l. record { line = l; key = a.key }) h.0
-      ∙ ap {A = Option (List ℕ)} {B = Address} (λ k. record { line = b.line; key = k }) h.1
+    ∙ ap {A = Option (List ℕ)} {B = Address} (λ k. record { line = b.line; key = k }) h.1
 
 -- the same addresses are equal, and the others are not
 pub same_address-Decides : (a b : Address) → Decides (same_address a b) (a ≡ b)

@@ -23,13 +23,13 @@ look_at None = label.Root
 look_at (Some l) = look_of l
 
 -- trees one after the other
-abbrev pub joined : List (Forest label.Look) → Forest label.Look
-joined [] = none
-joined (t ∷ ts) = after t (joined ts)
+abbrev pub all_after : List (Forest label.Look) → Forest label.Look
+all_after [] = none
+all_after (t ∷ ts) = after t (all_after ts)
 
 -- a node, over the trees of its children
 abbrev pub shown_node : Shown-F (Forest label.Look) → Forest label.Look
-shown_node s = node (address_of s.address) (look_of s.look) (joined s.children.items) none
+shown_node s = node (address_of s.address) (look_of s.look) (all_after s.children.items) none
 
 -- the tree of a node that is shown
 unfoldable pub shown_tree : Shown → Forest label.Look
@@ -37,7 +37,7 @@ shown_tree = fold-Shown (Forest label.Look) shown_node
 
 -- the trees of nodes one after the other
 abbrev pub all_shown : List Shown → Forest label.Look
-all_shown xs = joined (map shown_tree xs)
+all_shown xs = all_after (map shown_tree xs)
 
 -- ---- nodes that stand on a page already
 

@@ -21,7 +21,7 @@ use Rattle.tpl_nodes.proofs.Shared.{picked, unfit_shown}
 use Rattle.tpl_scratch.proofs.Shared.{after_none, after_after}
 use Rattle.tpl_shapes.specs.Shapes.{all_shown, shown_tree}
 use Rattle.tpl_shapes.specs.declared.shown.Shown.{Shown}
-use Rattle.tpl_shown.specs.Showing.{rows_in, text_at}
+use Rattle.tpl_shown.specs.Heads.{rows_in, text_at}
 use Rattle.update_laws.specs.PageMemos.{PageMemo, blank, line, element, branch, loop, row, nodes, row_nodes, values}
 
 -- ---- one node more

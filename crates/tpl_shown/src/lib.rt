@@ -1,8 +1,8 @@
 //! The shape of a page, from what is kept of its template's lines.
 #![tactic(auto)]
 
+mod nodes;
 mod parts;
-mod showing;
 
+pub use nodes::{put_element, put_shown};
 pub use parts::{put_attributes, put_text, rows_in};
-pub use showing::{put_element, put_shown};

@@ -6,7 +6,7 @@ ghost use Rattle.page_model.specs.Forest.{after};
 ghost use Rattle.tpl_blocks.specs.Blocks.{waiting};
 ghost use Rattle.tpl_memos.specs.Kept.{heard_of, kept};
 ghost use Rattle.tpl_shapes.specs.Shapes.{all_shown, shown_tree};
-ghost use Rattle.tpl_shown.specs.Showing.{rows_in, text_at};
+ghost use Rattle.tpl_shown.specs.Heads.{rows_in, text_at};
 ghost use Rattle.update_laws.specs.PageMemos.{values};
 
 use sig_base::{NoMemory, Outcome, Row, Text, Value};

@@ -1,6 +1,6 @@
 -- The table of rows: tokens are read as a line exactly where they spell it.
 use Rattle.std.proofs.Common.{◌≡◌, true, refl, inl}
-use Rattle.line_forms.specs.Reading.{is_clear}
+use Rattle.line_forms.specs.Reader.{is_clear}
 use Rattle.line_forms.specs.Rows.{rows_of, Reaches, IsGrammar}
 use Rattle.tpl_syntax.specs.Grammar.{Row, row, table, text, other}
 

@@ -6,7 +6,7 @@ use Rattle.formula_text.specs.declared.wired.Allow.{Allow}
 use Rattle.formula_text.specs.declared.wired.FormulaFault.{FormulaFault}
 use Rattle.formula_text.specs.declared.wired.FormulaFault.TheVariants as fault
 use Rattle.formula_text.specs.Grammar.{Draft}
-use Rattle.formula_text.specs.Wiring.{Wiring, refusal, wired}
+use Rattle.formula_text.specs.Slots.{Wiring, refusal, wired}
 use Rattle.line_forms.specs.Told.{unless_faulty}
 use Rattle.script_lines.specs.Lines.{NumberedLine}
 use Rattle.tpl_syntax.specs.declared.fault.TemplateWhy.{TemplateWhy}
@@ -15,13 +15,13 @@ use Rattle.tpl_syntax.specs.declared.judge.ReadLine.{ReadLine}
 use Rattle.tpl_syntax.specs.declared.line.Line.{Line}
 use Rattle.tpl_syntax.specs.declared.line.Line.TheVariants as line
 use Rattle.tpl_syntax.specs.declared.line.Purpose.TheVariants as purpose
-use Rattle.tpl_syntax.specs.Grammar.{Said, line_of}
-use Rattle.tpl_syntax.specs.Judging.{Judged, allowed, excess, fault_at, fault_of, first_excess, first_misplaced, high, in_element, is_bare_text, is_nested, judged, judged_at, many_lines, misplacing, missing, refusal_of}
+use Rattle.tpl_syntax.specs.Grammar.{Said, said_line}
+use Rattle.tpl_syntax.specs.Refusals.{Judged, allowed, excess, fault_at, fault_of, first_excess, first_misplaced, high, in_element, is_bare_text, is_nested, judged, judged_at, many_lines, misplacing, missing, refusal_of}
 use Rattle.tpl_syntax.specs.Lines.{mapped}
 use Rattle.tpl_syntax.specs.Places.{Place, content_at, moved, role_of}
 use Rattle.tpl_syntax.specs.Templates.{Sayings, Say, reached}
 use Rattle.tpl_syntax.specs.Views.{AreRead, bare_seen, fault_seen, fault_told, judged_read, readings, read_of, seen, sound_lines, wired_line, with_line}
-use Rattle.tpl_syntax.proofs.Fitting.{same_role}
+use Rattle.tpl_syntax.proofs.Places.{same_role}
 
 -- ---- lines that were read say something
 
@@ -37,7 +37,7 @@ says_read p [] [] to a = record { xs = []; say = tt; is = refl; end = a }
 says_read p [] (r ∷ rs) to a = absurd a
 says_read p (l ∷ ls) [] to a = absurd a
 says_read p (l ∷ ls) (r ∷ rs) to a =
-    let rest = says_read (moved p (line_of a.0)) ls rs to a.4 in
+    let rest = says_read (moved p (said_line a.0)) ls rs to a.4 in
     let x : ℕ × Said = (l.0, a.0) in
     record { xs = x ∷ rest.xs; say = (refl, a.1, a.2, rest.say); is = let e = a.3 in let f = rest.is in cc; end = rest.end }
 
@@ -57,9 +57,9 @@ seen_bare a (line.Over purpose.Text x) = refl
 seen_bare a (line.Over _ x) = refl
 
 -- what is judged of a line that was read
-judged_same : (p : Place) (x : ℕ × Said) → judged_read (read_of p x) ≡ judged_at p x.0 (line_of x.1)
+judged_same : (p : Place) (x : ℕ × Said) → judged_read (read_of p x) ≡ judged_at p x.0 (said_line x.1)
 judged_same p x =
-    let l = line_of x.1 in
+    let l = said_line x.1 in
     let a = allowed p in
     let found = mapped (seen a) l in
     let whole : ℕ → Option TemplateWhy → Option TemplateWhy → Judged = λ k m e. record { number = k; misplaced = m; excess = e } in
@@ -74,7 +74,7 @@ judged_same p x =
 pub all_judged : (p : Place) (xs : Sayings) → map judged_read (readings p xs) ≡ judged p xs
 all_judged p [] = refl
 all_judged p (x ∷ xs) =
-    ap₂ (λ (j : Judged) (js : List Judged). j ∷ js) (judged_same p x) (all_judged (moved p (line_of x.1)) xs)
+    ap₂ (λ (j : Judged) (js : List Judged). j ∷ js) (judged_same p x) (all_judged (moved p (said_line x.1)) xs)
 
 -- ---- nothing is wrong with lines that aren't refused
 
@@ -124,7 +124,7 @@ no_fault p l m e =
 -- nothing is wrong with the formulas of these lines
 abbrev pub AllSound : Place → Sayings → Type 0
 AllSound p [] = Unit {0}
-AllSound p (x ∷ xs) = (fault_of p (line_of x.1) ≡ None) × AllSound (moved p (line_of x.1)) xs
+AllSound p (x ∷ xs) = (fault_of p (said_line x.1) ≡ None) × AllSound (moved p (said_line x.1)) xs
 
 no_why : (k : ℕ) (o : Option TemplateWhy) → option_map (fault_at k) o ≡ None → o ≡ None
 no_why k None e = refl
@@ -133,7 +133,7 @@ no_why k (Some w) e = absurd cc
 sound_by : (p : Place) (xs : Sayings) → first_misplaced (judged p xs) ≡ None → first_excess (judged p xs) ≡ None → AllSound p xs
 sound_by p [] m e = tt
 sound_by p (x ∷ xs) m e =
-    let l = line_of x.1 in
+    let l = said_line x.1 in
     let j = judged_at p x.0 l in
     let rest = judged (moved p l) xs in
     let a = neither (option_map (fault_at x.0) j.misplaced) (first_misplaced rest) m in
@@ -157,9 +157,9 @@ line_wired p (line.Plain m) e = refl
 line_wired p (line.Over u x) e = rw (told_wired (allowed p) x e) refl
 
 -- the lines that nothing is wrong with are all
-pub all_kept : (p : Place) (xs : Sayings) → AllSound p xs → sound_lines (readings p xs) ≡ map (mapped wired) (map (λ x. line_of x.1) xs)
+pub all_kept : (p : Place) (xs : Sayings) → AllSound p xs → sound_lines (readings p xs) ≡ map (mapped wired) (map (λ x. said_line x.1) xs)
 all_kept p [] s = refl
 all_kept p (x ∷ xs) s =
-    let l = line_of x.1 in
+    let l = said_line x.1 in
     ap (λ (o : Option (Line Wiring)). with_line o (sound_lines (readings (moved p l) xs))) (line_wired p l s.0)
     ∙ ap (λ (ls : List (Line Wiring)). mapped wired l ∷ ls) (all_kept (moved p l) xs s.1)

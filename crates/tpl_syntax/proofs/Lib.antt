@@ -1,14 +1,14 @@
-mod Cutting
-mod Deciding
+mod Pieces
+mod Uniqueness
 mod Ends
-mod Fitting
+mod Places
 mod Grammars
 mod Judgements
 mod LineByLine
 mod Literals
-mod Naming
-mod Rewriting
-mod Sounding
+mod Names
+mod Printer
+mod Soundness
 mod Spellings
-mod Standing
+mod Lines
 pub mod Shared

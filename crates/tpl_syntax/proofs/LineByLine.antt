@@ -8,27 +8,27 @@ use Rattle.script_lines.specs.Lines.{NumberedLine}
 use Rattle.script_lines.specs.Views as script
 use Rattle.tpl_syntax.specs.declared.judge.ReadLine.{ReadLine}
 use Rattle.tpl_syntax.specs.declared.line.Line.{Line}
-use Rattle.tpl_syntax.specs.declared.reading.Seen.{Seen}
-use Rattle.tpl_syntax.specs.Grammar.{Said, Writes, line_of}
-use Rattle.tpl_syntax.specs.Judging.{allowed}
+use Rattle.tpl_syntax.specs.declared.reader.Seen.{Seen}
+use Rattle.tpl_syntax.specs.Grammar.{Said, Writes, said_line}
+use Rattle.tpl_syntax.specs.Refusals.{allowed}
 use Rattle.tpl_syntax.specs.Places.{Place, fits, is_closed, moved, top}
 use Rattle.tpl_syntax.specs.Templates.{IsFaulty}
 use Rattle.tpl_syntax.specs.Views.{AreRead, Unended, found_of, read_at}
-use Rattle.tpl_syntax.proofs.Fitting.{same_moved}
+use Rattle.tpl_syntax.proofs.Places.{same_moved}
 use Rattle.tpl_syntax.proofs.Judgements.{says_read}
 
 -- what was found in a line that may stand at a place
 pub record FoundAt (p : Place) (bytes : List ℕ) (l : Line Seen) : Type 0 where
   pub said : Said
   pub writes : Writes said bytes
-  pub stands : IsTrue (fits p (line_of said))
+  pub stands : IsTrue (fits p (said_line said))
   pub is : l ≡ found_of (allowed p) said
 
-pub found_at : (p : Place) (bytes : List ℕ) (l : Line Seen) → (x : Said) × Writes x bytes × IsTrue (fits p (line_of x)) × (l ≡ found_of (allowed p) x) → FoundAt p bytes l
+pub found_at : (p : Place) (bytes : List ℕ) (l : Line Seen) → (x : Said) × Writes x bytes × IsTrue (fits p (said_line x)) × (l ≡ found_of (allowed p) x) → FoundAt p bytes l
 found_at p bytes l h = record { said = h.0; writes = h.1; stands = h.2; is = h.3 }
 
-after_line : (p q : Place) (bytes : List ℕ) (l : Line Seen) (a : FoundAt p bytes l) → q ≡ moved p l → q ≡ moved p (line_of a.said)
-after_line p q bytes l a e = e ∙ ap (λ (m : Line Seen). moved p m) a.is ∙ same_moved p _ (line_of a.said)
+after_line : (p q : Place) (bytes : List ℕ) (l : Line Seen) (a : FoundAt p bytes l) → q ≡ moved p l → q ≡ moved p (said_line a.said)
+after_line p q bytes l a e = e ∙ ap (λ (m : Line Seen). moved p m) a.is ∙ same_moved p _ (said_line a.said)
 
 -- the lines from a place on are the one there and those behind it
 lines_from : (ls : List held.NumberedLine) (i : ℕ) (d : held.NumberedLine) → i < length ls

@@ -15,7 +15,7 @@ use Rattle.sig_words.proofs.Shared.{each_token, literal_utf8}
 use Rattle.formula_text.specs.Grammar.{leaf}
 use Rattle.formula_text.specs.Signs.{constant}
 use Rattle.formula_text.specs.Rough.{bytes_at, IsLiteralAt}
-use Rattle.tpl_syntax.specs.Judging.{has_end, is_bare}
+use Rattle.tpl_syntax.specs.Refusals.{has_end, is_bare}
 use lib.Utf8.{scalar as is_scalar, scalars}
 
 meant : (c : ℕ) → is_scalar c ≡ true → is_scalar (meaning c) ≡ true

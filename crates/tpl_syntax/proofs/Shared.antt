@@ -1,6 +1,6 @@
 -- What crates above may cite of these proofs. All else in this folder is this crate's own.
 
 -- lines are exactly one template, or refused for exactly one cause
-pub use Rattle.tpl_syntax.proofs.Deciding.{one_answer, some_answer}
+pub use Rattle.tpl_syntax.proofs.Uniqueness.{one_answer, some_answer}
 -- what is written of a template is what its lines said, and is read back as it, line by line
-pub use Rattle.tpl_syntax.proofs.Rewriting.{Written, written, read_anew, whole_lines}
+pub use Rattle.tpl_syntax.proofs.Printer.{Written, written, read_anew, whole_lines}

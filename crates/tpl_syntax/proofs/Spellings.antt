@@ -11,12 +11,12 @@ use Rattle.sig_words.specs.Tokens.{AreTokens, IsBad, IsTokenOf}
 use Rattle.sig_words.proofs.Shared.{each_token, token_word_utf8, lexeme-Word}
 use Rattle.formula_text.specs.declared.wired.Allow.{Allow}
 use Rattle.line_forms.specs.Forms.{Args}
-use Rattle.line_forms.specs.Reading.{read_form}
+use Rattle.line_forms.specs.Reader.{read_form}
 use Rattle.line_forms.specs.Rows.{first_of, rows_of, said_of}
 use Rattle.line_forms.specs.Told.{ahead}
 use Rattle.line_forms.proofs.Shared as lines
 use Rattle.tpl_syntax.specs.declared.line.Line.{Line}
-use Rattle.tpl_syntax.specs.declared.reading.Seen.{Seen}
+use Rattle.tpl_syntax.specs.declared.reader.Seen.{Seen}
 use Rattle.tpl_syntax.specs.Grammar.{Row, row, table, Said, Writes}
 use Rattle.tpl_syntax.specs.Views.{found_of, found_as, found_first}
 use Rattle.tpl_syntax.proofs.Grammars.{is_grammar}

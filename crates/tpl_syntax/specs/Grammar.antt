@@ -71,8 +71,8 @@ abbrev pub Said : Type 0
 Said = grammar.Said Row row
 
 -- the line, its formula with names
-abbrev pub line_of : Said → Line Draft
-line_of x = made (row x.0).1 (entry x.0).makes x.1
+abbrev pub said_line : Said → Line Draft
+said_line x = made (row x.0).1 (entry x.0).makes x.1
 
 -- bytes write a line: their tokens spell it
 abbrev pub Writes : Said → List ℕ → Type 0

@@ -1,8 +1,8 @@
-pub mod Coding
+pub mod Codes
 pub mod Grammar
-pub mod Judging
+pub mod Refusals
 pub mod Lines
 pub mod Places
 pub mod Templates
 pub mod Views
-pub mod Writing
+pub mod Printer

@@ -14,7 +14,7 @@ use Rattle.tpl_syntax.specs.declared.place.Content.{Content}
 use Rattle.tpl_syntax.specs.declared.place.Content.TheVariants as content
 use Rattle.tpl_syntax.specs.declared.place.Level.{Level}
 use Rattle.tpl_syntax.specs.declared.place.Level.TheVariants as level
-use Rattle.tpl_syntax.specs.Grammar.{Said, line_of}
+use Rattle.tpl_syntax.specs.Grammar.{Said, said_line}
 
 -- what an element of this name may hold
 abbrev pub content_of : List ℕ → Content
@@ -135,4 +135,4 @@ moved p l = behind p (role_of l)
 
 -- the places of a template's lines
 abbrev pub places : blocks.Places Said Place
-places = record { fits = λ p x. fits p (line_of x); moved = λ p x. moved p (line_of x) }
+places = record { fits = λ p x. fits p (said_line x); moved = λ p x. moved p (said_line x) }

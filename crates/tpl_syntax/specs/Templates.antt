@@ -1,15 +1,15 @@
 -- What lines are: a template, or refused.
 use Rattle.std.specs.Prelude.{◌≡◌, ℕ, true, false, List, [], ◌∷◌, map, Option, Some, None, Result, Ok, Err}
 use Rattle.formula_text.specs.Grammar.{Draft}
-use Rattle.formula_text.specs.Judging.{slotted, with_names}
+use Rattle.formula_text.specs.Refusals.{slotted, with_names}
 use Rattle.line_forms.specs.Blocks as blocks
 use Rattle.script_lines.specs.Lines.{NumberedLine}
 use Rattle.tpl_syntax.specs.declared.fault.TemplateFault.{TemplateFault}
 use Rattle.tpl_syntax.specs.declared.fault.TemplateWhy.{TemplateWhy}
 use Rattle.tpl_syntax.specs.declared.fault.TemplateWhy.TheVariants as why
 use Rattle.tpl_syntax.specs.declared.line.Line.{Line}
-use Rattle.tpl_syntax.specs.Grammar.{Row, row, Said, line_of}
-use Rattle.tpl_syntax.specs.Judging.{fault_at, judged, refusal_of}
+use Rattle.tpl_syntax.specs.Grammar.{Row, row, Said, said_line}
+use Rattle.tpl_syntax.specs.Refusals.{fault_at, judged, refusal_of}
 use Rattle.tpl_syntax.specs.Lines.{Plan, formula_of, mapped}
 use Rattle.tpl_syntax.specs.Places.{Place, is_closed, places, top}
 
@@ -58,7 +58,7 @@ unless_refused (Some f) t = Err f
 
 -- what lines are that say this
 abbrev pub answer_of : Sayings → Answer
-answer_of xs = unless_refused (refusal_of (judged top xs)) (plan_of (map (λ x. line_of x.1) xs))
+answer_of xs = unless_refused (refusal_of (judged top xs)) (plan_of (map (λ x. said_line x.1) xs))
 
 -- the number of the last line
 abbrev pub last_number : List NumberedLine → ℕ

@@ -7,11 +7,11 @@ use Rattle.sig_formula.specs.Trees as tree
 use Rattle.sig_words.specs.Lexemes.{Lexeme}
 use Rattle.sig_words.specs.Literals.{plain}
 use Rattle.formula_text.specs.Grammar.{Draft}
-use Rattle.formula_text.specs.Judging.{slot_of, with_name}
-use Rattle.formula_text.specs.Wiring.{Wiring, refusal, wired}
+use Rattle.formula_text.specs.Refusals.{slot_of, with_name}
+use Rattle.formula_text.specs.Slots.{Wiring, refusal, wired}
 use Rattle.formula_text.specs.declared.wired.Allow.{Allow}
 use Rattle.formula_text.specs.declared.wired.FormulaFault.{FormulaFault}
-use Rattle.line_forms.specs.Reading.{read_form}
+use Rattle.line_forms.specs.Reader.{read_form}
 use Rattle.line_forms.specs.Told.{unless_faulty}
 use Rattle.script_lines.specs.Lines.{NumberedLine}
 use Rattle.tpl_syntax.specs.declared.judge.ReadLine.{ReadLine}
@@ -24,10 +24,10 @@ use Rattle.tpl_syntax.specs.declared.place.Role.{Role as HeldRole}
 use Rattle.tpl_syntax.specs.declared.place.Role.TheVariants as held_role
 use Rattle.tpl_syntax.specs.declared.read.Reading.{Reading}
 use Rattle.tpl_syntax.specs.declared.read.Reading.TheVariants as reading
-use Rattle.tpl_syntax.specs.declared.reading.Scan.{Scan}
-use Rattle.tpl_syntax.specs.declared.reading.Seen.{Seen}
-use Rattle.tpl_syntax.specs.Grammar.{Row, row, Said, Writes, line_of}
-use Rattle.tpl_syntax.specs.Judging.{Judged, allowed, excess, has_end, is_bare, misplacing, refusal_of}
+use Rattle.tpl_syntax.specs.declared.reader.Scan.{Scan}
+use Rattle.tpl_syntax.specs.declared.reader.Seen.{Seen}
+use Rattle.tpl_syntax.specs.Grammar.{Row, row, Said, Writes, said_line}
+use Rattle.tpl_syntax.specs.Refusals.{Judged, allowed, excess, has_end, is_bare, misplacing, refusal_of}
 use Rattle.tpl_syntax.specs.Lines.{Plan, formula_of, mapped}
 use Rattle.tpl_syntax.specs.Places.{Place, Role, leaf, attribute, begins, turns, ends, fits, is_closed, moved, role_of, top}
 use Rattle.tpl_syntax.specs.Templates.{Answer, IsFaulty, Say, Sayings, reached, unless_refused}
@@ -60,7 +60,7 @@ seen allow x = record { told = unless_faulty (refusal allow x) (wired x); bare =
 
 -- what is found in a line that says this
 abbrev pub found_of : Allow → Said → Line Seen
-found_of allow x = mapped (seen allow) (line_of x)
+found_of allow x = mapped (seen allow) (said_line x)
 
 -- what is found in the tokens behind the first word, as a line of this row
 abbrev pub found_as : Allow → Row → List Lexeme → Option (Line Seen)
@@ -100,13 +100,13 @@ read_of p x = read_at p x.0 (found_of (allowed p) x.1)
 -- what is read of lines that say this
 abbrev pub readings : Place → Sayings → List ReadLine
 readings p [] = []
-readings p (x ∷ xs) = read_of p x ∷ readings (moved p (line_of x.1)) xs
+readings p (x ∷ xs) = read_of p x ∷ readings (moved p (said_line x.1)) xs
 
 -- from a place up to another, the lines were read so
 abbrev pub AreRead : Place → List NumberedLine → List ReadLine → Place → Type 0
 AreRead p [] [] to = p ≡ to
 AreRead p (l ∷ ls) (r ∷ rs) to =
-    (x : Said) × Writes x l.1 × IsTrue (fits p (line_of x)) × (r ≡ read_of p (l.0, x)) × AreRead (moved p (line_of x)) ls rs to
+    (x : Said) × Writes x l.1 × IsTrue (fits p (said_line x)) × (r ≡ read_of p (l.0, x)) × AreRead (moved p (said_line x)) ls rs to
 AreRead p _ _ to = ⊥
 
 -- lines were read up to a place where all is ended

@@ -1,13 +1,13 @@
 // What the lines of a template are refused for.
 ghost use Rattle.std.specs.Prelude.{◌≡◌, ◌∷◌, [], map, option_map, MatchOption};
-ghost use Rattle.tpl_syntax.specs.Judging.{excess, first_excess, first_misplaced, high, in_element, is_nested};
-ghost use Rattle.tpl_syntax.specs.Judging.{many_lines, misplacing, missing, refusal_of};
+ghost use Rattle.tpl_syntax.specs.Refusals.{excess, first_excess, first_misplaced, high, in_element, is_nested};
+ghost use Rattle.tpl_syntax.specs.Refusals.{many_lines, misplacing, missing, refusal_of};
 ghost use Rattle.tpl_syntax.specs.Lines.{formula_of};
 ghost use Rattle.tpl_syntax.specs.Places.{role_of};
 ghost use Rattle.tpl_syntax.specs.Views.{bare_seen, fault_seen, judged_read, place_of, read_at, role_seen};
 
 use crate::place::{Content, Place, Role, is_child, is_each, is_opening, role_of};
-use crate::reading::Seen;
+use crate::reader::Seen;
 use crate::{Line, Purpose, TemplateFault, TemplateWhy};
 use formula_text::FormulaFault;
 use sig_base::MOST_TEMPLATE_LINES;

@@ -4,7 +4,7 @@ ghost use Rattle.script_lines.specs.Lines.{NumberedLine, kept_lines};
 ghost use Rattle.tpl_syntax.specs.Grammar.{Said, Writes};
 ghost use Rattle.tpl_syntax.specs.Lines.{Plan};
 ghost use Rattle.tpl_syntax.specs.Templates.{Answer, IsRead};
-ghost use Rattle.tpl_syntax.specs.Writing.{lines_of_plan, plan_text};
+ghost use Rattle.tpl_syntax.specs.Printer.{lines_of_plan, plan_text};
 
 /// The bytes of a line say one thing.
 pub fn one_line()

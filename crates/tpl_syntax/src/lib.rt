@@ -1,16 +1,16 @@
 //! Templates of pages as text, in both directions.
 #![tactic(auto)]
 
-mod building;
+mod builder;
 mod fault;
 mod judge;
 mod laws;
 mod line;
 mod place;
 mod read;
-mod reading;
+mod reader;
 mod template;
-mod writing;
+mod writer;
 
 pub use fault::{TemplateFault, TemplateWhy};
 pub use judge::MOST_DEPTH;
@@ -18,4 +18,4 @@ pub use laws::{one_line, one_template, templates_read_back};
 pub use line::{Line, Mark, Purpose, TplLine};
 pub use read::{read_numbered, read_template};
 pub use template::Template;
-pub use writing::put_template;
+pub use writer::put_template;

@@ -4,15 +4,15 @@ ghost use Rattle.script_lines.specs.Lines.{kept_lines};
 ghost use Rattle.script_lines.specs.Views.{line_of};
 ghost use Rattle.tpl_syntax.specs.Grammar as rows;
 ghost use Rattle.tpl_syntax.specs.Grammar.{Said, Writes};
-ghost use Rattle.tpl_syntax.specs.Judging.{allowed, refusal_of};
+ghost use Rattle.tpl_syntax.specs.Refusals.{allowed, refusal_of};
 ghost use Rattle.tpl_syntax.specs.Places.{fits};
 ghost use Rattle.tpl_syntax.specs.Templates.{last_number, IsRead, Refuses};
 ghost use Rattle.tpl_syntax.specs.Views.{answer_read, found_of, judged_read, place_of, read_at, sound_lines, with_all, IsReading};
 
-use crate::building::{sound_lines, template_of};
+use crate::builder::{sound_lines, template_of};
 use crate::judge::{ReadLine, read_at, refusal_of};
 use crate::place::Place;
-use crate::reading::{Seen, read_line};
+use crate::reader::{Seen, read_line};
 use crate::{Line, Template, TemplateFault, TemplateWhy};
 use formula_text::Allow;
 use script_lines::{NumberedLine, next_piece};
@@ -31,8 +31,8 @@ pub enum Reading {
 fn found_at(alloc: Global, place: &Place, line: &[u8]) -> Result<Option<Box<Line<Seen>>>, NoMemory>
     requires { length line.now ≤ MOST_LINE }
     ensures { IfOk result (λ found. MatchOption found
-        ((x : Said) → Writes x line.now → IsTrue (fits (place_of place.now) (rows.line_of x)) → ⊥)
-        (λ l. (x : Said) × Writes x line.now × IsTrue (fits (place_of place.now) (rows.line_of x))
+        ((x : Said) → Writes x line.now → IsTrue (fits (place_of place.now) (rows.said_line x)) → ⊥)
+        (λ l. (x : Said) × Writes x line.now × IsTrue (fits (place_of place.now) (rows.said_line x))
         × (l.value ≡ found_of (allowed (place_of place.now)) x))) }
 {
     let allow = Allow {

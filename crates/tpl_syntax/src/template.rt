@@ -22,7 +22,7 @@ impl Drop for Template {
 impl Model for Template {
     ghost use Rattle.std.specs.Prelude.{map};
     ghost use Rattle.sig_formula.specs.Trees.{tree};
-    ghost use Rattle.tpl_syntax.specs.Coding.{plan_code};
+    ghost use Rattle.tpl_syntax.specs.Codes.{plan_code};
     ghost use Rattle.tpl_syntax.specs.Lines.{mapped, Plan};
 
     ghost Value = { Plan };

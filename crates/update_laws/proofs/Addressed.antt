@@ -4,11 +4,11 @@ use Rattle.std.specs.List.{flat_map}
 use Rattle.std.proofs.lemmas.Bool.{cases_Bool, false≢true}
 use Rattle.page_model.specs.Forest.{Forest, none, node, on, tally, keys, kids, label_in, pruned, tops, numbered}
 use Rattle.page_model.specs.Labels.{Root, Look, shown}
-use Rattle.page_model.specs.Edits.{ascending, listed, siblings, child_edits, told, edits}
+use Rattle.page_model.specs.Edits.{ascending, listed, siblings, child_edits, look_edits, edits}
 use Rattle.page_model.specs.Replay.{Op, OpRemove}
 use Rattle.page_model.specs.Pages.{ascending_by, those}
 use Rattle.update_laws.specs.Differences.{often, children_at, restated_at}
-use Rattle.update_laws.proofs.Sorting.{often_both, ascending_map, flat_at, flat_same}
+use Rattle.update_laws.proofs.Orders.{often_both, ascending_map, flat_at, flat_same}
 use Rattle.page_model.proofs.Shared.{on_tally, or_left, or_right, self_on, tally_off}
 use Rattle.update_laws.proofs.Trees.{in_ascending_by, in_keys, kept_on, label_num, on_num, on_numbered, on_shown, same_num, tally_pruned}
 
@@ -165,7 +165,7 @@ edits_addressed num num' old new w =
     let o : on a left ≡ true = sym (in_keys a left) ∙ (sym (listed_ascending num a (keys left)) ∙ h) in
     let i = kept_on keep a old o in (o, i.0, i.1)) in
     let ce : ℕ → List Op = λ n. child_edits n 0 (siblings (kids n (pruned test (shown (numbered num old))))) (kids n (shown (numbered num' new))) in
-    let te : ℕ → List Op = λ n. told n (label_in Root n (numbered num old)) (label_in Root n (numbered num' new)) in
+    let te : ℕ → List Op = λ n. look_edits n (label_in Root n (numbered num old)) (label_in Root n (numbered num' new)) in
     let cs : flat_map ce (map num kept) ≡ flat_map (children_at num num' old new) kept = flat_at num ce kept ∙ flat_same (λ a. ce (num a)) (children_at num num' old new) kept
     (λ a h. (
     let o = kept_at a h in
@@ -178,7 +178,7 @@ edits_addressed num num' old new w =
     let o = kept_at a h in
     let x : label_in Root (num a) (numbered num old) ≡ label_in Root a old = label_num Root num a old (λ b g q. w.far a b o.1 g q) in
     let y : label_in Root (num a) (numbered num' new) ≡ label_in Root a new = ap (λ z. label_in Root z (numbered num' new)) (w.same a o.1 o.2) ∙ label_num Root num' a new (λ b g q. w.far_new a b o.2 g q) in
-    ap (λ z. told (num a) z (label_in Root (num a) (numbered num' new))) x ∙ ap (told (num a) (label_in Root a old)) y)) in
+    ap (λ z. look_edits (num a) z (label_in Root (num a) (numbered num' new))) x ∙ ap (look_edits (num a) (label_in Root a old)) y)) in
     let whole : List ℕ → List ℕ → List Op = λ g k. (map OpRemove g ++ flat_map ce k) ++ flat_map te k in
     let first : edits (numbered num old) (numbered num' new) ≡ whole (map num (ascending_by num (tops keep old))) (map num kept) = ap (λ z. whole z (ascending (keys (pruned test (shown (numbered num old)))))) gs ∙ ap (whole (map num (ascending_by num (tops keep old)))) ks in
     first ∙ (ap (λ z. (map OpRemove (map num (ascending_by num (tops keep old))) ++ z) ++ flat_map te (map num kept)) cs ∙ ap (λ z. (map OpRemove (map num (ascending_by num (tops keep old))) ++ flat_map (children_at num num' old new) kept) ++ z) ts)

@@ -10,12 +10,12 @@ use Rattle.sig_base.specs.declared.value.Outcome.{Outcome}
 use Rattle.sig_base.specs.declared.value.Outcome.TheVariants.{Good, Bad}
 use Rattle.sig_formula.specs.declared.formula.RowRef.{RowRef}
 use Rattle.sig_formula.specs.Trees.{Tree}
-use Rattle.sig_formula.specs.Answering as formulas
+use Rattle.sig_formula.specs.Evaluation as formulas
 use Rattle.signal_model.specs.Recipes.{formula, judged, no_hosts}
-use Rattle.signal_model.specs.Standing.{is_in}
+use Rattle.signal_model.specs.Signals.{is_in}
 use Rattle.signal_model.specs.Values.{Seen, Evaluation, after_read, after_step, learnt, asked_within, unknown_slots}
 use Rattle.tpl_model.specs.Sources.{evaluating}
-use Rattle.update_laws.specs.Updating.{Tells}
+use Rattle.update_laws.specs.Updates.{Tells}
 use Rattle.update_laws.specs.PageMemos.{hearing, all_same, up_to_change, Steady, Begins}
 use Rattle.tpl_model.proofs.Shared.{formula_agree, same_rows}
 

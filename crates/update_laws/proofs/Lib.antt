@@ -1,12 +1,12 @@
 mod Trees
-mod Sorting
+mod Orders
 mod Addressed
 mod Summary
 mod Walk
-mod Showings
-mod Renewing
-mod Asking
+mod Memos
+mod Updates
+mod Names
 mod Evaluations
-mod Placing
-mod Mounting
+mod Numbers
+mod Mounts
 pub mod Shared

@@ -4,10 +4,10 @@ use Rattle.std.specs.List.{flat_map}
 use Rattle.std.proofs.lemmas.Bool.{cases_Bool, false≢true, or_cases}
 use Rattle.page_model.specs.Forest.{Forest, none, node, has, on, tally, keys, kids, parent, label_in, pruned, tops, numbered}
 use Rattle.page_model.specs.Labels.{Root, Look, shown}
-use Rattle.page_model.specs.Edits.{listed, siblings, child_edits, told, edits}
+use Rattle.page_model.specs.Edits.{listed, siblings, child_edits, look_edits, edits}
 use Rattle.page_model.specs.Pages.{NumberedPage, by_number, page_shape, number_of, carried, ascending_by, those, newcomers, new_order, renumbered, with_numbers, edits_between, IsPage, IsShape, SameOrigin}
 use Rattle.update_laws.specs.Differences.{often, children_at, restated_at, read_off, SameChildren, SameLook, Found, Finds, found_edits, found_order}
-use Rattle.update_laws.proofs.Sorting.{listed_often, often_those, same_order, read_marked}
+use Rattle.update_laws.proofs.Orders.{listed_often, often_those, same_order, read_marked}
 use Rattle.update_laws.proofs.Addressed.{Two, addressed, edits_addressed, often_keys, siblings_num}
 use Rattle.page_model.proofs.Shared.{has_listed, has_on, off_tally, on_kids, or_left, or_right, self_on, tally_on}
 use Rattle.update_laws.proofs.Trees.{Knows, by_number_is, by_number_with, children_none, distinct_after, first_in, in_keys, kept_on, knows, later_in, new_number, old_number, parent_at, parent_is, tally_pruned, told_none, tops_on}
@@ -35,7 +35,7 @@ quiet_children num num' old new w a s =
     ap (λ z. child_edits (num a) 0 z (shown (numbered num' (kids a new)))) x ∙ children_none (num a) [] (shown (numbered num' (kids a new)))
 
 quiet_look : (num : ℕ → ℕ) (old new : Forest Look) (a : ℕ) → SameLook old new a → restated_at num old new a ≡ []
-quiet_look num old new a s = ap (λ z. told (num a) z (label_in Root a new)) s ∙ told_none (num a) (label_in Root a new)
+quiet_look num old new a s = ap (λ z. look_edits (num a) z (label_in Root a new)) s ∙ told_none (num a) (label_in Root a new)
 
 -- ---- what was found is enough
 

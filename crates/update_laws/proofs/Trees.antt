@@ -4,7 +4,7 @@ use Rattle.std.specs.Str.{bytes_eq}
 use Rattle.std.proofs.lemmas.List.{length-append}
 use Rattle.std.proofs.lemmas.Bool.{cases_Bool, false≢true, or_cases}
 use Rattle.std.proofs.lemmas.Slice.Eq.{bytes_eq-Decides}
-use Rattle.page_model.specs.Edits.{listed, placed, siblings, child_edits, attribute_edits, told}
+use Rattle.page_model.specs.Edits.{listed, placed, siblings, child_edits, attribute_edits, look_edits}
 use Rattle.page_model.specs.Forest.{Forest, none, node, after, has, one, on, tally, keys, kids, parent, label_in, pruned, tops, numbered}
 use Rattle.page_model.specs.Labels.{Root, Text, Element, Kind, Look, shown}
 use Rattle.page_model.specs.Pages.{NumberedPage, IsPage, IsShape, looks, by_number, page_shape, number_of, into_by, ascending_by, new_order, place_in, carried, with_numbers, renumbered}
@@ -267,7 +267,7 @@ lines_none n [] i = refl
 lines_none n ((name, None) ∷ xs) i = lines_none n xs i
 lines_none n ((name, Some v) ∷ xs) i = (let e : bytes_eq v v ≡ true = (bytes_eq-Decides v v).1 refl in rw e (lines_none n xs (suc i)))
 
-pub told_none : (n : ℕ) (x : Look) → told n x x ≡ []
+pub told_none : (n : ℕ) (x : Look) → look_edits n x x ≡ []
 told_none n Root = refl
 told_none n (Text t) = (let e : bytes_eq t t ≡ true = (bytes_eq-Decides t t).1 refl in rw e refl)
 told_none n (Element name xs) = lines_none n xs 0

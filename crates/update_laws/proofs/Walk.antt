@@ -4,7 +4,7 @@ use Rattle.std.proofs.lemmas.Bool.{cases_Bool, false≢true, true≢false, or_ca
 use Rattle.page_model.specs.Forest.{Forest, none, node, after, on, tally, kids, label_in, pruned, tops}
 use Rattle.page_model.specs.Labels.{Root, Look}
 use Rattle.update_laws.specs.Differences.{often, Marks, SameChildren, SameLook, Found, Finds, nothing, marked, found_at, Within}
-use Rattle.update_laws.proofs.Sorting.{often_both}
+use Rattle.update_laws.proofs.Orders.{often_both}
 use Rattle.page_model.proofs.Shared.{on_tally, or_false, or_left, or_right, tally_off}
 use Rattle.update_laws.proofs.Trees.{tally_after}
 

@@ -3,7 +3,7 @@ use Rattle.std.specs.Prelude.{ℕ, ◌+◌, ◌≤◌, ◌==◌, Bool, true, fal
 use Rattle.std.specs.List.{flat_map}
 use Rattle.page_model.specs.Forest.{Forest, one, on, tally, kids, label_in, pruned, tops, numbered}
 use Rattle.page_model.specs.Labels.{Root, Look, shown}
-use Rattle.page_model.specs.Edits.{listed, siblings, child_edits, told}
+use Rattle.page_model.specs.Edits.{listed, siblings, child_edits, look_edits}
 use Rattle.page_model.specs.Replay.{Op, OpRemove}
 use Rattle.page_model.specs.Pages.{NumberedPage, page_shape, number_of, carried, ascending_by, newcomers, those}
 
@@ -50,7 +50,7 @@ children_at num num' old new a =
 
 -- the text or the attributes of one kept node
 abbrev pub restated_at : (ℕ → ℕ) → Forest Look → Forest Look → ℕ → List Op
-restated_at num old new a = told (num a) (label_in Root a old) (label_in Root a new)
+restated_at num old new a = look_edits (num a) (label_in Root a old) (label_in Root a new)
 
 -- removals, then the children of each node, then texts and attributes
 abbrev pub read_off : (ℕ → ℕ) → (ℕ → ℕ) → Forest Look → Forest Look → Found → List Op

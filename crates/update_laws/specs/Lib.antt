@@ -1,3 +1,3 @@
 pub mod Differences
 pub mod PageMemos
-pub mod Updating
+pub mod Updates

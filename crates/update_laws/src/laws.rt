@@ -1,5 +1,5 @@
 // The laws of bringing a page up to date, each the contract of a call that does nothing.
-ghost use Rattle.update_laws.specs.Updating.{MountLaw, NumberLaw, ReadLaw, SourceLaw};
+ghost use Rattle.update_laws.specs.Updates.{MountLaw, NumberLaw, ReadLaw, SourceLaw};
 
 /// Whatever finds what differs, in any order, gives the operations and the order of the new numbers.
 pub fn read_law()

@@ -4,7 +4,7 @@
 #[cfg(test)]
 mod children;
 #[cfg(test)]
-mod placing;
+mod places;
 #[cfg(test)]
 mod rows;
 #[cfg(test)]

@@ -1,6 +1,6 @@
-use Rattle.effect_resting.proofs.Acting.{all_rest}
-use Rattle.effect_resting.proofs.Making.{commands_rest}
-use Rattle.effect_resting.proofs.Turning.{flushes_rest, looks_rest, turns_rest}
+use Rattle.effect_resting.proofs.Acts.{all_rest}
+use Rattle.effect_resting.proofs.Commands.{commands_rest}
+use Rattle.effect_resting.proofs.Turns.{flushes_rest, looks_rest, turns_rest}
 use Rattle.effect_resting.proofs.resting_law.Goals as goal
 
 pub returns-clause-acts : goal.returns-clause-acts

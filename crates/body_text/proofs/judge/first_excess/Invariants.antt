@@ -1,5 +1,5 @@
 use Rattle.std.proofs.Common.{◌≡◌, length, map}
-use Rattle.body_text.specs.Judging.{first_excess}
+use Rattle.body_text.specs.Refusals.{first_excess}
 use Rattle.body_text.specs.Views.{judged_read}
 use Rattle.body_text.proofs.judge.first_excess.Given as goal
 

@@ -1,4 +1,4 @@
-use Rattle.body_text.proofs.Rewriting.{lines_are, read_back}
+use Rattle.body_text.proofs.Printer.{lines_are, read_back}
 use Rattle.body_text.proofs.laws.bodies_read_back.Goals as goal
 
 pub returns-clause-read : goal.returns-clause-read

@@ -1,5 +1,5 @@
-use Rattle.body_text.proofs.Deciding.{one_answer, some_answer}
-use Rattle.body_text.proofs.Spelling.{spelled}
+use Rattle.body_text.proofs.Uniqueness.{one_answer, some_answer}
+use Rattle.body_text.proofs.Blocks.{spelled}
 use Rattle.body_text.proofs.laws.one_body.Goals as goal
 
 pub returns-clause-spelled : goal.returns-clause-spelled

@@ -1,4 +1,4 @@
-use Rattle.body_text.proofs.Deciding.{one_line}
+use Rattle.body_text.proofs.Uniqueness.{one_line}
 use Rattle.body_text.proofs.laws.one_line.Goals as goal
 
 pub returns : goal.returns

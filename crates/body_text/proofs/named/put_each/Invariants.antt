@@ -1,5 +1,5 @@
 use Rattle.std.proofs.Common.{◌≡◌, drop}
-use Rattle.body_text.specs.Naming.{with_each}
+use Rattle.body_text.specs.Names.{with_each}
 use Rattle.body_text.proofs.named.put_each.Given as goal
 
 -- with those that are left

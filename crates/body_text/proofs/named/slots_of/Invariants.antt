@@ -1,5 +1,5 @@
 use Rattle.std.proofs.Common.{◌≡◌, ◌<◌, ◌^◌, length, map, take}
-use Rattle.formula_text.specs.Judging.{slot_of}
+use Rattle.formula_text.specs.Refusals.{slot_of}
 use Rattle.body_text.proofs.named.slots_of.Given as goal
 
 abbrev pub invariant-loop-name : goal.invariant-loop-name

@@ -1,7 +1,7 @@
 use Rattle.script_lines.specs.Views.{line_of}
 use Rattle.std.proofs.Common.{map}
-use Rattle.body_text.specs.Readings.{faulty}
-use Rattle.body_text.proofs.Deciding.{is_answer, is_unended}
+use Rattle.body_text.specs.Verdicts.{faulty}
+use Rattle.body_text.proofs.Uniqueness.{is_answer, is_unended}
 use Rattle.body_text.proofs.read.answer.Goals as goal
 
 pub returns-in-Faulty : goal.returns-in-Faulty

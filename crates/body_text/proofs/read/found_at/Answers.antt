@@ -1,5 +1,5 @@
 use Rattle.std.proofs.Common.{sym}
-use Rattle.body_text.proofs.Fitting.{does_fit, does_not_fit}
+use Rattle.body_text.proofs.Places.{does_fit, does_not_fit}
 use Rattle.body_text.proofs.read.found_at.Goals as goal
 
 pub returns-in_default : goal.returns-in_default

@@ -1,6 +1,6 @@
 use Rattle.std.proofs.Common.{◌≡◌, Ok, None, map, sym, ap, ◌∙◌}
 use Rattle.sig_untrack.specs.Stated.{Bodies}
-use Rattle.body_text.specs.Judging.{refusal_of}
+use Rattle.body_text.specs.Refusals.{refusal_of}
 use Rattle.body_text.specs.Views.{judged_read}
 use Rattle.body_text.proofs.Judgements.{few_read}
 use Rattle.body_text.proofs.read.judged.Goals as goal

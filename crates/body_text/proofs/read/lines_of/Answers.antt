@@ -1,5 +1,5 @@
 use Rattle.std.proofs.Common.{arith}
-use Rattle.body_text.proofs.Cutting.{all_lines}
+use Rattle.body_text.proofs.Pieces.{all_lines}
 use Rattle.body_text.proofs.read.lines_of.Goals as goal
 
 pub loop-lines-init : goal.loop-lines-init

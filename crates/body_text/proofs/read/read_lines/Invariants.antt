@@ -1,7 +1,7 @@
 use Rattle.std.proofs.Common.{◌≤◌, ◌++◌, ℕ, List, map, drop}
 use Rattle.script_lines.specs.Views.{line_of}
 use Rattle.body_text.specs.declared.judge.ReadLine.{ReadLine}
-use Rattle.body_text.specs.Readings.{IsFaulty}
+use Rattle.body_text.specs.Verdicts.{IsFaulty}
 use Rattle.body_text.specs.Views.{AreRead}
 use Rattle.body_text.proofs.read.read_lines.Given as goal
 

@@ -2,7 +2,7 @@ use Rattle.std.proofs.Common.{map, option_map, ap, sym, subst, ◌∙◌}
 use Rattle.std.proofs.lemmas.Option.{slice_get-map}
 use Rattle.sig_untrack.specs.Stated.{rewiring, source}
 use Rattle.effect_tables.specs.declared.links.Slots.{Slots}
-use Rattle.effect_tables.specs.Fitting.{IsFew}
+use Rattle.effect_tables.specs.Scripts.{IsFew}
 use Rattle.effect_undoing.specs.Sites.{slots_in}
 use Rattle.effect_undoing.proofs.SharedSites.{get_some}
 use Rattle.effect_acts.proofs.Meant.{few_at}

@@ -1,4 +1,4 @@
-use Rattle.effect_laws.proofs.Keeping.{all_keep_counts, flushes_keep_counts}
+use Rattle.effect_laws.proofs.Preservation.{all_keep_counts, flushes_keep_counts}
 use Rattle.effect_laws.proofs.laws.counting_law.Goals as goal
 
 pub returns-clause-acts : goal.returns-clause-acts

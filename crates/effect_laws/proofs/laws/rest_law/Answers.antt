@@ -1,4 +1,4 @@
-use Rattle.effect_laws.proofs.Resting.{rest_law}
+use Rattle.effect_laws.proofs.Flushes.{rest_law}
 use Rattle.effect_laws.proofs.laws.rest_law.Goals as goal
 
 pub returns : goal.returns

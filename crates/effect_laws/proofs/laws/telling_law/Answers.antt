@@ -1,5 +1,5 @@
-use Rattle.effect_laws.proofs.Acting.{all_only_tell}
-use Rattle.effect_laws.proofs.Turning.{flushes_only_tell, turns_only_tell}
+use Rattle.effect_laws.proofs.Acts.{all_only_tell}
+use Rattle.effect_laws.proofs.Events.{flushes_only_tell, turns_only_tell}
 use Rattle.effect_laws.proofs.laws.telling_law.Goals as goal
 
 pub returns-clause-acts : goal.returns-clause-acts

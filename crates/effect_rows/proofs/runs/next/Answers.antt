@@ -1,4 +1,4 @@
-use Rattle.effect_rows.proofs.Naming.{one_named, one_pushed}
+use Rattle.effect_rows.proofs.Names.{one_named, one_pushed}
 use Rattle.effect_rows.proofs.runs.next.Goals as goal
 
 pub returns : goal.returns

@@ -1,4 +1,4 @@
-use Rattle.effect_rows.proofs.Idling.{idle_fits}
+use Rattle.effect_rows.proofs.Bodies.{idle_fits}
 use Rattle.effect_rows.proofs.scripts.idle.Goals as goal
 
 pub returns : goal.returns

@@ -1,9 +1,9 @@
 use Rattle.std.proofs.Common.{refl, sym, ap, ◌∙◌}
 use Rattle.sig_base.specs.declared.value.Outcome.TheVariants.{Bad}
 use Rattle.sig_untrack.specs.declared.body.BodyStep.TheVariants as step
-use Rattle.sig_untrack.specs.Linking.{step_of}
-use Rattle.effect_runs.specs.declared.reading.BodyEnd.TheVariants as end
-use Rattle.effect_runs.proofs.Askings.{answers_by, ends, fails_by, learns, nothing_read, reads_settled, run_is, settled_one}
+use Rattle.sig_untrack.specs.Links.{step_of}
+use Rattle.effect_runs.specs.declared.run.BodyEnd.TheVariants as end
+use Rattle.effect_runs.proofs.Asks.{answers_by, ends, fails_by, learns, nothing_read, reads_settled, run_is, settled_one}
 use Rattle.effect_runs.proofs.Slots.{slot_is_new, smaller}
 use Rattle.effect_runs.proofs.Wanted.{acts_are_few, fault_is_short}
 use Rattle.effect_runs.proofs.evaluate.evaluate_body.Goals as goal

@@ -1,6 +1,6 @@
 use Rattle.std.proofs.Common.{sym, ap, ◌∙◌}
 use Rattle.std.specs.Prelude.{is_some}
-use Rattle.effect_tables.specs.Numbering.{living}
+use Rattle.effect_tables.specs.Owners.{living}
 use Rattle.effect_tables.specs.Placed.{is_open}
 use Rattle.effect_tables.proofs.Numbers.{lives_at}
 use Rattle.effect_tables.proofs.looks.row_inside.Goals as goal

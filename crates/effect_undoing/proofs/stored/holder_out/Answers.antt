@@ -1,12 +1,12 @@
 use Rattle.std.proofs.Common.{ap, sym, subst, ◌∙◌, ◌++◌, ◌∷◌, [], List}
 use Rattle.std.proofs.lemmas.List.{map-append}
-use Rattle.effect_model.specs.Owning.{Thing, Undoing, emptied, ends, taken_out, teardown_of, under}
+use Rattle.effect_model.specs.Owners.{Thing, Undoing, emptied, ends, taken_out, teardown_of, under}
 use Rattle.sig_owner.specs.declared.thing.Undoing.TheVariants as undoing
 use Rattle.sig_owner.specs.Tables.{thing_at, thing_of}
 use Rattle.sig_owner.specs.Trees.{owned_of}
 use Rattle.sig_owner.specs.Walks.{undoing_of, undoings_of}
 use Rattle.sig_owner.proofs.Shared.{under_emptied}
-use Rattle.effect_undoing.specs.Taking.{EndsIn}
+use Rattle.effect_undoing.specs.Teardowns.{EndsIn}
 use Rattle.effect_undoing.proofs.Taken.{out_done}
 use Rattle.effect_undoing.proofs.stored.holder_out.Goals as goal
 

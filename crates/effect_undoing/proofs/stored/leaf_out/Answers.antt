@@ -1,10 +1,10 @@
 use Rattle.std.proofs.Common.{ap, sym, subst, ◌∙◌, ◌++◌, ◌∷◌, []}
-use Rattle.effect_model.specs.Owning.{ends, taken_out, teardown_of}
+use Rattle.effect_model.specs.Owners.{ends, taken_out, teardown_of}
 use Rattle.sig_owner.specs.declared.thing.Undoing.TheVariants as undoing
 use Rattle.sig_owner.specs.Tables.{thing_at, thing_of}
 use Rattle.sig_owner.specs.Trees.{owned_of}
 use Rattle.sig_owner.specs.Walks.{undoings_of}
-use Rattle.effect_undoing.specs.Taking.{EndsIn}
+use Rattle.effect_undoing.specs.Teardowns.{EndsIn}
 use Rattle.effect_undoing.proofs.stored.leaf_out.Goals as goal
 
 pub returns-clause-steps : goal.returns-clause-steps

@@ -2,7 +2,7 @@ use Rattle.std.proofs.Common.{ap}
 use Rattle.sig_words.specs.Lexemes.{text_at}
 use Rattle.sig_words.specs.Literals.{between_quotes, text_of}
 use Rattle.sig_words.proofs.Shared.{lexeme-Literal}
-use Rattle.line_forms.specs.Reading.{key_of}
+use Rattle.line_forms.specs.Reader.{key_of}
 use Rattle.line_forms.proofs.cursor.key_of.Goals as goal
 
 pub returns : goal.returns

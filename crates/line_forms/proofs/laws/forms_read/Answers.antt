@@ -2,9 +2,9 @@ use Rattle.std.proofs.Common.{◌≡◌, List, Option, Some, subst}
 use Rattle.std.specs.Prelude.{IfSome}
 use Rattle.sig_words.specs.Lexemes.{Lexeme}
 use Rattle.line_forms.specs.Forms.{Form, Args, SpellsForm}
-use Rattle.line_forms.specs.Reading.{read_form}
-use Rattle.line_forms.proofs.Sounding.{form_sound}
-use Rattle.line_forms.proofs.Completing.{form_complete}
+use Rattle.line_forms.specs.Reader.{read_form}
+use Rattle.line_forms.proofs.Soundness.{form_sound}
+use Rattle.line_forms.proofs.Completeness.{form_complete}
 use Rattle.line_forms.proofs.laws.forms_read.Goals as goal
 
 sound : (ps : Form) (a : Args ps) (ls : List Lexeme) → read_form ps ls ≡ Some a → SpellsForm ps a ls

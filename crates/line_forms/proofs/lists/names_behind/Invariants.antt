@@ -1,6 +1,6 @@
 use Rattle.std.proofs.Common.{◌≡◌, ◌++◌, ◌-◌, length, option_map}
 use Rattle.line_forms.specs.Forms.{name}
-use Rattle.line_forms.specs.Reading.{with_first, read_behind}
+use Rattle.line_forms.specs.Reader.{with_first, read_behind}
 use Rattle.line_forms.specs.Told.{ahead}
 use Rattle.line_forms.proofs.lists.names_behind.Given as goal
 

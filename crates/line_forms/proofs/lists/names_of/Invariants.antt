@@ -1,7 +1,7 @@
 use Rattle.std.proofs.Common.{◌≡◌, ◌++◌, drop, option_map}
 use Rattle.sig_words.specs.Lexemes.{lexemes}
 use Rattle.line_forms.specs.Forms.{name}
-use Rattle.line_forms.specs.Reading.{each_of}
+use Rattle.line_forms.specs.Reader.{each_of}
 use Rattle.line_forms.proofs.lists.names_of.Given as goal
 
 abbrev pub invariant-loop-token : goal.invariant-loop-token

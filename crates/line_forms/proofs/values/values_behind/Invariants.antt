@@ -1,7 +1,7 @@
 use Rattle.std.proofs.Common.{◌-◌, List, length, option_map}
 use Rattle.sig_base.specs.declared.scalar.Scalar.{Scalar}
 use Rattle.line_forms.specs.Forms.{value}
-use Rattle.line_forms.specs.Reading.{read_behind, with_first}
+use Rattle.line_forms.specs.Reader.{read_behind, with_first}
 use Rattle.line_forms.specs.Told.{ahead, AreToldValues, IsToldScalar}
 use Rattle.line_forms.proofs.Listed.{Goes}
 use Rattle.line_forms.proofs.values.values_behind.Given as goal

@@ -1,4 +1,4 @@
-use Rattle.live_cmd.proofs.Heading.{head_found, head_none}
+use Rattle.live_cmd.proofs.Heads.{head_found, head_none}
 use Rattle.live_cmd.proofs.block.head_at.Goals as goal
 
 pub returns-in_default : goal.returns-in_default

@@ -1,4 +1,4 @@
-use Rattle.live_cmd.proofs.Heading.{end_found, end_none}
+use Rattle.live_cmd.proofs.Heads.{end_found, end_none}
 use Rattle.live_cmd.proofs.block.is_end.Goals as goal
 
 pub returns-in_default : goal.returns-in_default

@@ -4,7 +4,7 @@ use Rattle.script_lines.specs.Views.{line_of}
 use Rattle.sig_untrack.specs.Stated.{Bodies, before, no_bodies}
 use Rattle.live_cmd.specs.declared.contents.Content.TheVariants as content
 use Rattle.live_cmd.specs.declared.command.Command.TheVariants as command
-use Rattle.live_cmd.proofs.Numbering.{refused_by}
+use Rattle.live_cmd.proofs.Numbers.{refused_by}
 use Rattle.live_cmd.proofs.contents.effect_content.Goals as goal
 
 pub returns-in-Ok : goal.returns-in-Ok

@@ -1,4 +1,4 @@
-use Rattle.live_cmd.proofs.Deciding.{some_item}
+use Rattle.live_cmd.proofs.Totality.{some_item}
 use Rattle.live_cmd.proofs.Items.{one_item}
 use Rattle.live_cmd.proofs.laws.one_item.Goals as goal
 

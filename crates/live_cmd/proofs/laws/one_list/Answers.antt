@@ -1,4 +1,4 @@
-use Rattle.live_cmd.proofs.Deciding.{some_items}
+use Rattle.live_cmd.proofs.Totality.{some_items}
 use Rattle.live_cmd.proofs.Items.{one_list}
 use Rattle.live_cmd.proofs.laws.one_list.Goals as goal
 

@@ -1,4 +1,4 @@
-use Rattle.live_laws.proofs.Happening.{ends_law}
+use Rattle.live_laws.proofs.Events.{ends_law}
 use Rattle.live_laws.proofs.laws.ends_law.Goals as goal
 
 pub returns : goal.returns

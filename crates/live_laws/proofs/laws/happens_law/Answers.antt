@@ -1,4 +1,4 @@
-use Rattle.live_laws.proofs.Happening.{happens_law}
+use Rattle.live_laws.proofs.Events.{happens_law}
 use Rattle.live_laws.proofs.laws.happens_law.Goals as goal
 
 pub returns : goal.returns

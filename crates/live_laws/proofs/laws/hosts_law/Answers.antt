@@ -1,4 +1,4 @@
-use Rattle.live_laws.proofs.Happening.{hosts_law}
+use Rattle.live_laws.proofs.Events.{hosts_law}
 use Rattle.live_laws.proofs.laws.hosts_law.Goals as goal
 
 pub returns : goal.returns

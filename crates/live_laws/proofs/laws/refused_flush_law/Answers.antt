@@ -1,4 +1,4 @@
-use Rattle.live_laws.proofs.Refusing.{refused_flush_law}
+use Rattle.live_laws.proofs.Refusals.{refused_flush_law}
 use Rattle.live_laws.proofs.laws.refused_flush_law.Goals as goal
 
 pub returns : goal.returns

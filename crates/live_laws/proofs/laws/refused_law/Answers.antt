@@ -1,4 +1,4 @@
-use Rattle.live_laws.proofs.Refusing.{refused_law}
+use Rattle.live_laws.proofs.Refusals.{refused_law}
 use Rattle.live_laws.proofs.laws.refused_law.Goals as goal
 
 pub returns : goal.returns

@@ -2,10 +2,10 @@ use Rattle.std.proofs.Common.{◌∙◌, ◌++◌, ◌∷◌, [], List, map, tak
 use Rattle.std.proofs.lemmas.List.{take_more}
 use Rattle.effect_tables.specs.declared.links.Links.TheFolds.{fold-roll-Links}
 use Rattle.effect_tables.specs.declared.links.Links.{Links}
-use Rattle.effect_tables.specs.Linking.{Linking, all_before, links_before, links_step}
+use Rattle.effect_tables.specs.Bodies.{Linking, all_before, links_before, links_step}
 use Rattle.sig_untrack.specs.declared.body.Body.{Body}
 use Rattle.sig_untrack.specs.Stated.{bodies_before, rewiring}
-use Rattle.live_model.specs.Linking.{links_of, target_named}
+use Rattle.live_model.specs.Links.{links_of, target_named}
 use Rattle.live_model.specs.Names.{number_of}
 use Rattle.live_linking.proofs.Linked.{nested_more, whole_links}
 use Rattle.live_linking.proofs.bodies.+links_of.Goals as goal

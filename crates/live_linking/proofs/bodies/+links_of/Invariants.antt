@@ -1,7 +1,7 @@
 use Rattle.std.proofs.Common.{◌≡◌, map, take}
 use Rattle.sig_untrack.specs.Stated.{Bodies, bodies_before}
-use Rattle.effect_tables.specs.Linking.{all_before, links_before}
-use Rattle.live_model.specs.Linking.{links_of}
+use Rattle.effect_tables.specs.Bodies.{all_before, links_before}
+use Rattle.live_model.specs.Links.{links_of}
 use Rattle.live_linking.proofs.bodies.+links_of.Given as goal
 
 -- those of the nested effects so far

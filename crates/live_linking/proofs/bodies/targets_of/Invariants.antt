@@ -1,5 +1,5 @@
 use Rattle.std.proofs.Common.{◌≡◌, take, map}
-use Rattle.live_model.specs.Linking.{target_named}
+use Rattle.live_model.specs.Links.{target_named}
 use Rattle.live_linking.proofs.bodies.targets_of.Given as goal
 
 -- what the names so far stand for

@@ -1,4 +1,4 @@
-use Rattle.live_model.proofs.Showing.{flush_law}
+use Rattle.live_model.proofs.Html.{flush_law}
 use Rattle.live_model.proofs.laws.flush_shows_scratch.Goals as goal
 
 pub returns : goal.returns

@@ -1,4 +1,4 @@
-use Rattle.live_writing.proofs.Standing.{begins}
+use Rattle.live_writing.proofs.Pieces.{begins}
 use Rattle.live_writing.proofs.laws.commands_read_back.Goals as goal
 
 pub returns : goal.returns

@@ -1,4 +1,4 @@
-use Rattle.page_laws.proofs.Living.{live_law}
+use Rattle.page_laws.proofs.LivePages.{live_law}
 use Rattle.page_laws.proofs.laws.live_law.Goals as goal
 
 pub returns : goal.returns

@@ -1,4 +1,4 @@
-use Rattle.page_laws.proofs.Living.{shown_law}
+use Rattle.page_laws.proofs.LivePages.{shown_law}
 use Rattle.page_laws.proofs.laws.shown_law.Goals as goal
 
 pub returns : goal.returns

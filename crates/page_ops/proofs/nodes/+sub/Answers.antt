@@ -8,9 +8,9 @@ use Rattle.page_model.specs.Forest.{node, none, after}
 use Rattle.page_model.specs.Labels.{Text, Element}
 use Rattle.page_tree.specs.Subs.{side_by_side, sub_tree}
 use Rattle.page_tree.proofs.Shared.{tree_element, tree_text}
-use Rattle.page_ops.specs.Readings.{begins_node, behind_quote}
+use Rattle.page_ops.specs.Parser.{begins_node, behind_quote}
 use Rattle.page_ops.proofs.Nested.{below_one, element_node, element_read, fit_after, fit_below, fit_element, fit_none, fit_text, front_shorter, nodes_end, nodes_go, subs_put, text_node, text_shorter}
-use Rattle.page_ops.proofs.Quoting.{behind_quoted}
+use Rattle.page_ops.proofs.Quotes.{behind_quoted}
 use Rattle.page_ops.proofs.nodes.+sub.Goals as goal
 
 pub returns-then-byte_at-eq34-clause-fit : goal.returns-then-byte_at-eq34-clause-fit

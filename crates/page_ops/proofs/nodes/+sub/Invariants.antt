@@ -2,7 +2,7 @@ use Rattle.std.proofs.Common.{◌≡◌, ◌≤◌, suc, ℕ, List, length, map}
 use Rattle.page_model.specs.Forest.{Forest, node, none}
 use Rattle.page_model.specs.Labels.{Kind}
 use Rattle.page_tree.specs.Subs.{side_by_side, sub_tree}
-use Rattle.page_ops.specs.Readings.{IsFit, node_text}
+use Rattle.page_ops.specs.Parser.{IsFit, node_text}
 use Rattle.page_ops.proofs.Nested.{LeftNodes}
 use Rattle.page_ops.proofs.nodes.+sub.Given as goal
 

@@ -1,5 +1,5 @@
 use Rattle.std.proofs.Common.{arith, sym, ap, ◌∙◌}
-use Rattle.page_ops.specs.Readings.{behind_front, front}
+use Rattle.page_ops.specs.Parser.{behind_front, front}
 use Rattle.page_ops.proofs.Listed.{left_ends, left_goes, left_shorter, tail_begins}
 use Rattle.page_ops.proofs.nodes.attributes.Goals as goal
 

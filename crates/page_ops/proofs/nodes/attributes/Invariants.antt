@@ -2,7 +2,7 @@ use Rattle.std.proofs.Common.{◌≡◌, ◌++◌, ◌∷◌, ◌≤◌, ℕ, Li
 use Rattle.page_model.specs.Forest.{Forest}
 use Rattle.page_model.specs.Labels.{Kind}
 use Rattle.page_model.specs.Texts.{written_attributes, written_nodes}
-use Rattle.page_ops.specs.Readings.{AreFit}
+use Rattle.page_ops.specs.Parser.{AreFit}
 use Rattle.page_ops.proofs.Listed.{Left}
 use Rattle.page_ops.proofs.nodes.attributes.Given as goal
 

@@ -1,7 +1,7 @@
 use Rattle.std.proofs.Common.{ap, ◌∙◌}
 use Rattle.std.specs.Fmt.{decimal}
-use Rattle.page_ops.specs.Readings.{behind_front, front}
-use Rattle.page_ops.proofs.Wording.{behind_is, front_is, number_run}
+use Rattle.page_ops.specs.Parser.{behind_front, front}
+use Rattle.page_ops.proofs.Words.{behind_is, front_is, number_run}
 use Rattle.page_ops.proofs.nodes.number_at.Goals as goal
 
 pub returns-clause-same : goal.returns-clause-same

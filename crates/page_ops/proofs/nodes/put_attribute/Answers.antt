@@ -1,6 +1,6 @@
 use Rattle.std.proofs.Common.{sym, ap, ◌∙◌}
 use Rattle.page_model.specs.Labels.{named}
-use Rattle.page_ops.proofs.Fitting.{fit_put}
+use Rattle.page_ops.proofs.Attributes.{fit_put}
 use Rattle.page_ops.proofs.nodes.put_attribute.Goals as goal
 
 pub returns-clause-fit : goal.returns-clause-fit

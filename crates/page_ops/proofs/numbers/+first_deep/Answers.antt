@@ -5,7 +5,7 @@ use Rattle.page_model.specs.Replay as replay
 use Rattle.page_model.specs.Replay.{or_else}
 use Rattle.page_tree.specs.declared.sub.Sub.{Sub}
 use Rattle.page_tree.specs.Subs.{side_by_side, sub_tree}
-use Rattle.page_ops.proofs.Coming.{deep_cons, deep_element, deep_text}
+use Rattle.page_ops.proofs.Subtrees.{deep_cons, deep_element, deep_text}
 use Rattle.page_ops.proofs.numbers.+first_deep.Goals as goal
 
 pub loop-sub-preserved : goal.loop-sub-preserved

@@ -3,7 +3,7 @@ use Rattle.indexmap.specs.IndexMap.{get}
 use Rattle.page_model.specs.Forest.{keys, on}
 use Rattle.page_tree.specs.Subs.{sub_tree}
 use Rattle.page_ops.specs.Numbers.{first_of, is_again, mark, often}
-use Rattle.page_ops.proofs.Coming.{used_is}
+use Rattle.page_ops.proofs.Subtrees.{used_is}
 use Rattle.page_ops.proofs.numbers.first_used.Goals as goal
 
 pub returns : goal.returns

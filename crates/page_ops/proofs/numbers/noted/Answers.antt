@@ -1,6 +1,6 @@
 use Rattle.std.proofs.Common.{get_or, nat_eq, refl}
 use Rattle.indexmap.specs.IndexMap.{get}
-use Rattle.page_ops.proofs.Coming.{noted_step}
+use Rattle.page_ops.proofs.Subtrees.{noted_step}
 use Rattle.page_ops.proofs.numbers.noted.Goals as goal
 
 pub loop-number-preserved : goal.loop-number-preserved

@@ -1,5 +1,5 @@
 use Rattle.std.proofs.Common.{◌≡◌, false, drop, length}
-use Rattle.page_ops.specs.Readings.{behind_quote}
+use Rattle.page_ops.specs.Parser.{behind_quote}
 use Rattle.page_ops.proofs.parts.behind_literal.Given as goal
 
 abbrev pub invariant-loop-byte : goal.invariant-loop-byte

@@ -1,9 +1,9 @@
 use Rattle.std.proofs.Common.{◌≡◌, ◌++◌, ℕ, List, ap, ◌∙◌, drop, false}
 use Rattle.std.proofs.lemmas.Result.{IfOk-weaker}
-use Rattle.sig_base.specs.Printing.{quoted}
+use Rattle.sig_base.specs.Printer.{quoted}
 use Rattle.page_model.specs.Texts.{IsText}
-use Rattle.page_ops.specs.Readings.{unquoted}
-use Rattle.page_ops.proofs.Quoting.{quoted_is}
+use Rattle.page_ops.specs.Parser.{unquoted}
+use Rattle.page_ops.proofs.Quotes.{quoted_is}
 use Rattle.page_ops.proofs.parts.literal.Goals as goal
 
 pub returns-in_default-clause-same : goal.returns-in_default-clause-same

@@ -1,7 +1,7 @@
 use Rattle.std.proofs.Common.{◌≡◌, true, ◌∙◌, ap, sym}
 use Rattle.std.proofs.lemmas.Result.{IfOk-weaker}
 use Rattle.html_out.specs.Html.{good_name}
-use Rattle.page_ops.proofs.Wording.{good_a, name_text}
+use Rattle.page_ops.proofs.Words.{good_a, name_text}
 use Rattle.page_ops.proofs.parts.name.Goals as goal
 
 pub returns-in_default-clause-name : goal.returns-in_default-clause-name

@@ -1,5 +1,5 @@
 use Rattle.std.proofs.Common.{◌≡◌, ◌++◌, false, drop}
-use Rattle.page_ops.specs.Readings.{unquoted}
+use Rattle.page_ops.specs.Parser.{unquoted}
 use Rattle.page_ops.proofs.parts.unquoted.Given as goal
 
 abbrev pub invariant-loop-byte : goal.invariant-loop-byte

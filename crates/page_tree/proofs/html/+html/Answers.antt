@@ -3,7 +3,7 @@ use Rattle.std.proofs.lemmas.List.{drop_more, drop_all}
 use Rattle.page_model.specs.Html.{html_in}
 use Rattle.page_tree.specs.Rows.{build, look}
 use Rattle.page_tree.proofs.Lists.{step_out, last_out}
-use Rattle.page_tree.proofs.Showing.{shows_cons, shows_none}
+use Rattle.page_tree.proofs.Bytes.{shows_cons, shows_none}
 use Rattle.page_tree.proofs.html.+html.Goals as goal
 
 pub write_nodes-loop-id-preserved : goal.write_nodes-loop-id-preserved

@@ -4,7 +4,7 @@ use Rattle.page_model.specs.Labels.{Text, Element}
 use Rattle.page_tree.specs.declared.sub.Sub.{Sub}
 use Rattle.page_tree.specs.Rows.{Row, numbered_row}
 use Rattle.page_tree.specs.Subs.{rows_of, side_by_side, sub_tree}
-use Rattle.page_tree.proofs.Bringing.{rows_text, rows_cons, rows_element}
+use Rattle.page_tree.proofs.Subtrees.{rows_text, rows_cons, rows_element}
 use Rattle.page_tree.proofs.Lists.{no_items, step_out, last_out}
 use Rattle.page_tree.proofs.sub.+put_rows.Goals as goal
 

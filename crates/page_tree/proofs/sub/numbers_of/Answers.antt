@@ -4,7 +4,7 @@ use Rattle.page_model.specs.Edits.{siblings}
 use Rattle.page_tree.specs.declared.sub.Sub.{Sub}
 use Rattle.page_tree.specs.Subs.{side_by_side, sub_tree}
 use Rattle.page_tree.proofs.Lists.{step_out}
-use Rattle.page_tree.proofs.Bringing.{numbers_cons}
+use Rattle.page_tree.proofs.Subtrees.{numbers_cons}
 use Rattle.page_tree.proofs.sub.numbers_of.Goals as goal
 
 pub loop-sub-preserved : goal.loop-sub-preserved

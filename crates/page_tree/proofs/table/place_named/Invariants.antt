@@ -1,5 +1,5 @@
 use Rattle.std.proofs.Common.{◌≡◌, drop}
-use Rattle.page_tree.specs.Reading as reading
+use Rattle.page_tree.specs.Queries as reading
 use Rattle.page_tree.proofs.Lists.{after_many}
 use Rattle.page_tree.proofs.table.place_named.Given as goal
 

@@ -1,5 +1,5 @@
 use Rattle.std.proofs.Common.{arith, drop, sym, ◌∙◌}
-use Rattle.script_lines.proofs.Reading.{none_kept, passed_first, kept_first}
+use Rattle.script_lines.proofs.Reader.{none_kept, passed_first, kept_first}
 use Rattle.script_lines.proofs.line.next_kept.Goals as goal
 
 pub returns-then-not-is_passed-clause-kept : goal.returns-then-not-is_passed-clause-kept

@@ -2,7 +2,7 @@ use Rattle.std.proofs.Common.{arith, ℕ, List, ◌+◌, ◌∷◌, drop, length
 use Rattle.std.proofs.lemmas.Bool.{eqb-true, eqb-false}
 use Rattle.std.proofs.lemmas.List.{nil_from_length}
 use Rattle.script_lines.specs.Lines.{lines}
-use Rattle.script_lines.proofs.Reading.{lines_nil, line_at, last_at}
+use Rattle.script_lines.proofs.Reader.{lines_nil, line_at, last_at}
 use Rattle.script_lines.proofs.line.next_line.Goals as goal
 
 pub returns-then-is_empty-clause-line : goal.returns-then-is_empty-clause-line

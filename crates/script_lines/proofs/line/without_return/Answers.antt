@@ -1,5 +1,5 @@
 use Rattle.std.proofs.Common.{arith, sym}
-use Rattle.script_lines.proofs.Reading.{return_dropped, no_return}
+use Rattle.script_lines.proofs.Reader.{return_dropped, no_return}
 use Rattle.script_lines.proofs.line.without_return.Goals as goal
 use Rattle.script_lines.proofs.line.without_return.Goals.{else-n-gt0-via-then-n-gt0+else-line-n-eq13, else-n-gt0-via-else-n-gt0}
 

@@ -1,4 +1,4 @@
-use Rattle.script_lines.proofs.Cutting.{script_cut}
+use Rattle.script_lines.proofs.Cuts.{script_cut}
 use Rattle.script_lines.proofs.piece.cut_law.Goals as goal
 
 pub returns : goal.returns

@@ -2,7 +2,7 @@ use Rattle.std.proofs.Common.{◌≡◌, arith, List, [], ◌∷◌, true, drop,
 use Rattle.script_lines.specs.Lines.{NumberedLine, kept_lines}
 use Rattle.script_lines.specs.Pieces.{Piece, inside, outside, pieces}
 use Rattle.script_lines.specs.Views.{line_of}
-use Rattle.script_lines.proofs.Reading.{none_left, block_begins, line_alone}
+use Rattle.script_lines.proofs.Reader.{none_left, block_begins, line_alone}
 use Rattle.script_lines.proofs.piece.next_piece.Goals as goal
 
 pub returns-in_default-clause-piece : goal.returns-in_default-clause-piece

@@ -3,7 +3,7 @@ use Rattle.std.proofs.lemmas.List.{map-append}
 use Rattle.script_lines.specs.Lines.{NumberedLine, kept_lines}
 use Rattle.script_lines.specs.Pieces.{Piece, inside, outside, pieces}
 use Rattle.script_lines.specs.Views.{line_of}
-use Rattle.script_lines.proofs.Reading.{block_ends, block_goes_on, block_unended, level_least}
+use Rattle.script_lines.proofs.Reader.{block_ends, block_goes_on, block_unended, level_least}
 use Rattle.script_lines.proofs.piece.rest_of_block.Goals as goal
 
 pub returns-then-level-eq0-clause-lines : goal.returns-then-level-eq0-clause-lines

@@ -1,6 +1,6 @@
 use Rattle.std.proofs.Common.{◌≡◌, ◌++◌, drop, codes}
 use Rattle.std.specs.List.{flat_map}
-use Rattle.sig_base.specs.Printing.{printed_row}
+use Rattle.sig_base.specs.Printer.{printed_row}
 use Rattle.sig_base.proofs.print.put_each_row.Given as goal
 
 abbrev pub invariant-loop-row : goal.invariant-loop-row

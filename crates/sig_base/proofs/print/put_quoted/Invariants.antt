@@ -1,6 +1,6 @@
 use Rattle.std.proofs.Common.{◌≡◌, ◌++◌, drop}
 use Rattle.std.specs.List.{flat_map}
-use Rattle.sig_base.specs.Printing.{in_quotes}
+use Rattle.sig_base.specs.Printer.{in_quotes}
 use Rattle.sig_base.proofs.print.put_quoted.Given as goal
 
 abbrev pub invariant-loop-byte : goal.invariant-loop-byte

@@ -1,7 +1,7 @@
 use Rattle.std.proofs.Common.{◌++◌, [], ◌∷◌, map, take, sym, ap, ◌∙◌}
 use Rattle.std.proofs.lemmas.List.{map-append, take_all, take_more}
 use Rattle.signal_model.specs.Values.{value_of}
-use Rattle.sig_computed.proofs.Settlings.{nothing_settled, settles_names, then_settled}
+use Rattle.sig_computed.proofs.Names.{nothing_settled, settles_names, then_settled}
 use Rattle.sig_computed.proofs.all.settle_all.Goals as goal
 
 pub loop-id-init : goal.loop-id-init

@@ -1,4 +1,4 @@
-use Rattle.sig_computed.proofs.Passing.{passing_law}
+use Rattle.sig_computed.proofs.Skips.{passing_law}
 use Rattle.sig_computed.proofs.laws.passing_law.Goals as goal
 
 pub returns : goal.returns

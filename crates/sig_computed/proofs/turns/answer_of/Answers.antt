@@ -1,4 +1,4 @@
-use Rattle.signal_model.specs.Standing.{standing}
+use Rattle.signal_model.specs.Signals.{standing}
 use Rattle.sig_computed.proofs.Leaves.{host_answer}
 use Rattle.sig_computed.proofs.turns.answer_of.Goals as goal
 

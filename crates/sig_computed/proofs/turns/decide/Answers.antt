@@ -1,6 +1,6 @@
 use Rattle.std.proofs.Common.{sym, ◌∙◌, drop, map}
 use Rattle.signal_model.specs.Memos.{holds_cycle, sources_of}
-use Rattle.sig_computed.specs.Stepping.{GoesOn, Running}
+use Rattle.sig_computed.specs.Steps.{GoesOn, Running}
 use Rattle.sig_computed.specs.Views.{evaluating, first_moved, seen_of}
 use Rattle.sig_computed.proofs.Leaves.{decided_moved, decided_still}
 use Rattle.sig_computed.proofs.Sources.{moved_at}

@@ -1,5 +1,5 @@
 use Rattle.std.proofs.Common.{◌∙◌}
-use Rattle.signal_model.specs.Standing.{standing}
+use Rattle.signal_model.specs.Signals.{standing}
 use Rattle.signal_model.specs.Marks.{mark_of}
 use Rattle.sig_nodes.specs.States.{is_computing}
 use Rattle.sig_computed.proofs.Looks.{found_clean, found_other}

@@ -1,7 +1,7 @@
 use Rattle.std.proofs.Common.{cond, sym, ap, ◌∙◌, subst}
-use Rattle.signal_model.specs.Standing.{standing, is_in}
+use Rattle.signal_model.specs.Signals.{standing, is_in}
 use Rattle.sig_nodes.specs.States.{is_computing}
-use Rattle.sig_computed.specs.Passing.{look_steps, passed_over}
+use Rattle.sig_computed.specs.Skips.{look_steps, passed_over}
 use Rattle.sig_computed.specs.Views.{evaluating, Stays}
 use Rattle.sig_computed.proofs.Leaves.{kind_computed, ready_computed, ready_other}
 use Rattle.sig_computed.proofs.Looks.{kind_idle, over_clean, over_visited, stays_here}

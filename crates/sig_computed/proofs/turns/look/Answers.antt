@@ -1,7 +1,7 @@
 use Rattle.std.proofs.Common.{sym, ◌∙◌, drop}
 use Rattle.signal_model.specs.Memos.{holds_cycle, sources_of}
-use Rattle.sig_computed.specs.Stepping.{decided}
-use Rattle.sig_computed.specs.Passing.{passed_over}
+use Rattle.sig_computed.specs.Steps.{decided}
+use Rattle.sig_computed.specs.Skips.{passed_over}
 use Rattle.sig_computed.specs.Views.{evaluating, first_moved}
 use Rattle.sig_computed.proofs.Looks.{evaluating_stays, look_decides}
 use Rattle.sig_computed.proofs.turns.look.Goals as goal

@@ -1,6 +1,6 @@
 use Rattle.std.proofs.Common.{◌≡◌, subst}
 use Rattle.std.specs.Prelude.{IfOk}
-use Rattle.signal_model.specs.Standing.{standing, is_in}
+use Rattle.signal_model.specs.Signals.{standing, is_in}
 use Rattle.signal_model.specs.Memos.{memo_of}
 use Rattle.signal_model.specs.Sound.{standing_outcome}
 use Rattle.sig_nodes.specs.States.{is_computing}

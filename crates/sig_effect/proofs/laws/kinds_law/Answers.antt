@@ -1,4 +1,4 @@
-use Rattle.sig_effect.proofs.Keeping.{all_keep_kinds, flushes_keep_kinds}
+use Rattle.sig_effect.proofs.SameKinds.{all_keep_kinds, flushes_keep_kinds}
 use Rattle.sig_effect.proofs.laws.kinds_law.Goals as goal
 
 pub returns-clause-acts : goal.returns-clause-acts

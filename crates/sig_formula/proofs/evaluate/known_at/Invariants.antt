@@ -1,5 +1,5 @@
 use Rattle.std.proofs.Common.{◌≡◌, drop}
-use Rattle.sig_formula.specs.Answering.{known_at}
+use Rattle.sig_formula.specs.Evaluation.{known_at}
 use Rattle.sig_formula.proofs.evaluate.known_at.Given as goal
 
 abbrev pub invariant-loop-entry : goal.invariant-loop-entry

@@ -1,7 +1,7 @@
 use Rattle.std.proofs.Common.{[]}
 use Rattle.std.specs.Option.{option_copied}
 use Rattle.sig_formula.specs.Trees.{tree}
-use Rattle.sig_formula.proofs.Reaching.{more_is_paused}
+use Rattle.sig_formula.proofs.Progress.{more_is_paused}
 use Rattle.sig_formula.proofs.evaluate.step.Goals as goal
 
 pub advance-requires-clause-paused : goal.advance-requires-clause-paused

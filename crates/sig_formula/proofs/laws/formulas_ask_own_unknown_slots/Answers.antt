@@ -1,4 +1,4 @@
-use Rattle.sig_formula.proofs.Asking.{asks_askable, formula_asks}
+use Rattle.sig_formula.proofs.Asks.{asks_askable, formula_asks}
 use Rattle.sig_formula.proofs.laws.formulas_ask_own_unknown_slots.Goals as goal
 
 pub returns-clause-tracking : goal.returns-clause-tracking

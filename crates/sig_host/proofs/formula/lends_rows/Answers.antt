@@ -1,4 +1,4 @@
-use Rattle.sig_host.proofs.Lending.{lends_each}
+use Rattle.sig_host.proofs.Loans.{lends_each}
 use Rattle.sig_host.proofs.formula.lends_rows.Goals as goal
 
 pub returns : goal.returns

@@ -2,7 +2,7 @@ use Rattle.std.proofs.Common.{◌&&◌, [], sym, ap, ◌∙◌}
 use Rattle.signal_model.specs.Memos.{must_run_by}
 use Rattle.sig_nodes.specs.declared.node.Body.{Body}
 use Rattle.sig_nodes.specs.Nodes.{is_computed_body, memo_body, memos_of}
-use Rattle.sig_nodes.proofs.Searching.{due_computed, due_found}
+use Rattle.sig_nodes.proofs.Searches.{due_computed, due_found}
 use Rattle.sig_nodes.proofs.marks.is_due.Goals as goal
 
 pub returns-in-Some : goal.returns-in-Some

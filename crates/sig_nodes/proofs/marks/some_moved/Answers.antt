@@ -1,7 +1,7 @@
 use Rattle.std.proofs.Common.{◌+◌, ◌||◌, [], drop, sym, ap, ◌∙◌}
 use Rattle.signal_model.specs.Memos.{some_moved, sources_in}
 use Rattle.sig_nodes.specs.Nodes.{memos_of}
-use Rattle.sig_nodes.proofs.Searching.{moved_step}
+use Rattle.sig_nodes.proofs.Searches.{moved_step}
 use Rattle.sig_nodes.proofs.marks.some_moved.Goals as goal
 
 pub returns-then-has_moved : goal.returns-then-has_moved

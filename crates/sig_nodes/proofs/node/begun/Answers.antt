@@ -3,10 +3,10 @@ use Rattle.std.specs.Prelude.{IfOk, Result, Ok, Err}
 use Rattle.sig_base.specs.declared.value.Known.{Known}
 use Rattle.sig_formula.specs.declared.formula.RowRef.{RowRef}
 use Rattle.sig_formula.specs.declared.formula.Formula.{Formula}
-use Rattle.sig_formula.specs.Running.{Evaluation, IsPaused}
+use Rattle.sig_formula.specs.Machines.{Evaluation, IsPaused}
 use Rattle.sig_formula.specs.Trees.{tree}
-use Rattle.sig_nodes.specs.Pausing.{IsHeldOf}
-use Rattle.sig_nodes.proofs.Pausing.{new_held}
+use Rattle.sig_nodes.specs.Pauses.{IsHeldOf}
+use Rattle.sig_nodes.proofs.Pauses.{new_held}
 use Rattle.sig_nodes.proofs.node.begun.Goals as goal
 
 begins : {E : Type 0} (held : Option Evaluation) (f : Formula) (r : Result Evaluation E) → IfOk r (λ p. (row : Option RowRef) → IsPaused p (tree f) row []) →

@@ -1,5 +1,5 @@
 use Rattle.std.proofs.Common.{ℕ, [], ◌∷◌, ◌++◌, List, length, ap, ◌∙◌, arith}
-use Rattle.signal_model.specs.Standing.{is_in}
+use Rattle.signal_model.specs.Signals.{is_in}
 use Rattle.sig_nodes.specs.Nodes.{seat_at}
 use Rattle.sig_nodes.proofs.search.begin.Goals as goal
 

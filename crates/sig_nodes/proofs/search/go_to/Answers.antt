@@ -1,5 +1,5 @@
 use Rattle.std.proofs.Common.{◌<◌, ◌∷◌, [], ◌++◌, ℕ, List, length, length-append, ap, sym, ◌∙◌, subst, arith}
-use Rattle.signal_model.specs.Standing.{is_in}
+use Rattle.signal_model.specs.Signals.{is_in}
 use Rattle.sig_base.specs.declared.limits.TheConstants.{MOST_NODES}
 use Rattle.sig_nodes.proofs.search.go_to.Goals as goal
 

@@ -1,6 +1,6 @@
 use Rattle.std.proofs.Common.{◌≡◌, ℕ, ◌+◌, ◌-◌, ◌*◌, ◌≤◌, true, length}
 use Rattle.sig_base.specs.declared.limits.TheConstants.{MOST_NODES}
-use Rattle.signal_model.specs.Standing.{is_in}
+use Rattle.signal_model.specs.Signals.{is_in}
 use Rattle.sig_nodes.specs.Search.{IsWay, Reaches}
 use Rattle.sig_nodes.proofs.search.goes_to_due.Given as goal
 

@@ -1,5 +1,5 @@
 use Rattle.std.proofs.Common.{◌&&◌, not, ap, sym, ◌∙◌}
-use Rattle.signal_model.specs.Standing.{is_in}
+use Rattle.signal_model.specs.Signals.{is_in}
 use Rattle.sig_nodes.specs.Nodes.{body_at, is_computed_body, seat_at}
 use Rattle.sig_nodes.proofs.search.is_new.Goals as goal
 

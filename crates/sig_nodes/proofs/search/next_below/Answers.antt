@@ -1,6 +1,6 @@
 use Rattle.std.proofs.Common.{◌+◌, Some, drop, if◌then◌else◌, ap, sym, ◌∙◌, arith}
 use Rattle.sig_nodes.specs.Search.{first_new}
-use Rattle.sig_nodes.proofs.Reaching.{first_end, first_step}
+use Rattle.sig_nodes.proofs.Walks.{first_end, first_step}
 use Rattle.sig_nodes.proofs.search.next_below.Goals as goal
 
 pub returns-then-is_new : goal.returns-then-is_new

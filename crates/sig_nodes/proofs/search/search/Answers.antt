@@ -1,11 +1,11 @@
 use Rattle.std.proofs.Common.{ℕ, ◌≡◌, ◌||◌, ◌∷◌, [], List, true, false, length, ap, sym, ◌∙◌, refl, subst, arith}
 use Rattle.std.proofs.lemmas.Bool.{eq-eqb}
-use Rattle.signal_model.specs.Standing.{is_in}
+use Rattle.signal_model.specs.Signals.{is_in}
 use Rattle.sig_nodes.specs.Nodes.{seat_at}
 use Rattle.sig_nodes.specs.Search.{found_at, IsWay, Reaches}
 use Rattle.sig_nodes.proofs.KeptFinds.{found_below}
-use Rattle.sig_nodes.proofs.Reaching.{reach_begin, reached_clean}
-use Rattle.sig_nodes.proofs.Searching.{checked_mark}
+use Rattle.sig_nodes.proofs.Walks.{reach_begin, reached_clean}
+use Rattle.sig_nodes.proofs.Searches.{checked_mark}
 use Rattle.sig_nodes.proofs.search.search.Goals as goal
 
 pub returns-then-is_found-clause-mark : goal.returns-then-is_found-clause-mark

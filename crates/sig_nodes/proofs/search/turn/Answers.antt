@@ -1,9 +1,9 @@
 use Rattle.std.proofs.Common.{◌≡◌, ◌∷◌, [], ℕ, List, true, length, length-append, ap, sym, ◌∙◌, subst, arith}
-use Rattle.signal_model.specs.Standing.{is_in}
+use Rattle.signal_model.specs.Signals.{is_in}
 use Rattle.signal_model.specs.Memos.{source_names, sources_in}
 use Rattle.sig_nodes.specs.Nodes.{body_at, memo_body, seat_at}
 use Rattle.sig_nodes.specs.Search.{AreDue, IsWay, Reaches}
-use Rattle.sig_nodes.proofs.Reaching.{first_found, keeps_name, listed_more, none_found, reach_left, reach_next, way_due}
+use Rattle.sig_nodes.proofs.Walks.{first_found, keeps_name, listed_more, none_found, reach_left, reach_next, way_due}
 use Rattle.sig_nodes.proofs.search.turn.Goals as goal
 
 pub enter-requires : goal.enter-requires

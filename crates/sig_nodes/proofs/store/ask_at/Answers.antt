@@ -4,7 +4,7 @@ use Rattle.sig_nodes.specs.declared.node.Body.{Body}
 use Rattle.sig_nodes.specs.Answers.{IsAnswerHere, IsJudgedAnswer}
 use Rattle.sig_nodes.specs.Nodes.{body_at, changed_at, known_body, known_node, slots_body, stands_of}
 use Rattle.sig_nodes.proofs.Edits.{body_got, body_written, written}
-use Rattle.sig_nodes.proofs.Looking.{asked_live}
+use Rattle.sig_nodes.proofs.Lookups.{asked_live}
 use Rattle.sig_nodes.proofs.store.ask_at.Goals as goal
 
 pub node_mut-requires : goal.node_mut-requires

@@ -1,7 +1,7 @@
 use Rattle.std.proofs.Common.{◌≡◌, List, ◌++◌, ◌∷◌, [], length, sym, ap, ◌∙◌, arith}
 use Rattle.sig_owner.specs.Tables.{Row, above_row, held, put_inside, row_with, rows_of, thing_of}
-use Rattle.sig_owner.proofs.Holding.{inside_length}
-use Rattle.sig_owner.proofs.Reading.{rows_length, rows_push}
+use Rattle.sig_owner.proofs.Consistency.{inside_length}
+use Rattle.sig_owner.proofs.Rows.{rows_length, rows_push}
 use Rattle.sig_owner.proofs.holder.add_holder.Goals as goal
 
 pub push-requires-clause-count : goal.push-requires-clause-count

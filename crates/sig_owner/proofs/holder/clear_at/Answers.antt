@@ -1,6 +1,6 @@
 use Rattle.std.proofs.Common.{refl, sym, ◌∙◌}
 use Rattle.sig_owner.specs.Tables.{emptied_row}
-use Rattle.sig_owner.proofs.Reading.{live_stands, untouched, written}
+use Rattle.sig_owner.proofs.Rows.{live_stands, untouched, written}
 use Rattle.sig_owner.proofs.holder.clear_at.Goals as goal
 
 pub returns-then-not-is_live_at : goal.returns-then-not-is_live_at

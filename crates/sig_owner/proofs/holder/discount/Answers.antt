@@ -1,6 +1,6 @@
 use Rattle.std.proofs.Common.{ℕ, ◌≡◌, arith, cond, true, sym, ap, ◌∙◌}
 use Rattle.sig_owner.specs.Tables.{is_owner_row, row_at, rows_of}
-use Rattle.sig_owner.proofs.Counting.{count_ended}
+use Rattle.sig_owner.proofs.Counts.{count_ended}
 use Rattle.sig_owner.proofs.holder.discount.Goals as goal
 
 pub overflow_sub-owners : goal.overflow_sub-owners

@@ -1,7 +1,7 @@
 use Rattle.std.proofs.Common.{ap, ◌∙◌}
-use Rattle.sig_owner.specs.Sifting.{is_held_of}
+use Rattle.sig_owner.specs.Removals.{is_held_of}
 use Rattle.sig_owner.specs.Tables.{items_of, row_of}
-use Rattle.sig_owner.proofs.Reading.{items_kept}
+use Rattle.sig_owner.proofs.Rows.{items_kept}
 use Rattle.sig_owner.proofs.holder.drop_held.Goals as goal
 
 pub returns : goal.returns

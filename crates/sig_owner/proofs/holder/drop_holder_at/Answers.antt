@@ -1,7 +1,7 @@
 use Rattle.std.proofs.Common.{sym, ap, ◌∙◌}
-use Rattle.sig_owner.specs.Sifting.{is_held_of}
+use Rattle.sig_owner.specs.Removals.{is_held_of}
 use Rattle.sig_owner.specs.Tables.{owner_count, rows_of}
-use Rattle.sig_owner.proofs.Counting.{count_sifted}
+use Rattle.sig_owner.proofs.Counts.{count_sifted}
 use Rattle.sig_owner.proofs.holder.drop_holder_at.Goals as goal
 
 pub end_one-requires : goal.end_one-requires

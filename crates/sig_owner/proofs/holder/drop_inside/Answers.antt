@@ -1,5 +1,5 @@
 use Rattle.std.proofs.Common.{ap, sym, ◌∙◌}
-use Rattle.sig_owner.specs.Sifting.{is_held_of, sifted_inside}
+use Rattle.sig_owner.specs.Removals.{is_held_of, sifted_inside}
 use Rattle.sig_owner.specs.Tables.{rows_of}
 use Rattle.sig_owner.proofs.holder.drop_inside.Goals as goal
 

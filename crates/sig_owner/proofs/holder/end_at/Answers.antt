@@ -1,6 +1,6 @@
 use Rattle.std.proofs.Common.{refl, sym, ap, ◌∙◌}
 use Rattle.sig_owner.specs.Tables.{ended_row, rows_of}
-use Rattle.sig_owner.proofs.Reading.{live_stands, removed, untouched}
+use Rattle.sig_owner.proofs.Rows.{live_stands, removed, untouched}
 use Rattle.sig_owner.proofs.holder.end_at.Goals as goal
 
 pub returns-then-not-is_live_at : goal.returns-then-not-is_live_at

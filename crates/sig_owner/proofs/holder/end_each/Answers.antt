@@ -1,7 +1,7 @@
 use Rattle.std.proofs.Common.{sym, ap, ◌∙◌, take, ◌++◌, ◌∷◌, []}
 use Rattle.std.proofs.lemmas.List.{take_more}
 use Rattle.sig_owner.specs.Tables.{all_ended, changed_at, ended_row, rows_of}
-use Rattle.sig_owner.proofs.Counting.{ended_more}
+use Rattle.sig_owner.proofs.Counts.{ended_more}
 use Rattle.sig_owner.proofs.holder.end_each.Goals as goal
 
 pub loop-id-preserved : goal.loop-id-preserved

@@ -1,6 +1,6 @@
 use Rattle.std.proofs.Common.{arith, ap, ◌∙◌}
 use Rattle.sig_owner.specs.Tables.{owner_count, rows_of}
-use Rattle.sig_owner.proofs.Counting.{count_ended}
+use Rattle.sig_owner.proofs.Counts.{count_ended}
 use Rattle.sig_owner.proofs.holder.end_one.Goals as goal
 
 pub returns-clause-count : goal.returns-clause-count

@@ -1,4 +1,4 @@
-use Rattle.sig_owner.proofs.Reading.{found_holder, found_nobody}
+use Rattle.sig_owner.proofs.Rows.{found_holder, found_nobody}
 use Rattle.sig_owner.proofs.holder.holder_at.Goals as goal
 
 pub returns-clause-some : goal.returns-clause-some

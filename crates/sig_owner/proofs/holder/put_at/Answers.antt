@@ -1,6 +1,6 @@
 use Rattle.sig_owner.specs.Tables.{item_of, with_item}
 use Rattle.std.proofs.lemmas.Result.{err_from_is_err_and}
-use Rattle.sig_owner.proofs.Reading.{live_stands, unwritten, written}
+use Rattle.sig_owner.proofs.Rows.{live_stands, unwritten, written}
 use Rattle.sig_owner.proofs.holder.put_at.Goals as goal
 
 pub value_mut-requires : goal.value_mut-requires

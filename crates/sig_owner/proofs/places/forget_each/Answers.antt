@@ -1,7 +1,7 @@
 use Rattle.std.proofs.Common.{◌++◌, ◌∷◌, [], None, cond, take, sym, ap, ◌∙◌}
 use Rattle.std.proofs.lemmas.List.{take_more}
 use Rattle.sig_owner.specs.Keys.{are_gone_in, is_gone_in, placed}
-use Rattle.sig_owner.proofs.Forgetting.{forgotten, gone_more}
+use Rattle.sig_owner.proofs.Vacancies.{forgotten, gone_more}
 use Rattle.sig_owner.proofs.places.forget_each.Goals as goal
 
 pub loop-undoing-preserved : goal.loop-undoing-preserved

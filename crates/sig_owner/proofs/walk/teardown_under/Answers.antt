@@ -1,7 +1,7 @@
 use Rattle.std.proofs.Common.{[], ◌∙◌}
 use Rattle.sig_owner.specs.Tables.{rows_of}
 use Rattle.sig_owner.specs.Walks.{rest, steps_under}
-use Rattle.sig_owner.proofs.Walking.{all_undone, goes_on, nothing_told, starts, starts_walk}
+use Rattle.sig_owner.proofs.Walks.{all_undone, goes_on, nothing_told, starts, starts_walk}
 use Rattle.sig_owner.proofs.Teardowns.{teardown_steps}
 use Rattle.sig_owner.proofs.walk.teardown_under.Goals as goal
 

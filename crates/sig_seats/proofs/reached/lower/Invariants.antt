@@ -1,5 +1,5 @@
 use Rattle.std.proofs.Common.{◌≡◌, ℕ, ◌&&◌, not, drop, length}
-use Rattle.signal_model.specs.Standing.{is_in}
+use Rattle.signal_model.specs.Signals.{is_in}
 use Rattle.sig_seats.specs.Flags.{is_up}
 use Rattle.sig_seats.proofs.reached.lower.Given as goal
 

@@ -1,10 +1,10 @@
 use Rattle.std.proofs.Common.{◌∙◌, sym, ap, Ok}
-use Rattle.sig_untrack.proofs.Acting.{guarded_then, stopped_at}
-use Rattle.sig_untrack.proofs.Putting.{answers, put_plain, put_when, put_effect, put_rewire}
+use Rattle.sig_untrack.proofs.Acts.{guarded_then, stopped_at}
+use Rattle.sig_untrack.proofs.Statements.{answers, put_plain, put_when, put_effect, put_rewire}
 use Rattle.effect_model.specs.Bodies.{body_step, followed_by}
-use Rattle.sig_untrack.specs.Linking.{acts_of, linked}
+use Rattle.sig_untrack.specs.Links.{acts_of, linked}
 use Rattle.sig_untrack.specs.Stated.{no_more, stated}
-use Rattle.sig_untrack.specs.Stopping.{guarded_by}
+use Rattle.sig_untrack.specs.Stops.{guarded_by}
 use Rattle.sig_untrack.proofs.evaluate.+steps.Goals as goal
 
 pub statement_step-returns-in_ok-stop-in-Plain : goal.statement_step-returns-in_ok-stop-in-Plain

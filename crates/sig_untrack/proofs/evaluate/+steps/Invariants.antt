@@ -1,6 +1,6 @@
 use Rattle.std.proofs.Common.{◌≡◌, drop}
 use Rattle.effect_model.specs.Bodies.{body_step, followed_by}
-use Rattle.sig_untrack.specs.Linking.{Parts, acts_of, linked}
+use Rattle.sig_untrack.specs.Links.{Parts, acts_of, linked}
 use Rattle.sig_untrack.specs.Stated.{Stated, stated}
 use Rattle.sig_untrack.proofs.evaluate.+steps.Given as goal
 

@@ -3,7 +3,7 @@ use Rattle.sig_formula.specs.declared.formula.Formula.{Formula}
 use Rattle.effect_model.specs.declared.plain.Plain.{Plain}
 use Rattle.effect_model.specs.Bodies.{and_then, followed_by, plain_step}
 use Rattle.sig_untrack.specs.Stated.{held_line}
-use Rattle.sig_untrack.specs.Linking.{acts_of, linked_line}
+use Rattle.sig_untrack.specs.Links.{acts_of, linked_line}
 use Rattle.sig_untrack.proofs.evaluate.line_step.Goals as goal
 
 pub returns-in_ok-stop-in-Log : goal.returns-in_ok-stop-in-Log

@@ -1,11 +1,11 @@
 use Rattle.std.proofs.Common.{◌≡◌, ◌∙◌, ◌∷◌, [], sym, ap, None, true}
-use Rattle.sig_formula.specs.Answering.{formula_step}
+use Rattle.sig_formula.specs.Evaluation.{formula_step}
 use Rattle.sig_formula.specs.declared.evaluate.FormulaStep.TheVariants.{End}
 use Rattle.sig_base.specs.declared.value.Outcome.TheVariants.{Good}
 use Rattle.sig_formula.specs.Trees.{tree}
 use Rattle.effect_model.specs.Bodies.{acts, and_then, followed_by, with_answer, to_log}
-use Rattle.sig_untrack.specs.Linking.{acts_of}
-use Rattle.sig_untrack.specs.Stopping.{answered}
+use Rattle.sig_untrack.specs.Links.{acts_of}
+use Rattle.sig_untrack.specs.Stops.{answered}
 use Rattle.sig_untrack.proofs.evaluate.log_step.Goals as goal
 
 pub returns-in_ok-stop-in-Ok : goal.returns-in_ok-stop-in-Ok

@@ -1,5 +1,5 @@
 use Rattle.std.proofs.Common.{◌==◌, sym, ◌∙◌}
-use Rattle.sig_watcher.proofs.Reaching.{adds_none, adds_one, one_there}
+use Rattle.sig_watcher.proofs.Closure.{adds_none, adds_one, one_there}
 use Rattle.sig_watcher.proofs.reach.add.Goals as goal
 
 pub returns-then-has-clause-adds : goal.returns-then-has-clause-adds

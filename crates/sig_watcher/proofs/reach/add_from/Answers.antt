@@ -2,7 +2,7 @@ use Rattle.std.proofs.Common.{◌≡◌, Some, sym, ap, ◌∙◌}
 use Rattle.signal_model.specs.Memos.{keeps}
 use Rattle.sig_nodes.specs.Search.{of_holder}
 use Rattle.sig_nodes.specs.Seats.{holder}
-use Rattle.sig_watcher.proofs.Reaching.{adds_from, adds_none}
+use Rattle.sig_watcher.proofs.Closure.{adds_from, adds_none}
 use Rattle.sig_watcher.proofs.reach.add_from.Goals as goal
 
 pub returns-in_default-clause-adds : goal.returns-in_default-clause-adds

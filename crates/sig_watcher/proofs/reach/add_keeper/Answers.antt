@@ -1,8 +1,8 @@
 use Rattle.std.proofs.Common.{◌≡◌, Some, sym, ap, ◌∙◌, subst, true≢false}
-use Rattle.signal_model.specs.Standing.{is_in}
+use Rattle.signal_model.specs.Signals.{is_in}
 use Rattle.signal_model.specs.Memos.{keeps}
 use Rattle.sig_watcher.specs.Reach.{HasSeat}
-use Rattle.sig_watcher.proofs.Reaching.{adds_as, adds_none}
+use Rattle.sig_watcher.proofs.Closure.{adds_as, adds_none}
 use Rattle.sig_watcher.proofs.reach.add_keeper.Goals as goal
 
 pub returns-in_default-clause-adds : goal.returns-in_default-clause-adds

@@ -1,4 +1,4 @@
-use Rattle.sig_watcher.proofs.Reaching.{among, none_more}
+use Rattle.sig_watcher.proofs.Closure.{among, none_more}
 use Rattle.sig_watcher.proofs.reach.is_some_found.Goals as goal
 
 pub returns-then-is_found-clause-found : goal.returns-then-is_found-clause-found

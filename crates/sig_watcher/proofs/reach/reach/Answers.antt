@@ -1,5 +1,5 @@
 use Rattle.std.proofs.Common.{arith}
-use Rattle.sig_watcher.proofs.Reaching.{begun, ended, went_on}
+use Rattle.sig_watcher.proofs.Closure.{begun, ended, went_on}
 use Rattle.sig_watcher.proofs.reach.reach.Goals as goal
 
 pub loop-seat-init : goal.loop-seat-init

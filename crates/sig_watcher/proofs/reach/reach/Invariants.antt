@@ -1,6 +1,6 @@
 use Rattle.std.proofs.Common.{◌-◌}
 use Rattle.sig_base.specs.declared.limits.TheConstants.{MOST_NODES}
-use Rattle.sig_watcher.proofs.Reaching.{IsUnderway}
+use Rattle.sig_watcher.proofs.Closure.{IsUnderway}
 use Rattle.sig_watcher.proofs.reach.reach.Given as goal
 
 abbrev pub decreases-loop-seat : goal.decreases-loop-seat

@@ -1,5 +1,5 @@
 use Rattle.std.proofs.Common.{◌≡◌, drop}
-use Rattle.signal_model.specs.Standing.{is_in}
+use Rattle.signal_model.specs.Signals.{is_in}
 use Rattle.sig_watcher.proofs.watcher.is_among.Given as goal
 
 abbrev pub invariant-loop-one : goal.invariant-loop-one

@@ -1,5 +1,5 @@
 use Rattle.std.proofs.Common.{ap, ◌∙◌}
-use Rattle.effect_model.specs.Watching.{pending_of}
+use Rattle.effect_model.specs.Watchers.{pending_of}
 use Rattle.sig_watcher.proofs.Places.{first_signals}
 use Rattle.sig_watcher.proofs.watchers.pending_at.Goals as goal
 

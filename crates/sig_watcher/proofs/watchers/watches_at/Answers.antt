@@ -1,5 +1,5 @@
 use Rattle.std.proofs.Common.{ap, ◌∙◌}
-use Rattle.signal_model.specs.Standing.{is_in}
+use Rattle.signal_model.specs.Signals.{is_in}
 use Rattle.sig_watcher.proofs.Places.{first_signals}
 use Rattle.sig_watcher.proofs.watchers.watches_at.Goals as goal
 

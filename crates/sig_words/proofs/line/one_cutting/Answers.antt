@@ -1,4 +1,4 @@
-use Rattle.sig_words.proofs.Cuttings.{one_cutting, no_cutting, one_place}
+use Rattle.sig_words.proofs.Uniqueness.{one_cutting, no_cutting, one_place}
 use Rattle.sig_words.proofs.line.one_cutting.Goals as goal
 
 pub returns-clause-one : goal.returns-clause-one

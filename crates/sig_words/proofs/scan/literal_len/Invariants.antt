@@ -1,6 +1,6 @@
 use Rattle.std.proofs.Common.{◌≡◌, ◌<◌, ◌≤◌, ◌-◌, ◌+◌, length, drop, false}
 use Rattle.std.specs.Prelude.{option_map}
-use Rattle.sig_words.specs.Scanning.{closing}
+use Rattle.sig_words.specs.Scanner.{closing}
 use Rattle.sig_words.proofs.scan.literal_len.Given as goal
 
 abbrev pub invariant-loop-n : goal.invariant-loop-n

@@ -1,4 +1,4 @@
-use Rattle.signal_laws.proofs.AfterMaking.{cell_law}
+use Rattle.signal_laws.proofs.AfterCreation.{cell_law}
 use Rattle.signal_laws.proofs.laws.cell_law.Goals as goal
 
 pub returns : goal.returns

@@ -1,4 +1,4 @@
-use Rattle.signal_laws.proofs.AfterMaking.{computed_law}
+use Rattle.signal_laws.proofs.AfterCreation.{computed_law}
 use Rattle.signal_laws.proofs.laws.computed_law.Goals as goal
 
 pub returns : goal.returns

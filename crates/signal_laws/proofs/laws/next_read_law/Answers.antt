@@ -1,4 +1,4 @@
-use Rattle.signal_laws.proofs.Readings.{next_read_law}
+use Rattle.signal_laws.proofs.Outcomes.{next_read_law}
 use Rattle.signal_laws.proofs.laws.next_read_law.Goals as goal
 
 pub returns : goal.returns

@@ -1,4 +1,4 @@
-use Rattle.tpl_blocks.proofs.Nesting.{read_law}
+use Rattle.tpl_blocks.proofs.Levels.{read_law}
 use Rattle.tpl_blocks.proofs.laws.read_law.Goals as goal
 
 pub returns : goal.returns

@@ -1,4 +1,4 @@
-use Rattle.tpl_found.proofs.Following.{children_law}
+use Rattle.tpl_found.proofs.Children.{children_law}
 use Rattle.tpl_found.proofs.laws.children_law.Goals as goal
 
 pub returns : goal.returns

@@ -1,4 +1,4 @@
-use Rattle.tpl_found.proofs.Numbering.{kept_law}
+use Rattle.tpl_found.proofs.Lookups.{kept_law}
 use Rattle.tpl_found.proofs.laws.kept_law.Goals as goal
 
 pub returns : goal.returns

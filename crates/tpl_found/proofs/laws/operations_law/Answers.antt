@@ -1,4 +1,4 @@
-use Rattle.tpl_found.proofs.Spelling.{operations_law}
+use Rattle.tpl_found.proofs.Edits.{operations_law}
 use Rattle.tpl_found.proofs.laws.operations_law.Goals as goal
 
 pub returns : goal.returns

@@ -1,4 +1,4 @@
-use Rattle.tpl_found.proofs.Ordering.{order_law}
+use Rattle.tpl_found.proofs.Arrivals.{order_law}
 use Rattle.tpl_found.proofs.laws.order_law.Goals as goal
 
 pub returns : goal.returns

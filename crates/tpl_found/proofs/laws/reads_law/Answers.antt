@@ -1,4 +1,4 @@
-use Rattle.tpl_found.proofs.Numbering.{reads_law}
+use Rattle.tpl_found.proofs.Lookups.{reads_law}
 use Rattle.tpl_found.proofs.laws.reads_law.Goals as goal
 
 pub returns : goal.returns

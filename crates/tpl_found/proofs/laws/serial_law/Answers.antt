@@ -1,4 +1,4 @@
-use Rattle.tpl_found.proofs.Ordering.{serial_law}
+use Rattle.tpl_found.proofs.Arrivals.{serial_law}
 use Rattle.tpl_found.proofs.laws.serial_law.Goals as goal
 
 pub returns : goal.returns

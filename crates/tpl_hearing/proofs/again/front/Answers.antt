@@ -1,5 +1,5 @@
 use Rattle.std.proofs.Common.{◌≡◌, [], ◌∷◌, ◌++◌, None, Some, take, sym, ap, subst, arith, ◌∙◌}
-use Rattle.tpl_hearing.specs.Hearing.{Outcomes, heard_of}
+use Rattle.tpl_hearing.specs.Heard.{Outcomes, heard_of}
 use Rattle.tpl_hearing.proofs.Fronts.{front_more, not_before}
 use Rattle.tpl_hearing.proofs.again.front.Goals as goal
 

@@ -1,6 +1,6 @@
 use Rattle.tpl_hearing.proofs.Compared.{as_before}
-use Rattle.tpl_hearing.proofs.Hearings.{nothing_heard, then_heard}
-use Rattle.tpl_hearing.proofs.Rehearings.{none_again, other_now, same_again}
+use Rattle.tpl_hearing.proofs.Names.{nothing_heard, then_heard}
+use Rattle.tpl_hearing.proofs.HeardAgain.{none_again, other_now, same_again}
 use Rattle.tpl_hearing.proofs.again.hear_again.Goals as goal
 
 pub loop-id-init : goal.loop-id-init

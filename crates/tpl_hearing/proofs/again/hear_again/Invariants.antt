@@ -1,6 +1,6 @@
 use Rattle.std.proofs.Common.{is_some, map, option_map, take}
 use Rattle.sig_host.specs.Hosts.{AnswersBy, IsCounted}
-use Rattle.tpl_hearing.specs.Hearing.{scene, CanSettle, Hears}
+use Rattle.tpl_hearing.specs.Heard.{scene, CanSettle, Hears}
 use Rattle.tpl_hearing.specs.HeardAgain.{AreCompared, AreSame}
 use Rattle.tpl_hearing.proofs.again.hear_again.Given as goal
 

@@ -1,8 +1,8 @@
 use Rattle.std.proofs.Common.{◌≡◌, ◌+◌, [], ◌∷◌, ◌++◌, None, take, sym, ap, subst, arith, ◌∙◌}
 use Rattle.std.proofs.lemmas.List.{take_all}
-use Rattle.tpl_hearing.specs.Hearing.{Outcomes, heard_of}
+use Rattle.tpl_hearing.specs.Heard.{Outcomes, heard_of}
 use Rattle.tpl_hearing.proofs.Fronts.{front_more, not_before}
-use Rattle.tpl_hearing.proofs.Hearings.{heard_as, nothing_heard, then_heard}
+use Rattle.tpl_hearing.proofs.Names.{heard_as, nothing_heard, then_heard}
 use Rattle.tpl_hearing.proofs.again.hear_all_again.Goals as goal
 
 pub loop-place-init : goal.loop-place-init

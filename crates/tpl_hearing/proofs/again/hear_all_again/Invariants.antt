@@ -1,6 +1,6 @@
 use Rattle.std.proofs.Common.{[], is_some, map, option_map, take}
 use Rattle.sig_host.specs.Hosts.{AnswersBy, IsCounted}
-use Rattle.tpl_hearing.specs.Hearing.{scene, CanSettle, Hears}
+use Rattle.tpl_hearing.specs.Heard.{scene, CanSettle, Hears}
 use Rattle.tpl_hearing.proofs.again.hear_all_again.Given as goal
 
 -- the names so far have the outcomes of before

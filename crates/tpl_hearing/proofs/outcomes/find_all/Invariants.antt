@@ -1,5 +1,5 @@
 use Rattle.std.proofs.Common.{take}
-use Rattle.tpl_hearing.specs.Hearing.{HaveRows}
+use Rattle.tpl_hearing.specs.Heard.{HaveRows}
 use Rattle.tpl_hearing.proofs.outcomes.find_all.Given as goal
 
 -- those so far

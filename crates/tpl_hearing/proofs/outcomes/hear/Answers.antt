@@ -1,6 +1,6 @@
 use Rattle.std.proofs.Common.{◌++◌, [], ◌∷◌, Some, sym, ap, ◌∙◌}
-use Rattle.tpl_hearing.specs.Hearing.{heard_of}
-use Rattle.tpl_hearing.proofs.Hearings.{joins_last, joins_not, last_heard, nothing_heard}
+use Rattle.tpl_hearing.specs.Heard.{heard_of}
+use Rattle.tpl_hearing.proofs.Names.{joins_last, joins_not, last_heard, nothing_heard}
 use Rattle.tpl_hearing.proofs.outcomes.hear.Goals as goal
 
 pub returns-in-Some-clause-names : goal.returns-in-Some-clause-names

@@ -1,4 +1,4 @@
-use Rattle.tpl_hearing.proofs.Hearings.{one_heard}
+use Rattle.tpl_hearing.proofs.Names.{one_heard}
 use Rattle.tpl_hearing.proofs.outcomes.settle_name.Goals as goal
 
 pub returns-clause-after : goal.returns-clause-after

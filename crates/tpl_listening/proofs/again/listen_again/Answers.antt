@@ -3,8 +3,8 @@ use Rattle.std.specs.Option.{option_copied}
 use Rattle.sig_formula.specs.Trees.{tree}
 use Rattle.tpl_hearing.proofs.Shared.{still_compared, then_heard}
 use Rattle.tpl_memos.specs.Kept.{heard_of}
-use Rattle.tpl_listening.proofs.Rereading.{line_stayed, line_remade}
-use Rattle.tpl_listening.proofs.Unmaking.{again_as}
+use Rattle.tpl_listening.proofs.Reuse.{line_stayed, line_remade}
+use Rattle.tpl_listening.proofs.Splits.{again_as}
 use Rattle.tpl_listening.proofs.again.listen_again.Goals as goal
 
 pub returns-then-branch-clause-heard : goal.returns-then-branch-clause-heard

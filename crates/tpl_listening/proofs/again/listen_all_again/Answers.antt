@@ -4,8 +4,8 @@ use Rattle.sig_formula.specs.Trees.{tree}
 use Rattle.update_laws.specs.PageMemos.{all_names}
 use Rattle.tpl_hearing.proofs.Shared.{still_compared, then_heard}
 use Rattle.tpl_memos.specs.Kept.{heard_of}
-use Rattle.tpl_listening.proofs.Rereading.{all_stayed, all_remade}
-use Rattle.tpl_listening.proofs.Unmaking.{again_as}
+use Rattle.tpl_listening.proofs.Reuse.{all_stayed, all_remade}
+use Rattle.tpl_listening.proofs.Splits.{again_as}
 use Rattle.tpl_listening.proofs.again.listen_all_again.Goals as goal
 
 pub returns-then-branch-clause-heard : goal.returns-then-branch-clause-heard

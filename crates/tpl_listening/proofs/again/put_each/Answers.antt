@@ -1,6 +1,6 @@
 use Rattle.std.proofs.Common.{◌++◌, ◌∙◌, ap}
 use Rattle.tpl_memos.specs.Kept.{heard_of}
-use Rattle.tpl_listening.proofs.Composing.{each_put}
+use Rattle.tpl_listening.proofs.Sequences.{each_put}
 use Rattle.tpl_listening.proofs.again.put_each.Goals as goal
 
 pub loop-heard-preserved : goal.loop-heard-preserved

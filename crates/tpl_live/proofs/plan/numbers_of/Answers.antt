@@ -1,7 +1,7 @@
 use Rattle.std.proofs.Common.{◌≡◌, ◌++◌, length, map, sym, ap, ◌∙◌, arith}
 use Rattle.page_model.specs.Forest.{after, keys}
 use Rattle.tpl_blocks.specs.Blocks.{block}
-use Rattle.tpl_marks.specs.Numbering.{number_at}
+use Rattle.tpl_marks.specs.Addresses.{number_at}
 use Rattle.tpl_memos.specs.Kept.{kept}
 use Rattle.tpl_shapes.specs.Addresses.{address_of}
 use Rattle.tpl_shapes.specs.Shapes.{all_shown}

@@ -3,11 +3,11 @@ use Rattle.page_tree.specs.Subs.{side_by_side, sub_tree}
 use Rattle.tpl_blocks.specs.Blocks.{lines_of}
 use Rattle.tpl_model.specs.Sources.{known_page, needed}
 use Rattle.tpl_scratch.specs.Scratch.{IsScratch}
-use Rattle.signal_laws.specs.ReadingLaws.{joined}
+use Rattle.signal_laws.specs.ReadLaws.{with_name}
 use Rattle.std.specs.Map.{keys_of}
-use Rattle.tpl_hearing.specs.Hearing.{heard_of}
+use Rattle.tpl_hearing.specs.Heard.{heard_of}
 use Rattle.asking_laws.proofs.Shared.{inside_law}
-use Rattle.tpl_live.proofs.Learning.{at_place, fewer_unknown, known_inserted, known_settles, known_tree, learnt_more, nothing_learnt}
+use Rattle.tpl_live.proofs.Outcomes.{at_place, fewer_unknown, known_inserted, known_settles, known_tree, learnt_more, nothing_learnt}
 use Rattle.tpl_live.proofs.scratch.tree_from_scratch.Goals as goal
 
 pub asking-init : goal.asking-init
@@ -81,7 +81,7 @@ asking-preserved g c =
     let at = at_place links i c.index-links-name.result (subst (λ k. i < k) l.count (inside_law lines c.asking.known.items i need)) c.index-links-name.is in
     record {
       learning = learnt_more _ _ _ _ _ _ lines links c.asking.known.items c.put_outcome.new.known.items c.asking.heard c.hear.new.heard i c.in_ok-outcome.outcome
-          l need h.after (h.names ∙ ap (joined (keys_of c.asking.heard)) at) (ap (heard_of c.hear.new.heard) (sym at) ∙ h.outcome) c.put_outcome.ensures;
+          l need h.after (h.names ∙ ap (with_name (keys_of c.asking.heard)) at) (ap (heard_of c.hear.new.heard) (sym at) ∙ h.outcome) c.put_outcome.ensures;
       can = h.can;
       counted = h.counted;
     }

@@ -1,8 +1,8 @@
 use Rattle.std.proofs.Common.{is_some, map, option_map}
 use Rattle.sig_host.specs.Hosts.{AnswersBy, IsCounted}
 use Rattle.tpl_blocks.specs.Blocks.{lines_of}
-use Rattle.tpl_hearing.specs.Hearing.{scene, CanSettle}
-use Rattle.tpl_live.proofs.Learning.{IsLearning, unknown_names}
+use Rattle.tpl_hearing.specs.Heard.{scene, CanSettle}
+use Rattle.tpl_live.proofs.Outcomes.{IsLearning, unknown_names}
 use Rattle.tpl_live.proofs.scratch.tree_from_scratch.Given as goal
 
 -- names were heard as they were needed

@@ -4,7 +4,7 @@ use Rattle.page_model.specs.Forest.{label_in}
 use Rattle.page_model.specs.Labels.{Root}
 use Rattle.page_ops.specs.Ops.{op_of}
 use Rattle.page_tree.specs.Rows.{attributes_of}
-use Rattle.tpl_found.specs.Telling.{attributes_told}
+use Rattle.tpl_found.specs.KeptNodes.{attributes_told}
 use Rattle.tpl_looks.proofs.Said.{line_told, lines_told, no_element}
 use Rattle.tpl_looks.proofs.looks.put_attributes.Goals as goal
 

@@ -3,7 +3,7 @@ use Rattle.page_model.specs.Forest.{label_in}
 use Rattle.page_model.specs.Labels.{Root}
 use Rattle.page_ops.specs.Ops.{op_of}
 use Rattle.page_tree.specs.Rows.{attributes_of}
-use Rattle.tpl_found.specs.Telling.{attributes_told}
+use Rattle.tpl_found.specs.KeptNodes.{attributes_told}
 use Rattle.tpl_looks.proofs.looks.put_attributes.Given as goal
 
 -- the lines so far are told, and those that are left go on from the place

@@ -3,7 +3,7 @@ use Rattle.page_model.specs.Edits.{line_edits}
 use Rattle.page_model.specs.Forest.{label_in}
 use Rattle.page_model.specs.Labels.{Root}
 use Rattle.page_ops.specs.Ops.{op_of}
-use Rattle.page_tree.specs.Reading.{attribute_value}
+use Rattle.page_tree.specs.Queries.{attribute_value}
 use Rattle.tpl_looks.proofs.Said.{set_line, unset_line}
 use Rattle.tpl_looks.proofs.looks.put_line.Goals as goal
 

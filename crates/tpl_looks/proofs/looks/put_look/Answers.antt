@@ -3,7 +3,7 @@ use Rattle.page_model.specs.Forest.{label_in}
 use Rattle.page_model.specs.Labels as label
 use Rattle.page_model.specs.Labels.{Root}
 use Rattle.page_ops.specs.Ops.{op_of}
-use Rattle.tpl_found.specs.Telling.{told_on}
+use Rattle.tpl_found.specs.KeptNodes.{told_on}
 use Rattle.tpl_shapes.specs.Shapes.{look_of}
 use Rattle.tpl_looks.proofs.looks.put_look.Goals as goal
 

@@ -2,7 +2,7 @@ use Rattle.std.proofs.Common.{◌++◌, sym, ap, ◌∙◌, map}
 use Rattle.page_model.specs.Forest.{label_in}
 use Rattle.page_model.specs.Labels.{Root}
 use Rattle.page_ops.specs.Ops.{op_of}
-use Rattle.tpl_found.specs.Telling.{told_on}
+use Rattle.tpl_found.specs.KeptNodes.{told_on}
 use Rattle.tpl_looks.proofs.Said.{no_root}
 use Rattle.tpl_shapes.specs.Shapes.{look_at}
 use Rattle.tpl_looks.proofs.looks.put_marked.Goals as goal

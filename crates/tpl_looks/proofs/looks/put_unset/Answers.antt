@@ -3,7 +3,7 @@ use Rattle.page_model.specs.Forest.{label_in}
 use Rattle.page_model.specs.Labels.{Root}
 use Rattle.page_model.specs.Replay.{OpUnattr}
 use Rattle.page_ops.specs.Ops.{op_of}
-use Rattle.page_tree.specs.Reading.{attribute_value}
+use Rattle.page_tree.specs.Queries.{attribute_value}
 use Rattle.tpl_looks.proofs.Said.{no_unset, one_unset, pushed}
 use Rattle.tpl_looks.proofs.looks.put_unset.Goals as goal
 

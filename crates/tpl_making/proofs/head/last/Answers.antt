@@ -1,6 +1,6 @@
 use Rattle.std.proofs.Common.{◌≡◌, length, arith}
 use Rattle.tpl_memos.specs.Kept.{kept}
-use Rattle.tpl_making.proofs.Closing.{none_last, one_last}
+use Rattle.tpl_making.proofs.Memos.{none_last, one_last}
 use Rattle.tpl_making.proofs.head.last.Goals as goal
 
 pub returns-in-None : goal.returns-in-None

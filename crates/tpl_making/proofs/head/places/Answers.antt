@@ -1,7 +1,7 @@
 use Rattle.std.proofs.Common.{◌≡◌, length, ap, ◌∙◌, arith}
-use Rattle.tpl_listening.specs.Makings.{table_in}
+use Rattle.tpl_listening.specs.Memos.{table_in}
 use Rattle.tpl_making.specs.Heads.{places_from}
-use Rattle.tpl_making.proofs.Closing.{one_place}
+use Rattle.tpl_making.proofs.Memos.{one_place}
 use Rattle.tpl_making.proofs.head.places.Goals as goal
 
 pub loop-place-preserved : goal.loop-place-preserved

@@ -1,5 +1,5 @@
 use Rattle.std.proofs.Common.{◌≡◌}
-use Rattle.tpl_listening.specs.Makings.{table_in}
+use Rattle.tpl_listening.specs.Memos.{table_in}
 use Rattle.tpl_making.specs.Heads.{places_from}
 use Rattle.tpl_making.proofs.head.places.Given as goal
 

@@ -1,7 +1,7 @@
 use Rattle.std.proofs.Common.{refl, map, arith}
 use Rattle.page_ops.specs.Ops.{op_of}
 use Rattle.page_tree.specs.Subs.{insertion, sub_tree}
-use Rattle.tpl_moves.proofs.Spelling.{no_arrival, one_arrival, pushed}
+use Rattle.tpl_moves.proofs.Operations.{no_arrival, one_arrival, pushed}
 use Rattle.tpl_moves.proofs.moves.put_arrival.Goals as goal
 
 pub returns-in_default : goal.returns-in_default

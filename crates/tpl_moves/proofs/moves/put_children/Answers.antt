@@ -1,8 +1,8 @@
 use Rattle.std.proofs.Common.{ap, map}
 use Rattle.page_ops.specs.Ops.{op_of}
-use Rattle.tpl_scratch.specs.Making.{Numbered}
+use Rattle.tpl_scratch.specs.Pages.{Numbered}
 use Rattle.tpl_shapes.specs.Shapes.{child_of}
-use Rattle.tpl_moves.proofs.Spelling.{node_moved, side}
+use Rattle.tpl_moves.proofs.Operations.{node_moved, side}
 use Rattle.tpl_moves.proofs.moves.put_children.Goals as goal
 
 pub returns-clause-next : goal.returns-clause-next

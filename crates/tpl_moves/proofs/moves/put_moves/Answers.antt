@@ -5,7 +5,7 @@ use Rattle.page_model.specs.Forest.{kids}
 use Rattle.page_ops.specs.Ops.{op_of}
 use Rattle.tpl_shapes.specs.Shapes.{child_of, mark_of}
 use Rattle.tpl_moves.specs.Moves.{AreSound, Fits, number_after}
-use Rattle.tpl_moves.proofs.Spelling.{all_moved, next_sound, none_moved, one_moved}
+use Rattle.tpl_moves.proofs.Operations.{all_moved, next_sound, none_moved, one_moved}
 use Rattle.tpl_moves.proofs.moves.put_moves.Goals as goal
 
 pub loop-mark-init : goal.loop-mark-init

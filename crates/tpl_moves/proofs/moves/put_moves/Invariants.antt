@@ -1,7 +1,7 @@
 use Rattle.std.proofs.Common.{map, drop}
 use Rattle.page_ops.specs.Ops.{op_of}
 use Rattle.tpl_shapes.specs.Shapes.{mark_of}
-use Rattle.tpl_moves.proofs.Spelling.{AreMoved}
+use Rattle.tpl_moves.proofs.Operations.{AreMoved}
 use Rattle.tpl_moves.proofs.moves.put_moves.Given as goal
 
 abbrev pub invariant-loop-mark : goal.invariant-loop-mark

@@ -2,7 +2,7 @@ use Rattle.std.proofs.Common.{◌++◌, ◌+◌, ap, arith, ◌∙◌, drop, map
 use Rattle.std.proofs.lemmas.List.{drop_all, drop_more}
 use Rattle.page_ops.specs.Ops.{op_of}
 use Rattle.tpl_moves.specs.Spelled.{spelled}
-use Rattle.tpl_moves.proofs.Spelling.{all_spelled, one_spelled, side, step_there}
+use Rattle.tpl_moves.proofs.Operations.{all_spelled, one_spelled, side, step_there}
 use Rattle.tpl_moves.proofs.moves.put_steps.Goals as goal
 
 pub step_at-requires : goal.step_at-requires

@@ -1,7 +1,7 @@
 use Rattle.std.proofs.Common.{◌≡◌, ◌++◌, drop, map}
 use Rattle.page_ops.specs.Ops.{op_of}
 use Rattle.tpl_moves.specs.Spelled.{spelled}
-use Rattle.tpl_moves.proofs.Spelling.{side}
+use Rattle.tpl_moves.proofs.Operations.{side}
 use Rattle.tpl_moves.proofs.moves.put_steps.Given as goal
 
 -- the operations so far, and the steps that are left

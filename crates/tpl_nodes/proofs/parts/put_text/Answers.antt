@@ -2,7 +2,7 @@ use Rattle.std.proofs.Common.{sym, ap, ◌∙◌}
 use Rattle.page_model.specs.Forest.{node, none}
 use Rattle.page_model.specs.Labels.{Text}
 use Rattle.tpl_model.specs.Shapes.{node_text}
-use Rattle.tpl_scratch.specs.Making.{nodes_of, with_nodes}
+use Rattle.tpl_scratch.specs.Pages.{nodes_of, with_nodes}
 use Rattle.tpl_scratch.proofs.Shared.{with_none}
 use Rattle.tpl_nodes.specs.Shown.{text_of}
 use Rattle.tpl_nodes.proofs.Equations.{of_blank, of_branch, of_element, of_line, of_loop, of_unread}

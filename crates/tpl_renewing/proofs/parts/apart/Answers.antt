@@ -4,7 +4,7 @@ use Rattle.std.proofs.lemmas.Bool.{true≢false}
 use Rattle.tpl_memos.specs.Kept.{heard_of, kept}
 use Rattle.tpl_memos.proofs.Equations.{kept_blank, kept_branch, kept_element, kept_line, kept_loop, kept_unread}
 use Rattle.tpl_listening.specs.Renewals.{is_unread}
-use Rattle.tpl_renewing.proofs.Serving.{branch_apart, element_apart, line_apart, loop_apart}
+use Rattle.tpl_renewing.proofs.RowMemos.{branch_apart, element_apart, line_apart, loop_apart}
 use Rattle.tpl_renewing.proofs.parts.apart.Goals as goal
 
 pub returns-in_ok-head-in-Line : goal.returns-in_ok-head-in-Line

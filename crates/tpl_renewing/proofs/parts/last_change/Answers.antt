@@ -1,6 +1,6 @@
 use Rattle.std.proofs.Common.{◌≡◌, length, arith}
 use Rattle.tpl_listening.specs.Changes.{changed}
-use Rattle.tpl_renewing.proofs.Telling.{none_last, one_last}
+use Rattle.tpl_renewing.proofs.Changes.{none_last, one_last}
 use Rattle.tpl_renewing.proofs.parts.last_change.Goals as goal
 
 pub returns-in-None : goal.returns-in-None

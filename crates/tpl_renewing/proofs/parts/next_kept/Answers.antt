@@ -2,7 +2,7 @@ use Rattle.std.proofs.Common.{arith}
 use Rattle.tpl_memos.specs.Kept.{kept}
 use Rattle.tpl_memos.specs.declared.memo.PageMemo.TheVariants.{Unread}
 use Rattle.tpl_memos.proofs.Equations.{kept_unread}
-use Rattle.tpl_renewing.proofs.Serving.{first_kept, none_first, none_later}
+use Rattle.tpl_renewing.proofs.RowMemos.{first_kept, none_first, none_later}
 use Rattle.tpl_renewing.proofs.parts.next_kept.Goals as goal
 
 pub returns-in-None-clause-first : goal.returns-in-None-clause-first

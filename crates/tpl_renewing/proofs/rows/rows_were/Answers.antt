@@ -1,8 +1,8 @@
 use Rattle.std.proofs.Common.{map}
 use Rattle.tpl_memos.specs.Kept.{kept}
-use Rattle.tpl_listening.specs.Makings.{table_in}
+use Rattle.tpl_listening.specs.Memos.{table_in}
 use Rattle.tpl_listening.proofs.Shared.{mapped_put}
-use Rattle.tpl_renewing.proofs.Serving.{one_count, row_among, row_serves}
+use Rattle.tpl_renewing.proofs.RowMemos.{one_count, row_among, row_serves}
 use Rattle.tpl_renewing.proofs.rows.rows_were.Goals as goal
 
 pub loop-place-preserved : goal.loop-place-preserved

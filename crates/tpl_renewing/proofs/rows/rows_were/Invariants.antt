@@ -1,8 +1,8 @@
 use Rattle.std.proofs.Common.{◌≡◌, ℕ, List, length, map}
 use Rattle.tpl_model.specs.Lines.{Block}
-use Rattle.tpl_hearing.specs.Hearing.{Outcomes}
+use Rattle.tpl_hearing.specs.Heard.{Outcomes}
 use Rattle.tpl_memos.specs.Kept.{kept}
-use Rattle.tpl_listening.specs.Makings.{table_in}
+use Rattle.tpl_listening.specs.Memos.{table_in}
 use Rattle.tpl_listening.specs.Renewals.{SlotsWere}
 use Rattle.tpl_making.specs.Heads.{places_from}
 use Rattle.tpl_renewing.specs.Turns.{AreAmong, WereEach}

@@ -5,7 +5,7 @@ use Rattle.tpl_memos.specs.declared.memo.PageMemo.TheVariants.{Unread}
 use Rattle.tpl_memos.proofs.Equations.{kept_unread}
 use Rattle.tpl_listening.specs.Renewals.{is_unread}
 use Rattle.tpl_listening.proofs.Shared.{none_taken}
-use Rattle.tpl_renewing.proofs.Serving.{place_taken}
+use Rattle.tpl_renewing.proofs.RowMemos.{place_taken}
 use Rattle.tpl_renewing.proofs.rows.take_row.Goals as goal
 
 pub returns-in_default-clause-takes : goal.returns-in_default-clause-takes

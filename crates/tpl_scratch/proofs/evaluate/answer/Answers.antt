@@ -1,7 +1,7 @@
 use Rattle.std.specs.Option.{option_copied}
 use Rattle.sig_formula.specs.Trees.{tree}
 use Rattle.tpl_model.specs.Shapes.{row_here}
-use Rattle.tpl_scratch.proofs.Asking.{counted_answer}
+use Rattle.tpl_scratch.proofs.Asks.{counted_answer}
 use Rattle.tpl_scratch.proofs.evaluate.answer.Goals as goal
 
 pub returns-clause-answer : goal.returns-clause-answer

@@ -5,7 +5,7 @@ use Rattle.sig_base.specs.declared.value.Outcome.{Outcome}
 use Rattle.sig_base.specs.declared.value.Step.TheVariants.{Read, Done, Fail}
 use Rattle.sig_formula.specs.Trees.{tree}
 use Rattle.tpl_model.specs.Shapes.{row_here}
-use Rattle.tpl_scratch.proofs.Asking.{IsAsking, answer_on, asked_more, asks, asks_new, ends_bad, ends_good, ends_read, fewer_unknown, nothing_asked}
+use Rattle.tpl_scratch.proofs.Asks.{IsAsking, answer_on, asked_more, asks, asks_new, ends_bad, ends_good, ends_read, fewer_unknown, nothing_asked}
 use Rattle.tpl_scratch.proofs.evaluate.evaluated.Goals as goal
 
 pub asking-init : goal.asking-init

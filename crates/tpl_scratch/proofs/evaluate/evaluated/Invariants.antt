@@ -3,7 +3,7 @@ use Rattle.std.specs.Option.{option_copied}
 use Rattle.sig_formula.specs.Trees.{tree}
 use Rattle.signal_model.specs.Values.{unknown_slots}
 use Rattle.tpl_model.specs.Shapes.{row_here}
-use Rattle.tpl_scratch.proofs.Asking.{IsAsking}
+use Rattle.tpl_scratch.proofs.Asks.{IsAsking}
 use Rattle.tpl_scratch.proofs.evaluate.evaluated.Given as goal
 
 abbrev pub invariant-asking : goal.invariant-asking

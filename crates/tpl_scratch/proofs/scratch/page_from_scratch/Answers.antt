@@ -1,7 +1,7 @@
 use Rattle.std.specs.Option.{option_copied}
 use Rattle.tpl_blocks.specs.Blocks.{block, lines_of}
-use Rattle.tpl_scratch.specs.Making.{nodes_of}
-use Rattle.tpl_scratch.proofs.Ending.{scratch_is}
+use Rattle.tpl_scratch.specs.Pages.{nodes_of}
+use Rattle.tpl_scratch.proofs.Results.{scratch_is}
 use Rattle.tpl_scratch.proofs.scratch.page_from_scratch.Goals as goal
 
 pub returns : goal.returns

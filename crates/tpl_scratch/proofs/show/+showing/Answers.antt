@@ -4,10 +4,10 @@ use Rattle.sig_formula.specs.Trees.{tree}
 use Rattle.tpl_blocks.specs.Blocks.{block}
 use Rattle.tpl_model.specs.Shapes.{attributes_told, row_here, shown_block}
 use Rattle.tpl_model.specs.Sources.{on_known}
-use Rattle.tpl_scratch.specs.Making.{attributes_in, each_shown, element_shown, nodes_of, rows_shown, text_shown}
-use Rattle.tpl_scratch.proofs.Showing.{all_rows_left, attributes_stop, children_stop, choice_shows, choice_stops, each_shows, each_stops, first_stops, second_stops}
-use Rattle.tpl_scratch.proofs.Showing.{element_shows, handed_on, later_stops, lines_stop, nothing_shows, rows_done, rows_on, rows_read_stop, rows_stop, test_stops}
-use Rattle.tpl_scratch.proofs.Showing.{then_shows, then_stops}
+use Rattle.tpl_scratch.specs.Pages.{attributes_in, each_shown, element_shown, nodes_of, rows_shown, text_shown}
+use Rattle.tpl_scratch.proofs.Parts.{all_rows_left, attributes_stop, children_stop, choice_shows, choice_stops, each_shows, each_stops, first_stops, second_stops}
+use Rattle.tpl_scratch.proofs.Parts.{element_shows, handed_on, later_stops, lines_stop, nothing_shows, rows_done, rows_on, rows_read_stop, rows_stop, test_stops}
+use Rattle.tpl_scratch.proofs.Parts.{then_shows, then_stops}
 use Rattle.tpl_scratch.proofs.show.+showing.Goals as goal
 
 -- ---- an element

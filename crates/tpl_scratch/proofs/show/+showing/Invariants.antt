@@ -1,7 +1,7 @@
 use Rattle.std.proofs.Common.{drop}
 use Rattle.tpl_blocks.specs.Blocks.{block}
-use Rattle.tpl_scratch.specs.Making.{nodes_of}
-use Rattle.tpl_scratch.proofs.Showing.{RowsLeft}
+use Rattle.tpl_scratch.specs.Pages.{nodes_of}
+use Rattle.tpl_scratch.proofs.Parts.{RowsLeft}
 use Rattle.tpl_scratch.proofs.show.+showing.Given as goal
 
 abbrev pub invariant-show_rows-loop-place : goal.invariant-show_rows-loop-place

@@ -4,8 +4,8 @@ use Rattle.std.specs.Option.{option_copied}
 use Rattle.sig_formula.specs.Trees.{tree}
 use Rattle.sig_formula.specs.declared.formula.Formula.{Formula}
 use Rattle.tpl_model.specs.Shapes.{row_here}
-use Rattle.tpl_scratch.specs.Making.{attributes_in}
-use Rattle.tpl_scratch.proofs.Showing.{AreLeft, all_left, attribute_stops, fewer_left, handed_on, none_left}
+use Rattle.tpl_scratch.specs.Pages.{attributes_in}
+use Rattle.tpl_scratch.proofs.Parts.{AreLeft, all_left, attribute_stops, fewer_left, handed_on, none_left}
 use Rattle.tpl_scratch.proofs.show.attributes_here.Goals as goal
 
 -- an attribute, and those after it

@@ -1,7 +1,7 @@
 use Rattle.std.specs.Option.{option_copied}
 use Rattle.sig_formula.specs.Trees.{tree}
-use Rattle.tpl_scratch.specs.Making.{nodes_of}
-use Rattle.tpl_scratch.proofs.Showing.{text_shows}
+use Rattle.tpl_scratch.specs.Pages.{nodes_of}
+use Rattle.tpl_scratch.proofs.Parts.{text_shows}
 use Rattle.tpl_scratch.proofs.show.show_text.Goals as goal
 
 pub returns-clause-shows : goal.returns-clause-shows

@@ -6,7 +6,7 @@ use Rattle.page_model.specs.Labels.{Text}
 use Rattle.tpl_model.specs.Shapes.{node_text}
 use Rattle.tpl_nodes.proofs.Shared.{of_blank, of_branch, of_element, of_line, of_loop, of_unread}
 use Rattle.tpl_shapes.specs.Shapes.{all_shown}
-use Rattle.tpl_shown.specs.Showing.{text_at}
+use Rattle.tpl_shown.specs.Heads.{text_at}
 use Rattle.tpl_shown.proofs.Behind.{no_more}
 use Rattle.tpl_shown.proofs.parts.put_text.Goals as goal
 

@@ -1,5 +1,5 @@
 use Rattle.std.proofs.Common.{◌≡◌, length, map}
-use Rattle.tpl_syntax.specs.Judging.{first_excess}
+use Rattle.tpl_syntax.specs.Refusals.{first_excess}
 use Rattle.tpl_syntax.specs.Views.{judged_read}
 use Rattle.tpl_syntax.proofs.judge.first_excess.Given as goal
 

@@ -1,5 +1,5 @@
 use Rattle.std.proofs.Common.{◌≡◌, length, map}
-use Rattle.tpl_syntax.specs.Judging.{first_misplaced}
+use Rattle.tpl_syntax.specs.Refusals.{first_misplaced}
 use Rattle.tpl_syntax.specs.Views.{judged_read}
 use Rattle.tpl_syntax.proofs.judge.first_misplaced.Given as goal
 

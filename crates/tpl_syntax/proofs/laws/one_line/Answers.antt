@@ -1,4 +1,4 @@
-use Rattle.tpl_syntax.proofs.Deciding.{one_line}
+use Rattle.tpl_syntax.proofs.Uniqueness.{one_line}
 use Rattle.tpl_syntax.proofs.laws.one_line.Goals as goal
 
 pub returns : goal.returns

@@ -1,4 +1,4 @@
-use Rattle.tpl_syntax.proofs.Deciding.{one_answer, some_answer}
+use Rattle.tpl_syntax.proofs.Uniqueness.{one_answer, some_answer}
 use Rattle.tpl_syntax.proofs.laws.one_template.Goals as goal
 
 pub returns-clause-some : goal.returns-clause-some

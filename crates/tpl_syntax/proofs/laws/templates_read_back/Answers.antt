@@ -1,4 +1,4 @@
-use Rattle.tpl_syntax.proofs.Rewriting.{lines_are, read_back}
+use Rattle.tpl_syntax.proofs.Printer.{lines_are, read_back}
 use Rattle.tpl_syntax.proofs.laws.templates_read_back.Goals as goal
 
 pub returns-clause-read : goal.returns-clause-read

@@ -1,7 +1,7 @@
 use Rattle.script_lines.specs.Views.{line_of}
 use Rattle.std.proofs.Common.{map}
 use Rattle.tpl_syntax.specs.Templates.{faulty}
-use Rattle.tpl_syntax.proofs.Deciding.{is_answer, is_unended}
+use Rattle.tpl_syntax.proofs.Uniqueness.{is_answer, is_unended}
 use Rattle.tpl_syntax.proofs.read.answer.Goals as goal
 
 pub returns-in-Faulty : goal.returns-in-Faulty

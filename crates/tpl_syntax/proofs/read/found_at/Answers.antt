@@ -1,7 +1,7 @@
 use Rattle.std.proofs.Common.{sym}
-use Rattle.tpl_syntax.specs.Judging.{allowed}
+use Rattle.tpl_syntax.specs.Refusals.{allowed}
 use Rattle.tpl_syntax.specs.Views.{place_of}
-use Rattle.tpl_syntax.proofs.Fitting.{does_fit, does_not_fit}
+use Rattle.tpl_syntax.proofs.Places.{does_fit, does_not_fit}
 use Rattle.tpl_syntax.proofs.read.found_at.Goals as goal
 
 pub returns-in_default : goal.returns-in_default

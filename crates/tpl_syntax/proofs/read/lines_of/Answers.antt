@@ -1,5 +1,5 @@
 use Rattle.std.proofs.Common.{arith}
-use Rattle.tpl_syntax.proofs.Cutting.{all_lines}
+use Rattle.tpl_syntax.proofs.Pieces.{all_lines}
 use Rattle.tpl_syntax.proofs.read.lines_of.Goals as goal
 
 pub loop-lines-init : goal.loop-lines-init

@@ -2,7 +2,7 @@ use Rattle.std.proofs.Common.{◌≡◌, ◌<◌, ◌≤◌, ◌+◌, ◌-◌, �
 use Rattle.script_lines.specs.Lines.{kept_lines}
 use Rattle.script_lines.specs.Pieces.{pieces_of}
 use Rattle.script_lines.specs.Views.{line_of}
-use Rattle.tpl_syntax.proofs.Cutting.{lines_in}
+use Rattle.tpl_syntax.proofs.Pieces.{lines_in}
 use Rattle.tpl_syntax.proofs.read.lines_of.Given as goal
 
 abbrev pub invariant-loop-lines : goal.invariant-loop-lines

@@ -2,7 +2,7 @@ use Rattle.std.proofs.Common.{ℕ, [], ◌∷◌, length, refl, ap, ◌∙◌, a
 use Rattle.std.proofs.lemmas.List.{length-append}
 use Rattle.sig_untrack.specs.Stated as stated
 use Rattle.body_text.specs.Statements.{rewiring_of}
-use Rattle.body_text.proofs.Putting.{rewire_built}
+use Rattle.body_text.proofs.Parts.{rewire_built}
 use Rattle.body_text.proofs.lists.Lists.put_rewire.Goals as goal
 
 pub returns-clause-built : goal.returns-clause-built

@@ -1,4 +1,4 @@
-use Rattle.effect_rows.proofs.Settling.{cells_can}
+use Rattle.effect_rows.proofs.Cells.{cells_can}
 use Rattle.effect_rows.proofs.scene.Scene.new.Goals as goal
 
 pub returns-clause-can : goal.returns-clause-can

@@ -1,4 +1,4 @@
-use Rattle.effect_rows.proofs.Readying.{taken_ready}
+use Rattle.effect_rows.proofs.Tables.{taken_ready}
 use Rattle.effect_rows.proofs.tree.Tree.back.Goals as goal
 
 pub returns : goal.returns

@@ -1,4 +1,4 @@
-use Rattle.effect_rows.proofs.Readying.{effect_ready}
+use Rattle.effect_rows.proofs.Tables.{effect_ready}
 use Rattle.effect_rows.proofs.tree.Tree.effect.Goals as goal
 
 pub returns : goal.returns

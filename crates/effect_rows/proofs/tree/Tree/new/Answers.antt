@@ -1,4 +1,4 @@
-use Rattle.effect_rows.proofs.Readying.{new_ready}
+use Rattle.effect_rows.proofs.Tables.{new_ready}
 use Rattle.effect_rows.proofs.tree.Tree.new.Goals as goal
 
 pub returns : goal.returns

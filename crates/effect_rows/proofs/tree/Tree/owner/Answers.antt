@@ -1,4 +1,4 @@
-use Rattle.effect_rows.proofs.Readying.{owner_ready}
+use Rattle.effect_rows.proofs.Tables.{owner_ready}
 use Rattle.effect_rows.proofs.tree.Tree.owner.Goals as goal
 
 pub returns : goal.returns

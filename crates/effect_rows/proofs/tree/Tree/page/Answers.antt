@@ -1,4 +1,4 @@
-use Rattle.effect_rows.proofs.Readying.{page_ready}
+use Rattle.effect_rows.proofs.Tables.{page_ready}
 use Rattle.effect_rows.proofs.tree.Tree.page.Goals as goal
 
 pub returns : goal.returns

@@ -1,5 +1,5 @@
 use Rattle.std.proofs.Common.{◌+◌, arith, refl}
-use Rattle.effect_rows.proofs.Readying.{signal_ready}
+use Rattle.effect_rows.proofs.Tables.{signal_ready}
 use Rattle.effect_rows.proofs.tree.Tree.signal.Goals as goal
 
 pub adopt_signal-requires-clause-lone : goal.adopt_signal-requires-clause-lone

@@ -1,5 +1,5 @@
 use Rattle.std.proofs.Common.{◌++◌, ◌∷◌, [], None, ap, ◌∙◌}
-use Rattle.effect_tables.specs.Linking.{body_of}
+use Rattle.effect_tables.specs.Bodies.{body_of}
 use Rattle.effect_tables.proofs.effect.Effect.child.Goals as goal
 
 pub returns-clause-seen : goal.returns-clause-seen

@@ -1,5 +1,5 @@
 use Rattle.std.proofs.Common.{◌+◌, ◌++◌, ◌∷◌, [], length, Some, sym, ap, ◌∙◌}
-use Rattle.effect_tables.specs.Numbering.{living}
+use Rattle.effect_tables.specs.Owners.{living}
 use Rattle.effect_tables.proofs.Gone.{counted_more}
 use Rattle.effect_tables.proofs.owner_rows.OwnerRows.add.Goals as goal
 

@@ -1,7 +1,7 @@
 use Rattle.std.proofs.Common.{◌≡◌, not, true, length, suc, arith, sym, ap, ◌∙◌}
 use Rattle.std.specs.Prelude.{is_some}
 use Rattle.sig_store.specs.Stored.{entry}
-use Rattle.effect_tables.specs.Numbering.{OwnerList, closed_at, living}
+use Rattle.effect_tables.specs.Owners.{OwnerList, closed_at, living}
 use Rattle.effect_tables.proofs.Gone.{counted_fewer, gone_none, taken_out}
 use Rattle.effect_tables.proofs.owner_rows.OwnerRows.close.Goals as goal
 

@@ -2,7 +2,7 @@ use Rattle.std.proofs.Common.{refl, subst, arith}
 use Rattle.std.specs.Vec.{with_item}
 use Rattle.effect_tables.specs.declared.effect.Effect.{Effect}
 use Rattle.effect_tables.specs.declared.tables.Tables.{Tables}
-use Rattle.effect_tables.specs.Keeping.{IsKept}
+use Rattle.effect_tables.specs.Runs.{IsKept}
 use Rattle.effect_tables.proofs.Found.{found_in, none_in, place_within}
 use Rattle.effect_tables.proofs.Kept.{kept_does, kept_holds, kept_nowhere, kept_there}
 use Rattle.effect_tables.proofs.tables.Tables.keep.Goals as goal

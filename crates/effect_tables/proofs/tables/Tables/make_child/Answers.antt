@@ -3,12 +3,12 @@ use Rattle.std.specs.Prelude.{◌+◌, None, Some}
 use Rattle.std.specs.Rc.{rc_value}
 use Rattle.effect_tables.specs.declared.tables.Tables.{Tables}
 use Rattle.effect_tables.specs.declared.thing.Thing.TheVariants as a
-use Rattle.effect_tables.specs.Adopting.{MakesEffect}
-use Rattle.effect_tables.specs.Fitting.{IsFitting}
-use Rattle.effect_tables.specs.Linking.{body_of}
+use Rattle.effect_tables.specs.Children.{MakesEffect}
+use Rattle.effect_tables.specs.Scripts.{IsFitting}
+use Rattle.effect_tables.specs.Bodies.{body_of}
 use Rattle.effect_tables.specs.Placed.{effect_of}
-use Rattle.effect_tables.specs.Noting.{noted}
-use Rattle.effect_tables.proofs.Making.{IsPut}
+use Rattle.effect_tables.specs.Things.{noted}
+use Rattle.effect_tables.proofs.Creations.{IsPut}
 use Rattle.effect_tables.proofs.Tabled.{child_does, effect_holds, effect_leaves}
 use Rattle.effect_tables.proofs.tables.Tables.make_child.Goals as goal
 

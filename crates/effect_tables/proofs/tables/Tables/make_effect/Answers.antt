@@ -2,12 +2,12 @@ use Rattle.std.proofs.Common.{◌≡◌, [], refl, sym, subst, ◌∙◌}
 use Rattle.std.specs.Prelude.{◌+◌, None}
 use Rattle.effect_tables.specs.declared.tables.Tables.{Tables}
 use Rattle.effect_tables.specs.declared.thing.Thing.TheVariants as a
-use Rattle.effect_tables.specs.Adopting.{MakesEffect}
-use Rattle.effect_tables.specs.Fitting.{IsFitting}
-use Rattle.effect_tables.specs.Linking.{body_of}
+use Rattle.effect_tables.specs.Children.{MakesEffect}
+use Rattle.effect_tables.specs.Scripts.{IsFitting}
+use Rattle.effect_tables.specs.Bodies.{body_of}
 use Rattle.effect_tables.specs.Placed.{effect_of}
-use Rattle.effect_tables.specs.Noting.{noted}
-use Rattle.effect_tables.proofs.Making.{IsPut, open_row}
+use Rattle.effect_tables.specs.Things.{noted}
+use Rattle.effect_tables.proofs.Creations.{IsPut, open_row}
 use Rattle.effect_tables.proofs.Tabled.{effect_does, effect_holds, effect_leaves}
 use Rattle.effect_tables.proofs.tables.Tables.make_effect.Goals as goal
 

@@ -3,11 +3,11 @@ use Rattle.std.specs.Prelude.{IsErrOf}
 use Rattle.sig_owner.specs.declared.errors.OwnFault.TheVariants as fault
 use Rattle.sig_owner.specs.declared.limits.TheConstants.{MOST_OWNERS}
 use Rattle.effect_tables.specs.declared.tables.Tables.{Tables}
-use Rattle.effect_tables.specs.Numbering.{living}
+use Rattle.effect_tables.specs.Owners.{living}
 use Rattle.effect_tables.specs.Placed.{is_open}
-use Rattle.effect_tables.proofs.Counting.{owners_counted}
-use Rattle.effect_tables.specs.Noting.{noted}
-use Rattle.effect_tables.proofs.Making.{open_row}
+use Rattle.effect_tables.proofs.Counts.{owners_counted}
+use Rattle.effect_tables.specs.Things.{noted}
+use Rattle.effect_tables.proofs.Creations.{open_row}
 use Rattle.effect_tables.proofs.Tabled.{owner_does, owner_holds, owner_leaves}
 use Rattle.effect_tables.proofs.tables.Tables.make_owner.Goals as goal
 

@@ -1,6 +1,6 @@
 use Rattle.std.proofs.Common.{refl}
 use Rattle.effect_tables.specs.declared.tables.Tables.{Tables}
-use Rattle.effect_tables.proofs.Starting.{bare_holds, bare_placed}
+use Rattle.effect_tables.proofs.Start.{bare_holds, bare_placed}
 use Rattle.effect_tables.proofs.tables.Tables.new.Goals as goal
 
 pub returns-clause-placed : goal.returns-clause-placed

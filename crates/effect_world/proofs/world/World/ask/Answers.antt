@@ -1,6 +1,6 @@
 use Rattle.std.proofs.Common.{refl, ◌∷◌, []}
 use Rattle.effect_world.specs.declared.world.World.{World}
-use Rattle.effect_world.proofs.Carrying.{owned_still, settle_done}
+use Rattle.effect_world.proofs.Worlds.{owned_still, settle_done}
 use Rattle.effect_world.proofs.Told.{most_more, worn_more}
 use Rattle.effect_world.proofs.world.World.ask.Goals as goal
 

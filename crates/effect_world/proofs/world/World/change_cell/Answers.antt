@@ -1,6 +1,6 @@
 use Rattle.std.proofs.Common.{refl}
 use Rattle.effect_world.specs.declared.world.World.{World}
-use Rattle.effect_world.proofs.Carrying.{owned_still, set_done}
+use Rattle.effect_world.proofs.Worlds.{owned_still, set_done}
 use Rattle.effect_world.proofs.world.World.change_cell.Goals as goal
 
 pub returns-clause-does : goal.returns-clause-does

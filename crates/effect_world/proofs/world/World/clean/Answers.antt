@@ -1,5 +1,5 @@
 use Rattle.std.proofs.Common.{ap, sym, ◌∙◌, arith}
-use Rattle.effect_model.specs.Owning.{sets, logs}
+use Rattle.effect_model.specs.Owners.{sets, logs}
 use Rattle.sig_base.specs.Values.{scalar_value}
 use Rattle.sig_owner.specs.Tables.{cleanup_of}
 use Rattle.effect_world.proofs.Told.{one_told}

@@ -3,9 +3,9 @@ use Rattle.std.specs.Prelude.{IsErrOf}
 use Rattle.std.specs.List.{AllByRecursion}
 use Rattle.sig_owner.specs.declared.errors.OwnFault.TheVariants as own
 use Rattle.effect_tables.specs.declared.tables.Tables.{Tables}
-use Rattle.effect_tables.specs.Linking.{thing_of}
+use Rattle.effect_tables.specs.Bodies.{thing_of}
 use Rattle.effect_world.specs.declared.world.World.{World}
-use Rattle.effect_world.specs.Acting.{IsNoted}
+use Rattle.effect_world.specs.Signals.{IsNoted}
 use Rattle.effect_world.proofs.Undone.{agrees_now, gone_standing, gone_tabled, lives_by, noted_steps, out_does}
 use Rattle.effect_world.proofs.world.World.dispose.Goals as goal
 

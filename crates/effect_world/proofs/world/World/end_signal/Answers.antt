@@ -1,7 +1,7 @@
 use Rattle.std.proofs.Common.{refl, sym, ◌∙◌, arith}
-use Rattle.signal_model.specs.Standing.{standing}
+use Rattle.signal_model.specs.Signals.{standing}
 use Rattle.effect_model.specs.Acts.{undo}
-use Rattle.effect_model.specs.Owning.{the_signal, ends}
+use Rattle.effect_model.specs.Owners.{the_signal, ends}
 use Rattle.effect_model.specs.Worlds as plain
 use Rattle.effect_tables.specs.declared.thing.Thing.TheVariants as thing
 use Rattle.sig_effect.specs.Wholes as wholes

@@ -1,5 +1,5 @@
 use Rattle.std.proofs.Common.{refl}
-use Rattle.sig_effect.specs.Agreeing as signals
+use Rattle.sig_effect.specs.Stores as signals
 use Rattle.sig_effect.specs.Events.{thing_of}
 use Rattle.effect_world.specs.declared.world.World.{World}
 use Rattle.effect_world.proofs.Ended.{undoes_ended}

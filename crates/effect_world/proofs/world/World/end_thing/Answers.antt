@@ -1,9 +1,9 @@
 use Rattle.std.proofs.Common.{map, is_some, ap, sym, refl, arith}
 use Rattle.effect_model.specs.Acts.{undo}
-use Rattle.effect_model.specs.Owning.{ends, the_effect, the_owner, the_page, the_signal, the_watcher}
+use Rattle.effect_model.specs.Owners.{ends, the_effect, the_owner, the_page, the_signal, the_watcher}
 use Rattle.effect_model.specs.Worlds as plain
 use Rattle.effect_tables.specs.declared.thing.Thing.TheVariants as thing
-use Rattle.effect_tables.specs.Linking.{thing_of}
+use Rattle.effect_tables.specs.Bodies.{thing_of}
 use Rattle.sig_effect.specs.Wholes as wholes
 use Rattle.effect_world.specs.declared.events.Event.TheVariants as event
 use Rattle.effect_world.proofs.Told.{one_told}

@@ -1,6 +1,6 @@
 use Rattle.std.proofs.Common.{refl, sym, ◌∙◌, arith}
 use Rattle.effect_model.specs.Acts.{undo}
-use Rattle.effect_model.specs.Owning.{the_watcher, ends}
+use Rattle.effect_model.specs.Owners.{the_watcher, ends}
 use Rattle.effect_model.specs.Worlds as plain
 use Rattle.effect_tables.specs.declared.thing.Thing.TheVariants as thing
 use Rattle.sig_effect.specs.Wholes as wholes

@@ -2,7 +2,7 @@ use Rattle.std.proofs.Common.{arith, ap}
 use Rattle.effect_model.specs.Worlds as plain
 use Rattle.sig_effect.specs.Wholes as wholes
 use Rattle.effect_world.specs.declared.world.World.{World}
-use Rattle.effect_world.proofs.Carrying.{cell_done, owned_more}
+use Rattle.effect_world.proofs.Worlds.{cell_done, owned_more}
 use Rattle.effect_world.proofs.world.World.make_cell.Goals as goal
 
 pub adopt_signal-requires-clause-lone : goal.adopt_signal-requires-clause-lone

@@ -5,7 +5,7 @@ use Rattle.sig_nodes.specs.Computations.{recipe_made}
 use Rattle.effect_model.specs.Worlds as plain
 use Rattle.sig_effect.specs.Wholes as wholes
 use Rattle.effect_world.specs.declared.world.World.{World}
-use Rattle.effect_world.proofs.Carrying.{computed_done, host_same, owned_more}
+use Rattle.effect_world.proofs.Worlds.{computed_done, host_same, owned_more}
 use Rattle.effect_world.proofs.world.World.make_computed.Goals as goal
 
 pub adopt_signal-requires-clause-lone : goal.adopt_signal-requires-clause-lone

@@ -1,11 +1,11 @@
 use Rattle.std.proofs.Common.{[], refl, ap, length}
 use Rattle.effect_model.specs.Commands.{with_new_owner}
-use Rattle.effect_model.specs.Owning.{the_owner}
+use Rattle.effect_model.specs.Owners.{the_owner}
 use Rattle.effect_model.specs.Worlds as plain
 use Rattle.effect_tables.specs.Placed.{listed}
 use Rattle.sig_effect.specs.Wholes as wholes
 use Rattle.effect_world.specs.declared.world.World.{World}
-use Rattle.effect_world.proofs.Carrying.{owned_same, tables_done}
+use Rattle.effect_world.proofs.Worlds.{owned_same, tables_done}
 use Rattle.effect_world.proofs.world.World.make_owner.Goals as goal
 
 pub returns-clause-does : goal.returns-clause-does

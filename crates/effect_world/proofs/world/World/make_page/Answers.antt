@@ -1,9 +1,9 @@
 use Rattle.std.proofs.Common.{refl, ap}
-use Rattle.effect_model.specs.Owning.{the_page}
+use Rattle.effect_model.specs.Owners.{the_page}
 use Rattle.effect_model.specs.Worlds as plain
 use Rattle.sig_effect.specs.Wholes as wholes
 use Rattle.effect_world.specs.declared.world.World.{World}
-use Rattle.effect_world.proofs.Carrying.{owned_same, page_done}
+use Rattle.effect_world.proofs.Worlds.{owned_same, page_done}
 use Rattle.effect_world.proofs.world.World.make_page.Goals as goal
 
 pub returns-clause-does : goal.returns-clause-does

@@ -1,7 +1,7 @@
 use Rattle.std.proofs.Common.{refl, ap}
 use Rattle.sig_nodes.specs.States.{Seen}
 use Rattle.effect_world.specs.declared.world.World.{World}
-use Rattle.effect_world.proofs.Carrying.{owned_still, watcher_done}
+use Rattle.effect_world.proofs.Worlds.{owned_still, watcher_done}
 use Rattle.effect_world.proofs.world.World.make_watcher.Goals as goal
 
 pub returns-clause-does : goal.returns-clause-does

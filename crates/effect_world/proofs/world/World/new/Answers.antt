@@ -1,10 +1,10 @@
 use Rattle.std.proofs.Common.{[], ap, subst, sym, ◌∙◌, arith}
-use Rattle.effect_model.specs.Owning.{the_owner, the_signal}
+use Rattle.effect_model.specs.Owners.{the_owner, the_signal}
 use Rattle.effect_model.specs.Worlds as plain
 use Rattle.effect_tables.specs.Placed.{numbering, untouched}
-use Rattle.effect_undoing.specs.Forming.{IsFormed}
+use Rattle.effect_undoing.specs.Trees.{IsFormed}
 use Rattle.sig_effect.specs.Wholes as wholes
-use Rattle.sig_owner.specs.Renaming.{renamed}
+use Rattle.sig_owner.specs.Renames.{renamed}
 use Rattle.sig_owner.specs.Trees.{has_thing}
 use Rattle.effect_world.proofs.world.World.new.Goals as goal
 

@@ -1,6 +1,6 @@
 use Rattle.std.proofs.Common.{refl}
 use Rattle.effect_world.specs.declared.world.World.{World}
-use Rattle.effect_world.proofs.Carrying.{owned_still, rewire_done}
+use Rattle.effect_world.proofs.Worlds.{owned_still, rewire_done}
 use Rattle.effect_world.proofs.Told.{below_told}
 use Rattle.effect_world.proofs.world.World.rewire.Goals as goal
 

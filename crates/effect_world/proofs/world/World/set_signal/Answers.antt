@@ -1,12 +1,12 @@
 use Rattle.std.proofs.Common.{refl, arith}
-use Rattle.signal_model.specs.Standing.{standing}
+use Rattle.signal_model.specs.Signals.{standing}
 use Rattle.effect_model.specs.Acts.{set_cell}
-use Rattle.effect_model.specs.Owning.{the_signal}
+use Rattle.effect_model.specs.Owners.{the_signal}
 use Rattle.effect_model.specs.Worlds as plain
 use Rattle.effect_tables.specs.declared.thing.Thing.TheVariants as thing
 use Rattle.sig_effect.specs.Wholes as wholes
 use Rattle.effect_world.specs.declared.events.Event.TheVariants as event
-use Rattle.effect_world.specs.Acting.{any_hosts}
+use Rattle.effect_world.specs.Signals.{any_hosts}
 use Rattle.effect_world.proofs.Told.{one_told}
 use Rattle.effect_world.proofs.Undone.{acts_none, kind_cell, kind_computed, kind_computing, kind_gone, set_gone, set_kept, undoes_still, undoes_told}
 use Rattle.effect_world.proofs.world.World.set_signal.Goals as goal

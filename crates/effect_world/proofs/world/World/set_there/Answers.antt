@@ -1,8 +1,8 @@
 use Rattle.std.proofs.Common.{refl, arith}
-use Rattle.signal_model.specs.Standing.{standing}
+use Rattle.signal_model.specs.Signals.{standing}
 use Rattle.effect_model.specs.Acts.{set_cell}
 use Rattle.effect_world.specs.declared.world.World.{World}
-use Rattle.effect_world.specs.Acting.{any_hosts}
+use Rattle.effect_world.specs.Signals.{any_hosts}
 use Rattle.effect_world.proofs.Told.{below_told}
 use Rattle.effect_world.proofs.Undone.{cell_only, undoes_below}
 use Rattle.effect_world.proofs.world.World.set_there.Goals as goal

@@ -1,11 +1,11 @@
 use Rattle.std.proofs.Common.{◌≡◌, Err, map, is_some, arith, ap, sym, refl, subst, length, ◌∙◌}
 use Rattle.std.specs.Prelude.{IsErrOf}
 use Rattle.std.specs.List.{AllByRecursion}
-use Rattle.effect_model.specs.Owning.{the_effect}
+use Rattle.effect_model.specs.Owners.{the_effect}
 use Rattle.sig_owner.specs.declared.errors.OwnFault.TheVariants as own
 use Rattle.effect_tables.specs.declared.tables.Tables.{Tables}
 use Rattle.effect_world.specs.declared.world.World.{World}
-use Rattle.effect_world.specs.Acting.{IsNoted}
+use Rattle.effect_world.specs.Signals.{IsNoted}
 use Rattle.effect_world.proofs.Undone.{agrees_now, back_does, gone_tabled, lives_by, noted_steps}
 use Rattle.effect_world.proofs.world.World.take_back.Goals as goal
 

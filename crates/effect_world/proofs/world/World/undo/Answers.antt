@@ -1,10 +1,10 @@
 use Rattle.std.proofs.Common.{ap, sym, subst, ◌∙◌}
 use Rattle.effect_model.specs.Acts.{undo}
-use Rattle.effect_model.specs.Owning.{cleans, ends, the_effect}
+use Rattle.effect_model.specs.Owners.{cleans, ends, the_effect}
 use Rattle.effect_tables.specs.declared.thing.Undoing.TheVariants as undoing
-use Rattle.effect_tables.specs.Linking.{thing_of, undoing_of}
+use Rattle.effect_tables.specs.Bodies.{thing_of, undoing_of}
 use Rattle.sig_owner.specs.Tables.{cleanup_of}
-use Rattle.effect_world.specs.Acting.{IsNoted}
+use Rattle.effect_world.specs.Signals.{IsNoted}
 use Rattle.effect_world.proofs.Undone.{undoes_as, undoes_lent}
 use Rattle.effect_world.proofs.world.World.undo.Goals as goal
 

@@ -1,6 +1,6 @@
 use Rattle.std.proofs.Common.{arith, subst, sym}
 use Rattle.effect_world.proofs.Undone.{noted_at, undoes_all, undoes_next, undoes_none}
-use Rattle.effect_world.specs.Acting.{IsNoted}
+use Rattle.effect_world.specs.Signals.{IsNoted}
 use Rattle.effect_world.proofs.world.World.undo_all.Goals as goal
 
 pub loop-undoing-init : goal.loop-undoing-init

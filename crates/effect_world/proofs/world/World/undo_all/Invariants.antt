@@ -1,8 +1,8 @@
 use Rattle.std.proofs.Common.{◌≤◌, ◌+◌, is_some, length, map, option_map, take}
 use Rattle.effect_model.specs.Acts.{undo_all}
-use Rattle.effect_tables.specs.Linking.{undoings_of}
+use Rattle.effect_tables.specs.Bodies.{undoings_of}
 use Rattle.sig_host.specs.Hosts.{AnswersBy, IsCounted}
-use Rattle.effect_world.specs.Acting.{Undoes, scene}
+use Rattle.effect_world.specs.Signals.{Undoes, scene}
 use Rattle.effect_world.proofs.world.World.undo_all.Given as goal
 
 -- the steps so far are done

@@ -2,7 +2,7 @@ use Rattle.std.proofs.Common.{refl, ap}
 use Rattle.effect_model.specs.Acts.{forget}
 use Rattle.sig_nodes.specs.States.{Seen}
 use Rattle.effect_world.specs.declared.world.World.{World}
-use Rattle.effect_world.proofs.Carrying.{owned_still, watch_done}
+use Rattle.effect_world.proofs.Worlds.{owned_still, watch_done}
 use Rattle.effect_world.proofs.world.World.unwatch.Goals as goal
 
 pub returns-clause-does : goal.returns-clause-does

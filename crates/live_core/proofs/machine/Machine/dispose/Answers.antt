@@ -1,14 +1,14 @@
 use Rattle.std.proofs.Common.{◌≡◌, ◌∙◌, length, map, refl, sym, ap, arith}
 use Rattle.std.specs.Prelude.{Some, option_map}
 use Rattle.std.specs.List.{filter}
-use Rattle.signal_model.specs.Standing.{is_in}
+use Rattle.signal_model.specs.Signals.{is_in}
 use Rattle.effect_model.specs.Acts.{dispose_thing}
 use Rattle.effect_laws.proofs.SharedCounts.{all_keep_counts}
 use Rattle.sig_effect.proofs.SharedKinds.{all_keep_kinds}
-use Rattle.effect_tables.specs.Linking.{thing_of}
-use Rattle.sig_effect.specs.Agreeing.{environment}
+use Rattle.effect_tables.specs.Bodies.{thing_of}
+use Rattle.sig_effect.specs.Stores.{environment}
 use Rattle.live_model.specs.Names.{meaning_of, thing_named}
-use Rattle.live_core.proofs.Doing.{acts_steps, disposed_steps, leaves_ended, pages_steps, stays_by, tells_by}
+use Rattle.live_core.proofs.Commands.{acts_steps, disposed_steps, leaves_ended, pages_steps, stays_by, tells_by}
 use Rattle.live_core.proofs.machine.Machine.dispose.Goals as goal
 
 pub returns-clause-steps : goal.returns-clause-steps

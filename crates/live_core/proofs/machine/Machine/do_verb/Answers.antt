@@ -1,5 +1,5 @@
 use Rattle.std.proofs.Common.{length, map}
-use Rattle.live_core.proofs.Doing.{anyway, leaves_as}
+use Rattle.live_core.proofs.Commands.{anyway, leaves_as}
 use Rattle.live_core.proofs.machine.Machine.do_verb.Goals as goal
 
 pub returns-in-Get-clause-steps : goal.returns-in-Get-clause-steps

@@ -1,8 +1,8 @@
 use Rattle.std.proofs.Common.{map, refl, sym, ap, subst, arith}
-use Rattle.sig_effect.specs.Agreeing.{environment, AreRuled}
+use Rattle.sig_effect.specs.Stores.{environment, AreRuled}
 use Rattle.live_pages.specs.Views.{template_of}
 use Rattle.live_pages.proofs.Shared.{all_standing, pages_kept}
-use Rattle.live_core.proofs.Doing.{ready_changed, stays_settled}
+use Rattle.live_core.proofs.Commands.{ready_changed, stays_settled}
 use Rattle.live_core.proofs.Mounts.{brought_steps, refused_steps}
 use Rattle.live_core.proofs.machine.Machine.end_flush.Goals as goal
 

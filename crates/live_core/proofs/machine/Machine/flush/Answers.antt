@@ -1,16 +1,16 @@
 use Rattle.std.proofs.Common.{◌∙◌, ◌≤◌, List, length, map, refl, sym, ap, subst, arith}
 use Rattle.std.specs.List.{filter}
-use Rattle.signal_model.specs.Standing.{is_in}
-use Rattle.effect_model.specs.Running.{flush}
+use Rattle.signal_model.specs.Signals.{is_in}
+use Rattle.effect_model.specs.Runs.{flush}
 use Rattle.effect_model.specs.Worlds as told
 use Rattle.effect_laws.proofs.SharedCounts.{flushes_keep_counts}
 use Rattle.sig_effect.proofs.SharedKinds.{flushes_keep_kinds}
-use Rattle.sig_effect.specs.Agreeing.{environment}
+use Rattle.sig_effect.specs.Stores.{environment}
 use Rattle.sig_base.specs.declared.limits.TheConstants.{MOST_PAGES}
 use Rattle.live_pages.specs.declared.mounted.Mounted.{Mounted}
 use Rattle.live_pages.specs.Views.{template_of}
 use Rattle.live_pages.proofs.Shared.{fewer, shown_filtered}
-use Rattle.live_core.proofs.Doing.{acts_steps, leaves_ended, pages_steps, stays_by, tells_by}
+use Rattle.live_core.proofs.Commands.{acts_steps, leaves_ended, pages_steps, stays_by, tells_by}
 use Rattle.live_core.proofs.Mounts.{flush_steps}
 use Rattle.live_core.proofs.machine.Machine.flush.Goals as goal
 

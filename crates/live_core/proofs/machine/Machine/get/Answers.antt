@@ -4,10 +4,10 @@ use Rattle.signal_model.specs.Values.{value_of}
 use Rattle.effect_model.specs.Worlds.{settle}
 use Rattle.effect_laws.proofs.SharedCounts.{all_keep_counts}
 use Rattle.sig_effect.proofs.SharedKinds.{all_keep_kinds}
-use Rattle.sig_effect.specs.Agreeing.{environment, AreRuled}
+use Rattle.sig_effect.specs.Stores.{environment, AreRuled}
 use Rattle.live_entries.specs.declared.entry.Entry.TheVariants as entry
 use Rattle.live_model.specs.Names.{number_of}
-use Rattle.live_core.proofs.Doing.{acts_steps, leaves_acted, stays_by, tells_by, then_told}
+use Rattle.live_core.proofs.Commands.{acts_steps, leaves_acted, stays_by, tells_by, then_told}
 use Rattle.live_core.proofs.machine.Machine.get.Goals as goal
 
 pub returns-clause-steps : goal.returns-clause-steps

@@ -1,23 +1,23 @@
 use Rattle.std.proofs.Common.{◌≡◌, rules, Err, true, ◌∙◌, ◌∷◌, [], ◌++◌, ◌+◌, length, refl, sym, ap, subst, arith}
 use Rattle.sig_base.specs.declared.limits.TheConstants.{MOST_NODES}
 use Rattle.signal_model.specs.Changes.{live_count}
-use Rattle.effect_tables.specs.Numbering.{living}
+use Rattle.effect_tables.specs.Owners.{living}
 use Rattle.live_entries.specs.declared.refusal.LimitWord.TheVariants as limit
 use Rattle.sig_base.specs.Values.{scalar_value}
-use Rattle.signal_model.specs.Standing.{Cell}
+use Rattle.signal_model.specs.Signals.{Cell}
 use Rattle.effect_model.specs.Commands.{with_new_cell}
 use Rattle.effect_tables.specs.Placed.{at_rest, is_open}
-use Rattle.effect_world.specs.Agreeing.{IsSound}
+use Rattle.effect_world.specs.Stores.{IsSound}
 use Rattle.effect_world.specs.Wholes.{whole_of}
 use Rattle.live_cmd.specs.declared.command.Command.TheVariants as command
 use Rattle.live_model.specs.declared.names.Kind.TheVariants as kind
 use Rattle.live_model.specs.declared.names.Need.TheVariants as need
-use Rattle.live_model.specs.Linking.{owner_of}
+use Rattle.live_model.specs.Links.{owner_of}
 use Rattle.live_labels.specs.Views.{labels_of}
-use Rattle.live_core.specs.Keeping.{Holds}
+use Rattle.live_core.specs.Consistency.{WorldAgrees}
 use Rattle.live_core.proofs.Rightly.{inside_open, neither, new_name, refused_at, uses_fine}
-use Rattle.live_core.proofs.Doing.{leaves_count, not_most, only_three, room_below, rule_below, true_false}
-use Rattle.live_core.proofs.Making.{beside_cell, here_cell, leaves_signal, steps_named}
+use Rattle.live_core.proofs.Commands.{leaves_count, not_most, only_three, room_below, rule_below, true_false}
+use Rattle.live_core.proofs.Creations.{beside_cell, here_cell, leaves_signal, steps_named}
 use Rattle.live_core.proofs.machine.Machine.make_cell.Goals as goal
 
 pub returns-clause-steps : goal.returns-clause-steps
@@ -53,7 +53,7 @@ returns-clause-leaves c = λ hosts asked slacks count sound same fine.
     (beside_cell m.world.signals.graph.state.signals new.world.signals.graph.state.signals cell signals)
     (here_cell m.world.signals.graph.state.signals new.world.signals.graph.state.signals cell signals)
     (let a = ap (λ w. w.signals.graph.state.worn) n.parts.world ∙ e.worn in let b = ap (λ x. x.made.effects) whole in omega (arith, a, b))
-    (λ h. subst (Holds asked (length slacks)) (sym n.parts.world)
+    (λ h. subst (WorldAgrees asked (length slacks)) (sym n.parts.world)
     (record { agrees = e.agrees asked h.agrees; ruled = e.ruled (length slacks) (λ r is. rule_below slacks c.args.equals r fine (sym c.rule_place.ensures ∙ is)) h.ruled })))
 
 pub returns-in_err-id-clause-memory : goal.returns-in_err-id-clause-memory

@@ -1,29 +1,29 @@
 use Rattle.std.proofs.Common.{rules, Err, ◌≡◌, ◌∙◌, ◌∷◌, [], ◌++◌, ◌+◌, ℕ, true, refl, sym, ap, subst, arith}
 use Rattle.sig_base.specs.declared.limits.TheConstants.{MOST_NODES}
 use Rattle.signal_model.specs.Changes.{live_count}
-use Rattle.effect_tables.specs.Numbering.{living}
+use Rattle.effect_tables.specs.Owners.{living}
 use Rattle.live_entries.specs.declared.refusal.LimitWord.TheVariants as limit
 use Rattle.std.specs.List.{All}
 use Rattle.signal_model.specs.Recipes.{Recipe}
-use Rattle.signal_model.specs.Standing.{Computed}
+use Rattle.signal_model.specs.Signals.{Computed}
 use Rattle.effect_model.specs.Acts.{host_of, with_use}
 use Rattle.effect_model.specs.Commands.{with_new_computed}
 use Rattle.effect_tables.specs.Placed.{at_rest, is_open}
 use Rattle.sig_nodes.specs.Answers.{expression_of}
 use Rattle.sig_nodes.specs.Computations.{recipe_made}
 use Rattle.sig_nodes.specs.States.{is_given}
-use Rattle.effect_world.specs.Agreeing.{IsSound}
+use Rattle.effect_world.specs.Stores.{IsSound}
 use Rattle.effect_world.specs.Wholes.{whole_of}
 use Rattle.live_cmd.specs.declared.command.Command.TheVariants as command
 use Rattle.live_model.specs.declared.names.Kind.TheVariants as kind
 use Rattle.live_model.specs.declared.names.Need.TheVariants as need
-use Rattle.live_model.specs.Linking.{owner_of, recipe_of}
+use Rattle.live_model.specs.Links.{owner_of, recipe_of}
 use Rattle.live_model.specs.Uses.{uses_of_inside, uses_of_source}
 use Rattle.live_labels.specs.Views.{labels_of}
-use Rattle.live_core.specs.Keeping.{Holds}
+use Rattle.live_core.specs.Consistency.{WorldAgrees}
 use Rattle.live_core.proofs.Rightly.{inside_open, neither, new_name, parted, refused_at, uses_fine}
-use Rattle.live_core.proofs.Doing.{every, few_made, few_slots, free_made, host_fine, made_for, none_next, not_most, only_three, paged_for, room_below, source_used, stood_for, true_false}
-use Rattle.live_core.proofs.Making.{beside_computed, here_computed, leaves_signal, steps_named}
+use Rattle.live_core.proofs.Commands.{every, few_made, few_slots, free_made, host_fine, made_for, none_next, not_most, only_three, paged_for, room_below, source_used, stood_for, true_false}
+use Rattle.live_core.proofs.Creations.{beside_computed, here_computed, leaves_signal, steps_named}
 use Rattle.live_core.proofs.machine.Machine.make_computed.Goals as goal
 
 pub make_computed-requires-clause-given : goal.make_computed-requires-clause-given
@@ -79,7 +79,7 @@ returns-clause-leaves c = λ hosts asked rules sound agrees free.
     (here_computed m.world.signals.graph.state.signals new.world.signals.graph.state.signals computed (none_next m.world.signals.graph c.made-made.ensures.used) signals)
     (let a = ap (λ w. w.signals.graph.state.worn) n.parts.world ∙ e.worn in
     let b = ap (λ x. x.made.effects) whole ∙ ap (λ x. x.effects) (made_for (host_of made.expression) _) in omega (arith, a, b))
-    (λ h. subst (Holds asked rules) (sym n.parts.world) (record { agrees = e.agrees asked h.agrees opened; ruled = e.ruled rules h.ruled }))
+    (λ h. subst (WorldAgrees asked rules) (sym n.parts.world) (record { agrees = e.agrees asked h.agrees opened; ruled = e.ruled rules h.ruled }))
 
 pub returns-in_err-id-clause-memory : goal.returns-in_err-id-clause-memory
 returns-in_err-id-clause-memory c =

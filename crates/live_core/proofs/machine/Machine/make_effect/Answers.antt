@@ -1,4 +1,4 @@
-use Rattle.effect_tables.specs.Numbering.{living}
+use Rattle.effect_tables.specs.Owners.{living}
 use Rattle.effect_tables.specs.Placed.{at_rest, is_open}
 use Rattle.live_cmd.specs.declared.command.Command.TheVariants as command
 use Rattle.live_model.specs.declared.names.Need.TheVariants as need
@@ -6,18 +6,18 @@ use Rattle.live_core.proofs.Rightly.{inside_open, neither, new_name, refused_at,
 use Rattle.std.proofs.Common.{true, ◌≡◌, ◌∙◌, [], Some, refl, sym, ap, subst, arith}
 use Rattle.effect_model.specs.Commands.{with_new_effect}
 use Rattle.sig_untrack.specs.Stated.{no_bodies}
-use Rattle.effect_tables.specs.Fitting.{AreFitting}
-use Rattle.effect_tables.specs.Linking.{body_along, body_of}
-use Rattle.sig_effect.specs.Agreeing.{AreRuled}
-use Rattle.effect_world.specs.Agreeing.{IsSound}
+use Rattle.effect_tables.specs.Scripts.{AreFitting}
+use Rattle.effect_tables.specs.Bodies.{body_along, body_of}
+use Rattle.sig_effect.specs.Stores.{AreRuled}
+use Rattle.effect_world.specs.Stores.{IsSound}
 use Rattle.effect_world.specs.Wholes.{whole_of}
 use Rattle.live_model.specs.declared.names.Kind.TheVariants as kind
 use Rattle.live_model.specs.Labels.{named, with_label}
-use Rattle.live_model.specs.Linking.{linked_body, links_of, owner_of}
+use Rattle.live_model.specs.Links.{linked_body, links_of, owner_of}
 use Rattle.live_labels.specs.Views.{labels_of}
-use Rattle.live_core.specs.Keeping.{Holds}
+use Rattle.live_core.specs.Consistency.{WorldAgrees}
 use Rattle.live_linking.proofs.Shared.{fit_links}
-use Rattle.live_core.proofs.Making.{leaves_other, other_effect, steps_named}
+use Rattle.live_core.proofs.Creations.{leaves_other, other_effect, steps_named}
 use Rattle.live_core.proofs.machine.Machine.make_effect.Goals as goal
 
 pub returns-clause-steps : goal.returns-clause-steps
@@ -54,7 +54,7 @@ returns-clause-leaves c = λ hosts asked rules sound.
     (record { names = n.names; labels = n.labels; templates = n.parts.templates; pages = n.parts.pages }) refl refl
     (record { watchers = ap (λ x. x.made.watchers) whole; pages = ap (λ x. x.pages) whole; paged = ap (λ x. x.made.pages) whole }) same
     (let a = ap (λ s. s.graph.state.worn) same in let b = ap (λ x. x.made.effects) whole in omega (arith, a, b))
-    (λ h. subst (Holds asked rules) (sym n.parts.world)
+    (λ h. subst (WorldAgrees asked rules) (sym n.parts.world)
     (record { agrees = e.agrees asked h.agrees; ruled = subst (λ s. AreRuled rules s.graph.state.signals) (sym e.signals) h.ruled }))
 
 pub make_effect-requires-clause-open : goal.make_effect-requires-clause-open

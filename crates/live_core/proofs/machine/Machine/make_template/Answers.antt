@@ -2,13 +2,13 @@ use Rattle.std.proofs.Common.{◌∙◌, ◌∷◌, ◌++◌, [], ℕ, List, map
 use Rattle.std.proofs.lemmas.List.{length-map}
 use Rattle.tpl_blocks.specs.Blocks.{lines_of}
 use Rattle.live_model.specs.declared.names.Kind.TheVariants as kind
-use Rattle.live_model.specs.Linking.{linked_template}
-use Rattle.live_model.specs.Machine.{told}
+use Rattle.live_model.specs.Links.{linked_template}
+use Rattle.live_model.specs.Machine.{reached}
 use Rattle.live_model.specs.Names.{number_of}
 use Rattle.live_pages.specs.declared.mounted.LinkedTemplate.{LinkedTemplate}
 use Rattle.live_pages.specs.Views.{template_of}
 use Rattle.live_core.specs.Views.{plain_of}
-use Rattle.live_core.proofs.Making.{leaves_template, templates_more}
+use Rattle.live_core.proofs.Creations.{leaves_template, templates_more}
 use Rattle.live_core.proofs.machine.Machine.make_template.Goals as goal
 
 pub returns-clause-steps : goal.returns-clause-steps
@@ -19,7 +19,7 @@ returns-clause-steps c = λ hosts slacks asked sound.
     let templates = templates_more m.templates.items c.push.new.self.items made (linked_template m.names c.args.template) c.in_ok-push.ensures.items
     (ap (λ (ns : List ℕ). record { lines = lines_of c.args.template; links = ns }) (c.in_ok-links.ensures ∙ ap (map (number_of m.names)) c.names.ensures)) in
     record {
-      step = (λ i. told (record (plain_of asked m) { names = names i; templates = templates i }) (c.new.ensures.items i));
+      step = (λ i. reached (record (plain_of asked m) { names = names i; templates = templates i }) (c.new.ensures.items i));
       sound = sound;
     }
 

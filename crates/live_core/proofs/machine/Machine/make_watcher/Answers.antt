@@ -1,14 +1,14 @@
 use Rattle.std.proofs.Common.{◌∙◌, ◌∷◌, [], ◌++◌, ◌+◌, Bool, sym, ap, subst, arith}
 use Rattle.effect_model.specs.Commands.{with_new_watcher}
 use Rattle.effect_tables.specs.Placed.{at_rest}
-use Rattle.effect_world.specs.Agreeing.{Agrees, IsSound}
+use Rattle.effect_world.specs.Stores.{Agrees, IsSound}
 use Rattle.effect_world.specs.Wholes.{whole_of}
 use Rattle.live_model.specs.declared.names.Kind.TheVariants as kind
 use Rattle.live_model.specs.Machine.{is_trying}
 use Rattle.live_labels.specs.Views.{labels_of}
-use Rattle.live_core.proofs.Doing.{trying}
-use Rattle.live_core.proofs.Making.{steps_named}
-use Rattle.live_core.proofs.Watching.{leaves_watcher}
+use Rattle.live_core.proofs.Commands.{trying}
+use Rattle.live_core.proofs.Creations.{steps_named}
+use Rattle.live_core.proofs.Watchers.{leaves_watcher}
 use Rattle.live_core.proofs.machine.Machine.make_watcher.Goals as goal
 
 pub make_watcher-requires-clause-made : goal.make_watcher-requires-clause-made

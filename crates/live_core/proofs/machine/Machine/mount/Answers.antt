@@ -1,25 +1,25 @@
 use Rattle.std.proofs.Common.{◌≡◌, ◌∙◌, ◌∷◌, [], ◌++◌, ◌+◌, ◌<◌, ℕ, true, length, map, sym, ap, subst, arith}
 use Rattle.std.proofs.lemmas.List.{length-map}
 use Rattle.std.proofs.lemmas.Result.{err_from_is_err_and}
-use Rattle.effect_tables.specs.Numbering.{living}
+use Rattle.effect_tables.specs.Owners.{living}
 use Rattle.effect_tables.specs.Placed.{is_open}
 use Rattle.sig_base.specs.declared.limits.TheConstants.{MOST_PAGES}
-use Rattle.sig_effect.specs.Agreeing.{environment}
-use Rattle.effect_world.specs.Agreeing.{Agrees, IsSound}
+use Rattle.sig_effect.specs.Stores.{environment}
+use Rattle.effect_world.specs.Stores.{Agrees, IsSound}
 use Rattle.effect_world.specs.Wholes.{whole_of}
 use Rattle.live_cmd.specs.declared.command.Command.TheVariants as command
 use Rattle.live_entries.specs.declared.refusal.LimitWord.TheVariants as limit
 use Rattle.live_model.specs.declared.names.Kind.TheVariants as kind
 use Rattle.live_model.specs.declared.names.Need.TheVariants as need
-use Rattle.live_model.specs.Linking.{owner_of}
+use Rattle.live_model.specs.Links.{owner_of}
 use Rattle.live_model.specs.Names.{number_of}
 use Rattle.tpl_live.specs.Pages.{Stands}
-use Rattle.tpl_live.specs.Standings.{standing}
+use Rattle.tpl_live.specs.Contents.{standing}
 use Rattle.live_model.specs.Pages.{template_in}
 use Rattle.live_pages.specs.Views.{template_of}
 use Rattle.live_pages.specs.declared.mounted.Mounted.{Mounted}
 use Rattle.live_core.proofs.Rightly.{inside_open, neither, new_name, refused_at, template_used, used_of, uses_fine}
-use Rattle.live_core.proofs.Doing.{room_below}
+use Rattle.live_core.proofs.Commands.{room_below}
 use Rattle.live_core.proofs.Mounts.{by_owner, leaves_mounted, mount_steps}
 use Rattle.live_core.proofs.machine.Machine.mount.Goals as goal
 

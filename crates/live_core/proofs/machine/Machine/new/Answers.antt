@@ -2,8 +2,8 @@ use Rattle.std.proofs.Common.{◌∙◌, [], length, map, arith, sym, ap, subst}
 use Rattle.live_model.specs.Names.{Names}
 use Rattle.live_pages.specs.Updates.{AreShown, ArePages, AreTemplates}
 use Rattle.live_pages.specs.Views.{template_of}
-use Rattle.live_core.specs.Keeping.{AreMeant}
-use Rattle.live_core.proofs.Meanings.{none_meant}
+use Rattle.live_core.specs.Consistency.{AreMeant}
+use Rattle.live_core.proofs.Names.{none_meant}
 use Rattle.live_core.proofs.machine.Machine.new.Goals as goal
 
 pub returns-clause-ready : goal.returns-clause-ready

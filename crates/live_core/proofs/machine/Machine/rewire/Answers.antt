@@ -1,7 +1,7 @@
 use Rattle.std.proofs.Common.{rules, Err, ◌≡◌, ◌∙◌, ◌∷◌, ℕ, true, refl, sym, ap, subst, arith}
 use Rattle.std.specs.List.{All}
 use Rattle.signal_model.specs.Recipes.{Recipe}
-use Rattle.signal_model.specs.Standing.{is_there, standing}
+use Rattle.signal_model.specs.Signals.{is_there, standing}
 use Rattle.effect_model.specs.Acts.{rewire_signal}
 use Rattle.sig_nodes.specs.Answers.{expression_of}
 use Rattle.sig_nodes.specs.Computations.{recipe_made}
@@ -11,11 +11,11 @@ use Rattle.sig_effect.proofs.SharedKinds.{all_keep_kinds}
 use Rattle.live_cmd.specs.declared.command.Command.TheVariants as command
 use Rattle.live_model.specs.declared.names.Kind.TheVariants as kind
 use Rattle.live_model.specs.declared.names.Need.TheVariants as need
-use Rattle.live_model.specs.Linking.{recipe_of}
+use Rattle.live_model.specs.Links.{recipe_of}
 use Rattle.live_model.specs.Names.{number_of}
-use Rattle.live_core.specs.Keeping.{is_of_kind}
+use Rattle.live_core.specs.Consistency.{is_of_kind}
 use Rattle.live_core.proofs.Rightly.{kind_used, neither, refused_at, used_of, uses_fine}
-use Rattle.live_core.proofs.Doing.{acts_steps, every, few_made, few_slots, free_made, host_fine, leaves_acted, no_cell, only_memory, source_used, stays_by, tells_by, true_false}
+use Rattle.live_core.proofs.Commands.{acts_steps, every, few_made, few_slots, free_made, host_fine, leaves_acted, no_cell, only_memory, source_used, stays_by, tells_by, true_false}
 use Rattle.live_core.proofs.machine.Machine.rewire.Goals as goal
 
 pub rewire-requires-clause-kind : goal.rewire-requires-clause-kind

@@ -1,12 +1,12 @@
 use Rattle.std.proofs.Common.{◌∙◌, map, refl, sym, ap, subst, arith}
 use Rattle.std.proofs.lemmas.List.{length-map}
-use Rattle.sig_effect.specs.Agreeing.{environment, AreRuled}
+use Rattle.sig_effect.specs.Stores.{environment, AreRuled}
 use Rattle.live_model.specs.Machine.{page_at}
 use Rattle.live_model.specs.Names.{number_of}
 use Rattle.live_pages.specs.Updates.{AreShown, IsShown}
 use Rattle.live_pages.specs.Views.{page_of, template_of}
 use Rattle.live_pages.proofs.Shared.{pages_kept}
-use Rattle.live_core.proofs.Doing.{ready_changed, stays_settled}
+use Rattle.live_core.proofs.Commands.{ready_changed, stays_settled}
 use Rattle.live_core.proofs.Mounts.{scratch_steps}
 use Rattle.live_core.proofs.machine.Machine.scratch.Goals as goal
 

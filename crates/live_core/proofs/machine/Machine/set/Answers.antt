@@ -1,17 +1,17 @@
 use Rattle.std.proofs.Common.{◌∙◌, map, refl, ap, arith}
 use Rattle.sig_base.specs.Values.{scalar_value}
-use Rattle.signal_model.specs.Standing.{standing}
+use Rattle.signal_model.specs.Signals.{standing}
 use Rattle.effect_model.specs.Acts.{set_cell}
 use Rattle.effect_laws.proofs.SharedCounts.{all_keep_counts}
 use Rattle.sig_effect.proofs.SharedKinds.{all_keep_kinds}
-use Rattle.sig_effect.specs.Agreeing.{environment}
+use Rattle.sig_effect.specs.Stores.{environment}
 use Rattle.live_cmd.specs.declared.command.Command.TheVariants as command
 use Rattle.live_model.specs.declared.names.Kind.TheVariants as kind
 use Rattle.live_model.specs.declared.names.Need.TheVariants as need
 use Rattle.live_model.specs.Names.{number_of}
-use Rattle.live_core.specs.Keeping.{is_of_kind}
+use Rattle.live_core.specs.Consistency.{is_of_kind}
 use Rattle.live_core.proofs.Rightly.{kind_used, neither, refused_at, used_of, uses_fine}
-use Rattle.live_core.proofs.Doing.{acts_steps, cell_is, leaves_acted, stays_by, tells_by}
+use Rattle.live_core.proofs.Commands.{acts_steps, cell_is, leaves_acted, stays_by, tells_by}
 use Rattle.live_core.proofs.machine.Machine.set.Goals as goal
 
 pub change_cell-requires-clause-kind : goal.change_cell-requires-clause-kind

@@ -5,7 +5,7 @@ use Rattle.live_pages.specs.Views.{page_of, template_of}
 use Rattle.live_pages.proofs.Shared.{all_standing}
 use Rattle.live_entries.specs.declared.entry.Entry.{Entry}
 use Rattle.live_entries.specs.declared.entry.Entry.TheVariants as entry
-use Rattle.live_model.specs.Machine.{page_at, told}
+use Rattle.live_model.specs.Machine.{page_at, reached}
 use Rattle.live_core.specs.Views.{plain_of}
 use Rattle.live_core.proofs.machine.Machine.show.Goals as goal
 
@@ -19,6 +19,6 @@ returns-clause-steps c = λ hosts slacks asked sound.
     let m = c.args.self.now in
     let is = c.in_ok-shown.ensures ∙ (λ i. unwrap_or (option_map page_html (page_at (map page_of (c.deref.ensures.value i)) ((c.of-page.ensures ∙ c.number_of.ensures) i))) []) in
     record {
-      step = ap (λ (es : List Entry). told (plain_of asked m) es) (c.in_ok-told.ensures ∙ ap (λ p. entry.Page c.args.name p ∷ []) is);
+      step = ap (λ (es : List Entry). reached (plain_of asked m) es) (c.in_ok-told.ensures ∙ ap (λ p. entry.Page c.args.name p ∷ []) is);
       sound = sound;
     }

@@ -1,12 +1,12 @@
 use Rattle.std.proofs.Common.{◌∙◌, refl, ap}
-use Rattle.signal_model.specs.Standing.{is_there, standing}
+use Rattle.signal_model.specs.Signals.{is_there, standing}
 use Rattle.live_cmd.specs.declared.command.Command.TheVariants as command
 use Rattle.live_cmd.specs.declared.command.Verb.TheVariants as verb
 use Rattle.live_model.specs.declared.names.Kind.TheVariants as kind
 use Rattle.live_model.specs.declared.names.Need.TheVariants as need
-use Rattle.live_core.specs.Keeping.{is_of_kind}
+use Rattle.live_core.specs.Consistency.{is_of_kind}
 use Rattle.live_core.proofs.Rightly.{kind_used, neither, refused_at, used_of, uses_fine}
-use Rattle.live_core.proofs.Doing.{computed_is}
+use Rattle.live_core.proofs.Commands.{computed_is}
 use Rattle.live_core.proofs.machine.Machine.state.Goals as goal
 
 pub mark_of-requires : goal.mark_of-requires

@@ -3,8 +3,8 @@ use Rattle.effect_model.specs.Acts.{forget}
 use Rattle.effect_model.specs.Commands.{changed_watcher}
 use Rattle.sig_watcher.specs.Tables.{Table}
 use Rattle.live_model.specs.Names.{number_of}
-use Rattle.live_core.proofs.Doing.{acts_steps, untold}
-use Rattle.live_core.proofs.Watching.{leaves_watched}
+use Rattle.live_core.proofs.Commands.{acts_steps, untold}
+use Rattle.live_core.proofs.Watchers.{leaves_watched}
 use Rattle.live_core.proofs.machine.Machine.unwatch.Goals as goal
 
 pub returns-clause-leaves : goal.returns-clause-leaves

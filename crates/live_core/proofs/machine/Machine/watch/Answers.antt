@@ -7,8 +7,8 @@ use Rattle.sig_watcher.specs.Tables.{Table}
 use Rattle.live_model.specs.declared.names.Kind.TheVariants as kind
 use Rattle.live_model.specs.declared.names.Need.TheVariants as need
 use Rattle.live_core.proofs.Rightly.{neither, refused_at, signals_used, uses_fine}
-use Rattle.live_core.proofs.Doing.{acts_steps, untold}
-use Rattle.live_core.proofs.Watching.{leaves_watched}
+use Rattle.live_core.proofs.Commands.{acts_steps, untold}
+use Rattle.live_core.proofs.Watchers.{leaves_watched}
 use Rattle.live_core.proofs.machine.Machine.watch.Goals as goal
 
 pub returns-clause-leaves : goal.returns-clause-leaves

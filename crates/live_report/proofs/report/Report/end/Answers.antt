@@ -1,4 +1,4 @@
-use Rattle.live_report.proofs.Printing.{summary_ended}
+use Rattle.live_report.proofs.Output.{summary_ended}
 use Rattle.live_report.proofs.report.Report.end.Goals as goal
 
 pub returns-in_ok-put_summary-in-Summary : goal.returns-in_ok-put_summary-in-Summary

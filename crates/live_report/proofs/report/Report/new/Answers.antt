@@ -1,5 +1,5 @@
 use Rattle.std.proofs.Common.{◌∙◌}
-use Rattle.live_report.proofs.Printing.{summary_begun}
+use Rattle.live_report.proofs.Output.{summary_begun}
 use Rattle.live_report.proofs.report.Report.new.Goals as goal
 
 pub returns-in_ok-of-in-Bench-clause-prints : goal.returns-in_ok-of-in-Bench-clause-prints

@@ -1,5 +1,5 @@
 use Rattle.std.proofs.Common.{◌++◌, ap}
-use Rattle.live_report.proofs.Printing.{lines_entries, summary_entries}
+use Rattle.live_report.proofs.Output.{lines_entries, summary_entries}
 use Rattle.live_report.proofs.report.Report.with_entries.Goals as goal
 
 pub returns-in_ok-put_entries-in-Lines-clause-prints : goal.returns-in_ok-put_entries-in-Lines-clause-prints

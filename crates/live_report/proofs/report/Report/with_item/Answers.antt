@@ -1,4 +1,4 @@
-use Rattle.live_report.proofs.Printing.{summary_item}
+use Rattle.live_report.proofs.Output.{summary_item}
 use Rattle.live_report.proofs.report.Report.with_item.Goals as goal
 
 pub returns-in-Summary-clause-prints : goal.returns-in-Summary-clause-prints

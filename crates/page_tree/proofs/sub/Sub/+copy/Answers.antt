@@ -2,7 +2,7 @@ use Rattle.std.proofs.Common.{◌≡◌, [], sym, ap, ◌∙◌, drop, map}
 use Rattle.std.proofs.lemmas.List.{drop_all}
 use Rattle.page_tree.specs.Subs.{sub_tree}
 use Rattle.page_tree.proofs.Lists.{last_out}
-use Rattle.page_tree.proofs.Bringing.{same_element}
+use Rattle.page_tree.proofs.Subtrees.{same_element}
 use Rattle.page_tree.proofs.sub.Sub.+copy.Goals as goal
 
 pub returns-after-loop-sub : goal.returns-after-loop-sub

@@ -1,7 +1,7 @@
 use Rattle.std.proofs.Common.{sym, ap, ◌∙◌}
 use Rattle.page_model.specs.Edits.{siblings}
 use Rattle.page_tree.specs.Subs.{sub_tree, tree_number}
-use Rattle.page_tree.proofs.Bringing.{number_text, number_element, alone_text, alone_element}
+use Rattle.page_tree.proofs.Subtrees.{number_text, number_element, alone_text, alone_element}
 use Rattle.page_tree.proofs.sub.Sub.number.Goals as goal
 
 pub returns-in-Text-clause-number : goal.returns-in-Text-clause-number

@@ -1,7 +1,7 @@
 use Rattle.std.proofs.Common.{refl, sym, ap, ◌∙◌}
 use Rattle.page_tree.specs.Rows.{look, row_in, row_of}
-use Rattle.page_tree.specs.Reading.{attribute_value}
-use Rattle.page_tree.proofs.Doing.{kept_some, kept_none}
+use Rattle.page_tree.specs.Queries.{attribute_value}
+use Rattle.page_tree.proofs.Edits.{kept_some, kept_none}
 use Rattle.page_tree.proofs.Queries.{label_off}
 use Rattle.page_tree.proofs.tree.Tree.attr_value.Goals as goal
 

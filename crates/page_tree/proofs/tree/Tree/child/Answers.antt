@@ -1,7 +1,7 @@
 use Rattle.std.proofs.Common.{refl, sym, ap, ◌∙◌}
 use Rattle.std.specs.List.{slice_get}
 use Rattle.page_tree.specs.Rows.{look, row_in, row_of}
-use Rattle.page_tree.proofs.Doing.{kept_some, kept_none}
+use Rattle.page_tree.proofs.Edits.{kept_some, kept_none}
 use Rattle.page_tree.proofs.Queries.{children_off}
 use Rattle.page_tree.proofs.tree.Tree.child.Goals as goal
 

@@ -1,6 +1,6 @@
 use Rattle.std.proofs.Common.{arith, refl, sym, ap}
 use Rattle.page_tree.specs.Rows.{look, row_in, row_of}
-use Rattle.page_tree.proofs.Doing.{kept_some, kept_none}
+use Rattle.page_tree.proofs.Edits.{kept_some, kept_none}
 use Rattle.page_tree.proofs.Queries.{read_count}
 use Rattle.page_tree.proofs.tree.Tree.child_count.Goals as goal
 

@@ -1,6 +1,6 @@
 use Rattle.std.proofs.Common.{refl, sym, ap, ◌∙◌}
 use Rattle.page_tree.specs.Rows.{look, row_in, row_of}
-use Rattle.page_tree.proofs.Doing.{kept_some, kept_none}
+use Rattle.page_tree.proofs.Edits.{kept_some, kept_none}
 use Rattle.page_tree.proofs.Queries.{children_off}
 use Rattle.page_tree.proofs.tree.Tree.children.Goals as goal
 

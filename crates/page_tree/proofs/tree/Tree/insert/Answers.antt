@@ -2,8 +2,8 @@ use Rattle.std.proofs.Common.{ap, ◌∙◌}
 use Rattle.page_model.specs.Edits.{put_at}
 use Rattle.page_tree.specs.Rows.{look, edited, numbered_row, with_children}
 use Rattle.page_tree.specs.Subs.{after_rows, insertion, rows_of, sub_tree}
-use Rattle.page_tree.proofs.Doing.{done_for, leads_for}
-use Rattle.page_tree.proofs.Bringing.{brought_rows}
+use Rattle.page_tree.proofs.Edits.{done_for, leads_for}
+use Rattle.page_tree.proofs.Subtrees.{brought_rows}
 use Rattle.page_tree.proofs.Queries.{insert_room, kept_same, sub_leads}
 use Rattle.page_tree.proofs.tree.Tree.insert.Goals as goal
 

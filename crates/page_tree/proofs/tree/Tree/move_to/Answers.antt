@@ -1,6 +1,6 @@
 use Rattle.page_model.specs.Replay as replay
 use Rattle.page_tree.specs.Rows.{look}
-use Rattle.page_tree.proofs.Doing.{done_for, leads_for}
+use Rattle.page_tree.proofs.Edits.{done_for, leads_for}
 use Rattle.page_tree.proofs.Queries.{move_room, moved_leads}
 use Rattle.page_tree.proofs.tree.Tree.move_to.Goals as goal
 

@@ -1,5 +1,5 @@
 use Rattle.page_tree.specs.Rows.{look}
-use Rattle.page_tree.proofs.Doing.{new_kept}
+use Rattle.page_tree.proofs.Edits.{new_kept}
 use Rattle.page_tree.proofs.tree.Tree.new.Goals as goal
 
 pub invariant_of-result : goal.invariant_of-result

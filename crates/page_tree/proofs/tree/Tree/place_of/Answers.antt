@@ -4,7 +4,7 @@ use Rattle.std.proofs.lemmas.Bool.{false≢true}
 use Rattle.page_model.specs.Edits.{siblings}
 use Rattle.page_model.specs.Forest.{kids, on}
 use Rattle.page_model.specs.Pages.{place_in}
-use Rattle.page_tree.proofs.Doing.{kept_some, kept_none}
+use Rattle.page_tree.proofs.Edits.{kept_some, kept_none}
 use Rattle.page_tree.proofs.Queries.{parent_on, place_off, read_place, tree_seen, zero_first, zero_last}
 use Rattle.page_tree.proofs.tree.Tree.place_of.Goals as goal
 

@@ -1,7 +1,7 @@
 use Rattle.std.proofs.Common.{ap, ◌∙◌}
 use Rattle.page_model.specs.Replay as replay
 use Rattle.page_tree.specs.Rows.{look}
-use Rattle.page_tree.proofs.Doing.{leads_for}
+use Rattle.page_tree.proofs.Edits.{leads_for}
 use Rattle.page_tree.proofs.Queries.{removed_leads}
 use Rattle.page_tree.proofs.tree.Tree.remove.Goals as goal
 

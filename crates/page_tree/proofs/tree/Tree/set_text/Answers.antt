@@ -1,6 +1,6 @@
 use Rattle.page_model.specs.Replay as replay
 use Rattle.page_tree.specs.Rows.{look}
-use Rattle.page_tree.proofs.Doing.{done_for, leads_for, text_leads}
+use Rattle.page_tree.proofs.Edits.{done_for, leads_for, text_leads}
 use Rattle.page_tree.proofs.tree.Tree.set_text.Goals as goal
 
 pub invariant_of-self : goal.invariant_of-self

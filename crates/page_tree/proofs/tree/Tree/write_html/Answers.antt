@@ -1,7 +1,7 @@
 use Rattle.std.proofs.Common.{sym, ap, ◌∙◌, ◌++◌, false}
 use Rattle.page_model.specs.Html.{html_in, html_of}
 use Rattle.page_tree.specs.Rows.{build, look, row_in, row_of}
-use Rattle.page_tree.proofs.Showing.{shows_root}
+use Rattle.page_tree.proofs.Bytes.{shows_root}
 use Rattle.page_tree.proofs.tree.Tree.write_html.Goals as goal
 
 pub returns : goal.returns

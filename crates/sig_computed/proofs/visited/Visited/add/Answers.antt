@@ -1,5 +1,5 @@
 use Rattle.std.proofs.Common.{List, ℕ, ap, ◌∷◌, ◌∙◌}
-use Rattle.signal_model.specs.Standing.{is_in}
+use Rattle.signal_model.specs.Signals.{is_in}
 use Rattle.sig_computed.proofs.Looks.{one_more}
 use Rattle.sig_computed.proofs.visited.Visited.add.Goals as goal
 

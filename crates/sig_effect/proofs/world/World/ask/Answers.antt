@@ -2,8 +2,8 @@ use Rattle.std.proofs.Common.{List, map, refl, sym, subst}
 use Rattle.sig_computed.specs.declared.notes.RunNote.{RunNote}
 use Rattle.sig_computed.specs.Notes.{note_of, AreNotesGiven}
 use Rattle.sig_effect.specs.declared.world.World.{World}
-use Rattle.sig_effect.proofs.Asking.{ask_does}
-use Rattle.sig_effect.proofs.Naming.{none_given, runs_behind}
+use Rattle.sig_effect.proofs.Asks.{ask_does}
+use Rattle.sig_effect.proofs.Names.{none_given, runs_behind}
 use Rattle.sig_effect.proofs.world.World.ask.Goals as goal
 
 pub returns-clause-does : goal.returns-clause-does

@@ -1,19 +1,19 @@
 use Rattle.std.proofs.Common.{◌≡◌, ◌∙◌, ◌++◌, ℕ, List, Ok, map, sym, ap, subst}
-use Rattle.signal_model.specs.Standing.{Signals}
+use Rattle.signal_model.specs.Signals.{Signals}
 use Rattle.effect_model.specs.Acts.{is_notified, notified_by}
 use Rattle.sig_nodes.specs.States.{State}
 use Rattle.sig_state.specs.declared.sets.SetDone.{SetDone}
 use Rattle.sig_state.specs.declared.sets.SetDone.TheVariants.{Accepted}
-use Rattle.sig_watcher.specs.declared.telling.Told.{Told}
+use Rattle.sig_watcher.specs.declared.recipients.Told.{Told}
 use Rattle.sig_watcher.specs.Numbers.{AreNumbered}
 use Rattle.sig_watcher.specs.Tables.{Table}
-use Rattle.sig_watcher.specs.Telling.{told_entry}
+use Rattle.sig_watcher.specs.Notices.{told_entry}
 use Rattle.sig_effect.specs.declared.world.World.{World}
-use Rattle.sig_effect.specs.Agreeing.{AreRuled}
-use Rattle.sig_effect.specs.Telling.{AreNotices}
-use Rattle.sig_effect.proofs.Changing.{set_accepted, set_agrees}
-use Rattle.sig_effect.proofs.Naming.{named_still, notices_named}
-use Rattle.sig_effect.proofs.Standings.{ruled_value}
+use Rattle.sig_effect.specs.Stores.{AreRuled}
+use Rattle.sig_effect.specs.Results.{AreNotices}
+use Rattle.sig_effect.proofs.Edits.{set_accepted, set_agrees}
+use Rattle.sig_effect.proofs.Names.{named_still, notices_named}
+use Rattle.sig_effect.proofs.Signals.{ruled_value}
 use Rattle.sig_effect.proofs.world.World.change_cell.Goals as goal
 
 pub returns-in-Ok-Accepted-clause-does : goal.returns-in-Ok-Accepted-clause-does

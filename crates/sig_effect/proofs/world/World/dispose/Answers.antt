@@ -1,11 +1,11 @@
 use Rattle.std.proofs.Common.{sym, ap, subst}
-use Rattle.signal_model.specs.Standing.{Signals}
+use Rattle.signal_model.specs.Signals.{Signals}
 use Rattle.sig_nodes.specs.States.{State}
 use Rattle.sig_watcher.specs.Tables.{Table}
-use Rattle.sig_effect.specs.Agreeing.{AreRuled}
-use Rattle.sig_effect.proofs.Changing.{dispose_agreed, dispose_done, most_left, remove_agrees}
-use Rattle.sig_effect.proofs.Naming.{named_ended}
-use Rattle.sig_effect.proofs.Standings.{ruled_left}
+use Rattle.sig_effect.specs.Stores.{AreRuled}
+use Rattle.sig_effect.proofs.Edits.{dispose_agreed, dispose_done, most_left, remove_agrees}
+use Rattle.sig_effect.proofs.Names.{named_ended}
+use Rattle.sig_effect.proofs.Signals.{ruled_left}
 use Rattle.sig_effect.proofs.world.World.dispose.Goals as goal
 
 pub returns-in_ok-dispose_signal-in-Signal-clause-does : goal.returns-in_ok-dispose_signal-in-Signal-clause-does

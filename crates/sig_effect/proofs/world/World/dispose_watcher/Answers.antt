@@ -1,7 +1,7 @@
-use Rattle.signal_model.specs.Standing.{is_in}
+use Rattle.signal_model.specs.Signals.{is_in}
 use Rattle.effect_model.specs.Worlds.{watcher_numbers}
-use Rattle.sig_effect.proofs.Changing.{there_by}
-use Rattle.sig_effect.proofs.Naming.{alive_below}
+use Rattle.sig_effect.proofs.Edits.{there_by}
+use Rattle.sig_effect.proofs.Names.{alive_below}
 use Rattle.sig_effect.proofs.world.World.dispose_watcher.Goals as goal
 
 pub returns-clause-made : goal.returns-clause-made

@@ -1,10 +1,10 @@
 use Rattle.std.proofs.Common.{refl, sym, ap, subst}
 use Rattle.sig_nodes.specs.States.{State}
-use Rattle.signal_model.specs.Standing.{Signals}
+use Rattle.signal_model.specs.Signals.{Signals}
 use Rattle.sig_effect.specs.declared.world.World.{World}
-use Rattle.sig_effect.specs.Agreeing.{AreRuled}
-use Rattle.sig_effect.proofs.Doing.{cell_agrees, cell_does}
-use Rattle.sig_effect.proofs.Standings.{none_there, ruled_cell}
+use Rattle.sig_effect.specs.Stores.{AreRuled}
+use Rattle.sig_effect.proofs.Acts.{cell_agrees, cell_does}
+use Rattle.sig_effect.proofs.Signals.{none_there, ruled_cell}
 use Rattle.sig_effect.proofs.world.World.make_cell.Goals as goal
 
 pub returns-clause-does : goal.returns-clause-does

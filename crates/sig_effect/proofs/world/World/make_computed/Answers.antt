@@ -1,13 +1,13 @@
 use Rattle.std.proofs.Common.{refl, sym, ap, subst}
 use Rattle.signal_model.specs.Recipes.{Recipe}
-use Rattle.signal_model.specs.Standing.{Signals}
+use Rattle.signal_model.specs.Signals.{Signals}
 use Rattle.sig_nodes.specs.Answers.{expression_of}
 use Rattle.sig_nodes.specs.Computations.{recipe_made}
 use Rattle.sig_nodes.specs.States.{State}
 use Rattle.sig_effect.specs.declared.world.World.{World}
-use Rattle.sig_effect.specs.Agreeing.{AreRuled}
-use Rattle.sig_effect.proofs.Doing.{computed_agrees, computed_does}
-use Rattle.sig_effect.proofs.Standings.{none_there, ruled_computed}
+use Rattle.sig_effect.specs.Stores.{AreRuled}
+use Rattle.sig_effect.proofs.Acts.{computed_agrees, computed_does}
+use Rattle.sig_effect.proofs.Signals.{none_there, ruled_computed}
 use Rattle.sig_effect.proofs.world.World.make_computed.Goals as goal
 
 pub returns-clause-does : goal.returns-clause-does

@@ -1,4 +1,4 @@
-use Rattle.sig_effect.proofs.Beginning.{new_sound, new_whole}
+use Rattle.sig_effect.proofs.Start.{new_sound, new_whole}
 use Rattle.sig_effect.proofs.world.World.new.Goals as goal
 
 pub returns-clause-whole : goal.returns-clause-whole

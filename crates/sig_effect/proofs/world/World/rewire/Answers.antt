@@ -4,8 +4,8 @@ use Rattle.sig_nodes.specs.Answers.{expression_of}
 use Rattle.sig_nodes.specs.Computations.{recipe_made}
 use Rattle.sig_nodes.specs.States.{are_there}
 use Rattle.sig_effect.specs.declared.world.World.{World}
-use Rattle.sig_effect.proofs.Changing.{most_left, rewire_agreed, rewire_done, there_by}
-use Rattle.sig_effect.proofs.Naming.{named_left}
+use Rattle.sig_effect.proofs.Edits.{most_left, rewire_agreed, rewire_done, there_by}
+use Rattle.sig_effect.proofs.Names.{named_left}
 use Rattle.sig_effect.proofs.Users.{uses_by}
 use Rattle.sig_effect.proofs.world.World.rewire.Goals as goal
 

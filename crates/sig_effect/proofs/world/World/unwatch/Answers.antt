@@ -1,6 +1,6 @@
 use Rattle.std.proofs.Common.{sym, subst}
 use Rattle.sig_watcher.specs.Tables.{Table}
-use Rattle.sig_effect.specs.Agreeing.{AreWatched}
+use Rattle.sig_effect.specs.Stores.{AreWatched}
 use Rattle.sig_effect.proofs.Watched.{watched_less}
 use Rattle.sig_effect.proofs.world.World.unwatch.Goals as goal
 

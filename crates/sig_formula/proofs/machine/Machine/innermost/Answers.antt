@@ -1,7 +1,7 @@
 use Rattle.std.proofs.Common.{◌∙◌, ◌-◌, ap, length, List}
 use Rattle.std.specs.Prelude.{slice_get}
 use Rattle.sig_formula.specs.declared.rounds.Round.{Round}
-use Rattle.sig_formula.specs.Running.{Machine, first_of}
+use Rattle.sig_formula.specs.Machines.{Machine, first_of}
 use Rattle.sig_formula.proofs.Tops.{last_first}
 use Rattle.sig_formula.proofs.machine.Machine.innermost.Goals as goal
 

@@ -1,6 +1,6 @@
 use Rattle.std.proofs.Common.{arith, ◌∙◌, ap, List, reverse}
 use Rattle.sig_formula.specs.declared.rounds.Round.{Round}
-use Rattle.sig_formula.specs.Running.{Machine, first_of, out}
+use Rattle.sig_formula.specs.Machines.{Machine, first_of, out}
 use Rattle.sig_formula.proofs.Tops.{remaining, taken}
 use Rattle.sig_formula.proofs.machine.Machine.leave.Goals as goal
 

@@ -1,6 +1,6 @@
 use Rattle.std.proofs.Common.{arith, ◌∙◌, ap, List, reverse}
 use Rattle.sig_base.specs.declared.value.Value.{Value}
-use Rattle.sig_formula.specs.Running.{Machine, first_of, popped}
+use Rattle.sig_formula.specs.Machines.{Machine, first_of, popped}
 use Rattle.sig_formula.proofs.Tops.{remaining, taken}
 use Rattle.sig_formula.proofs.machine.Machine.pop.Goals as goal
 

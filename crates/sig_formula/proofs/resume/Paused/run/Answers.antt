@@ -1,9 +1,9 @@
 use Rattle.std.proofs.Common.{Option, sym, ap, ◌∙◌}
 use Rattle.std.specs.Option.{option_copied}
 use Rattle.sig_formula.specs.declared.evaluate.FormulaStep.{FormulaStep}
-use Rattle.sig_formula.specs.Running.{next_by}
+use Rattle.sig_formula.specs.Machines.{next_by}
 use Rattle.sig_formula.specs.Trees.{tree}
-use Rattle.sig_formula.proofs.Reaching.{reached_ends}
+use Rattle.sig_formula.proofs.Progress.{reached_ends}
 use Rattle.sig_formula.proofs.resume.Paused.run.Goals as goal
 
 pub returns-in-Some-clause-answer : goal.returns-in-Some-clause-answer

@@ -1,8 +1,8 @@
 use Rattle.std.proofs.Common.{◌≡◌}
 use Rattle.std.specs.Option.{option_copied}
-use Rattle.sig_formula.specs.Running.{IsReached}
+use Rattle.sig_formula.specs.Machines.{IsReached}
 use Rattle.sig_formula.specs.Trees.{tree}
-use Rattle.sig_formula.proofs.Reaching.{measure}
+use Rattle.sig_formula.proofs.Progress.{measure}
 use Rattle.sig_formula.proofs.resume.Paused.run.Given as goal
 
 abbrev pub invariant-steps : goal.invariant-steps

@@ -6,13 +6,13 @@ use Rattle.std.proofs.Common.{◌≡◌, ◌+◌, ◌++◌, ◌∷◌, [], List,
 use Rattle.sig_nodes.specs.declared.node.Node.{Node}
 use Rattle.sig_nodes.specs.States.{Seen}
 use Rattle.sig_nodes.specs.Seats.{Seating}
-use Rattle.sig_nodes.specs.Places.{Holds, KeepsMarks}
+use Rattle.sig_nodes.specs.Places.{NodesAgree, KeepsMarks}
 use Rattle.sig_nodes.specs.Nodes.{slots_body, state_of}
 use Rattle.std.proofs.Common.{length-append}
 use Rattle.sig_nodes.specs.Nodes.{new_node, with_new}
 use Rattle.sig_nodes.specs.Seats.{with_taken}
 use Rattle.sig_nodes.proofs.Edits.{new_state}
-use Rattle.sig_nodes.proofs.Holding.{given_below, in_all, makes, new_holds}
+use Rattle.sig_nodes.proofs.Consistency.{given_below, in_all, makes, new_holds}
 use Rattle.sig_nodes.proofs.graph.Graph.add.Goals as goal
 
 pub push-requires-clause-count : goal.push-requires-clause-count
@@ -45,8 +45,8 @@ invariant_of-self-2 c =
     let marks = new_kept xs c.take-seat.result c.args.body g c.self.inside.worn c.self.inside.seats c.self.inside.marks c.requires.fresh c.self.invariant.fields c.self.invariant.marks in
     let table = c.in_ok-add.ensures.after ∙ ap (with_place c.self.inside.marks) c.is_computed.ensures in
     record {
-      fields = subst (λ (t : Seating). Holds c.push.new.self.items t g (c.self.inside.worn + 1)) (sym seats)
-          (subst (λ (ys : List Node). Holds ys (with_taken c.self.inside.seats c.take-seat.result (length xs)) g (c.self.inside.worn + 1)) (sym items) h);
+      fields = subst (λ (t : Seating). NodesAgree c.push.new.self.items t g (c.self.inside.worn + 1)) (sym seats)
+          (subst (λ (ys : List Node). NodesAgree ys (with_taken c.self.inside.seats c.take-seat.result (length xs)) g (c.self.inside.worn + 1)) (sym items) h);
       marks = subst (λ (t : MarkTable). KeepsMarks c.push.new.self.items g t) (sym table)
           (subst (λ (ys : List Node). KeepsMarks ys g (with_place c.self.inside.marks (is_computed_body c.args.body))) (sym items) marks);
       found = raised_kept xs c.push.new.self.items g g c.self.inside.worn c.self.inside.finds c.self.invariant.found;

@@ -1,9 +1,9 @@
 use Rattle.std.proofs.Common.{◌≡◌, true, subst}
 use Rattle.std.specs.Prelude.{IfSome}
-use Rattle.signal_model.specs.Standing.{is_there, standing}
+use Rattle.signal_model.specs.Signals.{is_there, standing}
 use Rattle.sig_nodes.specs.States.{Seen}
 use Rattle.sig_nodes.proofs.graph.Graph.at_seat.Goals as goal
-use Rattle.sig_nodes.proofs.Looking.{holder_lives}
+use Rattle.sig_nodes.proofs.Lookups.{holder_lives}
 
 pub returns-clause-live : goal.returns-clause-live
 returns-clause-live c =

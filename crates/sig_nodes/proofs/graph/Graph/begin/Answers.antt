@@ -1,14 +1,14 @@
 use Rattle.sig_nodes.proofs.KeptFinds.{known_found}
 use Rattle.sig_nodes.proofs.KeptMarks.{begun_kept, same_table}
 use Rattle.std.proofs.Common.{refl, ◌<◌, [], List, Some, length, sym, ap, ◌∙◌, subst}
-use Rattle.signal_model.specs.Standing.{is_computed, standing}
+use Rattle.signal_model.specs.Signals.{is_computed, standing}
 use Rattle.sig_nodes.specs.declared.node.Node.{Node}
 use Rattle.sig_nodes.specs.States.{progress_at, Seen, with_progress}
-use Rattle.sig_nodes.specs.Places.{Holds, KeepsFound, KeepsMarks}
+use Rattle.sig_nodes.specs.Places.{NodesAgree, KeepsFound, KeepsMarks}
 use Rattle.sig_nodes.specs.Nodes.{changed_at, progress_of, known_node, state_of}
 use Rattle.sig_nodes.proofs.Edits.{changed_length, known_state}
-use Rattle.sig_nodes.proofs.Holding.{became, computed_below, computed_here, known_holds}
-use Rattle.sig_nodes.proofs.Looking.{begun_here}
+use Rattle.sig_nodes.proofs.Consistency.{became, computed_below, computed_here, known_holds}
+use Rattle.sig_nodes.proofs.Lookups.{begun_here}
 use Rattle.sig_nodes.proofs.graph.Graph.begin.Goals as goal
 
 pub begin_at-requires : goal.begin_at-requires
@@ -26,7 +26,7 @@ invariant_of-self c =
     let live = computed_here c.self.inside.nodes.items c.args.id (ap (λ (s : Seen). is_computed (standing s.state.signals c.args.id)) c.self.view_is ∙ c.requires.live) in
     let marks = begun_kept c.args.id xs g c.self.inside.marks c.push.new.self.marked live c.push.ensures.marks c.self.invariant.marks in
     record {
-      fields = subst (λ (ys : List Node). Holds ys c.self.inside.seats g c.self.inside.worn) (sym c.begin_at.ensures)
+      fields = subst (λ (ys : List Node). NodesAgree ys c.self.inside.seats g c.self.inside.worn) (sym c.begin_at.ensures)
           (known_holds (Some []) c.args.id xs c.self.inside.seats g c.self.inside.worn c.self.invariant.fields);
       marks = subst (λ (ys : List Node). KeepsMarks ys g c.push.new.self) (sym c.begin_at.ensures)
           (same_table (changed_at (known_node (Some [])) c.args.id xs) g c.push.new.self c.self.inside.marks.dependants c.push.new.self.marked c.self.inside.marks.stands c.push.ensures.dependants refl c.push.ensures.stands marks);

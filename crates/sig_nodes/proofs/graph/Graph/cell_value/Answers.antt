@@ -1,5 +1,5 @@
 use Rattle.std.proofs.Common.{sym, ap, ◌∙◌}
-use Rattle.signal_model.specs.Standing.{standing}
+use Rattle.signal_model.specs.Signals.{standing}
 use Rattle.sig_nodes.specs.Answers.{value_here}
 use Rattle.sig_nodes.specs.States.{Seen}
 use Rattle.sig_nodes.proofs.Parts.{stands}

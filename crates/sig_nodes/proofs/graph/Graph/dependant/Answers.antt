@@ -1,13 +1,13 @@
 use Rattle.std.proofs.Common.{◌≡◌, true, sym, ap, ◌∙◌, subst}
 use Rattle.std.specs.Prelude.{slice_get, IfSome}
-use Rattle.signal_model.specs.Standing.{is_computed, is_in, is_there, standing}
+use Rattle.signal_model.specs.Signals.{is_computed, is_in, is_there, standing}
 use Rattle.signal_model.specs.Memos.{keeps}
 use Rattle.signal_model.specs.Laws.{AreDistinct}
 use Rattle.mark_laws.proofs.Shared.{keeper}
 use Rattle.sig_marks.specs.Tables.{dependants_at}
 use Rattle.sig_nodes.specs.Nodes.{memos_of, signals_of}
 use Rattle.sig_nodes.specs.States.{Seen}
-use Rattle.sig_nodes.proofs.Looking.{at_place}
+use Rattle.sig_nodes.proofs.Lookups.{at_place}
 use Rattle.sig_nodes.proofs.graph.Graph.dependant.Goals as goal
 
 pub returns-clause-at : goal.returns-clause-at

@@ -4,20 +4,20 @@ use Rattle.sig_marks.specs.Tables.{Drops}
 use Rattle.sig_nodes.proofs.KeptFinds.{raised_kept}
 use Rattle.sig_nodes.proofs.KeptMarks.{gone_kept, kept_names, names_below, same_table}
 use Rattle.std.proofs.Common.{ℕ, Bool, ◌+◌, ◌<◌, List, length, refl, sym, ap, ◌∙◌, subst}
-use Rattle.signal_model.specs.Standing.{is_there, standing}
+use Rattle.signal_model.specs.Signals.{is_there, standing}
 use Rattle.sig_nodes.specs.declared.node.Node.{Node}
 use Rattle.sig_nodes.specs.Answers.{host_here}
 use Rattle.sig_nodes.specs.States.{Seen, with_disposal}
 use Rattle.sig_nodes.specs.Seats.{Seating, holder}
-use Rattle.sig_nodes.specs.Places.{Holds, KeepsMarks}
+use Rattle.sig_nodes.specs.Places.{NodesAgree, KeepsMarks}
 use Rattle.sig_nodes.specs.Nodes.{changed_at, gone_node, state_of}
 use Rattle.sig_nodes.proofs.Parts.{stands}
 use Rattle.sig_nodes.proofs.Edits.{changed_length, gone_state}
-use Rattle.sig_nodes.proofs.Holding.{became, gone_holds, live_below, live_here}
+use Rattle.sig_nodes.proofs.Consistency.{became, gone_holds, live_below, live_here}
 use Rattle.sig_nodes.specs.Nodes.{seat_at}
 use Rattle.sig_nodes.specs.Seats.{with_left}
 use Rattle.std.proofs.Common.{true≢false}
-use Rattle.sig_nodes.proofs.Holding.{seats_taken}
+use Rattle.sig_nodes.proofs.Consistency.{seats_taken}
 use Rattle.sig_nodes.proofs.graph.Graph.dispose_node.Goals as goal
 
 pub returns-then-not-is_live_at-clause-gone : goal.returns-then-not-is_live_at-clause-gone
@@ -69,8 +69,8 @@ invariant_of-self c =
     let h = gone_holds c.args.id c.self.inside.nodes.items c.self.inside.seats c.self.inside.generation c.self.inside.worn live c.self.invariant.fields in
     let marks = gone_kept c.args.id xs g c.self.inside.marks c.take_out.new.self.dependants c.spread.new.self.marked live c.spread.ensures.marks drops c.self.invariant.marks in
     record {
-      fields = subst (λ (t : Seating). Holds c.take_out-2.new.self.items t (g + 1) (c.self.inside.worn + 1)) (sym seats)
-          (subst (λ (ys : List Node). Holds ys (with_left c.self.inside.seats (seat_at xs c.args.id)) (g + 1) (c.self.inside.worn + 1)) (sym c.take_out-2.ensures) h);
+      fields = subst (λ (t : Seating). NodesAgree c.take_out-2.new.self.items t (g + 1) (c.self.inside.worn + 1)) (sym seats)
+          (subst (λ (ys : List Node). NodesAgree ys (with_left c.self.inside.seats (seat_at xs c.args.id)) (g + 1) (c.self.inside.worn + 1)) (sym c.take_out-2.ensures) h);
       marks = subst (λ (ys : List Node). KeepsMarks ys (g + 1) c.take_out.new.self) (sym c.take_out-2.ensures)
           (same_table (changed_at gone_node c.args.id xs) (g + 1) c.take_out.new.self c.take_out.new.self.dependants (slice_set c.spread.new.self.marked c.args.id true) (slice_set c.self.inside.marks.stands c.args.id false) refl c.take_out.ensures.marks
           (c.take_out.ensures.stands ∙ ap (λ (ss : List Bool). slice_set ss c.args.id false) c.spread.ensures.stands) marks);

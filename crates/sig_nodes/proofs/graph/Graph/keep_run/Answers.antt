@@ -10,14 +10,14 @@ use Rattle.std.specs.List.{All}
 use Rattle.signal_model.specs.Memos.{Memo, named_now}
 use Rattle.sig_nodes.specs.declared.node.Node.{Node}
 use Rattle.sig_nodes.specs.States.{Seen, is_computing, with_kept_run}
-use Rattle.sig_nodes.specs.Places.{Holds, KeepsMarks}
+use Rattle.sig_nodes.specs.Places.{NodesAgree, KeepsMarks}
 use Rattle.sig_nodes.specs.Nodes.{body_at, changed_at, memos_of, number_at, run_node, state_of}
 use Rattle.sig_nodes.proofs.Parts.{progress_found}
 use Rattle.sig_nodes.proofs.Edits.{changed_length, memo_made, run_state}
-use Rattle.sig_nodes.proofs.Holding.{became, computed_below, computed_live, computing_here, given_below, run_holds}
+use Rattle.sig_nodes.proofs.Consistency.{became, computed_below, computed_live, computing_here, given_below, run_holds}
 use Rattle.std.proofs.Common.{ℕ}
 use Rattle.sig_nodes.specs.Computations.{paired}
-use Rattle.sig_nodes.proofs.Looking.{names_now, paired_here}
+use Rattle.sig_nodes.proofs.Lookups.{names_now, paired_here}
 use Rattle.sig_nodes.proofs.graph.Graph.keep_run.Goals as goal
 
 pub keep_memo_at-requires-clause-live : goal.keep_memo_at-requires-clause-live
@@ -77,7 +77,7 @@ invariant_of-self-2 c =
     let marks = run_kept o rs c.args.id xs g t c.relink.new.self.dependants c.end_mark.new.marks.marked on link size
     (λ m. c.end_mark.ensures.marks m ∙ (λ i. ended (marked_at (c.relink.ensures.marks i)) c.args.id (unmarks i) m)) c.self.invariant.marks in
     record {
-      fields = subst (λ (ys : List Node). Holds ys c.self.inside.seats g (c.self.inside.worn + 1)) (sym nodes) (run_holds made c.args.id xs c.self.inside.seats g c.self.inside.worn named c.self.invariant.fields);
+      fields = subst (λ (ys : List Node). NodesAgree ys c.self.inside.seats g (c.self.inside.worn + 1)) (sym nodes) (run_holds made c.args.id xs c.self.inside.seats g c.self.inside.worn named c.self.invariant.fields);
       marks = subst (λ (ys : List Node). KeepsMarks ys g c.end_mark.new.marks) (sym nodes)
           (same_table (changed_at (run_node made) c.args.id xs) g c.end_mark.new.marks c.relink.new.self.dependants c.end_mark.new.marks.marked t.stands c.end_mark.ensures.dependants refl (c.end_mark.ensures.stands ∙ c.relink.ensures.stands) marks);
       found = raised_kept xs c.keep_memo_at.new.nodes.items g g c.self.inside.worn c.self.inside.finds c.self.invariant.found;

@@ -1,7 +1,7 @@
 use Rattle.std.proofs.Common.{length, ap, ◌∙◌, refl}
 use Rattle.sig_nodes.specs.States.{Seen, with_look}
 use Rattle.sig_nodes.specs.Nodes.{state_of}
-use Rattle.sig_nodes.proofs.Holding.{became}
+use Rattle.sig_nodes.proofs.Consistency.{became}
 use Rattle.sig_nodes.proofs.graph.Graph.look.Goals as goal
 
 pub returns-clause-after : goal.returns-clause-after

@@ -3,8 +3,8 @@ use Rattle.signal_model.specs.Kept.{AreGiven, OnlyComputedsKeep}
 use Rattle.sig_nodes.specs.States.{Seen, is_given}
 use Rattle.sig_nodes.specs.Answers.{HaveFewSlots}
 use Rattle.sig_nodes.specs.Seats.{AreAllSeated}
-use Rattle.sig_nodes.proofs.Holding.{few_here, seated_here, used_here}
-use Rattle.sig_nodes.proofs.Searching.{only_keep}
+use Rattle.sig_nodes.proofs.Consistency.{few_here, seated_here, used_here}
+use Rattle.sig_nodes.proofs.Searches.{only_keep}
 use Rattle.sig_nodes.proofs.graph.Graph.made.Goals as goal
 
 pub returns-clause-used : goal.returns-clause-used

@@ -1,13 +1,13 @@
 use Rattle.std.proofs.Common.{◌<◌, ℕ, List, sym, ap, ◌∙◌, refl, subst}
-use Rattle.signal_model.specs.Standing.{is_computed, standing}
+use Rattle.signal_model.specs.Signals.{is_computed, standing}
 use Rattle.signal_model.specs.Marks.{mark_of}
 use Rattle.mark_laws.specs.Marked.{without_marks}
 use Rattle.sig_marks.specs.Tables.{marked_at}
 use Rattle.sig_nodes.specs.States.{Seen}
 use Rattle.sig_nodes.specs.Search.{search_unmarks}
-use Rattle.sig_nodes.proofs.Holding.{computed_here, live_below}
+use Rattle.sig_nodes.proofs.Consistency.{computed_here, live_below}
 use Rattle.sig_nodes.proofs.KeptMarks.{same_table, searched_kept}
-use Rattle.sig_nodes.proofs.Searching.{seats_apart, unmarked_clean}
+use Rattle.sig_nodes.proofs.Searches.{seats_apart, unmarked_clean}
 use Rattle.sig_nodes.proofs.graph.Graph.mark_of.Goals as goal
 
 pub returns-then-not-is_marked-clause-mark : goal.returns-then-not-is_marked-clause-mark

@@ -4,9 +4,9 @@ use Rattle.signal_model.specs.Memos.{sources_of}
 use Rattle.sig_nodes.specs.Answers.{has_moved}
 use Rattle.sig_nodes.specs.States.{Seen, with_look}
 use Rattle.sig_nodes.specs.Nodes.{state_of}
-use Rattle.sig_nodes.proofs.Holding.{became}
+use Rattle.sig_nodes.proofs.Consistency.{became}
 use Rattle.sig_nodes.proofs.graph.Graph.moved.Goals as goal
-use Rattle.sig_nodes.proofs.Looking.{moved_found}
+use Rattle.sig_nodes.proofs.Lookups.{moved_found}
 
 pub returns-clause-moved : goal.returns-clause-moved
 returns-clause-moved c =

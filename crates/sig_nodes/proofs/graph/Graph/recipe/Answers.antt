@@ -1,5 +1,5 @@
 use Rattle.std.proofs.Common.{List, Option, Some, length, sym, ap, ◌∙◌, subst}
-use Rattle.signal_model.specs.Standing.{standing}
+use Rattle.signal_model.specs.Signals.{standing}
 use Rattle.sig_nodes.specs.declared.node.Node.{Node}
 use Rattle.sig_nodes.specs.Answers.{slots_here, IsAnswerHere, IsJudgedAnswer}
 use Rattle.sig_nodes.specs.States.{Seen, progress_at, with_look, with_progress}
@@ -7,11 +7,11 @@ use Rattle.sig_nodes.specs.Places.{IsGraph}
 use Rattle.sig_nodes.specs.Nodes.{body_at, changed_at, known_body, known_node, state_of}
 use Rattle.sig_nodes.proofs.Parts.{progress_found, stands}
 use Rattle.sig_nodes.proofs.Edits.{changed_length, known_state}
-use Rattle.sig_nodes.proofs.Holding.{became}
+use Rattle.sig_nodes.proofs.Consistency.{became}
 use Rattle.sig_nodes.proofs.KeptMarks.{known_graph, under_way}
 use Rattle.sig_base.specs.declared.value.Known.{Known}
 use Rattle.sig_nodes.specs.States.{GoesOn}
-use Rattle.sig_nodes.proofs.Looking.{slots_found}
+use Rattle.sig_nodes.proofs.Lookups.{slots_found}
 use Rattle.sig_nodes.proofs.graph.Graph.recipe.Goals as goal
 
 pub ask_at-requires : goal.ask_at-requires

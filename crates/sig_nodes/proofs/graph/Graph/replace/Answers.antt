@@ -1,16 +1,16 @@
 use Rattle.sig_nodes.proofs.KeptFinds.{raised_kept}
 use Rattle.sig_nodes.proofs.KeptMarks.{same_table, set_kept}
 use Rattle.std.proofs.Common.{refl, ◌+◌, ◌<◌, List, length, sym, ap, ◌∙◌, subst, arith}
-use Rattle.signal_model.specs.Standing.{standing}
+use Rattle.signal_model.specs.Signals.{standing}
 use Rattle.sig_nodes.specs.declared.node.Node.{Node}
 use Rattle.sig_nodes.specs.Answers.{value_here}
 use Rattle.sig_nodes.specs.States.{Seen, is_cell, with_set}
-use Rattle.sig_nodes.specs.Places.{Holds, KeepsMarks}
+use Rattle.sig_nodes.specs.Places.{NodesAgree, KeepsMarks}
 use Rattle.sig_nodes.specs.Nodes.{changed_at, set_node, state_of}
 use Rattle.sig_nodes.proofs.Edits.{changed_length, set_state}
-use Rattle.sig_nodes.proofs.Holding.{became, cell_below, cell_here, set_holds}
+use Rattle.sig_nodes.proofs.Consistency.{became, cell_below, cell_here, set_holds}
 use Rattle.sig_nodes.proofs.graph.Graph.replace.Goals as goal
-use Rattle.sig_nodes.proofs.Looking.{value_found}
+use Rattle.sig_nodes.proofs.Lookups.{value_found}
 
 pub set_value_at-requires-clause-live : goal.set_value_at-requires-clause-live
 set_value_at-requires-clause-live c = cell_here c.self.inside.nodes.items c.args.id (ap (λ (s : Seen). is_cell (standing s.state.signals c.args.id)) c.self.view_is ∙ c.requires.live)
@@ -34,7 +34,7 @@ invariant_of-self c =
     let live = cell_here c.self.inside.nodes.items c.args.id (ap (λ (s : Seen). is_cell (standing s.state.signals c.args.id)) c.self.view_is ∙ c.requires.live) in
     let marks = set_kept c.args.value c.args.id xs g c.self.inside.marks c.spread.new.self.marked live c.spread.ensures.marks c.self.invariant.marks in
     record {
-      fields = subst (λ (ys : List Node). Holds ys c.self.inside.seats (g + 1) (c.self.inside.worn + 1)) (sym c.set_value_at.ensures.nodes)
+      fields = subst (λ (ys : List Node). NodesAgree ys c.self.inside.seats (g + 1) (c.self.inside.worn + 1)) (sym c.set_value_at.ensures.nodes)
           (set_holds c.args.value c.args.id xs c.self.inside.seats g c.self.inside.worn c.self.invariant.fields);
       marks = subst (λ (ys : List Node). KeepsMarks ys (g + 1) c.spread.new.self) (sym c.set_value_at.ensures.nodes)
           (same_table (changed_at (set_node c.args.value) c.args.id xs) (g + 1) c.spread.new.self c.self.inside.marks.dependants c.spread.new.self.marked c.self.inside.marks.stands c.spread.ensures.dependants refl c.spread.ensures.stands marks);

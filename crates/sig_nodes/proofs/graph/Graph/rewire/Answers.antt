@@ -1,19 +1,19 @@
 use Rattle.sig_nodes.proofs.KeptFinds.{raised_kept}
 use Rattle.sig_nodes.proofs.KeptMarks.{rewired_kept, same_table}
 use Rattle.std.proofs.Common.{◌+◌, ◌<◌, ◌∷◌, List, length, refl, sym, ap, ◌∙◌, subst}
-use Rattle.signal_model.specs.Standing.{standing}
+use Rattle.signal_model.specs.Signals.{standing}
 use Rattle.sig_nodes.specs.declared.node.Node.{Node}
 use Rattle.sig_nodes.specs.Answers.{expression_of, host_here}
 use Rattle.sig_nodes.specs.Computations.{recipe_made}
 use Rattle.sig_nodes.specs.States.{Seen, is_cell, with_rewiring}
-use Rattle.sig_nodes.specs.Places.{Holds, KeepsMarks}
+use Rattle.sig_nodes.specs.Places.{NodesAgree, KeepsMarks}
 use Rattle.sig_nodes.specs.Nodes.{body_at, changed_at, is_live_body, rewired_node, are_live_bodies, state_of}
 use Rattle.sig_nodes.proofs.Parts.{stands}
 use Rattle.sig_nodes.proofs.Edits.{changed_length, rewired_state}
-use Rattle.sig_nodes.proofs.Holding.{became, given_below, live_below, rewired_holds}
+use Rattle.sig_nodes.proofs.Consistency.{became, given_below, live_below, rewired_holds}
 use Rattle.std.proofs.Common.{true≢false}
 use Rattle.sig_nodes.specs.States.{are_there}
-use Rattle.sig_nodes.proofs.Holding.{all_here, and_left, computed_left}
+use Rattle.sig_nodes.proofs.Consistency.{all_here, and_left, computed_left}
 use Rattle.sig_nodes.proofs.graph.Graph.rewire.Goals as goal
 
 pub returns-then-not-is_linkable_at-clause-gone : goal.returns-then-not-is_linkable_at-clause-gone
@@ -45,7 +45,7 @@ invariant_of-self c =
     let marks = rewired_kept recipe c.args.id xs g c.self.inside.marks c.push.new.self.marked live c.push.ensures.marks c.self.invariant.marks in
     let below = given_below c.args.self.now (state_of xs c.self.inside.generation c.self.inside.looked c.self.inside.worn) c.self.inside.seats.holders (length xs) c.args.slots.items c.self.view_is c.requires.given in
     record {
-      fields = subst (λ (ys : List Node). Holds ys c.self.inside.seats (g + 1) (c.self.inside.worn + 1)) (sym c.rewire_at.ensures)
+      fields = subst (λ (ys : List Node). NodesAgree ys c.self.inside.seats (g + 1) (c.self.inside.worn + 1)) (sym c.rewire_at.ensures)
           (rewired_holds recipe c.args.id xs c.self.inside.seats g c.self.inside.worn below c.requires.few c.self.invariant.fields);
       marks = subst (λ (ys : List Node). KeepsMarks ys (g + 1) c.push.new.self) (sym c.rewire_at.ensures)
           (same_table (changed_at (rewired_node recipe) c.args.id xs) (g + 1) c.push.new.self c.self.inside.marks.dependants c.push.new.self.marked c.self.inside.marks.stands c.push.ensures.dependants refl c.push.ensures.stands marks);

@@ -1,10 +1,10 @@
 use Rattle.std.proofs.Common.{sym, ap, ◌∙◌, arith}
-use Rattle.signal_model.specs.Standing.{is_there, standing}
+use Rattle.signal_model.specs.Signals.{is_there, standing}
 use Rattle.sig_nodes.specs.States.{Seen}
 use Rattle.sig_nodes.specs.Seats.{holder}
 use Rattle.sig_nodes.specs.Nodes.{seat_at}
-use Rattle.sig_nodes.proofs.Holding.{live_here}
-use Rattle.sig_nodes.proofs.Seating.{held_inside}
+use Rattle.sig_nodes.proofs.Consistency.{live_here}
+use Rattle.sig_nodes.proofs.Occupancy.{held_inside}
 use Rattle.sig_nodes.proofs.graph.Graph.seat.Goals as goal
 
 pub returns-clause-own : goal.returns-clause-own

@@ -1,11 +1,11 @@
 use Rattle.std.proofs.Common.{length, sym, ap, ◌∙◌}
 use Rattle.std.specs.Prelude.{slice_get}
-use Rattle.signal_model.specs.Standing.{standing}
+use Rattle.signal_model.specs.Signals.{standing}
 use Rattle.sig_nodes.specs.Answers.{slots_here}
 use Rattle.sig_nodes.specs.States.{Seen}
 use Rattle.sig_nodes.specs.Nodes.{body_at, slots_body, state_of}
 use Rattle.sig_nodes.proofs.graph.Graph.slot.Goals as goal
-use Rattle.sig_nodes.proofs.Looking.{slot_below, slots_found}
+use Rattle.sig_nodes.proofs.Lookups.{slot_below, slots_found}
 
 pub returns-clause-at : goal.returns-clause-at
 returns-clause-at c =

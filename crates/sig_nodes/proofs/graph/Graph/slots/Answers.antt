@@ -1,8 +1,8 @@
 use Rattle.std.proofs.Common.{sym, ap, ◌∙◌}
-use Rattle.signal_model.specs.Standing.{standing}
+use Rattle.signal_model.specs.Signals.{standing}
 use Rattle.sig_nodes.specs.Answers.{slots_here}
 use Rattle.sig_nodes.specs.States.{Seen}
-use Rattle.sig_nodes.proofs.Looking.{slots_found}
+use Rattle.sig_nodes.proofs.Lookups.{slots_found}
 use Rattle.sig_nodes.proofs.graph.Graph.slots.Goals as goal
 
 pub returns : goal.returns

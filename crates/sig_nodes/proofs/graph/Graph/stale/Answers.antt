@@ -4,7 +4,7 @@ use Rattle.sig_nodes.specs.Computations.{at_generation}
 use Rattle.sig_nodes.specs.States.{Seen, with_look}
 use Rattle.sig_nodes.specs.Nodes.{state_of}
 use Rattle.sig_nodes.proofs.Parts.{memo_found}
-use Rattle.sig_nodes.proofs.Holding.{became}
+use Rattle.sig_nodes.proofs.Consistency.{became}
 use Rattle.sig_nodes.proofs.graph.Graph.stale.Goals as goal
 
 pub returns-clause-stale : goal.returns-clause-stale

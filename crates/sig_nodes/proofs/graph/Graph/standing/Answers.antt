@@ -1,5 +1,5 @@
 use Rattle.std.proofs.Common.{sym, ap, ◌∙◌, is_some}
-use Rattle.signal_model.specs.Standing.{standing}
+use Rattle.signal_model.specs.Signals.{standing}
 use Rattle.sig_nodes.specs.Answers.{kind_here}
 use Rattle.sig_nodes.specs.States.{Seen, is_computing}
 use Rattle.sig_nodes.specs.Nodes.{body_at, known_body, signals_of}

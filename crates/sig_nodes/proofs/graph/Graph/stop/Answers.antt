@@ -5,11 +5,11 @@ use Rattle.sig_nodes.proofs.KeptMarks.{same_table, stop_is, stopped_kept}
 use Rattle.std.proofs.Common.{refl, ◌<◌, List, None, length, sym, ap, ◌∙◌, subst, is_some}
 use Rattle.sig_nodes.specs.declared.node.Node.{Node}
 use Rattle.sig_nodes.specs.States.{Seen, is_computing, with_progress}
-use Rattle.sig_nodes.specs.Places.{Holds, KeepsFound, KeepsMarks}
+use Rattle.sig_nodes.specs.Places.{NodesAgree, KeepsFound, KeepsMarks}
 use Rattle.sig_nodes.specs.Nodes.{body_at, changed_at, known_node, state_of}
 use Rattle.sig_nodes.proofs.Parts.{progress_found}
 use Rattle.sig_nodes.proofs.Edits.{changed_length, known_state}
-use Rattle.sig_nodes.proofs.Holding.{became, computed_below, computed_live, computing_here, known_holds}
+use Rattle.sig_nodes.proofs.Consistency.{became, computed_below, computed_live, computing_here, known_holds}
 use Rattle.sig_nodes.proofs.graph.Graph.stop.Goals as goal
 
 pub end_at-requires : goal.end_at-requires
@@ -38,7 +38,7 @@ invariant_of-self c =
     let unmarks = c.stop_unmarks-unmarks.ensures ∙ stop_is xs g t.marked c.args.id in
     let marks = stopped_kept c.args.id xs g t c.end_mark.new.marks.marked on c.end_mark.ensures.size (λ m. c.end_mark.ensures.marks m ∙ ap (λ f. ended (marked_at t.marked) c.args.id f m) unmarks) c.self.invariant.marks in
     record {
-      fields = subst (λ (ys : List Node). Holds ys c.self.inside.seats g c.self.inside.worn) (sym c.end_at.ensures)
+      fields = subst (λ (ys : List Node). NodesAgree ys c.self.inside.seats g c.self.inside.worn) (sym c.end_at.ensures)
           (known_holds None c.args.id xs c.self.inside.seats g c.self.inside.worn c.self.invariant.fields);
       marks = subst (λ (ys : List Node). KeepsMarks ys g c.end_mark.new.marks) (sym c.end_at.ensures)
           (same_table (changed_at (known_node None) c.args.id xs) g c.end_mark.new.marks t.dependants c.end_mark.new.marks.marked t.stands c.end_mark.ensures.dependants refl c.end_mark.ensures.stands marks);

@@ -1,7 +1,7 @@
 use Rattle.std.proofs.Common.{sym, ap, ◌∙◌}
 use Rattle.sig_nodes.specs.Answers.{uses_host}
 use Rattle.sig_nodes.specs.States.{Seen}
-use Rattle.sig_nodes.proofs.Looking.{uses_found}
+use Rattle.sig_nodes.proofs.Lookups.{uses_found}
 use Rattle.sig_nodes.proofs.Seated.{holders_ask}
 use Rattle.sig_nodes.proofs.graph.Graph.uses_host.Goals as goal
 

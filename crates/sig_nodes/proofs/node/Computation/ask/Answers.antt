@@ -1,10 +1,10 @@
 use Rattle.std.proofs.Common.{List, Option, sym, subst}
-use Rattle.sig_formula.specs.Running.{Evaluation}
+use Rattle.sig_formula.specs.Machines.{Evaluation}
 use Rattle.sig_nodes.specs.States.{GoesOn}
 use Rattle.sig_nodes.specs.Computations.{Computation}
-use Rattle.sig_nodes.specs.Pausing.{IsHeld}
+use Rattle.sig_nodes.specs.Pauses.{IsHeld}
 use Rattle.sig_nodes.proofs.Sources.{going}
-use Rattle.sig_nodes.proofs.Pausing.{held_more}
+use Rattle.sig_nodes.proofs.Pauses.{held_more}
 use Rattle.sig_nodes.proofs.node.Computation.ask.Goals as goal
 
 pub advance-requires-clause-paused : goal.advance-requires-clause-paused

@@ -1,6 +1,6 @@
 use Rattle.std.proofs.Common.{ap, ◌∙◌, arith}
 use Rattle.sig_nodes.specs.Seats.{Seating, holder}
-use Rattle.sig_nodes.proofs.Seating.{holder_past, holder_read}
+use Rattle.sig_nodes.proofs.Occupancy.{holder_past, holder_read}
 use Rattle.sig_nodes.proofs.seats.Seats.holder.Goals as goal
 
 pub returns-then-seat-len : goal.returns-then-seat-len

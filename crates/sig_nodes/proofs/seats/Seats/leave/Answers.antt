@@ -1,7 +1,7 @@
 use Rattle.std.proofs.Common.{ℕ, List, sym, ap, ◌∙◌, subst, arith}
 use Rattle.std.specs.Prelude.{slice_set, vec_capacity, None}
 use Rattle.sig_nodes.specs.Seats.{AreSeats, Seating, holder}
-use Rattle.sig_nodes.proofs.Seating.{held_inside, left_seats}
+use Rattle.sig_nodes.proofs.Occupancy.{held_inside, left_seats}
 use Rattle.sig_nodes.proofs.seats.Seats.leave.Goals as goal
 
 pub invariant_of-self : goal.invariant_of-self

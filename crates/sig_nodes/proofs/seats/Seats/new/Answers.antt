@@ -1,9 +1,9 @@
 use Rattle.std.proofs.Common.{◌≡◌, ℕ, ◌+◌, ◌<◌, ◌∷◌, [], true, List, Option, length, sym, ap, ◌∙◌, subst, arith, length-append}
 use Rattle.std.specs.Prelude.{None}
-use Rattle.signal_model.specs.Standing.{is_in}
+use Rattle.signal_model.specs.Signals.{is_in}
 use Rattle.signal_model.specs.Laws.{AreDistinct}
 use Rattle.sig_nodes.specs.Seats.{holder}
-use Rattle.sig_nodes.proofs.Seating.{bound_out, distinct_more, inside_more, nobody_more}
+use Rattle.sig_nodes.proofs.Occupancy.{bound_out, distinct_more, inside_more, nobody_more}
 use Rattle.sig_nodes.proofs.seats.Seats.new.Goals as goal
 
 pub loop-seat-preserved : goal.loop-seat-preserved

@@ -1,7 +1,7 @@
 use Rattle.std.proofs.Common.{◌≡◌, ℕ, ◌<◌, ◌≤◌, true, length}
 use Rattle.std.specs.Prelude.{vec_capacity, None}
 use Rattle.sig_base.specs.declared.limits.TheConstants.{MOST_NODES}
-use Rattle.signal_model.specs.Standing.{is_in}
+use Rattle.signal_model.specs.Signals.{is_in}
 use Rattle.signal_model.specs.Laws.{AreDistinct}
 use Rattle.sig_nodes.specs.Seats.{holder}
 use Rattle.sig_nodes.proofs.seats.Seats.new.Given as goal

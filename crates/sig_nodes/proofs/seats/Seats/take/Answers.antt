@@ -1,7 +1,7 @@
 use Rattle.std.proofs.Common.{ℕ, ◌<◌, List, length, sym, ap, ◌∙◌, subst, arith}
 use Rattle.std.specs.Prelude.{vec_capacity}
 use Rattle.sig_nodes.specs.Seats.{AreSeats, Seating, holder}
-use Rattle.sig_nodes.proofs.Seating.{taken_seats, last_free}
+use Rattle.sig_nodes.proofs.Occupancy.{taken_seats, last_free}
 use Rattle.sig_nodes.proofs.seats.Seats.take.Goals as goal
 
 pub invariant_of-self : goal.invariant_of-self

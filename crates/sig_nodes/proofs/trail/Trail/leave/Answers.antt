@@ -1,5 +1,5 @@
 use Rattle.std.proofs.Common.{arith}
-use Rattle.sig_nodes.proofs.Reaching.{popped_none, popped_some}
+use Rattle.sig_nodes.proofs.Walks.{popped_none, popped_some}
 use Rattle.sig_nodes.proofs.trail.Trail.leave.Goals as goal
 
 pub returns-clause-some : goal.returns-clause-some

@@ -2,8 +2,8 @@ use Rattle.std.proofs.Common.{◌≡◌, true, refl, sym, ap, ◌∙◌, arith}
 use Rattle.sig_owner.specs.Keys.{placed}
 use Rattle.sig_owner.specs.Trees.{has_thing, owned_of}
 use Rattle.sig_owner.specs.Tables.{leaf, live_at, rows_of, thing_of}
-use Rattle.sig_owner.proofs.Placing.{item_kept, lone_leaf, one_kept, one_placed, place_noted, same_kept}
-use Rattle.sig_owner.proofs.Growing.{leaf_seen}
+use Rattle.sig_owner.proofs.Placement.{item_kept, lone_leaf, one_kept, one_placed, place_noted, same_kept}
+use Rattle.sig_owner.proofs.Trees.{leaf_seen}
 use Rattle.sig_owner.proofs.owners.Owners.adopt.Goals as goal
 
 pub invariant_of-self : goal.invariant_of-self

@@ -1,13 +1,13 @@
 use Rattle.std.proofs.Common.{◌≡◌, ℕ, true, false, sym, ap, subst, ◌∙◌}
 use Rattle.sig_owner.specs.Keys.{placed}
 use Rattle.sig_owner.specs.Tables.{dropped, is_row_of, live_at, owner_count, row_at, rows_of, thing_of}
-use Rattle.sig_owner.proofs.Counting.{count_sifted_row}
-use Rattle.sig_owner.proofs.Dropping.{at_gone, at_nothing, at_outer, dropped_kept, holder_dropped, row_is}
-use Rattle.sig_owner.specs.Sifting.{is_leaf_of}
-use Rattle.effect_model.specs.Owning.{the_owner, under}
+use Rattle.sig_owner.proofs.Counts.{count_sifted_row}
+use Rattle.sig_owner.proofs.Removals.{at_gone, at_nothing, at_outer, dropped_kept, holder_dropped, row_is}
+use Rattle.sig_owner.specs.Removals.{is_leaf_of}
+use Rattle.effect_model.specs.Owners.{the_owner, under}
 use Rattle.sig_owner.specs.Trees.{has_thing, owned_of}
-use Rattle.sig_owner.proofs.Standing.{bare_rows}
-use Rattle.sig_owner.proofs.Growing.{dropped_seen}
+use Rattle.sig_owner.proofs.Membership.{bare_rows}
+use Rattle.sig_owner.proofs.Trees.{dropped_seen}
 use Rattle.sig_owner.proofs.Absent.{dropped_absent}
 use Rattle.sig_owner.proofs.owners.Owners.drop_thing.Goals as goal
 

@@ -1,11 +1,11 @@
 use Rattle.std.proofs.Common.{◌≡◌, ◌+◌, true, length, refl, sym, ap, ◌∙◌, arith}
-use Rattle.effect_model.specs.Owning.{the_owner}
+use Rattle.effect_model.specs.Owners.{the_owner}
 use Rattle.sig_owner.specs.Keys.{placed}
 use Rattle.sig_owner.specs.Tables.{is_open, rows_of}
-use Rattle.sig_owner.proofs.Reading.{rows_length}
-use Rattle.sig_owner.proofs.Holding.{new_owner}
-use Rattle.sig_owner.proofs.Placing.{holder_kept}
-use Rattle.sig_owner.proofs.Growing.{made_seen}
+use Rattle.sig_owner.proofs.Rows.{rows_length}
+use Rattle.sig_owner.proofs.Consistency.{new_owner}
+use Rattle.sig_owner.proofs.Placement.{holder_kept}
+use Rattle.sig_owner.proofs.Trees.{made_seen}
 use Rattle.sig_owner.proofs.owners.Owners.make.Goals as goal
 
 pub invariant_of-self-2 : goal.invariant_of-self-2

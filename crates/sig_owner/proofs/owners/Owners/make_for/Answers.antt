@@ -1,13 +1,13 @@
 use Rattle.std.proofs.Common.{◌≡◌, true, length, refl, sym, ap, ◌∙◌, add-zero, arith}
-use Rattle.effect_model.specs.Owning.{the_effect}
+use Rattle.effect_model.specs.Owners.{the_effect}
 use Rattle.sig_owner.specs.Keys.{placed}
 use Rattle.sig_owner.specs.declared.thing.Thing.TheVariants as a
 use Rattle.sig_owner.specs.Tables.{is_open, rows_of}
-use Rattle.sig_owner.proofs.Reading.{rows_length}
+use Rattle.sig_owner.proofs.Rows.{rows_length}
 use Rattle.sig_owner.specs.Trees.{has_thing, owned_of}
-use Rattle.sig_owner.proofs.Standing.{new_effect}
-use Rattle.sig_owner.proofs.Placing.{effect_noted, holder_kept, lone_effect, one_kept, one_placed, same_kept}
-use Rattle.sig_owner.proofs.Growing.{made_seen}
+use Rattle.sig_owner.proofs.Membership.{new_effect}
+use Rattle.sig_owner.proofs.Placement.{effect_noted, holder_kept, lone_effect, one_kept, one_placed, same_kept}
+use Rattle.sig_owner.proofs.Trees.{made_seen}
 use Rattle.sig_owner.proofs.owners.Owners.make_for.Goals as goal
 
 pub invariant_of-self : goal.invariant_of-self

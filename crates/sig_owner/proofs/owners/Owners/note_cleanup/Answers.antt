@@ -2,8 +2,8 @@ use Rattle.std.proofs.Common.{◌≡◌, true, sym, ap, ◌∙◌, arith}
 use Rattle.std.proofs.lemmas.Bool.{true≢false}
 use Rattle.sig_owner.specs.Keys.{placed}
 use Rattle.sig_owner.specs.Tables.{cleanup_of, live_at, noted, rows_of}
-use Rattle.sig_owner.proofs.Placing.{item_kept}
-use Rattle.sig_owner.proofs.Growing.{noted_seen}
+use Rattle.sig_owner.proofs.Placement.{item_kept}
+use Rattle.sig_owner.proofs.Trees.{noted_seen}
 use Rattle.sig_owner.proofs.owners.Owners.note_cleanup.Goals as goal
 
 pub put_at-requires : goal.put_at-requires

@@ -1,15 +1,15 @@
 use Rattle.std.proofs.Common.{None, cond, ◌≡◌, true, sym, ap, subst, ◌∙◌}
 use Rattle.sig_owner.specs.Tables.{all_ended, changed_at, emptied_row, live_at, owner_count, rows_of, thing_at}
 use Rattle.sig_owner.specs.Keys.{are_gone_in, placed}
-use Rattle.effect_model.specs.Owning.{teardown_of, under}
+use Rattle.effect_model.specs.Owners.{teardown_of, under}
 use Rattle.sig_owner.specs.Trees.{owned_of}
 use Rattle.sig_owner.specs.Walks.{undoings_of}
 use Rattle.sig_owner.proofs.Forests.{under_is}
 use Rattle.sig_owner.specs.declared.thing.Thing.{Thing as AThing}
 use Rattle.sig_owner.proofs.Teardowns.{teardown_steps}
-use Rattle.sig_owner.proofs.Forgetting.{forgotten_kept}
-use Rattle.sig_owner.proofs.Lasting.{lasting_seen}
-use Rattle.sig_owner.proofs.Growing.{taken_back_seen}
+use Rattle.sig_owner.proofs.Vacancies.{forgotten_kept}
+use Rattle.sig_owner.proofs.Survivors.{lasting_seen}
+use Rattle.sig_owner.proofs.Trees.{taken_back_seen}
 use Rattle.sig_owner.proofs.Absent.{taken_back_absent}
 use Rattle.sig_owner.proofs.owners.Owners.take_back.Goals as goal
 

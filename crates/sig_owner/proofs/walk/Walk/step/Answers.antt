@@ -1,7 +1,7 @@
 use Rattle.std.proofs.Common.{subst}
 use Rattle.sig_owner.specs.Tables.{rows_of}
 use Rattle.sig_owner.specs.Walks.{ArePending}
-use Rattle.sig_owner.proofs.Walking.{holder_told, left_rest, left_walk, left_work, pending_last}
+use Rattle.sig_owner.proofs.Walks.{holder_told, left_rest, left_walk, left_work, pending_last}
 use Rattle.sig_owner.proofs.walk.Walk.step.Goals as goal
 
 pub leave-requires : goal.leave-requires

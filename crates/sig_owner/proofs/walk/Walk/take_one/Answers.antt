@@ -2,7 +2,7 @@ use Rattle.std.proofs.Common.{ap, ◌∷◌, [], ◌++◌, ◌∙◌}
 use Rattle.sig_owner.specs.Tables.{held, item_of, items_at, rows_of, thing_at}
 use Rattle.sig_owner.specs.Walks.{item_steps, steps_under, undoing_of}
 use Rattle.sig_owner.specs.declared.thing.Undoing.TheVariants as undoing
-use Rattle.sig_owner.proofs.Walking.{done_rest, done_work, entered_rest, entered_walk, entered_work, known_item, nothing_told, undoing_told}
+use Rattle.sig_owner.proofs.Walks.{done_rest, done_work, entered_rest, entered_walk, entered_work, known_item, nothing_told, undoing_told}
 use Rattle.sig_owner.proofs.walk.Walk.take_one.Goals as goal
 
 pub returns-in_ok-enter-in-Held-clause-walk : goal.returns-in_ok-enter-in-Held-clause-walk

@@ -1,6 +1,6 @@
 use Rattle.std.proofs.Common.{◌++◌, ◌∷◌, [], ℕ, true, List, length, length-append, ap, sym, ◌∙◌, subst, arith}
 use Rattle.std.specs.Prelude.{slice_set, vec_capacity}
-use Rattle.signal_model.specs.Standing.{is_in}
+use Rattle.signal_model.specs.Signals.{is_in}
 use Rattle.sig_seats.specs.Flags.{AreReached}
 use Rattle.sig_seats.proofs.Flagged.{reached_more, room_more}
 use Rattle.sig_seats.proofs.reached.Reached.add.Goals as goal

@@ -1,6 +1,6 @@
 use Rattle.std.proofs.Common.{ℕ, ◌∙◌, ◌&&◌, not, [], List, ap, sym, subst}
 use Rattle.std.specs.Prelude.{vec_capacity}
-use Rattle.signal_model.specs.Standing.{is_in}
+use Rattle.signal_model.specs.Signals.{is_in}
 use Rattle.sig_seats.specs.Flags.{is_up, AreReached}
 use Rattle.sig_seats.proofs.Flagged.{cleared, flag_inside}
 use Rattle.sig_seats.proofs.reached.Reached.clear.Goals as goal

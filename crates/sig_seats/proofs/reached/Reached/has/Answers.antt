@@ -1,5 +1,5 @@
 use Rattle.std.proofs.Common.{ℕ, List, ap, sym, ◌∙◌, arith}
-use Rattle.signal_model.specs.Standing.{is_in}
+use Rattle.signal_model.specs.Signals.{is_in}
 use Rattle.sig_seats.proofs.Flagged.{flag_past, flag_read}
 use Rattle.sig_seats.proofs.reached.Reached.has.Goals as goal
 

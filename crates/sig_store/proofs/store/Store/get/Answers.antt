@@ -2,7 +2,7 @@ use Rattle.std.proofs.Common.{sym, ap, ◌∙◌, nat_eq}
 use Rattle.indexmap.specs.IndexMap.{get}
 use Rattle.slab.specs.Slab.{get as held_at}
 use Rattle.sig_store.specs.Places.{value_there}
-use Rattle.sig_store.proofs.Placing.{entry-there}
+use Rattle.sig_store.proofs.Edits.{entry-there}
 use Rattle.sig_store.proofs.store.Store.get.Goals as goal
 
 pub place_of-requires : goal.place_of-requires

@@ -1,5 +1,5 @@
 use Rattle.std.proofs.Common.{sym}
-use Rattle.sig_store.proofs.Placing.{entries-length}
+use Rattle.sig_store.proofs.Edits.{entries-length}
 use Rattle.sig_store.proofs.store.Store.made.Goals as goal
 
 pub returns : goal.returns

@@ -1,4 +1,4 @@
-use Rattle.sig_store.proofs.Placing.{entries-none}
+use Rattle.sig_store.proofs.Edits.{entries-none}
 use Rattle.sig_store.proofs.store.Store.new.Goals as goal
 
 pub returns : goal.returns

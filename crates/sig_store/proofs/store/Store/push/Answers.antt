@@ -3,7 +3,7 @@ use Rattle.indexmap.specs.IndexMap.{get}
 use Rattle.slab.specs.Slab.{get as held_at}
 use Rattle.std.specs.Option.{option_map}
 use Rattle.sig_store.specs.Places.{value_there}
-use Rattle.sig_store.proofs.Placing.{entries-length, unused, differs, Edits, added, stays_store, holds, owns}
+use Rattle.sig_store.proofs.Edits.{entries-length, unused, differs, Edits, added, stays_store, holds, owns}
 use Rattle.sig_store.proofs.store.Store.push.Goals as goal
 
 pub overflow_add-self : goal.overflow_add-self

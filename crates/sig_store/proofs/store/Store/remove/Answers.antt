@@ -3,7 +3,7 @@ use Rattle.indexmap.specs.IndexMap.{get}
 use Rattle.slab.specs.Slab.{get as held_at}
 use Rattle.std.specs.Option.{option_map}
 use Rattle.sig_store.specs.Places.{value_there}
-use Rattle.sig_store.proofs.Placing.{entry-there, place-there, held-there, apart, differs, Edits, edited, stays_store, owns_none, one_place}
+use Rattle.sig_store.proofs.Edits.{entry-there, place-there, held-there, apart, differs, Edits, edited, stays_store, owns_none, one_place}
 use Rattle.sig_store.proofs.store.Store.remove.Goals as goal
 
 pub forget_place-place-requires : goal.forget_place-place-requires

@@ -4,7 +4,7 @@ use Rattle.slab.specs.Slab.{get as held_at}
 use Rattle.std.specs.Option.{option_map}
 use Rattle.sig_store.specs.declared.store.Held.{Held}
 use Rattle.sig_store.specs.Places.{value_there}
-use Rattle.sig_store.proofs.Placing.{entry-there, place-there, held-there, number-there, apart, Edits, edited, stays_store, holds, owns, one_place, count-kept, alike}
+use Rattle.sig_store.proofs.Edits.{entry-there, place-there, held-there, number-there, apart, Edits, edited, stays_store, holds, owns, one_place, count-kept, alike}
 use Rattle.sig_store.proofs.store.Store.value_mut.Goals as goal
 use Rattle.slab.specs.Slab.{with_value}
 use Rattle.slab.proofs.SlabLemmas.{Updates-with_value}

@@ -2,7 +2,7 @@ use Rattle.std.proofs.Common.{◌++◌, ◌∙◌, List, map, sym, ap, append-ni
 use Rattle.std.specs.List.{list_any}
 use Rattle.effect_model.specs.Worlds.{Watcher}
 use Rattle.sig_watcher.specs.Tables.{Table}
-use Rattle.sig_watcher.specs.Telling.{told_entry}
+use Rattle.sig_watcher.specs.Notices.{told_entry}
 use Rattle.sig_watcher.proofs.Notices.{quiet_none, quiet_stay}
 use Rattle.sig_watcher.proofs.watchers.Watchers.tell.Goals as goal
 

@@ -1,7 +1,7 @@
 use Rattle.std.proofs.Common.{◌<◌, ◌&&◌, not, List, length, sym, ap, ◌∙◌, subst, arith, true≢false, refl}
 use Rattle.effect_model.specs.Worlds.{Watcher}
 use Rattle.sig_watcher.specs.Numbers.{IsFirst, Rises}
-use Rattle.effect_model.specs.Watching.{watches}
+use Rattle.effect_model.specs.Watchers.{watches}
 use Rattle.sig_watcher.specs.Tables.{Table, is_alive, with_changed}
 use Rattle.sig_watcher.proofs.Places.{changed_first, first_alive, first_below, rises_changed, length_changed}
 use Rattle.sig_watcher.proofs.watchers.Watchers.unwatch.Goals as goal

@@ -1,6 +1,6 @@
 use Rattle.std.proofs.Common.{◌≡◌, nat_eq, None, [], ◌∷◌, ◌++◌, sym, ap, subst, ◌∙◌}
 use Rattle.indexmap.proofs.CallerLemmas.{insert_entry-new}
-use Rattle.tpl_hearing.specs.Hearing.{Outcomes, heard_of}
+use Rattle.tpl_hearing.specs.Heard.{Outcomes, heard_of}
 use Rattle.tpl_hearing.proofs.outcomes.Outcomes.put.Goals as goal
 
 pub returns : goal.returns

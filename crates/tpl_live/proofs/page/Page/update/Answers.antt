@@ -2,11 +2,11 @@ use Rattle.std.proofs.Common.{[], None, map, refl, arith, ap, ◌∙◌}
 use Rattle.page_ops.specs.Ops.{op_of}
 use Rattle.tpl_listening.specs.Changes.{Tells, changed}
 use Rattle.tpl_hearing.proofs.Shared.{then_heard}
-use Rattle.tpl_marks.specs.Numbering.{number_at}
+use Rattle.tpl_marks.specs.Addresses.{number_at}
 use Rattle.tpl_memos.specs.Kept.{kept}
 use Rattle.tpl_live.specs.Pages.{page_in}
-use Rattle.tpl_live.specs.Standings.{standing}
-use Rattle.tpl_live.proofs.Mounting.{AreMade}
+use Rattle.tpl_live.specs.Contents.{standing}
+use Rattle.tpl_live.proofs.Mounts.{AreMade}
 use Rattle.tpl_live.proofs.Reheard.{all_heard, found_compared, found_front, front_heard}
 use Rattle.tpl_live.proofs.Renewed.{compares_there, is_carried, made_anew, made_still, next_of, next_stands, was_made_there}
 use Rattle.tpl_live.proofs.Quiet.{is_quiet}

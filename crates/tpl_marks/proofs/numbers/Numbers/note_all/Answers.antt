@@ -1,7 +1,7 @@
 use Rattle.std.proofs.Common.{ap, ◌∙◌}
-use Rattle.tpl_marks.specs.Numbering.{noted_from, number_at}
+use Rattle.tpl_marks.specs.Addresses.{noted_from, number_at}
 use Rattle.tpl_marks.proofs.Lists.{no_items}
-use Rattle.tpl_marks.proofs.Noting.{all_waiting, none_waiting, one_less}
+use Rattle.tpl_marks.proofs.Addresses.{all_waiting, none_waiting, one_less}
 use Rattle.tpl_marks.proofs.numbers.Numbers.note_all.Goals as goal
 
 pub loop-address-init : goal.loop-address-init

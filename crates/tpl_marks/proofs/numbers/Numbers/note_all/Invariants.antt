@@ -1,5 +1,5 @@
-use Rattle.tpl_marks.specs.Numbering.{number_at}
-use Rattle.tpl_marks.proofs.Noting.{AreWaiting}
+use Rattle.tpl_marks.specs.Addresses.{number_at}
+use Rattle.tpl_marks.proofs.Addresses.{AreWaiting}
 use Rattle.tpl_marks.proofs.numbers.Numbers.note_all.Given as goal
 
 -- the addresses that are left have the next numbers, and with them all are noted

@@ -1,9 +1,9 @@
 use Rattle.std.proofs.Common.{◌≡◌, ◌+◌, drop, length, None, sym, ap, ◌∙◌, arith}
 use Rattle.std.specs.Map.{lookup}
 use Rattle.tpl_shapes.specs.Addresses.{same_address}
-use Rattle.tpl_marks.specs.Numbering.{noted, number_in}
+use Rattle.tpl_marks.specs.Addresses.{noted, number_in}
 use Rattle.tpl_marks.proofs.Lists.{no_items}
-use Rattle.tpl_marks.proofs.Noting.{all_noted, are_numbers, none_noted, one_noted}
+use Rattle.tpl_marks.proofs.Addresses.{all_noted, are_numbers, none_noted, one_noted}
 use Rattle.tpl_marks.proofs.numbers.Numbers.of.Goals as goal
 
 pub loop-address-init : goal.loop-address-init

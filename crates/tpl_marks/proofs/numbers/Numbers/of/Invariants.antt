@@ -1,7 +1,7 @@
 use Rattle.std.proofs.Common.{◌≡◌, ◌+◌, length, drop, None}
 use Rattle.tpl_shapes.specs.declared.shown.Address.{Address}
-use Rattle.tpl_marks.specs.Numbering.{noted, number_in}
-use Rattle.tpl_marks.proofs.Noting.{AreLeft}
+use Rattle.tpl_marks.specs.Addresses.{noted, number_in}
+use Rattle.tpl_marks.proofs.Addresses.{AreLeft}
 use Rattle.tpl_marks.proofs.numbers.Numbers.of.Given as goal
 
 -- as many numbers as addresses are left, and with these all are noted

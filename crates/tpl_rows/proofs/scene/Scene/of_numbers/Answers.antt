@@ -1,4 +1,4 @@
-use Rattle.tpl_rows.proofs.Settling.{cells_can}
+use Rattle.tpl_rows.proofs.Cells.{cells_can}
 use Rattle.tpl_rows.proofs.scene.Scene.of_numbers.Goals as goal
 
 pub returns-clause-can : goal.returns-clause-can

@@ -1,5 +1,5 @@
 use Rattle.page_tree.proofs.Shared.{tree_text}
-use Rattle.tpl_scratch.specs.Making.{nodes_of}
+use Rattle.tpl_scratch.specs.Pages.{nodes_of}
 use Rattle.tpl_scratch.proofs.Numbers.{text_put}
 use Rattle.tpl_scratch.proofs.nodes.Nodes.put_text.Goals as goal
 

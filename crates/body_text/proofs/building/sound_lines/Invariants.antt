@@ -1,6 +1,0 @@
-use Rattle.std.proofs.Common.{◌≡◌}
-use Rattle.body_text.specs.Views.{sound_lines}
-use Rattle.body_text.proofs.building.sound_lines.Given as goal
-
-abbrev pub invariant-loop-read : goal.invariant-loop-read
-invariant-loop-read l = l.out.items ≡ sound_lines l.yielded

@@ -1,0 +1,63 @@
+-- What lines are: a body, or refused.
+use Rattle.std.specs.Prelude.{◌≡◌, ◌<◌, ℕ, List, [], ◌∷◌, map, Option, Some, None, Result, Ok, Err}
+use Rattle.line_forms.specs.Blocks as blocks
+use Rattle.script_lines.specs.Lines.{NumberedLine}
+use Rattle.sig_untrack.specs.Stated.{Bodies}
+use Rattle.body_text.specs.declared.fault.BodyFault.{BodyFault}
+use Rattle.body_text.specs.declared.fault.BodyWhy.{BodyWhy}
+use Rattle.body_text.specs.declared.fault.BodyWhy.TheVariants as why
+use Rattle.body_text.specs.declared.line.Line.{Line}
+use Rattle.body_text.specs.Grammar.{Row, row, Said, said_line}
+use Rattle.body_text.specs.Refusals.{fault_at, judged, refusal_of}
+use Rattle.body_text.specs.Places.{places}
+use Rattle.body_text.specs.Statements.{Statements, lines_of, body_of}
+
+-- what lines say, each with its number
+abbrev pub Sayings : Type 0
+Sayings = List (ℕ × Said)
+
+-- with so many begun, the lines say this, each where it may stand
+abbrev pub Say : ℕ → List NumberedLine → Sayings → Type 0
+Say depth ls xs = blocks.Say Row row places depth ls xs
+
+-- with so many begun, the line of this number is the first that says nothing which may stand there
+abbrev pub IsFaulty : ℕ → List NumberedLine → ℕ → Type 0
+IsFaulty depth ls k = blocks.IsFaulty Row row places depth ls k
+
+-- how many are begun behind lines that say this
+abbrev pub reached : ℕ → Sayings → ℕ
+reached depth xs = blocks.reached places depth xs
+
+-- the lines that are said
+abbrev pub said_lines : Sayings → List Line
+said_lines xs = map (λ x. said_line x.1) xs
+
+-- a body, or why there is none
+abbrev pub Answer : Type 0
+Answer = Result Bodies BodyFault
+
+-- what lines are where nothing is refused of them
+abbrev pub unless_refused : Option BodyFault → Bodies → Answer
+unless_refused None b = Ok b
+unless_refused (Some f) b = Err f
+
+-- what lines are that say this and spell these statements
+abbrev pub answer_of : Sayings → Statements → Answer
+answer_of xs s = unless_refused (refusal_of (judged 0 xs)) (body_of s)
+
+-- the number of the last line
+abbrev pub last_number : List NumberedLine → ℕ
+last_number [] = 0
+last_number (l ∷ []) = l.0
+last_number (l ∷ m ∷ ls) = last_number (m ∷ ls)
+
+-- What lines are: refused at the first faulty one; at the last, where something that is begun isn't ended; else what they say.
+pub data IsRead (ls : List NumberedLine) : Answer → Type 0 where
+  faulty : (k : ℕ) → IsFaulty 0 ls k → IsRead ls (Err (fault_at k why.Syntax))
+  unended : (xs : Sayings) → Say 0 ls xs → 0 < reached 0 xs → IsRead ls (Err (fault_at (last_number ls) why.Syntax))
+  says : (xs : Sayings) (s : Statements) → Say 0 ls xs → said_lines xs ≡ lines_of s → IsRead ls (answer_of xs s)
+
+-- why there is no body: what the lines are, or memory
+abbrev pub Refuses : List NumberedLine → ℕ → BodyWhy → Type 0
+Refuses ls k (why.NoMemory e) = Unit {0}
+Refuses ls k w = IsRead ls (Err (fault_at k w))

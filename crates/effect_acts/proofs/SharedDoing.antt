@@ -1,4 +1,0 @@
--- What crates above may cite of these proofs.
-
--- one act after the other
-pub use Rattle.effect_acts.proofs.Composing.{acted_then, does_then, formed_bare}

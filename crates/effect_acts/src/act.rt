@@ -1,0 +1,183 @@
+// The acts of a run.
+ghost use Rattle.std.specs.Prelude.{◌≡◌, ◌+◌, ◌<◌, ◌^◌, ℕ, List, IfOk, OnOk, length, map};
+ghost use Rattle.std.specs.Rc.{rc_value};
+ghost use Rattle.sig_base.specs.Values.{scalar_value};
+ghost use Rattle.effect_model.specs.Bodies.{to_make, to_note};
+ghost use Rattle.effect_model.specs.Runs.{do_act};
+ghost use Rattle.sig_untrack.specs.Links.{act_of};
+ghost use Rattle.effect_tables.specs.Scripts.{IsFitting};
+ghost use Rattle.effect_undoing.specs.Sites.{IsPart, parts_of};
+ghost use Rattle.sig_host.specs.Hosts.{HostPlace};
+ghost use Rattle.sig_owner.specs.Tables.{cleanup_of};
+ghost use Rattle.sig_effect.specs.Stores.{AreRuled};
+ghost use Rattle.effect_world.specs.Signals.{any_hosts, scene};
+ghost use Rattle.effect_world.specs.Stores.{Agrees, AreOwned};
+ghost use Rattle.effect_world.specs.Costs.{weight};
+ghost use Rattle.effect_acts.specs.Acts.{Acted};
+ghost use Rattle.effect_acts.specs.Rewires.{rewire_meant};
+
+use crate::cells::set;
+use crate::changes::{Change, cell_at, change_at, thing_at};
+use crate::children::make_child;
+use crate::cleanups::note;
+use crate::disposal::dispose;
+use crate::messages::log;
+use crate::recipes::rewire;
+use effect_tables::{Links, Site};
+use effect_world::{Event, World};
+use sig_base::{EffectId, NoMemory, Scalar, Value};
+use sig_host::{EqualsRule, Lent, Shelf};
+use sig_owner::CleanupAct;
+use sig_untrack::{Act, Body};
+
+// The value that a scalar is.
+fn value_like(scalar: &Scalar) -> Result<Value, NoMemory>
+    ensures { IfOk result (λ v. v ≡ scalar_value scalar.now) }
+{
+    let scalar = scalar.copy()?;
+    Ok(Value::from(scalar))
+}
+
+// Notes a cleanup under an effect that lives.
+fn note_there(
+    world: &mut World,
+    id: EffectId,
+    cleanup: CleanupAct,
+    events: &mut Vec<Event>,
+) -> Result<(), NoMemory>
+    requires { AreOwned world.old }
+    ensures { (asked : List HostPlace) (slacks : List ℕ) → Agrees asked world.old → OnOk result (Acted slacks
+        (scene world.old asked events.old.items) (scene world.new asked events.new.items) any_hosts any_hosts 0
+        (λ env. do_act env id 0 (to_note (cleanup_of cleanup)))) }
+{
+    match note(world, id, cleanup, events) {
+        Ok(()) => Ok(()),
+        Err(_) => Err(NoMemory),
+    }
+}
+
+// Makes a child of an effect that lives.
+fn make_there(
+    world: &mut World,
+    id: EffectId,
+    site: &Site,
+    place: u32,
+    label: u64,
+    events: &mut Vec<Event>,
+) -> Result<(), NoMemory>
+    requires owned { AreOwned world.old }
+    requires counted { world.old.tables.effects_made + 1 < 2 ^ 128 }
+    requires fits { IsFitting (rc_value site.now.script) }
+    ensures { (asked : List HostPlace) (slacks : List ℕ) → Agrees asked world.old → OnOk result (Acted slacks
+        (scene world.old asked events.old.items) (scene world.new asked events.new.items) any_hosts any_hosts 0
+        (λ env. do_act env id label (to_make ((parts_of site.now.origin (rc_value site.now.script) site.now.path.items).bodies place)))) }
+{
+    match make_child(world, id, site, place, label, events) {
+        Ok(()) => Ok(()),
+        Err(_) => Err(NoMemory),
+    }
+}
+
+// Rewires as a place of the body says.
+fn rewire_at(
+    world: &mut World,
+    shelf: &mut Shelf,
+    site: &Site,
+    body: &Body,
+    links: &Links,
+    place: u32,
+    events: &mut Vec<Event>,
+) -> Result<(), NoMemory>
+    requires agrees { Agrees (⟦<Shelf as Lent>⟧.asked shelf.old) world.old }
+    requires counted { ⟦<Shelf as Lent>⟧.counted shelf.old }
+    requires worn { weight world.old < 2 ^ 126 }
+    requires part { IsPart (rc_value site.now.script) site.now.path.items body.now links.now }
+    requires fits { IsFitting (rc_value site.now.script) }
+    ensures done { (slacks : List ℕ) → OnOk result (Acted slacks
+        (scene world.old (⟦<Shelf as Lent>⟧.asked shelf.old) events.old.items) (scene world.new (⟦<Shelf as Lent>⟧.asked shelf.new) events.new.items)
+        (λ hosts. ⟦<Shelf as Lent>⟧.answers hosts shelf.old) (λ hosts. ⟦<Shelf as Lent>⟧.answers hosts shelf.new) 1
+        (λ env. rewire_meant ((parts_of site.now.origin (rc_value site.now.script) site.now.path.items).rewirings place))) }
+    ensures counted { OnOk result (⟦<Shelf as Lent>⟧.counted shelf.new) }
+{
+    let alloc = *events.allocator();
+    let change = change_at(
+        alloc,
+        site.origin,
+        &links.targets,
+        &body.rewires,
+        &links.rewires,
+        place,
+    )?;
+    let Change { id, recipe, slots } = change;
+    rewire(world, shelf, id, recipe, slots, events)?;
+    Ok(())
+}
+
+/// Does one act of an effect, whose body and links stand there; its next child would have this number in its label. What an act names that
+/// is gone is told as refused.
+///
+/// # Errors
+///
+/// After `NoMemory` world and shelf may only be dropped.
+pub fn do_act(
+    world: &mut World,
+    shelf: &mut Shelf,
+    rules: &[EqualsRule],
+    id: EffectId,
+    site: &Site,
+    body: &Body,
+    links: &Links,
+    label: u64,
+    act: &Act,
+    events: &mut Vec<Event>,
+) -> Result<(), NoMemory>
+    requires agrees { Agrees (⟦<Shelf as Lent>⟧.asked shelf.old) world.old }
+    requires ruled { AreRuled (length rules.now) world.old.signals.graph.state.signals }
+    requires counted { ⟦<Shelf as Lent>⟧.counted shelf.old }
+    requires worn { weight world.old < 2 ^ 126 }
+    requires part { IsPart (rc_value site.now.script) site.now.path.items body.now links.now }
+    requires fits { IsFitting (rc_value site.now.script) }
+    ensures done { OnOk result (Acted (map (λ r. r.slack) rules.now)
+        (scene world.old (⟦<Shelf as Lent>⟧.asked shelf.old) events.old.items) (scene world.new (⟦<Shelf as Lent>⟧.asked shelf.new) events.new.items)
+        (λ hosts. ⟦<Shelf as Lent>⟧.answers hosts shelf.old) (λ hosts. ⟦<Shelf as Lent>⟧.answers hosts shelf.new) 1
+        (λ env. do_act env id label (act_of (parts_of site.now.origin (rc_value site.now.script) site.now.path.items) act.now))) }
+    ensures counted { OnOk result (⟦<Shelf as Lent>⟧.counted shelf.new) }
+{
+    match act {
+        Act::Set(target, scalar) => {
+            let cell = cell_at(site.origin, &links.targets, *target);
+            let value = value_like(scalar)?;
+            set(world, rules, cell, value, events)?;
+            Ok(())
+        }
+        Act::Log(value) => {
+            let value = value.copy()?;
+            log(world, value, events)?;
+            Ok(())
+        }
+        Act::CleanupSet(target, scalar) => {
+            let cell = cell_at(site.origin, &links.targets, *target);
+            let scalar = scalar.copy()?;
+            note_there(world, id, CleanupAct::Set(cell, scalar), events)?;
+            Ok(())
+        }
+        Act::CleanupLog(value) => {
+            let value = value.copy()?;
+            note_there(world, id, CleanupAct::Log(value), events)?;
+            Ok(())
+        }
+        Act::Effect(place) => {
+            make_there(world, id, site, *place, label, events)?;
+            Ok(())
+        }
+        Act::Dispose(target) => {
+            let thing = thing_at(site.origin, &links.targets, *target);
+            dispose(world, shelf, rules, thing, events)?;
+            Ok(())
+        }
+        Act::Rewire(place) => {
+            rewire_at(world, shelf, site, body, links, *place, events)?;
+            Ok(())
+        }
+    }
+}

@@ -1,0 +1,72 @@
+// Whether an effect is due.
+ghost use Rattle.std.specs.Prelude.{◌≡◌, [], IfOk, OnOk};
+ghost use Rattle.std.specs.Option.{option_copied};
+ghost use Rattle.signal_model.specs.Recipes.{Hosts};
+ghost use Rattle.signal_model.specs.Values.{value_of};
+ghost use Rattle.signal_model.specs.Kept.{AreKept};
+ghost use Rattle.effect_model.specs.Runs.{is_effect_due, looked_at, looked_names, some_differs};
+ghost use Rattle.sig_computed.specs.Scenes.{scene, CanSettle, Settles};
+
+use sig_base::NoMemory;
+use sig_computed::{RunNote, settle};
+use sig_host::{Lent, Shelf};
+use sig_nodes::Graph;
+use sig_untrack::Read;
+
+// Settles what was read up to the first signal that has another outcome now; whether there is one.
+fn look_at(
+    graph: &mut Graph,
+    shelf: &mut Shelf,
+    reads: &[Read],
+    notes: &mut Vec<RunNote>,
+) -> Result<bool, NoMemory>
+    requires can { CanSettle (scene graph.old (⟦<Shelf as Lent>⟧.asked shelf.old) notes.old.items) }
+    requires counted { ⟦<Shelf as Lent>⟧.counted shelf.old }
+    ensures differs { (hosts : Hosts) → ⟦<Shelf as Lent>⟧.answers hosts shelf.old → AreKept hosts graph.old.state.signals graph.old.state.memos →
+        IfOk result (λ b. b ≡ some_differs (λ m. value_of hosts graph.old.state.signals m []) reads.now) }
+    ensures after { OnOk result (Settles
+        (scene graph.old (⟦<Shelf as Lent>⟧.asked shelf.old) notes.old.items) (scene graph.new (⟦<Shelf as Lent>⟧.asked shelf.new) notes.new.items)
+        (λ hosts. ⟦<Shelf as Lent>⟧.answers hosts shelf.old) (λ hosts. ⟦<Shelf as Lent>⟧.answers hosts shelf.new)
+        (λ hosts. looked_at (λ m. value_of hosts graph.old.state.signals m []) reads.now)) }
+    ensures can { OnOk result (CanSettle (scene graph.new (⟦<Shelf as Lent>⟧.asked shelf.new) notes.new.items)) }
+    ensures counted { OnOk result (⟦<Shelf as Lent>⟧.counted shelf.new) }
+{
+    for read in reads {
+        let _count = notes.len();
+        let outcome = settle(graph, shelf, read.id, notes)?;
+        if !outcome.same(&read.outcome) {
+            return Ok(true);
+        }
+    }
+    Ok(false)
+}
+
+/// Whether an effect is due, by what it keeps of its last run: where it has never run, or where a signal that it read, tracked, has another
+/// outcome now. What it read is settled in order, up to the first that differs, and nothing else is.
+///
+/// # Errors
+///
+/// After `NoMemory` graph and shelf may only be dropped.
+pub fn look(
+    graph: &mut Graph,
+    shelf: &mut Shelf,
+    kept: Option<&[Read]>,
+    notes: &mut Vec<RunNote>,
+) -> Result<bool, NoMemory>
+    requires can { CanSettle (scene graph.old (⟦<Shelf as Lent>⟧.asked shelf.old) notes.old.items) }
+    requires counted { ⟦<Shelf as Lent>⟧.counted shelf.old }
+    ensures due { (hosts : Hosts) → ⟦<Shelf as Lent>⟧.answers hosts shelf.old → AreKept hosts graph.old.state.signals graph.old.state.memos →
+        IfOk result (λ b. b ≡ is_effect_due (λ m. value_of hosts graph.old.state.signals m []) (option_copied kept.entry)) }
+    ensures after { OnOk result (Settles
+        (scene graph.old (⟦<Shelf as Lent>⟧.asked shelf.old) notes.old.items) (scene graph.new (⟦<Shelf as Lent>⟧.asked shelf.new) notes.new.items)
+        (λ hosts. ⟦<Shelf as Lent>⟧.answers hosts shelf.old) (λ hosts. ⟦<Shelf as Lent>⟧.answers hosts shelf.new)
+        (λ hosts. looked_names (λ m. value_of hosts graph.old.state.signals m []) (option_copied kept.entry))) }
+    ensures can { OnOk result (CanSettle (scene graph.new (⟦<Shelf as Lent>⟧.asked shelf.new) notes.new.items)) }
+    ensures counted { OnOk result (⟦<Shelf as Lent>⟧.counted shelf.new) }
+{
+    let Some(reads) = kept else {
+        return Ok(true);
+    };
+    let differs = look_at(graph, shelf, reads, notes)?;
+    Ok(differs)
+}

@@ -1,0 +1,38 @@
+-- How the stores of a world belong together, and what an act does to them.
+use Rattle.std.specs.Prelude.{◌≡◌, ℕ, ◌≤◌, false, List}
+use Rattle.signal_model.specs.Recipes.{Hosts}
+use Rattle.effect_model.specs.Owners.{the_signal}
+use Rattle.effect_model.specs.Worlds as plain
+use Rattle.sig_host.specs.Hosts.{HostPlace}
+use Rattle.sig_owner.specs.Trees.{has_thing, owned_of}
+use Rattle.effect_tables.specs.Consistency.{TablesAgree}
+use Rattle.effect_tables.specs.Placed.{at_rest, tree_of}
+use Rattle.effect_undoing.specs.Trees.{AreFormed}
+use Rattle.sig_effect.specs.Stores as below
+use Rattle.effect_world.specs.declared.events.Event.{Event}
+use Rattle.effect_world.specs.declared.world.World.{World}
+use Rattle.effect_world.specs.Events.{Tells}
+use Rattle.effect_world.specs.Wholes.{whole_of}
+
+-- The tables belong together, what stands is formed, and a signal that wasn't made stands under no owner.
+pub record AreOwned (w : World) : Type 0 where
+  pub tables : TablesAgree w.tables
+  pub formed : AreFormed (tree_of w.tables)
+  pub fresh : (n : ℕ) → w.signals.graph.given ≤ n → has_thing (the_signal n) (owned_of w.tables.store) ≡ false
+
+-- the stores of signals and watchers belong together, and so do the tables
+pub record Agrees (asked : List HostPlace) (w : World) : Type 0 where
+  pub signals : below.Agrees asked w.signals
+  pub owned : AreOwned w
+
+-- for these meanings of host formulas what is kept of the signals is sound
+abbrev pub IsSound : Hosts → List HostPlace → World → Type 0
+IsSound hosts asked w = below.IsSound hosts asked w.signals
+
+-- An act was done: the stores stand for the plain world after it, the events that were put behind the others are those that it told, and
+-- what is sound stayed so.
+pub record Does (hosts : Hosts) (asked later : List HostPlace) (old new : World) (before after : List Event)
+    (act : plain.World → plain.World) : Type 0 where
+  pub whole : whole_of later new ≡ at_rest (act (whole_of asked old))
+  pub told : Tells before after (act (whole_of asked old)).told
+  pub sound : IsSound hosts later new

@@ -1,8 +1,0 @@
-use Rattle.formula_text.proofs.Rereading.{read_back, read_whole}
-use Rattle.formula_text.proofs.meaning.written_formulas_read_back.Goals as goal
-
-pub returns-clause-alone : goal.returns-clause-alone
-returns-clause-alone c = read_whole
-
-pub returns-clause-in_line : goal.returns-clause-in_line
-returns-clause-in_line c = read_back

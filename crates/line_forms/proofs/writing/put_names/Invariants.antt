@@ -1,7 +1,0 @@
-use Rattle.std.proofs.Common.{◌≡◌, ◌++◌, take, flat_map}
-use Rattle.line_forms.proofs.Spacing.{behind_blank}
-use Rattle.line_forms.proofs.writing.put_names.Given as goal
-
--- the names so far
-abbrev pub invariant-loop-name : goal.invariant-loop-name
-invariant-loop-name l = l.out.items ≡ l.fn.out.items ++ flat_map behind_blank (take l.name-index l.names)

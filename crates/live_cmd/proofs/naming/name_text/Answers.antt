@@ -1,6 +1,0 @@
-use Rattle.std.proofs.Common.{sym}
-use Rattle.live_cmd.proofs.NameBytes.{name_utf8}
-use Rattle.live_cmd.proofs.naming.name_text.Goals as goal
-
-pub unreachable-requires : goal.unreachable-requires
-unreachable-requires c = c.in_default.ensures.cases.0 (name_utf8 c.args.bytes.now (sym c.if-not-is_name.ensures))

@@ -1,0 +1,185 @@
+// Commands that aren't refused are done.
+ghost use Rattle.std.specs.Prelude.{◌≡◌, ◌+◌, ◌≤◌, ◌<◌, ◌^◌, ℕ, List, None, IfOk, IfErr, OnOk, length, map};
+ghost use Rattle.signal_model.specs.Recipes.{Hosts};
+ghost use Rattle.sig_host.specs.Hosts.{HostPlace, most_asked};
+ghost use Rattle.sig_effect.specs.declared.errors.EffectFault.TheVariants as fault;
+ghost use Rattle.sig_effect.specs.Stores.{environment, AreNew};
+ghost use Rattle.effect_world.specs.Stores.{IsSound};
+ghost use Rattle.effect_world.specs.Costs.{weight};
+ghost use Rattle.live_cmd.specs.declared.command.Command.TheVariants as command;
+ghost use Rattle.live_model.specs.Machine.{done, empty, over_limit, place_refusal, row_refusal, unwatch_refusal};
+ghost use Rattle.live_core.specs.Consistency.{AreFine, WorldAgrees, IsReadable, IsReady, Leaves, Steps};
+ghost use Rattle.live_core.specs.Views.{plain_of};
+ghost use Rattle.effect_world.specs.Wholes.{whole_of};
+
+use crate::machine::Machine;
+use effect_world::World;
+use live_cmd::{Bare, Command, Verb};
+use live_entries::Entry;
+use live_labels::Labels;
+use live_names::Names;
+use sig_base::{Name, NoMemory};
+use sig_effect::EffectFault;
+use sig_host::{EqualsRule, Lent, Shelf};
+use std::alloc::Global;
+
+impl Machine {
+    /// The machine before the first command.
+    ///
+    /// # Errors
+    ///
+    /// `NoMemory` where memory ran out.
+    pub fn new(alloc: Global) -> Result<Machine, NoMemory>
+        ensures plain { (asked : List HostPlace) → AreNew asked → IfOk result (λ m. plain_of asked m ≡ empty (length asked)) }
+        ensures sound { (hosts : Hosts) (asked : List HostPlace) → AreNew asked → IfOk result (λ m. IsSound hosts asked m.world) }
+        ensures holds { (asked : List HostPlace) (rules : ℕ) → IfOk result (λ m. WorldAgrees asked rules m.world) }
+        ensures ready { IfOk result IsReady }
+        ensures weight { IfOk result (λ m. weight m.world ≡ 0) }
+    {
+        let world = World::new(alloc)?;
+        Ok(Machine {
+            alloc,
+            names: Names::new(alloc),
+            labels: Labels::new(alloc),
+            world,
+            templates: Vec::new(alloc),
+            pages: Vec::new(alloc),
+        })
+    }
+
+    // Does what a verb says to a name.
+    fn do_verb(
+        &mut self,
+        shelf: &mut Shelf,
+        rules: &[EqualsRule],
+        verb: Verb,
+        name: Name,
+    ) -> Result<Vec<Entry>, EffectFault>
+        requires ready { IsReady self.old }
+        requires weight { weight self.old.world < 2 ^ 124 }
+        requires holds { WorldAgrees (⟦<Shelf as Lent>⟧.asked shelf.old) (length rules.now) self.old.world }
+        requires counted { ⟦<Shelf as Lent>⟧.counted shelf.old }
+        requires most { most_asked (⟦<Shelf as Lent>⟧.asked shelf.old) < 2 ^ 124 }
+        requires fine { AreFine self.old (command.Named verb name) }
+        ensures steps { (hosts : Hosts) → ⟦<Shelf as Lent>⟧.answers hosts shelf.old →
+            IsSound hosts (⟦<Shelf as Lent>⟧.asked shelf.old) self.old.world →
+            IfOk result (λ es. Steps hosts (⟦<Shelf as Lent>⟧.asked shelf.new) self.new es.items
+            (done (environment hosts (map (λ r. r.slack) rules.now)) (plain_of (⟦<Shelf as Lent>⟧.asked shelf.old) self.old) (command.Named verb name))) }
+        ensures leaves { (hosts : Hosts) → ⟦<Shelf as Lent>⟧.answers hosts shelf.old →
+            IsSound hosts (⟦<Shelf as Lent>⟧.asked shelf.old) self.old.world → OnOk result
+            (Leaves (⟦<Shelf as Lent>⟧.asked shelf.old) (⟦<Shelf as Lent>⟧.asked shelf.new) (length rules.now) self.old self.new) }
+        ensures answers { (hosts : Hosts) → ⟦<Shelf as Lent>⟧.answers hosts shelf.old → OnOk result (⟦<Shelf as Lent>⟧.answers hosts shelf.new) }
+        ensures counted { OnOk result (⟦<Shelf as Lent>⟧.counted shelf.new) }
+        ensures most { OnOk result (most_asked (⟦<Shelf as Lent>⟧.asked shelf.new) ≤ most_asked (⟦<Shelf as Lent>⟧.asked shelf.old) + 2 ^ 80) }
+        ensures memory { IfErr result (λ e. e ≡ fault.NoMemory) }
+    {
+        match verb {
+            Verb::Get => self.get(shelf, name),
+            Verb::State => self.state(name),
+            Verb::Sources => self.sources(name),
+            Verb::Pending => self.pending(name),
+            Verb::Show => self.show(name),
+            Verb::Scratch => self.scratch(shelf, name),
+            Verb::Dispose => self.dispose(shelf, rules, &name),
+        }
+    }
+
+    // Does a command of one word.
+    fn do_bare(
+        &mut self,
+        shelf: &mut Shelf,
+        rules: &[EqualsRule],
+        bare: Bare,
+    ) -> Result<Vec<Entry>, EffectFault>
+        requires ready { IsReady self.old }
+        requires weight { weight self.old.world < 2 ^ 124 }
+        requires holds { WorldAgrees (⟦<Shelf as Lent>⟧.asked shelf.old) (length rules.now) self.old.world }
+        requires counted { ⟦<Shelf as Lent>⟧.counted shelf.old }
+        requires most { most_asked (⟦<Shelf as Lent>⟧.asked shelf.old) < 2 ^ 124 }
+        ensures steps { (hosts : Hosts) → ⟦<Shelf as Lent>⟧.answers hosts shelf.old →
+            IsSound hosts (⟦<Shelf as Lent>⟧.asked shelf.old) self.old.world →
+            IfOk result (λ es. Steps hosts (⟦<Shelf as Lent>⟧.asked shelf.new) self.new es.items
+            (done (environment hosts (map (λ r. r.slack) rules.now)) (plain_of (⟦<Shelf as Lent>⟧.asked shelf.old) self.old) (command.Bare bare))) }
+        ensures leaves { (hosts : Hosts) → ⟦<Shelf as Lent>⟧.answers hosts shelf.old →
+            IsSound hosts (⟦<Shelf as Lent>⟧.asked shelf.old) self.old.world → OnOk result
+            (Leaves (⟦<Shelf as Lent>⟧.asked shelf.old) (⟦<Shelf as Lent>⟧.asked shelf.new) (length rules.now) self.old self.new) }
+        ensures answers { (hosts : Hosts) → ⟦<Shelf as Lent>⟧.answers hosts shelf.old → OnOk result (⟦<Shelf as Lent>⟧.answers hosts shelf.new) }
+        ensures counted { OnOk result (⟦<Shelf as Lent>⟧.counted shelf.new) }
+        ensures most { OnOk result (most_asked (⟦<Shelf as Lent>⟧.asked shelf.new) ≤ most_asked (⟦<Shelf as Lent>⟧.asked shelf.old) + 2 ^ 80) }
+        ensures memory { IfErr result (λ e. e ≡ fault.NoMemory) }
+    {
+        match bare {
+            Bare::Flush => self.flush(shelf, rules),
+        }
+    }
+
+    /// Does a command that isn't refused.
+    ///
+    /// # Errors
+    ///
+    /// `NoMemory` alone.
+    pub fn perform(
+        &mut self,
+        shelf: &mut Shelf,
+        rules: &[EqualsRule],
+        command: Command,
+    ) -> Result<Vec<Entry>, EffectFault>
+        requires ready { IsReady self.old }
+        requires weight { weight self.old.world < 2 ^ 124 }
+        requires holds { WorldAgrees (⟦<Shelf as Lent>⟧.asked shelf.old) (length rules.now) self.old.world }
+        requires counted { ⟦<Shelf as Lent>⟧.counted shelf.old }
+        requires most { most_asked (⟦<Shelf as Lent>⟧.asked shelf.old) < 2 ^ 124 }
+        requires fine { AreFine self.old command }
+        requires places { place_refusal (map (λ r. r.slack) rules.now) (whole_of (⟦<Shelf as Lent>⟧.asked shelf.old) self.old.world) command ≡ None }
+        requires read { IsReadable command }
+        requires rows { row_refusal (plain_of (⟦<Shelf as Lent>⟧.asked shelf.old) self.old) command ≡ None }
+        requires room { over_limit (plain_of (⟦<Shelf as Lent>⟧.asked shelf.old) self.old) command ≡ None }
+        requires watched { unwatch_refusal (plain_of (⟦<Shelf as Lent>⟧.asked shelf.old) self.old) command ≡ None }
+        ensures steps { (hosts : Hosts) → ⟦<Shelf as Lent>⟧.answers hosts shelf.old →
+            IsSound hosts (⟦<Shelf as Lent>⟧.asked shelf.old) self.old.world →
+            IfOk result (λ es. Steps hosts (⟦<Shelf as Lent>⟧.asked shelf.new) self.new es.items
+            (done (environment hosts (map (λ r. r.slack) rules.now)) (plain_of (⟦<Shelf as Lent>⟧.asked shelf.old) self.old) command)) }
+        ensures leaves { (hosts : Hosts) → ⟦<Shelf as Lent>⟧.answers hosts shelf.old →
+            IsSound hosts (⟦<Shelf as Lent>⟧.asked shelf.old) self.old.world → OnOk result
+            (Leaves (⟦<Shelf as Lent>⟧.asked shelf.old) (⟦<Shelf as Lent>⟧.asked shelf.new) (length rules.now) self.old self.new) }
+        ensures answers { (hosts : Hosts) → ⟦<Shelf as Lent>⟧.answers hosts shelf.old → OnOk result (⟦<Shelf as Lent>⟧.answers hosts shelf.new) }
+        ensures counted { OnOk result (⟦<Shelf as Lent>⟧.counted shelf.new) }
+        ensures most { OnOk result (most_asked (⟦<Shelf as Lent>⟧.asked shelf.new) ≤ most_asked (⟦<Shelf as Lent>⟧.asked shelf.old) + 2 ^ 80) }
+        ensures memory { IfErr result (λ e. e ≡ fault.NoMemory) }
+    {
+        match command {
+            Command::Cell {
+                name,
+                value,
+                equals,
+                inside,
+            } => self.make_cell(name, value, equals, inside),
+            Command::List {
+                name,
+                fields,
+                inside,
+            } => self.make_list(name, &fields, inside),
+            Command::Edit { name, edit } => self.edit(rules, &name, &edit),
+            Command::Set { name, value } => self.set(rules, &name, value),
+            Command::Computed {
+                name,
+                source,
+                inside,
+            } => self.make_computed(name, source, inside),
+            Command::Rewire { name, source } => self.rewire(shelf, &name, source),
+            Command::Owner { name, inside } => self.make_owner(name, inside),
+            Command::Watcher { name, tries } => self.make_watcher(name, tries),
+            Command::Watch { name, signals } => self.watch(&name, &signals),
+            Command::Unwatch { name, signal } => self.unwatch(&name, &signal),
+            Command::Effect { name, body, inside } => self.make_effect(name, body, inside),
+            Command::Template { name, template } => self.make_template(name, template),
+            Command::Mount {
+                name,
+                template,
+                inside,
+            } => self.mount(shelf, name, &template, &inside),
+            Command::Named { verb, name } => self.do_verb(shelf, rules, verb, name),
+            Command::Bare(bare) => self.do_bare(shelf, rules, bare),
+        }
+    }
+}

@@ -1,0 +1,181 @@
+// Pages are mounted, and a flush runs effects and brings the pages up to date.
+ghost use Rattle.std.specs.Prelude.{◌≡◌, ◌+◌, ◌≤◌, ◌<◌, ◌^◌, ◌++◌, ◌∷◌, [], ℕ, List, None, IfOk, IfErr, OnOk, length, map};
+ghost use Rattle.signal_model.specs.Recipes.{Hosts};
+ghost use Rattle.sig_base.specs.declared.limits.TheConstants.{MOST_PAGES};
+ghost use Rattle.sig_host.specs.Hosts.{most_asked};
+ghost use Rattle.sig_effect.specs.declared.errors.EffectFault.TheVariants as fault;
+ghost use Rattle.sig_effect.specs.Stores.{environment, AreRuled};
+ghost use Rattle.effect_world.specs.Stores.{Agrees, IsSound};
+ghost use Rattle.effect_world.specs.Costs.{weight};
+ghost use Rattle.live_cmd.specs.declared.command.Bare.TheVariants as bares;
+ghost use Rattle.live_cmd.specs.declared.command.Command.TheVariants as command;
+ghost use Rattle.live_model.specs.Machine.{after_turns, done, over_limit};
+ghost use Rattle.live_model.specs.declared.names.Kind.TheVariants as kind;
+ghost use Rattle.live_model.specs.Names.{meaning_of};
+ghost use Rattle.live_pages.specs.Updates.{AreShown};
+ghost use Rattle.live_pages.specs.Views.{template_of};
+ghost use Rattle.live_labels.specs.Views.{labels_of};
+ghost use Rattle.live_core.specs.Consistency.{AreFine, IsReady, Leaves, Steps};
+ghost use Rattle.live_core.specs.Views.{plain_of};
+
+use crate::answers::append;
+use crate::faults::make_page;
+use crate::machine::Machine;
+use effect_turns::flush;
+use live_entries::{Entry, Refusal};
+use live_labels::tell_all;
+use live_linking::owner_of;
+use live_pages::{Mounted, bring_all_up, keep_live, mount};
+use sig_base::{Name, NoMemory, PageId};
+use sig_effect::EffectFault;
+use sig_host::{EqualsRule, Lent, Shelf};
+use tpl_live::Page;
+
+impl Machine {
+    // Puts a page of a template last.
+    fn add_page(
+        &mut self,
+        name: Name,
+        number: PageId,
+        template: u128,
+        page: Page,
+    ) -> Result<(), NoMemory>
+        requires { meaning_of self.old.names name ≡ None }
+        ensures names { OnOk result (self.new.names ≡ self.old.names ++ (name, record { kind = kind.Page; number = number }) ∷ []) }
+        ensures labels { OnOk result (labels_of self.new.labels ≡ record (labels_of self.old.labels) { pages = self.old.labels.pages.items ++ name ∷ [] }) }
+        ensures pages { OnOk result (self.new.pages.items
+            ≡ self.old.pages.items ++ (record { name = name; number = number; template = template; page = page }) ∷ []) }
+        ensures world { self.new.world ≡ self.old.world }
+        ensures templates { self.new.templates ≡ self.old.templates }
+    {
+        self.pages.push(Mounted {
+            name: name.copy()?,
+            number,
+            template,
+            page,
+        })?;
+        self.name_page(name, number)?;
+        Ok(())
+    }
+
+    /// Makes a page of a template, and tells it and the runs on the way.
+    pub(crate) fn mount(
+        &mut self,
+        shelf: &mut Shelf,
+        name: Name,
+        template: &Name,
+        inside: &Option<Name>,
+    ) -> Result<Vec<Entry>, EffectFault>
+        requires ready { IsReady self.old }
+        requires weight { weight self.old.world < 2 ^ 125 }
+        requires agrees { Agrees (⟦<Shelf as Lent>⟧.asked shelf.old) self.old.world }
+        requires counted { ⟦<Shelf as Lent>⟧.counted shelf.old }
+        requires most { most_asked (⟦<Shelf as Lent>⟧.asked shelf.old) < 2 ^ 125 }
+        requires fine { AreFine self.old (command.Mount name template.now inside.now) }
+        requires room { over_limit (plain_of [] self.old) (command.Mount name template.now inside.now) ≡ None }
+        ensures steps { (hosts : Hosts) (slacks : List ℕ) → ⟦<Shelf as Lent>⟧.answers hosts shelf.old →
+            IsSound hosts (⟦<Shelf as Lent>⟧.asked shelf.old) self.old.world →
+            IfOk result (λ es. Steps hosts (⟦<Shelf as Lent>⟧.asked shelf.new) self.new es.items
+            (done (environment hosts slacks) (plain_of (⟦<Shelf as Lent>⟧.asked shelf.old) self.old) (command.Mount name template.now inside.now))) }
+        ensures leaves { (hosts : Hosts) (count : ℕ) → ⟦<Shelf as Lent>⟧.answers hosts shelf.old →
+            IsSound hosts (⟦<Shelf as Lent>⟧.asked shelf.old) self.old.world → OnOk result
+            (Leaves (⟦<Shelf as Lent>⟧.asked shelf.old) (⟦<Shelf as Lent>⟧.asked shelf.new) count self.old self.new) }
+        ensures answers { (hosts : Hosts) → ⟦<Shelf as Lent>⟧.answers hosts shelf.old → OnOk result (⟦<Shelf as Lent>⟧.answers hosts shelf.new) }
+        ensures counted { OnOk result (⟦<Shelf as Lent>⟧.counted shelf.new) }
+        ensures most { OnOk result (most_asked (⟦<Shelf as Lent>⟧.asked shelf.new) ≤ most_asked (⟦<Shelf as Lent>⟧.asked shelf.old) + 2 ^ 80) }
+        ensures memory { IfErr result (λ e. e ≡ fault.NoMemory) }
+    {
+        let _count = self.labels.pages.len();
+        let template = self.names.number_of(template);
+        let owner = owner_of(&self.names, inside);
+        let mut told = Vec::new(self.alloc);
+        let page = mount(
+            &mut self.world,
+            shelf,
+            &self.templates,
+            &self.labels,
+            &name,
+            template,
+            &mut told,
+        )?;
+        let number = make_page(&mut self.world, owner)?;
+        self.add_page(name, number, template, page)?;
+        Ok(told)
+    }
+
+    // After the turns of a flush the pages are brought up to date, unless it is refused.
+    fn end_flush(
+        &mut self,
+        shelf: &mut Shelf,
+        refused: bool,
+        told: Vec<Entry>,
+    ) -> Result<Vec<Entry>, EffectFault>
+        requires shown { AreShown (map template_of self.old.templates.items) self.old.pages.items }
+        requires few { length self.old.pages.items ≤ MOST_PAGES }
+        requires weight { weight self.old.world < 2 ^ 125 }
+        requires agrees { Agrees (⟦<Shelf as Lent>⟧.asked shelf.old) self.old.world }
+        requires counted { ⟦<Shelf as Lent>⟧.counted shelf.old }
+        requires room { most_asked (⟦<Shelf as Lent>⟧.asked shelf.old) < 2 ^ 125 }
+        ensures steps { (hosts : Hosts) (slacks : List ℕ) → ⟦<Shelf as Lent>⟧.answers hosts shelf.old →
+            IsSound hosts (⟦<Shelf as Lent>⟧.asked shelf.old) self.old.world →
+            IfOk result (λ es. Steps hosts (⟦<Shelf as Lent>⟧.asked shelf.new) self.new es.items
+            (after_turns (environment hosts slacks) refused (record { machine = plain_of (⟦<Shelf as Lent>⟧.asked shelf.old) self.old; entries = told.items }))) }
+        ensures leaves { (hosts : Hosts) (count : ℕ) → IsReady self.old → ⟦<Shelf as Lent>⟧.answers hosts shelf.old →
+            IsSound hosts (⟦<Shelf as Lent>⟧.asked shelf.old) self.old.world → OnOk result
+            (Leaves (⟦<Shelf as Lent>⟧.asked shelf.old) (⟦<Shelf as Lent>⟧.asked shelf.new) count self.old self.new) }
+        ensures weight { OnOk result (weight self.new.world ≤ weight self.old.world + 2 ^ 68) }
+        ensures answers { (hosts : Hosts) → ⟦<Shelf as Lent>⟧.answers hosts shelf.old → OnOk result (⟦<Shelf as Lent>⟧.answers hosts shelf.new) }
+        ensures counted { OnOk result (⟦<Shelf as Lent>⟧.counted shelf.new) }
+        ensures most { OnOk result (most_asked (⟦<Shelf as Lent>⟧.asked shelf.new) ≤ most_asked (⟦<Shelf as Lent>⟧.asked shelf.old) + 2 ^ 75) }
+        ensures memory { IfErr result (λ e. e ≡ fault.NoMemory) }
+    {
+        let mut told = told;
+        if refused {
+            told.push(Entry::Error(Refusal::Turns))?;
+            return Ok(told);
+        }
+        let pages = bring_all_up(
+            self.alloc,
+            &mut self.world,
+            shelf,
+            &self.labels,
+            &mut self.pages,
+        )?;
+        append(&mut told, pages)?;
+        Ok(told)
+    }
+
+    /// Runs the effects that are due, in turns, and then brings the pages that live up to date. An effect that is due after the last turn
+    /// makes it refused, and the pages are left as they were.
+    pub(crate) fn flush(
+        &mut self,
+        shelf: &mut Shelf,
+        rules: &[EqualsRule],
+    ) -> Result<Vec<Entry>, EffectFault>
+        requires ready { IsReady self.old }
+        requires weight { weight self.old.world < 2 ^ 124 }
+        requires agrees { Agrees (⟦<Shelf as Lent>⟧.asked shelf.old) self.old.world }
+        requires ruled { AreRuled (length rules.now) self.old.world.signals.graph.state.signals }
+        requires counted { ⟦<Shelf as Lent>⟧.counted shelf.old }
+        requires room { most_asked (⟦<Shelf as Lent>⟧.asked shelf.old) < 2 ^ 124 }
+        ensures steps { (hosts : Hosts) → ⟦<Shelf as Lent>⟧.answers hosts shelf.old →
+            IsSound hosts (⟦<Shelf as Lent>⟧.asked shelf.old) self.old.world →
+            IfOk result (λ es. Steps hosts (⟦<Shelf as Lent>⟧.asked shelf.new) self.new es.items
+            (done (environment hosts (map (λ r. r.slack) rules.now)) (plain_of (⟦<Shelf as Lent>⟧.asked shelf.old) self.old) (command.Bare bares.Flush))) }
+        ensures leaves { (hosts : Hosts) → ⟦<Shelf as Lent>⟧.answers hosts shelf.old →
+            IsSound hosts (⟦<Shelf as Lent>⟧.asked shelf.old) self.old.world → OnOk result
+            (Leaves (⟦<Shelf as Lent>⟧.asked shelf.old) (⟦<Shelf as Lent>⟧.asked shelf.new) (length rules.now) self.old self.new) }
+        ensures answers { (hosts : Hosts) → ⟦<Shelf as Lent>⟧.answers hosts shelf.old → OnOk result (⟦<Shelf as Lent>⟧.answers hosts shelf.new) }
+        ensures counted { OnOk result (⟦<Shelf as Lent>⟧.counted shelf.new) }
+        ensures most { OnOk result (most_asked (⟦<Shelf as Lent>⟧.asked shelf.new) ≤ most_asked (⟦<Shelf as Lent>⟧.asked shelf.old) + 2 ^ 80) }
+        ensures memory { IfErr result (λ e. e ≡ fault.NoMemory) }
+    {
+        let mut events = Vec::new(self.alloc);
+        let end = flush(&mut self.world, shelf, rules, &mut events)?;
+        let _count = events.len();
+        let told = tell_all(self.alloc, &mut self.labels, &events)?;
+        keep_live(&mut self.pages, &self.world.tables.pages);
+        let told = self.end_flush(shelf, end.refused, told)?;
+        Ok(told)
+    }
+}

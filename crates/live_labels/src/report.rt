@@ -1,0 +1,267 @@
+// What is told of events, each by the labels of its moment.
+ghost use Rattle.std.specs.Prelude.{◌≡◌, ◌++◌, List, IfOk, OnOk, map, option_to_list};
+ghost use Rattle.effect_model.specs.Worlds as plain;
+ghost use Rattle.effect_tables.specs.Bodies.{thing_of};
+ghost use Rattle.sig_computed.specs.Notes.{note_of};
+ghost use Rattle.sig_effect.specs.Events as signals;
+ghost use Rattle.effect_world.specs.Events.{AreTold};
+ghost use Rattle.live_entries.specs.declared.entry.Entry.TheVariants as entry;
+ghost use Rattle.live_entries.specs.declared.refusal.Refusal.TheVariants as refusal;
+ghost use Rattle.live_model.specs.Labels.{label_at, label_of, labels_after, name_at, relabelled};
+ghost use Rattle.live_model.specs.Machine.{entries_of};
+ghost use Rattle.live_labels.specs.Entries.{entries_told, note_entry, renamed, signal_entry};
+ghost use Rattle.live_labels.specs.Views.{labels_of, KeepsNames};
+
+use crate::labels::Labels;
+use crate::names::{
+    label_at, label_of, name_at, name_child, names_of_signals, names_of_watchers, unname_child,
+};
+use effect_tables::Thing;
+use effect_world::Event;
+use live_entries::{Entry, Refusal};
+use sig_base::{EffectId, Fault, Name, NoMemory, NodeId, WatcherId};
+use sig_computed::RunNote;
+use sig_effect::{Event as SignalEvent, Thing as SignalThing};
+use std::alloc::Global;
+
+// What is told of a run.
+fn run_entry(alloc: Global, names: &[Name], note: &RunNote) -> Result<Entry, NoMemory>
+    ensures { IfOk result (λ e. e ≡ note_entry names.now (note_of note.now)) }
+{
+    let name = name_at(alloc, names, note.id.number())?;
+    let reads = names_of_signals(alloc, names, &note.reads)?;
+    let outcome = note.outcome.copy()?;
+    Ok(Entry::Run(name, reads, outcome))
+}
+
+/// Tells of runs.
+pub fn tell_runs(told: &mut Vec<Entry>, names: &[Name], notes: &[RunNote]) -> Result<(), NoMemory>
+    ensures { OnOk result (told.new.items ≡ told.old.items ++ map (note_entry names.now) (map note_of notes.now)) }
+{
+    for note in notes {
+        let entry = run_entry(*told.allocator(), names, note)?;
+        told.push(entry)?;
+    }
+    Ok(())
+}
+
+// What is told of those whose notification tried a command.
+fn frozen_entry(alloc: Global, names: &[Name], watchers: &[WatcherId]) -> Result<Entry, NoMemory>
+    ensures { IfOk result (λ e. e ≡ entry.Error (refusal.Frozen (map (name_at names.now) watchers.now))) }
+{
+    let names = names_of_watchers(alloc, names, watchers)?;
+    Ok(Entry::Error(Refusal::Frozen(names)))
+}
+
+// What is told of the end of a thing.
+fn gone_entry(alloc: Global, labels: &Labels, thing: &Thing) -> Result<Entry, NoMemory>
+    ensures { IfOk result (λ e. e ≡ entry.Gone (label_of (labels_of labels.now) (thing_of thing.now))) }
+{
+    let label = label_of(alloc, labels, thing)?;
+    Ok(Entry::Gone(label))
+}
+
+// What is told of the end of a signal or a watcher.
+fn end_entry(alloc: Global, labels: &Labels, thing: SignalThing) -> Result<Entry, NoMemory>
+    ensures { IfOk result (λ e. e ≡ entry.Gone (label_of (labels_of labels.now) (signals.thing_of thing))) }
+{
+    match thing {
+        SignalThing::Signal(id) => {
+            let entry = gone_entry(alloc, labels, &Thing::Signal(id))?;
+            Ok(entry)
+        }
+        SignalThing::Watcher(id) => {
+            let entry = gone_entry(alloc, labels, &Thing::Watcher(id))?;
+            Ok(entry)
+        }
+    }
+}
+
+// What is told of an event of signals and watchers.
+fn signal_entry(alloc: Global, labels: &Labels, event: &SignalEvent) -> Result<Entry, NoMemory>
+    ensures { IfOk result (λ e. e ≡ signal_entry (labels_of labels.now) event.now) }
+{
+    match event {
+        SignalEvent::Run(note) => {
+            let entry = run_entry(alloc, &labels.signals, note)?;
+            Ok(entry)
+        }
+        SignalEvent::Notify(watcher) => {
+            let name = name_at(alloc, &labels.watchers, watcher.number())?;
+            Ok(Entry::Notify(name))
+        }
+        SignalEvent::Frozen(watchers) => {
+            let entry = frozen_entry(alloc, &labels.watchers, watchers)?;
+            Ok(entry)
+        }
+        SignalEvent::Dropped(place, asks) => Ok(Entry::Drop(*place as u64, *asks)),
+        SignalEvent::Gone(thing) => {
+            let entry = end_entry(alloc, labels, *thing)?;
+            Ok(entry)
+        }
+    }
+}
+
+// What is told of an evaluated body.
+fn effect_entry(
+    alloc: Global,
+    labels: &Labels,
+    id: EffectId,
+    reads: &[NodeId],
+) -> Result<Entry, NoMemory>
+    ensures { IfOk result (λ e. e ≡ entry.Effect (label_at (labels_of labels.now).effects id)
+        (map (name_at (labels_of labels.now).signals) reads.now)) }
+{
+    let label = label_at(alloc, &labels.effects, id)?;
+    let names = names_of_signals(alloc, &labels.signals, reads)?;
+    Ok(Entry::Effect(label, names))
+}
+
+// What is told of a body that failed.
+fn fail_entry(alloc: Global, labels: &Labels, id: EffectId, fault: Fault) -> Result<Entry, NoMemory>
+    ensures { IfOk result (λ e. e ≡ entry.Fail (label_at (labels_of labels.now).effects id) fault) }
+{
+    let label = label_at(alloc, &labels.effects, id)?;
+    Ok(Entry::Fail(label, fault))
+}
+
+// What is told of a cleanup.
+fn cleanup_entry(alloc: Global, labels: &Labels, id: EffectId) -> Result<Entry, NoMemory>
+    ensures { IfOk result (λ e. e ≡ entry.Cleanup (label_at (labels_of labels.now).effects id)) }
+{
+    let label = label_at(alloc, &labels.effects, id)?;
+    Ok(Entry::Cleanup(label))
+}
+
+// What is told of an act that names a thing which is gone.
+fn refusal_entry(alloc: Global, labels: &Labels, thing: &Thing) -> Result<Entry, NoMemory>
+    ensures { IfOk result (λ e. e ≡ entry.Error (refusal.Gone (label_of (labels_of labels.now) (thing_of thing.now)).name)) }
+{
+    let label = label_of(alloc, labels, thing)?;
+    let name = label.name.copy()?;
+    Ok(Entry::Error(Refusal::Gone(name)))
+}
+
+// What is told of an event, if anything is.
+fn entry_of(alloc: Global, labels: &Labels, event: &Event) -> Result<Option<Entry>, NoMemory>
+    ensures { IfOk result (λ o. option_to_list o ≡ entries_told (labels_of labels.now) event.now) }
+{
+    match event {
+        Event::Signals(event) => {
+            let entry = signal_entry(alloc, labels, event)?;
+            Ok(Some(entry))
+        }
+        Event::Log(value) => {
+            let value = value.copy()?;
+            Ok(Some(Entry::Log(value)))
+        }
+        Event::Body(id, reads) => {
+            let entry = effect_entry(alloc, labels, *id, reads)?;
+            Ok(Some(entry))
+        }
+        Event::Fail(id, fault) => {
+            let entry = fail_entry(alloc, labels, *id, *fault)?;
+            Ok(Some(entry))
+        }
+        Event::Cleanup(id) => {
+            let entry = cleanup_entry(alloc, labels, *id)?;
+            Ok(Some(entry))
+        }
+        Event::Gone(thing) => {
+            let entry = gone_entry(alloc, labels, thing)?;
+            Ok(Some(entry))
+        }
+        Event::RefusedGone(thing) => {
+            let entry = refusal_entry(alloc, labels, thing)?;
+            Ok(Some(entry))
+        }
+        Event::RefusedHost(place) => Ok(Some(Entry::Error(Refusal::HostTaken(*place as u64)))),
+        Event::Made { .. } => Ok(None),
+        Event::Noted(_) => Ok(None),
+    }
+}
+
+// A child that ends is no longer called anything.
+fn rename_gone(labels: &mut Labels, thing: &Thing)
+    ensures effects { labels_of labels.new ≡ relabelled (plain.gone (thing_of thing.now)) (labels_of labels.old) }
+    ensures names { KeepsNames labels.old labels.new }
+{
+    match thing {
+        Thing::Effect(id) => unname_child(&mut labels.effects, *id),
+        Thing::Signal(_) => {}
+        Thing::Owner(_) => {}
+        Thing::Page(_) => {}
+        Thing::Watcher(_) => {}
+    }
+}
+
+// Labels are given, and go out, by an event.
+fn rename(alloc: Global, labels: &mut Labels, event: &Event) -> Result<(), NoMemory>
+    ensures effects { OnOk result (labels_of labels.new ≡ renamed event.now (labels_of labels.old)) }
+    ensures names { KeepsNames labels.old labels.new }
+{
+    match event {
+        Event::Made {
+            child,
+            parent,
+            label,
+        } => {
+            name_child(
+                alloc,
+                &mut labels.effects,
+                *child,
+                *parent,
+                u64::from(*label),
+            )?;
+            Ok(())
+        }
+        Event::Gone(thing) => {
+            rename_gone(labels, thing);
+            Ok(())
+        }
+        _ => Ok(()),
+    }
+}
+
+// Puts an entry behind others, if there is one.
+fn put_some(told: &mut Vec<Entry>, entry: Option<Entry>) -> Result<(), NoMemory>
+    ensures { OnOk result (told.new.items ≡ told.old.items ++ option_to_list entry) }
+{
+    match entry {
+        Some(entry) => {
+            told.push(entry)?;
+            Ok(())
+        }
+        None => Ok(()),
+    }
+}
+
+// Tells of an event, and what is called otherwise from then on.
+fn tell_one(told: &mut Vec<Entry>, labels: &mut Labels, event: &Event) -> Result<(), NoMemory>
+    ensures entries { OnOk result (told.new.items ≡ told.old.items ++ entries_told (labels_of labels.old) event.now) }
+    ensures labels { OnOk result (labels_of labels.new ≡ renamed event.now (labels_of labels.old)) }
+    ensures names { KeepsNames labels.old labels.new }
+{
+    let alloc = *told.allocator();
+    let entry = entry_of(alloc, labels, event)?;
+    put_some(told, entry)?;
+    rename(alloc, labels, event)?;
+    Ok(())
+}
+
+/// Tells of events, one by one, each by the labels of its moment.
+pub fn tell_all(
+    alloc: Global,
+    labels: &mut Labels,
+    events: &[Event],
+) -> Result<Vec<Entry>, NoMemory>
+    ensures entries { (ts : List plain.Event) → AreTold events.now ts → IfOk result (λ es. es.items ≡ entries_of (labels_of labels.old) ts) }
+    ensures labels { (ts : List plain.Event) → AreTold events.now ts → OnOk result (labels_of labels.new ≡ labels_after ts (labels_of labels.old)) }
+    ensures names { OnOk result (KeepsNames labels.old labels.new) }
+{
+    let mut told = Vec::new(alloc);
+    for event in events {
+        tell_one(&mut told, labels, event)?;
+    }
+    Ok(told)
+}

@@ -1,0 +1,77 @@
+-- What refused items leave.
+use Rattle.std.proofs.Common.{◌≡◌, ℕ, Bool, true, false, List, [], ◌∷◌, ◌++◌, Option, refl, ap, ◌∙◌}
+use Rattle.std.specs.Prelude.{unwrap_or}
+use Rattle.std.specs.Option.{option_map_or}
+use Rattle.sig_base.specs.Values.{scalar_value}
+use Rattle.sig_base.specs.declared.value.Value.{Value}
+use Rattle.sig_base.specs.declared.value.Value.TheVariants as value
+use Rattle.signal_model.specs.Signals.{Cell, IsCell, Stands, standing}
+use Rattle.effect_model.specs.Worlds.{Environment, Event, Watcher, World}
+use Rattle.effect_model.specs.Acts.{are_alike, frozen_by, set_cell, set_standing, told_frozen, told_of, with_new_value}
+use Rattle.effect_model.specs.Runs.{flush}
+use Rattle.effect_tables.specs.Placed.{at_rest}
+use Rattle.live_cmd.specs.declared.command.Command.{Command}
+use Rattle.live_cmd.specs.declared.command.Bare.TheVariants as bares
+use Rattle.live_cmd.specs.declared.command.Command.TheVariants as command
+use Rattle.live_cmd.specs.declared.command.Item.TheVariants as item
+use Rattle.live_entries.specs.declared.entry.Entry.{Entry}
+use Rattle.live_entries.specs.declared.refusal.Refusal.{Refusal}
+use Rattle.live_model.specs.Labels.{Labels, labels_after}
+use Rattle.live_model.specs.Machine.{Machine, Told, acted, acted_on_pages, after_turns, done, entries_of, refused, step, reached}
+use Rattle.live_model.specs.Names.{number_of}
+use Rattle.live_model.specs.Rows.{edited, rows_at}
+use Rattle.live_laws.specs.Refusals.{ChangeLaw, IsChange, RefusedFlushLaw, RefusedLaw, freezing, notices, notified_of}
+
+pub refused_law : RefusedLaw
+refused_law env m (item.Do c) r e = ap (λ (o : Option Refusal). option_map_or (refused m) o (done env m c)) e
+refused_law env m (item.Refused q) r e = ap (λ (o : Option Refusal). refused m (unwrap_or o q)) e
+
+-- ---- a change
+
+-- what such a command does is what setting the cell does
+set_done : (env : Environment) (m : Machine) (c : Command) (i : ℕ) (v : Value) → IsChange m c i v → done env m c ≡ acted m (set_cell env i v m.world)
+set_done env m (command.Set n s) i v h = ap (λ (k : ℕ). acted m (set_cell env k (scalar_value s) m.world)) h.0 ∙ ap (λ (u : Value). acted m (set_cell env i u m.world)) h.1
+set_done env m (command.Edit n e) i v h =
+    ap (λ (k : ℕ). acted m (set_cell env k (value.Rows (edited e (rows_at m.world.signals (number_of m.names n)))) m.world)) h.0
+    ∙ ap (λ (u : Value). acted m (set_cell env i u m.world)) h.1
+set_done env m _ i v h = absurd h
+
+-- a cell whose equality calls the value another one
+another_value : (env : Environment) (i : ℕ) (v : Value) (w : World) (x : Cell) → standing w.signals i ≡ IsCell x → are_alike env.slacks x.rule x.value v ≡ false →
+    set_cell env i v w ≡ with_new_value i v w
+another_value env i v w x stands other = ap (λ (s : Stands). set_standing s env i v w) stands ∙ rw other refl
+
+-- notices give nothing another name
+same_labels : (labels : Labels) (xs : List Watcher) (ns : List ℕ) → labels_after (told_of xs ++ told_frozen ns) labels ≡ labels
+same_labels labels [] [] = refl
+same_labels labels [] (n ∷ ns) = refl
+same_labels labels (x ∷ xs) ns = same_labels labels xs ns
+
+notices_told : (labels : Labels) (xs : List Watcher) (ns : List ℕ) → entries_of labels (told_of xs ++ told_frozen ns) ≡ notices labels xs ++ freezing labels ns
+notices_told labels [] [] = refl
+notices_told labels [] (n ∷ ns) = refl
+notices_told labels (x ∷ xs) ns = ap (λ (es : List Entry). notices labels (x ∷ []) ++ es) (notices_told labels xs ns)
+
+-- a world that tells these notices
+acted_notices : (m : Machine) (w : World) (xs : List Watcher) (ns : List ℕ) → w.told ≡ told_of xs ++ told_frozen ns →
+    acted m w ≡ reached (record m { world = at_rest w }) (notices m.labels xs ++ freezing m.labels ns)
+acted_notices m w xs ns e =
+    ap (λ (es : List Event). reached (record m { labels = labels_after es m.labels; world = at_rest w }) (entries_of m.labels es)) e
+    ∙ ap (λ (labels : Labels). reached (record m { labels = labels; world = at_rest w }) (entries_of m.labels (told_of xs ++ told_frozen ns))) (same_labels m.labels xs ns)
+    ∙ ap (reached (record m { world = at_rest w })) (notices_told m.labels xs ns)
+
+pub change_law : ChangeLaw
+change_law env m c i v x quiet fine change stands other =
+    let xs = notified_of m.world i v in
+    ap (λ (o : Option Refusal). option_map_or (refused m) o (done env m c)) fine
+    ∙ set_done env m c i v change
+    ∙ ap (acted m) (another_value env i v m.world x stands other)
+    ∙ acted_notices m (with_new_value i v m.world) xs (frozen_by xs) (ap (λ (es : List Event). es ++ (told_of xs ++ told_frozen (frozen_by xs))) quiet)
+
+-- ---- a refused flush
+
+pub refused_flush_law : RefusedFlushLaw
+refused_flush_law env m e =
+    let t : Told = acted_on_pages m (flush env m.world).world in
+    let s : step env m (item.Do (command.Bare bares.Flush)) ≡ after_turns env true t = ap (λ (b : Bool). after_turns env b t) e in
+    record { done = s; pages = ap (λ (r : Told). r.machine.pages) s }

@@ -1,0 +1,104 @@
+// Pages are brought up to date.
+ghost use Rattle.std.specs.Prelude.{◌≡◌, ◌+◌, ◌≤◌, ◌<◌, ◌^◌, ℕ, List, IfOk, OnOk, length};
+ghost use Rattle.signal_model.specs.Recipes.{Hosts};
+ghost use Rattle.sig_host.specs.Hosts.{most_asked};
+ghost use Rattle.sig_base.specs.declared.limits.TheConstants.{MOST_PAGES};
+ghost use Rattle.sig_effect.specs.Stores.{environment};
+ghost use Rattle.effect_world.specs.Stores.{Agrees, IsSound};
+ghost use Rattle.tpl_live.specs.Pages.{IsStanding};
+ghost use Rattle.tpl_live.specs.Contents.{standing};
+ghost use Rattle.live_model.specs.Names.{Names};
+ghost use Rattle.live_model.specs.Pages.{Template};
+ghost use Rattle.live_labels.specs.Views.{labels_of};
+ghost use Rattle.live_pages.specs.Updates.{numbers_of, AreUpdated, AreShown, AreStanding, IsUpdated, IsShown, Settles};
+
+use crate::mounted::Mounted;
+use crate::report::tell_news;
+use effect_world::World;
+use live_entries::Entry;
+use live_labels::{Labels, tell_runs};
+use sig_base::NoMemory;
+use sig_host::{Lent, Shelf};
+use std::alloc::Global;
+
+// Brings a page up to date, and tells the runs on the way and its news.
+fn bring_up(
+    world: &mut World,
+    shelf: &mut Shelf,
+    labels: &Labels,
+    page: &mut Mounted,
+    told: &mut Vec<Entry>,
+) -> Result<(), NoMemory>
+    requires agrees { Agrees (⟦<Shelf as Lent>⟧.asked shelf.old) world.old }
+    requires counted { ⟦<Shelf as Lent>⟧.counted shelf.old }
+    requires stands { IsStanding (standing page.old.page) }
+    requires worn { world.old.signals.graph.state.worn < 2 ^ 126 }
+    requires room { most_asked (⟦<Shelf as Lent>⟧.asked shelf.old) < 2 ^ 126 }
+    ensures page { (hosts : Hosts) (slacks : List ℕ) (templates : List Template) → ⟦<Shelf as Lent>⟧.answers hosts shelf.old →
+        IsSound hosts (⟦<Shelf as Lent>⟧.asked shelf.old) world.old → IsShown templates page.old →
+        OnOk result (IsUpdated (environment hosts slacks) (labels_of labels.now)
+        templates (⟦<Shelf as Lent>⟧.asked shelf.old) (⟦<Shelf as Lent>⟧.asked shelf.new)
+        world.old world.new page.old page.new told.old.items told.new.items) }
+    ensures shown { (templates : List Template) → IsShown templates page.old → OnOk result (IsShown templates page.new) }
+    ensures sound { (hosts : Hosts) → ⟦<Shelf as Lent>⟧.answers hosts shelf.old → IsSound hosts (⟦<Shelf as Lent>⟧.asked shelf.old) world.old →
+        OnOk result (IsSound hosts (⟦<Shelf as Lent>⟧.asked shelf.new) world.new) }
+    ensures world { OnOk result (Settles world.old world.new) }
+    ensures agrees { OnOk result (Agrees (⟦<Shelf as Lent>⟧.asked shelf.new) world.new) }
+    ensures stands { OnOk result (IsStanding (standing page.new.page)) }
+    ensures number { OnOk result (page.new.number ≡ page.old.number) }
+    ensures worn { OnOk result (world.new.signals.graph.state.worn ≤ world.old.signals.graph.state.worn + 2 ^ 64) }
+    ensures answers { (hosts : Hosts) → ⟦<Shelf as Lent>⟧.answers hosts shelf.old → OnOk result (⟦<Shelf as Lent>⟧.answers hosts shelf.new) }
+    ensures counted { OnOk result (⟦<Shelf as Lent>⟧.counted shelf.new) }
+    ensures most { OnOk result (most_asked (⟦<Shelf as Lent>⟧.asked shelf.new) ≤ most_asked (⟦<Shelf as Lent>⟧.asked shelf.old) + 2 ^ 71) }
+{
+    let mut notes = Vec::new(*told.allocator());
+    let ops = page
+        .page
+        .update(&mut world.signals.graph, shelf, &mut notes)?;
+    let _count = notes.len();
+    tell_runs(told, &labels.signals, &notes)?;
+    tell_news(told, page, ops)?;
+    Ok(())
+}
+
+/// Brings all pages up to date, in order of mounting, and tells the runs on the way and their news: the operations on each page that has one,
+/// and its HTML behind them.
+///
+/// # Errors
+///
+/// After `NoMemory` world, shelf and pages may only be dropped.
+pub fn bring_all_up(
+    alloc: Global,
+    world: &mut World,
+    shelf: &mut Shelf,
+    labels: &Labels,
+    pages: &mut Vec<Mounted>,
+) -> Result<Vec<Entry>, NoMemory>
+    requires agrees { Agrees (⟦<Shelf as Lent>⟧.asked shelf.old) world.old }
+    requires counted { ⟦<Shelf as Lent>⟧.counted shelf.old }
+    requires stand { AreStanding pages.old.items }
+    requires few { length pages.old.items ≤ MOST_PAGES }
+    requires worn { world.old.signals.graph.state.worn < 2 ^ 125 }
+    requires room { most_asked (⟦<Shelf as Lent>⟧.asked shelf.old) < 2 ^ 125 }
+    ensures pages { (hosts : Hosts) (slacks : List ℕ) (names : Names) (templates : List Template) → ⟦<Shelf as Lent>⟧.answers hosts shelf.old →
+        IsSound hosts (⟦<Shelf as Lent>⟧.asked shelf.old) world.old → AreShown templates pages.old.items →
+        IfOk result (λ es. AreUpdated (environment hosts slacks) names
+        (labels_of labels.now) templates (⟦<Shelf as Lent>⟧.asked shelf.old) (⟦<Shelf as Lent>⟧.asked shelf.new)
+        world.old world.new pages.old.items pages.new.items es.items) }
+    ensures shown { (templates : List Template) → AreShown templates pages.old.items → OnOk result (AreShown templates pages.new.items) }
+    ensures sound { (hosts : Hosts) → ⟦<Shelf as Lent>⟧.answers hosts shelf.old → IsSound hosts (⟦<Shelf as Lent>⟧.asked shelf.old) world.old →
+        OnOk result (IsSound hosts (⟦<Shelf as Lent>⟧.asked shelf.new) world.new) }
+    ensures world { OnOk result (Settles world.old world.new) }
+    ensures agrees { OnOk result (Agrees (⟦<Shelf as Lent>⟧.asked shelf.new) world.new) }
+    ensures numbers { OnOk result (numbers_of pages.new.items ≡ numbers_of pages.old.items) }
+    ensures worn { OnOk result (world.new.signals.graph.state.worn ≤ world.old.signals.graph.state.worn + 2 ^ 68) }
+    ensures answers { (hosts : Hosts) → ⟦<Shelf as Lent>⟧.answers hosts shelf.old → OnOk result (⟦<Shelf as Lent>⟧.answers hosts shelf.new) }
+    ensures counted { OnOk result (⟦<Shelf as Lent>⟧.counted shelf.new) }
+    ensures most { OnOk result (most_asked (⟦<Shelf as Lent>⟧.asked shelf.new) ≤ most_asked (⟦<Shelf as Lent>⟧.asked shelf.old) + 2 ^ 75) }
+{
+    let mut told = Vec::new(alloc);
+    for page in pages.iter_mut() {
+        bring_up(world, shelf, labels, page, &mut told)?;
+    }
+    Ok(told)
+}

@@ -1,0 +1,121 @@
+// Counting items and entries as they come.
+ghost use Rattle.std.specs.Prelude.{◌≡◌, ◌≤◌, ◌+◌, ◌<◌, ◌^◌, [], ◌∷◌, IfOk, if◌then◌else◌};
+ghost use Rattle.std.specs.List.{count_by};
+ghost use Rattle.live_report.specs.Counts.{added, counts_of, is_command, is_op, is_run, page_after, page_with};
+
+use bench_workload::Counts;
+use live_cmd::Item;
+use live_entries::{Entry, PageBytes};
+use sig_base::NoMemory;
+
+// 1 for a command, a block too, and 0 for what is refused.
+fn command_count(item: &Item) -> u128
+    ensures { result ≡ (if is_command item.now then 1 else 0) }
+{
+    match item {
+        Item::Do(_) => 1,
+        Item::Refused(_) => 0,
+    }
+}
+
+// 1 for a run of a computed, and 0 for every other entry.
+fn run_count(entry: &Entry) -> u128
+    ensures { result ≡ (if is_run entry.now then 1 else 0) }
+{
+    match entry {
+        Entry::Run(..) => 1,
+        _ => 0,
+    }
+}
+
+// 1 for an operation on a page, and 0 for every other entry.
+fn op_count(entry: &Entry) -> u128
+    ensures { result ≡ (if is_op entry.now then 1 else 0) }
+{
+    match entry {
+        Entry::Op(..) => 1,
+        _ => 0,
+    }
+}
+
+fn runs_in(entries: &[Entry]) -> u128
+    ensures many { result ≡ count_by is_run entries.now }
+    ensures few { result < 2 ^ 63 }
+{
+    let mut count = 0;
+    for entry in entries {
+        count += run_count(entry);
+    }
+    count
+}
+
+fn ops_in(entries: &[Entry]) -> u128
+    ensures many { result ≡ count_by is_op entries.now }
+    ensures few { result < 2 ^ 63 }
+{
+    let mut count = 0;
+    for entry in entries {
+        count += op_count(entry);
+    }
+    count
+}
+
+/// Nothing is counted.
+pub fn no_counts() -> Counts
+    ensures many { result ≡ counts_of [] [] }
+    ensures few { result.commands + (result.runs + result.ops) ≡ 0 }
+{
+    Counts {
+        commands: 0,
+        runs: 0,
+        ops: 0,
+    }
+}
+
+/// An item is counted too.
+pub fn with_item(counts: Counts, item: &Item) -> Counts
+    requires { counts.commands < 2 ^ 127 }
+    ensures many { result ≡ added counts (counts_of (item.now ∷ []) []) }
+    ensures few { result.commands + (result.runs + result.ops) ≤ counts.commands + (counts.runs + counts.ops) + 1 }
+{
+    Counts {
+        commands: counts.commands + command_count(item),
+        runs: counts.runs,
+        ops: counts.ops,
+    }
+}
+
+/// What an item told is counted too.
+pub fn with_entries(counts: Counts, entries: &[Entry]) -> Counts
+    requires runs { counts.runs < 2 ^ 127 }
+    requires ops { counts.ops < 2 ^ 127 }
+    ensures many { result ≡ added counts (counts_of [] entries.now) }
+    ensures few { result.commands + (result.runs + result.ops) ≤ counts.commands + (counts.runs + counts.ops) + 2 ^ 64 }
+{
+    Counts {
+        commands: counts.commands,
+        runs: counts.runs + runs_in(entries),
+        ops: counts.ops + ops_in(entries),
+    }
+}
+
+// The page as an entry tells it, or else this one.
+fn page_with(page: PageBytes, entry: &Entry) -> Result<PageBytes, NoMemory>
+    ensures { IfOk result (λ p. p ≡ page_with page entry.now) }
+{
+    match entry {
+        Entry::Page(_, told) => told.copy(),
+        _ => Ok(page),
+    }
+}
+
+/// The page that is told last, or else this one.
+pub fn page_after(page: PageBytes, entries: &[Entry]) -> Result<PageBytes, NoMemory>
+    ensures { IfOk result (λ p. p ≡ page_after page entries.now) }
+{
+    let mut last = page;
+    for entry in entries {
+        last = page_with(last, entry)?;
+    }
+    Ok(last)
+}

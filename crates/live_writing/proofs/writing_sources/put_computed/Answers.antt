@@ -1,7 +1,0 @@
-use Rattle.live_writing.proofs.writing_sources.put_computed.Goals as goal
-
-pub returns-in-Formula : goal.returns-in-Formula
-returns-in-Formula c = rw c.in-Formula.is c.put_computed_formula.ensures
-
-pub returns-in-Host : goal.returns-in-Host
-returns-in-Host c = rw c.in-Host.is c.put_computed_host.ensures

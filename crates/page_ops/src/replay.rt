@@ -1,0 +1,81 @@
+// Operations done on a tree.
+ghost use Rattle.std.specs.Prelude.{◌≡◌, MatchResult};
+ghost use Rattle.page_model.specs.Replay as replay;
+ghost use Rattle.page_model.specs.Trees.{Brings};
+ghost use Rattle.page_tree.specs.Queries.{IsDone};
+ghost use Rattle.page_tree.specs.Subs.{insertion, sub_tree};
+ghost use Rattle.page_ops.specs.Ops.{Causes, op_of};
+
+use crate::judge::judge;
+use crate::op::{ApplyFault, Op};
+use page_tree::{Sub, Tree};
+use sig_base::NoMemory;
+use std::alloc::Global;
+
+fn insert(
+    alloc: Global,
+    tree: &mut Tree,
+    parent: u64,
+    place: u64,
+    sub: &Sub,
+) -> Result<(), NoMemory>
+    requires nodes { Brings (insertion parent place (sub_tree sub.now)) }
+    requires fits { IsDone (replay.do_op (insertion parent place (sub_tree sub.now)) tree.old) }
+    ensures { MatchResult result
+        (λ u. replay.do_op (insertion parent place (sub_tree sub.now)) tree.old ≡ replay.Done tree.new)
+        (λ e. tree.new ≡ tree.old) }
+{
+    let copy = sub.copy(alloc)?;
+    tree.insert(alloc, parent, place as usize, copy)?;
+    Ok(())
+}
+
+// Does an operation that isn't refused.
+fn perform(alloc: Global, tree: &mut Tree, op: &Op) -> Result<(), NoMemory>
+    requires nodes { Brings (op_of op.now) }
+    requires fits { IsDone (replay.do_op (op_of op.now) tree.old) }
+    ensures { MatchResult result (λ u. replay.do_op (op_of op.now) tree.old ≡ replay.Done tree.new) (λ e. tree.new ≡ tree.old) }
+{
+    match op {
+        Op::Remove(id) => {
+            tree.remove(*id);
+            Ok(())
+        }
+        Op::Insert(parent, place, sub) => {
+            insert(alloc, tree, *parent, *place, sub)?;
+            Ok(())
+        }
+        Op::Move(id, place) => {
+            tree.move_to(*id, *place as usize);
+            Ok(())
+        }
+        Op::Text(id, text) => {
+            let text = text.copy()?;
+            tree.set_text(*id, text);
+            Ok(())
+        }
+        Op::Attr(id, place, name, value) => {
+            tree.set_attr(*id, *place as usize, name, value)?;
+            Ok(())
+        }
+        Op::Unattr(id, name) => {
+            tree.unset_attr(*id, name);
+            Ok(())
+        }
+    }
+}
+
+/// Does an operation on a tree: what replay makes of it. A refusal says the first cause, and leaves the tree as before, as
+/// does want of memory. It asks that the attribute names of each element that comes are distinct.
+pub fn apply(alloc: Global, tree: &mut Tree, op: &Op) -> Result<(), ApplyFault>
+    requires { Brings (op_of op.now) }
+    ensures { MatchResult result
+        (λ u. replay.do_op (op_of op.now) tree.old ≡ replay.Done tree.new)
+        (λ e. (tree.new ≡ tree.old) × Causes e (replay.do_op (op_of op.now) tree.old)) }
+{
+    if let Some(why) = judge(alloc, tree, op)? {
+        return Err(why);
+    }
+    perform(alloc, tree, op)?;
+    Ok(())
+}

@@ -1,6 +1,0 @@
-use Rattle.std.proofs.Common.{◌≡◌, take}
-use Rattle.sig_effect.specs.Telling.{ids_refused}
-use Rattle.sig_effect.proofs.telling.refused_of.Given as goal
-
-abbrev pub invariant-loop-one : goal.invariant-loop-one
-invariant-loop-one l = l.refused.items ≡ ids_refused (take l.one-index l.told)

@@ -1,0 +1,156 @@
+// Marks that are pushed along sets of dependants, with a stack whose room was reserved beforehand.
+ghost use Rattle.std.specs.Prelude.{◌≡◌, ℕ, ◌+◌, ◌<◌, ◌≤◌, [], ◌∷◌, ◌++◌, length, true, false, is_some, if◌then◌else◌, vec_len, vec_capacity, slice_set};
+ghost use Rattle.std.specs.List.{All};
+ghost use Rattle.sig_store.specs.Stored.{entry};
+ghost use Rattle.sig_marks.specs.Tables.{Spreads, dependants_at, marked_at};
+ghost use Rattle.sig_marks.specs.Sets.{depends_in, keys_of, marks_of, newly_marked, standing_count, stands_of, unmarked_count, with_marks};
+
+use crate::presence::stands_in;
+use indexmap::IndexSet;
+use sig_store::Store;
+
+/// Whether a signal is marked, as what is gone counts; past the last one none is.
+pub(crate) fn is_marked_in(marked: &Store<bool>, id: u128) -> bool
+    ensures { result ≡ marked_at (marks_of marked.now.entries) id }
+{
+    if id >= marked.made() {
+        return false;
+    }
+    match marked.get(id) {
+        Some(mark) => *mark,
+        None => true,
+    }
+}
+
+/// Marks a signal, and tells whether it was marked before. It takes no memory.
+pub(crate) fn mark_one(marked: &mut Store<bool>, id: u128) -> bool
+    requires { id < length marked.old.entries }
+    ensures was { result ≡ marked_at (marks_of marked.old.entries) id }
+    ensures marked { marks_of marked.new.entries ≡ slice_set (marks_of marked.old.entries) id true }
+    ensures stands { stands_of marked.new.entries ≡ stands_of marked.old.entries }
+{
+    if is_marked_in(marked, id) {
+        return true;
+    }
+    *marked.value_mut(id) = true;
+    false
+}
+
+/// Takes the mark of a signal that stands. It takes no memory.
+pub(crate) fn unmark_one(marked: &mut Store<bool>, id: u128)
+    ensures marked { marks_of marked.new.entries ≡
+        (if is_some (entry marked.old.entries id) then slice_set (marks_of marked.old.entries) id false else marks_of marked.old.entries) }
+    ensures stands { stands_of marked.new.entries ≡ stands_of marked.old.entries }
+{
+    if !stands_in(marked, id) {
+        return;
+    }
+    *marked.value_mut(id) = false;
+}
+
+/// Takes what is kept of a signal's mark away; it is one less of those that stand, where it did. It takes no memory.
+pub(crate) fn drop_mark(marked: &mut Store<bool>, live: &mut usize, id: u128)
+    requires { standing_count (stands_of marked.old.entries) ≡ live.old }
+    ensures marked { marks_of marked.new.entries ≡ slice_set (marks_of marked.old.entries) id true }
+    ensures stands { stands_of marked.new.entries ≡ slice_set (stands_of marked.old.entries) id false }
+    ensures count { standing_count (stands_of marked.new.entries) ≡ live.new }
+    ensures fewer { live.new ≤ live.old }
+{
+    if !stands_in(marked, id) {
+        return;
+    }
+    let _mark = marked.remove(id);
+    *live -= 1;
+}
+
+// Marks what isn't marked yet, and puts it on the stack.
+fn mark_reader(marked: &mut Store<bool>, stack: &mut Vec<u128>, reader: u128)
+    requires within { reader < length marked.old.entries }
+    requires room { vec_len stack.old + unmarked_count (marks_of marked.old.entries) ≤ vec_capacity stack.old }
+    ensures marked { marks_of marked.new.entries ≡ slice_set (marks_of marked.old.entries) reader true }
+    ensures stands { stands_of marked.new.entries ≡ stands_of marked.old.entries }
+    ensures stack { stack.new.items ≡ stack.old.items ++ newly_marked (reader ∷ []) (marks_of marked.old.entries) }
+    ensures capacity { vec_capacity stack.old ≤ vec_capacity stack.new }
+    ensures room { vec_len stack.new + unmarked_count (marks_of marked.new.entries) ≤ vec_capacity stack.new }
+    ensures work { length stack.new.items + unmarked_count (marks_of marked.new.entries) ≡
+        length stack.old.items + unmarked_count (marks_of marked.old.entries) }
+    ensures fewer { unmarked_count (marks_of marked.new.entries) ≤ unmarked_count (marks_of marked.old.entries) }
+{
+    if mark_one(marked, reader) {
+        return;
+    }
+    match stack.push(reader) {
+        Ok(_) => {}
+        Err(_) => unreachable!(),
+    }
+}
+
+// The same for several.
+fn mark_each(readers: &[u128], marked: &mut Store<bool>, stack: &mut Vec<u128>)
+    requires within { All (λ d. d < length marked.old.entries) readers.now }
+    requires room { vec_len stack.old + unmarked_count (marks_of marked.old.entries) ≤ vec_capacity stack.old }
+    ensures marked { marks_of marked.new.entries ≡ with_marks readers.now (marks_of marked.old.entries) }
+    ensures stands { stands_of marked.new.entries ≡ stands_of marked.old.entries }
+    ensures stack { stack.new.items ≡ stack.old.items ++ newly_marked readers.now (marks_of marked.old.entries) }
+    ensures capacity { vec_capacity stack.old ≤ vec_capacity stack.new }
+    ensures room { vec_len stack.new + unmarked_count (marks_of marked.new.entries) ≤ vec_capacity stack.new }
+    ensures work { length stack.new.items + unmarked_count (marks_of marked.new.entries) ≡
+        length stack.old.items + unmarked_count (marks_of marked.old.entries) }
+    ensures fewer { unmarked_count (marks_of marked.new.entries) ≤ unmarked_count (marks_of marked.old.entries) }
+{
+    for reader in readers {
+        mark_reader(marked, stack, *reader);
+    }
+}
+
+// The dependants of a signal.
+fn dependants_in(sets: &Store<IndexSet<u128>>, id: u128) -> &[u128]
+    ensures { result.now ≡ dependants_at (keys_of sets.now.entries) id }
+{
+    match sets.get(id) {
+        Some(set) => set.as_slice(),
+        None => &[],
+    }
+}
+
+// The same for the dependants of one signal.
+fn mark_dependants(
+    sets: &Store<IndexSet<u128>>,
+    marked: &mut Store<bool>,
+    stack: &mut Vec<u128>,
+    id: u128,
+)
+    requires within { (m d : ℕ) → depends_in sets.now.entries m d ≡ true → d < length marked.old.entries }
+    requires room { vec_len stack.old + unmarked_count (marks_of marked.old.entries) ≤ vec_capacity stack.old }
+    ensures marked { marks_of marked.new.entries ≡ with_marks (dependants_at (keys_of sets.now.entries) id) (marks_of marked.old.entries) }
+    ensures stands { stands_of marked.new.entries ≡ stands_of marked.old.entries }
+    ensures stack { stack.new.items ≡ stack.old.items ++ newly_marked (dependants_at (keys_of sets.now.entries) id) (marks_of marked.old.entries) }
+    ensures capacity { vec_capacity stack.old ≤ vec_capacity stack.new }
+    ensures room { vec_len stack.new + unmarked_count (marks_of marked.new.entries) ≤ vec_capacity stack.new }
+    ensures work { length stack.new.items + unmarked_count (marks_of marked.new.entries) ≡
+        length stack.old.items + unmarked_count (marks_of marked.old.entries) }
+    ensures fewer { unmarked_count (marks_of marked.new.entries) ≤ unmarked_count (marks_of marked.old.entries) }
+{
+    mark_each(dependants_in(sets, id), marked, stack)
+}
+
+/// Marks the direct and indirect dependants of a signal, as far as they come through unmarked ones. It takes no memory.
+pub(crate) fn spread(
+    sets: &Store<IndexSet<u128>>,
+    marked: &mut Store<bool>,
+    stack: &mut Vec<u128>,
+    id: u128,
+)
+    requires within { (m d : ℕ) → depends_in sets.now.entries m d ≡ true → d < length marked.old.entries }
+    requires empty { stack.old.items ≡ [] }
+    requires room { standing_count (stands_of marked.old.entries) ≤ vec_capacity stack.old }
+    ensures marked { Spreads (keys_of sets.now.entries) (marks_of marked.old.entries) (marks_of marked.new.entries) id }
+    ensures stands { stands_of marked.new.entries ≡ stands_of marked.old.entries }
+    ensures empty { stack.new.items ≡ [] }
+    ensures capacity { vec_capacity stack.old ≤ vec_capacity stack.new }
+{
+    mark_dependants(sets, marked, stack, id);
+    while let Some(next) = stack.pop() {
+        mark_dependants(sets, marked, stack, next);
+    }
+}

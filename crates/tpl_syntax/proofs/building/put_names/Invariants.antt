@@ -1,7 +1,0 @@
-use Rattle.std.proofs.Common.{◌≡◌, drop}
-use Rattle.tpl_syntax.specs.Views.{with_each}
-use Rattle.tpl_syntax.proofs.building.put_names.Given as goal
-
--- with those that are left
-abbrev pub invariant-loop-name : goal.invariant-loop-name
-invariant-loop-name l = with_each l.names.items (drop l.name-index l.others) ≡ with_each l.fn.names.items l.others

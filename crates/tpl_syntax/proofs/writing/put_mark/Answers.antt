@@ -1,4 +1,0 @@
-use Rattle.tpl_syntax.proofs.writing.put_mark.Goals as goal
-
-pub returns-in-Tag : goal.returns-in-Tag
-returns-in-Tag c = rw c.in-Tag.is c.put_element.ensures
