@@ -1,5 +1,6 @@
 // Which names each command uses, in the order of its text.
 ghost use Rattle.std.specs.Prelude.{◌≡◌, ◌++◌, ◌∷◌, IfOk, OnOk, map};
+ghost use Rattle.live_model.specs.declared.names.Kind.TheVariants as kind;
 ghost use Rattle.live_model.specs.declared.names.Need.TheVariants as need;
 ghost use Rattle.live_model.specs.Uses.{need_of, uses_of, uses_of_formula, uses_of_inside, uses_of_source};
 ghost use Rattle.live_uses.specs.Views.{use_of};
@@ -62,6 +63,34 @@ fn put_making<'a>(
     put_inside(uses, inside)
 }
 
+// Puts the names of a computed that is made.
+fn put_computed<'a>(
+    uses: &mut Vec<Use<'a>>,
+    name: &'a Name,
+    source: &'a SourceText,
+    inside: &'a Option<Name>,
+) -> Result<(), NoMemory>
+    ensures { OnOk result (map use_of uses.new.items ≡ map use_of uses.old.items ++ (name.now, need.New) ∷ uses_of_source source.now ++ uses_of_inside inside.now) }
+{
+    put_use(uses, name, Need::New)?;
+    put_source(uses, source)?;
+    put_inside(uses, inside)
+}
+
+// Puts the names of a page that is mounted.
+fn put_mount<'a>(
+    uses: &mut Vec<Use<'a>>,
+    name: &'a Name,
+    template: &'a Name,
+    inside: &'a Option<Name>,
+) -> Result<(), NoMemory>
+    ensures { OnOk result (map use_of uses.new.items ≡ map use_of uses.old.items ++ (name.now, need.New) ∷ (template.now, need.Of kind.Template) ∷ uses_of_inside inside.now) }
+{
+    put_use(uses, name, Need::New)?;
+    put_use(uses, template, Need::Of(Kind::Template))?;
+    put_inside(uses, inside)
+}
+
 fn put_uses<'a>(uses: &mut Vec<Use<'a>>, command: &'a Command) -> Result<(), NoMemory>
     ensures { OnOk result (map use_of uses.new.items ≡ map use_of uses.old.items ++ uses_of command.now) }
 {
@@ -74,11 +103,7 @@ fn put_uses<'a>(uses: &mut Vec<Use<'a>>, command: &'a Command) -> Result<(), NoM
             name,
             source,
             inside,
-        } => {
-            put_use(uses, name, Need::New)?;
-            put_source(uses, source)?;
-            put_inside(uses, inside)
-        }
+        } => put_computed(uses, name, source, inside),
         Command::Rewire { name, source } => {
             put_use(uses, name, Need::Of(Kind::Computed))?;
             put_source(uses, source)
@@ -102,11 +127,7 @@ fn put_uses<'a>(uses: &mut Vec<Use<'a>>, command: &'a Command) -> Result<(), NoM
             name,
             template,
             inside,
-        } => {
-            put_use(uses, name, Need::New)?;
-            put_use(uses, template, Need::Of(Kind::Template))?;
-            put_inside(uses, inside)
-        }
+        } => put_mount(uses, name, template, inside),
         Command::Named { verb, name } => put_use(uses, name, need_of(*verb)),
         Command::Bare(_) => Ok(()),
     }
