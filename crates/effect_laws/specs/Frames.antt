@@ -6,16 +6,12 @@ use Rattle.effect_model.specs.Worlds.{Effect, World}
 
 -- the signals of a world, with their watchers and host formulas, in a world where nothing else was made and nothing was told
 abbrev pub signal_part : World → World
-signal_part w = record {
-  signals = w.signals;
-  memos = w.memos;
-  host_states = w.host_states;
-  watchers = w.watchers;
+signal_part w = record w {
   owners = [];
   effects = [];
   pages = [];
   owned = nothing;
-  made = record { signals = w.made.signals; owners = 0; effects = 0; pages = 0; watchers = w.made.watchers };
+  made = record (w.made) { owners = 0; effects = 0; pages = 0 };
   told = [];
 }
 

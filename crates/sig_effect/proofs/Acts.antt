@@ -8,11 +8,10 @@ use Rattle.signal_model.specs.Changes.{with_cell, with_computed}
 use Rattle.signal_model.specs.Kept.{AreKept}
 use Rattle.signal_model.proofs.Shared.{tested}
 use Rattle.signal_laws.proofs.Shared.{cell_law, computed_law}
-use Rattle.effect_model.specs.Owners.{nothing}
 use Rattle.effect_model.specs.Worlds as plain
 use Rattle.effect_model.specs.Worlds.{HostState, Refused, dropped_host, lives, used, unused}
 use Rattle.effect_model.specs.Acts.{host_of, host_refused, is_free, with_use}
-use Rattle.effect_model.specs.Commands.{with_new_cell, with_new_computed}
+use Rattle.effect_model.specs.Commands.{new_world, with_new_cell, with_new_computed}
 use Rattle.effect_model.specs.Watchers.{at_rest}
 use Rattle.sig_host.specs.Hosts.{HostPlace, count_at, is_there as is_there_at}
 use Rattle.sig_nodes.specs.Answers.{host_here, uses_host}
@@ -38,24 +37,12 @@ pub record IsWhole (asked : List HostPlace) (g : Seen) (t : Table) (w : plain.Wo
   pub memos : g.state.memos ≡ w.memos
   pub states : host_states (uses_host g.state.signals) 0 asked ≡ w.host_states
   pub watchers : t.watchers ≡ w.watchers
-  pub owners : [] ≡ w.owners
-  pub effects : [] ≡ w.effects
-  pub pages : [] ≡ w.pages
-  pub made : record { signals = g.given; owners = 0; effects = 0; pages = 0; watchers = t.made } ≡ w.made
+  pub made : record ((new_world 0).made) { signals = g.given; watchers = t.made } ≡ w.made
+  pub rest : record (new_world 0) { signals = w.signals; memos = w.memos; host_states = w.host_states; watchers = w.watchers; made = w.made } ≡ at_rest w
 
 pub whole_is : (asked : List HostPlace) (g : Seen) (t : Table) (w : plain.World) → IsWhole asked g t w → whole asked g t ≡ at_rest w
-whole_is asked g t w h = λ i. record {
-  signals = h.signals i;
-  memos = h.memos i;
-  host_states = h.states i;
-  watchers = h.watchers i;
-  owners = h.owners i;
-  effects = h.effects i;
-  pages = h.pages i;
-  owned = nothing;
-  made = h.made i;
-  told = [];
-}
+whole_is asked g t w h =
+    (λ i. record (new_world 0) { signals = h.signals i; memos = h.memos i; host_states = h.states i; watchers = h.watchers i; made = h.made i }) ∙ h.rest
 
 -- an act that comes to a plain world that the stores stand for
 pub does_by : (hosts : Hosts) (asked later : List HostPlace) (old new : World) (before after : List Event) (act : plain.World → plain.World) (w : plain.World) →
@@ -86,10 +73,8 @@ cell_does hosts asked old new value rule id m same sound =
       memos = ap (λ (s : State). s.memos) m.state ∙ ap (λ (n : ℕ). (states.with_new_cell old.graph.state (record { name = n; value = value; rule = rule })).memos) m.id;
       states = ap (λ (v : Signals). host_states (uses_host v) 0 asked) signals;
       watchers = ap (λ (t : Table). t.watchers) same;
-      owners = refl;
-      effects = refl;
-      pages = refl;
-      made = λ i. record { signals = m.given i; owners = 0; effects = 0; pages = 0; watchers = (same i).made };
+      made = λ i. record ((new_world 0).made) { signals = m.given i; watchers = (same i).made };
+      rest = refl;
     })
     (tells_none [])
     (record {
@@ -192,10 +177,8 @@ computed_does hosts asked old new r id m same a free sound =
       memos = ap (λ (s : State). s.memos) m.state ∙ ap (λ (n : ℕ). (states.with_new_computed old.graph.state (record { name = n; recipe = r })).memos) m.id;
       states = ap (λ (v : Signals). host_states (uses_host v) 0 asked) signals ∙ states_after w (with_computed w c) id None (host_of r.expression) asked edit a.there fresh;
       watchers = ap (λ (t : Table). t.watchers) same;
-      owners = refl;
-      effects = refl;
-      pages = refl;
-      made = λ i. record { signals = m.given i; owners = 0; effects = 0; pages = 0; watchers = (same i).made };
+      made = λ i. record ((new_world 0).made) { signals = m.given i; watchers = (same i).made };
+      rest = refl;
     })
     (tells_none [])
     (record {

@@ -6,6 +6,7 @@ use Rattle.signal_model.specs.Kept.{AreKept}
 use Rattle.signal_model.specs.Settling.{Run, settled}
 use Rattle.signal_model.specs.Asks.{Moment, asks_host, asks_in, asks_of, good_reads, is_host, moments}
 use Rattle.signal_model.proofs.Shared.{tested}
+use Rattle.effect_model.specs.Commands.{new_world}
 use Rattle.effect_model.specs.Worlds as plain
 use Rattle.effect_model.specs.Worlds.{HostState, asked_by, asked_more, ran}
 use Rattle.sig_host.specs.Hosts.{HostPlace, count_at, is_there, place_after, places_after, place_at}
@@ -116,10 +117,8 @@ settle_does hosts slacks asked later old new names notes before after signals gi
       memos = settling.memos;
       states = (λ i. host_states (uses_host (signals i)) 0 (asking.places i)) ∙ states_asked (uses_host w) (moments w runs) 0 asked;
       watchers = ap (λ (t : Table). t.watchers) same;
-      owners = refl;
-      effects = refl;
-      pages = refl;
-      made = λ i. record { signals = given i; owners = 0; effects = 0; pages = 0; watchers = (same i).made };
+      made = λ i. record ((new_world 0).made) { signals = given i; watchers = (same i).made };
+      rest = refl;
     })
     (record { more = map event.Run notes; behind = told; each = runs_told w notes runs settling.notes })
     (record {

@@ -15,6 +15,7 @@ use Rattle.effect_model.specs.Owners.{the_signal, the_watcher}
 use Rattle.effect_model.specs.Worlds as plain
 use Rattle.effect_model.specs.Worlds.{Environment, HostState, Watcher, dropped_host, watcher_numbers}
 use Rattle.effect_model.specs.Acts.{are_alike, asks_so_far, dispose_thing, forget, frozen_by, host_of, host_refused, is_notified, notified_by, or_refused, rewire_signal, rewire_standing, rewiring_refused, set_cell, set_standing, some_gone, told_frozen, told_of, waiting_if, with_drop, with_new_value, with_use, without_node, end_standing}
+use Rattle.effect_model.specs.Commands.{new_world}
 use Rattle.sig_host.specs.Hosts.{HostPlace, count_at, most_asked}
 use Rattle.sig_host.proofs.Shared.{most_asked-dropped}
 use Rattle.sig_nodes.specs.Answers.{host_here, host_place, uses_host}
@@ -165,10 +166,8 @@ rewire_does hosts asked old new before after n r c stands there b same a free to
       states = ap (λ (v : Signals). host_states (uses_host v) 0 (dropped_if left asked)) signals
           ∙ states_after w (with_recipe w n r) n left (host_of r.expression) asked edit a.there fresh;
       watchers = ap (λ (t : Table). t.watchers) same;
-      owners = refl;
-      effects = refl;
-      pages = refl;
-      made = λ i. record { signals = b.given i; owners = 0; effects = 0; pages = 0; watchers = (same i).made };
+      made = λ i. record ((new_world 0).made) { signals = b.given i; watchers = (same i).made };
+      rest = refl;
     })
     (drop_tells left asked (use_states (host_of r.expression) (host_states (uses_host w) 0 asked)) before after
     (left_count w (with_recipe w n r) n left (host_of r.expression) asked edit a.there) told)
@@ -270,10 +269,8 @@ dispose_does hosts slacks asked old new before after n there b same a told sound
       states = ap (λ (v : Signals). host_states (uses_host v) 0 (dropped_if left asked)) signals
           ∙ states_after w (without_signal w n) n left None asked edit a.there (λ k e. absurd (none_some k e));
       watchers = ap (λ (t : Table). t.watchers) same;
-      owners = refl;
-      effects = refl;
-      pages = refl;
-      made = λ i. record { signals = b.given i; owners = 0; effects = 0; pages = 0; watchers = (same i).made };
+      made = λ i. record ((new_world 0).made) { signals = b.given i; watchers = (same i).made };
+      rest = refl;
     })
     (tells_behind before (before ++ drop_events left asked) after (drop_told left ss) (event.Gone (thing.Signal n)) (plain.gone (the_signal n))
     (drop_tells left asked ss before (before ++ drop_events left asked) (left_count w (without_signal w n) n left None asked edit a.there) refl) refl told)
@@ -314,10 +311,8 @@ remove_does hosts slacks asked old new before after n there same removed told so
       memos = ap (λ (g : Seen). g.state.memos) same;
       states = ap (λ (g : Seen). host_states (uses_host g.state.signals) 0 asked) same;
       watchers = ap (λ (t : Table). t.watchers) removed;
-      owners = refl;
-      effects = refl;
-      pages = refl;
-      made = λ i. record { signals = (same i).given; owners = 0; effects = 0; pages = 0; watchers = (removed i).made };
+      made = λ i. record ((new_world 0).made) { signals = (same i).given; watchers = (removed i).made };
+      rest = refl;
     })
     (record { more = event.Gone (thing.Watcher n) ∷ []; behind = told; each = (refl, tt) })
     (record {
@@ -401,10 +396,8 @@ same_does hosts slacks asked old new before after n v alike same told sound =
       memos = refl;
       states = refl;
       watchers = refl;
-      owners = refl;
-      effects = refl;
-      pages = refl;
       made = refl;
+      rest = refl;
     }))
     (subst (λ es. Tells before es []) (sym told) (tells_none before))
     (subst (λ (x : World). IsSound hosts asked x) (sym same) sound)
@@ -427,10 +420,8 @@ set_does hosts slacks asked old new before after n v c stands alike b same notic
       memos = memos;
       states = ap (λ (x : Signals). host_states (uses_host x) 0 asked) signals;
       watchers = ap (λ (t : Table). t.watchers) same ∙ (λ i. map (waiting_if (is_notified (signals i) (memos i) n)) old.watchers.watchers);
-      owners = refl;
-      effects = refl;
-      pages = refl;
-      made = λ i. record { signals = b.given i; owners = 0; effects = 0; pages = 0; watchers = (same i).made };
+      made = λ i. record ((new_world 0).made) { signals = b.given i; watchers = (same i).made };
+      rest = refl;
     })
     (notices_tell xs before after (subst (λ x. x) (λ i. AreNotices (map told_entry (notified_by (signals i) (memos i) n old.watchers.watchers)) before after) notices))
     (record {

@@ -14,17 +14,12 @@ use Rattle.sig_effect.proofs.HostStates.{states_new}
 
 pub new_whole : (asked : List HostPlace) (g : Seen) (t : Table) → g.state ≡ no_state → g.given ≡ 0 → t ≡ no_watchers → AreNew asked →
     whole_of asked (record { graph = g; watchers = t }) ≡ new_world (length asked)
-new_whole asked g t state given empty new = λ i. record {
+new_whole asked g t state given empty new = λ i. record (new_world (length asked)) {
   signals = (state i).signals;
   memos = (state i).memos;
   host_states = (ap (λ (s : State). host_states (uses_host s.signals) 0 asked) state ∙ states_new (uses_host no_state.signals) 0 asked (λ j. refl) new) i;
   watchers = (empty i).watchers;
-  owners = [];
-  effects = [];
-  pages = [];
-  owned = (new_world (length asked)).owned;
-  made = record { signals = given i; owners = 0; effects = 0; pages = 0; watchers = (empty i).made };
-  told = [];
+  made = record ((new_world 0).made) { signals = given i; watchers = (empty i).made };
 }
 
 never_asked : (asked : List HostPlace) (k : ℕ) → AreNew asked → count_at asked k ≡ 0

@@ -1,6 +1,6 @@
 -- The plain world that the stores stand for.
 use Rattle.std.specs.Prelude.{ℕ, suc, Bool, List, [], ◌∷◌, if◌then◌else◌}
-use Rattle.effect_model.specs.Owners.{nothing}
+use Rattle.effect_model.specs.Commands.{new_world}
 use Rattle.effect_model.specs.Worlds as plain
 use Rattle.effect_model.specs.Worlds.{HostState, unused, used, dropped}
 use Rattle.sig_host.specs.Hosts.{HostPlace}
@@ -20,17 +20,12 @@ host_states uses place (p ∷ ps) = host_state (uses place) p ∷ host_states us
 
 -- a graph, watchers, and what is known of the places of host formulas, as a plain world at rest in which nothing else was made
 abbrev pub whole : List HostPlace → Seen → Table → plain.World
-whole asked g t = record {
+whole asked g t = record (new_world 0) {
   signals = g.state.signals;
   memos = g.state.memos;
   host_states = host_states (uses_host g.state.signals) 0 asked;
   watchers = t.watchers;
-  owners = [];
-  effects = [];
-  pages = [];
-  owned = nothing;
-  made = record { signals = g.given; owners = 0; effects = 0; pages = 0; watchers = t.made };
-  told = [];
+  made = record ((new_world 0).made) { signals = g.given; watchers = t.made };
 }
 
 -- the plain world that a world stands for, beside what is known of the places of host formulas
