@@ -83,17 +83,24 @@ fn once(alloc: Global, memo: PageMemo) -> Result<Vec<PageMemo>, NoMemory>
     Ok(memos)
 }
 
+// The parts of lines.
+fn parted(head: Box<Head>, inside: Vec<PageMemo>, later: Box<PageMemo>) -> Parts
+    ensures { result ≡ record { head = head; inside = inside; later = later } }
+{
+    Parts {
+        head,
+        inside,
+        later,
+    }
+}
+
 // The parts of no lines.
 fn nothing(alloc: Global) -> Result<Parts, NoMemory>
     ensures { IfOk result (λ p. p.head.value ≡ head.Nothing) }
 {
     let head = Box::new(alloc, Head::Nothing)?;
     let later = Box::new(alloc, PageMemo::blank())?;
-    Ok(Parts {
-        head,
-        inside: Vec::new(alloc),
-        later,
-    })
+    Ok(parted(head, Vec::new(alloc), later))
 }
 
 /// Takes what was kept of lines apart.
@@ -107,37 +114,21 @@ pub(crate) fn apart(alloc: Global, memo: Box<PageMemo>) -> Result<Parts, NoMemor
     match Box::into_inner(memo) {
         PageMemo::Line(line, later) => {
             let head = Box::new(alloc, Head::Text(line))?;
-            Ok(Parts {
-                head,
-                inside: Vec::new(alloc),
-                later,
-            })
+            Ok(parted(head, Vec::new(alloc), later))
         }
         PageMemo::Element(all, inside, later) => {
             let head = Box::new(alloc, Head::Tag(all))?;
             let inside = once(alloc, Box::into_inner(inside))?;
-            Ok(Parts {
-                head,
-                inside,
-                later,
-            })
+            Ok(parted(head, inside, later))
         }
         PageMemo::Branch(test, inside, later) => {
             let head = Box::new(alloc, Head::Choice(test))?;
             let inside = once(alloc, Box::into_inner(inside))?;
-            Ok(Parts {
-                head,
-                inside,
-                later,
-            })
+            Ok(parted(head, inside, later))
         }
         PageMemo::Loop(rows, inside, later) => {
             let head = Box::new(alloc, Head::Each(rows))?;
-            Ok(Parts {
-                head,
-                inside,
-                later,
-            })
+            Ok(parted(head, inside, later))
         }
         PageMemo::Blank => {
             let parts = nothing(alloc)?;

@@ -9,13 +9,13 @@ use Rattle.tpl_renewing.proofs.parts.apart.Goals as goal
 
 pub returns-in_ok-head-in-Line : goal.returns-in_ok-head-in-Line
 returns-in_ok-head-in-Line c = λ u.
-    rw c.in_ok-head-in-Line.ensures.ok
+    rw (c.parted.ensures, c.in_ok-head-in-Line.ensures.ok)
     (line_apart (kept (box_value c.args.memo)) (heard_of c.in-Line.line) (kept (box_value c.in-Line.later)) (kept (box_value c.in-Line.later))
     (ap kept (sym c.into_inner.ensures ∙ c.in-Line.is) ∙ kept_line c.in-Line.line c.in-Line.later) refl)
 
 pub returns-in_ok-inside-in-Element : goal.returns-in_ok-inside-in-Element
 returns-in_ok-inside-in-Element c = λ u.
-    rw c.in_ok-head-in-Element.ensures.ok
+    rw (c.parted-in-Element.ensures, c.in_ok-head-in-Element.ensures.ok)
     (element_apart (kept (box_value c.args.memo)) (map heard_of c.in-Element.all.items) (kept (box_value c.in-Element.inside))
     (kept (box_value c.in-Element.later)) (map kept c.in_ok-inside-in-Element.inside.items) (kept (box_value c.in-Element.later))
     (ap kept (sym c.into_inner.ensures ∙ c.in-Element.is) ∙ kept_element c.in-Element.all c.in-Element.inside c.in-Element.later)
@@ -23,7 +23,7 @@ returns-in_ok-inside-in-Element c = λ u.
 
 pub returns-in_ok-inside-in-Branch : goal.returns-in_ok-inside-in-Branch
 returns-in_ok-inside-in-Branch c = λ u.
-    rw c.in_ok-head-in-Branch.ensures.ok
+    rw (c.parted-in-Branch.ensures, c.in_ok-head-in-Branch.ensures.ok)
     (branch_apart (kept (box_value c.args.memo)) (heard_of c.in-Branch.test) (kept (box_value c.in-Branch.inside)) (kept (box_value c.in-Branch.later))
     (map kept c.in_ok-inside-in-Branch.inside.items) (kept (box_value c.in-Branch.later))
     (ap kept (sym c.into_inner.ensures ∙ c.in-Branch.is) ∙ kept_branch c.in-Branch.test c.in-Branch.inside c.in-Branch.later)
@@ -31,7 +31,7 @@ returns-in_ok-inside-in-Branch c = λ u.
 
 pub returns-in_ok-head-in-Loop : goal.returns-in_ok-head-in-Loop
 returns-in_ok-head-in-Loop c = λ u.
-    rw c.in_ok-head-in-Loop.ensures.ok
+    rw (c.parted-in-Loop.ensures, c.in_ok-head-in-Loop.ensures.ok)
     (loop_apart (kept (box_value c.args.memo)) (heard_of c.in-Loop.rows) (map kept c.in-Loop.inside.items) (kept (box_value c.in-Loop.later))
     (kept (box_value c.in-Loop.later)) (ap kept (sym c.into_inner.ensures ∙ c.in-Loop.is) ∙ kept_loop c.in-Loop.rows c.in-Loop.inside c.in-Loop.later) refl)
 
