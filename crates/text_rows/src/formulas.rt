@@ -182,6 +182,23 @@ fn keeps_canonical_texts(rt: HostRuntime) {
             "\"\"",
             "true",
             "false and truth",
+            "untrack(a + b) * c",
+            "untrack(untrack(if a then 1 else 2))",
+            "if a then b else c ++ d",
+            "(if a then b else c) ++ d",
+            "if if a then b else c then d else if e then f else g",
+            "not (if a then b else c)",
+        ],
+    );
+}
+
+#[test]
+fn keeps_canonical_operators(rt: HostRuntime) {
+    let alloc = rt.alloc();
+    assert_keeps(
+        &rt,
+        alloc,
+        &[
             "a - -1",
             "a - b - c",
             "a - (b - c)",
@@ -196,10 +213,6 @@ fn keeps_canonical_texts(rt: HostRuntime) {
             "not a == b",
             "(not a) == b",
             "not (a and b) or c",
-            "if a then b else c ++ d",
-            "(if a then b else c) ++ d",
-            "if if a then b else c then d else if e then f else g",
-            "not (if a then b else c)",
             "(a < b) == c",
             "a + b * c - d % e",
             "(a + b) * (c - d) / e",
@@ -208,8 +221,6 @@ fn keeps_canonical_texts(rt: HostRuntime) {
             "a or b and c or d",
             "(a or b) and c",
             "a != b and c <= d and e >= f and g > h",
-            "untrack(a + b) * c",
-            "untrack(untrack(if a then 1 else 2))",
         ],
     );
 }
