@@ -158,20 +158,15 @@ disposed_steps hosts env asked later m new entries o thing is s = subst (λ (x :
 
 -- the same, where the pages that ended are dropped
 pub pages_steps : (hosts : Hosts) (later : List HostPlace) (m new : Machine) (entries : List Entry) (next : plain.Told) →
-    Steps hosts later m entries next → new.names ≡ m.names → new.labels ≡ m.labels → new.world ≡ m.world → new.templates ≡ m.templates →
+    Steps hosts later m entries next → new ≡ record m { pages = new.pages } →
     new.pages.items ≡ filter (λ (p : Mounted). is_in p.number m.world.tables.pages.items) m.pages.items →
     Steps hosts later new entries (reached (with_live_pages next.machine) next.entries)
-pages_steps hosts later m new entries next s names labels world templates pages = record {
+pages_steps hosts later m new entries next s parts pages = record {
   step =
-      (λ i. reached (record {
-        names = names i;
-        labels = labels_of (labels i);
-        world = whole_of later (world i);
-        templates = (ap (λ v. map template_of v.items) templates) i;
-        pages = (ap (map page_of) pages ∙ plain_filtered m.world.tables.pages.items m.pages.items) i;
-      }) entries)
+      ap (λ (x : Machine). reached (plain_of later x) entries) parts
+      ∙ (λ i. reached (record (plain_of later m) { pages = (ap (map page_of) pages ∙ plain_filtered m.world.tables.pages.items m.pages.items) i }) entries)
       ∙ ap (λ (t : plain.Told). reached (with_live_pages t.machine) t.entries) s.step;
-  sound = subst (IsSound hosts later) (sym world) s.sound;
+  sound = subst (λ (x : Machine). IsSound hosts later x.world) (sym parts) s.sound;
 }
 
 -- what is told of an act, and one entry behind it

@@ -18,7 +18,7 @@ use Rattle.live_model.specs.declared.names.Kind.TheVariants as kind
 use Rattle.live_model.specs.Labels as called
 use Rattle.live_model.specs.Machine as plain
 use Rattle.live_model.specs.Machine.{reached, with_name}
-use Rattle.live_model.specs.Names.{is_signal, same_kind}
+use Rattle.live_model.specs.Names.{Names, is_signal, same_kind}
 use Rattle.live_labels.specs.Views.{labels_of}
 use Rattle.tpl_blocks.specs.Blocks.{lines_of}
 use Rattle.tpl_live.specs.Pages.{Stands as PageStands}
@@ -27,8 +27,8 @@ use Rattle.tpl_model.specs.Laws.{IsTemplate}
 use Rattle.live_model.specs.Pages.{template_in, Template}
 use Rattle.live_pages.specs.declared.mounted.LinkedTemplate.{LinkedTemplate}
 use Rattle.live_pages.specs.declared.mounted.Mounted.{Mounted}
-use Rattle.live_pages.specs.Updates.{AreShown, ArePages, AreTemplates}
-use Rattle.live_pages.specs.Views.{page_of, template_of}
+use Rattle.live_pages.specs.Updates.{AreShown, AreTemplates}
+use Rattle.live_pages.specs.Views.{template_of}
 use Rattle.live_pages.proofs.Shared.{pages_kept}
 use Rattle.live_core.specs.declared.machine.Machine.{Machine}
 use Rattle.live_core.specs.Consistency.{is_of_kind, AreMeant, WorldAgrees, IsReady, Leaves, Steps}
@@ -38,27 +38,26 @@ use Rattle.live_core.proofs.OfKind.{cell_kind, computed_kind}
 
 -- ---- makings
 
--- What was made has a name, and nothing else changed but the world.
-pub record IsNamed (m new : Machine) (n : List ℕ) (k : Kind) (id : ℕ) (ls : called.Labels) : Type 0 where
+-- What was made has a name, and nothing else changed but the world, which has come to this.
+pub record IsNamed (m new : Machine) (w : World) (n : List ℕ) (k : Kind) (id : ℕ) (ls : called.Labels) : Type 0 where
   pub names : new.names ≡ m.names ++ (n, record { kind = k; number = id }) ∷ []
   pub labels : labels_of new.labels ≡ ls
-  pub templates : new.templates ≡ m.templates
-  pub pages : new.pages ≡ m.pages
+  pub parts : new ≡ record m { names = new.names; labels = new.labels; world = w }
 
 -- what the plain machine comes to
-pub steps_named : (hosts : Hosts) (asked : List HostPlace) (m new : Machine) (n : List ℕ) (k : Kind) (id number : ℕ) (labels : called.Labels) (w : told.World) (es : List Entry) →
-    id ≡ number → whole_of asked new.world ≡ at_rest w → IsNamed m new n k id labels → es ≡ [] → IsSound hosts asked new.world →
-    Steps hosts asked new es (reached (with_name (plain.with_labels (plain_of asked m) labels w) n k number) [])
-steps_named hosts asked m new n k id number labels w es same whole named none sound = record {
-  step = (λ i. reached (record {
-    names = (named.names ∙ ap (λ (x : ℕ). m.names ++ (n, record { kind = k; number = x }) ∷ []) same) i;
-    labels = named.labels i;
-    world = whole i;
-    templates = (ap (λ v. map template_of v.items) named.templates) i;
-    pages = (ap (λ v. map page_of v.items) named.pages) i;
-  }) (none i));
-  sound = sound;
-}
+pub steps_named : (hosts : Hosts) (asked : List HostPlace) (m new : Machine) (w : World) (n : List ℕ) (k : Kind) (id number : ℕ) (labels : called.Labels) (made : told.World) (es : List Entry) →
+    id ≡ number → whole_of asked w ≡ at_rest made → IsNamed m new w n k id labels → es ≡ [] → IsSound hosts asked w →
+    Steps hosts asked new es (reached (with_name (plain.with_labels (plain_of asked m) labels made) n k number) [])
+steps_named hosts asked m new w n k id number labels made es same whole named none sound =
+    subst (λ (x : Machine). Steps hosts asked x es (reached (with_name (plain.with_labels (plain_of asked m) labels made) n k number) [])) (sym named.parts)
+    (record {
+      step = (λ i. reached (record (plain_of asked m) {
+        names = (named.names ∙ ap (λ (x : ℕ). m.names ++ (n, record { kind = k; number = x }) ∷ []) same) i;
+        labels = named.labels i;
+        world = whole i;
+      }) (none i));
+      sound = sound;
+    })
 
 -- what the plain world has of pages and watchers is as before
 pub record Beside (v w : World) : Type 0 where
@@ -67,27 +66,28 @@ pub record Beside (v w : World) : Type 0 where
   pub paged : w.tables.pages_made ≡ v.tables.pages_made
 
 -- what a making of a signal leaves
-pub leaves_signal : (asked : List HostPlace) (rules : ℕ) (m new : Machine) (n : List ℕ) (k : Kind) (id : ℕ) (labels : called.Labels) → IsReady m →
-    same_kind kind.Template k ≡ false → id ≡ m.world.signals.graph.given → IsNamed m new n k id labels →
-    labels.watchers ≡ m.labels.watchers.items → labels.pages ≡ m.labels.pages.items → Beside m.world new.world →
-    new.world.signals.graph.given ≡ m.world.signals.graph.given + 1 →
-    ((x : ℕ) → (x == m.world.signals.graph.given) ≡ false → standing new.world.signals.graph.state.signals x ≡ standing m.world.signals.graph.state.signals x) →
-    is_of_kind k (standing new.world.signals.graph.state.signals m.world.signals.graph.given) ≡ true → weight new.world ≤ weight m.world + 2 ^ 80 →
-    (WorldAgrees asked rules m.world → WorldAgrees asked rules new.world) → Leaves asked asked rules m new
-leaves_signal asked rules m new n k id labels r off number named watchers pages stays given beside here few holds = record {
-  ready = record {
-    watchers = stays.watchers ∙ r.watchers ∙ ap length (sym (ap (λ (l : called.Labels). l.watchers) named.labels ∙ watchers));
-    paged = stays.paged ∙ r.paged ∙ ap length (sym (ap (λ (l : called.Labels). l.pages) named.labels ∙ pages));
-    meant = subst (λ x. x) (λ i. AreMeant new.world (length (sym named.templates i).items)
-        (sym (named.names ∙ ap (λ (x : ℕ). m.names ++ (n, record { kind = k; number = x }) ∷ []) number) i))
-        (meant_made m.world new.world _ m.names n k off given beside here r.meant);
-    templates = subst (λ v. AreTemplates v.items) (sym named.templates) r.templates;
-    shown = subst (λ x. x) (λ i. AreShown (map template_of (sym named.templates i).items) (sym named.pages i).items) r.shown;
-    pages = subst (λ v. ArePages new.world v.items) (sym named.pages) (pages_kept m.world new.world m.pages.items m.pages.items refl stays.pages stays.paged r.pages);
-  };
-  holds = holds;
-  weight = few;
-}
+pub leaves_signal : (asked : List HostPlace) (rules : ℕ) (m new : Machine) (w : World) (n : List ℕ) (k : Kind) (id : ℕ) (labels : called.Labels) → IsReady m →
+    same_kind kind.Template k ≡ false → id ≡ m.world.signals.graph.given → IsNamed m new w n k id labels →
+    labels.watchers ≡ m.labels.watchers.items → labels.pages ≡ m.labels.pages.items → Beside m.world w →
+    w.signals.graph.given ≡ m.world.signals.graph.given + 1 →
+    ((x : ℕ) → (x == m.world.signals.graph.given) ≡ false → standing w.signals.graph.state.signals x ≡ standing m.world.signals.graph.state.signals x) →
+    is_of_kind k (standing w.signals.graph.state.signals m.world.signals.graph.given) ≡ true → weight w ≤ weight m.world + 2 ^ 80 →
+    (WorldAgrees asked rules m.world → WorldAgrees asked rules w) → Leaves asked asked rules m new
+leaves_signal asked rules m new w n k id labels r off number named watchers pages stays given beside here few holds =
+    subst (λ (x : Machine). Leaves asked asked rules m x) (sym named.parts) (record {
+      ready = record {
+        watchers = stays.watchers ∙ r.watchers ∙ ap length (sym (ap (λ (l : called.Labels). l.watchers) named.labels ∙ watchers));
+        paged = stays.paged ∙ r.paged ∙ ap length (sym (ap (λ (l : called.Labels). l.pages) named.labels ∙ pages));
+        meant = subst (λ (names : Names). AreMeant w (length m.templates.items) names)
+            (sym (named.names ∙ ap (λ (x : ℕ). m.names ++ (n, record { kind = k; number = x }) ∷ []) number))
+            (meant_made m.world w _ m.names n k off given beside here r.meant);
+        templates = r.templates;
+        shown = r.shown;
+        pages = pages_kept m.world w m.pages.items m.pages.items refl stays.pages stays.paged r.pages;
+      };
+      holds = holds;
+      weight = few;
+    })
 
 -- signals beside a new cell, and the new one
 pub beside_cell : (w v : Signals) (c : Cell) → v ≡ with_cell w c → (x : ℕ) → (x == c.name) ≡ false → standing v x ≡ standing w x
@@ -127,25 +127,26 @@ pub other_watcher : IsOther kind.Watcher
 other_watcher = record { signal = refl; fits = λ s. refl; template = λ e. cc }
 
 -- what a making of an owner or of an effect leaves, where signals are as before
-pub leaves_other : (asked : List HostPlace) (rules : ℕ) (m new : Machine) (n : List ℕ) (k : Kind) (id : ℕ) (labels : called.Labels) → IsReady m →
-    IsOther k → IsNamed m new n k id labels → labels.watchers ≡ m.labels.watchers.items → labels.pages ≡ m.labels.pages.items → Beside m.world new.world →
-    new.world.signals ≡ m.world.signals → weight new.world ≤ weight m.world + 2 ^ 80 → (WorldAgrees asked rules m.world → WorldAgrees asked rules new.world) →
+pub leaves_other : (asked : List HostPlace) (rules : ℕ) (m new : Machine) (w : World) (n : List ℕ) (k : Kind) (id : ℕ) (labels : called.Labels) → IsReady m →
+    IsOther k → IsNamed m new w n k id labels → labels.watchers ≡ m.labels.watchers.items → labels.pages ≡ m.labels.pages.items → Beside m.world w →
+    w.signals ≡ m.world.signals → weight w ≤ weight m.world + 2 ^ 80 → (WorldAgrees asked rules m.world → WorldAgrees asked rules w) →
     Leaves asked asked rules m new
-leaves_other asked rules m new n k id labels r any named watchers pages stays signals few holds = record {
-  ready = record {
-    watchers = stays.watchers ∙ r.watchers ∙ ap length (sym (ap (λ (l : called.Labels). l.watchers) named.labels ∙ watchers));
-    paged = stays.paged ∙ r.paged ∙ ap length (sym (ap (λ (l : called.Labels). l.pages) named.labels ∙ pages));
-    meant = subst (λ x. x) (λ i. AreMeant new.world (length (sym named.templates i).items) (sym named.names i))
-        (meant_other new.world _ m.names n k id any.signal any.fits (λ t. absurd (any.template t))
-        (meant_still m.world new.world _ m.names (ap (λ s. s.graph.given) signals)
-        (λ j x h. ap (λ s. is_of_kind j (standing s.graph.state.signals x)) signals ∙ h) r.meant));
-    templates = subst (λ v. AreTemplates v.items) (sym named.templates) r.templates;
-    shown = subst (λ x. x) (λ i. AreShown (map template_of (sym named.templates i).items) (sym named.pages i).items) r.shown;
-    pages = subst (λ v. ArePages new.world v.items) (sym named.pages) (pages_kept m.world new.world m.pages.items m.pages.items refl stays.pages stays.paged r.pages);
-  };
-  holds = holds;
-  weight = few;
-}
+leaves_other asked rules m new w n k id labels r any named watchers pages stays signals few holds =
+    subst (λ (x : Machine). Leaves asked asked rules m x) (sym named.parts) (record {
+      ready = record {
+        watchers = stays.watchers ∙ r.watchers ∙ ap length (sym (ap (λ (l : called.Labels). l.watchers) named.labels ∙ watchers));
+        paged = stays.paged ∙ r.paged ∙ ap length (sym (ap (λ (l : called.Labels). l.pages) named.labels ∙ pages));
+        meant = subst (λ (names : Names). AreMeant w (length m.templates.items) names) (sym named.names)
+            (meant_other w _ m.names n k id any.signal any.fits (λ t. absurd (any.template t))
+            (meant_still m.world w _ m.names (ap (λ s. s.graph.given) signals)
+            (λ j x h. ap (λ s. is_of_kind j (standing s.graph.state.signals x)) signals ∙ h) r.meant));
+        templates = r.templates;
+        shown = r.shown;
+        pages = pages_kept m.world w m.pages.items m.pages.items refl stays.pages stays.paged r.pages;
+      };
+      holds = holds;
+      weight = few;
+    })
 
 -- ---- templates
 
@@ -182,22 +183,23 @@ templates_more old new t x is same = ap (map template_of) is ∙ seen_more old t
 
 -- what a making of a template leaves
 pub leaves_template : (asked : List HostPlace) (rules : ℕ) (m new : Machine) (n : List ℕ) (t : LinkedTemplate) → IsReady m →
-    new.names ≡ m.names ++ (n, record { kind = kind.Template; number = length m.templates.items }) ∷ [] → new.labels ≡ m.labels → new.world ≡ m.world →
-    new.templates.items ≡ m.templates.items ++ t ∷ [] → new.pages ≡ m.pages → IsTemplate (lines_of t.template) → Leaves asked asked rules m new
-leaves_template asked rules m new n t r names labels world templates pages read =
+    new ≡ record m { names = new.names; templates = new.templates } →
+    new.names ≡ m.names ++ (n, record { kind = kind.Template; number = length m.templates.items }) ∷ [] →
+    new.templates.items ≡ m.templates.items ++ t ∷ [] → IsTemplate (lines_of t.template) → Leaves asked asked rules m new
+leaves_template asked rules m new n t r parts names templates read =
     let count : length new.templates.items ≡ length m.templates.items + 1 = ap length templates ∙ length-append m.templates.items (t ∷ []) in
     let seen : map template_of new.templates.items ≡ map template_of m.templates.items ++ template_of t ∷ [] = templates_more m.templates.items new.templates.items t (template_of t) templates refl in
-    record {
+    subst (λ (x : Machine). Leaves asked asked rules m x) (sym parts) (record {
       ready = record {
-        watchers = ap (λ (w : World). w.signals.watchers.made) world ∙ r.watchers ∙ ap (λ l. length l.watchers.items) (sym labels);
-        paged = ap (λ (w : World). w.tables.pages_made) world ∙ r.paged ∙ ap (λ l. length l.pages.items) (sym labels);
-        meant = subst (λ x. x) (λ i. AreMeant (sym world i) (length new.templates.items) (sym names i))
+        watchers = r.watchers;
+        paged = r.paged;
+        meant = subst (λ (ns : Names). AreMeant m.world (length new.templates.items) ns) (sym names)
             (meant_other m.world (length new.templates.items) m.names n kind.Template (length m.templates.items) refl (λ s. refl) (λ e. omega (arith, count))
             (meant_more m.world (length m.templates.items) (length new.templates.items) m.names (omega (arith, count)) r.meant));
         templates = subst AreTemplates (sym templates) (read_more m.templates.items t r.templates read);
-        shown = subst (λ x. x) (λ i. AreShown (sym seen i) (sym pages i).items) (older_shown (map template_of m.templates.items) (template_of t) m.pages.items r.shown);
-        pages = subst (λ x. x) (λ i. ArePages (sym world i) (sym pages i).items) r.pages;
+        shown = subst (λ (ts : List Template). AreShown ts m.pages.items) (sym seen) (older_shown (map template_of m.templates.items) (template_of t) m.pages.items r.shown);
+        pages = r.pages;
       };
-      holds = λ h. subst (WorldAgrees asked rules) (sym world) h;
-      weight = let a : weight new.world ≡ weight m.world = ap weight world in omega (arith, a);
-    }
+      holds = λ h. h;
+      weight = omega arith;
+    })

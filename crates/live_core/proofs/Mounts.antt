@@ -22,16 +22,18 @@ use Rattle.live_model.specs.declared.names.Kind.TheVariants as kind
 use Rattle.live_model.specs.Labels as called
 use Rattle.live_model.specs.Machine as plain
 use Rattle.live_model.specs.Machine.{acted_on_pages, after_turns, flushing, mounted, reached}
+use Rattle.live_model.specs.Names.{Names}
 use Rattle.live_labels.specs.Views.{labels_of}
 use Rattle.tpl_live.specs.declared.page.Page as live
 use Rattle.tpl_live.specs.Pages.{page_in}
 use Rattle.tpl_live.specs.Contents.{standing as standing_page}
 use Rattle.live_pages.specs.declared.mounted.Mounted.{Mounted}
-use Rattle.live_pages.specs.Updates.{AreUpdated, AreShown, ArePages, AreTemplates, IsMounted, IsScratched, IsShown, Settles}
+use Rattle.live_pages.specs.Updates.{AreUpdated, AreShown, ArePages, IsMounted, IsScratched, IsShown, Settles}
 use Rattle.live_pages.specs.Views.{page_of, template_of}
 use Rattle.live_pages.proofs.Shared.{pages_more, shown_more}
 use Rattle.live_core.specs.declared.machine.Machine.{Machine}
 use Rattle.live_core.specs.Consistency.{is_of_kind, AreMeant, IsReady, Leaves, Steps}
+use Rattle.live_core.specs.Parts.{KeepsParts}
 use Rattle.live_core.specs.Views.{plain_of}
 use Rattle.live_core.proofs.Names.{meant_other, meant_still}
 
@@ -47,22 +49,16 @@ refused_steps hosts env asked m told_first es refused by is sound = record {
 }
 
 -- pages were brought up to date behind what was told
-pub brought_steps : (hosts : Hosts) (env : told.Environment) (asked later : List HostPlace) (m new : Machine) (w : World) (now : List Mounted) (told_first pages es : List Entry) (refused : Bool) → false ≡ refused →
-    AreUpdated env m.names (labels_of m.labels) (map template_of m.templates.items) asked later m.world w m.pages.items now pages → new.names ≡ m.names → new.labels ≡ m.labels →
-    new.world ≡ w → new.templates ≡ m.templates → new.pages.items ≡ now → es ≡ told_first ++ pages → IsSound hosts later w →
+pub brought_steps : (hosts : Hosts) (env : told.Environment) (asked later : List HostPlace) (m new : Machine) (told_first pages es : List Entry) (refused : Bool) → false ≡ refused →
+    AreUpdated env (plain_of [] m) (labels_of m.labels) asked later m.world new.world m.pages.items new.pages.items pages →
+    new ≡ record m { world = new.world; pages = new.pages } → es ≡ told_first ++ pages → IsSound hosts later new.world →
     Steps hosts later new es (after_turns env refused (reached (plain_of asked m) told_first))
-brought_steps hosts env asked later m new w now told_first pages es refused by up names labels world templates same is sound = record {
+brought_steps hosts env asked later m new told_first pages es refused by up parts is sound = record {
   step =
-      (λ i. reached (record {
-        names = names i;
-        labels = labels_of (labels i);
-        world = whole_of later (world i);
-        templates = (ap (λ v. map template_of v.items) templates) i;
-        pages = map page_of (same i);
-      }) (is i))
+      (λ i. reached (plain_of later (parts i)) (is i))
       ∙ ap (λ (t : plain.Told). reached t.machine (told_first ++ t.entries)) up.step
       ∙ ap (λ (b : Bool). after_turns env b (reached (plain_of asked m) told_first)) by;
-  sound = subst (IsSound hosts later) (sym world) sound;
+  sound = sound;
 }
 
 -- turns, and then pages
@@ -86,58 +82,67 @@ map_append : {A B : Type 0} (f : A → B) (xs ys : List A) → map f (xs ++ ys) 
 map_append f [] ys = refl
 map_append f (x ∷ xs) ys = ap (λ zs. f x ∷ zs) (map_append f xs ys)
 
+-- nothing but the pages changed before what was made got its name
+pub named_behind : (m middle new : Machine) → middle ≡ record m { pages = middle.pages } → KeepsParts middle new →
+    new ≡ record m { names = new.names; labels = new.labels; pages = new.pages }
+named_behind m middle new same kept =
+    kept ∙ (λ i. record (same i) { names = new.names; labels = new.labels })
+    ∙ ap (λ (x : Machine). record m { names = new.names; labels = new.labels; pages = x.pages }) (sym kept)
+
 -- a page was made, and stands where it is to
-pub mount_steps : (hosts : Hosts) (env : told.Environment) (asked later : List HostPlace) (m new : Machine) (w : World) (n : List ℕ) (t id : ℕ) (inside : Option ℕ) (page : live.Page) (es : List Entry) →
+pub mount_steps : (hosts : Hosts) (env : told.Environment) (asked later : List HostPlace) (m new : Machine) (w v : World) (n : List ℕ) (t id : ℕ) (inside : Option ℕ) (page : live.Page) (es : List Entry) →
     IsMounted env (labels_of m.labels) (map template_of m.templates.items) asked later m.world w n t (page_in (standing_page page)) [] es → id ≡ m.world.tables.pages_made →
-    whole_of later new.world ≡ at_rest (with_new_page inside (whole_of later w)) → IsSound hosts later new.world →
+    whole_of later v ≡ at_rest (with_new_page inside (whole_of later w)) → IsSound hosts later v →
+    new ≡ record m { names = new.names; labels = new.labels; world = v; pages = new.pages } →
     new.names ≡ m.names ++ (n, record { kind = kind.Page; number = id }) ∷ [] →
-    labels_of new.labels ≡ record (labels_of m.labels) { pages = m.labels.pages.items ++ n ∷ [] } → new.templates ≡ m.templates →
+    labels_of new.labels ≡ record (labels_of m.labels) { pages = m.labels.pages.items ++ n ∷ [] } →
     new.pages.items ≡ m.pages.items ++ (record { name = n; number = id; template = t; page = page }) ∷ [] →
     Steps hosts later new es (mounted env (plain_of asked m) n t inside)
-mount_steps hosts env asked later m new w n t id inside page es up number whole sound names labels templates pages = record {
-  step = (λ i. reached (record {
-    names = (names ∙ ap (λ (x : ℕ). m.names ++ (n, record { kind = kind.Page; number = x }) ∷ []) number) i;
-    labels = (labels ∙ ap (λ (l : called.Labels). record l { pages = l.pages ++ n ∷ [] }) up.labels) i;
-    world = (whole ∙ ap (λ (x : told.World). at_rest (with_new_page inside x)) up.world) i;
-    templates = (ap (λ v. map template_of v.items) templates) i;
-    pages = (ap (map page_of) pages ∙ map_append page_of m.pages.items ((record { name = n; number = id; template = t; page = page }) ∷ [])
-        ∙ (λ j. map page_of m.pages.items ++ (record { name = n; number = number j; template = t; content = up.page j }) ∷ [])) i;
-  }) ((up.told ∙ ap (λ (bs : List ℕ). (plain.settling env (plain_of asked m) (plain.template_reads env (plain_of asked m) t)).entries
-      ++ plain.ops_told n (plain.update_of env (plain_of asked m) t bare).ops ++ entry.Page n bs ∷ []) (ap (λ p. html_of (tree_of p)) up.page)) i));
-  sound = sound;
-}
+mount_steps hosts env asked later m new w v n t id inside page es up number whole sound parts names labels pages =
+    subst (λ (x : Machine). Steps hosts later x es (mounted env (plain_of asked m) n t inside)) (sym parts) (record {
+      step = (λ i. reached (record (plain_of asked m) {
+        names = (names ∙ ap (λ (x : ℕ). m.names ++ (n, record { kind = kind.Page; number = x }) ∷ []) number) i;
+        labels = (labels ∙ ap (λ (l : called.Labels). record l { pages = l.pages ++ n ∷ [] }) up.labels) i;
+        world = (whole ∙ ap (λ (x : told.World). at_rest (with_new_page inside x)) up.world) i;
+        pages = (ap (map page_of) pages ∙ map_append page_of m.pages.items ((record { name = n; number = id; template = t; page = page }) ∷ [])
+            ∙ (λ j. map page_of m.pages.items ++ (record { name = n; number = number j; template = t; content = up.page j }) ∷ [])) i;
+      }) ((up.told ∙ ap (λ (bs : List ℕ). (plain.settling env (plain_of asked m) (plain.template_reads env (plain_of asked m) t)).entries
+          ++ plain.ops_told n (plain.update_of env (plain_of asked m) t bare).ops ++ entry.Page n bs ∷ []) (ap (λ p. html_of (tree_of p)) up.page)) i));
+      sound = sound;
+    })
 
 -- what a making of a page leaves
-pub leaves_mounted : (asked later : List HostPlace) (rules : ℕ) (m new : Machine) (w : World) (n : List ℕ) (id : ℕ) (p : Mounted) → IsReady m →
+pub leaves_mounted : (asked later : List HostPlace) (rules : ℕ) (m new : Machine) (w v : World) (n : List ℕ) (id : ℕ) (p : Mounted) → IsReady m →
+    new ≡ record m { names = new.names; labels = new.labels; world = v; pages = new.pages } →
     new.names ≡ m.names ++ (n, record { kind = kind.Page; number = id }) ∷ [] →
-    labels_of new.labels ≡ record (labels_of m.labels) { pages = m.labels.pages.items ++ n ∷ [] } → new.templates ≡ m.templates →
-    new.pages.items ≡ m.pages.items ++ p ∷ [] → (inside : Option ℕ) → whole_of later new.world ≡ at_rest (with_new_page inside (whole_of later w)) →
-    new.world.signals ≡ w.signals → Settles m.world w → p.number ≡ m.world.tables.pages_made → IsShown (map template_of m.templates.items) p →
-    length m.world.tables.pages.items < MOST_PAGES → Agrees later new.world → w.signals.graph.state.worn ≤ m.world.signals.graph.state.worn + 2 ^ 64 →
+    labels_of new.labels ≡ record (labels_of m.labels) { pages = m.labels.pages.items ++ n ∷ [] } →
+    new.pages.items ≡ m.pages.items ++ p ∷ [] → (inside : Option ℕ) → whole_of later v ≡ at_rest (with_new_page inside (whole_of later w)) →
+    v.signals ≡ w.signals → Settles m.world w → p.number ≡ m.world.tables.pages_made → IsShown (map template_of m.templates.items) p →
+    length m.world.tables.pages.items < MOST_PAGES → Agrees later v → w.signals.graph.state.worn ≤ m.world.signals.graph.state.worn + 2 ^ 64 →
     Leaves asked later rules m new
-leaves_mounted asked later rules m new w n id p r names labels templates pages inside whole signals settled number shown room agrees worn =
-    let made : new.world.tables.pages_made ≡ m.world.tables.pages_made + 1 =
+leaves_mounted asked later rules m new w v n id p r parts names labels pages inside whole signals settled number shown room agrees worn =
+    let made : v.tables.pages_made ≡ m.world.tables.pages_made + 1 =
     ap (λ (x : told.World). x.made.pages) whole ∙ ap (λ t. t.pages_made + 1) settled.tables in
-    let live : new.world.tables.pages.items ≡ m.world.tables.pages.items ++ m.world.tables.pages_made ∷ [] =
+    let live : v.tables.pages.items ≡ m.world.tables.pages.items ++ m.world.tables.pages_made ∷ [] =
     ap (λ (x : told.World). x.pages) whole ∙ ap (λ t. t.pages.items ++ t.pages_made ∷ []) settled.tables in
     let graph = ap (λ s. s.graph.given) signals ∙ settled.given in
     let stands = ap (λ s. s.graph.state.signals) signals ∙ settled.signals in
-    record {
+    subst (λ (x : Machine). Leaves asked later rules m x) (sym parts) (record {
       ready = record {
         watchers = ap (λ s. s.watchers.made) signals ∙ ap (λ t. t.made) settled.watchers ∙ r.watchers ∙ ap length (sym (ap (λ (l : called.Labels). l.watchers) labels));
         paged = made ∙ ap (λ (x : ℕ). x + 1) r.paged ∙ sym (length-append m.labels.pages.items (n ∷ [])) ∙ ap length (sym (ap (λ (l : called.Labels). l.pages) labels));
-        meant = subst (λ x. x) (λ i. AreMeant new.world (length (sym templates i).items) (sym names i))
-            (meant_other new.world _ m.names n kind.Page id refl (λ s. refl) (λ t. absurd cc)
-            (meant_still m.world new.world _ m.names graph (λ k x h. ap (λ g. is_of_kind k (standing g x)) stands ∙ h) r.meant));
-        templates = subst (λ v. AreTemplates v.items) (sym templates) r.templates;
-        shown = subst (λ x. x) (λ i. AreShown (map template_of (sym templates i).items) (sym pages i)) (shown_more (map template_of m.templates.items) m.pages.items p r.shown shown);
-        pages = subst (ArePages new.world) (sym pages) (pages_more m.world new.world m.pages.items p number live made room r.pages);
+        meant = subst (λ (ns : Names). AreMeant v (length m.templates.items) ns) (sym names)
+            (meant_other v _ m.names n kind.Page id refl (λ s. refl) (λ t. absurd cc)
+            (meant_still m.world v _ m.names graph (λ k x h. ap (λ g. is_of_kind k (standing g x)) stands ∙ h) r.meant));
+        templates = r.templates;
+        shown = subst (AreShown (map template_of m.templates.items)) (sym pages) (shown_more (map template_of m.templates.items) m.pages.items p r.shown shown);
+        pages = subst (ArePages v) (sym pages) (pages_more m.world v m.pages.items p number live made room r.pages);
       };
       holds = λ h. record { agrees = agrees; ruled = subst (AreRuled rules) (sym stands) h.ruled };
       weight =
           let a = ap (λ s. s.graph.state.worn) signals in
           let b = ap (λ (x : told.World). x.made.effects) whole ∙ ap (λ t. t.effects_made) settled.tables in omega (arith, a, b, worn);
-    }
+    })
 
 -- ---- pages from scratch
 
@@ -148,13 +153,7 @@ pub scratch_steps : (hosts : Hosts) (env : told.Environment) (asked later : List
     es ≡ runs ++ entry.Scratch n bytes ∷ [] → IsSound hosts later w →
     Steps hosts later (record m { world = w }) es (plain.scratching env (plain_of asked m) n (plain.page_at (map page_of m.pages.items) k))
 scratch_steps hosts env asked later m w n k p bytes runs es found up is sound = record {
-  step = (λ i. reached (record {
-    names = m.names;
-    labels = up.labels i;
-    world = up.world i;
-    templates = map template_of m.templates.items;
-    pages = map page_of m.pages.items;
-  }) ((is ∙ (λ j. up.told j ++ entry.Scratch n (up.html j) ∷ [])) i))
+  step = (λ i. reached (record (plain_of asked m) { labels = up.labels i; world = up.world i }) ((is ∙ (λ j. up.told j ++ entry.Scratch n (up.html j) ∷ [])) i))
       ∙ ap (plain.scratching env (plain_of asked m) n) (sym found);
   sound = sound;
 }

@@ -1,5 +1,5 @@
 -- What is left where only watchers changed.
-use Rattle.std.proofs.Common.{◌≡◌, ◌+◌, ℕ, arith, List, [], ◌∷◌, ◌++◌, length, map, refl, sym, ap, subst, ◌∙◌}
+use Rattle.std.proofs.Common.{◌≡◌, ◌+◌, ℕ, arith, List, [], ◌∷◌, ◌++◌, length, refl, sym, ap, subst, ◌∙◌}
 use Rattle.std.proofs.lemmas.List.{length-append}
 use Rattle.signal_model.specs.Signals.{is_computed, standing}
 use Rattle.effect_model.specs.Commands.{changed_watcher}
@@ -13,9 +13,8 @@ use Rattle.effect_world.specs.Stores.{Agrees}
 use Rattle.effect_world.specs.Wholes.{whole_of}
 use Rattle.live_model.specs.declared.names.Kind.TheVariants as kind
 use Rattle.live_model.specs.Labels as called
+use Rattle.live_model.specs.Names.{Names}
 use Rattle.live_labels.specs.Views.{labels_of}
-use Rattle.live_pages.specs.Updates.{AreShown, ArePages, AreTemplates}
-use Rattle.live_pages.specs.Views.{template_of}
 use Rattle.live_pages.proofs.Shared.{pages_kept}
 use Rattle.live_core.specs.declared.machine.Machine.{Machine}
 use Rattle.live_core.specs.Consistency.{is_of_kind, AreMeant, IsReady, Leaves}
@@ -54,23 +53,24 @@ leaves_watched asked rules m w n f r graph made whole agrees =
     }
 
 -- what a making of a watcher leaves
-pub leaves_watcher : (asked : List HostPlace) (rules : ℕ) (m new : Machine) (n : List ℕ) (id : ℕ) → IsReady m →
-    IsNamed m new n kind.Watcher id (record (labels_of m.labels) { watchers = m.labels.watchers.items ++ n ∷ [] }) → new.world.signals.graph ≡ m.world.signals.graph →
-    new.world.signals.watchers.made ≡ m.world.signals.watchers.made + 1 → new.world.tables.pages.items ≡ m.world.tables.pages.items →
-    new.world.tables.pages_made ≡ m.world.tables.pages_made → new.world.tables.effects_made ≡ m.world.tables.effects_made →
-    (Agrees asked m.world → Agrees asked new.world) → Leaves asked asked rules m new
-leaves_watcher asked rules m new n id r named graph made live paged effects agrees = record {
-  ready = record {
-    watchers = made ∙ ap (λ (x : ℕ). x + 1) r.watchers ∙ sym (length-append m.labels.watchers.items (n ∷ [])) ∙ ap length (sym (ap (λ (l : called.Labels). l.watchers) named.labels));
-    paged = paged ∙ r.paged ∙ ap length (sym (ap (λ (l : called.Labels). l.pages) named.labels));
-    meant = subst (λ x. x) (λ i. AreMeant new.world (length (sym named.templates i).items) (sym named.names i))
-        (meant_other new.world _ m.names n kind.Watcher id refl (λ s. refl) (λ t. absurd cc)
-        (meant_still m.world new.world _ m.names (ap (λ (g : Seen). g.given) graph)
-        (λ k x h. ap (λ (g : Seen). is_of_kind k (standing g.state.signals x)) graph ∙ h) r.meant));
-    templates = subst (λ v. AreTemplates v.items) (sym named.templates) r.templates;
-    shown = subst (λ x. x) (λ i. AreShown (map template_of (sym named.templates i).items) (sym named.pages i).items) r.shown;
-    pages = subst (λ v. ArePages new.world v.items) (sym named.pages) (pages_kept m.world new.world m.pages.items m.pages.items refl live paged r.pages);
-  };
-  holds = λ h. record { agrees = agrees h.agrees; ruled = subst (λ (g : Seen). AreRuled rules g.state.signals) (sym graph) h.ruled };
-  weight = let a : new.world.signals.graph.state.worn ≡ m.world.signals.graph.state.worn = ap (λ (g : Seen). g.state.worn) graph in omega (arith, a, effects);
-}
+pub leaves_watcher : (asked : List HostPlace) (rules : ℕ) (m new : Machine) (w : World) (n : List ℕ) (id : ℕ) → IsReady m →
+    IsNamed m new w n kind.Watcher id (record (labels_of m.labels) { watchers = m.labels.watchers.items ++ n ∷ [] }) → w.signals.graph ≡ m.world.signals.graph →
+    w.signals.watchers.made ≡ m.world.signals.watchers.made + 1 → w.tables.pages.items ≡ m.world.tables.pages.items →
+    w.tables.pages_made ≡ m.world.tables.pages_made → w.tables.effects_made ≡ m.world.tables.effects_made →
+    (Agrees asked m.world → Agrees asked w) → Leaves asked asked rules m new
+leaves_watcher asked rules m new w n id r named graph made live paged effects agrees =
+    subst (λ (x : Machine). Leaves asked asked rules m x) (sym named.parts) (record {
+      ready = record {
+        watchers = made ∙ ap (λ (x : ℕ). x + 1) r.watchers ∙ sym (length-append m.labels.watchers.items (n ∷ [])) ∙ ap length (sym (ap (λ (l : called.Labels). l.watchers) named.labels));
+        paged = paged ∙ r.paged ∙ ap length (sym (ap (λ (l : called.Labels). l.pages) named.labels));
+        meant = subst (λ (names : Names). AreMeant w (length m.templates.items) names) (sym named.names)
+            (meant_other w _ m.names n kind.Watcher id refl (λ s. refl) (λ t. absurd cc)
+            (meant_still m.world w _ m.names (ap (λ (g : Seen). g.given) graph)
+            (λ k x h. ap (λ (g : Seen). is_of_kind k (standing g.state.signals x)) graph ∙ h) r.meant));
+        templates = r.templates;
+        shown = r.shown;
+        pages = pages_kept m.world w m.pages.items m.pages.items refl live paged r.pages;
+      };
+      holds = λ h. record { agrees = agrees h.agrees; ruled = subst (λ (g : Seen). AreRuled rules g.state.signals) (sym graph) h.ruled };
+      weight = let a : w.signals.graph.state.worn ≡ m.world.signals.graph.state.worn = ap (λ (g : Seen). g.state.worn) graph in omega (arith, a, effects);
+    })

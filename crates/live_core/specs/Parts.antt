@@ -3,7 +3,5 @@ use Rattle.std.specs.Prelude.{◌≡◌}
 use Rattle.live_core.specs.declared.machine.Machine.{Machine}
 
 -- beside names and what things are called all is as before
-pub record KeepsParts (old new : Machine) : Type 0 where
-  pub world : new.world ≡ old.world
-  pub templates : new.templates ≡ old.templates
-  pub pages : new.pages ≡ old.pages
+abbrev pub KeepsParts : Machine → Machine → Type 0
+KeepsParts old new = new ≡ record old { names = new.names; labels = new.labels }

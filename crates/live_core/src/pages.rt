@@ -45,8 +45,7 @@ impl Machine {
         ensures labels { OnOk result (labels_of self.new.labels ≡ record (labels_of self.old.labels) { pages = self.old.labels.pages.items ++ name ∷ [] }) }
         ensures pages { OnOk result (self.new.pages.items
             ≡ self.old.pages.items ++ (record { name = name; number = number; template = template; page = page }) ∷ []) }
-        ensures world { self.new.world ≡ self.old.world }
-        ensures templates { self.new.templates ≡ self.old.templates }
+        ensures parts { self.new ≡ record (self.old) { names = self.new.names; labels = self.new.labels; pages = self.new.pages } }
     {
         self.pages.push(Mounted {
             name: name.copy()?,

@@ -32,13 +32,12 @@ use Rattle.live_model.specs.Labels.{Labels, labels_after}
 use Rattle.live_model.specs.Pages.{asked_of, template_in, Page, Template}
 use Rattle.live_model.specs.Machine as plain
 use Rattle.live_model.specs.Machine.{Told, updated_page, update_of, entries_of, news_of, ops_told, settling, reached, update_all}
-use Rattle.live_model.specs.Names.{Names}
 use Rattle.live_model.proofs.Shared.{page_law}
 use Rattle.live_labels.specs.Entries.{note_entry}
 use Rattle.live_labels.proofs.Shared.{all_rename, all_told, renamed_by, told_by}
 use Rattle.live_pages.specs.declared.mounted.Mounted.{Mounted}
 use Rattle.live_pages.specs.Views.{page_of}
-use Rattle.live_pages.specs.Updates.{after_reading, bare, updated_to, numbers_of, plain_machine, AreUpdated, AreShown, AreStanding, IsUpdated, IsFresh, IsFreshTree, IsMounted}
+use Rattle.live_pages.specs.Updates.{after_reading, bare, updated_to, numbers_of, with_pages, AreUpdated, AreShown, AreStanding, IsUpdated, IsFresh, IsFreshTree, IsMounted}
 use Rattle.live_pages.specs.Updates.{IsScratched, IsShown, Settles}
 
 -- ---- one page
@@ -181,9 +180,9 @@ pub record UpTo (before after : Hosts → Type 0) (labels : Labels) (asked later
   pub most : most_asked later ≤ most_asked asked + at * 2 ^ 71
   pub answers : (hosts : Hosts) → before hosts → after hosts
   pub sound : (hosts : Hosts) → before hosts → IsSound hosts asked first → IsSound hosts later now
-  pub whole : (hosts : Hosts) (slacks : List ℕ) (names : Names) (templates : List Template) → before hosts → IsSound hosts asked first → AreShown templates all →
-      update_all (environment hosts slacks) (map page_of all) (plain_machine names labels asked first templates [])
-      ≡ ahead tells (update_all (environment hosts slacks) (map page_of (drop at all)) (plain_machine names labels later now templates done))
+  pub whole : (hosts : Hosts) (slacks : List ℕ) (m : plain.Machine) → before hosts → IsSound hosts asked first → AreShown m.templates all →
+      update_all (environment hosts slacks) (map page_of all) (with_pages m labels asked first [])
+      ≡ ahead tells (update_all (environment hosts slacks) (map page_of (drop at all)) (with_pages m labels later now done))
 
 map_append : {A B : Type 0} (f : A → B) (xs ys : List A) → map f (xs ++ ys) ≡ map f xs ++ map f ys
 map_append f [] ys = refl
@@ -221,8 +220,8 @@ up_to_none before labels asked w all items tells same none agrees stand = record
   most = omega arith;
   answers = λ hosts a. a;
   sound = λ hosts a s. s;
-  whole = λ hosts slacks names templates a s shown.
-      ap (λ (es : List Entry). ahead es (update_all (environment hosts slacks) (map page_of all) (plain_machine names labels asked w templates []))) (sym none);
+  whole = λ hosts slacks m a s shown.
+      ap (λ (es : List Entry). ahead es (update_all (environment hosts slacks) (map page_of all) (with_pages m labels asked w []))) (sym none);
 }
 
 -- the next page
@@ -279,24 +278,22 @@ up_to_more before middle after labels asked later last first now w all items at 
       most = let a = u.most in omega (arith, a, most);
       answers = λ hosts a. answers hosts (u.answers hosts a);
       sound = λ hosts a s. sound hosts (u.answers hosts a) (u.sound hosts a s);
-      whole = λ hosts slacks names templates a s all_shown.
-          let b = up hosts slacks templates (u.answers hosts a) (u.sound hosts a s) (here templates all_shown).0 in
+      whole = λ hosts slacks m a s all_shown.
+          let b = up hosts slacks m.templates (u.answers hosts a) (u.sound hosts a s) (here m.templates all_shown).0 in
           let env = environment hosts slacks in
-          let m : plain.Machine = bare labels later now templates in
-          let t : Told = settling env m (plain.template_reads env m p.template) in
-          let news : List Entry = news_of (updated_page env m (page_of p)) (update_of env m p.template (page_of p).content).ops in
-          let r : Told = update_all env (map page_of rest) (plain_machine names labels last w templates (u.done ++ q ∷ [])) in
-          let after : record (plain_machine names labels later now templates []) { labels = t.machine.labels; world = t.machine.world; pages = map page_of u.done ++ updated_page env m (page_of p) ∷ [] }
-          ≡ plain_machine names labels last w templates (u.done ++ q ∷ []) =
-          (λ i. record {
-            names = names;
+          let v : plain.Machine = bare labels later now m.templates in
+          let t : Told = settling env v (plain.template_reads env v p.template) in
+          let news : List Entry = news_of (updated_page env v (page_of p)) (update_of env v p.template (page_of p).content).ops in
+          let r : Told = update_all env (map page_of rest) (with_pages m labels last w (u.done ++ q ∷ [])) in
+          let after : record m { labels = t.machine.labels; world = t.machine.world; pages = map page_of u.done ++ updated_page env v (page_of p) ∷ [] }
+          ≡ with_pages m labels last w (u.done ++ q ∷ []) =
+          (λ i. record m {
             labels = sym b.labels i;
             world = sym b.world i;
-            templates = templates;
             pages = (ap (λ (x : Page). map page_of u.done ++ x ∷ []) (sym b.page) ∙ sym (map_append page_of u.done (q ∷ []))) i;
           }) in
-          u.whole hosts slacks names templates a s all_shown
-          ∙ ap (λ (xs : List Mounted). ahead tells (update_all env (map page_of xs) (plain_machine names labels later now templates u.done))) next.is
+          u.whole hosts slacks m a s all_shown
+          ∙ ap (λ (xs : List Mounted). ahead tells (update_all env (map page_of xs) (with_pages m labels later now u.done))) next.is
           ∙ ap (λ (x : plain.Machine). ahead tells (let y = update_all env (map page_of rest) x in reached y.machine ((t.entries ++ news) ++ y.entries))) after
           ∙ ap (λ (es : List Entry). reached r.machine es)
           (sym (append_assoc tells (t.entries ++ news) r.entries)
@@ -311,16 +308,16 @@ empty (x ∷ xs) e = absurd (omega (arith, e))
 -- all are
 pub all_up : (before after : Hosts → Type 0) (labels : Labels) (asked later : List HostPlace) (first now : World) (all items : List Mounted) (at : ℕ)
     (tells : List Entry) → UpTo before after labels asked later first now all items at tells → length all ≤ at →
-    (hosts : Hosts) (slacks : List ℕ) (names : Names) (templates : List Template) → before hosts → IsSound hosts asked first → AreShown templates all →
-    AreUpdated (environment hosts slacks) names labels templates asked later first now all items tells
-all_up before after labels asked later first now all items at tells u end hosts slacks names templates a s shown =
+    (hosts : Hosts) (slacks : List ℕ) (m : plain.Machine) → before hosts → IsSound hosts asked first → AreShown m.templates all →
+    AreUpdated (environment hosts slacks) m labels asked later first now all items tells
+all_up before after labels asked later first now all items at tells u end hosts slacks m a s shown =
     let none : drop at all ≡ [] = empty (drop at all) (length-drop at all ∙ omega (arith, end)) in
     let same : u.done ≡ items = sym (u.items_are ∙ ap (λ (xs : List Mounted). u.done ++ xs) none ∙ append-nil u.done) in
     record {
-      step = sym (u.whole hosts slacks names templates a s shown
-          ∙ ap (λ (xs : List Mounted). ahead tells (update_all (environment hosts slacks) (map page_of xs) (plain_machine names labels later now templates u.done))) none
-          ∙ ap (λ (es : List Entry). reached (plain_machine names labels later now templates u.done) es) (append-nil tells)
-          ∙ ap (λ (xs : List Mounted). reached (plain_machine names labels later now templates xs) tells) same);
+      step = sym (u.whole hosts slacks m a s shown
+          ∙ ap (λ (xs : List Mounted). ahead tells (update_all (environment hosts slacks) (map page_of xs) (with_pages m labels later now u.done))) none
+          ∙ ap (λ (es : List Entry). reached (with_pages m labels later now u.done) es) (append-nil tells)
+          ∙ ap (λ (xs : List Mounted). reached (with_pages m labels later now xs) tells) same);
     }
 
 -- and show what they should
@@ -345,8 +342,8 @@ pub written_back : {A : Type 0} (xs ys : List A) (n : ℕ) → n ≡ length xs �
 written_back xs ys n e = ap (λ (k : ℕ). take k (xs ++ drop (length xs) ys)) e ∙ take-append_seam xs (drop (length xs) ys)
 
 -- the same of a list that is the same
-pub other_pages : (env : told.Environment) (names : Names) (labels : Labels) (templates : List Template) (asked later : List HostPlace) (old new : World)
-    (pages now items : List Mounted) (entries : List Entry) → items ≡ now → AreUpdated env names labels templates asked later old new pages items entries →
-    AreUpdated env names labels templates asked later old new pages now entries
-other_pages env names labels templates asked later old new pages now items entries e up =
-    subst (λ (xs : List Mounted). AreUpdated env names labels templates asked later old new pages xs entries) e up
+pub other_pages : (env : told.Environment) (m : plain.Machine) (labels : Labels) (asked later : List HostPlace) (old new : World)
+    (pages now items : List Mounted) (entries : List Entry) → items ≡ now → AreUpdated env m labels asked later old new pages items entries →
+    AreUpdated env m labels asked later old new pages now entries
+other_pages env m labels asked later old new pages now items entries e up =
+    subst (λ (xs : List Mounted). AreUpdated env m labels asked later old new pages xs entries) e up

@@ -25,7 +25,6 @@ use Rattle.live_entries.specs.declared.entry.Entry.TheVariants as entry
 use Rattle.live_model.specs.Labels as called
 use Rattle.live_model.specs.Machine as plain
 use Rattle.live_model.specs.Machine.{updated_page, update_of, news_of, ops_told, settling, template_reads, reached, update_all}
-use Rattle.live_model.specs.Names.{Names}
 use Rattle.live_model.specs.Pages.{Template, asked_of, scratch_html, template_in}
 use Rattle.live_pages.specs.declared.mounted.LinkedTemplate.{LinkedTemplate}
 use Rattle.live_pages.specs.declared.mounted.Mounted.{Mounted}
@@ -59,19 +58,13 @@ pub record ArePages (w : World) (pages : List Mounted) : Type 0 where
   pub below : AllByRecursion (λ (n : ℕ). n < w.tables.pages_made) (numbers_of pages)
   pub few : length pages ≤ MOST_PAGES
 
--- the plain machine of these parts
-abbrev pub plain_machine : Names → called.Labels → List HostPlace → World → List Template → List Mounted → plain.Machine
-plain_machine names labels asked w templates pages = record {
-  names = names;
-  labels = labels;
-  world = whole_of asked w;
-  templates = templates;
-  pages = map page_of pages;
-}
+-- a plain machine with these labels, this world and these pages
+abbrev pub with_pages : plain.Machine → called.Labels → List HostPlace → World → List Mounted → plain.Machine
+with_pages m labels asked w pages = record m { labels = labels; world = whole_of asked w; pages = map page_of pages }
 
--- one without other names, and without pages
+-- one that has templates, and no pages
 abbrev pub bare : called.Labels → List HostPlace → World → List Template → plain.Machine
-bare labels asked w templates = plain_machine [] labels asked w templates []
+bare labels asked w templates = with_pages (record (plain.empty 0) { templates = templates }) labels asked w []
 
 -- the world after settling: signals, watchers and tables stay, and as many signals are made as before
 pub record Settles (old new : World) : Type 0 where
@@ -142,8 +135,7 @@ pub record IsUpdated (env : Environment) (ls : called.Labels) (templates : List 
   pub labels : ls ≡ (settling env (bare ls asked old templates) (template_reads env (bare ls asked old templates) p.template)).machine.labels
   pub page : page_of q ≡ updated_page env (bare ls asked old templates) (page_of p)
 
--- All pages were.
-pub record AreUpdated (env : Environment) (names : Names) (labels : called.Labels) (templates : List Template)
-    (asked later : List HostPlace) (old new : World) (pages now : List Mounted) (entries : List Entry) : Type 0 where
-  pub step : reached (plain_machine names labels later new templates now) entries
-      ≡ update_all env (map page_of pages) (plain_machine names labels asked old templates [])
+-- All pages of a machine were.
+pub record AreUpdated (env : Environment) (m : plain.Machine) (labels : called.Labels) (asked later : List HostPlace)
+    (old new : World) (pages now : List Mounted) (entries : List Entry) : Type 0 where
+  pub step : reached (with_pages m labels later new now) entries ≡ update_all env (map page_of pages) (with_pages m labels asked old [])

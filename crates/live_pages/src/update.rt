@@ -7,7 +7,7 @@ ghost use Rattle.sig_effect.specs.Stores.{environment};
 ghost use Rattle.effect_world.specs.Stores.{Agrees, IsSound};
 ghost use Rattle.tpl_live.specs.Pages.{IsStanding};
 ghost use Rattle.tpl_live.specs.Contents.{standing};
-ghost use Rattle.live_model.specs.Names.{Names};
+ghost use Rattle.live_model.specs.Machine.{Machine};
 ghost use Rattle.live_model.specs.Pages.{Template};
 ghost use Rattle.live_labels.specs.Views.{labels_of};
 ghost use Rattle.live_pages.specs.Updates.{numbers_of, AreUpdated, AreShown, AreStanding, IsUpdated, IsShown, Settles};
@@ -80,10 +80,10 @@ pub fn bring_all_up(
     requires few { length pages.old.items ≤ MOST_PAGES }
     requires worn { world.old.signals.graph.state.worn < 2 ^ 125 }
     requires room { most_asked (⟦<Shelf as Lent>⟧.asked shelf.old) < 2 ^ 125 }
-    ensures pages { (hosts : Hosts) (slacks : List ℕ) (names : Names) (templates : List Template) → ⟦<Shelf as Lent>⟧.answers hosts shelf.old →
-        IsSound hosts (⟦<Shelf as Lent>⟧.asked shelf.old) world.old → AreShown templates pages.old.items →
-        IfOk result (λ es. AreUpdated (environment hosts slacks) names
-        (labels_of labels.now) templates (⟦<Shelf as Lent>⟧.asked shelf.old) (⟦<Shelf as Lent>⟧.asked shelf.new)
+    ensures pages { (hosts : Hosts) (slacks : List ℕ) (m : Machine) → ⟦<Shelf as Lent>⟧.answers hosts shelf.old →
+        IsSound hosts (⟦<Shelf as Lent>⟧.asked shelf.old) world.old → AreShown m.templates pages.old.items →
+        IfOk result (λ es. AreUpdated (environment hosts slacks) m
+        (labels_of labels.now) (⟦<Shelf as Lent>⟧.asked shelf.old) (⟦<Shelf as Lent>⟧.asked shelf.new)
         world.old world.new pages.old.items pages.new.items es.items) }
     ensures shown { (templates : List Template) → AreShown templates pages.old.items → OnOk result (AreShown templates pages.new.items) }
     ensures sound { (hosts : Hosts) → ⟦<Shelf as Lent>⟧.answers hosts shelf.old → IsSound hosts (⟦<Shelf as Lent>⟧.asked shelf.old) world.old →

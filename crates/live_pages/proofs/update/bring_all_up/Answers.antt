@@ -50,14 +50,14 @@ loop-page-preserved g c =
     }
 
 pub returns-clause-pages : goal.returns-clause-pages
-returns-clause-pages g c = λ hosts slacks names templates a s shown.
+returns-clause-pages g c = λ hosts slacks m a s shown.
     let u = c.loop-page.invariant.up in
     let all : List Mounted = c.args.pages.now.items in
     let same : length c.loop-page.page-items ≡ length all =
     same_count _ _ (labels_of c.args.labels.now) _ _ c.args.world.now c.loop-page.world all c.loop-page.page-items c.loop-page.page-index c.loop-page.told.items u c.loop-page.invariant.within in
     let up = all_up _ _ (labels_of c.args.labels.now) _ _ c.args.world.now c.loop-page.world all c.loop-page.page-items c.loop-page.page-index c.loop-page.told.items
-    u (rw c.deref_mut-page-items.ensures.value at c.loop-page-test.false) hosts slacks names templates a s shown in
-    other_pages _ _ _ _ _ _ _ _ _ _ _ _ (sym (written_back c.loop-page.page-items all c.args.pages.now.len (c.args.pages.now.ok.0 ∙ sym same))) up
+    u (rw c.deref_mut-page-items.ensures.value at c.loop-page-test.false) hosts slacks m a s shown in
+    other_pages _ _ _ _ _ _ _ _ _ _ _ (sym (written_back c.loop-page.page-items all c.args.pages.now.len (c.args.pages.now.ok.0 ∙ sym same))) up
 
 pub returns-clause-shown : goal.returns-clause-shown
 returns-clause-shown g c = λ templates shown.

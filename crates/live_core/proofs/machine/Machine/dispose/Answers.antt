@@ -23,7 +23,7 @@ returns-clause-steps g c = λ hosts sound.
     (dispose_thing env thing) (dispose_thing env thing) c.in_ok-told.told.items c.new-events.ensures.items (c.in_ok-dispose.ensures.does hosts sound) refl
     (tells_by m.labels c.tell_all.new.labels c.dispose.new.events.items _ c.in_ok-told.told.items c.deref.ensures.value t.entries t.labels t.names) in
     disposed_steps hosts env _ _ m (record middle { pages = c.keep_live.new.pages }) c.in_ok-told.told.items _ thing is
-    (pages_steps hosts _ middle (record middle { pages = c.keep_live.new.pages }) c.in_ok-told.told.items _ done refl refl refl refl
+    (pages_steps hosts _ middle (record middle { pages = c.keep_live.new.pages }) c.in_ok-told.told.items _ done refl
     (c.keep_live.ensures ∙ ap (λ ns. filter (λ p. is_in p.number ns) m.pages.items) c.deref-2.ensures.value))
 
 pub returns-clause-leaves : goal.returns-clause-leaves

@@ -1,7 +1,8 @@
-use Rattle.std.proofs.Common.{map, refl, sym, ap, subst, arith}
+use Rattle.std.proofs.Common.{[], map, refl, sym, ap, subst, arith}
 use Rattle.sig_effect.specs.Stores.{environment, AreRuled}
 use Rattle.live_pages.specs.Views.{template_of}
 use Rattle.live_pages.proofs.Shared.{all_standing, pages_kept}
+use Rattle.live_core.specs.Views.{plain_of}
 use Rattle.live_core.proofs.Commands.{ready_changed, stays_settled}
 use Rattle.live_core.proofs.Mounts.{brought_steps, refused_steps}
 use Rattle.live_core.proofs.machine.Machine.end_flush.Goals as goal
@@ -14,10 +15,10 @@ pub returns-clause-steps : goal.returns-clause-steps
 returns-clause-steps g c = λ hosts slacks all sound.
     let m = c.args.self.now in
     let e = c.in_ok-pages.ensures in
-    let up = e.pages hosts slacks m.names (map template_of m.templates.items) all sound c.requires.shown in
+    let up = e.pages hosts slacks (plain_of [] m) all sound c.requires.shown in
     let new = record m { world = c.bring_all_up.new.world; pages = c.bring_all_up.new.pages } in
-    brought_steps hosts (environment hosts slacks) _ _ m new c.bring_all_up.new.world c.bring_all_up.new.pages.items c.args.told.items c.in_ok-pages.pages.items c.append.new.told.items
-    c.args.refused (sym c.if-refused.false) up refl refl refl refl refl c.in_ok-append.ensures (e.sound hosts all sound)
+    brought_steps hosts (environment hosts slacks) _ _ m new c.args.told.items c.in_ok-pages.pages.items c.append.new.told.items
+    c.args.refused (sym c.if-refused.false) up refl c.in_ok-append.ensures (e.sound hosts all sound)
 
 pub returns-clause-leaves : goal.returns-clause-leaves
 returns-clause-leaves g c = λ hosts count ready all sound.

@@ -26,7 +26,7 @@ returns-clause-steps g c = λ hosts all sound.
     let done = acts_steps hosts _ _ m c.flush.new.world c.tell_all.new.labels c.new-events.result.items c.flush.new.events.items act act c.in_ok-told.told.items
     c.new-events.ensures.items (e.done.does hosts all sound) refl
     (tells_by m.labels c.tell_all.new.labels c.flush.new.events.items _ c.in_ok-told.told.items c.deref.ensures.value t.entries t.labels t.names) in
-    let paged = pages_steps hosts _ said middle c.in_ok-told.told.items _ done refl refl refl refl
+    let paged = pages_steps hosts _ said middle c.in_ok-told.told.items _ done refl
     (c.keep_live.ensures ∙ ap (λ ns. filter (λ p. is_in p.number ns) m.pages.items) c.deref-2.ensures.value) in
     let last = c.in_ok-told-2.ensures.steps hosts (map (λ r. r.slack) c.args.rules.now) (e.done.answers hosts all) paged.sound in
     flush_steps hosts env _ _ _ m middle c.end_flush.new.self c.in_ok-told.told.items c.in_ok-told-2.told.items c.in_ok-end.end.refused paged (e.ends hosts all sound).1 last

@@ -7,14 +7,12 @@ use Rattle.sig_base.specs.Values.{scalar_value}
 use Rattle.signal_model.specs.Signals.{Cell}
 use Rattle.effect_model.specs.Commands.{with_new_cell}
 use Rattle.effect_tables.specs.Placed.{at_rest, is_open}
-use Rattle.effect_world.specs.Stores.{IsSound}
 use Rattle.effect_world.specs.Wholes.{whole_of}
 use Rattle.live_cmd.specs.declared.command.Command.TheVariants as command
 use Rattle.live_model.specs.declared.names.Kind.TheVariants as kind
 use Rattle.live_model.specs.declared.names.Need.TheVariants as need
 use Rattle.live_model.specs.Links.{owner_of}
 use Rattle.live_labels.specs.Views.{labels_of}
-use Rattle.live_core.specs.Consistency.{WorldAgrees}
 use Rattle.live_core.proofs.Rightly.{inside_open, neither, new_name, refused_at, uses_fine}
 use Rattle.live_core.proofs.Commands.{leaves_count, not_most, only_three, room_below, rule_below, true_false}
 use Rattle.live_core.proofs.Creations.{beside_cell, here_cell, leaves_signal, steps_named}
@@ -28,11 +26,10 @@ returns-clause-steps c = λ hosts slacks asked sound.
     let n = c.in_ok-name_signal.ensures in
     let d = e.does hosts asked sound in
     let labels = record (labels_of m.labels) { signals = m.labels.signals.items ++ c.args.name ∷ [] } in
-    steps_named hosts asked m new c.args.name kind.Cell c.in_ok-id.id m.world.signals.graph.given labels
+    steps_named hosts asked m new c.make_cell.new.self c.args.name kind.Cell c.in_ok-id.id m.world.signals.graph.given labels
     (with_new_cell (scalar_value c.args.value) c.args.equals (owner_of m.names c.args.inside) (whole_of asked m.world)) c.new.result.items e.id
-    (ap (whole_of asked) n.parts.world ∙ d.whole ∙ (λ i. at_rest (with_new_cell (c.into.ensures i) (c.rule_place.ensures i) (c.owner_of-owner.ensures i) (whole_of asked m.world))))
-    (record { names = n.names; labels = n.labels; templates = n.parts.templates; pages = n.parts.pages }) c.new.ensures.items
-    (subst (IsSound hosts asked) (sym n.parts.world) d.sound)
+    (d.whole ∙ (λ i. at_rest (with_new_cell (c.into.ensures i) (c.rule_place.ensures i) (c.owner_of-owner.ensures i) (whole_of asked m.world))))
+    (record { names = n.names; labels = n.labels; parts = n.parts }) c.new.ensures.items d.sound
 
 pub returns-clause-leaves : goal.returns-clause-leaves
 returns-clause-leaves c = λ hosts asked slacks count sound same fine.
@@ -40,21 +37,19 @@ returns-clause-leaves c = λ hosts asked slacks count sound same fine.
     let new = c.name_signal.new.self in
     let e = c.in_ok-id.ensures in
     let n = c.in_ok-name_signal.ensures in
-    let d = e.does hosts asked sound in
-    let whole = ap (whole_of asked) n.parts.world ∙ d.whole in
+    let whole = (e.does hosts asked sound).whole in
     let cell : Cell = record { name = m.world.signals.graph.given; value = c.into.result; rule = c.rule_place.result } in
     let signals = ap (λ x. x.signals) whole in
     let labels = record (labels_of m.labels) { signals = m.labels.signals.items ++ c.args.name ∷ [] } in
     leaves_count asked asked (length slacks) count m new same
-    (leaves_signal asked (length slacks) m new c.args.name kind.Cell c.in_ok-id.id labels c.requires.ready refl e.id
-    (record { names = n.names; labels = n.labels; templates = n.parts.templates; pages = n.parts.pages }) refl refl
+    (leaves_signal asked (length slacks) m new c.make_cell.new.self c.args.name kind.Cell c.in_ok-id.id labels c.requires.ready refl e.id
+    (record { names = n.names; labels = n.labels; parts = n.parts }) refl refl
     (record { watchers = ap (λ x. x.made.watchers) whole; pages = ap (λ x. x.pages) whole; paged = ap (λ x. x.made.pages) whole })
-    (ap (λ w. w.signals.graph.given) n.parts.world ∙ e.given)
-    (beside_cell m.world.signals.graph.state.signals new.world.signals.graph.state.signals cell signals)
-    (here_cell m.world.signals.graph.state.signals new.world.signals.graph.state.signals cell signals)
-    (let a = ap (λ w. w.signals.graph.state.worn) n.parts.world ∙ e.worn in let b = ap (λ x. x.made.effects) whole in omega (arith, a, b))
-    (λ h. subst (WorldAgrees asked (length slacks)) (sym n.parts.world)
-    (record { agrees = e.agrees asked h.agrees; ruled = e.ruled (length slacks) (λ r is. rule_below slacks c.args.equals r fine (sym c.rule_place.ensures ∙ is)) h.ruled })))
+    e.given
+    (beside_cell m.world.signals.graph.state.signals c.make_cell.new.self.signals.graph.state.signals cell signals)
+    (here_cell m.world.signals.graph.state.signals c.make_cell.new.self.signals.graph.state.signals cell signals)
+    (let a = e.worn in let b = ap (λ x. x.made.effects) whole in omega (arith, a, b))
+    (λ h. record { agrees = e.agrees asked h.agrees; ruled = e.ruled (length slacks) (λ r is. rule_below slacks c.args.equals r fine (sym c.rule_place.ensures ∙ is)) h.ruled }))
 
 pub returns-in_err-id-clause-memory : goal.returns-in_err-id-clause-memory
 returns-in_err-id-clause-memory c =

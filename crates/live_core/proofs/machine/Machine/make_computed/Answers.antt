@@ -12,7 +12,6 @@ use Rattle.effect_tables.specs.Placed.{at_rest, is_open}
 use Rattle.sig_nodes.specs.Answers.{expression_of}
 use Rattle.sig_nodes.specs.Computations.{recipe_made}
 use Rattle.sig_nodes.specs.States.{is_given}
-use Rattle.effect_world.specs.Stores.{IsSound}
 use Rattle.effect_world.specs.Wholes.{whole_of}
 use Rattle.live_cmd.specs.declared.command.Command.TheVariants as command
 use Rattle.live_model.specs.declared.names.Kind.TheVariants as kind
@@ -20,7 +19,6 @@ use Rattle.live_model.specs.declared.names.Need.TheVariants as need
 use Rattle.live_model.specs.Links.{owner_of, recipe_of}
 use Rattle.live_model.specs.Uses.{uses_of_inside, uses_of_source}
 use Rattle.live_labels.specs.Views.{labels_of}
-use Rattle.live_core.specs.Consistency.{WorldAgrees}
 use Rattle.live_core.proofs.Rightly.{inside_open, neither, new_name, parted, refused_at, uses_fine}
 use Rattle.live_core.proofs.Commands.{every, few_made, few_slots, free_made, host_fine, made_for, none_next, not_most, only_three, paged_for, room_below, source_used, stood_for, true_false}
 use Rattle.live_core.proofs.Creations.{beside_computed, here_computed, leaves_signal, steps_named}
@@ -49,12 +47,11 @@ returns-clause-steps c = λ hosts slacks asked agrees free sound.
     let made = recipe_made (expression_of c.in_ok-linked.linked.recipe) c.in_ok-linked.linked.slots.items in
     let d = e.does hosts asked agrees (free_made (whole_of asked m.world) made r c.in_ok-linked.ensures (host_fine (whole_of asked m.world) m.names c.args.source free)) sound in
     let labels = record (labels_of m.labels) { signals = m.labels.signals.items ++ c.args.name ∷ [] } in
-    steps_named hosts asked m new c.args.name kind.Computed c.in_ok-id.id m.world.signals.graph.given labels
+    steps_named hosts asked m new c.make_computed.new.self c.args.name kind.Computed c.in_ok-id.id m.world.signals.graph.given labels
     (with_use (host_of r.expression) (with_new_computed r (owner_of m.names c.args.inside) (whole_of asked m.world))) c.new.result.items e.id
-    (ap (whole_of asked) n.parts.world ∙ d.whole
+    (d.whole
     ∙ (λ i. at_rest (with_use (host_of (c.in_ok-linked.ensures i).expression) (with_new_computed (c.in_ok-linked.ensures i) (c.owner_of-owner.ensures i) (whole_of asked m.world)))))
-    (record { names = n.names; labels = n.labels; templates = n.parts.templates; pages = n.parts.pages }) c.new.ensures.items
-    (subst (IsSound hosts asked) (sym n.parts.world) d.sound)
+    (record { names = n.names; labels = n.labels; parts = n.parts }) c.new.ensures.items d.sound
 
 pub returns-clause-leaves : goal.returns-clause-leaves
 returns-clause-leaves c = λ hosts asked rules sound agrees free.
@@ -64,22 +61,22 @@ returns-clause-leaves c = λ hosts asked rules sound agrees free.
     let n = c.in_ok-name_signal.ensures in
     let made = recipe_made (expression_of c.in_ok-linked.linked.recipe) c.in_ok-linked.linked.slots.items in
     let opened = free_made (whole_of asked m.world) made (recipe_of m.names c.args.source) c.in_ok-linked.ensures (host_fine (whole_of asked m.world) m.names c.args.source free) in
-    let whole = ap (whole_of asked) n.parts.world ∙ (e.does hosts asked agrees opened sound).whole in
+    let whole = (e.does hosts asked agrees opened sound).whole in
     let computed : Computed = record { name = m.world.signals.graph.given; recipe = made } in
     let signals = ap (λ x. x.signals) whole ∙ stood_for (host_of made.expression) _ in
-    leaves_signal asked rules m new c.args.name kind.Computed c.in_ok-id.id (record (labels_of m.labels) { signals = m.labels.signals.items ++ c.args.name ∷ [] })
-    c.requires.ready refl e.id (record { names = n.names; labels = n.labels; templates = n.parts.templates; pages = n.parts.pages }) refl refl
+    leaves_signal asked rules m new c.make_computed.new.self c.args.name kind.Computed c.in_ok-id.id (record (labels_of m.labels) { signals = m.labels.signals.items ++ c.args.name ∷ [] })
+    c.requires.ready refl e.id (record { names = n.names; labels = n.labels; parts = n.parts }) refl refl
     (record {
       watchers = ap (λ x. x.made.watchers) whole ∙ ap (λ x. x.watchers) (made_for (host_of made.expression) _);
       pages = ap (λ x. x.pages) whole ∙ paged_for (host_of made.expression) _;
       paged = ap (λ x. x.made.pages) whole ∙ ap (λ x. x.pages) (made_for (host_of made.expression) _);
     })
-    (ap (λ w. w.signals.graph.given) n.parts.world ∙ e.given)
-    (beside_computed m.world.signals.graph.state.signals new.world.signals.graph.state.signals computed signals)
-    (here_computed m.world.signals.graph.state.signals new.world.signals.graph.state.signals computed (none_next m.world.signals.graph c.made-made.ensures.used) signals)
-    (let a = ap (λ w. w.signals.graph.state.worn) n.parts.world ∙ e.worn in
+    e.given
+    (beside_computed m.world.signals.graph.state.signals c.make_computed.new.self.signals.graph.state.signals computed signals)
+    (here_computed m.world.signals.graph.state.signals c.make_computed.new.self.signals.graph.state.signals computed (none_next m.world.signals.graph c.made-made.ensures.used) signals)
+    (let a = e.worn in
     let b = ap (λ x. x.made.effects) whole ∙ ap (λ x. x.effects) (made_for (host_of made.expression) _) in omega (arith, a, b))
-    (λ h. subst (WorldAgrees asked rules) (sym n.parts.world) (record { agrees = e.agrees asked h.agrees opened; ruled = e.ruled rules h.ruled }))
+    (λ h. record { agrees = e.agrees asked h.agrees opened; ruled = e.ruled rules h.ruled })
 
 pub returns-in_err-id-clause-memory : goal.returns-in_err-id-clause-memory
 returns-in_err-id-clause-memory c =

@@ -9,13 +9,11 @@ use Rattle.sig_untrack.specs.Stated.{no_bodies}
 use Rattle.effect_tables.specs.Scripts.{AreFitting}
 use Rattle.effect_tables.specs.Bodies.{body_along, body_of}
 use Rattle.sig_effect.specs.Stores.{AreRuled}
-use Rattle.effect_world.specs.Stores.{IsSound}
 use Rattle.effect_world.specs.Wholes.{whole_of}
 use Rattle.live_model.specs.declared.names.Kind.TheVariants as kind
 use Rattle.live_model.specs.Labels.{named, with_label}
 use Rattle.live_model.specs.Links.{linked_body, links_of, owner_of}
 use Rattle.live_labels.specs.Views.{labels_of}
-use Rattle.live_core.specs.Consistency.{WorldAgrees}
 use Rattle.live_linking.proofs.Shared.{fit_links}
 use Rattle.live_core.proofs.Creations.{leaves_other, other_effect, steps_named}
 use Rattle.live_core.proofs.machine.Machine.make_effect.Goals as goal
@@ -31,31 +29,27 @@ returns-clause-steps c = λ hosts slacks asked sound.
     let body : body_of number (record { body = c.into_body.result; links = c.in_ok-links.links }) [] ≡ linked_body m.names c.args.name number c.args.body =
     (λ i. body_along number (c.into_body.ensures i)
     ((c.in_ok-links.ensures no_bodies ∙ ap (links_of m.names c.args.name) c.as_body.ensures) i) 0 []) in
-    steps_named hosts asked m c.name_effect.new.self c.args.name kind.Effect c.in_ok-id.id number labels
+    steps_named hosts asked m c.name_effect.new.self c.make_effect.new.world c.args.name kind.Effect c.in_ok-id.id number labels
     (with_new_effect (linked_body m.names c.args.name number c.args.body) (owner_of m.names c.args.inside) (whole_of asked m.world)) c.new.result.items e.id
-    (ap (whole_of asked) n.parts.world ∙ d.whole ∙ (λ i. at_rest (with_new_effect (body i) (c.owner_of-owner.ensures i) (whole_of asked m.world))))
+    (d.whole ∙ (λ i. at_rest (with_new_effect (body i) (c.owner_of-owner.ensures i) (whole_of asked m.world))))
     (record {
       names = n.names;
       labels = n.labels ∙ ap (λ k. record (labels_of m.labels) { effects = with_label k (Some (named c.args.name)) (labels_of m.labels).effects }) e.id;
-      templates = n.parts.templates;
-      pages = n.parts.pages;
-    }) c.new.ensures.items
-    (subst (IsSound hosts asked) (sym n.parts.world) d.sound)
+      parts = n.parts;
+    }) c.new.ensures.items d.sound
 
 pub returns-clause-leaves : goal.returns-clause-leaves
 returns-clause-leaves c = λ hosts asked rules sound.
     let m = c.args.self.now in
     let e = c.in_ok-id.ensures in
     let n = c.in_ok-name_effect.ensures in
-    let whole = ap (whole_of asked) n.parts.world ∙ (e.does hosts asked sound).whole in
-    let same = ap (λ w. w.signals) n.parts.world ∙ e.signals in
-    leaves_other asked rules m c.name_effect.new.self c.args.name kind.Effect c.in_ok-id.id
+    let whole = (e.does hosts asked sound).whole in
+    leaves_other asked rules m c.name_effect.new.self c.make_effect.new.world c.args.name kind.Effect c.in_ok-id.id
     (record (labels_of m.labels) { effects = with_label c.in_ok-id.id (Some (named c.args.name)) (labels_of m.labels).effects }) c.requires.ready other_effect
-    (record { names = n.names; labels = n.labels; templates = n.parts.templates; pages = n.parts.pages }) refl refl
-    (record { watchers = ap (λ x. x.made.watchers) whole; pages = ap (λ x. x.pages) whole; paged = ap (λ x. x.made.pages) whole }) same
-    (let a = ap (λ s. s.graph.state.worn) same in let b = ap (λ x. x.made.effects) whole in omega (arith, a, b))
-    (λ h. subst (WorldAgrees asked rules) (sym n.parts.world)
-    (record { agrees = e.agrees asked h.agrees; ruled = subst (λ s. AreRuled rules s.graph.state.signals) (sym e.signals) h.ruled }))
+    (record { names = n.names; labels = n.labels; parts = n.parts }) refl refl
+    (record { watchers = ap (λ x. x.made.watchers) whole; pages = ap (λ x. x.pages) whole; paged = ap (λ x. x.made.pages) whole }) e.signals
+    (let a = ap (λ s. s.graph.state.worn) e.signals in let b = ap (λ x. x.made.effects) whole in omega (arith, a, b))
+    (λ h. record { agrees = e.agrees asked h.agrees; ruled = subst (λ s. AreRuled rules s.graph.state.signals) (sym e.signals) h.ruled })
 
 pub make_effect-requires-clause-open : goal.make_effect-requires-clause-open
 make_effect-requires-clause-open c =

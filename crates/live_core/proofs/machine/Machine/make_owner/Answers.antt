@@ -6,12 +6,10 @@ use Rattle.live_core.proofs.Rightly.{inside_open, neither, new_name, refused_at,
 use Rattle.std.proofs.Common.{◌≡◌, true, ◌∙◌, ◌∷◌, [], ◌++◌, ◌+◌, length, refl, sym, ap, subst, arith}
 use Rattle.effect_model.specs.Commands.{with_new_owner}
 use Rattle.sig_effect.specs.Stores.{AreRuled}
-use Rattle.effect_world.specs.Stores.{IsSound}
 use Rattle.effect_world.specs.Wholes.{whole_of}
 use Rattle.live_model.specs.declared.names.Kind.TheVariants as kind
 use Rattle.live_model.specs.Links.{owner_of}
 use Rattle.live_labels.specs.Views.{labels_of}
-use Rattle.live_core.specs.Consistency.{WorldAgrees}
 use Rattle.live_entries.specs.declared.refusal.LimitWord.TheVariants as limit
 use Rattle.sig_owner.specs.declared.limits.TheConstants.{MOST_OWNERS}
 use Rattle.live_core.proofs.Commands.{room_below}
@@ -25,26 +23,23 @@ returns-clause-steps c = λ hosts slacks asked sound.
     let n = c.in_ok-name_owner.ensures in
     let d = e.does hosts asked sound in
     let labels = record (labels_of m.labels) { owners = m.labels.owners.items ++ c.args.name ∷ [] } in
-    steps_named hosts asked m c.name_owner.new.self c.args.name kind.Owner c.in_ok-id.id (length m.world.tables.owners.items) labels
+    steps_named hosts asked m c.name_owner.new.self c.make_owner.new.world c.args.name kind.Owner c.in_ok-id.id (length m.world.tables.owners.items) labels
     (with_new_owner (owner_of m.names c.args.inside) (whole_of asked m.world)) c.new.result.items e.id
-    (ap (whole_of asked) n.parts.world ∙ d.whole ∙ ap (λ o. at_rest (with_new_owner o (whole_of asked m.world))) c.owner_of-owner.ensures)
-    (record { names = n.names; labels = n.labels; templates = n.parts.templates; pages = n.parts.pages }) c.new.ensures.items
-    (subst (IsSound hosts asked) (sym n.parts.world) d.sound)
+    (d.whole ∙ ap (λ o. at_rest (with_new_owner o (whole_of asked m.world))) c.owner_of-owner.ensures)
+    (record { names = n.names; labels = n.labels; parts = n.parts }) c.new.ensures.items d.sound
 
 pub returns-clause-leaves : goal.returns-clause-leaves
 returns-clause-leaves c = λ hosts asked rules sound.
     let m = c.args.self.now in
     let e = c.in_ok-id.ensures in
     let n = c.in_ok-name_owner.ensures in
-    let whole = ap (whole_of asked) n.parts.world ∙ (e.does hosts asked sound).whole in
-    let same = ap (λ w. w.signals) n.parts.world ∙ e.signals in
-    leaves_other asked rules m c.name_owner.new.self c.args.name kind.Owner c.in_ok-id.id
+    let whole = (e.does hosts asked sound).whole in
+    leaves_other asked rules m c.name_owner.new.self c.make_owner.new.world c.args.name kind.Owner c.in_ok-id.id
     (record (labels_of m.labels) { owners = m.labels.owners.items ++ c.args.name ∷ [] }) c.requires.ready other_owner
-    (record { names = n.names; labels = n.labels; templates = n.parts.templates; pages = n.parts.pages }) refl refl
-    (record { watchers = ap (λ x. x.made.watchers) whole; pages = ap (λ x. x.pages) whole; paged = ap (λ x. x.made.pages) whole }) same
-    (let a = ap (λ s. s.graph.state.worn) same in let b = ap (λ x. x.made.effects) whole in omega (arith, a, b))
-    (λ h. subst (WorldAgrees asked rules) (sym n.parts.world)
-    (record { agrees = e.agrees asked h.agrees; ruled = subst (λ s. AreRuled rules s.graph.state.signals) (sym e.signals) h.ruled }))
+    (record { names = n.names; labels = n.labels; parts = n.parts }) refl refl
+    (record { watchers = ap (λ x. x.made.watchers) whole; pages = ap (λ x. x.pages) whole; paged = ap (λ x. x.made.pages) whole }) e.signals
+    (let a = ap (λ s. s.graph.state.worn) e.signals in let b = ap (λ x. x.made.effects) whole in omega (arith, a, b))
+    (λ h. record { agrees = e.agrees asked h.agrees; ruled = subst (λ s. AreRuled rules s.graph.state.signals) (sym e.signals) h.ruled })
 
 pub make_owner-requires-clause-open : goal.make_owner-requires-clause-open
 make_owner-requires-clause-open c =

@@ -28,6 +28,6 @@ returns-clause-leaves c = λ hosts asked rules sound.
     let m = c.args.self.now in
     let new = record m { names = c.make.new.self; templates = c.push.new.self } in
     let made : LinkedTemplate = record { template = c.args.template; links = c.in_ok-links.links } in
-    leaves_template asked rules m new c.args.name made c.requires.ready
-    (c.in_ok-make.ensures ∙ ap (λ (x : ℕ). m.names ++ (c.args.name, record { kind = kind.Template; number = x }) ∷ []) (c.len-number.ensures ∙ m.templates.ok.0)) refl refl
-    c.in_ok-push.ensures.items refl c.requires.template
+    leaves_template asked rules m new c.args.name made c.requires.ready refl
+    (c.in_ok-make.ensures ∙ ap (λ (x : ℕ). m.names ++ (c.args.name, record { kind = kind.Template; number = x }) ∷ []) (c.len-number.ensures ∙ m.templates.ok.0))
+    c.in_ok-push.ensures.items c.requires.template

@@ -1,7 +1,6 @@
-use Rattle.std.proofs.Common.{◌∙◌, ◌∷◌, [], ◌++◌, ◌+◌, Bool, sym, ap, subst, arith}
+use Rattle.std.proofs.Common.{◌∙◌, ◌∷◌, [], ◌++◌, ◌+◌, Bool, ap, arith}
 use Rattle.effect_model.specs.Commands.{with_new_watcher}
 use Rattle.effect_tables.specs.Placed.{at_rest}
-use Rattle.effect_world.specs.Stores.{Agrees, IsSound}
 use Rattle.effect_world.specs.Wholes.{whole_of}
 use Rattle.live_model.specs.declared.names.Kind.TheVariants as kind
 use Rattle.live_model.specs.Machine.{is_trying}
@@ -24,21 +23,20 @@ returns-clause-steps c = λ hosts slacks asked sound.
     let e = c.in_ok-watcher.ensures in
     let n = c.in_ok-name_watcher.ensures in
     let d = e.does hosts asked sound in
-    steps_named hosts asked m c.name_watcher.new.self c.args.name kind.Watcher c.in_ok-watcher.watcher m.world.signals.watchers.made
+    steps_named hosts asked m c.name_watcher.new.self c.make_watcher.new.self c.args.name kind.Watcher c.in_ok-watcher.watcher m.world.signals.watchers.made
     (record (labels_of m.labels) { watchers = m.labels.watchers.items ++ c.args.name ∷ [] })
     (with_new_watcher (is_trying c.args.tries) (whole_of asked m.world)) c.new.result.items e.id
-    (ap (whole_of asked) n.parts.world ∙ d.whole ∙ ap (λ (b : Bool). at_rest (with_new_watcher b (whole_of asked m.world))) (c.is_some.ensures ∙ trying c.args.tries))
-    (record { names = n.names; labels = n.labels; templates = n.parts.templates; pages = n.parts.pages }) c.new.ensures.items
-    (subst (IsSound hosts asked) (sym n.parts.world) d.sound)
+    (d.whole ∙ ap (λ (b : Bool). at_rest (with_new_watcher b (whole_of asked m.world))) (c.is_some.ensures ∙ trying c.args.tries))
+    (record { names = n.names; labels = n.labels; parts = n.parts }) c.new.ensures.items d.sound
 
 pub returns-clause-leaves : goal.returns-clause-leaves
 returns-clause-leaves c = λ hosts asked rules sound.
     let m = c.args.self.now in
     let e = c.in_ok-watcher.ensures in
     let n = c.in_ok-name_watcher.ensures in
-    let whole = ap (whole_of asked) n.parts.world ∙ (e.does hosts asked sound).whole in
-    leaves_watcher asked rules m c.name_watcher.new.self c.args.name c.in_ok-watcher.watcher c.requires.ready
-    (record { names = n.names; labels = n.labels; templates = n.parts.templates; pages = n.parts.pages })
-    (ap (λ w. w.signals.graph) n.parts.world ∙ e.graph) (ap (λ w. w.signals.watchers.made) n.parts.world ∙ ap (λ t. t.made) e.watchers)
+    let whole = (e.does hosts asked sound).whole in
+    leaves_watcher asked rules m c.name_watcher.new.self c.make_watcher.new.self c.args.name c.in_ok-watcher.watcher c.requires.ready
+    (record { names = n.names; labels = n.labels; parts = n.parts })
+    e.graph (ap (λ t. t.made) e.watchers)
     (ap (λ x. x.pages) whole) (ap (λ x. x.made.pages) whole) (ap (λ x. x.made.effects) whole)
-    (λ h. subst (Agrees asked) (sym n.parts.world) (e.agrees asked h))
+    (e.agrees asked)

@@ -5,8 +5,6 @@ use Rattle.effect_tables.specs.Owners.{living}
 use Rattle.effect_tables.specs.Placed.{is_open}
 use Rattle.sig_base.specs.declared.limits.TheConstants.{MOST_PAGES}
 use Rattle.sig_effect.specs.Stores.{environment}
-use Rattle.effect_world.specs.Stores.{Agrees, IsSound}
-use Rattle.effect_world.specs.Wholes.{whole_of}
 use Rattle.live_cmd.specs.declared.command.Command.TheVariants as command
 use Rattle.live_entries.specs.declared.refusal.LimitWord.TheVariants as limit
 use Rattle.live_model.specs.declared.names.Kind.TheVariants as kind
@@ -60,10 +58,10 @@ returns-clause-steps g c = λ hosts slacks all sound.
     let up = e.page hosts slacks all sound in
     let d = c.in_ok-number.ensures.does hosts _ up.sound in
     let same = rw (c.deref.ensures.value, t, c.new-told.ensures.items) at up in
-    mount_steps hosts env _ _ m c.add_page.new.self c.mount.new.world c.args.name (number_of m.names c.args.template.now) c.in_ok-number.number (owner_of m.names c.args.inside.now)
+    mount_steps hosts env _ _ m c.add_page.new.self c.mount.new.world c.make_page.new.world c.args.name (number_of m.names c.args.template.now) c.in_ok-number.number (owner_of m.names c.args.inside.now)
     c.in_ok-page.page c.mount.new.told.items same (c.in_ok-number.ensures.id ∙ ap (λ x. x.pages_made) e.world.tables)
-    (by_owner _ c.add_page.new.self.world c.mount.new.world c.owner_of-owner.result (owner_of m.names c.args.inside.now) (ap (whole_of _) a.world ∙ d.whole) c.owner_of-owner.ensures)
-    (subst (IsSound hosts _) (sym a.world) d.sound) a.names a.labels a.templates
+    (by_owner _ c.make_page.new.world c.mount.new.world c.owner_of-owner.result (owner_of m.names c.args.inside.now) d.whole c.owner_of-owner.ensures)
+    d.sound a.parts a.names a.labels
     (a.pages ∙ ap (λ (x : ℕ). m.pages.items ++ (record { name = c.args.name; number = c.in_ok-number.number; template = x; page = c.in_ok-page.page }) ∷ []) t)
 
 pub returns-clause-leaves : goal.returns-clause-leaves
@@ -78,14 +76,14 @@ returns-clause-leaves g c = λ hosts count all sound.
     let t = c.number_of-template.ensures in
     let below = template_used m.world _ m.names c.args.template.now c.requires.ready.meant (used_of m.world m.names c.args.template.now kind.Template second.0) in
     let page : Mounted = record { name = c.args.name; number = c.in_ok-number.number; template = c.number_of-template.result; page = c.in_ok-page.page } in
-    leaves_mounted _ _ count m c.add_page.new.self c.mount.new.world c.args.name c.in_ok-number.number page c.requires.ready a.names a.labels a.templates a.pages c.owner_of-owner.result
-    (ap (whole_of _) a.world ∙ d.whole) (ap (λ w. w.signals) a.world ∙ c.in_ok-number.ensures.signals) e.world (c.in_ok-number.ensures.id ∙ ap (λ x. x.pages_made) e.world.tables)
+    leaves_mounted _ _ count m c.add_page.new.self c.mount.new.world c.make_page.new.world c.args.name c.in_ok-number.number page c.requires.ready a.parts a.names a.labels a.pages c.owner_of-owner.result
+    d.whole c.in_ok-number.ensures.signals e.world (c.in_ok-number.ensures.id ∙ ap (λ x. x.pages_made) e.world.tables)
     (record {
       template = subst (λ (n : ℕ). n < length (map template_of m.templates.items)) (sym t) (subst (λ (k : ℕ). number_of m.names c.args.template.now < k) (sym (length-map m.templates.items template_of)) below);
       stands = subst (λ ts. Stands (template_in (map template_of ts) c.number_of-template.result).lines (template_in (map template_of ts) c.number_of-template.result).links (standing c.in_ok-page.page)) c.deref.ensures.value e.stands;
     })
     (room_below MOST_PAGES (length m.world.tables.pages.items) limit.Pages c.requires.room)
-    (subst (Agrees _) (sym a.world) (c.in_ok-number.ensures.agrees _ e.agrees)) e.worn
+    (c.in_ok-number.ensures.agrees _ e.agrees) e.worn
 
 pub mount-requires-clause-known : goal.mount-requires-clause-known
 mount-requires-clause-known g c =
