@@ -27,7 +27,25 @@ fn bounds_a_body(rt: HostRuntime) -> Result<(), Fail> {
         ],
         "error 5 body\nerror 2 e\n",
     )?;
-    // the lines of a nested effect count, those too that begin and end it
+    // before names, also its own
+    assert_long(
+        &rt,
+        alloc,
+        &[
+            Once("cell e = 1\neffect e\n"),
+            Often("log 1\n", 65),
+            Once("end\neffect f\n"),
+            Often("log zz\n", 65),
+            Once("end\neffect e\nlog 1\nend\n"),
+        ],
+        "error 5 body\nerror 5 body\nerror 3 e\n",
+    )
+}
+
+// The lines of a nested effect count, those too that begin and end it.
+#[test]
+fn bounds_a_body_with_another(rt: HostRuntime) -> Result<(), Fail> {
+    let alloc = rt.alloc();
     assert_long(
         &rt,
         alloc,
@@ -51,19 +69,6 @@ fn bounds_a_body(rt: HostRuntime) -> Result<(), Fail> {
             Once("end\nget e\n"),
         ],
         "error 5 body\nerror 2 e\n",
-    )?;
-    // before names, also its own
-    assert_long(
-        &rt,
-        alloc,
-        &[
-            Once("cell e = 1\neffect e\n"),
-            Often("log 1\n", 65),
-            Once("end\neffect f\n"),
-            Often("log zz\n", 65),
-            Once("end\neffect e\nlog 1\nend\n"),
-        ],
-        "error 5 body\nerror 5 body\nerror 3 e\n",
     )
 }
 

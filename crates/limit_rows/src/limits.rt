@@ -30,7 +30,20 @@ fn bounds_a_line(rt: HostRuntime) -> Result<(), Fail> {
         &[Once("get "), Often("a", 4093), Once("\n")],
         "error 5 line\n",
     )?;
-    // a block with such a line, also one without its end
+    // a passed-over line has any length
+    assert_long(&rt, alloc, &[Once("#"), Often("-", 4095), Once("\n")], "")?;
+    assert_long(
+        &rt,
+        alloc,
+        &[Once("#"), Often("-", 4096), Once("\nget a")],
+        "error 2 a\n",
+    )
+}
+
+#[test]
+fn bounds_a_line_of_a_block(rt: HostRuntime) -> Result<(), Fail> {
+    let alloc = rt.alloc();
+    // also of one without its end
     assert_long(
         &rt,
         alloc,
@@ -57,14 +70,6 @@ fn bounds_a_line(rt: HostRuntime) -> Result<(), Fail> {
             Once("\nfoo\nend\n"),
         ],
         "error 5 line\n",
-    )?;
-    // a passed-over line has any length
-    assert_long(&rt, alloc, &[Once("#"), Often("-", 4095), Once("\n")], "")?;
-    assert_long(
-        &rt,
-        alloc,
-        &[Once("#"), Often("-", 4096), Once("\nget a")],
-        "error 2 a\n",
     )
 }
 
@@ -86,8 +91,12 @@ fn bounds_a_text(rt: HostRuntime) -> Result<(), Fail> {
         alloc,
         &[Once("cell c = \""), Often("z", 1025), Once("\"\n")],
         "error 5 text\n",
-    )?;
-    // it is counted in bytes
+    )
+}
+
+#[test]
+fn counts_a_text_in_bytes(rt: HostRuntime) -> Result<(), Fail> {
+    let alloc = rt.alloc();
     assert_long(
         &rt,
         alloc,
@@ -113,8 +122,13 @@ fn bounds_a_text(rt: HostRuntime) -> Result<(), Fail> {
             Once("y\""),
         ],
         "error 5 text\nerror 5 text\nerror 5 text\n",
-    )?;
-    // also as the value of a row
+    )
+}
+
+#[test]
+fn bounds_a_text_of_a_row_or_a_block(rt: HostRuntime) -> Result<(), Fail> {
+    let alloc = rt.alloc();
+    // as the value of a row
     assert_long(
         &rt,
         alloc,
@@ -154,7 +168,7 @@ const OTHER_HALF: Piece<'static> = Once(
 );
 
 #[test]
-fn bounds_a_formula(rt: HostRuntime) -> Result<(), Fail> {
+fn bounds_sources(rt: HostRuntime) -> Result<(), Fail> {
     let alloc = rt.alloc();
     assert_long(
         &rt,
@@ -179,7 +193,12 @@ fn bounds_a_formula(rt: HostRuntime) -> Result<(), Fail> {
             Once(" + c64)\nget s"),
         ],
         "error 5 sources\nerror 2 s\n",
-    )?;
+    )
+}
+
+#[test]
+fn bounds_a_height(rt: HostRuntime) -> Result<(), Fail> {
+    let alloc = rt.alloc();
     assert_long(
         &rt,
         alloc,
@@ -311,7 +330,7 @@ fn bounds_pages(rt: HostRuntime) -> Result<(), Fail> {
 }
 
 #[test]
-fn bounds_lists_and_elements(rt: HostRuntime) -> Result<(), Fail> {
+fn bounds_lists(rt: HostRuntime) -> Result<(), Fail> {
     let alloc = rt.alloc();
     assert_long(
         &rt,
@@ -337,7 +356,12 @@ fn bounds_lists_and_elements(rt: HostRuntime) -> Result<(), Fail> {
             Once("f0)\nget l\n"),
         ],
         "error 5 fields\nerror 1 2\nerror 2 l\n",
-    )?;
+    )
+}
+
+#[test]
+fn bounds_elements(rt: HostRuntime) -> Result<(), Fail> {
+    let alloc = rt.alloc();
     assert_long(
         &rt,
         alloc,
@@ -426,7 +450,12 @@ fn bounds_a_name(rt: HostRuntime) -> Result<(), Fail> {
             NAME,
             Once(">\n"),
         ],
-    )?;
+    )
+}
+
+#[test]
+fn refuses_longer_names(rt: HostRuntime) -> Result<(), Fail> {
+    let alloc = rt.alloc();
     assert_long(
         &rt,
         alloc,
