@@ -56,7 +56,8 @@ pub fn host_law()
     ensures { HostLaw }
 {}
 
-/// A change notifies exactly the watchers that are watching and one of whose signals it reaches along kept sources.
+/// Changes of signals that are told together notify exactly the watchers that are watching and one of whose signals one of them reaches
+/// along kept sources.
 pub fn notified_law()
     ensures { NotifiedLaw }
 {}

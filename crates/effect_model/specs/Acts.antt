@@ -1,12 +1,12 @@
 -- What acts do, and how things end.
-use Rattle.std.specs.Prelude.{ℕ, ◌==◌, ◌||◌, ◌&&◌, Bool, true, false, List, [], ◌∷◌, ◌++◌, map, slice_index, slice_get, set, length, Option, Some}
+use Rattle.std.specs.Prelude.{ℕ, ◌||◌, ◌&&◌, Bool, true, false, List, [], ◌∷◌, ◌++◌, map, slice_index, slice_get, set, length, Option, Some}
 use Rattle.std.specs.Prelude.{None, if◌then◌else◌}
 use Rattle.std.specs.Option.{option_or}
 use Rattle.std.specs.List.{filter}
 use Rattle.sig_base.specs.declared.value.Value.{Value}
 use Rattle.sig_base.specs.Values.{same_value, is_alike}
 use Rattle.signal_model.specs.Recipes.{Recipe, Expression, formula, host}
-use Rattle.signal_model.specs.Signals.{Signals, Stands, IsGone, IsCell, IsComputed, standing, without}
+use Rattle.signal_model.specs.Signals.{Signals, Stands, IsGone, IsCell, IsComputed, is_in, standing, without}
 use Rattle.signal_model.specs.Memos.{Memos}
 use Rattle.signal_model.specs.Marks.{found_below}
 use Rattle.signal_model.specs.Changes.{with_value, after_change, with_recipe, after_rewiring, without_signal, after_disposal}
@@ -17,22 +17,31 @@ use Rattle.effect_model.specs.Worlds.{notified, frozen, logged, cleaned, gone, d
 
 -- ---- notifications
 
--- a signal is another one, or that is kept below it
-abbrev pub is_reached : Signals → Memos → ℕ → ℕ → Bool
-is_reached w k n m = m == n || found_below (λ p. p == n) (length w.computeds) k m
+-- a signal is one of these, or one of these is kept below it
+abbrev pub is_reached_by_any : Signals → Memos → List ℕ → ℕ → Bool
+is_reached_by_any w k ns m = is_in m ns || found_below (λ p. is_in p ns) (length w.computeds) k m
 
 -- whether some number passes
 abbrev pub some_name : (ℕ → Bool) → List ℕ → Bool
 some_name f [] = false
 some_name f (n ∷ ns) = f n || some_name f ns
 
--- a change of a signal notifies a watcher that is watching, where one of its signals is it, or has it in the closure of its kept sources
-abbrev pub is_notified : Signals → Memos → ℕ → Watcher → Bool
-is_notified w k n x = x.watching && some_name (is_reached w k n) x.signals
+-- Changes of signals that are told together notify a watcher that is watching, where one of its signals is one of them, or has one of them
+-- in the closure of its kept sources.
+abbrev pub is_notified_by_any : Signals → Memos → List ℕ → Watcher → Bool
+is_notified_by_any w k ns x = x.watching && some_name (is_reached_by_any w k ns) x.signals
 
--- the watchers that are notified, in the order of making
+-- the watchers that are notified, each once, in the order of making
+abbrev pub notified_by_any : Signals → Memos → List ℕ → List Watcher → List Watcher
+notified_by_any w k ns xs = filter (is_notified_by_any w k ns) xs
+
+-- a change that is told alone
+abbrev pub is_notified : Signals → Memos → ℕ → Watcher → Bool
+is_notified w k n x = is_notified_by_any w k (n ∷ []) x
+
+-- and the watchers that it notifies
 abbrev pub notified_by : Signals → Memos → ℕ → List Watcher → List Watcher
-notified_by w k n xs = filter (is_notified w k n) xs
+notified_by w k n xs = notified_by_any w k (n ∷ []) xs
 
 -- those among them whose notification tries a command, which is refused
 abbrev pub frozen_by : List Watcher → List ℕ
@@ -51,11 +60,16 @@ told_frozen (n ∷ ns) = frozen (n ∷ ns) ∷ []
 abbrev pub waiting_if : (Watcher → Bool) → Watcher → Watcher
 waiting_if f x = if f x then record x { watching = false } else x
 
--- a signal was changed: these watchers are notified and are waiting, and then the frozen ones are told
+-- signals were changed: these watchers are notified and are waiting, and then the frozen ones are told
+abbrev pub notify_of_all : List ℕ → World → World
+notify_of_all ns w =
+    let xs = notified_by_any w.signals w.memos ns w.watchers in
+    tell_all (told_of xs ++ told_frozen (frozen_by xs))
+    (record w { watchers = map (waiting_if (is_notified_by_any w.signals w.memos ns)) w.watchers })
+
+-- one was
 abbrev pub notify : ℕ → World → World
-notify n w =
-    let xs = notified_by w.signals w.memos n w.watchers in
-    tell_all (told_of xs ++ told_frozen (frozen_by xs)) (record w { watchers = map (waiting_if (is_notified w.signals w.memos n)) w.watchers })
+notify n w = notify_of_all (n ∷ []) w
 
 -- ---- acts on signals
 
@@ -64,9 +78,13 @@ abbrev pub are_alike : List ℕ → Option ℕ → Value → Value → Bool
 are_alike slacks None a b = same_value a b
 are_alike slacks (Some rule) a b = is_alike (slice_index slacks rule) a b
 
--- a cell has another value
+-- a cell has another value, and nobody is notified
+abbrev pub with_quiet_value : ℕ → Value → World → World
+with_quiet_value n v w = record w { signals = with_value w.signals n v; memos = after_change w.memos n }
+
+-- a cell has another value, and that is told
 abbrev pub with_new_value : ℕ → Value → World → World
-with_new_value n v w = notify n (record w { signals = with_value w.signals n v; memos = after_change w.memos n })
+with_new_value n v w = notify n (with_quiet_value n v w)
 
 -- what is gone is refused
 abbrev pub set_standing : Stands → Environment → ℕ → Value → World → World

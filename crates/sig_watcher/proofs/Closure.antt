@@ -1,4 +1,4 @@
--- The seats of those that have a signal in the closure of their kept sources.
+-- The seats of those that have one of some signals in the closure of their kept sources.
 use Rattle.std.proofs.Common.{◌≡◌, ℕ, zero, suc, ◌+◌, ◌<◌, ◌==◌, ◌⊎◌, inl, inr, Bool, true, false, List, [], ◌∷◌, ◌++◌, append-nil, append_assoc, length, take, Option, Some, None, refl, sym, ap, ◌∙◌, subst, arith, true≢false}
 use Rattle.std.specs.Prelude.{slice_get, slice_index_or}
 use Rattle.std.proofs.lemmas.Bool.{eqb-true, eq-eqb}
@@ -14,10 +14,16 @@ use Rattle.signal_laws.proofs.Shared.{in_append, or_none}
 use Rattle.sig_nodes.specs.Search.{of_holder}
 use Rattle.sig_nodes.specs.Seats.{holder}
 use Rattle.sig_nodes.specs.States.{Seen}
-use Rattle.effect_model.specs.Acts.{is_reached, some_name}
+use Rattle.effect_model.specs.Acts.{is_reached_by_any, some_name}
 use Rattle.sig_watcher.specs.Reach.{Adds, AreReaching, HasSeat, IsFound, IsUnfound, NoneFound, SomeFound}
 
 -- ---- lists of names
+
+-- a name of the list passes a test
+pub record PassesIn (test : ℕ → Bool) (ns : List ℕ) : Type 0 where
+  pub name : ℕ
+  pub here : is_in name ns ≡ true
+  pub passes : test name ≡ true
 
 -- what is read at a place is among the others
 pub among : (names : List ℕ) (i m : ℕ) → i < length names → m ≡ slice_index_or names i m → is_in m names ≡ true
@@ -57,15 +63,39 @@ below_or zero (suc t) l = inl (omega arith)
 below_or (suc s) zero l = absurd (omega (arith, l))
 below_or (suc s) (suc t) l = let k : s < t + 1 = omega (arith, l) in elim (below_or s t k) [ inl a ↦ inl (omega (arith, a)) | inr e ↦ inr (ap suc e) ]
 
--- none is found so far, and the next one isn't
-pub none_more : (g : Seen) (n : ℕ) (seats names : List ℕ) (i m : ℕ) → i < length names → m ≡ slice_index_or names i m →
-    NoneFound g n seats (take i names) → IsUnfound g n seats m → NoneFound g n seats (take (i + 1) names)
-none_more g n seats names i m l is none clear = λ p h.
-    let more : take (i + 1) names ≡ take i names ++ m ∷ [] = take_more names i m l ∙ ap (λ k. take i names ++ k ∷ []) (sym is) in
-    elim (either (is_in p (take i names)) (is_in p (m ∷ [])) (sym (ap (is_in p) more ∙ in_append p (take i names) (m ∷ [])) ∙ h)) [
-      | inl old ↦ none p old
-      | inr new ↦ subst (IsUnfound g n seats) (sym (only_one p m new)) clear
+-- one of those up to a place and the one there is one of those before it, or is the one there
+pub in_more : (ns : List ℕ) (i p m : ℕ) → i < length ns → p ≡ slice_index_or ns i p → is_in m (take (i + 1) ns) ≡ true → (is_in m (take i ns) ≡ true) ⊎ (m ≡ p)
+in_more ns i p m l is h =
+    let more : take (i + 1) ns ≡ take i ns ++ p ∷ [] = take_more ns i p l ∙ ap (λ k. take i ns ++ k ∷ []) (sym is) in
+    elim (either (is_in m (take i ns)) (is_in m (p ∷ [])) (sym (ap (is_in m) more ∙ in_append m (take i ns) (p ∷ [])) ∙ h)) [
+      | inl old ↦ inl old
+      | inr new ↦ inr (only_one m p new)
     ]
+
+-- none is found so far, and the next one isn't
+pub none_more : (g : Seen) (ns : List ℕ) (seats names : List ℕ) (i m : ℕ) → i < length names → m ≡ slice_index_or names i m →
+    NoneFound g ns seats (take i names) → IsUnfound g ns seats m → NoneFound g ns seats (take (i + 1) names)
+none_more g ns seats names i m l is none clear = λ p h. elim (in_more names i m p l is h) [
+  | inl old ↦ none p old
+  | inr e ↦ subst (IsUnfound g ns seats) (sym e) clear
+]
+
+-- a name of the list that passes
+pub some_here : (test : ℕ → Bool) (ns : List ℕ) (n : ℕ) → is_in n ns ≡ true → test n ≡ true → some_name test ns ≡ true
+some_here test [] n h on = cc
+some_here test (m ∷ ms) n h on = elim (either (n == m) (is_in n ms) h) [
+  | inl e ↦ or_left (test m) (some_name test ms) (ap test (sym (eqb-true n m e)) ∙ on)
+  | inr f ↦ or_right (test m) (some_name test ms) (some_here test ms n f on)
+]
+
+-- which one it is
+pub some_is : (test : ℕ → Bool) (ns : List ℕ) → some_name test ns ≡ true → PassesIn test ns
+some_is test [] h = cc
+some_is test (m ∷ ms) h = elim (either (test m) (some_name test ms) h) [
+  | inl on ↦ record { name = m; here = or_left (m == m) (is_in m ms) (eq-eqb m m refl); passes = on }
+  | inr f ↦ let rest : PassesIn test ms = some_is test ms f in
+      record { name = rest.name; here = or_right (rest.name == m) (is_in rest.name ms) rest.here; passes = rest.passes }
+]
 
 -- what stands behind doesn't count for the front
 front : (ns ms : List ℕ) (i p : ℕ) → Some p ≡ slice_get ns i → take (i + 1) (ns ++ ms) ≡ take i ns ++ p ∷ []
@@ -119,9 +149,13 @@ one_there g seats new seat name behind holds = record {
   listed = ap (is_in seat) behind ∙ in_append seat seats (seat ∷ []) ∙ or_right (is_in seat seats) (is_in seat (seat ∷ [])) (or_left (seat == seat) false (eq-eqb seat seat refl));
 }
 
--- that of one signal that passes another test
+-- those of one test, where they pass another
+pub adds_under : (g : Seen) (test other : ℕ → Bool) (old new : List ℕ) → ((m : ℕ) → test m ≡ true → other m ≡ true) → Adds g test old new → Adds g other old new
+adds_under g test other old new on a = record { added = a.added; behind = a.behind; passes = λ m h. on m (a.passes m h) }
+
+-- that of one signal
 pub adds_as : (g : Seen) (test : ℕ → Bool) (name : ℕ) (old new : List ℕ) → test name ≡ true → Adds g (λ m. m == name) old new → Adds g test old new
-adds_as g test name old new on a = record { added = a.added; behind = a.behind; passes = λ m h. ap test (eqb-true m name (a.passes m h)) ∙ on }
+adds_as g test name old new on a = adds_under g (λ m. m == name) test old new (λ m h. ap test (eqb-true m name h) ∙ on) a
 
 -- some after others
 pub adds_then : (g : Seen) (test : ℕ → Bool) (a b c : List ℕ) → Adds g test a b → Adds g test b c → Adds g test a c
@@ -141,35 +175,37 @@ adds_from g seat p old new holds a = record { added = a.added; behind = a.behind
 
 -- ---- the search
 
--- Who has a reached seat has the signal below it. Reached are the seats of those that keep the signal, and of those that keep who has a
--- seat before a place.
-pub record IsUnderway (g : Seen) (n : ℕ) (seats : List ℕ) (place : ℕ) : Type 0 where
-  pub sound : (m : ℕ) → HasSeat g seats m → IsBelow g.state.memos m n
-  pub start : (m : ℕ) → keeps g.state.memos m n ≡ true → HasSeat g seats m
+-- Who has a reached seat has one of the signals below it. Reached are the seats of those that keep one of them, and of those that keep who
+-- has a seat before a place.
+pub record IsUnderway (g : Seen) (ns : List ℕ) (seats : List ℕ) (place : ℕ) : Type 0 where
+  pub sound : (m : ℕ) → HasSeat g seats m → HasBelow (λ p. is_in p ns) g.state.memos m
+  pub start : (m n : ℕ) → is_in n ns ≡ true → keeps g.state.memos m n ≡ true → HasSeat g seats m
   pub on : (m p : ℕ) → keeps g.state.memos m p ≡ true → HasSeat g (take place seats) p → HasSeat g seats m
 
--- it begins with those that keep the signal, where none was reached
-pub begun : (g : Seen) (n : ℕ) (old new : List ℕ) → old ≡ [] → Adds g (λ m. keeps g.state.memos m n) old new →
-    ((m : ℕ) → keeps g.state.memos m n ≡ true → HasSeat g new m) → IsUnderway g n new 0
-begun g n old new none a there = record {
+-- it begins with those that keep one of the signals, where none was reached
+pub begun : (g : Seen) (ns : List ℕ) (old new : List ℕ) → old ≡ [] → Adds g (λ m. some_name (keeps g.state.memos m) ns) old new →
+    ((m n : ℕ) → is_in n ns ≡ true → keeps g.state.memos m n ≡ true → HasSeat g new m) → IsUnderway g ns new 0
+begun g ns old new none a there = record {
   sound = λ m h. elim (seat_split g old a.added new m a.behind h) [
     | inl was ↦ absurd (nobody g m (subst (λ ss. HasSeat g ss m) none was))
-    | inr is ↦ kept (a.passes m is)
+    | inr is ↦
+        let one : PassesIn (keeps g.state.memos m) ns = some_is (keeps g.state.memos m) ns (a.passes m is) in
+        record { name = one.name; below = kept one.passes; passes = one.here }
   ];
   start = there;
   on = λ m p h f. absurd (nobody g p f);
 }
 
 -- the seat at the place has been looked at
-pub went_on : (g : Seen) (n seat place : ℕ) (old new : List ℕ) → Some seat ≡ slice_get old place → IsUnderway g n old place →
+pub went_on : (g : Seen) (ns : List ℕ) (seat place : ℕ) (old new : List ℕ) → Some seat ≡ slice_get old place → IsUnderway g ns old place →
     Adds g (λ m. of_holder (keeps g.state.memos m) (holder g.seats seat)) old new →
-    ((m p : ℕ) → holder g.seats seat ≡ Some p → keeps g.state.memos m p ≡ true → HasSeat g new m) → IsUnderway g n new (place + 1)
-went_on g n seat place old new at u a there = record {
+    ((m p : ℕ) → holder g.seats seat ≡ Some p → keeps g.state.memos m p ≡ true → HasSeat g new m) → IsUnderway g ns new (place + 1)
+went_on g ns seat place old new at u a there = record {
   sound = λ m h. elim (seat_split g old a.added new m a.behind h) [
     | inl was ↦ u.sound m was
     | inr is ↦ far m (holder g.seats seat) refl (a.passes m is)
   ];
-  start = λ m h. more m (u.start m h);
+  start = λ m n i h. more m (u.start m n i h);
   on = λ m p h f. elim (seat_split g (take place old) (seat ∷ []) (take (place + 1) new) p looked f) [
     | inl was ↦ more m (u.on m p h was)
     | inr is ↦ there m p (sym (ap (holder g.seats) (only_one is.seat seat is.listed)) ∙ is.holds) h
@@ -182,16 +218,18 @@ went_on g n seat place old new at u a there = record {
     looked : take (place + 1) new ≡ take place old ++ seat ∷ []
     looked = ap (take (place + 1)) a.behind ∙ front old a.added place seat at
 
-    far : (m : ℕ) (o : Option ℕ) → holder g.seats seat ≡ o → of_holder (keeps g.state.memos m) o ≡ true → IsBelow g.state.memos m n
+    far : (m : ℕ) (o : Option ℕ) → holder g.seats seat ≡ o → of_holder (keeps g.state.memos m) o ≡ true → HasBelow (λ z. is_in z ns) g.state.memos m
     far m None e q = cc
-    far m (Some p) e q = kept_below q (u.sound p (record { seat = seat; holds = e; listed = among_at old place seat at }))
+    far m (Some p) e q =
+        let b : HasBelow (λ z. is_in z ns) g.state.memos p = u.sound p (record { seat = seat; holds = e; listed = among_at old place seat at }) in
+        record { name = b.name; below = kept_below q b.below; passes = b.passes }
 
 -- in the end none is left
-pub ended : (g : Seen) (n place : ℕ) (seats : List ℕ) → None ≡ slice_get seats place → IsUnderway g n seats place → AreReaching g n seats
-ended g n place seats none u = record {
+pub ended : (g : Seen) (ns : List ℕ) (place : ℕ) (seats : List ℕ) → None ≡ slice_get seats place → IsUnderway g ns seats place → AreReaching g ns seats
+ended g ns place seats none u = record {
   sound = u.sound;
   settled = λ m p h f. elim f [
-    | inl e ↦ u.start m (subst (λ z. keeps g.state.memos m z ≡ true) e h)
+    | inl i ↦ u.start m p i h
     | inr is ↦ u.on m p h (subst (λ ss. HasSeat g ss p) (sym (all_taken seats place none)) is)
   ];
 }
@@ -217,61 +255,54 @@ below_there : (w : Signals) (k : Memos) (m n : ℕ) → OnlyComputedsKeep w k �
 below_there w k m n only (kept h) = keeper_there w k m n only h
 below_there w k m n only (kept_below {p = p} h r) = keeper_there w k m p only h
 
--- and its seat is reached where it is the signal
-below_found : (g : Seen) (n : ℕ) (seats : List ℕ) → AreReaching g n seats → (a b : ℕ) → IsBelow g.state.memos a b → b ≡ n → HasSeat g seats a
-below_found g n seats reaching a b (kept h) e = reaching.settled a b h (inl e)
-below_found g n seats reaching a b (kept_below {p = p} h r) e = reaching.settled a p h (inr (below_found g n seats reaching p b r e))
+-- and its seat is reached where what is below it is one of the signals
+below_found : (g : Seen) (ns : List ℕ) (seats : List ℕ) → AreReaching g ns seats → (a b : ℕ) → IsBelow g.state.memos a b → is_in b ns ≡ true → HasSeat g seats a
+below_found g ns seats reaching a b (kept h) i = reaching.settled a b h (inl i)
+below_found g ns seats reaching a b (kept_below {p = p} h r) i = reaching.settled a p h (inr (below_found g ns seats reaching p b r i))
 
--- so below what isn't found the signal isn't found
-clear_below : (g : Seen) (n m : ℕ) (seats : List ℕ) → OnlyComputedsKeep g.state.signals g.state.memos → AreReaching g n seats → IsUnfound g n seats m →
-    IsBelow g.state.memos m n → ⊥
-clear_below g n m seats only reaching clear below = elim clear.off [
-  | inl gone ↦ true≢false (sym (below_there g.state.signals g.state.memos m n only below) ∙ gone)
-  | inr down ↦ let f : HasSeat g seats m = below_found g n seats reaching m n below refl in true≢false (sym f.listed ∙ down f.seat f.holds)
+-- so below what isn't found none of the signals is found
+clear_below : (g : Seen) (ns : List ℕ) (m : ℕ) (seats : List ℕ) → OnlyComputedsKeep g.state.signals g.state.memos → AreReaching g ns seats →
+    IsUnfound g ns seats m → HasBelow (λ p. is_in p ns) g.state.memos m → ⊥
+clear_below g ns m seats only reaching clear below = elim clear.off [
+  | inl gone ↦ true≢false (sym (below_there g.state.signals g.state.memos m below.name only below.below) ∙ gone)
+  | inr down ↦
+      let f : HasSeat g seats m = below_found g ns seats reaching m below.name below.below below.passes in
+      true≢false (sym f.listed ∙ down f.seat f.holds)
 ]
 
 -- whether a signal is reached, by whether it is found
-pub found_reached : (g : Seen) (n m : ℕ) (seats : List ℕ) → OnlyComputedsKeep g.state.signals g.state.memos → AreReaching g n seats → IsFound g n seats m →
-    is_reached g.state.signals g.state.memos n m ≡ true
-found_reached g n m seats only reaching (inl e) =
-    or_left (m == n) (found_below (λ p. p == n) (length g.state.signals.computeds) g.state.memos m) (eq-eqb m n e)
-found_reached g n m seats only reaching (inr f) =
-    let search : Searches (λ p. p == n) g.state.signals g.state.memos m = below_law (λ p. p == n) g.state.signals g.state.memos m only in
-    or_right (m == n) (found_below (λ p. p == n) (length g.state.signals.computeds) g.state.memos m)
-    (search.finds (record { name = n; below = reaching.sound m f; passes = eq-eqb n n refl }))
+pub found_reached : (g : Seen) (ns : List ℕ) (m : ℕ) (seats : List ℕ) → OnlyComputedsKeep g.state.signals g.state.memos → AreReaching g ns seats →
+    IsFound g ns seats m → is_reached_by_any g.state.signals g.state.memos ns m ≡ true
+found_reached g ns m seats only reaching (inl i) =
+    or_left (is_in m ns) (found_below (λ p. is_in p ns) (length g.state.signals.computeds) g.state.memos m) i
+found_reached g ns m seats only reaching (inr f) =
+    let search : Searches (λ p. is_in p ns) g.state.signals g.state.memos m = below_law (λ p. is_in p ns) g.state.signals g.state.memos m only in
+    or_right (is_in m ns) (found_below (λ p. is_in p ns) (length g.state.signals.computeds) g.state.memos m) (search.finds (reaching.sound m f))
 
-pub unfound_unreached : (g : Seen) (n m : ℕ) (seats : List ℕ) → OnlyComputedsKeep g.state.signals g.state.memos → AreReaching g n seats → IsUnfound g n seats m →
-    is_reached g.state.signals g.state.memos n m ≡ false
-unfound_unreached g n m seats only reaching clear =
-    or_none (m == n) (found_below (λ p. p == n) (length g.state.signals.computeds) g.state.memos m) clear.other
-    (elim (tested (found_below (λ p. p == n) (length g.state.signals.computeds) g.state.memos m)) [
+pub unfound_unreached : (g : Seen) (ns : List ℕ) (m : ℕ) (seats : List ℕ) → OnlyComputedsKeep g.state.signals g.state.memos → AreReaching g ns seats →
+    IsUnfound g ns seats m → is_reached_by_any g.state.signals g.state.memos ns m ≡ false
+unfound_unreached g ns m seats only reaching clear =
+    or_none (is_in m ns) (found_below (λ p. is_in p ns) (length g.state.signals.computeds) g.state.memos m) clear.other
+    (elim (tested (found_below (λ p. is_in p ns) (length g.state.signals.computeds) g.state.memos m)) [
       | inr off ↦ off
       | inl on ↦
-          let search : Searches (λ p. p == n) g.state.signals g.state.memos m = below_law (λ p. p == n) g.state.signals g.state.memos m only in
-          let found : HasBelow (λ p. p == n) g.state.memos m = search.found on in
-          absurd (clear_below g n m seats only reaching clear (subst (IsBelow g.state.memos m) (eqb-true found.name n found.passes) found.below))
+          let search : Searches (λ p. is_in p ns) g.state.signals g.state.memos m = below_law (λ p. is_in p ns) g.state.signals g.state.memos m only in
+          absurd (clear_below g ns m seats only reaching clear (search.found on))
     ])
 
 -- the same of some of these
-pub some_reached : (g : Seen) (n : ℕ) (seats : List ℕ) (names : List ℕ) → OnlyComputedsKeep g.state.signals g.state.memos → AreReaching g n seats →
-    SomeFound g n seats names → some_name (is_reached g.state.signals g.state.memos n) names ≡ true
-some_reached g n seats names only reaching some = go names some.here
-  where
-    go : (ns : List ℕ) → is_in some.name ns ≡ true → some_name (is_reached g.state.signals g.state.memos n) ns ≡ true
-    go [] h = cc
-    go (k ∷ ks) h = elim (either (some.name == k) (is_in some.name ks) h) [
-      | inl e ↦ or_left (is_reached g.state.signals g.state.memos n k) (some_name (is_reached g.state.signals g.state.memos n) ks)
-          (ap (is_reached g.state.signals g.state.memos n) (sym (eqb-true some.name k e)) ∙ found_reached g n some.name seats only reaching some.found)
-      | inr f ↦ or_right (is_reached g.state.signals g.state.memos n k) (some_name (is_reached g.state.signals g.state.memos n) ks) (go ks f)
-    ]
+pub some_reached : (g : Seen) (ns : List ℕ) (seats : List ℕ) (names : List ℕ) → OnlyComputedsKeep g.state.signals g.state.memos → AreReaching g ns seats →
+    SomeFound g ns seats names → some_name (is_reached_by_any g.state.signals g.state.memos ns) names ≡ true
+some_reached g ns seats names only reaching some =
+    some_here (is_reached_by_any g.state.signals g.state.memos ns) names some.name some.here (found_reached g ns some.name seats only reaching some.found)
 
-pub none_reached : (g : Seen) (n : ℕ) (seats : List ℕ) (names : List ℕ) → OnlyComputedsKeep g.state.signals g.state.memos → AreReaching g n seats →
-    NoneFound g n seats names → some_name (is_reached g.state.signals g.state.memos n) names ≡ false
-none_reached g n seats names only reaching none = go names none
+pub none_reached : (g : Seen) (ns : List ℕ) (seats : List ℕ) (names : List ℕ) → OnlyComputedsKeep g.state.signals g.state.memos → AreReaching g ns seats →
+    NoneFound g ns seats names → some_name (is_reached_by_any g.state.signals g.state.memos ns) names ≡ false
+none_reached g ns seats names only reaching none = go names none
   where
-    go : (ns : List ℕ) → NoneFound g n seats ns → some_name (is_reached g.state.signals g.state.memos n) ns ≡ false
+    go : (ms : List ℕ) → NoneFound g ns seats ms → some_name (is_reached_by_any g.state.signals g.state.memos ns) ms ≡ false
     go [] h = refl
     go (k ∷ ks) h =
-        or_none (is_reached g.state.signals g.state.memos n k) (some_name (is_reached g.state.signals g.state.memos n) ks)
-        (unfound_unreached g n k seats only reaching (h k (or_left (k == k) (is_in k ks) (eq-eqb k k refl))))
+        or_none (is_reached_by_any g.state.signals g.state.memos ns k) (some_name (is_reached_by_any g.state.signals g.state.memos ns) ks)
+        (unfound_unreached g ns k seats only reaching (h k (or_left (k == k) (is_in k ks) (eq-eqb k k refl))))
         (go ks (λ m q. h m (or_right (m == k) (is_in m ks) q)))

@@ -8,7 +8,7 @@ use Rattle.signal_model.specs.Kept.{OnlyComputedsKeep}
 use Rattle.signal_laws.proofs.Shared.{or_fst, or_snd}
 use Rattle.sig_nodes.specs.States.{Seen}
 use Rattle.effect_model.specs.Worlds.{Watcher, watcher_numbers}
-use Rattle.effect_model.specs.Acts.{frozen_by, is_notified, is_reached, notified_by, some_name, waiting_if}
+use Rattle.effect_model.specs.Acts.{frozen_by, is_notified_by_any, is_reached_by_any, notified_by_any, some_name, waiting_if}
 use Rattle.sig_watcher.specs.declared.recipients.Told.{Told}
 use Rattle.sig_watcher.specs.Numbers.{changed_at, AreNumbered}
 use Rattle.sig_watcher.specs.Reach.{AreReaching, NoneFound, SomeFound}
@@ -57,10 +57,10 @@ numbered_after hit p made xs h = record {
 -- ---- whether it is notified
 
 -- some of its signals are found exactly where one of them is reached
-pub found_is : (g : Seen) (n : ℕ) (seats : List ℕ) (names : List ℕ) (b : Bool) → (b ≡ true → SomeFound g n seats names) → (b ≡ false → NoneFound g n seats names) →
-    OnlyComputedsKeep g.state.signals g.state.memos → AreReaching g n seats → b ≡ some_name (is_reached g.state.signals g.state.memos n) names
-found_is g n seats names true found clear only reaching = sym (some_reached g n seats names only reaching (found refl))
-found_is g n seats names false found clear only reaching = sym (none_reached g n seats names only reaching (clear refl))
+pub found_is : (g : Seen) (ns : List ℕ) (seats : List ℕ) (names : List ℕ) (b : Bool) → (b ≡ true → SomeFound g ns seats names) → (b ≡ false → NoneFound g ns seats names) →
+    OnlyComputedsKeep g.state.signals g.state.memos → AreReaching g ns seats → b ≡ some_name (is_reached_by_any g.state.signals g.state.memos ns) names
+found_is g ns seats names true found clear only reaching = sym (some_reached g ns seats names only reaching (found refl))
+found_is g ns seats names false found clear only reaching = sym (none_reached g ns seats names only reaching (clear refl))
 
 -- ---- one after the other
 
@@ -125,18 +125,18 @@ told_step test f all xs first old new p hit l is b so more =
 -- ---- where nobody is watching
 
 -- nobody is notified
-pub quiet_none : (w : Signals) (k : Memos) (n : ℕ) (xs : List Watcher) → list_any (λ (x : Watcher). x.watching) xs ≡ false → notified_by w k n xs ≡ []
-quiet_none w k n [] off = refl
-quiet_none w k n (x ∷ xs) off =
-    ap (λ b. cond (b && some_name (is_reached w k n) x.signals) (x ∷ notified_by w k n xs) (notified_by w k n xs)) (or_fst x.watching (list_any (λ (y : Watcher). y.watching) xs) off)
-    ∙ quiet_none w k n xs (or_snd x.watching (list_any (λ (y : Watcher). y.watching) xs) off)
+pub quiet_none : (w : Signals) (k : Memos) (ns : List ℕ) (xs : List Watcher) → list_any (λ (x : Watcher). x.watching) xs ≡ false → notified_by_any w k ns xs ≡ []
+quiet_none w k ns [] off = refl
+quiet_none w k ns (x ∷ xs) off =
+    ap (λ b. cond (b && some_name (is_reached_by_any w k ns) x.signals) (x ∷ notified_by_any w k ns xs) (notified_by_any w k ns xs)) (or_fst x.watching (list_any (λ (y : Watcher). y.watching) xs) off)
+    ∙ quiet_none w k ns xs (or_snd x.watching (list_any (λ (y : Watcher). y.watching) xs) off)
 
 -- and all stay
-pub quiet_stay : (w : Signals) (k : Memos) (n : ℕ) (xs : List Watcher) → list_any (λ (x : Watcher). x.watching) xs ≡ false → map (waiting_if (is_notified w k n)) xs ≡ xs
-quiet_stay w k n [] off = refl
-quiet_stay w k n (x ∷ xs) off =
-    ap (λ b. cond (b && some_name (is_reached w k n) x.signals) (waiting x) x ∷ map (waiting_if (is_notified w k n)) xs) (or_fst x.watching (list_any (λ (y : Watcher). y.watching) xs) off)
-    ∙ ap (λ ys. x ∷ ys) (quiet_stay w k n xs (or_snd x.watching (list_any (λ (y : Watcher). y.watching) xs) off))
+pub quiet_stay : (w : Signals) (k : Memos) (ns : List ℕ) (xs : List Watcher) → list_any (λ (x : Watcher). x.watching) xs ≡ false → map (waiting_if (is_notified_by_any w k ns)) xs ≡ xs
+quiet_stay w k ns [] off = refl
+quiet_stay w k ns (x ∷ xs) off =
+    ap (λ b. cond (b && some_name (is_reached_by_any w k ns) x.signals) (waiting x) x ∷ map (waiting_if (is_notified_by_any w k ns)) xs) (or_fst x.watching (list_any (λ (y : Watcher). y.watching) xs) off)
+    ∙ ap (λ ys. x ∷ ys) (quiet_stay w k ns xs (or_snd x.watching (list_any (λ (y : Watcher). y.watching) xs) off))
 
 -- ---- what the entries say
 

@@ -1,8 +1,9 @@
-// Which live signals have a signal in the closure of their kept sources: from it along dependants, by seats, each of which is reached
-// once. The list of reached seats is the queue too: those from a place on wait for the dependants of who has them.
+// Which live signals have one of some signals in the closure of their kept sources: from those along dependants, by seats, each of which
+// is reached once. The list of reached seats is the queue too: those from a place on wait for the dependants of who has them.
 ghost use Rattle.std.specs.Prelude.{◌≡◌, ℕ, ◌==◌, true, false, Some};
-ghost use Rattle.signal_model.specs.Signals.{is_there, standing};
+ghost use Rattle.signal_model.specs.Signals.{is_in, is_there, standing};
 ghost use Rattle.signal_model.specs.Memos.{keeps};
+ghost use Rattle.effect_model.specs.Acts.{some_name};
 ghost use Rattle.sig_nodes.specs.Search.{of_holder};
 ghost use Rattle.sig_nodes.specs.Seats.{holder};
 ghost use Rattle.sig_watcher.specs.Reach.{Adds, AreReaching, HasSeat, IsFound, IsUnfound, NoneFound, SomeFound};
@@ -23,12 +24,12 @@ fn is_live(graph: &Graph, name: NodeId) -> bool
     }
 }
 
-// Whether a signal is the one that is looked for, or its seat was reached.
-fn is_found(graph: &Graph, id: NodeId, reached: &Reached, name: NodeId) -> bool
-    ensures found { result ≡ true → IsFound graph.now id reached.now name }
-    ensures clear { result ≡ false → IsUnfound graph.now id reached.now name }
+// Whether a signal is one of those that are looked for, or its seat was reached.
+fn is_found(graph: &Graph, ids: &[NodeId], reached: &Reached, name: NodeId) -> bool
+    ensures found { result ≡ true → IsFound graph.now ids.now reached.now name }
+    ensures clear { result ≡ false → IsUnfound graph.now ids.now reached.now name }
 {
-    if name == id {
+    if is_among(ids, name) {
         return true;
     }
     if !is_live(graph, name) {
@@ -37,13 +38,18 @@ fn is_found(graph: &Graph, id: NodeId, reached: &Reached, name: NodeId) -> bool
     reached.has(graph.seat(name))
 }
 
-/// Whether one of these is the signal that is looked for, or has a seat that was reached.
-pub(crate) fn is_some_found(graph: &Graph, id: NodeId, reached: &Reached, names: &[NodeId]) -> bool
-    ensures found { result ≡ true → SomeFound graph.now id reached.now names.now }
-    ensures clear { result ≡ false → NoneFound graph.now id reached.now names.now }
+/// Whether one of these is a signal that is looked for, or has a seat that was reached.
+pub(crate) fn is_some_found(
+    graph: &Graph,
+    ids: &[NodeId],
+    reached: &Reached,
+    names: &[NodeId],
+) -> bool
+    ensures found { result ≡ true → SomeFound graph.now ids.now reached.now names.now }
+    ensures clear { result ≡ false → NoneFound graph.now ids.now reached.now names.now }
 {
     for name in names {
-        if is_found(graph, id, reached, *name) {
+        if is_found(graph, ids, reached, *name) {
             return true;
         }
     }
@@ -113,6 +119,16 @@ fn add_readers(graph: &Graph, id: NodeId, reached: &mut Reached)
     add_dependants(graph, id, reached);
 }
 
+// Reaches the seats of those that keep one of these signals.
+fn add_all_readers(graph: &Graph, ids: &[NodeId], reached: &mut Reached)
+    ensures adds { Adds graph.now (λ m. some_name (keeps graph.now.state.memos m) ids.now) reached.old reached.new }
+    ensures there { (m n : ℕ) → is_in n ids.now ≡ true → keeps graph.now.state.memos m n ≡ true → HasSeat graph.now reached.new m }
+{
+    for id in ids {
+        add_readers(graph, *id, reached);
+    }
+}
+
 // Reaches the seats of those that keep who has a seat.
 fn add_from(graph: &Graph, seat: usize, reached: &mut Reached)
     ensures adds { Adds graph.now (λ m. of_holder (keeps graph.now.state.memos m) (holder graph.now.seats seat)) reached.old reached.new }
@@ -124,12 +140,12 @@ fn add_from(graph: &Graph, seat: usize, reached: &mut Reached)
     add_dependants(graph, name, reached);
 }
 
-/// Reaches the seats of those that have a signal in the closure of their kept sources, and no others. It takes no memory.
-pub(crate) fn reach(graph: &Graph, id: NodeId, reached: &mut Reached)
-    ensures { AreReaching graph.now id reached.new }
+/// Reaches the seats of those that have one of these signals in the closure of their kept sources, and no others. It takes no memory.
+pub(crate) fn reach(graph: &Graph, ids: &[NodeId], reached: &mut Reached)
+    ensures { AreReaching graph.now ids.now reached.new }
 {
     reached.clear();
-    add_readers(graph, id, reached);
+    add_all_readers(graph, ids, reached);
     let mut place: usize = 0;
     while let Some(seat) = reached.at(place) {
         add_from(graph, seat, reached);

@@ -1,8 +1,8 @@
-// Who is told of a change, and which computeds are pending.
+// Who is told of changes, and which computeds are pending.
 ghost use Rattle.std.specs.Prelude.{◌≡◌, ℕ, ◌+◌, ◌<◌, ◌≤◌, ◌++◌, ◌∷◌, [], map, length, vec_len, vec_capacity, IfOk, OnOk};
 ghost use Rattle.std.specs.List.{list_any};
 ghost use Rattle.signal_model.specs.Kept.{OnlyComputedsKeep};
-ghost use Rattle.effect_model.specs.Acts.{is_notified, notified_by, waiting_if};
+ghost use Rattle.effect_model.specs.Acts.{is_notified_by_any, notified_by_any, waiting_if};
 ghost use Rattle.sig_nodes.specs.Answers.{mark_meant};
 ghost use Rattle.sig_watcher.specs.Numbers.{changed_at, AreNumbered};
 ghost use Rattle.sig_watcher.specs.Reach.{AreReaching};
@@ -26,14 +26,20 @@ pub struct Told {
 
 // ---- who is told
 
-// Whether the watcher at a place is notified of a change, by the seats that the change reaches.
-fn is_hit(graph: &Graph, id: NodeId, reached: &Reached, watchers: &[Watcher], place: usize) -> bool
+// Whether the watcher at a place is notified of changes, by the seats that they reach.
+fn is_hit(
+    graph: &Graph,
+    ids: &[NodeId],
+    reached: &Reached,
+    watchers: &[Watcher],
+    place: usize,
+) -> bool
     requires { place < length watchers.now }
-    ensures { OnlyComputedsKeep graph.now.state.signals graph.now.state.memos → AreReaching graph.now id reached.now →
-        result ≡ passes_at (is_notified graph.now.state.signals graph.now.state.memos id) place watchers.now }
+    ensures { OnlyComputedsKeep graph.now.state.signals graph.now.state.memos → AreReaching graph.now ids.now reached.now →
+        result ≡ passes_at (is_notified_by_any graph.now.state.signals graph.now.state.memos ids.now) place watchers.now }
 {
     let watcher = &watchers[place];
-    watcher.is_watching() && is_some_found(graph, id, reached, watcher.signals())
+    watcher.is_watching() && is_some_found(graph, ids, reached, watcher.signals())
 }
 
 // Tells of the watcher at a place where it is notified, which is waiting afterwards.
@@ -65,25 +71,25 @@ fn told_entry(watcher: &Watcher) -> Told
     }
 }
 
-/// Tells of all watchers that a change of a signal notifies, which are waiting afterwards. Of the table of seats it clears those that the
-/// change before reached.
+/// Tells of all watchers that changes of these signals notify, which are waiting afterwards. Of the table of seats it clears those that
+/// were reached before.
 pub(crate) fn tell_all(
     watchers: &mut Vec<Watcher>,
     reached: &mut Reached,
     graph: &Graph,
-    id: NodeId,
+    ids: &[NodeId],
     told: &mut Vec<Told>,
 )
     requires room { vec_len told.old + length watchers.old.items ≤ vec_capacity told.old }
     ensures told { OnlyComputedsKeep graph.now.state.signals graph.now.state.memos →
-        told.new.items ≡ told.old.items ++ map told_entry (notified_by graph.now.state.signals graph.now.state.memos id watchers.old.items) }
+        told.new.items ≡ told.old.items ++ map told_entry (notified_by_any graph.now.state.signals graph.now.state.memos ids.now watchers.old.items) }
     ensures watchers { OnlyComputedsKeep graph.now.state.signals graph.now.state.memos →
-        watchers.new.items ≡ map (waiting_if (is_notified graph.now.state.signals graph.now.state.memos id)) watchers.old.items }
+        watchers.new.items ≡ map (waiting_if (is_notified_by_any graph.now.state.signals graph.now.state.memos ids.now)) watchers.old.items }
     ensures numbered { (made : ℕ) → AreNumbered watchers.old.items made → AreNumbered watchers.new.items made }
 {
-    reach(graph, id, reached);
+    reach(graph, ids, reached);
     for place in 0..watchers.len() {
-        let hit = is_hit(graph, id, reached, watchers, place);
+        let hit = is_hit(graph, ids, reached, watchers, place);
         tell_at(hit, watchers, place, told);
     }
 }

@@ -1,6 +1,6 @@
 // All watchers.
 ghost use Rattle.std.specs.Prelude.{◌≡◌, ◌==◌, ℕ, ◌+◌, ◌++◌, vec_len, vec_capacity, ◌<◌, ◌≤◌, ◌^◌, ◌↔◌, ◌⊎◌, ◌&&◌, not, length, map, true, false, IfOk, IfErr, IfSome, IfNone, IsErrOf, OnOk, OnErr};
-ghost use Rattle.effect_model.specs.Acts.{forget, is_notified, notified_by, waiting_if};
+ghost use Rattle.effect_model.specs.Acts.{forget, is_notified, is_notified_by_any, notified_by, notified_by_any, waiting_if};
 ghost use Rattle.effect_model.specs.Commands.{armed};
 ghost use Rattle.sig_watcher.specs.declared.errors.WatchFault.TheVariants as fault;
 ghost use Rattle.sig_watcher.specs.Numbers.{changed_at, AreNumbered, IsFirst};
@@ -167,20 +167,29 @@ impl Watchers {
         Ok(pending)
     }
 
-    /// Tells of a change of a signal: of each watcher that is watching, and one of whose signals is the changed one or has it in the
-    /// closure of its kept sources, in the order of making. They are put behind what the list has, in room that is there for all
-    /// that live, and are waiting afterwards. It takes no memory, and costs what the change before reached, what this one reaches, and
-    /// the watchers; of a signal that is gone it looks at all seats.
-    pub fn tell(&mut self, graph: &Graph, id: NodeId, told: &mut Vec<Told>)
+    /// Tells of changes of these signals together: of each watcher that is watching, and one of whose signals is one of them or has one
+    /// of them in the closure of its kept sources, once and in the order of making. They are put behind what the list has, in room that is
+    /// there for all that live, and are waiting afterwards. It takes no memory, and costs what the changes before reached, what these
+    /// reach, and the signals of the watchers times these; of a signal that is gone it looks at all seats.
+    pub fn tell_all(&mut self, graph: &Graph, ids: &[NodeId], told: &mut Vec<Told>)
         requires room { vec_len told.old + length self.old.watchers ≤ vec_capacity told.old }
-        ensures told { told.new.items ≡ told.old.items ++ map told_entry (notified_by graph.now.state.signals graph.now.state.memos id self.old.watchers) }
-        ensures after { self.new ≡ with_each (waiting_if (is_notified graph.now.state.signals graph.now.state.memos id)) self.old }
+        ensures told { told.new.items ≡ told.old.items ++ map told_entry (notified_by_any graph.now.state.signals graph.now.state.memos ids.now self.old.watchers) }
+        ensures after { self.new ≡ with_each (waiting_if (is_notified_by_any graph.now.state.signals graph.now.state.memos ids.now)) self.old }
     {
         if !is_some_watching(&self.watchers) {
             return;
         }
         let _made = graph.made();
-        tell_all(&mut self.watchers, &mut self.reached, graph, id, told);
+        tell_all(&mut self.watchers, &mut self.reached, graph, ids, told);
+    }
+
+    /// Tells of a change of one signal.
+    pub fn tell(&mut self, graph: &Graph, id: NodeId, told: &mut Vec<Told>)
+        requires room { vec_len told.old + length self.old.watchers ≤ vec_capacity told.old }
+        ensures told { told.new.items ≡ told.old.items ++ map told_entry (notified_by graph.now.state.signals graph.now.state.memos id self.old.watchers) }
+        ensures after { self.new ≡ with_each (waiting_if (is_notified graph.now.state.signals graph.now.state.memos id)) self.old }
+    {
+        self.tell_all(graph, &[id], told);
     }
 
     /// Takes a signal out of all watchers. It takes no memory.

@@ -10,5 +10,5 @@ returns-then-is_found-clause-found c = λ q. record {
 
 pub loop-name-preserved : goal.loop-name-preserved
 loop-name-preserved c =
-    none_more c.args.graph.now c.args.id c.args.reached.now c.args.names.now c.loop-name.name-index c.name-item.result c.loop-name-test.true c.name-item.is c.loop-name.invariant
+    none_more c.args.graph.now c.args.ids.now c.args.reached.now c.args.names.now c.loop-name.name-index c.name-item.result c.loop-name-test.true c.name-item.is c.loop-name.invariant
     (c.is_found.ensures.clear c.if-is_found.false)

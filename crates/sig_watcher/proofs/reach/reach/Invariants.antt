@@ -7,4 +7,4 @@ abbrev pub decreases-loop-seat : goal.decreases-loop-seat
 decreases-loop-seat l = MOST_NODES - l.place
 
 abbrev pub invariant-loop-seat : goal.invariant-loop-seat
-invariant-loop-seat l = IsUnderway l.graph l.fn.id l.reached l.place
+invariant-loop-seat l = IsUnderway l.graph l.fn.ids l.reached l.place

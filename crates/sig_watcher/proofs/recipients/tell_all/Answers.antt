@@ -1,6 +1,6 @@
 use Rattle.std.proofs.Common.{◌<◌, List, length, sym, ap, ◌∙◌, subst, arith, rules}
 use Rattle.effect_model.specs.Worlds.{Watcher}
-use Rattle.effect_model.specs.Acts.{is_notified, waiting_if}
+use Rattle.effect_model.specs.Acts.{is_notified_by_any, waiting_if}
 use Rattle.sig_watcher.specs.Numbers.{AreNumbered}
 use Rattle.sig_watcher.specs.Notices.{passes_at, waiting_after}
 use Rattle.sig_watcher.proofs.Notices.{numbered_after, told_step, waiting_step}
@@ -10,7 +10,7 @@ use Rattle.sig_watcher.proofs.recipients.tell_all.Goals as goal
 pub loop-place-preserved : goal.loop-place-preserved
 loop-place-preserved c =
     let g = c.args.graph.now in
-    let test = is_notified g.state.signals g.state.memos c.args.id in
+    let test = is_notified_by_any g.state.signals g.state.memos c.args.ids.now in
     let all = c.args.watchers.now.items in
     let xs = c.loop-place.watchers.items in
     let p = c.loop-place.place in
