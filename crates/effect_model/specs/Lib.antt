@@ -6,5 +6,7 @@ pub mod Acts
 pub mod Runs
 pub mod Watchers
 pub mod Commands
+pub mod Batches
 pub mod Labels
 pub mod Examples
+pub mod BatchExamples
