@@ -356,7 +356,7 @@ notices_tell xs before after h =
     (subst (λ x. x) (λ i. AreFrozen (entries_frozen xs i) (before ++ map event.Notify (entries_told xs i)) after) h)
 
 -- who is waiting afterwards watches what it watched
-watched_waiting : (w : Signals) (f : Watcher → Bool) (xs : List Watcher) → AreWatched w xs → AreWatched w (map (waiting_if f) xs)
+pub watched_waiting : (w : Signals) (f : Watcher → Bool) (xs : List Watcher) → AreWatched w xs → AreWatched w (map (waiting_if f) xs)
 watched_waiting w f xs all = all_mapped _ _ (waiting_if f) xs (λ x h. go x (f x) h) all
   where
     go : (x : Watcher) (b : Bool) → ((n : ℕ) → is_in n x.signals ≡ true → is_there (standing w n) ≡ true) →
@@ -435,11 +435,11 @@ is_accepted (Ok Accepted) = true
 is_accepted _ = false
 
 -- then it isn't one that changed nothing, nor one that was refused
-not_same : (r : Result SetDone Gone) (b : Bool) → r ≡ Ok Accepted → (r ≡ Ok Same) ↔ (b ≡ true) → b ≡ false
+pub not_same : (r : Result SetDone Gone) (b : Bool) → r ≡ Ok Accepted → (r ≡ Ok Same) ↔ (b ≡ true) → b ≡ false
 not_same r false e iff = refl
 not_same r true e iff = let clash : true ≡ false = sym (ap is_accepted e) ∙ ap is_accepted (iff.1 refl) in absurd cc
 
-not_refused : (r : Result SetDone Gone) → r ≡ Ok Accepted → IsErr r → ⊥
+pub not_refused : (r : Result SetDone Gone) → r ≡ Ok Accepted → IsErr r → ⊥
 not_refused (Ok d) e h = cc
 not_refused (Err g) e h = let clash : false ≡ true = ap is_accepted e in cc
 

@@ -1,6 +1,7 @@
 mod Asks
 mod Start
 mod Edits
+mod Committed
 mod Acts
 mod HostStates
 mod Names

@@ -2,6 +2,7 @@
 //! meanwhile.
 #![tactic(auto)]
 
+mod batches;
 mod changes;
 mod creation;
 mod ends;
