@@ -2,6 +2,7 @@
 use Rattle.std.proofs.Common.{◌≡◌, ◌+◌, ◌-◌, ℕ, zero, suc, true, List, [], ◌∷◌, ◌++◌, refl, sym, ap, subst, ◌∙◌, append_assoc, arith}
 use Rattle.std.proofs.lemmas.List.{append-nil}
 use Rattle.script_lines.specs.Lines.{NumberedLine}
+use Rattle.body_text.specs.declared.allowance.Allowance.{Allowance}
 use Rattle.body_text.specs.declared.line.Line.{Line}
 use Rattle.body_text.specs.declared.line.Line.TheVariants as line
 use Rattle.body_text.specs.Grammar.{said_line}
@@ -81,32 +82,32 @@ put_effect (suc n) ls p = (
   p.3.3,
 )
 
-put_end : (n : ℕ) (ls : List Line) → fits n (kind_of line.End) ≡ true → Parts (n - 1) ls → Parts n (line.End ∷ ls)
-put_end zero ls h p = absurd cc
-put_end (suc n) ls h p =
+put_end : (allowance : Allowance) (n : ℕ) (ls : List Line) → fits allowance n (kind_of line.End) ≡ true → Parts (n - 1) ls → Parts n (line.End ∷ ls)
+put_end allowance zero ls h p = absurd cc
+put_end allowance (suc n) ls h p =
     let e : suc n - 1 ≡ n = omega arith in
     (done, ls, refl, subst (λ (m : ℕ). Parts m ls) e p)
 
-put_line : (n : ℕ) (l : Line) (ls : List Line) → fits n (kind_of l) ≡ true → Parts (moved n (kind_of l)) ls → Parts n (l ∷ ls)
-put_line n (line.Plain a) ls h p = put_plain n a ls p
-put_line n (line.Rewire m x) ls h p = put_rewire n m x ls p
-put_line n (line.When x) ls h p = let e : n + 1 ≡ suc n = omega arith in put_when n x ls (subst (λ (m : ℕ). Parts m ls) e p)
-put_line n line.Effect ls h p = let e : n + 1 ≡ suc n = omega arith in put_effect n ls (subst (λ (m : ℕ). Parts m ls) e p)
-put_line n line.End ls h p = put_end n ls h p
+put_line : (allowance : Allowance) (n : ℕ) (l : Line) (ls : List Line) → fits allowance n (kind_of l) ≡ true → Parts (moved n (kind_of l)) ls → Parts n (l ∷ ls)
+put_line allowance n (line.Plain a) ls h p = put_plain n a ls p
+put_line allowance n (line.Rewire m x) ls h p = put_rewire n m x ls p
+put_line allowance n (line.When x) ls h p = let e : n + 1 ≡ suc n = omega arith in put_when n x ls (subst (λ (m : ℕ). Parts m ls) e p)
+put_line allowance n line.Effect ls h p = let e : n + 1 ≡ suc n = omega arith in put_effect n ls (subst (λ (m : ℕ). Parts m ls) e p)
+put_line allowance n line.End ls h p = put_end allowance n ls h p
 
 no_parts : (n : ℕ) → n ≡ 0 → Parts n []
 no_parts zero e = (done, refl)
 no_parts (suc n) e = absurd (omega arith)
 
-parts : (n : ℕ) (ls : List NumberedLine) (xs : Sayings) → Say n ls xs → reached n xs ≡ 0 → Parts n (said_lines xs)
-parts n [] [] s e = no_parts n e
-parts n [] (x ∷ xs) s e = absurd s
-parts n (l ∷ ls) [] s e = absurd s
-parts n (l ∷ ls) (x ∷ xs) s e = put_line n (said_line x.1) (said_lines xs) s.2 (parts (moved n (kind_of (said_line x.1))) ls xs s.3 e)
+parts : (allowance : Allowance) (n : ℕ) (ls : List NumberedLine) (xs : Sayings) → Say allowance n ls xs → reached allowance n xs ≡ 0 → Parts n (said_lines xs)
+parts allowance n [] [] s e = no_parts n e
+parts allowance n [] (x ∷ xs) s e = absurd s
+parts allowance n (l ∷ ls) [] s e = absurd s
+parts allowance n (l ∷ ls) (x ∷ xs) s e = put_line allowance n (said_line x.1) (said_lines xs) s.2 (parts allowance (moved n (kind_of (said_line x.1))) ls xs s.3 e)
 
 -- lines that end all that they begin spell statements
-pub some_spelled : (ls : List NumberedLine) (xs : Sayings) → Say 0 ls xs → reached 0 xs ≡ 0 → (s : Statements) × (said_lines xs ≡ lines_of s)
-some_spelled ls xs s e = parts 0 ls xs s e
+pub some_spelled : (allowance : Allowance) (ls : List NumberedLine) (xs : Sayings) → Say allowance 0 ls xs → reached allowance 0 xs ≡ 0 → (s : Statements) × (said_lines xs ≡ lines_of s)
+some_spelled allowance ls xs s e = parts allowance 0 ls xs s e
 
 -- ---- lines that spell statements end all that they begin
 
@@ -114,9 +115,9 @@ abbrev behind : ℕ → List Line → ℕ
 behind n [] = n
 behind n (l ∷ ls) = behind (moved n (kind_of l)) ls
 
-reached_said : (n : ℕ) (xs : Sayings) → reached n xs ≡ behind n (said_lines xs)
-reached_said n [] = refl
-reached_said n (x ∷ xs) = reached_said (moved n (kind_of (said_line x.1))) xs
+reached_said : (allowance : Allowance) (n : ℕ) (xs : Sayings) → reached allowance n xs ≡ behind n (said_lines xs)
+reached_said allowance n [] = refl
+reached_said allowance n (x ∷ xs) = reached_said allowance (moved n (kind_of (said_line x.1))) xs
 
 behind_all : (n : ℕ) (s : Statements) (r : List Line) → behind n (lines_of s ++ r) ≡ behind n r
 behind_all n done r = refl
@@ -131,5 +132,5 @@ behind_all n (effect i s) r =
     ap (behind (n + 1)) (append_assoc (lines_of i) (line.End ∷ lines_of s) r) ∙ behind_all (n + 1) i (line.End ∷ (lines_of s ++ r))
     ∙ ap (λ (m : ℕ). behind m (lines_of s ++ r)) back ∙ behind_all n s r
 
-pub ends_all : (xs : Sayings) (s : Statements) → said_lines xs ≡ lines_of s → reached 0 xs ≡ 0
-ends_all xs s e = reached_said 0 xs ∙ ap (behind 0) (e ∙ sym (append-nil (lines_of s))) ∙ behind_all 0 s []
+pub ends_all : (allowance : Allowance) (xs : Sayings) (s : Statements) → said_lines xs ≡ lines_of s → reached allowance 0 xs ≡ 0
+ends_all allowance xs s e = reached_said allowance 0 xs ∙ ap (behind 0) (e ∙ sym (append-nil (lines_of s))) ∙ behind_all 0 s []

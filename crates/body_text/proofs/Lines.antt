@@ -9,6 +9,7 @@ use Rattle.line_forms.specs.Printed.{form_text}
 use Rattle.line_forms.proofs.Shared.{in_line, is_line, whole_line, rewrites}
 use Rattle.script_lines.specs.Lines.{NumberedLine, is_passed, kept_lines, lines, numbered}
 use Rattle.script_lines.proofs.Shared.{kept_first}
+use Rattle.body_text.specs.declared.allowance.Allowance.{Allowance}
 use Rattle.body_text.specs.Grammar.{Row, row, Said, said_line}
 use Rattle.body_text.specs.Places.{kind_of, moved}
 use Rattle.body_text.specs.Verdicts.{Say, Sayings}
@@ -51,15 +52,15 @@ AllLines (x ∷ xs) = (is_line (bytes_of x) ≡ true) × (is_passed (bytes_of x)
 abbrev pub said_all : Sayings → List Said
 said_all xs = map (λ x. x.1) xs
 
-pub all_lines : (p : ℕ) (ls : List NumberedLine) (xs : Sayings) → Say p ls xs → AllLines (said_all xs)
-all_lines p [] [] s = tt
-all_lines p [] (x ∷ xs) s = absurd s
-all_lines p (l ∷ ls) [] s = absurd s
-all_lines p (l ∷ ls) (x ∷ xs) s =
+pub all_lines : (allowance : Allowance) (p : ℕ) (ls : List NumberedLine) (xs : Sayings) → Say allowance p ls xs → AllLines (said_all xs)
+all_lines allowance p [] [] s = tt
+all_lines allowance p [] (x ∷ xs) s = absurd s
+all_lines allowance p (l ∷ ls) [] s = absurd s
+all_lines allowance p (l ∷ ls) (x ∷ xs) s =
     let w = s.1 in
     let r = rewrites Row row l.1 w.tokens x.1 w.cut w.spelled in
     let text = form_text (row x.1.0).1 x.1.1 in
-    (whole_line (row x.1.0).0 (row x.1.0).1 x.1.1 r.first r.parts, not_passed (row x.1.0).0 text r.first, all_lines (moved p (kind_of (said_line x.1))) ls xs s.3)
+    (whole_line (row x.1.0).0 (row x.1.0).1 x.1.1 r.first r.parts, not_passed (row x.1.0).0 text r.first, all_lines allowance (moved p (kind_of (said_line x.1))) ls xs s.3)
 
 no_kept : (n : ℕ) → kept_lines n [] ≡ []
 unfolding kept_lines lines numbered

@@ -4,8 +4,10 @@ use Rattle.std.specs.Prelude.{Ok, option_map, true, false}
 use Rattle.std.specs.List.{AllByRecursion}
 use Rattle.line_forms.specs.Forms.{Args}
 use Rattle.line_forms.proofs.Shared.{is_line, prints_back}
+use Rattle.formula_text.specs.declared.wired.Allow.{Allow}
 use Rattle.script_lines.specs.Lines.{NumberedLine, is_passed, kept_lines, numbered}
 use Rattle.sig_untrack.specs.Stated.{Bodies}
+use Rattle.body_text.specs.declared.allowance.Allowance.{Allowance}
 use Rattle.body_text.specs.declared.fault.BodyFault.{BodyFault}
 use Rattle.body_text.specs.declared.fault.BodyWhy.{BodyWhy}
 use Rattle.body_text.specs.declared.line.Line.{Line}
@@ -48,13 +50,13 @@ abbrev from : ℕ → Sayings → Sayings
 from n [] = []
 from n (x ∷ xs) = (n, x.1) ∷ from (n + 1) xs
 
-say_from : (depth : ℕ) (ls : List NumberedLine) (xs : Sayings) (n : ℕ) → Say depth ls xs → Say depth (numbered n (map bytes_of (said_all xs))) (from n xs)
+say_from : (allowance : Allowance) (depth : ℕ) (ls : List NumberedLine) (xs : Sayings) (n : ℕ) → Say allowance depth ls xs → Say allowance depth (numbered n (map bytes_of (said_all xs))) (from n xs)
 unfolding numbered
-say_from depth [] [] n s = tt
-say_from depth [] (x ∷ xs) n s = absurd s
-say_from depth (l ∷ ls) [] n s = absurd s
-say_from depth (l ∷ ls) (x ∷ xs) n s =
-    (refl, prints_back Row row x.1 l.1 s.1, s.2, say_from (moved depth (kind_of (said_line x.1))) ls xs (n + 1) s.3)
+say_from allowance depth [] [] n s = tt
+say_from allowance depth [] (x ∷ xs) n s = absurd s
+say_from allowance depth (l ∷ ls) [] n s = absurd s
+say_from allowance depth (l ∷ ls) (x ∷ xs) n s =
+    (refl, prints_back Row row x.1 l.1 s.1, s.2, say_from allowance (moved depth (kind_of (said_line x.1))) ls xs (n + 1) s.3)
 
 lines_from : (n : ℕ) (xs : Sayings) → said_lines (from n xs) ≡ said_lines xs
 lines_from n [] = refl
@@ -64,80 +66,80 @@ at_other : (j k : ℕ) (o : Option BodyWhy) → option_map (fault_at k) o ≡ No
 at_other j k None e = refl
 at_other j k (Some w) e = absurd cc
 
-none_misplaced : (depth n : ℕ) (xs : Sayings) → first_misplaced (judged depth xs) ≡ None → first_misplaced (judged depth (from n xs)) ≡ None
-none_misplaced depth n [] e = refl
-none_misplaced depth n (x ∷ xs) e =
+none_misplaced : (allow : Allow) (depth n : ℕ) (xs : Sayings) → first_misplaced (judged allow depth xs) ≡ None → first_misplaced (judged allow depth (from n xs)) ≡ None
+none_misplaced allow depth n [] e = refl
+none_misplaced allow depth n (x ∷ xs) e =
     let next = moved depth (kind_of (said_line x.1)) in
-    let both = neither (option_map (fault_at x.0) _) (first_misplaced (judged next xs)) e in
-    rw (at_other n x.0 _ both.0) (none_misplaced next (n + 1) xs both.1)
+    let both = neither (option_map (fault_at x.0) _) (first_misplaced (judged allow next xs)) e in
+    rw (at_other n x.0 _ both.0) (none_misplaced allow next (n + 1) xs both.1)
 
-none_excess : (depth n : ℕ) (xs : Sayings) → first_excess (judged depth xs) ≡ None → first_excess (judged depth (from n xs)) ≡ None
-none_excess depth n [] e = refl
-none_excess depth n (x ∷ xs) e =
+none_excess : (allow : Allow) (depth n : ℕ) (xs : Sayings) → first_excess (judged allow depth xs) ≡ None → first_excess (judged allow depth (from n xs)) ≡ None
+none_excess allow depth n [] e = refl
+none_excess allow depth n (x ∷ xs) e =
     let next = moved depth (kind_of (said_line x.1)) in
-    let both = neither (option_map (fault_at x.0) _) (first_excess (judged next xs)) e in
-    rw (at_other n x.0 _ both.0) (none_excess next (n + 1) xs both.1)
+    let both = neither (option_map (fault_at x.0) _) (first_excess (judged allow next xs)) e in
+    rw (at_other n x.0 _ both.0) (none_excess allow next (n + 1) xs both.1)
 
-same_count : (depth n : ℕ) (xs : Sayings) → length (judged depth (from n xs)) ≡ length (judged depth xs)
-same_count depth n [] = refl
-same_count depth n (x ∷ xs) = ap (λ (k : ℕ). suc k) (same_count (moved depth (kind_of (said_line x.1))) (n + 1) xs)
+same_count : (allow : Allow) (depth n : ℕ) (xs : Sayings) → length (judged allow depth (from n xs)) ≡ length (judged allow depth xs)
+same_count allow depth n [] = refl
+same_count allow depth n (x ∷ xs) = ap (λ (k : ℕ). suc k) (same_count allow (moved depth (kind_of (said_line x.1))) (n + 1) xs)
 
-none_refused : (depth n : ℕ) (xs : Sayings) → refusal_of (judged depth xs) ≡ None → refusal_of (judged depth (from n xs)) ≡ None
-none_refused depth n xs e =
-    let a = neither (first_misplaced (judged depth xs)) _ e in
-    let b = neither (first_excess (judged depth xs)) _ a.1 in
-    let many : many_lines (judged depth (from n xs)) ≡ None = rw (same_count depth n xs) b.1 in
-    rw (none_misplaced depth n xs a.0, none_excess depth n xs b.0) many
+none_refused : (allow : Allow) (depth n : ℕ) (xs : Sayings) → refusal_of (judged allow depth xs) ≡ None → refusal_of (judged allow depth (from n xs)) ≡ None
+none_refused allow depth n xs e =
+    let a = neither (first_misplaced (judged allow depth xs)) _ e in
+    let b = neither (first_excess (judged allow depth xs)) _ a.1 in
+    let many : many_lines (judged allow depth (from n xs)) ≡ None = rw (same_count allow depth n xs) b.1 in
+    rw (none_misplaced allow depth n xs a.0, none_excess allow depth n xs b.0) many
 
 -- ---- a body is read back
 
 -- what lines say that are this body
-record Done (ls : List NumberedLine) (b : Bodies) : Type 0 where
+record Done (allowance : Allowance) (ls : List NumberedLine) (b : Bodies) : Type 0 where
   xs : Sayings
   statements : Statements
-  say : Say 0 ls xs
+  say : Say allowance 0 ls xs
   spelled : said_lines xs ≡ lines_of statements
-  sound : refusal_of (judged 0 xs) ≡ None
+  sound : refusal_of (judged allowance.formulas 0 xs) ≡ None
   is : body_of statements ≡ b
 
 parted : (r : Option BodyFault) (u b : Bodies) → unless_refused r u ≡ Ok b → (r ≡ None) × (u ≡ b)
 parted None u b e = (refl, cc)
 parted (Some f) u b e = absurd cc
 
-done_by : (ls : List NumberedLine) (b : Bodies) (a : Answer) → IsRead ls a → a ≡ Ok b → Done ls b
-done_by ls b _ (faulty k f) e = absurd cc
-done_by ls b _ (unended xs s c) e = absurd cc
-done_by ls b _ (says xs t s c) e =
-    let both = parted (refusal_of (judged 0 xs)) (body_of t) b e in
+done_by : (allowance : Allowance) (ls : List NumberedLine) (b : Bodies) (a : Answer) → IsRead allowance ls a → a ≡ Ok b → Done allowance ls b
+done_by allowance ls b _ (faulty k f) e = absurd cc
+done_by allowance ls b _ (unended xs s c) e = absurd cc
+done_by allowance ls b _ (says xs t s c) e =
+    let both = parted (refusal_of (judged allowance.formulas 0 xs)) (body_of t) b e in
     record { xs = xs; statements = t; say = s; spelled = c; sound = both.0; is = both.1 }
 
-means : (ls : List NumberedLine) (b : Bodies) (d : Done ls b) → meaning b ≡ d.statements
-means ls b d = ap meaning (sym d.is) ∙ meant_back d.statements
+means : (allowance : Allowance) (ls : List NumberedLine) (b : Bodies) (d : Done allowance ls b) → meaning b ≡ d.statements
+means allowance ls b d = ap meaning (sym d.is) ∙ meant_back d.statements
 
-numbered_lines : (ls : List NumberedLine) (b : Bodies) (d : Done ls b) → kept_lines 0 (body_text b) ≡ numbered 0 (map bytes_of (said_all d.xs))
-numbered_lines ls b d =
-    ap (λ (s : Statements). kept_lines 0 (text_of s)) (means ls b d) ∙ ap (kept_lines 0) (said_text d.xs d.statements d.spelled)
-    ∙ kept_all 0 (said_all d.xs) (all_lines 0 ls d.xs d.say)
+numbered_lines : (allowance : Allowance) (ls : List NumberedLine) (b : Bodies) (d : Done allowance ls b) → kept_lines 0 (body_text b) ≡ numbered 0 (map bytes_of (said_all d.xs))
+numbered_lines allowance ls b d =
+    ap (λ (s : Statements). kept_lines 0 (text_of s)) (means allowance ls b d) ∙ ap (kept_lines 0) (said_text d.xs d.statements d.spelled)
+    ∙ kept_all 0 (said_all d.xs) (all_lines allowance 0 ls d.xs d.say)
 
 -- the lines of the text are those that are written
-pub lines_are : (ls : List NumberedLine) (b : Bodies) → IsRead ls (Ok b) → kept_lines 0 (body_text b) ≡ lines_of_text (meaning b)
-lines_are ls b r =
-    let d = done_by ls b (Ok b) r refl in
+pub lines_are : (allowance : Allowance) (ls : List NumberedLine) (b : Bodies) → IsRead allowance ls (Ok b) → kept_lines 0 (body_text b) ≡ lines_of_text (meaning b)
+lines_are allowance ls b r =
+    let d = done_by allowance ls b (Ok b) r refl in
     let same : map bytes_of (said_all d.xs) ≡ map (λ l. bytes_of (said_of l)) (lines_of d.statements) =
     ap (map bytes_of) (sym (all_back d.xs)) ∙ sym (bytes_same (said_lines d.xs)) ∙ ap (map (λ l. bytes_of (said_of l))) d.spelled in
-    numbered_lines ls b d ∙ ap (numbered 0) same ∙ ap lines_of_text (sym (means ls b d))
+    numbered_lines allowance ls b d ∙ ap (numbered 0) same ∙ ap lines_of_text (sym (means allowance ls b d))
 
 -- the text is read as the body
-pub read_back : (ls : List NumberedLine) (b : Bodies) → IsRead ls (Ok b) → IsRead (kept_lines 0 (body_text b)) (Ok b)
-read_back ls b r =
-    let d = done_by ls b (Ok b) r refl in
+pub read_back : (allowance : Allowance) (ls : List NumberedLine) (b : Bodies) → IsRead allowance ls (Ok b) → IsRead allowance (kept_lines 0 (body_text b)) (Ok b)
+read_back allowance ls b r =
+    let d = done_by allowance ls b (Ok b) r refl in
     let again = from 0 d.xs in
-    let whole : answer_of again d.statements ≡ Ok b =
-    ap (λ (o : Option BodyFault). unless_refused o (body_of d.statements)) (none_refused 0 0 d.xs d.sound) ∙ ap (λ (c : Bodies). Ok c) d.is in
-    let read : IsRead (numbered 0 (map bytes_of (said_all d.xs))) (answer_of again d.statements) =
-    says again d.statements (say_from 0 ls d.xs 0 d.say) (lines_from 0 d.xs ∙ d.spelled) in
-    subst (λ (a : Answer). IsRead (kept_lines 0 (body_text b)) a) whole
-    (subst (λ (ms : List NumberedLine). IsRead ms (answer_of again d.statements)) (sym (numbered_lines ls b d)) read)
+    let whole : answer_of allowance again d.statements ≡ Ok b =
+    ap (λ (o : Option BodyFault). unless_refused o (body_of d.statements)) (none_refused allowance.formulas 0 0 d.xs d.sound) ∙ ap (λ (c : Bodies). Ok c) d.is in
+    let read : IsRead allowance (numbered 0 (map bytes_of (said_all d.xs))) (answer_of allowance again d.statements) =
+    says again d.statements (say_from allowance 0 ls d.xs 0 d.say) (lines_from 0 d.xs ∙ d.spelled) in
+    subst (λ (a : Answer). IsRead allowance (kept_lines 0 (body_text b)) a) whole
+    (subst (λ (ms : List NumberedLine). IsRead allowance ms (answer_of allowance again d.statements)) (sym (numbered_lines allowance ls b d)) read)
 
 -- ---- with other numbers
 
@@ -145,30 +147,30 @@ read_back ls b r =
 abbrev pub bytes_in : Bodies → List (List ℕ)
 bytes_in b = map (λ l. bytes_of (said_of l)) (lines_of (meaning b))
 
-same_lines : (ls : List NumberedLine) (b : Bodies) (d : Done ls b) → map bytes_of (said_all d.xs) ≡ bytes_in b
-same_lines ls b d =
+same_lines : (allowance : Allowance) (ls : List NumberedLine) (b : Bodies) (d : Done allowance ls b) → map bytes_of (said_all d.xs) ≡ bytes_in b
+same_lines allowance ls b d =
     ap (map bytes_of) (sym (all_back d.xs)) ∙ sym (bytes_same (said_lines d.xs)) ∙ ap (map (λ l. bytes_of (said_of l))) d.spelled
-    ∙ ap (λ (s : Statements). map (λ l. bytes_of (said_of l)) (lines_of s)) (sym (means ls b d))
+    ∙ ap (λ (s : Statements). map (λ l. bytes_of (said_of l)) (lines_of s)) (sym (means allowance ls b d))
 
 -- the lines are read as the body, whatever their numbers
-pub read_anew : (n : ℕ) (ls : List NumberedLine) (b : Bodies) → IsRead ls (Ok b) → IsRead (numbered n (bytes_in b)) (Ok b)
-read_anew n ls b r =
-    let d = done_by ls b (Ok b) r refl in
+pub read_anew : (allowance : Allowance) (n : ℕ) (ls : List NumberedLine) (b : Bodies) → IsRead allowance ls (Ok b) → IsRead allowance (numbered n (bytes_in b)) (Ok b)
+read_anew allowance n ls b r =
+    let d = done_by allowance ls b (Ok b) r refl in
     let again = from n d.xs in
-    let whole : answer_of again d.statements ≡ Ok b =
-    ap (λ (o : Option BodyFault). unless_refused o (body_of d.statements)) (none_refused 0 n d.xs d.sound) ∙ ap (λ (c : Bodies). Ok c) d.is in
-    let read : IsRead (numbered n (map bytes_of (said_all d.xs))) (answer_of again d.statements) =
-    says again d.statements (say_from 0 ls d.xs n d.say) (lines_from n d.xs ∙ d.spelled) in
-    subst (λ (a : Answer). IsRead (numbered n (bytes_in b)) a) whole
-    (subst (λ (ms : List (List ℕ)). IsRead (numbered n ms) (answer_of again d.statements)) (same_lines ls b d) read)
+    let whole : answer_of allowance again d.statements ≡ Ok b =
+    ap (λ (o : Option BodyFault). unless_refused o (body_of d.statements)) (none_refused allowance.formulas 0 n d.xs d.sound) ∙ ap (λ (c : Bodies). Ok c) d.is in
+    let read : IsRead allowance (numbered n (map bytes_of (said_all d.xs))) (answer_of allowance again d.statements) =
+    says again d.statements (say_from allowance 0 ls d.xs n d.say) (lines_from n d.xs ∙ d.spelled) in
+    subst (λ (a : Answer). IsRead allowance (numbered n (bytes_in b)) a) whole
+    (subst (λ (ms : List (List ℕ)). IsRead allowance (numbered n ms) (answer_of allowance again d.statements)) (same_lines allowance ls b d) read)
 
 each_whole : (xs : List Said) → AllLines xs → AllByRecursion (λ l. (is_line l ≡ true) × (is_passed l ≡ false)) (map bytes_of xs)
 each_whole [] s = tt
 each_whole (x ∷ xs) s = ((s.0, s.1), each_whole xs s.2)
 
 -- each is one line, which isn't passed over
-pub whole_lines : (ls : List NumberedLine) (b : Bodies) → IsRead ls (Ok b) → AllByRecursion (λ l. (is_line l ≡ true) × (is_passed l ≡ false)) (bytes_in b)
-whole_lines ls b r =
-    let d = done_by ls b (Ok b) r refl in
-    subst (λ (ms : List (List ℕ)). AllByRecursion (λ l. (is_line l ≡ true) × (is_passed l ≡ false)) ms) (same_lines ls b d)
-    (each_whole (said_all d.xs) (all_lines 0 ls d.xs d.say))
+pub whole_lines : (allowance : Allowance) (ls : List NumberedLine) (b : Bodies) → IsRead allowance ls (Ok b) → AllByRecursion (λ l. (is_line l ≡ true) × (is_passed l ≡ false)) (bytes_in b)
+whole_lines allowance ls b r =
+    let d = done_by allowance ls b (Ok b) r refl in
+    subst (λ (ms : List (List ℕ)). AllByRecursion (λ l. (is_line l ≡ true) × (is_passed l ≡ false)) ms) (same_lines allowance ls b d)
+    (each_whole (said_all d.xs) (all_lines allowance 0 ls d.xs d.say))

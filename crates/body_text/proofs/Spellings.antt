@@ -8,6 +8,7 @@ use Rattle.sig_words.specs.declared.token.TokenKind.TheVariants as kind
 use Rattle.sig_words.specs.Lexemes.{Lexeme, word, lexeme, lexemes, text_at}
 use Rattle.sig_words.specs.Tokens.{AreTokens, IsBad, IsTokenOf}
 use Rattle.sig_words.proofs.Shared.{each_token, token_word_utf8, lexeme-Word}
+use Rattle.formula_text.specs.declared.wired.Allow.{Allow}
 use Rattle.line_forms.specs.Forms.{Args}
 use Rattle.line_forms.specs.Reader.{read_form}
 use Rattle.line_forms.specs.Rows.{first_of, rows_of, said_of}
@@ -20,32 +21,32 @@ use Rattle.body_text.proofs.Grammars.{is_grammar}
 
 -- ---- the rows of a word
 
-found_one : (r : Row) (o : Option (Args (row r).1)) (rest : Option Said)
-    → option_map found_of (option_or (option_map (λ a. (r, a)) o) rest)
-    ≡ option_or (option_map (λ a. found_of (r, a)) o) (option_map found_of rest)
-found_one r None rest = refl
-found_one r (Some a) rest = refl
+found_one : (allow : Allow) (r : Row) (o : Option (Args (row r).1)) (rest : Option Said)
+    → option_map (found_of allow) (option_or (option_map (λ a. (r, a)) o) rest)
+    ≡ option_or (option_map (λ a. found_of allow (r, a)) o) (option_map (found_of allow) rest)
+found_one allow r None rest = refl
+found_one allow r (Some a) rest = refl
 
 or_none : {A : Type 0} (o : Option A) → option_or o None ≡ o
 or_none None = refl
 or_none (Some a) = refl
 
 -- what the first of the rows finds is what the tokens say
-found_said : (rs : List Row) (ls : List Lexeme) → found_first rs ls ≡ option_map found_of (first_of Row row rs ls)
-found_said [] ls = refl
-found_said (r ∷ []) ls = sym (found_one r (read_form (row r).1 ls) None ∙ or_none (found_as r ls))
-found_said (r ∷ s ∷ rs) ls =
-    ap (option_or (found_as r ls)) (found_said (s ∷ rs) ls) ∙ sym (found_one r (read_form (row r).1 ls) (first_of Row row (s ∷ rs) ls))
+found_said : (allow : Allow) (rs : List Row) (ls : List Lexeme) → found_first allow rs ls ≡ option_map (found_of allow) (first_of Row row rs ls)
+found_said allow [] ls = refl
+found_said allow (r ∷ []) ls = sym (found_one allow r (read_form (row r).1 ls) None ∙ or_none (found_as allow r ls))
+found_said allow (r ∷ s ∷ rs) ls =
+    ap (option_or (found_as allow r ls)) (found_said allow (s ∷ rs) ls) ∙ sym (found_one allow r (read_form (row r).1 ls) (first_of Row row (s ∷ rs) ls))
 
 -- what the rows of a first word find is what the line says
-pub said_word : (line : List ℕ) (ts : List Token) (t : Token) (w : List ℕ) → Some t ≡ slice_get ts 0 → t.kind ≡ kind.Word → w ≡ text_at line t
-    → option_map found_of (said_of Row row table (lexemes line ts)) ≡ found_first (rows_of w table) (ahead line ts 1)
+pub said_word : (allow : Allow) (line : List ℕ) (ts : List Token) (t : Token) (w : List ℕ) → Some t ≡ slice_get ts 0 → t.kind ≡ kind.Word → w ≡ text_at line t
+    → option_map (found_of allow) (said_of Row row table (lexemes line ts)) ≡ found_first allow (rows_of w table) (ahead line ts 1)
 unfolding ahead
-said_word line [] t w e k h = absurd cc
-said_word line (u ∷ us) t w e k h =
+said_word allow line [] t w e k h = absurd cc
+said_word allow line (u ∷ us) t w e k h =
     let same : t ≡ u = cc in
     let says : lexeme line u ≡ word w = ap (lexeme line) (sym same) ∙ lexeme-Word line t k ∙ ap (λ (v : List ℕ). word v) (sym h) in
-    rw says (sym (found_said (rows_of w table) (lexemes line us)))
+    rw says (sym (found_said allow (rows_of w table) (lexemes line us)))
 
 -- the first token's bytes are UTF-8
 pub first_utf8 : (line : List ℕ) (ts : List Token) (t : Token) → AreTokens line ts → Some t ≡ slice_get ts 0 → t.kind ≡ kind.Word → IsUtf8 (text_at line t)
@@ -58,21 +59,21 @@ first_utf8 line (u ∷ us) t a e k =
 -- ---- lines of bytes
 
 -- what is found in a line that writes this or nothing
-abbrev IsFound : List ℕ → Option Found → Type 0
-IsFound bytes found = MatchOption found ((x : Said) → Writes x bytes → ⊥) (λ f. (x : Said) × Writes x bytes × (f ≡ found_of x))
+abbrev IsFound : Allow → List ℕ → Option Found → Type 0
+IsFound allow bytes found = MatchOption found ((x : Said) → Writes x bytes → ⊥) (λ f. (x : Said) × Writes x bytes × (f ≡ found_of allow x))
 
-of_found : (bytes : List ℕ) (ts : List Token) (found : Option Found) (o : Option Said) → AreTokens bytes ts
-    → said_of Row row table (lexemes bytes ts) ≡ o → found ≡ option_map found_of o → IsFound bytes found
-of_found bytes ts None None a e f = lines.writes_none Row row table is_grammar bytes ts a e
-of_found bytes ts (Some x) None a e f = absurd cc
-of_found bytes ts None (Some y) a e f = absurd cc
-of_found bytes ts (Some x) (Some y) a e f = (y, lines.writes Row row table is_grammar bytes ts y a e, cc)
+of_found : (allow : Allow) (bytes : List ℕ) (ts : List Token) (found : Option Found) (o : Option Said) → AreTokens bytes ts
+    → said_of Row row table (lexemes bytes ts) ≡ o → found ≡ option_map (found_of allow) o → IsFound allow bytes found
+of_found allow bytes ts None None a e f = lines.writes_none Row row table is_grammar bytes ts a e
+of_found allow bytes ts (Some x) None a e f = absurd cc
+of_found allow bytes ts None (Some y) a e f = absurd cc
+of_found allow bytes ts (Some x) (Some y) a e f = (y, lines.writes Row row table is_grammar bytes ts y a e, cc)
 
 -- what is found in the tokens of a line is what its bytes write
-pub from_tokens : {E : Type 0} (bytes : List ℕ) (ts : List Token) (r : Result (Option Found) E) → AreTokens bytes ts
-    → IfOk r (λ found. found ≡ option_map found_of (said_of Row row table (lexemes bytes ts))) → IfOk r (λ found. IsFound bytes found)
-from_tokens bytes ts (Ok found) a e = of_found bytes ts found (said_of Row row table (lexemes bytes ts)) a refl e
-from_tokens bytes ts (Err e) a h = h
+pub from_tokens : {E : Type 0} (allow : Allow) (bytes : List ℕ) (ts : List Token) (r : Result (Option Found) E) → AreTokens bytes ts
+    → IfOk r (λ found. found ≡ option_map (found_of allow) (said_of Row row table (lexemes bytes ts))) → IfOk r (λ found. IsFound allow bytes found)
+from_tokens allow bytes ts (Ok found) a e = of_found allow bytes ts found (said_of Row row table (lexemes bytes ts)) a refl e
+from_tokens allow bytes ts (Err e) a h = h
 
 -- a line without tokens says nothing
 pub bad_none : (bytes : List ℕ) (at : ℕ) → IsBad bytes at → (x : Said) → Writes x bytes → ⊥

@@ -1,6 +1,7 @@
 pub mod Parts
 pub mod Formulas
 pub mod Grammar
+pub mod Allowances
 pub mod Refusals
 pub mod Names
 pub mod Places
@@ -9,3 +10,4 @@ pub mod Verdicts
 pub mod Statements
 pub mod Views
 pub mod Printer
+pub mod Examples

@@ -1,5 +1,5 @@
 -- What is refused of lines of a body that say something, each where it may stand.
-use Rattle.std.specs.Prelude.{ℕ, ◌+◌, nat_lt, Bool, false, true, List, [], ◌∷◌, length, Option, Some, None, option_map, if◌then◌else◌}
+use Rattle.std.specs.Prelude.{ℕ, ◌+◌, nat_lt, Bool, false, List, [], ◌∷◌, length, Option, Some, None, option_map, if◌then◌else◌}
 use Rattle.std.specs.Option.{option_or}
 use Rattle.formula_text.specs.declared.wired.Allow.{Allow}
 use Rattle.formula_text.specs.declared.wired.FormulaFault.{FormulaFault}
@@ -16,22 +16,19 @@ use Rattle.body_text.specs.Places.{kind_of, moved}
 
 -- ---- one line
 
--- a body has no row, and its formulas may read without tracking, those of rewirings too
-abbrev pub allowed : Allow
-allowed = record { row = false; untrack = true }
+-- what is wrong with its formula, where this is allowed to it, or with the arguments of its host formula, the first of it
+abbrev pub fault_of : Allow → Said → Option FormulaFault
+fault_of allow x = fault_along allow (row x.0).1 x.1
 
--- what is wrong with its formula, or with the arguments of its host formula, the first of it
-abbrev pub fault_of : Said → Option FormulaFault
-fault_of x = fault_along allowed (row x.0).1 x.1
-
--- a formula that speaks of a row
+-- a formula that speaks of what isn't there
 abbrev pub missing : Option FormulaFault → Option BodyWhy
+missing (Some fault.UntrackHere) = Some why.UntrackHere
 missing (Some fault.ItHere) = Some why.ItHere
 missing _ = None
 
 -- more than `MOST_LEVELS` levels, of which the body is one
 abbrev pub is_nested : ℕ → LineKind → Bool
-is_nested depth kind.Opens = nat_lt MOST_LEVELS (depth + 2)
+is_nested depth (kind.Opens s) = nat_lt MOST_LEVELS (depth + 2)
 is_nested depth _ = false
 
 -- a formula that is too high
@@ -61,10 +58,11 @@ pub record Judged : Type 0 where
 abbrev pub judged_at : ℕ → ℕ → LineKind → Option FormulaFault → Judged
 judged_at depth n k wrong = record { number = n; misplaced = misplacing depth k wrong; excess = excess wrong }
 
--- the same of lines from a place on
-abbrev pub judged : ℕ → List (ℕ × Said) → List Judged
-judged depth [] = []
-judged depth (x ∷ xs) = judged_at depth x.0 (kind_of (said_line x.1)) (fault_of x.1) ∷ judged (moved depth (kind_of (said_line x.1))) xs
+-- the same of lines from a place on, where this is allowed to formulas
+abbrev pub judged : Allow → ℕ → List (ℕ × Said) → List Judged
+judged allow depth [] = []
+judged allow depth (x ∷ xs) =
+    judged_at depth x.0 (kind_of (said_line x.1)) (fault_of allow x.1) ∷ judged allow (moved depth (kind_of (said_line x.1))) xs
 
 -- a fault at a line
 abbrev pub fault_at : ℕ → BodyWhy → BodyFault

@@ -3,6 +3,7 @@ use Rattle.std.specs.Prelude.{◌≡◌, ◌<◌, ℕ, List, [], ◌∷◌, map,
 use Rattle.line_forms.specs.Blocks as blocks
 use Rattle.script_lines.specs.Lines.{NumberedLine}
 use Rattle.sig_untrack.specs.Stated.{Bodies}
+use Rattle.body_text.specs.declared.allowance.Allowance.{Allowance}
 use Rattle.body_text.specs.declared.fault.BodyFault.{BodyFault}
 use Rattle.body_text.specs.declared.fault.BodyWhy.{BodyWhy}
 use Rattle.body_text.specs.declared.fault.BodyWhy.TheVariants as why
@@ -17,16 +18,16 @@ abbrev pub Sayings : Type 0
 Sayings = List (ℕ × Said)
 
 -- with so many begun, the lines say this, each where it may stand
-abbrev pub Say : ℕ → List NumberedLine → Sayings → Type 0
-Say depth ls xs = blocks.Say Row row places depth ls xs
+abbrev pub Say : Allowance → ℕ → List NumberedLine → Sayings → Type 0
+Say allowance depth ls xs = blocks.Say Row row (places allowance) depth ls xs
 
 -- with so many begun, the line of this number is the first that says nothing which may stand there
-abbrev pub IsFaulty : ℕ → List NumberedLine → ℕ → Type 0
-IsFaulty depth ls k = blocks.IsFaulty Row row places depth ls k
+abbrev pub IsFaulty : Allowance → ℕ → List NumberedLine → ℕ → Type 0
+IsFaulty allowance depth ls k = blocks.IsFaulty Row row (places allowance) depth ls k
 
 -- how many are begun behind lines that say this
-abbrev pub reached : ℕ → Sayings → ℕ
-reached depth xs = blocks.reached places depth xs
+abbrev pub reached : Allowance → ℕ → Sayings → ℕ
+reached allowance depth xs = blocks.reached (places allowance) depth xs
 
 -- the lines that are said
 abbrev pub said_lines : Sayings → List Line
@@ -42,8 +43,8 @@ unless_refused None b = Ok b
 unless_refused (Some f) b = Err f
 
 -- what lines are that say this and spell these statements
-abbrev pub answer_of : Sayings → Statements → Answer
-answer_of xs s = unless_refused (refusal_of (judged 0 xs)) (body_of s)
+abbrev pub answer_of : Allowance → Sayings → Statements → Answer
+answer_of allowance xs s = unless_refused (refusal_of (judged allowance.formulas 0 xs)) (body_of s)
 
 -- the number of the last line
 abbrev pub last_number : List NumberedLine → ℕ
@@ -51,13 +52,14 @@ last_number [] = 0
 last_number (l ∷ []) = l.0
 last_number (l ∷ m ∷ ls) = last_number (m ∷ ls)
 
--- What lines are: refused at the first faulty one; at the last, where something that is begun isn't ended; else what they say.
-pub data IsRead (ls : List NumberedLine) : Answer → Type 0 where
-  faulty : (k : ℕ) → IsFaulty 0 ls k → IsRead ls (Err (fault_at k why.Syntax))
-  unended : (xs : Sayings) → Say 0 ls xs → 0 < reached 0 xs → IsRead ls (Err (fault_at (last_number ls) why.Syntax))
-  says : (xs : Sayings) (s : Statements) → Say 0 ls xs → said_lines xs ≡ lines_of s → IsRead ls (answer_of xs s)
+-- What lines are, where this is allowed: refused at the first faulty one; at the last, where something that is begun isn't ended; else
+-- what they say.
+pub data IsRead (allowance : Allowance) (ls : List NumberedLine) : Answer → Type 0 where
+  faulty : (k : ℕ) → IsFaulty allowance 0 ls k → IsRead allowance ls (Err (fault_at k why.Syntax))
+  unended : (xs : Sayings) → Say allowance 0 ls xs → 0 < reached allowance 0 xs → IsRead allowance ls (Err (fault_at (last_number ls) why.Syntax))
+  says : (xs : Sayings) (s : Statements) → Say allowance 0 ls xs → said_lines xs ≡ lines_of s → IsRead allowance ls (answer_of allowance xs s)
 
--- why there is no body: what the lines are, or memory
-abbrev pub Refuses : List NumberedLine → ℕ → BodyWhy → Type 0
-Refuses ls k (why.NoMemory e) = Unit {0}
-Refuses ls k w = IsRead ls (Err (fault_at k w))
+-- why there is no body, where this is allowed: what the lines are, or memory
+abbrev pub Refuses : Allowance → List NumberedLine → ℕ → BodyWhy → Type 0
+Refuses allowance ls k (why.NoMemory e) = Unit {0}
+Refuses allowance ls k w = IsRead allowance ls (Err (fault_at k w))

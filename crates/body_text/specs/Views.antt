@@ -1,6 +1,7 @@
 -- What the program holds of lines that it reads.
 use Rattle.std.specs.Prelude.{◌≡◌, ◌<◌, ℕ, List, [], ◌∷◌, Option, Some, None, option_map, Result, Ok, Err, IsTrue}
 use Rattle.std.specs.Option.{option_or}
+use Rattle.formula_text.specs.declared.wired.Allow.{Allow}
 use Rattle.formula_text.specs.declared.wired.FormulaFault.{FormulaFault}
 use Rattle.line_forms.specs.Reader.{read_form}
 use Rattle.line_forms.specs.Told.{unless_faulty}
@@ -8,6 +9,7 @@ use Rattle.script_lines.specs.Lines.{NumberedLine}
 use Rattle.sig_untrack.specs.declared.body.Body.{Body}
 use Rattle.sig_untrack.specs.Stated.{before, no_bodies}
 use Rattle.sig_words.specs.Lexemes.{Lexeme}
+use Rattle.body_text.specs.declared.allowance.Allowance.{Allowance}
 use Rattle.body_text.specs.declared.fault.BodyFault.{BodyFault}
 use Rattle.body_text.specs.declared.judge.ReadLine.{ReadLine}
 use Rattle.body_text.specs.declared.line.Found.{Found}
@@ -27,22 +29,22 @@ IsTold wrong x (Ok y) = (y ≡ x) × (wrong ≡ None)
 IsTold wrong x (Err f) = wrong ≡ Some f
 
 -- a line that says this, or what is wrong with it
-abbrev pub line_or_fault : Said → Result Line FormulaFault
-line_or_fault x = unless_faulty (fault_of x) (said_line x)
+abbrev pub line_or_fault : Allow → Said → Result Line FormulaFault
+line_or_fault allow x = unless_faulty (fault_of allow x) (said_line x)
 
 -- what is found in a line that says this
-abbrev pub found_of : Said → Found
-found_of x = record { kind = kind_of (said_line x); line = line_or_fault x }
+abbrev pub found_of : Allow → Said → Found
+found_of allow x = record { kind = kind_of (said_line x); line = line_or_fault allow x }
 
 -- what is found in the tokens behind the first word, as a line of this row
-abbrev pub found_as : Row → List Lexeme → Option Found
-found_as r ls = option_map (λ a. found_of (r, a)) (read_form (row r).1 ls)
+abbrev pub found_as : Allow → Row → List Lexeme → Option Found
+found_as allow r ls = option_map (λ a. found_of allow (r, a)) (read_form (row r).1 ls)
 
 -- what is found by the first of the rows that reads them
-abbrev pub found_first : List Row → List Lexeme → Option Found
-found_first [] ls = None
-found_first (r ∷ []) ls = found_as r ls
-found_first (r ∷ s ∷ rs) ls = option_or (found_as r ls) (found_first (s ∷ rs) ls)
+abbrev pub found_first : Allow → List Row → List Lexeme → Option Found
+found_first allow [] ls = None
+found_first allow (r ∷ []) ls = found_as allow r ls
+found_first allow (r ∷ s ∷ rs) ls = option_or (found_as allow r ls) (found_first allow (s ∷ rs) ls)
 
 -- what is wrong with a line that was read
 abbrev pub fault_told : Result Line FormulaFault → Option FormulaFault
@@ -54,35 +56,35 @@ abbrev pub read_at : ℕ → ℕ → Found → ReadLine
 read_at depth k f = record { number = k; misplaced = misplacing depth f.kind (fault_told f.line); excess = excess (fault_told f.line); line = f.line }
 
 -- what is read, where so many are begun, of the line of a number that says this
-abbrev pub read_of : ℕ → ℕ × Said → ReadLine
-read_of depth x = read_at depth x.0 (found_of x.1)
+abbrev pub read_of : Allow → ℕ → ℕ × Said → ReadLine
+read_of allow depth x = read_at depth x.0 (found_of allow x.1)
 
 -- ---- all lines
 
 -- what is read of lines that say this
-abbrev pub readings : ℕ → Sayings → List ReadLine
-readings depth [] = []
-readings depth (x ∷ xs) = read_of depth x ∷ readings (moved depth (kind_of (said_line x.1))) xs
+abbrev pub readings : Allow → ℕ → Sayings → List ReadLine
+readings allow depth [] = []
+readings allow depth (x ∷ xs) = read_of allow depth x ∷ readings allow (moved depth (kind_of (said_line x.1))) xs
 
 -- from where so many are begun up to where so many are, the lines were read so
-abbrev pub AreRead : ℕ → List NumberedLine → List ReadLine → ℕ → Type 0
-AreRead depth [] [] to = depth ≡ to
-AreRead depth (l ∷ ls) (r ∷ rs) to =
-    (x : Said) × Writes x l.1 × IsTrue (fits depth (kind_of (said_line x))) × (r ≡ read_of depth (l.0, x))
-    × AreRead (moved depth (kind_of (said_line x))) ls rs to
-AreRead depth _ _ to = ⊥
+abbrev pub AreRead : Allowance → ℕ → List NumberedLine → List ReadLine → ℕ → Type 0
+AreRead allowance depth [] [] to = depth ≡ to
+AreRead allowance depth (l ∷ ls) (r ∷ rs) to =
+    (x : Said) × Writes x l.1 × IsTrue (fits allowance depth (kind_of (said_line x))) × (r ≡ read_of allowance.formulas depth (l.0, x))
+    × AreRead allowance (moved depth (kind_of (said_line x))) ls rs to
+AreRead allowance depth _ _ to = ⊥
 
 -- lines say something, and something that they begin isn't ended
-pub record Unended (ls : List NumberedLine) : Type 0 where
+pub record Unended (allowance : Allowance) (ls : List NumberedLine) : Type 0 where
   pub xs : Sayings
-  pub say : Say 0 ls xs
-  pub begun : 0 < reached 0 xs
+  pub say : Say allowance 0 ls xs
+  pub begun : 0 < reached allowance 0 xs
 
 -- what was read of the lines of a body
-abbrev pub IsReading : List NumberedLine → Reading → Type 0
-IsReading ls (reading.Faulty k) = IsFaulty 0 ls k
-IsReading ls reading.Unended = Unended ls
-IsReading ls (reading.Said rs) = AreRead 0 ls rs.items 0
+abbrev pub IsReading : Allowance → List NumberedLine → Reading → Type 0
+IsReading allowance ls (reading.Faulty k) = IsFaulty allowance 0 ls k
+IsReading allowance ls reading.Unended = Unended allowance ls
+IsReading allowance ls (reading.Said rs) = AreRead allowance 0 ls rs.items 0
 
 -- what is wrong with a line that was read
 abbrev pub judged_read : ReadLine → Judged

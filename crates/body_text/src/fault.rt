@@ -19,6 +19,8 @@ pub struct BodyFault {
 pub enum BodyWhy {
     #[error("it isn't in the grammar, may not stand here, or lacks its end behind it")]
     Syntax,
+    #[error("it reads without tracking where that isn't allowed")]
+    UntrackHere,
     #[error("it stands where there is no row")]
     ItHere,
     #[error("too much is nested")]

@@ -5,7 +5,7 @@ ghost use Rattle.body_text.specs.Places.{fits, moved};
 ghost use Rattle.body_text.specs.Views.{fault_told, judged_read, read_at};
 
 use crate::line::{Found, LineKind, ToldLine};
-use crate::{BodyFault, BodyWhy};
+use crate::{Allowance, BodyFault, BodyWhy};
 use formula_text::FormulaFault;
 
 /// How many levels may stand in each other, of which a body is the first.
@@ -26,12 +26,12 @@ pub struct ReadLine {
 }
 
 /// Whether a line may stand where so many are begun.
-pub fn fits(depth: usize, kind: LineKind) -> bool
-    ensures { result ≡ fits depth kind }
+pub fn fits(allowance: Allowance, depth: usize, kind: LineKind) -> bool
+    ensures { result ≡ fits allowance depth kind }
 {
     match kind {
+        LineKind::Plain(set) | LineKind::Opens(set) => allowance.statements.has(set),
         LineKind::End => depth != 0,
-        LineKind::Plain | LineKind::Opens => true,
     }
 }
 
@@ -41,8 +41,8 @@ pub fn moved(depth: usize, kind: LineKind) -> usize
     ensures { result ≡ moved depth kind }
 {
     match kind {
-        LineKind::Plain => depth,
-        LineKind::Opens => depth + 1,
+        LineKind::Plain(_) => depth,
+        LineKind::Opens(_) => depth + 1,
         LineKind::End => depth.saturating_sub(1),
     }
 }
@@ -57,11 +57,12 @@ fn fault_of(line: &ToldLine) -> Option<FormulaFault>
     }
 }
 
-// A formula that speaks of a row.
+// A formula that speaks of what isn't there.
 fn missing(fault: Option<FormulaFault>) -> Option<BodyWhy>
     ensures { result ≡ missing fault }
 {
     match fault {
+        Some(FormulaFault::UntrackHere) => Some(BodyWhy::UntrackHere),
         Some(FormulaFault::ItHere) => Some(BodyWhy::ItHere),
         _ => None,
     }
@@ -73,8 +74,8 @@ fn is_nested(depth: usize, kind: LineKind) -> bool
     ensures { result ≡ is_nested depth kind }
 {
     match kind {
-        LineKind::Opens => MOST_LEVELS < depth + 2,
-        LineKind::Plain | LineKind::End => false,
+        LineKind::Opens(_) => MOST_LEVELS < depth + 2,
+        LineKind::Plain(_) | LineKind::End => false,
     }
 }
 

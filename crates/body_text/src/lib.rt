@@ -1,6 +1,7 @@
-//! Bodies of effects as text, in both directions.
+//! Bodies as text, in both directions.
 #![tactic(auto)]
 
+mod allowance;
 mod builder;
 mod fault;
 mod judge;
@@ -13,6 +14,7 @@ mod reader;
 mod stmt;
 mod writer;
 
+pub use allowance::{Allowance, StatementSet};
 pub use fault::{BodyFault, BodyWhy};
 pub use judge::{MOST_BODY_LINES, MOST_LEVELS};
 pub use laws::{bodies_read_back, one_body, one_line};

@@ -2,7 +2,7 @@
 ghost use Rattle.std.specs.Prelude.{◌≡◌, Ok, Err};
 ghost use Rattle.body_text.specs.declared.line.Line.TheVariants as given;
 
-use crate::NamedFormula;
+use crate::{NamedFormula, StatementSet};
 use effect_model::Plain;
 use formula_text::FormulaFault;
 use line_forms::NameList;
@@ -38,10 +38,10 @@ pub enum Line {
 /// What a line is for the place where it stands.
 #[derive(Clone, Copy)]
 pub enum LineKind {
-    /// A statement of one line.
-    Plain,
-    /// What an `end` ends.
-    Opens,
+    /// A statement of one line, and the least set that it stands in.
+    Plain(StatementSet),
+    /// What an `end` ends, and the least set that it stands in.
+    Opens(StatementSet),
     /// An `end`.
     End,
 }
@@ -66,11 +66,11 @@ pub fn sound(kind: LineKind, line: Line) -> Found
     }
 }
 
-/// A statement of one line that nothing is wrong with.
-pub fn statement(plain: PlainLine) -> Found
-    ensures { result ≡ record { kind = LineKind.Plain; line = Ok (given.Plain plain) } }
+/// A statement of one line that nothing is wrong with, of this least set.
+pub fn statement(set: StatementSet, plain: PlainLine) -> Found
+    ensures { result ≡ record { kind = LineKind.Plain set; line = Ok (given.Plain plain) } }
 {
-    sound(LineKind::Plain, Line::Plain(plain))
+    sound(LineKind::Plain(set), Line::Plain(plain))
 }
 
 /// A line that something is wrong with.

@@ -16,7 +16,7 @@ use crate::builder::{body_of, sound_lines};
 use crate::judge::{ReadLine, fits, moved, read_at, refusal_of};
 use crate::line::Found;
 use crate::reader::read_line;
-use crate::{BodyFault, BodyWhy};
+use crate::{Allowance, BodyFault, BodyWhy};
 use script_lines::{NumberedLine, next_piece};
 use sig_base::{MOST_LINE, NoMemory};
 use sig_untrack::Body;
@@ -31,30 +31,39 @@ pub enum Reading {
 }
 
 // What a line says, if it may stand where so many are begun.
-fn found_at(alloc: Global, depth: usize, line: &[u8]) -> Result<Option<Found>, NoMemory>
+fn found_at(
+    alloc: Global,
+    depth: usize,
+    line: &[u8],
+    allowance: Allowance,
+) -> Result<Option<Found>, NoMemory>
     requires { length line.now ≤ MOST_LINE }
     ensures { IfOk result (λ found. MatchOption found
-        ((x : Said) → Writes x line.now → IsTrue (fits depth (kind_of (rows.said_line x))) → ⊥)
-        (λ f. (x : Said) × Writes x line.now × IsTrue (fits depth (kind_of (rows.said_line x))) × (f ≡ found_of x))) }
+        ((x : Said) → Writes x line.now → IsTrue (fits allowance depth (kind_of (rows.said_line x))) → ⊥)
+        (λ f. (x : Said) × Writes x line.now × IsTrue (fits allowance depth (kind_of (rows.said_line x))) × (f ≡ found_of allowance.formulas x))) }
 {
-    let Some(found) = read_line(alloc, line)? else {
+    let Some(found) = read_line(alloc, line, allowance.formulas)? else {
         return Ok(None);
     };
-    if !fits(depth, found.kind) {
+    if !fits(allowance, depth, found.kind) {
         return Ok(None);
     }
     Ok(Some(found))
 }
 
 // What the lines of a body say.
-fn read_lines(alloc: Global, lines: &[NumberedLine]) -> Result<Reading, NoMemory>
+fn read_lines(
+    alloc: Global,
+    lines: &[NumberedLine],
+    allowance: Allowance,
+) -> Result<Reading, NoMemory>
     requires { All (λ l. length l.text.now ≤ MOST_LINE) lines.now }
-    ensures { IfOk result (λ r. IsReading (map line_of lines.now) r) }
+    ensures { IfOk result (λ r. IsReading allowance (map line_of lines.now) r) }
 {
     let mut depth = 0;
     let mut said = Vec::new(alloc);
     for numbered in lines {
-        let Some(found) = found_at(alloc, depth, numbered.text)? else {
+        let Some(found) = found_at(alloc, depth, numbered.text, allowance)? else {
             return Ok(Reading::Faulty(numbered.number));
         };
         let next = moved(depth, found.kind);
@@ -103,34 +112,44 @@ fn syntax(number: u32) -> BodyFault
 }
 
 // What lines are.
-fn answer(alloc: Global, lines: &[NumberedLine]) -> Result<Result<Body, BodyFault>, NoMemory>
+fn answer(
+    alloc: Global,
+    lines: &[NumberedLine],
+    allowance: Allowance,
+) -> Result<Result<Body, BodyFault>, NoMemory>
     requires { All (λ l. length l.text.now ≤ MOST_LINE) lines.now }
-    ensures { IfOk result (λ r. IsRead (map line_of lines.now) (answer_held r)) }
+    ensures { IfOk result (λ r. IsRead allowance (map line_of lines.now) (answer_held r)) }
 {
-    match read_lines(alloc, lines)? {
+    match read_lines(alloc, lines, allowance)? {
         Reading::Faulty(number) => Ok(Err(syntax(number))),
         Reading::Unended => Ok(Err(syntax(last_number(lines)))),
         Reading::Said(said) => judged(alloc, said),
     }
 }
 
-/// The body that numbered lines are, none of them passed over and none longer than `MOST_LINE` bytes; `at` of a fault is a line's number.
+/// The body that numbered lines are where this is allowed, none of them passed over and none longer than `MOST_LINE` bytes; `at` of a
+/// fault is a line's number.
 ///
 /// Its names and targets are distinct, in the order of the text; its nested effects and rewirings stand in the order of the text, and
 /// what stands in a nested effect stands in the body of that effect alone.
 ///
 /// # Errors
 ///
-/// Lines are refused for the first of these causes: one that isn't in the grammar, as one whose formula speaks of rows, or may not stand
-/// there, or the last where something isn't ended, as `Syntax`; the first line with more than `MOST_LEVELS` levels or a formula that is
-/// higher than `MOST_HEIGHT`; the first line with a text of more than `MOST_TEXT` bytes, or with a formula or a host formula of more than
-/// `MOST_SOURCES` names; more than `MOST_BODY_LINES` lines. `NoMemory` where the body finds no room.
-pub fn read_numbered(alloc: Global, lines: &[NumberedLine]) -> Result<Body, BodyFault>
+/// Lines are refused for the first of these causes: one that isn't in the grammar or may not stand there, as a statement that isn't
+/// allowed, or the last where something isn't ended, as `Syntax`; the first line with an `untrack` or an `it` that isn't allowed, with
+/// more than `MOST_LEVELS` levels or with a formula that is higher than `MOST_HEIGHT`; the first line with a text of more than `MOST_TEXT`
+/// bytes, or with a formula or a host formula of more than `MOST_SOURCES` names; more than `MOST_BODY_LINES` lines. `NoMemory` where the
+/// body finds no room.
+pub fn read_numbered(
+    alloc: Global,
+    lines: &[NumberedLine],
+    allowance: Allowance,
+) -> Result<Body, BodyFault>
     requires { All (λ l. length l.text.now ≤ MOST_LINE) lines.now }
-    ensures ok { IfOk result (λ b. IsRead (map line_of lines.now) (Ok (before b no_bodies))) }
-    ensures refused { IfErr result (λ f. Refuses (map line_of lines.now) f.at f.why) }
+    ensures ok { IfOk result (λ b. IsRead allowance (map line_of lines.now) (Ok (before b no_bodies))) }
+    ensures refused { IfErr result (λ f. Refuses allowance (map line_of lines.now) f.at f.why) }
 {
-    match answer(alloc, lines)? {
+    match answer(alloc, lines, allowance)? {
         Ok(body) => Ok(body),
         Err(fault) => Err(fault),
     }
@@ -152,18 +171,18 @@ fn lines_of(alloc: Global, block: &[u8]) -> Result<Vec<NumberedLine<'_>>, NoMemo
     Ok(lines)
 }
 
-/// The body of a block of lines, refused as by `read_numbered`, its lines numbered from 0. None of them but those that are passed over is
-/// longer than `MOST_LINE` bytes.
+/// The body of a block of lines where this is allowed, refused as by `read_numbered`, its lines numbered from 0. None of them but those
+/// that are passed over is longer than `MOST_LINE` bytes.
 ///
 /// # Errors
 ///
 /// Those of `read_numbered`.
-pub fn read_body(alloc: Global, block: &[u8]) -> Result<Body, BodyFault>
+pub fn read_body(alloc: Global, block: &[u8], allowance: Allowance) -> Result<Body, BodyFault>
     requires short { length block.now < 2 ^ 32 }
     requires lines { All (λ l. length l.1 ≤ MOST_LINE) (kept_lines 0 block.now) }
-    ensures ok { IfOk result (λ b. IsRead (kept_lines 0 block.now) (Ok (before b no_bodies))) }
-    ensures refused { IfErr result (λ f. Refuses (kept_lines 0 block.now) f.at f.why) }
+    ensures ok { IfOk result (λ b. IsRead allowance (kept_lines 0 block.now) (Ok (before b no_bodies))) }
+    ensures refused { IfErr result (λ f. Refuses allowance (kept_lines 0 block.now) f.at f.why) }
 {
     let lines = lines_of(alloc, block)?;
-    read_numbered(alloc, &lines)
+    read_numbered(alloc, &lines, allowance)
 }

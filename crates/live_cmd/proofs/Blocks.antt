@@ -2,6 +2,7 @@
 use Rattle.std.proofs.Common.{◌≡◌, ◌⊎◌, ◌<◌, ℕ, Bool, true, false, List, [], ◌∷◌, ◌++◌, length, refl, sym, ap, subst, ◌∙◌, inl, inr, arith}
 use Rattle.line_forms.specs.Forms.{Args}
 use Rattle.script_lines.specs.Lines.{NumberedLine}
+use Rattle.body_text.specs.Allowances.{effects}
 use Rattle.body_text.specs.Verdicts.{Answer}
 use Rattle.body_text.proofs.Shared.{one_answer, some_answer}
 use Rattle.tpl_syntax.specs.Templates as templates
@@ -43,7 +44,7 @@ with_last x (z ∷ zs) = let rest = with_last z zs in (x ∷ rest.0, rest.1, let
 -- ---- what stands in a block
 
 content_of : (r : Row) (a : Args (row r).1) (ls : List NumberedLine) (c d : Content) → IsContentOf r a ls c → IsContentOf r a ls d → c ≡ d
-content_of effect a ls c d h k = h.2 ∙ ap (λ (x : Answer). effect_content a.0 a.1.0 x) (one_answer ls h.0 k.0 h.1 k.1) ∙ sym k.2
+content_of effect a ls c d h k = h.2 ∙ ap (λ (x : Answer). effect_content a.0 a.1.0 x) (one_answer effects ls h.0 k.0 h.1 k.1) ∙ sym k.2
 content_of template a ls c d h k =
     h.2 ∙ ap (λ (x : templates.Answer). template_content a.0 x) (template_laws.one_answer ls h.0 k.0 h.1 k.1) ∙ sym k.2
 content_of _ a ls c d h k = absurd h
@@ -57,7 +58,7 @@ one_content bytes x y ls ms c d v w e h k =
     content_of y.0 y.1 ms c d (subst (λ (ns : List NumberedLine). IsContent y ns c) e there) k
 
 pub some_content : (r : Row) (a : Args (row r).1) (ls : List NumberedLine) → is_head r ≡ true → (c : Content) × IsContentOf r a ls c
-some_content effect a ls h = let x = some_answer ls in (effect_content a.0 a.1.0 x.0, (x.0, x.1, refl))
+some_content effect a ls h = let x = some_answer effects ls in (effect_content a.0 a.1.0 x.0, (x.0, x.1, refl))
 some_content template a ls h = let x = template_laws.some_answer ls in (template_content a.0 x.0, (x.0, x.1, refl))
 some_content _ a ls h = absurd cc
 

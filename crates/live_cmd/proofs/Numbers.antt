@@ -5,10 +5,12 @@ use Rattle.std.specs.Option.{option_or}
 use Rattle.std.proofs.lemmas.Bool.Decides.{nat_tests}
 use Rattle.script_lines.specs.Lines.{NumberedLine}
 use Rattle.sig_untrack.specs.Stated.{Bodies}
+use Rattle.body_text.specs.declared.allowance.Allowance.{Allowance}
 use Rattle.body_text.specs.declared.fault.BodyFault.{BodyFault}
 use Rattle.body_text.specs.declared.fault.BodyWhy.{BodyWhy}
 use Rattle.body_text.specs.declared.fault.BodyWhy.TheVariants as why
 use Rattle.body_text.specs.declared.judge.TheConstants.{MOST_BODY_LINES}
+use Rattle.body_text.specs.Allowances.{effects}
 use Rattle.body_text.specs.Grammar as rows
 use Rattle.body_text.specs.Refusals.{fault_at, fault_of, first_excess, first_misplaced, judged, judged_at, many_lines, refusal_of}
 use Rattle.body_text.specs.Places.{kind_of, moved}
@@ -43,10 +45,10 @@ or_later false c e = e
 pub has_later : (l : NumberedLine) (ls : List NumberedLine) (k : ℕ) → HasNumber ls k → HasNumber (l ∷ ls) k
 has_later l ls k h = or_later (l.0 == k) (has_number ls k) h
 
-faulty_number : (depth : ℕ) (ls : List NumberedLine) (k : ℕ) → IsFaulty depth ls k → HasNumber ls k
-faulty_number depth [] k f = absurd f
-faulty_number depth (l ∷ ls) k (inl f) = has_first l ls k f.0
-faulty_number depth (l ∷ ls) k (inr f) = has_later l ls k (faulty_number (moved depth (kind_of (rows.said_line f.0))) ls k f.3)
+faulty_number : (allowance : Allowance) (depth : ℕ) (ls : List NumberedLine) (k : ℕ) → IsFaulty allowance depth ls k → HasNumber ls k
+faulty_number allowance depth [] k f = absurd f
+faulty_number allowance depth (l ∷ ls) k (inl f) = has_first l ls k f.0
+faulty_number allowance depth (l ∷ ls) k (inr f) = has_later l ls k (faulty_number allowance (moved depth (kind_of (rows.said_line f.0))) ls k f.3)
 
 -- one of them, or 0 where there are none
 abbrev pub IsNumber : List NumberedLine → ℕ → Type 0
@@ -74,30 +76,30 @@ at_number : (k : ℕ) (o : Option BodyWhy) (f : BodyFault) → option_map (fault
 at_number k None f e = absurd cc
 at_number k (Some w) f e = let same : fault_at k w ≡ f = cc in ap (λ (g : BodyFault). g.at) (sym same)
 
-misplaced_number : (depth : ℕ) (ls : List NumberedLine) (xs : Sayings) (f : BodyFault) → Say depth ls xs
-    → first_misplaced (judged depth xs) ≡ Some f → HasNumber ls f.at
-misplaced_number depth [] [] f s e = absurd cc
-misplaced_number depth [] (x ∷ xs) f s e = absurd s
-misplaced_number depth (l ∷ ls) [] f s e = absurd s
-misplaced_number depth (l ∷ ls) (x ∷ xs) f s e =
+misplaced_number : (allowance : Allowance) (depth : ℕ) (ls : List NumberedLine) (xs : Sayings) (f : BodyFault) → Say allowance depth ls xs
+    → first_misplaced (judged allowance.formulas depth xs) ≡ Some f → HasNumber ls f.at
+misplaced_number allowance depth [] [] f s e = absurd cc
+misplaced_number allowance depth [] (x ∷ xs) f s e = absurd s
+misplaced_number allowance depth (l ∷ ls) [] f s e = absurd s
+misplaced_number allowance depth (l ∷ ls) (x ∷ xs) f s e =
     let next = moved depth (kind_of (rows.said_line x.1)) in
-    let j = judged_at depth x.0 (kind_of (rows.said_line x.1)) (fault_of x.1) in
-    elim (either_some (option_map (fault_at x.0) j.misplaced) (first_misplaced (judged next xs)) f e) [
+    let j = judged_at depth x.0 (kind_of (rows.said_line x.1)) (fault_of allowance.formulas x.1) in
+    elim (either_some (option_map (fault_at x.0) j.misplaced) (first_misplaced (judged allowance.formulas next xs)) f e) [
       | inl h ↦ has_first l ls f.at (at_number x.0 j.misplaced f h ∙ s.0)
-      | inr h ↦ has_later l ls f.at (misplaced_number next ls xs f s.3 h)
+      | inr h ↦ has_later l ls f.at (misplaced_number allowance next ls xs f s.3 h)
     ]
 
-excess_number : (depth : ℕ) (ls : List NumberedLine) (xs : Sayings) (f : BodyFault) → Say depth ls xs
-    → first_excess (judged depth xs) ≡ Some f → HasNumber ls f.at
-excess_number depth [] [] f s e = absurd cc
-excess_number depth [] (x ∷ xs) f s e = absurd s
-excess_number depth (l ∷ ls) [] f s e = absurd s
-excess_number depth (l ∷ ls) (x ∷ xs) f s e =
+excess_number : (allowance : Allowance) (depth : ℕ) (ls : List NumberedLine) (xs : Sayings) (f : BodyFault) → Say allowance depth ls xs
+    → first_excess (judged allowance.formulas depth xs) ≡ Some f → HasNumber ls f.at
+excess_number allowance depth [] [] f s e = absurd cc
+excess_number allowance depth [] (x ∷ xs) f s e = absurd s
+excess_number allowance depth (l ∷ ls) [] f s e = absurd s
+excess_number allowance depth (l ∷ ls) (x ∷ xs) f s e =
     let next = moved depth (kind_of (rows.said_line x.1)) in
-    let j = judged_at depth x.0 (kind_of (rows.said_line x.1)) (fault_of x.1) in
-    elim (either_some (option_map (fault_at x.0) j.excess) (first_excess (judged next xs)) f e) [
+    let j = judged_at depth x.0 (kind_of (rows.said_line x.1)) (fault_of allowance.formulas x.1) in
+    elim (either_some (option_map (fault_at x.0) j.excess) (first_excess (judged allowance.formulas next xs)) f e) [
       | inl h ↦ has_first l ls f.at (at_number x.0 j.excess f h ∙ s.0)
-      | inr h ↦ has_later l ls f.at (excess_number next ls xs f s.3 h)
+      | inr h ↦ has_later l ls f.at (excess_number allowance next ls xs f s.3 h)
     ]
 
 -- whether the number of lines is the cause
@@ -109,14 +111,14 @@ pub many_why : (b : Bool) (f g : BodyFault) → cond b (Some g) None ≡ Some f 
 many_why true f g e = let same : g ≡ f = cc in ap (λ (h : BodyFault). h.why) (sym same)
 many_why false f g e = absurd cc
 
-judged_number : (ls : List NumberedLine) (xs : Sayings) (f : BodyFault) → Say 0 ls xs → refusal_of (judged 0 xs) ≡ Some f
+judged_number : (allowance : Allowance) (ls : List NumberedLine) (xs : Sayings) (f : BodyFault) → Say allowance 0 ls xs → refusal_of (judged allowance.formulas 0 xs) ≡ Some f
     → is_lines f.why ≡ false → IsNumber ls f.at
-judged_number ls xs f s e n =
-    let js = judged 0 xs in
+judged_number allowance ls xs f s e n =
+    let js = judged allowance.formulas 0 xs in
     elim (either_some (first_misplaced js) (option_or (first_excess js) (many_lines js)) f e) [
-      | inl h ↦ inl (misplaced_number 0 ls xs f s h)
+      | inl h ↦ inl (misplaced_number allowance 0 ls xs f s h)
       | inr h ↦ elim (either_some (first_excess js) (many_lines js) f h) [
-        | inl k ↦ inl (excess_number 0 ls xs f s k)
+        | inl k ↦ inl (excess_number allowance 0 ls xs f s k)
         | inr k ↦
             let is = many_why (nat_lt MOST_BODY_LINES (length js)) f (fault_at (length js) why.Lines) k in
             let no : is_lines f.why ≡ true = ap is_lines is in
@@ -129,16 +131,16 @@ refused_is None b f e = absurd cc
 refused_is (Some g) b f e = let same : g ≡ f = cc in ap (λ (h : BodyFault). Some h) same
 
 -- lines that are no body are refused at one of their numbers, unless they are too many
-fault_number : (ls : List NumberedLine) (a : Answer) (f : BodyFault) → IsRead ls a → a ≡ Err f → is_lines f.why ≡ false → IsNumber ls f.at
-fault_number ls _ f (faulty k h) e n =
+fault_number : (allowance : Allowance) (ls : List NumberedLine) (a : Answer) (f : BodyFault) → IsRead allowance ls a → a ≡ Err f → is_lines f.why ≡ false → IsNumber ls f.at
+fault_number allowance ls _ f (faulty k h) e n =
     let same : fault_at k why.Syntax ≡ f = cc in
     let at : f.at ≡ k = ap (λ (g : BodyFault). g.at) (sym same) in
-    inl (rw at (faulty_number 0 ls k h))
-fault_number ls _ f (unended xs s h) e n =
+    inl (rw at (faulty_number allowance 0 ls k h))
+fault_number allowance ls _ f (unended xs s h) e n =
     let same : fault_at (last_number ls) why.Syntax ≡ f = cc in
     let at : f.at ≡ last_number ls = ap (λ (g : BodyFault). g.at) (sym same) in
     rw at (last_is ls)
-fault_number ls _ f (says xs t s h) e n = judged_number ls xs f s (refused_is (refusal_of (judged 0 xs)) (body_of t) f e) n
+fault_number allowance ls _ f (says xs t s h) e n = judged_number allowance ls xs f s (refused_is (refusal_of (judged allowance.formulas 0 xs)) (body_of t) f e) n
 
 -- ---- the number that is looked for
 
@@ -169,23 +171,26 @@ number_is ls k (inr h) = rw h (number_zero ls)
 
 -- what an answer makes of an effect
 abbrev pub IsMade : List NumberedLine → List ℕ → Option (List ℕ) → Content → Type 0
-IsMade ls n o c = (a : Answer) × IsRead ls a × (c ≡ effect_content n o a)
+IsMade ls n o c = (a : Answer) × IsRead effects ls a × (c ≡ effect_content n o a)
 
-made_of : (ls : List NumberedLine) (at n : ℕ) (w : BodyWhy) (c : Content) (name : List ℕ) (o : Option (List ℕ)) → IsRead ls (Err (fault_at at w))
+made_of : (ls : List NumberedLine) (at n : ℕ) (w : BodyWhy) (c : Content) (name : List ℕ) (o : Option (List ℕ)) → IsRead effects ls (Err (fault_at at w))
     → c ≡ body_refused n w → body_refused n w ≡ body_refused at w → IsMade ls name o c
 made_of ls at n w c name o r e f = (Err (fault_at at w), r, e ∙ f)
 
 -- lines that are no body make what their cause says
 pub refused_by : (ls : List NumberedLine) (at n : ℕ) (w : BodyWhy) (c : Content) (name : List ℕ) (o : Option (List ℕ))
-    → Refuses ls at w → is_memory w ≡ false → n ≡ number_in ls at → c ≡ body_refused n w → IsMade ls name o c
+    → Refuses effects ls at w → is_memory w ≡ false → n ≡ number_in ls at → c ≡ body_refused n w → IsMade ls name o c
 refused_by ls at n why.Syntax c name o r m g e =
-    let is = g ∙ number_is ls at (fault_number ls _ (fault_at at why.Syntax) r refl refl) in
+    let is = g ∙ number_is ls at (fault_number effects ls _ (fault_at at why.Syntax) r refl refl) in
     made_of ls at n why.Syntax c name o r e (ap (λ (k : ℕ). body_refused k why.Syntax) is)
+refused_by ls at n why.UntrackHere c name o r m g e =
+    let is = g ∙ number_is ls at (fault_number effects ls _ (fault_at at why.UntrackHere) r refl refl) in
+    made_of ls at n why.UntrackHere c name o r e (ap (λ (k : ℕ). body_refused k why.UntrackHere) is)
 refused_by ls at n why.ItHere c name o r m g e =
-    let is = g ∙ number_is ls at (fault_number ls _ (fault_at at why.ItHere) r refl refl) in
+    let is = g ∙ number_is ls at (fault_number effects ls _ (fault_at at why.ItHere) r refl refl) in
     made_of ls at n why.ItHere c name o r e (ap (λ (k : ℕ). body_refused k why.ItHere) is)
 refused_by ls at n why.Nest c name o r m g e =
-    let is = g ∙ number_is ls at (fault_number ls _ (fault_at at why.Nest) r refl refl) in
+    let is = g ∙ number_is ls at (fault_number effects ls _ (fault_at at why.Nest) r refl refl) in
     made_of ls at n why.Nest c name o r e (ap (λ (k : ℕ). body_refused k why.Nest) is)
 refused_by ls at n why.Text c name o r m g e = made_of ls at n why.Text c name o r e refl
 refused_by ls at n why.Sources c name o r m g e = made_of ls at n why.Sources c name o r e refl

@@ -4,6 +4,7 @@ use Rattle.script_lines.specs.Lines.{NumberedLine}
 use Rattle.line_forms.specs.Forms.{Args}
 use Rattle.body_text.specs.declared.fault.BodyWhy.{BodyWhy}
 use Rattle.body_text.specs.declared.fault.BodyWhy.TheVariants as why
+use Rattle.body_text.specs.Allowances.{effects}
 use Rattle.body_text.specs.Verdicts.{Answer, IsRead}
 use Rattle.tpl_syntax.specs.declared.fault.TemplateWhy.{TemplateWhy}
 use Rattle.tpl_syntax.specs.declared.fault.TemplateWhy.TheVariants as unread
@@ -22,6 +23,7 @@ use Rattle.live_cmd.specs.Grammar.{Row, row, Said, Writes, effect, template, clo
 -- what lines are that are no body, at a line of this number; memory never is a cause of what lines are
 abbrev pub body_refused : ℕ → BodyWhy → Content
 body_refused k why.Syntax = content.Faulty k
+body_refused k why.UntrackHere = content.Refused (refusal.UntrackHere k)
 body_refused k why.ItHere = content.Refused (refusal.ItHere k)
 body_refused k why.Nest = content.Refused (refusal.Nest k)
 body_refused k why.Text = content.Refused (refusal.Limit limit.Text)
@@ -88,7 +90,7 @@ IsNoHead bytes = (x : Said) → Writes x bytes → is_head x.0 ≡ true → ⊥
 
 -- these lines, behind a first line of this row, come to this
 abbrev pub IsContentOf : (r : Row) → Args (row r).1 → List NumberedLine → Content → Type 0
-IsContentOf effect a ls c = (x : Answer) × IsRead ls x × (c ≡ effect_content a.0 a.1.0 x)
+IsContentOf effect a ls c = (x : Answer) × IsRead effects ls x × (c ≡ effect_content a.0 a.1.0 x)
 IsContentOf template a ls c = (x : templates.Answer) × templates.IsRead ls x × (c ≡ template_content a.0 x)
 IsContentOf _ a ls c = ⊥
 

@@ -7,7 +7,7 @@ ghost use Rattle.live_cmd.specs.Views.{number_in};
 
 use crate::Command;
 use crate::command::EffectBody;
-use body_text::BodyWhy;
+use body_text::{Allowance, BodyWhy};
 use live_entries::{LimitWord, Refusal};
 use script_lines::NumberedLine;
 use sig_base::{MOST_LINE, Name, NoMemory};
@@ -51,6 +51,7 @@ fn body_refused(number: u32, why: BodyWhy) -> Result<Content, NoMemory>
 {
     match why {
         BodyWhy::Syntax => Ok(Content::Faulty(number)),
+        BodyWhy::UntrackHere => Ok(Content::Refused(Refusal::UntrackHere(number))),
         BodyWhy::ItHere => Ok(Content::Refused(Refusal::ItHere(number))),
         BodyWhy::Nest => Ok(Content::Refused(Refusal::Nest(number))),
         BodyWhy::Text => Ok(Content::Refused(Refusal::Limit(LimitWord::Text))),
@@ -70,7 +71,7 @@ fn effect_content(
     requires { All (λ l. length l.text.now ≤ MOST_LINE) lines.now }
     ensures { IfOk result (λ c. IsContent (said_head (heads.Effect name inside)) (map line_of lines.now) c) }
 {
-    match body_text::read_numbered(alloc, lines) {
+    match body_text::read_numbered(alloc, lines, Allowance::effect()) {
         Ok(body) => Ok(Content::Makes(Command::Effect {
             name,
             body: EffectBody::of(body),

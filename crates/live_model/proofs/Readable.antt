@@ -11,6 +11,7 @@ use Rattle.script_lines.specs.Lines.{NumberedLine}
 use Rattle.script_lines.specs.Pieces.{Piece}
 use Rattle.body_text.specs.declared.fault.BodyWhy.{BodyWhy}
 use Rattle.body_text.specs.declared.fault.BodyWhy.TheVariants as unbodied
+use Rattle.body_text.specs.Allowances.{effects}
 use Rattle.body_text.specs.Verdicts as bodies
 use Rattle.tpl_blocks.proofs.Shared.{read_law}
 use Rattle.tpl_syntax.specs.declared.fault.TemplateWhy.{TemplateWhy}
@@ -78,6 +79,7 @@ IsReadContent _ = Unit {0}
 
 untold_body : (k : ℕ) (w : BodyWhy) → IsReadContent (body_refused k w)
 untold_body k unbodied.Syntax = tt
+untold_body k unbodied.UntrackHere = tt
 untold_body k unbodied.ItHere = tt
 untold_body k unbodied.Nest = tt
 untold_body k unbodied.Text = tt
@@ -97,8 +99,8 @@ untold_template k unread.Sources = tt
 untold_template k unread.Lines = tt
 untold_template k (unread.NoMemory e) = tt
 
-effect_read : (n : List ℕ) (o : Option (List ℕ)) (ls : List NumberedLine) (x : bodies.Answer) → bodies.IsRead ls x → IsReadContent (effect_content n o x)
-effect_read n o ls (Ok b) read = body_read ls b read
+effect_read : (n : List ℕ) (o : Option (List ℕ)) (ls : List NumberedLine) (x : bodies.Answer) → bodies.IsRead effects ls x → IsReadContent (effect_content n o x)
+effect_read n o ls (Ok b) read = body_read effects ls b read
 effect_read n o ls (Err f) read = untold_body f.at f.why
 
 template_read : (n : List ℕ) (ls : List NumberedLine) (x : templates.Answer) → templates.IsRead ls x → IsReadContent (template_content n x)

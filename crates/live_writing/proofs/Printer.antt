@@ -15,6 +15,7 @@ use Rattle.script_lines.specs.Pieces.{Piece}
 use Rattle.sig_untrack.specs.Stated.{Bodies}
 use Rattle.body_text.specs.declared.fault.BodyWhy.{BodyWhy}
 use Rattle.body_text.specs.declared.fault.BodyWhy.TheVariants as why
+use Rattle.body_text.specs.Allowances.{effects}
 use Rattle.body_text.specs.Verdicts.{Answer, IsRead}
 use Rattle.body_text.specs.Statements.{lines_of}
 use Rattle.body_text.specs.Grammar as body_grammar
@@ -155,6 +156,7 @@ block_parted false k (content.Makes d) c e = absurd cc
 -- what lines are that are no body makes no command
 no_body : (k : ℕ) (w : BodyWhy) (c : Command) → body_refused k w ≡ content.Makes c → ⊥
 no_body k why.Syntax c e = absurd cc
+no_body k why.UntrackHere c e = absurd cc
 no_body k why.ItHere c e = absurd cc
 no_body k why.Nest c e = absurd cc
 no_body k why.Text c e = absurd cc
@@ -209,7 +211,7 @@ template_text_is n t =
 
 module _ (c : Command) (first last : List ℕ) (ls : List NumberedLine) where
   -- an effect that its lines make
-  effect_done : (a : Args (row effect).1) (b : Bodies) → Writes (effect, a) first → IsRead ls (Ok b) → command.Effect a.0 b a.1.0 ≡ c
+  effect_done : (a : Args (row effect).1) (b : Bodies) → Writes (effect, a) first → IsRead effects ls (Ok b) → command.Effect a.0 b a.1.0 ≡ c
       → Writes (close, tt) last → DoneIn c
   effect_done a b w r e v =
       let d : DoneIn (command.Effect a.0 b a.1.0) = record {
@@ -222,9 +224,9 @@ module _ (c : Command) (first last : List ℕ) (ls : List NumberedLine) where
         writes = w;
         begins = refl;
         end = v;
-        whole = whole_lines ls b r;
+        whole = whole_lines effects ls b r;
         stays = body_stays (body.meaning b) 1 (omega arith);
-        again = λ n. (Ok b, read_anew n ls b r, refl);
+        again = λ n. (Ok b, read_anew effects n ls b r, refl);
       } in
       subst (λ (f : Command). DoneIn f) e d
 
@@ -253,7 +255,7 @@ module _ (c : Command) (first last : List ℕ) (ls : List NumberedLine) where
       → Writes (close, tt) last → DoneIn c
   content_done effect a x w h e v =
       let made = body_made a.0 a.1.0 h.0 c (sym h.2 ∙ e) in
-      effect_done a made.0 w (subst (λ (y : Answer). IsRead ls y) made.1 h.1) made.2 v
+      effect_done a made.0 w (subst (λ (y : Answer). IsRead effects ls y) made.1 h.1) made.2 v
   content_done template a x w h e v =
       let made = template_made a.0 h.0 c (sym h.2 ∙ e) in
       template_done a made.0 w (subst (λ (y : templates.Answer). templates.IsRead ls y) made.1 h.1) made.2 v

@@ -7,7 +7,7 @@ returns-in_default c = let h = rw c.in_default.is at c.in_ok-found.ensures in λ
 
 pub returns-then-not-fits : goal.returns-then-not-fits
 returns-then-not-fits c =
-    does_not_fit c.args.depth c.args.line.now c.in-Some.found (sym c.if-not-fits.ensures) (rw c.in-Some.is at c.in_ok-found.ensures)
+    does_not_fit c.args.allowance c.args.depth c.args.line.now c.in-Some.found (sym c.if-not-fits.ensures) (rw c.in-Some.is at c.in_ok-found.ensures)
 
 pub returns : goal.returns
-returns c = does_fit c.args.depth c.args.line.now c.in-Some.found (sym c.if-not-fits.ensures) (rw c.in-Some.is at c.in_ok-found.ensures)
+returns c = does_fit c.args.allowance c.args.depth c.args.line.now c.in-Some.found (sym c.if-not-fits.ensures) (rw c.in-Some.is at c.in_ok-found.ensures)

@@ -11,14 +11,14 @@ loop-numbered-preserved c =
     let d : NumberedLine = record { number = 0; text = record { ref_ptr = (0, 0); now = [] } } in
     let n = c.loop-numbered.depth in
     let m = c.moved-next.result in
-    let found = found_at _ _ _ (rw c.in-Some.is at c.in_ok-found.ensures) in
+    let found = found_at c.args.allowance _ _ _ (rw c.in-Some.is at c.in_ok-found.ensures) in
     let within = c.loop-numbered-test.true in
     let next = c.moved-next.ensures in
     record {
       few = let a = one_deeper n c.in-Some.found.kind in let b = c.loop-numbered.invariant.few in omega (arith, next);
-      faulty = λ k f. c.loop-numbered.invariant.faulty k (faulty_later n m c.args.lines.now c.loop-numbered.numbered-index d c.in-Some.found k within found next f);
+      faulty = λ k f. c.loop-numbered.invariant.faulty k (faulty_later c.args.allowance n m c.args.lines.now c.loop-numbered.numbered-index d c.in-Some.found k within found next f);
       says = λ rs to a.
-          let later = read_later n m c.args.lines.now c.loop-numbered.numbered-index d c.in-Some.found c.read_at.result rs to within found next c.read_at.ensures a in
+          let later = read_later c.args.allowance n m c.args.lines.now c.loop-numbered.numbered-index d c.in-Some.found c.read_at.result rs to within found next c.read_at.ensures a in
           let more = c.loop-numbered.invariant.says (c.read_at.result ∷ rs) to later in
           rw (c.in_ok-push.ensures.items, append_assoc) more;
     }
@@ -28,8 +28,8 @@ returns-then-depth-eq0 c =
     let h = c.loop-numbered-test.false in
     let n = c.loop-numbered.depth in
     let none = drop_all c.loop-numbered.numbered-index c.args.lines.now (omega arith) in
-    let done : AreRead n (map line_of (drop c.loop-numbered.numbered-index c.args.lines.now)) [] n = rw none refl in
-    subst (λ (to : ℕ). AreRead 0 (map line_of c.args.lines.now) c.loop-numbered.said.items to) c.if-depth-eq0.true
+    let done : AreRead c.args.allowance n (map line_of (drop c.loop-numbered.numbered-index c.args.lines.now)) [] n = rw none refl in
+    subst (λ (to : ℕ). AreRead c.args.allowance 0 (map line_of c.args.lines.now) c.loop-numbered.said.items to) c.if-depth-eq0.true
     (rw append-nil at (c.loop-numbered.invariant.says [] n done))
 
 pub returns-else-depth-eq0 : goal.returns-else-depth-eq0
@@ -37,6 +37,6 @@ returns-else-depth-eq0 c =
     let h = c.loop-numbered-test.false in
     let n = c.loop-numbered.depth in
     let none = drop_all c.loop-numbered.numbered-index c.args.lines.now (omega arith) in
-    let done : AreRead n (map line_of (drop c.loop-numbered.numbered-index c.args.lines.now)) [] n = rw none refl in
+    let done : AreRead c.args.allowance n (map line_of (drop c.loop-numbered.numbered-index c.args.lines.now)) [] n = rw none refl in
     let some = c.if-depth-eq0.false in
-    left_open (map line_of c.args.lines.now) c.loop-numbered.said.items n (rw append-nil at (c.loop-numbered.invariant.says [] n done)) (omega arith)
+    left_open c.args.allowance (map line_of c.args.lines.now) c.loop-numbered.said.items n (rw append-nil at (c.loop-numbered.invariant.says [] n done)) (omega arith)

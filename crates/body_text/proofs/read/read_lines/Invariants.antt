@@ -8,6 +8,6 @@ use Rattle.body_text.proofs.read.read_lines.Given as goal
 abbrev pub invariant-loop-numbered : goal.invariant-loop-numbered
 invariant-loop-numbered l = record {
   few : l.depth ≤ l.numbered-index;
-  faulty : (k : ℕ) → IsFaulty l.depth (map line_of (drop l.numbered-index l.lines)) k → IsFaulty 0 (map line_of l.lines) k;
-  says : (rs : List ReadLine) (to : ℕ) → AreRead l.depth (map line_of (drop l.numbered-index l.lines)) rs to → AreRead 0 (map line_of l.lines) (l.said.items ++ rs) to;
+  faulty : (k : ℕ) → IsFaulty l.allowance l.depth (map line_of (drop l.numbered-index l.lines)) k → IsFaulty l.allowance 0 (map line_of l.lines) k;
+  says : (rs : List ReadLine) (to : ℕ) → AreRead l.allowance l.depth (map line_of (drop l.numbered-index l.lines)) rs to → AreRead l.allowance 0 (map line_of l.lines) (l.said.items ++ rs) to;
 }

@@ -10,4 +10,4 @@ unreachable-requires c =
 pub returns-in-Ok : goal.returns-in-Ok
 returns-in-Ok c =
     let says = c.in-Ok.ensures.cases.0 ∙ c.token_bytes.ensures in
-    rw (said_word c.args.line.now c.args.tokens.now c.in-Some.first.now c.in-Ok.word.now c.in-Some.ensures.value c.in-Word.is says) c.behind_word.ensures
+    rw (said_word c.args.allow c.args.line.now c.args.tokens.now c.in-Some.first.now c.in-Ok.word.now c.in-Some.ensures.value c.in-Word.is says) c.behind_word.ensures

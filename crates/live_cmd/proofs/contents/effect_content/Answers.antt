@@ -9,9 +9,9 @@ use Rattle.live_cmd.proofs.contents.effect_content.Goals as goal
 
 pub returns-in-Ok : goal.returns-in-Ok
 returns-in-Ok c =
-    (Ok (before c.in-Ok.body no_bodies), c.in-Ok.ensures.ok, ap (λ (b : Bodies). content.Makes (command.Effect c.args.name b c.args.inside)) c.of.ensures)
+    (Ok (before c.in-Ok.body no_bodies), rw c.effect.ensures at c.in-Ok.ensures.ok, ap (λ (b : Bodies). content.Makes (command.Effect c.args.name b c.args.inside)) c.of.ensures)
 
 pub returns-in_ok-content-in-Err : goal.returns-in_ok-content-in-Err
 returns-in_ok-content-in-Err c =
     refused_by (map line_of c.args.lines.now) c.in-Err.fault.at c.number_at.result c.in-Err.fault.why c.in_ok-content-in-Err.content c.args.name c.args.inside
-    c.in-Err.ensures.refused c.in_ok-content-in-Err.ensures.lines c.number_at.ensures c.in_ok-content-in-Err.ensures.content
+    (rw c.effect.ensures at c.in-Err.ensures.refused) c.in_ok-content-in-Err.ensures.lines c.number_at.ensures c.in_ok-content-in-Err.ensures.content
