@@ -13,7 +13,5 @@ mod Printer
 mod Slots
 mod Soundness
 mod Blocks
-mod Spellings
-mod Lines
 mod Texts
 pub mod Shared

@@ -1,25 +1,25 @@
 -- The lines of a body say the body.
 use Rattle.std.proofs.Common.{◌≡◌, ℕ, ◌+◌, suc, List, [], ◌∷◌, ◌++◌, length, map, flat_map, Option, Some, None, refl, sym, ap, ap₂, subst, ◌∙◌}
-use Rattle.std.specs.Prelude.{Ok, option_map, true, false}
+use Rattle.std.specs.Prelude.{Ok, option_map}
 use Rattle.std.specs.List.{AllByRecursion}
 use Rattle.line_forms.specs.Forms.{Args}
-use Rattle.line_forms.proofs.Shared.{is_line, prints_back}
+use Rattle.line_forms.specs.Blocks.{said_all}
+use Rattle.line_forms.proofs.Shared.{IsWhole, all_whole, each_again, kept_said, renumbered, say_again}
 use Rattle.formula_text.specs.declared.wired.Allow.{Allow}
-use Rattle.script_lines.specs.Lines.{NumberedLine, is_passed, kept_lines, numbered}
+use Rattle.script_lines.specs.Lines.{NumberedLine, kept_lines, numbered}
 use Rattle.sig_untrack.specs.Stated.{Bodies}
 use Rattle.body_text.specs.declared.allowance.Allowance.{Allowance}
 use Rattle.body_text.specs.declared.fault.BodyFault.{BodyFault}
 use Rattle.body_text.specs.declared.fault.BodyWhy.{BodyWhy}
 use Rattle.body_text.specs.declared.line.Line.{Line}
-use Rattle.body_text.specs.Grammar.{Row, row, Said, said_line, set, said_of}
+use Rattle.body_text.specs.Grammar.{Row, row, bodies, Said, said_line, set, said_of}
 use Rattle.body_text.specs.Refusals.{fault_at, first_excess, first_misplaced, judged, many_lines, refusal_of}
-use Rattle.body_text.specs.Places.{kind_of, moved}
+use Rattle.body_text.specs.Places.{kind_of, moved, places}
 use Rattle.body_text.specs.Verdicts.{Answer, IsRead, faulty, unended, says, Say, Sayings, answer_of, said_lines, unless_refused}
 use Rattle.body_text.specs.Statements.{Statements, body_of, lines_of}
 use Rattle.body_text.specs.Printer.{body_text, bytes_of, ended_line, lines_of_text, lines_text, meaning, text_of}
 use Rattle.body_text.proofs.Judgements.{neither}
 use Rattle.body_text.proofs.Semantics.{meant_back}
-use Rattle.body_text.proofs.Lines.{said_all, AllLines, all_lines, kept_all}
 
 -- ---- a line says again what it said
 
@@ -46,49 +46,33 @@ bytes_same (l ∷ ls) = ap (λ (bs : List (List ℕ)). bytes_of (said_of l) ∷ 
 
 -- ---- from 0 on
 
-abbrev from : ℕ → Sayings → Sayings
-from n [] = []
-from n (x ∷ xs) = (n, x.1) ∷ from (n + 1) xs
-
-say_from : (allowance : Allowance) (depth : ℕ) (ls : List NumberedLine) (xs : Sayings) (n : ℕ) → Say allowance depth ls xs → Say allowance depth (numbered n (map bytes_of (said_all xs))) (from n xs)
-unfolding numbered
-say_from allowance depth [] [] n s = tt
-say_from allowance depth [] (x ∷ xs) n s = absurd s
-say_from allowance depth (l ∷ ls) [] n s = absurd s
-say_from allowance depth (l ∷ ls) (x ∷ xs) n s =
-    (refl, prints_back Row row x.1 l.1 s.1, s.2, say_from allowance (moved depth (kind_of (said_line x.1))) ls xs (n + 1) s.3)
-
-lines_from : (n : ℕ) (xs : Sayings) → said_lines (from n xs) ≡ said_lines xs
-lines_from n [] = refl
-lines_from n (x ∷ xs) = ap (λ (ls : List Line). said_line x.1 ∷ ls) (lines_from (n + 1) xs)
-
 at_other : (j k : ℕ) (o : Option BodyWhy) → option_map (fault_at k) o ≡ None → option_map (fault_at j) o ≡ None
 at_other j k None e = refl
 at_other j k (Some w) e = absurd cc
 
-none_misplaced : (allow : Allow) (depth n : ℕ) (xs : Sayings) → first_misplaced (judged allow depth xs) ≡ None → first_misplaced (judged allow depth (from n xs)) ≡ None
+none_misplaced : (allow : Allow) (depth n : ℕ) (xs : Sayings) → first_misplaced (judged allow depth xs) ≡ None → first_misplaced (judged allow depth (renumbered n xs)) ≡ None
 none_misplaced allow depth n [] e = refl
 none_misplaced allow depth n (x ∷ xs) e =
     let next = moved depth (kind_of (said_line x.1)) in
     let both = neither (option_map (fault_at x.0) _) (first_misplaced (judged allow next xs)) e in
     rw (at_other n x.0 _ both.0) (none_misplaced allow next (n + 1) xs both.1)
 
-none_excess : (allow : Allow) (depth n : ℕ) (xs : Sayings) → first_excess (judged allow depth xs) ≡ None → first_excess (judged allow depth (from n xs)) ≡ None
+none_excess : (allow : Allow) (depth n : ℕ) (xs : Sayings) → first_excess (judged allow depth xs) ≡ None → first_excess (judged allow depth (renumbered n xs)) ≡ None
 none_excess allow depth n [] e = refl
 none_excess allow depth n (x ∷ xs) e =
     let next = moved depth (kind_of (said_line x.1)) in
     let both = neither (option_map (fault_at x.0) _) (first_excess (judged allow next xs)) e in
     rw (at_other n x.0 _ both.0) (none_excess allow next (n + 1) xs both.1)
 
-same_count : (allow : Allow) (depth n : ℕ) (xs : Sayings) → length (judged allow depth (from n xs)) ≡ length (judged allow depth xs)
+same_count : (allow : Allow) (depth n : ℕ) (xs : Sayings) → length (judged allow depth (renumbered n xs)) ≡ length (judged allow depth xs)
 same_count allow depth n [] = refl
 same_count allow depth n (x ∷ xs) = ap (λ (k : ℕ). suc k) (same_count allow (moved depth (kind_of (said_line x.1))) (n + 1) xs)
 
-none_refused : (allow : Allow) (depth n : ℕ) (xs : Sayings) → refusal_of (judged allow depth xs) ≡ None → refusal_of (judged allow depth (from n xs)) ≡ None
+none_refused : (allow : Allow) (depth n : ℕ) (xs : Sayings) → refusal_of (judged allow depth xs) ≡ None → refusal_of (judged allow depth (renumbered n xs)) ≡ None
 none_refused allow depth n xs e =
     let a = neither (first_misplaced (judged allow depth xs)) _ e in
     let b = neither (first_excess (judged allow depth xs)) _ a.1 in
-    let many : many_lines (judged allow depth (from n xs)) ≡ None = rw (same_count allow depth n xs) b.1 in
+    let many : many_lines (judged allow depth (renumbered n xs)) ≡ None = rw (same_count allow depth n xs) b.1 in
     rw (none_misplaced allow depth n xs a.0, none_excess allow depth n xs b.0) many
 
 -- ---- a body is read back
@@ -119,7 +103,7 @@ means allowance ls b d = ap meaning (sym d.is) ∙ meant_back d.statements
 numbered_lines : (allowance : Allowance) (ls : List NumberedLine) (b : Bodies) (d : Done allowance ls b) → kept_lines 0 (body_text b) ≡ numbered 0 (map bytes_of (said_all d.xs))
 numbered_lines allowance ls b d =
     ap (λ (s : Statements). kept_lines 0 (text_of s)) (means allowance ls b d) ∙ ap (kept_lines 0) (said_text d.xs d.statements d.spelled)
-    ∙ kept_all 0 (said_all d.xs) (all_lines allowance 0 ls d.xs d.say)
+    ∙ kept_said bodies 0 (said_all d.xs) (all_whole bodies (places allowance) 0 ls d.xs d.say)
 
 -- the lines of the text are those that are written
 pub lines_are : (allowance : Allowance) (ls : List NumberedLine) (b : Bodies) → IsRead allowance ls (Ok b) → kept_lines 0 (body_text b) ≡ lines_of_text (meaning b)
@@ -133,11 +117,11 @@ lines_are allowance ls b r =
 pub read_back : (allowance : Allowance) (ls : List NumberedLine) (b : Bodies) → IsRead allowance ls (Ok b) → IsRead allowance (kept_lines 0 (body_text b)) (Ok b)
 read_back allowance ls b r =
     let d = done_by allowance ls b (Ok b) r refl in
-    let again = from 0 d.xs in
+    let again = renumbered 0 d.xs in
     let whole : answer_of allowance again d.statements ≡ Ok b =
     ap (λ (o : Option BodyFault). unless_refused o (body_of d.statements)) (none_refused allowance.formulas 0 0 d.xs d.sound) ∙ ap (λ (c : Bodies). Ok c) d.is in
     let read : IsRead allowance (numbered 0 (map bytes_of (said_all d.xs))) (answer_of allowance again d.statements) =
-    says again d.statements (say_from allowance 0 ls d.xs 0 d.say) (lines_from 0 d.xs ∙ d.spelled) in
+    says again d.statements (say_again bodies (places allowance) 0 ls d.xs 0 d.say) (each_again said_line 0 d.xs ∙ d.spelled) in
     subst (λ (a : Answer). IsRead allowance (kept_lines 0 (body_text b)) a) whole
     (subst (λ (ms : List NumberedLine). IsRead allowance ms (answer_of allowance again d.statements)) (sym (numbered_lines allowance ls b d)) read)
 
@@ -156,21 +140,16 @@ same_lines allowance ls b d =
 pub read_anew : (allowance : Allowance) (n : ℕ) (ls : List NumberedLine) (b : Bodies) → IsRead allowance ls (Ok b) → IsRead allowance (numbered n (bytes_in b)) (Ok b)
 read_anew allowance n ls b r =
     let d = done_by allowance ls b (Ok b) r refl in
-    let again = from n d.xs in
+    let again = renumbered n d.xs in
     let whole : answer_of allowance again d.statements ≡ Ok b =
     ap (λ (o : Option BodyFault). unless_refused o (body_of d.statements)) (none_refused allowance.formulas 0 n d.xs d.sound) ∙ ap (λ (c : Bodies). Ok c) d.is in
     let read : IsRead allowance (numbered n (map bytes_of (said_all d.xs))) (answer_of allowance again d.statements) =
-    says again d.statements (say_from allowance 0 ls d.xs n d.say) (lines_from n d.xs ∙ d.spelled) in
+    says again d.statements (say_again bodies (places allowance) 0 ls d.xs n d.say) (each_again said_line n d.xs ∙ d.spelled) in
     subst (λ (a : Answer). IsRead allowance (numbered n (bytes_in b)) a) whole
     (subst (λ (ms : List (List ℕ)). IsRead allowance (numbered n ms) (answer_of allowance again d.statements)) (same_lines allowance ls b d) read)
 
-each_whole : (xs : List Said) → AllLines xs → AllByRecursion (λ l. (is_line l ≡ true) × (is_passed l ≡ false)) (map bytes_of xs)
-each_whole [] s = tt
-each_whole (x ∷ xs) s = ((s.0, s.1), each_whole xs s.2)
-
 -- each is one line, which isn't passed over
-pub whole_lines : (allowance : Allowance) (ls : List NumberedLine) (b : Bodies) → IsRead allowance ls (Ok b) → AllByRecursion (λ l. (is_line l ≡ true) × (is_passed l ≡ false)) (bytes_in b)
+pub whole_lines : (allowance : Allowance) (ls : List NumberedLine) (b : Bodies) → IsRead allowance ls (Ok b) → AllByRecursion IsWhole (bytes_in b)
 whole_lines allowance ls b r =
     let d = done_by allowance ls b (Ok b) r refl in
-    subst (λ (ms : List (List ℕ)). AllByRecursion (λ l. (is_line l ≡ true) × (is_passed l ≡ false)) ms) (same_lines allowance ls b d)
-    (each_whole (said_all d.xs) (all_lines allowance 0 ls d.xs d.say))
+    subst (AllByRecursion IsWhole) (same_lines allowance ls b d) (all_whole bodies (places allowance) 0 ls d.xs d.say)

@@ -10,7 +10,7 @@ use Rattle.body_text.specs.declared.allowance.Allowance.{Allowance}
 use Rattle.body_text.specs.declared.fault.BodyFault.{BodyFault}
 use Rattle.body_text.specs.declared.fault.BodyWhy.TheVariants as why
 use Rattle.body_text.specs.declared.judge.ReadLine.{ReadLine}
-use Rattle.body_text.specs.Grammar.{Row, row, table, Said, Writes}
+use Rattle.body_text.specs.Grammar.{bodies, Said, Writes}
 use Rattle.body_text.specs.Refusals.{fault_at, judged, refusal_of}
 use Rattle.body_text.specs.Places.{places}
 use Rattle.body_text.specs.Verdicts.{Answer, IsRead, faulty, unended, says, answer_of, last_number, reached, said_lines, unless_refused}
@@ -22,7 +22,7 @@ use Rattle.body_text.proofs.Blocks.{ends_all, some_spelled, spelled}
 
 -- a line says one thing
 pub one_line : (bytes : List ℕ) (x y : Said) → Writes x bytes → Writes y bytes → x ≡ y
-one_line bytes x y v w = lines.one_writing Row row table is_grammar bytes x y v w
+one_line bytes x y v w = lines.one_writing bodies is_grammar bytes x y v w
 
 is_zero : (n : ℕ) → (n == 0) ≡ true → n ≡ 0
 is_zero n e = grind (arith, nat_tests)
@@ -32,7 +32,7 @@ is_more n e = grind (arith, nat_tests)
 
 -- lines are some body, or refused
 pub some_answer : (allowance : Allowance) (ls : List NumberedLine) → (a : Answer) × IsRead allowance ls a
-some_answer allowance ls = elim (lines.lines_or_fault Row row table is_grammar (places allowance) 0 ls) [
+some_answer allowance ls = elim (lines.lines_or_fault bodies is_grammar (places allowance) 0 ls) [
   | inr f ↦ (Err (fault_at f.0 why.Syntax), faulty f.0 f.1)
   | inl s ↦ elim (cases_Bool (reached allowance 0 s.0 == 0)) [
     | inl e ↦ let t = some_spelled allowance ls s.0 s.1 (is_zero (reached allowance 0 s.0) e) in (answer_of allowance s.0 t.0, says s.0 t.0 s.1 t.1)
@@ -45,20 +45,20 @@ not_both n e h = omega arith
 
 -- lines are one of them
 pub one_answer : (allowance : Allowance) (ls : List NumberedLine) (a b : Answer) → IsRead allowance ls a → IsRead allowance ls b → a ≡ b
-one_answer allowance ls _ _ (faulty k f) (faulty j g) = ap (λ (n : ℕ). Err (fault_at n why.Syntax)) (lines.one_fault Row row table is_grammar (places allowance) 0 ls k j f g)
-one_answer allowance ls _ _ (faulty k f) (unended ys t d) = absurd (lines.no_both Row row table is_grammar (places allowance) 0 ls ys k t f)
-one_answer allowance ls _ _ (faulty k f) (says ys u t d) = absurd (lines.no_both Row row table is_grammar (places allowance) 0 ls ys k t f)
-one_answer allowance ls _ _ (unended xs s c) (faulty j g) = absurd (lines.no_both Row row table is_grammar (places allowance) 0 ls xs j s g)
+one_answer allowance ls _ _ (faulty k f) (faulty j g) = ap (λ (n : ℕ). Err (fault_at n why.Syntax)) (lines.one_fault bodies is_grammar (places allowance) 0 ls k j f g)
+one_answer allowance ls _ _ (faulty k f) (unended ys t d) = absurd (lines.no_both bodies is_grammar (places allowance) 0 ls ys k t f)
+one_answer allowance ls _ _ (faulty k f) (says ys u t d) = absurd (lines.no_both bodies is_grammar (places allowance) 0 ls ys k t f)
+one_answer allowance ls _ _ (unended xs s c) (faulty j g) = absurd (lines.no_both bodies is_grammar (places allowance) 0 ls xs j s g)
 one_answer allowance ls _ _ (unended xs s c) (unended ys t d) = refl
 one_answer allowance ls _ _ (unended xs s c) (says ys u t d) =
-    let same = lines.one_saying Row row table is_grammar (places allowance) 0 ls xs ys s t in
+    let same = lines.one_saying bodies is_grammar (places allowance) 0 ls xs ys s t in
     absurd (not_both (reached allowance 0 xs) (ap (reached allowance 0) same ∙ ends_all allowance ys u d) c)
-one_answer allowance ls _ _ (says xs u s c) (faulty j g) = absurd (lines.no_both Row row table is_grammar (places allowance) 0 ls xs j s g)
+one_answer allowance ls _ _ (says xs u s c) (faulty j g) = absurd (lines.no_both bodies is_grammar (places allowance) 0 ls xs j s g)
 one_answer allowance ls _ _ (says xs u s c) (unended ys t d) =
-    let same = lines.one_saying Row row table is_grammar (places allowance) 0 ls ys xs t s in
+    let same = lines.one_saying bodies is_grammar (places allowance) 0 ls ys xs t s in
     absurd (not_both (reached allowance 0 ys) (ap (reached allowance 0) same ∙ ends_all allowance xs u c) d)
 one_answer allowance ls _ _ (says xs u s c) (says ys v t d) =
-    let same = lines.one_saying Row row table is_grammar (places allowance) 0 ls xs ys s t in
+    let same = lines.one_saying bodies is_grammar (places allowance) 0 ls xs ys s t in
     ap₂ (answer_of allowance) same (spelled u v (sym c ∙ ap said_lines same ∙ d))
 
 -- ---- what was read is what lines are

@@ -5,7 +5,7 @@ use Rattle.sig_words.specs.Lexemes.{symbol, word}
 use Rattle.line_forms.specs.Blocks as blocks
 use Rattle.line_forms.specs.Forms.{Piece, part, fixed, one, arguments, formula, name, count}
 use Rattle.line_forms.specs.Rows as grammar
-use Rattle.line_forms.specs.Told.{Made, made}
+use Rattle.line_forms.specs.Told.{Made}
 use Rattle.body_text.specs.declared.line.Line.{Line}
 use Rattle.body_text.specs.declared.line.Line.TheVariants as line
 use Rattle.body_text.specs.declared.line.Source.TheVariants as source
@@ -91,13 +91,17 @@ line_makes rewire = λ n x. line.Rewire n (source.Formula x)
 line_makes host = λ n k ns. line.Rewire n (source.Host k ns)
 line_makes close = line.End
 
+-- the language of the lines of a body
+abbrev pub bodies : grammar.Language
+bodies = record { Row = Row; Meaning = Line; row = row; means = line_makes; table = table }
+
 -- what a line says by itself; its texts may be of any length, and its formulas of any height
 abbrev pub Said : Type 0
-Said = grammar.Said Row row
+Said = grammar.Said bodies
 
 -- the line, its formula with names
 abbrev pub said_line : Said → Line
-said_line x = made (row x.0).1 (line_makes x.0) x.1
+said_line x = grammar.meaning_of bodies x
 
 -- what says a line
 abbrev pub said_of : Line → Said
@@ -114,4 +118,4 @@ said_of line.End = (close, tt)
 
 -- bytes write a line: their tokens spell it
 abbrev pub Writes : Said → List ℕ → Type 0
-Writes said bytes = blocks.Writes Row row said bytes
+Writes said bytes = blocks.Writes bodies said bytes

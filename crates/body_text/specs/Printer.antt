@@ -12,14 +12,14 @@ use Rattle.body_text.specs.declared.line.Line.{Line}
 use Rattle.body_text.specs.declared.line.Line.TheVariants as line
 use Rattle.body_text.specs.declared.line.Source.{Source}
 use Rattle.body_text.specs.declared.line.Source.TheVariants as source
-use Rattle.body_text.specs.Grammar.{Row, row, Said, said_of}
+use Rattle.body_text.specs.Grammar.{bodies, Said, said_of}
 use Rattle.body_text.specs.Statements.{Statement, Statements, done, plain, rewire, when, effect, lines_of}
 
 -- ---- the text of statements
 
 -- the bytes of a line
 abbrev pub bytes_of : Said → List ℕ
-bytes_of x = line_text Row row x
+bytes_of x = line_text bodies x
 
 -- the bytes of a line, and the LF that ends it
 abbrev pub ended_line : Said → List ℕ

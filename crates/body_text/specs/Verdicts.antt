@@ -8,7 +8,7 @@ use Rattle.body_text.specs.declared.fault.BodyFault.{BodyFault}
 use Rattle.body_text.specs.declared.fault.BodyWhy.{BodyWhy}
 use Rattle.body_text.specs.declared.fault.BodyWhy.TheVariants as why
 use Rattle.body_text.specs.declared.line.Line.{Line}
-use Rattle.body_text.specs.Grammar.{Row, row, Said, said_line}
+use Rattle.body_text.specs.Grammar.{bodies, Said, said_line}
 use Rattle.body_text.specs.Refusals.{fault_at, judged, refusal_of}
 use Rattle.body_text.specs.Places.{places}
 use Rattle.body_text.specs.Statements.{Statements, lines_of, body_of}
@@ -19,11 +19,11 @@ Sayings = List (ℕ × Said)
 
 -- with so many begun, the lines say this, each where it may stand
 abbrev pub Say : Allowance → ℕ → List NumberedLine → Sayings → Type 0
-Say allowance depth ls xs = blocks.Say Row row (places allowance) depth ls xs
+Say allowance depth ls xs = blocks.Say bodies (places allowance) depth ls xs
 
 -- with so many begun, the line of this number is the first that says nothing which may stand there
 abbrev pub IsFaulty : Allowance → ℕ → List NumberedLine → ℕ → Type 0
-IsFaulty allowance depth ls k = blocks.IsFaulty Row row (places allowance) depth ls k
+IsFaulty allowance depth ls k = blocks.IsFaulty bodies (places allowance) depth ls k
 
 -- how many are begun behind lines that say this
 abbrev pub reached : Allowance → ℕ → Sayings → ℕ

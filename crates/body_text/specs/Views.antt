@@ -1,9 +1,8 @@
 -- What the program holds of lines that it reads.
-use Rattle.std.specs.Prelude.{◌≡◌, ◌<◌, ℕ, List, [], ◌∷◌, Option, Some, None, option_map, Result, Ok, Err, IsTrue}
-use Rattle.std.specs.Option.{option_or}
+use Rattle.std.specs.Prelude.{◌≡◌, ◌<◌, ℕ, List, [], ◌∷◌, Option, Some, None, Result, Ok, Err, IsTrue}
 use Rattle.formula_text.specs.declared.wired.Allow.{Allow}
 use Rattle.formula_text.specs.declared.wired.FormulaFault.{FormulaFault}
-use Rattle.line_forms.specs.Reader.{read_form}
+use Rattle.line_forms.specs.Findings as findings
 use Rattle.line_forms.specs.Told.{unless_faulty}
 use Rattle.script_lines.specs.Lines.{NumberedLine}
 use Rattle.sig_untrack.specs.declared.body.Body.{Body}
@@ -16,7 +15,7 @@ use Rattle.body_text.specs.declared.line.Found.{Found}
 use Rattle.body_text.specs.declared.line.Line.{Line}
 use Rattle.body_text.specs.declared.read.Reading.{Reading}
 use Rattle.body_text.specs.declared.read.Reading.TheVariants as reading
-use Rattle.body_text.specs.Grammar.{Row, row, Said, Writes, said_line}
+use Rattle.body_text.specs.Grammar.{Row, bodies, Said, Writes, said_line}
 use Rattle.body_text.specs.Refusals.{Judged, excess, fault_of, misplacing}
 use Rattle.body_text.specs.Places.{fits, kind_of, moved}
 use Rattle.body_text.specs.Verdicts.{Answer, IsFaulty, Say, Sayings, reached}
@@ -38,13 +37,11 @@ found_of allow x = record { kind = kind_of (said_line x); line = line_or_fault a
 
 -- what is found in the tokens behind the first word, as a line of this row
 abbrev pub found_as : Allow → Row → List Lexeme → Option Found
-found_as allow r ls = option_map (λ a. found_of allow (r, a)) (read_form (row r).1 ls)
+found_as allow r ls = findings.found_as bodies (found_of allow) r ls
 
 -- what is found by the first of the rows that reads them
 abbrev pub found_first : Allow → List Row → List Lexeme → Option Found
-found_first allow [] ls = None
-found_first allow (r ∷ []) ls = found_as allow r ls
-found_first allow (r ∷ s ∷ rs) ls = option_or (found_as allow r ls) (found_first allow (s ∷ rs) ls)
+found_first allow rs ls = findings.found_first bodies (found_of allow) rs ls
 
 -- what is wrong with a line that was read
 abbrev pub fault_told : Result Line FormulaFault → Option FormulaFault

@@ -10,7 +10,7 @@ ghost use Rattle.line_forms.specs.Reader.{read_form, read_part};
 ghost use Rattle.line_forms.specs.Rows.{rows_of, said_of};
 ghost use Rattle.line_forms.specs.Told.{ahead, IsToldFormula};
 ghost use Rattle.body_text.specs.Grammar as rows;
-ghost use Rattle.body_text.specs.Grammar.{last_words, row, table, Row, Said, Writes};
+ghost use Rattle.body_text.specs.Grammar.{bodies, last_words, table, Said, Writes};
 ghost use Rattle.body_text.specs.Views.{found_as, found_first, found_of, IsTold};
 
 use crate::StatementSet;
@@ -380,7 +380,7 @@ fn spelled(
     allow: Allow,
 ) -> Result<Option<Found>, NoMemory>
     requires { AreTokens line.now tokens.now }
-    ensures { IfOk result (λ found. found ≡ option_map (found_of allow) (said_of Row row table (lexemes line.now tokens.now))) }
+    ensures { IfOk result (λ found. found ≡ option_map (found_of allow) (said_of bodies (lexemes line.now tokens.now))) }
 {
     let Some(first) = tokens.first() else {
         return Ok(None);

@@ -17,7 +17,7 @@ use Rattle.formula_text.proofs.Shared.{Stops, reads_front}
 use Rattle.line_forms.specs.Forms.{One, name, value, key, count, tagged, Part, one, perhaps, many, listed, arguments, formula, fixed, part, Form, Of, Contents, Args, Says, SayEach, SayBehind, SayListed, SayPerhaps, SpellsPart, SpellsForm, token_of}
 use Rattle.line_forms.specs.Reader.{same, scalar_of, one_of, read_perhaps, each_of, read_behind, read_opened, read_formula, read_part, read_form, is_operator, bars, avoids, is_open, is_clear, differ, is_other, apart}
 use Rattle.line_forms.proofs.Soundness.{form_sound, said_sound}
-use Rattle.line_forms.specs.Rows.{Line, Table, rows_of, Said, Spells, Reaches, IsGrammar, first_of, said_of}
+use Rattle.line_forms.specs.Rows.{Language, rows_of, Said, Spells, Reaches, IsGrammar, first_of, said_of}
 
 no_cons : (l : Lexeme) (ls : List Lexeme) → [] ≡ l ∷ ls → ⊥
 no_cons l ls e = cc
@@ -199,19 +199,19 @@ apart_reads ps qs b ls e t = at (read_form ps ls) (form_sound ps ls)
     at None h = refl
     at (Some a) h = absurd (apart_sound ps qs a b ls e h t)
 
-first_complete : (R : Type 0) (row : R → Line) (r : R) (a : Args (row r).1) (us : List R) (ls : List Lexeme) → is_clear (row r).1 ≡ true → Reaches R row r us
-    → SpellsForm (row r).1 a ls → first_of R row us ls ≡ Some (r, a)
-first_complete R row r a [] ls c h t = absurd h
-first_complete R row r a (u ∷ us) ls c (inl e) t =
-    subst (λ (v : R). first_of R row (v ∷ us) ls ≡ Some (r, a)) (sym e) (rw (form_complete (row r).1 a ls t c) refl)
-first_complete R row r a (u ∷ us) ls c (inr h) t = rw (apart_reads (row u).1 (row r).1 a ls h.0 t) (first_complete R row r a us ls c h.1 t)
+first_complete : (language : Language) (r : language.Row) (a : Args (language.row r).1) (us : List language.Row) (ls : List Lexeme) → is_clear (language.row r).1 ≡ true → Reaches language r us
+    → SpellsForm (language.row r).1 a ls → first_of language us ls ≡ Some (r, a)
+first_complete language r a [] ls c h t = absurd h
+first_complete language r a (u ∷ us) ls c (inl e) t =
+    subst (λ (v : language.Row). first_of language (v ∷ us) ls ≡ Some (r, a)) (sym e) (rw (form_complete (language.row r).1 a ls t c) refl)
+first_complete language r a (u ∷ us) ls c (inr h) t = rw (apart_reads (language.row u).1 (language.row r).1 a ls h.0 t) (first_complete language r a us ls c h.1 t)
 
 -- what spells a line is read as it
-pub said_complete : (R : Type 0) (row : R → Line) (table : Table R) → IsGrammar R row table → (x : Said R row) (ls : List Lexeme) → Spells R row x ls
-    → said_of R row table ls ≡ Some x
-said_complete R row table g x ls t = rw t.1 (first_complete R row x.0 x.1 (rows_of (row x.0).0 table) t.0 (g.clear x.0) (g.reached x.0) t.2)
+pub said_complete : (language : Language) → IsGrammar language → (x : Said language) (ls : List Lexeme) → Spells language x ls
+    → said_of language ls ≡ Some x
+said_complete language g x ls t = rw t.1 (first_complete language x.0 x.1 (rows_of (language.row x.0).0 language.table) t.0 (g.clear x.0) (g.reached x.0) t.2)
 
 -- what is read as a line spells it
-pub said_spells : (R : Type 0) (row : R → Line) (table : Table R) → IsGrammar R row table → (x : Said R row) (ls : List Lexeme) → said_of R row table ls ≡ Some x
-    → Spells R row x ls
-said_spells R row table g x ls e = subst (λ (o : Option (Said R row)). IfSome o (λ y. Spells R row y ls)) e (said_sound R row table ls g.begins)
+pub said_spells : (language : Language) → IsGrammar language → (x : Said language) (ls : List Lexeme) → said_of language ls ≡ Some x
+    → Spells language x ls
+said_spells language g x ls e = subst (λ (o : Option (Said language)). IfSome o (λ y. Spells language y ls)) e (said_sound language ls g.begins)

@@ -17,7 +17,7 @@ use Rattle.formula_text.specs.RoundTrips.{IsPrintable}
 use Rattle.formula_text.proofs.Shared.{cuts_append, Gap, cut_written, minimal_spells, ascii, printable_tokens, written_utf8}
 use Rattle.line_forms.specs.Forms.{One, Part, one, perhaps, many, listed, arguments, formula, name, Form, fixed, part, Of, Contents, Args, SayEach, SayBehind, SayListed, SpellsPart, SpellsForm, token_of}
 use Rattle.line_forms.specs.Printed.{token_text, spaced, behind_tokens, opened_tokens, part_text, form_text, line_text}
-use Rattle.line_forms.specs.Rows.{Line, Said, Spells}
+use Rattle.line_forms.specs.Rows.{Language, Said, Spells}
 use Rattle.line_forms.proofs.Printable.{IsWritten, AreWritten, EachPrints, PrintsPart, PrintsForm, tokens_written, form_prints}
 use Rattle.line_forms.proofs.Tokens.{EndsToken, prints, ends_word, lexeme_utf8, word_some}
 
@@ -245,25 +245,25 @@ cut_first w rest h e =
     }
 
 -- the text of a line has tokens that spell it
-pub record Rewrites (R : Type 0) (row : R → Line) (x : Said R row) : Type 0 where
+pub record Rewrites (language : Language) (x : Said language) : Type 0 where
   pub tokens : List Token
-  pub cut : AreTokens (line_text R row x) tokens
-  pub spelled : Spells R row x (lexemes (line_text R row x) tokens)
-  pub first : IsWritten (word (row x.0).0)
-  pub parts : PrintsForm (row x.0).1 x.1
+  pub cut : AreTokens (line_text language x) tokens
+  pub spelled : Spells language x (lexemes (line_text language x) tokens)
+  pub first : IsWritten (word (language.row x.0).0)
+  pub parts : PrintsForm (language.row x.0).1 x.1
 
 -- what a line says is printed as a line that says it
-pub rewrites : (R : Type 0) (row : R → Line) (line : List ℕ) (ts : List Token) (x : Said R row) → AreTokens line ts → Spells R row x (lexemes line ts) → Rewrites R row x
-rewrites R row line ts x are t =
-    let w = (row x.0).0 in
-    let ps = (row x.0).1 in
+pub rewrites : (language : Language) (line : List ℕ) (ts : List Token) (x : Said language) → AreTokens line ts → Spells language x (lexemes line ts) → Rewrites language x
+rewrites language line ts x are t =
+    let w = (language.row x.0).0 in
+    let ps = (language.row x.0).1 in
     let good : AreWritten (word w ∷ t.0) = subst AreWritten t.1 (tokens_written line ts are) in
     let own = form_prints ps x.1 t.0 t.2 good.1 in
     let rest = form_text ps x.1 in
     let head = cut_first w rest good.0 (form_ends ps x.1) in
     let back = cut_form ps x.1 (w ++ rest) (length w) own (drop-append_seam w rest) in
     let end = length w + length rest in
-    let all : CutsAs (w ++ rest) 0 end (Spells R row x) = join (w ++ rest) 0 (length w) end (λ ls. ls ≡ word w ∷ []) (SpellsForm ps x.1) (Spells R row x) head back
+    let all : CutsAs (w ++ rest) 0 end (Spells language x) = join (w ++ rest) 0 (length w) end (λ ls. ls ≡ word w ∷ []) (SpellsForm ps x.1) (Spells language x) head back
     (λ ks ms a b. (ms, ap (λ (us : List Lexeme). us ++ ms) a, b)) in
     let past : drop end (w ++ rest) ≡ [] = ap (λ (n : ℕ). drop n (w ++ rest)) (sym (length-append w rest)) ∙ drop-length (w ++ rest) in
     record {

@@ -1,5 +1,7 @@
 mod Blocks
 mod Completeness
+mod Findings
+mod Kept
 mod Listed
 mod Longest
 mod NameBytes

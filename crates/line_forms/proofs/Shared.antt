@@ -2,10 +2,13 @@
 -- crate's own.
 
 -- a line says one thing, or nothing, and so do lines one after the other
-pub use Rattle.line_forms.proofs.Blocks.{writes, writes_none, bad_writes_none, one_writing, line_or_none}
+pub use Rattle.line_forms.proofs.Blocks.{bad_writes_none, one_writing, line_or_none}
 pub use Rattle.line_forms.proofs.Blocks.{lines_or_fault, one_saying, no_both, one_fault, prints_back}
--- tokens are read exactly as what they spell
-pub use Rattle.line_forms.proofs.Completeness.{said_complete, said_spells}
--- what is printed of a line is one line, which is read back as it
-pub use Rattle.line_forms.proofs.OneLine.{in_line, is_line, whole_line}
+-- lines that are printed of sayings say them again, whatever their numbers
+pub use Rattle.line_forms.proofs.Blocks.{each_again, reached_again, renumbered, say_again}
+-- what a reader finds in the tokens of a line is what its bytes write
+pub use Rattle.line_forms.proofs.Findings.{first_utf8, said_word, from_tokens, held_from_tokens}
+-- what is printed of a line is one line, which is read back as it and isn't passed over, and its text has such lines
+pub use Rattle.line_forms.proofs.OneLine.{is_line}
 pub use Rattle.line_forms.proofs.Lexer.{rewrites}
+pub use Rattle.line_forms.proofs.Kept.{IsWhole, all_whole, kept_all, kept_said, said_whole}

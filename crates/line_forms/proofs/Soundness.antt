@@ -15,7 +15,7 @@ use Rattle.formula_text.specs.Parser.{Part as Run, expr}
 use Rattle.formula_text.proofs.Shared.{Took as TookSigns, expr_sound}
 use Rattle.line_forms.specs.Forms.{One, name, value, key, count, tagged, Part, one, perhaps, many, listed, arguments, formula, fixed, part, Form, Of, Says, SayEach, SayBehind, SayListed, SayPerhaps, are_distinct, SpellsPart, SpellsForm}
 use Rattle.line_forms.specs.Reader.{same, scalar_of, name_of, key_of, count_of, tag_of, one_of, there, read_one, read_perhaps, each_of, with_first, read_behind, read_opened, read_listed, if_distinct, left_of, read_formula, read_part, read_fixed, read_form}
-use Rattle.line_forms.specs.Rows.{Line, Table, rows_of, all_begin, each_begins, Said, Spells, first_of, said_of}
+use Rattle.line_forms.specs.Rows.{Language, Table, rows_of, all_begin, each_begins, Said, Spells, first_of, said_of}
 
 -- ---- what is there, if anything is
 
@@ -214,37 +214,37 @@ form_sound (part p ∷ ps) ls =
     if_then (read_part p ls) _ (Took (SpellsPart p) ls) (λ a. SpellsForm (part p ∷ ps) a ls) (part_took p ls)
     (λ r t. if_mapped (read_form ps r.1) (λ a. (r.0, a)) (λ a. SpellsForm ps a r.1) _ (form_sound ps r.1) (λ a h. (t.0, r.1, t.1, t.2, h)))
 
-first_sound : (R : Type 0) (row : R → Line) (w : List ℕ) (rs : List R) (ls : List Lexeme) → all_begin R row w rs ≡ true
-    → IfSome (first_of R row rs ls) (λ x. Spells R row x (word w ∷ ls))
-first_sound R row w [] ls h = tt
-first_sound R row w (r ∷ rs) ls h =
-    let both = and_parts (bytes_eq (row r).0 w) (all_begin R row w rs) h in
-    let begins = same_bytes (row r).0 w both.0 in
-    either (option_map (λ a. (r, a)) (read_form (row r).1 ls)) (first_of R row rs ls)
-    (if_mapped (read_form (row r).1 ls) (λ a. (r, a)) (λ a. SpellsForm (row r).1 a ls) (λ x. Spells R row x (word w ∷ ls)) (form_sound (row r).1 ls)
+first_sound : (language : Language) (w : List ℕ) (rs : List language.Row) (ls : List Lexeme) → all_begin language w rs ≡ true
+    → IfSome (first_of language rs ls) (λ x. Spells language x (word w ∷ ls))
+first_sound language w [] ls h = tt
+first_sound language w (r ∷ rs) ls h =
+    let both = and_parts (bytes_eq (language.row r).0 w) (all_begin language w rs) h in
+    let begins = same_bytes (language.row r).0 w both.0 in
+    either (option_map (λ a. (r, a)) (read_form (language.row r).1 ls)) (first_of language rs ls)
+    (if_mapped (read_form (language.row r).1 ls) (λ a. (r, a)) (λ a. SpellsForm (language.row r).1 a ls) (λ x. Spells language x (word w ∷ ls)) (form_sound (language.row r).1 ls)
     (λ a g. (ls, ap (λ (v : List ℕ). word v ∷ ls) (sym begins), g)))
-    (first_sound R row w rs ls both.1)
+    (first_sound language w rs ls both.1)
   where
-    either : (a b : Option (Said R row)) → IfSome a (λ x. Spells R row x (word w ∷ ls)) → IfSome b (λ x. Spells R row x (word w ∷ ls))
-        → IfSome (option_or a b) (λ x. Spells R row x (word w ∷ ls))
+    either : (a b : Option (Said language)) → IfSome a (λ x. Spells language x (word w ∷ ls)) → IfSome b (λ x. Spells language x (word w ∷ ls))
+        → IfSome (option_or a b) (λ x. Spells language x (word w ∷ ls))
     either None b h k = k
     either (Some x) b h k = h
 
-begins_looked : (R : Type 0) (row : R → Line) (w : List ℕ) (es : Table R) → each_begins R row es ≡ true → all_begin R row w (rows_of w es) ≡ true
-begins_looked R row w [] h = refl
-begins_looked R row w (e ∷ es) h =
-    let both = and_parts (all_begin R row e.0 e.1) (each_begins R row es) h in
+begins_looked : (language : Language) (w : List ℕ) (es : Table language.Row) → each_begins language es ≡ true → all_begin language w (rows_of w es) ≡ true
+begins_looked language w [] h = refl
+begins_looked language w (e ∷ es) h =
+    let both = and_parts (all_begin language e.0 e.1) (each_begins language es) h in
     elim (cases_Bool (bytes_eq w e.0)) [
       | inl f ↦ rw (f, same_bytes w e.0 f) both.0
-      | inr f ↦ rw f (begins_looked R row w es both.1)
+      | inr f ↦ rw f (begins_looked language w es both.1)
     ]
 
 -- what is read of tokens is spelled by them
-pub said_sound : (R : Type 0) (row : R → Line) (table : Table R) (ls : List Lexeme) → each_begins R row table ≡ true
-    → IfSome (said_of R row table ls) (λ x. Spells R row x ls)
-said_sound R row table [] h = tt
-said_sound R row table (word w ∷ ls) h = first_sound R row w (rows_of w table) ls (begins_looked R row w table h)
-said_sound R row table (tag w ∷ ls) h = tt
-said_sound R row table (number z ∷ ls) h = tt
-said_sound R row table (literal w ∷ ls) h = tt
-said_sound R row table (symbol w ∷ ls) h = tt
+pub said_sound : (language : Language) (ls : List Lexeme) → each_begins language language.table ≡ true
+    → IfSome (said_of language ls) (λ x. Spells language x ls)
+said_sound language [] h = tt
+said_sound language (word w ∷ ls) h = first_sound language w (rows_of w language.table) ls (begins_looked language w language.table h)
+said_sound language (tag w ∷ ls) h = tt
+said_sound language (number z ∷ ls) h = tt
+said_sound language (literal w ∷ ls) h = tt
+said_sound language (symbol w ∷ ls) h = tt

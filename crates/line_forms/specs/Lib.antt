@@ -1,4 +1,5 @@
 pub mod Blocks
+pub mod Findings
 pub mod Forms
 pub mod Printed
 pub mod Reader

@@ -6,7 +6,7 @@ use Rattle.sig_base.specs.declared.scalar.Scalar.TheVariants as scalar
 use Rattle.sig_words.specs.Lexemes.{Lexeme, word, tag, number, literal, symbol}
 use Rattle.formula_text.specs.Canonical.{canonical_text}
 use Rattle.line_forms.specs.Forms.{One, Part, one, perhaps, many, listed, arguments, formula, name, Form, fixed, part, Of, Contents, Args, token_of}
-use Rattle.line_forms.specs.Rows.{Line, Said}
+use Rattle.line_forms.specs.Rows.{Language, Said}
 
 -- the bytes of a token
 abbrev pub token_text : Lexeme → List ℕ
@@ -52,5 +52,9 @@ form_text (fixed l ∷ ps) a = 32 ∷ (token_text l ++ form_text ps a)
 form_text (part p ∷ ps) a = part_text p a.0 ++ form_text ps a.1
 
 -- the text of a line
-abbrev pub line_text : (R : Type 0) (row : R → Line) → Said R row → List ℕ
-line_text R row x = (row x.0).0 ++ form_text (row x.0).1 x.1
+abbrev pub line_text : (language : Language) → Said language → List ℕ
+line_text language x = (language.row x.0).0 ++ form_text (language.row x.0).1 x.1
+
+-- a line, and the LF that ends it
+abbrev pub ended : List ℕ → List ℕ
+ended l = l ++ codes "\n"

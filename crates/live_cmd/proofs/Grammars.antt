@@ -6,9 +6,9 @@ use Rattle.line_forms.specs.Reader.{is_clear}
 use Rattle.line_forms.specs.Rows.{rows_of, Reaches, IsGrammar}
 use Rattle.live_cmd.specs.declared.command.Bare.TheVariants as bares
 use Rattle.live_cmd.specs.declared.command.Verb.TheVariants as verbs
-use Rattle.live_cmd.specs.Grammar.{Row, row, table, verb, bare, computed, rewire, tries_get, tries_set, tries_watch, tries_unwatch, close}
+use Rattle.live_cmd.specs.Grammar.{Row, row, table, commands, verb, bare, computed, rewire, tries_get, tries_set, tries_watch, tries_unwatch, close}
 
-reached : (r : Row) → Reaches Row row r (rows_of (row r).0 table)
+reached : (r : Row) → Reaches commands r (rows_of (row r).0 table)
 unfolding word_sign later_word_sign last_word_sign is_name is_reserved
 reached (verb verbs.Get) = inl refl
 reached (bare bares.Flush) = inl refl
@@ -25,5 +25,5 @@ unfolding word_sign later_word_sign last_word_sign is_name is_reserved
 clear close = refl
 clear _ = refl
 
-pub is_grammar : IsGrammar Row row table
+pub is_grammar : IsGrammar commands
 is_grammar = record { begins = refl; reached = reached; clear = clear }

@@ -7,7 +7,7 @@ use Rattle.formula_text.specs.Slots.{wired}
 use Rattle.line_forms.specs.Blocks as blocks
 use Rattle.line_forms.specs.Forms.{Piece, part, fixed, one, perhaps, many, listed, arguments, formula, name, value, key, count, are_distinct}
 use Rattle.line_forms.specs.Rows as grammar
-use Rattle.line_forms.specs.Told.{Made, made}
+use Rattle.line_forms.specs.Told.{Made}
 use Rattle.live_cmd.specs.declared.command.Bare.{Bare}
 use Rattle.live_cmd.specs.declared.command.Command.TheVariants as command
 use Rattle.live_cmd.specs.declared.command.RowEdit.TheVariants as edit
@@ -207,14 +207,18 @@ line_makes effect = λ n o. line.Effect n o
 line_makes template = λ n. line.Template n
 line_makes close = line.End
 
+-- the language of the lines of a script
+abbrev pub commands : grammar.Language
+commands = record { Row = Row; Meaning = Line; row = row; means = line_makes; table = table }
+
 -- what a line says by itself; its texts may be of any length, and its formulas of any height
 abbrev pub Said : Type 0
-Said = grammar.Said Row row
+Said = grammar.Said commands
 
 -- what a line gives
 abbrev pub said_line : Said → Line
-said_line x = made (row x.0).1 (line_makes x.0) x.1
+said_line x = grammar.meaning_of commands x
 
 -- bytes write a line: their tokens spell it
 abbrev pub Writes : Said → List ℕ → Type 0
-Writes said bytes = blocks.Writes Row row said bytes
+Writes said bytes = blocks.Writes commands said bytes

@@ -1,13 +1,12 @@
 -- What the program holds of lines that it read.
-use Rattle.std.specs.Prelude.{◌≡◌, ◌⊎◌, ◌==◌, if◌then◌else◌, ℕ, Bool, true, false, List, [], ◌∷◌, Option, Some, None, option_map, Result, Ok, Err, IsTrue}
-use Rattle.std.specs.Option.{option_or}
+use Rattle.std.specs.Prelude.{◌≡◌, ◌⊎◌, ◌==◌, if◌then◌else◌, ℕ, Bool, true, false, List, [], ◌∷◌, Option, Some, None, Result, Ok, Err, IsTrue}
 use Rattle.sig_words.specs.Lexemes.{Lexeme}
 use Rattle.formula_text.specs.declared.wired.FormulaFault.{FormulaFault}
-use Rattle.line_forms.specs.Reader.{read_form}
+use Rattle.line_forms.specs.Findings as findings
 use Rattle.line_forms.specs.Told.{unless_faulty}
 use Rattle.script_lines.specs.Lines.{NumberedLine}
 use Rattle.live_entries.specs.declared.refusal.Refusal.TheVariants as refusal
-use Rattle.live_cmd.specs.Grammar.{Row, row, Said, Writes, said_line}
+use Rattle.live_cmd.specs.Grammar.{Row, commands, Said, Writes, said_line}
 use Rattle.live_cmd.specs.Refusals.{fault_of, refused_for}
 use Rattle.live_cmd.specs.Items.{command_of, has_many_fields, is_alone, item_of, item_or, IsNoCommand}
 use Rattle.live_cmd.specs.declared.command.Item.{Item}
@@ -54,13 +53,11 @@ number_in (l ∷ ls) k = if l.0 == k then l.0 else number_in ls k
 
 -- what is found in the tokens behind the first word, as a line of this row
 abbrev pub found_as : Row → List Lexeme → Option Found
-found_as r ls = option_map (λ a. found_of (r, a)) (read_form (row r).1 ls)
+found_as r ls = findings.found_as commands found_of r ls
 
 -- what is found by the first of the rows that reads them
 abbrev pub found_first : List Row → List Lexeme → Option Found
-found_first [] ls = None
-found_first (r ∷ []) ls = found_as r ls
-found_first (r ∷ s ∷ rs) ls = option_or (found_as r ls) (found_first (s ∷ rs) ls)
+found_first rs ls = findings.found_first commands found_of rs ls
 
 -- whether a line that was read makes a list of too many fields
 abbrev pub many_told : Result Line FormulaFault → Bool

@@ -7,7 +7,7 @@ ghost use Rattle.sig_words.specs.Lexemes.{lexemes};
 ghost use Rattle.line_forms.specs.Reader.{read_form};
 ghost use Rattle.line_forms.specs.Rows.{rows_of, said_of};
 ghost use Rattle.line_forms.specs.Told.{ahead, IsToldScalar};
-ghost use Rattle.live_cmd.specs.Grammar.{last_rows, later_rows, other_rows, row, table, Row, Said, Writes};
+ghost use Rattle.live_cmd.specs.Grammar.{commands, last_rows, later_rows, other_rows, table, Said, Writes};
 ghost use Rattle.live_cmd.specs.Grammar as rows;
 ghost use Rattle.live_cmd.specs.Views.{found_as, found_first, found_of};
 
@@ -291,7 +291,7 @@ fn behind_word(
 // What the tokens of a line say.
 fn spelled(alloc: Global, line: &[u8], tokens: &[Token]) -> Result<Option<Found>, NoMemory>
     requires { AreTokens line.now tokens.now }
-    ensures { IfOk result (λ found. found ≡ option_map found_of (said_of Row row table (lexemes line.now tokens.now))) }
+    ensures { IfOk result (λ found. found ≡ option_map found_of (said_of commands (lexemes line.now tokens.now))) }
 {
     let Some(first) = tokens.first() else {
         return Ok(None);
@@ -314,7 +314,7 @@ fn spelled_held(
     tokens: &[Token],
 ) -> Result<Option<Box<Found>>, NoMemory>
     requires { AreTokens line.now tokens.now }
-    ensures { IfOk result (λ held. option_map (λ f. f.value) held ≡ option_map found_of (said_of Row row table (lexemes line.now tokens.now))) }
+    ensures { IfOk result (λ held. option_map (λ f. f.value) held ≡ option_map found_of (said_of commands (lexemes line.now tokens.now))) }
 {
     let Some(found) = spelled(alloc, line, tokens)? else {
         return Ok(None);

@@ -14,7 +14,7 @@ use Rattle.formula_text.specs.declared.wired.FormulaFault.TheVariants as fault
 use Rattle.formula_text.specs.Refusals.{has_long_text, has_untrack, is_above, names, needs_row}
 use Rattle.script_lines.specs.Lines.{NumberedLine}
 use Rattle.body_text.specs.declared.allowance.Allowance.{Allowance}
-use Rattle.body_text.specs.declared.allowance.StatementSet.TheVariants as sets
+use Rattle.body_text.specs.declared.allowance.StatementSet.TheVariants as set
 use Rattle.body_text.specs.declared.fault.BodyFault.{BodyFault}
 use Rattle.body_text.specs.declared.judge.TheConstants.{MOST_BODY_LINES}
 use Rattle.line_forms.specs.Forms.{Args}
@@ -45,7 +45,7 @@ fault_by untracks row high long many =
     (cond row (Some fault.ItHere) (cond high (Some fault.Nest) (cond long (Some fault.TextLong) (cond many (Some fault.Sources) None))))
 
 -- one for which its line isn't refused has few names
-few_told : (depth : ℕ) (u r h l m : Bool) → misplacing depth (kind.Plain sets.All) (option_or (fault_by u r h l m) None) ≡ None
+few_told : (depth : ℕ) (u r h l m : Bool) → misplacing depth (kind.Plain set.All) (option_or (fault_by u r h l m) None) ≡ None
     → excess (option_or (fault_by u r h l m) None) ≡ None → m ≡ false
 few_told depth u r h l false a b = refl
 few_told depth true r h l true a b = absurd cc

@@ -1,12 +1,10 @@
 -- The lines of a block: each is one line, and they leave the block open.
-use Rattle.std.proofs.Common.{◌≡◌, ◌<◌, ℕ, ◌+◌, ◌-◌, true, false, List, [], ◌∷◌, ◌++◌, length, map, drop, codes, refl, sym, subst, ◌∙◌, arith}
+use Rattle.std.proofs.Common.{◌≡◌, ◌<◌, ℕ, ◌+◌, ◌-◌, true, false, List, [], ◌∷◌, ◌++◌, length, map, drop, refl, sym, subst, ◌∙◌, arith}
 use Rattle.std.specs.Prelude.{◌==◌, not, Ok}
-use Rattle.std.specs.List.{AllByRecursion}
 use Rattle.std.proofs.lemmas.Bool.Decides.{nat_tests}
 use Rattle.formula_text.specs.Grammar.{Draft}
 use Rattle.line_forms.specs.Forms.{Args}
-use Rattle.line_forms.proofs.Shared.{is_line}
-use Rattle.script_lines.specs.Lines.{NumberedLine, is_passed}
+use Rattle.script_lines.specs.Lines.{NumberedLine}
 use Rattle.script_lines.specs.Pieces.{closes, level_after, opens}
 use Rattle.body_text.specs.declared.line.Line.{Line as BodyLine}
 use Rattle.body_text.specs.declared.line.Line.TheVariants as body_line
@@ -26,14 +24,6 @@ use Rattle.tpl_syntax.specs.Templates as templates
 use Rattle.tpl_syntax.specs.Printer as template_text
 use Rattle.tpl_syntax.proofs.Shared.{written}
 use Rattle.live_writing.specs.Printer.{template_lines}
-
--- each is one line, which isn't passed over
-abbrev pub AllLines : List (List ℕ) → Type 0
-AllLines ls = AllByRecursion (λ l. (is_line l ≡ true) × (is_passed l ≡ false)) ls
-
--- a line, and the LF that ends it
-abbrev pub ended : List ℕ → List ℕ
-ended l = l ++ codes "\n"
 
 -- ---- levels
 

@@ -1,69 +1,26 @@
 -- The text of a command stands in a script as a piece.
 use Rattle.std.proofs.Common.{◌≡◌, ℕ, ◌+◌, true, false, List, [], ◌∷◌, ◌++◌, length, drop, flat_map, codes, refl, sym, ap, ap₂, subst, ◌∙◌, append_assoc, arith, inl, inr}
-use Rattle.std.specs.List.{list_all}
-use Rattle.std.specs.Prelude.{◌==◌}
+use Rattle.std.specs.List.{AllByRecursion}
 use Rattle.std.proofs.Math.Seq.{drop-append_seam}
-use Rattle.std.proofs.lemmas.Bool.{and_parts, ne_eqb}
-use Rattle.std.proofs.lemmas.Bool.Decides.{nat_tests}
 use Rattle.std.proofs.lemmas.List.{append-nil, drop-drop}
 use Rattle.std.proofs.lemmas.List.Folds.{flat_map-map}
-use Rattle.sig_base.specs.Words.{begins_word, in_word, is_blank, is_word}
 use Rattle.line_forms.specs.Forms.{Args}
-use Rattle.line_forms.specs.Printed.{form_text}
-use Rattle.line_forms.proofs.Shared.{in_line, is_line, prints_back, rewrites, whole_line}
-use Rattle.script_lines.specs.Lines.{NumberedLine, is_passed, kept_lines, lines, numbered}
+use Rattle.line_forms.specs.Printed.{ended}
+use Rattle.line_forms.proofs.Shared.{IsWhole, kept_all, prints_back, said_whole}
+use Rattle.script_lines.specs.Lines.{NumberedLine, kept_lines, numbered}
 use Rattle.script_lines.specs.Pieces.{Piece, pieces, pieces_of, outside, inside, begins_block, closes, level_after, opens}
-use Rattle.script_lines.proofs.Shared.{kept_first, line_alone, block_begins, block_goes_on, block_ends}
+use Rattle.script_lines.proofs.Shared.{line_alone, block_begins, block_goes_on, block_ends}
 use Rattle.live_cmd.specs.declared.command.Command.{Command}
 use Rattle.live_cmd.specs.declared.command.Command.TheVariants as command
 use Rattle.live_cmd.specs.declared.command.Item.TheVariants as item
 use Rattle.live_cmd.specs.Blocks.{is_head}
-use Rattle.live_cmd.specs.Grammar.{Row, row, Said, Writes, effect, template, close}
+use Rattle.live_cmd.specs.Grammar.{Row, row, commands, effect, template, close}
 use Rattle.live_cmd.specs.Items.{IsItem, any_long, Begins}
 use Rattle.live_cmd.proofs.Shared.{begins_none}
 use Rattle.live_writing.specs.Printer.{said_by, bytes_of, ended_line, command_text, lines_by, lines_of_command}
-use Rattle.live_writing.proofs.Levels.{AllLines, Stays, ended}
+use Rattle.live_writing.proofs.Levels.{Stays}
 use Rattle.live_writing.proofs.Numbered.{numbered-append, numbered_one}
 use Rattle.live_writing.proofs.Printer.{DoneIn, block_is, done_by, is_flat, flat_done, flat_lines, line_is, said_is}
-
--- ---- one line
-
--- an LF ends the line before it
-split_line : (bytes rest : List ℕ) → is_line bytes ≡ true → lines (bytes ++ 10 ∷ rest) ≡ bytes ∷ lines rest
-unfolding lines
-split_line [] rest h = refl
-split_line (b ∷ bs) rest h =
-    let both = and_parts (in_line b) (is_line bs) h in
-    let feed : (b == 10) ≡ false = grind (arith, nat_tests) in
-    let back : (b == 13) ≡ false = grind (arith, nat_tests) in
-    rw (feed, back, split_line bs rest both.1) refl
-
--- what begins with a word isn't passed over
-word_first : (b : ℕ) → begins_word b ≡ true → (is_blank b ≡ false) × ((b == 35) ≡ false)
-word_first b h = (grind (arith, nat_tests), grind (arith, nat_tests))
-
-not_passed : (w rest : List ℕ) → is_word w ≡ true → is_passed (w ++ rest) ≡ false
-unfolding is_passed
-not_passed [] rest h = absurd cc
-not_passed (b ∷ bs) rest h =
-    let first = word_first b (and_parts (begins_word b) (list_all in_word (b ∷ bs)) h).0 in
-    let some : (length (b ∷ (bs ++ rest)) == 0) ≡ false = ne_eqb (length (b ∷ (bs ++ rest))) 0 (λ e. omega arith) in
-    rw (first.0, some, first.1) refl
-
--- the line stands first, and the others behind it
-kept_line : (n : ℕ) (l more : List ℕ) → is_line l ≡ true → is_passed l ≡ false → kept_lines n (ended l ++ more) ≡ (n, l) ∷ kept_lines (n + 1) more
-kept_line n l more line kept = kept_first n (ended l ++ more) l more (ap lines (append_assoc l (codes "\n") more) ∙ split_line l more line) kept
-
--- lines stand first, and the others behind them
-kept_all : (n : ℕ) (ls : List (List ℕ)) (more : List ℕ) → AllLines ls
-    → kept_lines n (flat_map ended ls ++ more) ≡ numbered n ls ++ kept_lines (n + length ls) more
-unfolding numbered
-kept_all n [] more s = let same : n ≡ n + 0 = omega arith in ap (λ (k : ℕ). kept_lines k more) same
-kept_all n (l ∷ ls) more s =
-    let same : (n + 1) + length ls ≡ n + length (l ∷ ls) = omega arith in
-    ap (kept_lines n) (append_assoc (ended l) (flat_map ended ls) more) ∙ kept_line n l (flat_map ended ls ++ more) s.0.0 s.0.1
-    ∙ ap (λ (ms : List NumberedLine). (n, l) ∷ ms)
-    (kept_all (n + 1) ls more s.1 ∙ ap (λ (k : ℕ). numbered (n + 1) ls ++ kept_lines k more) same)
 
 -- ---- blocks
 
@@ -85,18 +42,18 @@ abbrev piece_of : ℕ → List (List ℕ) → Piece
 piece_of n ls = record { ended = true; lines = numbered n ls }
 
 -- the pieces of lines and of what stands behind them
-pieces_kept : (n : ℕ) (ls : List (List ℕ)) (rest : List ℕ) → AllLines ls
+pieces_kept : (n : ℕ) (ls : List (List ℕ)) (rest : List ℕ) → AllByRecursion IsWhole ls
     → pieces_of n (flat_map ended ls ++ rest) ≡ pieces outside (numbered n ls ++ kept_lines (n + length ls) rest)
 pieces_kept n ls rest s = ap (pieces outside) (kept_all n ls rest s)
 
 -- one line, which begins no block
-one_line : (l : List ℕ) (n : ℕ) (rest : List ℕ) → AllLines (l ∷ []) → begins_block l ≡ false
+one_line : (l : List ℕ) (n : ℕ) (rest : List ℕ) → AllByRecursion IsWhole (l ∷ []) → begins_block l ≡ false
     → pieces_of n (flat_map ended (l ∷ []) ++ rest) ≡ piece_of n (l ∷ []) ∷ pieces_of (n + 1) rest
 unfolding numbered
 one_line l n rest s h = pieces_kept n (l ∷ []) rest s ∙ line_alone (n, l) (kept_lines (n + 1) rest) h
 
 -- a line that begins a block, lines that leave it open, and one that ends it
-block : (b e : List ℕ) (ls : List (List ℕ)) (n : ℕ) (rest : List ℕ) → AllLines (b ∷ (ls ++ e ∷ [])) → begins_block b ≡ true → Stays 1 ls 1
+block : (b e : List ℕ) (ls : List (List ℕ)) (n : ℕ) (rest : List ℕ) → AllByRecursion IsWhole (b ∷ (ls ++ e ∷ [])) → begins_block b ≡ true → Stays 1 ls 1
     → level_after 1 e ≡ 0
     → pieces_of n (flat_map ended (b ∷ (ls ++ e ∷ [])) ++ rest) ≡ piece_of n (b ∷ (ls ++ e ∷ [])) ∷ pieces_of (n + length (b ∷ (ls ++ e ∷ []))) rest
 unfolding numbered
@@ -140,15 +97,8 @@ end_ends : level_after 1 (bytes_of (close, tt)) ≡ 0
 unfolding opens closes
 end_ends = refl
 
--- what is printed of a line is one line, which isn't passed over
-said_whole : (x : Said) (bytes : List ℕ) → Writes x bytes → (is_line (bytes_of x) ≡ true) × (is_passed (bytes_of x) ≡ false)
-said_whole x bytes w =
-    let r = rewrites Row row bytes w.tokens x w.cut w.spelled in
-    let text = form_text (row x.0).1 x.1 in
-    (whole_line (row x.0).0 (row x.0).1 x.1 r.first r.parts, not_passed (row x.0).0 text r.first)
-
 -- lines and one more are whole where it is
-all_behind : (ls : List (List ℕ)) (l : List ℕ) → AllLines ls → (is_line l ≡ true) × (is_passed l ≡ false) → AllLines (ls ++ l ∷ [])
+all_behind : (ls : List (List ℕ)) (l : List ℕ) → AllByRecursion IsWhole ls → IsWhole l → AllByRecursion IsWhole (ls ++ l ∷ [])
 all_behind [] l h k = (k, tt)
 all_behind (m ∷ ls) l h k = (h.0, all_behind ls l h.1 k)
 
@@ -156,8 +106,8 @@ all_behind (m ∷ ls) l h k = (h.0, all_behind ls l h.1 k)
 block_stands : (c : Command) → DoneIn c → Stands (lines_by c)
 block_stands c d n rest =
     let end : List ℕ = bytes_of (close, tt) in
-    let all : AllLines (bytes_of d.head ∷ (d.inner ++ end ∷ [])) =
-    (said_whole d.head d.first d.writes, all_behind d.inner end d.whole (said_whole (close, tt) d.last d.end)) in
+    let all : AllByRecursion IsWhole (bytes_of d.head ∷ (d.inner ++ end ∷ [])) =
+    (said_whole commands d.head d.first d.writes, all_behind d.inner end d.whole (said_whole commands (close, tt) d.last d.end)) in
     subst (λ (ls : List (List ℕ)). pieces_of n (flat_map ended ls ++ rest) ≡ piece_of n ls ∷ pieces_of (n + length ls) rest) (sym d.lines)
     (block (bytes_of d.head) end d.inner n rest all (head_begins d.head.0 d.head.1 d.begins) d.stays end_ends)
 
@@ -183,8 +133,8 @@ pub begins : (p : Piece) (c : Command) → IsItem p (item.Do c) → (script : Li
     → any_long (lines_of_command line c) ≡ false → Begins script at line (item.Do c) (at + length (command_text c)) (line + length (lines_by c))
 begins p c i script at line rest e short = elim (done_by p (item.Do c) c i refl) [
   | inl d ↦
-      let all : AllLines (bytes_of d.said ∷ []) = (said_whole d.said d.line d.writes, tt) in
-      let flat = begins_none (bytes_of d.said) d.said (prints_back Row row d.said d.line d.writes) d.alone in
+      let all : AllByRecursion IsWhole (bytes_of d.said ∷ []) = (said_whole commands d.said d.line d.writes, tt) in
+      let flat = begins_none (bytes_of d.said) d.said (prints_back commands d.said d.line d.writes) d.alone in
       let stands : Stands (bytes_of d.said ∷ []) = λ n rest. one_line (bytes_of d.said) n rest all flat in
       begins_by c script at line rest e (text_of c (flat_done c d)) (subst Stands (sym (said_is c d)) stands) (line_is c line d short)
   | inr d ↦ begins_by c script at line rest e d.text (block_stands c d) (block_is c line d short)

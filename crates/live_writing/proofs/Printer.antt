@@ -1,6 +1,7 @@
 -- The lines of a command say the command.
 use Rattle.std.proofs.Common.{◌≡◌, ◌⊎◌, ℕ, ◌+◌, Bool, true, false, cond, List, [], ◌∷◌, ◌++◌, length, map, flat_map, Option, Some, None, refl, sym, ap, subst, ◌∙◌, inl, inr, arith}
 use Rattle.std.specs.Prelude.{Ok, Err}
+use Rattle.std.specs.List.{AllByRecursion}
 use Rattle.std.specs.Option.{option_map_or}
 use Rattle.std.proofs.lemmas.Grind.{flat_map-append}
 use Rattle.std.proofs.lemmas.List.{append-nil}
@@ -9,7 +10,8 @@ use Rattle.formula_text.specs.declared.wired.FormulaFault.{FormulaFault}
 use Rattle.formula_text.specs.Grammar.{Draft}
 use Rattle.formula_text.proofs.Shared.{named_back}
 use Rattle.line_forms.specs.Forms.{Args}
-use Rattle.line_forms.proofs.Shared.{prints_back}
+use Rattle.line_forms.specs.Printed.{ended}
+use Rattle.line_forms.proofs.Shared.{IsWhole, prints_back}
 use Rattle.script_lines.specs.Lines.{NumberedLine, numbered}
 use Rattle.script_lines.specs.Pieces.{Piece}
 use Rattle.sig_untrack.specs.Stated.{Bodies}
@@ -37,12 +39,12 @@ use Rattle.live_cmd.specs.declared.command.Item.{Item}
 use Rattle.live_cmd.specs.declared.command.Item.TheVariants as item
 use Rattle.live_cmd.specs.declared.line.Line.{Line}
 use Rattle.live_cmd.specs.declared.line.Line.TheVariants as line
-use Rattle.live_cmd.specs.Grammar.{Row, row, Said, Writes, said_line, computed, rewire, effect, template, close}
+use Rattle.live_cmd.specs.Grammar.{Row, row, commands, Said, Writes, said_line, computed, rewire, effect, template, close}
 use Rattle.live_cmd.specs.Refusals.{fault_of, refused_for}
 use Rattle.live_cmd.specs.Blocks.{Block, Ends, IsContent, IsContentOf, block_item, body_refused, effect_content, is_head, template_content, template_refused}
 use Rattle.live_cmd.specs.Items.{IsItem, long, unended, block, faulty, says, any_long, command_of, first_line, has_many_fields, is_alone, item_of, item_or}
 use Rattle.live_writing.specs.Printer.{said_by, bytes_of, ended_line, command_text, lines_by, body_lines, template_lines, lines_of_command}
-use Rattle.live_writing.proofs.Levels.{AllLines, Stays, body_stays, ended, template_stays}
+use Rattle.live_writing.proofs.Levels.{Stays, body_stays, template_stays}
 use Rattle.live_writing.proofs.Numbered.{numbered-append, numbered_one}
 
 -- ---- what the lines of a command say is what they said
@@ -121,7 +123,7 @@ pub record DoneIn (c : Command) : Type 0 where
   pub writes : Writes head first
   pub begins : is_head head.0 ≡ true
   pub end : Writes (close, tt) last
-  pub whole : AllLines inner
+  pub whole : AllByRecursion IsWhole inner
   pub stays : Stays 1 inner 1
   pub again : (n : ℕ) → IsContent head (numbered n inner) (content.Makes c)
 
@@ -294,7 +296,7 @@ line_is c n d short =
     let lines : lines_of_command n c ≡ (n, bytes_of d.said) ∷ [] = ap (numbered n) (said_is c d) in
     let whole : item_of n d.said ≡ item.Do c = joined n (fault_of d.said) (command_of (said_line d.said)) c d.sound d.is d.few in
     let is : IsItem (record { ended = true; lines = (n, bytes_of d.said) ∷ [] }) (item_of n d.said) =
-    says d.said (ap any_long (sym lines) ∙ short) refl (prints_back Row row d.said d.line d.writes) d.alone in
+    says d.said (ap any_long (sym lines) ∙ short) refl (prints_back commands d.said d.line d.writes) d.alone in
     subst (λ (ls : List NumberedLine). IsItem (record { ended = true; lines = ls }) (item.Do c)) (sym lines)
     (subst (λ (i : Item). IsItem (record { ended = true; lines = (n, bytes_of d.said) ∷ [] }) i) whole is)
 
@@ -313,9 +315,9 @@ block_is c n d short =
       last = ((n + 1) + length d.inner, end);
       whole = whole;
       head = d.head;
-      writes = prints_back Row row d.head d.first d.writes;
+      writes = prints_back commands d.head d.first d.writes;
       begins = d.begins;
       ends = true;
-      end = prints_back Row row (close, tt) d.last d.end;
+      end = prints_back commands (close, tt) d.last d.end;
     } in
     block b (content.Makes c) short refl (d.again (n + 1))

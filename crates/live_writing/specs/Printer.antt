@@ -19,7 +19,7 @@ use Rattle.live_cmd.specs.declared.command.SourceText.TheVariants as source
 use Rattle.live_cmd.specs.declared.command.Try.{Try}
 use Rattle.live_cmd.specs.declared.command.Try.TheVariants as tried
 use Rattle.live_cmd.specs.declared.command.SourceText.{SourceText}
-use Rattle.live_cmd.specs.Grammar.{Row, row, Said, verb, bare, cell, set, list, insert_row, remove_row, move_row, put_field, computed, computed_host}
+use Rattle.live_cmd.specs.Grammar.{commands, Said, verb, bare, cell, set, list, insert_row, remove_row, move_row, put_field, computed, computed_host}
 use Rattle.live_cmd.specs.Grammar.{rewire, rewire_host, owner, watcher, tries_get, tries_set, tries_watch, tries_unwatch, watch, unwatch, mount}
 use Rattle.live_cmd.specs.Grammar.{effect, template, close}
 
@@ -72,7 +72,7 @@ said_by (command.Template n t) = (template, (n, tt)) ∷ (close, tt) ∷ []
 
 -- the bytes of a line
 abbrev pub bytes_of : Said → List ℕ
-bytes_of x = line_text Row row x
+bytes_of x = line_text commands x
 
 -- the bytes of a line, and the LF that ends it
 abbrev pub ended_line : Said → List ℕ

@@ -248,10 +248,10 @@ name_good n h k = and_from (is_tag n) (nat_le (length n) MOST_TAG) h (le-leb (le
 
 good_said : (bytes : List ℕ) (r : Row) (a : Args (row r).1) → Writes (r, a) bytes → GoodLine (said_line (r, a))
 good_said bytes grammar.tag a w =
-    let k = (rewrites Row row bytes w.tokens (grammar.tag, a) w.cut w.spelled).parts.0.1 in
+    let k = (rewrites grammar.templates bytes w.tokens (grammar.tag, a) w.cut w.spelled).parts.0.1 in
     name_good a.0 k.0 k.1
 good_said bytes grammar.attr a w =
-    let k = (rewrites Row row bytes w.tokens (grammar.attr, a) w.cut w.spelled).parts.0.1 in
+    let k = (rewrites grammar.templates bytes w.tokens (grammar.attr, a) w.cut w.spelled).parts.0.1 in
     name_good a.0 k.0 k.1
 good_said bytes _ a w = tt
 

@@ -9,6 +9,4 @@ mod Literals
 mod Names
 mod Printer
 mod Soundness
-mod Spellings
-mod Lines
 pub mod Shared

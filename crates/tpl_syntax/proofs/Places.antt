@@ -6,7 +6,7 @@ use Rattle.line_forms.proofs.Shared as lines
 use Rattle.tpl_syntax.specs.declared.line.Line.{Line}
 use Rattle.tpl_syntax.specs.declared.line.Line.TheVariants as line
 use Rattle.tpl_syntax.specs.declared.reader.Seen.{Seen}
-use Rattle.tpl_syntax.specs.Grammar.{Row, row, table, Said, Writes, said_line}
+use Rattle.tpl_syntax.specs.Grammar.{templates, Said, Writes, said_line}
 use Rattle.tpl_syntax.specs.Lines.{mapped}
 use Rattle.tpl_syntax.specs.Places.{Place, behind, fits, moved, role_of, stands}
 use Rattle.tpl_syntax.specs.Views.{found_of}
@@ -35,6 +35,6 @@ does_fit p allow bytes l h w = (w.0, w.1, sym (fits_of p allow l w.0 w.2) ∙ h,
 pub does_not_fit : (p : Place) (allow : Allow) (bytes : List ℕ) (l : Line Seen) → fits p l ≡ false → (x : Said) × Writes x bytes × (l ≡ found_of allow x)
     → (x : Said) → Writes x bytes → IsTrue (fits p (said_line x)) → ⊥
 does_not_fit p allow bytes l h w x s t =
-    let same : w.0 ≡ x = lines.one_writing Row row table is_grammar bytes w.0 x w.1 s in
+    let same : w.0 ≡ x = lines.one_writing templates is_grammar bytes w.0 x w.1 s in
     let bad : false ≡ true = sym h ∙ fits_of p allow l w.0 w.2 ∙ ap (λ (y : Said). fits p (said_line y)) same ∙ t in
     cc

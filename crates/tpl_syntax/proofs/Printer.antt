@@ -1,5 +1,5 @@
 -- The lines of a template say the template.
-use Rattle.std.proofs.Common.{◌≡◌, ℕ, ◌+◌, suc, true, false, List, [], ◌∷◌, length, map, flat_map, Option, Some, None, refl, sym, ap, ap₂, subst, ◌∙◌}
+use Rattle.std.proofs.Common.{◌≡◌, ℕ, ◌+◌, suc, true, List, [], ◌∷◌, length, map, flat_map, Option, Some, None, refl, sym, ap, ap₂, subst, ◌∙◌}
 use Rattle.std.specs.Prelude.{Ok, option_map}
 use Rattle.std.specs.List.{AllByRecursion}
 use Rattle.formula_text.specs.Canonical.{unslotted}
@@ -7,20 +7,20 @@ use Rattle.formula_text.specs.Grammar.{Draft}
 use Rattle.formula_text.specs.Refusals.{slotted, with_names}
 use Rattle.formula_text.proofs.Shared.{HasEach, each_there, keeps_each, named_again}
 use Rattle.line_forms.specs.Forms.{Args}
-use Rattle.line_forms.proofs.Shared.{is_line, prints_back}
-use Rattle.script_lines.specs.Lines.{NumberedLine, is_passed, kept_lines, numbered}
+use Rattle.line_forms.specs.Blocks.{said_all}
+use Rattle.line_forms.proofs.Shared.{IsWhole, all_whole, each_again, kept_said, reached_again, renumbered, say_again}
+use Rattle.script_lines.specs.Lines.{NumberedLine, kept_lines, numbered}
 use Rattle.tpl_syntax.specs.declared.fault.TemplateFault.{TemplateFault}
 use Rattle.tpl_syntax.specs.declared.fault.TemplateWhy.{TemplateWhy}
 use Rattle.tpl_syntax.specs.declared.line.Line.{Line}
 use Rattle.tpl_syntax.specs.declared.line.Line.TheVariants as line
-use Rattle.tpl_syntax.specs.Grammar.{Row, row, Said, text, said_line}
+use Rattle.tpl_syntax.specs.Grammar.{Row, row, templates, Said, text, said_line}
 use Rattle.tpl_syntax.specs.Refusals.{fault_at, first_excess, first_misplaced, judged, many_lines, refusal_of}
 use Rattle.tpl_syntax.specs.Lines.{Plan, formula_of, mapped}
-use Rattle.tpl_syntax.specs.Places.{Place, is_closed, moved, top}
+use Rattle.tpl_syntax.specs.Places.{Place, is_closed, moved, places, top}
 use Rattle.tpl_syntax.specs.Templates.{Answer, IsRead, faulty, unended, says, Say, Sayings, answer_of, names_of, plan_of, reached, unless_refused, with_formula, with_lines}
 use Rattle.tpl_syntax.specs.Printer.{bytes_of, ended_line, lines_of_plan, plan_text, said_by, said_in, said_of}
 use Rattle.tpl_syntax.proofs.Judgements.{neither}
-use Rattle.tpl_syntax.proofs.Lines.{AllLines, said_all, all_lines, kept_all}
 
 -- ---- a line says again what it said
 
@@ -76,52 +76,33 @@ said_again xs = all_back (names_of (map (λ x. said_line x.1) xs)) xs (lines_the
 
 -- ---- from 0 on
 
-abbrev from : ℕ → Sayings → Sayings
-from n [] = []
-from n (x ∷ xs) = (n, x.1) ∷ from (n + 1) xs
-
-say_from : (p : Place) (ls : List NumberedLine) (xs : Sayings) (n : ℕ) → Say p ls xs → Say p (numbered n (map bytes_of (said_all xs))) (from n xs)
-unfolding numbered
-say_from p [] [] n s = tt
-say_from p [] (x ∷ xs) n s = absurd s
-say_from p (l ∷ ls) [] n s = absurd s
-say_from p (l ∷ ls) (x ∷ xs) n s = (refl, prints_back Row row x.1 l.1 s.1, s.2, say_from (moved p (said_line x.1)) ls xs (n + 1) s.3)
-
-reached_from : (p : Place) (xs : Sayings) (n : ℕ) → reached p (from n xs) ≡ reached p xs
-reached_from p [] n = refl
-reached_from p (x ∷ xs) n = reached_from (moved p (said_line x.1)) xs (n + 1)
-
-lines_from : (n : ℕ) (xs : Sayings) → map (λ x. said_line x.1) (from n xs) ≡ map (λ x. said_line x.1) xs
-lines_from n [] = refl
-lines_from n (x ∷ xs) = ap (λ (ls : List (Line Draft)). said_line x.1 ∷ ls) (lines_from (n + 1) xs)
-
 at_other : (j k : ℕ) (o : Option TemplateWhy) → option_map (fault_at k) o ≡ None → option_map (fault_at j) o ≡ None
 at_other j k None e = refl
 at_other j k (Some w) e = absurd cc
 
-none_misplaced : (p : Place) (n : ℕ) (xs : Sayings) → first_misplaced (judged p xs) ≡ None → first_misplaced (judged p (from n xs)) ≡ None
+none_misplaced : (p : Place) (n : ℕ) (xs : Sayings) → first_misplaced (judged p xs) ≡ None → first_misplaced (judged p (renumbered n xs)) ≡ None
 none_misplaced p n [] e = refl
 none_misplaced p n (x ∷ xs) e =
     let rest = judged (moved p (said_line x.1)) xs in
     let both = neither (option_map (fault_at x.0) _) (first_misplaced rest) e in
     rw (at_other n x.0 _ both.0) (none_misplaced (moved p (said_line x.1)) (n + 1) xs both.1)
 
-none_excess : (p : Place) (n : ℕ) (xs : Sayings) → first_excess (judged p xs) ≡ None → first_excess (judged p (from n xs)) ≡ None
+none_excess : (p : Place) (n : ℕ) (xs : Sayings) → first_excess (judged p xs) ≡ None → first_excess (judged p (renumbered n xs)) ≡ None
 none_excess p n [] e = refl
 none_excess p n (x ∷ xs) e =
     let rest = judged (moved p (said_line x.1)) xs in
     let both = neither (option_map (fault_at x.0) _) (first_excess rest) e in
     rw (at_other n x.0 _ both.0) (none_excess (moved p (said_line x.1)) (n + 1) xs both.1)
 
-same_count : (p : Place) (n : ℕ) (xs : Sayings) → length (judged p (from n xs)) ≡ length (judged p xs)
+same_count : (p : Place) (n : ℕ) (xs : Sayings) → length (judged p (renumbered n xs)) ≡ length (judged p xs)
 same_count p n [] = refl
 same_count p n (x ∷ xs) = ap (λ (k : ℕ). suc k) (same_count (moved p (said_line x.1)) (n + 1) xs)
 
-none_refused : (p : Place) (n : ℕ) (xs : Sayings) → refusal_of (judged p xs) ≡ None → refusal_of (judged p (from n xs)) ≡ None
+none_refused : (p : Place) (n : ℕ) (xs : Sayings) → refusal_of (judged p xs) ≡ None → refusal_of (judged p (renumbered n xs)) ≡ None
 none_refused p n xs e =
     let a = neither (first_misplaced (judged p xs)) _ e in
     let b = neither (first_excess (judged p xs)) _ a.1 in
-    let many : many_lines (judged p (from n xs)) ≡ None = rw (same_count p n xs) b.1 in
+    let many : many_lines (judged p (renumbered n xs)) ≡ None = rw (same_count p n xs) b.1 in
     rw (none_misplaced p n xs a.0, none_excess p n xs b.0) many
 
 -- ---- a template is read back
@@ -153,7 +134,7 @@ pub lines_are : (ls : List NumberedLine) (t : Plan) → IsRead ls (Ok t) → kep
 lines_are ls t r =
     let d = done_by ls t (Ok t) r refl in
     let same = said_is ls t d in
-    ap (λ (xs : List Said). kept_lines 0 (flat_map ended_line xs)) same ∙ kept_all 0 (said_all d.xs) (all_lines top ls d.xs d.say)
+    ap (λ (xs : List Said). kept_lines 0 (flat_map ended_line xs)) same ∙ kept_said templates 0 (said_all d.xs) (all_whole templates places top ls d.xs d.say)
     ∙ ap (λ (xs : List Said). numbered 0 (map bytes_of xs)) (sym same)
 
 -- ---- with other numbers
@@ -175,14 +156,14 @@ written ls t r =
 pub read_anew : (n : ℕ) (ls : List NumberedLine) (t : Plan) → IsRead ls (Ok t) → IsRead (numbered n (map bytes_of (said_by t))) (Ok t)
 read_anew n ls t r =
     let d = done_by ls t (Ok t) r refl in
-    let again = from n d.xs in
+    let again = renumbered n d.xs in
     let same : numbered n (map bytes_of (said_by t)) ≡ numbered n (map bytes_of (said_all d.xs)) =
     ap (λ (xs : List Said). numbered n (map bytes_of xs)) (said_is ls t d) in
     let whole : answer_of again ≡ Ok t =
     ap (λ (o : Option TemplateFault). unless_refused o (plan_of (map (λ x. said_line x.1) again))) (none_refused top n d.xs d.sound)
-    ∙ ap (λ (xs : List (Line Draft)). Ok (plan_of xs)) (lines_from n d.xs) ∙ ap (λ (u : Plan). Ok u) d.is in
-    let closed : is_closed (reached top again) ≡ true = ap is_closed (reached_from top d.xs n) ∙ d.closed in
-    let read : IsRead (numbered n (map bytes_of (said_all d.xs))) (answer_of again) = says again (say_from top ls d.xs n d.say) closed in
+    ∙ ap (λ (xs : List (Line Draft)). Ok (plan_of xs)) (each_again said_line n d.xs) ∙ ap (λ (u : Plan). Ok u) d.is in
+    let closed : is_closed (reached top again) ≡ true = ap is_closed (reached_again places top d.xs n) ∙ d.closed in
+    let read : IsRead (numbered n (map bytes_of (said_all d.xs))) (answer_of again) = says again (say_again templates places top ls d.xs n d.say) closed in
     subst (λ (ms : List NumberedLine). IsRead ms (Ok t)) (sym same)
     (subst (λ (a : Answer). IsRead (numbered n (map bytes_of (said_all d.xs))) a) whole read)
 
@@ -190,14 +171,9 @@ read_anew n ls t r =
 pub read_back : (ls : List NumberedLine) (t : Plan) → IsRead ls (Ok t) → IsRead (kept_lines 0 (plan_text t)) (Ok t)
 read_back ls t r = subst (λ (ms : List NumberedLine). IsRead ms (Ok t)) (sym (lines_are ls t r)) (read_anew 0 ls t r)
 
-each_whole : (xs : List Said) → AllLines xs → AllByRecursion (λ l. (is_line l ≡ true) × (is_passed l ≡ false)) (map bytes_of xs)
-each_whole [] s = tt
-each_whole (x ∷ xs) s = ((s.0, s.1), each_whole xs s.2)
-
 -- each is one line, which isn't passed over
 pub whole_lines : (ls : List NumberedLine) (t : Plan) → IsRead ls (Ok t)
-    → AllByRecursion (λ l. (is_line l ≡ true) × (is_passed l ≡ false)) (map bytes_of (said_by t))
+    → AllByRecursion IsWhole (map bytes_of (said_by t))
 whole_lines ls t r =
     let d = done_by ls t (Ok t) r refl in
-    subst (λ (xs : List Said). AllByRecursion (λ l. (is_line l ≡ true) × (is_passed l ≡ false)) (map bytes_of xs)) (sym (said_is ls t d))
-    (each_whole (said_all d.xs) (all_lines top ls d.xs d.say))
+    subst (λ (xs : List Said). AllByRecursion IsWhole (map bytes_of xs)) (sym (said_is ls t d)) (all_whole templates places top ls d.xs d.say)

@@ -9,7 +9,7 @@ use Rattle.tpl_syntax.specs.declared.fault.TemplateFault.{TemplateFault}
 use Rattle.tpl_syntax.specs.declared.fault.TemplateWhy.TheVariants as why
 use Rattle.tpl_syntax.specs.declared.judge.ReadLine.{ReadLine}
 use Rattle.tpl_syntax.specs.declared.line.Line.{Line}
-use Rattle.tpl_syntax.specs.Grammar.{Row, row, table, Said, Writes, said_line}
+use Rattle.tpl_syntax.specs.Grammar.{templates, Said, Writes, said_line}
 use Rattle.tpl_syntax.specs.Refusals.{fault_at, judged, refusal_of}
 use Rattle.tpl_syntax.specs.Lines.{Plan, mapped}
 use Rattle.tpl_syntax.specs.Places.{is_closed, places, top}
@@ -21,11 +21,11 @@ use Rattle.tpl_syntax.proofs.Names.{few, plan_is}
 
 -- a line says one thing
 pub one_line : (bytes : List ℕ) (x y : Said) → Writes x bytes → Writes y bytes → x ≡ y
-one_line bytes x y v w = lines.one_writing Row row table is_grammar bytes x y v w
+one_line bytes x y v w = lines.one_writing templates is_grammar bytes x y v w
 
 -- lines are some template, or refused
 pub some_answer : (ls : List NumberedLine) → (a : Answer) × IsRead ls a
-some_answer ls = elim (lines.lines_or_fault Row row table is_grammar places top ls) [
+some_answer ls = elim (lines.lines_or_fault templates is_grammar places top ls) [
   | inr f ↦ (Err (fault_at f.0 why.Syntax), faulty f.0 f.1)
   | inl s ↦ elim (cases_Bool (is_closed (reached top s.0))) [
     | inl e ↦ (answer_of s.0, says s.0 s.1 e)
@@ -35,21 +35,21 @@ some_answer ls = elim (lines.lines_or_fault Row row table is_grammar places top 
 
 -- lines are one of them
 pub one_answer : (ls : List NumberedLine) (a b : Answer) → IsRead ls a → IsRead ls b → a ≡ b
-one_answer ls _ _ (faulty k f) (faulty j g) = ap (λ (n : ℕ). Err (fault_at n why.Syntax)) (lines.one_fault Row row table is_grammar places top ls k j f g)
-one_answer ls _ _ (faulty k f) (unended ys t d) = absurd (lines.no_both Row row table is_grammar places top ls ys k t f)
-one_answer ls _ _ (faulty k f) (says ys t d) = absurd (lines.no_both Row row table is_grammar places top ls ys k t f)
-one_answer ls _ _ (unended xs s c) (faulty j g) = absurd (lines.no_both Row row table is_grammar places top ls xs j s g)
+one_answer ls _ _ (faulty k f) (faulty j g) = ap (λ (n : ℕ). Err (fault_at n why.Syntax)) (lines.one_fault templates is_grammar places top ls k j f g)
+one_answer ls _ _ (faulty k f) (unended ys t d) = absurd (lines.no_both templates is_grammar places top ls ys k t f)
+one_answer ls _ _ (faulty k f) (says ys t d) = absurd (lines.no_both templates is_grammar places top ls ys k t f)
+one_answer ls _ _ (unended xs s c) (faulty j g) = absurd (lines.no_both templates is_grammar places top ls xs j s g)
 one_answer ls _ _ (unended xs s c) (unended ys t d) = refl
 one_answer ls _ _ (unended xs s c) (says ys t d) =
-    let same = lines.one_saying Row row table is_grammar places top ls xs ys s t in
+    let same = lines.one_saying templates is_grammar places top ls xs ys s t in
     let bad = sym c ∙ ap (λ (zs : List (ℕ × Said)). is_closed (reached top zs)) same ∙ d in
     absurd cc
-one_answer ls _ _ (says xs s c) (faulty j g) = absurd (lines.no_both Row row table is_grammar places top ls xs j s g)
+one_answer ls _ _ (says xs s c) (faulty j g) = absurd (lines.no_both templates is_grammar places top ls xs j s g)
 one_answer ls _ _ (says xs s c) (unended ys t d) =
-    let same = lines.one_saying Row row table is_grammar places top ls xs ys s t in
+    let same = lines.one_saying templates is_grammar places top ls xs ys s t in
     let bad = sym c ∙ ap (λ (zs : List (ℕ × Said)). is_closed (reached top zs)) same ∙ d in
     absurd cc
-one_answer ls _ _ (says xs s c) (says ys t d) = ap answer_of (lines.one_saying Row row table is_grammar places top ls xs ys s t)
+one_answer ls _ _ (says xs s c) (says ys t d) = ap answer_of (lines.one_saying templates is_grammar places top ls xs ys s t)
 
 -- ---- what was read is what lines are
 

@@ -4,7 +4,7 @@ use Rattle.formula_text.specs.Grammar.{Draft}
 use Rattle.line_forms.specs.Blocks as blocks
 use Rattle.line_forms.specs.Forms.{Form, Piece, part, one, formula, tagged}
 use Rattle.line_forms.specs.Rows as grammar
-use Rattle.line_forms.specs.Told.{Made, made}
+use Rattle.line_forms.specs.Told.{Made}
 use Rattle.tpl_syntax.specs.declared.line.Line.{Line}
 use Rattle.tpl_syntax.specs.declared.line.Line.TheVariants as line
 use Rattle.tpl_syntax.specs.declared.line.Mark.{Mark}
@@ -66,14 +66,18 @@ row r = ((entry r).word, (entry r).form)
 abbrev pub table : grammar.Table Row
 table = map (λ (r : Row). ((row r).0, r ∷ [])) all_rows
 
+-- the language of the lines of a template
+abbrev pub templates : grammar.Language
+templates = record { Row = Row; Meaning = Line Draft; row = row; means = λ r. (entry r).makes; table = table }
+
 -- what a line says by itself; its texts may be of any length, and its formulas of any height
 abbrev pub Said : Type 0
-Said = grammar.Said Row row
+Said = grammar.Said templates
 
 -- the line, its formula with names
 abbrev pub said_line : Said → Line Draft
-said_line x = made (row x.0).1 (entry x.0).makes x.1
+said_line x = grammar.meaning_of templates x
 
 -- bytes write a line: their tokens spell it
 abbrev pub Writes : Said → List ℕ → Type 0
-Writes said bytes = blocks.Writes Row row said bytes
+Writes said bytes = blocks.Writes templates said bytes

@@ -9,7 +9,7 @@ use Rattle.tpl_syntax.specs.declared.line.Line.{Line}
 use Rattle.tpl_syntax.specs.declared.line.Line.TheVariants as line
 use Rattle.tpl_syntax.specs.declared.line.Mark.TheVariants as mark
 use Rattle.tpl_syntax.specs.declared.line.Purpose.TheVariants as purpose
-use Rattle.tpl_syntax.specs.Grammar.{Row, row, Said, text, tag, attr, choice, other, loop, close}
+use Rattle.tpl_syntax.specs.Grammar.{templates, Said, text, tag, attr, choice, other, loop, close}
 use Rattle.tpl_syntax.specs.Lines.{Plan, mapped}
 
 -- what a line says
@@ -28,7 +28,7 @@ said_in ns l = said_of (mapped (unslotted ns) l)
 
 -- the bytes of a line
 abbrev pub bytes_of : Said → List ℕ
-bytes_of x = line_text Row row x
+bytes_of x = line_text templates x
 
 -- the bytes of a line, and the LF that ends it
 abbrev pub ended_line : Said → List ℕ

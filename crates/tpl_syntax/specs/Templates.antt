@@ -8,7 +8,7 @@ use Rattle.tpl_syntax.specs.declared.fault.TemplateFault.{TemplateFault}
 use Rattle.tpl_syntax.specs.declared.fault.TemplateWhy.{TemplateWhy}
 use Rattle.tpl_syntax.specs.declared.fault.TemplateWhy.TheVariants as why
 use Rattle.tpl_syntax.specs.declared.line.Line.{Line}
-use Rattle.tpl_syntax.specs.Grammar.{Row, row, Said, said_line}
+use Rattle.tpl_syntax.specs.Grammar.{templates, Said, said_line}
 use Rattle.tpl_syntax.specs.Refusals.{fault_at, judged, refusal_of}
 use Rattle.tpl_syntax.specs.Lines.{Plan, formula_of, mapped}
 use Rattle.tpl_syntax.specs.Places.{Place, is_closed, places, top}
@@ -19,11 +19,11 @@ Sayings = List (ℕ × Said)
 
 -- from a place on, the lines say this, each where it may stand
 abbrev pub Say : Place → List NumberedLine → Sayings → Type 0
-Say p ls xs = blocks.Say Row row places p ls xs
+Say p ls xs = blocks.Say templates places p ls xs
 
 -- from a place on, the line of this number is the first that says nothing which may stand there
 abbrev pub IsFaulty : Place → List NumberedLine → ℕ → Type 0
-IsFaulty p ls k = blocks.IsFaulty Row row places p ls k
+IsFaulty p ls k = blocks.IsFaulty templates places p ls k
 
 -- the place behind lines that say this
 abbrev pub reached : Place → Sayings → Place

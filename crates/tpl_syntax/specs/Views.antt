@@ -1,7 +1,6 @@
 -- What the program holds of lines that it reads.
 use Rattle.std.specs.Prelude.{◌≡◌, ℕ, Bool, true, false, ◌||◌, List, [], ◌∷◌, map, reverse, slice_get, unwrap_or}
 use Rattle.std.specs.Prelude.{Option, Some, None, option_map, option_and_then, Result, Ok, Err, IsTrue}
-use Rattle.std.specs.Option.{option_or}
 use Rattle.sig_formula.specs.Trees.{Tree}
 use Rattle.sig_formula.specs.Trees as tree
 use Rattle.sig_words.specs.Lexemes.{Lexeme}
@@ -11,7 +10,7 @@ use Rattle.formula_text.specs.Refusals.{slot_of, with_name}
 use Rattle.formula_text.specs.Slots.{Wiring, refusal, wired}
 use Rattle.formula_text.specs.declared.wired.Allow.{Allow}
 use Rattle.formula_text.specs.declared.wired.FormulaFault.{FormulaFault}
-use Rattle.line_forms.specs.Reader.{read_form}
+use Rattle.line_forms.specs.Findings as findings
 use Rattle.line_forms.specs.Told.{unless_faulty}
 use Rattle.script_lines.specs.Lines.{NumberedLine}
 use Rattle.tpl_syntax.specs.declared.judge.ReadLine.{ReadLine}
@@ -26,7 +25,7 @@ use Rattle.tpl_syntax.specs.declared.read.Reading.{Reading}
 use Rattle.tpl_syntax.specs.declared.read.Reading.TheVariants as reading
 use Rattle.tpl_syntax.specs.declared.reader.Scan.{Scan}
 use Rattle.tpl_syntax.specs.declared.reader.Seen.{Seen}
-use Rattle.tpl_syntax.specs.Grammar.{Row, row, Said, Writes, said_line}
+use Rattle.tpl_syntax.specs.Grammar.{Row, templates, Said, Writes, said_line}
 use Rattle.tpl_syntax.specs.Refusals.{Judged, allowed, excess, has_end, is_bare, misplacing, refusal_of}
 use Rattle.tpl_syntax.specs.Lines.{Plan, formula_of, mapped}
 use Rattle.tpl_syntax.specs.Places.{Place, Role, leaf, attribute, begins, turns, ends, fits, is_closed, moved, role_of, top}
@@ -64,13 +63,11 @@ found_of allow x = mapped (seen allow) (said_line x)
 
 -- what is found in the tokens behind the first word, as a line of this row
 abbrev pub found_as : Allow → Row → List Lexeme → Option (Line Seen)
-found_as allow r ls = option_map (λ a. found_of allow (r, a)) (read_form (row r).1 ls)
+found_as allow r ls = findings.found_as templates (found_of allow) r ls
 
 -- what is found by the first of the rows that reads them
 abbrev pub found_first : Allow → List Row → List Lexeme → Option (Line Seen)
-found_first allow [] ls = None
-found_first allow (r ∷ []) ls = found_as allow r ls
-found_first allow (r ∷ s ∷ rs) ls = option_or (found_as allow r ls) (found_first allow (s ∷ rs) ls)
+found_first allow rs ls = findings.found_first templates (found_of allow) rs ls
 
 -- what is wrong with a formula that was read
 abbrev pub fault_told : Result Wiring FormulaFault → Option FormulaFault

@@ -13,7 +13,7 @@ ghost use Rattle.line_forms.specs.Rows.{rows_of, said_of};
 ghost use Rattle.line_forms.specs.Told.{ahead};
 ghost use Rattle.tpl_syntax.specs.declared.line.Line.TheVariants as lines;
 ghost use Rattle.tpl_syntax.specs.Grammar as rows;
-ghost use Rattle.tpl_syntax.specs.Grammar.{row, table, Row, Said, Writes};
+ghost use Rattle.tpl_syntax.specs.Grammar.{table, templates, Said, Writes};
 ghost use Rattle.tpl_syntax.specs.Refusals.{has_end, is_bare};
 ghost use Rattle.tpl_syntax.specs.Views.{finds, found_as, found_first, found_of, seen};
 
@@ -243,7 +243,7 @@ fn spelled(
     allow: Allow,
 ) -> Result<Option<Line<Seen>>, NoMemory>
     requires { AreTokens line.now tokens.now }
-    ensures { IfOk result (λ found. found ≡ option_map (found_of allow) (said_of Row row table (lexemes line.now tokens.now))) }
+    ensures { IfOk result (λ found. found ≡ option_map (found_of allow) (said_of templates (lexemes line.now tokens.now))) }
 {
     let Some(first) = tokens.first() else {
         return Ok(None);
@@ -267,7 +267,7 @@ fn spelled_held(
     allow: Allow,
 ) -> Result<Option<Box<Line<Seen>>>, NoMemory>
     requires { AreTokens line.now tokens.now }
-    ensures { IfOk result (λ held. option_map (λ l. l.value) held ≡ option_map (found_of allow) (said_of Row row table (lexemes line.now tokens.now))) }
+    ensures { IfOk result (λ held. option_map (λ l. l.value) held ≡ option_map (found_of allow) (said_of templates (lexemes line.now tokens.now))) }
 {
     let Some(found) = spelled(alloc, line, tokens, allow)? else {
         return Ok(None);

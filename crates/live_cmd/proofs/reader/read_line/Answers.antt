@@ -1,11 +1,17 @@
-use Rattle.live_cmd.proofs.Spellings.{from_tokens, bad_none}
+use Rattle.line_forms.proofs.Shared.{bad_writes_none, held_from_tokens}
+use Rattle.live_cmd.specs.Grammar.{commands}
+use Rattle.live_cmd.specs.Views.{found_of}
+use Rattle.live_cmd.proofs.Grammars.{is_grammar}
 use Rattle.live_cmd.proofs.reader.read_line.Goals as goal
 
 pub spelled_held-requires : goal.spelled_held-requires
 spelled_held-requires c = rw c.deref.ensures.value c.in-Ok.ensures.ok
 
 pub returns-in-Ok : goal.returns-in-Ok
-returns-in-Ok c = let value = c.deref.ensures.value in from_tokens c.args.line.now c.in-Ok.found.items c.spelled_held.result c.in-Ok.ensures.ok (rw value at c.spelled_held.ensures)
+returns-in-Ok c =
+    let value = c.deref.ensures.value in
+    held_from_tokens commands is_grammar found_of c.args.line.now c.in-Ok.found.items c.spelled_held.result c.in-Ok.ensures.ok
+    (rw value at c.spelled_held.ensures)
 
 pub returns-in-Err-Bad : goal.returns-in-Err-Bad
-returns-in-Err-Bad c = bad_none c.args.line.now c.in-Err-Bad.field-0-0 (rw c.in-Err-Bad.field-0-is at c.in-Err-Bad.ensures.refused)
+returns-in-Err-Bad c = bad_writes_none commands c.args.line.now c.in-Err-Bad.field-0-0 (rw c.in-Err-Bad.field-0-is at c.in-Err-Bad.ensures.refused)

@@ -1,5 +1,7 @@
 use Rattle.std.proofs.Common.{◌∙◌}
-use Rattle.tpl_syntax.proofs.Spellings.{said_word, first_utf8}
+use Rattle.line_forms.proofs.Shared.{first_utf8, said_word}
+use Rattle.tpl_syntax.specs.Grammar.{templates}
+use Rattle.tpl_syntax.specs.Views.{found_of}
 use Rattle.tpl_syntax.proofs.reader.spelled.Goals as goal
 
 pub unreachable-requires : goal.unreachable-requires
@@ -10,4 +12,5 @@ unreachable-requires c =
 pub returns-in-Ok : goal.returns-in-Ok
 returns-in-Ok c =
     let says = c.in-Ok.ensures.cases.0 ∙ c.token_bytes.ensures in
-    rw (said_word c.args.allow c.args.line.now c.args.tokens.now c.in-Some.first.now c.in-Ok.word.now c.in-Some.ensures.value c.in-Word.is says) c.behind_word.ensures
+    rw (said_word templates (found_of c.args.allow) c.args.line.now c.args.tokens.now c.in-Some.first.now c.in-Ok.word.now c.in-Some.ensures.value c.in-Word.is says)
+    c.behind_word.ensures
