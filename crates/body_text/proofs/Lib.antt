@@ -1,7 +1,5 @@
 mod Sequences
-mod Pieces
 mod Uniqueness
-mod Ends
 mod Places
 mod Grammars
 mod Judgements

@@ -17,7 +17,7 @@ use Rattle.body_text.specs.Names.{GoOn}
 use Rattle.body_text.specs.Statements.{Statement, Statements, done, plain, rewire, when, effect, body_of, effects_of, own_effects, own_rewires, placed, placed_line, rewiring_of, rewirings_of, with_formula, with_own, with_target, with_targets}
 use Rattle.body_text.specs.Printer.{Parts, effect_at, meaning, meanings, meant, named_line, rewired_at, source_of}
 use Rattle.body_text.proofs.Sequences.{goes_own, goes_targets}
-use Rattle.body_text.proofs.Slots.{there}
+use Rattle.line_forms.proofs.Shared.{there}
 
 -- ---- the names of statements
 

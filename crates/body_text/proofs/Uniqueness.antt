@@ -4,7 +4,7 @@ use Rattle.std.specs.Prelude.{Result, Ok, Err, IfOk, ◌==◌, true, false}
 use Rattle.std.proofs.lemmas.Bool.{cases_Bool}
 use Rattle.std.proofs.lemmas.Bool.Decides.{nat_tests}
 use Rattle.line_forms.proofs.Shared as lines
-use Rattle.script_lines.specs.Lines.{NumberedLine}
+use Rattle.script_lines.specs.Lines.{NumberedLine, last_number}
 use Rattle.sig_untrack.specs.declared.body.Body.{Body}
 use Rattle.body_text.specs.declared.allowance.Allowance.{Allowance}
 use Rattle.body_text.specs.declared.fault.BodyFault.{BodyFault}
@@ -13,7 +13,7 @@ use Rattle.body_text.specs.declared.judge.ReadLine.{ReadLine}
 use Rattle.body_text.specs.Grammar.{bodies, Said, Writes}
 use Rattle.body_text.specs.Refusals.{fault_at, judged, refusal_of}
 use Rattle.body_text.specs.Places.{places}
-use Rattle.body_text.specs.Verdicts.{Answer, IsRead, faulty, unended, says, answer_of, last_number, reached, said_lines, unless_refused}
+use Rattle.body_text.specs.Verdicts.{Answer, IsRead, faulty, unended, says, answer_of, reached, said_lines, unless_refused}
 use Rattle.body_text.specs.Statements.{Statements, body_of, lines_of}
 use Rattle.body_text.specs.Views.{AreRead, Unended, answer_held, judged_read, sound_lines}
 use Rattle.body_text.proofs.Grammars.{is_grammar}

@@ -1,7 +1,7 @@
 -- What lines are: a body, or refused.
-use Rattle.std.specs.Prelude.{◌≡◌, ◌<◌, ℕ, List, [], ◌∷◌, map, Option, Some, None, Result, Ok, Err}
+use Rattle.std.specs.Prelude.{◌≡◌, ◌<◌, ℕ, List, map, Option, Some, None, Result, Ok, Err}
 use Rattle.line_forms.specs.Blocks as blocks
-use Rattle.script_lines.specs.Lines.{NumberedLine}
+use Rattle.script_lines.specs.Lines.{NumberedLine, last_number}
 use Rattle.sig_untrack.specs.Stated.{Bodies}
 use Rattle.body_text.specs.declared.allowance.Allowance.{Allowance}
 use Rattle.body_text.specs.declared.fault.BodyFault.{BodyFault}
@@ -45,12 +45,6 @@ unless_refused (Some f) b = Err f
 -- what lines are that say this and spell these statements
 abbrev pub answer_of : Allowance → Sayings → Statements → Answer
 answer_of allowance xs s = unless_refused (refusal_of (judged allowance.formulas 0 xs)) (body_of s)
-
--- the number of the last line
-abbrev pub last_number : List NumberedLine → ℕ
-last_number [] = 0
-last_number (l ∷ []) = l.0
-last_number (l ∷ m ∷ ls) = last_number (m ∷ ls)
 
 -- What lines are, where this is allowed: refused at the first faulty one; at the last, where something that is begun isn't ended; else
 -- what they say.

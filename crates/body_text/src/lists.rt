@@ -9,9 +9,10 @@ ghost use Rattle.body_text.specs.Statements as written;
 ghost use Rattle.body_text.specs.Statements.{placed_line, rewiring_of, with_formula, with_target};
 
 use crate::line::{PlainLine, Source};
-use crate::named::{NamedFormula, put_name, slot_of};
+use crate::named::NamedFormula;
 use crate::stmt::{line, rewire};
 use effect_model::Plain;
+use line_forms::{put_new_name, slot_of};
 use sig_base::{MOST_SOURCES, Name, NoMemory};
 use sig_formula::Formula;
 use sig_untrack::{Body, Recipe2, Rewire, Stmt};
@@ -53,7 +54,7 @@ fn put_target(targets: &mut Vec<Name>, name: &Name) -> Result<u32, NoMemory>
     ensures put { IfOk result (λ t. (targets.new.items ≡ with_name targets.old.items name.now) × (t ≡ slot_of targets.new.items name.now)) }
     ensures few { IfOk result (λ _. length targets.new.items ≤ length targets.old.items + 1) }
 {
-    put_name(targets, name)?;
+    put_new_name(targets, name)?;
     Ok(slot_of(targets, name))
 }
 
@@ -64,7 +65,7 @@ fn put_perhaps(targets: &mut Vec<Name>, target: Option<&Name>) -> Result<(), NoM
 {
     match target {
         Some(target) => {
-            put_name(targets, target)?;
+            put_new_name(targets, target)?;
             Ok(())
         }
         None => Ok(()),

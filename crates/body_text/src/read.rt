@@ -7,7 +7,7 @@ ghost use Rattle.body_text.specs.Grammar as rows;
 ghost use Rattle.body_text.specs.Grammar.{Said, Writes};
 ghost use Rattle.body_text.specs.Refusals.{refusal_of};
 ghost use Rattle.body_text.specs.Places.{fits, kind_of};
-ghost use Rattle.body_text.specs.Verdicts.{last_number, unless_refused, IsRead, Refuses};
+ghost use Rattle.body_text.specs.Verdicts.{unless_refused, IsRead, Refuses};
 ghost use Rattle.body_text.specs.Statements as written;
 ghost use Rattle.body_text.specs.Statements.{lines_of, Statements};
 ghost use Rattle.body_text.specs.Views.{answer_held, found_of, judged_read, sound_lines, IsReading};
@@ -17,7 +17,7 @@ use crate::judge::{ReadLine, fits, moved, read_at, refusal_of};
 use crate::line::Found;
 use crate::reader::read_line;
 use crate::{Allowance, BodyFault, BodyWhy};
-use script_lines::{NumberedLine, next_piece};
+use script_lines::{NumberedLine, last_number, lines_of};
 use sig_base::{MOST_LINE, NoMemory};
 use sig_untrack::Body;
 use std::alloc::Global;
@@ -74,17 +74,6 @@ fn read_lines(
         Ok(Reading::Said(said))
     } else {
         Ok(Reading::Unended)
-    }
-}
-
-// The number of the last line.
-fn last_number(lines: &[NumberedLine]) -> u32
-    ensures { result ≡ last_number (map line_of lines.now) }
-{
-    if lines.is_empty() {
-        0
-    } else {
-        lines[lines.len() - 1].number
     }
 }
 
@@ -153,22 +142,6 @@ pub fn read_numbered(
         Ok(body) => Ok(body),
         Err(fault) => Err(fault),
     }
-}
-
-// The lines of a block that aren't passed over, numbered from 0.
-fn lines_of(alloc: Global, block: &[u8]) -> Result<Vec<NumberedLine<'_>>, NoMemory>
-    requires { length block.now < 2 ^ 32 }
-    ensures { IfOk result (λ v. map line_of v.items ≡ kept_lines 0 block.now) }
-{
-    let mut lines = Vec::new(alloc);
-    let mut at = 0;
-    let mut number = 0;
-    while let Some((piece, next, after)) = next_piece(alloc, block, at, number)? {
-        lines.extend_from_slice(&piece.lines)?;
-        at = next;
-        number = after;
-    }
-    Ok(lines)
 }
 
 /// The body of a block of lines where this is allowed, refused as by `read_numbered`, its lines numbered from 0. None of them but those

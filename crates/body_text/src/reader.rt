@@ -1,5 +1,6 @@
 // Reads one line of a body.
 ghost use Rattle.std.specs.Prelude.{◌≡◌, ◌≤◌, ◌∷◌, [], ℕ, List, None, Some, IfOk, MatchOption, option_map, length};
+ghost use Rattle.std.specs.Result.{result_ok};
 ghost use Rattle.sig_words.specs.Tokens.{AreTokens};
 ghost use Rattle.sig_words.specs.Lexemes.{lexemes};
 ghost use Rattle.formula_text.specs.declared.wired.Allow.{Allow};
@@ -7,6 +8,7 @@ ghost use Rattle.formula_text.specs.Grammar.{Draft};
 ghost use Rattle.formula_text.specs.Slots.{refusal};
 ghost use Rattle.line_forms.specs.Forms as forms;
 ghost use Rattle.line_forms.specs.Reader.{read_form, read_part};
+ghost use Rattle.line_forms.specs.Reads.{IfRead};
 ghost use Rattle.line_forms.specs.Rows.{rows_of, said_of};
 ghost use Rattle.line_forms.specs.Told.{ahead, IsToldFormula};
 ghost use Rattle.body_text.specs.Grammar as rows;
@@ -19,12 +21,12 @@ use crate::named::NamedFormula;
 use effect_model::Plain;
 use formula_text::{Allow, FormulaFault};
 use line_forms::{
-    ToldFormula, arguments_at, count_at, ends_at, formula_at, name_at, symbol_at, word_at,
+    NotThere, ToldFormula, Unread, arguments_at, count_at, ends_at, first_word, formula_at,
+    name_at, optional, symbol_at, word_at,
 };
 use sig_base::{MOST_LINE, Name, NoMemory};
-use sig_words::{LineFault, Token, TokenKind, token_bytes, tokens};
+use sig_words::{LineFault, Token, tokens};
 use std::alloc::Global;
-use std::str;
 
 /// A formula, or what is wrong with it.
 type ToldNamed = Result<NamedFormula, FormulaFault>;
@@ -51,17 +53,15 @@ fn named_at(
     tokens: &[Token],
     at: usize,
     allow: Allow,
-) -> Result<Option<(ToldNamed, usize)>, NoMemory>
+) -> Result<(ToldNamed, usize), Unread>
     requires { AreTokens line.now tokens.now }
-    ensures { IfOk result (λ found. MatchOption found (read_part forms.formula (ahead line.now tokens.now at) ≡ None)
+    ensures { IfRead result (λ found. MatchOption found (read_part forms.formula (ahead line.now tokens.now at) ≡ None)
         (λ p. (x : Draft) × (read_part forms.formula (ahead line.now tokens.now at) ≡ Some (x, ahead line.now tokens.now p.1))
         × IsTold (refusal allow x) x p.0)) }
 {
-    let Some((told, to)) = formula_at(alloc, line, tokens, at, allow)? else {
-        return Ok(None);
-    };
+    let (told, to) = formula_at(alloc, line, tokens, at, allow)?;
     let formula = named(alloc, told, allow)?;
-    Ok(Some((formula, to)))
+    Ok((formula, to))
 }
 
 // A formula at a place, and nothing else.
@@ -71,18 +71,14 @@ fn last_formula(
     tokens: &[Token],
     at: usize,
     allow: Allow,
-) -> Result<Option<ToldNamed>, NoMemory>
+) -> Result<ToldNamed, Unread>
     requires { AreTokens line.now tokens.now }
-    ensures { IfOk result (λ found. MatchOption found (read_form (forms.part forms.formula ∷ []) (ahead line.now tokens.now at) ≡ None)
+    ensures { IfRead result (λ found. MatchOption found (read_form (forms.part forms.formula ∷ []) (ahead line.now tokens.now at) ≡ None)
         (λ t. (x : Draft) × (read_form (forms.part forms.formula ∷ []) (ahead line.now tokens.now at) ≡ Some (x, tt)) × IsTold (refusal allow x) x t)) }
 {
-    let Some((formula, at)) = named_at(alloc, line, tokens, at, allow)? else {
-        return Ok(None);
-    };
-    if !ends_at(tokens, at) {
-        return Ok(None);
-    }
-    Ok(Some(formula))
+    let (formula, at) = named_at(alloc, line, tokens, at, allow)?;
+    ends_at(tokens, at)?;
+    Ok(formula)
 }
 
 // A name and a formula at a place, and nothing else.
@@ -92,244 +88,159 @@ fn name_and_formula(
     tokens: &[Token],
     at: usize,
     allow: Allow,
-) -> Result<Option<(Name, ToldNamed)>, NoMemory>
+) -> Result<(Name, ToldNamed), Unread>
     requires { AreTokens line.now tokens.now }
-    ensures { IfOk result (λ found. MatchOption found
+    ensures { IfRead result (λ found. MatchOption found
         (read_form (forms.part (forms.one forms.name) ∷ forms.part forms.formula ∷ []) (ahead line.now tokens.now at) ≡ None)
         (λ t. (x : Draft) × (read_form (forms.part (forms.one forms.name) ∷ forms.part forms.formula ∷ []) (ahead line.now tokens.now at)
         ≡ Some (t.0, (x, tt))) × IsTold (refusal allow x) x t.1)) }
 {
-    let Some((name, at)) = name_at(alloc, line, tokens, at)? else {
-        return Ok(None);
-    };
-    match last_formula(alloc, line, tokens, at, allow)? {
-        Some(formula) => Ok(Some((name, formula))),
-        None => Ok(None),
-    }
+    let (name, at) = name_at(alloc, line, tokens, at)?;
+    let formula = last_formula(alloc, line, tokens, at, allow)?;
+    Ok((name, formula))
 }
 
 // `set N FORMULA`
-fn set(
-    alloc: Global,
-    line: &[u8],
-    tokens: &[Token],
-    allow: Allow,
-) -> Result<Option<Found>, NoMemory>
+fn set(alloc: Global, line: &[u8], tokens: &[Token], allow: Allow) -> Result<Found, Unread>
     requires { AreTokens line.now tokens.now }
-    ensures { IfOk result (λ found. found ≡ found_as allow rows.set (ahead line.now tokens.now 1)) }
+    ensures { IfRead result (λ found. found ≡ found_as allow rows.set (ahead line.now tokens.now 1)) }
 {
-    let Some((name, formula)) = name_and_formula(alloc, line, tokens, 1, allow)? else {
-        return Ok(None);
-    };
+    let (name, formula) = name_and_formula(alloc, line, tokens, 1, allow)?;
     match formula {
-        Ok(formula) => Ok(Some(statement(StatementSet::Common, Plain::Set(name, formula)))),
-        Err(fault) => Ok(Some(faulty(LineKind::Plain(StatementSet::Common), fault))),
+        Ok(formula) => Ok(statement(StatementSet::Common, Plain::Set(name, formula))),
+        Err(fault) => Ok(faulty(LineKind::Plain(StatementSet::Common), fault)),
     }
 }
 
 // `log FORMULA`
-fn log(
-    alloc: Global,
-    line: &[u8],
-    tokens: &[Token],
-    allow: Allow,
-) -> Result<Option<Found>, NoMemory>
+fn log(alloc: Global, line: &[u8], tokens: &[Token], allow: Allow) -> Result<Found, Unread>
     requires { AreTokens line.now tokens.now }
-    ensures { IfOk result (λ found. found ≡ found_as allow rows.log (ahead line.now tokens.now 1)) }
+    ensures { IfRead result (λ found. found ≡ found_as allow rows.log (ahead line.now tokens.now 1)) }
 {
     match last_formula(alloc, line, tokens, 1, allow)? {
-        Some(Ok(formula)) => Ok(Some(statement(StatementSet::Common, Plain::Log(formula)))),
-        Some(Err(fault)) => Ok(Some(faulty(LineKind::Plain(StatementSet::Common), fault))),
-        None => Ok(None),
+        Ok(formula) => Ok(statement(StatementSet::Common, Plain::Log(formula))),
+        Err(fault) => Ok(faulty(LineKind::Plain(StatementSet::Common), fault)),
     }
 }
 
 // `when FORMULA`
-fn guard(
-    alloc: Global,
-    line: &[u8],
-    tokens: &[Token],
-    allow: Allow,
-) -> Result<Option<Found>, NoMemory>
+fn guard(alloc: Global, line: &[u8], tokens: &[Token], allow: Allow) -> Result<Found, Unread>
     requires { AreTokens line.now tokens.now }
-    ensures { IfOk result (λ found. found ≡ found_as allow rows.guard (ahead line.now tokens.now 1)) }
+    ensures { IfRead result (λ found. found ≡ found_as allow rows.guard (ahead line.now tokens.now 1)) }
 {
     match last_formula(alloc, line, tokens, 1, allow)? {
-        Some(Ok(formula)) => Ok(Some(sound(
-            LineKind::Opens(StatementSet::Common),
-            Line::When(formula),
-        ))),
-        Some(Err(fault)) => Ok(Some(faulty(LineKind::Opens(StatementSet::Common), fault))),
-        None => Ok(None),
+        Ok(formula) => Ok(sound(LineKind::Opens(StatementSet::Common), Line::When(formula))),
+        Err(fault) => Ok(faulty(LineKind::Opens(StatementSet::Common), fault)),
     }
 }
 
 // `cleanup set N FORMULA`
-fn cleanup_set(
-    alloc: Global,
-    line: &[u8],
-    tokens: &[Token],
-    allow: Allow,
-) -> Result<Option<Found>, NoMemory>
+fn cleanup_set(alloc: Global, line: &[u8], tokens: &[Token], allow: Allow) -> Result<Found, Unread>
     requires { AreTokens line.now tokens.now }
-    ensures { IfOk result (λ found. found ≡ found_as allow rows.cleanup_set (ahead line.now tokens.now 1)) }
+    ensures { IfRead result (λ found. found ≡ found_as allow rows.cleanup_set (ahead line.now tokens.now 1)) }
 {
-    let Some(at) = word_at(line, tokens, 1, b"set") else {
-        return Ok(None);
-    };
-    let Some((name, formula)) = name_and_formula(alloc, line, tokens, at, allow)? else {
-        return Ok(None);
-    };
+    let at = word_at(line, tokens, 1, b"set")?;
+    let (name, formula) = name_and_formula(alloc, line, tokens, at, allow)?;
     match formula {
-        Ok(formula) => Ok(Some(statement(StatementSet::All, Plain::CleanupSet(name, formula)))),
-        Err(fault) => Ok(Some(faulty(LineKind::Plain(StatementSet::All), fault))),
+        Ok(formula) => Ok(statement(StatementSet::All, Plain::CleanupSet(name, formula))),
+        Err(fault) => Ok(faulty(LineKind::Plain(StatementSet::All), fault)),
     }
 }
 
 // `cleanup log FORMULA`
-fn cleanup_log(
-    alloc: Global,
-    line: &[u8],
-    tokens: &[Token],
-    allow: Allow,
-) -> Result<Option<Found>, NoMemory>
+fn cleanup_log(alloc: Global, line: &[u8], tokens: &[Token], allow: Allow) -> Result<Found, Unread>
     requires { AreTokens line.now tokens.now }
-    ensures { IfOk result (λ found. found ≡ found_as allow rows.cleanup_log (ahead line.now tokens.now 1)) }
+    ensures { IfRead result (λ found. found ≡ found_as allow rows.cleanup_log (ahead line.now tokens.now 1)) }
 {
-    let Some(at) = word_at(line, tokens, 1, b"log") else {
-        return Ok(None);
-    };
+    let at = word_at(line, tokens, 1, b"log")?;
     match last_formula(alloc, line, tokens, at, allow)? {
-        Some(Ok(formula)) => Ok(Some(statement(StatementSet::All, Plain::CleanupLog(formula)))),
-        Some(Err(fault)) => Ok(Some(faulty(LineKind::Plain(StatementSet::All), fault))),
-        None => Ok(None),
+        Ok(formula) => Ok(statement(StatementSet::All, Plain::CleanupLog(formula))),
+        Err(fault) => Ok(faulty(LineKind::Plain(StatementSet::All), fault)),
     }
 }
 
 // A line that begins with `cleanup`.
-fn cleanup(
-    alloc: Global,
-    line: &[u8],
-    tokens: &[Token],
-    allow: Allow,
-) -> Result<Option<Found>, NoMemory>
+fn cleanup(alloc: Global, line: &[u8], tokens: &[Token], allow: Allow) -> Result<Found, Unread>
     requires { AreTokens line.now tokens.now }
-    ensures { IfOk result (λ found. found ≡ found_first allow (rows.cleanup_set ∷ rows.cleanup_log ∷ []) (ahead line.now tokens.now 1)) }
+    ensures { IfRead result (λ found. found ≡ found_first allow (rows.cleanup_set ∷ rows.cleanup_log ∷ []) (ahead line.now tokens.now 1)) }
 {
-    match cleanup_set(alloc, line, tokens, allow)? {
-        Some(found) => Ok(Some(found)),
-        None => cleanup_log(alloc, line, tokens, allow),
+    match cleanup_set(alloc, line, tokens, allow) {
+        Err(Unread::NotThere) => cleanup_log(alloc, line, tokens, allow),
+        found => found,
     }
 }
 
 // `dispose N`
-fn dispose(alloc: Global, line: &[u8], tokens: &[Token]) -> Result<Option<Found>, NoMemory>
+fn dispose(alloc: Global, line: &[u8], tokens: &[Token]) -> Result<Found, Unread>
     requires { AreTokens line.now tokens.now }
-    ensures { (allow : Allow) → IfOk result (λ found. found ≡ found_as allow rows.dispose (ahead line.now tokens.now 1)) }
+    ensures { (allow : Allow) → IfRead result (λ found. found ≡ found_as allow rows.dispose (ahead line.now tokens.now 1)) }
 {
-    let Some((name, at)) = name_at(alloc, line, tokens, 1)? else {
-        return Ok(None);
-    };
-    if !ends_at(tokens, at) {
-        return Ok(None);
-    }
-    Ok(Some(statement(StatementSet::All, Plain::Dispose(name))))
+    let (name, at) = name_at(alloc, line, tokens, 1)?;
+    ends_at(tokens, at)?;
+    Ok(statement(StatementSet::All, Plain::Dispose(name)))
 }
 
 // `rewire N = FORMULA`
-fn rewire(
-    alloc: Global,
-    line: &[u8],
-    tokens: &[Token],
-    allow: Allow,
-) -> Result<Option<Found>, NoMemory>
+fn rewire(alloc: Global, line: &[u8], tokens: &[Token], allow: Allow) -> Result<Found, Unread>
     requires { AreTokens line.now tokens.now }
-    ensures { IfOk result (λ found. found ≡ found_as allow rows.rewire (ahead line.now tokens.now 1)) }
+    ensures { IfRead result (λ found. found ≡ found_as allow rows.rewire (ahead line.now tokens.now 1)) }
 {
-    let Some((name, at)) = name_at(alloc, line, tokens, 1)? else {
-        return Ok(None);
-    };
-    let Some(at) = symbol_at(line, tokens, at, b"=") else {
-        return Ok(None);
-    };
+    let (name, at) = name_at(alloc, line, tokens, 1)?;
+    let at = symbol_at(line, tokens, at, b"=")?;
     match last_formula(alloc, line, tokens, at, allow)? {
-        Some(Ok(formula)) => {
+        Ok(formula) => {
             let line = Line::Rewire(name, Source::Formula(formula));
-            Ok(Some(sound(LineKind::Plain(StatementSet::All), line)))
+            Ok(sound(LineKind::Plain(StatementSet::All), line))
         }
-        Some(Err(fault)) => Ok(Some(faulty(LineKind::Plain(StatementSet::All), fault))),
-        None => Ok(None),
+        Err(fault) => Ok(faulty(LineKind::Plain(StatementSet::All), fault)),
     }
 }
 
 // `rewire N = host K (names)`
-fn host(alloc: Global, line: &[u8], tokens: &[Token]) -> Result<Option<Found>, NoMemory>
+fn host(alloc: Global, line: &[u8], tokens: &[Token]) -> Result<Found, Unread>
     requires { AreTokens line.now tokens.now }
-    ensures { (allow : Allow) → IfOk result (λ found. found ≡ found_as allow rows.host (ahead line.now tokens.now 1)) }
+    ensures { (allow : Allow) → IfRead result (λ found. found ≡ found_as allow rows.host (ahead line.now tokens.now 1)) }
 {
-    let Some((name, at)) = name_at(alloc, line, tokens, 1)? else {
-        return Ok(None);
-    };
-    let Some(at) = symbol_at(line, tokens, at, b"=") else {
-        return Ok(None);
-    };
-    let Some(at) = word_at(line, tokens, at, b"host") else {
-        return Ok(None);
-    };
-    let Some((place, at)) = count_at(line, tokens, at) else {
-        return Ok(None);
-    };
-    let Some((arguments, at)) = arguments_at(alloc, line, tokens, at)? else {
-        return Ok(None);
-    };
-    if !ends_at(tokens, at) {
-        return Ok(None);
-    }
+    let (name, at) = name_at(alloc, line, tokens, 1)?;
+    let at = symbol_at(line, tokens, at, b"=")?;
+    let at = word_at(line, tokens, at, b"host")?;
+    let (place, at) = count_at(line, tokens, at)?;
+    let (arguments, at) = arguments_at(alloc, line, tokens, at)?;
+    ends_at(tokens, at)?;
     match arguments {
         Ok(names) => {
             let line = Line::Rewire(name, Source::Host(place, names));
-            Ok(Some(sound(LineKind::Plain(StatementSet::All), line)))
+            Ok(sound(LineKind::Plain(StatementSet::All), line))
         }
-        Err(fault) => Ok(Some(faulty(LineKind::Plain(StatementSet::All), fault))),
+        Err(fault) => Ok(faulty(LineKind::Plain(StatementSet::All), fault)),
     }
 }
 
 // A line that begins with `rewire`.
-fn rewiring(
-    alloc: Global,
-    line: &[u8],
-    tokens: &[Token],
-    allow: Allow,
-) -> Result<Option<Found>, NoMemory>
+fn rewiring(alloc: Global, line: &[u8], tokens: &[Token], allow: Allow) -> Result<Found, Unread>
     requires { AreTokens line.now tokens.now }
-    ensures { IfOk result (λ found. found ≡ found_first allow (rows.host ∷ rows.rewire ∷ []) (ahead line.now tokens.now 1)) }
+    ensures { IfRead result (λ found. found ≡ found_first allow (rows.host ∷ rows.rewire ∷ []) (ahead line.now tokens.now 1)) }
 {
-    match host(alloc, line, tokens)? {
-        Some(found) => Ok(Some(found)),
-        None => rewire(alloc, line, tokens, allow),
+    match host(alloc, line, tokens) {
+        Err(Unread::NotThere) => rewire(alloc, line, tokens, allow),
+        found => found,
     }
 }
 
 // `effect`
-fn nested(tokens: &[Token]) -> Option<Found>
-    ensures { (allow : Allow) (line : List ℕ) → result ≡ found_as allow rows.effect (ahead line tokens.now 1) }
+fn nested(tokens: &[Token]) -> Result<Found, NotThere>
+    ensures { (allow : Allow) (line : List ℕ) → result_ok result ≡ found_as allow rows.effect (ahead line tokens.now 1) }
 {
-    if ends_at(tokens, 1) {
-        Some(sound(LineKind::Opens(StatementSet::All), Line::Effect))
-    } else {
-        None
-    }
+    ends_at(tokens, 1)?;
+    Ok(sound(LineKind::Opens(StatementSet::All), Line::Effect))
 }
 
 // `end`
-fn close(tokens: &[Token]) -> Option<Found>
-    ensures { (allow : Allow) (line : List ℕ) → result ≡ found_as allow rows.close (ahead line tokens.now 1) }
+fn close(tokens: &[Token]) -> Result<Found, NotThere>
+    ensures { (allow : Allow) (line : List ℕ) → result_ok result ≡ found_as allow rows.close (ahead line tokens.now 1) }
 {
-    if ends_at(tokens, 1) {
-        Some(sound(LineKind::End, Line::End))
-    } else {
-        None
-    }
+    ends_at(tokens, 1)?;
+    Ok(sound(LineKind::End, Line::End))
 }
 
 // What the tokens behind one of the last words say.
@@ -339,16 +250,16 @@ fn behind_last_word(
     tokens: &[Token],
     word: &str,
     allow: Allow,
-) -> Result<Option<Found>, NoMemory>
+) -> Result<Found, Unread>
     requires { AreTokens line.now tokens.now }
-    ensures { IfOk result (λ found. found ≡ found_first allow (rows_of word.now last_words) (ahead line.now tokens.now 1)) }
+    ensures { IfRead result (λ found. found ≡ found_first allow (rows_of word.now last_words) (ahead line.now tokens.now 1)) }
 {
     match word {
-        "effect" => Ok(nested(tokens)),
+        "effect" => Ok(nested(tokens)?),
         "dispose" => dispose(alloc, line, tokens),
         "rewire" => rewiring(alloc, line, tokens, allow),
-        "end" => Ok(close(tokens)),
-        _ => Ok(None),
+        "end" => Ok(close(tokens)?),
+        _ => Err(Unread::NotThere),
     }
 }
 
@@ -359,9 +270,9 @@ fn behind_word(
     tokens: &[Token],
     word: &str,
     allow: Allow,
-) -> Result<Option<Found>, NoMemory>
+) -> Result<Found, Unread>
     requires { AreTokens line.now tokens.now }
-    ensures { IfOk result (λ found. found ≡ found_first allow (rows_of word.now table) (ahead line.now tokens.now 1)) }
+    ensures { IfRead result (λ found. found ≡ found_first allow (rows_of word.now table) (ahead line.now tokens.now 1)) }
 {
     match word {
         "set" => set(alloc, line, tokens, allow),
@@ -373,27 +284,12 @@ fn behind_word(
 }
 
 // What the tokens of a line say.
-fn spelled(
-    alloc: Global,
-    line: &[u8],
-    tokens: &[Token],
-    allow: Allow,
-) -> Result<Option<Found>, NoMemory>
+fn spelled(alloc: Global, line: &[u8], tokens: &[Token], allow: Allow) -> Result<Found, Unread>
     requires { AreTokens line.now tokens.now }
-    ensures { IfOk result (λ found. found ≡ option_map (found_of allow) (said_of bodies (lexemes line.now tokens.now))) }
+    ensures { IfRead result (λ found. found ≡ option_map (found_of allow) (said_of bodies (lexemes line.now tokens.now))) }
 {
-    let Some(first) = tokens.first() else {
-        return Ok(None);
-    };
-    match first.kind {
-        TokenKind::Word => {
-            let Ok(word) = str::from_utf8(token_bytes(line, first)) else {
-                unreachable!()
-            };
-            behind_word(alloc, line, tokens, word, allow)
-        }
-        _ => Ok(None),
-    }
+    let word = first_word(line, tokens)?;
+    behind_word(alloc, line, tokens, word, allow)
 }
 
 /// What a line of at most `MOST_LINE` bytes says; `None` exactly where its bytes write nothing.
@@ -403,7 +299,7 @@ pub fn read_line(alloc: Global, line: &[u8], allow: Allow) -> Result<Option<Foun
         (λ f. (x : Said) × Writes x line.now × (f ≡ found_of allow x))) }
 {
     match tokens(alloc, line) {
-        Ok(found) => spelled(alloc, line, &found, allow),
+        Ok(found) => optional(spelled(alloc, line, &found, allow)),
         Err(LineFault::Bad(_)) => Ok(None),
         Err(LineFault::TooLong) => unreachable!(),
         Err(LineFault::NoMemory(e)) => Err(e),

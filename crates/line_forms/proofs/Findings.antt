@@ -4,15 +4,19 @@ use Rattle.std.specs.Prelude.{Result, Ok, Err, IfOk, MatchOption, slice_get}
 use Rattle.std.specs.Global.{Box}
 use Rattle.std.specs.Option.{option_or}
 use Rattle.std.specs.Str.{IsUtf8}
+use Rattle.std.proofs.lemmas.Option.{same_Some}
 use Rattle.sig_words.specs.declared.token.Token.{Token}
 use Rattle.sig_words.specs.declared.token.TokenKind.TheVariants as kind
 use Rattle.sig_words.specs.Lexemes.{Lexeme, word, lexeme, lexemes, text_at}
 use Rattle.sig_words.specs.Tokens.{AreTokens, IsTokenOf}
 use Rattle.sig_words.proofs.Shared.{each_token, token_word_utf8, lexeme-Word}
+use Rattle.line_forms.specs.declared.unread.Unread.{Unread}
+use Rattle.line_forms.specs.declared.unread.Unread.TheVariants as unread
 use Rattle.line_forms.specs.Blocks.{Writes}
 use Rattle.line_forms.specs.Findings.{found_as, found_first}
 use Rattle.line_forms.specs.Forms.{Args}
-use Rattle.line_forms.specs.Reader.{read_form}
+use Rattle.line_forms.specs.Reader.{read_form, read_word}
+use Rattle.line_forms.specs.Reads.{IfRead, optional}
 use Rattle.line_forms.specs.Rows.{Language, IsGrammar, Said, first_of, rows_of, said_of}
 use Rattle.line_forms.specs.Told.{ahead}
 use Rattle.line_forms.proofs.Blocks.{writes, writes_none}
@@ -46,16 +50,25 @@ found_said language f (r ∷ s ∷ rs) ls =
     ap (option_or (found_as language f r ls)) (found_said language f (s ∷ rs) ls)
     ∙ sym (found_one f (λ (a : Args (language.row r).1). (r, a)) (read_form (language.row r).1 ls) (first_of language (s ∷ rs) ls))
 
--- what the rows of a first word find is what the line says
-pub said_word : {F : Type 0} (language : Language) (f : Said language → F) (line : List ℕ) (ts : List Token) (t : Token) (w : List ℕ)
-    → Some t ≡ slice_get ts 0 → t.kind ≡ kind.Word → w ≡ text_at line t
-    → option_map f (said_of language (lexemes line ts)) ≡ found_first language f (rows_of w language.table) (ahead line ts 1)
+-- the first token is the first word
+pub first_says : (line : List ℕ) (ts : List Token) (t : Token) (w : List ℕ) → Some t ≡ slice_get ts 0 → t.kind ≡ kind.Word → w ≡ text_at line t
+    → Some (w, ahead line ts 1) ≡ read_word (lexemes line ts)
 unfolding ahead
-said_word language f line [] t w e k h = absurd cc
-said_word language f line (u ∷ us) t w e k h =
+first_says line [] t w e k h = absurd cc
+first_says line (u ∷ us) t w e k h =
     let same : t ≡ u = cc in
     let says : lexeme line u ≡ word w = ap (lexeme line) (sym same) ∙ lexeme-Word line t k ∙ ap (λ (v : List ℕ). word v) (sym h) in
-    rw says (sym (found_said language f (rows_of w language.table) (lexemes line us)))
+    rw says refl
+
+-- what the rows of the first word find is what the line says
+pub said_word : {F : Type 0} (language : Language) (f : Said language → F) (w : List ℕ) (rest ls : List Lexeme) → Some (w, rest) ≡ read_word ls
+    → option_map f (said_of language ls) ≡ found_first language f (rows_of w language.table) rest
+said_word language f w rest (word v ∷ ls) e =
+    let mine : List ℕ × List Lexeme = (w, rest) in
+    let other : List ℕ × List Lexeme = (v, ls) in
+    let p : mine ≡ other = same_Some mine other e in
+    rw (ap (λ (q : List ℕ × List Lexeme). q.0) p, ap (λ (q : List ℕ × List Lexeme). q.1) p) (sym (found_said language f (rows_of v language.table) ls))
+said_word language f w rest _ e = absurd cc
 
 -- ---- lines of bytes
 
@@ -72,26 +85,24 @@ of_found language g f bytes ts None (Some x) a e h = absurd cc
 of_found language g f bytes ts (Some y) (Some x) a e h = (x, writes language g bytes ts x a e, cc)
 
 -- what is found in the tokens of a line is what its bytes write
-pub from_tokens : {E F : Type 0} (language : Language) → IsGrammar language → (f : Said language → F) (bytes : List ℕ) (ts : List Token)
-    (r : Result (Option F) E) → AreTokens bytes ts → IfOk r (λ found. found ≡ option_map f (said_of language (lexemes bytes ts)))
-    → IfOk r (λ found. IsFound language f bytes found)
-from_tokens language g f bytes ts (Ok found) a e = of_found language g f bytes ts found (said_of language (lexemes bytes ts)) a refl e
-from_tokens language g f bytes ts (Err e) a h = h
+pub from_tokens : {F : Type 0} (language : Language) → IsGrammar language → (f : Said language → F) (bytes : List ℕ) (ts : List Token)
+    (r : Result F Unread) → AreTokens bytes ts → IfRead r (λ found. found ≡ option_map f (said_of language (lexemes bytes ts)))
+    → IfOk (optional r) (λ found. IsFound language f bytes found)
+from_tokens language g f bytes ts (Ok found) a e = of_found language g f bytes ts (Some found) (said_of language (lexemes bytes ts)) a refl e
+from_tokens language g f bytes ts (Err unread.NotThere) a e = of_found language g f bytes ts None (said_of language (lexemes bytes ts)) a refl e
+from_tokens language g f bytes ts (Err (unread.NoMemory e)) a h = h
 
 -- so it is behind a pointer
 abbrev pub IsHeld : {F : Type 0} (language : Language) → (Said language → F) → List ℕ → Option (Box F) → Type 0
 IsHeld language f bytes held =
     MatchOption held ((x : Said language) → Writes language x bytes → ⊥) (λ b. (x : Said language) × Writes language x bytes × (b.value ≡ f x))
 
-held_found : {F : Type 0} (language : Language) (f : Said language → F) (bytes : List ℕ) (held : Option (Box F))
-    → IsFound language f bytes (option_map (λ b. b.value) held) → IsHeld language f bytes held
-held_found language f bytes None h = h
-held_found language f bytes (Some b) h = h
-
 -- and it is what is found behind a pointer
-pub held_from_tokens : {E F : Type 0} (language : Language) → IsGrammar language → (f : Said language → F) (bytes : List ℕ) (ts : List Token)
-    (r : Result (Option (Box F)) E) → AreTokens bytes ts
-    → IfOk r (λ held. option_map (λ b. b.value) held ≡ option_map f (said_of language (lexemes bytes ts))) → IfOk r (λ held. IsHeld language f bytes held)
+pub held_from_tokens : {F : Type 0} (language : Language) → IsGrammar language → (f : Said language → F) (bytes : List ℕ) (ts : List Token)
+    (r : Result (Box F) Unread) → AreTokens bytes ts
+    → IfRead r (λ held. option_map (λ b. b.value) held ≡ option_map f (said_of language (lexemes bytes ts)))
+    → IfOk (optional r) (λ held. IsHeld language f bytes held)
 held_from_tokens language g f bytes ts (Ok held) a e =
-    held_found language f bytes held (of_found language g f bytes ts (option_map (λ b. b.value) held) (said_of language (lexemes bytes ts)) a refl e)
-held_from_tokens language g f bytes ts (Err e) a h = h
+    of_found language g f bytes ts (Some held.value) (said_of language (lexemes bytes ts)) a refl e
+held_from_tokens language g f bytes ts (Err unread.NotThere) a e = of_found language g f bytes ts None (said_of language (lexemes bytes ts)) a refl e
+held_from_tokens language g f bytes ts (Err (unread.NoMemory e)) a h = h

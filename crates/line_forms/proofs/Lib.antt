@@ -9,7 +9,9 @@ mod OneLine
 mod Printable
 mod Tokens
 mod Lexer
+mod Causes
 mod Scalars
+mod Slots
 mod Soundness
 mod Separators
 mod Tags

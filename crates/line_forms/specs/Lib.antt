@@ -3,5 +3,7 @@ pub mod Findings
 pub mod Forms
 pub mod Printed
 pub mod Reader
+pub mod Reads
 pub mod Rows
+pub mod Slots
 pub mod Told

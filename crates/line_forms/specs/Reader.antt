@@ -67,6 +67,11 @@ abbrev pub read_one : (o : One) → Reader (Of o)
 read_one o [] = None
 read_one o (l ∷ ls) = option_map (λ v. (v, ls)) (one_of o l)
 
+-- the word with which tokens begin
+abbrev pub read_word : Reader (List ℕ)
+read_word (word w ∷ ls) = Some (w, ls)
+read_word _ = None
+
 -- what is there
 abbrev pub there : {A : Type 0} → A × List Lexeme → Option A × List Lexeme
 there r = (Some r.0, r.1)

@@ -1,31 +1,31 @@
 // The small readers of lists: names up to the end of a line, and arguments between parentheses.
-ghost use Rattle.std.specs.Prelude.{◌≡◌, ◌≤◌, length, List, None, Some, ℕ, IfOk, MatchOption, option_and_then, option_map};
+ghost use Rattle.std.specs.Prelude.{◌≡◌, ◌≤◌, length, List, None, Some, ℕ, MatchOption, option_and_then, option_map};
 ghost use Rattle.std.specs.List.{list_any};
 ghost use Rattle.std.specs.Str.{bytes_eq};
 ghost use Rattle.sig_words.specs.Lexemes.{lexemes};
 ghost use Rattle.line_forms.specs.Forms.{are_distinct, arguments, many, name};
 ghost use Rattle.line_forms.specs.Reader.{each_of, if_distinct, read_behind, read_listed, read_part, with_first};
+ghost use Rattle.line_forms.specs.Reads.{IfRead};
 ghost use Rattle.line_forms.specs.Told.{ahead, IsToldArguments};
 
 use crate::cursor::{name_at, name_of, symbol_at};
 use crate::names::NameList;
+use crate::unread::Unread;
 use formula_text::FormulaFault;
-use sig_base::{MOST_SOURCES, Name, NoMemory};
+use sig_base::{MOST_SOURCES, Name};
 use sig_words::Token;
 use std::alloc::Global;
 
 // The names that tokens say.
-fn names_of(alloc: Global, line: &[u8], tokens: &[Token]) -> Result<Option<NameList>, NoMemory>
-    ensures { IfOk result (λ found. found ≡ each_of name (lexemes line.now tokens.now)) }
+fn names_of(alloc: Global, line: &[u8], tokens: &[Token]) -> Result<NameList, Unread>
+    ensures { IfRead result (λ found. found ≡ each_of name (lexemes line.now tokens.now)) }
 {
     let mut names = Vec::new(alloc);
     for token in tokens {
-        match name_of(alloc, line, token)? {
-            Some(name) => names.push(name)?,
-            None => return Ok(None),
-        }
+        let name = name_of(alloc, line, token)?;
+        names.push(name)?;
     }
-    Ok(Some(NameList::of(names)))
+    Ok(NameList::of(names))
 }
 
 /// The names from a place on, up to the end of the line.
@@ -35,15 +35,13 @@ pub fn names_at(
     line: &[u8],
     tokens: &[Token],
     at: usize,
-) -> Result<Option<(NameList, usize)>, NoMemory>
+) -> Result<(NameList, usize), Unread>
     requires { at ≤ length tokens.now }
-    ensures { IfOk result (λ found. option_map (λ p. (p.0, ahead line.now tokens.now p.1)) found ≡ read_part (many name) (ahead line.now tokens.now at)) }
+    ensures { IfRead result (λ found. option_map (λ p. (p.0, ahead line.now tokens.now p.1)) found ≡ read_part (many name) (ahead line.now tokens.now at)) }
 {
     let (_, rest) = tokens.split_at(at);
-    match names_of(alloc, line, rest)? {
-        Some(names) => Ok(Some((names, tokens.len()))),
-        None => Ok(None),
-    }
+    let names = names_of(alloc, line, rest)?;
+    Ok((names, tokens.len()))
 }
 
 // The names behind the first of a list, each behind a comma, up to the closing parenthesis.
@@ -54,24 +52,20 @@ fn names_behind(
     tokens: &[Token],
     from: usize,
     first: Name,
-) -> Result<Option<(NameList, usize)>, NoMemory>
-    ensures { IfOk result (λ found. option_map (λ p. (p.0, ahead line.now tokens.now p.1)) found
+) -> Result<(NameList, usize), Unread>
+    ensures { IfRead result (λ found. option_map (λ p. (p.0, ahead line.now tokens.now p.1)) found
         ≡ option_map (with_first first) (read_behind name (ahead line.now tokens.now from))) }
 {
     let mut names = Vec::new(alloc);
     names.push(first)?;
     let mut at = from;
-    while let Some(after) = symbol_at(line, tokens, at, b",") {
-        let Some((name, next)) = name_at(alloc, line, tokens, after)? else {
-            return Ok(None);
-        };
+    while let Ok(after) = symbol_at(line, tokens, at, b",") {
+        let (name, next) = name_at(alloc, line, tokens, after)?;
         names.push(name)?;
         at = next;
     }
-    let Some(after) = symbol_at(line, tokens, at, b")") else {
-        return Ok(None);
-    };
-    Ok(Some((NameList::of(names), after)))
+    let after = symbol_at(line, tokens, at, b")")?;
+    Ok((NameList::of(names), after))
 }
 
 /// Names between parentheses from a place on, and the place after them.
@@ -81,18 +75,14 @@ pub fn listed_names_at(
     line: &[u8],
     tokens: &[Token],
     at: usize,
-) -> Result<Option<(NameList, usize)>, NoMemory>
-    ensures { IfOk result (λ found. option_map (λ p. (p.0, ahead line.now tokens.now p.1)) found ≡ read_listed name (ahead line.now tokens.now at)) }
+) -> Result<(NameList, usize), Unread>
+    ensures { IfRead result (λ found. option_map (λ p. (p.0, ahead line.now tokens.now p.1)) found ≡ read_listed name (ahead line.now tokens.now at)) }
 {
-    let Some(at) = symbol_at(line, tokens, at, b"(") else {
-        return Ok(None);
-    };
-    if let Some(after) = symbol_at(line, tokens, at, b")") {
-        return Ok(Some((NameList::of(Vec::new(alloc)), after)));
+    let at = symbol_at(line, tokens, at, b"(")?;
+    if let Ok(after) = symbol_at(line, tokens, at, b")") {
+        return Ok((NameList::of(Vec::new(alloc)), after));
     }
-    let Some((first, after)) = name_at(alloc, line, tokens, at)? else {
-        return Ok(None);
-    };
+    let (first, after) = name_at(alloc, line, tokens, at)?;
     names_behind(alloc, line, tokens, after, first)
 }
 
@@ -137,15 +127,13 @@ pub fn arguments_at(
     line: &[u8],
     tokens: &[Token],
     at: usize,
-) -> Result<Option<(ToldArguments, usize)>, NoMemory>
-    ensures { IfOk result (λ found. MatchOption found (read_part arguments (ahead line.now tokens.now at) ≡ None)
+) -> Result<(ToldArguments, usize), Unread>
+    ensures { IfRead result (λ found. MatchOption found (read_part arguments (ahead line.now tokens.now at) ≡ None)
         (λ p. (ns : List (List ℕ)) × (read_part arguments (ahead line.now tokens.now at) ≡ Some (ns, ahead line.now tokens.now p.1)) × IsToldArguments ns p.0)) }
 {
-    let Some((names, after)) = listed_names_at(alloc, line, tokens, at)? else {
-        return Ok(None);
-    };
+    let (names, after) = listed_names_at(alloc, line, tokens, at)?;
     if !are_distinct(names.as_slice()) {
-        return Ok(None);
+        return Err(Unread::NotThere);
     }
-    Ok(Some((few(names), after)))
+    Ok((few(names), after))
 }

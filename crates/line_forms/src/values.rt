@@ -4,9 +4,11 @@ ghost use Rattle.sig_base.specs.declared.scalar.Scalar as scalar;
 ghost use Rattle.sig_words.specs.Tokens.{AreTokens};
 ghost use Rattle.line_forms.specs.Forms.{listed, value};
 ghost use Rattle.line_forms.specs.Reader.{read_behind, read_part, with_first};
+ghost use Rattle.line_forms.specs.Reads.{IfRead};
 ghost use Rattle.line_forms.specs.Told.{ahead, first_long, AreToldValues, IsToldScalar};
 
 use crate::cursor::{ToldValue, symbol_at, value_at};
+use crate::unread::Unread;
 use formula_text::FormulaFault;
 use sig_base::{NoMemory, Scalar, Scalars};
 use sig_words::Token;
@@ -86,27 +88,23 @@ fn values_behind(
     tokens: &[Token],
     from: usize,
     first: ToldValue,
-) -> Result<Option<(HeldValues, usize)>, NoMemory>
+) -> Result<(HeldValues, usize), Unread>
     requires { AreTokens line.now tokens.now }
-    ensures { (v : scalar.Scalar) → IsToldScalar v first → IfOk result (λ found. MatchOption found
+    ensures { (v : scalar.Scalar) → IsToldScalar v first → IfRead result (λ found. MatchOption found
         (None ≡ option_map (with_first v) (read_behind value (ahead line.now tokens.now from)))
         (λ p. (vs : List scalar.Scalar) × (Some (vs, ahead line.now tokens.now p.1) ≡ option_map (with_first v) (read_behind value (ahead line.now tokens.now from)))
         × AreToldValues vs p.0)) }
 {
     let mut held = with_value(Ok(Held::empty(alloc)), first)?;
     let mut at = from;
-    while let Some(after) = symbol_at(line, tokens, at, b",") {
-        let Some((value, next)) = value_at(alloc, line, tokens, after)? else {
-            return Ok(None);
-        };
+    while let Ok(after) = symbol_at(line, tokens, at, b",") {
+        let (value, next) = value_at(alloc, line, tokens, after)?;
         let more = with_value(held, value)?;
         held = more;
         at = next;
     }
-    let Some(after) = symbol_at(line, tokens, at, b")") else {
-        return Ok(None);
-    };
-    Ok(Some((held, after)))
+    let after = symbol_at(line, tokens, at, b")")?;
+    Ok((held, after))
 }
 
 // Values that were read, to be shared.
@@ -133,23 +131,17 @@ pub fn values_at(
     line: &[u8],
     tokens: &[Token],
     at: usize,
-) -> Result<Option<(ToldValues, usize)>, NoMemory>
+) -> Result<(ToldValues, usize), Unread>
     requires { AreTokens line.now tokens.now }
-    ensures { IfOk result (λ found. MatchOption found (read_part (listed value) (ahead line.now tokens.now at) ≡ None)
+    ensures { IfRead result (λ found. MatchOption found (read_part (listed value) (ahead line.now tokens.now at) ≡ None)
         (λ p. (vs : List scalar.Scalar) × (read_part (listed value) (ahead line.now tokens.now at) ≡ Some (vs, ahead line.now tokens.now p.1))
         × AreToldValues vs p.0)) }
 {
-    let Some(at) = symbol_at(line, tokens, at, b"(") else {
-        return Ok(None);
-    };
-    if let Some(after) = symbol_at(line, tokens, at, b")") {
-        return Ok(Some((no_values(alloc)?, after)));
+    let at = symbol_at(line, tokens, at, b"(")?;
+    if let Ok(after) = symbol_at(line, tokens, at, b")") {
+        return Ok((no_values(alloc)?, after));
     }
-    let Some((first, after)) = value_at(alloc, line, tokens, at)? else {
-        return Ok(None);
-    };
-    let Some((held, end)) = values_behind(alloc, line, tokens, after, first)? else {
-        return Ok(None);
-    };
-    Ok(Some((shared(alloc, held)?, end)))
+    let (first, after) = value_at(alloc, line, tokens, at)?;
+    let (held, end) = values_behind(alloc, line, tokens, after, first)?;
+    Ok((shared(alloc, held)?, end))
 }

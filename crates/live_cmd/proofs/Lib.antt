@@ -1,4 +1,5 @@
 mod Totality
+mod Unread
 mod Ends
 mod FirstWords
 mod Grammars

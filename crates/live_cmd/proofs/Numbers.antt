@@ -3,7 +3,7 @@ use Rattle.std.proofs.Common.{◌≡◌, ◌⊎◌, ℕ, Bool, true, false, cond
 use Rattle.std.specs.Prelude.{◌==◌, ◌||◌, nat_lt, option_map, Err}
 use Rattle.std.specs.Option.{option_or}
 use Rattle.std.proofs.lemmas.Bool.Decides.{nat_tests}
-use Rattle.script_lines.specs.Lines.{NumberedLine}
+use Rattle.script_lines.specs.Lines.{NumberedLine, last_number}
 use Rattle.sig_untrack.specs.Stated.{Bodies}
 use Rattle.body_text.specs.declared.allowance.Allowance.{Allowance}
 use Rattle.body_text.specs.declared.fault.BodyFault.{BodyFault}
@@ -14,7 +14,7 @@ use Rattle.body_text.specs.Allowances.{effects}
 use Rattle.body_text.specs.Grammar as rows
 use Rattle.body_text.specs.Refusals.{fault_at, fault_of, first_excess, first_misplaced, judged, judged_at, many_lines, refusal_of}
 use Rattle.body_text.specs.Places.{kind_of, moved}
-use Rattle.body_text.specs.Verdicts.{Answer, IsFaulty, IsRead, Refuses, Say, Sayings, faulty, last_number, says, unended, unless_refused}
+use Rattle.body_text.specs.Verdicts.{Answer, IsFaulty, IsRead, Refuses, Say, Sayings, faulty, says, unended, unless_refused}
 use Rattle.body_text.specs.Statements.{body_of}
 use Rattle.live_cmd.specs.declared.contents.Content.{Content}
 use Rattle.live_cmd.specs.Blocks.{body_refused, effect_content, is_memory}

@@ -3,7 +3,7 @@ use Rattle.std.proofs.Common.{◌≡◌, ℕ, Bool, true, false, cond, List, [],
 use Rattle.std.specs.Prelude.{nat_lt, option_map, Err}
 use Rattle.std.specs.Option.{option_or}
 use Rattle.sig_base.specs.declared.limits.TheConstants.{MOST_TEMPLATE_LINES}
-use Rattle.script_lines.specs.Lines.{NumberedLine}
+use Rattle.script_lines.specs.Lines.{NumberedLine, last_number}
 use Rattle.tpl_syntax.specs.declared.fault.TemplateFault.{TemplateFault}
 use Rattle.tpl_syntax.specs.declared.fault.TemplateWhy.{TemplateWhy}
 use Rattle.tpl_syntax.specs.declared.fault.TemplateWhy.TheVariants as why
@@ -11,7 +11,7 @@ use Rattle.tpl_syntax.specs.Grammar.{said_line}
 use Rattle.tpl_syntax.specs.Refusals.{fault_at, first_excess, first_misplaced, judged, judged_at, many_lines, refusal_of}
 use Rattle.tpl_syntax.specs.Lines.{Plan}
 use Rattle.tpl_syntax.specs.Places.{Place, moved, top}
-use Rattle.tpl_syntax.specs.Templates.{Answer, IsFaulty, IsRead, Refuses, Say, Sayings, faulty, last_number, plan_of, says, unended, unless_refused}
+use Rattle.tpl_syntax.specs.Templates.{Answer, IsFaulty, IsRead, Refuses, Say, Sayings, faulty, plan_of, says, unended, unless_refused}
 use Rattle.live_cmd.specs.declared.contents.Content.{Content}
 use Rattle.live_cmd.specs.Blocks.{is_want, template_content, template_refused}
 use Rattle.live_cmd.specs.Views.{number_in}

@@ -1,12 +1,13 @@
 // Names as they stand in a line, and names made of them. A reader makes its names last, so that it owns none of them while it may end.
 ghost use Rattle.std.specs.Prelude.{◌≡◌, ◌∷◌, ◌<◌, ◌≤◌, [], true, codes, length, option_map, IfOk, IfSome};
+ghost use Rattle.std.specs.Result.{result_ok};
 ghost use Rattle.sig_base.specs.Words.{is_name};
 ghost use Rattle.sig_words.specs.Lexemes.{lexeme, word};
 ghost use Rattle.line_forms.specs.Forms as form;
 ghost use Rattle.line_forms.specs.Reader.{name_of, read_form, read_one, read_perhaps};
 ghost use Rattle.line_forms.specs.Told.{ahead};
 
-use line_forms::{ends_at, word_at};
+use line_forms::{NotThere, ends_at, word_at};
 use sig_base::{Name, NameFault, NoMemory, is_name};
 use sig_words::{Token, TokenKind, token_bytes};
 use std::alloc::Global;
@@ -39,33 +40,28 @@ fn name_text_of<'a>(line: &'a [u8], token: &Token) -> Option<&'a str>
 
 /// The name at a place, and the place after it.
 #[tactic(auto, unfolding(line_forms::specs::Told::ahead))]
-pub fn name_text_at<'a>(line: &'a [u8], tokens: &[Token], at: usize) -> Option<(&'a str, usize)>
-    ensures exact { option_map (λ p. (p.0.now, ahead line.now tokens.now p.1)) result ≡ read_one form.name (ahead line.now tokens.now at) }
-    ensures name { IfSome result (λ p. is_name p.0.now ≡ true) }
-    ensures within { IfSome result (λ p. (at < p.1) × (p.1 ≤ length tokens.now)) }
+pub fn name_text_at<'a>(
+    line: &'a [u8],
+    tokens: &[Token],
+    at: usize,
+) -> Result<(&'a str, usize), NotThere>
+    ensures exact { option_map (λ p. (p.0.now, ahead line.now tokens.now p.1)) (result_ok result) ≡ read_one form.name (ahead line.now tokens.now at) }
+    ensures name { IfOk result (λ p. is_name p.0.now ≡ true) }
+    ensures within { IfOk result (λ p. (at < p.1) × (p.1 ≤ length tokens.now)) }
 {
-    let Some(token) = tokens.get(at) else {
-        return None;
-    };
-    match name_text_of(line, token) {
-        Some(name) => Some((name, at + 1)),
-        None => None,
-    }
+    let token = tokens.get(at).ok_or(NotThere)?;
+    let name = name_text_of(line, token).ok_or(NotThere)?;
+    Ok((name, at + 1))
 }
 
 /// The name at the end of a line.
-pub fn name_text_last<'a>(line: &'a [u8], tokens: &[Token], at: usize) -> Option<&'a str>
-    ensures exact { option_map (λ t. (t.now, tt)) result ≡ read_form (form.part (form.one form.name) ∷ []) (ahead line.now tokens.now at) }
-    ensures name { IfSome result (λ t. is_name t.now ≡ true) }
+pub fn name_text_last<'a>(line: &'a [u8], tokens: &[Token], at: usize) -> Result<&'a str, NotThere>
+    ensures exact { option_map (λ t. (t.now, tt)) (result_ok result) ≡ read_form (form.part (form.one form.name) ∷ []) (ahead line.now tokens.now at) }
+    ensures name { IfOk result (λ t. is_name t.now ≡ true) }
 {
-    let Some((name, at)) = name_text_at(line, tokens, at) else {
-        return None;
-    };
-    if ends_at(tokens, at) {
-        Some(name)
-    } else {
-        None
-    }
+    let (name, at) = name_text_at(line, tokens, at)?;
+    ends_at(tokens, at)?;
+    Ok(name)
 }
 
 // The owner that `in` names, if the word stands at a place, and the place after them.
@@ -73,34 +69,31 @@ fn inside_text_at<'a>(
     line: &'a [u8],
     tokens: &[Token],
     at: usize,
-) -> Option<(Option<&'a str>, usize)>
-    ensures exact { option_map (λ p. (option_map (λ t. t.now) p.0, ahead line.now tokens.now p.1)) result
+) -> Result<(Option<&'a str>, usize), NotThere>
+    ensures exact { option_map (λ p. (option_map (λ t. t.now) p.0, ahead line.now tokens.now p.1)) (result_ok result)
         ≡ read_perhaps (codes "in") form.name (ahead line.now tokens.now at) }
-    ensures name { IfSome result (λ p. IfSome p.0 (λ t. is_name t.now ≡ true)) }
+    ensures name { IfOk result (λ p. IfSome p.0 (λ t. is_name t.now ≡ true)) }
 {
-    let Some(behind) = word_at(line, tokens, at, b"in") else {
-        return Some((None, at));
+    let Ok(behind) = word_at(line, tokens, at, b"in") else {
+        return Ok((None, at));
     };
-    match name_text_at(line, tokens, behind) {
-        Some((name, after)) => Some((Some(name), after)),
-        None => None,
-    }
+    let (name, after) = name_text_at(line, tokens, behind)?;
+    Ok((Some(name), after))
 }
 
 /// The owner that `in` names at the end of a line, if the word stands there.
-pub fn inside_text_last<'a>(line: &'a [u8], tokens: &[Token], at: usize) -> Option<Option<&'a str>>
-    ensures exact { option_map (λ o. (option_map (λ t. t.now) o, tt)) result
+pub fn inside_text_last<'a>(
+    line: &'a [u8],
+    tokens: &[Token],
+    at: usize,
+) -> Result<Option<&'a str>, NotThere>
+    ensures exact { option_map (λ o. (option_map (λ t. t.now) o, tt)) (result_ok result)
         ≡ read_form (form.part (form.perhaps (codes "in") form.name) ∷ []) (ahead line.now tokens.now at) }
-    ensures name { IfSome result (λ o. IfSome o (λ t. is_name t.now ≡ true)) }
+    ensures name { IfOk result (λ o. IfSome o (λ t. is_name t.now ≡ true)) }
 {
-    let Some((inside, at)) = inside_text_at(line, tokens, at) else {
-        return None;
-    };
-    if ends_at(tokens, at) {
-        Some(inside)
-    } else {
-        None
-    }
+    let (inside, at) = inside_text_at(line, tokens, at)?;
+    ends_at(tokens, at)?;
+    Ok(inside)
 }
 
 /// The name of a text that is one.

@@ -1,10 +1,12 @@
 // Reads one line of a script.
 ghost use Rattle.std.specs.Prelude.{◌≡◌, ◌∷◌, ◌≤◌, [], true, IfOk, IfSome, MatchOption, option_map, length};
+ghost use Rattle.std.specs.Result.{result_ok};
 ghost use Rattle.sig_base.specs.Words.{is_name};
 ghost use Rattle.sig_base.specs.declared.scalar.Scalar.{Scalar};
 ghost use Rattle.sig_words.specs.Tokens.{AreTokens};
 ghost use Rattle.sig_words.specs.Lexemes.{lexemes};
 ghost use Rattle.line_forms.specs.Reader.{read_form};
+ghost use Rattle.line_forms.specs.Reads.{IfRead};
 ghost use Rattle.line_forms.specs.Rows.{rows_of, said_of};
 ghost use Rattle.line_forms.specs.Told.{ahead, IsToldScalar};
 ghost use Rattle.live_cmd.specs.Grammar.{commands, last_rows, later_rows, other_rows, table, Said, Writes};
@@ -19,11 +21,12 @@ use crate::sources::{any_computed, any_rewire};
 use crate::watchers::{any_watcher, unwatch, watch};
 use crate::{Bare, Command, Line, Verb};
 use formula_text::Allow;
-use line_forms::{ToldValue, count_behind, ends_at, symbol_at, value_at};
+use line_forms::{
+    NotThere, ToldValue, Unread, count_behind, ends_at, first_word, optional, symbol_at, value_at,
+};
 use sig_base::{MOST_LINE, Name, NoMemory};
-use sig_words::{LineFault, Token, TokenKind, token_bytes, tokens};
+use sig_words::{LineFault, Token, tokens};
 use std::alloc::Global;
-use std::str;
 
 /// In the formulas of computeds there is no row, and every read is tracked.
 pub const TRACKED: Allow = Allow {
@@ -32,30 +35,20 @@ pub const TRACKED: Allow = Allow {
 };
 
 // A verb and a name.
-fn named(
-    alloc: Global,
-    line: &[u8],
-    tokens: &[Token],
-    verb: Verb,
-) -> Result<Option<Found>, NoMemory>
-    ensures { IfOk result (λ found. found ≡ found_as (rows.verb verb) (ahead line.now tokens.now 1)) }
+fn named(alloc: Global, line: &[u8], tokens: &[Token], verb: Verb) -> Result<Found, Unread>
+    ensures { IfRead result (λ found. found ≡ found_as (rows.verb verb) (ahead line.now tokens.now 1)) }
 {
-    let Some(name) = name_text_last(line, tokens, 1) else {
-        return Ok(None);
-    };
+    let name = name_text_last(line, tokens, 1)?;
     let name = made(alloc, name)?;
-    Ok(Some(alone(Command::Named { verb, name })))
+    Ok(alone(Command::Named { verb, name }))
 }
 
 // A word alone.
-fn only(line: &[u8], tokens: &[Token], bare: Bare) -> Option<Found>
-    ensures { result ≡ found_as (rows.bare bare) (ahead line.now tokens.now 1) }
+fn only(line: &[u8], tokens: &[Token], bare: Bare) -> Result<Found, Unread>
+    ensures { IfRead result (λ found. found ≡ found_as (rows.bare bare) (ahead line.now tokens.now 1)) }
 {
-    if ends_at(tokens, 1) {
-        Some(alone(Command::Bare(bare)))
-    } else {
-        None
-    }
+    ends_at(tokens, 1)?;
+    Ok(alone(Command::Bare(bare)))
 }
 
 // What may stand behind the value of a cell.
@@ -63,17 +56,13 @@ fn cell_options<'a>(
     line: &'a [u8],
     tokens: &[Token],
     at: usize,
-) -> Option<(Option<u64>, Option<&'a str>)>
-    ensures exact { option_map (λ o. (o.0, (option_map (λ t. t.now) o.1, tt))) result ≡ read_form (rows.equals_K ∷ rows.in_O ∷ []) (ahead line.now tokens.now at) }
-    ensures name { IfSome result (λ o. IfSome o.1 (λ t. is_name t.now ≡ true)) }
+) -> Result<(Option<u64>, Option<&'a str>), NotThere>
+    ensures exact { option_map (λ o. (o.0, (option_map (λ t. t.now) o.1, tt))) (result_ok result) ≡ read_form (rows.equals_K ∷ rows.in_O ∷ []) (ahead line.now tokens.now at) }
+    ensures name { IfOk result (λ o. IfSome o.1 (λ t. is_name t.now ≡ true)) }
 {
-    let Some((equals, at)) = count_behind(line, tokens, at, b"equals") else {
-        return None;
-    };
-    match inside_text_last(line, tokens, at) {
-        Some(inside) => Some((equals, inside)),
-        None => None,
-    }
+    let (equals, at) = count_behind(line, tokens, at, b"equals")?;
+    let inside = inside_text_last(line, tokens, at)?;
+    Ok((equals, inside))
 }
 
 // What is found of a cell, or what is wrong with its value.
@@ -92,24 +81,16 @@ fn cell_found(name: Name, value: ToldValue, equals: Option<u64>, inside: Option<
 }
 
 // `cell N = LIT [equals K] [in O]`
-fn cell(alloc: Global, line: &[u8], tokens: &[Token]) -> Result<Option<Found>, NoMemory>
+fn cell(alloc: Global, line: &[u8], tokens: &[Token]) -> Result<Found, Unread>
     requires { AreTokens line.now tokens.now }
-    ensures { IfOk result (λ found. found ≡ found_as rows.cell (ahead line.now tokens.now 1)) }
+    ensures { IfRead result (λ found. found ≡ found_as rows.cell (ahead line.now tokens.now 1)) }
 {
-    let Some((name, at)) = name_text_at(line, tokens, 1) else {
-        return Ok(None);
-    };
-    let Some(at) = symbol_at(line, tokens, at, b"=") else {
-        return Ok(None);
-    };
-    let Some((value, at)) = value_at(alloc, line, tokens, at)? else {
-        return Ok(None);
-    };
-    let Some((equals, inside)) = cell_options(line, tokens, at) else {
-        return Ok(None);
-    };
+    let (name, at) = name_text_at(line, tokens, 1)?;
+    let at = symbol_at(line, tokens, at, b"=")?;
+    let (value, at) = value_at(alloc, line, tokens, at)?;
+    let (equals, inside) = cell_options(line, tokens, at)?;
     let (name, inside) = made_owned(alloc, name, inside)?;
-    Ok(Some(cell_found(name, value, equals, inside)))
+    Ok(cell_found(name, value, equals, inside))
 }
 
 // What is found of another value of a cell, or what is wrong with it.
@@ -123,90 +104,67 @@ fn set_found(name: Name, value: ToldValue) -> Found
 }
 
 // `set N LIT`
-fn set(alloc: Global, line: &[u8], tokens: &[Token]) -> Result<Option<Found>, NoMemory>
+fn set(alloc: Global, line: &[u8], tokens: &[Token]) -> Result<Found, Unread>
     requires { AreTokens line.now tokens.now }
-    ensures { IfOk result (λ found. found ≡ found_as rows.set (ahead line.now tokens.now 1)) }
+    ensures { IfRead result (λ found. found ≡ found_as rows.set (ahead line.now tokens.now 1)) }
 {
-    let Some((name, at)) = name_text_at(line, tokens, 1) else {
-        return Ok(None);
-    };
-    let Some(value) = value_last(alloc, line, tokens, at)? else {
-        return Ok(None);
-    };
+    let (name, at) = name_text_at(line, tokens, 1)?;
+    let value = value_last(alloc, line, tokens, at)?;
     let name = made(alloc, name)?;
-    Ok(Some(set_found(name, value)))
+    Ok(set_found(name, value))
 }
 
 // `owner O [in P]`
-fn owner(alloc: Global, line: &[u8], tokens: &[Token]) -> Result<Option<Found>, NoMemory>
-    ensures { IfOk result (λ found. found ≡ found_as rows.owner (ahead line.now tokens.now 1)) }
+fn owner(alloc: Global, line: &[u8], tokens: &[Token]) -> Result<Found, Unread>
+    ensures { IfRead result (λ found. found ≡ found_as rows.owner (ahead line.now tokens.now 1)) }
 {
-    let Some((name, at)) = name_text_at(line, tokens, 1) else {
-        return Ok(None);
-    };
-    let Some(inside) = inside_text_last(line, tokens, at) else {
-        return Ok(None);
-    };
+    let (name, at) = name_text_at(line, tokens, 1)?;
+    let inside = inside_text_last(line, tokens, at)?;
     let (name, inside) = made_owned(alloc, name, inside)?;
-    Ok(Some(alone(Command::Owner { name, inside })))
+    Ok(alone(Command::Owner { name, inside }))
 }
 
 // `mount P T [in O]`
-fn mount(alloc: Global, line: &[u8], tokens: &[Token]) -> Result<Option<Found>, NoMemory>
-    ensures { IfOk result (λ found. found ≡ found_as rows.mount (ahead line.now tokens.now 1)) }
+fn mount(alloc: Global, line: &[u8], tokens: &[Token]) -> Result<Found, Unread>
+    ensures { IfRead result (λ found. found ≡ found_as rows.mount (ahead line.now tokens.now 1)) }
 {
-    let Some((name, at)) = name_text_at(line, tokens, 1) else {
-        return Ok(None);
-    };
-    let Some((template, at)) = name_text_at(line, tokens, at) else {
-        return Ok(None);
-    };
-    let Some(inside) = inside_text_last(line, tokens, at) else {
-        return Ok(None);
-    };
+    let (name, at) = name_text_at(line, tokens, 1)?;
+    let (template, at) = name_text_at(line, tokens, at)?;
+    let inside = inside_text_last(line, tokens, at)?;
     let template = made(alloc, template)?;
     let (name, inside) = made_owned(alloc, name, inside)?;
-    Ok(Some(alone(Command::Mount {
+    Ok(alone(Command::Mount {
         name,
         template,
         inside,
-    })))
+    }))
 }
 
 // `effect E [in O]`
-fn effect(alloc: Global, line: &[u8], tokens: &[Token]) -> Result<Option<Found>, NoMemory>
-    ensures { IfOk result (λ found. found ≡ found_as rows.effect (ahead line.now tokens.now 1)) }
+fn effect(alloc: Global, line: &[u8], tokens: &[Token]) -> Result<Found, Unread>
+    ensures { IfRead result (λ found. found ≡ found_as rows.effect (ahead line.now tokens.now 1)) }
 {
-    let Some((name, at)) = name_text_at(line, tokens, 1) else {
-        return Ok(None);
-    };
-    let Some(inside) = inside_text_last(line, tokens, at) else {
-        return Ok(None);
-    };
+    let (name, at) = name_text_at(line, tokens, 1)?;
+    let inside = inside_text_last(line, tokens, at)?;
     let (name, inside) = made_owned(alloc, name, inside)?;
-    Ok(Some(around(Line::Effect(name, inside))))
+    Ok(around(Line::Effect(name, inside)))
 }
 
 // `template T`
-fn template(alloc: Global, line: &[u8], tokens: &[Token]) -> Result<Option<Found>, NoMemory>
-    ensures { IfOk result (λ found. found ≡ found_as rows.template (ahead line.now tokens.now 1)) }
+fn template(alloc: Global, line: &[u8], tokens: &[Token]) -> Result<Found, Unread>
+    ensures { IfRead result (λ found. found ≡ found_as rows.template (ahead line.now tokens.now 1)) }
 {
-    let Some(name) = name_text_last(line, tokens, 1) else {
-        return Ok(None);
-    };
+    let name = name_text_last(line, tokens, 1)?;
     let name = made(alloc, name)?;
-    Ok(Some(around(Line::Template(name))))
+    Ok(around(Line::Template(name)))
 }
 
 // `end`
-fn close(line: &[u8], tokens: &[Token]) -> Option<Found>
-    ensures { result ≡ found_as rows.close (ahead line.now tokens.now 1) }
+fn close(line: &[u8], tokens: &[Token]) -> Result<Found, NotThere>
+    ensures { result_ok result ≡ found_as rows.close (ahead line.now tokens.now 1) }
 {
-    if ends_at(tokens, 1) {
-        Some(around(Line::End))
-    } else {
-        None
-    }
+    ends_at(tokens, 1)?;
+    Ok(around(Line::End))
 }
 
 // What the tokens behind one of the last words say.
@@ -215,9 +173,9 @@ fn behind_last_word(
     line: &[u8],
     tokens: &[Token],
     word: &str,
-) -> Result<Option<Found>, NoMemory>
+) -> Result<Found, Unread>
     requires { AreTokens line.now tokens.now }
-    ensures { IfOk result (λ found. found ≡ found_first (rows_of word.now last_rows) (ahead line.now tokens.now 1)) }
+    ensures { IfRead result (λ found. found ≡ found_first (rows_of word.now last_rows) (ahead line.now tokens.now 1)) }
 {
     match word {
         "owner" => owner(alloc, line, tokens),
@@ -227,8 +185,8 @@ fn behind_last_word(
         "mount" => mount(alloc, line, tokens),
         "effect" => effect(alloc, line, tokens),
         "template" => template(alloc, line, tokens),
-        "end" => Ok(close(line, tokens)),
-        _ => Ok(None),
+        "end" => Ok(close(line, tokens)?),
+        _ => Err(Unread::NotThere),
     }
 }
 
@@ -238,9 +196,9 @@ fn behind_later_word(
     line: &[u8],
     tokens: &[Token],
     word: &str,
-) -> Result<Option<Found>, NoMemory>
+) -> Result<Found, Unread>
     requires { AreTokens line.now tokens.now }
-    ensures { IfOk result (λ found. found ≡ found_first (rows_of word.now later_rows) (ahead line.now tokens.now 1)) }
+    ensures { IfRead result (λ found. found ≡ found_first (rows_of word.now later_rows) (ahead line.now tokens.now 1)) }
 {
     match word {
         "cell" => cell(alloc, line, tokens),
@@ -262,25 +220,20 @@ fn behind_other_word(
     line: &[u8],
     tokens: &[Token],
     word: &str,
-) -> Result<Option<Found>, NoMemory>
+) -> Result<Found, Unread>
     requires { AreTokens line.now tokens.now }
-    ensures { IfOk result (λ found. found ≡ found_first (rows_of word.now other_rows) (ahead line.now tokens.now 1)) }
+    ensures { IfRead result (λ found. found ≡ found_first (rows_of word.now other_rows) (ahead line.now tokens.now 1)) }
 {
     match Bare::of(word) {
-        Some(bare) => Ok(only(line, tokens, bare)),
+        Some(bare) => only(line, tokens, bare),
         None => behind_later_word(alloc, line, tokens, word),
     }
 }
 
 // What the tokens behind a first word say.
-fn behind_word(
-    alloc: Global,
-    line: &[u8],
-    tokens: &[Token],
-    word: &str,
-) -> Result<Option<Found>, NoMemory>
+fn behind_word(alloc: Global, line: &[u8], tokens: &[Token], word: &str) -> Result<Found, Unread>
     requires { AreTokens line.now tokens.now }
-    ensures { IfOk result (λ found. found ≡ found_first (rows_of word.now table) (ahead line.now tokens.now 1)) }
+    ensures { IfRead result (λ found. found ≡ found_first (rows_of word.now table) (ahead line.now tokens.now 1)) }
 {
     match Verb::of(word) {
         Some(verb) => named(alloc, line, tokens, verb),
@@ -288,39 +241,15 @@ fn behind_word(
     }
 }
 
-// What the tokens of a line say.
-fn spelled(alloc: Global, line: &[u8], tokens: &[Token]) -> Result<Option<Found>, NoMemory>
+// What the tokens of a line say, behind a pointer.
+fn spelled(alloc: Global, line: &[u8], tokens: &[Token]) -> Result<Box<Found>, Unread>
     requires { AreTokens line.now tokens.now }
-    ensures { IfOk result (λ found. found ≡ option_map found_of (said_of commands (lexemes line.now tokens.now))) }
+    ensures { IfRead result (λ held. option_map (λ f. f.value) held ≡ option_map found_of (said_of commands (lexemes line.now tokens.now))) }
 {
-    let Some(first) = tokens.first() else {
-        return Ok(None);
-    };
-    match first.kind {
-        TokenKind::Word => {
-            let Ok(word) = str::from_utf8(token_bytes(line, first)) else {
-                unreachable!()
-            };
-            behind_word(alloc, line, tokens, word)
-        }
-        _ => Ok(None),
-    }
-}
-
-// So it is, behind a pointer.
-fn spelled_held(
-    alloc: Global,
-    line: &[u8],
-    tokens: &[Token],
-) -> Result<Option<Box<Found>>, NoMemory>
-    requires { AreTokens line.now tokens.now }
-    ensures { IfOk result (λ held. option_map (λ f. f.value) held ≡ option_map found_of (said_of commands (lexemes line.now tokens.now))) }
-{
-    let Some(found) = spelled(alloc, line, tokens)? else {
-        return Ok(None);
-    };
+    let word = first_word(line, tokens)?;
+    let found = behind_word(alloc, line, tokens, word)?;
     let held = Box::new(alloc, found)?;
-    Ok(Some(held))
+    Ok(held)
 }
 
 /// What a line of at most `MOST_LINE` bytes says, or what is wrong with it; `None` exactly where its bytes write nothing, as where
@@ -330,7 +259,7 @@ pub fn read_line(alloc: Global, line: &[u8]) -> Result<Option<Box<Found>>, NoMem
     ensures { IfOk result (λ found. MatchOption found ((x : Said) → Writes x line.now → ⊥) (λ f. (x : Said) × Writes x line.now × (f.value ≡ found_of x))) }
 {
     match tokens(alloc, line) {
-        Ok(found) => spelled_held(alloc, line, &found),
+        Ok(found) => optional(spelled(alloc, line, &found)),
         Err(LineFault::Bad(_)) => Ok(None),
         Err(LineFault::TooLong) => unreachable!(),
         Err(LineFault::NoMemory(e)) => Err(e),

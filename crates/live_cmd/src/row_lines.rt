@@ -1,7 +1,8 @@
 // Reads the lines of lists and of the edits of their rows.
-ghost use Rattle.std.specs.Prelude.{◌≡◌, ℕ, List, IfOk};
+ghost use Rattle.std.specs.Prelude.{◌≡◌, ℕ, List};
 ghost use Rattle.sig_base.specs.declared.scalar.Scalar.{Scalar};
 ghost use Rattle.sig_words.specs.Tokens.{AreTokens};
+ghost use Rattle.line_forms.specs.Reads.{IfRead};
 ghost use Rattle.line_forms.specs.Told.{ahead, AreToldValues, IsToldKey, IsToldScalar};
 ghost use Rattle.live_cmd.specs.Grammar as rows;
 ghost use Rattle.live_cmd.specs.Views.{found_as, found_of, line_or_fault};
@@ -13,25 +14,19 @@ use crate::names::{inside_text_last, made, made_both, made_owned, name_text_at};
 use crate::{Command, RowEdit};
 use formula_text::FormulaFault;
 use line_forms::{
-    ToldKey, ToldValue, ToldValues, count_at, ends_at, key_at, listed_names_at, values_at,
+    ToldKey, ToldValue, ToldValues, Unread, count_at, ends_at, key_at, listed_names_at, values_at,
 };
-use sig_base::{Name, NoMemory};
+use sig_base::Name;
 use sig_words::Token;
 use std::alloc::Global;
 
 /// `list N (FIELD, FIELD) [in O]`
-pub fn list(alloc: Global, line: &[u8], tokens: &[Token]) -> Result<Option<Found>, NoMemory>
-    ensures { IfOk result (λ found. found ≡ found_as rows.list (ahead line.now tokens.now 1)) }
+pub fn list(alloc: Global, line: &[u8], tokens: &[Token]) -> Result<Found, Unread>
+    ensures { IfRead result (λ found. found ≡ found_as rows.list (ahead line.now tokens.now 1)) }
 {
-    let Some((name, at)) = name_text_at(line, tokens, 1) else {
-        return Ok(None);
-    };
-    let Some((fields, at)) = listed_names_at(alloc, line, tokens, at)? else {
-        return Ok(None);
-    };
-    let Some(inside) = inside_text_last(line, tokens, at) else {
-        return Ok(None);
-    };
+    let (name, at) = name_text_at(line, tokens, 1)?;
+    let (fields, at) = listed_names_at(alloc, line, tokens, at)?;
+    let inside = inside_text_last(line, tokens, at)?;
     let (name, inside) = made_owned(alloc, name, inside)?;
     let alone = are_fields(fields.as_slice());
     let command = Command::List {
@@ -40,7 +35,7 @@ pub fn list(alloc: Global, line: &[u8], tokens: &[Token]) -> Result<Option<Found
         inside,
     };
     let line = Ok(Line::Alone(command));
-    Ok(Some(Found { alone, line }))
+    Ok(Found { alone, line })
 }
 
 // What is found of an insertion, or what is wrong with its key or else with its values.
@@ -62,27 +57,17 @@ fn inserted(name: Name, place: u64, key: ToldKey, values: ToldValues) -> Found
 }
 
 /// `insert N PLACE KEY (LIT, LIT)`
-pub fn insert(alloc: Global, line: &[u8], tokens: &[Token]) -> Result<Option<Found>, NoMemory>
+pub fn insert(alloc: Global, line: &[u8], tokens: &[Token]) -> Result<Found, Unread>
     requires { AreTokens line.now tokens.now }
-    ensures { IfOk result (λ found. found ≡ found_as rows.insert_row (ahead line.now tokens.now 1)) }
+    ensures { IfRead result (λ found. found ≡ found_as rows.insert_row (ahead line.now tokens.now 1)) }
 {
-    let Some((name, at)) = name_text_at(line, tokens, 1) else {
-        return Ok(None);
-    };
-    let Some((place, at)) = count_at(line, tokens, at) else {
-        return Ok(None);
-    };
-    let Some((key, at)) = key_at(alloc, line, tokens, at)? else {
-        return Ok(None);
-    };
-    let Some((values, at)) = values_at(alloc, line, tokens, at)? else {
-        return Ok(None);
-    };
-    if !ends_at(tokens, at) {
-        return Ok(None);
-    }
+    let (name, at) = name_text_at(line, tokens, 1)?;
+    let (place, at) = count_at(line, tokens, at)?;
+    let (key, at) = key_at(alloc, line, tokens, at)?;
+    let (values, at) = values_at(alloc, line, tokens, at)?;
+    ends_at(tokens, at)?;
     let name = made(alloc, name)?;
-    Ok(Some(inserted(name, place, key, values)))
+    Ok(inserted(name, place, key, values))
 }
 
 // What is found of a removal, or what is wrong with its key.
@@ -99,21 +84,15 @@ fn removed(name: Name, key: ToldKey) -> Found
 }
 
 /// `remove N KEY`
-pub fn remove(alloc: Global, line: &[u8], tokens: &[Token]) -> Result<Option<Found>, NoMemory>
+pub fn remove(alloc: Global, line: &[u8], tokens: &[Token]) -> Result<Found, Unread>
     requires { AreTokens line.now tokens.now }
-    ensures { IfOk result (λ found. found ≡ found_as rows.remove_row (ahead line.now tokens.now 1)) }
+    ensures { IfRead result (λ found. found ≡ found_as rows.remove_row (ahead line.now tokens.now 1)) }
 {
-    let Some((name, at)) = name_text_at(line, tokens, 1) else {
-        return Ok(None);
-    };
-    let Some((key, at)) = key_at(alloc, line, tokens, at)? else {
-        return Ok(None);
-    };
-    if !ends_at(tokens, at) {
-        return Ok(None);
-    }
+    let (name, at) = name_text_at(line, tokens, 1)?;
+    let (key, at) = key_at(alloc, line, tokens, at)?;
+    ends_at(tokens, at)?;
     let name = made(alloc, name)?;
-    Ok(Some(removed(name, key)))
+    Ok(removed(name, key))
 }
 
 // What is found of a move, or what is wrong with its key.
@@ -130,24 +109,16 @@ fn moved(name: Name, key: ToldKey, place: u64) -> Found
 }
 
 /// `move N KEY PLACE`
-pub fn move_row(alloc: Global, line: &[u8], tokens: &[Token]) -> Result<Option<Found>, NoMemory>
+pub fn move_row(alloc: Global, line: &[u8], tokens: &[Token]) -> Result<Found, Unread>
     requires { AreTokens line.now tokens.now }
-    ensures { IfOk result (λ found. found ≡ found_as rows.move_row (ahead line.now tokens.now 1)) }
+    ensures { IfRead result (λ found. found ≡ found_as rows.move_row (ahead line.now tokens.now 1)) }
 {
-    let Some((name, at)) = name_text_at(line, tokens, 1) else {
-        return Ok(None);
-    };
-    let Some((key, at)) = key_at(alloc, line, tokens, at)? else {
-        return Ok(None);
-    };
-    let Some((place, at)) = count_at(line, tokens, at) else {
-        return Ok(None);
-    };
-    if !ends_at(tokens, at) {
-        return Ok(None);
-    }
+    let (name, at) = name_text_at(line, tokens, 1)?;
+    let (key, at) = key_at(alloc, line, tokens, at)?;
+    let (place, at) = count_at(line, tokens, at)?;
+    ends_at(tokens, at)?;
     let name = made(alloc, name)?;
-    Ok(Some(moved(name, key, place)))
+    Ok(moved(name, key, place))
 }
 
 // What the line of a new value gives, or what is wrong with its key or else with the value.
@@ -172,22 +143,14 @@ fn put_found(name: Name, key: ToldKey, field: Name, value: ToldValue) -> Found
 }
 
 /// `put N KEY FIELD LIT`
-pub fn put_field(alloc: Global, line: &[u8], tokens: &[Token]) -> Result<Option<Found>, NoMemory>
+pub fn put_field(alloc: Global, line: &[u8], tokens: &[Token]) -> Result<Found, Unread>
     requires { AreTokens line.now tokens.now }
-    ensures { IfOk result (λ found. found ≡ found_as rows.put_field (ahead line.now tokens.now 1)) }
+    ensures { IfRead result (λ found. found ≡ found_as rows.put_field (ahead line.now tokens.now 1)) }
 {
-    let Some((name, at)) = name_text_at(line, tokens, 1) else {
-        return Ok(None);
-    };
-    let Some((key, at)) = key_at(alloc, line, tokens, at)? else {
-        return Ok(None);
-    };
-    let Some((field, at)) = name_text_at(line, tokens, at) else {
-        return Ok(None);
-    };
-    let Some(value) = value_last(alloc, line, tokens, at)? else {
-        return Ok(None);
-    };
+    let (name, at) = name_text_at(line, tokens, 1)?;
+    let (key, at) = key_at(alloc, line, tokens, at)?;
+    let (field, at) = name_text_at(line, tokens, at)?;
+    let value = value_last(alloc, line, tokens, at)?;
     let (name, field) = made_both(alloc, name, field)?;
-    Ok(Some(put_found(name, key, field, value)))
+    Ok(put_found(name, key, field, value))
 }

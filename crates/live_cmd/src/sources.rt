@@ -1,9 +1,10 @@
 // Reads the lines of computeds.
-ghost use Rattle.std.specs.Prelude.{◌≡◌, ◌∷◌, [], ℕ, List, None, Some, IfOk, MatchOption};
+ghost use Rattle.std.specs.Prelude.{◌≡◌, ◌∷◌, [], ℕ, List, None, Some, MatchOption};
 ghost use Rattle.sig_words.specs.Tokens.{AreTokens};
 ghost use Rattle.formula_text.specs.Grammar.{Draft};
 ghost use Rattle.line_forms.specs.Forms as form;
 ghost use Rattle.line_forms.specs.Reader.{read_part};
+ghost use Rattle.line_forms.specs.Reads.{IfRead};
 ghost use Rattle.line_forms.specs.Told.{ahead, IsToldArguments, IsToldFormula};
 ghost use Rattle.live_cmd.specs.Grammar as rows;
 ghost use Rattle.live_cmd.specs.Refusals.{tracked};
@@ -14,9 +15,10 @@ use crate::names::{inside_text_last, made, made_owned, name_text_at};
 use crate::reader::TRACKED;
 use crate::{Command, SourceText};
 use line_forms::{
-    ToldArguments, ToldFormula, arguments_at, count_at, ends_at, formula_at, symbol_at, word_at,
+    ToldArguments, ToldFormula, Unread, arguments_at, count_at, ends_at, formula_at, symbol_at,
+    word_at,
 };
-use sig_base::{Name, NoMemory};
+use sig_base::Name;
 use sig_words::Token;
 use std::alloc::Global;
 
@@ -26,16 +28,14 @@ fn formula_held(
     line: &[u8],
     tokens: &[Token],
     at: usize,
-) -> Result<Option<(Box<ToldFormula>, usize)>, NoMemory>
+) -> Result<(Box<ToldFormula>, usize), Unread>
     requires { AreTokens line.now tokens.now }
-    ensures { IfOk result (λ found. MatchOption found (read_part form.formula (ahead line.now tokens.now at) ≡ None)
+    ensures { IfRead result (λ found. MatchOption found (read_part form.formula (ahead line.now tokens.now at) ≡ None)
         (λ p. (x : Draft) × (read_part form.formula (ahead line.now tokens.now at) ≡ Some (x, ahead line.now tokens.now p.1)) × IsToldFormula tracked x p.0.value)) }
 {
-    let Some((formula, to)) = formula_at(alloc, line, tokens, at, TRACKED)? else {
-        return Ok(None);
-    };
+    let (formula, to) = formula_at(alloc, line, tokens, at, TRACKED)?;
     let held = Box::new(alloc, formula)?;
-    Ok(Some((held, to)))
+    Ok((held, to))
 }
 
 // What is found of a computed of a formula, or what is wrong with the formula.
@@ -56,24 +56,16 @@ fn computed_found(name: Name, formula: Box<ToldFormula>, inside: Option<Name>) -
 }
 
 // `computed N = FORMULA [in O]`
-fn computed(alloc: Global, line: &[u8], tokens: &[Token]) -> Result<Option<Found>, NoMemory>
+fn computed(alloc: Global, line: &[u8], tokens: &[Token]) -> Result<Found, Unread>
     requires { AreTokens line.now tokens.now }
-    ensures { IfOk result (λ found. found ≡ found_as rows.computed (ahead line.now tokens.now 1)) }
+    ensures { IfRead result (λ found. found ≡ found_as rows.computed (ahead line.now tokens.now 1)) }
 {
-    let Some((name, at)) = name_text_at(line, tokens, 1) else {
-        return Ok(None);
-    };
-    let Some(at) = symbol_at(line, tokens, at, b"=") else {
-        return Ok(None);
-    };
-    let Some((formula, at)) = formula_held(alloc, line, tokens, at)? else {
-        return Ok(None);
-    };
-    let Some(inside) = inside_text_last(line, tokens, at) else {
-        return Ok(None);
-    };
+    let (name, at) = name_text_at(line, tokens, 1)?;
+    let at = symbol_at(line, tokens, at, b"=")?;
+    let (formula, at) = formula_held(alloc, line, tokens, at)?;
+    let inside = inside_text_last(line, tokens, at)?;
     let (name, inside) = made_owned(alloc, name, inside)?;
-    Ok(Some(computed_found(name, formula, inside)))
+    Ok(computed_found(name, formula, inside))
 }
 
 // What is found of a computed of a host formula, or what is wrong with the arguments.
@@ -100,40 +92,28 @@ fn computed_host_found(
 }
 
 // `computed N = host K (a, b) [in O]`
-fn computed_host(alloc: Global, line: &[u8], tokens: &[Token]) -> Result<Option<Found>, NoMemory>
-    ensures { IfOk result (λ found. found ≡ found_as rows.computed_host (ahead line.now tokens.now 1)) }
+fn computed_host(alloc: Global, line: &[u8], tokens: &[Token]) -> Result<Found, Unread>
+    ensures { IfRead result (λ found. found ≡ found_as rows.computed_host (ahead line.now tokens.now 1)) }
 {
-    let Some((name, at)) = name_text_at(line, tokens, 1) else {
-        return Ok(None);
-    };
-    let Some(at) = symbol_at(line, tokens, at, b"=") else {
-        return Ok(None);
-    };
-    let Some(at) = word_at(line, tokens, at, b"host") else {
-        return Ok(None);
-    };
-    let Some((place, at)) = count_at(line, tokens, at) else {
-        return Ok(None);
-    };
-    let Some((arguments, at)) = arguments_at(alloc, line, tokens, at)? else {
-        return Ok(None);
-    };
-    let Some(inside) = inside_text_last(line, tokens, at) else {
-        return Ok(None);
-    };
+    let (name, at) = name_text_at(line, tokens, 1)?;
+    let at = symbol_at(line, tokens, at, b"=")?;
+    let at = word_at(line, tokens, at, b"host")?;
+    let (place, at) = count_at(line, tokens, at)?;
+    let (arguments, at) = arguments_at(alloc, line, tokens, at)?;
+    let inside = inside_text_last(line, tokens, at)?;
     let (name, inside) = made_owned(alloc, name, inside)?;
-    Ok(Some(computed_host_found(name, place, arguments, inside)))
+    Ok(computed_host_found(name, place, arguments, inside))
 }
 
 /// `computed N = SOURCE [in O]`
-pub fn any_computed(alloc: Global, line: &[u8], tokens: &[Token]) -> Result<Option<Found>, NoMemory>
+pub fn any_computed(alloc: Global, line: &[u8], tokens: &[Token]) -> Result<Found, Unread>
     requires { AreTokens line.now tokens.now }
-    ensures { IfOk result (λ found. found ≡ found_first (rows.computed_host ∷ rows.computed ∷ []) (ahead line.now tokens.now 1)) }
+    ensures { IfRead result (λ found. found ≡ found_first (rows.computed_host ∷ rows.computed ∷ []) (ahead line.now tokens.now 1)) }
 {
-    if let Some(found) = computed_host(alloc, line, tokens)? {
-        return Ok(Some(found));
+    match computed_host(alloc, line, tokens) {
+        Err(Unread::NotThere) => computed(alloc, line, tokens),
+        found => found,
     }
-    computed(alloc, line, tokens)
 }
 
 // What is found of another formula of a computed, or what is wrong with it.
@@ -150,24 +130,16 @@ fn rewire_found(name: Name, formula: Box<ToldFormula>) -> Found
 }
 
 // `rewire N = FORMULA`
-fn rewire(alloc: Global, line: &[u8], tokens: &[Token]) -> Result<Option<Found>, NoMemory>
+fn rewire(alloc: Global, line: &[u8], tokens: &[Token]) -> Result<Found, Unread>
     requires { AreTokens line.now tokens.now }
-    ensures { IfOk result (λ found. found ≡ found_as rows.rewire (ahead line.now tokens.now 1)) }
+    ensures { IfRead result (λ found. found ≡ found_as rows.rewire (ahead line.now tokens.now 1)) }
 {
-    let Some((name, at)) = name_text_at(line, tokens, 1) else {
-        return Ok(None);
-    };
-    let Some(at) = symbol_at(line, tokens, at, b"=") else {
-        return Ok(None);
-    };
-    let Some((formula, at)) = formula_held(alloc, line, tokens, at)? else {
-        return Ok(None);
-    };
-    if !ends_at(tokens, at) {
-        return Ok(None);
-    }
+    let (name, at) = name_text_at(line, tokens, 1)?;
+    let at = symbol_at(line, tokens, at, b"=")?;
+    let (formula, at) = formula_held(alloc, line, tokens, at)?;
+    ends_at(tokens, at)?;
     let name = made(alloc, name)?;
-    Ok(Some(rewire_found(name, formula)))
+    Ok(rewire_found(name, formula))
 }
 
 // What is found of another host formula of a computed, or what is wrong with its arguments.
@@ -184,38 +156,26 @@ fn rewire_host_found(name: Name, place: u64, arguments: ToldArguments) -> Found
 }
 
 // `rewire N = host K (a, b)`
-fn rewire_host(alloc: Global, line: &[u8], tokens: &[Token]) -> Result<Option<Found>, NoMemory>
-    ensures { IfOk result (λ found. found ≡ found_as rows.rewire_host (ahead line.now tokens.now 1)) }
+fn rewire_host(alloc: Global, line: &[u8], tokens: &[Token]) -> Result<Found, Unread>
+    ensures { IfRead result (λ found. found ≡ found_as rows.rewire_host (ahead line.now tokens.now 1)) }
 {
-    let Some((name, at)) = name_text_at(line, tokens, 1) else {
-        return Ok(None);
-    };
-    let Some(at) = symbol_at(line, tokens, at, b"=") else {
-        return Ok(None);
-    };
-    let Some(at) = word_at(line, tokens, at, b"host") else {
-        return Ok(None);
-    };
-    let Some((place, at)) = count_at(line, tokens, at) else {
-        return Ok(None);
-    };
-    let Some((arguments, at)) = arguments_at(alloc, line, tokens, at)? else {
-        return Ok(None);
-    };
-    if !ends_at(tokens, at) {
-        return Ok(None);
-    }
+    let (name, at) = name_text_at(line, tokens, 1)?;
+    let at = symbol_at(line, tokens, at, b"=")?;
+    let at = word_at(line, tokens, at, b"host")?;
+    let (place, at) = count_at(line, tokens, at)?;
+    let (arguments, at) = arguments_at(alloc, line, tokens, at)?;
+    ends_at(tokens, at)?;
     let name = made(alloc, name)?;
-    Ok(Some(rewire_host_found(name, place, arguments)))
+    Ok(rewire_host_found(name, place, arguments))
 }
 
 /// `rewire N = SOURCE`
-pub fn any_rewire(alloc: Global, line: &[u8], tokens: &[Token]) -> Result<Option<Found>, NoMemory>
+pub fn any_rewire(alloc: Global, line: &[u8], tokens: &[Token]) -> Result<Found, Unread>
     requires { AreTokens line.now tokens.now }
-    ensures { IfOk result (λ found. found ≡ found_first (rows.rewire_host ∷ rows.rewire ∷ []) (ahead line.now tokens.now 1)) }
+    ensures { IfRead result (λ found. found ≡ found_first (rows.rewire_host ∷ rows.rewire ∷ []) (ahead line.now tokens.now 1)) }
 {
-    if let Some(found) = rewire_host(alloc, line, tokens)? {
-        return Ok(Some(found));
+    match rewire_host(alloc, line, tokens) {
+        Err(Unread::NotThere) => rewire(alloc, line, tokens),
+        found => found,
     }
-    rewire(alloc, line, tokens)
 }

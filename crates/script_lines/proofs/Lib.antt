@@ -1,3 +1,4 @@
+mod Blocks
 mod Cuts
 mod Reader
 pub mod Shared

@@ -49,6 +49,12 @@ kept ls = filter (λ l. not (is_passed l.1)) ls
 unfoldable pub kept_lines : ℕ → List ℕ → List NumberedLine
 kept_lines n script = kept (numbered n (lines script))
 
+-- the number of the last of lines; 0 where there is none
+abbrev pub last_number : List NumberedLine → ℕ
+last_number [] = 0
+last_number (l ∷ []) = l.0
+last_number (l ∷ m ∷ ls) = last_number (m ∷ ls)
+
 -- the word that stands at the front; none where another byte does
 abbrev pub front_word : List ℕ → List ℕ
 front_word [] = []

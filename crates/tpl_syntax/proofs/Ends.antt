@@ -1,12 +1,9 @@
--- The last of lines and of levels.
-use Rattle.std.proofs.Common.{◌≡◌, ◌<◌, suc, ◌-◌, Bool, true, false, List, [], ◌∷◌, length, map, get_or, reverse, refl, ap, ◌∙◌, arith}
+-- Levels, whatever end they are held from.
+use Rattle.std.proofs.Common.{◌≡◌, Bool, true, false, List, [], ◌∷◌, reverse, refl, ap, ◌∙◌}
 use Rattle.std.specs.Prelude.{◌||◌}
 use Rattle.std.specs.List.{list_any}
 use Rattle.std.proofs.lemmas.List.{reverse-append}
 use Rattle.std.proofs.lemmas.List.Folds.{list_any-append}
-use Rattle.script_lines.specs.declared.line.NumberedLine.{NumberedLine}
-use Rattle.script_lines.specs.Views.{line_of}
-use Rattle.tpl_syntax.specs.Templates.{last_number}
 
 or_turned : (a b : Bool) → (a || (b || false)) ≡ (b || a)
 or_turned true true = refl
@@ -20,11 +17,3 @@ any_reverse p [] = refl
 any_reverse p (x ∷ xs) =
     ap (list_any p) (reverse-append (x ∷ []) xs) ∙ list_any-append p (reverse xs) (x ∷ []) ∙ or_turned (list_any p (reverse xs)) (p x)
     ∙ ap (λ (b : Bool). p x || b) (any_reverse p xs)
-
--- the number of the last line
-pub last_is : (ls : List NumberedLine) (d : NumberedLine) → 0 < length ls → (get_or ls (length ls - 1) d).number ≡ last_number (map line_of ls)
-last_is [] d h = absurd (omega arith)
-last_is (l ∷ []) d h = refl
-last_is (l ∷ m ∷ ls) d h =
-    let next : length (l ∷ m ∷ ls) - 1 ≡ suc (length (m ∷ ls) - 1) = omega arith in
-    rw next (last_is (m ∷ ls) d (omega arith))

@@ -1,4 +1,3 @@
-mod Pieces
 mod Uniqueness
 mod Ends
 mod Places

@@ -4,7 +4,7 @@ use Rattle.std.specs.Prelude.{Result, Ok, Err, IfOk}
 use Rattle.std.proofs.lemmas.Bool.{cases_Bool}
 use Rattle.formula_text.specs.Slots.{Wiring, wired}
 use Rattle.line_forms.proofs.Shared as lines
-use Rattle.script_lines.specs.Lines.{NumberedLine}
+use Rattle.script_lines.specs.Lines.{NumberedLine, last_number}
 use Rattle.tpl_syntax.specs.declared.fault.TemplateFault.{TemplateFault}
 use Rattle.tpl_syntax.specs.declared.fault.TemplateWhy.TheVariants as why
 use Rattle.tpl_syntax.specs.declared.judge.ReadLine.{ReadLine}
@@ -13,7 +13,7 @@ use Rattle.tpl_syntax.specs.Grammar.{templates, Said, Writes, said_line}
 use Rattle.tpl_syntax.specs.Refusals.{fault_at, judged, refusal_of}
 use Rattle.tpl_syntax.specs.Lines.{Plan, mapped}
 use Rattle.tpl_syntax.specs.Places.{is_closed, places, top}
-use Rattle.tpl_syntax.specs.Templates.{Answer, IsRead, faulty, unended, says, answer_of, last_number, plan_of, reached, unless_refused}
+use Rattle.tpl_syntax.specs.Templates.{Answer, IsRead, faulty, unended, says, answer_of, plan_of, reached, unless_refused}
 use Rattle.tpl_syntax.specs.Views.{Whole, Unended, answer_read, judged_read, plan_wired, sound_lines, with_all}
 use Rattle.tpl_syntax.proofs.Grammars.{is_grammar}
 use Rattle.tpl_syntax.proofs.Judgements.{SaysRead, says_read, all_judged, all_kept, sound}

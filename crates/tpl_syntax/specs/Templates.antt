@@ -3,7 +3,7 @@ use Rattle.std.specs.Prelude.{◌≡◌, ℕ, true, false, List, [], ◌∷◌, 
 use Rattle.formula_text.specs.Grammar.{Draft}
 use Rattle.formula_text.specs.Refusals.{slotted, with_names}
 use Rattle.line_forms.specs.Blocks as blocks
-use Rattle.script_lines.specs.Lines.{NumberedLine}
+use Rattle.script_lines.specs.Lines.{NumberedLine, last_number}
 use Rattle.tpl_syntax.specs.declared.fault.TemplateFault.{TemplateFault}
 use Rattle.tpl_syntax.specs.declared.fault.TemplateWhy.{TemplateWhy}
 use Rattle.tpl_syntax.specs.declared.fault.TemplateWhy.TheVariants as why
@@ -59,12 +59,6 @@ unless_refused (Some f) t = Err f
 -- what lines are that say this
 abbrev pub answer_of : Sayings → Answer
 answer_of xs = unless_refused (refusal_of (judged top xs)) (plan_of (map (λ x. said_line x.1) xs))
-
--- the number of the last line
-abbrev pub last_number : List NumberedLine → ℕ
-last_number [] = 0
-last_number (l ∷ []) = l.0
-last_number (l ∷ m ∷ ls) = last_number (m ∷ ls)
 
 -- What lines are: refused at the first faulty one; at the last, where something that is begun isn't ended; else what they say.
 pub data IsRead (ls : List NumberedLine) : Answer → Type 0 where

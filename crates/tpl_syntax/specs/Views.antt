@@ -1,16 +1,14 @@
 -- What the program holds of lines that it reads.
-use Rattle.std.specs.Prelude.{◌≡◌, ℕ, Bool, true, false, ◌||◌, List, [], ◌∷◌, map, reverse, slice_get, unwrap_or}
+use Rattle.std.specs.Prelude.{◌≡◌, ℕ, Bool, true, false, ◌||◌, List, [], ◌∷◌, map, reverse}
 use Rattle.std.specs.Prelude.{Option, Some, None, option_map, option_and_then, Result, Ok, Err, IsTrue}
-use Rattle.sig_formula.specs.Trees.{Tree}
-use Rattle.sig_formula.specs.Trees as tree
 use Rattle.sig_words.specs.Lexemes.{Lexeme}
 use Rattle.sig_words.specs.Literals.{plain}
 use Rattle.formula_text.specs.Grammar.{Draft}
-use Rattle.formula_text.specs.Refusals.{slot_of, with_name}
 use Rattle.formula_text.specs.Slots.{Wiring, refusal, wired}
 use Rattle.formula_text.specs.declared.wired.Allow.{Allow}
 use Rattle.formula_text.specs.declared.wired.FormulaFault.{FormulaFault}
 use Rattle.line_forms.specs.Findings as findings
+use Rattle.line_forms.specs.Slots.{among_names, with_each}
 use Rattle.line_forms.specs.Told.{unless_faulty}
 use Rattle.script_lines.specs.Lines.{NumberedLine}
 use Rattle.tpl_syntax.specs.declared.judge.ReadLine.{ReadLine}
@@ -150,11 +148,6 @@ abbrev pub sound_lines : List ReadLine → List (Line Wiring)
 sound_lines [] = []
 sound_lines (r ∷ rs) = with_line (wired_line r.line) (sound_lines rs)
 
--- those names, and behind them the others of these
-abbrev pub with_each : List (List ℕ) → List (List ℕ) → List (List ℕ)
-with_each ns [] = ns
-with_each ns (m ∷ ms) = with_each (with_name ns m) ms
-
 -- those names, and behind them the others of a wired formula
 abbrev pub with_wired : List (List ℕ) → Option Wiring → List (List ℕ)
 with_wired ns None = ns
@@ -164,28 +157,6 @@ with_wired ns (Some w) = with_each ns w.1
 abbrev pub with_all : List (List ℕ) → List (Line Wiring) → List (List ℕ)
 with_all ns [] = ns
 with_all ns (l ∷ ls) = with_all (with_wired ns (formula_of l)) ls
-
--- the slot for which another stands
-abbrev pub slot_in : List ℕ → ℕ → ℕ
-slot_in slots n = unwrap_or (slice_get slots n) 0
-
--- the formula with these slots in place of its own
-abbrev pub reslotted : List ℕ → Tree → Tree
-reslotted slots (tree.literal s) = tree.literal s
-reslotted slots (tree.slot n) = tree.slot (slot_in slots n)
-reslotted slots (tree.negation x) = tree.negation (reslotted slots x)
-reslotted slots (tree.binary o x y) = tree.binary o (reslotted slots x) (reslotted slots y)
-reslotted slots (tree.choice w x y) = tree.choice (reslotted slots w) (reslotted slots x) (reslotted slots y)
-reslotted slots (tree.untracked x) = tree.untracked (reslotted slots x)
-reslotted slots (tree.row_field n) = tree.row_field n
-reslotted slots tree.row_key = tree.row_key
-reslotted slots (tree.count_of x) = tree.count_of (reslotted slots x)
-reslotted slots (tree.sum_of x y) = tree.sum_of (reslotted slots x) (reslotted slots y)
-reslotted slots (tree.rows_where x y) = tree.rows_where (reslotted slots x) (reslotted slots y)
-
--- a wired formula over these names
-abbrev pub among_names : List (List ℕ) → Wiring → Tree
-among_names ns w = reslotted (map (slot_of ns) w.1) w.0
 
 -- the template of wired lines
 abbrev pub plan_wired : List (Line Wiring) → Plan

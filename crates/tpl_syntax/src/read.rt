@@ -6,7 +6,7 @@ ghost use Rattle.tpl_syntax.specs.Grammar as rows;
 ghost use Rattle.tpl_syntax.specs.Grammar.{Said, Writes};
 ghost use Rattle.tpl_syntax.specs.Refusals.{allowed, refusal_of};
 ghost use Rattle.tpl_syntax.specs.Places.{fits};
-ghost use Rattle.tpl_syntax.specs.Templates.{last_number, IsRead, Refuses};
+ghost use Rattle.tpl_syntax.specs.Templates.{IsRead, Refuses};
 ghost use Rattle.tpl_syntax.specs.Views.{answer_read, found_of, judged_read, place_of, read_at, sound_lines, with_all, IsReading};
 
 use crate::builder::{sound_lines, template_of};
@@ -15,7 +15,7 @@ use crate::place::Place;
 use crate::reader::{Seen, read_line};
 use crate::{Line, Template, TemplateFault, TemplateWhy};
 use formula_text::Allow;
-use script_lines::{NumberedLine, next_piece};
+use script_lines::{NumberedLine, last_number, lines_of};
 use sig_base::{MOST_LINE, NoMemory};
 use std::alloc::Global;
 
@@ -84,17 +84,6 @@ fn read_lines(alloc: Global, lines: &[NumberedLine]) -> Result<Reading, NoMemory
     }
 }
 
-// The number of the last line.
-fn last_number(lines: &[NumberedLine]) -> u32
-    ensures { result ≡ last_number (map line_of lines.now) }
-{
-    if lines.is_empty() {
-        0
-    } else {
-        lines[lines.len() - 1].number
-    }
-}
-
 // What lines are that were read.
 fn judged(alloc: Global, lines: Vec<ReadLine>) -> Result<Result<Template, TemplateFault>, NoMemory>
     ensures { (refusal_of (map judged_read lines.items) ≡ None → length (with_all [] (sound_lines lines.items)) < 2 ^ 32)
@@ -150,22 +139,6 @@ pub fn read_numbered(alloc: Global, lines: &[NumberedLine]) -> Result<Template, 
         Ok(template) => Ok(template),
         Err(fault) => Err(fault),
     }
-}
-
-// The lines of a block that aren't passed over, numbered from 0.
-fn lines_of(alloc: Global, block: &[u8]) -> Result<Vec<NumberedLine<'_>>, NoMemory>
-    requires { length block.now < 2 ^ 32 }
-    ensures { IfOk result (λ v. map line_of v.items ≡ kept_lines 0 block.now) }
-{
-    let mut lines = Vec::new(alloc);
-    let mut at = 0;
-    let mut number = 0;
-    while let Some((piece, next, after)) = next_piece(alloc, block, at, number)? {
-        lines.extend_from_slice(&piece.lines)?;
-        at = next;
-        number = after;
-    }
-    Ok(lines)
 }
 
 /// The template of a block of lines, refused as by `read_numbered`, its lines numbered from 0. None of them but those that are passed

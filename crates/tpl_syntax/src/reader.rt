@@ -1,5 +1,6 @@
 // Reads one line of a template.
 ghost use Rattle.std.specs.Prelude.{◌≡◌, ◌≤◌, ◌∷◌, [], ℕ, List, None, Some, false, IfOk, MatchOption, option_map, length};
+ghost use Rattle.std.specs.Result.{result_ok};
 ghost use Rattle.std.specs.Str.{chars};
 ghost use Rattle.sig_words.specs.Literals.{between_quotes, plain};
 ghost use Rattle.sig_words.specs.Tokens.{AreTokens};
@@ -9,6 +10,7 @@ ghost use Rattle.formula_text.specs.Rough.{draft, HasLeaves};
 ghost use Rattle.formula_text.specs.declared.wired.Allow.{Allow};
 ghost use Rattle.line_forms.specs.Forms as forms;
 ghost use Rattle.line_forms.specs.Reader.{read_form, read_formula};
+ghost use Rattle.line_forms.specs.Reads.{IfRead};
 ghost use Rattle.line_forms.specs.Rows.{rows_of, said_of};
 ghost use Rattle.line_forms.specs.Told.{ahead};
 ghost use Rattle.tpl_syntax.specs.declared.line.Line.TheVariants as lines;
@@ -19,9 +21,11 @@ ghost use Rattle.tpl_syntax.specs.Views.{finds, found_as, found_first, found_of,
 
 use crate::{Line, Mark, Purpose};
 use formula_text::{Allow, Rough};
-use line_forms::{ToldFormula, ends_at, rough_at, tag_at, told};
+use line_forms::{
+    NotThere, ToldFormula, Unread, ends_at, first_word, optional, rough_at, tag_at, told,
+};
 use sig_base::{MOST_LINE, NoMemory};
-use sig_words::{LineFault, Token, TokenKind, token_bytes, tokens};
+use sig_words::{LineFault, Token, token_bytes, tokens};
 use std::alloc::Global;
 use std::str;
 
@@ -111,17 +115,15 @@ fn seen_at(
     tokens: &[Token],
     at: usize,
     allow: Allow,
-) -> Result<Option<(Seen, usize)>, NoMemory>
+) -> Result<(Seen, usize), Unread>
     requires { AreTokens line.now tokens.now }
-    ensures { IfOk result (λ found. MatchOption found (read_formula (ahead line.now tokens.now at) ≡ None)
+    ensures { IfRead result (λ found. MatchOption found (read_formula (ahead line.now tokens.now at) ≡ None)
         (λ p. (f : Draft) × (read_formula (ahead line.now tokens.now at) ≡ Some (f, ahead line.now tokens.now p.1)) × (p.0 ≡ seen allow f))) }
 {
-    let Some((rough, to)) = rough_at(alloc, line, tokens, at)? else {
-        return Ok(None);
-    };
+    let (rough, to) = rough_at(alloc, line, tokens, at)?;
     let bare = is_bare(line, tokens, &rough);
     let told = told(alloc, line, tokens, &rough, allow)?;
-    Ok(Some((Seen { told, bare }, to)))
+    Ok((Seen { told, bare }, to))
 }
 
 // A formula at a place, and nothing behind it.
@@ -131,18 +133,14 @@ fn seen_last(
     tokens: &[Token],
     at: usize,
     allow: Allow,
-) -> Result<Option<Seen>, NoMemory>
+) -> Result<Seen, Unread>
     requires { AreTokens line.now tokens.now }
-    ensures { IfOk result (λ found.
+    ensures { IfRead result (λ found.
         found ≡ option_map (λ a. seen allow a.0) (read_form (forms.part forms.formula ∷ []) (ahead line.now tokens.now at))) }
 {
-    let Some((seen, at)) = seen_at(alloc, line, tokens, at, allow)? else {
-        return Ok(None);
-    };
-    if !ends_at(tokens, at) {
-        return Ok(None);
-    }
-    Ok(Some(seen))
+    let (seen, at) = seen_at(alloc, line, tokens, at, allow)?;
+    ends_at(tokens, at)?;
+    Ok(seen)
 }
 
 // A word and a formula.
@@ -152,45 +150,31 @@ fn over(
     tokens: &[Token],
     allow: Allow,
     purpose: Purpose,
-) -> Result<Option<Line<Seen>>, NoMemory>
+) -> Result<Line<Seen>, Unread>
     requires { AreTokens line.now tokens.now }
-    ensures { IfOk result (λ found. found
+    ensures { IfRead result (λ found. found
         ≡ option_map (λ a. lines.Over purpose (seen allow a.0)) (read_form (forms.part forms.formula ∷ []) (ahead line.now tokens.now 1))) }
 {
-    match seen_last(alloc, line, tokens, 1, allow)? {
-        Some(seen) => Ok(Some(Line::Over(purpose, seen))),
-        None => Ok(None),
-    }
+    let seen = seen_last(alloc, line, tokens, 1, allow)?;
+    Ok(Line::Over(purpose, seen))
 }
 
 // A word alone.
-fn alone(tokens: &[Token], mark: Mark) -> Option<Line<Seen>>
-    ensures { (line : List ℕ) → result ≡ option_map (λ a. lines.Plain mark) (read_form [] (ahead line tokens.now 1)) }
+fn alone(tokens: &[Token], mark: Mark) -> Result<Line<Seen>, NotThere>
+    ensures { (line : List ℕ) → result_ok result ≡ option_map (λ a. lines.Plain mark) (read_form [] (ahead line tokens.now 1)) }
 {
-    if ends_at(tokens, 1) {
-        Some(Line::Plain(mark))
-    } else {
-        None
-    }
+    ends_at(tokens, 1)?;
+    Ok(Line::Plain(mark))
 }
 
 // `tag @NAME`
-fn tag(
-    alloc: Global,
-    line: &[u8],
-    tokens: &[Token],
-    allow: Allow,
-) -> Result<Option<Line<Seen>>, NoMemory>
+fn tag(alloc: Global, line: &[u8], tokens: &[Token], allow: Allow) -> Result<Line<Seen>, Unread>
     requires { AreTokens line.now tokens.now }
-    ensures { IfOk result (λ found. found ≡ found_as allow rows.tag (ahead line.now tokens.now 1)) }
+    ensures { IfRead result (λ found. found ≡ found_as allow rows.tag (ahead line.now tokens.now 1)) }
 {
-    let Some((name, at)) = tag_at(alloc, line, tokens, 1)? else {
-        return Ok(None);
-    };
-    if !ends_at(tokens, at) {
-        return Ok(None);
-    }
-    Ok(Some(Line::Plain(Mark::Tag(name))))
+    let (name, at) = tag_at(alloc, line, tokens, 1)?;
+    ends_at(tokens, at)?;
+    Ok(Line::Plain(Mark::Tag(name)))
 }
 
 // `attr @NAME FORMULA`
@@ -199,17 +183,13 @@ fn attribute(
     line: &[u8],
     tokens: &[Token],
     allow: Allow,
-) -> Result<Option<Line<Seen>>, NoMemory>
+) -> Result<Line<Seen>, Unread>
     requires { AreTokens line.now tokens.now }
-    ensures { IfOk result (λ found. found ≡ found_as allow rows.attr (ahead line.now tokens.now 1)) }
+    ensures { IfRead result (λ found. found ≡ found_as allow rows.attr (ahead line.now tokens.now 1)) }
 {
-    let Some((name, at)) = tag_at(alloc, line, tokens, 1)? else {
-        return Ok(None);
-    };
-    match seen_last(alloc, line, tokens, at, allow)? {
-        Some(seen) => Ok(Some(Line::Over(Purpose::Attr(name), seen))),
-        None => Ok(None),
-    }
+    let (name, at) = tag_at(alloc, line, tokens, 1)?;
+    let seen = seen_last(alloc, line, tokens, at, allow)?;
+    Ok(Line::Over(Purpose::Attr(name), seen))
 }
 
 // What the tokens behind a first word say.
@@ -219,61 +199,36 @@ fn behind_word(
     tokens: &[Token],
     word: &str,
     allow: Allow,
-) -> Result<Option<Line<Seen>>, NoMemory>
+) -> Result<Line<Seen>, Unread>
     requires { AreTokens line.now tokens.now }
-    ensures { IfOk result (λ found. found ≡ found_first allow (rows_of word.now table) (ahead line.now tokens.now 1)) }
+    ensures { IfRead result (λ found. found ≡ found_first allow (rows_of word.now table) (ahead line.now tokens.now 1)) }
 {
     match word {
         "text" => over(alloc, line, tokens, allow, Purpose::Text),
         "tag" => tag(alloc, line, tokens, allow),
         "attr" => attribute(alloc, line, tokens, allow),
         "if" => over(alloc, line, tokens, allow, Purpose::If),
-        "else" => Ok(alone(tokens, Mark::Else)),
+        "else" => Ok(alone(tokens, Mark::Else)?),
         "each" => over(alloc, line, tokens, allow, Purpose::Each),
-        "end" => Ok(alone(tokens, Mark::End)),
-        _ => Ok(None),
+        "end" => Ok(alone(tokens, Mark::End)?),
+        _ => Err(Unread::NotThere),
     }
 }
 
-// What the tokens of a line say.
+// What the tokens of a line say, behind a pointer.
 fn spelled(
     alloc: Global,
     line: &[u8],
     tokens: &[Token],
     allow: Allow,
-) -> Result<Option<Line<Seen>>, NoMemory>
+) -> Result<Box<Line<Seen>>, Unread>
     requires { AreTokens line.now tokens.now }
-    ensures { IfOk result (λ found. found ≡ option_map (found_of allow) (said_of templates (lexemes line.now tokens.now))) }
+    ensures { IfRead result (λ held. option_map (λ l. l.value) held ≡ option_map (found_of allow) (said_of templates (lexemes line.now tokens.now))) }
 {
-    let Some(first) = tokens.first() else {
-        return Ok(None);
-    };
-    match first.kind {
-        TokenKind::Word => {
-            let Ok(word) = str::from_utf8(token_bytes(line, first)) else {
-                unreachable!()
-            };
-            behind_word(alloc, line, tokens, word, allow)
-        }
-        _ => Ok(None),
-    }
-}
-
-// So it is, behind a pointer.
-fn spelled_held(
-    alloc: Global,
-    line: &[u8],
-    tokens: &[Token],
-    allow: Allow,
-) -> Result<Option<Box<Line<Seen>>>, NoMemory>
-    requires { AreTokens line.now tokens.now }
-    ensures { IfOk result (λ held. option_map (λ l. l.value) held ≡ option_map (found_of allow) (said_of templates (lexemes line.now tokens.now))) }
-{
-    let Some(found) = spelled(alloc, line, tokens, allow)? else {
-        return Ok(None);
-    };
+    let word = first_word(line, tokens)?;
+    let found = behind_word(alloc, line, tokens, word, allow)?;
     let held = Box::new(alloc, found)?;
-    Ok(Some(held))
+    Ok(held)
 }
 
 /// What a line of at most `MOST_LINE` bytes says, where this is allowed to its formula; `None` exactly where its bytes write nothing.
@@ -287,7 +242,7 @@ pub fn read_line(
         (λ l. (x : Said) × Writes x line.now × (l.value ≡ found_of allow x))) }
 {
     match tokens(alloc, line) {
-        Ok(found) => spelled_held(alloc, line, &found, allow),
+        Ok(found) => optional(spelled(alloc, line, &found, allow)),
         Err(LineFault::Bad(_)) => Ok(None),
         Err(LineFault::TooLong) => unreachable!(),
         Err(LineFault::NoMemory(e)) => Err(e),

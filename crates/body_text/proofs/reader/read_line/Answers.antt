@@ -10,7 +10,9 @@ spelled-requires c = rw c.deref.ensures.value c.in-Ok.ensures.ok
 pub returns-in-Ok : goal.returns-in-Ok
 returns-in-Ok c =
     let value = c.deref.ensures.value in
-    from_tokens bodies is_grammar (found_of c.args.allow) c.args.line.now c.in-Ok.found.items c.spelled.result c.in-Ok.ensures.ok (rw value at c.spelled.ensures)
+    rw c.optional.ensures
+    (from_tokens bodies is_grammar (found_of c.args.allow) c.args.line.now c.in-Ok.found.items c.spelled.result c.in-Ok.ensures.ok
+    (rw value at c.spelled.ensures))
 
 pub returns-in-Err-Bad : goal.returns-in-Err-Bad
 returns-in-Err-Bad c = bad_writes_none bodies c.args.line.now c.in-Err-Bad.field-0-0 (rw c.in-Err-Bad.field-0-is at c.in-Err-Bad.ensures.refused)

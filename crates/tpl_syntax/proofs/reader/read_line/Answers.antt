@@ -4,14 +4,15 @@ use Rattle.tpl_syntax.specs.Views.{found_of}
 use Rattle.tpl_syntax.proofs.Grammars.{is_grammar}
 use Rattle.tpl_syntax.proofs.reader.read_line.Goals as goal
 
-pub spelled_held-requires : goal.spelled_held-requires
-spelled_held-requires c = rw c.deref.ensures.value c.in-Ok.ensures.ok
+pub spelled-requires : goal.spelled-requires
+spelled-requires c = rw c.deref.ensures.value c.in-Ok.ensures.ok
 
 pub returns-in-Ok : goal.returns-in-Ok
 returns-in-Ok c =
     let value = c.deref.ensures.value in
-    held_from_tokens templates is_grammar (found_of c.args.allow) c.args.line.now c.in-Ok.found.items c.spelled_held.result c.in-Ok.ensures.ok
-    (rw value at c.spelled_held.ensures)
+    rw c.optional.ensures
+    (held_from_tokens templates is_grammar (found_of c.args.allow) c.args.line.now c.in-Ok.found.items c.spelled.result c.in-Ok.ensures.ok
+    (rw value at c.spelled.ensures))
 
 pub returns-in-Err-Bad : goal.returns-in-Err-Bad
 returns-in-Err-Bad c = bad_writes_none templates c.args.line.now c.in-Err-Bad.field-0-0 (rw c.in-Err-Bad.field-0-is at c.in-Err-Bad.ensures.refused)

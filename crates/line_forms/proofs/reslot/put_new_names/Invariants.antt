@@ -1,6 +1,6 @@
 use Rattle.std.proofs.Common.{◌≡◌, drop}
-use Rattle.tpl_syntax.specs.Views.{with_each}
-use Rattle.tpl_syntax.proofs.builder.put_names.Given as goal
+use Rattle.line_forms.specs.Slots.{with_each}
+use Rattle.line_forms.proofs.reslot.put_new_names.Given as goal
 
 -- with those that are left
 abbrev pub invariant-loop-name : goal.invariant-loop-name

@@ -1,7 +1,7 @@
 use Rattle.std.proofs.Common.{◌<◌, length, arith}
 use Rattle.std.proofs.lemmas.Bool.Decides.{nat_tests}
-use Rattle.body_text.proofs.Ends.{last_is}
-use Rattle.body_text.proofs.read.last_number.Goals as goal
+use Rattle.script_lines.proofs.Blocks.{last_is}
+use Rattle.script_lines.proofs.block.last_number.Goals as goal
 
 pub returns-else-is_empty : goal.returns-else-is_empty
 returns-else-is_empty c =

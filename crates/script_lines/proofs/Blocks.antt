@@ -1,12 +1,12 @@
--- The lines of a block are those of its pieces.
-use Rattle.std.proofs.Common.{◌≡◌, ℕ, List, [], ◌∷◌, ◌++◌, map, refl, sym, ap, ◌∙◌, append_assoc, inl, inr}
+-- The lines of a block are those of its pieces, and one of them is the last.
+use Rattle.std.proofs.Common.{◌≡◌, ◌<◌, ℕ, suc, ◌-◌, List, [], ◌∷◌, ◌++◌, length, map, get_or, refl, sym, ap, ◌∙◌, append_assoc, arith, inl, inr}
 use Rattle.std.specs.Prelude.{◌==◌}
 use Rattle.std.specs.List.{flat_map}
 use Rattle.std.proofs.lemmas.Bool.{cases_Bool}
 use Rattle.std.proofs.lemmas.List.{append-nil, map-append}
 use Rattle.script_lines.specs.declared.line.NumberedLine as held
 use Rattle.script_lines.specs.declared.piece.Piece as held_piece
-use Rattle.script_lines.specs.Lines.{NumberedLine, kept_lines}
+use Rattle.script_lines.specs.Lines.{NumberedLine, kept_lines, last_number}
 use Rattle.script_lines.specs.Pieces.{Piece, Place, outside, inside, begins_block, level_after, pieces, pieces_of}
 use Rattle.script_lines.specs.Views.{line_of, piece_of}
 
@@ -49,3 +49,11 @@ pub no_lines : (lines : List held.NumberedLine) (ps : List Piece) (all : List Nu
     → map line_of lines ++ lines_in ps ≡ all → map line_of lines ≡ all
 no_lines lines ps all e h =
     sym (append-nil (map line_of lines)) ∙ ap (λ (rs : List Piece). map line_of lines ++ lines_in rs) (sym e) ∙ h
+
+-- the number of the last line
+pub last_is : (ls : List held.NumberedLine) (d : held.NumberedLine) → 0 < length ls → (get_or ls (length ls - 1) d).number ≡ last_number (map line_of ls)
+last_is [] d h = absurd (omega arith)
+last_is (l ∷ []) d h = refl
+last_is (l ∷ m ∷ ls) d h =
+    let next : length (l ∷ m ∷ ls) - 1 ≡ suc (length (m ∷ ls) - 1) = omega arith in
+    rw next (last_is (m ∷ ls) d (omega arith))

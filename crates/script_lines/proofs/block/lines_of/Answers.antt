@@ -1,6 +1,6 @@
 use Rattle.std.proofs.Common.{arith}
-use Rattle.tpl_syntax.proofs.Pieces.{all_lines}
-use Rattle.tpl_syntax.proofs.read.lines_of.Goals as goal
+use Rattle.script_lines.proofs.Blocks.{all_lines}
+use Rattle.script_lines.proofs.block.lines_of.Goals as goal
 
 pub loop-lines-init : goal.loop-lines-init
 loop-lines-init c = record {

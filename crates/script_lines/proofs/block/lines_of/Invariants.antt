@@ -2,8 +2,8 @@ use Rattle.std.proofs.Common.{◌≡◌, ◌<◌, ◌≤◌, ◌+◌, ◌-◌, �
 use Rattle.script_lines.specs.Lines.{kept_lines}
 use Rattle.script_lines.specs.Pieces.{pieces_of}
 use Rattle.script_lines.specs.Views.{line_of}
-use Rattle.body_text.proofs.Pieces.{lines_in}
-use Rattle.body_text.proofs.read.lines_of.Given as goal
+use Rattle.script_lines.proofs.Blocks.{lines_in}
+use Rattle.script_lines.proofs.block.lines_of.Given as goal
 
 abbrev pub invariant-loop-lines : goal.invariant-loop-lines
 invariant-loop-lines l = record {

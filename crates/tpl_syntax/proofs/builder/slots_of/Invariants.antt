@@ -1,6 +1,0 @@
-use Rattle.std.proofs.Common.{◌≡◌, ◌<◌, ◌^◌, length, map, take}
-use Rattle.formula_text.specs.Refusals.{slot_of}
-use Rattle.tpl_syntax.proofs.builder.slots_of.Given as goal
-
-abbrev pub invariant-loop-name : goal.invariant-loop-name
-invariant-loop-name l = length l.names < 2 ^ 32 → l.slots.items ≡ map (slot_of l.names) (take l.name-index l.own)
