@@ -1,10 +1,12 @@
 -- What changes that are collected in a batch do, where the stores do their part.
-use Rattle.std.proofs.Common.{◌≡◌, ◌+◌, ◌≤◌, ℕ, Bool, true, false, cond, List, [], ◌∷◌, ◌++◌, length, map, Some, None, refl, sym, ap, subst, ◌∙◌, arith}
+use Rattle.std.proofs.Common.{◌≡◌, ◌+◌, ◌-◌, ◌≤◌, inl, inr, ℕ, Bool, true, false, cond, List, [], ◌∷◌, ◌++◌, length, map, Some, None, refl, sym, ap, subst, ◌∙◌, arith}
+use Rattle.std.specs.Map.{keys_of}
+use Rattle.std.proofs.lemmas.List.{length-append}
 use Rattle.sig_base.specs.declared.value.Value.{Value}
 use Rattle.signal_model.specs.Recipes.{Hosts}
 use Rattle.std.specs.Prelude.{IsErr, Ok, ◌↔◌}
 use Rattle.std.specs.declared.result.Result.{Result}
-use Rattle.signal_model.specs.Signals.{Signals, Cell, Stands, IsGone, IsCell, IsComputed, is_computed, is_there, standing}
+use Rattle.signal_model.specs.Signals.{Signals, Cell, Stands, IsGone, IsCell, IsComputed, is_computed, is_in, is_there, standing}
 use Rattle.signal_model.specs.Changes.{with_value}
 use Rattle.signal_model.specs.Kept.{AreKept}
 use Rattle.signal_model.specs.Memos.{Memos}
@@ -21,7 +23,7 @@ use Rattle.sig_watcher.specs.Tables.{Table, with_each}
 use Rattle.sig_watcher.specs.Notices.{told_entry}
 use Rattle.sig_computed.specs.Asked.{AreThere}
 use Rattle.sig_computed.specs.Notes.{IsIdle}
-use Rattle.sig_state.specs.Batches.{with_return, with_returns}
+use Rattle.sig_state.specs.Batches.{Collected, HasRoom, with_joining, with_return, with_returns}
 use Rattle.sig_state.specs.Equality.{is_alike_here}
 use Rattle.sig_state.specs.declared.errors.Gone.{Gone}
 use Rattle.sig_state.specs.declared.sets.SetDone.{SetDone}
@@ -118,6 +120,19 @@ pub joins_same : (slacks : List ℕ) (s : Stands) (n : ℕ) (v : Value) (b : Bat
 joins_same slacks IsGone n v b h = cc
 joins_same slacks (IsCell c) n v b h = sym (ap (λ x. joined_replaced n (cond x None (Some c.value)) b) h)
 joins_same slacks (IsComputed c) n v b h = cc
+
+-- a cell that joins takes the room of one
+pub joining_room : (n : ℕ) (s : Stands) (c : Collected) → HasRoom n c →
+    length (with_joining n s c).changed + (with_joining n s c).spare ≡ length c.changed + c.spare
+joining_room n IsGone c h = refl
+joining_room n (IsComputed d) c h = refl
+joining_room n (IsCell d) c h = go (is_in n (keys_of c.changed)) refl h
+  where
+    go : (b : Bool) → is_in n (keys_of c.changed) ≡ b → HasRoom n c →
+        length (cond b c.changed (c.changed ++ (n, d.value) ∷ [])) + cond b c.spare (c.spare - 1) ≡ length c.changed + c.spare
+    go true e room = refl
+    go false e (inl there) = let no : true ≡ false = sym there ∙ e in absurd cc
+    go false e (inr more) = let l = length-append c.changed ((n, d.value) ∷ []) in omega (arith, l, more)
 
 -- ---- a commit
 

@@ -1,11 +1,14 @@
 -- Nothing that is done changes what kind of signal stands under a number.
-use Rattle.std.proofs.Common.{◌≡◌, ℕ, Bool, true, false, ◌==◌, refl, sym, ap, subst, ◌∙◌}
+use Rattle.std.proofs.Common.{◌≡◌, ℕ, Bool, true, false, cond, [], ◌∷◌, Option, Some, None, ◌==◌, refl, sym, ap, subst, ◌∙◌}
 use Rattle.std.proofs.lemmas.Bool.{eqb-true}
+use Rattle.sig_base.specs.declared.value.Value.{Value}
 use Rattle.signal_model.specs.Signals.{Signals, Stands, IsGone, IsCell, IsComputed, is_computed, or_computed, standing}
 use Rattle.signal_model.specs.Changes.{with_recipe, with_value, without_signal}
 use Rattle.signal_laws.proofs.Shared.{SameKind, cell_left, cell_out, computed_left, computed_out, rewire_kind, set_kind}
 use Rattle.sig_nodes.specs.States.{is_cell}
-use Rattle.effect_model.specs.Worlds.{Environment}
+use Rattle.effect_model.specs.Worlds.{Environment, World}
+use Rattle.effect_model.specs.Acts.{with_quiet_value}
+use Rattle.effect_model.specs.Batches.{Batch, abort, give_back, is_other, replaced_by, with_replacing}
 use Rattle.effect_laws.proofs.Shared.{Core, IsKeptByEdits, IsKeptByActs, set_keeps_core, rewire_keeps_core, back_keeps_core, dispose_keeps_core}
 use Rattle.effect_laws.proofs.Shared.{run_keeps_core, flush_keeps_core}
 use Rattle.sig_effect.specs.Kinds.{AllKeepKinds, AreKindsOf, FlushesKeepKinds, IsKindOf}
@@ -59,6 +62,32 @@ without_kinds s n = record { each = λ x. at x (x == n) refl }
     at x true e = gone_kind (standing s x) (standing (without_signal s n) x) (ap (standing (without_signal s n)) (eqb-true x n e) ∙ gone_now s n)
     at x false e = subst (λ (t : Stands). IsKindOf (standing s x) t) (sym (left_now s n x e)) (same (standing s x))
 
+-- where a cell has another value
+value_kinds : (s : Signals) (n : ℕ) (v : Value) → AreKindsOf s (with_value s n v)
+value_kinds s n v = record { each = λ m. of_kind (standing s m) (standing (with_value s n v) m) (set_kind s n v m) }
+
+-- ---- batches
+
+-- a cell is set in one
+replacing_kinds : (n : ℕ) (v : Value) (o : Option Value) (w : World) → AreKindsOf w.signals (with_replacing n v o w).signals
+replacing_kinds n v None w = stay w.signals
+replacing_kinds n v (Some before) w = value_kinds w.signals n v
+
+-- a cell has its earlier value back
+back_kinds : (n : ℕ) (v : Value) (w : World) → AreKindsOf w.signals (give_back n v w).signals
+back_kinds n v w = at (is_other v (standing w.signals n))
+  where
+    at : (b : Bool) → AreKindsOf w.signals (cond b (with_quiet_value n v w) w).signals
+    at true = value_kinds w.signals n v
+    at false = stay w.signals
+
+-- all of one do
+abort_kinds : (b : Batch) (w : World) → AreKindsOf w.signals (abort b w).signals
+abort_kinds [] w = stay w.signals
+abort_kinds (p ∷ b) w =
+    let x : World = give_back p.0 p.1 w in
+    after w.signals x.signals (abort b x).signals (back_kinds p.0 p.1 w) (abort_kinds b x)
+
 -- ---- all that is done
 
 -- the kinds are those of these signals
@@ -67,9 +96,7 @@ HaveKinds s c = AreKindsOf s c.signals
 
 edits_stay : (s : Signals) → IsKeptByEdits (HaveKinds s)
 edits_stay s = record {
-  sets = λ n v x c e h.
-      after s c.signals (with_value c.signals n v) h
-      (record { each = λ m. of_kind (standing c.signals m) (standing (with_value c.signals n v) m) (set_kind c.signals n v m) });
+  sets = λ n v x c e h. after s c.signals (with_value c.signals n v) h (value_kinds c.signals n v);
   rewires = λ n r x c e stand free h.
       after s c.signals (with_recipe c.signals n r) h
       (record { each = λ m. of_kind (standing c.signals m) (standing (with_recipe c.signals n r) m) (rewire_kind c.signals n r m) });
@@ -87,6 +114,9 @@ all_keep_kinds = record {
   taking_back = λ env t. record { kept = λ w. back_keeps_core env (HaveKinds w.signals) (edits_stay w.signals) t w (stay w.signals) };
   disposing = λ env t. record { kept = λ w. dispose_keeps_core env (HaveKinds w.signals) (edits_stay w.signals) t w (stay w.signals) };
   running = λ env x. record { kept = λ w. run_keeps_core env (HaveKinds w.signals) (acts_stay env w.signals) x w (stay w.signals) };
+  setting_quietly = λ env n v. record { kept = λ w. replacing_kinds n v (replaced_by env.slacks (standing w.signals n) v) w };
+  committing = λ env b. record { kept = λ w. stay w.signals };
+  aborting = λ b. record { kept = abort_kinds b };
 }
 
 pub flushes_keep_kinds : FlushesKeepKinds

@@ -6,6 +6,7 @@ use Rattle.signal_model.specs.Signals.{Signals, Stands, is_computed, standing}
 use Rattle.effect_model.specs.Owners.{Thing}
 use Rattle.effect_model.specs.Worlds.{Environment, Effect, World, settle}
 use Rattle.effect_model.specs.Acts.{set_cell, rewire_signal, take_back, dispose_thing}
+use Rattle.effect_model.specs.Batches.{Batch, abort, commit, set_quietly}
 use Rattle.effect_model.specs.Runs.{run_effect, flush}
 use Rattle.sig_nodes.specs.States.{is_cell}
 
@@ -22,7 +23,7 @@ pub record AreKindsOf (before after : Signals) : Type 0 where
 pub record KeepsKinds (act : World → World) : Type 0 where
   pub kept : (w : World) → AreKindsOf w.signals (act w).signals
 
--- so it is with settling, with each change and each end, and with a run
+-- so it is with settling, with each change and each end, with a run, and with what is done in a batch and ends it
 pub record AllKeepKinds : Type 0 where
   pub settling : (env : Environment) (names : List ℕ) → KeepsKinds (settle env names)
   pub setting : (env : Environment) (n : ℕ) (v : Value) → KeepsKinds (set_cell env n v)
@@ -30,6 +31,9 @@ pub record AllKeepKinds : Type 0 where
   pub taking_back : (env : Environment) (t : Thing) → KeepsKinds (take_back env t)
   pub disposing : (env : Environment) (t : Thing) → KeepsKinds (dispose_thing env t)
   pub running : (env : Environment) (x : Effect) → KeepsKinds (run_effect env x)
+  pub setting_quietly : (env : Environment) (n : ℕ) (v : Value) → KeepsKinds (set_quietly env n v)
+  pub committing : (env : Environment) (b : Batch) → KeepsKinds (commit env b)
+  pub aborting : (b : Batch) → KeepsKinds (abort b)
 
 -- and with flushes
 abbrev pub FlushesKeepKinds : Type 0

@@ -45,6 +45,7 @@ impl World {
             OnOk result (Does hosts asked asked self.old self.new before before (set_quietly (environment hosts (map (λ r. r.slack) rules.now)) id value)) }
         ensures collects { OnOk result (batch.new.changed
             ≡ joined_by (map (λ r. r.slack) rules.now) (standing self.old.graph.state.signals id) id value batch.old.changed) }
+        ensures room { OnOk result (length batch.new.changed + batch.new.spare ≡ length batch.old.changed + batch.old.spare) }
         ensures agrees { (asked : List HostPlace) → Agrees asked self.old → OnOk result (Agrees asked self.new) }
         ensures rules { (count : ℕ) → AreRuled count self.old.graph.state.signals → OnOk result (AreRuled count self.new.graph.state.signals) }
         ensures stays { OnOk result (Stays self.old self.new) }

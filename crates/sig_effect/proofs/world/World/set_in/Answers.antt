@@ -1,12 +1,12 @@
-use Rattle.std.proofs.Common.{◌≡◌, ◌∙◌, Ok, refl, sym, ap, subst}
-use Rattle.signal_model.specs.Signals.{Signals, Stands}
+use Rattle.std.proofs.Common.{◌≡◌, ◌+◌, ◌∙◌, length, Ok, refl, sym, ap, subst}
+use Rattle.signal_model.specs.Signals.{Signals, Stands, standing}
 use Rattle.sig_nodes.specs.States.{State}
 use Rattle.sig_state.specs.declared.sets.SetDone.{SetDone}
 use Rattle.sig_state.specs.declared.sets.SetDone.TheVariants.{Accepted}
 use Rattle.sig_state.specs.Batches.{Collected, with_joining}
 use Rattle.sig_effect.specs.declared.world.World.{World}
 use Rattle.sig_effect.specs.Stores.{AreRuled}
-use Rattle.sig_effect.proofs.Committed.{accepted_over, joins_other, quiet_does, value_agrees}
+use Rattle.sig_effect.proofs.Committed.{accepted_over, joining_room, joins_other, quiet_does, value_agrees}
 use Rattle.sig_effect.proofs.Signals.{ruled_value}
 use Rattle.sig_effect.proofs.world.World.set_in.Goals as goal
 
@@ -25,6 +25,12 @@ returns-in-Ok-Accepted-clause-collects g c =
     let over = accepted_over _ _ c.args.value c.set_in.result accepted c.requires.kind e.gone e.same in
     ap (λ (b : Collected). b.changed) (e.joined accepted ∙ ap (λ (s : Stands). with_joining c.args.id s c.args.batch.now) over.stands)
     ∙ joins_other _ _ c.args.id c.args.value over.cell c.args.batch.now.changed over.stands over.off
+
+pub returns-in-Ok-Accepted-clause-room : goal.returns-in-Ok-Accepted-clause-room
+returns-in-Ok-Accepted-clause-room g c =
+    let accepted : c.set_in.result ≡ Ok Accepted = c.in-Ok-Accepted.is ∙ ap (λ (x : SetDone). Ok x) c.in-Ok-Accepted.field-0-is in
+    ap (λ (b : Collected). length b.changed + b.spare) (c.set_in.ensures.joined accepted)
+    ∙ joining_room c.args.id (standing c.args.self.now.graph.state.signals c.args.id) c.args.batch.now c.requires.room
 
 pub returns-in-Ok-Accepted-clause-agrees : goal.returns-in-Ok-Accepted-clause-agrees
 returns-in-Ok-Accepted-clause-agrees g c = λ asked a.
