@@ -4,7 +4,7 @@ use Rattle.std.specs.Option.{option_or}
 use Rattle.sig_base.specs.declared.value.Value.{Value}
 use Rattle.signal_model.specs.Recipes.{Recipe}
 use Rattle.signal_model.specs.Signals.{Stands, IsGone, IsCell, IsComputed, changed, standing}
-use Rattle.signal_model.specs.Changes.{with_value, after_change, with_recipe, after_rewiring}
+use Rattle.signal_model.specs.Changes.{with_value, after_change, with_recipe, after_rewiring, without_signal, after_disposal}
 use Rattle.signal_model.specs.Sound.{names_of}
 use Rattle.signal_model.specs.Values.{Seen}
 use Rattle.signal_model.specs.Settling.{Settled, settled}
@@ -12,9 +12,10 @@ use Rattle.signal_model.specs.Asks.{moments}
 use Rattle.effect_model.specs.Owners.{Thing, the_signal, the_owner, the_effect, the_page, the_watcher, Cleanup, sets, logs, nothing, cleanup, Undoing, cleans, ends}
 use Rattle.effect_model.specs.Owners.{teardown_of, under, emptied, taken_out, put_under, alone, disposal_of}
 use Rattle.effect_model.specs.Bodies.{Act, to_set, to_log, to_note, to_make, to_dispose, to_rewire, BodyEvaluation, BodyResult, to_do, failed_by, body_evaluation}
-use Rattle.effect_model.specs.Worlds.{Environment, Effect, Event, ran, logged, body_ran, failed, cleaned, gone, dropped_host, refused, made_child, noted}
+use Rattle.effect_model.specs.declared.how.How.TheVariants.{Set, Rewire, Gone}
+use Rattle.effect_model.specs.Worlds.{changed_signal, Environment, Effect, Event, ran, logged, body_ran, failed, cleaned, gone, dropped_host, refused, made_child, noted}
 use Rattle.effect_model.specs.Worlds.{Refused, thing_gone, dropped, World, tell, lives, settle}
-use Rattle.effect_model.specs.Acts.{notified_by, frozen_by, told_of, told_frozen, are_alike, with_new_value, set_standing, set_cell, host_of, asks_so_far, with_drop, with_use}
+use Rattle.effect_model.specs.Acts.{forget, notify, notified_by, frozen_by, told_of, told_frozen, are_alike, with_new_value, with_quiet_value, set_standing, set_cell, host_of, asks_so_far, with_drop, with_use}
 use Rattle.effect_model.specs.Acts.{host_refused, gone_refused, some_gone, rewiring_refused, rewire_standing, or_refused, rewire_signal, without_node, end_standing, end_of}
 use Rattle.effect_model.specs.Acts.{do_cleanup, undo, undo_all, take_back, dispose_live, dispose_thing}
 use Rattle.effect_model.specs.Runs.{look, looked_names, value_now, with_effect, do_act, next_child, do_acts, keep_reads, do_result, run_body, run_taken_back, run_effect}
@@ -52,13 +53,21 @@ lives_same (the_watcher n) es w = refl
 
 -- ---- acts on signals
 
-new_value_only : (n : ℕ) (v : Value) → OnlyTells (with_new_value n v)
-new_value_only n v = record {
+notify_only : (n : ℕ) → OnlyTells (notify n)
+notify_only n = record {
   same = λ es w.
-      let xs = notified_by (with_value w.signals n v) (after_change w.memos n) n w.watchers in
+      let xs = notified_by w.signals w.memos n w.watchers in
       let all = append_assoc es w.told (told_of xs ++ told_frozen (frozen_by xs)) in
-      λ i. record (with_new_value n v w) { told = all i };
+      λ i. record (notify n w) { told = all i };
 }
+
+quiet_only : (n : ℕ) (v : Value) → OnlyTells (with_quiet_value n v)
+quiet_only n v = record {
+  same = λ es w. (tell_only (changed_signal n Set)).same es (record w { signals = with_value w.signals n v; memos = after_change w.memos n });
+}
+
+new_value_only : (n : ℕ) (v : Value) → OnlyTells (with_new_value n v)
+new_value_only n v = only_then (with_quiet_value n v) (notify n) (quiet_only n v) (notify_only n)
 
 set_only : (env : Environment) (n : ℕ) (v : Value) → OnlyTells (set_cell env n v)
 set_only env n v = record { same = λ es w. go (standing w.signals n) es w }
@@ -107,7 +116,9 @@ rewire_only n r = record {
     go (IsCell c) es w = refl
     go (IsComputed c) es w =
         let v : World = record w { signals = with_recipe w.signals n r; memos = after_rewiring w.memos n } in
-        (only_then (with_use (host_of r.expression)) (with_drop (host_of c.recipe.expression)) (use_only (host_of r.expression))
+        (only_then (λ x. with_use (host_of r.expression) (tell (changed_signal n Rewire) x)) (with_drop (host_of c.recipe.expression))
+        (only_then (tell (changed_signal n Rewire)) (with_use (host_of r.expression)) (tell_only (changed_signal n Rewire))
+        (use_only (host_of r.expression)))
         (drop_only (host_of c.recipe.expression))).same es v
 
 -- ---- ends
@@ -115,10 +126,17 @@ rewire_only n r = record {
 pub end_only : (t : Thing) → OnlyTells (end_of t)
 end_only (the_signal n) = record { same = λ es w. go (standing w.signals n) es w }
   where
+    left : OnlyTells (without_node n)
+    left = record {
+      same = λ es w.
+          (tell_only (changed_signal n Gone)).same es
+          (record w { signals = without_signal w.signals n; memos = after_disposal w.memos n; watchers = map (forget n) w.watchers });
+    }
+
     go : (s : Stands) (es : List Event) (w : World) → end_standing s n (behind es w) ≡ behind es (end_standing s n w)
     go IsGone es w = refl
-    go (IsCell c) es w = refl
-    go (IsComputed c) es w = ap (without_node n) ((drop_only (host_of c.recipe.expression)).same es w)
+    go (IsCell c) es w = left.same es w
+    go (IsComputed c) es w = (only_then (with_drop (host_of c.recipe.expression)) (without_node n) (drop_only (host_of c.recipe.expression)) left).same es w
 end_only (the_owner n) = record { same = λ es w. refl }
 end_only (the_effect n) = record { same = λ es w. refl }
 end_only (the_page n) = record { same = λ es w. refl }

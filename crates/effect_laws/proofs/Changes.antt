@@ -17,23 +17,26 @@ use Rattle.effect_model.specs.Owners.{Thing, the_signal, the_effect, sets, logs,
 use Rattle.effect_model.specs.Owners.{disposal_of}
 use Rattle.effect_model.specs.Bodies.{Act, to_set, to_log, to_note, to_make, to_dispose, to_rewire, BodyEvaluation, BodyResult, to_do, failed_by}
 use Rattle.effect_model.specs.Bodies.{body_evaluation}
-use Rattle.effect_model.specs.Worlds.{Counts, Environment, HostState, used, dropped, Watcher, Effect, Event, ran, logged, cleaned, gone, failed, dropped_host}
+use Rattle.effect_model.specs.declared.how.How.TheVariants.{Set, Rewire, Gone}
+use Rattle.effect_model.specs.Worlds.{Counts, Environment, HostState, used, dropped, Watcher, Effect, Event, ran, changed_signal, logged, cleaned, gone}
+use Rattle.effect_model.specs.Worlds.{failed, dropped_host}
 use Rattle.effect_model.specs.Worlds.{thing_gone, host_taken, still_due, refused, World, tell, tell_all, lives, asked_by, settle}
-use Rattle.effect_model.specs.Acts.{notified_by, frozen_by, told_of, told_frozen, notify, are_alike, with_new_value, set_standing, set_cell, host_of}
+use Rattle.effect_model.specs.Acts.{notified_by, frozen_by, told_of, told_frozen, notify, are_alike, with_new_value, with_quiet_value, set_standing, set_cell, host_of, forget}
 use Rattle.effect_model.specs.Acts.{asks_so_far, with_drop, with_use, is_free, host_refused, gone_refused, some_gone, rewiring_refused}
-use Rattle.effect_model.specs.Acts.{rewire_standing, rewire_signal, end_standing, end_of, undo, undo_all, take_back, dispose_live, dispose_thing}
+use Rattle.effect_model.specs.Acts.{rewire_standing, rewire_signal, without_node, end_standing, end_of, undo, undo_all, take_back, dispose_live, dispose_thing}
 use Rattle.effect_model.specs.Runs.{do_act, keep_reads, do_result, run_effect, turn, flush}
 use Rattle.effect_model.specs.Commands.{Command, cell, computed, owner, effect, page, watcher, watch, unwatch, set, rewire, ask, dispose, flush_all}
 use Rattle.effect_model.specs.Commands.{inside_refused, with_new_computed, told_if, command_refused, done_by, after_command, after_commands}
 use Rattle.effect_laws.specs.Counts.{others}
-use Rattle.effect_laws.specs.KeptWorlds.{runs_told}
+use Rattle.effect_laws.specs.KeptWorlds.{runs_told, noted_told}
 use Rattle.effect_laws.specs.HostUse.{Drop, drops_told}
 use Rattle.effect_laws.proofs.Names.{neither, either_way}
 use Rattle.effect_laws.proofs.Turns.{IsKeptByRuns, turn_keeps, flush_keeps, acts_keep}
 
 -- ---- the part of a world that changes of signals change
 
--- signals, memos, host formulas, how many of each kind were made, effects aside, and the runs and drops that were told
+-- Signals, memos, host formulas, how many of each kind were made, effects aside, the runs and drops that were told, and the runs with the
+-- changes of signals.
 pub record Core : Type 0 where
   pub signals : Signals
   pub memos : Memos
@@ -41,6 +44,7 @@ pub record Core : Type 0 where
   pub made : Counts
   pub runs : List Moment
   pub drops : List Drop
+  pub noted : List Event
 
 -- that of a world
 abbrev pub core_of : World → Core
@@ -51,6 +55,7 @@ core_of w = record {
   made = others w;
   runs = runs_told w.told;
   drops = drops_told w.told;
+  noted = noted_told w.told;
 }
 
 -- a host formula is used, or dropped
@@ -72,11 +77,15 @@ abbrev pub after_settling : Environment → List ℕ → Core → Core
 after_settling env names c =
     let s = settled env.hosts c.signals c.memos names in
     let runs = moments c.signals s.runs in
-    record c { memos = s.memos; host_states = asked_by runs 0 c.host_states; runs = c.runs ++ runs }
+    record c { memos = s.memos; host_states = asked_by runs 0 c.host_states; runs = c.runs ++ runs; noted = c.noted ++ map ran runs }
 
 -- a cell is set
 abbrev pub after_set : ℕ → Value → Core → Core
-after_set n v c = record c { signals = with_value c.signals n v; memos = after_change c.memos n }
+after_set n v c = record c {
+  signals = with_value c.signals n v;
+  memos = after_change c.memos n;
+  noted = c.noted ++ changed_signal n Set ∷ [];
+}
 
 -- a computed that had a host formula, or none, gets a recipe
 abbrev pub after_rewire : ℕ → Recipe → Option ℕ → Core → Core
@@ -85,6 +94,7 @@ after_rewire n r old c = record c {
   memos = after_rewiring c.memos n;
   host_states = dropped_states old (used_states (host_of r.expression) c.host_states);
   drops = drops_more old (used_states (host_of r.expression) c.host_states) c.drops;
+  noted = c.noted ++ changed_signal n Rewire ∷ [];
 }
 
 -- a signal that had a host formula, or none, ends
@@ -94,6 +104,7 @@ after_end n old c = record c {
   memos = after_disposal c.memos n;
   host_states = dropped_states old c.host_states;
   drops = drops_more old c.host_states c.drops;
+  noted = c.noted ++ changed_signal n Gone ∷ [];
 }
 
 -- a cell is made, and a computed
@@ -161,21 +172,39 @@ drops_append [] fs = refl
 drops_append (dropped_host place asks ∷ es) fs = ap (λ ds. record { place = place; asks = asks } ∷ ds) (drops_append es fs)
 drops_append (_ ∷ es) fs = drops_append es fs
 
--- more that was told tells of these runs and drops too
-told_more : (P : Core → Type 0) (w : World) (es : List Event) (ms : List Moment) (ds : List Drop) → runs_told es ≡ ms → drops_told es ≡ ds →
-    P (record (core_of w) { runs = runs_told w.told ++ ms; drops = drops_told w.told ++ ds }) → P (core_of (tell_all es w))
-told_more P w es ms ds h k p =
-    subst (λ rs. P (record (core_of w) { runs = rs; drops = drops_told (w.told ++ es) }))
-    (sym (runs_append w.told es ∙ ap (λ rs. runs_told w.told ++ rs) h))
-    (subst (λ xs. P (record (core_of w) { runs = runs_told w.told ++ ms; drops = xs }))
-    (sym (drops_append w.told es ∙ ap (λ xs. drops_told w.told ++ xs) k)) p)
+noted_append : (es fs : List Event) → noted_told (es ++ fs) ≡ noted_told es ++ noted_told fs
+noted_append [] fs = refl
+noted_append (ran m ∷ es) fs = ap (λ ns. ran m ∷ ns) (noted_append es fs)
+noted_append (changed_signal n how ∷ es) fs = ap (λ ns. changed_signal n how ∷ ns) (noted_append es fs)
+noted_append (_ ∷ es) fs = noted_append es fs
 
--- what tells of neither
-tells_neither : (P : Core → Type 0) (w : World) (es : List Event) → runs_told es ≡ [] → drops_told es ≡ [] → P (core_of w) → P (core_of (tell_all es w))
-tells_neither P w es h k p =
-    told_more P w es [] [] h k
-    (subst (λ rs. P (record (core_of w) { runs = rs; drops = drops_told w.told ++ [] })) (sym (append-nil (runs_told w.told)))
-    (subst (λ ds. P (record (core_of w) { drops = ds })) (sym (append-nil (drops_told w.told))) p))
+-- more that was told tells of these runs and drops too, and notes this
+told_more : (P : Core → Type 0) (w : World) (es : List Event) (ms : List Moment) (ds : List Drop) (ns : List Event) → runs_told es ≡ ms →
+    drops_told es ≡ ds → noted_told es ≡ ns →
+    P (record (core_of w) { runs = runs_told w.told ++ ms; drops = drops_told w.told ++ ds; noted = noted_told w.told ++ ns }) →
+    P (core_of (tell_all es w))
+told_more P w es ms ds ns h k l p =
+    subst (λ rs. P (record (core_of w) { runs = rs; drops = drops_told (w.told ++ es); noted = noted_told (w.told ++ es) }))
+    (sym (runs_append w.told es ∙ ap (λ rs. runs_told w.told ++ rs) h))
+    (subst (λ xs. P (record (core_of w) { runs = runs_told w.told ++ ms; drops = xs; noted = noted_told (w.told ++ es) }))
+    (sym (drops_append w.told es ∙ ap (λ xs. drops_told w.told ++ xs) k))
+    (subst (λ xs. P (record (core_of w) { runs = runs_told w.told ++ ms; drops = drops_told w.told ++ ds; noted = xs }))
+    (sym (noted_append w.told es ∙ ap (λ xs. noted_told w.told ++ xs) l)) p))
+
+-- what tells of neither, and notes this
+told_noted : (P : Core → Type 0) (w : World) (es ns : List Event) → runs_told es ≡ [] → drops_told es ≡ [] → noted_told es ≡ ns →
+    P (record (core_of w) { noted = noted_told w.told ++ ns }) → P (core_of (tell_all es w))
+told_noted P w es ns h k l p =
+    told_more P w es [] [] ns h k l
+    (subst (λ rs. P (record (core_of w) { runs = rs; drops = drops_told w.told ++ []; noted = noted_told w.told ++ ns }))
+    (sym (append-nil (runs_told w.told)))
+    (subst (λ ds. P (record (core_of w) { drops = ds; noted = noted_told w.told ++ ns })) (sym (append-nil (drops_told w.told))) p))
+
+-- what tells of none of these
+tells_none : (P : Core → Type 0) (w : World) (es : List Event) → runs_told es ≡ [] → drops_told es ≡ [] → noted_told es ≡ [] → P (core_of w) →
+    P (core_of (tell_all es w))
+tells_none P w es h k l p =
+    told_noted P w es [] h k l (subst (λ ns. P (record (core_of w) { noted = ns })) (sym (append-nil (noted_told w.told))) p)
 
 notified_runs : (xs : List Watcher) (ns : List ℕ) → runs_told (told_of xs ++ told_frozen ns) ≡ []
 notified_runs [] [] = refl
@@ -187,6 +216,11 @@ notified_drops [] [] = refl
 notified_drops [] (n ∷ ns) = refl
 notified_drops (x ∷ xs) ns = notified_drops xs ns
 
+notified_noted : (xs : List Watcher) (ns : List ℕ) → noted_told (told_of xs ++ told_frozen ns) ≡ []
+notified_noted [] [] = refl
+notified_noted [] (n ∷ ns) = refl
+notified_noted (x ∷ xs) ns = notified_noted xs ns
+
 settled_runs : (ms : List Moment) → runs_told (map ran ms) ≡ ms
 settled_runs [] = refl
 settled_runs (m ∷ ms) = ap (λ rs. m ∷ rs) (settled_runs ms)
@@ -195,6 +229,10 @@ settled_drops : (ms : List Moment) → drops_told (map ran ms) ≡ []
 settled_drops [] = refl
 settled_drops (m ∷ ms) = settled_drops ms
 
+settled_noted : (ms : List Moment) → noted_told (map ran ms) ≡ map ran ms
+settled_noted [] = refl
+settled_noted (m ∷ ms) = ap (λ ns. ran m ∷ ns) (settled_noted ms)
+
 -- ---- changes of a world
 
 pub settle_keeps_core : (env : Environment) (P : Core → Type 0) → IsKeptByActs env P → (names : List ℕ) (w : World) → P (core_of w) →
@@ -202,25 +240,28 @@ pub settle_keeps_core : (env : Environment) (P : Core → Type 0) → IsKeptByAc
 settle_keeps_core env P k names w p =
     let s : Settled = settled env.hosts w.signals w.memos names in
     let runs : List Moment = moments w.signals s.runs in
-    told_more P (record w { memos = s.memos; host_states = asked_by runs 0 w.host_states }) (map ran runs) runs [] (settled_runs runs)
-    (settled_drops runs)
+    told_more P (record w { memos = s.memos; host_states = asked_by runs 0 w.host_states }) (map ran runs) runs [] (map ran runs)
+    (settled_runs runs) (settled_drops runs) (settled_noted runs)
     (subst (λ ds. P (record (after_settling env names (core_of w)) { drops = ds })) (sym (append-nil (drops_told w.told)))
     (k.settles names (core_of w) p))
 
 notify_keeps : (P : Core → Type 0) (n : ℕ) (w : World) → P (core_of w) → P (core_of (notify n w))
 notify_keeps P n w p =
     let xs : List Watcher = notified_by w.signals w.memos n w.watchers in
-    tells_neither P w (told_of xs ++ told_frozen (frozen_by xs)) (notified_runs xs (frozen_by xs)) (notified_drops xs (frozen_by xs)) p
+    tells_none P w (told_of xs ++ told_frozen (frozen_by xs)) (notified_runs xs (frozen_by xs)) (notified_drops xs (frozen_by xs))
+    (notified_noted xs (frozen_by xs)) p
 
 set_case : (env : Environment) (P : Core → Type 0) → IsKeptByEdits P → (n : ℕ) (v : Value) (s : Stands) (w : World) → standing w.signals n ≡ s →
     P (core_of w) → P (core_of (set_standing s env n v w))
-set_case env P k n v IsGone w e p = tells_neither P w (refused (thing_gone (the_signal n)) ∷ []) refl refl p
+set_case env P k n v IsGone w e p = tells_none P w (refused (thing_gone (the_signal n)) ∷ []) refl refl refl p
 set_case env P k n v (IsCell x) w e p = go (are_alike env.slacks x.rule x.value v)
   where
     go : (b : Bool) → P (core_of (cond b w (with_new_value n v w)))
     go true = p
     go false =
-        notify_keeps P n (record w { signals = with_value w.signals n v; memos = after_change w.memos n }) (k.sets n v x (core_of w) e p)
+        let w' : World = record w { signals = with_value w.signals n v; memos = after_change w.memos n } in
+        let one : List Event = changed_signal n Set ∷ [] in
+        notify_keeps P n (with_quiet_value n v w) (told_noted P w' one one refl refl refl (k.sets n v x (core_of w) e p))
 set_case env P k n v (IsComputed x) w e p = p
 
 drop_keeps : (P : Core → Type 0) (old : Option ℕ) (w : World) →
@@ -231,9 +272,11 @@ drop_keeps P (Some place) w p =
     let asks : ℕ = asks_so_far (slice_get w.host_states place) in
     let hs : List HostState = put_at w.host_states place (dropped asks) in
     let d : Drop = record { place = place; asks = asks } in
-    told_more P (record w { host_states = hs }) (dropped_host place asks ∷ []) [] (d ∷ []) refl refl
-    (subst (λ rs. P (record (core_of w) { host_states = hs; runs = rs; drops = drops_told w.told ++ d ∷ [] }))
-    (sym (append-nil (runs_told w.told))) p)
+    told_more P (record w { host_states = hs }) (dropped_host place asks ∷ []) [] (d ∷ []) [] refl refl refl
+    (subst (λ rs. P (record (core_of w) { host_states = hs; runs = rs; drops = drops_told w.told ++ d ∷ []; noted = noted_told w.told ++ [] }))
+    (sym (append-nil (runs_told w.told)))
+    (subst (λ ns. P (record (core_of w) { host_states = hs; drops = drops_told w.told ++ d ∷ []; noted = ns }))
+    (sym (append-nil (noted_told w.told))) p))
 
 use_keeps : (P : Core → Type 0) (new : Option ℕ) (w : World) → P (record (core_of w) { host_states = used_states new w.host_states }) →
     P (core_of (with_use new w))
@@ -278,9 +321,12 @@ rewire_case P k n r (IsCell x) w e a f p = p
 rewire_case P k n r (IsComputed x) w e a f p =
     let old : Option ℕ = host_of x.recipe.expression in
     let w' : World = record w { signals = with_recipe w.signals n r; memos = after_rewiring w.memos n } in
-    drop_keeps P old (with_use (host_of r.expression) w')
-    (use_keeps (λ c. P (record c { host_states = dropped_states old c.host_states; drops = drops_more old c.host_states c.drops }))
-    (host_of r.expression) w' (k.rewires n r x (core_of w) e a f p))
+    let ev : List Event = changed_signal n Rewire ∷ [] in
+    let Q : Core → Type 0 = λ c. P (record c { host_states = dropped_states old c.host_states; drops = drops_more old c.host_states c.drops }) in
+    drop_keeps P old (with_use (host_of r.expression) (tell (changed_signal n Rewire) w'))
+    (use_keeps Q (host_of r.expression) (tell (changed_signal n Rewire) w')
+    (told_noted (λ c. Q (record c { host_states = used_states (host_of r.expression) c.host_states })) w' ev ev refl refl refl
+    (k.rewires n r x (core_of w) e a f p)))
 
 pub rewire_keeps_core : (P : Core → Type 0) → IsKeptByEdits P → (n : ℕ) (r : Recipe) (w : World) → P (core_of w) →
     P (core_of (rewire_signal n r w))
@@ -290,7 +336,7 @@ rewire_keeps_core P k n r w p =
     neither (some_gone r.slots w) (host_refused (host_of r.expression) w)
     (neither (gone_refused (the_signal n) w) (option_or (some_gone r.slots w) (host_refused (host_of r.expression) w)) h).1 in
     rewire_case P k n r (standing w.signals n) w refl (all_stand r.slots w fine.0) (free_host (host_of r.expression) w fine.1) p)
-    (λ why. tells_neither P w (refused why ∷ []) refl refl p)
+    (λ why. tells_none P w (refused why ∷ []) refl refl refl p)
 
 pub set_keeps_core : (env : Environment) (P : Core → Type 0) → IsKeptByEdits P → (n : ℕ) (v : Value) (w : World) → P (core_of w) →
     P (core_of (set_cell env n v w))
@@ -301,20 +347,26 @@ set_keeps_core env P k n v w p = set_case env P k n v (standing w.signals n) w r
 end_keeps : (P : Core → Type 0) → IsKeptByEdits P → (t : Thing) (w : World) → P (core_of w) → P (core_of (end_of t w))
 end_keeps P k (the_signal n) w p = go (standing w.signals n) refl
   where
+    left : (v : World) → P (after_end n None (core_of v)) → P (core_of (without_node n v))
+    left v q =
+        let one : List Event = changed_signal n Gone ∷ [] in
+        told_noted P (record v { signals = without_signal v.signals n; memos = after_disposal v.memos n; watchers = map (forget n) v.watchers }) one one
+        refl refl refl q
+
     go : (s : Stands) → standing w.signals n ≡ s → P (core_of (end_standing s n w))
     go IsGone e = p
-    go (IsCell x) e = k.ends n None (core_of w) (ap is_there e) (λ j h. cc) p
+    go (IsCell x) e = left w (k.ends n None (core_of w) (ap is_there e) (λ j h. cc) p)
     go (IsComputed x) e =
-        drop_keeps (λ c. P (after_end n None c)) (host_of x.recipe.expression) w
-        (k.ends n (host_of x.recipe.expression) (core_of w) (ap is_there e) (λ j h. (x, e, h)) p)
+        left (with_drop (host_of x.recipe.expression) w) (drop_keeps (λ c. P (after_end n None c)) (host_of x.recipe.expression) w
+        (k.ends n (host_of x.recipe.expression) (core_of w) (ap is_there e) (λ j h. (x, e, h)) p))
 end_keeps P k _ w p = p
 
 undo_keeps : (env : Environment) (P : Core → Type 0) → IsKeptByEdits P → (u : Undoing) (w : World) → P (core_of w) → P (core_of (undo env u w))
 undo_keeps env P k (cleans h (sets n v)) w p =
-    set_case env P k n v (standing w.signals n) (tell (cleaned h (sets n v)) w) refl (tells_neither P w (cleaned h (sets n v) ∷ []) refl refl p)
+    set_case env P k n v (standing w.signals n) (tell (cleaned h (sets n v)) w) refl (tells_none P w (cleaned h (sets n v) ∷ []) refl refl refl p)
 undo_keeps env P k (cleans h (logs v)) w p =
-    tells_neither P (tell (cleaned h (logs v)) w) (logged v ∷ []) refl refl (tells_neither P w (cleaned h (logs v) ∷ []) refl refl p)
-undo_keeps env P k (ends h) w p = tells_neither P (end_of h w) (gone h ∷ []) refl refl (end_keeps P k h w p)
+    tells_none P (tell (cleaned h (logs v)) w) (logged v ∷ []) refl refl refl (tells_none P w (cleaned h (logs v) ∷ []) refl refl refl p)
+undo_keeps env P k (ends h) w p = tells_none P (end_of h w) (gone h ∷ []) refl refl refl (end_keeps P k h w p)
 
 undo_all_keeps : (env : Environment) (P : Core → Type 0) → IsKeptByEdits P → (us : List Undoing) (w : World) → P (core_of w) →
     P (core_of (undo_all env us w))
@@ -331,22 +383,22 @@ dispose_keeps_core env P k t w p = go (lives t w)
   where
     go : (b : Bool) → P (core_of (cond b (dispose_live env t w) (tell (refused (thing_gone t)) w)))
     go true = undo_all_keeps env P k (disposal_of t w.owned) (record w { owned = taken_out t w.owned }) p
-    go false = tells_neither P w (refused (thing_gone t) ∷ []) refl refl p
+    go false = tells_none P w (refused (thing_gone t) ∷ []) refl refl refl p
 
 -- ---- acts, runs and commands
 
 act_keeps : (env : Environment) (P : Core → Type 0) → IsKeptByActs env P → (e j : ℕ) (a : Act) (w : World) → P (core_of w) →
     P (core_of (do_act env e j a w))
 act_keeps env P k e j (to_set n v) w p = set_keeps_core env P k.edits n v w p
-act_keeps env P k e j (to_log v) w p = tells_neither P w (logged v ∷ []) refl refl p
-act_keeps env P k e j (to_note c) w p = tells_neither P w _ refl refl p
-act_keeps env P k e j (to_make b) w p = tells_neither P w _ refl refl p
+act_keeps env P k e j (to_log v) w p = tells_none P w (logged v ∷ []) refl refl refl p
+act_keeps env P k e j (to_note c) w p = tells_none P w _ refl refl refl p
+act_keeps env P k e j (to_make b) w p = tells_none P w _ refl refl refl p
 act_keeps env P k e j (to_dispose t) w p = dispose_keeps_core env P k.edits t w p
 act_keeps env P k e j (to_rewire n r) w p = rewire_keeps_core P k.edits n r w p
 
 result_keeps : (env : Environment) (P : Core → Type 0) → IsKeptByActs env P → (e : ℕ) (r : BodyResult) (w : World) → P (core_of w) →
     P (core_of (do_result env e r w))
-result_keeps env P k e (failed_by f) w p = tells_neither P w (failed e f ∷ []) refl refl p
+result_keeps env P k e (failed_by f) w p = tells_none P w (failed e f ∷ []) refl refl refl p
 result_keeps env P k e (to_do as') w p = acts_keep env (λ v. P (core_of v)) e (λ j a v h q. act_keeps env P k e j a v q) 1 as' w p
 
 pub run_keeps_core : (env : Environment) (P : Core → Type 0) → IsKeptByActs env P → (x : Effect) (w : World) → P (core_of w) →
@@ -357,7 +409,7 @@ run_keeps_core env P k x w p =
     let b : BodyEvaluation = body_evaluation env.hosts w'.signals x.body in
     let v : World = settle env (names_of b.reads) w' in
     result_keeps env P k x.number b.result (keep_reads x.number b.tracked v)
-    (tells_neither P v _ refl refl (settle_keeps_core env P k (names_of b.reads) w'
+    (tells_none P v _ refl refl refl (settle_keeps_core env P k (names_of b.reads) w'
     (back_keeps_core env P k.edits e w p)))
 
 by_runs : (env : Environment) (P : Core → Type 0) → IsKeptByActs env P → IsKeptByRuns env (λ v. P (core_of v))
@@ -371,7 +423,7 @@ pub flush_keeps_core : (env : Environment) (P : Core → Type 0) → IsKeptByAct
 flush_keeps_core env P k w p = flush_keeps env (λ v. P (core_of v)) (by_runs env P k) 100 w p
 
 told_if_keeps : (P : Core → Type 0) (b : Bool) (w : World) → P (core_of w) → P (core_of (told_if b w))
-told_if_keeps P true w p = tells_neither P w (refused still_due ∷ []) refl refl p
+told_if_keeps P true w p = tells_none P w (refused still_due ∷ []) refl refl refl p
 told_if_keeps P false w p = p
 
 done_keeps : (env : Environment) (P : Core → Type 0) → IsKeptByChanges env P → (c : Command) (w : World) → command_refused c w ≡ None →
@@ -400,7 +452,7 @@ pub command_keeps : (env : Environment) (P : Core → Type 0) → IsKeptByChange
     P (core_of (after_command env w c))
 command_keeps env P k w c p =
     either_way (λ v. P (core_of v)) (command_refused c w) (done_by env c w) w (λ h. done_keeps env P k c w h p)
-    (λ why. tells_neither P w (refused why ∷ []) refl refl p)
+    (λ why. tells_none P w (refused why ∷ []) refl refl refl p)
 
 -- and so do any
 pub commands_keep : (env : Environment) (P : Core → Type 0) → IsKeptByChanges env P → (cs : List Command) (w : World) → P (core_of w) →

@@ -7,15 +7,15 @@ use Rattle.sig_base.specs.declared.value.Value.{Value}
 use Rattle.signal_model.specs.Recipes.{Recipe}
 use Rattle.signal_model.specs.Signals.{Stands, IsGone, IsCell, IsComputed, standing}
 use Rattle.signal_model.specs.Settling.{settled}
-use Rattle.signal_model.specs.Changes.{with_value, after_change}
 use Rattle.signal_model.specs.Sound.{names_of}
 use Rattle.effect_model.specs.Owners.{Thing, the_signal, the_effect, same_thing, sets, logs, Owned, nothing, thing, cleanup, Undoing, cleans, ends}
 use Rattle.effect_model.specs.Owners.{teardown_of, under, emptied, taken_out, disposal_of}
 use Rattle.effect_model.specs.Bodies.{Act, to_set, to_log, to_note, to_make, to_dispose, to_rewire, BodyEvaluation, BodyResult, to_do, failed_by}
 use Rattle.effect_model.specs.Bodies.{body_evaluation}
-use Rattle.effect_model.specs.Worlds.{Environment, Watcher, Effect, Event, ran, cleaned, gone, refused, Refused, thing_gone, World, tell, lives}
+use Rattle.effect_model.specs.declared.how.How.TheVariants.{Set, Rewire, Gone}
+use Rattle.effect_model.specs.Worlds.{Environment, Watcher, Effect, Event, ran, changed_signal, cleaned, gone, refused, Refused, thing_gone, World, tell, lives}
 use Rattle.effect_model.specs.Worlds.{settle}
-use Rattle.effect_model.specs.Acts.{notified_by, frozen_by, told_of, told_frozen, notify, with_new_value, are_alike, set_standing, host_of, with_drop}
+use Rattle.effect_model.specs.Acts.{notified_by, frozen_by, told_of, told_frozen, notify, with_new_value, with_quiet_value, are_alike, set_standing, host_of, with_drop}
 use Rattle.effect_model.specs.Acts.{with_use, rewiring_refused, rewire_standing, or_refused, rewire_signal, end_standing, end_of, undo, undo_all}
 use Rattle.effect_model.specs.Acts.{take_back, dispose_live, dispose_thing}
 use Rattle.effect_model.specs.Runs.{do_act, keep_reads, do_result, run_effect, flush}
@@ -69,7 +69,8 @@ set_open (IsCell c) env n v w t = go (are_alike env.slacks c.rule c.value v)
   where
     go : (b : Bool) → Open t (cond b w (with_new_value n v w)) ≡ Open t w
     go true = refl
-    go false = notify_open n (record w { signals = with_value w.signals n v; memos = after_change w.memos n }) t
+    go false =
+        notify_open n (with_quiet_value n v w) t ∙ open_append t 0 w.told (changed_signal n Set ∷ [])
 set_open (IsComputed c) env n v w t = refl
 
 drop_open : (p : Option ℕ) (w : World) → Same w (with_drop p w)
@@ -84,7 +85,7 @@ rewired_open : (s : Stands) (n : ℕ) (r : Recipe) (w : World) → Same w (rewir
 rewired_open IsGone n r w t = refl
 rewired_open (IsCell c) n r w t = refl
 rewired_open (IsComputed c) n r w t = drop_open (host_of c.recipe.expression) (with_use (host_of r.expression) _) t
-    ∙ use_open (host_of r.expression) _ t
+    ∙ use_open (host_of r.expression) _ t ∙ open_append t 0 w.told (changed_signal n Rewire ∷ [])
 
 unless_open : (why : Option Refused) (done w : World) → Same w done → Same w (or_refused why done w)
 unless_open None done w d t = d t
@@ -98,8 +99,9 @@ end_open (the_signal n) w t = go (standing w.signals n)
   where
     go : (s : Stands) → Open t (end_standing s n w) ≡ Open t w
     go IsGone = refl
-    go (IsCell c) = refl
-    go (IsComputed c) = drop_open (host_of c.recipe.expression) w t
+    go (IsCell c) = open_append t 0 w.told (changed_signal n Gone ∷ [])
+    go (IsComputed c) =
+        open_append t 0 (with_drop (host_of c.recipe.expression) w).told (changed_signal n Gone ∷ []) ∙ drop_open (host_of c.recipe.expression) w t
 end_open _ w t = refl
 
 -- ---- a teardown, step by step

@@ -5,9 +5,10 @@ use Rattle.sig_base.specs.declared.value.Value.{Value}
 use Rattle.signal_model.specs.Recipes.{Recipe}
 use Rattle.signal_model.specs.Signals.{Stands, IsGone, IsCell, IsComputed, standing}
 use Rattle.signal_model.specs.Changes.{after_rewiring, with_recipe}
+use Rattle.effect_model.specs.declared.how.How.TheVariants.{Rewire}
 use Rattle.effect_model.specs.Owners.{the_signal, Cleanup, sets, logs}
-use Rattle.effect_model.specs.Worlds.{Environment, Event, Refused, World, logged, settle, tell_all}
-use Rattle.effect_model.specs.Acts.{are_alike, do_cleanup, end_of, end_standing, gone_refused, host_of, host_refused, or_refused, rewire_signal, rewire_standing, rewiring_refused, set_cell, set_standing, some_gone, with_drop, with_new_value, with_use, without_node}
+use Rattle.effect_model.specs.Worlds.{Environment, Event, changed_signal, Refused, World, logged, settle, tell, tell_all}
+use Rattle.effect_model.specs.Acts.{are_alike, notify, do_cleanup, end_of, end_standing, gone_refused, host_of, host_refused, or_refused, rewire_signal, rewire_standing, rewiring_refused, set_cell, set_standing, some_gone, with_drop, with_new_value, with_quiet_value, with_use, without_node}
 use Rattle.effect_laws.specs.Frames.{IsOfSignals, signal_part, with_part}
 
 -- a world with its own signals
@@ -39,8 +40,14 @@ framed_tell es = record { framed = λ w. refl }
 
 -- ---- a cell is set
 
+framed_notify : (n : ℕ) → IsOfSignals (notify n)
+framed_notify n = record { framed = λ w. refl }
+
+framed_quiet : (n : ℕ) (v : Value) → IsOfSignals (with_quiet_value n v)
+framed_quiet n v = record { framed = λ w. refl }
+
 new_value : (n : ℕ) (v : Value) → IsOfSignals (with_new_value n v)
-new_value n v = record { framed = λ w. refl }
+new_value n v = framed_then (with_quiet_value n v) (notify n) (framed_quiet n v) (framed_notify n)
 
 pub framed_set : (env : Environment) (n : ℕ) (v : Value) → IsOfSignals (set_cell env n v)
 framed_set env n v = record { framed = λ w. go w (standing w.signals n) }
@@ -71,8 +78,9 @@ host_part (Some k) w = refl
 refused_part : (n : ℕ) (r : Recipe) (w : World) → rewiring_refused n r w ≡ rewiring_refused n r (signal_part w)
 refused_part n r w = λ i. option_or (gone_refused (the_signal n) w) (option_or (gone_part r.slots w i) (host_part (host_of r.expression) w i))
 
-recipe_now : (n : ℕ) (r : Recipe) → IsOfSignals (λ w. record w { signals = with_recipe w.signals n r; memos = after_rewiring w.memos n })
-recipe_now n r = record { framed = λ w. part_same (record w { signals = with_recipe w.signals n r; memos = after_rewiring w.memos n }) }
+framed_rewired : (n : ℕ) (r : Recipe) →
+    IsOfSignals (λ w. tell (changed_signal n Rewire) (record w { signals = with_recipe w.signals n r; memos = after_rewiring w.memos n }))
+framed_rewired n r = record { framed = λ w. refl }
 
 pub framed_rewire : (n : ℕ) (r : Recipe) → IsOfSignals (rewire_signal n r)
 framed_rewire n r = record {
@@ -85,7 +93,7 @@ framed_rewire n r = record {
     done w IsGone = part_same w
     done w (IsCell c) = part_same w
     done w (IsComputed c) =
-        (framed_then _ (with_drop (host_of c.recipe.expression)) (framed_then _ (with_use (host_of r.expression)) (recipe_now n r) (framed_use (host_of r.expression))) (framed_drop (host_of c.recipe.expression))).framed w
+        (framed_then _ (with_drop (host_of c.recipe.expression)) (framed_then _ (with_use (host_of r.expression)) (framed_rewired n r) (framed_use (host_of r.expression))) (framed_drop (host_of c.recipe.expression))).framed w
 
     by : (w : World) (o : Option Refused) (s : Stands) → or_refused o (rewire_standing s n r w) w ≡ with_part (or_refused o (rewire_standing s n r (signal_part w)) (signal_part w)) w
     by w None s = done w s
@@ -106,7 +114,7 @@ pub framed_end : (n : ℕ) → IsOfSignals (end_of (the_signal n))
 framed_end n = record { framed = λ w. go w (standing w.signals n) }
   where
     left : IsOfSignals (without_node n)
-    left = record { framed = λ w. part_same (without_node n w) }
+    left = record { framed = λ w. refl }
 
     go : (w : World) (s : Stands) → end_standing s n w ≡ with_part (end_standing s n (signal_part w)) w
     go w IsGone = part_same w

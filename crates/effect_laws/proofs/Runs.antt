@@ -1,7 +1,6 @@
 -- Runs of effects, turns and a flush keep the ledger.
 use Rattle.std.proofs.Common.{◌≡◌, ℕ, ◌+◌, ◌≤◌, ◌==◌, Bool, false, List, [], Some, None, refl, sym, ap, subst, arith}
 use Rattle.std.proofs.lemmas.Bool.{eq-eqb}
-use Rattle.signal_model.specs.Signals.{standing}
 use Rattle.signal_model.specs.Values.{Seen}
 use Rattle.signal_model.specs.Sound.{names_of}
 use Rattle.effect_model.specs.Owners.{Thing, the_effect, same_thing, Cleanup, Owned, teardown_of, under, emptied, put_under, alone}
@@ -44,7 +43,7 @@ child_tidy e k b w t there =
     tell_tidy w' [] (made_child c e k) (omega arith, (omega arith, tt)) t'
 
 pub act_tidy : (env : Environment) (e k : ℕ) (a : Act) (w : World) → 1 ≤ alive (the_effect e) (roll_of w) → Tidy w [] → Tidy (do_act env e k a w) []
-act_tidy env e k (to_set n v) w h t = set_tidy (standing w.signals n) env n v w [] t
+act_tidy env e k (to_set n v) w h t = set_tidy env n v w [] t
 act_tidy env e k (to_log v) w h t = tell_tidy w [] (logged v) tt t
 act_tidy env e k (to_note c) w h t = noted_told (roll_of w) w.owned w.made w.told (the_effect e) c (effect_there w e t h) t
 act_tidy env e k (to_make b) w h t = child_tidy e k b w t h

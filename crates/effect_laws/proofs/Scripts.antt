@@ -5,7 +5,7 @@ use Rattle.std.specs.Option.{option_or}
 use Rattle.std.proofs.lemmas.Bool.Decides.{nat_tests}
 use Rattle.sig_base.specs.declared.value.Value.{Value}
 use Rattle.signal_model.specs.Recipes.{Recipe}
-use Rattle.signal_model.specs.Signals.{Cell, Computed, standing}
+use Rattle.signal_model.specs.Signals.{Cell, Computed}
 use Rattle.effect_model.specs.Owners.{Thing, the_signal, the_owner, the_effect, the_page, the_watcher, same_thing, made_inside}
 use Rattle.effect_model.specs.Bodies.{Body}
 use Rattle.effect_model.specs.Worlds.{Environment, Watcher, thing_gone, still_due, refused, World, lives}
@@ -136,7 +136,7 @@ done_tidy env w (page inside) h t = page_tidy inside w h t
 done_tidy env w (watcher tries) h t = watcher_tidy tries w t
 done_tidy env w (watch n names) h t = changed_tidy n (armed names) w (λ x. refl) t
 done_tidy env w (unwatch n m) h t = changed_tidy n (forget m) w (λ x. refl) t
-done_tidy env w (set n v) h t = set_tidy (standing w.signals n) env n v w [] t
+done_tidy env w (set n v) h t = set_tidy env n v w [] t
 done_tidy env w (rewire n r) h t = rewire_signal_tidy n r w [] t
 done_tidy env w (ask names) h t = settle_tidy env names w [] t
 done_tidy env w (dispose x) h t = dispose_tidy env x w t

@@ -5,19 +5,21 @@ use Rattle.std.proofs.lemmas.Bool.{eq-eqb}
 use Rattle.std.specs.List.{filter, AllByRecursion}
 use Rattle.sig_base.specs.declared.value.Value.{Value}
 use Rattle.signal_model.specs.Recipes.{Hosts, Recipe}
-use Rattle.signal_model.specs.Signals.{Cell, Computed, Stands, IsGone, IsCell, IsComputed, standing, without}
+use Rattle.signal_model.specs.Signals.{Cell, Computed, Stands, IsGone, IsCell, IsComputed, is_there, standing, without}
 use Rattle.signal_model.specs.Settling.{Run, settled}
 use Rattle.signal_model.specs.Asks.{moments}
-use Rattle.signal_model.specs.Changes.{with_value, after_change, with_recipe, after_rewiring}
+use Rattle.signal_model.specs.Changes.{with_recipe, after_rewiring}
 use Rattle.signal_model.proofs.Shared.{stands-computed}
 use Rattle.signal_laws.specs.RunLaws.{IsScratchRun}
 use Rattle.signal_laws.proofs.Shared.{scratch_runs_law}
 use Rattle.effect_model.specs.Owners.{Thing, the_signal, the_owner, the_effect, the_page, the_watcher, same_thing, Cleanup, sets, logs, Undoing}
 use Rattle.effect_model.specs.Owners.{cleans, ends, teardown_of, under, emptied, taken_out, disposal_of}
-use Rattle.effect_model.specs.Worlds.{Environment, Watcher, Effect, Event, ran, logged, cleaned, gone, refused, Refused, thing_gone, World, tell}
+use Rattle.effect_model.specs.declared.how.How.{How}
+use Rattle.effect_model.specs.declared.how.How.TheVariants.{Set, Rewire, Gone}
+use Rattle.effect_model.specs.Worlds.{Environment, Watcher, Effect, Event, ran, changed_signal, logged, cleaned, gone, refused, Refused, thing_gone, World, tell}
 use Rattle.effect_model.specs.Worlds.{tell_all, lives, settle}
-use Rattle.effect_model.specs.Acts.{is_notified, notified_by, frozen_by, told_of, told_frozen, waiting_if, notify, with_new_value, are_alike}
-use Rattle.effect_model.specs.Acts.{set_standing, host_of, with_drop, with_use, rewiring_refused, rewire_standing, or_refused, rewire_signal, forget}
+use Rattle.effect_model.specs.Acts.{is_notified, notified_by, frozen_by, told_of, told_frozen, waiting_if, notify, with_new_value, with_quiet_value, are_alike}
+use Rattle.effect_model.specs.Acts.{set_standing, set_cell, host_of, with_drop, with_use, rewiring_refused, rewire_standing, or_refused, rewire_signal, forget}
 use Rattle.effect_model.specs.Acts.{without_node, end_standing, end_of, do_cleanup, undo, undo_all, take_back, dispose_live, dispose_thing}
 use Rattle.effect_laws.specs.Rolls.{bit, times_in, computed_names, Roll, roll_of, alive, times, ends_in}
 use Rattle.effect_laws.proofs.Ledgers.{Ledger, AllAlive, IsPlain, ArePlain, plain_told, plain_all, cleaned_told, gone_told, taken_back, disposed}
@@ -122,21 +124,29 @@ notify_tidy n w us t =
 
 -- ---- acts on signals
 
-pub value_tidy : (n : ℕ) (v : Value) (w : World) (us : List Undoing) → Tidy w us → Tidy (with_new_value n v w) us
-value_tidy n v w us t =
-    let w' : World = record w { signals = with_value w.signals n v; memos = after_change w.memos n } in
-    let e : roll_of w' ≡ roll_of w =
-    (λ i. record (roll_of w) { cells = names_changed (λ (c : Cell). c.name) n (λ c. record c { value = v }) (λ c. refl) w.signals.cells i }) in
-    notify_tidy n w' us (same_roll w w' us e t)
+-- a change of what stands is told
+changed_tidy : (n : ℕ) (how : How) (w : World) (us : List Undoing) → lives (the_signal n) w ≡ true → Tidy w us → Tidy (tell (changed_signal n how) w) us
+changed_tidy n how w us there t = tell_tidy w us (changed_signal n how) (lives_alive (the_signal n) w there, tt) t
 
-pub set_tidy : (s : Stands) (env : Environment) (n : ℕ) (v : Value) (w : World) (us : List Undoing) → Tidy w us → Tidy (set_standing s env n v w) us
-set_tidy IsGone env n v w us t = tell_tidy w us (refused (thing_gone (the_signal n))) tt t
-set_tidy (IsCell c) env n v w us t = go (are_alike env.slacks c.rule c.value v)
+value_tidy : (n : ℕ) (v : Value) (w : World) (us : List Undoing) → lives (the_signal n) w ≡ true → Tidy w us → Tidy (with_new_value n v w) us
+value_tidy n v w us there t =
+    let w' : World = tell (changed_signal n Set) w in
+    let e : roll_of (with_quiet_value n v w) ≡ roll_of w' =
+    (λ i. record (roll_of w) { cells = names_changed (λ (c : Cell). c.name) n (λ c. record c { value = v }) (λ c. refl) w.signals.cells i }) in
+    notify_tidy n (with_quiet_value n v w) us (same_roll w' (with_quiet_value n v w) us e (changed_tidy n Set w us there t))
+
+set_case : (s : Stands) (env : Environment) (n : ℕ) (v : Value) (w : World) (us : List Undoing) → standing w.signals n ≡ s → Tidy w us →
+    Tidy (set_standing s env n v w) us
+set_case IsGone env n v w us e t = tell_tidy w us (refused (thing_gone (the_signal n))) tt t
+set_case (IsCell c) env n v w us e t = go (are_alike env.slacks c.rule c.value v)
   where
     go : (b : Bool) → Tidy (cond b w (with_new_value n v w)) us
     go true = t
-    go false = value_tidy n v w us t
-set_tidy (IsComputed c) env n v w us t = t
+    go false = value_tidy n v w us (ap is_there e) t
+set_case (IsComputed c) env n v w us e t = t
+
+pub set_tidy : (env : Environment) (n : ℕ) (v : Value) (w : World) (us : List Undoing) → Tidy w us → Tidy (set_cell env n v w) us
+set_tidy env n v w us t = set_case (standing w.signals n) env n v w us refl t
 
 pub drop_tidy : (place : Option ℕ) (w : World) (us : List Undoing) → Tidy w us → Tidy (with_drop place w) us
 drop_tidy None w us t = t
@@ -146,17 +156,20 @@ pub use_tidy : (place : Option ℕ) (w : World) (us : List Undoing) → Tidy w u
 use_tidy None w us t = t
 use_tidy (Some k) w us t = t
 
-pub rewire_tidy : (s : Stands) (n : ℕ) (r : Recipe) (w : World) (us : List Undoing) → Tidy w us → Tidy (rewire_standing s n r w) us
-rewire_tidy IsGone n r w us t = t
-rewire_tidy (IsCell c) n r w us t = t
-rewire_tidy (IsComputed c) n r w us t =
-    let w' : World = record w { signals = with_recipe w.signals n r; memos = after_rewiring w.memos n } in
-    let e : roll_of w' ≡ roll_of w =
+rewire_tidy : (s : Stands) (n : ℕ) (r : Recipe) (w : World) (us : List Undoing) → standing w.signals n ≡ s → Tidy w us →
+    Tidy (rewire_standing s n r w) us
+rewire_tidy IsGone n r w us e t = t
+rewire_tidy (IsCell c) n r w us e t = t
+rewire_tidy (IsComputed c) n r w us e t =
+    let w' : World = tell (changed_signal n Rewire) w in
+    let v : World = record w' { signals = with_recipe w.signals n r; memos = after_rewiring w.memos n } in
+    let same : roll_of v ≡ roll_of w' =
     (λ i. record (roll_of w) {
       computeds =
           names_changed (λ (c : Computed). c.name) n (λ c. record c { recipe = r }) (λ c. refl) w.signals.computeds i;
     }) in
-    drop_tidy (host_of c.recipe.expression) (with_use (host_of r.expression) w') us (use_tidy (host_of r.expression) w' us (same_roll w w' us e t))
+    drop_tidy (host_of c.recipe.expression) (with_use (host_of r.expression) v) us
+    (use_tidy (host_of r.expression) v us (same_roll w' v us same (changed_tidy n Rewire w us (ap is_there e) t)))
 
 pub unless_tidy : (why : Option Refused) (done w : World) (us : List Undoing) → Tidy done us → Tidy w us → Tidy (or_refused why done w) us
 unless_tidy None done w us d t = d
@@ -164,7 +177,7 @@ unless_tidy (Some why) done w us d t = tell_tidy w us (refused why) tt t
 
 pub rewire_signal_tidy : (n : ℕ) (r : Recipe) (w : World) (us : List Undoing) → Tidy w us → Tidy (rewire_signal n r w) us
 rewire_signal_tidy n r w us t =
-    unless_tidy (rewiring_refused n r w) (rewire_standing (standing w.signals n) n r w) w us (rewire_tidy (standing w.signals n) n r w us t) t
+    unless_tidy (rewiring_refused n r w) (rewire_standing (standing w.signals n) n r w) w us (rewire_tidy (standing w.signals n) n r w us refl t) t
 
 -- ---- ends
 
@@ -207,6 +220,11 @@ watcher_roll : (n : ℕ) (w : World) (s : Thing) →
 watcher_roll n w (the_watcher m) = count_without (λ (x : Watcher). x.number) n w.watchers m
 watcher_roll n w _ = refl
 
+-- a drop leaves what stands
+drop_there : (place : Option ℕ) (w : World) (n : ℕ) → lives (the_signal n) w ≡ true → lives (the_signal n) (with_drop place w) ≡ true
+drop_there None w n h = h
+drop_there (Some k) w n h = h
+
 pub end_tidy : (t : Thing) (w : World) (us : List Undoing) → Tidy w (ends t ∷ us) → Tidy (tell (gone t) (end_of t w)) us
 end_tidy (the_signal n) w us t = go (standing w.signals n) refl
   where
@@ -217,11 +235,14 @@ end_tidy (the_signal n) w us t = go (standing w.signals n) refl
         let b : bit (n == n) ≡ 1 = ap bit (eq-eqb n n refl) in
         let c : alive (the_signal n) (roll_of w) ≡ 0 = gone_uncounted n w.signals e in
         absurd (omega arith)
-    go (IsCell c) e = gone_told (roll_of w) (roll_of (without_node n w)) w.owned w.made w.told us (the_signal n) (node_roll n w) t
+    go (IsCell c) e =
+        gone_told (roll_of w) (roll_of (without_node n w)) w.owned w.made (w.told ++ changed_signal n Gone ∷ []) us (the_signal n) (node_roll n w)
+        (changed_tidy n Gone w (ends (the_signal n) ∷ us) (ap is_there e) t)
     go (IsComputed c) e =
         let w' : World = with_drop (host_of c.recipe.expression) w in
-        gone_told (roll_of w') (roll_of (without_node n w')) w'.owned w'.made w'.told us (the_signal n) (node_roll n w')
-        (drop_tidy (host_of c.recipe.expression) w (ends (the_signal n) ∷ us) t)
+        gone_told (roll_of w') (roll_of (without_node n w')) w'.owned w'.made (w'.told ++ changed_signal n Gone ∷ []) us (the_signal n) (node_roll n w')
+        (changed_tidy n Gone w' (ends (the_signal n) ∷ us) (drop_there (host_of c.recipe.expression) w n (ap is_there e))
+        (drop_tidy (host_of c.recipe.expression) w (ends (the_signal n) ∷ us) t))
 end_tidy (the_owner n) w us t = gone_told (roll_of w) (roll_of (end_of (the_owner n) w)) w.owned w.made w.told us (the_owner n) (owner_roll n w) t
 end_tidy (the_effect n) w us t = gone_told (roll_of w) (roll_of (end_of (the_effect n) w)) w.owned w.made w.told us (the_effect n) (effect_roll n w) t
 end_tidy (the_page n) w us t = gone_told (roll_of w) (roll_of (end_of (the_page n) w)) w.owned w.made w.told us (the_page n) (page_roll n w) t
@@ -229,7 +250,7 @@ end_tidy (the_watcher n) w us t =
     gone_told (roll_of w) (roll_of (end_of (the_watcher n) w)) w.owned w.made w.told us (the_watcher n) (watcher_roll n w) t
 
 cleanup_tidy : (env : Environment) (c : Cleanup) (w : World) (us : List Undoing) → Tidy w us → Tidy (do_cleanup env c w) us
-cleanup_tidy env (sets n v) w us t = set_tidy (standing w.signals n) env n v w us t
+cleanup_tidy env (sets n v) w us t = set_tidy env n v w us t
 cleanup_tidy env (logs v) w us t = tell_tidy w us (logged v) tt t
 
 pub undo_tidy : (env : Environment) (u : Undoing) (w : World) (us : List Undoing) → Tidy w (u ∷ us) → Tidy (undo env u w) us

@@ -1,13 +1,14 @@
 -- The end-of-life law.
 use Rattle.std.specs.Prelude.{◌≡◌, ℕ, ◌+◌, ◌≤◌, ◌||◌, Bool, false, List, [], ◌∷◌, ◌++◌, map}
 use Rattle.effect_model.specs.Owners.{Thing, the_signal, the_effect, the_watcher, same_thing, Cleanup}
-use Rattle.effect_model.specs.Worlds.{Environment, Event, ran, notified, frozen, body_ran, failed, cleaned, gone, made_child, noted}
+use Rattle.effect_model.specs.Worlds.{Environment, Event, ran, changed_signal, notified, frozen, body_ran, failed, cleaned, gone, made_child, noted}
 use Rattle.effect_model.specs.Commands.{Command, new_world, after_commands}
 use Rattle.effect_laws.specs.Rolls.{bit, open_cleanups, ends_of, noted_by, cleaned_by, waiting_under}
 
 -- the things that an event tells something of; a refusal may name what is gone
 abbrev pub about : Event → List Thing
 about (ran m) = the_signal m.run.name ∷ []
+about (changed_signal n how) = the_signal n ∷ []
 about (notified n) = the_watcher n ∷ []
 about (frozen ns) = map the_watcher ns
 about (body_ran n names) = the_effect n ∷ []
@@ -39,8 +40,8 @@ abbrev pub AreInTime : List Event → List Event → Type 0
 AreInTime before [] = Unit {0}
 AreInTime before (e ∷ es) = NoneEnded before (about e) × KeepsCleanups before e × AreInTime (before ++ e ∷ []) es
 
--- In what any commands tell, nothing that has ended runs, is evaluated, is notified, is cleaned up or ends again. A cleanup that was noted
--- is done once, before its effect runs again or ends; and what was noted and not done still waits under its effect.
+-- In what any commands tell, nothing that has ended runs, is changed, is evaluated, is notified, is cleaned up or ends again. A cleanup that
+-- was noted is done once, before its effect runs again or ends; and what was noted and not done still waits under its effect.
 abbrev pub EndLaw : Type 0
 EndLaw = (env : Environment) (n : ℕ) (cs : List Command) →
     let w = after_commands env (new_world n) cs in

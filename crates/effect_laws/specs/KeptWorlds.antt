@@ -6,7 +6,7 @@ use Rattle.signal_model.specs.Asks.{Moment}
 use Rattle.signal_model.specs.Kept.{AreKept, AreGiven}
 use Rattle.signal_laws.specs.ChangeLaws.{given_below}
 use Rattle.signal_laws.specs.RunLaws.{IsCurrentRun}
-use Rattle.effect_model.specs.Worlds.{Environment, Event, ran, World}
+use Rattle.effect_model.specs.Worlds.{Environment, Event, ran, changed_signal, World}
 use Rattle.effect_model.specs.Runs.{flush}
 use Rattle.effect_model.specs.Commands.{Command, new_world, after_command, after_commands}
 
@@ -19,6 +19,13 @@ abbrev pub runs_told : List Event → List Moment
 runs_told [] = []
 runs_told (ran m ∷ es) = m ∷ runs_told es
 runs_told (e ∷ es) = runs_told es
+
+-- the runs and the changes of signals that were told, in order
+abbrev pub noted_told : List Event → List Event
+noted_told [] = []
+noted_told (ran m ∷ es) = ran m ∷ noted_told es
+noted_told (changed_signal n how ∷ es) = changed_signal n how ∷ noted_told es
+noted_told (e ∷ es) = noted_told es
 
 -- A run of an evaluation that began with sound memos: it had to run at its place, it read only what was current at that moment, and it came
 -- to its value from scratch.

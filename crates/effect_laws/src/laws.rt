@@ -15,8 +15,8 @@ ghost use Rattle.effect_model.specs.Worlds.{Environment, World};
 ghost use Rattle.effect_laws.specs.Events.{AllOnlyTell, FlushesOnlyTell, TurnsOnlyTell};
 ghost use Rattle.std.specs.Prelude.{◌≡◌, List};
 
-/// Nothing that has ended runs, is evaluated, is notified, is cleaned up or ends again; and each cleanup that was noted is done once
-/// before its effect runs again or ends.
+/// Nothing that has ended runs, is changed, is evaluated, is notified, is cleaned up or ends again; and each cleanup that was noted is done
+/// once before its effect runs again or ends.
 pub fn end_law()
     ensures { EndLaw }
 {}

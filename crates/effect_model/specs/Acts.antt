@@ -10,10 +10,11 @@ use Rattle.signal_model.specs.Signals.{Signals, Stands, IsGone, IsCell, IsComput
 use Rattle.signal_model.specs.Memos.{Memos}
 use Rattle.signal_model.specs.Marks.{found_below}
 use Rattle.signal_model.specs.Changes.{with_value, after_change, with_recipe, after_rewiring, without_signal, after_disposal}
+use Rattle.effect_model.specs.declared.how.How.TheVariants.{Set, Rewire, Gone}
 use Rattle.effect_model.specs.Owners.{Thing, the_signal, the_owner, the_effect, the_page, the_watcher, Cleanup, sets, logs, Undoing, cleans, ends}
 use Rattle.effect_model.specs.Owners.{teardown_of, under, emptied, taken_out, disposal_of}
 use Rattle.effect_model.specs.Worlds.{Environment, HostState, unused, used, dropped, Watcher, Effect, Refused, thing_gone, host_taken, Event}
-use Rattle.effect_model.specs.Worlds.{notified, frozen, logged, cleaned, gone, dropped_host, refused, World, tell, tell_all, lives}
+use Rattle.effect_model.specs.Worlds.{changed_signal, notified, frozen, logged, cleaned, gone, dropped_host, refused, World, tell, tell_all, lives}
 
 -- ---- notifications
 
@@ -78,11 +79,11 @@ abbrev pub are_alike : List ℕ → Option ℕ → Value → Value → Bool
 are_alike slacks None a b = same_value a b
 are_alike slacks (Some rule) a b = is_alike (slice_index slacks rule) a b
 
--- a cell has another value, and nobody is notified
+-- a cell has another value; that is told, and nobody is notified
 abbrev pub with_quiet_value : ℕ → Value → World → World
-with_quiet_value n v w = record w { signals = with_value w.signals n v; memos = after_change w.memos n }
+with_quiet_value n v w = tell (changed_signal n Set) (record w { signals = with_value w.signals n v; memos = after_change w.memos n })
 
--- a cell has another value, and that is told
+-- a cell has another value, and then its watchers are notified
 abbrev pub with_new_value : ℕ → Value → World → World
 with_new_value n v w = notify n (with_quiet_value n v w)
 
@@ -143,11 +144,11 @@ abbrev pub rewiring_refused : ℕ → Recipe → World → Option Refused
 rewiring_refused n r w =
     option_or (gone_refused (the_signal n) w) (option_or (some_gone r.slots w) (host_refused (host_of r.expression) w))
 
--- A new host formula is used, and then the one before is dropped. Only a computed is rewired.
+-- The change is told, a new host formula is used, and then the one before is dropped. Only a computed is rewired.
 abbrev pub rewire_standing : Stands → ℕ → Recipe → World → World
 rewire_standing (IsComputed c) n r w =
     with_drop (host_of c.recipe.expression) (with_use (host_of r.expression)
-    (record w { signals = with_recipe w.signals n r; memos = after_rewiring w.memos n }))
+    (tell (changed_signal n Rewire) (record w { signals = with_recipe w.signals n r; memos = after_rewiring w.memos n })))
 rewire_standing _ n r w = w
 
 -- what is done, unless there is a refusal to be told
@@ -165,10 +166,11 @@ rewire_signal n r w = or_refused (rewiring_refused n r w) (rewire_standing (stan
 abbrev pub forget : ℕ → Watcher → Watcher
 forget n x = record x { signals = without (λ (m : ℕ). m) n x.signals }
 
--- a signal goes, from all watchers too
+-- a signal goes, from all watchers too, and that is told
 abbrev pub without_node : ℕ → World → World
 without_node n w =
-    record w { signals = without_signal w.signals n; memos = after_disposal w.memos n; watchers = map (forget n) w.watchers }
+    tell (changed_signal n Gone)
+    (record w { signals = without_signal w.signals n; memos = after_disposal w.memos n; watchers = map (forget n) w.watchers })
 
 -- a computed that has a host formula drops that first
 abbrev pub end_standing : Stands → ℕ → World → World

@@ -8,7 +8,8 @@ use Rattle.sig_formula.specs.Trees.{slot, binary}
 use Rattle.signal_model.specs.Recipes.{formula_recipe}
 use Rattle.signal_model.specs.Signals.{Cell, standing}
 use Rattle.signal_model.specs.Examples.{int}
-use Rattle.effect_model.specs.Worlds.{Environment, World}
+use Rattle.effect_model.specs.declared.how.How.TheVariants.{Set}
+use Rattle.effect_model.specs.Worlds.{Environment, changed_signal, notified, World}
 use Rattle.effect_model.specs.Commands.{Command, cell, computed, watcher, watch, ask, new_world, after_command}
 use Rattle.effect_model.specs.Labels.{labels_after}
 use Rattle.effect_model.specs.Examples.{Line, run, notify, error_frozen, lines_told, new_cell, environment}
@@ -119,6 +120,12 @@ given_back_exactly = (refl, refl)
 -- what stands as it stood isn't given back, so that nothing runs anew for it and no number rises
 pub nothing_given_back : (left_by (a_sum (begins ∷ sets 1 (int 9) ∷ sets 1 (int 1) ∷ aborts ∷ []))).world.memos.generation ≡ 2
 nothing_given_back = refl
+
+-- each set that is accepted is told as a change at once, and so is each giving back; a commit tells the notifications alone
+pub changes_told : (left_by (does (new_cell (int 1)) ∷ does (watcher false) ∷ does (watch 0 (0 ∷ [])) ∷ begins ∷ sets 0 (int 2) ∷ commits
+    ∷ does (watch 0 []) ∷ begins ∷ sets 0 (int 3) ∷ sets 0 (int 3) ∷ sets 0 (int 4) ∷ aborts ∷ [])).world.told
+    ≡ changed_signal 0 Set ∷ notified 0 ∷ changed_signal 0 Set ∷ changed_signal 0 Set ∷ changed_signal 0 Set ∷ []
+changes_told = refl
 
 -- the three batches of one script: told once, changed back, given back
 pub three_batches : printed_by (a_sum (begins ∷ sets 0 (int 20) ∷ sets 1 (int 2) ∷ does (ask (2 ∷ [])) ∷ commits

@@ -15,13 +15,14 @@ use Rattle.signal_model.specs.Recipes.{formula_recipe, host}
 use Rattle.signal_model.specs.Signals.{Cell}
 use Rattle.signal_model.specs.Sound.{names_of}
 use Rattle.signal_model.specs.Examples.{int, number}
+use Rattle.effect_model.specs.declared.how.How.TheVariants.{Set, Rewire, Gone}
 use Rattle.effect_model.specs.declared.plain.Plain.TheVariants as p
 use Rattle.effect_model.specs.Owners.{Thing, the_signal, the_owner, the_effect}
 use Rattle.effect_model.specs.Bodies.{Statements, no_more, Body}
 use Rattle.effect_model.specs.Bodies as body
 use Rattle.effect_model.specs.Worlds.{Environment, Event, ran, notified, frozen, logged, body_ran, failed, cleaned, gone, dropped_host, refused}
-use Rattle.effect_model.specs.Worlds.{made_child, noted, Refused, thing_gone, host_taken, still_due, World}
-use Rattle.effect_model.specs.Commands.{Command, cell, computed, owner, effect, watcher, watch, set, ask, dispose, flush_all, new_world}
+use Rattle.effect_model.specs.Worlds.{changed_signal, made_child, noted, Refused, thing_gone, host_taken, still_due, World}
+use Rattle.effect_model.specs.Commands.{Command, cell, computed, owner, effect, watcher, watch, set, rewire, ask, dispose, flush_all, new_world}
 use Rattle.effect_model.specs.Commands.{after_commands}
 use Rattle.effect_model.specs.Labels.{EffectLabel, Labels, label_of, labels_after}
 
@@ -53,7 +54,7 @@ abbrev pub end_line : Labels → Thing → Line
 end_line ls (the_effect n) = end_effect (label_of ls n)
 end_line ls t = end t
 
--- the lines of an event; the making of a child and the noting of a cleanup have none
+-- the lines of an event; a change of a signal, the making of a child and the noting of a cleanup have none
 abbrev pub event_lines : Labels → Event → List Line
 event_lines ls (ran m) = run m.run.name (names_of m.run.evaluation.reads) m.run.evaluation.outcome ∷ []
 event_lines ls (notified n) = notify n ∷ []
@@ -65,6 +66,7 @@ event_lines ls (cleaned t c) = clean_line ls t
 event_lines ls (gone t) = end_line ls t ∷ []
 event_lines ls (dropped_host place asks) = drop place asks ∷ []
 event_lines ls (refused why) = error why ∷ []
+event_lines ls (changed_signal n how) = []
 event_lines ls (made_child child parent k) = []
 event_lines ls (noted t c) = []
 
@@ -247,6 +249,24 @@ pub host_dropped : printed_by (with_host ++ new_cell (value.Bool false)
     ∷ evaluate (an_effect 0) (4 ∷ 3 ∷ []) ∷ drop 0 6 ∷ log (int 2)
     ∷ run 3 [] (Good (int 7)) ∷ evaluate (an_effect 0) (4 ∷ 3 ∷ []) ∷ log (int 7) ∷ run 3 [] (Good (int 7)) ∷ error (host_taken 0) ∷ []
 host_dropped = refl
+
+-- ---- changes of signals
+
+-- s = true, which a watcher watches; p = 1; q = 2; h picks p or q by s
+abbrev pub watched_host : List Command
+watched_host = with_host ++ watcher false ∷ watch 0 (0 ∷ []) ∷ []
+
+-- a change is told before the notifications, and a rewiring before the drop; a set to the same value and what is refused change nothing
+pub changes_told : (world_after (watched_host ++ set 0 (value.Bool true) ∷ set 0 (value.Bool false) ∷ rewire 3 (formula_recipe (slot 0) (1 ∷ []))
+    ∷ dispose (the_signal 1) ∷ dispose (the_signal 1) ∷ set 1 (int 5) ∷ [])).told
+    ≡ changed_signal 0 Set ∷ notified 0 ∷ changed_signal 3 Rewire ∷ dropped_host 0 0 ∷ changed_signal 1 Gone ∷ gone (the_signal 1)
+    ∷ refused (thing_gone (the_signal 1)) ∷ refused (thing_gone (the_signal 1)) ∷ []
+changes_told = refl
+
+-- an end is told as a change behind the drop
+pub end_is_change : (world_after (with_host ++ dispose (the_signal 3) ∷ [])).told
+    ≡ dropped_host 0 0 ∷ changed_signal 3 Gone ∷ gone (the_signal 3) ∷ []
+end_is_change = refl
 
 -- ---- turns
 

@@ -8,6 +8,7 @@ use Rattle.signal_model.specs.Values.{Seen}
 use Rattle.signal_model.specs.Memos.{Memos}
 use Rattle.signal_model.specs.Settling.{Settled, settled}
 use Rattle.signal_model.specs.Asks.{Moment, moments, asks_of}
+use Rattle.effect_model.specs.declared.how.How.{How}
 use Rattle.effect_model.specs.Owners.{Thing, the_signal, the_owner, the_effect, the_page, the_watcher, Cleanup, Owned}
 use Rattle.effect_model.specs.Bodies.{Body}
 
@@ -49,10 +50,12 @@ pub data Refused : Type 0 where
   host_taken : ℕ → Refused
   still_due : Refused
 
--- what is told; the making of a child and the noting of a cleanup print nothing
+-- what is told; a change of a signal, the making of a child and the noting of a cleanup print nothing
 pub data Event : Type 0 where
   -- a computed ran, on the signals of that moment
   ran : Moment → Event
+  -- a signal was changed so: it was set or given back, rewired, or it is gone
+  changed_signal : ℕ → How → Event
   -- a watcher is notified; and these are those whose notification tried a command
   notified : ℕ → Event
   frozen : List ℕ → Event

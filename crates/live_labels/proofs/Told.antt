@@ -12,12 +12,13 @@ use Rattle.live_entries.specs.declared.entry.Entry.{Entry}
 use Rattle.sig_base.specs.Words.{is_name, is_reserved}
 use Rattle.live_model.specs.Labels.{Labels, labels_after, nobody, relabelled}
 use Rattle.live_model.specs.Machine.{entries_of, event_entries}
-use Rattle.live_labels.specs.Entries.{entries_told, note_entry, renamed, signal_entry}
+use Rattle.live_labels.specs.Entries.{entries_told, note_entry, renamed, signal_entries}
 
 -- ---- entries
 
-signal_told : (l : Labels) (e : SignalEvent) (t : told.Event) → below.IsTold e t → signal_entry l e ∷ [] ≡ event_entries l t
+signal_told : (l : Labels) (e : SignalEvent) (t : told.Event) → below.IsTold e t → signal_entries l e ≡ event_entries l t
 signal_told l (signals.Run n) t h = ap (λ x. note_entry l.signals x ∷ []) h.note ∙ ap (event_entries l) (sym h.ran)
+signal_told l (signals.Change n how) t h = ap (event_entries l) (sym h)
 signal_told l (signals.Notify n) t h = ap (event_entries l) (sym h)
 signal_told l (signals.Frozen ns) t h = ap (event_entries l) (sym h)
 signal_told l (signals.Dropped place asks) t h = ap (event_entries l) (sym h)
@@ -39,6 +40,7 @@ one_told l (event.Noted e) t h = ap (event_entries l) (sym h.noted)
 
 signal_renames : (l : Labels) (e : SignalEvent) (t : told.Event) → below.IsTold e t → l ≡ relabelled t l
 signal_renames l (signals.Run n) t h = ap (λ u. relabelled u l) (sym h.ran)
+signal_renames l (signals.Change n how) t h = ap (λ u. relabelled u l) (sym h)
 signal_renames l (signals.Notify n) t h = ap (λ u. relabelled u l) (sym h)
 signal_renames l (signals.Frozen ns) t h = ap (λ u. relabelled u l) (sym h)
 signal_renames l (signals.Dropped place asks) t h = ap (λ u. relabelled u l) (sym h)

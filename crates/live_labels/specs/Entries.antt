@@ -17,17 +17,18 @@ use Rattle.live_model.specs.Labels.{Labels, label_at, label_of, name_at, relabel
 abbrev pub note_entry : List (List ℕ) → Note → Entry
 note_entry names n = entry.Run (name_at names n.name) (map (name_at names) n.reads) n.outcome
 
--- what is told of an event of signals and watchers
-abbrev pub signal_entry : Labels → SignalEvent → Entry
-signal_entry labels (signals.Run n) = note_entry labels.signals (note_of n)
-signal_entry labels (signals.Notify w) = entry.Notify (name_at labels.watchers w)
-signal_entry labels (signals.Frozen ws) = entry.Error (refusal.Frozen (map (name_at labels.watchers) ws.items))
-signal_entry labels (signals.Dropped place asks) = entry.Drop place asks
-signal_entry labels (signals.Gone t) = entry.Gone (label_of labels (ends.thing_of t))
+-- what is told of an event of signals and watchers; a change isn't told
+abbrev pub signal_entries : Labels → SignalEvent → List Entry
+signal_entries labels (signals.Run n) = note_entry labels.signals (note_of n) ∷ []
+signal_entries labels (signals.Change n how) = []
+signal_entries labels (signals.Notify w) = entry.Notify (name_at labels.watchers w) ∷ []
+signal_entries labels (signals.Frozen ws) = entry.Error (refusal.Frozen (map (name_at labels.watchers) ws.items)) ∷ []
+signal_entries labels (signals.Dropped place asks) = entry.Drop place asks ∷ []
+signal_entries labels (signals.Gone t) = entry.Gone (label_of labels (ends.thing_of t)) ∷ []
 
--- what is told of an event; the making of a child and the noting of a cleanup aren't told
+-- what is told of an event; a change of a signal, the making of a child and the noting of a cleanup aren't told
 abbrev pub entries_told : Labels → Event → List Entry
-entries_told labels (event.Signals e) = signal_entry labels e ∷ []
+entries_told labels (event.Signals e) = signal_entries labels e
 entries_told labels (event.Log v) = entry.Log v ∷ []
 entries_told labels (event.Body e reads) = entry.Effect (label_at labels.effects e) (map (name_at labels.signals) reads.items) ∷ []
 entries_told labels (event.Fail e f) = entry.Fail (label_at labels.effects e) f ∷ []

@@ -9,7 +9,7 @@ ghost use Rattle.live_entries.specs.declared.entry.Entry.TheVariants as entry;
 ghost use Rattle.live_entries.specs.declared.refusal.Refusal.TheVariants as refusal;
 ghost use Rattle.live_model.specs.Labels.{label_at, label_of, labels_after, name_at, relabelled};
 ghost use Rattle.live_model.specs.Machine.{entries_of};
-ghost use Rattle.live_labels.specs.Entries.{entries_told, note_entry, renamed, signal_entry};
+ghost use Rattle.live_labels.specs.Entries.{entries_told, note_entry, renamed, signal_entries};
 ghost use Rattle.live_labels.specs.Views.{labels_of, KeepsNames};
 
 use crate::labels::Labels;
@@ -77,27 +77,32 @@ fn end_entry(alloc: Global, labels: &Labels, thing: SignalThing) -> Result<Entry
     }
 }
 
-// What is told of an event of signals and watchers.
-fn signal_entry(alloc: Global, labels: &Labels, event: &SignalEvent) -> Result<Entry, NoMemory>
-    ensures { IfOk result (λ e. e ≡ signal_entry (labels_of labels.now) event.now) }
+// What is told of an event of signals and watchers, if it is told.
+fn signal_entry(
+    alloc: Global,
+    labels: &Labels,
+    event: &SignalEvent,
+) -> Result<Option<Entry>, NoMemory>
+    ensures { IfOk result (λ o. option_to_list o ≡ signal_entries (labels_of labels.now) event.now) }
 {
     match event {
         SignalEvent::Run(note) => {
             let entry = run_entry(alloc, &labels.signals, note)?;
-            Ok(entry)
+            Ok(Some(entry))
         }
+        SignalEvent::Change(_, _) => Ok(None),
         SignalEvent::Notify(watcher) => {
             let name = name_at(alloc, &labels.watchers, watcher.number())?;
-            Ok(Entry::Notify(name))
+            Ok(Some(Entry::Notify(name)))
         }
         SignalEvent::Frozen(watchers) => {
             let entry = frozen_entry(alloc, &labels.watchers, watchers)?;
-            Ok(entry)
+            Ok(Some(entry))
         }
-        SignalEvent::Dropped(place, asks) => Ok(Entry::Drop(*place as u64, *asks)),
+        SignalEvent::Dropped(place, asks) => Ok(Some(Entry::Drop(*place as u64, *asks))),
         SignalEvent::Gone(thing) => {
             let entry = end_entry(alloc, labels, *thing)?;
-            Ok(entry)
+            Ok(Some(entry))
         }
     }
 }
@@ -149,7 +154,7 @@ fn entry_of(alloc: Global, labels: &Labels, event: &Event) -> Result<Option<Entr
     match event {
         Event::Signals(event) => {
             let entry = signal_entry(alloc, labels, event)?;
-            Ok(Some(entry))
+            Ok(entry)
         }
         Event::Log(value) => {
             let value = value.copy()?;

@@ -6,7 +6,8 @@ use Rattle.sig_base.specs.Values.{scalar_value}
 use Rattle.sig_base.specs.declared.value.Value.{Value}
 use Rattle.sig_base.specs.declared.value.Value.TheVariants as value
 use Rattle.signal_model.specs.Signals.{Cell, IsCell, Stands, standing}
-use Rattle.effect_model.specs.Worlds.{Environment, Event, Watcher, World}
+use Rattle.effect_model.specs.declared.how.How.TheVariants.{Set}
+use Rattle.effect_model.specs.Worlds.{Environment, Event, changed_signal, Watcher, World}
 use Rattle.effect_model.specs.Acts.{are_alike, frozen_by, set_cell, set_standing, told_frozen, told_of, with_new_value}
 use Rattle.effect_model.specs.Runs.{flush}
 use Rattle.effect_tables.specs.Placed.{at_rest}
@@ -52,10 +53,10 @@ notices_told labels [] [] = refl
 notices_told labels [] (n ∷ ns) = refl
 notices_told labels (x ∷ xs) ns = ap (λ (es : List Entry). notices labels (x ∷ []) ++ es) (notices_told labels xs ns)
 
--- a world that tells these notices
-acted_notices : (m : Machine) (w : World) (xs : List Watcher) (ns : List ℕ) → w.told ≡ told_of xs ++ told_frozen ns →
+-- a world that tells of the change of a cell and these notices
+acted_notices : (m : Machine) (w : World) (n : ℕ) (xs : List Watcher) (ns : List ℕ) → w.told ≡ changed_signal n Set ∷ (told_of xs ++ told_frozen ns) →
     acted m w ≡ reached (record m { world = at_rest w }) (notices m.labels xs ++ freezing m.labels ns)
-acted_notices m w xs ns e =
+acted_notices m w n xs ns e =
     ap (λ (es : List Event). reached (record m { labels = labels_after es m.labels; world = at_rest w }) (entries_of m.labels es)) e
     ∙ ap (λ (labels : Labels). reached (record m { labels = labels; world = at_rest w }) (entries_of m.labels (told_of xs ++ told_frozen ns))) (same_labels m.labels xs ns)
     ∙ ap (reached (record m { world = at_rest w })) (notices_told m.labels xs ns)
@@ -66,7 +67,8 @@ change_law env m c i v x quiet fine change stands other =
     ap (λ (o : Option Refusal). option_map_or (refused m) o (done env m c)) fine
     ∙ set_done env m c i v change
     ∙ ap (acted m) (another_value env i v m.world x stands other)
-    ∙ acted_notices m (with_new_value i v m.world) xs (frozen_by xs) (ap (λ (es : List Event). es ++ (told_of xs ++ told_frozen (frozen_by xs))) quiet)
+    ∙ acted_notices m (with_new_value i v m.world) i xs (frozen_by xs)
+    (ap (λ (es : List Event). (es ++ changed_signal i Set ∷ []) ++ (told_of xs ++ told_frozen (frozen_by xs))) quiet)
 
 -- ---- a refused flush
 

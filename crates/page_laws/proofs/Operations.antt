@@ -6,7 +6,7 @@ use Rattle.std.proofs.lemmas.List.Concat.{flat_map-append}
 use Rattle.std.proofs.lemmas.Slice.Eq.{bytes_eq-Decides}
 use Rattle.signal_laws.proofs.Shared.{all_append, all_snoc}
 use Rattle.effect_model.specs.Owners.{Thing, the_signal, the_owner, the_effect, the_page, the_watcher}
-use Rattle.effect_model.specs.Worlds.{Event, ran, notified, frozen, logged, body_ran, failed, cleaned, gone, dropped_host, refused, made_child, noted}
+use Rattle.effect_model.specs.Worlds.{Event, ran, changed_signal, notified, frozen, logged, body_ran, failed, cleaned, gone, dropped_host, refused, made_child, noted}
 use Rattle.page_model.specs.Forest.{Forest}
 use Rattle.page_model.specs.Labels.{Kind, Look}
 use Rattle.page_model.specs.Pages.{NumberedPage, bare, edits_between, renumbered, tree_of}
@@ -98,6 +98,7 @@ event_quiet labels (body_ran e ns) n = refl
 event_quiet labels (failed e f) n = refl
 event_quiet labels (cleaned t c) n = cleanup_quiet labels t n
 event_quiet labels (gone t) n = refl
+event_quiet labels (changed_signal m how) n = refl
 event_quiet labels (dropped_host place asks) n = refl
 event_quiet labels (refused why) n = refl
 event_quiet labels (made_child c p k) n = refl

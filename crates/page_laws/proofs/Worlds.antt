@@ -16,6 +16,7 @@ use Rattle.signal_model.specs.Changes.{after_rewiring, with_recipe}
 use Rattle.signal_model.specs.Sound.{names_of}
 use Rattle.signal_model.specs.Values.{learnt, unknown_slots, value_of}
 use Rattle.signal_laws.proofs.Shared.{all_append, all_snoc}
+use Rattle.effect_model.specs.declared.how.How.TheVariants.{Rewire}
 use Rattle.effect_model.specs.declared.plain.Plain.{Plain}
 use Rattle.effect_model.specs.declared.plain.Plain.TheVariants as p
 use Rattle.effect_model.specs.Owners.{Thing, the_signal, the_owner, the_effect, the_page, the_watcher, Cleanup, sets, logs, nothing, cleanup, alone, Undoing, cleans, ends}
@@ -24,7 +25,7 @@ use Rattle.effect_model.specs.Bodies.{Act, to_set, to_log, to_note, to_make, to_
 use Rattle.effect_model.specs.Bodies.{to_do, failed_by, Statements, no_more, plain, when, effect, rewire, followed_by, one_first}
 use Rattle.effect_model.specs.Bodies.{and_then, with_answer, if_scalar, guarded, plain_step, body_step, after_body_read, after_body_step, with_known, body_asked_within}
 use Rattle.effect_model.specs.Bodies.{body_evaluation}
-use Rattle.effect_model.specs.Worlds.{Environment, Effect, Refused, thing_gone, cleaned, refused, World, tell, lives, settle}
+use Rattle.effect_model.specs.Worlds.{Environment, Effect, Refused, thing_gone, changed_signal, cleaned, refused, World, tell, lives, settle}
 use Rattle.effect_model.specs.Acts.{are_alike, with_new_value, set_standing, set_cell, host_of, with_drop, with_use, or_refused, rewiring_refused, rewire_standing}
 use Rattle.effect_model.specs.Acts.{rewire_signal, without_node, end_standing, end_of, do_cleanup, undo, undo_all, take_back, dispose_live, dispose_thing}
 use Rattle.effect_model.specs.Runs.{do_act, do_acts, next_child, keep_reads, do_result, run_effect, flush}
@@ -88,7 +89,7 @@ standing_rewired : (s : Stands) (n : ℕ) (r : Recipe) (w : World) → IsGoodWor
 standing_rewired IsGone n r w h = h
 standing_rewired (IsCell c) n r w h = h
 standing_rewired (IsComputed c) n r w h =
-    let v : World = record w { signals = with_recipe w.signals n r; memos = after_rewiring w.memos n } in
+    let v : World = tell (changed_signal n Rewire) (record w { signals = with_recipe w.signals n r; memos = after_rewiring w.memos n }) in
     drop_good (host_of c.recipe.expression) (with_use (host_of r.expression) v) (use_good (host_of r.expression) v h)
 
 pub signal_rewired : (n : ℕ) (r : Recipe) (w : World) → IsGoodWorld w → IsGoodWorld (rewire_signal n r w)

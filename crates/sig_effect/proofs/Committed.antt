@@ -1,5 +1,6 @@
 -- What changes that are collected in a batch do, where the stores do their part.
-use Rattle.std.proofs.Common.{◌≡◌, ◌+◌, ◌-◌, ◌≤◌, inl, inr, ℕ, Bool, true, false, cond, List, [], ◌∷◌, ◌++◌, length, map, Some, None, refl, sym, ap, subst, ◌∙◌, arith}
+use Rattle.std.proofs.Common.{◌≡◌, ◌+◌, ◌-◌, ◌≤◌, inl, inr, ℕ, Bool, true, false, cond, List, [], ◌∷◌, ◌++◌, length, map, Some, None, refl, sym, ap, subst, ◌∙◌, arith, append-nil, append_assoc}
+use Rattle.std.specs.List.{AllByRecursion}
 use Rattle.std.specs.Map.{keys_of}
 use Rattle.std.proofs.lemmas.List.{length-append}
 use Rattle.sig_base.specs.declared.value.Value.{Value}
@@ -8,9 +9,10 @@ use Rattle.std.specs.Prelude.{IsErr, Ok, ◌↔◌}
 use Rattle.std.specs.declared.result.Result.{Result}
 use Rattle.signal_model.specs.Signals.{Signals, Cell, Stands, IsGone, IsCell, IsComputed, is_computed, is_in, is_there, standing}
 use Rattle.signal_model.specs.Changes.{with_value}
-use Rattle.signal_model.specs.Kept.{AreKept}
+use Rattle.signal_model.specs.Kept.{AreGiven, AreKept}
 use Rattle.signal_model.specs.Memos.{Memos}
-use Rattle.signal_laws.proofs.Shared.{set_law}
+use Rattle.signal_laws.proofs.Shared.{given_set_law, set_law}
+use Rattle.effect_model.specs.declared.how.How.TheVariants.{Set}
 use Rattle.effect_model.specs.Worlds as plain
 use Rattle.effect_model.specs.Worlds.{Environment, Watcher}
 use Rattle.effect_model.specs.Acts.{are_alike, is_notified_by_any, notified_by_any, waiting_if, with_quiet_value}
@@ -18,23 +20,26 @@ use Rattle.effect_model.specs.Commands.{new_world}
 use Rattle.effect_model.specs.Batches.{Batch, abort, commit, is_other, joined, joined_by, joined_replaced, net_of, replaced_by, set_quietly, with_replacing}
 use Rattle.sig_host.specs.Hosts.{HostPlace}
 use Rattle.sig_nodes.specs.Answers.{uses_host}
-use Rattle.sig_nodes.specs.States.{Seen, State, Becomes, is_computing, with_set}
+use Rattle.sig_nodes.specs.States.{Seen, State, Becomes, is_computing, is_given, with_set}
 use Rattle.sig_watcher.specs.Tables.{Table, with_each}
 use Rattle.sig_watcher.specs.Notices.{told_entry}
 use Rattle.sig_computed.specs.Asked.{AreThere}
 use Rattle.sig_computed.specs.Notes.{IsIdle}
-use Rattle.sig_state.specs.Batches.{Collected, HasRoom, with_joining, with_return, with_returns}
+use Rattle.sig_state.specs.Batches.{all_given_back, Collected, HasRoom, with_joining, with_return, with_returns}
 use Rattle.sig_state.specs.Equality.{is_alike_here}
 use Rattle.sig_state.specs.declared.errors.Gone.{Gone}
 use Rattle.sig_state.specs.declared.sets.SetDone.{SetDone}
 use Rattle.sig_state.specs.declared.sets.SetDone.TheVariants.{Accepted, Same}
 use Rattle.sig_effect.specs.declared.events.Event.{Event}
+use Rattle.sig_effect.specs.declared.events.Event.TheVariants.{Change}
+use Rattle.sig_effect.specs.Events.{AreNamed, AreTold, Tells}
 use Rattle.sig_effect.specs.declared.world.World.{World}
-use Rattle.sig_effect.specs.Results.{AreNotices}
+use Rattle.sig_effect.specs.Results.{values_told, AreNotices}
 use Rattle.sig_effect.specs.Wholes.{host_states, whole_of}
 use Rattle.sig_effect.specs.Stores.{environment, Agrees, AreListed, AreOwn, AreRuled, AreUnasked, AreWatched, Does, IsSound}
 use Rattle.sig_effect.proofs.Acts.{does_by, tells_none, IsWhole}
 use Rattle.sig_effect.proofs.Edits.{cell_here, not_refused, not_same, notices_tell, there_by, watched_waiting}
+use Rattle.sig_effect.proofs.Names.{named_behind, named_still, named_values}
 use Rattle.sig_effect.proofs.Signals.{listed_value, ruled_value, value_host, value_keeps, watched_still}
 
 -- ---- a set in a batch
@@ -76,14 +81,27 @@ value_sound hosts asked old new n v c stands b sound = record {
   unasked = subst (λ (x : Signals). AreUnasked asked x) (sym (ap (λ (s : State). s.signals) b.state)) (record { never = sound.unasked.never });
 }
 
+-- these cells have another value, in the plain world
+abbrev values_changed : List ℕ → List plain.Event
+values_changed ns = map (λ (n : ℕ). plain.changed_signal n Set) ns
+
+values_each : (ns : List ℕ) → AreTold (values_told ns) (values_changed ns)
+values_each [] = tt
+values_each (n ∷ ns) = (refl, values_each ns)
+
+-- that is told one by one
+values_tell : (ns : List ℕ) (before after : List Event) → after ≡ before ++ values_told ns → Tells before after (values_changed ns)
+values_tell ns before after is = record { more = values_told ns; behind = is; each = values_each ns }
+
 -- a set that was accepted
-pub quiet_does : (hosts : Hosts) (slacks : List ℕ) (asked : List HostPlace) (old new : World) (before : List Event) (n : ℕ) (v : Value) (c : Cell) →
+pub quiet_does : (hosts : Hosts) (slacks : List ℕ) (asked : List HostPlace) (old new : World) (before after : List Event) (n : ℕ) (v : Value) (c : Cell) →
     standing old.graph.state.signals n ≡ IsCell c → are_alike slacks c.rule c.value v ≡ false → Becomes old.graph new.graph (with_set old.graph.state n v) →
-    new.watchers ≡ old.watchers → IsSound hosts asked old → Does hosts asked asked old new before before (set_quietly (environment hosts slacks) n v)
-quiet_does hosts slacks asked old new before n v c stands off b same sound =
-    does_by hosts asked asked old new before before (set_quietly (environment hosts slacks) n v) (with_quiet_value n v (whole_of asked old))
-    (quiet_other (environment hosts slacks) n v (whole_of asked old) c stands off) (quiet_whole asked old new n v b same) (tells_none before)
-    (value_sound hosts asked old new n v c stands b sound)
+    new.watchers ≡ old.watchers → after ≡ before ++ Change n Set ∷ [] → IsSound hosts asked old →
+    Does hosts asked asked old new before after (set_quietly (environment hosts slacks) n v)
+quiet_does hosts slacks asked old new before after n v c stands off b same told sound =
+    does_by hosts asked asked old new before after (set_quietly (environment hosts slacks) n v) (with_quiet_value n v (whole_of asked old))
+    (quiet_other (environment hosts slacks) n v (whole_of asked old) c stands off) (quiet_whole asked old new n v b same)
+    (values_tell (n ∷ []) before after told) (value_sound hosts asked old new n v c stands b sound)
 
 -- one that changed nothing
 pub quiet_nothing : (hosts : Hosts) (slacks : List ℕ) (asked : List HostPlace) (old : World) (before : List Event) (n : ℕ) (v : Value) →
@@ -174,21 +192,37 @@ commit_agrees asked old new f graph same a = record {
 
 -- ---- an abort
 
--- what it does to the signals and to what is kept of them, and it does nothing else
-pub abort_is : (b : Batch) (s : State) (x : plain.World) →
-    abort b (record x { signals = s.signals; memos = s.memos }) ≡ record x { signals = (with_returns b s).signals; memos = (with_returns b s).memos }
-abort_is [] s x = refl
-abort_is (p ∷ b) s x = go (is_other p.1 (standing s.signals p.0)) (abort_is b (with_set s p.0 p.1) x) (abort_is b s x)
+-- signals and what is kept of them after it, and what it tells
+abbrev after_returns : Batch → State → plain.World → plain.World
+after_returns b s x = record x {
+  signals = (with_returns b s).signals;
+  memos = (with_returns b s).memos;
+  told = x.told ++ values_changed (all_given_back b s);
+}
+
+-- it does nothing else
+pub abort_is : (b : Batch) (s : State) (x : plain.World) → abort b (record x { signals = s.signals; memos = s.memos }) ≡ after_returns b s x
+abort_is [] s x = λ i. record x { signals = s.signals; memos = s.memos; told = sym (append-nil x.told) i }
+abort_is (p ∷ b) s x = go (is_other p.1 (standing s.signals p.0)) (abort_is b (with_set s p.0 p.1) told_one) (abort_is b s x)
   where
     here : plain.World
     here = record x { signals = s.signals; memos = s.memos }
 
-    go : (t : Bool) →
-        abort b (with_quiet_value p.0 p.1 here) ≡ record x { signals = (with_returns b (with_set s p.0 p.1)).signals; memos = (with_returns b (with_set s p.0 p.1)).memos } →
-        abort b here ≡ record x { signals = (with_returns b s).signals; memos = (with_returns b s).memos } →
-        abort b (cond t (with_quiet_value p.0 p.1 here) here)
-        ≡ record x { signals = (with_returns b (cond t (with_set s p.0 p.1) s)).signals; memos = (with_returns b (cond t (with_set s p.0 p.1) s)).memos }
-    go true set kept = set
+    told_one : plain.World
+    told_one = record x { told = x.told ++ plain.changed_signal p.0 Set ∷ [] }
+
+    after : State
+    after = with_set s p.0 p.1
+
+    go : (t : Bool) → abort b (with_quiet_value p.0 p.1 here) ≡ after_returns b after told_one → abort b here ≡ after_returns b s x →
+        abort b (cond t (with_quiet_value p.0 p.1 here) here) ≡ record x {
+          signals = (with_returns b (cond t after s)).signals;
+          memos = (with_returns b (cond t after s)).memos;
+          told = x.told ++ values_changed (cond t (p.0 ∷ []) [] ++ all_given_back b (cond t after s));
+        }
+    go true set kept = set ∙ (λ i. record (after_returns b after x) {
+      told = append_assoc x.told (plain.changed_signal p.0 Set ∷ []) (values_changed (all_given_back b after)) i;
+    })
     go false set kept = kept
 
 -- whatever a set of a cell keeps, an abort keeps
@@ -210,13 +244,14 @@ returns_keep P sets (p ∷ b) s h = returns_keep P sets b (with_return p.0 p.1 s
 states_stay : (asked : List HostPlace) (b : Batch) (s : State) → host_states (uses_host (with_returns b s).signals) 0 asked ≡ host_states (uses_host s.signals) 0 asked
 states_stay asked b s = returns_keep (λ (z : State). host_states (uses_host z.signals) 0 asked ≡ host_states (uses_host s.signals) 0 asked) (λ z n v c e h. h) b s refl
 
-pub abort_does : (hosts : Hosts) (asked : List HostPlace) (old new : World) (before : List Event) (b : Batch) → Becomes old.graph new.graph (with_returns b old.graph.state) →
-    new.watchers ≡ old.watchers → IsSound hosts asked old → Does hosts asked asked old new before before (abort b)
-abort_does hosts asked old new before b becomes same sound =
+pub abort_does : (hosts : Hosts) (asked : List HostPlace) (old new : World) (before after : List Event) (b : Batch) →
+    Becomes old.graph new.graph (with_returns b old.graph.state) → new.watchers ≡ old.watchers →
+    after ≡ before ++ values_told (all_given_back b old.graph.state) → IsSound hosts asked old → Does hosts asked asked old new before after (abort b)
+abort_does hosts asked old new before after b becomes same told sound =
     let s : State = old.graph.state in
     let r : State = with_returns b s in
     let signals : new.graph.state.signals ≡ r.signals = ap (λ (z : State). z.signals) becomes.state in
-    does_by hosts asked asked old new before before (abort b) (record (whole_of asked old) { signals = r.signals; memos = r.memos }) (abort_is b s (whole_of asked old))
+    does_by hosts asked asked old new before after (abort b) (after_returns b s (whole_of asked old)) (abort_is b s (whole_of asked old))
     (record {
       signals = signals;
       memos = ap (λ (z : State). z.memos) becomes.state;
@@ -225,13 +260,39 @@ abort_does hosts asked old new before b becomes same sound =
       made = λ i. record ((new_world 0).made) { signals = becomes.given i; watchers = (same i).made };
       rest = refl;
     })
-    (tells_none before)
+    (values_tell (all_given_back b s) before after told)
     (record {
       kept = subst (λ (z : State). AreKept hosts z.signals z.memos) (sym becomes.state)
           (returns_keep (λ (z : State). AreKept hosts z.signals z.memos) (λ z n v c e h. set_law hosts z.signals z.memos n c v e h) b s sound.kept);
       unasked = subst (λ (x : Signals). AreUnasked asked x) (sym signals)
           (returns_keep (λ (z : State). AreUnasked asked z.signals) (λ z n v c e h. record { never = h.never }) b s sound.unasked);
     })
+
+-- what is given back was given an id
+back_given : (g : Seen) (b : Batch) (s : State) → AreGiven (is_given g) s.signals s.memos → AllByRecursion (λ (n : ℕ). is_given g n ≡ true) (all_given_back b s)
+back_given g [] s h = tt
+back_given g (p ∷ b) s h =
+    go (standing s.signals p.0) refl (back_given g b (with_set s p.0 p.1) (given_set_law (is_given g) s.signals s.memos p.0 p.1 h)) (back_given g b s h)
+  where
+    are_given : List ℕ → Type 0
+    are_given ns = AllByRecursion (λ (n : ℕ). is_given g n ≡ true) ns
+
+    by : (t : Bool) → is_given g p.0 ≡ true → are_given (all_given_back b (with_set s p.0 p.1)) → are_given (all_given_back b s) →
+        are_given (cond t (p.0 ∷ []) [] ++ all_given_back b (cond t (with_set s p.0 p.1) s))
+    by true one set kept = (one, set)
+    by false one set kept = kept
+
+    go : (z : Stands) → standing s.signals p.0 ≡ z → are_given (all_given_back b (with_set s p.0 p.1)) → are_given (all_given_back b s) →
+        are_given (cond (is_other p.1 z) (p.0 ∷ []) [] ++ all_given_back b (cond (is_other p.1 z) (with_set s p.0 p.1) s))
+    go IsGone e set kept = kept
+    go (IsCell c) e set kept = by (is_other p.1 (IsCell c)) (h.names p.0 (ap is_there e)) set kept
+    go (IsComputed c) e set kept = kept
+
+pub abort_named : (g h : Seen) (made : ℕ) (b : Batch) (before after : List Event) → AreGiven (is_given g) g.state.signals g.state.memos → h.given ≡ g.given →
+    after ≡ before ++ values_told (all_given_back b g.state) → AreNamed g made before → AreNamed h made after
+abort_named g h made b before after given same told named =
+    named_still g h made made after same refl
+    (named_behind g made before (values_told (all_given_back b g.state)) after told named (named_values g made (all_given_back b g.state) (back_given g b g.state given)))
 
 pub abort_agrees : (asked : List HostPlace) (old new : World) (b : Batch) → Becomes old.graph new.graph (with_returns b old.graph.state) →
     new.watchers ≡ old.watchers → Agrees asked old → Agrees asked new
@@ -283,3 +344,9 @@ accepted_over slacks s v r accepted kind gone same =
 -- what was put behind nothing is all
 pub behind_none : (all more none : List ℕ) → none ≡ [] → all ≡ none ++ more → all ≡ more
 behind_none all more none e h = h ∙ ap (λ (ns : List ℕ). ns ++ more) e
+
+-- those that were put behind nothing are told
+pub abort_told : (back : List ℕ) (before after : List Event) (none all told : List ℕ) → none ≡ [] → all ≡ none ++ back → told ≡ all → after ≡ before ++ values_told told →
+    after ≡ before ++ values_told back
+abort_told back before after none all told empty behind same is =
+    is ∙ ap (λ (ns : List ℕ). before ++ values_told ns) (same ∙ behind_none all back none empty behind)

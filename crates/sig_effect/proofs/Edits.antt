@@ -11,6 +11,7 @@ use Rattle.signal_model.specs.Changes.{with_value, with_recipe, without_signal, 
 use Rattle.signal_model.specs.Kept.{AreKept}
 use Rattle.signal_model.specs.Memos.{Memos}
 use Rattle.signal_laws.proofs.Shared.{set_law, rewire_law, dispose_law}
+use Rattle.effect_model.specs.declared.how.How.TheVariants.{Set, Rewire, Gone as Ended}
 use Rattle.effect_model.specs.Owners.{the_signal, the_watcher}
 use Rattle.effect_model.specs.Worlds as plain
 use Rattle.effect_model.specs.Worlds.{Environment, HostState, Watcher, dropped_host, watcher_numbers}
@@ -66,6 +67,15 @@ tells_behind before mid after ts e t h one is = record {
   each = told_behind h.more ts e t h.each one;
 }
 
+-- one more is told first
+tells_first : (before mid after : List Event) (e : Event) (t : plain.Event) (ts : List plain.Event) → mid ≡ before ++ e ∷ [] → IsTold e t → Tells mid after ts →
+    Tells before after (t ∷ ts)
+tells_first before mid after e t ts is one h = record {
+  more = e ∷ h.more;
+  behind = h.behind ∙ ap (λ es. es ++ h.more) is ∙ append_assoc before (e ∷ []) h.more;
+  each = (one, h.each);
+}
+
 -- a drop is told with its count
 abbrev pub drop_told : Option ℕ → List HostState → List plain.Event
 drop_told None ss = []
@@ -102,18 +112,18 @@ rewiring_fine w n r there free =
     ∙ ap (λ o. option_or o (host_refused (host_of r.expression) w)) (slots_fine w r.slots two.1) ∙ free
 
 -- a use and a drop, in the plain world
-changed_whole : (left new : Option ℕ) (v : Signals) (k : Memos) (asked : List HostPlace) (old : World) →
-    with_drop left (with_use new (record (whole_of asked old) { signals = v; memos = k }))
+changed_whole : (e : plain.Event) (left new : Option ℕ) (v : Signals) (k : Memos) (asked : List HostPlace) (old : World) →
+    with_drop left (with_use new (plain.tell e (record (whole_of asked old) { signals = v; memos = k })))
     ≡ record (whole_of asked old) {
       signals = v;
       memos = k;
       host_states = drop_states left (use_states new (host_states (uses_host old.graph.state.signals) 0 asked));
-      told = drop_told left (use_states new (host_states (uses_host old.graph.state.signals) 0 asked));
+      told = e ∷ drop_told left (use_states new (host_states (uses_host old.graph.state.signals) 0 asked));
     }
-changed_whole None None v k asked old = refl
-changed_whole None (Some j) v k asked old = refl
-changed_whole (Some l) None v k asked old = refl
-changed_whole (Some l) (Some j) v k asked old = refl
+changed_whole e None None v k asked old = refl
+changed_whole e None (Some j) v k asked old = refl
+changed_whole e (Some l) None v k asked old = refl
+changed_whole e (Some l) (Some j) v k asked old = refl
 
 -- a rewiring as an edit of one signal
 pub rewire_edit : (asked : List HostPlace) (old : World) (n : ℕ) (r : Recipe) (c : Computed) → standing old.graph.state.signals n ≡ IsComputed c → Agrees asked old →
@@ -138,20 +148,23 @@ rewire_is : (asked : List HostPlace) (old : World) (n : ℕ) (r : Recipe) (c : C
       signals = with_recipe old.graph.state.signals n r;
       memos = after_rewiring old.graph.state.memos n;
       host_states = drop_states (host_here (standing old.graph.state.signals n)) (use_states (host_of r.expression) (host_states (uses_host old.graph.state.signals) 0 asked));
-      told = drop_told (host_here (standing old.graph.state.signals n)) (use_states (host_of r.expression) (host_states (uses_host old.graph.state.signals) 0 asked));
+      told = plain.changed_signal n Rewire
+          ∷ drop_told (host_here (standing old.graph.state.signals n)) (use_states (host_of r.expression) (host_states (uses_host old.graph.state.signals) 0 asked));
     }
 rewire_is asked old n r c stands there free =
     let w0 : plain.World = whole_of asked old in
     let left : host_here (standing old.graph.state.signals n) ≡ host_of c.recipe.expression = ap host_here stands ∙ sym (host_same c.recipe.expression) in
     ap (λ o. or_refused o (rewire_standing (standing w0.signals n) n r w0) w0) (rewiring_fine w0 n r there free)
     ∙ ap (λ s. rewire_standing s n r w0) stands
-    ∙ ap (λ o. with_drop o (with_use (host_of r.expression) (record w0 { signals = with_recipe w0.signals n r; memos = after_rewiring w0.memos n }))) (sym left)
-    ∙ changed_whole (host_here (standing old.graph.state.signals n)) (host_of r.expression) (with_recipe w0.signals n r) (after_rewiring w0.memos n) asked old
+    ∙ ap (λ o. with_drop o (with_use (host_of r.expression)
+    (plain.tell (plain.changed_signal n Rewire) (record w0 { signals = with_recipe w0.signals n r; memos = after_rewiring w0.memos n })))) (sym left)
+    ∙ changed_whole (plain.changed_signal n Rewire) (host_here (standing old.graph.state.signals n)) (host_of r.expression) (with_recipe w0.signals n r) (after_rewiring w0.memos n) asked old
 
 pub rewire_does : (hosts : Hosts) (asked : List HostPlace) (old new : World) (before after : List Event) (n : ℕ) (r : Recipe) (c : Computed) →
     standing old.graph.state.signals n ≡ IsComputed c → are_there old.graph.state.signals (n ∷ r.slots) ≡ true →
     Becomes old.graph new.graph (with_rewiring old.graph.state n r) → new.watchers ≡ old.watchers → Agrees asked old →
-    host_refused (host_of r.expression) (whole_of asked old) ≡ None → after ≡ before ++ drop_events (host_here (standing old.graph.state.signals n)) asked → IsSound hosts asked old →
+    host_refused (host_of r.expression) (whole_of asked old) ≡ None →
+    after ≡ (before ++ event.Change n Rewire ∷ []) ++ drop_events (host_here (standing old.graph.state.signals n)) asked → IsSound hosts asked old →
     Does hosts asked (dropped_if (host_here (standing old.graph.state.signals n)) asked) old new before after (rewire_signal n r)
 rewire_does hosts asked old new before after n r c stands there b same a free told sound =
     let w : Signals = old.graph.state.signals in
@@ -169,8 +182,9 @@ rewire_does hosts asked old new before after n r c stands there b same a free to
       made = λ i. record ((new_world 0).made) { signals = b.given i; watchers = (same i).made };
       rest = refl;
     })
-    (drop_tells left asked (use_states (host_of r.expression) (host_states (uses_host w) 0 asked)) before after
-    (left_count w (with_recipe w n r) n left (host_of r.expression) asked edit a.there) told)
+    (tells_first before (before ++ event.Change n Rewire ∷ []) after (event.Change n Rewire) (plain.changed_signal n Rewire) _ refl refl
+    (drop_tells left asked (use_states (host_of r.expression) (host_states (uses_host w) 0 asked)) (before ++ event.Change n Rewire ∷ []) after
+    (left_count w (with_recipe w n r) n left (host_of r.expression) asked edit a.there) told))
     (record {
       kept = subst (λ (s : State). AreKept hosts s.signals s.memos) (sym b.state) (rewire_law hosts w old.graph.state.memos n c r stands sound.kept);
       unasked = subst (λ (v : Signals). AreUnasked (dropped_if left asked) v) (sym signals)
@@ -218,7 +232,7 @@ disposed_whole : (env : Environment) (asked : List HostPlace) (old : World) (n :
       memos = after_disposal old.graph.state.memos n;
       watchers = map (forget n) old.watchers.watchers;
       host_states = drop_states (host_here s) (host_states (uses_host old.graph.state.signals) 0 asked);
-      told = drop_told (host_here s) (host_states (uses_host old.graph.state.signals) 0 asked) ++ plain.gone (the_signal n) ∷ [];
+      told = (drop_told (host_here s) (host_states (uses_host old.graph.state.signals) 0 asked) ++ plain.changed_signal n Ended ∷ []) ++ plain.gone (the_signal n) ∷ [];
     }
 disposed_whole env asked old n IsGone h = cc
 disposed_whole env asked old n (IsCell c) h = refl
@@ -233,7 +247,7 @@ disposed_whole env asked old n (IsComputed c) h =
       memos = after_disposal old.graph.state.memos n;
       watchers = map (forget n) old.watchers.watchers;
       host_states = drop_states o (host_states (uses_host old.graph.state.signals) 0 asked);
-      told = drop_told o (host_states (uses_host old.graph.state.signals) 0 asked) ++ plain.gone (the_signal n) ∷ [];
+      told = (drop_told o (host_states (uses_host old.graph.state.signals) 0 asked) ++ plain.changed_signal n Ended ∷ []) ++ plain.gone (the_signal n) ∷ [];
     }
     go None = refl
     go (Some k) = refl
@@ -244,7 +258,8 @@ dispose_is : (env : Environment) (asked : List HostPlace) (old : World) (n : ℕ
       memos = after_disposal old.graph.state.memos n;
       watchers = map (forget n) old.watchers.watchers;
       host_states = drop_states (host_here (standing old.graph.state.signals n)) (host_states (uses_host old.graph.state.signals) 0 asked);
-      told = drop_told (host_here (standing old.graph.state.signals n)) (host_states (uses_host old.graph.state.signals) 0 asked) ++ plain.gone (the_signal n) ∷ [];
+      told = (drop_told (host_here (standing old.graph.state.signals n)) (host_states (uses_host old.graph.state.signals) 0 asked) ++ plain.changed_signal n Ended ∷ [])
+          ++ plain.gone (the_signal n) ∷ [];
     }
 dispose_is env asked old n there =
     let w0 : plain.World = whole_of asked old in
@@ -253,7 +268,7 @@ dispose_is env asked old n there =
 
 pub dispose_does : (hosts : Hosts) (slacks : List ℕ) (asked : List HostPlace) (old new : World) (before after : List Event) (n : ℕ) →
     is_there (standing old.graph.state.signals n) ≡ true → Becomes old.graph new.graph (with_disposal old.graph.state n) → new.watchers ≡ with_each (forget n) old.watchers →
-    Agrees asked old → after ≡ (before ++ drop_events (host_here (standing old.graph.state.signals n)) asked) ++ event.Gone (thing.Signal n) ∷ [] → IsSound hosts asked old →
+    Agrees asked old → after ≡ ((before ++ drop_events (host_here (standing old.graph.state.signals n)) asked) ++ event.Change n Ended ∷ []) ++ event.Gone (thing.Signal n) ∷ [] → IsSound hosts asked old →
     Does hosts asked (dropped_if (host_here (standing old.graph.state.signals n)) asked) old new before after (dispose_thing (environment hosts slacks) (the_signal n))
 dispose_does hosts slacks asked old new before after n there b same a told sound =
     let w : Signals = old.graph.state.signals in
@@ -272,8 +287,11 @@ dispose_does hosts slacks asked old new before after n there b same a told sound
       made = λ i. record ((new_world 0).made) { signals = b.given i; watchers = (same i).made };
       rest = refl;
     })
-    (tells_behind before (before ++ drop_events left asked) after (drop_told left ss) (event.Gone (thing.Signal n)) (plain.gone (the_signal n))
-    (drop_tells left asked ss before (before ++ drop_events left asked) (left_count w (without_signal w n) n left None asked edit a.there) refl) refl told)
+    (tells_behind before ((before ++ drop_events left asked) ++ event.Change n Ended ∷ []) after (drop_told left ss ++ plain.changed_signal n Ended ∷ [])
+    (event.Gone (thing.Signal n)) (plain.gone (the_signal n))
+    (tells_behind before (before ++ drop_events left asked) ((before ++ drop_events left asked) ++ event.Change n Ended ∷ []) (drop_told left ss)
+    (event.Change n Ended) (plain.changed_signal n Ended)
+    (drop_tells left asked ss before (before ++ drop_events left asked) (left_count w (without_signal w n) n left None asked edit a.there) refl) refl refl) refl told)
     (record {
       kept = subst (λ (s : State). AreKept hosts s.signals s.memos) (sym b.state) (dispose_law hosts w old.graph.state.memos n there sound.kept);
       unasked = subst (λ (v : Signals). AreUnasked (dropped_if left asked) v) (sym signals) (unasked_after w (without_signal w n) n left None asked edit a.there sound.unasked);
@@ -339,6 +357,7 @@ numbers_told (x ∷ xs) = (refl, numbers_told xs)
 
 frozen_told : (ns : List ℕ) (e : Event) → IsFrozen ns e → IsTold e (plain.frozen ns)
 frozen_told ns (event.Frozen ws) h = ap plain.frozen (sym h)
+frozen_told ns (event.Change n how) h = absurd h
 frozen_told ns (event.Run r) h = absurd h
 frozen_told ns (event.Notify w) h = absurd h
 frozen_told ns (event.Dropped p n) h = absurd h
@@ -405,7 +424,8 @@ same_does hosts slacks asked old new before after n v alike same told sound =
 pub set_does : (hosts : Hosts) (slacks : List ℕ) (asked : List HostPlace) (old new : World) (before after : List Event) (n : ℕ) (v : Value) (c : Cell) →
     standing old.graph.state.signals n ≡ IsCell c → is_alike_here slacks (standing old.graph.state.signals n) v ≡ false → Becomes old.graph new.graph (with_set old.graph.state n v) →
     new.watchers ≡ with_each (waiting_if (is_notified new.graph.state.signals new.graph.state.memos n)) old.watchers →
-    AreNotices (map told_entry (notified_by new.graph.state.signals new.graph.state.memos n old.watchers.watchers)) before after → IsSound hosts asked old →
+    AreNotices (map told_entry (notified_by new.graph.state.signals new.graph.state.memos n old.watchers.watchers)) (before ++ event.Change n Set ∷ []) after →
+    IsSound hosts asked old →
     Does hosts asked asked old new before after (set_cell (environment hosts slacks) n v)
 set_does hosts slacks asked old new before after n v c stands alike b same notices sound =
     let w : Signals = old.graph.state.signals in
@@ -423,7 +443,9 @@ set_does hosts slacks asked old new before after n v c stands alike b same notic
       made = λ i. record ((new_world 0).made) { signals = b.given i; watchers = (same i).made };
       rest = refl;
     })
-    (notices_tell xs before after (subst (λ x. x) (λ i. AreNotices (map told_entry (notified_by (signals i) (memos i) n old.watchers.watchers)) before after) notices))
+    (tells_first before (before ++ event.Change n Set ∷ []) after (event.Change n Set) (plain.changed_signal n Set) _ refl refl
+    (notices_tell xs (before ++ event.Change n Set ∷ []) after
+    (subst (λ x. x) (λ i. AreNotices (map told_entry (notified_by (signals i) (memos i) n old.watchers.watchers)) (before ++ event.Change n Set ∷ []) after) notices)))
     (record {
       kept = subst (λ (s : State). AreKept hosts s.signals s.memos) (sym b.state) (set_law hosts w k n c v stands sound.kept);
       unasked = subst (λ (x : Signals). AreUnasked asked x) (sym signals) (record { never = sound.unasked.never });
@@ -443,19 +465,23 @@ pub not_refused : (r : Result SetDone Gone) → r ≡ Ok Accepted → IsErr r �
 not_refused (Ok d) e h = cc
 not_refused (Err g) e h = let clash : false ≡ true = ap is_accepted e in cc
 
+-- so the cell stands
+pub set_there : (s : Stands) (r : Result SetDone Gone) → r ≡ Ok Accepted → IsErr r ↔ (is_there s ≡ false) → is_there s ≡ true
+set_there s r accepted gone = there_by (is_there s) (IsErr r) gone (not_refused r accepted)
+
 -- a set that was accepted, by what its calls answered
 pub set_accepted : (hosts : Hosts) (slacks : List ℕ) (asked : List HostPlace) (old new : World) (before after : List Event) (n : ℕ) (v : Value) (r : Result SetDone Gone) →
     r ≡ Ok Accepted → is_computed (standing old.graph.state.signals n) ≡ false → IsErr r ↔ (is_there (standing old.graph.state.signals n) ≡ false) →
     (r ≡ Ok Same) ↔ (is_alike_here slacks (standing old.graph.state.signals n) v ≡ true) → Becomes old.graph new.graph (with_set old.graph.state n v) →
     new.watchers ≡ with_each (waiting_if (is_notified new.graph.state.signals new.graph.state.memos n)) old.watchers →
     (none ts us : List Told) → none ≡ [] → ts ≡ none ++ map told_entry (notified_by new.graph.state.signals new.graph.state.memos n old.watchers.watchers) → us ≡ ts →
-    AreNotices us before after → IsSound hosts asked old → Does hosts asked asked old new before after (set_cell (environment hosts slacks) n v)
-set_accepted hosts slacks asked old new before after n v r accepted kind gone same b waits none ts us empty told same_told notices sound =
+    (mid : List Event) → mid ≡ before ++ event.Change n Set ∷ [] → AreNotices us mid after → IsSound hosts asked old → Does hosts asked asked old new before after (set_cell (environment hosts slacks) n v)
+set_accepted hosts slacks asked old new before after n v r accepted kind gone same b waits none ts us empty told same_told mid change notices sound =
     let there : is_there (standing old.graph.state.signals n) ≡ true = there_by (is_there (standing old.graph.state.signals n)) (IsErr r) gone (not_refused r accepted) in
     let c = cell_here (standing old.graph.state.signals n) there kind in
     let xs : List Told = map told_entry (notified_by new.graph.state.signals new.graph.state.memos n old.watchers.watchers) in
     set_does hosts slacks asked old new before after n v c.0 c.1 (not_same r (is_alike_here slacks (standing old.graph.state.signals n) v) accepted same) b waits
-    (subst (λ (z : List Told). AreNotices z before after) (same_told ∙ told ∙ ap (λ (z : List Told). z ++ xs) empty) notices) sound
+    (subst (λ es. AreNotices xs es after) change (subst (λ (z : List Told). AreNotices z mid after) (same_told ∙ told ∙ ap (λ (z : List Told). z ++ xs) empty) notices)) sound
 
 pub set_agrees : (asked : List HostPlace) (old new : World) (n : ℕ) (v : Value) → Becomes old.graph new.graph (with_set old.graph.state n v) →
     new.watchers ≡ with_each (waiting_if (is_notified new.graph.state.signals new.graph.state.memos n)) old.watchers → Agrees asked old → Agrees asked new
@@ -483,12 +509,12 @@ pub rewire_done : (hosts : Hosts) (asked later : List HostPlace) (old new : Worl
     is_cell (standing old.graph.state.signals n) ≡ false → are_there old.graph.state.signals (n ∷ r.slots) ≡ true →
     Becomes old.graph new.graph (with_rewiring old.graph.state n r) → new.watchers ≡ old.watchers → Agrees asked old →
     host_refused (host_of r.expression) (whole_of asked old) ≡ None → left ≡ host_here (standing old.graph.state.signals n) → later ≡ dropped_if left asked →
-    after ≡ before ++ drop_events left asked → IsSound hosts asked old → Does hosts asked later old new before after (rewire_signal n r)
-rewire_done hosts asked later old new before after n r left kind there b same a free was is told sound =
+    (mid : List Event) → mid ≡ before ++ event.Change n Rewire ∷ [] → after ≡ mid ++ drop_events left asked → IsSound hosts asked old → Does hosts asked later old new before after (rewire_signal n r)
+rewire_done hosts asked later old new before after n r left kind there b same a free was is mid change told sound =
     let two = both (is_there (standing old.graph.state.signals n)) (are_there old.graph.state.signals r.slots) there in
     let c = computed_here (standing old.graph.state.signals n) two.0 kind in
     subst (λ xs. Does hosts asked xs old new before after (rewire_signal n r)) (sym (is ∙ ap (λ o. dropped_if o asked) was))
-    (rewire_does hosts asked old new before after n r c.0 c.1 there b same a free (told ∙ ap (λ o. before ++ drop_events o asked) was) sound)
+    (rewire_does hosts asked old new before after n r c.0 c.1 there b same a free (told ∙ ap (λ es. es ++ drop_events left asked) change ∙ ap (λ o. (before ++ event.Change n Rewire ∷ []) ++ drop_events o asked) was) sound)
 
 pub rewire_agreed : (asked later : List HostPlace) (old new : World) (n : ℕ) (r : Recipe) (left : Option ℕ) →
     is_cell (standing old.graph.state.signals n) ≡ false → are_there old.graph.state.signals (n ∷ r.slots) ≡ true →
@@ -502,7 +528,7 @@ rewire_agreed asked later old new n r left kind there b same free was is a =
 pub dispose_done : (hosts : Hosts) (slacks : List ℕ) (asked later : List HostPlace) (old new : World) (before after : List Event) (n : ℕ) (t : Thing) → t ≡ thing.Signal n →
     is_there (standing old.graph.state.signals n) ≡ true → Becomes old.graph new.graph (with_disposal old.graph.state n) → new.watchers ≡ with_each (forget n) old.watchers →
     Agrees asked old → later ≡ dropped_if (host_here (standing old.graph.state.signals n)) asked →
-    after ≡ (before ++ drop_events (host_here (standing old.graph.state.signals n)) asked) ++ event.Gone (thing.Signal n) ∷ [] → IsSound hosts asked old →
+    after ≡ ((before ++ drop_events (host_here (standing old.graph.state.signals n)) asked) ++ event.Change n Ended ∷ []) ++ event.Gone (thing.Signal n) ∷ [] → IsSound hosts asked old →
     Does hosts asked later old new before after (dispose_thing (environment hosts slacks) (thing_of t))
 dispose_done hosts slacks asked later old new before after n t one there b same a is told sound =
     subst (λ x. x) (λ i. Does hosts asked (sym is i) old new before after (dispose_thing (environment hosts slacks) (thing_of (sym one i))))

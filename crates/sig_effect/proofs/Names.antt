@@ -5,6 +5,8 @@ use Rattle.std.proofs.lemmas.Bool.{eqb-true}
 use Rattle.std.proofs.lemmas.List.Elements.{All-append, All-from_recursion}
 use Rattle.signal_model.specs.Signals.{is_in}
 use Rattle.signal_model.proofs.Shared.{either}
+use Rattle.effect_model.specs.declared.how.How.{How}
+use Rattle.effect_model.specs.declared.how.How.TheVariants.{Gone as Ended}
 use Rattle.effect_model.specs.Worlds.{Watcher, watcher_numbers}
 use Rattle.effect_model.specs.Acts.{frozen_by}
 use Rattle.sig_host.specs.Hosts.{HostPlace}
@@ -19,7 +21,7 @@ use Rattle.sig_effect.specs.declared.events.Event.{Event}
 use Rattle.sig_effect.specs.declared.events.Event.TheVariants as event
 use Rattle.sig_effect.specs.declared.events.Thing.TheVariants as thing
 use Rattle.sig_effect.specs.Events.{AreNamed, IsNamed}
-use Rattle.sig_effect.specs.Results.{drop_events, AreFrozen, AreNotices, IsFrozen}
+use Rattle.sig_effect.specs.Results.{drop_events, values_told, AreFrozen, AreNotices, IsFrozen}
 
 -- ---- facts of all
 
@@ -35,6 +37,7 @@ named_one g h made more (event.Run n) same as' i = record {
   name = given_same g h n.id same ∙ i.name;
   reads = each_weaker (λ m. is_given g m ≡ true) (λ m. is_given h m ≡ true) (note_of n).reads (λ m q. given_same g h m same ∙ q) i.reads;
 }
+named_one g h made more (event.Change n how) same as' i = given_same g h n same ∙ i
 named_one g h made more (event.Notify n) same as' i = subst (λ m. n < m) (sym as') i
 named_one g h made more (event.Frozen ns) same as' i = subst (λ m. All (λ n. n < m) ns.items) (sym as') i
 named_one g h made more (event.Dropped place asks) same as' i = tt
@@ -58,13 +61,26 @@ pub named_left : (g h : Seen) (made : ℕ) (left : Option ℕ) (asked : List Hos
 named_left g h made left asked before after same told all =
     named_behind h made before (drop_events left asked) after told (named_still g h made made before same refl all) (named_drop h made left asked)
 
+-- a change names what was changed
+pub named_changed : (g : Seen) (made : ℕ) (before mid : List Event) (n : ℕ) (how : How) → is_given g n ≡ true → mid ≡ before ++ event.Change n how ∷ [] →
+    AreNamed g made before → AreNamed g made mid
+named_changed g made before mid n how given is old = named_behind g made before (event.Change n how ∷ []) mid is old (given, tt)
+
+-- and so do those of several cells
+pub named_values : (g : Seen) (made : ℕ) (ns : List ℕ) → AllByRecursion (λ (n : ℕ). is_given g n ≡ true) ns → AllByRecursion (IsNamed g made) (values_told ns)
+named_values g made [] all = tt
+named_values g made (n ∷ ns) all = (all.0, named_values g made ns all.1)
+
 -- and an end names what ended
 pub named_ended : (g h : Seen) (made more : ℕ) (left : Option ℕ) (asked : List HostPlace) (before after : List Event) (n : ℕ) → h.given ≡ g.given → more ≡ made →
-    is_given g n ≡ true → after ≡ (before ++ drop_events left asked) ++ event.Gone (thing.Signal n) ∷ [] → AreNamed g made before → AreNamed h more after
+    is_given g n ≡ true → after ≡ ((before ++ drop_events left asked) ++ event.Change n Ended ∷ []) ++ event.Gone (thing.Signal n) ∷ [] → AreNamed g made before →
+    AreNamed h more after
 named_ended g h made more left asked before after n same as' given told all =
     let mid : List Event = before ++ drop_events left asked in
-    named_behind h more mid (event.Gone (thing.Signal n) ∷ []) after told
-    (named_still h h made more mid refl as' (named_left g h made left asked before mid same refl all)) (given_same g h n same ∙ given, tt)
+    let ended : List Event = mid ++ event.Change n Ended ∷ [] in
+    let there : is_given h n ≡ true = given_same g h n same ∙ given in
+    named_behind h more ended (event.Gone (thing.Signal n) ∷ []) after told
+    (named_still h h made more ended refl as' (named_changed h made mid ended n Ended there refl (named_left g h made left asked before mid same refl all))) (there, tt)
 
 -- ---- numbers of watchers
 
@@ -109,6 +125,7 @@ notified_named g made (x ∷ xs) all = (all.0, notified_named g made xs all.1)
 frozen_named : (g : Seen) (made : ℕ) (ns : List ℕ) (e : Event) → IsFrozen ns e → All (λ n. n < made) ns → IsNamed g made e
 frozen_named g made ns (event.Frozen ws) h all = subst (All (λ n. n < made)) (sym h) all
 frozen_named g made ns (event.Run r) h all = absurd h
+frozen_named g made ns (event.Change n how) h all = absurd h
 frozen_named g made ns (event.Notify w) h all = absurd h
 frozen_named g made ns (event.Dropped p n) h all = absurd h
 frozen_named g made ns (event.Gone t) h all = absurd h

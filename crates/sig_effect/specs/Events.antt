@@ -11,7 +11,7 @@ use Rattle.sig_computed.specs.Notes.{note_of, run_note, IsNoteGiven, Note}
 use Rattle.sig_effect.specs.declared.events.Thing.{Thing}
 use Rattle.sig_effect.specs.declared.events.Thing.TheVariants.{Signal, Watcher}
 use Rattle.sig_effect.specs.declared.events.Event.{Event}
-use Rattle.sig_effect.specs.declared.events.Event.TheVariants.{Run, Notify, Frozen, Dropped, Gone}
+use Rattle.sig_effect.specs.declared.events.Event.TheVariants.{Run, Change, Notify, Frozen, Dropped, Gone}
 
 -- a thing as the definitions have it
 abbrev pub thing_of : Thing → things.Thing
@@ -27,6 +27,7 @@ pub record IsRunTold (n : Note) (t : told.Event) : Type 0 where
 -- an event tells what the plain world tells
 abbrev pub IsTold : Event → told.Event → Type 0
 IsTold (Run n) t = IsRunTold (note_of n) t
+IsTold (Change n how) t = t ≡ told.changed_signal n how
 IsTold (Notify n) t = t ≡ told.notified n
 IsTold (Frozen ns) t = t ≡ told.frozen ns.items
 IsTold (Dropped place asks) t = t ≡ told.dropped_host place asks
@@ -52,6 +53,7 @@ signals_without (Watcher n) w = w
 -- what an event names was made: a signal by the graph, and a watcher among so many
 abbrev pub IsNamed : Seen → ℕ → Event → Type 0
 IsNamed g made (Run n) = IsNoteGiven g (note_of n)
+IsNamed g made (Change n how) = is_given g n ≡ true
 IsNamed g made (Notify n) = n < made
 IsNamed g made (Frozen ns) = All (λ n. n < made) ns.items
 IsNamed g made (Dropped place asks) = Unit {0}

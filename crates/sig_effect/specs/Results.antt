@@ -1,10 +1,11 @@
 -- What changes tell, and what they leave.
 use Rattle.std.specs.Prelude.{◌≡◌, ℕ, List, [], ◌∷◌, ◌++◌, map, Option, Some, None}
 use Rattle.std.specs.List.{filter}
+use Rattle.effect_model.specs.declared.how.How.TheVariants.{Set}
 use Rattle.sig_host.specs.Hosts.{HostPlace, count_at, dropped_at}
 use Rattle.sig_watcher.specs.declared.recipients.Told.{Told}
 use Rattle.sig_effect.specs.declared.events.Event.{Event}
-use Rattle.sig_effect.specs.declared.events.Event.TheVariants.{Notify, Frozen, Dropped}
+use Rattle.sig_effect.specs.declared.events.Event.TheVariants.{Change, Notify, Frozen, Dropped}
 
 -- the host formula of a place that was left is dropped, where one was
 abbrev pub dropped_if : Option ℕ → List HostPlace → List HostPlace
@@ -15,6 +16,10 @@ dropped_if (Some place) asked = dropped_at asked place
 abbrev pub drop_events : Option ℕ → List HostPlace → List Event
 drop_events None asked = []
 drop_events (Some place) asked = Dropped place (count_at asked place) ∷ []
+
+-- these cells have another value, and that is told
+abbrev pub values_told : List ℕ → List Event
+values_told ns = map (λ (n : ℕ). Change n Set) ns
 
 -- the watchers that were told, and those among them whose try was refused
 abbrev pub ids_told : List Told → List ℕ

@@ -1,5 +1,5 @@
-// Changes that are collected while a batch is open: they are told together, or given back.
-ghost use Rattle.std.specs.Prelude.{◌≡◌, ◌+◌, ◌<◌, ◌≤◌, ◌^◌, ◌↔◌, ℕ, false, List, IsErr, IfOk, OnErr, OnOk, length, map};
+// Changes that are collected while a batch is open: watchers are notified of them together, or they are given back.
+ghost use Rattle.std.specs.Prelude.{◌≡◌, ◌+◌, ◌<◌, ◌≤◌, ◌^◌, ◌⊎◌, ℕ, true, false, List, IfErr, IfOk, IsErrOf, OnOk, length, map};
 ghost use Rattle.signal_model.specs.Recipes.{Hosts};
 ghost use Rattle.signal_model.specs.Signals.{is_computed, is_there, standing};
 ghost use Rattle.effect_model.specs.Acts.{is_notified_by_any, notified_by_any, waiting_if};
@@ -7,7 +7,7 @@ ghost use Rattle.effect_model.specs.Batches.{abort, commit, joined_by, set_quiet
 ghost use Rattle.sig_host.specs.Hosts.{HostPlace};
 ghost use Rattle.sig_state.specs.Batches.{AreRuled as AreRuledIn, HasRoom};
 ghost use Rattle.sig_state.specs.Equality.{is_alike_here, IsRuled};
-ghost use Rattle.sig_effect.specs.declared.events.Event.{Event};
+ghost use Rattle.sig_effect.specs.declared.errors.EffectFault.TheVariants as fault;
 ghost use Rattle.sig_effect.specs.Stores.{environment, Agrees, AreRuled, Does, IsSound, Stays};
 ghost use Rattle.sig_effect.specs.Answers.{is_same};
 ghost use Rattle.sig_effect.specs.Events.{AreNamed};
@@ -15,47 +15,60 @@ ghost use Rattle.sig_effect.specs.Results.{AreNotices};
 ghost use Rattle.sig_watcher.specs.Notices.{told_entry};
 ghost use Rattle.sig_watcher.specs.Tables.{with_each};
 
+use crate::errors::EffectFault;
 use crate::events::Event;
-use crate::notices::tell_notified;
+use crate::notices::{tell_change, tell_notified, tell_values};
 use crate::world::World;
+use effect_model::How;
 use sig_base::{NoMemory, NodeId, Value};
 use sig_host::EqualsRule;
 use sig_state::{Batch, Gone, SetDone, set_in};
 
 impl World {
     /// Gives a cell a value while a batch is open, unless its equality calls it the same as the one that it has: the cell joins the batch
-    /// with its value before, and nobody is told. It takes no memory.
+    /// with its value before. The change is told, and nobody is notified.
     ///
     /// # Errors
     ///
-    /// `Gone` where the cell is gone; then all is as before.
+    /// `Gone` where the cell is gone; then all is as before. After `NoMemory` world and batch may only be dropped.
     pub fn set_in(
         &mut self,
         batch: &mut Batch,
         rules: &[EqualsRule],
         id: NodeId,
         value: Value,
-    ) -> Result<SetDone, Gone>
+        events: &mut Vec<Event>,
+    ) -> Result<SetDone, EffectFault>
         requires kind { is_computed (standing self.old.graph.state.signals id) ≡ false }
         requires ruled { IsRuled (length rules.now) (standing self.old.graph.state.signals id) }
         requires worn { self.old.graph.state.worn < 2 ^ 127 }
         requires room { HasRoom id batch.old }
         ensures done { IfOk result (λ d. is_same d ≡ is_alike_here (map (λ r. r.slack) rules.now) (standing self.old.graph.state.signals id) value) }
-        ensures does { (hosts : Hosts) (asked : List HostPlace) (before : List Event) → IsSound hosts asked self.old →
-            OnOk result (Does hosts asked asked self.old self.new before before (set_quietly (environment hosts (map (λ r. r.slack) rules.now)) id value)) }
+        ensures does { (hosts : Hosts) (asked : List HostPlace) → IsSound hosts asked self.old →
+            OnOk result (Does hosts asked asked self.old self.new events.old.items events.new.items
+            (set_quietly (environment hosts (map (λ r. r.slack) rules.now)) id value)) }
         ensures collects { OnOk result (batch.new.changed
             ≡ joined_by (map (λ r. r.slack) rules.now) (standing self.old.graph.state.signals id) id value batch.old.changed) }
         ensures room { OnOk result (length batch.new.changed + batch.new.spare ≡ length batch.old.changed + batch.old.spare) }
         ensures agrees { (asked : List HostPlace) → Agrees asked self.old → OnOk result (Agrees asked self.new) }
         ensures rules { (count : ℕ) → AreRuled count self.old.graph.state.signals → OnOk result (AreRuled count self.new.graph.state.signals) }
+        ensures named { AreNamed self.old.graph self.old.watchers.made events.old.items →
+            OnOk result (AreNamed self.new.graph self.new.watchers.made events.new.items) }
         ensures stays { OnOk result (Stays self.old self.new) }
-        ensures gone { IsErr result ↔ (is_there (standing self.old.graph.state.signals id) ≡ false) }
-        ensures err { OnErr result ((self.new ≡ self.old) × (batch.new ≡ batch.old)) }
+        ensures there { OnOk result (is_there (standing self.old.graph.state.signals id) ≡ true) }
+        ensures gone { IsErrOf result fault.Gone → is_there (standing self.old.graph.state.signals id) ≡ false }
+        ensures fault { IfErr result (λ e. (e ≡ fault.Gone) ⊎ (e ≡ fault.NoMemory)) }
+        ensures err { IsErrOf result fault.Gone → (self.new ≡ self.old) × (batch.new ≡ batch.old) }
+        ensures untold { IsErrOf result fault.Gone → events.new ≡ events.old }
     {
+        let _made = self.graph.made();
         match set_in(batch, &mut self.graph, rules, id, value) {
-            Ok(SetDone::Accepted) => Ok(SetDone::Accepted),
+            Ok(SetDone::Accepted) => {
+                tell_change(events, id, How::Set)?;
+                Ok(SetDone::Accepted)
+            }
             Ok(SetDone::Same) => Ok(SetDone::Same),
-            Err(Gone) => Err(Gone),
+            Err(Gone) => Err(EffectFault::Gone),
         }
     }
 
@@ -105,18 +118,28 @@ impl World {
         Ok(())
     }
 
-    /// Gives each cell of a batch that ends the value back that it had as the batch began, where it has another one. Nobody is told. It
-    /// takes no memory.
-    pub fn abort(&mut self, batch: Batch)
+    /// Gives each cell of a batch that ends the value back that it had as the batch began, where it has another one. Each such change is
+    /// told, and nobody is notified.
+    ///
+    /// # Errors
+    ///
+    /// `NoMemory` alone; then the world may only be dropped.
+    pub fn abort(&mut self, batch: Batch, events: &mut Vec<Event>) -> Result<(), NoMemory>
         requires worn { self.old.graph.state.worn < 2 ^ 127 }
-        ensures does { (hosts : Hosts) (asked : List HostPlace) (before : List Event) → IsSound hosts asked self.old →
-            Does hosts asked asked self.old self.new before before (abort batch.changed) }
-        ensures agrees { (asked : List HostPlace) → Agrees asked self.old → Agrees asked self.new }
-        ensures rules { (count : ℕ) → AreRuled count self.old.graph.state.signals → AreRuled count self.new.graph.state.signals }
-        ensures given { self.new.graph.given ≡ self.old.graph.given }
-        ensures watchers { self.new.watchers ≡ self.old.watchers }
-        ensures worn { self.new.graph.state.worn ≤ self.old.graph.state.worn + length batch.changed }
+        ensures does { (hosts : Hosts) (asked : List HostPlace) → IsSound hosts asked self.old →
+            OnOk result (Does hosts asked asked self.old self.new events.old.items events.new.items (abort batch.changed)) }
+        ensures agrees { (asked : List HostPlace) → Agrees asked self.old → OnOk result (Agrees asked self.new) }
+        ensures rules { (count : ℕ) → AreRuled count self.old.graph.state.signals → OnOk result (AreRuled count self.new.graph.state.signals) }
+        ensures named { AreNamed self.old.graph self.old.watchers.made events.old.items →
+            OnOk result (AreNamed self.new.graph self.new.watchers.made events.new.items) }
+        ensures given { OnOk result (self.new.graph.given ≡ self.old.graph.given) }
+        ensures watchers { OnOk result (self.new.watchers ≡ self.old.watchers) }
+        ensures worn { OnOk result (self.new.graph.state.worn ≤ self.old.graph.state.worn + length batch.changed) }
     {
-        batch.abort(&mut self.graph);
+        let _made = self.graph.made();
+        let mut cells = Vec::with_capacity(*events.allocator(), batch.len())?;
+        batch.abort(&mut self.graph, &mut cells);
+        tell_values(events, &cells)?;
+        Ok(())
     }
 }

@@ -18,16 +18,17 @@ ghost use Rattle.sig_effect.specs.Wholes.{whole_of};
 
 use crate::errors::EffectFault;
 use crate::events::Event;
-use crate::notices::{drop_left, tell_notified};
+use crate::notices::{drop_left, tell_change, tell_notified};
 use crate::world::World;
+use effect_model::How;
 use sig_base::{NodeId, Value};
 use sig_host::{EqualsRule, Lent, Shelf};
 use sig_nodes::Recipe;
 use sig_state::{Gone, SetDone, set};
 
 impl World {
-    /// Gives a cell a value, unless its equality calls it the same as the one that it has. A set that is accepted notifies watchers,
-    /// in the order of making; those whose notification tried a command are told behind them, all at once.
+    /// Gives a cell a value, unless its equality calls it the same as the one that it has. A set that is accepted is told as a change, and
+    /// notifies watchers, in the order of making; those whose notification tried a command are told behind them, all at once.
     ///
     /// # Errors
     ///
@@ -59,10 +60,12 @@ impl World {
         ensures err { IsErrOf result fault.Gone → self.new ≡ self.old }
         ensures untold { IsErrOf result fault.Gone → events.new ≡ events.old }
     {
+        let _made = self.graph.made();
         let mut told = Vec::with_capacity(*events.allocator(), self.watchers.live())?;
         match set(&mut self.graph, rules, id, value) {
             Ok(SetDone::Accepted) => {
                 self.watchers.tell(&self.graph, id, &mut told);
+                tell_change(events, id, How::Set)?;
                 tell_notified(events, &told)?;
                 Ok(SetDone::Accepted)
             }
@@ -71,8 +74,8 @@ impl World {
         }
     }
 
-    /// Gives a computed another recipe. A host formula that it asks has to be free; the one that it asked before is dropped, and told
-    /// with the number of its asks.
+    /// Gives a computed another recipe, and tells of the change. A host formula that it asks has to be free; the one that it asked before
+    /// is dropped, and told with the number of its asks.
     ///
     /// # Errors
     ///
@@ -113,7 +116,9 @@ impl World {
         ensures err { IsErrOf result fault.Gone → (self.new ≡ self.old) }
         ensures untold { IsErrOf result fault.Gone → (shelf.new ≡ shelf.old) × (events.new ≡ events.old) }
     {
+        let _made = self.graph.made();
         let left = self.graph.rewire(id, recipe, slots)?;
+        tell_change(events, id, How::Rewire)?;
         drop_left(shelf, left, events)?;
         Ok(())
     }

@@ -4,6 +4,7 @@ ghost use Rattle.signal_model.specs.Recipes.{Hosts};
 ghost use Rattle.signal_model.specs.Signals.{is_there, standing};
 ghost use Rattle.effect_model.specs.Acts.{dispose_thing, forget};
 ghost use Rattle.effect_model.specs.Worlds.{lives};
+ghost use Rattle.effect_model.specs.declared.how.How.TheVariants as how;
 ghost use Rattle.sig_host.specs.Hosts.{most_asked};
 ghost use Rattle.sig_nodes.specs.Answers.{host_here};
 ghost use Rattle.sig_nodes.specs.States.{is_given, with_disposal, Becomes, CanWear};
@@ -18,14 +19,15 @@ ghost use Rattle.sig_effect.specs.Wholes.{whole_of};
 
 use crate::errors::EffectFault;
 use crate::events::{Event, Thing};
-use crate::notices::drop_left;
+use crate::notices::{drop_left, tell_change};
 use crate::world::World;
+use effect_model::How;
 use sig_base::{NodeId, WatcherId};
 use sig_host::{Lent, Shelf};
 
 impl World {
     /// Disposes a thing. A computed that asks a host formula drops it first, and that is told with the number of its asks; a signal
-    /// goes out of all watchers.
+    /// goes out of all watchers, and its end is told as a change too.
     ///
     /// # Errors
     ///
@@ -85,9 +87,9 @@ impl World {
         ensures watchers { OnOk result (self.new.watchers ≡ with_each (forget id) self.old.watchers) }
         ensures asked { OnOk result (⟦<Shelf as Lent>⟧.asked shelf.new
             ≡ dropped_if (host_here (standing self.old.graph.state.signals id)) (⟦<Shelf as Lent>⟧.asked shelf.old)) }
-        ensures events { OnOk result (events.new.items ≡ (events.old.items
+        ensures events { OnOk result (events.new.items ≡ ((events.old.items
             ++ drop_events (host_here (standing self.old.graph.state.signals id)) (⟦<Shelf as Lent>⟧.asked shelf.old))
-            ++ event.Gone (thing.Signal id) ∷ []) }
+            ++ event.Change id how.Gone ∷ []) ++ event.Gone (thing.Signal id) ∷ []) }
         ensures answers { (hosts : Hosts) → ⟦<Shelf as Lent>⟧.answers hosts shelf.old → OnOk result (⟦<Shelf as Lent>⟧.answers hosts shelf.new) }
         ensures counted { OnOk result (⟦<Shelf as Lent>⟧.counted shelf.new) }
         ensures there { OnOk result (is_there (standing self.old.graph.state.signals id) ≡ true) }
@@ -101,6 +103,7 @@ impl World {
         let left = self.graph.dispose_node(id)?;
         drop_left(shelf, left, events)?;
         self.watchers.forget(id);
+        tell_change(events, id, How::Gone)?;
         events.push(Event::Gone(Thing::Signal(id)))?;
         Ok(())
     }

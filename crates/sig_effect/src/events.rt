@@ -1,5 +1,6 @@
 // What is told on the way.
 
+use effect_model::How;
 use sig_base::{NodeId, WatcherId};
 use sig_computed::RunNote;
 
@@ -14,6 +15,8 @@ pub enum Thing {
 pub enum Event {
     /// A computed ran.
     Run(RunNote),
+    /// A signal was changed: a cell was set or given back, a computed rewired, or either is gone.
+    Change(NodeId, How),
     /// A watcher was notified, and is waiting from then on.
     Notify(WatcherId),
     /// The notifications of these watchers tried a command, which was refused.
@@ -28,6 +31,7 @@ impl Drop for Event {
     fn drop(self) {
         match self {
             Event::Run(_) => {}
+            Event::Change(_, _) => {}
             Event::Notify(_) => {}
             Event::Frozen(_) => {}
             Event::Dropped(_, _) => {}

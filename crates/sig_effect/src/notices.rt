@@ -4,10 +4,11 @@ ghost use Rattle.std.specs.List.{filter};
 ghost use Rattle.signal_model.specs.Recipes.{Hosts};
 ghost use Rattle.sig_host.specs.Hosts.{is_there};
 ghost use Rattle.sig_effect.specs.declared.events.Event.TheVariants as event;
-ghost use Rattle.sig_effect.specs.Results.{drop_events, dropped_if, ids_refused, ids_told, AreNotices};
+ghost use Rattle.sig_effect.specs.Results.{drop_events, dropped_if, ids_refused, ids_told, values_told, AreNotices};
 
 use crate::events::Event;
-use sig_base::{NoMemory, WatcherId};
+use effect_model::How;
+use sig_base::{NoMemory, NodeId, WatcherId};
 use sig_computed::RunNote;
 use sig_host::{Lent, Shelf};
 use sig_watcher::Told;
@@ -19,6 +20,24 @@ pub(crate) fn tell_runs(events: &mut Vec<Event>, notes: Vec<RunNote>) -> Result<
 {
     for note in notes {
         events.push(Event::Run(note))?;
+    }
+    Ok(())
+}
+
+/// Tells that a signal was changed.
+pub(crate) fn tell_change(events: &mut Vec<Event>, id: NodeId, how: How) -> Result<(), NoMemory>
+    ensures { OnOk result (events.new.items ≡ events.old.items ++ event.Change id how ∷ []) }
+{
+    events.push(Event::Change(id, how))?;
+    Ok(())
+}
+
+/// Tells that these cells have another value, in order.
+pub(crate) fn tell_values(events: &mut Vec<Event>, cells: &[NodeId]) -> Result<(), NoMemory>
+    ensures { OnOk result (events.new.items ≡ events.old.items ++ values_told cells.now) }
+{
+    for id in cells {
+        events.push(Event::Change(*id, How::Set))?;
     }
     Ok(())
 }

@@ -1,5 +1,5 @@
 -- What callers see of a batch, and what its calls make of it and of a graph.
-use Rattle.std.specs.Prelude.{◌≡◌, ℕ, ◌-◌, ◌<◌, ◌⊎◌, true, [], ◌∷◌, if◌then◌else◌}
+use Rattle.std.specs.Prelude.{◌≡◌, ℕ, ◌-◌, ◌<◌, ◌⊎◌, true, List, [], ◌∷◌, ◌++◌, if◌then◌else◌}
 use Rattle.std.specs.Map.{keys_of}
 use Rattle.sig_base.specs.declared.value.Value.{Value}
 use Rattle.signal_model.specs.Signals.{Signals, Stands, IsCell, is_in, standing}
@@ -36,7 +36,16 @@ AreRuled rules w b = (n : ℕ) → is_in n (keys_of b) ≡ true → IsRuled rule
 abbrev pub with_return : ℕ → Value → State → State
 with_return n before s = if is_other before (standing s.signals n) then with_set s n before else s
 
+-- then it is given back
+abbrev pub given_back : ℕ → Value → State → List ℕ
+given_back n before s = if is_other before (standing s.signals n) then n ∷ [] else []
+
 -- each of these has
 abbrev pub with_returns : Batch → State → State
 with_returns [] s = s
 with_returns (p ∷ b) s = with_returns b (with_return p.0 p.1 s)
+
+-- those that are given back, in the order of first change
+abbrev pub all_given_back : Batch → State → List ℕ
+all_given_back [] s = []
+all_given_back (p ∷ b) s = given_back p.0 p.1 s ++ all_given_back b (with_return p.0 p.1 s)

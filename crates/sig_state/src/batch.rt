@@ -6,7 +6,7 @@ ghost use Rattle.signal_model.specs.Changes.{live_count};
 ghost use Rattle.signal_model.specs.Signals.{is_computed, is_in, is_there, standing};
 ghost use Rattle.effect_model.specs.Batches.{is_unlike, net_of};
 ghost use Rattle.sig_nodes.specs.States.{with_set, Becomes};
-ghost use Rattle.sig_state.specs.Batches.{with_joined, with_joining, with_return, with_returns, AreRuled, HasRoom};
+ghost use Rattle.sig_state.specs.Batches.{all_given_back, given_back, with_joined, with_joining, with_return, with_returns, AreRuled, HasRoom};
 ghost use Rattle.sig_state.specs.Equality.{is_alike_here, IsRuled};
 ghost use Rattle.sig_state.specs.declared.sets.SetDone.TheVariants as done;
 
@@ -117,14 +117,16 @@ impl Batch {
     }
 
     /// Gives each cell that has another value the one back that it had as the batch began, in the order of first change, which changes the
-    /// graph as an accepted set does.
-    pub fn abort(self, graph: &mut Graph)
-        requires { graph.old.state.worn < 2 ^ 127 }
-        ensures { Becomes graph.old graph.new (with_returns self.changed graph.old.state) }
+    /// graph as an accepted set does. Those cells are appended in that order. The list has room for all cells of the batch.
+    pub fn abort(self, graph: &mut Graph, out: &mut Vec<NodeId>)
+        requires worn { graph.old.state.worn < 2 ^ 127 }
+        requires room { vec_len out.old + length self.changed ≤ vec_capacity out.old }
+        ensures graph { Becomes graph.old graph.new (with_returns self.changed graph.old.state) }
+        ensures items { out.new.items ≡ out.old.items ++ all_given_back self.changed graph.old.state }
     {
         let Batch { changed, room: _ } = self;
         for (id, before) in changed {
-            give_back(graph, id, before);
+            give_back(graph, id, before, out);
         }
     }
 
@@ -179,10 +181,14 @@ fn push_unlike(
     }
 }
 
-// Gives a cell an earlier value back, where it has another one.
-fn give_back(graph: &mut Graph, id: NodeId, before: Value)
-    requires { graph.old.state.worn + 1 < 2 ^ 128 }
-    ensures { Becomes graph.old graph.new (with_return id before graph.old.state) }
+// Gives a cell an earlier value back and appends it, where it has another one.
+fn give_back(graph: &mut Graph, id: NodeId, before: Value, out: &mut Vec<NodeId>)
+    requires worn { graph.old.state.worn + 1 < 2 ^ 128 }
+    requires room { vec_len out.old < vec_capacity out.old }
+    ensures graph { Becomes graph.old graph.new (with_return id before graph.old.state) }
+    ensures items { out.new.items ≡ out.old.items ++ given_back id before graph.old.state }
+    ensures len { vec_len out.new ≤ vec_len out.old + 1 }
+    ensures capacity { vec_capacity out.old ≤ vec_capacity out.new }
 {
     let Some(now) = graph.cell_value(id) else {
         return;
@@ -191,6 +197,10 @@ fn give_back(graph: &mut Graph, id: NodeId, before: Value)
         return;
     }
     let _now = graph.replace(id, before);
+    match out.push(id) {
+        Ok(_) => {}
+        Err(_) => unreachable!(),
+    }
 }
 
 /// Gives a cell a value as `set` does, and where that is accepted the cell joins the batch with its value before, unless it is there. It
