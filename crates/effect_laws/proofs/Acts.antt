@@ -15,9 +15,11 @@ use Rattle.effect_model.specs.Bodies.{Act, to_set, to_log, to_note, to_make, to_
 use Rattle.effect_model.specs.declared.how.How.TheVariants.{Set, Rewire, Gone}
 use Rattle.effect_model.specs.Worlds.{changed_signal, Environment, Effect, Event, ran, logged, body_ran, failed, cleaned, gone, dropped_host, refused, made_child, noted}
 use Rattle.effect_model.specs.Worlds.{Refused, thing_gone, dropped, World, tell, lives, settle}
-use Rattle.effect_model.specs.Acts.{forget, notify, notified_by, frozen_by, told_of, told_frozen, are_alike, with_new_value, with_quiet_value, set_standing, set_cell, host_of, asks_so_far, with_drop, with_use}
+use Rattle.effect_model.specs.Acts.{forget, notify_of_all, notified_by_any, frozen_by, told_of, told_frozen, are_alike, with_new_value, with_quiet_value, set_standing, set_cell}
+use Rattle.effect_model.specs.Acts.{host_of, asks_so_far, with_drop, with_use}
 use Rattle.effect_model.specs.Acts.{host_refused, gone_refused, some_gone, rewiring_refused, rewire_standing, or_refused, rewire_signal, without_node, end_standing, end_of}
 use Rattle.effect_model.specs.Acts.{do_cleanup, undo, undo_all, take_back, dispose_live, dispose_thing}
+use Rattle.effect_model.specs.Batches.{Batch, abort, give_back, is_other, replaced_by, set_quietly, with_replacing}
 use Rattle.effect_model.specs.Runs.{look, looked_names, value_now, with_effect, do_act, next_child, do_acts, keep_reads, do_result, run_body, run_taken_back, run_effect}
 use Rattle.effect_laws.specs.Events.{behind, AllOnlyTell, OnlyTells}
 
@@ -53,12 +55,12 @@ lives_same (the_watcher n) es w = refl
 
 -- ---- acts on signals
 
-notify_only : (n : ℕ) → OnlyTells (notify n)
-notify_only n = record {
+notify_only : (ns : List ℕ) → OnlyTells (notify_of_all ns)
+notify_only ns = record {
   same = λ es w.
-      let xs = notified_by w.signals w.memos n w.watchers in
+      let xs = notified_by_any w.signals w.memos ns w.watchers in
       let all = append_assoc es w.told (told_of xs ++ told_frozen (frozen_by xs)) in
-      λ i. record (notify n w) { told = all i };
+      λ i. record (notify_of_all ns w) { told = all i };
 }
 
 quiet_only : (n : ℕ) (v : Value) → OnlyTells (with_quiet_value n v)
@@ -67,7 +69,7 @@ quiet_only n v = record {
 }
 
 new_value_only : (n : ℕ) (v : Value) → OnlyTells (with_new_value n v)
-new_value_only n v = only_then (with_quiet_value n v) (notify n) (quiet_only n v) (notify_only n)
+new_value_only n v = only_then (with_quiet_value n v) (notify_of_all (n ∷ [])) (quiet_only n v) (notify_only (n ∷ []))
 
 set_only : (env : Environment) (n : ℕ) (v : Value) → OnlyTells (set_cell env n v)
 set_only env n v = record { same = λ es w. go (standing w.signals n) es w }
@@ -77,6 +79,24 @@ set_only env n v = record { same = λ es w. go (standing w.signals n) es w }
     go (IsCell c) es w =
         chosen (are_alike env.slacks c.rule c.value v) es (behind es w) (with_new_value n v (behind es w)) w (with_new_value n v w) refl ((new_value_only n v).same es w)
     go (IsComputed c) es w = refl
+
+replacing_only : (n : ℕ) (v : Value) (o : Option Value) → OnlyTells (with_replacing n v o)
+replacing_only n v None = record { same = λ es w. refl }
+replacing_only n v (Some before) = quiet_only n v
+
+set_quietly_only : (env : Environment) (n : ℕ) (v : Value) → OnlyTells (set_quietly env n v)
+set_quietly_only env n v = record { same = λ es w. (replacing_only n v (replaced_by env.slacks (standing w.signals n) v)).same es w }
+
+give_back_only : (n : ℕ) (v : Value) → OnlyTells (give_back n v)
+give_back_only n v = record {
+  same = λ es w.
+      chosen (is_other v (standing w.signals n)) es (with_quiet_value n v (behind es w)) (behind es w) (with_quiet_value n v w) w
+      ((quiet_only n v).same es w) refl;
+}
+
+abort_only : (b : Batch) → OnlyTells (abort b)
+abort_only [] = record { same = λ es w. refl }
+abort_only (p ∷ b) = only_then (give_back p.0 p.1) (abort b) (give_back_only p.0 p.1) (abort_only b)
 
 use_only : (o : Option ℕ) → OnlyTells (with_use o)
 use_only None = record { same = λ es w. refl }
@@ -222,6 +242,9 @@ pub all_only_tell : AllOnlyTell
 all_only_tell = record {
   settling = settle_only;
   setting = set_only;
+  setting_quietly = set_quietly_only;
+  restoring = abort_only;
+  notifying = notify_only;
   rewiring = rewire_only;
   taking_back = take_back_only;
   disposing = dispose_only;

@@ -21,11 +21,14 @@ use Rattle.effect_model.specs.declared.how.How.TheVariants.{Set, Rewire, Gone}
 use Rattle.effect_model.specs.Worlds.{Counts, Environment, HostState, used, dropped, Watcher, Effect, Event, ran, changed_signal, logged, cleaned, gone}
 use Rattle.effect_model.specs.Worlds.{failed, dropped_host}
 use Rattle.effect_model.specs.Worlds.{thing_gone, host_taken, still_due, refused, World, tell, tell_all, lives, asked_by, settle}
-use Rattle.effect_model.specs.Acts.{notified_by, frozen_by, told_of, told_frozen, notify, are_alike, with_new_value, with_quiet_value, set_standing, set_cell, host_of, forget}
+use Rattle.effect_model.specs.Acts.{notified_by_any, frozen_by, told_of, told_frozen, notify_of_all, are_alike, with_new_value, with_quiet_value, set_standing, set_cell}
+use Rattle.effect_model.specs.Acts.{host_of, forget}
 use Rattle.effect_model.specs.Acts.{asks_so_far, with_drop, with_use, is_free, host_refused, gone_refused, some_gone, rewiring_refused}
 use Rattle.effect_model.specs.Acts.{rewire_standing, rewire_signal, without_node, end_standing, end_of, undo, undo_all, take_back, dispose_live, dispose_thing}
+use Rattle.effect_model.specs.Batches.{Batch, abort, give_back, is_other, replaced_by, set_quietly, with_replacing}
 use Rattle.effect_model.specs.Runs.{do_act, keep_reads, do_result, run_effect, turn, flush}
-use Rattle.effect_model.specs.Commands.{Command, cell, computed, owner, effect, page, watcher, watch, unwatch, set, rewire, ask, dispose, flush_all}
+use Rattle.effect_model.specs.Commands.{Command, cell, computed, owner, effect, page, watcher, watch, unwatch, set, set_untold, restore, tell_together, rewire, ask}
+use Rattle.effect_model.specs.Commands.{dispose, flush_all}
 use Rattle.effect_model.specs.Commands.{inside_refused, with_new_computed, told_if, command_refused, done_by, after_command, after_commands}
 use Rattle.effect_laws.specs.Counts.{others}
 use Rattle.effect_laws.specs.KeptWorlds.{runs_told, noted_told}
@@ -245,11 +248,18 @@ settle_keeps_core env P k names w p =
     (subst (λ ds. P (record (after_settling env names (core_of w)) { drops = ds })) (sym (append-nil (drops_told w.told)))
     (k.settles names (core_of w) p))
 
-notify_keeps : (P : Core → Type 0) (n : ℕ) (w : World) → P (core_of w) → P (core_of (notify n w))
-notify_keeps P n w p =
-    let xs : List Watcher = notified_by w.signals w.memos n w.watchers in
+notify_keeps : (P : Core → Type 0) (ns : List ℕ) (w : World) → P (core_of w) → P (core_of (notify_of_all ns w))
+notify_keeps P ns w p =
+    let xs : List Watcher = notified_by_any w.signals w.memos ns w.watchers in
     tells_none P w (told_of xs ++ told_frozen (frozen_by xs)) (notified_runs xs (frozen_by xs)) (notified_drops xs (frozen_by xs))
     (notified_noted xs (frozen_by xs)) p
+
+quiet_keeps : (P : Core → Type 0) → IsKeptByEdits P → (n : ℕ) (v : Value) (x : Cell) (w : World) → standing w.signals n ≡ IsCell x →
+    P (core_of w) → P (core_of (with_quiet_value n v w))
+quiet_keeps P k n v x w e p =
+    let w' : World = record w { signals = with_value w.signals n v; memos = after_change w.memos n } in
+    let one : List Event = changed_signal n Set ∷ [] in
+    told_noted P w' one one refl refl refl (k.sets n v x (core_of w) e p)
 
 set_case : (env : Environment) (P : Core → Type 0) → IsKeptByEdits P → (n : ℕ) (v : Value) (s : Stands) (w : World) → standing w.signals n ≡ s →
     P (core_of w) → P (core_of (set_standing s env n v w))
@@ -258,11 +268,37 @@ set_case env P k n v (IsCell x) w e p = go (are_alike env.slacks x.rule x.value 
   where
     go : (b : Bool) → P (core_of (cond b w (with_new_value n v w)))
     go true = p
-    go false =
-        let w' : World = record w { signals = with_value w.signals n v; memos = after_change w.memos n } in
-        let one : List Event = changed_signal n Set ∷ [] in
-        notify_keeps P n (with_quiet_value n v w) (told_noted P w' one one refl refl refl (k.sets n v x (core_of w) e p))
+    go false = notify_keeps P (n ∷ []) (with_quiet_value n v w) (quiet_keeps P k n v x w e p)
 set_case env P k n v (IsComputed x) w e p = p
+
+set_quietly_keeps : (env : Environment) (P : Core → Type 0) → IsKeptByEdits P → (n : ℕ) (v : Value) (w : World) → P (core_of w) →
+    P (core_of (set_quietly env n v w))
+set_quietly_keeps env P k n v w p = go (standing w.signals n) refl
+  where
+    by : (x : Cell) → standing w.signals n ≡ IsCell x → (b : Bool) → P (core_of (with_replacing n v (cond b None (Some x.value)) w))
+    by x e true = p
+    by x e false = quiet_keeps P k n v x w e p
+
+    go : (s : Stands) → standing w.signals n ≡ s → P (core_of (with_replacing n v (replaced_by env.slacks s v) w))
+    go IsGone e = p
+    go (IsCell x) e = by x e (are_alike env.slacks x.rule x.value v)
+    go (IsComputed x) e = p
+
+give_back_keeps : (P : Core → Type 0) → IsKeptByEdits P → (n : ℕ) (v : Value) (w : World) → P (core_of w) → P (core_of (give_back n v w))
+give_back_keeps P k n v w p = go (standing w.signals n) refl
+  where
+    by : (x : Cell) → standing w.signals n ≡ IsCell x → (b : Bool) → P (core_of (cond b (with_quiet_value n v w) w))
+    by x e true = quiet_keeps P k n v x w e p
+    by x e false = p
+
+    go : (s : Stands) → standing w.signals n ≡ s → P (core_of (cond (is_other v s) (with_quiet_value n v w) w))
+    go IsGone e = p
+    go (IsCell x) e = by x e (is_other v (IsCell x))
+    go (IsComputed x) e = p
+
+abort_keeps : (P : Core → Type 0) → IsKeptByEdits P → (b : Batch) (w : World) → P (core_of w) → P (core_of (abort b w))
+abort_keeps P k [] w p = p
+abort_keeps P k (q ∷ b) w p = abort_keeps P k b (give_back q.0 q.1 w) (give_back_keeps P k q.0 q.1 w p)
 
 drop_keeps : (P : Core → Type 0) (old : Option ℕ) (w : World) →
     P (record (core_of w) { host_states = dropped_states old w.host_states; drops = drops_more old w.host_states (drops_told w.told) }) →
@@ -442,6 +478,9 @@ done_keeps env P k (watcher tries) w h p = k.makes_others w.made.owners w.made.p
 done_keeps env P k (watch n names) w h p = p
 done_keeps env P k (unwatch n m) w h p = p
 done_keeps env P k (set n v) w h p = set_keeps_core env P k.acts.edits n v w p
+done_keeps env P k (set_untold n v) w h p = set_quietly_keeps env P k.acts.edits n v w p
+done_keeps env P k (restore b) w h p = abort_keeps P k.acts.edits b w p
+done_keeps env P k (tell_together ns) w h p = notify_keeps P ns w p
 done_keeps env P k (rewire n r) w h p = rewire_keeps_core P k.acts.edits n r w p
 done_keeps env P k (ask names) w h p = settle_keeps_core env P k.acts names w p
 done_keeps env P k (dispose t) w h p = dispose_keeps_core env P k.acts.edits t w p

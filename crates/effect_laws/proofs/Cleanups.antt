@@ -15,11 +15,14 @@ use Rattle.effect_model.specs.Bodies.{body_evaluation}
 use Rattle.effect_model.specs.declared.how.How.TheVariants.{Set, Rewire, Gone}
 use Rattle.effect_model.specs.Worlds.{Environment, Watcher, Effect, Event, ran, changed_signal, cleaned, gone, refused, Refused, thing_gone, World, tell, lives}
 use Rattle.effect_model.specs.Worlds.{settle}
-use Rattle.effect_model.specs.Acts.{notified_by, frozen_by, told_of, told_frozen, notify, with_new_value, with_quiet_value, are_alike, set_standing, host_of, with_drop}
+use Rattle.effect_model.specs.Acts.{notified_by_any, frozen_by, told_of, told_frozen, notify_of_all, with_new_value, with_quiet_value, are_alike, set_standing, host_of}
+use Rattle.effect_model.specs.Acts.{with_drop}
 use Rattle.effect_model.specs.Acts.{with_use, rewiring_refused, rewire_standing, or_refused, rewire_signal, end_standing, end_of, undo, undo_all}
 use Rattle.effect_model.specs.Acts.{take_back, dispose_live, dispose_thing}
+use Rattle.effect_model.specs.Batches.{Batch, abort, give_back, is_other, replaced_by, set_quietly, with_replacing}
 use Rattle.effect_model.specs.Runs.{do_act, keep_reads, do_result, run_effect, flush}
-use Rattle.effect_model.specs.Commands.{Command, cell, computed, owner, effect, page, watcher, watch, unwatch, set, rewire, ask, dispose, flush_all}
+use Rattle.effect_model.specs.Commands.{Command, cell, computed, owner, effect, page, watcher, watch, unwatch, set, set_untold, restore, tell_together, rewire, ask}
+use Rattle.effect_model.specs.Commands.{dispose, flush_all}
 use Rattle.effect_model.specs.Commands.{new_world, with_new_computed, told_if, command_refused, done_by, after_command, after_commands}
 use Rattle.effect_laws.proofs.Names.{either_way}
 use Rattle.effect_laws.proofs.Turns.{IsKeptByRuns, flush_keeps, acts_keep}
@@ -57,11 +60,14 @@ frozen_open : (t : Thing) (n : ℕ) (ns : List ℕ) → open_cleanups t n (told_
 frozen_open t n [] = refl
 frozen_open t n (m ∷ ms) = refl
 
-notify_open : (n : ℕ) (w : World) → Same w (notify n w)
-notify_open n w t =
-    let xs : List Watcher = notified_by w.signals w.memos n w.watchers in
+notify_open : (ns : List ℕ) (w : World) → Same w (notify_of_all ns w)
+notify_open ns w t =
+    let xs : List Watcher = notified_by_any w.signals w.memos ns w.watchers in
     open_append t 0 w.told (told_of xs ++ told_frozen (frozen_by xs))
     ∙ (told_open t (Open t w) xs (told_frozen (frozen_by xs)) ∙ frozen_open t (Open t w) (frozen_by xs))
+
+quiet_open : (n : ℕ) (v : Value) (w : World) → Same w (with_quiet_value n v w)
+quiet_open n v w t = open_append t 0 w.told (changed_signal n Set ∷ [])
 
 set_open : (s : Stands) (env : Environment) (n : ℕ) (v : Value) (w : World) → Same w (set_standing s env n v w)
 set_open IsGone env n v w t = open_append t 0 w.told _
@@ -69,9 +75,26 @@ set_open (IsCell c) env n v w t = go (are_alike env.slacks c.rule c.value v)
   where
     go : (b : Bool) → Open t (cond b w (with_new_value n v w)) ≡ Open t w
     go true = refl
-    go false =
-        notify_open n (with_quiet_value n v w) t ∙ open_append t 0 w.told (changed_signal n Set ∷ [])
+    go false = notify_open (n ∷ []) (with_quiet_value n v w) t ∙ quiet_open n v w t
 set_open (IsComputed c) env n v w t = refl
+
+set_quietly_open : (env : Environment) (n : ℕ) (v : Value) (w : World) → Same w (set_quietly env n v w)
+set_quietly_open env n v w t = go (replaced_by env.slacks (standing w.signals n) v)
+  where
+    go : (o : Option Value) → Open t (with_replacing n v o w) ≡ Open t w
+    go None = refl
+    go (Some before) = quiet_open n v w t
+
+give_back_open : (n : ℕ) (v : Value) (w : World) → Same w (give_back n v w)
+give_back_open n v w t = go (is_other v (standing w.signals n))
+  where
+    go : (b : Bool) → Open t (cond b (with_quiet_value n v w) w) ≡ Open t w
+    go true = quiet_open n v w t
+    go false = refl
+
+abort_open : (b : Batch) (w : World) → Same w (abort b w)
+abort_open [] w t = refl
+abort_open (p ∷ b) w t = abort_open b (give_back p.0 p.1 w) t ∙ give_back_open p.0 p.1 w t
 
 drop_open : (p : Option ℕ) (w : World) → Same w (with_drop p w)
 drop_open None w t = refl
@@ -226,6 +249,9 @@ done_closed env w (watcher tries) c = c
 done_closed env w (watch n names) c = c
 done_closed env w (unwatch n m) c = c
 done_closed env w (set n v) c = λ t. set_open (standing w.signals n) env n v w t ∙ c t
+done_closed env w (set_untold n v) c = λ t. set_quietly_open env n v w t ∙ c t
+done_closed env w (restore b) c = λ t. abort_open b w t ∙ c t
+done_closed env w (tell_together ns) c = λ t. notify_open ns w t ∙ c t
 done_closed env w (rewire n r) c = λ t. rewire_open n r w t ∙ c t
 done_closed env w (ask names) c = λ t. settle_open env names w t ∙ c t
 done_closed env w (dispose h) c = dispose_closed env h w c

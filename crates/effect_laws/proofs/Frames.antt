@@ -8,7 +8,8 @@ use Rattle.signal_model.specs.Changes.{after_rewiring, with_recipe}
 use Rattle.effect_model.specs.declared.how.How.TheVariants.{Rewire}
 use Rattle.effect_model.specs.Owners.{the_signal, Cleanup, sets, logs}
 use Rattle.effect_model.specs.Worlds.{Environment, Event, changed_signal, Refused, World, logged, settle, tell, tell_all}
-use Rattle.effect_model.specs.Acts.{are_alike, notify, do_cleanup, end_of, end_standing, gone_refused, host_of, host_refused, or_refused, rewire_signal, rewire_standing, rewiring_refused, set_cell, set_standing, some_gone, with_drop, with_new_value, with_quiet_value, with_use, without_node}
+use Rattle.effect_model.specs.Acts.{are_alike, notify_of_all, do_cleanup, end_of, end_standing, gone_refused, host_of, host_refused, or_refused, rewire_signal, rewire_standing, rewiring_refused, set_cell, set_standing, some_gone, with_drop, with_new_value, with_quiet_value, with_use, without_node}
+use Rattle.effect_model.specs.Batches.{Batch, abort, give_back, is_other, replaced_by, set_quietly, with_replacing}
 use Rattle.effect_laws.specs.Frames.{IsOfSignals, signal_part, with_part}
 
 -- a world with its own signals
@@ -40,14 +41,14 @@ framed_tell es = record { framed = λ w. refl }
 
 -- ---- a cell is set
 
-framed_notify : (n : ℕ) → IsOfSignals (notify n)
-framed_notify n = record { framed = λ w. refl }
+pub framed_notify : (ns : List ℕ) → IsOfSignals (notify_of_all ns)
+framed_notify ns = record { framed = λ w. refl }
 
 framed_quiet : (n : ℕ) (v : Value) → IsOfSignals (with_quiet_value n v)
 framed_quiet n v = record { framed = λ w. refl }
 
 new_value : (n : ℕ) (v : Value) → IsOfSignals (with_new_value n v)
-new_value n v = framed_then (with_quiet_value n v) (notify n) (framed_quiet n v) (framed_notify n)
+new_value n v = framed_then (with_quiet_value n v) (notify_of_all (n ∷ [])) (framed_quiet n v) (framed_notify (n ∷ []))
 
 pub framed_set : (env : Environment) (n : ℕ) (v : Value) → IsOfSignals (set_cell env n v)
 framed_set env n v = record { framed = λ w. go w (standing w.signals n) }
@@ -56,6 +57,20 @@ framed_set env n v = record { framed = λ w. go w (standing w.signals n) }
     go w IsGone = refl
     go w (IsCell c) = chosen (are_alike env.slacks c.rule c.value v) (λ x. x) (with_new_value n v) framed_none (new_value n v) w
     go w (IsComputed c) = part_same w
+
+replacing : (n : ℕ) (v : Value) (o : Option Value) → IsOfSignals (with_replacing n v o)
+replacing n v None = framed_none
+replacing n v (Some before) = framed_quiet n v
+
+pub framed_set_quietly : (env : Environment) (n : ℕ) (v : Value) → IsOfSignals (set_quietly env n v)
+framed_set_quietly env n v = record { framed = λ w. (replacing n v (replaced_by env.slacks (standing w.signals n) v)).framed w }
+
+given_back : (n : ℕ) (v : Value) → IsOfSignals (give_back n v)
+given_back n v = record { framed = λ w. chosen (is_other v (standing w.signals n)) (with_quiet_value n v) (λ x. x) (framed_quiet n v) framed_none w }
+
+pub framed_abort : (b : Batch) → IsOfSignals (abort b)
+framed_abort [] = framed_none
+framed_abort (p ∷ b) = framed_then (give_back p.0 p.1) (abort b) (given_back p.0 p.1) (framed_abort b)
 
 -- ---- a computed gets another recipe
 

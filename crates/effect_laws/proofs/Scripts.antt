@@ -11,7 +11,8 @@ use Rattle.effect_model.specs.Bodies.{Body}
 use Rattle.effect_model.specs.Worlds.{Environment, Watcher, thing_gone, still_due, refused, World, lives}
 use Rattle.effect_model.specs.Acts.{forget, host_of, host_refused, some_gone}
 use Rattle.effect_model.specs.Runs.{flush}
-use Rattle.effect_model.specs.Commands.{Command, cell, computed, owner, effect, page, watcher, watch, unwatch, set, rewire, ask, dispose, flush_all}
+use Rattle.effect_model.specs.Commands.{Command, cell, computed, owner, effect, page, watcher, watch, unwatch, set, set_untold, restore, tell_together, rewire, ask}
+use Rattle.effect_model.specs.Commands.{dispose, flush_all}
 use Rattle.effect_model.specs.Commands.{new_world, inside_refused, with_new_cell, with_new_computed, with_new_owner, with_new_effect, with_new_page}
 use Rattle.effect_model.specs.Commands.{with_new_watcher, armed, changed_watcher, told_if, command_refused, done_by, after_command, after_commands}
 use Rattle.effect_laws.specs.Rolls.{bit, times_in, roll_of, alive, was_made, times}
@@ -19,7 +20,7 @@ use Rattle.effect_laws.specs.Ends.{EndLaw}
 use Rattle.effect_laws.specs.Lifetimes.{LifeLaw}
 use Rattle.effect_laws.proofs.Ledgers.{Ledger, made_thing}
 use Rattle.effect_laws.proofs.Names.{names_changed, lives_alive, count_more, neither, either_way}
-use Rattle.effect_laws.proofs.Steps.{Tidy, same_roll, tell_tidy, settle_tidy, set_tidy, use_tidy, rewire_signal_tidy, dispose_tidy}
+use Rattle.effect_laws.proofs.Steps.{Tidy, same_roll, tell_tidy, notify_tidy, settle_tidy, set_tidy, set_quietly_tidy, abort_tidy, use_tidy, rewire_signal_tidy, dispose_tidy}
 use Rattle.effect_laws.proofs.Creations.{IsPut, put_inside, making, not_below_self, more_signals, more_owners, more_effects, more_pages, more_watchers}
 use Rattle.effect_laws.proofs.Creations.{names_more}
 use Rattle.effect_laws.proofs.Runs.{with_effect_roll, flush_tidy}
@@ -137,6 +138,9 @@ done_tidy env w (watcher tries) h t = watcher_tidy tries w t
 done_tidy env w (watch n names) h t = changed_tidy n (armed names) w (λ x. refl) t
 done_tidy env w (unwatch n m) h t = changed_tidy n (forget m) w (λ x. refl) t
 done_tidy env w (set n v) h t = set_tidy env n v w [] t
+done_tidy env w (set_untold n v) h t = set_quietly_tidy env n v w [] t
+done_tidy env w (restore b) h t = abort_tidy b w [] t
+done_tidy env w (tell_together ns) h t = notify_tidy ns w [] t
 done_tidy env w (rewire n r) h t = rewire_signal_tidy n r w [] t
 done_tidy env w (ask names) h t = settle_tidy env names w [] t
 done_tidy env w (dispose x) h t = dispose_tidy env x w t

@@ -18,9 +18,11 @@ use Rattle.effect_model.specs.declared.how.How.{How}
 use Rattle.effect_model.specs.declared.how.How.TheVariants.{Set, Rewire, Gone}
 use Rattle.effect_model.specs.Worlds.{Environment, Watcher, Effect, Event, ran, changed_signal, logged, cleaned, gone, refused, Refused, thing_gone, World, tell}
 use Rattle.effect_model.specs.Worlds.{tell_all, lives, settle}
-use Rattle.effect_model.specs.Acts.{is_notified, notified_by, frozen_by, told_of, told_frozen, waiting_if, notify, with_new_value, with_quiet_value, are_alike}
+use Rattle.effect_model.specs.Acts.{is_notified_by_any, notified_by_any, frozen_by, told_of, told_frozen, waiting_if, notify_of_all, with_new_value, with_quiet_value}
+use Rattle.effect_model.specs.Acts.{are_alike}
 use Rattle.effect_model.specs.Acts.{set_standing, set_cell, host_of, with_drop, with_use, rewiring_refused, rewire_standing, or_refused, rewire_signal, forget}
 use Rattle.effect_model.specs.Acts.{without_node, end_standing, end_of, do_cleanup, undo, undo_all, take_back, dispose_live, dispose_thing}
+use Rattle.effect_model.specs.Batches.{Batch, abort, give_back, is_other, replaced_by, set_quietly, with_replacing}
 use Rattle.effect_laws.specs.Rolls.{bit, times_in, computed_names, Roll, roll_of, alive, times, ends_in}
 use Rattle.effect_laws.proofs.Ledgers.{Ledger, AllAlive, IsPlain, ArePlain, plain_told, plain_all, cleaned_told, gone_told, taken_back, disposed}
 use Rattle.effect_laws.proofs.Names.{names_changed, names_map, count_without, computed_counted, lives_alive, gone_uncounted}
@@ -108,10 +110,10 @@ waiting_number f x = go (f x)
     go true = refl
     go false = refl
 
-pub notify_tidy : (n : ℕ) (w : World) (us : List Undoing) → Tidy w us → Tidy (notify n w) us
-notify_tidy n w us t =
-    let xs : List Watcher = notified_by w.signals w.memos n w.watchers in
-    let f : Watcher → Bool = is_notified w.signals w.memos n in
+pub notify_tidy : (ns : List ℕ) (w : World) (us : List Undoing) → Tidy w us → Tidy (notify_of_all ns w) us
+notify_tidy ns w us t =
+    let xs : List Watcher = notified_by_any w.signals w.memos ns w.watchers in
+    let f : Watcher → Bool = is_notified_by_any w.signals w.memos ns in
     let w' : World = record w { watchers = map (waiting_if f) w.watchers } in
     let e : roll_of w' ≡ roll_of w =
     (λ i. record (roll_of w) { watchers = names_map (λ (x : Watcher). x.number) (waiting_if f) (waiting_number f) w.watchers i }) in
@@ -128,12 +130,15 @@ notify_tidy n w us t =
 changed_tidy : (n : ℕ) (how : How) (w : World) (us : List Undoing) → lives (the_signal n) w ≡ true → Tidy w us → Tidy (tell (changed_signal n how) w) us
 changed_tidy n how w us there t = tell_tidy w us (changed_signal n how) (lives_alive (the_signal n) w there, tt) t
 
-value_tidy : (n : ℕ) (v : Value) (w : World) (us : List Undoing) → lives (the_signal n) w ≡ true → Tidy w us → Tidy (with_new_value n v w) us
-value_tidy n v w us there t =
+quiet_tidy : (n : ℕ) (v : Value) (w : World) (us : List Undoing) → lives (the_signal n) w ≡ true → Tidy w us → Tidy (with_quiet_value n v w) us
+quiet_tidy n v w us there t =
     let w' : World = tell (changed_signal n Set) w in
     let e : roll_of (with_quiet_value n v w) ≡ roll_of w' =
     (λ i. record (roll_of w) { cells = names_changed (λ (c : Cell). c.name) n (λ c. record c { value = v }) (λ c. refl) w.signals.cells i }) in
-    notify_tidy n (with_quiet_value n v w) us (same_roll w' (with_quiet_value n v w) us e (changed_tidy n Set w us there t))
+    same_roll w' (with_quiet_value n v w) us e (changed_tidy n Set w us there t)
+
+value_tidy : (n : ℕ) (v : Value) (w : World) (us : List Undoing) → lives (the_signal n) w ≡ true → Tidy w us → Tidy (with_new_value n v w) us
+value_tidy n v w us there t = notify_tidy (n ∷ []) (with_quiet_value n v w) us (quiet_tidy n v w us there t)
 
 set_case : (s : Stands) (env : Environment) (n : ℕ) (v : Value) (w : World) (us : List Undoing) → standing w.signals n ≡ s → Tidy w us →
     Tidy (set_standing s env n v w) us
@@ -147,6 +152,34 @@ set_case (IsComputed c) env n v w us e t = t
 
 pub set_tidy : (env : Environment) (n : ℕ) (v : Value) (w : World) (us : List Undoing) → Tidy w us → Tidy (set_cell env n v w) us
 set_tidy env n v w us t = set_case (standing w.signals n) env n v w us refl t
+
+pub set_quietly_tidy : (env : Environment) (n : ℕ) (v : Value) (w : World) (us : List Undoing) → Tidy w us → Tidy (set_quietly env n v w) us
+set_quietly_tidy env n v w us t = go (standing w.signals n) refl
+  where
+    by : (c : Cell) → standing w.signals n ≡ IsCell c → (b : Bool) → Tidy (with_replacing n v (cond b None (Some c.value)) w) us
+    by c e true = t
+    by c e false = quiet_tidy n v w us (ap is_there e) t
+
+    go : (s : Stands) → standing w.signals n ≡ s → Tidy (with_replacing n v (replaced_by env.slacks s v) w) us
+    go IsGone e = t
+    go (IsCell c) e = by c e (are_alike env.slacks c.rule c.value v)
+    go (IsComputed c) e = t
+
+give_back_tidy : (n : ℕ) (v : Value) (w : World) (us : List Undoing) → Tidy w us → Tidy (give_back n v w) us
+give_back_tidy n v w us t = go (standing w.signals n) refl
+  where
+    by : (c : Cell) → standing w.signals n ≡ IsCell c → (b : Bool) → Tidy (cond b (with_quiet_value n v w) w) us
+    by c e true = quiet_tidy n v w us (ap is_there e) t
+    by c e false = t
+
+    go : (s : Stands) → standing w.signals n ≡ s → Tidy (cond (is_other v s) (with_quiet_value n v w) w) us
+    go IsGone e = t
+    go (IsCell c) e = by c e (is_other v (IsCell c))
+    go (IsComputed c) e = t
+
+pub abort_tidy : (b : Batch) (w : World) (us : List Undoing) → Tidy w us → Tidy (abort b w) us
+abort_tidy [] w us t = t
+abort_tidy (p ∷ b) w us t = abort_tidy b (give_back p.0 p.1 w) us (give_back_tidy p.0 p.1 w us t)
 
 pub drop_tidy : (place : Option ℕ) (w : World) (us : List Undoing) → Tidy w us → Tidy (with_drop place w) us
 drop_tidy None w us t = t
@@ -276,9 +309,6 @@ take_back_tidy env h w there t =
     (taken_back (roll_of w) w.owned w.made w.told h there t)
 
 -- ---- what is owned stays through a teardown
-
-notify_owned : (n : ℕ) (w : World) → (notify n w).owned ≡ w.owned
-notify_owned n w = refl
 
 set_owned : (s : Stands) (env : Environment) (n : ℕ) (v : Value) (w : World) → (set_standing s env n v w).owned ≡ w.owned
 set_owned IsGone env n v w = refl

@@ -6,7 +6,8 @@ use Rattle.sig_base.specs.declared.value.Value.{Value}
 use Rattle.effect_model.specs.Owners.{Thing}
 use Rattle.effect_model.specs.Bodies.{Act}
 use Rattle.effect_model.specs.Worlds.{Environment, Effect, Event, World, settle}
-use Rattle.effect_model.specs.Acts.{set_cell, rewire_signal, take_back, dispose_thing}
+use Rattle.effect_model.specs.Acts.{notify_of_all, set_cell, rewire_signal, take_back, dispose_thing}
+use Rattle.effect_model.specs.Batches.{Batch, set_quietly, abort}
 use Rattle.effect_model.specs.Runs.{do_act, do_acts, keep_reads, run_effect, Turned, turn, Flushed, flush}
 
 -- a world that told these before
@@ -28,6 +29,9 @@ flushed_behind es f = record f { world = behind es f.world }
 pub record AllOnlyTell : Type 0 where
   pub settling : (env : Environment) (names : List ℕ) → OnlyTells (settle env names)
   pub setting : (env : Environment) (n : ℕ) (v : Value) → OnlyTells (set_cell env n v)
+  pub setting_quietly : (env : Environment) (n : ℕ) (v : Value) → OnlyTells (set_quietly env n v)
+  pub restoring : (b : Batch) → OnlyTells (abort b)
+  pub notifying : (ns : List ℕ) → OnlyTells (notify_of_all ns)
   pub rewiring : (n : ℕ) (r : Recipe) → OnlyTells (rewire_signal n r)
   pub taking_back : (env : Environment) (t : Thing) → OnlyTells (take_back env t)
   pub disposing : (env : Environment) (t : Thing) → OnlyTells (dispose_thing env t)

@@ -9,7 +9,8 @@ use Rattle.effect_model.specs.Owners.{Thing, the_signal, the_owner, the_effect, 
 use Rattle.effect_model.specs.Bodies.{Body}
 use Rattle.effect_model.specs.Worlds.{Environment, unused, Watcher, Refused, still_due, refused, World, tell, settle}
 use Rattle.effect_model.specs.Acts.{set_cell, rewire_signal, dispose_thing, host_of, with_use, host_refused, gone_refused, some_gone, or_refused}
-use Rattle.effect_model.specs.Acts.{forget}
+use Rattle.effect_model.specs.Acts.{forget, notify_of_all}
+use Rattle.effect_model.specs.Batches.{Batch, set_quietly, abort}
 use Rattle.effect_model.specs.Runs.{with_effect, flush}
 
 -- a command, with the things that its names stand for
@@ -26,6 +27,10 @@ pub data Command : Type 0 where
   watch : ℕ → List ℕ → Command
   unwatch : ℕ → ℕ → Command
   set : ℕ → Value → Command
+  -- what batches do: a cell is set and nobody is notified, cells have their earlier values back, and of signals that were changed is told together
+  set_untold : ℕ → Value → Command
+  restore : Batch → Command
+  tell_together : List ℕ → Command
   rewire : ℕ → Recipe → Command
   -- these signals are asked for; what is gone may be among them
   ask : List ℕ → Command
@@ -141,6 +146,9 @@ done_by env (watcher tries) w = with_new_watcher tries w
 done_by env (watch n names) w = changed_watcher n (armed names) w
 done_by env (unwatch n m) w = changed_watcher n (forget m) w
 done_by env (set n v) w = set_cell env n v w
+done_by env (set_untold n v) w = set_quietly env n v w
+done_by env (restore b) w = abort b w
+done_by env (tell_together ns) w = notify_of_all ns w
 done_by env (rewire n r) w = rewire_signal n r w
 done_by env (ask names) w = settle env names w
 done_by env (dispose t) w = dispose_thing env t w

@@ -6,10 +6,11 @@ use Rattle.effect_model.specs.Owners.{Thing, the_signal, the_owner, the_effect, 
 use Rattle.effect_model.specs.Owners.{teardown_of, under, emptied, taken_out, alone, disposal_of}
 use Rattle.effect_model.specs.Bodies.{Act, to_set, to_log, to_note, to_make, to_dispose, to_rewire, BodyEvaluation, BodyResult, to_do, failed_by, body_evaluation}
 use Rattle.effect_model.specs.Worlds.{Environment, Effect, Event, failed, logged, noted, refused, thing_gone, World, tell, lives, settle}
-use Rattle.effect_model.specs.Acts.{set_cell, rewire_signal, undo_all, take_back, dispose_live, dispose_thing}
+use Rattle.effect_model.specs.Acts.{notify_of_all, set_cell, rewire_signal, undo_all, take_back, dispose_live, dispose_thing}
+use Rattle.effect_model.specs.Batches.{abort, set_quietly}
 use Rattle.effect_model.specs.Runs.{look, looked_names, value_now, make_child, do_act, next_child, do_acts, keep_reads, do_result, run_body, run_taken_back, run_effect}
 use Rattle.effect_laws.specs.Frames.{ended_all, ended_one, IsOfSignals, signal_part, with_part}
-use Rattle.effect_laws.proofs.SharedFrames.{framed_rewire, framed_set, framed_settle, framed_tell, undo_all_split}
+use Rattle.effect_laws.proofs.SharedFrames.{framed_abort, framed_notify, framed_rewire, framed_set, framed_set_quietly, framed_settle, framed_tell, undo_all_split}
 use Rattle.effect_laws.specs.Events.{OnlyTells}
 use Rattle.effect_laws.proofs.SharedEvents.{all_only_tell, look_only, result_only, silent, told_behind}
 use Rattle.effect_tables.specs.Placed.{at_rest, listed}
@@ -221,6 +222,10 @@ pub all_rest : AllRest
 all_rest = record {
   settling = λ env names. rests_by (settle env names) (all_only_tell.settling env names) (settle_keeps env names);
   setting = λ env n v. rests_by (set_cell env n v) (all_only_tell.setting env n v) (framed_keeps (set_cell env n v) (framed_set env n v));
+  setting_quietly = λ env n v.
+      rests_by (set_quietly env n v) (all_only_tell.setting_quietly env n v) (framed_keeps (set_quietly env n v) (framed_set_quietly env n v));
+  restoring = λ b. rests_by (abort b) (all_only_tell.restoring b) (framed_keeps (abort b) (framed_abort b));
+  notifying = λ ns. rests_by (notify_of_all ns) (all_only_tell.notifying ns) (framed_keeps (notify_of_all ns) (framed_notify ns));
   rewiring = λ n r. rests_by (rewire_signal n r) (all_only_tell.rewiring n r) (framed_keeps (rewire_signal n r) (framed_rewire n r));
   taking_back = λ env t. rests_by (take_back env t) (all_only_tell.taking_back env t) (take_back_keeps env t);
   disposing = λ env t. rests_by (dispose_thing env t) (all_only_tell.disposing env t) (dispose_keeps env t);

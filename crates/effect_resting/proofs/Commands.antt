@@ -8,7 +8,8 @@ use Rattle.effect_model.specs.Bodies.{Body}
 use Rattle.effect_model.specs.Owners.{Thing, the_signal, the_owner, the_effect, the_page, the_watcher}
 use Rattle.effect_model.specs.Worlds.{Environment, Event, Refused, refused, still_due, Watcher, World, tell, lives}
 use Rattle.effect_model.specs.Acts.{forget, gone_refused, host_of, host_refused, or_refused, some_gone, with_use}
-use Rattle.effect_model.specs.Commands.{Command, cell, computed, owner, effect, page, watcher, watch, unwatch, rewire, ask, dispose, flush_all}
+use Rattle.effect_model.specs.Commands.{Command, cell, computed, owner, effect, page, watcher, watch, unwatch, set_untold, restore, tell_together, rewire, ask, dispose}
+use Rattle.effect_model.specs.Commands.{flush_all}
 use Rattle.effect_model.specs.Commands as command
 use Rattle.effect_model.specs.Commands.{after_command, armed, changed_watcher, command_refused, done_by, inside_refused, told_if}
 use Rattle.effect_model.specs.Commands.{with_new_cell, with_new_computed, with_new_effect, with_new_owner, with_new_page, with_new_watcher}
@@ -123,6 +124,9 @@ refusal_rests (watcher tries) w = refl
 refusal_rests (watch n names) w = ap (option_or (gone_refused (the_watcher n) w)) (some_gone_rests names w)
 refusal_rests (unwatch n m) w = refl
 refusal_rests (command.set n v) w = refl
+refusal_rests (set_untold n v) w = refl
+refusal_rests (restore b) w = refl
+refusal_rests (tell_together ns) w = refl
 refusal_rests (rewire n r) w = refl
 refusal_rests (ask names) w = refl
 refusal_rests (dispose t) w = refl
@@ -163,6 +167,9 @@ done_rests env (watcher tries) = watcher_rests tries
 done_rests env (watch n names) = changed_rests n (armed names)
 done_rests env (unwatch n m) = changed_rests n (forget m)
 done_rests env (command.set n v) = all_rest.setting env n v
+done_rests env (set_untold n v) = all_rest.setting_quietly env n v
+done_rests env (restore b) = all_rest.restoring b
+done_rests env (tell_together ns) = all_rest.notifying ns
 done_rests env (rewire n r) = all_rest.rewiring n r
 done_rests env (ask names) = all_rest.settling env names
 done_rests env (dispose t) = all_rest.disposing env t

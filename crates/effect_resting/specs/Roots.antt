@@ -6,7 +6,8 @@ use Rattle.signal_model.specs.Values.{Seen}
 use Rattle.effect_model.specs.Owners.{Thing, Owned, nothing, thing, cleanup}
 use Rattle.effect_model.specs.Bodies.{Act, BodyResult}
 use Rattle.effect_model.specs.Worlds.{Environment, Effect, World, settle}
-use Rattle.effect_model.specs.Acts.{set_cell, rewire_signal, take_back, dispose_thing}
+use Rattle.effect_model.specs.Acts.{notify_of_all, set_cell, rewire_signal, take_back, dispose_thing}
+use Rattle.effect_model.specs.Batches.{Batch, set_quietly, abort}
 use Rattle.effect_model.specs.Commands.{Command, after_command}
 use Rattle.effect_model.specs.Runs.{look, do_act, do_acts, keep_reads, do_result, run_effect, turn, last_look, flush}
 use Rattle.sig_owner.specs.Tables.{is_holder}
@@ -28,6 +29,9 @@ pub record Rests (act : World → World) : Type 0 where
 pub record AllRest : Type 0 where
   pub settling : (env : Environment) (names : List ℕ) → Rests (settle env names)
   pub setting : (env : Environment) (n : ℕ) (v : Value) → Rests (set_cell env n v)
+  pub setting_quietly : (env : Environment) (n : ℕ) (v : Value) → Rests (set_quietly env n v)
+  pub restoring : (b : Batch) → Rests (abort b)
+  pub notifying : (ns : List ℕ) → Rests (notify_of_all ns)
   pub rewiring : (n : ℕ) (r : Recipe) → Rests (rewire_signal n r)
   pub taking_back : (env : Environment) (t : Thing) → Rests (take_back env t)
   pub disposing : (env : Environment) (t : Thing) → Rests (dispose_thing env t)
