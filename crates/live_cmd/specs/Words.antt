@@ -23,10 +23,13 @@ all_verbs = verbs.Get ∷ verbs.State ∷ verbs.Sources ∷ verbs.Show ∷ verbs
 -- the word of a command of one word
 abbrev pub bare_word : Bare → List ℕ
 bare_word bares.Flush = codes "flush"
+bare_word bares.Begin = codes "begin"
+bare_word bares.Commit = codes "commit"
+bare_word bares.Abort = codes "abort"
 
 -- all commands of one word
 abbrev pub all_bares : List Bare
-all_bares = bares.Flush ∷ []
+all_bares = bares.Flush ∷ bares.Begin ∷ bares.Commit ∷ bares.Abort ∷ []
 
 -- what has this word, by the word of each
 abbrev pub found : {A : Type 0} → List (List ℕ × A) → List ℕ → Option A

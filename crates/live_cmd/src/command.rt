@@ -76,6 +76,12 @@ pub enum Verb {
 pub enum Bare {
     /// `flush` runs the effects that are due, and brings the pages up to date.
     Flush,
+    /// `begin` opens a batch: changes are collected, and nobody is told of them.
+    Begin,
+    /// `commit` ends it, and tells of its changes together.
+    Commit,
+    /// `abort` ends it, and gives its cells their earlier values back.
+    Abort,
 }
 
 // The word of each verb, at the place of its number.
@@ -90,7 +96,12 @@ const VERBS: [(Verb, &str); 7] = [
 ];
 
 // So it is for the commands of one word.
-const BARES: [(Bare, &str); 1] = [(Bare::Flush, "flush")];
+const BARES: [(Bare, &str); 4] = [
+    (Bare::Flush, "flush"),
+    (Bare::Begin, "begin"),
+    (Bare::Commit, "commit"),
+    (Bare::Abort, "abort"),
+];
 
 // What stands in the first of these rows that has this word.
 fn found<T: Copy>(mut rows: &[(T, &str)], word: &str) -> Option<T>

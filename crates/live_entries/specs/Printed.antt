@@ -68,6 +68,8 @@ refusal_text (refusal.RawText k) = codes "18 " ++ decimal k
 refusal_text (refusal.Nest k) = codes "19 " ++ decimal k
 refusal_text refusal.Turns = codes "20"
 refusal_text (refusal.RulePlace k) = codes "21 " ++ decimal k
+refusal_text refusal.BatchOpen = codes "22"
+refusal_text refusal.NoBatch = codes "23"
 
 -- the line of a refusal
 abbrev pub line_of_refusal : Refusal → List ℕ

@@ -47,6 +47,10 @@ pub enum Refusal {
     Turns,
     /// No equality rule is at this place.
     RulePlace(u64),
+    /// A batch is open, in which this isn't done.
+    BatchOpen,
+    /// No batch is open that could end.
+    NoBatch,
 }
 
 impl Drop for Refusal {
@@ -73,6 +77,8 @@ impl Drop for Refusal {
             Refusal::Nest(_) => {}
             Refusal::Turns => {}
             Refusal::RulePlace(_) => {}
+            Refusal::BatchOpen => {}
+            Refusal::NoBatch => {}
         }
     }
 }

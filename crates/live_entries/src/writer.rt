@@ -138,6 +138,8 @@ fn put_rule(out: &mut Vec<u8>, refusal: &Refusal) -> Result<(), NoMemory>
         Refusal::Nest(line) => put_with_number(out, b"19 ", u64::from(*line)),
         Refusal::Turns => put(out, b"20"),
         Refusal::RulePlace(place) => put_with_number(out, b"21 ", *place),
+        Refusal::BatchOpen => put(out, b"22"),
+        Refusal::NoBatch => put(out, b"23"),
     }
 }
 

@@ -10,5 +10,6 @@ pub mod Laws
 pub mod Uses
 pub mod EffectExamples
 pub mod Examples
+pub mod BatchExamples
 pub mod PageExamples
 pub mod RowExamples

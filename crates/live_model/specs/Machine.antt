@@ -5,11 +5,12 @@ use Rattle.std.specs.List.{filter}
 use Rattle.std.specs.Option.{option_or, option_map, option_map_or}
 use Rattle.sig_base.specs.declared.limits.TheConstants.{MOST_NODES, MOST_PAGES, MOST_TEMPLATES}
 use Rattle.sig_base.specs.Values.{scalar_value}
+use Rattle.sig_base.specs.declared.value.Value.{Value}
 use Rattle.sig_base.specs.declared.value.Value.TheVariants as value
 use Rattle.page_model.specs.Pages.{NumberedPage, bare}
 use Rattle.page_model.specs.Replay.{Op}
 use Rattle.tpl_model.specs.Updates.{Updated, updated}
-use Rattle.signal_model.specs.Signals.{is_in}
+use Rattle.signal_model.specs.Signals.{is_in, standing}
 use Rattle.signal_model.specs.Changes.{live_count}
 use Rattle.signal_model.specs.Values.{value_of}
 use Rattle.signal_model.specs.Memos.{sources_of, source_names}
@@ -24,6 +25,7 @@ use Rattle.effect_model.specs.Worlds as worlds
 use Rattle.effect_model.specs.Acts.{set_cell, host_of, with_use, rewire_signal, forget, dispose_thing}
 use Rattle.effect_model.specs.Commands.{new_world, with_new_cell, with_new_computed, with_new_owner, with_new_effect, with_new_page, with_new_watcher}
 use Rattle.effect_model.specs.Commands.{armed, changed_watcher}
+use Rattle.effect_model.specs.Batches.{Batch, joined_by, set_quietly, commit, abort}
 use Rattle.effect_model.specs.Runs.{flush}
 use Rattle.effect_model.specs.Watchers.{signals_at, watches, pending_of}
 use Rattle.effect_model.specs.declared.limits.TheConstants.{MOST_WATCHERS}
@@ -61,17 +63,18 @@ use Rattle.live_model.specs.Rows.{edited, edit_refusal, no_rows, rows_at}
 use Rattle.live_model.specs.Uses.{uses_of, uses_of_body, hosts_of_body}
 
 -- What the names stand for, in order of making; what things are called; the signals, what is kept of them, the watchers, and the owners,
--- effects and pages with what stands under what; the templates; the pages that live, in order of mounting.
+-- effects and pages with what stands under what; the batch, where one is open; the templates; the pages that live, in order of mounting.
 pub record Machine : Type 0 where
   pub names : Names
   pub labels : Labels
   pub world : World
+  pub batch : Option Batch
   pub templates : List Template
   pub pages : List Page
 
 -- nothing was made yet, and there are so many host formulas
 abbrev pub empty : ℕ → Machine
-empty hosts = record { names = []; labels = no_labels; world = new_world hosts; templates = []; pages = [] }
+empty hosts = record { names = []; labels = no_labels; world = new_world hosts; batch = None; templates = []; pages = [] }
 
 -- a machine and what was told on the way to it
 pub record Told : Type 0 where
@@ -288,13 +291,36 @@ after_turns env false t =
 abbrev pub flushing : Environment → Machine → Told
 flushing env m = let f = flush env m.world in after_turns env f.refused (acted_on_pages m f.world)
 
+-- a batch that is open is committed: its cells are told together
+abbrev pub committing : Environment → Machine → Option Batch → Told
+committing env m None = reached m []
+committing env m (Some b) = acted (record m { batch = None }) (commit env b m.world)
+
+-- or it is aborted: its cells have their earlier values back
+abbrev pub aborting : Machine → Option Batch → Told
+aborting m None = reached m []
+aborting m (Some b) = acted (record m { batch = None }) (abort b m.world)
+
 -- what a command of one word does
 abbrev pub done_alone : Environment → Machine → Bare → Told
 done_alone env m bares.Flush = flushing env m
+done_alone env m bares.Begin = reached (record m { batch = Some [] }) []
+done_alone env m bares.Commit = committing env m m.batch
+done_alone env m bares.Abort = aborting m m.batch
+
+-- a cell is set, and who is notified is told; while a batch is open the cell joins it, and nobody is notified
+abbrev pub setting_by : Environment → Machine → Option Batch → ℕ → Value → Told
+setting_by env m None i v = acted m (set_cell env i v m.world)
+setting_by env m (Some b) i v =
+    acted (record m { batch = Some (joined_by env.slacks (standing m.world.signals i) i v b) }) (set_quietly env i v m.world)
+
+-- the same by the batch that is open, if one is
+abbrev pub setting : Environment → Machine → ℕ → Value → Told
+setting env m i v = setting_by env m m.batch i v
 
 -- the rows of a list are edited, which is done as a set is: nothing happens where they stay the same
 abbrev pub editing : Environment → Machine → ℕ → RowEdit → Told
-editing env m i e = acted m (set_cell env i (value.Rows (edited e (rows_at m.world.signals i))) m.world)
+editing env m i e = setting env m i (value.Rows (edited e (rows_at m.world.signals i)))
 
 -- what a command does that isn't refused
 abbrev pub done : Environment → Machine → Command → Told
@@ -303,7 +329,7 @@ done env m (command.Cell n v equals inside) =
 done env m (command.List n fields inside) =
     reached (with_signal m n kind.List (with_new_cell (value.Rows (no_rows fields)) None (owner_of m.names inside) m.world)) []
 done env m (command.Edit n e) = editing env m (number_of m.names n) e
-done env m (command.Set n v) = acted m (set_cell env (number_of m.names n) (scalar_value v) m.world)
+done env m (command.Set n v) = setting env m (number_of m.names n) (scalar_value v)
 done env m (command.Computed n s inside) =
     let r = recipe_of m.names s in
     reached (with_signal m n kind.Computed (with_use (host_of r.expression) (with_new_computed r (owner_of m.names inside) m.world))) []
@@ -320,6 +346,25 @@ done env m (command.Mount n t inside) = mounted env m n (number_of m.names t) (o
 done env m (command.Bare b) = done_alone env m b
 
 -- ---- refusals
+
+-- whether a command ends a batch
+abbrev pub is_ending : Command → Bool
+is_ending (command.Bare bares.Commit) = true
+is_ending (command.Bare bares.Abort) = true
+is_ending _ = false
+
+-- whether it is done while a batch is open: what changes a value, what shows something, and what ends it
+abbrev pub is_done_in_batch : Command → Bool
+is_done_in_batch (command.Set n v) = true
+is_done_in_batch (command.Edit n e) = true
+is_done_in_batch (command.Named verb.Dispose n) = false
+is_done_in_batch (command.Named v n) = true
+is_done_in_batch c = is_ending c
+
+-- an end where no batch is open, and what isn't done while one is
+abbrev pub batch_refusal : Option Batch → Command → Option Refusal
+batch_refusal None c = if is_ending c then Some refusal.NoBatch else None
+batch_refusal (Some b) c = if is_done_in_batch c then None else Some refusal.BatchOpen
 
 -- the names in the body of an effect
 abbrev pub body_refusal : Machine → Command → Option Refusal
@@ -392,10 +437,10 @@ abbrev pub later_refusal : List ℕ → Machine → Command → Option Refusal
 later_refusal slacks m c =
     option_or (place_refusal slacks m.world c) (option_or (row_refusal m c) (option_or (over_limit m c) (unwatch_refusal m c)))
 
--- Why a command is refused before it does anything, if it is, where the equality rules have these slacks: first its names, and then what
--- stands behind them.
+-- Why a command is refused before it does anything, if it is, where the equality rules have these slacks: first by whether a batch is open,
+-- then its names, and then what stands behind them.
 abbrev pub refusal_of : List ℕ → Machine → Command → Option Refusal
-refusal_of slacks m c = option_or (name_refusal m c) (later_refusal slacks m c)
+refusal_of slacks m c = option_or (batch_refusal m.batch c) (option_or (name_refusal m c) (later_refusal slacks m c))
 
 -- a refusal is told and changes nothing
 abbrev pub refused : Machine → Refusal → Told
