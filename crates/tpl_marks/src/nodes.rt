@@ -29,7 +29,7 @@ impl PageNodes {
         ensures { result ≡ number_on self.now address.now }
     {
         let number = self.numbers.number(address)?;
-        self.tree.kind(number)?;
+        self.tree.child_count(number)?;
         Some(number)
     }
 }
