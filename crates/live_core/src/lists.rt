@@ -5,7 +5,7 @@ ghost use Rattle.live_model.specs.Rows.{edit_refusal, edited, rows_at};
 use effect_world::World;
 use live_cmd::RowEdit;
 use live_entries::Refusal;
-use row_edits::edited;
+use row_edits::{edited, refusal};
 use sig_base::{NoMemory, NodeId, Rows, Value};
 use sig_rows::new_rows;
 use std::alloc::Global;
@@ -20,7 +20,7 @@ fn rows_at(alloc: Global, world: &World, list: NodeId) -> Result<Rows, NoMemory>
     }
 }
 
-/// Why the rows of a list don't allow an edit, if so it is. The edit is tried on a copy of the rows, of which nothing is kept.
+/// Why the rows of a list don't allow an edit, if so it is.
 ///
 /// # Errors
 ///
@@ -34,10 +34,8 @@ pub fn edit_refusal(
     ensures { IfOk result (λ r. r ≡ edit_refusal edit.now (rows_at world.now.signals.graph.state.signals list)) }
 {
     let rows = rows_at(alloc, world, list)?;
-    match edited(alloc, &rows, edit)? {
-        Ok(_) => Ok(None),
-        Err(refusal) => Ok(Some(refusal)),
-    }
+    let refusal = refusal(&rows, edit)?;
+    Ok(refusal)
 }
 
 /// The rows of a list behind an edit that they allow.
@@ -55,8 +53,6 @@ pub(crate) fn edited_rows(
     ensures { IfOk result (λ rows. rows ≡ edited edit.now (rows_at world.now.signals.graph.state.signals list)) }
 {
     let rows = rows_at(alloc, world, list)?;
-    match edited(alloc, &rows, edit)? {
-        Ok(now) => Ok(now),
-        Err(_) => unreachable!(),
-    }
+    let now = edited(alloc, &rows, edit)?;
+    Ok(now)
 }

@@ -1,20 +1,19 @@
-// Edits of rows.
-ghost use Rattle.std.specs.Prelude.{◌≡◌, IfErr, IfOk, MatchResult, OnOk, None, Some};
-ghost use Rattle.sig_rows.specs.Faults.{IsCause};
+// Edits of rows, and why they are refused.
+ghost use Rattle.std.specs.Prelude.{◌≡◌, IfOk, OnOk, None};
 ghost use Rattle.live_model.specs.Rows.{edit_fault, edit_refusal, edited};
 
 use crate::refusals::fault_told;
 use live_cmd::RowEdit;
 use live_entries::Refusal;
 use sig_base::{NoMemory, Rows};
-use sig_rows::{RowFault, insert, move_to, put_field, remove};
+use sig_rows::{
+    RowFault, insert, insert_fault, move_fault, move_to, put_fault, put_field, remove, remove_fault,
+};
 use std::alloc::Global;
 
-// Edits these rows; they are as before where the edit is refused.
+// Edits these rows, where it isn't refused.
 fn edit_rows(alloc: Global, rows: &mut Rows, edit: &RowEdit) -> Result<(), RowFault>
-    ensures rows { OnOk result (rows.new ≡ edited edit.now rows.old) }
-    ensures accepted { OnOk result (edit_fault edit.now rows.old ≡ None) }
-    ensures refused { IfErr result (λ why. IsCause (edit_fault edit.now rows.old) why) }
+    ensures { OnOk result (rows.new ≡ edited edit.now rows.old) }
 {
     match edit {
         RowEdit::Insert { place, key, values } => {
@@ -32,22 +31,48 @@ fn edit_rows(alloc: Global, rows: &mut Rows, edit: &RowEdit) -> Result<(), RowFa
     }
 }
 
-/// What an edit makes of rows, or the first cause for which these rows don't allow it: for an insertion that a row has the key, that the
-/// place is past the end, that there are more or fewer values than fields, that there are `MOST_ROWS` rows; for another edit that no row has
-/// the key, and then that no row stands at the place, or that there is no such field.
+// Why these rows don't allow an edit, the first cause.
+fn edit_fault(rows: &Rows, edit: &RowEdit) -> Option<RowFault>
+    ensures { result ≡ edit_fault edit.now rows.now }
+{
+    match edit {
+        RowEdit::Insert { place, key, values } => {
+            insert_fault(rows, *place as usize, key, values.as_slice().len())
+        }
+        RowEdit::Remove(key) => remove_fault(rows, key),
+        RowEdit::Move(key, place) => move_fault(rows, key, *place as usize),
+        RowEdit::Put { key, field, .. } => put_fault(rows, key, field),
+    }
+}
+
+/// The first cause for which these rows don't allow an edit, if so it is: for an insertion that a row has the key, that the place is past the
+/// end, that there are more or fewer values than fields, that there are `MOST_ROWS` rows; for another edit that no row has the key, and then
+/// that no row stands at the place, or that there is no such field.
+///
+/// # Errors
+///
+/// `NoMemory` where what is told finds no room.
+pub fn refusal(rows: &Rows, edit: &RowEdit) -> Result<Option<Refusal>, NoMemory>
+    ensures { IfOk result (λ r. r ≡ edit_refusal edit.now rows.now) }
+{
+    match edit_fault(rows, edit) {
+        None => Ok(None),
+        Some(fault) => Ok(Some(fault_told(edit, fault)?)),
+    }
+}
+
+/// What an edit makes of rows that allow it.
 ///
 /// # Errors
 ///
 /// `NoMemory` where the rows find no room.
-#[tactic(auto, using(crate::proofs::Causes::cause_told))]
-pub fn edited(alloc: Global, rows: &Rows, edit: &RowEdit) -> Result<Result<Rows, Refusal>, NoMemory>
-    ensures { IfOk result (λ r. MatchResult r
-        (λ t. (t ≡ edited edit.now rows.now) × (edit_refusal edit.now rows.now ≡ None))
-        (λ why. edit_refusal edit.now rows.now ≡ Some why)) }
+pub fn edited(alloc: Global, rows: &Rows, edit: &RowEdit) -> Result<Rows, NoMemory>
+    requires { edit_refusal edit.now rows.now ≡ None }
+    ensures { IfOk result (λ t. t ≡ edited edit.now rows.now) }
 {
     let mut now = rows.copy()?;
     match edit_rows(alloc, &mut now, edit) {
-        Ok(()) => Ok(Ok(now)),
-        Err(fault) => Ok(Err(fault_told(edit, fault)?)),
+        Ok(()) => Ok(now),
+        Err(_) => Err(NoMemory), // nothing else is wrong with an edit that isn't refused
     }
 }

@@ -4,4 +4,4 @@
 mod edits;
 mod refusals;
 
-pub use edits::edited;
+pub use edits::{edited, refusal};

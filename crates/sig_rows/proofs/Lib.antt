@@ -2,3 +2,4 @@ mod Keys
 mod Kept
 mod Moves
 pub mod Shared
+mod Unrefused

@@ -5,8 +5,9 @@ ghost use Rattle.sig_rows.specs.Edits.{changed, field_place, has_key, moved, wit
 ghost use Rattle.sig_rows.specs.Faults.{insert_fault, move_fault, put_fault, remove_fault, IsCause};
 
 use crate::RowFault;
-use crate::row::{changed, copies, field_place, has_key, other_marks, row_of, scalars};
-use sig_base::{MOST_ROWS, Name, NoMemory, Row, Rows, Scalar, Scalars, Text};
+use crate::refusals::{insert_fault, remove_fault};
+use crate::row::{changed, copies, field_place, other_marks, row_of, scalars};
+use sig_base::{Name, NoMemory, Row, Rows, Scalar, Scalars, Text};
 use std::alloc::Global;
 
 /// No rows, for at most `MOST_FIELDS` distinct fields other than `key`.
@@ -46,18 +47,10 @@ pub fn insert(
     ensures refused { IfErr result (λ why. IsCause (insert_fault rows.old place key.now (length values.now)) why) }
     ensures kept { OnErr result (rows.new ≡ rows.old) }
 {
-    if has_key(rows.rows(), key) {
-        return Err(RowFault::KeyTaken);
+    if let Some(fault) = insert_fault(rows, place, key, values.len()) {
+        return Err(fault);
     }
-    if place > rows.len() {
-        return Err(RowFault::Place);
-    }
-    if values.len() != rows.fields().len() {
-        return Err(RowFault::Field);
-    }
-    if rows.len() >= MOST_ROWS {
-        return Err(RowFault::Limit);
-    }
+    let _sound = rows.rows();
     let row = Row {
         key: key.copy()?,
         values: Scalars::of(alloc, scalars(alloc, values)?)?,
@@ -81,8 +74,8 @@ pub fn remove(alloc: Global, rows: &mut Rows, key: &Text) -> Result<(), RowFault
     ensures refused { IfErr result (λ why. IsCause (remove_fault rows.old key.now) why) }
     ensures kept { OnErr result (rows.new ≡ rows.old) }
 {
-    if !has_key(rows.rows(), key) {
-        return Err(RowFault::KeyMissing);
+    if let Some(fault) = remove_fault(rows, key) {
+        return Err(fault);
     }
     *rows = without(alloc, rows, key)?;
     Ok(())

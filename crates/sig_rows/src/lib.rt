@@ -1,9 +1,11 @@
-//! Edits of rows: each is an edit of the list of rows, or leaves all as it was.
+//! Edits of rows: each is an edit of the list of rows, or leaves all as it was; and why one is refused, which is asked without making it.
 #![tactic(auto)]
 
 mod edit;
 mod fault;
+mod refusals;
 mod row;
 
 pub use edit::{insert, move_to, new_rows, put_field, remove};
 pub use fault::RowFault;
+pub use refusals::{insert_fault, move_fault, put_fault, remove_fault};

@@ -16,6 +16,13 @@ pub fn has_key(rows: &[Row], key: &Text) -> bool
     rows.iter().any(|row| row.key == *key)
 }
 
+/// Whether a field has this name.
+pub fn has_field(fields: &[Name], name: &Name) -> bool
+    ensures { result ≡ list_any (λ f. bytes_eq f name.now) fields.now }
+{
+    fields.iter().any(|field| field == name)
+}
+
 /// The row with this key.
 pub fn row_of<'a>(rows: &'a [Row], key: &Text) -> Option<&'a Row>
     requires { IsDistinct bytes_eq (keys_of rows.now) }
@@ -48,7 +55,7 @@ pub fn field_place(fields: &[Name], name: &Name) -> Option<usize>
 pub fn other_marks(alloc: Global, rows: &[Row], key: &Text) -> Result<Vec<bool>, NoMemory>
     ensures { IfOk result (λ v. v.items ≡ map (λ r. not (has_key key.now r)) rows.now) }
 {
-    let mut marks = Vec::new(alloc);
+    let mut marks = Vec::with_capacity(alloc, rows.len())?;
     for row in rows {
         marks.push(row.key != *key)?;
     }
@@ -59,7 +66,7 @@ pub fn other_marks(alloc: Global, rows: &[Row], key: &Text) -> Result<Vec<bool>,
 pub fn copies(alloc: Global, rows: &[Row]) -> Result<Vec<Row>, NoMemory>
     ensures { IfOk result (λ v. v.items ≡ rows.now) }
 {
-    let mut out = Vec::new(alloc);
+    let mut out = Vec::with_capacity(alloc, rows.len())?;
     for row in rows {
         out.push(row.copy()?)?;
     }
@@ -70,7 +77,7 @@ pub fn copies(alloc: Global, rows: &[Row]) -> Result<Vec<Row>, NoMemory>
 pub fn scalars(alloc: Global, values: &[Scalar]) -> Result<Vec<Scalar>, NoMemory>
     ensures { IfOk result (λ v. v.items ≡ values.now) }
 {
-    let mut out = Vec::new(alloc);
+    let mut out = Vec::with_capacity(alloc, values.len())?;
     for value in values {
         out.push(value.copy()?)?;
     }
@@ -119,7 +126,7 @@ pub fn changed(
     requires { All (λ r. at < length r.values) rows.now }
     ensures { IfOk result (λ v. v.items ≡ changed key.now at value.now rows.now) }
 {
-    let mut out = Vec::new(alloc);
+    let mut out = Vec::with_capacity(alloc, rows.len())?;
     for row in rows {
         out.push(changed_row(alloc, row, key, at, value)?)?;
     }
