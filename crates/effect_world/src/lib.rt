@@ -1,6 +1,7 @@
 //! The world of signals, watchers, owners, effects and pages: what is made, changed and disposed, and what is told of it.
 #![tactic(auto)]
 
+mod batches;
 mod changes;
 mod creation;
 mod ends;

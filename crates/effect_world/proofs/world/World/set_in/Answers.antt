@@ -1,0 +1,16 @@
+use Rattle.std.proofs.Common.{refl}
+use Rattle.effect_world.specs.declared.world.World.{World}
+use Rattle.effect_world.proofs.Batched.{set_in_done}
+use Rattle.effect_world.proofs.Worlds.{owned_still}
+use Rattle.effect_world.proofs.world.World.set_in.Goals as goal
+
+pub returns-clause-does : goal.returns-clause-does
+returns-clause-does g c = λ hosts asked sound.
+    let new : World = record { signals = c.set_in.new.self; tables = c.args.self.now.tables } in
+    set_in_done hosts _ asked c.args.self.now new _ _ _ _ c.args.id c.args.value c.new-told.ensures.items (c.in_ok-done.ensures.does hosts asked sound) refl
+    c.requires.owned.tables c.in_ok-tell_signals.ensures
+
+pub returns-clause-agrees : goal.returns-clause-agrees
+returns-clause-agrees g c = λ asked a.
+    let new : World = record { signals = c.set_in.new.self; tables = c.args.self.now.tables } in
+    record { signals = c.in_ok-done.ensures.agrees asked a.signals; owned = owned_still c.args.self.now new c.in_ok-done.ensures.stays.given refl a.owned }

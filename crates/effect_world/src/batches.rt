@@ -1,0 +1,117 @@
+// Changes that are collected while a batch is open: watchers are notified of them together, or they are given back.
+ghost use Rattle.std.specs.Prelude.{◌≡◌, ◌+◌, ◌<◌, ◌≤◌, ◌^◌, ◌⊎◌, ℕ, true, false, List, IfErr, IfOk, IsErrOf, OnOk, length, map};
+ghost use Rattle.signal_model.specs.Recipes.{Hosts};
+ghost use Rattle.signal_model.specs.Signals.{is_computed, is_there, standing};
+ghost use Rattle.effect_model.specs.Batches.{abort, commit, joined_by, set_quietly};
+ghost use Rattle.sig_host.specs.Hosts.{HostPlace};
+ghost use Rattle.sig_state.specs.Batches.{AreRuled as AreRuledIn, HasRoom};
+ghost use Rattle.sig_state.specs.Equality.{is_alike_here, IsRuled};
+ghost use Rattle.sig_effect.specs.declared.errors.EffectFault.TheVariants as fault;
+ghost use Rattle.sig_effect.specs.Stores.{environment, AreRuled, Stays};
+ghost use Rattle.sig_effect.specs.Answers.{is_same};
+ghost use Rattle.effect_world.specs.Stores.{Agrees, AreOwned, Does, IsSound};
+
+use crate::events::Event;
+use crate::notices::tell_signals;
+use crate::world::World;
+use sig_base::{NoMemory, NodeId, Value};
+use sig_effect::EffectFault;
+use sig_host::EqualsRule;
+use sig_state::{Batch, SetDone};
+
+impl World {
+    /// Gives a cell a value while a batch is open, unless its equality calls it the same as the one that it has: the cell joins the batch
+    /// with its value before. The change is told, and nobody is notified.
+    ///
+    /// # Errors
+    ///
+    /// `Gone` where the cell is gone; then all is as before. After `NoMemory` world and batch may only be dropped.
+    pub fn set_in(
+        &mut self,
+        batch: &mut Batch,
+        rules: &[EqualsRule],
+        id: NodeId,
+        value: Value,
+        events: &mut Vec<Event>,
+    ) -> Result<SetDone, EffectFault>
+        requires owned { AreOwned self.old }
+        requires kind { is_computed (standing self.old.signals.graph.state.signals id) ≡ false }
+        requires ruled { IsRuled (length rules.now) (standing self.old.signals.graph.state.signals id) }
+        requires worn { self.old.signals.graph.state.worn < 2 ^ 127 }
+        requires room { HasRoom id batch.old }
+        ensures done { IfOk result (λ d. is_same d ≡ is_alike_here (map (λ r. r.slack) rules.now) (standing self.old.signals.graph.state.signals id) value) }
+        ensures does { (hosts : Hosts) (asked : List HostPlace) → IsSound hosts asked self.old →
+            OnOk result (Does hosts asked asked self.old self.new events.old.items events.new.items
+            (set_quietly (environment hosts (map (λ r. r.slack) rules.now)) id value)) }
+        ensures collects { OnOk result (batch.new.changed
+            ≡ joined_by (map (λ r. r.slack) rules.now) (standing self.old.signals.graph.state.signals id) id value batch.old.changed) }
+        ensures room { OnOk result (length batch.new.changed + batch.new.spare ≡ length batch.old.changed + batch.old.spare) }
+        ensures agrees { (asked : List HostPlace) → Agrees asked self.old → OnOk result (Agrees asked self.new) }
+        ensures rules { (count : ℕ) → AreRuled count self.old.signals.graph.state.signals → OnOk result (AreRuled count self.new.signals.graph.state.signals) }
+        ensures tables { self.new.tables ≡ self.old.tables }
+        ensures stays { OnOk result (Stays self.old.signals self.new.signals) }
+        ensures there { OnOk result (is_there (standing self.old.signals.graph.state.signals id) ≡ true) }
+        ensures gone { IsErrOf result fault.Gone → is_there (standing self.old.signals.graph.state.signals id) ≡ false }
+        ensures fault { IfErr result (λ e. (e ≡ fault.Gone) ⊎ (e ≡ fault.NoMemory)) }
+        ensures err { IsErrOf result fault.Gone → (self.new ≡ self.old) × (batch.new ≡ batch.old) }
+        ensures untold { IsErrOf result fault.Gone → events.new ≡ events.old }
+    {
+        let mut told = Vec::new(*events.allocator());
+        let done = self.signals.set_in(batch, rules, id, value, &mut told)?;
+        tell_signals(events, told)?;
+        Ok(done)
+    }
+
+    /// Tells of the changes of a batch that ends: of the cells whose value as it began and present value are unlike by their equality the
+    /// watchers are notified together, each once and in the order of making; those whose notification tried a command are told behind
+    /// them, all at once.
+    ///
+    /// # Errors
+    ///
+    /// `NoMemory` alone; then the world may only be dropped.
+    pub fn commit(
+        &mut self,
+        batch: &Batch,
+        rules: &[EqualsRule],
+        events: &mut Vec<Event>,
+    ) -> Result<(), NoMemory>
+        requires owned { AreOwned self.old }
+        requires ruled { AreRuledIn (length rules.now) self.old.signals.graph.state.signals batch.now.changed }
+        ensures does { (hosts : Hosts) (asked : List HostPlace) → IsSound hosts asked self.old →
+            OnOk result (Does hosts asked asked self.old self.new events.old.items events.new.items
+            (commit (environment hosts (map (λ r. r.slack) rules.now)) batch.now.changed)) }
+        ensures agrees { (asked : List HostPlace) → Agrees asked self.old → OnOk result (Agrees asked self.new) }
+        ensures graph { OnOk result (self.new.signals.graph ≡ self.old.signals.graph) }
+        ensures made { OnOk result (self.new.signals.watchers.made ≡ self.old.signals.watchers.made) }
+        ensures tables { self.new.tables ≡ self.old.tables }
+    {
+        let mut told = Vec::new(*events.allocator());
+        self.signals.commit(batch, rules, &mut told)?;
+        tell_signals(events, told)?;
+        Ok(())
+    }
+
+    /// Gives each cell of a batch that ends the value back that it had as the batch began, where it has another one. Each such change is
+    /// told, and nobody is notified.
+    ///
+    /// # Errors
+    ///
+    /// `NoMemory` alone; then the world may only be dropped.
+    pub fn abort(&mut self, batch: Batch, events: &mut Vec<Event>) -> Result<(), NoMemory>
+        requires owned { AreOwned self.old }
+        requires worn { self.old.signals.graph.state.worn < 2 ^ 127 }
+        ensures does { (hosts : Hosts) (asked : List HostPlace) → IsSound hosts asked self.old →
+            OnOk result (Does hosts asked asked self.old self.new events.old.items events.new.items (abort batch.changed)) }
+        ensures agrees { (asked : List HostPlace) → Agrees asked self.old → OnOk result (Agrees asked self.new) }
+        ensures rules { (count : ℕ) → AreRuled count self.old.signals.graph.state.signals → OnOk result (AreRuled count self.new.signals.graph.state.signals) }
+        ensures given { OnOk result (self.new.signals.graph.given ≡ self.old.signals.graph.given) }
+        ensures watchers { OnOk result (self.new.signals.watchers ≡ self.old.signals.watchers) }
+        ensures tables { self.new.tables ≡ self.old.tables }
+        ensures worn { OnOk result (self.new.signals.graph.state.worn ≤ self.old.signals.graph.state.worn + length batch.changed) }
+    {
+        let mut told = Vec::new(*events.allocator());
+        self.signals.abort(batch, &mut told)?;
+        tell_signals(events, told)?;
+        Ok(())
+    }
+}
