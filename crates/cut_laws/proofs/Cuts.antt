@@ -11,8 +11,8 @@ use Rattle.live_entries.specs.declared.entry.Entry.{Entry}
 use Rattle.live_entries.specs.Printed.{printed}
 use Rattle.live_words.specs.declared.jobs.Job.TheVariants as job
 use Rattle.live_model.specs.Machine.{Machine, step}
-use Rattle.live_model.specs.Output.{entries_from}
-use Rattle.cut_laws.specs.Cuts.{EntriesLaw, IsWhole, ItemsLaw, OutputLaw, PartsLaw, machine_after, next_number}
+use Rattle.live_model.specs.Output.{entries_from, machine_after}
+use Rattle.cut_laws.specs.Cuts.{EntriesLaw, IsWhole, ItemsLaw, OutputLaw, PartsLaw, next_number}
 use Rattle.cut_laws.proofs.Ends.{whole_closed}
 
 -- how `items_cut` and `one_list` of `live_cmd` are had

@@ -1,5 +1,5 @@
 -- Where a script may be cut, and what holds of both parts.
-use Rattle.std.specs.Prelude.{◌≡◌, ◌+◌, ◌++◌, ℕ, true, List, [], ◌∷◌, length}
+use Rattle.std.specs.Prelude.{◌≡◌, ◌+◌, ◌++◌, ℕ, true, List, length}
 use Rattle.std.specs.List.{AllByRecursion}
 use Rattle.effect_model.specs.Worlds.{Environment}
 use Rattle.script_lines.specs.Lines.{EndsLine, kept_lines, lines}
@@ -8,8 +8,8 @@ use Rattle.live_cmd.specs.declared.command.Item.{Item}
 use Rattle.live_cmd.specs.Items.{ItemsFrom}
 use Rattle.live_words.specs.declared.jobs.Job.{Job}
 use Rattle.live_report.specs.Reports.{output_of}
-use Rattle.live_model.specs.Machine.{Machine, step}
-use Rattle.live_model.specs.Output.{entries_from}
+use Rattle.live_model.specs.Machine.{Machine}
+use Rattle.live_model.specs.Output.{entries_from, machine_after}
 
 -- Bytes behind which a script may be cut: there are none or they end with LF, and each block that begins in them ends in them.
 pub record IsWhole (x : List ℕ) : Type 0 where
@@ -19,11 +19,6 @@ pub record IsWhole (x : List ℕ) : Type 0 where
 -- the number of the line behind bytes whose first line has the number n
 abbrev pub next_number : ℕ → List ℕ → ℕ
 next_number n x = n + length (lines x)
-
--- the machine that items come to
-abbrev pub machine_after : Environment → Machine → List Item → Machine
-machine_after env m [] = m
-machine_after env m (i ∷ is) = machine_after env (step env m i).machine is
 
 -- ---- laws
 

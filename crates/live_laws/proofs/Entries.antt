@@ -1,9 +1,12 @@
 -- How what happens is told.
-use Rattle.std.proofs.Common.{◌≡◌, ℕ, true, List, [], ◌∷◌, ◌++◌, append_assoc, refl, sym, subst}
+use Rattle.std.proofs.Common.{◌≡◌, ℕ, true, List, [], ◌∷◌, ◌++◌, append_assoc, refl, sym, ap, ◌∙◌, subst}
 use Rattle.std.specs.List.{list_all}
 use Rattle.std.proofs.lemmas.Bool.{and_parts}
 use Rattle.std.proofs.lemmas.List.{append-nil}
-use Rattle.effect_model.specs.Worlds.{Event}
+use Rattle.sig_base.specs.declared.value.Value.{Value}
+use Rattle.effect_model.specs.Acts.{with_quiet_value}
+use Rattle.effect_model.specs.declared.how.How.TheVariants.{Set}
+use Rattle.effect_model.specs.Worlds.{Event, changed_signal, World}
 use Rattle.page_model.specs.Replay.{Op}
 use Rattle.live_entries.specs.declared.entry.Entry.{Entry}
 use Rattle.live_entries.specs.declared.entry.Entry.TheVariants as entry
@@ -19,6 +22,40 @@ told_then labels [] more rest h = h
 told_then labels (e ∷ es) more rest h =
     subst (λ ts. IsTold labels (e ∷ (es ++ more)) ts) (sym (append_assoc (event_entries labels e) (entries_of (relabelled e labels) es) rest))
     (event_told labels e (es ++ more) (entries_of (relabelled e labels) es ++ rest) (told_then (relabelled e labels) es more rest h))
+
+-- more that happened is told behind
+entries_more : (labels : Labels) (es more : List Event) → entries_of labels (es ++ more) ≡ entries_of labels es ++ entries_of (labels_after es labels) more
+entries_more labels [] more = refl
+entries_more labels (e ∷ es) more =
+    ap (λ ts. event_entries labels e ++ ts) (entries_more (relabelled e labels) es more)
+    ∙ sym (append_assoc (event_entries labels e) (entries_of (relabelled e labels) es) (entries_of (labels_after es (relabelled e labels)) more))
+
+labels_more : (labels : Labels) (es more : List Event) → labels_after (es ++ more) labels ≡ labels_after more (labels_after es labels)
+labels_more labels [] more = refl
+labels_more labels (e ∷ es) more = labels_more (relabelled e labels) es more
+
+-- events of which nothing is told, and by which nothing has another name
+pub record IsUntold (labels : Labels) (es : List Event) : Type 0 where
+  pub entries : entries_of labels es ≡ []
+  pub named : labels_after es labels ≡ labels
+
+pub none_untold : (labels : Labels) (es : List Event) → es ≡ [] → IsUntold labels es
+none_untold labels es e = record { entries = ap (entries_of labels) e; named = ap (λ fs. labels_after fs labels) e }
+
+-- what is told behind them, and what things are called then
+pub entries_behind : (labels : Labels) (es more : List Event) → IsUntold labels es → entries_of labels (es ++ more) ≡ entries_of labels more
+entries_behind labels es more h =
+    entries_more labels es more ∙ ap (λ ts. ts ++ entries_of (labels_after es labels) more) h.entries ∙ ap (λ ls. entries_of ls more) h.named
+
+pub labels_behind : (labels : Labels) (es more : List Event) → IsUntold labels es → labels_after (es ++ more) labels ≡ labels_after more labels
+labels_behind labels es more h = labels_more labels es more ∙ ap (labels_after more) h.named
+
+-- of another value that nobody is notified of nothing is told
+pub quiet_untold : (labels : Labels) (n : ℕ) (v : Value) (w : World) → IsUntold labels w.told → IsUntold labels (with_quiet_value n v w).told
+quiet_untold labels n v w h = record {
+  entries = entries_behind labels w.told (changed_signal n Set ∷ []) h;
+  named = labels_behind labels w.told (changed_signal n Set ∷ []) h;
+}
 
 -- all that was told, and nothing more
 pub told_only : (labels : Labels) (es : List Event) → IsTold labels (es ++ []) (entries_of labels es)

@@ -12,6 +12,7 @@ use Rattle.signal_model.specs.Values.{value_of}
 use Rattle.effect_model.specs.Owners.{Thing, the_signal, the_watcher}
 use Rattle.effect_model.specs.Worlds.{Environment, Event, refused, still_due, World, settle}
 use Rattle.effect_model.specs.Acts.{gone_refused, host_of, host_refused, or_refused, some_gone, with_use}
+use Rattle.effect_model.specs.Batches.{Batch, net_of}
 use Rattle.effect_model.specs.Commands as plain
 use Rattle.effect_model.specs.Commands.{after_command, command_refused, done_by, inside_refused, told_if}
 use Rattle.effect_model.specs.Commands.{with_new_computed, with_new_page}
@@ -34,15 +35,17 @@ use Rattle.live_model.specs.declared.names.Need.TheVariants as need
 use Rattle.live_model.specs.Labels.{labels_after}
 use Rattle.live_model.specs.Links.{linked_body, owner_of, recipe_of}
 use Rattle.live_model.specs.Machine as machine
-use Rattle.live_model.specs.Machine.{Machine, Told, acted_on_pages, after_turns, body_refusal, updated_page, update_of, disposing, done, done_alone, empty}
+use Rattle.live_model.specs.Machine.{Machine, Told, aborting, acted_on_pages, after_turns, batch_refusal, body_refusal, committing, updated_page, update_of, disposing, done}
+use Rattle.live_model.specs.Machine.{done_alone, empty}
 use Rattle.live_model.specs.Machine.{entries_of, is_trying, later_refusal, name_refusal, named, ops_told, over_limit, page_at, place_refusal, refusal_of, row_refusal}
-use Rattle.live_model.specs.Machine.{news_of, scratching, settling, step, template_at, template_reads, unwatch_refusal, update_all}
+use Rattle.live_model.specs.Machine.{news_of, scratching, setting_by, settling, step, template_at, template_reads, unwatch_refusal, update_all}
 use Rattle.live_model.specs.Pages.{Page, page_html, scratch_html}
 use Rattle.live_model.specs.Rows.{edited, no_rows, rows_at}
 use Rattle.live_model.specs.Names.{Use, first_refusal, meaning_of, number_of, refusal_at, thing_named}
 use Rattle.live_model.specs.Uses.{uses_of, uses_of_inside, uses_of_signals, uses_of_source}
 use Rattle.live_laws.specs.Rested.{AreAsked, AreEnds, rested_after, told_by}
-use Rattle.live_laws.specs.Events.{askings_of, EndsLaw, HappensLaw, HostsLaw, IsTold, deeds_after_turns, deeds_alone, deeds_of, deeds_of_item, deeds_of_pages, deeds_of_verb, disposals_of}
+use Rattle.live_laws.specs.Events.{askings_of, EndsLaw, HappensLaw, HostsLaw, IsTold, deeds_after_turns, deeds_alone, deeds_of, deeds_of_abort, deeds_of_commit}
+use Rattle.live_laws.specs.Events.{deeds_of_item, deeds_of_pages, deeds_of_set, deeds_of_verb, disposals_of}
 use Rattle.live_laws.specs.Events.{event_told, happened, no_more}
 use Rattle.live_laws.proofs.Fine.{first_of_both, host_fine, inside_fine, none_by, none_of, signal_fine, signals_fine, source_fine, watcher_fine}
 use Rattle.live_laws.proofs.Rests.{quiet_after, rested_law, told_more}
@@ -80,14 +83,18 @@ makes env m c e t world quiet none = record {
 
 -- ---- refusals
 
+-- what is refused behind whether a batch is open
+behind_batch : (slacks : List ℕ) (m : Machine) (c : Command) → refusal_of slacks m c ≡ None → option_or (name_refusal m c) (later_refusal slacks m c) ≡ None
+behind_batch slacks m c e = (none_of (batch_refusal m.batch c) (option_or (name_refusal m c) (later_refusal slacks m c)) e).1
+
 names_fine : (slacks : List ℕ) (m : Machine) (c : Command) → refusal_of slacks m c ≡ None → first_refusal m.world m.names (uses_of c) ≡ None
 names_fine slacks m c e =
-    let a = none_of (name_refusal m c) (later_refusal slacks m c) e in
+    let a = none_of (name_refusal m c) (later_refusal slacks m c) (behind_batch slacks m c e) in
     (none_of (first_refusal m.world m.names (uses_of c)) (body_refusal m c) a.0).0
 
 places_fine : (slacks : List ℕ) (m : Machine) (c : Command) → refusal_of slacks m c ≡ None → place_refusal slacks m.world c ≡ None
 places_fine slacks m c e =
-    let a = none_of (name_refusal m c) (later_refusal slacks m c) e in
+    let a = none_of (name_refusal m c) (later_refusal slacks m c) (behind_batch slacks m c e) in
     (none_of (place_refusal slacks m.world c) (option_or (row_refusal m c) (option_or (over_limit m c) (unwatch_refusal m c))) a.1).0
 
 -- the uses behind the first
@@ -172,7 +179,24 @@ verbs_do env m verb.Scratch n i = askings_do env m n (page_at m.pages i)
 verbs_do env m verb.Dispose n i = disposals_do env m (thing_named (meaning_of m.names n))
 verbs_do env m v n i = record { world = refl; told = answers_only m.labels (named env m v n i).entries refl }
 
+-- ---- a batch, and changes beside it
+
+commits_do : (env : Environment) (m : Machine) (b : Option Batch) → Does env m (deeds_of_commit env m.world b) (committing env m b)
+commits_do env m None = record { world = refl; told = no_more m.labels }
+commits_do env m (Some b) = acts env m (plain.tell_together (net_of env.slacks m.world.signals b)) refl (committing env m (Some b)) refl refl
+
+aborts_do : (env : Environment) (m : Machine) (b : Option Batch) → Does env m (deeds_of_abort b) (aborting m b)
+aborts_do env m None = record { world = refl; told = no_more m.labels }
+aborts_do env m (Some b) = acts env m (plain.restore b) refl (aborting m (Some b)) refl refl
+
+sets_do : (env : Environment) (m : Machine) (b : Option Batch) (i : ℕ) (v : Value) → Does env m (deeds_of_set b i v) (setting_by env m b i v)
+sets_do env m None i v = acts env m (plain.set i v) refl (setting_by env m None i v) refl refl
+sets_do env m (Some b) i v = acts env m (plain.set_untold i v) refl (setting_by env m (Some b) i v) refl refl
+
 words_do : (env : Environment) (m : Machine) (b : Bare) → Does env m (deeds_alone env m b) (done_alone env m b)
+words_do env m bares.Begin = record { world = refl; told = no_more m.labels }
+words_do env m bares.Commit = commits_do env m m.batch
+words_do env m bares.Abort = aborts_do env m m.batch
 words_do env m bares.Flush = record {
   world = turns_do env m (flush env m.world).refused (flush env m.world).world;
   told = turns_told env m (flush env m.world).refused (flush env m.world).world;
@@ -189,10 +213,8 @@ commands_do env m (command.List n fields inside) quiet e =
     (done env m (command.List n fields inside)) refl quiet refl
 commands_do env m (command.Edit n d) quiet e =
     let i : ℕ = number_of m.names n in
-    let v : Value = value.Rows (edited d (rows_at m.world.signals i)) in
-    acts env m (plain.set i v) refl (done env m (command.Edit n d)) refl refl
-commands_do env m (command.Set n v) quiet e =
-    acts env m (plain.set (number_of m.names n) (scalar_value v)) refl (done env m (command.Set n v)) refl refl
+    sets_do env m m.batch i (value.Rows (edited d (rows_at m.world.signals i)))
+commands_do env m (command.Set n v) quiet e = sets_do env m m.batch (number_of m.names n) (scalar_value v)
 commands_do env m (command.Computed n s inside) quiet e =
     let r : Recipe = recipe_of m.names s in
     let u = behind_first env.slacks m (command.Computed n s inside) (n, need.New) (uses_of_source s ++ uses_of_inside inside) refl e in

@@ -3,3 +3,4 @@ mod Entries
 mod Rests
 mod Events
 mod Refusals
+mod Batches

@@ -1,14 +1,14 @@
 -- What refused items leave.
-use Rattle.std.proofs.Common.{◌≡◌, ℕ, Bool, true, false, List, [], ◌∷◌, ◌++◌, Option, refl, ap, ◌∙◌}
+use Rattle.std.proofs.Common.{◌≡◌, ℕ, Bool, true, false, List, [], ◌∷◌, ◌++◌, Option, None, refl, ap, ◌∙◌}
 use Rattle.std.specs.Prelude.{unwrap_or}
-use Rattle.std.specs.Option.{option_map_or}
+use Rattle.std.specs.Option.{option_map_or, option_or}
 use Rattle.sig_base.specs.Values.{scalar_value}
 use Rattle.sig_base.specs.declared.value.Value.{Value}
 use Rattle.sig_base.specs.declared.value.Value.TheVariants as value
 use Rattle.signal_model.specs.Signals.{Cell, IsCell, Stands, standing}
-use Rattle.effect_model.specs.declared.how.How.TheVariants.{Set}
-use Rattle.effect_model.specs.Worlds.{Environment, Event, changed_signal, Watcher, World}
-use Rattle.effect_model.specs.Acts.{are_alike, frozen_by, set_cell, set_standing, told_frozen, told_of, with_new_value}
+use Rattle.effect_model.specs.Worlds.{Environment, Event, Watcher, World}
+use Rattle.effect_model.specs.Acts.{are_alike, frozen_by, set_cell, set_standing, told_frozen, told_of, with_new_value, with_quiet_value}
+use Rattle.effect_model.specs.Batches.{Batch}
 use Rattle.effect_model.specs.Runs.{flush}
 use Rattle.effect_tables.specs.Placed.{at_rest}
 use Rattle.live_cmd.specs.declared.command.Command.{Command}
@@ -18,10 +18,11 @@ use Rattle.live_cmd.specs.declared.command.Item.TheVariants as item
 use Rattle.live_entries.specs.declared.entry.Entry.{Entry}
 use Rattle.live_entries.specs.declared.refusal.Refusal.{Refusal}
 use Rattle.live_model.specs.Labels.{Labels, labels_after}
-use Rattle.live_model.specs.Machine.{Machine, Told, acted, acted_on_pages, after_turns, done, entries_of, refused, step, reached}
+use Rattle.live_model.specs.Machine.{Machine, Told, acted, acted_on_pages, after_turns, batch_refusal, done, entries_of, flushing, refused, setting, setting_by, step, reached}
 use Rattle.live_model.specs.Names.{number_of}
 use Rattle.live_model.specs.Rows.{edited, rows_at}
 use Rattle.live_laws.specs.Refusals.{ChangeLaw, IsChange, RefusedFlushLaw, RefusedLaw, freezing, notices, notified_of}
+use Rattle.live_laws.proofs.Entries.{IsUntold, entries_behind, labels_behind, none_untold, quiet_untold}
 
 pub refused_law : RefusedLaw
 refused_law env m (item.Do c) r e = ap (λ (o : Option Refusal). option_map_or (refused m) o (done env m c)) e
@@ -30,11 +31,10 @@ refused_law env m (item.Refused q) r e = ap (λ (o : Option Refusal). refused m 
 -- ---- a change
 
 -- what such a command does is what setting the cell does
-set_done : (env : Environment) (m : Machine) (c : Command) (i : ℕ) (v : Value) → IsChange m c i v → done env m c ≡ acted m (set_cell env i v m.world)
-set_done env m (command.Set n s) i v h = ap (λ (k : ℕ). acted m (set_cell env k (scalar_value s) m.world)) h.0 ∙ ap (λ (u : Value). acted m (set_cell env i u m.world)) h.1
+pub set_done : (env : Environment) (m : Machine) (c : Command) (i : ℕ) (v : Value) → IsChange m c i v → done env m c ≡ setting env m i v
+set_done env m (command.Set n s) i v h = ap (λ (k : ℕ). setting env m k (scalar_value s)) h.0 ∙ ap (setting env m i) h.1
 set_done env m (command.Edit n e) i v h =
-    ap (λ (k : ℕ). acted m (set_cell env k (value.Rows (edited e (rows_at m.world.signals (number_of m.names n)))) m.world)) h.0
-    ∙ ap (λ (u : Value). acted m (set_cell env i u m.world)) h.1
+    ap (λ (k : ℕ). setting env m k (value.Rows (edited e (rows_at m.world.signals (number_of m.names n))))) h.0 ∙ ap (setting env m i) h.1
 set_done env m _ i v h = absurd h
 
 -- a cell whose equality calls the value another one
@@ -53,27 +53,37 @@ notices_told labels [] [] = refl
 notices_told labels [] (n ∷ ns) = refl
 notices_told labels (x ∷ xs) ns = ap (λ (es : List Entry). notices labels (x ∷ []) ++ es) (notices_told labels xs ns)
 
--- a world that tells of the change of a cell and these notices
-acted_notices : (m : Machine) (w : World) (n : ℕ) (xs : List Watcher) (ns : List ℕ) → w.told ≡ changed_signal n Set ∷ (told_of xs ++ told_frozen ns) →
-    acted m w ≡ reached (record m { world = at_rest w }) (notices m.labels xs ++ freezing m.labels ns)
-acted_notices m w n xs ns e =
-    ap (λ (es : List Event). reached (record m { labels = labels_after es m.labels; world = at_rest w }) (entries_of m.labels es)) e
-    ∙ ap (λ (labels : Labels). reached (record m { labels = labels; world = at_rest w }) (entries_of m.labels (told_of xs ++ told_frozen ns))) (same_labels m.labels xs ns)
-    ∙ ap (reached (record m { world = at_rest w })) (notices_told m.labels xs ns)
+-- what is told of a world behind which nothing has another name
+pub acted_as : (m : Machine) (w : World) (ts : List Entry) → labels_after w.told m.labels ≡ m.labels → entries_of m.labels w.told ≡ ts →
+    acted m w ≡ reached (record m { world = at_rest w }) ts
+acted_as m w ts labels entries =
+    ap (λ (ls : Labels). reached (record m { labels = ls; world = at_rest w }) (entries_of m.labels w.told)) labels
+    ∙ ap (reached (record m { world = at_rest w })) entries
+
+-- a world that tells these notices, behind what isn't told
+pub acted_notices : (m : Machine) (w : World) (es : List Event) (xs : List Watcher) (ns : List ℕ) → w.told ≡ es ++ (told_of xs ++ told_frozen ns) →
+    IsUntold m.labels es → acted m w ≡ reached (record m { world = at_rest w }) (notices m.labels xs ++ freezing m.labels ns)
+acted_notices m w es xs ns e h =
+    acted_as m w (notices m.labels xs ++ freezing m.labels ns)
+    (ap (λ (fs : List Event). labels_after fs m.labels) e ∙ labels_behind m.labels es (told_of xs ++ told_frozen ns) h ∙ same_labels m.labels xs ns)
+    (ap (entries_of m.labels) e ∙ entries_behind m.labels es (told_of xs ++ told_frozen ns) h ∙ notices_told m.labels xs ns)
 
 pub change_law : ChangeLaw
-change_law env m c i v x quiet fine change stands other =
+change_law env m c i v x quiet none fine change stands other =
     let xs = notified_of m.world i v in
+    let w : World = with_quiet_value i v m.world in
     ap (λ (o : Option Refusal). option_map_or (refused m) o (done env m c)) fine
     ∙ set_done env m c i v change
+    ∙ ap (λ (b : Option Batch). setting_by env m b i v) none
     ∙ ap (acted m) (another_value env i v m.world x stands other)
-    ∙ acted_notices m (with_new_value i v m.world) i xs (frozen_by xs)
-    (ap (λ (es : List Event). (es ++ changed_signal i Set ∷ []) ++ (told_of xs ++ told_frozen (frozen_by xs))) quiet)
+    ∙ acted_notices m (with_new_value i v m.world) w.told xs (frozen_by xs) refl (quiet_untold m.labels i v m.world (none_untold m.labels m.world.told quiet))
 
 -- ---- a refused flush
 
 pub refused_flush_law : RefusedFlushLaw
-refused_flush_law env m e =
+refused_flush_law env m none e =
     let t : Told = acted_on_pages m (flush env m.world).world in
-    let s : step env m (item.Do (command.Bare bares.Flush)) ≡ after_turns env true t = ap (λ (b : Bool). after_turns env b t) e in
+    let s : step env m (item.Do (command.Bare bares.Flush)) ≡ after_turns env true t =
+    ap (λ (b : Option Batch). option_map_or (refused m) (option_or (batch_refusal b (command.Bare bares.Flush)) None) (flushing env m)) none
+    ∙ ap (λ (b : Bool). after_turns env b t) e in
     record { done = s; pages = ap (λ (r : Told). r.machine.pages) s }

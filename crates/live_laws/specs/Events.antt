@@ -2,9 +2,11 @@
 use Rattle.std.specs.Prelude.{◌≡◌, ℕ, Bool, true, false, List, [], ◌∷◌, ◌++◌, map, Option, Some, None}
 use Rattle.std.specs.Option.{option_map_or}
 use Rattle.sig_base.specs.Values.{scalar_value}
+use Rattle.sig_base.specs.declared.value.Value.{Value}
 use Rattle.sig_base.specs.declared.value.Value.TheVariants as value
 use Rattle.effect_model.specs.Owners.{Thing}
 use Rattle.effect_model.specs.Worlds.{Environment, Event, World}
+use Rattle.effect_model.specs.Batches.{Batch, net_of}
 use Rattle.effect_model.specs.Commands as plain
 use Rattle.effect_model.specs.Commands.{after_command}
 use Rattle.effect_model.specs.Runs.{flush}
@@ -58,16 +60,34 @@ abbrev pub deeds_after_turns : Environment → Bool → Machine → List plain.C
 deeds_after_turns env true m = []
 deeds_after_turns env false m = deeds_of_pages env m.templates m.pages m.world
 
+-- the cells of a batch that is open are told together where their values as it began and now are unlike
+abbrev pub deeds_of_commit : Environment → World → Option Batch → List plain.Command
+deeds_of_commit env w None = []
+deeds_of_commit env w (Some b) = plain.tell_together (net_of env.slacks w.signals b) ∷ []
+
+-- or they have their earlier values back
+abbrev pub deeds_of_abort : Option Batch → List plain.Command
+deeds_of_abort None = []
+deeds_of_abort (Some b) = plain.restore b ∷ []
+
+-- a cell is set, of which nobody is notified while a batch is open
+abbrev pub deeds_of_set : Option Batch → ℕ → Value → List plain.Command
+deeds_of_set None i v = plain.set i v ∷ []
+deeds_of_set (Some b) i v = plain.set_untold i v ∷ []
+
 -- what a command of one word does
 abbrev pub deeds_alone : Environment → Machine → Bare → List plain.Command
+deeds_alone env m bares.Begin = []
+deeds_alone env m bares.Commit = deeds_of_commit env m.world m.batch
+deeds_alone env m bares.Abort = deeds_of_abort m.batch
 deeds_alone env m bares.Flush = let f = flush env m.world in plain.flush_all ∷ deeds_after_turns env f.refused (acted_on_pages m f.world).machine
 
 -- what a command of the script that isn't refused does, in order
 abbrev pub deeds_of : Environment → Machine → Command → List plain.Command
 deeds_of env m (command.Cell n v equals inside) = plain.cell (scalar_value v) equals (owner_of m.names inside) ∷ []
 deeds_of env m (command.List n fields inside) = plain.cell (value.Rows (no_rows fields)) None (owner_of m.names inside) ∷ []
-deeds_of env m (command.Edit n e) = let i = number_of m.names n in plain.set i (value.Rows (edited e (rows_at m.world.signals i))) ∷ []
-deeds_of env m (command.Set n v) = plain.set (number_of m.names n) (scalar_value v) ∷ []
+deeds_of env m (command.Edit n e) = let i = number_of m.names n in deeds_of_set m.batch i (value.Rows (edited e (rows_at m.world.signals i)))
+deeds_of env m (command.Set n v) = deeds_of_set m.batch (number_of m.names n) (scalar_value v)
 deeds_of env m (command.Computed n s inside) = plain.computed (recipe_of m.names s) (owner_of m.names inside) ∷ []
 deeds_of env m (command.Rewire n s) = plain.rewire (number_of m.names n) (recipe_of m.names s) ∷ []
 deeds_of env m (command.Owner n inside) = plain.owner (owner_of m.names inside) ∷ []

@@ -1,3 +1,4 @@
 pub mod Events
 pub mod Refusals
+pub mod Batches
 pub mod Rested

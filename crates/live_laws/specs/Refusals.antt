@@ -7,7 +7,7 @@ use Rattle.sig_base.specs.declared.value.Value.TheVariants as value
 use Rattle.signal_model.specs.Signals.{Cell, IsCell, is_in, standing}
 use Rattle.signal_model.specs.Changes.{after_change, with_value}
 use Rattle.effect_model.specs.Worlds.{Environment, Watcher, World}
-use Rattle.effect_model.specs.Acts.{are_alike, frozen_by, is_notified, notified_by, waiting_if}
+use Rattle.effect_model.specs.Acts.{are_alike, frozen_by, is_notified_by_any, notified_by, waiting_if}
 use Rattle.effect_model.specs.Runs.{flush}
 use Rattle.effect_tables.specs.Placed.{at_rest}
 use Rattle.live_cmd.specs.declared.command.Command.{Command}
@@ -49,11 +49,17 @@ IsChange m c i v = ⊥
 abbrev pub notified_of : World → ℕ → Value → List Watcher
 notified_of w i v = notified_by (with_value w.signals i v) (after_change w.memos i) i w.watchers
 
+-- the cell has the value
+abbrev pub valued : ℕ → Value → World → World
+valued i v w = record w { signals = with_value w.signals i v; memos = after_change w.memos i }
+
+-- who is notified of changes of these cells is waiting
+abbrev pub warned : List ℕ → World → World
+warned ns w = record w { watchers = map (waiting_if (is_notified_by_any w.signals w.memos ns)) w.watchers }
+
 -- the cell has the value, and who is notified is waiting
 abbrev pub changed_to : ℕ → Value → World → World
-changed_to i v w =
-    let ws = map (waiting_if (is_notified (with_value w.signals i v) (after_change w.memos i) i)) w.watchers in
-    record w { signals = with_value w.signals i v; memos = after_change w.memos i; watchers = ws }
+changed_to i v w = warned (i ∷ []) (valued i v w)
 
 -- each who is notified is told
 abbrev pub notices : Labels → List Watcher → List Entry
@@ -64,10 +70,11 @@ abbrev pub freezing : Labels → List ℕ → List Entry
 freezing labels [] = []
 freezing labels (n ∷ ns) = entry.Error (refusal.Frozen (map (name_at labels.watchers) (n ∷ ns))) ∷ []
 
--- The change of a cell stands, whoever is told of it, and nothing else is changed but that the notified watchers are waiting.
+-- Where no batch is open, the change of a cell stands, whoever is told of it, and nothing else is changed but that the notified watchers are
+-- waiting.
 abbrev pub ChangeLaw : Type 0
-ChangeLaw = (env : Environment) (m : Machine) (c : Command) (i : ℕ) (v : Value) (x : Cell) → m.world.told ≡ [] → refusal_of env.slacks m c ≡ None →
-    IsChange m c i v → standing m.world.signals i ≡ IsCell x → are_alike env.slacks x.rule x.value v ≡ false →
+ChangeLaw = (env : Environment) (m : Machine) (c : Command) (i : ℕ) (v : Value) (x : Cell) → m.world.told ≡ [] → m.batch ≡ None →
+    refusal_of env.slacks m c ≡ None → IsChange m c i v → standing m.world.signals i ≡ IsCell x → are_alike env.slacks x.rule x.value v ≡ false →
     step env m (item.Do c) ≡ reached (record m { world = at_rest (changed_to i v m.world) })
     (notices m.labels (notified_of m.world i v) ++ freezing m.labels (frozen_by (notified_of m.world i v)))
 
@@ -79,6 +86,6 @@ pub record LeavesPages (env : Environment) (m : Machine) : Type 0 where
       ≡ (let t = acted_on_pages m (flush env m.world).world in reached t.machine (t.entries ++ entry.Error refusal.Turns ∷ []))
   pub pages : (step env m (item.Do (command.Bare bares.Flush))).machine.pages ≡ filter (λ (p : Page). is_in p.number (flush env m.world).world.pages) m.pages
 
--- so it is with each flush that is refused
+-- So it is with each flush that is refused for its turns. While a batch is open a flush makes none, since it is refused for that before.
 abbrev pub RefusedFlushLaw : Type 0
-RefusedFlushLaw = (env : Environment) (m : Machine) → (flush env m.world).refused ≡ true → LeavesPages env m
+RefusedFlushLaw = (env : Environment) (m : Machine) → m.batch ≡ None → (flush env m.world).refused ≡ true → LeavesPages env m

@@ -1,4 +1,5 @@
 // Laws of scripts, for all environments and all items.
+ghost use Rattle.live_laws.specs.Batches.{AbortLaw, BatchChangeLaw, CollectsLaw, CommitLaw, GivenBackLaw};
 ghost use Rattle.live_laws.specs.Events.{EndsLaw, HappensLaw, HostsLaw};
 ghost use Rattle.live_laws.specs.Refusals.{ChangeLaw, RefusedFlushLaw, RefusedLaw};
 
@@ -25,13 +26,39 @@ pub fn refused_law()
     ensures { RefusedLaw }
 {}
 
-/// A set or an edit of rows by which a cell has another value stands, whoever is told of it: the notified watchers are told and are waiting,
-/// those who are frozen are told behind them, and nothing else is changed.
+/// Where no batch is open, a set or an edit of rows by which a cell has another value stands, whoever is told of it: the notified watchers are
+/// told and are waiting, those who are frozen are told behind them, and nothing else is changed.
 pub fn change_law()
     ensures { ChangeLaw }
 {}
 
-/// A flush that is refused leaves all as its turns left it, and the pages that still live as they were before.
+/// While a batch is open such a set or edit stands too, nobody is notified, and the cell joins the batch with its value before.
+pub fn batch_change_law()
+    ensures { BatchChangeLaw }
+{}
+
+/// A batch has the cells that were changed since it began, each with its value of then; all else stands as it did, and nobody was notified.
+pub fn collects_law()
+    ensures { CollectsLaw }
+{}
+
+/// A commit ends the batch, and its changes stand. Who is notified of the cells whose values as it began and now are unlike is told once and
+/// is waiting, those who are frozen are told behind them, and nothing else is changed.
+pub fn commit_law()
+    ensures { CommitLaw }
+{}
+
+/// An abort ends the batch and gives its cells their earlier values back; nobody is notified.
+pub fn abort_law()
+    ensures { AbortLaw }
+{}
+
+/// A batch that is aborted leaves nothing behind, whatever was done in it: under each name stands what stood there as it began.
+pub fn given_back_law()
+    ensures { GivenBackLaw }
+{}
+
+/// A flush that is refused for its turns leaves all as its turns left it, and the pages that still live as they were before.
 pub fn refused_flush_law()
     ensures { RefusedFlushLaw }
 {}

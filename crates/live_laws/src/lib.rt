@@ -1,5 +1,5 @@
 //! Laws of scripts: what their items do is what the commands of the world do, nothing that is gone does anything, no host formula that was
-//! dropped is asked, and what is refused leaves all as it was.
+//! dropped is asked, what is refused leaves all as it was, and the changes of a batch are told together or given back.
 #![tactic(auto)]
 
 pub mod laws;
