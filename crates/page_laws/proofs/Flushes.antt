@@ -44,6 +44,10 @@ pub templates_stay : (env : Environment) (ps : List Page) (m : Machine) → (upd
 templates_stay env [] m = refl
 templates_stay env (p ∷ ps) m = templates_stay env ps (after_first env m p)
 
+pub batch_stays : (env : Environment) (ps : List Page) (m : Machine) → (update_all env ps m).machine.batch ≡ m.batch
+batch_stays env [] m = refl
+batch_stays env (p ∷ ps) m = batch_stays env ps (after_first env m p)
+
 pub world_stays : (env : Environment) (ps : List Page) (m : Machine) → IsGoodWorld m.world → IsGoodWorld (update_all env ps m).machine.world
 world_stays env [] m h = h
 world_stays env (p ∷ ps) m h = world_stays env ps (after_first env m p) (rest_good (settle env (template_reads env m p.template) m.world) h)

@@ -1,17 +1,21 @@
 -- The pages of a script are live.
-use Rattle.std.proofs.Common.{ℕ, List, [], ◌∷◌, ◌++◌, sym, subst}
+use Rattle.std.proofs.Common.{◌≡◌, ℕ, List, [], ◌∷◌, ◌++◌, Option, None, sym, ap, subst, ◌∙◌}
 use Rattle.std.specs.List.{AllByRecursion}
+use Rattle.std.specs.Option.{option_map_or, option_or}
 use Rattle.sig_host.specs.Loans.{LendsRows}
+use Rattle.effect_model.specs.Batches.{Batch}
 use Rattle.effect_model.specs.Worlds.{Environment}
 use Rattle.script_lines.specs.Pieces.{Piece, pieces_of}
 use Rattle.live_cmd.specs.Items.{AreItems}
+use Rattle.live_cmd.specs.declared.command.Bare.TheVariants as bares
+use Rattle.live_cmd.specs.declared.command.Command.TheVariants as command
 use Rattle.live_cmd.specs.declared.command.Item.{Item}
 use Rattle.live_entries.specs.Printed.{IsSizedEntry}
 use Rattle.live_model.specs.Laws.{ShowsScratch}
-use Rattle.live_model.specs.Machine.{Machine, empty, step}
+use Rattle.live_model.specs.Machine.{Machine, Told, batch_refusal, empty, flushing, refused, step}
 use Rattle.live_model.specs.Output.{entries_from}
 use Rattle.live_model.proofs.Shared.{flush_law, item_read}
-use Rattle.page_laws.specs.LivePages.{IsLive, IsShown, KeepsLive, LiveLaw, ShownLaw}
+use Rattle.page_laws.specs.LivePages.{IsFlush, IsLive, IsShown, KeepsLive, LiveLaw, ShownLaw}
 use Rattle.page_laws.proofs.Operations.{OneReading}
 use Rattle.page_laws.proofs.Steps.{IsSound, Steps, item_step}
 
@@ -20,10 +24,16 @@ all_parts : {A : Type 0} (P : A → Type 0) (xs ys : List A) → AllByRecursion 
 all_parts P [] ys h = (tt, h)
 all_parts P (x ∷ xs) ys h = let both = all_parts P xs ys h.1 in ((h.0, both.0), both.1)
 
--- a flush shows pages as they are from scratch
+-- where no batch is open, a flush is done
+flush_done : (env : Environment) (m : Machine) (i : Item) → IsFlush env m i → step env m i ≡ flushing env m
+flush_done env m i f =
+    ap (step env m) f.0
+    ∙ ap (λ (b : Option Batch). option_map_or (refused m) (option_or (batch_refusal b (command.Bare bares.Flush)) None) (flushing env m)) f.1
+
+-- it shows pages as they are from scratch
 item_shown : (env : Environment) (m : Machine) (i : Item) → IsShown env m i
 item_shown env m i f =
-    subst (λ (j : Item). AllByRecursion (ShowsScratch env (step env m j).machine) (step env m j).machine.pages) (sym f.0) (flush_law env m f.1)
+    subst (λ (t : Told). AllByRecursion (ShowsScratch env t.machine) t.machine.pages) (sym (flush_done env m i f)) (flush_law env m f.2)
 
 pub shown_law : ShownLaw
 shown_law env m [] = tt
@@ -44,7 +54,7 @@ items_live one env m (p ∷ ps) (i ∷ is) lends s h z =
     (keeps_live env m i t both.0, items_live one env (step env m i).machine ps is lends t.sound h.1 both.1)
 
 empty_sound : (hosts : ℕ) → IsSound (empty hosts)
-empty_sound hosts = record { templates = tt; pages = tt; named = tt; apart = tt; world = (tt, tt) }
+empty_sound hosts = record { templates = tt; pages = tt; named = tt; apart = tt; world = (tt, tt); batch = tt }
 
 -- where a text is that of one operation
 pub live_law : OneReading → LiveLaw

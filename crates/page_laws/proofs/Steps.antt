@@ -9,12 +9,13 @@ use Rattle.sig_base.specs.declared.scalar.Scalar.TheVariants as scalar
 use Rattle.sig_base.specs.declared.value.Value.{Value}
 use Rattle.sig_base.specs.declared.value.Value.TheVariants as value
 use Rattle.signal_model.specs.Recipes.{Hosts, Recipe}
-use Rattle.signal_model.specs.Signals.{Signals, is_in}
+use Rattle.signal_model.specs.Signals.{Signals, is_in, standing}
 use Rattle.signal_model.specs.Values.{value_of}
 use Rattle.signal_laws.proofs.Shared.{all_snoc}
 use Rattle.effect_model.specs.Owners.{Thing, the_signal, the_owner, the_effect, the_page}
 use Rattle.effect_model.specs.Worlds.{Environment, World, settle}
 use Rattle.effect_model.specs.Acts.{dispose_thing, forget, host_of, rewire_signal, set_cell, with_use}
+use Rattle.effect_model.specs.Batches.{Batch, abort, commit, joined_by, set_quietly}
 use Rattle.effect_model.specs.Commands.{armed, changed_watcher, with_new_cell, with_new_computed, with_new_effect, with_new_owner, with_new_page}
 use Rattle.effect_model.specs.Commands.{with_new_watcher}
 use Rattle.effect_model.specs.Runs.{flush}
@@ -49,9 +50,9 @@ use Rattle.live_model.specs.declared.names.Need.TheVariants as need
 use Rattle.live_model.specs.Labels.{Labels, labels_after, named as a_label, with_label}
 use Rattle.live_model.specs.Links.{linked_body, linked_template, owner_of, recipe_of}
 use Rattle.live_model.specs.Machine as machine
-use Rattle.live_model.specs.Machine.{Machine, Told, acted, acted_on_pages, after_turns, body_refusal, disposing, done, entries_of}
+use Rattle.live_model.specs.Machine.{Machine, Told, aborting, acted, acted_on_pages, after_turns, batch_refusal, body_refusal, committing, disposing, done, entries_of}
 use Rattle.live_model.specs.Machine.{is_trying, later_refusal, mounted, name_refusal, ops_told, over_limit, page_at, place_refusal}
-use Rattle.live_model.specs.Machine.{refusal_of, row_refusal, scratching, step, template_at, template_reads, reached}
+use Rattle.live_model.specs.Machine.{refusal_of, row_refusal, scratching, setting_by, step, template_at, template_reads, reached}
 use Rattle.live_model.specs.Machine.{unwatch_refusal, update_all, with_signal}
 use Rattle.live_model.specs.Names.{Names, first_refusal, meaning_of, number_of, refusal_at, thing_named}
 use Rattle.live_model.specs.Pages.{Page, Template, page_html, scratch_html, template_in}
@@ -60,22 +61,25 @@ use Rattle.live_model.specs.Rows.{edited, no_rows, rows_at}
 use Rattle.live_model.specs.Uses.{uses_of, uses_of_inside}
 use Rattle.live_model.proofs.Shared.{new_rows}
 use Rattle.page_laws.specs.LivePages.{Lead, ops_of, tree_named}
-use Rattle.page_laws.proofs.Flushes.{all_carried, apart_carried, names_stay, next_ops, next_page, ops_are, pages_are, templates_stay, told_among, told_each, world_stays}
+use Rattle.page_laws.proofs.Flushes.{all_carried, apart_carried, batch_stays, names_stay, next_ops, next_page, ops_are, pages_are, templates_stay, told_among, told_each, world_stays}
 use Rattle.page_laws.proofs.Operations.{AreApart, AreQuiet, Differ, OneReading, all_by_two, all_filtered, apart_behind, apart_filtered, events_quiet, named_trees}
 use Rattle.page_laws.proofs.Operations.{ops_both, page_led, page_told, quiet_both, same_name, sized_ops, still_led, unnamed_tree}
 use Rattle.page_laws.proofs.Names.{IsNamed, IsPageOf, all_differ, all_made, all_named, last_named, name_free, neither, template_good}
 use Rattle.page_laws.proofs.Owned.{listed_good, made_good}
 use Rattle.page_laws.proofs.Rows.{list_edited}
 use Rattle.page_laws.proofs.Values.{signals_give}
-use Rattle.page_laws.proofs.Worlds.{IsGoodWorld, cell_made, cell_set, flushed_good, rest_good, signal_rewired, thing_disposed, use_good}
+use Rattle.page_laws.proofs.Worlds.{IsGoodBatch, IsGoodWorld, batch_aborted, batch_good, cell_made, cell_set, flushed_good, quietly_set, rest_good, signal_rewired}
+use Rattle.page_laws.proofs.Worlds.{thing_disposed, use_good}
 
--- The templates are templates, each page is made from its own under a name of its own, and the rows of cells are good.
+-- The templates are templates, each page is made from its own under a name of its own, and the rows of cells are good, those to which a batch
+-- would give them back too.
 pub record IsSound (m : Machine) : Type 0 where
   pub templates : AllByRecursion (λ (t : Template). IsTemplate t.lines) m.templates
   pub pages : AllByRecursion (IsPageOf m.templates) m.pages
   pub named : AllByRecursion (IsNamed m.names) m.pages
   pub apart : AreApart m.pages
   pub world : IsGoodWorld m.world
+  pub batch : IsGoodBatch m.batch
 
 -- the operations that are told of a page lead to it
 abbrev IsLed : Machine → List Entry → Page → Type 0
@@ -103,7 +107,7 @@ same_step m es s q = record { sound = s; led = λ z. quiet_led m m.pages es q (n
 world_step : (m : Machine) (names : Names) (labels : Labels) (w : World) (es : List Entry) → IsSound m → AllByRecursion (IsNamed names) m.pages →
     IsGoodWorld w → AreQuiet es → Steps m (reached (record m { names = names; labels = labels; world = w }) es)
 world_step m names labels w es s named good q = record {
-  sound = record { templates = s.templates; pages = s.pages; named = named; apart = s.apart; world = good };
+  sound = record { templates = s.templates; pages = s.pages; named = named; apart = s.apart; world = good; batch = s.batch };
   led = λ z. quiet_led m m.pages es q (named_trees m.pages s.apart);
 }
 
@@ -117,6 +121,7 @@ ended_step m f labels w es s good q = record {
     named = all_filtered (IsNamed m.names) f m.pages s.named;
     apart = apart_filtered f m.pages s.apart;
     world = good;
+    batch = s.batch;
   };
   led = λ z. quiet_led m (filter f m.pages) es q
       (all_filtered (λ (p : Page). tree_named m.pages p.name ≡ tree_of p.content) f m.pages (named_trees m.pages s.apart));
@@ -126,6 +131,13 @@ ended_step m f labels w es s good q = record {
 act_step : (m : Machine) (w : World) → IsSound m → IsGoodWorld w → Steps m (acted m w)
 act_step m w s good =
     world_step m m.names (labels_after w.told m.labels) (at_rest w) (entries_of m.labels w.told) s s.named (rest_good w good) (events_quiet m.labels w.told)
+
+-- the same, and a batch is open that was another one, or none is
+batch_step : (m : Machine) (b : Option Batch) (w : World) → IsSound m → IsGoodBatch b → IsGoodWorld w → Steps m (acted (record m { batch = b }) w)
+batch_step m b w s held good =
+    let n : Machine = record m { batch = b } in
+    let sound : IsSound n = record { templates = s.templates; pages = s.pages; named = s.named; apart = s.apart; world = s.world; batch = held } in
+    let t : Steps n (acted n w) = act_step n w sound good in record { sound = t.sound; led = t.led }
 
 -- the same with answers behind
 answer_step : (m : Machine) (w : World) (answers : List Entry) → IsSound m → IsGoodWorld w → AreQuiet answers →
@@ -212,6 +224,7 @@ turns_step one env m w false lends s good =
             (all_carried (IsNamed m.names) (next_page hosts w.signals m.templates) ps first.sound.named));
         apart = subst AreApart (sym pages) (apart_carried hosts w.signals m.templates ps first.sound.apart);
         world = world_stays env ps before first.sound.world;
+        batch = subst IsGoodBatch (sym (batch_stays env ps before)) s.batch;
       };
       led = λ z. subst (λ (qs : List Page). AllByRecursion (IsLed m es) qs) (sym pages)
           (carried_led one hosts w.signals m es ps lends s gives (λ n. sized_ops n es z) trees first.sound.pages own);
@@ -255,6 +268,7 @@ mount_step one env m n t inside lends s free =
         named = all_snoc (IsNamed (m.names ++ (n, meaning) ∷ [])) m.pages p (all_named m.names (n, meaning) m.pages s.named) (last_named m.names n meaning);
         apart = apart_behind m.pages p s.apart apart;
         world = rest_good (with_new_page inside (at_rest w)) (s.world.0, made_good inside (the_page m.world.made.pages) (at_rest w).owned (listed_good m.world.owned s.world.1));
+        batch = s.batch;
       };
       led = λ z. all_snoc (IsLed m es) m.pages p older (new z);
     }
@@ -282,14 +296,39 @@ verb_step env m verb.Scratch n i s = scratch_step env m n (page_at m.pages i) s
 verb_step env m verb.Dispose n i s = dispose_step env m (thing_named (meaning_of m.names n)) s
 verb_step env m v n i s = same_step m (machine.named env m v n i).entries s (λ k. refl)
 
+commit_step : (env : Environment) (m : Machine) (b : Option Batch) → IsSound m → Steps m (committing env m b)
+commit_step env m None s = same_step m [] s (λ k. refl)
+commit_step env m (Some b) s = batch_step m None (commit env b m.world) s tt s.world
+
+abort_step : (m : Machine) (b : Option Batch) → IsGoodBatch b → IsSound m → Steps m (aborting m b)
+abort_step m None held s = same_step m [] s (λ k. refl)
+abort_step m (Some b) held s = batch_step m None (abort b m.world) s tt (batch_aborted b m.world held s.world)
+
 alone_step : (one : OneReading) (env : Environment) (m : Machine) (b : Bare) → LendsRows env.hosts → IsSound m → Steps m (machine.done_alone env m b)
+alone_step one env m bares.Begin lends s = record {
+  sound = record { templates = s.templates; pages = s.pages; named = s.named; apart = s.apart; world = s.world; batch = tt };
+  led = λ z. quiet_led m m.pages [] (λ k. refl) (named_trees m.pages s.apart);
+}
+alone_step one env m bares.Commit lends s = commit_step env m m.batch s
+alone_step one env m bares.Abort lends s = abort_step m m.batch s.batch s
 alone_step one env m bares.Flush lends s =
     turns_step one env m (flush env m.world).world (flush env m.world).refused lends s (flushed_good env m.world s.world)
+
+-- a cell is set, beside the batch that is open, if one is
+set_step : (env : Environment) (m : Machine) (b : Option Batch) (i : ℕ) (v : Value) → IsSound m → IsGoodBatch b → IsGood v → Steps m (setting_by env m b i v)
+set_step env m None i v s held good = act_step m (set_cell env i v m.world) s (cell_set env i v m.world good s.world)
+set_step env m (Some b) i v s held good =
+    batch_step m (Some (joined_by env.slacks (standing m.world.signals i) i v b)) (set_quietly env i v m.world) s (batch_good env.slacks i v b m.world s.world held)
+    (quietly_set env i v m.world good s.world)
 
 -- a cell or a computed is made
 signal_step : (m : Machine) (n : List ℕ) (k : Kind) (w : World) → IsSound m → IsGoodWorld w → Steps m (reached (with_signal m n k w) [])
 signal_step m n k w s good =
     make_step m n (record { kind = k; number = m.world.made.signals }) (record (m.labels) { signals = m.labels.signals ++ n ∷ [] }) w s good
+
+-- what is refused behind whether a batch is open
+behind_batch : (slacks : List ℕ) (m : Machine) (c : Command) → refusal_of slacks m c ≡ None → option_or (name_refusal m c) (later_refusal slacks m c) ≡ None
+behind_batch slacks m c e = (neither (batch_refusal m.batch c) (option_or (name_refusal m c) (later_refusal slacks m c)) e).1
 
 -- what a command does that isn't refused
 done_step : (one : OneReading) (env : Environment) (m : Machine) (c : Command) → LendsRows env.hosts → IsSound m → IsReadable c →
@@ -303,15 +342,13 @@ done_step one env m (command.List n fields inside) lends s read e =
 done_step one env m (command.Edit n d) lends s read e =
     let c : Command = command.Edit n d in
     let i : ℕ = number_of m.names n in
-    let later = neither (name_refusal m c) (later_refusal env.slacks m c) e in
+    let later = neither (name_refusal m c) (later_refusal env.slacks m c) (behind_batch env.slacks m c e) in
     let rest : Option Refusal = option_or (over_limit m c) (unwatch_refusal m c) in
     let rows = neither (place_refusal env.slacks m.world c) (option_or (row_refusal m c) rest) later.1 in
     let fine : row_refusal m c ≡ None = (neither (row_refusal m c) rest rows.1).0 in
-    let v : Value = value.Rows (edited d (rows_at m.world.signals i)) in
-    act_step m (set_cell env i v m.world) s (cell_set env i v m.world (list_edited d m.world.signals i s.world.0 fine) s.world)
+    set_step env m m.batch i (value.Rows (edited d (rows_at m.world.signals i))) s s.batch (list_edited d m.world.signals i s.world.0 fine)
 done_step one env m (command.Set n v) lends s read e =
-    let i : ℕ = number_of m.names n in
-    act_step m (set_cell env i (scalar_value v) m.world) s (cell_set env i (scalar_value v) m.world (scalar_good v) s.world)
+    set_step env m m.batch (number_of m.names n) (scalar_value v) s s.batch (scalar_good v)
 done_step one env m (command.Computed n x inside) lends s read e =
     let r : Recipe = recipe_of m.names x in
     let owner : Option ℕ = owner_of m.names inside in
@@ -347,12 +384,13 @@ done_step one env m (command.Template n t) lends s read e =
         named = all_named m.names (n, meaning) m.pages s.named;
         apart = s.apart;
         world = s.world;
+        batch = s.batch;
       };
       led = λ z. quiet_led m m.pages [] (λ k. refl) (named_trees m.pages s.apart);
     }
 done_step one env m (command.Mount n t inside) lends s read e =
     let c : Command = command.Mount n t inside in
-    let names = (neither (name_refusal m c) (later_refusal env.slacks m c) e).0 in
+    let names = (neither (name_refusal m c) (later_refusal env.slacks m c) (behind_batch env.slacks m c e)).0 in
     let uses = (neither (first_refusal m.world m.names (uses_of c)) (body_refusal m c) names).0 in
     let first = (neither (refusal_at m.world (n, need.New) (meaning_of m.names n))
     (first_refusal m.world m.names ((t, need.Of kind.Template) ∷ uses_of_inside inside)) uses).0 in

@@ -1,6 +1,7 @@
 -- All that a world's commands do keeps the rows of its cells good.
-use Rattle.std.proofs.Common.{ℕ, zero, suc, ◌+◌, ◌==◌, Bool, true, false, cond, List, [], ◌∷◌, length, Option, Some, None}
+use Rattle.std.proofs.Common.{ℕ, zero, suc, ◌+◌, ◌==◌, Bool, true, false, cond, List, [], ◌∷◌, ◌++◌, length, Option, Some, None}
 use Rattle.std.specs.List.{AllByRecursion, slice_index}
+use Rattle.std.specs.Map.{keys_of}
 use Rattle.sig_base.specs.declared.value.Known.{Known}
 use Rattle.sig_base.specs.declared.value.Outcome.{Outcome}
 use Rattle.sig_base.specs.declared.value.Outcome.TheVariants.{Good, Bad}
@@ -11,7 +12,7 @@ use Rattle.sig_formula.specs.declared.evaluate.FormulaStep.TheVariants.{Ask, End
 use Rattle.sig_formula.specs.Evaluation.{formula_step}
 use Rattle.sig_formula.specs.Trees.{Tree}
 use Rattle.signal_model.specs.Recipes.{Hosts, Recipe}
-use Rattle.signal_model.specs.Signals.{Cell, Signals, Stands, IsGone, IsCell, IsComputed, changed, standing, without}
+use Rattle.signal_model.specs.Signals.{Cell, Signals, Stands, IsGone, IsCell, IsComputed, changed, is_in, standing, without}
 use Rattle.signal_model.specs.Changes.{after_rewiring, with_recipe}
 use Rattle.signal_model.specs.Sound.{names_of}
 use Rattle.signal_model.specs.Values.{learnt, unknown_slots, value_of}
@@ -26,15 +27,16 @@ use Rattle.effect_model.specs.Bodies.{to_do, failed_by, Statements, no_more, pla
 use Rattle.effect_model.specs.Bodies.{and_then, with_answer, if_scalar, guarded, plain_step, body_step, after_body_read, after_body_step, with_known, body_asked_within}
 use Rattle.effect_model.specs.Bodies.{body_evaluation}
 use Rattle.effect_model.specs.Worlds.{Environment, Effect, Refused, thing_gone, changed_signal, cleaned, refused, World, tell, lives, settle}
-use Rattle.effect_model.specs.Acts.{are_alike, with_new_value, set_standing, set_cell, host_of, with_drop, with_use, or_refused, rewiring_refused, rewire_standing}
+use Rattle.effect_model.specs.Acts.{are_alike, with_quiet_value, with_new_value, set_standing, set_cell, host_of, with_drop, with_use, or_refused, rewiring_refused, rewire_standing}
 use Rattle.effect_model.specs.Acts.{rewire_signal, without_node, end_standing, end_of, do_cleanup, undo, undo_all, take_back, dispose_live, dispose_thing}
+use Rattle.effect_model.specs.Batches.{Batch, abort, give_back, is_other, joined, joined_by, joined_replaced, replaced_by, set_quietly, with_replacing}
 use Rattle.effect_model.specs.Runs.{do_act, do_acts, next_child, keep_reads, do_result, run_effect, flush}
 use Rattle.effect_model.specs.Commands.{with_new_cell}
 use Rattle.effect_laws.proofs.Shared.{IsKeptByRuns, flush_keeps}
 use Rattle.effect_tables.specs.Placed.{at_rest}
 use Rattle.sig_host.specs.Loans.{IsGood}
 use Rattle.page_laws.proofs.Owned.{AreGoodOwned, IsGoodCleanup, IsGoodUndoing, disposal_good, emptied_good, listed_good, made_good, put_good, taken_good, undoings_good}
-use Rattle.page_laws.proofs.Values.{AreGoodCells}
+use Rattle.page_laws.proofs.Values.{AreGoodCells, IsGoodStanding, standing_good}
 
 -- the rows of cells are good, and those that cleanups will set
 abbrev pub IsGoodWorld : World → Type 0
@@ -61,17 +63,71 @@ without_good n (c ∷ cs) h = go (n == c.name) (without_good n cs h.1)
 
 -- ---- changes of a world
 
+quiet_value_good : (n : ℕ) (v : Value) (w : World) → IsGood v → IsGoodWorld w → IsGoodWorld (with_quiet_value n v w)
+quiet_value_good n v w g h = (set_good n v w.signals.cells g h.0, h.1)
+
 standing_set : (env : Environment) (s : Stands) (n : ℕ) (v : Value) (w : World) → IsGood v → IsGoodWorld w → IsGoodWorld (set_standing s env n v w)
 standing_set env IsGone n v w g h = h
 standing_set env (IsCell c) n v w g h = go (are_alike env.slacks c.rule c.value v)
   where
     go : (b : Bool) → IsGoodWorld (cond b w (with_new_value n v w))
     go true = h
-    go false = (set_good n v w.signals.cells g h.0, h.1)
+    go false = quiet_value_good n v w g h
 standing_set env (IsComputed c) n v w g h = h
 
 pub cell_set : (env : Environment) (n : ℕ) (v : Value) (w : World) → IsGood v → IsGoodWorld w → IsGoodWorld (set_cell env n v w)
 cell_set env n v w g h = standing_set env (standing w.signals n) n v w g h
+
+-- ---- batches
+
+-- the values of a batch as it began are good
+abbrev pub AreGoodHeld : Batch → Type 0
+AreGoodHeld b = AllByRecursion (λ (p : ℕ × Value). IsGood p.1) b
+
+-- so it is where one is open
+abbrev pub IsGoodBatch : Option Batch → Type 0
+IsGoodBatch None = Unit {0}
+IsGoodBatch (Some b) = AreGoodHeld b
+
+pub quietly_set : (env : Environment) (n : ℕ) (v : Value) (w : World) → IsGood v → IsGoodWorld w → IsGoodWorld (set_quietly env n v w)
+quietly_set env n v w g h = go (replaced_by env.slacks (standing w.signals n) v)
+  where
+    go : (o : Option Value) → IsGoodWorld (with_replacing n v o w)
+    go None = h
+    go (Some before) = quiet_value_good n v w g h
+
+joined_good : (n : ℕ) (v : Value) (b : Batch) → IsGood v → AreGoodHeld b → AreGoodHeld (joined n v b)
+joined_good n v b g h = go (is_in n (keys_of b))
+  where
+    go : (d : Bool) → AreGoodHeld (cond d b (b ++ (n, v) ∷ []))
+    go true = h
+    go false = all_snoc (λ (p : ℕ × Value). IsGood p.1) b (n, v) h g
+
+pub batch_good : (slacks : List ℕ) (n : ℕ) (v : Value) (b : Batch) (w : World) → IsGoodWorld w → AreGoodHeld b →
+    AreGoodHeld (joined_by slacks (standing w.signals n) n v b)
+batch_good slacks n v b w h held = go (standing w.signals n) (standing_good w.signals n h.0)
+  where
+    by : (c : Cell) → IsGood c.value → (d : Bool) → AreGoodHeld (joined_replaced n (cond d None (Some c.value)) b)
+    by c g true = held
+    by c g false = joined_good n c.value b g held
+
+    go : (s : Stands) → IsGoodStanding s → AreGoodHeld (joined_by slacks s n v b)
+    go IsGone g = held
+    go (IsCell c) g = by c g (are_alike slacks c.rule c.value v)
+    go (IsComputed c) g = held
+
+given_back : (n : ℕ) (v : Value) (w : World) → IsGood v → IsGoodWorld w → IsGoodWorld (give_back n v w)
+given_back n v w g h = go (is_other v (standing w.signals n))
+  where
+    go : (d : Bool) → IsGoodWorld (cond d (with_quiet_value n v w) w)
+    go true = quiet_value_good n v w g h
+    go false = h
+
+pub batch_aborted : (b : Batch) (w : World) → AreGoodHeld b → IsGoodWorld w → IsGoodWorld (abort b w)
+batch_aborted [] w g h = h
+batch_aborted (p ∷ b) w g h = batch_aborted b (give_back p.0 p.1 w) g.1 (given_back p.0 p.1 w g.0 h)
+
+-- ---- drops, uses and ends
 
 drop_good : (o : Option ℕ) (w : World) → IsGoodWorld w → IsGoodWorld (with_drop o w)
 drop_good None w h = h

@@ -6,34 +6,29 @@ use Rattle.page_model.specs.Addresses.{address}
 use Rattle.page_model.specs.Forest.{Forest, none, node}
 use Rattle.page_model.specs.Labels.{Kind, Root, Text, Element}
 use Rattle.page_model.specs.Replay.{OpInsert, OpText, Done, replay}
-use Rattle.live_cmd.specs.declared.command.Item.{Item}
 use Rattle.live_model.specs.EffectExamples.{a_flush}
 use Rattle.live_model.specs.Examples.{a_cell, a_set, a_template, environment}
 use Rattle.live_model.specs.Machine.{Machine, empty, step, template_at}
+use Rattle.live_model.specs.Output.{machine_after}
 use Rattle.live_model.specs.PageExamples.{a_mount, end_line, tag_line, text_line}
 use Rattle.live_model.specs.Pages.{page_html, scratch_html}
 use Rattle.live_model.specs.RowExamples.{words}
 use Rattle.page_laws.specs.LivePages.{ops_of, tree_named}
 
--- the machine behind items
-abbrev pub machine_after : Machine → List Item → Machine
-machine_after m [] = m
-machine_after m (i ∷ is) = machine_after (step environment m i).machine is
-
 -- a cell and a template that shows it; then a page of it is mounted; then the cell is set; and then comes a flush
 abbrev pub made : Machine
 made =
-    machine_after (empty 0) (a_cell (codes "c") (words (codes "A"))
+    machine_after environment (empty 0) (a_cell (codes "c") (words (codes "A"))
     ∷ a_template (codes "t") (tag_line (codes "b") ∷ text_line (slot 0) ∷ end_line ∷ []) (codes "c" ∷ []) ∷ [])
 
 abbrev pub mounted : Machine
-mounted = machine_after made (a_mount (codes "p") (codes "t") ∷ [])
+mounted = machine_after environment made (a_mount (codes "p") (codes "t") ∷ [])
 
 abbrev pub changed : Machine
-changed = machine_after mounted (a_set (codes "c") (words (codes "B")) ∷ [])
+changed = machine_after environment mounted (a_set (codes "c") (words (codes "B")) ∷ [])
 
 abbrev pub flushed : Machine
-flushed = machine_after changed (a_flush ∷ [])
+flushed = machine_after environment changed (a_flush ∷ [])
 
 -- the tree of an element with this text
 abbrev pub tree_with : List ℕ → Forest Kind

@@ -1,5 +1,5 @@
 -- What the pages of a script show, and where the operations lead that are told of them.
-use Rattle.std.specs.Prelude.{◌≡◌, ℕ, false, List, [], ◌∷◌, map, flat_map, if◌then◌else◌}
+use Rattle.std.specs.Prelude.{◌≡◌, ℕ, false, List, [], ◌∷◌, None, map, flat_map, if◌then◌else◌}
 use Rattle.std.specs.List.{AllByRecursion}
 use Rattle.std.specs.Str.{bytes_eq}
 use Rattle.sig_host.specs.Loans.{LendsRows}
@@ -56,9 +56,9 @@ pub record Lead (ops : List Op) (before after : Forest Kind) : Type 0 where
 
 -- ---- live pages
 
--- the item is a flush, and it isn't refused
+-- the item is a flush, and it isn't refused: no batch is open, and its turns aren't
 abbrev pub IsFlush : Environment → Machine → Item → Type 0
-IsFlush env m i = (i ≡ item.Do (command.Bare bares.Flush)) × ((flush env m.world).refused ≡ false)
+IsFlush env m i = (i ≡ item.Do (command.Bare bares.Flush)) × (m.batch ≡ None) × ((flush env m.world).refused ≡ false)
 
 -- after a flush that isn't refused each page that lives is, byte for byte, its template evaluated from scratch on the signals as they are now
 abbrev pub IsShown : Environment → Machine → Item → Type 0
