@@ -2,4 +2,5 @@ mod Apart
 mod Named
 mod RowMemos
 mod Changes
+mod Nameless
 mod Turns

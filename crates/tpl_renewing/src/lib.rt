@@ -5,6 +5,7 @@ mod looking;
 mod names;
 mod parts;
 mod rows;
+mod staying;
 mod update;
 
 pub use parts::Renewed;

@@ -19,6 +19,7 @@ use crate::parts::{
     Parts, Renewed, Turn, apart, behind_of, last_change, next_kept, outcome_of, put_turn, shows_of,
     taken_up, unread, waiting, whole,
 };
+use crate::staying::{first_stays, keep_first};
 use sig_base::{NoMemory, NodeId};
 use sig_computed::RunNote;
 use sig_formula::RowRef;
@@ -273,6 +274,14 @@ fn renew_each(
     let Some((row, others)) = rows.split_first() else {
         return Ok(());
     };
+    if first_stays(alloc, look, was)? {
+        keep_first(was, done, changes)?;
+        renew_each(
+            alloc, graph, shelf, before, hearing, lines, links, others, was, look, notes, done,
+            changes,
+        )?;
+        return Ok(());
+    }
     let memo = next_kept(was);
     let memo = Box::new(alloc, memo)?;
     let mut turn = begin(

@@ -8,6 +8,7 @@ use Rattle.tpl_making.proofs.Shared.{none_each}
 use Rattle.tpl_renewing.specs.Turns.{behind_of, places_of, shows_of}
 use Rattle.tpl_listening.specs.Changes.{changed}
 use Rattle.tpl_renewing.proofs.Changes.{none_told, turn_told}
+use Rattle.tpl_renewing.proofs.Nameless.{kept_renewed, kept_told}
 use Rattle.tpl_renewing.proofs.Turns.{first_at, inside_at, inside_fewer, later_are, later_at, later_few, later_fewer, others_at, places_are, turn_renewed}
 use Rattle.tpl_renewing.proofs.update.+renew_each.Goals as goal
 
@@ -31,8 +32,8 @@ begin-requires-clause-was g t c =
     first_at (block c.args.lines.now) c.args.links.now c.args.rows.now c.in-Some.row.now c.in-Some.others.now c.args.before.now
     (map kept c.args.was.now.items) (kept (box_value c.in_ok-memo.memo)) c.in-Some.ensures.cases.0 c.requires.was (ap kept c.in_ok-memo.ensures.ok ∙ c.next_kept-memo.ensures.first)
 
-pub renew_each-requires : goal.renew_each-requires
-renew_each-requires g t c =
+pub renew_each-requires-2 : goal.renew_each-requires-2
+renew_each-requires-2 g t c =
     let split = c.in-Some.ensures.cases.0 in
     let row = c.in-Some.row.now in
     let turn = c.in_ok-turn.turn in
@@ -53,13 +54,13 @@ renew_each-requires g t c =
       (few, (rows, (o.can, (o.counted, (o.compared, was))))),
     )
 
-pub renew_each-requires-2 : goal.renew_each-requires-2
-renew_each-requires-2 g t c =
+pub renew_each-requires-3 : goal.renew_each-requires-3
+renew_each-requires-3 g t c =
     let split = c.in-Some.ensures.cases.0 in
     let row = c.in-Some.row.now in
     let turn = c.in_ok-turn.turn in
     let o = c.in_ok-turn.ensures in
-    let i = c.in_ok-renew_each.ensures in
+    let i = c.in_ok-renew_each-2.ensures in
     let b = block c.args.lines.now in
     let rest = block c.rest_of.result.now in
     let behinds = c.behind_of-behind.result.now in
@@ -79,12 +80,12 @@ renew_each-requires-2 g t c =
       (few, (rows, (i.can, (i.counted, (i.compared, was))))),
     )
 
-pub renew_each-requires-3 : goal.renew_each-requires-3
-renew_each-requires-3 g t c =
+pub renew_each-requires-4 : goal.renew_each-requires-4
+renew_each-requires-4 g t c =
     let split = c.in-Some.ensures.cases.0 in
     let count : length c.args.rows.now ≡ length (c.in-Some.row.now ∷ c.in-Some.others.now) = ap length split in
     let most = c.requires.few in
-    let r = c.in_ok-renew_each-2.ensures in
+    let r = c.in_ok-renew_each-3.ensures in
     let was = others_at (block c.args.lines.now) c.args.links.now c.args.rows.now c.in-Some.row.now c.in-Some.others.now c.args.before.now
     (map kept c.args.was.now.items) (map kept c.next_kept-memo.new.was.items) split c.requires.was c.next_kept-memo.ensures.later in (
       omega (arith, count),
@@ -96,15 +97,15 @@ returns-clause-made g t c =
     let o = c.in_ok-turn.ensures in
     let row = c.in-Some.row.now in
     let turn = c.in_ok-turn.turn in
-    let i = c.in_ok-renew_each.ensures in
-    let r = c.in_ok-renew_each-2.ensures in
-    let l = c.in_ok-renew_each-3.ensures in
+    let i = c.in_ok-renew_each-2.ensures in
+    let r = c.in_ok-renew_each-3.ensures in
+    let l = c.in_ok-renew_each-4.ensures in
     turn_renewed (block c.args.lines.now) c.args.links.now c.args.rows.now row c.in-Some.others.now (box_value turn.first) c.args.before.now c.args.hearing.now.heard
-    c.begin.new.hearing.heard c.renew_each.new.hearing.heard c.renew_each-2.new.hearing.heard c.renew_each-3.new.hearing.heard
+    c.begin.new.hearing.heard c.renew_each-2.new.hearing.heard c.renew_each-3.new.hearing.heard c.renew_each-4.new.hearing.heard
     (block c.inner_of-inner.result.now) (block c.rest_of.result.now) c.shows_of.result c.deref-2.result.now c.behind_of-behind.result.now
     (map kept turn.inside_was.items) (map kept turn.later_was.items)
-    (map kept turn.inside.items) (map kept c.renew_each.new.done.items) (map kept turn.later.items) (map kept c.renew_each-2.new.done.items)
-    (map kept c.args.done.now.items) (map kept c.put_turn.new.done.items) (map kept c.renew_each-3.new.done.items)
+    (map kept turn.inside.items) (map kept c.renew_each-2.new.done.items) (map kept turn.later.items) (map kept c.renew_each-3.new.done.items)
+    (map kept c.args.done.now.items) (map kept c.put_turn.new.done.items) (map kept c.renew_each-4.new.done.items)
     c.in-Some.ensures.cases.0 o.begins (c.shows_of.ensures ∙ ap shows_of c.deref.ensures) c.inner_of-inner.ensures
     (c.deref-2.ensures.value ∙ o.places) c.rest_of.ensures (c.behind_of-behind.ensures ∙ ap (λ z. behind_of z row) c.deref-3.ensures)
     (ap (map kept) o.inside) (ap (map kept) o.later)
@@ -113,8 +114,8 @@ returns-clause-made g t c =
 pub returns-clause-after : goal.returns-clause-after
 returns-clause-after g t c =
     then_heard _ _ _ _ _ _ _ _ _ c.in_ok-turn.ensures.after
-    (then_heard _ _ _ _ _ _ _ _ _ c.in_ok-renew_each.ensures.after
-    (then_heard _ _ _ _ _ _ _ _ _ c.in_ok-renew_each-2.ensures.after c.in_ok-renew_each-3.ensures.after))
+    (then_heard _ _ _ _ _ _ _ _ _ c.in_ok-renew_each-2.ensures.after
+    (then_heard _ _ _ _ _ _ _ _ _ c.in_ok-renew_each-3.ensures.after c.in_ok-renew_each-4.ensures.after))
 
 pub returns-clause-told : goal.returns-clause-told
 returns-clause-told g t c =
@@ -125,12 +126,40 @@ returns-clause-told g t c =
     c.args.hearing.now.heard c.begin.new.hearing.heard (block c.inner_of-inner.result.now) (block c.rest_of.result.now) c.shows_of.result c.deref-2.result.now
     c.behind_of-behind.result.now (kept (box_value c.in_ok-memo.memo)) (map kept c.args.was.now.items) (map kept c.next_kept-memo.new.was.items)
     (map kept turn.inside_was.items) (map kept turn.later_was.items)
-    (map kept turn.inside.items) (map kept c.renew_each.new.done.items) (map kept turn.later.items) (map kept c.renew_each-2.new.done.items)
-    (map kept c.args.done.now.items) (map kept c.put_turn.new.done.items) (map kept c.renew_each-3.new.done.items)
-    (map changed turn.inside_changes.items) (map changed c.renew_each.new.changes.items) (map changed turn.later_changes.items)
-    (map changed c.renew_each-2.new.changes.items) (map changed c.args.changes.now.items) (map changed c.put_turn.new.changes.items)
-    (map changed c.renew_each-3.new.changes.items)
+    (map kept turn.inside.items) (map kept c.renew_each-2.new.done.items) (map kept turn.later.items) (map kept c.renew_each-3.new.done.items)
+    (map kept c.args.done.now.items) (map kept c.put_turn.new.done.items) (map kept c.renew_each-4.new.done.items)
+    (map changed turn.inside_changes.items) (map changed c.renew_each-2.new.changes.items) (map changed turn.later_changes.items)
+    (map changed c.renew_each-3.new.changes.items) (map changed c.args.changes.now.items) (map changed c.put_turn.new.changes.items)
+    (map changed c.renew_each-4.new.changes.items)
     c.in-Some.ensures.cases.0 o.begins o.told (ap kept c.in_ok-memo.ensures.ok ∙ c.next_kept-memo.ensures.first) c.next_kept-memo.ensures.later (c.shows_of.ensures ∙ ap shows_of c.deref.ensures) c.inner_of-inner.ensures
     (c.deref-2.ensures.value ∙ o.places) c.rest_of.ensures (c.behind_of-behind.ensures ∙ ap (λ z. behind_of z row) c.deref-3.ensures) (ap (map kept) o.inside) (ap (map kept) o.later)
-    (ap (map changed) o.inside_changes) (ap (map changed) o.later_changes) c.in_ok-renew_each.ensures.told c.in_ok-renew_each-2.ensures.told
-    c.in_ok-put_turn.ensures.kept c.in_ok-put_turn.ensures.changed c.in_ok-renew_each-3.ensures.told
+    (ap (map changed) o.inside_changes) (ap (map changed) o.later_changes) c.in_ok-renew_each-2.ensures.told c.in_ok-renew_each-3.ensures.told
+    c.in_ok-put_turn.ensures.kept c.in_ok-put_turn.ensures.changed c.in_ok-renew_each-4.ensures.told
+
+-- ---- what reads no name stays
+
+pub renew_each-requires : goal.renew_each-requires
+renew_each-requires g t c =
+    let split = c.in-Some.ensures.cases.0 in
+    let count : length c.args.rows.now ≡ length (c.in-Some.row.now ∷ c.in-Some.others.now) = ap length split in
+    let most = c.requires.few in
+    let was = others_at (block c.args.lines.now) c.args.links.now c.args.rows.now c.in-Some.row.now c.in-Some.others.now c.args.before.now
+    (map kept c.args.was.now.items) (map kept c.keep_first.new.was.items) split c.requires.was c.in_ok-keep_first.ensures.left in (
+      omega (arith, count),
+      (omega (arith, count, most), ((subst AreRows split c.requires.rows).1, (c.requires.can, (c.requires.counted, (c.requires.compared, was))))),
+    )
+
+pub returns-then-branch-clause-made : goal.returns-then-branch-clause-made
+returns-then-branch-clause-made g t c =
+    kept_renewed (block c.args.lines.now) c.args.links.now c.args.rows.now c.in-Some.row.now c.in-Some.others.now c.args.before.now c.args.hearing.now.heard
+    c.renew_each.new.hearing.heard (map kept c.args.was.now.items) (map kept c.args.done.now.items) (map kept c.keep_first.new.done.items)
+    (map kept c.renew_each.new.done.items) c.in-Some.ensures.cases.0 c.requires.was (c.in_ok-first_stays.ensures c.if-branch.true)
+    c.in_ok-keep_first.ensures.kept c.in_ok-renew_each.ensures.made
+
+pub returns-then-branch-clause-told : goal.returns-then-branch-clause-told
+returns-then-branch-clause-told g t c =
+    kept_told (block c.args.lines.now) c.args.links.now c.args.rows.now c.in-Some.row.now c.in-Some.others.now c.args.before.now
+    (map kept c.args.was.now.items) (map kept c.keep_first.new.was.items) (map kept c.args.done.now.items) (map kept c.keep_first.new.done.items)
+    (map kept c.renew_each.new.done.items) (map changed c.args.changes.now.items) (map changed c.keep_first.new.changes.items)
+    (map changed c.renew_each.new.changes.items) c.in-Some.ensures.cases.0 c.requires.was (c.in_ok-first_stays.ensures c.if-branch.true)
+    c.in_ok-keep_first.ensures.left c.in_ok-keep_first.ensures.kept c.in_ok-keep_first.ensures.changed c.in_ok-renew_each.ensures.told
