@@ -1,5 +1,7 @@
 // Rows of before, looked for by key.
 ghost use Rattle.std.specs.Prelude.{◌≡◌, ◌<◌, ℕ, List, length, map, IfOk, IfSome, None, true};
+ghost use Rattle.std.specs.Cmp.Lexicographic.{pointwise};
+ghost use Rattle.std.specs.Str.{bytes_eq};
 ghost use Rattle.sig_base.specs.Tables.{Table};
 ghost use Rattle.tpl_model.specs.Lines as model;
 ghost use Rattle.tpl_model.specs.Sources.{same_here};
@@ -54,31 +56,46 @@ fn places(alloc: Global, was: &Outcome, next: &Outcome) -> Result<IndexMap<Text,
     }
 }
 
-// Whether two rows of tables are alike.
-fn alike(was: &Rows, at: usize, rows: &Rows, place: usize) -> bool
-    requires { place < length rows.now.rows }
+// Whether the rows that two outcomes are have the same fields.
+fn same_fields(was: &Outcome, next: &Outcome) -> bool
+    ensures { result ≡ true → pointwise bytes_eq (table_in was.now).fields (table_in next.now).fields ≡ true }
+{
+    match (was, next) {
+        (Outcome::Good(Value::Rows(was)), Outcome::Good(Value::Rows(rows))) => {
+            was.fields() == rows.fields()
+        }
+        _ => false,
+    }
+}
+
+// Whether two rows of tables are alike; it is known whether these have the same fields.
+fn alike(fields: bool, was: &Rows, at: usize, rows: &Rows, place: usize) -> bool
+    requires fields { fields ≡ true → pointwise bytes_eq was.now.fields rows.now.fields ≡ true }
+    requires place { place < length rows.now.rows }
     ensures inside { result ≡ true → at < length was.now.rows }
     ensures same { result ≡ true → same_here (record { rows = was.now; place = at }) (record { rows = rows.now; place = place }) ≡ true }
 {
-    at < was.len() && was.row(at) == rows.row(place) && was.fields() == rows.fields()
+    fields && at < was.len() && was.row(at) == rows.row(place)
 }
 
 // The place of a row of the same key and values, which is looked for at the same place first.
 fn same_place(
+    fields: bool,
     places: &IndexMap<Text, usize>,
     was: &Rows,
     rows: &Rows,
     place: usize,
 ) -> Option<usize>
-    requires { place < length rows.now.rows }
+    requires fields { fields ≡ true → pointwise bytes_eq was.now.fields rows.now.fields ≡ true }
+    requires place { place < length rows.now.rows }
     ensures inside { IfSome result (λ at. at < length was.now.rows) }
     ensures same { IfSome result (λ at. same_here (record { rows = was.now; place = at }) (record { rows = rows.now; place = place }) ≡ true) }
 {
-    if alike(was, place, rows, place) {
+    if alike(fields, was, place, rows, place) {
         return Some(place);
     }
     let at = *places.get(&rows.row(place).key)?;
-    if alike(was, at, rows, place) {
+    if alike(fields, was, at, rows, place) {
         return Some(at);
     }
     None
@@ -86,18 +103,20 @@ fn same_place(
 
 // The place among the rows of before of one that has the key and the values of this row.
 fn old_place(
+    fields: bool,
     places: &IndexMap<Text, usize>,
     was: &Outcome,
     next: &Outcome,
     place: usize,
 ) -> Option<usize>
-    requires { place < length (table_in next.now).rows }
+    requires fields { fields ≡ true → pointwise bytes_eq (table_in was.now).fields (table_in next.now).fields ≡ true }
+    requires place { place < length (table_in next.now).rows }
     ensures inside { IfSome result (λ at. at < length (table_in was.now).rows) }
     ensures same { IfSome result (λ at. same_here (record { rows = table_in was.now; place = at }) (record { rows = table_in next.now; place = place }) ≡ true) }
 {
     match (was, next) {
         (Outcome::Good(Value::Rows(was)), Outcome::Good(Value::Rows(rows))) => {
-            same_place(places, was, rows, place)
+            same_place(fields, places, was, rows, place)
         }
         _ => None,
     }
@@ -133,10 +152,11 @@ pub(crate) fn rows_were(
     ensures among { IfOk result (λ q. AreAmong (table_in was.now) (places_from (table_in next.now) 0 (length (table_in next.now).rows)) (map kept q.items)) }
 {
     let places = places(alloc, was, next)?;
+    let fields = same_fields(was, next);
     let mut left = memos;
     let mut taken = Vec::new(alloc);
     for place in 0..row_count(next) {
-        let at = old_place(&places, was, next, place);
+        let at = old_place(fields, &places, was, next, place);
         let one = take_row(&mut left, at);
         taken.push(one)?;
     }
