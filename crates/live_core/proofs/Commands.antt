@@ -18,6 +18,7 @@ use Rattle.effect_tables.specs.Placed.{at_rest}
 use Rattle.sig_host.specs.Hosts.{HostPlace}
 use Rattle.sig_nodes.specs.Answers.{HasFewSlots}
 use Rattle.sig_nodes.specs.States.{Seen, is_cell, is_given}
+use Rattle.sig_state.specs.Batches.{Collected}
 use Rattle.sig_effect.specs.declared.errors.EffectFault.{EffectFault}
 use Rattle.sig_effect.specs.declared.errors.EffectFault.TheVariants as fault
 use Rattle.sig_effect.specs.Stores.{AreRuled}
@@ -51,7 +52,7 @@ use Rattle.live_pages.specs.Updates.{AreShown, ArePages, AreTemplates, Settles}
 use Rattle.live_pages.specs.Views.{page_of, template_of}
 use Rattle.live_pages.proofs.Shared.{pages_filtered, pages_kept, plain_filtered, shown_filtered}
 use Rattle.live_core.specs.declared.machine.Machine.{Machine}
-use Rattle.live_core.specs.Consistency.{is_of_kind, AreMeant, IsReady, Leaves, Steps}
+use Rattle.live_core.specs.Consistency.{is_of_kind, AreMeant, HasRoomyBatch, IsReady, Leaves, Steps}
 use Rattle.live_core.specs.Views.{plain_of}
 use Rattle.live_core.proofs.Names.{given_below, meant_still}
 use Rattle.live_core.proofs.OfKind.{kept_kind}
@@ -218,8 +219,8 @@ pub record KeepsMeant (m new : Machine) : Type 0 where
   pub labels : KeepsNames m.labels new.labels
 
 pub ready_changed : (m new : Machine) → IsReady m → KeepsMeant m new → Stays m.world new.world → AreShown (map template_of m.templates.items) new.pages.items →
-    ArePages new.world new.pages.items → IsReady new
-ready_changed m new r keeps stays shown pages = record {
+    ArePages new.world new.pages.items → HasRoomyBatch new.world.signals.graph.state.signals new.batch → IsReady new
+ready_changed m new r keeps stays shown pages batch = record {
   watchers = stays.watchers ∙ r.watchers ∙ ap (λ v. length v.items) (sym keeps.labels.watchers);
   paged = stays.pages ∙ r.paged ∙ ap (λ v. length v.items) (sym keeps.labels.pages);
   meant = subst (λ x. x) (λ i. AreMeant new.world (length (sym keeps.templates i).items) (sym keeps.names i))
@@ -228,28 +229,38 @@ ready_changed m new r keeps stays shown pages = record {
   templates = subst (λ v. AreTemplates v.items) (sym keeps.templates) r.templates;
   shown = subst (λ v. AreShown (map template_of v.items) new.pages.items) (sym keeps.templates) shown;
   pages = pages;
+  batch = batch;
 }
 
--- what is left by an act that leaves the tables
-pub leaves_acted : (asked later : List HostPlace) (rules : ℕ) (m : Machine) (w : World) (l : Labels) → IsReady m → KeepsNames m.labels l → Stays m.world w →
-    w.tables ≡ m.world.tables → (Agrees asked m.world → Agrees later w) →
+-- what is left by an act that leaves the tables, where the batch is this one afterwards
+pub leaves_batched : (asked later : List HostPlace) (rules : ℕ) (m : Machine) (w : World) (l : Labels) (b : Option Collected) → IsReady m → KeepsNames m.labels l →
+    Stays m.world w → w.tables ≡ m.world.tables → HasRoomyBatch w.signals.graph.state.signals b → (Agrees asked m.world → Agrees later w) →
     (AreRuled rules m.world.signals.graph.state.signals → AreRuled rules w.signals.graph.state.signals) →
-    weight w ≤ weight m.world + 2 ^ 80 → Leaves asked later rules m (with_world m w l)
-leaves_acted asked later rules m w l r keeps stays tables agrees ruled few = record {
-  ready = ready_changed m (with_world m w l) r (record { names = refl; templates = refl; labels = keeps }) stays r.shown (pages_kept m.world w m.pages.items m.pages.items refl (ap (λ t. t.pages.items) tables) (ap (λ t. t.pages_made) tables) r.pages);
+    weight w ≤ weight m.world + 2 ^ 80 → Leaves asked later rules m (record (with_world m w l) { batch = b })
+leaves_batched asked later rules m w l b r keeps stays tables batch agrees ruled few = record {
+  ready = ready_changed m (record (with_world m w l) { batch = b }) r (record { names = refl; templates = refl; labels = keeps }) stays r.shown
+      (pages_kept m.world w m.pages.items m.pages.items refl (ap (λ t. t.pages.items) tables) (ap (λ t. t.pages_made) tables) r.pages) batch;
   holds = λ h. record { agrees = agrees h.agrees; ruled = ruled h.ruled };
   weight = few;
 }
 
+-- so it is where the batch stays
+pub leaves_acted : (asked later : List HostPlace) (rules : ℕ) (m : Machine) (w : World) (l : Labels) → IsReady m → KeepsNames m.labels l → Stays m.world w →
+    w.tables ≡ m.world.tables → HasRoomyBatch w.signals.graph.state.signals m.batch → (Agrees asked m.world → Agrees later w) →
+    (AreRuled rules m.world.signals.graph.state.signals → AreRuled rules w.signals.graph.state.signals) →
+    weight w ≤ weight m.world + 2 ^ 80 → Leaves asked later rules m (with_world m w l)
+leaves_acted asked later rules m w l r keeps stays tables batch agrees ruled few = leaves_batched asked later rules m w l m.batch r keeps stays tables batch agrees ruled few
+
 -- what is left by one that may end pages, which are dropped then
 pub leaves_ended : (asked later : List HostPlace) (rules : ℕ) (m new : Machine) → IsReady m → KeepsMeant m new → Stays m.world new.world →
-    new.pages.items ≡ filter (λ (p : Mounted). is_in p.number new.world.tables.pages.items) m.pages.items → (Agrees asked m.world → Agrees later new.world) →
+    new.pages.items ≡ filter (λ (p : Mounted). is_in p.number new.world.tables.pages.items) m.pages.items →
+    HasRoomyBatch new.world.signals.graph.state.signals new.batch → (Agrees asked m.world → Agrees later new.world) →
     (AreRuled rules m.world.signals.graph.state.signals → AreRuled rules new.world.signals.graph.state.signals) →
     weight new.world ≤ weight m.world + 2 ^ 80 → Leaves asked later rules m new
-leaves_ended asked later rules m new r keeps stays pages agrees ruled few = record {
+leaves_ended asked later rules m new r keeps stays pages batch agrees ruled few = record {
   ready = ready_changed m new r keeps stays
       (shown_filtered (map template_of m.templates.items) (λ (p : Mounted). is_in p.number new.world.tables.pages.items) m.pages.items new.pages.items pages r.shown)
-      (pages_filtered m.world new.world m.pages.items new.pages.items stays.pages pages r.pages);
+      (pages_filtered m.world new.world m.pages.items new.pages.items stays.pages pages r.pages) batch;
   holds = λ h. record { agrees = agrees h.agrees; ruled = ruled h.ruled };
   weight = few;
 }

@@ -1,5 +1,5 @@
 -- What is made, and what that leaves.
-use Rattle.std.proofs.Common.{◌≡◌, ◌==◌, ◌≤◌, ◌<◌, ◌+◌, ◌^◌, ℕ, zero, suc, arith, true, false, List, [], ◌∷◌, ◌++◌, length, map, refl, sym, ap, subst, ◌∙◌}
+use Rattle.std.proofs.Common.{◌≡◌, ◌==◌, ◌≤◌, ◌<◌, ◌+◌, ◌^◌, ℕ, zero, suc, arith, true, false, List, [], ◌∷◌, ◌++◌, length, map, None, refl, sym, ap, subst, ◌∙◌}
 use Rattle.std.proofs.lemmas.List.{length-append}
 use Rattle.signal_model.specs.Recipes.{Hosts}
 use Rattle.signal_model.specs.Signals.{Signals, Cell, Computed, Stands, is_there, standing}
@@ -33,6 +33,7 @@ use Rattle.live_pages.proofs.Shared.{pages_kept}
 use Rattle.live_core.specs.declared.machine.Machine.{Machine}
 use Rattle.live_core.specs.Consistency.{is_of_kind, AreMeant, WorldAgrees, IsReady, Leaves, Steps}
 use Rattle.live_core.specs.Views.{plain_of}
+use Rattle.live_core.proofs.Batched.{roomy_none, roomy_same}
 use Rattle.live_core.proofs.Names.{meant_made, meant_more, meant_other, meant_still}
 use Rattle.live_core.proofs.OfKind.{cell_kind, computed_kind}
 
@@ -71,9 +72,9 @@ pub leaves_signal : (asked : List HostPlace) (rules : ℕ) (m new : Machine) (w 
     labels.watchers ≡ m.labels.watchers.items → labels.pages ≡ m.labels.pages.items → Beside m.world w →
     w.signals.graph.given ≡ m.world.signals.graph.given + 1 →
     ((x : ℕ) → (x == m.world.signals.graph.given) ≡ false → standing w.signals.graph.state.signals x ≡ standing m.world.signals.graph.state.signals x) →
-    is_of_kind k (standing w.signals.graph.state.signals m.world.signals.graph.given) ≡ true → weight w ≤ weight m.world + 2 ^ 80 →
+    is_of_kind k (standing w.signals.graph.state.signals m.world.signals.graph.given) ≡ true → m.batch ≡ None → weight w ≤ weight m.world + 2 ^ 80 →
     (WorldAgrees asked rules m.world → WorldAgrees asked rules w) → Leaves asked asked rules m new
-leaves_signal asked rules m new w n k id labels r off number named watchers pages stays given beside here few holds =
+leaves_signal asked rules m new w n k id labels r off number named watchers pages stays given beside here alone few holds =
     subst (λ (x : Machine). Leaves asked asked rules m x) (sym named.parts) (record {
       ready = record {
         watchers = stays.watchers ∙ r.watchers ∙ ap length (sym (ap (λ (l : called.Labels). l.watchers) named.labels ∙ watchers));
@@ -84,6 +85,7 @@ leaves_signal asked rules m new w n k id labels r off number named watchers page
         templates = r.templates;
         shown = r.shown;
         pages = pages_kept m.world w m.pages.items m.pages.items refl stays.pages stays.paged r.pages;
+        batch = roomy_none w.signals.graph.state.signals m.batch alone;
       };
       holds = holds;
       weight = few;
@@ -143,6 +145,7 @@ leaves_other asked rules m new w n k id labels r any named watchers pages stays 
         templates = r.templates;
         shown = r.shown;
         pages = pages_kept m.world w m.pages.items m.pages.items refl stays.pages stays.paged r.pages;
+        batch = roomy_same m.world.signals.graph.state.signals w.signals.graph.state.signals m.batch (ap (λ s. s.graph.state.signals) signals) r.batch;
       };
       holds = holds;
       weight = few;
@@ -199,6 +202,7 @@ leaves_template asked rules m new n t r parts names templates read =
         templates = subst AreTemplates (sym templates) (read_more m.templates.items t r.templates read);
         shown = subst (λ (ts : List Template). AreShown ts m.pages.items) (sym seen) (older_shown (map template_of m.templates.items) (template_of t) m.pages.items r.shown);
         pages = r.pages;
+        batch = r.batch;
       };
       holds = λ h. h;
       weight = omega arith;

@@ -2,6 +2,7 @@ mod OfKind
 mod Names
 mod Rightly
 mod Commands
+mod Batched
 mod Creations
 mod Mounts
 mod Watchers

@@ -35,6 +35,7 @@ use Rattle.live_core.specs.declared.machine.Machine.{Machine}
 use Rattle.live_core.specs.Consistency.{is_of_kind, AreMeant, IsReady, Leaves, Steps}
 use Rattle.live_core.specs.Parts.{KeepsParts}
 use Rattle.live_core.specs.Views.{plain_of}
+use Rattle.live_core.proofs.Batched.{roomy_same}
 use Rattle.live_core.proofs.Names.{meant_other, meant_still}
 
 -- ---- flushes
@@ -137,6 +138,7 @@ leaves_mounted asked later rules m new w v n id p r parts names labels pages ins
         templates = r.templates;
         shown = subst (AreShown (map template_of m.templates.items)) (sym pages) (shown_more (map template_of m.templates.items) m.pages.items p r.shown shown);
         pages = subst (ArePages v) (sym pages) (pages_more m.world v m.pages.items p number live made room r.pages);
+        batch = roomy_same m.world.signals.graph.state.signals v.signals.graph.state.signals m.batch stands r.batch;
       };
       holds = λ h. record { agrees = agrees; ruled = subst (AreRuled rules) (sym stands) h.ruled };
       weight =

@@ -18,6 +18,7 @@ use Rattle.live_labels.specs.Views.{labels_of}
 use Rattle.live_pages.proofs.Shared.{pages_kept}
 use Rattle.live_core.specs.declared.machine.Machine.{Machine}
 use Rattle.live_core.specs.Consistency.{is_of_kind, AreMeant, IsReady, Leaves}
+use Rattle.live_core.proofs.Batched.{roomy_same}
 use Rattle.live_core.proofs.Names.{meant_other, meant_still}
 use Rattle.live_core.proofs.Commands.{ready_changed, Stays}
 use Rattle.live_core.proofs.Creations.{IsNamed}
@@ -45,7 +46,8 @@ leaves_watched asked rules m w n f r graph made whole agrees =
     record {
       ready = ready_changed m (record m { world = w }) r
           (record { names = refl; templates = refl; labels = record { signals = refl; owners = refl; pages = refl; watchers = refl } }) stays r.shown
-          (pages_kept m.world w m.pages.items m.pages.items refl (ap (λ (x : told.World). x.pages) whole) stays.pages r.pages);
+          (pages_kept m.world w m.pages.items m.pages.items refl (ap (λ (x : told.World). x.pages) whole) stays.pages r.pages)
+          (roomy_same m.world.signals.graph.state.signals w.signals.graph.state.signals m.batch (ap (λ (g : Seen). g.state.signals) graph) r.batch);
       holds = λ h. record { agrees = agrees h.agrees; ruled = subst (λ (g : Seen). AreRuled rules g.state.signals) (sym graph) h.ruled };
       weight =
           let a : w.signals.graph.state.worn ≡ m.world.signals.graph.state.worn = ap (λ (g : Seen). g.state.worn) graph in
@@ -70,6 +72,7 @@ leaves_watcher asked rules m new w n id r named graph made live paged effects ag
         templates = r.templates;
         shown = r.shown;
         pages = pages_kept m.world w m.pages.items m.pages.items refl live paged r.pages;
+        batch = roomy_same m.world.signals.graph.state.signals w.signals.graph.state.signals m.batch (ap (λ (g : Seen). g.state.signals) graph) r.batch;
       };
       holds = λ h. record { agrees = agrees h.agrees; ruled = subst (λ (g : Seen). AreRuled rules g.state.signals) (sym graph) h.ruled };
       weight = let a : w.signals.graph.state.worn ≡ m.world.signals.graph.state.worn = ap (λ (g : Seen). g.state.worn) graph in omega (arith, a, effects);

@@ -1,9 +1,14 @@
 -- What holds of a machine's parts between two commands.
-use Rattle.std.specs.Prelude.{◌≡◌, ◌≤◌, ◌<◌, ◌+◌, ◌*◌, ◌^◌, ℕ, Bool, true, false, not, List, [], length, map, Some, None}
+use Rattle.std.specs.Prelude.{◌≡◌, ◌≤◌, ◌<◌, ◌+◌, ◌*◌, ◌^◌, ℕ, Bool, true, false, not, List, [], length, map, Option, Some, None}
+use Rattle.std.specs.Prelude.{nat_eq}
+use Rattle.std.specs.List.{IsDistinct}
+use Rattle.std.specs.Map.{keys_of}
 use Rattle.signal_model.specs.Recipes.{Hosts}
-use Rattle.signal_model.specs.Signals.{Stands, is_computed, standing}
+use Rattle.signal_model.specs.Signals.{Signals, Stands, is_computed, is_in, is_there, standing}
+use Rattle.signal_model.specs.Changes.{live_count}
 use Rattle.sig_host.specs.Hosts.{HostPlace, most_asked}
 use Rattle.sig_nodes.specs.States.{is_cell, is_given}
+use Rattle.sig_state.specs.Batches.{Collected}
 use Rattle.sig_effect.specs.Stores.{AreRuled}
 use Rattle.effect_world.specs.declared.world.World.{World}
 use Rattle.effect_world.specs.Stores.{Agrees, IsSound}
@@ -38,8 +43,19 @@ pub record IsMeant (w : World) (templates : ℕ) (m : Meaning) : Type 0 where
 abbrev pub AreMeant : World → ℕ → Names → Type 0
 AreMeant w templates names = (n : List ℕ) (m : Meaning) → meaning_of names n ≡ Some m → IsMeant w templates m
 
--- Each watcher and each page that was made has a name, names stand for what was made, the templates were read, and the pages are pages that
--- stand on them.
+-- What was changed in a batch are signals that stand, each once, and there is room for all others.
+pub record IsRoomy (w : Signals) (b : Collected) : Type 0 where
+  pub distinct : IsDistinct nat_eq (keys_of b.changed)
+  pub there : (n : ℕ) → is_in n (keys_of b.changed) ≡ true → is_there (standing w n) ≡ true
+  pub room : live_count w ≤ length b.changed + b.spare
+
+-- so it is with the batch that is open, if one is
+abbrev pub HasRoomyBatch : Signals → Option Collected → Type 0
+HasRoomyBatch w None = Unit {0}
+HasRoomyBatch w (Some b) = IsRoomy w b
+
+-- Each watcher and each page that was made has a name, names stand for what was made, the templates were read, the pages are pages that
+-- stand on them, and a batch that is open has room for what may be changed in it.
 pub record IsReady (m : Machine) : Type 0 where
   pub watchers : m.world.signals.watchers.made ≡ length m.labels.watchers.items
   pub paged : m.world.tables.pages_made ≡ length m.labels.pages.items
@@ -47,6 +63,7 @@ pub record IsReady (m : Machine) : Type 0 where
   pub templates : AreTemplates m.templates.items
   pub shown : AreShown (map template_of m.templates.items) m.pages.items
   pub pages : ArePages m.world m.pages.items
+  pub batch : HasRoomyBatch m.world.signals.graph.state.signals m.batch
 
 -- the stores belong together with the host formulas, and each cell's rule is one of so many
 pub record WorldAgrees (asked : List HostPlace) (rules : ℕ) (w : World) : Type 0 where

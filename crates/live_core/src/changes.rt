@@ -26,7 +26,7 @@ use sig_effect::EffectFault;
 use sig_host::{EqualsRule, Lent, Shelf};
 
 impl Machine {
-    /// Gives a cell a value. What is notified is told.
+    /// Gives a cell a value. What is notified is told; while a batch is open the cell joins it, and nobody is notified.
     pub(crate) fn set(
         &mut self,
         rules: &[EqualsRule],
@@ -46,15 +46,11 @@ impl Machine {
         ensures memory { IfErr result (λ e. e ≡ fault.NoMemory) }
     {
         let cell = NodeId::of(self.names.number_of(name));
-        let mut events = Vec::new(self.alloc);
-        let _done = self
-            .world
-            .change_cell(rules, cell, value.into(), &mut events)?;
-        let told = tell_all(self.alloc, &mut self.labels, &events)?;
+        let told = self.set_value(rules, cell, value.into())?;
         Ok(told)
     }
 
-    /// Edits the rows of a list. What is notified is told; nothing is done where the rows stay the same.
+    /// Edits the rows of a list, as a cell is given a value; nothing is done where the rows stay the same.
     pub(crate) fn edit(
         &mut self,
         rules: &[EqualsRule],
@@ -76,11 +72,7 @@ impl Machine {
     {
         let list = NodeId::of(self.names.number_of(name));
         let rows = edited_rows(self.alloc, &self.world, list, edit)?;
-        let mut events = Vec::new(self.alloc);
-        let _done = self
-            .world
-            .change_cell(rules, list, Value::Rows(rows), &mut events)?;
-        let told = tell_all(self.alloc, &mut self.labels, &events)?;
+        let told = self.set_value(rules, list, Value::Rows(rows))?;
         Ok(told)
     }
 
@@ -96,6 +88,7 @@ impl Machine {
         requires agrees { Agrees (⟦<Shelf as Lent>⟧.asked shelf.old) self.old.world }
         requires counted { ⟦<Shelf as Lent>⟧.counted shelf.old }
         requires few { IsReadSource source }
+        requires alone { self.old.batch ≡ None }
         requires fine { AreFine self.old (command.Rewire name.now source) }
         requires free { host_refusal (whole_of (⟦<Shelf as Lent>⟧.asked shelf.old) self.old.world) source ≡ None }
         ensures steps { (hosts : Hosts) (slacks : List ℕ) → IsSound hosts (⟦<Shelf as Lent>⟧.asked shelf.old) self.old.world →
@@ -131,6 +124,7 @@ impl Machine {
         requires agrees { Agrees (⟦<Shelf as Lent>⟧.asked shelf.old) self.old.world }
         requires counted { ⟦<Shelf as Lent>⟧.counted shelf.old }
         requires ruled { AreRuled (length rules.now) self.old.world.signals.graph.state.signals }
+        requires alone { self.old.batch ≡ None }
         requires fine { AreFine self.old (command.Named verb.Dispose name.now) }
         ensures steps { (hosts : Hosts) → IsSound hosts (⟦<Shelf as Lent>⟧.asked shelf.old) self.old.world →
             IfOk result (λ es. Steps hosts (⟦<Shelf as Lent>⟧.asked shelf.new) self.new es.items

@@ -75,6 +75,7 @@ impl Machine {
         requires ready { IsReady self.old }
         requires owned { AreOwned self.old.world }
         requires weight { weight self.old.world < 2 ^ 125 }
+        requires alone { self.old.batch ≡ None }
         requires fine { AreFine self.old (command.Cell name value equals inside) }
         requires room { over_limit (plain_of [] self.old) (command.Cell name value equals inside) ≡ None }
         ensures steps { (hosts : Hosts) (slacks : List ℕ) (asked : List HostPlace) → IsSound hosts asked self.old.world →
@@ -104,6 +105,7 @@ impl Machine {
         requires owned { AreOwned self.old.world }
         requires weight { weight self.old.world < 2 ^ 125 }
         requires fields { is_list fields.now ≡ true }
+        requires alone { self.old.batch ≡ None }
         requires fine { AreFine self.old (command.List name fields.now inside) }
         requires room { over_limit (plain_of [] self.old) (command.List name fields.now inside) ≡ None }
         ensures steps { (hosts : Hosts) (slacks : List ℕ) (asked : List HostPlace) → IsSound hosts asked self.old.world →
@@ -131,6 +133,7 @@ impl Machine {
         requires owned { AreOwned self.old.world }
         requires weight { weight self.old.world < 2 ^ 125 }
         requires few { IsReadSource source }
+        requires alone { self.old.batch ≡ None }
         requires fine { AreFine self.old (command.Computed name source inside) }
         requires room { over_limit (plain_of [] self.old) (command.Computed name source inside) ≡ None }
         ensures steps { (hosts : Hosts) (slacks : List ℕ) (asked : List HostPlace) → Agrees asked self.old.world →

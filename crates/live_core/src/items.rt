@@ -7,9 +7,9 @@ ghost use Rattle.sig_effect.specs.Stores.{environment, AreNew};
 ghost use Rattle.effect_world.specs.Stores.{IsSound};
 ghost use Rattle.effect_world.specs.Costs.{weight};
 ghost use Rattle.live_cmd.specs.declared.command.Command.TheVariants as command;
-ghost use Rattle.live_model.specs.Machine.{done, empty, over_limit, place_refusal, row_refusal, unwatch_refusal};
+ghost use Rattle.live_model.specs.Machine.{batch_refusal, done, empty, over_limit, place_refusal, row_refusal, unwatch_refusal};
 ghost use Rattle.live_core.specs.Consistency.{AreFine, WorldAgrees, IsReadable, IsReady, Leaves, Steps};
-ghost use Rattle.live_core.specs.Views.{plain_of};
+ghost use Rattle.live_core.specs.Views.{batch_of, plain_of};
 ghost use Rattle.effect_world.specs.Wholes.{whole_of};
 
 use crate::machine::Machine;
@@ -42,6 +42,7 @@ impl Machine {
             names: Names::new(alloc),
             labels: Labels::new(alloc),
             world,
+            batch: None,
             templates: Vec::new(alloc),
             pages: Vec::new(alloc),
         })
@@ -61,6 +62,7 @@ impl Machine {
         requires counted { ⟦<Shelf as Lent>⟧.counted shelf.old }
         requires most { most_asked (⟦<Shelf as Lent>⟧.asked shelf.old) < 2 ^ 124 }
         requires fine { AreFine self.old (command.Named verb name) }
+        requires batch { batch_refusal (batch_of self.old.batch) (command.Named verb name) ≡ None }
         ensures steps { (hosts : Hosts) → ⟦<Shelf as Lent>⟧.answers hosts shelf.old →
             IsSound hosts (⟦<Shelf as Lent>⟧.asked shelf.old) self.old.world →
             IfOk result (λ es. Steps hosts (⟦<Shelf as Lent>⟧.asked shelf.new) self.new es.items
@@ -96,6 +98,7 @@ impl Machine {
         requires holds { WorldAgrees (⟦<Shelf as Lent>⟧.asked shelf.old) (length rules.now) self.old.world }
         requires counted { ⟦<Shelf as Lent>⟧.counted shelf.old }
         requires most { most_asked (⟦<Shelf as Lent>⟧.asked shelf.old) < 2 ^ 124 }
+        requires batch { batch_refusal (batch_of self.old.batch) (command.Bare bare) ≡ None }
         ensures steps { (hosts : Hosts) → ⟦<Shelf as Lent>⟧.answers hosts shelf.old →
             IsSound hosts (⟦<Shelf as Lent>⟧.asked shelf.old) self.old.world →
             IfOk result (λ es. Steps hosts (⟦<Shelf as Lent>⟧.asked shelf.new) self.new es.items
@@ -110,6 +113,9 @@ impl Machine {
     {
         match bare {
             Bare::Flush => self.flush(shelf, rules),
+            Bare::Begin => self.begin(),
+            Bare::Commit => self.commit(rules),
+            Bare::Abort => self.abort(),
         }
     }
 
@@ -129,6 +135,7 @@ impl Machine {
         requires holds { WorldAgrees (⟦<Shelf as Lent>⟧.asked shelf.old) (length rules.now) self.old.world }
         requires counted { ⟦<Shelf as Lent>⟧.counted shelf.old }
         requires most { most_asked (⟦<Shelf as Lent>⟧.asked shelf.old) < 2 ^ 124 }
+        requires batch { batch_refusal (batch_of self.old.batch) command ≡ None }
         requires fine { AreFine self.old command }
         requires places { place_refusal (map (λ r. r.slack) rules.now) (whole_of (⟦<Shelf as Lent>⟧.asked shelf.old) self.old.world) command ≡ None }
         requires read { IsReadable command }

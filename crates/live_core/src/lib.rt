@@ -2,6 +2,7 @@
 #![tactic(auto)]
 
 mod answers;
+mod batches;
 mod bindings;
 mod changes;
 mod creation;

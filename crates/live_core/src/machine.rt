@@ -4,16 +4,18 @@ use effect_world::World;
 use live_labels::Labels;
 use live_names::Names;
 use live_pages::{LinkedTemplate, Mounted};
+use sig_state::Batch;
 use std::alloc::Global;
 
-/// What a script made: what its names stand for, what things are called, the signals, watchers, owners and effects, the templates, and
-/// the pages that live. Host formulas and equality rules stand beside it, and are handed to each act that needs them.
+/// What a script made: what its names stand for, what things are called, the signals, watchers, owners and effects, the batch that is
+/// open, the templates, and the pages that live. Host formulas and equality rules stand beside it, and are handed to each act that needs them.
 #[derive(Drop)]
 pub struct Machine {
     pub alloc: Global,
     pub names: Names,
     pub labels: Labels,
     pub world: World,
+    pub batch: Option<Batch>,
     pub templates: Vec<LinkedTemplate>,
     pub pages: Vec<Mounted>,
 }

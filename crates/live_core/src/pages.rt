@@ -152,6 +152,7 @@ impl Machine {
         rules: &[EqualsRule],
     ) -> Result<Vec<Entry>, EffectFault>
         requires ready { IsReady self.old }
+        requires alone { self.old.batch ≡ None }
         requires weight { weight self.old.world < 2 ^ 124 }
         requires agrees { Agrees (⟦<Shelf as Lent>⟧.asked shelf.old) self.old.world }
         requires ruled { AreRuled (length rules.now) self.old.world.signals.graph.state.signals }

@@ -21,7 +21,7 @@ use Rattle.live_model.specs.declared.names.Need.TheVariants as need
 use Rattle.live_model.specs.Names.{Names, Use, first_refusal, first_within, is_gone, meaning_of, meets, misuse, refusal_at}
 use Rattle.live_model.specs.Uses.{uses_of, uses_of_body}
 use Rattle.live_model.specs.Machine as plain
-use Rattle.live_model.specs.Machine.{body_refusal, done, later_refusal, name_refusal, over_limit, place_refusal, refusal_of, refused, row_refusal, step, unwatch_refusal}
+use Rattle.live_model.specs.Machine.{batch_refusal, body_refusal, done, later_refusal, name_refusal, over_limit, place_refusal, refusal_of, refused, row_refusal, step, unwatch_refusal}
 use Rattle.live_core.specs.declared.machine.Machine.{Machine}
 use Rattle.live_core.specs.Consistency.{AreFine, Steps}
 use Rattle.live_core.specs.Views.{plain_of}
@@ -40,7 +40,7 @@ pub second_of : {A : Type 0} (a b d : Option A) (r : A) → a ≡ None → Some 
 second_of a b d r none is = sym (ap (λ o. option_or o (option_or b d)) none ∙ ap (λ o. option_or o d) (sym is))
 
 -- and the third, where neither does
-third_of : {A : Type 0} (a b d r : Option A) → a ≡ None → b ≡ None → r ≡ d → r ≡ option_or a (option_or b d)
+pub third_of : {A : Type 0} (a b d r : Option A) → a ≡ None → b ≡ None → r ≡ d → r ≡ option_or a (option_or b d)
 third_of a b d r none nor is = is ∙ sym (ap (λ o. option_or o (option_or b d)) none ∙ ap (λ o. option_or o d) nor)
 
 -- so it is with four
@@ -96,13 +96,21 @@ body_here asked m _ = refl
 pub fine_here : (asked : List HostPlace) (m : Machine) (c : Command) → name_refusal (plain_of asked m) c ≡ None → AreFine m c
 fine_here asked m c e = sym (λ i. option_or (all_here asked m.world m.names (uses_of c) i) (body_here asked m c i)) ∙ e
 
--- what isn't refused has no name that is
+-- what isn't refused is so by the batch
+pub unrefused_batch : (slacks : List ℕ) (m : plain.Machine) (c : Command) → refusal_of slacks m c ≡ None → batch_refusal m.batch c ≡ None
+unrefused_batch slacks m c none = (neither (batch_refusal m.batch c) (option_or (name_refusal m c) (later_refusal slacks m c)) none).0
+
+-- nor behind that
+unrefused_behind : (slacks : List ℕ) (m : plain.Machine) (c : Command) → refusal_of slacks m c ≡ None → option_or (name_refusal m c) (later_refusal slacks m c) ≡ None
+unrefused_behind slacks m c none = (neither (batch_refusal m.batch c) (option_or (name_refusal m c) (later_refusal slacks m c)) none).1
+
+-- it has no name that is
 pub unrefused_names : (slacks : List ℕ) (m : plain.Machine) (c : Command) → refusal_of slacks m c ≡ None → name_refusal m c ≡ None
-unrefused_names slacks m c none = (neither (name_refusal m c) (later_refusal slacks m c) none).0
+unrefused_names slacks m c none = (neither (name_refusal m c) (later_refusal slacks m c) (unrefused_behind slacks m c none)).0
 
 -- nor is it behind them
 unrefused_later : (slacks : List ℕ) (m : plain.Machine) (c : Command) → refusal_of slacks m c ≡ None → later_refusal slacks m c ≡ None
-unrefused_later slacks m c none = (neither (name_refusal m c) (later_refusal slacks m c) none).1
+unrefused_later slacks m c none = (neither (name_refusal m c) (later_refusal slacks m c) (unrefused_behind slacks m c none)).1
 
 -- there is room for it, and what it unwatches is watched
 pub unrefused_last : (slacks : List ℕ) (m : plain.Machine) (c : Command) → refusal_of slacks m c ≡ None → (over_limit m c ≡ None) × (unwatch_refusal m c ≡ None)

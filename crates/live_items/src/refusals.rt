@@ -1,4 +1,4 @@
-// Why commands are refused, in this order: the names, the places of host formulas and rules, what the rows of a list don't allow, what there
+// Why commands are refused, in this order: that a batch is open or none is, the names, the places of host formulas and rules, what the rows of a list don't allow, what there
 // would be too much of, and a signal that isn't watched.
 ghost use Rattle.std.specs.Prelude.{◌≡◌, ℕ, Bool, List, IfOk, length, map, slice_get};
 ghost use Rattle.std.specs.List.{filter};
@@ -11,18 +11,19 @@ ghost use Rattle.effect_tables.specs.declared.tables.TheConstants.{MOST_EFFECTS}
 ghost use Rattle.live_entries.specs.declared.refusal.LimitWord.TheVariants as limit;
 ghost use Rattle.live_labels.specs.Views.{labels_of};
 ghost use Rattle.live_model.specs.Labels.{is_named, label_at};
+ghost use Rattle.live_model.specs.Machine.{batch_refusal, is_done_in_batch, is_ending};
 ghost use Rattle.live_model.specs.Machine.{body_refusal, host_refusal, later_refusal, name_refusal};
 ghost use Rattle.live_model.specs.Machine.{one_too_many, outside_refusal, over_limit, place_refusal, refusal_of};
 ghost use Rattle.live_model.specs.Machine.{row_refusal, rule_refusal, taken_refusal, unwatch_refusal};
 ghost use Rattle.live_model.specs.Names.{first_within, number_of};
 ghost use Rattle.live_model.specs.Rows.{edit_refusal, rows_at};
 ghost use Rattle.live_model.specs.Uses.{hosts_of_body, uses_of_body};
-ghost use Rattle.live_core.specs.Views.{plain_of};
+ghost use Rattle.live_core.specs.Views.{batch_of, plain_of};
 
 use effect_model::MOST_WATCHERS;
 use effect_tables::MOST_EFFECTS;
 use effect_world::World;
-use live_cmd::{Command, EffectBody, RowEdit, SourceText};
+use live_cmd::{Bare, Command, EffectBody, RowEdit, SourceText, Verb};
 use live_core::{Machine, edit_refusal};
 use live_entries::{LimitWord, Refusal};
 use live_labels::named_count;
@@ -31,6 +32,52 @@ use sig_base::{MOST_NODES, MOST_PAGES, MOST_TEMPLATES, Name, NoMemory, NodeId, W
 use sig_host::{EqualsRule, Lent, Shelf};
 use sig_owner::MOST_OWNERS;
 use std::alloc::Global;
+
+// Whether a command ends a batch.
+fn is_ending(command: &Command) -> bool
+    ensures { result ≡ is_ending command.now }
+{
+    match command {
+        Command::Bare(Bare::Commit) | Command::Bare(Bare::Abort) => true,
+        _ => false,
+    }
+}
+
+// Whether it is done while a batch is open: what changes a value, what shows something, and what ends it.
+fn is_done_in_batch(command: &Command) -> bool
+    ensures { result ≡ is_done_in_batch command.now }
+{
+    match command {
+        Command::Set { .. } | Command::Edit { .. } => true,
+        Command::Named { verb, .. } => match verb {
+            Verb::Dispose => false,
+            _ => true,
+        },
+        _ => is_ending(command),
+    }
+}
+
+// The refusal of an end where no batch is open, and of what isn't done while one is.
+fn batch_refusal(machine: &Machine, command: &Command) -> Option<Refusal>
+    ensures { result ≡ batch_refusal (batch_of machine.now.batch) command.now }
+{
+    match &machine.batch {
+        Some(_) => {
+            if is_done_in_batch(command) {
+                None
+            } else {
+                Some(Refusal::BatchOpen)
+            }
+        }
+        None => {
+            if is_ending(command) {
+                Some(Refusal::NoBatch)
+            } else {
+                None
+            }
+        }
+    }
+}
 
 // The refusal of one more than the most.
 fn one_too_many(most: usize, count: usize, limit: LimitWord) -> Option<Refusal>
@@ -320,6 +367,9 @@ pub(crate) fn refusal_of(
     ensures { IfOk result (λ r. r ≡ refusal_of (map (λ r. r.slack) rules.now)
         (plain_of (⟦<Shelf as Lent>⟧.asked shelf.now) machine.now) command.now) }
 {
+    if let Some(refusal) = batch_refusal(machine, command) {
+        return Ok(Some(refusal));
+    }
     if let Some(refusal) = name_refusal(machine, command)? {
         return Ok(Some(refusal));
     }

@@ -2,7 +2,7 @@ use Rattle.std.proofs.Common.{◌∙◌, List, is_some, map, sym}
 use Rattle.sig_host.specs.Hosts.{HostPlace}
 use Rattle.sig_effect.specs.Stores.{environment}
 use Rattle.live_core.specs.Views.{plain_of}
-use Rattle.live_items.proofs.Refused.{done_so, fine_here, unrefused_last, unrefused_names}
+use Rattle.live_items.proofs.Refused.{done_so, fine_here, unrefused_batch, unrefused_last, unrefused_names}
 use Rattle.live_items.proofs.commands.try_command.Goals as goal
 
 pub perform-requires-clause-fine : goal.perform-requires-clause-fine
@@ -11,6 +11,12 @@ perform-requires-clause-fine g c =
     let asked : List HostPlace = map (λ p. record { there = is_some p.host; asks = p.count }) c.args.shelf.now.places.items in
     let why = rw c.in-Ok.is at c.refusal_of.ensures in
     fine_here asked m c.args.command (unrefused_names (map (λ r. r.slack) c.args.rules.now) (plain_of asked m) c.args.command (sym why ∙ c.in_default-refusal.is))
+
+pub perform-requires-clause-batch : goal.perform-requires-clause-batch
+perform-requires-clause-batch g c =
+    let asked : List HostPlace = map (λ p. record { there = is_some p.host; asks = p.count }) c.args.shelf.now.places.items in
+    let why = rw c.in-Ok.is at c.refusal_of.ensures in
+    unrefused_batch (map (λ r. r.slack) c.args.rules.now) (plain_of asked c.args.machine.now) c.args.command (sym why ∙ c.in_default-refusal.is)
 
 pub perform-requires-clause-room : goal.perform-requires-clause-room
 perform-requires-clause-room g c =

@@ -8,6 +8,7 @@ use Rattle.sig_effect.proofs.SharedKinds.{all_keep_kinds}
 use Rattle.effect_tables.specs.Bodies.{thing_of}
 use Rattle.sig_effect.specs.Stores.{environment}
 use Rattle.live_model.specs.Names.{meaning_of, thing_named}
+use Rattle.live_core.proofs.Batched.{roomy_none}
 use Rattle.live_core.proofs.Commands.{acts_steps, disposed_steps, leaves_ended, pages_steps, stays_by, tells_by}
 use Rattle.live_core.proofs.machine.Machine.dispose.Goals as goal
 
@@ -35,5 +36,6 @@ returns-clause-leaves g c = λ hosts count all sound.
     let new = record m { world = c.dispose.new.self; labels = c.tell_all.new.labels; pages = c.keep_live.new.pages } in
     leaves_ended _ _ count m new c.requires.ready (record { names = refl; templates = refl; labels = c.in_ok-told.ensures.names })
     (stays_by _ _ m.world c.dispose.new.self (dispose_thing env thing) (e.does hosts sound).whole (all_keep_counts.disposing env thing) (all_keep_kinds.disposing env thing))
-    (c.keep_live.ensures ∙ ap (λ ns. filter (λ p. is_in p.number ns) m.pages.items) c.deref-2.ensures.value) (λ a. e.agrees) (λ r. e.rules count r)
+    (c.keep_live.ensures ∙ ap (λ ns. filter (λ p. is_in p.number ns) m.pages.items) c.deref-2.ensures.value)
+    (roomy_none c.dispose.new.self.signals.graph.state.signals m.batch c.requires.alone) (λ a. e.agrees) (λ r. e.rules count r)
     (let w = e.worn in let before = ap length c.new-events.ensures.items in let small = c.dispose.new.events.small in omega (arith, w, before, small))

@@ -1,4 +1,7 @@
-use Rattle.std.proofs.Common.{length, map}
+use Rattle.std.proofs.Common.{length, map, ap}
+use Rattle.live_cmd.specs.declared.command.Command.TheVariants as command
+use Rattle.live_model.specs.Machine.{is_done_in_batch}
+use Rattle.live_core.proofs.Batched.{alone_by}
 use Rattle.live_core.proofs.Commands.{anyway, leaves_as}
 use Rattle.live_core.proofs.machine.Machine.do_verb.Goals as goal
 
@@ -37,3 +40,7 @@ returns-in-Scratch-clause-steps g c = λ hosts all sound. rw c.in-Scratch.is (c.
 
 pub returns-in-Scratch-clause-leaves : goal.returns-in-Scratch-clause-leaves
 returns-in-Scratch-clause-leaves g c = λ hosts all sound. c.scratch.ensures.leaves hosts (length c.args.rules.now) all sound
+
+pub dispose-requires-clause-alone : goal.dispose-requires-clause-alone
+dispose-requires-clause-alone g c =
+    alone_by c.args.self.now.batch (command.Named c.args.verb c.args.name) (ap (λ v. is_done_in_batch (command.Named v c.args.name)) c.in-Dispose.is) c.requires.batch

@@ -3,6 +3,7 @@ use Rattle.sig_effect.specs.Stores.{environment, AreRuled}
 use Rattle.live_pages.specs.Views.{template_of}
 use Rattle.live_pages.proofs.Shared.{all_standing, pages_kept}
 use Rattle.live_core.specs.Views.{plain_of}
+use Rattle.live_core.proofs.Batched.{roomy_same}
 use Rattle.live_core.proofs.Commands.{ready_changed, stays_settled}
 use Rattle.live_core.proofs.Mounts.{brought_steps, refused_steps}
 use Rattle.live_core.proofs.machine.Machine.end_flush.Goals as goal
@@ -28,7 +29,8 @@ returns-clause-leaves g c = λ hosts count ready all sound.
     record {
       ready = ready_changed m new ready
           (record { names = refl; templates = refl; labels = record { signals = refl; owners = refl; pages = refl; watchers = refl } }) (stays_settled m.world new.world e.world) (e.shown (map template_of m.templates.items) c.requires.shown)
-          (pages_kept m.world new.world m.pages.items new.pages.items e.numbers (ap (λ t. t.pages.items) e.world.tables) (ap (λ t. t.pages_made) e.world.tables) ready.pages);
+          (pages_kept m.world new.world m.pages.items new.pages.items e.numbers (ap (λ t. t.pages.items) e.world.tables) (ap (λ t. t.pages_made) e.world.tables) ready.pages)
+          (roomy_same m.world.signals.graph.state.signals new.world.signals.graph.state.signals m.batch e.world.signals ready.batch);
       holds = λ h. record { agrees = e.agrees; ruled = subst (AreRuled count) (sym e.world.signals) h.ruled };
       weight = let a = e.worn in let b = ap (λ t. t.effects_made) e.world.tables in omega (arith, a, b);
     }

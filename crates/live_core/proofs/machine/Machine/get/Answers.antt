@@ -7,6 +7,7 @@ use Rattle.sig_effect.proofs.SharedKinds.{all_keep_kinds}
 use Rattle.sig_effect.specs.Stores.{environment, AreRuled}
 use Rattle.live_entries.specs.declared.entry.Entry.TheVariants as entry
 use Rattle.live_model.specs.Names.{number_of}
+use Rattle.live_core.proofs.Batched.{roomy_same}
 use Rattle.live_core.proofs.Commands.{acts_steps, leaves_acted, stays_by, tells_by, then_told}
 use Rattle.live_core.proofs.machine.Machine.get.Goals as goal
 
@@ -37,4 +38,4 @@ returns-clause-leaves g c = λ hosts count all sound.
     leaves_acted _ _ count m c.ask.new.self c.tell_all.new.labels c.requires.ready c.in_ok-told.ensures.names
     (stays_by _ _ m.world c.ask.new.self (settle env (c.of-signal.result ∷ [])) (e.does hosts [] all sound).whole
     (all_keep_counts.settling env (c.of-signal.result ∷ [])) (all_keep_kinds.settling env (c.of-signal.result ∷ [])))
-    e.tables (λ a. e.agrees) (λ r. subst (AreRuled count) (sym e.signals) r) (omega (arith, worn, before, small, made))
+    e.tables (roomy_same m.world.signals.graph.state.signals c.ask.new.self.signals.graph.state.signals m.batch e.signals c.requires.ready.batch) (λ a. e.agrees) (λ r. subst (AreRuled count) (sym e.signals) r) (omega (arith, worn, before, small, made))

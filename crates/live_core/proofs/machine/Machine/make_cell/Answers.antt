@@ -48,7 +48,7 @@ returns-clause-leaves c = λ hosts asked slacks count sound same fine.
     e.given
     (beside_cell m.world.signals.graph.state.signals c.make_cell.new.self.signals.graph.state.signals cell signals)
     (here_cell m.world.signals.graph.state.signals c.make_cell.new.self.signals.graph.state.signals cell signals)
-    (let a = e.worn in let b = ap (λ x. x.made.effects) whole in omega (arith, a, b))
+    c.requires.alone (let a = e.worn in let b = ap (λ x. x.made.effects) whole in omega (arith, a, b))
     (λ h. record { agrees = e.agrees asked h.agrees; ruled = e.ruled (length slacks) (λ r is. rule_below slacks c.args.equals r fine (sym c.rule_place.ensures ∙ is)) h.ruled }))
 
 pub returns-in_err-id-clause-memory : goal.returns-in_err-id-clause-memory

@@ -74,6 +74,7 @@ returns-clause-leaves c = λ hosts asked rules sound agrees free.
     e.given
     (beside_computed m.world.signals.graph.state.signals c.make_computed.new.self.signals.graph.state.signals computed signals)
     (here_computed m.world.signals.graph.state.signals c.make_computed.new.self.signals.graph.state.signals computed (none_next m.world.signals.graph c.made-made.ensures.used) signals)
+    c.requires.alone
     (let a = e.worn in
     let b = ap (λ x. x.made.effects) whole ∙ ap (λ x. x.effects) (made_for (host_of made.expression) _) in omega (arith, a, b))
     (λ h. record { agrees = e.agrees asked h.agrees opened; ruled = e.ruled rules h.ruled })

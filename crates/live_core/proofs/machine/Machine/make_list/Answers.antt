@@ -48,7 +48,7 @@ returns-clause-leaves c = λ hosts asked rules sound.
     e.given
     (beside_cell m.world.signals.graph.state.signals c.make_cell.new.self.signals.graph.state.signals cell signals)
     (here_list m.world.signals.graph.state.signals c.make_cell.new.self.signals.graph.state.signals cell signals)
-    (let a = e.worn in let b = ap (λ x. x.made.effects) whole in omega (arith, a, b))
+    c.requires.alone (let a = e.worn in let b = ap (λ x. x.made.effects) whole in omega (arith, a, b))
     (λ h. record { agrees = e.agrees asked h.agrees; ruled = e.ruled rules (λ r is. absurd cc) h.ruled })
 
 pub returns-in_err-id-clause-memory : goal.returns-in_err-id-clause-memory

@@ -17,6 +17,7 @@ returns-clause-ready c =
       templates = subst AreTemplates (sym c.new-4.ensures.items) tt;
       shown = subst (AreShown (map template_of c.new-4.result.items)) (sym c.new-5.ensures.items) tt;
       pages = subst (ArePages w) (sym c.new-5.ensures.items) (record { apart = tt; live = tt; below = tt; few = omega arith });
+      batch = tt;
     }
 
 pub returns-clause-holds : goal.returns-clause-holds

@@ -1,5 +1,7 @@
-use Rattle.std.proofs.Common.{length, map}
+use Rattle.std.proofs.Common.{length, map, ap}
 use Rattle.std.proofs.lemmas.List.{length-map}
+use Rattle.live_model.specs.Machine.{is_done_in_batch}
+use Rattle.live_core.proofs.Batched.{alone_by}
 use Rattle.live_core.proofs.machine.Machine.perform.Goals as goal
 
 pub returns-in-Cell-clause-steps : goal.returns-in-Cell-clause-steps
@@ -106,3 +108,21 @@ rewire-requires-clause-few g c = rw c.in-Rewire.is at c.requires.read
 
 pub make_effect-requires-clause-fit : goal.make_effect-requires-clause-fit
 make_effect-requires-clause-fit g c = rw c.in-Effect.is at c.requires.read
+
+pub do_verb-requires-clause-batch : goal.do_verb-requires-clause-batch
+do_verb-requires-clause-batch g c = rw c.in-Named.is at c.requires.batch
+
+pub do_bare-requires-clause-batch : goal.do_bare-requires-clause-batch
+do_bare-requires-clause-batch g c = rw c.in-Bare.is at c.requires.batch
+
+pub make_cell-requires-clause-alone : goal.make_cell-requires-clause-alone
+make_cell-requires-clause-alone g c = alone_by c.args.self.now.batch c.args.command (ap is_done_in_batch c.in-Cell.is) c.requires.batch
+
+pub make_list-requires-clause-alone : goal.make_list-requires-clause-alone
+make_list-requires-clause-alone g c = alone_by c.args.self.now.batch c.args.command (ap is_done_in_batch c.in-List.is) c.requires.batch
+
+pub make_computed-requires-clause-alone : goal.make_computed-requires-clause-alone
+make_computed-requires-clause-alone g c = alone_by c.args.self.now.batch c.args.command (ap is_done_in_batch c.in-Computed.is) c.requires.batch
+
+pub rewire-requires-clause-alone : goal.rewire-requires-clause-alone
+rewire-requires-clause-alone g c = alone_by c.args.self.now.batch c.args.command (ap is_done_in_batch c.in-Rewire.is) c.requires.batch

@@ -15,6 +15,7 @@ use Rattle.live_model.specs.Links.{recipe_of}
 use Rattle.live_model.specs.Names.{number_of}
 use Rattle.live_core.specs.Consistency.{is_of_kind}
 use Rattle.live_core.proofs.Rightly.{kind_used, neither, refused_at, used_of, uses_fine}
+use Rattle.live_core.proofs.Batched.{roomy_none}
 use Rattle.live_core.proofs.Commands.{acts_steps, every, few_made, few_slots, free_made, host_fine, leaves_acted, no_cell, only_memory, source_used, stays_by, tells_by, true_false}
 use Rattle.live_core.proofs.machine.Machine.rewire.Goals as goal
 
@@ -62,7 +63,7 @@ returns-clause-leaves g c = λ hosts count all sound.
     leaves_acted _ _ count m c.rewire.new.self c.tell_all.new.labels c.requires.ready c.in_ok-told.ensures.names
     (stays_by _ _ m.world c.rewire.new.self (rewire_signal c.of-computed.result r) (e.does hosts sound).whole
     (all_keep_counts.rewiring c.of-computed.result r) (all_keep_kinds.rewiring c.of-computed.result r))
-    e.tables (λ a. e.agrees) (λ k. e.rules count k) (let w = e.stays.worn in let t = ap (λ x. x.effects_made) e.tables in omega (arith, w, t))
+    e.tables (roomy_none c.rewire.new.self.signals.graph.state.signals m.batch c.requires.alone) (λ a. e.agrees) (λ k. e.rules count k) (let w = e.stays.worn in let t = ap (λ x. x.effects_made) e.tables in omega (arith, w, t))
 
 pub returns-in_err-rewire-clause-memory : goal.returns-in_err-rewire-clause-memory
 returns-in_err-rewire-clause-memory g c =

@@ -6,6 +6,7 @@ use Rattle.live_model.specs.Names.{number_of}
 use Rattle.live_pages.specs.Updates.{AreShown, IsShown}
 use Rattle.live_pages.specs.Views.{page_of, template_of}
 use Rattle.live_pages.proofs.Shared.{pages_kept}
+use Rattle.live_core.proofs.Batched.{roomy_same}
 use Rattle.live_core.proofs.Commands.{ready_changed, stays_settled}
 use Rattle.live_core.proofs.Mounts.{scratch_steps}
 use Rattle.live_core.proofs.machine.Machine.scratch.Goals as goal
@@ -41,7 +42,8 @@ returns-clause-leaves g c = λ hosts count all sound.
     record {
       ready = ready_changed m new c.requires.ready
           (record { names = refl; templates = refl; labels = record { signals = refl; owners = refl; pages = refl; watchers = refl } }) (stays_settled m.world new.world e.world) c.requires.ready.shown
-          (pages_kept m.world new.world m.pages.items m.pages.items refl (ap (λ t. t.pages.items) e.world.tables) (ap (λ t. t.pages_made) e.world.tables) c.requires.ready.pages);
+          (pages_kept m.world new.world m.pages.items m.pages.items refl (ap (λ t. t.pages.items) e.world.tables) (ap (λ t. t.pages_made) e.world.tables) c.requires.ready.pages)
+          (roomy_same m.world.signals.graph.state.signals new.world.signals.graph.state.signals m.batch e.world.signals c.requires.ready.batch);
       holds = λ h. record { agrees = e.agrees; ruled = subst (AreRuled count) (sym e.world.signals) h.ruled };
       weight = let a = e.worn in let b = ap (λ t. t.effects_made) e.world.tables in omega (arith, a, b);
     }

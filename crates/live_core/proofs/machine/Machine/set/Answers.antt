@@ -1,47 +1,29 @@
-use Rattle.std.proofs.Common.{◌∙◌, map, refl, ap, arith}
-use Rattle.sig_base.specs.Values.{scalar_value}
-use Rattle.signal_model.specs.Signals.{standing}
-use Rattle.effect_model.specs.Acts.{set_cell}
-use Rattle.effect_laws.proofs.SharedCounts.{all_keep_counts}
-use Rattle.sig_effect.proofs.SharedKinds.{all_keep_kinds}
-use Rattle.sig_effect.specs.Stores.{environment}
+use Rattle.std.proofs.Common.{◌∙◌, refl, ap}
+use Rattle.signal_model.specs.Signals.{is_there, standing}
 use Rattle.live_cmd.specs.declared.command.Command.TheVariants as command
 use Rattle.live_model.specs.declared.names.Kind.TheVariants as kind
 use Rattle.live_model.specs.declared.names.Need.TheVariants as need
-use Rattle.live_model.specs.Names.{number_of}
 use Rattle.live_core.specs.Consistency.{is_of_kind}
 use Rattle.live_core.proofs.Rightly.{kind_used, neither, refused_at, used_of, uses_fine}
-use Rattle.live_core.proofs.Commands.{acts_steps, cell_is, leaves_acted, stays_by, tells_by}
+use Rattle.live_core.proofs.Commands.{cell_is}
+use Rattle.live_core.proofs.Batched.{setting_as}
 use Rattle.live_core.proofs.machine.Machine.set.Goals as goal
 
-pub change_cell-requires-clause-kind : goal.change_cell-requires-clause-kind
-change_cell-requires-clause-kind g c =
+pub set_value-requires-clause-kind : goal.set_value-requires-clause-kind
+set_value-requires-clause-kind g c =
     let m = c.args.self.now in
     let fine = neither (refused_at m.world m.names c.args.name.now (need.Of kind.Cell)) _ (uses_fine m (command.Set c.args.name.now c.args.value) c.requires.fine) in
     let is = kind_used m.world _ m.names c.args.name.now kind.Cell refl c.requires.ready.meant (used_of m.world m.names c.args.name.now kind.Cell fine.0) in
     cell_is (standing m.world.signals.graph.state.signals c.of-cell.result)
     (ap (λ i. is_of_kind kind.Cell (standing m.world.signals.graph.state.signals i)) (c.of-cell.ensures ∙ c.number_of.ensures) ∙ is.1)
 
-pub change_cell-requires-clause-ruled : goal.change_cell-requires-clause-ruled
-change_cell-requires-clause-ruled g c = c.requires.ruled.each c.of-cell.result
+pub set_value-requires-clause-there : goal.set_value-requires-clause-there
+set_value-requires-clause-there g c =
+    let m = c.args.self.now in
+    let fine = neither (refused_at m.world m.names c.args.name.now (need.Of kind.Cell)) _ (uses_fine m (command.Set c.args.name.now c.args.value) c.requires.fine) in
+    let is = kind_used m.world _ m.names c.args.name.now kind.Cell refl c.requires.ready.meant (used_of m.world m.names c.args.name.now kind.Cell fine.0) in
+    ap (λ i. is_there (standing m.world.signals.graph.state.signals i)) (c.of-cell.ensures ∙ c.number_of.ensures) ∙ is.0.there
 
 pub returns-clause-steps : goal.returns-clause-steps
 returns-clause-steps g c = λ hosts asked sound.
-    let m = c.args.self.now in
-    let env = environment hosts (map (λ r. r.slack) c.args.rules.now) in
-    let t = c.in_ok-told.ensures in
-    acts_steps hosts asked asked m c.change_cell.new.self c.tell_all.new.labels c.new-events.result.items c.change_cell.new.events.items
-    (set_cell env c.of-cell.result c.into.result) (set_cell env (number_of m.names c.args.name.now) (scalar_value c.args.value)) c.in_ok-told.told.items
-    c.new-events.ensures.items (c.in_ok-_done.ensures.does hosts asked sound)
-    (λ i. set_cell env ((c.of-cell.ensures ∙ c.number_of.ensures) i) (c.into.ensures i))
-    (tells_by m.labels c.tell_all.new.labels c.change_cell.new.events.items _ c.in_ok-told.told.items c.deref.ensures.value t.entries t.labels t.names)
-
-pub returns-clause-leaves : goal.returns-clause-leaves
-returns-clause-leaves g c = λ hosts asked count sound.
-    let m = c.args.self.now in
-    let e = c.in_ok-_done.ensures in
-    let env = environment hosts (map (λ r. r.slack) c.args.rules.now) in
-    leaves_acted asked asked count m c.change_cell.new.self c.tell_all.new.labels c.requires.ready c.in_ok-told.ensures.names
-    (stays_by asked asked m.world c.change_cell.new.self (set_cell env c.of-cell.result c.into.result) (e.does hosts asked sound).whole
-    (all_keep_counts.setting env c.of-cell.result c.into.result) (all_keep_kinds.setting env c.of-cell.result c.into.result))
-    e.tables (λ a. e.agrees asked a) (λ r. e.rules count r) (let w = e.stays.worn in let t = ap (λ x. x.effects_made) e.tables in omega (arith, w, t))
+    setting_as hosts _ asked c.args.self.now _ _ _ _ _ _ (c.of-cell.ensures ∙ c.number_of.ensures) c.into.ensures (c.in_ok-told.ensures.steps hosts asked sound)

@@ -1,0 +1,33 @@
+use Rattle.std.proofs.Common.{map, refl, ap, arith}
+use Rattle.effect_model.specs.Acts.{set_cell}
+use Rattle.effect_laws.proofs.SharedCounts.{all_keep_counts}
+use Rattle.sig_effect.proofs.SharedKinds.{all_keep_kinds}
+use Rattle.sig_effect.specs.Stores.{environment}
+use Rattle.live_core.proofs.Batched.{alone_steps, roomy_none}
+use Rattle.live_core.proofs.Commands.{acts_steps, leaves_acted, stays_by, tells_by}
+use Rattle.live_core.proofs.machine.Machine.set_alone.Goals as goal
+
+pub change_cell-requires-clause-ruled : goal.change_cell-requires-clause-ruled
+change_cell-requires-clause-ruled g c = c.requires.ruled.each c.args.cell
+
+pub returns-clause-steps : goal.returns-clause-steps
+returns-clause-steps g c = λ hosts asked sound.
+    let m = c.args.self.now in
+    let env = environment hosts (map (λ r. r.slack) c.args.rules.now) in
+    let act = set_cell env c.args.cell c.args.value in
+    let t = c.in_ok-told.ensures in
+    alone_steps hosts env asked m _ c.in_ok-told.told.items c.args.cell c.args.value c.requires.alone
+    (acts_steps hosts asked asked m c.change_cell.new.self c.tell_all.new.labels c.new-events.result.items c.change_cell.new.events.items
+    act act c.in_ok-told.told.items c.new-events.ensures.items (c.in_ok-_done.ensures.does hosts asked sound) refl
+    (tells_by m.labels c.tell_all.new.labels c.change_cell.new.events.items _ c.in_ok-told.told.items c.deref.ensures.value t.entries t.labels t.names))
+
+pub returns-clause-leaves : goal.returns-clause-leaves
+returns-clause-leaves g c = λ hosts asked count sound.
+    let m = c.args.self.now in
+    let e = c.in_ok-_done.ensures in
+    let env = environment hosts (map (λ r. r.slack) c.args.rules.now) in
+    leaves_acted asked asked count m c.change_cell.new.self c.tell_all.new.labels c.requires.ready c.in_ok-told.ensures.names
+    (stays_by asked asked m.world c.change_cell.new.self (set_cell env c.args.cell c.args.value) (e.does hosts asked sound).whole
+    (all_keep_counts.setting env c.args.cell c.args.value) (all_keep_kinds.setting env c.args.cell c.args.value))
+    e.tables (roomy_none c.change_cell.new.self.signals.graph.state.signals m.batch c.requires.alone)
+    (λ a. e.agrees asked a) (λ r. e.rules count r) (let w = e.stays.worn in let t = ap (λ x. x.effects_made) e.tables in omega (arith, w, t))

@@ -1,0 +1,138 @@
+// Cells get values, and changes are collected while a batch is open: they are told together as it is committed, or given back as it is
+// aborted.
+ghost use Rattle.std.specs.Prelude.{◌≡◌, ◌<◌, ◌^◌, ℕ, true, false, List, None, IfErr, IfOk, OnOk, length, map};
+ghost use Rattle.signal_model.specs.Recipes.{Hosts};
+ghost use Rattle.signal_model.specs.Signals.{is_computed, is_there, standing};
+ghost use Rattle.sig_host.specs.Hosts.{HostPlace};
+ghost use Rattle.sig_effect.specs.declared.errors.EffectFault.TheVariants as fault;
+ghost use Rattle.sig_effect.specs.Stores.{environment, AreRuled};
+ghost use Rattle.effect_world.specs.Stores.{AreOwned, IsSound};
+ghost use Rattle.effect_world.specs.Costs.{weight};
+ghost use Rattle.live_cmd.specs.declared.command.Bare.TheVariants as bares;
+ghost use Rattle.live_cmd.specs.declared.command.Command.TheVariants as command;
+ghost use Rattle.live_model.specs.Machine.{done, setting};
+ghost use Rattle.live_core.specs.Consistency.{IsReady, Leaves, Steps};
+ghost use Rattle.live_core.specs.Views.{plain_of};
+
+use crate::machine::Machine;
+use live_entries::Entry;
+use live_labels::tell_all;
+use sig_base::{NodeId, Value};
+use sig_effect::EffectFault;
+use sig_host::EqualsRule;
+use sig_state::Batch;
+
+impl Machine {
+    // Gives a cell a value while no batch is open. What is notified is told.
+    fn set_alone(
+        &mut self,
+        rules: &[EqualsRule],
+        cell: NodeId,
+        value: Value,
+    ) -> Result<Vec<Entry>, EffectFault>
+        requires ready { IsReady self.old }
+        requires alone { self.old.batch ≡ None }
+        requires owned { AreOwned self.old.world }
+        requires weight { weight self.old.world < 2 ^ 125 }
+        requires ruled { AreRuled (length rules.now) self.old.world.signals.graph.state.signals }
+        requires kind { is_computed (standing self.old.world.signals.graph.state.signals cell) ≡ false }
+        requires there { is_there (standing self.old.world.signals.graph.state.signals cell) ≡ true }
+        ensures steps { (hosts : Hosts) (asked : List HostPlace) → IsSound hosts asked self.old.world →
+            IfOk result (λ es. Steps hosts asked self.new es.items
+            (setting (environment hosts (map (λ r. r.slack) rules.now)) (plain_of asked self.old) cell value)) }
+        ensures leaves { (hosts : Hosts) (asked : List HostPlace) (count : ℕ) → IsSound hosts asked self.old.world →
+            OnOk result (Leaves asked asked count self.old self.new) }
+        ensures memory { IfErr result (λ e. e ≡ fault.NoMemory) }
+    {
+        let mut events = Vec::new(self.alloc);
+        let _done = self.world.change_cell(rules, cell, value, &mut events)?;
+        let told = tell_all(self.alloc, &mut self.labels, &events)?;
+        Ok(told)
+    }
+
+    /// Gives a cell a value. What is notified is told; while a batch is open the cell joins it, and nobody is notified.
+    pub(crate) fn set_value(
+        &mut self,
+        rules: &[EqualsRule],
+        cell: NodeId,
+        value: Value,
+    ) -> Result<Vec<Entry>, EffectFault>
+        requires ready { IsReady self.old }
+        requires owned { AreOwned self.old.world }
+        requires weight { weight self.old.world < 2 ^ 125 }
+        requires ruled { AreRuled (length rules.now) self.old.world.signals.graph.state.signals }
+        requires kind { is_computed (standing self.old.world.signals.graph.state.signals cell) ≡ false }
+        requires there { is_there (standing self.old.world.signals.graph.state.signals cell) ≡ true }
+        ensures steps { (hosts : Hosts) (asked : List HostPlace) → IsSound hosts asked self.old.world →
+            IfOk result (λ es. Steps hosts asked self.new es.items
+            (setting (environment hosts (map (λ r. r.slack) rules.now)) (plain_of asked self.old) cell value)) }
+        ensures leaves { (hosts : Hosts) (asked : List HostPlace) (count : ℕ) → IsSound hosts asked self.old.world →
+            OnOk result (Leaves asked asked count self.old self.new) }
+        ensures memory { IfErr result (λ e. e ≡ fault.NoMemory) }
+    {
+        let Some(batch) = &mut self.batch else {
+            return self.set_alone(rules, cell, value);
+        };
+        let mut events = Vec::new(self.alloc);
+        let _done = self.world.set_in(batch, rules, cell, value, &mut events)?;
+        let told = tell_all(self.alloc, &mut self.labels, &events)?;
+        Ok(told)
+    }
+
+    /// Opens a batch, in which nothing was changed yet.
+    pub(crate) fn begin(&mut self) -> Result<Vec<Entry>, EffectFault>
+        requires ready { IsReady self.old }
+        ensures steps { (hosts : Hosts) (slacks : List ℕ) (asked : List HostPlace) → IsSound hosts asked self.old.world →
+            IfOk result (λ es. Steps hosts asked self.new es.items
+            (done (environment hosts slacks) (plain_of asked self.old) (command.Bare bares.Begin))) }
+        ensures leaves { (asked : List HostPlace) (count : ℕ) → OnOk result (Leaves asked asked count self.old self.new) }
+        ensures memory { IfErr result (λ e. e ≡ fault.NoMemory) }
+    {
+        let batch = Batch::begin(self.alloc, &self.world.signals.graph)?;
+        self.batch = Some(batch);
+        Ok(Vec::new(self.alloc))
+    }
+
+    /// Ends the batch that is open, and tells of its changes together: what they notify, each watcher once.
+    pub(crate) fn commit(&mut self, rules: &[EqualsRule]) -> Result<Vec<Entry>, EffectFault>
+        requires ready { IsReady self.old }
+        requires owned { AreOwned self.old.world }
+        requires ruled { AreRuled (length rules.now) self.old.world.signals.graph.state.signals }
+        ensures steps { (hosts : Hosts) (asked : List HostPlace) → IsSound hosts asked self.old.world →
+            IfOk result (λ es. Steps hosts asked self.new es.items
+            (done (environment hosts (map (λ r. r.slack) rules.now)) (plain_of asked self.old) (command.Bare bares.Commit))) }
+        ensures leaves { (hosts : Hosts) (asked : List HostPlace) (count : ℕ) → IsSound hosts asked self.old.world →
+            OnOk result (Leaves asked asked count self.old self.new) }
+        ensures memory { IfErr result (λ e. e ≡ fault.NoMemory) }
+    {
+        let Some(batch) = self.batch.take() else {
+            return Ok(Vec::new(self.alloc));
+        };
+        let mut events = Vec::new(self.alloc);
+        self.world.commit(&batch, rules, &mut events)?;
+        let told = tell_all(self.alloc, &mut self.labels, &events)?;
+        Ok(told)
+    }
+
+    /// Ends the batch that is open, and gives its cells the values back that they had as it began. Nobody is notified.
+    pub(crate) fn abort(&mut self) -> Result<Vec<Entry>, EffectFault>
+        requires ready { IsReady self.old }
+        requires owned { AreOwned self.old.world }
+        requires weight { weight self.old.world < 2 ^ 125 }
+        ensures steps { (hosts : Hosts) (slacks : List ℕ) (asked : List HostPlace) → IsSound hosts asked self.old.world →
+            IfOk result (λ es. Steps hosts asked self.new es.items
+            (done (environment hosts slacks) (plain_of asked self.old) (command.Bare bares.Abort))) }
+        ensures leaves { (hosts : Hosts) (asked : List HostPlace) (count : ℕ) → IsSound hosts asked self.old.world →
+            OnOk result (Leaves asked asked count self.old self.new) }
+        ensures memory { IfErr result (λ e. e ≡ fault.NoMemory) }
+    {
+        let Some(batch) = self.batch.take() else {
+            return Ok(Vec::new(self.alloc));
+        };
+        let _count = batch.len();
+        let mut events = Vec::new(self.alloc);
+        self.world.abort(batch, &mut events)?;
+        let told = tell_all(self.alloc, &mut self.labels, &events)?;
+        Ok(told)
+    }
+}
