@@ -14,9 +14,9 @@ use Rattle.effect_tables.specs.declared.tables.Tables.{Tables}
 use Rattle.effect_tables.specs.Consistency.{TablesAgree}
 use Rattle.effect_tables.specs.Placed.{at_rest, numbering, tree_of}
 use Rattle.effect_tables.proofs.Shared.{number_apart, placed_rests}
-use Rattle.effect_undoing.specs.Trees.{AreFormed}
-use Rattle.effect_undoing.specs.Teardowns.{EndsIn, Takes}
-use Rattle.effect_undoing.proofs.Shared.{formed_put, taken}
+use Rattle.effect_teardown.specs.Trees.{AreFormed}
+use Rattle.effect_teardown.specs.Teardowns.{EndsIn, Takes}
+use Rattle.effect_teardown.proofs.Shared.{formed_put, taken}
 use Rattle.sig_host.specs.Hosts.{HostPlace}
 use Rattle.sig_effect.specs.Stores.{environment}
 use Rattle.sig_effect.specs.Wholes as wholes

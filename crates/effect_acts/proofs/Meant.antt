@@ -13,8 +13,8 @@ use Rattle.effect_tables.specs.declared.links.Links.TheViews.{out-Links}
 use Rattle.effect_tables.specs.Scripts.{AreFew, IsFew}
 use Rattle.effect_tables.specs.Bodies as tables
 use Rattle.effect_tables.specs.Bodies.{rewired, signal_number, target_thing}
-use Rattle.effect_undoing.specs.Sites.{IsPart, parts_of, slots_in}
-use Rattle.effect_undoing.proofs.SharedSites.{part_parts}
+use Rattle.effect_teardown.specs.Sites.{IsPart, parts_of, slots_in}
+use Rattle.effect_teardown.proofs.SharedSites.{part_parts}
 use Rattle.effect_acts.specs.declared.changes.Change.{Change}
 use Rattle.effect_acts.specs.Rewires.{IsMeant}
 

@@ -8,7 +8,7 @@ use Rattle.effect_model.specs.Owners.{the_effect}
 use Rattle.effect_model.specs.Runs.{do_act, do_acts, next_child}
 use Rattle.effect_model.specs.Worlds as plain
 use Rattle.effect_model.specs.Worlds.{lives}
-use Rattle.effect_resting.proofs.Shared.{all_rest}
+use Rattle.effect_tables.proofs.Shared.{all_rest}
 use Rattle.sig_untrack.specs.declared.body.Act.{Act as AnAct}
 use Rattle.sig_untrack.specs.Links.{Parts, act_of, acts_of}
 use Rattle.effect_world.specs.Signals.{Scene}

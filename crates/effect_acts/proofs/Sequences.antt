@@ -5,8 +5,8 @@ use Rattle.effect_model.specs.Owners.{Thing, the_signal, the_owner, the_effect, 
 use Rattle.effect_model.specs.Worlds as plain
 use Rattle.sig_owner.specs.Tables.{is_holder}
 use Rattle.effect_tables.specs.Placed.{at_rest, tree_of}
-use Rattle.effect_undoing.specs.Trees.{CanStand, IsFormed}
-use Rattle.effect_resting.specs.Roots.{AreBare, Rests}
+use Rattle.effect_teardown.specs.Trees.{CanStand, IsFormed}
+use Rattle.effect_tables.specs.Roots.{AreBare, Rests}
 use Rattle.sig_effect.specs.Stores.{environment}
 use Rattle.effect_world.specs.Signals.{Scene}
 use Rattle.effect_world.specs.Stores.{Agrees, Does}

@@ -12,8 +12,8 @@ use Rattle.effect_tables.specs.Consistency.{TablesAgree, LeavesOut}
 use Rattle.effect_tables.specs.Owners.{number_in}
 use Rattle.effect_tables.specs.Placed.{at_rest, placed, tree_of}
 use Rattle.effect_tables.proofs.Shared.{placed_rests}
-use Rattle.effect_undoing.specs.Trees.{AreFormed}
-use Rattle.effect_undoing.proofs.Shared.{formed_put}
+use Rattle.effect_teardown.specs.Trees.{AreFormed}
+use Rattle.effect_teardown.proofs.Shared.{formed_put}
 use Rattle.sig_host.specs.Hosts.{HostPlace}
 use Rattle.sig_effect.specs.Stores.{environment}
 use Rattle.sig_effect.specs.Wholes as wholes

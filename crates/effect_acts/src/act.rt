@@ -6,7 +6,7 @@ ghost use Rattle.effect_model.specs.Bodies.{to_make, to_note};
 ghost use Rattle.effect_model.specs.Runs.{do_act};
 ghost use Rattle.sig_untrack.specs.Links.{act_of};
 ghost use Rattle.effect_tables.specs.Scripts.{IsFitting};
-ghost use Rattle.effect_undoing.specs.Sites.{IsPart, parts_of};
+ghost use Rattle.effect_teardown.specs.Sites.{IsPart, parts_of};
 ghost use Rattle.sig_host.specs.Hosts.{HostPlace};
 ghost use Rattle.sig_owner.specs.Tables.{cleanup_of};
 ghost use Rattle.sig_effect.specs.Stores.{AreRuled};

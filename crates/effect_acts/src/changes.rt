@@ -6,7 +6,7 @@ ghost use Rattle.sig_nodes.specs.Answers.{expression_of, HasFewSlots};
 ghost use Rattle.effect_tables.specs.Scripts.{AreFew, IsFew};
 ghost use Rattle.effect_tables.specs.Bodies as tables;
 ghost use Rattle.effect_tables.specs.Bodies.{rewired, signal_number, target_thing, thing_of};
-ghost use Rattle.effect_undoing.specs.Sites.{slots_in};
+ghost use Rattle.effect_teardown.specs.Sites.{slots_in};
 ghost use Rattle.effect_acts.specs.Rewires.{IsMeant};
 
 use effect_tables::{Slots, Target, Thing};

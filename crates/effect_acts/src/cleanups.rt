@@ -7,13 +7,13 @@ ghost use Rattle.sig_host.specs.Hosts.{HostPlace};
 ghost use Rattle.sig_owner.specs.Tables.{cleanup_of, live_at, thing_at};
 ghost use Rattle.sig_owner.specs.Trees.{owned_of};
 ghost use Rattle.sig_effect.specs.declared.errors.EffectFault.TheVariants as fault;
-ghost use Rattle.effect_undoing.specs.Rows.{is_tabled};
-ghost use Rattle.effect_undoing.specs.Teardowns.{EndsIn};
+ghost use Rattle.effect_teardown.specs.Rows.{is_tabled};
+ghost use Rattle.effect_teardown.specs.Teardowns.{EndsIn};
 ghost use Rattle.effect_world.specs.Signals.{any_hosts, scene};
 ghost use Rattle.effect_world.specs.Stores.{Agrees, AreOwned};
 ghost use Rattle.effect_acts.specs.Acts.{Acted};
 
-use effect_undoing::effect_row;
+use effect_teardown::effect_row;
 use effect_world::{Event, World};
 use sig_base::{EffectId, NoMemory, OwnerId};
 use sig_effect::EffectFault;

@@ -4,7 +4,7 @@ ghost use Rattle.std.specs.Rc.{rc_value};
 ghost use Rattle.effect_model.specs.Runs.{do_acts, next_child};
 ghost use Rattle.sig_untrack.specs.Links.{Parts, act_of, acts_of};
 ghost use Rattle.effect_tables.specs.Scripts.{IsFitting};
-ghost use Rattle.effect_undoing.specs.Sites.{IsPart, parts_of};
+ghost use Rattle.effect_teardown.specs.Sites.{IsPart, parts_of};
 ghost use Rattle.sig_effect.specs.Stores.{AreRuled};
 ghost use Rattle.effect_world.specs.Signals.{scene};
 ghost use Rattle.effect_world.specs.Stores.{Agrees};
@@ -13,7 +13,7 @@ ghost use Rattle.effect_acts.specs.Acts.{Acted};
 
 use crate::act::do_act;
 use effect_tables::{Links, Site};
-use effect_undoing::effect_row;
+use effect_teardown::effect_row;
 use effect_world::{Event, World};
 use sig_base::{EffectId, NoMemory};
 use sig_host::{EqualsRule, Lent, Shelf};

@@ -10,9 +10,9 @@ use Rattle.effect_tables.specs.Children.{adopted}
 use Rattle.effect_tables.specs.Consistency.{TablesAgree, LeavesOut}
 use Rattle.effect_tables.specs.Placed.{at_rest, listed, placed, tree_of, untouched}
 use Rattle.effect_tables.proofs.Shared.{listed_tree}
-use Rattle.effect_undoing.specs.Trees.{AreFormed, CanStand, IsFormed}
-use Rattle.effect_undoing.specs.Teardowns.{Takes}
-use Rattle.effect_undoing.proofs.Shared.{formed_listed, formed_put}
+use Rattle.effect_teardown.specs.Trees.{AreFormed, CanStand, IsFormed}
+use Rattle.effect_teardown.specs.Teardowns.{Takes}
+use Rattle.effect_teardown.proofs.Shared.{formed_listed, formed_put}
 use Rattle.effect_rows.specs.Trees.{IsReady}
 
 -- a tree with a thing more, which can stand alone

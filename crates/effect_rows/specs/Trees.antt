@@ -5,7 +5,7 @@ use Rattle.sig_owner.specs.Trees.{has_thing, owned_of}
 use Rattle.effect_tables.specs.declared.tables.Tables.{Tables}
 use Rattle.effect_tables.specs.Consistency.{TablesAgree}
 use Rattle.effect_tables.specs.Placed.{tree_of}
-use Rattle.effect_undoing.specs.Trees.{AreFormed}
+use Rattle.effect_teardown.specs.Trees.{AreFormed}
 
 -- The tables belong together, the tree is formed, and of the signals only the first so many stand in it.
 pub record IsReady (signals : ℕ) (t : Tables) : Type 0 where

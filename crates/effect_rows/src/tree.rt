@@ -4,7 +4,7 @@ ghost use Rattle.effect_rows.specs.Trees.{IsReady};
 
 use crate::scripts::idle;
 use effect_tables::{Tables, Thing, Undoing};
-use effect_undoing::{take_back, take_out};
+use effect_teardown::{take_back, take_out};
 use sig_base::{EffectId, NoMemory, NodeId, OwnerId, PageId};
 use std::alloc::Global;
 use std::test::Fail;

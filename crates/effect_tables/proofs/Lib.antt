@@ -11,4 +11,10 @@ mod Found
 mod Halves
 mod Kept
 mod Rest
+mod Trees
+mod Acts
+mod Turns
+mod Commands
+mod Visits
+mod TurnByTurn
 pub mod Shared

@@ -7,3 +7,6 @@ pub mod Placed
 pub mod Consistency
 pub mod Locations
 pub mod Children
+pub mod Roots
+pub mod Visits
+pub mod Turned

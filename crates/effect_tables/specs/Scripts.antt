@@ -4,8 +4,7 @@ use Rattle.std.specs.Rc.{rc_value}
 use Rattle.sig_base.specs.declared.limits.TheConstants.{MOST_SOURCES}
 use Rattle.effect_laws.specs.Asks.{AreFit}
 use Rattle.sig_untrack.specs.Links.{Parts, linked}
-use Rattle.sig_untrack.specs.Stated.{Stated, no_more, plain, when, effect, rewire}
-use Rattle.sig_untrack.specs.Stated.{Bodies, no_bodies, body, before, Rewiring, Source, formula, host}
+use Rattle.sig_untrack.specs.Stated.{Stated, no_more, plain, when, effect, rewire, Bodies, no_bodies, body, before, Rewiring, Source, formula, host}
 use Rattle.effect_tables.specs.declared.effect.Effect.{Effect}
 use Rattle.effect_tables.specs.declared.effect.Script.{Script}
 use Rattle.effect_tables.specs.declared.effect.TheConstants.{MOST_STATEMENTS}

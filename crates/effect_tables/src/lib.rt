@@ -1,9 +1,11 @@
 //! The tables of owners, effects and pages: what lives, and what stands under what. Owners have their own numbers, as effects and pages
 //! have.
+//! And the laws by which acts, runs, turns and flushes are put together: of worlds at rest, and of turns effect by effect.
 #![tactic(auto)]
 
 mod creation;
 mod effect;
+mod laws;
 mod links;
 mod looks;
 mod lookup;
@@ -14,6 +16,7 @@ mod tables;
 mod thing;
 
 pub use effect::{Effect, MOST_STATEMENTS, Script, Site};
+pub use laws::{resting_law, visiting_law};
 pub use links::{Links, Slots, Target};
 pub use lookup::{effect_at, effect_place};
 pub use noted::{forget_row, noted_thing};

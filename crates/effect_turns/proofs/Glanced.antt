@@ -8,7 +8,7 @@ use Rattle.effect_model.specs.Worlds as plain
 use Rattle.effect_model.specs.Worlds.{effect_at, settle}
 use Rattle.effect_tables.specs.declared.effect.Effect.{Effect}
 use Rattle.effect_tables.specs.Placed.{effect_of}
-use Rattle.effect_resting.specs.Visits.{glance, to_effect}
+use Rattle.effect_tables.specs.Visits.{glance, to_effect}
 use Rattle.sig_host.specs.Hosts.{HostPlace}
 use Rattle.sig_effect.specs.Stores.{environment}
 use Rattle.sig_computed.specs.declared.notes.RunNote.{RunNote}

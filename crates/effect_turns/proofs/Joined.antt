@@ -12,15 +12,14 @@ use Rattle.effect_model.specs.Owners.{the_effect}
 use Rattle.effect_model.specs.Runs.{do_result, keep_reads, run_body, run_effect}
 use Rattle.effect_model.specs.Worlds as plain
 use Rattle.effect_model.specs.Worlds.{HostState, unused, used, dropped, asked_by, asked_more, effect_at, settle}
-use Rattle.effect_resting.proofs.Shared.{all_rest, rests_then}
+use Rattle.effect_tables.proofs.Shared.{all_rest, rests_then, body_rests}
 use Rattle.effect_tables.specs.declared.effect.Effect.{Effect}
 use Rattle.effect_tables.specs.declared.effect.Script.{Script}
 use Rattle.effect_tables.specs.Bodies.{body_of, links_before, no_body, no_links}
-use Rattle.effect_undoing.specs.Sites.{body_at, links_at}
-use Rattle.effect_undoing.proofs.SharedSites.{none_seen, unlinked_seen}
+use Rattle.effect_teardown.specs.Sites.{body_at, links_at}
+use Rattle.effect_teardown.proofs.SharedSites.{none_seen, unlinked_seen}
 use Rattle.effect_tables.specs.Placed.{effect_of}
-use Rattle.effect_resting.specs.Visits.{rerun, to_effect}
-use Rattle.effect_resting.proofs.SharedVisits.{body_rests}
+use Rattle.effect_tables.specs.Visits.{rerun, to_effect}
 use Rattle.sig_effect.specs.Stores.{environment}
 use Rattle.sig_untrack.specs.declared.body.Body.{Body}
 use Rattle.sig_untrack.specs.Links.{Parts}

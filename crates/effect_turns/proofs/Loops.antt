@@ -7,12 +7,11 @@ use Rattle.effect_model.specs.Owners.{the_owner}
 use Rattle.effect_model.specs.Worlds.{effect_at, effect_numbers}
 use Rattle.effect_model.specs.Runs.{Flushed, after_last, flush, flush_within, is_effect_due, last_case, last_look, look, turn, value_now}
 use Rattle.effect_tables.specs.Placed.{tree_of}
-use Rattle.effect_resting.specs.Roots.{AreBare}
-use Rattle.effect_resting.proofs.Shared.{looks_rest, turns_rest}
+use Rattle.effect_tables.specs.Roots.{AreBare}
+use Rattle.effect_tables.proofs.Shared.{looks_rest, turns_rest, at_end, at_start, glance_more, glance_rests, glances_rest, goes_on, last_rests, look_found, look_passed, ran_more, rerun_rests, turn_ran, turn_world, turns_so_far_rest, visit_more, visit_rests, visits_rest}
 use Rattle.sig_effect.specs.Stores.{environment}
-use Rattle.effect_resting.specs.Visits.{glance, glance_all, is_due, rerun, some_ran, visit, visit_all}
-use Rattle.effect_resting.specs.Turned.{added, after_turns}
-use Rattle.effect_resting.proofs.SharedVisits.{at_end, at_start, glance_more, glance_rests, glances_rest, goes_on, last_rests, look_found, look_passed, ran_more, rerun_rests, turn_ran, turn_world, turns_so_far_rest, visit_more, visit_rests, visits_rest}
+use Rattle.effect_tables.specs.Visits.{glance, glance_all, is_due, rerun, some_ran, visit, visit_all}
+use Rattle.effect_tables.specs.Turned.{added, after_turns}
 use Rattle.effect_acts.proofs.SharedActs.{formed_bare}
 use Rattle.effect_world.specs.Signals.{Scene}
 use Rattle.effect_world.specs.Stores.{Agrees, IsSound}

@@ -4,7 +4,7 @@ use Rattle.signal_model.specs.Recipes.{Hosts}
 use Rattle.effect_model.specs.Owners.{the_owner}
 use Rattle.effect_model.specs.Worlds as plain
 use Rattle.effect_tables.specs.Placed.{tree_of}
-use Rattle.effect_resting.specs.Roots.{Rests}
+use Rattle.effect_tables.specs.Roots.{Rests}
 use Rattle.sig_effect.specs.Stores.{environment}
 use Rattle.effect_acts.proofs.SharedActs.{does_then, formed_bare}
 use Rattle.effect_world.specs.Signals.{Scene}

@@ -12,7 +12,7 @@ ghost use Rattle.effect_world.specs.Signals.{scene};
 ghost use Rattle.effect_world.specs.Stores.{IsSound};
 ghost use Rattle.effect_world.specs.Wholes.{whole_of};
 ghost use Rattle.effect_turns.specs.Runs.{CanRun, Runs, Spends};
-ghost use Rattle.effect_resting.specs.Visits.{glance, is_due};
+ghost use Rattle.effect_tables.specs.Visits.{glance, is_due};
 
 use crate::notes::tell_notes;
 use effect_tables::{Effect, effect_at};

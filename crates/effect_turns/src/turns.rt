@@ -9,7 +9,7 @@ ghost use Rattle.effect_world.specs.Signals.{scene};
 ghost use Rattle.effect_world.specs.Stores.{IsSound};
 ghost use Rattle.effect_world.specs.Wholes.{whole_of};
 ghost use Rattle.effect_turns.specs.Runs.{CanRun, Runs, Spends};
-ghost use Rattle.effect_resting.specs.Visits.{is_due, some_ran, visit, visit_all};
+ghost use Rattle.effect_tables.specs.Visits.{is_due, some_ran, visit, visit_all};
 
 use crate::glance::glance;
 use crate::run::run_effect;

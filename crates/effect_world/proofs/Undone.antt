@@ -21,9 +21,9 @@ use Rattle.effect_tables.specs.Consistency.{TablesAgree}
 use Rattle.effect_tables.specs.Bodies.{undoing_of, undoings_of}
 use Rattle.effect_tables.specs.Placed.{at_rest, effect_of, placed, tree_of}
 use Rattle.effect_tables.proofs.Shared.{left_off, listed_tree, right_off}
-use Rattle.effect_undoing.specs.Rows.{is_tabled}
-use Rattle.effect_undoing.specs.Trees.{AreFormed, OnEffects}
-use Rattle.effect_undoing.specs.Teardowns.{Takes, TakesBack, TakesOut}
+use Rattle.effect_teardown.specs.Rows.{is_tabled}
+use Rattle.effect_teardown.specs.Trees.{AreFormed, OnEffects}
+use Rattle.effect_teardown.specs.Teardowns.{Takes, TakesBack, TakesOut}
 use Rattle.sig_host.specs.Hosts.{HostPlace, most_asked}
 use Rattle.sig_nodes.specs.Answers.{kind_here}
 use Rattle.sig_nodes.specs.States.{is_cell}

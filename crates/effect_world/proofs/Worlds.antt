@@ -14,8 +14,8 @@ use Rattle.effect_tables.specs.Children.{adopted}
 use Rattle.effect_tables.specs.Consistency.{TablesAgree, LeavesOut}
 use Rattle.effect_tables.specs.Placed.{at_rest, listed, placed, tree_of}
 use Rattle.effect_tables.proofs.Shared.{listed_tree, placed_rests}
-use Rattle.effect_undoing.specs.Trees.{AreFormed, CanStand, IsFormed}
-use Rattle.effect_undoing.proofs.Shared.{formed_listed, formed_put}
+use Rattle.effect_teardown.specs.Trees.{AreFormed, CanStand, IsFormed}
+use Rattle.effect_teardown.proofs.Shared.{formed_listed, formed_put}
 use Rattle.sig_host.specs.Hosts.{HostPlace}
 use Rattle.sig_owner.specs.Trees.{has_thing, owned_of}
 use Rattle.sig_effect.specs.declared.events.Event.{Event as SignalEvent}

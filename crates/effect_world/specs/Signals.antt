@@ -8,7 +8,7 @@ use Rattle.effect_model.specs.Watchers.{at_rest}
 use Rattle.effect_tables.specs.declared.thing.Undoing.{Undoing}
 use Rattle.effect_tables.specs.declared.thing.Undoing.TheVariants as undoing
 use Rattle.effect_tables.specs.Bodies.{thing_of}
-use Rattle.effect_undoing.specs.Trees.{IsEffect}
+use Rattle.effect_teardown.specs.Trees.{IsEffect}
 use Rattle.sig_host.specs.Hosts.{HostPlace, most_asked}
 use Rattle.sig_watcher.specs.Tables.{is_alive}
 use Rattle.sig_effect.specs.Stores as below

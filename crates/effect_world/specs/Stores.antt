@@ -7,7 +7,7 @@ use Rattle.sig_host.specs.Hosts.{HostPlace}
 use Rattle.sig_owner.specs.Trees.{has_thing, owned_of}
 use Rattle.effect_tables.specs.Consistency.{TablesAgree}
 use Rattle.effect_tables.specs.Placed.{at_rest, tree_of}
-use Rattle.effect_undoing.specs.Trees.{AreFormed}
+use Rattle.effect_teardown.specs.Trees.{AreFormed}
 use Rattle.sig_effect.specs.Stores as below
 use Rattle.effect_world.specs.declared.events.Event.{Event}
 use Rattle.effect_world.specs.declared.world.World.{World}

@@ -74,7 +74,7 @@ impl World {
         if !self.is_standing(&thing) {
             return Err(EffectFault::Gone);
         }
-        match effect_undoing::take_out(&mut self.tables, thing) {
+        match effect_teardown::take_out(&mut self.tables, thing) {
             Ok(undoings) => {
                 let _count = undoings.len();
                 self.undo_all(shelf, rules, &undoings, events)?;
@@ -120,7 +120,7 @@ impl World {
         ensures err { IsErrOf result fault.Gone → self.new ≡ self.old }
         ensures untold { IsErrOf result fault.Gone → (shelf.new ≡ shelf.old) × (events.new ≡ events.old) }
     {
-        match effect_undoing::take_back(&mut self.tables, id) {
+        match effect_teardown::take_back(&mut self.tables, id) {
             Ok(undoings) => {
                 let _count = undoings.len();
                 self.undo_all(shelf, rules, &undoings, events)?;

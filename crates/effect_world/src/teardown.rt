@@ -7,7 +7,7 @@ ghost use Rattle.effect_model.specs.Owners.{cleans, ends, the_effect, the_signal
 ghost use Rattle.effect_model.specs.Worlds.{lives};
 ghost use Rattle.effect_tables.specs.Bodies as tables;
 ghost use Rattle.effect_tables.specs.Bodies.{undoing_of, undoings_of};
-ghost use Rattle.effect_undoing.specs.Trees.{IsEffect};
+ghost use Rattle.effect_teardown.specs.Trees.{IsEffect};
 ghost use Rattle.sig_host.specs.Hosts.{HostPlace};
 ghost use Rattle.sig_nodes.specs.States.{is_cell};
 ghost use Rattle.sig_owner.specs.Tables.{cleanup_of};

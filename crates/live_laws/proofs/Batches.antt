@@ -17,7 +17,7 @@ use Rattle.effect_model.specs.Worlds.{Environment, Event, Watcher, World, ran, s
 use Rattle.effect_model.specs.Acts.{are_alike, frozen_by, notified_by_any, with_quiet_value}
 use Rattle.effect_model.specs.Batches.{Batch, abort, commit, give_back, is_other, joined, joined_replaced, net_of, replaced_by, with_replacing}
 use Rattle.effect_tables.specs.Placed.{at_rest}
-use Rattle.effect_resting.proofs.Shared.{listed_twice}
+use Rattle.effect_tables.proofs.Shared.{listed_twice}
 use Rattle.live_cmd.specs.declared.command.Bare.TheVariants as bares
 use Rattle.live_cmd.specs.declared.command.Command.{Command}
 use Rattle.live_cmd.specs.declared.command.Command.TheVariants as command
@@ -30,14 +30,12 @@ use Rattle.live_entries.specs.declared.entry.Entry.TheVariants as entry
 use Rattle.live_entries.specs.declared.refusal.Refusal.{Refusal}
 use Rattle.live_entries.specs.declared.refusal.Refusal.TheVariants as refusal
 use Rattle.live_model.specs.Labels.{Labels, labels_after}
-use Rattle.live_model.specs.Machine.{Machine, Told, aborting, acted, batch_refusal, committing, done, entries_of, is_done_in_batch, is_ending, later_refusal}
-use Rattle.live_model.specs.Machine.{name_refusal, named, page_at, reached, refused, scratching, setting_by, step, template_at, template_reads}
+use Rattle.live_model.specs.Machine.{Machine, Told, aborting, acted, batch_refusal, committing, done, entries_of, is_done_in_batch, is_ending, later_refusal, name_refusal, named, page_at, reached, refused, scratching, setting_by, step, template_at, template_reads}
 use Rattle.live_model.specs.Names.{number_of}
 use Rattle.live_model.specs.Output.{entries_from, machine_after}
 use Rattle.live_model.specs.Pages.{Page, scratch_html}
 use Rattle.live_model.specs.Rows.{edited, rows_at}
-use Rattle.live_laws.specs.Batches.{AbortLaw, AreUntold, BatchChangeLaw, CollectsLaw, CommitLaw, GivenBackLaw, IsBegun, aborts, begins, is_end, is_notice}
-use Rattle.live_laws.specs.Batches.{rest_of, unsignalled}
+use Rattle.live_laws.specs.Batches.{AbortLaw, AreUntold, BatchChangeLaw, CollectsLaw, CommitLaw, GivenBackLaw, IsBegun, aborts, begins, is_end, is_notice, rest_of, unsignalled}
 use Rattle.live_laws.proofs.Entries.{IsUntold, none_untold, quiet_untold}
 use Rattle.live_laws.proofs.Refusals.{acted_as, acted_notices, set_done}
 

@@ -14,8 +14,7 @@ use Rattle.effect_model.specs.Worlds.{Environment, Event, refused, still_due, Wo
 use Rattle.effect_model.specs.Acts.{gone_refused, host_of, host_refused, or_refused, some_gone, with_use}
 use Rattle.effect_model.specs.Batches.{Batch, net_of}
 use Rattle.effect_model.specs.Commands as plain
-use Rattle.effect_model.specs.Commands.{after_command, command_refused, done_by, inside_refused, told_if}
-use Rattle.effect_model.specs.Commands.{with_new_computed, with_new_page}
+use Rattle.effect_model.specs.Commands.{after_command, command_refused, done_by, inside_refused, told_if, with_new_computed, with_new_page}
 use Rattle.effect_model.specs.Runs.{flush}
 use Rattle.effect_tables.specs.Placed.{at_rest}
 use Rattle.live_cmd.specs.declared.command.Bare.{Bare}
@@ -35,18 +34,13 @@ use Rattle.live_model.specs.declared.names.Need.TheVariants as need
 use Rattle.live_model.specs.Labels.{labels_after}
 use Rattle.live_model.specs.Links.{linked_body, owner_of, recipe_of}
 use Rattle.live_model.specs.Machine as machine
-use Rattle.live_model.specs.Machine.{Machine, Told, aborting, acted_on_pages, after_turns, batch_refusal, body_refusal, committing, updated_page, update_of, disposing, done}
-use Rattle.live_model.specs.Machine.{done_alone, empty}
-use Rattle.live_model.specs.Machine.{entries_of, is_trying, later_refusal, name_refusal, named, ops_told, over_limit, page_at, place_refusal, refusal_of, row_refusal}
-use Rattle.live_model.specs.Machine.{news_of, scratching, setting_by, settling, step, template_at, template_reads, unwatch_refusal, update_all}
+use Rattle.live_model.specs.Machine.{Machine, Told, aborting, acted_on_pages, after_turns, batch_refusal, body_refusal, committing, updated_page, update_of, disposing, done, done_alone, empty, entries_of, is_trying, later_refusal, name_refusal, named, ops_told, over_limit, page_at, place_refusal, refusal_of, row_refusal, news_of, scratching, setting_by, settling, step, template_at, template_reads, unwatch_refusal, update_all}
 use Rattle.live_model.specs.Pages.{Page, page_html, scratch_html}
 use Rattle.live_model.specs.Rows.{edited, no_rows, rows_at}
 use Rattle.live_model.specs.Names.{Use, first_refusal, meaning_of, number_of, refusal_at, thing_named}
 use Rattle.live_model.specs.Uses.{uses_of, uses_of_inside, uses_of_signals, uses_of_source}
 use Rattle.live_laws.specs.Rested.{AreAsked, AreEnds, rested_after, told_by}
-use Rattle.live_laws.specs.Events.{askings_of, EndsLaw, HappensLaw, HostsLaw, IsTold, deeds_after_turns, deeds_alone, deeds_of, deeds_of_abort, deeds_of_commit}
-use Rattle.live_laws.specs.Events.{deeds_of_item, deeds_of_pages, deeds_of_set, deeds_of_verb, disposals_of}
-use Rattle.live_laws.specs.Events.{event_told, happened, no_more}
+use Rattle.live_laws.specs.Events.{askings_of, EndsLaw, HappensLaw, HostsLaw, IsTold, deeds_after_turns, deeds_alone, deeds_of, deeds_of_abort, deeds_of_commit, deeds_of_item, deeds_of_pages, deeds_of_set, deeds_of_verb, disposals_of, event_told, happened, no_more}
 use Rattle.live_laws.proofs.Fine.{first_of_both, host_fine, inside_fine, none_by, none_of, signal_fine, signals_fine, source_fine, watcher_fine}
 use Rattle.live_laws.proofs.Rests.{quiet_after, rested_law, told_more}
 use Rattle.live_laws.proofs.Entries.{answer_only, answers_only, answers_then, news_answer, page_answers, told_only, told_then, untold}

@@ -4,3 +4,5 @@ mod Rests
 mod Events
 mod Refusals
 mod Batches
+mod Ends
+mod Cuts

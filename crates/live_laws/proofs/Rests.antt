@@ -7,8 +7,8 @@ use Rattle.effect_laws.specs.Rolls.{open_cleanups}
 use Rattle.effect_laws.specs.Ends.{AreInTime}
 use Rattle.effect_laws.proofs.Shared.{closing_law, end_law, host_law, silence_law}
 use Rattle.effect_tables.specs.Placed.{at_rest}
-use Rattle.effect_resting.specs.Roots.{AreBare, Rests}
-use Rattle.effect_resting.proofs.Shared.{commands_rest}
+use Rattle.effect_tables.specs.Roots.{AreBare, Rests}
+use Rattle.effect_tables.proofs.Shared.{commands_rest}
 use Rattle.live_laws.specs.Rested.{AreAsked, AreEnds, rested_after, RestedLaw, told_by}
 
 told_on : (env : Environment) (cs : List Command) (w : World) → AreBare w.owned → w.told ++ told_by env (at_rest w) cs ≡ (after_commands env w cs).told

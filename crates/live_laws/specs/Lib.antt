@@ -2,3 +2,5 @@ pub mod Events
 pub mod Refusals
 pub mod Batches
 pub mod Rested
+pub mod Cuts
+pub mod CutExamples

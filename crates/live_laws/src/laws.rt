@@ -1,7 +1,11 @@
 // Laws of scripts, for all environments and all items.
 ghost use Rattle.live_laws.specs.Batches.{AbortLaw, BatchChangeLaw, CollectsLaw, CommitLaw, GivenBackLaw};
+ghost use Rattle.live_laws.specs.Cuts.{EntriesLaw, ItemsLaw, OutputLaw, PartsLaw, WholeLaw};
 ghost use Rattle.live_laws.specs.Events.{EndsLaw, HappensLaw, HostsLaw};
 ghost use Rattle.live_laws.specs.Refusals.{ChangeLaw, RefusedFlushLaw, RefusedLaw};
+ghost use Rattle.live_words.specs.declared.jobs.Job.TheVariants as job;
+
+use live_cmd::{items_cut, one_list};
 
 /// Each item of a script does commands of the world, one after the other, and its entries tell what happens in them, in order, with
 /// answers between.
@@ -62,3 +66,29 @@ pub fn given_back_law()
 pub fn refused_flush_law()
     ensures { RefusedFlushLaw }
 {}
+
+/// A script may be cut behind a line, where each block that begins before ends before: its items are those of the first part and then those of
+/// the second, whose first line has the next number.
+pub fn script_cut()
+    ensures items { ItemsLaw }
+    ensures parts { PartsLaw }
+    ensures whole { WholeLaw }
+{
+    items_cut();
+    one_list();
+}
+
+/// What items tell begins with what the first of them tell, and the others go on from the machine that these came to.
+pub fn entries_cut()
+    ensures { EntriesLaw }
+{}
+
+/// What a script prints begins with what it prints if it is cut so, with and without a trace, and whatever host formulas answer and equality
+/// rules allow.
+pub fn output_cut()
+    ensures run { OutputLaw job.Run }
+    ensures trace { OutputLaw job.Trace }
+{
+    items_cut();
+    one_list();
+}

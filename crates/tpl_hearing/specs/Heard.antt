@@ -1,7 +1,7 @@
 -- What is heard of names while a page is brought up to date, and what hearing them leaves.
-use Rattle.std.specs.Prelude.{◌≡◌, ℕ, Bool, List, ◌++◌, [], nat_eq, Option, Some}
+use Rattle.std.specs.Prelude.{◌≡◌, ℕ, Bool, List, ◌++◌, [], Option, Some}
 use Rattle.std.specs.List.{AllByRecursion}
-use Rattle.std.specs.Map.{lookup, keys_of}
+use Rattle.std.specs.Map.{keys_of}
 use Rattle.sig_base.specs.Tables.{AreRows}
 use Rattle.sig_base.specs.declared.value.Value.TheVariants as value
 use Rattle.sig_base.specs.declared.value.Outcome.{Outcome}
@@ -15,18 +15,11 @@ use Rattle.signal_model.specs.Sound.{names_of}
 use Rattle.signal_model.specs.Kept.{AreKept}
 use Rattle.signal_laws.specs.ReadLaws.{firsts_after, IsReading}
 pub use Rattle.sig_computed.specs.Scenes.{scene, CanSettle, Scene, Settles}
-
--- names with their outcomes, in the order of hearing
-abbrev pub Outcomes : Type 0
-Outcomes = List (ℕ × Outcome)
+pub use Rattle.tpl_model.specs.KeptLines.Outcomes.{Outcomes, heard_of}
 
 -- names, and whether they have the outcomes of before
 abbrev pub Comparisons : Type 0
 Comparisons = List (ℕ × Bool)
-
--- the outcome that was heard of a name
-abbrev pub heard_of : Outcomes → ℕ → Option Outcome
-heard_of heard n = lookup (nat_eq n) heard
 
 -- each name that was read was heard, with the outcome that was read of it
 abbrev pub WereHeard : Outcomes → List Seen → Type 0

@@ -5,12 +5,12 @@ use Rattle.page_model.specs.Labels.{Kind}
 use Rattle.page_model.specs.Pages.{IsPage, NumberedPage, new_order, page_shape, renumbered, tree_of}
 use Rattle.page_model.specs.Replay.{Done, Op, replay}
 use Rattle.page_model.proofs.Shared.{page_after, shape_after}
-use Rattle.tpl_listening.specs.Changes.{Change}
-use Rattle.tpl_marks.specs.Addresses.{noted_from}
+use Rattle.tpl_model.specs.KeptLines.Changes.{Change}
+use Rattle.tpl_drawn.specs.Addresses.{noted_from}
 use Rattle.tpl_model.specs.Lines.{Block}
-use Rattle.tpl_shapes.specs.Addresses.{address_of}
-use Rattle.tpl_shapes.specs.declared.shown.Address.{Address}
-use Rattle.update_laws.specs.PageMemos.{PageMemo}
+use Rattle.tpl_model.specs.ShownNodes.Addresses.{address_of}
+use Rattle.tpl_model.specs.declared.shown.Address.{Address}
+use Rattle.tpl_model.specs.PageUpdates.PageMemos.{PageMemo}
 use Rattle.tpl_live.specs.Pages.{AreKnown, lines_shape, shown_in}
 use Rattle.tpl_live.specs.Plans.{Carries, Compares, LeadOn}
 use Rattle.tpl_live.proofs.Followed.{follows}

@@ -7,15 +7,13 @@ use Rattle.page_model.specs.Forest.{Forest, none, node, keys, kids, numbered, on
 use Rattle.page_model.specs.Labels.{Kind, Look, shown}
 use Rattle.page_model.specs.Pages.{IsPage, IsShape, NumberedPage, SameOrigin, ascending_by, new_order, newcomers, number_of, page_shape, place_in, renumbered, those, tree_of}
 use Rattle.page_model.proofs.Shared.{kept_number, on_kids, or_left, or_right, page_after, self_on, shape_after, unused_number}
-use Rattle.tpl_comparing.specs.Comparison.{known_of}
-use Rattle.tpl_found.proofs.Shared.{by_number_is, in_keys, listed_often, on_num, order_law}
-use Rattle.tpl_marks.specs.Marks.{Knows}
-use Rattle.tpl_marks.specs.Addresses.{if_there, noted_from}
-use Rattle.tpl_shapes.specs.Addresses.{address_of, same_address}
-use Rattle.tpl_shapes.specs.declared.shown.Address.{Address}
-use Rattle.tpl_shapes.proofs.Shared.{same_number}
-use Rattle.update_laws.specs.Differences.{often}
-use Rattle.update_laws.proofs.Shared.{in_both}
+use Rattle.tpl_drawn.specs.Comparison.{known_of}
+use Rattle.tpl_model.proofs.Shared.{by_number_is, in_keys, listed_often, on_num, order_law, same_number, in_both}
+use Rattle.tpl_drawn.specs.Marks.{Knows}
+use Rattle.tpl_drawn.specs.Addresses.{if_there, noted_from}
+use Rattle.tpl_model.specs.ShownNodes.Addresses.{address_of, same_address}
+use Rattle.tpl_model.specs.declared.shown.Address.{Address}
+use Rattle.tpl_model.specs.PageUpdates.Differences.{often}
 use Rattle.tpl_live.specs.Pages.{AreKnown}
 
 -- ---- of a page

@@ -12,7 +12,7 @@ use Rattle.page_tree.specs.Subs.{insertion, side_by_side, sub_tree}
 use Rattle.page_tree.proofs.Shared.{one_node}
 use Rattle.tpl_model.specs.Lines.{Block}
 use Rattle.tpl_scratch.specs.Pages.{Numbered, with_nodes}
-use Rattle.update_laws.specs.PageMemos.{PageMemo, nodes}
+use Rattle.tpl_model.specs.PageUpdates.PageMemos.{PageMemo, nodes}
 use Rattle.tpl_live.specs.Pages.{AreInserted, Leads, below_in, inserts, shown_in}
 
 -- the first of some nodes

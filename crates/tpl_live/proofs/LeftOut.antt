@@ -10,12 +10,12 @@ use Rattle.page_model.specs.Forest.{Forest, none, node, kids, on}
 use Rattle.page_model.specs.Labels.{Kind, Look}
 use Rattle.page_model.specs.Pages.{IsPage, NumberedPage, number_of, page_shape, tree_of}
 use Rattle.page_model.proofs.Shared.{or_left, or_right}
-use Rattle.tpl_comparing.specs.Comparison.{Each, IsTouched, known_of}
-use Rattle.tpl_found.specs.Marks.{Covers}
-use Rattle.tpl_found.proofs.Shared.{child_on, children_read, listed_often, often_listed}
-use Rattle.tpl_marks.specs.Marks.{children_in, next_of}
-use Rattle.tpl_shapes.specs.Shapes.{Marked, Next, comes, stays}
-use Rattle.update_laws.specs.Differences.{SameChildren, often}
+use Rattle.tpl_drawn.specs.Comparison.{Each, IsTouched, known_of}
+use Rattle.tpl_model.specs.NextPage.Marks.{Covers}
+use Rattle.tpl_model.proofs.Shared.{child_on, children_read, listed_often, often_listed}
+use Rattle.tpl_drawn.specs.Marks.{children_in, next_of}
+use Rattle.tpl_model.specs.ShownNodes.Shapes.{Marked, Next, comes, stays}
+use Rattle.tpl_model.specs.PageUpdates.Differences.{SameChildren, often}
 use Rattle.tpl_live.specs.Plans.{keeps_children, moving, numbers_of, numbers_staying}
 use Rattle.tpl_live.proofs.Orders.{Rising, address_in}
 

@@ -7,16 +7,16 @@ use Rattle.page_model.specs.Forest.{Forest, none, node, keys, kids, label_in, nu
 use Rattle.page_model.specs.Labels.{Root, Kind, Look, Sound, seen, shown}
 use Rattle.page_model.specs.Pages.{IsPage, IsShape, NumberedPage, SameOrigin, carried, new_order, newcomers, number_of, page_shape, renumbered, tree_of, with_numbers}
 use Rattle.page_model.proofs.Shared.{or_left, or_right, page_after, shape_after}
-use Rattle.tpl_found.specs.Arrivals.{coming}
-use Rattle.tpl_found.specs.Children.{next_children, old_children}
-use Rattle.tpl_found.proofs.Shared.{children_law, kids_num, serial_law}
-use Rattle.tpl_marks.specs.Marks.{children_in, next_of}
-use Rattle.tpl_marks.specs.Addresses.{coming_below, coming_in}
+use Rattle.tpl_model.specs.NextPage.Arrivals.{coming}
+use Rattle.tpl_model.specs.NextPage.Children.{next_children, old_children}
+use Rattle.tpl_model.proofs.Shared.{children_law, kids_num, serial_law}
+use Rattle.tpl_drawn.specs.Marks.{children_in, next_of}
+use Rattle.tpl_drawn.specs.Addresses.{coming_below, coming_in}
 use Rattle.tpl_model.specs.Sources.{in_order}
-use Rattle.tpl_moves.specs.Moves.{AllFit, AllSound, AreSound, Fits, arrivals, next_numbers, number_after, number_behind}
-use Rattle.tpl_shapes.specs.Shapes.{Marked, Next}
+use Rattle.tpl_patch.specs.Moves.{AllFit, AllSound, AreSound, Fits, arrivals, next_numbers, number_after, number_behind}
+use Rattle.tpl_model.specs.ShownNodes.Shapes.{Marked, Next}
 use Rattle.tpl_live.proofs.Mounted.{numbers_shown}
-use Rattle.tpl_comparing.specs.Comparison.{Each, IsTouched, known_of}
+use Rattle.tpl_drawn.specs.Comparison.{Each, IsTouched, known_of}
 
 ltb_of : (m n : ℕ) → m < n → ltb m n ≡ true
 ltb_of m n h = elim (cases_Bool (ltb m n)) [ inl e ↦ e | inr e ↦ (let u = ltb-false m n e in absurd (omega (arith, h, u))) ]

@@ -1,6 +1,5 @@
 -- A page that is mounted: what is made from scratch, with the numbers of document order.
-use Rattle.std.proofs.Common.{◌≡◌, ℕ, suc, ◌+◌, ◌≤◌, ◌==◌, Bool, true, false, refl, sym, ap, subst, ◌∙◌, arith, eqb-true, eq-eqb, inl, inr}
-use Rattle.std.proofs.Common.{List, [], ◌∷◌, ◌++◌, append-nil, length, length-append, None}
+use Rattle.std.proofs.Common.{◌≡◌, ℕ, suc, ◌+◌, ◌≤◌, ◌==◌, Bool, true, false, refl, sym, ap, subst, ◌∙◌, arith, eqb-true, eq-eqb, inl, inr, List, [], ◌∷◌, ◌++◌, append-nil, length, length-append, None}
 use Rattle.std.proofs.lemmas.Bool.{cases_Bool}
 use Rattle.sig_base.specs.declared.value.Outcome.{Outcome}
 use Rattle.page_model.specs.Edits.{child_edits, listed, put_at}
@@ -13,10 +12,9 @@ use Rattle.tpl_model.specs.Laws.{GivesRows, IsTemplate}
 use Rattle.tpl_model.specs.Lines.{Line, block_of}
 use Rattle.tpl_model.specs.Shapes.{shown_lines}
 use Rattle.tpl_model.specs.Sources.{evaluating, in_order}
-use Rattle.tpl_model.proofs.Shared.{scratch_law, shape_law}
-use Rattle.update_laws.specs.PageMemos.{PageMemo, nodes}
-use Rattle.update_laws.specs.Updates.{Keeps, Mounted, memo_on, memo_shape, next_page, shape_on}
-use Rattle.update_laws.proofs.Shared.{in_both, mount_law, shape_shown}
+use Rattle.tpl_model.proofs.Shared.{scratch_law, shape_law, in_both, mount_law, shape_shown}
+use Rattle.tpl_model.specs.PageUpdates.PageMemos.{PageMemo, nodes}
+use Rattle.tpl_model.specs.PageUpdates.Updates.{Keeps, Mounted, memo_on, memo_shape, next_page, shape_on}
 use Rattle.tpl_live.specs.Pages.{Standing, inserts, numbered_as, page_in, shape_in}
 
 -- ---- numbers

@@ -23,13 +23,12 @@ use Rattle.tpl_model.specs.Lines.{Block, Line, block_of}
 use Rattle.tpl_model.specs.Shapes.{shown_lines}
 use Rattle.tpl_model.specs.Sources.{evaluating, in_order, template_shape}
 use Rattle.tpl_model.specs.Updates.{updated}
-use Rattle.tpl_model.proofs.Shared.{rows_law, scratch_law, shape_law}
-use Rattle.update_laws.specs.PageMemos.{PageMemo, names, nodes}
-use Rattle.update_laws.specs.Updates.{memo_on, memo_shape, next_page, shape_on}
-use Rattle.update_laws.proofs.Shared.{shape_shown}
+use Rattle.tpl_model.proofs.Shared.{rows_law, scratch_law, shape_law, shape_shown}
+use Rattle.tpl_model.specs.PageUpdates.PageMemos.{PageMemo, names, nodes}
+use Rattle.tpl_model.specs.PageUpdates.Updates.{memo_on, memo_shape, next_page, shape_on}
 use Rattle.tpl_hearing.specs.Heard.{AreFromScratch, HaveRows, HasRows, Hears, Outcomes, Scene, heard_of}
 use Rattle.tpl_hearing.proofs.Shared.{heard_scratch}
-use Rattle.tpl_listening.specs.Memos.{Makes, lines_memo}
+use Rattle.tpl_model.specs.KeptLines.Memos.{Makes, lines_memo}
 use Rattle.tpl_live.specs.Pages.{AreInserted, AreKnown, Standing, Stands, below_in, inserts, lines_shape, outcome_in, page_in, shown_in}
 use Rattle.tpl_live.proofs.Numbered.{many_there}
 use Rattle.tpl_live.proofs.Mounted.{MountedAs, leads, mounted}

@@ -5,11 +5,11 @@ use Rattle.page_model.specs.Forest.{Forest, keys, kids, label_in, node, none, on
 use Rattle.page_model.specs.Labels.{Kind, Look, Root, shown}
 use Rattle.page_model.specs.Pages.{IsPage, NumberedPage, by_number, looks, page_shape, tree_of}
 use Rattle.page_model.proofs.Shared.{address_above}
-use Rattle.tpl_comparing.specs.Comparison.{known_of}
-use Rattle.tpl_marks.specs.Marks.{Knows}
-use Rattle.tpl_marks.specs.Addresses.{AreNumbersOf}
-use Rattle.tpl_shapes.specs.Addresses.{address_of}
-use Rattle.tpl_shapes.specs.declared.shown.Address.{Address}
+use Rattle.tpl_drawn.specs.Comparison.{known_of}
+use Rattle.tpl_drawn.specs.Marks.{Knows}
+use Rattle.tpl_drawn.specs.Addresses.{AreNumbersOf}
+use Rattle.tpl_model.specs.ShownNodes.Addresses.{address_of}
+use Rattle.tpl_model.specs.declared.shown.Address.{Address}
 
 -- ---- what is known
 

@@ -10,23 +10,23 @@ use Rattle.page_model.specs.Replay.{Done, Op, OpAttr, OpInsert, OpMove, OpRemove
 use Rattle.page_model.specs.Texts.{AreWritable, IsWritable}
 use Rattle.page_model.specs.Trees.{Brings}
 use Rattle.page_model.proofs.Shared.{edits_writable}
-use Rattle.tpl_comparing.specs.Comparison.{Compared, Each, IsRestated, IsTouched, known_of, restated_in, touched_in}
-use Rattle.tpl_listening.specs.Changes.{Change}
-use Rattle.tpl_found.specs.Children.{children_moved, next_children}
-use Rattle.tpl_found.specs.Operations.{children_done, look_done, operations}
-use Rattle.tpl_found.specs.Lookups.{gone_numbers}
-use Rattle.tpl_found.specs.Marks.{Sees}
-use Rattle.tpl_found.specs.KeptNodes.{told_on}
-use Rattle.tpl_found.specs.Updates.{is_kept}
-use Rattle.tpl_found.proofs.Shared.{kept_law, marks_law, operations_law}
-use Rattle.tpl_looks.specs.Attributes.{mark_told}
-use Rattle.tpl_marks.specs.Marks.{Knows}
-use Rattle.tpl_marks.specs.Addresses.{among, coming_below}
+use Rattle.tpl_drawn.specs.Comparison.{Compared, Each, IsRestated, IsTouched, known_of, restated_in, touched_in}
+use Rattle.tpl_model.specs.KeptLines.Changes.{Change}
+use Rattle.tpl_model.specs.NextPage.Children.{children_moved, next_children}
+use Rattle.tpl_model.specs.NextPage.Operations.{children_done, look_done, operations}
+use Rattle.tpl_model.specs.NextPage.Lookups.{gone_numbers}
+use Rattle.tpl_model.specs.NextPage.Marks.{Sees}
+use Rattle.tpl_model.specs.NextPage.KeptNodes.{told_on}
+use Rattle.tpl_model.specs.NextPage.Updates.{is_kept}
+use Rattle.tpl_model.proofs.Shared.{kept_law, marks_law, operations_law}
+use Rattle.tpl_patch.specs.Attributes.{mark_told}
+use Rattle.tpl_drawn.specs.Marks.{Knows}
+use Rattle.tpl_drawn.specs.Addresses.{among, coming_below}
 use Rattle.tpl_model.specs.Lines.{Block}
-use Rattle.tpl_moves.specs.Moves.{AllFit, AllSound, moved_between, number_behind}
-use Rattle.tpl_shapes.specs.Shapes.{Marked}
-use Rattle.tpl_shapes.specs.declared.shown.Address.{Address}
-use Rattle.update_laws.specs.PageMemos.{PageMemo}
+use Rattle.tpl_patch.specs.Moves.{AllFit, AllSound, moved_between, number_behind}
+use Rattle.tpl_model.specs.ShownNodes.Shapes.{Marked}
+use Rattle.tpl_model.specs.declared.shown.Address.{Address}
+use Rattle.tpl_model.specs.PageUpdates.PageMemos.{PageMemo}
 use Rattle.tpl_live.specs.Pages.{lines_shape}
 use Rattle.tpl_live.specs.Plans.{AllBring, Compares, LeadOn, children_staying, moving, numbers_of, ops_towards}
 use Rattle.tpl_live.proofs.Matched.{all_come, all_fit, all_sound, kids_next}

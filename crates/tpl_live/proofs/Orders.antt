@@ -10,12 +10,12 @@ use Rattle.page_model.specs.Forest.{Forest, keys, on, one}
 use Rattle.page_model.specs.Labels.{Look}
 use Rattle.page_model.specs.Pages.{IsPage, NumberedPage, ascending_by, into_by, number_of, page_shape}
 use Rattle.page_model.proofs.Shared.{or_left, or_right}
-use Rattle.tpl_found.specs.Marks.{Covers, Sees}
-use Rattle.tpl_found.proofs.Shared.{in_keys, listed_often, often_listed}
-use Rattle.tpl_shapes.specs.Shapes.{Marked}
+use Rattle.tpl_model.specs.NextPage.Marks.{Covers, Sees}
+use Rattle.tpl_model.proofs.Shared.{in_keys, listed_often, often_listed}
+use Rattle.tpl_model.specs.ShownNodes.Shapes.{Marked}
 use Rattle.tpl_live.specs.Plans.{numbers_of}
-use Rattle.update_laws.specs.Differences.{often}
-use Rattle.tpl_comparing.specs.Comparison.{Each, IsRestated, IsTouched}
+use Rattle.tpl_model.specs.PageUpdates.Differences.{often}
+use Rattle.tpl_drawn.specs.Comparison.{Each, IsRestated, IsTouched}
 
 -- ---- all of a list
 

@@ -23,10 +23,9 @@ use Rattle.tpl_model.specs.Lines.{Line}
 use Rattle.tpl_model.specs.Sources.{counted, is_there, known_page, needed, on_known, or_gone, template_asked}
 use Rattle.tpl_model.specs.Shapes.{shown_lines}
 use Rattle.tpl_model.specs.Updates.{updated}
-use Rattle.tpl_model.proofs.Shared.{rows_law, scratch_law}
-use Rattle.update_laws.specs.Updates.{reads_on}
-use Rattle.asking_laws.specs.Outcomes.{AreKnown}
-use Rattle.asking_laws.proofs.Shared.{inside_law, last_law, missing_is, next_law}
+use Rattle.tpl_model.proofs.Shared.{rows_law, scratch_law, inside_law, last_law, missing_is, next_law}
+use Rattle.tpl_model.specs.PageUpdates.Updates.{reads_on}
+use Rattle.tpl_model.specs.Needs.Outcomes.{AreKnown}
 use Rattle.tpl_hearing.specs.Heard.{AreFromScratch, HaveRows, Hears, Outcomes, Scene, Settles, heard_of}
 use Rattle.tpl_hearing.proofs.Shared.{heard_in, heard_scratch, nothing_heard, still_heard, then_heard}
 use Rattle.tpl_live.specs.Pages.{AreInserted}

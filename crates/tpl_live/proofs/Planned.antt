@@ -10,17 +10,17 @@ use Rattle.page_model.specs.Pages.{NumberedPage, new_order, renumbered, tree_of}
 use Rattle.page_model.specs.Replay.{Answer, Done, Op, OpRemove, Refused, do_op, replay, then_on}
 use Rattle.page_model.specs.Trees.{Brings}
 use Rattle.page_tree.specs.Queries.{IsDone}
-use Rattle.tpl_listening.specs.Changes.{Change}
-use Rattle.tpl_found.specs.Lookups.{gone_numbers}
-use Rattle.tpl_looks.specs.Attributes.{mark_told}
-use Rattle.tpl_marks.specs.Addresses.{coming_below}
+use Rattle.tpl_model.specs.KeptLines.Changes.{Change}
+use Rattle.tpl_model.specs.NextPage.Lookups.{gone_numbers}
+use Rattle.tpl_patch.specs.Attributes.{mark_told}
+use Rattle.tpl_drawn.specs.Addresses.{coming_below}
 use Rattle.tpl_model.specs.Lines.{Block}
-use Rattle.tpl_moves.specs.Moves.{AllFit, moved_between, number_behind}
-use Rattle.tpl_shapes.specs.Addresses.{address_of}
-use Rattle.tpl_shapes.specs.Shapes.{Marked, mark_of}
-use Rattle.tpl_shapes.specs.declared.mark.Mark.{Mark}
-use Rattle.tpl_shapes.specs.declared.shown.Address.{Address}
-use Rattle.update_laws.specs.PageMemos.{PageMemo}
+use Rattle.tpl_patch.specs.Moves.{AllFit, moved_between, number_behind}
+use Rattle.tpl_model.specs.ShownNodes.Addresses.{address_of}
+use Rattle.tpl_model.specs.ShownNodes.Shapes.{Marked, mark_of}
+use Rattle.tpl_model.specs.declared.mark.Mark.{Mark}
+use Rattle.tpl_model.specs.declared.shown.Address.{Address}
+use Rattle.tpl_model.specs.PageUpdates.PageMemos.{PageMemo}
 use Rattle.tpl_live.specs.Pages.{lines_shape}
 use Rattle.tpl_live.specs.Plans.{AllBring, Compares, LeadOn, children_staying, numbers_of, ops_towards}
 use Rattle.tpl_live.proofs.Inserted.{first_done}

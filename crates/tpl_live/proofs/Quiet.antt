@@ -11,11 +11,11 @@ use Rattle.page_model.specs.Pages.{IsPage, NumberedPage, by_number, carried, edi
 use Rattle.page_model.proofs.Shared.{edits_none, on_kids, on_tally}
 use Rattle.tpl_model.specs.Lines.{Line}
 use Rattle.tpl_model.specs.Sources.{template_shape}
-use Rattle.update_laws.specs.Updates.{memo_on, memo_shape}
-use Rattle.update_laws.proofs.Shared.{number_law, shape_shown}
+use Rattle.tpl_model.specs.PageUpdates.Updates.{memo_on, memo_shape}
+use Rattle.tpl_model.proofs.Shared.{number_law, shape_shown}
 use Rattle.tpl_hearing.specs.Heard.{AreFromScratch, Hears, Outcomes, Scene}
 use Rattle.tpl_hearing.proofs.Shared.{heard_scratch}
-use Rattle.tpl_listening.specs.Memos.{Makes, lines_memo}
+use Rattle.tpl_model.specs.KeptLines.Memos.{Makes, lines_memo}
 use Rattle.tpl_live.specs.Pages.{Standing, Stands, outcome_in, page_in}
 use Rattle.tpl_live.proofs.Numbered.{tally_looks}
 use Rattle.tpl_live.proofs.Renewed.{IsCarried}

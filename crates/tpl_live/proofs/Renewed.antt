@@ -12,28 +12,27 @@ use Rattle.page_model.specs.Forest.{Forest, node, none}
 use Rattle.page_model.specs.Labels.{Kind, Root, Sound}
 use Rattle.page_model.specs.Pages.{IsShape, SameOrigin, carried, edits_between, page_shape, renumbered, tree_of, with_numbers}
 use Rattle.page_model.specs.Replay.{Op}
-use Rattle.tpl_found.specs.Updates.{Updates}
-use Rattle.tpl_found.proofs.Shared.{update_law}
+use Rattle.tpl_model.specs.NextPage.Updates.{Updates}
+use Rattle.tpl_model.proofs.Shared.{update_law, origin_law, shape_law, shape_shown, source_law}
 use Rattle.tpl_hearing.specs.Heard.{AreFromScratch, Grows, HaveRows, Hears, Outcomes, Scene}
 use Rattle.tpl_hearing.specs.HeardAgain.{IsFront}
 use Rattle.tpl_hearing.proofs.Shared.{heard_scratch}
-use Rattle.tpl_listening.specs.Memos.{Agrees, Makes, lines_memo}
-use Rattle.tpl_listening.specs.Renewals.{WasMade, WasMadeIfRead}
-use Rattle.tpl_listening.proofs.Shared.{remade, stayed}
+use Rattle.tpl_model.specs.KeptLines.Memos.{Agrees, Makes, lines_memo}
+use Rattle.tpl_model.specs.KeptLines.Before.{WasMade}
+use Rattle.tpl_kept.specs.Renewals.{WasMadeIfRead}
+use Rattle.tpl_kept.proofs.Shared.{remade, stayed}
 use Rattle.tpl_model.specs.Lines.{Block, Line, block_of}
 use Rattle.tpl_model.specs.Shapes.{Here, row_here}
 use Rattle.tpl_model.specs.Sources.{evaluating, firsts}
 use Rattle.tpl_model.specs.Updates.{updated}
-use Rattle.tpl_model.proofs.Shared.{origin_law, shape_law}
-use Rattle.update_laws.specs.PageMemos.{PageMemo, hearing, memo_of, names, nodes}
-use Rattle.update_laws.specs.Updates.{Keeps, memo_on, memo_shape, shape_on}
-use Rattle.update_laws.proofs.Shared.{shape_shown, source_law}
+use Rattle.tpl_model.specs.PageUpdates.PageMemos.{PageMemo, hearing, memo_of, names, nodes}
+use Rattle.tpl_model.specs.PageUpdates.Updates.{Keeps, memo_on, memo_shape, shape_on}
 use Rattle.tpl_live.specs.Pages.{AreKnown, Standing, Stands, lines_shape, numbered_as, outcome_in, page_in}
 use Rattle.tpl_live.specs.Plans.{Carries, Compares}
-use Rattle.tpl_comparing.specs.Comparison.{Compared, known_of, restated_in, touched_in}
-use Rattle.tpl_comparing.proofs.SharedComparison.{compare_law}
-use Rattle.tpl_listening.specs.Changes.{Change, Tells}
-use Rattle.tpl_shapes.specs.declared.shown.Address.{Address}
+use Rattle.tpl_drawn.specs.Comparison.{Compared, known_of, restated_in, touched_in}
+use Rattle.tpl_drawn.proofs.Shared.{compare_law}
+use Rattle.tpl_model.specs.KeptLines.Changes.{Change, Tells}
+use Rattle.tpl_model.specs.declared.shown.Address.{Address}
 use Rattle.tpl_live.proofs.Mounted.{numbers_back}
 use Rattle.tpl_live.proofs.Mounts.{AreMade, are_made}
 use Rattle.tpl_live.proofs.Reheard.{all_same, heard_so, reads_in, same_up_to}

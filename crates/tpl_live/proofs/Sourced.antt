@@ -18,12 +18,12 @@ use Rattle.sig_computed.specs.Costs.{step_bound}
 use Rattle.sig_computed.specs.Notes.{IsSettling}
 use Rattle.tpl_model.specs.Lines.{Block, Line, block_of}
 use Rattle.tpl_model.specs.Sources.{evaluating, firsts, template_asked, template_shape}
-use Rattle.update_laws.specs.PageMemos.{PageMemo, names}
-use Rattle.update_laws.specs.Updates.{memo_on, memo_shape, reads_on, shape_on}
-use Rattle.update_laws.proofs.Shared.{shape_shown, source_law, shows}
+use Rattle.tpl_model.specs.PageUpdates.PageMemos.{PageMemo, names}
+use Rattle.tpl_model.specs.PageUpdates.Updates.{memo_on, memo_shape, reads_on, shape_on}
+use Rattle.tpl_model.proofs.Shared.{shape_shown, source_law, shows}
 use Rattle.tpl_hearing.specs.Heard.{AreFromScratch, Hears, Outcomes, Scene, Settles, heard_of}
 use Rattle.tpl_hearing.proofs.Shared.{heard_scratch}
-use Rattle.tpl_listening.specs.Memos.{Agrees, Makes, lines_memo}
+use Rattle.tpl_model.specs.KeptLines.Memos.{Agrees, Makes, lines_memo}
 use Rattle.tpl_live.specs.Pages.{outcome_in}
 
 -- ---- names in order

@@ -7,12 +7,11 @@ use Rattle.page_model.specs.Forest.{Forest, none, node, kids, on}
 use Rattle.page_model.specs.Labels.{Look}
 use Rattle.page_model.specs.Pages.{IsPage, IsShape, NumberedPage, SameOrigin, number_of, page_shape, those, tree_of}
 use Rattle.page_model.proofs.Shared.{or_left, or_right}
-use Rattle.tpl_comparing.specs.Comparison.{Each, IsTouched, known_of}
-use Rattle.tpl_found.specs.Lookups.{TellsKept, gone_numbers}
-use Rattle.tpl_found.proofs.Shared.{child_on, children_read, from_those, in_map, map_in, stays_child, to_those}
-use Rattle.tpl_marks.specs.Marks.{children_in, next_of}
-use Rattle.tpl_shapes.specs.Shapes.{Marked, Next}
-use Rattle.update_laws.proofs.Shared.{in_both}
+use Rattle.tpl_drawn.specs.Comparison.{Each, IsTouched, known_of}
+use Rattle.tpl_model.specs.NextPage.Lookups.{TellsKept, gone_numbers}
+use Rattle.tpl_model.proofs.Shared.{child_on, children_read, from_those, in_map, map_in, stays_child, to_those, in_both}
+use Rattle.tpl_drawn.specs.Marks.{children_in, next_of}
+use Rattle.tpl_model.specs.ShownNodes.Shapes.{Marked, Next}
 use Rattle.tpl_live.specs.Plans.{children_staying, numbers_staying}
 
 -- ---- lists

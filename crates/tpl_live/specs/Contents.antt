@@ -1,7 +1,7 @@
 -- What a page keeps, apart from where it lies in memory.
 use Rattle.tpl_blocks.specs.Blocks.{block}
-use Rattle.tpl_memos.specs.Kept.{kept}
-use Rattle.tpl_marks.specs.Addresses.{number_at}
+use Rattle.tpl_model.specs.KeptLines.Kept.{kept}
+use Rattle.tpl_drawn.specs.Addresses.{number_at}
 use Rattle.tpl_live.specs.Pages.{Standing}
 use Rattle.tpl_live.specs.declared.page.Page.{Page}
 

@@ -14,12 +14,12 @@ use Rattle.tpl_model.specs.Lines.{Block, Line, block_of}
 use Rattle.tpl_model.specs.Laws.{IsTemplate}
 use Rattle.tpl_model.specs.Sources.{firsts, in_order}
 use Rattle.tpl_hearing.specs.Heard.{Outcomes, heard_of}
-use Rattle.tpl_shapes.specs.declared.shown.Address.{Address}
-use Rattle.tpl_marks.specs.Marks.{Knows}
-use Rattle.tpl_marks.specs.Addresses.{among}
-use Rattle.update_laws.specs.PageMemos.{PageMemo, names, nodes}
-use Rattle.update_laws.specs.Updates.{Keeps}
-use Rattle.tpl_comparing.specs.Comparison.{known_of}
+use Rattle.tpl_model.specs.declared.shown.Address.{Address}
+use Rattle.tpl_drawn.specs.Marks.{Knows}
+use Rattle.tpl_drawn.specs.Addresses.{among}
+use Rattle.tpl_model.specs.PageUpdates.PageMemos.{PageMemo, names, nodes}
+use Rattle.tpl_model.specs.PageUpdates.Updates.{Keeps}
+use Rattle.tpl_drawn.specs.Comparison.{known_of}
 
 -- what is kept of a page: the lines and what their names stand for, what was heard of the names, what is kept of the lines, the next unused
 -- number, the tree, and the numbers that were noted of addresses

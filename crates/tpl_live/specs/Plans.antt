@@ -8,15 +8,15 @@ use Rattle.page_model.specs.Labels.{Kind, Look, Sound}
 use Rattle.page_model.specs.Pages.{IsPage, IsShape, NumberedPage, SameOrigin, edits_between, page_shape, renumbered, tree_of}
 use Rattle.page_model.specs.Replay.{Done, Op, OpRemove, replay}
 use Rattle.page_model.specs.Trees.{Brings}
-use Rattle.tpl_comparing.specs.Comparison.{Compared, known_of, restated_in, touched_in}
-use Rattle.tpl_listening.specs.Changes.{Change}
-use Rattle.tpl_found.specs.Lookups.{gone_numbers}
-use Rattle.tpl_looks.specs.Attributes.{mark_told}
+use Rattle.tpl_drawn.specs.Comparison.{Compared, known_of, restated_in, touched_in}
+use Rattle.tpl_model.specs.KeptLines.Changes.{Change}
+use Rattle.tpl_model.specs.NextPage.Lookups.{gone_numbers}
+use Rattle.tpl_patch.specs.Attributes.{mark_told}
 use Rattle.tpl_model.specs.Lines.{Block}
-use Rattle.tpl_moves.specs.Moves.{moved_between}
-use Rattle.tpl_shapes.specs.declared.shown.Address.{Address}
-use Rattle.tpl_shapes.specs.Shapes.{Marked, Next, comes, stays}
-use Rattle.update_laws.specs.PageMemos.{PageMemo}
+use Rattle.tpl_patch.specs.Moves.{moved_between}
+use Rattle.tpl_model.specs.declared.shown.Address.{Address}
+use Rattle.tpl_model.specs.ShownNodes.Shapes.{Marked, Next, comes, stays}
+use Rattle.tpl_model.specs.PageUpdates.PageMemos.{PageMemo}
 use Rattle.tpl_live.specs.Pages.{AreKnown, lines_shape}
 
 -- the numbers of marks

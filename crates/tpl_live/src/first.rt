@@ -7,7 +7,7 @@ ghost use Rattle.page_model.specs.Trees.{AreNodes};
 ghost use Rattle.page_ops.specs.Ops.{op_of};
 ghost use Rattle.page_tree.specs.Subs.{side_by_side, sub_tree};
 ghost use Rattle.tpl_blocks.specs.Blocks.{block};
-ghost use Rattle.tpl_memos.specs.Kept.{kept};
+ghost use Rattle.tpl_model.specs.KeptLines.Kept.{kept};
 ghost use Rattle.tpl_live.specs.Pages.{below_in, inserts, shown_in, AreInserted, Leads};
 
 use page_ops::Op;
@@ -15,8 +15,8 @@ use page_tree::{Sub, Tree};
 use sig_base::NoMemory;
 use std::alloc::Global;
 use tpl_blocks::Block;
-use tpl_memos::PageMemo;
-use tpl_nodes::put_nodes;
+use tpl_drawn::put_nodes;
+use tpl_model::PageMemo;
 use tpl_scratch::Nodes;
 
 /// A first tree, the operations that lead to it, and the next unused number.

@@ -25,11 +25,10 @@ use sig_computed::RunNote;
 use sig_host::{Lent, Shelf};
 use sig_nodes::Graph;
 use tpl_blocks::{Block, block_of};
+use tpl_drawn::PageNodes;
 use tpl_hearing::{Outcomes, Rehearing, hear_all_again};
-use tpl_making::make;
-use tpl_marks::PageNodes;
-use tpl_memos::PageMemo;
-use tpl_renewing::{Renewed, renew};
+use tpl_kept::{Renewed, make, renew};
+use tpl_model::PageMemo;
 use tpl_syntax::Template;
 
 /// A page that is made from a template and stands on signals: what it keeps of the template's lines and of the names that it read, and its nodes.

@@ -8,12 +8,12 @@ ghost use Rattle.page_model.specs.Trees.{Brings};
 ghost use Rattle.page_ops.specs.Ops.{op_of};
 ghost use Rattle.page_tree.specs.Queries.{IsDone};
 ghost use Rattle.tpl_blocks.specs.Blocks.{block};
-ghost use Rattle.tpl_listening.specs.Changes.{changed};
-ghost use Rattle.tpl_marks.specs.Addresses.{coming_below, noted_from, number_at};
-ghost use Rattle.tpl_memos.specs.Kept.{kept};
-ghost use Rattle.tpl_moves.specs.Moves.{AllFit, AllSound, number_behind};
-ghost use Rattle.tpl_shapes.specs.Addresses.{address_of};
-ghost use Rattle.tpl_shapes.specs.Shapes.{child_of, mark_of};
+ghost use Rattle.tpl_model.specs.KeptLines.Changes.{changed};
+ghost use Rattle.tpl_drawn.specs.Addresses.{coming_below, noted_from, number_at};
+ghost use Rattle.tpl_model.specs.KeptLines.Kept.{kept};
+ghost use Rattle.tpl_patch.specs.Moves.{AllFit, AllSound, number_behind};
+ghost use Rattle.tpl_model.specs.ShownNodes.Addresses.{address_of};
+ghost use Rattle.tpl_model.specs.ShownNodes.Shapes.{child_of, mark_of};
 ghost use Rattle.tpl_live.specs.Pages.{lines_shape, shown_in, AreKnown};
 ghost use Rattle.tpl_live.specs.Plans.{children_staying, number_staying, keeps_children, moving, numbers_of as numbers_in, numbers_staying, ops_towards, AllBring, CanCompare, Carries, Compares, LeadOn};
 
@@ -22,16 +22,10 @@ use page_tree::Tree;
 use sig_base::NoMemory;
 use std::alloc::Global;
 use tpl_blocks::Block;
-use tpl_comparing::{Compared, compared};
-use tpl_listening::Change;
-use tpl_looks::put_looks;
-use tpl_marks::{Numbers, PageNodes, put_addresses, put_coming};
-use tpl_memos::PageMemo;
-use tpl_moves::put_moves;
-use tpl_removals::{NumberSet, removals};
-use tpl_renewing::Renewed;
-use tpl_shapes::{Address, Child, Mark};
-use tpl_shown::put_shown;
+use tpl_drawn::{Compared, Numbers, PageNodes, compared, put_addresses, put_coming, put_shown};
+use tpl_kept::Renewed;
+use tpl_model::{Address, Change, Child, Mark, PageMemo};
+use tpl_patch::{NumberSet, put_looks, put_moves, removals};
 
 /// The numbers of a page's nodes below the root, by their addresses, from what is kept of its lines and from its tree.
 ///

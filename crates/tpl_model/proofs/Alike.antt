@@ -12,11 +12,8 @@ use Rattle.sig_base.specs.declared.scalar.Scalar.TheVariants as scalar
 use Rattle.sig_base.specs.declared.value.Known.{Known}
 use Rattle.sig_formula.specs.declared.evaluate.FormulaStep.TheVariants.{End}
 use Rattle.sig_formula.specs.declared.formula.RowRef.{RowRef}
-use Rattle.sig_formula.specs.Evaluation.{chosen, count_outcome, decided, field_outcome, formula_step, keep_step, key_outcome, negated}
-use Rattle.sig_formula.specs.Evaluation.{operated}
-use Rattle.sig_formula.specs.Evaluation.{plain_step, present, sum_step, unless_decided, value_under, with_rows, with_value}
-use Rattle.sig_formula.specs.Trees.{Tree, literal, slot, row_field, row_key, negation, binary, choice, count_of, sum_of, rows_where}
-use Rattle.sig_formula.specs.Trees.{untracked}
+use Rattle.sig_formula.specs.Evaluation.{chosen, count_outcome, decided, field_outcome, formula_step, keep_step, key_outcome, negated, operated, plain_step, present, sum_step, unless_decided, value_under, with_rows, with_value}
+use Rattle.sig_formula.specs.Trees.{Tree, literal, slot, row_field, row_key, negation, binary, choice, count_of, sum_of, rows_where, untracked}
 use Rattle.tpl_model.specs.Sources.{same_here, same_place}
 use Rattle.tpl_model.specs.Laws.{SameRowsLaw}
 

@@ -1,6 +1,5 @@
 -- What a template shows rests on the outcomes of the names that it reads, and on no others.
-use Rattle.std.proofs.Common.{◌≡◌, ℕ, zero, suc, ◌==◌, Bool, true, false, ◌||◌, ◌&&◌, refl, sym, ap, ◌∙◌, eq-eqb, inl, inr, List, [], ◌∷◌}
-use Rattle.std.proofs.Common.{◌++◌, map, length, Option, Some, None}
+use Rattle.std.proofs.Common.{◌≡◌, ℕ, zero, suc, ◌==◌, Bool, true, false, ◌||◌, ◌&&◌, refl, sym, ap, ◌∙◌, eq-eqb, inl, inr, List, [], ◌∷◌, ◌++◌, map, length, Option, Some, None}
 use Rattle.std.specs.Prelude.{slice_index}
 use Rattle.std.proofs.lemmas.Bool.{cases_Bool, false≢true}
 use Rattle.sig_base.specs.Tables.{Table}
@@ -22,8 +21,7 @@ use Rattle.page_model.specs.Addresses.{address}
 use Rattle.page_model.specs.Forest.{Forest, none, node}
 use Rattle.page_model.specs.Labels.{Text, Element, Look}
 use Rattle.tpl_model.specs.Lines.{Block, empty, text, tag, choice, each, attempt, block_of}
-use Rattle.tpl_model.specs.Shapes.{Here, key_here, row_here, Showing, is_fault, formula_shown, then_shown, within, chosen, rows_from, each_row}
-use Rattle.tpl_model.specs.Shapes.{attempted, node_text, attribute_value, attributes_of, attributes_told, shown_block}
+use Rattle.tpl_model.specs.Shapes.{Here, key_here, row_here, Showing, is_fault, formula_shown, then_shown, within, chosen, rows_from, each_row, attempted, node_text, attribute_value, attributes_of, attributes_told, shown_block}
 use Rattle.tpl_model.specs.Sources.{evaluating}
 use Rattle.tpl_model.specs.Laws.{AgreeLaw}
 

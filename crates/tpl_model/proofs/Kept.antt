@@ -13,8 +13,7 @@ use Rattle.page_model.specs.Addresses.{address}
 use Rattle.page_model.specs.Forest.{Forest, none, node, after}
 use Rattle.page_model.specs.Labels.{Text, Element, Look, Distinct, GoodLabel, GoodNames, named}
 use Rattle.tpl_model.specs.Lines.{Block, empty, text, tag, choice, each, attempt}
-use Rattle.tpl_model.specs.Shapes.{Evaluating, Here, key_here, row_here, Showing, formula_shown, then_shown, within, chosen, rows_from, each_row}
-use Rattle.tpl_model.specs.Shapes.{attempted, attributes_of, attributes_told, node_text, shown_block}
+use Rattle.tpl_model.specs.Shapes.{Evaluating, Here, key_here, row_here, Showing, formula_shown, then_shown, within, chosen, rows_from, each_row, attempted, attributes_of, attributes_told, node_text, shown_block}
 use Rattle.tpl_model.specs.Laws.{Fits}
 
 -- a property of shown nodes, at a depth that is left, where lines stand in rows of these keys

@@ -10,4 +10,10 @@ mod Sized
 mod Rows
 mod Alike
 mod Dependence
+mod PageUpdates
+mod Needs
+mod NextPage
+mod ShownNodes
+pub mod MemoEquations
+pub mod ChangeEquations
 pub mod Shared

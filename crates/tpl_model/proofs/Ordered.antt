@@ -1,12 +1,10 @@
 -- A page from scratch has the numbers of a page that is mounted.
-use Rattle.std.proofs.Common.{◌≡◌, ℕ, suc, ◌+◌, ◌≤◌, ◌==◌, Bool, true, false, ◌||◌, refl, sym, ap, ◌∙◌, arith, eqb-true, eq-eqb, inl, inr}
-use Rattle.std.proofs.Common.{List, [], ◌∷◌, ◌++◌, append-nil, length, length-append}
+use Rattle.std.proofs.Common.{◌≡◌, ℕ, suc, ◌+◌, ◌≤◌, ◌==◌, Bool, true, false, ◌||◌, refl, sym, ap, ◌∙◌, arith, eqb-true, eq-eqb, inl, inr, List, [], ◌∷◌, ◌++◌, append-nil, length, length-append}
 use Rattle.std.proofs.lemmas.Bool.{cases_Bool, false≢true}
 use Rattle.page_model.specs.Edits.{listed}
 use Rattle.page_model.specs.Forest.{Forest, none, node, keys, numbered, on, one, tally}
 use Rattle.page_model.specs.Labels.{Root, Look, shown}
-use Rattle.page_model.specs.Pages.{IsShape, bare, by_number, carried, new_order, newcomers, page_shape, place_in, renumbered, tree_of}
-use Rattle.page_model.specs.Pages.{with_numbers}
+use Rattle.page_model.specs.Pages.{IsShape, bare, by_number, carried, new_order, newcomers, page_shape, place_in, renumbered, tree_of, with_numbers}
 use Rattle.page_model.proofs.Shared.{off_tally, on_tally}
 use Rattle.tpl_model.specs.Laws.{IsTemplate, GivesRows, ScratchLaw}
 use Rattle.tpl_model.specs.Shapes.{shape_of, shown_lines}

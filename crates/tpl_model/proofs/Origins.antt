@@ -1,6 +1,5 @@
 -- Two shapes of one template have one origin.
-use Rattle.std.proofs.Common.{◌≡◌, ℕ, zero, suc, ◌≤◌, ◌==◌, Bool, true, false, ◌⊎◌, refl, sym, subst, ◌∙◌, arith, eqb-true, eq-eqb, inl}
-use Rattle.std.proofs.Common.{inr, List, [], ◌∷◌, Option, Some, None}
+use Rattle.std.proofs.Common.{◌≡◌, ℕ, zero, suc, ◌≤◌, ◌==◌, Bool, true, false, ◌⊎◌, refl, sym, subst, ◌∙◌, arith, eqb-true, eq-eqb, inl, inr, List, [], ◌∷◌, Option, Some, None}
 use Rattle.std.proofs.lemmas.Bool.{cases_Bool, false≢true}
 use Rattle.sig_formula.specs.Trees.{Tree}
 use Rattle.sig_formula.specs.declared.formula.RowRef.{RowRef}
@@ -9,8 +8,7 @@ use Rattle.page_model.specs.Forest.{Forest, none, node, after, has, on, parent, 
 use Rattle.page_model.specs.Labels.{Root, Text, Element, Look, SameNames, Alike}
 use Rattle.page_model.proofs.Shared.{one_address, address_above}
 use Rattle.tpl_model.specs.Lines.{Block, empty, text, tag, choice, each, attempt, block_of}
-use Rattle.tpl_model.specs.Shapes.{Evaluating, Here, key_here, row_here, Showing, formula_shown, then_shown, within, chosen, each_row, attempted}
-use Rattle.tpl_model.specs.Shapes.{node_text, attributes_of, attributes_told, shown_block, shown_lines}
+use Rattle.tpl_model.specs.Shapes.{Evaluating, Here, key_here, row_here, Showing, formula_shown, then_shown, within, chosen, each_row, attempted, node_text, attributes_of, attributes_told, shown_block, shown_lines}
 use Rattle.tpl_model.specs.Laws.{Fits, OriginLaw}
 use Rattle.tpl_model.proofs.Kept.{then_has, attributes_none, inside_has, each_has, chosen_has, attempted_has}
 use Rattle.tpl_model.proofs.Single.{times, once_line}

@@ -1,6 +1,5 @@
 -- Where the rows of the names are rows, so are those that a line's formula comes to.
-use Rattle.std.proofs.Common.{ℕ, suc, ℤ, ◌+◌, Bool, true, false, subst, inl, inr, List, [], ◌∷◌, ◌++◌, ◌==◌, length}
-use Rattle.std.proofs.Common.{Option, Some, None}
+use Rattle.std.proofs.Common.{ℕ, suc, ℤ, ◌+◌, Bool, true, false, subst, inl, inr, List, [], ◌∷◌, ◌++◌, ◌==◌, length, Option, Some, None}
 use Rattle.std.specs.Option.{option_or}
 use Rattle.std.specs.Prelude.{nat_le, pos, ◌+ℤ◌, ◌-ℤ◌, ◌*ℤ◌, int_div, option_map, not}
 use Rattle.std.specs.Ordering.{int_eq, is_lt, is_le, is_gt, is_ge}
@@ -21,14 +20,8 @@ use Rattle.sig_formula.specs.declared.evaluate.FormulaStep.TheVariants.{Ask, End
 use Rattle.sig_formula.specs.declared.formula.BinOp.{BinOp}
 use Rattle.sig_formula.specs.declared.formula.BinOp.TheVariants as op
 use Rattle.sig_formula.specs.declared.formula.RowRef.{RowRef}
-use Rattle.sig_formula.specs.Trees.{Tree, literal, slot, row_field, row_key, negation, binary, choice, count_of, sum_of, rows_where}
-use Rattle.sig_formula.specs.Trees.{untracked}
-use Rattle.sig_formula.specs.Evaluation.{answer_of, calculated, calculation, chosen, compared, count_outcome, decided, equality}
-use Rattle.sig_formula.specs.Evaluation.{field_outcome}
-use Rattle.sig_formula.specs.Evaluation.{fits_i64, formula_step, joined_texts, kept_from, key_outcome, known_at, negated, number_outcome}
-use Rattle.sig_formula.specs.Evaluation.{operated, order}
-use Rattle.sig_formula.specs.Evaluation.{plain_step, present, row_at, served, slot_step, sum_from, text_outcome, truth, unless_decided}
-use Rattle.sig_formula.specs.Evaluation.{with_rows, with_truth, with_value}
+use Rattle.sig_formula.specs.Trees.{Tree, literal, slot, row_field, row_key, negation, binary, choice, count_of, sum_of, rows_where, untracked}
+use Rattle.sig_formula.specs.Evaluation.{answer_of, calculated, calculation, chosen, compared, count_outcome, decided, equality, field_outcome, fits_i64, formula_step, joined_texts, kept_from, key_outcome, known_at, negated, number_outcome, operated, order, plain_step, present, row_at, served, slot_step, sum_from, text_outcome, truth, unless_decided, with_rows, with_truth, with_value}
 use Rattle.signal_model.specs.Recipes.{Recipe, no_hosts, formula}
 use Rattle.signal_model.specs.Values.{unknown_slots}
 use Rattle.sig_host.specs.Loans.{AreGood, IsGood, IsGoodOutcome, IsGoodStep, IsLending}

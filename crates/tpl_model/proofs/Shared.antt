@@ -1,13 +1,43 @@
--- What crates above may cite of these proofs: laws of templates. All else in this folder is this crate's own.
+-- What crates above may cite of these proofs.
 
-pub use Rattle.tpl_model.proofs.Dependence.{formula_agree, shown_agree}
-pub use Rattle.tpl_model.proofs.Alike.{same_rows}
 pub use Rattle.tpl_model.proofs.Evaluated.{evaluating_law}
 pub use Rattle.tpl_model.proofs.Kept.{attributes_none}
-pub use Rattle.tpl_model.proofs.Made.{is_page, origin, replays}
+pub use Rattle.tpl_model.proofs.Made.{is_page, replays}
 pub use Rattle.tpl_model.proofs.Ordered.{scratch_law}
 pub use Rattle.tpl_model.proofs.Origins.{origin_law}
 pub use Rattle.tpl_model.proofs.Rows.{formula_lends, rows_law}
 pub use Rattle.tpl_model.proofs.Shaped.{shape_law}
-pub use Rattle.tpl_model.proofs.Single.{times, once_line}
 pub use Rattle.tpl_model.proofs.Sized.{size_law}
+-- what is kept
+pub use Rattle.tpl_model.proofs.PageUpdates.Numbers.{read_law, number_law}
+pub use Rattle.tpl_model.proofs.PageUpdates.Mounts.{mount_law, source_law}
+pub use Rattle.tpl_model.proofs.PageUpdates.Memos.{shape_shown, shows}
+pub use Rattle.tpl_model.proofs.PageUpdates.Evaluations.{steady, begins}
+pub use Rattle.tpl_model.proofs.PageUpdates.Updates.{memo_agree, memo_like}
+-- lists of numbers
+pub use Rattle.tpl_model.proofs.PageUpdates.Trees.{in_both}
+-- the order of asking, at any place of a page
+pub use Rattle.tpl_model.proofs.PageUpdates.Names.{memo_upto}
+-- two trees side by side
+pub use Rattle.tpl_model.proofs.PageUpdates.Walk.{Single, within_whole, within_first, within_later, within_kids}
+pub use Rattle.tpl_model.proofs.PageUpdates.Walk.{Half, half_first, half_later, half_kids}
+pub use Rattle.tpl_model.proofs.Needs.Needed.{inside_law, last_law, missing_is, next_law}
+pub use Rattle.tpl_model.proofs.NextPage.Marks.{marks_law, whole_law}
+pub use Rattle.tpl_model.proofs.NextPage.Marks.{covers_none, covers_after, covers_node, covers_skip}
+-- what is read by number, and what is told
+pub use Rattle.tpl_model.proofs.NextPage.Lookups.{reads_law, removals_law, kept_law}
+pub use Rattle.tpl_model.proofs.NextPage.KeptNodes.{told_law}
+-- what comes, and the children that stay
+pub use Rattle.tpl_model.proofs.NextPage.Arrivals.{order_law, serial_law}
+pub use Rattle.tpl_model.proofs.NextPage.Children.{children_law, stays_child}
+-- the operations, as they are read off
+pub use Rattle.tpl_model.proofs.NextPage.Edits.{operations_law}
+pub use Rattle.tpl_model.proofs.NextPage.Renewed.{update_law}
+-- lists of numbers
+pub use Rattle.tpl_model.proofs.NextPage.Facts.{often_both, listed_often, often_listed, from_those, to_those, same_order}
+pub use Rattle.tpl_model.proofs.NextPage.Lookups.{map_in, in_map, children_read}
+-- numbered trees
+pub use Rattle.tpl_model.proofs.NextPage.Facts.{in_keys, by_number_is, on_num, kids_num, child_on, New}
+pub use Rattle.tpl_model.proofs.NextPage.Arrivals.{all_new}
+pub use Rattle.tpl_model.proofs.ShownNodes.Codes.{same_number}
+pub use Rattle.tpl_model.proofs.ShownNodes.Equations.{tree_is, tree_shown}

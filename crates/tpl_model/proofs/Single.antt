@@ -1,6 +1,5 @@
 -- No address stands twice in what a template shows.
-use Rattle.std.proofs.Common.{◌≡◌, ℕ, zero, suc, ◌+◌, ◌<◌, ◌≤◌, ◌==◌, Bool, true, false, refl, sym, ◌∙◌, arith, eqb-true, eq-eqb, inl}
-use Rattle.std.proofs.Common.{inr, List, [], ◌∷◌, Option, Some, None}
+use Rattle.std.proofs.Common.{◌≡◌, ℕ, zero, suc, ◌+◌, ◌<◌, ◌≤◌, ◌==◌, Bool, true, false, refl, sym, ◌∙◌, arith, eqb-true, eq-eqb, inl, inr, List, [], ◌∷◌, Option, Some, None}
 use Rattle.std.specs.List.{AllByRecursion, IsDistinct}
 use Rattle.std.specs.Str.{bytes_eq}
 use Rattle.std.proofs.lemmas.Bool.{cases_Bool, false≢true}
@@ -14,10 +13,8 @@ use Rattle.page_model.specs.Addresses.{address}
 use Rattle.page_model.specs.Forest.{Forest, none, node, after, one, tally}
 use Rattle.page_model.specs.Labels.{Text, Element, Look}
 use Rattle.page_model.proofs.Shared.{one_address}
-use Rattle.tpl_model.specs.Lines.{Line, TextLine, TagLine, AttrLine, IfLine, ElseLine, EachLine, TryLine, EndLine, Block, empty, text}
-use Rattle.tpl_model.specs.Lines.{tag, choice, each, attempt, Part, with_line, parts_from, first_block, block_of}
-use Rattle.tpl_model.specs.Shapes.{Evaluating, Here, key_here, row_here, Showing, formula_shown, then_shown, within, chosen, rows_from, each_row}
-use Rattle.tpl_model.specs.Shapes.{attempted, node_text, attributes_of, attributes_told, shown_block}
+use Rattle.tpl_model.specs.Lines.{Line, TextLine, TagLine, AttrLine, IfLine, ElseLine, EachLine, TryLine, EndLine, Block, empty, text, tag, choice, each, attempt, Part, with_line, parts_from, first_block, block_of}
+use Rattle.tpl_model.specs.Shapes.{Evaluating, Here, key_here, row_here, Showing, formula_shown, then_shown, within, chosen, rows_from, each_row, attempted, node_text, attributes_of, attributes_told, shown_block}
 use Rattle.tpl_model.specs.Laws.{Fits, GivesRows}
 use Rattle.tpl_model.proofs.Kept.{Closed, then_has, attributes_none, inside_has, shown_has}
 

@@ -1,6 +1,5 @@
 -- How many nodes a template shows.
-use Rattle.std.proofs.Common.{◌≡◌, ℕ, zero, suc, ◌+◌, ◌*◌, ◌≤◌, Bool, true, false, refl, sym, arith, List, [], ◌∷◌, ◌++◌, length}
-use Rattle.std.proofs.Common.{length-append, Option, Some, None}
+use Rattle.std.proofs.Common.{◌≡◌, ℕ, zero, suc, ◌+◌, ◌*◌, ◌≤◌, Bool, true, false, refl, sym, arith, List, [], ◌∷◌, ◌++◌, length, length-append, Option, Some, None}
 use Rattle.std.proofs.lemmas.Bool.{false≢true}
 use Rattle.sig_base.specs.Tables.{AreRows, Table}
 use Rattle.sig_base.specs.declared.rows.Row.{Row}
@@ -10,10 +9,8 @@ use Rattle.sig_base.specs.declared.value.Outcome.TheVariants.{Good, Bad}
 use Rattle.page_model.specs.Addresses.{address}
 use Rattle.page_model.specs.Forest.{Forest, none, node, after, keys}
 use Rattle.page_model.specs.Labels.{Text, Element, Look}
-use Rattle.tpl_model.specs.Lines.{Line, TextLine, TagLine, AttrLine, IfLine, ElseLine, EachLine, TryLine, EndLine, Block, empty, text}
-use Rattle.tpl_model.specs.Lines.{tag, choice, each, attempt, Part, with_line, parts_from, first_block, block_of}
-use Rattle.tpl_model.specs.Shapes.{Evaluating, Here, key_here, row_here, Showing, formula_shown, then_shown, within, chosen, rows_from, each_row}
-use Rattle.tpl_model.specs.Shapes.{attempted, node_text, attributes_of, attributes_told, shown_block, shown_lines}
+use Rattle.tpl_model.specs.Lines.{Line, TextLine, TagLine, AttrLine, IfLine, ElseLine, EachLine, TryLine, EndLine, Block, empty, text, tag, choice, each, attempt, Part, with_line, parts_from, first_block, block_of}
+use Rattle.tpl_model.specs.Shapes.{Evaluating, Here, key_here, row_here, Showing, formula_shown, then_shown, within, chosen, rows_from, each_row, attempted, node_text, attributes_of, attributes_told, shown_block, shown_lines}
 use Rattle.tpl_model.specs.Laws.{Fits, GivesRows, SizeLaw}
 use Rattle.tpl_model.proofs.Kept.{then_has, attributes_none, inside_has, chosen_has, attempted_has}
 

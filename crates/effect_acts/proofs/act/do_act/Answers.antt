@@ -9,7 +9,7 @@ use Rattle.effect_model.specs.Runs.{do_act}
 use Rattle.effect_model.specs.Worlds.{logged, tell}
 use Rattle.sig_untrack.specs.Links.{act_of}
 use Rattle.effect_tables.specs.Bodies.{signal_number, target_thing, thing_of}
-use Rattle.effect_undoing.specs.Sites.{parts_of}
+use Rattle.effect_teardown.specs.Sites.{parts_of}
 use Rattle.effect_acts.specs.Rewires.{rewire_meant}
 use Rattle.effect_acts.proofs.Acts.{acted_as, acted_lent}
 use Rattle.effect_acts.proofs.Meant.{cell_meant, thing_meant}

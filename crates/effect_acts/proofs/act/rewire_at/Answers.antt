@@ -7,8 +7,8 @@ use Rattle.sig_nodes.specs.Answers.{expression_of}
 use Rattle.sig_nodes.specs.Computations.{recipe_made}
 use Rattle.effect_tables.specs.Scripts.{AreFew}
 use Rattle.effect_tables.specs.Bodies.{rewired, target_thing}
-use Rattle.effect_undoing.specs.Sites.{parts_of, slots_in}
-use Rattle.effect_undoing.proofs.SharedSites.{part_few}
+use Rattle.effect_teardown.specs.Sites.{parts_of, slots_in}
+use Rattle.effect_teardown.proofs.SharedSites.{part_few}
 use Rattle.effect_acts.specs.Rewires.{IsMeant, rewire_meant}
 use Rattle.effect_acts.proofs.Acts.{acted_lent}
 use Rattle.effect_acts.proofs.Meant.{rewire_is}

@@ -3,8 +3,8 @@ use Rattle.std.proofs.lemmas.Option.{slice_get-map}
 use Rattle.sig_untrack.specs.Stated.{rewiring, source}
 use Rattle.effect_tables.specs.declared.links.Slots.{Slots}
 use Rattle.effect_tables.specs.Scripts.{IsFew}
-use Rattle.effect_undoing.specs.Sites.{slots_in}
-use Rattle.effect_undoing.proofs.SharedSites.{get_some}
+use Rattle.effect_teardown.specs.Sites.{slots_in}
+use Rattle.effect_teardown.proofs.SharedSites.{get_some}
 use Rattle.effect_acts.proofs.Meant.{few_at}
 use Rattle.effect_acts.proofs.changes.change_at.Goals as goal
 

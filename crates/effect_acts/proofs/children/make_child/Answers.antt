@@ -4,9 +4,9 @@ use Rattle.effect_model.specs.Runs.{make_child}
 use Rattle.effect_model.specs.Worlds.{made_child}
 use Rattle.effect_tables.specs.Children.{with_child}
 use Rattle.effect_tables.specs.Bodies.{body_of}
-use Rattle.effect_undoing.specs.Sites.{parts_of}
-use Rattle.effect_undoing.proofs.SharedSites.{child_body}
-use Rattle.effect_undoing.proofs.Shared.{effect_found, effect_unlisted}
+use Rattle.effect_teardown.specs.Sites.{parts_of}
+use Rattle.effect_teardown.proofs.SharedSites.{child_body}
+use Rattle.effect_teardown.proofs.Shared.{effect_found, effect_unlisted}
 use Rattle.effect_world.specs.declared.events.Event.TheVariants as event
 use Rattle.effect_world.specs.Wholes.{whole_of}
 use Rattle.effect_acts.proofs.Tabled.{acted_tabled, owned_child}

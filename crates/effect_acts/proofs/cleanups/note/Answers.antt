@@ -1,5 +1,5 @@
 use Rattle.sig_owner.specs.Tables.{cleanup_of}
-use Rattle.effect_undoing.proofs.Shared.{effect_found, effect_unlisted}
+use Rattle.effect_teardown.proofs.Shared.{effect_found, effect_unlisted}
 use Rattle.effect_acts.proofs.Acts.{acted_noted}
 use Rattle.effect_acts.proofs.cleanups.note.Goals as goal
 

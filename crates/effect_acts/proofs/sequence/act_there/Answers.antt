@@ -3,8 +3,8 @@ use Rattle.std.specs.Rc.{rc_value}
 use Rattle.effect_model.specs.Owners.{the_effect}
 use Rattle.effect_model.specs.Runs.{do_act, do_acts}
 use Rattle.sig_untrack.specs.Links.{act_of}
-use Rattle.effect_undoing.specs.Sites.{parts_of}
-use Rattle.effect_undoing.proofs.Shared.{effect_listed, effect_unlisted}
+use Rattle.effect_teardown.specs.Sites.{parts_of}
+use Rattle.effect_teardown.proofs.Shared.{effect_listed, effect_unlisted}
 use Rattle.effect_world.specs.Wholes.{whole_of}
 use Rattle.effect_world.proofs.Shared.{gone_tabled, lives_by}
 use Rattle.effect_acts.proofs.Shared.{acted_at, acted_still}

@@ -2,7 +2,7 @@ use Rattle.std.proofs.Common.{[], refl, arith}
 use Rattle.std.specs.Rc.{rc_value}
 use Rattle.effect_model.specs.Runs.{do_acts}
 use Rattle.sig_untrack.specs.Links.{act_of}
-use Rattle.effect_undoing.specs.Sites.{parts_of}
+use Rattle.effect_teardown.specs.Sites.{parts_of}
 use Rattle.effect_acts.proofs.Shared.{acted_still}
 use Rattle.effect_acts.proofs.Ordered.{acted_all, acted_next, label_more, one_child}
 use Rattle.effect_acts.proofs.sequence.do_acts.Goals as goal

@@ -2,7 +2,7 @@ use Rattle.std.proofs.Common.{◌≡◌, ◌+◌, ◌≤◌, is_some, length, ma
 use Rattle.std.specs.Rc.{rc_value}
 use Rattle.effect_model.specs.Runs.{do_acts}
 use Rattle.sig_untrack.specs.Links.{acts_of}
-use Rattle.effect_undoing.specs.Sites.{parts_of}
+use Rattle.effect_teardown.specs.Sites.{parts_of}
 use Rattle.sig_host.specs.Hosts.{AnswersBy, IsCounted}
 use Rattle.effect_world.specs.Signals.{scene}
 use Rattle.effect_acts.specs.Acts.{Acted}

@@ -1,5 +1,5 @@
 use Rattle.std.proofs.Common.{refl, arith}
-use Rattle.effect_resting.specs.Turned.{after_turns}
+use Rattle.effect_tables.specs.Turned.{after_turns}
 use Rattle.effect_turns.proofs.Carried.{can_then, runs_still, spends_none, spends_then}
 use Rattle.effect_turns.proofs.Loops.{end_done, end_says, rest_done, rest_says, so_at_first, so_next, turn_next}
 use Rattle.effect_turns.proofs.flushes.flush.Goals as goal

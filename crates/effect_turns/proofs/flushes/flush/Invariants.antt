@@ -1,6 +1,6 @@
 use Rattle.std.proofs.Common.{◌-◌, ◌≤◌, is_some, map, option_map}
 use Rattle.sig_host.specs.Hosts.{AnswersBy, IsCounted}
-use Rattle.effect_resting.specs.Turned.{after_turns}
+use Rattle.effect_tables.specs.Turned.{after_turns}
 use Rattle.effect_world.specs.Signals.{scene}
 use Rattle.effect_turns.specs.Runs.{Runs, Spends}
 use Rattle.effect_turns.proofs.Loops.{IsSoFar}

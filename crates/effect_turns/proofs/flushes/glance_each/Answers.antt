@@ -1,5 +1,5 @@
 use Rattle.std.proofs.Common.{refl, []}
-use Rattle.effect_resting.specs.Visits.{glance_all}
+use Rattle.effect_tables.specs.Visits.{glance_all}
 use Rattle.effect_turns.proofs.Carried.{can_then, runs_still, spends_none, spends_then}
 use Rattle.effect_turns.proofs.Loops.{found_done, found_refused, glances_next, left_next, none_done, none_refused}
 use Rattle.effect_turns.proofs.flushes.glance_each.Goals as goal

@@ -1,6 +1,6 @@
 use Rattle.std.proofs.Common.{ℕ, List, is_some, map, option_map, take}
 use Rattle.sig_host.specs.Hosts.{AnswersBy, IsCounted}
-use Rattle.effect_resting.specs.Visits.{glance_all}
+use Rattle.effect_tables.specs.Visits.{glance_all}
 use Rattle.effect_world.specs.Signals.{scene}
 use Rattle.effect_turns.specs.Runs.{Runs, Spends}
 use Rattle.effect_turns.proofs.Loops.{IsLeft}

@@ -1,6 +1,6 @@
 use Rattle.std.proofs.Common.{[], ap, refl, sym, ◌∙◌}
 use Rattle.signal_model.specs.Values.{value_of}
-use Rattle.effect_resting.specs.Visits.{due_of}
+use Rattle.effect_tables.specs.Visits.{due_of}
 use Rattle.effect_world.specs.declared.world.World.{World}
 use Rattle.effect_turns.proofs.Glanced.{glance_none, glance_some}
 use Rattle.effect_turns.proofs.glance.glance.Goals as goal

@@ -1,8 +1,8 @@
 use Rattle.std.proofs.Common.{[], arith}
 use Rattle.std.specs.Rc.{rc_value}
-use Rattle.effect_undoing.specs.Sites.{parts_of}
+use Rattle.effect_teardown.specs.Sites.{parts_of}
 use Rattle.effect_tables.specs.declared.links.Links.TheViews.{out-Links}
-use Rattle.effect_undoing.proofs.SharedSites.{part_fits, part_seen}
+use Rattle.effect_teardown.proofs.SharedSites.{part_fits, part_seen}
 use Rattle.effect_turns.proofs.Carried.{low_after, run_spends}
 use Rattle.effect_turns.proofs.Counted.{any_parts}
 use Rattle.effect_turns.proofs.Joined.{run_joined}

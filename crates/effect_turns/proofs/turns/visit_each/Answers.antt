@@ -1,5 +1,5 @@
 use Rattle.std.proofs.Common.{refl, []}
-use Rattle.effect_resting.specs.Visits.{visit_all}
+use Rattle.effect_tables.specs.Visits.{visit_all}
 use Rattle.effect_turns.proofs.Carried.{can_then, runs_still, spends_none, spends_then}
 use Rattle.effect_turns.proofs.Loops.{ran_all, ran_next, visits_all, visits_next}
 use Rattle.effect_turns.proofs.turns.visit_each.Goals as goal

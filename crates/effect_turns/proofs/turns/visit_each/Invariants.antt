@@ -2,7 +2,7 @@ use Rattle.std.proofs.Common.{◌≡◌, is_some, map, option_map, take}
 use Rattle.signal_model.specs.Recipes.{Hosts}
 use Rattle.sig_effect.specs.Stores.{environment}
 use Rattle.sig_host.specs.Hosts.{AnswersBy, IsCounted}
-use Rattle.effect_resting.specs.Visits.{some_ran, visit_all}
+use Rattle.effect_tables.specs.Visits.{some_ran, visit_all}
 use Rattle.effect_world.specs.Signals.{scene}
 use Rattle.effect_world.specs.Stores.{IsSound}
 use Rattle.effect_world.specs.Wholes.{whole_of}

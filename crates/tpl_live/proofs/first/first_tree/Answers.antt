@@ -2,7 +2,7 @@ use Rattle.std.proofs.Common.{None, ap, subst, sym, ◌∙◌}
 use Rattle.page_model.specs.Forest.{Forest, node, none}
 use Rattle.page_model.specs.Labels.{Kind, Root}
 use Rattle.tpl_blocks.specs.Blocks.{block}
-use Rattle.tpl_memos.specs.Kept.{kept}
+use Rattle.tpl_model.specs.KeptLines.Kept.{kept}
 use Rattle.tpl_scratch.specs.Pages.{nodes_of}
 use Rattle.tpl_live.specs.Pages.{AreInserted, inserts}
 use Rattle.tpl_live.proofs.Inserted.{put_first}

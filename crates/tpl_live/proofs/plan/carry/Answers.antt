@@ -1,9 +1,9 @@
 use Rattle.std.proofs.Common.{map, arith}
 use Rattle.page_ops.specs.Ops.{op_of}
 use Rattle.tpl_blocks.specs.Blocks.{block}
-use Rattle.tpl_listening.specs.Changes.{changed}
-use Rattle.tpl_marks.specs.Addresses.{number_at}
-use Rattle.tpl_memos.specs.Kept.{kept}
+use Rattle.tpl_model.specs.KeptLines.Changes.{changed}
+use Rattle.tpl_drawn.specs.Addresses.{number_at}
+use Rattle.tpl_model.specs.KeptLines.Kept.{kept}
 use Rattle.tpl_live.specs.Pages.{lines_shape}
 use Rattle.tpl_live.proofs.Carried.{carried_on, many_now}
 use Rattle.tpl_live.proofs.Planned.{leads_there}

@@ -1,7 +1,7 @@
 use Rattle.std.proofs.Common.{◌++◌, [], ◌∷◌, map, take, arith, sym, ap, ◌∙◌}
 use Rattle.std.proofs.lemmas.List.{map-append, take_all}
-use Rattle.tpl_nodes.proofs.Shared.{mapped_more}
-use Rattle.tpl_shapes.specs.Shapes.{Marked, mark_of}
+use Rattle.tpl_drawn.proofs.Shared.{mapped_more}
+use Rattle.tpl_model.specs.ShownNodes.Shapes.{Marked, mark_of}
 use Rattle.tpl_live.specs.Plans.{numbers_of}
 use Rattle.tpl_live.proofs.plan.mark_numbers.Goals as goal
 

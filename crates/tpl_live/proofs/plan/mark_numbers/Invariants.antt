@@ -1,5 +1,5 @@
 use Rattle.std.proofs.Common.{◌≡◌, map, take}
-use Rattle.tpl_shapes.specs.Shapes.{mark_of}
+use Rattle.tpl_model.specs.ShownNodes.Shapes.{mark_of}
 use Rattle.tpl_live.specs.Plans.{numbers_of}
 use Rattle.tpl_live.proofs.plan.mark_numbers.Given as goal
 

@@ -1,5 +1,5 @@
 use Rattle.std.proofs.Common.{◌++◌, ◌∷◌, [], append-nil, if◌then◌else◌, map, sym, ap, ◌∙◌}
-use Rattle.tpl_shapes.specs.Shapes.{Marked, mark_of}
+use Rattle.tpl_model.specs.ShownNodes.Shapes.{Marked, mark_of}
 use Rattle.tpl_live.specs.Plans.{keeps_children, moving}
 use Rattle.tpl_live.proofs.LeftOut.{no_items}
 use Rattle.tpl_live.proofs.Planned.{one_more}

@@ -1,5 +1,5 @@
 use Rattle.std.proofs.Common.{◌≡◌, ◌++◌, map}
-use Rattle.tpl_shapes.specs.Shapes.{mark_of}
+use Rattle.tpl_model.specs.ShownNodes.Shapes.{mark_of}
 use Rattle.tpl_live.specs.Plans.{moving}
 use Rattle.tpl_live.proofs.plan.moving.Given as goal
 

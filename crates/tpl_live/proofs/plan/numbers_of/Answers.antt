@@ -1,10 +1,10 @@
 use Rattle.std.proofs.Common.{◌≡◌, ◌++◌, length, map, sym, ap, ◌∙◌, arith}
 use Rattle.page_model.specs.Forest.{after, keys}
 use Rattle.tpl_blocks.specs.Blocks.{block}
-use Rattle.tpl_marks.specs.Addresses.{number_at}
-use Rattle.tpl_memos.specs.Kept.{kept}
-use Rattle.tpl_shapes.specs.Addresses.{address_of}
-use Rattle.tpl_shapes.specs.Shapes.{all_shown}
+use Rattle.tpl_drawn.specs.Addresses.{number_at}
+use Rattle.tpl_model.specs.KeptLines.Kept.{kept}
+use Rattle.tpl_model.specs.ShownNodes.Addresses.{address_of}
+use Rattle.tpl_model.specs.ShownNodes.Shapes.{all_shown}
 use Rattle.tpl_live.specs.Pages.{shown_in}
 use Rattle.tpl_live.proofs.Followed.{known_numbers}
 use Rattle.tpl_live.proofs.Numbered.{known_so, many_mapped}

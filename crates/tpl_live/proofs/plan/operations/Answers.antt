@@ -1,7 +1,7 @@
 use Rattle.std.proofs.Common.{map}
 use Rattle.page_ops.specs.Ops.{op_of}
-use Rattle.tpl_removals.specs.Sets.{tells}
-use Rattle.tpl_shapes.specs.Shapes.{mark_of}
+use Rattle.tpl_patch.specs.Sets.{tells}
+use Rattle.tpl_model.specs.ShownNodes.Shapes.{mark_of}
 use Rattle.tpl_live.proofs.Planned.{planned}
 use Rattle.tpl_live.proofs.plan.operations.Goals as goal
 

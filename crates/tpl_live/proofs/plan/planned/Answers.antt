@@ -1,10 +1,10 @@
 use Rattle.std.proofs.Common.{map, ◌∙◌}
 use Rattle.page_ops.specs.Ops.{op_of}
 use Rattle.tpl_blocks.specs.Blocks.{block}
-use Rattle.tpl_listening.specs.Changes.{changed}
-use Rattle.tpl_marks.specs.Addresses.{number_at}
-use Rattle.tpl_memos.specs.Kept.{kept}
-use Rattle.tpl_shapes.specs.Shapes.{mark_of}
+use Rattle.tpl_model.specs.KeptLines.Changes.{changed}
+use Rattle.tpl_drawn.specs.Addresses.{number_at}
+use Rattle.tpl_model.specs.KeptLines.Kept.{kept}
+use Rattle.tpl_model.specs.ShownNodes.Shapes.{mark_of}
 use Rattle.tpl_live.specs.Pages.{lines_shape}
 use Rattle.tpl_live.proofs.Operated.{compare}
 use Rattle.tpl_live.proofs.Planned.{compared_so, many_come, sorted_marks}

@@ -1,6 +1,6 @@
 use Rattle.std.proofs.Common.{◌≡◌, ◌+◌, ◌++◌, [], append-nil, drop, map, sym, ap, ◌∙◌}
 use Rattle.std.proofs.lemmas.List.{drop_all}
-use Rattle.tpl_shapes.specs.Shapes.{child_of}
+use Rattle.tpl_model.specs.ShownNodes.Shapes.{child_of}
 use Rattle.tpl_live.specs.Plans.{number_staying, numbers_staying}
 use Rattle.tpl_live.proofs.Planned.{left_split, one_more}
 use Rattle.tpl_live.proofs.plan.put_all_staying.Goals as goal

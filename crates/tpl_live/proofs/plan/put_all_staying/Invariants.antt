@@ -1,5 +1,5 @@
 use Rattle.std.proofs.Common.{◌≡◌, ◌++◌, drop, map}
-use Rattle.tpl_shapes.specs.Shapes.{child_of}
+use Rattle.tpl_model.specs.ShownNodes.Shapes.{child_of}
 use Rattle.tpl_live.specs.Plans.{numbers_staying}
 use Rattle.tpl_live.proofs.plan.put_all_staying.Given as goal
 

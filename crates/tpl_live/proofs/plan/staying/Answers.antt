@@ -1,6 +1,6 @@
 use Rattle.std.proofs.Common.{◌≡◌, ◌+◌, ◌++◌, [], append-nil, drop, map, sym, ap, ◌∙◌}
 use Rattle.std.proofs.lemmas.List.{drop_all}
-use Rattle.tpl_shapes.specs.Shapes.{Marked, child_of, mark_of}
+use Rattle.tpl_model.specs.ShownNodes.Shapes.{Marked, child_of, mark_of}
 use Rattle.tpl_live.specs.Plans.{children_staying, numbers_staying}
 use Rattle.tpl_live.proofs.Planned.{left_split, one_more}
 use Rattle.tpl_live.proofs.plan.staying.Goals as goal

@@ -6,7 +6,7 @@ use Rattle.tpl_scratch.specs.Scratch.{IsScratch}
 use Rattle.signal_laws.specs.ReadLaws.{with_name}
 use Rattle.std.specs.Map.{keys_of}
 use Rattle.tpl_hearing.specs.Heard.{heard_of}
-use Rattle.asking_laws.proofs.Shared.{inside_law}
+use Rattle.tpl_model.proofs.Shared.{inside_law}
 use Rattle.tpl_live.proofs.Outcomes.{at_place, fewer_unknown, known_inserted, known_settles, known_tree, learnt_more, nothing_learnt}
 use Rattle.tpl_live.proofs.scratch.tree_from_scratch.Goals as goal
 

@@ -2,7 +2,7 @@ use Rattle.std.proofs.Common.{[], ap, subst, sym, ◌∙◌, arith}
 use Rattle.effect_model.specs.Owners.{the_owner, the_signal}
 use Rattle.effect_model.specs.Worlds as plain
 use Rattle.effect_tables.specs.Placed.{numbering, untouched}
-use Rattle.effect_undoing.specs.Trees.{IsFormed}
+use Rattle.effect_teardown.specs.Trees.{IsFormed}
 use Rattle.sig_effect.specs.Wholes as wholes
 use Rattle.sig_owner.specs.Renames.{renamed}
 use Rattle.sig_owner.specs.Trees.{has_thing}

@@ -2,9 +2,9 @@ use Rattle.std.proofs.Common.{None, ap, map, refl, subst, sym, arith, ◌∙◌}
 use Rattle.std.specs.Box.{box_value}
 use Rattle.page_ops.specs.Ops.{op_of}
 use Rattle.tpl_blocks.specs.Blocks.{block, lines_of}
-use Rattle.tpl_marks.specs.Addresses.{number_at}
-use Rattle.tpl_listening.specs.Memos.{Makes, lines_memo}
-use Rattle.tpl_memos.specs.Kept.{kept}
+use Rattle.tpl_drawn.specs.Addresses.{number_at}
+use Rattle.tpl_model.specs.KeptLines.Memos.{Makes, lines_memo}
+use Rattle.tpl_model.specs.KeptLines.Kept.{kept}
 use Rattle.tpl_live.specs.Pages.{Standing}
 use Rattle.tpl_live.proofs.Mounts.{AreMade, are_made, can_insert, is_updated, many_mounted, stands}
 use Rattle.tpl_live.proofs.Sourced.{settled_right}

@@ -1,9 +1,9 @@
 use Rattle.std.proofs.Common.{[], None, map, refl, arith, ap, ◌∙◌}
 use Rattle.page_ops.specs.Ops.{op_of}
-use Rattle.tpl_listening.specs.Changes.{Tells, changed}
+use Rattle.tpl_model.specs.KeptLines.Changes.{Tells, changed}
 use Rattle.tpl_hearing.proofs.Shared.{then_heard}
-use Rattle.tpl_marks.specs.Addresses.{number_at}
-use Rattle.tpl_memos.specs.Kept.{kept}
+use Rattle.tpl_drawn.specs.Addresses.{number_at}
+use Rattle.tpl_model.specs.KeptLines.Kept.{kept}
 use Rattle.tpl_live.specs.Pages.{page_in}
 use Rattle.tpl_live.specs.Contents.{standing}
 use Rattle.tpl_live.proofs.Mounts.{AreMade}

@@ -1,3 +1,0 @@
-mod Renamed
-mod Needed
-pub mod Shared

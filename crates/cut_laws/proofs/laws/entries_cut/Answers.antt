@@ -1,5 +1,0 @@
-use Rattle.cut_laws.proofs.Cuts.{entries_law}
-use Rattle.cut_laws.proofs.laws.entries_cut.Goals as goal
-
-pub returns : goal.returns
-returns c = entries_law

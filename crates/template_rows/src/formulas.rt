@@ -1,0 +1,126 @@
+// What is heard of the formulas of lines, and heard again.
+ghost use Rattle.tpl_hearing.specs.Heard.{scene, CanSettle};
+
+use crate::scene::{Scene, is_number, of_names};
+use sig_base::{NoMemory, Text};
+use sig_formula::{BinOp, Formula};
+use sig_host::{Lent, Shelf};
+use std::alloc::Global;
+use std::test::Fail;
+use tpl_hearing::{Outcomes, Rehearing};
+use tpl_kept::{listen, listen_again, listen_all, listen_all_again};
+use tpl_model::Heard;
+
+// Whether a formula is heard as this number, and as the same again.
+fn stays(
+    alloc: Global,
+    s: &mut Scene,
+    formula: &Formula,
+    wanted: i64,
+) -> Result<(bool, bool), NoMemory>
+    requires can { CanSettle (scene s.old.graph (⟦<Shelf as Lent>⟧.asked s.old.shelf) s.old.notes.items) }
+    requires counted { ⟦<Shelf as Lent>⟧.counted s.old.shelf }
+{
+    let links = [s.first, s.second];
+    let mut before = Outcomes::new(alloc);
+    let line = listen(
+        alloc,
+        &mut s.graph,
+        &mut s.shelf,
+        &mut before,
+        formula,
+        &links,
+        None,
+        &mut s.notes,
+    )?;
+    let found = is_number(&line.outcome, wanted);
+    let mut hearing = Rehearing::new(alloc);
+    let (next, same) = listen_again(
+        alloc,
+        &mut s.graph,
+        &mut s.shelf,
+        &before,
+        &mut hearing,
+        formula,
+        line,
+        &links,
+        None,
+        &mut s.notes,
+    )?;
+    Ok((found, same && is_number(&next.outcome, wanted)))
+}
+
+#[test]
+fn a_line_stays_while_its_names_have_their_values(rt: HostRuntime) -> Result<(), Fail> {
+    let alloc = rt.alloc();
+    let mut s = Scene::of_numbers(alloc, 1, 2)?;
+    let formula = of_names(alloc, BinOp::Add, 0, 1)?;
+    let (found, again) = stays(alloc, &mut s, &formula, 3)?;
+    assert!(rt; found && again);
+    Ok(())
+}
+
+// Whether one formula was heard, as this number.
+fn is_only(lines: &[Heard], wanted: i64) -> bool {
+    match lines {
+        [only] => is_number(&only.outcome, wanted),
+        _ => false,
+    }
+}
+
+// Whether the formulas of attributes that were heard are one number when they are heard again.
+fn all_stay(
+    alloc: Global,
+    s: &mut Scene,
+    attributes: &[(Text, Formula)],
+    wanted: i64,
+) -> Result<bool, NoMemory>
+    requires can { CanSettle (scene s.old.graph (⟦<Shelf as Lent>⟧.asked s.old.shelf) s.old.notes.items) }
+    requires counted { ⟦<Shelf as Lent>⟧.counted s.old.shelf }
+{
+    let links = [s.first, s.second];
+    let mut before = Outcomes::new(alloc);
+    let all = listen_all(
+        alloc,
+        &mut s.graph,
+        &mut s.shelf,
+        &mut before,
+        attributes,
+        &links,
+        None,
+        &mut s.notes,
+    )?;
+    let mut hearing = Rehearing::new(alloc);
+    let (next, same) = listen_all_again(
+        alloc,
+        &mut s.graph,
+        &mut s.shelf,
+        &before,
+        &mut hearing,
+        attributes,
+        all,
+        &links,
+        None,
+        &mut s.notes,
+    )?;
+    Ok(same && is_only(&next, wanted))
+}
+
+// One attribute, of the sum of the two names.
+fn title(alloc: Global) -> Result<Vec<(Text, Formula)>, Fail> {
+    let name = Text::new(alloc, "title")?;
+    let formula = of_names(alloc, BinOp::Add, 0, 1)?;
+    let mut attributes = Vec::new(alloc);
+    attributes.push((name, formula))?;
+    Ok(attributes)
+}
+
+#[test]
+fn attributes_stay_while_their_names_have_their_values(rt: HostRuntime) -> Result<(), Fail> {
+    let alloc = rt.alloc();
+    let mut s = Scene::of_numbers(alloc, 1, 2)?;
+    let attributes = title(alloc)?;
+    let same = all_stay(alloc, &mut s, &attributes, 3)?;
+    assert!(rt; same);
+    Ok(())
+}

@@ -1,0 +1,9 @@
+pub mod Marks
+pub mod Rows
+pub mod Siblings
+pub mod Tops
+pub mod Walks
+pub mod Comparison
+pub mod Coverage
+pub mod Sides
+pub mod WalkMarks

@@ -1,0 +1,372 @@
+-- Lines that are gone over, part by part.
+use Rattle.std.proofs.Common.{◌≡◌, ℕ, Bool, true, false, Option, Some, None, List, [], ◌∷◌, ◌++◌, append_assoc, append-nil, map, slice_get, unwrap_or, if◌then◌else◌, refl, sym, ap, ◌∙◌}
+use Rattle.std.proofs.lemmas.Bool.{false≢true}
+use Rattle.sig_base.specs.declared.value.Value.TheVariants as value
+use Rattle.sig_base.specs.declared.value.Outcome.{Outcome}
+use Rattle.sig_base.specs.declared.value.Outcome.TheVariants.{Good, Bad}
+use Rattle.sig_formula.specs.Trees.{Tree}
+use Rattle.page_model.specs.Addresses.{address}
+use Rattle.page_model.specs.Forest.{Forest, none, node}
+use Rattle.page_model.specs.Labels.{Root, Look, Text, Element}
+use Rattle.tpl_blocks.specs.Blocks.{block}
+use Rattle.tpl_blocks.specs.declared.block.Block as held
+use Rattle.tpl_model.specs.KeptLines.Changes.{Change, stays, made, over, also, nothing, chain, changed, first_in, is_stays}
+use Rattle.tpl_model.specs.declared.change.Change as code
+use Rattle.tpl_drawn.specs.Marks.{children_in, marked_at, marks_in}
+use Rattle.tpl_drawn.proofs.Numbered.Marks.{children_after}
+use Rattle.tpl_model.specs.Shapes.{node_text}
+use Rattle.tpl_model.specs.Lines.{Block, empty, text, tag, choice, each, attempt}
+use Rattle.tpl_drawn.specs.Shown.{attributes_of, fits, inside_of, later_of, rows_of, shows, where_shown}
+use Rattle.tpl_drawn.proofs.Placed.Placed.{unfit_shown}
+use Rattle.tpl_scratch.specs.Pages.{shows_branch}
+use Rattle.tpl_model.specs.ShownNodes.Shapes.{Marked, Next}
+use Rattle.tpl_drawn.specs.Heads.{text_at}
+use Rattle.tpl_model.specs.PageUpdates.PageMemos.{PageMemo, line, element, branch, loop, nodes, picks, row_nodes, values}
+use Rattle.tpl_drawn.proofs.Compares.Siblings.{two_more}
+use Rattle.tpl_drawn.proofs.Compares.Tops.{stays_keep}
+use Rattle.tpl_drawn.specs.Comparison.{Marking, keeps_nodes, marked_by, marked_unless, restated_part, restating, touched_part, touching}
+use Rattle.tpl_drawn.specs.Walks.{Walk, further, idle, of_element, of_inside, of_lines, of_made, of_marks, of_rows, of_text, where_gone}
+
+-- ---- one part behind another
+
+pub further_idle : (w : Walk) → further w idle ≡ w
+further_idle w = λ i. record {
+  children = append-nil w.children i;
+  touched = append-nil w.touched i;
+  restated = append-nil w.restated i;
+}
+
+further_further : (u v w : Walk) → further (further u v) w ≡ further u (further v w)
+further_further u v w = λ i. record {
+  children = append_assoc u.children v.children w.children i;
+  touched = append_assoc u.touched v.touched w.touched i;
+  restated = append_assoc u.restated v.restated w.restated i;
+}
+
+-- nothing came
+pub none_gone : (a w : Walk) → w ≡ idle → a ≡ further a w
+none_gone a w e = sym (ap (further a) e ∙ further_idle a)
+
+-- two parts, one behind the other
+pub both_gone : (a b c v w : Walk) → b ≡ further a v → c ≡ further b w → c ≡ further a (further v w)
+both_gone a b c v w e h = h ∙ (ap (λ z. further z w) e ∙ further_further a v w)
+
+-- what came of parts is what comes of the whole
+pub parts_gone : (a b c v w x : Walk) → x ≡ further v w → b ≡ further a v → c ≡ further b w → c ≡ further a x
+parts_gone a b c v w x parts e h = both_gone a b c v w e h ∙ ap (further a) (sym parts)
+
+children_gone : (a b c : List Next) (v w x : Walk) → x ≡ further v w → b ≡ a ++ v.children → c ≡ b ++ w.children → c ≡ a ++ x.children
+children_gone a b c v w x parts e h = two_more a b c v.children w.children e h ∙ ap (λ z. a ++ z.children) (sym parts)
+
+-- ---- lines of other kinds, lines that stay, and those that were made anew
+
+-- what is kept of another line isn't gone over
+unfit_marked : (mark : Marking) (part : Marked → Marked) (known : ℕ → Option ℕ) (k : Option (List ℕ)) (b : Block) (m : PageMemo) (c : Change) →
+    fits b m ≡ false → marked_by mark part known k b m c ≡ []
+unfit_marked mark part known k empty m c e = refl
+unfit_marked mark part known k (text n f rest) (line h r) c e = absurd (false≢true (sym e))
+unfit_marked mark part known k (text n f rest) m c e = refl
+unfit_marked mark part known k (tag n name xs inner rest) (element hs i r) c e = absurd (false≢true (sym e))
+unfit_marked mark part known k (tag n name xs inner rest) m c e = refl
+unfit_marked mark part known k (choice f one other rest) (branch h i r) c e = absurd (false≢true (sym e))
+unfit_marked mark part known k (choice f one other rest) m c e = refl
+unfit_marked mark part known k (each f inner rest) (loop h i r) c e = absurd (false≢true (sym e))
+unfit_marked mark part known k (each f inner rest) m c e = refl
+unfit_marked mark part known k (attempt first second rest) m c e = absurd (false≢true (sym e))
+
+pub unfit_gone : (known : ℕ → Option ℕ) (k : Option (List ℕ)) (b : Block) (m : PageMemo) (c : Change) → fits b m ≡ false → of_lines known k b m c ≡ idle
+unfit_gone known k b m c e = λ i. record {
+  children = ap (children_in known) (unfit_shown k b m e) i;
+  touched = unfit_marked touching touched_part known k b m c e i;
+  restated = unfit_marked restating restated_part known k b m c e i;
+}
+
+-- of lines that stay nothing is marked
+pub stays_marked : (mark : Marking) (part : Marked → Marked) (known : ℕ → Option ℕ) (k : Option (List ℕ)) (b : Block) (m : PageMemo) →
+    marked_by mark part known k b m stays ≡ []
+stays_marked mark part known k empty m = refl
+stays_marked mark part known k (text n f rest) (line h r) = refl
+stays_marked mark part known k (text n f rest) m = refl
+stays_marked mark part known k (tag n name xs inner rest) (element hs i r) = refl
+stays_marked mark part known k (tag n name xs inner rest) m = refl
+stays_marked mark part known k (choice f one other rest) (branch h i r) = refl
+stays_marked mark part known k (choice f one other rest) m = refl
+stays_marked mark part known k (each f inner rest) (loop h i r) = refl
+stays_marked mark part known k (each f inner rest) m = refl
+stays_marked mark part known k (attempt first second rest) m = refl
+
+-- children alone
+abbrev pub alone : List Next → Walk
+alone cs = record { children = cs; touched = []; restated = [] }
+
+pub stays_gone : (known : ℕ → Option ℕ) (k : Option (List ℕ)) (b : Block) (m : PageMemo) → alone (children_in known (nodes k b m)) ≡ of_lines known k b m stays
+stays_gone known k b m = λ i. record {
+  children = children_in known (nodes k b m);
+  touched = sym (stays_marked touching touched_part known k b m) i;
+  restated = sym (stays_marked restating restated_part known k b m) i;
+}
+
+-- children alone were put
+pub put_staying_gone : (before now : List Next) (w x : Walk) {cs : List Next} → alone cs ≡ x → w.children ≡ before → now ≡ before ++ cs →
+    record { children = now; touched = w.touched; restated = w.restated } ≡ further w x
+put_staying_gone before now w x e f put = λ i. record {
+  children = (put ∙ ((λ j. sym f j ++ (e j).children))) i;
+  touched = (sym (append-nil w.touched) ∙ ap (λ z. w.touched ++ z.touched) e) i;
+  restated = (sym (append-nil w.restated) ∙ ap (λ z. w.restated ++ z.restated) e) i;
+}
+
+-- of lines that were made anew all is marked
+made_marked : (mark : Marking) (part : Marked → Marked) (known : ℕ → Option ℕ) (k : Option (List ℕ)) (b : held.Block) (m : PageMemo) →
+    map part (marks_in known (nodes k (block b) m)) ≡ marked_by mark part known k (block b) m made
+made_marked mark part known k held.Empty m = refl
+made_marked mark part known k (held.Text' n f p rest) (line h r) = refl
+made_marked mark part known k (held.Text' n f p rest) m = refl
+made_marked mark part known k (held.Tag' n name xs p inner q rest) (element hs i r) = refl
+made_marked mark part known k (held.Tag' n name xs p inner q rest) m = refl
+made_marked mark part known k (held.Choice' f p one q other s rest) (branch h i r) = refl
+made_marked mark part known k (held.Choice' f p one q other s rest) m = refl
+made_marked mark part known k (held.Each' f p inner q rest) (loop h i r) = refl
+made_marked mark part known k (held.Each' f p inner q rest) m = refl
+
+pub made_gone : (known : ℕ → Option ℕ) (k : Option (List ℕ)) (b : held.Block) (m : PageMemo) → of_made known (nodes k (block b) m) ≡ of_lines known k (block b) m made
+made_gone known k b m = λ i. record {
+  children = children_in known (nodes k (block b) m);
+  touched = made_marked touching touched_part known k b m i;
+  restated = made_marked restating restated_part known k b m i;
+}
+
+-- ---- the first line, and those behind it
+
+-- a mark with none below it
+unless_alone : (s : Bool) (n : Option ℕ) (x : Look) → marked_unless s n x [] [] ≡ (if s then [] else marked_at n x [] [])
+unless_alone true None x = refl
+unless_alone true (Some n) x = refl
+unless_alone false None x = refl
+unless_alone false (Some n) x = refl
+
+-- a node without a number
+unless_new : (s : Bool) (x : Look) (cs : List Next) (below : List Marked) → [] ≡ marked_unless s None x cs below
+unless_new true x cs below = refl
+unless_new false x cs below = refl
+
+pub text_parts : (known : ℕ → Option ℕ) (k : Option (List ℕ)) (n : ℕ) (f : Tree) (rest : Block) (m : PageMemo) (s : Bool) (i l : Change) →
+    fits (text n f rest) m ≡ true →
+    of_lines known k (text n f rest) m (over s i l) ≡ further (of_text known s (text_at (address n k) m)) (of_lines known k rest (later_of m) l)
+text_parts known k n f rest (line h r) s i l fit =
+    let a = address n k in
+    let x : Look = Text (node_text h.outcome) in
+    λ j. record {
+      children = children_in known (nodes k (text n f rest) (line h r));
+      touched = unless_alone true (known a) Root j ++ marked_by touching touched_part known k rest r l;
+      restated = (unless_alone s (known a) x ∙ ap (λ z. if s then [] else z) (sym (append-nil (marked_at (known a) x [] [])))) j
+          ++ marked_by restating restated_part known k rest r l;
+    }
+text_parts known k n f rest m s i l fit = absurd (false≢true fit)
+
+pub tag_parts : (known : ℕ → Option ℕ) (k : Option (List ℕ)) (n : ℕ) (name : List ℕ) (xs : List (List ℕ × Tree)) (inner rest : Block) (m : PageMemo) (s : Bool)
+    (i l : Change) → fits (tag n name xs inner rest) m ≡ true →
+    of_lines known k (tag n name xs inner rest) m (over s i l)
+    ≡ further (of_element known k s (address n k) (Element name (values xs (attributes_of m))) inner (inside_of m) i) (of_lines known k rest (later_of m) l)
+tag_parts known k n name xs inner rest (element hs i' r) s i l fit = refl
+tag_parts known k n name xs inner rest m s i l fit = absurd (false≢true fit)
+
+-- of two branches that one which is shown
+picked_gone : (known : ℕ → Option ℕ) (o : Outcome) (f g : Forest Look) (t u v w : List Marked) →
+    record { children = children_in known (picks o f g none); touched = picks o t u []; restated = picks o v w [] }
+    ≡ further (where_gone (shows_branch o true) (record { children = children_in known f; touched = t; restated = v }))
+    (where_gone (shows_branch o false) (record { children = children_in known g; touched = u; restated = w }))
+picked_gone known (Good (value.Bool true)) f g t u v w = sym (further_idle (record { children = children_in known f; touched = t; restated = v }))
+picked_gone known (Good (value.Bool false)) f g t u v w = refl
+picked_gone known (Good (value.Int i)) f g t u v w = refl
+picked_gone known (Good (value.Text s)) f g t u v w = refl
+picked_gone known (Good (value.Rows s)) f g t u v w = refl
+picked_gone known (Bad e) f g t u v w = refl
+
+pub choice_parts : (known : ℕ → Option ℕ) (k : Option (List ℕ)) (f : Tree) (one other rest : Block) (m : PageMemo) (s : Bool) (i l : Change) →
+    fits (choice f one other rest) m ≡ true →
+    of_lines known k (choice f one other rest) m (over s i l)
+    ≡ further (further (where_gone (shows m true) (of_lines known k one (inside_of m) (first_in i)))
+    (where_gone (shows m false) (of_lines known k other (inside_of m) (first_in i)))) (of_lines known k rest (later_of m) l)
+choice_parts known k f one other rest (branch h i' r) s i l fit =
+    (λ j. record {
+      children = children_after known (picks h.outcome (nodes k one i') (nodes k other i') none) (nodes k rest r) j;
+      touched = marked_by touching touched_part known k (choice f one other rest) (branch h i' r) (over s i l);
+      restated = marked_by restating restated_part known k (choice f one other rest) (branch h i' r) (over s i l);
+    })
+    ∙ ap (λ z. further z (of_lines known k rest r l))
+    (picked_gone known h.outcome (nodes k one i') (nodes k other i') (marked_by touching touched_part known k one i' (first_in i))
+    (marked_by touching touched_part known k other i' (first_in i)) (marked_by restating restated_part known k one i' (first_in i))
+    (marked_by restating restated_part known k other i' (first_in i)))
+choice_parts known k f one other rest m s i l fit = absurd (false≢true fit)
+
+pub each_parts : (known : ℕ → Option ℕ) (k : Option (List ℕ)) (f : Tree) (inner rest : Block) (m : PageMemo) (s : Bool) (i l : Change) →
+    fits (each f inner rest) m ≡ true → of_lines known k (each f inner rest) m (over s i l) ≡ further (of_rows known inner (rows_of m) i) (of_lines known k rest (later_of m) l)
+each_parts known k f inner rest (loop h i' r) s i l fit = λ j. record {
+  children = children_after known (row_nodes (λ h m. nodes (Some h.key) inner m) i') (nodes k rest r) j;
+  touched = marked_by touching touched_part known k (each f inner rest) (loop h i' r) (over s i l);
+  restated = marked_by restating restated_part known k (each f inner rest) (loop h i' r) (over s i l);
+}
+each_parts known k f inner rest m s i l fit = absurd (false≢true fit)
+
+-- ---- the children of lines that stay
+
+pub text_stays : (known : ℕ → Option ℕ) (k : Option (List ℕ)) (n : ℕ) (f : Tree) (rest : Block) (m : PageMemo) (a b c : List Next) → fits (text n f rest) m ≡ true →
+    b ≡ a ++ children_in known (text_at (address n k) m) → c ≡ b ++ children_in known (nodes k rest (later_of m)) → c ≡ a ++ children_in known (nodes k (text n f rest) m)
+text_stays known k n f rest m a b c fit e h =
+    children_gone a b c (of_text known true (text_at (address n k) m)) (of_lines known k rest (later_of m) nothing)
+    (of_lines known k (text n f rest) m (over true nothing nothing)) (text_parts known k n f rest m true nothing nothing fit) e h
+
+pub tag_stays : (known : ℕ → Option ℕ) (k : Option (List ℕ)) (n : ℕ) (name : List ℕ) (xs : List (List ℕ × Tree)) (inner rest : Block) (m : PageMemo)
+    (a b c : List Next) → fits (tag n name xs inner rest) m ≡ true →
+    b ≡ a ++ children_in known (node (address n k) (Element name (values xs (attributes_of m))) (nodes k inner (inside_of m)) none) →
+    c ≡ b ++ children_in known (nodes k rest (later_of m)) → c ≡ a ++ children_in known (nodes k (tag n name xs inner rest) m)
+tag_stays known k n name xs inner rest m a b c fit e h =
+    children_gone a b c (of_element known k true (address n k) (Element name (values xs (attributes_of m))) inner (inside_of m) nothing)
+    (of_lines known k rest (later_of m) nothing) (of_lines known k (tag n name xs inner rest) m (over true nothing nothing))
+    (tag_parts known k n name xs inner rest m true nothing nothing fit) e h
+
+-- a branch, where it is shown
+shown_gone : (known : ℕ → Option ℕ) (b : Bool) (f : Forest Look) (w : Walk) → children_in known f ≡ w.children →
+    children_in known (where_shown b f) ≡ (where_gone b w).children
+shown_gone known true f w e = e
+shown_gone known false f w e = refl
+
+pub choice_stays : (known : ℕ → Option ℕ) (k : Option (List ℕ)) (f : Tree) (one other rest : Block) (m : PageMemo) (a b c d : List Next) →
+    fits (choice f one other rest) m ≡ true → b ≡ a ++ children_in known (where_shown (shows m true) (nodes k one (inside_of m))) →
+    c ≡ b ++ children_in known (where_shown (shows m false) (nodes k other (inside_of m))) → d ≡ c ++ children_in known (nodes k rest (later_of m)) →
+    d ≡ a ++ children_in known (nodes k (choice f one other rest) m)
+choice_stays known k f one other rest m a b c d fit e g h =
+    let v = of_lines known k one (inside_of m) (first_in nothing) in
+    let w = of_lines known k other (inside_of m) (first_in nothing) in
+    children_gone a c d (further (where_gone (shows m true) v) (where_gone (shows m false) w)) (of_lines known k rest (later_of m) nothing)
+    (of_lines known k (choice f one other rest) m (over true nothing nothing)) (choice_parts known k f one other rest m true nothing nothing fit)
+    (two_more a b c (where_gone (shows m true) v).children (where_gone (shows m false) w).children
+    (e ∙ ap (λ z. a ++ z) (shown_gone known (shows m true) (nodes k one (inside_of m)) v refl))
+    (g ∙ ap (λ z. b ++ z) (shown_gone known (shows m false) (nodes k other (inside_of m)) w refl))) h
+
+pub each_stays : (known : ℕ → Option ℕ) (k : Option (List ℕ)) (f : Tree) (inner rest : Block) (m : PageMemo) (a b c : List Next) → fits (each f inner rest) m ≡ true →
+    b ≡ a ++ children_in known (row_nodes (λ h i. nodes (Some h.key) inner i) (rows_of m)) → c ≡ b ++ children_in known (nodes k rest (later_of m)) →
+    c ≡ a ++ children_in known (nodes k (each f inner rest) m)
+each_stays known k f inner rest m a b c fit e h =
+    children_gone a b c (of_rows known inner (rows_of m) nothing) (of_lines known k rest (later_of m) nothing)
+    (of_lines known k (each f inner rest) m (over true nothing nothing)) (each_parts known k f inner rest m true nothing nothing fit) e h
+
+-- ---- an element
+
+-- where its inside stays, there are no marks
+pub inside_stays : (known : ℕ → Option ℕ) (k : Option (List ℕ)) (n : ℕ) (inner : Block) (m : PageMemo) (i : Change) → is_stays (first_in i) ≡ true →
+    of_inside known k n inner m i ≡ idle
+inside_stays known k n inner m i e = all_stay (first_in i) e
+  where
+    inside_of_change : Change → Walk
+    inside_of_change c = record {
+      children = [];
+      touched = touching true (keeps_nodes inner c) (Some n) Root (children_in known (nodes k inner m)) (marked_by touching touched_part known k inner m c);
+      restated = marked_by restating restated_part known k inner m c;
+    }
+
+    all_stay : (c : Change) → is_stays c ≡ true → inside_of_change c ≡ idle
+    all_stay stays e = λ j. record {
+      children = [];
+      touched = (ap (λ z. touching true z (Some n) Root (children_in known (nodes k inner m)) (marked_by touching touched_part known k inner m stays))
+          (stays_keep inner stays refl) ∙ stays_marked touching touched_part known k inner m) j;
+      restated = stays_marked restating restated_part known k inner m j;
+    }
+    all_stay made e = absurd (false≢true e)
+    all_stay (over s i l) e = absurd (false≢true e)
+    all_stay (also c d) e = absurd (false≢true e)
+    all_stay nothing e = absurd (false≢true e)
+
+-- its inside was gone over, and its mark stands behind
+pub inside_goes : (known : ℕ → Option ℕ) (k : Option (List ℕ)) (n : ℕ) (inner : Block) (m : PageMemo) (i : Change) (cs : List Next) (t r : List Marked)
+    (before now : Walk) → keeps_nodes inner (first_in i) ≡ false → record { children = cs; touched = t; restated = r } ≡ further before (of_lines known k inner m (first_in i)) →
+    before.children ≡ [] → now.children ≡ [] → now.touched ≡ t ++ record { number = n; look = Root; children = cs } ∷ [] → now.restated ≡ r →
+    now ≡ further before (of_inside known k n inner m i)
+inside_goes known k n inner m i cs t r before now goes e none_before none_now put same =
+    let x = of_lines known k inner m (first_in i) in
+    let all : cs ≡ x.children = ap (λ w. w.children) e ∙ ap (λ z. z ++ x.children) none_before in
+    let mark : List Next → Marked = λ z. record { number = n; look = Root; children = z } in
+    λ j. record {
+      children = (none_now ∙ sym (append-nil before.children ∙ none_before)) j;
+      touched = (put ∙ (ap (λ z. z ++ mark cs ∷ []) (ap (λ w. w.touched) e) ∙ (append_assoc before.touched x.touched (mark cs ∷ [])
+          ∙ (ap (λ z. before.touched ++ (x.touched ++ mark z ∷ [])) all
+          ∙ ap (λ b. before.touched ++ marked_unless b (Some n) Root x.children x.touched) (sym goes))))) j;
+      restated = (same ∙ ap (λ w. w.restated) e) j;
+    }
+
+-- its inside was gone over and keeps its topmost nodes
+pub inside_keeps : (known : ℕ → Option ℕ) (k : Option (List ℕ)) (n : ℕ) (inner : Block) (m : PageMemo) (i : Change) (cs : List Next) (t r : List Marked)
+    (before now : Walk) → keeps_nodes inner (first_in i) ≡ true → record { children = cs; touched = t; restated = r } ≡ further before (of_lines known k inner m (first_in i)) →
+    before.children ≡ [] → now.children ≡ [] → now.touched ≡ t → now.restated ≡ r → now ≡ further before (of_inside known k n inner m i)
+inside_keeps known k n inner m i cs t r before now keeps e none_before none_now put same =
+    let x = of_lines known k inner m (first_in i) in
+    λ j. record {
+      children = (none_now ∙ sym (append-nil before.children ∙ none_before)) j;
+      touched = (put ∙ (ap (λ w. w.touched) e ∙ ap (λ b. before.touched ++ marked_unless b (Some n) Root x.children x.touched) (sym keeps))) j;
+      restated = (same ∙ ap (λ w. w.restated) e) j;
+    }
+
+-- an element that has a number, with its mark for the look
+pub kept_goes : (known : ℕ → Option ℕ) (k : Option (List ℕ)) (s : Bool) (n : ℕ) (x : Look) (inner : Block) (m : PageMemo) (i : Change) (before inside now : Walk) →
+    s ≡ false → inside ≡ further before (of_inside known k n inner m i) → now.children ≡ inside.children → now.touched ≡ inside.touched →
+    now.restated ≡ inside.restated ++ record { number = n; look = x; children = [] } ∷ [] →
+    now ≡ further before (of_marks known k s (Some n) x inner m i)
+kept_goes known k s n x inner m i before inside now heard e f g put = λ j. record {
+  children = (f ∙ ap (λ w. w.children) e) j;
+  touched = (g ∙ ap (λ w. w.touched) e) j;
+  restated = (put ∙ (ap (λ w. w.restated ++ record { number = n; look = x; children = [] } ∷ []) e
+      ∙ (append_assoc before.restated (marked_by restating restated_part known k inner m (first_in i)) (record { number = n; look = x; children = [] } ∷ [])
+      ∙ ap (λ b. before.restated ++ marked_unless b (Some n) x [] (marked_by restating restated_part known k inner m (first_in i))) (sym heard)))) j;
+}
+
+-- one whose attributes were heard so before
+pub kept_same : (known : ℕ → Option ℕ) (k : Option (List ℕ)) (s : Bool) (n : ℕ) (x : Look) (inner : Block) (m : PageMemo) (i : Change) (before now : Walk) →
+    s ≡ true → now ≡ further before (of_inside known k n inner m i) → now ≡ further before (of_marks known k s (Some n) x inner m i)
+kept_same known k s n x inner m i before now heard e = e ∙ ap (λ b. further before (record {
+  children = [];
+  touched = (of_inside known k n inner m i).touched;
+  restated = marked_unless b (Some n) x [] (marked_by restating restated_part known k inner m (first_in i));
+})) (sym heard)
+
+-- an element without a number isn't marked
+pub unknown_element : (known : ℕ → Option ℕ) (k : Option (List ℕ)) (s : Bool) (a : ℕ) (x : Look) (inner : Block) (m : PageMemo) (i : Change) → known a ≡ None →
+    alone (children_in known (node a x (nodes k inner m) none)) ≡ of_element known k s a x inner m i
+unknown_element known k s a x inner m i e =
+    let keeps = keeps_nodes inner (first_in i) in
+    let cs = children_in known (nodes k inner m) in
+    let touched = marked_by touching touched_part known k inner m (first_in i) in
+    let restated = marked_by restating restated_part known k inner m (first_in i) in
+    λ j. record {
+      children = children_in known (node a x (nodes k inner m) none);
+      touched = (unless_new keeps Root cs touched ∙ ap (λ z. marked_unless keeps z Root cs touched) (sym e)) j;
+      restated = (unless_new s x [] restated ∙ ap (λ z. marked_unless s z x [] restated) (sym e)) j;
+    }
+
+-- an element as a child, and its marks
+pub element_goes : (known : ℕ → Option ℕ) (k : Option (List ℕ)) (s : Bool) (a n : ℕ) (x : Look) (inner : Block) (m : PageMemo) (i : Change) (cs ds : List Next)
+    (before now : Walk) → known a ≡ Some n → ds ≡ cs ++ children_in known (node a x (nodes k inner m) none) → now ≡ further before (of_marks known k s (Some n) x inner m i) →
+    record { children = ds; touched = now.touched; restated = now.restated }
+    ≡ further (record { children = cs; touched = before.touched; restated = before.restated }) (of_element known k s a x inner m i)
+element_goes known k s a n x inner m i cs ds before now e put f = λ j. record {
+  children = put j;
+  touched = (ap (λ w. w.touched) f ∙ ap (λ z. before.touched ++ (of_marks known k s z x inner m i).touched) (sym e)) j;
+  restated = (ap (λ w. w.restated) f ∙ ap (λ z. before.restated ++ (of_marks known k s z x inner m i).restated) (sym e)) j;
+}
+
+-- ---- branches
+
+pub branch_off : (b : Bool) (w a : Walk) → b ≡ false → a ≡ further a (where_gone b w)
+branch_off b w a e = none_gone a (where_gone b w) (ap (λ z. where_gone z w) e)
+
+pub branch_on : (b : Bool) (w a c : Walk) → b ≡ true → c ≡ further a w → c ≡ further a (where_gone b w)
+branch_on b w a c e h = h ∙ ap (λ z. further a (where_gone z w)) (sym e)
+
+-- ---- the first of some parts
+
+pub first_none : (cs : List code.Change) → slice_get cs 0 ≡ None → made ≡ first_in (chain (map changed cs))
+first_none [] e = refl
+first_none (c ∷ cs) e = cc
+
+pub first_some : (cs : List code.Change) (c : code.Change) → slice_get cs 0 ≡ Some c → changed c ≡ first_in (chain (map changed cs))
+first_some [] c e = cc
+first_some (d ∷ cs) c e = ap changed (sym (ap (λ z. unwrap_or z d) e))

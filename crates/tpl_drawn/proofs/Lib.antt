@@ -1,0 +1,5 @@
+mod Numbered
+mod Placed
+mod Shaped
+mod Compares
+pub mod Shared

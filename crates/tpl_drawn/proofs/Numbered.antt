@@ -1,0 +1,4 @@
+pub mod Children
+pub mod Lists
+pub mod Addresses
+pub mod Marks

@@ -1,0 +1,13 @@
+use Rattle.std.proofs.Common.{sym, ap, ◌∙◌}
+use Rattle.tpl_model.specs.KeptLines.Changes.{changed, is_stays}
+use Rattle.tpl_model.proofs.ChangeEquations.{changed_made, changed_over, changed_stays}
+use Rattle.tpl_drawn.proofs.comparing.comparer.is_stays.Goals as goal
+
+pub returns-in-Stays : goal.returns-in-Stays
+returns-in-Stays c = sym (ap is_stays (ap changed c.in-Stays.is ∙ changed_stays))
+
+pub returns-in-Made : goal.returns-in-Made
+returns-in-Made c = sym (ap is_stays (ap changed c.in-Made.is ∙ changed_made))
+
+pub returns-in-Over : goal.returns-in-Over
+returns-in-Over c = sym (ap is_stays (ap changed c.in-Over.is ∙ changed_over _ _ _))

@@ -1,0 +1,147 @@
+use Rattle.std.proofs.Common.{◌<◌, ◌+◌, ◌++◌, [], None, Some, length, map, drop, arith, refl, sym, ap, ◌∙◌, inl, inr}
+use Rattle.std.proofs.lemmas.Bool.Decides.{nat_tests}
+use Rattle.std.specs.Option.{option_copied}
+use Rattle.sig_formula.specs.Trees.{tree}
+use Rattle.tpl_blocks.specs.Blocks.{block, waiting}
+use Rattle.tpl_drawn.specs.Marks.{children_in}
+use Rattle.tpl_drawn.specs.Addresses.{number_on}
+use Rattle.tpl_model.specs.KeptLines.Kept.{kept}
+use Rattle.tpl_drawn.specs.Shown.{inside_of, rows_of, shows}
+use Rattle.tpl_drawn.proofs.Placed.Equations.{of_blank, of_branch, of_element, of_line, of_loop, of_unread}
+use Rattle.tpl_drawn.proofs.Placed.Placed.{unfit_shown}
+use Rattle.tpl_model.specs.ShownNodes.Shapes.{child_of}
+use Rattle.tpl_model.specs.PageUpdates.PageMemos.{nodes, row_nodes}
+use Rattle.tpl_drawn.proofs.Compares.Rows.{all_left, left_of, none_left, one_left, past, row_shown, rows_gone, rows_held, staying_row}
+use Rattle.tpl_drawn.proofs.Compares.Siblings.{branch_hidden, branch_shown, no_more}
+use Rattle.tpl_drawn.proofs.Compares.Walks.{alone, choice_stays, each_stays, tag_stays, text_stays}
+use Rattle.tpl_drawn.proofs.comparing.kept.+staying.Goals as goal
+
+-- ---- a branch
+
+pub put_staying_branch-returns-then-not-shows : goal.put_staying_branch-returns-then-not-shows
+put_staying_branch-returns-then-not-shows u c = λ known k.
+    branch_hidden known (shows (kept c.args.memo.now) c.args.first)
+    (nodes (option_copied c.args.key) (block c.args.lines.now) (inside_of (kept c.args.memo.now))) (map child_of c.args.children.now.items)
+    (sym c.shows.ensures ∙ c.if-not-shows.true)
+
+pub put_staying_branch-returns : goal.put_staying_branch-returns
+put_staying_branch-returns u c = λ known k.
+    branch_shown known (shows (kept c.args.memo.now) c.args.first)
+    (nodes (option_copied c.args.key) (block c.args.lines.now) (inside_of (kept c.args.memo.now))) (map child_of c.args.children.now.items)
+    (map child_of c.put_staying.new.children.items) (sym c.shows.ensures ∙ c.if-not-shows.false)
+    (rw c.inside_of.ensures at (c.in_ok-put_staying.ensures known k))
+
+-- ---- rows
+
+pub put_staying_rows-loop-place-init : goal.put_staying_rows-loop-place-init
+put_staying_rows-loop-place-init u c =
+    all_left (number_on c.args.page.now) (block c.args.inner.now) c.args.rows.now (map kept c.args.memos.now) [] (alone (map child_of c.args.children.now.items))
+
+pub put_staying_rows-loop-place-preserved : goal.put_staying_rows-loop-place-preserved
+put_staying_rows-loop-place-preserved u c =
+    let n = c.loop-place.place in
+    let rows = c.args.rows.now in
+    let memos = c.args.memos.now in
+    let there : n < length rows = grind (arith, nat_tests, c.in-Some.ensures.lookup.0) in
+    let inner = block c.args.inner.now in
+    let m = kept c.index-memos-place.result in
+    let before = map child_of c.loop-place.children.items in
+    let now = map child_of c.put_staying.new.children.items in
+    one_left (number_on c.args.page.now) inner c.in-Some.row.now m None (drop n rows) (drop (n + 1) rows) (map kept (drop n memos)) (map kept (drop (n + 1) memos))
+    [] [] rows (map kept memos) [] (alone before) (alone now) (alone (map child_of c.args.children.now.items))
+    (left_of rows n c.in-Some.row.now there c.in-Some.ensures.lookup.1)
+    (ap (map kept) (left_of memos n c.index-memos-place.result c.loop-place-test.true c.index-memos-place.is)) (none_left refl refl refl)
+    (λ known k. staying_row known (Some c.in-Some.row.now.key) inner m before now (c.in_ok-put_staying.ensures known k)) c.loop-place.invariant
+
+pub put_staying_rows-returns-in_default : goal.put_staying_rows-returns-in_default
+put_staying_rows-returns-in_default u c = λ known k t i.
+    let n = c.loop-place.place in
+    ap (λ w. w.children)
+    (rows_gone (number_on c.args.page.now) (block c.args.inner.now) (drop n c.args.rows.now) (map kept (drop n c.args.memos.now)) [] c.args.rows.now
+    (map kept c.args.memos.now) [] (alone (map child_of c.loop-place.children.items)) (alone (map child_of c.args.children.now.items))
+    (inl (past c.args.rows.now n (grind (arith, nat_tests, c.in_default.ensures.lookup.0)))) c.loop-place.invariant known k t i)
+
+pub put_staying_rows-returns : goal.put_staying_rows-returns
+put_staying_rows-returns u c = λ known k t i.
+    let n = c.loop-place.place in
+    ap (λ w. w.children)
+    (rows_gone (number_on c.args.page.now) (block c.args.inner.now) (drop n c.args.rows.now) (map kept (drop n c.args.memos.now)) [] c.args.rows.now
+    (map kept c.args.memos.now) [] (alone (map child_of c.loop-place.children.items)) (alone (map child_of c.args.children.now.items))
+    (inr (ap (map kept) (past c.args.memos.now n (omega arith)))) c.loop-place.invariant known k t i)
+
+-- ---- a loop
+
+pub put_staying_each-returns-in_ok-put_staying_rows-in-Loop : goal.put_staying_each-returns-in_ok-put_staying_rows-in-Loop
+put_staying_each-returns-in_ok-put_staying_rows-in-Loop u c = λ known k.
+    let l = rows_held c.in-Loop.heard.outcome (map kept c.in-Loop.memos.items) in
+    rw (c.rows_in.ensures, c.deref.ensures.value) at (c.in_ok-put_staying_rows-in-Loop.ensures known k l.0 0)
+    ∙ ap (λ z. map child_of c.args.children.now.items ++ children_in known (row_nodes (row_shown (block c.args.inner.now)) z))
+    (l.1 ∙ sym (ap rows_of (of_loop _ _ _ _ c.in-Loop.is)))
+
+pub put_staying_each-returns-in-Unread : goal.put_staying_each-returns-in-Unread
+put_staying_each-returns-in-Unread u c = λ known k.
+    no_more _ _ (ap (λ z. children_in known (row_nodes (row_shown (block c.args.inner.now)) (rows_of z))) (of_unread _ c.in-Unread.is))
+
+pub put_staying_each-returns-in-Blank : goal.put_staying_each-returns-in-Blank
+put_staying_each-returns-in-Blank u c = λ known k.
+    no_more _ _ (ap (λ z. children_in known (row_nodes (row_shown (block c.args.inner.now)) (rows_of z))) (of_blank _ c.in-Blank.is))
+
+pub put_staying_each-returns-in-Line : goal.put_staying_each-returns-in-Line
+put_staying_each-returns-in-Line u c = λ known k.
+    no_more _ _ (ap (λ z. children_in known (row_nodes (row_shown (block c.args.inner.now)) (rows_of z))) (of_line _ _ _ c.in-Line.is))
+
+pub put_staying_each-returns-in-Element : goal.put_staying_each-returns-in-Element
+put_staying_each-returns-in-Element u c = λ known k.
+    no_more _ _ (ap (λ z. children_in known (row_nodes (row_shown (block c.args.inner.now)) (rows_of z))) (of_element _ _ _ _ c.in-Element.is))
+
+pub put_staying_each-returns-in-Branch : goal.put_staying_each-returns-in-Branch
+put_staying_each-returns-in-Branch u c = λ known k.
+    no_more _ _ (ap (λ z. children_in known (row_nodes (row_shown (block c.args.inner.now)) (rows_of z))) (of_branch _ _ _ _ c.in-Branch.is))
+
+-- ---- lines
+
+pub put_staying-returns-then-not-fits : goal.put_staying-returns-then-not-fits
+put_staying-returns-then-not-fits u c = λ known k.
+    no_more _ _ (ap (children_in known)
+    (unfit_shown (option_copied c.args.key) (block c.args.lines.now) (kept c.args.memo.now) (sym c.fits.ensures ∙ c.if-not-fits.true)))
+
+pub put_staying-returns-in-Empty : goal.put_staying-returns-in-Empty
+put_staying-returns-in-Empty u c = λ known k. rw c.in-Empty.is (no_more _ _ refl)
+
+pub put_staying-returns-in_ok-put_staying-in-Text : goal.put_staying-returns-in_ok-put_staying-in-Text
+put_staying-returns-in_ok-put_staying-in-Text u c = λ known k.
+    let fit = rw c.in-Text.is at (sym c.fits.ensures ∙ c.if-not-fits.false) in
+    rw c.in-Text.is
+    (text_stays known (option_copied c.args.key) c.in-Text.line (tree c.in-Text.field-1) (block c.in-Text.rest.value) (kept c.args.memo.now)
+    (map child_of c.args.children.now.items) (map child_of c.put_staying_text.new.children.items) (map child_of c.put_staying.new.children.items) fit
+    (c.in_ok-put_staying_text-in-Text.ensures fit known k) (rw (c.deref.ensures, c.later_of.ensures) at (c.in_ok-put_staying-in-Text.ensures known k)))
+
+pub put_staying-returns-in_ok-put_staying-in-Tag : goal.put_staying-returns-in_ok-put_staying-in-Tag
+put_staying-returns-in_ok-put_staying-in-Tag u c = λ known k.
+    let fit = rw c.in-Tag.is at (sym c.fits.ensures ∙ c.if-not-fits.false) in
+    rw c.in-Tag.is
+    (tag_stays known (option_copied c.args.key) c.in-Tag.line c.in-Tag.name (waiting c.in-Tag.attributes.items) (block c.in-Tag.inner.value)
+    (block c.in-Tag.rest.value) (kept c.args.memo.now) (map child_of c.args.children.now.items) (map child_of c.put_kept.new.children.items)
+    (map child_of c.put_staying-in-Tag.new.children.items) fit
+    (rw (c.deref-in-Tag.ensures.value, c.deref-in-Tag-2.ensures) at (c.in_ok-put_kept-in-Tag.ensures.child known k))
+    (rw (c.deref-in-Tag-3.ensures, c.later_of-in-Tag.ensures) at (c.in_ok-put_staying-in-Tag.ensures known k)))
+
+pub put_staying-returns-in_ok-put_staying-in-Choice : goal.put_staying-returns-in_ok-put_staying-in-Choice
+put_staying-returns-in_ok-put_staying-in-Choice u c = λ known k.
+    let fit = rw c.in-Choice.is at (sym c.fits.ensures ∙ c.if-not-fits.false) in
+    rw c.in-Choice.is
+    (choice_stays known (option_copied c.args.key) (tree c.in-Choice.field-0) (block c.in-Choice.one.value) (block c.in-Choice.other.value)
+    (block c.in-Choice.rest.value) (kept c.args.memo.now) (map child_of c.args.children.now.items) (map child_of c.put_staying_branch.new.children.items)
+    (map child_of c.put_staying_branch-in-Choice.new.children.items) (map child_of c.put_staying-in-Choice.new.children.items) fit
+    (rw c.deref-in-Choice.ensures at (c.in_ok-put_staying_branch-in-Choice.ensures known k))
+    (rw c.deref-in-Choice-2.ensures at (c.in_ok-put_staying_branch-in-Choice-2.ensures known k))
+    (rw (c.deref-in-Choice-3.ensures, c.later_of-in-Choice.ensures) at (c.in_ok-put_staying-in-Choice.ensures known k)))
+
+pub put_staying-returns-in_ok-put_staying-in-Each : goal.put_staying-returns-in_ok-put_staying-in-Each
+put_staying-returns-in_ok-put_staying-in-Each u c = λ known k.
+    let fit = rw c.in-Each.is at (sym c.fits.ensures ∙ c.if-not-fits.false) in
+    rw c.in-Each.is
+    (each_stays known (option_copied c.args.key) (tree c.in-Each.field-0) (block c.in-Each.inner.value) (block c.in-Each.rest.value) (kept c.args.memo.now)
+    (map child_of c.args.children.now.items) (map child_of c.put_staying_each.new.children.items) (map child_of c.put_staying-in-Each.new.children.items) fit
+    (rw c.deref-in-Each.ensures at (c.in_ok-put_staying_each-in-Each.ensures known k))
+    (rw (c.deref-in-Each-2.ensures, c.later_of-in-Each.ensures) at (c.in_ok-put_staying-in-Each.ensures known k)))

@@ -1,0 +1,37 @@
+use Rattle.std.proofs.Common.{map, sym, ap, ◌∙◌}
+use Rattle.std.proofs.lemmas.List.{map-append}
+use Rattle.std.specs.Option.{option_copied}
+use Rattle.page_model.specs.Addresses.{address}
+use Rattle.page_model.specs.Labels.{Element}
+use Rattle.tpl_blocks.specs.Blocks.{block, waiting}
+use Rattle.tpl_model.specs.KeptLines.Kept.{kept}
+use Rattle.tpl_drawn.specs.Shown.{attributes_of, inside_of}
+use Rattle.tpl_model.specs.ShownNodes.Shapes.{all_shown, child_of}
+use Rattle.tpl_model.specs.PageUpdates.PageMemos.{nodes, values}
+use Rattle.tpl_drawn.proofs.Compares.Siblings.{put_kept_node, put_new_node}
+use Rattle.tpl_drawn.proofs.comparing.kept.put_kept.Goals as goal
+
+pub returns-clause-number : goal.returns-clause-number
+returns-clause-number c = λ known k.
+    sym (ap known (sym c.in_ok-address.ensures) ∙ (sym (k c.in_ok-address.address) ∙ (sym c.number.ensures ∙ c.in-Some.is)))
+
+pub returns-clause-child : goal.returns-clause-child
+returns-clause-child c = λ known k.
+    put_kept_node known (address c.args.line (option_copied c.args.key)) c.in-Some.number
+    (Element c.args.name.now (values (waiting c.args.attributes.now) (attributes_of (kept c.args.memo.now))))
+    (nodes (option_copied c.args.key) (block c.args.inner.now) (inside_of (kept c.args.memo.now))) (map child_of c.args.children.now.items)
+    (map child_of c.push.new.self.items) (ap known (sym c.in_ok-address.ensures) ∙ (sym (k c.in_ok-address.address) ∙ (sym c.number.ensures ∙ c.in-Some.is)))
+    (ap (map child_of) c.in_ok-push.ensures.items ∙ map-append child_of c.args.children.now.items _)
+
+pub returns-in_default-clause-number : goal.returns-in_default-clause-number
+returns-in_default-clause-number c = λ known k.
+    sym (ap known (sym c.in_ok-address.ensures) ∙ (sym (k c.in_ok-address.address) ∙ (sym c.number.ensures ∙ c.in_default.is)))
+
+pub returns-in_default-clause-child : goal.returns-in_default-clause-child
+returns-in_default-clause-child c = λ known k.
+    put_new_node known (address c.args.line (option_copied c.args.key))
+    (Element c.args.name.now (values (waiting c.args.attributes.now) (attributes_of (kept c.args.memo.now))))
+    (nodes (option_copied c.args.key) (block c.args.inner.now) (inside_of (kept c.args.memo.now))) (map child_of c.args.children.now.items)
+    (map child_of c.put_new.new.children.items) (all_shown c.new-shown.result.items) (all_shown c.put_element.new.out.items)
+    (ap known (sym c.in_ok-address.ensures) ∙ (sym (k c.in_ok-address.address) ∙ (sym c.number.ensures ∙ c.in_default.is)))
+    c.in_ok-put_new.ensures c.in_ok-put_element.ensures (ap all_shown c.new-shown.ensures.items)

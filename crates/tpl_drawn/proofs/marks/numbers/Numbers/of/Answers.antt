@@ -1,0 +1,29 @@
+use Rattle.std.proofs.Common.{◌≡◌, ◌+◌, drop, length, None, sym, ap, ◌∙◌, arith}
+use Rattle.std.specs.Map.{lookup}
+use Rattle.tpl_model.specs.ShownNodes.Addresses.{same_address}
+use Rattle.tpl_drawn.specs.Addresses.{noted, number_in}
+use Rattle.tpl_drawn.proofs.Numbered.Lists.{no_items}
+use Rattle.tpl_drawn.proofs.Numbered.Addresses.{all_noted, are_numbers, none_noted, one_noted}
+use Rattle.tpl_drawn.proofs.marks.numbers.Numbers.of.Goals as goal
+
+pub loop-address-init : goal.loop-address-init
+loop-address-init c =
+    let g = ap length c.into_iter-address-iterator.ensures.into_iter_gives.0 in
+    let r = c.requires in
+    none_noted c.into_iter-address-iterator.result.rest.items c.args.numbers.now (number_in c.new-all.result) (omega (arith, g, r))
+    (λ a. ap (lookup (same_address a)) c.new-all.ensures.empty)
+
+pub loop-address-preserved : goal.loop-address-preserved
+loop-address-preserved c =
+    one_noted c.into_iter-address-iterator.result.rest.items c.next.new.self.rest.items c.loop-address.address-iterator.rest.items c.args.numbers.now c.loop-address.at
+    c.in-Some.address (number_in c.loop-address.all) (number_in c.note.new.all) c.in-Some.ensures.steps.0 c.in_ok-note.ensures c.loop-address.invariant
+
+pub returns : goal.returns
+returns c = λ nodes root once addresses numbers.
+    let rest = c.loop-address.address-iterator.rest in
+    are_numbers c.args.addresses.items c.args.numbers.now nodes root (number_in c.loop-address.all)
+    (λ a.
+    all_noted c.into_iter-address-iterator.result.rest.items rest.items c.args.numbers.now c.loop-address.at (number_in c.loop-address.all)
+    (no_items rest.items rest.len rest.ok.0 c.in-None.ensures.steps.0) c.loop-address.invariant a
+    ∙ ap (λ z. noted z (drop 1 c.args.numbers.now) (λ b. None) a) c.into_iter-address-iterator.ensures.into_iter_gives.0)
+    once addresses numbers

@@ -1,0 +1,23 @@
+use Rattle.std.proofs.Common.{map, sym, ap, ◌∙◌}
+use Rattle.tpl_drawn.specs.Shown.{attributes_of}
+use Rattle.tpl_model.specs.KeptLines.Kept.{heard_of}
+use Rattle.tpl_drawn.proofs.Placed.Equations.{of_blank, of_branch, of_element, of_line, of_loop, of_unread}
+use Rattle.tpl_drawn.proofs.nodes.parts.attributes_of.Goals as goal
+
+pub returns-in-Element : goal.returns-in-Element
+returns-in-Element c = ap (map heard_of) c.deref.ensures.value ∙ sym (ap attributes_of (of_element _ _ _ _ c.in-Element.is))
+
+pub returns-in-Unread : goal.returns-in-Unread
+returns-in-Unread c = sym (ap attributes_of (of_unread _ c.in-Unread.is))
+
+pub returns-in-Blank : goal.returns-in-Blank
+returns-in-Blank c = sym (ap attributes_of (of_blank _ c.in-Blank.is))
+
+pub returns-in-Line : goal.returns-in-Line
+returns-in-Line c = sym (ap attributes_of (of_line _ _ _ c.in-Line.is))
+
+pub returns-in-Branch : goal.returns-in-Branch
+returns-in-Branch c = sym (ap attributes_of (of_branch _ _ _ _ c.in-Branch.is))
+
+pub returns-in-Loop : goal.returns-in-Loop
+returns-in-Loop c = sym (ap attributes_of (of_loop _ _ _ _ c.in-Loop.is))

@@ -1,0 +1,23 @@
+use Rattle.std.proofs.Common.{sym, ap, ◌∙◌}
+use Rattle.tpl_drawn.specs.Shown.{later_of}
+use Rattle.tpl_model.specs.KeptLines.Kept.{kept}
+use Rattle.tpl_drawn.proofs.Placed.Equations.{of_blank, of_branch, of_element, of_line, of_loop, of_unread}
+use Rattle.tpl_drawn.proofs.nodes.parts.later_of.Goals as goal
+
+pub returns-in-Line : goal.returns-in-Line
+returns-in-Line c = ap kept c.deref.ensures ∙ sym (ap later_of (of_line _ _ _ c.in-Line.is))
+
+pub returns-in-Element : goal.returns-in-Element
+returns-in-Element c = ap kept c.deref-in-Element.ensures ∙ sym (ap later_of (of_element _ _ _ _ c.in-Element.is))
+
+pub returns-in-Branch : goal.returns-in-Branch
+returns-in-Branch c = ap kept c.deref-in-Branch.ensures ∙ sym (ap later_of (of_branch _ _ _ _ c.in-Branch.is))
+
+pub returns-in-Loop : goal.returns-in-Loop
+returns-in-Loop c = ap kept c.deref-in-Loop.ensures ∙ sym (ap later_of (of_loop _ _ _ _ c.in-Loop.is))
+
+pub returns-in-Unread : goal.returns-in-Unread
+returns-in-Unread c = of_unread _ c.in-Unread.is ∙ sym (ap later_of (of_unread _ c.in-Unread.is))
+
+pub returns-in-Blank : goal.returns-in-Blank
+returns-in-Blank c = of_blank _ c.in-Blank.is ∙ sym (ap later_of (of_blank _ c.in-Blank.is))

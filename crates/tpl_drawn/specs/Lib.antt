@@ -1,0 +1,6 @@
+pub mod Marks
+pub mod Addresses
+pub mod Shown
+pub mod Heads
+pub mod Walks
+pub mod Comparison

@@ -1,0 +1,93 @@
+-- What is kept of the first of some lines, and what it shows.
+use Rattle.std.specs.Prelude.{◌≡◌, ◌≤◌, Bool, true, false, List, [], length, take}
+use Rattle.sig_base.specs.Tables.{Table}
+use Rattle.sig_base.specs.declared.value.Value.TheVariants as value
+use Rattle.sig_base.specs.declared.value.Outcome.{Outcome}
+use Rattle.sig_base.specs.declared.value.Outcome.TheVariants.{Good}
+use Rattle.page_model.specs.Forest.{Forest, none, node}
+use Rattle.page_model.specs.Labels.{Look, Text}
+use Rattle.tpl_model.specs.KeptLines.Kept.{rows_from}
+use Rattle.tpl_model.specs.declared.memo.PageMemo as held
+use Rattle.tpl_model.specs.Lines.{Block, empty, text, tag, choice, each, attempt}
+use Rattle.tpl_model.specs.Shapes.{node_text}
+use Rattle.tpl_scratch.specs.Pages.{shows_branch}
+use Rattle.tpl_model.specs.PageUpdates.PageMemos.{Heard, PageMemo, blank, line, element, branch, loop}
+
+-- whether it is kept of a text
+abbrev pub is_line : PageMemo → Bool
+is_line (line h r) = true
+is_line m = false
+
+-- of an element
+abbrev pub is_element : PageMemo → Bool
+is_element (element hs i r) = true
+is_element m = false
+
+-- of a choice
+abbrev pub is_branch : PageMemo → Bool
+is_branch (branch h i r) = true
+is_branch m = false
+
+-- of a loop
+abbrev pub is_loop : PageMemo → Bool
+is_loop (loop h i r) = true
+is_loop m = false
+
+-- whether it is kept of a line as the first of these; nothing is kept where there is none
+abbrev pub fits : Block → PageMemo → Bool
+fits (text n f rest) m = is_line m
+fits (tag n name xs inner rest) m = is_element m
+fits (choice f one other rest) m = is_branch m
+fits (each f inner rest) m = is_loop m
+fits (attempt first second rest) m = true
+fits empty m = false
+
+-- what is kept of the lines behind the first
+abbrev pub later_of : PageMemo → PageMemo
+later_of (line h r) = r
+later_of (element hs i r) = r
+later_of (branch h i r) = r
+later_of (loop h i r) = r
+later_of m = m
+
+-- what is kept inside an element, or of the branch that is shown
+abbrev pub inside_of : PageMemo → PageMemo
+inside_of (element hs i r) = i
+inside_of (branch h i r) = i
+inside_of m = m
+
+-- what was heard of the attributes
+abbrev pub attributes_of : PageMemo → List Heard
+attributes_of (element hs i r) = hs
+attributes_of m = []
+
+-- a text
+abbrev pub text_of : PageMemo → Forest Look
+text_of (line h r) = node 0 (Text (node_text h.outcome)) none none
+text_of m = none
+
+-- whether a branch is shown, the first or the other
+abbrev pub shows : PageMemo → Bool → Bool
+shows (branch h i r) first = shows_branch h.outcome first
+shows m first = false
+
+-- what is kept for the rows of a loop
+abbrev pub rows_of : PageMemo → PageMemo
+rows_of (loop h i r) = i
+rows_of m = blank
+
+-- what is kept for the rows that an outcome is, one after the other, where there is no more than there are rows
+abbrev pub among_rows : Outcome → List held.PageMemo → List held.PageMemo
+among_rows (Good (value.Rows t)) ms = take (length t.rows) ms
+among_rows _ ms = []
+
+-- it is kept for each row, one after the other
+pub record AreRows (m : PageMemo) (memos : List PageMemo) : Type 0 where
+  pub table : Table
+  pub few : length memos ≤ length table.rows
+  pub rows : rows_of m ≡ rows_from table 0 table.rows memos
+
+-- nodes, where they are shown
+abbrev pub where_shown : Bool → Forest Look → Forest Look
+where_shown true nodes = nodes
+where_shown false nodes = none

@@ -1,0 +1,10 @@
+// Which nodes of a page are compared when it is brought up to date, by what became of what is kept of its lines.
+mod children;
+mod comparer;
+mod kept;
+mod laws;
+mod node_marks;
+
+pub use comparer::compared;
+pub use laws::compare_law;
+pub use node_marks::Compared;

@@ -1,0 +1,51 @@
+// The children of a node whose inside is gone over.
+ghost use Rattle.std.specs.Prelude.{◌≡◌, ◌++◌, None, map, OnOk};
+ghost use Rattle.tpl_blocks.specs.Blocks.{block};
+ghost use Rattle.tpl_drawn.specs.Comparison.{is_plain};
+ghost use Rattle.tpl_drawn.specs.Marks.{children_in};
+ghost use Rattle.tpl_model.specs.ShownNodes.Shapes.{all_shown, child_of};
+
+use sig_base::NoMemory;
+use tpl_blocks::Block;
+use tpl_model::{Child, Shown};
+
+/// Whether lines are texts and elements alone, which always show the same topmost nodes.
+pub fn is_plain(lines: &Block) -> bool
+    ensures { result ≡ is_plain (block lines.now) }
+{
+    match lines {
+        Block::Empty => true,
+        Block::Text(_, _, rest) => is_plain(rest),
+        Block::Tag(_, _, _, _, rest) => is_plain(rest),
+        Block::Choice(_, _, _, _) => false,
+        Block::Each(_, _, _) => false,
+    }
+}
+
+/// Appends children.
+///
+/// # Errors
+///
+/// `NoMemory` alone.
+pub fn put_children(more: Vec<Child>, children: &mut Vec<Child>) -> Result<(), NoMemory>
+    ensures { OnOk result (map child_of children.new.items ≡ map child_of children.old.items ++ map child_of more.items) }
+{
+    for child in more {
+        children.push(child)?;
+    }
+    Ok(())
+}
+
+/// Appends nodes that are all new.
+///
+/// # Errors
+///
+/// `NoMemory` alone.
+pub fn put_new(nodes: Vec<Shown>, children: &mut Vec<Child>) -> Result<(), NoMemory>
+    ensures { OnOk result (map child_of children.new.items ≡ map child_of children.old.items ++ children_in (λ a. None) (all_shown nodes.items)) }
+{
+    for node in nodes {
+        children.push(Child::New(node))?;
+    }
+    Ok(())
+}

@@ -1,0 +1,458 @@
+// Lines that are gone over by what became of what is kept of them.
+ghost use Rattle.std.specs.Prelude.{◌≡◌, ℕ, [], Option, Some, None, map, IfOk, OnOk};
+ghost use Rattle.std.specs.List.Sorted.{IsNonDecreasingBy, IsPermutation};
+ghost use Rattle.std.specs.Option.{option_copied};
+ghost use Rattle.sig_base.specs.Tables.{Table};
+ghost use Rattle.page_model.specs.Addresses.{address};
+ghost use Rattle.page_model.specs.Labels as label;
+ghost use Rattle.tpl_drawn.specs.Comparison.{restated_in, touched_in};
+ghost use Rattle.tpl_blocks.specs.Blocks.{block, waiting};
+ghost use Rattle.tpl_model.specs.KeptLines.Changes as model;
+ghost use Rattle.tpl_model.specs.KeptLines.Changes.{chain, changed, first_in, is_stays};
+ghost use Rattle.tpl_drawn.specs.Marks.{Knows};
+ghost use Rattle.tpl_drawn.specs.Addresses.{number_on};
+ghost use Rattle.tpl_model.specs.KeptLines.Kept.{kept, rows_from};
+ghost use Rattle.tpl_drawn.specs.Shown.{attributes_of, inside_of, rows_of, shows};
+ghost use Rattle.tpl_model.specs.ShownNodes.Shapes.{mark_of};
+ghost use Rattle.tpl_model.specs.declared.mark.Mark.{Mark as AMark};
+ghost use Rattle.tpl_model.specs.PageUpdates.PageMemos.{values};
+ghost use Rattle.tpl_drawn.specs.Walks.{further, of_element, of_inside, of_lines, of_marks, of_rows, or_stays, walk_of, where_gone};
+
+use crate::comparing::children::is_plain;
+use crate::comparing::kept::{put_kept, put_staying};
+use crate::comparing::node_marks::{Compared, put_made, put_text_again};
+use crate::marks::PageNodes;
+use crate::nodes::{attributes_of, fits, inside_of, later_of, shows};
+use crate::shown::{put_attributes, rows_in};
+use sig_base::{NoMemory, Row, Text};
+use sig_formula::Formula;
+use std::alloc::Global;
+use tpl_blocks::Block;
+use tpl_model::{Change, Child, Look, Mark, PageMemo};
+
+// Whether all stays.
+fn is_stays(change: &Change) -> bool
+    ensures { result ≡ is_stays (changed change.now) }
+{
+    match change {
+        Change::Stays => true,
+        Change::Made => false,
+        Change::Over(_, _, _) => false,
+    }
+}
+
+// Whether the first of some parts stays.
+fn first_stays(inside: &[Change]) -> bool
+    ensures { result ≡ is_stays (first_in (chain (map changed inside.now))) }
+{
+    let Some(change) = inside.first() else {
+        return false;
+    };
+    is_stays(change)
+}
+
+// Lines, by what became of the first of some parts.
+#[cycle(comparing)]
+fn compare_first(
+    alloc: Global,
+    key: Option<&Text>,
+    lines: &Block,
+    memo: &PageMemo,
+    inside: &[Change],
+    page: &PageNodes,
+    children: &mut Vec<Child>,
+    out: &mut Compared,
+) -> Result<(), NoMemory>
+    ensures { (known : ℕ → Option ℕ) → Knows (number_on page.now) known →
+        OnOk result (walk_of children.new.items out.new ≡ further (walk_of children.old.items out.old)
+        (of_lines known (option_copied key.entry) (block lines.now) (kept memo.now) (first_in (chain (map changed inside.now))))) }
+{
+    let Some(change) = inside.first() else {
+        put_made(alloc, key, lines, memo, page, children, out)?;
+        return Ok(());
+    };
+    compare_lines(alloc, key, lines, memo, change, page, children, out)?;
+    Ok(())
+}
+
+// What is inside an element of this number, with a mark of the element for its children unless it always has the same.
+#[cycle(comparing)]
+fn compare_inside(
+    alloc: Global,
+    number: u64,
+    key: Option<&Text>,
+    inner: &Block,
+    memo: &PageMemo,
+    inside: &[Change],
+    page: &PageNodes,
+    out: &mut Compared,
+) -> Result<(), NoMemory>
+    ensures { (known : ℕ → Option ℕ) → Knows (number_on page.now) known →
+        OnOk result (walk_of [] out.new ≡ further (walk_of [] out.old)
+        (of_inside known (option_copied key.entry) number (block inner.now) (kept memo.now) (chain (map changed inside.now)))) }
+{
+    if first_stays(inside) {
+        return Ok(());
+    }
+    let mut children = Vec::new(alloc);
+    compare_first(alloc, key, inner, memo, inside, page, &mut children, out)?;
+    if is_plain(inner) {
+        return Ok(());
+    }
+    out.touched.push(Mark {
+        number,
+        look: None,
+        children,
+    })?;
+    Ok(())
+}
+
+// The marks of an element of this number, whose attributes may be as they were heard before, and of all below it.
+#[cycle(comparing)]
+fn compare_kept(
+    alloc: Global,
+    same: bool,
+    number: u64,
+    key: Option<&Text>,
+    name: &Text,
+    attributes: &[(Text, Formula)],
+    inner: &Block,
+    memo: &PageMemo,
+    inside: &[Change],
+    page: &PageNodes,
+    out: &mut Compared,
+) -> Result<(), NoMemory>
+    ensures { (known : ℕ → Option ℕ) → Knows (number_on page.now) known →
+        OnOk result (walk_of [] out.new ≡ further (walk_of [] out.old)
+        (of_marks known (option_copied key.entry) same (Some number) (label.Element name.now (values (waiting attributes.now) (attributes_of (kept memo.now))))
+        (block inner.now) (inside_of (kept memo.now)) (chain (map changed inside.now)))) }
+{
+    compare_inside(
+        alloc,
+        number,
+        key,
+        inner,
+        inside_of(memo),
+        inside,
+        page,
+        out,
+    )?;
+    if same {
+        return Ok(());
+    }
+    let mut values = Vec::new(alloc);
+    put_attributes(alloc, attributes, attributes_of(memo), &mut values)?;
+    let name = name.copy()?;
+    out.restated.push(Mark {
+        number,
+        look: Some(Look::Element(name, values)),
+        children: Vec::new(alloc),
+    })?;
+    Ok(())
+}
+
+// An element that was heard again.
+#[cycle(comparing)]
+fn compare_element(
+    alloc: Global,
+    same: bool,
+    line: usize,
+    key: Option<&Text>,
+    name: &Text,
+    attributes: &[(Text, Formula)],
+    inner: &Block,
+    memo: &PageMemo,
+    inside: &[Change],
+    page: &PageNodes,
+    children: &mut Vec<Child>,
+    out: &mut Compared,
+) -> Result<(), NoMemory>
+    ensures { (known : ℕ → Option ℕ) → Knows (number_on page.now) known →
+        OnOk result (walk_of children.new.items out.new ≡ further (walk_of children.old.items out.old)
+        (of_element known (option_copied key.entry) same (address line (option_copied key.entry))
+        (label.Element name.now (values (waiting attributes.now) (attributes_of (kept memo.now))))
+        (block inner.now) (inside_of (kept memo.now)) (chain (map changed inside.now)))) }
+{
+    let number = put_kept(
+        alloc, line, key, name, attributes, inner, memo, page, children,
+    )?;
+    let Some(number) = number else {
+        return Ok(());
+    };
+    compare_kept(
+        alloc, same, number, key, name, attributes, inner, memo, inside, page, out,
+    )?;
+    Ok(())
+}
+
+// A branch of a choice whose test was heard again, the first or the other, where it is shown.
+#[cycle(comparing)]
+fn compare_branch(
+    alloc: Global,
+    first: bool,
+    key: Option<&Text>,
+    lines: &Block,
+    memo: &PageMemo,
+    inside: &[Change],
+    page: &PageNodes,
+    children: &mut Vec<Child>,
+    out: &mut Compared,
+) -> Result<(), NoMemory>
+    ensures { (known : ℕ → Option ℕ) → Knows (number_on page.now) known →
+        OnOk result (walk_of children.new.items out.new ≡ further (walk_of children.old.items out.old)
+        (where_gone (shows (kept memo.now) first)
+        (of_lines known (option_copied key.entry) (block lines.now) (inside_of (kept memo.now)) (first_in (chain (map changed inside.now)))))) }
+{
+    if !shows(memo, first) {
+        return Ok(());
+    }
+    compare_first(
+        alloc,
+        key,
+        lines,
+        inside_of(memo),
+        inside,
+        page,
+        children,
+        out,
+    )?;
+    Ok(())
+}
+
+// The lines of one row; where nothing is told of them, they stay.
+#[cycle(comparing)]
+fn compare_row(
+    alloc: Global,
+    key: &Text,
+    inner: &Block,
+    memo: &PageMemo,
+    change: Option<&Change>,
+    page: &PageNodes,
+    children: &mut Vec<Child>,
+    out: &mut Compared,
+) -> Result<(), NoMemory>
+    ensures { (known : ℕ → Option ℕ) → Knows (number_on page.now) known →
+        OnOk result (walk_of children.new.items out.new ≡ further (walk_of children.old.items out.old)
+        (of_lines known (Some key.now) (block inner.now) (kept memo.now) (or_stays (option_copied change.entry)))) }
+{
+    let Some(change) = change else {
+        put_staying(alloc, Some(key), inner, memo, page, children)?;
+        return Ok(());
+    };
+    compare_lines(alloc, Some(key), inner, memo, change, page, children, out)?;
+    Ok(())
+}
+
+// The lines of each row.
+#[cycle(comparing)]
+fn compare_rows(
+    alloc: Global,
+    inner: &Block,
+    rows: &[Row],
+    memos: &[PageMemo],
+    inside: &[Change],
+    page: &PageNodes,
+    children: &mut Vec<Child>,
+    out: &mut Compared,
+) -> Result<(), NoMemory>
+    ensures { (known : ℕ → Option ℕ) → Knows (number_on page.now) known → (t : Table) (i : ℕ) →
+        OnOk result (walk_of children.new.items out.new ≡ further (walk_of children.old.items out.old)
+        (of_rows known (block inner.now) (rows_from t i rows.now (map kept memos.now)) (chain (map changed inside.now)))) }
+{
+    for (place, memo) in memos.iter().enumerate() {
+        let Some(row) = rows.get(place) else {
+            return Ok(());
+        };
+        let change = inside.get(place);
+        compare_row(alloc, &row.key, inner, memo, change, page, children, out)?;
+    }
+    Ok(())
+}
+
+// A loop whose rows were heard again.
+#[cycle(comparing)]
+fn compare_each(
+    alloc: Global,
+    inner: &Block,
+    memo: &PageMemo,
+    inside: &[Change],
+    page: &PageNodes,
+    children: &mut Vec<Child>,
+    out: &mut Compared,
+) -> Result<(), NoMemory>
+    ensures { (known : ℕ → Option ℕ) → Knows (number_on page.now) known →
+        OnOk result (walk_of children.new.items out.new ≡ further (walk_of children.old.items out.old)
+        (of_rows known (block inner.now) (rows_of (kept memo.now)) (chain (map changed inside.now)))) }
+{
+    match memo {
+        PageMemo::Loop(heard, memos, _) => {
+            compare_rows(
+                alloc,
+                inner,
+                rows_in(&heard.outcome),
+                memos,
+                inside,
+                page,
+                children,
+                out,
+            )?;
+            Ok(())
+        }
+        PageMemo::Unread => Ok(()),
+        PageMemo::Blank => Ok(()),
+        PageMemo::Line(_, _) => Ok(()),
+        PageMemo::Element(_, _, _) => Ok(()),
+        PageMemo::Branch(_, _, _) => Ok(()),
+    }
+}
+
+// Lines of which the first was heard again, and may be as it was heard before.
+#[cycle(comparing)]
+fn compare_parts(
+    alloc: Global,
+    same: bool,
+    key: Option<&Text>,
+    lines: &Block,
+    memo: &PageMemo,
+    inside: &[Change],
+    later: &Change,
+    page: &PageNodes,
+    children: &mut Vec<Child>,
+    out: &mut Compared,
+) -> Result<(), NoMemory>
+    ensures { (known : ℕ → Option ℕ) → Knows (number_on page.now) known →
+        OnOk result (walk_of children.new.items out.new ≡ further (walk_of children.old.items out.old)
+        (of_lines known (option_copied key.entry) (block lines.now) (kept memo.now) (model.over same (chain (map changed inside.now)) (changed later.now)))) }
+{
+    if !fits(lines, memo) {
+        return Ok(());
+    }
+    let behind = later_of(memo);
+    match lines {
+        Block::Empty => Ok(()),
+        Block::Text(line, _, rest) => {
+            put_text_again(alloc, same, *line, key, memo, page, children, out)?;
+            compare_lines(alloc, key, rest, behind, later, page, children, out)?;
+            Ok(())
+        }
+        Block::Tag(line, name, attributes, inner, rest) => {
+            compare_element(
+                alloc, same, *line, key, name, attributes, inner, memo, inside, page, children, out,
+            )?;
+            compare_lines(alloc, key, rest, behind, later, page, children, out)?;
+            Ok(())
+        }
+        Block::Choice(_, one, other, rest) => {
+            compare_branch(alloc, true, key, one, memo, inside, page, children, out)?;
+            compare_branch(alloc, false, key, other, memo, inside, page, children, out)?;
+            compare_lines(alloc, key, rest, behind, later, page, children, out)?;
+            Ok(())
+        }
+        Block::Each(_, inner, rest) => {
+            compare_each(alloc, inner, memo, inside, page, children, out)?;
+            compare_lines(alloc, key, rest, behind, later, page, children, out)?;
+            Ok(())
+        }
+    }
+}
+
+// Lines in the row of this key: of those that stay the topmost nodes are children, those that were made anew are marked all, and of the others
+// each part is gone over.
+#[cycle(comparing)]
+fn compare_lines(
+    alloc: Global,
+    key: Option<&Text>,
+    lines: &Block,
+    memo: &PageMemo,
+    change: &Change,
+    page: &PageNodes,
+    children: &mut Vec<Child>,
+    out: &mut Compared,
+) -> Result<(), NoMemory>
+    ensures { (known : ℕ → Option ℕ) → Knows (number_on page.now) known →
+        OnOk result (walk_of children.new.items out.new ≡ further (walk_of children.old.items out.old)
+        (of_lines known (option_copied key.entry) (block lines.now) (kept memo.now) (changed change.now))) }
+{
+    match change {
+        Change::Stays => {
+            put_staying(alloc, key, lines, memo, page, children)?;
+            Ok(())
+        }
+        Change::Made => {
+            put_made(alloc, key, lines, memo, page, children, out)?;
+            Ok(())
+        }
+        Change::Over(same, inside, later) => {
+            compare_parts(
+                alloc, *same, key, lines, memo, inside, later, page, children, out,
+            )?;
+            Ok(())
+        }
+    }
+}
+
+// All marks, as they come, the root's behind the others unless it always has the same children.
+fn all_compared(
+    alloc: Global,
+    lines: &Block,
+    memo: &PageMemo,
+    change: &Change,
+    page: &PageNodes,
+) -> Result<Compared, NoMemory>
+    ensures touched { (known : ℕ → Option ℕ) → Knows (number_on page.now) known →
+        IfOk result (λ r. map mark_of r.touched.items ≡ touched_in known (block lines.now) (kept memo.now) (changed change.now)) }
+    ensures restated { (known : ℕ → Option ℕ) → Knows (number_on page.now) known →
+        IfOk result (λ r. map mark_of r.restated.items ≡ restated_in known (block lines.now) (kept memo.now) (changed change.now)) }
+{
+    let mut out = Compared {
+        touched: Vec::new(alloc),
+        restated: Vec::new(alloc),
+    };
+    let mut children = Vec::new(alloc);
+    compare_lines(
+        alloc,
+        None,
+        lines,
+        memo,
+        change,
+        page,
+        &mut children,
+        &mut out,
+    )?;
+    if is_plain(lines) {
+        return Ok(out);
+    }
+    out.touched.push(Mark {
+        number: 0,
+        look: None,
+        children,
+    })?;
+    Ok(out)
+}
+
+/// The nodes of both pages that are compared when a page of these numbers is brought up to date, by ascending numbers: those whose children may
+/// differ, and those whose text or attributes may differ. What is kept of its lines now tells of the next page, and the
+/// change of what became of it; of lines that stay only the topmost nodes are looked up, and so are texts and elements that were heard so before.
+///
+/// # Errors
+///
+/// `NoMemory` alone.
+pub fn compared(
+    alloc: Global,
+    lines: &Block,
+    memo: &PageMemo,
+    change: &Change,
+    page: &PageNodes,
+) -> Result<Compared, NoMemory>
+    ensures touched { (known : ℕ → Option ℕ) → Knows (number_on page.now) known →
+        IfOk result (λ r. IsPermutation (touched_in known (block lines.now) (kept memo.now) (changed change.now)) (map mark_of r.touched.items)) }
+    ensures restated { (known : ℕ → Option ℕ) → Knows (number_on page.now) known →
+        IfOk result (λ r. IsPermutation (restated_in known (block lines.now) (kept memo.now) (changed change.now)) (map mark_of r.restated.items)) }
+    ensures touched_sorted { IfOk result (λ r. IsNonDecreasingBy (λ (m : AMark). m.number) r.touched.items) }
+    ensures restated_sorted { IfOk result (λ r. IsNonDecreasingBy (λ (m : AMark). m.number) r.restated.items) }
+{
+    let mut out = all_compared(alloc, lines, memo, change, page)?;
+    out.touched.sort_by_key(|mark| mark.number)?;
+    out.restated.sort_by_key(|mark| mark.number)?;
+    Ok(out)
+}

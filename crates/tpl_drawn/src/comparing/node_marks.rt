@@ -1,0 +1,123 @@
+// The marks of nodes that are compared.
+ghost use Rattle.std.specs.Prelude.{◌≡◌, ◌++◌, ◌∷◌, ℕ, [], true, Option, map, OnOk};
+ghost use Rattle.std.specs.Option.{option_copied};
+ghost use Rattle.page_model.specs.Addresses.{address};
+ghost use Rattle.tpl_drawn.specs.Comparison.{restated_part, touched_part};
+ghost use Rattle.tpl_blocks.specs.Blocks.{block};
+ghost use Rattle.tpl_drawn.specs.Marks.{Knows};
+ghost use Rattle.tpl_drawn.specs.Addresses.{number_on};
+ghost use Rattle.tpl_model.specs.KeptLines.Kept.{kept};
+ghost use Rattle.tpl_drawn.specs.Shown.{is_line};
+ghost use Rattle.tpl_model.specs.ShownNodes.Shapes.{mark_of};
+ghost use Rattle.tpl_drawn.specs.Heads.{text_at};
+ghost use Rattle.tpl_model.specs.PageUpdates.PageMemos.{nodes};
+ghost use Rattle.tpl_drawn.specs.Walks.{further, of_made, of_text, walk_of};
+
+use crate::comparing::children::put_children;
+use crate::comparing::kept::put_staying_text;
+use crate::marks::{PageNodes, mark_all};
+use crate::shown::{put_shown, put_text};
+use sig_base::{NoMemory, Text};
+use std::alloc::Global;
+use tpl_blocks::Block;
+use tpl_model::{Child, Mark, PageMemo};
+
+/// The nodes of both pages that are compared.
+#[derive(Drop)]
+pub struct Compared {
+    /// Those whose children may differ, each with its next children and without its look.
+    pub touched: Vec<Mark>,
+    /// Those whose text or attributes may differ, each with its next look and without children.
+    pub restated: Vec<Mark>,
+}
+
+// Marks a node for its children and for its look.
+fn put_mark(alloc: Global, mark: Mark, out: &mut Compared) -> Result<(), NoMemory>
+    ensures touched { OnOk result (map mark_of out.new.touched.items ≡ map mark_of out.old.touched.items ++ touched_part (mark_of mark) ∷ []) }
+    ensures restated { OnOk result (map mark_of out.new.restated.items ≡ map mark_of out.old.restated.items ++ restated_part (mark_of mark) ∷ []) }
+{
+    let Mark {
+        number,
+        look,
+        children,
+    } = mark;
+    out.touched.push(Mark {
+        number,
+        look: None,
+        children,
+    })?;
+    out.restated.push(Mark {
+        number,
+        look,
+        children: Vec::new(alloc),
+    })?;
+    Ok(())
+}
+
+// Marks nodes for their children and for their looks.
+fn put_marks(alloc: Global, marks: Vec<Mark>, out: &mut Compared) -> Result<(), NoMemory>
+    ensures touched { OnOk result (map mark_of out.new.touched.items ≡ map mark_of out.old.touched.items ++ map touched_part (map mark_of marks.items)) }
+    ensures restated { OnOk result (map mark_of out.new.restated.items ≡ map mark_of out.old.restated.items ++ map restated_part (map mark_of marks.items)) }
+{
+    for mark in marks {
+        put_mark(alloc, mark, out)?;
+    }
+    Ok(())
+}
+
+/// Goes over lines that were made anew.
+///
+/// # Errors
+///
+/// `NoMemory` alone.
+pub fn put_made(
+    alloc: Global,
+    key: Option<&Text>,
+    lines: &Block,
+    memo: &PageMemo,
+    page: &PageNodes,
+    children: &mut Vec<Child>,
+    out: &mut Compared,
+) -> Result<(), NoMemory>
+    ensures { (known : ℕ → Option ℕ) → Knows (number_on page.now) known →
+        OnOk result (walk_of children.new.items out.new ≡ further (walk_of children.old.items out.old)
+        (of_made known (nodes (option_copied key.entry) (block lines.now) (kept memo.now)))) }
+{
+    let mut shown = Vec::new(alloc);
+    put_shown(alloc, key, lines, memo, &mut shown)?;
+    let mut marks = Vec::new(alloc);
+    let more = mark_all(alloc, shown, page, &mut marks)?;
+    put_children(more, children)?;
+    put_marks(alloc, marks, out)?;
+    Ok(())
+}
+
+/// Goes over a text that was heard again; where it was heard so before, it stays.
+///
+/// # Errors
+///
+/// `NoMemory` alone.
+pub fn put_text_again(
+    alloc: Global,
+    same: bool,
+    line: usize,
+    key: Option<&Text>,
+    memo: &PageMemo,
+    page: &PageNodes,
+    children: &mut Vec<Child>,
+    out: &mut Compared,
+) -> Result<(), NoMemory>
+    ensures { is_line (kept memo.now) ≡ true → (known : ℕ → Option ℕ) → Knows (number_on page.now) known →
+        OnOk result (walk_of children.new.items out.new ≡ further (walk_of children.old.items out.old)
+        (of_text known same (text_at (address line (option_copied key.entry)) (kept memo.now)))) }
+{
+    if same {
+        put_staying_text(alloc, line, key, memo, page, children)?;
+        return Ok(());
+    }
+    let mut shown = Vec::new(alloc);
+    put_text(alloc, line, key, memo, &mut shown)?;
+    let more = mark_all(alloc, shown, page, &mut out.restated)?;
+    put_children(more, children)?;
+    Ok(())
+}

@@ -1,0 +1,35 @@
+// The nodes of a page that stands.
+ghost use Rattle.std.specs.Prelude.{◌≡◌};
+ghost use Rattle.tpl_drawn.specs.Addresses.{number_on};
+
+use crate::marks::numbers::Numbers;
+use page_tree::Tree;
+use tpl_model::Address;
+
+/// A page's nodes: their tree, the numbers that were noted of addresses, and the next unused number.
+pub struct PageNodes {
+    pub tree: Tree,
+    pub numbers: Numbers,
+    pub next: u64,
+}
+
+impl Drop for PageNodes {
+    fn drop(self) {
+        let PageNodes {
+            tree: _,
+            numbers: _,
+            next: _,
+        } = self;
+    }
+}
+
+impl PageNodes {
+    /// The number of the node of an address; none where no node of the page has it.
+    pub fn number(&self, address: &Address) -> Option<u64>
+        ensures { result ≡ number_on self.now address.now }
+    {
+        let number = self.numbers.number(address)?;
+        self.tree.child_count(number)?;
+        Some(number)
+    }
+}

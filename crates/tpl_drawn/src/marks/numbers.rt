@@ -1,0 +1,119 @@
+// The numbers of a page's nodes by their addresses.
+ghost use Rattle.std.specs.Prelude.{◌≡◌, ◌≤◌, ◌<◌, ℕ, ◌+◌, ◌/◌, ◌^◌, ltb, ◌∷◌, ◌++◌, Some, if◌then◌else◌, length, map, IfOk, OnOk};
+ghost use Rattle.indexmap.specs.IndexMap.{index_map_len};
+ghost use Rattle.page_model.specs.Forest.{Forest, keys, tally};
+ghost use Rattle.page_model.specs.Labels.{Look};
+ghost use Rattle.page_model.specs.Pages.{by_number};
+ghost use Rattle.tpl_model.specs.ShownNodes.Addresses.{address_of, same_address};
+ghost use Rattle.tpl_model.specs.ShownNodes.Shapes.{all_shown, shown_tree};
+ghost use Rattle.tpl_model.specs.declared.shown.Address.{Address as AnAddress};
+ghost use Rattle.tpl_drawn.specs.Addresses.{noted_from, number_at, number_in, AreNumbersOf};
+
+use indexmap::IndexMap;
+use sig_base::NoMemory;
+use std::alloc::Global;
+use tpl_model::{Address, Shown};
+
+// Appends the address of a node and those of all below it, in document order.
+pub(crate) fn put_address(node: Shown, out: &mut Vec<Address>) -> Result<(), NoMemory>
+    ensures { OnOk result (map address_of out.new.items ≡ map address_of out.old.items ++ keys (shown_tree node)) }
+{
+    let Shown {
+        address,
+        children,
+        ..
+    } = node;
+    out.push(address)?;
+    for child in children {
+        put_address(child, out)?;
+    }
+    Ok(())
+}
+
+/// Appends the addresses of nodes, in document order.
+///
+/// # Errors
+///
+/// `NoMemory` alone.
+pub fn put_addresses(nodes: Vec<Shown>, out: &mut Vec<Address>) -> Result<(), NoMemory>
+    ensures { OnOk result (map address_of out.new.items ≡ map address_of out.old.items ++ keys (all_shown nodes.items)) }
+{
+    for node in nodes {
+        put_address(node, out)?;
+    }
+    Ok(())
+}
+
+// Notes the number of an address.
+fn note(all: &mut IndexMap<Address, u64>, address: Address, number: u64) -> Result<(), NoMemory>
+    ensures { OnOk result ((a : AnAddress) → number_in all.new a ≡ (if same_address address a then Some number else number_in all.old a)) }
+{
+    all.insert(address, number)?;
+    Ok(())
+}
+
+/// The numbers that were noted of addresses: that of each node of a page, and of some that are gone, until they are read off anew.
+pub struct Numbers {
+    all: IndexMap<Address, u64>,
+    read: usize,
+}
+
+impl Drop for Numbers {
+    fn drop(self) {
+        let Numbers { all: _, read: _ } = self;
+    }
+}
+
+impl Numbers {
+    /// The numbers of the nodes below the root, whose addresses are these in document order; the numbers of all nodes are these, in the same
+    /// order behind that of the root.
+    ///
+    /// # Errors
+    ///
+    /// `NoMemory` alone.
+    pub fn of(alloc: Global, addresses: Vec<Address>, numbers: &[u64]) -> Result<Numbers, NoMemory>
+        requires { length addresses.items + 1 ≡ length numbers.now }
+        ensures { (nodes : Forest (ℕ × Look)) (root : ℕ) → ((j : ℕ) → tally j nodes ≤ 1) → map address_of addresses.items ≡ keys nodes →
+            numbers.now ≡ root ∷ keys (by_number nodes) → IfOk result (λ n. AreNumbersOf (number_at n) nodes) }
+    {
+        let mut all = IndexMap::new(alloc);
+        let mut at = 1;
+        for address in addresses {
+            note(&mut all, address, numbers[at])?;
+            at += 1;
+        }
+        let read = all.len();
+        Ok(Numbers { all, read })
+    }
+
+    /// Notes these addresses under the numbers from this one on, one after the other; one that was noted has its new number then.
+    ///
+    /// # Errors
+    ///
+    /// `NoMemory` alone; some may then be noted.
+    pub fn note_all(&mut self, addresses: Vec<Address>, from: u64) -> Result<(), NoMemory>
+        requires { from + length addresses.items < 2 ^ 64 }
+        ensures { OnOk result ((a : AnAddress) → number_at self.new a ≡ noted_from addresses.items from (number_at self.old) a) }
+    {
+        let mut number = from;
+        for address in addresses {
+            note(&mut self.all, address, number)?;
+            number += 1;
+        }
+        Ok(())
+    }
+
+    /// Whether half of the addresses that are noted are more than all there were when they were read off: most may be of nodes that are gone.
+    pub fn is_crowded(&self) -> bool
+        ensures { result ≡ ltb self.now.read (index_map_len self.now.all / 2) }
+    {
+        self.read < self.all.len() / 2
+    }
+
+    /// The number that was noted of an address.
+    pub fn number(&self, address: &Address) -> Option<u64>
+        ensures { result ≡ number_at self.now address.now }
+    {
+        self.all.get(address).copied()
+    }
+}

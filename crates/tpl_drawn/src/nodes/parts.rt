@@ -1,0 +1,186 @@
+// What is kept of the first of some lines, of whatever kind it is.
+ghost use Rattle.std.specs.Prelude.{◌≡◌, map, OnOk};
+ghost use Rattle.tpl_blocks.specs.Blocks.{block};
+ghost use Rattle.tpl_model.specs.KeptLines.Kept.{heard_of, kept};
+ghost use Rattle.tpl_scratch.specs.Pages.{nodes_of, with_nodes};
+ghost use Rattle.tpl_drawn.specs.Shown.{among_rows, attributes_of, fits, inside_of, is_branch, is_element, is_line, is_loop, later_of, shows, text_of, AreRows};
+
+use sig_base::{NoMemory, Outcome, Value};
+use std::alloc::Global;
+use tpl_blocks::Block;
+use tpl_model::{Heard, PageMemo};
+use tpl_scratch::{Nodes, node_text, shows_branch};
+
+fn is_line(memo: &PageMemo) -> bool
+    ensures { result ≡ is_line (kept memo.now) }
+{
+    match memo {
+        PageMemo::Line(_, _) => true,
+        PageMemo::Unread => false,
+        PageMemo::Blank => false,
+        PageMemo::Element(_, _, _) => false,
+        PageMemo::Branch(_, _, _) => false,
+        PageMemo::Loop(_, _, _) => false,
+    }
+}
+
+fn is_element(memo: &PageMemo) -> bool
+    ensures { result ≡ is_element (kept memo.now) }
+{
+    match memo {
+        PageMemo::Element(_, _, _) => true,
+        PageMemo::Unread => false,
+        PageMemo::Blank => false,
+        PageMemo::Line(_, _) => false,
+        PageMemo::Branch(_, _, _) => false,
+        PageMemo::Loop(_, _, _) => false,
+    }
+}
+
+fn is_branch(memo: &PageMemo) -> bool
+    ensures { result ≡ is_branch (kept memo.now) }
+{
+    match memo {
+        PageMemo::Branch(_, _, _) => true,
+        PageMemo::Unread => false,
+        PageMemo::Blank => false,
+        PageMemo::Line(_, _) => false,
+        PageMemo::Element(_, _, _) => false,
+        PageMemo::Loop(_, _, _) => false,
+    }
+}
+
+fn is_loop(memo: &PageMemo) -> bool
+    ensures { result ≡ is_loop (kept memo.now) }
+{
+    match memo {
+        PageMemo::Loop(_, _, _) => true,
+        PageMemo::Unread => false,
+        PageMemo::Blank => false,
+        PageMemo::Line(_, _) => false,
+        PageMemo::Element(_, _, _) => false,
+        PageMemo::Branch(_, _, _) => false,
+    }
+}
+
+/// Whether it is kept of a line as the first of these.
+pub(crate) fn fits(lines: &Block, memo: &PageMemo) -> bool
+    ensures { result ≡ fits (block lines.now) (kept memo.now) }
+{
+    match lines {
+        Block::Empty => false,
+        Block::Text(_, _, _) => is_line(memo),
+        Block::Tag(_, _, _, _, _) => is_element(memo),
+        Block::Choice(_, _, _, _) => is_branch(memo),
+        Block::Each(_, _, _) => is_loop(memo),
+    }
+}
+
+/// What is kept of the lines behind the first.
+pub(crate) fn later_of(memo: &PageMemo) -> &PageMemo
+    ensures { kept result.now ≡ later_of (kept memo.now) }
+{
+    match memo {
+        PageMemo::Unread => memo,
+        PageMemo::Blank => memo,
+        PageMemo::Line(_, later) => later,
+        PageMemo::Element(_, _, later) => later,
+        PageMemo::Branch(_, _, later) => later,
+        PageMemo::Loop(_, _, later) => later,
+    }
+}
+
+/// What is kept inside an element, or of the branch that is shown.
+pub(crate) fn inside_of(memo: &PageMemo) -> &PageMemo
+    ensures { kept result.now ≡ inside_of (kept memo.now) }
+{
+    match memo {
+        PageMemo::Element(_, inside, _) => inside,
+        PageMemo::Branch(_, inside, _) => inside,
+        PageMemo::Unread => memo,
+        PageMemo::Blank => memo,
+        PageMemo::Line(_, _) => memo,
+        PageMemo::Loop(_, _, _) => memo,
+    }
+}
+
+/// What was heard of the attributes of an element.
+pub(crate) fn attributes_of(memo: &PageMemo) -> &[Heard]
+    ensures { map heard_of result.now ≡ attributes_of (kept memo.now) }
+{
+    match memo {
+        PageMemo::Element(all, _, _) => all,
+        PageMemo::Unread => &[],
+        PageMemo::Blank => &[],
+        PageMemo::Line(_, _) => &[],
+        PageMemo::Branch(_, _, _) => &[],
+        PageMemo::Loop(_, _, _) => &[],
+    }
+}
+
+/// Whether a branch of a choice is shown, the first or the other.
+pub(crate) fn shows(memo: &PageMemo, first: bool) -> bool
+    ensures { result ≡ shows (kept memo.now) first }
+{
+    match memo {
+        PageMemo::Branch(test, _, _) => shows_branch(&test.outcome, first),
+        PageMemo::Unread => false,
+        PageMemo::Blank => false,
+        PageMemo::Line(_, _) => false,
+        PageMemo::Element(_, _, _) => false,
+        PageMemo::Loop(_, _, _) => false,
+    }
+}
+
+// What is kept for the rows that an outcome is, where there is no more than there are rows.
+fn among_rows<'a>(outcome: &Outcome, memos: &'a [PageMemo]) -> &'a [PageMemo]
+    ensures { result.now ≡ among_rows outcome.now memos.now }
+{
+    match outcome {
+        Outcome::Good(Value::Rows(rows)) => {
+            if memos.len() <= rows.len() {
+                memos
+            } else {
+                &memos[..rows.len()]
+            }
+        }
+        _ => &[],
+    }
+}
+
+/// What is kept for the rows of a loop.
+pub fn rows_of(memo: &PageMemo) -> &[PageMemo]
+    ensures { AreRows (kept memo.now) (map kept result.now) }
+{
+    match memo {
+        PageMemo::Loop(rows, memos, _) => among_rows(&rows.outcome, memos),
+        PageMemo::Unread => &[],
+        PageMemo::Blank => &[],
+        PageMemo::Line(_, _) => &[],
+        PageMemo::Element(_, _, _) => &[],
+        PageMemo::Branch(_, _, _) => &[],
+    }
+}
+
+/// Appends a text, by what is kept of it.
+///
+/// # Errors
+///
+/// `NoMemory` alone.
+pub fn put_text(alloc: Global, memo: &PageMemo, out: &mut Nodes) -> Result<(), NoMemory>
+    ensures { OnOk result (nodes_of out.new ≡ with_nodes (nodes_of out.old) (text_of (kept memo.now))) }
+{
+    match memo {
+        PageMemo::Line(heard, _) => {
+            let outcome = heard.outcome.copy()?;
+            let text = node_text(alloc, outcome)?;
+            out.put_text(text)?;
+            Ok(())
+        }
+        PageMemo::Unread => Ok(()),
+        PageMemo::Blank => Ok(()),
+        PageMemo::Element(_, _, _) => Ok(()),
+        PageMemo::Branch(_, _, _) => Ok(()),
+        PageMemo::Loop(_, _, _) => Ok(()),
+    }
+}

@@ -1,0 +1,4 @@
+mod Listened
+mod Made
+mod Renewals
+pub mod Shared

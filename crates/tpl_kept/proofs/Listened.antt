@@ -1,0 +1,5 @@
+pub mod Sequences
+pub mod Rowed
+pub mod Reuse
+pub mod Splits
+pub mod Slots

@@ -1,0 +1,16 @@
+use Rattle.std.proofs.Common.{[], ◌∷◌, ap, ◌∙◌}
+use Rattle.tpl_model.specs.KeptLines.Kept.{kept}
+use Rattle.tpl_kept.specs.declared.renewing.parts.First.TheVariants as start
+use Rattle.tpl_kept.proofs.renewing.parts.taken_up.Goals as goal
+
+pub returns-clause-first : goal.returns-clause-first
+returns-clause-first c = c.in_ok-first.ensures.ok ∙ ap start.Line c.into_inner-2.ensures
+
+pub returns-clause-places : goal.returns-clause-places
+returns-clause-places c = rw c.deref.ensures at c.in_ok-places.ensures
+
+pub returns-clause-inside_was : goal.returns-clause-inside_was
+returns-clause-inside_was c = rw c.deref-2.ensures at c.in_ok-inside_was.ensures
+
+pub returns-clause-later_was : goal.returns-clause-later_was
+returns-clause-later_was c = c.in_ok-later_was.ensures ∙ ap (λ z. kept z ∷ []) c.into_inner.ensures

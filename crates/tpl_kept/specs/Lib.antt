@@ -1,0 +1,5 @@
+pub mod Renewals
+pub mod Heads
+pub mod Changes
+pub mod Nameless
+pub mod Turns

@@ -1,0 +1,141 @@
+-- How what was kept of lines is brought up to date: some of it stays whole, and of the rest the first line is heard again, before what is inside
+-- it and what is behind it.
+use Rattle.std.specs.Prelude.{◌≡◌, ◌<◌, ℕ, Bool, true, false, List, [], ◌∷◌, length, map, Option, None, IfSome}
+use Rattle.sig_base.specs.Tables.{Table}
+use Rattle.sig_base.specs.declared.value.Fault.TheVariants.{Gone}
+use Rattle.sig_base.specs.declared.value.Outcome.{Outcome}
+use Rattle.sig_base.specs.declared.value.Outcome.TheVariants.{Bad}
+use Rattle.sig_formula.specs.declared.formula.RowRef.{RowRef}
+use Rattle.tpl_model.specs.Lines.{Block, empty, text, tag, choice, each}
+use Rattle.tpl_model.specs.Sources.{same_here}
+use Rattle.tpl_hearing.specs.Heard.{Grows, Outcomes}
+use Rattle.tpl_model.specs.KeptLines.Kept.{heard_of, kept}
+use Rattle.tpl_model.specs.PageUpdates.PageMemos.{PageMemo, unread, names}
+use Rattle.tpl_model.specs.KeptLines.Memos.{Makes, branch_memo, lines_memo, loop_memo, rows_in, table_in, truth_in}
+use Rattle.tpl_model.specs.KeptLines.Before.{WasListened, WasListenedAll, WasMade}
+use Rattle.tpl_kept.specs.Renewals.{WasMadeIfRead, AreChanged, SlotsWere, is_unread}
+use Rattle.tpl_kept.specs.declared.making.head.Head.{Head}
+use Rattle.tpl_kept.specs.declared.making.head.Head.TheVariants as head
+use Rattle.tpl_kept.specs.Heads.{Opens, behind, closed, inner_in, last_of, places_from, places_in, rest_in, shows_first}
+use Rattle.tpl_kept.specs.declared.renewing.parts.First.{First}
+use Rattle.tpl_kept.specs.declared.renewing.parts.First.TheVariants as start
+
+-- ---- what was kept in some rows
+
+-- what was kept first, or nothing
+abbrev pub first_of : List PageMemo → PageMemo
+first_of [] = unread
+first_of (m ∷ ms) = m
+
+-- what was kept behind it
+abbrev pub later_of : List PageMemo → List PageMemo
+later_of [] = []
+later_of (m ∷ ms) = ms
+
+-- what was kept of lines in each of some rows, as far as anything was
+abbrev pub WereEach : Block → List ℕ → List (Option RowRef) → Outcomes → List PageMemo → Type 0
+WereEach b links [] before ms = Unit {0}
+WereEach b links (r ∷ rs) before ms = WasMadeIfRead (lines_memo b) links r before (first_of ms) × WereEach b links rs before (later_of ms)
+
+-- ---- what was kept of lines, taken apart
+
+-- the parts put together are what was kept, if anything was
+abbrev pub IsApart : PageMemo → Head → List PageMemo → PageMemo → Type 0
+IsApart m h inside later = is_unread m ≡ false → m ≡ closed h inside (later ∷ [])
+
+-- what the test of a choice came to, or the rows of a loop; no other line has it
+abbrev pub outcome_of : Head → Outcome
+outcome_of (head.Choice h) = h.outcome
+outcome_of (head.Each h) = h.outcome
+outcome_of h = Bad Gone
+
+-- what was heard of the first of some lines
+abbrev pub WasOpened : Block → List ℕ → Option RowRef → Outcomes → Head → Type 0
+WasOpened empty links row before h = Unit {0}
+WasOpened (text n f rest) links row before (head.Text x) = WasListened f links row before (heard_of x)
+WasOpened (tag n name xs inner rest) links row before (head.Tag all) = WasListenedAll xs links row before (map heard_of all.items)
+WasOpened (choice f one other rest) links row before (head.Choice x) = WasListened f links row before (heard_of x)
+WasOpened (each f inner rest) links row before (head.Each x) = WasListened f links row before (heard_of x)
+WasOpened b links row before h = ⊥
+
+-- what was kept inside it, where it came to that
+abbrev pub WasInside : Block → List ℕ → Option RowRef → Outcomes → Outcome → List PageMemo → Type 0
+WasInside (tag n name xs inner rest) links row before o ms = WasMade (lines_memo inner) links row before (last_of ms)
+WasInside (choice f one other rest) links row before o ms = WasMade (branch_memo (truth_in o) one other) links row before (last_of ms)
+WasInside (each f inner rest) links row before o ms = WasMade (loop_memo (table_in o) inner) links None before (rows_in (table_in o) ms)
+WasInside b links row before o ms = Unit {0}
+
+-- what was kept behind it
+abbrev pub WasBehind : Block → List ℕ → Option RowRef → Outcomes → PageMemo → Type 0
+WasBehind (text n f rest) links row before m = WasMade (lines_memo rest) links row before m
+WasBehind (tag n name xs inner rest) links row before m = WasMade (lines_memo rest) links row before m
+WasBehind (choice f one other rest) links row before m = WasMade (lines_memo rest) links row before m
+WasBehind (each f inner rest) links row before m = WasMade (lines_memo rest) links row before m
+WasBehind b links row before m = Unit {0}
+
+-- ---- what was kept of the same rows
+
+-- what was kept for the rows of one table serves for those of another
+abbrev pub ServeRows : Table → Table → List PageMemo → List PageMemo → Type 0
+ServeRows t u old ms =
+    (b : Block) (links : List ℕ) (before : Outcomes) → SlotsWere b links t 0 before old → WereEach b links (places_from u 0 (length u.rows)) before ms
+
+-- a row of the key and the values of this one stands among those of a table
+pub record IsAmong (t : Table) (r : RowRef) : Type 0 where
+  pub place : ℕ
+  pub inside : place < length t.rows
+  pub same : same_here (record { rows = t; place = place }) r ≡ true
+
+-- so it is for each of some rows for which anything was kept
+abbrev pub AreAmong : Table → List (Option RowRef) → List PageMemo → Type 0
+AreAmong t [] ms = Unit {0}
+AreAmong t (r ∷ rs) ms = (is_unread (first_of ms) ≡ false → IfSome r (λ s. IsAmong t s)) × AreAmong t rs (later_of ms)
+
+-- What was kept inside a line serves where it is gone over again: of an element what was kept last, of a choice that of the same branch or
+-- nothing, and of a loop that of rows that are alike.
+abbrev pub ServeInside : Outcome → Head → List PageMemo → List PageMemo → Type 0
+ServeInside was (head.Tag all) old ms = ms ≡ last_of old ∷ []
+ServeInside was (head.Choice h) old ms = is_unread (first_of ms) ≡ false → (truth_in was ≡ truth_in h.outcome) × (first_of ms ≡ last_of old)
+ServeInside was (head.Each h) old ms =
+    ServeRows (table_in was) (table_in h.outcome) old ms
+    × AreAmong (table_in was) (places_from (table_in h.outcome) 0 (length (table_in h.outcome).rows)) ms
+ServeInside was h old ms = Unit {0}
+
+-- ---- what is kept next
+
+-- where the lines inside the first line are gone over; nowhere where all stays whole
+abbrev pub places_of : First → Option RowRef → List (Option RowRef)
+places_of (start.Whole x) row = []
+places_of (start.Line h) row = places_in h row
+
+-- where the lines behind it are gone over
+abbrev pub behind_of : First → Option RowRef → List (Option RowRef)
+behind_of (start.Whole x) row = []
+behind_of (start.Line h) row = behind h row
+
+-- whether the first branch of a choice is shown
+abbrev pub shows_of : First → Bool
+shows_of (start.Whole x) = false
+shows_of (start.Line h) = shows_first h
+
+-- what is kept of all lines
+abbrev pub kept_of : First → List PageMemo → List PageMemo → PageMemo
+kept_of (start.Whole x) inside later = kept x.memo
+kept_of (start.Line h) inside later = closed h inside later
+
+-- Lines that were kept are looked at, where they are to be, and the first of them is heard again; what was kept inside it and behind it is at hand.
+pub record OpensAgain (b : Block) (links : List ℕ) (row : Option RowRef) (before earlier now : Outcomes) (h : Head)
+    (inside later : List PageMemo) : Type 0 where
+  pub memo : PageMemo
+  pub mid : Outcomes
+  pub was : WasMade (lines_memo b) links row before memo
+  pub changed : AreChanged before (names memo) earlier mid
+  pub opens : Opens b links row mid now h
+  pub grows : Grows mid now
+  pub inside_was : WereEach (inner_in b (shows_first h)) links (places_in h row) before inside
+  pub later_was : WereEach (rest_in b) links (behind h row) before later
+
+-- so it is, or all of them are kept whole
+abbrev pub Begins : Block → List ℕ → Option RowRef → Outcomes → Outcomes → Outcomes → First → List PageMemo → List PageMemo → Type 0
+Begins b links row before earlier now (start.Whole x) inside later = Makes (lines_memo b) links row earlier now (kept x.memo)
+Begins b links row before earlier now (start.Line h) inside later = OpensAgain b links row before earlier now h inside later

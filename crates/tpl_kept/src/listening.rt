@@ -1,0 +1,8 @@
+// What is heard of the lines of a page, and how what is kept of them is put together.
+mod again;
+mod formulas;
+mod outcomes;
+
+pub use again::{listen_again, listen_all_again};
+pub use formulas::{listen, listen_all};
+pub(crate) use outcomes::{row_at, row_count, truth_of};

@@ -1,0 +1,10 @@
+// What a page keeps of its lines, made on signals that are settled as they are asked for.
+mod builder;
+mod head;
+
+pub use builder::make;
+pub use head::Head;
+pub(crate) use head::{
+    inner_of, last, lent_row, own_row, place_behind, places_inside, put_closed, rest_of,
+    shows_first,
+};

@@ -1,0 +1,10 @@
+// What a page keeps of its lines, brought up to date by what changed.
+mod looking;
+mod names;
+mod parts;
+mod rows;
+mod staying;
+mod update;
+
+pub use parts::Renewed;
+pub use update::renew;

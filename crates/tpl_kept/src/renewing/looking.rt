@@ -1,0 +1,63 @@
+// What is known of kept lines before they are gone over. It decides what is looked at, and nothing of what comes of it.
+
+use crate::renewing::parts::Turn;
+use tpl_model::{Change, PageMemo};
+
+/// What is known of kept lines, and what is done for it.
+#[derive(Clone, Copy)]
+pub(crate) enum Look {
+    /// All of their names may have the outcomes of before: they are heard again first.
+    First,
+    /// One of their names has another outcome: they are gone over.
+    Changed,
+    /// Lines before them have changed: they are gone over.
+    Over,
+}
+
+/// Whether the names of lines are heard again before the lines are gone over.
+pub(crate) fn hears_first(look: Look) -> bool {
+    matches!(look, Look::First)
+}
+
+// Whether a name of lines that are gone over is known to have another outcome, and it is none of the first line.
+fn is_behind(look: Look, turn: &Turn) -> bool {
+    match look {
+        Look::First => turn.same,
+        Look::Changed => turn.same,
+        Look::Over => false,
+    }
+}
+
+// Whether no line comes.
+fn is_end(memo: Option<&PageMemo>) -> bool {
+    match memo {
+        Some(PageMemo::Blank) => true,
+        _ => false,
+    }
+}
+
+/// What is known of the lines inside the first one: where no line is behind it and it has one inside, what has changed stands there.
+pub(crate) fn look_inside(look: Look, turn: &Turn) -> Look {
+    if is_behind(look, turn) && turn.places.len() == 1 && is_end(turn.later_was.front()) {
+        return Look::Changed;
+    }
+    Look::First
+}
+
+// Whether all that is kept stays.
+fn all_stay(changes: &[Change]) -> bool {
+    for change in changes {
+        if !matches!(change, Change::Stays) {
+            return false;
+        }
+    }
+    true
+}
+
+/// What is known of the lines behind the first one, of which the inside was gone over: where all stays there, what has changed is behind it.
+pub(crate) fn look_behind(look: Look, turn: &Turn) -> Look {
+    if is_behind(look, turn) && all_stay(&turn.inside_changes) {
+        return Look::Changed;
+    }
+    Look::Over
+}

@@ -1,0 +1,373 @@
+// What was kept of lines, taken apart, and what is kept of the first of them next.
+ghost use Rattle.std.specs.Prelude.{◌≡◌, ◌++◌, ◌∷◌, [], false, map, IfOk, OnOk};
+ghost use Rattle.std.specs.Option.{option_copied};
+ghost use Rattle.tpl_model.specs.KeptLines.Kept.{kept};
+ghost use Rattle.tpl_model.specs.KeptLines.Changes.{chain, changed, over};
+ghost use Rattle.tpl_model.specs.KeptLines.Memos.{truth_in};
+ghost use Rattle.tpl_kept.specs.Renewals.{is_unread};
+ghost use Rattle.tpl_kept.specs.Heads.{last_of, places_in};
+ghost use Rattle.tpl_kept.specs.Changes.{changed_of, last_change};
+ghost use Rattle.tpl_kept.specs.Turns.{behind_of, first_of, kept_of, later_of, outcome_of, shows_of, IsApart, ServeInside};
+ghost use Rattle.tpl_kept.specs.declared.making.head.Head.TheVariants as head;
+ghost use Rattle.tpl_kept.specs.declared.renewing.parts.First.TheVariants as start;
+
+use crate::listening::truth_of;
+use crate::making::{Head, last, place_behind, places_inside, put_closed, shows_first};
+use crate::renewing::rows::rows_were;
+use sig_base::{Fault, NoMemory, Outcome};
+use sig_formula::RowRef;
+use std::alloc::Global;
+use std::collections::VecDeque;
+use tpl_model::{Change, PageMemo};
+
+/// What is kept of lines that were brought up to date, and what became of what was kept of them.
+#[derive(Drop)]
+pub struct Renewed {
+    pub memo: PageMemo,
+    pub change: Change,
+}
+
+/// What is kept of some lines next: all of them whole, or what is heard of the first of them.
+#[derive(Drop)]
+pub(crate) enum First {
+    /// What is kept of all of them.
+    Whole(Renewed),
+    /// What is heard of the first.
+    Line(Head),
+}
+
+/// Lines that are brought up to date: what is kept of them next, where those inside the first of them are gone over, what was kept inside
+/// it and behind it, what is kept there next, and what became of what was kept there; and whether all names of the first have the outcomes of before.
+#[derive(Drop)]
+pub(crate) struct Turn {
+    pub first: Box<First>,
+    pub same: bool,
+    pub places: Vec<Option<RowRef>>,
+    pub inside_was: VecDeque<PageMemo>,
+    pub later_was: VecDeque<PageMemo>,
+    pub inside: Vec<PageMemo>,
+    pub later: Vec<PageMemo>,
+    pub inside_changes: Vec<Change>,
+    pub later_changes: Vec<Change>,
+}
+
+/// What was kept of some lines: what was heard of the first, and what was kept inside it and behind it.
+#[derive(Drop)]
+pub(crate) struct Parts {
+    pub head: Box<Head>,
+    pub inside: Vec<PageMemo>,
+    pub later: Box<PageMemo>,
+}
+
+/// Whether nothing is kept.
+#[tactic(auto, using(tpl_model::proofs::MemoEquations::kept_unread, tpl_model::proofs::MemoEquations::kept_blank, tpl_model::proofs::MemoEquations::kept_line, tpl_model::proofs::MemoEquations::kept_element, tpl_model::proofs::MemoEquations::kept_branch, tpl_model::proofs::MemoEquations::kept_loop))]
+pub(crate) fn unread(memo: &PageMemo) -> bool
+    ensures { result ≡ is_unread (kept memo.now) }
+{
+    match memo {
+        PageMemo::Unread => true,
+        PageMemo::Blank => false,
+        PageMemo::Line(_, _) => false,
+        PageMemo::Element(_, _, _) => false,
+        PageMemo::Branch(_, _, _) => false,
+        PageMemo::Loop(_, _, _) => false,
+    }
+}
+
+// It alone.
+fn once(alloc: Global, memo: PageMemo) -> Result<Vec<PageMemo>, NoMemory>
+    ensures { IfOk result (λ ms. map kept ms.items ≡ kept memo ∷ []) }
+{
+    let mut memos = Vec::new(alloc);
+    memos.push(memo)?;
+    Ok(memos)
+}
+
+// The parts of lines.
+fn parted(head: Box<Head>, inside: Vec<PageMemo>, later: Box<PageMemo>) -> Parts
+    ensures { result ≡ record { head = head; inside = inside; later = later } }
+{
+    Parts {
+        head,
+        inside,
+        later,
+    }
+}
+
+// The parts of no lines.
+fn nothing(alloc: Global) -> Result<Parts, NoMemory>
+    ensures { IfOk result (λ p. p.head.value ≡ head.Nothing) }
+{
+    let head = Box::new(alloc, Head::Nothing)?;
+    let later = Box::new(alloc, PageMemo::blank())?;
+    Ok(parted(head, Vec::new(alloc), later))
+}
+
+/// Takes what was kept of lines apart.
+///
+/// # Errors
+///
+/// `NoMemory` alone.
+pub(crate) fn apart(alloc: Global, memo: Box<PageMemo>) -> Result<Parts, NoMemory>
+    ensures { IfOk result (λ p. IsApart (kept memo.value) p.head.value (map kept p.inside.items) (kept p.later.value)) }
+{
+    match Box::into_inner(memo) {
+        PageMemo::Line(line, later) => {
+            let head = Box::new(alloc, Head::Text(line))?;
+            Ok(parted(head, Vec::new(alloc), later))
+        }
+        PageMemo::Element(all, inside, later) => {
+            let head = Box::new(alloc, Head::Tag(all))?;
+            let inside = once(alloc, Box::into_inner(inside))?;
+            Ok(parted(head, inside, later))
+        }
+        PageMemo::Branch(test, inside, later) => {
+            let head = Box::new(alloc, Head::Choice(test))?;
+            let inside = once(alloc, Box::into_inner(inside))?;
+            Ok(parted(head, inside, later))
+        }
+        PageMemo::Loop(rows, inside, later) => {
+            let head = Box::new(alloc, Head::Each(rows))?;
+            Ok(parted(head, inside, later))
+        }
+        PageMemo::Blank => {
+            let parts = nothing(alloc)?;
+            Ok(parts)
+        }
+        PageMemo::Unread => {
+            let parts = nothing(alloc)?;
+            Ok(parts)
+        }
+    }
+}
+
+/// What the test of a choice came to, or the rows of a loop.
+///
+/// # Errors
+///
+/// `NoMemory` alone.
+pub(crate) fn outcome_of(head: &Head) -> Result<Outcome, NoMemory>
+    ensures { IfOk result (λ o. o ≡ outcome_of head.now) }
+{
+    match head {
+        Head::Choice(test) => Ok(test.outcome.copy()?),
+        Head::Each(rows) => Ok(rows.outcome.copy()?),
+        _ => Ok(Outcome::Bad(Fault::Gone)),
+    }
+}
+
+/// It alone, to be taken.
+pub(crate) fn waiting(alloc: Global, memo: PageMemo) -> Result<VecDeque<PageMemo>, NoMemory>
+    ensures { IfOk result (λ q. map kept q.items ≡ kept memo ∷ []) }
+{
+    let memos = once(alloc, memo)?;
+    Ok(VecDeque::from_vec(memos))
+}
+
+/// What was kept first, or nothing.
+pub(crate) fn next_kept(was: &mut VecDeque<PageMemo>) -> PageMemo
+    ensures first { kept result ≡ first_of (map kept was.old.items) }
+    ensures later { map kept was.new.items ≡ later_of (map kept was.old.items) }
+{
+    match was.pop_front() {
+        None => PageMemo::Unread,
+        Some(memo) => memo,
+    }
+}
+
+// What was kept of the branch that is shown, where it is that of before; otherwise nothing.
+fn branch_was(
+    alloc: Global,
+    was: &Outcome,
+    now: &Outcome,
+    inside: Vec<PageMemo>,
+) -> Result<VecDeque<PageMemo>, NoMemory>
+    ensures { IfOk result (λ q. is_unread (first_of (map kept q.items)) ≡ false →
+        (truth_in was.now ≡ truth_in now.now) × (first_of (map kept q.items) ≡ last_of (map kept inside.items))) }
+{
+    if truth_of(was) != truth_of(now) {
+        return Ok(VecDeque::new(alloc));
+    }
+    let one = waiting(alloc, last(inside))?;
+    Ok(one)
+}
+
+/// What was kept inside a line, as far as it serves where the line is gone over again: `was` is what its test or its rows came to before.
+pub(crate) fn inside_was(
+    alloc: Global,
+    was: &Outcome,
+    head: &Head,
+    inside: Vec<PageMemo>,
+) -> Result<VecDeque<PageMemo>, NoMemory>
+    ensures { IfOk result (λ q. ServeInside was.now head.now (map kept inside.items) (map kept q.items)) }
+{
+    match head {
+        Head::Tag(_) => {
+            let one = waiting(alloc, last(inside))?;
+            Ok(one)
+        }
+        Head::Choice(test) => {
+            let one = branch_was(alloc, was, &test.outcome, inside)?;
+            Ok(one)
+        }
+        Head::Each(rows) => {
+            let each = rows_were(alloc, was, &rows.outcome, inside)?;
+            Ok(each)
+        }
+        _ => Ok(VecDeque::new(alloc)),
+    }
+}
+
+/// All of it is kept whole, and this became of it.
+///
+/// # Errors
+///
+/// `NoMemory` alone.
+pub(crate) fn whole(alloc: Global, memo: PageMemo, change: Change) -> Result<Turn, NoMemory>
+    ensures first { IfOk result (λ t. t.first.value ≡ start.Whole (record { memo = memo; change = change })) }
+    ensures places { IfOk result (λ t. t.places.items ≡ []) }
+    ensures inside { IfOk result (λ t. t.inside.items ≡ []) }
+    ensures later { IfOk result (λ t. t.later.items ≡ []) }
+    ensures inside_changes { IfOk result (λ t. t.inside_changes.items ≡ []) }
+    ensures later_changes { IfOk result (λ t. t.later_changes.items ≡ []) }
+{
+    let first = Box::new(alloc, First::Whole(Renewed { memo, change }))?;
+    Ok(Turn {
+        first,
+        same: true,
+        places: Vec::new(alloc),
+        inside_was: VecDeque::new(alloc),
+        later_was: VecDeque::new(alloc),
+        inside: Vec::new(alloc),
+        later: Vec::new(alloc),
+        inside_changes: Vec::new(alloc),
+        later_changes: Vec::new(alloc),
+    })
+}
+
+/// The first line was heard again, in the row where it stands, and whether all its names have the outcomes of before; `was` is what its test or its
+/// rows came to before.
+///
+/// # Errors
+///
+/// `NoMemory` alone.
+pub(crate) fn taken_up(
+    alloc: Global,
+    was: &Outcome,
+    head: Box<Head>,
+    same: bool,
+    inside: Vec<PageMemo>,
+    later: Box<PageMemo>,
+    row: Option<&RowRef>,
+) -> Result<Turn, NoMemory>
+    ensures first { IfOk result (λ t. t.first.value ≡ start.Line head.value) }
+    ensures same { IfOk result (λ t. t.same ≡ same) }
+    ensures places { IfOk result (λ t. t.places.items ≡ places_in head.value (option_copied row.entry)) }
+    ensures inside_was { IfOk result (λ t. ServeInside was.now head.value (map kept inside.items) (map kept t.inside_was.items)) }
+    ensures later_was { IfOk result (λ t. map kept t.later_was.items ≡ kept later.value ∷ []) }
+    ensures inside { IfOk result (λ t. t.inside.items ≡ []) }
+    ensures later { IfOk result (λ t. t.later.items ≡ []) }
+    ensures inside_changes { IfOk result (λ t. t.inside_changes.items ≡ []) }
+    ensures later_changes { IfOk result (λ t. t.later_changes.items ≡ []) }
+{
+    let places = places_inside(alloc, &head, row)?;
+    let inside_was = inside_was(alloc, was, &head, inside)?;
+    let later_was = waiting(alloc, Box::into_inner(later))?;
+    let first = Box::new(alloc, First::Line(Box::into_inner(head)))?;
+    Ok(Turn {
+        first,
+        same,
+        places,
+        inside_was,
+        later_was,
+        inside: Vec::new(alloc),
+        later: Vec::new(alloc),
+        inside_changes: Vec::new(alloc),
+        later_changes: Vec::new(alloc),
+    })
+}
+
+/// Where the lines behind the first of some are gone over, in the row where these stand.
+pub(crate) fn behind_of<'a>(first: &First, row: &'a Option<RowRef>) -> &'a [Option<RowRef>]
+    ensures { result.now ≡ behind_of first.now row.now }
+{
+    match first {
+        First::Whole(_) => &[],
+        First::Line(head) => place_behind(head, row),
+    }
+}
+
+/// Whether the first branch of a choice is shown.
+pub(crate) fn shows_of(first: &First) -> bool
+    ensures { result ≡ shows_of first.now }
+{
+    match first {
+        First::Whole(_) => false,
+        First::Line(head) => shows_first(head),
+    }
+}
+
+/// What became of the last of some lines; where there are none, all was made anew.
+pub(crate) fn last_change(changes: Vec<Change>) -> Change
+    ensures { changed result ≡ last_change (map changed changes.items) }
+{
+    let mut changes = changes;
+    match changes.pop() {
+        None => Change::made(),
+        Some(change) => change,
+    }
+}
+
+// Puts what became of lines behind what became of others.
+fn put_over(
+    alloc: Global,
+    same: bool,
+    inside: Vec<Change>,
+    later: Vec<Change>,
+    changes: &mut Vec<Change>,
+) -> Result<(), NoMemory>
+    ensures { OnOk result (map changed changes.new.items ≡ map changed changes.old.items ++ over same (chain (map changed inside.items)) (last_change (map changed later.items)) ∷ []) }
+{
+    let change = Change::over(alloc, same, inside, last_change(later))?;
+    changes.push(change)?;
+    Ok(())
+}
+
+/// Puts what is kept of lines behind what was kept, once all of them was gone over, and what became of it behind what became of that.
+///
+/// # Errors
+///
+/// `NoMemory` alone.
+pub(crate) fn put_turn(
+    alloc: Global,
+    turn: Turn,
+    done: &mut Vec<PageMemo>,
+    changes: &mut Vec<Change>,
+) -> Result<(), NoMemory>
+    ensures kept { OnOk result (map kept done.new.items ≡ map kept done.old.items ++ kept_of turn.first.value (map kept turn.inside.items) (map kept turn.later.items) ∷ []) }
+    ensures changed { OnOk result (map changed changes.new.items ≡ map changed changes.old.items ++ changed_of turn.first.value turn.same (map changed turn.inside_changes.items) (map changed turn.later_changes.items) ∷ []) }
+{
+    let Turn {
+        first,
+        same,
+        places: _places,
+        inside_was: _inside_was,
+        later_was: _later_was,
+        inside,
+        later,
+        inside_changes,
+        later_changes,
+    } = turn;
+    match Box::into_inner(first) {
+        First::Whole(renewed) => {
+            done.push(renewed.memo)?;
+            changes.push(renewed.change)?;
+            Ok(())
+        }
+        First::Line(head) => {
+            put_closed(alloc, head, inside, later, done)?;
+            put_over(alloc, same, inside_changes, later_changes, changes)?;
+            Ok(())
+        }
+    }
+}

@@ -1,0 +1,389 @@
+// What is kept of lines, brought up to date.
+ghost use Rattle.std.specs.Prelude.{◌≡◌, ◌<◌, ◌^◌, [], length, map, true, IfOk, IfSome, OnOk};
+ghost use Rattle.std.specs.Option.{option_copied};
+ghost use Rattle.tpl_model.specs.PageUpdates.PageMemos.{names};
+ghost use Rattle.tpl_blocks.specs.Blocks.{block};
+ghost use Rattle.tpl_hearing.specs.Heard.{scene, CanSettle, Hears};
+ghost use Rattle.tpl_hearing.specs.HeardAgain.{AreCompared, AreHeardAgain};
+ghost use Rattle.tpl_model.specs.KeptLines.Kept.{kept};
+ghost use Rattle.tpl_model.specs.KeptLines.Memos.{lines_memo, Makes};
+ghost use Rattle.tpl_kept.specs.Renewals.{AreLooked, WasMadeIfRead};
+ghost use Rattle.tpl_kept.specs.Heads.{AreRows, IsRow, MakesEach, Opens};
+ghost use Rattle.tpl_model.specs.KeptLines.Changes.{changed, Tells};
+ghost use Rattle.tpl_kept.specs.Changes.{BeginsTold, TellsEach};
+ghost use Rattle.tpl_kept.specs.Turns.{places_of, Begins, WasOpened, WereEach};
+
+use crate::listening::{listen_again, listen_all_again};
+use crate::making::{Head, inner_of, last, lent_row, make, own_row, rest_of};
+use crate::renewing::looking::{Look, hears_first, look_behind, look_inside};
+use crate::renewing::names::put_names;
+use crate::renewing::parts::{
+    Parts, Renewed, Turn, apart, behind_of, last_change, next_kept, outcome_of, put_turn, shows_of,
+    taken_up, unread, waiting, whole,
+};
+use crate::renewing::staying::{first_stays, keep_first};
+use sig_base::{NoMemory, NodeId};
+use sig_computed::RunNote;
+use sig_formula::RowRef;
+use sig_host::{Lent, Shelf};
+use sig_nodes::Graph;
+use std::alloc::Global;
+use std::collections::VecDeque;
+use std::slice;
+use tpl_blocks::Block;
+use tpl_hearing::{Outcomes, Rehearing, hear_again};
+use tpl_model::{Change, PageMemo};
+
+/// Hears the names of what is kept again, in order, up to the first that hasn't the outcome of before; whether there is none.
+///
+/// # Errors
+///
+/// `NoMemory` alone; names may then have been settled.
+pub(crate) fn names_stay(
+    alloc: Global,
+    graph: &mut Graph,
+    shelf: &mut Shelf,
+    before: &Outcomes,
+    hearing: &mut Rehearing,
+    memo: &PageMemo,
+    notes: &mut Vec<RunNote>,
+) -> Result<bool, NoMemory>
+    requires can { CanSettle (scene graph.old (⟦<Shelf as Lent>⟧.asked shelf.old) notes.old.items) }
+    requires counted { ⟦<Shelf as Lent>⟧.counted shelf.old }
+    requires compared { AreCompared before.now hearing.old }
+    ensures again { IfOk result (λ same. AreHeardAgain same before.now (names (kept memo.now)) hearing.old.heard hearing.new.heard) }
+    ensures after { OnOk result (Hears
+        (scene graph.old (⟦<Shelf as Lent>⟧.asked shelf.old) notes.old.items) (scene graph.new (⟦<Shelf as Lent>⟧.asked shelf.new) notes.new.items)
+        (λ hosts. ⟦<Shelf as Lent>⟧.answers hosts shelf.old) (λ hosts. ⟦<Shelf as Lent>⟧.answers hosts shelf.new) hearing.old.heard hearing.new.heard) }
+    ensures can { OnOk result (CanSettle (scene graph.new (⟦<Shelf as Lent>⟧.asked shelf.new) notes.new.items)) }
+    ensures counted { OnOk result (⟦<Shelf as Lent>⟧.counted shelf.new) }
+    ensures compared { OnOk result (AreCompared before.now hearing.new) }
+{
+    let mut ids = Vec::new(alloc);
+    put_names(&mut ids, memo)?;
+    let same = hear_again(graph, shelf, before, hearing, &ids, notes)?;
+    Ok(same)
+}
+
+// Whether all names of lines are as before, where they are to be looked at.
+fn stays(
+    alloc: Global,
+    graph: &mut Graph,
+    shelf: &mut Shelf,
+    before: &Outcomes,
+    hearing: &mut Rehearing,
+    memo: &PageMemo,
+    look: bool,
+    notes: &mut Vec<RunNote>,
+) -> Result<bool, NoMemory>
+    requires can { CanSettle (scene graph.old (⟦<Shelf as Lent>⟧.asked shelf.old) notes.old.items) }
+    requires counted { ⟦<Shelf as Lent>⟧.counted shelf.old }
+    requires compared { AreCompared before.now hearing.old }
+    ensures looked { IfOk result (λ same. AreLooked same before.now (names (kept memo.now)) hearing.old.heard hearing.new.heard) }
+    ensures after { OnOk result (Hears
+        (scene graph.old (⟦<Shelf as Lent>⟧.asked shelf.old) notes.old.items) (scene graph.new (⟦<Shelf as Lent>⟧.asked shelf.new) notes.new.items)
+        (λ hosts. ⟦<Shelf as Lent>⟧.answers hosts shelf.old) (λ hosts. ⟦<Shelf as Lent>⟧.answers hosts shelf.new) hearing.old.heard hearing.new.heard) }
+    ensures can { OnOk result (CanSettle (scene graph.new (⟦<Shelf as Lent>⟧.asked shelf.new) notes.new.items)) }
+    ensures counted { OnOk result (⟦<Shelf as Lent>⟧.counted shelf.new) }
+    ensures compared { OnOk result (AreCompared before.now hearing.new) }
+{
+    if !look {
+        return Ok(false);
+    }
+    let same = names_stay(alloc, graph, shelf, before, hearing, memo, notes)?;
+    Ok(same)
+}
+
+// What is heard of the first of some lines now, and whether all its names are as before: then it isn't evaluated, and this was heard of it before.
+fn hear_first_again(
+    alloc: Global,
+    graph: &mut Graph,
+    shelf: &mut Shelf,
+    before: &Outcomes,
+    hearing: &mut Rehearing,
+    lines: &Block,
+    head: Box<Head>,
+    links: &[NodeId],
+    row: Option<&RowRef>,
+    notes: &mut Vec<RunNote>,
+) -> Result<(Head, bool), NoMemory>
+    requires place { IfSome row (λ r. r.now.place < length r.now.rows.rows) }
+    requires can { CanSettle (scene graph.old (⟦<Shelf as Lent>⟧.asked shelf.old) notes.old.items) }
+    requires counted { ⟦<Shelf as Lent>⟧.counted shelf.old }
+    requires compared { AreCompared before.now hearing.old }
+    requires was { WasOpened (block lines.now) links.now (option_copied row) before.now head.value }
+    ensures opens { IfOk result (λ r. Opens (block lines.now) links.now (option_copied row.entry) hearing.old.heard hearing.new.heard r.0) }
+    ensures same { IfOk result (λ r. r.1 ≡ true → WasOpened (block lines.now) links.now (option_copied row.entry) before.now r.0) }
+    ensures after { OnOk result (Hears
+        (scene graph.old (⟦<Shelf as Lent>⟧.asked shelf.old) notes.old.items) (scene graph.new (⟦<Shelf as Lent>⟧.asked shelf.new) notes.new.items)
+        (λ hosts. ⟦<Shelf as Lent>⟧.answers hosts shelf.old) (λ hosts. ⟦<Shelf as Lent>⟧.answers hosts shelf.new) hearing.old.heard hearing.new.heard) }
+    ensures can { OnOk result (CanSettle (scene graph.new (⟦<Shelf as Lent>⟧.asked shelf.new) notes.new.items)) }
+    ensures counted { OnOk result (⟦<Shelf as Lent>⟧.counted shelf.new) }
+    ensures compared { OnOk result (AreCompared before.now hearing.new) }
+{
+    match lines {
+        Block::Empty => Ok((Head::Nothing, true)),
+        Block::Text(_, formula, _) => {
+            let head = Box::into_inner(head);
+            let Head::Text(line) = head else {
+                unreachable!()
+            };
+            let heard = listen_again(
+                alloc, graph, shelf, before, hearing, formula, line, links, row, notes,
+            )?;
+            Ok((Head::Text(heard.0), heard.1))
+        }
+        Block::Tag(_, _, attributes, _, _) => {
+            let head = Box::into_inner(head);
+            let Head::Tag(all) = head else { unreachable!() };
+            let heard = listen_all_again(
+                alloc, graph, shelf, before, hearing, attributes, all, links, row, notes,
+            )?;
+            Ok((Head::Tag(heard.0), heard.1))
+        }
+        Block::Choice(test, _, _, _) => {
+            let head = Box::into_inner(head);
+            let Head::Choice(line) = head else {
+                unreachable!()
+            };
+            let heard = listen_again(
+                alloc, graph, shelf, before, hearing, test, line, links, row, notes,
+            )?;
+            Ok((Head::Choice(heard.0), heard.1))
+        }
+        Block::Each(rows, _, _) => {
+            let head = Box::into_inner(head);
+            let Head::Each(line) = head else {
+                unreachable!()
+            };
+            let heard = listen_again(
+                alloc, graph, shelf, before, hearing, rows, line, links, row, notes,
+            )?;
+            Ok((Head::Each(heard.0), heard.1))
+        }
+    }
+}
+
+// Lines of which nothing is kept are made; where all their names are as before, what is kept stays; of others the first is heard again.
+fn begin(
+    alloc: Global,
+    graph: &mut Graph,
+    shelf: &mut Shelf,
+    before: &Outcomes,
+    hearing: &mut Rehearing,
+    lines: &Block,
+    memo: Box<PageMemo>,
+    look: Look,
+    links: &[NodeId],
+    row: &Option<RowRef>,
+    notes: &mut Vec<RunNote>,
+) -> Result<Turn, NoMemory>
+    requires row { IsRow row.now }
+    requires can { CanSettle (scene graph.old (⟦<Shelf as Lent>⟧.asked shelf.old) notes.old.items) }
+    requires counted { ⟦<Shelf as Lent>⟧.counted shelf.old }
+    requires compared { AreCompared before.now hearing.old }
+    requires was { WasMadeIfRead (lines_memo (block lines.now)) links.now row.now before.now (kept memo.value) }
+    ensures begins { IfOk result (λ t. Begins (block lines.now) links.now row.now before.now hearing.old.heard hearing.new.heard t.first.value (map kept t.inside_was.items) (map kept t.later_was.items)) }
+    ensures places { IfOk result (λ t. t.places.items ≡ places_of t.first.value row.now) }
+    ensures inside { IfOk result (λ t. t.inside.items ≡ []) }
+    ensures later { IfOk result (λ t. t.later.items ≡ []) }
+    ensures inside_changes { IfOk result (λ t. t.inside_changes.items ≡ []) }
+    ensures later_changes { IfOk result (λ t. t.later_changes.items ≡ []) }
+    ensures told { IfOk result (λ t. BeginsTold (block lines.now) links.now row.now before.now (kept memo.value) t.first.value t.same (map kept t.inside_was.items)) }
+    ensures after { OnOk result (Hears
+        (scene graph.old (⟦<Shelf as Lent>⟧.asked shelf.old) notes.old.items) (scene graph.new (⟦<Shelf as Lent>⟧.asked shelf.new) notes.new.items)
+        (λ hosts. ⟦<Shelf as Lent>⟧.answers hosts shelf.old) (λ hosts. ⟦<Shelf as Lent>⟧.answers hosts shelf.new) hearing.old.heard hearing.new.heard) }
+    ensures can { OnOk result (CanSettle (scene graph.new (⟦<Shelf as Lent>⟧.asked shelf.new) notes.new.items)) }
+    ensures counted { OnOk result (⟦<Shelf as Lent>⟧.counted shelf.new) }
+    ensures compared { OnOk result (AreCompared before.now hearing.new) }
+{
+    let here = lent_row(row);
+    if unread(&memo) {
+        let memo = make(
+            alloc,
+            graph,
+            shelf,
+            &mut hearing.heard,
+            lines,
+            links,
+            here,
+            notes,
+        )?;
+        let all = whole(alloc, memo, Change::made())?;
+        return Ok(all);
+    }
+    if stays(
+        alloc,
+        graph,
+        shelf,
+        before,
+        hearing,
+        &memo,
+        hears_first(look),
+        notes,
+    )? {
+        let all = whole(alloc, Box::into_inner(memo), Change::stays())?;
+        return Ok(all);
+    }
+    let Parts {
+        head,
+        inside,
+        later,
+    } = apart(alloc, memo)?;
+    let was = outcome_of(&head)?;
+    let was = Box::new(alloc, was)?;
+    let heard = hear_first_again(
+        alloc, graph, shelf, before, hearing, lines, head, links, here, notes,
+    )?;
+    let head = Box::new(alloc, heard.0)?;
+    let turn = taken_up(alloc, &was, head, heard.1, inside, later, here)?;
+    Ok(turn)
+}
+
+// Puts what is kept of lines in each of some rows behind what was kept, brought up to date, and what became of it behind what became of that.
+fn renew_each(
+    alloc: Global,
+    graph: &mut Graph,
+    shelf: &mut Shelf,
+    before: &Outcomes,
+    hearing: &mut Rehearing,
+    lines: &Block,
+    links: &[NodeId],
+    rows: &[Option<RowRef>],
+    was: &mut VecDeque<PageMemo>,
+    look: Look,
+    notes: &mut Vec<RunNote>,
+    done: &mut Vec<PageMemo>,
+    changes: &mut Vec<Change>,
+) -> Result<(), NoMemory>
+    requires few { length rows.now < 2 ^ 64 }
+    requires rows { AreRows rows.now }
+    requires can { CanSettle (scene graph.old (⟦<Shelf as Lent>⟧.asked shelf.old) notes.old.items) }
+    requires counted { ⟦<Shelf as Lent>⟧.counted shelf.old }
+    requires compared { AreCompared before.now hearing.old }
+    requires was { WereEach (block lines.now) links.now rows.now before.now (map kept was.old.items) }
+    ensures made { OnOk result (MakesEach (block lines.now) links.now rows.now hearing.old.heard hearing.new.heard (map kept done.old.items) (map kept done.new.items)) }
+    ensures told { OnOk result (TellsEach (block lines.now) links.now rows.now before.now (map kept was.old.items) (map kept done.old.items) (map kept done.new.items) (map changed changes.old.items) (map changed changes.new.items)) }
+    ensures after { OnOk result (Hears
+        (scene graph.old (⟦<Shelf as Lent>⟧.asked shelf.old) notes.old.items) (scene graph.new (⟦<Shelf as Lent>⟧.asked shelf.new) notes.new.items)
+        (λ hosts. ⟦<Shelf as Lent>⟧.answers hosts shelf.old) (λ hosts. ⟦<Shelf as Lent>⟧.answers hosts shelf.new) hearing.old.heard hearing.new.heard) }
+    ensures can { OnOk result (CanSettle (scene graph.new (⟦<Shelf as Lent>⟧.asked shelf.new) notes.new.items)) }
+    ensures counted { OnOk result (⟦<Shelf as Lent>⟧.counted shelf.new) }
+    ensures compared { OnOk result (AreCompared before.now hearing.new) }
+{
+    let Some((row, others)) = rows.split_first() else {
+        return Ok(());
+    };
+    if first_stays(alloc, look, was)? {
+        keep_first(was, done, changes)?;
+        renew_each(
+            alloc, graph, shelf, before, hearing, lines, links, others, was, look, notes, done,
+            changes,
+        )?;
+        return Ok(());
+    }
+    let memo = next_kept(was);
+    let memo = Box::new(alloc, memo)?;
+    let mut turn = begin(
+        alloc, graph, shelf, before, hearing, lines, memo, look, links, row, notes,
+    )?;
+    let inner = inner_of(lines, shows_of(&turn.first));
+    let within = look_inside(look, &turn);
+    renew_each(
+        alloc,
+        graph,
+        shelf,
+        before,
+        hearing,
+        inner,
+        links,
+        &turn.places,
+        &mut turn.inside_was,
+        within,
+        notes,
+        &mut turn.inside,
+        &mut turn.inside_changes,
+    )?;
+    let behind = behind_of(&turn.first, row);
+    let after = look_behind(look, &turn);
+    renew_each(
+        alloc,
+        graph,
+        shelf,
+        before,
+        hearing,
+        rest_of(lines),
+        links,
+        behind,
+        &mut turn.later_was,
+        after,
+        notes,
+        &mut turn.later,
+        &mut turn.later_changes,
+    )?;
+    put_turn(alloc, turn, done, changes)?;
+    renew_each(
+        alloc, graph, shelf, before, hearing, lines, links, others, was, look, notes, done, changes,
+    )?;
+    Ok(())
+}
+
+/// Brings what a page keeps of these lines up to date, in the row where they stand, once one of its names has another outcome: it is what `make`
+/// would make. `before` are the outcomes on which it was made. A line whose names are as before isn't evaluated, the branch that was shown before is
+/// gone over again, a row that has its key and its values still keeps what was kept of it, and lines inside another one stay as they are where
+/// each of their names has the outcome of before: these are heard again first, unless it is known already that one of them hasn't. Where nothing is
+/// kept yet, all is made. Beside it comes what became of what was kept.
+///
+/// # Errors
+///
+/// `NoMemory` alone; names may then have been settled.
+pub fn renew(
+    alloc: Global,
+    graph: &mut Graph,
+    shelf: &mut Shelf,
+    before: &Outcomes,
+    hearing: &mut Rehearing,
+    lines: &Block,
+    memo: PageMemo,
+    links: &[NodeId],
+    row: Option<&RowRef>,
+    notes: &mut Vec<RunNote>,
+) -> Result<Renewed, NoMemory>
+    requires place { IfSome row (λ r. r.now.place < length r.now.rows.rows) }
+    requires can { CanSettle (scene graph.old (⟦<Shelf as Lent>⟧.asked shelf.old) notes.old.items) }
+    requires counted { ⟦<Shelf as Lent>⟧.counted shelf.old }
+    requires compared { AreCompared before.now hearing.old }
+    requires was { WasMadeIfRead (lines_memo (block lines.now)) links.now (option_copied row) before.now (kept memo) }
+    ensures made { IfOk result (λ r. Makes (lines_memo (block lines.now)) links.now (option_copied row.entry) hearing.old.heard hearing.new.heard (kept r.memo)) }
+    ensures told { IfOk result (λ r. Tells (block lines.now) links.now (option_copied row.entry) before.now (kept r.memo) (changed r.change)) }
+    ensures after { OnOk result (Hears
+        (scene graph.old (⟦<Shelf as Lent>⟧.asked shelf.old) notes.old.items) (scene graph.new (⟦<Shelf as Lent>⟧.asked shelf.new) notes.new.items)
+        (λ hosts. ⟦<Shelf as Lent>⟧.answers hosts shelf.old) (λ hosts. ⟦<Shelf as Lent>⟧.answers hosts shelf.new) hearing.old.heard hearing.new.heard) }
+    ensures can { OnOk result (CanSettle (scene graph.new (⟦<Shelf as Lent>⟧.asked shelf.new) notes.new.items)) }
+    ensures counted { OnOk result (⟦<Shelf as Lent>⟧.counted shelf.new) }
+    ensures compared { OnOk result (AreCompared before.now hearing.new) }
+{
+    let mut was = waiting(alloc, memo)?;
+    let own = own_row(row)?;
+    let mut done = Vec::new(alloc);
+    let mut changes = Vec::new(alloc);
+    renew_each(
+        alloc,
+        graph,
+        shelf,
+        before,
+        hearing,
+        lines,
+        links,
+        slice::from_ref(&own),
+        &mut was,
+        Look::Changed,
+        notes,
+        &mut done,
+        &mut changes,
+    )?;
+    Ok(Renewed {
+        memo: last(done),
+        change: last_change(changes),
+    })
+}

@@ -1,3 +1,0 @@
-pub mod Memos
-pub mod Renewals
-pub mod Changes

@@ -1,2 +1,0 @@
-mod Memos
-pub mod Shared

@@ -1,8 +1,0 @@
-use Rattle.std.proofs.Common.{◌+◌, length}
-use Rattle.tpl_blocks.specs.Blocks.{block}
-use Rattle.tpl_making.specs.Heads.{lines_size}
-use Rattle.tpl_making.proofs.builder.+put_each.Given as goal
-
--- the lines that are left, and the rows that are left for them
-abbrev pub decreases-put_each : goal.decreases-put_each
-decreases-put_each g l = lines_size (block l.lines.now) + length l.rows.now

@@ -1,5 +1,0 @@
-mod Children
-mod Lists
-mod Addresses
-pub mod Shared
-mod Marks

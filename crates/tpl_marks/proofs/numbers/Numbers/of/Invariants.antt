@@ -1,9 +1,0 @@
-use Rattle.std.proofs.Common.{◌≡◌, ◌+◌, length, drop, None}
-use Rattle.tpl_shapes.specs.declared.shown.Address.{Address}
-use Rattle.tpl_marks.specs.Addresses.{noted, number_in}
-use Rattle.tpl_marks.proofs.Addresses.{AreLeft}
-use Rattle.tpl_marks.proofs.numbers.Numbers.of.Given as goal
-
--- as many numbers as addresses are left, and with these all are noted
-abbrev pub invariant-loop-address : goal.invariant-loop-address
-invariant-loop-address l = AreLeft l.initial.address-iterator.rest.items l.address-iterator.rest.items l.numbers l.at (number_in l.all)

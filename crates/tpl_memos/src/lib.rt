@@ -1,6 +1,0 @@
-//! What a page keeps of its template's lines.
-#![tactic(auto)]
-
-mod memo;
-
-pub use memo::{Heard, PageMemo};

@@ -1,0 +1,11 @@
+pub mod Trees
+pub mod Orders
+pub mod Addressed
+pub mod Summary
+pub mod Walk
+pub mod Memos
+pub mod Updates
+pub mod Names
+pub mod Evaluations
+pub mod Numbers
+pub mod Mounts

@@ -1,0 +1,5 @@
+pub mod Kept
+pub mod Memos
+pub mod Changes
+pub mod Outcomes
+pub mod Before

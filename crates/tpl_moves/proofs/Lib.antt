@@ -1,3 +1,0 @@
-mod Subtrees
-mod Edits
-mod Operations

@@ -1,4 +1,0 @@
-mod Equations
-mod Placed
-mod Rows
-pub mod Shared

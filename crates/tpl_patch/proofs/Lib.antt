@@ -1,0 +1,6 @@
+mod Sorted
+mod Numbers
+mod Said
+mod Subtrees
+mod Edits
+mod Operations

@@ -1,0 +1,17 @@
+use Rattle.std.proofs.Common.{◌≡◌, ◌+◌, ◌++◌, ◌∷◌, ℕ, List, ap, ◌∙◌, not, drop, get_or}
+use Rattle.std.specs.List.{flat_map}
+use Rattle.std.proofs.lemmas.List.{drop_more}
+use Rattle.page_model.specs.Pages.{those}
+use Rattle.tpl_model.specs.NextPage.Lookups.{gone_numbers}
+use Rattle.tpl_patch.specs.Sets.{tells}
+use Rattle.tpl_patch.proofs.Numbers.{one_more}
+use Rattle.tpl_patch.proofs.leaving.gone_children.Goals as goal
+
+pub loop-number-preserved : goal.loop-number-preserved
+loop-number-preserved c =
+    let i = c.loop-number.number-index in
+    let xs = c.args.numbers.now in
+    let f : ℕ → List ℕ = gone_numbers (tells c.args.kept.now) c.args.tree.now in
+    let rest : drop i xs ≡ get_or xs i 0 ∷ drop (i + 1) xs = drop_more xs i 0 c.loop-number-test.true in
+    one_more f (get_or xs i 0) (drop i xs) (drop (i + 1) xs) (flat_map f xs) c.loop-number.gone.items c.put_others.new.out.items rest
+    (c.in_ok-put_others.ensures ∙ ap (λ z. c.loop-number.gone.items ++ those (λ n. not (tells c.args.kept.now n)) z) c.children.ensures) c.loop-number.invariant

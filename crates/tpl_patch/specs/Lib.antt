@@ -1,0 +1,4 @@
+pub mod Sets
+pub mod Attributes
+pub mod Moves
+pub mod Spelled

@@ -1,3 +1,0 @@
-mod Sorted
-mod Numbers
-pub mod Shared

@@ -1,5 +1,0 @@
-use Rattle.tpl_removals.proofs.Sorted.{sorted_is}
-use Rattle.tpl_removals.proofs.children.put_in_order.Goals as goal
-
-pub returns : goal.returns
-returns c = sorted_is c.args.numbers.now c.sort_unstable.new.self c.sort_unstable.ensures.permutation c.sort_unstable.ensures.sorted

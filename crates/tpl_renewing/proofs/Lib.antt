@@ -1,6 +1,0 @@
-mod Apart
-mod Named
-mod RowMemos
-mod Changes
-mod Nameless
-mod Turns

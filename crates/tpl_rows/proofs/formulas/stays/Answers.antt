@@ -1,4 +1,0 @@
-use Rattle.tpl_rows.proofs.formulas.stays.Goals as goal
-
-pub listen_again-requires-clause-compared : goal.listen_again-requires-clause-compared
-listen_again-requires-clause-compared g c = rw c.new-hearing.ensures.compared tt

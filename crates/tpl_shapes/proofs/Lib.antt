@@ -1,3 +1,0 @@
-mod Codes
-mod Equations
-pub mod Shared
