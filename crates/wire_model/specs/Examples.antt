@@ -19,6 +19,7 @@ use Rattle.wire_model.specs.Wired.{wired}
 abbrev pub told : List Entry
 told = entry.Op (codes "p") (OpInsert 0 0 1 (Text (codes "1")) none) ∷ entry.Page (codes "p") (codes "1") ∷ []
 
+-- the notes of it
 abbrev pub notes : List Note
 notes = mount (codes "p") ∷ op (codes "p") (OpInsert 0 0 1 (Text (codes "1")) none) ∷ ready (codes "p") ∷ []
 

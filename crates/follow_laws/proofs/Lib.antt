@@ -1,0 +1,9 @@
+mod MountedTrees
+mod FollowedItems
+mod LivingPages
+mod ToldEnds
+mod NamedPages
+mod Spoken
+mod SpokenSteps
+mod Silence
+mod SilentSteps

@@ -1,0 +1,2 @@
+pub mod ToldPages
+pub mod Laws
