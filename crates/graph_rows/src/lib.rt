@@ -1,6 +1,8 @@
-//! Worked owners, watchers, bodies and host samples: what is taken back, who is told, and what is answered.
+//! Worked owners, watchers, batches, bodies and host samples: what is taken back, who is told, and what is answered.
 #![tactic(auto)]
 
+#[cfg(test)]
+mod batches;
 #[cfg(test)]
 mod bodies;
 #[cfg(test)]

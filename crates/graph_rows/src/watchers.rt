@@ -12,7 +12,7 @@ use std::alloc::Global;
 use std::test::Fail;
 
 // No signals.
-fn no_signals(alloc: Global) -> Result<Box<Graph>, NoMemory>
+pub(crate) fn no_signals(alloc: Global) -> Result<Box<Graph>, NoMemory>
     ensures { IfOk result (λ g. g.value.state ≡ no_state) }
 {
     let graph = Graph::new(alloc)?;
