@@ -23,6 +23,7 @@ told = entry.Op (codes "p") (OpInsert 0 0 1 (Text (codes "1")) none) ∷ entry.P
 abbrev pub notes : List Note
 notes = mount (codes "p") ∷ op (codes "p") (OpInsert 0 0 1 (Text (codes "1")) none) ∷ ready (codes "p") ∷ []
 
+-- so the first entry of a page mounts it
 pub notes_are : wired told ≡ notes
 notes_are = refl
 
@@ -30,22 +31,27 @@ notes_are = refl
 pub once : wired (told ++ told) ≡ notes ++ op (codes "p") (OpInsert 0 0 1 (Text (codes "1")) none) ∷ ready (codes "p") ∷ []
 once = refl
 
+-- the end of a page that is mounted is told
 pub gone_is : wired (told ++ entry.Gone (record { name = codes "p"; path = [] }) ∷ []) ≡ notes ++ gone (codes "p") ∷ []
 gone_is = refl
 
 -- what isn't mounted tells no end, nor do the children of an effect
-pub others_silent : wired (entry.Gone (record { name = codes "p"; path = [] }) ∷ told ++ entry.Gone (record { name = codes "p"; path = 1 ∷ [] }) ∷ []) ≡ notes
+pub others_silent : wired (entry.Gone (record { name = codes "p"; path = [] }) ∷ told ++ entry.Gone (record { name = codes "p"; path = 1 ∷ [] }) ∷ [])
+    ≡ notes
 others_silent = refl
 
+-- the bytes of their frames
 pub spelt : frames notes ≡ (0 ∷ 0 ∷ 0 ∷ 0 ∷ 0 ∷ 0 ∷ 0 ∷ 3 ∷ 1 ∷ 1 ∷ 112 ∷ [])
     ++ (0 ∷ 0 ∷ 0 ∷ 0 ∷ 0 ∷ 0 ∷ 0 ∷ 21 ∷ 2 ∷ 1 ∷ 112 ∷ codes "insert 0 0 (1 \"1\")")
     ++ (0 ∷ 0 ∷ 0 ∷ 0 ∷ 0 ∷ 0 ∷ 0 ∷ 3 ∷ 3 ∷ 1 ∷ 112 ∷ [])
 unfolding digits quoted
 spelt = refl
 
+-- what a follower prints of them
 pub printed : (follow notes []).out ≡ codes "page p 1\n1\n"
 unfolding digits escaped chars encode
 printed = refl
 
+-- and it refuses none
 pub fine : (follow notes []).refused ≡ false
 fine = refl
