@@ -237,19 +237,7 @@ goes names ps (entry.Gone l ∷ es) more w qs a t h k = go (is_page_label w l) r
         (ap (λ b. cond b (silently (without_name l.name qs)) None) there)
         (rest v (without_name l.name qs) (gone_midway names ps (λ n. ops_of n es) l.name w qs (t.0 both.0) h) k)
     go false e rest = rest w qs h k
-goes names ps (entry.Outcome n o ∷ es) more w qs a t h k = goes names ps es more w qs a t h k
-goes names ps (entry.State n s ∷ es) more w qs a t h k = goes names ps es more w qs a t h k
-goes names ps (entry.Sources n ms ∷ es) more w qs a t h k = goes names ps es more w qs a t h k
-goes names ps (entry.Pending n ms ∷ es) more w qs a t h k = goes names ps es more w qs a t h k
-goes names ps (entry.Notify n ∷ es) more w qs a t h k = goes names ps es more w qs a t h k
-goes names ps (entry.Log v ∷ es) more w qs a t h k = goes names ps es more w qs a t h k
-goes names ps (entry.Fail l f ∷ es) more w qs a t h k = goes names ps es more w qs a t h k
-goes names ps (entry.Drop place asks ∷ es) more w qs a t h k = goes names ps es more w qs a t h k
-goes names ps (entry.Scratch n html ∷ es) more w qs a t h k = goes names ps es more w qs a t h k
-goes names ps (entry.Error r ∷ es) more w qs a t h k = goes names ps es more w qs a t h k
-goes names ps (entry.Run n ms o ∷ es) more w qs a t h k = goes names ps es more w qs a t h k
-goes names ps (entry.Effect l ms ∷ es) more w qs a t h k = goes names ps es more w qs a t h k
-goes names ps (entry.Cleanup l ∷ es) more w qs a t h k = goes names ps es more w qs a t h k
+goes names ps (_ ∷ es) more w qs a t h k = goes names ps es more w qs a t h k
 
 -- ---- all items
 

@@ -5,8 +5,8 @@ use Rattle.std.specs.List.{AllByRecursion, filter}
 use Rattle.std.specs.Str.{bytes_eq}
 use Rattle.std.proofs.lemmas.Bool.{eqb-true, eq-eqb}
 use Rattle.signal_model.specs.Signals.{is_in}
-use Rattle.effect_model.specs.Owners.{the_effect, the_owner, the_page, the_signal, the_watcher}
-use Rattle.effect_model.specs.Worlds.{Event, body_ran, changed_signal, cleaned, dropped_host, failed, frozen, gone, logged, made_child, noted, notified, ran, refused}
+use Rattle.effect_model.specs.Owners.{the_effect}
+use Rattle.effect_model.specs.Worlds.{Event, gone, made_child}
 use Rattle.live_model.specs.declared.names.Kind.TheVariants as kind
 use Rattle.live_model.specs.declared.names.Meaning.{Meaning}
 use Rattle.live_model.specs.Labels.{Labels, labels_after, relabelled}
@@ -56,22 +56,8 @@ pub record IsTied (names : Names) (labels : List (List ℕ)) (made : ℕ) (livin
 
 relabelled_pages : (e : Event) (labels : Labels) → (relabelled e labels).pages ≡ labels.pages
 relabelled_pages (gone (the_effect n)) labels = refl
-relabelled_pages (gone (the_signal n)) labels = refl
-relabelled_pages (gone (the_owner n)) labels = refl
-relabelled_pages (gone (the_page n)) labels = refl
-relabelled_pages (gone (the_watcher n)) labels = refl
 relabelled_pages (made_child c p k) labels = refl
-relabelled_pages (ran m) labels = refl
-relabelled_pages (changed_signal n c) labels = refl
-relabelled_pages (notified w) labels = refl
-relabelled_pages (frozen ws) labels = refl
-relabelled_pages (logged v) labels = refl
-relabelled_pages (body_ran e ns) labels = refl
-relabelled_pages (failed e f) labels = refl
-relabelled_pages (cleaned t c) labels = refl
-relabelled_pages (dropped_host place asks) labels = refl
-relabelled_pages (refused why) labels = refl
-relabelled_pages (noted t c) labels = refl
+relabelled_pages e labels = refl
 
 pub labels_stay : (es : List Event) (labels : Labels) → (labels_after es labels).pages ≡ labels.pages
 labels_stay [] labels = refl

@@ -6,13 +6,13 @@ use Rattle.std.specs.List.{AllByRecursion}
 use Rattle.std.specs.Str.{bytes_eq}
 use Rattle.std.proofs.lemmas.Bool.{eqb-true}
 use Rattle.signal_model.specs.Signals.{is_in}
-use Rattle.effect_model.specs.Owners.{the_effect, the_owner, the_page, the_signal, the_watcher}
-use Rattle.effect_model.specs.Worlds.{Event, body_ran, changed_signal, cleaned, dropped_host, failed, frozen, gone, logged, made_child, noted, notified, ran, refused}
+use Rattle.effect_model.specs.Owners.{Thing, the_effect, the_owner, the_page, the_signal, the_watcher}
+use Rattle.effect_model.specs.Worlds.{Event, cleaned, gone, made_child}
 use Rattle.live_entries.specs.declared.entry.Entry.{Entry}
 use Rattle.live_entries.specs.declared.entry.Entry.TheVariants as entry
 use Rattle.live_model.specs.declared.names.Meaning.{Meaning}
 use Rattle.live_model.specs.Labels.{Labels, child_label, is_named, label_at, labels_after, lasting, name_at, named as a_label, nobody, relabelled, with_label}
-use Rattle.live_model.specs.Machine.{entries_of, event_entries}
+use Rattle.live_model.specs.Machine.{cleanup_entries, entries_of, event_entries}
 use Rattle.live_model.specs.Names.{Names, meaning_of}
 use Rattle.live_model.specs.Pages.{Page}
 use Rattle.follow_laws.specs.ToldPages.{AreSilent, has_page}
@@ -91,21 +91,7 @@ labels_one names (gone (the_effect n)) labels h = record {
   effects = with_else names n (lasting (labels.effects n)) labels.effects (lasts_else names (labels.effects n) (h.effects n)) h.effects;
   pages = h.pages;
 }
-labels_one names (gone (the_signal n)) labels h = h
-labels_one names (gone (the_owner n)) labels h = h
-labels_one names (gone (the_page n)) labels h = h
-labels_one names (gone (the_watcher n)) labels h = h
-labels_one names (cleaned t c) labels h = h
-labels_one names (ran m) labels h = h
-labels_one names (changed_signal n c) labels h = h
-labels_one names (notified w) labels h = h
-labels_one names (frozen ws) labels h = h
-labels_one names (logged v) labels h = h
-labels_one names (body_ran e ns) labels h = h
-labels_one names (failed e f) labels h = h
-labels_one names (dropped_host place asks) labels h = h
-labels_one names (refused why) labels h = h
-labels_one names (noted t c) labels h = h
+labels_one names e labels h = h
 
 pub labels_kept : (names : Names) (es : List Event) (labels : Labels) → AreCalled names labels → AreCalled names (labels_after es labels)
 labels_kept names [] labels h = h
@@ -192,21 +178,11 @@ page_none names living ps ns i own none h off = go (slice_get ns i) refl
 pub silent_both : (ps : List Page) (xs ys : List Entry) → AreSilent ps xs → AreSilent ps ys → AreSilent ps (xs ++ ys)
 silent_both ps [] ys g h = h
 silent_both ps (entry.Gone l ∷ xs) ys g h = (g.0, silent_both ps xs ys g.1 h)
-silent_both ps (entry.Outcome n o ∷ xs) ys g h = silent_both ps xs ys g h
-silent_both ps (entry.State n c ∷ xs) ys g h = silent_both ps xs ys g h
-silent_both ps (entry.Sources n ms ∷ xs) ys g h = silent_both ps xs ys g h
-silent_both ps (entry.Pending n ms ∷ xs) ys g h = silent_both ps xs ys g h
-silent_both ps (entry.Notify n ∷ xs) ys g h = silent_both ps xs ys g h
-silent_both ps (entry.Log v ∷ xs) ys g h = silent_both ps xs ys g h
-silent_both ps (entry.Fail l f ∷ xs) ys g h = silent_both ps xs ys g h
-silent_both ps (entry.Drop place asks ∷ xs) ys g h = silent_both ps xs ys g h
-silent_both ps (entry.Scratch n html ∷ xs) ys g h = silent_both ps xs ys g h
-silent_both ps (entry.Error r ∷ xs) ys g h = silent_both ps xs ys g h
-silent_both ps (entry.Run n ms o ∷ xs) ys g h = silent_both ps xs ys g h
-silent_both ps (entry.Effect l ms ∷ xs) ys g h = silent_both ps xs ys g h
-silent_both ps (entry.Cleanup l ∷ xs) ys g h = silent_both ps xs ys g h
-silent_both ps (entry.Op n o ∷ xs) ys g h = silent_both ps xs ys g h
-silent_both ps (entry.Page n html ∷ xs) ys g h = silent_both ps xs ys g h
+silent_both ps (_ ∷ xs) ys g h = silent_both ps xs ys g h
+
+cleanup_silent : (ps : List Page) (labels : Labels) (t : Thing) → AreSilent ps (cleanup_entries labels t)
+cleanup_silent ps labels (the_effect i) = tt
+cleanup_silent ps labels t = tt
 
 event_silent : (names : Names) (living : List ℕ) (ps : List Page) (labels : Labels) (e : Event) → AreOwned names living ps → has_page ps nobody ≡ false →
     AreCalled names labels → IsOff living e → AreSilent ps (event_entries labels e)
@@ -215,22 +191,8 @@ event_silent names living ps labels (gone (the_owner i)) own none h off = (λ e.
 event_silent names living ps labels (gone (the_watcher i)) own none h off = (λ e. named_none names living ps labels.watchers i own none h.watchers, tt)
 event_silent names living ps labels (gone (the_effect i)) own none h off = (λ e. label_none names living ps (labels.effects i) own none (h.effects i) e, tt)
 event_silent names living ps labels (gone (the_page i)) own none h off = (λ e. page_none names living ps labels.pages i own none h.pages off, tt)
-event_silent names living ps labels (cleaned (the_signal i) c) own none h off = tt
-event_silent names living ps labels (cleaned (the_owner i) c) own none h off = tt
-event_silent names living ps labels (cleaned (the_effect i) c) own none h off = tt
-event_silent names living ps labels (cleaned (the_page i) c) own none h off = tt
-event_silent names living ps labels (cleaned (the_watcher i) c) own none h off = tt
-event_silent names living ps labels (made_child c p k) own none h off = tt
-event_silent names living ps labels (noted t c) own none h off = tt
-event_silent names living ps labels (ran m) own none h off = tt
-event_silent names living ps labels (changed_signal n c) own none h off = tt
-event_silent names living ps labels (notified w) own none h off = tt
-event_silent names living ps labels (frozen ws) own none h off = tt
-event_silent names living ps labels (logged v) own none h off = tt
-event_silent names living ps labels (body_ran e ns) own none h off = tt
-event_silent names living ps labels (failed e f) own none h off = tt
-event_silent names living ps labels (dropped_host place asks) own none h off = tt
-event_silent names living ps labels (refused why) own none h off = tt
+event_silent names living ps labels (cleaned t c) own none h off = cleanup_silent ps labels t
+event_silent names living ps labels e own none h off = tt
 
 pub events_silent : (names : Names) (living : List ℕ) (ps : List Page) (labels : Labels) (es : List Event) → AreOwned names living ps → has_page ps nobody ≡ false →
     AreCalled names labels → AllByRecursion (IsOff living) es → AreSilent ps (entries_of labels es)

@@ -218,21 +218,7 @@ living_carried hosts w ts living (p ∷ ps) h = (h.0, living_carried hosts w ts 
 same_silent : (ps qs : List Page) (es : List Entry) → ((n : List ℕ) → has_page qs n ≡ has_page ps n) → AreSilent ps es → AreSilent qs es
 same_silent ps qs [] e s = tt
 same_silent ps qs (entry.Gone l ∷ es) e s = ((λ k. e l.name ∙ s.0 k), same_silent ps qs es e s.1)
-same_silent ps qs (entry.Outcome n o ∷ es) e s = same_silent ps qs es e s
-same_silent ps qs (entry.State n c ∷ es) e s = same_silent ps qs es e s
-same_silent ps qs (entry.Sources n ms ∷ es) e s = same_silent ps qs es e s
-same_silent ps qs (entry.Pending n ms ∷ es) e s = same_silent ps qs es e s
-same_silent ps qs (entry.Notify n ∷ es) e s = same_silent ps qs es e s
-same_silent ps qs (entry.Log v ∷ es) e s = same_silent ps qs es e s
-same_silent ps qs (entry.Fail l f ∷ es) e s = same_silent ps qs es e s
-same_silent ps qs (entry.Drop place asks ∷ es) e s = same_silent ps qs es e s
-same_silent ps qs (entry.Scratch n html ∷ es) e s = same_silent ps qs es e s
-same_silent ps qs (entry.Error r ∷ es) e s = same_silent ps qs es e s
-same_silent ps qs (entry.Run n ms o ∷ es) e s = same_silent ps qs es e s
-same_silent ps qs (entry.Effect l ms ∷ es) e s = same_silent ps qs es e s
-same_silent ps qs (entry.Cleanup l ∷ es) e s = same_silent ps qs es e s
-same_silent ps qs (entry.Op n o ∷ es) e s = same_silent ps qs es e s
-same_silent ps qs (entry.Page n html ∷ es) e s = same_silent ps qs es e s
+same_silent ps qs (_ ∷ es) e s = same_silent ps qs es e s
 
 turns_hush : (env : Environment) (m : Machine) (w : World) (b : Bool) → TiedTo m → Quiet m → Off w → Hushes m (after_turns env b (acted_on_pages m w))
 turns_hush env m w true t q off = record {
@@ -401,10 +387,6 @@ mount_hush env m n t inside tied q free =
 verb_hush : (env : Environment) (m : Machine) (v : Verb) (n : List ℕ) → TiedTo m → Quiet m → Hushes m (machine.named env m v n (number_of m.names n))
 verb_hush env m verb.Get n t q =
     let i : ℕ = number_of m.names n in act_hush m (settle env (i ∷ []) m.world) (entry.Outcome n _ ∷ []) t q refl (settle_off env (i ∷ []) m.world (off_first m q)) tt
-verb_hush env m verb.State n t q = same_hush m (entry.State n _ ∷ []) q tt
-verb_hush env m verb.Sources n t q = same_hush m (entry.Sources n _ ∷ []) q tt
-verb_hush env m verb.Pending n t q = same_hush m (entry.Pending n _ ∷ []) q tt
-verb_hush env m verb.Show n t q = same_hush m (entry.Page n _ ∷ []) q tt
 verb_hush env m verb.Scratch n t q = go (page_at m.pages (number_of m.names n))
   where
     go : (o : Option Page) → Hushes m (scratching env m n o)
@@ -417,6 +399,7 @@ verb_hush env m verb.Dispose n t q = go (thing_named (meaning_of m.names n))
     go : (o : Option Thing) → Hushes m (disposing env m o)
     go None = same_hush m [] q tt
     go (Some x) = ended_hush m (dispose_thing env x m.world) t q (dispose_off env x m.world (off_first m q))
+verb_hush env m v n t q = same_hush m (machine.named env m v n (number_of m.names n)).entries q tt
 
 commit_hush : (env : Environment) (m : Machine) (b : Option Batch) → TiedTo m → Quiet m → Hushes m (committing env m b)
 commit_hush env m None t q = same_hush m [] q tt

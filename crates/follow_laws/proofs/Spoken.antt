@@ -2,8 +2,8 @@
 use Rattle.std.proofs.Common.{◌≡◌, ℕ, true, false, cond, List, [], ◌∷◌, ◌++◌, append_assoc, append-nil, refl, sym, ap}
 use Rattle.std.proofs.Common.{subst, ◌∙◌}
 use Rattle.std.specs.Str.{bytes_eq}
-use Rattle.effect_model.specs.Owners.{Thing, the_effect, the_owner, the_page, the_signal, the_watcher}
-use Rattle.effect_model.specs.Worlds.{Event, body_ran, changed_signal, cleaned, dropped_host, failed, frozen, gone, logged, made_child, noted, notified, ran, refused}
+use Rattle.effect_model.specs.Owners.{Thing, the_effect}
+use Rattle.effect_model.specs.Worlds.{Event, cleaned}
 use Rattle.page_model.specs.Html.{html_of}
 use Rattle.page_model.specs.Replay.{Op}
 use Rattle.live_entries.specs.declared.entry.Entry.{Entry}
@@ -29,41 +29,15 @@ told_both ps [] s k = tt
 told_both ps (entry.Op n o ∷ es) s k = (k.0, told_both ps es s k.1)
 told_both ps (entry.Page n html ∷ es) s k = (k.0, k.1, k.2, told_both ps es s k.3)
 told_both ps (entry.Gone l ∷ es) s k = (s.0, told_both ps es s.1 k)
-told_both ps (entry.Outcome n o ∷ es) s k = told_both ps es s k
-told_both ps (entry.State n c ∷ es) s k = told_both ps es s k
-told_both ps (entry.Sources n ms ∷ es) s k = told_both ps es s k
-told_both ps (entry.Pending n ms ∷ es) s k = told_both ps es s k
-told_both ps (entry.Notify n ∷ es) s k = told_both ps es s k
-told_both ps (entry.Log v ∷ es) s k = told_both ps es s k
-told_both ps (entry.Fail l f ∷ es) s k = told_both ps es s k
-told_both ps (entry.Drop place asks ∷ es) s k = told_both ps es s k
-told_both ps (entry.Scratch n html ∷ es) s k = told_both ps es s k
-told_both ps (entry.Error r ∷ es) s k = told_both ps es s k
-told_both ps (entry.Run n ms o ∷ es) s k = told_both ps es s k
-told_both ps (entry.Effect l ms ∷ es) s k = told_both ps es s k
-told_both ps (entry.Cleanup l ∷ es) s k = told_both ps es s k
+told_both ps (_ ∷ es) s k = told_both ps es s k
 
 cleanup_spoken : (ps : List Page) (labels : Labels) (t : Thing) (rest : List Entry) → AreSpoken ps rest → AreSpoken ps (cleanup_entries labels t ++ rest)
-cleanup_spoken ps labels (the_signal i) rest h = h
-cleanup_spoken ps labels (the_owner i) rest h = h
 cleanup_spoken ps labels (the_effect i) rest h = h
-cleanup_spoken ps labels (the_page i) rest h = h
-cleanup_spoken ps labels (the_watcher i) rest h = h
+cleanup_spoken ps labels t rest h = h
 
 event_spoken : (ps : List Page) (labels : Labels) (e : Event) (rest : List Entry) → AreSpoken ps rest → AreSpoken ps (event_entries labels e ++ rest)
-event_spoken ps labels (ran m) rest h = h
-event_spoken ps labels (changed_signal n c) rest h = h
-event_spoken ps labels (notified w) rest h = h
-event_spoken ps labels (frozen ws) rest h = h
-event_spoken ps labels (logged v) rest h = h
-event_spoken ps labels (body_ran e ns) rest h = h
-event_spoken ps labels (failed e f) rest h = h
 event_spoken ps labels (cleaned t c) rest h = cleanup_spoken ps labels t rest h
-event_spoken ps labels (gone t) rest h = h
-event_spoken ps labels (dropped_host place asks) rest h = h
-event_spoken ps labels (refused why) rest h = h
-event_spoken ps labels (made_child c p k) rest h = h
-event_spoken ps labels (noted t c) rest h = h
+event_spoken ps labels e rest h = h
 
 pub events_spoken : (ps : List Page) (labels : Labels) (es : List Event) (rest : List Entry) → AreSpoken ps rest → AreSpoken ps (entries_of labels es ++ rest)
 events_spoken ps labels [] rest h = h
@@ -75,26 +49,12 @@ pub events_alone : (ps : List Page) (labels : Labels) (es : List Event) → AreS
 events_alone ps labels es = subst (AreSpoken ps) (append-nil (entries_of labels es)) (events_spoken ps labels es [] tt)
 
 cleanup_quiet : (n : List ℕ) (labels : Labels) (t : Thing) (rest : List Entry) → ops_of n (cleanup_entries labels t ++ rest) ≡ ops_of n rest
-cleanup_quiet n labels (the_signal i) rest = refl
-cleanup_quiet n labels (the_owner i) rest = refl
 cleanup_quiet n labels (the_effect i) rest = refl
-cleanup_quiet n labels (the_page i) rest = refl
-cleanup_quiet n labels (the_watcher i) rest = refl
+cleanup_quiet n labels t rest = refl
 
 event_quiet : (n : List ℕ) (labels : Labels) (e : Event) (rest : List Entry) → ops_of n (event_entries labels e ++ rest) ≡ ops_of n rest
-event_quiet n labels (ran m) rest = refl
-event_quiet n labels (changed_signal k c) rest = refl
-event_quiet n labels (notified w) rest = refl
-event_quiet n labels (frozen ws) rest = refl
-event_quiet n labels (logged v) rest = refl
-event_quiet n labels (body_ran e ns) rest = refl
-event_quiet n labels (failed e f) rest = refl
 event_quiet n labels (cleaned t c) rest = cleanup_quiet n labels t rest
-event_quiet n labels (gone t) rest = refl
-event_quiet n labels (dropped_host place asks) rest = refl
-event_quiet n labels (refused why) rest = refl
-event_quiet n labels (made_child c p k) rest = refl
-event_quiet n labels (noted t c) rest = refl
+event_quiet n labels e rest = refl
 
 pub events_quiet : (n : List ℕ) (labels : Labels) (es : List Event) (rest : List Entry) → ops_of n (entries_of labels es ++ rest) ≡ ops_of n rest
 events_quiet n labels [] rest = refl

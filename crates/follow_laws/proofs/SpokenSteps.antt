@@ -529,12 +529,10 @@ verb_step : (env : Environment) (m : Machine) (v : Verb) (n : List ℕ) → Tied
     Tells m (machine.named env m v n (number_of m.names n))
 verb_step env m verb.Get n h e =
     let i : ℕ = number_of m.names n in answer_step m (settle env (i ∷ []) m.world) (_ ∷ []) h (at_first m.world) tt
-verb_step env m verb.State n h e = same_step m (entry.State n _ ∷ []) h tt
-verb_step env m verb.Sources n h e = same_step m (entry.Sources n _ ∷ []) h tt
-verb_step env m verb.Pending n h e = same_step m (entry.Pending n _ ∷ []) h tt
 verb_step env m verb.Show n h e = show_step m n h (neither (refusal_at m.world (n, need.Of kind.Page) (meaning_of m.names n)) None e).0
 verb_step env m verb.Scratch n h e = scratch_step env m n (page_at m.pages (number_of m.names n)) h
 verb_step env m verb.Dispose n h e = dispose_step env m (thing_named (meaning_of m.names n)) h
+verb_step env m v n h e = same_step m (machine.named env m v n (number_of m.names n)).entries h tt
 
 commit_step : (env : Environment) (m : Machine) (b : Option Batch) → TiedTo m → Tells m (committing env m b)
 commit_step env m None h = same_step m [] h tt

@@ -11,7 +11,7 @@ use Rattle.effect_model.specs.declared.how.How.TheVariants as how
 use Rattle.effect_model.specs.Owners.{Thing, the_signal, the_owner, the_effect, the_page, the_watcher, sets, logs, Undoing, cleans, ends, teardown_of, under}
 use Rattle.effect_model.specs.Owners.{emptied, taken_out, disposal_of}
 use Rattle.effect_model.specs.Bodies.{Act, BodyEvaluation, BodyResult, body_evaluation, failed_by, to_dispose, to_do, to_log, to_make, to_note, to_rewire, to_set}
-use Rattle.effect_model.specs.Worlds.{Effect, Environment, Event, Refused, Watcher, World, body_ran, cleaned, dropped_host, failed, frozen, gone, lives, logged, made_child, noted, notified, ran}
+use Rattle.effect_model.specs.Worlds.{Effect, Environment, Event, Refused, Watcher, World, body_ran, cleaned, dropped_host, failed, gone, lives, logged, made_child, noted, ran}
 use Rattle.effect_model.specs.Worlds.{changed_signal, refused, settle, tell, thing_gone}
 use Rattle.effect_model.specs.Acts.{are_alike, dispose_live, dispose_thing, end_of, end_standing, host_of, or_refused, rewire_signal}
 use Rattle.effect_model.specs.Acts.{rewire_standing, rewiring_refused, set_cell, set_standing, take_back, told_frozen, told_of, undo, undo_all, with_drop, with_new_value, with_quiet_value, with_use}
@@ -37,22 +37,7 @@ off_still n ps (gone (the_page i)) h = go (is_in i (without (λ (m : ℕ). m) n 
     go : (b : Bool) → is_in i (without (λ (m : ℕ). m) n ps) ≡ b → is_in i (without (λ (m : ℕ). m) n ps) ≡ false
     go true e = absurd (clash (sym (fewer n ps i e) ∙ h))
     go false e = e
-off_still n ps (gone (the_signal i)) h = tt
-off_still n ps (gone (the_owner i)) h = tt
-off_still n ps (gone (the_effect i)) h = tt
-off_still n ps (gone (the_watcher i)) h = tt
-off_still n ps (ran m) h = tt
-off_still n ps (changed_signal m c) h = tt
-off_still n ps (notified w) h = tt
-off_still n ps (frozen ws) h = tt
-off_still n ps (logged v) h = tt
-off_still n ps (body_ran e ns) h = tt
-off_still n ps (failed e f) h = tt
-off_still n ps (cleaned t c) h = tt
-off_still n ps (dropped_host place asks) h = tt
-off_still n ps (refused why) h = tt
-off_still n ps (made_child c p k) h = tt
-off_still n ps (noted t c) h = tt
+off_still n ps e h = tt
 
 all_off : (n : ℕ) (ps : List ℕ) (es : List Event) → AllByRecursion (IsOff ps) es → AllByRecursion (IsOff (without (λ (m : ℕ). m) n ps)) es
 all_off n ps [] h = tt
