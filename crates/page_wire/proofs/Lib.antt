@@ -1,0 +1,4 @@
+mod NameBytes
+mod OneFrame
+mod Bodies
+mod Pieces

@@ -1,0 +1,4 @@
+pub mod Views
+pub mod OneFrame
+pub mod Decoding
+pub mod Fronts
