@@ -1,6 +1,10 @@
-//! Worked operations as tests: they are read, written again, and lead from page to page.
+//! Worked operations as tests: they are read, written again, and lead from page to page; so are notes of pages and their frames.
 #![tactic(auto)]
 
+#[cfg(test)]
+mod follow;
+#[cfg(test)]
+mod frames;
 #[cfg(test)]
 mod lines;
 #[cfg(test)]
