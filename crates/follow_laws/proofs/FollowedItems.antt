@@ -307,5 +307,5 @@ pub lifting_law : LiftingLaw
 lifting_law env hosts is l t = items_go env is (empty hosts) no_wires [] l t (nothing_yet hosts)
 
 pub follow_law : LiveLaw → TellingLaw → SilenceLaw → FollowLaw
-follow_law live tells silent env hosts script is lends h sized none =
-    lifting_law env hosts is (live env hosts script is lends h sized) (tells env hosts is (silent env hosts is none))
+follow_law live tells silent env hosts script is lends h sized =
+    lifting_law env hosts is (live env hosts script is lends h sized) (tells env hosts is (silent env hosts is))

@@ -3,6 +3,7 @@ use Rattle.std.proofs.Common.{◌≡◌, ℕ, ◌==◌, zero, suc, Bool, true, f
 use Rattle.std.proofs.Common.{arith, ◌∙◌}
 use Rattle.std.specs.Prelude.{slice_get, unwrap_or}
 use Rattle.std.specs.List.{AllByRecursion}
+use Rattle.std.specs.Option.{option_map_or}
 use Rattle.std.specs.Str.{bytes_eq}
 use Rattle.std.proofs.lemmas.Bool.{eqb-true}
 use Rattle.signal_model.specs.Signals.{is_in}
@@ -11,7 +12,7 @@ use Rattle.effect_model.specs.Worlds.{Event, cleaned, gone, made_child}
 use Rattle.live_entries.specs.declared.entry.Entry.{Entry}
 use Rattle.live_entries.specs.declared.entry.Entry.TheVariants as entry
 use Rattle.live_model.specs.declared.names.Meaning.{Meaning}
-use Rattle.live_model.specs.Labels.{Labels, child_label, is_named, label_at, labels_after, lasting, name_at, named as a_label, nobody, relabelled, with_label}
+use Rattle.live_model.specs.Labels.{Labels, child_label, is_named, label_at, labels_after, lasting, named as a_label, named_at, relabelled, unmade, with_label}
 use Rattle.live_model.specs.Machine.{cleanup_entries, entries_of, event_entries}
 use Rattle.live_model.specs.Names.{Names, meaning_of}
 use Rattle.live_model.specs.Pages.{Page}
@@ -145,21 +146,25 @@ else_none names living ps n own x = go (has_page ps n) refl
     go true e = let p = own n e in absurd (x.2 p.0 (some_same x.0 (a_page p.0) (sym x.1 ∙ p.1)))
     go false e = e
 
--- the name at a place is one of them, or nobody's
-named_none : (names : Names) (living : List ℕ) (ps : List Page) (ns : List (List ℕ)) (i : ℕ) → AreOwned names living ps → has_page ps nobody ≡ false →
-    AllByRecursion (IsElse names) ns → has_page ps (name_at ns i) ≡ false
-named_none names living ps [] i own none h = none
-named_none names living ps (n ∷ ns) zero own none h = else_none names living ps n own h.0
-named_none names living ps (n ∷ ns) (suc i) own none h = named_none names living ps ns i own none h.1
+unmade_pathed : is_named unmade ≡ true → ⊥
+unmade_pathed e = clash (sym e)
 
-label_none : (names : Names) (living : List ℕ) (ps : List Page) (o : Option Label) → AreOwned names living ps → has_page ps nobody ≡ false →
-    IsElseLabel names o → is_named (unwrap_or o (a_label nobody)) ≡ true → has_page ps (unwrap_or o (a_label nobody)).name ≡ false
-label_none names living ps None own none h e = none
-label_none names living ps (Some l) own none h e = else_none names living ps l.name own (h e)
+-- the label at a place has one of the names, or a path
+named_none : (names : Names) (living : List ℕ) (ps : List Page) (ns : List (List ℕ)) (i : ℕ) → AreOwned names living ps →
+    AllByRecursion (IsElse names) ns → is_named (named_at ns i) ≡ true → has_page ps (named_at ns i).name ≡ false
+named_none names living ps [] i own h e = absurd (unmade_pathed e)
+named_none names living ps (n ∷ ns) zero own h e = else_none names living ps n own h.0
+named_none names living ps (n ∷ ns) (suc i) own h e = named_none names living ps ns i own h.1 e
 
-page_none : (names : Names) (living : List ℕ) (ps : List Page) (ns : List (List ℕ)) (i : ℕ) → AreOwned names living ps → has_page ps nobody ≡ false →
-    ((j : ℕ) (n : List ℕ) → slice_get ns j ≡ Some n → meaning_of names n ≡ Some (a_page j)) → is_in i living ≡ false → has_page ps (name_at ns i) ≡ false
-page_none names living ps ns i own none h off = go (slice_get ns i) refl
+label_none : (names : Names) (living : List ℕ) (ps : List Page) (o : Option Label) → AreOwned names living ps →
+    IsElseLabel names o → is_named (unwrap_or o unmade) ≡ true → has_page ps (unwrap_or o unmade).name ≡ false
+label_none names living ps None own h e = absurd (unmade_pathed e)
+label_none names living ps (Some l) own h e = else_none names living ps l.name own (h e)
+
+page_none : (names : Names) (living : List ℕ) (ps : List Page) (ns : List (List ℕ)) (i : ℕ) → AreOwned names living ps →
+    ((j : ℕ) (n : List ℕ) → slice_get ns j ≡ Some n → meaning_of names n ≡ Some (a_page j)) → is_in i living ≡ false →
+    is_named (named_at ns i) ≡ true → has_page ps (named_at ns i).name ≡ false
+page_none names living ps ns i own h off = go (slice_get ns i) refl
   where
     number : (a b : Meaning) → a ≡ b → a.number ≡ b.number
     number a b e = ap (λ (x : Meaning). x.number) e
@@ -171,9 +176,10 @@ page_none names living ps ns i own none h off = go (slice_get ns i) refl
         absurd (clash (sym p.2 ∙ (ap (λ m. is_in m living) j ∙ off)))
     here n e false k = k
 
-    go : (o : Option (List ℕ)) → slice_get ns i ≡ o → has_page ps (unwrap_or (slice_get ns i) nobody) ≡ false
-    go None e = ap (λ (x : Option (List ℕ)). has_page ps (unwrap_or x nobody)) e ∙ none
-    go (Some n) e = ap (λ (x : Option (List ℕ)). has_page ps (unwrap_or x nobody)) e ∙ here n e (has_page ps n) refl
+    go : (o : Option (List ℕ)) → slice_get ns i ≡ o → is_named (option_map_or a_label o unmade) ≡ true →
+        has_page ps (option_map_or a_label o unmade).name ≡ false
+    go None e k = absurd (unmade_pathed k)
+    go (Some n) e k = here n e (has_page ps n) refl
 
 pub silent_both : (ps : List Page) (xs ys : List Entry) → AreSilent ps xs → AreSilent ps ys → AreSilent ps (xs ++ ys)
 silent_both ps [] ys g h = h
@@ -184,19 +190,19 @@ cleanup_silent : (ps : List Page) (labels : Labels) (t : Thing) → AreSilent ps
 cleanup_silent ps labels (the_effect i) = tt
 cleanup_silent ps labels t = tt
 
-event_silent : (names : Names) (living : List ℕ) (ps : List Page) (labels : Labels) (e : Event) → AreOwned names living ps → has_page ps nobody ≡ false →
+event_silent : (names : Names) (living : List ℕ) (ps : List Page) (labels : Labels) (e : Event) → AreOwned names living ps →
     AreCalled names labels → IsOff living e → AreSilent ps (event_entries labels e)
-event_silent names living ps labels (gone (the_signal i)) own none h off = (λ e. named_none names living ps labels.signals i own none h.signals, tt)
-event_silent names living ps labels (gone (the_owner i)) own none h off = (λ e. named_none names living ps labels.owners i own none h.owners, tt)
-event_silent names living ps labels (gone (the_watcher i)) own none h off = (λ e. named_none names living ps labels.watchers i own none h.watchers, tt)
-event_silent names living ps labels (gone (the_effect i)) own none h off = (λ e. label_none names living ps (labels.effects i) own none (h.effects i) e, tt)
-event_silent names living ps labels (gone (the_page i)) own none h off = (λ e. page_none names living ps labels.pages i own none h.pages off, tt)
-event_silent names living ps labels (cleaned t c) own none h off = cleanup_silent ps labels t
-event_silent names living ps labels e own none h off = tt
+event_silent names living ps labels (gone (the_signal i)) own h off = (λ e. named_none names living ps labels.signals i own h.signals e, tt)
+event_silent names living ps labels (gone (the_owner i)) own h off = (λ e. named_none names living ps labels.owners i own h.owners e, tt)
+event_silent names living ps labels (gone (the_watcher i)) own h off = (λ e. named_none names living ps labels.watchers i own h.watchers e, tt)
+event_silent names living ps labels (gone (the_effect i)) own h off = (λ e. label_none names living ps (labels.effects i) own (h.effects i) e, tt)
+event_silent names living ps labels (gone (the_page i)) own h off = (λ e. page_none names living ps labels.pages i own h.pages off e, tt)
+event_silent names living ps labels (cleaned t c) own h off = cleanup_silent ps labels t
+event_silent names living ps labels e own h off = tt
 
-pub events_silent : (names : Names) (living : List ℕ) (ps : List Page) (labels : Labels) (es : List Event) → AreOwned names living ps → has_page ps nobody ≡ false →
+pub events_silent : (names : Names) (living : List ℕ) (ps : List Page) (labels : Labels) (es : List Event) → AreOwned names living ps →
     AreCalled names labels → AllByRecursion (IsOff living) es → AreSilent ps (entries_of labels es)
-events_silent names living ps labels [] own none h off = tt
-events_silent names living ps labels (e ∷ es) own none h off =
-    silent_both ps (event_entries labels e) (entries_of (relabelled e labels) es) (event_silent names living ps labels e own none h off.0)
-    (events_silent names living ps (relabelled e labels) es own none (labels_one names e labels h) off.1)
+events_silent names living ps labels [] own h off = tt
+events_silent names living ps labels (e ∷ es) own h off =
+    silent_both ps (event_entries labels e) (entries_of (relabelled e labels) es) (event_silent names living ps labels e own h off.0)
+    (events_silent names living ps (relabelled e labels) es own (labels_one names e labels h) off.1)

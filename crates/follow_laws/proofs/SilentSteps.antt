@@ -46,7 +46,7 @@ use Rattle.live_model.specs.Names.{Names, first_refusal, meaning_of, number_of, 
 use Rattle.live_model.specs.Pages.{Page, Template, page_html, scratch_html}
 use Rattle.live_model.specs.Rows.{edited, rows_at}
 use Rattle.live_model.specs.Uses.{uses_of}
-use Rattle.follow_laws.specs.ToldPages.{AllSilent, AreSilent, NoneUnnamed, has_page}
+use Rattle.follow_laws.specs.ToldPages.{AllSilent, AreSilent, has_page}
 use Rattle.follow_laws.specs.Laws.{SilenceLaw}
 use Rattle.follow_laws.proofs.Silence.{AreCalled, AreLiving, IsElse, called_more, events_silent, labels_kept, owned_by, silent_both, with_else}
 use Rattle.follow_laws.proofs.MountedTrees.{clash, same}
@@ -75,13 +75,13 @@ record Quiet (m : Machine) : Type 0 where
 -- so it is behind a step, which tells no end of a page that lives behind it
 record Hushes (m : Machine) (t : Told) : Type 0 where
   pub quiet : Quiet t.machine
-  pub silent : has_page t.machine.pages nobody ≡ false → AreSilent t.machine.pages t.entries
+  pub silent : AreSilent t.machine.pages t.entries
 
 off_first : (m : Machine) → Quiet m → Off m.world
 off_first m q = subst (λ (es : List Event). AllByRecursion (IsOff m.world.pages) es) (sym q.still) tt
 
 same_hush : (m : Machine) (es : List Entry) → Quiet m → AreSilent m.pages es → Hushes m (reached m es)
-same_hush m es q s = record { quiet = q; silent = λ none. s }
+same_hush m es q s = record { quiet = q; silent = s }
 
 act_hush : (m : Machine) (w : World) (answers : List Entry) → TiedTo m → Quiet m → w.pages ≡ m.world.pages → Off w → AreSilent m.pages answers →
     Hushes m (reached (acted m w).machine ((acted m w).entries ++ answers))
@@ -89,8 +89,8 @@ act_hush m w answers t q same off ans =
     let l : AreLiving w.pages m.pages = subst (λ (ns : List ℕ). AreLiving ns m.pages) (sym same) q.lives in
     record {
       quiet = record { called = labels_kept m.names w.told m.labels q.called; lives = l; still = refl };
-      silent = λ none. silent_both m.pages (entries_of m.labels w.told) answers
-          (events_silent m.names w.pages m.pages m.labels w.told (owned_by m.names w.pages m.pages t.numbered l) none q.called off) ans;
+      silent = silent_both m.pages (entries_of m.labels w.told) answers
+          (events_silent m.names w.pages m.pages m.labels w.told (owned_by m.names w.pages m.pages t.numbered l) q.called off) ans;
     }
 
 act_alone : (m : Machine) (w : World) → TiedTo m → Quiet m → w.pages ≡ m.world.pages → Off w → Hushes m (acted m w)
@@ -117,12 +117,12 @@ ended_quiet : (m : Machine) (w : World) → Quiet m → Quiet (acted_on_pages m 
 ended_quiet m w q = record { called = labels_kept m.names w.told m.labels q.called; lives = living_filtered w.pages m.pages; still = refl }
 
 -- what the events of a world tell of the pages that are left
-ended_silent : (m : Machine) (w : World) → TiedTo m → Quiet m → Off w → has_page (acted_on_pages m w).machine.pages nobody ≡ false →
+ended_silent : (m : Machine) (w : World) → TiedTo m → Quiet m → Off w →
     AreSilent (acted_on_pages m w).machine.pages (entries_of m.labels w.told)
-ended_silent m w t q off none =
+ended_silent m w t q off =
     let f : Page → Bool = λ p. is_in p.number w.pages in
     events_silent m.names w.pages (filter f m.pages) m.labels w.told
-    (owned_by m.names w.pages (filter f m.pages) (numbered_filtered m.names f m.pages t.numbered) (living_filtered w.pages m.pages)) none q.called off
+    (owned_by m.names w.pages (filter f m.pages) (numbered_filtered m.names f m.pages t.numbered) (living_filtered w.pages m.pages)) q.called off
 
 ended_hush : (m : Machine) (w : World) → TiedTo m → Quiet m → Off w → Hushes m (acted_on_pages m w)
 ended_hush m w t q off = record { quiet = ended_quiet m w q; silent = ended_silent m w t q off }
@@ -223,7 +223,7 @@ same_silent ps qs (_ ∷ es) e s = same_silent ps qs es e s
 turns_hush : (env : Environment) (m : Machine) (w : World) (b : Bool) → TiedTo m → Quiet m → Off w → Hushes m (after_turns env b (acted_on_pages m w))
 turns_hush env m w true t q off = record {
   quiet = ended_quiet m w q;
-  silent = λ none. silent_both (acted_on_pages m w).machine.pages (entries_of m.labels w.told) (entry.Error refusal.Turns ∷ []) (ended_silent m w t q off none) tt;
+  silent = silent_both (acted_on_pages m w).machine.pages (entries_of m.labels w.told) (entry.Error refusal.Turns ∷ []) (ended_silent m w t q off) tt;
 }
 turns_hush env m w false t q off =
     let x : Machine = (acted_on_pages m w).machine in
@@ -241,8 +241,8 @@ turns_hush env m w false t q off =
             (living_carried env.hosts w.signals m.templates x.world.pages x.pages (living_filtered w.pages m.pages)));
         still = updates_still env x.pages before refl;
       };
-      silent = λ none. silent_both end.pages (entries_of m.labels w.told) (update_all env x.pages before).entries
-          (same_silent x.pages end.pages (entries_of m.labels w.told) same (ended_silent m w t q off (sym (same nobody) ∙ none)))
+      silent = silent_both end.pages (entries_of m.labels w.told) (update_all env x.pages before).entries
+          (same_silent x.pages end.pages (entries_of m.labels w.told) same (ended_silent m w t q off))
           (updates_silent env end.pages x.pages before refl);
     }
 
@@ -263,7 +263,7 @@ made_hush : (m : Machine) (n : List ℕ) (x : Meaning) (labels : Labels) (w : Wo
     Hushes m (reached (record m { names = m.names ++ (n, x) ∷ []; labels = labels; world = w; templates = templates }) [])
 made_hush m n x labels w templates q same still c = record {
   quiet = record { called = c; lives = subst (λ (l : List ℕ). AreLiving l m.pages) (sym same) q.lives; still = still };
-  silent = λ none. tt;
+  silent = tt;
 }
 
 signal_called : (m : Machine) (n : List ℕ) (k : Kind) (i : ℕ) → Quiet m → meaning_of m.names n ≡ None → (k ≡ kind.Page → ⊥) →
@@ -344,7 +344,7 @@ mount_hush env m n t inside tied q free =
         lives = lives p refl m.pages q.lives;
         still = refl;
       };
-      silent = λ none. silent_both (m.pages ++ p ∷ []) (entries_of m.labels w.told ++ ops_told n u.ops) (entry.Page n (page_html p) ∷ [])
+      silent = silent_both (m.pages ++ p ∷ []) (entries_of m.labels w.told ++ ops_told n u.ops) (entry.Page n (page_html p) ∷ [])
           (silent_both (m.pages ++ p ∷ []) (entries_of m.labels w.told) (ops_told n u.ops)
           (settled_silent env (m.pages ++ p ∷ []) m.labels (template_reads env m t) m.world q.still) (ops_only (m.pages ++ p ∷ []) u.ops)) tt;
     }
@@ -411,7 +411,7 @@ abort_hush m (Some b) t q = batch_hush m None (abort b m.world) t q (abort_pages
 
 alone_hush : (env : Environment) (m : Machine) (b : Bare) → TiedTo m → Quiet m → Hushes m (done_alone env m b)
 alone_hush env m bares.Flush t q = turns_hush env m (flush env m.world).world (flush env m.world).refused t q (flush_off env m.world (off_first m q))
-alone_hush env m bares.Begin t q = record { quiet = record { called = q.called; lives = q.lives; still = q.still }; silent = λ none. tt }
+alone_hush env m bares.Begin t q = record { quiet = record { called = q.called; lives = q.lives; still = q.still }; silent = tt }
 alone_hush env m bares.Commit t q = commit_hush env m m.batch t q
 alone_hush env m bares.Abort t q = abort_hush m m.batch t q
 
@@ -468,14 +468,14 @@ item_hush env m (item.Do c) t q = go (refusal_of env.slacks m c) (done_hush env 
     go None k = k refl
     go (Some r) k = same_hush m (entry.Error r ∷ []) q tt
 
-items_hush : (env : Environment) (is : List Item) (m : Machine) → TiedTo m → Quiet m → NoneUnnamed env m is → AllSilent env m is
-items_hush env [] m t q none = tt
-items_hush env (i ∷ is) m t q none =
+items_hush : (env : Environment) (is : List Item) (m : Machine) → TiedTo m → Quiet m → AllSilent env m is
+items_hush env [] m t q = tt
+items_hush env (i ∷ is) m t q =
     let h : Hushes m (step env m i) = item_hush env m i t q in
-    (h.silent none.0, items_hush env is (step env m i).machine (item_step env m i t).tied h.quiet none.1)
+    (h.silent, items_hush env is (step env m i).machine (item_step env m i t).tied h.quiet)
 
 empty_quiet : (hosts : ℕ) → Quiet (empty hosts)
 empty_quiet hosts = record { called = record { signals = tt; owners = tt; watchers = tt; effects = λ i. tt; pages = λ i n g. cc }; lives = tt; still = refl }
 
 pub silence_law : SilenceLaw
-silence_law env hosts is none = items_hush env is (empty hosts) (empty_tied hosts) (empty_quiet hosts) none
+silence_law env hosts is = items_hush env is (empty hosts) (empty_tied hosts) (empty_quiet hosts)

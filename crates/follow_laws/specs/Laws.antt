@@ -12,7 +12,7 @@ use Rattle.page_laws.specs.LivePages.{IsLive}
 use Rattle.wire_model.specs.Notes.{Note}
 use Rattle.wire_model.specs.Following.{Mounted, follow}
 use Rattle.wire_model.specs.Wired.{page_lines, wired}
-use Rattle.follow_laws.specs.ToldPages.{AllSilent, AllTell, NoneUnnamed}
+use Rattle.follow_laws.specs.ToldPages.{AllSilent, AllTell}
 
 -- no note is refused, and these lines are printed
 pub record IsFollowed (notes : List Note) (pages : List Mounted) (lines : List ℕ) : Type 0 where
@@ -29,13 +29,12 @@ LiftingLaw = (env : Environment) (hosts : ℕ) (items : List Item) → IsLive en
 abbrev pub TellingLaw : Type 0
 TellingLaw = (env : Environment) (hosts : ℕ) (items : List Item) → AllSilent env (empty hosts) items → AllTell env (empty hosts) items
 
--- Of no page that lives it is told that it is gone, where no page is called as what has no label is.
+-- Whatever items there are, of no page that lives they tell that it is gone.
 abbrev pub SilenceLaw : Type 0
-SilenceLaw = (env : Environment) (hosts : ℕ) (items : List Item) → NoneUnnamed env (empty hosts) items → AllSilent env (empty hosts) items
+SilenceLaw = (env : Environment) (hosts : ℕ) (items : List Item) → AllSilent env (empty hosts) items
 
--- Where items are those of a script, a follower refuses nothing of what they tell and prints their page lines, provided that no page is called
--- as what has no label is.
+-- Where items are those of a script, a follower refuses nothing of what they tell and prints their page lines.
 abbrev pub FollowLaw : Type 0
 FollowLaw = (env : Environment) (hosts : ℕ) (script : List ℕ) (items : List Item) → LendsRows env.hosts → ItemsFrom 1 script items →
-    AllByRecursion IsSizedEntry (entries_from env (empty hosts) items) → NoneUnnamed env (empty hosts) items →
+    AllByRecursion IsSizedEntry (entries_from env (empty hosts) items) →
     IsFollowed (wired (entries_from env (empty hosts) items)) [] (page_lines (entries_from env (empty hosts) items))

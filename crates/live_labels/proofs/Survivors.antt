@@ -1,11 +1,11 @@
 -- What becomes of the label of an effect that ends.
-use Rattle.std.proofs.Common.{◌≡◌, ℕ, nat_eq, false, cond, Option, Some, None, sym, ap, ◌∙◌}
+use Rattle.std.proofs.Common.{◌≡◌, ℕ, nat_eq, false, cond, Option, Some, None, refl, sym, ap, ◌∙◌}
 use Rattle.live_entries.specs.declared.label.Label.{Label}
 use Rattle.live_model.specs.Labels.{is_named, label_at, lasting, with_label}
 
 -- a label that no command gave goes
 goes : (o : Option Label) → is_named (label_at (λ (e : ℕ). o) 0) ≡ false → lasting o ≡ None
-goes None h = absurd cc
+goes None h = refl
 goes (Some l) h = ap (λ b. cond b (Some l) None) h
 
 -- so it is taken out, and the others stay

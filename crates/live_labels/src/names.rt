@@ -4,7 +4,7 @@ ghost use Rattle.std.specs.List.{filter};
 ghost use Rattle.indexmap.specs.IndexMap.{get};
 ghost use Rattle.effect_tables.specs.Bodies.{thing_of};
 ghost use Rattle.effect_tables.specs.Placed.{effect_of};
-ghost use Rattle.live_model.specs.Labels.{child_label, is_named, label_at, label_of, lasting, name_at, named, nobody, with_label};
+ghost use Rattle.live_model.specs.Labels.{child_label, is_named, label_at, label_of, lasting, name_at, named_at, nobody, unmade, with_label};
 ghost use Rattle.live_labels.specs.Views.{labels_of};
 
 use crate::labels::Labels;
@@ -75,12 +75,33 @@ pub(crate) fn names_of_watchers(
     Ok(NameList::of(found))
 }
 
-// The label of what a command made.
-fn named(alloc: Global, names: &[Name], number: u128) -> Result<Label, NoMemory>
-    ensures { IfOk result (λ l. l ≡ named (name_at names.now number)) }
+// The label of what was never made: that of no command, and of no child, since the first has the number 1.
+fn unmade(alloc: Global) -> Result<Label, NoMemory>
+    ensures { IfOk result (λ l. l ≡ unmade) }
 {
-    let name = name_at(alloc, names, number)?;
-    Ok(Label::named(alloc, name))
+    let name = nobody(alloc)?;
+    let mut numbers = Vec::new(alloc);
+    numbers.push(0)?;
+    Ok(Label {
+        name,
+        path: ChildPath::of(numbers),
+    })
+}
+
+// The label of what a command made.
+fn named_at(alloc: Global, names: &[Name], number: u128) -> Result<Label, NoMemory>
+    ensures { IfOk result (λ l. l ≡ named_at names.now number) }
+{
+    match names.get(place_of(number)) {
+        Some(name) => {
+            let name = name.copy()?;
+            Ok(Label::named(alloc, name))
+        }
+        None => {
+            let label = unmade(alloc)?;
+            Ok(label)
+        }
+    }
 }
 
 /// The label of an effect.
@@ -97,8 +118,8 @@ pub(crate) fn label_at(
             Ok(label)
         }
         None => {
-            let name = nobody(alloc)?;
-            Ok(Label::named(alloc, name))
+            let label = unmade(alloc)?;
+            Ok(label)
         }
     }
 }
@@ -109,11 +130,11 @@ pub(crate) fn label_of(alloc: Global, labels: &Labels, thing: &Thing) -> Result<
 {
     match thing {
         Thing::Signal(id) => {
-            let label = named(alloc, &labels.signals, id.number())?;
+            let label = named_at(alloc, &labels.signals, id.number())?;
             Ok(label)
         }
         Thing::Owner(id) => {
-            let label = named(alloc, &labels.owners, id.number())?;
+            let label = named_at(alloc, &labels.owners, id.number())?;
             Ok(label)
         }
         Thing::Effect(id) => {
@@ -121,11 +142,11 @@ pub(crate) fn label_of(alloc: Global, labels: &Labels, thing: &Thing) -> Result<
             Ok(label)
         }
         Thing::Page(id) => {
-            let label = named(alloc, &labels.pages, id.number())?;
+            let label = named_at(alloc, &labels.pages, id.number())?;
             Ok(label)
         }
         Thing::Watcher(id) => {
-            let label = named(alloc, &labels.watchers, id.number())?;
+            let label = named_at(alloc, &labels.watchers, id.number())?;
             Ok(label)
         }
     }
@@ -190,7 +211,7 @@ fn is_made_by_name(labels: &IndexMap<u128, Label>, id: EffectId) -> bool
 {
     match labels.get(&id.number()) {
         Some(label) => is_named(label),
-        None => true,
+        None => false,
     }
 }
 

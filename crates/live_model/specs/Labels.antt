@@ -1,6 +1,7 @@
 -- What things are called in what is told.
 use Rattle.std.specs.Prelude.{ℕ, ◌==◌, Bool, List, [], ◌∷◌, ◌++◌, Option, Some, None, length, slice_get, unwrap_or, codes, cond, if◌then◌else◌}
 use Rattle.std.specs.List.{filter}
+use Rattle.std.specs.Option.{option_map_or}
 use Rattle.effect_model.specs.Owners.{Thing, the_signal, the_owner, the_effect, the_page, the_watcher}
 use Rattle.effect_model.specs.Worlds.{Effect, Event, gone, made_child}
 use Rattle.live_entries.specs.declared.label.Label.{Label}
@@ -17,7 +18,7 @@ pub record Labels : Type 0 where
 abbrev pub no_labels : Labels
 no_labels = record { signals = []; owners = []; pages = []; watchers = []; effects = λ e. None }
 
--- what would be told of what was never made
+-- the name of what was never made
 abbrev pub nobody : List ℕ
 nobody = codes "unnamed"
 
@@ -33,17 +34,25 @@ named n = record { name = n; path = [] }
 abbrev pub is_named : Label → Bool
 is_named l = length l.path == 0
 
+-- the label that would be told of what was never made: no command gives it, and no child has it, whose number is 1 or more
+abbrev pub unmade : Label
+unmade = record { name = nobody; path = 0 ∷ [] }
+
+-- the label of what has a number among what commands made under these names
+abbrev pub named_at : List (List ℕ) → ℕ → Label
+named_at names n = option_map_or named (slice_get names n) unmade
+
 -- the label of an effect
 abbrev pub label_at : (ℕ → Option Label) → ℕ → Label
-label_at labels n = unwrap_or (labels n) (named nobody)
+label_at labels n = unwrap_or (labels n) unmade
 
 -- the label of a thing
 abbrev pub label_of : Labels → Thing → Label
-label_of labels (the_signal n) = named (name_at labels.signals n)
-label_of labels (the_owner n) = named (name_at labels.owners n)
+label_of labels (the_signal n) = named_at labels.signals n
+label_of labels (the_owner n) = named_at labels.owners n
 label_of labels (the_effect n) = label_at labels.effects n
-label_of labels (the_page n) = named (name_at labels.pages n)
-label_of labels (the_watcher n) = named (name_at labels.watchers n)
+label_of labels (the_page n) = named_at labels.pages n
+label_of labels (the_watcher n) = named_at labels.watchers n
 
 -- the k-th child that a run of an effect makes
 abbrev pub child_label : Label → ℕ → Label
