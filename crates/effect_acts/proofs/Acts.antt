@@ -20,21 +20,22 @@ use Rattle.effect_teardown.proofs.Shared.{formed_put, taken}
 use Rattle.sig_host.specs.Hosts.{HostPlace}
 use Rattle.sig_effect.specs.Stores.{environment}
 use Rattle.sig_effect.specs.Wholes as wholes
-use Rattle.effect_world.specs.declared.events.Event.{Event}
-use Rattle.effect_world.specs.declared.events.Event.TheVariants as event
+use Rattle.sig_effect.proofs.Shared.{tells_none}
+use Rattle.sig_effect.specs.declared.events.Event.{Event}
+use Rattle.sig_effect.specs.declared.events.Event.TheVariants as event
 use Rattle.effect_world.specs.declared.world.World.{World}
 use Rattle.effect_world.specs.Signals.{Scene, Undoes, any_hosts, scene}
 use Rattle.effect_world.specs.Stores.{Agrees, Does, IsSound}
-use Rattle.effect_world.specs.Events.{IsTold, Tells}
-use Rattle.effect_world.specs.Wholes.{whole_of}
-use Rattle.effect_world.proofs.Shared.{does_acts, one_told, owned_still, tells_none, tells_one}
+use Rattle.sig_effect.specs.Events.{IsTold, Tells}
+use Rattle.effect_world.specs.Wholes.{stores_of, whole_of}
+use Rattle.effect_world.proofs.Shared.{one_told, owned_still, signals_done, tells_one}
 use Rattle.effect_acts.specs.Acts.{Acted}
 
 -- one event is told of a world that stays as it is
 told_does : (hosts : Hosts) (asked : List HostPlace) (old : World) (before after : List Event) (ev : Event) (t : plain.Event) (act : plain.World → plain.World) → after ≡ before ++ ev ∷ [] →
     act (whole_of asked old) ≡ tell t (whole_of asked old) → IsTold ev t → Agrees asked old → IsSound hosts asked old → Does hosts asked asked old old before after act
 told_does hosts asked old before after ev t act more is one a sound = record {
-  whole = sym (placed_rests old.tables (wholes.whole_of asked old.signals) a.owned.tables) ∙ ap at_rest (sym is);
+  whole = sym (placed_rests old.tables (wholes.whole_of asked (stores_of old)) a.owned.tables) ∙ ap at_rest (sym is);
   told = subst (λ (w : plain.World). Tells before after w.told) (sym is) (subst (λ es. Tells before es (t ∷ [])) (sym more) (tells_one before ev t one));
   sound = sound;
 }
@@ -59,7 +60,7 @@ pub acted_still : (slacks : List ℕ) (old : World) (asked : List HostPlace) (ev
     ((env : plain.Environment) → act env (whole_of asked old) ≡ whole_of asked old) → Agrees asked old → Acted slacks (scene old asked events) (scene old asked events) answers answers steps act
 acted_still slacks old asked events answers steps act is a = record {
   does = λ hosts sound. record {
-    whole = sym (placed_rests old.tables (wholes.whole_of asked old.signals) a.owned.tables) ∙ ap at_rest (sym (is (environment hosts slacks)));
+    whole = sym (placed_rests old.tables (wholes.whole_of asked (stores_of old)) a.owned.tables) ∙ ap at_rest (sym (is (environment hosts slacks)));
     told = subst (λ (w : plain.World). Tells events events w.told) (sym (is (environment hosts slacks))) (tells_none events);
     sound = sound;
   };
@@ -127,7 +128,7 @@ pub acted_undoes : (slacks : List ℕ) (old new : Scene) (first last : Hosts →
     ((env : plain.Environment) → IsOfSignals (act env)) → Agrees old.asked old.world → length old.events ≤ length new.events → Undoes slacks old new first last steps act → Acted slacks old new first last steps act
 acted_undoes slacks old new first last steps act framed a told p = record {
   does = λ hosts sound.
-      does_acts hosts old.asked new.asked old.world new.world old.events new.events (act (environment hosts slacks)) (p.acts hosts sound) (framed (environment hosts slacks)) p.tables a.owned.tables;
+      signals_done hosts old.asked new.asked old.world new.world old.events new.events (act (environment hosts slacks)) (p.acts hosts sound) (framed (environment hosts slacks)) p.tables a.owned.tables;
   agrees = record { signals = p.agrees; owned = owned_still old.world new.world p.given p.tables a.owned };
   answers = p.answers;
   most = p.most;
@@ -187,7 +188,7 @@ pub acted_noted : (slacks : List ℕ) (old : World) (later : List Row) (asked : 
 acted_noted slacks old later asked before after e n c is ends more a =
     let t : Tables = record (old.tables) { store = later } in
     let takes : Takes old.tables t [] (put_under (owning.the_effect e) (owning.cleanup c owning.nothing) (tree_of old.tables)) = noted_takes old.tables later e n c a.owned.tables a.owned.formed is ends in
-    let s : plain.World = wholes.whole_of asked old.signals in
+    let s : plain.World = wholes.whole_of asked (stores_of old) in
     record {
       does = λ hosts sound. record {
         whole = sym (placed_rests t s takes.holds) ∙ ap at_rest (takes.does s);

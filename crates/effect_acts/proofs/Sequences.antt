@@ -10,7 +10,7 @@ use Rattle.effect_tables.specs.Roots.{AreBare, Rests}
 use Rattle.sig_effect.specs.Stores.{environment}
 use Rattle.effect_world.specs.Signals.{Scene}
 use Rattle.effect_world.specs.Stores.{Agrees, Does}
-use Rattle.effect_world.specs.Events.{Tells}
+use Rattle.sig_effect.specs.Events.{Tells}
 use Rattle.effect_world.specs.Wholes.{whole_of}
 use Rattle.effect_world.proofs.Shared.{tells_both}
 use Rattle.effect_acts.specs.Acts.{Acted}

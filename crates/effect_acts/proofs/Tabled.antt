@@ -17,12 +17,12 @@ use Rattle.effect_teardown.proofs.Shared.{formed_put}
 use Rattle.sig_host.specs.Hosts.{HostPlace}
 use Rattle.sig_effect.specs.Stores.{environment}
 use Rattle.sig_effect.specs.Wholes as wholes
-use Rattle.effect_world.specs.declared.events.Event.{Event}
+use Rattle.sig_effect.specs.declared.events.Event.{Event}
 use Rattle.effect_world.specs.declared.world.World.{World}
 use Rattle.effect_world.specs.Signals.{any_hosts, scene}
 use Rattle.effect_world.specs.Stores.{Agrees, AreOwned}
-use Rattle.effect_world.specs.Events.{IsTold, Tells}
-use Rattle.effect_world.specs.Wholes.{whole_of}
+use Rattle.sig_effect.specs.Events.{IsTold, Tells}
+use Rattle.effect_world.specs.Wholes.{stores_of, whole_of}
 use Rattle.effect_world.proofs.Shared.{one_told, tells_one}
 use Rattle.effect_acts.specs.Acts.{Acted}
 
@@ -33,7 +33,7 @@ pub acted_tabled : (slacks : List ℕ) (old : World) (u : Tables) (asked : List 
     u.effects_made ≤ old.tables.effects_made + 1 → AreOwned (record old { tables = u }) → Agrees asked old →
     Acted slacks (scene old asked before) (scene (record old { tables = u }) asked after) any_hosts any_hosts 0 act
 acted_tabled slacks old u asked before after ev t act change does is quiet one more few owned a =
-    let s : plain.World = wholes.whole_of asked old.signals in
+    let s : plain.World = wholes.whole_of asked (stores_of old) in
     record {
       does = λ hosts sound. record {
         whole = sym (placed_rests u s owned.tables) ∙ ap at_rest (does s) ∙ ap at_rest (sym (is (environment hosts slacks)));
@@ -68,7 +68,7 @@ none_some k e = cc
 pub owned_child : (asked : List HostPlace) (old : World) (u : Tables) (e : ℕ) (b : Body) → ((w : plain.World) → placed u w ≡ with_child e b (placed old.tables w)) → LeavesOut None old.tables.store u.store → TablesAgree u →
     AreOwned old → AreOwned (record old { tables = u })
 owned_child asked old u e b does out h o =
-    let s : plain.World = wholes.whole_of asked old.signals in
+    let s : plain.World = wholes.whole_of asked (stores_of old) in
     let one : Owned = alone (the_effect old.tables.effects_made) in
     let tree : tree_of u ≡ put_under (the_effect e) one (tree_of old.tables) = ap (λ (w : plain.World). w.owned) (does s) in
     record {

@@ -6,10 +6,10 @@ use Rattle.effect_model.specs.Worlds as plain
 use Rattle.effect_model.specs.Worlds.{Refused, refused}
 use Rattle.sig_host.specs.Hosts.{most_asked}
 use Rattle.sig_effect.specs.Stores.{AreRuled, environment}
-use Rattle.effect_world.specs.declared.events.Event.{Event}
+use Rattle.sig_effect.specs.declared.events.Event.{Event}
 use Rattle.effect_world.specs.Signals.{Scene}
 use Rattle.effect_world.specs.Stores.{Agrees, Does, IsSound}
-use Rattle.effect_world.specs.Events.{IsTold}
+use Rattle.sig_effect.specs.Events.{IsTold}
 use Rattle.effect_world.specs.Costs.{weight}
 
 -- By equality rules of these slacks an act was done to the world, which used up no more than what was told stands for, and so much. No signal
@@ -21,9 +21,9 @@ pub record Acted (slacks : List ℕ) (old new : Scene) (before after : Hosts →
   pub agrees : Agrees new.asked new.world
   pub answers : (hosts : Hosts) → before hosts → after hosts
   pub most : most_asked new.asked ≤ most_asked old.asked
-  pub rules : (count : ℕ) → AreRuled count old.world.signals.graph.state.signals → AreRuled count new.world.signals.graph.state.signals
-  pub given : new.world.signals.graph.given ≡ old.world.signals.graph.given
-  pub made : new.world.signals.watchers.made ≡ old.world.signals.watchers.made
+  pub rules : (count : ℕ) → AreRuled count old.world.graph.state.signals → AreRuled count new.world.graph.state.signals
+  pub given : new.world.graph.given ≡ old.world.graph.given
+  pub made : new.world.watchers.made ≡ old.world.watchers.made
   pub worn : weight new.world + length old.events ≤ (weight old.world + length new.events) + steps
   pub told : length old.events ≤ length new.events
 

@@ -24,8 +24,9 @@ use crate::disposal::dispose;
 use crate::messages::log;
 use crate::recipes::rewire;
 use effect_tables::{Links, Site};
-use effect_world::{Event, World};
+use effect_world::World;
 use sig_base::{EffectId, NoMemory, Scalar, Value};
+use sig_effect::Event;
 use sig_host::{EqualsRule, Lent, Shelf};
 use sig_owner::CleanupAct;
 use sig_untrack::{Act, Body};
@@ -132,7 +133,7 @@ pub fn do_act(
     events: &mut Vec<Event>,
 ) -> Result<(), NoMemory>
     requires agrees { Agrees (⟦<Shelf as Lent>⟧.asked shelf.old) world.old }
-    requires ruled { AreRuled (length rules.now) world.old.signals.graph.state.signals }
+    requires ruled { AreRuled (length rules.now) world.old.graph.state.signals }
     requires counted { ⟦<Shelf as Lent>⟧.counted shelf.old }
     requires worn { weight world.old < 2 ^ 126 }
     requires part { IsPart (rc_value site.now.script) site.now.path.items body.now links.now }

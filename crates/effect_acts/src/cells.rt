@@ -7,8 +7,9 @@ ghost use Rattle.effect_world.specs.Signals.{any_hosts, scene};
 ghost use Rattle.effect_world.specs.Stores.{Agrees};
 ghost use Rattle.effect_acts.specs.Acts.{Acted};
 
-use effect_world::{Event, World};
+use effect_world::World;
 use sig_base::{NoMemory, NodeId, Value};
+use sig_effect::Event;
 use sig_host::EqualsRule;
 
 /// Gives a cell a value, unless its equality calls it the same as the one that it has. What is gone is told as refused, and a computed is
@@ -24,8 +25,8 @@ pub fn set(
     value: Value,
     events: &mut Vec<Event>,
 ) -> Result<(), NoMemory>
-    requires ruled { AreRuled (length rules.now) world.old.signals.graph.state.signals }
-    requires worn { world.old.signals.graph.state.worn < 2 ^ 127 }
+    requires ruled { AreRuled (length rules.now) world.old.graph.state.signals }
+    requires worn { world.old.graph.state.worn < 2 ^ 127 }
     ensures { (asked : List HostPlace) → Agrees asked world.old → OnOk result (Acted (map (λ r. r.slack) rules.now)
         (scene world.old asked events.old.items) (scene world.new asked events.new.items) any_hosts any_hosts 1 (λ env. set_cell env id value)) }
 {

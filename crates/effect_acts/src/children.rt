@@ -14,9 +14,9 @@ ghost use Rattle.effect_acts.specs.Acts.{Acted};
 
 use effect_tables::Site;
 use effect_teardown::effect_row;
-use effect_world::{Event, World};
+use effect_world::World;
 use sig_base::EffectId;
-use sig_effect::EffectFault;
+use sig_effect::{EffectFault, Event};
 
 /// Makes the nested effect at a place of an effect's body, which stands last under that effect. It has this number in its label.
 ///

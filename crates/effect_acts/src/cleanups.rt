@@ -14,9 +14,9 @@ ghost use Rattle.effect_world.specs.Stores.{Agrees, AreOwned};
 ghost use Rattle.effect_acts.specs.Acts.{Acted};
 
 use effect_teardown::effect_row;
-use effect_world::{Event, World};
+use effect_world::World;
 use sig_base::{EffectId, NoMemory, OwnerId};
-use sig_effect::EffectFault;
+use sig_effect::{EffectFault, Event};
 use sig_owner::{CleanupAct, Owners};
 
 // Notes a cleanup in the store, under a row that lives.

@@ -3,15 +3,15 @@ ghost use Rattle.std.specs.Prelude.{◌≡◌, ◌<◌, ◌^◌, OnOk, length, m
 ghost use Rattle.effect_model.specs.Acts.{dispose_thing};
 ghost use Rattle.effect_tables.specs.Bodies.{thing_of};
 ghost use Rattle.sig_effect.specs.Stores.{AreRuled};
-ghost use Rattle.effect_world.specs.declared.events.Event.TheVariants as event;
+ghost use Rattle.sig_effect.specs.declared.events.Event.TheVariants as event;
 ghost use Rattle.effect_world.specs.Signals.{scene};
 ghost use Rattle.effect_world.specs.Stores.{Agrees};
 ghost use Rattle.effect_acts.specs.Acts.{Acted};
 
 use effect_tables::Thing;
-use effect_world::{Event, World};
+use effect_world::World;
 use sig_base::NoMemory;
-use sig_effect::EffectFault;
+use sig_effect::{EffectFault, Event};
 use sig_host::{EqualsRule, Lent, Shelf};
 
 // How it is told that a thing can't be disposed, since it is gone.
@@ -34,9 +34,9 @@ pub fn dispose(
     events: &mut Vec<Event>,
 ) -> Result<(), NoMemory>
     requires agrees { Agrees (⟦<Shelf as Lent>⟧.asked shelf.old) world.old }
-    requires ruled { AreRuled (length rules.now) world.old.signals.graph.state.signals }
+    requires ruled { AreRuled (length rules.now) world.old.graph.state.signals }
     requires counted { ⟦<Shelf as Lent>⟧.counted shelf.old }
-    requires worn { world.old.signals.graph.state.worn < 2 ^ 126 }
+    requires worn { world.old.graph.state.worn < 2 ^ 126 }
     ensures done { OnOk result (Acted (map (λ r. r.slack) rules.now)
         (scene world.old (⟦<Shelf as Lent>⟧.asked shelf.old) events.old.items) (scene world.new (⟦<Shelf as Lent>⟧.asked shelf.new) events.new.items)
         (λ hosts. ⟦<Shelf as Lent>⟧.answers hosts shelf.old) (λ hosts. ⟦<Shelf as Lent>⟧.answers hosts shelf.new)

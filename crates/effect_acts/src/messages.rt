@@ -6,8 +6,9 @@ ghost use Rattle.effect_world.specs.Signals.{any_hosts, scene};
 ghost use Rattle.effect_world.specs.Stores.{Agrees};
 ghost use Rattle.effect_acts.specs.Acts.{Acted};
 
-use effect_world::{Event, World};
+use effect_world::World;
 use sig_base::{EffectId, Fault, NoMemory, Value};
+use sig_effect::Event;
 
 /// Logs a value.
 ///

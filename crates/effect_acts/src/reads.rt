@@ -6,8 +6,9 @@ ghost use Rattle.effect_world.specs.Signals.{any_hosts, scene};
 ghost use Rattle.effect_world.specs.Stores.{Agrees, AreOwned};
 ghost use Rattle.effect_acts.specs.Acts.{Acted};
 
-use effect_world::{Event, World};
+use effect_world::World;
 use sig_base::{EffectId, NoMemory};
+use sig_effect::Event;
 use sig_untrack::Read;
 
 /// An effect keeps the tracked reads of its body, which was evaluated, and that is told.

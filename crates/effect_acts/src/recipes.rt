@@ -12,14 +12,15 @@ ghost use Rattle.effect_world.specs.Wholes.{whole_of};
 ghost use Rattle.effect_acts.specs.Acts.{first_gone, Acted, IsRefusal};
 
 use effect_tables::Thing;
-use effect_world::{Event, World};
+use effect_world::World;
 use sig_base::{NoMemory, NodeId};
+use sig_effect::Event;
 use sig_host::{Lent, Shelf};
 use sig_nodes::{Recipe, Standing};
 
 // The first of these signals that is gone.
 fn first_gone(world: &World, ids: &[NodeId]) -> Option<NodeId>
-    ensures { result ≡ first_gone world.now.signals.graph.state.signals ids.now }
+    ensures { result ≡ first_gone world.now.graph.state.signals ids.now }
 {
     for id in ids {
         if !world.is_signal(*id) {
@@ -39,7 +40,7 @@ fn host_refusal(world: &World, shelf: &Shelf, recipe: &Recipe) -> Option<Event>
     match recipe {
         Recipe::Formula(_) => None,
         Recipe::Host(place) => {
-            if world.signals.is_free(shelf, *place) {
+            if world.is_free(shelf, *place) {
                 return None;
             }
             Some(Event::RefusedHost(*place))
@@ -78,10 +79,10 @@ fn change(
     slots: Vec<NodeId>,
     events: &mut Vec<Event>,
 ) -> Result<(), NoMemory>
-    requires kind { is_cell (standing world.old.signals.graph.state.signals id) ≡ false }
-    requires given { All (λ n. is_given world.old.signals.graph n ≡ true) slots.items }
+    requires kind { is_cell (standing world.old.graph.state.signals id) ≡ false }
+    requires given { All (λ n. is_given world.old.graph n ≡ true) slots.items }
     requires few { HasFewSlots (expression_of recipe) slots.items }
-    requires worn { CanWear world.old.signals.graph.state }
+    requires worn { CanWear world.old.graph.state }
     requires agrees { Agrees (⟦<Shelf as Lent>⟧.asked shelf.old) world.old }
     requires counted { ⟦<Shelf as Lent>⟧.counted shelf.old }
     requires open { rewiring_refused id (recipe_made (expression_of recipe) slots.items) (whole_of (⟦<Shelf as Lent>⟧.asked shelf.old) world.old) ≡ None }
@@ -99,9 +100,9 @@ fn change(
 
 // Whether a cell stands there.
 fn is_cell(world: &World, id: NodeId) -> bool
-    ensures { result ≡ is_cell (standing world.now.signals.graph.state.signals id) }
+    ensures { result ≡ is_cell (standing world.now.graph.state.signals id) }
 {
-    match world.signals.graph.standing(id) {
+    match world.graph.standing(id) {
         Standing::Cell => true,
         Standing::Gone => false,
         Standing::Computed => false,
@@ -119,7 +120,7 @@ fn change_standing(
     events: &mut Vec<Event>,
 ) -> Result<(), NoMemory>
     requires few { HasFewSlots (expression_of recipe) slots.items }
-    requires worn { CanWear world.old.signals.graph.state }
+    requires worn { CanWear world.old.graph.state }
     requires agrees { Agrees (⟦<Shelf as Lent>⟧.asked shelf.old) world.old }
     requires counted { ⟦<Shelf as Lent>⟧.counted shelf.old }
     requires open { rewiring_refused id (recipe_made (expression_of recipe) slots.items) (whole_of (⟦<Shelf as Lent>⟧.asked shelf.old) world.old) ≡ None }
@@ -132,7 +133,7 @@ fn change_standing(
     if is_cell(world, id) {
         return Ok(());
     }
-    let _made = world.signals.graph.made();
+    let _made = world.graph.made();
     change(world, shelf, id, recipe, slots, events)?;
     Ok(())
 }
@@ -153,7 +154,7 @@ pub fn rewire(
     events: &mut Vec<Event>,
 ) -> Result<(), NoMemory>
     requires few { HasFewSlots (expression_of recipe) slots.items }
-    requires worn { CanWear world.old.signals.graph.state }
+    requires worn { CanWear world.old.graph.state }
     requires agrees { Agrees (⟦<Shelf as Lent>⟧.asked shelf.old) world.old }
     requires counted { ⟦<Shelf as Lent>⟧.counted shelf.old }
     ensures done { (slacks : List ℕ) → OnOk result (Acted slacks

@@ -14,8 +14,9 @@ ghost use Rattle.effect_acts.specs.Acts.{Acted};
 use crate::act::do_act;
 use effect_tables::{Links, Site};
 use effect_teardown::effect_row;
-use effect_world::{Event, World};
+use effect_world::World;
 use sig_base::{EffectId, NoMemory};
+use sig_effect::Event;
 use sig_host::{EqualsRule, Lent, Shelf};
 use sig_untrack::{Act, Body};
 
@@ -44,7 +45,7 @@ fn act_there(
     events: &mut Vec<Event>,
 ) -> Result<(), NoMemory>
     requires agrees { Agrees (⟦<Shelf as Lent>⟧.asked shelf.old) world.old }
-    requires ruled { AreRuled (length rules.now) world.old.signals.graph.state.signals }
+    requires ruled { AreRuled (length rules.now) world.old.graph.state.signals }
     requires counted { ⟦<Shelf as Lent>⟧.counted shelf.old }
     requires worn { weight world.old < 2 ^ 126 }
     requires part { IsPart (rc_value site.now.script) site.now.path.items body.now links.now }
@@ -82,7 +83,7 @@ pub fn do_acts(
     events: &mut Vec<Event>,
 ) -> Result<(), NoMemory>
     requires agrees { Agrees (⟦<Shelf as Lent>⟧.asked shelf.old) world.old }
-    requires ruled { AreRuled (length rules.now) world.old.signals.graph.state.signals }
+    requires ruled { AreRuled (length rules.now) world.old.graph.state.signals }
     requires counted { ⟦<Shelf as Lent>⟧.counted shelf.old }
     requires worn { weight world.old < 2 ^ 125 }
     requires part { IsPart (rc_value site.now.script) site.now.path.items body.now links.now }

@@ -62,7 +62,7 @@ fn next(alloc: Global) -> Result<Body, Fail>
 
 // Two cells of these values.
 fn cells(alloc: Global, first: i64, second: i64) -> Result<Box<Scene>, Fail>
-    ensures can { IfOk result (λ s. CanSettle (scene s.value.world.graph (⟦<Shelf as Lent>⟧.asked s.value.shelf) s.value.notes.items)) }
+    ensures can { IfOk result (λ s. CanSettle (scene s.value.graph (⟦<Shelf as Lent>⟧.asked s.value.shelf) s.value.notes.items)) }
     ensures counted { IfOk result (λ s. ⟦<Shelf as Lent>⟧.counted s.value.shelf) }
 {
     let scene = Scene::new(alloc, first, second)?;
@@ -98,37 +98,31 @@ fn is_good(outcome: &Outcome, number: i64) -> bool {
 
 // What comes of the body on the first cell.
 fn run_of(alloc: Global, s: &mut Scene) -> Result<BodyRun, Fail>
-    requires can { CanSettle (scene s.old.world.graph (⟦<Shelf as Lent>⟧.asked s.old.shelf) s.old.notes.items) }
+    requires can { CanSettle (scene s.old.graph (⟦<Shelf as Lent>⟧.asked s.old.shelf) s.old.notes.items) }
     requires counted { ⟦<Shelf as Lent>⟧.counted s.old.shelf }
-    ensures can { OnOk result (CanSettle (scene s.new.world.graph (⟦<Shelf as Lent>⟧.asked s.new.shelf) s.new.notes.items)) }
+    ensures can { OnOk result (CanSettle (scene s.new.graph (⟦<Shelf as Lent>⟧.asked s.new.shelf) s.new.notes.items)) }
     ensures counted { OnOk result (⟦<Shelf as Lent>⟧.counted s.new.shelf) }
 {
     let body = next(alloc)?;
     let names = [s.first];
-    let run = evaluate_body(
-        &mut s.world.graph,
-        &mut s.shelf,
-        &body,
-        &names,
-        &mut s.notes,
-    )?;
+    let run = evaluate_body(&mut s.graph, &mut s.shelf, &body, &names, &mut s.notes)?;
     Ok(run)
 }
 
 // Whether an effect is due that keeps these reads, or has never run.
 fn is_due(s: &mut Scene, kept: Option<&[Read]>) -> Result<bool, Fail>
-    requires can { CanSettle (scene s.old.world.graph (⟦<Shelf as Lent>⟧.asked s.old.shelf) s.old.notes.items) }
+    requires can { CanSettle (scene s.old.graph (⟦<Shelf as Lent>⟧.asked s.old.shelf) s.old.notes.items) }
     requires counted { ⟦<Shelf as Lent>⟧.counted s.old.shelf }
-    ensures can { OnOk result (CanSettle (scene s.new.world.graph (⟦<Shelf as Lent>⟧.asked s.new.shelf) s.new.notes.items)) }
+    ensures can { OnOk result (CanSettle (scene s.new.graph (⟦<Shelf as Lent>⟧.asked s.new.shelf) s.new.notes.items)) }
     ensures counted { OnOk result (⟦<Shelf as Lent>⟧.counted s.new.shelf) }
 {
-    let due = look(&mut s.world.graph, &mut s.shelf, kept, &mut s.notes)?;
+    let due = look(&mut s.graph, &mut s.shelf, kept, &mut s.notes)?;
     Ok(due)
 }
 
 // Whether an effect is due before it has run, and not afterwards.
 fn is_due_at_first(s: &mut Scene, kept: &[Read]) -> Result<bool, Fail>
-    requires can { CanSettle (scene s.old.world.graph (⟦<Shelf as Lent>⟧.asked s.old.shelf) s.old.notes.items) }
+    requires can { CanSettle (scene s.old.graph (⟦<Shelf as Lent>⟧.asked s.old.shelf) s.old.notes.items) }
     requires counted { ⟦<Shelf as Lent>⟧.counted s.old.shelf }
 {
     let before = is_due(s, None)?;
@@ -144,7 +138,7 @@ fn is_due_at(alloc: Global, number: i64, kept: &[Read]) -> Result<bool, Fail> {
 
 // Whether a run where the first cell is 1 says and keeps what it is to.
 fn runs_once(alloc: Global, s: &mut Scene) -> Result<bool, Fail>
-    requires can { CanSettle (scene s.old.world.graph (⟦<Shelf as Lent>⟧.asked s.old.shelf) s.old.notes.items) }
+    requires can { CanSettle (scene s.old.graph (⟦<Shelf as Lent>⟧.asked s.old.shelf) s.old.notes.items) }
     requires counted { ⟦<Shelf as Lent>⟧.counted s.old.shelf }
 {
     let run = run_of(alloc, s)?;

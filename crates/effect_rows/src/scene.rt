@@ -4,15 +4,15 @@ ghost use Rattle.sig_computed.specs.Scenes.{scene, CanSettle};
 
 use sig_base::{NodeId, Value};
 use sig_computed::RunNote;
-use sig_effect::World;
 use sig_host::{Lent, Shelf};
+use sig_nodes::Graph;
 use std::alloc::Global;
 use std::test::Fail;
 
 /// Signals, of which two are cells.
 #[derive(Drop)]
 pub(crate) struct Scene {
-    pub(crate) world: World,
+    pub(crate) graph: Graph,
     pub(crate) shelf: Shelf,
     pub(crate) notes: Vec<RunNote>,
     pub(crate) first: NodeId,
@@ -22,17 +22,17 @@ pub(crate) struct Scene {
 impl Scene {
     /// Cells of these values.
     pub(crate) fn new(alloc: Global, first: i64, second: i64) -> Result<Scene, Fail>
-        ensures can { IfOk result (λ s. CanSettle (scene s.world.graph (⟦<Shelf as Lent>⟧.asked s.shelf) s.notes.items)) }
+        ensures can { IfOk result (λ s. CanSettle (scene s.graph (⟦<Shelf as Lent>⟧.asked s.shelf) s.notes.items)) }
         ensures counted { IfOk result (λ s. ⟦<Shelf as Lent>⟧.counted s.shelf) }
     {
         let hosts = Vec::new(alloc);
         let shelf = Shelf::new(alloc, hosts)?;
-        let mut world = World::new(alloc)?;
-        let first = world.make_cell(Value::Int(first), None)?;
-        let second = world.make_cell(Value::Int(second), None)?;
+        let mut graph = Graph::new(alloc)?;
+        let first = graph.add_cell(Value::Int(first), None)?;
+        let second = graph.add_cell(Value::Int(second), None)?;
         let notes = Vec::new(alloc);
         Ok(Scene {
-            world,
+            graph,
             shelf,
             notes,
             first,

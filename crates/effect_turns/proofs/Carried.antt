@@ -1,5 +1,5 @@
 -- What single steps leave.
-use Rattle.std.proofs.Common.{◌≡◌, ℕ, ◌+◌, ◌*◌, ◌^◌, ◌<◌, ◌≤◌, List, [], ◌∷◌, ◌++◌, length, length-append, map, refl, sym, ap, subst, ◌∙◌, arith}
+use Rattle.std.proofs.Common.{◌≡◌, ℕ, ◌+◌, ◌*◌, ◌^◌, ◌<◌, ◌≤◌, List, [], ◌++◌, length, length-append, map, refl, sym, ap, subst, ◌∙◌, arith}
 use Rattle.std.proofs.lemmas.List.{length-map}
 use Rattle.signal_model.specs.Recipes.{Hosts}
 use Rattle.effect_model.specs.Worlds as plain
@@ -13,21 +13,20 @@ use Rattle.sig_computed.specs.declared.notes.RunNote.{RunNote}
 use Rattle.sig_computed.specs.Notes.{note_of, IsSettling}
 use Rattle.sig_computed.specs.Scenes as settling
 use Rattle.sig_computed.specs.Scenes.{Settles}
-use Rattle.sig_effect.specs.declared.events.Event.TheVariants as signals
 use Rattle.sig_effect.specs.Stores.{AreRuled, environment}
 use Rattle.sig_effect.specs.Wholes as wholes
-use Rattle.sig_effect.proofs.Shared.{agrees_settled, settle_does}
-use Rattle.effect_world.specs.declared.events.Event.{Event}
-use Rattle.effect_world.specs.declared.events.Event.TheVariants as event
+use Rattle.sig_effect.proofs.Shared.{agrees_settled, settle_does, tells_none}
+use Rattle.sig_effect.specs.declared.events.Event.{Event}
+use Rattle.sig_effect.specs.declared.events.Event.TheVariants as event
 use Rattle.effect_world.specs.declared.world.World.{World}
 use Rattle.effect_world.specs.Signals.{Scene, any_hosts, scene}
 use Rattle.effect_world.specs.Stores.{Agrees, Does, IsSound}
-use Rattle.effect_world.specs.Events.{Tells}
+use Rattle.sig_effect.specs.Events.{Tells}
 use Rattle.effect_world.specs.Costs.{weight}
-use Rattle.effect_world.specs.Wholes.{whole_of}
-use Rattle.effect_world.proofs.Shared.{owned_still, settle_done, tells_none}
+use Rattle.effect_world.specs.Wholes.{stores_of, whole_of}
+use Rattle.effect_world.proofs.Shared.{owned_still, settle_done}
 use Rattle.effect_acts.specs.Acts.{Acted}
-use Rattle.effect_turns.specs.Runs.{run_told, CanRun, Runs, Spends}
+use Rattle.effect_turns.specs.Runs.{CanRun, Runs, Spends}
 
 -- ---- the same act in other words
 
@@ -68,7 +67,7 @@ pub runs_still : (slacks : List ℕ) (x : Scene) (answers : Hosts → Type 0) (a
     ((env : plain.Environment) → act env (whole_of x.asked x.world) ≡ whole_of x.asked x.world) → Runs slacks x x answers answers act
 runs_still slacks x answers act a is = record {
   does = λ hosts all sound. record {
-    whole = sym (placed_rests x.world.tables (wholes.whole_of x.asked x.world.signals) a.owned.tables) ∙ ap at_rest (sym (is (environment hosts slacks)));
+    whole = sym (placed_rests x.world.tables (wholes.whole_of x.asked (stores_of x.world)) a.owned.tables) ∙ ap at_rest (sym (is (environment hosts slacks)));
     told = subst (λ (w : plain.World). Tells x.events x.events w.told) (sym (is (environment hosts slacks))) (tells_none x.events);
     sound = sound;
   };
@@ -129,25 +128,20 @@ acted_runs slacks old new before after steps act a = record {
   made = a.made;
 }
 
--- runs are told by the world as the signals tell them
-told_below : (notes : List RunNote) → map run_told notes ≡ map event.Signals (map signals.Run notes)
-told_below [] = refl
-told_below (n ∷ ns) = ap (λ es. run_told n ∷ es) (told_below ns)
-
 pub settled_runs : (slacks : List ℕ) (old new : World) (asked later : List HostPlace) (none notes : List RunNote) (before after : List Event) (first last : Hosts → Type 0)
-    (names : Hosts → List ℕ) → none ≡ [] → after ≡ before ++ map run_told notes → new.tables ≡ old.tables → new.signals.watchers ≡ old.signals.watchers → Agrees asked old →
-    Settles (settling.scene old.signals.graph asked none) (settling.scene new.signals.graph later notes) first last names →
+    (names : Hosts → List ℕ) → none ≡ [] → after ≡ before ++ map event.Run notes → new.tables ≡ old.tables → new.watchers ≡ old.watchers → Agrees asked old →
+    Settles (settling.scene old.graph asked none) (settling.scene new.graph later notes) first last names →
     Runs slacks (scene old asked before) (scene new later after) first last (λ env. settle env (names env.hosts))
 settled_runs slacks old new asked later none notes before after first last names empty is same watched a s = record {
   does = λ hosts all sound.
-      settle_done hosts slacks asked later old new before after [] (map signals.Run notes) (names hosts) refl
-      (settle_does hosts slacks asked later old.signals new.signals (names hosts) notes [] (map signals.Run notes) s.signals s.given watched
-      (subst (λ (ns : List RunNote). IsSettling hosts old.signals.graph.state.signals old.signals.graph.state.memos (names hosts) (map note_of ns) (map note_of notes)
-      new.signals.graph.state.memos) empty (s.settled hosts all sound.kept))
-      (s.asked hosts all sound.kept) refl (s.kept hosts all sound.kept) sound)
-      same a.owned.tables (is ∙ ap (λ es. before ++ es) (told_below notes));
+      settle_done hosts slacks asked later old new before after (names hosts)
+      (settle_does hosts slacks asked later (stores_of old) (stores_of new) (names hosts) notes before after s.signals s.given watched
+      (subst (λ (ns : List RunNote). IsSettling hosts old.graph.state.signals old.graph.state.memos (names hosts) (map note_of ns) (map note_of notes)
+      new.graph.state.memos) empty (s.settled hosts all sound.kept))
+      (s.asked hosts all sound.kept) is (s.kept hosts all sound.kept) sound)
+      same a.owned.tables;
   agrees = record {
-    signals = agrees_settled asked later old.signals new.signals s.signals s.idle s.there watched a.signals;
+    signals = agrees_settled asked later (stores_of old) (stores_of new) s.signals s.idle s.there watched a.signals;
     owned = owned_still old new s.given same a.owned;
   };
   answers = s.answers;
@@ -157,15 +151,15 @@ settled_runs slacks old new asked later none notes before after first last names
 }
 
 pub settled_spends : (old new : World) (asked later : List HostPlace) (none notes : List RunNote) (before after : List Event) (first last : Hosts → Type 0)
-    (names : Hosts → List ℕ) → none ≡ [] → after ≡ before ++ map run_told notes → new.tables ≡ old.tables →
-    Settles (settling.scene old.signals.graph asked none) (settling.scene new.signals.graph later notes) first last names →
+    (names : Hosts → List ℕ) → none ≡ [] → after ≡ before ++ map event.Run notes → new.tables ≡ old.tables →
+    Settles (settling.scene old.graph asked none) (settling.scene new.graph later notes) first last names →
     Spends (scene old asked before) (scene new later after)
 settled_spends old new asked later none notes before after first last names empty is same s =
     let n : length (map note_of none) ≡ 0 = ap (λ (ns : List RunNote). length (map note_of ns)) empty in
     let k : length (map note_of notes) ≡ length notes = length-map notes note_of in
     let e : length after ≡ length before + length notes =
-    ap length is ∙ length-append before (map run_told notes) ∙ ap (λ k. length before + k) (length-map notes run_told) in
-    let w : new.signals.graph.state.worn + length (map note_of none) ≡ old.signals.graph.state.worn + length (map note_of notes) = s.worn in
+    ap length is ∙ length-append before (map event.Run notes) ∙ ap (λ k. length before + k) (length-map notes event.Run) in
+    let w : new.graph.state.worn + length (map note_of none) ≡ old.graph.state.worn + length (map note_of notes) = s.worn in
     let m : most_asked later + 65 * length (map note_of none) ≤ most_asked asked + 65 * length (map note_of notes) = s.most in
     let t : weight new ≡ weight (record new { tables = old.tables }) = ap (λ (x : Tables). weight (record new { tables = x })) same in
     record { weight = omega (arith, n, k, e, w, t); most = omega (arith, n, k, e, m) }

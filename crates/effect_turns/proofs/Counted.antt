@@ -1,5 +1,5 @@
 -- Bodies of scripts that fit want few acts done.
-use Rattle.std.proofs.Common.{ℕ, ◌≤◌, [], length, arith}
+use Rattle.std.proofs.Common.{ℕ, ◌≤◌, [], arith}
 use Rattle.signal_model.specs.Recipes.{host}
 use Rattle.effect_model.specs.Bodies.{no_more}
 use Rattle.effect_model.specs.Owners.{the_signal}

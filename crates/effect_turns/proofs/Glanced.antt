@@ -14,12 +14,13 @@ use Rattle.sig_effect.specs.Stores.{environment}
 use Rattle.sig_computed.specs.declared.notes.RunNote.{RunNote}
 use Rattle.sig_computed.specs.Scenes as settling
 use Rattle.sig_computed.specs.Scenes.{Settles}
-use Rattle.effect_world.specs.declared.events.Event.{Event}
+use Rattle.sig_effect.specs.declared.events.Event.{Event}
+use Rattle.sig_effect.specs.declared.events.Event.TheVariants as event
 use Rattle.effect_world.specs.declared.world.World.{World}
 use Rattle.effect_world.specs.Signals.{Scene, scene}
 use Rattle.effect_world.specs.Stores.{Agrees}
 use Rattle.effect_world.specs.Wholes.{whole_of}
-use Rattle.effect_turns.specs.Runs.{run_told, Runs}
+use Rattle.effect_turns.specs.Runs.{Runs}
 use Rattle.effect_turns.proofs.Carried.{runs_as, runs_still, settled_runs}
 
 -- what is kept, in other words
@@ -37,15 +38,15 @@ glance_none slacks x answers id a none =
 -- else what that effect keeps is settled
 pub glance_some : (slacks : List ℕ) (old new : World) (asked later : List HostPlace) (none notes : List RunNote) (before after : List Event) (first last : Hosts → Type 0)
     (id : ℕ) (x : Effect) → effect_at id (map effect_of old.tables.effects.items) ≡ Some (effect_of x) →
-    none ≡ [] → after ≡ before ++ map run_told notes → new.tables ≡ old.tables → new.signals.watchers ≡ old.signals.watchers → Agrees asked old →
-    Settles (settling.scene old.signals.graph asked none) (settling.scene new.signals.graph later notes) first last
-    (λ hosts. looked_names (λ m. value_of hosts old.signals.graph.state.signals m []) (effect_of x).kept) →
+    none ≡ [] → after ≡ before ++ map event.Run notes → new.tables ≡ old.tables → new.watchers ≡ old.watchers → Agrees asked old →
+    Settles (settling.scene old.graph asked none) (settling.scene new.graph later notes) first last
+    (λ hosts. looked_names (λ m. value_of hosts old.graph.state.signals m []) (effect_of x).kept) →
     Runs slacks (scene old asked before) (scene new later after) first last (λ env. glance env id)
 glance_some slacks old new asked later none notes before after first last id x at empty is same watched a s =
     runs_as slacks (scene old asked before) (scene new later after) first last
-    (λ env. settle env (looked_names (λ m. value_of env.hosts old.signals.graph.state.signals m []) (effect_of x).kept)) (λ env. glance env id)
+    (λ env. settle env (looked_names (λ m. value_of env.hosts old.graph.state.signals m []) (effect_of x).kept)) (λ env. glance env id)
     (λ hosts all sound.
     let env : plain.Environment = environment hosts slacks in
     sym (ap (λ (o : Option plain.Effect). to_effect (look env) o (whole_of asked old)) at))
     (settled_runs slacks old new asked later none notes before after first last
-    (λ hosts. looked_names (λ m. value_of hosts old.signals.graph.state.signals m []) (effect_of x).kept) empty is same watched a s)
+    (λ hosts. looked_names (λ m. value_of hosts old.graph.state.signals m []) (effect_of x).kept) empty is same watched a s)

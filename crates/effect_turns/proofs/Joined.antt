@@ -47,32 +47,32 @@ seen_runs slacks old new before after w p b ns ms is r =
 module _ (slacks : List ℕ) (old mid kept new : Scene) (before between after : Hosts → Type 0) (id : ℕ) (p : Parts) (b : Body) (names : List ℕ) (body : model.Body) (run : BodyRun) where
   pub run_joined : body ≡ body_seen p b names → Agrees old.asked old.world →
       ((hosts : Hosts) → before hosts → IsSound hosts old.asked old.world →
-      IsRunOf p (body_evaluation hosts old.world.signals.graph.state.signals (body_seen p b names)) run) →
-      Runs slacks old mid before between (λ env. settle env (names_of (body_evaluation env.hosts old.world.signals.graph.state.signals (body_seen p b names)).reads)) →
+      IsRunOf p (body_evaluation hosts old.world.graph.state.signals (body_seen p b names)) run) →
+      Runs slacks old mid before between (λ env. settle env (names_of (body_evaluation env.hosts old.world.graph.state.signals (body_seen p b names)).reads)) →
       Acted slacks mid kept any_hosts any_hosts 0 (λ env. keep_reads id run.tracked.items) →
       Runs slacks kept new between after (λ env. do_result env id (result_of p run.end)) →
       Runs slacks old new before after (λ env w. run_body env id (body_evaluation env.hosts w.signals body) w)
   run_joined seen a is first then' last =
       runs_as slacks old new before after
       (λ env w. do_result env id (result_of p run.end) (keep_reads id run.tracked.items
-      (settle env (names_of (body_evaluation env.hosts old.world.signals.graph.state.signals (body_seen p b names)).reads) w)))
+      (settle env (names_of (body_evaluation env.hosts old.world.graph.state.signals (body_seen p b names)).reads) w)))
       (λ env w. run_body env id (body_evaluation env.hosts w.signals body) w)
       (λ hosts all sound.
       let env : plain.Environment = environment hosts slacks in
       let w : plain.World = whole_of old.asked old.world in
-      let e : BodyEvaluation = body_evaluation hosts old.world.signals.graph.state.signals (body_seen p b names) in
+      let e : BodyEvaluation = body_evaluation hosts old.world.graph.state.signals (body_seen p b names) in
       let r = is hosts all sound in
       (λ i. do_result env id (r.result i) (keep_reads id (r.tracked i) (settle env (names_of e.reads) w)))
-      ∙ ap (λ (x : model.Body). run_body env id (body_evaluation hosts old.world.signals.graph.state.signals x) w) (sym seen))
+      ∙ ap (λ (x : model.Body). run_body env id (body_evaluation hosts old.world.graph.state.signals x) w) (sym seen))
       (runs_then slacks old kept new before between after
-      (λ env w. keep_reads id run.tracked.items (settle env (names_of (body_evaluation env.hosts old.world.signals.graph.state.signals (body_seen p b names)).reads) w))
+      (λ env w. keep_reads id run.tracked.items (settle env (names_of (body_evaluation env.hosts old.world.graph.state.signals (body_seen p b names)).reads) w))
       (λ env. do_result env id (result_of p run.end)) a
-      (λ env. rests_then (settle env (names_of (body_evaluation env.hosts old.world.signals.graph.state.signals (body_seen p b names)).reads)) (keep_reads id run.tracked.items)
-      (all_rest.settling env (names_of (body_evaluation env.hosts old.world.signals.graph.state.signals (body_seen p b names)).reads)) (all_rest.keeping id run.tracked.items))
+      (λ env. rests_then (settle env (names_of (body_evaluation env.hosts old.world.graph.state.signals (body_seen p b names)).reads)) (keep_reads id run.tracked.items)
+      (all_rest.settling env (names_of (body_evaluation env.hosts old.world.graph.state.signals (body_seen p b names)).reads)) (all_rest.keeping id run.tracked.items))
       (λ env. all_rest.ending env id (result_of p run.end))
       (runs_then slacks old mid kept before between between
-      (λ env. settle env (names_of (body_evaluation env.hosts old.world.signals.graph.state.signals (body_seen p b names)).reads)) (λ env. keep_reads id run.tracked.items) a
-      (λ env. all_rest.settling env (names_of (body_evaluation env.hosts old.world.signals.graph.state.signals (body_seen p b names)).reads)) (λ env. all_rest.keeping id run.tracked.items)
+      (λ env. settle env (names_of (body_evaluation env.hosts old.world.graph.state.signals (body_seen p b names)).reads)) (λ env. keep_reads id run.tracked.items) a
+      (λ env. all_rest.settling env (names_of (body_evaluation env.hosts old.world.graph.state.signals (body_seen p b names)).reads)) (λ env. all_rest.keeping id run.tracked.items)
       first (runs_any slacks mid kept between (λ env. keep_reads id run.tracked.items) (acted_runs slacks mid kept any_hosts any_hosts 0 (λ env. keep_reads id run.tracked.items) then')))
       last)
 

@@ -3,18 +3,10 @@ use Rattle.std.specs.Prelude.{◌≡◌, ℕ, ◌+◌, ◌*◌, ◌^◌, ◌<◌
 use Rattle.signal_model.specs.Recipes.{Hosts}
 use Rattle.effect_model.specs.Worlds as plain
 use Rattle.sig_host.specs.Hosts.{most_asked}
-use Rattle.sig_computed.specs.declared.notes.RunNote.{RunNote}
-use Rattle.sig_effect.specs.declared.events.Event.TheVariants as signals
 use Rattle.sig_effect.specs.Stores.{AreRuled, environment}
-use Rattle.effect_world.specs.declared.events.Event.{Event}
-use Rattle.effect_world.specs.declared.events.Event.TheVariants as event
 use Rattle.effect_world.specs.Signals.{Scene}
 use Rattle.effect_world.specs.Stores.{Agrees, Does, IsSound}
 use Rattle.effect_world.specs.Costs.{weight}
-
--- how the world tells of the run of a computed
-abbrev pub run_told : RunNote → Event
-run_told n = event.Signals (signals.Run n)
 
 -- By equality rules of these slacks, and by the meanings by which the shelf answers, an act was done to the world; the shelf answers by these
 -- afterwards too. No signal and no watcher was made.
@@ -24,9 +16,9 @@ pub record Runs (slacks : List ℕ) (old new : Scene) (before after : Hosts → 
       Does hosts old.asked new.asked old.world new.world old.events new.events (act (environment hosts slacks))
   pub agrees : Agrees new.asked new.world
   pub answers : (hosts : Hosts) → before hosts → after hosts
-  pub rules : (count : ℕ) → AreRuled count old.world.signals.graph.state.signals → AreRuled count new.world.signals.graph.state.signals
-  pub given : new.world.signals.graph.given ≡ old.world.signals.graph.given
-  pub made : new.world.signals.watchers.made ≡ old.world.signals.watchers.made
+  pub rules : (count : ℕ) → AreRuled count old.world.graph.state.signals → AreRuled count new.world.graph.state.signals
+  pub given : new.world.graph.given ≡ old.world.graph.given
+  pub made : new.world.watchers.made ≡ old.world.watchers.made
 
 -- No counter rose further than what was told stands for: a hundred and twenty-eight steps an event.
 pub record Spends (old new : Scene) : Type 0 where

@@ -11,8 +11,9 @@ ghost use Rattle.effect_turns.specs.Runs.{CanRun, Runs, Spends};
 
 use crate::glance::glance;
 use crate::turns::{numbers, turn};
-use effect_world::{Event, World};
+use effect_world::World;
 use sig_base::{EffectId, NoMemory};
+use sig_effect::Event;
 use sig_host::{EqualsRule, Lent, Shelf};
 
 /// The most turns of a flush.
@@ -89,7 +90,7 @@ pub fn flush(
     events: &mut Vec<Event>,
 ) -> Result<FlushEnd, NoMemory>
     requires can { CanRun (scene world.old (⟦<Shelf as Lent>⟧.asked shelf.old) events.old.items) }
-    requires ruled { AreRuled (length rules.now) world.old.signals.graph.state.signals }
+    requires ruled { AreRuled (length rules.now) world.old.graph.state.signals }
     requires counted { ⟦<Shelf as Lent>⟧.counted shelf.old }
     ensures ends { (hosts : Hosts) → ⟦<Shelf as Lent>⟧.answers hosts shelf.old → IsSound hosts (⟦<Shelf as Lent>⟧.asked shelf.old) world.old →
         IfOk result (λ f. (f.turns ≡ (flush (environment hosts (map (λ r. r.slack) rules.now)) (whole_of (⟦<Shelf as Lent>⟧.asked shelf.old) world.old)).turns)

@@ -14,11 +14,11 @@ ghost use Rattle.effect_world.specs.Wholes.{whole_of};
 ghost use Rattle.effect_turns.specs.Runs.{CanRun, Runs, Spends};
 ghost use Rattle.effect_tables.specs.Visits.{glance, is_due};
 
-use crate::notes::tell_notes;
 use effect_tables::{Effect, effect_at};
-use effect_world::{Event, World};
+use effect_world::World;
 use sig_base::{EffectId, NoMemory};
 use sig_computed::RunNote;
+use sig_effect::{Event, tell_runs};
 use sig_host::{Lent, Shelf};
 use sig_nodes::Graph;
 
@@ -80,7 +80,7 @@ pub(crate) fn glance(
     let Some(effect) = effect_at(&world.tables, id) else {
         return Ok(false);
     };
-    let due = look_at(&mut world.signals.graph, shelf, effect, &mut notes)?;
-    tell_notes(events, notes)?;
+    let due = look_at(&mut world.graph, shelf, effect, &mut notes)?;
+    tell_runs(events, notes)?;
     Ok(due)
 }

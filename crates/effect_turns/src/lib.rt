@@ -3,7 +3,6 @@
 
 mod flushes;
 mod glance;
-mod notes;
 mod run;
 mod turns;
 

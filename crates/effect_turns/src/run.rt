@@ -24,13 +24,13 @@ ghost use Rattle.effect_world.specs.Costs.{weight};
 ghost use Rattle.effect_turns.specs.Runs.{CanRun, Runs, Spends};
 ghost use Rattle.effect_tables.specs.Visits.{rerun};
 
-use crate::notes::tell_notes;
 use effect_acts::{do_acts, fail, keep_reads};
 use effect_runs::{BodyEnd, BodyRun, evaluate_body};
 use effect_tables::{Links, Site, effect_at};
 use effect_teardown::{body_at, links_at};
-use effect_world::{Event, World};
+use effect_world::World;
 use sig_base::{EffectId, NoMemory};
+use sig_effect::{Event, tell_runs};
 use sig_host::{EqualsRule, Lent, Shelf};
 use sig_untrack::Body;
 
@@ -43,7 +43,7 @@ fn take_back(
     events: &mut Vec<Event>,
 ) -> Result<(), NoMemory>
     requires can { CanRun (scene world.old (⟦<Shelf as Lent>⟧.asked shelf.old) events.old.items) }
-    requires ruled { AreRuled (length rules.now) world.old.signals.graph.state.signals }
+    requires ruled { AreRuled (length rules.now) world.old.graph.state.signals }
     requires counted { ⟦<Shelf as Lent>⟧.counted shelf.old }
     ensures done { OnOk result (Runs (map (λ r. r.slack) rules.now)
         (scene world.old (⟦<Shelf as Lent>⟧.asked shelf.old) events.old.items) (scene world.new (⟦<Shelf as Lent>⟧.asked shelf.new) events.new.items)
@@ -71,11 +71,11 @@ fn evaluate(
     requires counted { ⟦<Shelf as Lent>⟧.counted shelf.old }
     requires fits { FitsNames (length (out-Links links.now).names.items) (statements_of (before body.now no_bodies)) }
     ensures run { (hosts : Hosts) (p : Parts) → ⟦<Shelf as Lent>⟧.answers hosts shelf.old → IsSound hosts (⟦<Shelf as Lent>⟧.asked shelf.old) world.old → IfOk result (IsRunOf p
-        (body_evaluation hosts world.old.signals.graph.state.signals (body_seen p body.now (out-Links links.now).names.items))) }
+        (body_evaluation hosts world.old.graph.state.signals (body_seen p body.now (out-Links links.now).names.items))) }
     ensures done { (slacks : List ℕ) (p : Parts) → OnOk result (Runs slacks
         (scene world.old (⟦<Shelf as Lent>⟧.asked shelf.old) events.old.items) (scene world.new (⟦<Shelf as Lent>⟧.asked shelf.new) events.new.items)
         (λ hosts. ⟦<Shelf as Lent>⟧.answers hosts shelf.old) (λ hosts. ⟦<Shelf as Lent>⟧.answers hosts shelf.new)
-        (λ env. settle env (names_of (body_evaluation env.hosts world.old.signals.graph.state.signals
+        (λ env. settle env (names_of (body_evaluation env.hosts world.old.graph.state.signals
         (body_seen p body.now (out-Links links.now).names.items)).reads))) }
     ensures few { IfOk result (λ r. IsShort MOST_STATEMENTS r.end) }
     ensures spent { OnOk result (Spends
@@ -84,14 +84,8 @@ fn evaluate(
 {
     let _count = events.len();
     let mut notes = Vec::new(*events.allocator());
-    let run = evaluate_body(
-        &mut world.signals.graph,
-        shelf,
-        body,
-        &links.names,
-        &mut notes,
-    )?;
-    tell_notes(events, notes)?;
+    let run = evaluate_body(&mut world.graph, shelf, body, &links.names, &mut notes)?;
+    tell_runs(events, notes)?;
     Ok(run)
 }
 
@@ -109,7 +103,7 @@ fn finish(
 ) -> Result<(), NoMemory>
     requires agrees { Agrees (⟦<Shelf as Lent>⟧.asked shelf.old) world.old }
     requires worn { weight world.old < 2 ^ 125 }
-    requires ruled { AreRuled (length rules.now) world.old.signals.graph.state.signals }
+    requires ruled { AreRuled (length rules.now) world.old.graph.state.signals }
     requires counted { ⟦<Shelf as Lent>⟧.counted shelf.old }
     requires fits { IsFitting (rc_value site.now.script) }
     requires part { IsPart (rc_value site.now.script) site.now.path.items body.now links.now }
@@ -147,7 +141,7 @@ fn run_part(
     events: &mut Vec<Event>,
 ) -> Result<(), NoMemory>
     requires can { CanRun (scene world.old (⟦<Shelf as Lent>⟧.asked shelf.old) events.old.items) }
-    requires ruled { AreRuled (length rules.now) world.old.signals.graph.state.signals }
+    requires ruled { AreRuled (length rules.now) world.old.graph.state.signals }
     requires counted { ⟦<Shelf as Lent>⟧.counted shelf.old }
     requires fits { IsFitting (rc_value site.now.script) }
     requires part { IsPart (rc_value site.now.script) site.now.path.items body.now links.now }
@@ -192,7 +186,7 @@ fn run_on(
     events: &mut Vec<Event>,
 ) -> Result<(), NoMemory>
     requires can { CanRun (scene world.old (⟦<Shelf as Lent>⟧.asked shelf.old) events.old.items) }
-    requires ruled { AreRuled (length rules.now) world.old.signals.graph.state.signals }
+    requires ruled { AreRuled (length rules.now) world.old.graph.state.signals }
     requires counted { ⟦<Shelf as Lent>⟧.counted shelf.old }
     requires fits { IsFitting (rc_value site.now.script) }
     ensures done { OnOk result (Runs (map (λ r. r.slack) rules.now)
@@ -226,7 +220,7 @@ fn run_at(
     events: &mut Vec<Event>,
 ) -> Result<(), NoMemory>
     requires can { CanRun (scene world.old (⟦<Shelf as Lent>⟧.asked shelf.old) events.old.items) }
-    requires ruled { AreRuled (length rules.now) world.old.signals.graph.state.signals }
+    requires ruled { AreRuled (length rules.now) world.old.graph.state.signals }
     requires counted { ⟦<Shelf as Lent>⟧.counted shelf.old }
     requires fits { IsFitting (rc_value site.now.script) }
     ensures done { OnOk result (Runs (map (λ r. r.slack) rules.now)
@@ -261,7 +255,7 @@ pub fn run_effect(
     events: &mut Vec<Event>,
 ) -> Result<(), NoMemory>
     requires can { CanRun (scene world.old (⟦<Shelf as Lent>⟧.asked shelf.old) events.old.items) }
-    requires ruled { AreRuled (length rules.now) world.old.signals.graph.state.signals }
+    requires ruled { AreRuled (length rules.now) world.old.graph.state.signals }
     requires counted { ⟦<Shelf as Lent>⟧.counted shelf.old }
     ensures done { OnOk result (Runs (map (λ r. r.slack) rules.now)
         (scene world.old (⟦<Shelf as Lent>⟧.asked shelf.old) events.old.items) (scene world.new (⟦<Shelf as Lent>⟧.asked shelf.new) events.new.items)

@@ -1,5 +1,5 @@
 // A turn.
-ghost use Rattle.std.specs.Prelude.{◌≡◌, ◌||◌, ℕ, List, IfOk, OnOk, length, map};
+ghost use Rattle.std.specs.Prelude.{◌≡◌, ◌||◌, IfOk, OnOk, length, map};
 ghost use Rattle.signal_model.specs.Recipes.{Hosts};
 ghost use Rattle.effect_model.specs.Runs.{turn};
 ghost use Rattle.effect_model.specs.Worlds.{effect_numbers};
@@ -14,8 +14,9 @@ ghost use Rattle.effect_tables.specs.Visits.{is_due, some_ran, visit, visit_all}
 use crate::glance::glance;
 use crate::run::run_effect;
 use effect_tables::Effect;
-use effect_world::{Event, World};
+use effect_world::World;
 use sig_base::{EffectId, NoMemory};
+use sig_effect::Event;
 use sig_host::{EqualsRule, Lent, Shelf};
 use std::alloc::Global;
 
@@ -39,7 +40,7 @@ fn visit(
     events: &mut Vec<Event>,
 ) -> Result<bool, NoMemory>
     requires can { CanRun (scene world.old (⟦<Shelf as Lent>⟧.asked shelf.old) events.old.items) }
-    requires ruled { AreRuled (length rules.now) world.old.signals.graph.state.signals }
+    requires ruled { AreRuled (length rules.now) world.old.graph.state.signals }
     requires counted { ⟦<Shelf as Lent>⟧.counted shelf.old }
     ensures due { (hosts : Hosts) → ⟦<Shelf as Lent>⟧.answers hosts shelf.old → IsSound hosts (⟦<Shelf as Lent>⟧.asked shelf.old) world.old →
         IfOk result (λ b. b ≡ is_due (environment hosts (map (λ r. r.slack) rules.now)) id (whole_of (⟦<Shelf as Lent>⟧.asked shelf.old) world.old)) }
@@ -74,7 +75,7 @@ fn visit_each(
     events: &mut Vec<Event>,
 ) -> Result<bool, NoMemory>
     requires can { CanRun (scene world.old (⟦<Shelf as Lent>⟧.asked shelf.old) events.old.items) }
-    requires ruled { AreRuled (length rules.now) world.old.signals.graph.state.signals }
+    requires ruled { AreRuled (length rules.now) world.old.graph.state.signals }
     requires counted { ⟦<Shelf as Lent>⟧.counted shelf.old }
     ensures ran { (hosts : Hosts) → ⟦<Shelf as Lent>⟧.answers hosts shelf.old → IsSound hosts (⟦<Shelf as Lent>⟧.asked shelf.old) world.old →
         IfOk result (λ b. b ≡ some_ran (environment hosts (map (λ r. r.slack) rules.now)) ids.now (whole_of (⟦<Shelf as Lent>⟧.asked shelf.old) world.old)) }
@@ -106,7 +107,7 @@ pub fn turn(
     events: &mut Vec<Event>,
 ) -> Result<bool, NoMemory>
     requires can { CanRun (scene world.old (⟦<Shelf as Lent>⟧.asked shelf.old) events.old.items) }
-    requires ruled { AreRuled (length rules.now) world.old.signals.graph.state.signals }
+    requires ruled { AreRuled (length rules.now) world.old.graph.state.signals }
     requires counted { ⟦<Shelf as Lent>⟧.counted shelf.old }
     ensures ran { (hosts : Hosts) → ⟦<Shelf as Lent>⟧.answers hosts shelf.old → IsSound hosts (⟦<Shelf as Lent>⟧.asked shelf.old) world.old →
         IfOk result (λ b. b ≡ (turn (environment hosts (map (λ r. r.slack) rules.now)) (whole_of (⟦<Shelf as Lent>⟧.asked shelf.old) world.old)).ran) }

@@ -2,5 +2,4 @@ mod Told
 mod Worlds
 mod Batched
 mod Undone
-mod Ended
 pub mod Shared

@@ -17,7 +17,6 @@ use Rattle.effect_tables.specs.declared.effect.Effect.{Effect}
 use Rattle.effect_tables.specs.declared.tables.Tables.{Tables}
 use Rattle.effect_tables.specs.declared.thing.Undoing.{Undoing as AnUndoing}
 use Rattle.effect_tables.specs.declared.thing.Undoing.TheVariants as undoing
-use Rattle.effect_tables.specs.Consistency.{TablesAgree}
 use Rattle.effect_tables.specs.Bodies.{undoing_of, undoings_of}
 use Rattle.effect_tables.specs.Placed.{at_rest, effect_of, placed, tree_of}
 use Rattle.effect_tables.proofs.Shared.{left_off, listed_tree, right_off}
@@ -29,19 +28,17 @@ use Rattle.sig_nodes.specs.Answers.{kind_here}
 use Rattle.sig_nodes.specs.States.{is_cell}
 use Rattle.sig_nodes.specs.declared.answers.Standing.{Standing}
 use Rattle.sig_nodes.specs.declared.answers.Standing.TheVariants.{Gone, Cell, Computed, Computing}
-use Rattle.sig_effect.specs.declared.events.Event.{Event as SignalEvent}
-use Rattle.sig_effect.specs.declared.world.World.{World as Signals}
+use Rattle.sig_effect.specs.declared.events.Event.{Event}
+use Rattle.sig_effect.specs.declared.events.Event.TheVariants as event
+use Rattle.sig_effect.specs.Events.{AreTold, IsTold, Tells}
 use Rattle.sig_effect.specs.Stores as signals
-use Rattle.sig_effect.specs.Events as below_events
 use Rattle.sig_effect.specs.Wholes as wholes
-use Rattle.effect_world.specs.declared.events.Event.{Event}
-use Rattle.effect_world.specs.declared.events.Event.TheVariants as event
+use Rattle.sig_effect.specs.Wholes.{SignalStores}
+use Rattle.sig_effect.proofs.Shared.{tells_none}
 use Rattle.effect_world.specs.declared.world.World.{World}
 use Rattle.effect_world.specs.Signals.{Acts, IsNoted, Scene, Undoes, any_hosts, is_standing, scene}
 use Rattle.effect_world.specs.Stores.{Agrees, AreOwned, Does, IsSound}
-use Rattle.effect_world.specs.Events.{AreTold, IsTold, Tells}
-use Rattle.effect_world.specs.Wholes.{whole_of}
-use Rattle.effect_world.proofs.Told.{tells_none, tells_signals}
+use Rattle.effect_world.specs.Wholes.{stores_of, whole_of}
 
 -- ---- what is told
 
@@ -67,7 +64,7 @@ tells_both before mid after ts us a b = record {
 
 -- nothing is done
 pub acts_none : (hosts : Hosts) (asked : List HostPlace) (old : World) (before : List Event) (act : plain.World → plain.World) →
-    act (wholes.whole_of asked old.signals) ≡ wholes.whole_of asked old.signals → IsSound hosts asked old → Acts hosts asked asked old old before before act
+    act (wholes.whole_of asked (stores_of old)) ≡ wholes.whole_of asked (stores_of old) → IsSound hosts asked old → Acts hosts asked asked old old before before act
 acts_none hosts asked old before act is sound = record {
   whole = ap signals_rest.at_rest (sym is);
   told = subst (λ (w : plain.World). Tells before before w.told) (sym is) (tells_none before);
@@ -76,25 +73,16 @@ acts_none hosts asked old before act is sound = record {
 
 -- one event is told, and nothing else is done
 pub acts_told : (hosts : Hosts) (asked : List HostPlace) (old : World) (before : List Event) (ev : Event) (t : plain.Event) (act : plain.World → plain.World) →
-    act (wholes.whole_of asked old.signals) ≡ tell t (wholes.whole_of asked old.signals) → IsTold ev t → IsSound hosts asked old → Acts hosts asked asked old old before (before ++ ev ∷ []) act
+    act (wholes.whole_of asked (stores_of old)) ≡ tell t (wholes.whole_of asked (stores_of old)) → IsTold ev t → IsSound hosts asked old → Acts hosts asked asked old old before (before ++ ev ∷ []) act
 acts_told hosts asked old before ev t act is one sound = record {
   whole = ap signals_rest.at_rest (sym is);
   told = subst (λ (w : plain.World). Tells before (before ++ ev ∷ []) w.told) (sym is) (tells_one before ev t one);
   sound = sound;
 }
 
--- what the signals' own world did
-pub acts_below : (hosts : Hosts) (asked later : List HostPlace) (old new : World) (before after : List Event) (none told : List SignalEvent) (act : plain.World → plain.World) →
-    none ≡ [] → signals.Does hosts asked later old.signals new.signals none told act → after ≡ before ++ map event.Signals told → Acts hosts asked later old new before after act
-acts_below hosts asked later old new before after none told act empty d is = record {
-  whole = d.whole;
-  told = tells_signals none told before after (act (wholes.whole_of asked old.signals)).told empty d.told is;
-  sound = d.sound;
-}
-
 -- by another name
 pub acts_as : (hosts : Hosts) (asked later : List HostPlace) (old new : World) (before after : List Event) (f g : plain.World → plain.World) →
-    f (wholes.whole_of asked old.signals) ≡ g (wholes.whole_of asked old.signals) → Acts hosts asked later old new before after f → Acts hosts asked later old new before after g
+    f (wholes.whole_of asked (stores_of old)) ≡ g (wholes.whole_of asked (stores_of old)) → Acts hosts asked later old new before after f → Acts hosts asked later old new before after g
 acts_as hosts asked later old new before after f g is a = record {
   whole = a.whole ∙ ap signals_rest.at_rest is;
   told = subst (λ (w : plain.World). Tells before after w.told) is a.told;
@@ -105,7 +93,7 @@ acts_as hosts asked later old new before after f g is a = record {
 pub acts_behind : (hosts : Hosts) (asked later : List HostPlace) (old new : World) (before after : List Event) (ev : Event) (t : plain.Event) (act : plain.World → plain.World) →
     IsOfSignals act → IsTold ev t → Acts hosts asked later old new (before ++ ev ∷ []) after act → Acts hosts asked later old new before after (λ w. act (tell t w))
 acts_behind hosts asked later old new before after ev t act f is a =
-    let s : plain.World = wholes.whole_of asked old.signals in
+    let s : plain.World = wholes.whole_of asked (stores_of old) in
     let later_told : act (tell t s) ≡ with_part (act s) (tell t s) = f.framed (tell t s) in
     record {
       whole = a.whole ∙ ap signals_rest.at_rest (f.framed s) ∙ ap signals_rest.at_rest (sym later_told);
@@ -121,13 +109,6 @@ set_gone env n v w is = ap (λ s. set_standing s env n v w) is
 
 pub end_gone : (env : Environment) (n : ℕ) (w : plain.World) → standing w.signals n ≡ IsGone → undo env (ends (the_signal n)) w ≡ tell (plain.gone (the_signal n)) w
 end_gone env n w is = ap (λ s. tell (plain.gone (the_signal n)) (end_standing s n w)) is
-
--- where a thing lives its disposal is its end
-pub disposed_there : (env : Environment) (t : owning.Thing) (asked : List HostPlace) (s : Signals) → lives t (wholes.whole_of asked s) ≡ true →
-    dispose_thing env t (wholes.whole_of asked s) ≡ undo env (ends t) (wholes.whole_of asked s)
-disposed_there env t asked s live =
-    let w : plain.World = wholes.whole_of asked s in
-    ap (λ b. cond b (dispose_live env t w) (tell (plain.refused (plain.thing_gone t)) w)) live
 
 -- ---- steps in order
 
@@ -165,12 +146,12 @@ told_undone env u x =
 pub acts_then : (hosts : Hosts) (env : Environment) (asked amid later : List HostPlace) (old mid new : World) (before between after : List Event) (us : List Undoing) (u : Undoing) →
     Acts hosts asked amid old mid before between (undo_all env us) → Acts hosts amid later mid new between after (undo env u) → Acts hosts asked later old new before after (undo_all env (us ++ u ∷ []))
 acts_then hosts env asked amid later old mid new before between after us u a b =
-    let x : plain.World = undo_all env us (wholes.whole_of asked old.signals) in
+    let x : plain.World = undo_all env us (wholes.whole_of asked (stores_of old)) in
     record {
       whole =
           b.whole ∙ ap (λ w. signals_rest.at_rest (undo env u w)) a.whole ∙ rest_undone env u x
-          ∙ ap signals_rest.at_rest (sym (one_more env us u (wholes.whole_of asked old.signals)));
-      told = subst (λ (w : plain.World). Tells before after w.told) (sym (one_more env us u (wholes.whole_of asked old.signals)))
+          ∙ ap signals_rest.at_rest (sym (one_more env us u (wholes.whole_of asked (stores_of old))));
+      told = subst (λ (w : plain.World). Tells before after w.told) (sym (one_more env us u (wholes.whole_of asked (stores_of old))))
           (subst (Tells before after) (sym (told_undone env u x))
           (tells_both before between after x.told (undo env u (signals_rest.at_rest x)).told a.told (subst (λ (w : plain.World). Tells between after (undo env u w).told) a.whole b.told)));
       sound = b.sound;
@@ -180,20 +161,20 @@ acts_then hosts env asked amid later old mid new before between after us u a b =
 
 -- what was taken out of the tables in these steps, and done to the signals, is done to the world
 undone : (hosts : Hosts) (env : Environment) (asked later : List HostPlace) (old mid new : World) (before after : List Event) (us : List Undoing) (left : owning.Owned) →
-    Takes old.tables new.tables us left → mid.signals ≡ old.signals → Acts hosts asked later mid new before after (undo_all env us) →
+    Takes old.tables new.tables us left → (stores_of mid) ≡ (stores_of old) → Acts hosts asked later mid new before after (undo_all env us) →
     Does hosts asked later old new before after (λ w. undo_all env us (record w { owned = left }))
 undone hosts env asked later old mid new before after us left takes same a =
-    let s : plain.World = wholes.whole_of asked old.signals in
+    let s : plain.World = wholes.whole_of asked (stores_of old) in
     let w : plain.World = record (placed old.tables s) { owned = left } in
     let x : plain.World = undo_all env us s in
     let split : undo_all env us w ≡ with_part x (placed new.tables s) = undo_all_split env us w ∙ ap (with_part x) (sym (takes.does s)) in
     record {
       whole =
-          ap (placed new.tables) (a.whole ∙ ap (λ (y : Signals). signals_rest.at_rest (undo_all env us (wholes.whole_of asked y))) same)
+          ap (placed new.tables) (a.whole ∙ ap (λ (y : SignalStores). signals_rest.at_rest (undo_all env us (wholes.whole_of asked y))) same)
           ∙ (λ i. record (placed new.tables (signals_rest.at_rest x)) { owned = sym (listed_tree new.tables takes.holds) i })
           ∙ ap at_rest (sym split);
       told = subst (λ (y : plain.World). Tells before after y.told) (sym split)
-          (subst (λ (y : Signals). Tells before after (undo_all env us (wholes.whole_of asked y)).told) same a.told);
+          (subst (λ (y : SignalStores). Tells before after (undo_all env us (wholes.whole_of asked y)).told) same a.told);
       sound = a.sound;
     }
 
@@ -207,7 +188,7 @@ does_as hosts asked later old new before after f g is d = record {
 
 -- a thing that lived was disposed
 pub disposed : (hosts : Hosts) (env : Environment) (asked later : List HostPlace) (old mid new : World) (before after : List Event) (t : owning.Thing) (us : List Undoing) →
-    TakesOut old.tables new.tables t us → lives t (whole_of asked old) ≡ true → mid.signals ≡ old.signals → Acts hosts asked later mid new before after (undo_all env us) →
+    TakesOut old.tables new.tables t us → lives t (whole_of asked old) ≡ true → (stores_of mid) ≡ (stores_of old) → Acts hosts asked later mid new before after (undo_all env us) →
     Does hosts asked later old new before after (dispose_thing env t)
 disposed hosts env asked later old mid new before after t us out live same a =
     let w : plain.World = whole_of asked old in
@@ -218,7 +199,7 @@ disposed hosts env asked later old mid new before after t us out live same a =
 
 -- what stood under an effect was taken back
 pub taken_back : (hosts : Hosts) (env : Environment) (asked later : List HostPlace) (old mid new : World) (before after : List Event) (t : owning.Thing) (us : List Undoing) →
-    TakesBack old.tables new.tables t us → mid.signals ≡ old.signals → Acts hosts asked later mid new before after (undo_all env us) →
+    TakesBack old.tables new.tables t us → (stores_of mid) ≡ (stores_of old) → Acts hosts asked later mid new before after (undo_all env us) →
     Does hosts asked later old new before after (take_back env t)
 taken_back hosts env asked later old mid new before after t us back same a =
     let left : owning.Owned = emptied t (tree_of old.tables) in
@@ -313,7 +294,7 @@ watcher_gone env n w off = λ i. tell (plain.gone (the_watcher n)) (record w { w
 
 -- nothing was changed, but something told
 pub undoes_still : (slacks : List ℕ) (old : World) (asked : List HostPlace) (before after : List Event) (answers : Hosts → Type 0) (act : Environment → plain.World → plain.World) →
-    ((hosts : Hosts) → IsSound hosts asked old → Acts hosts asked asked old old before after (act (signals.environment hosts slacks))) → signals.Agrees asked old.signals →
+    ((hosts : Hosts) → IsSound hosts asked old → Acts hosts asked asked old old before after (act (signals.environment hosts slacks))) → signals.Agrees asked (stores_of old) →
     Undoes slacks (scene old asked before) (scene old asked after) answers answers 1 act
 undoes_still slacks old asked before after answers act acts a = record {
   acts = acts;
@@ -328,7 +309,7 @@ undoes_still slacks old asked before after answers act acts a = record {
 }
 
 -- no step
-pub undoes_none : (slacks : List ℕ) (old : Scene) (answers : Hosts → Type 0) → signals.Agrees old.asked old.world.signals → Undoes slacks old old answers answers 0 (λ env. undo_all env [])
+pub undoes_none : (slacks : List ℕ) (old : Scene) (answers : Hosts → Type 0) → signals.Agrees old.asked (stores_of old.world) → Undoes slacks old old answers answers 0 (λ env. undo_all env [])
 undoes_none slacks old answers a = record {
   acts = λ hosts sound. acts_none hosts old.asked old.world old.events (undo_all (signals.environment hosts slacks) []) refl sound;
   agrees = a;
@@ -397,7 +378,7 @@ gone_tabled asked w (the_page n) q = q
 none_some : (k : ℕ) → None ≡ Some k → ⊥
 none_some k e = cc
 
-pub owned_after : (old new : World) (us : List Undoing) (left : owning.Owned) → Takes old.tables new.tables us left → new.signals.graph.given ≡ old.signals.graph.given → AreOwned old → AreOwned new
+pub owned_after : (old new : World) (us : List Undoing) (left : owning.Owned) → Takes old.tables new.tables us left → new.graph.given ≡ old.graph.given → AreOwned old → AreOwned new
 owned_after old new us left takes given o = record {
   tables = takes.holds;
   formed = subst AreFormed (sym takes.tree) takes.formed;
@@ -431,7 +412,7 @@ undoes_next slacks old mid new first between last us i item l is p q =
 pub undoes_as : (slacks : List ℕ) (old new : Scene) (first last : Hosts → Type 0) (k : ℕ) (f g : Environment → plain.World → plain.World) → ((env : Environment) → f env ≡ g env) →
     Undoes slacks old new first last k f → Undoes slacks old new first last k g
 undoes_as slacks old new first last k f g same p = record {
-  acts = λ hosts sound. subst (Acts hosts old.asked new.asked old.world new.world old.events new.events) (same (signals.environment hosts slacks)) (p.acts hosts sound);
+  acts = λ hosts sound. subst (λ (act : plain.World → plain.World). Acts hosts old.asked new.asked old.world new.world old.events new.events act) (same (signals.environment hosts slacks)) (p.acts hosts sound);
   agrees = p.agrees;
   answers = p.answers;
   most = p.most;
@@ -459,7 +440,7 @@ undoes_lent slacks old new answers k act p = record {
 
 -- one event was told, and nothing else done
 pub undoes_told : (slacks : List ℕ) (old : World) (asked : List HostPlace) (before after : List Event) (ev : Event) (t : plain.Event) (answers : Hosts → Type 0) (act : Environment → plain.World → plain.World) →
-    after ≡ before ++ ev ∷ [] → ((env : Environment) → act env (wholes.whole_of asked old.signals) ≡ tell t (wholes.whole_of asked old.signals)) → IsTold ev t → signals.Agrees asked old.signals →
+    after ≡ before ++ ev ∷ [] → ((env : Environment) → act env (wholes.whole_of asked (stores_of old)) ≡ tell t (wholes.whole_of asked (stores_of old))) → IsTold ev t → signals.Agrees asked (stores_of old) →
     Undoes slacks (scene old asked before) (scene old asked after) answers answers 1 act
 undoes_told slacks old asked before after ev t answers act more is one a =
     undoes_still slacks old asked before after answers act
@@ -467,15 +448,21 @@ undoes_told slacks old asked before after ev t answers act more is one a =
     (acts_told hosts asked old before ev t (act (signals.environment hosts slacks)) (is (signals.environment hosts slacks)) one sound))
     a
 
--- what the signals' own world did in one step
-pub undoes_below : (slacks : List ℕ) (old new : World) (asked later : List HostPlace) (before after : List Event) (none told : List SignalEvent) (first last : Hosts → Type 0)
-    (act : Environment → plain.World → plain.World) → none ≡ [] →
-    ((hosts : Hosts) → IsSound hosts asked old → signals.Does hosts asked later old.signals new.signals none told (act (signals.environment hosts slacks))) → after ≡ before ++ map event.Signals told →
-    signals.Agrees later new.signals → ((hosts : Hosts) → first hosts → last hosts) → most_asked later ≤ most_asked asked →
-    ((count : ℕ) → signals.AreRuled count old.signals.graph.state.signals → signals.AreRuled count new.signals.graph.state.signals) → new.tables ≡ old.tables → signals.Stays old.signals new.signals →
+-- the same world under another name
+pub undoes_to : (slacks : List ℕ) (old new : World) (asked : List HostPlace) (before after : List Event) (answers : Hosts → Type 0) (act : Environment → plain.World → plain.World) →
+    new ≡ old → Undoes slacks (scene old asked before) (scene old asked after) answers answers 1 act → Undoes slacks (scene old asked before) (scene new asked after) answers answers 1 act
+undoes_to slacks old new asked before after answers act same p =
+    subst (λ (w : World). Undoes slacks (scene old asked before) (scene w asked after) answers answers 1 act) (sym same) p
+
+-- an act on signals was done in one step
+pub undoes_one : (slacks : List ℕ) (old new : World) (asked later : List HostPlace) (before after : List Event) (first last : Hosts → Type 0)
+    (act : Environment → plain.World → plain.World) →
+    ((hosts : Hosts) → IsSound hosts asked old → Acts hosts asked later old new before after (act (signals.environment hosts slacks))) →
+    signals.Agrees later (stores_of new) → ((hosts : Hosts) → first hosts → last hosts) → most_asked later ≤ most_asked asked →
+    ((count : ℕ) → signals.AreRuled count old.graph.state.signals → signals.AreRuled count new.graph.state.signals) → new.tables ≡ old.tables → signals.Stays (stores_of old) (stores_of new) →
     Undoes slacks (scene old asked before) (scene new later after) first last 1 act
-undoes_below slacks old new asked later before after none told first last act empty does is agrees answers most rules tables stays = record {
-  acts = λ hosts sound. acts_below hosts asked later old new before after none told (act (signals.environment hosts slacks)) empty (does hosts sound) is;
+undoes_one slacks old new asked later before after first last act acts agrees answers most rules tables stays = record {
+  acts = acts;
   agrees = agrees;
   answers = answers;
   most = most;
@@ -484,15 +471,6 @@ undoes_below slacks old new asked later before after none told first last act em
   given = stays.given;
   made = stays.made;
   worn = stays.worn;
-}
-
--- the signals' own world disposed of what lives
-pub below_disposed : (hosts : Hosts) (env : Environment) (asked later : List HostPlace) (old new : Signals) (before after : List SignalEvent) (t : owning.Thing) → lives t (wholes.whole_of asked old) ≡ true →
-    signals.Does hosts asked later old new before after (dispose_thing env t) → signals.Does hosts asked later old new before after (undo env (ends t))
-below_disposed hosts env asked later old new before after t live d = record {
-  whole = d.whole ∙ ap signals_rest.at_rest (disposed_there env t asked old live);
-  told = subst (λ (w : plain.World). below_events.Tells before after w.told) (disposed_there env t asked old live) d.told;
-  sound = d.sound;
 }
 
 -- a cleanup, behind its own event
@@ -513,7 +491,7 @@ undoes_cleaned slacks old new asked before between after e n v c is same p = rec
 }
 
 pub undoes_logged : (slacks : List ℕ) (old : World) (asked : List HostPlace) (before between after : List Event) (e : ℕ) (v : Value) (c : owning.Cleanup) → between ≡ before ++ event.Cleanup e ∷ [] →
-    after ≡ between ++ event.Log v ∷ [] → owning.logs v ≡ c → signals.Agrees asked old.signals →
+    after ≡ between ++ event.Log v ∷ [] → owning.logs v ≡ c → signals.Agrees asked (stores_of old) →
     Undoes slacks (scene old asked before) (scene old asked after) any_hosts any_hosts 1 (λ env. undo env (cleans (the_effect e) c))
 undoes_logged slacks old asked before between after e v c is more same a =
     undoes_still slacks old asked before after any_hosts (λ env. undo env (cleans (the_effect e) c))
@@ -524,11 +502,11 @@ undoes_logged slacks old asked before between after e v c is more same a =
 -- ---- what was taken out of the tables and done to the signals
 
 module _ (slacks : List ℕ) (old mid new : World) (asked later : List HostPlace) (before after : List Event) (first last : Hosts → Type 0) (k : ℕ) (t : owning.Thing) (us lent : List AnUndoing)
-    (is : lent ≡ us) (same : mid.signals ≡ old.signals) (done : Undoes slacks (scene mid asked before) (scene new later after) first last k (λ env. undo_all env (undoings_of lent))) where
+    (is : lent ≡ us) (same : stores_of mid ≡ stores_of old) (done : Undoes slacks (scene mid asked before) (scene new later after) first last k (λ env. undo_all env (undoings_of lent))) where
   acts_now : (hosts : Hosts) → IsSound hosts asked old → Acts hosts asked later mid new before after (undo_all (signals.environment hosts slacks) (undoings_of us))
   acts_now hosts sound =
       subst (λ vs. Acts hosts asked later mid new before after (undo_all (signals.environment hosts slacks) (undoings_of vs))) is
-      (done.acts hosts (subst (λ (s : Signals). signals.IsSound hosts asked s) (sym same) sound))
+      (done.acts hosts (subst (λ (s : SignalStores). signals.IsSound hosts asked s) (sym same) sound))
 
   pub out_does : TakesOut old.tables mid.tables t (undoings_of us) → lives t (whole_of asked old) ≡ true → (hosts : Hosts) → IsSound hosts asked old →
       Does hosts asked later old new before after (dispose_thing (signals.environment hosts slacks) t)
@@ -546,24 +524,8 @@ module _ (slacks : List ℕ) (old mid new : World) (asked later : List HostPlace
   agrees_now left takes o = record {
     signals = done.agrees;
     owned = owned_after old new (undoings_of us) left (subst (λ (b : Tables). Takes old.tables b (undoings_of us) left) (sym done.tables) takes)
-        (done.given ∙ ap (λ (s : Signals). s.graph.given) same) o;
+        (done.given ∙ ap (λ (s : SignalStores). s.graph.given) same) o;
   }
-
--- an act on signals is done to the world
-pub does_acts : (hosts : Hosts) (asked later : List HostPlace) (old new : World) (before after : List Event) (act : plain.World → plain.World) →
-    Acts hosts asked later old new before after act → IsOfSignals act → new.tables ≡ old.tables → TablesAgree old.tables → Does hosts asked later old new before after act
-does_acts hosts asked later old new before after act a f same h =
-    let s : plain.World = wholes.whole_of asked old.signals in
-    let x : plain.World = act s in
-    let framed : act (placed old.tables s) ≡ with_part x (placed old.tables s) = f.framed (placed old.tables s) in
-    record {
-      whole =
-          (λ i. placed (same i) (a.whole i))
-          ∙ (λ i. record (placed old.tables (signals_rest.at_rest x)) { owned = sym (listed_tree old.tables h) i })
-          ∙ ap at_rest (sym framed);
-      told = subst (λ (w : plain.World). Tells before after w.told) (sym framed) a.told;
-      sound = a.sound;
-    }
 
 -- all steps
 pub undoes_all : (slacks : List ℕ) (old new : Scene) (first last : Hosts → Type 0) (us : List AnUndoing) (i : ℕ) → length us ≤ i → i ≤ length us →

@@ -1,4 +1,3 @@
-pub mod Events
 pub mod Wholes
 pub mod Costs
 pub mod Stores

@@ -9,25 +9,25 @@ use Rattle.effect_tables.specs.Consistency.{TablesAgree}
 use Rattle.effect_tables.specs.Placed.{at_rest, tree_of}
 use Rattle.effect_teardown.specs.Trees.{AreFormed}
 use Rattle.sig_effect.specs.Stores as below
-use Rattle.effect_world.specs.declared.events.Event.{Event}
+use Rattle.sig_effect.specs.declared.events.Event.{Event}
 use Rattle.effect_world.specs.declared.world.World.{World}
-use Rattle.effect_world.specs.Events.{Tells}
-use Rattle.effect_world.specs.Wholes.{whole_of}
+use Rattle.sig_effect.specs.Events.{Tells}
+use Rattle.effect_world.specs.Wholes.{stores_of, whole_of}
 
 -- The tables belong together, what stands is formed, and a signal that wasn't made stands under no owner.
 pub record AreOwned (w : World) : Type 0 where
   pub tables : TablesAgree w.tables
   pub formed : AreFormed (tree_of w.tables)
-  pub fresh : (n : ℕ) → w.signals.graph.given ≤ n → has_thing (the_signal n) (owned_of w.tables.store) ≡ false
+  pub fresh : (n : ℕ) → w.graph.given ≤ n → has_thing (the_signal n) (owned_of w.tables.store) ≡ false
 
 -- the stores of signals and watchers belong together, and so do the tables
 pub record Agrees (asked : List HostPlace) (w : World) : Type 0 where
-  pub signals : below.Agrees asked w.signals
+  pub signals : below.Agrees asked (stores_of w)
   pub owned : AreOwned w
 
 -- for these meanings of host formulas what is kept of the signals is sound
 abbrev pub IsSound : Hosts → List HostPlace → World → Type 0
-IsSound hosts asked w = below.IsSound hosts asked w.signals
+IsSound hosts asked w = below.IsSound hosts asked (stores_of w)
 
 -- An act was done: the stores stand for the plain world after it, the events that were put behind the others are those that it told, and
 -- what is sound stayed so.

@@ -2,6 +2,7 @@
 ghost use Rattle.std.specs.Prelude.{◌≡◌, ◌+◌, ◌<◌, ◌≤◌, ◌^◌, ◌⊎◌, ℕ, true, false, List, IfErr, IfOk, IsErrOf, OnOk, length, map};
 ghost use Rattle.signal_model.specs.Recipes.{Hosts};
 ghost use Rattle.signal_model.specs.Signals.{is_computed, is_there, standing};
+ghost use Rattle.effect_model.specs.Acts.{is_notified_by_any, notified_by_any, waiting_if};
 ghost use Rattle.effect_model.specs.Batches.{abort, commit, joined_by, set_quietly};
 ghost use Rattle.sig_host.specs.Hosts.{HostPlace};
 ghost use Rattle.sig_state.specs.Batches.{AreRuled as AreRuledIn, HasRoom};
@@ -9,15 +10,19 @@ ghost use Rattle.sig_state.specs.Equality.{is_alike_here, IsRuled};
 ghost use Rattle.sig_effect.specs.declared.errors.EffectFault.TheVariants as fault;
 ghost use Rattle.sig_effect.specs.Stores.{environment, AreRuled, Stays};
 ghost use Rattle.sig_effect.specs.Answers.{is_same};
+ghost use Rattle.sig_effect.specs.Events.{AreNamed};
+ghost use Rattle.sig_effect.specs.Results.{AreNotices};
+ghost use Rattle.sig_watcher.specs.Notices.{told_entry};
+ghost use Rattle.sig_watcher.specs.Tables.{with_each};
 ghost use Rattle.effect_world.specs.Stores.{Agrees, AreOwned, Does, IsSound};
+ghost use Rattle.effect_world.specs.Wholes.{stores_of};
 
-use crate::events::Event;
-use crate::notices::tell_signals;
 use crate::world::World;
+use effect_model::How;
 use sig_base::{NoMemory, NodeId, Value};
-use sig_effect::EffectFault;
+use sig_effect::{EffectFault, Event, tell_change, tell_notified, tell_values};
 use sig_host::EqualsRule;
-use sig_state::{Batch, SetDone};
+use sig_state::{Batch, Gone, SetDone, set_in};
 
 impl World {
     /// Gives a cell a value while a batch is open, unless its equality calls it the same as the one that it has: the cell joins the batch
@@ -35,31 +40,38 @@ impl World {
         events: &mut Vec<Event>,
     ) -> Result<SetDone, EffectFault>
         requires owned { AreOwned self.old }
-        requires kind { is_computed (standing self.old.signals.graph.state.signals id) ≡ false }
-        requires ruled { IsRuled (length rules.now) (standing self.old.signals.graph.state.signals id) }
-        requires worn { self.old.signals.graph.state.worn < 2 ^ 127 }
+        requires kind { is_computed (standing self.old.graph.state.signals id) ≡ false }
+        requires ruled { IsRuled (length rules.now) (standing self.old.graph.state.signals id) }
+        requires worn { self.old.graph.state.worn < 2 ^ 127 }
         requires room { HasRoom id batch.old }
-        ensures done { IfOk result (λ d. is_same d ≡ is_alike_here (map (λ r. r.slack) rules.now) (standing self.old.signals.graph.state.signals id) value) }
+        ensures done { IfOk result (λ d. is_same d ≡ is_alike_here (map (λ r. r.slack) rules.now) (standing self.old.graph.state.signals id) value) }
         ensures does { (hosts : Hosts) (asked : List HostPlace) → IsSound hosts asked self.old →
             OnOk result (Does hosts asked asked self.old self.new events.old.items events.new.items
             (set_quietly (environment hosts (map (λ r. r.slack) rules.now)) id value)) }
         ensures collects { OnOk result (batch.new.changed
-            ≡ joined_by (map (λ r. r.slack) rules.now) (standing self.old.signals.graph.state.signals id) id value batch.old.changed) }
+            ≡ joined_by (map (λ r. r.slack) rules.now) (standing self.old.graph.state.signals id) id value batch.old.changed) }
         ensures room { OnOk result (length batch.new.changed + batch.new.spare ≡ length batch.old.changed + batch.old.spare) }
         ensures agrees { (asked : List HostPlace) → Agrees asked self.old → OnOk result (Agrees asked self.new) }
-        ensures rules { (count : ℕ) → AreRuled count self.old.signals.graph.state.signals → OnOk result (AreRuled count self.new.signals.graph.state.signals) }
+        ensures rules { (count : ℕ) → AreRuled count self.old.graph.state.signals → OnOk result (AreRuled count self.new.graph.state.signals) }
+        ensures named { AreNamed self.old.graph self.old.watchers.made events.old.items →
+            OnOk result (AreNamed self.new.graph self.new.watchers.made events.new.items) }
         ensures tables { self.new.tables ≡ self.old.tables }
-        ensures stays { OnOk result (Stays self.old.signals self.new.signals) }
-        ensures there { OnOk result (is_there (standing self.old.signals.graph.state.signals id) ≡ true) }
-        ensures gone { IsErrOf result fault.Gone → is_there (standing self.old.signals.graph.state.signals id) ≡ false }
+        ensures stays { OnOk result (Stays (stores_of self.old) (stores_of self.new)) }
+        ensures there { OnOk result (is_there (standing self.old.graph.state.signals id) ≡ true) }
+        ensures gone { IsErrOf result fault.Gone → is_there (standing self.old.graph.state.signals id) ≡ false }
         ensures fault { IfErr result (λ e. (e ≡ fault.Gone) ⊎ (e ≡ fault.NoMemory)) }
         ensures err { IsErrOf result fault.Gone → (self.new ≡ self.old) × (batch.new ≡ batch.old) }
         ensures untold { IsErrOf result fault.Gone → events.new ≡ events.old }
     {
-        let mut told = Vec::new(*events.allocator());
-        let done = self.signals.set_in(batch, rules, id, value, &mut told)?;
-        tell_signals(events, told)?;
-        Ok(done)
+        let _made = self.graph.made();
+        match set_in(batch, &mut self.graph, rules, id, value) {
+            Ok(SetDone::Accepted) => {
+                tell_change(events, id, How::Set)?;
+                Ok(SetDone::Accepted)
+            }
+            Ok(SetDone::Same) => Ok(SetDone::Same),
+            Err(Gone) => Err(EffectFault::Gone),
+        }
     }
 
     /// Tells of the changes of a batch that ends: of the cells whose value as it began and present value are unlike by their equality the
@@ -76,18 +88,38 @@ impl World {
         events: &mut Vec<Event>,
     ) -> Result<(), NoMemory>
         requires owned { AreOwned self.old }
-        requires ruled { AreRuledIn (length rules.now) self.old.signals.graph.state.signals batch.now.changed }
+        requires ruled { AreRuledIn (length rules.now) self.old.graph.state.signals batch.now.changed }
         ensures does { (hosts : Hosts) (asked : List HostPlace) → IsSound hosts asked self.old →
             OnOk result (Does hosts asked asked self.old self.new events.old.items events.new.items
             (commit (environment hosts (map (λ r. r.slack) rules.now)) batch.now.changed)) }
         ensures agrees { (asked : List HostPlace) → Agrees asked self.old → OnOk result (Agrees asked self.new) }
-        ensures graph { OnOk result (self.new.signals.graph ≡ self.old.signals.graph) }
-        ensures made { OnOk result (self.new.signals.watchers.made ≡ self.old.signals.watchers.made) }
+        ensures graph { OnOk result (self.new.graph ≡ self.old.graph) }
+        ensures made { OnOk result (self.new.watchers.made ≡ self.old.watchers.made) }
         ensures tables { self.new.tables ≡ self.old.tables }
+        ensures named { AreNamed self.old.graph self.old.watchers.made events.old.items →
+            OnOk result (AreNamed self.new.graph self.new.watchers.made events.new.items) }
     {
-        let mut told = Vec::new(*events.allocator());
-        self.signals.commit(batch, rules, &mut told)?;
-        tell_signals(events, told)?;
+        let mut cells = Vec::with_capacity(*events.allocator(), batch.len())?;
+        batch.net(&self.graph, rules, &mut cells);
+        self.notify_of_all(&cells, events)?;
+        Ok(())
+    }
+
+    // Notifies of changes of these cells together, and tells of it.
+    fn notify_of_all(&mut self, cells: &[NodeId], events: &mut Vec<Event>) -> Result<(), NoMemory>
+        ensures graph { self.new.graph ≡ self.old.graph }
+        ensures tables { self.new.tables ≡ self.old.tables }
+        ensures watchers { OnOk result (self.new.watchers
+            ≡ with_each (waiting_if (is_notified_by_any self.old.graph.state.signals self.old.graph.state.memos cells.now)) self.old.watchers) }
+        ensures notices { OnOk result (AreNotices
+            (map told_entry (notified_by_any self.old.graph.state.signals self.old.graph.state.memos cells.now self.old.watchers.watchers))
+            events.old.items events.new.items) }
+        ensures named { AreNamed self.old.graph self.old.watchers.made events.old.items →
+            OnOk result (AreNamed self.new.graph self.new.watchers.made events.new.items) }
+    {
+        let mut told = Vec::with_capacity(*events.allocator(), self.watchers.live())?;
+        self.watchers.tell_all(&self.graph, cells, &mut told);
+        tell_notified(events, &told)?;
         Ok(())
     }
 
@@ -99,19 +131,22 @@ impl World {
     /// `NoMemory` alone; then the world may only be dropped.
     pub fn abort(&mut self, batch: Batch, events: &mut Vec<Event>) -> Result<(), NoMemory>
         requires owned { AreOwned self.old }
-        requires worn { self.old.signals.graph.state.worn < 2 ^ 127 }
+        requires worn { self.old.graph.state.worn < 2 ^ 127 }
         ensures does { (hosts : Hosts) (asked : List HostPlace) → IsSound hosts asked self.old →
             OnOk result (Does hosts asked asked self.old self.new events.old.items events.new.items (abort batch.changed)) }
         ensures agrees { (asked : List HostPlace) → Agrees asked self.old → OnOk result (Agrees asked self.new) }
-        ensures rules { (count : ℕ) → AreRuled count self.old.signals.graph.state.signals → OnOk result (AreRuled count self.new.signals.graph.state.signals) }
-        ensures given { OnOk result (self.new.signals.graph.given ≡ self.old.signals.graph.given) }
-        ensures watchers { OnOk result (self.new.signals.watchers ≡ self.old.signals.watchers) }
+        ensures rules { (count : ℕ) → AreRuled count self.old.graph.state.signals → OnOk result (AreRuled count self.new.graph.state.signals) }
+        ensures named { AreNamed self.old.graph self.old.watchers.made events.old.items →
+            OnOk result (AreNamed self.new.graph self.new.watchers.made events.new.items) }
+        ensures given { OnOk result (self.new.graph.given ≡ self.old.graph.given) }
+        ensures watchers { OnOk result (self.new.watchers ≡ self.old.watchers) }
         ensures tables { self.new.tables ≡ self.old.tables }
-        ensures worn { OnOk result (self.new.signals.graph.state.worn ≤ self.old.signals.graph.state.worn + length batch.changed) }
+        ensures worn { OnOk result (self.new.graph.state.worn ≤ self.old.graph.state.worn + length batch.changed) }
     {
-        let mut told = Vec::new(*events.allocator());
-        self.signals.abort(batch, &mut told)?;
-        tell_signals(events, told)?;
+        let _made = self.graph.made();
+        let mut cells = Vec::with_capacity(*events.allocator(), batch.len())?;
+        batch.abort(&mut self.graph, &mut cells);
+        tell_values(events, &cells)?;
         Ok(())
     }
 }

@@ -19,7 +19,7 @@ ghost use Rattle.sig_effect.specs.Stores.{AreRuled};
 ghost use Rattle.sig_owner.specs.declared.limits.TheConstants.{MOST_OWNERS};
 ghost use Rattle.effect_world.specs.Stores.{Agrees, AreOwned, Does, IsSound};
 ghost use Rattle.sig_owner.specs.declared.errors.OwnFault.TheVariants as own;
-ghost use Rattle.effect_world.specs.Wholes.{whole_of};
+ghost use Rattle.effect_world.specs.Wholes.{stores_of, whole_of};
 
 use crate::world::World;
 use effect_tables::{Script, Tables};
@@ -50,26 +50,26 @@ impl World {
         rule: Option<usize>,
         inside: Option<OwnerId>,
     ) -> Result<NodeId, EffectFault>
-        requires worn { CanWear self.old.signals.graph.state }
+        requires worn { CanWear self.old.graph.state }
         requires owned { AreOwned self.old }
-        ensures id { IfOk result (λ id. id ≡ self.old.signals.graph.given) }
+        ensures id { IfOk result (λ id. id ≡ self.old.graph.given) }
         ensures does { (hosts : Hosts) (asked : List HostPlace) → IsSound hosts asked self.old →
             OnOk result (Does hosts asked asked self.old self.new [] [] (with_new_cell value rule inside)) }
         ensures agrees { (asked : List HostPlace) → Agrees asked self.old → OnOk result (Agrees asked self.new) }
-        ensures ruled { (rules : ℕ) → ((r : ℕ) → rule ≡ Some r → r < rules) → AreRuled rules self.old.signals.graph.state.signals →
-            OnOk result (AreRuled rules self.new.signals.graph.state.signals) }
-        ensures given { OnOk result (self.new.signals.graph.given ≡ self.old.signals.graph.given + 1) }
-        ensures worn { OnOk result (self.new.signals.graph.state.worn ≡ self.old.signals.graph.state.worn + 1) }
-        ensures watchers { OnOk result (self.new.signals.watchers ≡ self.old.signals.watchers) }
+        ensures ruled { (rules : ℕ) → ((r : ℕ) → rule ≡ Some r → r < rules) → AreRuled rules self.old.graph.state.signals →
+            OnOk result (AreRuled rules self.new.graph.state.signals) }
+        ensures given { OnOk result (self.new.graph.given ≡ self.old.graph.given + 1) }
+        ensures worn { OnOk result (self.new.graph.state.worn ≡ self.old.graph.state.worn + 1) }
+        ensures watchers { OnOk result (self.new.watchers ≡ self.old.watchers) }
         ensures gone { IsErrOf result fault.Gone ↔ (is_open (living 0 self.old.tables.owners.items) inside ≡ false) }
         ensures limit { IsErrOf result fault.Limit ↔
-            ((is_open (living 0 self.old.tables.owners.items) inside ≡ true) × (live_count self.old.signals.graph.state.signals ≡ MOST_NODES)) }
+            ((is_open (living 0 self.old.tables.owners.items) inside ≡ true) × (live_count self.old.graph.state.signals ≡ MOST_NODES)) }
         ensures err { IfErr result (λ e. (e ≡ fault.NoMemory) ⊎ (self.new ≡ self.old)) }
     {
         if !is_open(&self.tables, &inside) {
             return Err(EffectFault::Gone);
         }
-        let id = self.signals.make_cell(value, rule)?;
+        let id = self.graph.add_cell(value, rule)?;
         match self.tables.adopt_signal(id, inside) {
             Ok(()) => Ok(id),
             Err(_) => Err(EffectFault::NoMemory),
@@ -89,30 +89,30 @@ impl World {
         slots: Vec<NodeId>,
         inside: Option<OwnerId>,
     ) -> Result<NodeId, EffectFault>
-        requires given { All (λ n. is_given self.old.signals.graph n ≡ true) slots.items }
+        requires given { All (λ n. is_given self.old.graph n ≡ true) slots.items }
         requires few { HasFewSlots (expression_of recipe) slots.items }
-        requires worn { CanWear self.old.signals.graph.state }
+        requires worn { CanWear self.old.graph.state }
         requires owned { AreOwned self.old }
-        ensures id { IfOk result (λ id. id ≡ self.old.signals.graph.given) }
+        ensures id { IfOk result (λ id. id ≡ self.old.graph.given) }
         ensures does { (hosts : Hosts) (asked : List HostPlace) → Agrees asked self.old →
             host_refused (host_of (expression_of recipe)) (whole_of asked self.old) ≡ None → IsSound hosts asked self.old →
             OnOk result (Does hosts asked asked self.old self.new [] []
             (λ w. with_use (host_of (expression_of recipe)) (with_new_computed (recipe_made (expression_of recipe) slots.items) inside w))) }
         ensures agrees { (asked : List HostPlace) → Agrees asked self.old →
             host_refused (host_of (expression_of recipe)) (whole_of asked self.old) ≡ None → OnOk result (Agrees asked self.new) }
-        ensures ruled { (rules : ℕ) → AreRuled rules self.old.signals.graph.state.signals → OnOk result (AreRuled rules self.new.signals.graph.state.signals) }
-        ensures given { OnOk result (self.new.signals.graph.given ≡ self.old.signals.graph.given + 1) }
-        ensures worn { OnOk result (self.new.signals.graph.state.worn ≡ self.old.signals.graph.state.worn + 1) }
-        ensures watchers { OnOk result (self.new.signals.watchers ≡ self.old.signals.watchers) }
+        ensures ruled { (rules : ℕ) → AreRuled rules self.old.graph.state.signals → OnOk result (AreRuled rules self.new.graph.state.signals) }
+        ensures given { OnOk result (self.new.graph.given ≡ self.old.graph.given + 1) }
+        ensures worn { OnOk result (self.new.graph.state.worn ≡ self.old.graph.state.worn + 1) }
+        ensures watchers { OnOk result (self.new.watchers ≡ self.old.watchers) }
         ensures gone { IsErrOf result fault.Gone ↔ (is_open (living 0 self.old.tables.owners.items) inside ≡ false) }
         ensures limit { IsErrOf result fault.Limit ↔
-            ((is_open (living 0 self.old.tables.owners.items) inside ≡ true) × (live_count self.old.signals.graph.state.signals ≡ MOST_NODES)) }
+            ((is_open (living 0 self.old.tables.owners.items) inside ≡ true) × (live_count self.old.graph.state.signals ≡ MOST_NODES)) }
         ensures err { IfErr result (λ e. (e ≡ fault.NoMemory) ⊎ (self.new ≡ self.old)) }
     {
         if !is_open(&self.tables, &inside) {
             return Err(EffectFault::Gone);
         }
-        let id = self.signals.make_computed(recipe, slots)?;
+        let id = self.graph.add_computed(recipe, slots)?;
         match self.tables.adopt_signal(id, inside) {
             Ok(()) => Ok(id),
             Err(_) => Err(EffectFault::NoMemory),
@@ -132,7 +132,7 @@ impl World {
         ensures does { (hosts : Hosts) (asked : List HostPlace) → IsSound hosts asked self.old →
             OnOk result (Does hosts asked asked self.old self.new [] [] (with_new_owner inside)) }
         ensures agrees { (asked : List HostPlace) → Agrees asked self.old → OnOk result (Agrees asked self.new) }
-        ensures signals { self.new.signals ≡ self.old.signals }
+        ensures signals { stores_of self.new ≡ stores_of self.old }
         ensures open { OnOk result (is_open (living 0 self.old.tables.owners.items) inside ≡ true) }
         ensures gone { IsErrOf result own.Gone → is_open (living 0 self.old.tables.owners.items) inside ≡ false }
         ensures room { OnOk result (length (living 0 self.old.tables.owners.items) < MOST_OWNERS) }
@@ -165,7 +165,7 @@ impl World {
         ensures does { (hosts : Hosts) (asked : List HostPlace) → IsSound hosts asked self.old →
             OnOk result (Does hosts asked asked self.old self.new [] [] (with_new_effect (body_of self.old.tables.effects_made script []) inside)) }
         ensures agrees { (asked : List HostPlace) → Agrees asked self.old → OnOk result (Agrees asked self.new) }
-        ensures signals { self.new.signals ≡ self.old.signals }
+        ensures signals { stores_of self.new ≡ stores_of self.old }
         ensures open { OnOk result (is_open (living 0 self.old.tables.owners.items) inside ≡ true) }
         ensures gone { IsErrOf result own.Gone → is_open (living 0 self.old.tables.owners.items) inside ≡ false }
         ensures limit { IsErrOf result own.Limit → ⊥ }
@@ -189,7 +189,7 @@ impl World {
         ensures does { (hosts : Hosts) (asked : List HostPlace) → IsSound hosts asked self.old →
             OnOk result (Does hosts asked asked self.old self.new [] [] (with_new_page inside)) }
         ensures agrees { (asked : List HostPlace) → Agrees asked self.old → OnOk result (Agrees asked self.new) }
-        ensures signals { self.new.signals ≡ self.old.signals }
+        ensures signals { stores_of self.new ≡ stores_of self.old }
         ensures open { OnOk result (is_open (living 0 self.old.tables.owners.items) inside ≡ true) }
         ensures gone { IsErrOf result own.Gone → is_open (living 0 self.old.tables.owners.items) inside ≡ false }
         ensures room { OnOk result (length self.old.tables.pages.items < MOST_PAGES) }

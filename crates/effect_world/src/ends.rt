@@ -14,11 +14,10 @@ ghost use Rattle.effect_world.specs.Stores.{Agrees, Does, IsSound};
 ghost use Rattle.effect_world.specs.Costs.{weight};
 ghost use Rattle.effect_world.specs.Wholes.{whole_of};
 
-use crate::events::Event;
 use crate::world::World;
 use effect_tables::Thing;
 use sig_base::EffectId;
-use sig_effect::EffectFault;
+use sig_effect::{EffectFault, Event};
 use sig_host::{EqualsRule, Lent, Shelf};
 use sig_owner::OwnFault;
 
@@ -29,7 +28,7 @@ impl World {
     {
         match thing {
             Thing::Signal(id) => self.is_signal(*id),
-            Thing::Watcher(id) => self.signals.watchers.is_alive(*id),
+            Thing::Watcher(id) => self.watchers.is_alive(*id),
             Thing::Owner(_) => true,
             Thing::Effect(_) => true,
             Thing::Page(_) => true,
@@ -50,9 +49,9 @@ impl World {
         events: &mut Vec<Event>,
     ) -> Result<(), EffectFault>
         requires agrees { Agrees (⟦<Shelf as Lent>⟧.asked shelf.old) self.old }
-        requires ruled { AreRuled (length rules.now) self.old.signals.graph.state.signals }
+        requires ruled { AreRuled (length rules.now) self.old.graph.state.signals }
         requires counted { ⟦<Shelf as Lent>⟧.counted shelf.old }
-        requires worn { self.old.signals.graph.state.worn < 2 ^ 126 }
+        requires worn { self.old.graph.state.worn < 2 ^ 126 }
         ensures does { (hosts : Hosts) → IsSound hosts (⟦<Shelf as Lent>⟧.asked shelf.old) self.old → OnOk result
             (Does hosts (⟦<Shelf as Lent>⟧.asked shelf.old) (⟦<Shelf as Lent>⟧.asked shelf.new) self.old self.new events.old.items events.new.items
             (dispose_thing (environment hosts (map (λ r. r.slack) rules.now)) (thing_of thing))) }
@@ -60,9 +59,9 @@ impl World {
         ensures answers { (hosts : Hosts) → ⟦<Shelf as Lent>⟧.answers hosts shelf.old → OnOk result (⟦<Shelf as Lent>⟧.answers hosts shelf.new) }
         ensures counted { OnOk result (⟦<Shelf as Lent>⟧.counted shelf.new) }
         ensures most { OnOk result (most_asked (⟦<Shelf as Lent>⟧.asked shelf.new) ≤ most_asked (⟦<Shelf as Lent>⟧.asked shelf.old)) }
-        ensures rules { (count : ℕ) → AreRuled count self.old.signals.graph.state.signals → OnOk result (AreRuled count self.new.signals.graph.state.signals) }
-        ensures given { OnOk result (self.new.signals.graph.given ≡ self.old.signals.graph.given) }
-        ensures made { OnOk result (self.new.signals.watchers.made ≡ self.old.signals.watchers.made) }
+        ensures rules { (count : ℕ) → AreRuled count self.old.graph.state.signals → OnOk result (AreRuled count self.new.graph.state.signals) }
+        ensures given { OnOk result (self.new.graph.given ≡ self.old.graph.given) }
+        ensures made { OnOk result (self.new.watchers.made ≡ self.old.watchers.made) }
         ensures worn { OnOk result (weight self.new + length events.old.items ≤ weight self.old + length events.new.items) }
         ensures told { OnOk result (length events.old.items ≤ length events.new.items) }
         ensures there { OnOk result (lives (thing_of thing) (whole_of (⟦<Shelf as Lent>⟧.asked shelf.old) self.old) ≡ true) }
@@ -99,9 +98,9 @@ impl World {
         events: &mut Vec<Event>,
     ) -> Result<(), EffectFault>
         requires agrees { Agrees (⟦<Shelf as Lent>⟧.asked shelf.old) self.old }
-        requires ruled { AreRuled (length rules.now) self.old.signals.graph.state.signals }
+        requires ruled { AreRuled (length rules.now) self.old.graph.state.signals }
         requires counted { ⟦<Shelf as Lent>⟧.counted shelf.old }
-        requires worn { self.old.signals.graph.state.worn < 2 ^ 126 }
+        requires worn { self.old.graph.state.worn < 2 ^ 126 }
         ensures does { (hosts : Hosts) → IsSound hosts (⟦<Shelf as Lent>⟧.asked shelf.old) self.old → OnOk result
             (Does hosts (⟦<Shelf as Lent>⟧.asked shelf.old) (⟦<Shelf as Lent>⟧.asked shelf.new) self.old self.new events.old.items events.new.items
             (acts.take_back (environment hosts (map (λ r. r.slack) rules.now)) (the_effect id))) }
@@ -109,9 +108,9 @@ impl World {
         ensures answers { (hosts : Hosts) → ⟦<Shelf as Lent>⟧.answers hosts shelf.old → OnOk result (⟦<Shelf as Lent>⟧.answers hosts shelf.new) }
         ensures counted { OnOk result (⟦<Shelf as Lent>⟧.counted shelf.new) }
         ensures most { OnOk result (most_asked (⟦<Shelf as Lent>⟧.asked shelf.new) ≤ most_asked (⟦<Shelf as Lent>⟧.asked shelf.old)) }
-        ensures rules { (count : ℕ) → AreRuled count self.old.signals.graph.state.signals → OnOk result (AreRuled count self.new.signals.graph.state.signals) }
-        ensures given { OnOk result (self.new.signals.graph.given ≡ self.old.signals.graph.given) }
-        ensures made { OnOk result (self.new.signals.watchers.made ≡ self.old.signals.watchers.made) }
+        ensures rules { (count : ℕ) → AreRuled count self.old.graph.state.signals → OnOk result (AreRuled count self.new.graph.state.signals) }
+        ensures given { OnOk result (self.new.graph.given ≡ self.old.graph.given) }
+        ensures made { OnOk result (self.new.watchers.made ≡ self.old.watchers.made) }
         ensures worn { OnOk result (weight self.new + length events.old.items ≤ weight self.old + length events.new.items) }
         ensures told { OnOk result (length events.old.items ≤ length events.new.items) }
         ensures there { OnOk result (lives (the_effect id) (whole_of (⟦<Shelf as Lent>⟧.asked shelf.old) self.old) ≡ true) }

@@ -5,13 +5,9 @@ mod batches;
 mod changes;
 mod creation;
 mod ends;
-mod events;
-mod notices;
 mod queries;
 mod teardown;
 mod watchers;
 mod world;
 
-pub use events::Event;
-pub use notices::tell_signals;
 pub use world::World;

@@ -5,13 +5,14 @@ ghost use Rattle.signal_model.specs.Values.{value_of};
 ghost use Rattle.effect_model.specs.Worlds.{settle};
 ghost use Rattle.sig_host.specs.Hosts.{most_asked};
 ghost use Rattle.sig_computed.specs.Notes.{HasRoom};
+ghost use Rattle.sig_effect.specs.Events.{AreNamed};
 ghost use Rattle.sig_effect.specs.Stores.{environment};
 ghost use Rattle.effect_world.specs.Stores.{Agrees, Does, IsSound};
 
-use crate::events::Event;
-use crate::notices::tell_signals;
 use crate::world::World;
 use sig_base::{NoMemory, NodeId, Outcome};
+use sig_computed::settle;
+use sig_effect::{Event, tell_runs};
 use sig_host::{Lent, Shelf};
 
 impl World {
@@ -28,11 +29,11 @@ impl World {
         events: &mut Vec<Event>,
     ) -> Result<Outcome, NoMemory>
         requires agrees { Agrees (⟦<Shelf as Lent>⟧.asked shelf.old) self.old }
-        requires worn { HasRoom self.old.signals.graph.state }
+        requires worn { HasRoom self.old.graph.state }
         requires counted { ⟦<Shelf as Lent>⟧.counted shelf.old }
         requires room { most_asked (⟦<Shelf as Lent>⟧.asked shelf.old) < 2 ^ 127 }
         ensures value { (hosts : Hosts) → ⟦<Shelf as Lent>⟧.answers hosts shelf.old → IsSound hosts (⟦<Shelf as Lent>⟧.asked shelf.old) self.old →
-            IfOk result (λ o. o ≡ value_of hosts self.old.signals.graph.state.signals id []) }
+            IfOk result (λ o. o ≡ value_of hosts self.old.graph.state.signals id []) }
         ensures does { (hosts : Hosts) (slacks : List ℕ) → ⟦<Shelf as Lent>⟧.answers hosts shelf.old →
             IsSound hosts (⟦<Shelf as Lent>⟧.asked shelf.old) self.old → OnOk result
             (Does hosts (⟦<Shelf as Lent>⟧.asked shelf.old) (⟦<Shelf as Lent>⟧.asked shelf.new) self.old self.new events.old.items events.new.items
@@ -42,15 +43,17 @@ impl World {
         ensures counted { OnOk result (⟦<Shelf as Lent>⟧.counted shelf.new) }
         ensures most { OnOk result (most_asked (⟦<Shelf as Lent>⟧.asked shelf.new) + 65 * length events.old.items
             ≤ most_asked (⟦<Shelf as Lent>⟧.asked shelf.old) + 65 * length events.new.items) }
-        ensures signals { OnOk result (self.new.signals.graph.state.signals ≡ self.old.signals.graph.state.signals) }
-        ensures given { OnOk result (self.new.signals.graph.given ≡ self.old.signals.graph.given) }
-        ensures watchers { OnOk result (self.new.signals.watchers ≡ self.old.signals.watchers) }
+        ensures signals { OnOk result (self.new.graph.state.signals ≡ self.old.graph.state.signals) }
+        ensures given { OnOk result (self.new.graph.given ≡ self.old.graph.given) }
+        ensures watchers { OnOk result (self.new.watchers ≡ self.old.watchers) }
         ensures tables { self.new.tables ≡ self.old.tables }
-        ensures worn { OnOk result (self.new.signals.graph.state.worn + length events.old.items ≡ self.old.signals.graph.state.worn + length events.new.items) }
+        ensures named { AreNamed self.old.graph self.old.watchers.made events.old.items →
+            OnOk result (AreNamed self.new.graph self.new.watchers.made events.new.items) }
+        ensures worn { OnOk result (self.new.graph.state.worn + length events.old.items ≡ self.old.graph.state.worn + length events.new.items) }
     {
-        let mut told = Vec::new(*events.allocator());
-        let outcome = self.signals.ask(shelf, id, &mut told)?;
-        tell_signals(events, told)?;
+        let mut notes = Vec::new(*events.allocator());
+        let outcome = settle(&mut self.graph, shelf, id, &mut notes)?;
+        tell_runs(events, notes)?;
         Ok(outcome)
     }
 }

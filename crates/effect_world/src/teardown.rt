@@ -4,27 +4,24 @@ ghost use Rattle.std.specs.List.{AllByRecursion};
 ghost use Rattle.signal_model.specs.Signals.{is_there, standing};
 ghost use Rattle.effect_model.specs.Acts.{set_cell, undo, undo_all};
 ghost use Rattle.effect_model.specs.Owners.{cleans, ends, the_effect, the_signal, the_watcher};
-ghost use Rattle.effect_model.specs.Worlds.{lives};
 ghost use Rattle.effect_tables.specs.Bodies as tables;
 ghost use Rattle.effect_tables.specs.Bodies.{undoing_of, undoings_of};
 ghost use Rattle.effect_teardown.specs.Trees.{IsEffect};
 ghost use Rattle.sig_host.specs.Hosts.{HostPlace};
-ghost use Rattle.sig_nodes.specs.States.{is_cell};
+ghost use Rattle.sig_nodes.specs.States.{is_cell, is_given};
 ghost use Rattle.sig_owner.specs.Tables.{cleanup_of};
 ghost use Rattle.sig_effect.specs.Stores as below;
 ghost use Rattle.sig_effect.specs.Stores.{AreRuled};
-ghost use Rattle.sig_effect.specs.Events.{thing_of};
-ghost use Rattle.sig_effect.specs.Wholes as signals;
-ghost use Rattle.effect_world.specs.declared.events.Event.TheVariants as event;
+ghost use Rattle.sig_effect.specs.Events.{AreNamed};
+ghost use Rattle.sig_effect.specs.declared.events.Event.TheVariants as event;
 ghost use Rattle.effect_world.specs.Signals.{any_hosts, scene, IsNoted, Undoes};
-ghost use Rattle.effect_world.specs.Events.{IsCut};
+ghost use Rattle.effect_world.specs.Wholes.{stores_of};
 
-use crate::events::Event;
-use crate::notices::tell_signals;
 use crate::world::World;
+use effect_model::How;
 use effect_tables::{Thing, Undoing};
 use sig_base::{EffectId, NoMemory, NodeId, Value, WatcherId};
-use sig_effect::{Event as SignalEvent, Thing as SignalThing};
+use sig_effect::{Event, drop_left, tell_change};
 use sig_host::{EqualsRule, Lent, Shelf};
 use sig_nodes::Standing;
 use sig_owner::CleanupAct;
@@ -35,24 +32,6 @@ fn tell_gone(events: &mut Vec<Event>, thing: Thing) -> Result<(), NoMemory>
 {
     events.push(Event::Gone(thing))?;
     Ok(())
-}
-
-// A thing of the signals among the other things.
-fn thing_in(thing: &SignalThing) -> Thing
-    ensures { tables.thing_of result ≡ thing_of thing.now }
-{
-    match thing {
-        SignalThing::Signal(id) => Thing::Signal(*id),
-        SignalThing::Watcher(id) => Thing::Watcher(*id),
-    }
-}
-
-// What the signals told of an end, but for the end itself, which comes last.
-fn before_end(mut told: Vec<SignalEvent>) -> Vec<SignalEvent>
-    ensures { IsCut told.items result.items }
-{
-    let _end = told.pop();
-    told
 }
 
 // The effect that a thing is.
@@ -72,9 +51,9 @@ fn effect_in(thing: &Thing) -> EffectId
 impl World {
     /// Whether a signal lives.
     pub fn is_signal(&self, id: NodeId) -> bool
-        ensures { result ≡ is_there (standing self.now.signals.graph.state.signals id) }
+        ensures { result ≡ is_there (standing self.now.graph.state.signals id) }
     {
-        match self.signals.graph.standing(id) {
+        match self.graph.standing(id) {
             Standing::Gone => false,
             Standing::Cell => true,
             Standing::Computed => true,
@@ -90,14 +69,14 @@ impl World {
         value: Value,
         events: &mut Vec<Event>,
     ) -> Result<(), NoMemory>
-        requires ruled { AreRuled (length rules.now) self.old.signals.graph.state.signals }
-        requires worn { self.old.signals.graph.state.worn < 2 ^ 127 }
-        ensures done { (asked : List HostPlace) → below.Agrees asked self.old.signals → OnOk result (Undoes (map (λ r. r.slack) rules.now)
+        requires ruled { AreRuled (length rules.now) self.old.graph.state.signals }
+        requires worn { self.old.graph.state.worn < 2 ^ 127 }
+        ensures done { (asked : List HostPlace) → below.Agrees asked (stores_of self.old) → OnOk result (Undoes (map (λ r. r.slack) rules.now)
             (scene self.old asked events.old.items) (scene self.new asked events.new.items) any_hosts any_hosts 1
             (λ env. set_cell env id value)) }
         ensures told { OnOk result (length events.old.items ≤ length events.new.items) }
     {
-        match self.signals.graph.standing(id) {
+        match self.graph.standing(id) {
             Standing::Gone => {
                 events.push(Event::RefusedGone(Thing::Signal(id)))?;
                 Ok(())
@@ -119,20 +98,16 @@ impl World {
         value: Value,
         events: &mut Vec<Event>,
     ) -> Result<(), NoMemory>
-        requires kind { is_cell (standing self.old.signals.graph.state.signals id) ≡ true }
-        requires ruled { AreRuled (length rules.now) self.old.signals.graph.state.signals }
-        requires worn { self.old.signals.graph.state.worn < 2 ^ 127 }
-        ensures done { (asked : List HostPlace) → below.Agrees asked self.old.signals → OnOk result (Undoes (map (λ r. r.slack) rules.now)
+        requires kind { is_cell (standing self.old.graph.state.signals id) ≡ true }
+        requires ruled { AreRuled (length rules.now) self.old.graph.state.signals }
+        requires worn { self.old.graph.state.worn < 2 ^ 127 }
+        ensures done { (asked : List HostPlace) → below.Agrees asked (stores_of self.old) → OnOk result (Undoes (map (λ r. r.slack) rules.now)
             (scene self.old asked events.old.items) (scene self.new asked events.new.items) any_hosts any_hosts 1
             (λ env. set_cell env id value)) }
         ensures told { OnOk result (length events.old.items ≤ length events.new.items) }
     {
-        let mut told = Vec::new(*events.allocator());
-        match self.signals.change_cell(rules, id, value, &mut told) {
-            Ok(_) => {
-                tell_signals(events, told)?;
-                Ok(())
-            }
+        match self.change_cell(rules, id, value, events) {
+            Ok(_) => Ok(()),
             Err(_) => Err(NoMemory),
         }
     }
@@ -145,10 +120,10 @@ impl World {
         cleanup: &CleanupAct,
         events: &mut Vec<Event>,
     ) -> Result<(), NoMemory>
-        requires ruled { AreRuled (length rules.now) self.old.signals.graph.state.signals }
-        requires worn { self.old.signals.graph.state.worn < 2 ^ 127 }
+        requires ruled { AreRuled (length rules.now) self.old.graph.state.signals }
+        requires worn { self.old.graph.state.worn < 2 ^ 127 }
         ensures told { OnOk result (length events.old.items + 1 ≤ length events.new.items) }
-        ensures done { (asked : List HostPlace) → below.Agrees asked self.old.signals → OnOk result (Undoes (map (λ r. r.slack) rules.now)
+        ensures done { (asked : List HostPlace) → below.Agrees asked (stores_of self.old) → OnOk result (Undoes (map (λ r. r.slack) rules.now)
             (scene self.old asked events.old.items) (scene self.new asked events.new.items) any_hosts any_hosts 1
             (λ env. undo env (cleans (the_effect effect) (cleanup_of cleanup.now)))) }
     {
@@ -168,45 +143,16 @@ impl World {
         }
     }
 
-    // Ends a signal or a watcher that lives.
-    fn end_there(
-        &mut self,
-        shelf: &mut Shelf,
-        thing: SignalThing,
-        events: &mut Vec<Event>,
-    ) -> Result<(), NoMemory>
-        requires lives { lives (thing_of thing) (signals.whole_of (⟦<Shelf as Lent>⟧.asked shelf.old) self.old.signals) ≡ true }
-        requires worn { self.old.signals.graph.state.worn < 2 ^ 127 }
-        requires agrees { below.Agrees (⟦<Shelf as Lent>⟧.asked shelf.old) self.old.signals }
-        requires counted { ⟦<Shelf as Lent>⟧.counted shelf.old }
-        ensures done { (slacks : List ℕ) → OnOk result (Undoes slacks
-            (scene self.old (⟦<Shelf as Lent>⟧.asked shelf.old) events.old.items) (scene self.new (⟦<Shelf as Lent>⟧.asked shelf.new) events.new.items)
-            (λ hosts. ⟦<Shelf as Lent>⟧.answers hosts shelf.old) (λ hosts. ⟦<Shelf as Lent>⟧.answers hosts shelf.new) 1
-            (λ env. undo env (ends (thing_of thing)))) }
-        ensures counted { OnOk result (⟦<Shelf as Lent>⟧.counted shelf.new) }
-        ensures told { OnOk result (length events.old.items + 1 ≤ length events.new.items) }
-    {
-        let gone = thing_in(&thing);
-        let mut told = Vec::new(*events.allocator());
-        match self.signals.dispose(shelf, thing, &mut told) {
-            Ok(()) => {
-                tell_signals(events, before_end(told))?;
-                tell_gone(events, gone)?;
-                Ok(())
-            }
-            Err(_) => Err(NoMemory),
-        }
-    }
-
-    // Ends a signal. One that is gone is told as gone.
+    // Ends a signal. A computed that asks a host formula drops it first, and that is told with the number of its asks; a signal goes out
+    // of all watchers, and its end is told as a change too. One that is gone is told as gone.
     fn end_signal(
         &mut self,
         shelf: &mut Shelf,
         id: NodeId,
         events: &mut Vec<Event>,
     ) -> Result<(), NoMemory>
-        requires worn { self.old.signals.graph.state.worn < 2 ^ 127 }
-        requires agrees { below.Agrees (⟦<Shelf as Lent>⟧.asked shelf.old) self.old.signals }
+        requires worn { self.old.graph.state.worn < 2 ^ 127 }
+        requires agrees { below.Agrees (⟦<Shelf as Lent>⟧.asked shelf.old) (stores_of self.old) }
         requires counted { ⟦<Shelf as Lent>⟧.counted shelf.old }
         ensures done { (slacks : List ℕ) → OnOk result (Undoes slacks
             (scene self.old (⟦<Shelf as Lent>⟧.asked shelf.old) events.old.items) (scene self.new (⟦<Shelf as Lent>⟧.asked shelf.new) events.new.items)
@@ -214,38 +160,43 @@ impl World {
             (λ env. undo env (ends (the_signal id)))) }
         ensures counted { OnOk result (⟦<Shelf as Lent>⟧.counted shelf.new) }
         ensures told { OnOk result (length events.old.items + 1 ≤ length events.new.items) }
+        ensures named { is_given self.old.graph id ≡ true → AreNamed self.old.graph self.old.watchers.made events.old.items →
+            OnOk result (AreNamed self.new.graph self.new.watchers.made events.new.items) }
     {
-        if !self.is_signal(id) {
-            events.push(Event::Gone(Thing::Signal(id)))?;
-            return Ok(());
+        match self.graph.dispose_node(id) {
+            Ok(left) => {
+                drop_left(shelf, left, events)?;
+                self.watchers.forget(id);
+                tell_change(events, id, How::Gone)?;
+                tell_gone(events, Thing::Signal(id))?;
+                Ok(())
+            }
+            Err(_) => {
+                tell_gone(events, Thing::Signal(id))?;
+                Ok(())
+            }
         }
-        self.end_there(shelf, SignalThing::Signal(id), events)?;
-        Ok(())
     }
 
     // Ends a watcher. One that is gone is told as gone.
-    fn end_watcher(
-        &mut self,
-        shelf: &mut Shelf,
-        id: WatcherId,
-        events: &mut Vec<Event>,
-    ) -> Result<(), NoMemory>
-        requires worn { self.old.signals.graph.state.worn < 2 ^ 127 }
-        requires agrees { below.Agrees (⟦<Shelf as Lent>⟧.asked shelf.old) self.old.signals }
-        requires counted { ⟦<Shelf as Lent>⟧.counted shelf.old }
-        ensures done { (slacks : List ℕ) → OnOk result (Undoes slacks
-            (scene self.old (⟦<Shelf as Lent>⟧.asked shelf.old) events.old.items) (scene self.new (⟦<Shelf as Lent>⟧.asked shelf.new) events.new.items)
-            (λ hosts. ⟦<Shelf as Lent>⟧.answers hosts shelf.old) (λ hosts. ⟦<Shelf as Lent>⟧.answers hosts shelf.new) 1
+    fn end_watcher(&mut self, id: WatcherId, events: &mut Vec<Event>) -> Result<(), NoMemory>
+        ensures done { (slacks : List ℕ) (asked : List HostPlace) → below.Agrees asked (stores_of self.old) → OnOk result (Undoes slacks
+            (scene self.old asked events.old.items) (scene self.new asked events.new.items) any_hosts any_hosts 1
             (λ env. undo env (ends (the_watcher id)))) }
-        ensures counted { OnOk result (⟦<Shelf as Lent>⟧.counted shelf.new) }
         ensures told { OnOk result (length events.old.items + 1 ≤ length events.new.items) }
+        ensures named { id < self.old.watchers.made → AreNamed self.old.graph self.old.watchers.made events.old.items →
+            OnOk result (AreNamed self.new.graph self.new.watchers.made events.new.items) }
     {
-        if !self.signals.watchers.is_alive(id) {
-            events.push(Event::Gone(Thing::Watcher(id)))?;
-            return Ok(());
+        match self.watchers.remove(id) {
+            Ok(()) => {
+                tell_gone(events, Thing::Watcher(id))?;
+                Ok(())
+            }
+            Err(_) => {
+                tell_gone(events, Thing::Watcher(id))?;
+                Ok(())
+            }
         }
-        self.end_there(shelf, SignalThing::Watcher(id), events)?;
-        Ok(())
     }
 
     // Ends a thing as far as signals go, and tells of it.
@@ -255,8 +206,8 @@ impl World {
         thing: &Thing,
         events: &mut Vec<Event>,
     ) -> Result<(), NoMemory>
-        requires worn { self.old.signals.graph.state.worn < 2 ^ 127 }
-        requires agrees { below.Agrees (⟦<Shelf as Lent>⟧.asked shelf.old) self.old.signals }
+        requires worn { self.old.graph.state.worn < 2 ^ 127 }
+        requires agrees { below.Agrees (⟦<Shelf as Lent>⟧.asked shelf.old) (stores_of self.old) }
         requires counted { ⟦<Shelf as Lent>⟧.counted shelf.old }
         ensures done { (slacks : List ℕ) → OnOk result (Undoes slacks
             (scene self.old (⟦<Shelf as Lent>⟧.asked shelf.old) events.old.items) (scene self.new (⟦<Shelf as Lent>⟧.asked shelf.new) events.new.items)
@@ -271,7 +222,7 @@ impl World {
                 Ok(())
             }
             Thing::Watcher(id) => {
-                self.end_watcher(shelf, *id, events)?;
+                self.end_watcher(*id, events)?;
                 Ok(())
             }
             Thing::Owner(id) => {
@@ -298,9 +249,9 @@ impl World {
         events: &mut Vec<Event>,
     ) -> Result<(), NoMemory>
         requires noted { IsNoted undoing.now }
-        requires ruled { AreRuled (length rules.now) self.old.signals.graph.state.signals }
-        requires worn { self.old.signals.graph.state.worn < 2 ^ 127 }
-        requires agrees { below.Agrees (⟦<Shelf as Lent>⟧.asked shelf.old) self.old.signals }
+        requires ruled { AreRuled (length rules.now) self.old.graph.state.signals }
+        requires worn { self.old.graph.state.worn < 2 ^ 127 }
+        requires agrees { below.Agrees (⟦<Shelf as Lent>⟧.asked shelf.old) (stores_of self.old) }
         requires counted { ⟦<Shelf as Lent>⟧.counted shelf.old }
         ensures done { OnOk result (Undoes (map (λ r. r.slack) rules.now)
             (scene self.old (⟦<Shelf as Lent>⟧.asked shelf.old) events.old.items) (scene self.new (⟦<Shelf as Lent>⟧.asked shelf.new) events.new.items)
@@ -331,9 +282,9 @@ impl World {
         events: &mut Vec<Event>,
     ) -> Result<(), NoMemory>
         requires noted { AllByRecursion IsNoted undoings.now }
-        requires ruled { AreRuled (length rules.now) self.old.signals.graph.state.signals }
-        requires worn { self.old.signals.graph.state.worn + length undoings.now < 2 ^ 127 }
-        requires agrees { below.Agrees (⟦<Shelf as Lent>⟧.asked shelf.old) self.old.signals }
+        requires ruled { AreRuled (length rules.now) self.old.graph.state.signals }
+        requires worn { self.old.graph.state.worn + length undoings.now < 2 ^ 127 }
+        requires agrees { below.Agrees (⟦<Shelf as Lent>⟧.asked shelf.old) (stores_of self.old) }
         requires counted { ⟦<Shelf as Lent>⟧.counted shelf.old }
         ensures done { OnOk result (Undoes (map (λ r. r.slack) rules.now)
             (scene self.old (⟦<Shelf as Lent>⟧.asked shelf.old) events.old.items) (scene self.new (⟦<Shelf as Lent>⟧.asked shelf.new) events.new.items)

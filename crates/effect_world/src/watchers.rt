@@ -25,19 +25,19 @@ impl World {
     ///
     /// `Limit` where as many watchers live as may be, and `NoMemory` where memory ran out; then all is as before.
     pub fn make_watcher(&mut self, tries: bool) -> Result<WatcherId, EffectFault>
-        requires made { self.old.signals.watchers.made + 1 < 2 ^ 128 }
+        requires made { self.old.watchers.made + 1 < 2 ^ 128 }
         requires owned { AreOwned self.old }
-        ensures id { IfOk result (λ id. id ≡ self.old.signals.watchers.made) }
+        ensures id { IfOk result (λ id. id ≡ self.old.watchers.made) }
         ensures does { (hosts : Hosts) (asked : List HostPlace) → IsSound hosts asked self.old →
             OnOk result (Does hosts asked asked self.old self.new [] [] (with_new_watcher tries)) }
         ensures agrees { (asked : List HostPlace) → Agrees asked self.old → OnOk result (Agrees asked self.new) }
-        ensures graph { self.new.signals.graph ≡ self.old.signals.graph }
-        ensures watchers { OnOk result (self.new.signals.watchers ≡ with_new tries self.old.signals.watchers) }
-        ensures limit { IsErrOf result fault.Limit ↔ (length self.old.signals.watchers.watchers ≡ MOST_WATCHERS) }
+        ensures graph { self.new.graph ≡ self.old.graph }
+        ensures watchers { OnOk result (self.new.watchers ≡ with_new tries self.old.watchers) }
+        ensures limit { IsErrOf result fault.Limit ↔ (length self.old.watchers.watchers ≡ MOST_WATCHERS) }
         ensures fault { IfErr result (λ e. (e ≡ fault.Limit) ⊎ (e ≡ fault.NoMemory)) }
         ensures err { OnErr result (self.new ≡ self.old) }
     {
-        let id = self.signals.make_watcher(tries)?;
+        let id = self.watchers.add(tries)?;
         Ok(id)
     }
 
@@ -50,15 +50,15 @@ impl World {
         requires owned { AreOwned self.old }
         ensures does { (hosts : Hosts) (asked : List HostPlace) → IsSound hosts asked self.old →
             OnOk result (Does hosts asked asked self.old self.new [] [] (changed_watcher w (armed ids.now))) }
-        ensures agrees { (asked : List HostPlace) → are_there self.old.signals.graph.state.signals ids.now ≡ true → Agrees asked self.old →
+        ensures agrees { (asked : List HostPlace) → are_there self.old.graph.state.signals ids.now ≡ true → Agrees asked self.old →
             OnOk result (Agrees asked self.new) }
-        ensures graph { self.new.signals.graph ≡ self.old.signals.graph }
-        ensures watchers { OnOk result (self.new.signals.watchers ≡ with_changed w (armed ids.now) self.old.signals.watchers) }
-        ensures gone { IsErrOf result fault.Gone ↔ (is_alive self.old.signals.watchers.watchers w ≡ false) }
+        ensures graph { self.new.graph ≡ self.old.graph }
+        ensures watchers { OnOk result (self.new.watchers ≡ with_changed w (armed ids.now) self.old.watchers) }
+        ensures gone { IsErrOf result fault.Gone ↔ (is_alive self.old.watchers.watchers w ≡ false) }
         ensures fault { IfErr result (λ e. (e ≡ fault.Gone) ⊎ (e ≡ fault.NoMemory)) }
         ensures err { OnErr result (self.new ≡ self.old) }
     {
-        self.signals.watch(w, ids)?;
+        self.watchers.watch(w, ids)?;
         Ok(())
     }
 
@@ -72,15 +72,15 @@ impl World {
         ensures does { (hosts : Hosts) (asked : List HostPlace) → IsSound hosts asked self.old →
             OnOk result (Does hosts asked asked self.old self.new [] [] (changed_watcher w (forget id))) }
         ensures agrees { (asked : List HostPlace) → Agrees asked self.old → OnOk result (Agrees asked self.new) }
-        ensures graph { self.new.signals.graph ≡ self.old.signals.graph }
-        ensures watchers { OnOk result (self.new.signals.watchers ≡ with_changed w (forget id) self.old.signals.watchers) }
-        ensures gone { IsErrOf result refused.Gone ↔ (is_alive self.old.signals.watchers.watchers w ≡ false) }
+        ensures graph { self.new.graph ≡ self.old.graph }
+        ensures watchers { OnOk result (self.new.watchers ≡ with_changed w (forget id) self.old.watchers) }
+        ensures gone { IsErrOf result refused.Gone ↔ (is_alive self.old.watchers.watchers w ≡ false) }
         ensures not_watched { IsErrOf result refused.NotWatched ↔
-            ((is_alive self.old.signals.watchers.watchers w && not (watches self.old.signals.watchers.watchers w id)) ≡ true) }
+            ((is_alive self.old.watchers.watchers w && not (watches self.old.watchers.watchers w id)) ≡ true) }
         ensures fault { IfErr result (λ e. (e ≡ refused.Gone) ⊎ (e ≡ refused.NotWatched)) }
         ensures err { OnErr result (self.new ≡ self.old) }
     {
-        self.signals.unwatch(w, id)?;
+        self.watchers.unwatch(w, id)?;
         Ok(())
     }
 }

@@ -229,7 +229,7 @@ rebatched hosts asked m w l o es x s = record {
 
 -- a batch is open, which the cell joins
 pub batched_steps : (hosts : Hosts) (env : plain.Environment) (asked : List HostPlace) (m : Machine) (w : World) (l : Labels) (es : List Entry) (n : ℕ) (v : Value) (b c : Collected) →
-    m.batch ≡ Some b → c.changed ≡ joined_by env.slacks (standing m.world.signals.graph.state.signals n) n v b.changed →
+    m.batch ≡ Some b → c.changed ≡ joined_by env.slacks (standing m.world.graph.state.signals n) n v b.changed →
     Steps hosts asked (with_world m w l) es (acted (plain_of asked m) (set_quietly env n v (whole_of asked m.world))) →
     Steps hosts asked (record (with_world m w l) { batch = Some c }) es (setting env (plain_of asked m) n v)
 batched_steps hosts env asked m w l es n v b c found is s =
@@ -262,16 +262,16 @@ aborted_steps hosts asked m w l o before es b was found over s =
 
 -- an act on signals that makes nothing
 pub stays_quiet : (asked : List HostPlace) (v w : World) (act : plain.World → plain.World) → whole_of asked w ≡ at_rest (act (whole_of asked v)) → KeepsKinds act →
-    w.signals.graph.given ≡ v.signals.graph.given → w.signals.watchers.made ≡ v.signals.watchers.made → w.tables ≡ v.tables → Stays v w
+    w.graph.given ≡ v.graph.given → w.watchers.made ≡ v.watchers.made → w.tables ≡ v.tables → Stays v w
 stays_quiet asked v w act whole kinds given made tables = record {
   given = given;
   watchers = made;
   pages = ap (λ t. t.pages_made) tables;
-  kinds = subst (AreKindsOf v.signals.graph.state.signals) (sym (ap (λ (x : plain.World). x.signals) whole)) (kinds.kept (whole_of asked v));
+  kinds = subst (AreKindsOf v.graph.state.signals) (sym (ap (λ (x : plain.World). x.signals) whole)) (kinds.kept (whole_of asked v));
 }
 
 -- a machine whose batch alone is another
-pub ready_batched : (m : Machine) (o : Option Collected) → IsReady m → HasRoomyBatch m.world.signals.graph.state.signals o → IsReady (record m { batch = o })
+pub ready_batched : (m : Machine) (o : Option Collected) → IsReady m → HasRoomyBatch m.world.graph.state.signals o → IsReady (record m { batch = o })
 ready_batched m o r h = record {
   watchers = r.watchers;
   paged = r.paged;

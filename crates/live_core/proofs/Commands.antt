@@ -22,10 +22,10 @@ use Rattle.sig_state.specs.Batches.{Collected}
 use Rattle.sig_effect.specs.declared.errors.EffectFault.{EffectFault}
 use Rattle.sig_effect.specs.declared.errors.EffectFault.TheVariants as fault
 use Rattle.sig_effect.specs.Stores.{AreRuled}
-use Rattle.effect_world.specs.declared.events.Event.{Event}
+use Rattle.sig_effect.specs.declared.events.Event.{Event}
 use Rattle.effect_world.specs.declared.world.World.{World}
 use Rattle.effect_world.specs.Stores.{Agrees, Does, IsSound}
-use Rattle.effect_world.specs.Events.{AreTold}
+use Rattle.sig_effect.specs.Events.{AreTold}
 use Rattle.effect_world.specs.Costs.{weight}
 use Rattle.effect_world.specs.Wholes.{whole_of}
 use Rattle.live_cmd.specs.declared.command.SourceText.{SourceText}
@@ -183,10 +183,10 @@ then_told hosts later m es x y entries next s same is = record {
 
 -- as many signals, watchers and pages were made as before, and what was a cell or a computed is one until it is gone
 pub record Stays (v w : World) : Type 0 where
-  pub given : w.signals.graph.given ≡ v.signals.graph.given
-  pub watchers : w.signals.watchers.made ≡ v.signals.watchers.made
+  pub given : w.graph.given ≡ v.graph.given
+  pub watchers : w.watchers.made ≡ v.watchers.made
   pub pages : w.tables.pages_made ≡ v.tables.pages_made
-  pub kinds : AreKindsOf v.signals.graph.state.signals w.signals.graph.state.signals
+  pub kinds : AreKindsOf v.graph.state.signals w.graph.state.signals
 
 -- an act makes nothing but effects
 pub stays_by : (asked later : List HostPlace) (v w : World) (act : told.World → told.World) → whole_of later w ≡ at_rest (act (whole_of asked v)) →
@@ -195,7 +195,7 @@ stays_by asked later v w act whole counts kinds = record {
   given = ap (λ (x : told.World). x.made.signals) whole ∙ ap (λ (c : Counts). c.signals) (counts.same (whole_of asked v));
   watchers = ap (λ (x : told.World). x.made.watchers) whole ∙ ap (λ (c : Counts). c.watchers) (counts.same (whole_of asked v));
   pages = ap (λ (x : told.World). x.made.pages) whole ∙ ap (λ (c : Counts). c.pages) (counts.same (whole_of asked v));
-  kinds = subst (AreKindsOf v.signals.graph.state.signals) (sym (ap (λ (x : told.World). x.signals) whole)) (kinds.kept (whole_of asked v));
+  kinds = subst (AreKindsOf v.graph.state.signals) (sym (ap (λ (x : told.World). x.signals) whole)) (kinds.kept (whole_of asked v));
 }
 
 -- settling leaves signals and tables
@@ -219,13 +219,13 @@ pub record KeepsMeant (m new : Machine) : Type 0 where
   pub labels : KeepsNames m.labels new.labels
 
 pub ready_changed : (m new : Machine) → IsReady m → KeepsMeant m new → Stays m.world new.world → AreShown (map template_of m.templates.items) new.pages.items →
-    ArePages new.world new.pages.items → HasRoomyBatch new.world.signals.graph.state.signals new.batch → IsReady new
+    ArePages new.world new.pages.items → HasRoomyBatch new.world.graph.state.signals new.batch → IsReady new
 ready_changed m new r keeps stays shown pages batch = record {
   watchers = stays.watchers ∙ r.watchers ∙ ap (λ v. length v.items) (sym keeps.labels.watchers);
   paged = stays.pages ∙ r.paged ∙ ap (λ v. length v.items) (sym keeps.labels.pages);
   meant = subst (λ x. x) (λ i. AreMeant new.world (length (sym keeps.templates i).items) (sym keeps.names i))
       (meant_still m.world new.world _ m.names stays.given
-      (λ k x h. kept_kind k (standing m.world.signals.graph.state.signals x) (standing new.world.signals.graph.state.signals x) (stays.kinds.each x) h) r.meant);
+      (λ k x h. kept_kind k (standing m.world.graph.state.signals x) (standing new.world.graph.state.signals x) (stays.kinds.each x) h) r.meant);
   templates = subst (λ v. AreTemplates v.items) (sym keeps.templates) r.templates;
   shown = subst (λ v. AreShown (map template_of v.items) new.pages.items) (sym keeps.templates) shown;
   pages = pages;
@@ -234,8 +234,8 @@ ready_changed m new r keeps stays shown pages batch = record {
 
 -- what is left by an act that leaves the tables, where the batch is this one afterwards
 pub leaves_batched : (asked later : List HostPlace) (rules : ℕ) (m : Machine) (w : World) (l : Labels) (b : Option Collected) → IsReady m → KeepsNames m.labels l →
-    Stays m.world w → w.tables ≡ m.world.tables → HasRoomyBatch w.signals.graph.state.signals b → (Agrees asked m.world → Agrees later w) →
-    (AreRuled rules m.world.signals.graph.state.signals → AreRuled rules w.signals.graph.state.signals) →
+    Stays m.world w → w.tables ≡ m.world.tables → HasRoomyBatch w.graph.state.signals b → (Agrees asked m.world → Agrees later w) →
+    (AreRuled rules m.world.graph.state.signals → AreRuled rules w.graph.state.signals) →
     weight w ≤ weight m.world + 2 ^ 80 → Leaves asked later rules m (record (with_world m w l) { batch = b })
 leaves_batched asked later rules m w l b r keeps stays tables batch agrees ruled few = record {
   ready = ready_changed m (record (with_world m w l) { batch = b }) r (record { names = refl; templates = refl; labels = keeps }) stays r.shown
@@ -246,16 +246,16 @@ leaves_batched asked later rules m w l b r keeps stays tables batch agrees ruled
 
 -- so it is where the batch stays
 pub leaves_acted : (asked later : List HostPlace) (rules : ℕ) (m : Machine) (w : World) (l : Labels) → IsReady m → KeepsNames m.labels l → Stays m.world w →
-    w.tables ≡ m.world.tables → HasRoomyBatch w.signals.graph.state.signals m.batch → (Agrees asked m.world → Agrees later w) →
-    (AreRuled rules m.world.signals.graph.state.signals → AreRuled rules w.signals.graph.state.signals) →
+    w.tables ≡ m.world.tables → HasRoomyBatch w.graph.state.signals m.batch → (Agrees asked m.world → Agrees later w) →
+    (AreRuled rules m.world.graph.state.signals → AreRuled rules w.graph.state.signals) →
     weight w ≤ weight m.world + 2 ^ 80 → Leaves asked later rules m (with_world m w l)
 leaves_acted asked later rules m w l r keeps stays tables batch agrees ruled few = leaves_batched asked later rules m w l m.batch r keeps stays tables batch agrees ruled few
 
 -- what is left by one that may end pages, which are dropped then
 pub leaves_ended : (asked later : List HostPlace) (rules : ℕ) (m new : Machine) → IsReady m → KeepsMeant m new → Stays m.world new.world →
     new.pages.items ≡ filter (λ (p : Mounted). is_in p.number new.world.tables.pages.items) m.pages.items →
-    HasRoomyBatch new.world.signals.graph.state.signals new.batch → (Agrees asked m.world → Agrees later new.world) →
-    (AreRuled rules m.world.signals.graph.state.signals → AreRuled rules new.world.signals.graph.state.signals) →
+    HasRoomyBatch new.world.graph.state.signals new.batch → (Agrees asked m.world → Agrees later new.world) →
+    (AreRuled rules m.world.graph.state.signals → AreRuled rules new.world.graph.state.signals) →
     weight new.world ≤ weight m.world + 2 ^ 80 → Leaves asked later rules m new
 leaves_ended asked later rules m new r keeps stays pages batch agrees ruled few = record {
   ready = ready_changed m new r keeps stays
@@ -300,7 +300,7 @@ none_next g given = at (is_there (standing g.state.signals g.given)) refl
 
 -- the signals of its names
 pub source_used : (w : World) (count : ℕ) (names : Names) (s : SourceText) → AreMeant w count names →
-    first_refusal (whole_of [] w) names (uses_of_source s) ≡ None → AreSignals w.signals.graph (recipe_of names s).slots
+    first_refusal (whole_of [] w) names (uses_of_source s) ≡ None → AreSignals w.graph (recipe_of names s).slots
 source_used w count names (source.Formula f) all e = signals_used w count names f.1 all e
 source_used w count names (source.Host place arguments) all e = signals_used w count names arguments all e
 

@@ -11,7 +11,7 @@ use Rattle.sig_effect.proofs.Shared.{cell_beside, computed_beside}
 use Rattle.effect_world.specs.declared.world.World.{World}
 use Rattle.effect_world.specs.Stores.{IsSound}
 use Rattle.effect_world.specs.Costs.{weight}
-use Rattle.effect_world.specs.Wholes.{whole_of}
+use Rattle.effect_world.specs.Wholes.{stores_of, whole_of}
 use Rattle.live_entries.specs.declared.entry.Entry.{Entry}
 use Rattle.live_model.specs.declared.names.Kind.{Kind}
 use Rattle.live_model.specs.declared.names.Kind.TheVariants as kind
@@ -62,17 +62,17 @@ steps_named hosts asked m new w n k id number labels made es same whole named no
 
 -- what the plain world has of pages and watchers is as before
 pub record Beside (v w : World) : Type 0 where
-  pub watchers : w.signals.watchers.made ≡ v.signals.watchers.made
+  pub watchers : w.watchers.made ≡ v.watchers.made
   pub pages : w.tables.pages.items ≡ v.tables.pages.items
   pub paged : w.tables.pages_made ≡ v.tables.pages_made
 
 -- what a making of a signal leaves
 pub leaves_signal : (asked : List HostPlace) (rules : ℕ) (m new : Machine) (w : World) (n : List ℕ) (k : Kind) (id : ℕ) (labels : called.Labels) → IsReady m →
-    same_kind kind.Template k ≡ false → id ≡ m.world.signals.graph.given → IsNamed m new w n k id labels →
+    same_kind kind.Template k ≡ false → id ≡ m.world.graph.given → IsNamed m new w n k id labels →
     labels.watchers ≡ m.labels.watchers.items → labels.pages ≡ m.labels.pages.items → Beside m.world w →
-    w.signals.graph.given ≡ m.world.signals.graph.given + 1 →
-    ((x : ℕ) → (x == m.world.signals.graph.given) ≡ false → standing w.signals.graph.state.signals x ≡ standing m.world.signals.graph.state.signals x) →
-    is_of_kind k (standing w.signals.graph.state.signals m.world.signals.graph.given) ≡ true → m.batch ≡ None → weight w ≤ weight m.world + 2 ^ 80 →
+    w.graph.given ≡ m.world.graph.given + 1 →
+    ((x : ℕ) → (x == m.world.graph.given) ≡ false → standing w.graph.state.signals x ≡ standing m.world.graph.state.signals x) →
+    is_of_kind k (standing w.graph.state.signals m.world.graph.given) ≡ true → m.batch ≡ None → weight w ≤ weight m.world + 2 ^ 80 →
     (WorldAgrees asked rules m.world → WorldAgrees asked rules w) → Leaves asked asked rules m new
 leaves_signal asked rules m new w n k id labels r off number named watchers pages stays given beside here alone few holds =
     subst (λ (x : Machine). Leaves asked asked rules m x) (sym named.parts) (record {
@@ -85,7 +85,7 @@ leaves_signal asked rules m new w n k id labels r off number named watchers page
         templates = r.templates;
         shown = r.shown;
         pages = pages_kept m.world w m.pages.items m.pages.items refl stays.pages stays.paged r.pages;
-        batch = roomy_none w.signals.graph.state.signals m.batch alone;
+        batch = roomy_none w.graph.state.signals m.batch alone;
       };
       holds = holds;
       weight = few;
@@ -131,7 +131,7 @@ other_watcher = record { signal = refl; fits = λ s. refl; template = λ e. cc }
 -- what a making of an owner or of an effect leaves, where signals are as before
 pub leaves_other : (asked : List HostPlace) (rules : ℕ) (m new : Machine) (w : World) (n : List ℕ) (k : Kind) (id : ℕ) (labels : called.Labels) → IsReady m →
     IsOther k → IsNamed m new w n k id labels → labels.watchers ≡ m.labels.watchers.items → labels.pages ≡ m.labels.pages.items → Beside m.world w →
-    w.signals ≡ m.world.signals → weight w ≤ weight m.world + 2 ^ 80 → (WorldAgrees asked rules m.world → WorldAgrees asked rules w) →
+    stores_of w ≡ stores_of m.world → weight w ≤ weight m.world + 2 ^ 80 → (WorldAgrees asked rules m.world → WorldAgrees asked rules w) →
     Leaves asked asked rules m new
 leaves_other asked rules m new w n k id labels r any named watchers pages stays signals few holds =
     subst (λ (x : Machine). Leaves asked asked rules m x) (sym named.parts) (record {
@@ -145,7 +145,7 @@ leaves_other asked rules m new w n k id labels r any named watchers pages stays 
         templates = r.templates;
         shown = r.shown;
         pages = pages_kept m.world w m.pages.items m.pages.items refl stays.pages stays.paged r.pages;
-        batch = roomy_same m.world.signals.graph.state.signals w.signals.graph.state.signals m.batch (ap (λ s. s.graph.state.signals) signals) r.batch;
+        batch = roomy_same m.world.graph.state.signals w.graph.state.signals m.batch (ap (λ s. s.graph.state.signals) signals) r.batch;
       };
       holds = holds;
       weight = few;

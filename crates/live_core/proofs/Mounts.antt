@@ -14,7 +14,7 @@ use Rattle.sig_host.specs.Hosts.{HostPlace}
 use Rattle.sig_effect.specs.Stores.{AreRuled}
 use Rattle.effect_world.specs.declared.world.World.{World}
 use Rattle.effect_world.specs.Stores.{Agrees, IsSound}
-use Rattle.effect_world.specs.Wholes.{whole_of}
+use Rattle.effect_world.specs.Wholes.{stores_of, whole_of}
 use Rattle.live_entries.specs.declared.entry.Entry.{Entry}
 use Rattle.live_entries.specs.declared.entry.Entry.TheVariants as entry
 use Rattle.live_entries.specs.declared.refusal.Refusal.TheVariants as refusal
@@ -118,8 +118,8 @@ pub leaves_mounted : (asked later : List HostPlace) (rules : ℕ) (m new : Machi
     new.names ≡ m.names ++ (n, record { kind = kind.Page; number = id }) ∷ [] →
     labels_of new.labels ≡ record (labels_of m.labels) { pages = m.labels.pages.items ++ n ∷ [] } →
     new.pages.items ≡ m.pages.items ++ p ∷ [] → (inside : Option ℕ) → whole_of later v ≡ at_rest (with_new_page inside (whole_of later w)) →
-    v.signals ≡ w.signals → Settles m.world w → p.number ≡ m.world.tables.pages_made → IsShown (map template_of m.templates.items) p →
-    length m.world.tables.pages.items < MOST_PAGES → Agrees later v → w.signals.graph.state.worn ≤ m.world.signals.graph.state.worn + 2 ^ 64 →
+    stores_of v ≡ stores_of w → Settles m.world w → p.number ≡ m.world.tables.pages_made → IsShown (map template_of m.templates.items) p →
+    length m.world.tables.pages.items < MOST_PAGES → Agrees later v → w.graph.state.worn ≤ m.world.graph.state.worn + 2 ^ 64 →
     Leaves asked later rules m new
 leaves_mounted asked later rules m new w v n id p r parts names labels pages inside whole signals settled number shown room agrees worn =
     let made : v.tables.pages_made ≡ m.world.tables.pages_made + 1 =
@@ -138,7 +138,7 @@ leaves_mounted asked later rules m new w v n id p r parts names labels pages ins
         templates = r.templates;
         shown = subst (AreShown (map template_of m.templates.items)) (sym pages) (shown_more (map template_of m.templates.items) m.pages.items p r.shown shown);
         pages = subst (ArePages v) (sym pages) (pages_more m.world v m.pages.items p number live made room r.pages);
-        batch = roomy_same m.world.signals.graph.state.signals v.signals.graph.state.signals m.batch stands r.batch;
+        batch = roomy_same m.world.graph.state.signals v.graph.state.signals m.batch stands r.batch;
       };
       holds = λ h. record { agrees = agrees; ruled = subst (AreRuled rules) (sym stands) h.ruled };
       weight =

@@ -37,12 +37,12 @@ pub below_given : (g : Seen) (n : ℕ) → n < g.given → is_given g n ≡ true
 below_given g n lt = given_is g n ∙ lt-ltb n g.given lt
 
 -- names mean what they meant, where signals stay made and of their kind
-pub meant_still : (v w : World) (count : ℕ) (names : Names) → w.signals.graph.given ≡ v.signals.graph.given →
-    ((k : Kind) (m : ℕ) → is_of_kind k (standing v.signals.graph.state.signals m) ≡ true → is_of_kind k (standing w.signals.graph.state.signals m) ≡ true) →
+pub meant_still : (v w : World) (count : ℕ) (names : Names) → w.graph.given ≡ v.graph.given →
+    ((k : Kind) (m : ℕ) → is_of_kind k (standing v.graph.state.signals m) ≡ true → is_of_kind k (standing w.graph.state.signals m) ≡ true) →
     AreMeant v count names → AreMeant w count names
 meant_still v w count names given kinds all n m is =
     let one : IsMeant v count m = all n m is in record {
-      given = λ s. given_same v.signals.graph w.signals.graph m.number given ∙ one.given s;
+      given = λ s. given_same v.graph w.graph m.number given ∙ one.given s;
       fits = kinds m.kind m.number one.fits;
       template = one.template;
     }
@@ -67,7 +67,7 @@ pub meant_other : (w : World) (count : ℕ) (names : Names) (a : List ℕ) (k : 
 meant_other w count names a k i off any below all n m is = elim (last_or names a (record { kind = k; number = i }) n m is) [
   | inl old ↦ all n m old
   | inr new ↦ subst (IsMeant w count) new
-      (record { given = λ s. absurd (true_false (sym s ∙ off)); fits = any (standing w.signals.graph.state.signals i); template = below })
+      (record { given = λ s. absurd (true_false (sym s ∙ off)); fits = any (standing w.graph.state.signals i); template = below })
 ]
 
 -- what is below isn't what comes next
@@ -93,19 +93,19 @@ still_meant g after kind.Page i beside given is = refl
 
 -- a name of a signal more, which is made
 pub meant_made : (v w : World) (count : ℕ) (names : Names) (a : List ℕ) (k : Kind) → same_kind kind.Template k ≡ false →
-    w.signals.graph.given ≡ v.signals.graph.given + 1 →
-    ((m : ℕ) → (m == v.signals.graph.given) ≡ false → standing w.signals.graph.state.signals m ≡ standing v.signals.graph.state.signals m) →
-    is_of_kind k (standing w.signals.graph.state.signals v.signals.graph.given) ≡ true →
-    AreMeant v count names → AreMeant w count (names ++ (a, record { kind = k; number = v.signals.graph.given }) ∷ [])
-meant_made v w count names a k off given beside here all n m is = elim (last_or names a (record { kind = k; number = v.signals.graph.given }) n m is) [
+    w.graph.given ≡ v.graph.given + 1 →
+    ((m : ℕ) → (m == v.graph.given) ≡ false → standing w.graph.state.signals m ≡ standing v.graph.state.signals m) →
+    is_of_kind k (standing w.graph.state.signals v.graph.given) ≡ true →
+    AreMeant v count names → AreMeant w count (names ++ (a, record { kind = k; number = v.graph.given }) ∷ [])
+meant_made v w count names a k off given beside here all n m is = elim (last_or names a (record { kind = k; number = v.graph.given }) n m is) [
   | inl old ↦
       let one : IsMeant v count m = all n m old in record {
-        given = λ s. let lt = given_below v.signals.graph m.number (one.given s) in below_given w.signals.graph m.number (omega (arith, lt, given));
-        fits = still_meant v.signals.graph w.signals.graph.state.signals m.kind m.number beside one.given one.fits;
+        given = λ s. let lt = given_below v.graph m.number (one.given s) in below_given w.graph m.number (omega (arith, lt, given));
+        fits = still_meant v.graph w.graph.state.signals m.kind m.number beside one.given one.fits;
         template = one.template;
       }
   | inr new ↦ subst (IsMeant w count) new (record {
-    given = λ s. below_given w.signals.graph v.signals.graph.given (omega (arith, given));
+    given = λ s. below_given w.graph v.graph.given (omega (arith, given));
     fits = here;
     template = λ t. absurd (true_false (sym t ∙ off));
   })

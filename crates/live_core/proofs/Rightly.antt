@@ -91,10 +91,10 @@ not_false true e = refl
 not_false false e = absurd cc
 
 -- a signal that isn't gone stands
-stands : (w : World) (k : Kind) (n : ℕ) → is_signal k ≡ true → is_gone (whole_of [] w) k n ≡ false → is_there (standing w.signals.graph.state.signals n) ≡ true
-stands w kind.Cell n s e = not_false (is_there (standing w.signals.graph.state.signals n)) e
-stands w kind.List n s e = not_false (is_there (standing w.signals.graph.state.signals n)) e
-stands w kind.Computed n s e = not_false (is_there (standing w.signals.graph.state.signals n)) e
+stands : (w : World) (k : Kind) (n : ℕ) → is_signal k ≡ true → is_gone (whole_of [] w) k n ≡ false → is_there (standing w.graph.state.signals n) ≡ true
+stands w kind.Cell n s e = not_false (is_there (standing w.graph.state.signals n)) e
+stands w kind.List n s e = not_false (is_there (standing w.graph.state.signals n)) e
+stands w kind.Computed n s e = not_false (is_there (standing w.graph.state.signals n)) e
 stands w kind.Owner n s e = absurd cc
 stands w kind.Effect n s e = absurd cc
 stands w kind.Watcher n s e = absurd cc
@@ -106,11 +106,11 @@ pub record IsSignal (g : Seen) (n : ℕ) : Type 0 where
   pub given : is_given g n ≡ true
   pub there : is_there (standing g.state.signals n) ≡ true
 
-pub signal_used : (w : World) (count : ℕ) (names : Names) (n : List ℕ) → AreMeant w count names → IsUsed w names n need.Signal → IsSignal w.signals.graph (number_of names n)
+pub signal_used : (w : World) (count : ℕ) (names : Names) (n : List ℕ) → AreMeant w count names → IsUsed w names n need.Signal → IsSignal w.graph (number_of names n)
 signal_used w count names n all u =
     let one : IsMeant w count u.meaning = all n u.meaning u.is in record {
-      given = ap (is_given w.signals.graph) u.number ∙ one.given u.meets;
-      there = ap (λ i. is_there (standing w.signals.graph.state.signals i)) u.number ∙ stands w u.meaning.kind u.meaning.number u.meets u.there;
+      given = ap (is_given w.graph) u.number ∙ one.given u.meets;
+      there = ap (λ i. is_there (standing w.graph.state.signals i)) u.number ∙ stands w u.meaning.kind u.meaning.number u.meets u.there;
     }
 
 -- the kind that is needed is the name's
@@ -182,26 +182,26 @@ kind_is kind.Page kind.Template e = absurd cc
 
 -- a signal of a kind is used
 pub kind_used : (w : World) (count : ℕ) (names : Names) (n : List ℕ) (k : Kind) → is_signal k ≡ true → AreMeant w count names → IsUsed w names n (need.Of k) →
-    IsSignal w.signals.graph (number_of names n) × (is_of_kind k (standing w.signals.graph.state.signals (number_of names n)) ≡ true)
+    IsSignal w.graph (number_of names n) × (is_of_kind k (standing w.graph.state.signals (number_of names n)) ≡ true)
 kind_used w count names n k sig all u =
     let one : IsMeant w count u.meaning = all n u.meaning u.is in
     let same : k ≡ u.meaning.kind = kind_is k u.meaning.kind u.meets in
     let signal : is_signal u.meaning.kind ≡ true = ap is_signal (sym same) ∙ sig in (
       record {
-        given = ap (is_given w.signals.graph) u.number ∙ one.given signal;
-        there = ap (λ i. is_there (standing w.signals.graph.state.signals i)) u.number
+        given = ap (is_given w.graph) u.number ∙ one.given signal;
+        there = ap (λ i. is_there (standing w.graph.state.signals i)) u.number
             ∙ stands w u.meaning.kind u.meaning.number signal u.there;
       },
-      ap (λ i. is_of_kind k (standing w.signals.graph.state.signals i)) u.number ∙ ap (λ j. is_of_kind j (standing w.signals.graph.state.signals u.meaning.number)) same ∙ one.fits,
+      ap (λ i. is_of_kind k (standing w.graph.state.signals i)) u.number ∙ ap (λ j. is_of_kind j (standing w.graph.state.signals u.meaning.number)) same ∙ one.fits,
     )
 
 -- a watcher is used: it lives
 pub watcher_used : (w : World) (names : Names) (n : List ℕ) → IsUsed w names n (need.Of kind.Watcher) →
-    is_in (number_of names n) (watcher_numbers w.signals.watchers.watchers) ≡ true
+    is_in (number_of names n) (watcher_numbers w.watchers.watchers) ≡ true
 watcher_used w names n u =
     let same : kind.Watcher ≡ u.meaning.kind = kind_is kind.Watcher u.meaning.kind u.meets in
-    ap (λ i. is_in i (watcher_numbers w.signals.watchers.watchers)) u.number
-    ∙ not_false (is_in u.meaning.number (watcher_numbers w.signals.watchers.watchers))
+    ap (λ i. is_in i (watcher_numbers w.watchers.watchers)) u.number
+    ∙ not_false (is_in u.meaning.number (watcher_numbers w.watchers.watchers))
     (ap (λ (k : Kind). is_gone (whole_of [] w) k u.meaning.number) same ∙ u.there)
 
 -- an owner is used: it lives
@@ -231,12 +231,12 @@ pub record AreSignals (g : Seen) (ns : List ℕ) : Type 0 where
   pub there : are_there g.state.signals ns ≡ true
 
 pub signals_used : (w : World) (count : ℕ) (names : Names) (ns : List (List ℕ)) → AreMeant w count names →
-    first_refusal (whole_of [] w) names (uses_of_signals ns) ≡ None → AreSignals w.signals.graph (map (number_of names) ns)
+    first_refusal (whole_of [] w) names (uses_of_signals ns) ≡ None → AreSignals w.graph (map (number_of names) ns)
 signals_used w count names [] all e = record { given = tt; there = refl }
 signals_used w count names (n ∷ ns) all e =
     let both = neither (refused_at w names n need.Signal) _ e in
-    let one : IsSignal w.signals.graph (number_of names n) = signal_used w count names n all (used_signal w names n both.0) in
-    let more : AreSignals w.signals.graph (map (number_of names) ns) = signals_used w count names ns all both.1 in
+    let one : IsSignal w.graph (number_of names n) = signal_used w count names n all (used_signal w names n both.0) in
+    let more : AreSignals w.graph (map (number_of names) ns) = signals_used w count names ns all both.1 in
     record { given = (one.given, more.given); there = rw one.there more.there }
 
 -- ---- the names of a command

@@ -24,8 +24,8 @@ use Rattle.live_core.proofs.Commands.{ready_changed, Stays}
 use Rattle.live_core.proofs.Creations.{IsNamed}
 
 -- the graph is as it was
-pub stays_watched : (asked : List HostPlace) (v w : World) (n : ℕ) (f : told.Watcher → told.Watcher) → w.signals.graph ≡ v.signals.graph →
-    w.signals.watchers.made ≡ v.signals.watchers.made → whole_of asked w ≡ at_rest (changed_watcher n f (whole_of asked v)) → Stays v w
+pub stays_watched : (asked : List HostPlace) (v w : World) (n : ℕ) (f : told.Watcher → told.Watcher) → w.graph ≡ v.graph →
+    w.watchers.made ≡ v.watchers.made → whole_of asked w ≡ at_rest (changed_watcher n f (whole_of asked v)) → Stays v w
 stays_watched asked v w n f graph made whole = record {
   given = ap (λ (g : Seen). g.given) graph;
   watchers = made;
@@ -38,8 +38,8 @@ stays_watched asked v w n f graph made whole = record {
   };
 }
 
-pub leaves_watched : (asked : List HostPlace) (rules : ℕ) (m : Machine) (w : World) (n : ℕ) (f : told.Watcher → told.Watcher) → IsReady m → w.signals.graph ≡ m.world.signals.graph →
-    w.signals.watchers.made ≡ m.world.signals.watchers.made → whole_of asked w ≡ at_rest (changed_watcher n f (whole_of asked m.world)) →
+pub leaves_watched : (asked : List HostPlace) (rules : ℕ) (m : Machine) (w : World) (n : ℕ) (f : told.Watcher → told.Watcher) → IsReady m → w.graph ≡ m.world.graph →
+    w.watchers.made ≡ m.world.watchers.made → whole_of asked w ≡ at_rest (changed_watcher n f (whole_of asked m.world)) →
     (Agrees asked m.world → Agrees asked w) → Leaves asked asked rules m (record m { world = w })
 leaves_watched asked rules m w n f r graph made whole agrees =
     let stays : Stays m.world w = stays_watched asked m.world w n f graph made whole in
@@ -47,17 +47,17 @@ leaves_watched asked rules m w n f r graph made whole agrees =
       ready = ready_changed m (record m { world = w }) r
           (record { names = refl; templates = refl; labels = record { signals = refl; owners = refl; pages = refl; watchers = refl } }) stays r.shown
           (pages_kept m.world w m.pages.items m.pages.items refl (ap (λ (x : told.World). x.pages) whole) stays.pages r.pages)
-          (roomy_same m.world.signals.graph.state.signals w.signals.graph.state.signals m.batch (ap (λ (g : Seen). g.state.signals) graph) r.batch);
+          (roomy_same m.world.graph.state.signals w.graph.state.signals m.batch (ap (λ (g : Seen). g.state.signals) graph) r.batch);
       holds = λ h. record { agrees = agrees h.agrees; ruled = subst (λ (g : Seen). AreRuled rules g.state.signals) (sym graph) h.ruled };
       weight =
-          let a : w.signals.graph.state.worn ≡ m.world.signals.graph.state.worn = ap (λ (g : Seen). g.state.worn) graph in
+          let a : w.graph.state.worn ≡ m.world.graph.state.worn = ap (λ (g : Seen). g.state.worn) graph in
           let b : w.tables.effects_made ≡ m.world.tables.effects_made = ap (λ (x : told.World). x.made.effects) whole in omega (arith, a, b);
     }
 
 -- what a making of a watcher leaves
 pub leaves_watcher : (asked : List HostPlace) (rules : ℕ) (m new : Machine) (w : World) (n : List ℕ) (id : ℕ) → IsReady m →
-    IsNamed m new w n kind.Watcher id (record (labels_of m.labels) { watchers = m.labels.watchers.items ++ n ∷ [] }) → w.signals.graph ≡ m.world.signals.graph →
-    w.signals.watchers.made ≡ m.world.signals.watchers.made + 1 → w.tables.pages.items ≡ m.world.tables.pages.items →
+    IsNamed m new w n kind.Watcher id (record (labels_of m.labels) { watchers = m.labels.watchers.items ++ n ∷ [] }) → w.graph ≡ m.world.graph →
+    w.watchers.made ≡ m.world.watchers.made + 1 → w.tables.pages.items ≡ m.world.tables.pages.items →
     w.tables.pages_made ≡ m.world.tables.pages_made → w.tables.effects_made ≡ m.world.tables.effects_made →
     (Agrees asked m.world → Agrees asked w) → Leaves asked asked rules m new
 leaves_watcher asked rules m new w n id r named graph made live paged effects agrees =
@@ -72,8 +72,8 @@ leaves_watcher asked rules m new w n id r named graph made live paged effects ag
         templates = r.templates;
         shown = r.shown;
         pages = pages_kept m.world w m.pages.items m.pages.items refl live paged r.pages;
-        batch = roomy_same m.world.signals.graph.state.signals w.signals.graph.state.signals m.batch (ap (λ (g : Seen). g.state.signals) graph) r.batch;
+        batch = roomy_same m.world.graph.state.signals w.graph.state.signals m.batch (ap (λ (g : Seen). g.state.signals) graph) r.batch;
       };
       holds = λ h. record { agrees = agrees h.agrees; ruled = subst (λ (g : Seen). AreRuled rules g.state.signals) (sym graph) h.ruled };
-      weight = let a : w.signals.graph.state.worn ≡ m.world.signals.graph.state.worn = ap (λ (g : Seen). g.state.worn) graph in omega (arith, a, effects);
+      weight = let a : w.graph.state.worn ≡ m.world.graph.state.worn = ap (λ (g : Seen). g.state.worn) graph in omega (arith, a, effects);
     })

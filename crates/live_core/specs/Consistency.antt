@@ -35,8 +35,8 @@ is_of_kind _ s = true
 
 -- A name of a signal stands for one that was made, and that is gone or of the name's kind, and a name of a template for one of so many.
 pub record IsMeant (w : World) (templates : ℕ) (m : Meaning) : Type 0 where
-  pub given : is_signal m.kind ≡ true → is_given w.signals.graph m.number ≡ true
-  pub fits : is_of_kind m.kind (standing w.signals.graph.state.signals m.number) ≡ true
+  pub given : is_signal m.kind ≡ true → is_given w.graph m.number ≡ true
+  pub fits : is_of_kind m.kind (standing w.graph.state.signals m.number) ≡ true
   pub template : same_kind kind.Template m.kind ≡ true → m.number < templates
 
 -- each name does
@@ -57,18 +57,18 @@ HasRoomyBatch w (Some b) = IsRoomy w b
 -- Each watcher and each page that was made has a name, names stand for what was made, the templates were read, the pages are pages that
 -- stand on them, and a batch that is open has room for what may be changed in it.
 pub record IsReady (m : Machine) : Type 0 where
-  pub watchers : m.world.signals.watchers.made ≡ length m.labels.watchers.items
+  pub watchers : m.world.watchers.made ≡ length m.labels.watchers.items
   pub paged : m.world.tables.pages_made ≡ length m.labels.pages.items
   pub meant : AreMeant m.world (length m.templates.items) m.names
   pub templates : AreTemplates m.templates.items
   pub shown : AreShown (map template_of m.templates.items) m.pages.items
   pub pages : ArePages m.world m.pages.items
-  pub batch : HasRoomyBatch m.world.signals.graph.state.signals m.batch
+  pub batch : HasRoomyBatch m.world.graph.state.signals m.batch
 
 -- the stores belong together with the host formulas, and each cell's rule is one of so many
 pub record WorldAgrees (asked : List HostPlace) (rules : ℕ) (w : World) : Type 0 where
   pub agrees : Agrees asked w
-  pub ruled : AreRuled rules w.signals.graph.state.signals
+  pub ruled : AreRuled rules w.graph.state.signals
 
 -- no name of a command is refused
 abbrev pub AreFine : Machine → Command → Type 0

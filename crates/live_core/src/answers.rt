@@ -104,7 +104,7 @@ impl Machine {
         ensures memory { IfErr result (λ e. e ≡ fault.NoMemory) }
     {
         let computed = NodeId::of(self.names.number_of(&name));
-        let seen = seen_of(self.world.signals.graph.mark_of(computed));
+        let seen = seen_of(self.world.graph.mark_of(computed));
         let told = one(self.alloc, Entry::State(name, seen))?;
         Ok(told)
     }
@@ -121,7 +121,7 @@ impl Machine {
         let sources = names_of_signals(
             self.alloc,
             &self.labels.signals,
-            self.world.signals.graph.sources(computed),
+            self.world.graph.sources(computed),
         )?;
         let told = one(self.alloc, Entry::Sources(name, sources))?;
         Ok(told)
@@ -138,11 +138,7 @@ impl Machine {
         ensures memory { IfErr result (λ e. e ≡ fault.NoMemory) }
     {
         let watcher = WatcherId::of(self.names.number_of(&name));
-        let pending = self
-            .world
-            .signals
-            .watchers
-            .pending(&mut self.world.signals.graph, watcher)?;
+        let pending = self.world.watchers.pending(&mut self.world.graph, watcher)?;
         let pending = names_of_signals(self.alloc, &self.labels.signals, &pending)?;
         let told = one(self.alloc, Entry::Pending(name, pending))?;
         Ok(told)

@@ -34,9 +34,9 @@ impl Machine {
         requires alone { self.old.batch ≡ None }
         requires owned { AreOwned self.old.world }
         requires weight { weight self.old.world < 2 ^ 125 }
-        requires ruled { AreRuled (length rules.now) self.old.world.signals.graph.state.signals }
-        requires kind { is_computed (standing self.old.world.signals.graph.state.signals cell) ≡ false }
-        requires there { is_there (standing self.old.world.signals.graph.state.signals cell) ≡ true }
+        requires ruled { AreRuled (length rules.now) self.old.world.graph.state.signals }
+        requires kind { is_computed (standing self.old.world.graph.state.signals cell) ≡ false }
+        requires there { is_there (standing self.old.world.graph.state.signals cell) ≡ true }
         ensures steps { (hosts : Hosts) (asked : List HostPlace) → IsSound hosts asked self.old.world →
             IfOk result (λ es. Steps hosts asked self.new es.items
             (setting (environment hosts (map (λ r. r.slack) rules.now)) (plain_of asked self.old) cell value)) }
@@ -60,9 +60,9 @@ impl Machine {
         requires ready { IsReady self.old }
         requires owned { AreOwned self.old.world }
         requires weight { weight self.old.world < 2 ^ 125 }
-        requires ruled { AreRuled (length rules.now) self.old.world.signals.graph.state.signals }
-        requires kind { is_computed (standing self.old.world.signals.graph.state.signals cell) ≡ false }
-        requires there { is_there (standing self.old.world.signals.graph.state.signals cell) ≡ true }
+        requires ruled { AreRuled (length rules.now) self.old.world.graph.state.signals }
+        requires kind { is_computed (standing self.old.world.graph.state.signals cell) ≡ false }
+        requires there { is_there (standing self.old.world.graph.state.signals cell) ≡ true }
         ensures steps { (hosts : Hosts) (asked : List HostPlace) → IsSound hosts asked self.old.world →
             IfOk result (λ es. Steps hosts asked self.new es.items
             (setting (environment hosts (map (λ r. r.slack) rules.now)) (plain_of asked self.old) cell value)) }
@@ -88,7 +88,7 @@ impl Machine {
         ensures leaves { (asked : List HostPlace) (count : ℕ) → OnOk result (Leaves asked asked count self.old self.new) }
         ensures memory { IfErr result (λ e. e ≡ fault.NoMemory) }
     {
-        let batch = Batch::begin(self.alloc, &self.world.signals.graph)?;
+        let batch = Batch::begin(self.alloc, &self.world.graph)?;
         self.batch = Some(batch);
         Ok(Vec::new(self.alloc))
     }
@@ -97,7 +97,7 @@ impl Machine {
     pub(crate) fn commit(&mut self, rules: &[EqualsRule]) -> Result<Vec<Entry>, EffectFault>
         requires ready { IsReady self.old }
         requires owned { AreOwned self.old.world }
-        requires ruled { AreRuled (length rules.now) self.old.world.signals.graph.state.signals }
+        requires ruled { AreRuled (length rules.now) self.old.world.graph.state.signals }
         ensures steps { (hosts : Hosts) (asked : List HostPlace) → IsSound hosts asked self.old.world →
             IfOk result (λ es. Steps hosts asked self.new es.items
             (done (environment hosts (map (λ r. r.slack) rules.now)) (plain_of asked self.old) (command.Bare bares.Commit))) }

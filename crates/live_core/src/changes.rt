@@ -36,7 +36,7 @@ impl Machine {
         requires ready { IsReady self.old }
         requires owned { AreOwned self.old.world }
         requires weight { weight self.old.world < 2 ^ 125 }
-        requires ruled { AreRuled (length rules.now) self.old.world.signals.graph.state.signals }
+        requires ruled { AreRuled (length rules.now) self.old.world.graph.state.signals }
         requires fine { AreFine self.old (command.Set name.now value) }
         ensures steps { (hosts : Hosts) (asked : List HostPlace) → IsSound hosts asked self.old.world →
             IfOk result (λ es. Steps hosts asked self.new es.items
@@ -60,7 +60,7 @@ impl Machine {
         requires ready { IsReady self.old }
         requires owned { AreOwned self.old.world }
         requires weight { weight self.old.world < 2 ^ 125 }
-        requires ruled { AreRuled (length rules.now) self.old.world.signals.graph.state.signals }
+        requires ruled { AreRuled (length rules.now) self.old.world.graph.state.signals }
         requires fine { AreFine self.old (command.Edit name.now edit.now) }
         requires fits { row_refusal (plain_of [] self.old) (command.Edit name.now edit.now) ≡ None }
         ensures steps { (hosts : Hosts) (asked : List HostPlace) → IsSound hosts asked self.old.world →
@@ -123,7 +123,7 @@ impl Machine {
         requires weight { weight self.old.world < 2 ^ 125 }
         requires agrees { Agrees (⟦<Shelf as Lent>⟧.asked shelf.old) self.old.world }
         requires counted { ⟦<Shelf as Lent>⟧.counted shelf.old }
-        requires ruled { AreRuled (length rules.now) self.old.world.signals.graph.state.signals }
+        requires ruled { AreRuled (length rules.now) self.old.world.graph.state.signals }
         requires alone { self.old.batch ≡ None }
         requires fine { AreFine self.old (command.Named verb.Dispose name.now) }
         ensures steps { (hosts : Hosts) → IsSound hosts (⟦<Shelf as Lent>⟧.asked shelf.old) self.old.world →

@@ -145,7 +145,7 @@ impl Machine {
             OnOk result (Leaves asked asked rules self.old self.new) }
         ensures memory { IfErr result (λ e. e ≡ fault.NoMemory) }
     {
-        let _made = self.world.signals.graph.made();
+        let _made = self.world.graph.made();
         let owner = owner_of(&self.names, &inside);
         let linked = linked_source(self.alloc, &self.names, source)?;
         let id = self

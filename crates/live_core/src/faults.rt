@@ -11,6 +11,7 @@ ghost use Rattle.sig_owner.specs.declared.limits.TheConstants.{MOST_OWNERS};
 ghost use Rattle.sig_host.specs.Hosts.{HostPlace};
 ghost use Rattle.sig_effect.specs.declared.errors.EffectFault.TheVariants as fault;
 ghost use Rattle.effect_world.specs.Stores.{Agrees, AreOwned, Does, IsSound};
+ghost use Rattle.effect_world.specs.Wholes.{stores_of};
 
 use effect_tables::Script;
 use effect_world::World;
@@ -28,7 +29,7 @@ pub(crate) fn make_owner(world: &mut World, inside: Option<OwnerId>) -> Result<O
     ensures does { (hosts : Hosts) (asked : List HostPlace) → IsSound hosts asked world.old →
         OnOk result (Does hosts asked asked world.old world.new [] [] (with_new_owner inside)) }
     ensures agrees { (asked : List HostPlace) → Agrees asked world.old → OnOk result (Agrees asked world.new) }
-    ensures signals { world.new.signals ≡ world.old.signals }
+    ensures signals { stores_of world.new ≡ stores_of world.old }
     ensures memory { IfErr result (λ e. e ≡ fault.NoMemory) }
 {
     match world.make_owner(inside) {
@@ -54,7 +55,7 @@ pub(crate) fn make_effect(
     ensures does { (hosts : Hosts) (asked : List HostPlace) → IsSound hosts asked world.old → OnOk result
         (Does hosts asked asked world.old world.new [] [] (with_new_effect (body_of world.old.tables.effects_made script []) inside)) }
     ensures agrees { (asked : List HostPlace) → Agrees asked world.old → OnOk result (Agrees asked world.new) }
-    ensures signals { world.new.signals ≡ world.old.signals }
+    ensures signals { stores_of world.new ≡ stores_of world.old }
     ensures memory { IfErr result (λ e. e ≡ fault.NoMemory) }
 {
     match world.make_effect(alloc, script, inside) {
@@ -75,7 +76,7 @@ pub(crate) fn make_page(world: &mut World, inside: Option<OwnerId>) -> Result<Pa
     ensures does { (hosts : Hosts) (asked : List HostPlace) → IsSound hosts asked world.old →
         OnOk result (Does hosts asked asked world.old world.new [] [] (with_new_page inside)) }
     ensures agrees { (asked : List HostPlace) → Agrees asked world.old → OnOk result (Agrees asked world.new) }
-    ensures signals { world.new.signals ≡ world.old.signals }
+    ensures signals { stores_of world.new ≡ stores_of world.old }
     ensures memory { IfErr result (λ e. e ≡ fault.NoMemory) }
 {
     match world.make_page(inside) {

@@ -12,9 +12,9 @@ use std::alloc::Global;
 
 // The rows of the list of a number; none of no fields where no list stands.
 fn rows_at(alloc: Global, world: &World, list: NodeId) -> Result<Rows, NoMemory>
-    ensures { IfOk result (λ rows. rows ≡ rows_at world.now.signals.graph.state.signals list) }
+    ensures { IfOk result (λ rows. rows ≡ rows_at world.now.graph.state.signals list) }
 {
-    match world.signals.graph.cell_value(list) {
+    match world.graph.cell_value(list) {
         Some(Value::Rows(rows)) => Ok(rows.copy()?),
         _ => new_rows(alloc, Vec::new(alloc)),
     }
@@ -31,7 +31,7 @@ pub fn edit_refusal(
     list: NodeId,
     edit: &RowEdit,
 ) -> Result<Option<Refusal>, NoMemory>
-    ensures { IfOk result (λ r. r ≡ edit_refusal edit.now (rows_at world.now.signals.graph.state.signals list)) }
+    ensures { IfOk result (λ r. r ≡ edit_refusal edit.now (rows_at world.now.graph.state.signals list)) }
 {
     let rows = rows_at(alloc, world, list)?;
     let refusal = refusal(&rows, edit)?;
@@ -49,8 +49,8 @@ pub(crate) fn edited_rows(
     list: NodeId,
     edit: &RowEdit,
 ) -> Result<Rows, NoMemory>
-    requires { edit_refusal edit.now (rows_at world.now.signals.graph.state.signals list) ≡ None }
-    ensures { IfOk result (λ rows. rows ≡ edited edit.now (rows_at world.now.signals.graph.state.signals list)) }
+    requires { edit_refusal edit.now (rows_at world.now.graph.state.signals list) ≡ None }
+    ensures { IfOk result (λ rows. rows ≡ edited edit.now (rows_at world.now.graph.state.signals list)) }
 {
     let rows = rows_at(alloc, world, list)?;
     let now = edited(alloc, &rows, edit)?;

@@ -155,7 +155,7 @@ impl Machine {
         requires alone { self.old.batch ≡ None }
         requires weight { weight self.old.world < 2 ^ 124 }
         requires agrees { Agrees (⟦<Shelf as Lent>⟧.asked shelf.old) self.old.world }
-        requires ruled { AreRuled (length rules.now) self.old.world.signals.graph.state.signals }
+        requires ruled { AreRuled (length rules.now) self.old.world.graph.state.signals }
         requires counted { ⟦<Shelf as Lent>⟧.counted shelf.old }
         requires room { most_asked (⟦<Shelf as Lent>⟧.asked shelf.old) < 2 ^ 124 }
         ensures steps { (hosts : Hosts) → ⟦<Shelf as Lent>⟧.answers hosts shelf.old →

@@ -97,7 +97,7 @@ fn taken_refusal(world: &World, shelf: &Shelf, place: u64) -> Option<Refusal>
     if shelf.len() <= place as usize {
         return Some(Refusal::HostPlace(place));
     }
-    if world.signals.is_free(shelf, place as usize) {
+    if world.is_free(shelf, place as usize) {
         None
     } else {
         Some(Refusal::HostTaken(place))
@@ -229,7 +229,7 @@ fn name_refusal(machine: &Machine, command: &Command) -> Result<Option<Refusal>,
 
 // The refusal of an edit that the rows of a list don't allow.
 fn rows_refusal(machine: &Machine, name: &Name, edit: &RowEdit) -> Result<Option<Refusal>, NoMemory>
-    ensures { IfOk result (λ r. r ≡ edit_refusal edit.now (rows_at machine.now.world.signals.graph.state.signals (number_of machine.now.names name.now))) }
+    ensures { IfOk result (λ r. r ≡ edit_refusal edit.now (rows_at machine.now.world.graph.state.signals (number_of machine.now.names name.now))) }
 {
     let list = NodeId::of(machine.names.number_of(name));
     let refusal = edit_refusal(machine.alloc, &machine.world, list, edit)?;
@@ -273,11 +273,7 @@ fn over_limit(machine: &Machine, command: &Command) -> Option<Refusal>
 {
     match command {
         Command::Cell { .. } | Command::List { .. } | Command::Computed { .. } => {
-            one_too_many(
-                MOST_NODES,
-                machine.world.signals.graph.live(),
-                LimitWord::Nodes,
-            )
+            one_too_many(MOST_NODES, machine.world.graph.live(), LimitWord::Nodes)
         }
         Command::Owner { .. } => one_too_many(
             MOST_OWNERS,
@@ -288,7 +284,7 @@ fn over_limit(machine: &Machine, command: &Command) -> Option<Refusal>
         Command::Watcher { .. } => {
             one_too_many(
                 MOST_WATCHERS,
-                machine.world.signals.watchers.live(),
+                machine.world.watchers.live(),
                 LimitWord::Watchers,
             )
         }
@@ -312,11 +308,11 @@ fn over_limit(machine: &Machine, command: &Command) -> Option<Refusal>
 
 // Whether a watcher watches a signal.
 fn is_watched(machine: &Machine, watcher: &Name, signal: &Name) -> bool
-    ensures { result ≡ watches machine.now.world.signals.watchers.watchers (number_of machine.now.names watcher.now) (number_of machine.now.names signal.now) }
+    ensures { result ≡ watches machine.now.world.watchers.watchers (number_of machine.now.names watcher.now) (number_of machine.now.names signal.now) }
 {
     let watcher = WatcherId::of(machine.names.number_of(watcher));
     let signal = NodeId::of(machine.names.number_of(signal));
-    machine.world.signals.watchers.watches(watcher, signal)
+    machine.world.watchers.watches(watcher, signal)
 }
 
 // The refusal of a signal that isn't watched.

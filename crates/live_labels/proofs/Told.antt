@@ -1,31 +1,23 @@
 -- What is told of events is told of what the plain world tells.
 use Rattle.std.proofs.Common.{◌≡◌, true, List, [], ◌∷◌, ◌++◌, refl, sym, ap, ◌∙◌}
 use Rattle.effect_model.specs.Worlds as told
-use Rattle.sig_effect.specs.declared.events.Event.{Event as SignalEvent}
-use Rattle.sig_effect.specs.declared.events.Event.TheVariants as signals
-use Rattle.sig_effect.specs.declared.events.Thing.TheVariants as thing
-use Rattle.sig_effect.specs.Events as below
-use Rattle.effect_world.specs.declared.events.Event.{Event}
-use Rattle.effect_world.specs.declared.events.Event.TheVariants as event
-use Rattle.effect_world.specs.Events.{AreTold, IsTold}
+use Rattle.sig_effect.specs.declared.events.Event.{Event}
+use Rattle.sig_effect.specs.declared.events.Event.TheVariants as event
+use Rattle.sig_effect.specs.Events.{AreTold, IsTold}
 use Rattle.live_entries.specs.declared.entry.Entry.{Entry}
 use Rattle.sig_base.specs.Words.{is_name, is_reserved}
 use Rattle.live_model.specs.Labels.{Labels, labels_after, nobody, relabelled}
 use Rattle.live_model.specs.Machine.{entries_of, event_entries}
-use Rattle.live_labels.specs.Entries.{entries_told, note_entry, renamed, signal_entries}
+use Rattle.live_labels.specs.Entries.{entries_told, note_entry, renamed}
 
 -- ---- entries
 
-signal_told : (l : Labels) (e : SignalEvent) (t : told.Event) → below.IsTold e t → signal_entries l e ≡ event_entries l t
-signal_told l (signals.Run n) t h = ap (λ x. note_entry l.signals x ∷ []) h.note ∙ ap (event_entries l) (sym h.ran)
-signal_told l (signals.Change n how) t h = ap (event_entries l) (sym h)
-signal_told l (signals.Notify n) t h = ap (event_entries l) (sym h)
-signal_told l (signals.Frozen ns) t h = ap (event_entries l) (sym h)
-signal_told l (signals.Dropped place asks) t h = ap (event_entries l) (sym h)
-signal_told l (signals.Gone x) t h = ap (event_entries l) (sym h)
-
 one_told : (l : Labels) (e : Event) (t : told.Event) → IsTold e t → entries_told l e ≡ event_entries l t
-one_told l (event.Signals e) t h = signal_told l e t h
+one_told l (event.Run n) t h = ap (λ x. note_entry l.signals x ∷ []) h.note ∙ ap (event_entries l) (sym h.ran)
+one_told l (event.Change n how) t h = ap (event_entries l) (sym h)
+one_told l (event.Notify n) t h = ap (event_entries l) (sym h)
+one_told l (event.Frozen ns) t h = ap (event_entries l) (sym h)
+one_told l (event.Dropped place asks) t h = ap (event_entries l) (sym h)
 one_told l (event.Log v) t h = ap (event_entries l) (sym h)
 one_told l (event.Body e reads) t h = ap (event_entries l) (sym h)
 one_told l (event.Fail e f) t h = ap (event_entries l) (sym h)
@@ -38,17 +30,12 @@ one_told l (event.Noted e) t h = ap (event_entries l) (sym h.noted)
 
 -- ---- labels
 
-signal_renames : (l : Labels) (e : SignalEvent) (t : told.Event) → below.IsTold e t → l ≡ relabelled t l
-signal_renames l (signals.Run n) t h = ap (λ u. relabelled u l) (sym h.ran)
-signal_renames l (signals.Change n how) t h = ap (λ u. relabelled u l) (sym h)
-signal_renames l (signals.Notify n) t h = ap (λ u. relabelled u l) (sym h)
-signal_renames l (signals.Frozen ns) t h = ap (λ u. relabelled u l) (sym h)
-signal_renames l (signals.Dropped place asks) t h = ap (λ u. relabelled u l) (sym h)
-signal_renames l (signals.Gone (thing.Signal n)) t h = ap (λ u. relabelled u l) (sym h)
-signal_renames l (signals.Gone (thing.Watcher n)) t h = ap (λ u. relabelled u l) (sym h)
-
 one_renames : (l : Labels) (e : Event) (t : told.Event) → IsTold e t → renamed e l ≡ relabelled t l
-one_renames l (event.Signals e) t h = signal_renames l e t h
+one_renames l (event.Run n) t h = ap (λ u. relabelled u l) (sym h.ran)
+one_renames l (event.Change n how) t h = ap (λ u. relabelled u l) (sym h)
+one_renames l (event.Notify n) t h = ap (λ u. relabelled u l) (sym h)
+one_renames l (event.Frozen ns) t h = ap (λ u. relabelled u l) (sym h)
+one_renames l (event.Dropped place asks) t h = ap (λ u. relabelled u l) (sym h)
 one_renames l (event.Log v) t h = ap (λ u. relabelled u l) (sym h)
 one_renames l (event.Body e reads) t h = ap (λ u. relabelled u l) (sym h)
 one_renames l (event.Fail e f) t h = ap (λ u. relabelled u l) (sym h)

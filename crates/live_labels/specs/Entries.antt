@@ -3,11 +3,8 @@ use Rattle.std.specs.Prelude.{List, ℕ, [], ◌∷◌, map}
 use Rattle.effect_model.specs.Worlds.{gone, made_child}
 use Rattle.effect_tables.specs.Bodies.{thing_of}
 use Rattle.sig_computed.specs.Notes.{Note, note_of}
-use Rattle.sig_effect.specs.declared.events.Event.{Event as SignalEvent}
-use Rattle.sig_effect.specs.declared.events.Event.TheVariants as signals
-use Rattle.sig_effect.specs.Events as ends
-use Rattle.effect_world.specs.declared.events.Event.{Event}
-use Rattle.effect_world.specs.declared.events.Event.TheVariants as event
+use Rattle.sig_effect.specs.declared.events.Event.{Event}
+use Rattle.sig_effect.specs.declared.events.Event.TheVariants as event
 use Rattle.live_entries.specs.declared.entry.Entry.{Entry}
 use Rattle.live_entries.specs.declared.entry.Entry.TheVariants as entry
 use Rattle.live_entries.specs.declared.refusal.Refusal.TheVariants as refusal
@@ -17,18 +14,13 @@ use Rattle.live_model.specs.Labels.{Labels, label_at, label_of, name_at, relabel
 abbrev pub note_entry : List (List ℕ) → Note → Entry
 note_entry names n = entry.Run (name_at names n.name) (map (name_at names) n.reads) n.outcome
 
--- what is told of an event of signals and watchers; a change isn't told
-abbrev pub signal_entries : Labels → SignalEvent → List Entry
-signal_entries labels (signals.Run n) = note_entry labels.signals (note_of n) ∷ []
-signal_entries labels (signals.Change n how) = []
-signal_entries labels (signals.Notify w) = entry.Notify (name_at labels.watchers w) ∷ []
-signal_entries labels (signals.Frozen ws) = entry.Error (refusal.Frozen (map (name_at labels.watchers) ws.items)) ∷ []
-signal_entries labels (signals.Dropped place asks) = entry.Drop place asks ∷ []
-signal_entries labels (signals.Gone t) = entry.Gone (label_of labels (ends.thing_of t)) ∷ []
-
 -- what is told of an event; a change of a signal, the making of a child and the noting of a cleanup aren't told
 abbrev pub entries_told : Labels → Event → List Entry
-entries_told labels (event.Signals e) = signal_entries labels e
+entries_told labels (event.Run n) = note_entry labels.signals (note_of n) ∷ []
+entries_told labels (event.Change n how) = []
+entries_told labels (event.Notify w) = entry.Notify (name_at labels.watchers w) ∷ []
+entries_told labels (event.Frozen ws) = entry.Error (refusal.Frozen (map (name_at labels.watchers) ws.items)) ∷ []
+entries_told labels (event.Dropped place asks) = entry.Drop place asks ∷ []
 entries_told labels (event.Log v) = entry.Log v ∷ []
 entries_told labels (event.Body e reads) = entry.Effect (label_at labels.effects e) (map (name_at labels.signals) reads.items) ∷ []
 entries_told labels (event.Fail e f) = entry.Fail (label_at labels.effects e) f ∷ []

@@ -3,13 +3,12 @@ ghost use Rattle.std.specs.Prelude.{◌≡◌, ◌++◌, List, IfOk, OnOk, map, 
 ghost use Rattle.effect_model.specs.Worlds as plain;
 ghost use Rattle.effect_tables.specs.Bodies.{thing_of};
 ghost use Rattle.sig_computed.specs.Notes.{note_of};
-ghost use Rattle.sig_effect.specs.Events as signals;
-ghost use Rattle.effect_world.specs.Events.{AreTold};
+ghost use Rattle.sig_effect.specs.Events.{AreTold};
 ghost use Rattle.live_entries.specs.declared.entry.Entry.TheVariants as entry;
 ghost use Rattle.live_entries.specs.declared.refusal.Refusal.TheVariants as refusal;
 ghost use Rattle.live_model.specs.Labels.{label_at, label_of, labels_after, name_at, relabelled};
 ghost use Rattle.live_model.specs.Machine.{entries_of};
-ghost use Rattle.live_labels.specs.Entries.{entries_told, note_entry, renamed, signal_entries};
+ghost use Rattle.live_labels.specs.Entries.{entries_told, note_entry, renamed};
 ghost use Rattle.live_labels.specs.Views.{labels_of, KeepsNames};
 
 use crate::labels::Labels;
@@ -17,11 +16,10 @@ use crate::names::{
     label_at, label_of, name_at, name_child, names_of_signals, names_of_watchers, unname_child,
 };
 use effect_tables::Thing;
-use effect_world::Event;
 use live_entries::{Entry, Refusal};
 use sig_base::{EffectId, Fault, Name, NoMemory, NodeId, WatcherId};
 use sig_computed::RunNote;
-use sig_effect::{Event as SignalEvent, Thing as SignalThing};
+use sig_effect::Event;
 use std::alloc::Global;
 
 // What is told of a run.
@@ -59,52 +57,6 @@ fn gone_entry(alloc: Global, labels: &Labels, thing: &Thing) -> Result<Entry, No
 {
     let label = label_of(alloc, labels, thing)?;
     Ok(Entry::Gone(label))
-}
-
-// What is told of the end of a signal or a watcher.
-fn end_entry(alloc: Global, labels: &Labels, thing: SignalThing) -> Result<Entry, NoMemory>
-    ensures { IfOk result (λ e. e ≡ entry.Gone (label_of (labels_of labels.now) (signals.thing_of thing))) }
-{
-    match thing {
-        SignalThing::Signal(id) => {
-            let entry = gone_entry(alloc, labels, &Thing::Signal(id))?;
-            Ok(entry)
-        }
-        SignalThing::Watcher(id) => {
-            let entry = gone_entry(alloc, labels, &Thing::Watcher(id))?;
-            Ok(entry)
-        }
-    }
-}
-
-// What is told of an event of signals and watchers, if it is told.
-fn signal_entry(
-    alloc: Global,
-    labels: &Labels,
-    event: &SignalEvent,
-) -> Result<Option<Entry>, NoMemory>
-    ensures { IfOk result (λ o. option_to_list o ≡ signal_entries (labels_of labels.now) event.now) }
-{
-    match event {
-        SignalEvent::Run(note) => {
-            let entry = run_entry(alloc, &labels.signals, note)?;
-            Ok(Some(entry))
-        }
-        SignalEvent::Change(_, _) => Ok(None),
-        SignalEvent::Notify(watcher) => {
-            let name = name_at(alloc, &labels.watchers, watcher.number())?;
-            Ok(Some(Entry::Notify(name)))
-        }
-        SignalEvent::Frozen(watchers) => {
-            let entry = frozen_entry(alloc, &labels.watchers, watchers)?;
-            Ok(Some(entry))
-        }
-        SignalEvent::Dropped(place, asks) => Ok(Some(Entry::Drop(*place as u64, *asks))),
-        SignalEvent::Gone(thing) => {
-            let entry = end_entry(alloc, labels, *thing)?;
-            Ok(Some(entry))
-        }
-    }
 }
 
 // What is told of an evaluated body.
@@ -152,10 +104,20 @@ fn entry_of(alloc: Global, labels: &Labels, event: &Event) -> Result<Option<Entr
     ensures { IfOk result (λ o. option_to_list o ≡ entries_told (labels_of labels.now) event.now) }
 {
     match event {
-        Event::Signals(event) => {
-            let entry = signal_entry(alloc, labels, event)?;
-            Ok(entry)
+        Event::Run(note) => {
+            let entry = run_entry(alloc, &labels.signals, note)?;
+            Ok(Some(entry))
         }
+        Event::Change(_, _) => Ok(None),
+        Event::Notify(watcher) => {
+            let name = name_at(alloc, &labels.watchers, watcher.number())?;
+            Ok(Some(Entry::Notify(name)))
+        }
+        Event::Frozen(watchers) => {
+            let entry = frozen_entry(alloc, &labels.watchers, watchers)?;
+            Ok(Some(entry))
+        }
+        Event::Dropped(place, asks) => Ok(Some(Entry::Drop(*place as u64, *asks))),
         Event::Log(value) => {
             let value = value.copy()?;
             Ok(Some(Entry::Log(value)))

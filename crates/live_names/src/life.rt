@@ -46,7 +46,7 @@ pub fn lives(world: &World, thing: &Thing) -> bool
         Thing::Owner(id) => world.tables.is_open(Some(*id)),
         Thing::Effect(id) => is_effect_among(&world.tables.effects, *id),
         Thing::Page(id) => is_page_among(&world.tables.pages, *id),
-        Thing::Watcher(id) => world.signals.watchers.is_alive(*id),
+        Thing::Watcher(id) => world.watchers.is_alive(*id),
     }
 }
 

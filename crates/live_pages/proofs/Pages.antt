@@ -19,10 +19,9 @@ use Rattle.tpl_model.specs.Sources.{template_shape}
 use Rattle.sig_host.specs.Hosts.{HostPlace, most_asked}
 use Rattle.sig_computed.specs.Notes.{note_of}
 use Rattle.sig_computed.specs.declared.notes.RunNote.{RunNote}
-use Rattle.sig_effect.specs.declared.events.Event.TheVariants as signal
 use Rattle.sig_effect.specs.Stores.{environment}
-use Rattle.effect_world.specs.declared.events.Event.{Event}
-use Rattle.effect_world.specs.declared.events.Event.TheVariants as event
+use Rattle.sig_effect.specs.declared.events.Event.{Event}
+use Rattle.sig_effect.specs.declared.events.Event.TheVariants as event
 use Rattle.effect_world.specs.declared.world.World.{World}
 use Rattle.effect_world.specs.Stores.{Agrees, Does, IsSound}
 use Rattle.effect_world.specs.Wholes.{whole_of}
@@ -44,7 +43,7 @@ use Rattle.live_pages.specs.Updates.{IsScratched, IsShown, Settles}
 
 -- the events of notes
 abbrev pub noted : List RunNote → List Event
-noted notes = map event.Signals (map signal.Run notes)
+noted notes = map event.Run notes
 
 -- what is told of notes is told of the events that they are, and they rename nothing
 notes_told : (l : Labels) (notes : List RunNote) → map (note_entry l.signals) (map note_of notes) ≡ told_by l (noted notes)
@@ -72,14 +71,14 @@ settled_labels hosts slacks asked later old new names notes l d =
 -- a page was made of a template
 pub fresh_made : (hosts : Hosts) (slacks : List ℕ) (asked later : List HostPlace) (l : Labels) (t : Template) (old new : World) (made : NumberedPage) (edits : List Op)
     (before after : List Entry) (notes : List RunNote) →
-    Does hosts asked later old new [] (noted notes) (settle (environment hosts slacks) (asked_of hosts old.signals.graph.state.signals t)) →
+    Does hosts asked later old new [] (noted notes) (settle (environment hosts slacks) (asked_of hosts old.graph.state.signals t)) →
     made ≡ (updated_to (environment hosts slacks) asked old t paged.bare).page → edits ≡ (updated_to (environment hosts slacks) asked old t paged.bare).ops →
     after ≡ before ++ map (note_entry l.signals) (map note_of notes) →
     IsFresh (environment hosts slacks) l t asked later old new made edits before after
 fresh_made hosts slacks asked later l t old new made edits before after notes d page ops tells = record {
   world = d.whole;
-  told = tells ∙ ap (λ (es : List Entry). before ++ es) (settled_told hosts slacks asked later old new (asked_of hosts old.signals.graph.state.signals t) notes l d);
-  labels = settled_labels hosts slacks asked later old new (asked_of hosts old.signals.graph.state.signals t) notes l d;
+  told = tells ∙ ap (λ (es : List Entry). before ++ es) (settled_told hosts slacks asked later old new (asked_of hosts old.graph.state.signals t) notes l d);
+  labels = settled_labels hosts slacks asked later old new (asked_of hosts old.graph.state.signals t) notes l d;
   page = page;
   ops = ops;
   sound = d.sound;
@@ -110,13 +109,13 @@ mounted_made env l templates asked later old new name t x made edits before midd
 -- the tree of what a template shows was made
 pub tree_made : (hosts : Hosts) (slacks : List ℕ) (asked later : List HostPlace) (l : Labels) (t : Template) (old new : World) (made : Forest Kind)
     (before after : List Entry) (notes : List RunNote) →
-    Does hosts asked later old new [] (noted notes) (settle (environment hosts slacks) (asked_of hosts old.signals.graph.state.signals t)) →
+    Does hosts asked later old new [] (noted notes) (settle (environment hosts slacks) (asked_of hosts old.graph.state.signals t)) →
     made ≡ tree_of (updated_to (environment hosts slacks) asked old t paged.bare).page → after ≡ before ++ map (note_entry l.signals) (map note_of notes) →
     IsFreshTree (environment hosts slacks) l t asked later old new made before after
 tree_made hosts slacks asked later l t old new made before after notes d tree tells = record {
   world = d.whole;
-  told = tells ∙ ap (λ (es : List Entry). before ++ es) (settled_told hosts slacks asked later old new (asked_of hosts old.signals.graph.state.signals t) notes l d);
-  labels = settled_labels hosts slacks asked later old new (asked_of hosts old.signals.graph.state.signals t) notes l d;
+  told = tells ∙ ap (λ (es : List Entry). before ++ es) (settled_told hosts slacks asked later old new (asked_of hosts old.graph.state.signals t) notes l d);
+  labels = settled_labels hosts slacks asked later old new (asked_of hosts old.graph.state.signals t) notes l d;
   tree = tree;
   sound = d.sound;
 }
@@ -133,20 +132,20 @@ scratched_made env l templates asked later old new t x made bytes before after i
       told = f.told;
       labels = f.labels;
       html = same ∙ ap (λ (tree : Forest Kind). html_of tree) f.tree
-          ∙ page_law paged.bare (template_shape env.hosts old.signals.graph.state.signals k.lines k.links);
+          ∙ page_law paged.bare (template_shape env.hosts old.graph.state.signals k.lines k.links);
       sound = f.sound;
     }
 
 -- a page was brought up to date
 pub page_up : (hosts : Hosts) (slacks : List ℕ) (asked later : List HostPlace) (l : Labels) (templates : List Template) (old new : World) (p q : Mounted)
     (edits : List Op) (before after : List Entry) (notes : List RunNote) →
-    Does hosts asked later old new [] (noted notes) (settle (environment hosts slacks) (asked_of hosts old.signals.graph.state.signals (template_in templates p.template))) →
+    Does hosts asked later old new [] (noted notes) (settle (environment hosts slacks) (asked_of hosts old.graph.state.signals (template_in templates p.template))) →
     page_of q ≡ updated_page (environment hosts slacks) (bare l asked old templates) (page_of p) →
     edits ≡ (update_of (environment hosts slacks) (bare l asked old templates) p.template (page_of p).content).ops →
     after ≡ (before ++ map (note_entry l.signals) (map note_of notes)) ++ news_of (page_of q) edits →
     IsUpdated (environment hosts slacks) l templates asked later old new p q before after
 page_up hosts slacks asked later l templates old new p q edits before after notes d page ops tells =
-    let names : List ℕ = asked_of hosts old.signals.graph.state.signals (template_in templates p.template) in
+    let names : List ℕ = asked_of hosts old.graph.state.signals (template_in templates p.template) in
     let runs : List Entry = (after_reading (environment hosts slacks) l asked old (template_in templates p.template)).entries in
     record {
       world = d.whole;
@@ -176,7 +175,7 @@ pub record UpTo (before after : Hosts → Type 0) (labels : Labels) (asked later
   pub numbers : numbers_of items ≡ numbers_of all
   pub stays : Settles first now
   pub agrees : Agrees later now
-  pub worn : now.signals.graph.state.worn ≤ first.signals.graph.state.worn + at * 2 ^ 64
+  pub worn : now.graph.state.worn ≤ first.graph.state.worn + at * 2 ^ 64
   pub most : most_asked later ≤ most_asked asked + at * 2 ^ 71
   pub answers : (hosts : Hosts) → before hosts → after hosts
   pub sound : (hosts : Hosts) → before hosts → IsSound hosts asked first → IsSound hosts later now
@@ -246,7 +245,7 @@ pub up_to_more : (before middle after : Hosts → Type 0) (labels : Labels) (ask
     IsUpdated (environment hosts slacks) labels templates later last now w p q tells more) →
     ((templates : List Template) → IsShown templates p → IsShown templates q) →
     ((hosts : Hosts) → middle hosts → IsSound hosts later now → IsSound hosts last w) →
-    q.number ≡ p.number → Settles now w → Agrees last w → w.signals.graph.state.worn ≤ now.signals.graph.state.worn + 2 ^ 64 → most_asked last ≤ most_asked later + 2 ^ 71 →
+    q.number ≡ p.number → Settles now w → Agrees last w → w.graph.state.worn ≤ now.graph.state.worn + 2 ^ 64 → most_asked last ≤ most_asked later + 2 ^ 71 →
     ((hosts : Hosts) → middle hosts → after hosts) →
     UpTo before after labels asked last first w all (slice_set items at q) (at + 1) more
 up_to_more before middle after labels asked later last first now w all items at tells more p q d u lt is up shown sound number stays agrees worn most answers =

@@ -68,9 +68,9 @@ bare labels asked w templates = with_pages (record (plain.empty 0) { templates =
 
 -- the world after settling: signals, watchers and tables stay, and as many signals are made as before
 pub record Settles (old new : World) : Type 0 where
-  pub signals : new.signals.graph.state.signals ≡ old.signals.graph.state.signals
-  pub given : new.signals.graph.given ≡ old.signals.graph.given
-  pub watchers : new.signals.watchers ≡ old.signals.watchers
+  pub signals : new.graph.state.signals ≡ old.graph.state.signals
+  pub given : new.graph.given ≡ old.graph.given
+  pub watchers : new.watchers ≡ old.watchers
   pub tables : new.tables ≡ old.tables
 
 -- what the names that a template reads come to where they are settled

@@ -47,7 +47,7 @@ fn fresh(
     requires template { IsTemplate (lines_of linked.now.template) }
     requires agrees { Agrees (⟦<Shelf as Lent>⟧.asked shelf.old) world.old }
     requires counted { ⟦<Shelf as Lent>⟧.counted shelf.old }
-    requires worn { world.old.signals.graph.state.worn < 2 ^ 126 }
+    requires worn { world.old.graph.state.worn < 2 ^ 126 }
     requires room { most_asked (⟦<Shelf as Lent>⟧.asked shelf.old) < 2 ^ 126 }
     ensures page { (hosts : Hosts) (slacks : List ℕ) → ⟦<Shelf as Lent>⟧.answers hosts shelf.old →
         IsSound hosts (⟦<Shelf as Lent>⟧.asked shelf.old) world.old →
@@ -57,7 +57,7 @@ fn fresh(
     ensures standing { IfOk result (λ made. IsStanding (standing made.0.value)) }
     ensures world { OnOk result (Settles world.old world.new) }
     ensures agrees { OnOk result (Agrees (⟦<Shelf as Lent>⟧.asked shelf.new) world.new) }
-    ensures worn { OnOk result (world.new.signals.graph.state.worn ≤ world.old.signals.graph.state.worn + 2 ^ 64) }
+    ensures worn { OnOk result (world.new.graph.state.worn ≤ world.old.graph.state.worn + 2 ^ 64) }
     ensures answers { (hosts : Hosts) → ⟦<Shelf as Lent>⟧.answers hosts shelf.old → OnOk result (⟦<Shelf as Lent>⟧.answers hosts shelf.new) }
     ensures counted { OnOk result (⟦<Shelf as Lent>⟧.counted shelf.new) }
     ensures most { OnOk result (most_asked (⟦<Shelf as Lent>⟧.asked shelf.new) ≤ most_asked (⟦<Shelf as Lent>⟧.asked shelf.old) + 2 ^ 71) }
@@ -65,13 +65,7 @@ fn fresh(
     let alloc = *told.allocator();
     let mut notes = Vec::new(alloc);
     let links = copied(alloc, &linked.links)?;
-    let (page, ops) = Page::mount(
-        &mut world.signals.graph,
-        shelf,
-        &linked.template,
-        links,
-        &mut notes,
-    )?;
+    let (page, ops) = Page::mount(&mut world.graph, shelf, &linked.template, links, &mut notes)?;
     let page = Box::new(alloc, page)?;
     let _count = notes.len();
     tell_runs(told, &labels.signals, &notes)?;
@@ -97,7 +91,7 @@ pub fn mount(
     requires templates { AreTemplates templates.now }
     requires agrees { Agrees (⟦<Shelf as Lent>⟧.asked shelf.old) world.old }
     requires counted { ⟦<Shelf as Lent>⟧.counted shelf.old }
-    requires worn { world.old.signals.graph.state.worn < 2 ^ 126 }
+    requires worn { world.old.graph.state.worn < 2 ^ 126 }
     requires room { most_asked (⟦<Shelf as Lent>⟧.asked shelf.old) < 2 ^ 126 }
     ensures page { (hosts : Hosts) (slacks : List ℕ) → ⟦<Shelf as Lent>⟧.answers hosts shelf.old →
         IsSound hosts (⟦<Shelf as Lent>⟧.asked shelf.old) world.old →
@@ -107,7 +101,7 @@ pub fn mount(
         (template_in (map template_of templates.now) template).links (standing page)) }
     ensures world { OnOk result (Settles world.old world.new) }
     ensures agrees { OnOk result (Agrees (⟦<Shelf as Lent>⟧.asked shelf.new) world.new) }
-    ensures worn { OnOk result (world.new.signals.graph.state.worn ≤ world.old.signals.graph.state.worn + 2 ^ 64) }
+    ensures worn { OnOk result (world.new.graph.state.worn ≤ world.old.graph.state.worn + 2 ^ 64) }
     ensures answers { (hosts : Hosts) → ⟦<Shelf as Lent>⟧.answers hosts shelf.old → OnOk result (⟦<Shelf as Lent>⟧.answers hosts shelf.new) }
     ensures counted { OnOk result (⟦<Shelf as Lent>⟧.counted shelf.new) }
     ensures most { OnOk result (most_asked (⟦<Shelf as Lent>⟧.asked shelf.new) ≤ most_asked (⟦<Shelf as Lent>⟧.asked shelf.old) + 2 ^ 71) }
@@ -130,7 +124,7 @@ fn fresh_tree(
     requires template { IsTemplate (lines_of linked.now.template) }
     requires agrees { Agrees (⟦<Shelf as Lent>⟧.asked shelf.old) world.old }
     requires counted { ⟦<Shelf as Lent>⟧.counted shelf.old }
-    requires worn { world.old.signals.graph.state.worn < 2 ^ 126 }
+    requires worn { world.old.graph.state.worn < 2 ^ 126 }
     requires room { most_asked (⟦<Shelf as Lent>⟧.asked shelf.old) < 2 ^ 126 }
     ensures tree { (hosts : Hosts) (slacks : List ℕ) → ⟦<Shelf as Lent>⟧.answers hosts shelf.old →
         IsSound hosts (⟦<Shelf as Lent>⟧.asked shelf.old) world.old →
@@ -138,14 +132,14 @@ fn fresh_tree(
         (⟦<Shelf as Lent>⟧.asked shelf.new) world.old world.new tree told.old.items told.new.items) }
     ensures world { OnOk result (Settles world.old world.new) }
     ensures agrees { OnOk result (Agrees (⟦<Shelf as Lent>⟧.asked shelf.new) world.new) }
-    ensures worn { OnOk result (world.new.signals.graph.state.worn ≤ world.old.signals.graph.state.worn + 2 ^ 64) }
+    ensures worn { OnOk result (world.new.graph.state.worn ≤ world.old.graph.state.worn + 2 ^ 64) }
     ensures answers { (hosts : Hosts) → ⟦<Shelf as Lent>⟧.answers hosts shelf.old → OnOk result (⟦<Shelf as Lent>⟧.answers hosts shelf.new) }
     ensures counted { OnOk result (⟦<Shelf as Lent>⟧.counted shelf.new) }
     ensures most { OnOk result (most_asked (⟦<Shelf as Lent>⟧.asked shelf.new) ≤ most_asked (⟦<Shelf as Lent>⟧.asked shelf.old) + 2 ^ 71) }
 {
     let mut notes = Vec::new(*told.allocator());
     let tree = tree_from_scratch(
-        &mut world.signals.graph,
+        &mut world.graph,
         shelf,
         &linked.template,
         &linked.links,
@@ -173,7 +167,7 @@ pub fn scratch(
     requires templates { AreTemplates templates.now }
     requires agrees { Agrees (⟦<Shelf as Lent>⟧.asked shelf.old) world.old }
     requires counted { ⟦<Shelf as Lent>⟧.counted shelf.old }
-    requires worn { world.old.signals.graph.state.worn < 2 ^ 126 }
+    requires worn { world.old.graph.state.worn < 2 ^ 126 }
     requires room { most_asked (⟦<Shelf as Lent>⟧.asked shelf.old) < 2 ^ 126 }
     ensures html { (hosts : Hosts) (slacks : List ℕ) → ⟦<Shelf as Lent>⟧.answers hosts shelf.old →
         IsSound hosts (⟦<Shelf as Lent>⟧.asked shelf.old) world.old →
@@ -181,7 +175,7 @@ pub fn scratch(
         (⟦<Shelf as Lent>⟧.asked shelf.new) world.old world.new template html told.old.items told.new.items) }
     ensures world { OnOk result (Settles world.old world.new) }
     ensures agrees { OnOk result (Agrees (⟦<Shelf as Lent>⟧.asked shelf.new) world.new) }
-    ensures worn { OnOk result (world.new.signals.graph.state.worn ≤ world.old.signals.graph.state.worn + 2 ^ 64) }
+    ensures worn { OnOk result (world.new.graph.state.worn ≤ world.old.graph.state.worn + 2 ^ 64) }
     ensures answers { (hosts : Hosts) → ⟦<Shelf as Lent>⟧.answers hosts shelf.old → OnOk result (⟦<Shelf as Lent>⟧.answers hosts shelf.new) }
     ensures counted { OnOk result (⟦<Shelf as Lent>⟧.counted shelf.new) }
     ensures most { OnOk result (most_asked (⟦<Shelf as Lent>⟧.asked shelf.new) ≤ most_asked (⟦<Shelf as Lent>⟧.asked shelf.old) + 2 ^ 71) }

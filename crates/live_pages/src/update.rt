@@ -32,7 +32,7 @@ fn bring_up(
     requires agrees { Agrees (⟦<Shelf as Lent>⟧.asked shelf.old) world.old }
     requires counted { ⟦<Shelf as Lent>⟧.counted shelf.old }
     requires stands { IsStanding (standing page.old.page) }
-    requires worn { world.old.signals.graph.state.worn < 2 ^ 126 }
+    requires worn { world.old.graph.state.worn < 2 ^ 126 }
     requires room { most_asked (⟦<Shelf as Lent>⟧.asked shelf.old) < 2 ^ 126 }
     ensures page { (hosts : Hosts) (slacks : List ℕ) (templates : List Template) → ⟦<Shelf as Lent>⟧.answers hosts shelf.old →
         IsSound hosts (⟦<Shelf as Lent>⟧.asked shelf.old) world.old → IsShown templates page.old →
@@ -46,15 +46,13 @@ fn bring_up(
     ensures agrees { OnOk result (Agrees (⟦<Shelf as Lent>⟧.asked shelf.new) world.new) }
     ensures stands { OnOk result (IsStanding (standing page.new.page)) }
     ensures number { OnOk result (page.new.number ≡ page.old.number) }
-    ensures worn { OnOk result (world.new.signals.graph.state.worn ≤ world.old.signals.graph.state.worn + 2 ^ 64) }
+    ensures worn { OnOk result (world.new.graph.state.worn ≤ world.old.graph.state.worn + 2 ^ 64) }
     ensures answers { (hosts : Hosts) → ⟦<Shelf as Lent>⟧.answers hosts shelf.old → OnOk result (⟦<Shelf as Lent>⟧.answers hosts shelf.new) }
     ensures counted { OnOk result (⟦<Shelf as Lent>⟧.counted shelf.new) }
     ensures most { OnOk result (most_asked (⟦<Shelf as Lent>⟧.asked shelf.new) ≤ most_asked (⟦<Shelf as Lent>⟧.asked shelf.old) + 2 ^ 71) }
 {
     let mut notes = Vec::new(*told.allocator());
-    let ops = page
-        .page
-        .update(&mut world.signals.graph, shelf, &mut notes)?;
+    let ops = page.page.update(&mut world.graph, shelf, &mut notes)?;
     let _count = notes.len();
     tell_runs(told, &labels.signals, &notes)?;
     tell_news(told, page, ops)?;
@@ -78,7 +76,7 @@ pub fn bring_all_up(
     requires counted { ⟦<Shelf as Lent>⟧.counted shelf.old }
     requires stand { AreStanding pages.old.items }
     requires few { length pages.old.items ≤ MOST_PAGES }
-    requires worn { world.old.signals.graph.state.worn < 2 ^ 125 }
+    requires worn { world.old.graph.state.worn < 2 ^ 125 }
     requires room { most_asked (⟦<Shelf as Lent>⟧.asked shelf.old) < 2 ^ 125 }
     ensures pages { (hosts : Hosts) (slacks : List ℕ) (m : Machine) → ⟦<Shelf as Lent>⟧.answers hosts shelf.old →
         IsSound hosts (⟦<Shelf as Lent>⟧.asked shelf.old) world.old → AreShown m.templates pages.old.items →
@@ -91,7 +89,7 @@ pub fn bring_all_up(
     ensures world { OnOk result (Settles world.old world.new) }
     ensures agrees { OnOk result (Agrees (⟦<Shelf as Lent>⟧.asked shelf.new) world.new) }
     ensures numbers { OnOk result (numbers_of pages.new.items ≡ numbers_of pages.old.items) }
-    ensures worn { OnOk result (world.new.signals.graph.state.worn ≤ world.old.signals.graph.state.worn + 2 ^ 68) }
+    ensures worn { OnOk result (world.new.graph.state.worn ≤ world.old.graph.state.worn + 2 ^ 68) }
     ensures answers { (hosts : Hosts) → ⟦<Shelf as Lent>⟧.answers hosts shelf.old → OnOk result (⟦<Shelf as Lent>⟧.answers hosts shelf.new) }
     ensures counted { OnOk result (⟦<Shelf as Lent>⟧.counted shelf.new) }
     ensures most { OnOk result (most_asked (⟦<Shelf as Lent>⟧.asked shelf.new) ≤ most_asked (⟦<Shelf as Lent>⟧.asked shelf.old) + 2 ^ 75) }

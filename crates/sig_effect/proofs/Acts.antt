@@ -9,20 +9,18 @@ use Rattle.signal_model.specs.Kept.{AreKept}
 use Rattle.signal_model.proofs.Shared.{tested}
 use Rattle.signal_laws.proofs.Shared.{cell_law, computed_law}
 use Rattle.effect_model.specs.Worlds as plain
-use Rattle.effect_model.specs.Worlds.{HostState, Refused, dropped_host, lives, used, unused}
 use Rattle.effect_model.specs.Acts.{host_of, host_refused, is_free, with_use}
 use Rattle.effect_model.specs.Commands.{new_world, with_new_cell, with_new_computed}
 use Rattle.effect_model.specs.Watchers.{at_rest}
 use Rattle.sig_host.specs.Hosts.{HostPlace, count_at, is_there as is_there_at}
 use Rattle.sig_nodes.specs.Answers.{host_here, uses_host}
-use Rattle.sig_nodes.specs.States.{Seen, State, Makes, Becomes, are_there, is_computing, is_given, progress_at}
+use Rattle.sig_nodes.specs.States.{Seen, State, Makes, is_computing, is_given}
 use Rattle.sig_nodes.specs.States as states
 use Rattle.sig_watcher.specs.Tables.{Table}
 use Rattle.sig_computed.specs.Asked.{AreThere}
 use Rattle.sig_effect.specs.declared.events.Event.{Event}
-use Rattle.sig_effect.specs.declared.world.World.{World}
 use Rattle.sig_effect.specs.Events.{Tells}
-use Rattle.sig_effect.specs.Wholes.{host_states, whole, whole_of}
+use Rattle.sig_effect.specs.Wholes.{SignalStores, host_states, whole, whole_of}
 use Rattle.sig_effect.specs.Stores.{Agrees, AreListed, AreOwn, AreUnasked, AreWatched, Does, IsSound}
 use Rattle.sig_effect.proofs.HostStates.{free_at}
 use Rattle.sig_effect.proofs.Signals.{gone_host, none_there, cell_beside, cell_made, computed_beside, computed_made}
@@ -45,7 +43,7 @@ whole_is asked g t w h =
     (λ i. record (new_world 0) { signals = h.signals i; memos = h.memos i; host_states = h.states i; watchers = h.watchers i; made = h.made i }) ∙ h.rest
 
 -- an act that comes to a plain world that the stores stand for
-pub does_by : (hosts : Hosts) (asked later : List HostPlace) (old new : World) (before after : List Event) (act : plain.World → plain.World) (w : plain.World) →
+pub does_by : (hosts : Hosts) (asked later : List HostPlace) (old new : SignalStores) (before after : List Event) (act : plain.World → plain.World) (w : plain.World) →
     act (whole_of asked old) ≡ w → IsWhole later new.graph new.watchers w → Tells before after w.told → IsSound hosts later new →
     Does hosts asked later old new before after act
 does_by hosts asked later old new before after act w is whole tells sound = record {
@@ -60,7 +58,7 @@ tells_none before = record { more = []; behind = sym (append-nil before); each =
 
 -- ---- a cell is made
 
-pub cell_does : (hosts : Hosts) (asked : List HostPlace) (old new : World) (value : Value) (rule : Option ℕ) (id : ℕ) →
+pub cell_does : (hosts : Hosts) (asked : List HostPlace) (old new : SignalStores) (value : Value) (rule : Option ℕ) (id : ℕ) →
     Makes old.graph new.graph id (states.with_new_cell old.graph.state (record { name = id; value = value; rule = rule })) → new.watchers ≡ old.watchers →
     IsSound hosts asked old → Does hosts asked asked old new [] [] (with_new_cell value rule None)
 cell_does hosts asked old new value rule id m same sound =
@@ -82,7 +80,7 @@ cell_does hosts asked old new value rule id m same sound =
       unasked = subst (λ (v : Signals). AreUnasked asked v) (sym signals) (record { never = sound.unasked.never });
     })
 
-pub cell_agrees : (asked : List HostPlace) (old new : World) (value : Value) (rule : Option ℕ) (id : ℕ) →
+pub cell_agrees : (asked : List HostPlace) (old new : SignalStores) (value : Value) (rule : Option ℕ) (id : ℕ) →
     Makes old.graph new.graph id (states.with_new_cell old.graph.state (record { name = id; value = value; rule = rule })) → new.watchers ≡ old.watchers →
     Agrees asked old → Agrees asked new
 cell_agrees asked old new value rule id m same a =
@@ -109,7 +107,7 @@ cell_agrees asked old new value rule id m same a =
 -- ---- a computed is made
 
 -- a host formula that isn't refused is there, and nobody asks it
-pub free_place : (asked : List HostPlace) (old : World) (e : Expression) → host_refused (host_of e) (whole_of asked old) ≡ None →
+pub free_place : (asked : List HostPlace) (old : SignalStores) (e : Expression) → host_refused (host_of e) (whole_of asked old) ≡ None →
     (k : ℕ) → host_of e ≡ Some k → (is_there_at asked k ≡ true) × (uses_host old.graph.state.signals k ≡ false)
 free_place asked old e free k at = go (host_of e) free at
   where
@@ -133,7 +131,7 @@ free_place asked old e free k at = go (host_of e) free at
         (two.0, ap (uses_host old.graph.state.signals) (sym zero_k) ∙ two.1)
 
 -- a making as an edit of one signal
-computed_edit : (asked : List HostPlace) (old : World) (c : Computed) → is_there (standing old.graph.state.signals c.name) ≡ false → Agrees asked old →
+computed_edit : (asked : List HostPlace) (old : SignalStores) (c : Computed) → is_there (standing old.graph.state.signals c.name) ≡ false → Agrees asked old →
     host_refused (host_of c.recipe.expression) (whole_of asked old) ≡ None →
     IsEdit old.graph.state.signals (with_computed old.graph.state.signals c) c.name None (host_of c.recipe.expression)
 computed_edit asked old c off a free = record {
@@ -154,11 +152,11 @@ pub used_whole : (o : Option ℕ) (w : plain.World) → with_use o w ≡ record 
 used_whole None w = refl
 used_whole (Some k) w = refl
 
-pub fresh_place : (asked : List HostPlace) (old : World) (hosts : Hosts) (e : Expression) → host_refused (host_of e) (whole_of asked old) ≡ None → IsSound hosts asked old →
+pub fresh_place : (asked : List HostPlace) (old : SignalStores) (hosts : Hosts) (e : Expression) → host_refused (host_of e) (whole_of asked old) ≡ None → IsSound hosts asked old →
     (k : ℕ) → host_of e ≡ Some k → (is_there_at asked k ≡ true) × (count_at asked k ≡ 0)
 fresh_place asked old hosts e free sound k at = let two = free_place asked old e free k at in (two.0, sound.unasked.never k two.0 two.1)
 
-pub computed_does : (hosts : Hosts) (asked : List HostPlace) (old new : World) (r : Recipe) (id : ℕ) →
+pub computed_does : (hosts : Hosts) (asked : List HostPlace) (old new : SignalStores) (r : Recipe) (id : ℕ) →
     Makes old.graph new.graph id (states.with_new_computed old.graph.state (record { name = id; recipe = r })) → new.watchers ≡ old.watchers → Agrees asked old →
     host_refused (host_of r.expression) (whole_of asked old) ≡ None → IsSound hosts asked old →
     Does hosts asked asked old new [] [] (λ w. with_use (host_of r.expression) (with_new_computed r None w))
@@ -186,7 +184,7 @@ computed_does hosts asked old new r id m same a free sound =
       unasked = subst (λ (v : Signals). AreUnasked asked v) (sym signals) (unasked_after w (with_computed w c) id None (host_of r.expression) asked edit a.there sound.unasked);
     })
 
-pub computed_agrees : (asked : List HostPlace) (old new : World) (r : Recipe) (id : ℕ) →
+pub computed_agrees : (asked : List HostPlace) (old new : SignalStores) (r : Recipe) (id : ℕ) →
     Makes old.graph new.graph id (states.with_new_computed old.graph.state (record { name = id; recipe = r })) → new.watchers ≡ old.watchers → Agrees asked old →
     host_refused (host_of r.expression) (whole_of asked old) ≡ None → Agrees asked new
 computed_agrees asked old new r id m same a free =

@@ -8,7 +8,7 @@ use Rattle.signal_model.specs.Asks.{Moment, asks_host, asks_in, asks_of, good_re
 use Rattle.signal_model.proofs.Shared.{tested}
 use Rattle.effect_model.specs.Commands.{new_world}
 use Rattle.effect_model.specs.Worlds as plain
-use Rattle.effect_model.specs.Worlds.{HostState, asked_by, asked_more, ran}
+use Rattle.effect_model.specs.Worlds.{asked_by, asked_more, ran}
 use Rattle.sig_host.specs.Hosts.{HostPlace, count_at, is_there, place_after, places_after, place_at}
 use Rattle.sig_nodes.specs.Answers.{host_here, uses_host}
 use Rattle.sig_watcher.specs.Tables.{Table}
@@ -17,9 +17,8 @@ use Rattle.sig_computed.specs.Asked.{IsAsking, StayThere}
 use Rattle.sig_computed.specs.Notes.{note_of, run_note, IsIdle, IsSettling}
 use Rattle.sig_effect.specs.declared.events.Event.{Event}
 use Rattle.sig_effect.specs.declared.events.Event.TheVariants as event
-use Rattle.sig_effect.specs.declared.world.World.{World}
 use Rattle.sig_effect.specs.Events.{AreTold}
-use Rattle.sig_effect.specs.Wholes.{host_state, host_states, whole_of}
+use Rattle.sig_effect.specs.Wholes.{SignalStores, host_state, host_states, whole_of}
 use Rattle.sig_effect.specs.Stores.{environment, Agrees, AreListed, AreOwn, AreUnasked, AreWatched, Does, IsSound}
 use Rattle.sig_effect.proofs.Users.{place_is, uses_by}
 use Rattle.sig_effect.proofs.Acts.{does_by}
@@ -102,7 +101,7 @@ runs_told w (n ∷ ns) (r ∷ rs) e =
 -- ---- the stores afterwards
 
 -- Where names were settled, the stores stand for the plain world that settles them, and what is sound stayed so.
-pub settle_does : (hosts : Hosts) (slacks : List ℕ) (asked later : List HostPlace) (old new : World) (names : List ℕ) (notes : List RunNote) (before after : List Event) →
+pub settle_does : (hosts : Hosts) (slacks : List ℕ) (asked later : List HostPlace) (old new : SignalStores) (names : List ℕ) (notes : List RunNote) (before after : List Event) →
     new.graph.state.signals ≡ old.graph.state.signals → new.graph.given ≡ old.graph.given → new.watchers ≡ old.watchers →
     IsSettling hosts old.graph.state.signals old.graph.state.memos names [] (map note_of notes) new.graph.state.memos →
     IsAsking hosts old.graph.state.signals old.graph.state.memos names asked later → after ≡ before ++ map event.Run notes →
@@ -127,7 +126,7 @@ settle_does hosts slacks asked later old new names notes before after signals gi
     })
 
 -- the same where the notes began with none
-pub ask_does : (hosts : Hosts) (slacks : List ℕ) (asked later : List HostPlace) (old new : World) (n : ℕ) (none notes : List RunNote) (before after : List Event) →
+pub ask_does : (hosts : Hosts) (slacks : List ℕ) (asked later : List HostPlace) (old new : SignalStores) (n : ℕ) (none notes : List RunNote) (before after : List Event) →
     none ≡ [] → new.graph.state.signals ≡ old.graph.state.signals → new.graph.given ≡ old.graph.given → new.watchers ≡ old.watchers →
     IsSettling hosts old.graph.state.signals old.graph.state.memos (n ∷ []) (map note_of none) (map note_of notes) new.graph.state.memos →
     IsAsking hosts old.graph.state.signals old.graph.state.memos (n ∷ []) asked later → after ≡ before ++ map event.Run notes →
@@ -139,7 +138,7 @@ ask_does hosts slacks asked later old new n none notes before after empty signal
     asking told kept sound
 
 -- Where a call settled names and left the signals, the stores belong together as before.
-pub agrees_settled : (asked later : List HostPlace) (old new : World) → new.graph.state.signals ≡ old.graph.state.signals → IsIdle new.graph.state →
+pub agrees_settled : (asked later : List HostPlace) (old new : SignalStores) → new.graph.state.signals ≡ old.graph.state.signals → IsIdle new.graph.state →
     StayThere asked later → new.watchers ≡ old.watchers → Agrees asked old → Agrees later new
 agrees_settled asked later old new signals idle stay same a = record {
   idle = idle;

@@ -33,9 +33,8 @@ use Rattle.sig_state.specs.declared.sets.SetDone.TheVariants.{Accepted, Same}
 use Rattle.sig_effect.specs.declared.events.Event.{Event}
 use Rattle.sig_effect.specs.declared.events.Event.TheVariants.{Change}
 use Rattle.sig_effect.specs.Events.{AreNamed, AreTold, Tells}
-use Rattle.sig_effect.specs.declared.world.World.{World}
 use Rattle.sig_effect.specs.Results.{values_told, AreNotices}
-use Rattle.sig_effect.specs.Wholes.{host_states, whole_of}
+use Rattle.sig_effect.specs.Wholes.{SignalStores, host_states, whole_of}
 use Rattle.sig_effect.specs.Stores.{environment, Agrees, AreListed, AreOwn, AreRuled, AreUnasked, AreWatched, Does, IsSound}
 use Rattle.sig_effect.proofs.Acts.{does_by, tells_none, IsWhole}
 use Rattle.sig_effect.proofs.Edits.{cell_here, not_refused, not_same, notices_tell, there_by, watched_waiting}
@@ -60,7 +59,7 @@ quiet_other env n v w c stands off =
     ap (λ s. with_replacing n v (replaced_by env.slacks s v) w) stands ∙ ap (λ b. with_replacing n v (cond b None (Some c.value)) w) off
 
 -- a change of which nobody is told, on the stores
-pub quiet_whole : (asked : List HostPlace) (old new : World) (n : ℕ) (v : Value) → Becomes old.graph new.graph (with_set old.graph.state n v) → new.watchers ≡ old.watchers →
+pub quiet_whole : (asked : List HostPlace) (old new : SignalStores) (n : ℕ) (v : Value) → Becomes old.graph new.graph (with_set old.graph.state n v) → new.watchers ≡ old.watchers →
     IsWhole asked new.graph new.watchers (with_quiet_value n v (whole_of asked old))
 quiet_whole asked old new n v b same =
     let signals : new.graph.state.signals ≡ with_value old.graph.state.signals n v = ap (λ (s : State). s.signals) b.state in
@@ -74,7 +73,7 @@ quiet_whole asked old new n v b same =
     }
 
 -- what is kept stays sound
-pub value_sound : (hosts : Hosts) (asked : List HostPlace) (old new : World) (n : ℕ) (v : Value) (c : Cell) → standing old.graph.state.signals n ≡ IsCell c →
+pub value_sound : (hosts : Hosts) (asked : List HostPlace) (old new : SignalStores) (n : ℕ) (v : Value) (c : Cell) → standing old.graph.state.signals n ≡ IsCell c →
     Becomes old.graph new.graph (with_set old.graph.state n v) → IsSound hosts asked old → IsSound hosts asked new
 value_sound hosts asked old new n v c stands b sound = record {
   kept = subst (λ (s : State). AreKept hosts s.signals s.memos) (sym b.state) (set_law hosts old.graph.state.signals old.graph.state.memos n c v stands sound.kept);
@@ -94,7 +93,7 @@ values_tell : (ns : List ℕ) (before after : List Event) → after ≡ before +
 values_tell ns before after is = record { more = values_told ns; behind = is; each = values_each ns }
 
 -- a set that was accepted
-pub quiet_does : (hosts : Hosts) (slacks : List ℕ) (asked : List HostPlace) (old new : World) (before after : List Event) (n : ℕ) (v : Value) (c : Cell) →
+pub quiet_does : (hosts : Hosts) (slacks : List ℕ) (asked : List HostPlace) (old new : SignalStores) (before after : List Event) (n : ℕ) (v : Value) (c : Cell) →
     standing old.graph.state.signals n ≡ IsCell c → are_alike slacks c.rule c.value v ≡ false → Becomes old.graph new.graph (with_set old.graph.state n v) →
     new.watchers ≡ old.watchers → after ≡ before ++ Change n Set ∷ [] → IsSound hosts asked old →
     Does hosts asked asked old new before after (set_quietly (environment hosts slacks) n v)
@@ -104,7 +103,7 @@ quiet_does hosts slacks asked old new before after n v c stands off b same told 
     (values_tell (n ∷ []) before after told) (value_sound hosts asked old new n v c stands b sound)
 
 -- one that changed nothing
-pub quiet_nothing : (hosts : Hosts) (slacks : List ℕ) (asked : List HostPlace) (old : World) (before : List Event) (n : ℕ) (v : Value) →
+pub quiet_nothing : (hosts : Hosts) (slacks : List ℕ) (asked : List HostPlace) (old : SignalStores) (before : List Event) (n : ℕ) (v : Value) →
     is_alike_here slacks (standing old.graph.state.signals n) v ≡ true → IsSound hosts asked old →
     Does hosts asked asked old old before before (set_quietly (environment hosts slacks) n v)
 quiet_nothing hosts slacks asked old before n v alike sound =
@@ -113,7 +112,7 @@ quiet_nothing hosts slacks asked old before n v alike sound =
     (record { signals = refl; memos = refl; states = refl; watchers = refl; made = refl; rest = refl }) (tells_none before) sound
 
 -- the stores still belong together
-pub value_agrees : (asked : List HostPlace) (old new : World) (n : ℕ) (v : Value) → Becomes old.graph new.graph (with_set old.graph.state n v) → new.watchers ≡ old.watchers →
+pub value_agrees : (asked : List HostPlace) (old new : SignalStores) (n : ℕ) (v : Value) → Becomes old.graph new.graph (with_set old.graph.state n v) → new.watchers ≡ old.watchers →
     Agrees asked old → Agrees asked new
 value_agrees asked old new n v b same a =
     let w : Signals = old.graph.state.signals in
@@ -155,7 +154,7 @@ joining_room n (IsCell d) c h = go (is_in n (keys_of c.changed)) refl h
 -- ---- a commit
 
 -- its cells are told together
-pub commit_does : (hosts : Hosts) (slacks : List ℕ) (asked : List HostPlace) (old new : World) (before after : List Event) (b : Batch) (cells : List ℕ) →
+pub commit_does : (hosts : Hosts) (slacks : List ℕ) (asked : List HostPlace) (old new : SignalStores) (before after : List Event) (b : Batch) (cells : List ℕ) →
     cells ≡ net_of slacks old.graph.state.signals b → new.graph ≡ old.graph →
     new.watchers ≡ with_each (waiting_if (is_notified_by_any old.graph.state.signals old.graph.state.memos cells)) old.watchers →
     AreNotices (map told_entry (notified_by_any old.graph.state.signals old.graph.state.memos cells old.watchers.watchers)) before after → IsSound hosts asked old →
@@ -179,7 +178,7 @@ commit_does hosts slacks asked old new before after b cells is graph same notice
       unasked = subst (λ (g : Seen). AreUnasked asked g.state.signals) (sym graph) sound.unasked;
     })
 
-pub commit_agrees : (asked : List HostPlace) (old new : World) (f : Watcher → Bool) → new.graph ≡ old.graph → new.watchers ≡ with_each (waiting_if f) old.watchers →
+pub commit_agrees : (asked : List HostPlace) (old new : SignalStores) (f : Watcher → Bool) → new.graph ≡ old.graph → new.watchers ≡ with_each (waiting_if f) old.watchers →
     Agrees asked old → Agrees asked new
 commit_agrees asked old new f graph same a = record {
   idle = subst (λ (g : Seen). IsIdle g.state) (sym graph) a.idle;
@@ -244,7 +243,7 @@ returns_keep P sets (p ∷ b) s h = returns_keep P sets b (with_return p.0 p.1 s
 states_stay : (asked : List HostPlace) (b : Batch) (s : State) → host_states (uses_host (with_returns b s).signals) 0 asked ≡ host_states (uses_host s.signals) 0 asked
 states_stay asked b s = returns_keep (λ (z : State). host_states (uses_host z.signals) 0 asked ≡ host_states (uses_host s.signals) 0 asked) (λ z n v c e h. h) b s refl
 
-pub abort_does : (hosts : Hosts) (asked : List HostPlace) (old new : World) (before after : List Event) (b : Batch) →
+pub abort_does : (hosts : Hosts) (asked : List HostPlace) (old new : SignalStores) (before after : List Event) (b : Batch) →
     Becomes old.graph new.graph (with_returns b old.graph.state) → new.watchers ≡ old.watchers →
     after ≡ before ++ values_told (all_given_back b old.graph.state) → IsSound hosts asked old → Does hosts asked asked old new before after (abort b)
 abort_does hosts asked old new before after b becomes same told sound =
@@ -294,7 +293,7 @@ abort_named g h made b before after given same told named =
     named_still g h made made after same refl
     (named_behind g made before (values_told (all_given_back b g.state)) after told named (named_values g made (all_given_back b g.state) (back_given g b g.state given)))
 
-pub abort_agrees : (asked : List HostPlace) (old new : World) (b : Batch) → Becomes old.graph new.graph (with_returns b old.graph.state) →
+pub abort_agrees : (asked : List HostPlace) (old new : SignalStores) (b : Batch) → Becomes old.graph new.graph (with_returns b old.graph.state) →
     new.watchers ≡ old.watchers → Agrees asked old → Agrees asked new
 abort_agrees asked old new b becomes same a =
     let a : Agrees asked (with_state (with_returns b old.graph.state)) =
@@ -308,7 +307,7 @@ abort_agrees asked old new b becomes same a =
       watched = subst (λ x. x) (λ i. AreWatched (sym becomes.state i).signals (sym same i).watchers) a.watched;
     }
   where
-    with_state : State → World
+    with_state : State → SignalStores
     with_state z = record { graph = record (old.graph) { state = z }; watchers = old.watchers }
 
 pub abort_ruled : (rules : ℕ) (s z : State) (b : Batch) → z ≡ with_returns b s → AreRuled rules s.signals → AreRuled rules z.signals

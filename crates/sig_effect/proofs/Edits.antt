@@ -12,10 +12,10 @@ use Rattle.signal_model.specs.Kept.{AreKept}
 use Rattle.signal_model.specs.Memos.{Memos}
 use Rattle.signal_laws.proofs.Shared.{set_law, rewire_law, dispose_law}
 use Rattle.effect_model.specs.declared.how.How.TheVariants.{Set, Rewire, Gone as Ended}
-use Rattle.effect_model.specs.Owners.{the_signal, the_watcher}
+use Rattle.effect_model.specs.Owners.{ends, the_signal, the_watcher}
 use Rattle.effect_model.specs.Worlds as plain
 use Rattle.effect_model.specs.Worlds.{Environment, HostState, Watcher, dropped_host, watcher_numbers}
-use Rattle.effect_model.specs.Acts.{are_alike, asks_so_far, dispose_thing, forget, frozen_by, host_of, host_refused, is_notified, notified_by, or_refused, rewire_signal, rewire_standing, rewiring_refused, set_cell, set_standing, some_gone, told_frozen, told_of, waiting_if, with_drop, with_new_value, with_use, without_node, end_standing}
+use Rattle.effect_model.specs.Acts.{are_alike, asks_so_far, forget, frozen_by, host_of, host_refused, is_notified, notified_by, or_refused, rewire_signal, rewire_standing, rewiring_refused, set_cell, set_standing, some_gone, told_frozen, told_of, waiting_if, with_drop, with_new_value, with_use, without_node, end_standing, undo}
 use Rattle.effect_model.specs.Commands.{new_world}
 use Rattle.sig_host.specs.Hosts.{HostPlace, count_at, most_asked}
 use Rattle.sig_host.proofs.Shared.{most_asked-dropped}
@@ -32,12 +32,10 @@ use Rattle.sig_state.specs.declared.sets.SetDone.TheVariants.{Accepted, Same}
 use Rattle.sig_watcher.specs.declared.recipients.Told.{Told}
 use Rattle.sig_effect.specs.declared.events.Event.{Event}
 use Rattle.sig_effect.specs.declared.events.Event.TheVariants as event
-use Rattle.sig_effect.specs.declared.events.Thing.{Thing}
-use Rattle.sig_effect.specs.declared.events.Thing.TheVariants as thing
-use Rattle.sig_effect.specs.declared.world.World.{World}
-use Rattle.sig_effect.specs.Events.{thing_of, AreTold, IsTold, Tells}
+use Rattle.effect_tables.specs.declared.thing.Thing.TheVariants as thing
+use Rattle.sig_effect.specs.Events.{AreTold, IsTold, Tells}
 use Rattle.sig_effect.specs.Results.{drop_events, dropped_if, AreFrozen, AreNotices, IsFrozen}
-use Rattle.sig_effect.specs.Wholes.{host_states, whole_of}
+use Rattle.sig_effect.specs.Wholes.{SignalStores, host_states, whole_of}
 use Rattle.sig_effect.specs.Stores.{environment, Agrees, AreListed, AreOwn, AreUnasked, AreWatched, Does, IsSound}
 use Rattle.sig_effect.proofs.Signals.{gone_now, left_now, recipe_beside, recipe_now, value_host}
 use Rattle.sig_effect.proofs.Signals.{listed_left, listed_recipe, listed_value, watched_left, watched_still, recipe_keeps, value_keeps, idle_left}
@@ -112,7 +110,7 @@ rewiring_fine w n r there free =
     ∙ ap (λ o. option_or o (host_refused (host_of r.expression) w)) (slots_fine w r.slots two.1) ∙ free
 
 -- a use and a drop, in the plain world
-changed_whole : (e : plain.Event) (left new : Option ℕ) (v : Signals) (k : Memos) (asked : List HostPlace) (old : World) →
+changed_whole : (e : plain.Event) (left new : Option ℕ) (v : Signals) (k : Memos) (asked : List HostPlace) (old : SignalStores) →
     with_drop left (with_use new (plain.tell e (record (whole_of asked old) { signals = v; memos = k })))
     ≡ record (whole_of asked old) {
       signals = v;
@@ -126,7 +124,7 @@ changed_whole e (Some l) None v k asked old = refl
 changed_whole e (Some l) (Some j) v k asked old = refl
 
 -- a rewiring as an edit of one signal
-pub rewire_edit : (asked : List HostPlace) (old : World) (n : ℕ) (r : Recipe) (c : Computed) → standing old.graph.state.signals n ≡ IsComputed c → Agrees asked old →
+pub rewire_edit : (asked : List HostPlace) (old : SignalStores) (n : ℕ) (r : Recipe) (c : Computed) → standing old.graph.state.signals n ≡ IsComputed c → Agrees asked old →
     host_refused (host_of r.expression) (whole_of asked old) ≡ None →
     IsEdit old.graph.state.signals (with_recipe old.graph.state.signals n r) n (host_here (standing old.graph.state.signals n)) (host_of r.expression)
 rewire_edit asked old n r c stands a free = record {
@@ -142,7 +140,7 @@ rewire_edit asked old n r c stands a free = record {
     w : Signals
     w = old.graph.state.signals
 
-rewire_is : (asked : List HostPlace) (old : World) (n : ℕ) (r : Recipe) (c : Computed) → standing old.graph.state.signals n ≡ IsComputed c →
+rewire_is : (asked : List HostPlace) (old : SignalStores) (n : ℕ) (r : Recipe) (c : Computed) → standing old.graph.state.signals n ≡ IsComputed c →
     are_there old.graph.state.signals (n ∷ r.slots) ≡ true → host_refused (host_of r.expression) (whole_of asked old) ≡ None →
     rewire_signal n r (whole_of asked old) ≡ record (whole_of asked old) {
       signals = with_recipe old.graph.state.signals n r;
@@ -160,7 +158,7 @@ rewire_is asked old n r c stands there free =
     (plain.tell (plain.changed_signal n Rewire) (record w0 { signals = with_recipe w0.signals n r; memos = after_rewiring w0.memos n })))) (sym left)
     ∙ changed_whole (plain.changed_signal n Rewire) (host_here (standing old.graph.state.signals n)) (host_of r.expression) (with_recipe w0.signals n r) (after_rewiring w0.memos n) asked old
 
-pub rewire_does : (hosts : Hosts) (asked : List HostPlace) (old new : World) (before after : List Event) (n : ℕ) (r : Recipe) (c : Computed) →
+pub rewire_does : (hosts : Hosts) (asked : List HostPlace) (old new : SignalStores) (before after : List Event) (n : ℕ) (r : Recipe) (c : Computed) →
     standing old.graph.state.signals n ≡ IsComputed c → are_there old.graph.state.signals (n ∷ r.slots) ≡ true →
     Becomes old.graph new.graph (with_rewiring old.graph.state n r) → new.watchers ≡ old.watchers → Agrees asked old →
     host_refused (host_of r.expression) (whole_of asked old) ≡ None →
@@ -191,7 +189,7 @@ rewire_does hosts asked old new before after n r c stands there b same a free to
           (unasked_after w (with_recipe w n r) n left (host_of r.expression) asked edit a.there sound.unasked);
     })
 
-pub rewire_agrees : (asked : List HostPlace) (old new : World) (n : ℕ) (r : Recipe) (c : Computed) → standing old.graph.state.signals n ≡ IsComputed c →
+pub rewire_agrees : (asked : List HostPlace) (old new : SignalStores) (n : ℕ) (r : Recipe) (c : Computed) → standing old.graph.state.signals n ≡ IsComputed c →
     Becomes old.graph new.graph (with_rewiring old.graph.state n r) → new.watchers ≡ old.watchers → host_refused (host_of r.expression) (whole_of asked old) ≡ None →
     Agrees asked old → Agrees (dropped_if (host_here (standing old.graph.state.signals n)) asked) new
 rewire_agrees asked old new n r c stands b same free a =
@@ -211,7 +209,7 @@ rewire_agrees asked old new n r c stands b same free a =
 
 -- ---- ends of signals
 
-pub dispose_edit : (asked : List HostPlace) (old : World) (n : ℕ) → Agrees asked old →
+pub dispose_edit : (asked : List HostPlace) (old : SignalStores) (n : ℕ) → Agrees asked old →
     IsEdit old.graph.state.signals (without_signal old.graph.state.signals n) n (host_here (standing old.graph.state.signals n)) None
 dispose_edit asked old n a = record {
   before = refl;
@@ -226,7 +224,7 @@ dispose_edit asked old n a = record {
     w : Signals
     w = old.graph.state.signals
 
-disposed_whole : (env : Environment) (asked : List HostPlace) (old : World) (n : ℕ) (s : Stands) → is_there s ≡ true →
+disposed_whole : (env : Environment) (asked : List HostPlace) (old : SignalStores) (n : ℕ) (s : Stands) → is_there s ≡ true →
     plain.tell (plain.gone (the_signal n)) (end_standing s n (whole_of asked old)) ≡ record (whole_of asked old) {
       signals = without_signal old.graph.state.signals n;
       memos = after_disposal old.graph.state.memos n;
@@ -252,8 +250,8 @@ disposed_whole env asked old n (IsComputed c) h =
     go None = refl
     go (Some k) = refl
 
-dispose_is : (env : Environment) (asked : List HostPlace) (old : World) (n : ℕ) → is_there (standing old.graph.state.signals n) ≡ true →
-    dispose_thing env (the_signal n) (whole_of asked old) ≡ record (whole_of asked old) {
+end_is : (env : Environment) (asked : List HostPlace) (old : SignalStores) (n : ℕ) → is_there (standing old.graph.state.signals n) ≡ true →
+    undo env (ends (the_signal n)) (whole_of asked old) ≡ record (whole_of asked old) {
       signals = without_signal old.graph.state.signals n;
       memos = after_disposal old.graph.state.memos n;
       watchers = map (forget n) old.watchers.watchers;
@@ -261,23 +259,20 @@ dispose_is : (env : Environment) (asked : List HostPlace) (old : World) (n : ℕ
       told = (drop_told (host_here (standing old.graph.state.signals n)) (host_states (uses_host old.graph.state.signals) 0 asked) ++ plain.changed_signal n Ended ∷ [])
           ++ plain.gone (the_signal n) ∷ [];
     }
-dispose_is env asked old n there =
-    let w0 : plain.World = whole_of asked old in
-    ap (λ b. cond b (plain.tell (plain.gone (the_signal n)) (end_standing (standing w0.signals n) n w0)) (plain.tell (plain.refused (plain.thing_gone (the_signal n))) w0)) there
-    ∙ disposed_whole env asked old n (standing w0.signals n) there
+end_is env asked old n there = disposed_whole env asked old n (standing old.graph.state.signals n) there
 
-pub dispose_does : (hosts : Hosts) (slacks : List ℕ) (asked : List HostPlace) (old new : World) (before after : List Event) (n : ℕ) →
+pub dispose_does : (hosts : Hosts) (slacks : List ℕ) (asked : List HostPlace) (old new : SignalStores) (before after : List Event) (n : ℕ) →
     is_there (standing old.graph.state.signals n) ≡ true → Becomes old.graph new.graph (with_disposal old.graph.state n) → new.watchers ≡ with_each (forget n) old.watchers →
     Agrees asked old → after ≡ ((before ++ drop_events (host_here (standing old.graph.state.signals n)) asked) ++ event.Change n Ended ∷ []) ++ event.Gone (thing.Signal n) ∷ [] → IsSound hosts asked old →
-    Does hosts asked (dropped_if (host_here (standing old.graph.state.signals n)) asked) old new before after (dispose_thing (environment hosts slacks) (the_signal n))
+    Does hosts asked (dropped_if (host_here (standing old.graph.state.signals n)) asked) old new before after (undo (environment hosts slacks) (ends (the_signal n)))
 dispose_does hosts slacks asked old new before after n there b same a told sound =
     let w : Signals = old.graph.state.signals in
     let left : Option ℕ = host_here (standing w n) in
     let edit = dispose_edit asked old n a in
     let ss : List HostState = host_states (uses_host w) 0 asked in
     let signals : new.graph.state.signals ≡ without_signal w n = ap (λ (s : State). s.signals) b.state in
-    does_by hosts asked (dropped_if left asked) old new before after (dispose_thing (environment hosts slacks) (the_signal n)) _
-    (dispose_is (environment hosts slacks) asked old n there)
+    does_by hosts asked (dropped_if left asked) old new before after (undo (environment hosts slacks) (ends (the_signal n))) _
+    (end_is (environment hosts slacks) asked old n there)
     (record {
       signals = signals;
       memos = ap (λ (s : State). s.memos) b.state;
@@ -297,7 +292,7 @@ dispose_does hosts slacks asked old new before after n there b same a told sound
       unasked = subst (λ (v : Signals). AreUnasked (dropped_if left asked) v) (sym signals) (unasked_after w (without_signal w n) n left None asked edit a.there sound.unasked);
     })
 
-pub dispose_agrees : (asked : List HostPlace) (old new : World) (n : ℕ) → Becomes old.graph new.graph (with_disposal old.graph.state n) →
+pub dispose_agrees : (asked : List HostPlace) (old new : SignalStores) (n : ℕ) → Becomes old.graph new.graph (with_disposal old.graph.state n) →
     new.watchers ≡ with_each (forget n) old.watchers → Agrees asked old → Agrees (dropped_if (host_here (standing old.graph.state.signals n)) asked) new
 dispose_agrees asked old new n b same a =
     let w : Signals = old.graph.state.signals in
@@ -315,15 +310,14 @@ dispose_agrees asked old new n b same a =
 
 -- ---- ends of watchers
 
-pub remove_does : (hosts : Hosts) (slacks : List ℕ) (asked : List HostPlace) (old new : World) (before after : List Event) (n : ℕ) →
-    plain.lives (the_watcher n) (whole_of asked old) ≡ true → new.graph ≡ old.graph → new.watchers ≡ with_removal n old.watchers →
+pub remove_does : (hosts : Hosts) (slacks : List ℕ) (asked : List HostPlace) (old new : SignalStores) (before after : List Event) (n : ℕ) →
+    new.graph ≡ old.graph → new.watchers ≡ with_removal n old.watchers →
     after ≡ before ++ event.Gone (thing.Watcher n) ∷ [] → IsSound hosts asked old →
-    Does hosts asked asked old new before after (dispose_thing (environment hosts slacks) (the_watcher n))
-remove_does hosts slacks asked old new before after n there same removed told sound =
+    Does hosts asked asked old new before after (undo (environment hosts slacks) (ends (the_watcher n)))
+remove_does hosts slacks asked old new before after n same removed told sound =
     let w0 : plain.World = whole_of asked old in
-    does_by hosts asked asked old new before after (dispose_thing (environment hosts slacks) (the_watcher n))
-    (record w0 { watchers = (with_removal n old.watchers).watchers; told = plain.gone (the_watcher n) ∷ [] })
-    (ap (λ b. cond b (record w0 { watchers = (with_removal n old.watchers).watchers; told = plain.gone (the_watcher n) ∷ [] }) (plain.tell (plain.refused (plain.thing_gone (the_watcher n))) w0)) there)
+    does_by hosts asked asked old new before after (undo (environment hosts slacks) (ends (the_watcher n)))
+    (record w0 { watchers = (with_removal n old.watchers).watchers; told = plain.gone (the_watcher n) ∷ [] }) refl
     (record {
       signals = ap (λ (g : Seen). g.state.signals) same;
       memos = ap (λ (g : Seen). g.state.memos) same;
@@ -338,7 +332,7 @@ remove_does hosts slacks asked old new before after n there same removed told so
       unasked = subst (λ (g : Seen). AreUnasked asked g.state.signals) (sym same) sound.unasked;
     })
 
-pub remove_agrees : (asked : List HostPlace) (old new : World) (n : ℕ) → new.graph ≡ old.graph → new.watchers ≡ with_removal n old.watchers → Agrees asked old → Agrees asked new
+pub remove_agrees : (asked : List HostPlace) (old new : SignalStores) (n : ℕ) → new.graph ≡ old.graph → new.watchers ≡ with_removal n old.watchers → Agrees asked old → Agrees asked new
 remove_agrees asked old new n same removed a = record {
   idle = λ m. ap (λ (g : Seen). is_computing g.state m) same ∙ a.idle m;
   listed = subst (λ (g : Seen). AreListed g.state.signals) (sym same) a.listed;
@@ -362,6 +356,14 @@ frozen_told ns (event.Run r) h = absurd h
 frozen_told ns (event.Notify w) h = absurd h
 frozen_told ns (event.Dropped p n) h = absurd h
 frozen_told ns (event.Gone t) h = absurd h
+frozen_told ns (event.Log v) h = absurd h
+frozen_told ns (event.Body e reads) h = absurd h
+frozen_told ns (event.Fail e f) h = absurd h
+frozen_told ns (event.Cleanup e) h = absurd h
+frozen_told ns (event.RefusedGone t) h = absurd h
+frozen_told ns (event.RefusedHost p) h = absurd h
+frozen_told ns (event.Made e p l) h = absurd h
+frozen_told ns (event.Noted e) h = absurd h
 
 frozen_tells : (before mid after : List Event) (ts : List plain.Event) (ns : List ℕ) → Tells before mid ts → AreFrozen ns mid after → Tells before after (ts ++ told_frozen ns)
 frozen_tells before mid after ts [] h is =
@@ -405,12 +407,12 @@ cell_here IsGone e k = cc
 cell_here (IsCell c) e k = (c, refl)
 cell_here (IsComputed c) e k = cc
 
-pub same_does : (hosts : Hosts) (slacks : List ℕ) (asked : List HostPlace) (old new : World) (before after : List Event) (n : ℕ) (v : Value) →
+pub same_does : (hosts : Hosts) (slacks : List ℕ) (asked : List HostPlace) (old new : SignalStores) (before after : List Event) (n : ℕ) (v : Value) →
     is_alike_here slacks (standing old.graph.state.signals n) v ≡ true → new ≡ old → after ≡ before → IsSound hosts asked old →
     Does hosts asked asked old new before after (set_cell (environment hosts slacks) n v)
 same_does hosts slacks asked old new before after n v alike same told sound =
     does_by hosts asked asked old new before after (set_cell (environment hosts slacks) n v) (whole_of asked old) (set_same (environment hosts slacks) n v (whole_of asked old) alike)
-    (subst (λ (x : World). IsWhole asked x.graph x.watchers (whole_of asked old)) (sym same) (record {
+    (subst (λ (x : SignalStores). IsWhole asked x.graph x.watchers (whole_of asked old)) (sym same) (record {
       signals = refl;
       memos = refl;
       states = refl;
@@ -419,9 +421,9 @@ same_does hosts slacks asked old new before after n v alike same told sound =
       rest = refl;
     }))
     (subst (λ es. Tells before es []) (sym told) (tells_none before))
-    (subst (λ (x : World). IsSound hosts asked x) (sym same) sound)
+    (subst (λ (x : SignalStores). IsSound hosts asked x) (sym same) sound)
 
-pub set_does : (hosts : Hosts) (slacks : List ℕ) (asked : List HostPlace) (old new : World) (before after : List Event) (n : ℕ) (v : Value) (c : Cell) →
+pub set_does : (hosts : Hosts) (slacks : List ℕ) (asked : List HostPlace) (old new : SignalStores) (before after : List Event) (n : ℕ) (v : Value) (c : Cell) →
     standing old.graph.state.signals n ≡ IsCell c → is_alike_here slacks (standing old.graph.state.signals n) v ≡ false → Becomes old.graph new.graph (with_set old.graph.state n v) →
     new.watchers ≡ with_each (waiting_if (is_notified new.graph.state.signals new.graph.state.memos n)) old.watchers →
     AreNotices (map told_entry (notified_by new.graph.state.signals new.graph.state.memos n old.watchers.watchers)) (before ++ event.Change n Set ∷ []) after →
@@ -461,6 +463,9 @@ pub not_same : (r : Result SetDone Gone) (b : Bool) → r ≡ Ok Accepted → (r
 not_same r false e iff = refl
 not_same r true e iff = let clash : true ≡ false = sym (ap is_accepted e) ∙ ap is_accepted (iff.1 refl) in absurd cc
 
+pub not_accepted : (r : Result SetDone Gone) → r ≡ Ok Same → r ≡ Ok Accepted → ⊥
+not_accepted r same accepted = let clash : true ≡ false = sym (ap is_accepted accepted) ∙ ap is_accepted same in cc
+
 pub not_refused : (r : Result SetDone Gone) → r ≡ Ok Accepted → IsErr r → ⊥
 not_refused (Ok d) e h = cc
 not_refused (Err g) e h = let clash : false ≡ true = ap is_accepted e in cc
@@ -470,7 +475,7 @@ pub set_there : (s : Stands) (r : Result SetDone Gone) → r ≡ Ok Accepted →
 set_there s r accepted gone = there_by (is_there s) (IsErr r) gone (not_refused r accepted)
 
 -- a set that was accepted, by what its calls answered
-pub set_accepted : (hosts : Hosts) (slacks : List ℕ) (asked : List HostPlace) (old new : World) (before after : List Event) (n : ℕ) (v : Value) (r : Result SetDone Gone) →
+pub set_accepted : (hosts : Hosts) (slacks : List ℕ) (asked : List HostPlace) (old new : SignalStores) (before after : List Event) (n : ℕ) (v : Value) (r : Result SetDone Gone) →
     r ≡ Ok Accepted → is_computed (standing old.graph.state.signals n) ≡ false → IsErr r ↔ (is_there (standing old.graph.state.signals n) ≡ false) →
     (r ≡ Ok Same) ↔ (is_alike_here slacks (standing old.graph.state.signals n) v ≡ true) → Becomes old.graph new.graph (with_set old.graph.state n v) →
     new.watchers ≡ with_each (waiting_if (is_notified new.graph.state.signals new.graph.state.memos n)) old.watchers →
@@ -483,7 +488,7 @@ set_accepted hosts slacks asked old new before after n v r accepted kind gone sa
     set_does hosts slacks asked old new before after n v c.0 c.1 (not_same r (is_alike_here slacks (standing old.graph.state.signals n) v) accepted same) b waits
     (subst (λ es. AreNotices xs es after) change (subst (λ (z : List Told). AreNotices z mid after) (same_told ∙ told ∙ ap (λ (z : List Told). z ++ xs) empty) notices)) sound
 
-pub set_agrees : (asked : List HostPlace) (old new : World) (n : ℕ) (v : Value) → Becomes old.graph new.graph (with_set old.graph.state n v) →
+pub set_agrees : (asked : List HostPlace) (old new : SignalStores) (n : ℕ) (v : Value) → Becomes old.graph new.graph (with_set old.graph.state n v) →
     new.watchers ≡ with_each (waiting_if (is_notified new.graph.state.signals new.graph.state.memos n)) old.watchers → Agrees asked old → Agrees asked new
 set_agrees asked old new n v b same a =
     let w : Signals = old.graph.state.signals in
@@ -505,7 +510,7 @@ pub most_left : (left : Option ℕ) (asked later : List HostPlace) → later ≡
 most_left None asked later is = let e : most_asked later ≡ most_asked asked = ap most_asked is in omega (arith, e)
 most_left (Some k) asked later is = let e : most_asked later ≡ most_asked asked = ap most_asked is ∙ most_asked-dropped asked k in omega (arith, e)
 
-pub rewire_done : (hosts : Hosts) (asked later : List HostPlace) (old new : World) (before after : List Event) (n : ℕ) (r : Recipe) (left : Option ℕ) →
+pub rewire_done : (hosts : Hosts) (asked later : List HostPlace) (old new : SignalStores) (before after : List Event) (n : ℕ) (r : Recipe) (left : Option ℕ) →
     is_cell (standing old.graph.state.signals n) ≡ false → are_there old.graph.state.signals (n ∷ r.slots) ≡ true →
     Becomes old.graph new.graph (with_rewiring old.graph.state n r) → new.watchers ≡ old.watchers → Agrees asked old →
     host_refused (host_of r.expression) (whole_of asked old) ≡ None → left ≡ host_here (standing old.graph.state.signals n) → later ≡ dropped_if left asked →
@@ -516,7 +521,7 @@ rewire_done hosts asked later old new before after n r left kind there b same a 
     subst (λ xs. Does hosts asked xs old new before after (rewire_signal n r)) (sym (is ∙ ap (λ o. dropped_if o asked) was))
     (rewire_does hosts asked old new before after n r c.0 c.1 there b same a free (told ∙ ap (λ es. es ++ drop_events left asked) change ∙ ap (λ o. (before ++ event.Change n Rewire ∷ []) ++ drop_events o asked) was) sound)
 
-pub rewire_agreed : (asked later : List HostPlace) (old new : World) (n : ℕ) (r : Recipe) (left : Option ℕ) →
+pub rewire_agreed : (asked later : List HostPlace) (old new : SignalStores) (n : ℕ) (r : Recipe) (left : Option ℕ) →
     is_cell (standing old.graph.state.signals n) ≡ false → are_there old.graph.state.signals (n ∷ r.slots) ≡ true →
     Becomes old.graph new.graph (with_rewiring old.graph.state n r) → new.watchers ≡ old.watchers → host_refused (host_of r.expression) (whole_of asked old) ≡ None →
     left ≡ host_here (standing old.graph.state.signals n) → later ≡ dropped_if left asked → Agrees asked old → Agrees later new
@@ -525,15 +530,16 @@ rewire_agreed asked later old new n r left kind there b same free was is a =
     let c = computed_here (standing old.graph.state.signals n) two.0 kind in
     subst (λ xs. Agrees xs new) (sym (is ∙ ap (λ o. dropped_if o asked) was)) (rewire_agrees asked old new n r c.0 c.1 b same free a)
 
-pub dispose_done : (hosts : Hosts) (slacks : List ℕ) (asked later : List HostPlace) (old new : World) (before after : List Event) (n : ℕ) (t : Thing) → t ≡ thing.Signal n →
+pub dispose_done : (hosts : Hosts) (slacks : List ℕ) (asked later : List HostPlace) (old new : SignalStores) (before mid ended after : List Event) (n : ℕ) (left : Option ℕ) →
     is_there (standing old.graph.state.signals n) ≡ true → Becomes old.graph new.graph (with_disposal old.graph.state n) → new.watchers ≡ with_each (forget n) old.watchers →
-    Agrees asked old → later ≡ dropped_if (host_here (standing old.graph.state.signals n)) asked →
-    after ≡ ((before ++ drop_events (host_here (standing old.graph.state.signals n)) asked) ++ event.Change n Ended ∷ []) ++ event.Gone (thing.Signal n) ∷ [] → IsSound hosts asked old →
-    Does hosts asked later old new before after (dispose_thing (environment hosts slacks) (thing_of t))
-dispose_done hosts slacks asked later old new before after n t one there b same a is told sound =
-    subst (λ x. x) (λ i. Does hosts asked (sym is i) old new before after (dispose_thing (environment hosts slacks) (thing_of (sym one i))))
-    (dispose_does hosts slacks asked old new before after n there b same a told sound)
+    Agrees asked old → left ≡ host_here (standing old.graph.state.signals n) → later ≡ dropped_if left asked → mid ≡ before ++ drop_events left asked →
+    ended ≡ mid ++ event.Change n Ended ∷ [] → after ≡ ended ++ event.Gone (thing.Signal n) ∷ [] → IsSound hosts asked old →
+    Does hosts asked later old new before after (undo (environment hosts slacks) (ends (the_signal n)))
+dispose_done hosts slacks asked later old new before mid ended after n left there b same a was is dropped changed told sound =
+    subst (λ xs. Does hosts asked xs old new before after (undo (environment hosts slacks) (ends (the_signal n)))) (sym (is ∙ ap (λ o. dropped_if o asked) was))
+    (dispose_does hosts slacks asked old new before after n there b same a
+    (told ∙ ap (λ es. es ++ event.Gone (thing.Signal n) ∷ []) (changed ∙ ap (λ es. es ++ event.Change n Ended ∷ []) (dropped ∙ ap (λ o. before ++ drop_events o asked) was))) sound)
 
-pub dispose_agreed : (asked later : List HostPlace) (old new : World) (n : ℕ) → Becomes old.graph new.graph (with_disposal old.graph.state n) →
-    new.watchers ≡ with_each (forget n) old.watchers → later ≡ dropped_if (host_here (standing old.graph.state.signals n)) asked → Agrees asked old → Agrees later new
-dispose_agreed asked later old new n b same is a = subst (λ xs. Agrees xs new) (sym is) (dispose_agrees asked old new n b same a)
+pub dispose_agreed : (asked later : List HostPlace) (old new : SignalStores) (n : ℕ) (left : Option ℕ) → Becomes old.graph new.graph (with_disposal old.graph.state n) →
+    new.watchers ≡ with_each (forget n) old.watchers → left ≡ host_here (standing old.graph.state.signals n) → later ≡ dropped_if left asked → Agrees asked old → Agrees later new
+dispose_agreed asked later old new n left b same was is a = subst (λ xs. Agrees xs new) (sym (is ∙ ap (λ o. dropped_if o asked) was)) (dispose_agrees asked old new n b same a)

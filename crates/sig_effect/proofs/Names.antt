@@ -19,7 +19,8 @@ use Rattle.sig_watcher.specs.Notices.{told_entry}
 use Rattle.sig_watcher.proofs.Shared.{entries_told, entries_frozen}
 use Rattle.sig_effect.specs.declared.events.Event.{Event}
 use Rattle.sig_effect.specs.declared.events.Event.TheVariants as event
-use Rattle.sig_effect.specs.declared.events.Thing.TheVariants as thing
+use Rattle.effect_tables.specs.declared.thing.Thing.{Thing}
+use Rattle.effect_tables.specs.declared.thing.Thing.TheVariants as thing
 use Rattle.sig_effect.specs.Events.{AreNamed, IsNamed}
 use Rattle.sig_effect.specs.Results.{drop_events, values_told, AreFrozen, AreNotices, IsFrozen}
 
@@ -43,6 +44,17 @@ named_one g h made more (event.Frozen ns) same as' i = subst (λ m. All (λ n. n
 named_one g h made more (event.Dropped place asks) same as' i = tt
 named_one g h made more (event.Gone (thing.Signal n)) same as' i = given_same g h n same ∙ i
 named_one g h made more (event.Gone (thing.Watcher n)) same as' i = subst (λ m. n < m) (sym as') i
+named_one g h made more (event.Gone (thing.Owner n)) same as' i = tt
+named_one g h made more (event.Gone (thing.Effect n)) same as' i = tt
+named_one g h made more (event.Gone (thing.Page n)) same as' i = tt
+named_one g h made more (event.Log v) same as' i = tt
+named_one g h made more (event.Body e reads) same as' i = tt
+named_one g h made more (event.Fail e f) same as' i = tt
+named_one g h made more (event.Cleanup e) same as' i = tt
+named_one g h made more (event.RefusedGone t) same as' i = tt
+named_one g h made more (event.RefusedHost p) same as' i = tt
+named_one g h made more (event.Made e p l) same as' i = tt
+named_one g h made more (event.Noted e) same as' i = tt
 
 pub named_still : (g h : Seen) (made more : ℕ) (es : List Event) → h.given ≡ g.given → more ≡ made → AreNamed g made es → AreNamed h more es
 named_still g h made more es same as' all = each_weaker (IsNamed g made) (IsNamed h more) es (λ e i. named_one g h made more e same as' i) all
@@ -72,15 +84,16 @@ named_values g made [] all = tt
 named_values g made (n ∷ ns) all = (all.0, named_values g made ns all.1)
 
 -- and an end names what ended
-pub named_ended : (g h : Seen) (made more : ℕ) (left : Option ℕ) (asked : List HostPlace) (before after : List Event) (n : ℕ) → h.given ≡ g.given → more ≡ made →
-    is_given g n ≡ true → after ≡ ((before ++ drop_events left asked) ++ event.Change n Ended ∷ []) ++ event.Gone (thing.Signal n) ∷ [] → AreNamed g made before →
-    AreNamed h more after
-named_ended g h made more left asked before after n same as' given told all =
-    let mid : List Event = before ++ drop_events left asked in
-    let ended : List Event = mid ++ event.Change n Ended ∷ [] in
+pub named_gone : (g : Seen) (made : ℕ) (before after : List Event) (t : Thing) → IsNamed g made (event.Gone t) → after ≡ before ++ event.Gone t ∷ [] → AreNamed g made before → AreNamed g made after
+named_gone g made before after t i told all = named_behind g made before (event.Gone t ∷ []) after told all (i, tt)
+
+pub named_ended : (g h : Seen) (made more : ℕ) (left : Option ℕ) (asked : List HostPlace) (before mid ended after : List Event) (n : ℕ) → h.given ≡ g.given → more ≡ made →
+    is_given g n ≡ true → mid ≡ before ++ drop_events left asked → ended ≡ mid ++ event.Change n Ended ∷ [] → after ≡ ended ++ event.Gone (thing.Signal n) ∷ [] →
+    AreNamed g made before → AreNamed h more after
+named_ended g h made more left asked before mid ended after n same as' given dropped changed told all =
     let there : is_given h n ≡ true = given_same g h n same ∙ given in
-    named_behind h more ended (event.Gone (thing.Signal n) ∷ []) after told
-    (named_still h h made more ended refl as' (named_changed h made mid ended n Ended there refl (named_left g h made left asked before mid same refl all))) (there, tt)
+    named_gone h more ended after (thing.Signal n) there told
+    (named_still h h made more ended refl as' (named_changed h made mid ended n Ended there changed (named_left g h made left asked before mid same dropped all)))
 
 -- ---- numbers of watchers
 
@@ -129,6 +142,14 @@ frozen_named g made ns (event.Change n how) h all = absurd h
 frozen_named g made ns (event.Notify w) h all = absurd h
 frozen_named g made ns (event.Dropped p n) h all = absurd h
 frozen_named g made ns (event.Gone t) h all = absurd h
+frozen_named g made ns (event.Log v) h all = absurd h
+frozen_named g made ns (event.Body e reads) h all = absurd h
+frozen_named g made ns (event.Fail e f) h all = absurd h
+frozen_named g made ns (event.Cleanup e) h all = absurd h
+frozen_named g made ns (event.RefusedGone t) h all = absurd h
+frozen_named g made ns (event.RefusedHost p) h all = absurd h
+frozen_named g made ns (event.Made e p l) h all = absurd h
+frozen_named g made ns (event.Noted e) h all = absurd h
 
 frozen_behind : (g : Seen) (made : ℕ) (ns : List ℕ) (mid after : List Event) → AllByRecursion (λ (n : ℕ). n < made) ns → AreFrozen ns mid after → AreNamed g made mid → AreNamed g made after
 frozen_behind g made [] mid after all is old = subst (AreNamed g made) (sym is) old

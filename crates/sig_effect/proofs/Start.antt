@@ -9,7 +9,9 @@ use Rattle.sig_nodes.specs.Answers.{uses_host}
 use Rattle.sig_nodes.specs.States.{Seen, State, no_state}
 use Rattle.sig_watcher.specs.Tables.{Table, no_watchers}
 use Rattle.sig_effect.specs.Wholes.{host_states, whole_of}
-use Rattle.sig_effect.specs.Stores.{AreNew, IsSound}
+use Rattle.sig_computed.specs.Asked.{AreThere}
+use Rattle.sig_computed.specs.Notes.{IsIdle}
+use Rattle.sig_effect.specs.Stores.{Agrees, AreListed, AreNew, AreOwn, AreWatched, IsSound}
 use Rattle.sig_effect.proofs.HostStates.{states_new}
 
 pub new_whole : (asked : List HostPlace) (g : Seen) (t : Table) → g.state ≡ no_state → g.given ≡ 0 → t ≡ no_watchers → AreNew asked →
@@ -31,4 +33,13 @@ pub new_sound : (hosts : Hosts) (asked : List HostPlace) (g : Seen) (t : Table) 
 new_sound hosts asked g t state new = record {
   kept = subst (λ (s : State). AreKept hosts s.signals s.memos) (sym state) (empty_law hosts);
   unasked = record { never = λ k there off. never_asked asked k new };
+}
+
+pub new_agrees : (asked : List HostPlace) (g : Seen) (t : Table) → g.state ≡ no_state → t ≡ no_watchers → Agrees asked (record { graph = g; watchers = t })
+new_agrees asked g t state empty = record {
+  idle = subst IsIdle (sym state) (λ n. refl);
+  listed = subst (λ (s : State). AreListed s.signals) (sym state) tt;
+  there = subst (λ (s : State). AreThere s.signals asked) (sym state) (record { each = λ k e. cc });
+  own = subst (λ (s : State). AreOwn s.signals) (sym state) (record { one = λ n m p e f. cc });
+  watched = subst (λ (w : Table). AreWatched g.state.signals w.watchers) (sym empty) tt;
 }

@@ -14,9 +14,8 @@ use Rattle.sig_state.specs.Equality.{IsRuled}
 use Rattle.sig_computed.specs.Notes.{IsIdle}
 use Rattle.sig_computed.specs.Asked.{AreThere}
 use Rattle.sig_effect.specs.declared.events.Event.{Event}
-use Rattle.sig_effect.specs.declared.world.World.{World}
 use Rattle.sig_effect.specs.Events.{Tells}
-use Rattle.sig_effect.specs.Wholes.{whole_of}
+use Rattle.sig_effect.specs.Wholes.{SignalStores, whole_of}
 
 -- each computed that stands is the one under its name
 abbrev pub AreListed : Signals → Type 0
@@ -31,7 +30,7 @@ abbrev pub AreWatched : Signals → List Watcher → Type 0
 AreWatched w xs = AllByRecursion (λ (x : Watcher). (n : ℕ) → is_in n x.signals ≡ true → is_there (standing w n) ≡ true) xs
 
 -- Nothing is being evaluated, the host formula of each computed is there and is that of no other, and what is watched stands.
-pub record Agrees (asked : List HostPlace) (w : World) : Type 0 where
+pub record Agrees (asked : List HostPlace) (w : SignalStores) : Type 0 where
   pub idle : IsIdle w.graph.state
   pub listed : AreListed w.graph.state.signals
   pub there : AreThere w.graph.state.signals asked
@@ -47,7 +46,7 @@ pub record AreUnasked (asked : List HostPlace) (w : Signals) : Type 0 where
   pub never : (place : ℕ) → places.is_there asked place ≡ true → uses_host w place ≡ false → count_at asked place ≡ 0
 
 -- for these meanings of host formulas what is kept of the signals is sound, and a host formula that is free was never asked
-pub record IsSound (hosts : Hosts) (asked : List HostPlace) (w : World) : Type 0 where
+pub record IsSound (hosts : Hosts) (asked : List HostPlace) (w : SignalStores) : Type 0 where
   pub kept : AreKept hosts w.graph.state.signals w.graph.state.memos
   pub unasked : AreUnasked asked w.graph.state.signals
 
@@ -60,14 +59,14 @@ abbrev pub AreNew : List HostPlace → Type 0
 AreNew asked = AllByRecursion (λ (p : HostPlace). p ≡ unasked_place) asked
 
 -- a change gives no ids, and raises the counters by one at most
-pub record Stays (old new : World) : Type 0 where
+pub record Stays (old new : SignalStores) : Type 0 where
   pub given : new.graph.given ≡ old.graph.given
   pub made : new.watchers.made ≡ old.watchers.made
   pub worn : new.graph.state.worn ≤ old.graph.state.worn + 1
 
 -- An act was done: the stores stand for the plain world after it, the events that were put behind the others are those that it told, and
 -- what is sound stayed so.
-pub record Does (hosts : Hosts) (asked later : List HostPlace) (old new : World) (before after : List Event)
+pub record Does (hosts : Hosts) (asked later : List HostPlace) (old new : SignalStores) (before after : List Event)
     (act : plain.World → plain.World) : Type 0 where
   pub whole : whole_of later new ≡ at_rest (act (whole_of asked old))
   pub told : Tells before after (act (whole_of asked old)).told

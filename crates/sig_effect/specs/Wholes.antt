@@ -7,7 +7,6 @@ use Rattle.sig_host.specs.Hosts.{HostPlace}
 use Rattle.sig_nodes.specs.Answers.{uses_host}
 use Rattle.sig_nodes.specs.States.{Seen}
 use Rattle.sig_watcher.specs.Tables.{Table}
-use Rattle.sig_effect.specs.declared.world.World.{World}
 
 -- how the host formula of a place stands, by whether a computed asks it: dropped where it isn't there, used where one does, and else unused
 abbrev pub host_state : Bool → HostPlace → HostState
@@ -28,6 +27,11 @@ whole asked g t = record (new_world 0) {
   made = record ((new_world 0).made) { signals = g.given; watchers = t.made };
 }
 
--- the plain world that a world stands for, beside what is known of the places of host formulas
-abbrev pub whole_of : List HostPlace → World → plain.World
+-- the stores of signals: a graph, and who watches it
+pub record SignalStores : Type 0 where
+  pub graph : Seen
+  pub watchers : Table
+
+-- the plain world that these stand for, beside what is known of the places of host formulas
+abbrev pub whole_of : List HostPlace → SignalStores → plain.World
 whole_of asked w = whole asked w.graph w.watchers

@@ -1,15 +1,9 @@
 // What is told on the way.
 
 use effect_model::How;
-use sig_base::{NodeId, WatcherId};
+use effect_tables::Thing;
+use sig_base::{EffectId, Fault, NodeId, Value, WatcherId};
 use sig_computed::RunNote;
-
-/// What can be disposed.
-#[derive(Clone, Copy)]
-pub enum Thing {
-    Signal(NodeId),
-    Watcher(WatcherId),
-}
 
 /// What is told on the way.
 pub enum Event {
@@ -23,8 +17,28 @@ pub enum Event {
     Frozen(Vec<WatcherId>),
     /// The host formula of a place was dropped, after so many asks.
     Dropped(usize, u128),
+    /// A value is logged.
+    Log(Value),
+    /// An effect's body was evaluated, with its tracked reads.
+    Body(EffectId, Vec<NodeId>),
+    /// An effect's body failed.
+    Fail(EffectId, Fault),
+    /// A cleanup of an effect is about to be done.
+    Cleanup(EffectId),
     /// A thing is gone.
     Gone(Thing),
+    /// An act is refused: a thing that it names is gone.
+    RefusedGone(Thing),
+    /// An act is refused: the host formula of a place is used or was dropped.
+    RefusedHost(usize),
+    /// A child effect was made, by its parent and with this number in its label.
+    Made {
+        child: EffectId,
+        parent: EffectId,
+        label: u64,
+    },
+    /// A cleanup of an effect is noted.
+    Noted(EffectId),
 }
 
 impl Drop for Event {
@@ -35,7 +49,19 @@ impl Drop for Event {
             Event::Notify(_) => {}
             Event::Frozen(_) => {}
             Event::Dropped(_, _) => {}
+            Event::Log(_) => {}
+            Event::Body(_, _) => {}
+            Event::Fail(_, _) => {}
+            Event::Cleanup(_) => {}
             Event::Gone(_) => {}
+            Event::RefusedGone(_) => {}
+            Event::RefusedHost(_) => {}
+            Event::Made {
+                child: _,
+                parent: _,
+                label: _,
+            } => {}
+            Event::Noted(_) => {}
         }
     }
 }

@@ -1,20 +1,13 @@
-//! The world of signals and watchers: what is made, changed and disposed, what is told of it, and what stands under the numbers of signals
-//! meanwhile.
+//! What is told on the way, and why a call is refused; what changes of signals do to their stores and to who watches them; and what stands
+//! under the numbers of signals meanwhile.
 #![tactic(auto)]
 
-mod batches;
-mod changes;
-mod creation;
-mod ends;
 mod errors;
 mod events;
 mod laws;
 mod notices;
-mod queries;
-mod watchers;
-mod world;
 
 pub use errors::EffectFault;
-pub use events::{Event, Thing};
+pub use events::Event;
 pub use laws::kinds_law;
-pub use world::World;
+pub use notices::{drop_left, tell_change, tell_notified, tell_runs, tell_values};

@@ -1,6 +1,5 @@
 // What changes tell.
-ghost use Rattle.std.specs.Prelude.{◌≡◌, ◌+◌, ◌++◌, ◌∷◌, [], ℕ, List, Some, IfOk, IsTrue, OnOk, map};
-ghost use Rattle.std.specs.List.{filter};
+ghost use Rattle.std.specs.Prelude.{◌≡◌, ◌+◌, ◌++◌, ◌∷◌, [], ℕ, Some, IfOk, IsTrue, OnOk, map};
 ghost use Rattle.signal_model.specs.Recipes.{Hosts};
 ghost use Rattle.sig_host.specs.Hosts.{is_there};
 ghost use Rattle.sig_effect.specs.declared.events.Event.TheVariants as event;
@@ -15,7 +14,7 @@ use sig_watcher::Told;
 use std::alloc::Global;
 
 /// Tells of runs, in order.
-pub(crate) fn tell_runs(events: &mut Vec<Event>, notes: Vec<RunNote>) -> Result<(), NoMemory>
+pub fn tell_runs(events: &mut Vec<Event>, notes: Vec<RunNote>) -> Result<(), NoMemory>
     ensures { OnOk result (events.new.items ≡ events.old.items ++ map event.Run notes.items) }
 {
     for note in notes {
@@ -25,7 +24,7 @@ pub(crate) fn tell_runs(events: &mut Vec<Event>, notes: Vec<RunNote>) -> Result<
 }
 
 /// Tells that a signal was changed.
-pub(crate) fn tell_change(events: &mut Vec<Event>, id: NodeId, how: How) -> Result<(), NoMemory>
+pub fn tell_change(events: &mut Vec<Event>, id: NodeId, how: How) -> Result<(), NoMemory>
     ensures { OnOk result (events.new.items ≡ events.old.items ++ event.Change id how ∷ []) }
 {
     events.push(Event::Change(id, how))?;
@@ -33,7 +32,7 @@ pub(crate) fn tell_change(events: &mut Vec<Event>, id: NodeId, how: How) -> Resu
 }
 
 /// Tells that these cells have another value, in order.
-pub(crate) fn tell_values(events: &mut Vec<Event>, cells: &[NodeId]) -> Result<(), NoMemory>
+pub fn tell_values(events: &mut Vec<Event>, cells: &[NodeId]) -> Result<(), NoMemory>
     ensures { OnOk result (events.new.items ≡ events.old.items ++ values_told cells.now) }
 {
     for id in cells {
@@ -43,7 +42,7 @@ pub(crate) fn tell_values(events: &mut Vec<Event>, cells: &[NodeId]) -> Result<(
 }
 
 /// Drops the host formula of a place that was left, where one was, and tells of it.
-pub(crate) fn drop_left(
+pub fn drop_left(
     shelf: &mut Shelf,
     left: Option<usize>,
     events: &mut Vec<Event>,
@@ -96,7 +95,7 @@ fn refused_of(alloc: Global, told: &[Told]) -> Result<Vec<WatcherId>, NoMemory>
 }
 
 /// Tells of the watchers that were notified, in order, and then of those among them whose try was refused.
-pub(crate) fn tell_notified(events: &mut Vec<Event>, told: &[Told]) -> Result<(), NoMemory>
+pub fn tell_notified(events: &mut Vec<Event>, told: &[Told]) -> Result<(), NoMemory>
     ensures { OnOk result (AreNotices told.now events.old.items events.new.items) }
 {
     tell_each(events, told)?;

@@ -7,7 +7,7 @@ use Rattle.effect_tables.specs.Bodies.{body_of}
 use Rattle.effect_teardown.specs.Sites.{parts_of}
 use Rattle.effect_teardown.proofs.SharedSites.{child_body}
 use Rattle.effect_teardown.proofs.Shared.{effect_found, effect_unlisted}
-use Rattle.effect_world.specs.declared.events.Event.TheVariants as event
+use Rattle.sig_effect.specs.declared.events.Event.TheVariants as event
 use Rattle.effect_world.specs.Wholes.{whole_of}
 use Rattle.effect_acts.proofs.Tabled.{acted_tabled, owned_child}
 use Rattle.effect_acts.proofs.children.make_child.Goals as goal

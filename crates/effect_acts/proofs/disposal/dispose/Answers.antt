@@ -4,7 +4,7 @@ use Rattle.effect_model.specs.Acts.{dispose_thing}
 use Rattle.effect_model.specs.Worlds as plain
 use Rattle.effect_tables.specs.Bodies.{thing_of}
 use Rattle.sig_effect.specs.declared.errors.EffectFault.TheVariants as fault
-use Rattle.effect_world.specs.declared.events.Event.TheVariants as event
+use Rattle.sig_effect.specs.declared.events.Event.TheVariants as event
 use Rattle.effect_world.specs.Wholes.{whole_of}
 use Rattle.effect_acts.proofs.Acts.{acted_told, refused_gone}
 use Rattle.effect_acts.proofs.disposal.dispose.Goals as goal

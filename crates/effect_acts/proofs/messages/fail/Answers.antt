@@ -1,6 +1,6 @@
 use Rattle.std.proofs.Common.{refl}
 use Rattle.effect_model.specs.Worlds.{failed, tell}
-use Rattle.effect_world.specs.declared.events.Event.TheVariants as event
+use Rattle.sig_effect.specs.declared.events.Event.TheVariants as event
 use Rattle.effect_world.specs.Signals.{any_hosts}
 use Rattle.effect_acts.proofs.Acts.{acted_told}
 use Rattle.effect_acts.proofs.messages.fail.Goals as goal

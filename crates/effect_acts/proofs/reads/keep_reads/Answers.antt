@@ -5,7 +5,7 @@ use Rattle.effect_model.specs.Runs.{keep_reads}
 use Rattle.effect_model.specs.Worlds.{World, body_ran}
 use Rattle.effect_tables.specs.Runs.{with_kept}
 use Rattle.effect_tables.specs.Placed.{placed}
-use Rattle.effect_world.specs.declared.events.Event.TheVariants as event
+use Rattle.sig_effect.specs.declared.events.Event.TheVariants as event
 use Rattle.effect_world.proofs.Shared.{one_told}
 use Rattle.effect_acts.proofs.Tabled.{acted_tabled, owned_kept}
 use Rattle.effect_acts.proofs.reads.keep_reads.Goals as goal

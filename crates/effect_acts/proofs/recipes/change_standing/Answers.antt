@@ -20,6 +20,6 @@ change-requires-clause-kind g c = sym c.is_cell.ensures ∙ c.if-is_cell.false
 
 pub change-requires-clause-given : goal.change-requires-clause-given
 change-requires-clause-given g c =
-    All-from_recursion (λ n. is_given c.args.world.now.signals.graph n ≡ true) c.args.slots.items
-    (given_slots (is_given c.args.world.now.signals.graph) (whole_of (map (λ p. record { there = is_some p.host; asks = p.count }) c.args.shelf.now.places.items) c.args.world.now) c.args.slots.items (λ n h. c.made-made.ensures.used.names n h)
+    All-from_recursion (λ n. is_given c.args.world.now.graph n ≡ true) c.args.slots.items
+    (given_slots (is_given c.args.world.now.graph) (whole_of (map (λ p. record { there = is_some p.host; asks = p.count }) c.args.shelf.now.places.items) c.args.world.now) c.args.slots.items (λ n h. c.made-made.ensures.used.names n h)
     (slots_open c.args.id (recipe_made (expression_of c.args.recipe) c.args.slots.items) (whole_of (map (λ p. record { there = is_some p.host; asks = p.count }) c.args.shelf.now.places.items) c.args.world.now) c.requires.open))

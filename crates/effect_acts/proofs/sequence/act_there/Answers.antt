@@ -1,4 +1,4 @@
-use Rattle.std.proofs.Common.{[], ◌∷◌, map, is_some, refl, ap, arith}
+use Rattle.std.proofs.Common.{[], ◌∷◌, map, is_some, refl, arith}
 use Rattle.std.specs.Rc.{rc_value}
 use Rattle.effect_model.specs.Owners.{the_effect}
 use Rattle.effect_model.specs.Runs.{do_act, do_acts}

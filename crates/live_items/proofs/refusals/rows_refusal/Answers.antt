@@ -6,4 +6,4 @@ pub returns : goal.returns
 returns c =
     let m = c.args.machine.now in
     c.in_ok-refusal.ensures
-    ∙ ap (λ (n : ℕ). edit_refusal c.args.edit.now (rows_at m.world.signals.graph.state.signals n)) (c.of-list.ensures ∙ c.number_of.ensures)
+    ∙ ap (λ (n : ℕ). edit_refusal c.args.edit.now (rows_at m.world.graph.state.signals n)) (c.of-list.ensures ∙ c.number_of.ensures)

@@ -3,7 +3,7 @@ use Rattle.std.proofs.lemmas.List.{length-map}
 use Rattle.sig_computed.specs.Notes.{note_of, IsSettling}
 use Rattle.sig_computed.specs.declared.notes.RunNote.{RunNote}
 use Rattle.sig_effect.proofs.Shared.{agrees_settled, settle_does}
-use Rattle.sig_effect.specs.declared.events.Event.TheVariants as signal
+use Rattle.effect_world.specs.Wholes.{stores_of}
 use Rattle.effect_world.proofs.Shared.{owned_still, settle_done}
 use Rattle.page_model.specs.Pages.{bare}
 use Rattle.tpl_live.specs.Pages.{page_in}
@@ -23,15 +23,15 @@ returns-clause-page g c = λ hosts slacks all sound.
     let e = c.in_ok-page.ensures in
     let s = (rw (c.in_ok-links.ensures, c.deref.ensures.value) at e).settles in
     let links : c.in_ok-links.links.items ≡ c.args.linked.now.links.items = c.in_ok-links.ensures ∙ c.deref.ensures.value in
-    let carried : List ℕ → Updated = λ ls. updated hosts w.signals.graph.state.signals t.lines ls w.signals.graph.state.memos bare in
-    let new = record w { signals = record (w.signals) { graph = c.mount.new.graph } } in
+    let carried : List ℕ → Updated = λ ls. updated hosts w.graph.state.signals t.lines ls w.graph.state.memos bare in
+    let new = record w { graph = c.mount.new.graph } in
     let none : c.new-notes.result.items ≡ [] = c.new-notes.ensures.items in
-    let names = asked_of hosts w.signals.graph.state.signals t in
-    let d = settle_does hosts slacks _ _ w.signals new.signals names c.mount.new.notes.items [] _ s.signals s.given refl
-    (subst (λ (ns : List RunNote). IsSettling hosts w.signals.graph.state.signals w.signals.graph.state.memos names
+    let names = asked_of hosts w.graph.state.signals t in
+    let d = settle_does hosts slacks _ _ (stores_of w) (stores_of new) names c.mount.new.notes.items [] _ s.signals s.given refl
+    (subst (λ (ns : List RunNote). IsSettling hosts w.graph.state.signals w.graph.state.memos names
     (map note_of ns) (map note_of c.mount.new.notes.items) c.mount.new.graph.state.memos) none (s.settled hosts all sound.kept))
     (s.asked hosts all sound.kept) refl (s.kept hosts all sound.kept) sound in
-    let lifted = settle_done hosts slacks _ _ w new [] _ [] (map signal.Run c.mount.new.notes.items) names refl d refl c.requires.agrees.owned.tables refl in
+    let lifted = settle_done hosts slacks _ _ w new [] _ names d refl c.requires.agrees.owned.tables in
     fresh_made hosts slacks _ _ (labels_of c.args.labels.now) t w new _ _ c.args.told.now.items c.tell_runs.new.told.items c.mount.new.notes.items lifted
     (ap (λ z. page_in (standing z)) c.in_ok-page-2.ensures.ok ∙ (e.page hosts all sound.kept ∙ ap (λ (ls : List ℕ). (carried ls).page) links))
     (e.ops hosts all sound.kept ∙ ap (λ (ls : List ℕ). (carried ls).ops) links)
@@ -50,9 +50,9 @@ pub returns-clause-agrees : goal.returns-clause-agrees
 returns-clause-agrees g c =
     let w = c.args.world.now in
     let s = c.in_ok-page.ensures.settles in
-    let new = record w { signals = record (w.signals) { graph = c.mount.new.graph } } in
+    let new = record w { graph = c.mount.new.graph } in
     record {
-      signals = agrees_settled _ _ w.signals new.signals s.signals s.idle s.there refl c.requires.agrees.signals;
+      signals = agrees_settled _ _ (stores_of w) (stores_of new) s.signals s.idle s.there refl c.requires.agrees.signals;
       owned = owned_still w new s.given refl c.requires.agrees.owned;
     }
 

@@ -3,7 +3,7 @@ use Rattle.std.proofs.lemmas.List.{length-map}
 use Rattle.sig_computed.specs.Notes.{note_of, IsSettling}
 use Rattle.sig_computed.specs.declared.notes.RunNote.{RunNote}
 use Rattle.sig_effect.proofs.Shared.{agrees_settled, settle_does}
-use Rattle.sig_effect.specs.declared.events.Event.TheVariants as signal
+use Rattle.effect_world.specs.Wholes.{stores_of}
 use Rattle.effect_world.proofs.Shared.{owned_still, settle_done}
 use Rattle.page_model.specs.Forest.{Forest}
 use Rattle.page_model.specs.Labels.{Kind}
@@ -22,15 +22,15 @@ returns-clause-tree g c = λ hosts slacks all sound.
     let t = template_of c.args.linked.now in
     let e = c.in_ok-tree.ensures in
     let s = (rw c.deref.ensures.value at e).settles in
-    let shown : List ℕ → Forest Kind = λ ls. tree_of (updated hosts w.signals.graph.state.signals t.lines ls w.signals.graph.state.memos bare).page in
-    let new = record w { signals = record (w.signals) { graph = c.tree_from_scratch.new.graph } } in
+    let shown : List ℕ → Forest Kind = λ ls. tree_of (updated hosts w.graph.state.signals t.lines ls w.graph.state.memos bare).page in
+    let new = record w { graph = c.tree_from_scratch.new.graph } in
     let none : c.new-notes.result.items ≡ [] = c.new-notes.ensures.items in
-    let names = asked_of hosts w.signals.graph.state.signals t in
-    let d = settle_does hosts slacks _ _ w.signals new.signals names c.tree_from_scratch.new.notes.items [] _ s.signals s.given refl
-    (subst (λ (ns : List RunNote). IsSettling hosts w.signals.graph.state.signals w.signals.graph.state.memos names
+    let names = asked_of hosts w.graph.state.signals t in
+    let d = settle_does hosts slacks _ _ (stores_of w) (stores_of new) names c.tree_from_scratch.new.notes.items [] _ s.signals s.given refl
+    (subst (λ (ns : List RunNote). IsSettling hosts w.graph.state.signals w.graph.state.memos names
     (map note_of ns) (map note_of c.tree_from_scratch.new.notes.items) c.tree_from_scratch.new.graph.state.memos) none (s.settled hosts all sound.kept))
     (s.asked hosts all sound.kept) refl (s.kept hosts all sound.kept) sound in
-    let lifted = settle_done hosts slacks _ _ w new [] _ [] (map signal.Run c.tree_from_scratch.new.notes.items) names refl d refl c.requires.agrees.owned.tables refl in
+    let lifted = settle_done hosts slacks _ _ w new [] _ names d refl c.requires.agrees.owned.tables in
     tree_made hosts slacks _ _ (labels_of c.args.labels.now) t w new _ c.args.told.now.items c.tell_runs.new.told.items c.tree_from_scratch.new.notes.items lifted
     (e.tree hosts all sound.kept ∙ ap shown c.deref.ensures.value)
     (c.in_ok-tell_runs.ensures ∙ (λ i. c.args.told.now.items ++ map (note_entry (c.deref-2.ensures.value i)) (map note_of (c.deref-3.ensures.value i))))
@@ -42,9 +42,9 @@ pub returns-clause-agrees : goal.returns-clause-agrees
 returns-clause-agrees g c =
     let w = c.args.world.now in
     let s = c.in_ok-tree.ensures.settles in
-    let new = record w { signals = record (w.signals) { graph = c.tree_from_scratch.new.graph } } in
+    let new = record w { graph = c.tree_from_scratch.new.graph } in
     record {
-      signals = agrees_settled _ _ w.signals new.signals s.signals s.idle s.there refl c.requires.agrees.signals;
+      signals = agrees_settled _ _ (stores_of w) (stores_of new) s.signals s.idle s.there refl c.requires.agrees.signals;
       owned = owned_still w new s.given refl c.requires.agrees.owned;
     }
 

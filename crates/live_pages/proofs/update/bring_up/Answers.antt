@@ -3,7 +3,7 @@ use Rattle.std.proofs.lemmas.List.{length-map}
 use Rattle.sig_computed.specs.Notes.{note_of, IsSettling}
 use Rattle.sig_computed.specs.declared.notes.RunNote.{RunNote}
 use Rattle.sig_effect.proofs.Shared.{agrees_settled, settle_does}
-use Rattle.sig_effect.specs.declared.events.Event.TheVariants as signal
+use Rattle.effect_world.specs.Wholes.{stores_of}
 use Rattle.effect_world.proofs.Shared.{owned_still, settle_done}
 use Rattle.live_model.specs.Pages.{asked_of, template_in}
 use Rattle.live_labels.specs.Entries.{note_entry}
@@ -22,15 +22,15 @@ returns-clause-page g c = λ hosts slacks templates all sound shown.
     let t = template_in templates c.args.page.now.template in
     let e = c.in_ok-ops.ensures in
     let s = e.settles t.lines t.links shown.stands in
-    let new = record w { signals = record (w.signals) { graph = c.update.new.graph } } in
+    let new = record w { graph = c.update.new.graph } in
     let q : Mounted = record (c.args.page.now) { page = c.update.new.self } in
     let none : c.new-notes.result.items ≡ [] = c.new-notes.ensures.items in
-    let names = asked_of hosts w.signals.graph.state.signals t in
-    let d = settle_does hosts slacks _ _ w.signals new.signals names c.update.new.notes.items [] _ s.signals s.given refl
-    (subst (λ (ns : List RunNote). IsSettling hosts w.signals.graph.state.signals w.signals.graph.state.memos names
+    let names = asked_of hosts w.graph.state.signals t in
+    let d = settle_does hosts slacks _ _ (stores_of w) (stores_of new) names c.update.new.notes.items [] _ s.signals s.given refl
+    (subst (λ (ns : List RunNote). IsSettling hosts w.graph.state.signals w.graph.state.memos names
     (map note_of ns) (map note_of c.update.new.notes.items) c.update.new.graph.state.memos) none (s.settled hosts all sound.kept))
     (s.asked hosts all sound.kept) refl (s.kept hosts all sound.kept) sound in
-    let lifted = settle_done hosts slacks _ _ w new [] _ [] (map signal.Run c.update.new.notes.items) names refl d refl c.requires.agrees.owned.tables refl in
+    let lifted = settle_done hosts slacks _ _ w new [] _ names d refl c.requires.agrees.owned.tables in
     page_up hosts slacks _ _ (labels_of c.args.labels.now) templates w new c.args.page.now q _ c.args.told.now.items c.tell_news.new.told.items c.update.new.notes.items lifted
     (ap (λ n. record (page_of c.args.page.now) { content = n }) (e.page t.lines t.links shown.stands hosts all sound.kept))
     (e.ops t.lines t.links shown.stands hosts all sound.kept)
@@ -55,14 +55,14 @@ returns-clause-sound g c = λ hosts all sound.
     let w = c.args.world.now in
     let r = c.requires.stands in
     let s = c.in_ok-ops.ensures.settles r.lines r.links r.stands in
-    let new = record w { signals = record (w.signals) { graph = c.update.new.graph } } in
+    let new = record w { graph = c.update.new.graph } in
     let none : c.new-notes.result.items ≡ [] = c.new-notes.ensures.items in
-    let names = asked_of hosts w.signals.graph.state.signals (record { lines = r.lines; links = r.links }) in
-    let d = settle_does hosts [] _ _ w.signals new.signals names c.update.new.notes.items [] _ s.signals s.given refl
-    (subst (λ (ns : List RunNote). IsSettling hosts w.signals.graph.state.signals w.signals.graph.state.memos names
+    let names = asked_of hosts w.graph.state.signals (record { lines = r.lines; links = r.links }) in
+    let d = settle_does hosts [] _ _ (stores_of w) (stores_of new) names c.update.new.notes.items [] _ s.signals s.given refl
+    (subst (λ (ns : List RunNote). IsSettling hosts w.graph.state.signals w.graph.state.memos names
     (map note_of ns) (map note_of c.update.new.notes.items) c.update.new.graph.state.memos) none (s.settled hosts all sound.kept))
     (s.asked hosts all sound.kept) refl (s.kept hosts all sound.kept) sound in
-    (settle_done hosts [] _ _ w new [] _ [] (map signal.Run c.update.new.notes.items) names refl d refl c.requires.agrees.owned.tables refl).sound
+    (settle_done hosts [] _ _ w new [] _ names d refl c.requires.agrees.owned.tables).sound
 
 pub returns-clause-world : goal.returns-clause-world
 returns-clause-world g c = let s = (c.in_ok-ops.ensures.settles c.requires.stands.lines c.requires.stands.links c.requires.stands.stands) in record { signals = s.signals; given = s.given; watchers = refl; tables = refl }
@@ -71,9 +71,9 @@ pub returns-clause-agrees : goal.returns-clause-agrees
 returns-clause-agrees g c =
     let w = c.args.world.now in
     let s = (c.in_ok-ops.ensures.settles c.requires.stands.lines c.requires.stands.links c.requires.stands.stands) in
-    let new = record w { signals = record (w.signals) { graph = c.update.new.graph } } in
+    let new = record w { graph = c.update.new.graph } in
     record {
-      signals = agrees_settled _ _ w.signals new.signals s.signals s.idle s.there refl c.requires.agrees.signals;
+      signals = agrees_settled _ _ (stores_of w) (stores_of new) s.signals s.idle s.there refl c.requires.agrees.signals;
       owned = owned_still w new s.given refl c.requires.agrees.owned;
     }
 

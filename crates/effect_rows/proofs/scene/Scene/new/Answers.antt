@@ -3,5 +3,5 @@ use Rattle.effect_rows.proofs.scene.Scene.new.Goals as goal
 
 pub returns-clause-can : goal.returns-clause-can
 returns-clause-can g c =
-    cells_can c.in_ok-world.world c.make_cell.new.self c.make_cell-2.new.self _ _ _ c.in_ok-world.ensures.agrees c.in_ok-first.ensures.agrees c.in_ok-second.ensures.agrees
-    c.in_ok-world.ensures.unworn c.in_ok-first.ensures.worn c.in_ok-second.ensures.worn c.in_ok-shelf.ensures.asked
+    cells_can c.in_ok-graph.graph c.add_cell.new.self c.add_cell-2.new.self _ _ _ c.in_ok-first.first c.in_ok-second.second _ _ _ _ c.in_ok-graph.ensures.state
+    c.in_ok-first.ensures.after c.in_ok-second.ensures.after c.in_ok-shelf.ensures.asked

@@ -1,22 +1,33 @@
-use Rattle.std.proofs.Common.{refl, ◌∷◌, []}
+use Rattle.std.proofs.Common.{List, [], ◌∷◌, map, refl, sym, subst}
+use Rattle.sig_computed.specs.declared.notes.RunNote.{RunNote}
+use Rattle.sig_computed.specs.Notes.{note_of, AreNotesGiven}
 use Rattle.effect_world.specs.declared.world.World.{World}
+use Rattle.sig_effect.proofs.Shared.{agrees_settled, ask_does}
+use Rattle.sig_effect.proofs.Shared.{none_given, runs_behind}
+use Rattle.effect_world.specs.Wholes.{stores_of}
 use Rattle.effect_world.proofs.Worlds.{owned_still, settle_done}
-use Rattle.effect_world.proofs.Told.{most_more, worn_more}
 use Rattle.effect_world.proofs.world.World.ask.Goals as goal
 
 pub returns-clause-does : goal.returns-clause-does
 returns-clause-does g c = λ hosts slacks all sound.
-    let new : World = record { signals = c.ask.new.self; tables = c.args.self.now.tables } in
-    settle_done hosts slacks _ _ c.args.self.now new _ _ _ _ (c.args.id ∷ []) c.new-told.ensures.items (c.in_ok-outcome.ensures.does hosts slacks all sound) refl c.requires.agrees.owned.tables
-    c.in_ok-tell_signals.ensures
+    let e = c.in_ok-outcome.ensures.settles in
+    let new : World = record { graph = c.settle.new.graph; watchers = c.args.self.now.watchers; tables = c.args.self.now.tables } in
+    settle_done hosts slacks _ _ c.args.self.now new _ _ (c.args.id ∷ [])
+    (ask_does hosts slacks _ _ (stores_of c.args.self.now) (stores_of new) c.args.id c.new-notes.result.items c.settle.new.notes.items _ _ c.new-notes.ensures.items e.signals e.given refl
+    (e.settled hosts all sound.kept) (e.asked hosts all sound.kept) c.in_ok-tell_runs.ensures (e.kept hosts all sound.kept) sound) refl c.requires.agrees.owned.tables
 
 pub returns-clause-agrees : goal.returns-clause-agrees
 returns-clause-agrees g c =
-    let new : World = record { signals = c.ask.new.self; tables = c.args.self.now.tables } in
-    record { signals = c.in_ok-outcome.ensures.agrees; owned = owned_still c.args.self.now new c.in_ok-outcome.ensures.given refl c.requires.agrees.owned }
+    let e = c.in_ok-outcome.ensures in
+    let new : World = record { graph = c.settle.new.graph; watchers = c.args.self.now.watchers; tables = c.args.self.now.tables } in
+    record {
+      signals = agrees_settled _ _ (stores_of c.args.self.now) (stores_of new) e.settles.signals e.settles.idle e.settles.there refl c.requires.agrees.signals;
+      owned = owned_still c.args.self.now new e.settles.given refl c.requires.agrees.owned;
+    }
 
-pub returns-clause-most : goal.returns-clause-most
-returns-clause-most g c = most_more _ _ _ _ _ _ c.new-told.ensures.items c.in_ok-tell_signals.ensures c.in_ok-outcome.ensures.most
-
-pub returns-clause-worn : goal.returns-clause-worn
-returns-clause-worn g c = worn_more _ _ _ _ _ _ c.new-told.ensures.items c.in_ok-tell_signals.ensures c.in_ok-outcome.ensures.worn
+pub returns-clause-named : goal.returns-clause-named
+returns-clause-named g c = λ named.
+    let e = c.in_ok-outcome.ensures.settles in
+    runs_behind c.args.self.now.graph c.settle.new.graph c.args.self.now.watchers.made c.settle.new.notes.items _ _ e.given
+    (e.named (subst (λ (ns : List RunNote). AreNotesGiven c.args.self.now.graph (map note_of ns)) (sym c.new-notes.ensures.items) (none_given c.args.self.now.graph)))
+    c.in_ok-tell_runs.ensures named

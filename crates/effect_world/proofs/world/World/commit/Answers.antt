@@ -1,20 +1,32 @@
-use Rattle.std.proofs.Common.{refl, ap}
+use Rattle.std.proofs.Common.{◌∙◌, map, ap}
+use Rattle.effect_model.specs.Acts.{is_notified_by_any}
+use Rattle.sig_watcher.specs.Tables.{Table}
+use Rattle.sig_effect.proofs.Shared.{behind_none, commit_agrees, commit_does}
+use Rattle.effect_model.specs.Batches.{commit}
 use Rattle.sig_nodes.specs.States.{Seen}
-use Rattle.effect_world.specs.declared.world.World.{World}
-use Rattle.effect_world.proofs.Batched.{commit_done}
-use Rattle.effect_world.proofs.Worlds.{owned_still}
+use Rattle.sig_effect.specs.Stores.{environment}
+use Rattle.effect_world.specs.Wholes.{stores_of}
+use Rattle.effect_world.proofs.Batched.{framed_commit}
+use Rattle.effect_world.proofs.Worlds.{owned_still, signals_done}
 use Rattle.effect_world.proofs.world.World.commit.Goals as goal
 
 pub returns-clause-does : goal.returns-clause-does
 returns-clause-does g c = λ hosts asked sound.
-    let new : World = record { signals = c.commit.new.self; tables = c.args.self.now.tables } in
-    commit_done hosts _ asked c.args.self.now new _ _ _ _ c.args.batch.now.changed c.new-told.ensures.items (c.in_ok-commit.ensures.does hosts asked sound) refl
-    c.requires.owned.tables c.in_ok-tell_signals.ensures
+    let e = c.in_ok-notify_of_all.ensures in
+    let env = environment hosts (map (λ r. r.slack) c.args.rules.now) in
+    signals_done hosts asked asked c.args.self.now c.notify_of_all.new.self _ _ (commit env c.args.batch.now.changed)
+    (commit_does hosts _ asked (stores_of c.args.self.now) (stores_of c.notify_of_all.new.self) _ _ c.args.batch.now.changed c.deref.result.now
+    (c.deref.ensures.value ∙ behind_none c.net.new.out.items _ c.in_ok-cells.cells.items c.in_ok-cells.ensures.items c.net.ensures) e.graph e.watchers e.notices sound)
+    (framed_commit env c.args.batch.now.changed) e.tables c.requires.owned.tables
 
 pub returns-clause-agrees : goal.returns-clause-agrees
 returns-clause-agrees g c = λ asked a.
-    let new : World = record { signals = c.commit.new.self; tables = c.args.self.now.tables } in
+    let e = c.in_ok-notify_of_all.ensures in
     record {
-      signals = c.in_ok-commit.ensures.agrees asked a.signals;
-      owned = owned_still c.args.self.now new (ap (λ (s : Seen). s.given) c.in_ok-commit.ensures.graph) refl a.owned;
+      signals = commit_agrees asked (stores_of c.args.self.now) (stores_of c.notify_of_all.new.self)
+          (is_notified_by_any c.args.self.now.graph.state.signals c.args.self.now.graph.state.memos c.deref.result.now) e.graph e.watchers a.signals;
+      owned = owned_still c.args.self.now c.notify_of_all.new.self (ap (λ (g : Seen). g.given) e.graph) e.tables a.owned;
     }
+
+pub returns-clause-made : goal.returns-clause-made
+returns-clause-made g c = ap (λ (t : Table). t.made) c.in_ok-notify_of_all.ensures.watchers

@@ -31,13 +31,13 @@ undo_all-requires-clause-agrees g c = c.requires.agrees.signals
 
 pub returns-in_ok-undo_all-in-Ok-clause-does : goal.returns-in_ok-undo_all-in-Ok-clause-does
 returns-in_ok-undo_all-in-Ok-clause-does g c =
-    let mid : World = record { signals = c.args.self.now.signals; tables = c.take_out.new.tables } in
+    let mid : World = record { graph = c.args.self.now.graph; watchers = c.args.self.now.watchers; tables = c.take_out.new.tables } in
     out_does _ c.args.self.now mid c.undo_all.new.self _ _ _ _ _ _ _ (thing_of c.args.thing) c.in-Ok.undoings.items _ c.deref.ensures.value refl c.in_ok-undo_all-in-Ok.ensures.done c.in-Ok.ensures.takes
     (lives_by _ c.args.self.now (thing_of c.args.thing) (sym c.is_standing.ensures ∙ c.if-not-is_standing.false) c.in-Ok.ensures.there)
 
 pub returns-in_ok-undo_all-in-Ok-clause-agrees : goal.returns-in_ok-undo_all-in-Ok-clause-agrees
 returns-in_ok-undo_all-in-Ok-clause-agrees g c =
-    let mid : World = record { signals = c.args.self.now.signals; tables = c.take_out.new.tables } in
+    let mid : World = record { graph = c.args.self.now.graph; watchers = c.args.self.now.watchers; tables = c.take_out.new.tables } in
     agrees_now _ c.args.self.now mid c.undo_all.new.self _ _ _ _ _ _ _ (thing_of c.args.thing) c.in-Ok.undoings.items _ c.deref.ensures.value refl c.in_ok-undo_all-in-Ok.ensures.done _ c.in-Ok.ensures.takes.takes
     c.requires.agrees.owned
 

@@ -5,20 +5,21 @@ use Rattle.effect_model.specs.Worlds as plain
 use Rattle.effect_tables.specs.Placed.{listed}
 use Rattle.sig_effect.specs.Wholes as wholes
 use Rattle.effect_world.specs.declared.world.World.{World}
+use Rattle.effect_world.specs.Wholes.{stores_of}
 use Rattle.effect_world.proofs.Worlds.{owned_same, tables_done}
 use Rattle.effect_world.proofs.world.World.make_owner.Goals as goal
 
 pub returns-clause-does : goal.returns-clause-does
 returns-clause-does c = λ hosts asked sound.
-    let new : World = record { signals = c.args.self.now.signals; tables = c.make_owner.new.self } in
+    let new : World = record { graph = c.args.self.now.graph; watchers = c.args.self.now.watchers; tables = c.make_owner.new.self } in
     tables_done hosts asked c.args.self.now new [] (with_new_owner c.args.inside) c.in_ok-id.ensures.does refl c.in_ok-id.ensures.holds sound
 
 pub returns-clause-agrees : goal.returns-clause-agrees
 returns-clause-agrees c = λ asked a.
-    let new : World = record { signals = c.args.self.now.signals; tables = c.make_owner.new.self } in
+    let new : World = record { graph = c.args.self.now.graph; watchers = c.args.self.now.watchers; tables = c.make_owner.new.self } in
     record {
       signals = a.signals;
       owned = owned_same c.args.self.now new c.args.inside (the_owner (length c.args.self.now.tables.owners.items)) tt refl
-          (ap (λ (w : plain.World). listed w.owned) (c.in_ok-id.ensures.does (wholes.whole_of asked c.args.self.now.signals)))
+          (ap (λ (w : plain.World). listed w.owned) (c.in_ok-id.ensures.does (wholes.whole_of asked (stores_of c.args.self.now))))
           c.in_ok-id.ensures.holds c.in_ok-id.ensures.signals a.owned;
     }

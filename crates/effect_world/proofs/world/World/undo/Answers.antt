@@ -1,7 +1,6 @@
 use Rattle.std.proofs.Common.{ap, sym, subst, ◌∙◌}
 use Rattle.effect_model.specs.Acts.{undo}
 use Rattle.effect_model.specs.Owners.{cleans, ends, the_effect}
-use Rattle.effect_tables.specs.declared.thing.Undoing.TheVariants as undoing
 use Rattle.effect_tables.specs.Bodies.{thing_of, undoing_of}
 use Rattle.sig_owner.specs.Tables.{cleanup_of}
 use Rattle.effect_world.specs.Signals.{IsNoted}

@@ -1,16 +1,26 @@
-use Rattle.std.proofs.Common.{refl, ap}
+use Rattle.std.proofs.Common.{sym, refl, subst}
 use Rattle.effect_model.specs.Commands.{armed}
-use Rattle.sig_nodes.specs.States.{Seen}
+use Rattle.sig_watcher.specs.Tables.{Table}
+use Rattle.sig_effect.specs.Stores.{AreWatched}
+use Rattle.sig_effect.proofs.Shared.{watched_armed}
 use Rattle.effect_world.specs.declared.world.World.{World}
 use Rattle.effect_world.proofs.Worlds.{owned_still, watch_done}
 use Rattle.effect_world.proofs.world.World.watch.Goals as goal
 
 pub returns-clause-does : goal.returns-clause-does
 returns-clause-does c = λ hosts asked sound.
-    let new : World = record { signals = c.watch.new.self; tables = c.args.self.now.tables } in
-    watch_done hosts asked c.args.self.now new c.args.w (armed c.args.ids.now) (c.in_ok-watch.ensures.does hosts asked sound) refl c.requires.owned.tables
+    let new : World = record { graph = c.args.self.now.graph; watchers = c.watch.new.self; tables = c.args.self.now.tables } in
+    watch_done hosts asked c.args.self.now new c.args.w (armed c.args.ids.now) refl c.in_ok-watch.ensures.after refl c.requires.owned.tables sound
 
 pub returns-clause-agrees : goal.returns-clause-agrees
-returns-clause-agrees c = λ asked there a.
-    let new : World = record { signals = c.watch.new.self; tables = c.args.self.now.tables } in
-    record { signals = c.in_ok-watch.ensures.agrees asked there a.signals; owned = owned_still c.args.self.now new (ap (λ (g : Seen). g.given) c.in_ok-watch.ensures.graph) refl a.owned }
+returns-clause-agrees c = λ asked there a. record {
+  signals = record {
+    idle = a.signals.idle;
+    listed = a.signals.listed;
+    there = a.signals.there;
+    own = a.signals.own;
+    watched = subst (λ (t : Table). AreWatched c.args.self.now.graph.state.signals t.watchers) (sym c.in_ok-watch.ensures.after)
+        (watched_armed c.args.self.now.graph.state.signals c.args.self.now.watchers.watchers c.args.w c.args.ids.now there a.signals.watched);
+  };
+  owned = owned_still c.args.self.now (record { graph = c.args.self.now.graph; watchers = c.watch.new.self; tables = c.args.self.now.tables }) refl refl a.owned;
+}

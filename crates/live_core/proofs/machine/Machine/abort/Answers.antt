@@ -24,5 +24,5 @@ returns-clause-leaves c = λ hosts asked count sound.
     leaves_batched asked asked count m c.abort.new.self c.tell_all.new.labels c.take.new.self c.requires.ready c.in_ok-told.ensures.names
     (stays_quiet asked m.world c.abort.new.self (abort c.in-Some.batch.changed) (e.does hosts asked sound).whole
     (all_keep_kinds.aborting c.in-Some.batch.changed) e.given (ap (λ (t : Table). t.made) e.watchers) e.tables)
-    e.tables (roomy_none c.abort.new.self.signals.graph.state.signals c.take.new.self c.take.ensures.after) (λ a. e.agrees asked a) (λ r. e.rules count r)
+    e.tables (roomy_none c.abort.new.self.graph.state.signals c.take.new.self c.take.ensures.after) (λ a. e.agrees asked a) (λ r. e.rules count r)
     (let w = e.worn in let t = ap (λ x. x.effects_made) e.tables in let l = c.len-count.ensures in omega (arith, w, t, l))

@@ -13,7 +13,7 @@ returns-clause-steps c = λ hosts slacks asked sound. record {
 pub returns-clause-leaves : goal.returns-clause-leaves
 returns-clause-leaves c = λ asked count. record {
   ready = ready_batched c.args.self.now (Some c.in_ok-batch.batch) c.requires.ready
-      (roomy_new c.args.self.now.world.signals.graph.state.signals c.in_ok-batch.batch c.in_ok-batch.ensures.changed c.in_ok-batch.ensures.room);
+      (roomy_new c.args.self.now.world.graph.state.signals c.in_ok-batch.batch c.in_ok-batch.ensures.changed c.in_ok-batch.ensures.room);
   holds = λ h. h;
   weight = omega arith;
 }

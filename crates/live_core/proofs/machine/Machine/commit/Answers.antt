@@ -30,6 +30,6 @@ returns-clause-leaves g c = λ hosts asked count sound.
     leaves_batched asked asked count m c.commit.new.self c.tell_all.new.labels c.take.new.self c.requires.ready c.in_ok-told.ensures.names
     (stays_quiet asked m.world c.commit.new.self (commit env c.in-Some.batch.changed) (e.does hosts asked sound).whole
     (all_keep_kinds.committing env c.in-Some.batch.changed) (ap (λ (s : Seen). s.given) e.graph) e.made e.tables)
-    e.tables (roomy_none c.commit.new.self.signals.graph.state.signals c.take.new.self c.take.ensures.after) (λ a. e.agrees asked a)
+    e.tables (roomy_none c.commit.new.self.graph.state.signals c.take.new.self c.take.ensures.after) (λ a. e.agrees asked a)
     (λ r. subst (λ (s : Seen). AreRuled count s.state.signals) (sym e.graph) r)
     (let w = ap (λ (s : Seen). s.state.worn) e.graph in let t = ap (λ x. x.effects_made) e.tables in omega (arith, w, t))

@@ -37,5 +37,5 @@ returns-clause-leaves g c = λ hosts count all sound.
     leaves_ended _ _ count m new c.requires.ready (record { names = refl; templates = refl; labels = c.in_ok-told.ensures.names })
     (stays_by _ _ m.world c.dispose.new.self (dispose_thing env thing) (e.does hosts sound).whole (all_keep_counts.disposing env thing) (all_keep_kinds.disposing env thing))
     (c.keep_live.ensures ∙ ap (λ ns. filter (λ p. is_in p.number ns) m.pages.items) c.deref-2.ensures.value)
-    (roomy_none c.dispose.new.self.signals.graph.state.signals m.batch c.requires.alone) (λ a. e.agrees) (λ r. e.rules count r)
+    (roomy_none c.dispose.new.self.graph.state.signals m.batch c.requires.alone) (λ a. e.agrees) (λ r. e.rules count r)
     (let w = e.worn in let before = ap length c.new-events.ensures.items in let small = c.dispose.new.events.small in omega (arith, w, before, small))

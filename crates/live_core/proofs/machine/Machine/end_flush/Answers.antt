@@ -30,7 +30,7 @@ returns-clause-leaves g c = λ hosts count ready all sound.
       ready = ready_changed m new ready
           (record { names = refl; templates = refl; labels = record { signals = refl; owners = refl; pages = refl; watchers = refl } }) (stays_settled m.world new.world e.world) (e.shown (map template_of m.templates.items) c.requires.shown)
           (pages_kept m.world new.world m.pages.items new.pages.items e.numbers (ap (λ t. t.pages.items) e.world.tables) (ap (λ t. t.pages_made) e.world.tables) ready.pages)
-          (roomy_same m.world.signals.graph.state.signals new.world.signals.graph.state.signals m.batch e.world.signals ready.batch);
+          (roomy_same m.world.graph.state.signals new.world.graph.state.signals m.batch e.world.signals ready.batch);
       holds = λ h. record { agrees = e.agrees; ruled = subst (AreRuled count) (sym e.world.signals) h.ruled };
       weight = let a = e.worn in let b = ap (λ t. t.effects_made) e.world.tables in omega (arith, a, b);
     }

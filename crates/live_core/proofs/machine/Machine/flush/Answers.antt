@@ -45,7 +45,7 @@ returns-clause-leaves g c = λ hosts all sound.
     let first = leaves_ended _ _ (length c.args.rules.now) m middle c.requires.ready (record { names = refl; templates = refl; labels = c.in_ok-told.ensures.names })
     (stays_by _ _ m.world c.flush.new.world (λ w. (flush env w).world) d.whole (flushes_keep_counts env) (flushes_keep_kinds env))
     (c.keep_live.ensures ∙ ap (λ ns. filter (λ p. is_in p.number ns) m.pages.items) c.deref-2.ensures.value)
-    (roomy_none c.flush.new.world.signals.graph.state.signals m.batch c.requires.alone) (λ a. e.done.agrees) (λ r. e.done.rules _ r)
+    (roomy_none c.flush.new.world.graph.state.signals m.batch c.requires.alone) (λ a. e.done.agrees) (λ r. e.done.rules _ r)
     (omega (arith, heavy, before, small)) in
     let last = c.in_ok-told-2.ensures.leaves hosts (length c.args.rules.now) first.ready (e.done.answers hosts all) d.sound in
     let more = c.in_ok-told-2.ensures.weight in

@@ -27,7 +27,7 @@ returns-clause-steps c = λ hosts slacks asked sound.
     let n = c.in_ok-name_signal.ensures in
     let d = e.does hosts asked sound in
     let labels = record (labels_of m.labels) { signals = m.labels.signals.items ++ c.args.name ∷ [] } in
-    steps_named hosts asked m new c.make_cell.new.self c.args.name kind.List c.in_ok-id.id m.world.signals.graph.given labels
+    steps_named hosts asked m new c.make_cell.new.self c.args.name kind.List c.in_ok-id.id m.world.graph.given labels
     (with_new_cell (value.Rows (no_rows c.args.fields.now)) None (owner_of m.names c.args.inside) (whole_of asked m.world)) c.new.result.items e.id
     (d.whole ∙ (λ i. at_rest (with_new_cell (c.in_ok-rows.ensures i) None (c.owner_of-owner.ensures i) (whole_of asked m.world))))
     (record { names = n.names; labels = n.labels; parts = n.parts }) c.new.ensures.items d.sound
@@ -39,15 +39,15 @@ returns-clause-leaves c = λ hosts asked rules sound.
     let e = c.in_ok-id.ensures in
     let n = c.in_ok-name_signal.ensures in
     let whole = (e.does hosts asked sound).whole in
-    let cell : Cell = record { name = m.world.signals.graph.given; value = c.in_ok-rows.rows; rule = None } in
+    let cell : Cell = record { name = m.world.graph.given; value = c.in_ok-rows.rows; rule = None } in
     let signals = ap (λ x. x.signals) whole in
     let labels = record (labels_of m.labels) { signals = m.labels.signals.items ++ c.args.name ∷ [] } in
     leaves_signal asked rules m new c.make_cell.new.self c.args.name kind.List c.in_ok-id.id labels c.requires.ready refl e.id
     (record { names = n.names; labels = n.labels; parts = n.parts }) refl refl
     (record { watchers = ap (λ x. x.made.watchers) whole; pages = ap (λ x. x.pages) whole; paged = ap (λ x. x.made.pages) whole })
     e.given
-    (beside_cell m.world.signals.graph.state.signals c.make_cell.new.self.signals.graph.state.signals cell signals)
-    (here_list m.world.signals.graph.state.signals c.make_cell.new.self.signals.graph.state.signals cell signals)
+    (beside_cell m.world.graph.state.signals c.make_cell.new.self.graph.state.signals cell signals)
+    (here_list m.world.graph.state.signals c.make_cell.new.self.graph.state.signals cell signals)
     c.requires.alone (let a = e.worn in let b = ap (λ x. x.made.effects) whole in omega (arith, a, b))
     (λ h. record { agrees = e.agrees asked h.agrees; ruled = e.ruled rules (λ r is. absurd cc) h.ruled })
 
@@ -57,7 +57,7 @@ returns-in_err-id-clause-memory c =
     let fine = neither (refused_at m.world m.names c.args.name need.New) _ (uses_fine m (command.List c.args.name c.args.fields.now c.args.inside) c.requires.fine) in
     let opened : is_open (living 0 m.world.tables.owners.items) c.owner_of-owner.result ≡ true =
     subst (λ o. is_open (living 0 m.world.tables.owners.items) o ≡ true) (sym c.owner_of-owner.ensures) (inside_open m.world m.names c.args.inside fine.1) in
-    let room = room_below MOST_NODES (live_count m.world.signals.graph.state.signals) limit.Nodes c.requires.room in
+    let room = room_below MOST_NODES (live_count m.world.graph.state.signals) limit.Nodes c.requires.room in
     let f = only_three _ (λ e. true_false (sym opened ∙ c.in_err-id.ensures.gone.0 (ap (λ x. Err x) e))) (λ e. not_most _ MOST_NODES room (c.in_err-id.ensures.limit.0 (ap (λ x. Err x) e)).1) in
     search rules
 

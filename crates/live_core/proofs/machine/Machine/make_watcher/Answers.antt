@@ -23,7 +23,7 @@ returns-clause-steps c = λ hosts slacks asked sound.
     let e = c.in_ok-watcher.ensures in
     let n = c.in_ok-name_watcher.ensures in
     let d = e.does hosts asked sound in
-    steps_named hosts asked m c.name_watcher.new.self c.make_watcher.new.self c.args.name kind.Watcher c.in_ok-watcher.watcher m.world.signals.watchers.made
+    steps_named hosts asked m c.name_watcher.new.self c.make_watcher.new.self c.args.name kind.Watcher c.in_ok-watcher.watcher m.world.watchers.made
     (record (labels_of m.labels) { watchers = m.labels.watchers.items ++ c.args.name ∷ [] })
     (with_new_watcher (is_trying c.args.tries) (whole_of asked m.world)) c.new.result.items e.id
     (d.whole ∙ ap (λ (b : Bool). at_rest (with_new_watcher b (whole_of asked m.world))) (c.is_some.ensures ∙ trying c.args.tries))

@@ -24,15 +24,15 @@ rewire-requires-clause-kind g c =
     let m = c.args.self.now in
     let fine = neither (refused_at m.world m.names c.args.name.now (need.Of kind.Computed)) _ (uses_fine m (command.Rewire c.args.name.now c.args.source) c.requires.fine) in
     let is = kind_used m.world _ m.names c.args.name.now kind.Computed refl c.requires.ready.meant (used_of m.world m.names c.args.name.now kind.Computed fine.0) in
-    no_cell (standing m.world.signals.graph.state.signals c.of-computed.result)
-    (ap (λ i. is_of_kind kind.Computed (standing m.world.signals.graph.state.signals i)) (c.of-computed.ensures ∙ c.number_of.ensures) ∙ is.1)
+    no_cell (standing m.world.graph.state.signals c.of-computed.result)
+    (ap (λ i. is_of_kind kind.Computed (standing m.world.graph.state.signals i)) (c.of-computed.ensures ∙ c.number_of.ensures) ∙ is.1)
 
 pub rewire-requires-clause-given : goal.rewire-requires-clause-given
 rewire-requires-clause-given g c =
     let m = c.args.self.now in
     let fine = neither (refused_at m.world m.names c.args.name.now (need.Of kind.Computed)) _ (uses_fine m (command.Rewire c.args.name.now c.args.source) c.requires.fine) in
-    subst (λ (r : Recipe). All (λ (n : ℕ). is_given m.world.signals.graph n ≡ true) r.slots) (sym c.in_ok-linked.ensures)
-    (every (λ n. is_given m.world.signals.graph n ≡ true) (recipe_of m.names c.args.source).slots (source_used m.world _ m.names c.args.source c.requires.ready.meant fine.1).given)
+    subst (λ (r : Recipe). All (λ (n : ℕ). is_given m.world.graph n ≡ true) r.slots) (sym c.in_ok-linked.ensures)
+    (every (λ n. is_given m.world.graph n ≡ true) (recipe_of m.names c.args.source).slots (source_used m.world _ m.names c.args.source c.requires.ready.meant fine.1).given)
 
 pub rewire-requires-clause-few : goal.rewire-requires-clause-few
 rewire-requires-clause-few g c =
@@ -63,7 +63,7 @@ returns-clause-leaves g c = λ hosts count all sound.
     leaves_acted _ _ count m c.rewire.new.self c.tell_all.new.labels c.requires.ready c.in_ok-told.ensures.names
     (stays_by _ _ m.world c.rewire.new.self (rewire_signal c.of-computed.result r) (e.does hosts sound).whole
     (all_keep_counts.rewiring c.of-computed.result r) (all_keep_kinds.rewiring c.of-computed.result r))
-    e.tables (roomy_none c.rewire.new.self.signals.graph.state.signals m.batch c.requires.alone) (λ a. e.agrees) (λ k. e.rules count k) (let w = e.stays.worn in let t = ap (λ x. x.effects_made) e.tables in omega (arith, w, t))
+    e.tables (roomy_none c.rewire.new.self.graph.state.signals m.batch c.requires.alone) (λ a. e.agrees) (λ k. e.rules count k) (let w = e.stays.worn in let t = ap (λ x. x.effects_made) e.tables in omega (arith, w, t))
 
 pub returns-in_err-rewire-clause-memory : goal.returns-in_err-rewire-clause-memory
 returns-in_err-rewire-clause-memory g c =
@@ -71,8 +71,8 @@ returns-in_err-rewire-clause-memory g c =
     let fine = neither (refused_at m.world m.names c.args.name.now (need.Of kind.Computed)) _ (uses_fine m (command.Rewire c.args.name.now c.args.source) c.requires.fine) in
     let is = kind_used m.world _ m.names c.args.name.now kind.Computed refl c.requires.ready.meant (used_of m.world m.names c.args.name.now kind.Computed fine.0) in
     let slots = (source_used m.world _ m.names c.args.source c.requires.ready.meant fine.1).there in
-    let first = ap (λ i. is_there (standing m.world.signals.graph.state.signals i)) (c.of-computed.ensures ∙ c.number_of.ensures) ∙ is.0.there in
-    let rest = ap (λ (r : Recipe). are_there m.world.signals.graph.state.signals r.slots) c.in_ok-linked.ensures ∙ slots in
-    let there : are_there m.world.signals.graph.state.signals (c.of-computed.result ∷ c.in_ok-linked.linked.slots.items) ≡ true = rw first rest in
+    let first = ap (λ i. is_there (standing m.world.graph.state.signals i)) (c.of-computed.ensures ∙ c.number_of.ensures) ∙ is.0.there in
+    let rest = ap (λ (r : Recipe). are_there m.world.graph.state.signals r.slots) c.in_ok-linked.ensures ∙ slots in
+    let there : are_there m.world.graph.state.signals (c.of-computed.result ∷ c.in_ok-linked.linked.slots.items) ≡ true = rw first rest in
     let f = only_memory _ c.in_err-rewire.ensures.fault (λ e. true_false (sym there ∙ c.in_err-rewire.ensures.gone (ap (λ x. Err x) e))) in
     search rules

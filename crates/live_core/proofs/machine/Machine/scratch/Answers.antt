@@ -43,7 +43,7 @@ returns-clause-leaves g c = λ hosts count all sound.
       ready = ready_changed m new c.requires.ready
           (record { names = refl; templates = refl; labels = record { signals = refl; owners = refl; pages = refl; watchers = refl } }) (stays_settled m.world new.world e.world) c.requires.ready.shown
           (pages_kept m.world new.world m.pages.items m.pages.items refl (ap (λ t. t.pages.items) e.world.tables) (ap (λ t. t.pages_made) e.world.tables) c.requires.ready.pages)
-          (roomy_same m.world.signals.graph.state.signals new.world.signals.graph.state.signals m.batch e.world.signals c.requires.ready.batch);
+          (roomy_same m.world.graph.state.signals new.world.graph.state.signals m.batch e.world.signals c.requires.ready.batch);
       holds = λ h. record { agrees = e.agrees; ruled = subst (AreRuled count) (sym e.world.signals) h.ruled };
       weight = let a = e.worn in let b = ap (λ t. t.effects_made) e.world.tables in omega (arith, a, b);
     }

@@ -14,15 +14,15 @@ set_value-requires-clause-kind g c =
     let m = c.args.self.now in
     let fine = neither (refused_at m.world m.names c.args.name.now (need.Of kind.Cell)) _ (uses_fine m (command.Set c.args.name.now c.args.value) c.requires.fine) in
     let is = kind_used m.world _ m.names c.args.name.now kind.Cell refl c.requires.ready.meant (used_of m.world m.names c.args.name.now kind.Cell fine.0) in
-    cell_is (standing m.world.signals.graph.state.signals c.of-cell.result)
-    (ap (λ i. is_of_kind kind.Cell (standing m.world.signals.graph.state.signals i)) (c.of-cell.ensures ∙ c.number_of.ensures) ∙ is.1)
+    cell_is (standing m.world.graph.state.signals c.of-cell.result)
+    (ap (λ i. is_of_kind kind.Cell (standing m.world.graph.state.signals i)) (c.of-cell.ensures ∙ c.number_of.ensures) ∙ is.1)
 
 pub set_value-requires-clause-there : goal.set_value-requires-clause-there
 set_value-requires-clause-there g c =
     let m = c.args.self.now in
     let fine = neither (refused_at m.world m.names c.args.name.now (need.Of kind.Cell)) _ (uses_fine m (command.Set c.args.name.now c.args.value) c.requires.fine) in
     let is = kind_used m.world _ m.names c.args.name.now kind.Cell refl c.requires.ready.meant (used_of m.world m.names c.args.name.now kind.Cell fine.0) in
-    ap (λ i. is_there (standing m.world.signals.graph.state.signals i)) (c.of-cell.ensures ∙ c.number_of.ensures) ∙ is.0.there
+    ap (λ i. is_there (standing m.world.graph.state.signals i)) (c.of-cell.ensures ∙ c.number_of.ensures) ∙ is.0.there
 
 pub returns-clause-steps : goal.returns-clause-steps
 returns-clause-steps g c = λ hosts asked sound.

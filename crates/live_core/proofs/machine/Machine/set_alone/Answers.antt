@@ -18,7 +18,7 @@ returns-clause-steps g c = λ hosts asked sound.
     let t = c.in_ok-told.ensures in
     alone_steps hosts env asked m _ c.in_ok-told.told.items c.args.cell c.args.value c.requires.alone
     (acts_steps hosts asked asked m c.change_cell.new.self c.tell_all.new.labels c.new-events.result.items c.change_cell.new.events.items
-    act act c.in_ok-told.told.items c.new-events.ensures.items (c.in_ok-_done.ensures.does hosts asked sound) refl
+    act act c.in_ok-told.told.items c.new-events.ensures.items (c.in_ok-_done.ensures.does hosts asked c.requires.owned sound) refl
     (tells_by m.labels c.tell_all.new.labels c.change_cell.new.events.items _ c.in_ok-told.told.items c.deref.ensures.value t.entries t.labels t.names))
 
 pub returns-clause-leaves : goal.returns-clause-leaves
@@ -27,7 +27,7 @@ returns-clause-leaves g c = λ hosts asked count sound.
     let e = c.in_ok-_done.ensures in
     let env = environment hosts (map (λ r. r.slack) c.args.rules.now) in
     leaves_acted asked asked count m c.change_cell.new.self c.tell_all.new.labels c.requires.ready c.in_ok-told.ensures.names
-    (stays_by asked asked m.world c.change_cell.new.self (set_cell env c.args.cell c.args.value) (e.does hosts asked sound).whole
+    (stays_by asked asked m.world c.change_cell.new.self (set_cell env c.args.cell c.args.value) (e.does hosts asked c.requires.owned sound).whole
     (all_keep_counts.setting env c.args.cell c.args.value) (all_keep_kinds.setting env c.args.cell c.args.value))
-    e.tables (roomy_none c.change_cell.new.self.signals.graph.state.signals m.batch c.requires.alone)
+    e.tables (roomy_none c.change_cell.new.self.graph.state.signals m.batch c.requires.alone)
     (λ a. e.agrees asked a) (λ r. e.rules count r) (let w = e.stays.worn in let t = ap (λ x. x.effects_made) e.tables in omega (arith, w, t))

@@ -11,8 +11,8 @@ use Rattle.live_core.proofs.machine.Machine.set_value.Goals as goal
 pub set_in-requires-clause-room : goal.set_in-requires-clause-room
 set_in-requires-clause-room g c =
     let m = c.args.self.now in
-    has_room m.world.signals.graph.state.signals c.args.cell c.in-Some.batch
-    (open_roomy m.world.signals.graph.state.signals m.batch c.in-Some.batch c.in-Some.is c.requires.ready.batch) c.requires.there
+    has_room m.world.graph.state.signals c.args.cell c.in-Some.batch
+    (open_roomy m.world.graph.state.signals m.batch c.in-Some.batch c.in-Some.is c.requires.ready.batch) c.requires.there
 
 pub set_in-requires-clause-ruled : goal.set_in-requires-clause-ruled
 set_in-requires-clause-ruled g c = c.requires.ruled.each c.args.cell
@@ -40,7 +40,7 @@ returns-clause-leaves g c = λ hosts asked count sound.
     (stays_quiet asked m.world c.set_in.new.self (set_quietly env c.args.cell c.args.value) whole
     (all_keep_kinds.setting_quietly env c.args.cell c.args.value) e.stays.given e.stays.made e.tables)
     e.tables
-    (set_kept env (whole_of asked m.world) c.set_in.new.self.signals.graph.state.signals c.args.cell c.args.value c.in-Some.batch c.set_in.new.batch
+    (set_kept env (whole_of asked m.world) c.set_in.new.self.graph.state.signals c.args.cell c.args.value c.in-Some.batch c.set_in.new.batch
     (ap (λ (x : plain.World). x.signals) whole) c.requires.there
-    (open_roomy m.world.signals.graph.state.signals m.batch c.in-Some.batch c.in-Some.is c.requires.ready.batch) e.collects e.room)
+    (open_roomy m.world.graph.state.signals m.batch c.in-Some.batch c.in-Some.is c.requires.ready.batch) e.collects e.room)
     (λ a. e.agrees asked a) (λ r. e.rules count r) (let w = e.stays.worn in let t = ap (λ x. x.effects_made) e.tables in omega (arith, w, t))

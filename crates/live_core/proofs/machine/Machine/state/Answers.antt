@@ -15,6 +15,6 @@ mark_of-requires c =
     let fine = neither (refused_at m.world m.names c.args.name (need.Of kind.Computed)) _ (uses_fine m (command.Named verb.State c.args.name) c.requires.fine) in
     let is = kind_used m.world _ m.names c.args.name kind.Computed refl c.requires.ready.meant (used_of m.world m.names c.args.name kind.Computed fine.0) in
     let n = c.of-computed.ensures ∙ c.number_of.ensures in
-    computed_is (standing m.world.signals.graph.state.signals c.of-computed.result)
-    (ap (λ i. is_there (standing m.world.signals.graph.state.signals i)) n ∙ is.0.there)
-    (ap (λ i. is_of_kind kind.Computed (standing m.world.signals.graph.state.signals i)) n ∙ is.1)
+    computed_is (standing m.world.graph.state.signals c.of-computed.result)
+    (ap (λ i. is_there (standing m.world.graph.state.signals i)) n ∙ is.0.there)
+    (ap (λ i. is_of_kind kind.Computed (standing m.world.graph.state.signals i)) n ∙ is.1)

@@ -18,7 +18,7 @@ returns-clause-leaves c = λ hosts asked count sound.
     let fine = neither (refused_at m.world m.names c.args.name.now (need.Of kind.Watcher)) _ (uses_fine m (command.Watch c.args.name.now c.args.signals.now) c.requires.fine) in
     let there = (signals_used m.world _ m.names c.args.signals.now c.requires.ready.meant fine.1).there in
     leaves_watched asked count m c.watch.new.self c.of-watcher.result (armed c.deref.result.now) c.requires.ready e.graph (ap (λ (t : Table). t.made) e.watchers) (e.does hosts asked sound).whole
-    (λ a. e.agrees asked (subst (λ (ns : List ℕ). are_there m.world.signals.graph.state.signals ns ≡ true) (sym (c.deref.ensures.value ∙ c.in_ok-signals.ensures ∙ ap (map (number_of m.names)) c.as_slice.ensures)) there) a)
+    (λ a. e.agrees asked (subst (λ (ns : List ℕ). are_there m.world.graph.state.signals ns ≡ true) (sym (c.deref.ensures.value ∙ c.in_ok-signals.ensures ∙ ap (map (number_of m.names)) c.as_slice.ensures)) there) a)
 
 pub returns-clause-steps : goal.returns-clause-steps
 returns-clause-steps c = λ hosts slacks asked sound.

@@ -5,8 +5,8 @@ use Rattle.sig_watcher.specs.Numbers.{AreNumbered}
 use Rattle.sig_watcher.specs.Tables.{Table}
 use Rattle.sig_watcher.specs.Notices.{told_entry}
 use Rattle.sig_effect.specs.Results.{AreNotices}
-use Rattle.sig_effect.proofs.Names.{named_still, notices_named}
-use Rattle.sig_effect.proofs.world.World.notify_of_all.Goals as goal
+use Rattle.sig_effect.proofs.Shared.{named_still, notices_named}
+use Rattle.effect_world.proofs.world.World.notify_of_all.Goals as goal
 
 pub returns-clause-notices : goal.returns-clause-notices
 returns-clause-notices c =
