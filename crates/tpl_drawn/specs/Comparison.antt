@@ -1,5 +1,5 @@
 -- Which nodes of a page are compared when it is brought up to date, by what became of what is kept of its lines.
-use Rattle.std.specs.Prelude.{◌≡◌, ℕ, Bool, true, false, List, [], ◌∷◌, ◌++◌, map, Option, Some, None, if◌then◌else◌}
+use Rattle.std.specs.Prelude.{◌≡◌, ◌&&◌, ℕ, Bool, true, false, List, [], ◌∷◌, ◌++◌, map, Option, Some, None, if◌then◌else◌}
 use Rattle.sig_base.specs.declared.value.Outcome.{Outcome}
 use Rattle.page_model.specs.Addresses.{address}
 use Rattle.page_model.specs.Forest.{Forest, on, kids, label_in}
@@ -57,9 +57,20 @@ is_plain (text n f rest) = is_plain rest
 is_plain (tag n name xs inner rest) = is_plain rest
 is_plain b = false
 
--- whether lines keep their topmost nodes, where this became of them
+-- lines that stay keep their topmost nodes, and those that were made anew where they always show the same
+abbrev pub keeps_by : (plain : Bool) → (Bool → Change → Bool) → Change → Bool
+keeps_by plain parts stays = true
+keeps_by plain parts made = plain
+keeps_by plain parts (over same inside later) = parts same later
+keeps_by plain parts c = false
+
+-- whether lines keep their topmost nodes, where this became of them; rows that always show the same keep theirs where their loop is the same
 abbrev pub keeps_nodes : Block → Change → Bool
-keeps_nodes b c = if is_stays c then true else is_plain b
+keeps_nodes empty c = true
+keeps_nodes (text n f rest) c = keeps_by (is_plain rest) (λ same later. keeps_nodes rest later) c
+keeps_nodes (tag n name xs inner rest) c = keeps_by (is_plain rest) (λ same later. keeps_nodes rest later) c
+keeps_nodes (each f inner rest) c = keeps_by false (λ same later. (same && is_plain inner) && keeps_nodes rest later) c
+keeps_nodes b c = is_stays c
 
 -- nothing of what stays, all of what was made anew, and of the rest its parts
 abbrev pub marks_by : List Marked → (Bool → Change → Change → List Marked) → Change → List Marked
@@ -98,7 +109,7 @@ marked_by mark part known k b m c = []
 -- the nodes whose children may differ, the root behind those below it
 abbrev pub touched_in : (ℕ → Option ℕ) → Block → PageMemo → Change → List Marked
 touched_in known b m c =
-    marked_unless (is_plain b) (Some 0) Root (children_in known (nodes None b m)) (marked_by touching touched_part known None b m c)
+    marked_unless (keeps_nodes b c) (Some 0) Root (children_in known (nodes None b m)) (marked_by touching touched_part known None b m c)
 
 -- the nodes whose look may differ
 abbrev pub restated_in : (ℕ → Option ℕ) → Block → PageMemo → Change → List Marked

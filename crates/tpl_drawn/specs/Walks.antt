@@ -32,6 +32,14 @@ abbrev pub where_gone : Bool → Walk → Walk
 where_gone true w = w
 where_gone false w = idle
 
+-- children, where they are listed
+abbrev pub where_listed : {A : Type 0} → (listed : Bool) → List A → List A
+where_listed listed cs = if listed then cs else []
+
+-- what came, without the children unless they are listed
+abbrev pub as_listed : (listed : Bool) → Walk → Walk
+as_listed listed w = record { children = where_listed listed w.children; touched = w.touched; restated = w.restated }
+
 -- what came so far, as the code has it
 abbrev pub walk_of : List Child → Compared → Walk
 walk_of children out = record { children = map child_of children; touched = map mark_of out.touched.items; restated = map mark_of out.restated.items }

@@ -1,6 +1,7 @@
 // Which nodes of a page are compared when it is brought up to date, by what became of what is kept of its lines.
 mod children;
 mod comparer;
+mod keeping;
 mod kept;
 mod laws;
 mod node_marks;

@@ -8,7 +8,7 @@ use Rattle.tpl_model.specs.KeptLines.Kept.{kept}
 use Rattle.tpl_model.specs.PageUpdates.PageMemos.{PageMemo}
 use Rattle.tpl_model.specs.KeptLines.Memos.{table_in, truth_in}
 use Rattle.tpl_kept.specs.Renewals.{is_unread}
-use Rattle.tpl_model.specs.KeptLines.Changes.{Change, made, over, chain, changed, is_made, Tells, WasRow, WasTrue}
+use Rattle.tpl_model.specs.KeptLines.Changes.{Change, made, over, chain, changed, is_made, keys_in, HadKeys, Tells, WasRow, WasTrue}
 use Rattle.tpl_kept.specs.declared.making.head.Head.{Head}
 use Rattle.tpl_kept.specs.declared.making.head.Head.TheVariants as head
 use Rattle.tpl_kept.specs.Heads.{places_from}
@@ -65,8 +65,13 @@ WasKnown (each f inner rest) links row before (head.Each h) ms =
     WereRows f links row before (places_from (table_in h.outcome) 0 (length (table_in h.outcome).rows)) ms
 WasKnown b links row before h ms = Unit {0}
 
--- what became of lines is told, or their first is heard again where something was kept, as it was heard before if all its names are as before
+-- what is known of a line that is the same: a loop had the keys that it has, and any other was heard so before
+abbrev pub WasSame : Block → List ℕ → Option RowRef → Outcomes → Head → Type 0
+WasSame (each f inner rest) links row before (head.Each h) = HadKeys f links row before (keys_in h.outcome)
+WasSame b links row before h = WasOpened b links row before h
+
+-- what became of lines is told, or their first is heard again where something was kept, with what is known of it if it is the same
 abbrev pub BeginsTold : Block → List ℕ → Option RowRef → Outcomes → PageMemo → First → Bool → List PageMemo → Type 0
 BeginsTold b links row before was (start.Whole x) same ms = IsTold b links row before was (kept x.memo) (changed x.change)
 BeginsTold b links row before was (start.Line h) same ms =
-    (is_unread was ≡ false) × (WasKnown b links row before h ms × (same ≡ true → WasOpened b links row before h))
+    (is_unread was ≡ false) × (WasKnown b links row before h ms × (same ≡ true → WasSame b links row before h))

@@ -1,5 +1,5 @@
 -- What is kept that stays though nothing is heard.
-use Rattle.std.specs.Prelude.{◌≡◌, ℕ, false, List, []}
+use Rattle.std.specs.Prelude.{◌≡◌, false, []}
 use Rattle.tpl_model.specs.PageUpdates.PageMemos.{PageMemo, names}
 use Rattle.tpl_kept.specs.Renewals.{is_unread}
 

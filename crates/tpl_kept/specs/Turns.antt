@@ -13,6 +13,7 @@ use Rattle.tpl_model.specs.KeptLines.Kept.{heard_of, kept}
 use Rattle.tpl_model.specs.PageUpdates.PageMemos.{PageMemo, unread, names}
 use Rattle.tpl_model.specs.KeptLines.Memos.{Makes, branch_memo, lines_memo, loop_memo, rows_in, table_in, truth_in}
 use Rattle.tpl_model.specs.KeptLines.Before.{WasListened, WasListenedAll, WasMade}
+use Rattle.tpl_model.specs.KeptLines.Changes.{keys_in}
 use Rattle.tpl_kept.specs.Renewals.{WasMadeIfRead, AreChanged, SlotsWere, is_unread}
 use Rattle.tpl_kept.specs.declared.making.head.Head.{Head}
 use Rattle.tpl_kept.specs.declared.making.head.Head.TheVariants as head
@@ -100,6 +101,11 @@ ServeInside was (head.Each h) old ms =
     ServeRows (table_in was) (table_in h.outcome) old ms
     × AreAmong (table_in was) (places_from (table_in h.outcome) 0 (length (table_in h.outcome).rows)) ms
 ServeInside was h old ms = Unit {0}
+
+-- a line is the same where its names have the outcomes of before, and a loop where its rows have their keys
+abbrev pub IsSame : Outcome → Head → (heard same : Bool) → Type 0
+IsSame was (head.Each h) heard same = same ≡ true → keys_in was ≡ keys_in h.outcome
+IsSame was h heard same = same ≡ heard
 
 -- ---- what is kept next
 

@@ -13,8 +13,8 @@ pub enum Change {
     Stays,
     /// It was made anew.
     Made,
-    /// The first line was heard again: whether all its names have the outcomes of before, what became of what is kept inside it, in order, and of what
-    /// is kept behind it.
+    /// The first line was heard again: whether it is the same, since its names have the outcomes of before, or the rows of a loop their keys, in the same
+    /// order; what became of what is kept inside it, in order, and of what is kept behind it.
     Over(bool, Vec<Change>, Box<Change>),
 }
 
@@ -35,7 +35,7 @@ impl Change {
         Change::Made
     }
 
-    /// The first line was heard again: whether all its names have the outcomes of before, what became of its inside, and of the lines behind it.
+    /// The first line was heard again: whether it is the same, what became of its inside, and of the lines behind it.
     ///
     /// # Errors
     ///

@@ -18,10 +18,10 @@ use Rattle.tpl_drawn.specs.Marks.{children_in}
 use Rattle.tpl_model.specs.PageUpdates.Differences.{SameChildren, SameLook, Within}
 use Rattle.tpl_model.specs.PageUpdates.PageMemos.{PageMemo, nodes}
 use Rattle.tpl_model.specs.PageUpdates.Updates.{Keeps, memo_on, memo_shape, shape_on}
-use Rattle.tpl_drawn.specs.Comparison.{CompareLaw, Compared, IsRestated, IsTouched, is_plain, known_of, marked_by, marked_unless, restated_in, restated_part, restating, touched_in, touched_part, touching}
+use Rattle.tpl_drawn.specs.Comparison.{CompareLaw, Compared, IsRestated, IsTouched, keeps_nodes, known_of, marked_by, marked_unless, restated_in, restated_part, restating, touched_in, touched_part, touching}
 use Rattle.tpl_drawn.proofs.Compares.Coverage.{Covered, covered_bare, covered_marked}
 use Rattle.tpl_drawn.proofs.Compares.Sides.{Beside, beside_kids}
-use Rattle.tpl_drawn.proofs.Compares.Tops.{plain_siblings}
+use Rattle.tpl_drawn.proofs.Compares.Tops.{kept_siblings}
 use Rattle.tpl_drawn.proofs.Compares.WalkMarks.{Rules, walk}
 
 -- what a node of a part has in the whole
@@ -115,11 +115,11 @@ on_now lines links before source now was p tree c template agrees keeps rows tel
     let below = beside_kids old new 0 Root Root t t' whole in
     let touched = walk p new touching touched_part (IsTouched p new) (SameChildren old new) links before source now (touching_rules p new) agrees b None None None c (λ f. refl) below tells in
     let restated = walk p new restating restated_part (IsRestated p new) (SameLook old new) links before source now (restating_rules p new) agrees b None None None c (λ f. refl) below tells in
-    let tops = is_plain b in
+    let tops = keeps_nodes b c in
     let marks_below = marked_by touching touched_part (known_of p) None b (memo_on lines links now) c in
     let root = subst (λ z. Covered old (IsTouched p new) (SameChildren old new) (node 0 Root t' none) (marked_unless tops (Some z) Root (children_in (known_of p) t') marks_below))
     (ap (λ (z : Forest (ℕ × Look)). (label_in (0, Root) 0 z).0) keeps.page.rooted.is)
-    (one_touched p new 0 Root Root t t' tops marks_below whole.half (λ e. plain_siblings links source now b e None None None) touched) in
+    (one_touched p new 0 Root Root t t' tops marks_below whole.half (λ e. kept_siblings links before source now agrees b None None None c (λ f. refl) tells e) touched) in
     let looks_root = covered_bare old (IsRestated p new) (SameLook old new) 0 Root t' _ (ap (label_in Root 0) stood) restated in
     record {
       children = root.addresses;

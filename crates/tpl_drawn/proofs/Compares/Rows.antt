@@ -1,5 +1,5 @@
 -- Rows that are gone over, one after the other.
-use Rattle.std.proofs.Common.{◌≡◌, ◌<◌, ◌≤◌, ◌+◌, ℕ, zero, suc, Option, Some, None, List, [], ◌∷◌, ◌++◌, length, map, drop, get_or, slice_get, slice_index_or, is_some, IfSome, nat_lt, refl, sym, ap, subst, ◌∙◌, ◌⊎◌, inl, inr, arith}
+use Rattle.std.proofs.Common.{◌≡◌, ◌<◌, ◌≤◌, ◌+◌, ℕ, zero, suc, Bool, Option, Some, None, List, [], ◌∷◌, ◌++◌, length, map, drop, get_or, slice_get, slice_index_or, is_some, IfSome, nat_lt, refl, sym, ap, subst, ◌∙◌, ◌⊎◌, inl, inr, arith}
 use Rattle.std.proofs.lemmas.List.{drop_more}
 use Rattle.std.proofs.lemmas.Option.{slice_get_past, slice_get_read}
 use Rattle.std.proofs.lemmas.Bool.Decides.{nat_tests}
@@ -25,8 +25,8 @@ use Rattle.tpl_model.specs.declared.shown.Address.{Address}
 use Rattle.tpl_model.specs.ShownNodes.Shapes.{Marked, Next}
 use Rattle.tpl_model.specs.PageUpdates.PageMemos.{PageMemo, blank, row, nodes, row_nodes}
 use Rattle.tpl_drawn.specs.Comparison.{marked_by, restated_part, restating, row_marks, touched_part, touching}
-use Rattle.tpl_drawn.specs.Walks.{Walk, further, of_lines, of_rows, or_stays}
-use Rattle.tpl_drawn.proofs.Compares.Walks.{alone, both_gone, none_gone, stays_gone}
+use Rattle.tpl_drawn.specs.Walks.{Walk, as_listed, further, of_lines, of_rows, or_stays}
+use Rattle.tpl_drawn.proofs.Compares.Walks.{alone, both_gone, listed_both, none_listed, stays_gone}
 
 -- what is kept of the lines of a row, as nodes
 abbrev pub row_shown : Block → Here → PageMemo → Forest Look
@@ -117,38 +117,41 @@ row_split known inner t r m rs ms c changes_left cs (none_left e f g) =
     ∙ ap (λ z. of_rows known inner (rows_from t 0 (r ∷ rs) (m ∷ ms)) (chain (map changed z))) (sym f)))
 
 -- rows that are left; with these all come
-pub record RowsLeft (number : Address → Option ℕ) (inner : Block) (rs : List Row) (ms : List PageMemo) (cs : List code.Change)
+pub record RowsLeft (listed : Bool) (number : Address → Option ℕ) (inner : Block) (rs : List Row) (ms : List PageMemo) (cs : List code.Change)
     (all_rows : List Row) (memos : List PageMemo) (changes : List code.Change) (now first : Walk) : Type 0 where
   pub are : (known : ℕ → Option ℕ) → Knows number known → (t : Table) (i : ℕ) →
-      further now (of_rows known inner (rows_from t 0 rs ms) (chain (map changed cs)))
-      ≡ further first (of_rows known inner (rows_from t i all_rows memos) (chain (map changed changes)))
+      further now (as_listed listed (of_rows known inner (rows_from t 0 rs ms) (chain (map changed cs))))
+      ≡ further first (as_listed listed (of_rows known inner (rows_from t i all_rows memos) (chain (map changed changes))))
 
-pub all_left : (number : Address → Option ℕ) (inner : Block) (rs : List Row) (ms : List PageMemo) (cs : List code.Change) (now : Walk) →
-    RowsLeft number inner rs ms cs rs ms cs now now
-all_left number inner rs ms cs now =
-    record { are = λ known k t i. ap (further now) (same_place known inner t t 0 i rs ms (map changed cs)) }
+pub all_left : (listed : Bool) (number : Address → Option ℕ) (inner : Block) (rs : List Row) (ms : List PageMemo) (cs : List code.Change) (now : Walk) →
+    RowsLeft listed number inner rs ms cs rs ms cs now now
+all_left listed number inner rs ms cs now =
+    record { are = λ known k t i. ap (λ z. further now (as_listed listed z)) (same_place known inner t t 0 i rs ms (map changed cs)) }
 
-pub one_left : (number : Address → Option ℕ) (inner : Block) (r : Row) (m : PageMemo) (c : Option code.Change) (left rs : List Row) (memos_left ms : List PageMemo)
+pub one_left : (listed : Bool) (number : Address → Option ℕ) (inner : Block) (r : Row) (m : PageMemo) (c : Option code.Change) (left rs : List Row) (memos_left ms : List PageMemo)
     (changes_left cs : List code.Change) (all_rows : List Row) (memos : List PageMemo) (changes : List code.Change) (now next first : Walk) →
     left ≡ r ∷ rs → memos_left ≡ m ∷ ms → Told c changes_left cs →
-    ((known : ℕ → Option ℕ) → Knows number known → next ≡ further now (of_lines known (Some r.key) inner m (or_stays c))) →
-    RowsLeft number inner left memos_left changes_left all_rows memos changes now first → RowsLeft number inner rs ms cs all_rows memos changes next first
-one_left number inner r m c left rs memos_left ms changes_left cs all_rows memos changes now next first e f told put before = record {
+    ((known : ℕ → Option ℕ) → Knows number known → next ≡ further now (as_listed listed (of_lines known (Some r.key) inner m (or_stays c)))) →
+    RowsLeft listed number inner left memos_left changes_left all_rows memos changes now first →
+    RowsLeft listed number inner rs ms cs all_rows memos changes next first
+one_left listed number inner r m c left rs memos_left ms changes_left cs all_rows memos changes now next first e f told put before = record {
   are = λ known k t i.
       let rest = of_rows known inner (rows_from t 0 rs ms) (chain (map changed cs)) in
-      both_gone now next (further next rest) (of_lines known (Some r.key) inner m (or_stays c)) rest (put known k) refl
-      ∙ (ap (further now) (row_split known inner t r m rs ms c changes_left cs told
-      ∙ (λ j. of_rows known inner (rows_from t 0 (sym e j) (sym f j)) (chain (map changed changes_left))))
+      let one = of_lines known (Some r.key) inner m (or_stays c) in
+      both_gone now next (further next (as_listed listed rest)) (as_listed listed one) (as_listed listed rest) (put known k) refl
+      ∙ (ap (further now) (listed_both listed one rest
+      ∙ ap (as_listed listed) (row_split known inner t r m rs ms c changes_left cs told
+      ∙ (λ j. of_rows known inner (rows_from t 0 (sym e j) (sym f j)) (chain (map changed changes_left)))))
       ∙ before.are known k t i);
 }
 
 -- no row is left, or nothing is kept of those that are
-pub rows_gone : (number : Address → Option ℕ) (inner : Block) (rs : List Row) (ms : List PageMemo) (cs : List code.Change) (all_rows : List Row)
+pub rows_gone : (listed : Bool) (number : Address → Option ℕ) (inner : Block) (rs : List Row) (ms : List PageMemo) (cs : List code.Change) (all_rows : List Row)
     (memos : List PageMemo) (changes : List code.Change) (now first : Walk) → (rs ≡ []) ⊎ (ms ≡ []) →
-    RowsLeft number inner rs ms cs all_rows memos changes now first → (known : ℕ → Option ℕ) → Knows number known → (t : Table) (i : ℕ) →
-    now ≡ further first (of_rows known inner (rows_from t i all_rows memos) (chain (map changed changes)))
-rows_gone number inner rs ms cs all_rows memos changes now first none_there are known k t i =
-    none_gone now (of_rows known inner (rows_from t 0 rs ms) (chain (map changed cs)))
+    RowsLeft listed number inner rs ms cs all_rows memos changes now first → (known : ℕ → Option ℕ) → Knows number known → (t : Table) (i : ℕ) →
+    now ≡ further first (as_listed listed (of_rows known inner (rows_from t i all_rows memos) (chain (map changed changes))))
+rows_gone listed number inner rs ms cs all_rows memos changes now first none_there are known k t i =
+    none_listed listed now (of_rows known inner (rows_from t 0 rs ms) (chain (map changed cs)))
     (ap (λ z. of_rows known inner z (chain (map changed cs))) (no_rows none_there))
     ∙ are.are known k t i
   where

@@ -11,6 +11,7 @@ use Rattle.tpl_drawn.proofs.Numbered.Marks.{children_after}
 use Rattle.tpl_model.specs.Shapes.{node_text}
 use Rattle.tpl_drawn.specs.Shown.{is_line, where_shown}
 use Rattle.tpl_drawn.specs.Heads.{text_at}
+use Rattle.tpl_drawn.specs.Walks.{where_listed}
 use Rattle.tpl_model.specs.PageUpdates.PageMemos.{PageMemo, line}
 
 -- one part comes behind those before it
@@ -29,6 +30,13 @@ no_items (x ∷ xs) n e f = absurd (omega (arith, e, f))
 -- nothing more
 pub no_more : {B : Type 0} (a x : List B) → x ≡ [] → a ≡ a ++ x
 no_more a x e = sym (ap (λ z. a ++ z) e ∙ append-nil a)
+
+-- children that aren't listed, and those that are
+pub unlisted : {B : Type 0} (listed : Bool) (a x : List B) → listed ≡ false → a ≡ a ++ where_listed listed x
+unlisted listed a x e = no_more a (where_listed listed x) (ap (λ z. where_listed z x) e)
+
+pub listed_all : {B : Type 0} (listed : Bool) (a b x : List B) → listed ≡ true → b ≡ a ++ x → b ≡ a ++ where_listed listed x
+listed_all listed a b x e h = h ∙ ap (λ z. a ++ where_listed z x) (sym e)
 
 -- two parts, one behind the other
 pub two_more : {B : Type 0} (a b c x y : List B) → b ≡ a ++ x → c ≡ b ++ y → c ≡ a ++ (x ++ y)

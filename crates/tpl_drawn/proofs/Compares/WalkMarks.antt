@@ -338,8 +338,8 @@ module _ (p : NumberedPage) (new : Forest Look) (mark : Marking) (part : Marked 
       let own = beside_first (page_shape p) new q r q' r' d in
       covered_after (page_shape p) Is Same q' r' (row_marks (λ (s : Here) (m : PageMemo) (e : Change). marks (Some s.key) inner m e) rows inside)
       (marks k rest (kept links now here' rest) later)
-      (looped rules agrees f inner (walk rules agrees inner) here here' like own.half.within_old own.half.single_old o' inside (side_of (page_shape p) new q q' own) t.0)
-      (walk rules agrees rest k here here' later like (beside_later (page_shape p) new q r q' r' d) t.1)
+      (looped rules agrees f inner (walk rules agrees inner) here here' like own.half.within_old own.half.single_old o' inside (side_of (page_shape p) new q q' own) t.1.0)
+      (walk rules agrees rest k here here' later like (beside_later (page_shape p) new q r q' r' d) t.1.1)
   walk rules agrees (each f inner rest) k here here' (also first others) like d t = absurd t
   walk rules agrees (each f inner rest) k here here' nothing like d t = absurd t
   walk rules agrees (attempt first second rest) k here here' stays like d t =

@@ -1,5 +1,5 @@
 -- Lines that are gone over, part by part.
-use Rattle.std.proofs.Common.{◌≡◌, ℕ, Bool, true, false, Option, Some, None, List, [], ◌∷◌, ◌++◌, append_assoc, append-nil, map, slice_get, unwrap_or, if◌then◌else◌, refl, sym, ap, ◌∙◌}
+use Rattle.std.proofs.Common.{◌≡◌, ◌&&◌, ℕ, Bool, true, false, not, Option, Some, None, List, [], ◌∷◌, ◌++◌, append_assoc, append-nil, map, slice_get, unwrap_or, if◌then◌else◌, refl, sym, ap, ◌∙◌}
 use Rattle.std.proofs.lemmas.Bool.{false≢true}
 use Rattle.sig_base.specs.declared.value.Value.TheVariants as value
 use Rattle.sig_base.specs.declared.value.Outcome.{Outcome}
@@ -25,7 +25,7 @@ use Rattle.tpl_model.specs.PageUpdates.PageMemos.{PageMemo, line, element, branc
 use Rattle.tpl_drawn.proofs.Compares.Siblings.{two_more}
 use Rattle.tpl_drawn.proofs.Compares.Tops.{stays_keep}
 use Rattle.tpl_drawn.specs.Comparison.{Marking, keeps_nodes, marked_by, marked_unless, restated_part, restating, touched_part, touching}
-use Rattle.tpl_drawn.specs.Walks.{Walk, further, idle, of_element, of_inside, of_lines, of_made, of_marks, of_rows, of_text, where_gone}
+use Rattle.tpl_drawn.specs.Walks.{Walk, as_listed, further, idle, where_listed, of_element, of_inside, of_lines, of_made, of_marks, of_rows, of_text, where_gone}
 
 -- ---- one part behind another
 
@@ -51,9 +51,24 @@ none_gone a w e = sym (ap (further a) e ∙ further_idle a)
 pub both_gone : (a b c v w : Walk) → b ≡ further a v → c ≡ further b w → c ≡ further a (further v w)
 both_gone a b c v w e h = h ∙ (ap (λ z. further z w) e ∙ further_further a v w)
 
+-- parts with their children are the whole with its children, and so it is without
+pub listed_both : (listed : Bool) (v w : Walk) → further (as_listed listed v) (as_listed listed w) ≡ as_listed listed (further v w)
+listed_both true v w = refl
+listed_both false v w = refl
+
+pub listed_idle : (listed : Bool) → as_listed listed idle ≡ idle
+listed_idle true = refl
+listed_idle false = refl
+
+-- nothing came of a part
+pub none_listed : (listed : Bool) (a w : Walk) → w ≡ idle → a ≡ further a (as_listed listed w)
+none_listed listed a w e = none_gone a (as_listed listed w) (ap (as_listed listed) e ∙ listed_idle listed)
+
 -- what came of parts is what comes of the whole
-pub parts_gone : (a b c v w x : Walk) → x ≡ further v w → b ≡ further a v → c ≡ further b w → c ≡ further a x
-parts_gone a b c v w x parts e h = both_gone a b c v w e h ∙ ap (further a) (sym parts)
+pub parts_gone : (listed : Bool) (a b c v w x : Walk) → x ≡ further v w → b ≡ further a (as_listed listed v) → c ≡ further b (as_listed listed w) →
+    c ≡ further a (as_listed listed x)
+parts_gone listed a b c v w x parts e h =
+    both_gone a b c (as_listed listed v) (as_listed listed w) e h ∙ ap (further a) (listed_both listed v w ∙ ap (as_listed listed) (sym parts))
 
 children_gone : (a b c : List Next) (v w x : Walk) → x ≡ further v w → b ≡ a ++ v.children → c ≡ b ++ w.children → c ≡ a ++ x.children
 children_gone a b c v w x parts e h = two_more a b c v.children w.children e h ∙ ap (λ z. a ++ z.children) (sym parts)
@@ -98,6 +113,9 @@ stays_marked mark part known k (attempt first second rest) m = refl
 -- children alone
 abbrev pub alone : List Next → Walk
 alone cs = record { children = cs; touched = []; restated = [] }
+
+pub alone_listed : (listed : Bool) (cs : List Next) (w : Walk) → alone cs ≡ w → alone (where_listed listed cs) ≡ as_listed listed w
+alone_listed listed cs w e = ap (as_listed listed) e
 
 pub stays_gone : (known : ℕ → Option ℕ) (k : Option (List ℕ)) (b : Block) (m : PageMemo) → alone (children_in known (nodes k b m)) ≡ of_lines known k b m stays
 stays_gone known k b m = λ i. record {
@@ -269,7 +287,7 @@ inside_stays known k n inner m i e = all_stay (first_in i) e
     all_stay stays e = λ j. record {
       children = [];
       touched = (ap (λ z. touching true z (Some n) Root (children_in known (nodes k inner m)) (marked_by touching touched_part known k inner m stays))
-          (stays_keep inner stays refl) ∙ stays_marked touching touched_part known k inner m) j;
+          (stays_keep inner) ∙ stays_marked touching touched_part known k inner m) j;
       restated = stays_marked restating restated_part known k inner m j;
     }
     all_stay made e = absurd (false≢true e)
@@ -295,10 +313,11 @@ inside_goes known k n inner m i cs t r before now goes e none_before none_now pu
     }
 
 -- its inside was gone over and keeps its topmost nodes
-pub inside_keeps : (known : ℕ → Option ℕ) (k : Option (List ℕ)) (n : ℕ) (inner : Block) (m : PageMemo) (i : Change) (cs : List Next) (t r : List Marked)
-    (before now : Walk) → keeps_nodes inner (first_in i) ≡ true → record { children = cs; touched = t; restated = r } ≡ further before (of_lines known k inner m (first_in i)) →
+pub inside_keeps : (known : ℕ → Option ℕ) (k : Option (List ℕ)) (n : ℕ) (inner : Block) (m : PageMemo) (i : Change) (listed : Bool) (cs : List Next)
+    (t r : List Marked) (before now : Walk) → keeps_nodes inner (first_in i) ≡ true →
+    record { children = cs; touched = t; restated = r } ≡ further before (as_listed listed (of_lines known k inner m (first_in i))) →
     before.children ≡ [] → now.children ≡ [] → now.touched ≡ t → now.restated ≡ r → now ≡ further before (of_inside known k n inner m i)
-inside_keeps known k n inner m i cs t r before now keeps e none_before none_now put same =
+inside_keeps known k n inner m i listed cs t r before now keeps e none_before none_now put same =
     let x = of_lines known k inner m (first_in i) in
     λ j. record {
       children = (none_now ∙ sym (append-nil before.children ∙ none_before)) j;
@@ -343,23 +362,50 @@ unknown_element known k s a x inner m i e =
     }
 
 -- an element as a child, and its marks
-pub element_goes : (known : ℕ → Option ℕ) (k : Option (List ℕ)) (s : Bool) (a n : ℕ) (x : Look) (inner : Block) (m : PageMemo) (i : Change) (cs ds : List Next)
-    (before now : Walk) → known a ≡ Some n → ds ≡ cs ++ children_in known (node a x (nodes k inner m) none) → now ≡ further before (of_marks known k s (Some n) x inner m i) →
+pub element_goes : (listed : Bool) (known : ℕ → Option ℕ) (k : Option (List ℕ)) (s : Bool) (a n : ℕ) (x : Look) (inner : Block) (m : PageMemo) (i : Change) (cs ds : List Next)
+    (before now : Walk) → known a ≡ Some n → ds ≡ cs ++ where_listed listed (children_in known (node a x (nodes k inner m) none)) → now ≡ further before (of_marks known k s (Some n) x inner m i) →
     record { children = ds; touched = now.touched; restated = now.restated }
-    ≡ further (record { children = cs; touched = before.touched; restated = before.restated }) (of_element known k s a x inner m i)
-element_goes known k s a n x inner m i cs ds before now e put f = λ j. record {
+    ≡ further (record { children = cs; touched = before.touched; restated = before.restated }) (as_listed listed (of_element known k s a x inner m i))
+element_goes listed known k s a n x inner m i cs ds before now e put f = λ j. record {
   children = put j;
   touched = (ap (λ w. w.touched) f ∙ ap (λ z. before.touched ++ (of_marks known k s z x inner m i).touched) (sym e)) j;
   restated = (ap (λ w. w.restated) f ∙ ap (λ z. before.restated ++ (of_marks known k s z x inner m i).restated) (sym e)) j;
 }
 
+-- nothing comes of an element that was heard so before, where all inside it stays and its children aren't listed
+quiet_element : (known : ℕ → Option ℕ) (k : Option (List ℕ)) (a : ℕ) (x : Look) (inner : Block) (m : PageMemo) (c : Change) → is_stays c ≡ true →
+    (touching true (keeps_nodes inner c) (known a) x (children_in known (nodes k inner m)) (marked_by touching touched_part known k inner m c) ≡ [])
+    × (restating true (keeps_nodes inner c) (known a) x (children_in known (nodes k inner m)) (marked_by restating restated_part known k inner m c) ≡ [])
+quiet_element known k a x inner m stays e = (
+  ap (λ z. marked_unless z (known a) Root (children_in known (nodes k inner m)) (marked_by touching touched_part known k inner m stays)) (stays_keep inner)
+      ∙ (ap (marked_unless true (known a) Root (children_in known (nodes k inner m))) (stays_marked touching touched_part known k inner m)
+      ∙ unless_none (known a) Root (children_in known (nodes k inner m))),
+  ap (marked_unless true (known a) x []) (stays_marked restating restated_part known k inner m) ∙ unless_none (known a) x [],
+)
+  where
+    unless_none : (n : Option ℕ) (y : Look) (cs : List Next) → marked_unless true n y cs [] ≡ []
+    unless_none None y cs = refl
+    unless_none (Some n) y cs = refl
+quiet_element known k a x inner m made e = absurd (false≢true e)
+quiet_element known k a x inner m (over s i l) e = absurd (false≢true e)
+quiet_element known k a x inner m (also c d) e = absurd (false≢true e)
+quiet_element known k a x inner m nothing e = absurd (false≢true e)
+
+pub element_quiet : (listed s : Bool) (known : ℕ → Option ℕ) (k : Option (List ℕ)) (a : ℕ) (x : Look) (inner : Block) (m : PageMemo) (i : Change) →
+    ((not listed && s) && is_stays (first_in i)) ≡ true → as_listed listed (of_element known k s a x inner m i) ≡ idle
+element_quiet true s known k a x inner m i e = absurd (false≢true e)
+element_quiet false false known k a x inner m i e = absurd (false≢true e)
+element_quiet false true known k a x inner m i e =
+    let q = quiet_element known k a x inner m (first_in i) e in
+    λ j. record { children = []; touched = q.0 j; restated = q.1 j }
+
 -- ---- branches
 
-pub branch_off : (b : Bool) (w a : Walk) → b ≡ false → a ≡ further a (where_gone b w)
-branch_off b w a e = none_gone a (where_gone b w) (ap (λ z. where_gone z w) e)
+pub branch_off : (listed b : Bool) (w a : Walk) → b ≡ false → a ≡ further a (as_listed listed (where_gone b w))
+branch_off listed b w a e = none_listed listed a (where_gone b w) (ap (λ z. where_gone z w) e)
 
-pub branch_on : (b : Bool) (w a c : Walk) → b ≡ true → c ≡ further a w → c ≡ further a (where_gone b w)
-branch_on b w a c e h = h ∙ ap (λ z. further a (where_gone z w)) (sym e)
+pub branch_on : (listed b : Bool) (w a c : Walk) → b ≡ true → c ≡ further a (as_listed listed w) → c ≡ further a (as_listed listed (where_gone b w))
+branch_on listed b w a c e h = h ∙ ap (λ z. further a (as_listed listed (where_gone z w))) (sym e)
 
 -- ---- the first of some parts
 

@@ -3,6 +3,7 @@ ghost use Rattle.std.specs.Prelude.{◌≡◌, ◌++◌, None, map, OnOk};
 ghost use Rattle.tpl_blocks.specs.Blocks.{block};
 ghost use Rattle.tpl_drawn.specs.Comparison.{is_plain};
 ghost use Rattle.tpl_drawn.specs.Marks.{children_in};
+ghost use Rattle.tpl_drawn.specs.Walks.{where_listed};
 ghost use Rattle.tpl_model.specs.ShownNodes.Shapes.{all_shown, child_of};
 
 use sig_base::NoMemory;
@@ -22,17 +23,32 @@ pub fn is_plain(lines: &Block) -> bool
     }
 }
 
-/// Appends children.
-///
-/// # Errors
-///
-/// `NoMemory` alone.
-pub fn put_children(more: Vec<Child>, children: &mut Vec<Child>) -> Result<(), NoMemory>
+// Appends children.
+fn put_all(more: Vec<Child>, children: &mut Vec<Child>) -> Result<(), NoMemory>
     ensures { OnOk result (map child_of children.new.items ≡ map child_of children.old.items ++ map child_of more.items) }
 {
     for child in more {
         children.push(child)?;
     }
+    Ok(())
+}
+
+/// Appends children, where they are listed.
+///
+/// # Errors
+///
+/// `NoMemory` alone.
+pub fn put_children(
+    listed: bool,
+    more: Vec<Child>,
+    children: &mut Vec<Child>,
+) -> Result<(), NoMemory>
+    ensures { OnOk result (map child_of children.new.items ≡ map child_of children.old.items ++ where_listed listed (map child_of more.items)) }
+{
+    if !listed {
+        return Ok(());
+    }
+    put_all(more, children)?;
     Ok(())
 }
 

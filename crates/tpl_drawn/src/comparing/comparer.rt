@@ -1,5 +1,5 @@
 // Lines that are gone over by what became of what is kept of them.
-ghost use Rattle.std.specs.Prelude.{◌≡◌, ℕ, [], Option, Some, None, map, IfOk, OnOk};
+ghost use Rattle.std.specs.Prelude.{◌≡◌, ◌&&◌, ℕ, [], Option, Some, None, not, map, IfOk, OnOk};
 ghost use Rattle.std.specs.List.Sorted.{IsNonDecreasingBy, IsPermutation};
 ghost use Rattle.std.specs.Option.{option_copied};
 ghost use Rattle.sig_base.specs.Tables.{Table};
@@ -16,10 +16,10 @@ ghost use Rattle.tpl_drawn.specs.Shown.{attributes_of, inside_of, rows_of, shows
 ghost use Rattle.tpl_model.specs.ShownNodes.Shapes.{mark_of};
 ghost use Rattle.tpl_model.specs.declared.mark.Mark.{Mark as AMark};
 ghost use Rattle.tpl_model.specs.PageUpdates.PageMemos.{values};
-ghost use Rattle.tpl_drawn.specs.Walks.{further, of_element, of_inside, of_lines, of_marks, of_rows, or_stays, walk_of, where_gone};
+ghost use Rattle.tpl_drawn.specs.Walks.{as_listed, further, of_element, of_inside, of_lines, of_marks, of_rows, or_stays, walk_of, where_gone};
 
-use crate::comparing::children::is_plain;
-use crate::comparing::kept::{put_kept, put_staying};
+use crate::comparing::keeping::{first_keeps, keeps_nodes};
+use crate::comparing::kept::{put_if_listed, put_kept};
 use crate::comparing::node_marks::{Compared, put_made, put_text_again};
 use crate::marks::PageNodes;
 use crate::nodes::{attributes_of, fits, inside_of, later_of, shows};
@@ -51,10 +51,18 @@ fn first_stays(inside: &[Change]) -> bool
     is_stays(change)
 }
 
+// Whether nothing is to be done for an element that was heard again: its children aren't listed, it is the same, and so is all inside it.
+fn is_quiet(listed: bool, same: bool, inside: &[Change]) -> bool
+    ensures { result ≡ ((not listed && same) && is_stays (first_in (chain (map changed inside.now)))) }
+{
+    !listed && same && first_stays(inside)
+}
+
 // Lines, by what became of the first of some parts.
 #[cycle(comparing)]
 fn compare_first(
     alloc: Global,
+    listed: bool,
     key: Option<&Text>,
     lines: &Block,
     memo: &PageMemo,
@@ -65,17 +73,17 @@ fn compare_first(
 ) -> Result<(), NoMemory>
     ensures { (known : ℕ → Option ℕ) → Knows (number_on page.now) known →
         OnOk result (walk_of children.new.items out.new ≡ further (walk_of children.old.items out.old)
-        (of_lines known (option_copied key.entry) (block lines.now) (kept memo.now) (first_in (chain (map changed inside.now))))) }
+        (as_listed listed (of_lines known (option_copied key.entry) (block lines.now) (kept memo.now) (first_in (chain (map changed inside.now)))))) }
 {
     let Some(change) = inside.first() else {
-        put_made(alloc, key, lines, memo, page, children, out)?;
+        put_made(alloc, listed, key, lines, memo, page, children, out)?;
         return Ok(());
     };
-    compare_lines(alloc, key, lines, memo, change, page, children, out)?;
+    compare_lines(alloc, listed, key, lines, memo, change, page, children, out)?;
     Ok(())
 }
 
-// What is inside an element of this number, with a mark of the element for its children unless it always has the same.
+// What is inside an element of this number, with a mark of the element for its children unless it keeps those that it has.
 #[cycle(comparing)]
 fn compare_inside(
     alloc: Global,
@@ -94,9 +102,20 @@ fn compare_inside(
     if first_stays(inside) {
         return Ok(());
     }
+    let keeps = first_keeps(inner, inside);
     let mut children = Vec::new(alloc);
-    compare_first(alloc, key, inner, memo, inside, page, &mut children, out)?;
-    if is_plain(inner) {
+    compare_first(
+        alloc,
+        !keeps,
+        key,
+        inner,
+        memo,
+        inside,
+        page,
+        &mut children,
+        out,
+    )?;
+    if keeps {
         return Ok(());
     }
     out.touched.push(Mark {
@@ -155,6 +174,7 @@ fn compare_kept(
 #[cycle(comparing)]
 fn compare_element(
     alloc: Global,
+    listed: bool,
     same: bool,
     line: usize,
     key: Option<&Text>,
@@ -169,12 +189,15 @@ fn compare_element(
 ) -> Result<(), NoMemory>
     ensures { (known : ℕ → Option ℕ) → Knows (number_on page.now) known →
         OnOk result (walk_of children.new.items out.new ≡ further (walk_of children.old.items out.old)
-        (of_element known (option_copied key.entry) same (address line (option_copied key.entry))
+        (as_listed listed (of_element known (option_copied key.entry) same (address line (option_copied key.entry))
         (label.Element name.now (values (waiting attributes.now) (attributes_of (kept memo.now))))
-        (block inner.now) (inside_of (kept memo.now)) (chain (map changed inside.now)))) }
+        (block inner.now) (inside_of (kept memo.now)) (chain (map changed inside.now))))) }
 {
+    if is_quiet(listed, same, inside) {
+        return Ok(());
+    }
     let number = put_kept(
-        alloc, line, key, name, attributes, inner, memo, page, children,
+        alloc, listed, line, key, name, attributes, inner, memo, page, children,
     )?;
     let Some(number) = number else {
         return Ok(());
@@ -189,6 +212,7 @@ fn compare_element(
 #[cycle(comparing)]
 fn compare_branch(
     alloc: Global,
+    listed: bool,
     first: bool,
     key: Option<&Text>,
     lines: &Block,
@@ -200,14 +224,15 @@ fn compare_branch(
 ) -> Result<(), NoMemory>
     ensures { (known : ℕ → Option ℕ) → Knows (number_on page.now) known →
         OnOk result (walk_of children.new.items out.new ≡ further (walk_of children.old.items out.old)
-        (where_gone (shows (kept memo.now) first)
-        (of_lines known (option_copied key.entry) (block lines.now) (inside_of (kept memo.now)) (first_in (chain (map changed inside.now)))))) }
+        (as_listed listed (where_gone (shows (kept memo.now) first)
+        (of_lines known (option_copied key.entry) (block lines.now) (inside_of (kept memo.now)) (first_in (chain (map changed inside.now))))))) }
 {
     if !shows(memo, first) {
         return Ok(());
     }
     compare_first(
         alloc,
+        listed,
         key,
         lines,
         inside_of(memo),
@@ -223,6 +248,7 @@ fn compare_branch(
 #[cycle(comparing)]
 fn compare_row(
     alloc: Global,
+    listed: bool,
     key: &Text,
     inner: &Block,
     memo: &PageMemo,
@@ -233,13 +259,23 @@ fn compare_row(
 ) -> Result<(), NoMemory>
     ensures { (known : ℕ → Option ℕ) → Knows (number_on page.now) known →
         OnOk result (walk_of children.new.items out.new ≡ further (walk_of children.old.items out.old)
-        (of_lines known (Some key.now) (block inner.now) (kept memo.now) (or_stays (option_copied change.entry)))) }
+        (as_listed listed (of_lines known (Some key.now) (block inner.now) (kept memo.now) (or_stays (option_copied change.entry))))) }
 {
     let Some(change) = change else {
-        put_staying(alloc, Some(key), inner, memo, page, children)?;
+        put_if_listed(alloc, listed, Some(key), inner, memo, page, children)?;
         return Ok(());
     };
-    compare_lines(alloc, Some(key), inner, memo, change, page, children, out)?;
+    compare_lines(
+        alloc,
+        listed,
+        Some(key),
+        inner,
+        memo,
+        change,
+        page,
+        children,
+        out,
+    )?;
     Ok(())
 }
 
@@ -247,6 +283,7 @@ fn compare_row(
 #[cycle(comparing)]
 fn compare_rows(
     alloc: Global,
+    listed: bool,
     inner: &Block,
     rows: &[Row],
     memos: &[PageMemo],
@@ -257,14 +294,16 @@ fn compare_rows(
 ) -> Result<(), NoMemory>
     ensures { (known : ℕ → Option ℕ) → Knows (number_on page.now) known → (t : Table) (i : ℕ) →
         OnOk result (walk_of children.new.items out.new ≡ further (walk_of children.old.items out.old)
-        (of_rows known (block inner.now) (rows_from t i rows.now (map kept memos.now)) (chain (map changed inside.now)))) }
+        (as_listed listed (of_rows known (block inner.now) (rows_from t i rows.now (map kept memos.now)) (chain (map changed inside.now))))) }
 {
     for (place, memo) in memos.iter().enumerate() {
         let Some(row) = rows.get(place) else {
             return Ok(());
         };
         let change = inside.get(place);
-        compare_row(alloc, &row.key, inner, memo, change, page, children, out)?;
+        compare_row(
+            alloc, listed, &row.key, inner, memo, change, page, children, out,
+        )?;
     }
     Ok(())
 }
@@ -273,6 +312,7 @@ fn compare_rows(
 #[cycle(comparing)]
 fn compare_each(
     alloc: Global,
+    listed: bool,
     inner: &Block,
     memo: &PageMemo,
     inside: &[Change],
@@ -282,12 +322,13 @@ fn compare_each(
 ) -> Result<(), NoMemory>
     ensures { (known : ℕ → Option ℕ) → Knows (number_on page.now) known →
         OnOk result (walk_of children.new.items out.new ≡ further (walk_of children.old.items out.old)
-        (of_rows known (block inner.now) (rows_of (kept memo.now)) (chain (map changed inside.now)))) }
+        (as_listed listed (of_rows known (block inner.now) (rows_of (kept memo.now)) (chain (map changed inside.now))))) }
 {
     match memo {
         PageMemo::Loop(heard, memos, _) => {
             compare_rows(
                 alloc,
+                listed,
                 inner,
                 rows_in(&heard.outcome),
                 memos,
@@ -310,6 +351,7 @@ fn compare_each(
 #[cycle(comparing)]
 fn compare_parts(
     alloc: Global,
+    listed: bool,
     same: bool,
     key: Option<&Text>,
     lines: &Block,
@@ -322,7 +364,7 @@ fn compare_parts(
 ) -> Result<(), NoMemory>
     ensures { (known : ℕ → Option ℕ) → Knows (number_on page.now) known →
         OnOk result (walk_of children.new.items out.new ≡ further (walk_of children.old.items out.old)
-        (of_lines known (option_copied key.entry) (block lines.now) (kept memo.now) (model.over same (chain (map changed inside.now)) (changed later.now)))) }
+        (as_listed listed (of_lines known (option_copied key.entry) (block lines.now) (kept memo.now) (model.over same (chain (map changed inside.now)) (changed later.now))))) }
 {
     if !fits(lines, memo) {
         return Ok(());
@@ -331,36 +373,42 @@ fn compare_parts(
     match lines {
         Block::Empty => Ok(()),
         Block::Text(line, _, rest) => {
-            put_text_again(alloc, same, *line, key, memo, page, children, out)?;
-            compare_lines(alloc, key, rest, behind, later, page, children, out)?;
+            put_text_again(alloc, listed, same, *line, key, memo, page, children, out)?;
+            compare_lines(alloc, listed, key, rest, behind, later, page, children, out)?;
             Ok(())
         }
         Block::Tag(line, name, attributes, inner, rest) => {
             compare_element(
-                alloc, same, *line, key, name, attributes, inner, memo, inside, page, children, out,
+                alloc, listed, same, *line, key, name, attributes, inner, memo, inside, page,
+                children, out,
             )?;
-            compare_lines(alloc, key, rest, behind, later, page, children, out)?;
+            compare_lines(alloc, listed, key, rest, behind, later, page, children, out)?;
             Ok(())
         }
         Block::Choice(_, one, other, rest) => {
-            compare_branch(alloc, true, key, one, memo, inside, page, children, out)?;
-            compare_branch(alloc, false, key, other, memo, inside, page, children, out)?;
-            compare_lines(alloc, key, rest, behind, later, page, children, out)?;
+            compare_branch(
+                alloc, listed, true, key, one, memo, inside, page, children, out,
+            )?;
+            compare_branch(
+                alloc, listed, false, key, other, memo, inside, page, children, out,
+            )?;
+            compare_lines(alloc, listed, key, rest, behind, later, page, children, out)?;
             Ok(())
         }
         Block::Each(_, inner, rest) => {
-            compare_each(alloc, inner, memo, inside, page, children, out)?;
-            compare_lines(alloc, key, rest, behind, later, page, children, out)?;
+            compare_each(alloc, listed, inner, memo, inside, page, children, out)?;
+            compare_lines(alloc, listed, key, rest, behind, later, page, children, out)?;
             Ok(())
         }
     }
 }
 
 // Lines in the row of this key: of those that stay the topmost nodes are children, those that were made anew are marked all, and of the others
-// each part is gone over.
+// each part is gone over. Where children aren't listed, those that stay aren't looked up.
 #[cycle(comparing)]
 fn compare_lines(
     alloc: Global,
+    listed: bool,
     key: Option<&Text>,
     lines: &Block,
     memo: &PageMemo,
@@ -371,27 +419,27 @@ fn compare_lines(
 ) -> Result<(), NoMemory>
     ensures { (known : ℕ → Option ℕ) → Knows (number_on page.now) known →
         OnOk result (walk_of children.new.items out.new ≡ further (walk_of children.old.items out.old)
-        (of_lines known (option_copied key.entry) (block lines.now) (kept memo.now) (changed change.now))) }
+        (as_listed listed (of_lines known (option_copied key.entry) (block lines.now) (kept memo.now) (changed change.now)))) }
 {
     match change {
         Change::Stays => {
-            put_staying(alloc, key, lines, memo, page, children)?;
+            put_if_listed(alloc, listed, key, lines, memo, page, children)?;
             Ok(())
         }
         Change::Made => {
-            put_made(alloc, key, lines, memo, page, children, out)?;
+            put_made(alloc, listed, key, lines, memo, page, children, out)?;
             Ok(())
         }
         Change::Over(same, inside, later) => {
             compare_parts(
-                alloc, *same, key, lines, memo, inside, later, page, children, out,
+                alloc, listed, *same, key, lines, memo, inside, later, page, children, out,
             )?;
             Ok(())
         }
     }
 }
 
-// All marks, as they come, the root's behind the others unless it always has the same children.
+// All marks, as they come, the root's behind the others unless it keeps the children that it has.
 fn all_compared(
     alloc: Global,
     lines: &Block,
@@ -408,9 +456,11 @@ fn all_compared(
         touched: Vec::new(alloc),
         restated: Vec::new(alloc),
     };
+    let keeps = keeps_nodes(lines, change);
     let mut children = Vec::new(alloc);
     compare_lines(
         alloc,
+        !keeps,
         None,
         lines,
         memo,
@@ -419,7 +469,7 @@ fn all_compared(
         &mut children,
         &mut out,
     )?;
-    if is_plain(lines) {
+    if keeps {
         return Ok(out);
     }
     out.touched.push(Mark {

@@ -12,6 +12,7 @@ ghost use Rattle.tpl_model.specs.KeptLines.Kept.{kept, rows_from};
 ghost use Rattle.tpl_drawn.specs.Shown.{attributes_of, inside_of, is_line, rows_of, shows, where_shown};
 ghost use Rattle.tpl_model.specs.ShownNodes.Shapes.{child_of};
 ghost use Rattle.tpl_drawn.specs.Heads.{text_at};
+ghost use Rattle.tpl_drawn.specs.Walks.{where_listed};
 ghost use Rattle.tpl_model.specs.PageUpdates.PageMemos.{nodes, row_nodes, values};
 
 use crate::comparing::children::put_new;
@@ -24,13 +25,14 @@ use std::alloc::Global;
 use tpl_blocks::Block;
 use tpl_model::{Address, Child, PageMemo};
 
-/// Appends a text that stays as a child.
+/// Appends a text that stays as a child, where children are listed.
 ///
 /// # Errors
 ///
 /// `NoMemory` alone.
 pub fn put_staying_text(
     alloc: Global,
+    listed: bool,
     line: usize,
     key: Option<&Text>,
     memo: &PageMemo,
@@ -39,8 +41,11 @@ pub fn put_staying_text(
 ) -> Result<(), NoMemory>
     ensures { is_line (kept memo.now) ≡ true → (known : ℕ → Option ℕ) → Knows (number_on page.now) known →
         OnOk result (map child_of children.new.items ≡ map child_of children.old.items
-        ++ children_in known (text_at (address line (option_copied key.entry)) (kept memo.now))) }
+        ++ where_listed listed (children_in known (text_at (address line (option_copied key.entry)) (kept memo.now)))) }
 {
+    if !listed {
+        return Ok(());
+    }
     let address = Address::new(line, key)?;
     let Some(number) = page.number(&address) else {
         let mut shown = Vec::new(alloc);
@@ -52,13 +57,14 @@ pub fn put_staying_text(
     Ok(())
 }
 
-/// Appends an element as a child, and answers its number where it has one; where it has none, it comes with all below it.
+/// Appends an element as a child, where children are listed, and answers its number where it has one; where it has none, it comes with all below it.
 ///
 /// # Errors
 ///
 /// `NoMemory` alone.
 pub fn put_kept(
     alloc: Global,
+    listed: bool,
     line: usize,
     key: Option<&Text>,
     name: &Text,
@@ -71,11 +77,14 @@ pub fn put_kept(
     ensures number { (known : ℕ → Option ℕ) → Knows (number_on page.now) known → IfOk result (λ n. n ≡ known (address line (option_copied key.entry))) }
     ensures child { (known : ℕ → Option ℕ) → Knows (number_on page.now) known →
         OnOk result (map child_of children.new.items ≡ map child_of children.old.items
-        ++ children_in known (node (address line (option_copied key.entry))
+        ++ where_listed listed (children_in known (node (address line (option_copied key.entry))
         (label.Element name.now (values (waiting attributes.now) (attributes_of (kept memo.now))))
-        (nodes (option_copied key.entry) (block inner.now) (inside_of (kept memo.now))) none)) }
+        (nodes (option_copied key.entry) (block inner.now) (inside_of (kept memo.now))) none))) }
 {
     let address = Address::new(line, key)?;
+    if !listed {
+        return Ok(page.number(&address));
+    }
     let Some(number) = page.number(&address) else {
         let mut shown = Vec::new(alloc);
         put_element(alloc, line, key, name, attributes, inner, memo, &mut shown)?;
@@ -157,13 +166,9 @@ fn put_staying_each(
     }
 }
 
-/// Appends the topmost nodes that lines show, by their numbers; one without a number comes with all below it.
-///
-/// # Errors
-///
-/// `NoMemory` alone.
+// Appends the topmost nodes that lines show, by their numbers; one without a number comes with all below it.
 #[cycle(staying)]
-pub fn put_staying(
+fn put_staying(
     alloc: Global,
     key: Option<&Text>,
     lines: &Block,
@@ -181,13 +186,13 @@ pub fn put_staying(
     match lines {
         Block::Empty => Ok(()),
         Block::Text(line, _, rest) => {
-            put_staying_text(alloc, *line, key, memo, page, children)?;
+            put_staying_text(alloc, true, *line, key, memo, page, children)?;
             put_staying(alloc, key, rest, later_of(memo), page, children)?;
             Ok(())
         }
         Block::Tag(line, name, attributes, inner, rest) => {
             put_kept(
-                alloc, *line, key, name, attributes, inner, memo, page, children,
+                alloc, true, *line, key, name, attributes, inner, memo, page, children,
             )?;
             put_staying(alloc, key, rest, later_of(memo), page, children)?;
             Ok(())
@@ -204,4 +209,29 @@ pub fn put_staying(
             Ok(())
         }
     }
+}
+
+/// Appends the topmost nodes of lines that stay, where children are listed.
+///
+/// # Errors
+///
+/// `NoMemory` alone.
+pub fn put_if_listed(
+    alloc: Global,
+    listed: bool,
+    key: Option<&Text>,
+    lines: &Block,
+    memo: &PageMemo,
+    page: &PageNodes,
+    children: &mut Vec<Child>,
+) -> Result<(), NoMemory>
+    ensures { (known : ℕ → Option ℕ) → Knows (number_on page.now) known →
+        OnOk result (map child_of children.new.items ≡ map child_of children.old.items
+        ++ where_listed listed (children_in known (nodes (option_copied key.entry) (block lines.now) (kept memo.now)))) }
+{
+    if !listed {
+        return Ok(());
+    }
+    put_staying(alloc, key, lines, memo, page, children)?;
+    Ok(())
 }

@@ -11,7 +11,7 @@ ghost use Rattle.tpl_drawn.specs.Shown.{is_line};
 ghost use Rattle.tpl_model.specs.ShownNodes.Shapes.{mark_of};
 ghost use Rattle.tpl_drawn.specs.Heads.{text_at};
 ghost use Rattle.tpl_model.specs.PageUpdates.PageMemos.{nodes};
-ghost use Rattle.tpl_drawn.specs.Walks.{further, of_made, of_text, walk_of};
+ghost use Rattle.tpl_drawn.specs.Walks.{as_listed, further, of_made, of_text, walk_of};
 
 use crate::comparing::children::put_children;
 use crate::comparing::kept::put_staying_text;
@@ -72,6 +72,7 @@ fn put_marks(alloc: Global, marks: Vec<Mark>, out: &mut Compared) -> Result<(), 
 /// `NoMemory` alone.
 pub fn put_made(
     alloc: Global,
+    listed: bool,
     key: Option<&Text>,
     lines: &Block,
     memo: &PageMemo,
@@ -81,13 +82,13 @@ pub fn put_made(
 ) -> Result<(), NoMemory>
     ensures { (known : ℕ → Option ℕ) → Knows (number_on page.now) known →
         OnOk result (walk_of children.new.items out.new ≡ further (walk_of children.old.items out.old)
-        (of_made known (nodes (option_copied key.entry) (block lines.now) (kept memo.now)))) }
+        (as_listed listed (of_made known (nodes (option_copied key.entry) (block lines.now) (kept memo.now))))) }
 {
     let mut shown = Vec::new(alloc);
     put_shown(alloc, key, lines, memo, &mut shown)?;
     let mut marks = Vec::new(alloc);
     let more = mark_all(alloc, shown, page, &mut marks)?;
-    put_children(more, children)?;
+    put_children(listed, more, children)?;
     put_marks(alloc, marks, out)?;
     Ok(())
 }
@@ -99,6 +100,7 @@ pub fn put_made(
 /// `NoMemory` alone.
 pub fn put_text_again(
     alloc: Global,
+    listed: bool,
     same: bool,
     line: usize,
     key: Option<&Text>,
@@ -109,15 +111,15 @@ pub fn put_text_again(
 ) -> Result<(), NoMemory>
     ensures { is_line (kept memo.now) ≡ true → (known : ℕ → Option ℕ) → Knows (number_on page.now) known →
         OnOk result (walk_of children.new.items out.new ≡ further (walk_of children.old.items out.old)
-        (of_text known same (text_at (address line (option_copied key.entry)) (kept memo.now)))) }
+        (as_listed listed (of_text known same (text_at (address line (option_copied key.entry)) (kept memo.now))))) }
 {
     if same {
-        put_staying_text(alloc, line, key, memo, page, children)?;
+        put_staying_text(alloc, listed, line, key, memo, page, children)?;
         return Ok(());
     }
     let mut shown = Vec::new(alloc);
     put_text(alloc, line, key, memo, &mut shown)?;
     let more = mark_all(alloc, shown, page, &mut out.restated)?;
-    put_children(more, children)?;
+    put_children(listed, more, children)?;
     Ok(())
 }

@@ -21,13 +21,13 @@ use Rattle.tpl_model.specs.KeptLines.Memos.{lines_memo, table_in, truth_in}
 use Rattle.tpl_model.specs.KeptLines.Before.{WasListened, WasListenedAll, WasMade}
 use Rattle.tpl_kept.specs.Renewals.{is_unread}
 use Rattle.tpl_kept.proofs.Listened.Sequences.{mapped_put}
-use Rattle.tpl_model.specs.KeptLines.Changes.{Change, stays, made, over, chain, changed, first_in, is_made, by_change, BranchTells, RowsTell, Tells, WasRow, WasTrue}
+use Rattle.tpl_model.specs.KeptLines.Changes.{Change, stays, made, over, chain, changed, first_in, is_made, by_change, keys_in, BranchTells, HadKeys, RowsTell, Tells, WasRow, WasTrue}
 use Rattle.tpl_model.specs.declared.change.Change as code
 use Rattle.tpl_kept.specs.declared.making.head.Head.{Head}
 use Rattle.tpl_kept.specs.declared.making.head.Head.TheVariants as head
 use Rattle.tpl_kept.specs.Heads.{Opens, behind, closed, inner_in, last_of, places_from, places_in, rest_in, shows_first, where_shown}
-use Rattle.tpl_kept.specs.Turns.{AreAmong, Begins, IsAmong, ServeInside, WasOpened, behind_of, first_of, kept_of, later_of, outcome_of, places_of, shows_of}
-use Rattle.tpl_kept.specs.Changes.{AreTold, BeginsTold, IsTold, TellsEach, WasKnown, WereRows, changed_of, last_change}
+use Rattle.tpl_kept.specs.Turns.{AreAmong, Begins, IsAmong, IsSame, ServeInside, WasOpened, behind_of, first_of, kept_of, later_of, outcome_of, places_of, shows_of}
+use Rattle.tpl_kept.specs.Changes.{AreTold, BeginsTold, IsTold, TellsEach, WasKnown, WasSame, WereRows, changed_of, last_change}
 use Rattle.tpl_kept.specs.declared.renewing.parts.First.{First}
 use Rattle.tpl_kept.specs.declared.renewing.parts.First.TheVariants as start
 
@@ -72,8 +72,9 @@ tells_whole (each f inner rest) links at before (line h r) c x = tt
 tells_whole (each f inner rest) links at before (element hs i r) c x = tt
 tells_whole (each f inner rest) links at before (branch h i r) c x = tt
 tells_whole (each f inner rest) links at before (loop h i r) c x =
-    x (λ same inside later. RowsTell (λ (here : Here) (m : PageMemo) (d : Change). (is_made d ≡ false → WasRow f links at before here.row)
-    × Tells inner links (Some here.row) before m d) i inside × Tells rest links at before r later)
+    x (λ same inside later. (same ≡ true → HadKeys f links at before (keys_in h.outcome))
+    × (RowsTell (λ (here : Here) (m : PageMemo) (d : Change). (is_made d ≡ false → WasRow f links at before here.row)
+    × Tells inner links (Some here.row) before m d) i inside × Tells rest links at before r later))
 tells_whole (each f inner rest) links at before (row h i r) c x = tt
 tells_whole (each f inner rest) links at before (either a d r) c x = tt
 tells_whole (attempt one other rest) links at before m c x = x (λ same inside later. Unit {0})
@@ -144,6 +145,33 @@ was_known (each f inner rest) links at before a c old h is ms was o s =
     subst (λ z. WasKnown (each f inner rest) links at before z ms) (sym o.1.0)
     (each_known f inner rest links at before old o.0 is ms was (subst (λ z. ServeInside (outcome_of old) z is ms) o.1.0 s))
 was_known (attempt one other rest) links at before a c old h is ms was o s = tt
+
+-- rows that have the keys of before
+each_same : (f : Tree) (inner rest : Block) (links : List ℕ) (at : Option RowRef) (before : Outcomes) (old : Head) (h : _) (heard same : Bool) →
+    WasOpened (each f inner rest) links at before old → IsSame (outcome_of old) (head.Each h) heard same → same ≡ true →
+    WasSame (each f inner rest) links at before (head.Each h)
+each_same f inner rest links at before head.Nothing h heard same was s e = absurd was
+each_same f inner rest links at before (head.Text x) h heard same was s e = absurd was
+each_same f inner rest links at before (head.Tag all) h heard same was s e = absurd was
+each_same f inner rest links at before (head.Choice x) h heard same was s e = absurd was
+each_same f inner rest links at before (head.Each x) h heard same was s e =
+    record { are = λ source agrees. ap (λ (z : Heard). keys_in z.outcome) (sym (was.is source agrees)) ∙ s e }
+
+-- a line that is heard again, and is the same
+pub was_same : (b : Block) (links : List ℕ) (at : Option RowRef) (before a c : Outcomes) (old h : Head) (heard same : Bool) →
+    WasOpened b links at before old → Opens b links at a c h → (heard ≡ true → WasOpened b links at before h) →
+    IsSame (outcome_of old) h heard same → same ≡ true → WasSame b links at before h
+was_same empty links at before a c old h heard same was o w s e = tt
+was_same (text n f rest) links at before a c old h heard same was o w s e =
+    w (sym (subst (λ z. IsSame (outcome_of old) z heard same) o.1.0 s) ∙ e)
+was_same (tag n name xs inner rest) links at before a c old h heard same was o w s e =
+    w (sym (subst (λ z. IsSame (outcome_of old) z heard same) o.1.0 s) ∙ e)
+was_same (choice f one other rest) links at before a c old h heard same was o w s e =
+    w (sym (subst (λ z. IsSame (outcome_of old) z heard same) o.1.0 s) ∙ e)
+was_same (each f inner rest) links at before a c old h heard same was o w s e =
+    subst (λ z. WasSame (each f inner rest) links at before z) (sym o.1.0)
+    (each_same f inner rest links at before old o.0 heard same was (subst (λ z. IsSame (outcome_of old) z heard same) o.1.0 s) e)
+was_same (attempt one other rest) links at before a c old h heard same was o w s e = absurd o
 
 -- ---- what became of the last
 
@@ -222,18 +250,18 @@ loop_told (Bad e) f inner links at before was ms cs w x = tt
 -- ---- a line that is heard again
 
 line_told : (b : Block) (links : List ℕ) (at : Option RowRef) (before a c : Outcomes) (h : Head) (same : Bool) (ins lat is rs : List PageMemo) (cs ds : List Change) →
-    Opens b links at a c h → WasKnown b links at before h ins → (same ≡ true → WasOpened b links at before h) → AreTold (inner_in b (shows_first h)) links (places_in h at) before ins is cs →
+    Opens b links at a c h → WasKnown b links at before h ins → (same ≡ true → WasSame b links at before h) → AreTold (inner_in b (shows_first h)) links (places_in h at) before ins is cs →
     AreTold (rest_in b) links (behind h at) before lat rs ds → Tells b links at before (closed h is rs) (over same (chain cs) (last_change ds))
 line_told empty links at before a c h same ins lat is rs cs ds o k w inside later = tt
 line_told (text n f rest) links at before a c h same ins lat is rs cs ds o k w inside later =
     subst (λ z. Tells (text n f rest) links at before (closed z is rs) (over same (chain cs) (last_change ds))) (sym o.1.0) (
-      subst (λ z. same ≡ true → WasOpened (text n f rest) links at before z) o.1.0 w,
+      subst (λ z. same ≡ true → WasSame (text n f rest) links at before z) o.1.0 w,
       (alone_told rest links at before lat rs ds (subst (λ z. AreTold rest links (behind z at) before lat rs ds) o.1.0 later)).tells,
     )
 line_told (tag n name xs inner rest) links at before a c h same ins lat is rs cs ds o k w inside later =
     let i = subst (λ z. AreTold (inner_in (tag n name xs inner rest) (shows_first z)) links (places_in z at) before ins is cs) o.1.0 inside in
     subst (λ z. Tells (tag n name xs inner rest) links at before (closed z is rs) (over same (chain cs) (last_change ds))) (sym o.1.0) (
-      subst (λ z. same ≡ true → WasOpened (tag n name xs inner rest) links at before z) o.1.0 w,
+      subst (λ z. same ≡ true → WasSame (tag n name xs inner rest) links at before z) o.1.0 w,
       (
         (first_told inner links at before ins is cs i).tells,
         (alone_told rest links at before lat rs ds (subst (λ z. AreTold rest links (behind z at) before lat rs ds) o.1.0 later)).tells,
@@ -249,8 +277,11 @@ line_told (each f inner rest) links at before a c h same ins lat is rs cs ds o k
     let known = subst (λ z. WasKnown (each f inner rest) links at before z ins) o.1.0 k in
     let i = subst (λ z. AreTold (inner_in (each f inner rest) (shows_first z)) links (places_in z at) before ins is cs) o.1.0 inside in
     subst (λ z. Tells (each f inner rest) links at before (closed z is rs) (over same (chain cs) (last_change ds))) (sym o.1.0) (
-      loop_told (o.0).outcome f inner links at before ins is cs known i,
-      (alone_told rest links at before lat rs ds (subst (λ z. AreTold rest links (behind z at) before lat rs ds) o.1.0 later)).tells,
+      subst (λ z. same ≡ true → WasSame (each f inner rest) links at before z) o.1.0 w,
+      (
+        loop_told (o.0).outcome f inner links at before ins is cs known i,
+        (alone_told rest links at before lat rs ds (subst (λ z. AreTold rest links (behind z at) before lat rs ds) o.1.0 later)).tells,
+      ),
     )
 line_told (attempt one other rest) links at before a c h same ins lat is rs cs ds o k w inside later = absurd o
 
@@ -325,11 +356,11 @@ pub whole_told : (b : Block) (links : List ℕ) (at : Option RowRef) (before : O
     BeginsTold b links at before was first same ins
 whole_told b links at before was first same m k ins e x = subst (λ z. BeginsTold b links at before was z same ins) (sym e) x
 
-pub heard_told : (b : Block) (links : List ℕ) (at : Option RowRef) (before : Outcomes) (was : PageMemo) (first : First) (h : Head) (same is : Bool)
-    (ins : List PageMemo) → first ≡ start.Line h → same ≡ is → is_unread was ≡ false → WasKnown b links at before h ins →
-    (is ≡ true → WasOpened b links at before h) → BeginsTold b links at before was first same ins
-heard_told b links at before was first h same is ins e i u k w =
-    subst (λ z. BeginsTold b links at before was z same ins) (sym e) (u, (k, (λ j. w (sym i ∙ j))))
+pub heard_told : (b : Block) (links : List ℕ) (at : Option RowRef) (before : Outcomes) (was : PageMemo) (first : First) (h : Head) (same : Bool)
+    (ins : List PageMemo) → first ≡ start.Line h → is_unread was ≡ false → WasKnown b links at before h ins →
+    (same ≡ true → WasSame b links at before h) → BeginsTold b links at before was first same ins
+heard_told b links at before was first h same ins e u k w =
+    subst (λ z. BeginsTold b links at before was z same ins) (sym e) (u, (k, w))
 
 -- what became of lines in one row
 pub one_told : (b : Block) (links : List ℕ) (rows : List (Option RowRef)) (at : Option RowRef) (before : Outcomes) (was none ms : List PageMemo)

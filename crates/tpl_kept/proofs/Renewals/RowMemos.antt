@@ -1,9 +1,12 @@
 -- What was kept for rows, taken one after the other for the rows of now.
 use Rattle.std.specs.Prelude.{slice_set, IfSome}
-use Rattle.std.proofs.Common.{◌≡◌, ℕ, zero, suc, ◌+◌, ◌<◌, true, false, List, [], ◌∷◌, ◌++◌, length, get_or, map, Option, Some, None, length-append, refl, sym, ap, subst, ◌∙◌, arith}
+use Rattle.std.specs.Str.{bytes_eq}
+use Rattle.std.proofs.Common.{◌≡◌, ℕ, zero, suc, ◌+◌, ◌<◌, ◌≤◌, true, false, List, [], ◌∷◌, ◌++◌, drop, length, get_or, map, Option, Some, None, length-append, refl, sym, ap, subst, ◌∙◌, arith}
 use Rattle.std.proofs.lemmas.Bool.{true≢false}
-use Rattle.std.proofs.lemmas.List.{length-map}
+use Rattle.std.proofs.lemmas.List.{drop_all, drop_more, length-map}
+use Rattle.std.proofs.lemmas.Slice.Eq.{bytes_eq-Decides}
 use Rattle.sig_base.specs.Tables.{Table}
+use Rattle.sig_base.specs.declared.rows.Row.{Row}
 use Rattle.sig_formula.specs.declared.formula.RowRef.{RowRef}
 use Rattle.tpl_model.specs.Lines.{Block}
 use Rattle.tpl_model.specs.Sources.{same_here}
@@ -136,3 +139,27 @@ branch_apart m h i r is k e f g = e ∙ (λ j. branch h (last_of (sym f j)) (g j
 pub loop_apart : (m : PageMemo) (h : Heard) (is : List PageMemo) (r k : PageMemo) → m ≡ loop h (rows_of h.outcome is) r → r ≡ k →
     m ≡ loop h (rows_of h.outcome is) k
 loop_apart m h is r k e f = e ∙ ap (λ z. loop h (rows_of h.outcome is) z) f
+
+-- ---- keys of rows
+
+-- the keys of rows
+abbrev pub keys : List Row → List (List ℕ)
+keys rs = map (λ (r : Row). r.key) rs
+
+-- the row at a place, and those behind it
+row_left : (rs : List Row) (n : ℕ) (r : Row) → n < length rs → r ≡ get_or rs n r → drop n rs ≡ r ∷ drop (n + 1) rs
+row_left rs n r l e = drop_more rs n r l ∙ ap (λ z. z ∷ drop (n + 1) rs) (sym e)
+
+-- where the keys of the rows that are left are the same, those of all are
+abbrev pub KeysLeft : List Row → List Row → ℕ → Type 0
+KeysLeft was rows n = keys (drop n was) ≡ keys (drop n rows) → keys was ≡ keys rows
+
+pub keys_more : (was rows : List Row) (n : ℕ) (old row : Row) → n < length was → old ≡ get_or was n old → n < length rows → row ≡ get_or rows n row →
+    bytes_eq old.key row.key ≡ true → KeysLeft was rows n → KeysLeft was rows (n + 1)
+keys_more was rows n old row there is here at same all more =
+    let key : old.key ≡ row.key = (bytes_eq-Decides old.key row.key).0 same in
+    all (ap keys (row_left was n old there is) ∙ ((λ i. key i ∷ more i) ∙ sym (ap keys (row_left rows n row here at))))
+
+-- no row is left
+pub keys_end : (was rows : List Row) (n : ℕ) → length was ≡ length rows → length rows ≤ n → KeysLeft was rows n → keys was ≡ keys rows
+keys_end was rows n e l all = all (ap keys (drop_all n was (omega (arith, e, l))) ∙ sym (ap keys (drop_all n rows l)))

@@ -22,8 +22,8 @@ pub(crate) fn hears_first(look: Look) -> bool {
 // Whether a name of lines that are gone over is known to have another outcome, and it is none of the first line.
 fn is_behind(look: Look, turn: &Turn) -> bool {
     match look {
-        Look::First => turn.same,
-        Look::Changed => turn.same,
+        Look::First => turn.heard,
+        Look::Changed => turn.heard,
         Look::Over => false,
     }
 }

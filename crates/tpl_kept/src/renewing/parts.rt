@@ -7,13 +7,13 @@ ghost use Rattle.tpl_model.specs.KeptLines.Memos.{truth_in};
 ghost use Rattle.tpl_kept.specs.Renewals.{is_unread};
 ghost use Rattle.tpl_kept.specs.Heads.{last_of, places_in};
 ghost use Rattle.tpl_kept.specs.Changes.{changed_of, last_change};
-ghost use Rattle.tpl_kept.specs.Turns.{behind_of, first_of, kept_of, later_of, outcome_of, shows_of, IsApart, ServeInside};
+ghost use Rattle.tpl_kept.specs.Turns.{behind_of, first_of, kept_of, later_of, outcome_of, shows_of, IsApart, IsSame, ServeInside};
 ghost use Rattle.tpl_kept.specs.declared.making.head.Head.TheVariants as head;
 ghost use Rattle.tpl_kept.specs.declared.renewing.parts.First.TheVariants as start;
 
 use crate::listening::truth_of;
 use crate::making::{Head, last, place_behind, places_inside, put_closed, shows_first};
-use crate::renewing::rows::rows_were;
+use crate::renewing::rows::{rows_were, same_keys};
 use sig_base::{Fault, NoMemory, Outcome};
 use sig_formula::RowRef;
 use std::alloc::Global;
@@ -37,10 +37,12 @@ pub(crate) enum First {
 }
 
 /// Lines that are brought up to date: what is kept of them next, where those inside the first of them are gone over, what was kept inside
-/// it and behind it, what is kept there next, and what became of what was kept there; and whether all names of the first have the outcomes of before.
+/// it and behind it, what is kept there next, and what became of what was kept there; whether all names of the first have the outcomes of before, and
+/// whether it is the same.
 #[derive(Drop)]
 pub(crate) struct Turn {
     pub first: Box<First>,
+    pub heard: bool,
     pub same: bool,
     pub places: Vec<Option<RowRef>>,
     pub inside_was: VecDeque<PageMemo>,
@@ -234,6 +236,7 @@ pub(crate) fn whole(alloc: Global, memo: PageMemo, change: Change) -> Result<Tur
     let first = Box::new(alloc, First::Whole(Renewed { memo, change }))?;
     Ok(Turn {
         first,
+        heard: true,
         same: true,
         places: Vec::new(alloc),
         inside_was: VecDeque::new(alloc),
@@ -243,6 +246,16 @@ pub(crate) fn whole(alloc: Global, memo: PageMemo, change: Change) -> Result<Tur
         inside_changes: Vec::new(alloc),
         later_changes: Vec::new(alloc),
     })
+}
+
+// Whether a line that was heard again is the same: its names have the outcomes of before, or the rows of a loop their keys.
+fn is_same(was: &Outcome, head: &Head, heard: bool) -> bool
+    ensures { IsSame was.now head.now heard result }
+{
+    match head {
+        Head::Each(rows) => same_keys(was, &rows.outcome),
+        _ => heard,
+    }
 }
 
 /// The first line was heard again, in the row where it stands, and whether all its names have the outcomes of before; `was` is what its test or its
@@ -255,13 +268,13 @@ pub(crate) fn taken_up(
     alloc: Global,
     was: &Outcome,
     head: Box<Head>,
-    same: bool,
+    heard: bool,
     inside: Vec<PageMemo>,
     later: Box<PageMemo>,
     row: Option<&RowRef>,
 ) -> Result<Turn, NoMemory>
     ensures first { IfOk result (λ t. t.first.value ≡ start.Line head.value) }
-    ensures same { IfOk result (λ t. t.same ≡ same) }
+    ensures same { IfOk result (λ t. IsSame was.now head.value heard t.same) }
     ensures places { IfOk result (λ t. t.places.items ≡ places_in head.value (option_copied row.entry)) }
     ensures inside_was { IfOk result (λ t. ServeInside was.now head.value (map kept inside.items) (map kept t.inside_was.items)) }
     ensures later_was { IfOk result (λ t. map kept t.later_was.items ≡ kept later.value ∷ []) }
@@ -272,10 +285,12 @@ pub(crate) fn taken_up(
 {
     let places = places_inside(alloc, &head, row)?;
     let inside_was = inside_was(alloc, was, &head, inside)?;
+    let same = is_same(was, &head, heard);
     let later_was = waiting(alloc, Box::into_inner(later))?;
     let first = Box::new(alloc, First::Line(Box::into_inner(head)))?;
     Ok(Turn {
         first,
+        heard,
         same,
         places,
         inside_was,
@@ -349,6 +364,7 @@ pub(crate) fn put_turn(
 {
     let Turn {
         first,
+        heard: _heard,
         same,
         places: _places,
         inside_was: _inside_was,

@@ -3,9 +3,11 @@ ghost use Rattle.std.specs.Prelude.{◌≡◌, ◌<◌, ℕ, List, length, map, 
 ghost use Rattle.std.specs.Cmp.Lexicographic.{pointwise};
 ghost use Rattle.std.specs.Str.{bytes_eq};
 ghost use Rattle.sig_base.specs.Tables.{Table};
+ghost use Rattle.sig_base.specs.declared.rows.Row.{Row as ARow};
 ghost use Rattle.tpl_model.specs.Lines as model;
 ghost use Rattle.tpl_model.specs.Sources.{same_here};
 ghost use Rattle.tpl_hearing.specs.Heard as hearing;
+ghost use Rattle.tpl_model.specs.KeptLines.Changes.{keys_in};
 ghost use Rattle.tpl_model.specs.KeptLines.Kept.{kept};
 ghost use Rattle.tpl_model.specs.KeptLines.Memos.{table_in};
 ghost use Rattle.tpl_kept.specs.Renewals.{is_unread, SlotsWere, TakesRow};
@@ -14,29 +16,51 @@ ghost use Rattle.tpl_kept.specs.Turns.{AreAmong, ServeRows};
 
 use crate::listening::row_count;
 use indexmap::IndexMap;
-use sig_base::{NoMemory, Outcome, Rows, Text, Value};
+use sig_base::{NoMemory, Outcome, Row, Rows, Text, Value};
 use std::alloc::Global;
 use std::collections::VecDeque;
 use std::mem;
 use tpl_model::PageMemo;
 
 // Whether each row has the key of the row that stood at its place, as far as one stood there: then its key stood at no other place.
-fn keys_stand(was: &Rows, rows: &Rows) -> bool {
-    for place in 0..rows.len() {
-        if place >= was.len() {
+fn keys_stand(was: &[Row], rows: &[Row]) -> bool
+    ensures { result ≡ true → length was.now ≡ length rows.now → map (λ (r : ARow). r.key) was.now ≡ map (λ (r : ARow). r.key) rows.now }
+{
+    for (place, row) in rows.iter().enumerate() {
+        let Some(old) = was.get(place) else {
             return true;
-        }
-        if was.row(place).key != rows.row(place).key {
+        };
+        let same = old.key == row.key;
+        if !same {
             return false;
         }
     }
     true
 }
 
+// Whether rows have the keys of those that stood before them, in the same order.
+fn keep_keys(was: &[Row], rows: &[Row]) -> bool
+    ensures { result ≡ true → map (λ (r : ARow). r.key) was.now ≡ map (λ (r : ARow). r.key) rows.now }
+{
+    was.len() == rows.len() && keys_stand(was, rows)
+}
+
+/// Whether the rows that two outcomes are have the same keys, in the same order.
+pub(crate) fn same_keys(was: &Outcome, next: &Outcome) -> bool
+    ensures { result ≡ true → keys_in was.now ≡ keys_in next.now }
+{
+    match (was, next) {
+        (Outcome::Good(Value::Rows(was)), Outcome::Good(Value::Rows(rows))) => {
+            keep_keys(was.rows(), rows.rows())
+        }
+        _ => false,
+    }
+}
+
 // The places of rows by their keys; none where no row is found but at its own place.
 fn places_among(alloc: Global, was: &Rows, rows: &Rows) -> Result<IndexMap<Text, usize>, NoMemory> {
     let mut places = IndexMap::new(alloc);
-    if keys_stand(was, rows) {
+    if keys_stand(was.rows(), rows.rows()) {
         return Ok(places);
     }
     for (place, row) in was.rows().iter().enumerate() {

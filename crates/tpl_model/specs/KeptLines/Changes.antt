@@ -1,6 +1,7 @@
 -- What became of what is kept of lines, when it was brought up to date, and what this tells of the outcomes of before.
-use Rattle.std.specs.Prelude.{◌≡◌, ◌<◌, ℕ, Bool, true, false, List, [], ◌∷◌, length, Option, Some, None}
+use Rattle.std.specs.Prelude.{◌≡◌, ◌<◌, ℕ, Bool, true, false, List, [], ◌∷◌, length, map, Option, Some, None}
 use Rattle.std.specs.Box.{box_value}
+use Rattle.sig_base.specs.declared.rows.Row.{Row}
 use Rattle.sig_base.specs.declared.value.Outcome.{Outcome}
 use Rattle.sig_formula.specs.Trees.{Tree}
 use Rattle.sig_formula.specs.declared.formula.RowRef.{RowRef}
@@ -15,8 +16,9 @@ use Rattle.tpl_model.specs.declared.change.Change as code
 use Rattle.tpl_model.specs.declared.change.Change.TheOpen.{Change-F}
 use Rattle.tpl_model.specs.declared.change.Change.TheFolds.{fold-Change}
 
--- what became of lines: all of it stays, it was made anew, or the first line was heard again, with whether all its names have the outcomes of
--- before, what became of its inside and of the lines behind it; `also` and `nothing` are the parts of an inside, one after the other
+-- what became of lines: all of it stays, it was made anew, or the first line was heard again, with whether it is the same (the names of a text, of
+-- attributes or of a test have the outcomes of before, and the rows of a loop their keys, in the same order), what became of its inside and of the
+-- lines behind it; `also` and `nothing` are the parts of an inside, one after the other
 pub data Change : Type 0 where
   stays : Change
   made : Change
@@ -75,6 +77,14 @@ pub record WasRow (f : Tree) (links : List ℕ) (row : Option RowRef) (before : 
   pub same : (source : ℕ → Outcome) → Agrees before source →
       same_here (record { rows = table_in (hearing (evaluating links source) row f).outcome; place = place }) here ≡ true
 
+-- the keys of the rows that an outcome is
+abbrev pub keys_in : Outcome → List (List ℕ)
+keys_in o = map (λ (r : Row). r.key) (table_in o).rows
+
+-- rows had these keys on the outcomes of before, in this order
+pub record HadKeys (f : Tree) (links : List ℕ) (row : Option RowRef) (before : Outcomes) (keys : List (List ℕ)) : Type 0 where
+  pub are : (source : ℕ → Outcome) → Agrees before source → keys_in (hearing (evaluating links source) row f).outcome ≡ keys
+
 -- what is told of the branch that is shown
 abbrev pub BranchTells : Option Bool → Type 0 → Type 0 → Type 0
 BranchTells (Some true) One Other = One
@@ -88,7 +98,8 @@ RowsTell Go (row here m next) c = ⊥
 RowsTell Go m c = Unit {0}
 
 -- Lines that stay are kept now as they were made on the outcomes of before; a text or attributes whose names have the outcomes of before were heard
--- so before; of a branch that wasn't made anew the test had its truth before, and a row that wasn't made anew stood among the rows of before.
+-- so before; of a branch that wasn't made anew the test had its truth before, a row that wasn't made anew stood among the rows of before, and rows of
+-- a loop that is the same had their keys.
 abbrev pub Tells : Block → List ℕ → Option RowRef → Outcomes → PageMemo → Change → Type 0
 Tells (text n f rest) links place before (line h r) c =
     by_change (WasMade (lines_memo (text n f rest)) links place before (line h r))
@@ -104,8 +115,9 @@ Tells (choice f one other rest) links place before (branch h i r) c =
     × Tells rest links place before r later)) c
 Tells (each f inner rest) links place before (loop h i r) c =
     by_change (WasMade (lines_memo (each f inner rest)) links place before (loop h i r))
-    (λ same inside later. RowsTell (λ (here : Here) (m : PageMemo) (d : Change). (is_made d ≡ false → WasRow f links place before here.row)
-    × Tells inner links (Some here.row) before m d) i inside × Tells rest links place before r later) c
+    (λ same inside later. (same ≡ true → HadKeys f links place before (keys_in h.outcome))
+    × (RowsTell (λ (here : Here) (m : PageMemo) (d : Change). (is_made d ≡ false → WasRow f links place before here.row)
+    × Tells inner links (Some here.row) before m d) i inside × Tells rest links place before r later)) c
 Tells (attempt first second rest) links place before m c =
     by_change (WasMade (lines_memo (attempt first second rest)) links place before m) (λ same inside later. Unit {0}) c
 Tells b links place before m c = Unit {0}

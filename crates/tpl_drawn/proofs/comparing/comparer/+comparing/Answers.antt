@@ -1,4 +1,4 @@
-use Rattle.std.proofs.Common.{◌≡◌, ◌<◌, ◌+◌, ◌++◌, [], ◌∷◌, Some, true, false, length, map, drop, arith, refl, sym, ap, ◌∙◌, inl, inr}
+use Rattle.std.proofs.Common.{◌≡◌, ◌<◌, ◌+◌, ◌++◌, [], ◌∷◌, Some, true, false, not, length, map, drop, arith, refl, sym, ap, ◌∙◌, inl, inr}
 use Rattle.std.proofs.lemmas.Bool.Decides.{nat_tests}
 use Rattle.std.proofs.lemmas.List.{map-append}
 use Rattle.std.specs.Option.{option_copied}
@@ -14,10 +14,9 @@ use Rattle.tpl_drawn.specs.Shown.{attributes_of, inside_of, rows_of, shows}
 use Rattle.tpl_drawn.proofs.Placed.Equations.{of_blank, of_branch, of_element, of_line, of_loop, of_unread}
 use Rattle.tpl_model.specs.ShownNodes.Shapes.{child_of, mark_of}
 use Rattle.tpl_model.specs.PageUpdates.PageMemos.{values}
-use Rattle.tpl_drawn.specs.Walks.{further, of_lines, of_rows, or_stays, walk_of}
+use Rattle.tpl_drawn.specs.Walks.{as_listed, further, of_lines, of_rows, or_stays, walk_of, where_gone}
 use Rattle.tpl_drawn.proofs.Compares.Rows.{all_left, item_at, left_of, one_left, past, rows_gone, rows_held, told_at}
-use Rattle.tpl_drawn.proofs.Compares.Tops.{others_keep}
-use Rattle.tpl_drawn.proofs.Compares.Walks.{both_gone, branch_off, branch_on, choice_parts, each_parts, element_goes, first_none, first_some, inside_goes, inside_keeps, inside_stays, kept_goes, kept_same, made_gone, none_gone, parts_gone, put_staying_gone, stays_gone, tag_parts, text_parts, unfit_gone, unknown_element}
+use Rattle.tpl_drawn.proofs.Compares.Walks.{alone_listed, branch_off, branch_on, choice_parts, each_parts, element_goes, element_quiet, first_none, first_some, inside_goes, inside_keeps, inside_stays, kept_goes, kept_same, made_gone, none_gone, none_listed, parts_gone, put_staying_gone, stays_gone, tag_parts, text_parts, unfit_gone, unknown_element}
 use Rattle.tpl_drawn.proofs.comparing.comparer.+comparing.Goals as goal
 
 -- ---- the first of some parts
@@ -27,14 +26,15 @@ compare_first-returns-in_default u c = λ known k.
     let key = option_copied c.args.key in
     let m = kept c.args.memo.now in
     c.in_ok-put_made.ensures known k
-    ∙ ap (further (walk_of c.args.children.now.items c.args.out.now))
+    ∙ ap (λ z. further (walk_of c.args.children.now.items c.args.out.now) (as_listed c.args.listed z))
     (made_gone known key c.args.lines.now m
     ∙ ap (of_lines known key (block c.args.lines.now) m) (first_none c.args.inside.now (sym c.first.ensures.value ∙ ap option_copied c.in_default.is)))
 
 pub compare_first-returns : goal.compare_first-returns
 compare_first-returns u c = λ known k.
     c.in_ok-compare_lines.ensures known k
-    ∙ ap (λ z. further (walk_of c.args.children.now.items c.args.out.now) (of_lines known (option_copied c.args.key) (block c.args.lines.now) (kept c.args.memo.now) z))
+    ∙ ap (λ z. further (walk_of c.args.children.now.items c.args.out.now)
+    (as_listed c.args.listed (of_lines known (option_copied c.args.key) (block c.args.lines.now) (kept c.args.memo.now) z)))
     (first_some c.args.inside.now c.in-Some.change.now (sym c.first.ensures.value ∙ ap option_copied c.in-Some.is))
 
 -- ---- an element
@@ -45,16 +45,16 @@ compare_inside-returns-then-first_stays u c = λ known k.
     (inside_stays known (option_copied c.args.key) c.args.number (block c.args.inner.now) (kept c.args.memo.now) (chain (map changed c.args.inside.now))
     (sym c.first_stays.ensures ∙ c.if-first_stays.true))
 
-pub compare_inside-returns-then-is_plain : goal.compare_inside-returns-then-is_plain
-compare_inside-returns-then-is_plain u c = λ known k.
+pub compare_inside-returns-then-keeps : goal.compare_inside-returns-then-keeps
+compare_inside-returns-then-keeps u c = λ known k.
     let out = c.compare_first.new.out in
     inside_keeps known (option_copied c.args.key) c.args.number (block c.args.inner.now) (kept c.args.memo.now) (chain (map changed c.args.inside.now))
+    (not c.first_keeps-keeps.result)
     (map child_of c.compare_first.new.children.items) (map mark_of out.touched.items) (map mark_of out.restated.items) (walk_of [] c.args.out.now) (walk_of [] out)
-    (others_keep (block c.args.inner.now) (first_in (chain (map changed c.args.inside.now))) true (sym c.first_stays.ensures ∙ c.if-first_stays.false)
-    (sym c.is_plain.ensures ∙ c.if-is_plain.true))
+    (sym c.first_keeps-keeps.ensures ∙ c.if-keeps.true)
     (c.in_ok-compare_first.ensures known k
-    ∙ ap (λ z. further (walk_of z c.args.out.now) (of_lines known (option_copied c.args.key) (block c.args.inner.now) (kept c.args.memo.now)
-    (first_in (chain (map changed c.args.inside.now))))) c.new-children.ensures.items)
+    ∙ ap (λ z. further (walk_of z c.args.out.now) (as_listed (not c.first_keeps-keeps.result) (of_lines known (option_copied c.args.key) (block c.args.inner.now)
+    (kept c.args.memo.now) (first_in (chain (map changed c.args.inside.now)))))) c.new-children.ensures.items)
     refl refl refl refl
 
 pub compare_inside-returns : goal.compare_inside-returns
@@ -63,9 +63,10 @@ compare_inside-returns u c = λ known k.
     inside_goes known (option_copied c.args.key) c.args.number (block c.args.inner.now) (kept c.args.memo.now) (chain (map changed c.args.inside.now))
     (map child_of c.compare_first.new.children.items) (map mark_of out.touched.items) (map mark_of out.restated.items) (walk_of [] c.args.out.now)
     (record { children = []; touched = map mark_of c.push.new.self.items; restated = map mark_of out.restated.items })
-    (others_keep (block c.args.inner.now) (first_in (chain (map changed c.args.inside.now))) false (sym c.first_stays.ensures ∙ c.if-first_stays.false)
-    (sym c.is_plain.ensures ∙ c.if-is_plain.false))
+    (sym c.first_keeps-keeps.ensures ∙ c.if-keeps.false)
     (c.in_ok-compare_first.ensures known k
+    ∙ ap (λ b. further (walk_of c.new-children.result.items c.args.out.now) (as_listed (not b) (of_lines known (option_copied c.args.key) (block c.args.inner.now)
+    (kept c.args.memo.now) (first_in (chain (map changed c.args.inside.now)))))) c.if-keeps.false
     ∙ ap (λ z. further (walk_of z c.args.out.now) (of_lines known (option_copied c.args.key) (block c.args.inner.now) (kept c.args.memo.now)
     (first_in (chain (map changed c.args.inside.now))))) c.new-children.ensures.items)
     refl refl (ap (map mark_of) c.in_ok-push.ensures.items ∙ map-append mark_of out.touched.items _) refl
@@ -95,20 +96,28 @@ compare_kept-returns u c = λ known k.
     ∙ (λ i. map mark_of out.restated.items
     ++ record { number = c.args.number; look = Element (c.in_ok-name.ensures i) (read i); children = map child_of (c.new.ensures.items i) } ∷ [])))
 
+pub compare_element-returns-then-is_quiet : goal.compare_element-returns-then-is_quiet
+compare_element-returns-then-is_quiet u c = λ known k.
+    let key = option_copied c.args.key in
+    let m = kept c.args.memo.now in
+    none_gone (walk_of c.args.children.now.items c.args.out.now) _
+    (element_quiet c.args.listed c.args.same known key (address c.args.line key) (Element c.args.name.now (values (waiting c.args.attributes.now) (attributes_of m)))
+    (block c.args.inner.now) (inside_of m) (chain (map changed c.args.inside.now)) (sym c.is_quiet.ensures ∙ c.if-is_quiet.true))
+
 pub compare_element-returns-in_default : goal.compare_element-returns-in_default
 compare_element-returns-in_default u c = λ known k.
     let key = option_copied c.args.key in
     let m = kept c.args.memo.now in
     put_staying_gone (map child_of c.args.children.now.items) (map child_of c.put_kept.new.children.items) (walk_of c.args.children.now.items c.args.out.now) _
-    (unknown_element known key c.args.same (address c.args.line key) (Element c.args.name.now (values (waiting c.args.attributes.now) (attributes_of m)))
-    (block c.args.inner.now) (inside_of m) (chain (map changed c.args.inside.now)) (sym (c.in_ok-number.ensures.number known k) ∙ c.in_default.is)) refl
+    (alone_listed c.args.listed _ _ (unknown_element known key c.args.same (address c.args.line key) (Element c.args.name.now (values (waiting c.args.attributes.now) (attributes_of m)))
+    (block c.args.inner.now) (inside_of m) (chain (map changed c.args.inside.now)) (sym (c.in_ok-number.ensures.number known k) ∙ c.in_default.is))) refl
     (c.in_ok-number.ensures.child known k)
 
 pub compare_element-returns : goal.compare_element-returns
 compare_element-returns u c = λ known k.
     let key = option_copied c.args.key in
     let m = kept c.args.memo.now in
-    element_goes known key c.args.same (address c.args.line key) c.in-Some.number (Element c.args.name.now (values (waiting c.args.attributes.now) (attributes_of m)))
+    element_goes c.args.listed known key c.args.same (address c.args.line key) c.in-Some.number (Element c.args.name.now (values (waiting c.args.attributes.now) (attributes_of m)))
     (block c.args.inner.now) (inside_of m) (chain (map changed c.args.inside.now)) (map child_of c.args.children.now.items) (map child_of c.put_kept.new.children.items)
     (walk_of [] c.args.out.now) (walk_of [] c.compare_kept.new.out) (sym (c.in_ok-number.ensures.number known k) ∙ c.in-Some.is)
     (c.in_ok-number.ensures.child known k) (c.in_ok-compare_kept.ensures known k)
@@ -117,11 +126,11 @@ compare_element-returns u c = λ known k.
 
 pub compare_branch-returns-then-not-shows : goal.compare_branch-returns-then-not-shows
 compare_branch-returns-then-not-shows u c = λ known k.
-    branch_off (shows (kept c.args.memo.now) c.args.first) _ (walk_of c.args.children.now.items c.args.out.now) (sym c.shows.ensures ∙ c.if-not-shows.true)
+    branch_off c.args.listed (shows (kept c.args.memo.now) c.args.first) _ (walk_of c.args.children.now.items c.args.out.now) (sym c.shows.ensures ∙ c.if-not-shows.true)
 
 pub compare_branch-returns : goal.compare_branch-returns
 compare_branch-returns u c = λ known k.
-    branch_on (shows (kept c.args.memo.now) c.args.first)
+    branch_on c.args.listed (shows (kept c.args.memo.now) c.args.first)
     (of_lines known (option_copied c.args.key) (block c.args.lines.now) (inside_of (kept c.args.memo.now)) (first_in (chain (map changed c.args.inside.now))))
     (walk_of c.args.children.now.items c.args.out.now)
     (walk_of c.compare_first.new.children.items c.compare_first.new.out) (sym c.shows.ensures ∙ c.if-not-shows.false)
@@ -131,20 +140,21 @@ compare_branch-returns u c = λ known k.
 
 pub compare_row-returns-in_default : goal.compare_row-returns-in_default
 compare_row-returns-in_default u c = λ known k.
-    put_staying_gone (map child_of c.args.children.now.items) (map child_of c.put_staying.new.children.items) (walk_of c.args.children.now.items c.args.out.now) _
-    (stays_gone known (Some c.args.key.now) (block c.args.inner.now) (kept c.args.memo.now)) refl (c.in_ok-put_staying.ensures known k)
-    ∙ ap (λ z. further (walk_of c.args.children.now.items c.args.out.now) (of_lines known (Some c.args.key.now) (block c.args.inner.now) (kept c.args.memo.now)
-    (or_stays (option_copied z)))) (sym c.in_default.is)
+    put_staying_gone (map child_of c.args.children.now.items) (map child_of c.put_if_listed.new.children.items) (walk_of c.args.children.now.items c.args.out.now) _
+    (alone_listed c.args.listed _ _ (stays_gone known (Some c.args.key.now) (block c.args.inner.now) (kept c.args.memo.now))) refl
+    (c.in_ok-put_if_listed.ensures known k)
+    ∙ ap (λ z. further (walk_of c.args.children.now.items c.args.out.now) (as_listed c.args.listed (of_lines known (Some c.args.key.now) (block c.args.inner.now)
+    (kept c.args.memo.now) (or_stays (option_copied z))))) (sym c.in_default.is)
 
 pub compare_row-returns : goal.compare_row-returns
 compare_row-returns u c = λ known k.
     c.in_ok-compare_lines.ensures known k
-    ∙ ap (λ z. further (walk_of c.args.children.now.items c.args.out.now) (of_lines known (Some c.args.key.now) (block c.args.inner.now) (kept c.args.memo.now)
-    (or_stays (option_copied z)))) (sym c.in-Some.is)
+    ∙ ap (λ z. further (walk_of c.args.children.now.items c.args.out.now) (as_listed c.args.listed (of_lines known (Some c.args.key.now) (block c.args.inner.now)
+    (kept c.args.memo.now) (or_stays (option_copied z))))) (sym c.in-Some.is)
 
 pub compare_rows-loop-place-init : goal.compare_rows-loop-place-init
 compare_rows-loop-place-init u c =
-    all_left (number_on c.args.page.now) (block c.args.inner.now) c.args.rows.now (map kept c.args.memos.now) c.args.inside.now
+    all_left c.args.listed (number_on c.args.page.now) (block c.args.inner.now) c.args.rows.now (map kept c.args.memos.now) c.args.inside.now
     (walk_of c.args.children.now.items c.args.out.now)
 
 pub compare_rows-loop-place-preserved : goal.compare_rows-loop-place-preserved
@@ -156,7 +166,7 @@ compare_rows-loop-place-preserved u c =
     let there : n < length rows = grind (arith, nat_tests, c.in-Some.ensures.lookup.0) in
     let m = kept c.index-memos-place.result in
     let d = option_copied c.get-change.result in
-    one_left (number_on c.args.page.now) (block c.args.inner.now) c.in-Some.row.now m d (drop n rows) (drop (n + 1) rows) (map kept (drop n memos))
+    one_left c.args.listed (number_on c.args.page.now) (block c.args.inner.now) c.in-Some.row.now m d (drop n rows) (drop (n + 1) rows) (map kept (drop n memos))
     (map kept (drop (n + 1) memos)) (drop n inside) (drop (n + 1) inside) rows (map kept memos) inside (walk_of c.loop-place.children.items c.loop-place.out)
     (walk_of c.compare_row.new.children.items c.compare_row.new.out) (walk_of c.args.children.now.items c.args.out.now)
     (left_of rows n c.in-Some.row.now there c.in-Some.ensures.lookup.1)
@@ -166,14 +176,14 @@ compare_rows-loop-place-preserved u c =
 pub compare_rows-returns-in_default : goal.compare_rows-returns-in_default
 compare_rows-returns-in_default u c =
     let n = c.loop-place.place in
-    rows_gone (number_on c.args.page.now) (block c.args.inner.now) (drop n c.args.rows.now) (map kept (drop n c.args.memos.now)) (drop n c.args.inside.now)
+    rows_gone c.args.listed (number_on c.args.page.now) (block c.args.inner.now) (drop n c.args.rows.now) (map kept (drop n c.args.memos.now)) (drop n c.args.inside.now)
     c.args.rows.now (map kept c.args.memos.now) c.args.inside.now (walk_of c.loop-place.children.items c.loop-place.out)
     (walk_of c.args.children.now.items c.args.out.now) (inl (past c.args.rows.now n (grind (arith, nat_tests, c.in_default.ensures.lookup.0)))) c.loop-place.invariant
 
 pub compare_rows-returns : goal.compare_rows-returns
 compare_rows-returns u c =
     let n = c.loop-place.place in
-    rows_gone (number_on c.args.page.now) (block c.args.inner.now) (drop n c.args.rows.now) (map kept (drop n c.args.memos.now)) (drop n c.args.inside.now)
+    rows_gone c.args.listed (number_on c.args.page.now) (block c.args.inner.now) (drop n c.args.rows.now) (map kept (drop n c.args.memos.now)) (drop n c.args.inside.now)
     c.args.rows.now (map kept c.args.memos.now) c.args.inside.now (walk_of c.loop-place.children.items c.loop-place.out)
     (walk_of c.args.children.now.items c.args.out.now) (inr (ap (map kept) (past c.args.memos.now n (omega arith)))) c.loop-place.invariant
 
@@ -183,45 +193,46 @@ pub compare_each-returns-in_ok-compare_rows-in-Loop : goal.compare_each-returns-
 compare_each-returns-in_ok-compare_rows-in-Loop u c = λ known k.
     let l = rows_held c.in-Loop.heard.outcome (map kept c.in-Loop.memos.items) in
     rw (c.rows_in.ensures, c.deref.ensures.value) at (c.in_ok-compare_rows-in-Loop.ensures known k l.0 0)
-    ∙ ap (λ z. further (walk_of c.args.children.now.items c.args.out.now) (of_rows known (block c.args.inner.now) z (chain (map changed c.args.inside.now))))
+    ∙ ap (λ z. further (walk_of c.args.children.now.items c.args.out.now)
+    (as_listed c.args.listed (of_rows known (block c.args.inner.now) z (chain (map changed c.args.inside.now)))))
     (l.1 ∙ sym (ap rows_of (of_loop _ _ _ _ c.in-Loop.is)))
 
 pub compare_each-returns-in-Unread : goal.compare_each-returns-in-Unread
 compare_each-returns-in-Unread u c = λ known k.
-    none_gone _ _ (ap (λ z. of_rows known (block c.args.inner.now) (rows_of z) (chain (map changed c.args.inside.now))) (of_unread _ c.in-Unread.is))
+    none_listed c.args.listed _ _ (ap (λ z. of_rows known (block c.args.inner.now) (rows_of z) (chain (map changed c.args.inside.now))) (of_unread _ c.in-Unread.is))
 
 pub compare_each-returns-in-Blank : goal.compare_each-returns-in-Blank
 compare_each-returns-in-Blank u c = λ known k.
-    none_gone _ _ (ap (λ z. of_rows known (block c.args.inner.now) (rows_of z) (chain (map changed c.args.inside.now))) (of_blank _ c.in-Blank.is))
+    none_listed c.args.listed _ _ (ap (λ z. of_rows known (block c.args.inner.now) (rows_of z) (chain (map changed c.args.inside.now))) (of_blank _ c.in-Blank.is))
 
 pub compare_each-returns-in-Line : goal.compare_each-returns-in-Line
 compare_each-returns-in-Line u c = λ known k.
-    none_gone _ _ (ap (λ z. of_rows known (block c.args.inner.now) (rows_of z) (chain (map changed c.args.inside.now))) (of_line _ _ _ c.in-Line.is))
+    none_listed c.args.listed _ _ (ap (λ z. of_rows known (block c.args.inner.now) (rows_of z) (chain (map changed c.args.inside.now))) (of_line _ _ _ c.in-Line.is))
 
 pub compare_each-returns-in-Element : goal.compare_each-returns-in-Element
 compare_each-returns-in-Element u c = λ known k.
-    none_gone _ _ (ap (λ z. of_rows known (block c.args.inner.now) (rows_of z) (chain (map changed c.args.inside.now))) (of_element _ _ _ _ c.in-Element.is))
+    none_listed c.args.listed _ _ (ap (λ z. of_rows known (block c.args.inner.now) (rows_of z) (chain (map changed c.args.inside.now))) (of_element _ _ _ _ c.in-Element.is))
 
 pub compare_each-returns-in-Branch : goal.compare_each-returns-in-Branch
 compare_each-returns-in-Branch u c = λ known k.
-    none_gone _ _ (ap (λ z. of_rows known (block c.args.inner.now) (rows_of z) (chain (map changed c.args.inside.now))) (of_branch _ _ _ _ c.in-Branch.is))
+    none_listed c.args.listed _ _ (ap (λ z. of_rows known (block c.args.inner.now) (rows_of z) (chain (map changed c.args.inside.now))) (of_branch _ _ _ _ c.in-Branch.is))
 
 -- ---- lines whose first was heard again
 
 pub compare_parts-returns-then-not-fits : goal.compare_parts-returns-then-not-fits
 compare_parts-returns-then-not-fits u c = λ known k.
-    none_gone _ _
+    none_listed c.args.listed _ _
     (unfit_gone known (option_copied c.args.key) (block c.args.lines.now) (kept c.args.memo.now) (over c.args.same (chain (map changed c.args.inside.now)) (changed c.args.later.now))
     (sym c.fits.ensures ∙ c.if-not-fits.true))
 
 pub compare_parts-returns-in-Empty : goal.compare_parts-returns-in-Empty
-compare_parts-returns-in-Empty u c = λ known k. rw c.in-Empty.is (none_gone _ _ refl)
+compare_parts-returns-in-Empty u c = λ known k. rw c.in-Empty.is (none_listed c.args.listed _ _ refl)
 
 pub compare_parts-returns-in_ok-compare_lines-in-Text : goal.compare_parts-returns-in_ok-compare_lines-in-Text
 compare_parts-returns-in_ok-compare_lines-in-Text u c = λ known k.
     let fit = rw c.in-Text.is at (sym c.fits.ensures ∙ c.if-not-fits.false) in
     rw c.in-Text.is
-    (parts_gone (walk_of c.args.children.now.items c.args.out.now) (walk_of c.put_text_again.new.children.items c.put_text_again.new.out)
+    (parts_gone c.args.listed (walk_of c.args.children.now.items c.args.out.now) (walk_of c.put_text_again.new.children.items c.put_text_again.new.out)
     (walk_of c.compare_lines.new.children.items c.compare_lines.new.out) _ _ _
     (text_parts known (option_copied c.args.key) c.in-Text.line (tree c.in-Text.field-1) (block c.in-Text.rest.value) (kept c.args.memo.now) c.args.same
     (chain (map changed c.args.inside.now)) (changed c.args.later.now) fit)
@@ -231,7 +242,7 @@ pub compare_parts-returns-in_ok-compare_lines-in-Tag : goal.compare_parts-return
 compare_parts-returns-in_ok-compare_lines-in-Tag u c = λ known k.
     let fit = rw c.in-Tag.is at (sym c.fits.ensures ∙ c.if-not-fits.false) in
     rw c.in-Tag.is
-    (parts_gone (walk_of c.args.children.now.items c.args.out.now) (walk_of c.compare_element.new.children.items c.compare_element.new.out)
+    (parts_gone c.args.listed (walk_of c.args.children.now.items c.args.out.now) (walk_of c.compare_element.new.children.items c.compare_element.new.out)
     (walk_of c.compare_lines-in-Tag.new.children.items c.compare_lines-in-Tag.new.out) _ _ _
     (tag_parts known (option_copied c.args.key) c.in-Tag.line c.in-Tag.name (waiting c.in-Tag.attributes.items) (block c.in-Tag.inner.value)
     (block c.in-Tag.rest.value) (kept c.args.memo.now) c.args.same (chain (map changed c.args.inside.now)) (changed c.args.later.now) fit)
@@ -241,13 +252,18 @@ compare_parts-returns-in_ok-compare_lines-in-Tag u c = λ known k.
 pub compare_parts-returns-in_ok-compare_lines-in-Choice : goal.compare_parts-returns-in_ok-compare_lines-in-Choice
 compare_parts-returns-in_ok-compare_lines-in-Choice u c = λ known k.
     let fit = rw c.in-Choice.is at (sym c.fits.ensures ∙ c.if-not-fits.false) in
+    let key = option_copied c.args.key in
+    let m = kept c.args.memo.now in
+    let inside = first_in (chain (map changed c.args.inside.now)) in
+    let one = where_gone (shows m true) (of_lines known key (block c.in-Choice.one.value) (inside_of m) inside) in
+    let other = where_gone (shows m false) (of_lines known key (block c.in-Choice.other.value) (inside_of m) inside) in
     rw c.in-Choice.is
-    (parts_gone (walk_of c.args.children.now.items c.args.out.now) (walk_of c.compare_branch-in-Choice.new.children.items c.compare_branch-in-Choice.new.out)
+    (parts_gone c.args.listed (walk_of c.args.children.now.items c.args.out.now) (walk_of c.compare_branch-in-Choice.new.children.items c.compare_branch-in-Choice.new.out)
     (walk_of c.compare_lines-in-Choice.new.children.items c.compare_lines-in-Choice.new.out) _ _ _
     (choice_parts known (option_copied c.args.key) (tree c.in-Choice.field-0) (block c.in-Choice.one.value) (block c.in-Choice.other.value)
     (block c.in-Choice.rest.value) (kept c.args.memo.now) c.args.same (chain (map changed c.args.inside.now)) (changed c.args.later.now) fit)
-    (both_gone (walk_of c.args.children.now.items c.args.out.now) (walk_of c.compare_branch.new.children.items c.compare_branch.new.out)
-    (walk_of c.compare_branch-in-Choice.new.children.items c.compare_branch-in-Choice.new.out) _ _
+    (parts_gone c.args.listed (walk_of c.args.children.now.items c.args.out.now) (walk_of c.compare_branch.new.children.items c.compare_branch.new.out)
+    (walk_of c.compare_branch-in-Choice.new.children.items c.compare_branch-in-Choice.new.out) one other (further one other) refl
     (rw c.deref-in-Choice.ensures at (c.in_ok-compare_branch-in-Choice.ensures known k))
     (rw c.deref-in-Choice-2.ensures at (c.in_ok-compare_branch-in-Choice-2.ensures known k)))
     (rw (c.deref-in-Choice-3.ensures, c.later_of-behind.ensures) at (c.in_ok-compare_lines-in-Choice.ensures known k)))
@@ -256,7 +272,7 @@ pub compare_parts-returns-in_ok-compare_lines-in-Each : goal.compare_parts-retur
 compare_parts-returns-in_ok-compare_lines-in-Each u c = λ known k.
     let fit = rw c.in-Each.is at (sym c.fits.ensures ∙ c.if-not-fits.false) in
     rw c.in-Each.is
-    (parts_gone (walk_of c.args.children.now.items c.args.out.now) (walk_of c.compare_each.new.children.items c.compare_each.new.out)
+    (parts_gone c.args.listed (walk_of c.args.children.now.items c.args.out.now) (walk_of c.compare_each.new.children.items c.compare_each.new.out)
     (walk_of c.compare_lines-in-Each.new.children.items c.compare_lines-in-Each.new.out) _ _ _
     (each_parts known (option_copied c.args.key) (tree c.in-Each.field-0) (block c.in-Each.inner.value) (block c.in-Each.rest.value) (kept c.args.memo.now)
     c.args.same (chain (map changed c.args.inside.now)) (changed c.args.later.now) fit)
@@ -265,24 +281,25 @@ compare_parts-returns-in_ok-compare_lines-in-Each u c = λ known k.
 
 -- ---- lines
 
-pub compare_lines-returns-in_ok-put_staying-in-Stays : goal.compare_lines-returns-in_ok-put_staying-in-Stays
-compare_lines-returns-in_ok-put_staying-in-Stays u c = λ known k.
+pub compare_lines-returns-in_ok-put_if_listed-in-Stays : goal.compare_lines-returns-in_ok-put_if_listed-in-Stays
+compare_lines-returns-in_ok-put_if_listed-in-Stays u c = λ known k.
     let key = option_copied c.args.key in
-    put_staying_gone (map child_of c.args.children.now.items) (map child_of c.put_staying.new.children.items) (walk_of c.args.children.now.items c.args.out.now) _
-    (stays_gone known key (block c.args.lines.now) (kept c.args.memo.now)) refl (c.in_ok-put_staying-in-Stays.ensures known k)
-    ∙ ap (λ z. further (walk_of c.args.children.now.items c.args.out.now) (of_lines known key (block c.args.lines.now) (kept c.args.memo.now) z))
+    put_staying_gone (map child_of c.args.children.now.items) (map child_of c.put_if_listed.new.children.items) (walk_of c.args.children.now.items c.args.out.now) _
+    (alone_listed c.args.listed _ _ (stays_gone known key (block c.args.lines.now) (kept c.args.memo.now))) refl (c.in_ok-put_if_listed-in-Stays.ensures known k)
+    ∙ ap (λ z. further (walk_of c.args.children.now.items c.args.out.now) (as_listed c.args.listed (of_lines known key (block c.args.lines.now) (kept c.args.memo.now) z)))
     (sym (ap changed c.in-Stays.is ∙ changed_stays))
 
 pub compare_lines-returns-in_ok-put_made-in-Made : goal.compare_lines-returns-in_ok-put_made-in-Made
 compare_lines-returns-in_ok-put_made-in-Made u c = λ known k.
     let key = option_copied c.args.key in
     c.in_ok-put_made-in-Made.ensures known k
-    ∙ ap (further (walk_of c.args.children.now.items c.args.out.now))
+    ∙ ap (λ z. further (walk_of c.args.children.now.items c.args.out.now) (as_listed c.args.listed z))
     (made_gone known key c.args.lines.now (kept c.args.memo.now)
     ∙ ap (of_lines known key (block c.args.lines.now) (kept c.args.memo.now)) (sym (ap changed c.in-Made.is ∙ changed_made)))
 
 pub compare_lines-returns-in_ok-compare_parts-in-Over : goal.compare_lines-returns-in_ok-compare_parts-in-Over
 compare_lines-returns-in_ok-compare_parts-in-Over u c = λ known k.
     rw (c.deref.ensures.value, c.deref-in-Over.ensures) at (c.in_ok-compare_parts-in-Over.ensures known k)
-    ∙ ap (λ z. further (walk_of c.args.children.now.items c.args.out.now) (of_lines known (option_copied c.args.key) (block c.args.lines.now) (kept c.args.memo.now) z))
+    ∙ ap (λ z. further (walk_of c.args.children.now.items c.args.out.now)
+    (as_listed c.args.listed (of_lines known (option_copied c.args.key) (block c.args.lines.now) (kept c.args.memo.now) z)))
     (sym (ap changed c.in-Over.is ∙ changed_over c.in-Over.same c.in-Over.inside c.in-Over.later))

@@ -1,4 +1,4 @@
-use Rattle.std.proofs.Common.{◌<◌, ◌+◌, ◌++◌, [], None, Some, length, map, drop, arith, refl, sym, ap, ◌∙◌, inl, inr}
+use Rattle.std.proofs.Common.{◌<◌, ◌+◌, ◌++◌, [], None, Some, true, length, map, drop, arith, refl, sym, ap, ◌∙◌, inl, inr}
 use Rattle.std.proofs.lemmas.Bool.Decides.{nat_tests}
 use Rattle.std.specs.Option.{option_copied}
 use Rattle.sig_formula.specs.Trees.{tree}
@@ -35,7 +35,7 @@ put_staying_branch-returns u c = λ known k.
 
 pub put_staying_rows-loop-place-init : goal.put_staying_rows-loop-place-init
 put_staying_rows-loop-place-init u c =
-    all_left (number_on c.args.page.now) (block c.args.inner.now) c.args.rows.now (map kept c.args.memos.now) [] (alone (map child_of c.args.children.now.items))
+    all_left true (number_on c.args.page.now) (block c.args.inner.now) c.args.rows.now (map kept c.args.memos.now) [] (alone (map child_of c.args.children.now.items))
 
 pub put_staying_rows-loop-place-preserved : goal.put_staying_rows-loop-place-preserved
 put_staying_rows-loop-place-preserved u c =
@@ -47,7 +47,7 @@ put_staying_rows-loop-place-preserved u c =
     let m = kept c.index-memos-place.result in
     let before = map child_of c.loop-place.children.items in
     let now = map child_of c.put_staying.new.children.items in
-    one_left (number_on c.args.page.now) inner c.in-Some.row.now m None (drop n rows) (drop (n + 1) rows) (map kept (drop n memos)) (map kept (drop (n + 1) memos))
+    one_left true (number_on c.args.page.now) inner c.in-Some.row.now m None (drop n rows) (drop (n + 1) rows) (map kept (drop n memos)) (map kept (drop (n + 1) memos))
     [] [] rows (map kept memos) [] (alone before) (alone now) (alone (map child_of c.args.children.now.items))
     (left_of rows n c.in-Some.row.now there c.in-Some.ensures.lookup.1)
     (ap (map kept) (left_of memos n c.index-memos-place.result c.loop-place-test.true c.index-memos-place.is)) (none_left refl refl refl)
@@ -57,7 +57,7 @@ pub put_staying_rows-returns-in_default : goal.put_staying_rows-returns-in_defau
 put_staying_rows-returns-in_default u c = λ known k t i.
     let n = c.loop-place.place in
     ap (λ w. w.children)
-    (rows_gone (number_on c.args.page.now) (block c.args.inner.now) (drop n c.args.rows.now) (map kept (drop n c.args.memos.now)) [] c.args.rows.now
+    (rows_gone true (number_on c.args.page.now) (block c.args.inner.now) (drop n c.args.rows.now) (map kept (drop n c.args.memos.now)) [] c.args.rows.now
     (map kept c.args.memos.now) [] (alone (map child_of c.loop-place.children.items)) (alone (map child_of c.args.children.now.items))
     (inl (past c.args.rows.now n (grind (arith, nat_tests, c.in_default.ensures.lookup.0)))) c.loop-place.invariant known k t i)
 
@@ -65,7 +65,7 @@ pub put_staying_rows-returns : goal.put_staying_rows-returns
 put_staying_rows-returns u c = λ known k t i.
     let n = c.loop-place.place in
     ap (λ w. w.children)
-    (rows_gone (number_on c.args.page.now) (block c.args.inner.now) (drop n c.args.rows.now) (map kept (drop n c.args.memos.now)) [] c.args.rows.now
+    (rows_gone true (number_on c.args.page.now) (block c.args.inner.now) (drop n c.args.rows.now) (map kept (drop n c.args.memos.now)) [] c.args.rows.now
     (map kept c.args.memos.now) [] (alone (map child_of c.loop-place.children.items)) (alone (map child_of c.args.children.now.items))
     (inr (ap (map kept) (past c.args.memos.now n (omega arith)))) c.loop-place.invariant known k t i)
 

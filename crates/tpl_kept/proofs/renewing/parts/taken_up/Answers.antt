@@ -14,3 +14,6 @@ returns-clause-inside_was c = rw c.deref-2.ensures at c.in_ok-inside_was.ensures
 
 pub returns-clause-later_was : goal.returns-clause-later_was
 returns-clause-later_was c = c.in_ok-later_was.ensures ∙ ap (λ z. kept z ∷ []) c.into_inner.ensures
+
+pub returns-clause-same : goal.returns-clause-same
+returns-clause-same c = rw c.deref-3.ensures at c.is_same-same.ensures

@@ -10,10 +10,10 @@ use Rattle.tpl_kept.specs.Renewals.{AreLooked, is_unread}
 use Rattle.tpl_kept.proofs.Listened.Reuse.{stayed}
 use Rattle.tpl_kept.specs.Heads.{Opens}
 use Rattle.tpl_kept.specs.Changes.{IsTold}
-use Rattle.tpl_kept.specs.Turns.{ServeInside, WasOpened, outcome_of}
+use Rattle.tpl_kept.specs.Turns.{IsSame, ServeInside, WasOpened, outcome_of}
 use Rattle.tpl_kept.proofs.Renewals.Apart.{was_apart}
 use Rattle.tpl_model.specs.KeptLines.Changes.{changed}
-use Rattle.tpl_kept.proofs.Renewals.Changes.{heard_told, made_told, stays_told, was_known, whole_told}
+use Rattle.tpl_kept.proofs.Renewals.Changes.{heard_told, made_told, stays_told, was_known, was_same, whole_told}
 use Rattle.tpl_kept.proofs.Renewals.Turns.{begins_line, begins_whole, opened_again, places_line, places_whole}
 use Rattle.tpl_kept.proofs.renewing.update.begin.Goals as goal
 
@@ -120,12 +120,15 @@ returns-clause-told g c =
     let ins = map kept turn.inside_was.items in
     let w = was_apart b c.args.links.now c.args.row.now c.args.before.now m old is (kept (box_value c.in_ok-head.field-0.later)) (c.requires.was.made u)
     (c.in_ok-head.ensures u) in
-    let same = c.in_ok-heard.heard.1 in
-    let opened = subst (λ z. same ≡ true → WasOpened b c.args.links.now c.args.row.now c.args.before.now z) (sym c.in_ok-head-2.ensures.ok)
+    let came = c.deref-4.ensures ∙ (c.in_ok-was-2.ensures.ok ∙ (c.in_ok-was.ensures ∙ ap outcome_of c.deref-3.ensures)) in
+    let heard = c.in_ok-heard.heard.1 in
+    let opened = subst (λ z. heard ≡ true → WasOpened b c.args.links.now c.args.row.now c.args.before.now z) (sym c.in_ok-head-2.ensures.ok)
     (rw c.lent_row-here.ensures.is at c.in_ok-heard.ensures.same) in
-    heard_told b c.args.links.now c.args.row.now c.args.before.now m (box_value turn.first) h turn.same same ins t.first t.same u
+    heard_told b c.args.links.now c.args.row.now c.args.before.now m (box_value turn.first) h turn.same ins t.first u
     (was_known b c.args.links.now c.args.row.now c.args.before.now c.stays.new.hearing.heard c.hear_first_again.new.hearing.heard old h is ins w.opened
-    o (subst (λ z. ServeInside z h is ins) (c.deref-4.ensures ∙ (c.in_ok-was-2.ensures.ok ∙ (c.in_ok-was.ensures ∙ ap outcome_of c.deref-3.ensures))) t.inside_was)) opened
+    o (subst (λ z. ServeInside z h is ins) came t.inside_was))
+    (was_same b c.args.links.now c.args.row.now c.args.before.now c.stays.new.hearing.heard c.hear_first_again.new.hearing.heard old h heard turn.same w.opened
+    o opened (subst (λ z. IsSame z h heard turn.same) came t.same))
 
 pub returns-then-unread-clause-compared : goal.returns-then-unread-clause-compared
 returns-then-unread-clause-compared g c =

@@ -1,6 +1,6 @@
 use Rattle.std.proofs.Common.{◌≡◌, ◌++◌, map}
 use Rattle.tpl_model.specs.ShownNodes.Shapes.{child_of}
-use Rattle.tpl_drawn.proofs.comparing.children.put_children.Given as goal
+use Rattle.tpl_drawn.proofs.comparing.children.put_all.Given as goal
 
 -- the children so far and those that are left are all
 abbrev pub invariant-loop-child : goal.invariant-loop-child

@@ -1,0 +1,46 @@
+// Lines that keep their topmost nodes, so that the children of the node around them needn't be listed.
+ghost use Rattle.std.specs.Prelude.{◌≡◌, map};
+ghost use Rattle.tpl_blocks.specs.Blocks.{block};
+ghost use Rattle.tpl_drawn.specs.Comparison.{keeps_nodes};
+ghost use Rattle.tpl_model.specs.KeptLines.Changes as model;
+ghost use Rattle.tpl_model.specs.KeptLines.Changes.{chain, changed, first_in, over};
+
+use crate::comparing::children::is_plain;
+use tpl_blocks::Block;
+use tpl_model::Change;
+
+// Whether lines of which the first was heard again keep their topmost nodes.
+#[cycle(keeping)]
+fn keeps_parts(lines: &Block, same: bool, later: &Change) -> bool
+    ensures { (inside : model.Change) → result ≡ keeps_nodes (block lines.now) (over same inside (changed later.now)) }
+{
+    match lines {
+        Block::Empty => true,
+        Block::Text(_, _, rest) => keeps_nodes(rest, later),
+        Block::Tag(_, _, _, _, rest) => keeps_nodes(rest, later),
+        Block::Choice(_, _, _, _) => false,
+        Block::Each(_, inner, rest) => same && is_plain(inner) && keeps_nodes(rest, later),
+    }
+}
+
+/// Whether lines keep their topmost nodes, where this became of them.
+#[cycle(keeping)]
+pub fn keeps_nodes(lines: &Block, change: &Change) -> bool
+    ensures { result ≡ keeps_nodes (block lines.now) (changed change.now) }
+{
+    match change {
+        Change::Stays => true,
+        Change::Made => is_plain(lines),
+        Change::Over(same, _, later) => keeps_parts(lines, *same, later),
+    }
+}
+
+/// Whether they do where this became of their parts, of which theirs is the first.
+pub fn first_keeps(lines: &Block, inside: &[Change]) -> bool
+    ensures { result ≡ keeps_nodes (block lines.now) (first_in (chain (map changed inside.now))) }
+{
+    let Some(change) = inside.first() else {
+        return is_plain(lines);
+    };
+    keeps_nodes(lines, change)
+}
