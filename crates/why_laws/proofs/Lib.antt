@@ -1,0 +1,6 @@
+mod Since
+mod Causes
+mod AfterChanges
+mod AfterRuns
+mod Rounds
+mod Recording
