@@ -1,0 +1,4 @@
+pub mod SharedPasts
+pub mod SharedSearches
+pub mod SharedLinks
+mod Marks
