@@ -1,0 +1,3 @@
+mod Ways
+mod Lines
+pub mod Shared
