@@ -1,4 +1,5 @@
 mod NameBytes
 mod OneFrame
+mod Listed
 mod Bodies
 mod Pieces

@@ -10,7 +10,7 @@ use Rattle.page_model.specs.Replay.{Op}
 use Rattle.page_model.specs.Texts.{op_text}
 use Rattle.page_ops.specs.Ops.{HasText}
 use Rattle.wire_model.specs.Notes.{IsNote, Note, body_of, frame, frame_of_body, gone, mount, op, ready}
-use Rattle.page_wire.specs.OneFrame.{NoEnd, OneFrame, OneStop, OneStream}
+use Rattle.page_wire.specs.OneFrame.{FrontSpells, FrontStops, NoEnd, OneFrame, OneStop, OneStream}
 
 no : (n : ℕ) → suc n ≡ 0 → ⊥
 no n e = omega (arith, e)
@@ -181,3 +181,41 @@ one_stop one s xs ys at place l a b =
     let same = stops one xs ys a.body a.more b.body b.more a.each b.each a.none b.none (bound s (frames xs ++ (frame_of_body a.body ++ a.more)) a.whole l)
     (bound s (frames ys ++ (frame_of_body b.body ++ b.more)) b.whole l) (sym a.whole ∙ b.whole) in
     (same, a.place ∙ (ap (λ (zs : List Note). length (frames zs)) same ∙ sym b.place))
+
+-- ---- fronts of streams
+
+first_notes : OneReading → (xs ys : List Note) (r q more : List ℕ) → AllByRecursion IsNote xs → AllByRecursion IsNote ys → IsPartial q →
+    length (frames xs ++ (r ++ more)) < 2 ^ 64 → length (frames ys ++ q) < 2 ^ 64 → frames xs ++ (r ++ more) ≡ frames ys ++ q →
+    (zs : List Note) × (ys ≡ xs ++ zs)
+first_notes one [] ys r q more g k pq lx ly h = (ys, refl)
+first_notes one (x ∷ xs) [] r q more g k pq lx ly h =
+    absurd (whole (body_of x) (frames xs ++ (r ++ more)) (parts x xs (r ++ more) lx).0
+    (subst IsPartial (sym h ∙ append_assoc (frame x) (frames xs) (r ++ more)) pq))
+first_notes one (x ∷ xs) (y ∷ ys) r q more g k pq lx ly h =
+    let a = parts x xs (r ++ more) lx in
+    let b = parts y ys q ly in
+    let t = one_frame one x y (frames xs ++ (r ++ more)) (frames ys ++ q) g.0 k.0 a.0 b.0
+    (sym (append_assoc (frame x) (frames xs) (r ++ more)) ∙ (h ∙ append_assoc (frame y) (frames ys) q)) in
+    let rest = first_notes one xs ys r q more g.1 k.1 pq a.1 b.1 t.1 in
+    (rest.0, ap (λ (z : Note). z ∷ ys) (sym t.0) ∙ ap (λ (zs : List Note). x ∷ zs) rest.1)
+
+-- what comes behind the parts of a front
+behind : (front more notes rest : List ℕ) → front ≡ notes ++ rest → front ++ more ≡ notes ++ (rest ++ more)
+behind front more notes rest e = ap (λ (l : List ℕ). l ++ more) e ∙ append_assoc notes rest more
+
+pub front_spells : OneReading → FrontSpells
+front_spells one front more notes others rest left l a b =
+    let e : front ++ more ≡ frames notes ++ (rest ++ more) = behind front more (frames notes) rest a.whole in
+    first_notes one notes others rest left more a.each b.each b.partial (bound (front ++ more) (frames notes ++ (rest ++ more)) e l)
+    (bound (front ++ more) (frames others ++ left) b.whole l) (sym e ∙ b.whole)
+
+pub front_stops : OneReading → FrontStops
+front_stops one front more notes others at rest l a b = no_end one (front ++ more) others notes rest at l b (record {
+  body = a.body;
+  more = a.more ++ more;
+  whole = behind front more (frames notes) (frame_of_body a.body ++ a.more) a.whole
+      ∙ ap (λ (s : List ℕ). frames notes ++ s) (append_assoc (frame_of_body a.body) a.more more);
+  each = a.each;
+  none = a.none;
+  place = a.place;
+})

@@ -2,3 +2,4 @@ pub mod Views
 pub mod OneFrame
 pub mod Decoding
 pub mod Fronts
+pub mod Telling

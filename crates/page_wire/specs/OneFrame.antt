@@ -23,6 +23,16 @@ abbrev pub NoEnd : Type 0
 NoEnd = (stream : List ℕ) (notes others : List Note) (rest : List ℕ) (at : ℕ) → length stream < 2 ^ 64 → Spells stream notes rest →
     SpellsUpTo stream others at → ⊥
 
+-- where a front of a stream spells notes, those of the whole begin with them
+abbrev pub FrontSpells : Type 0
+FrontSpells = (front more : List ℕ) (notes others : List Note) (rest left : List ℕ) → length (front ++ more) < 2 ^ 64 → Spells front notes rest →
+    Spells (front ++ more) others left → (later : List Note) × (others ≡ notes ++ later)
+
+-- and no front stops to spell notes of a stream that is spelled to its end
+abbrev pub FrontStops : Type 0
+FrontStops = (front more : List ℕ) (notes others : List Note) (at : ℕ) (rest : List ℕ) → length (front ++ more) < 2 ^ 64 → SpellsUpTo front notes at →
+    Spells (front ++ more) others rest → ⊥
+
 -- what is left of a stream and the next piece of it go on with the notes of both
 abbrev pub GoesOn : Type 0
 GoesOn = (stream piece : List ℕ) (notes more : List Note) (rest left : List ℕ) → Spells stream notes rest → Spells (rest ++ piece) more left →

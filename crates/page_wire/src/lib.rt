@@ -5,9 +5,11 @@ mod decoder;
 mod laws;
 mod note;
 mod reader;
+mod told;
 mod writer;
 
 pub use decoder::{Decoder, WireFault};
 pub use laws::{one_frame, one_stream, pieces_law};
 pub use note::Note;
-pub use writer::put_frame;
+pub use told::ToldPages;
+pub use writer::{put_frame, put_op_frame};

@@ -1,0 +1,7 @@
+use Rattle.std.proofs.Common.{rules, ◌∙◌}
+use Rattle.std.proofs.lemmas.Fn.{filter_same}
+use Rattle.page_wire.proofs.Listed.{others_stay}
+use Rattle.page_wire.proofs.told.take_out.Goals as goal
+
+pub returns : goal.returns
+returns c = filter_same _ _ _ (λ x b f' k. search rules) _ _ c.retain.ensures.filtered ∙ others_stay c.args.name.now c.args.names.now.items
