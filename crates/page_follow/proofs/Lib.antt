@@ -1,2 +1,5 @@
 mod Lookups
 mod Taken
+mod Followed
+mod Fed
+mod Streams

@@ -1,5 +1,6 @@
 // What is told of pages is done.
-ghost use Rattle.std.specs.Prelude.{◌≡◌, ◌++◌, ◌∷◌, [], IfOk, MatchResult, OnOk};
+ghost use Rattle.std.specs.Prelude.{◌≡◌, ◌++◌, ◌∷◌, [], map, IfOk, MatchResult, OnOk};
+ghost use Rattle.std.specs.List.{AllByRecursion};
 ghost use Rattle.page_model.specs.Pages.{bare, tree_of};
 ghost use Rattle.page_model.specs.Replay.{Answer, Done, do_op};
 ghost use Rattle.page_model.specs.Trees.{Brings};
@@ -7,6 +8,7 @@ ghost use Rattle.page_ops.specs.Ops.{Causes, op_of};
 ghost use Rattle.wire_model.specs.Following.{take_note};
 ghost use Rattle.wire_model.specs.Notes as told;
 ghost use Rattle.page_follow.specs.declared.follower.FollowFault.TheVariants as fault;
+ghost use Rattle.page_follow.specs.Following.{Halts, TakesAll};
 ghost use Rattle.page_follow.specs.Views.{Fails, IsCause, IsDoable, Takes, pages_of};
 ghost use Rattle.page_wire.specs.Views.{note_of};
 
@@ -195,5 +197,26 @@ impl Follower {
             Note::Ready(name) => show(&self.pages, name, out),
             Note::Gone(name) => leave(&mut self.pages, name),
         }
+    }
+
+    /// Does what notes tell, one after the other, up to the first that is refused, and appends what they print. It asks of each what
+    /// `take_note` asks. After `NoMemory` a follower may only be dropped.
+    ///
+    /// # Errors
+    ///
+    /// `Refused` exactly where a note is refused; what the notes before it print is appended then. Else `NoMemory` alone.
+    pub fn take_notes(&mut self, notes: &[Note], out: &mut Vec<u8>) -> Result<(), FollowFault>
+        requires { AllByRecursion IsDoable (map note_of notes.now) }
+        ensures { MatchResult result
+            (λ u. TakesAll (map note_of notes.now) self.old self.new out.old.items out.new.items)
+            (λ e. Halts e (map note_of notes.now) self.old out.old.items out.new.items) }
+    {
+        for note in notes {
+            match self.take_note(note, out) {
+                Ok(()) => {}
+                Err(why) => return Err(why),
+            }
+        }
+        Ok(())
     }
 }
