@@ -1,5 +1,5 @@
 -- Lines that keep their topmost nodes.
-use Rattle.std.proofs.Common.{◌≡◌, ◌&&◌, ℕ, suc, Bool, true, false, List, [], ◌∷◌, ◌++◌, append_assoc, map, Option, Some, refl, sym, ap, subst, ◌∙◌}
+use Rattle.std.proofs.Common.{◌≡◌, ◌&&◌, ℕ, suc, Bool, true, false, List, [], ◌∷◌, ◌++◌, map, Option, Some, refl, sym, ap, ◌∙◌}
 use Rattle.std.proofs.lemmas.Bool.{false≢true}
 use Rattle.std.specs.List.{flat_map}
 use Rattle.sig_base.specs.Tables.{Table}
@@ -7,7 +7,6 @@ use Rattle.sig_base.specs.declared.rows.Row.{Row}
 use Rattle.sig_base.specs.declared.value.Value.TheVariants as value
 use Rattle.sig_base.specs.declared.value.Outcome.{Outcome}
 use Rattle.sig_base.specs.declared.value.Outcome.TheVariants.{Good, Bad}
-use Rattle.sig_formula.specs.Trees.{Tree}
 use Rattle.page_model.specs.Addresses.{address}
 use Rattle.page_model.specs.Edits.{siblings}
 use Rattle.page_model.specs.Forest.{Forest, none, node, after}
@@ -17,7 +16,7 @@ use Rattle.tpl_model.specs.Shapes.{Here, row_here}
 use Rattle.tpl_model.specs.Sources.{evaluating}
 use Rattle.tpl_model.specs.KeptLines.Outcomes.{Outcomes}
 use Rattle.tpl_model.specs.KeptLines.Memos.{Agrees}
-use Rattle.tpl_model.specs.KeptLines.Changes.{Change, stays, made, over, also, nothing, keys_in, HadKeys, Tells}
+use Rattle.tpl_model.specs.KeptLines.Changes.{Change, stays, made, over, also, nothing, keys_in, Tells}
 use Rattle.tpl_model.specs.PageUpdates.PageMemos.{PageMemo, each_memo, hearing, nodes, row_nodes, rows_memo}
 use Rattle.tpl_drawn.specs.Comparison.{is_plain, keeps_nodes}
 use Rattle.tpl_drawn.proofs.Compares.Sides.{Alike, kept, stays_kept}

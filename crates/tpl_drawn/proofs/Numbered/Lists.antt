@@ -1,5 +1,5 @@
 -- Lists that are put together.
-use Rattle.std.proofs.Common.{◌≡◌, ℕ, List, [], ◌∷◌, ◌++◌, append_assoc, append-nil, length, map, refl, sym, ap, ◌∙◌, arith}
+use Rattle.std.proofs.Common.{◌≡◌, ℕ, List, [], ◌∷◌, ◌++◌, append_assoc, append-nil, length, refl, sym, ap, ◌∙◌, arith}
 use Rattle.page_model.specs.Forest.{Forest, none, node, after, keys}
 use Rattle.page_model.specs.Labels.{Look}
 

@@ -39,7 +39,9 @@ fn put_each(out: &mut Vec<NodeId>, all: &[Heard]) -> Result<(), NoMemory>
     Ok(())
 }
 
-/// What is heard of the formula of a line now, and whether its names are as before: then it isn't evaluated, and this was heard of it before.
+/// What is heard of the formula of a line now, and whether its names are as before: then it isn't evaluated, and this was heard of it before. It
+/// asks for and gives back what each hearing does, of graph, shelf and comparisons, and asks that the row has its place and that this was heard
+/// before; what is heard now and that it is as before are two clauses, as the second holds only sometimes.
 ///
 /// # Errors
 ///
@@ -87,7 +89,7 @@ pub fn listen_again(
 }
 
 /// What is heard of the formulas of attributes now, and whether all their names are as before: then none is evaluated, and this was heard of them
-/// before.
+/// before. Its clauses are those for one formula, each told of all of them.
 ///
 /// # Errors
 ///

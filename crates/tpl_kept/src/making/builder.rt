@@ -69,7 +69,8 @@ pub(crate) fn hear_first(
     }
 }
 
-// The first of some lines, before anything is made inside it and behind it.
+// The first of some lines, before anything is made inside it and behind it. Each field of what it gives has a clause of its own, as they are filled
+// one by one; the others are what each hearing asks for and gives back of graph and shelf, and what it did.
 fn begin(
     alloc: Global,
     graph: &mut Graph,

@@ -8,9 +8,11 @@ use tpl_model::{Change, PageMemo};
 pub(crate) enum Look {
     /// All of their names may have the outcomes of before: they are heard again first.
     First,
-    /// One of their names has another outcome: they are gone over.
+    /// One of their names has another outcome: they are gone over, and what is behind the one that changed is heard first.
     Changed,
-    /// Lines before them have changed: they are gone over.
+    /// One of their names has another outcome, and they were heard first: they are gone over.
+    Late,
+    /// Lines before them have changed, and they were heard first: they are gone over.
     Over,
 }
 
@@ -24,6 +26,7 @@ fn is_behind(look: Look, turn: &Turn) -> bool {
     match look {
         Look::First => turn.heard,
         Look::Changed => turn.heard,
+        Look::Late => turn.heard,
         Look::Over => false,
     }
 }
@@ -54,10 +57,19 @@ fn all_stay(changes: &[Change]) -> bool {
     true
 }
 
+// What is known of the lines behind one, where what has changed is behind it, or where it isn't known to be: lines are heard first once, behind the first
+// that has changed.
+fn look_on(look: Look, behind: bool) -> Look {
+    match look {
+        Look::First => { if behind { Look::Late } else { Look::Over } }
+        Look::Changed => { if behind { Look::Changed } else { Look::First } }
+        Look::Late => { if behind { Look::Late } else { Look::Over } }
+        Look::Over => Look::Over,
+    }
+}
+
 /// What is known of the lines behind the first one, of which the inside was gone over: where all stays there, what has changed is behind it.
 pub(crate) fn look_behind(look: Look, turn: &Turn) -> Look {
-    if is_behind(look, turn) && all_stay(&turn.inside_changes) {
-        return Look::Changed;
-    }
-    Look::Over
+    let behind = is_behind(look, turn) && all_stay(&turn.inside_changes);
+    look_on(look, behind)
 }

@@ -259,7 +259,7 @@ fn is_same(was: &Outcome, head: &Head, heard: bool) -> bool
 }
 
 /// The first line was heard again, in the row where it stands, and whether all its names have the outcomes of before; `was` is what its test or its
-/// rows came to before.
+/// rows came to before. Each clause tells of one field of the turn that it gives, as nothing ties two of them.
 ///
 /// # Errors
 ///

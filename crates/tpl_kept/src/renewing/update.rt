@@ -21,7 +21,7 @@ use crate::renewing::parts::{
     Parts, Renewed, Turn, apart, behind_of, last_change, next_kept, outcome_of, put_turn, shows_of,
     taken_up, unread, waiting, whole,
 };
-use crate::renewing::staying::{first_stays, keep_first};
+use crate::renewing::staying::{first_stays, keep_first, keep_front};
 use sig_base::{NoMemory, NodeId};
 use sig_computed::RunNote;
 use sig_formula::RowRef;
@@ -95,6 +95,7 @@ fn stays(
 }
 
 // What is heard of the first of some lines now, and whether all its names are as before: then it isn't evaluated, and this was heard of it before.
+// Its clauses are those of a formula that is heard again, told of all that the first line evaluates.
 fn hear_first_again(
     alloc: Global,
     graph: &mut Graph,
@@ -164,7 +165,9 @@ fn hear_first_again(
     }
 }
 
-// Lines of which nothing is kept are made; where all their names are as before, what is kept stays; of others the first is heard again.
+// Lines of which nothing is kept are made; where all their names are as before, what is kept stays; of others the first is heard again. What it
+// gives has a clause for what it begins with, one for what is told of what was kept, and one for each of its lists; the others are what each
+// hearing asks for and gives back, of graph, shelf and comparisons, and that what was kept belongs to these lines.
 fn begin(
     alloc: Global,
     graph: &mut Graph,
@@ -240,7 +243,9 @@ fn begin(
     Ok(turn)
 }
 
-// Puts what is kept of lines in each of some rows behind what was kept, brought up to date, and what became of it behind what became of that.
+// Puts what is kept of lines in each of some rows behind what was kept, brought up to date, and what became of it behind what became of that. What
+// is kept now and what became of what was kept are told apart, as only the second looks at what was; the other clauses are what each hearing asks
+// for and gives back, and that the rows and what was kept in them belong together.
 fn renew_each(
     alloc: Global,
     graph: &mut Graph,
@@ -274,10 +279,11 @@ fn renew_each(
     let Some((row, others)) = rows.split_first() else {
         return Ok(());
     };
-    if first_stays(alloc, look, was)? {
+    if first_stays(look, was) {
         keep_first(was, done, changes)?;
+        let left = keep_front(look, others, was, done, changes)?;
         renew_each(
-            alloc, graph, shelf, before, hearing, lines, links, others, was, look, notes, done,
+            alloc, graph, shelf, before, hearing, lines, links, left, was, look, notes, done,
             changes,
         )?;
         return Ok(());
@@ -332,7 +338,9 @@ fn renew_each(
 /// would make. `before` are the outcomes on which it was made. A line whose names are as before isn't evaluated, the branch that was shown before is
 /// gone over again, a row that has its key and its values still keeps what was kept of it, and lines inside another one stay as they are where
 /// each of their names has the outcome of before: these are heard again first, unless it is known already that one of them hasn't. Where nothing is
-/// kept yet, all is made. Beside it comes what became of what was kept.
+/// kept yet, all is made. Beside it comes what became of what was kept. What is kept now and what became of what was kept are told apart; the other
+/// clauses are what each hearing asks for and gives back, of graph, shelf and comparisons, and that the row and what was kept belong to these
+/// lines.
 ///
 /// # Errors
 ///

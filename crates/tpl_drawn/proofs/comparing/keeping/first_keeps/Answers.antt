@@ -1,4 +1,4 @@
-use Rattle.std.proofs.Common.{map, sym, ap, ◌∙◌}
+use Rattle.std.proofs.Common.{sym, ap, ◌∙◌}
 use Rattle.std.specs.Option.{option_copied}
 use Rattle.tpl_blocks.specs.Blocks.{block}
 use Rattle.tpl_drawn.specs.Comparison.{keeps_nodes}

@@ -2,7 +2,6 @@ use Rattle.std.proofs.Common.{◌≡◌, ◌<◌, ◌+◌, ◌++◌, length, map
 use Rattle.std.proofs.lemmas.Bool.Decides.{nat_tests}
 use Rattle.std.specs.Option.{option_copied}
 use Rattle.sig_formula.specs.Trees.{tree}
-use Rattle.page_model.specs.Addresses.{address}
 use Rattle.page_model.specs.Forest.{after, node, none}
 use Rattle.page_model.specs.Labels.{Element}
 use Rattle.tpl_blocks.specs.Blocks.{block, waiting}

@@ -8,7 +8,7 @@ use Rattle.tpl_kept.proofs.Made.Memos.{none_each}
 use Rattle.tpl_kept.specs.Turns.{behind_of, places_of, shows_of}
 use Rattle.tpl_model.specs.KeptLines.Changes.{changed}
 use Rattle.tpl_kept.proofs.Renewals.Changes.{none_told, turn_told}
-use Rattle.tpl_kept.proofs.Renewals.Nameless.{kept_renewed, kept_told}
+use Rattle.tpl_kept.proofs.Renewals.Nameless.{front_fewer, front_left, front_made, front_rows, front_told, kept_renewed, kept_told}
 use Rattle.tpl_kept.proofs.Renewals.Turns.{first_at, inside_at, inside_fewer, later_are, later_at, later_few, later_fewer, others_at, places_are, turn_renewed}
 use Rattle.tpl_kept.proofs.renewing.update.+renew_each.Goals as goal
 
@@ -143,23 +143,47 @@ renew_each-requires g t c =
     let split = c.in-Some.ensures.cases.0 in
     let count : length c.args.rows.now ≡ length (c.in-Some.row.now ∷ c.in-Some.others.now) = ap length split in
     let most = c.requires.few in
-    let was = others_at (block c.args.lines.now) c.args.links.now c.args.rows.now c.in-Some.row.now c.in-Some.others.now c.args.before.now
-    (map kept c.args.was.now.items) (map kept c.keep_first.new.was.items) split c.requires.was c.in_ok-keep_first.ensures.left in (
-      omega (arith, count),
-      (omega (arith, count, most), ((subst AreRows split c.requires.rows).1, (c.requires.can, (c.requires.counted, (c.requires.compared, was))))),
+    let others = c.in-Some.others.now in
+    let left = c.in_ok-left.left.now in
+    let was = map kept c.keep_first.new.was.items in
+    let done = map kept c.keep_first.new.done.items in
+    let changes = map changed c.keep_first.new.changes.items in
+    let front = c.in_ok-left.ensures in
+    let fewer = front_fewer others left was _ done _ changes _ front in
+    let were = others_at (block c.args.lines.now) c.args.links.now c.args.rows.now c.in-Some.row.now others c.args.before.now
+    (map kept c.args.was.now.items) was split c.requires.was c.in_ok-keep_first.ensures.left in
+    let rows = front_rows others left was _ done _ changes _ front (subst AreRows split c.requires.rows).1 in
+    let still = front_left (block c.args.lines.now) c.args.links.now c.args.before.now others left was _ done _ changes _ front were in (
+      omega (arith, count, fewer),
+      (omega (arith, count, most, fewer), (rows, (c.requires.can, (c.requires.counted, (c.requires.compared, still))))),
     )
 
-pub returns-then-branch-clause-made : goal.returns-then-branch-clause-made
-returns-then-branch-clause-made g t c =
-    kept_renewed (block c.args.lines.now) c.args.links.now c.args.rows.now c.in-Some.row.now c.in-Some.others.now c.args.before.now c.args.hearing.now.heard
+pub returns-then-first_stays-clause-made : goal.returns-then-first_stays-clause-made
+returns-then-first_stays-clause-made g t c =
+    let split = c.in-Some.ensures.cases.0 in
+    let others = c.in-Some.others.now in
+    let were = others_at (block c.args.lines.now) c.args.links.now c.args.rows.now c.in-Some.row.now others c.args.before.now
+    (map kept c.args.was.now.items) (map kept c.keep_first.new.was.items) split c.requires.was c.in_ok-keep_first.ensures.left in
+    kept_renewed (block c.args.lines.now) c.args.links.now c.args.rows.now c.in-Some.row.now others c.args.before.now c.args.hearing.now.heard
     c.renew_each.new.hearing.heard (map kept c.args.was.now.items) (map kept c.args.done.now.items) (map kept c.keep_first.new.done.items)
-    (map kept c.renew_each.new.done.items) c.in-Some.ensures.cases.0 c.requires.was (c.in_ok-first_stays.ensures c.if-branch.true)
-    c.in_ok-keep_first.ensures.kept c.in_ok-renew_each.ensures.made
+    (map kept c.renew_each.new.done.items) split c.requires.was (c.first_stays.ensures c.if-first_stays.true) c.in_ok-keep_first.ensures.kept
+    (front_made (block c.args.lines.now) c.args.links.now c.args.before.now c.args.hearing.now.heard c.renew_each.new.hearing.heard others c.in_ok-left.left.now
+    (map kept c.keep_first.new.was.items) (map kept c.keep_front.new.was.items) (map kept c.keep_first.new.done.items) (map kept c.keep_front.new.done.items)
+    (map kept c.renew_each.new.done.items) (map changed c.keep_first.new.changes.items) (map changed c.keep_front.new.changes.items) c.in_ok-left.ensures were
+    c.in_ok-renew_each.ensures.made)
 
-pub returns-then-branch-clause-told : goal.returns-then-branch-clause-told
-returns-then-branch-clause-told g t c =
-    kept_told (block c.args.lines.now) c.args.links.now c.args.rows.now c.in-Some.row.now c.in-Some.others.now c.args.before.now
+pub returns-then-first_stays-clause-told : goal.returns-then-first_stays-clause-told
+returns-then-first_stays-clause-told g t c =
+    let split = c.in-Some.ensures.cases.0 in
+    let others = c.in-Some.others.now in
+    let were = others_at (block c.args.lines.now) c.args.links.now c.args.rows.now c.in-Some.row.now others c.args.before.now
+    (map kept c.args.was.now.items) (map kept c.keep_first.new.was.items) split c.requires.was c.in_ok-keep_first.ensures.left in
+    kept_told (block c.args.lines.now) c.args.links.now c.args.rows.now c.in-Some.row.now others c.args.before.now
     (map kept c.args.was.now.items) (map kept c.keep_first.new.was.items) (map kept c.args.done.now.items) (map kept c.keep_first.new.done.items)
     (map kept c.renew_each.new.done.items) (map changed c.args.changes.now.items) (map changed c.keep_first.new.changes.items)
-    (map changed c.renew_each.new.changes.items) c.in-Some.ensures.cases.0 c.requires.was (c.in_ok-first_stays.ensures c.if-branch.true)
-    c.in_ok-keep_first.ensures.left c.in_ok-keep_first.ensures.kept c.in_ok-keep_first.ensures.changed c.in_ok-renew_each.ensures.told
+    (map changed c.renew_each.new.changes.items) split c.requires.was (c.first_stays.ensures c.if-first_stays.true)
+    c.in_ok-keep_first.ensures.left c.in_ok-keep_first.ensures.kept c.in_ok-keep_first.ensures.changed
+    (front_told (block c.args.lines.now) c.args.links.now c.args.before.now others c.in_ok-left.left.now
+    (map kept c.keep_first.new.was.items) (map kept c.keep_front.new.was.items) (map kept c.keep_first.new.done.items) (map kept c.keep_front.new.done.items)
+    (map kept c.renew_each.new.done.items) (map changed c.keep_first.new.changes.items) (map changed c.keep_front.new.changes.items)
+    (map changed c.renew_each.new.changes.items) c.in_ok-left.ensures were c.in_ok-renew_each.ensures.told)

@@ -1,4 +1,4 @@
-use Rattle.std.proofs.Common.{◌≡◌, ◌+◌, drop, length, None, sym, ap, ◌∙◌, arith}
+use Rattle.std.proofs.Common.{drop, length, None, ap, ◌∙◌, arith}
 use Rattle.std.specs.Map.{lookup}
 use Rattle.tpl_model.specs.ShownNodes.Addresses.{same_address}
 use Rattle.tpl_drawn.specs.Addresses.{noted, number_in}

@@ -1,6 +1,4 @@
-use Rattle.std.proofs.Common.{◌≡◌, ◌+◌, length, drop, None}
-use Rattle.tpl_model.specs.declared.shown.Address.{Address}
-use Rattle.tpl_drawn.specs.Addresses.{noted, number_in}
+use Rattle.tpl_drawn.specs.Addresses.{number_in}
 use Rattle.tpl_drawn.proofs.Numbered.Addresses.{AreLeft}
 use Rattle.tpl_drawn.proofs.marks.numbers.Numbers.of.Given as goal
 
