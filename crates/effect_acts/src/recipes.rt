@@ -70,7 +70,9 @@ fn refusal(
     }
 }
 
-// Gives a computed another recipe, where that isn't refused.
+// Gives a computed another recipe, where that isn't refused. Most of its clauses ask for something that may fail by itself: a computed,
+// slots that were made and are few, room in the counters, stores that belong together with the shelf and its counts, and that nothing
+// refuses it.
 fn change(
     world: &mut World,
     shelf: &mut Shelf,

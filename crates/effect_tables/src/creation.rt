@@ -93,7 +93,8 @@ impl Tables {
     }
 
     /// Makes an owner, which stands last inside the one that is given, else at the top. Its id is the number of owners that were made
-    /// before.
+    /// before. Its clauses are those of every making in these tables: its id, what it does to the world, that the tables still agree,
+    /// that no signal came to stand here, what held where it was made, and each refusal with its cause.
     ///
     /// # Errors
     ///
@@ -121,7 +122,8 @@ impl Tables {
     }
 
     /// Makes an effect of a body and its links, which stands last inside the owner that is given, else at the top. It has not run. Its id
-    /// is the number of effects that were made before.
+    /// is the number of effects that were made before. Its clauses are those of every making here; beside them it asks that ids are left
+    /// and that the body of the script fits its links, and says that no limit refuses it, which the type of its faults doesn't show.
     ///
     /// # Errors
     ///
@@ -156,7 +158,9 @@ impl Tables {
     }
 
     /// Makes a child of an effect that lives in this row and whose body stands there: the nested effect at a place of that body. It stands
-    /// last under its parent, and has not run. Its id is the number of effects that were made before.
+    /// last under its parent, and has not run. Its id is the number of effects that were made before. Its clauses are those of a making
+    /// without refusals: the ids that are left, the row of the parent and the script that fits are asked for apart, and how many effects
+    /// were made is told, so that another child may be made.
     ///
     /// # Errors
     ///
@@ -190,7 +194,8 @@ impl Tables {
     }
 
     /// Makes a page, which stands last inside the owner that is given, else at the top. Its id is the number of pages that were made
-    /// before.
+    /// before. Its clauses are those of every making here, and each refusal has two: what was so where it refused, and that it wasn't so
+    /// where the page was made.
     ///
     /// # Errors
     ///
@@ -221,7 +226,8 @@ impl Tables {
         Ok(id)
     }
 
-    /// Puts a signal that was just made last inside the owner that is given, where one is.
+    /// Puts a signal that was just made last inside the owner that is given, where one is. Its clauses are those of a making but for the
+    /// id, as the making of a signal ends with it; the signal is the only one that may come to stand here.
     ///
     /// # Errors
     ///

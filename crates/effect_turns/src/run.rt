@@ -89,7 +89,8 @@ fn evaluate(
     Ok(run)
 }
 
-// Does the acts that a body wants done, or tells that it failed.
+// Does the acts that a body wants done, or tells that it failed. It asks apart for stores that belong together, for a body that is part
+// of its script, and for acts that are few; what was done is one clause, and how far each count came is told by itself.
 fn finish(
     world: &mut World,
     shelf: &mut Shelf,

@@ -26,7 +26,9 @@ use sig_state::{Batch, Gone, SetDone, set_in};
 
 impl World {
     /// Gives a cell a value while a batch is open, unless its equality calls it the same as the one that it has: the cell joins the batch
-    /// with its value before. The change is told, and nobody is notified.
+    /// with its value before. The change is told, and nobody is notified. What it does is told where what is kept is sound for the hosts;
+    /// what the batch holds then, what stays in order, and what a refusal leaves are told whatever the hosts answer, so each is a clause
+    /// of its own.
     ///
     /// # Errors
     ///
@@ -124,7 +126,8 @@ impl World {
     }
 
     /// Gives each cell of a batch that ends the value back that it had as the batch began, where it has another one. Each such change is
-    /// told, and nobody is notified.
+    /// told, and nobody is notified. What it does is told where what is kept is sound for the hosts; each store that it leaves as it was,
+    /// and each thing that stays in order, has a clause of its own, as these hold whatever the hosts answer.
     ///
     /// # Errors
     ///

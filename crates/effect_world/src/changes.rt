@@ -29,7 +29,9 @@ use sig_state::{Gone, SetDone, set};
 
 impl World {
     /// Gives a cell a value, unless its equality calls it the same as the one that it has. A set that is accepted notifies watchers,
-    /// in the order of making; those whose notification tried a command are told behind them, all at once.
+    /// in the order of making; those whose notification tried a command are told behind them, all at once. What it does is told twice, of
+    /// the signals alone, and of the whole world where its owners agree; what stays in order, what isn't touched, and what each answer
+    /// says and leaves are clauses apart, as they are told whatever the hosts answer.
     ///
     /// # Errors
     ///
@@ -82,7 +84,9 @@ impl World {
     }
 
     /// Gives a computed another recipe. A host formula that it asks has to be free; the one that it asked before is dropped, and told
-    /// with the number of its asks.
+    /// with the number of its asks. The recipe, the world and the shelf are asked for apart; of what comes of it the act, the order of
+    /// world and shelf, each store that stays, and the refusal with what it leaves are clauses apart, as only the act needs that what is
+    /// kept is sound for the hosts.
     ///
     /// # Errors
     ///

@@ -38,7 +38,8 @@ fn is_open(tables: &Tables, inside: &Option<OwnerId>) -> bool
 
 impl World {
     /// Makes a cell of a value and the place of an equality rule, which stands last inside the owner that is given, else at the top. Its
-    /// id is the number of signals that were made before.
+    /// id is the number of signals that were made before. Its clauses are those of the making of a signal: its id, the act, what stays in
+    /// order, how far the counters came, that the watchers stay, and each refusal with exactly its cause.
     ///
     /// # Errors
     ///
@@ -77,7 +78,9 @@ impl World {
     }
 
     /// Makes a computed of what it asks and of the signals that its slots stand for, which stands last inside the owner that is given,
-    /// else at the top. A host formula that it asks has to be free. Its id is the number of signals that were made before.
+    /// else at the top. A host formula that it asks has to be free. Its id is the number of signals that were made before. Its clauses
+    /// are those of the making of a cell, and ask for slots that were made and are few; that the host formula is free is asked for only
+    /// where the act or the order of the stores is told, as the shelf isn't at hand.
     ///
     /// # Errors
     ///
@@ -120,7 +123,8 @@ impl World {
     }
 
     /// Makes an owner, which stands last inside the one that is given, else at the top. Its id is the number of owners that were made
-    /// before.
+    /// before. Its clauses are those of every making of what is no signal: its id, the act, what stays in order, that signals and
+    /// watchers aren't touched, what held where it was made, and what each refusal says of the owner and of the limit.
     ///
     /// # Errors
     ///
@@ -145,7 +149,8 @@ impl World {
     }
 
     /// Makes an effect of a body and its links, which stands last inside the owner that is given, else at the top. It has not run. Its id
-    /// is the number of effects that were made before.
+    /// is the number of effects that were made before. Its clauses are those of the making of an owner; beside them it asks that ids are
+    /// left and that the script fits, and in place of those of the limit it has one that there is none.
     ///
     /// # Errors
     ///
@@ -176,7 +181,8 @@ impl World {
     }
 
     /// Makes a page, which stands last inside the owner that is given, else at the top. Its id is the number of pages that were made
-    /// before.
+    /// before. Its clauses are those of the making of an owner, and it asks that ids are left; what the limit says of the pages and what
+    /// it says of the owner are two clauses.
     ///
     /// # Errors
     ///

@@ -36,7 +36,9 @@ impl World {
     }
 
     /// Disposes a thing: what stands under it is taken back, the last made first, and then it ends. Each cleanup on the way is done, and
-    /// each thing that ends is told; a computed that asks a host formula drops it first.
+    /// each thing that ends is told; a computed that asks a host formula drops it first. The order of world and shelf is asked for and
+    /// given back part by part, so that more may be done after it; the act, how far the counters came beside what was told, and what
+    /// `Gone` means and leaves are clauses apart.
     ///
     /// # Errors
     ///
@@ -85,7 +87,8 @@ impl World {
     }
 
     /// Takes back what stands under an effect, the last made first, as a run of it begins. Each cleanup on the way is done, and each thing
-    /// that ends is told.
+    /// that ends is told. Its clauses are those of a disposal, for an effect that goes on to run: the act, each part of the order of
+    /// world and shelf, how far the counters came beside what was told, and what `Gone` means and leaves.
     ///
     /// # Errors
     ///

@@ -17,7 +17,9 @@ use sig_host::{Lent, Shelf};
 
 impl World {
     /// Settles a signal, gone ones too, and gives its outcome, which is its value from scratch. The runs on the way are told in order,
-    /// and the host formulas are asked exactly as they ask them.
+    /// and the host formulas are asked exactly as they ask them. The value and the act are told under the meanings by which the shelf
+    /// answers, where what is kept is sound for them; the order of world and shelf, each store that stays and how far each count came
+    /// hold under any, so they are clauses apart.
     ///
     /// # Errors
     ///

@@ -19,7 +19,8 @@ use sig_watcher::WatchFault;
 
 impl World {
     /// Makes a watcher, which has no signals and is waiting; it may try a command when it is notified. Its id is the number of
-    /// watchers that were made before.
+    /// watchers that were made before. Its clauses are those of every making; the signals, which aren't touched, and the table of
+    /// watchers, which gets one more, have a clause each, and so have the cause of a refusal, the kinds of refusals, and what one leaves.
     ///
     /// # Errors
     ///
@@ -62,7 +63,8 @@ impl World {
         Ok(())
     }
 
-    /// Lets a watcher no longer watch a signal. It takes no memory.
+    /// Lets a watcher no longer watch a signal. It takes no memory. The act, the order, and each of the two stores are told apart, and
+    /// each refusal has exactly its cause; that there is no other one, and that it changes nothing, are the rest.
     ///
     /// # Errors
     ///

@@ -65,7 +65,9 @@ fn unshown(alloc: Global, name: Name) -> Result<Vec<Entry>, EffectFault>
 }
 
 impl Machine {
-    /// Tells what a name comes to, and the runs on the way.
+    /// Tells what a name comes to, and the runs on the way. Its clauses are those of each command that may ask host formulas: machine,
+    /// shelf and counters are asked for apart, and what the command comes to and that another may follow are told apart from what is left
+    /// of the shelf, which stands beside the machine.
     pub(crate) fn get(&mut self, shelf: &mut Shelf, name: Name) -> Result<Vec<Entry>, EffectFault>
         requires ready { IsReady self.old }
         requires weight { weight self.old.world < 2 ^ 125 }
@@ -158,7 +160,8 @@ impl Machine {
         Ok(told)
     }
 
-    /// Tells what the template of a page shows from scratch, and the runs on the way. The page stays as it is.
+    /// Tells what the template of a page shows from scratch, and the runs on the way. The page stays as it is. Its clauses are those of each
+    /// command that may ask host formulas, as of `get`, and one that the name is fine.
     pub(crate) fn scratch(
         &mut self,
         shelf: &mut Shelf,

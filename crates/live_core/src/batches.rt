@@ -23,7 +23,8 @@ use sig_host::EqualsRule;
 use sig_state::Batch;
 
 impl Machine {
-    // Gives a cell a value while no batch is open. What is notified is told.
+    // Gives a cell a value while no batch is open. What is notified is told. Most of its clauses ask, each for something that may fail by
+    // itself: a ready machine, no open batch, owners that agree, room in the counters, rules that are there, and a cell that stands.
     fn set_alone(
         &mut self,
         rules: &[EqualsRule],
@@ -50,7 +51,9 @@ impl Machine {
         Ok(told)
     }
 
-    /// Gives a cell a value. What is notified is told; while a batch is open the cell joins it, and nobody is notified.
+    /// Gives a cell a value. What is notified is told; while a batch is open the cell joins it, and nobody is notified. It asks for all
+    /// that a set without a batch asks for, but that none is open; what it comes to and that another command may follow are two clauses,
+    /// as only the first one is about the entries.
     pub(crate) fn set_value(
         &mut self,
         rules: &[EqualsRule],

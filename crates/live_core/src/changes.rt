@@ -50,7 +50,9 @@ impl Machine {
         Ok(told)
     }
 
-    /// Edits the rows of a list, as a cell is given a value; nothing is done where the rows stay the same.
+    /// Edits the rows of a list, as a cell is given a value; nothing is done where the rows stay the same. Machine, owners, counters and
+    /// rules are asked for apart, as for each set of a cell, and so is that the names don't refuse it and that the rows don't, for these
+    /// are two checks.
     pub(crate) fn edit(
         &mut self,
         rules: &[EqualsRule],
@@ -76,7 +78,9 @@ impl Machine {
         Ok(told)
     }
 
-    /// Gives a computed another formula or host formula. A host formula that is left is dropped, and told.
+    /// Gives a computed another formula or host formula. A host formula that is left is dropped, and told. Beside the clauses of each
+    /// command that reaches the shelf, before it and after it, it asks for what each check found: no open batch, names that aren't
+    /// refused, a source with few arguments, and a host formula that is free.
     pub(crate) fn rewire(
         &mut self,
         shelf: &mut Shelf,
@@ -112,7 +116,9 @@ impl Machine {
     }
 
     /// Takes a thing away, and before it all that stands under it, the last made first. Cleanups on the way are done; a host formula that
-    /// a computed asks is dropped, and told before. Pages that end are dropped.
+    /// a computed asks is dropped, and told before. Pages that end are dropped. Beside the clauses of each command that reaches the
+    /// shelf, before it and after it, it asks for rules that are there, since a cleanup may set a cell, and that neither an open batch
+    /// nor the name refuses it.
     pub(crate) fn dispose(
         &mut self,
         shelf: &mut Shelf,

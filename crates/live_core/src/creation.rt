@@ -64,7 +64,9 @@ fn no_rows(alloc: Global, fields: &NameList) -> Result<Value, NoMemory>
 }
 
 impl Machine {
-    /// Makes a cell, with an equality rule perhaps.
+    /// Makes a cell, with an equality rule perhaps. Its clauses are those of each making by name: a ready machine, owners that agree,
+    /// room in the counters, no open batch, a good name and room for one more are asked for apart; the entries, what it leaves, and that
+    /// only memory may be wanting are told apart.
     pub(crate) fn make_cell(
         &mut self,
         name: Name,
@@ -94,7 +96,8 @@ impl Machine {
         Ok(Vec::new(self.alloc))
     }
 
-    /// Makes a list of these fields, without rows.
+    /// Makes a list of these fields, without rows. Its clauses are those of the making of a cell, and one that the fields may be those of
+    /// a list.
     pub(crate) fn make_list(
         &mut self,
         name: Name,
@@ -122,7 +125,8 @@ impl Machine {
         Ok(Vec::new(self.alloc))
     }
 
-    /// Makes a computed. A host formula that it asks has to be free.
+    /// Makes a computed. A host formula that it asks has to be free. Its clauses are those of the making of a cell, and one that a host
+    /// formula has few arguments; that it is free stands before what is told, as the shelf isn't at hand here.
     pub(crate) fn make_computed(
         &mut self,
         name: Name,

@@ -40,7 +40,8 @@ pub(crate) fn make_owner(world: &mut World, inside: Option<OwnerId>) -> Result<O
     }
 }
 
-/// Makes an effect of a script inside an owner that lives, or at the top.
+/// Makes an effect of a script inside an owner that lives, or at the top. Its clauses are those of the making of an effect in the world;
+/// that the owner lives is asked for besides, so that what refuses it there is gone, and only memory may be wanting.
 pub(crate) fn make_effect(
     alloc: Global,
     world: &mut World,
@@ -66,7 +67,9 @@ pub(crate) fn make_effect(
     }
 }
 
-/// Makes a page inside an owner that lives, or at the top, where there is room for one.
+/// Makes a page inside an owner that lives, or at the top, where there is room for one. Its clauses are those of the making of a page in
+/// the world; what would refuse it there, an owner that is gone or too many pages, is asked for in two clauses, so that only memory may
+/// be wanting.
 pub(crate) fn make_page(world: &mut World, inside: Option<OwnerId>) -> Result<PageId, EffectFault>
     requires owned { AreOwned world.old }
     requires open { is_open (living 0 world.old.tables.owners.items) inside ≡ true }

@@ -48,7 +48,8 @@ impl Machine {
         })
     }
 
-    // Does what a verb says to a name.
+    // Does what a verb says to a name. Its clauses are those of `perform`, which hands them on, without the checks that a verb with a
+    // name doesn't need.
     fn do_verb(
         &mut self,
         shelf: &mut Shelf,
@@ -86,7 +87,7 @@ impl Machine {
         }
     }
 
-    // Does a command of one word.
+    // Does a command of one word. Its clauses are those of `perform` too; as there is no name, the batch is the only check that is left.
     fn do_bare(
         &mut self,
         shelf: &mut Shelf,
@@ -119,7 +120,9 @@ impl Machine {
         }
     }
 
-    /// Does a command that isn't refused.
+    /// Does a command that isn't refused. Each check that a command passed is a clause of its own, as each kind of command needs only
+    /// some of them; what machine, shelf and counters have to be, and what they are afterwards, are asked for and told apart for the same
+    /// reason.
     ///
     /// # Errors
     ///

@@ -57,7 +57,8 @@ impl Machine {
         Ok(())
     }
 
-    /// Makes a page of a template, and tells it and the runs on the way.
+    /// Makes a page of a template, and tells it and the runs on the way. Beside the clauses of each command that reaches the shelf, before it
+    /// and after it, it asks that the names are fine and that no limit refuses it, which are two checks.
     pub(crate) fn mount(
         &mut self,
         shelf: &mut Shelf,
@@ -102,7 +103,8 @@ impl Machine {
         Ok(told)
     }
 
-    // After the turns of a flush the pages are brought up to date, unless it is refused.
+    // After the turns of a flush the pages are brought up to date, unless it is refused. It asks for the parts of a machine that is ready
+    // which the turns have left as they were, and gives the clauses of each command that reaches the shelf.
     fn end_flush(
         &mut self,
         shelf: &mut Shelf,
@@ -145,7 +147,8 @@ impl Machine {
     }
 
     /// Runs the effects that are due, in turns, and then brings the pages that live up to date. An effect that is due after the last turn
-    /// makes it refused, and the pages are left as they were.
+    /// makes it refused, and the pages are left as they were. What machine, rules, shelf and counters have to be is asked for apart; what
+    /// it comes to and that another command may follow are told apart from what is left of the shelf, which stands beside the machine.
     pub(crate) fn flush(
         &mut self,
         shelf: &mut Shelf,

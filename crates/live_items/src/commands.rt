@@ -40,7 +40,8 @@ fn refused(alloc: Global, refusal: Refusal) -> Result<Vec<Entry>, NoMemory>
     Ok(told)
 }
 
-// Does a command, or refuses it.
+// Does a command, or refuses it. Machine, command, shelf and counters are asked for apart; what it comes to and what it leaves are told
+// where what is kept is sound for the hosts, and what is left of the shelf in clauses apart, as its counts need no such thing.
 fn try_command(
     machine: &mut Machine,
     shelf: &mut Shelf,
@@ -78,7 +79,8 @@ fn try_command(
     }
 }
 
-/// Does one item. A refused one changes nothing.
+/// Does one item. A refused one changes nothing. Its clauses are those of a command that is done or refused, with an item that was read
+/// in place of the command.
 pub(crate) fn act(
     machine: &mut Machine,
     shelf: &mut Shelf,

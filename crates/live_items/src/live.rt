@@ -66,6 +66,8 @@ impl Running for Live {
 
 impl Live {
     /// The machine before the first command, with the host formulas and the equality rules by their places. No host formula was asked.
+    /// What later calls ask for is told of it clause by clause, as they ask for it: how the formulas answer, where the machine stands,
+    /// the slacks, that all is in order, the counts, and that no item was done and nothing went wrong yet.
     ///
     /// # Errors
     ///
@@ -98,7 +100,8 @@ impl Live {
 
     /// Does one item and tells what came of it: one step of the plain machine, the entries of a trace included. A refused item changes
     /// nothing. Each host formula was asked as often as the machine says: once by each run of its computed, and once more after each good
-    /// read.
+    /// read. What has to be in order is asked for and given back clause by clause, so that items may follow one another; the step, the
+    /// slacks, which stay, the number of items, and what want of memory means and leaves are clauses apart.
     ///
     /// # Errors
     ///

@@ -36,7 +36,9 @@ fn copied(alloc: Global, signals: &[NodeId]) -> Result<Vec<NodeId>, NoMemory>
     Ok(copy)
 }
 
-// A page of a template that shows it on the outcomes of now, with the operations that make it; the runs on the way are told.
+// A page of a template that shows it on the outcomes of now, with the operations that make it; the runs on the way are told. What it shows
+// is told where what is kept is sound for the hosts; that the page stands, and what is left of world and shelf, hold under any, so each has a
+// clause of its own.
 fn fresh(
     world: &mut World,
     shelf: &mut Shelf,
@@ -73,7 +75,8 @@ fn fresh(
 }
 
 /// A page of a template that shows it on the outcomes of now, and the entries of its making: the runs on the way, the operations that lead
-/// to it from a page without nodes, and the page.
+/// to it from a page without nodes, and the page. Its clauses are those of a page that is made, and two ask that the template is one of
+/// those that are kept.
 ///
 /// # Errors
 ///
@@ -113,7 +116,8 @@ pub fn mount(
     Ok(Box::into_inner(page))
 }
 
-// The tree of what a template shows from scratch on the outcomes of now; the runs on the way are told.
+// The tree of what a template shows from scratch on the outcomes of now; the runs on the way are told. What it shows is told where what is
+// kept is sound for the hosts; what is left of world and shelf holds under any, so each part of it has a clause of its own.
 fn fresh_tree(
     world: &mut World,
     shelf: &mut Shelf,
@@ -150,7 +154,8 @@ fn fresh_tree(
     Ok(tree)
 }
 
-/// The HTML of what a template shows from scratch on the outcomes of now; the runs on the way are told. No page is made for it.
+/// The HTML of what a template shows from scratch on the outcomes of now; the runs on the way are told. No page is made for it. Its clauses
+/// are those of the tree that it writes, and two ask that the template is one of those that are kept.
 ///
 /// # Errors
 ///

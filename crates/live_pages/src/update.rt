@@ -21,7 +21,8 @@ use sig_base::NoMemory;
 use sig_host::{Lent, Shelf};
 use std::alloc::Global;
 
-// Brings a page up to date, and tells the runs on the way and its news.
+// Brings a page up to date, and tells the runs on the way and its news. World, shelf and page are asked for and given back part by part, as
+// pages follow one another; what is shown, what stays sound and how the shelf answers hold for other hosts each, so they are clauses apart.
 fn bring_up(
     world: &mut World,
     shelf: &mut Shelf,
@@ -60,7 +61,8 @@ fn bring_up(
 }
 
 /// Brings all pages up to date, in order of mounting, and tells the runs on the way and their news: the operations on each page that has one,
-/// and its HTML behind them.
+/// and its HTML behind them. World, shelf and pages are asked for and given back part by part, since a flush goes on after it; what is shown,
+/// what stays sound and how the shelf answers hold for other hosts each, so they are clauses apart.
 ///
 /// # Errors
 ///

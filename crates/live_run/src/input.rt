@@ -74,7 +74,8 @@ pub fn read_all<S: Source>(alloc: Global, source: &mut S) -> Result<Vec<u8>, Rea
 /// has. `Fault` only where the source failed, and `TooLong` only once more than 4,194,304 bytes came; where the source tells its bytes,
 /// `TooLong` only where it had more than these.
 ///
-/// It asks of its caller that a workload has at most `MOST_ROUNDS` rounds.
+/// It asks of its caller that a workload has at most `MOST_ROUNDS` rounds. Each ending has a clause of its own, and so have what a script
+/// may be and what it leaves of the source, since each is shown by something else: what is left, its faults, or the bytes that it gave.
 pub fn script_for<S: Source>(alloc: Global, job: Job, source: &mut S) -> Result<Vec<u8>, ReadEnd>
     requires { HasFewRounds job }
     ensures script { IfOk result (λ bytes. IfSome (script_of job (S.left source.old)) (λ script. script ≡ bytes.items)) }

@@ -30,7 +30,9 @@ pub(crate) struct ScriptRun {
 }
 
 impl ScriptRun {
-    /// The machine before the first item, of which nothing is told. It stands behind one pointer, so that whoever holds it drops one.
+    /// The machine before the first item, of which nothing is told. It stands behind one pointer, so that whoever holds it drops one. It has the
+    /// clauses of a new machine, one by one as items ask for them, and one each for the report, its counts and the output, of which nothing is
+    /// taken yet.
     pub(crate) fn new(
         alloc: Global,
         job: Job,
@@ -56,7 +58,8 @@ impl ScriptRun {
         Ok(run)
     }
 
-    // Does an item, and lets the report take it in with what it tells.
+    // Does an item, and lets the report take it in with what it tells. What it asks of machine and report it gives back in the clauses that the
+    // machine has, so that items may follow one another; what was done is one clause, and each count that rises has one of its own.
     fn do_item(&mut self, item: Item) -> Result<(), NoMemory>
         requires kept { ⟦<Live as Running>⟧.kept self.old.live }
         requires meant { self.old.live.broken ≡ false → SomeHosts (λ hosts. ⟦<Shelf as Lent>⟧.answers hosts self.old.live.shelf × ⟦<Live as Running>⟧.sound hosts self.old.live) }
@@ -82,7 +85,8 @@ impl ScriptRun {
     }
 
     /// Reads the next item of a script, from a byte on that begins a line of this number, and does it. Gives the place after it and the number of
-    /// the line there; `None` exactly where nothing is left but empty lines and comments, and then all is as before.
+    /// the line there; `None` exactly where nothing is left but empty lines and comments, and then all is as before. Beside the clauses of one item
+    /// it has those of reading: the place and the number of the line are asked for and told apart, and so is what it means that nothing is left.
     pub(crate) fn do_next(
         &mut self,
         alloc: Global,

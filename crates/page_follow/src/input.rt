@@ -85,7 +85,8 @@ fn first_bytes(piece: &[u8], most: usize) -> (&[u8], &[u8])
     piece.split_at(most.min(piece.len()))
 }
 
-// Follows as much of a piece of the frames as is followed yet, and writes what it prints.
+// Follows as much of a piece of the frames as is followed yet, and writes what it prints. What was written and how far it came are told where all
+// is followed; each other ending has a clause with what shows it, the length or the faults of the sink, and that these only rise is told of all.
 fn follow_within<K: Sink>(
     alloc: Global,
     frames: &mut FrameFollower,

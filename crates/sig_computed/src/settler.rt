@@ -162,7 +162,9 @@ fn first(alloc: Global, graph: &mut Graph, id: NodeId) -> Result<Vec<Open>, NoMe
 /// that are put behind are those of settling its name, whatever was set, rewired or disposed before. Host formulas are asked exactly
 /// as the runs of this call ask them, each once and once more after each good read. What is clean is passed over at one look, and the
 /// counted steps keep to their bound. Signals stay, and nothing is being evaluated before and after. Without memory graph and shelf may
-/// only be dropped. What is no computed takes no memory but that of the answer.
+/// only be dropped. What is no computed takes no memory but that of the answer. What graph, shelf and counters have to be is asked for
+/// apart; the value needs that what is kept is sound, the settling doesn't, and that more names may be settled is told only where that
+/// was known before, so these are clauses apart.
 pub fn settle(
     graph: &mut Graph,
     shelf: &mut Shelf,

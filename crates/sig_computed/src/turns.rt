@@ -225,7 +225,9 @@ fn answered(answer: Step, known: Vec<Known>, reads: Vec<Read>) -> Turn
     }
 }
 
-// What a computed's recipe answers: a formula's answer, or that of the host formula, which is asked now.
+// What a computed's recipe answers: a formula's answer, or that of the host formula, which is asked now. The answer is told by the
+// meanings by which the shelf answers, and its form under any; what the shelf answers, its counts and its asks have a clause each, as the
+// asks are told only where memory was left.
 fn answer_of(
     alloc: Global,
     graph: &Graph,
@@ -253,7 +255,8 @@ fn answer_of(
     }
 }
 
-// A recipe is asked with what is known.
+// A recipe is asked with what is known. The turn is told by the meanings of the host formulas, in its form under any, and by the ids that
+// it read; the graph has a clause of its own, and so have what the shelf answers, its counts and its asks.
 fn run(
     alloc: Global,
     graph: &mut Graph,
@@ -279,7 +282,8 @@ fn run(
     Ok(answered(answer, known, reads))
 }
 
-/// One step of a frame.
+/// One step of a frame. Its clauses are those of a recipe that is asked, for any phase: the turn by the meanings of the host formulas, in
+/// its form and by the ids that it read, the graph, and what the shelf answers, its counts and its asks.
 pub(crate) fn turn_of(
     alloc: Global,
     graph: &mut Graph,

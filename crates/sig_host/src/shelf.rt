@@ -111,7 +111,9 @@ impl Shelf {
     }
 
     /// Asks the formula of a place that is there, with the values known so far, and counts its answer. It
-    /// asks of its caller that the count isn't at its last value.
+    /// asks of its caller that the count isn't at its last value. That the formula is there, that its count is right, and that there is
+    /// room for one more are asked for apart; what the shelf answers, its counts and which formulas are there are told of both endings,
+    /// and the asks of each by itself.
     ///
     /// # Errors
     ///
@@ -183,7 +185,8 @@ fn new_place(lent: Box<dyn HostFormula>) -> Place
     }
 }
 
-// Asks the formula that is there, and counts that it has answered.
+// Asks the formula that is there, and counts that it has answered. Its clauses are those of `ask` for one place: its meaning, its count
+// and that it is there are told of both endings, and its asks of each by itself.
 fn ask_at(alloc: Global, place: &mut Place, known: &[Known]) -> Result<Step, NoMemory>
     requires counted { ⟦<Place as LentPlace>⟧.answered place.old ≡ count_there (⟦<Place as LentPlace>⟧.asked_so place.old) }
     requires there { IsTrue ((⟦<Place as LentPlace>⟧.asked_so place.old).there) }

@@ -63,7 +63,9 @@ pub(crate) fn drop_mark(marked: &mut Store<bool>, live: &mut usize, id: u128)
     *live -= 1;
 }
 
-// Marks what isn't marked yet, and puts it on the stack.
+// Marks what isn't marked yet, and puts it on the stack. Marks and stack are told apart; the room that was reserved is asked for and
+// given back, so that more may be marked, and what stands on the stack and what is unmarked are as many together as before, which bounds
+// the work.
 fn mark_reader(marked: &mut Store<bool>, stack: &mut Vec<u128>, reader: u128)
     requires within { reader < length marked.old.entries }
     requires room { vec_len stack.old + unmarked_count (marks_of marked.old.entries) ≤ vec_capacity stack.old }
@@ -85,7 +87,7 @@ fn mark_reader(marked: &mut Store<bool>, stack: &mut Vec<u128>, reader: u128)
     }
 }
 
-// The same for several.
+// The same for several. Its clauses are the same too, as what holds after one has to hold for the next.
 fn mark_each(readers: &[u128], marked: &mut Store<bool>, stack: &mut Vec<u128>)
     requires within { All (λ d. d < length marked.old.entries) readers.now }
     requires room { vec_len stack.old + unmarked_count (marks_of marked.old.entries) ≤ vec_capacity stack.old }
@@ -113,7 +115,7 @@ fn dependants_in(sets: &Store<IndexSet<u128>>, id: u128) -> &[u128]
     }
 }
 
-// The same for the dependants of one signal.
+// The same for the dependants of one signal. It has the same clauses, but asks that all that depends on anything is within the marks.
 fn mark_dependants(
     sets: &Store<IndexSet<u128>>,
     marked: &mut Store<bool>,

@@ -165,7 +165,9 @@ impl Graph {
     }
 
     /// Gives a computed another recipe, and gives the place of the host formula that it asked before. It is refused where it, or a
-    /// signal that a slot would stand for, is gone; then the graph is as before. It takes no memory.
+    /// signal that a slot would stand for, is gone; then the graph is as before. It takes no memory. A computed, one that isn't being
+    /// evaluated, slots that were made and are few, and room in the counters are asked for apart; the graph, the host formula of before
+    /// and the refusal, with its cause and what it leaves, are told apart.
     pub fn rewire(
         &mut self,
         id: NodeId,

@@ -60,7 +60,9 @@ fn go_to(nodes: &Nodes, id: NodeId, reached: &mut Reached, trail: &mut Trail)
 }
 
 // One turn at a computed that was left: goes to the next one below it, and tells whether that one, or something below it, must run; where
-// there is none, the search is through with the computed.
+// there is none, the search is through with the computed. As it is one turn of a loop, what the search reached and its room are asked for
+// and given back clause by clause; each answer has one, and so have the way along the trail, what was reached before, and the steps,
+// which bound the search.
 fn turn(
     nodes: &Nodes,
     generation: u128,

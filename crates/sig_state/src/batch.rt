@@ -204,7 +204,8 @@ fn give_back(graph: &mut Graph, id: NodeId, before: Value, out: &mut Vec<NodeId>
 }
 
 /// Gives a cell a value as `set` does, and where that is accepted the cell joins the batch with its value before, unless it is there. It
-/// takes no memory.
+/// takes no memory. A cell, its rule, and room in counters and batch are asked for apart; when it is refused and when the value is the
+/// same have a clause each, graph and batch one each where it is accepted, and both together one where it isn't.
 ///
 /// # Errors
 ///

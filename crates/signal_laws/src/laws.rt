@@ -45,7 +45,8 @@ pub fn dispose_law()
 {}
 
 /// The names in use were all given: each change and each settling keeps this, where a new signal and the slots of a new recipe have names
-/// that were given.
+/// that were given. It is one law in parts, for the start, for more names, for each kind of change and for settling, as whoever makes a
+/// change needs only the part about it.
 pub fn given_law()
     ensures next { GivenNextLaw }
     ensures empty { GivenEmptyLaw }

@@ -97,7 +97,9 @@ impl Rehearing {
     }
 }
 
-/// Hears a name; whether it has the outcome of before, which is compared the first time alone.
+/// Hears a name; whether it has the outcome of before, which is compared the first time alone. What it asks of graph, shelf and comparisons it
+/// gives back clause by clause, so that names may be heard one after another; the answer, the name that was added, and what hearing did are told
+/// apart.
 ///
 /// # Errors
 ///

@@ -70,7 +70,9 @@ impl Page {
 
     /// A page of a template whose names are these signals, up to date, and the operations that make it of the bare page: the names that
     /// its lines read are settled, each once, in the order in which they are first read. Host formulas are asked exactly as the runs of this
-    /// call ask them. Signals stay, and nothing is being evaluated before and after. Without memory graph and shelf may only be dropped.
+    /// call ask them. Signals stay, and nothing is being evaluated before and after. Without memory graph and shelf may only be dropped. Template,
+    /// graph, shelf and counters are asked for apart; page and operations are told where what is kept is sound, and that the page stands, what was
+    /// settled, and that the counts are right in clauses apart, as these need no such thing.
     ///
     /// # Errors
     ///
@@ -127,7 +129,9 @@ impl Page {
     /// Brings the page up to date with the signals, and gives the operations that lead there: nodes that stay keep their numbers, and new ones
     /// get the next numbers. The names that its lines read are settled, each once, in the order in which they are first read; a line whose names
     /// have the outcomes of before isn't evaluated, and where all have them, no line is looked at. Host formulas are asked exactly as the runs of this
-    /// call ask them. Signals stay, and nothing is being evaluated before and after. Without memory graph, shelf and page may only be dropped.
+    /// call ask them. Signals stay, and nothing is being evaluated before and after. Without memory graph, shelf and page may only be dropped. Its
+    /// clauses are those of mounting, with a page that stands in place of the template; all but the counts are told for any lines and signals on
+    /// which it stands.
     ///
     /// # Errors
     ///

@@ -45,7 +45,8 @@ fn put_outcome(known: &mut Vec<Option<Outcome>>, place: usize, outcome: Outcome)
 /// The tree of what a template shows from scratch whose names are these signals, as it is on a page that is mounted now. It is asked for with
 /// the outcomes that are known so far, until none is needed that isn't: the names that its lines read are settled, each once, in the order in
 /// which they are first read. Host formulas are asked exactly as the runs of this call ask them. Signals stay, and nothing is being evaluated
-/// before and after. Without memory graph and shelf may only be dropped.
+/// before and after. Without memory graph and shelf may only be dropped. Its clauses are those of the mounting of a page, with the tree alone in
+/// place of the page and its operations.
 ///
 /// # Errors
 ///
