@@ -128,6 +128,7 @@ line_level template.attr a p h = refl
 line_level template.choice a p h = one_deeper levels.Choice p.levels
 line_level template.other a p h = other_level p.levels h
 line_level template.loop a p h = one_deeper levels.Loop p.levels
+line_level template.attempt a p h = one_deeper levels.Choice p.levels
 line_level template.close a p h = close_level p.levels h
 
 all_stay : (p : Place) (ls : List NumberedLine) (xs : templates.Sayings) → templates.Say p ls xs

@@ -13,7 +13,9 @@ begins_block l = has_word (codes "effect") l || has_word (codes "template") l
 
 -- whether a line of a block opens a level
 unfoldable pub opens : List ℕ → Bool
-opens l = has_word (codes "effect") l || has_word (codes "when") l || has_word (codes "tag") l || has_word (codes "if") l || has_word (codes "each") l
+opens l =
+    has_word (codes "effect") l || has_word (codes "when") l || has_word (codes "tag") l || has_word (codes "if") l || has_word (codes "each") l
+    || has_word (codes "try") l
 
 -- whether a line of a block closes a level
 unfoldable pub closes : List ℕ → Bool

@@ -73,6 +73,7 @@ pub(crate) fn opens(line: &[u8]) -> bool
         || word == b"tag".as_slice()
         || word == b"if".as_slice()
         || word == b"each".as_slice()
+        || word == b"try".as_slice()
 }
 
 // Whether a line inside a block closes a level.

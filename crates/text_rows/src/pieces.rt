@@ -41,8 +41,8 @@ fn long_comment(alloc: Global) -> Result<Vec<u8>, AllocError> {
 
 #[test]
 fn reads_a_nested_block(rt: HostRuntime) {
-    let script = b"template t\n  tag p\n    text a\n  end\nend\nflush\n";
-    assert!(rt; shape(rt.alloc(), script) == Ok(Some((true, 5, 40, 6))));
+    let script = b"template t\n  tag p\n    text a\n  end\n  try\n  else\n  end\nend\nflush\n";
+    assert!(rt; shape(rt.alloc(), script) == Ok(Some((true, 8, 59, 9))));
 }
 
 #[test]

@@ -179,6 +179,15 @@ if_step p d n f (i ∷ q ∷ qs) some h = (
   other_lines p.levels (suc d) (model.choice f i.lines i.others q.lines) q qs some (λ k. (h.1.0.0, h.1.0.1 refl, k)) h.1.2,
 )
 
+try_step : (p : Place) (d n : ℕ) (parts : List model.Part) → (content_at p.levels ≡ content.Nothing → ⊥) →
+    FitFrom (among (level.Choice ∷ p.levels)) d parts → Stepped p (suc d) n (line.Plain mark.Try) parts
+try_step p d n [] some h = absurd h
+try_step p d n (i ∷ []) some h = absurd h.1
+try_step p d n (i ∷ q ∷ qs) some h = (
+  none_wait p.in_tag p.attributes q.attributes h.1.1,
+  other_lines p.levels (suc d) (model.attempt i.lines i.others q.lines) q qs some (λ k. (h.1.0.0, h.1.0.1 refl, k)) h.1.2,
+)
+
 each_step : (p : Place) (d n : ℕ) (f : Tree) (parts : List model.Part) → (content_at p.levels ≡ content.Nothing → ⊥) → in_loop p.levels ≡ false →
     FitFrom (among (level.Loop ∷ p.levels)) d parts → Stepped p (suc d) n (line.Over purpose.Each f) parts
 each_step p d n f [] some alone h = absurd h
@@ -232,6 +241,10 @@ stepped g p d n (line.Over purpose.If f) bare parts room fit inside flat good re
     let e = deeper p.levels d room flat in
     subst (λ x. Stepped p x n (line.Over purpose.If (g f)) parts) (sym e.1)
     (if_step p e.0 n (g f) parts (some_children (content_at p.levels) bare (begins level.Choice) refl inside) (rest e.0 e.2))
+stepped g p d n (line.Plain mark.Try) bare parts room fit inside flat good rest =
+    let e = deeper p.levels d room flat in
+    subst (λ x. Stepped p x n (line.Plain mark.Try) parts) (sym e.1)
+    (try_step p e.0 n parts (some_children (content_at p.levels) bare (begins level.Choice) refl inside) (rest e.0 e.2))
 stepped g p d n (line.Plain mark.Else) bare parts room fit inside flat good rest = else_any p.levels p.in_tag p.attributes d n parts fit room rest
 stepped g p d n (line.Over purpose.Each f) bare parts room fit inside flat good rest =
     let both = or_parts (in_loop p.levels) (nat_lt 32 (length p.levels + 2)) flat in

@@ -17,6 +17,7 @@ use Rattle.tpl_blocks.specs.declared.builder.Part.{Part}
 -- a line without a formula, as a line of the model
 abbrev pub mark_line : Mark → model.Line
 mark_line (mark.Tag n) = model.TagLine n
+mark_line mark.Try = model.TryLine
 mark_line mark.Else = model.ElseLine
 mark_line mark.End = model.EndLine
 
@@ -48,6 +49,7 @@ block (held_block.Tag' n name attributes p inner q rest) =
     model.tag n name (waiting attributes.items) (block inner) (block rest)
 block (held_block.Choice' f p one q other r rest) = model.choice (tree f) (block one) (block other) (block rest)
 block (held_block.Each' f p inner q rest) = model.each (tree f) (block inner) (block rest)
+block (held_block.Attempt' p first q second r rest) = model.attempt (block first) (block second) (block rest)
 
 -- ---- as the code holds them
 

@@ -17,4 +17,6 @@ pub enum Block {
     Choice(Formula, Box<Block>, Box<Block>, Box<Block>),
     /// Rows, what is shown for each of them, and the lines after it.
     Each(Formula, Box<Block>, Box<Block>),
+    /// What is shown unless it meets a fault, what is shown in its place where it does, and the lines after it.
+    Attempt(Box<Block>, Box<Block>, Box<Block>),
 }

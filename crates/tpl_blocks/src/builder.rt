@@ -124,6 +124,18 @@ fn each_block(
     boxed(alloc, Block::Each(rows, inner, rest))
 }
 
+// Lines that are shown unless they meet a fault, and others that are then shown in their place, before other lines.
+fn attempt_block(
+    alloc: Global,
+    first: Box<Block>,
+    second: Box<Block>,
+    rest: Box<Block>,
+) -> Result<Box<Block>, NoMemory>
+    ensures { IfOk result (λ b. block b.value ≡ model.attempt (block first.value) (block second.value) (block rest.value)) }
+{
+    boxed(alloc, Block::Attempt(first, second, rest))
+}
+
 // A text before the lines of a part.
 fn with_text(alloc: Global, part: Part, line: usize, formula: &Formula) -> Result<Part, NoMemory>
     ensures { IfOk result (λ p. part_of p ∷ [] ≡ model.with_line line (model.TextLine (tree formula.now)) (part_of part ∷ [])) }
@@ -259,6 +271,28 @@ fn with_each(alloc: Global, inner: Part, part: Part, rows: &Formula) -> Result<P
     })
 }
 
+// A part unless it meets a fault, and what stands after its `else` in its place, before the lines of the one around it.
+fn with_attempt(alloc: Global, inner: Part, part: Part) -> Result<Part, NoMemory>
+    ensures { IfOk result (λ p. (n : ℕ) → part_of p ∷ [] ≡ model.with_line n model.TryLine (part_of inner ∷ part_of part ∷ [])) }
+{
+    let Part {
+        lines: first,
+        others: second,
+        attributes: _none,
+    } = inner;
+    let Part {
+        lines,
+        others,
+        attributes,
+    } = part;
+    let lines = attempt_block(alloc, first, second, lines)?;
+    Ok(Part {
+        lines,
+        others,
+        attributes,
+    })
+}
+
 // Where something is begun: the lines before an `else` are still to come, and those behind it stand apart.
 fn with_else(alloc: Global, part: Part) -> Result<Part, NoMemory>
     ensures { IfOk result (λ p. (n : ℕ) → part_of p ∷ [] ≡ model.with_line n model.ElseLine (part_of part ∷ [])) }
@@ -357,6 +391,18 @@ fn put_each(
     Ok(())
 }
 
+// The innermost part, or in its place what stands after its `else`.
+fn put_attempt(alloc: Global, parts: &mut Vec<Part>, line: usize) -> Result<(), NoMemory>
+    ensures { OnOk result (held parts.new.items ≡ model.with_line line model.TryLine (held parts.old.items)) }
+{
+    let Some((inner, part)) = two_innermost(parts) else {
+        return Ok(());
+    };
+    let part = with_attempt(alloc, inner, part)?;
+    open(parts, part)?;
+    Ok(())
+}
+
 // What stands after an `else`, apart from what stands before it.
 fn put_else(alloc: Global, parts: &mut Vec<Part>, line: usize) -> Result<(), NoMemory>
     ensures { OnOk result (held parts.new.items ≡ model.with_line line model.ElseLine (held parts.old.items)) }
@@ -389,6 +435,7 @@ fn put_mark(
 {
     match mark {
         Mark::Tag(name) => put_tag(alloc, parts, ordinal, name),
+        Mark::Try => put_attempt(alloc, parts, ordinal),
         Mark::Else => put_else(alloc, parts, ordinal),
         Mark::End => put_end(alloc, parts),
     }

@@ -20,11 +20,12 @@ pub data Row : Type 0 where
   choice : Row
   other : Row
   loop : Row
+  attempt : Row
   close : Row
 
 -- all rows
 abbrev pub all_rows : List Row
-all_rows = text ∷ tag ∷ attr ∷ choice ∷ other ∷ loop ∷ close ∷ []
+all_rows = text ∷ tag ∷ attr ∷ choice ∷ other ∷ loop ∷ attempt ∷ close ∷ []
 
 -- a name behind @
 abbrev NAME : Piece
@@ -56,6 +57,7 @@ entry attr = record { word = codes "attr"; form = NAME ∷ FORMULA ∷ []; makes
 entry choice = over (codes "if") purpose.If
 entry other = alone (codes "else") mark.Else
 entry loop = over (codes "each") purpose.Each
+entry attempt = alone (codes "try") mark.Try
 entry close = alone (codes "end") mark.End
 
 -- the first word of a row, and what follows it

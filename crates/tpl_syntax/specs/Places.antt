@@ -32,6 +32,7 @@ pub data Role : Type 0 where
 -- what a line without a formula is
 abbrev pub mark_role : Mark → Role
 mark_role (mark.Tag n) = begins (level.Element (content_of n))
+mark_role mark.Try = begins level.Choice
 mark_role mark.Else = turns
 mark_role mark.End = ends
 
@@ -109,8 +110,8 @@ abbrev pub is_element : Level → Bool
 is_element (level.Element c) = true
 is_element _ = false
 
--- Whether a line may stand there: an attribute right behind a tag and other attributes, once of each name; an `else` in an `if` that
--- has none; an `end` where something is begun.
+-- Whether a line may stand there: an attribute right behind a tag and other attributes, once of each name; an `else` in an `if` or a
+-- `try` that has none; an `end` where something is begun.
 abbrev pub stands : Place → Role → Bool
 stands p (attribute n) = p.in_tag && not (list_any (λ m. bytes_eq m n) p.attributes)
 stands p turns = is_choice p.levels

@@ -9,12 +9,13 @@ use Rattle.tpl_syntax.specs.declared.line.Line.{Line}
 use Rattle.tpl_syntax.specs.declared.line.Line.TheVariants as line
 use Rattle.tpl_syntax.specs.declared.line.Mark.TheVariants as mark
 use Rattle.tpl_syntax.specs.declared.line.Purpose.TheVariants as purpose
-use Rattle.tpl_syntax.specs.Grammar.{templates, Said, text, tag, attr, choice, other, loop, close}
+use Rattle.tpl_syntax.specs.Grammar.{templates, Said, text, tag, attr, choice, other, loop, attempt, close}
 use Rattle.tpl_syntax.specs.Lines.{Plan, mapped}
 
 -- what a line says
 abbrev pub said_of : Line Draft → Said
 said_of (line.Plain (mark.Tag n)) = (tag, (n, tt))
+said_of (line.Plain mark.Try) = (attempt, tt)
 said_of (line.Plain mark.Else) = (other, tt)
 said_of (line.Plain mark.End) = (close, tt)
 said_of (line.Over purpose.Text f) = (text, (f, tt))

@@ -17,7 +17,9 @@ pub enum Line<F> {
 pub enum Mark {
     /// `tag @NAME` begins an element.
     Tag(Text),
-    /// `else` begins what is shown where a test is false.
+    /// `try` begins what is shown unless it meets a fault.
+    Try,
+    /// `else` begins what is shown where a test is false, or where what is tried meets a fault.
     Else,
     /// `end` ends the innermost of what is begun.
     End,

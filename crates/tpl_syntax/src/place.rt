@@ -104,6 +104,7 @@ fn mark_role(mark: &Mark) -> Role<'_>
 {
     match mark {
         Mark::Tag(name) => Role::Begins(Level::Element(content_of(name.as_str()))),
+        Mark::Try => Role::Begins(Level::Choice),
         Mark::Else => Role::Turns,
         Mark::End => Role::Ends,
     }

@@ -209,6 +209,7 @@ fn behind_word(
         "attr" => attribute(alloc, line, tokens, allow),
         "if" => over(alloc, line, tokens, allow, Purpose::If),
         "else" => Ok(alone(tokens, Mark::Else)?),
+        "try" => Ok(alone(tokens, Mark::Try)?),
         "each" => over(alloc, line, tokens, allow, Purpose::Each),
         "end" => Ok(alone(tokens, Mark::End)?),
         _ => Err(Unread::NotThere),

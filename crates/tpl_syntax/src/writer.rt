@@ -76,6 +76,7 @@ fn put_mark(out: &mut Vec<u8>, mark: &Mark) -> Result<(), NoMemory>
 {
     match mark {
         Mark::Tag(name) => put_element(out, name),
+        Mark::Try => put_word(out, b"try"),
         Mark::Else => put_word(out, b"else"),
         Mark::End => put_word(out, b"end"),
     }
