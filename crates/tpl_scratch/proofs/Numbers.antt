@@ -79,6 +79,12 @@ side_more [] s = after_none (sub_tree s)
 side_more (x ∷ xs) s =
     ap (λ t. after (sub_tree x) t) (side_more xs s) ∙ sym (after_after (sub_tree x) (side_by_side (map sub_tree xs)) (sub_tree s))
 
+-- more subtrees
+pub side_append : (subs more : List Sub) → side_by_side (map sub_tree (subs ++ more)) ≡ after (side_by_side (map sub_tree subs)) (side_by_side (map sub_tree more))
+side_append [] more = refl
+side_append (x ∷ xs) more =
+    ap (λ t. after (sub_tree x) t) (side_append xs more) ∙ sym (after_after (sub_tree x) (side_by_side (map sub_tree xs)) (side_by_side (map sub_tree more)))
+
 -- a subtree is appended
 pub pushed : (subs now : List Sub) (s : Sub) (t : Forest Kind) (next : ℕ) → now ≡ subs ++ s ∷ [] → sub_tree s ≡ t →
     made (side_by_side (map sub_tree now)) next ≡ made (after (side_by_side (map sub_tree subs)) t) next

@@ -1,5 +1,5 @@
 -- A page that is made on the outcomes that are known.
-use Rattle.std.specs.Prelude.{◌≡◌, ℕ, ◌+◌, not, Bool, true, false, List, length, map, slice_get, Option, Some, None, option_map}
+use Rattle.std.specs.Prelude.{◌≡◌, ℕ, ◌+◌, ◌&&◌, not, Bool, true, false, List, [], ◌++◌, length, map, slice_get, Option, Some, None, option_map}
 use Rattle.sig_base.specs.Tables.{Table}
 use Rattle.sig_base.specs.declared.rows.Row.{Row}
 use Rattle.sig_base.specs.declared.value.Outcome.{Outcome}
@@ -15,13 +15,14 @@ use Rattle.signal_model.specs.Sound.{names_of}
 use Rattle.signal_model.specs.Values.{Evaluation}
 use Rattle.page_model.specs.Forest.{Forest, node, none, after, keys}
 use Rattle.page_model.specs.Addresses.{address}
-use Rattle.page_model.specs.Labels.{Text, Element, Kind, Look, present, shown}
+use Rattle.page_model.specs.Labels.{Text, Element, Kind, Look, present, shown, with_value}
 use Rattle.page_tree.specs.Subs.{side_by_side, sub_tree}
 use Rattle.tpl_model.specs.Lines.{Block}
-use Rattle.tpl_model.specs.Shapes.{Evaluating, Here, Showing, attributes_of, attributes_told, key_here, node_text, nothing, row_here}
-use Rattle.tpl_model.specs.Shapes.{rows_from, shown_block, then_shown, formula_shown, within}
+use Rattle.tpl_model.specs.Shapes.{Evaluating, Here, Showing, attribute_value, attributes_of, attributes_told, key_here, node_text, nothing, row_here}
+use Rattle.tpl_model.specs.Shapes.{attempted, is_fault, rows_from, shown_block, then_shown, formula_shown, within}
 use Rattle.tpl_model.specs.Sources.{counted, first_missing, in_order, on_known}
 use Rattle.tpl_scratch.specs.declared.nodes.Nodes.{Nodes}
+use Rattle.tpl_scratch.specs.declared.show.Attributes.{Attributes}
 use Rattle.tpl_scratch.specs.declared.show.Branches.{Branches}
 use Rattle.tpl_scratch.specs.declared.stop.Stop.{Stop}
 use Rattle.tpl_scratch.specs.declared.stop.Stop.TheVariants as stop
@@ -71,10 +72,25 @@ abbrev pub with_node : Numbered → List ℕ → List (List ℕ × List ℕ) →
 with_node n name attributes children =
     record { nodes = after n.nodes (node n.next (Element name attributes) children.nodes none); next = children.next }
 
--- all that is read for these nodes is known, and they are added
-pub record Shows (known : List (Option Outcome)) (x : Showing) (before now : Numbered) : Type 0 where
+-- no nodes, where the next ones have the same numbers
+abbrev pub beside : Numbered → Numbered
+beside n = record { nodes = none; next = n.next }
+
+-- with nodes behind them that were made beside them
+abbrev pub with_all : Numbered → Numbered → Numbered
+with_all n more = record { nodes = after n.nodes more.nodes; next = more.next }
+
+-- with nodes behind them that were made beside them, unless these ended
+abbrev pub unless_ended : Bool → Numbered → Numbered → Numbered
+unless_ended true n more = n
+unless_ended false n more = with_all n more
+
+-- All that is read for these nodes is known, whether a line met a fault is told, and the nodes are added, unless showing ended at a fault: then
+-- those that were added are of no use.
+pub record Shows (known : List (Option Outcome)) (ends : Bool) (x : Showing) (before now : Numbered) (failed : Bool) : Type 0 where
   pub reads : first_missing known x.reads ≡ None
-  pub nodes : now ≡ with_nodes before x.nodes
+  pub fault : failed ≡ x.failed
+  pub nodes : (ends && failed) ≡ false → now ≡ with_nodes before x.nodes
 
 -- ---- parts of what lines show
 
@@ -82,11 +98,18 @@ pub record Shows (known : List (Option Outcome)) (x : Showing) (before now : Num
 abbrev pub attributes_in : List (List ℕ × Formula) → List (List ℕ × Tree)
 attributes_in xs = map (λ (a : List ℕ × Formula). (a.0, tree a.1)) xs
 
--- all that attributes read is known, and these are present
-pub record HasAttributes (known : List (Option Outcome)) (row : Option RowRef) (xs : List (List ℕ × Tree))
-    (found : List (List ℕ × List ℕ)) : Type 0 where
-  pub reads : first_missing known (attributes_told false (on_known known) row xs).reads ≡ None
-  pub values : found ≡ present (attributes_of (on_known known) row xs)
+-- all that attributes read is known, whether one met a fault is told, and these are present, unless showing ended at a fault
+pub record HasAttributes (known : List (Option Outcome)) (ends : Bool) (row : Option RowRef) (xs : List (List ℕ × Tree)) (found : Attributes) : Type 0 where
+  pub told : (n : Numbered) → Shows known ends (attributes_told ends (on_known known) row xs) n n found.failed
+  pub values : (ends && found.failed) ≡ false → found.values.items ≡ present (attributes_of (on_known known) row xs)
+
+-- a formula came to this, and its attribute was put behind others where it is present
+pub record PutsAttribute (known : List (Option Outcome)) (row : Option RowRef) (name : List ℕ) (f : Tree) (before now : List (List ℕ × List ℕ))
+    (failed : Bool) : Type 0 where
+  pub outcome : Outcome
+  pub found : IsFound known (on_known known row f) outcome
+  pub put : now ≡ before ++ with_value name (attribute_value outcome) []
+  pub fault : failed ≡ is_fault outcome
 
 -- a text
 abbrev pub text_shown : Evaluating → Option Here → ℕ → Tree → Showing
@@ -95,10 +118,10 @@ text_shown evaluate here n f =
     formula_shown e (node (address n (key_here here)) (Text (node_text e.outcome)) none none)
 
 -- an element
-abbrev pub element_shown : Evaluating → Option Here → ℕ → List ℕ → List (List ℕ × Tree) → Block → Showing
-element_shown evaluate here n name attributes inner =
+abbrev pub element_shown : Evaluating → Bool → Option Here → ℕ → List ℕ → List (List ℕ × Tree) → Block → Showing
+element_shown evaluate ends here n name attributes inner =
     within (address n (key_here here)) (Element name (attributes_of evaluate (row_here here) attributes))
-    (then_shown false (attributes_told false evaluate (row_here here) attributes) (shown_block evaluate false here inner))
+    (then_shown ends (attributes_told ends evaluate (row_here here) attributes) (shown_block evaluate ends here inner))
 
 -- whether an outcome shows a branch, the first or the other
 abbrev pub shows_branch : Outcome → Bool → Bool
@@ -112,15 +135,16 @@ pub record AreBranches (known : List (Option Outcome)) (e : Evaluation) (b : Bra
   pub found : IsFound known e outcome
   pub one : b.one ≡ shows_branch outcome true
   pub other : b.other ≡ shows_branch outcome false
+  pub failed : b.failed ≡ is_fault outcome
 
 -- lines, or nothing
-abbrev pub shown_where : Evaluating → Option Here → Bool → Block → Showing
-shown_where evaluate here true lines = shown_block evaluate false here lines
-shown_where evaluate here false lines = nothing
+abbrev pub shown_where : Evaluating → Bool → Option Here → Bool → Block → Showing
+shown_where evaluate ends here true lines = shown_block evaluate ends here lines
+shown_where evaluate ends here false lines = nothing
 
 -- lines for rows from a place on
-abbrev pub rows_shown : Evaluating → Block → Table → ℕ → List Row → Showing
-rows_shown evaluate inner t i rs = rows_from false (λ h. shown_block evaluate false (Some h) inner) t i rs
+abbrev pub rows_shown : Evaluating → Bool → Block → Table → ℕ → List Row → Showing
+rows_shown evaluate ends inner t i rs = rows_from ends (λ h. shown_block evaluate ends (Some h) inner) t i rs
 
 -- the rows that an outcome is
 abbrev pub rows_of : Outcome → Option Table
@@ -128,9 +152,14 @@ rows_of (Good (value.Rows t)) = Some t
 rows_of _ = None
 
 -- lines for each row, where there are rows
-abbrev pub each_shown : Evaluating → Option Table → Block → Showing
-each_shown evaluate None inner = nothing
-each_shown evaluate (Some t) inner = rows_shown evaluate inner t 0 t.rows
+abbrev pub each_shown : Evaluating → Bool → Option Table → Block → Showing
+each_shown evaluate ends None inner = nothing
+each_shown evaluate ends (Some t) inner = rows_shown evaluate ends inner t 0 t.rows
+
+-- lines unless they meet a fault, and otherwise others
+abbrev pub attempt_shown : Evaluating → Bool → Option Here → Block → Block → Showing
+attempt_shown evaluate ends here first second =
+    attempted (shown_block evaluate true here first) (shown_block evaluate ends here second)
 
 -- the row at a place
 abbrev pub IsHere : Table → ℕ → Here → Type 0

@@ -3,7 +3,7 @@ ghost use Rattle.std.specs.Prelude.{◌≡◌, ◌+◌, map, IfOk, OnOk};
 ghost use Rattle.page_model.specs.Forest.{after, node, none};
 ghost use Rattle.page_model.specs.Labels as label;
 ghost use Rattle.page_tree.specs.Subs.{side_by_side, sub_tree};
-ghost use Rattle.tpl_scratch.specs.Pages.{nodes_of, with_nodes};
+ghost use Rattle.tpl_scratch.specs.Pages.{beside, nodes_of, with_all, with_nodes};
 
 use page_tree::Sub;
 use sig_base::{NoMemory, Text};
@@ -53,6 +53,27 @@ impl Nodes {
         let next = following(number)?;
         self.next = next;
         self.push(Sub::Text(number, text))?;
+        Ok(())
+    }
+
+    /// No nodes so far, under the next numbers, of which it isn't known yet whether they are shown.
+    pub(crate) fn beside(&self, alloc: Global) -> Nodes
+        ensures { nodes_of result ≡ beside (nodes_of self.now) }
+    {
+        Nodes {
+            subs: Vec::new(alloc),
+            next: self.next,
+        }
+    }
+
+    /// Appends nodes that were made beside these.
+    pub(crate) fn put_all(&mut self, more: Nodes) -> Result<(), NoMemory>
+        ensures { OnOk result (nodes_of self.new ≡ with_all (nodes_of self.old) (nodes_of more)) }
+    {
+        let Nodes { subs, next } = more;
+        let mut subs = subs;
+        self.subs.append(&mut subs)?;
+        self.next = next;
         Ok(())
     }
 

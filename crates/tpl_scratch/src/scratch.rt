@@ -23,12 +23,12 @@ pub enum ScratchStep {
 }
 
 // What was made, or the name that stopped it.
-fn step_of(shown: Result<(), Stop>, out: Nodes) -> Result<ScratchStep, NoMemory>
+fn step_of(shown: Result<bool, Stop>, out: Nodes) -> Result<ScratchStep, NoMemory>
     ensures { IfOk result (λ s. Comes shown (nodes_of out) s) }
 {
     let Nodes { subs, next: _next } = out;
     match shown {
-        Ok(()) => Ok(ScratchStep::Page(subs)),
+        Ok(_) => Ok(ScratchStep::Page(subs)),
         Err(Stop::Ask(name)) => Ok(ScratchStep::Ask(name)),
         Err(Stop::NoMemory) => Err(NoMemory),
     }
@@ -36,7 +36,7 @@ fn step_of(shown: Result<(), Stop>, out: Nodes) -> Result<ScratchStep, NoMemory>
 
 /// What a template shows where some outcomes of its names are known, each at the place of its name: the page, or the name that is needed
 /// first, in document order, and isn't known. Attributes are read before children, of a choice the test and then one branch, and the lines of
-/// a loop once for each row. Nothing is read that isn't needed, so a caller who learns each name that is asked for, in turn, settles the names
+/// a loop once for each row; of what is tried the first part, up to the first line that meets a fault, and then the second. Nothing is read that isn't needed, so a caller who learns each name that is asked for, in turn, settles the names
 /// that the template reads and no others.
 ///
 /// # Errors
@@ -52,7 +52,7 @@ pub fn page_from_scratch(
     let block = block_of(alloc, template)?;
     let lines = Box::new(alloc, block)?;
     let mut out = Nodes::new(alloc);
-    let shown = show(alloc, &lines, None, known, &mut out);
+    let shown = show(alloc, &lines, false, None, known, &mut out);
     let step = step_of(shown, out)?;
     Ok(step)
 }

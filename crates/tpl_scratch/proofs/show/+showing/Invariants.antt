@@ -6,4 +6,4 @@ use Rattle.tpl_scratch.proofs.show.+showing.Given as goal
 
 abbrev pub invariant-show_rows-loop-place : goal.invariant-show_rows-loop-place
 invariant-show_rows-loop-place l =
-    RowsLeft l.known (block l.inner) l.rows (nodes_of l.initial.out) (nodes_of l.out) l.place (drop l.place l.rows.rows)
+    RowsLeft l.known l.ends (block l.inner) l.rows (nodes_of l.initial.out) (nodes_of l.out) l.place (drop l.place l.rows.rows) l.failed

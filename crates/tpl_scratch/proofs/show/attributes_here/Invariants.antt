@@ -7,4 +7,4 @@ use Rattle.tpl_scratch.proofs.show.attributes_here.Given as goal
 
 abbrev pub invariant-loop-attribute : goal.invariant-loop-attribute
 invariant-loop-attribute l =
-    AreLeft l.known (row_here (option_copied l.here)) (attributes_in l.attributes) (attributes_in (drop l.attribute-index l.attributes)) l.values.items
+    AreLeft l.known l.ends (row_here (option_copied l.here)) (attributes_in l.attributes) (attributes_in (drop l.attribute-index l.attributes)) l.values.items l.failed
