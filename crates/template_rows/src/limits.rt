@@ -8,9 +8,9 @@ fn is_read(alloc: Global, block: &[u8]) -> bool {
     matches!(read(alloc, block), Some(Ok(_)))
 }
 
-// So many elements, each in the one before, and a text in the last.
-fn nested(alloc: Global, levels: usize) -> Result<Vec<u8>, AllocError> {
-    let front = repeated(alloc, b"", b"tag @b\n", levels, b"text a\n")?;
+// So many parts that this line begins, each in the one before, and a text in the last.
+fn nested(alloc: Global, line: &[u8], levels: usize) -> Result<Vec<u8>, AllocError> {
+    let front = repeated(alloc, b"", line, levels, b"text a\n")?;
     repeated(alloc, &front, b"end\n", levels, b"")
 }
 
@@ -48,8 +48,10 @@ fn refuses(alloc: Global, made: Result<Vec<u8>, AllocError>, at: usize, why: Tem
 #[test]
 fn thirty_two_levels(rt: HostRuntime) {
     let alloc = rt.alloc();
-    assert!(rt; reads(alloc, nested(alloc, 31)));
-    assert!(rt; refuses(alloc, nested(alloc, 32), 31, TemplateWhy::Nest));
+    assert!(rt; reads(alloc, nested(alloc, b"tag @b\n", 31)));
+    assert!(rt; refuses(alloc, nested(alloc, b"tag @b\n", 32), 31, TemplateWhy::Nest));
+    assert!(rt; reads(alloc, nested(alloc, b"try\n", 31)));
+    assert!(rt; refuses(alloc, nested(alloc, b"try\n", 32), 31, TemplateWhy::Nest));
 }
 
 #[test]

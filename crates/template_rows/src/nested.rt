@@ -41,6 +41,27 @@ fn assert_nested(rt: &impl Abort, block: &Block) {
     assert_choice(rt, &**inner);
 }
 
+fn assert_attempt(rt: &impl Abort, block: &Block) {
+    let Block::Attempt(first, second, behind) = block else {
+        assert!(rt; false);
+        return;
+    };
+    assert!(rt; matches!(&**first, Block::Attempt(..)));
+    assert!(rt; matches!(&**second, Block::Text(7, ..)));
+    assert!(rt; matches!(&**behind, Block::Text(9, ..)));
+}
+
+#[test]
+fn what_is_tried_has_two_parts(rt: HostRuntime) -> Result<(), NoMemory> {
+    let lines = "try\ntry\ntext a\nend\ntext b\nelse\ntext c\nend\ntext d\n";
+    let Some(block) = nested(rt.alloc(), lines)? else {
+        assert!(rt; false);
+        return Ok(());
+    };
+    assert_attempt(&rt, &block);
+    Ok(())
+}
+
 #[test]
 fn lines_nest_by_their_ends(rt: HostRuntime) -> Result<(), NoMemory> {
     let lines = "tag @p\nattr @class \"x\"\nif a\ntext 1\nelse\ntext 2\nend\nend\n";

@@ -24,7 +24,8 @@ fn lines_outside_the_grammar(rt: HostRuntime) {
         ("tag @p\ntag q\nend\nend\n", 1, TemplateWhy::Syntax),
         ("text a\ntag @P\nend\n", 1, TemplateWhy::Syntax),
         ("text a\nwhen a\nend\n", 1, TemplateWhy::Syntax),
-        ("text a\ntry\ntext a\nend\n", 1, TemplateWhy::Syntax),
+        ("text a\ntry a\ntext a\nend\n", 1, TemplateWhy::Syntax),
+        ("text a\nattempt\ntext a\nend\n", 1, TemplateWhy::Syntax),
         ("text a\nset a 1\ntext b\n", 1, TemplateWhy::Syntax),
         (
             "# one\n\n tag @p\r\n  # two\n attr p 1\nend\n",
@@ -46,6 +47,10 @@ fn lines_where_they_may_not_stand(rt: HostRuntime) {
             TemplateWhy::Syntax,
         ),
         ("if a\ntext a\nelse\nelse\nend\n", 3, TemplateWhy::Syntax),
+        ("try\ntext a\nelse\nelse\nend\n", 3, TemplateWhy::Syntax),
+        ("try\ntag @p\nelse\nend\nend\n", 2, TemplateWhy::Syntax),
+        ("try\nattr @x 1\nend\n", 1, TemplateWhy::Syntax),
+        ("text a\ntry\ntext b\n", 2, TemplateWhy::Syntax),
         ("each l\nelse\nend\n", 1, TemplateWhy::Syntax),
         ("if a\ntag @p\nelse\nend\nend\n", 2, TemplateWhy::Syntax),
         ("text a\nend\ntext b\n", 1, TemplateWhy::Syntax),
@@ -86,6 +91,7 @@ fn children_that_an_element_may_not_have(rt: HostRuntime) {
         ),
         ("tag @hr\ntag @p\nend\nend\n", 1, TemplateWhy::VoidChild),
         ("tag @keygen\neach l\nend\nend\n", 1, TemplateWhy::VoidChild),
+        ("tag @br\ntry\nend\nend\n", 1, TemplateWhy::VoidChild),
         (
             "tag @br\ntext untrack(a)\nend\n",
             1,
@@ -103,6 +109,7 @@ fn children_that_an_element_may_not_have(rt: HostRuntime) {
             TemplateWhy::RawText,
         ),
         ("tag @xmp\nif a\nend\nend\n", 1, TemplateWhy::RawText),
+        ("tag @style\ntry\nend\nend\n", 1, TemplateWhy::RawText),
         ("tag @plaintext\ntext 1\nend\n", 1, TemplateWhy::RawText),
     ];
     assert!(rt; all_refused(rt.alloc(), &rows));
@@ -114,6 +121,11 @@ fn what_is_refused_first(rt: HostRuntime) {
         ("text untrack(a)\ntext )\n", 1, TemplateWhy::Syntax),
         ("text it.x\ntext untrack(a)\n", 0, TemplateWhy::ItHere),
         ("each l\neach it.m\nend\nend\n", 1, TemplateWhy::Nest),
+        (
+            "each l\ntry\nelse\neach m\nend\nend\nend\n",
+            3,
+            TemplateWhy::Nest,
+        ),
         (
             "each l\nif a\neach it.m + untrack(a)\nend\nend\nend\n",
             2,

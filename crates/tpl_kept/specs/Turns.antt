@@ -6,12 +6,12 @@ use Rattle.sig_base.specs.declared.value.Fault.TheVariants.{Gone}
 use Rattle.sig_base.specs.declared.value.Outcome.{Outcome}
 use Rattle.sig_base.specs.declared.value.Outcome.TheVariants.{Bad}
 use Rattle.sig_formula.specs.declared.formula.RowRef.{RowRef}
-use Rattle.tpl_model.specs.Lines.{Block, empty, text, tag, choice, each}
+use Rattle.tpl_model.specs.Lines.{Block, empty, text, tag, choice, each, attempt}
 use Rattle.tpl_model.specs.Sources.{same_here}
 use Rattle.tpl_hearing.specs.Heard.{Grows, Outcomes}
 use Rattle.tpl_model.specs.KeptLines.Kept.{heard_of, kept}
-use Rattle.tpl_model.specs.PageUpdates.PageMemos.{PageMemo, unread, names}
-use Rattle.tpl_model.specs.KeptLines.Memos.{Makes, branch_memo, lines_memo, loop_memo, rows_in, table_in, truth_in}
+use Rattle.tpl_model.specs.PageUpdates.PageMemos.{PageMemo, unread, blank, either, names}
+use Rattle.tpl_model.specs.KeptLines.Memos.{Makes, attempt_memo, branch_memo, lines_memo, loop_memo, rows_in, table_in, truth_in}
 use Rattle.tpl_model.specs.KeptLines.Before.{WasListened, WasListenedAll, WasMade}
 use Rattle.tpl_model.specs.KeptLines.Changes.{keys_in}
 use Rattle.tpl_kept.specs.Renewals.{WasMadeIfRead, AreChanged, SlotsWere, is_unread}
@@ -50,6 +50,14 @@ outcome_of (head.Choice h) = h.outcome
 outcome_of (head.Each h) = h.outcome
 outcome_of h = Bad Gone
 
+-- what was kept of both parts of what is tried
+abbrev pub WasTried : Block → Block → List ℕ → Option RowRef → Outcomes → PageMemo → PageMemo → Type 0
+WasTried first second links row before x y = WasMade (attempt_memo false first second) links row before (either x y blank)
+
+abbrev pub IsWasTried : Block → Block → List ℕ → Option RowRef → Outcomes → Head → Type 0
+IsWasTried first second links row before (head.Attempt x y) = WasTried first second links row before (kept x.value) (kept y.value)
+IsWasTried first second links row before h = ⊥
+
 -- what was heard of the first of some lines
 abbrev pub WasOpened : Block → List ℕ → Option RowRef → Outcomes → Head → Type 0
 WasOpened empty links row before h = Unit {0}
@@ -57,6 +65,7 @@ WasOpened (text n f rest) links row before (head.Text x) = WasListened f links r
 WasOpened (tag n name xs inner rest) links row before (head.Tag all) = WasListenedAll xs links row before (map heard_of all.items)
 WasOpened (choice f one other rest) links row before (head.Choice x) = WasListened f links row before (heard_of x)
 WasOpened (each f inner rest) links row before (head.Each x) = WasListened f links row before (heard_of x)
+WasOpened (attempt first second rest) links row before h = IsWasTried first second links row before h
 WasOpened b links row before h = ⊥
 
 -- what was kept inside it, where it came to that
@@ -72,6 +81,7 @@ WasBehind (text n f rest) links row before m = WasMade (lines_memo rest) links r
 WasBehind (tag n name xs inner rest) links row before m = WasMade (lines_memo rest) links row before m
 WasBehind (choice f one other rest) links row before m = WasMade (lines_memo rest) links row before m
 WasBehind (each f inner rest) links row before m = WasMade (lines_memo rest) links row before m
+WasBehind (attempt first second rest) links row before m = WasMade (lines_memo rest) links row before m
 WasBehind b links row before m = Unit {0}
 
 -- ---- what was kept of the same rows
@@ -112,12 +122,12 @@ IsSame was h heard same = same ≡ heard
 -- where the lines inside the first line are gone over; nowhere where all stays whole
 abbrev pub places_of : First → Option RowRef → List (Option RowRef)
 places_of (start.Whole x) row = []
-places_of (start.Line h) row = places_in h row
+places_of (start.Line h) row = places_in false h row
 
 -- where the lines behind it are gone over
 abbrev pub behind_of : First → Option RowRef → List (Option RowRef)
 behind_of (start.Whole x) row = []
-behind_of (start.Line h) row = behind h row
+behind_of (start.Line h) row = behind false h row
 
 -- whether the first branch of a choice is shown
 abbrev pub shows_of : First → Bool
@@ -136,10 +146,10 @@ pub record OpensAgain (b : Block) (links : List ℕ) (row : Option RowRef) (befo
   pub mid : Outcomes
   pub was : WasMade (lines_memo b) links row before memo
   pub changed : AreChanged before (names memo) earlier mid
-  pub opens : Opens b links row mid now h
+  pub opens : Opens false b links row mid now h
   pub grows : Grows mid now
-  pub inside_was : WereEach (inner_in b (shows_first h)) links (places_in h row) before inside
-  pub later_was : WereEach (rest_in b) links (behind h row) before later
+  pub inside_was : WereEach (inner_in b (shows_first h)) links (places_in false h row) before inside
+  pub later_was : WereEach (rest_in b) links (behind false h row) before later
 
 -- so it is, or all of them are kept whole
 abbrev pub Begins : Block → List ℕ → Option RowRef → Outcomes → Outcomes → Outcomes → First → List PageMemo → List PageMemo → Type 0

@@ -4,5 +4,6 @@ mod formulas;
 mod outcomes;
 
 pub use again::{listen_again, listen_all_again};
+pub(crate) use formulas::{is_fault, is_over};
 pub use formulas::{listen, listen_all};
 pub(crate) use outcomes::{row_at, row_count, truth_of};

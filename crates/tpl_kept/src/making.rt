@@ -2,6 +2,7 @@
 mod builder;
 mod head;
 
+pub(crate) use builder::hear_attempt;
 pub use builder::make;
 pub use head::Head;
 pub(crate) use head::{

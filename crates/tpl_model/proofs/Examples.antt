@@ -160,6 +160,12 @@ tried_flushed : edits_between tried_first tried_second
 unfolding address
 tried_flushed = refl
 
+-- and so does the part that was shown where a fault comes again
+tried_again : edits_between tried_second (updated_page tried_lines (0 ∷ []) tried_second (Bad Zero ∷ []))
+    ≡ OpRemove 2 ∷ OpInsert 0 0 4 (Text (codes "none")) none ∷ []
+unfolding address
+tried_again = refl
+
 -- two texts are attempted, and otherwise a third
 abbrev either_lines : List Line
 either_lines = TryLine ∷ TextLine (slot 0) ∷ TextLine (slot 1) ∷ ElseLine ∷ TextLine (slot 2) ∷ EndLine ∷ []

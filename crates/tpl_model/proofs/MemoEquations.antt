@@ -3,7 +3,7 @@ use Rattle.std.proofs.Common.{◌≡◌, sym, ap, ◌∙◌, map}
 use Rattle.std.specs.Box.{box_value}
 use Rattle.tpl_model.specs.PageUpdates.PageMemos as model
 use Rattle.tpl_model.specs.declared.memo.Heard.{Heard}
-use Rattle.tpl_model.specs.declared.memo.PageMemo.TheVariants.{rolls-Unread, rolls-Blank, rolls-Line, rolls-Element, rolls-Branch, rolls-Loop}
+use Rattle.tpl_model.specs.declared.memo.PageMemo.TheVariants.{rolls-Unread, rolls-Blank, rolls-Line, rolls-Element, rolls-Branch, rolls-Loop, rolls-Either}
 use Rattle.tpl_model.specs.declared.memo.PageMemo.TheVariants as memo
 use Rattle.tpl_model.specs.declared.memo.PageMemo.TheOpen.{PageMemo-F}
 use Rattle.tpl_model.specs.declared.memo.PageMemo.TheFolds.{fold-roll-PageMemo}
@@ -32,3 +32,7 @@ kept_branch h i r = ap kept (sym (rolls-Branch h i r)) ∙ fold-roll-PageMemo mo
 pub kept_loop : (h : Heard) (rows r : _) → kept (memo.Loop h rows r) ≡ model.loop (heard_of h) (rows_of h.outcome (map kept rows.items)) (kept (box_value r))
 unfolding kept
 kept_loop h rows r = ap kept (sym (rolls-Loop h rows r)) ∙ fold-roll-PageMemo model.PageMemo kept_node (PageMemo-F.Loop h rows r)
+
+pub kept_either : (a b r : _) → kept (memo.Either a b r) ≡ model.either (kept (box_value a)) (kept (box_value b)) (kept (box_value r))
+unfolding kept
+kept_either a b r = ap kept (sym (rolls-Either a b r)) ∙ fold-roll-PageMemo model.PageMemo kept_node (PageMemo-F.Either a b r)

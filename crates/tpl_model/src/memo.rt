@@ -36,6 +36,9 @@ pub enum PageMemo {
     Branch(Heard, Box<PageMemo>, Box<PageMemo>),
     /// A loop: its rows, and what is kept for each of them, in the same order.
     Loop(Heard, Vec<PageMemo>, Box<PageMemo>),
+    /// What is tried: what is kept of its first part, up to the first line that met a fault, and of its second part, which wasn't read where the
+    /// first is shown.
+    Either(Box<PageMemo>, Box<PageMemo>, Box<PageMemo>),
 }
 
 impl PageMemo {
@@ -45,6 +48,14 @@ impl PageMemo {
         ensures { kept result ≡ model.blank }
     {
         PageMemo::Blank
+    }
+
+    /// What is kept where nothing was read.
+    #[tactic(auto, using(crate::proofs::MemoEquations::kept_unread))]
+    pub fn unread() -> PageMemo
+        ensures { kept result ≡ model.unread }
+    {
+        PageMemo::Unread
     }
 
     /// A text before what is kept behind it.
@@ -112,5 +123,22 @@ impl PageMemo {
         ensures { IfOk result (λ m. kept m ≡ model.loop (heard_of rows) (rows_of rows.outcome (map kept inner.items)) (kept rest)) }
     {
         Ok(PageMemo::Loop(rows, inner, Box::new(alloc, rest)?))
+    }
+
+    /// What is tried, before what is kept behind it: what is kept of both parts.
+    ///
+    /// # Errors
+    ///
+    /// `NoMemory` alone.
+    #[tactic(auto, using(crate::proofs::MemoEquations::kept_either))]
+    pub fn either(
+        alloc: Global,
+        first: Box<PageMemo>,
+        second: Box<PageMemo>,
+        rest: PageMemo,
+    ) -> Result<PageMemo, NoMemory>
+        ensures { IfOk result (λ m. kept m ≡ model.either (kept first.value) (kept second.value) (kept rest)) }
+    {
+        Ok(PageMemo::Either(first, second, Box::new(alloc, rest)?))
     }
 }

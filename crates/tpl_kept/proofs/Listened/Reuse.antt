@@ -12,16 +12,17 @@ use Rattle.sig_formula.specs.declared.formula.RowRef.{RowRef}
 use Rattle.signal_model.specs.Signals.{is_in}
 use Rattle.signal_laws.specs.ReadLaws.{firsts_after}
 use Rattle.signal_laws.proofs.Shared.{firsts_front_law}
-use Rattle.tpl_model.specs.Lines.{Block, empty, tag}
+use Rattle.tpl_model.specs.Lines.{Block, empty, tag, attempt}
 use Rattle.tpl_model.specs.Shapes.{Here, row_here}
 use Rattle.tpl_model.specs.Sources.{evaluating}
 use Rattle.tpl_hearing.specs.Heard.{Grows, Outcomes}
 use Rattle.tpl_hearing.specs.HeardAgain.{AreAsBefore, AreSame, AreSameUpTo}
 use Rattle.tpl_hearing.proofs.Shared.{outcome_in, still_as_before}
-use Rattle.tpl_model.specs.PageUpdates.PageMemos.{Heard, Hearing, PageMemo, blank, element, hearing, all_names, all_same, attributes_heard, memo_of, names, up_to_change}
+use Rattle.tpl_model.specs.PageUpdates.PageMemos.{Heard, Hearing, PageMemo, blank, element, either, hearing, all_names, all_same, attributes_heard, memo_of, names, up_to_change}
 use Rattle.tpl_model.specs.PageUpdates.Updates.{Tells}
 use Rattle.tpl_model.proofs.Shared.{begins, memo_agree, memo_upto, steady}
-use Rattle.tpl_model.specs.KeptLines.Memos.{Agrees, Listens, ListensAll, Makes, lines_memo}
+use Rattle.tpl_model.specs.KeptLines.Memos.{Agrees, Listens, ListensAll, Makes, attempt_memo, lines_memo}
+use Rattle.tpl_kept.proofs.Listened.Sequences.{both_names}
 use Rattle.tpl_model.specs.KeptLines.Before.{WasListened, WasListenedAll, WasMade}
 
 -- a place of lines in a row
@@ -216,3 +217,24 @@ all_remade xs links row before earlier mid now hs ks was a g made =
     bare_listened xs links row earlier now ks
     (remade (bare_tag xs) links row before earlier mid now (element hs blank blank) (element ks blank blank) (bare_was xs links row before hs was) b g
     (bare_made xs links row mid now ks made))
+
+-- ---- what is tried, as lines that have nothing behind them
+
+-- all of whose names are as before
+pub attempt_stayed : (first second : Block) (links : List ℕ) (row : Option RowRef) (before earlier now : Outcomes) (x y : PageMemo) →
+    WasMade (attempt_memo false first second) links row before (either x y blank) → AreSame before (names x ++ names y) earlier now →
+    Makes (attempt_memo false first second) links row earlier now (either x y blank)
+attempt_stayed first second links row before earlier now x y was a =
+    let b : AreSame before (names (either x y blank)) earlier now = rw (both_names x y) a in
+    let made = stayed (attempt first second empty) links row before earlier now (either x y blank) (record { is = λ source agrees here e. was.is source agrees here e }) b in
+    record { is = λ source agrees here e. made.is source agrees here e; order = made.order }
+
+-- and where one has changed
+pub attempt_remade : (first second : Block) (links : List ℕ) (row : Option RowRef) (before earlier mid now : Outcomes) (x y k : PageMemo) →
+    WasMade (attempt_memo false first second) links row before (either x y blank) → AreSameUpTo before (names x ++ names y) earlier mid → Grows mid now →
+    Makes (attempt_memo false first second) links row mid now k → Makes (attempt_memo false first second) links row earlier now k
+attempt_remade first second links row before earlier mid now x y k was a g made =
+    let b : AreSameUpTo before (names (either x y blank)) earlier mid = rw (both_names x y) a in
+    let again = remade (attempt first second empty) links row before earlier mid now (either x y blank) k (record { is = λ source agrees here e. was.is source agrees here e })
+    b g (record { is = λ source agrees here e. made.is source agrees here e; order = made.order }) in
+    record { is = λ source agrees here e. again.is source agrees here e; order = again.order }

@@ -3,17 +3,17 @@ use Rattle.std.proofs.Common.{◌≡◌, ℕ, Bool, true, false, List, Option, S
 use Rattle.std.proofs.lemmas.Bool.{true≢false}
 use Rattle.sig_formula.specs.Trees.{Tree}
 use Rattle.sig_formula.specs.declared.formula.RowRef.{RowRef}
-use Rattle.tpl_model.specs.Lines.{Block, text, tag, choice, each}
+use Rattle.tpl_model.specs.Lines.{Block, text, tag, choice, each, attempt}
 use Rattle.tpl_model.specs.Shapes.{Here, row_here}
 use Rattle.tpl_model.specs.Sources.{evaluating}
 use Rattle.tpl_hearing.specs.Heard.{Grows, Outcomes}
 use Rattle.tpl_hearing.specs.HeardAgain.{AreHeardAgain}
 use Rattle.tpl_model.specs.KeptLines.Kept.{rows_of}
-use Rattle.tpl_model.specs.PageUpdates.PageMemos.{Heard, Hearing, PageMemo, blank, line, element, branch, loop, hearing, attributes_heard, each_memo, memo_of, names, picks}
-use Rattle.tpl_model.specs.KeptLines.Memos.{Keeping, Makes, branch_memo, lines_memo, loop_memo, rows_in, table_in, truth_in}
+use Rattle.tpl_model.specs.PageUpdates.PageMemos.{Heard, Hearing, PageMemo, blank, line, element, branch, loop, either, hearing, attributes_heard, each_memo, memo_of, names, picks}
+use Rattle.tpl_model.specs.KeptLines.Memos.{Keeping, Makes, attempt_memo, branch_memo, lines_memo, loop_memo, rows_in, table_in, truth_in}
 use Rattle.tpl_model.specs.KeptLines.Before.{WasListened, WasListenedAll, WasMade}
 use Rattle.tpl_kept.specs.Renewals.{WasMadeIfRead, AreChanged, AreLooked, unheard, heard_up_to, is_unread}
-use Rattle.tpl_kept.proofs.Listened.Sequences.{picks_branch, picks_rows, rows_picked}
+use Rattle.tpl_kept.proofs.Listened.Sequences.{picks_branch, picks_rows, rows_picked, with_rest}
 use Rattle.tpl_kept.proofs.Listened.Reuse.{any_here, any_row, attributes_in, remade}
 
 -- ---- the parts of what is kept
@@ -35,6 +35,7 @@ rest_of (line h r) = r
 rest_of (element hs i r) = r
 rest_of (branch h i r) = r
 rest_of (loop h i r) = r
+rest_of (either a b r) = r
 rest_of m = m
 
 -- ---- a text
@@ -91,7 +92,7 @@ branch_was links row f one other rest before m h i r was same = record {
         let y = memo_of hear false here other in
         let p : h ≡ hear (row_here here) f = ap (first_heard h) (sym same ∙ was.is source agrees here k) in
         let q : i ≡ picks (hear (row_here here) f).outcome x y blank = ap inside_of (sym same ∙ was.is source agrees here k) in
-        q ∙ (ap (λ (z : Heard). picks z.outcome x y blank) (sym p) ∙ sym (picks_branch h.outcome one other hear here));
+        q ∙ (ap (λ (z : Heard). picks z.outcome x y blank) (sym p) ∙ sym (picks_branch false h.outcome one other hear here));
   };
   later = record { is = λ source agrees here k. ap rest_of (sym same ∙ was.is source agrees here k) };
 }
@@ -132,10 +133,20 @@ loop_was links row f inner rest before m h ms r was same = record {
         let p : h ≡ hear (row_here there) f = ap (first_heard h) e in
         let q : rows_of h.outcome ms ≡ each_memo false go (hear (row_here there) f).outcome = ap inside_of e in
         sym (rows_picked h.outcome ms)
-        ∙ (q ∙ (ap (λ (z : Heard). each_memo false go z.outcome) (sym p) ∙ sym (picks_rows h.outcome inner hear here)));
+        ∙ (q ∙ (ap (λ (z : Heard). each_memo false go z.outcome) (sym p) ∙ sym (picks_rows false h.outcome inner hear here)));
   };
   later = record { is = λ source agrees here k. ap rest_of (sym same ∙ was.is source agrees here k) };
 }
+
+-- ---- what is tried
+
+pub attempt_was : (links : List ℕ) (row : Option RowRef) (first second rest : Block) (before : Outcomes) (m x y r : PageMemo) →
+    WasMade (lines_memo (attempt first second rest)) links row before m → m ≡ either x y r →
+    WasMade (attempt_memo false first second) links row before (either x y blank) × WasMade (lines_memo rest) links row before r
+attempt_was links row first second rest before m x y r was same = (
+  record { is = λ source agrees here k. ap (λ z. with_rest z blank) (sym same ∙ was.is source agrees here k) },
+  record { is = λ source agrees here k. ap rest_of (sym same ∙ was.is source agrees here k) },
+)
 
 -- ---- lines that were looked at
 

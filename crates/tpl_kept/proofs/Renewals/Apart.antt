@@ -10,13 +10,13 @@ use Rattle.tpl_model.specs.Lines.{Block, empty, text, tag, choice, each, attempt
 use Rattle.tpl_model.specs.Shapes.{Here, row_here}
 use Rattle.tpl_hearing.specs.Heard.{Outcomes}
 use Rattle.tpl_hearing.proofs.Shared.{outcome_in}
-use Rattle.tpl_model.specs.KeptLines.Kept.{heard_of}
+use Rattle.tpl_model.specs.KeptLines.Kept.{heard_of, kept}
 use Rattle.tpl_model.specs.declared.memo.Heard.{Heard}
-use Rattle.tpl_model.specs.PageUpdates.PageMemos.{PageMemo, unread, blank, line, element, branch, loop}
+use Rattle.tpl_model.specs.PageUpdates.PageMemos.{PageMemo, unread, blank, line, element, branch, loop, either}
 use Rattle.tpl_model.specs.KeptLines.Memos.{Agrees, branch_memo, lines_memo, table_in, truth_in}
 use Rattle.tpl_model.specs.KeptLines.Before.{WasMade}
 use Rattle.tpl_kept.specs.Renewals.{is_unread}
-use Rattle.tpl_kept.proofs.Listened.Splits.{branch_stays, branch_was, element_was, if_read, loop_was, text_was}
+use Rattle.tpl_kept.proofs.Listened.Splits.{attempt_was, branch_stays, branch_was, element_was, if_read, loop_was, text_was}
 use Rattle.tpl_kept.proofs.Listened.Slots.{slots_were}
 use Rattle.tpl_kept.specs.declared.making.head.Head.{Head}
 use Rattle.tpl_kept.specs.declared.making.head.Head.TheVariants as head
@@ -32,7 +32,8 @@ kind (line h r) = 2
 kind (element hs i r) = 3
 kind (branch h i r) = 4
 kind (loop h i r) = 5
-kind m = 6
+kind (either a b r) = 6
+kind m = 7
 
 abbrev block_kind : Block → ℕ
 block_kind empty = 1
@@ -48,6 +49,7 @@ head_kind (head.Text h) = 2
 head_kind (head.Tag all) = 3
 head_kind (head.Choice h) = 4
 head_kind (head.Each h) = 5
+head_kind (head.Attempt x y) = 6
 
 closed_kind : (h : Head) (is rs : List PageMemo) → kind (closed h is rs) ≡ head_kind h
 closed_kind head.Nothing is rs = refl
@@ -55,6 +57,7 @@ closed_kind (head.Text h) is rs = refl
 closed_kind (head.Tag all) is rs = refl
 closed_kind (head.Choice h) is rs = refl
 closed_kind (head.Each h) is rs = refl
+closed_kind (head.Attempt x y) is rs = refl
 
 abbrev any_place : Option RowRef → Option Here
 any_place None = None
@@ -87,6 +90,7 @@ apart_by : (b : Block) (links : List ℕ) (row : Option RowRef) (before : Outcom
     WasMade (lines_memo b) links row before m → m ≡ closed h is (r ∷ []) → head_kind h ≡ block_kind b → WasApart b links row before h is r
 apart_by empty links row before m h is r was e k = record { opened = tt; inside = tt; later = tt }
 apart_by (text n f rest) links row before m head.Nothing is r was e k = absurd (omega (arith, k))
+apart_by (text n f rest) links row before m (head.Attempt x y) is r was e k = absurd (omega (arith, k))
 apart_by (text n f rest) links row before m (head.Text x) is r was e k =
     let w = text_was links row n f rest before m (heard_of x) r was e in
     record { opened = w.0; inside = tt; later = w.1 }
@@ -94,6 +98,7 @@ apart_by (text n f rest) links row before m (head.Tag all) is r was e k = absurd
 apart_by (text n f rest) links row before m (head.Choice x) is r was e k = absurd (omega (arith, k))
 apart_by (text n f rest) links row before m (head.Each x) is r was e k = absurd (omega (arith, k))
 apart_by (tag n name xs inner rest) links row before m head.Nothing is r was e k = absurd (omega (arith, k))
+apart_by (tag n name xs inner rest) links row before m (head.Attempt x y) is r was e k = absurd (omega (arith, k))
 apart_by (tag n name xs inner rest) links row before m (head.Text x) is r was e k = absurd (omega (arith, k))
 apart_by (tag n name xs inner rest) links row before m (head.Tag all) is r was e k =
     let w = element_was links row n name xs inner rest before m (map heard_of all.items) (last_of is) r was e in
@@ -101,6 +106,7 @@ apart_by (tag n name xs inner rest) links row before m (head.Tag all) is r was e
 apart_by (tag n name xs inner rest) links row before m (head.Choice x) is r was e k = absurd (omega (arith, k))
 apart_by (tag n name xs inner rest) links row before m (head.Each x) is r was e k = absurd (omega (arith, k))
 apart_by (choice f one other rest) links row before m head.Nothing is r was e k = absurd (omega (arith, k))
+apart_by (choice f one other rest) links row before m (head.Attempt x y) is r was e k = absurd (omega (arith, k))
 apart_by (choice f one other rest) links row before m (head.Text x) is r was e k = absurd (omega (arith, k))
 apart_by (choice f one other rest) links row before m (head.Tag all) is r was e k = absurd (omega (arith, k))
 apart_by (choice f one other rest) links row before m (head.Choice x) is r was e k =
@@ -108,6 +114,7 @@ apart_by (choice f one other rest) links row before m (head.Choice x) is r was e
     record { opened = w.test; inside = w.inside; later = w.later }
 apart_by (choice f one other rest) links row before m (head.Each x) is r was e k = absurd (omega (arith, k))
 apart_by (each f inner rest) links row before m head.Nothing is r was e k = absurd (omega (arith, k))
+apart_by (each f inner rest) links row before m (head.Attempt x y) is r was e k = absurd (omega (arith, k))
 apart_by (each f inner rest) links row before m (head.Text x) is r was e k = absurd (omega (arith, k))
 apart_by (each f inner rest) links row before m (head.Tag all) is r was e k = absurd (omega (arith, k))
 apart_by (each f inner rest) links row before m (head.Choice x) is r was e k = absurd (omega (arith, k))
@@ -119,6 +126,9 @@ apart_by (attempt a b rest) links row before m (head.Text x) is r was e k = absu
 apart_by (attempt a b rest) links row before m (head.Tag all) is r was e k = absurd (omega (arith, k))
 apart_by (attempt a b rest) links row before m (head.Choice x) is r was e k = absurd (omega (arith, k))
 apart_by (attempt a b rest) links row before m (head.Each x) is r was e k = absurd (omega (arith, k))
+apart_by (attempt a b rest) links row before m (head.Attempt x y) is r was e k =
+    let w = attempt_was links row a b rest before m (kept x.value) (kept y.value) r was e in
+    record { opened = w.0; inside = tt; later = w.1 }
 
 -- what was kept, taken apart
 pub was_apart : (b : Block) (links : List ℕ) (row : Option RowRef) (before : Outcomes) (m : PageMemo) (h : Head) (is : List PageMemo) (r : PageMemo) →
@@ -143,47 +153,50 @@ branch_ready f one other rest links row before was (Some false) i ms w e =
 
 -- what was kept inside a line
 pub inside_ready : (b : Block) (links : List ℕ) (row : Option RowRef) (before a c : Outcomes) (o : Outcome) (h : Head) (is ms : List PageMemo) →
-    Opens b links row a c h → WasInside b links row before o is → ServeInside o h is ms →
-    WereEach (inner_in b (shows_first h)) links (places_in h row) before ms
+    Opens false b links row a c h → WasInside b links row before o is → ServeInside o h is ms →
+    WereEach (inner_in b (shows_first h)) links (places_in false h row) before ms
 inside_ready empty links row before a c o h is ms x was s =
-    subst (λ z. WereEach (inner_in empty (shows_first z)) links (places_in z row) before ms) (sym x.0) tt
+    subst (λ z. WereEach (inner_in empty (shows_first z)) links (places_in false z row) before ms) (sym x.0) tt
 inside_ready (text n f rest) links row before a c o h is ms x was s =
-    subst (λ z. WereEach (inner_in (text n f rest) (shows_first z)) links (places_in z row) before ms) (sym x.1.0) tt
+    subst (λ z. WereEach (inner_in (text n f rest) (shows_first z)) links (places_in false z row) before ms) (sym x.1.0) tt
 inside_ready (tag n name xs inner rest) links row before a c o h is ms x was s =
     let e : ms ≡ last_of is ∷ [] = subst (λ z. ServeInside o z is ms) x.1.0 s in
-    subst (λ z. WereEach (inner_in (tag n name xs inner rest) (shows_first z)) links (places_in z row) before ms) (sym x.1.0)
+    subst (λ z. WereEach (inner_in (tag n name xs inner rest) (shows_first z)) links (places_in false z row) before ms) (sym x.1.0)
     (if_read inner links row before (last_of is) (first_of ms) was (ap first_of e), tt)
 inside_ready (choice f one other rest) links row before a c o h is ms x was s =
     let y = x.0 in
     let e : is_unread (first_of ms) ≡ false → (truth_in o ≡ truth_in y.outcome) × (first_of ms ≡ last_of is) =
     subst (λ z. ServeInside o z is ms) x.1.0 s in
-    subst (λ z. WereEach (inner_in (choice f one other rest) (shows_first z)) links (places_in z row) before ms) (sym x.1.0)
+    subst (λ z. WereEach (inner_in (choice f one other rest) (shows_first z)) links (places_in false z row) before ms) (sym x.1.0)
     (branch_ready f one other rest links row before (truth_in o) (truth_in y.outcome) (last_of is) ms was e)
 inside_ready (each f inner rest) links row before a c o h is ms x was s =
     let e = subst (λ z. ServeInside o z is ms) x.1.0 s in
-    subst (λ z. WereEach (inner_in (each f inner rest) (shows_first z)) links (places_in z row) before ms) (sym x.1.0)
+    subst (λ z. WereEach (inner_in (each f inner rest) (shows_first z)) links (places_in false z row) before ms) (sym x.1.0)
     (e.0 inner links before (slots_were inner links (table_in o) before is was))
-inside_ready (attempt inner other rest) links row before a c o h is ms x was s = absurd x
+inside_ready (attempt first second rest) links row before a c o h is ms x was s =
+    subst (λ z. WereEach (inner_in (attempt first second rest) (shows_first z)) links (places_in false z row) before ms) (sym x.2.0) tt
 
 -- what was kept behind it
 pub behind_ready : (b : Block) (links : List ℕ) (row : Option RowRef) (before a c : Outcomes) (h : Head) (r : PageMemo) (ms : List PageMemo) →
-    Opens b links row a c h → WasBehind b links row before r → ms ≡ r ∷ [] → WereEach (rest_in b) links (behind h row) before ms
-behind_ready empty links row before a c h r ms x was e = subst (λ z. WereEach empty links (behind z row) before ms) (sym x.0) tt
+    Opens false b links row a c h → WasBehind b links row before r → ms ≡ r ∷ [] → WereEach (rest_in b) links (behind false h row) before ms
+behind_ready empty links row before a c h r ms x was e = subst (λ z. WereEach empty links (behind false z row) before ms) (sym x.0) tt
 behind_ready (text n f rest) links row before a c h r ms x was e =
-    subst (λ z. WereEach rest links (behind z row) before ms) (sym x.1.0) (if_read rest links row before r (first_of ms) was (ap first_of e), tt)
+    subst (λ z. WereEach rest links (behind false z row) before ms) (sym x.1.0) (if_read rest links row before r (first_of ms) was (ap first_of e), tt)
 behind_ready (tag n name xs inner rest) links row before a c h r ms x was e =
-    subst (λ z. WereEach rest links (behind z row) before ms) (sym x.1.0) (if_read rest links row before r (first_of ms) was (ap first_of e), tt)
+    subst (λ z. WereEach rest links (behind false z row) before ms) (sym x.1.0) (if_read rest links row before r (first_of ms) was (ap first_of e), tt)
 behind_ready (choice f one other rest) links row before a c h r ms x was e =
-    subst (λ z. WereEach rest links (behind z row) before ms) (sym x.1.0) (if_read rest links row before r (first_of ms) was (ap first_of e), tt)
+    subst (λ z. WereEach rest links (behind false z row) before ms) (sym x.1.0) (if_read rest links row before r (first_of ms) was (ap first_of e), tt)
 behind_ready (each f inner rest) links row before a c h r ms x was e =
-    subst (λ z. WereEach rest links (behind z row) before ms) (sym x.1.0) (if_read rest links row before r (first_of ms) was (ap first_of e), tt)
-behind_ready (attempt inner other rest) links row before a c h r ms x was e = absurd x
+    subst (λ z. WereEach rest links (behind false z row) before ms) (sym x.1.0) (if_read rest links row before r (first_of ms) was (ap first_of e), tt)
+behind_ready (attempt first second rest) links row before a c h r ms x was e =
+    subst (λ z. WereEach rest links (behind false z row) before ms) (sym x.2.0) (if_read rest links row before r (first_of ms) was (ap first_of e), tt)
 
 -- ---- what was heard of a line of each kind
 
 pub text_opens : (n : ℕ) (f : Tree) (rest : Block) (links : List ℕ) (row : Option RowRef) (before : Outcomes) (h : Head) →
     WasOpened (text n f rest) links row before h → ((x : Heard) → h ≡ head.Text x → ⊥) → ⊥
 text_opens n f rest links row before head.Nothing was other = was
+text_opens n f rest links row before (head.Attempt x y) was other = was
 text_opens n f rest links row before (head.Text x) was other = other x refl
 text_opens n f rest links row before (head.Tag all) was other = was
 text_opens n f rest links row before (head.Choice x) was other = was
@@ -192,6 +205,7 @@ text_opens n f rest links row before (head.Each x) was other = was
 pub tag_opens : (n : ℕ) (name : List ℕ) (xs : List (List ℕ × Tree)) (inner rest : Block) (links : List ℕ) (row : Option RowRef) (before : Outcomes)
     (h : Head) → WasOpened (tag n name xs inner rest) links row before h → ((all : _) → h ≡ head.Tag all → ⊥) → ⊥
 tag_opens n name xs inner rest links row before head.Nothing was other = was
+tag_opens n name xs inner rest links row before (head.Attempt x y) was other = was
 tag_opens n name xs inner rest links row before (head.Text x) was other = was
 tag_opens n name xs inner rest links row before (head.Tag all) was other = other all refl
 tag_opens n name xs inner rest links row before (head.Choice x) was other = was
@@ -200,6 +214,7 @@ tag_opens n name xs inner rest links row before (head.Each x) was other = was
 pub choice_opens : (f : Tree) (one other rest : Block) (links : List ℕ) (row : Option RowRef) (before : Outcomes) (h : Head) →
     WasOpened (choice f one other rest) links row before h → ((x : Heard) → h ≡ head.Choice x → ⊥) → ⊥
 choice_opens f one two rest links row before head.Nothing was other = was
+choice_opens f one two rest links row before (head.Attempt x y) was other = was
 choice_opens f one two rest links row before (head.Text x) was other = was
 choice_opens f one two rest links row before (head.Tag all) was other = was
 choice_opens f one two rest links row before (head.Choice x) was other = other x refl
@@ -208,7 +223,17 @@ choice_opens f one two rest links row before (head.Each x) was other = was
 pub each_opens : (f : Tree) (inner rest : Block) (links : List ℕ) (row : Option RowRef) (before : Outcomes) (h : Head) →
     WasOpened (each f inner rest) links row before h → ((x : Heard) → h ≡ head.Each x → ⊥) → ⊥
 each_opens f inner rest links row before head.Nothing was other = was
+each_opens f inner rest links row before (head.Attempt x y) was other = was
 each_opens f inner rest links row before (head.Text x) was other = was
 each_opens f inner rest links row before (head.Tag all) was other = was
 each_opens f inner rest links row before (head.Choice x) was other = was
 each_opens f inner rest links row before (head.Each x) was other = other x refl
+
+pub attempt_opens : (first second rest : Block) (links : List ℕ) (row : Option RowRef) (before : Outcomes) (h : Head) →
+    WasOpened (attempt first second rest) links row before h → ((x y : _) → h ≡ head.Attempt x y → ⊥) → ⊥
+attempt_opens first second rest links row before head.Nothing was other = was
+attempt_opens first second rest links row before (head.Text x) was other = was
+attempt_opens first second rest links row before (head.Tag all) was other = was
+attempt_opens first second rest links row before (head.Choice x) was other = was
+attempt_opens first second rest links row before (head.Each x) was other = was
+attempt_opens first second rest links row before (head.Attempt x y) was other = other x y refl

@@ -17,7 +17,7 @@ use Rattle.tpl_model.specs.Sources.{same_here}
 use Rattle.tpl_hearing.specs.Heard.{Outcomes}
 use Rattle.tpl_model.specs.KeptLines.Kept.{heard_of, kept, rows_from, rows_of}
 use Rattle.tpl_model.specs.PageUpdates.PageMemos.{Heard, PageMemo, unread, blank, line, element, branch, loop, row, either}
-use Rattle.tpl_model.specs.KeptLines.Memos.{lines_memo, table_in, truth_in}
+use Rattle.tpl_model.specs.KeptLines.Memos.{attempt_memo, lines_memo, table_in, truth_in}
 use Rattle.tpl_model.specs.KeptLines.Before.{WasListened, WasListenedAll, WasMade}
 use Rattle.tpl_kept.specs.Renewals.{is_unread}
 use Rattle.tpl_kept.proofs.Listened.Sequences.{mapped_put}
@@ -77,7 +77,15 @@ tells_whole (each f inner rest) links at before (loop h i r) c x =
     × Tells inner links (Some here.row) before m d) i inside × Tells rest links at before r later))
 tells_whole (each f inner rest) links at before (row h i r) c x = tt
 tells_whole (each f inner rest) links at before (either a d r) c x = tt
-tells_whole (attempt one other rest) links at before m c x = x (λ same inside later. Unit {0})
+tells_whole (attempt first second rest) links at before unread c x = tt
+tells_whole (attempt first second rest) links at before blank c x = tt
+tells_whole (attempt first second rest) links at before (line h r) c x = tt
+tells_whole (attempt first second rest) links at before (element hs i r) c x = tt
+tells_whole (attempt first second rest) links at before (branch h i r) c x = tt
+tells_whole (attempt first second rest) links at before (loop h i r) c x = tt
+tells_whole (attempt first second rest) links at before (row h i r) c x = tt
+tells_whole (attempt first second rest) links at before (either a d r) c x =
+    x (λ same inside later. (same ≡ true → WasMade (attempt_memo false first second) links at before (either a d blank)) × Tells rest links at before r later)
 
 -- lines that are made
 pub made_told : (b : Block) (links : List ℕ) (at : Option RowRef) (before : Outcomes) (was m : PageMemo) (c : Change) → c ≡ made →
@@ -115,6 +123,7 @@ choice_known : (f : Tree) (one other rest : Block) (links : List ℕ) (at : Opti
     WasOpened (choice f one other rest) links at before old → ServeInside (outcome_of old) (head.Choice h) is ms →
     WasKnown (choice f one other rest) links at before (head.Choice h) ms
 choice_known f one other rest links at before head.Nothing h is ms was s = absurd was
+choice_known f one other rest links at before (head.Attempt x y) h is ms was s = absurd was
 choice_known f one other rest links at before (head.Text x) h is ms was s = absurd was
 choice_known f one other rest links at before (head.Tag all) h is ms was s = absurd was
 choice_known f one other rest links at before (head.Choice x) h is ms was s =
@@ -126,6 +135,7 @@ each_known : (f : Tree) (inner rest : Block) (links : List ℕ) (at : Option Row
     WasOpened (each f inner rest) links at before old → ServeInside (outcome_of old) (head.Each h) is ms →
     WasKnown (each f inner rest) links at before (head.Each h) ms
 each_known f inner rest links at before head.Nothing h is ms was s = absurd was
+each_known f inner rest links at before (head.Attempt x y) h is ms was s = absurd was
 each_known f inner rest links at before (head.Text x) h is ms was s = absurd was
 each_known f inner rest links at before (head.Tag all) h is ms was s = absurd was
 each_known f inner rest links at before (head.Choice x) h is ms was s = absurd was
@@ -134,7 +144,7 @@ each_known f inner rest links at before (head.Each x) h is ms was s =
 
 -- a line that is heard again
 pub was_known : (b : Block) (links : List ℕ) (at : Option RowRef) (before a c : Outcomes) (old h : Head) (is ms : List PageMemo) →
-    WasOpened b links at before old → Opens b links at a c h → ServeInside (outcome_of old) h is ms → WasKnown b links at before h ms
+    WasOpened b links at before old → Opens false b links at a c h → ServeInside (outcome_of old) h is ms → WasKnown b links at before h ms
 was_known empty links at before a c old h is ms was o s = tt
 was_known (text n f rest) links at before a c old h is ms was o s = tt
 was_known (tag n name xs inner rest) links at before a c old h is ms was o s = tt
@@ -151,6 +161,7 @@ each_same : (f : Tree) (inner rest : Block) (links : List ℕ) (at : Option RowR
     WasOpened (each f inner rest) links at before old → IsSame (outcome_of old) (head.Each h) heard same → same ≡ true →
     WasSame (each f inner rest) links at before (head.Each h)
 each_same f inner rest links at before head.Nothing h heard same was s e = absurd was
+each_same f inner rest links at before (head.Attempt x y) h heard same was s e = absurd was
 each_same f inner rest links at before (head.Text x) h heard same was s e = absurd was
 each_same f inner rest links at before (head.Tag all) h heard same was s e = absurd was
 each_same f inner rest links at before (head.Choice x) h heard same was s e = absurd was
@@ -159,7 +170,7 @@ each_same f inner rest links at before (head.Each x) h heard same was s e =
 
 -- a line that is heard again, and is the same
 pub was_same : (b : Block) (links : List ℕ) (at : Option RowRef) (before a c : Outcomes) (old h : Head) (heard same : Bool) →
-    WasOpened b links at before old → Opens b links at a c h → (heard ≡ true → WasOpened b links at before h) →
+    WasOpened b links at before old → Opens false b links at a c h → (heard ≡ true → WasOpened b links at before h) →
     IsSame (outcome_of old) h heard same → same ≡ true → WasSame b links at before h
 was_same empty links at before a c old h heard same was o w s e = tt
 was_same (text n f rest) links at before a c old h heard same was o w s e =
@@ -171,7 +182,8 @@ was_same (choice f one other rest) links at before a c old h heard same was o w 
 was_same (each f inner rest) links at before a c old h heard same was o w s e =
     subst (λ z. WasSame (each f inner rest) links at before z) (sym o.1.0)
     (each_same f inner rest links at before old o.0 heard same was (subst (λ z. IsSame (outcome_of old) z heard same) o.1.0 s) e)
-was_same (attempt one other rest) links at before a c old h heard same was o w s e = absurd o
+was_same (attempt first second rest) links at before a c old h heard same was o w s e =
+    w (sym (subst (λ z. IsSame (outcome_of old) z heard same) o.2.0 s) ∙ e)
 
 -- ---- what became of the last
 
@@ -250,40 +262,44 @@ loop_told (Bad e) f inner links at before was ms cs w x = tt
 -- ---- a line that is heard again
 
 line_told : (b : Block) (links : List ℕ) (at : Option RowRef) (before a c : Outcomes) (h : Head) (same : Bool) (ins lat is rs : List PageMemo) (cs ds : List Change) →
-    Opens b links at a c h → WasKnown b links at before h ins → (same ≡ true → WasSame b links at before h) → AreTold (inner_in b (shows_first h)) links (places_in h at) before ins is cs →
-    AreTold (rest_in b) links (behind h at) before lat rs ds → Tells b links at before (closed h is rs) (over same (chain cs) (last_change ds))
+    Opens false b links at a c h → WasKnown b links at before h ins → (same ≡ true → WasSame b links at before h) → AreTold (inner_in b (shows_first h)) links (places_in false h at) before ins is cs →
+    AreTold (rest_in b) links (behind false h at) before lat rs ds → Tells b links at before (closed h is rs) (over same (chain cs) (last_change ds))
 line_told empty links at before a c h same ins lat is rs cs ds o k w inside later = tt
 line_told (text n f rest) links at before a c h same ins lat is rs cs ds o k w inside later =
     subst (λ z. Tells (text n f rest) links at before (closed z is rs) (over same (chain cs) (last_change ds))) (sym o.1.0) (
       subst (λ z. same ≡ true → WasSame (text n f rest) links at before z) o.1.0 w,
-      (alone_told rest links at before lat rs ds (subst (λ z. AreTold rest links (behind z at) before lat rs ds) o.1.0 later)).tells,
+      (alone_told rest links at before lat rs ds (subst (λ z. AreTold rest links (behind false z at) before lat rs ds) o.1.0 later)).tells,
     )
 line_told (tag n name xs inner rest) links at before a c h same ins lat is rs cs ds o k w inside later =
-    let i = subst (λ z. AreTold (inner_in (tag n name xs inner rest) (shows_first z)) links (places_in z at) before ins is cs) o.1.0 inside in
+    let i = subst (λ z. AreTold (inner_in (tag n name xs inner rest) (shows_first z)) links (places_in false z at) before ins is cs) o.1.0 inside in
     subst (λ z. Tells (tag n name xs inner rest) links at before (closed z is rs) (over same (chain cs) (last_change ds))) (sym o.1.0) (
       subst (λ z. same ≡ true → WasSame (tag n name xs inner rest) links at before z) o.1.0 w,
       (
         (first_told inner links at before ins is cs i).tells,
-        (alone_told rest links at before lat rs ds (subst (λ z. AreTold rest links (behind z at) before lat rs ds) o.1.0 later)).tells,
+        (alone_told rest links at before lat rs ds (subst (λ z. AreTold rest links (behind false z at) before lat rs ds) o.1.0 later)).tells,
       ),
     )
 line_told (choice f one other rest) links at before a c h same ins lat is rs cs ds o k w inside later =
     let known = subst (λ z. WasKnown (choice f one other rest) links at before z ins) o.1.0 k in
-    let i = subst (λ z. AreTold (inner_in (choice f one other rest) (shows_first z)) links (places_in z at) before ins is cs) o.1.0 inside in
+    let i = subst (λ z. AreTold (inner_in (choice f one other rest) (shows_first z)) links (places_in false z at) before ins is cs) o.1.0 inside in
     let t = branch_told (truth_in (o.0).outcome) f one other rest links at before ins is cs known i in
     subst (λ z. Tells (choice f one other rest) links at before (closed z is rs) (over same (chain cs) (last_change ds))) (sym o.1.0)
-    (t.0, (t.1, (alone_told rest links at before lat rs ds (subst (λ z. AreTold rest links (behind z at) before lat rs ds) o.1.0 later)).tells))
+    (t.0, (t.1, (alone_told rest links at before lat rs ds (subst (λ z. AreTold rest links (behind false z at) before lat rs ds) o.1.0 later)).tells))
 line_told (each f inner rest) links at before a c h same ins lat is rs cs ds o k w inside later =
     let known = subst (λ z. WasKnown (each f inner rest) links at before z ins) o.1.0 k in
-    let i = subst (λ z. AreTold (inner_in (each f inner rest) (shows_first z)) links (places_in z at) before ins is cs) o.1.0 inside in
+    let i = subst (λ z. AreTold (inner_in (each f inner rest) (shows_first z)) links (places_in false z at) before ins is cs) o.1.0 inside in
     subst (λ z. Tells (each f inner rest) links at before (closed z is rs) (over same (chain cs) (last_change ds))) (sym o.1.0) (
       subst (λ z. same ≡ true → WasSame (each f inner rest) links at before z) o.1.0 w,
       (
         loop_told (o.0).outcome f inner links at before ins is cs known i,
-        (alone_told rest links at before lat rs ds (subst (λ z. AreTold rest links (behind z at) before lat rs ds) o.1.0 later)).tells,
+        (alone_told rest links at before lat rs ds (subst (λ z. AreTold rest links (behind false z at) before lat rs ds) o.1.0 later)).tells,
       ),
     )
-line_told (attempt one other rest) links at before a c h same ins lat is rs cs ds o k w inside later = absurd o
+line_told (attempt first second rest) links at before a c h same ins lat is rs cs ds o k w inside later =
+    subst (λ z. Tells (attempt first second rest) links at before (closed z is rs) (over same (chain cs) (last_change ds))) (sym o.2.0) (
+      subst (λ z. same ≡ true → WasSame (attempt first second rest) links at before z) o.2.0 w,
+      (alone_told rest links at before lat rs ds (subst (λ z. AreTold rest links (behind false z at) before lat rs ds) o.2.0 later)).tells,
+    )
 
 -- ---- one turn
 

@@ -7,7 +7,7 @@ use Rattle.sig_base.specs.declared.value.Value.TheVariants as value
 use Rattle.sig_base.specs.declared.value.Outcome.{Outcome}
 use Rattle.sig_base.specs.declared.value.Outcome.TheVariants.{Good, Bad}
 use Rattle.sig_base.specs.declared.rows.Row.{Row}
-use Rattle.tpl_model.specs.PageUpdates.PageMemos.{Heard, PageMemo, line, element, branch, loop, all_names, names}
+use Rattle.tpl_model.specs.PageUpdates.PageMemos.{Heard, PageMemo, line, element, branch, loop, all_names, names, either}
 use Rattle.tpl_model.specs.KeptLines.Kept.{rows_from, rows_of}
 use Rattle.tpl_model.specs.KeptLines.Memos.{rows_in, table_in}
 use Rattle.tpl_kept.proofs.Listened.Sequences.{mapped_more}
@@ -91,6 +91,10 @@ pub branch_put : (h : Heard) (i r m : PageMemo) (a b c d : List ℕ) → m ≡ b
     d ≡ a ++ names m
 branch_put h i r m a b c d e p q s =
     then_put a c d (h.names ++ names i) (names r) (then_put a b c h.names (names i) p q) s ∙ ap (λ z. a ++ names z) (sym e)
+
+pub either_put : (x y r m : PageMemo) (a b c d : List ℕ) → m ≡ either x y r → b ≡ a ++ names x → c ≡ b ++ names y → d ≡ c ++ names r → d ≡ a ++ names m
+either_put x y r m a b c d e p q s =
+    then_put a c d (names x ++ names y) (names r) (then_put a b c (names x) (names y) p q) s ∙ ap (λ z. a ++ names z) (sym e)
 
 pub loop_put : (h : Heard) (ms : List PageMemo) (count : ℕ) (r m : PageMemo) (a b c d : List ℕ) → m ≡ loop h (rows_of h.outcome ms) r →
     count ≡ length (table_in h.outcome).rows → b ≡ a ++ h.names → c ≡ b ++ flat_map names (take count ms) → d ≡ c ++ names r → d ≡ a ++ names m

@@ -1,5 +1,5 @@
 -- Lines that read no name stay, and others are brought up to date behind them.
-use Rattle.std.proofs.Common.{◌≡◌, ℕ, zero, suc, ◌<◌, ◌≤◌, List, [], ◌∷◌, ◌++◌, length, get_or, map, Option, refl, sym, ap, subst, ◌∙◌, append_assoc, arith}
+use Rattle.std.proofs.Common.{◌≡◌, ℕ, zero, suc, ◌<◌, ◌≤◌, false, List, [], ◌∷◌, ◌++◌, length, get_or, map, Option, refl, sym, ap, subst, ◌∙◌, append_assoc, arith}
 use Rattle.std.proofs.lemmas.List.{append-nil}
 use Rattle.sig_formula.specs.declared.formula.RowRef.{RowRef}
 use Rattle.tpl_model.specs.Lines.{Block}
@@ -45,12 +45,12 @@ same_unheard before now ns e = subst (λ z. AreSame before z now now) (sym e) (r
 -- what was kept in the first of some rows stays, and then the others are brought up to date
 pub kept_renewed : (b : Block) (links : List ℕ) (rows : List (Option RowRef)) (row : Option RowRef) (others : List (Option RowRef)) (before a c : Outcomes)
     (was dones put after : List PageMemo) → rows ≡ row ∷ others → WereEach b links rows before was → ReadsNone (first_of was) →
-    put ≡ dones ++ first_of was ∷ [] → MakesEach b links others a c put after → MakesEach b links rows a c dones after
+    put ≡ dones ++ first_of was ∷ [] → MakesEach false b links others a c put after → MakesEach false b links rows a c dones after
 kept_renewed b links rows row others before a c was dones put after split all none es others_made =
     let m = first_of was in
     let w : WasMadeIfRead (lines_memo b) links row before m = first_at b links rows row others before was m split all refl in
     let idle : Grows a a = record { more = []; all = sym (append-nil a) } in
-    more_each b links rows row others a a c dones put after m split
+    more_each false b links rows row others a a c dones put after m split
     (stayed b links row before a a m (w.made none.read) (same_unheard before a (names m) none.none)) idle es others_made
 
 -- and what became of them is told
@@ -100,9 +100,9 @@ fronts_fewer (suc n) (r ∷ rows) left was later dones put changes added x =
 -- they are kept, and the others are made
 fronts_made : (n : ℕ) (b : Block) (links : List ℕ) (before a c : Outcomes) (rows left : List (Option RowRef)) (was later dones put after : List PageMemo)
     (changes added : List Change) → KeepsRows n rows was dones changes left later put added → WereEach b links rows before was →
-    MakesEach b links left a c put after → MakesEach b links rows a c dones after
+    MakesEach false b links left a c put after → MakesEach false b links rows a c dones after
 fronts_made zero b links before a c rows left was later dones put after changes added x w made =
-    subst (λ z. MakesEach b links z a c dones after) (sym x.0) (subst (λ z. MakesEach b links left a c z after) (sym x.1.1.0) made)
+    subst (λ z. MakesEach false b links z a c dones after) (sym x.0) (subst (λ z. MakesEach false b links left a c z after) (sym x.1.1.0) made)
 fronts_made (suc n) b links before a c [] left was later dones put after changes added x w made = absurd x
 fronts_made (suc n) b links before a c (r ∷ rows) left was later dones put after changes added x w made =
     kept_renewed b links (r ∷ rows) r rows before a c was dones (dones ++ first_of was ∷ []) after refl w x.0 refl
@@ -153,7 +153,7 @@ front_fewer rows left was later dones put changes added front = fronts_fewer fro
 
 pub front_made : (b : Block) (links : List ℕ) (before a c : Outcomes) (rows left : List (Option RowRef)) (was later dones put after : List PageMemo)
     (changes added : List Change) → KeepsFront rows was dones changes left later put added → WereEach b links rows before was →
-    MakesEach b links left a c put after → MakesEach b links rows a c dones after
+    MakesEach false b links left a c put after → MakesEach false b links rows a c dones after
 front_made b links before a c rows left was later dones put after changes added front w made =
     fronts_made front.count b links before a c rows left was later dones put after changes added front.keeps w made
 

@@ -22,7 +22,7 @@ use Rattle.tpl_kept.proofs.Renewals.Apart.{behind_ready, inside_ready, was_apart
 -- the first line is heard again
 pub opened_again : (b : Block) (links : List ℕ) (row : Option RowRef) (before earlier mid now : Outcomes) (m : PageMemo) (old h : Head)
     (is : List PageMemo) (r : PageMemo) (ins later : List PageMemo) → WasMade (lines_memo b) links row before m → m ≡ closed old is (r ∷ []) →
-    AreChanged before (names m) earlier mid → Opens b links row mid now h → Grows mid now → ServeInside (outcome_of old) h is ins → later ≡ r ∷ [] →
+    AreChanged before (names m) earlier mid → Opens false b links row mid now h → Grows mid now → ServeInside (outcome_of old) h is ins → later ≡ r ∷ [] →
     OpensAgain b links row before earlier now h ins later
 opened_again b links row before earlier mid now m old h is r ins later was e a o g s l =
     let w = was_apart b links row before m old is r was e in
@@ -41,15 +41,15 @@ opened_again b links row before earlier mid now m old h is r ins later was e a o
 
 pub places_are : (first : First) (row : Option RowRef) → IsRow row → AreRows (places_of first row)
 places_are (start.Whole m) row r = tt
-places_are (start.Line h) row r = inside_are h row r
+places_are (start.Line h) row r = inside_are false h row r
 
 pub later_are : (first : First) (row : Option RowRef) → IsRow row → AreRows (behind_of first row)
 later_are (start.Whole m) row r = tt
-later_are (start.Line h) row r = behind_are h row r
+later_are (start.Line h) row r = behind_are false h row r
 
 pub later_few : (first : First) (row : Option RowRef) → length (behind_of first row) ≤ 1
 later_few (start.Whole m) row = omega arith
-later_few (start.Line h) row = behind_few h row
+later_few (start.Line h) row = behind_few false h row
 
 -- ---- what was kept there
 
@@ -93,7 +93,7 @@ inside_fewer b links row before a c (start.Whole m) is rs rows others inner show
     let l = inner_less b in
     omega (arith, p, q, s, l)
 inside_fewer b links row before a c (start.Line h) is rs rows others inner shows places x split same few e i =
-    inside_smaller b links row x.mid c h rows others inner shows places x.opens split same few e i
+    inside_smaller false b links row x.mid c h rows others inner shows places x.opens split same few e i
 
 -- of the lines behind
 pub later_fewer : (b : Block) (links : List ℕ) (row : Option RowRef) (before a c : Outcomes) (first : First) (is rs : List PageMemo)
@@ -106,37 +106,37 @@ later_fewer b links row before a c (start.Whole m) is rs rows others rest places
     let l = rest_less b in
     omega (arith, p, q, s, l)
 later_fewer b links row before a c (start.Line h) is rs rows others rest places x split same i =
-    behind_smaller b links row x.mid c h rows others rest places x.opens split same i
+    behind_smaller false false b links row x.mid c h rows others rest places x.opens split same i
 
 -- ---- what is kept next
 
 -- lines in one row
 pub first_made : (b : Block) (links : List ℕ) (row : Option RowRef) (before a c d e : Outcomes) (first : First) (ins later is rs : List PageMemo) →
-    Begins b links row before a c first ins later → Grows c d → MakesEach (inner_in b (shows_of first)) links (places_of first row) c d [] is → Grows d e →
-    MakesEach (rest_in b) links (behind_of first row) d e [] rs → Makes (lines_memo b) links row a e (kept_of first is rs)
+    Begins b links row before a c first ins later → Grows c d → MakesEach false (inner_in b (shows_of first)) links (places_of first row) c d [] is → Grows d e →
+    MakesEach false (rest_in b) links (behind_of first row) d e [] rs → Makes (lines_memo b) links row a e (kept_of first is rs)
 first_made b links row before a c d e (start.Whole w) ins later is rs x g inside k behinds =
     subst (λ z. Makes (lines_memo b) links row a z (kept w.memo)) (sym (behinds.0 ∙ inside.0)) x
 first_made b links row before a c d e (start.Line h) ins later is rs x g inside k behinds =
     changed_remade b links row before a x.mid e x.memo (closed h is rs) x.was x.changed (grows_on x.mid d e (grows_on x.mid c d x.grows g) k)
-    (line_made b links row h x.mid c d e is rs (closed h is rs) x.opens g inside k behinds refl)
+    (line_made false b links row h x.mid c d e is rs (closed h is rs) x.opens g inside k behinds refl)
 
 -- lines in the first of some rows, and then in the others
 pub turn_renewed : (b : Block) (links : List ℕ) (rows : List (Option RowRef)) (row : Option RowRef) (others : List (Option RowRef)) (first : First)
     (before a c d e f : Outcomes) (inner rest : Block) (shows : Bool) (places behinds : List (Option RowRef))
     (ins later none is nil rs dones put after : List PageMemo) → rows ≡ row ∷ others → Begins b links row before a c first ins later →
     shows ≡ shows_of first → inner ≡ inner_in b shows → places ≡ places_of first row → rest ≡ rest_in b → behinds ≡ behind_of first row → none ≡ [] →
-    nil ≡ [] → Grows a c → Grows c d → Grows d e → MakesEach inner links places c d none is → MakesEach rest links behinds d e nil rs →
-    put ≡ dones ++ kept_of first is rs ∷ [] → MakesEach b links others e f put after → MakesEach b links rows a f dones after
+    nil ≡ [] → Grows a c → Grows c d → Grows d e → MakesEach false inner links places c d none is → MakesEach false rest links behinds d e nil rs →
+    put ≡ dones ++ kept_of first is rs ∷ [] → MakesEach false b links others e f put after → MakesEach false b links rows a f dones after
 turn_renewed b links rows row others first before a c d e f inner rest shows places behinds ins later none is nil rs dones put after split x ef ei ep er el en em
     ga gc gd inside laters es others_made =
-    let i : MakesEach (inner_in b (shows_of first)) links (places_of first row) c d [] is =
-    subst (λ z. MakesEach (inner_in b (shows_of first)) links (places_of first row) c d z is) en
-    (subst (λ z. MakesEach (inner_in b (shows_of first)) links z c d none is) ep
-    (subst (λ z. MakesEach z links places c d none is) (ei ∙ ap (inner_in b) ef) inside)) in
-    let r : MakesEach (rest_in b) links (behind_of first row) d e [] rs =
-    subst (λ z. MakesEach (rest_in b) links (behind_of first row) d e z rs) em
-    (subst (λ z. MakesEach (rest_in b) links z d e nil rs) el (subst (λ z. MakesEach z links behinds d e nil rs) er laters)) in
-    more_each b links rows row others a e f dones put after (kept_of first is rs) split
+    let i : MakesEach false (inner_in b (shows_of first)) links (places_of first row) c d [] is =
+    subst (λ z. MakesEach false (inner_in b (shows_of first)) links (places_of first row) c d z is) en
+    (subst (λ z. MakesEach false (inner_in b (shows_of first)) links z c d none is) ep
+    (subst (λ z. MakesEach false z links places c d none is) (ei ∙ ap (inner_in b) ef) inside)) in
+    let r : MakesEach false (rest_in b) links (behind_of first row) d e [] rs =
+    subst (λ z. MakesEach false (rest_in b) links (behind_of first row) d e z rs) em
+    (subst (λ z. MakesEach false (rest_in b) links z d e nil rs) el (subst (λ z. MakesEach false z links behinds d e nil rs) er laters)) in
+    more_each false b links rows row others a e f dones put after (kept_of first is rs) split
     (first_made b links row before a c d e first ins later is rs x gc i gd r) (grows_on a d e (grows_on a c d ga gc) gd) es others_made
 
 -- ---- as the code has it
@@ -156,8 +156,8 @@ pub places_whole : (first : First) (m k : _) (row : Option RowRef) (places : Lis
 places_whole first m k row places e p = p ∙ ap (λ z. places_of z row) (sym e)
 
 pub places_line : (first : First) (h : Head) (row at : Option RowRef) (places : List (Option RowRef)) → first ≡ start.Line h → at ≡ row →
-    places ≡ places_in h at → places ≡ places_of first row
-places_line first h row at places e r p = p ∙ (ap (places_in h) r ∙ ap (λ z. places_of z row) (sym e))
+    places ≡ places_in false h at → places ≡ places_of first row
+places_line first h row at places e r p = p ∙ (ap (places_in false h) r ∙ ap (λ z. places_of z row) (sym e))
 
 -- what was kept inside, behind, and in the other rows
 pub inside_at : (b : Block) (links : List ℕ) (row : Option RowRef) (before a c : Outcomes) (first : First) (is rs : List PageMemo) (inner : Block)

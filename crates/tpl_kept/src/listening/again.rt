@@ -132,6 +132,7 @@ pub fn listen_all_again(
         &mut hearing.heard,
         attributes,
         links,
+        false,
         row,
         notes,
     )?;

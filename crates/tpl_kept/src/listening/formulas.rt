@@ -1,13 +1,14 @@
 // What is heard of the formulas of lines.
-ghost use Rattle.std.specs.Prelude.{◌≡◌, ◌<◌, length, map, IfOk, IfSome, OnOk};
+ghost use Rattle.std.specs.Prelude.{◌≡◌, ◌<◌, ◌&&◌, length, map, IfOk, IfSome, OnOk};
 ghost use Rattle.std.specs.Option.{option_copied};
 ghost use Rattle.sig_formula.specs.Trees.{tree};
 ghost use Rattle.signal_model.specs.Sound.{names_of};
 ghost use Rattle.tpl_hearing.specs.Heard.{scene, CanSettle, Hears};
 ghost use Rattle.tpl_model.specs.KeptLines.Kept.{heard_of};
-ghost use Rattle.tpl_model.specs.KeptLines.Memos.{Listens, ListensAll};
+ghost use Rattle.tpl_model.specs.KeptLines.Memos.{Listens, ListensUpTo};
+ghost use Rattle.tpl_model.specs.Shapes.{is_fault};
 
-use sig_base::{NoMemory, NodeId, Text};
+use sig_base::{NoMemory, NodeId, Outcome, Text};
 use sig_computed::RunNote;
 use sig_formula::{Formula, RowRef};
 use sig_host::{Lent, Shelf};
@@ -68,7 +69,24 @@ pub fn listen(
     Ok(line)
 }
 
-/// What is heard of the formulas of attributes, one after the other.
+/// Whether an outcome is a fault.
+pub(crate) fn is_fault(outcome: &Outcome) -> bool
+    ensures { result ≡ is_fault outcome.now }
+{
+    match outcome {
+        Outcome::Good(_) => false,
+        Outcome::Bad(_) => true,
+    }
+}
+
+/// Whether lines end, where they end at a fault or don't, and one was met or wasn't.
+pub(crate) fn is_over(ends: bool, failed: bool) -> bool
+    ensures { result ≡ (ends && failed) }
+{
+    ends && failed
+}
+
+/// What is heard of the formulas of attributes, one after the other, up to the first that meets a fault where lines end at one.
 ///
 /// # Errors
 ///
@@ -80,13 +98,14 @@ pub fn listen_all(
     heard: &mut Outcomes,
     attributes: &[(Text, Formula)],
     links: &[NodeId],
+    ends: bool,
     row: Option<&RowRef>,
     notes: &mut Vec<RunNote>,
 ) -> Result<Vec<Heard>, NoMemory>
     requires place { IfSome row (λ r. r.now.place < length r.now.rows.rows) }
     requires can { CanSettle (scene graph.old (⟦<Shelf as Lent>⟧.asked shelf.old) notes.old.items) }
     requires counted { ⟦<Shelf as Lent>⟧.counted shelf.old }
-    ensures heard { IfOk result (λ all. ListensAll (map (λ a. (a.0, tree a.1)) attributes.now) links.now (option_copied row.entry) heard.old heard.new (map heard_of all.items)) }
+    ensures heard { IfOk result (λ all. ListensUpTo ends (map (λ a. (a.0, tree a.1)) attributes.now) links.now (option_copied row.entry) heard.old heard.new (map heard_of all.items)) }
     ensures after { OnOk result (Hears
         (scene graph.old (⟦<Shelf as Lent>⟧.asked shelf.old) notes.old.items) (scene graph.new (⟦<Shelf as Lent>⟧.asked shelf.new) notes.new.items)
         (λ hosts. ⟦<Shelf as Lent>⟧.answers hosts shelf.old) (λ hosts. ⟦<Shelf as Lent>⟧.answers hosts shelf.new) heard.old heard.new) }
@@ -96,7 +115,11 @@ pub fn listen_all(
     let mut all = Vec::new(alloc);
     for attribute in attributes {
         let one = listen(alloc, graph, shelf, heard, &attribute.1, links, row, notes)?;
+        let over = is_over(ends, is_fault(&one.outcome));
         all.push(one)?;
+        if over {
+            return Ok(all);
+        }
     }
     Ok(all)
 }

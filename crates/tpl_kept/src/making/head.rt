@@ -1,12 +1,14 @@
 // What is heard of the first of some lines, where the lines inside it and behind it are made, and how these are put together.
-ghost use Rattle.std.specs.Prelude.{◌≡◌, ◌<◌, [], ◌∷◌, ◌++◌, length, map, IfOk, IfSome, OnOk};
+ghost use Rattle.std.specs.Prelude.{◌≡◌, ◌<◌, ◌||◌, [], ◌∷◌, ◌++◌, length, map, IfOk, IfSome, OnOk};
 ghost use Rattle.std.specs.Option.{option_copied};
 ghost use Rattle.tpl_blocks.specs.Blocks.{block};
 ghost use Rattle.tpl_model.specs.KeptLines.Kept.{kept};
 ghost use Rattle.tpl_model.specs.KeptLines.Memos.{table_in};
-ghost use Rattle.tpl_kept.specs.Heads.{behind, closed, inner_in, last_of, places_from, places_in, rest_in, shows_first, IsRow};
+ghost use Rattle.tpl_model.specs.KeptLines.Kept.{heard_of};
+ghost use Rattle.tpl_model.specs.PageUpdates.PageMemos.{any_fault};
+ghost use Rattle.tpl_kept.specs.Heads.{behind, closed, first_part, inner_in, last_of, last_read, places_from, places_in, places_tried, rest_in, second_part, shows_first, unless_ended, IsAttempted, IsRow};
 
-use crate::listening::{row_at, row_count, truth_of};
+use crate::listening::{is_fault, is_over, row_at, row_count, truth_of};
 use sig_base::{NoMemory, Outcome};
 use sig_formula::RowRef;
 use std::alloc::Global;
@@ -27,13 +29,25 @@ pub enum Head {
     Choice(Heard),
     /// The rows of a loop.
     Each(Heard),
+    /// What is kept of both parts of what is tried.
+    Attempt(Box<PageMemo>, Box<PageMemo>),
 }
 
-/// The first of some lines while it is made: what is heard of it, where the lines inside it are made, and what is kept inside it and behind it
-/// so far.
+/// What is kept of both parts of what is tried, before its line is put together, and whether a line of the second met a fault; nothing of any other
+/// line.
+#[derive(Drop)]
+pub struct Tried {
+    pub first: Vec<PageMemo>,
+    pub second: Vec<PageMemo>,
+    pub failed: bool,
+}
+
+/// The first of some lines while it is made: what is heard of it, whether that met a fault, where the lines inside it are made, and what is kept
+/// inside it and behind it so far.
 #[derive(Drop)]
 pub struct Turn {
     pub head: Head,
+    pub failed: bool,
     pub places: Vec<Option<RowRef>>,
     pub inside: Vec<PageMemo>,
     pub later: Vec<PageMemo>,
@@ -71,7 +85,56 @@ pub(crate) fn rest_of(lines: &Block) -> &Block
         Block::Tag(_, _, _, _, rest) => rest,
         Block::Choice(_, _, _, rest) => rest,
         Block::Each(_, _, rest) => rest,
+        Block::Attempt(_, _, rest) => rest,
     }
+}
+
+/// The lines of the first part of what is tried; any other line has itself in its place.
+pub(crate) fn first_part(lines: &Block) -> &Block
+    ensures { block result.now ≡ first_part (block lines.now) }
+{
+    match lines {
+        Block::Attempt(first, _, _) => first,
+        _ => lines,
+    }
+}
+
+/// The lines of the second part of what is tried; any other line has itself in its place.
+pub(crate) fn second_part(lines: &Block) -> &Block
+    ensures { block result.now ≡ second_part (block lines.now) }
+{
+    match lines {
+        Block::Attempt(_, second, _) => second,
+        _ => lines,
+    }
+}
+
+/// Where the parts of what is tried are made, in the row where it stands; nowhere for any other line.
+pub(crate) fn place_tried<'a>(lines: &Block, row: &'a Option<RowRef>) -> &'a [Option<RowRef>]
+    ensures { result.now ≡ places_tried (block lines.now) row.now }
+{
+    match lines {
+        Block::Attempt(_, _, _) => slice::from_ref(row),
+        _ => &[],
+    }
+}
+
+/// Whether lines met a fault, or others did.
+pub(crate) fn either(failed: bool, later: bool) -> bool
+    ensures { result ≡ (failed || later) }
+{
+    failed || later
+}
+
+/// Whether one of some attributes met a fault.
+pub(crate) fn any_fault(all: &[Heard]) -> bool
+    ensures { result ≡ any_fault (map heard_of all.now) }
+{
+    let mut failed = false;
+    for heard in all {
+        failed = either(failed, is_fault(&heard.outcome));
+    }
+    failed
 }
 
 /// The row where lines stand, as a row of one's own.
@@ -116,6 +179,21 @@ fn alone(alloc: Global, row: Option<&RowRef>) -> Result<Vec<Option<RowRef>>, NoM
     Ok(rows)
 }
 
+// The row alone, unless all ended before it.
+fn unless_over(
+    alloc: Global,
+    over: bool,
+    row: Option<&RowRef>,
+) -> Result<Vec<Option<RowRef>>, NoMemory>
+    ensures { IfOk result (λ rows. rows.items ≡ unless_ended over (option_copied row.entry ∷ [])) }
+{
+    if over {
+        return Ok(Vec::new(alloc));
+    }
+    let rows = alone(alloc, row)?;
+    Ok(rows)
+}
+
 // Each of the rows that an outcome is.
 fn places(alloc: Global, outcome: &Outcome) -> Result<Vec<Option<RowRef>>, NoMemory>
     ensures { IfOk result (λ rows. rows.items ≡ places_from (table_in outcome.now) 0 (length (table_in outcome.now).rows)) }
@@ -136,13 +214,14 @@ fn places(alloc: Global, outcome: &Outcome) -> Result<Vec<Option<RowRef>>, NoMem
 pub(crate) fn places_inside(
     alloc: Global,
     head: &Head,
+    ends: bool,
     row: Option<&RowRef>,
 ) -> Result<Vec<Option<RowRef>>, NoMemory>
-    ensures { IfOk result (λ rows. rows.items ≡ places_in head.now (option_copied row.entry)) }
+    ensures { IfOk result (λ rows. rows.items ≡ places_in ends head.now (option_copied row.entry)) }
 {
     match head {
-        Head::Tag(_) => {
-            let rows = alone(alloc, row)?;
+        Head::Tag(all) => {
+            let rows = unless_over(alloc, is_over(ends, any_fault(all)), row)?;
             Ok(rows)
         }
         Head::Choice(test) => match truth_of(&test.outcome) {
@@ -160,13 +239,24 @@ pub(crate) fn places_inside(
     }
 }
 
-/// Where the lines behind the first of some are made, in the row where these stand.
-pub(crate) fn place_behind<'a>(head: &Head, row: &'a Option<RowRef>) -> &'a [Option<RowRef>]
-    ensures { result.now ≡ behind head.now row.now }
+/// Rows, unless all ended before them.
+pub(crate) fn unless_ended(over: bool, rows: &[Option<RowRef>]) -> &[Option<RowRef>]
+    ensures { result.now ≡ unless_ended over rows.now }
+{
+    if over { &[] } else { rows }
+}
+
+/// Where the lines behind the first of some are made, in the row where these stand, unless all ended before them.
+pub(crate) fn place_behind<'a>(
+    head: &Head,
+    over: bool,
+    row: &'a Option<RowRef>,
+) -> &'a [Option<RowRef>]
+    ensures { result.now ≡ behind over head.now row.now }
 {
     match head {
         Head::Nothing => &[],
-        _ => slice::from_ref(row),
+        _ => unless_ended(over, slice::from_ref(row)),
     }
 }
 
@@ -179,6 +269,30 @@ pub(crate) fn last(memos: Vec<PageMemo>) -> PageMemo
         None => PageMemo::blank(),
         Some(memo) => memo,
     }
+}
+
+// What is kept last, or that nothing was read.
+fn last_read(memos: Vec<PageMemo>) -> PageMemo
+    ensures { kept result ≡ last_read (map kept memos.items) }
+{
+    let mut memos = memos;
+    match memos.pop() {
+        None => PageMemo::unread(),
+        Some(memo) => memo,
+    }
+}
+
+/// What is tried, by what is kept of both of its parts.
+///
+/// # Errors
+///
+/// `NoMemory` alone.
+pub(crate) fn attempted(alloc: Global, tried: Tried) -> Result<Head, NoMemory>
+    ensures { IfOk result (λ h. IsAttempted h (map kept tried.first.items) (map kept tried.second.items)) }
+{
+    let first = Box::new(alloc, last(tried.first))?;
+    let second = Box::new(alloc, last_read(tried.second))?;
+    Ok(Head::Attempt(first, second))
 }
 
 // What is kept of lines, by what is kept inside the first of them and behind it.
@@ -206,6 +320,10 @@ fn close(
         }
         Head::Each(rows) => {
             let memo = PageMemo::rows(alloc, rows, inside, last(later))?;
+            Ok(memo)
+        }
+        Head::Attempt(first, second) => {
+            let memo = PageMemo::either(alloc, first, second, last(later))?;
             Ok(memo)
         }
     }
@@ -240,6 +358,7 @@ pub fn put_turn(alloc: Global, turn: Turn, done: &mut Vec<PageMemo>) -> Result<(
 {
     let Turn {
         head,
+        failed: _failed,
         places: _places,
         inside,
         later,

@@ -45,6 +45,12 @@ pub(crate) fn put_names(out: &mut Vec<NodeId>, memo: &PageMemo) -> Result<(), No
             put_names(out, rest)?;
             Ok(())
         }
+        PageMemo::Either(first, second, rest) => {
+            put_names(out, first)?;
+            put_names(out, second)?;
+            put_names(out, rest)?;
+            Ok(())
+        }
         PageMemo::Branch(test, inner, rest) => {
             put_all(out, &test.names)?;
             put_names(out, inner)?;

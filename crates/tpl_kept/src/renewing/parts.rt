@@ -62,7 +62,7 @@ pub(crate) struct Parts {
 }
 
 /// Whether nothing is kept.
-#[tactic(auto, using(tpl_model::proofs::MemoEquations::kept_unread, tpl_model::proofs::MemoEquations::kept_blank, tpl_model::proofs::MemoEquations::kept_line, tpl_model::proofs::MemoEquations::kept_element, tpl_model::proofs::MemoEquations::kept_branch, tpl_model::proofs::MemoEquations::kept_loop))]
+#[tactic(auto, using(tpl_model::proofs::MemoEquations::kept_unread, tpl_model::proofs::MemoEquations::kept_blank, tpl_model::proofs::MemoEquations::kept_line, tpl_model::proofs::MemoEquations::kept_element, tpl_model::proofs::MemoEquations::kept_branch, tpl_model::proofs::MemoEquations::kept_loop, tpl_model::proofs::MemoEquations::kept_either))]
 pub(crate) fn unread(memo: &PageMemo) -> bool
     ensures { result ≡ is_unread (kept memo.now) }
 {
@@ -73,6 +73,7 @@ pub(crate) fn unread(memo: &PageMemo) -> bool
         PageMemo::Element(_, _, _) => false,
         PageMemo::Branch(_, _, _) => false,
         PageMemo::Loop(_, _, _) => false,
+        PageMemo::Either(_, _, _) => false,
     }
 }
 
@@ -131,6 +132,10 @@ pub(crate) fn apart(alloc: Global, memo: Box<PageMemo>) -> Result<Parts, NoMemor
         PageMemo::Loop(rows, inside, later) => {
             let head = Box::new(alloc, Head::Each(rows))?;
             Ok(parted(head, inside, later))
+        }
+        PageMemo::Either(first, second, later) => {
+            let head = Box::new(alloc, Head::Attempt(first, second))?;
+            Ok(parted(head, Vec::new(alloc), later))
         }
         PageMemo::Blank => {
             let parts = nothing(alloc)?;
@@ -275,7 +280,7 @@ pub(crate) fn taken_up(
 ) -> Result<Turn, NoMemory>
     ensures first { IfOk result (λ t. t.first.value ≡ start.Line head.value) }
     ensures same { IfOk result (λ t. IsSame was.now head.value heard t.same) }
-    ensures places { IfOk result (λ t. t.places.items ≡ places_in head.value (option_copied row.entry)) }
+    ensures places { IfOk result (λ t. t.places.items ≡ places_in false head.value (option_copied row.entry)) }
     ensures inside_was { IfOk result (λ t. ServeInside was.now head.value (map kept inside.items) (map kept t.inside_was.items)) }
     ensures later_was { IfOk result (λ t. map kept t.later_was.items ≡ kept later.value ∷ []) }
     ensures inside { IfOk result (λ t. t.inside.items ≡ []) }
@@ -283,7 +288,7 @@ pub(crate) fn taken_up(
     ensures inside_changes { IfOk result (λ t. t.inside_changes.items ≡ []) }
     ensures later_changes { IfOk result (λ t. t.later_changes.items ≡ []) }
 {
-    let places = places_inside(alloc, &head, row)?;
+    let places = places_inside(alloc, &head, false, row)?;
     let inside_was = inside_was(alloc, was, &head, inside)?;
     let same = is_same(was, &head, heard);
     let later_was = waiting(alloc, Box::into_inner(later))?;
@@ -308,7 +313,7 @@ pub(crate) fn behind_of<'a>(first: &First, row: &'a Option<RowRef>) -> &'a [Opti
 {
     match first {
         First::Whole(_) => &[],
-        First::Line(head) => place_behind(head, row),
+        First::Line(head) => place_behind(head, false, row),
     }
 }
 

@@ -45,6 +45,7 @@ fn reads_none(memo: &PageMemo) -> bool
             is_none(&test.names) && reads_none(inner) && reads_none(rest)
         }
         PageMemo::Loop(_, _, _) => false,
+        PageMemo::Either(_, _, _) => false,
     }
 }
 

@@ -1,5 +1,5 @@
 // What is kept of lines, brought up to date.
-ghost use Rattle.std.specs.Prelude.{◌≡◌, ◌<◌, ◌^◌, [], length, map, true, IfOk, IfSome, OnOk};
+ghost use Rattle.std.specs.Prelude.{◌≡◌, ◌<◌, ◌^◌, [], length, map, false, true, IfOk, IfSome, OnOk};
 ghost use Rattle.std.specs.Option.{option_copied};
 ghost use Rattle.tpl_model.specs.PageUpdates.PageMemos.{names};
 ghost use Rattle.tpl_blocks.specs.Blocks.{block};
@@ -8,13 +8,13 @@ ghost use Rattle.tpl_hearing.specs.HeardAgain.{AreCompared, AreHeardAgain};
 ghost use Rattle.tpl_model.specs.KeptLines.Kept.{kept};
 ghost use Rattle.tpl_model.specs.KeptLines.Memos.{lines_memo, Makes};
 ghost use Rattle.tpl_kept.specs.Renewals.{AreLooked, WasMadeIfRead};
-ghost use Rattle.tpl_kept.specs.Heads.{AreRows, IsRow, MakesEach, Opens};
+ghost use Rattle.tpl_kept.specs.Heads.{AreRows, IsRow, IsTried, MakesEach, Opens};
 ghost use Rattle.tpl_model.specs.KeptLines.Changes.{changed, Tells};
 ghost use Rattle.tpl_kept.specs.Changes.{BeginsTold, TellsEach};
-ghost use Rattle.tpl_kept.specs.Turns.{places_of, Begins, WasOpened, WereEach};
+ghost use Rattle.tpl_kept.specs.Turns.{places_of, Begins, IsWasTried, WasOpened, WasTried, WereEach};
 
 use crate::listening::{listen_again, listen_all_again};
-use crate::making::{Head, inner_of, last, lent_row, make, own_row, rest_of};
+use crate::making::{Head, hear_attempt, inner_of, last, lent_row, make, own_row, rest_of};
 use crate::renewing::looking::{Look, hears_first, look_behind, look_inside};
 use crate::renewing::names::put_names;
 use crate::renewing::parts::{
@@ -94,6 +94,55 @@ fn stays(
     Ok(same)
 }
 
+// What is kept of both parts of what is tried now, and whether all their names are as before: then it stays, and otherwise it is made anew.
+fn attempt_again(
+    alloc: Global,
+    graph: &mut Graph,
+    shelf: &mut Shelf,
+    before: &Outcomes,
+    hearing: &mut Rehearing,
+    first: &Block,
+    second: &Block,
+    one: Box<PageMemo>,
+    two: Box<PageMemo>,
+    links: &[NodeId],
+    row: Option<&RowRef>,
+    notes: &mut Vec<RunNote>,
+) -> Result<(Head, bool), NoMemory>
+    requires place { IfSome row (λ r. r.now.place < length r.now.rows.rows) }
+    requires can { CanSettle (scene graph.old (⟦<Shelf as Lent>⟧.asked shelf.old) notes.old.items) }
+    requires counted { ⟦<Shelf as Lent>⟧.counted shelf.old }
+    requires compared { AreCompared before.now hearing.old }
+    requires was { WasTried (block first.now) (block second.now) links.now (option_copied row) before.now (kept one.value) (kept two.value) }
+    ensures opens { IfOk result (λ r. IsTried false (block first.now) (block second.now) links.now (option_copied row.entry) hearing.old.heard hearing.new.heard r.0) }
+    ensures same { IfOk result (λ r. r.1 ≡ true → IsWasTried (block first.now) (block second.now) links.now (option_copied row.entry) before.now r.0) }
+    ensures after { OnOk result (Hears
+        (scene graph.old (⟦<Shelf as Lent>⟧.asked shelf.old) notes.old.items) (scene graph.new (⟦<Shelf as Lent>⟧.asked shelf.new) notes.new.items)
+        (λ hosts. ⟦<Shelf as Lent>⟧.answers hosts shelf.old) (λ hosts. ⟦<Shelf as Lent>⟧.answers hosts shelf.new) hearing.old.heard hearing.new.heard) }
+    ensures can { OnOk result (CanSettle (scene graph.new (⟦<Shelf as Lent>⟧.asked shelf.new) notes.new.items)) }
+    ensures counted { OnOk result (⟦<Shelf as Lent>⟧.counted shelf.new) }
+    ensures compared { OnOk result (AreCompared before.now hearing.new) }
+{
+    let mut ids = Vec::new(alloc);
+    put_names(&mut ids, &one)?;
+    put_names(&mut ids, &two)?;
+    if hear_again(graph, shelf, before, hearing, &ids, notes)? {
+        return Ok((Head::Attempt(one, two), true));
+    }
+    let next = hear_attempt(
+        alloc,
+        graph,
+        shelf,
+        &mut hearing.heard,
+        first,
+        second,
+        links,
+        row,
+        notes,
+    )?;
+    Ok((next, false))
+}
+
 // What is heard of the first of some lines now, and whether all its names are as before: then it isn't evaluated, and this was heard of it before.
 // Its clauses are those of a formula that is heard again, told of all that the first line evaluates.
 fn hear_first_again(
@@ -113,7 +162,7 @@ fn hear_first_again(
     requires counted { ⟦<Shelf as Lent>⟧.counted shelf.old }
     requires compared { AreCompared before.now hearing.old }
     requires was { WasOpened (block lines.now) links.now (option_copied row) before.now head.value }
-    ensures opens { IfOk result (λ r. Opens (block lines.now) links.now (option_copied row.entry) hearing.old.heard hearing.new.heard r.0) }
+    ensures opens { IfOk result (λ r. Opens false (block lines.now) links.now (option_copied row.entry) hearing.old.heard hearing.new.heard r.0) }
     ensures same { IfOk result (λ r. r.1 ≡ true → WasOpened (block lines.now) links.now (option_copied row.entry) before.now r.0) }
     ensures after { OnOk result (Hears
         (scene graph.old (⟦<Shelf as Lent>⟧.asked shelf.old) notes.old.items) (scene graph.new (⟦<Shelf as Lent>⟧.asked shelf.new) notes.new.items)
@@ -161,6 +210,16 @@ fn hear_first_again(
                 alloc, graph, shelf, before, hearing, rows, line, links, row, notes,
             )?;
             Ok((Head::Each(heard.0), heard.1))
+        }
+        Block::Attempt(first, second, _) => {
+            let head = Box::into_inner(head);
+            let Head::Attempt(one, two) = head else {
+                unreachable!()
+            };
+            let both = attempt_again(
+                alloc, graph, shelf, before, hearing, first, second, one, two, links, row, notes,
+            )?;
+            Ok(both)
         }
     }
 }
@@ -267,7 +326,7 @@ fn renew_each(
     requires counted { ⟦<Shelf as Lent>⟧.counted shelf.old }
     requires compared { AreCompared before.now hearing.old }
     requires was { WereEach (block lines.now) links.now rows.now before.now (map kept was.old.items) }
-    ensures made { OnOk result (MakesEach (block lines.now) links.now rows.now hearing.old.heard hearing.new.heard (map kept done.old.items) (map kept done.new.items)) }
+    ensures made { OnOk result (MakesEach false (block lines.now) links.now rows.now hearing.old.heard hearing.new.heard (map kept done.old.items) (map kept done.new.items)) }
     ensures told { OnOk result (TellsEach (block lines.now) links.now rows.now before.now (map kept was.old.items) (map kept done.old.items) (map kept done.new.items) (map changed changes.old.items) (map changed changes.new.items)) }
     ensures after { OnOk result (Hears
         (scene graph.old (⟦<Shelf as Lent>⟧.asked shelf.old) notes.old.items) (scene graph.new (⟦<Shelf as Lent>⟧.asked shelf.new) notes.new.items)

@@ -1,5 +1,5 @@
 -- What is kept of a template's lines shows what the lines show.
-use Rattle.std.proofs.Common.{◌≡◌, ℕ, suc, Bool, true, false, not, cond, ◌||◌, ◌&&◌, refl, sym, ap, ◌∙◌, append-nil, inl, inr, List, [], ◌∷◌, ◌++◌, Option, Some, None}
+use Rattle.std.proofs.Common.{◌≡◌, ℕ, suc, Bool, true, false, ◌||◌, ◌&&◌, refl, sym, ap, ◌∙◌, append-nil, inl, inr, List, [], ◌∷◌, ◌++◌, Option, Some, None}
 use Rattle.std.proofs.lemmas.Bool.{cases_Bool, false≢true, true≢false}
 use Rattle.sig_base.specs.Tables.{Table}
 use Rattle.sig_base.specs.declared.rows.Row.{Row}
@@ -13,7 +13,7 @@ use Rattle.page_model.specs.Forest.{Forest, none, node, after}
 use Rattle.page_model.specs.Labels.{Root, Text, Element, Look}
 use Rattle.tpl_model.specs.Lines.{Line, Block, block_of, empty, text, tag, choice, each, attempt}
 use Rattle.tpl_model.specs.Shapes.{Evaluating, Here, key_here, row_here, Showing, is_fault, formula_shown, then_shown, within, chosen, rows_from, each_row, attempted, node_text, attribute_value, attributes_of, attributes_told, shown_block}
-use Rattle.tpl_model.specs.PageUpdates.PageMemos.{hearing, PageMemo, blank, unless, any_fault, all_names, failed, names, values, picks, row_nodes, nodes, attributes_heard, rows_memo, each_memo, memo_of}
+use Rattle.tpl_model.specs.PageUpdates.PageMemos.{hearing, Hearing, PageMemo, blank, unless, where_ended, part_shown, any_fault, all_names, failed, names, values, picks, row_nodes, nodes, attributes_heard, rows_memo, each_memo, memo_of}
 use Rattle.tpl_model.proofs.Kept.{attributes_none}
 use Rattle.tpl_model.specs.Sources.{evaluating}
 use Rattle.tpl_model.specs.PageUpdates.Updates.{memo_on, memo_shape, shape_on}
@@ -122,18 +122,28 @@ shows_within ends ns f t x a l l' e s = record {
   nodes = λ h. ap (λ z. node a z t none) (e h) ∙ ap (λ z. node a l' z none) (s.nodes h);
 }
 
-shows_attempted : (ends : Bool) (a b : PageMemo) (s t : PageMemo → Forest Look) (x y : Showing) → Shows true (names a) (failed a) (s a) x → Shows ends (names b) (failed b) (t b) y →
-    let c = unless (not (failed a)) b in Shows ends (names a ++ names c) (failed c) (cond (failed a) (t c) (s a)) (attempted x y)
-shows_attempted ends a b s t x y p q = elim (cases_Bool (failed a)) [
+shows_attempted : (ends : Bool) (a b : PageMemo) (s t : PageMemo → Forest Look) (x y : Showing) → ((u v : Forest Look) → part_shown b u v ≡ v) →
+    Shows true (names a) (failed a) (s a) x → Shows ends (names b) (failed b) (t b) y →
+    let c = where_ended (failed a) b in Shows ends (names a ++ names c) (failed c) (part_shown c (s a) (t c)) (attempted x y)
+shows_attempted ends a b s t x y read p q = elim (cases_Bool (failed a)) [
   | inl e ↦ (
       let f : x.failed ≡ true = sym p.fault ∙ e in
       let g : attempted x y ≡ record y { reads = x.reads ++ y.reads } = rw f refl in
-      rw (e, g) (record { reads = ap (λ z. z ++ names b) p.reads ∙ ap (λ z. x.reads ++ z) q.reads; fault = q.fault; nodes = q.nodes }))
+      rw (e, g) (record { reads = ap (λ z. z ++ names b) p.reads ∙ ap (λ z. x.reads ++ z) q.reads; fault = q.fault; nodes = λ h. read (s a) (t b) ∙ q.nodes h }))
   | inr e ↦ (
       let f : x.failed ≡ false = sym p.fault ∙ e in
       let g : attempted x y ≡ x = rw f refl in
       rw (e, g) (record { reads = append-nil (names a) ∙ p.reads; fault = sym f; nodes = λ h. p.nodes e }))
 ]
+
+-- what was read was read
+memo_read : (hear : Hearing) (b : Block) (ends : Bool) (here : Option Here) (u v : Forest Look) → part_shown (memo_of hear ends here b) u v ≡ v
+memo_read hear empty ends here u v = refl
+memo_read hear (text n f rest) ends here u v = refl
+memo_read hear (tag n name xs inner rest) ends here u v = refl
+memo_read hear (choice f one other rest) ends here u v = refl
+memo_read hear (each f inner rest) ends here u v = refl
+memo_read hear (attempt first second rest) ends here u v = refl
 
 pub shows : (eval : Evaluating) (b : Block) (ends : Bool) (here : Option Here) → let m = memo_of (hearing eval) ends here b in Shows ends (names m) (failed m) (nodes (key_here here) b m) (shown_block eval ends here b)
 shows eval empty ends here = record { reads = refl; fault = refl; nodes = λ h. refl }
@@ -183,11 +193,11 @@ shows eval (each f inner rest) ends here =
 shows eval (attempt first second rest) ends here =
     let a = memo_of (hearing eval) true here first in
     let c = memo_of (hearing eval) ends here second in
-    let b = unless (not (failed a)) c in
+    let b = where_ended (failed a) c in
     let x = shown_block eval true here first in
     let y = shown_block eval ends here second in
-    let own = shows_attempted ends a c (nodes (key_here here) first) (nodes (key_here here) second) x y (shows eval first true here) (shows eval second ends here) in
-    shows_then ends (names a ++ names b) (failed b) (cond (failed a) (nodes (key_here here) second b) (nodes (key_here here) first a)) (attempted x y) (memo_of (hearing eval) ends here rest) (nodes (key_here here) rest) (shown_block eval ends here rest) own (shows eval rest ends here)
+    let own = shows_attempted ends a c (nodes (key_here here) first) (nodes (key_here here) second) x y (memo_read (hearing eval) second ends here) (shows eval first true here) (shows eval second ends here) in
+    shows_then ends (names a ++ names b) (failed b) (part_shown b (nodes (key_here here) first a) (nodes (key_here here) second b)) (attempted x y) (memo_of (hearing eval) ends here rest) (nodes (key_here here) rest) (shown_block eval ends here rest) own (shows eval rest ends here)
 
 -- ---- the whole page
 

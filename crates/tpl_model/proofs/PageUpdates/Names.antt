@@ -1,5 +1,5 @@
 -- The names that were read before, up to the first that has changed, are read now too, in the same order.
-use Rattle.std.proofs.Common.{◌≡◌, ℕ, suc, Bool, true, false, not, ◌||◌, ◌&&◌, refl, sym, ap, ◌∙◌, inl, inr, List, [], ◌∷◌, ◌++◌, Option, Some, if◌then◌else◌}
+use Rattle.std.proofs.Common.{◌≡◌, ℕ, suc, Bool, true, false, ◌||◌, ◌&&◌, refl, sym, ap, ◌∙◌, inl, inr, List, [], ◌∷◌, ◌++◌, Option, Some, if◌then◌else◌}
 use Rattle.std.proofs.lemmas.Bool.{cases_Bool, false≢true, true≢false}
 use Rattle.sig_base.specs.Tables.{Table}
 use Rattle.sig_base.specs.declared.rows.Row.{Row}
@@ -10,8 +10,8 @@ use Rattle.sig_formula.specs.Trees.{Tree}
 use Rattle.sig_formula.specs.declared.formula.RowRef.{RowRef}
 use Rattle.tpl_model.specs.Lines.{Block, empty, text, tag, choice, each, attempt}
 use Rattle.tpl_model.specs.Shapes.{Here, row_here, is_fault}
-use Rattle.tpl_model.specs.PageUpdates.PageMemos.{Heard, Hearing, PageMemo, blank, unless, any_fault, all_names, failed, names, picks, attributes_heard, rows_memo, each_memo, memo_of, all_same, Steady, up_to_change, Begins}
-use Rattle.tpl_model.proofs.PageUpdates.Updates.{parts, memo_agree, attributes_same, unless_agree as unless_same, picks_agree as picks_same, each_agree as each_same}
+use Rattle.tpl_model.specs.PageUpdates.PageMemos.{Heard, Hearing, PageMemo, blank, unless, where_ended, any_fault, all_names, failed, names, picks, attributes_heard, rows_memo, each_memo, memo_of, all_same, Steady, up_to_change, Begins}
+use Rattle.tpl_model.proofs.PageUpdates.Updates.{parts, memo_agree, attributes_same, unless_agree as unless_same, where_agree as where_same, picks_agree as picks_same, each_agree as each_same}
 
 all_upto : (same : ℕ → Bool) (xs : List ℕ) → all_same same (up_to_change same xs) ≡ all_same same xs
 all_upto same [] = refl
@@ -44,6 +44,10 @@ then_upto same xs xs' ys ys' h k =
 unless_upto : (same : ℕ → Bool) (c c' : Bool) (m m' : PageMemo) → c ≡ c' → up_to_change same (names m) ≡ up_to_change same (names m') → up_to_change same (names (unless c m)) ≡ up_to_change same (names (unless c' m'))
 unless_upto same true c' m m' e h = (let p : up_to_change same (names (unless true m')) ≡ up_to_change same (names (unless c' m')) = ap (λ z. up_to_change same (names (unless z m'))) e in p)
 unless_upto same false c' m m' e h = h ∙ ap (λ z. up_to_change same (names (unless z m'))) e
+
+where_upto : (same : ℕ → Bool) (c c' : Bool) (m m' : PageMemo) → c ≡ c' → up_to_change same (names m) ≡ up_to_change same (names m') → up_to_change same (names (where_ended c m)) ≡ up_to_change same (names (where_ended c' m'))
+where_upto same true c' m m' e h = h ∙ ap (λ z. up_to_change same (names (where_ended z m'))) e
+where_upto same false c' m m' e h = (let p : up_to_change same (names (where_ended false m')) ≡ up_to_change same (names (where_ended c' m')) = ap (λ z. up_to_change same (names (where_ended z m'))) e in p)
 
 attributes_upto : (same : ℕ → Bool) (hear later : Hearing) → Steady same hear later → Begins same hear later → (ends : Bool) (r : Option RowRef) (xs : List (List ℕ × Tree)) →
     up_to_change same (all_names (attributes_heard ends hear r xs)) ≡ up_to_change same (all_names (attributes_heard ends later r xs))
@@ -156,14 +160,14 @@ memo_upto same hear later s g (attempt first second rest) ends here =
     let x' = memo_of later true here first in
     let y = memo_of hear ends here second in
     let y' = memo_of later ends here second in
-    let i = unless (not (failed x)) y in
-    let i' = unless (not (failed x')) y' in
+    let i = where_ended (failed x) y in
+    let i' = where_ended (failed x') y' in
     let own = then_upto same (names x) (names x') (names i) (names i') (memo_upto same hear later s g first true here)
-    (λ a. (let e = memo_agree same hear later s first true here a in (ap names e, unless_upto same (not (failed x)) (not (failed x')) y y' (ap (λ z. not (failed z)) e) (memo_upto same hear later s g second ends here)))) in
+    (λ a. (let e = memo_agree same hear later s first true here a in (ap names e, where_upto same (failed x) (failed x') y y' (ap failed e) (memo_upto same hear later s g second ends here)))) in
     inside_upto same (λ z. ends && z) (names x) (names x') i i' (memo_of hear ends here rest) (memo_of later ends here rest) (failed i) (failed i') own
     (λ a. (
     let p = parts same (names x) (names i) a in
     let e = memo_agree same hear later s first true here p.0 in
-    let q : i ≡ i' = unless_same same (not (failed x)) y y' (memo_agree same hear later s second ends here) p.1 ∙ ap (λ z. unless (not (failed z)) y') e in
+    let q : i ≡ i' = where_same same (failed x) y y' (memo_agree same hear later s second ends here) p.1 ∙ ap (λ z. where_ended (failed z) y') e in
     (ap (λ z. names z ++ names i) e ∙ ap (λ z. names x' ++ names z) q, ap failed q)))
     (memo_upto same hear later s g rest ends here)

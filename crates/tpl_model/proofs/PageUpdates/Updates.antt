@@ -1,5 +1,5 @@
 -- What is brought up to date is what is made from scratch.
-use Rattle.std.proofs.Common.{◌≡◌, ℕ, suc, Bool, true, false, not, ◌||◌, ◌&&◌, refl, sym, ap, ◌∙◌, inl, inr, List, [], ◌∷◌, ◌++◌, Option, Some, if◌then◌else◌}
+use Rattle.std.proofs.Common.{◌≡◌, ℕ, suc, Bool, true, false, ◌||◌, ◌&&◌, refl, sym, ap, ◌∙◌, inl, inr, List, [], ◌∷◌, ◌++◌, Option, Some, if◌then◌else◌}
 use Rattle.std.proofs.lemmas.Bool.{cases_Bool, false≢true}
 use Rattle.sig_base.specs.Tables.{Table}
 use Rattle.sig_base.specs.declared.rows.Row.{Row}
@@ -10,7 +10,7 @@ use Rattle.sig_formula.specs.Trees.{Tree}
 use Rattle.sig_formula.specs.declared.formula.RowRef.{RowRef}
 use Rattle.tpl_model.specs.Lines.{Block, empty, text, tag, choice, each, attempt}
 use Rattle.tpl_model.specs.Shapes.{Here, row_here, is_fault}
-use Rattle.tpl_model.specs.PageUpdates.PageMemos.{Heard, Hearing, PageMemo, blank, line, element, branch, loop, row, either, unless, any_fault, all_names, failed, names, picks, attributes_heard, rows_memo, each_memo, memo_of, all_same, Steady}
+use Rattle.tpl_model.specs.PageUpdates.PageMemos.{Heard, Hearing, PageMemo, blank, line, element, branch, loop, row, either, unless, where_ended, any_fault, all_names, failed, names, picks, attributes_heard, rows_memo, each_memo, memo_of, all_same, Steady}
 
 pub all_both : (same : ℕ → Bool) (xs ys : List ℕ) → all_same same (xs ++ ys) ≡ (all_same same xs && all_same same ys)
 all_both same [] ys = refl
@@ -28,6 +28,10 @@ parts same xs ys h = both_true (all_same same xs) (all_same same ys) (sym (all_b
 pub unless_agree : (same : ℕ → Bool) (c : Bool) (m n : PageMemo) → (all_same same (names m) ≡ true → m ≡ n) → all_same same (names (unless c m)) ≡ true → unless c m ≡ unless c n
 unless_agree same true m n h a = refl
 unless_agree same false m n h a = h a
+
+pub where_agree : (same : ℕ → Bool) (c : Bool) (m n : PageMemo) → (all_same same (names m) ≡ true → m ≡ n) → all_same same (names (where_ended c m)) ≡ true → where_ended c m ≡ where_ended c n
+where_agree same true m n h a = h a
+where_agree same false m n h a = refl
 
 pub attributes_same : (same : ℕ → Bool) (hear later : Hearing) → Steady same hear later → (ends : Bool) (r : Option RowRef) (xs : List (List ℕ × Tree)) → all_same same (all_names (attributes_heard ends hear r xs)) ≡ true → attributes_heard ends hear r xs ≡ attributes_heard ends later r xs
 attributes_same same hear later s ends r [] a = refl
@@ -127,14 +131,14 @@ memo_agree same hear later s (attempt first second rest) ends here a =
     let x' = memo_of later true here first in
     let y = memo_of hear ends here second in
     let y' = memo_of later ends here second in
-    let b = unless (not (failed x)) y in
+    let b = where_ended (failed x) y in
     let m = memo_of hear ends here rest in
     let m' = memo_of later ends here rest in
     let c = ends && failed b in
     let p = parts same (names x ++ names b) (names (unless c m)) a in
     let q = parts same (names x) (names b) p.0 in
-    let e = unless_agree same (not (failed x)) y y' (memo_agree same hear later s second ends here) q.1 in
-    let w : PageMemo → PageMemo = λ z. unless (not (failed z)) y' in
+    let e = where_agree same (failed x) y y' (memo_agree same hear later s second ends here) q.1 in
+    let w : PageMemo → PageMemo = λ z. where_ended (failed z) y' in
     ap (λ z. either x b z) (unless_agree same c m m' (memo_agree same hear later s rest ends here) p.1)
     ∙ (ap (λ z. either x z (unless (ends && failed z) m')) e
     ∙ ap (λ z. either z (w z) (unless (ends && failed (w z)) m')) (memo_agree same hear later s first true here q.0))
@@ -186,5 +190,5 @@ memo_like hear (attempt first second rest) ends here here' e =
     let y' = memo_of hear ends here' second in
     let m = memo_of hear ends here rest in
     let m' = memo_of hear ends here' rest in
-    let w : PageMemo → PageMemo → PageMemo → PageMemo = λ x y m. either x (unless (not (failed x)) y) (unless (ends && failed (unless (not (failed x)) y)) m) in
+    let w : PageMemo → PageMemo → PageMemo → PageMemo = λ x y m. either x (where_ended (failed x) y) (unless (ends && failed (where_ended (failed x) y)) m) in
     ap (w x y) (memo_like hear rest ends here here' e) ∙ (ap (λ z. w x z m') (memo_like hear second ends here here' e) ∙ ap (λ z. w z y' m') (memo_like hear first true here here' e))

@@ -9,16 +9,16 @@ use Rattle.tpl_model.specs.Lines.{Block, empty, text, tag, choice, each, attempt
 use Rattle.tpl_model.specs.Shapes.{Here}
 use Rattle.tpl_model.specs.Sources.{evaluating, same_here}
 use Rattle.tpl_model.specs.KeptLines.Outcomes.{Outcomes}
-use Rattle.tpl_model.specs.PageUpdates.PageMemos.{PageMemo, line, element, branch, loop, row, hearing}
-use Rattle.tpl_model.specs.KeptLines.Memos.{Agrees, lines_memo, table_in, truth_in}
+use Rattle.tpl_model.specs.PageUpdates.PageMemos.{PageMemo, blank, line, element, branch, loop, row, either, hearing}
+use Rattle.tpl_model.specs.KeptLines.Memos.{Agrees, attempt_memo, lines_memo, table_in, truth_in}
 use Rattle.tpl_model.specs.KeptLines.Before.{WasListened, WasListenedAll, WasMade}
 use Rattle.tpl_model.specs.declared.change.Change as code
 use Rattle.tpl_model.specs.declared.change.Change.TheOpen.{Change-F}
 use Rattle.tpl_model.specs.declared.change.Change.TheFolds.{fold-Change}
 
 -- what became of lines: all of it stays, it was made anew, or the first line was heard again, with whether it is the same (the names of a text, of
--- attributes or of a test have the outcomes of before, and the rows of a loop their keys, in the same order), what became of its inside and of the
--- lines behind it; `also` and `nothing` are the parts of an inside, one after the other
+-- attributes, of a test or of both parts of a `try` have the outcomes of before, and the rows of a loop their keys, in the same order), what became of
+-- its inside and of the lines behind it; `also` and `nothing` are the parts of an inside, one after the other
 pub data Change : Type 0 where
   stays : Change
   made : Change
@@ -99,7 +99,7 @@ RowsTell Go m c = Unit {0}
 
 -- Lines that stay are kept now as they were made on the outcomes of before; a text or attributes whose names have the outcomes of before were heard
 -- so before; of a branch that wasn't made anew the test had its truth before, a row that wasn't made anew stood among the rows of before, and rows of
--- a loop that is the same had their keys.
+-- a loop that is the same had their keys; the parts of a `try` that is the same were made so before.
 abbrev pub Tells : Block → List ℕ → Option RowRef → Outcomes → PageMemo → Change → Type 0
 Tells (text n f rest) links place before (line h r) c =
     by_change (WasMade (lines_memo (text n f rest)) links place before (line h r))
@@ -118,6 +118,8 @@ Tells (each f inner rest) links place before (loop h i r) c =
     (λ same inside later. (same ≡ true → HadKeys f links place before (keys_in h.outcome))
     × (RowsTell (λ (here : Here) (m : PageMemo) (d : Change). (is_made d ≡ false → WasRow f links place before here.row)
     × Tells inner links (Some here.row) before m d) i inside × Tells rest links place before r later)) c
-Tells (attempt first second rest) links place before m c =
-    by_change (WasMade (lines_memo (attempt first second rest)) links place before m) (λ same inside later. Unit {0}) c
+Tells (attempt first second rest) links place before (either a b r) c =
+    by_change (WasMade (lines_memo (attempt first second rest)) links place before (either a b r))
+    (λ same inside later. (same ≡ true → WasMade (attempt_memo false first second) links place before (either a b blank))
+    × Tells rest links place before r later) c
 Tells b links place before m c = Unit {0}

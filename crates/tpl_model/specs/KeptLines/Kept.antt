@@ -36,6 +36,7 @@ kept_node PageMemo-F.Blank = model.blank
 kept_node (PageMemo-F.Line h r) = model.line (heard_of h) (box_value r)
 kept_node (PageMemo-F.Element hs i r) = model.element (map heard_of hs.items) (box_value i) (box_value r)
 kept_node (PageMemo-F.Branch h i r) = model.branch (heard_of h) (box_value i) (box_value r)
+kept_node (PageMemo-F.Either a b r) = model.either (box_value a) (box_value b) (box_value r)
 kept_node (PageMemo-F.Loop h rows r) = model.loop (heard_of h) (rows_of h.outcome rows.items) (box_value r)
 
 -- what is kept of all lines

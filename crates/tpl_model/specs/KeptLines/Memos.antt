@@ -13,7 +13,7 @@ use Rattle.tpl_model.specs.Shapes.{Here, row_here}
 use Rattle.tpl_model.specs.Sources.{evaluating}
 use Rattle.tpl_model.specs.KeptLines.Outcomes.{Outcomes, heard_of}
 use Rattle.tpl_model.specs.KeptLines.Kept.{rows_from}
-use Rattle.tpl_model.specs.PageUpdates.PageMemos.{Heard, Hearing, PageMemo, blank, hearing, attributes_heard, all_names, memo_of, names, rows_memo}
+use Rattle.tpl_model.specs.PageUpdates.PageMemos.{Heard, Hearing, PageMemo, blank, either, hearing, attributes_heard, all_names, failed, memo_of, names, rows_memo, where_ended}
 
 -- the names that were heard have these outcomes
 pub record Agrees (heard : Outcomes) (source : ℕ → Outcome) : Type 0 where
@@ -24,11 +24,14 @@ pub record Listens (f : Tree) (links : List ℕ) (row : Option RowRef) (earlier 
   pub is : (source : ℕ → Outcome) → Agrees now source → h ≡ hearing (evaluating links source) row f
   pub order : keys_of now ≡ firsts_after (keys_of earlier) h.names
 
--- so it is for each of some attributes
-pub record ListensAll (xs : List (List ℕ × Tree)) (links : List ℕ) (row : Option RowRef) (earlier now : Outcomes)
+-- so it is for each of some attributes, to their end or to the first that meets a fault
+pub record ListensUpTo (ends : Bool) (xs : List (List ℕ × Tree)) (links : List ℕ) (row : Option RowRef) (earlier now : Outcomes)
     (hs : List Heard) : Type 0 where
-  pub is : (source : ℕ → Outcome) → Agrees now source → hs ≡ attributes_heard false (hearing (evaluating links source)) row xs
+  pub is : (source : ℕ → Outcome) → Agrees now source → hs ≡ attributes_heard ends (hearing (evaluating links source)) row xs
   pub order : keys_of now ≡ firsts_after (keys_of earlier) (all_names hs)
+
+abbrev pub ListensAll : List (List ℕ × Tree) → List ℕ → Option RowRef → Outcomes → Outcomes → List Heard → Type 0
+ListensAll xs links row earlier now hs = ListensUpTo false xs links row earlier now hs
 
 -- what is kept of lines, by what is heard of their formulas in the row where they stand
 abbrev pub Keeping : Type 0
@@ -40,9 +43,13 @@ pub record Makes (whole : Keeping) (links : List ℕ) (row : Option RowRef) (ear
       m ≡ whole (hearing (evaluating links source)) here
   pub order : keys_of now ≡ firsts_after (keys_of earlier) (names m)
 
--- what is kept of the lines of a block
+-- what is kept of the lines of a block, to their end or, in the first part of a `try`, to the first that meets a fault
+abbrev pub part_memo : Bool → Block → Keeping
+part_memo ends b hear here = memo_of hear ends here b
+
+-- to their end
 abbrev pub lines_memo : Block → Keeping
-lines_memo b hear here = memo_of hear false here b
+lines_memo b hear here = part_memo false b hear here
 
 -- the truth that an outcome is, where it is one
 abbrev pub truth_in : Outcome → Option Bool
@@ -50,10 +57,19 @@ truth_in (Good (value.Bool b)) = Some b
 truth_in _ = None
 
 -- what is kept of the branch that is shown
+abbrev pub branch_part : Bool → Option Bool → Block → Block → Keeping
+branch_part ends None one other hear here = blank
+branch_part ends (Some true) one other hear here = memo_of hear ends here one
+branch_part ends (Some false) one other hear here = memo_of hear ends here other
+
 abbrev pub branch_memo : Option Bool → Block → Block → Keeping
-branch_memo None one other hear here = blank
-branch_memo (Some true) one other hear here = memo_of hear false here one
-branch_memo (Some false) one other hear here = memo_of hear false here other
+branch_memo t one other hear here = branch_part false t one other hear here
+
+-- what is kept of what is tried, with nothing behind it
+abbrev pub attempt_memo : Bool → Block → Block → Keeping
+attempt_memo ends first second hear here =
+    let a = memo_of hear true here first in
+    either a (where_ended (failed a) (memo_of hear ends here second)) blank
 
 -- the rows that an outcome is, and otherwise none
 abbrev pub table_in : Outcome → Table
@@ -61,8 +77,11 @@ table_in (Good (value.Rows t)) = t
 table_in _ = record { fields = []; rows = [] }
 
 -- what is kept for each row
+abbrev pub loop_part : Bool → Table → Block → Keeping
+loop_part ends t inner hear here = rows_memo ends (λ r. memo_of hear ends (Some r) inner) t 0 t.rows
+
 abbrev pub loop_memo : Table → Block → Keeping
-loop_memo t inner hear here = rows_memo false (λ r. memo_of hear false (Some r) inner) t 0 t.rows
+loop_memo t inner hear here = loop_part false t inner hear here
 
 -- what is kept for rows, one after the other
 abbrev pub rows_in : Table → List PageMemo → PageMemo

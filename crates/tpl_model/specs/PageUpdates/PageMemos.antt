@@ -1,5 +1,5 @@
 -- What a page keeps of its template's lines, and how it is brought up to date.
-use Rattle.std.specs.Prelude.{ℕ, suc, Bool, true, false, not, ◌||◌, ◌&&◌, List, [], ◌∷◌, ◌++◌, map, Option, Some, if◌then◌else◌, ◌≡◌}
+use Rattle.std.specs.Prelude.{ℕ, suc, Bool, true, false, ◌||◌, ◌&&◌, List, [], ◌∷◌, ◌++◌, map, Option, Some, if◌then◌else◌, ◌≡◌}
 use Rattle.sig_base.specs.Tables.{Table}
 use Rattle.sig_base.specs.declared.rows.Row.{Row}
 use Rattle.sig_base.specs.declared.value.Value.TheVariants as value
@@ -29,7 +29,8 @@ abbrev pub hearing : Evaluating → Hearing
 hearing eval row f = record { names = map (λ (s : Seen). s.name) (eval row f).reads; outcome = (eval row f).outcome }
 
 -- Lines one after the other, each with what was heard of it and what is kept inside it. Rows stand one after the other inside their loop.
--- `unread` are lines that a fault before them kept from being read, and the second part of a `try` whose first part is shown.
+-- Nothing is kept of lines that a fault before them kept from being read: `blank` stands for them as for no lines. `unread` stands for the second
+-- part of a `try` whose first part is shown, and wherever all has to be made.
 pub data PageMemo : Type 0 where
   unread : PageMemo
   blank : PageMemo
@@ -42,8 +43,18 @@ pub data PageMemo : Type 0 where
 
 -- lines that are kept from being read where something holds
 abbrev pub unless : Bool → PageMemo → PageMemo
-unless true m = unread
+unless true m = blank
 unless false m = m
+
+-- the second part of a `try`, which is read where the first has ended
+abbrev pub where_ended : Bool → PageMemo → PageMemo
+where_ended true m = m
+where_ended false m = unread
+
+-- of what two parts of a `try` show what is shown, by what is kept of the second: the first, where the second wasn't read
+abbrev pub part_shown : PageMemo → Forest Look → Forest Look → Forest Look
+part_shown unread first second = first
+part_shown m first second = second
 
 -- ---- what a memo says
 
@@ -102,7 +113,7 @@ nodes k (text n f rest) (line h r) = node (address n k) (Text (node_text h.outco
 nodes k (tag n name xs inner rest) (element hs i r) = node (address n k) (Element name (values xs hs)) (nodes k inner i) (nodes k rest r)
 nodes k (choice f one other rest) (branch h i r) = after (picks h.outcome (nodes k one i) (nodes k other i) none) (nodes k rest r)
 nodes k (each f inner rest) (loop h i r) = after (row_nodes (λ (h : Here) (m : PageMemo). nodes (Some h.key) inner m) i) (nodes k rest r)
-nodes k (attempt first second rest) (either a b r) = after (if failed a then nodes k second b else nodes k first a) (nodes k rest r)
+nodes k (attempt first second rest) (either a b r) = after (part_shown b (nodes k first a) (nodes k second b)) (nodes k rest r)
 nodes k _ _ = none
 
 -- ---- from scratch
@@ -144,7 +155,7 @@ memo_of hear ends here (each f inner rest) =
     loop h i (unless (ends && (is_fault h.outcome || failed i)) (memo_of hear ends here rest))
 memo_of hear ends here (attempt first second rest) =
     let a = memo_of hear true here first in
-    let b = unless (not (failed a)) (memo_of hear ends here second) in
+    let b = where_ended (failed a) (memo_of hear ends here second) in
     either a b (unless (ends && failed b) (memo_of hear ends here rest))
 
 -- ---- brought up to date, where a test tells the names whose outcomes are as before

@@ -4,8 +4,8 @@ use Rattle.std.specs.List.{flat_map}
 use Rattle.std.proofs.lemmas.List.{drop_all}
 use Rattle.tpl_model.specs.PageUpdates.PageMemos.{all_names, names}
 use Rattle.tpl_model.specs.KeptLines.Kept.{heard_of, kept}
-use Rattle.tpl_model.proofs.MemoEquations.{kept_blank, kept_branch, kept_element, kept_line, kept_loop, kept_unread}
-use Rattle.tpl_kept.proofs.Renewals.Named.{branch_put, element_put, line_put, loop_put, nothing_put, row_past, row_put, rows_put}
+use Rattle.tpl_model.proofs.MemoEquations.{kept_blank, kept_branch, kept_either, kept_element, kept_line, kept_loop, kept_unread}
+use Rattle.tpl_kept.proofs.Renewals.Named.{branch_put, either_put, element_put, line_put, loop_put, nothing_put, row_past, row_put, rows_put}
 use Rattle.tpl_kept.proofs.renewing.names.+put_names.Goals.{then-left-gt0+in_ok-put_names-in-Loop, else-left-gt0}
 use Rattle.tpl_kept.proofs.renewing.names.+put_names.Goals as goal
 
@@ -50,6 +50,15 @@ returns-in_ok-put_names-in-Element-2 t c =
     (c.in_ok-put_each-in-Element.ensures ∙ ap (λ z. c.args.out.now.items ++ all_names (map heard_of z)) c.deref-in-Element.ensures.value)
     (c.in_ok-put_names-in-Element.ensures ∙ ap (λ z. c.put_each.new.out.items ++ names (kept z)) c.deref-in-Element-2.ensures)
     (c.in_ok-put_names-in-Element-2.ensures ∙ ap (λ z. c.put_names-in-Element.new.out.items ++ names (kept z)) c.deref-in-Element-3.ensures)
+
+pub returns-in_ok-put_names-in-Either-3 : goal.returns-in_ok-put_names-in-Either-3
+returns-in_ok-put_names-in-Either-3 t c =
+    either_put (kept (box_value c.in-Either.first)) (kept (box_value c.in-Either.second)) (kept (box_value c.in-Either.rest)) (kept c.args.memo.now)
+    c.args.out.now.items c.put_names-in-Either.new.out.items c.put_names-in-Either-2.new.out.items c.put_names-in-Either-3.new.out.items
+    (ap kept c.in-Either.is ∙ kept_either c.in-Either.first c.in-Either.second c.in-Either.rest)
+    (c.in_ok-put_names-in-Either.ensures ∙ ap (λ z. c.args.out.now.items ++ names (kept z)) c.deref-in-Either.ensures)
+    (c.in_ok-put_names-in-Either-2.ensures ∙ ap (λ z. c.put_names-in-Either.new.out.items ++ names (kept z)) c.deref-in-Either-2.ensures)
+    (c.in_ok-put_names-in-Either-3.ensures ∙ ap (λ z. c.put_names-in-Either-2.new.out.items ++ names (kept z)) c.deref-in-Either-3.ensures)
 
 pub returns-in_ok-put_names-in-Branch-2 : goal.returns-in_ok-put_names-in-Branch-2
 returns-in_ok-put_names-in-Branch-2 t c =

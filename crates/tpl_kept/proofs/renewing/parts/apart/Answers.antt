@@ -2,7 +2,7 @@ use Rattle.std.proofs.Common.{[], ◌∷◌, map, refl, sym, ap, ◌∙◌}
 use Rattle.std.specs.Box.{box_value}
 use Rattle.std.proofs.lemmas.Bool.{true≢false}
 use Rattle.tpl_model.specs.KeptLines.Kept.{heard_of, kept}
-use Rattle.tpl_model.proofs.MemoEquations.{kept_blank, kept_branch, kept_element, kept_line, kept_loop, kept_unread}
+use Rattle.tpl_model.proofs.MemoEquations.{kept_blank, kept_branch, kept_either, kept_element, kept_line, kept_loop, kept_unread}
 use Rattle.tpl_kept.specs.Renewals.{is_unread}
 use Rattle.tpl_kept.proofs.Renewals.RowMemos.{branch_apart, element_apart, line_apart, loop_apart}
 use Rattle.tpl_kept.proofs.renewing.parts.apart.Goals as goal
@@ -34,6 +34,11 @@ returns-in_ok-head-in-Loop c = λ u.
     rw (c.parted-in-Loop.ensures, c.in_ok-head-in-Loop.ensures.ok)
     (loop_apart (kept (box_value c.args.memo)) (heard_of c.in-Loop.rows) (map kept c.in-Loop.inside.items) (kept (box_value c.in-Loop.later))
     (kept (box_value c.in-Loop.later)) (ap kept (sym c.into_inner.ensures ∙ c.in-Loop.is) ∙ kept_loop c.in-Loop.rows c.in-Loop.inside c.in-Loop.later) refl)
+
+pub returns-in_ok-head-in-Either : goal.returns-in_ok-head-in-Either
+returns-in_ok-head-in-Either c = λ u.
+    rw (c.parted-in-Either.ensures, c.in_ok-head-in-Either.ensures.ok)
+    (ap kept (sym c.into_inner.ensures ∙ c.in-Either.is) ∙ kept_either c.in-Either.first c.in-Either.second c.in-Either.later)
 
 pub returns-in_ok-parts-in-Blank : goal.returns-in_ok-parts-in-Blank
 returns-in_ok-parts-in-Blank c = rw c.in_ok-parts-in-Blank.ensures (λ u. ap kept (sym c.into_inner.ensures ∙ c.in-Blank.is) ∙ kept_blank)

@@ -1,4 +1,4 @@
-use Rattle.std.proofs.Common.{◌≡◌, ◌<◌, ◌+◌, ◌^◌, ◌∷◌, length, map, ap, sym, subst, ◌∙◌, arith}
+use Rattle.std.proofs.Common.{◌≡◌, ◌<◌, ◌+◌, ◌^◌, ◌∷◌, false, length, map, ap, sym, subst, ◌∙◌, arith}
 use Rattle.std.specs.Box.{box_value}
 use Rattle.tpl_blocks.specs.Blocks.{block}
 use Rattle.tpl_hearing.proofs.Shared.{nothing_heard, then_heard}
@@ -14,7 +14,7 @@ use Rattle.tpl_kept.proofs.renewing.update.+renew_each.Goals as goal
 
 pub returns-in_default-clause-made : goal.returns-in_default-clause-made
 returns-in_default-clause-made g t c =
-    none_each (block c.args.lines.now) c.args.links.now c.args.rows.now c.args.hearing.now.heard (map kept c.args.done.now.items) c.in_default.ensures.cases
+    none_each false (block c.args.lines.now) c.args.links.now c.args.rows.now c.args.hearing.now.heard (map kept c.args.done.now.items) c.in_default.ensures.cases
 
 pub returns-in_default-clause-told : goal.returns-in_default-clause-told
 returns-in_default-clause-told g t c =

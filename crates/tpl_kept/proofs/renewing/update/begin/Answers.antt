@@ -61,7 +61,7 @@ returns-clause-begins g c =
     let changed = subst (λ z. AreLooked z c.args.before.now (names m) c.args.hearing.now.heard c.stays.new.hearing.heard) c.if-branch.false (rw c.deref-2.ensures at c.in_ok-stays.ensures.looked) in
     let old = box_value c.in_ok-head.field-0.head in
     let h = box_value c.in_ok-head-2.head in
-    let o = subst (Opens b c.args.links.now c.args.row.now c.stays.new.hearing.heard c.hear_first_again.new.hearing.heard) (sym c.in_ok-head-2.ensures.ok)
+    let o = subst (Opens false b c.args.links.now c.args.row.now c.stays.new.hearing.heard c.hear_first_again.new.hearing.heard) (sym c.in_ok-head-2.ensures.ok)
     (rw c.lent_row-here.ensures.is at c.in_ok-heard.ensures.opens) in
     let is = map kept c.in_ok-head.field-0.inside.items in
     let r = kept (box_value c.in_ok-head.field-0.later) in
@@ -112,7 +112,7 @@ returns-clause-told g c =
     let u : is_unread m ≡ false = ap (λ z. is_unread (kept z)) (sym c.deref.ensures) ∙ (sym c.unread.ensures ∙ c.if-unread.false) in
     let old = box_value c.in_ok-head.field-0.head in
     let h = box_value c.in_ok-head-2.head in
-    let o = subst (Opens b c.args.links.now c.args.row.now c.stays.new.hearing.heard c.hear_first_again.new.hearing.heard) (sym c.in_ok-head-2.ensures.ok)
+    let o = subst (Opens false b c.args.links.now c.args.row.now c.stays.new.hearing.heard c.hear_first_again.new.hearing.heard) (sym c.in_ok-head-2.ensures.ok)
     (rw c.lent_row-here.ensures.is at c.in_ok-heard.ensures.opens) in
     let is = map kept c.in_ok-head.field-0.inside.items in
     let turn = c.in_ok-turn.turn in

@@ -4,7 +4,7 @@ use Rattle.std.proofs.Common.{map, refl, sym, ◌∙◌}
 use Rattle.sig_formula.specs.Trees.{tree}
 use Rattle.tpl_blocks.specs.Blocks.{block}
 use Rattle.tpl_hearing.proofs.Shared.{nothing_heard}
-use Rattle.tpl_kept.proofs.Renewals.Apart.{choice_opens, each_opens, tag_opens, text_opens}
+use Rattle.tpl_kept.proofs.Renewals.Apart.{attempt_opens, choice_opens, each_opens, tag_opens, text_opens}
 use Rattle.tpl_kept.proofs.renewing.update.hear_first_again.Goals as goal
 
 pub returns-in-Empty-clause-opens : goal.returns-in-Empty-clause-opens
@@ -76,3 +76,20 @@ listen_again-requires-in-Choice-clause-was g c = rw (c.in-Choice.is, sym c.into_
 
 pub listen_again-requires-in-Each-clause-was : goal.listen_again-requires-in-Each-clause-was
 listen_again-requires-in-Each-clause-was g c = rw (c.in-Each.is, sym c.into_inner-head-in-Each.ensures ∙ c.in-Each-head.is) at c.requires.was
+
+-- ---- what is tried
+
+pub returns-in_ok-both-in-Attempt-clause-opens : goal.returns-in_ok-both-in-Attempt-clause-opens
+returns-in_ok-both-in-Attempt-clause-opens g c = rw c.in-Attempt.is (rw (c.deref-in-Attempt.ensures, c.deref-in-Attempt-2.ensures) at c.in_ok-both-in-Attempt.ensures.opens)
+
+pub returns-in_ok-both-in-Attempt-clause-same : goal.returns-in_ok-both-in-Attempt-clause-same
+returns-in_ok-both-in-Attempt-clause-same g c = rw c.in-Attempt.is (rw (c.deref-in-Attempt.ensures, c.deref-in-Attempt-2.ensures) at c.in_ok-both-in-Attempt.ensures.same)
+
+pub unreachable-requires-in_default-head-4 : goal.unreachable-requires-in_default-head-4
+unreachable-requires-in_default-head-4 g c =
+    attempt_opens (block (box_value c.in-Attempt.first)) (block (box_value c.in-Attempt.second)) (block (box_value c.in-Attempt.field-2)) c.args.links.now
+    (option_copied c.args.row) c.args.before.now c.into_inner-head-in-Attempt.result (rw (c.in-Attempt.is, sym c.into_inner-head-in-Attempt.ensures) at c.requires.was) c.in_default-head-4.not-Attempt
+
+pub attempt_again-requires-clause-was : goal.attempt_again-requires-clause-was
+attempt_again-requires-clause-was g c =
+    rw (c.deref-in-Attempt.ensures, c.deref-in-Attempt-2.ensures) (rw (c.in-Attempt.is, sym c.into_inner-head-in-Attempt.ensures ∙ c.in-Attempt-head.is) at c.requires.was)

@@ -1,4 +1,4 @@
-use Rattle.std.proofs.Common.{◌∷◌, [], map, ap, sym, subst, ◌∙◌}
+use Rattle.std.proofs.Common.{◌∷◌, [], false, map, ap, sym, subst, ◌∙◌}
 use Rattle.std.specs.Option.{option_copied}
 use Rattle.tpl_blocks.specs.Blocks.{block}
 use Rattle.tpl_model.specs.KeptLines.Kept.{kept}
@@ -20,7 +20,7 @@ renew_each-requires-clause-was g c =
 
 pub returns-clause-made : goal.returns-clause-made
 returns-clause-made g c =
-    alone_from (block c.args.lines.now) c.args.links.now (option_copied c.args.row) c.from_ref.result.now c.args.hearing.now.heard c.renew_each.new.hearing.heard
+    alone_from false (block c.args.lines.now) c.args.links.now (option_copied c.args.row) c.from_ref.result.now c.args.hearing.now.heard c.renew_each.new.hearing.heard
     (map kept c.new-done.result.items) (map kept c.renew_each.new.done.items) (kept c.last.result)
     (c.from_ref.ensures.value ∙ ap (λ z. z ∷ []) c.in_ok-own.ensures) (ap (map kept) c.new-done.ensures.items) c.in_ok-renew_each.ensures.made c.last.ensures
 
