@@ -10,7 +10,7 @@ use Rattle.tpl_model.specs.Lines.{Block, empty, text, tag, choice, each, attempt
 use Rattle.tpl_model.specs.Shapes.{Here, node_text}
 use Rattle.tpl_model.specs.Sources.{evaluating}
 use Rattle.tpl_model.specs.KeptLines.Outcomes.{Outcomes}
-use Rattle.tpl_model.specs.PageUpdates.PageMemos.{PageMemo, line, element, branch, loop, row, nodes, picks, values}
+use Rattle.tpl_model.specs.PageUpdates.PageMemos.{PageMemo, line, element, branch, loop, row, either, nodes, part_shown, picks, values}
 use Rattle.tpl_model.specs.PageUpdates.Updates.{Keeps, memo_on, memo_shape}
 use Rattle.tpl_model.specs.ShownNodes.Shapes.{Marked, Next}
 use Rattle.tpl_drawn.specs.Marks.{children_in, marked_at, marks_in}
@@ -64,12 +64,14 @@ keeps_by plain parts made = plain
 keeps_by plain parts (over same inside later) = parts same later
 keeps_by plain parts c = false
 
--- whether lines keep their topmost nodes, where this became of them; rows that always show the same keep theirs where their loop is the same
+-- whether lines keep their topmost nodes, where this became of them; rows that always show the same keep theirs where their loop is the same, and
+-- what is tried where it is
 abbrev pub keeps_nodes : Block → Change → Bool
 keeps_nodes empty c = true
 keeps_nodes (text n f rest) c = keeps_by (is_plain rest) (λ same later. keeps_nodes rest later) c
 keeps_nodes (tag n name xs inner rest) c = keeps_by (is_plain rest) (λ same later. keeps_nodes rest later) c
 keeps_nodes (each f inner rest) c = keeps_by false (λ same later. (same && is_plain inner) && keeps_nodes rest later) c
+keeps_nodes (attempt first second rest) c = keeps_by false (λ same later. same && keeps_nodes rest later) c
 keeps_nodes b c = is_stays c
 
 -- nothing of what stays, all of what was made anew, and of the rest its parts
@@ -84,7 +86,12 @@ abbrev pub row_marks : (Here → PageMemo → Change → List Marked) → PageMe
 row_marks go (row here m next) (also c cs) = go here m c ++ row_marks go next cs
 row_marks go m c = []
 
--- the marks of lines in the row of that key, by what became of what is kept of them; a `try` that doesn't stay is marked whole
+-- the marks of what is tried: none where it is the same, and otherwise all of its nodes
+abbrev pub tried_marks : (Marked → Marked) → (ℕ → Option ℕ) → (same : Bool) → Forest Look → List Marked
+tried_marks part known true shape = []
+tried_marks part known false shape = map part (marks_in known shape)
+
+-- the marks of lines in the row of that key, by what became of what is kept of them
 abbrev pub marked_by : Marking → (Marked → Marked) → (ℕ → Option ℕ) → Option (List ℕ) → Block → PageMemo → Change → List Marked
 marked_by mark part known k (text n f rest) (line h r) c =
     marks_by (map part (marks_in known (nodes k (text n f rest) (line h r))))
@@ -101,9 +108,9 @@ marked_by mark part known k (each f inner rest) (loop h i r) c =
     marks_by (map part (marks_in known (nodes k (each f inner rest) (loop h i r))))
     (λ same inside later. row_marks (λ (here : Here) (m : PageMemo) (d : Change). marked_by mark part known (Some here.key) inner m d) i inside
     ++ marked_by mark part known k rest r later) c
-marked_by mark part known k (attempt first second rest) m c =
-    let all : List Marked = map part (marks_in known (nodes k (attempt first second rest) m)) in
-    marks_by all (λ same inside later. all) c
+marked_by mark part known k (attempt first second rest) (either a b r) c =
+    marks_by (map part (marks_in known (nodes k (attempt first second rest) (either a b r))))
+    (λ same inside later. tried_marks part known same (part_shown b (nodes k first a) (nodes k second b)) ++ marked_by mark part known k rest r later) c
 marked_by mark part known k b m c = []
 
 -- the nodes whose children may differ, the root behind those below it

@@ -9,7 +9,7 @@ use Rattle.tpl_model.specs.declared.mark.Child.{Child}
 use Rattle.tpl_drawn.specs.Marks.{children_in, marks_in}
 use Rattle.tpl_model.specs.KeptLines.Changes.{Change, changed, first_in, stays}
 use Rattle.tpl_model.specs.PageUpdates.PageMemos.{PageMemo, nodes, row_nodes}
-use Rattle.tpl_drawn.specs.Comparison.{Marking, keeps_nodes, marked_by, restated_part, restating, row_marks, touched_part, touching}
+use Rattle.tpl_drawn.specs.Comparison.{Marking, keeps_nodes, marked_by, restated_part, restating, row_marks, touched_part, touching, tried_marks}
 use Rattle.tpl_model.specs.declared.change.Change as code
 use Rattle.tpl_drawn.specs.declared.comparing.node_marks.Compared.{Compared}
 
@@ -63,6 +63,14 @@ of_made known shape = record {
   children = children_in known shape;
   touched = map touched_part (marks_in known shape);
   restated = map restated_part (marks_in known shape);
+}
+
+-- of what is tried, whose nodes stay where it is the same, and otherwise were made anew
+abbrev pub of_tried : (ℕ → Option ℕ) → (same : Bool) → Forest Look → Walk
+of_tried known same shape = record {
+  children = children_in known shape;
+  touched = tried_marks touched_part known same shape;
+  restated = tried_marks restated_part known same shape;
 }
 
 -- of a text that was heard again, which may be as it was heard before

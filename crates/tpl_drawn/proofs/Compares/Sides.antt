@@ -12,9 +12,9 @@ use Rattle.tpl_model.specs.Shapes.{Here, row_here}
 use Rattle.tpl_model.specs.Sources.{evaluating}
 use Rattle.tpl_model.specs.KeptLines.Outcomes.{Outcomes}
 use Rattle.tpl_model.specs.PageUpdates.Differences.{Within}
-use Rattle.tpl_model.specs.PageUpdates.PageMemos.{PageMemo, hearing, memo_of}
+use Rattle.tpl_model.specs.PageUpdates.PageMemos.{PageMemo, either, hearing, memo_of, nodes, part_shown}
 use Rattle.tpl_model.proofs.Shared.{Half, Single, half_first, half_kids, half_later, memo_like, within_first, within_later, New}
-use Rattle.tpl_model.specs.KeptLines.Memos.{Agrees, lines_memo, truth_in}
+use Rattle.tpl_model.specs.KeptLines.Memos.{Agrees, attempt_memo, lines_memo, truth_in}
 use Rattle.tpl_model.specs.KeptLines.Before.{WasMade}
 use Rattle.tpl_model.specs.KeptLines.Changes.{Change, stays, made, over, also, nothing, is_made, is_stays, Tells}
 
@@ -77,6 +77,22 @@ pub same_kept : (links : List ℕ) (before : Outcomes) (source now : ℕ → Out
     kept links source here b ≡ kept links now here' b
 same_kept links before source now agrees b here here' like w =
     memo_like (hearing (evaluating links source)) b false here here' like ∙ sym (w.is source agrees here' refl)
+
+-- what is kept of what is tried, with nothing behind it
+abbrev pub tried_kept : List ℕ → (ℕ → Outcome) → Option Here → Block → Block → PageMemo
+tried_kept links source here first second = attempt_memo false first second (hearing (evaluating links source)) here
+
+-- the nodes of the part that is shown
+abbrev pub tried_nodes : Option (List ℕ) → Block → Block → PageMemo → Forest Look
+tried_nodes k first second (either a b r) = part_shown b (nodes k first a) (nodes k second b)
+tried_nodes k first second m = none
+
+-- where it is the same, that is what was kept
+pub tried_same : (links : List ℕ) (before : Outcomes) (source now : ℕ → Outcome) → Agrees before source → (first second : Block) (here here' : Option Here) →
+    Alike links source here here' → WasMade (attempt_memo false first second) links (row_here here') before (tried_kept links now here' first second) →
+    tried_kept links source here first second ≡ tried_kept links now here' first second
+tried_same links before source now agrees first second here here' like w =
+    memo_like (hearing (evaluating links source)) (attempt first second empty) false here here' like ∙ sym (w.is source agrees here' refl)
 
 -- what stays is what was kept
 pub stays_kept : (links : List ℕ) (before : Outcomes) (source now : ℕ → Outcome) → Agrees before source → (b : Block) (here here' : Option Here)

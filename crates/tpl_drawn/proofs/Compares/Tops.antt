@@ -19,7 +19,7 @@ use Rattle.tpl_model.specs.KeptLines.Memos.{Agrees}
 use Rattle.tpl_model.specs.KeptLines.Changes.{Change, stays, made, over, also, nothing, keys_in, Tells}
 use Rattle.tpl_model.specs.PageUpdates.PageMemos.{PageMemo, each_memo, hearing, nodes, row_nodes, rows_memo}
 use Rattle.tpl_drawn.specs.Comparison.{is_plain, keeps_nodes}
-use Rattle.tpl_drawn.proofs.Compares.Sides.{Alike, kept, stays_kept}
+use Rattle.tpl_drawn.proofs.Compares.Sides.{Alike, kept, stays_kept, tried_kept, tried_nodes, tried_same}
 
 -- lines that stay do
 pub stays_keep : (b : Block) → keeps_nodes b stays ≡ true
@@ -143,5 +143,19 @@ kept_siblings links before source now agrees (each f inner rest) k here here' (o
     ∙ sym (siblings_after rows' r')))
 kept_siblings links before source now agrees (each f inner rest) k here here' (also c d) like t e = absurd t
 kept_siblings links before source now agrees (each f inner rest) k here here' nothing like t e = absurd t
-kept_siblings links before source now agrees (attempt first second rest) k here here' c like t e =
-    ap (λ m. siblings (nodes k (attempt first second rest) m)) (stays_kept links before source now agrees (attempt first second rest) here here' c like e t)
+kept_siblings links before source now agrees (attempt first second rest) k here here' stays like t e =
+    ap (λ m. siblings (nodes k (attempt first second rest) m)) (stays_kept links before source now agrees (attempt first second rest) here here' stays like refl t)
+kept_siblings links before source now agrees (attempt first second rest) k here here' made like t e = absurd (false≢true e)
+kept_siblings links before source now agrees (attempt first second rest) k here here' (over s i l) like t e =
+    let was = tried_nodes k first second (tried_kept links source here first second) in
+    let next = tried_nodes k first second (tried_kept links now here' first second) in
+    let r = nodes k rest (kept links source here rest) in
+    let r' = nodes k rest (kept links now here' rest) in
+    let both = both_hold s (keeps_nodes rest l) e in
+    let stood : was ≡ next = ap (tried_nodes k first second) (tried_same links before source now agrees first second here here' like (t.0 both.0)) in
+    siblings_after was r
+    ∙ (ap (λ z. siblings z ++ siblings r) stood
+    ∙ (ap (λ ns. siblings next ++ ns) (kept_siblings links before source now agrees rest k here here' l like t.1 both.1)
+    ∙ sym (siblings_after next r')))
+kept_siblings links before source now agrees (attempt first second rest) k here here' (also c d) like t e = absurd t
+kept_siblings links before source now agrees (attempt first second rest) k here here' nothing like t e = absurd t

@@ -29,9 +29,9 @@ use Rattle.tpl_model.specs.KeptLines.Changes.{BranchTells, Change, RowsTell, Tel
 use Rattle.tpl_model.specs.PageUpdates.Differences.{Within}
 use Rattle.tpl_model.specs.PageUpdates.PageMemos.{PageMemo, blank, hearing, attributes_heard, each_memo, nodes, picks, row_nodes, rows_memo, values}
 use Rattle.tpl_model.proofs.Shared.{Half, Single, memo_like, steady, within_first, within_later}
-use Rattle.tpl_drawn.specs.Comparison.{Marking, keeps_nodes, known_of, marked_by, row_marks}
+use Rattle.tpl_drawn.specs.Comparison.{Marking, keeps_nodes, known_of, marked_by, row_marks, tried_marks}
 use Rattle.tpl_drawn.proofs.Compares.Coverage.{AreMarks, Covered, covered_after, covered_made, covered_none, covered_skip}
-use Rattle.tpl_drawn.proofs.Compares.Sides.{Alike, Beside, Side, beside_first, beside_kids, beside_later, kept, made_is, same_kept, side_first, side_later, side_of, truth_is}
+use Rattle.tpl_drawn.proofs.Compares.Sides.{Alike, Beside, Side, beside_first, beside_kids, beside_later, kept, made_is, same_kept, side_first, side_later, side_of, tried_kept, tried_nodes, tried_same, truth_is}
 use Rattle.tpl_drawn.proofs.Compares.Tops.{kept_siblings}
 
 -- A way to mark: what a mark is, what holds where all stays, and a node that stood over what stands below it. Where its line was heard so before it
@@ -245,6 +245,14 @@ module _ (p : NumberedPage) (new : Forest Look) (mark : Marking) (part : Marked 
   looped rules agrees f inner goes here here' like w l (Good (value.Text b)) c side tells = covered_none (page_shape p) Is Same
   looped rules agrees f inner goes here here' like w l (Bad b) c side tells = covered_none (page_shape p) Is Same
 
+  -- the part of what is tried that is shown
+  tried : Rules p new mark part Is Same → (q q' : Forest Look) (s : Bool) → Beside (page_shape p) new q q' → (s ≡ true → q ≡ q') →
+      Covers q' (tried_marks part (known_of p) s q')
+  tried rules q q' true d same =
+      covered_skip (page_shape p) Is Same q' (rules.skip q' (subst (Within (page_shape p)) (same refl) d.half.within_old) d.half.within_new)
+  tried rules q q' false d same =
+      let side = side_of (page_shape p) new q q' d in covered_made p new part Is Same rules.marks q' side.within side.single side.fresh
+
   -- Marks are put right, line by line.
   pub walk : Rules p new mark part Is Same → Agrees before source → (b : Block) → Goes b
   walk rules agrees empty k here here' c like d t = covered_none (page_shape p) Is Same
@@ -349,7 +357,13 @@ module _ (p : NumberedPage) (new : Forest Look) (mark : Marking) (part : Marked 
       let b : Block = attempt first second rest in
       fresh rules b k here' (side_of (page_shape p) new (nodes k b (kept links source here b)) (nodes k b (kept links now here' b)) d)
   walk rules agrees (attempt first second rest) k here here' (over s inside later) like d t =
-      let b : Block = attempt first second rest in
-      fresh rules b k here' (side_of (page_shape p) new (nodes k b (kept links source here b)) (nodes k b (kept links now here' b)) d)
+      let q = tried_nodes k first second (tried_kept links source here first second) in
+      let q' = tried_nodes k first second (tried_kept links now here' first second) in
+      let r = nodes k rest (kept links source here rest) in
+      let r' = nodes k rest (kept links now here' rest) in
+      covered_after (page_shape p) Is Same q' r' (tried_marks part (known_of p) s q') (marks k rest (kept links now here' rest) later)
+      (tried rules q q' s (beside_first (page_shape p) new q r q' r' d)
+      (λ e. ap (tried_nodes k first second) (tried_same links before source now agrees first second here here' like (t.0 e))))
+      (walk rules agrees rest k here here' later like (beside_later (page_shape p) new q r q' r' d) t.1)
   walk rules agrees (attempt first second rest) k here here' (also one others) like d t = absurd t
   walk rules agrees (attempt first second rest) k here here' nothing like d t = absurd t

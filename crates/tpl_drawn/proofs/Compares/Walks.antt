@@ -8,24 +8,22 @@ use Rattle.sig_formula.specs.Trees.{Tree}
 use Rattle.page_model.specs.Addresses.{address}
 use Rattle.page_model.specs.Forest.{Forest, none, node}
 use Rattle.page_model.specs.Labels.{Root, Look, Text, Element}
-use Rattle.tpl_blocks.specs.Blocks.{block}
-use Rattle.tpl_blocks.specs.declared.block.Block as held
 use Rattle.tpl_model.specs.KeptLines.Changes.{Change, stays, made, over, also, nothing, chain, changed, first_in, is_stays}
 use Rattle.tpl_model.specs.declared.change.Change as code
 use Rattle.tpl_drawn.specs.Marks.{children_in, marked_at, marks_in}
 use Rattle.tpl_drawn.proofs.Numbered.Marks.{children_after}
 use Rattle.tpl_model.specs.Shapes.{node_text}
 use Rattle.tpl_model.specs.Lines.{Block, empty, text, tag, choice, each, attempt}
-use Rattle.tpl_drawn.specs.Shown.{attributes_of, fits, inside_of, later_of, rows_of, shows, where_shown}
+use Rattle.tpl_drawn.specs.Shown.{attributes_of, fits, inside_of, later_of, part_of, rows_of, shows, shows_part, where_shown}
 use Rattle.tpl_drawn.proofs.Placed.Placed.{unfit_shown}
 use Rattle.tpl_scratch.specs.Pages.{shows_branch}
 use Rattle.tpl_model.specs.ShownNodes.Shapes.{Marked, Next}
 use Rattle.tpl_drawn.specs.Heads.{text_at}
-use Rattle.tpl_model.specs.PageUpdates.PageMemos.{PageMemo, line, element, branch, loop, nodes, picks, row_nodes, values}
+use Rattle.tpl_model.specs.PageUpdates.PageMemos.{PageMemo, unread, blank, line, element, branch, loop, row, either, nodes, part_shown, picks, row_nodes, values}
 use Rattle.tpl_drawn.proofs.Compares.Siblings.{two_more}
 use Rattle.tpl_drawn.proofs.Compares.Tops.{stays_keep}
 use Rattle.tpl_drawn.specs.Comparison.{Marking, keeps_nodes, marked_by, marked_unless, restated_part, restating, touched_part, touching}
-use Rattle.tpl_drawn.specs.Walks.{Walk, as_listed, further, idle, where_listed, of_element, of_inside, of_lines, of_made, of_marks, of_rows, of_text, where_gone}
+use Rattle.tpl_drawn.specs.Walks.{Walk, as_listed, further, idle, where_listed, of_element, of_inside, of_lines, of_made, of_marks, of_rows, of_text, of_tried, where_gone}
 
 -- ---- one part behind another
 
@@ -87,7 +85,8 @@ unfit_marked mark part known k (choice f one other rest) (branch h i r) c e = ab
 unfit_marked mark part known k (choice f one other rest) m c e = refl
 unfit_marked mark part known k (each f inner rest) (loop h i r) c e = absurd (false≢true (sym e))
 unfit_marked mark part known k (each f inner rest) m c e = refl
-unfit_marked mark part known k (attempt first second rest) m c e = absurd (false≢true (sym e))
+unfit_marked mark part known k (attempt first second rest) (either a b r) c e = absurd (false≢true (sym e))
+unfit_marked mark part known k (attempt first second rest) m c e = refl
 
 pub unfit_gone : (known : ℕ → Option ℕ) (k : Option (List ℕ)) (b : Block) (m : PageMemo) (c : Change) → fits b m ≡ false → of_lines known k b m c ≡ idle
 unfit_gone known k b m c e = λ i. record {
@@ -108,6 +107,7 @@ stays_marked mark part known k (choice f one other rest) (branch h i r) = refl
 stays_marked mark part known k (choice f one other rest) m = refl
 stays_marked mark part known k (each f inner rest) (loop h i r) = refl
 stays_marked mark part known k (each f inner rest) m = refl
+stays_marked mark part known k (attempt first second rest) (either a b r) = refl
 stays_marked mark part known k (attempt first second rest) m = refl
 
 -- children alone
@@ -134,21 +134,23 @@ put_staying_gone before now w x e f put = λ i. record {
 }
 
 -- of lines that were made anew all is marked
-made_marked : (mark : Marking) (part : Marked → Marked) (known : ℕ → Option ℕ) (k : Option (List ℕ)) (b : held.Block) (m : PageMemo) →
-    map part (marks_in known (nodes k (block b) m)) ≡ marked_by mark part known k (block b) m made
-made_marked mark part known k held.Empty m = refl
-made_marked mark part known k (held.Text' n f p rest) (line h r) = refl
-made_marked mark part known k (held.Text' n f p rest) m = refl
-made_marked mark part known k (held.Tag' n name xs p inner q rest) (element hs i r) = refl
-made_marked mark part known k (held.Tag' n name xs p inner q rest) m = refl
-made_marked mark part known k (held.Choice' f p one q other s rest) (branch h i r) = refl
-made_marked mark part known k (held.Choice' f p one q other s rest) m = refl
-made_marked mark part known k (held.Each' f p inner q rest) (loop h i r) = refl
-made_marked mark part known k (held.Each' f p inner q rest) m = refl
+made_marked : (mark : Marking) (part : Marked → Marked) (known : ℕ → Option ℕ) (k : Option (List ℕ)) (b : Block) (m : PageMemo) →
+    map part (marks_in known (nodes k b m)) ≡ marked_by mark part known k b m made
+made_marked mark part known k empty m = refl
+made_marked mark part known k (text n f rest) (line h r) = refl
+made_marked mark part known k (text n f rest) m = refl
+made_marked mark part known k (tag n name xs inner rest) (element hs i r) = refl
+made_marked mark part known k (tag n name xs inner rest) m = refl
+made_marked mark part known k (choice f one other rest) (branch h i r) = refl
+made_marked mark part known k (choice f one other rest) m = refl
+made_marked mark part known k (each f inner rest) (loop h i r) = refl
+made_marked mark part known k (each f inner rest) m = refl
+made_marked mark part known k (attempt first second rest) (either a b r) = refl
+made_marked mark part known k (attempt first second rest) m = refl
 
-pub made_gone : (known : ℕ → Option ℕ) (k : Option (List ℕ)) (b : held.Block) (m : PageMemo) → of_made known (nodes k (block b) m) ≡ of_lines known k (block b) m made
+pub made_gone : (known : ℕ → Option ℕ) (k : Option (List ℕ)) (b : Block) (m : PageMemo) → of_made known (nodes k b m) ≡ of_lines known k b m made
 made_gone known k b m = λ i. record {
-  children = children_in known (nodes k (block b) m);
+  children = children_in known (nodes k b m);
   touched = made_marked touching touched_part known k b m i;
   restated = made_marked restating restated_part known k b m i;
 }
@@ -226,6 +228,34 @@ each_parts known k f inner rest (loop h i' r) s i l fit = λ j. record {
 }
 each_parts known k f inner rest m s i l fit = absurd (false≢true fit)
 
+-- of two parts that one which is shown
+part_gone : (known : ℕ → Option ℕ) (k : Option (List ℕ)) (s : Bool) (first second : Block) (a b : PageMemo) →
+    of_tried known s (part_shown b (nodes k first a) (nodes k second b))
+    ≡ further (where_gone (shows_part b true) (of_tried known s (nodes k first (part_of a b))))
+    (where_gone (shows_part b false) (of_tried known s (nodes k second (part_of a b))))
+part_gone known k s first second a unread = sym (further_idle (of_tried known s (nodes k first a)))
+part_gone known k s first second a blank = refl
+part_gone known k s first second a (line h r) = refl
+part_gone known k s first second a (element hs i r) = refl
+part_gone known k s first second a (branch h i r) = refl
+part_gone known k s first second a (loop h i r) = refl
+part_gone known k s first second a (row h i r) = refl
+part_gone known k s first second a (either x y r) = refl
+
+pub attempt_parts : (known : ℕ → Option ℕ) (k : Option (List ℕ)) (first second rest : Block) (m : PageMemo) (s : Bool) (i l : Change) →
+    fits (attempt first second rest) m ≡ true →
+    of_lines known k (attempt first second rest) m (over s i l)
+    ≡ further (further (where_gone (shows m true) (of_tried known s (nodes k first (inside_of m))))
+    (where_gone (shows m false) (of_tried known s (nodes k second (inside_of m))))) (of_lines known k rest (later_of m) l)
+attempt_parts known k first second rest (either a b r) s i l fit =
+    (λ j. record {
+      children = children_after known (part_shown b (nodes k first a) (nodes k second b)) (nodes k rest r) j;
+      touched = marked_by touching touched_part known k (attempt first second rest) (either a b r) (over s i l);
+      restated = marked_by restating restated_part known k (attempt first second rest) (either a b r) (over s i l);
+    })
+    ∙ ap (λ z. further z (of_lines known k rest r l)) (part_gone known k s first second a b)
+attempt_parts known k first second rest m s i l fit = absurd (false≢true fit)
+
 -- ---- the children of lines that stay
 
 pub text_stays : (known : ℕ → Option ℕ) (k : Option (List ℕ)) (n : ℕ) (f : Tree) (rest : Block) (m : PageMemo) (a b c : List Next) → fits (text n f rest) m ≡ true →
@@ -268,6 +298,27 @@ pub each_stays : (known : ℕ → Option ℕ) (k : Option (List ℕ)) (f : Tree)
 each_stays known k f inner rest m a b c fit e h =
     children_gone a b c (of_rows known inner (rows_of m) nothing) (of_lines known k rest (later_of m) nothing)
     (of_lines known k (each f inner rest) m (over true nothing nothing)) (each_parts known k f inner rest m true nothing nothing fit) e h
+
+pub attempt_stays : (known : ℕ → Option ℕ) (k : Option (List ℕ)) (first second rest : Block) (m : PageMemo) (a b c d : List Next) →
+    fits (attempt first second rest) m ≡ true → b ≡ a ++ children_in known (where_shown (shows m true) (nodes k first (inside_of m))) →
+    c ≡ b ++ children_in known (where_shown (shows m false) (nodes k second (inside_of m))) → d ≡ c ++ children_in known (nodes k rest (later_of m)) →
+    d ≡ a ++ children_in known (nodes k (attempt first second rest) m)
+attempt_stays known k first second rest m a b c d fit e g h =
+    let v = of_tried known true (nodes k first (inside_of m)) in
+    let w = of_tried known true (nodes k second (inside_of m)) in
+    children_gone a c d (further (where_gone (shows m true) v) (where_gone (shows m false) w)) (of_lines known k rest (later_of m) nothing)
+    (of_lines known k (attempt first second rest) m (over true nothing nothing)) (attempt_parts known k first second rest m true nothing nothing fit)
+    (two_more a b c (where_gone (shows m true) v).children (where_gone (shows m false) w).children
+    (e ∙ ap (λ z. a ++ z) (shown_gone known (shows m true) (nodes k first (inside_of m)) v refl))
+    (g ∙ ap (λ z. b ++ z) (shown_gone known (shows m false) (nodes k second (inside_of m)) w refl))) h
+
+-- the nodes of a part stay
+pub tried_stays : (known : ℕ → Option ℕ) (s : Bool) (f : Forest Look) → s ≡ true → alone (children_in known f) ≡ of_tried known s f
+tried_stays known s f e = ap (λ z. of_tried known z f) (sym e)
+
+-- and otherwise they were made anew
+pub tried_made : (known : ℕ → Option ℕ) (s : Bool) (f : Forest Look) → s ≡ false → of_made known f ≡ of_tried known s f
+tried_made known s f e = ap (λ z. of_tried known z f) (sym e)
 
 -- ---- an element
 

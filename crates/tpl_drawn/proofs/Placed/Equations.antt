@@ -4,7 +4,7 @@ use Rattle.std.specs.Box.{box_value}
 use Rattle.tpl_model.specs.PageUpdates.PageMemos as model
 use Rattle.tpl_model.specs.declared.memo.Heard.{Heard}
 use Rattle.tpl_model.specs.declared.memo.PageMemo.{PageMemo}
-use Rattle.tpl_model.specs.declared.memo.PageMemo.TheVariants.{rolls-Unread, rolls-Blank, rolls-Line, rolls-Element, rolls-Branch, rolls-Loop}
+use Rattle.tpl_model.specs.declared.memo.PageMemo.TheVariants.{rolls-Unread, rolls-Blank, rolls-Line, rolls-Element, rolls-Branch, rolls-Loop, rolls-Either}
 use Rattle.tpl_model.specs.declared.memo.PageMemo.TheVariants as memo
 use Rattle.tpl_model.specs.declared.memo.PageMemo.TheOpen.{PageMemo-F}
 use Rattle.tpl_model.specs.declared.memo.PageMemo.TheFolds.{fold-roll-PageMemo}
@@ -34,6 +34,10 @@ pub kept_loop : (h : Heard) (rows r : _) → kept (memo.Loop h rows r) ≡ model
 unfolding kept
 kept_loop h rows r = ap kept (sym (rolls-Loop h rows r)) ∙ fold-roll-PageMemo model.PageMemo kept_node (PageMemo-F.Loop h rows r)
 
+pub kept_either : (a b r : _) → kept (memo.Either a b r) ≡ model.either (kept (box_value a)) (kept (box_value b)) (kept (box_value r))
+unfolding kept
+kept_either a b r = ap kept (sym (rolls-Either a b r)) ∙ fold-roll-PageMemo model.PageMemo kept_node (PageMemo-F.Either a b r)
+
 -- ---- of a value that is such
 
 pub of_unread : (m : PageMemo) → m ≡ memo.Unread → kept m ≡ model.unread
@@ -54,3 +58,6 @@ of_branch m h i r e = ap kept e ∙ kept_branch h i r
 pub of_loop : (m : PageMemo) (h : Heard) (rows r : _) → m ≡ memo.Loop h rows r →
     kept m ≡ model.loop (heard_of h) (rows_of h.outcome (map kept rows.items)) (kept (box_value r))
 of_loop m h rows r e = ap kept e ∙ kept_loop h rows r
+
+pub of_either : (m : PageMemo) (a b r : _) → m ≡ memo.Either a b r → kept m ≡ model.either (kept (box_value a)) (kept (box_value b)) (kept (box_value r))
+of_either m a b r e = ap kept e ∙ kept_either a b r

@@ -17,8 +17,8 @@ use Rattle.tpl_model.specs.Lines.{Block, empty, text, tag, choice, each, attempt
 use Rattle.tpl_model.specs.Shapes.{Here, node_text}
 use Rattle.tpl_scratch.specs.Pages.{Numbered, shows_branch, with_nodes}
 use Rattle.tpl_scratch.proofs.Shared.{after_none, after_after, with_none, with_after}
-use Rattle.tpl_model.specs.PageUpdates.PageMemos.{PageMemo, blank, line, element, branch, loop, nodes, picks, row_nodes, values}
-use Rattle.tpl_drawn.specs.Shown.{AreRows, attributes_of, fits, inside_of, later_of, shows, text_of, where_shown}
+use Rattle.tpl_model.specs.PageUpdates.PageMemos.{PageMemo, unread, blank, line, element, branch, loop, row, either, nodes, part_shown, picks, row_nodes, values}
+use Rattle.tpl_drawn.specs.Shown.{AreRows, attributes_of, fits, inside_of, later_of, part_of, shows, shows_part, text_of, where_shown}
 
 -- ---- lines
 
@@ -34,7 +34,8 @@ unfit_shown k (choice f one other rest) (branch h i r) e = absurd (true≢false 
 unfit_shown k (choice f one other rest) m e = refl
 unfit_shown k (each f inner rest) (loop h i r) e = absurd (true≢false e)
 unfit_shown k (each f inner rest) m e = refl
-unfit_shown k (attempt first second rest) m e = absurd (true≢false e)
+unfit_shown k (attempt first second rest) (either a b r) e = absurd (true≢false e)
+unfit_shown k (attempt first second rest) m e = refl
 
 -- nothing is appended
 pub none_put : (k : Option (List ℕ)) (b : Block) (m : PageMemo) (a : Numbered) → fits b m ≡ false → a ≡ with_nodes a (nodes k b m)
@@ -84,6 +85,31 @@ choice_put k f one other rest (branch h i r) a b c d fit e g later =
     two_put a c d (picks h.outcome (nodes k one i) (nodes k other i) none) (nodes k rest r)
     (two_put a b c x y e g ∙ ap (with_nodes a) (picked h.outcome (nodes k one i) (nodes k other i))) later
 choice_put k f one other rest m a b c d fit e g later = absurd (false≢true fit)
+
+-- the part that is shown
+pub tried : (k : Option (List ℕ)) (first second : Block) (a b : PageMemo) →
+    after (where_shown (shows_part b true) (nodes k first (part_of a b))) (where_shown (shows_part b false) (nodes k second (part_of a b)))
+    ≡ part_shown b (nodes k first a) (nodes k second b)
+tried k first second a unread = after_none (nodes k first a)
+tried k first second a blank = refl
+tried k first second a (line h r) = refl
+tried k first second a (element hs i r) = refl
+tried k first second a (branch h i r) = refl
+tried k first second a (loop h i r) = refl
+tried k first second a (row h i r) = refl
+tried k first second a (either x y r) = refl
+
+-- what is tried, and the lines behind it
+pub attempt_put : (k : Option (List ℕ)) (first second rest : Block) (m : PageMemo) (a b c d : Numbered) → fits (attempt first second rest) m ≡ true →
+    b ≡ with_nodes a (where_shown (shows m true) (nodes k first (inside_of m))) →
+    c ≡ with_nodes b (where_shown (shows m false) (nodes k second (inside_of m))) →
+    d ≡ with_nodes c (nodes k rest (later_of m)) → d ≡ with_nodes a (nodes k (attempt first second rest) m)
+attempt_put k first second rest (either x y r) a b c d fit e g later =
+    let f = where_shown (shows_part y true) (nodes k first (part_of x y)) in
+    let h = where_shown (shows_part y false) (nodes k second (part_of x y)) in
+    two_put a c d (part_shown y (nodes k first x) (nodes k second y)) (nodes k rest r)
+    (two_put a b c f h e g ∙ ap (with_nodes a) (tried k first second x y)) later
+attempt_put k first second rest m a b c d fit e g later = absurd (false≢true fit)
 
 -- ---- rows
 

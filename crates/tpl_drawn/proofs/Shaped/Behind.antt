@@ -14,15 +14,15 @@ use Rattle.page_model.specs.Labels.{Look, Text, Element}
 use Rattle.tpl_model.specs.KeptLines.Kept.{kept, rows_from}
 use Rattle.tpl_model.specs.KeptLines.Kept as held_rows
 use Rattle.tpl_model.specs.declared.memo.PageMemo as held
-use Rattle.tpl_model.specs.Lines.{Block, text, tag, choice, each}
+use Rattle.tpl_model.specs.Lines.{Block, empty, text, tag, choice, each, attempt}
 use Rattle.tpl_model.specs.Shapes.{Here, node_text}
-use Rattle.tpl_drawn.specs.Shown.{attributes_of, fits, inside_of, later_of, rows_of, shows, where_shown}
-use Rattle.tpl_drawn.proofs.Placed.Placed.{picked, unfit_shown}
+use Rattle.tpl_drawn.specs.Shown.{attributes_of, fits, inside_of, later_of, part_of, rows_of, shows, shows_part, where_shown}
+use Rattle.tpl_drawn.proofs.Placed.Placed.{picked, tried, unfit_shown}
 use Rattle.tpl_scratch.proofs.Shared.{after_none, after_after}
 use Rattle.tpl_model.specs.ShownNodes.Shapes.{all_shown, shown_tree}
 use Rattle.tpl_model.specs.declared.shown.Shown.{Shown}
 use Rattle.tpl_drawn.specs.Heads.{rows_in, text_at}
-use Rattle.tpl_model.specs.PageUpdates.PageMemos.{PageMemo, line, element, branch, loop, row, nodes, row_nodes, values}
+use Rattle.tpl_model.specs.PageUpdates.PageMemos.{PageMemo, blank, line, element, branch, loop, row, either, nodes, part_shown, row_nodes, values}
 
 -- ---- one node more
 
@@ -72,6 +72,18 @@ choice_more k f one other rest (branch h i r) a b c d fit e g later =
     let y = where_shown (shows (branch h i r) false) (nodes k other i) in
     two_more a c d _ (nodes k rest r) (two_more a b c x y e g ∙ ap (after a) (picked h.outcome (nodes k one i) (nodes k other i))) later
 choice_more k f one other rest m a b c d fit e g later = absurd (false≢true fit)
+
+-- what is tried, and the lines behind it
+pub attempt_more : (k : Option (List ℕ)) (first second rest : Block) (m : PageMemo) (a b c d : Forest Look) → fits (attempt first second rest) m ≡ true →
+    b ≡ after a (where_shown (shows m true) (nodes k first (inside_of m))) →
+    c ≡ after b (where_shown (shows m false) (nodes k second (inside_of m))) →
+    d ≡ after c (nodes k rest (later_of m)) → d ≡ after a (nodes k (attempt first second rest) m)
+attempt_more k first second rest (either x y r) a b c d fit e g later =
+    let f = where_shown (shows_part y true) (nodes k first (part_of x y)) in
+    let h = where_shown (shows_part y false) (nodes k second (part_of x y)) in
+    two_more a c d (part_shown y (nodes k first x) (nodes k second y)) (nodes k rest r)
+    (two_more a b c f h e g ∙ ap (after a) (tried k first second x y)) later
+attempt_more k first second rest m a b c d fit e g later = absurd (false≢true fit)
 
 -- a loop, and the lines behind it
 pub each_more : (k : Option (List ℕ)) (f : Tree) (inner rest : Block) (m : PageMemo) (a b c : Forest Look) → fits (each f inner rest) m ≡ true →

@@ -20,6 +20,7 @@ pub fn is_plain(lines: &Block) -> bool
         Block::Tag(_, _, _, _, rest) => is_plain(rest),
         Block::Choice(_, _, _, _) => false,
         Block::Each(_, _, _) => false,
+        Block::Attempt(_, _, _) => false,
     }
 }
 

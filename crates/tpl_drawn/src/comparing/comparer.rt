@@ -20,7 +20,7 @@ ghost use Rattle.tpl_drawn.specs.Walks.{as_listed, further, of_element, of_insid
 
 use crate::comparing::keeping::{first_keeps, keeps_nodes};
 use crate::comparing::kept::{put_if_listed, put_kept};
-use crate::comparing::node_marks::{Compared, put_made, put_text_again};
+use crate::comparing::node_marks::{Compared, put_made, put_part, put_text_again};
 use crate::marks::PageNodes;
 use crate::nodes::{attributes_of, fits, inside_of, later_of, shows};
 use crate::shown::{put_attributes, rows_in};
@@ -344,6 +344,7 @@ fn compare_each(
         PageMemo::Line(_, _) => Ok(()),
         PageMemo::Element(_, _, _) => Ok(()),
         PageMemo::Branch(_, _, _) => Ok(()),
+        PageMemo::Either(_, _, _) => Ok(()),
     }
 }
 
@@ -397,6 +398,16 @@ fn compare_parts(
         }
         Block::Each(_, inner, rest) => {
             compare_each(alloc, listed, inner, memo, inside, page, children, out)?;
+            compare_lines(alloc, listed, key, rest, behind, later, page, children, out)?;
+            Ok(())
+        }
+        Block::Attempt(first, second, rest) => {
+            put_part(
+                alloc, listed, same, true, key, first, memo, page, children, out,
+            )?;
+            put_part(
+                alloc, listed, same, false, key, second, memo, page, children, out,
+            )?;
             compare_lines(alloc, listed, key, rest, behind, later, page, children, out)?;
             Ok(())
         }

@@ -20,6 +20,7 @@ fn keeps_parts(lines: &Block, same: bool, later: &Change) -> bool
         Block::Tag(_, _, _, _, rest) => keeps_nodes(rest, later),
         Block::Choice(_, _, _, _) => false,
         Block::Each(_, inner, rest) => same && is_plain(inner) && keeps_nodes(rest, later),
+        Block::Attempt(_, _, rest) => same && keeps_nodes(rest, later),
     }
 }
 

@@ -95,7 +95,7 @@ pub fn put_kept(
     Ok(Some(number))
 }
 
-// The nodes of a branch of a choice that stays, the first or the other, where it is shown.
+// The nodes of a branch of a choice that stays, or of a part of what is tried, the first or the other, where it is shown.
 #[cycle(staying)]
 fn put_staying_branch(
     alloc: Global,
@@ -163,6 +163,7 @@ fn put_staying_each(
         PageMemo::Line(_, _) => Ok(()),
         PageMemo::Element(_, _, _) => Ok(()),
         PageMemo::Branch(_, _, _) => Ok(()),
+        PageMemo::Either(_, _, _) => Ok(()),
     }
 }
 
@@ -205,6 +206,12 @@ fn put_staying(
         }
         Block::Each(_, inner, rest) => {
             put_staying_each(alloc, inner, memo, page, children)?;
+            put_staying(alloc, key, rest, later_of(memo), page, children)?;
+            Ok(())
+        }
+        Block::Attempt(first, second, rest) => {
+            put_staying_branch(alloc, true, key, first, memo, page, children)?;
+            put_staying_branch(alloc, false, key, second, memo, page, children)?;
             put_staying(alloc, key, rest, later_of(memo), page, children)?;
             Ok(())
         }

@@ -7,15 +7,16 @@ ghost use Rattle.tpl_blocks.specs.Blocks.{block};
 ghost use Rattle.tpl_drawn.specs.Marks.{Knows};
 ghost use Rattle.tpl_drawn.specs.Addresses.{number_on};
 ghost use Rattle.tpl_model.specs.KeptLines.Kept.{kept};
-ghost use Rattle.tpl_drawn.specs.Shown.{is_line};
+ghost use Rattle.tpl_drawn.specs.Shown.{inside_of, is_line, shows};
 ghost use Rattle.tpl_model.specs.ShownNodes.Shapes.{mark_of};
 ghost use Rattle.tpl_drawn.specs.Heads.{text_at};
 ghost use Rattle.tpl_model.specs.PageUpdates.PageMemos.{nodes};
-ghost use Rattle.tpl_drawn.specs.Walks.{as_listed, further, of_made, of_text, walk_of};
+ghost use Rattle.tpl_drawn.specs.Walks.{as_listed, further, of_made, of_text, of_tried, walk_of, where_gone};
 
 use crate::comparing::children::put_children;
-use crate::comparing::kept::put_staying_text;
+use crate::comparing::kept::{put_if_listed, put_staying_text};
 use crate::marks::{PageNodes, mark_all};
+use crate::nodes::{inside_of, shows};
 use crate::shown::{put_shown, put_text};
 use sig_base::{NoMemory, Text};
 use std::alloc::Global;
@@ -90,6 +91,70 @@ pub fn put_made(
     let more = mark_all(alloc, shown, page, &mut marks)?;
     put_children(listed, more, children)?;
     put_marks(alloc, marks, out)?;
+    Ok(())
+}
+
+// Goes over lines of a part of what is tried; where this is the same they stay, and otherwise they were made anew.
+fn put_tried(
+    alloc: Global,
+    listed: bool,
+    same: bool,
+    key: Option<&Text>,
+    lines: &Block,
+    memo: &PageMemo,
+    page: &PageNodes,
+    children: &mut Vec<Child>,
+    out: &mut Compared,
+) -> Result<(), NoMemory>
+    ensures { (known : ℕ → Option ℕ) → Knows (number_on page.now) known →
+        OnOk result (walk_of children.new.items out.new ≡ further (walk_of children.old.items out.old)
+        (as_listed listed (of_tried known same (nodes (option_copied key.entry) (block lines.now) (kept memo.now))))) }
+{
+    if same {
+        put_if_listed(alloc, listed, key, lines, memo, page, children)?;
+        return Ok(());
+    }
+    put_made(alloc, listed, key, lines, memo, page, children, out)?;
+    Ok(())
+}
+
+/// Goes over a part of what is tried, the first or the other, where it is shown; where what is tried is the same its nodes stay, and otherwise they were
+/// made anew.
+///
+/// # Errors
+///
+/// `NoMemory` alone.
+pub fn put_part(
+    alloc: Global,
+    listed: bool,
+    same: bool,
+    first: bool,
+    key: Option<&Text>,
+    lines: &Block,
+    memo: &PageMemo,
+    page: &PageNodes,
+    children: &mut Vec<Child>,
+    out: &mut Compared,
+) -> Result<(), NoMemory>
+    ensures { (known : ℕ → Option ℕ) → Knows (number_on page.now) known →
+        OnOk result (walk_of children.new.items out.new ≡ further (walk_of children.old.items out.old)
+        (as_listed listed (where_gone (shows (kept memo.now) first)
+        (of_tried known same (nodes (option_copied key.entry) (block lines.now) (inside_of (kept memo.now))))))) }
+{
+    if !shows(memo, first) {
+        return Ok(());
+    }
+    put_tried(
+        alloc,
+        listed,
+        same,
+        key,
+        lines,
+        inside_of(memo),
+        page,
+        children,
+        out,
+    )?;
     Ok(())
 }
 

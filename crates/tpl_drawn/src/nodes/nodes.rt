@@ -72,7 +72,7 @@ fn put_element(
     Ok(())
 }
 
-// The nodes of a branch of a choice, the first or the other, where it is shown.
+// The nodes of a branch of a choice, or of a part of what is tried, the first or the other, where it is shown.
 #[cycle(placing)]
 fn put_branch(
     alloc: Global,
@@ -146,6 +146,12 @@ pub fn put_nodes(
         }
         Block::Each(_, inner, rest) => {
             put_rows(alloc, inner, rows_of(memo), out)?;
+            put_nodes(alloc, rest, later_of(memo), out)?;
+            Ok(())
+        }
+        Block::Attempt(first, second, rest) => {
+            put_branch(alloc, true, first, memo, out)?;
+            put_branch(alloc, false, second, memo, out)?;
             put_nodes(alloc, rest, later_of(memo), out)?;
             Ok(())
         }

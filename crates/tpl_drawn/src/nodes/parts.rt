@@ -3,7 +3,7 @@ ghost use Rattle.std.specs.Prelude.{◌≡◌, map, OnOk};
 ghost use Rattle.tpl_blocks.specs.Blocks.{block};
 ghost use Rattle.tpl_model.specs.KeptLines.Kept.{heard_of, kept};
 ghost use Rattle.tpl_scratch.specs.Pages.{nodes_of, with_nodes};
-ghost use Rattle.tpl_drawn.specs.Shown.{among_rows, attributes_of, fits, inside_of, is_branch, is_element, is_line, is_loop, later_of, shows, text_of, AreRows};
+ghost use Rattle.tpl_drawn.specs.Shown.{among_rows, attributes_of, fits, inside_of, is_branch, is_either, is_element, is_line, is_loop, later_of, part_of, shows, shows_part, text_of, AreRows};
 
 use sig_base::{NoMemory, Outcome, Value};
 use std::alloc::Global;
@@ -21,6 +21,7 @@ fn is_line(memo: &PageMemo) -> bool
         PageMemo::Element(_, _, _) => false,
         PageMemo::Branch(_, _, _) => false,
         PageMemo::Loop(_, _, _) => false,
+        PageMemo::Either(_, _, _) => false,
     }
 }
 
@@ -34,6 +35,7 @@ fn is_element(memo: &PageMemo) -> bool
         PageMemo::Line(_, _) => false,
         PageMemo::Branch(_, _, _) => false,
         PageMemo::Loop(_, _, _) => false,
+        PageMemo::Either(_, _, _) => false,
     }
 }
 
@@ -47,6 +49,7 @@ fn is_branch(memo: &PageMemo) -> bool
         PageMemo::Line(_, _) => false,
         PageMemo::Element(_, _, _) => false,
         PageMemo::Loop(_, _, _) => false,
+        PageMemo::Either(_, _, _) => false,
     }
 }
 
@@ -60,6 +63,21 @@ fn is_loop(memo: &PageMemo) -> bool
         PageMemo::Line(_, _) => false,
         PageMemo::Element(_, _, _) => false,
         PageMemo::Branch(_, _, _) => false,
+        PageMemo::Either(_, _, _) => false,
+    }
+}
+
+fn is_either(memo: &PageMemo) -> bool
+    ensures { result ≡ is_either (kept memo.now) }
+{
+    match memo {
+        PageMemo::Either(_, _, _) => true,
+        PageMemo::Unread => false,
+        PageMemo::Blank => false,
+        PageMemo::Line(_, _) => false,
+        PageMemo::Element(_, _, _) => false,
+        PageMemo::Branch(_, _, _) => false,
+        PageMemo::Loop(_, _, _) => false,
     }
 }
 
@@ -73,6 +91,7 @@ pub(crate) fn fits(lines: &Block, memo: &PageMemo) -> bool
         Block::Tag(_, _, _, _, _) => is_element(memo),
         Block::Choice(_, _, _, _) => is_branch(memo),
         Block::Each(_, _, _) => is_loop(memo),
+        Block::Attempt(_, _, _) => is_either(memo),
     }
 }
 
@@ -87,10 +106,41 @@ pub(crate) fn later_of(memo: &PageMemo) -> &PageMemo
         PageMemo::Element(_, _, later) => later,
         PageMemo::Branch(_, _, later) => later,
         PageMemo::Loop(_, _, later) => later,
+        PageMemo::Either(_, _, later) => later,
     }
 }
 
-/// What is kept inside an element, or of the branch that is shown.
+// What is kept of that part of what is tried which is shown, by what is kept of both: the first, where the second wasn't read.
+fn part_of<'a>(first: &'a PageMemo, second: &'a PageMemo) -> &'a PageMemo
+    ensures { kept result.now ≡ part_of (kept first.now) (kept second.now) }
+{
+    match second {
+        PageMemo::Unread => first,
+        PageMemo::Blank => second,
+        PageMemo::Line(_, _) => second,
+        PageMemo::Element(_, _, _) => second,
+        PageMemo::Branch(_, _, _) => second,
+        PageMemo::Loop(_, _, _) => second,
+        PageMemo::Either(_, _, _) => second,
+    }
+}
+
+// Whether a part of what is tried is shown, the first or the second, by what is kept of the second.
+fn shows_part(second: &PageMemo, first: bool) -> bool
+    ensures { result ≡ shows_part (kept second.now) first }
+{
+    match second {
+        PageMemo::Unread => first,
+        PageMemo::Blank => !first,
+        PageMemo::Line(_, _) => !first,
+        PageMemo::Element(_, _, _) => !first,
+        PageMemo::Branch(_, _, _) => !first,
+        PageMemo::Loop(_, _, _) => !first,
+        PageMemo::Either(_, _, _) => !first,
+    }
+}
+
+/// What is kept inside an element, or of the branch or the part that is shown.
 pub(crate) fn inside_of(memo: &PageMemo) -> &PageMemo
     ensures { kept result.now ≡ inside_of (kept memo.now) }
 {
@@ -101,6 +151,7 @@ pub(crate) fn inside_of(memo: &PageMemo) -> &PageMemo
         PageMemo::Blank => memo,
         PageMemo::Line(_, _) => memo,
         PageMemo::Loop(_, _, _) => memo,
+        PageMemo::Either(first, second, _) => part_of(first, second),
     }
 }
 
@@ -115,10 +166,11 @@ pub(crate) fn attributes_of(memo: &PageMemo) -> &[Heard]
         PageMemo::Line(_, _) => &[],
         PageMemo::Branch(_, _, _) => &[],
         PageMemo::Loop(_, _, _) => &[],
+        PageMemo::Either(_, _, _) => &[],
     }
 }
 
-/// Whether a branch of a choice is shown, the first or the other.
+/// Whether a branch of a choice or a part of what is tried is shown, the first or the other.
 pub(crate) fn shows(memo: &PageMemo, first: bool) -> bool
     ensures { result ≡ shows (kept memo.now) first }
 {
@@ -129,6 +181,7 @@ pub(crate) fn shows(memo: &PageMemo, first: bool) -> bool
         PageMemo::Line(_, _) => false,
         PageMemo::Element(_, _, _) => false,
         PageMemo::Loop(_, _, _) => false,
+        PageMemo::Either(_, second, _) => shows_part(second, first),
     }
 }
 
@@ -159,6 +212,7 @@ pub fn rows_of(memo: &PageMemo) -> &[PageMemo]
         PageMemo::Line(_, _) => &[],
         PageMemo::Element(_, _, _) => &[],
         PageMemo::Branch(_, _, _) => &[],
+        PageMemo::Either(_, _, _) => &[],
     }
 }
 
@@ -182,5 +236,6 @@ pub fn put_text(alloc: Global, memo: &PageMemo, out: &mut Nodes) -> Result<(), N
         PageMemo::Element(_, _, _) => Ok(()),
         PageMemo::Branch(_, _, _) => Ok(()),
         PageMemo::Loop(_, _, _) => Ok(()),
+        PageMemo::Either(_, _, _) => Ok(()),
     }
 }

@@ -50,7 +50,7 @@ pub(crate) fn put_element(
     Ok(())
 }
 
-// The nodes of a branch of a choice, the first or the other, where it is shown.
+// The nodes of a branch of a choice, or of a part of what is tried, the first or the other, where it is shown.
 #[cycle(showing)]
 fn put_branch(
     alloc: Global,
@@ -112,6 +112,7 @@ fn put_each(
         PageMemo::Line(_, _) => Ok(()),
         PageMemo::Element(_, _, _) => Ok(()),
         PageMemo::Branch(_, _, _) => Ok(()),
+        PageMemo::Either(_, _, _) => Ok(()),
     }
 }
 
@@ -153,6 +154,12 @@ pub fn put_shown(
         }
         Block::Each(_, inner, rest) => {
             put_each(alloc, inner, memo, out)?;
+            put_shown(alloc, key, rest, later_of(memo), out)?;
+            Ok(())
+        }
+        Block::Attempt(first, second, rest) => {
+            put_branch(alloc, true, key, first, memo, out)?;
+            put_branch(alloc, false, key, second, memo, out)?;
             put_shown(alloc, key, rest, later_of(memo), out)?;
             Ok(())
         }

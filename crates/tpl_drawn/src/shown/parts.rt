@@ -88,5 +88,6 @@ pub(crate) fn put_text(
         PageMemo::Element(_, _, _) => Ok(()),
         PageMemo::Branch(_, _, _) => Ok(()),
         PageMemo::Loop(_, _, _) => Ok(()),
+        PageMemo::Either(_, _, _) => Ok(()),
     }
 }

@@ -11,12 +11,12 @@ use Rattle.tpl_model.proofs.ChangeEquations.{changed_made, changed_over, changed
 use Rattle.tpl_drawn.specs.Addresses.{number_on}
 use Rattle.tpl_model.specs.KeptLines.Kept.{heard_of, kept}
 use Rattle.tpl_drawn.specs.Shown.{attributes_of, inside_of, rows_of, shows}
-use Rattle.tpl_drawn.proofs.Placed.Equations.{of_blank, of_branch, of_element, of_line, of_loop, of_unread}
+use Rattle.tpl_drawn.proofs.Placed.Equations.{of_blank, of_branch, of_either, of_element, of_line, of_loop, of_unread}
 use Rattle.tpl_model.specs.ShownNodes.Shapes.{child_of, mark_of}
-use Rattle.tpl_model.specs.PageUpdates.PageMemos.{values}
-use Rattle.tpl_drawn.specs.Walks.{as_listed, further, of_lines, of_rows, or_stays, walk_of, where_gone}
+use Rattle.tpl_model.specs.PageUpdates.PageMemos.{nodes, values}
+use Rattle.tpl_drawn.specs.Walks.{as_listed, further, of_lines, of_rows, of_tried, or_stays, walk_of, where_gone}
 use Rattle.tpl_drawn.proofs.Compares.Rows.{all_left, item_at, left_of, one_left, past, rows_gone, rows_held, told_at}
-use Rattle.tpl_drawn.proofs.Compares.Walks.{alone_listed, branch_off, branch_on, choice_parts, each_parts, element_goes, element_quiet, first_none, first_some, inside_goes, inside_keeps, inside_stays, kept_goes, kept_same, made_gone, none_gone, none_listed, parts_gone, put_staying_gone, stays_gone, tag_parts, text_parts, unfit_gone, unknown_element}
+use Rattle.tpl_drawn.proofs.Compares.Walks.{alone_listed, attempt_parts, branch_off, branch_on, choice_parts, each_parts, element_goes, element_quiet, first_none, first_some, inside_goes, inside_keeps, inside_stays, kept_goes, kept_same, made_gone, none_gone, none_listed, parts_gone, put_staying_gone, stays_gone, tag_parts, text_parts, unfit_gone, unknown_element}
 use Rattle.tpl_drawn.proofs.comparing.comparer.+comparing.Goals as goal
 
 -- ---- the first of some parts
@@ -27,7 +27,7 @@ compare_first-returns-in_default u c = λ known k.
     let m = kept c.args.memo.now in
     c.in_ok-put_made.ensures known k
     ∙ ap (λ z. further (walk_of c.args.children.now.items c.args.out.now) (as_listed c.args.listed z))
-    (made_gone known key c.args.lines.now m
+    (made_gone known key (block c.args.lines.now) m
     ∙ ap (of_lines known key (block c.args.lines.now) m) (first_none c.args.inside.now (sym c.first.ensures.value ∙ ap option_copied c.in_default.is)))
 
 pub compare_first-returns : goal.compare_first-returns
@@ -294,7 +294,7 @@ compare_lines-returns-in_ok-put_made-in-Made u c = λ known k.
     let key = option_copied c.args.key in
     c.in_ok-put_made-in-Made.ensures known k
     ∙ ap (λ z. further (walk_of c.args.children.now.items c.args.out.now) (as_listed c.args.listed z))
-    (made_gone known key c.args.lines.now (kept c.args.memo.now)
+    (made_gone known key (block c.args.lines.now) (kept c.args.memo.now)
     ∙ ap (of_lines known key (block c.args.lines.now) (kept c.args.memo.now)) (sym (ap changed c.in-Made.is ∙ changed_made)))
 
 pub compare_lines-returns-in_ok-compare_parts-in-Over : goal.compare_lines-returns-in_ok-compare_parts-in-Over
@@ -303,3 +303,25 @@ compare_lines-returns-in_ok-compare_parts-in-Over u c = λ known k.
     ∙ ap (λ z. further (walk_of c.args.children.now.items c.args.out.now)
     (as_listed c.args.listed (of_lines known (option_copied c.args.key) (block c.args.lines.now) (kept c.args.memo.now) z)))
     (sym (ap changed c.in-Over.is ∙ changed_over c.in-Over.same c.in-Over.inside c.in-Over.later))
+
+pub compare_each-returns-in-Either : goal.compare_each-returns-in-Either
+compare_each-returns-in-Either u c = λ known k.
+    none_listed c.args.listed _ _ (ap (λ z. of_rows known (block c.args.inner.now) (rows_of z) (chain (map changed c.args.inside.now))) (of_either _ _ _ _ c.in-Either.is))
+
+pub compare_parts-returns-in_ok-compare_lines-in-Attempt : goal.compare_parts-returns-in_ok-compare_lines-in-Attempt
+compare_parts-returns-in_ok-compare_lines-in-Attempt u c = λ known k.
+    let fit = rw c.in-Attempt.is at (sym c.fits.ensures ∙ c.if-not-fits.false) in
+    let key = option_copied c.args.key in
+    let m = kept c.args.memo.now in
+    let one = where_gone (shows m true) (of_tried known c.args.same (nodes key (block c.in-Attempt.first.value) (inside_of m))) in
+    let other = where_gone (shows m false) (of_tried known c.args.same (nodes key (block c.in-Attempt.second.value) (inside_of m))) in
+    rw c.in-Attempt.is
+    (parts_gone c.args.listed (walk_of c.args.children.now.items c.args.out.now) (walk_of c.put_part-in-Attempt.new.children.items c.put_part-in-Attempt.new.out)
+    (walk_of c.compare_lines-in-Attempt.new.children.items c.compare_lines-in-Attempt.new.out) _ _ _
+    (attempt_parts known (option_copied c.args.key) (block c.in-Attempt.first.value) (block c.in-Attempt.second.value)
+    (block c.in-Attempt.rest.value) (kept c.args.memo.now) c.args.same (chain (map changed c.args.inside.now)) (changed c.args.later.now) fit)
+    (parts_gone c.args.listed (walk_of c.args.children.now.items c.args.out.now) (walk_of c.put_part.new.children.items c.put_part.new.out)
+    (walk_of c.put_part-in-Attempt.new.children.items c.put_part-in-Attempt.new.out) one other (further one other) refl
+    (rw c.deref-in-Attempt.ensures at (c.in_ok-put_part-in-Attempt.ensures known k))
+    (rw c.deref-in-Attempt-2.ensures at (c.in_ok-put_part-in-Attempt-2.ensures known k)))
+    (rw (c.deref-in-Attempt-3.ensures, c.later_of-behind.ensures) at (c.in_ok-compare_lines-in-Attempt.ensures known k)))

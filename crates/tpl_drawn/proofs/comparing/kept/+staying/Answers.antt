@@ -7,13 +7,13 @@ use Rattle.tpl_drawn.specs.Marks.{children_in}
 use Rattle.tpl_drawn.specs.Addresses.{number_on}
 use Rattle.tpl_model.specs.KeptLines.Kept.{kept}
 use Rattle.tpl_drawn.specs.Shown.{inside_of, rows_of, shows}
-use Rattle.tpl_drawn.proofs.Placed.Equations.{of_blank, of_branch, of_element, of_line, of_loop, of_unread}
+use Rattle.tpl_drawn.proofs.Placed.Equations.{of_blank, of_branch, of_either, of_element, of_line, of_loop, of_unread}
 use Rattle.tpl_drawn.proofs.Placed.Placed.{unfit_shown}
 use Rattle.tpl_model.specs.ShownNodes.Shapes.{child_of}
 use Rattle.tpl_model.specs.PageUpdates.PageMemos.{nodes, row_nodes}
 use Rattle.tpl_drawn.proofs.Compares.Rows.{all_left, left_of, none_left, one_left, past, row_shown, rows_gone, rows_held, staying_row}
 use Rattle.tpl_drawn.proofs.Compares.Siblings.{branch_hidden, branch_shown, no_more}
-use Rattle.tpl_drawn.proofs.Compares.Walks.{alone, choice_stays, each_stays, tag_stays, text_stays}
+use Rattle.tpl_drawn.proofs.Compares.Walks.{alone, attempt_stays, choice_stays, each_stays, tag_stays, text_stays}
 use Rattle.tpl_drawn.proofs.comparing.kept.+staying.Goals as goal
 
 -- ---- a branch
@@ -145,3 +145,18 @@ put_staying-returns-in_ok-put_staying-in-Each u c = λ known k.
     (map child_of c.args.children.now.items) (map child_of c.put_staying_each.new.children.items) (map child_of c.put_staying-in-Each.new.children.items) fit
     (rw c.deref-in-Each.ensures at (c.in_ok-put_staying_each-in-Each.ensures known k))
     (rw (c.deref-in-Each-2.ensures, c.later_of-in-Each.ensures) at (c.in_ok-put_staying-in-Each.ensures known k)))
+
+pub put_staying_each-returns-in-Either : goal.put_staying_each-returns-in-Either
+put_staying_each-returns-in-Either u c = λ known k.
+    no_more _ _ (ap (λ z. children_in known (row_nodes (row_shown (block c.args.inner.now)) (rows_of z))) (of_either _ _ _ _ c.in-Either.is))
+
+pub put_staying-returns-in_ok-put_staying-in-Attempt : goal.put_staying-returns-in_ok-put_staying-in-Attempt
+put_staying-returns-in_ok-put_staying-in-Attempt u c = λ known k.
+    let fit = rw c.in-Attempt.is at (sym c.fits.ensures ∙ c.if-not-fits.false) in
+    rw c.in-Attempt.is
+    (attempt_stays known (option_copied c.args.key) (block c.in-Attempt.first.value) (block c.in-Attempt.second.value)
+    (block c.in-Attempt.rest.value) (kept c.args.memo.now) (map child_of c.args.children.now.items) (map child_of c.put_staying_branch-in-Attempt.new.children.items)
+    (map child_of c.put_staying_branch-in-Attempt-2.new.children.items) (map child_of c.put_staying-in-Attempt.new.children.items) fit
+    (rw c.deref-in-Attempt.ensures at (c.in_ok-put_staying_branch-in-Attempt.ensures known k))
+    (rw c.deref-in-Attempt-2.ensures at (c.in_ok-put_staying_branch-in-Attempt-2.ensures known k))
+    (rw (c.deref-in-Attempt-3.ensures, c.later_of-in-Attempt.ensures) at (c.in_ok-put_staying-in-Attempt.ensures known k)))

@@ -8,7 +8,7 @@ use Rattle.tpl_scratch.specs.Pages.{nodes_of, with_nodes}
 use Rattle.tpl_scratch.proofs.Shared.{with_element}
 use Rattle.tpl_model.specs.PageUpdates.PageMemos.{nodes, values}
 use Rattle.tpl_drawn.specs.Shown.{attributes_of, inside_of, shows}
-use Rattle.tpl_drawn.proofs.Placed.Placed.{branch_off, branch_on, choice_put, each_put, empty_put, mapped_more, more_rows, none_put, none_rows, rows_done, rows_each, tag_put, text_put}
+use Rattle.tpl_drawn.proofs.Placed.Placed.{attempt_put, branch_off, branch_on, choice_put, each_put, empty_put, mapped_more, more_rows, none_put, none_rows, rows_done, rows_each, tag_put, text_put}
 use Rattle.tpl_drawn.proofs.nodes.nodes.+placing.Goals as goal
 
 -- ---- an element
@@ -100,3 +100,12 @@ put_nodes-returns-in_ok-put_nodes-in-Each u c = λ k.
 pub put_rows-returns : goal.put_rows-returns
 put_rows-returns u c =
     rows_done (block c.args.inner.now) c.args.memos.now c.loop-memo.memo-index (nodes_of c.args.out.now) (nodes_of c.loop-memo.out) c.loop-memo.invariant (omega arith)
+
+pub put_nodes-returns-in_ok-put_nodes-in-Attempt : goal.put_nodes-returns-in_ok-put_nodes-in-Attempt
+put_nodes-returns-in_ok-put_nodes-in-Attempt u c = λ k.
+    let fit = rw c.in-Attempt.is at (sym c.fits.ensures ∙ c.if-not-fits.false) in
+    rw c.in-Attempt.is
+    (attempt_put k (block c.in-Attempt.first.value) (block c.in-Attempt.second.value) (block c.in-Attempt.rest.value) (kept c.args.memo.now)
+    (nodes_of c.args.out.now) (nodes_of c.put_branch-in-Attempt.new.out) (nodes_of c.put_branch-in-Attempt-2.new.out) (nodes_of c.put_nodes-in-Attempt.new.out) fit
+    (rw c.deref-in-Attempt.ensures at (c.in_ok-put_branch-in-Attempt.ensures k)) (rw c.deref-in-Attempt-2.ensures at (c.in_ok-put_branch-in-Attempt-2.ensures k))
+    (rw (c.deref-in-Attempt-3.ensures, c.later_of-in-Attempt.ensures) at (c.in_ok-put_nodes-in-Attempt.ensures k)))

@@ -1,7 +1,7 @@
 use Rattle.std.proofs.Common.{map, sym, ap, ◌∙◌}
 use Rattle.tpl_drawn.specs.Shown.{attributes_of}
 use Rattle.tpl_model.specs.KeptLines.Kept.{heard_of}
-use Rattle.tpl_drawn.proofs.Placed.Equations.{of_blank, of_branch, of_element, of_line, of_loop, of_unread}
+use Rattle.tpl_drawn.proofs.Placed.Equations.{of_blank, of_branch, of_either, of_element, of_line, of_loop, of_unread}
 use Rattle.tpl_drawn.proofs.nodes.parts.attributes_of.Goals as goal
 
 pub returns-in-Element : goal.returns-in-Element
@@ -21,3 +21,6 @@ returns-in-Branch c = sym (ap attributes_of (of_branch _ _ _ _ c.in-Branch.is))
 
 pub returns-in-Loop : goal.returns-in-Loop
 returns-in-Loop c = sym (ap attributes_of (of_loop _ _ _ _ c.in-Loop.is))
+
+pub returns-in-Either : goal.returns-in-Either
+returns-in-Either c = sym (ap attributes_of (of_either _ _ _ _ c.in-Either.is))

@@ -1,6 +1,6 @@
 use Rattle.std.proofs.Common.{sym, ap}
 use Rattle.tpl_drawn.specs.Shown.{is_branch}
-use Rattle.tpl_drawn.proofs.Placed.Equations.{of_blank, of_branch, of_element, of_line, of_loop, of_unread}
+use Rattle.tpl_drawn.proofs.Placed.Equations.{of_blank, of_branch, of_either, of_element, of_line, of_loop, of_unread}
 use Rattle.tpl_drawn.proofs.nodes.parts.is_branch.Goals as goal
 
 pub returns-in-Branch : goal.returns-in-Branch
@@ -20,3 +20,6 @@ returns-in-Element c = sym (ap is_branch (of_element _ _ _ _ c.in-Element.is))
 
 pub returns-in-Loop : goal.returns-in-Loop
 returns-in-Loop c = sym (ap is_branch (of_loop _ _ _ _ c.in-Loop.is))
+
+pub returns-in-Either : goal.returns-in-Either
+returns-in-Either c = sym (ap is_branch (of_either _ _ _ _ c.in-Either.is))

@@ -1,6 +1,6 @@
 use Rattle.std.proofs.Common.{sym, ap}
 use Rattle.tpl_drawn.specs.Shown.{is_line}
-use Rattle.tpl_drawn.proofs.Placed.Equations.{of_blank, of_branch, of_element, of_line, of_loop, of_unread}
+use Rattle.tpl_drawn.proofs.Placed.Equations.{of_blank, of_branch, of_either, of_element, of_line, of_loop, of_unread}
 use Rattle.tpl_drawn.proofs.nodes.parts.is_line.Goals as goal
 
 pub returns-in-Line : goal.returns-in-Line
@@ -20,3 +20,6 @@ returns-in-Branch c = sym (ap is_line (of_branch _ _ _ _ c.in-Branch.is))
 
 pub returns-in-Loop : goal.returns-in-Loop
 returns-in-Loop c = sym (ap is_line (of_loop _ _ _ _ c.in-Loop.is))
+
+pub returns-in-Either : goal.returns-in-Either
+returns-in-Either c = sym (ap is_line (of_either _ _ _ _ c.in-Either.is))

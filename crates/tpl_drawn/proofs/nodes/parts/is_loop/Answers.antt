@@ -1,6 +1,6 @@
 use Rattle.std.proofs.Common.{sym, ap}
 use Rattle.tpl_drawn.specs.Shown.{is_loop}
-use Rattle.tpl_drawn.proofs.Placed.Equations.{of_blank, of_branch, of_element, of_line, of_loop, of_unread}
+use Rattle.tpl_drawn.proofs.Placed.Equations.{of_blank, of_branch, of_either, of_element, of_line, of_loop, of_unread}
 use Rattle.tpl_drawn.proofs.nodes.parts.is_loop.Goals as goal
 
 pub returns-in-Loop : goal.returns-in-Loop
@@ -20,3 +20,6 @@ returns-in-Element c = sym (ap is_loop (of_element _ _ _ _ c.in-Element.is))
 
 pub returns-in-Branch : goal.returns-in-Branch
 returns-in-Branch c = sym (ap is_loop (of_branch _ _ _ _ c.in-Branch.is))
+
+pub returns-in-Either : goal.returns-in-Either
+returns-in-Either c = sym (ap is_loop (of_either _ _ _ _ c.in-Either.is))

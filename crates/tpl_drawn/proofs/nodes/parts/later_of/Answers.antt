@@ -1,7 +1,7 @@
 use Rattle.std.proofs.Common.{sym, ap, ◌∙◌}
 use Rattle.tpl_drawn.specs.Shown.{later_of}
 use Rattle.tpl_model.specs.KeptLines.Kept.{kept}
-use Rattle.tpl_drawn.proofs.Placed.Equations.{of_blank, of_branch, of_element, of_line, of_loop, of_unread}
+use Rattle.tpl_drawn.proofs.Placed.Equations.{of_blank, of_branch, of_either, of_element, of_line, of_loop, of_unread}
 use Rattle.tpl_drawn.proofs.nodes.parts.later_of.Goals as goal
 
 pub returns-in-Line : goal.returns-in-Line
@@ -21,3 +21,6 @@ returns-in-Unread c = of_unread _ c.in-Unread.is ∙ sym (ap later_of (of_unread
 
 pub returns-in-Blank : goal.returns-in-Blank
 returns-in-Blank c = of_blank _ c.in-Blank.is ∙ sym (ap later_of (of_blank _ c.in-Blank.is))
+
+pub returns-in-Either : goal.returns-in-Either
+returns-in-Either c = ap kept c.deref-in-Either.ensures ∙ sym (ap later_of (of_either _ _ _ _ c.in-Either.is))

@@ -5,7 +5,7 @@ use Rattle.tpl_model.specs.Shapes.{node_text}
 use Rattle.tpl_scratch.specs.Pages.{nodes_of, with_nodes}
 use Rattle.tpl_scratch.proofs.Shared.{with_none}
 use Rattle.tpl_drawn.specs.Shown.{text_of}
-use Rattle.tpl_drawn.proofs.Placed.Equations.{of_blank, of_branch, of_element, of_line, of_loop, of_unread}
+use Rattle.tpl_drawn.proofs.Placed.Equations.{of_blank, of_branch, of_either, of_element, of_line, of_loop, of_unread}
 use Rattle.tpl_drawn.proofs.nodes.parts.put_text.Goals as goal
 
 pub returns-in_ok-put_text-in-Line : goal.returns-in_ok-put_text-in-Line
@@ -28,3 +28,6 @@ returns-in-Branch c = sym (ap (λ z. with_nodes (nodes_of c.args.out.now) (text_
 
 pub returns-in-Loop : goal.returns-in-Loop
 returns-in-Loop c = sym (ap (λ z. with_nodes (nodes_of c.args.out.now) (text_of z)) (of_loop _ _ _ _ c.in-Loop.is) ∙ with_none (nodes_of c.args.out.now))
+
+pub returns-in-Either : goal.returns-in-Either
+returns-in-Either c = sym (ap (λ z. with_nodes (nodes_of c.args.out.now) (text_of z)) (of_either _ _ _ _ c.in-Either.is) ∙ with_none (nodes_of c.args.out.now))

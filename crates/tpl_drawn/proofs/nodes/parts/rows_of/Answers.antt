@@ -2,7 +2,7 @@ use Rattle.std.proofs.Common.{ap, ◌∙◌}
 use Rattle.tpl_drawn.specs.Shown.{among_rows, rows_of}
 use Rattle.tpl_drawn.proofs.Placed.Rows.{no_rows, rows_kept}
 use Rattle.tpl_model.specs.KeptLines.Kept.{kept}
-use Rattle.tpl_drawn.proofs.Placed.Equations.{of_blank, of_branch, of_element, of_line, of_unread}
+use Rattle.tpl_drawn.proofs.Placed.Equations.{of_blank, of_branch, of_either, of_element, of_line, of_unread}
 use Rattle.tpl_drawn.proofs.nodes.parts.rows_of.Goals as goal
 
 pub returns-in-Loop : goal.returns-in-Loop
@@ -22,3 +22,6 @@ returns-in-Element c = no_rows (kept c.args.memo.now) (ap rows_of (of_element _ 
 
 pub returns-in-Branch : goal.returns-in-Branch
 returns-in-Branch c = no_rows (kept c.args.memo.now) (ap rows_of (of_branch _ _ _ _ c.in-Branch.is))
+
+pub returns-in-Either : goal.returns-in-Either
+returns-in-Either c = no_rows (kept c.args.memo.now) (ap rows_of (of_either _ _ _ _ c.in-Either.is))

@@ -1,6 +1,7 @@
 use Rattle.std.proofs.Common.{sym, ap, ◌∙◌}
-use Rattle.tpl_drawn.specs.Shown.{shows}
-use Rattle.tpl_drawn.proofs.Placed.Equations.{of_blank, of_branch, of_element, of_line, of_loop, of_unread}
+use Rattle.tpl_drawn.specs.Shown.{shows, shows_part}
+use Rattle.tpl_model.specs.KeptLines.Kept.{kept}
+use Rattle.tpl_drawn.proofs.Placed.Equations.{of_blank, of_branch, of_either, of_element, of_line, of_loop, of_unread}
 use Rattle.tpl_drawn.proofs.nodes.parts.shows.Goals as goal
 
 pub returns-in-Branch : goal.returns-in-Branch
@@ -20,3 +21,7 @@ returns-in-Element c = sym (ap (λ z. shows z c.args.first) (of_element _ _ _ _ 
 
 pub returns-in-Loop : goal.returns-in-Loop
 returns-in-Loop c = sym (ap (λ z. shows z c.args.first) (of_loop _ _ _ _ c.in-Loop.is))
+
+pub returns-in-Either : goal.returns-in-Either
+returns-in-Either c =
+    c.shows_part.ensures ∙ (ap (λ z. shows_part (kept z) c.args.first) c.deref.ensures ∙ sym (ap (λ z. shows z c.args.first) (of_either _ _ _ _ c.in-Either.is)))

@@ -8,10 +8,10 @@ use Rattle.tpl_blocks.specs.Blocks.{block, waiting}
 use Rattle.tpl_model.specs.KeptLines.Kept.{heard_of, kept}
 use Rattle.tpl_drawn.specs.Shown.{attributes_of, inside_of, rows_of, shows}
 use Rattle.tpl_drawn.proofs.Placed.Placed.{mapped_more}
-use Rattle.tpl_drawn.proofs.Placed.Equations.{of_blank, of_branch, of_element, of_line, of_loop, of_unread}
+use Rattle.tpl_drawn.proofs.Placed.Equations.{of_blank, of_branch, of_either, of_element, of_line, of_loop, of_unread}
 use Rattle.tpl_model.specs.ShownNodes.Shapes.{all_shown}
 use Rattle.tpl_model.specs.PageUpdates.PageMemos.{nodes, row_nodes, values}
-use Rattle.tpl_drawn.proofs.Shaped.Behind.{branch_off, branch_on, choice_more, each_more, got, loop_rows, no_more, no_rows, one_row, row_shown, rows_all, rows_past, tag_more, taken_many, text_more, unfit_more}
+use Rattle.tpl_drawn.proofs.Shaped.Behind.{attempt_more, branch_off, branch_on, choice_more, each_more, got, loop_rows, no_more, no_rows, one_row, row_shown, rows_all, rows_past, tag_more, taken_many, text_more, unfit_more}
 use Rattle.tpl_drawn.proofs.shown.nodes.+showing.Goals as goal
 
 -- ---- an element
@@ -138,3 +138,16 @@ put_shown-returns-in_ok-put_shown-in-Each u c =
     (all_shown c.args.out.now.items) (all_shown c.put_each.new.out.items) (all_shown c.put_shown-in-Each.new.out.items) fit
     (rw c.deref-in-Each.ensures at c.in_ok-put_each-in-Each.ensures)
     (rw (c.deref-in-Each-2.ensures, c.later_of-in-Each.ensures) at c.in_ok-put_shown-in-Each.ensures))
+
+pub put_each-returns-in-Either : goal.put_each-returns-in-Either
+put_each-returns-in-Either u c = no_more _ _ (ap (λ z. row_nodes (row_shown (block c.args.inner.now)) (rows_of z)) (of_either _ _ _ _ c.in-Either.is))
+
+pub put_shown-returns-in_ok-put_shown-in-Attempt : goal.put_shown-returns-in_ok-put_shown-in-Attempt
+put_shown-returns-in_ok-put_shown-in-Attempt u c =
+    let fit = rw c.in-Attempt.is at (sym c.fits.ensures ∙ c.if-not-fits.false) in
+    rw c.in-Attempt.is
+    (attempt_more (option_copied c.args.key) (block c.in-Attempt.first.value) (block c.in-Attempt.second.value) (block c.in-Attempt.rest.value)
+    (kept c.args.memo.now) (all_shown c.args.out.now.items) (all_shown c.put_branch-in-Attempt.new.out.items) (all_shown c.put_branch-in-Attempt-2.new.out.items)
+    (all_shown c.put_shown-in-Attempt.new.out.items) fit
+    (rw c.deref-in-Attempt.ensures at c.in_ok-put_branch-in-Attempt.ensures) (rw c.deref-in-Attempt-2.ensures at c.in_ok-put_branch-in-Attempt-2.ensures)
+    (rw (c.deref-in-Attempt-3.ensures, c.later_of-in-Attempt.ensures) at c.in_ok-put_shown-in-Attempt.ensures))

@@ -4,7 +4,7 @@ use Rattle.page_model.specs.Addresses.{address}
 use Rattle.page_model.specs.Forest.{after, node, none}
 use Rattle.page_model.specs.Labels.{Text}
 use Rattle.tpl_model.specs.Shapes.{node_text}
-use Rattle.tpl_drawn.proofs.Placed.Equations.{of_blank, of_branch, of_element, of_line, of_loop, of_unread}
+use Rattle.tpl_drawn.proofs.Placed.Equations.{of_blank, of_branch, of_either, of_element, of_line, of_loop, of_unread}
 use Rattle.tpl_model.specs.ShownNodes.Shapes.{all_shown}
 use Rattle.tpl_drawn.specs.Heads.{text_at}
 use Rattle.tpl_drawn.proofs.Shaped.Behind.{no_more}
@@ -32,3 +32,6 @@ returns-in-Branch c = no_more _ _ (ap (text_at (address c.args.line (option_copi
 
 pub returns-in-Loop : goal.returns-in-Loop
 returns-in-Loop c = no_more _ _ (ap (text_at (address c.args.line (option_copied c.args.key))) (of_loop _ _ _ _ c.in-Loop.is))
+
+pub returns-in-Either : goal.returns-in-Either
+returns-in-Either c = no_more _ _ (ap (text_at (address c.args.line (option_copied c.args.key))) (of_either _ _ _ _ c.in-Either.is))

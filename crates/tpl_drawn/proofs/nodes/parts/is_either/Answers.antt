@@ -1,0 +1,25 @@
+use Rattle.std.proofs.Common.{sym, ap}
+use Rattle.tpl_drawn.specs.Shown.{is_either}
+use Rattle.tpl_drawn.proofs.Placed.Equations.{of_blank, of_branch, of_either, of_element, of_line, of_loop, of_unread}
+use Rattle.tpl_drawn.proofs.nodes.parts.is_either.Goals as goal
+
+pub returns-in-Unread : goal.returns-in-Unread
+returns-in-Unread c = sym (ap is_either (of_unread _ c.in-Unread.is))
+
+pub returns-in-Blank : goal.returns-in-Blank
+returns-in-Blank c = sym (ap is_either (of_blank _ c.in-Blank.is))
+
+pub returns-in-Line : goal.returns-in-Line
+returns-in-Line c = sym (ap is_either (of_line _ _ _ c.in-Line.is))
+
+pub returns-in-Element : goal.returns-in-Element
+returns-in-Element c = sym (ap is_either (of_element _ _ _ _ c.in-Element.is))
+
+pub returns-in-Branch : goal.returns-in-Branch
+returns-in-Branch c = sym (ap is_either (of_branch _ _ _ _ c.in-Branch.is))
+
+pub returns-in-Loop : goal.returns-in-Loop
+returns-in-Loop c = sym (ap is_either (of_loop _ _ _ _ c.in-Loop.is))
+
+pub returns-in-Either : goal.returns-in-Either
+returns-in-Either c = sym (ap is_either (of_either _ _ _ _ c.in-Either.is))
