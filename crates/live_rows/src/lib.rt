@@ -24,6 +24,8 @@ mod run;
 #[cfg(test)]
 mod sources;
 #[cfg(test)]
+mod tried;
+#[cfg(test)]
 mod watchers;
 #[cfg(test)]
 mod workload;
