@@ -5,14 +5,14 @@ use Rattle.effect_model.specs.Acts.{dispose_live, dispose_thing}
 use Rattle.effect_model.specs.Owners as owning
 use Rattle.effect_model.specs.Owners.{put_under}
 use Rattle.effect_model.specs.Worlds as plain
-use Rattle.effect_model.specs.Worlds.{lives, tell}
+use Rattle.effect_model.specs.Worlds.{lives, tell, at_rest}
 use Rattle.effect_laws.specs.Frames.{IsOfSignals}
 use Rattle.sig_owner.specs.Tables.{Row, changed_at, live_at, noted, thing_at, with_item}
 use Rattle.sig_owner.specs.Trees.{has_thing, owned_of}
 use Rattle.sig_owner.proofs.Shared.{has_put, item_lives, item_thing, renamed_put}
 use Rattle.effect_tables.specs.declared.tables.Tables.{Tables}
 use Rattle.effect_tables.specs.Consistency.{TablesAgree}
-use Rattle.effect_tables.specs.Placed.{at_rest, numbering, tree_of}
+use Rattle.effect_tables.specs.Placed.{numbering, tree_of}
 use Rattle.effect_tables.proofs.Shared.{number_apart, placed_rests}
 use Rattle.effect_teardown.specs.Trees.{AreFormed}
 use Rattle.effect_teardown.specs.Teardowns.{EndsIn, Takes}

@@ -3,9 +3,8 @@ use Rattle.std.proofs.Common.{◌≡◌, ℕ, Bool, true, false, cond, List, [],
 use Rattle.std.specs.List.{AllByRecursion}
 use Rattle.std.specs.Option.{option_or}
 use Rattle.signal_model.specs.Recipes.{Recipe}
-use Rattle.signal_model.specs.Signals.{IsCell, IsComputed, IsGone, Stands, is_there, standing}
+use Rattle.signal_model.specs.Signals.{IsCell, IsComputed, IsGone, Stands, is_there, standing, is_cell}
 use Rattle.sig_nodes.specs.Answers.{kind_here}
-use Rattle.sig_nodes.specs.States.{is_cell}
 use Rattle.sig_nodes.specs.declared.answers.Standing.{Standing}
 use Rattle.sig_nodes.specs.declared.answers.Standing.TheVariants.{Gone, Cell, Computed, Computing}
 use Rattle.effect_model.specs.Acts.{gone_refused, host_of, host_refused, or_refused, rewire_signal, rewire_standing, rewiring_refused, some_gone}

@@ -1,10 +1,10 @@
 -- Acts one after the other.
 use Rattle.std.proofs.Common.{◌≡◌, ℕ, ◌+◌, false, List, sym, ap, subst, ◌∙◌, arith}
 use Rattle.signal_model.specs.Recipes.{Hosts}
-use Rattle.effect_model.specs.Owners.{Thing, the_signal, the_owner, the_effect, the_page, the_watcher, Owned, nothing, thing, cleanup}
+use Rattle.effect_model.specs.Owners.{Thing, the_signal, the_owner, the_effect, the_page, the_watcher, Owned, nothing, thing, cleanup, is_holder}
 use Rattle.effect_model.specs.Worlds as plain
-use Rattle.sig_owner.specs.Tables.{is_holder}
-use Rattle.effect_tables.specs.Placed.{at_rest, tree_of}
+use Rattle.effect_model.specs.Worlds.{at_rest}
+use Rattle.effect_tables.specs.Placed.{tree_of}
 use Rattle.effect_teardown.specs.Trees.{CanStand, IsFormed}
 use Rattle.effect_tables.specs.Roots.{AreBare, Rests}
 use Rattle.sig_effect.specs.Stores.{environment}

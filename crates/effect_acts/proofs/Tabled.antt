@@ -3,14 +3,14 @@ use Rattle.std.proofs.Common.{◌≡◌, ℕ, ◌+◌, ◌≤◌, ◌++◌, List
 use Rattle.effect_model.specs.Bodies.{Body}
 use Rattle.effect_model.specs.Owners.{Owned, alone, put_under, the_effect, the_owner, the_signal}
 use Rattle.effect_model.specs.Worlds as plain
-use Rattle.effect_model.specs.Worlds.{tell}
+use Rattle.effect_model.specs.Worlds.{tell, at_rest}
 use Rattle.sig_owner.specs.Renames.{renamed}
 use Rattle.sig_owner.specs.Trees.{has_thing, owned_of}
 use Rattle.effect_tables.specs.declared.tables.Tables.{Tables}
 use Rattle.effect_tables.specs.Children.{with_child}
 use Rattle.effect_tables.specs.Consistency.{TablesAgree, LeavesOut}
 use Rattle.effect_tables.specs.Owners.{number_in}
-use Rattle.effect_tables.specs.Placed.{at_rest, placed, tree_of}
+use Rattle.effect_tables.specs.Placed.{placed, tree_of}
 use Rattle.effect_tables.proofs.Shared.{placed_rests}
 use Rattle.effect_teardown.specs.Trees.{AreFormed}
 use Rattle.effect_teardown.proofs.Shared.{formed_put}

@@ -1,11 +1,11 @@
 // An effect gives a computed another recipe.
 ghost use Rattle.std.specs.Prelude.{◌≡◌, ℕ, true, false, List, None, IfNone, IfSome, OnOk};
 ghost use Rattle.std.specs.List.{All};
-ghost use Rattle.signal_model.specs.Signals.{standing};
+ghost use Rattle.signal_model.specs.Signals.{standing, is_cell};
 ghost use Rattle.effect_model.specs.Acts.{host_of, host_refused, rewire_signal, rewiring_refused};
 ghost use Rattle.sig_nodes.specs.Answers.{expression_of, HasFewSlots};
 ghost use Rattle.sig_nodes.specs.Computations.{recipe_made};
-ghost use Rattle.sig_nodes.specs.States.{is_cell, is_given, CanWear};
+ghost use Rattle.sig_nodes.specs.States.{is_given, CanWear};
 ghost use Rattle.effect_world.specs.Signals.{scene};
 ghost use Rattle.effect_world.specs.Stores.{Agrees};
 ghost use Rattle.effect_world.specs.Wholes.{whole_of};

@@ -10,7 +10,7 @@ use Rattle.signal_model.specs.Settling.{Run, settled}
 use Rattle.signal_model.specs.Asks.{Moment, moments, is_host, asks_host, good_reads, asks_of}
 use Rattle.signal_model.proofs.Shared.{tested, stands-computed}
 use Rattle.signal_laws.specs.RunLaws.{IsScratchRun}
-use Rattle.signal_laws.proofs.Shared.{all_append, scratch_runs_law, computed_other, computed_out, computed_left}
+use Rattle.signal_laws.proofs.Shared.{all_append, scratch_runs_law, found_other, found_same, found_out, found_left}
 use Rattle.effect_model.specs.Worlds.{Environment, HostState, unused, used, dropped, World, asked_more, asked_by}
 use Rattle.effect_model.specs.Acts.{host_of, asks_so_far, is_free}
 use Rattle.effect_model.specs.Commands.{new_world, after_commands}
@@ -94,20 +94,6 @@ drop_asks (Some j) ps k = elim (tested (k == j)) [
 
 -- ---- another recipe
 
-computed_same : (n : ℕ) (f : Computed → Computed) (cs : List Computed) (c : Computed) → ((d : Computed) → (f d).name ≡ d.name) →
-    computed_at n cs ≡ Some c → computed_at n (changed (λ (c : Computed). c.name) n f cs) ≡ Some (f c)
-computed_same n f [] c same h = cc
-computed_same n f (d ∷ ds) c same h = go (n == d.name) refl h (computed_same n f ds c same)
-  where
-    go : (b : Bool) → (n == d.name) ≡ b → cond b (Some d) (computed_at n ds) ≡ Some c →
-        (computed_at n ds ≡ Some c → computed_at n (changed (λ (c : Computed). c.name) n f ds) ≡ Some (f c)) →
-        computed_at n (cond b (f d) d ∷ changed (λ (c : Computed). c.name) n f ds) ≡ Some (f c)
-    go true e k g =
-        let x : (n == (f d).name) ≡ true = ap (λ m. n == m) (same d) ∙ e in
-        let y : d ≡ c = cc in
-        rw x (ap (λ z. Some (f z)) y)
-    go false e k g = rw e (g k)
-
 some_is : (x y : Computed) → Some x ≡ Some y → x ≡ y
 some_is x y e = cc
 
@@ -124,9 +110,9 @@ after_recipe n r cs c m d at h = elim (tested (m == n)) [
       let k : m ≡ n = eqb-true m n e in
       let s : computed_at n (renewed n r cs) ≡ Some d = subst (λ x. computed_at x (renewed n r cs) ≡ Some d) k h in
       let t : record c { recipe = r }
-      ≡ d = some_is (record c { recipe = r }) d (sym (computed_same n (λ c. record c { recipe = r }) cs c (λ d. refl) at) ∙ s) in
+      ≡ d = some_is (record c { recipe = r }) d (sym (found_same (λ (c : Computed). c.name) n (λ c. record c { recipe = r }) cs c (λ d. refl) at) ∙ s) in
       inl (k, sym (ap (λ (x : Computed). x.recipe) t))
-  | inr e ↦ inr (e, sym (computed_other m n (λ c. record c { recipe = r }) cs (λ d. refl) e) ∙ h)
+  | inr e ↦ inr (e, sym (found_other (λ (c : Computed). c.name) m n (λ c. record c { recipe = r }) cs (λ d. refl) e) ∙ h)
 ]
 
 clash : (ps : List HostState) (k : ℕ) → is_free (slice_get ps k) ≡ true → is_used (slice_get ps k) ≡ true → ⊥
@@ -179,9 +165,9 @@ left_alone n cs m d h = elim (tested (m == n)) [
   | inl e ↦
       let s : computed_at n (without (λ (c : Computed). c.name) n cs)
       ≡ Some d = subst (λ x. computed_at x (without (λ (c : Computed). c.name) n cs) ≡ Some d) (eqb-true m n e) h in
-      let o : computed_at n (without (λ (c : Computed). c.name) n cs) ≡ None = computed_out n cs in
+      let o : computed_at n (without (λ (c : Computed). c.name) n cs) ≡ None = found_out (λ (c : Computed). c.name) n cs in
       absurd (no _ s o)
-  | inr e ↦ (e, sym (computed_left m n cs e) ∙ h)
+  | inr e ↦ (e, sym (found_left (λ (c : Computed). c.name) m n cs e) ∙ h)
 ]
   where
     no : (x : Option Computed) → x ≡ Some d → x ≡ None → ⊥

@@ -2,8 +2,7 @@
 use Rattle.std.proofs.Common.{◌≡◌, ℕ, ◌+◌, ◌≤◌, ◌==◌, ◌||◌, Bool, true, false, cond, List, [], ◌∷◌, ◌++◌, map, Option, Some, None, refl, sym, ap, ◌∙◌}
 use Rattle.std.proofs.Common.{arith}
 use Rattle.std.proofs.lemmas.Bool.{eqb-true}
-use Rattle.signal_model.specs.Signals.{Signals, Cell, Computed, IsGone, is_in, is_there, cell_at, computed_at, or_computed, standing, changed}
-use Rattle.signal_model.specs.Signals.{without}
+use Rattle.signal_model.specs.Signals.{Signals, Cell, Computed, IsGone, is_in, is_there, cell_at, computed_at, or_computed, standing, changed, found, without}
 use Rattle.effect_model.specs.Owners.{Thing, the_signal, the_owner, the_effect, the_page, the_watcher}
 use Rattle.effect_model.specs.Worlds.{Effect, Watcher, Refused, refused, World, tell, effect_at, effect_numbers, lives}
 use Rattle.effect_model.specs.Acts.{or_refused}
@@ -65,23 +64,15 @@ in_counted n (m ∷ ms) h = go (n == m) h (in_counted n ms)
     go true k f = omega arith
     go false k f = let a : 1 ≤ times_in n ms = f k in omega arith
 
-pub cell_counted : (n : ℕ) (cs : List Cell) (c : Cell) → cell_at n cs ≡ Some c → 1 ≤ times_in n (map (λ (c : Cell). c.name) cs)
-cell_counted n [] c h = cc
-cell_counted n (d ∷ ds) c h = go (n == d.name) h (cell_counted n ds c)
+-- what is found under a name is counted there
+pub found_counted : {A : Type 0} (name : A → ℕ) (n : ℕ) (xs : List A) (x : A) → found name n xs ≡ Some x → 1 ≤ times_in n (map name xs)
+found_counted name n [] x h = cc
+found_counted name n (y ∷ ys) x h = go (n == name y) h (found_counted name n ys x)
   where
-    go : (b : Bool) → cond b (Some d) (cell_at n ds) ≡ Some c → (cell_at n ds ≡ Some c → 1 ≤ times_in n (map (λ (c : Cell). c.name) ds)) →
-        1 ≤ bit b + times_in n (map (λ (c : Cell). c.name) ds)
+    go : (b : Bool) → cond b (Some y) (found name n ys) ≡ Some x → (found name n ys ≡ Some x → 1 ≤ times_in n (map name ys)) →
+        1 ≤ bit b + times_in n (map name ys)
     go true k f = omega arith
-    go false k f = let a : 1 ≤ times_in n (map (λ (c : Cell). c.name) ds) = f k in omega arith
-
-pub computed_counted : (n : ℕ) (cs : List Computed) (c : Computed) → computed_at n cs ≡ Some c → 1 ≤ times_in n (map (λ (c : Computed). c.name) cs)
-computed_counted n [] c h = cc
-computed_counted n (d ∷ ds) c h = go (n == d.name) h (computed_counted n ds c)
-  where
-    go : (b : Bool) → cond b (Some d) (computed_at n ds) ≡ Some c → (computed_at n ds ≡ Some c → 1 ≤ times_in n (map (λ (c : Computed). c.name) ds)) →
-        1 ≤ bit b + times_in n (map (λ (c : Computed). c.name) ds)
-    go true k f = omega arith
-    go false k f = let a : 1 ≤ times_in n (map (λ (c : Computed). c.name) ds) = f k in omega arith
+    go false k f = let a : 1 ≤ times_in n (map name ys) = f k in omega arith
 
 pub effect_counted : (n : ℕ) (xs : List Effect) (x : Effect) → effect_at n xs ≡ Some x → (n ≡ x.number) × (1 ≤ times_in n (effect_numbers xs))
 effect_counted n [] x h = cc
@@ -100,8 +91,8 @@ signal_alive n cs ds h = go (cell_at n cs) refl (computed_at n ds) refl h
   where
     go : (x : Option Cell) → cell_at n cs ≡ x → (y : Option Computed) → computed_at n ds ≡ y → is_there (or_computed x y) ≡ true →
         1 ≤ times_in n (map (λ (c : Cell). c.name) cs) + times_in n (map (λ (c : Computed). c.name) ds)
-    go (Some c) e y f k = let a : 1 ≤ times_in n (map (λ (c : Cell). c.name) cs) = cell_counted n cs c e in omega arith
-    go None e (Some d) f k = let a : 1 ≤ times_in n (map (λ (c : Computed). c.name) ds) = computed_counted n ds d f in omega arith
+    go (Some c) e y f k = let a : 1 ≤ times_in n (map (λ (c : Cell). c.name) cs) = found_counted (λ (c : Cell). c.name) n cs c e in omega arith
+    go None e (Some d) f k = let a : 1 ≤ times_in n (map (λ (c : Computed). c.name) ds) = found_counted (λ (c : Computed). c.name) n ds d f in omega arith
     go None e None f k = cc
 
 -- what lives is counted
@@ -114,23 +105,14 @@ lives_alive (the_watcher n) w h = in_counted n (map (λ (x : Watcher). x.number)
 
 -- ---- what is gone isn't counted
 
-cell_uncounted : (n : ℕ) (cs : List Cell) → cell_at n cs ≡ None → times_in n (map (λ (c : Cell). c.name) cs) ≡ 0
-cell_uncounted n [] h = refl
-cell_uncounted n (d ∷ ds) h = go (n == d.name) h (cell_uncounted n ds)
+found_uncounted : {A : Type 0} (name : A → ℕ) (n : ℕ) (xs : List A) → found name n xs ≡ None → times_in n (map name xs) ≡ 0
+found_uncounted name n [] h = refl
+found_uncounted name n (x ∷ xs) h = go (n == name x) h (found_uncounted name n xs)
   where
-    go : (b : Bool) → cond b (Some d) (cell_at n ds) ≡ None → (cell_at n ds ≡ None → times_in n (map (λ (c : Cell). c.name) ds) ≡ 0) →
-        bit b + times_in n (map (λ (c : Cell). c.name) ds) ≡ 0
+    go : (b : Bool) → cond b (Some x) (found name n xs) ≡ None → (found name n xs ≡ None → times_in n (map name xs) ≡ 0) →
+        bit b + times_in n (map name xs) ≡ 0
     go true k f = cc
-    go false k f = let a : times_in n (map (λ (c : Cell). c.name) ds) ≡ 0 = f k in omega arith
-
-computed_uncounted : (n : ℕ) (cs : List Computed) → computed_at n cs ≡ None → times_in n (map (λ (c : Computed). c.name) cs) ≡ 0
-computed_uncounted n [] h = refl
-computed_uncounted n (d ∷ ds) h = go (n == d.name) h (computed_uncounted n ds)
-  where
-    go : (b : Bool) → cond b (Some d) (computed_at n ds) ≡ None → (computed_at n ds ≡ None → times_in n (map (λ (c : Computed). c.name) ds) ≡ 0) →
-        bit b + times_in n (map (λ (c : Computed). c.name) ds) ≡ 0
-    go true k f = cc
-    go false k f = let a : times_in n (map (λ (c : Computed). c.name) ds) ≡ 0 = f k in omega arith
+    go false k f = let a : times_in n (map name xs) ≡ 0 = f k in omega arith
 
 pub gone_uncounted : (n : ℕ) (w : Signals) → standing w n ≡ IsGone → times_in n (cell_names w) + times_in n (computed_names w) ≡ 0
 gone_uncounted n w h = go (cell_at n w.cells) refl (computed_at n w.computeds) refl h
@@ -140,8 +122,8 @@ gone_uncounted n w h = go (cell_at n w.cells) refl (computed_at n w.computeds) r
     go (Some c) e y f k = cc
     go None e (Some d) f k = cc
     go None e None f k =
-        let a : times_in n (cell_names w) ≡ 0 = cell_uncounted n w.cells e in
-        let b : times_in n (computed_names w) ≡ 0 = computed_uncounted n w.computeds f in omega arith
+        let a : times_in n (cell_names w) ≡ 0 = found_uncounted (λ (c : Cell). c.name) n w.cells e in
+        let b : times_in n (computed_names w) ≡ 0 = found_uncounted (λ (c : Computed). c.name) n w.computeds f in omega arith
 
 -- the first and the second of two refusals
 pub neither : (a b : Option Refused) → option_or a b ≡ None → (a ≡ None) × (b ≡ None)

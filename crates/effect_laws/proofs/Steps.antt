@@ -25,7 +25,7 @@ use Rattle.effect_model.specs.Acts.{without_node, end_standing, end_of, do_clean
 use Rattle.effect_model.specs.Batches.{Batch, abort, give_back, is_other, replaced_by, set_quietly, with_replacing}
 use Rattle.effect_laws.specs.Rolls.{bit, times_in, computed_names, Roll, roll_of, alive, times, ends_in}
 use Rattle.effect_laws.proofs.Ledgers.{Ledger, AllAlive, IsPlain, ArePlain, plain_told, plain_all, cleaned_told, gone_told, taken_back, disposed}
-use Rattle.effect_laws.proofs.Names.{names_changed, names_map, count_without, computed_counted, lives_alive, gone_uncounted}
+use Rattle.effect_laws.proofs.Names.{names_changed, names_map, count_without, found_counted, lives_alive, gone_uncounted}
 
 -- the ledger of a world, with what is still to be undone
 abbrev pub Tidy : World → List Undoing → Type 0
@@ -52,7 +52,7 @@ runs_plain hosts w [] h = tt
 runs_plain hosts w (r ∷ rs) h = (
   (
     let a : 1 ≤ times_in r.name (computed_names w.signals) =
-        computed_counted r.name w.signals.computeds h.0.computed (stands-computed w.signals r.name h.0.computed h.0.stands) in omega arith,
+        found_counted (λ (c : Computed). c.name) r.name w.signals.computeds h.0.computed (stands-computed w.signals r.name h.0.computed h.0.stands) in omega arith,
     tt,
   ),
   runs_plain hosts w rs h.1,

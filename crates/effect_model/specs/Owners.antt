@@ -1,5 +1,5 @@
 -- What stands under what, and in which order it is taken back.
-use Rattle.std.specs.Prelude.{ℕ, ◌==◌, Bool, false, List, [], ◌∷◌, ◌++◌, Option, Some, None, if◌then◌else◌}
+use Rattle.std.specs.Prelude.{ℕ, ◌==◌, Bool, true, false, List, [], ◌∷◌, ◌++◌, Option, Some, None, if◌then◌else◌}
 use Rattle.sig_base.specs.declared.value.Value.{Value}
 
 -- what can be made and disposed, each by its number among those of its kind
@@ -19,6 +19,12 @@ same_thing (the_page m) (the_page n) = m == n
 same_thing (the_watcher m) (the_watcher n) = m == n
 same_thing _ _ = false
 
+-- whether a thing can hold others
+abbrev pub is_holder : Thing → Bool
+is_holder (the_owner n) = true
+is_holder (the_effect n) = true
+is_holder _ = false
+
 -- what an effect notes, to be done when it is taken back: a cell is set, or a value is logged
 pub data Cleanup : Type 0 where
   sets : ℕ → Value → Cleanup
@@ -31,6 +37,12 @@ pub data Owned : Type 0 where
   thing : Thing → Owned → Owned → Owned
   -- a cleanup, and what was made before it
   cleanup : Cleanup → Owned → Owned
+
+-- All that stands, but for what stands at the top and can't own.
+abbrev pub listed : Owned → Owned
+listed nothing = nothing
+listed (thing t made earlier) = if is_holder t then thing t made (listed earlier) else listed earlier
+listed (cleanup c earlier) = cleanup c (listed earlier)
 
 -- one step of a teardown: a cleanup of an effect is done, or a thing ends
 pub data Undoing : Type 0 where

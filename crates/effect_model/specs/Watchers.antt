@@ -31,5 +31,5 @@ abbrev pub pending_of : Signals → Memos → List ℕ → List ℕ
 pending_of w k ns = filter (is_pending w k) ns
 
 -- Between two commands nothing is left to tell. Where nothing is made inside an owner, it isn't kept what stands at the top either.
-abbrev pub at_rest : World → World
-at_rest w = record w { owned = nothing; told = [] }
+abbrev pub signals_at_rest : World → World
+signals_at_rest w = record w { owned = nothing; told = [] }

@@ -3,13 +3,13 @@ use Rattle.std.specs.Prelude.{ℕ, suc, ◌+◌, ◌==◌, Bool, List, [], ◌�
 use Rattle.sig_base.specs.declared.value.Value.{Value}
 use Rattle.sig_base.specs.declared.value.Fault.{Fault}
 use Rattle.signal_model.specs.Recipes.{Hosts}
-use Rattle.signal_model.specs.Signals.{Signals, standing, is_in, is_there}
+use Rattle.signal_model.specs.Signals.{Signals, found, standing, is_in, is_there}
 use Rattle.signal_model.specs.Values.{Seen}
 use Rattle.signal_model.specs.Memos.{Memos}
 use Rattle.signal_model.specs.Settling.{Settled, settled}
 use Rattle.signal_model.specs.Asks.{Moment, moments, asks_of}
 use Rattle.effect_model.specs.declared.how.How.{How}
-use Rattle.effect_model.specs.Owners.{Thing, the_signal, the_owner, the_effect, the_page, the_watcher, Cleanup, Owned}
+use Rattle.effect_model.specs.Owners.{Thing, the_signal, the_owner, the_effect, the_page, the_watcher, Cleanup, Owned, listed}
 use Rattle.effect_model.specs.Bodies.{Body}
 
 -- what comes from outside: what the host formulas answer, and the slack of each equality rule
@@ -94,10 +94,13 @@ tell e w = record w { told = w.told ++ e ∷ [] }
 abbrev pub tell_all : List Event → World → World
 tell_all es w = record w { told = w.told ++ es }
 
+-- Between two commands nothing is left to tell. It isn't kept which signals and pages stand at the top.
+abbrev pub at_rest : World → World
+at_rest w = record w { owned = listed w.owned; told = [] }
+
 -- the effect of a number
 abbrev pub effect_at : ℕ → List Effect → Option Effect
-effect_at n [] = None
-effect_at n (x ∷ xs) = if n == x.number then Some x else effect_at n xs
+effect_at n xs = found (λ (x : Effect). x.number) n xs
 
 -- the numbers of effects
 abbrev pub effect_numbers : List Effect → List ℕ

@@ -8,5 +8,5 @@ mod plain;
 
 pub use how::How;
 pub use laws::flush_by_turns;
-pub use limits::MOST_WATCHERS;
+pub use limits::{MOST_EFFECTS, MOST_OWNERS, MOST_WATCHERS};
 pub use plain::Plain;

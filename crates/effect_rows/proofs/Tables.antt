@@ -1,14 +1,14 @@
 -- What calls leave of tables.
 use Rattle.std.proofs.Common.{◌≡◌, ℕ, List, ◌+◌, ◌≤◌, false, Option, Some, None, refl, sym, ap, ◌∙◌, subst, arith}
-use Rattle.effect_model.specs.Owners.{Thing, the_signal, the_owner, Owned, nothing, alone, made_inside, Undoing}
-use Rattle.effect_model.specs.Worlds.{World}
+use Rattle.effect_model.specs.Owners.{Thing, the_signal, the_owner, Owned, nothing, alone, made_inside, Undoing, listed}
+use Rattle.effect_model.specs.Worlds.{World, at_rest}
 use Rattle.effect_model.specs.Bodies.{Body}
 use Rattle.effect_model.specs.Commands.{new_world, with_new_effect, with_new_owner, with_new_page}
 use Rattle.sig_owner.specs.Trees.{has_thing, owned_of}
 use Rattle.effect_tables.specs.declared.tables.Tables.{Tables}
 use Rattle.effect_tables.specs.Children.{adopted}
 use Rattle.effect_tables.specs.Consistency.{TablesAgree, LeavesOut}
-use Rattle.effect_tables.specs.Placed.{at_rest, listed, placed, tree_of, untouched}
+use Rattle.effect_tables.specs.Placed.{placed, tree_of, untouched}
 use Rattle.effect_tables.proofs.Shared.{listed_tree}
 use Rattle.effect_teardown.specs.Trees.{AreFormed, CanStand, IsFormed}
 use Rattle.effect_teardown.specs.Teardowns.{Takes}

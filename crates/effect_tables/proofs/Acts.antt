@@ -4,7 +4,7 @@ use Rattle.signal_model.specs.Sound.{names_of}
 use Rattle.signal_model.specs.Values.{Seen}
 use Rattle.effect_model.specs.Owners.{Thing, the_signal, the_owner, the_effect, the_page, the_watcher, Owned, nothing, cleanup, Undoing, cleans, ends, teardown_of, under, emptied, taken_out, alone, disposal_of}
 use Rattle.effect_model.specs.Bodies.{Act, to_set, to_log, to_note, to_make, to_dispose, to_rewire, BodyEvaluation, BodyResult, to_do, failed_by, body_evaluation}
-use Rattle.effect_model.specs.Worlds.{Environment, Effect, Event, failed, logged, noted, refused, thing_gone, World, tell, lives, settle}
+use Rattle.effect_model.specs.Worlds.{Environment, Effect, Event, failed, logged, noted, refused, thing_gone, World, tell, lives, settle, at_rest}
 use Rattle.effect_model.specs.Acts.{notify_of_all, set_cell, rewire_signal, undo_all, take_back, dispose_live, dispose_thing}
 use Rattle.effect_model.specs.Batches.{abort, set_quietly}
 use Rattle.effect_model.specs.Runs.{look, looked_names, value_now, make_child, do_act, next_child, do_acts, keep_reads, do_result, run_body, run_taken_back, run_effect}
@@ -12,7 +12,7 @@ use Rattle.effect_laws.specs.Frames.{ended_all, ended_one, IsOfSignals, signal_p
 use Rattle.effect_laws.proofs.SharedFrames.{framed_abort, framed_notify, framed_rewire, framed_set, framed_set_quietly, framed_settle, framed_tell, undo_all_split}
 use Rattle.effect_laws.specs.Events.{OnlyTells}
 use Rattle.effect_laws.proofs.SharedEvents.{all_only_tell, look_only, result_only, silent, told_behind}
-use Rattle.effect_tables.specs.Placed.{at_rest, listed}
+use Rattle.effect_model.specs.Owners.{listed}
 use Rattle.effect_tables.specs.Roots.{AllRest, AreBare, Rests}
 use Rattle.effect_tables.proofs.Trees.{bare_emptied, bare_listed, bare_out, bare_put, emptied_listed, listed_twice, out_listed, put_listed, under_listed}
 

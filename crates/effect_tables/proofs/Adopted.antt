@@ -1,7 +1,8 @@
 -- What is left where a signal or a page is put under an owner.
 use Rattle.std.proofs.Common.{◌≡◌, ℕ, ◌≤◌, ◌||◌, false, cond, List, Option, Some, None, refl, sym, ap, subst, ◌∙◌}
 use Rattle.effect_model.specs.Owners.{Thing, the_owner, the_effect, the_page, Owned, nothing, thing, alone, made_inside, put_under, same_thing}
-use Rattle.sig_owner.specs.Tables.{Row, changed_at, is_holder, leaf, live_at, thing_at, with_item}
+use Rattle.effect_model.specs.Owners.{is_holder, listed}
+use Rattle.sig_owner.specs.Tables.{Row, changed_at, leaf, live_at, thing_at, with_item}
 use Rattle.sig_owner.specs.Renames.{renamed, renamed_thing}
 use Rattle.sig_owner.specs.Trees.{has_thing, owned_of}
 use Rattle.sig_owner.proofs.Shared.{has_put, item_lives, item_thing, renamed_put}
@@ -10,7 +11,6 @@ use Rattle.effect_tables.specs.declared.thing.Thing.{Thing as AThing}
 use Rattle.effect_tables.specs.Children.{Adopts, put_in}
 use Rattle.effect_tables.specs.Consistency.{AreAlive, AreFresh, AreNumbered, IsEffect, IsKnown}
 use Rattle.effect_tables.specs.Owners.{number_in}
-use Rattle.effect_tables.specs.Placed.{listed}
 use Rattle.effect_tables.proofs.Creations.{Stands}
 use Rattle.effect_tables.proofs.Rows.{all_weaker}
 

@@ -6,13 +6,12 @@ use Rattle.sig_base.specs.declared.value.Value.{Value}
 use Rattle.signal_model.specs.Recipes.{Recipe}
 use Rattle.effect_model.specs.Bodies.{Body}
 use Rattle.effect_model.specs.Owners.{Thing, the_signal, the_owner, the_effect, the_page, the_watcher}
-use Rattle.effect_model.specs.Worlds.{Environment, Event, Refused, refused, still_due, Watcher, World, tell, lives}
+use Rattle.effect_model.specs.Worlds.{Environment, Event, Refused, refused, still_due, Watcher, World, tell, lives, at_rest}
 use Rattle.effect_model.specs.Acts.{forget, gone_refused, host_of, host_refused, or_refused, some_gone, with_use}
 use Rattle.effect_model.specs.Commands.{Command, cell, computed, owner, effect, page, watcher, watch, unwatch, set_untold, restore, tell_together, rewire, ask, dispose, flush_all, after_command, armed, changed_watcher, command_refused, done_by, inside_refused, told_if, with_new_cell, with_new_computed, with_new_effect, with_new_owner, with_new_page, with_new_watcher}
 use Rattle.effect_model.specs.Commands as command
 use Rattle.effect_model.specs.Runs.{flush}
 use Rattle.effect_laws.specs.Events.{OnlyTells}
-use Rattle.effect_tables.specs.Placed.{at_rest}
 use Rattle.effect_tables.specs.Roots.{AreBare, Rests}
 use Rattle.effect_tables.proofs.Trees.{bare_made, listed_twice, made_listed}
 use Rattle.effect_tables.proofs.Acts.{all_rest, keeps_owned, KeepsOwned, KeepsRest, rests_by, rests_then}

@@ -1,14 +1,14 @@
 -- What the tables stand for is at rest.
 use Rattle.std.proofs.Common.{◌≡◌, ℕ, zero, suc, ◌+◌, Bool, true, false, cond, List, [], ◌∷◌, Option, not, refl, ap, ◌∙◌, arith}
 use Rattle.std.specs.Prelude.{is_some, ◌&&◌}
-use Rattle.effect_model.specs.Owners.{Thing, the_signal, the_owner, the_effect, the_page, the_watcher, Owned, nothing, thing}
-use Rattle.effect_model.specs.Worlds.{World}
-use Rattle.sig_owner.specs.Tables.{Item, held, leaf, noted, Row, is_holder, live_at, thing_at}
+use Rattle.effect_model.specs.Owners.{Thing, the_signal, the_owner, the_effect, the_page, the_watcher, Owned, nothing, thing, is_holder, listed}
+use Rattle.effect_model.specs.Worlds.{World, at_rest}
+use Rattle.sig_owner.specs.Tables.{Item, held, leaf, noted, Row, live_at, thing_at}
 use Rattle.sig_owner.specs.Renames.{renamed, renamed_thing}
 use Rattle.sig_owner.specs.Trees.{is_top, owned_of, piled, stands_under, top_items}
 use Rattle.effect_tables.specs.declared.tables.Tables.{Tables}
 use Rattle.effect_tables.specs.Consistency.{TablesAgree, IsKnown}
-use Rattle.effect_tables.specs.Placed.{at_rest, listed, numbering, placed, tree_of}
+use Rattle.effect_tables.specs.Placed.{numbering, placed, tree_of}
 
 holder_known : (owners : List (Option ℕ)) (k : ℕ) (t : Thing) → IsKnown owners k t → is_holder t ≡ true
 holder_known owners k (the_owner n) h = refl

@@ -6,9 +6,9 @@ use Rattle.std.proofs.lemmas.Bool.Decides.{nat_tests}
 use Rattle.std.proofs.lemmas.List.{map-append}
 use Rattle.std.specs.List.{AllByRecursion}
 use Rattle.effect_model.specs.Bodies.{Body}
-use Rattle.effect_model.specs.Owners.{the_effect, the_owner, the_page, the_signal, alone, made_inside, put_under}
+use Rattle.effect_model.specs.Owners.{the_effect, the_owner, the_page, the_signal, alone, made_inside, put_under, listed}
 use Rattle.effect_model.specs.Commands.{with_new_effect, with_new_owner, with_new_page}
-use Rattle.effect_model.specs.Worlds.{World}
+use Rattle.effect_model.specs.Worlds.{World, at_rest}
 use Rattle.sig_owner.specs.Renames.{renamed}
 use Rattle.sig_owner.specs.Tables.{thing_at}
 use Rattle.sig_owner.specs.Trees.{has_thing, owned_of}
@@ -23,7 +23,7 @@ use Rattle.effect_tables.specs.Bodies.{body_of}
 use Rattle.effect_tables.specs.Locations.{IsInside}
 use Rattle.effect_tables.specs.Things.{noted}
 use Rattle.effect_tables.specs.Owners.{living, number_in}
-use Rattle.effect_tables.specs.Placed.{at_rest, effect_of, listed, placed, tree_of}
+use Rattle.effect_tables.specs.Placed.{effect_of, placed, tree_of}
 use Rattle.effect_tables.proofs.Adopted.{adopted_alive, adopted_fresh, adopted_numbered, adopted_tree, has_in}
 use Rattle.effect_tables.proofs.Creations.{IsPut, child_tree, effect_alive, effect_fresh, effect_numbered, effect_tree, has_made, inside_stands, owner_alive, owner_fresh, owner_living, owner_numbered, owner_tree}
 use Rattle.effect_tables.proofs.Numbers.{number_apart}

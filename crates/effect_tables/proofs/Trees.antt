@@ -1,8 +1,7 @@
 -- Trees without what stands at the top and can't own.
 use Rattle.std.proofs.Common.{◌≡◌, ℕ, Bool, true, false, cond, Option, Some, None, refl, sym, ap, ◌∙◌}
 use Rattle.effect_model.specs.Owners.{Thing, the_signal, the_owner, the_effect, the_page, the_watcher, Owned, nothing, thing, cleanup, alone, emptied, made_inside, put_under, same_thing, taken_out, under, with_earlier}
-use Rattle.sig_owner.specs.Tables.{is_holder}
-use Rattle.effect_tables.specs.Placed.{listed}
+use Rattle.effect_model.specs.Owners.{is_holder, listed}
 use Rattle.effect_tables.specs.Roots.{AreBare}
 
 -- ---- what is listed

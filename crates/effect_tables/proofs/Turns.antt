@@ -1,10 +1,9 @@
 -- Turns and flushes, whatever stands at the top.
 use Rattle.std.proofs.Common.{◌≡◌, ℕ, zero, suc, ◌+◌, Bool, true, false, List, [], ◌∷◌, Option, Some, None, sym, ap, ◌∙◌}
-use Rattle.effect_model.specs.Worlds.{Environment, Effect, World, effect_at, effect_numbers}
+use Rattle.effect_model.specs.Worlds.{Environment, Effect, World, effect_at, effect_numbers, at_rest}
 use Rattle.effect_model.specs.Runs.{is_effect_due, value_now, look, Turned, after_look, at_place, turn_over, turn, Flushed, after_last, last_case, last_look, after_turn, flush_within, flush}
 use Rattle.effect_laws.specs.Events.{flushed_behind}
 use Rattle.effect_laws.proofs.SharedEvents.{flushes_only_tell, last_only_tells, silent, told_before, turns_only_tell}
-use Rattle.effect_tables.specs.Placed.{at_rest}
 use Rattle.effect_tables.specs.Roots.{AreBare, FlushRests, LastRests, TurnRests}
 use Rattle.effect_tables.proofs.Trees.{bare_listed}
 use Rattle.effect_tables.proofs.Acts.{look_keeps, rests_by, run_keeps, tops_twice, without_tops}

@@ -2,10 +2,9 @@
 use Rattle.std.specs.Prelude.{ℕ, Bool, true, List, [], map, length, Option, Some, None, option_map, if◌then◌else◌}
 use Rattle.std.specs.Rc.{rc_value}
 use Rattle.signal_model.specs.Signals.{is_in}
-use Rattle.effect_model.specs.Owners.{Owned, nothing, thing, cleanup}
+use Rattle.effect_model.specs.Owners.{Owned, nothing, thing, cleanup, is_holder}
 use Rattle.effect_model.specs.Worlds as plain
 use Rattle.effect_model.specs.Worlds.{World}
-use Rattle.sig_owner.specs.Tables.{is_holder}
 use Rattle.sig_owner.specs.Trees.{owned_of}
 use Rattle.sig_owner.specs.Renames.{renamed}
 use Rattle.effect_tables.specs.declared.effect.Effect.{Effect}
@@ -38,16 +37,6 @@ placed t w = record w {
 -- a plain world in which no owner, effect or page was made
 abbrev pub untouched : World → World
 untouched w = record w { owners = []; effects = []; pages = []; owned = nothing; made = record (w.made) { owners = 0; effects = 0; pages = 0 } }
-
--- All that stands, but for what stands at the top and can't own.
-abbrev pub listed : Owned → Owned
-listed nothing = nothing
-listed (thing t made earlier) = if is_holder t then thing t made (listed earlier) else listed earlier
-listed (cleanup c earlier) = cleanup c (listed earlier)
-
--- Between two commands nothing is left to tell. It isn't kept which signals and pages stand at the top.
-abbrev pub at_rest : World → World
-at_rest w = record w { owned = listed w.owned; told = [] }
 
 -- whether something can be made there: at the top, or inside an owner that lives
 abbrev pub is_open : List ℕ → Option ℕ → Bool

@@ -3,15 +3,13 @@ use Rattle.std.specs.Prelude.{◌≡◌, ℕ, false, List, ◌++◌}
 use Rattle.sig_base.specs.declared.value.Value.{Value}
 use Rattle.signal_model.specs.Recipes.{Recipe}
 use Rattle.signal_model.specs.Values.{Seen}
-use Rattle.effect_model.specs.Owners.{Thing, Owned, nothing, thing, cleanup}
+use Rattle.effect_model.specs.Owners.{Thing, Owned, nothing, thing, cleanup, is_holder}
 use Rattle.effect_model.specs.Bodies.{Act, BodyResult}
-use Rattle.effect_model.specs.Worlds.{Environment, Effect, World, settle}
+use Rattle.effect_model.specs.Worlds.{Environment, Effect, World, settle, at_rest}
 use Rattle.effect_model.specs.Acts.{notify_of_all, set_cell, rewire_signal, take_back, dispose_thing}
 use Rattle.effect_model.specs.Batches.{Batch, set_quietly, abort}
 use Rattle.effect_model.specs.Commands.{Command, after_command}
 use Rattle.effect_model.specs.Runs.{look, do_act, do_acts, keep_reads, do_result, run_effect, turn, last_look, flush}
-use Rattle.sig_owner.specs.Tables.{is_holder}
-use Rattle.effect_tables.specs.Placed.{at_rest}
 
 -- under what stands at the top and can't own there is nothing
 abbrev pub AreBare : Owned → Type 0

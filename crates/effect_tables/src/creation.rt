@@ -2,20 +2,20 @@
 ghost use Rattle.std.specs.Prelude.{◌≡◌, ◌+◌, ◌<◌, ◌≤◌, ◌^◌, ◌⊎◌, ◌++◌, ◌∷◌, true, false, [], length, None, Some, IfOk, IfErr, IsErrOf, OnErr, OnOk};
 ghost use Rattle.std.specs.Rc.{rc_value};
 ghost use Rattle.effect_model.specs.Commands.{with_new_effect, with_new_owner, with_new_page};
-ghost use Rattle.effect_model.specs.Worlds.{World};
+ghost use Rattle.effect_model.specs.Worlds.{World, at_rest};
 ghost use Rattle.sig_base.specs.declared.limits.TheConstants.{MOST_PAGES};
 ghost use Rattle.sig_owner.specs.Tables as rows;
 ghost use Rattle.sig_owner.specs.Tables.{live_at};
 ghost use Rattle.sig_owner.specs.Trees.{has_thing, owned_of};
 ghost use Rattle.sig_owner.specs.declared.errors.OwnFault.TheVariants as fault;
-ghost use Rattle.sig_owner.specs.declared.limits.TheConstants.{MOST_OWNERS};
+ghost use Rattle.effect_model.specs.declared.limits.TheConstants.{MOST_OWNERS};
 ghost use Rattle.effect_tables.specs.Children.{adopted, with_child, Adopts, IsRowOf, MakesEffect, MakesOwner};
 ghost use Rattle.effect_tables.specs.Scripts.{IsFitting};
 ghost use Rattle.effect_tables.specs.Consistency.{TablesAgree, LeavesOut};
 ghost use Rattle.effect_tables.specs.Bodies.{body_of};
-ghost use Rattle.effect_model.specs.Owners.{the_effect, the_signal};
+ghost use Rattle.effect_model.specs.Owners.{is_holder, the_effect, the_signal};
 ghost use Rattle.effect_tables.specs.Owners.{living};
-ghost use Rattle.effect_tables.specs.Placed.{at_rest, is_open, placed};
+ghost use Rattle.effect_tables.specs.Placed.{is_open, placed};
 
 use crate::effect::{Effect, Script, Site};
 use crate::looks::{is_open, row_inside};
@@ -70,7 +70,7 @@ fn child_row(store: &mut Owners, effect: EffectId, outer: OwnerId) -> Result<Own
 
 // Puts a signal or a page last under the row that is given, if any, which lives.
 fn adopt_in(store: &mut Owners, outer: Option<OwnerId>, thing: Stored) -> Result<(), OwnFault>
-    requires kind { rows.is_holder (rows.thing_of thing) ≡ false }
+    requires kind { is_holder (rows.thing_of thing) ≡ false }
     requires lone { has_thing (rows.thing_of thing) (owned_of store.old) ≡ false }
     ensures adopts { OnOk result (Adopts store.old store.new outer (rows.thing_of thing)) }
     ensures fault { IfErr result (λ e. e ≡ fault.NoMemory) }

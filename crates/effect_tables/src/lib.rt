@@ -21,5 +21,5 @@ pub use links::{Links, Slots, Target};
 pub use lookup::{effect_at, effect_place};
 pub use noted::{forget_row, noted_thing};
 pub use owner_rows::OwnerRows;
-pub use tables::{MOST_EFFECTS, Tables};
+pub use tables::Tables;
 pub use thing::{Thing, Undoing};

@@ -14,9 +14,6 @@ use sig_base::{NoMemory, OwnerId, PageId};
 use sig_owner::Owners;
 use std::alloc::Global;
 
-/// The most effects that a command made and that live at once. The tables themselves take any number: whoever makes effects keeps to it.
-pub const MOST_EFFECTS: usize = 1_024;
-
 /// Owners, effects and pages. The store has what stands under what, by rows of its own; `things` says which thing each row is that lives,
 /// and `owners` which row an owner has. Effects and pages stand in the order of making. Of what ended nothing is kept.
 pub struct Tables {

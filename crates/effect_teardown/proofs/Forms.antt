@@ -4,8 +4,7 @@ use Rattle.std.proofs.lemmas.Bool.{eq-eqb, eqb-true}
 use Rattle.signal_model.proofs.Shared.{tested}
 use Rattle.effect_model.specs.Owners.{Thing, the_signal, the_owner, the_effect, the_page, the_watcher, Owned, nothing, thing, cleanup, emptied, put_under, same_thing, taken_out, under, with_earlier}
 use Rattle.sig_owner.specs.Renames.{renamed, renamed_thing}
-use Rattle.sig_owner.specs.Tables.{is_holder}
-use Rattle.effect_tables.specs.Placed.{listed}
+use Rattle.effect_model.specs.Owners.{is_holder, listed}
 use Rattle.effect_teardown.specs.Trees.{CanStand, IsEffect, IsFormed}
 
 -- ---- which things are one

@@ -6,7 +6,8 @@ use Rattle.signal_model.proofs.Shared.{tested}
 use Rattle.effect_model.specs.Owners.{Thing, the_signal, the_owner, the_effect, the_page, the_watcher, Owned, nothing, thing, cleanup, Undoing, cleans, ends, disposal_of, emptied, same_thing, taken_out, teardown_of, under}
 use Rattle.sig_owner.specs.declared.thing.Undoing.{Undoing as AnUndoing}
 use Rattle.sig_owner.specs.Renames.{renamed, renamed_thing, renamed_undoing, renamed_undoings}
-use Rattle.sig_owner.specs.Tables.{Row, dropped, is_holder, live_at, thing_at}
+use Rattle.effect_model.specs.Owners.{is_holder}
+use Rattle.sig_owner.specs.Tables.{Row, dropped, live_at, thing_at}
 use Rattle.sig_owner.specs.Trees.{has_thing, owned_of}
 use Rattle.sig_owner.specs.Walks.{is_ended, undoings_of, with_taken_back}
 use Rattle.sig_owner.proofs.Shared.{dropped_lives, dropped_thing, has_emptied, renamed_emptied, renamed_taken, renamed_teardown, renamed_under, taken_back_thing}

@@ -3,9 +3,8 @@ use Rattle.std.proofs.Common.{◌≡◌, ℕ, ◌+◌, ◌*◌, ◌^◌, ◌<◌
 use Rattle.std.proofs.lemmas.List.{length-map}
 use Rattle.signal_model.specs.Recipes.{Hosts}
 use Rattle.effect_model.specs.Worlds as plain
-use Rattle.effect_model.specs.Worlds.{settle}
+use Rattle.effect_model.specs.Worlds.{settle, at_rest}
 use Rattle.effect_tables.specs.declared.tables.Tables.{Tables}
-use Rattle.effect_tables.specs.Placed.{at_rest}
 use Rattle.effect_tables.proofs.Shared.{placed_rests}
 use Rattle.sig_host.specs.Hosts.{HostPlace, most_asked}
 use Rattle.sig_watcher.specs.Tables.{Table}

@@ -4,13 +4,13 @@ use Rattle.std.specs.List.{AllByRecursion}
 use Rattle.std.proofs.lemmas.List.{map-append, take_all, take_more}
 use Rattle.sig_base.specs.declared.value.Value.{Value}
 use Rattle.signal_model.specs.Recipes.{Hosts}
-use Rattle.signal_model.specs.Signals.{IsCell, IsComputed, IsGone, Stands, is_computed, is_in, is_there, standing, without}
+use Rattle.signal_model.specs.Signals.{IsCell, IsComputed, IsGone, Stands, is_computed, is_in, is_there, standing, without, is_cell}
 use Rattle.effect_model.specs.Acts.{dispose_live, dispose_thing, end_standing, set_cell, set_standing, take_back, undo, undo_all}
 use Rattle.effect_model.specs.Owners as owning
 use Rattle.effect_model.specs.Owners.{Undoing, cleans, emptied, ends, taken_out, the_effect, the_owner, the_page, the_signal, the_watcher}
-use Rattle.effect_model.specs.Watchers as signals_rest
+use Rattle.effect_model.specs.Watchers.{signals_at_rest}
 use Rattle.effect_model.specs.Worlds as plain
-use Rattle.effect_model.specs.Worlds.{Environment, lives, tell}
+use Rattle.effect_model.specs.Worlds.{Environment, lives, tell, at_rest}
 use Rattle.effect_laws.specs.Frames.{IsOfSignals, ended_one, signal_part, with_part}
 use Rattle.effect_laws.proofs.SharedFrames.{framed_set, framed_tell, undo_all_split, undo_split}
 use Rattle.effect_tables.specs.declared.effect.Effect.{Effect}
@@ -18,14 +18,13 @@ use Rattle.effect_tables.specs.declared.tables.Tables.{Tables}
 use Rattle.effect_tables.specs.declared.thing.Undoing.{Undoing as AnUndoing}
 use Rattle.effect_tables.specs.declared.thing.Undoing.TheVariants as undoing
 use Rattle.effect_tables.specs.Bodies.{undoing_of, undoings_of}
-use Rattle.effect_tables.specs.Placed.{at_rest, effect_of, placed, tree_of}
+use Rattle.effect_tables.specs.Placed.{effect_of, placed, tree_of}
 use Rattle.effect_tables.proofs.Shared.{left_off, listed_tree, right_off}
 use Rattle.effect_teardown.specs.Rows.{is_tabled}
 use Rattle.effect_teardown.specs.Trees.{AreFormed, OnEffects}
 use Rattle.effect_teardown.specs.Teardowns.{Takes, TakesBack, TakesOut}
 use Rattle.sig_host.specs.Hosts.{HostPlace, most_asked}
 use Rattle.sig_nodes.specs.Answers.{kind_here}
-use Rattle.sig_nodes.specs.States.{is_cell}
 use Rattle.sig_nodes.specs.declared.answers.Standing.{Standing}
 use Rattle.sig_nodes.specs.declared.answers.Standing.TheVariants.{Gone, Cell, Computed, Computing}
 use Rattle.sig_effect.specs.declared.events.Event.{Event}
@@ -66,7 +65,7 @@ tells_both before mid after ts us a b = record {
 pub acts_none : (hosts : Hosts) (asked : List HostPlace) (old : World) (before : List Event) (act : plain.World → plain.World) →
     act (wholes.whole_of asked (stores_of old)) ≡ wholes.whole_of asked (stores_of old) → IsSound hosts asked old → Acts hosts asked asked old old before before act
 acts_none hosts asked old before act is sound = record {
-  whole = ap signals_rest.at_rest (sym is);
+  whole = ap signals_at_rest (sym is);
   told = subst (λ (w : plain.World). Tells before before w.told) (sym is) (tells_none before);
   sound = sound;
 }
@@ -75,7 +74,7 @@ acts_none hosts asked old before act is sound = record {
 pub acts_told : (hosts : Hosts) (asked : List HostPlace) (old : World) (before : List Event) (ev : Event) (t : plain.Event) (act : plain.World → plain.World) →
     act (wholes.whole_of asked (stores_of old)) ≡ tell t (wholes.whole_of asked (stores_of old)) → IsTold ev t → IsSound hosts asked old → Acts hosts asked asked old old before (before ++ ev ∷ []) act
 acts_told hosts asked old before ev t act is one sound = record {
-  whole = ap signals_rest.at_rest (sym is);
+  whole = ap signals_at_rest (sym is);
   told = subst (λ (w : plain.World). Tells before (before ++ ev ∷ []) w.told) (sym is) (tells_one before ev t one);
   sound = sound;
 }
@@ -84,7 +83,7 @@ acts_told hosts asked old before ev t act is one sound = record {
 pub acts_as : (hosts : Hosts) (asked later : List HostPlace) (old new : World) (before after : List Event) (f g : plain.World → plain.World) →
     f (wholes.whole_of asked (stores_of old)) ≡ g (wholes.whole_of asked (stores_of old)) → Acts hosts asked later old new before after f → Acts hosts asked later old new before after g
 acts_as hosts asked later old new before after f g is a = record {
-  whole = a.whole ∙ ap signals_rest.at_rest is;
+  whole = a.whole ∙ ap signals_at_rest is;
   told = subst (λ (w : plain.World). Tells before after w.told) is a.told;
   sound = a.sound;
 }
@@ -96,7 +95,7 @@ acts_behind hosts asked later old new before after ev t act f is a =
     let s : plain.World = wholes.whole_of asked (stores_of old) in
     let later_told : act (tell t s) ≡ with_part (act s) (tell t s) = f.framed (tell t s) in
     record {
-      whole = a.whole ∙ ap signals_rest.at_rest (f.framed s) ∙ ap signals_rest.at_rest (sym later_told);
+      whole = a.whole ∙ ap signals_at_rest (f.framed s) ∙ ap signals_at_rest (sym later_told);
       told = subst (λ (w : plain.World). Tells before after w.told) (sym later_told)
           (tells_both before (before ++ ev ∷ []) after (t ∷ []) (act s).told (tells_one before ev t is) a.told);
       sound = a.sound;
@@ -116,7 +115,7 @@ one_more : (env : Environment) (us : List Undoing) (u : Undoing) (w : plain.Worl
 one_more env [] u w = refl
 one_more env (v ∷ us) u w = one_more env us u (undo env v w)
 
-part_rest : (u : Undoing) (z x : plain.World) → signals_rest.at_rest (with_part z (ended_one u x)) ≡ signals_rest.at_rest (with_part z (ended_one u (signals_rest.at_rest x)))
+part_rest : (u : Undoing) (z x : plain.World) → signals_at_rest (with_part z (ended_one u x)) ≡ signals_at_rest (with_part z (ended_one u (signals_at_rest x)))
 part_rest (cleans t c) z x = refl
 part_rest (ends (the_signal n)) z x = refl
 part_rest (ends (the_owner n)) z x = refl
@@ -124,7 +123,7 @@ part_rest (ends (the_effect n)) z x = refl
 part_rest (ends (the_page n)) z x = refl
 part_rest (ends (the_watcher n)) z x = refl
 
-part_told : (u : Undoing) (z x : plain.World) → (with_part z (ended_one u x)).told ≡ x.told ++ (with_part z (ended_one u (signals_rest.at_rest x))).told
+part_told : (u : Undoing) (z x : plain.World) → (with_part z (ended_one u x)).told ≡ x.told ++ (with_part z (ended_one u (signals_at_rest x))).told
 part_told (cleans t c) z x = refl
 part_told (ends (the_signal n)) z x = refl
 part_told (ends (the_owner n)) z x = refl
@@ -133,15 +132,15 @@ part_told (ends (the_page n)) z x = refl
 part_told (ends (the_watcher n)) z x = refl
 
 -- a step rests on nothing that was told before
-rest_undone : (env : Environment) (u : Undoing) (x : plain.World) → signals_rest.at_rest (undo env u (signals_rest.at_rest x)) ≡ signals_rest.at_rest (undo env u x)
+rest_undone : (env : Environment) (u : Undoing) (x : plain.World) → signals_at_rest (undo env u (signals_at_rest x)) ≡ signals_at_rest (undo env u x)
 rest_undone env u x =
     let z : plain.World = undo env u (signal_part x) in
-    ap signals_rest.at_rest (undo_split env u (signals_rest.at_rest x)) ∙ sym (part_rest u z x) ∙ ap signals_rest.at_rest (sym (undo_split env u x))
+    ap signals_at_rest (undo_split env u (signals_at_rest x)) ∙ sym (part_rest u z x) ∙ ap signals_at_rest (sym (undo_split env u x))
 
-told_undone : (env : Environment) (u : Undoing) (x : plain.World) → (undo env u x).told ≡ x.told ++ (undo env u (signals_rest.at_rest x)).told
+told_undone : (env : Environment) (u : Undoing) (x : plain.World) → (undo env u x).told ≡ x.told ++ (undo env u (signals_at_rest x)).told
 told_undone env u x =
     let z : plain.World = undo env u (signal_part x) in
-    ap (λ (w : plain.World). w.told) (undo_split env u x) ∙ part_told u z x ∙ ap (λ (w : plain.World). x.told ++ w.told) (sym (undo_split env u (signals_rest.at_rest x)))
+    ap (λ (w : plain.World). w.told) (undo_split env u x) ∙ part_told u z x ∙ ap (λ (w : plain.World). x.told ++ w.told) (sym (undo_split env u (signals_at_rest x)))
 
 pub acts_then : (hosts : Hosts) (env : Environment) (asked amid later : List HostPlace) (old mid new : World) (before between after : List Event) (us : List Undoing) (u : Undoing) →
     Acts hosts asked amid old mid before between (undo_all env us) → Acts hosts amid later mid new between after (undo env u) → Acts hosts asked later old new before after (undo_all env (us ++ u ∷ []))
@@ -149,11 +148,11 @@ acts_then hosts env asked amid later old mid new before between after us u a b =
     let x : plain.World = undo_all env us (wholes.whole_of asked (stores_of old)) in
     record {
       whole =
-          b.whole ∙ ap (λ w. signals_rest.at_rest (undo env u w)) a.whole ∙ rest_undone env u x
-          ∙ ap signals_rest.at_rest (sym (one_more env us u (wholes.whole_of asked (stores_of old))));
+          b.whole ∙ ap (λ w. signals_at_rest (undo env u w)) a.whole ∙ rest_undone env u x
+          ∙ ap signals_at_rest (sym (one_more env us u (wholes.whole_of asked (stores_of old))));
       told = subst (λ (w : plain.World). Tells before after w.told) (sym (one_more env us u (wholes.whole_of asked (stores_of old))))
           (subst (Tells before after) (sym (told_undone env u x))
-          (tells_both before between after x.told (undo env u (signals_rest.at_rest x)).told a.told (subst (λ (w : plain.World). Tells between after (undo env u w).told) a.whole b.told)));
+          (tells_both before between after x.told (undo env u (signals_at_rest x)).told a.told (subst (λ (w : plain.World). Tells between after (undo env u w).told) a.whole b.told)));
       sound = b.sound;
     }
 
@@ -170,8 +169,8 @@ undone hosts env asked later old mid new before after us left takes same a =
     let split : undo_all env us w ≡ with_part x (placed new.tables s) = undo_all_split env us w ∙ ap (with_part x) (sym (takes.does s)) in
     record {
       whole =
-          ap (placed new.tables) (a.whole ∙ ap (λ (y : SignalStores). signals_rest.at_rest (undo_all env us (wholes.whole_of asked y))) same)
-          ∙ (λ i. record (placed new.tables (signals_rest.at_rest x)) { owned = sym (listed_tree new.tables takes.holds) i })
+          ap (placed new.tables) (a.whole ∙ ap (λ (y : SignalStores). signals_at_rest (undo_all env us (wholes.whole_of asked y))) same)
+          ∙ (λ i. record (placed new.tables (signals_at_rest x)) { owned = sym (listed_tree new.tables takes.holds) i })
           ∙ ap at_rest (sym split);
       told = subst (λ (y : plain.World). Tells before after y.told) (sym split)
           (subst (λ (y : SignalStores). Tells before after (undo_all env us (wholes.whole_of asked y)).told) same a.told);

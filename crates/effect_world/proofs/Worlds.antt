@@ -5,15 +5,16 @@ use Rattle.signal_model.specs.Recipes.{Hosts, Recipe}
 use Rattle.signal_model.specs.Signals.{Signals, is_in}
 use Rattle.effect_model.specs.Acts.{host_of, host_refused, with_use}
 use Rattle.effect_model.specs.Commands.{changed_watcher, with_new_cell, with_new_computed, with_new_page, with_new_watcher}
-use Rattle.effect_model.specs.Owners.{Thing, the_signal, the_owner, nothing, alone, made_inside}
+use Rattle.effect_model.specs.Owners.{Thing, the_signal, the_owner, nothing, alone, made_inside, listed}
 use Rattle.effect_model.specs.Worlds as plain
-use Rattle.effect_model.specs.Watchers as signals_rest
+use Rattle.effect_model.specs.Watchers.{signals_at_rest}
 use Rattle.effect_laws.specs.Frames.{IsOfSignals, with_part}
 use Rattle.effect_laws.proofs.SharedFrames.{framed_settle, part_same}
 use Rattle.effect_tables.specs.declared.tables.Tables.{Tables}
 use Rattle.effect_tables.specs.Children.{adopted}
 use Rattle.effect_tables.specs.Consistency.{TablesAgree, LeavesOut}
-use Rattle.effect_tables.specs.Placed.{at_rest, listed, placed, tree_of}
+use Rattle.effect_model.specs.Worlds.{at_rest}
+use Rattle.effect_tables.specs.Placed.{placed, tree_of}
 use Rattle.effect_tables.proofs.Shared.{listed_tree, placed_rests}
 use Rattle.effect_teardown.specs.Trees.{AreFormed, CanStand, IsFormed}
 use Rattle.effect_teardown.proofs.Shared.{formed_listed, formed_put}
@@ -43,7 +44,7 @@ signals_done hosts asked later old new before after act a f same h =
     record {
       whole =
           (λ i. placed (same i) (a.whole i))
-          ∙ (λ i. record (placed old.tables (signals_rest.at_rest x)) { owned = sym (listed_tree old.tables h) i })
+          ∙ (λ i. record (placed old.tables (signals_at_rest x)) { owned = sym (listed_tree old.tables h) i })
           ∙ ap at_rest (sym framed);
       told = subst (λ (w : plain.World). Tells before after w.told) (sym framed) a.told;
       sound = a.sound;
@@ -85,7 +86,7 @@ framed_watch n f = record { framed = λ w. part_same (changed_watcher n f w) }
 
 -- watchers were changed, or one was made, and nothing is told
 quiet_done : (hosts : Hosts) (asked : List HostPlace) (old new : World) (t : Table) (act : plain.World → plain.World) → new.graph ≡ old.graph → new.watchers ≡ t →
-    wholes.whole asked old.graph t ≡ signals_rest.at_rest (act (wholes.whole_of asked (stores_of old))) → (act (wholes.whole_of asked (stores_of old))).told ≡ [] →
+    wholes.whole asked old.graph t ≡ signals_at_rest (act (wholes.whole_of asked (stores_of old))) → (act (wholes.whole_of asked (stores_of old))).told ≡ [] →
     IsOfSignals act → new.tables ≡ old.tables → TablesAgree old.tables → IsSound hosts asked old → Does hosts asked asked old new [] [] act
 quiet_done hosts asked old new t act graph after is quiet f same h sound =
     signals_done hosts asked asked old new [] [] act
@@ -152,7 +153,7 @@ computed_done hosts asked old new r inside n id d h is = record {
     s : plain.World
     s = wholes.whole_of asked (stores_of old)
 
-    used : (o : Option ℕ) → at_rest (adopted s.made.signals inside (placed old.tables (signals_rest.at_rest (with_use o (with_new_computed r None s))))) ≡
+    used : (o : Option ℕ) → at_rest (adopted s.made.signals inside (placed old.tables (signals_at_rest (with_use o (with_new_computed r None s))))) ≡
         at_rest (with_use o (with_new_computed r inside (placed old.tables s)))
     used None = refl
     used (Some k) = refl

@@ -6,7 +6,8 @@ use Rattle.effect_model.specs.Worlds as plain
 use Rattle.sig_host.specs.Hosts.{HostPlace}
 use Rattle.sig_owner.specs.Trees.{has_thing, owned_of}
 use Rattle.effect_tables.specs.Consistency.{TablesAgree}
-use Rattle.effect_tables.specs.Placed.{at_rest, tree_of}
+use Rattle.effect_model.specs.Worlds.{at_rest}
+use Rattle.effect_tables.specs.Placed.{tree_of}
 use Rattle.effect_teardown.specs.Trees.{AreFormed}
 use Rattle.sig_effect.specs.Stores as below
 use Rattle.sig_effect.specs.declared.events.Event.{Event}

@@ -2,13 +2,13 @@
 ghost use Rattle.std.specs.Prelude.{◌≡◌, ◌∷◌, ◌<◌, ◌≤◌, ◌^◌, ◌⊎◌, ℕ, true, false, List, None, IfErr, IfOk, IsErrOf, OnOk, length, map, if◌then◌else◌};
 ghost use Rattle.std.specs.List.{All};
 ghost use Rattle.signal_model.specs.Recipes.{Hosts};
-ghost use Rattle.signal_model.specs.Signals.{is_computed, is_there, standing};
+ghost use Rattle.signal_model.specs.Signals.{is_computed, is_there, standing, is_cell};
 ghost use Rattle.signal_model.specs.Changes.{with_recipe, with_value};
 ghost use Rattle.effect_model.specs.Acts.{host_of, host_refused, rewire_signal, set_cell};
 ghost use Rattle.sig_host.specs.Hosts.{most_asked, HostPlace};
 ghost use Rattle.sig_nodes.specs.Answers.{expression_of, HasFewSlots};
 ghost use Rattle.sig_nodes.specs.Computations.{recipe_made};
-ghost use Rattle.sig_nodes.specs.States.{are_there, is_cell, is_given, CanWear};
+ghost use Rattle.sig_nodes.specs.States.{are_there, is_given, CanWear};
 ghost use Rattle.sig_state.specs.Equality.{is_alike_here, IsRuled};
 ghost use Rattle.sig_effect.specs.declared.errors.EffectFault.TheVariants as fault;
 ghost use Rattle.sig_effect.specs.Stores.{environment, AreRuled, Stays};

@@ -16,7 +16,7 @@ ghost use Rattle.sig_nodes.specs.Computations.{recipe_made};
 ghost use Rattle.sig_nodes.specs.States.{is_given, CanWear};
 ghost use Rattle.sig_effect.specs.declared.errors.EffectFault.TheVariants as fault;
 ghost use Rattle.sig_effect.specs.Stores.{AreRuled};
-ghost use Rattle.sig_owner.specs.declared.limits.TheConstants.{MOST_OWNERS};
+ghost use Rattle.effect_model.specs.declared.limits.TheConstants.{MOST_OWNERS};
 ghost use Rattle.effect_world.specs.Stores.{Agrees, AreOwned, Does, IsSound};
 ghost use Rattle.sig_owner.specs.declared.errors.OwnFault.TheVariants as own;
 ghost use Rattle.effect_world.specs.Wholes.{stores_of, whole_of};

@@ -1,14 +1,14 @@
 // Steps of teardowns are done.
 ghost use Rattle.std.specs.Prelude.{◌≡◌, ◌+◌, ◌++◌, ◌∷◌, [], ◌<◌, ◌≤◌, ◌^◌, ℕ, true, false, List, OnOk, length, map};
 ghost use Rattle.std.specs.List.{AllByRecursion};
-ghost use Rattle.signal_model.specs.Signals.{is_there, standing};
+ghost use Rattle.signal_model.specs.Signals.{is_there, standing, is_cell};
 ghost use Rattle.effect_model.specs.Acts.{set_cell, undo, undo_all};
 ghost use Rattle.effect_model.specs.Owners.{cleans, ends, the_effect, the_signal, the_watcher};
 ghost use Rattle.effect_tables.specs.Bodies as tables;
 ghost use Rattle.effect_tables.specs.Bodies.{undoing_of, undoings_of};
 ghost use Rattle.effect_teardown.specs.Trees.{IsEffect};
 ghost use Rattle.sig_host.specs.Hosts.{HostPlace};
-ghost use Rattle.sig_nodes.specs.States.{is_cell, is_given};
+ghost use Rattle.sig_nodes.specs.States.{is_given};
 ghost use Rattle.sig_owner.specs.Tables.{cleanup_of};
 ghost use Rattle.sig_effect.specs.Stores as below;
 ghost use Rattle.sig_effect.specs.Stores.{AreRuled};

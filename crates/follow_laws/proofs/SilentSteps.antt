@@ -10,13 +10,12 @@ use Rattle.sig_base.specs.declared.value.Value.TheVariants as value
 use Rattle.signal_model.specs.Recipes.{Hosts}
 use Rattle.signal_model.specs.Signals.{Signals, is_in}
 use Rattle.effect_model.specs.Owners.{Thing}
-use Rattle.effect_model.specs.Worlds.{Environment, Event, World, ran}
+use Rattle.effect_model.specs.Worlds.{Environment, Event, World, ran, at_rest}
 use Rattle.effect_model.specs.Worlds.{settle}
 use Rattle.effect_model.specs.Acts.{dispose_thing, forget, host_of, rewire_signal, set_cell, with_use}
 use Rattle.effect_model.specs.Commands.{armed, changed_watcher, with_new_computed}
 use Rattle.effect_model.specs.Batches.{Batch, abort, commit, give_back, is_other as is_other_value, joined_by, replaced_by, set_quietly, with_replacing}
 use Rattle.effect_model.specs.Runs.{flush}
-use Rattle.effect_tables.specs.Placed.{at_rest}
 use Rattle.page_model.specs.Pages.{bare}
 use Rattle.page_model.specs.Replay.{Op}
 use Rattle.live_cmd.specs.declared.command.Bare.{Bare}

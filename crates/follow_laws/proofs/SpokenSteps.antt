@@ -11,13 +11,12 @@ use Rattle.sig_base.specs.declared.value.Value.TheVariants as value
 use Rattle.signal_model.specs.Recipes.{Hosts}
 use Rattle.signal_model.specs.Signals.{Signals, is_in, standing}
 use Rattle.effect_model.specs.Owners.{Thing}
-use Rattle.effect_model.specs.Worlds.{Environment, World}
+use Rattle.effect_model.specs.Worlds.{Environment, World, at_rest}
 use Rattle.effect_model.specs.Worlds.{settle}
 use Rattle.effect_model.specs.Acts.{dispose_thing, forget, host_of, rewire_signal, set_cell, with_use}
 use Rattle.effect_model.specs.Commands.{armed, changed_watcher, with_new_computed}
 use Rattle.effect_model.specs.Batches.{Batch, abort, commit, joined_by, set_quietly}
 use Rattle.effect_model.specs.Runs.{flush}
-use Rattle.effect_tables.specs.Placed.{at_rest}
 use Rattle.page_model.specs.Html.{html_of}
 use Rattle.page_model.specs.Pages.{bare, renumbered, tree_of}
 use Rattle.page_model.specs.Replay.{Op}

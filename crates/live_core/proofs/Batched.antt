@@ -18,7 +18,7 @@ use Rattle.signal_model.specs.Recipes.{Hosts}
 use Rattle.effect_model.specs.Acts.{set_cell}
 use Rattle.effect_model.specs.Batches.{Batch, abort, commit, joined_by, joined_replaced, replaced_by, set_quietly, with_replacing}
 use Rattle.effect_model.specs.Worlds as plain
-use Rattle.effect_tables.specs.Placed.{at_rest}
+use Rattle.effect_model.specs.Worlds.{at_rest}
 use Rattle.sig_host.specs.Hosts.{HostPlace}
 use Rattle.sig_state.specs.Batches.{Collected, HasRoom}
 use Rattle.sig_effect.specs.Kinds.{AreKindsOf, KeepsKinds}

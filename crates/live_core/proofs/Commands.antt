@@ -6,18 +6,17 @@ use Rattle.std.proofs.lemmas.List.{length-map}
 use Rattle.std.proofs.lemmas.Bool.{ltb-true}
 use Rattle.signal_model.specs.Kept.{AreGiven}
 use Rattle.signal_model.specs.Recipes.{Hosts, Recipe}
-use Rattle.signal_model.specs.Signals.{Signals, Stands, IsGone, IsCell, IsComputed, is_computed, is_in, is_there, standing}
+use Rattle.signal_model.specs.Signals.{Signals, Stands, IsGone, IsCell, IsComputed, is_computed, is_in, is_there, standing, is_cell}
 use Rattle.effect_model.specs.Owners as things
 use Rattle.effect_model.specs.Worlds as told
-use Rattle.effect_model.specs.Worlds.{Counts, HostState, unused, used, dropped, host_taken, lives}
+use Rattle.effect_model.specs.Worlds.{Counts, HostState, unused, used, dropped, host_taken, lives, at_rest}
 use Rattle.effect_model.specs.Acts.{host_of, host_refused, is_free, with_use}
 use Rattle.effect_laws.specs.Counts.{KeepsCounts}
 use Rattle.sig_effect.specs.Kinds.{AreKindsOf, KeepsKinds}
 use Rattle.effect_tables.specs.declared.effect.Effect.{Effect}
-use Rattle.effect_tables.specs.Placed.{at_rest}
 use Rattle.sig_host.specs.Hosts.{HostPlace}
 use Rattle.sig_nodes.specs.Answers.{HasFewSlots}
-use Rattle.sig_nodes.specs.States.{Seen, is_cell, is_given}
+use Rattle.sig_nodes.specs.States.{Seen, is_given}
 use Rattle.sig_state.specs.Batches.{Collected}
 use Rattle.sig_effect.specs.declared.errors.EffectFault.{EffectFault}
 use Rattle.sig_effect.specs.declared.errors.EffectFault.TheVariants as fault

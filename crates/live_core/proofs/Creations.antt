@@ -5,7 +5,7 @@ use Rattle.signal_model.specs.Recipes.{Hosts}
 use Rattle.signal_model.specs.Signals.{Signals, Cell, Computed, Stands, is_there, standing}
 use Rattle.signal_model.specs.Changes.{with_cell, with_computed}
 use Rattle.effect_model.specs.Worlds as told
-use Rattle.effect_tables.specs.Placed.{at_rest}
+use Rattle.effect_model.specs.Worlds.{at_rest}
 use Rattle.sig_host.specs.Hosts.{HostPlace}
 use Rattle.sig_effect.proofs.Shared.{cell_beside, computed_beside}
 use Rattle.effect_world.specs.declared.world.World.{World}

@@ -9,7 +9,7 @@ use Rattle.page_model.specs.Html.{html_of}
 use Rattle.page_model.specs.Pages.{bare, tree_of}
 use Rattle.effect_model.specs.Runs.{flush}
 use Rattle.effect_model.specs.Worlds as told
-use Rattle.effect_tables.specs.Placed.{at_rest}
+use Rattle.effect_model.specs.Worlds.{at_rest}
 use Rattle.sig_host.specs.Hosts.{HostPlace}
 use Rattle.sig_effect.specs.Stores.{AreRuled}
 use Rattle.effect_world.specs.declared.world.World.{World}

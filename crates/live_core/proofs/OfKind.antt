@@ -4,8 +4,8 @@ use Rattle.std.specs.Option.{option_or}
 use Rattle.std.proofs.lemmas.Bool.{eq-eqb}
 use Rattle.signal_model.specs.Signals.{Signals, Cell, Computed, Stands, IsGone, IsCell, IsComputed, or_computed, is_computed, is_there, cell_at, computed_at, standing}
 use Rattle.signal_model.specs.Changes.{with_cell, with_computed}
-use Rattle.signal_laws.proofs.Shared.{SameKind, cell_append}
-use Rattle.sig_nodes.specs.States.{is_cell}
+use Rattle.signal_laws.proofs.Shared.{SameKind, found_append}
+use Rattle.signal_model.specs.Signals.{is_cell}
 use Rattle.sig_effect.proofs.Shared.{computed_made}
 use Rattle.sig_effect.specs.Kinds.{IsKindOf}
 use Rattle.live_model.specs.declared.names.Kind.{Kind}
@@ -59,7 +59,7 @@ same_kind_of k (IsComputed c) (IsCell d) s h = let e : true ≡ false = s.comput
 pub cell_kind : (w : Signals) (c : Cell) → is_of_kind kind.Cell (standing (with_cell w c) c.name) ≡ true
 cell_kind w c =
     ap (λ x. is_of_kind kind.Cell (or_computed x (computed_at c.name w.computeds)))
-    (cell_append c.name w.cells c ∙ ap (λ (b : Bool). option_or (cell_at c.name w.cells) (cond b (Some c) None)) (eq-eqb c.name c.name refl))
+    (found_append (λ (c : Cell). c.name) c.name w.cells c ∙ ap (λ (b : Bool). option_or (cell_at c.name w.cells) (cond b (Some c) None)) (eq-eqb c.name c.name refl))
     ∙ some (cell_at c.name w.cells)
   where
     some : (x : Option Cell) → is_of_kind kind.Cell (or_computed (option_or x (Some c)) (computed_at c.name w.computeds)) ≡ true

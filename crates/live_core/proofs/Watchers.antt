@@ -1,12 +1,12 @@
 -- What is left where only watchers changed.
 use Rattle.std.proofs.Common.{◌≡◌, ◌+◌, ℕ, arith, List, [], ◌∷◌, ◌++◌, length, refl, sym, ap, subst, ◌∙◌}
 use Rattle.std.proofs.lemmas.List.{length-append}
-use Rattle.signal_model.specs.Signals.{is_computed, standing}
+use Rattle.signal_model.specs.Signals.{is_computed, standing, is_cell}
 use Rattle.effect_model.specs.Commands.{changed_watcher}
 use Rattle.effect_model.specs.Worlds as told
-use Rattle.effect_tables.specs.Placed.{at_rest}
+use Rattle.effect_model.specs.Worlds.{at_rest}
 use Rattle.sig_host.specs.Hosts.{HostPlace}
-use Rattle.sig_nodes.specs.States.{Seen, is_cell}
+use Rattle.sig_nodes.specs.States.{Seen}
 use Rattle.sig_effect.specs.Stores.{AreRuled}
 use Rattle.effect_world.specs.declared.world.World.{World}
 use Rattle.effect_world.specs.Stores.{Agrees}

@@ -7,7 +7,7 @@ ghost use Rattle.effect_tables.specs.Bodies.{body_of};
 ghost use Rattle.effect_tables.specs.Owners.{living};
 ghost use Rattle.effect_tables.specs.Placed.{is_open};
 ghost use Rattle.sig_base.specs.declared.limits.TheConstants.{MOST_PAGES};
-ghost use Rattle.sig_owner.specs.declared.limits.TheConstants.{MOST_OWNERS};
+ghost use Rattle.effect_model.specs.declared.limits.TheConstants.{MOST_OWNERS};
 ghost use Rattle.sig_host.specs.Hosts.{HostPlace};
 ghost use Rattle.sig_effect.specs.declared.errors.EffectFault.TheVariants as fault;
 ghost use Rattle.effect_world.specs.Stores.{Agrees, AreOwned, Does, IsSound};

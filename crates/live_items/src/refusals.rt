@@ -7,7 +7,7 @@ ghost use Rattle.effect_tables.specs.Placed.{effect_of};
 ghost use Rattle.effect_world.specs.Wholes.{whole_of};
 ghost use Rattle.sig_effect.specs.Wholes.{host_states};
 ghost use Rattle.sig_host.specs.Hosts.{HostPlace};
-ghost use Rattle.effect_tables.specs.declared.tables.TheConstants.{MOST_EFFECTS};
+ghost use Rattle.effect_model.specs.declared.limits.TheConstants.{MOST_EFFECTS};
 ghost use Rattle.live_entries.specs.declared.refusal.LimitWord.TheVariants as limit;
 ghost use Rattle.live_labels.specs.Views.{labels_of};
 ghost use Rattle.live_model.specs.Labels.{is_named, label_at};
@@ -20,8 +20,7 @@ ghost use Rattle.live_model.specs.Rows.{edit_refusal, rows_at};
 ghost use Rattle.live_model.specs.Uses.{hosts_of_body, uses_of_body};
 ghost use Rattle.live_core.specs.Views.{batch_of, plain_of};
 
-use effect_model::MOST_WATCHERS;
-use effect_tables::MOST_EFFECTS;
+use effect_model::{MOST_EFFECTS, MOST_OWNERS, MOST_WATCHERS};
 use effect_world::World;
 use live_cmd::{Bare, Command, EffectBody, RowEdit, SourceText, Verb};
 use live_core::{Machine, edit_refusal};
@@ -30,7 +29,6 @@ use live_labels::named_count;
 use live_uses::{hosts_of_body, uses_of, uses_of_body};
 use sig_base::{MOST_NODES, MOST_PAGES, MOST_TEMPLATES, Name, NoMemory, NodeId, WatcherId};
 use sig_host::{EqualsRule, Lent, Shelf};
-use sig_owner::MOST_OWNERS;
 use std::alloc::Global;
 
 // Whether a command ends a batch.

@@ -12,11 +12,10 @@ use Rattle.signal_model.specs.Signals.{Cell, Computed, Signals, Stands, IsCell, 
 use Rattle.signal_model.specs.Changes.{with_value}
 use Rattle.signal_model.specs.Settling.{settled}
 use Rattle.signal_model.specs.Values.{value_of}
-use Rattle.signal_laws.proofs.Shared.{all_append, cell_changed}
-use Rattle.effect_model.specs.Worlds.{Environment, Event, Watcher, World, ran, settle}
+use Rattle.signal_laws.proofs.Shared.{all_append, found_changed}
+use Rattle.effect_model.specs.Worlds.{Environment, Event, Watcher, World, ran, settle, at_rest}
 use Rattle.effect_model.specs.Acts.{are_alike, frozen_by, notified_by_any, with_quiet_value}
 use Rattle.effect_model.specs.Batches.{Batch, abort, commit, give_back, is_other, joined, joined_replaced, net_of, replaced_by, with_replacing}
-use Rattle.effect_tables.specs.Placed.{at_rest}
 use Rattle.effect_tables.proofs.Shared.{listed_twice}
 use Rattle.live_cmd.specs.declared.command.Bare.TheVariants as bares
 use Rattle.live_cmd.specs.declared.command.Command.{Command}
@@ -113,7 +112,7 @@ revalued_twice u v (IsComputed c) = refl
 -- what stands where a cell has another value
 standing_set : (w : Signals) (n : ℕ) (v : Value) (m : ℕ) → standing (with_value w n v) m ≡ cond (m == n) (revalued v (standing w m)) (standing w m)
 standing_set w n v m =
-    ap (λ (o : Option Cell). or_computed o (computed_at m w.computeds)) (cell_changed m n (λ c. record c { value = v }) w.cells (λ c. refl))
+    ap (λ (o : Option Cell). or_computed o (computed_at m w.computeds)) (found_changed (λ (c : Cell). c.name) m n (λ c. record c { value = v }) w.cells (λ c. refl))
     ∙ by (m == n) (cell_at m w.cells) (computed_at m w.computeds)
   where
     gone : (b : Bool) (d : Option Computed) → or_computed None d ≡ cond b (revalued v (or_computed None d)) (or_computed None d)

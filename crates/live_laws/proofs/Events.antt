@@ -10,13 +10,12 @@ use Rattle.tpl_model.specs.Updates.{Updated}
 use Rattle.signal_model.specs.Recipes.{Recipe}
 use Rattle.signal_model.specs.Values.{value_of}
 use Rattle.effect_model.specs.Owners.{Thing, the_signal, the_watcher}
-use Rattle.effect_model.specs.Worlds.{Environment, Event, refused, still_due, World, settle}
+use Rattle.effect_model.specs.Worlds.{Environment, Event, refused, still_due, World, settle, at_rest}
 use Rattle.effect_model.specs.Acts.{gone_refused, host_of, host_refused, or_refused, some_gone, with_use}
 use Rattle.effect_model.specs.Batches.{Batch, net_of}
 use Rattle.effect_model.specs.Commands as plain
 use Rattle.effect_model.specs.Commands.{after_command, command_refused, done_by, inside_refused, told_if, with_new_computed, with_new_page}
 use Rattle.effect_model.specs.Runs.{flush}
-use Rattle.effect_tables.specs.Placed.{at_rest}
 use Rattle.live_cmd.specs.declared.command.Bare.{Bare}
 use Rattle.live_cmd.specs.declared.command.Bare.TheVariants as bares
 use Rattle.live_cmd.specs.declared.command.Verb.{Verb}

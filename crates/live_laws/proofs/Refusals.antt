@@ -6,11 +6,10 @@ use Rattle.sig_base.specs.Values.{scalar_value}
 use Rattle.sig_base.specs.declared.value.Value.{Value}
 use Rattle.sig_base.specs.declared.value.Value.TheVariants as value
 use Rattle.signal_model.specs.Signals.{Cell, IsCell, Stands, standing}
-use Rattle.effect_model.specs.Worlds.{Environment, Event, Watcher, World}
+use Rattle.effect_model.specs.Worlds.{Environment, Event, Watcher, World, at_rest}
 use Rattle.effect_model.specs.Acts.{are_alike, frozen_by, set_cell, set_standing, told_frozen, told_of, with_new_value, with_quiet_value}
 use Rattle.effect_model.specs.Batches.{Batch}
 use Rattle.effect_model.specs.Runs.{flush}
-use Rattle.effect_tables.specs.Placed.{at_rest}
 use Rattle.live_cmd.specs.declared.command.Command.{Command}
 use Rattle.live_cmd.specs.declared.command.Bare.TheVariants as bares
 use Rattle.live_cmd.specs.declared.command.Command.TheVariants as command

@@ -1,12 +1,11 @@
 -- Commands, whether the world comes to rest between them or not.
 use Rattle.std.proofs.Common.{◌≡◌, ℕ, List, [], ◌∷◌, ◌++◌, append_assoc, refl, sym, ap, subst, ◌∙◌}
 use Rattle.std.proofs.lemmas.List.{append-nil}
-use Rattle.effect_model.specs.Worlds.{Environment, World}
+use Rattle.effect_model.specs.Worlds.{Environment, World, at_rest}
 use Rattle.effect_model.specs.Commands.{Command, after_command, after_commands, new_world}
 use Rattle.effect_laws.specs.Rolls.{open_cleanups}
 use Rattle.effect_laws.specs.Ends.{AreInTime}
 use Rattle.effect_laws.proofs.Shared.{closing_law, end_law, host_law, silence_law}
-use Rattle.effect_tables.specs.Placed.{at_rest}
 use Rattle.effect_tables.specs.Roots.{AreBare, Rests}
 use Rattle.effect_tables.proofs.Shared.{commands_rest}
 use Rattle.live_laws.specs.Rested.{AreAsked, AreEnds, rested_after, RestedLaw, told_by}

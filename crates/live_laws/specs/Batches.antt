@@ -5,10 +5,10 @@ use Rattle.std.specs.Map.{keys_of}
 use Rattle.sig_base.specs.declared.value.Value.{Value}
 use Rattle.signal_model.specs.Changes.{no_memos, no_signals}
 use Rattle.signal_model.specs.Signals.{Cell, IsCell, Signals, is_in, standing}
-use Rattle.effect_model.specs.Worlds.{Environment, World}
+use Rattle.effect_model.specs.Worlds.{Environment, World, at_rest}
 use Rattle.effect_model.specs.Acts.{are_alike, frozen_by, notified_by_any}
 use Rattle.effect_model.specs.Batches.{Batch, abort, joined, net_of}
-use Rattle.effect_tables.specs.Placed.{at_rest, listed}
+use Rattle.effect_model.specs.Owners.{listed}
 use Rattle.live_cmd.specs.declared.command.Bare.TheVariants as bares
 use Rattle.live_cmd.specs.declared.command.Command.{Command}
 use Rattle.live_cmd.specs.declared.command.Command.TheVariants as command

@@ -5,12 +5,11 @@ use Rattle.sig_base.specs.Values.{scalar_value}
 use Rattle.sig_base.specs.declared.value.Value.{Value}
 use Rattle.sig_base.specs.declared.value.Value.TheVariants as value
 use Rattle.effect_model.specs.Owners.{Thing}
-use Rattle.effect_model.specs.Worlds.{Environment, Event, World}
+use Rattle.effect_model.specs.Worlds.{Environment, Event, World, at_rest}
 use Rattle.effect_model.specs.Batches.{Batch, net_of}
 use Rattle.effect_model.specs.Commands as plain
 use Rattle.effect_model.specs.Commands.{after_command}
 use Rattle.effect_model.specs.Runs.{flush}
-use Rattle.effect_tables.specs.Placed.{at_rest}
 use Rattle.live_cmd.specs.declared.command.Bare.{Bare}
 use Rattle.live_cmd.specs.declared.command.Bare.TheVariants as bares
 use Rattle.live_cmd.specs.declared.command.Verb.{Verb}

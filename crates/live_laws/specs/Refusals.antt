@@ -6,10 +6,9 @@ use Rattle.sig_base.specs.declared.value.Value.{Value}
 use Rattle.sig_base.specs.declared.value.Value.TheVariants as value
 use Rattle.signal_model.specs.Signals.{Cell, IsCell, is_in, standing}
 use Rattle.signal_model.specs.Changes.{after_change, with_value}
-use Rattle.effect_model.specs.Worlds.{Environment, Watcher, World}
+use Rattle.effect_model.specs.Worlds.{Environment, Watcher, World, at_rest}
 use Rattle.effect_model.specs.Acts.{are_alike, frozen_by, is_notified_by_any, notified_by, waiting_if}
 use Rattle.effect_model.specs.Runs.{flush}
-use Rattle.effect_tables.specs.Placed.{at_rest}
 use Rattle.live_cmd.specs.declared.command.Command.{Command}
 use Rattle.live_cmd.specs.declared.command.Bare.TheVariants as bares
 use Rattle.live_cmd.specs.declared.command.Command.TheVariants as command

@@ -3,13 +3,12 @@ use Rattle.std.specs.Prelude.{◌≡◌, ℕ, List, [], ◌∷◌, ◌++◌}
 use Rattle.std.specs.List.{AllByRecursion}
 use Rattle.signal_model.specs.Asks.{asks_of}
 use Rattle.effect_model.specs.Owners.{Thing}
-use Rattle.effect_model.specs.Worlds.{Environment, Event, gone, World}
+use Rattle.effect_model.specs.Worlds.{Environment, Event, gone, World, at_rest}
 use Rattle.effect_model.specs.Commands.{Command, after_command, new_world}
 use Rattle.effect_laws.specs.Rolls.{open_cleanups}
 use Rattle.effect_laws.specs.Ends.{AreInTime, IsSilent}
 use Rattle.effect_laws.specs.HostUse.{Drop, drops_told}
 use Rattle.effect_laws.specs.KeptWorlds.{runs_told}
-use Rattle.effect_tables.specs.Placed.{at_rest}
 
 -- the world after commands
 abbrev pub rested_after : Environment → World → List Command → World

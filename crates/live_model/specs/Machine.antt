@@ -20,7 +20,7 @@ use Rattle.signal_model.specs.Marks.{Mark, mark_of}
 use Rattle.signal_model.specs.Sound.{names_of}
 use Rattle.effect_model.specs.Owners.{Thing, the_effect}
 use Rattle.effect_model.specs.Worlds.{Environment, HostState, unused, Refused, thing_gone, host_taken, still_due, Event, ran, notified, frozen, logged}
-use Rattle.effect_model.specs.Worlds.{body_ran, failed, cleaned, gone, dropped_host, World, settle}
+use Rattle.effect_model.specs.Worlds.{body_ran, failed, cleaned, gone, dropped_host, World, settle, at_rest}
 use Rattle.effect_model.specs.Worlds as worlds
 use Rattle.effect_model.specs.Acts.{set_cell, host_of, with_use, rewire_signal, forget, dispose_thing}
 use Rattle.effect_model.specs.Commands.{new_world, with_new_cell, with_new_computed, with_new_owner, with_new_effect, with_new_page, with_new_watcher}
@@ -28,11 +28,8 @@ use Rattle.effect_model.specs.Commands.{armed, changed_watcher}
 use Rattle.effect_model.specs.Batches.{Batch, joined_by, set_quietly, commit, abort}
 use Rattle.effect_model.specs.Runs.{flush}
 use Rattle.effect_model.specs.Watchers.{signals_at, watches, pending_of}
-use Rattle.effect_model.specs.declared.limits.TheConstants.{MOST_WATCHERS}
-use Rattle.sig_owner.specs.declared.limits.TheConstants.{MOST_OWNERS}
+use Rattle.effect_model.specs.declared.limits.TheConstants.{MOST_WATCHERS, MOST_OWNERS, MOST_EFFECTS}
 use Rattle.sig_untrack.specs.Stated.{Bodies}
-use Rattle.effect_tables.specs.declared.tables.TheConstants.{MOST_EFFECTS}
-use Rattle.effect_tables.specs.Placed.{at_rest}
 use Rattle.live_cmd.specs.declared.command.Bare.{Bare}
 use Rattle.live_cmd.specs.declared.command.Bare.TheVariants as bares
 use Rattle.live_cmd.specs.declared.command.SourceText.{SourceText}

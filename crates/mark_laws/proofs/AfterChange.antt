@@ -7,10 +7,10 @@ use Rattle.signal_model.specs.Memos.{Memo, Entry, Memos, entry_at, number_in, me
 use Rattle.signal_model.specs.Settling.{ran_entry, with_memo}
 use Rattle.signal_model.specs.Changes.{with_cell, with_computed, after_making, with_value, after_change, with_recipe, after_rewiring, without_signal, after_disposal}
 use Rattle.signal_model.proofs.Shared.{tested}
-use Rattle.signal_laws.proofs.Shared.{entry_other, entry_out, cell_out, computed_out, Calm, calm_of}
+use Rattle.signal_laws.proofs.Shared.{found_other, found_same, found_out, found_more, found_new, Calm, calm_of}
 use Rattle.mark_laws.specs.Marked.{IsUnmarked, AreMarked, IsUnused, some_marked, run_unmarks, stop_unmarks, ended, with_flag, relinked, unlinked}
 use Rattle.mark_laws.specs.MarkLaws.{SetMarksLaw, RewireMarksLaw, DisposeMarksLaw, BeginMarksLaw, RunMarksLaw, StopMarksLaw, CellMarksLaw, ComputedMarksLaw}
-use Rattle.mark_laws.proofs.Edited.{mapped, entry_mapped, IsEdit, set_edit, rewire_edit, dispose_edit, no_edit, IsMild, set_mild, rewire_mild, unmoved}
+use Rattle.mark_laws.proofs.Edited.{IsEdit, set_edit, rewire_edit, dispose_edit, no_edit, IsMild, set_mild, rewire_mild, unmoved}
 use Rattle.mark_laws.proofs.Marks.{pushed, start_of, on_of, mild_links, mild_owners}
 
 pub set_marks_law : SetMarksLaw
@@ -38,7 +38,7 @@ rewire_marks_law w k dependants t u computing n c r is marks spread here =
     }
 
 pub gone_after : (w : Signals) (n : ℕ) → standing (without_signal w n) n ≡ IsGone
-gone_after w n = (λ i. or_computed (cell_out n w.cells i) (computed_out n w.computeds i))
+gone_after w n = (λ i. or_computed (found_out (λ (c : Cell). c.name) n w.cells i) (found_out (λ (c : Computed). c.name) n w.computeds i))
 
 pub dispose_marks_law : DisposeMarksLaw
 dispose_marks_law w k dependants t u computing n stands marks spread =
@@ -59,7 +59,7 @@ dispose_marks_law w k dependants t u computing n stands marks spread =
         go false q = q
 
     none : memo_of (after_disposal k n) n ≡ None
-    none = ap memo_in (entry_out n k.entries)
+    none = ap memo_in (found_out (λ (e : Entry). e.name) n k.entries)
 
     apart : (m : ℕ) → is_there (standing (without_signal w n) m) ≡ true → (m == n) ≡ false
     apart m s = elim (tested (m == n)) [
@@ -245,13 +245,13 @@ run_marks_law w k dependants t computing n c o reads entry is running at marks =
     k' = with_memo k n o (map (named_now k) reads)
 
     kept : memo_of k' n ≡ Some memo
-    kept = ap memo_in (entry_mapped n (ran_entry memo) k.entries (λ e. refl) ∙ ap (mapped (ran_entry memo)) at)
+    kept = ap memo_in (found_same (λ (e : Entry). e.name) n (ran_entry memo) k.entries entry (λ e. refl) at)
 
     other_memo : (m : ℕ) → (m == n) ≡ false → memo_of k' m ≡ memo_of k m
-    other_memo m off = ap memo_in (entry_other m n (ran_entry memo) k.entries (λ e. refl) off)
+    other_memo m off = ap memo_in (found_other (λ (e : Entry). e.name) m n (ran_entry memo) k.entries (λ e. refl) off)
 
     other_number : (m : ℕ) → (m == n) ≡ false → number_of k' m ≡ number_of k m
-    other_number m off = ap number_in (entry_other m n (ran_entry memo) k.entries (λ e. refl) off)
+    other_number m off = ap number_in (found_other (λ (e : Entry). e.name) m n (ran_entry memo) k.entries (λ e. refl) off)
 
     turned : (d : ℕ) (b : Bool) → (d == n) ≡ b → (n == d) ≡ b
     turned d true e = let z : d ≡ n = eqb-true d n e in eq-eqb n d (sym z)
@@ -312,26 +312,6 @@ run_marks_law w k dependants t computing n c o reads entry is running at marks =
 
 -- ---- makings
 
-entry_more : (m n : ℕ) (es : List Entry) (x : Entry) → x.name ≡ n → (m == n) ≡ false → entry_at m (es ++ x ∷ []) ≡ entry_at m es
-entry_more m n [] x is off = let e : (m == x.name) ≡ false = ap (λ z. m == z) is ∙ off in rw e refl
-entry_more m n (e ∷ es) x is off = ap (λ z. cond (m == e.name) (Some e) z) (entry_more m n es x is off)
-
-entry_new : (n : ℕ) (es : List Entry) (x : Entry) → x.name ≡ n → entry_at n es ≡ None → entry_at n (es ++ x ∷ []) ≡ Some x
-entry_new n [] x is none = let e : (n == x.name) ≡ true = eq-eqb n x.name (sym is) in rw e refl
-entry_new n (e ∷ es) x is none = go (n == e.name) refl none (entry_new n es x is)
-  where
-    go : (b : Bool) → (n == e.name) ≡ b → cond b (Some e) (entry_at n es) ≡ None → (entry_at n es ≡ None → entry_at n (es ++ x ∷ []) ≡ Some x) → cond (n == e.name) (Some e) (entry_at n (es ++ x ∷ [])) ≡ Some x
-    go true h q ih = absurd (true≢false (ap is_some q))
-    go false h q ih = rw h (ih q)
-
-cell_more : (m n : ℕ) (es : List Cell) (x : Cell) → x.name ≡ n → (m == n) ≡ false → cell_at m (es ++ x ∷ []) ≡ cell_at m es
-cell_more m n [] x is off = let e : (m == x.name) ≡ false = ap (λ z. m == z) is ∙ off in rw e refl
-cell_more m n (e ∷ es) x is off = ap (λ z. cond (m == e.name) (Some e) z) (cell_more m n es x is off)
-
-computed_more : (m n : ℕ) (es : List Computed) (x : Computed) → x.name ≡ n → (m == n) ≡ false → computed_at m (es ++ x ∷ []) ≡ computed_at m es
-computed_more m n [] x is off = let e : (m == x.name) ≡ false = ap (λ z. m == z) is ∙ off in rw e refl
-computed_more m n (e ∷ es) x is off = ap (λ z. cond (m == e.name) (Some e) z) (computed_more m n es x is off)
-
 -- a new name that isn't an unmarked computed
 made : (w w' : Signals) (k : Memos) (dependants : ℕ → ℕ → Bool) (t computing : ℕ → Bool) (n : ℕ) → IsUnused k n → ((d : ℕ) → dependants n d ≡ false) → ((m : ℕ) → (m == n) ≡ false → standing w' m ≡ standing w m) →
     (is_computed (standing w' n) ≡ true → t n ≡ true) → AreMarked w k dependants t computing → AreMarked w' (after_making k n) dependants t computing
@@ -352,22 +332,22 @@ made w w' k dependants t computing n new none others here marks = record {
     edit = record {
       kind = λ m off. ap is_computed (others m off);
       gone = λ m off. ap is_there (others m off);
-      number = λ m off. ap number_in (entry_more m n k.entries x refl off);
-      memo = λ m off. ap memo_in (entry_more m n k.entries x refl off);
+      number = λ m off. ap number_in (found_more (λ (e : Entry). e.name) m k.entries x off);
+      memo = λ m off. ap memo_in (found_more (λ (e : Entry). e.name) m k.entries x off);
     }
 
     unkept : (d : ℕ) → keeps k d n ≡ false
     unkept d = new.unread d
 
     fresh : memo_of k' n ≡ None
-    fresh = ap memo_in (entry_new n k.entries x refl new.entry)
+    fresh = ap memo_in (found_new (λ (e : Entry). e.name) k.entries x new.entry)
 
     was : memo_of k n ≡ None
     was = ap memo_in new.entry
 
     same_memo : (d : ℕ) → memo_of k' d ≡ memo_of k d
     same_memo d = elim (tested (d == n)) [
-      | inr off ↦ ap memo_in (entry_more d n k.entries x refl off)
+      | inr off ↦ ap memo_in (found_more (λ (e : Entry). e.name) d k.entries x off)
       | inl on ↦ subst (λ z. memo_of k' z ≡ memo_of k z) (sym (eqb-true d n on)) (fresh ∙ sym was)
     ]
 
@@ -390,9 +370,9 @@ cell_shown n (e ∷ es) x y is = go (n == e.name) (cell_shown n es x y is)
 
 pub cell_marks_law : CellMarksLaw
 cell_marks_law w k dependants t computing c new none marks =
-    made w (with_cell w c) k dependants t computing c.name new none (λ m off. ap (λ z. or_computed z (computed_at m w.computeds)) (cell_more m c.name w.cells c refl off))
+    made w (with_cell w c) k dependants t computing c.name new none (λ m off. ap (λ z. or_computed z (computed_at m w.computeds)) (found_more (λ (c : Cell). c.name) m w.cells c off))
     (λ h. absurd (true≢false (sym h ∙ cell_shown c.name w.cells c (computed_at c.name w.computeds) refl))) marks
 
 pub computed_marks_law : ComputedMarksLaw
 computed_marks_law w k dependants t computing c new none here marks =
-    made w (with_computed w c) k dependants t computing c.name new none (λ m off. ap (λ z. or_computed (cell_at m w.cells) z) (computed_more m c.name w.computeds c refl off)) (λ h. here) marks
+    made w (with_computed w c) k dependants t computing c.name new none (λ m off. ap (λ z. or_computed (cell_at m w.cells) z) (found_more (λ (c : Computed). c.name) m w.computeds c off)) (λ h. here) marks

@@ -1,5 +1,5 @@
 -- What stands and what is kept after an edit, at each name.
-use Rattle.std.proofs.Common.{◌≡◌, ℕ, ◌==◌, ◌||◌, not, Bool, true, false, cond, List, [], ◌∷◌, Option, Some, None, refl, sym, ap, ◌∙◌, subst, inl, inr, true≢false, is_some}
+use Rattle.std.proofs.Common.{◌≡◌, ℕ, ◌==◌, ◌||◌, not, Bool, true, false, cond, List, [], ◌∷◌, Option, Some, None, refl, sym, ap, ◌∙◌, subst, inl, inr, true≢false, is_some, option_map}
 use Rattle.std.proofs.lemmas.Bool.{eqb-true, eq-eqb}
 use Rattle.sig_base.specs.declared.value.Value.{Value}
 use Rattle.signal_model.specs.Recipes.{Recipe}
@@ -7,40 +7,7 @@ use Rattle.signal_model.specs.Signals.{Signals, Cell, Computed, Stands, IsCell, 
 use Rattle.signal_model.specs.Memos.{Source, Memo, Entry, Memos, entry_at, number_in, memo_in, number_of, memo_of, sources_in, sources_of, source_names, same_number, some_moved}
 use Rattle.signal_model.specs.Changes.{with_value, raised, after_change, with_recipe, memo_rewired, entry_rewired, after_rewiring, without_signal, after_disposal}
 use Rattle.signal_model.proofs.Shared.{tested}
-use Rattle.signal_laws.proofs.Shared.{entry_other, cell_other, computed_other, entry_left, cell_left, computed_left}
-
-abbrev pub mapped : {A : Type 0} → (A → A) → Option A → Option A
-mapped f None = None
-mapped f (Some x) = Some (f x)
-
--- an edit that keeps names is an edit of the one found
-pub entry_mapped : (n : ℕ) (g : Entry → Entry) (es : List Entry) → ((e : Entry) → (g e).name ≡ e.name) → entry_at n (changed (λ (e : Entry). e.name) n g es) ≡ mapped g (entry_at n es)
-entry_mapped n g [] same = refl
-entry_mapped n g (e ∷ es) same = go (n == e.name) refl (entry_mapped n g es same)
-  where
-    go : (b : Bool) → (n == e.name) ≡ b → entry_at n (changed (λ (e : Entry). e.name) n g es) ≡ mapped g (entry_at n es) →
-        entry_at n (cond b (g e) e ∷ changed (λ (e : Entry). e.name) n g es) ≡ mapped g (cond b (Some e) (entry_at n es))
-    go false h ih = rw h ih
-    go true h ih = let k : (n == (g e).name) ≡ true = ap (λ m. n == m) (same e) ∙ h in rw k refl
-
-pub cell_mapped : (n : ℕ) (g : Cell → Cell) (es : List Cell) → ((e : Cell) → (g e).name ≡ e.name) → cell_at n (changed (λ (e : Cell). e.name) n g es) ≡ mapped g (cell_at n es)
-cell_mapped n g [] same = refl
-cell_mapped n g (e ∷ es) same = go (n == e.name) refl (cell_mapped n g es same)
-  where
-    go : (b : Bool) → (n == e.name) ≡ b → cell_at n (changed (λ (e : Cell). e.name) n g es) ≡ mapped g (cell_at n es) →
-        cell_at n (cond b (g e) e ∷ changed (λ (e : Cell). e.name) n g es) ≡ mapped g (cond b (Some e) (cell_at n es))
-    go false h ih = rw h ih
-    go true h ih = let k : (n == (g e).name) ≡ true = ap (λ m. n == m) (same e) ∙ h in rw k refl
-
-pub computed_mapped : (n : ℕ) (g : Computed → Computed) (es : List Computed) → ((e : Computed) → (g e).name ≡ e.name) →
-    computed_at n (changed (λ (e : Computed). e.name) n g es) ≡ mapped g (computed_at n es)
-computed_mapped n g [] same = refl
-computed_mapped n g (e ∷ es) same = go (n == e.name) refl (computed_mapped n g es same)
-  where
-    go : (b : Bool) → (n == e.name) ≡ b → computed_at n (changed (λ (e : Computed). e.name) n g es) ≡ mapped g (computed_at n es) →
-        computed_at n (cond b (g e) e ∷ changed (λ (e : Computed). e.name) n g es) ≡ mapped g (cond b (Some e) (computed_at n es))
-    go false h ih = rw h ih
-    go true h ih = let k : (n == (g e).name) ≡ true = ap (λ m. n == m) (same e) ∙ h in rw k refl
+use Rattle.signal_laws.proofs.Shared.{found_other, found_mapped, found_left}
 
 -- all but n is kept as before
 pub record IsEdit (w : Signals) (k : Memos) (w' : Signals) (k' : Memos) (n : ℕ) : Type 0 where
@@ -59,26 +26,26 @@ pub record IsMild (w : Signals) (k : Memos) (w' : Signals) (k' : Memos) : Type 0
 module _ (w : Signals) (k : Memos) (n : ℕ) where
   pub set_edit : (v : Value) → IsEdit w k (with_value w n v) (after_change k n) n
   set_edit v = record {
-    kind = λ m off. ap (λ x. is_computed (or_computed x (computed_at m w.computeds))) (cell_other m n (λ c. record c { value = v }) w.cells (λ c. refl) off);
-    gone = λ m off. ap (λ x. is_there (or_computed x (computed_at m w.computeds))) (cell_other m n (λ c. record c { value = v }) w.cells (λ c. refl) off);
-    number = λ m off. ap number_in (entry_other m n raised k.entries (λ e. refl) off);
-    memo = λ m off. ap memo_in (entry_other m n raised k.entries (λ e. refl) off);
+    kind = λ m off. ap (λ x. is_computed (or_computed x (computed_at m w.computeds))) (found_other (λ (c : Cell). c.name) m n (λ c. record c { value = v }) w.cells (λ c. refl) off);
+    gone = λ m off. ap (λ x. is_there (or_computed x (computed_at m w.computeds))) (found_other (λ (c : Cell). c.name) m n (λ c. record c { value = v }) w.cells (λ c. refl) off);
+    number = λ m off. ap number_in (found_other (λ (e : Entry). e.name) m n raised k.entries (λ e. refl) off);
+    memo = λ m off. ap memo_in (found_other (λ (e : Entry). e.name) m n raised k.entries (λ e. refl) off);
   }
 
   pub rewire_edit : (r : Recipe) → IsEdit w k (with_recipe w n r) (after_rewiring k n) n
   rewire_edit r = record {
-    kind = λ m off. ap (λ x. is_computed (or_computed (cell_at m w.cells) x)) (computed_other m n (λ c. record c { recipe = r }) w.computeds (λ c. refl) off);
-    gone = λ m off. ap (λ x. is_there (or_computed (cell_at m w.cells) x)) (computed_other m n (λ c. record c { recipe = r }) w.computeds (λ c. refl) off);
-    number = λ m off. ap number_in (entry_other m n entry_rewired k.entries (λ e. refl) off);
-    memo = λ m off. ap memo_in (entry_other m n entry_rewired k.entries (λ e. refl) off);
+    kind = λ m off. ap (λ x. is_computed (or_computed (cell_at m w.cells) x)) (found_other (λ (c : Computed). c.name) m n (λ c. record c { recipe = r }) w.computeds (λ c. refl) off);
+    gone = λ m off. ap (λ x. is_there (or_computed (cell_at m w.cells) x)) (found_other (λ (c : Computed). c.name) m n (λ c. record c { recipe = r }) w.computeds (λ c. refl) off);
+    number = λ m off. ap number_in (found_other (λ (e : Entry). e.name) m n entry_rewired k.entries (λ e. refl) off);
+    memo = λ m off. ap memo_in (found_other (λ (e : Entry). e.name) m n entry_rewired k.entries (λ e. refl) off);
   }
 
   pub dispose_edit : IsEdit w k (without_signal w n) (after_disposal k n) n
   dispose_edit = record {
-    kind = λ m off. (λ i. is_computed (or_computed (cell_left m n w.cells off i) (computed_left m n w.computeds off i)));
-    gone = λ m off. (λ i. is_there (or_computed (cell_left m n w.cells off i) (computed_left m n w.computeds off i)));
-    number = λ m off. ap number_in (entry_left m n k.entries off);
-    memo = λ m off. ap memo_in (entry_left m n k.entries off);
+    kind = λ m off. (λ i. is_computed (or_computed (found_left (λ (c : Cell). c.name) m n w.cells off i) (found_left (λ (c : Computed). c.name) m n w.computeds off i)));
+    gone = λ m off. (λ i. is_there (or_computed (found_left (λ (c : Cell). c.name) m n w.cells off i) (found_left (λ (c : Computed). c.name) m n w.computeds off i)));
+    number = λ m off. ap number_in (found_left (λ (e : Entry). e.name) m n k.entries off);
+    memo = λ m off. ap memo_in (found_left (λ (e : Entry). e.name) m n k.entries off);
   }
 
   pub no_edit : IsEdit w k w k n
@@ -88,28 +55,28 @@ module _ (w : Signals) (k : Memos) (n : ℕ) where
   sources_by : (g : Entry → Entry) → ((e : Entry) → (g e).name ≡ e.name) → ((e : Entry) → sources_in (g e).memo ≡ sources_in e.memo) → (m : ℕ) →
       sources_in (memo_in (entry_at m (changed (λ (e : Entry). e.name) n g k.entries))) ≡ sources_of k m
   sources_by g same h m = elim (tested (m == n)) [
-    | inr off ↦ ap (λ x. sources_in (memo_in x)) (entry_other m n g k.entries same off)
+    | inr off ↦ ap (λ x. sources_in (memo_in x)) (found_other (λ (e : Entry). e.name) m n g k.entries same off)
     | inl on ↦
         let e : m ≡ n = eqb-true m n on in
         subst (λ x. sources_in (memo_in (entry_at x (changed (λ (e : Entry). e.name) n g k.entries))) ≡ sources_of k x) (sym e)
-        (ap (λ x. sources_in (memo_in x)) (entry_mapped n g k.entries same) ∙ there (entry_at n k.entries))
+        (ap (λ x. sources_in (memo_in x)) (found_mapped (λ (e : Entry). e.name) n g k.entries same) ∙ there (entry_at n k.entries))
   ]
     where
-      there : (x : Option Entry) → sources_in (memo_in (mapped g x)) ≡ sources_in (memo_in x)
+      there : (x : Option Entry) → sources_in (memo_in (option_map g x)) ≡ sources_in (memo_in x)
       there None = refl
       there (Some e) = h e
 
   memos_by : (g : Entry → Entry) → ((e : Entry) → (g e).name ≡ e.name) → ((e : Entry) (x : Memo) → (g e).memo ≡ Some x → (y : Memo) × (e.memo ≡ Some y)) → (m : ℕ) (x : Memo) →
       memo_in (entry_at m (changed (λ (e : Entry). e.name) n g k.entries)) ≡ Some x → (y : Memo) × (memo_of k m ≡ Some y)
   memos_by g same h m x at = elim (tested (m == n)) [
-    | inr off ↦ (x, sym (ap memo_in (entry_other m n g k.entries same off)) ∙ at)
+    | inr off ↦ (x, sym (ap memo_in (found_other (λ (e : Entry). e.name) m n g k.entries same off)) ∙ at)
     | inl on ↦
         let e : m ≡ n = eqb-true m n on in
         subst (λ z. (y : Memo) × (memo_of k z ≡ Some y)) (sym e)
-        (there (entry_at n k.entries) (sym (ap memo_in (entry_mapped n g k.entries same)) ∙ subst (λ z. memo_in (entry_at z (changed (λ (e : Entry). e.name) n g k.entries)) ≡ Some x) e at))
+        (there (entry_at n k.entries) (sym (ap memo_in (found_mapped (λ (e : Entry). e.name) n g k.entries same)) ∙ subst (λ z. memo_in (entry_at z (changed (λ (e : Entry). e.name) n g k.entries)) ≡ Some x) e at))
   ]
     where
-      there : (z : Option Entry) → memo_in (mapped g z) ≡ Some x → (y : Memo) × (memo_in z ≡ Some y)
+      there : (z : Option Entry) → memo_in (option_map g z) ≡ Some x → (y : Memo) × (memo_in z ≡ Some y)
       there None q = absurd (true≢false (sym (ap is_some q)))
       there (Some e) q = h e x q
 
@@ -136,17 +103,17 @@ module _ (w : Signals) (k : Memos) (n : ℕ) where
   }
     where
       there : (f : Stands → Bool) → ((c : Cell) → f (IsCell (record c { value = v })) ≡ f (IsCell c)) → (x : Option Cell) (y : Option Computed) →
-          f (or_computed (mapped (λ (c : Cell). record c { value = v }) x) y) ≡ f (or_computed x y)
+          f (or_computed (option_map (λ (c : Cell). record c { value = v }) x) y) ≡ f (or_computed x y)
       there f h None y = refl
       there f h (Some c) y = h c
 
       kinds : (f : Stands → Bool) → ((c : Cell) → f (IsCell (record c { value = v })) ≡ f (IsCell c)) → (m : ℕ) → f (standing (with_value w n v) m) ≡ f (standing w m)
       kinds f h m = elim (tested (m == n)) [
-        | inr off ↦ ap (λ x. f (or_computed x (computed_at m w.computeds))) (cell_other m n (λ c. record c { value = v }) w.cells (λ c. refl) off)
+        | inr off ↦ ap (λ x. f (or_computed x (computed_at m w.computeds))) (found_other (λ (c : Cell). c.name) m n (λ c. record c { value = v }) w.cells (λ c. refl) off)
         | inl on ↦
             let e : m ≡ n = eqb-true m n on in
             subst (λ z. f (standing (with_value w n v) z) ≡ f (standing w z)) (sym e)
-            (ap (λ x. f (or_computed x (computed_at n w.computeds))) (cell_mapped n (λ c. record c { value = v }) w.cells (λ c. refl)) ∙ there f h (cell_at n w.cells) (computed_at n w.computeds))
+            (ap (λ x. f (or_computed x (computed_at n w.computeds))) (found_mapped (λ (c : Cell). c.name) n (λ c. record c { value = v }) w.cells (λ c. refl)) ∙ there f h (cell_at n w.cells) (computed_at n w.computeds))
       ]
 
   pub rewire_mild : (r : Recipe) → IsMild w k (with_recipe w n r) (after_rewiring k n)
@@ -158,18 +125,18 @@ module _ (w : Signals) (k : Memos) (n : ℕ) where
   }
     where
       there : (f : Stands → Bool) → ((c : Computed) → f (IsComputed (record c { recipe = r })) ≡ f (IsComputed c)) → (x : Option Cell) (y : Option Computed) →
-          f (or_computed x (mapped (λ (c : Computed). record c { recipe = r }) y)) ≡ f (or_computed x y)
+          f (or_computed x (option_map (λ (c : Computed). record c { recipe = r }) y)) ≡ f (or_computed x y)
       there f h (Some c) y = refl
       there f h None None = refl
       there f h None (Some c) = h c
 
       kinds : (f : Stands → Bool) → ((c : Computed) → f (IsComputed (record c { recipe = r })) ≡ f (IsComputed c)) → (m : ℕ) → f (standing (with_recipe w n r) m) ≡ f (standing w m)
       kinds f h m = elim (tested (m == n)) [
-        | inr off ↦ ap (λ x. f (or_computed (cell_at m w.cells) x)) (computed_other m n (λ c. record c { recipe = r }) w.computeds (λ c. refl) off)
+        | inr off ↦ ap (λ x. f (or_computed (cell_at m w.cells) x)) (found_other (λ (c : Computed). c.name) m n (λ c. record c { recipe = r }) w.computeds (λ c. refl) off)
         | inl on ↦
             let e : m ≡ n = eqb-true m n on in
             subst (λ z. f (standing (with_recipe w n r) z) ≡ f (standing w z)) (sym e)
-            (ap (λ x. f (or_computed (cell_at n w.cells) x)) (computed_mapped n (λ c. record c { recipe = r }) w.computeds (λ c. refl)) ∙ there f h (cell_at n w.cells) (computed_at n w.computeds))
+            (ap (λ x. f (or_computed (cell_at n w.cells) x)) (found_mapped (λ (c : Computed). c.name) n (λ c. record c { recipe = r }) w.computeds (λ c. refl)) ∙ there f h (cell_at n w.cells) (computed_at n w.computeds))
       ]
 
 -- sources whose numbers are as before haven't moved since

@@ -3,9 +3,7 @@ use Rattle.std.proofs.Common.{ℕ, Bool, true, false, cond, [], ◌∷◌, Optio
 use Rattle.std.specs.List.{AllByRecursion}
 use Rattle.signal_laws.proofs.Shared.{all_append}
 use Rattle.effect_model.specs.Owners.{Thing, the_owner, same_thing, Cleanup, sets, logs, Owned, nothing, thing, cleanup, Undoing, cleans, ends, teardown_of}
-use Rattle.effect_model.specs.Owners.{with_earlier, under, emptied, taken_out, put_under, alone, made_inside, disposal_of}
-use Rattle.effect_tables.specs.Placed.{listed}
-use Rattle.sig_owner.specs.Tables.{is_holder}
+use Rattle.effect_model.specs.Owners.{with_earlier, under, emptied, taken_out, put_under, alone, made_inside, disposal_of, is_holder, listed}
 use Rattle.sig_host.specs.Loans.{IsGood}
 
 -- a cleanup that sets good rows, or none

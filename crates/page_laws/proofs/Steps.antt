@@ -13,13 +13,12 @@ use Rattle.signal_model.specs.Signals.{Signals, is_in, standing}
 use Rattle.signal_model.specs.Values.{value_of}
 use Rattle.signal_laws.proofs.Shared.{all_snoc}
 use Rattle.effect_model.specs.Owners.{Thing, the_signal, the_owner, the_effect, the_page}
-use Rattle.effect_model.specs.Worlds.{Environment, World, settle}
+use Rattle.effect_model.specs.Worlds.{Environment, World, settle, at_rest}
 use Rattle.effect_model.specs.Acts.{dispose_thing, forget, host_of, rewire_signal, set_cell, with_use}
 use Rattle.effect_model.specs.Batches.{Batch, abort, commit, joined_by, set_quietly}
 use Rattle.effect_model.specs.Commands.{armed, changed_watcher, with_new_cell, with_new_computed, with_new_effect, with_new_owner, with_new_page}
 use Rattle.effect_model.specs.Commands.{with_new_watcher}
 use Rattle.effect_model.specs.Runs.{flush}
-use Rattle.effect_tables.specs.Placed.{at_rest}
 use Rattle.effect_tables.proofs.Shared.{all_weaker}
 use Rattle.page_model.specs.Forest.{Forest}
 use Rattle.page_model.specs.Labels.{Kind as Label}

@@ -26,14 +26,13 @@ use Rattle.effect_model.specs.Bodies.{Act, to_set, to_log, to_note, to_make, to_
 use Rattle.effect_model.specs.Bodies.{to_do, failed_by, Statements, no_more, plain, when, effect, rewire, followed_by, one_first}
 use Rattle.effect_model.specs.Bodies.{and_then, with_answer, if_scalar, guarded, plain_step, body_step, after_body_read, after_body_step, with_known, body_asked_within}
 use Rattle.effect_model.specs.Bodies.{body_evaluation}
-use Rattle.effect_model.specs.Worlds.{Environment, Effect, Refused, thing_gone, changed_signal, cleaned, refused, World, tell, lives, settle}
+use Rattle.effect_model.specs.Worlds.{Environment, Effect, Refused, thing_gone, changed_signal, cleaned, refused, World, tell, lives, settle, at_rest}
 use Rattle.effect_model.specs.Acts.{are_alike, with_quiet_value, with_new_value, set_standing, set_cell, host_of, with_drop, with_use, or_refused, rewiring_refused, rewire_standing}
 use Rattle.effect_model.specs.Acts.{rewire_signal, without_node, end_standing, end_of, do_cleanup, undo, undo_all, take_back, dispose_live, dispose_thing}
 use Rattle.effect_model.specs.Batches.{Batch, abort, give_back, is_other, joined, joined_by, joined_replaced, replaced_by, set_quietly, with_replacing}
 use Rattle.effect_model.specs.Runs.{do_act, do_acts, next_child, keep_reads, do_result, run_effect, flush}
 use Rattle.effect_model.specs.Commands.{with_new_cell}
 use Rattle.effect_laws.proofs.Shared.{IsKeptByRuns, flush_keeps}
-use Rattle.effect_tables.specs.Placed.{at_rest}
 use Rattle.sig_host.specs.Loans.{IsGood}
 use Rattle.page_laws.proofs.Owned.{AreGoodOwned, IsGoodCleanup, IsGoodUndoing, disposal_good, emptied_good, listed_good, made_good, put_good, taken_good, undoings_good}
 use Rattle.page_laws.proofs.Values.{AreGoodCells, IsGoodStanding, standing_good}

@@ -9,7 +9,7 @@ use Rattle.sig_base.specs.declared.value.Value.{Value}
 use Rattle.sig_formula.specs.Trees.{Tree}
 use Rattle.signal_model.specs.Recipes.{formula_recipe, host}
 use Rattle.signal_model.specs.Asks.{is_host}
-use Rattle.signal_model.specs.Signals.{Signals, Cell as CellOf, Computed, Stands, IsGone, IsCell, IsComputed}
+use Rattle.signal_model.specs.Signals.{Signals, Cell as CellOf, Computed, Stands, IsGone, IsCell, IsComputed, is_cell}
 use Rattle.sig_nodes.specs.declared.answers.Standing.TheVariants.{Cell}
 use Rattle.sig_host.specs.declared.shelf.Shelf.{Shelf}
 use Rattle.sig_host.specs.Hosts.{HostPlace, is_there, most_asked, unasked_place}
@@ -20,7 +20,7 @@ use Rattle.sig_computed.specs.Asked.{AreThere, StayThere}
 use Rattle.sig_computed.specs.Notes.{IsIdle}
 use Rattle.sig_computed.specs.Scenes.{scene, CanSettle}
 use Rattle.sig_computed.specs.declared.notes.RunNote.{RunNote}
-use Rattle.sig_nodes.specs.States.{Seen, State, Progress, Makes, progress_at, is_cell, is_given, no_state, with_new_cell, with_new_computed, with_rewiring, with_set, Becomes}
+use Rattle.sig_nodes.specs.States.{Seen, State, Progress, Makes, progress_at, is_given, no_state, with_new_cell, with_new_computed, with_rewiring, with_set, Becomes}
 use Rattle.settle_rows.specs.Scenes.{IsReady}
 
 -- ids below a count were given

@@ -1,13 +1,13 @@
 // One step of a frame: a look at a kept source, an answer of the recipe, or a slot that was waited for.
 ghost use Rattle.std.specs.Prelude.{◌≡◌, ◌<◌, ℕ, ◌++◌, ◌∷◌, [], true, false, List, Some, None, IfOk, IfSome, OnOk, map, drop, length, slice_index};
 ghost use Rattle.signal_model.specs.Recipes.{Hosts, IsJudged};
-ghost use Rattle.signal_model.specs.Signals.{is_computed, is_in, standing};
+ghost use Rattle.signal_model.specs.Signals.{is_computed, is_in, standing, is_cell};
 ghost use Rattle.signal_model.specs.Memos.{holds_cycle, memo_of, sources_of};
 ghost use Rattle.signal_model.specs.Marks.{mark_of};
 ghost use Rattle.sig_computed.specs.Skips.{compare_steps, is_clean, look_steps, passed_over, source_steps};
 ghost use Rattle.signal_model.specs.Sound.{kept_outcome, standing_outcome};
 ghost use Rattle.sig_nodes.specs.Answers.{answer_here, host_here, slots_here, IsAnswerHere, IsJudgedAnswer};
-ghost use Rattle.sig_nodes.specs.States.{is_cell, is_computing, is_given, progress_at, GoesOn};
+ghost use Rattle.sig_nodes.specs.States.{is_computing, is_given, progress_at, GoesOn};
 ghost use Rattle.sig_computed.specs.Steps.{answered, decided, is_ready, Ends, looked, ready_outcome, slot_read};
 ghost use Rattle.sig_computed.specs.Views.{evaluating, first_moved, first_name, frame_of, move_of, or_cycle, phase_of, progressed, seen_of, Stays};
 ghost use Rattle.sig_computed.specs.Asked.{asked_once, places_by, CanAsk};

@@ -11,7 +11,7 @@ use Rattle.signal_laws.proofs.Shared.{cell_law, computed_law}
 use Rattle.effect_model.specs.Worlds as plain
 use Rattle.effect_model.specs.Acts.{host_of, host_refused, is_free, with_use}
 use Rattle.effect_model.specs.Commands.{new_world, with_new_cell, with_new_computed}
-use Rattle.effect_model.specs.Watchers.{at_rest}
+use Rattle.effect_model.specs.Watchers.{signals_at_rest}
 use Rattle.sig_host.specs.Hosts.{HostPlace, count_at, is_there as is_there_at}
 use Rattle.sig_nodes.specs.Answers.{host_here, uses_host}
 use Rattle.sig_nodes.specs.States.{Seen, State, Makes, is_computing, is_given}
@@ -36,9 +36,9 @@ pub record IsWhole (asked : List HostPlace) (g : Seen) (t : Table) (w : plain.Wo
   pub states : host_states (uses_host g.state.signals) 0 asked ≡ w.host_states
   pub watchers : t.watchers ≡ w.watchers
   pub made : record ((new_world 0).made) { signals = g.given; watchers = t.made } ≡ w.made
-  pub rest : record (new_world 0) { signals = w.signals; memos = w.memos; host_states = w.host_states; watchers = w.watchers; made = w.made } ≡ at_rest w
+  pub rest : record (new_world 0) { signals = w.signals; memos = w.memos; host_states = w.host_states; watchers = w.watchers; made = w.made } ≡ signals_at_rest w
 
-pub whole_is : (asked : List HostPlace) (g : Seen) (t : Table) (w : plain.World) → IsWhole asked g t w → whole asked g t ≡ at_rest w
+pub whole_is : (asked : List HostPlace) (g : Seen) (t : Table) (w : plain.World) → IsWhole asked g t w → whole asked g t ≡ signals_at_rest w
 whole_is asked g t w h =
     (λ i. record (new_world 0) { signals = h.signals i; memos = h.memos i; host_states = h.states i; watchers = h.watchers i; made = h.made i }) ∙ h.rest
 
@@ -47,7 +47,7 @@ pub does_by : (hosts : Hosts) (asked later : List HostPlace) (old new : SignalSt
     act (whole_of asked old) ≡ w → IsWhole later new.graph new.watchers w → Tells before after w.told → IsSound hosts later new →
     Does hosts asked later old new before after act
 does_by hosts asked later old new before after act w is whole tells sound = record {
-  whole = whole_is later new.graph new.watchers w whole ∙ ap at_rest (sym is);
+  whole = whole_is later new.graph new.watchers w whole ∙ ap signals_at_rest (sym is);
   told = subst (λ (x : plain.World). Tells before after x.told) (sym is) tells;
   sound = sound;
 }

@@ -6,7 +6,7 @@ use Rattle.std.specs.declared.result.Result.{Result}
 use Rattle.std.proofs.lemmas.Bool.{eq-eqb}
 use Rattle.sig_base.specs.declared.value.Value.{Value}
 use Rattle.signal_model.specs.Recipes.{Hosts, Recipe}
-use Rattle.signal_model.specs.Signals.{Signals, Cell, Computed, Stands, IsGone, IsCell, IsComputed, is_computed, is_in, is_there, standing}
+use Rattle.signal_model.specs.Signals.{Signals, Cell, Computed, Stands, IsGone, IsCell, IsComputed, is_computed, is_in, is_there, standing, is_cell}
 use Rattle.signal_model.specs.Changes.{with_value, with_recipe, without_signal, after_change, after_disposal, after_rewiring}
 use Rattle.signal_model.specs.Kept.{AreKept}
 use Rattle.signal_model.specs.Memos.{Memos}
@@ -20,7 +20,7 @@ use Rattle.effect_model.specs.Commands.{new_world}
 use Rattle.sig_host.specs.Hosts.{HostPlace, count_at, most_asked}
 use Rattle.sig_host.proofs.Shared.{most_asked-dropped}
 use Rattle.sig_nodes.specs.Answers.{host_here, host_place, uses_host}
-use Rattle.sig_nodes.specs.States.{Seen, State, Becomes, are_there, is_cell, is_computing, with_disposal, with_rewiring, with_set}
+use Rattle.sig_nodes.specs.States.{Seen, State, Becomes, are_there, is_computing, with_disposal, with_rewiring, with_set}
 use Rattle.sig_watcher.specs.Tables.{Table, with_each, with_removal}
 use Rattle.sig_watcher.specs.Notices.{told_entry}
 use Rattle.sig_watcher.proofs.Shared.{entries_told, entries_frozen}

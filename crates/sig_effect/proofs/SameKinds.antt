@@ -2,10 +2,9 @@
 use Rattle.std.proofs.Common.{◌≡◌, ℕ, Bool, true, false, cond, [], ◌∷◌, Option, Some, None, ◌==◌, refl, sym, ap, subst, ◌∙◌}
 use Rattle.std.proofs.lemmas.Bool.{eqb-true}
 use Rattle.sig_base.specs.declared.value.Value.{Value}
-use Rattle.signal_model.specs.Signals.{Signals, Stands, IsGone, IsCell, IsComputed, is_computed, or_computed, standing}
+use Rattle.signal_model.specs.Signals.{Signals, Cell, Computed, Stands, IsGone, IsCell, IsComputed, is_computed, or_computed, standing, is_cell}
 use Rattle.signal_model.specs.Changes.{with_recipe, with_value, without_signal}
-use Rattle.signal_laws.proofs.Shared.{SameKind, cell_left, cell_out, computed_left, computed_out, rewire_kind, set_kind}
-use Rattle.sig_nodes.specs.States.{is_cell}
+use Rattle.signal_laws.proofs.Shared.{SameKind, found_left, found_out, rewire_kind, set_kind}
 use Rattle.effect_model.specs.Worlds.{Environment, World}
 use Rattle.effect_model.specs.Acts.{with_quiet_value}
 use Rattle.effect_model.specs.Batches.{Batch, abort, give_back, is_other, replaced_by, with_replacing}
@@ -49,10 +48,10 @@ gone_kind a b e = record { cell = λ h. ap is_cell e; computed = λ h. ap is_com
 
 -- what is disposed is gone, and another signal is as before
 gone_now : (s : Signals) (n : ℕ) → standing (without_signal s n) n ≡ IsGone
-gone_now s n = λ i. or_computed (cell_out n s.cells i) (computed_out n s.computeds i)
+gone_now s n = λ i. or_computed (found_out (λ (c : Cell). c.name) n s.cells i) (found_out (λ (c : Computed). c.name) n s.computeds i)
 
 left_now : (s : Signals) (n m : ℕ) → (m == n) ≡ false → standing (without_signal s n) m ≡ standing s m
-left_now s n m off = λ i. or_computed (cell_left m n s.cells off i) (computed_left m n s.computeds off i)
+left_now s n m off = λ i. or_computed (found_left (λ (c : Cell). c.name) m n s.cells off i) (found_left (λ (c : Computed). c.name) m n s.computeds off i)
 
 -- where a signal is gone
 without_kinds : (s : Signals) (n : ℕ) → AreKindsOf s (without_signal s n)

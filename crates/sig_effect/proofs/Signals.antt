@@ -10,8 +10,8 @@ use Rattle.signal_model.specs.Signals.{Signals, Cell, Computed, Stands, IsGone, 
 use Rattle.signal_model.specs.Changes.{with_cell, with_computed, with_value, with_recipe, without_signal}
 use Rattle.signal_model.specs.Kept.{AreGiven}
 use Rattle.signal_model.proofs.Shared.{tested, stands-computed}
-use Rattle.signal_laws.proofs.Shared.{set_kind, rewire_kind, cell_more, cell_out, cell_left, cell_new, cell_changed}
-use Rattle.signal_laws.proofs.Shared.{computed_more, computed_out, computed_left, computed_new, computed_changed, computed_other}
+use Rattle.signal_laws.proofs.Shared.{set_kind, rewire_kind, found_more, found_out, found_left, found_new, found_changed}
+use Rattle.signal_laws.proofs.Shared.{found_other}
 use Rattle.effect_model.specs.Worlds.{Watcher}
 use Rattle.effect_model.specs.Acts.{forget}
 use Rattle.sig_nodes.specs.Answers.{host_here, rule_here}
@@ -66,49 +66,49 @@ computed_alone (Some d) y c h = cc
 
 -- another signal is as before a making
 pub cell_beside : (w : Signals) (c : Cell) (m : ℕ) → (m == c.name) ≡ false → standing (with_cell w c) m ≡ standing w m
-cell_beside w c m off = ap (λ x. or_computed x (computed_at m w.computeds)) (cell_more m w.cells c off)
+cell_beside w c m off = ap (λ x. or_computed x (computed_at m w.computeds)) (found_more (λ (c : Cell). c.name) m w.cells c off)
 
 pub computed_beside : (w : Signals) (c : Computed) (m : ℕ) → (m == c.name) ≡ false → standing (with_computed w c) m ≡ standing w m
-computed_beside w c m off = ap (λ x. or_computed (cell_at m w.cells) x) (computed_more m w.computeds c off)
+computed_beside w c m off = ap (λ x. or_computed (cell_at m w.cells) x) (found_more (λ (c : Computed). c.name) m w.computeds c off)
 
 -- what is made stands, where nothing stood
 pub cell_made : (w : Signals) (c : Cell) → is_there (standing w c.name) ≡ false → standing (with_cell w c) c.name ≡ IsCell c
-cell_made w c off = ap (λ x. or_computed x (computed_at c.name w.computeds)) (cell_new w.cells c (no_cell (cell_at c.name w.cells) (computed_at c.name w.computeds) off))
+cell_made w c off = ap (λ x. or_computed x (computed_at c.name w.computeds)) (found_new (λ (c : Cell). c.name) w.cells c (no_cell (cell_at c.name w.cells) (computed_at c.name w.computeds) off))
 
 pub computed_made : (w : Signals) (c : Computed) → is_there (standing w c.name) ≡ false → standing (with_computed w c) c.name ≡ IsComputed c
 computed_made w c off =
     ap (λ x. or_computed x (computed_at c.name (with_computed w c).computeds)) (no_cell (cell_at c.name w.cells) (computed_at c.name w.computeds) off)
-    ∙ ap (λ x. or_computed None x) (computed_new w.computeds c (no_computed (cell_at c.name w.cells) (computed_at c.name w.computeds) off))
+    ∙ ap (λ x. or_computed None x) (found_new (λ (c : Computed). c.name) w.computeds c (no_computed (cell_at c.name w.cells) (computed_at c.name w.computeds) off))
 
 -- what is disposed is gone, and another signal is as before
 pub gone_now : (w : Signals) (n : ℕ) → standing (without_signal w n) n ≡ IsGone
-gone_now w n = λ i. or_computed (cell_out n w.cells i) (computed_out n w.computeds i)
+gone_now w n = λ i. or_computed (found_out (λ (c : Cell). c.name) n w.cells i) (found_out (λ (c : Computed). c.name) n w.computeds i)
 
 pub left_now : (w : Signals) (n m : ℕ) → (m == n) ≡ false → standing (without_signal w n) m ≡ standing w m
-left_now w n m off = λ i. or_computed (cell_left m n w.cells off i) (computed_left m n w.computeds off i)
+left_now w n m off = λ i. or_computed (found_left (λ (c : Cell). c.name) m n w.cells off i) (found_left (λ (c : Computed). c.name) m n w.computeds off i)
 
 -- what is rewired has the recipe, and another signal is as before
 pub recipe_now : (w : Signals) (n : ℕ) (r : Recipe) (m : ℕ) (c : Computed) → standing w m ≡ IsComputed c → (m == n) ≡ true →
     standing (with_recipe w n r) m ≡ IsComputed (record c { recipe = r })
 recipe_now w n r m c e on =
     ap (λ x. or_computed x (computed_at m (with_recipe w n r).computeds)) (computed_alone (cell_at m w.cells) (computed_at m w.computeds) c e)
-    ∙ ap (λ x. or_computed None x) (computed_changed m n (λ d. record d { recipe = r }) w.computeds (λ d. refl)
+    ∙ ap (λ x. or_computed None x) (found_changed (λ (c : Computed). c.name) m n (λ d. record d { recipe = r }) w.computeds (λ d. refl)
     ∙ ap (option_map (λ d. cond (m == n) (record d { recipe = r }) d)) (stands-computed w m c e))
     ∙ ap (λ b. or_computed None (Some (cond b (record c { recipe = r }) c))) on
 
 pub recipe_beside : (w : Signals) (n : ℕ) (r : Recipe) (m : ℕ) → (m == n) ≡ false → standing (with_recipe w n r) m ≡ standing w m
-recipe_beside w n r m off = ap (λ x. or_computed (cell_at m w.cells) x) (computed_other m n (λ d. record d { recipe = r }) w.computeds (λ d. refl) off)
+recipe_beside w n r m off = ap (λ x. or_computed (cell_at m w.cells) x) (found_other (λ (c : Computed). c.name) m n (λ d. record d { recipe = r }) w.computeds (λ d. refl) off)
 
 -- a set leaves each computed, and each rule
 pub value_computed : (w : Signals) (n : ℕ) (v : Value) (m : ℕ) (c : Computed) → standing w m ≡ IsComputed c → standing (with_value w n v) m ≡ IsComputed c
 value_computed w n v m c e =
-    ap (λ x. or_computed x (computed_at m w.computeds)) (cell_changed m n (λ d. record d { value = v }) w.cells (λ d. refl)
+    ap (λ x. or_computed x (computed_at m w.computeds)) (found_changed (λ (c : Cell). c.name) m n (λ d. record d { value = v }) w.cells (λ d. refl)
     ∙ ap (option_map (λ d. cond (m == n) (record d { value = v }) d)) (computed_alone (cell_at m w.cells) (computed_at m w.computeds) c e))
     ∙ ap (λ x. or_computed None x) (stands-computed w m c e)
 
 pub value_rule : (w : Signals) (n : ℕ) (v : Value) (m : ℕ) → rule_here (standing (with_value w n v) m) ≡ rule_here (standing w m)
 value_rule w n v m =
-    ap (λ x. rule_here (or_computed x (computed_at m w.computeds))) (cell_changed m n (λ d. record d { value = v }) w.cells (λ d. refl))
+    ap (λ x. rule_here (or_computed x (computed_at m w.computeds))) (found_changed (λ (c : Cell). c.name) m n (λ d. record d { value = v }) w.cells (λ d. refl))
     ∙ go (m == n) (cell_at m w.cells) (computed_at m w.computeds)
   where
     go : (b : Bool) (x : Option Cell) (y : Option Computed) → rule_here (or_computed (option_map (λ d. cond b (record d { value = v }) d) x) y) ≡ rule_here (or_computed x y)
@@ -119,7 +119,7 @@ value_rule w n v m =
 -- and each host formula
 pub value_host : (w : Signals) (n : ℕ) (v : Value) (m : ℕ) → host_here (standing (with_value w n v) m) ≡ host_here (standing w m)
 value_host w n v m =
-    ap (λ x. host_here (or_computed x (computed_at m w.computeds))) (cell_changed m n (λ d. record d { value = v }) w.cells (λ d. refl))
+    ap (λ x. host_here (or_computed x (computed_at m w.computeds))) (found_changed (λ (c : Cell). c.name) m n (λ d. record d { value = v }) w.cells (λ d. refl))
     ∙ go (m == n) (cell_at m w.cells) (computed_at m w.computeds)
   where
     go : (b : Bool) (x : Option Cell) (y : Option Computed) → host_here (or_computed (option_map (λ d. cond b (record d { value = v }) d) x) y) ≡ host_here (or_computed x y)

@@ -2,13 +2,12 @@
 use Rattle.std.specs.Prelude.{◌≡◌, ℕ, false, List}
 use Rattle.sig_base.specs.declared.value.Value.{Value}
 use Rattle.signal_model.specs.Recipes.{Recipe}
-use Rattle.signal_model.specs.Signals.{Signals, Stands, is_computed, standing}
+use Rattle.signal_model.specs.Signals.{Signals, Stands, is_computed, standing, is_cell}
 use Rattle.effect_model.specs.Owners.{Thing}
 use Rattle.effect_model.specs.Worlds.{Environment, Effect, World, settle}
 use Rattle.effect_model.specs.Acts.{set_cell, rewire_signal, take_back, dispose_thing}
 use Rattle.effect_model.specs.Batches.{Batch, abort, commit, set_quietly}
 use Rattle.effect_model.specs.Runs.{run_effect, flush}
-use Rattle.sig_nodes.specs.States.{is_cell}
 
 -- what was no cell is none, and what was no computed is none
 pub record IsKindOf (was now : Stands) : Type 0 where

@@ -6,7 +6,7 @@ use Rattle.signal_model.specs.Signals.{Signals, Computed, IsComputed, is_in, is_
 use Rattle.signal_model.specs.Kept.{AreKept}
 use Rattle.effect_model.specs.Worlds as plain
 use Rattle.effect_model.specs.Worlds.{Watcher}
-use Rattle.effect_model.specs.Watchers.{at_rest}
+use Rattle.effect_model.specs.Watchers.{signals_at_rest}
 use Rattle.sig_host.specs.Hosts as places
 use Rattle.sig_host.specs.Hosts.{HostPlace, count_at, unasked_place}
 use Rattle.sig_nodes.specs.Answers.{host_here, uses_host}
@@ -68,6 +68,6 @@ pub record Stays (old new : SignalStores) : Type 0 where
 -- what is sound stayed so.
 pub record Does (hosts : Hosts) (asked later : List HostPlace) (old new : SignalStores) (before after : List Event)
     (act : plain.World → plain.World) : Type 0 where
-  pub whole : whole_of later new ≡ at_rest (act (whole_of asked old))
+  pub whole : whole_of later new ≡ signals_at_rest (act (whole_of asked old))
   pub told : Tells before after (act (whole_of asked old)).told
   pub sound : IsSound hosts later new

@@ -7,10 +7,7 @@ use Rattle.signal_model.specs.Signals.{is_in}
 use Rattle.sig_marks.specs.Tables.{Reached, Spreads, dependants_at, first, marked_at, next}
 use Rattle.sig_store.specs.Stored.{entry}
 use Rattle.sig_marks.specs.Sets.{mark_in, marks_of, newly_marked, standing_count, stands_of, unmarked_count, with_marks}
-
-pub tested : (b : Bool) → (b ≡ true) ⊎ (b ≡ false)
-tested true = inl refl
-tested false = inr refl
+use Rattle.signal_model.proofs.Shared.{either, or_right, tested}
 
 pub set_here : (t : List Bool) (d : ℕ) → d < length t → marked_at (slice_set t d true) d ≡ true
 set_here [] d h = absurd (omega arith)
@@ -67,25 +64,17 @@ marked_in (d ∷ ds) t m l h = go (m == d) refl h (marked_in ds (slice_set t d t
 pub marked_only : (ds : List ℕ) (t : List Bool) (m : ℕ) → marked_at (with_marks ds t) m ≡ true → (marked_at t m ≡ true) ⊎ (is_in m ds ≡ true)
 marked_only [] t m h = inl h
 marked_only (d ∷ ds) t m h = elim (marked_only ds (slice_set t d true) m h) [
-  | inr there ↦ inr (later (m == d) (is_in m ds) there)
+  | inr there ↦ inr (or_right (m == d) (is_in m ds) there)
   | inl was ↦ elim (set_only t d m was) [ inl a ↦ inl a | inr e ↦ inr (let q : (m == d) ≡ true = eq-eqb m d e in rw q refl) ]
 ]
-  where
-    later : (a b : Bool) → b ≡ true → (a || b) ≡ true
-    later true b q = refl
-    later false b q = q
 
 pub pushed_new : (ds : List ℕ) (t : List Bool) (m : ℕ) → is_in m (newly_marked ds t) ≡ true → (is_in m ds ≡ true) × (marked_at t m ≡ false)
 pushed_new [] t m h = cc
 pushed_new (d ∷ ds) t m h = go (marked_at t d) refl h (pushed_new ds t m) (pushed_new ds (slice_set t d true) m)
   where
-    later : (a b : Bool) → b ≡ true → (a || b) ≡ true
-    later true b q = refl
-    later false b q = q
-
     go : (b : Bool) → marked_at t d ≡ b → is_in m (cond b (newly_marked ds t) (d ∷ newly_marked ds (slice_set t d true))) ≡ true → (is_in m (newly_marked ds t) ≡ true → (is_in m ds ≡ true) × (marked_at t m ≡ false)) →
         (is_in m (newly_marked ds (slice_set t d true)) ≡ true → (is_in m ds ≡ true) × (marked_at (slice_set t d true) m ≡ false)) → (is_in m (d ∷ ds) ≡ true) × (marked_at t m ≡ false)
-    go true e q f g = let r : (is_in m ds ≡ true) × (marked_at t m ≡ false) = f q in (later (m == d) (is_in m ds) r.0, r.1)
+    go true e q f g = let r : (is_in m ds ≡ true) × (marked_at t m ≡ false) = f q in (or_right (m == d) (is_in m ds) r.0, r.1)
     go false e q f g = by (m == d) refl q
       where
         by : (b : Bool) → (m == d) ≡ b → (b || is_in m (newly_marked ds (slice_set t d true))) ≡ true → ((b || is_in m ds) ≡ true) × (marked_at t m ≡ false)
@@ -211,16 +200,8 @@ is_in_append m (x ∷ xs) ys = ap (λ b. m == x || b) (is_in_append m xs ys) ∙
     shift true b c = refl
     shift false b c = refl
 
-either : (a b : Bool) → (a || b) ≡ true → (a ≡ true) ⊎ (b ≡ true)
-either true b h = inl refl
-either false b h = inr h
-
 or_left : (a b : Bool) → a ≡ true → (a || b) ≡ true
 or_left a b h = rw h refl
-
-or_right : (a b : Bool) → b ≡ true → (a || b) ≡ true
-or_right true b h = refl
-or_right false b h = h
 
 abbrev Within : List (List ℕ) → ℕ → Type 0
 Within deps len = (p m : ℕ) → is_in m (dependants_at deps p) ≡ true → m < len

@@ -10,12 +10,12 @@ use Rattle.sig_base.specs.declared.value.Value.{Value}
 use Rattle.signal_model.specs.Recipes.{Recipe}
 use Rattle.signal_model.specs.Changes.{memo_rewired}
 use Rattle.signal_model.specs.Settling.{has_outcome}
-use Rattle.signal_model.specs.Signals.{Cell, Computed, IsComputed, is_computed, is_in, is_there, standing}
+use Rattle.signal_model.specs.Signals.{Cell, Computed, IsComputed, is_computed, is_in, is_there, standing, is_cell}
 use Rattle.signal_model.specs.Memos.{Memo, source_names, sources_in}
 use Rattle.sig_nodes.specs.declared.node.Node.{Node}
 use Rattle.sig_nodes.specs.declared.node.Body.{Body}
 use Rattle.sig_nodes.specs.declared.node.Body.TheVariants.{Gone, Cell as CellBody, Computed as ComputedBody}
-use Rattle.sig_nodes.specs.States.{State, Seen, Becomes, Makes, are_there, is_cell, is_given}
+use Rattle.sig_nodes.specs.States.{State, Seen, Becomes, Makes, are_there, is_given}
 use Rattle.signal_model.specs.Kept.{AreGiven}
 use Rattle.sig_nodes.specs.Seats.{AreAllSeated, Seating, holder, with_left, with_taken}
 use Rattle.sig_nodes.specs.Places.{seen, NodesAgree}
@@ -24,10 +24,7 @@ use Rattle.sig_nodes.specs.Answers.{HasFewSlots, HaveFewSlots}
 use Rattle.sig_nodes.proofs.Parts.{stands, memo_found}
 use Rattle.sig_nodes.proofs.Edits.{body_changed, changed_length, seat_other, seat_stays}
 use Rattle.sig_nodes.proofs.Occupancy.{held_inside, holder_set, set_size}
-
-pub tested : (b : Bool) → (b ≡ true) ⊎ (b ≡ false)
-tested true = inl refl
-tested false = inr refl
+use Rattle.signal_model.proofs.Shared.{tested}
 
 pub and_left : (a b : Bool) → (a && b) ≡ true → a ≡ true
 and_left true b h = refl

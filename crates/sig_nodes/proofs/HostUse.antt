@@ -5,10 +5,7 @@ use Rattle.signal_model.specs.Signals.{Signals, Cell, Computed, cell_at, compute
 use Rattle.signal_model.specs.Changes.{with_computed, with_recipe, without_signal}
 use Rattle.signal_model.specs.Asks.{asks_host, is_host}
 use Rattle.sig_nodes.specs.Answers.{some_asks, uses_host}
-
-later : (a b : Bool) → b ≡ true → (a || b) ≡ true
-later true b h = refl
-later false b h = h
+use Rattle.signal_model.proofs.Shared.{or_right}
 
 -- what the computed under a name asks is asked by one of them
 listed : (place n : ℕ) (cs : List Computed) (c : Computed) → computed_at n cs ≡ Some c → is_host place c.recipe.expression ≡ true → some_asks place cs ≡ true
@@ -18,7 +15,7 @@ listed place n (d ∷ ds) c at is = go (n == d.name) at (listed place n ds c)
     go : (b : Bool) → cond b (Some d) (computed_at n ds) ≡ Some c → (computed_at n ds ≡ Some c → is_host place c.recipe.expression ≡ true → some_asks place ds ≡ true) →
         (is_host place d.recipe.expression || some_asks place ds) ≡ true
     go true e more = let same : d ≡ c = cc in ap (λ (x : Computed). is_host place x.recipe.expression || some_asks place ds) same ∙ ap (λ b. b || some_asks place ds) is
-    go false e more = later (is_host place d.recipe.expression) (some_asks place ds) (more e is)
+    go false e more = or_right (is_host place d.recipe.expression) (some_asks place ds) (more e is)
 
 pub uses_standing : (w : Signals) (place n : ℕ) → asks_host place (standing w n) ≡ true → uses_host w place ≡ true
 uses_standing w place n is = go (cell_at n w.cells) (computed_at n w.computeds) refl is
@@ -60,7 +57,7 @@ uses_rewired w n r place = go w.computeds
         behind : (is_host place r.expression ≡ true) ⊎ (some_asks place cs ≡ true) →
             (is_host place r.expression ≡ true) ⊎ ((is_host place c.recipe.expression || some_asks place cs) ≡ true)
         behind (inl e) = inl e
-        behind (inr e) = inr (later (is_host place c.recipe.expression) (some_asks place cs) e)
+        behind (inr e) = inr (or_right (is_host place c.recipe.expression) (some_asks place cs) e)
 
         here : (a : Bool) → (a || some_asks place rest) ≡ true → (some_asks place rest ≡ true → (is_host place r.expression ≡ true) ⊎ (some_asks place cs ≡ true)) →
             (a ≡ true) ⊎ ((is_host place r.expression ≡ true) ⊎ (some_asks place cs ≡ true))
@@ -100,5 +97,5 @@ uses_without w n place = go w.computeds
 
         by : (b : Bool) → (some_asks place rest ≡ true → some_asks place cs ≡ true) → some_asks place (cond b rest (c ∷ rest)) ≡ true →
             (is_host place c.recipe.expression || some_asks place cs) ≡ true
-        by true f q = later (is_host place c.recipe.expression) (some_asks place cs) (f q)
+        by true f q = or_right (is_host place c.recipe.expression) (some_asks place cs) (f q)
         by false f q = kept (is_host place c.recipe.expression) q f

@@ -6,6 +6,7 @@ use Rattle.signal_model.specs.Signals.{is_in}
 use Rattle.signal_model.specs.Laws.{AreDistinct}
 use Rattle.sig_seats.proofs.Shared.{in_more}
 use Rattle.sig_nodes.specs.Seats.{AreSeats, holder}
+use Rattle.signal_model.proofs.Shared.{either, or_left, or_right, tested}
 
 -- a seat that is read
 pub holder_read : (hs : List (Option ℕ)) (s : ℕ) (h : Option ℕ) → s < length hs → h ≡ slice_index_or hs s h → h ≡ holder hs s
@@ -35,10 +36,6 @@ set_size (y ∷ ys) (suc s) h = ap suc (set_size ys s h)
 pub holder_set : (hs : List (Option ℕ)) (s k : ℕ) (h : Option ℕ) → s < length hs → holder (slice_set hs s h) k ≡ (cond (s == k) h (holder hs k))
 holder_set hs s k h l = go (tested (s == k))
   where
-    tested : (b : Bool) → (b ≡ true) ⊎ (b ≡ false)
-    tested true = inl refl
-    tested false = inr refl
-
     here : (ys : List (Option ℕ)) (i : ℕ) → i < length ys → holder (slice_set ys i h) i ≡ h
     here [] i q = absurd (omega arith)
     here (y ∷ ys) zero q = refl
@@ -56,14 +53,6 @@ holder_set hs s k h l = go (tested (s == k))
     go (inr e) = other hs s k (λ q. true≢false (sym (eq-eqb s k q) ∙ e)) ∙ ap (λ c. cond c h (holder hs k)) (sym e)
 
 -- ---- lists without repetition
-
-either : (a b : Bool) → (a || b) ≡ true → (a ≡ true) ⊎ (b ≡ true)
-either true b h = inl refl
-either false b h = inr h
-
-first_true : (a b : Bool) → a ≡ true → (a || b) ≡ true
-first_true true b h = refl
-first_true false b h = cc
 
 -- a list with one more at its end
 pub distinct_more : (xs : List ℕ) (y : ℕ) → AreDistinct xs → is_in y xs ≡ false → AreDistinct (xs ++ y ∷ [])
@@ -146,14 +135,10 @@ taken_seats hs free s n cap cap' more h =
     }
   where
     still : (k : ℕ) → is_in k free ≡ true → is_in k (free ++ s ∷ []) ≡ true
-    still k q = in_more k free s ∙ first_true (is_in k free) (k == s) q
+    still k q = in_more k free s ∙ or_left (is_in k free) (k == s) q
 
     here : is_in s (free ++ s ∷ []) ≡ true
-    here = in_more s free s ∙ later (is_in s free) (s == s) (eq-eqb s s refl)
-      where
-        later : (a b : Bool) → b ≡ true → (a || b) ≡ true
-        later true b q = refl
-        later false b q = q
+    here = in_more s free s ∙ or_right (is_in s free) (s == s) (eq-eqb s s refl)
 
     go : (k : ℕ) (b : Bool) → (s == k) ≡ b → is_in s free ≡ false → is_in k free ≡ true → cond b (Some n) (holder hs k) ≡ None
     go k true e off q = absurd (true≢false (sym q ∙ ap (λ z. is_in z free) (sym (eqb-true s k e)) ∙ off))
@@ -164,11 +149,7 @@ pub last_free : (hs : List (Option ℕ)) (free : List ℕ) (s cap : ℕ) → Are
 last_free hs free s cap h = (h.nobody s here, h.inside s here)
   where
     here : is_in s (free ++ s ∷ []) ≡ true
-    here = in_more s free s ∙ later (is_in s free) (s == s) (eq-eqb s s refl)
-      where
-        later : (a b : Bool) → b ≡ true → (a || b) ≡ true
-        later true b q = refl
-        later false b q = q
+    here = in_more s free s ∙ or_right (is_in s free) (s == s) (eq-eqb s s refl)
 
 -- a seat is left
 pub left_seats : (hs : List (Option ℕ)) (free : List ℕ) (s n cap cap' : ℕ) → cap ≤ cap' → holder hs s ≡ Some n → AreSeats hs free cap → AreSeats (slice_set hs s None) (free ++ s ∷ []) cap'

@@ -3,7 +3,7 @@ use Rattle.std.proofs.Common.{◌≡◌, ℕ, zero, suc, ◌+◌, ◌<◌, ◌==
 use Rattle.std.specs.Prelude.{get_or}
 use Rattle.std.proofs.lemmas.Bool.{eqb-true, eq-eqb}
 use Rattle.signal_model.specs.Signals.{is_in}
-use Rattle.signal_model.proofs.Shared.{either}
+use Rattle.signal_model.proofs.Shared.{either, or_right}
 use Rattle.mark_laws.specs.Marked.{without_marks}
 use Rattle.sig_nodes.specs.Search.{is_seated, of_holder, some_seated}
 use Rattle.sig_nodes.specs.Seats.{holder}
@@ -11,10 +11,6 @@ use Rattle.sig_nodes.specs.Seats.{holder}
 earlier : (a b : Bool) → a ≡ true → (a || b) ≡ true
 earlier true b q = refl
 earlier false b q = cc
-
-later : (a b : Bool) → b ≡ true → (a || b) ≡ true
-later true b q = refl
-later false b q = q
 
 -- one who has a listed seat, and passes a test
 pub record HasSeated (f : ℕ → Bool) (ss : List ℕ) (hs : List (Option ℕ)) : Type 0 where
@@ -26,14 +22,14 @@ pub seated_at : (f : ℕ → Bool) (ss : List ℕ) (hs : List (Option ℕ)) → 
 seated_at f [] hs q = cc
 seated_at f (s ∷ ss) hs q = elim (either (of_holder f (holder hs s)) (some_seated f ss hs) q) [
   | inl a ↦ record { seat = s; listed = earlier (s == s) (is_in s ss) (eq-eqb s s refl); passes = a }
-  | inr b ↦ let x : HasSeated f ss hs = seated_at f ss hs b in record { seat = x.seat; listed = later (x.seat == s) (is_in x.seat ss) x.listed; passes = x.passes }
+  | inr b ↦ let x : HasSeated f ss hs = seated_at f ss hs b in record { seat = x.seat; listed = or_right (x.seat == s) (is_in x.seat ss) x.listed; passes = x.passes }
 ]
 
 pub seated_is : (f : ℕ → Bool) (ss : List ℕ) (hs : List (Option ℕ)) (s n : ℕ) → is_in s ss ≡ true → holder hs s ≡ Some n → f n ≡ true → some_seated f ss hs ≡ true
 seated_is f [] hs s n listed has passes = cc
 seated_is f (r ∷ ss) hs s n listed has passes = elim (either (s == r) (is_in s ss) listed) [
   | inl e ↦ earlier (of_holder f (holder hs r)) (some_seated f ss hs) (ap (λ k. of_holder f (holder hs k)) (sym (eqb-true s r e)) ∙ ap (of_holder f) has ∙ passes)
-  | inr q ↦ later (of_holder f (holder hs r)) (some_seated f ss hs) (seated_is f ss hs s n q has passes)
+  | inr q ↦ or_right (of_holder f (holder hs r)) (some_seated f ss hs) (seated_is f ss hs s n q has passes)
 ]
 
 -- who has a seat, by name

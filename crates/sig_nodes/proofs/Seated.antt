@@ -6,18 +6,11 @@ use Rattle.sig_nodes.specs.declared.node.Body.TheVariants.{Gone, Cell as CellBod
 use Rattle.sig_nodes.specs.Nodes.{asks_host_body, asks_host_here, body_at, is_live_body, seat_at, some_asks_body}
 use Rattle.sig_nodes.specs.Search.{of_holder, some_holder}
 use Rattle.sig_nodes.specs.Seats.{holder}
+use Rattle.signal_model.proofs.Shared.{either, or_right}
 
 -- one of two
-either : (a b : Bool) → (a || b) ≡ true → (a ≡ true) ⊎ (b ≡ true)
-either true b h = inl refl
-either false b h = inr h
-
 first : (a b : Bool) → a ≡ true → (a || b) ≡ true
 first a b h = ap (λ x. x || b) h
-
-second : (a b : Bool) → b ≡ true → (a || b) ≡ true
-second true b h = refl
-second false b h = h
 
 -- tests that each hold where the other does are the same
 same_tests : (a b : Bool) → (a ≡ true → b ≡ true) → (b ≡ true → a ≡ true) → a ≡ b
@@ -29,7 +22,7 @@ same_tests false false f g = refl
 holder_passes : (f : ℕ → Bool) (hs : List (Option ℕ)) (s n : ℕ) → holder hs s ≡ Some n → f n ≡ true → some_holder f hs ≡ true
 holder_passes f [] s n at h = cc
 holder_passes f (o ∷ hs) zero n at h = first (of_holder f o) (some_holder f hs) (ap (of_holder f) at ∙ h)
-holder_passes f (o ∷ hs) (suc s) n at h = second (of_holder f o) (some_holder f hs) (holder_passes f hs s n at h)
+holder_passes f (o ∷ hs) (suc s) n at h = or_right (of_holder f o) (some_holder f hs) (holder_passes f hs s n at h)
 
 -- where one passes, it is a number that does
 passing : (f : ℕ → Bool) (hs : List (Option ℕ)) (P : Type 0) → ((n : ℕ) → f n ≡ true → P) → some_holder f hs ≡ true → P
@@ -41,7 +34,7 @@ passing f (Some n ∷ hs) P k h = elim (either (f n) (some_holder f hs) h) [ inl
 place_asks : (place : ℕ) (xs : List Node) (n : ℕ) → asks_host_here place xs n ≡ true → some_asks_body place xs ≡ true
 place_asks place [] n h = h
 place_asks place (x ∷ xs) zero h = first (asks_host_body place x.body) (some_asks_body place xs) h
-place_asks place (x ∷ xs) (suc n) h = second (asks_host_body place x.body) (some_asks_body place xs) (place_asks place xs n h)
+place_asks place (x ∷ xs) (suc n) h = or_right (asks_host_body place x.body) (some_asks_body place xs) (place_asks place xs n h)
 
 -- and each of those has a place
 asking : (place : ℕ) (xs : List Node) (P : Type 0) → ((n : ℕ) → asks_host_here place xs n ≡ true → P) → some_asks_body place xs ≡ true → P

@@ -37,11 +37,6 @@ pub record Seen : Type 0 where
 unfoldable pub is_given : Seen → ℕ → Bool
 is_given g n = nat_lt n g.given
 
--- whether a cell stands there
-abbrev pub is_cell : Stands → Bool
-is_cell (IsCell c) = true
-is_cell _ = false
-
 -- the progress under a name
 abbrev pub progress_at : ℕ → List Progress → Option (List Known)
 progress_at n [] = None

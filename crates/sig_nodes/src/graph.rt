@@ -1,13 +1,13 @@
 // The graph, and how signals are made, changed and disposed.
 ghost use Rattle.std.specs.Prelude.{◌≡◌, ℕ, ◌+◌, ◌<◌, ◌↔◌, ◌∷◌, [], length, true, false, None, Some, IfOk, IfErr, IsErr, IsErrOf, OnOk, OnErr};
 ghost use Rattle.std.specs.List.{All};
-ghost use Rattle.signal_model.specs.Signals.{is_there, standing};
+ghost use Rattle.signal_model.specs.Signals.{is_there, standing, is_cell};
 ghost use Rattle.signal_model.specs.Changes.{live_count};
 ghost use Rattle.sig_nodes.specs.declared.errors.NodeFault.TheVariants as fault;
 ghost use Rattle.sig_nodes.specs.Answers.{expression_of, host_here, value_here, HasFewSlots};
 ghost use Rattle.sig_nodes.specs.Computations.{recipe_made};
 ghost use Rattle.sig_nodes.specs.Nodes.{with_new, FewSlotsBody, IsFresh, slots_body};
-ghost use Rattle.sig_nodes.specs.States.{are_there, is_cell, is_computing, is_given, no_state, with_disposal, with_new_cell, with_new_computed, with_rewiring, with_set, Becomes, CanWear, Makes};
+ghost use Rattle.sig_nodes.specs.States.{are_there, is_computing, is_given, no_state, with_disposal, with_new_cell, with_new_computed, with_rewiring, with_set, Becomes, CanWear, Makes};
 
 use crate::answers::Recipe;
 use crate::bodies::{host_at, is_computed, is_linkable_at, is_live_at, seat_at, sources_at};

@@ -1,8 +1,8 @@
 -- What holds of a store holds after each edit.
 use Rattle.std.proofs.Common.{◌≡◌, ℕ, zero, suc, ◌+◌, ◌<◌, ◌≤◌, ◌==◌, ◌||◌, true, false, List, [], ◌∷◌, ◌++◌, length, Option, Some, None, ◌⊎◌, inl, inr, eq-eqb, refl, sym, ap, subst, ◌∙◌, arith, cond, length-append}
 use Rattle.std.proofs.lemmas.Bool.{cases_Bool, cases_eq, cases_lt, eqb-true, ne_eqb, or_left, or_right, true≢false}
-use Rattle.effect_model.specs.Owners.{Thing, the_signal, the_owner, the_effect, the_page, the_watcher, same_thing}
-use Rattle.sig_owner.specs.Tables.{Item, held, leaf, noted, Row, above_at, above_row, changed_at, is_holder, is_open, is_owner, is_owner_row, items_at, live_at, owner_count, put_inside, row_at, thing_at, with_holder, with_item}
+use Rattle.effect_model.specs.Owners.{Thing, the_signal, the_owner, the_effect, the_page, the_watcher, same_thing, is_holder}
+use Rattle.sig_owner.specs.Tables.{Item, held, leaf, noted, Row, above_at, above_row, changed_at, is_open, is_owner, is_owner_row, items_at, live_at, owner_count, put_inside, row_at, thing_at, with_holder, with_item}
 use Rattle.sig_owner.specs.Places.{AreLeaves, RowsAgree, IsPlain, held_count}
 use Rattle.sig_owner.specs.Walks.{is_held}
 use Rattle.sig_owner.proofs.Counts.{live_there}

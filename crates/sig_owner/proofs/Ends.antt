@@ -1,9 +1,9 @@
 -- What holds of a store holds after things were taken back.
 use Rattle.std.proofs.Common.{◌≡◌, ℕ, zero, suc, ◌+◌, ◌<◌, ◌==◌, true, false, List, [], ◌∷◌, ◌++◌, length, Some, ◌⊎◌, inl, inr, eq-eqb, refl, sym, ap, subst, ◌∙◌, arith, cond}
 use Rattle.std.proofs.lemmas.Bool.{cases_Bool, cases_eq, ne_eqb, or_left, or_right, true≢false}
-use Rattle.effect_model.specs.Owners.{Thing, same_thing}
+use Rattle.effect_model.specs.Owners.{Thing, same_thing, is_holder}
 use Rattle.signal_model.specs.Signals.{is_in}
-use Rattle.sig_owner.specs.Tables.{Item, held, leaf, noted, Row, all_ended, changed_at, emptied_row, ended_row, is_holder, is_owner_row, items_at, live_at, owner_count, row_at, thing_at}
+use Rattle.sig_owner.specs.Tables.{Item, held, leaf, noted, Row, all_ended, changed_at, emptied_row, ended_row, is_owner_row, items_at, live_at, owner_count, row_at, thing_at}
 use Rattle.sig_owner.specs.Places.{AreLeaves, RowsAgree, has_leaf, held_count}
 use Rattle.sig_owner.specs.Walks.{IsTable, Step, does, leaves, ended_under, is_held, item_steps, items_steps, left_in, steps_under, steps_within, with_taken_back}
 use Rattle.sig_owner.proofs.Counts.{ended_length}

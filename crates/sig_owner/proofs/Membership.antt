@@ -1,8 +1,8 @@
 -- Each holder that lives, and all that stands under one, is somewhere in the tree.
 use Rattle.std.proofs.Common.{◌≡◌, ℕ, zero, suc, ◌<◌, ◌||◌, Bool, true, false, List, [], ◌∷◌, Option, Some, None, inl, inr, refl, sym, ap, ◌∙◌, arith}
 use Rattle.std.proofs.lemmas.Bool.{cases_Bool, cases_eq, ne_eqb, or_left, or_right, true≢false}
-use Rattle.effect_model.specs.Owners.{Thing, the_effect, Owned, nothing, thing, cleanup, same_thing, under}
-use Rattle.sig_owner.specs.Tables.{IsBare, Item, held, leaf, noted, Row, above_at, is_holder, items_at, live_at, row_at, thing_at}
+use Rattle.effect_model.specs.Owners.{Thing, the_effect, Owned, nothing, thing, cleanup, same_thing, under, is_holder}
+use Rattle.sig_owner.specs.Tables.{IsBare, Item, held, leaf, noted, Row, above_at, items_at, live_at, row_at, thing_at}
 use Rattle.sig_owner.specs.Trees.{has_thing, owned_of, piled, stands_under, top_items}
 use Rattle.sig_owner.specs.Places.{RowsAgree, has_leaf}
 use Rattle.sig_owner.specs.Walks.{is_held}

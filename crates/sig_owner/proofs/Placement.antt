@@ -1,11 +1,11 @@
 -- Each thing stays placed where it stands.
 use Rattle.std.proofs.Common.{◌≡◌, ℕ, ◌+◌, ◌<◌, ◌||◌, true, false, List, [], ◌∷◌, ◌++◌, length, Option, Some, ◌⊎◌, inl, inr, eq-eqb, refl, sym, ap, subst, ◌∙◌, cond}
 use Rattle.std.proofs.lemmas.Bool.{cases_Bool, cases_eq, or_left, or_right, true≢false}
-use Rattle.effect_model.specs.Owners.{Thing, the_effect, same_thing}
+use Rattle.effect_model.specs.Owners.{Thing, the_effect, same_thing, is_holder}
 use Rattle.sig_owner.specs.declared.thing.Thing.{Thing as AThing}
 use Rattle.sig_owner.specs.declared.thing.Thing.TheVariants as a
 use Rattle.sig_owner.specs.Keys.{same_key, same_key-true}
-use Rattle.sig_owner.specs.Tables.{Item, held, leaf, noted, Row, changed_at, is_holder, is_open, is_owner, items_at, live_at, row_at, thing_at, thing_of, with_holder, with_item}
+use Rattle.sig_owner.specs.Tables.{Item, held, leaf, noted, Row, changed_at, is_open, is_owner, items_at, live_at, row_at, thing_at, thing_of, with_holder, with_item}
 use Rattle.sig_owner.specs.Places.{AreLeaves, ArePlaced, RowsAgree, IsPlain, Keeps, has_leaf}
 use Rattle.sig_owner.proofs.Counts.{live_there}
 use Rattle.sig_owner.proofs.Consistency.{IsNew, holder_holds, holder_row, item_holds, inside_keeps, same_true}

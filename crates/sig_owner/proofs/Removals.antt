@@ -2,12 +2,12 @@
 use Rattle.std.proofs.Common.{◌≡◌, ℕ, zero, suc, ◌+◌, ◌<◌, ◌==◌, Bool, true, false, List, [], ◌∷◌, length, map, Option, Some, None, inl, inr, eq-eqb, refl, sym, ap, subst, ◌∙◌, arith, cond}
 use Rattle.std.specs.Prelude.{filter, not, IfSome}
 use Rattle.std.proofs.lemmas.Bool.{cases_Bool, cases_eq, cases_lt, ne_eqb, or_left, or_right, true≢false}
-use Rattle.effect_model.specs.Owners.{Thing, the_owner, the_effect, same_thing}
+use Rattle.effect_model.specs.Owners.{Thing, the_owner, the_effect, same_thing, is_holder}
 use Rattle.sig_owner.specs.declared.thing.Thing.{Thing as AThing}
 use Rattle.sig_owner.specs.declared.thing.Thing.TheVariants as a
 use Rattle.sig_owner.specs.Keys.{hinted, same_key, same_key-true}
 use Rattle.sig_owner.specs.Removals.{is_held_of, is_leaf_of, sifted_inside, sifted_row}
-use Rattle.sig_owner.specs.Tables.{IsBare, Item, held, leaf, noted, Row, above_at, changed_at, dropped, dropped_row, ended_row, is_holder, is_row_of, items_at, live_at, no_row, owner_count, row_at, thing_at, thing_of, without}
+use Rattle.sig_owner.specs.Tables.{IsBare, Item, held, leaf, noted, Row, above_at, changed_at, dropped, dropped_row, ended_row, is_row_of, items_at, live_at, no_row, owner_count, row_at, thing_at, thing_of, without}
 use Rattle.sig_owner.specs.Places.{AreLeaves, ArePlaced, RowsAgree, Keeps, has_leaf, held_count}
 use Rattle.sig_owner.specs.Walks.{is_held}
 use Rattle.sig_owner.proofs.Counts.{live_there, sifted_length}

@@ -2,12 +2,12 @@
 use Rattle.std.proofs.Common.{◌≡◌, ℕ, zero, suc, ◌==◌, ◌||◌, ◌&&◌, true, false, List, [], ◌∷◌, ◌++◌, length, eq-eqb, refl, sym, ap, ◌∙◌, inl, inr}
 use Rattle.std.specs.Prelude.{not}
 use Rattle.std.proofs.lemmas.Bool.{cases_Bool, or_left, or_right, true≢false}
-use Rattle.effect_model.specs.Owners.{ends, cleans, same_thing, teardown_of}
+use Rattle.effect_model.specs.Owners.{ends, cleans, same_thing, teardown_of, is_holder}
 use Rattle.sig_owner.specs.declared.thing.Undoing.{Undoing as AnUndoing}
 use Rattle.sig_owner.specs.Trees.{stands_under}
 use Rattle.sig_owner.proofs.Teardowns.{teardown_steps}
 use Rattle.signal_model.specs.Signals.{is_in}
-use Rattle.sig_owner.specs.Tables.{Item, held, leaf, noted, Row, is_holder, items_at, live_at, thing_at}
+use Rattle.sig_owner.specs.Tables.{Item, held, leaf, noted, Row, items_at, live_at, thing_at}
 use Rattle.sig_owner.specs.Places.{AreLeaves, RowsAgree}
 use Rattle.sig_owner.specs.Walks.{Step, does, leaves, is_ended, is_held, items_steps, left_in, steps_under, steps_undoings, steps_within, undoings_of, with_taken_back}
 use Rattle.sig_owner.proofs.Ends.{ended_held, gone_there, live_there_still}

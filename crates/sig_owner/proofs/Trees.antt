@@ -3,7 +3,8 @@ use Rattle.std.proofs.Common.{◌≡◌, ℕ, zero, suc, ◌+◌, ◌<◌, ◌�
 use Rattle.std.specs.Prelude.{not, is_some}
 use Rattle.std.proofs.lemmas.Bool.{cases_Bool, cases_eq, ne_eqb, or_left, true≢false}
 use Rattle.effect_model.specs.Owners.{Thing, Owned, Cleanup, alone, nothing, thing, cleanup, emptied, put_under, same_thing, taken_out, with_earlier}
-use Rattle.sig_owner.specs.Tables.{IsBare, Item, held, leaf, noted, Row, above_at, above_row, all_ended, changed_at, dropped, is_holder, is_open, is_row_of, items_at, live_at, owner_count, row_at, thing_at, with_holder, with_item, without}
+use Rattle.effect_model.specs.Owners.{is_holder}
+use Rattle.sig_owner.specs.Tables.{IsBare, Item, held, leaf, noted, Row, above_at, above_row, all_ended, changed_at, dropped, is_open, is_row_of, items_at, live_at, owner_count, row_at, thing_at, with_holder, with_item, without}
 use Rattle.sig_owner.specs.Trees.{is_top, laid, made_in, owned_of, piled, stands_under, top_items}
 use Rattle.sig_owner.specs.Places.{RowsAgree, has_leaf}
 use Rattle.signal_model.specs.Signals.{is_in}

@@ -2,14 +2,14 @@
 use Rattle.std.proofs.Common.{◌≡◌, ℕ, zero, suc, ◌==◌, ◌||◌, ◌&&◌, Bool, true, false, cond, List, [], ◌∷◌, ◌++◌, length, Option, Some, None, ◌⊎◌, inl, inr, eq-eqb, refl, sym, ap, subst, ◌∙◌}
 use Rattle.std.specs.Prelude.{not}
 use Rattle.std.proofs.lemmas.Bool.{cases_Bool, or_left, or_right, true≢false}
-use Rattle.effect_model.specs.Owners.{Thing, the_effect, ends, cleans, same_thing}
+use Rattle.effect_model.specs.Owners.{Thing, the_effect, ends, cleans, same_thing, is_holder}
 use Rattle.signal_model.specs.Signals.{is_in}
 use Rattle.sig_owner.specs.declared.thing.Thing.{Thing as AThing}
 use Rattle.sig_owner.specs.declared.thing.Thing.TheVariants as a
 use Rattle.sig_owner.specs.declared.thing.Undoing.{Undoing as AnUndoing}
 use Rattle.sig_owner.specs.declared.thing.Undoing.TheVariants as undoing
 use Rattle.sig_owner.specs.Keys.{are_gone_in, is_gone_in, same_key}
-use Rattle.sig_owner.specs.Tables.{Item, held, leaf, noted, Row, all_ended, is_holder, items_at, live_at, owner_count, thing_at, thing_of}
+use Rattle.sig_owner.specs.Tables.{Item, held, leaf, noted, Row, all_ended, items_at, live_at, owner_count, thing_at, thing_of}
 use Rattle.sig_owner.specs.Places.{ArePlaced, RowsAgree, Keeps, has_leaf}
 use Rattle.sig_owner.specs.Walks.{Step, does, leaves, ended_under, is_ended, is_held, items_steps, left_in, steps_under, steps_undoings, steps_within, undoings_of, with_taken_back}
 use Rattle.sig_owner.proofs.Ends.{ends_into, keeps, lives_still, none_ended, none_here, still_there, taken_back_holds}

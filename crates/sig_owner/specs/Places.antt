@@ -1,9 +1,9 @@
 -- What holds of a store's fields between its calls.
 use Rattle.std.specs.Prelude.{◌≡◌, ℕ, ◌+◌, ◌==◌, ◌||◌, Bool, true, false, List, [], ◌∷◌, Option, Some, if◌then◌else◌}
-use Rattle.effect_model.specs.Owners.{Thing, the_owner, the_effect, same_thing}
+use Rattle.effect_model.specs.Owners.{Thing, the_owner, the_effect, same_thing, is_holder}
 use Rattle.sig_owner.specs.declared.thing.Thing.{Thing as AThing}
 use Rattle.sig_owner.specs.declared.thing.Thing.TheVariants as a
-use Rattle.sig_owner.specs.Tables.{Item, held, leaf, noted, Row, above_at, is_holder, items_at, live_at, owner_count, thing_at, thing_of}
+use Rattle.sig_owner.specs.Tables.{Item, held, leaf, noted, Row, above_at, items_at, live_at, owner_count, thing_at, thing_of}
 use Rattle.sig_owner.specs.Walks.{IsTable, is_held}
 
 -- how often a holder stands among the items

@@ -115,12 +115,6 @@ ended_row r = no_row
 
 -- ---- owners
 
--- whether a thing can hold others
-abbrev pub is_holder : Thing → Bool
-is_holder (the_owner n) = true
-is_holder (the_effect n) = true
-is_holder _ = false
-
 -- whether a thing is an owner
 abbrev pub is_owner : Thing → Bool
 is_owner (the_owner n) = true

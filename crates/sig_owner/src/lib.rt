@@ -3,13 +3,11 @@
 
 mod errors;
 mod holder;
-mod limits;
 mod owners;
 mod places;
 mod thing;
 mod walk;
 
 pub use errors::OwnFault;
-pub use limits::MOST_OWNERS;
 pub use owners::Owners;
 pub use thing::{CleanupAct, Thing, Undoing};

@@ -1,9 +1,10 @@
 // The store of owners.
 ghost use Rattle.std.specs.Prelude.{◌≡◌, ℕ, ◌&&◌, not, ◌<◌, ◌≤◌, ◌↔◌, [], length, true, false, IfOk, IsErrOf, OnOk, OnErr};
 ghost use Rattle.effect_model.specs.Owners as owning;
-ghost use Rattle.effect_model.specs.Owners.{alone, emptied, put_under, taken_out, teardown_of, the_effect, the_owner, under};
+ghost use Rattle.effect_model.specs.Owners.{alone, emptied, put_under, taken_out, teardown_of, the_effect, the_owner, under, is_holder};
+ghost use Rattle.effect_model.specs.declared.limits.TheConstants.{MOST_OWNERS};
 ghost use Rattle.sig_owner.specs.declared.errors.OwnFault.TheVariants as fault;
-ghost use Rattle.sig_owner.specs.Tables.{changed_at, cleanup_of, dropped, is_holder, is_open, leaf, live_at, noted, owner_count, thing_at, thing_of, with_holder, with_item};
+ghost use Rattle.sig_owner.specs.Tables.{changed_at, cleanup_of, dropped, is_open, leaf, live_at, noted, owner_count, thing_at, thing_of, with_holder, with_item};
 ghost use Rattle.sig_owner.specs.Trees.{has_thing, made_in, owned_of};
 ghost use Rattle.sig_owner.specs.Walks.{is_ended, undoings_of, with_taken_back};
 
@@ -12,10 +13,10 @@ use crate::holder::{
     Holder, Made, add_holder, clear_at, drop_holder_at, drop_leaf_at, end_each, is_live_at,
     is_open, is_thing_at, put_at,
 };
-use crate::limits::MOST_OWNERS;
 use crate::places::{forget, forget_each, hint_of, note_place};
 use crate::thing::{CleanupAct, Thing, Undoing};
 use crate::walk::teardown_under;
+use effect_model::MOST_OWNERS;
 use indexmap::IndexMap;
 use sig_base::{EffectId, NoMemory, OwnerId};
 use sig_store::Store;

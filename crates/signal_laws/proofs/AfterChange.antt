@@ -22,8 +22,7 @@ use Rattle.signal_model.specs.Kept.{HaveEntries}
 use Rattle.signal_model.specs.Signals.{is_there}
 use Rattle.signal_model.specs.Memos.{has_entry}
 use Rattle.signal_laws.specs.ChangeLaws.{NoMemosLaw, EmptyLaw, SetLaw, RewireLaw, DisposeLaw}
-use Rattle.signal_laws.proofs.LookUps.{entry_changed, entry_other, entry_same, entry_out, entry_left}
-use Rattle.signal_laws.proofs.LookUps.{cell_changed, cell_other, cell_out, cell_left, computed_changed, computed_other, computed_out, computed_left}
+use Rattle.signal_laws.proofs.LookUps.{found_changed, found_other, found_same, found_out, found_left}
 use Rattle.signal_laws.proofs.FailedTests.{or_fst, or_snd, not_false}
 
 -- one memo is no other
@@ -264,10 +263,10 @@ memo_set (Some e) e' q = sym (out (record e { rewired = true }) e' q)
 raise_before : (k : Memos) (n : ℕ) (g : Entry → Entry) (r : Entry) → Raises g → entry_at n k.entries ≡ Some r → (m : ℕ) (e' : Memo) →
     memo_of (raise k n g) m ≡ Some e' → Before k m e'
 raise_before k n g r gs at m e' q = elim (tested (m == n)) [
-  | inr off ↦ same_memo e' k m (memo_of (raise k n g) m) (sym (ap memo_in (entry_other m n g k.entries gs.name off))) q
+  | inr off ↦ same_memo e' k m (memo_of (raise k n g) m) (sym (ap memo_in (found_other (λ (e : Entry). e.name) m n g k.entries gs.name off))) q
   | inl on ↦
       let e : m ≡ n = eqb-true m n on in
-      let new : memo_of (raise k n g) n ≡ (g r).memo = ap memo_in (entry_same n g k.entries r gs.name at) in
+      let new : memo_of (raise k n g) n ≡ (g r).memo = ap memo_in (found_same (λ (e : Entry). e.name) n g k.entries r gs.name at) in
       let q' : (g r).memo ≡ Some e' = sym new ∙ ap (memo_of (raise k n g)) (sym e) ∙ q in
       subst (λ x. Before k x e') (sym e) (elim (gs.memo r) [
         | inl plain ↦ same_memo e' k n r.memo (ap memo_in at) (sym plain ∙ q')
@@ -279,10 +278,10 @@ raise_before k n g r gs at m e' q = elim (tested (m == n)) [
 raise_past : (k : Memos) (n : ℕ) (g : Entry → Entry) (r : Entry) → Raises g → entry_at n k.entries ≡ Some r → (x : Option ℕ) (m : ℕ) →
     IsPast x (number_of k m) → IsPast x (number_of (raise k n g) m)
 raise_past k n g r gs at x m p = elim (tested (m == n)) [
-  | inr off ↦ subst (IsPast x) (sym (ap number_in (entry_other m n g k.entries gs.name off))) p
+  | inr off ↦ subst (IsPast x) (sym (ap number_in (found_other (λ (e : Entry). e.name) m n g k.entries gs.name off))) p
   | inl on ↦
       let e : m ≡ n = eqb-true m n on in
-      let new : number_of (raise k n g) n ≡ Some (r.number + 1) = ap number_in (entry_same n g k.entries r gs.name at)
+      let new : number_of (raise k n g) n ≡ Some (r.number + 1) = ap number_in (found_same (λ (e : Entry). e.name) n g k.entries r gs.name at)
       ∙ ap (λ y. Some y) (gs.number r) in
       subst (λ y. IsPast x (number_of (raise k n g) y)) (sym e)
       (subst (IsPast x) (sym new) (past_up x r.number (subst (IsPast x) (ap (number_of k) e ∙ ap number_in at) p)))
@@ -294,12 +293,12 @@ raise_stays : (w w' : Signals) (k : Memos) (n : ℕ) (g : Entry → Entry) (r : 
     (s : Source) → IsPast s.number (number_of k s.name) → Stays w k w' (raise k n g) s
 raise_stays w w' k n g r gs at other s p = elim (tested (s.name == n)) [
   | inr off ↦
-      let a : entry_at s.name (raise k n g).entries ≡ entry_at s.name k.entries = entry_other s.name n g k.entries gs.name off in
+      let a : entry_at s.name (raise k n g).entries ≡ entry_at s.name k.entries = found_other (λ (e : Entry). e.name) s.name n g k.entries gs.name off in
       let o : standing w' s.name ≡ standing w s.name = other s.name off in
       inr (ap (λ x. not (same_number (number_in x) s.number)) a, (λ i. outcome_here (o i) (memo_in (a i))))
   | inl on ↦
       let e : s.name ≡ n = eqb-true s.name n on in
-      let new : number_of (raise k n g) n ≡ Some (r.number + 1) = ap number_in (entry_same n g k.entries r gs.name at)
+      let new : number_of (raise k n g) n ≡ Some (r.number + 1) = ap number_in (found_same (λ (e : Entry). e.name) n g k.entries r gs.name at)
       ∙ ap (λ y. Some y) (gs.number r) in
       inl (ap (λ x. not (same_number x s.number)) (ap (number_of (raise k n g)) e ∙ new)
       ∙ above s.number r.number (subst (IsPast s.number) (ap (number_of k) e ∙ ap number_in at) p))
@@ -315,7 +314,7 @@ raise_entries : (w w' : Signals) (k : Memos) (n : ℕ) (g : Entry → Entry) →
     ((m : ℕ) (e' : Memo) → memo_of (raise k n g) m ≡ Some e' → Before k m e') →
     ((m : ℕ) → SameKind (standing w m) (standing w' m)) → HaveEntries w k → HaveEntries w' (raise k n g)
 raise_entries w w' k n g gs before same h = record {
-  entries = λ m. ap has_entry (entry_changed m n g k.entries gs.name) ∙ some_mapped (λ e. cond (m == n) (g e) e) (entry_at m k.entries)
+  entries = λ m. ap has_entry (found_changed (λ (e : Entry). e.name) m n g k.entries gs.name) ∙ some_mapped (λ e. cond (m == n) (g e) e) (entry_at m k.entries)
       ∙ h.entries m ∙ (same m).there;
   memos = λ m e q. sym (same m).computed ∙ h.memos m (before m e q).memo (before m e q).at;
 }
@@ -362,20 +361,20 @@ computed_kind f None (Some c) = record { there = refl; computed = refl }
 pub set_kind : (w : Signals) (n : ℕ) (v : Value) (m : ℕ) → SameKind (standing w m) (standing (with_value w n v) m)
 set_kind w n v m =
     subst (λ x. SameKind (standing w m) (or_computed x (computed_at m w.computeds)))
-    (sym (cell_changed m n (λ c. record c { value = v }) w.cells (λ c. refl)))
+    (sym (found_changed (λ (c : Cell). c.name) m n (λ c. record c { value = v }) w.cells (λ c. refl)))
     (cell_kind (λ c. cond (m == n) (record c { value = v }) c) (cell_at m w.cells) (computed_at m w.computeds))
 
 -- and each computed
 pub set_back : (w : Signals) (n : ℕ) (v : Value) (m : ℕ) (d : Computed) → standing (with_value w n v) m ≡ IsComputed d → standing w m ≡ IsComputed d
 set_back w n v m d st =
     cell_back (λ c. cond (m == n) (record c { value = v }) c) (cell_at m w.cells) (computed_at m w.computeds) d
-    (sym (ap (λ x. or_computed x (computed_at m w.computeds)) (cell_changed m n (λ c. record c { value = v }) w.cells (λ c. refl))) ∙ st)
+    (sym (ap (λ x. or_computed x (computed_at m w.computeds)) (found_changed (λ (c : Cell). c.name) m n (λ c. record c { value = v }) w.cells (λ c. refl))) ∙ st)
 
 -- a rewiring leaves each signal its kind
 pub rewire_kind : (w : Signals) (n : ℕ) (r : Recipe) (m : ℕ) → SameKind (standing w m) (standing (with_recipe w n r) m)
 rewire_kind w n r m =
     subst (λ x. SameKind (standing w m) (or_computed (cell_at m w.cells) x))
-    (sym (computed_changed m n (λ c. record c { recipe = r }) w.computeds (λ c. refl)))
+    (sym (found_changed (λ (c : Computed). c.name) m n (λ c. record c { recipe = r }) w.computeds (λ c. refl)))
     (computed_kind (λ c. cond (m == n) (record c { recipe = r }) c) (cell_at m w.cells) (computed_at m w.computeds))
 
 -- a set keeps memos sound
@@ -387,7 +386,7 @@ set_law hosts w k n c v stands kept =
     let g : Raises raised = record { name = λ q. refl; number = λ q. refl; memo = λ q. inl refl } in
     let other : (m : ℕ) → (m == n) ≡ false →
     standing w' m ≡ standing w m =
-    λ m off. ap (λ x. or_computed x (computed_at m w.computeds)) (cell_other m n (λ d. record d { value = v }) w.cells (λ d. refl) off) in
+    λ m off. ap (λ x. or_computed x (computed_at m w.computeds)) (found_other (λ (c : Cell). c.name) m n (λ d. record d { value = v }) w.cells (λ d. refl) off) in
     let comp : (m : ℕ) (d : Computed) → standing w' m ≡ IsComputed d → standing w m ≡ IsComputed d = set_back w n v in
     let lt : k.generation < k.generation + 1 = omega arith in
     let le : k.generation ≤ k.generation + 1 = omega arith in
@@ -415,7 +414,7 @@ rewire_law hosts w k n c recipe stands kept =
     let other : (m : ℕ) → (m == n) ≡ false →
     standing w' m ≡ standing w m =
     λ m off. ap (λ x. or_computed (cell_at m w.cells) x)
-    (computed_other m n (λ d. record d { recipe = recipe }) w.computeds (λ d. refl) off) in
+    (found_other (λ (c : Computed). c.name) m n (λ d. record d { recipe = recipe }) w.computeds (λ d. refl) off) in
     let lt : k.generation < k.generation + 1 = omega arith in
     let le : k.generation ≤ k.generation + 1 = omega arith in
     let before : (m : ℕ) (e' : Memo) → memo_of k' m ≡ Some e' → Before k m e' = raise_before k n entry_rewired r.0 g r.1 in
@@ -432,7 +431,7 @@ rewire_law hosts w k n c recipe stands kept =
           | inr off ↦ sym (other m off) ∙ st
           | inl on ↦
               let is : m ≡ n = eqb-true m n on in
-              let new : memo_of k' n ≡ memo_rewired r.0.memo = ap memo_in (entry_same n entry_rewired k.entries r.0 (λ x. refl) r.1) in
+              let new : memo_of k' n ≡ memo_rewired r.0.memo = ap memo_in (found_same (λ (e : Entry). e.name) n entry_rewired k.entries r.0 (λ x. refl) r.1) in
               let set : e.rewired ≡ true = memo_set r.0.memo e (sym new ∙ ap (memo_of k') (sym is) ∙ q) in
               cc (sym z ∙ set)
         ];
@@ -457,34 +456,34 @@ dispose_law hosts w k n there kept =
     let k' : Memos = after_disposal k n in
     let r : (r : Entry) × (entry_at n k.entries ≡ Some r) = entry_there w k n kept.entries there in
     let other : (m : ℕ) → (m == n) ≡ false → standing w' m ≡ standing w m = λ m off.
-    let a : cell_at m w'.cells ≡ cell_at m w.cells = cell_left m n w.cells off in
-    let b : computed_at m w'.computeds ≡ computed_at m w.computeds = computed_left m n w.computeds off in
+    let a : cell_at m w'.cells ≡ cell_at m w.cells = found_left (λ (c : Cell). c.name) m n w.cells off in
+    let b : computed_at m w'.computeds ≡ computed_at m w.computeds = found_left (λ (c : Computed). c.name) m n w.computeds off in
     (λ i. or_computed (a i) (b i)) in
     let comp : (m : ℕ) (d : Computed) → standing w' m ≡ IsComputed d → standing w m ≡ IsComputed d = λ m d st. elim (tested (m == n)) [
       | inr off ↦ sym (other m off) ∙ st
       | inl on ↦
           let e : m ≡ n = eqb-true m n on in
           absurd (some_computed (cell_at m w'.cells) (computed_at m w'.computeds) d st
-          (ap (λ x. computed_at x w'.computeds) e ∙ computed_out n w.computeds))
+          (ap (λ x. computed_at x w'.computeds) e ∙ found_out (λ (c : Computed). c.name) n w.computeds))
     ] in
-    let gone : number_of k' n ≡ None = ap number_in (entry_out n k.entries) in
+    let gone : number_of k' n ≡ None = ap number_in (found_out (λ (e : Entry). e.name) n k.entries) in
     let lt : k.generation < k.generation + 1 = omega arith in
     let le : k.generation ≤ k.generation + 1 = omega arith in
     let before : (m : ℕ) (e' : Memo) → memo_of k' m ≡ Some e' → Before k m e' = λ m e q. elim (tested (m == n)) [
-      | inr off ↦ same_memo e k m (memo_of k' m) (sym (ap memo_in (entry_left m n k.entries off))) q
+      | inr off ↦ same_memo e k m (memo_of k' m) (sym (ap memo_in (found_left (λ (e : Entry). e.name) m n k.entries off))) q
       | inl on ↦
-          let none : memo_of k' m ≡ None = ap (memo_of k') (eqb-true m n on) ∙ ap memo_in (entry_out n k.entries) in
+          let none : memo_of k' m ≡ None = ap (memo_of k') (eqb-true m n on) ∙ ap memo_in (found_out (λ (e : Entry). e.name) n k.entries) in
           cc (sym none ∙ q)
     ] in
     let past : (x : Option ℕ) (m : ℕ) → IsPast x (number_of k m) → IsPast x (number_of k' m) = λ x m p. elim (tested (m == n)) [
-      | inr off ↦ subst (IsPast x) (sym (ap number_in (entry_left m n k.entries off))) p
+      | inr off ↦ subst (IsPast x) (sym (ap number_in (found_left (λ (e : Entry). e.name) m n k.entries off))) p
       | inl on ↦
           let e : m ≡ n = eqb-true m n on in
           subst (λ y. IsPast x y) (sym (ap (number_of k') e ∙ gone)) (lost x)
     ] in
     let stays : (s : Source) → IsPast s.number (number_of k s.name) → Stays w k w' k' s = λ x p. elim (tested (x.name == n)) [
       | inr off ↦
-          let a : entry_at x.name k'.entries ≡ entry_at x.name k.entries = entry_left x.name n k.entries off in
+          let a : entry_at x.name k'.entries ≡ entry_at x.name k.entries = found_left (λ (e : Entry). e.name) x.name n k.entries off in
           let o : standing w' x.name ≡ standing w x.name = other x.name off in
           inr (ap (λ y. not (same_number (number_in y) x.number)) a, (λ i. outcome_here (o i) (memo_in (a i))))
       | inl on ↦
@@ -504,18 +503,18 @@ dispose_law hosts w k n there kept =
       }) kept.sound;
       entries = record {
         entries = λ m. elim (tested (m == n)) [
-          | inr off ↦ ap has_entry (entry_left m n k.entries off) ∙ kept.entries.entries m ∙ ap is_there (sym (other m off))
+          | inr off ↦ ap has_entry (found_left (λ (e : Entry). e.name) m n k.entries off) ∙ kept.entries.entries m ∙ ap is_there (sym (other m off))
           | inl on ↦
               let e : m ≡ n = eqb-true m n on in
-              let a : cell_at n w'.cells ≡ None = cell_out n w.cells in
-              let b : computed_at n w'.computeds ≡ None = computed_out n w.computeds in
-              ap (λ x. has_entry (entry_at x k'.entries)) e ∙ ap has_entry (entry_out n k.entries)
+              let a : cell_at n w'.cells ≡ None = found_out (λ (c : Cell). c.name) n w.cells in
+              let b : computed_at n w'.computeds ≡ None = found_out (λ (c : Computed). c.name) n w.computeds in
+              ap (λ x. has_entry (entry_at x k'.entries)) e ∙ ap has_entry (found_out (λ (e : Entry). e.name) n k.entries)
               ∙ (λ i. is_there (or_computed (sym a i) (sym b i)))
               ∙ ap (λ x. is_there (standing w' x)) (sym e)
         ];
         memos = λ m e q. elim (tested (m == n)) [
           | inr off ↦ ap is_computed (other m off) ∙ kept.entries.memos m (before m e q).memo (before m e q).at
-          | inl on ↦ cc (sym (ap (memo_of k') (eqb-true m n on) ∙ ap memo_in (entry_out n k.entries)) ∙ q)
+          | inl on ↦ cc (sym (ap (memo_of k') (eqb-true m n on) ∙ ap memo_in (found_out (λ (e : Entry). e.name) n k.entries)) ∙ q)
         ];
       };
     }

@@ -25,7 +25,7 @@ use Rattle.signal_model.specs.Signals.{is_there}
 use Rattle.signal_model.specs.Memos.{has_entry}
 use Rattle.signal_laws.specs.ChangeLaws.{CellLaw, ComputedLaw}
 use Rattle.signal_laws.proofs.AfterChange.{AllStay, change_keeps, same_memo}
-use Rattle.signal_laws.proofs.LookUps.{entry_more, entry_new, cell_more, cell_new, computed_more, computed_new}
+use Rattle.signal_laws.proofs.LookUps.{found_more, found_new}
 use Rattle.signal_laws.proofs.FailedTests.{or_fst, or_snd}
 
 -- ---- what is read of a name that is gone, and its fault
@@ -159,7 +159,7 @@ unread_stay w w' k n (s ∷ ss) x h =
     let off' : (s.name == n) ≡ false =
     elim (tested (s.name == n)) [ inr z ↦ z | inl z ↦ cc (sym off ∙ eq-eqb n s.name (sym (eqb-true s.name n z))) ] in
     let a : entry_at s.name (after_making k n).entries ≡ entry_at s.name k.entries =
-    entry_more s.name k.entries (record { name = n; number = 0; memo = None }) off' in
+    found_more (λ (e : Entry). e.name) s.name k.entries (record { name = n; number = 0; memo = None }) off' in
     let o : standing w' s.name ≡ standing w s.name = x.other s.name off' in (
       inr (ap (λ y. not (same_number (number_in y) s.number)) a, (λ i. outcome_here (o i) (memo_in (a i)))),
       unread_stay w w' k n ss x (or_snd (n == s.name) (is_in n (source_names ss)) h),
@@ -173,7 +173,7 @@ unread_past k n (s ∷ ss) h p =
     let off' : (s.name == n) ≡ false =
     elim (tested (s.name == n)) [ inr z ↦ z | inl z ↦ cc (sym off ∙ eq-eqb n s.name (sym (eqb-true s.name n z))) ] in
     let a : number_of (after_making k n) s.name ≡ number_of k s.name =
-    ap number_in (entry_more s.name k.entries (record { name = n; number = 0; memo = None }) off') in
+    ap number_in (found_more (λ (e : Entry). e.name) s.name k.entries (record { name = n; number = 0; memo = None }) off') in
     (subst (IsPast s.number) (sym a) p.0, unread_past k n ss (or_snd (n == s.name) (is_in n (source_names ss)) h) p.1)
 
 -- the making of anything under a name that wasn't given keeps memos sound
@@ -182,14 +182,14 @@ making_keeps : (hosts : Hosts) (w w' : Signals) (k : Memos) (n : ℕ) → IsMore
 making_keeps hosts w w' k n x new kept =
     let k' : Memos = after_making k n in
     let e0 : Entry = record { name = n; number = 0; memo = None } in
-    let mine : entry_at n k'.entries ≡ Some e0 = entry_new k.entries e0 new.entry in
+    let mine : entry_at n k'.entries ≡ Some e0 = found_new (λ (e : Entry). e.name) k.entries e0 new.entry in
     let le : k.generation ≤ k.generation = omega arith in
     let off : (m : ℕ) (e : Memo) → memo_of k' m ≡ Some e → (m == n) ≡ false = λ m e q. elim (tested (m == n)) [
       | inr z ↦ z
       | inl z ↦ let none : memo_of k' m ≡ None = ap (memo_of k') (eqb-true m n z) ∙ ap memo_in mine in cc (sym none ∙ q)
     ] in
     let old : (m : ℕ) (e : Memo) → memo_of k' m ≡ Some e →
-    memo_of k m ≡ Some e = λ m e q. sym (ap memo_in (entry_more m k.entries e0 (off m e q))) ∙ q in
+    memo_of k m ≡ Some e = λ m e q. sym (ap memo_in (found_more (λ (e : Entry). e.name) m k.entries e0 (off m e q))) ∙ q in
     let back : (m : ℕ) (c : Computed) (e : Memo) → standing w' m ≡ IsComputed c → memo_of k' m ≡ Some e →
     standing w m ≡ IsComputed c = λ m c e st q. sym (x.other m (off m e q)) ∙ st in
     record {
@@ -213,7 +213,7 @@ making_keeps hosts w w' k n x new kept =
       }) kept.sound;
       entries = record {
         entries = λ m. elim (tested (m == n)) [
-          | inr z ↦ ap has_entry (entry_more m k.entries e0 z) ∙ kept.entries.entries m ∙ ap is_there (sym (x.other m z))
+          | inr z ↦ ap has_entry (found_more (λ (e : Entry). e.name) m k.entries e0 z) ∙ kept.entries.entries m ∙ ap is_there (sym (x.other m z))
           | inl z ↦
               let e : m ≡ n = eqb-true m n z in
               ap (λ j. has_entry (entry_at j k'.entries)) e ∙ ap has_entry mine ∙ sym x.here ∙ ap (λ j. is_there (standing w' j)) (sym e)
@@ -238,8 +238,8 @@ cell_made : (w : Signals) (c : Cell) → standing w c.name ≡ IsGone → IsMore
 cell_made w c gone = record {
   gone = gone;
   here = ap (λ x. is_there (or_computed x (computed_at c.name w.computeds)))
-      (cell_new w.cells c (no_cell (cell_at c.name w.cells) (computed_at c.name w.computeds) gone));
-  other = λ m off. ap (λ x. or_computed x (computed_at m w.computeds)) (cell_more m w.cells c off);
+      (found_new (λ (c : Cell). c.name) w.cells c (no_cell (cell_at c.name w.cells) (computed_at c.name w.computeds) gone));
+  other = λ m off. ap (λ x. or_computed x (computed_at m w.computeds)) (found_more (λ (c : Cell). c.name) m w.cells c off);
 }
 
 -- a computed more stands
@@ -249,9 +249,9 @@ computed_made w c gone = record {
   here =
       let a : cell_at c.name w.cells ≡ None = no_cell (cell_at c.name w.cells) (computed_at c.name w.computeds) gone in
       let b : computed_at c.name (with_computed w c).computeds ≡ Some c =
-      computed_new w.computeds c (no_computed (cell_at c.name w.cells) (computed_at c.name w.computeds) gone) in
+      found_new (λ (c : Computed). c.name) w.computeds c (no_computed (cell_at c.name w.cells) (computed_at c.name w.computeds) gone) in
       (λ i. is_there (or_computed (a i) (b i)));
-  other = λ m off. ap (λ x. or_computed (cell_at m w.cells) x) (computed_more m w.computeds c off);
+  other = λ m off. ap (λ x. or_computed (cell_at m w.cells) x) (found_more (λ (c : Computed). c.name) m w.computeds c off);
 }
 
 -- the making of a cell keeps memos sound

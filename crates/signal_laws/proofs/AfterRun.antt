@@ -22,7 +22,7 @@ use Rattle.signal_model.specs.Laws.{IsRead}
 use Rattle.signal_model.proofs.Shared.{tested}
 use Rattle.signal_model.specs.Kept.{HaveEntries}
 use Rattle.signal_model.specs.Memos.{has_entry}
-use Rattle.signal_laws.proofs.LookUps.{entry_changed, entry_other, entry_same}
+use Rattle.signal_laws.proofs.LookUps.{found_changed, found_other, found_same}
 use Rattle.signal_laws.proofs.AfterChange.{some_mapped, Calm, calm_of, Stays, all_stay, above, moved_back, some_is}
 use Rattle.signal_laws.proofs.Lists.{in_head, in_tail}
 
@@ -35,12 +35,12 @@ new_memo k o ss = record { outcome = o; sources = ss; generation = k.generation;
 -- a run leaves the entry of another
 pub run_other : (k : Memos) (n : ℕ) (o : Outcome) (ss : List Source) (m : ℕ) → (m == n) ≡ false →
     entry_at m (with_memo k n o ss).entries ≡ entry_at m k.entries
-run_other k n o ss m off = entry_other m n (ran_entry (new_memo k o ss)) k.entries (λ q. refl) off
+run_other k n o ss m off = found_other (λ (e : Entry). e.name) m n (ran_entry (new_memo k o ss)) k.entries (λ q. refl) off
 
 -- and changes its own
 pub run_here : (k : Memos) (n : ℕ) (o : Outcome) (ss : List Source) (r : Entry) → entry_at n k.entries ≡ Some r →
     entry_at n (with_memo k n o ss).entries ≡ Some (ran_entry (new_memo k o ss) r)
-run_here k n o ss r at = entry_same n (ran_entry (new_memo k o ss)) k.entries r (λ q. refl) at
+run_here k n o ss r at = found_same (λ (e : Entry). e.name) n (ran_entry (new_memo k o ss)) k.entries r (λ q. refl) at
 
 -- which has the new memo
 pub run_memo : (k : Memos) (n : ℕ) (o : Outcome) (ss : List Source) (r : Entry) → entry_at n k.entries ≡ Some r →
@@ -109,7 +109,7 @@ past_self (Some n) = omega arith
 pub run_entries : (w : Signals) (k : Memos) (n : ℕ) (d : Computed) (o : Outcome) (ss : List Source) → standing w n ≡ IsComputed d → HaveEntries w k →
     HaveEntries w (with_memo k n o ss)
 run_entries w k n d o ss stands h = record {
-  entries = λ m. ap has_entry (entry_changed m n (ran_entry (new_memo k o ss)) k.entries (λ q. refl))
+  entries = λ m. ap has_entry (found_changed (λ (e : Entry). e.name) m n (ran_entry (new_memo k o ss)) k.entries (λ q. refl))
       ∙ some_mapped (λ e. cond (m == n) (ran_entry (new_memo k o ss) e) e) (entry_at m k.entries) ∙ h.entries m;
   memos = λ m e q. elim (tested (m == n)) [
     | inr off ↦ h.memos m e (sym (ap memo_in (run_other k n o ss m off)) ∙ q)

@@ -28,8 +28,7 @@ use Rattle.signal_model.specs.Kept.{AreGiven}
 use Rattle.signal_model.specs.Signals.{is_there}
 use Rattle.signal_laws.specs.ChangeLaws.{GivenNextLaw, GivenEmptyLaw, GivenMoreLaw, GivenCellLaw, GivenComputedLaw, GivenSetLaw, GivenRewireLaw, GivenDisposeLaw}
 use Rattle.signal_laws.specs.ChangeLaws.{GivenSettleLaw}
-use Rattle.signal_laws.proofs.LookUps.{entry_changed, entry_append, entry_out, entry_left, cell_append, cell_out, cell_left}
-use Rattle.signal_laws.proofs.LookUps.{computed_changed, computed_append, computed_out, computed_left}
+use Rattle.signal_laws.proofs.LookUps.{found_changed, found_append, found_out, found_left}
 use Rattle.signal_laws.proofs.AfterChange.{set_back, set_kind, rewire_kind}
 use Rattle.signal_laws.proofs.AfterRun.{new_memo, names_now}
 use Rattle.signal_laws.proofs.CleanVisits.{comp_is, is_in-read}
@@ -92,7 +91,7 @@ computed_more_there None None false c h = cc
 -- a new entry has no sources
 making_sources : (k : Memos) (n x : ℕ) → sources_of (after_making k n) x ≡ sources_of k x
 making_sources k n x =
-    ap (λ o. sources_in (memo_in o)) (entry_append x k.entries (record { name = n; number = 0; memo = None })) ∙ go (entry_at x k.entries) (x == n)
+    ap (λ o. sources_in (memo_in o)) (found_append (λ (e : Entry). e.name) x k.entries (record { name = n; number = 0; memo = None })) ∙ go (entry_at x k.entries) (x == n)
   where
     go : (o : Option Entry) (b : Bool) →
         sources_in (memo_in (option_or o (cond b (Some (record { name = n; number = 0; memo = None })) None))) ≡ sources_in (memo_in o)
@@ -104,13 +103,13 @@ making_sources k n x =
 pub given_cell_law : GivenCellLaw
 given_cell_law given w k c new g = record {
   names = λ n h. elim (cell_more_there (cell_at n w.cells) (computed_at n w.computeds) (n == c.name) c
-      (sym (ap (λ x. is_there (or_computed x (computed_at n w.computeds))) (cell_append n w.cells c)) ∙ h)) [
+      (sym (ap (λ x. is_there (or_computed x (computed_at n w.computeds))) (found_append (λ (c : Cell). c.name) n w.cells c)) ∙ h)) [
         | inl is ↦ ap given (eqb-true n c.name is) ∙ new
         | inr was ↦ g.names n was
       ];
   slots = λ n m d st on. g.slots n m d
       (cell_more_back (cell_at n w.cells) (computed_at n w.computeds) (n == c.name) c d
-      (sym (ap (λ x. or_computed x (computed_at n w.computeds)) (cell_append n w.cells c)) ∙ st)) on;
+      (sym (ap (λ x. or_computed x (computed_at n w.computeds)) (found_append (λ (c : Cell). c.name) n w.cells c)) ∙ st)) on;
   sources = λ n m on. g.sources n m (sym (ap (λ ss. is_in m (source_names ss)) (making_sources k c.name n)) ∙ on);
 }
 
@@ -118,12 +117,12 @@ given_cell_law given w k c new g = record {
 pub given_computed_law : GivenComputedLaw
 given_computed_law given w k c new slots g = record {
   names = λ n h. elim (computed_more_there (cell_at n w.cells) (computed_at n w.computeds) (n == c.name) c
-      (sym (ap (λ x. is_there (or_computed (cell_at n w.cells) x)) (computed_append n w.computeds c)) ∙ h)) [
+      (sym (ap (λ x. is_there (or_computed (cell_at n w.cells) x)) (found_append (λ (c : Computed). c.name) n w.computeds c)) ∙ h)) [
         | inl is ↦ ap given (eqb-true n c.name is) ∙ new
         | inr was ↦ g.names n was
       ];
   slots = λ n m d st on. elim (computed_more_back (cell_at n w.cells) (computed_at n w.computeds) (n == c.name) c d
-      (sym (ap (λ x. or_computed (cell_at n w.cells) x) (computed_append n w.computeds c)) ∙ st)) [
+      (sym (ap (λ x. or_computed (cell_at n w.cells) x) (found_append (λ (c : Computed). c.name) n w.computeds c)) ∙ st)) [
         | inl is ↦ slots m (ap (λ (x : Computed). is_in m x.recipe.slots) is ∙ on)
         | inr was ↦ g.slots n m d was on
       ];
@@ -136,7 +135,7 @@ given_computed_law given w k c new slots g = record {
 changed_sources : (g : Entry → Entry) → ((e : Entry) → sources_in (g e).memo ≡ sources_in e.memo) → ((e : Entry) → (g e).name ≡ e.name) →
     (n x : ℕ) (es : List Entry) →
     sources_in (memo_in (entry_at x (changed (λ (e : Entry). e.name) n g es))) ≡ sources_in (memo_in (entry_at x es))
-changed_sources g keeps same n x es = ap (λ o. sources_in (memo_in o)) (entry_changed x n g es same) ∙ go (entry_at x es) (x == n)
+changed_sources g keeps same n x es = ap (λ o. sources_in (memo_in o)) (found_changed (λ (e : Entry). e.name) x n g es same) ∙ go (entry_at x es) (x == n)
   where
     go : (o : Option Entry) (b : Bool) → sources_in (memo_in (option_map (λ e. cond b (g e) e) o)) ≡ sources_in (memo_in o)
     go None b = refl
@@ -170,7 +169,7 @@ pub given_rewire_law : GivenRewireLaw
 given_rewire_law given w k n r slots g = record {
   names = λ x h. g.names x ((rewire_kind w n r x).there ∙ h);
   slots = λ x m d st on. elim (recipe_back (cell_at x w.cells) (computed_at x w.computeds) (x == n) r d
-      (sym (ap (λ y. or_computed (cell_at x w.cells) y) (computed_changed x n (λ c. record c { recipe = r }) w.computeds (λ c. refl))) ∙ st)) [
+      (sym (ap (λ y. or_computed (cell_at x w.cells) y) (found_changed (λ (c : Computed). c.name) x n (λ c. record c { recipe = r }) w.computeds (λ c. refl))) ∙ st)) [
         | inl is ↦ slots m (ap (λ (y : Recipe). is_in m y.slots) (sym is) ∙ on)
         | inr was ↦ g.slots x m d was on
       ];
@@ -188,24 +187,24 @@ given_dispose_law given w k n g = record {
   ];
   slots = λ x m d st on. elim (tested (x == n)) [ inr off ↦ g.slots x m d (sym (other x off) ∙ st) on | inl is ↦ cc (sym (gone x is) ∙ st) ];
   sources = λ x m on. elim (tested (x == n)) [
-    | inr off ↦ g.sources x m (sym (ap (λ o. is_in m (source_names (sources_in (memo_in o)))) (entry_left x n k.entries off)) ∙ on)
+    | inr off ↦ g.sources x m (sym (ap (λ o. is_in m (source_names (sources_in (memo_in o)))) (found_left (λ (e : Entry). e.name) x n k.entries off)) ∙ on)
     | inl is ↦
         let none : entry_at x (after_disposal k n).entries ≡ None = ap (λ y. entry_at y (after_disposal k n).entries) (eqb-true x n is)
-        ∙ entry_out n k.entries in
+        ∙ found_out (λ (e : Entry). e.name) n k.entries in
         cc (sym (ap (λ o. is_in m (source_names (sources_in (memo_in o)))) none) ∙ on)
   ];
 }
   where
     other : (x : ℕ) → (x == n) ≡ false → standing (without_signal w n) x ≡ standing w x
     other x off =
-        let a : cell_at x (without_signal w n).cells ≡ cell_at x w.cells = cell_left x n w.cells off in
-        let b : computed_at x (without_signal w n).computeds ≡ computed_at x w.computeds = computed_left x n w.computeds off in
+        let a : cell_at x (without_signal w n).cells ≡ cell_at x w.cells = found_left (λ (c : Cell). c.name) x n w.cells off in
+        let b : computed_at x (without_signal w n).computeds ≡ computed_at x w.computeds = found_left (λ (c : Computed). c.name) x n w.computeds off in
         (λ i. or_computed (a i) (b i))
 
     gone : (x : ℕ) → (x == n) ≡ true → standing (without_signal w n) x ≡ IsGone
     gone x on =
-        let a : cell_at n (without_signal w n).cells ≡ None = cell_out n w.cells in
-        let b : computed_at n (without_signal w n).computeds ≡ None = computed_out n w.computeds in
+        let a : cell_at n (without_signal w n).cells ≡ None = found_out (λ (c : Cell). c.name) n w.cells in
+        let b : computed_at n (without_signal w n).computeds ≡ None = found_out (λ (c : Computed). c.name) n w.computeds in
         ap (standing (without_signal w n)) (eqb-true x n on) ∙ (λ i. or_computed (a i) (b i))
 
 -- ---- settling
@@ -247,7 +246,7 @@ run_sources k n x ran = elim (go (entry_at x k.entries) (x == n) refl) [ inl old
     eq : sources_of (with_run k n ran) x ≡ sources_in
         (memo_in (option_map (λ e. cond (x == n) (ran_entry (new_memo k ran.outcome (map (source_now k) ran.reads)) e) e) (entry_at x k.entries)))
     eq = ap (λ o. sources_in (memo_in o))
-        (entry_changed x n (ran_entry (new_memo k ran.outcome (map (source_now k) ran.reads))) k.entries (λ e. refl))
+        (found_changed (λ (e : Entry). e.name) x n (ran_entry (new_memo k ran.outcome (map (source_now k) ran.reads))) k.entries (λ e. refl))
 
     go : (o : Option Entry) (b : Bool) → (x == n) ≡ b →
         (sources_in (memo_in (option_map (λ e. cond b (ran_entry (new_memo k ran.outcome (map (source_now k) ran.reads)) e) e) o)) ≡ sources_in

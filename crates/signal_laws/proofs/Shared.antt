@@ -20,10 +20,7 @@ pub use Rattle.signal_laws.proofs.FirstNames.{firsts_hold_law, firsts_append_law
 pub use Rattle.signal_model.proofs.Shared.{either, or_left, or_right}
 pub use Rattle.signal_laws.proofs.FailedTests.{or_fst, or_snd, or_none, not_false}
 pub use Rattle.signal_laws.proofs.Lists.{all_append, all_snoc, in_head, in_tail, in_append}
-pub use Rattle.signal_laws.proofs.LookUps.{entry_changed, entry_other, entry_same, entry_out, entry_left, entry_append, entry_more, entry_new}
-pub use Rattle.signal_laws.proofs.LookUps.{cell_changed, cell_other, cell_out, cell_left, cell_append, cell_more, cell_new}
-pub use Rattle.signal_laws.proofs.LookUps.{computed_changed, computed_other, computed_out, computed_left, computed_append, computed_more}
-pub use Rattle.signal_laws.proofs.LookUps.{computed_new}
+pub use Rattle.signal_laws.proofs.LookUps.{found_changed, found_other, found_same, found_mapped, found_out, found_left, found_append, found_more, found_new}
 pub use Rattle.signal_laws.proofs.AfterChange.{SameKind, set_kind, set_back, rewire_kind, entry_there, some_is}
 -- ---- settling place by place
 

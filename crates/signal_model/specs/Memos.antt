@@ -3,7 +3,7 @@ use Rattle.std.specs.Prelude.{ℕ, ◌==◌, ◌||◌, not, Bool, true, false, L
 use Rattle.sig_base.specs.declared.value.Fault.TheVariants.{Cycle}
 use Rattle.sig_base.specs.declared.value.Outcome.{Outcome}
 use Rattle.sig_base.specs.declared.value.Outcome.TheVariants.{Bad}
-use Rattle.signal_model.specs.Signals.{is_in}
+use Rattle.signal_model.specs.Signals.{found, is_in}
 
 -- a source that was read, with its change number at that time, none for gone
 pub record Source : Type 0 where
@@ -30,8 +30,7 @@ pub record Memos : Type 0 where
 
 -- the entry of a name
 abbrev pub entry_at : ℕ → List Entry → Option Entry
-entry_at n [] = None
-entry_at n (e ∷ es) = if n == e.name then Some e else entry_at n es
+entry_at n es = found (λ (e : Entry). e.name) n es
 
 -- whether there is an entry
 abbrev pub has_entry : Option Entry → Bool

@@ -34,15 +34,18 @@ abbrev pub without : {A : Type 0} → (A → ℕ) → ℕ → List A → List A
 without name n [] = []
 without name n (x ∷ xs) = if n == name x then without name n xs else x ∷ without name n xs
 
+-- the first of a list that has a name
+abbrev pub found : {A : Type 0} → (A → ℕ) → ℕ → List A → Option A
+found name n [] = None
+found name n (x ∷ xs) = if n == name x then Some x else found name n xs
+
 -- the cell of a name
 abbrev pub cell_at : ℕ → List Cell → Option Cell
-cell_at n [] = None
-cell_at n (c ∷ cs) = if n == c.name then Some c else cell_at n cs
+cell_at n cs = found (λ (c : Cell). c.name) n cs
 
 -- the computed of a name
 abbrev pub computed_at : ℕ → List Computed → Option Computed
-computed_at n [] = None
-computed_at n (c ∷ cs) = if n == c.name then Some c else computed_at n cs
+computed_at n cs = found (λ (c : Computed). c.name) n cs
 
 -- what stands under a name
 pub data Stands : Type 0 where
@@ -69,6 +72,11 @@ abbrev pub is_there : Stands → Bool
 is_there IsGone = false
 is_there (IsCell c) = true
 is_there (IsComputed c) = true
+
+-- whether it is a cell
+abbrev pub is_cell : Stands → Bool
+is_cell (IsCell c) = true
+is_cell _ = false
 
 -- whether it is a computed
 abbrev pub is_computed : Stands → Bool

@@ -9,7 +9,7 @@ use Rattle.signal_model.specs.Sound.{IsPast, ArePast}
 use Rattle.signal_model.specs.Changes.{after_making, raised, after_change, memo_rewired, entry_rewired, after_rewiring, after_disposal}
 use Rattle.signal_model.specs.Kept.{AreKept}
 use Rattle.signal_model.proofs.Shared.{tested}
-use Rattle.signal_laws.proofs.Shared.{entry_there, entry_other, entry_same, entry_out, entry_left, entry_more, entry_new, in_head, in_tail}
+use Rattle.signal_laws.proofs.Shared.{entry_there, found_other, found_same, found_out, found_left, found_more, found_new, in_head, in_tail}
 use Rattle.effect_model.specs.declared.how.How.{How}
 use Rattle.effect_model.specs.declared.how.How.TheVariants.{Set, Rewire, Gone}
 use Rattle.why_model.specs.Facts.{Fact, was_changed, Found, last_run, is_rewire, moves}
@@ -90,9 +90,9 @@ had_entry hosts w k n kept there = kept.entries.entries n ∙ there
 pub tied_set_law : TiedSetLaw
 tied_set_law hosts given w k js n kept there t =
     let r : (r : Entry) × (entry_at n k.entries ≡ Some r) = entry_there w k n kept.entries there in
-    let after : entry_at n (after_change k n).entries ≡ Some (raised r.0) = entry_same n raised k.entries r.0 (λ q. refl) r.1 in
+    let after : entry_at n (after_change k n).entries ≡ Some (raised r.0) = found_same (λ (e : Entry). e.name) n raised k.entries r.0 (λ q. refl) r.1 in
     change_keeps k (after_change k n) js n Set given (record {
-      others = λ m off. entry_other m n raised k.entries (λ q. refl) off;
+      others = λ m off. found_other (λ (e : Entry). e.name) m n raised k.entries (λ q. refl) off;
       new = subst (λ x. IsNew x (number_of (after_change k n) n)) (sym (ap number_in r.1))
           (subst (IsNew (Some r.0.number)) (sym (ap number_in after)) (greater_new r.0.number 1 (omega arith)));
       own = λ h. ap memo_in after ∙ plain r.0.memo ∙ ap (marked false) (sym (ap memo_in r.1));
@@ -107,9 +107,9 @@ tied_set_law hosts given w k js n kept there t =
 pub tied_rewire_law : TiedRewireLaw
 tied_rewire_law hosts given w k js n kept there t =
     let r : (r : Entry) × (entry_at n k.entries ≡ Some r) = entry_there w k n kept.entries there in
-    let after : entry_at n (after_rewiring k n).entries ≡ Some (entry_rewired r.0) = entry_same n entry_rewired k.entries r.0 (λ q. refl) r.1 in
+    let after : entry_at n (after_rewiring k n).entries ≡ Some (entry_rewired r.0) = found_same (λ (e : Entry). e.name) n entry_rewired k.entries r.0 (λ q. refl) r.1 in
     change_keeps k (after_rewiring k n) js n Rewire given (record {
-      others = λ m off. entry_other m n entry_rewired k.entries (λ q. refl) off;
+      others = λ m off. found_other (λ (e : Entry). e.name) m n entry_rewired k.entries (λ q. refl) off;
       new = subst (λ x. IsNew x (number_of (after_rewiring k n) n)) (sym (ap number_in r.1))
           (subst (IsNew (Some r.0.number)) (sym (ap number_in after)) (greater_new r.0.number 1 (omega arith)));
       own = λ h. ap memo_in after ∙ mark r.0.memo ∙ ap (marked true) (sym (ap memo_in r.1));
@@ -124,9 +124,9 @@ tied_rewire_law hosts given w k js n kept there t =
 pub tied_dispose_law : TiedDisposeLaw
 tied_dispose_law hosts given w k js n kept there t =
     let r : (r : Entry) × (entry_at n k.entries ≡ Some r) = entry_there w k n kept.entries there in
-    let out : entry_at n (after_disposal k n).entries ≡ None = entry_out n k.entries in
+    let out : entry_at n (after_disposal k n).entries ≡ None = found_out (λ (e : Entry). e.name) n k.entries in
     change_keeps k (after_disposal k n) js n Gone given (record {
-      others = λ m off. entry_left m n k.entries off;
+      others = λ m off. found_left (λ (e : Entry). e.name) m n k.entries off;
       new = subst (λ x. IsNew x (number_of (after_disposal k n) n)) (sym (ap number_in r.1))
           (subst (IsNew (Some r.0.number)) (sym (ap number_in out)) (none_new r.0.number));
       own = λ h. absurd (gone h);
@@ -134,7 +134,7 @@ tied_dispose_law hosts given w k js n kept there t =
     }) kept.sound.past t
   where
     gone : has_entry (entry_at n (after_disposal k n).entries) ≡ true → ⊥
-    gone h = let q : has_entry None ≡ true = sym (ap has_entry (entry_out n k.entries)) ∙ h in cc
+    gone h = let q : has_entry None ≡ true = sym (ap has_entry (found_out (λ (e : Entry). e.name) n k.entries)) ∙ h in cc
 
 -- nothing is kept of nothing
 pub tied_empty_law : TiedEmptyLaw
@@ -195,18 +195,18 @@ tied_make_law hosts given w k js n kept names off t = record {
     same s was = by (s.name == n) refl
       where
         by : (b : Bool) → (s.name == n) ≡ b → differs (after_making k n) s ≡ differs k s
-        by false e = ap (λ x. not (same_number (number_in x) s.number)) (entry_more s.name k.entries (record { name = n; number = 0; memo = None }) e)
+        by false e = ap (λ x. not (same_number (number_in x) s.number)) (found_more (λ (e : Entry). e.name) s.name k.entries (record { name = n; number = 0; memo = None }) e)
         by true e = let q : true ≡ false = sym was ∙ ap given (eqb-true s.name n e) ∙ off in cc
 
     go : (m : ℕ) (b : Bool) → (m == n) ≡ b → has_entry (entry_at m (after_making k n).entries) ≡ true →
         IsTied (after_making k n) js m (memo_of (after_making k n) m) (last_run m js)
     go m false e there =
-        let as_was : entry_at m (after_making k n).entries ≡ entry_at m k.entries = entry_more m k.entries (record { name = n; number = 0; memo = None }) e in
+        let as_was : entry_at m (after_making k n).entries ≡ entry_at m k.entries = found_more (λ (e : Entry). e.name) m k.entries (record { name = n; number = 0; memo = None }) e in
         subst (λ x. IsTied (after_making k n) js m x (last_run m js)) (sym (ap memo_in as_was))
         (tied_same k (after_making k n) js m (memo_of k m) (last_run m js) (λ s i. same s (names.sources m s.name i))
         (t.tied m (sym (ap has_entry as_was) ∙ there)))
     go m true e there =
-        let own : memo_of (after_making k n) n ≡ None = ap memo_in (entry_new k.entries (record { name = n; number = 0; memo = None }) none) in
+        let own : memo_of (after_making k n) n ≡ None = ap memo_in (found_new (λ (e : Entry). e.name) k.entries (record { name = n; number = 0; memo = None }) none) in
         let q : n ≡ m = sym (eqb-true m n e) in
         subst (λ x. IsTied (after_making k n) js x (memo_of (after_making k n) x) (last_run x js)) q
         (subst (λ x. IsTied (after_making k n) js n x (last_run n js)) (sym own)

@@ -2,7 +2,7 @@ use Rattle.std.proofs.Common.{arith, Bool, length, map, sym}
 use Rattle.std.specs.List.{filter}
 use Rattle.effect_model.specs.Worlds as told
 use Rattle.effect_tables.specs.Placed.{effect_of}
-use Rattle.effect_tables.specs.declared.tables.TheConstants.{MOST_EFFECTS}
+use Rattle.effect_model.specs.declared.limits.TheConstants.{MOST_EFFECTS}
 use Rattle.live_entries.specs.declared.refusal.LimitWord.TheVariants as limit
 use Rattle.live_labels.specs.Views.{labels_of}
 use Rattle.live_model.specs.Labels.{is_named, label_at}

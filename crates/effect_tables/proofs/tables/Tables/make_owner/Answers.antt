@@ -1,7 +1,7 @@
 use Rattle.std.proofs.Common.{◌≡◌, ◌<◌, ◌≤◌, true, refl, subst, ◌∙◌, rules}
 use Rattle.std.specs.Prelude.{IsErrOf}
 use Rattle.sig_owner.specs.declared.errors.OwnFault.TheVariants as fault
-use Rattle.sig_owner.specs.declared.limits.TheConstants.{MOST_OWNERS}
+use Rattle.effect_model.specs.declared.limits.TheConstants.{MOST_OWNERS}
 use Rattle.effect_tables.specs.declared.tables.Tables.{Tables}
 use Rattle.effect_tables.specs.Owners.{living}
 use Rattle.effect_tables.specs.Placed.{is_open}

@@ -1,9 +1,8 @@
 use Rattle.std.proofs.Common.{[], refl, ap}
 use Rattle.effect_model.specs.Commands.{with_new_effect}
 use Rattle.effect_tables.specs.Bodies.{body_of}
-use Rattle.effect_model.specs.Owners.{the_effect}
+use Rattle.effect_model.specs.Owners.{the_effect, listed}
 use Rattle.effect_model.specs.Worlds as plain
-use Rattle.effect_tables.specs.Placed.{listed}
 use Rattle.sig_effect.specs.Wholes as wholes
 use Rattle.effect_world.specs.declared.world.World.{World}
 use Rattle.effect_world.specs.Wholes.{stores_of}

@@ -1,8 +1,7 @@
 use Rattle.std.proofs.Common.{[], refl, ap, length}
 use Rattle.effect_model.specs.Commands.{with_new_owner}
-use Rattle.effect_model.specs.Owners.{the_owner}
+use Rattle.effect_model.specs.Owners.{the_owner, listed}
 use Rattle.effect_model.specs.Worlds as plain
-use Rattle.effect_tables.specs.Placed.{listed}
 use Rattle.sig_effect.specs.Wholes as wholes
 use Rattle.effect_world.specs.declared.world.World.{World}
 use Rattle.effect_world.specs.Wholes.{stores_of}

@@ -6,7 +6,8 @@ use Rattle.live_entries.specs.declared.refusal.LimitWord.TheVariants as limit
 use Rattle.sig_base.specs.Values.{scalar_value}
 use Rattle.signal_model.specs.Signals.{Cell}
 use Rattle.effect_model.specs.Commands.{with_new_cell}
-use Rattle.effect_tables.specs.Placed.{at_rest, is_open}
+use Rattle.effect_model.specs.Worlds.{at_rest}
+use Rattle.effect_tables.specs.Placed.{is_open}
 use Rattle.effect_world.specs.Wholes.{whole_of}
 use Rattle.live_cmd.specs.declared.command.Command.TheVariants as command
 use Rattle.live_model.specs.declared.names.Kind.TheVariants as kind

@@ -8,7 +8,8 @@ use Rattle.signal_model.specs.Recipes.{Recipe}
 use Rattle.signal_model.specs.Signals.{Computed}
 use Rattle.effect_model.specs.Acts.{host_of, with_use}
 use Rattle.effect_model.specs.Commands.{with_new_computed}
-use Rattle.effect_tables.specs.Placed.{at_rest, is_open}
+use Rattle.effect_model.specs.Worlds.{at_rest}
+use Rattle.effect_tables.specs.Placed.{is_open}
 use Rattle.sig_nodes.specs.Answers.{expression_of}
 use Rattle.sig_nodes.specs.Computations.{recipe_made}
 use Rattle.sig_nodes.specs.States.{is_given}

@@ -1,5 +1,6 @@
 use Rattle.effect_tables.specs.Owners.{living}
-use Rattle.effect_tables.specs.Placed.{at_rest, is_open}
+use Rattle.effect_model.specs.Worlds.{at_rest}
+use Rattle.effect_tables.specs.Placed.{is_open}
 use Rattle.live_cmd.specs.declared.command.Command.TheVariants as command
 use Rattle.live_model.specs.declared.names.Need.TheVariants as need
 use Rattle.live_core.proofs.Rightly.{inside_open, neither, new_name, refused_at, uses_fine}

@@ -7,7 +7,8 @@ use Rattle.sig_base.specs.declared.value.Value.TheVariants as value
 use Rattle.live_model.specs.Rows.{no_rows}
 use Rattle.signal_model.specs.Signals.{Cell}
 use Rattle.effect_model.specs.Commands.{with_new_cell}
-use Rattle.effect_tables.specs.Placed.{at_rest, is_open}
+use Rattle.effect_model.specs.Worlds.{at_rest}
+use Rattle.effect_tables.specs.Placed.{is_open}
 use Rattle.effect_world.specs.Wholes.{whole_of}
 use Rattle.live_cmd.specs.declared.command.Command.TheVariants as command
 use Rattle.live_model.specs.declared.names.Kind.TheVariants as kind

@@ -1,5 +1,6 @@
 use Rattle.effect_tables.specs.Owners.{living}
-use Rattle.effect_tables.specs.Placed.{at_rest, is_open}
+use Rattle.effect_model.specs.Worlds.{at_rest}
+use Rattle.effect_tables.specs.Placed.{is_open}
 use Rattle.live_cmd.specs.declared.command.Command.TheVariants as command
 use Rattle.live_model.specs.declared.names.Need.TheVariants as need
 use Rattle.live_core.proofs.Rightly.{inside_open, neither, new_name, refused_at, uses_fine}
@@ -11,7 +12,7 @@ use Rattle.live_model.specs.declared.names.Kind.TheVariants as kind
 use Rattle.live_model.specs.Links.{owner_of}
 use Rattle.live_labels.specs.Views.{labels_of}
 use Rattle.live_entries.specs.declared.refusal.LimitWord.TheVariants as limit
-use Rattle.sig_owner.specs.declared.limits.TheConstants.{MOST_OWNERS}
+use Rattle.effect_model.specs.declared.limits.TheConstants.{MOST_OWNERS}
 use Rattle.live_core.proofs.Commands.{room_below}
 use Rattle.live_core.proofs.Creations.{leaves_other, other_owner, steps_named}
 use Rattle.live_core.proofs.machine.Machine.make_owner.Goals as goal

@@ -1,6 +1,6 @@
 use Rattle.std.proofs.Common.{◌∙◌, ◌∷◌, [], ◌++◌, ◌+◌, Bool, ap, arith}
 use Rattle.effect_model.specs.Commands.{with_new_watcher}
-use Rattle.effect_tables.specs.Placed.{at_rest}
+use Rattle.effect_model.specs.Worlds.{at_rest}
 use Rattle.effect_world.specs.Wholes.{whole_of}
 use Rattle.live_model.specs.declared.names.Kind.TheVariants as kind
 use Rattle.live_model.specs.Machine.{is_trying}

@@ -1,10 +1,10 @@
 use Rattle.sig_nodes.proofs.KeptFinds.{raised_kept}
 use Rattle.sig_nodes.proofs.KeptMarks.{same_table, set_kept}
 use Rattle.std.proofs.Common.{refl, ◌+◌, ◌<◌, List, length, sym, ap, ◌∙◌, subst, arith}
-use Rattle.signal_model.specs.Signals.{standing}
+use Rattle.signal_model.specs.Signals.{standing, is_cell}
 use Rattle.sig_nodes.specs.declared.node.Node.{Node}
 use Rattle.sig_nodes.specs.Answers.{value_here}
-use Rattle.sig_nodes.specs.States.{Seen, is_cell, with_set}
+use Rattle.sig_nodes.specs.States.{Seen, with_set}
 use Rattle.sig_nodes.specs.Places.{NodesAgree, KeepsMarks}
 use Rattle.sig_nodes.specs.Nodes.{changed_at, set_node, state_of}
 use Rattle.sig_nodes.proofs.Edits.{changed_length, set_state}

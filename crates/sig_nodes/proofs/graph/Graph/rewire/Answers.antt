@@ -1,11 +1,11 @@
 use Rattle.sig_nodes.proofs.KeptFinds.{raised_kept}
 use Rattle.sig_nodes.proofs.KeptMarks.{rewired_kept, same_table}
 use Rattle.std.proofs.Common.{◌+◌, ◌<◌, ◌∷◌, List, length, refl, sym, ap, ◌∙◌, subst}
-use Rattle.signal_model.specs.Signals.{standing}
+use Rattle.signal_model.specs.Signals.{standing, is_cell}
 use Rattle.sig_nodes.specs.declared.node.Node.{Node}
 use Rattle.sig_nodes.specs.Answers.{expression_of, host_here}
 use Rattle.sig_nodes.specs.Computations.{recipe_made}
-use Rattle.sig_nodes.specs.States.{Seen, is_cell, with_rewiring}
+use Rattle.sig_nodes.specs.States.{Seen, with_rewiring}
 use Rattle.sig_nodes.specs.Places.{NodesAgree, KeepsMarks}
 use Rattle.sig_nodes.specs.Nodes.{body_at, changed_at, is_live_body, rewired_node, are_live_bodies, state_of}
 use Rattle.sig_nodes.proofs.Parts.{stands}
