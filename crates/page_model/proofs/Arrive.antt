@@ -1,12 +1,13 @@
 -- The steps lead from the old children to the new ones.
 use Rattle.std.proofs.Common.{◌≡◌, ℕ, suc, ◌+◌, ◌==◌, true, false, ◌||◌, refl, sym, ap, ◌∙◌, arith, Some, leb, ltb, if◌then◌else◌, eqb-true, eq-eqb, inl, inr}
-use Rattle.std.proofs.lemmas.Bool.{cases_Bool, false≢true, le-leb, lt-ltb}
+use Rattle.std.proofs.lemmas.Bool.{cases_Bool, false≢true, le-leb, lt-ltb, or_right}
 use Rattle.page_model.specs.Forest.{Forest, none, node, after, count, has, only, without, stands}
 use Rattle.page_model.proofs.Facts.{take_steps, led, Apart, steps}
 use Rattle.page_model.proofs.Siblings.{after_assoc, count_after, has_after, put_after, stands_after, only_after, without_after, count_only, has_only, has_without, only_without, front_again, some_there}
+use Rattle.page_model.proofs.Everywhere.{flipped}
 
-pub later_has : {A : Type 0} (n m : ℕ) (x : A) (k r : Forest A) → has m r ≡ true → has m (node n x k r) ≡ true
-later_has n m x k r e = elim (cases_Bool (n == m)) [ inl d ↦ rw d | inr d ↦ rw d e ]
+pub later_in : {A : Type 0} (n m : ℕ) (x : A) (k r : Forest A) → has m r ≡ true → has m (node n x k r) ≡ true
+later_in n m x k r e = or_right (n == m) (has m r) e
 
 -- `led` looks only at the keys of the new children
 pub led_same : {A : Type 0} (now now' new : Forest A) → ((m : ℕ) → has m new ≡ true → has m now' ≡ has m now) → ((m : ℕ) → has m new ≡ true → only m now' ≡ only m now) → led now' new ≡ led now new
@@ -15,7 +16,7 @@ led_same now now' (node n x k r) h o =
     let here : (n == n) ≡ true = eq-eqb n n refl in
     let hn : has n now' ≡ has n now = h n (rw here refl) in
     let on : only n now' ≡ only n now = o n (rw here refl) in
-    let later : (m : ℕ) → has m r ≡ true → has m (node n x k r) ≡ true = λ m e. later_has n m x k r e in
+    let later : (m : ℕ) → has m r ≡ true → has m (node n x k r) ≡ true = λ m e. later_in n m x k r e in
     rw (hn, on) (ap (after (if has n now then only n now else node n x k none)) (led_same now now' r (λ m e. h m (later m e)) (λ m e. o m (later m e))))
 
 -- a key of the later children isn't that of the first
@@ -30,17 +31,11 @@ pub empty : {A : Type 0} (xs : Forest A) → ((m : ℕ) → has m xs ≡ true �
 empty none h = refl
 empty (node n x k r) h = absurd (false≢true (h n (rw (eq-eqb n n refl) refl)))
 
-eq_other : (n m : ℕ) → (m == n) ≡ false → (n == m) ≡ false
-eq_other n m d = elim (cases_Bool (n == m)) [
-  | inl e ↦ (let s : n ≡ m = eqb-true n m e in absurd (false≢true (sym d ∙ eq-eqb m n (sym s))))
-  | inr e ↦ e
-]
-
 pub apart_without : {A : Type 0} (n : ℕ) (xs : Forest A) → Apart xs → Apart (without n xs)
 apart_without n none a = a
 apart_without n (node m x k r) a = elim (cases_Bool (m == n)) [
   | inl d ↦ rw d a.1
-  | inr d ↦ rw d (has_without n m r (eq_other n m d) ∙ a.0, apart_without n r a.1)
+  | inr d ↦ rw d (has_without n m r (flipped m n d) ∙ a.0, apart_without n r a.1)
 ]
 
 -- a key taken out of distinct ones is there no more
@@ -75,7 +70,7 @@ arrive done rest (node n x k r) ar an clear cover =
           let g : has n rest' ≡ false = gone n rest ar in
           let same : led rest' r ≡ led rest r = led_same rest rest' r (λ m i. has_without n m rest (other n m r an.0 i)) (λ m i. only_without n m rest (other n m r an.0 i)) in
           let ih = arrive (after done sub) rest' r (apart_without n rest ar) an.1
-          (λ m i. has_after m done sub ∙ (rw (clear m (later_has n m x k r i)) (has_only n m rest e ∙ other n m r an.0 i)))
+          (λ m i. has_after m done sub ∙ (rw (clear m (later_in n m x k r i)) (has_only n m rest e ∙ other n m r an.0 i)))
           (λ m i. let d : (n == m) ≡ false = other n m rest' g i in rw d at (cover m (sym (has_without n m rest d) ∙ i))) in
           let next = onward done sub rest' rest r (count_only n rest e) same ih in
           rw (h, e) (elim (cases_Bool (stands n 0 rest)) [
@@ -88,7 +83,7 @@ arrive done rest (node n x k r) ar an clear cover =
           let h : has n (after done rest) ≡ false = hn ∙ e in
           let sub = node n x k none in
           let ih = arrive (after done sub) rest r ar an.1
-          (λ m i. has_after m done sub ∙ (rw (clear m (later_has n m x k r i)) (rw (other n m r an.0 i) refl)))
+          (λ m i. has_after m done sub ∙ (rw (clear m (later_in n m x k r i)) (rw (other n m r an.0 i) refl)))
           (λ m i. rw (other n m rest e i) at (cover m i)) in
           let next = onward done sub rest rest r refl refl ih in
           let room : leb (count done) (count (after done rest)) ≡ true = le-leb _ _ (omega (arith, total)) in

@@ -1,11 +1,10 @@
 -- How far below the root the nodes stand, and which can hold children.
 use Rattle.std.proofs.Common.{◌≡◌, ℕ, zero, suc, ◌+◌, ◌<◌, ◌≤◌, ◌==◌, Bool, true, false, ◌||◌, refl, sym, ap, subst, ◌∙◌, arith, eqb-true, eq-eqb, inl, inr, Some, None, List, [], ◌∷◌, leb, ltb, not, ◌&&◌}
-use Rattle.std.proofs.lemmas.Bool.{cases_Bool, false≢true}
+use Rattle.std.proofs.lemmas.Bool.{cases_Bool, false≢true, or_left, or_right}
 use Rattle.page_model.specs.Forest.{Forest, none, node, after, count, has, only, without, put, stands, moved, on, kids, label_in, depth, at}
 use Rattle.page_model.specs.Labels.{Root, Kind, holds}
 use Rattle.page_model.specs.Replay.{first_deep}
 use Rattle.page_model.proofs.Facts.{take_step, Step, Insert, Move, steps, led_by}
-use Rattle.page_model.proofs.Everywhere.{or_left, or_right}
 use Rattle.page_model.proofs.Lists.{when, not_ltb}
 
 -- each node stands as many steps below the root as `lev` says, and can hold children where `hold` says so

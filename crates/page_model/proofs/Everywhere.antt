@@ -1,6 +1,6 @@
 -- Arranging one parent after the other, in any order, arranges all.
 use Rattle.std.proofs.Common.{◌≡◌, ℕ, ◌==◌, Bool, true, false, ◌||◌, refl, sym, ap, ◌∙◌, if◌then◌else◌, eqb-true, eq-eqb, inl, inr, List, [], ◌∷◌}
-use Rattle.std.proofs.lemmas.Bool.{cases_Bool, false≢true, true≢false}
+use Rattle.std.proofs.lemmas.Bool.{cases_Bool, false≢true, true≢false, or_left, or_right}
 use Rattle.page_model.specs.Forest.{Forest, none, node, after, only, on, at}
 use Rattle.page_model.specs.Edits.{listed}
 use Rattle.page_model.proofs.Facts.{arrange, as_was, Single, Knows, Clear, Matches, Once, led_by}
@@ -19,23 +19,25 @@ flipped m p h = elim (cases_Bool (p == m)) [
   | inr e ↦ e
 ]
 
-pub or_right : (a b : Bool) → b ≡ true → (a || b) ≡ true
-or_right true b h = refl
-or_right false b h = h
-
-pub or_left : (a b : Bool) → a ≡ true → (a || b) ≡ true
-or_left true b h = refl
-or_left false b h = absurd (false≢true h)
-
 pub not_same : (p q : ℕ) (ps : List ℕ) → listed p ps ≡ false → listed q ps ≡ true → (p == q) ≡ false
 not_same p q ps n h = elim (cases_Bool (p == q)) [
   | inl e ↦ (let d : p ≡ q = eqb-true p q e in absurd (false≢true (sym n ∙ ap (λ i. listed i ps) d ∙ h)))
   | inr e ↦ e
 ]
 
-abbrev reversed_onto : List ℕ → List ℕ → List ℕ
+abbrev pub reversed_onto : List ℕ → List ℕ → List ℕ
 reversed_onto [] ds = ds
 reversed_onto (p ∷ ps) ds = reversed_onto ps (p ∷ ds)
+
+turned : (a b c : Bool) → (a || (b || c)) ≡ ((b || a) || c)
+turned true true c = refl
+turned true false c = refl
+turned false true c = refl
+turned false false c = refl
+
+pub listed_joined : (m : ℕ) (ns es : List ℕ) → listed m (reversed_onto ns es) ≡ (listed m ns || listed m es)
+listed_joined m [] es = refl
+listed_joined m (n ∷ ns) es = listed_joined m ns (n ∷ es) ∙ turned (listed m ns) (n == m) (listed m es)
 
 pub at_after : {A : Type 0} (p : ℕ) (f : Forest A → Forest A) (xs ys : Forest A) → at p f (after xs ys) ≡ after (at p f xs) (at p f ys)
 at_after p f none ys = refl
@@ -100,13 +102,6 @@ all_from kept look (p ∷ ps) ds o n c xs s =
     (λ q h. rw (not_same p q ps o.0 h) (n q (or_right (p == q) (listed q ps) h)))
     (λ q i h. c q i (or_right (p == q) (listed q ps) h)) xs s
 
-listed_joined : (m : ℕ) (ps ds : List ℕ) → (listed m ps || listed m ds) ≡ true → listed m (reversed_onto ps ds) ≡ true
-listed_joined m [] ds h = h
-listed_joined m (p ∷ ps) ds h = listed_joined m ps (p ∷ ds) (elim (cases_Bool (p == m)) [
-  | inl e ↦ rw e (or_right (listed m ps) true refl)
-  | inr e ↦ rw e (rw e at h)
-])
-
 rebuild_same : {A : Type 0} (g g' : ℕ → Forest A → Forest A) (xs : Forest A) → ((m : ℕ) → on m xs ≡ true → (now : Forest A) → g m now ≡ g' m now) → rebuild g xs ≡ rebuild g' xs
 rebuild_same g g' none h = refl
 rebuild_same g g' (node m x k r) h =
@@ -140,5 +135,5 @@ pub arranged : {A : Type 0} (kept : ℕ → Bool) (look : ℕ → Forest A) (lab
 arranged kept look label ps x old new o s all c root kn mt =
     let t = node 0 x old none in
     let a = ap (arrange kept look ps) (sym (rebuild_none kept look t)) ∙ all_from kept look ps [] o (λ p h. refl) c t s in
-    let b = rebuild_same (step kept look (reversed_onto ps [])) (λ m now. led_by kept now (look m)) t (λ m h now. (let l = listed_joined m ps [] (or_left (listed m ps) false (all m h)) in rw l refl)) in
+    let b = rebuild_same (step kept look (reversed_onto ps [])) (λ m now. led_by kept now (look m)) t (λ m h now. (let l = listed_joined m ps [] ∙ or_left (listed m ps) false (all m h) in rw l refl)) in
     a ∙ (b ∙ (rw (root, comes kept look label old new kn mt) refl))

@@ -6,7 +6,7 @@ use lib.Utf8.{encode}
 use Rattle.html_out.specs.Html.{attribute, escaped, escaped_value, is_raw, is_void}
 use Rattle.page_model.specs.Forest.{Forest, none, node}
 use Rattle.page_model.specs.Labels.{Root, Text, Element, Label, Kind, Look}
-use Rattle.page_model.specs.Replay.{Op, OpRemove, OpInsert, OpMove, OpText, OpAttr, OpUnattr}
+use Rattle.page_model.specs.Replay.{OpRemove, OpInsert, OpMove, OpText, OpAttr, OpUnattr}
 use Rattle.page_model.specs.Pages.{NumberedPage, bare, renumbered, edits_between, tree_of}
 use Rattle.page_model.specs.Html.{html_of}
 

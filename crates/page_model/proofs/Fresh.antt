@@ -1,20 +1,21 @@
 -- The order of the new addresses has each of them once.
-use Rattle.std.proofs.Common.{◌≡◌, ℕ, zero, suc, ◌+◌, ◌-◌, ◌<◌, ◌≤◌, ◌==◌, Bool, true, false, ◌||◌, ◌&&◌, not, refl, sym, ap, ◌∙◌, arith, leb, if◌then◌else◌, eqb-true, eq-eqb, inl, inr, List, [], ◌∷◌, ◌++◌, length}
+use Rattle.std.proofs.Common.{◌≡◌, ℕ, zero, suc, ◌+◌, ◌-◌, ◌<◌, ◌≤◌, ◌==◌, Bool, true, false, refl, sym, ap, ◌∙◌, arith, leb, eqb-true, eq-eqb, inl, inr, List, [], ◌∷◌, ◌++◌, length}
 use Rattle.std.specs.List.{flat_map}
-use Rattle.std.proofs.lemmas.Bool.{cases_Bool, false≢true, or_cases}
-use Rattle.page_model.specs.Forest.{Forest, none, node, has, on, one, tally, keys, kids, parent}
-use Rattle.page_model.specs.Labels.{Root, Look}
+use Rattle.std.proofs.lemmas.Bool.{cases_Bool, false≢true, or_cases, or_left, or_right}
+use Rattle.page_model.specs.Forest.{Forest, none, node, on, one, tally, keys, kids}
+use Rattle.page_model.specs.Labels.{Look}
 use Rattle.page_model.specs.Edits.{listed}
-use Rattle.page_model.specs.Pages.{NumberedPage, carried, looks, page_shape, number_of, into_by, ascending_by, newcomers, those, new_order, IsPage, IsShape, SameOrigin, place_in, renumbered}
+use Rattle.page_model.specs.Pages.{NumberedPage, looks, page_shape, number_of, into_by, ascending_by, newcomers, those, new_order, IsPage, IsShape, SameOrigin, place_in, renumbered}
 use Rattle.page_model.proofs.Facts.{Once, Knows}
-use Rattle.page_model.proofs.Everywhere.{or_false, or_left, or_right, not_same}
-use Rattle.page_model.proofs.Tally.{parent_is, tally_on}
-use Rattle.page_model.proofs.Linked.{has_on, on_kids, first_in, later_in, knows}
+use Rattle.page_model.proofs.Everywhere.{not_same}
+use Rattle.page_model.proofs.Tally.{tally_on}
+use Rattle.page_model.proofs.Linked.{knows}
 use Rattle.page_model.proofs.Orders.{in_keys, once_keys}
 use Rattle.page_model.proofs.Removals.{in_both}
-use Rattle.page_model.proofs.Newcomers.{in_into_by, in_ascending_by}
+use Rattle.page_model.proofs.Newcomers.{in_into_by, in_ascending_by, from_those}
 use Rattle.page_model.proofs.Whole.{over, over_none, over_one}
 use Rattle.page_model.proofs.Updates.{parent_at, new_number, number_after}
+use Rattle.page_model.proofs.Gone.{New, all_gone}
 
 -- a sum over a list
 abbrev pub measure : (ℕ → ℕ) → List ℕ → ℕ
@@ -28,11 +29,6 @@ measure_both v (x ∷ xs) ys = omega (arith, measure_both v xs ys)
 measure_flat : (v : ℕ → ℕ) (f : ℕ → List ℕ) (ps : List ℕ) → measure v (flat_map f ps) ≡ measure (λ p. measure v (f p)) ps
 measure_flat v f [] = refl
 measure_flat v f (p ∷ ps) = measure_both v (f p) (flat_map f ps) ∙ ap (λ i. measure v (f p) + i) (measure_flat v f ps)
-
--- below a new node all are new
-abbrev New : {A : Type 0} → (ℕ → Bool) → Forest A → Type 0
-New kept none = Unit {0}
-New kept (node m x k r) = (kept m ≡ false → (j : ℕ) → on j k ≡ true → kept j ≡ false) × New kept k × New kept r
 
 fits : {A : Type 0} (v : ℕ → ℕ) (kept : ℕ → Bool) (look : ℕ → Forest A) (t : Forest A) → Knows look t → New kept t → over kept (λ m. measure v (newcomers kept (look m))) [] t + measure v (newcomers kept t) ≤ measure v (keys t)
 fits v kept look none kn w = omega arith
@@ -74,16 +70,6 @@ once_ascending_by : (num : ℕ → ℕ) (ns : List ℕ) → Once ns → Once (as
 once_ascending_by num [] o = tt
 once_ascending_by num (n ∷ ns) o = once_into num n (ascending_by num ns) (in_ascending_by num n ns ∙ o.0) (once_ascending_by num ns o.1)
 
-from_those : (test : ℕ → Bool) (j : ℕ) (ns : List ℕ) → listed j (those test ns) ≡ true → (listed j ns ≡ true) × (test j ≡ true)
-from_those test j [] h = absurd (false≢true h)
-from_those test j (n ∷ ns) h = elim (cases_Bool (test n)) [
-  | inl e ↦ elim (cases_Bool (n == j)) [
-    | inl f ↦ (let q : n ≡ j = eqb-true n j f in (rw f refl, ap test (sym q) ∙ e))
-    | inr f ↦ (let i = from_those test j ns (rw (e, f) at h) in (rw f i.0, i.1))
-  ]
-  | inr e ↦ (let i = from_those test j ns (rw e at h) in (or_right (n == j) (listed j ns) i.0, i.1))
-]
-
 once_those : (test : ℕ → Bool) (ns : List ℕ) → Once ns → Once (those test ns)
 once_those test [] o = tt
 once_those test (n ∷ ns) o = elim (cases_Bool (test n)) [
@@ -93,35 +79,12 @@ once_those test (n ∷ ns) o = elim (cases_Bool (test n)) [
 
 -- ---- new nodes
 
-new_below : (old : NumberedPage) (shape : Forest Look) → IsPage old → IsShape shape → SameOrigin (page_shape old) shape → (m : ℕ) → on m shape ≡ true → on m (page_shape old) ≡ false → (k : Forest Look) → ((j : ℕ) → has j k ≡ true → has j (kids m shape) ≡ true) → Knows (λ i. kids i shape) k → (j : ℕ) → on j k ≡ true → on j (page_shape old) ≡ false
-new_below old shape p s o m u z none h kn j i = absurd (false≢true i)
-new_below old shape p s o m u z (node n x k r) h kn j i =
-    let hn = h n (first_in n x k r) in
-    let un : on n shape ≡ true = on_kids m n shape (has_on n (kids m shape) hn) in
-    let zn : on n (page_shape old) ≡ false = elim (cases_Bool (on n (page_shape old))) [
-      | inl e ↦ (
-          let a : parent n shape ≡ m = parent_is m n shape (s.once n) u hn in
-          let b : parent n (page_shape old) ≡ m = o.parents n e un ∙ a in
-          let c : on (parent n (page_shape old)) (page_shape old) ≡ true = parent_at n (page_shape old) (looks p.rooted.below) (ap looks p.rooted.is) p.once e in
-          let d : on m (page_shape old) ≡ true = ap (λ q. on q (page_shape old)) (sym b) ∙ c in
-          absurd (false≢true (sym z ∙ d)))
-      | inr e ↦ e
-    ] in
-    elim (or_cases (n == j) (on j k || on j r) i) [
-      | inl e ↦ (let q : n ≡ j = eqb-true n j e in ap (λ a. on a (page_shape old)) (sym q) ∙ zn)
-      | inr e ↦ elim (or_cases (on j k) (on j r) e) [
-        | inl f ↦ new_below old shape p s o n un zn k (λ a b. ap (has a) kn.0 ∙ b) kn.1 j f
-        | inr f ↦ new_below old shape p s o m u z r (λ a b. h a (later_in n a x k r b)) kn.2 j f
-      ]
-    ]
-
-all_new : (old : NumberedPage) (shape : Forest Look) → IsPage old → IsShape shape → SameOrigin (page_shape old) shape → (t : Forest Look) → ((j : ℕ) → on j t ≡ true → on j shape ≡ true) → Knows (λ i. kids i shape) t → New (λ a. on a (page_shape old)) t
-all_new old shape p s o none h kn = tt
-all_new old shape p s o (node m x k r) h kn = (
-  λ z. new_below old shape p s o m (h m (or_left (m == m) (on m k || on m r) (eq-eqb m m refl))) z k (λ a b. ap (has a) kn.0 ∙ b) kn.1,
-  all_new old shape p s o k (λ j e. h j (or_right (m == j) (on j k || on j r) (or_left (on j k) (on j r) e))) kn.1,
-  all_new old shape p s o r (λ j e. h j (or_right (m == j) (on j k || on j r) (or_right (on j k) (on j r) e))) kn.2,
-)
+-- below a new node all is new
+pub all_new : (old : NumberedPage) (shape : Forest Look) → IsPage old → IsShape shape → SameOrigin (page_shape old) shape → New (λ a. on a (page_shape old)) shape
+all_new old shape p s o =
+    let before = page_shape old in
+    all_gone shape before s.once (λ a h. parent_at a before (looks p.rooted.below) (ap looks p.rooted.is) p.once h) (λ a h k. sym (o.parents a k h)) shape (λ j e. e)
+    (knows shape s.once)
 
 order_le : (v : ℕ → ℕ) (old : NumberedPage) (shape : Forest Look) → IsPage old → IsShape shape → SameOrigin (page_shape old) shape → measure v (new_order old shape) ≤ measure v (keys shape)
 order_le v old shape p s o =
@@ -136,7 +99,7 @@ order_le v old shape p s o =
     (λ q e. (
     let i = from_those (λ a. on a shape) q (keys (page_shape old)) (sym (in_ascending_by (number_of old) q qs) ∙ e) in
     (sym (in_keys q (page_shape old)) ∙ i.0, i.1, refl))) in
-    let c = fits v kept look shape kn (all_new old shape p s o shape (λ j e. e) kn) in
+    let c = fits v kept look shape kn (all_new old shape p s o) in
     omega (arith, a, b, c)
 
 -- how often a number is in a list
@@ -162,7 +125,7 @@ order_short old shape p s o = (let i = order_le (λ n. 1) old shape p s o in let
 -- ---- no gaps
 
 -- what a new node brings is new
-brought_new : {A : Type 0} (kept : ℕ → Bool) (t : Forest A) (j : ℕ) → New kept t → listed j (newcomers kept t) ≡ true → kept j ≡ false
+pub brought_new : {A : Type 0} (kept : ℕ → Bool) (t : Forest A) (j : ℕ) → New kept t → listed j (newcomers kept t) ≡ true → kept j ≡ false
 brought_new kept none j w h = absurd (false≢true h)
 brought_new kept (node m x k r) j w h = elim (cases_Bool (kept m)) [
   | inl e ↦ brought_new kept r j w.2 (rw e at h)
@@ -177,14 +140,14 @@ brought_new kept (node m x k r) j w h = elim (cases_Bool (kept m)) [
       ])
 ]
 
-new_kids : {A : Type 0} (kept : ℕ → Bool) (p : ℕ) (t : Forest A) → New kept t → New kept (kids p t)
+pub new_kids : {A : Type 0} (kept : ℕ → Bool) (p : ℕ) (t : Forest A) → New kept t → New kept (kids p t)
 new_kids kept p none w = tt
 new_kids kept p (node m x k r) w = elim (cases_Bool (m == p)) [
   | inl e ↦ rw e w.1
   | inr e ↦ elim (cases_Bool (on p k)) [ inl f ↦ rw (e, f) (new_kids kept p k w.1) | inr f ↦ rw (e, f) (new_kids kept p r w.2) ]
 ]
 
-from_some : (f : ℕ → List ℕ) (j : ℕ) (ps : List ℕ) → listed j (flat_map f ps) ≡ true → (p : ℕ) × (listed j (f p) ≡ true)
+pub from_some : (f : ℕ → List ℕ) (j : ℕ) (ps : List ℕ) → listed j (flat_map f ps) ≡ true → (p : ℕ) × (listed j (f p) ≡ true)
 from_some f j [] h = absurd (false≢true h)
 from_some f j (p ∷ ps) h = elim (or_cases (listed j (f p)) (listed j (flat_map f ps)) (sym (in_both j (f p) (flat_map f ps)) ∙ h)) [
   | inl e ↦ (p, e)
@@ -196,7 +159,7 @@ order_new old shape p s o j h =
     let kept : ℕ → Bool = λ a. on a (page_shape old) in
     let look : ℕ → List ℕ = λ m. newcomers kept (kids m shape) in
     let q = from_some look j (ascending_by (number_of old) (those (λ a. on a shape) (keys (page_shape old)))) h in
-    brought_new kept (kids q.0 shape) j (new_kids kept q.0 shape (all_new old shape p s o shape (λ i e. e) (knows shape s.once))) q.1
+    brought_new kept (kids q.0 shape) j (new_kids kept q.0 shape (all_new old shape p s o)) q.1
 
 listed_often : (a : ℕ) (ns : List ℕ) → listed a ns ≡ true → 1 ≤ often a ns
 listed_often a [] h = absurd (false≢true h)

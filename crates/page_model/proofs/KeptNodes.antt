@@ -1,13 +1,13 @@
 -- What the kept nodes say, one after the other, gives the new tree.
 use Rattle.std.proofs.Common.{◌≡◌, ℕ, ◌≤◌, ◌==◌, Bool, true, false, refl, sym, ap, ◌∙◌, arith, if◌then◌else◌, eqb-true, eq-eqb, ◌⊎◌, inl, inr, List, [], ◌∷◌}
 use Rattle.std.specs.List.{flat_map}
-use Rattle.std.proofs.lemmas.Bool.{cases_Bool, false≢true, true≢false}
+use Rattle.std.proofs.lemmas.Bool.{cases_Bool, false≢true, true≢false, or_left, or_right}
 use Rattle.page_model.specs.Labels.{Root, Kind}
 use Rattle.page_model.specs.Replay.{Op, Done, replay}
 use Rattle.page_model.specs.Forest.{Forest, none, node, on, tally, label_in, relabelled}
 use Rattle.page_model.specs.Edits.{listed}
 use Rattle.page_model.proofs.Facts.{as_was, Once, Labelled}
-use Rattle.page_model.proofs.Everywhere.{not_same, or_right, or_left}
+use Rattle.page_model.proofs.Everywhere.{not_same}
 use Rattle.page_model.proofs.Removals.{same_test}
 use Rattle.page_model.proofs.Told.{relabelled_off}
 use Rattle.page_model.proofs.Parents.{replay_more}

@@ -1,8 +1,7 @@
 -- The same trees with other keys.
 use Rattle.std.proofs.Common.{◌≡◌, ℕ, suc, ◌≤◌, ◌==◌, true, false, ◌||◌, refl, sym, ap, ◌∙◌, arith, eqb-true, eq-eqb, inl, inr}
-use Rattle.std.proofs.lemmas.Bool.{cases_Bool, false≢true, or_cases}
+use Rattle.std.proofs.lemmas.Bool.{cases_Bool, false≢true, or_cases, or_left, or_right}
 use Rattle.page_model.specs.Forest.{Forest, none, node, count, has, on, tally, parent, label_in, height, numbered}
-use Rattle.page_model.proofs.Everywhere.{or_right, or_left}
 use Rattle.page_model.proofs.Tally.{off_tally, on_tally}
 use Rattle.page_model.proofs.Linked.{self_on}
 
@@ -49,7 +48,7 @@ once_numbered num (node m x k r) l d j =
       ]
     ]
 
-same_num : (num : ℕ → ℕ) (a m : ℕ) → (num a ≡ num m → a ≡ m) → (num m == num a) ≡ (m == a)
+pub same_num : (num : ℕ → ℕ) (a m : ℕ) → (num a ≡ num m → a ≡ m) → (num m == num a) ≡ (m == a)
 same_num num a m d = elim (cases_Bool (num m == num a)) [
   | inl e ↦ (let q = d (sym (eqb-true (num m) (num a) e)) in e ∙ sym (eq-eqb m a (sym q)))
   | inr e ↦ e ∙ sym (elim (cases_Bool (m == a)) [

@@ -1,16 +1,11 @@
 -- The depths of two linked trees.
 use Rattle.std.proofs.Common.{◌≡◌, ℕ, suc, ◌+◌, ◌<◌, ◌≤◌, ◌==◌, Bool, true, false, ◌||◌, refl, sym, ap, ◌∙◌, arith, eq-eqb, inl, inr}
-use Rattle.std.proofs.lemmas.Bool.{cases_Bool, false≢true, true≢false}
+use Rattle.std.proofs.lemmas.Bool.{cases_Bool, false≢true, or_left, or_right, or_parts}
 use Rattle.page_model.specs.Forest.{Forest, none, node, has, on, tally, parent, label_in, depth, height}
 use Rattle.page_model.specs.Labels.{Root, Kind, holds}
-use Rattle.page_model.proofs.Everywhere.{or_left, or_right}
-use Rattle.page_model.proofs.Tally.{on_tally, tally_off}
-use Rattle.page_model.proofs.Linked.{Sits, Tells, has_on, has_parent, self_on}
+use Rattle.page_model.proofs.Tally.{on_tally, tally_off, has_on}
+use Rattle.page_model.proofs.Linked.{Sits, Tells, has_parent, self_on}
 use Rattle.page_model.proofs.Depths.{Fits}
-
-two_false : (a b : Bool) → (a || b) ≡ false → (a ≡ false) × (b ≡ false)
-two_false true b h = absurd (true≢false h)
-two_false false b h = (refl, h)
 
 depth_top : {A : Type 0} (n : ℕ) (t : Forest A) → has n t ≡ true → tally n t ≤ 1 → depth n t ≡ 0
 depth_top n none h l = refl
@@ -26,7 +21,7 @@ depth_top n (node m x k r) h l = elim (cases_Bool (m == n)) [
 pub depth_parent : {A : Type 0} (n : ℕ) (t : Forest A) → ((j : ℕ) → tally j t ≤ 1) → on n t ≡ true → has n t ≡ false → depth n t ≡ suc (depth (parent n t) t)
 depth_parent n none l o h = absurd (false≢true o)
 depth_parent n (node m x k r) l o h =
-    let a = two_false (m == n) (has n r) h in
+    let a = or_parts (m == n) (has n r) h in
     let here : (m == m) ≡ true = eq-eqb m m refl in
     elim (cases_Bool (has n k)) [
       | inl e ↦ (

@@ -20,6 +20,7 @@ mod Edits
 mod Looks
 mod Newcomers
 mod Updates
+mod Gone
 mod Quiet
 mod Serial
 mod Pairs

@@ -1,13 +1,12 @@
 -- The steps of one parent, as operations on the whole tree.
 use Rattle.std.proofs.Common.{◌≡◌, ℕ, suc, zero, ◌+◌, ◌≤◌, ◌==◌, Bool, true, false, ◌&&◌, ◌||◌, not, refl, sym, ap, ◌∙◌, arith, leb, ltb, eqb-true, eq-eqb, inl, inr, List, [], ◌∷◌, map, Some, None}
-use Rattle.std.proofs.lemmas.Bool.{cases_Bool, false≢true, and_parts}
+use Rattle.std.proofs.lemmas.Bool.{cases_Bool, false≢true, and_parts, or_left, or_right}
 use Rattle.page_model.specs.Forest.{Forest, none, node, after, count, has, only, without, put, moved, on, at, tally, kids, parent, label_in, depth}
 use Rattle.page_model.specs.Labels.{Root, Kind, holds}
 use Rattle.page_model.specs.Replay.{Done, first_used, first_deep, do_op, replay}
 use Rattle.page_model.proofs.Facts.{take_step, take_steps, Step, Insert, Move, op_at}
 use Rattle.page_model.proofs.Lists.{when, split, not_ltb}
-use Rattle.page_model.proofs.Everywhere.{or_left, or_right}
-use Rattle.page_model.proofs.Tally.{tally_off, parent_is, at_at, at_id, on_at, kids_at, at_named, tally_at}
+use Rattle.page_model.proofs.Tally.{tally_off, parent_is, at_at, at_id, on_at, kids_at, at_named, tally_at, has_on}
 use Rattle.page_model.proofs.Depths.{Fits, Brought, AllBrought, fits_at, fits_kids, fits_depth, fits_hold, fits_deep, fits_step}
 
 pub tally_after : {A : Type 0} (j : ℕ) (xs ys : Forest A) → tally j (after xs ys) ≡ tally j xs + tally j ys
@@ -61,13 +60,6 @@ all_unused whole (node n x k r) now h =
     let d = all_unused whole r now (λ j i. h j (omega arith)) in
     rw (b, a, c, d) refl
 
-top_on : {A : Type 0} (n : ℕ) (t : Forest A) → has n t ≡ true → on n t ≡ true
-top_on n none h = h
-top_on n (node m x k r) h = elim (cases_Bool (m == n)) [
-  | inl e ↦ rw e refl
-  | inr e ↦ rw e (or_right (on n k) (on n r) (top_on n r (rw e at h)))
-]
-
 -- a child isn't the root
 not_root : (lev : ℕ → ℕ) (n p : ℕ) → lev 0 ≡ 0 → lev n ≡ suc (lev p) → not (n == 0) ≡ true
 not_root lev n p z e = elim (cases_Bool (n == 0)) [
@@ -85,7 +77,7 @@ has_level lev hold d n (node m x k r) h f = elim (cases_Bool (m == n)) [
 child_on : {A : Type 0} (n p : ℕ) (t : Forest A) → has n (kids p t) ≡ true → on n t ≡ true
 child_on n p none h = h
 child_on n p (node m x k r) h = elim (cases_Bool (m == p)) [
-  | inl e ↦ (let h' : has n k ≡ true = rw e at h in or_right (m == n) (on n k || on n r) (or_left (on n k) (on n r) (top_on n k h')))
+  | inl e ↦ (let h' : has n k ≡ true = rw e at h in or_right (m == n) (on n k || on n r) (or_left (on n k) (on n r) (has_on n k h')))
   | inr e ↦ elim (cases_Bool (on p k)) [
     | inl f ↦ (let h' = rw (e, f) at h in or_right (m == n) (on n k || on n r) (or_left (on n k) (on n r) (child_on n p k h')))
     | inr f ↦ (let h' = rw (e, f) at h in or_right (m == n) (on n k || on n r) (or_right (on n k) (on n r) (child_on n p r h')))

@@ -1,18 +1,12 @@
 -- What the laws ask, from two trees in which no number stands twice and each kept node has the same parent.
-use Rattle.std.proofs.Common.{◌≡◌, ℕ, ◌≤◌, ◌==◌, Bool, true, false, ◌||◌, refl, sym, ap, ◌∙◌, arith, eqb-true, eq-eqb, inl, inr}
-use Rattle.std.proofs.lemmas.Bool.{cases_Bool, false≢true, true≢false, or_cases}
+use Rattle.std.proofs.Common.{◌≡◌, ℕ, ◌≤◌, ◌==◌, true, false, ◌||◌, refl, sym, ap, ◌∙◌, arith, eqb-true, eq-eqb, inl, inr}
+use Rattle.std.proofs.lemmas.Bool.{cases_Bool, false≢true, true≢false, or_cases, or_left, or_right, or_parts}
 use Rattle.page_model.specs.Forest.{Forest, none, node, has, only, on, tally, kids, parent, label_in}
 use Rattle.page_model.proofs.Facts.{Apart, Single, Knows, Clear, Matches, Ready, Labelled, Linked}
-use Rattle.page_model.proofs.Everywhere.{or_false, or_right, or_left}
-use Rattle.page_model.proofs.Tally.{on_tally, tally_off, parent_is, kids_low, tally_parts, top_has}
+use Rattle.page_model.proofs.Everywhere.{or_false}
+use Rattle.page_model.proofs.Tally.{on_tally, tally_off, parent_is, kids_low, tally_parts, top_has, has_on}
 use Rattle.page_model.proofs.Parents.{off_kids}
-
-pub has_on : {A : Type 0} (n : ℕ) (t : Forest A) → has n t ≡ true → on n t ≡ true
-has_on n none h = h
-has_on n (node m x k r) h = elim (cases_Bool (m == n)) [
-  | inl e ↦ rw e refl
-  | inr e ↦ rw e (or_right (on n k) (on n r) (has_on n r (rw e at h)))
-]
+use Rattle.page_model.proofs.Arrive.{later_in}
 
 pub on_kids : {A : Type 0} (p n : ℕ) (t : Forest A) → on n (kids p t) ≡ true → on n t ≡ true
 on_kids p n t h = elim (cases_Bool (on n t)) [ inl e ↦ e | inr e ↦ absurd (true≢false (sym h ∙ off_kids n p t e)) ]
@@ -79,10 +73,6 @@ knows t l = knows_in (λ n. kids n t) t l (λ n e. refl)
 placed : {A : Type 0} (n : ℕ) (t : Forest A) (p : ℕ) → parent n t ≡ p → has n (kids p t) ≡ true → on p t ≡ true → (has n (kids (parent n t) t) ≡ true) × (on (parent n t) t ≡ true)
 placed n t p q h o = rw q (h, o)
 
-two_false : (a b : Bool) → (a || b) ≡ false → (a ≡ false) × (b ≡ false)
-two_false true b h = absurd (true≢false h)
-two_false false b h = (refl, h)
-
 pub has_parent : {A : Type 0} (n : ℕ) (t : Forest A) → ((j : ℕ) → tally j t ≤ 1) → on n t ≡ true → has n t ≡ false → (has n (kids (parent n t) t) ≡ true) × (on (parent n t) t ≡ true)
 has_parent n none l o h = absurd (false≢true o)
 has_parent n (node m x k r) l o h =
@@ -94,7 +84,7 @@ has_parent n (node m x k r) l o h =
             let q : parent n (node m x k r) ≡ parent n k = rw (e, f) refl in
             placed n (node m x k r) (parent n k) q (ap (has n) (in_kids (parent n k) m x k r l i.1) ∙ i.0) (or_right (m == parent n k) (on (parent n k) k || on (parent n k) r) (or_left (on (parent n k) k) (on (parent n k) r) i.1)))
         | inr f ↦ (
-            let a = two_false (m == n) (has n r) h in
+            let a = or_parts (m == n) (has n r) h in
             let o' : on n r ≡ true = rw (a.0, f) at o in
             let i = has_parent n r (λ j. (let q = l j in omega arith)) o' a.1 in
             let q : parent n (node m x k r) ≡ parent n r = rw (e, f) refl in
@@ -207,9 +197,6 @@ only_known look lab n (node m x k r) kn te h = elim (cases_Bool (m == n)) [
       rw e (ap (λ z. node m z k none) (sym te.0) ∙ (ap (λ z. node m (lab m) z none) (sym kn.0) ∙ ap (λ i. node i (lab i) (look i) none) q)))
   | inr e ↦ rw e (only_known look lab n r kn.2 te.2 (rw e at h))
 ]
-
-pub later_in : {A : Type 0} (n m : ℕ) (x : A) (k r : Forest A) → has m r ≡ true → has m (node n x k r) ≡ true
-later_in n m x k r e = or_right (n == m) (has m r) e
 
 pub first_in : {A : Type 0} (n : ℕ) (x : A) (k r : Forest A) → has n (node n x k r) ≡ true
 first_in n x k r = or_left (n == n) (has n r) (eq-eqb n n refl)

@@ -22,7 +22,7 @@ pub by_number_with : (num : ℕ → ℕ) (s : Forest Look) → by_number (with_n
 by_number_with num none = refl
 by_number_with num (node m x k r) = rw (by_number_with num k, by_number_with num r) refl
 
-on_with : (num : ℕ → ℕ) (a : ℕ) (s : Forest Look) → on a (with_numbers num s) ≡ on a s
+pub on_with : (num : ℕ → ℕ) (a : ℕ) (s : Forest Look) → on a (with_numbers num s) ≡ on a s
 on_with num a none = refl
 on_with num a (node m x k r) = rw (on_with num a k, on_with num a r) refl
 

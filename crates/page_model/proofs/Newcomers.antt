@@ -1,12 +1,11 @@
 -- The order of the new addresses has them all.
-use Rattle.std.proofs.Common.{◌≡◌, ℕ, ◌==◌, Bool, true, false, ◌||◌, refl, ap, ◌∙◌, leb, if◌then◌else◌, eqb-true, eq-eqb, inl, inr, List, [], ◌∷◌}
+use Rattle.std.proofs.Common.{◌≡◌, ℕ, ◌==◌, Bool, true, false, ◌||◌, refl, ap, ◌∙◌, leb, if◌then◌else◌, eqb-true, eq-eqb, inl, inr, List, [], ◌∷◌, sym}
 use Rattle.std.specs.List.{flat_map}
-use Rattle.std.proofs.lemmas.Bool.{cases_Bool, false≢true, or_cases}
+use Rattle.std.proofs.lemmas.Bool.{cases_Bool, false≢true, or_cases, or_left, or_right}
 use Rattle.page_model.specs.Forest.{Forest, none, node, on, keys, kids}
 use Rattle.page_model.specs.Pages.{into_by, ascending_by, newcomers, those}
 use Rattle.page_model.specs.Edits.{listed}
 use Rattle.page_model.proofs.Facts.{Knows}
-use Rattle.page_model.proofs.Everywhere.{or_left, or_right}
 use Rattle.page_model.proofs.Removals.{in_both}
 use Rattle.page_model.proofs.Orders.{in_keys, swapped}
 
@@ -21,12 +20,22 @@ pub in_ascending_by : (num : ℕ → ℕ) (j : ℕ) (ns : List ℕ) → listed j
 in_ascending_by num j [] = refl
 in_ascending_by num j (n ∷ ns) = in_into_by num j n (ascending_by num ns) ∙ ap (λ b. (n == j) || b) (in_ascending_by num j ns)
 
-pub in_those : (test : ℕ → Bool) (j : ℕ) (ns : List ℕ) → listed j ns ≡ true → test j ≡ true → listed j (those test ns) ≡ true
-in_those test j [] h e = absurd (false≢true h)
-in_those test j (n ∷ ns) h e = elim (cases_Bool (n == j)) [
+pub from_those : (test : ℕ → Bool) (j : ℕ) (ns : List ℕ) → listed j (those test ns) ≡ true → (listed j ns ≡ true) × (test j ≡ true)
+from_those test j [] h = absurd (false≢true h)
+from_those test j (n ∷ ns) h = elim (cases_Bool (test n)) [
+  | inl e ↦ elim (cases_Bool (n == j)) [
+    | inl f ↦ (let q : n ≡ j = eqb-true n j f in (rw f refl, ap test (sym q) ∙ e))
+    | inr f ↦ (let i = from_those test j ns (rw (e, f) at h) in (rw f i.0, i.1))
+  ]
+  | inr e ↦ (let i = from_those test j ns (rw e at h) in (or_right (n == j) (listed j ns) i.0, i.1))
+]
+
+pub to_those : (test : ℕ → Bool) (j : ℕ) (ns : List ℕ) → listed j ns ≡ true → test j ≡ true → listed j (those test ns) ≡ true
+to_those test j [] h e = absurd (false≢true h)
+to_those test j (n ∷ ns) h e = elim (cases_Bool (n == j)) [
   | inl f ↦ (let q : n ≡ j = eqb-true n j f in let g : test n ≡ true = ap test q ∙ e in rw g (or_left (n == j) (listed j (those test ns)) f))
   | inr f ↦ (
-      let i = in_those test j ns (rw f at h) e in
+      let i = to_those test j ns (rw f at h) e in
       elim (cases_Bool (test n)) [ inl g ↦ rw g (or_right (n == j) (listed j (those test ns)) i) | inr g ↦ rw g i ])
 ]
 

@@ -1,11 +1,11 @@
 -- Lists of numbers in order, and places in a list.
 use Rattle.std.proofs.Common.{◌≡◌, ℕ, suc, ◌<◌, ◌≤◌, ◌==◌, Bool, true, false, ◌||◌, refl, sym, ap, ◌∙◌, arith, leb, eqb-true, eq-eqb, inl, inr, List, [], ◌∷◌, ◌++◌, length}
-use Rattle.std.proofs.lemmas.Bool.{cases_Bool, false≢true, true≢false, or_cases}
+use Rattle.std.proofs.lemmas.Bool.{cases_Bool, false≢true, true≢false, or_cases, or_left, or_right, or_parts}
 use Rattle.page_model.specs.Forest.{Forest, none, node, on, tally, keys, tops}
 use Rattle.page_model.specs.Edits.{into, ascending, listed}
 use Rattle.page_model.proofs.Facts.{Once}
 use Rattle.page_model.specs.Pages.{place_in}
-use Rattle.page_model.proofs.Everywhere.{flipped, or_right, or_left}
+use Rattle.page_model.proofs.Everywhere.{flipped}
 use Rattle.page_model.proofs.Tally.{on_tally, tally_off}
 use Rattle.page_model.proofs.Removals.{in_both}
 
@@ -16,10 +16,6 @@ swapped true true c = refl
 swapped true false c = refl
 swapped false true c = refl
 swapped false false c = refl
-
-two_false : (a b : Bool) → (a || b) ≡ false → (a ≡ false) × (b ≡ false)
-two_false true b h = absurd (true≢false h)
-two_false false b h = (refl, h)
 
 in_into : (j n : ℕ) (ms : List ℕ) → listed j (into n ms) ≡ (n == j || listed j ms)
 in_into j n [] = refl
@@ -33,7 +29,7 @@ once_into n [] l o = (refl, tt)
 once_into n (m ∷ ms) l o = elim (cases_Bool (leb n m)) [
   | inl e ↦ rw e (l, o)
   | inr e ↦ (
-      let a = two_false (m == n) (listed n ms) l in
+      let a = or_parts (m == n) (listed n ms) l in
       rw e (in_into m n ms ∙ (rw (flipped m n a.0, o.0) refl), once_into n ms a.1 o.1))
 ]
 
@@ -68,7 +64,7 @@ once_keys (node m x k r) l =
           (λ j e. (let i = l j in let a = on_tally j k (sym (in_keys j k) ∙ e) in in_keys j r ∙ tally_off j r (omega arith))),
     )
 
-tops_on : {A : Type 0} (keep : ℕ → Bool) (j : ℕ) (t : Forest A) → listed j (tops keep t) ≡ true → on j t ≡ true
+pub tops_on : {A : Type 0} (keep : ℕ → Bool) (j : ℕ) (t : Forest A) → listed j (tops keep t) ≡ true → on j t ≡ true
 tops_on keep j none h = absurd (false≢true h)
 tops_on keep j (node m x k r) h = elim (cases_Bool (keep m)) [
   | inl a ↦ (

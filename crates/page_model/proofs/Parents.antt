@@ -1,6 +1,6 @@
 -- All parents' operations are replayed.
 use Rattle.std.proofs.Common.{◌≡◌, ℕ, zero, suc, ◌+◌, ◌<◌, ◌≤◌, ◌==◌, Bool, true, false, ◌||◌, refl, sym, ap, subst, ◌∙◌, arith, if◌then◌else◌, eqb-true, eq-eqb, inl, inr, List, [], ◌∷◌, ◌++◌, map, Some}
-use Rattle.std.proofs.lemmas.Bool.{cases_Bool, false≢true}
+use Rattle.std.proofs.lemmas.Bool.{cases_Bool, false≢true, or_right}
 use Rattle.std.specs.List.{flat_map}
 use Rattle.page_model.specs.Labels.{Kind}
 use Rattle.page_model.specs.Replay.{Op, OpInsert, OpMove, Answer, Done, Refused, then_on, do_op, replay}
@@ -8,8 +8,8 @@ use Rattle.page_model.specs.Forest.{Forest, none, node, after, count, has, only,
 use Rattle.page_model.specs.Edits.{listed, placed, put_at, taken, siblings, child_edits}
 use Rattle.page_model.proofs.Facts.{led, Apart, arrange, Clear, Once, newly, all_newly, Ready, steps, led_by, op_at, plan}
 use Rattle.page_model.proofs.Siblings.{has_without, only_without}
-use Rattle.page_model.proofs.Arrive.{other, later_has, gone, apart_without, empty, arrive}
-use Rattle.page_model.proofs.Everywhere.{or_false, at_away, not_same, or_right}
+use Rattle.page_model.proofs.Arrive.{other, gone, apart_without, empty, arrive, later_in}
+use Rattle.page_model.proofs.Everywhere.{or_false, at_away, not_same}
 use Rattle.page_model.proofs.Tally.{off_tally, on_tally, tally_off, tally_on, at_named, tally_at}
 use Rattle.page_model.proofs.Lifted.{tally_after, tally_taken, lifted}
 use Rattle.page_model.proofs.Depths.{Fits, fits_led, fits_at, steps_brought}
@@ -27,13 +27,13 @@ led_by_same : {A : Type 0} (kept : ℕ → Bool) (now now' new : Forest A) → (
 led_by_same kept now now' none o = refl
 led_by_same kept now now' (node n x k r) o =
     let on_n = o n (rw (eq-eqb n n refl) refl) in
-    rw (on_n, led_by_same kept now now' r (λ m e. o m (later_has n m x k r e))) refl
+    rw (on_n, led_by_same kept now now' r (λ m e. o m (later_in n m x k r e))) refl
 
 led_is_by : {A : Type 0} (kept : ℕ → Bool) (now new : Forest A) → ((m : ℕ) → has m new ≡ true → has m now ≡ kept m) → led now new ≡ led_by kept now new
 led_is_by kept now none h = refl
 led_is_by kept now (node n x k r) h =
     let hn = h n (rw (eq-eqb n n refl) refl) in
-    rw (hn, led_is_by kept now r (λ m e. h m (later_has n m x k r e))) refl
+    rw (hn, led_is_by kept now r (λ m e. h m (later_in n m x k r e))) refl
 
 -- what is left to be led once the first new child has its place
 ready_kept : {A : Type 0} (kept : ℕ → Bool) (now : Forest A) (n : ℕ) (x : A) (k r : Forest A) → Ready kept now (node n x k r) → kept n ≡ true → Ready kept (without n now) r
@@ -41,7 +41,7 @@ ready_kept kept now n x k r y e = record {
   apart = apart_without n now y.apart;
   apart_new = y.apart_new.1;
   cover = λ m h. (let d = other n m (without n now) (gone n now y.apart) h in rw d at (y.cover m (sym (has_without n m now d) ∙ h)));
-  known = λ m h. has_without n m now (other n m r y.apart_new.0 h) ∙ y.known m (later_has n m x k r h);
+  known = λ m h. has_without n m now (other n m r y.apart_new.0 h) ∙ y.known m (later_in n m x k r h);
 }
 
 ready_new : {A : Type 0} (kept : ℕ → Bool) (now : Forest A) (n : ℕ) (x : A) (k r : Forest A) → Ready kept now (node n x k r) → kept n ≡ false → Ready kept now r
@@ -51,7 +51,7 @@ ready_new kept now n x k r y e =
       apart = y.apart;
       apart_new = y.apart_new.1;
       cover = λ m h. (let d = other n m now z h in rw d at (y.cover m h));
-      known = λ m h. y.known m (later_has n m x k r h);
+      known = λ m h. y.known m (later_in n m x k r h);
     }
 
 led_less : {A : Type 0} (kept : ℕ → Bool) (now : Forest A) (n : ℕ) (x : A) (k r : Forest A) → Ready kept now (node n x k r) → led_by kept now r ≡ led_by kept (without n now) r

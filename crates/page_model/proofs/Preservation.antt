@@ -1,14 +1,13 @@
 -- What operations keep of a numbered tree.
-use Rattle.std.proofs.Common.{◌≡◌, ℕ, zero, suc, ◌+◌, ◌<◌, ◌≤◌, ◌==◌, Bool, true, false, ◌||◌, ◌&&◌, not, max, refl, sym, ap, subst, ◌∙◌, arith, eqb-true, eq-eqb, inl, inr, leb, ltb, if◌then◌else◌, ◌⊎◌, List, [], ◌∷◌, Option, Some, None, length}
+use Rattle.std.proofs.Common.{◌≡◌, ℕ, zero, suc, ◌+◌, ◌≤◌, ◌==◌, Bool, true, false, ◌||◌, ◌&&◌, not, refl, sym, ap, subst, ◌∙◌, arith, eqb-true, eq-eqb, inl, inr, leb, ltb, if◌then◌else◌, ◌⊎◌, List, [], ◌∷◌, Option, Some, None, length}
 use Rattle.std.specs.Str.{bytes_eq}
 use Rattle.std.proofs.lemmas.Slice.Eq.{bytes_eq-Decides}
-use Rattle.std.proofs.lemmas.Bool.{cases_Bool, false≢true, true≢false, or_cases, ltb-false, ltb-true}
-use Rattle.page_model.specs.Forest.{Forest, none, node, after, count, has, only, without, put, moved, on, one, tally, kids, parent, label_in, depth, height, at, pruned, relabelled}
+use Rattle.std.proofs.lemmas.Bool.{cases_Bool, false≢true, or_cases, ltb-false, and_parts}
+use Rattle.page_model.specs.Forest.{Forest, none, node, after, count, only, without, put, moved, on, tally, kids, parent, label_in, depth, height, at, pruned, relabelled}
 use Rattle.page_model.specs.Labels.{Root, Text, Element, Kind, holds, named, Distinct}
-use Rattle.page_model.specs.Pages.{IsRooted}
 use Rattle.page_model.specs.Replay.{Op, OpRemove, OpInsert, OpMove, OpText, OpAttr, OpUnattr, Done, Refused, Answer, do_op, do_text, do_attr, do_unattr, below_root, first_used, first_deep, or_else, unless_found, OpRefusal, NoSuchNode, NoSuchPlace, NumberUsed, TooDeep, others, put_in}
 use Rattle.page_model.specs.Trees.{IsNode, AreNodes, IsTree, Brings}
-use Rattle.page_model.proofs.Everywhere.{or_left, or_right, or_false, at_away}
+use Rattle.page_model.proofs.Everywhere.{or_false, at_away}
 use Rattle.page_model.proofs.Tally.{off_tally, on_tally, tally_off, at_named, tally_at}
 use Rattle.page_model.proofs.Linked.{has_parent}
 use Rattle.page_model.proofs.Whole.{tally_pruned}
@@ -272,7 +271,7 @@ named_put (suc i) n m v (a ∷ xs) e h =
     let b = or_false (bytes_eq a.0 n) (named n xs) false (or_last (bytes_eq a.0 n) (named n xs) h) in
     rw b.0 (named_put i n m v xs e b.1)
 
-other_way : (a b : List ℕ) → bytes_eq a b ≡ false → bytes_eq b a ≡ false
+pub other_way : (a b : List ℕ) → bytes_eq a b ≡ false → bytes_eq b a ≡ false
 other_way a b h = elim (cases_Bool (bytes_eq b a)) [
   | inl e ↦ (let q : b ≡ a = (bytes_eq-Decides b a).0 e in absurd (false≢true (sym h ∙ (bytes_eq-Decides a b).1 (sym q))))
   | inr e ↦ e
@@ -318,10 +317,6 @@ if_done false a u w e = cc
 pub found_none : (why : ℕ → OpRefusal) (o : Option ℕ) (a : Answer) (u : Forest Kind) → unless_found why o a ≡ Done u → (o ≡ None) × (a ≡ Done u)
 found_none why None a u e = (refl, e)
 found_none why (Some n) a u e = cc
-
-pub both : (a b : Bool) → (a && b) ≡ true → (a ≡ true) × (b ≡ true)
-both true b h = (refl, h)
-both false b h = absurd (false≢true h)
 
 pub not_zero : (n : ℕ) → not (n == 0) ≡ true → (0 == n) ≡ false
 not_zero n h = elim (cases_Bool (0 == n)) [
@@ -422,7 +417,7 @@ kept_tree : (op : Op) (b u : Forest Kind) → let t = node 0 Root b none in once
 kept_tree (OpRemove n) b u o l a c h =
     let t = node 0 Root b none in
     let d = done_if (below_root n t) (pruned (λ m. not (m == n)) t) u (NoSuchNode n) h in
-    subst IsTree d.1 (removed_tree n b o l a (not_zero n (both (on n t) (not (n == 0)) d.0).1))
+    subst IsTree d.1 (removed_tree n b o l a (not_zero n (and_parts (on n t) (not (n == 0)) d.0).1))
 kept_tree (OpInsert p i n x k) b u o l a c h =
     let t = node 0 Root b none in
     let s = node n x k none in
@@ -430,14 +425,14 @@ kept_tree (OpInsert p i n x k) b u o l a c h =
     let d2 = if_done (leb i (count (kids p t))) _ u (NoSuchPlace i) d1.1 in
     let d3 = found_none NumberUsed (first_used s s t) _ u d2.1 in
     let d4 = found_none TooDeep (first_deep (suc (depth p t)) s) (Done (at p (put i s) t)) u d3.1 in
-    let there = both (on p t) (holds (label_in Root p t)) d1.0 in
+    let there = and_parts (on p t) (holds (label_in Root p t)) d1.0 in
     let e : at p (put i s) t ≡ u = (let z = d4.1 in cc) in
     subst IsTree e (inserted_tree p i n x k b o l a c there.0 there.1 d3.0 d4.0)
 kept_tree (OpMove n i) b u o l a c h =
     let t = node 0 Root b none in
     let d1 = if_done (below_root n t) _ u (NoSuchNode n) h in
     let d2 = done_if (ltb i (count (kids (parent n t) t))) (at (parent n t) (moved n i) t) u (NoSuchPlace i) d1.1 in
-    let there = both (on n t) (not (n == 0)) d1.0 in
+    let there = and_parts (on n t) (not (n == 0)) d1.0 in
     subst IsTree d2.1 (moved_tree n i b o l a there.0 (not_zero n there.1))
 kept_tree (OpText n v) b u o l a c h =
     let t = node 0 Root b none in

@@ -3,11 +3,11 @@ use Rattle.std.proofs.Common.{◌≡◌, ℕ, suc, ◌==◌, Bool, true, ◌||�
 use Rattle.std.specs.List.{flat_map}
 use Rattle.std.specs.Str.{bytes_eq}
 use Rattle.std.proofs.lemmas.Slice.Eq.{bytes_eq-Decides}
+use Rattle.std.proofs.lemmas.Bool.{or_left, or_right}
 use Rattle.page_model.specs.Forest.{Forest, none, node, on, keys, kids, label_in, pruned, tops}
 use Rattle.page_model.specs.Labels.{Root, Text, Element, Kind, Look, shown}
 use Rattle.page_model.specs.Replay.{Op, OpRemove}
 use Rattle.page_model.specs.Edits.{listed, placed, siblings, child_edits, attribute_edits, look_edits, ascending, edits}
-use Rattle.page_model.proofs.Everywhere.{or_left, or_right}
 use Rattle.page_model.proofs.Removals.{in_both}
 
 placed_at : (past : List ℕ) (n : ℕ) (ms : List ℕ) → placed n (length past) (past ++ n ∷ ms) ≡ true
@@ -15,7 +15,7 @@ placed_at [] n ms = eq-eqb n n refl
 placed_at (m ∷ past) n ms = placed_at past n ms
 
 -- each child stands at its place already
-children_none : (p : ℕ) (past : List ℕ) (rest : Forest Kind) → child_edits p (length past) (past ++ siblings rest) rest ≡ []
+pub children_none : (p : ℕ) (past : List ℕ) (rest : Forest Kind) → child_edits p (length past) (past ++ siblings rest) rest ≡ []
 children_none p past none = refl
 children_none p past (node n x k r) =
     let a : listed n (past ++ n ∷ siblings r) ≡ true = in_both n past (n ∷ siblings r) ∙ or_right (listed n past) (listed n (n ∷ siblings r)) (or_left (n == n) (listed n (siblings r)) (eq-eqb n n refl)) in
@@ -30,7 +30,7 @@ lines_none n [] i = refl
 lines_none n ((name, None) ∷ xs) i = lines_none n xs i
 lines_none n ((name, Some v) ∷ xs) i = (let e : bytes_eq v v ≡ true = (bytes_eq-Decides v v).1 refl in rw e (lines_none n xs (suc i)))
 
-told_none : (n : ℕ) (x : Look) → look_edits n x x ≡ []
+pub told_none : (n : ℕ) (x : Look) → look_edits n x x ≡ []
 told_none n Root = refl
 told_none n (Text t) = (let e : bytes_eq t t ≡ true = (bytes_eq-Decides t t).1 refl in rw e refl)
 told_none n (Element name xs) = lines_none n xs 0

@@ -2,7 +2,7 @@
 use Rattle.std.proofs.Common.{◌≡◌, ℕ, zero, suc, ◌+◌, List, [], ◌∷◌, refl}
 use Rattle.std.specs.Prelude.{codes}
 use Rattle.html_out.specs.Html.{is_void}
-use Rattle.page_model.specs.Forest.{Forest, none, node, after}
+use Rattle.page_model.specs.Forest.{Forest, none, node}
 use Rattle.page_model.specs.Labels.{Root, Text, Element, Kind}
 use Rattle.page_model.specs.Replay.{OpRemove, OpInsert, OpMove, OpText, OpAttr, OpUnattr, Done, Refused, do_op, replay}
 use Rattle.page_model.specs.Replay.{NoSuchNode, NoSuchPlace, NumberUsed, TooDeep}

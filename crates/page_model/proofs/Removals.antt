@@ -1,12 +1,12 @@
 -- The removals leave the kept nodes.
 use Rattle.std.proofs.Common.{◌≡◌, ℕ, ◌==◌, Bool, true, false, ◌||◌, ◌&&◌, not, refl, sym, ap, ◌∙◌, eqb-true, eq-eqb, inl, inr, List, [], ◌∷◌, ◌++◌, map}
-use Rattle.std.proofs.lemmas.Bool.{cases_Bool, false≢true, or_cases}
+use Rattle.std.proofs.lemmas.Bool.{cases_Bool, false≢true, or_cases, or_left, or_right}
 use Rattle.page_model.specs.Labels.{Kind}
 use Rattle.page_model.specs.Replay.{OpRemove, Done, replay}
 use Rattle.page_model.specs.Forest.{Forest, none, node, on, pruned, tops}
 use Rattle.page_model.specs.Edits.{listed}
 use Rattle.page_model.proofs.Facts.{Once}
-use Rattle.page_model.proofs.Everywhere.{flipped, not_same, or_right, or_left}
+use Rattle.page_model.proofs.Everywhere.{flipped, not_same, reversed_onto, listed_joined}
 
 pub same_test : (m n : ℕ) → (m == n) ≡ (n == m)
 same_test m n = elim (cases_Bool (n == m)) [
@@ -79,19 +79,13 @@ pruned_tops keep es (node m x k r) g h = elim (cases_Bool (keep m)) [
       rw (a, b) ir)
 ]
 
-turned : (a b c : Bool) → (a || (b || c)) ≡ ((b || a) || c)
-turned true true c = refl
-turned true false c = refl
-turned false true c = refl
-turned false false c = refl
-
 denied : (a b : Bool) → not (a || b) ≡ (not b && not a)
 denied true true = refl
 denied true false = refl
 denied false true = refl
 denied false false = refl
 
-or_none : (a : Bool) → (a || false) ≡ a
+pub or_none : (a : Bool) → (a || false) ≡ a
 or_none true = refl
 or_none false = refl
 
@@ -112,14 +106,6 @@ tops_gone keep n (node m x k r) h = elim (cases_Bool (keep m)) [
         | inr c ↦ tops_gone keep n r (rw c at h')
       ])
 ]
-
-abbrev reversed_onto : List ℕ → List ℕ → List ℕ
-reversed_onto [] es = es
-reversed_onto (n ∷ ns) es = reversed_onto ns (n ∷ es)
-
-listed_joined : (m : ℕ) (ns es : List ℕ) → listed m (reversed_onto ns es) ≡ (listed m ns || listed m es)
-listed_joined m [] es = refl
-listed_joined m (n ∷ ns) es = listed_joined m ns (n ∷ es) ∙ turned (listed m ns) (n == m) (listed m es)
 
 removed_from : (keep : ℕ → Bool) (ns es : List ℕ) (t : Forest Kind) → keep 0 ≡ true → Once ns → ((m : ℕ) → listed m es ≡ true → keep m ≡ false) → ((n : ℕ) → listed n ns ≡ true → (keep n ≡ false) × (listed n (tops keep t) ≡ true) × (listed n es ≡ false)) → replay (map OpRemove ns) (pruned (λ m. not (listed m es)) t) ≡ Done (pruned (λ m. not (listed m (reversed_onto ns es))) t)
 removed_from keep [] es t z o g h = refl

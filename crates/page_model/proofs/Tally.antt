@@ -1,6 +1,6 @@
 -- How often keys stand in trees, and edits of one node's children.
 use Rattle.std.proofs.Common.{◌≡◌, ℕ, ◌+◌, ◌≤◌, ◌==◌, true, false, refl, ap, arith, eqb-true, inl, inr}
-use Rattle.std.proofs.lemmas.Bool.{cases_Bool, false≢true}
+use Rattle.std.proofs.lemmas.Bool.{cases_Bool, false≢true, or_right}
 use Rattle.page_model.specs.Forest.{Forest, none, node, has, on, at, one, tally, kids, parent}
 use Rattle.page_model.proofs.Everywhere.{or_false, at_away}
 
@@ -11,6 +11,13 @@ top n (node m x k r) = one (m == n) + top n r
 abbrev low : {A : Type 0} → ℕ → Forest A → ℕ
 low n none = 0
 low n (node m x k r) = tally n k + low n r
+
+pub has_on : {A : Type 0} (n : ℕ) (t : Forest A) → has n t ≡ true → on n t ≡ true
+has_on n none h = h
+has_on n (node m x k r) h = elim (cases_Bool (m == n)) [
+  | inl e ↦ rw e refl
+  | inr e ↦ rw e (or_right (on n k) (on n r) (has_on n r (rw e at h)))
+]
 
 pub tally_parts : {A : Type 0} (n : ℕ) (t : Forest A) → tally n t ≡ top n t + low n t
 tally_parts n none = refl

@@ -1,18 +1,17 @@
 -- The edits that lead to a page can be written.
-use Rattle.std.proofs.Common.{◌≡◌, ℕ, zero, suc, ◌+◌, ◌<◌, ◌≤◌, ◌==◌, Bool, true, false, refl, sym, ap, subst, ◌∙◌, arith, eqb-true, inl, inr, if◌then◌else◌, ◌⊎◌, List, [], ◌∷◌, ◌++◌, map, Option, Some, None}
+use Rattle.std.proofs.Common.{◌≡◌, ℕ, suc, ◌<◌, ◌≤◌, ◌==◌, true, false, refl, sym, ap, subst, ◌∙◌, arith, eqb-true, inl, inr, ◌⊎◌, List, [], ◌∷◌, ◌++◌, map, Option, Some, None}
 use Rattle.std.specs.List.{flat_map}
 use Rattle.std.specs.Str.{bytes_eq}
 use Rattle.std.proofs.lemmas.Bool.{cases_Bool, false≢true}
-use Rattle.html_out.specs.Html.{good_name}
 use Rattle.page_model.specs.Forest.{Forest, none, node, count, on, tally, keys, kids, label_in, height, numbered, pruned, tops}
-use Rattle.page_model.specs.Labels.{Root, Text, Element, Kind, Look, seen, shown, present, with_value, holds, Distinct, DistinctNames, Sound, GoodNames, GoodLabel, WellNamed}
-use Rattle.page_model.specs.Edits.{listed, placed, put_at, taken, siblings, child_edits, same_value, line_edits, attribute_edits, look_edits, ascending, edits}
-use Rattle.page_model.specs.Pages.{NumberedPage, bare, number_of, by_number, page_shape, tree_of, carried, with_numbers, renumbered, edits_between, IsRooted, IsPage, IsShape}
-use Rattle.page_model.specs.Replay.{Op, OpRemove, OpInsert, OpMove, OpText, OpAttr, OpUnattr}
+use Rattle.page_model.specs.Labels.{Root, Text, Element, Kind, Look, seen, shown, present, holds, Distinct, DistinctNames, Sound, GoodNames, GoodLabel, WellNamed}
+use Rattle.page_model.specs.Edits.{listed, placed, put_at, taken, siblings, child_edits, attribute_edits, look_edits, ascending, edits}
+use Rattle.page_model.specs.Pages.{NumberedPage, bare, number_of, by_number, page_shape, tree_of, carried, renumbered, edits_between, IsPage, IsShape}
+use Rattle.page_model.specs.Replay.{Op, OpRemove}
 use Rattle.page_model.specs.Trees.{IsNode, AreNodes, IsTree}
-use Rattle.page_model.specs.Texts.{IsWritable, AreWritable}
+use Rattle.page_model.specs.Texts.{AreWritable}
 use Rattle.page_model.proofs.Told.{not_present}
-use Rattle.page_model.proofs.Shown.{tally_shown, height_shown, count_shown, sound_num}
+use Rattle.page_model.proofs.Shown.{tally_shown, height_shown, sound_num}
 use Rattle.page_model.proofs.Keys.{height_num, once_numbered}
 use Rattle.page_model.proofs.Looks.{by_number_with, by_number_is}
 use Rattle.page_model.proofs.Updates.{page_after, root_after}

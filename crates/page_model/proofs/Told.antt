@@ -2,12 +2,12 @@
 use Rattle.std.proofs.Common.{◌≡◌, ℕ, suc, ◌≤◌, ◌==◌, true, false, refl, sym, ap, ◌∙◌, arith, leb, inl, inr, List, [], ◌∷◌, ◌++◌, length, append_assoc, length-append, Option, Some, None}
 use Rattle.std.specs.Str.{bytes_eq}
 use Rattle.std.proofs.lemmas.Slice.Eq.{bytes_eq-Decides}
-use Rattle.std.proofs.lemmas.Bool.{cases_Bool, true≢false, false≢true, le-leb}
+use Rattle.std.proofs.lemmas.Bool.{cases_Bool, true≢false, false≢true, le-leb, or_left, or_right}
 use Rattle.page_model.specs.Forest.{Forest, none, node, on, tally, label_in, relabelled}
 use Rattle.page_model.specs.Labels.{Root, Text, Element, Kind, Look, with_value, present, seen, named, Distinct, DistinctNames, SameNames, Alike}
 use Rattle.page_model.specs.Replay.{Op, OpAttr, OpUnattr, Done, others, put_in, do_attr, do_unattr, do_op, then_on, replay}
 use Rattle.page_model.specs.Edits.{line_edits, attribute_edits, look_edits}
-use Rattle.page_model.proofs.Everywhere.{or_false, or_left, or_right}
+use Rattle.page_model.proofs.Everywhere.{or_false}
 use Rattle.page_model.proofs.Tally.{on_tally, tally_off}
 
 -- ---- one node with another label
@@ -63,7 +63,7 @@ relabelled_twice n s t (node m x k r) = elim (cases_Bool (m == n)) [
 
 -- ---- attributes
 
-same_name : (n : List ℕ) → bytes_eq n n ≡ true
+pub same_name : (n : List ℕ) → bytes_eq n n ≡ true
 same_name n = (bytes_eq-Decides n n).1 refl
 
 others_missing : {V : Type 0} (name : List ℕ) (xs : List (List ℕ × V)) → named name xs ≡ false → others name xs ≡ xs

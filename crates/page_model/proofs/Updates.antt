@@ -14,11 +14,11 @@ use Rattle.page_model.proofs.Orders.{in_keys, place_below, place_apart}
 use Rattle.page_model.proofs.Shown.{sound_num}
 use Rattle.page_model.proofs.Edits.{Linkable, edits_lead}
 use Rattle.page_model.proofs.Looks.{looks_with, by_number_with, number_with, by_number_is}
-use Rattle.page_model.proofs.Newcomers.{in_ascending_by, in_those, in_flat, covered}
+use Rattle.page_model.proofs.Newcomers.{in_ascending_by, in_flat, covered, to_those}
 
 -- ---- numbers
 
-old_number : (old : NumberedPage) (shape : Forest Look) (a : ℕ) → on a (page_shape old) ≡ true → carried old shape a ≡ number_of old a
+pub old_number : (old : NumberedPage) (shape : Forest Look) (a : ℕ) → on a (page_shape old) ≡ true → carried old shape a ≡ number_of old a
 old_number old shape a e = rw e refl
 
 pub new_number : (old : NumberedPage) (shape : Forest Look) (a : ℕ) → on a (page_shape old) ≡ false → carried old shape a ≡ old.next + place_in a (new_order old shape)
@@ -34,14 +34,14 @@ all_covered old shape p s a h z =
     let k0 = (root_kept old p).0 in
     covered kept shape (new_order old shape)
     (λ q o e j i. in_flat (λ b. newcomers kept (kids b shape)) j q (ascending_by (number_of old) (those (λ b. on b shape) (keys (page_shape old))))
-    (in_ascending_by (number_of old) q (those (λ b. on b shape) (keys (page_shape old))) ∙ in_those (λ b. on b shape) q (keys (page_shape old)) (in_keys q (page_shape old) ∙ e) o) i)
+    (in_ascending_by (number_of old) q (those (λ b. on b shape) (keys (page_shape old))) ∙ to_those (λ b. on b shape) q (keys (page_shape old)) (in_keys q (page_shape old) ∙ e) o) i)
     shape (knows shape s.once) (λ j e. e)
     (λ j i. (
     let nothing : newcomers kept shape ≡ [] = ap (newcomers kept) s.rooted.is ∙ (rw k0 refl) in
     absurd (false≢true (sym (ap (listed j) nothing) ∙ i))))
     a h z
 
-distinct_after : (old : NumberedPage) (shape : Forest Look) → IsPage old → IsShape shape → (a b : ℕ) → on a shape ≡ true → on b shape ≡ true → carried old shape a ≡ carried old shape b → a ≡ b
+pub distinct_after : (old : NumberedPage) (shape : Forest Look) → IsPage old → IsShape shape → (a b : ℕ) → on a shape ≡ true → on b shape ≡ true → carried old shape a ≡ carried old shape b → a ≡ b
 distinct_after old shape p s a b h g e = elim (cases_Bool (on a (page_shape old))) [
   | inl u ↦ elim (cases_Bool (on b (page_shape old))) [
     | inl v ↦ p.distinct a b u v (sym (old_number old shape a u) ∙ (e ∙ old_number old shape b v))

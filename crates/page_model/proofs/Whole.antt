@@ -1,20 +1,20 @@
 -- The whole: the operations lead from the old tree to the new one.
 use Rattle.std.proofs.Common.{◌≡◌, ℕ, suc, ◌+◌, ◌<◌, ◌≤◌, ◌==◌, Bool, true, false, ◌||◌, ◌&&◌, not, refl, sym, ap, ◌∙◌, append_assoc, arith, if◌then◌else◌, eqb-true, eq-eqb, inl, inr, List, [], ◌∷◌, ◌++◌, map}
 use Rattle.std.specs.List.{flat_map}
-use Rattle.std.proofs.lemmas.Bool.{cases_Bool, false≢true, true≢false, or_cases}
+use Rattle.std.proofs.lemmas.Bool.{cases_Bool, false≢true, true≢false, or_cases, or_left, or_right}
 use Rattle.page_model.specs.Labels.{Root, Kind, holds}
 use Rattle.page_model.specs.Replay.{Op, OpRemove, Done, replay}
 use Rattle.page_model.specs.Forest.{Forest, none, node, count, has, on, tally, kids, parent, pruned, label_in, tops, depth, height}
 use Rattle.page_model.specs.Edits.{listed, siblings, child_edits}
 use Rattle.page_model.proofs.Facts.{as_was, Knows, Clear, Once, newly, all_newly, Labelled, Linked, plan}
-use Rattle.page_model.proofs.Everywhere.{or_false, flipped, not_same, or_right, or_left, arranged}
-use Rattle.page_model.proofs.Tally.{off_tally, on_tally, tally_off}
+use Rattle.page_model.proofs.Everywhere.{or_false, flipped, not_same, arranged}
+use Rattle.page_model.proofs.Tally.{off_tally, on_tally, tally_off, has_on}
 use Rattle.page_model.proofs.Parents.{Waiting, newly_clear, replay_more, replayed, plan_edits}
 use Rattle.page_model.proofs.Removals.{removed}
 use Rattle.page_model.proofs.KeptNodes.{Says, told_all}
 use Rattle.page_model.proofs.Depths.{Fits, fits_kids}
 use Rattle.page_model.proofs.Levels.{depth_parent, depth_low, fits_self, fits_sits}
-use Rattle.page_model.proofs.Linked.{has_on, on_kids, single_of, knows, tells, sits, matches_at, ready_of, clear_of, labelled_of}
+use Rattle.page_model.proofs.Linked.{on_kids, single_of, knows, tells, sits, matches_at, ready_of, clear_of, labelled_of}
 
 -- what a number has over the kept nodes that aren't listed
 abbrev pub over : {A : Type 0} → (ℕ → Bool) → (ℕ → ℕ) → List ℕ → Forest A → ℕ
@@ -159,7 +159,7 @@ from_left tell x y os ns ps l st o e says =
 
 -- ---- what the removals leave
 
-kept_on : {A : Type 0} (keep : ℕ → Bool) (n : ℕ) (t : Forest A) → on n (pruned keep t) ≡ true → (on n t ≡ true) × (keep n ≡ true)
+pub kept_on : {A : Type 0} (keep : ℕ → Bool) (n : ℕ) (t : Forest A) → on n (pruned keep t) ≡ true → (on n t ≡ true) × (keep n ≡ true)
 kept_on keep n none h = absurd (false≢true h)
 kept_on keep n (node m x k r) h = elim (cases_Bool (keep m)) [
   | inl a ↦ (

@@ -1,7 +1,7 @@
 -- How a tree is stored where a value with a model of its own holds it.
 use Rattle.std.specs.Prelude.{◌≡◌, ℕ, List, [], ◌∷◌, Option, Some, None, refl}
 use Rattle.std.specs.Coded.{Coded, code_by, coded_list, coded_option, coded_ℕ, coded×}
-use Rattle.std.proofs.Common.{◌∙◌, ap}
+use Rattle.std.proofs.Common.{◌∙◌}
 use Rattle.page_model.specs.Forest.{Forest, none, node}
 use Rattle.page_model.specs.Labels.{Root, Text, Element, Kind}
 
