@@ -6,7 +6,7 @@ use Rattle.page_model.specs.Labels.{Root, Text, Element, Kind, holds}
 use Rattle.page_model.specs.Edits.{siblings, put_at, taken}
 use Rattle.page_model.specs.Replay.{Op, OpRemove, OpInsert, OpMove, OpText, OpAttr, OpUnattr, Answer, Done, Refused, NoSuchNode, NoSuchPlace, NumberUsed, TooDeep, do_op, below_root, first_used, first_deep, others, put_in}
 use Rattle.page_model.specs.Trees.{IsTree, Brings}
-use Rattle.page_model.proofs.Shared.{at_away, or_false, or_left, or_right, off_tally, on_tally, tally_off, tally_on, has_on, has_parent, on_kids, tally_kids, on_relabelled, siblings_moved, siblings_put, siblings_without, attr_done, text_done, unattr_done, both, done_if, found_none, if_done, not_zero, tally_inserted, tally_kept, tally_parted, unused, on_at, knows, knows_kids, tells, tells_kids, only_known}
+use Rattle.page_model.proofs.Shared.{at_away, or_false, or_left, or_right, off_tally, on_tally, tally_off, tally_on, has_on, has_parent, on_kids, tally_kids, on_relabelled, siblings_moved, siblings_put, siblings_without, attr_done, text_done, unattr_done, both, done_if, found_none, if_done, not_zero, tally_inserted, tally_kept, tally_parted, unused, on_at, knows, knows_kids, tells, tells_kids, only_known, flipped}
 use Rattle.page_tree.specs.Rows.{Row, written, tree_in, HaveRows, is_row, IsKept, edited, with_label, with_children, with_attributes, reattributed, gone, cut, children_of}
 use Rattle.page_tree.specs.Queries.{IsDone}
 use Rattle.page_tree.specs.Subs.{rows_of, after_rows}
@@ -139,19 +139,13 @@ after_both : (q : ℕ) (xs ys : List (ℕ × Row)) (o : Option Row) → after_ro
 after_both q [] ys o = refl
 after_both q (x ∷ xs) ys o = after_both q xs ys (written x.0 x.1 q o)
 
-other_way : (q n : ℕ) → (n == q) ≡ false → (q == n) ≡ false
-other_way q n e = elim (cases_Bool (q == n)) [
-  | inl a ↦ (let s : q ≡ n = eqb-true q n a in absurd (false≢true (sym e ∙ eq-eqb n q (sym s))))
-  | inr a ↦ a
-]
-
 -- a number that isn't among those that come keeps its row
 after_other : (q above : ℕ) (s : Forest Kind) (o : Option Row) → on q s ≡ false → after_rows q (rows_of above s) o ≡ o
 after_other q above none o e = refl
 after_other q above (node n x k r) o e =
     let b = or_false (n == q) (on q k) (on q r) e in
     let row : Row = record { label = x; parent = above; children = siblings k } in
-    let skip : written n row q o ≡ o = rw (other_way q n b.0) refl in
+    let skip : written n row q o ≡ o = rw (flipped n q b.0) refl in
     after_both q (rows_of n k) (rows_of above r) (written n row q o)
     ∙ (ap (λ w. after_rows q (rows_of above r) (after_rows q (rows_of n k) w)) skip
     ∙ (ap (after_rows q (rows_of above r)) (after_other q n k o b.1) ∙ after_other q above r o b.2))
@@ -336,7 +330,7 @@ remove_leads n rows mid rows' k r s c =
     let h_mid = holds_edited p (taken n) (without n) rows mid k sits.1 (λ q e. s q) (siblings_without n (kids p t)) (λ z. holds_without mid p n (kids p t) z) in
     let h : HaveRows rows' 0 u = holds_same mid rows' 0 u (λ q e. (
     let z = or_false (n == q) (on q below) false (u_off q e) in
-    cut_row (on q below) (q == n) (rows' q) (mid q) (cuts q) z.1 (other_way q n z.0))) h_mid in
+    cut_row (on q below) (q == n) (rows' q) (mid q) (cuts q) z.1 (flipped n q z.0))) h_mid in
     let gone_is_u : pruned (λ m. not (m == n)) t ≡ u = pruned_without n p t (o n) (o p) sits.1 sits.0 in
     let done : do_op (OpRemove n) t ≡ Done u = rw r (ap Done gone_is_u) in
     leads (OpRemove n) rows rows' u k tt done h
@@ -344,7 +338,7 @@ remove_leads n rows mid rows' k r s c =
     let z = cut_none (on m below) (m == n) (rows' m) (mid m) (cuts m) e in
     let on_t = k.just m (row_still p (with_children (taken n)) m (mid m) (rows m) (s m) z.2) in
     let many = on_tally m t on_t in
-    let off : on m (node n (label_in Root n t) below none) ≡ false = rw (other_way n m z.1, z.0) refl in
+    let off : on m (node n (label_in Root n t) below none) ≡ false = rw (flipped m n z.1, z.0) refl in
     let none_here = off_tally m (node n (label_in Root n t) below none) off in
     let w = sum m in
     tally_on m u (omega (arith, many, none_here, w))))

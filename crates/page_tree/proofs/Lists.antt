@@ -31,13 +31,6 @@ taken_none n (m ∷ ms) h = elim (cases_Bool (m == n)) [
   | inr e ↦ (let h' = rw e at h in rw e (ap (λ zs. m ∷ zs) (taken_none n ms (omega (arith, h')))))
 ]
 
-pub place_listed : (n : ℕ) (ms : List ℕ) → listed n ms ≡ true → place_in n ms < length ms
-place_listed n [] h = absurd (false≢true h)
-place_listed n (m ∷ ms) h = elim (cases_Bool (m == n)) [
-  | inl e ↦ rw e (omega arith)
-  | inr e ↦ (let i = place_listed n ms (rw e at h) in rw e (omega (arith, i)))
-]
-
 pub length_taken : (n : ℕ) (ms : List ℕ) → listed n ms ≡ true → suc (length (taken n ms)) ≡ length ms
 length_taken n [] h = absurd (false≢true h)
 length_taken n (m ∷ ms) h = elim (cases_Bool (m == n)) [
