@@ -1,9 +1,9 @@
 -- A formula answers the same on rows that are the same.
-use Rattle.std.proofs.Common.{◌≡◌, ℕ, Bool, true, false, ◌&&◌, refl, ap, sym, subst, ◌∙◌, List, Option, Some, None, [], inl, inr}
+use Rattle.std.proofs.Common.{◌≡◌, ℕ, Bool, true, false, refl, ap, ◌∙◌, List, Option, Some, None, []}
 use Rattle.std.specs.Prelude.{option_map, option_and_then}
 use Rattle.std.specs.List.{slice_get}
 use Rattle.std.specs.Str.{bytes_eq}
-use Rattle.std.proofs.lemmas.Bool.{cases_Bool, false≢true}
+use Rattle.std.proofs.lemmas.Bool.{false≢true, and_parts}
 use Rattle.std.proofs.lemmas.Slice.Eq.{bytes_eq-Decides, slice_eq-Decides}
 use lib.Pointwise.{pointwise}
 use Rattle.sig_base.specs.Tables.{same_row-Decides}
@@ -14,7 +14,7 @@ use Rattle.sig_formula.specs.declared.evaluate.FormulaStep.TheVariants.{End}
 use Rattle.sig_formula.specs.declared.formula.RowRef.{RowRef}
 use Rattle.sig_formula.specs.Evaluation.{chosen, count_outcome, decided, field_outcome, formula_step, keep_step, key_outcome, negated, operated, plain_step, present, sum_step, unless_decided, value_under, with_rows, with_value}
 use Rattle.sig_formula.specs.Trees.{Tree, literal, slot, row_field, row_key, negation, binary, choice, count_of, sum_of, rows_where, untracked}
-use Rattle.tpl_model.specs.Sources.{same_here, same_place}
+use Rattle.tpl_model.specs.Sources.{same_place}
 use Rattle.tpl_model.specs.Laws.{SameRowsLaw}
 
 -- two rows that have the same parts
@@ -59,15 +59,6 @@ placed_alike None (Some s) h = absurd (false≢true h)
 placed_alike (Some r) None h = absurd (false≢true h)
 placed_alike (Some r) (Some s) h = ap Some ((same_row-Decides r s).0 h)
 
--- both of two tests that hold together
-first_holds : (a b : Bool) → (a && b) ≡ true → a ≡ true
-first_holds true b h = refl
-first_holds false b h = h
-
-second_holds : (a b : Bool) → (a && b) ≡ true → b ≡ true
-second_holds true b h = h
-second_holds false b h = absurd (false≢true h)
-
 have_same : (r s : RowRef) → r.rows.fields ≡ s.rows.fields → slice_get r.rows.rows r.place ≡ slice_get s.rows.rows s.place →
     HaveSameParts (Some r) (Some s)
 have_same r s f e = record {
@@ -81,6 +72,6 @@ pub same_rows : SameRowsLaw
 same_rows r s h f known =
     let fields = pointwise bytes_eq r.rows.fields s.rows.fields in
     let rows = same_place (slice_get r.rows.rows r.place) (slice_get s.rows.rows s.place) in
-    let a = (slice_eq-Decides bytes_eq-Decides r.rows.fields s.rows.fields _ refl).0 (first_holds fields rows h) in
-    let b = placed_alike (slice_get r.rows.rows r.place) (slice_get s.rows.rows s.place) (second_holds fields rows h) in
+    let a = (slice_eq-Decides bytes_eq-Decides r.rows.fields s.rows.fields _ refl).0 (and_parts fields rows h).0 in
+    let b = placed_alike (slice_get r.rows.rows r.place) (slice_get s.rows.rows s.place) (and_parts fields rows h).1 in
     ap plain_step (same_step false f (Some r) (Some s) known [] (have_same r s a b))

@@ -17,7 +17,7 @@ same_read : (m : ℕ) (o : Outcome) (go go' : Value → Evaluation) → ((v : Va
 same_read m (Bad e) go go' h = refl
 same_read m (Good v) go go' h = ap (read_first (record { name = m; outcome = Good v })) (h v)
 
-same_step : (s : Step) (slots : List ℕ) (source : ℕ → Outcome) (go go' : ℕ → Value → Evaluation) →
+pub same_step : (s : Step) (slots : List ℕ) (source : ℕ → Outcome) (go go' : ℕ → Value → Evaluation) →
     ((n : ℕ) (v : Value) → go n v ≡ go' n v) → after_step s slots source go ≡ after_step s slots source go'
 same_step (Done v) slots source go go' h = refl
 same_step (Fail e) slots source go go' h = refl

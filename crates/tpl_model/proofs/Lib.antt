@@ -10,6 +10,8 @@ mod Sized
 mod Rows
 mod Alike
 mod Dependence
+mod Orders
+mod Numbered
 mod PageUpdates
 mod Needs
 mod NextPage

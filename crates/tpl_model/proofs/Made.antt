@@ -1,5 +1,5 @@
 -- Pages that are made from a template, step by step.
-use Rattle.std.proofs.Common.{◌≡◌, ℕ, ◌<◌, ◌==◌, true, false, refl, sym, subst, ◌∙◌, arith, eqb-true, inl, inr, List, None}
+use Rattle.std.proofs.Common.{◌≡◌, ℕ, ◌==◌, true, false, sym, subst, eqb-true, inl, inr, List, None}
 use Rattle.std.proofs.lemmas.Bool.{cases_Bool, false≢true}
 use Rattle.page_model.specs.Forest.{Forest, none, node, on, parent, label_in}
 use Rattle.page_model.specs.Labels.{Root, Look, Alike}

@@ -1,4 +1,3 @@
-pub mod Facts
 pub mod Children
 pub mod Marks
 pub mod Lookups

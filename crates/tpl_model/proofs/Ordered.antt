@@ -1,25 +1,17 @@
 -- A page from scratch has the numbers of a page that is mounted.
-use Rattle.std.proofs.Common.{◌≡◌, ℕ, suc, ◌+◌, ◌≤◌, ◌==◌, Bool, true, false, ◌||◌, refl, sym, ap, ◌∙◌, arith, eqb-true, eq-eqb, inl, inr, List, [], ◌∷◌, ◌++◌, append-nil, length, length-append}
+use Rattle.std.proofs.Common.{◌≡◌, ℕ, suc, ◌+◌, ◌≤◌, ◌==◌, Bool, true, false, refl, sym, ap, ◌∙◌, arith, eq-eqb, inl, inr, List, [], ◌∷◌, ◌++◌, append-nil, length}
 use Rattle.std.proofs.lemmas.Bool.{cases_Bool, false≢true}
 use Rattle.page_model.specs.Edits.{listed}
-use Rattle.page_model.specs.Forest.{Forest, none, node, keys, numbered, on, one, tally}
+use Rattle.page_model.specs.Forest.{Forest, none, node, keys, numbered, on, tally}
 use Rattle.page_model.specs.Labels.{Root, Look, shown}
-use Rattle.page_model.specs.Pages.{IsShape, bare, by_number, carried, new_order, newcomers, page_shape, place_in, renumbered, tree_of, with_numbers}
-use Rattle.page_model.proofs.Shared.{off_tally, on_tally}
-use Rattle.tpl_model.specs.Laws.{IsTemplate, GivesRows, ScratchLaw}
-use Rattle.tpl_model.specs.Shapes.{shape_of, shown_lines}
+use Rattle.page_model.specs.Pages.{bare, carried, new_order, newcomers, page_shape, place_in, renumbered, tree_of}
+use Rattle.page_model.proofs.Shared.{on_tally, by_number_with, in_keys}
+use Rattle.tpl_model.specs.Laws.{ScratchLaw}
+use Rattle.tpl_model.specs.Shapes.{shown_lines}
 use Rattle.tpl_model.specs.Sources.{in_order}
 use Rattle.tpl_model.proofs.Shaped.{shape_law}
 
 -- ---- places in document order
-
-listed_in : (a : ℕ) (xs ys : List ℕ) → listed a (xs ++ ys) ≡ (listed a xs || listed a ys)
-listed_in a [] ys = refl
-listed_in a (x ∷ xs) ys = elim (cases_Bool (x == a)) [ inl e ↦ rw e refl | inr e ↦ rw e (listed_in a xs ys) ]
-
-listed_on : {A : Type 0} (a : ℕ) (t : Forest A) → listed a (keys t) ≡ on a t
-listed_on a none = refl
-listed_on a (node m x k r) = rw (listed_in a (keys k) (keys r), listed_on a k, listed_on a r) refl
 
 place_left : (a : ℕ) (xs ys : List ℕ) → listed a xs ≡ true → place_in a (xs ++ ys) ≡ place_in a xs
 place_left a [] ys h = absurd (false≢true h)
@@ -76,21 +68,21 @@ by_places number n (node m x k r) h p =
     let below : numbered number k ≡ in_order (suc n) k = by_places number (suc n) k (once_kids m x k r h)
     (λ a i. (
     let e = apart_below a m x k r h i in
-    let s = place_left a (keys k) (keys r) (listed_on a k ∙ i) in
+    let s = place_left a (keys k) (keys r) (in_keys a k ∙ i) in
     let q = p a (rw (e, i) refl) in
     q ∙ rw (e, s) (omega arith))) in
     let beside : numbered number r ≡ in_order (suc n + length (keys k)) r = by_places number (suc n + length (keys k)) r
     (once_rest m x k r h)
     (λ a i. (
     let e = apart_beside a m x k r h i in
-    let s = place_right a (keys k) (keys r) (listed_on a k ∙ e.1) in
+    let s = place_right a (keys k) (keys r) (in_keys a k ∙ e.1) in
     let q = p a (rw (e.0, e.1, i) refl) in
     q ∙ rw (e.0, s) (omega arith))) in
     rw (own, below, beside) refl
 
 -- ---- the first page
 
-newcomers_all : (kept : ℕ → Bool) (t : Forest Look) → ((a : ℕ) → on a t ≡ true → kept a ≡ false) → newcomers kept t ≡ keys t
+pub newcomers_all : (kept : ℕ → Bool) (t : Forest Look) → ((a : ℕ) → on a t ≡ true → kept a ≡ false) → newcomers kept t ≡ keys t
 newcomers_all kept none h = refl
 newcomers_all kept (node m x k r) h =
     let self = eq-eqb m m refl in
@@ -101,10 +93,6 @@ newcomers_all kept (node m x k r) h =
           (on a k)) [ inl v ↦ rw (u, v) refl | inr v ↦ rw (u, v) p ]
     ])) in
     rw (e, i) refl
-
-numbers_shown : (number : ℕ → ℕ) (t : Forest Look) → by_number (with_numbers number t) ≡ numbered number t
-numbers_shown number none = refl
-numbers_shown number (node m x k r) = rw (numbers_shown number k, numbers_shown number r) refl
 
 -- an address below the root wasn't on the bare page
 fresh : (t : Forest Look) → Once (node 0 Root t none) → (a : ℕ) → on a t ≡ true → on a (page_shape bare) ≡ false
@@ -119,7 +107,7 @@ first_page t h =
     let number = carried bare (node 0 Root t none) in
     let o = by_places number 1 t (once_kids 0 Root t none h) (λ a i. (let e = fresh t h a i in let s = bare_order t h in
     rw (e, s) refl)) in
-    ap (λ u. node 0 Root (shown u) none) (numbers_shown number t ∙ o)
+    ap (λ u. node 0 Root (shown u) none) (by_number_with number t ∙ o)
 
 pub scratch_law : ScratchLaw
 scratch_law lines evaluate f g = first_page (shown_lines evaluate lines).nodes (record { once = (shape_law lines evaluate f g).once })

@@ -1,5 +1,3 @@
-pub mod Trees
-pub mod Orders
 pub mod Addressed
 pub mod Summary
 pub mod Walk

@@ -1,5 +1,5 @@
 -- What a template shows is a shape.
-use Rattle.std.proofs.Common.{◌≡◌, ℕ, suc, ◌+◌, ◌<◌, ◌≤◌, ◌==◌, Bool, true, false, ◌||◌, not, refl, sym, ap, arith, eqb-true, inl, inr, List, Option, None}
+use Rattle.std.proofs.Common.{◌≡◌, ℕ, suc, ◌+◌, ◌<◌, ◌≤◌, ◌==◌, true, false, not, refl, sym, ap, arith, eqb-true, inl, inr, List, Option, None}
 use Rattle.std.proofs.lemmas.Bool.{cases_Bool, false≢true}
 use Rattle.html_out.specs.Html.{is_void}
 use Rattle.page_model.specs.Addresses.{address}

@@ -11,17 +11,15 @@ pub use Rattle.tpl_model.proofs.Sized.{size_law}
 -- what is kept
 pub use Rattle.tpl_model.proofs.PageUpdates.Numbers.{read_law, number_law}
 pub use Rattle.tpl_model.proofs.PageUpdates.Mounts.{mount_law, source_law}
-pub use Rattle.tpl_model.proofs.PageUpdates.Memos.{shape_shown, shows}
+pub use Rattle.tpl_model.proofs.PageUpdates.Memos.{left_off, right_off, shape_shown, shows}
 pub use Rattle.tpl_model.proofs.PageUpdates.Evaluations.{steady, begins}
 pub use Rattle.tpl_model.proofs.PageUpdates.Updates.{memo_agree, memo_like}
--- lists of numbers
-pub use Rattle.tpl_model.proofs.PageUpdates.Trees.{in_both}
 -- the order of asking, at any place of a page
 pub use Rattle.tpl_model.proofs.PageUpdates.Names.{memo_upto}
 -- two trees side by side
 pub use Rattle.tpl_model.proofs.PageUpdates.Walk.{Single, within_whole, within_first, within_later, within_kids}
 pub use Rattle.tpl_model.proofs.PageUpdates.Walk.{Half, half_first, half_later, half_kids}
-pub use Rattle.tpl_model.proofs.Needs.Needed.{inside_law, last_law, missing_is, next_law}
+pub use Rattle.tpl_model.proofs.Needs.Needed.{counted_at, counted_length, inside_law, last_law, missing_is, next_law}
 pub use Rattle.tpl_model.proofs.NextPage.Marks.{marks_law, whole_law}
 pub use Rattle.tpl_model.proofs.NextPage.Marks.{covers_none, covers_after, covers_node, covers_skip}
 -- what is read by number, and what is told
@@ -34,10 +32,12 @@ pub use Rattle.tpl_model.proofs.NextPage.Children.{children_law, stays_child}
 pub use Rattle.tpl_model.proofs.NextPage.Edits.{operations_law}
 pub use Rattle.tpl_model.proofs.NextPage.Renewed.{update_law}
 -- lists of numbers
-pub use Rattle.tpl_model.proofs.NextPage.Facts.{often_both, listed_often, often_listed, from_those, to_those, same_order}
+pub use Rattle.page_model.proofs.Shared.{in_both, from_those, to_those}
+pub use Rattle.tpl_model.proofs.Orders.{often_both, listed_often, often_listed, same_order, flat_same}
 pub use Rattle.tpl_model.proofs.NextPage.Lookups.{map_in, in_map, children_read}
 -- numbered trees
-pub use Rattle.tpl_model.proofs.NextPage.Facts.{in_keys, by_number_is, on_num, kids_num, child_on, New}
-pub use Rattle.tpl_model.proofs.NextPage.Arrivals.{all_new}
+pub use Rattle.page_model.proofs.Shared.{in_keys, by_number_is, on_num, New, all_new}
+pub use Rattle.tpl_model.proofs.Numbered.{kids_num, child_on}
+pub use Rattle.tpl_model.proofs.Ordered.{newcomers_all}
 pub use Rattle.tpl_model.proofs.ShownNodes.Codes.{same_number}
 pub use Rattle.tpl_model.proofs.ShownNodes.Equations.{tree_is, tree_shown}

@@ -10,17 +10,13 @@ use Rattle.sig_base.specs.declared.value.Value.TheVariants as value
 use Rattle.sig_base.specs.declared.value.Outcome.{Outcome}
 use Rattle.sig_base.specs.declared.value.Outcome.TheVariants.{Good, Bad}
 use Rattle.page_model.specs.Addresses.{address}
-use Rattle.page_model.specs.Forest.{Forest, none, node, after, one, tally}
+use Rattle.page_model.specs.Forest.{Forest, none, node, one, tally}
 use Rattle.page_model.specs.Labels.{Text, Element, Look}
-use Rattle.page_model.proofs.Shared.{one_address}
+use Rattle.page_model.proofs.Shared.{one_address, tally_after}
 use Rattle.tpl_model.specs.Lines.{Line, TextLine, TagLine, AttrLine, IfLine, ElseLine, EachLine, TryLine, EndLine, Block, empty, text, tag, choice, each, attempt, Part, with_line, parts_from, first_block, block_of}
 use Rattle.tpl_model.specs.Shapes.{Evaluating, Here, key_here, row_here, Showing, formula_shown, then_shown, within, chosen, rows_from, each_row, attempted, node_text, attributes_of, attributes_told, shown_block}
 use Rattle.tpl_model.specs.Laws.{Fits, GivesRows}
 use Rattle.tpl_model.proofs.Kept.{Closed, then_has, attributes_none, inside_has, shown_has}
-
-pub tally_after : {A : Type 0} (j : ℕ) (xs ys : Forest A) → tally j (after xs ys) ≡ tally j xs + tally j ys
-tally_after j none ys = omega arith
-tally_after j (node m x k r) ys = omega (arith, tally_after j r ys)
 
 -- how often the ordinal stands in a block
 abbrev pub times : ℕ → Block → ℕ

@@ -1,5 +1,5 @@
 -- A page brought up to date: what is settled for it, and how it is carried on.
-use Rattle.std.specs.Prelude.{◌≡◌, ℕ, List}
+use Rattle.std.specs.Prelude.{ℕ, List}
 use Rattle.signal_model.specs.Recipes.{Hosts}
 use Rattle.signal_model.specs.Signals.{Signals}
 use Rattle.signal_model.specs.Memos.{Memos}

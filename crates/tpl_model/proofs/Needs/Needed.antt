@@ -75,11 +75,11 @@ needed_is known lines source tells =
 abbrev moved : ℕ → ℕ → ℕ
 moved count n = if nat_lt n count then n else suc n
 
-counted_length : (n i : ℕ) → length (counted n i) ≡ n
+pub counted_length : (n i : ℕ) → length (counted n i) ≡ n
 counted_length zero i = refl
 counted_length (suc n) i = ap suc (counted_length n (suc i))
 
-counted_at : (n i s : ℕ) → s < n → slice_index (counted n i) s ≡ i + s
+pub counted_at : (n i s : ℕ) → s < n → slice_index (counted n i) s ≡ i + s
 counted_at zero i s h = absurd (omega arith)
 counted_at (suc n) i zero h = omega arith
 counted_at (suc n) i (suc s) h = (let e = counted_at n (suc i) s (omega arith) in e ∙ omega arith)

@@ -1,60 +1,19 @@
 -- What comes to the page, and its numbers.
 use Rattle.std.proofs.Common.{◌≡◌, ℕ, suc, ◌+◌, ◌≤◌, ◌==◌, Bool, true, false, List, [], ◌∷◌, ◌++◌, length, append_assoc, length-append, refl, sym, ap, ◌∙◌, eqb-true, eq-eqb, inl, inr, arith}
 use Rattle.std.specs.List.{flat_map}
-use Rattle.std.proofs.lemmas.Bool.{cases_Bool, false≢true, true≢false, or_cases}
+use Rattle.std.proofs.lemmas.Bool.{cases_Bool, false≢true}
 use Rattle.page_model.specs.Edits.{listed, taken}
 use Rattle.page_model.specs.Forest.{Forest, none, node, on, tally, keys, kids, pruned, numbered}
 use Rattle.page_model.specs.Labels.{Look}
-use Rattle.page_model.specs.Pages.{NumberedPage, IsPage, IsShape, SameOrigin, ascending_by, carried, looks, new_order, newcomers, number_of, page_shape, those}
-use Rattle.page_model.proofs.Shared.{on_tally}
+use Rattle.page_model.specs.Pages.{NumberedPage, IsPage, IsShape, SameOrigin, ascending_by, carried, new_order, newcomers, number_of, page_shape, those}
+use Rattle.page_model.proofs.Shared.{on_tally, all_new, brought_new, from_some, new_kids, Knows, from_those, in_keys, knows, still_on}
 use Rattle.tpl_model.specs.Sources.{in_order}
 use Rattle.tpl_model.specs.PageUpdates.Differences.{often}
-use Rattle.tpl_model.proofs.PageUpdates.Trees.{in_both}
 use Rattle.tpl_model.proofs.PageUpdates.Numbers.{number_law}
 use Rattle.tpl_model.specs.NextPage.Arrivals.{OrderLaw, SerialLaw}
-use Rattle.tpl_model.proofs.NextPage.Facts.{Knows, New, all_gone, from_those, in_keys, knows, listed_often, often_both, often_keys, often_listed, often_taken, often_those, parent_at, still_on}
 use Rattle.tpl_model.proofs.NextPage.Marks.{flat_ascending}
-
--- ---- what comes is new
-
-brought_new : (kept : ℕ → Bool) (t : Forest Look) (j : ℕ) → New kept t → listed j (newcomers kept t) ≡ true → kept j ≡ false
-brought_new kept none j w h = absurd (false≢true h)
-brought_new kept (node m x k r) j w h = elim (cases_Bool (kept m)) [
-  | inl e ↦ brought_new kept r j w.2 (rw e at h)
-  | inr e ↦ (
-      let h' : listed j ((m ∷ keys k) ++ newcomers kept r) ≡ true = rw e at h in
-      elim (or_cases (listed j (m ∷ keys k)) (listed j (newcomers kept r)) (sym (in_both j (m ∷ keys k) (newcomers kept r)) ∙ h')) [
-        | inl f ↦ elim (or_cases (m == j) (listed j (keys k)) f) [
-          | inl g ↦ ap kept (sym (eqb-true m j g)) ∙ e
-          | inr g ↦ w.0 e j (sym (in_keys j k) ∙ g)
-        ]
-        | inr f ↦ brought_new kept r j w.2 f
-      ])
-]
-
-new_kids : (kept : ℕ → Bool) (a : ℕ) (t : Forest Look) → New kept t → New kept (kids a t)
-new_kids kept a none w = tt
-new_kids kept a (node m x k r) w = elim (cases_Bool (m == a)) [
-  | inl e ↦ rw e w.1
-  | inr e ↦ elim (cases_Bool (on a k)) [
-    | inl f ↦ rw (e, f) (new_kids kept a k w.1)
-    | inr f ↦ rw (e, f) (new_kids kept a r w.2)
-  ]
-]
-
-from_flat : (f : ℕ → List ℕ) (j : ℕ) (xs : List ℕ) → listed j (flat_map f xs) ≡ true → (a : ℕ) × (listed j (f a) ≡ true)
-from_flat f j [] h = absurd (false≢true h)
-from_flat f j (x ∷ xs) h = elim (or_cases (listed j (f x)) (listed j (flat_map f xs)) (sym (in_both j (f x) (flat_map f xs)) ∙ h)) [
-  | inl e ↦ (x, e)
-  | inr e ↦ from_flat f j xs e
-]
-
--- below a new node all is new
-pub all_new : (p : NumberedPage) (shape : Forest Look) → IsPage p → IsShape shape → SameOrigin (page_shape p) shape → New (λ a. on a (page_shape p)) shape
-all_new p shape q s o =
-    let before = page_shape p in
-    all_gone shape before s.once (λ a h. parent_at a before (looks q.rooted.below) (ap looks q.rooted.is) q.once h) (λ a h k. sym (o.parents a k h)) shape (λ j e. e)
-    (knows shape s.once)
+use Rattle.tpl_model.proofs.Orders.{unlisted_often, listed_often, often_both, often_listed, often_taken, often_those}
+use Rattle.tpl_model.proofs.Numbered.{often_keys}
 
 -- ---- and comes once
 
@@ -116,13 +75,6 @@ flat_less f j (m ∷ ms) ks h =
     let t = flat_taken f j m ks l in
     omega (arith, i, b, t)
 
-unlisted : (a : ℕ) (xs : List ℕ) → listed a xs ≡ false → often a xs ≡ 0
-unlisted a [] h = refl
-unlisted a (x ∷ xs) h = elim (cases_Bool (x == a)) [
-  | inl e ↦ absurd (true≢false (rw e at h))
-  | inr e ↦ (let i = unlisted a xs (rw e at h) in rw e (omega (arith, i)))
-]
-
 not_there : (a : ℕ) (xs : List ℕ) → often a xs ≡ 0 → listed a xs ≡ false
 not_there a xs h = elim (cases_Bool (listed a xs)) [ inl e ↦ (let i = listed_often a xs e in absurd (omega (arith, i, h))) | inr e ↦ e ]
 
@@ -145,7 +97,7 @@ once_each p shape q s o j =
             | inl h ↦ (let u = on_tally a (pruned kept shape) (still_on kept a shape (all_new p shape q s o) g h) in omega (arith, c', d, e, l, u))
             | inr h ↦ elim (cases_Bool (listed a ms)) [
               | inl k ↦ (let m = from_those (λ b. on b shape) a (keys before) k in absurd (false≢true (sym h ∙ (sym (in_keys a before) ∙ m.0))))
-              | inr k ↦ (let z = unlisted a ms k in omega (arith, z))
+              | inr k ↦ (let z = unlisted_often a ms k in omega (arith, z))
             ]
           ])
       | inr g ↦ (let c' = rw g at c in omega (arith, c'))
@@ -161,7 +113,7 @@ order_law p shape q s o = record {
   new = λ a h.
       let before = page_shape p in
       let kept : ℕ → Bool = λ b. on b before in
-      let i = from_flat (λ b. newcomers kept (kids b shape)) a (ascending_by (number_of p) (those (λ b. on b shape) (keys before))) h in
+      let i = from_some (λ b. newcomers kept (kids b shape)) a (ascending_by (number_of p) (those (λ b. on b shape) (keys before))) h in
       brought_new kept (kids i.0 shape) a (new_kids kept i.0 shape (all_new p shape q s o)) i.1;
   once = once_each p shape q s o;
 }

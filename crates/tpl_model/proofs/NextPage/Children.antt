@@ -1,22 +1,17 @@
 -- The children of a node on a page and on the next one, by their numbers.
-use Rattle.std.proofs.Common.{◌≡◌, ℕ, ◌+◌, ◌<◌, ◌≤◌, ◌==◌, ltb, nat_eq, true, false, List, [], ◌∷◌, map, refl, sym, ap, subst, ◌∙◌, arith, eqb-true, eq-eqb, inl, inr}
+use Rattle.std.proofs.Common.{◌≡◌, ℕ, ◌<◌, ◌≤◌, ◌==◌, ltb, nat_eq, true, false, List, [], ◌∷◌, map, refl, sym, ap, subst, ◌∙◌, arith, eqb-true, eq-eqb, inl, inr}
 use Rattle.std.specs.List.{AllByRecursion, IsDistinct}
 use Rattle.std.proofs.lemmas.Bool.{cases_Bool, false≢true, true≢false, ltb-false, ltb-true}
 use Rattle.page_model.specs.Edits.{listed, siblings}
 use Rattle.page_model.specs.Forest.{Forest, none, node, has, kids, on, parent, tally}
 use Rattle.page_model.specs.Labels.{Root, Look}
-use Rattle.page_model.specs.Pages.{NumberedPage, IsPage, IsShape, SameOrigin, carried, looks, new_order, number_of, page_shape, place_in, renumbered, those}
-use Rattle.page_model.proofs.Shared.{has_listed, has_on, has_parent, kept_number, on_kids, on_tally, or_left, or_right, page_after, shape_after, tally_kids, unused_number}
+use Rattle.page_model.specs.Pages.{NumberedPage, IsPage, IsShape, SameOrigin, carried, looks, number_of, page_shape, those}
+use Rattle.page_model.proofs.Shared.{has_listed, has_on, has_parent, on_kids, on_tally, or_left, or_right, tally_kids, Once, distinct_after, new_number, old_number, parent_is}
 use Rattle.tpl_model.specs.NextPage.Children.{ChildrenLaw, next_children, old_children}
-use Rattle.tpl_model.proofs.NextPage.Facts.{child_on, parent_is, siblings_num}
 use Rattle.tpl_model.proofs.NextPage.Lookups.{children_read, in_map, map_in, those_num}
+use Rattle.tpl_model.proofs.Numbered.{child_on, siblings_num}
 
 -- ---- each number once
-
--- no number stands twice
-abbrev Once : List ℕ → Type 0
-Once [] = Unit {0}
-Once (x ∷ xs) = (listed x xs ≡ false) × Once xs
 
 once_siblings : {A : Type 0} (t : Forest A) → ((j : ℕ) → tally j t ≤ 1) → Once (siblings t)
 once_siblings none l = tt
@@ -70,32 +65,13 @@ numbers_once num t a l d =
 
 -- ---- the numbers of the next page
 
-carried_old : (p : NumberedPage) (shape : Forest Look) (b : ℕ) → on b (page_shape p) ≡ true → carried p shape b ≡ number_of p b
-carried_old p shape b e = rw e refl
-
-carried_new : (p : NumberedPage) (shape : Forest Look) (b : ℕ) → on b (page_shape p) ≡ false → carried p shape b ≡ p.next + place_in b (new_order p shape)
-carried_new p shape b e = rw e refl
-
-number_next : (p : NumberedPage) (shape : Forest Look) (b : ℕ) → on b shape ≡ true → number_of (renumbered p shape) b ≡ carried p shape b
-number_next p shape b h = elim (cases_Bool (on b (page_shape p))) [
-  | inl e ↦ kept_number p shape b e h ∙ sym (carried_old p shape b e)
-  | inr e ↦ unused_number p shape b e h ∙ sym (carried_new p shape b e)
-]
-
--- they tell nodes apart
-carried_apart : (p : NumberedPage) (shape : Forest Look) → IsPage p → IsShape shape → (b c : ℕ) → on b shape ≡ true → on c shape ≡ true →
-    carried p shape b ≡ carried p shape c → b ≡ c
-carried_apart p shape q s b c h g e =
-    let same : page_shape (renumbered p shape) ≡ shape = shape_after p shape in
-    (page_after p shape q s).distinct b c (ap (on b) same ∙ h) (ap (on c) same ∙ g) (number_next p shape b h ∙ (e ∙ sym (number_next p shape c g)))
-
 -- a number that was given before is that of a node that stood
 given_stood : (p : NumberedPage) (shape : Forest Look) → IsPage p → (b c : ℕ) → on b (page_shape p) ≡ true → carried p shape c ≡ number_of p b →
     c ≡ b
 given_stood p shape q b c o e = elim (cases_Bool (on c (page_shape p))) [
-  | inl f ↦ q.distinct c b f o (sym (carried_old p shape c f) ∙ e)
+  | inl f ↦ q.distinct c b f o (sym (old_number p shape c f) ∙ e)
   | inr f ↦ (
-      let u = carried_new p shape c f in
+      let u = new_number p shape c f in
       let v = q.below b o in
       absurd (omega (arith, u, v, e)))
 ]
@@ -157,7 +133,7 @@ left_by p shape a q s so o b h =
     elim (cases_Bool (on b shape)) [
       | inl e ↦ (
           let there = map_in (carried p shape) b ns (stays_child p shape a b q s so o h e) in
-          ap (λ z. listed z (map (carried p shape) ns)) (sym (carried_old p shape b old)) ∙ (there ∙ sym e))
+          ap (λ z. listed z (map (carried p shape) ns)) (sym (old_number p shape b old)) ∙ (there ∙ sym e))
       | inr e ↦ elim (cases_Bool (listed (number_of p b) (map (carried p shape) ns))) [
         | inl f ↦ (
             let i = in_map (carried p shape) (number_of p b) ns f in
@@ -175,12 +151,12 @@ stood_by p shape a q s so n b h =
     let os = siblings (kids a (page_shape p)) in
     elim (cases_Bool (on b (page_shape p))) [
       | inl e ↦ (
-          let is = carried_old p shape b e in
+          let is = old_number p shape b e in
           let there = map_in (number_of p) b os (stood_child p shape a b q s so n h e) in
           let below : ltb (number_of p b) p.next ≡ true = low (number_of p b) p.next (q.below b e) in
           ap (λ z. listed z (map (number_of p) os)) is ∙ (there ∙ sym (ap (λ z. ltb z p.next) is ∙ below)))
       | inr e ↦ (
-          let is = carried_new p shape b e in
+          let is = new_number p shape b e in
           let above : ltb (carried p shape b) p.next ≡ false = high (carried p shape b) p.next (omega (arith, is)) in
           elim (cases_Bool (listed (carried p shape b) (map (number_of p) os))) [
             | inl f ↦ (
@@ -204,7 +180,7 @@ children_law p shape q s so a o n =
     let news : siblings (next_children p shape a) ≡ map num (siblings (kids a shape)) = siblings_num num (kids a shape) in
     record {
       old_once = subst (IsDistinct nat_eq) (sym olds) (numbers_once (number_of p) (page_shape p) a q.once q.distinct);
-      next_once = subst (IsDistinct nat_eq) (sym news) (numbers_once num shape a s.once (carried_apart p shape q s));
+      next_once = subst (IsDistinct nat_eq) (sym news) (numbers_once num shape a s.once (distinct_after p shape q s));
       left = (λ i. those (λ m. listed m (news i)) (olds i))
           ∙ sym (those_num (number_of p) (λ b. on b shape) (λ m. listed m (map num (siblings (kids a shape)))) (siblings (kids a (page_shape p))) (left_by p shape a q s so o));
       stood = λ j h.

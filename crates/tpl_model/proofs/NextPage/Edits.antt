@@ -1,47 +1,26 @@
 -- The operations that an update reads off are the edits between the two pages.
-use Rattle.std.proofs.Common.{◌≡◌, ℕ, ◌==◌, Bool, true, List, [], ◌∷◌, ◌++◌, map, refl, sym, ap, ◌∙◌, eq-eqb, inl, inr, arith}
-use Rattle.std.specs.List.{flat_map}
-use Rattle.std.proofs.lemmas.Bool.{cases_Bool}
+use Rattle.std.proofs.Common.{◌≡◌, ℕ, Bool, true, List, ◌++◌, map, sym, ap, ◌∙◌, arith}
 use Rattle.page_model.specs.Edits.{child_edits, listed}
-use Rattle.page_model.specs.Forest.{Forest, none, node, on, label_in}
-use Rattle.page_model.specs.Labels.{Root, DistinctNames, Look, Sound}
+use Rattle.page_model.specs.Forest.{Forest, on, label_in}
+use Rattle.page_model.specs.Labels.{Root, Look, Sound}
 use Rattle.page_model.specs.Pages.{NumberedPage, IsPage, IsShape, SameOrigin, ascending_by, carried, number_of, page_shape, tree_of}
-use Rattle.page_model.specs.Replay.{Op, OpRemove, replay}
-use Rattle.page_model.proofs.Shared.{or_left, or_right, replay_leads, tally_on}
+use Rattle.page_model.specs.Replay.{OpRemove, replay}
+use Rattle.page_model.proofs.Shared.{replay_leads, tally_on, names_at, in_ascending_by}
 use Rattle.tpl_model.specs.PageUpdates.Differences.{children_at, restated_at}
 use Rattle.tpl_model.specs.NextPage.Children.{next_children}
 use Rattle.tpl_model.specs.NextPage.Operations.{OperationsLaw, children_done, look_done}
 use Rattle.tpl_model.specs.NextPage.Lookups.{TellsKept}
 use Rattle.tpl_model.specs.NextPage.Marks.{Covers}
 use Rattle.tpl_model.specs.NextPage.KeptNodes.{told_on}
-use Rattle.tpl_model.proofs.NextPage.Facts.{in_ascending_by, listed_often}
 use Rattle.tpl_model.proofs.NextPage.Children.{children_law}
 use Rattle.tpl_model.proofs.NextPage.Marks.{marks_law}
 use Rattle.tpl_model.proofs.NextPage.Lookups.{reads_law, removals_law}
 use Rattle.tpl_model.proofs.NextPage.KeptNodes.{told_law}
-
--- what is read for each of a list, where each says the same
-flat_same : (f g : ℕ → List Op) (xs : List ℕ) → ((j : ℕ) → listed j xs ≡ true → f j ≡ g j) → flat_map f xs ≡ flat_map g xs
-flat_same f g [] h = refl
-flat_same f g (x ∷ xs) h =
-    let e = h x (or_left (x == x) (listed x xs) (eq-eqb x x refl)) in
-    let i = flat_same f g xs (λ j k. h j (or_right (x == j) (listed j xs) k)) in
-    (λ t. e t ++ i t)
+use Rattle.tpl_model.proofs.Orders.{flat_same, listed_often}
 
 -- marked nodes are on both pages
 marked_new : (old new : Forest Look) (Same : ℕ → Type 0) (marks : List ℕ) → Covers old new Same marks → (a : ℕ) → listed a marks ≡ true → on a new ≡ true
 marked_new old new Same marks c a h = (let f = c.few a in let u = listed_often a marks h in tally_on a new (omega (arith, f, u)))
-
--- the attribute names of each node are distinct
-names_distinct : (a : ℕ) (t : Forest Look) → Sound t → DistinctNames (label_in Root a t)
-names_distinct a none s = tt
-names_distinct a (node m x k r) s = elim (cases_Bool (m == a)) [
-  | inl e ↦ rw e s.1
-  | inr e ↦ elim (cases_Bool (on a k)) [
-    | inl f ↦ rw (e, f) (names_distinct a k s.2)
-    | inr f ↦ rw (e, f) (names_distinct a r s.3)
-  ]
-]
 
 children_spelled : (p : NumberedPage) (shape : Forest Look) → IsPage p → IsShape shape → SameOrigin (page_shape p) shape →
     (a : ℕ) → on a (page_shape p) ≡ true → on a shape ≡ true →
@@ -55,7 +34,7 @@ look_spelled p shape kept q d o tells a h k =
     let n = number_of p a in
     let x = label_in Root a (page_shape p) in
     let y = label_in Root a shape in
-    told_law n x y (o.lines a h k) (names_distinct a (page_shape p) d) ∙ ap (λ z. told_on n z y) (sym (reads_law p shape kept q tells a h).label)
+    told_law n x y (o.lines a h k) (names_at a (page_shape p) d) ∙ ap (λ z. told_on n z y) (sym (reads_law p shape kept q tells a h).label)
 
 pub operations_law : OperationsLaw
 operations_law p shape kept children looks q d s o tells x =

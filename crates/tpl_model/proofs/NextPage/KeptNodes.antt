@@ -1,34 +1,20 @@
 -- What a kept node says, by what the tree has of it.
-use Rattle.std.proofs.Common.{◌≡◌, ℕ, suc, Bool, true, false, ◌||◌, List, [], ◌∷◌, Option, Some, None, refl, sym, ap, ◌∙◌, inl, inr}
+use Rattle.std.proofs.Common.{◌≡◌, ℕ, suc, false, List, [], ◌∷◌, Option, Some, None, refl, sym, ap, ◌∙◌, inl, inr}
 use Rattle.std.specs.Str.{bytes_eq}
-use Rattle.std.proofs.lemmas.Bool.{cases_Bool, false≢true, true≢false}
-use Rattle.std.proofs.lemmas.Slice.Eq.{bytes_eq-Decides}
+use Rattle.std.proofs.lemmas.Bool.{cases_Bool, or_parts}
+use Rattle.page_model.proofs.Shared.{other_way, same_name}
 use Rattle.page_model.specs.Edits.{attribute_edits, line_edits}
 use Rattle.page_model.specs.Labels.{Root, Text, Element, Distinct, SameNames, named, present, with_value}
 use Rattle.page_model.specs.Replay.{Op, OpAttr, OpUnattr}
 use Rattle.page_tree.specs.Queries.{value_named}
 use Rattle.tpl_model.specs.NextPage.KeptNodes.{ToldLaw, attributes_told}
 
-bytes_same : (a : List ℕ) → bytes_eq a a ≡ true
-bytes_same a = (bytes_eq-Decides a a).1 refl
-
--- two names that differ one way differ the other way
-differ : (a b : List ℕ) → bytes_eq a b ≡ false → bytes_eq b a ≡ false
-differ a b h = elim (cases_Bool (bytes_eq b a)) [
-  | inl e ↦ absurd (false≢true (sym h ∙ (bytes_eq-Decides a b).1 (sym ((bytes_eq-Decides b a).0 e))))
-  | inr e ↦ e
-]
-
-parted : (a b : Bool) → (a || b) ≡ false → (a ≡ false) × (b ≡ false)
-parted true b h = absurd (true≢false h)
-parted false b h = (refl, h)
-
 -- a name that none of the lines has isn't present
 absent : (name : List ℕ) (xs : List (List ℕ × Option (List ℕ))) → named name xs ≡ false → value_named name (present xs) ≡ None
 absent name [] h = refl
-absent name ((m, None) ∷ xs) h = absent name xs (parted (bytes_eq m name) (named name xs) h).1
+absent name ((m, None) ∷ xs) h = absent name xs (or_parts (bytes_eq m name) (named name xs) h).1
 absent name ((m, Some v) ∷ xs) h =
-    let p = parted (bytes_eq m name) (named name xs) h in
+    let p = or_parts (bytes_eq m name) (named name xs) h in
     rw p.0 (absent name xs p.1)
 
 -- each line of these has the value that is present under its name
@@ -40,16 +26,16 @@ Present now (a ∷ xs) = (value_named a.0 now ≡ a.1) × Present now xs
 behind : (m : List ℕ) (v : Option (List ℕ)) (now : List (List ℕ × List ℕ)) (xs : List (List ℕ × Option (List ℕ))) → named m xs ≡ false →
     Present now xs → Present (with_value m v now) xs
 behind m v now [] h all = tt
-behind m None now (a ∷ xs) h all = (all.0, behind m None now xs (parted (bytes_eq a.0 m) (named m xs) h).1 all.1)
+behind m None now (a ∷ xs) h all = (all.0, behind m None now xs (or_parts (bytes_eq a.0 m) (named m xs) h).1 all.1)
 behind m (Some v) now (a ∷ xs) h all =
-    let p = parted (bytes_eq a.0 m) (named m xs) h in
-    let e = differ a.0 m p.0 in
+    let p = or_parts (bytes_eq a.0 m) (named m xs) h in
+    let e = other_way a.0 m p.0 in
     (rw e all.0, behind m (Some v) now xs p.1 all.1)
 
 all_present : (xs : List (List ℕ × Option (List ℕ))) → Distinct xs → Present (present xs) xs
 all_present [] d = tt
 all_present ((m, None) ∷ xs) d = (absent m xs d.0, all_present xs d.1)
-all_present ((m, Some v) ∷ xs) d = (rw (bytes_same m) refl, behind m (Some v) (present xs) xs d.0 (all_present xs d.1))
+all_present ((m, Some v) ∷ xs) d = (rw (same_name m) refl, behind m (Some v) (present xs) xs d.0 (all_present xs d.1))
 
 -- one line's operations, where the later ones are the same
 line_like : (n i : ℕ) (name : List ℕ) (o v : Option (List ℕ)) (f g : ℕ → List Op) → ((j : ℕ) → f j ≡ g j) →

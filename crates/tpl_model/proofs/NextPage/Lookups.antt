@@ -2,20 +2,17 @@
 use Rattle.std.proofs.Common.{◌≡◌, ℕ, ◌==◌, Bool, true, not, List, [], ◌∷◌, ◌++◌, map, refl, sym, ap, ◌∙◌, eqb-true, eq-eqb, inl, inr}
 use Rattle.std.specs.List.{flat_map}
 use Rattle.std.proofs.lemmas.Bool.{cases_Bool, false≢true, true≢false, or_cases}
+use Rattle.tpl_model.proofs.Orders.{ascending_map}
+use Rattle.tpl_model.proofs.Numbered.{child_on, kids_num, siblings_num, map_both}
 use Rattle.page_model.specs.Edits.{ascending, listed, siblings}
-use Rattle.page_model.specs.Forest.{Forest, none, node, on, keys, kids, label_in, numbered}
+use Rattle.page_model.specs.Forest.{Forest, on, keys, kids, label_in, numbered}
 use Rattle.page_model.specs.Labels.{Root, Look, seen, shown}
 use Rattle.page_model.specs.Pages.{NumberedPage, IsPage, number_of, page_shape, those, tree_of}
-use Rattle.page_model.proofs.Shared.{or_left, or_right}
+use Rattle.page_model.proofs.Shared.{or_left, or_right, label_shown, by_number_is, from_those, in_keys, label_num, to_those}
 use Rattle.tpl_model.specs.NextPage.Lookups.{KeptLaw, ReadsLaw, RemovalsLaw, TellsKept, gone_numbers}
 use Rattle.tpl_model.specs.NextPage.Marks.{common, gone_children}
-use Rattle.tpl_model.proofs.NextPage.Facts.{ascending_map, by_number_is, child_on, from_those, in_keys, kids_num, label_num, on_shown, siblings_num, to_those}
 
 -- ---- lists of numbers
-
-pub map_both : (num : ℕ → ℕ) (xs ys : List ℕ) → map num (xs ++ ys) ≡ map num xs ++ map num ys
-map_both num [] ys = refl
-map_both num (x ∷ xs) ys = ap (λ z. num x ∷ z) (map_both num xs ys)
 
 -- those that pass a test, by their numbers
 pub those_num : (num : ℕ → ℕ) (test by : ℕ → Bool) (xs : List ℕ) → ((j : ℕ) → listed j xs ≡ true → by (num j) ≡ test j) → map num (those test xs) ≡ those by (map num xs)
@@ -43,16 +40,6 @@ in_map num n (x ∷ xs) h = elim (or_cases (num x == n) (listed n (map num xs)) 
 ]
 
 -- ---- one node
-
-label_shown : (n : ℕ) (t : Forest Look) → label_in Root n (shown t) ≡ seen (label_in Root n t)
-label_shown n none = refl
-label_shown n (node m x k r) = elim (cases_Bool (m == n)) [
-  | inl e ↦ rw e refl
-  | inr e ↦ elim (cases_Bool (on n k)) [
-    | inl f ↦ rw (e, on_shown n k, f) (label_shown n k)
-    | inr f ↦ rw (e, on_shown n k, f) (label_shown n r)
-  ]
-]
 
 pub children_read : (p : NumberedPage) (a : ℕ) → IsPage p → on a (page_shape p) ≡ true →
     siblings (kids (number_of p a) (tree_of p)) ≡ map (number_of p) (siblings (kids a (page_shape p)))

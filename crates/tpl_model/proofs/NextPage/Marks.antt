@@ -1,17 +1,17 @@
 -- What marks on the next page find gives the operations, and how a walk puts them.
 use Rattle.std.proofs.Common.{◌≡◌, ℕ, ◌+◌, ◌≤◌, ◌==◌, Bool, true, false, not, ◌||◌, List, [], ◌∷◌, ◌++◌, refl, sym, ap, subst, ◌∙◌, eqb-true, eq-eqb, inl, inr, leb, arith}
 use Rattle.std.specs.List.{flat_map}
-use Rattle.std.proofs.lemmas.Bool.{cases_Bool, false≢true, true≢false, or_cases}
+use Rattle.std.proofs.lemmas.Bool.{cases_Bool, false≢true, true≢false, or_cases, or_parts}
 use Rattle.page_model.specs.Forest.{Forest, none, node, after, on, tally, keys, kids, pruned, tops}
 use Rattle.page_model.specs.Labels.{Root, Look}
 use Rattle.page_model.specs.Edits.{listed, siblings}
 use Rattle.page_model.specs.Pages.{NumberedPage, IsPage, IsShape, SameOrigin, looks, page_shape, into_by, ascending_by, those}
-use Rattle.page_model.proofs.Shared.{on_tally, or_left, or_right, tally_on}
+use Rattle.page_model.proofs.Shared.{on_tally, or_left, or_right, tally_on, in_both, Knows, all_gone, from_those, in_keys, kept_on, knows, parent_at, still_on, tally_pruned, to_those}
 use Rattle.tpl_model.specs.PageUpdates.Differences.{Gone, Marks, SameChildren, SameLook, Within, marked, often}
-use Rattle.tpl_model.proofs.PageUpdates.Trees.{in_both}
 use Rattle.tpl_model.proofs.PageUpdates.Numbers.{read_law}
+use Rattle.tpl_model.proofs.Numbered.{child_on, often_keys}
+use Rattle.tpl_model.proofs.Orders.{listed_often, often_both, often_those, read_marked, unlisted_often}
 use Rattle.tpl_model.specs.NextPage.Marks.{Covers, MarksLaw, Sees, WholeLaw, common, found_by, gone_children}
-use Rattle.tpl_model.proofs.NextPage.Facts.{Knows, all_gone, child_on, from_those, in_keys, kept_on, knows, listed_often, often_both, often_keys, often_those, parent_at, read_marked, still_on, tally_pruned, to_those, unlisted_often}
 
 -- ---- marks are of nodes that are kept
 
@@ -170,10 +170,6 @@ tally_after : (j : ℕ) (xs ys : Forest Look) → tally j (after xs ys) ≡ tall
 tally_after j none ys = omega arith
 tally_after j (node m x k r) ys = omega (arith, tally_after j r ys)
 
-neither : (a b : Bool) → (a || b) ≡ false → (a ≡ false) × (b ≡ false)
-neither true b h = absurd (true≢false h)
-neither false b h = (refl, h)
-
 -- one part after the other
 pub covers_after : (old xs ys : Forest Look) (Same : ℕ → Type 0) (ms ns : List ℕ) → Covers old xs Same ms → Covers old ys Same ns →
     Covers old (after xs ys) Same (ms ++ ns)
@@ -181,7 +177,7 @@ covers_after old xs ys Same ms ns c d = record {
   few = λ j. (let a = c.few j in let b = d.few j in let o = often_both j ms ns in let t = tally_after j xs ys in omega (arith, a, b, o, t));
   there = λ j h. elim (or_cases (listed j ms) (listed j ns) (sym (in_both j ms ns) ∙ h)) [ inl e ↦ c.there j e | inr e ↦ d.there j e ];
   rest = λ j h k e. (
-      let n = neither (listed j ms) (listed j ns) (sym (in_both j ms ns) ∙ e) in
+      let n = or_parts (listed j ms) (listed j ns) (sym (in_both j ms ns) ∙ e) in
       elim (or_cases (on j xs) (on j ys) (sym (on_after j xs ys) ∙ h)) [ inl f ↦ c.rest j f k n.0 | inr f ↦ d.rest j f k n.1 ]);
 }
 
@@ -192,7 +188,7 @@ covers_node old a x k Same true ms there same c = record {
   few = λ j. (let f = c.few j in omega (arith, f));
   there = λ j h. elim (or_cases (a == j) (listed j ms) h) [ inl e ↦ ap (λ z. on z old) (sym (eqb-true a j e)) ∙ there refl | inr e ↦ c.there j e ];
   rest = λ j h o e. (
-      let n = neither (a == j) (listed j ms) e in
+      let n = or_parts (a == j) (listed j ms) e in
       elim (or_cases (a == j) (on j k || false) h) [
         | inl f ↦ absurd (true≢false (sym f ∙ n.0))
         | inr f ↦ elim (or_cases (on j k) false f) [ inl g ↦ c.rest j g o n.1 | inr g ↦ absurd (false≢true g) ]

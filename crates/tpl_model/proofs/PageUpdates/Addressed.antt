@@ -1,5 +1,5 @@
 -- The edits between two numbered trees, by address.
-use Rattle.std.proofs.Common.{◌≡◌, ℕ, ◌≤◌, ◌==◌, Bool, true, false, ◌||◌, refl, sym, ap, ◌∙◌, arith, eqb-true, inl, inr, List, [], ◌∷◌, ◌++◌, map}
+use Rattle.std.proofs.Common.{◌≡◌, ℕ, ◌≤◌, ◌==◌, Bool, true, false, ◌||◌, refl, sym, ap, ◌∙◌, arith, eqb-true, inl, inr, List, ◌∷◌, ◌++◌, map}
 use Rattle.std.specs.List.{flat_map}
 use Rattle.std.proofs.lemmas.Bool.{cases_Bool, false≢true}
 use Rattle.page_model.specs.Forest.{Forest, none, node, on, tally, keys, kids, label_in, pruned, tops, numbered}
@@ -7,10 +7,10 @@ use Rattle.page_model.specs.Labels.{Root, Look, shown}
 use Rattle.page_model.specs.Edits.{ascending, listed, siblings, child_edits, look_edits, edits}
 use Rattle.page_model.specs.Replay.{Op, OpRemove}
 use Rattle.page_model.specs.Pages.{ascending_by, those}
-use Rattle.tpl_model.specs.PageUpdates.Differences.{often, children_at, restated_at}
-use Rattle.tpl_model.proofs.PageUpdates.Orders.{often_both, ascending_map, flat_at, flat_same}
-use Rattle.page_model.proofs.Shared.{on_tally, or_left, or_right, self_on, tally_off}
-use Rattle.tpl_model.proofs.PageUpdates.Trees.{in_ascending_by, in_keys, kept_on, label_num, on_num, on_numbered, on_shown, same_num, tally_pruned}
+use Rattle.tpl_model.specs.PageUpdates.Differences.{children_at, restated_at}
+use Rattle.page_model.proofs.Shared.{on_tally, self_on, tally_off, in_ascending_by, in_keys, kept_on, label_num, on_num, on_numbered, on_shown, tally_pruned}
+use Rattle.tpl_model.proofs.Numbered.{on_below, on_beside, kids_num, map_both, siblings_num}
+use Rattle.tpl_model.proofs.Orders.{ascending_map, flat_at, flat_same}
 
 -- two trees by address and how they are numbered
 pub record Two (num num' : ℕ → ℕ) (old new : Forest Look) : Type 0 where
@@ -21,22 +21,12 @@ pub record Two (num num' : ℕ → ℕ) (old new : Forest Look) : Type 0 where
   pub across : (a b : ℕ) → on a old ≡ true → on b new ≡ true → num a ≡ num' b → a ≡ b
   pub same : (a : ℕ) → on a old ≡ true → on a new ≡ true → num a ≡ num' a
 
-map_both : (num : ℕ → ℕ) (xs ys : List ℕ) → map num (xs ++ ys) ≡ map num xs ++ map num ys
-map_both num [] ys = refl
-map_both num (x ∷ xs) ys = ap (λ z. num x ∷ z) (map_both num xs ys)
-
-in_kids' : {A : Type 0} (a m : ℕ) (x : A) (k r : Forest A) → on a k ≡ true → on a (node m x k r) ≡ true
-in_kids' a m x k r h = or_right (m == a) (on a k || on a r) (or_left (on a k) (on a r) h)
-
-in_rest' : {A : Type 0} (a m : ℕ) (x : A) (k r : Forest A) → on a r ≡ true → on a (node m x k r) ≡ true
-in_rest' a m x k r h = or_right (m == a) (on a k || on a r) (or_right (on a k) (on a r) h)
-
 pub pruned_num : (num : ℕ → ℕ) (g h : ℕ → Bool) (t : Forest Look) → ((a : ℕ) → on a t ≡ true → g (num a) ≡ h a) → pruned g (shown (numbered num t)) ≡ shown (numbered num (pruned h t))
 pruned_num num g h none e = refl
 pruned_num num g h (node m x k r) e =
     let here = e m (self_on m x k r) in
-    let ik = pruned_num num g h k (λ a i. e a (in_kids' a m x k r i)) in
-    let ir = pruned_num num g h r (λ a i. e a (in_rest' a m x k r i)) in
+    let ik = pruned_num num g h k (λ a i. e a (on_below a m x k r i)) in
+    let ir = pruned_num num g h r (λ a i. e a (on_beside a m x k r i)) in
     elim (cases_Bool (h m)) [
       | inl f ↦ rw (here, f) (rw (ik, ir) refl)
       | inr f ↦ rw (here, f) ir
@@ -46,8 +36,8 @@ pub tops_num : (num : ℕ → ℕ) (g h : ℕ → Bool) (t : Forest Look) → ((
 tops_num num g h none e = refl
 tops_num num g h (node m x k r) e =
     let here = e m (self_on m x k r) in
-    let ik = tops_num num g h k (λ a i. e a (in_kids' a m x k r i)) in
-    let ir = tops_num num g h r (λ a i. e a (in_rest' a m x k r i)) in
+    let ik = tops_num num g h k (λ a i. e a (on_below a m x k r i)) in
+    let ir = tops_num num g h r (λ a i. e a (on_beside a m x k r i)) in
     elim (cases_Bool (h m)) [
       | inl f ↦ rw (here, f) (rw (ik, ir) (sym (map_both num (tops h k) (tops h r))))
       | inr f ↦ rw (here, f) (ap (λ z. num m ∷ z) ir)
@@ -56,39 +46,6 @@ tops_num num g h (node m x k r) e =
 pub keys_num : (num : ℕ → ℕ) (t : Forest Look) → keys (shown (numbered num t)) ≡ map num (keys t)
 keys_num num none = refl
 keys_num num (node m x k r) = ap (λ z. num m ∷ z) (ap (λ z. z ++ keys (shown (numbered num r))) (keys_num num k) ∙ ap (λ z. map num (keys k) ++ z) (keys_num num r) ∙ sym (map_both num (keys k) (keys r)))
-
-pub siblings_num : (num : ℕ → ℕ) (t : Forest Look) → siblings (shown (numbered num t)) ≡ map num (siblings t)
-siblings_num num none = refl
-siblings_num num (node m x k r) = ap (λ z. num m ∷ z) (siblings_num num r)
-
-kids_shown : (n : ℕ) (t : Forest Look) → kids n (shown t) ≡ shown (kids n t)
-kids_shown n none = refl
-kids_shown n (node m x k r) = elim (cases_Bool (m == n)) [
-  | inl e ↦ rw e refl
-  | inr e ↦ elim (cases_Bool (on n k)) [
-    | inl f ↦ rw (e, on_shown n k, f) (kids_shown n k)
-    | inr f ↦ rw (e, on_shown n k, f) (kids_shown n r)
-  ]
-]
-
-kids_numbered : {A : Type 0} (num : ℕ → ℕ) (a : ℕ) (t : Forest A) → ((b : ℕ) → on b t ≡ true → num a ≡ num b → a ≡ b) → kids (num a) (numbered num t) ≡ numbered num (kids a t)
-kids_numbered num a none h = refl
-kids_numbered num a (node m x k r) h =
-    let s = same_num num a m (h m (self_on m x k r)) in
-    let hk : (b : ℕ) → on b k ≡ true → num a ≡ num b → a ≡ b = λ b e. h b (in_kids' b m x k r e) in
-    let o = on_num num a k hk in
-    let ik = kids_numbered num a k hk in
-    let ir = kids_numbered num a r (λ b e. h b (in_rest' b m x k r e)) in
-    elim (cases_Bool (m == a)) [
-      | inl e ↦ rw (s, e) refl
-      | inr e ↦ elim (cases_Bool (on a k)) [
-        | inl f ↦ rw (s, e, o, f) ik
-        | inr f ↦ rw (s, e, o, f) ir
-      ]
-    ]
-
-pub kids_num : (num : ℕ → ℕ) (a : ℕ) (t : Forest Look) → ((b : ℕ) → on b t ≡ true → num a ≡ num b → a ≡ b) → kids (num a) (shown (numbered num t)) ≡ shown (numbered num (kids a t))
-kids_num num a t h = kids_shown (num a) (numbered num t) ∙ ap shown (kids_numbered num a t h)
 
 -- ---- what is left
 
@@ -128,10 +85,6 @@ siblings_pruned keep (node m x k r) = elim (cases_Bool (keep m)) [
   | inr f ↦ rw f (siblings_pruned keep r)
 ]
 
-pub often_keys : {A : Type 0} (j : ℕ) (t : Forest A) → often j (keys t) ≡ tally j t
-often_keys j none = refl
-often_keys j (node m x k r) = (let a = often_both j (keys k) (keys r) in let b = often_keys j k in let c = often_keys j r in omega arith)
-
 -- ---- the whole
 
 -- the edits by address, with nothing left out
@@ -140,9 +93,6 @@ addressed num num' old new =
     let keep : ℕ → Bool = λ a. on a new in
     let kept = ascending_by num (keys (pruned keep old)) in
     (map OpRemove (map num (ascending_by num (tops keep old))) ++ flat_map (children_at num num' old new) kept) ++ flat_map (restated_at num old new) kept
-
-listed_ascending : (num : ℕ → ℕ) (j : ℕ) (xs : List ℕ) → listed j (ascending_by num xs) ≡ listed j xs
-listed_ascending num j xs = in_ascending_by num j xs
 
 pub edits_addressed : (num num' : ℕ → ℕ) (old new : Forest Look) → Two num num' old new → edits (numbered num old) (numbered num' new) ≡ addressed num num' old new
 edits_addressed num num' old new w =
@@ -162,7 +112,7 @@ edits_addressed num num' old new w =
     let ks : ascending (keys (pruned test (shown (numbered num old)))) ≡ map num kept = ap (λ z. ascending (keys z)) p ∙ (ap ascending (keys_num num left) ∙ ascending_map num (keys left)) in
     let gs : ascending (tops test (shown (numbered num old))) ≡ map num (ascending_by num (tops keep old)) = ap ascending t ∙ ascending_map num (tops keep old) in
     let kept_at : (a : ℕ) → listed a kept ≡ true → (on a left ≡ true) × (on a old ≡ true) × (on a new ≡ true) = λ a h. (
-    let o : on a left ≡ true = sym (in_keys a left) ∙ (sym (listed_ascending num a (keys left)) ∙ h) in
+    let o : on a left ≡ true = sym (in_keys a left) ∙ (sym (in_ascending_by num a (keys left)) ∙ h) in
     let i = kept_on keep a old o in (o, i.0, i.1)) in
     let ce : ℕ → List Op = λ n. child_edits n 0 (siblings (kids n (pruned test (shown (numbered num old))))) (kids n (shown (numbered num' new))) in
     let te : ℕ → List Op = λ n. look_edits n (label_in Root n (numbered num old)) (label_in Root n (numbered num' new)) in

@@ -19,6 +19,7 @@ use Rattle.tpl_model.specs.PageUpdates.Updates.{Tells}
 use Rattle.tpl_model.specs.PageUpdates.PageMemos.{hearing, all_same, up_to_change, Steady, Begins}
 use Rattle.tpl_model.proofs.Dependence.{formula_agree}
 use Rattle.tpl_model.proofs.Alike.{same_rows}
+use Rattle.tpl_model.proofs.Evaluated.{same_step}
 
 abbrev said : Evaluation → List ℕ
 said e = map (λ (r : Seen). r.name) e.reads
@@ -61,21 +62,12 @@ within_upto same s s' e (suc turns) links row f known =
     (λ n v. asked_within turns no_hosts (record { expression = formula row f; slots = links }) s' (learnt known n v))
     e (λ n v. within_upto same s s' e turns links row f (learnt known n v))
 
-read_like : (m : ℕ) (o : Outcome) (go go' : Value → Evaluation) → ((v : Value) → go v ≡ go' v) → after_read m o go ≡ after_read m o go'
-read_like m (Bad e) go go' h = refl
-read_like m (Good v) go go' h = ap (λ z. after_read m (Good v) (λ _. z)) (h v)
-
-step_like : (s : ℕ → Outcome) (t : Step) (links : List ℕ) (go go' : ℕ → Value → Evaluation) → ((n : ℕ) (v : Value) → go n v ≡ go' n v) → after_step t links s go ≡ after_step t links s go'
-step_like s (Done v) links go go' h = refl
-step_like s (Fail v) links go go' h = refl
-step_like s (Read n) links go go' h = read_like (slice_index links n) (s (slice_index links n)) (go n) (go' n) (h n)
-
 within_like : (s : ℕ → Outcome) (r r' : RowRef) (f : Tree) → ((known : List Known) → formulas.answer_of f (Some r) known ≡ formulas.answer_of f (Some r') known) → (turns : ℕ) (links : List ℕ) (known : List Known) →
     asked_within turns no_hosts (record { expression = formula (Some r) f; slots = links }) s known ≡ asked_within turns no_hosts (record { expression = formula (Some r') f; slots = links }) s known
 within_like s r r' f h zero links known = refl
 within_like s r r' f h (suc turns) links known =
     ap (λ z. after_step (judged (length links) known z) links s (λ n v. asked_within turns no_hosts (record { expression = formula (Some r) f; slots = links }) s (learnt known n v))) (h known)
-    ∙ step_like s (judged (length links) known (formulas.answer_of f (Some r') known)) links
+    ∙ same_step (judged (length links) known (formulas.answer_of f (Some r') known)) links s
     (λ n v. asked_within turns no_hosts (record { expression = formula (Some r) f; slots = links }) s (learnt known n v))
     (λ n v. asked_within turns no_hosts (record { expression = formula (Some r') f; slots = links }) s (learnt known n v))
     (λ n v. within_like s r r' f h turns links (learnt known n v))

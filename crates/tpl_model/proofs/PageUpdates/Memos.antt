@@ -1,6 +1,7 @@
 -- What is kept of a template's lines shows what the lines show.
 use Rattle.std.proofs.Common.{◌≡◌, ℕ, suc, Bool, true, false, ◌||◌, ◌&&◌, refl, sym, ap, ◌∙◌, append-nil, inl, inr, List, [], ◌∷◌, ◌++◌, Option, Some, None}
 use Rattle.std.proofs.lemmas.Bool.{cases_Bool, false≢true, true≢false}
+use Rattle.page_model.proofs.Shared.{or_none}
 use Rattle.sig_base.specs.Tables.{Table}
 use Rattle.sig_base.specs.declared.rows.Row.{Row}
 use Rattle.sig_base.specs.declared.value.Value.TheVariants as value
@@ -24,16 +25,12 @@ pub record Shows (ends : Bool) (ns : List ℕ) (f : Bool) (t : Forest Look) (x :
   pub fault : f ≡ x.failed
   pub nodes : (ends && f) ≡ false → t ≡ x.nodes
 
-or_none : (a : Bool) → (a || false) ≡ a
-or_none true = refl
-or_none false = refl
-
-left_off : (ends f g : Bool) → (ends && (f || g)) ≡ false → (ends && f) ≡ false
+pub left_off : (ends f g : Bool) → (ends && (f || g)) ≡ false → (ends && f) ≡ false
 left_off false f g h = refl
 left_off true true g h = h
 left_off true false g h = refl
 
-right_off : (ends f g : Bool) → (ends && (f || g)) ≡ false → (ends && g) ≡ false
+pub right_off : (ends f g : Bool) → (ends && (f || g)) ≡ false → (ends && g) ≡ false
 right_off false f g h = refl
 right_off true true g h = absurd (true≢false h)
 right_off true false g h = h

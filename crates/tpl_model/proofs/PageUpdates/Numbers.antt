@@ -7,8 +7,7 @@ use Rattle.page_model.specs.Edits.{listed}
 use Rattle.page_model.specs.Pages.{NumberedPage, page_shape, number_of, carried, new_order, place_in, with_numbers}
 use Rattle.tpl_model.specs.PageUpdates.Updates.{ReadLaw, NumberLaw}
 use Rattle.tpl_model.proofs.PageUpdates.Summary.{found_edits_law, found_order_law}
-use Rattle.page_model.proofs.Shared.{or_left, or_right, self_on}
-use Rattle.tpl_model.proofs.PageUpdates.Trees.{new_number, old_number}
+use Rattle.page_model.proofs.Shared.{or_left, or_right, self_on, new_number, old_number}
 
 -- ---- the numbers that stay
 

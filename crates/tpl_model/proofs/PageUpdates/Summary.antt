@@ -1,16 +1,16 @@
 -- What was found gives the edits and the order of the new numbers.
-use Rattle.std.proofs.Common.{◌≡◌, ℕ, ◌≤◌, ◌==◌, Bool, true, false, ◌||◌, refl, sym, ap, ◌∙◌, arith, if◌then◌else◌, eqb-true, eq-eqb, inl, inr, List, [], ◌∷◌, map}
+use Rattle.std.proofs.Common.{◌≡◌, ℕ, ◌≤◌, ◌==◌, Bool, true, false, refl, sym, ap, ◌∙◌, arith, if◌then◌else◌, eq-eqb, inl, inr, List, [], ◌∷◌, map}
 use Rattle.std.specs.List.{flat_map}
-use Rattle.std.proofs.lemmas.Bool.{cases_Bool, false≢true, or_cases}
-use Rattle.page_model.specs.Forest.{Forest, none, node, has, on, tally, keys, kids, parent, label_in, pruned, tops, numbered}
+use Rattle.std.proofs.lemmas.Bool.{cases_Bool, false≢true}
+use Rattle.page_model.specs.Forest.{Forest, none, node, on, tally, keys, kids, label_in, pruned, tops, numbered}
 use Rattle.page_model.specs.Labels.{Root, Look, shown}
 use Rattle.page_model.specs.Edits.{listed, siblings, child_edits, look_edits, edits}
 use Rattle.page_model.specs.Pages.{NumberedPage, by_number, page_shape, number_of, carried, ascending_by, those, newcomers, new_order, renumbered, with_numbers, edits_between, IsPage, IsShape, SameOrigin}
 use Rattle.tpl_model.specs.PageUpdates.Differences.{often, children_at, restated_at, read_off, SameChildren, SameLook, Found, Finds, found_edits, found_order}
-use Rattle.tpl_model.proofs.PageUpdates.Orders.{listed_often, often_those, same_order, read_marked}
-use Rattle.tpl_model.proofs.PageUpdates.Addressed.{Two, addressed, edits_addressed, often_keys, siblings_num}
-use Rattle.page_model.proofs.Shared.{has_listed, has_on, off_tally, on_kids, or_left, or_right, self_on, tally_on}
-use Rattle.tpl_model.proofs.PageUpdates.Trees.{Knows, by_number_is, by_number_with, children_none, distinct_after, first_in, in_keys, kept_on, knows, later_in, new_number, old_number, parent_at, parent_is, tally_pruned, told_none, tops_on}
+use Rattle.tpl_model.proofs.PageUpdates.Addressed.{Two, addressed, edits_addressed}
+use Rattle.page_model.proofs.Shared.{off_tally, or_left, or_right, tally_on, all_gone, still_on, by_number_is, by_number_with, children_none, distinct_after, in_keys, kept_on, knows, new_number, old_number, parent_at, tally_pruned, told_none, tops_on}
+use Rattle.tpl_model.proofs.Numbered.{child_on, often_keys, siblings_num}
+use Rattle.tpl_model.proofs.Orders.{listed_often, often_those, same_order, read_marked}
 
 -- ---- a kept parent whose children are the same
 
@@ -21,9 +21,6 @@ all_those test (x ∷ xs) h = rw (h x (or_left (x == x) (listed x xs) (eq-eqb x 
 map_same : (f g : ℕ → ℕ) (xs : List ℕ) → ((j : ℕ) → listed j xs ≡ true → f j ≡ g j) → map f xs ≡ map g xs
 map_same f g [] h = refl
 map_same f g (x ∷ xs) h = rw (h x (or_left (x == x) (listed x xs) (eq-eqb x x refl)), map_same f g xs (λ j i. h j (or_right (x == j) (listed j xs) i))) refl
-
-child_on : {A : Type 0} (a j : ℕ) (t : Forest A) → listed j (siblings (kids a t)) ≡ true → on j t ≡ true
-child_on a j t h = on_kids a j t (has_on j (kids a t) (has_listed j (kids a t) ∙ h))
 
 pub quiet_children : (num num' : ℕ → ℕ) (old new : Forest Look) → Two num num' old new → (a : ℕ) → SameChildren old new a → children_at num num' old new a ≡ []
 quiet_children num num' old new w a s =
@@ -77,61 +74,6 @@ found_edits_law old shape f p s d =
     ∙ (edits_addressed (number_of old) num' (page_shape old) shape w ∙ found_addressed (number_of old) num' (page_shape old) shape f w d))
 
 -- ---- the order of the new numbers
-
--- below a node that isn't kept none is
-abbrev New : {A : Type 0} → (ℕ → Bool) → Forest A → Type 0
-New keep none = Unit {0}
-New keep (node m x k r) = (keep m ≡ false → (j : ℕ) → on j k ≡ true → keep j ≡ false) × New keep k × New keep r
-
--- a node that is gone has all below it gone
-gone_below : (old new : Forest Look) → ((a : ℕ) → tally a old ≤ 1) → ((a : ℕ) → on a new ≡ true → on (parent a new) new ≡ true) → ((a : ℕ) → on a old ≡ true → on a new ≡ true → parent a old ≡ parent a new) →
-    (m : ℕ) → on m old ≡ true → on m new ≡ false → (k : Forest Look) → ((j : ℕ) → has j k ≡ true → has j (kids m old) ≡ true) → Knows (λ i. kids i old) k → (j : ℕ) → on j k ≡ true → on j new ≡ false
-gone_below old new once up same m u z none h kn j i = absurd (false≢true i)
-gone_below old new once up same m u z (node n x k r) h kn j i =
-    let hn = h n (first_in n x k r) in
-    let un : on n old ≡ true = on_kids m n old (has_on n (kids m old) hn) in
-    let zn : on n new ≡ false = elim (cases_Bool (on n new)) [
-      | inl e ↦ (
-          let a : parent n old ≡ m = parent_is m n old (once n) u hn in
-          let b : parent n new ≡ m = sym (same n un e) ∙ a in
-          let d : on m new ≡ true = ap (λ q. on q new) (sym b) ∙ up n e in
-          absurd (false≢true (sym z ∙ d)))
-      | inr e ↦ e
-    ] in
-    elim (or_cases (n == j) (on j k || on j r) i) [
-      | inl e ↦ (let q : n ≡ j = eqb-true n j e in ap (λ a. on a new) (sym q) ∙ zn)
-      | inr e ↦ elim (or_cases (on j k) (on j r) e) [
-        | inl f ↦ gone_below old new once up same n un zn k (λ a b. ap (has a) kn.0 ∙ b) kn.1 j f
-        | inr f ↦ gone_below old new once up same m u z r (λ a b. h a (later_in n a x k r b)) kn.2 j f
-      ]
-    ]
-
-all_gone : (old new : Forest Look) → ((a : ℕ) → tally a old ≤ 1) → ((a : ℕ) → on a new ≡ true → on (parent a new) new ≡ true) → ((a : ℕ) → on a old ≡ true → on a new ≡ true → parent a old ≡ parent a new) → (t : Forest Look) → ((j : ℕ) → on j t ≡ true → on j old ≡ true) → Knows (λ i. kids i old) t → New (λ a. on a new) t
-all_gone old new once up same none h kn = tt
-all_gone old new once up same (node m x k r) h kn = (
-  λ z. gone_below old new once up same m (h m (self_on m x k r)) z k (λ a b. ap (has a) kn.0 ∙ b) kn.1,
-  all_gone old new once up same k (λ j e. h j (or_right (m == j) (on j k || on j r) (or_left (on j k) (on j r) e))) kn.1,
-  all_gone old new once up same r (λ j e. h j (or_right (m == j) (on j k || on j r) (or_right (on j k) (on j r) e))) kn.2,
-)
-
-still_on : {A : Type 0} (keep : ℕ → Bool) (j : ℕ) (t : Forest A) → New keep t → on j t ≡ true → keep j ≡ true → on j (pruned keep t) ≡ true
-still_on keep j none n h e = absurd (false≢true h)
-still_on keep j (node m x k r) n h e = elim (cases_Bool (keep m)) [
-  | inl f ↦ rw f (elim (or_cases (m == j) (on j k || on j r) h) [
-    | inl c ↦ or_left (m == j) (on j (pruned keep k) || on j (pruned keep r)) c
-    | inr c ↦ or_right (m == j) (on j (pruned keep k) || on j (pruned keep r)) (elim (or_cases (on j k) (on j r) c) [
-      | inl d ↦ or_left (on j (pruned keep k)) (on j (pruned keep r)) (still_on keep j k n.1 d e)
-      | inr d ↦ or_right (on j (pruned keep k)) (on j (pruned keep r)) (still_on keep j r n.2 d e)
-    ])
-  ])
-  | inr f ↦ rw f (elim (or_cases (m == j) (on j k || on j r) h) [
-    | inl c ↦ (let q : m ≡ j = eqb-true m j c in absurd (false≢true (sym f ∙ (ap keep q ∙ e))))
-    | inr c ↦ elim (or_cases (on j k) (on j r) c) [
-      | inl d ↦ absurd (false≢true (sym (n.0 f j d) ∙ e))
-      | inr d ↦ still_on keep j r n.2 d e
-    ]
-  ])
-]
 
 no_newcomers : {A : Type 0} (kept : ℕ → Bool) (t : Forest A) → ((j : ℕ) → listed j (siblings t) ≡ true → kept j ≡ true) → newcomers kept t ≡ []
 no_newcomers kept none h = refl

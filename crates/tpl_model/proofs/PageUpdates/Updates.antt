@@ -1,6 +1,6 @@
 -- What is brought up to date is what is made from scratch.
 use Rattle.std.proofs.Common.{◌≡◌, ℕ, suc, Bool, true, false, ◌||◌, ◌&&◌, refl, sym, ap, ◌∙◌, inl, inr, List, [], ◌∷◌, ◌++◌, Option, Some, if◌then◌else◌}
-use Rattle.std.proofs.lemmas.Bool.{cases_Bool, false≢true}
+use Rattle.std.proofs.lemmas.Bool.{cases_Bool, and_parts}
 use Rattle.sig_base.specs.Tables.{Table}
 use Rattle.sig_base.specs.declared.rows.Row.{Row}
 use Rattle.sig_base.specs.declared.value.Value.TheVariants as value
@@ -16,12 +16,8 @@ pub all_both : (same : ℕ → Bool) (xs ys : List ℕ) → all_same same (xs ++
 all_both same [] ys = refl
 all_both same (x ∷ xs) ys = elim (cases_Bool (same x)) [ inl e ↦ rw e (all_both same xs ys) | inr e ↦ rw e refl ]
 
-both_true : (a b : Bool) → (a && b) ≡ true → (a ≡ true) × (b ≡ true)
-both_true true b h = (refl, h)
-both_true false b h = absurd (false≢true h)
-
 pub parts : (same : ℕ → Bool) (xs ys : List ℕ) → all_same same (xs ++ ys) ≡ true → (all_same same xs ≡ true) × (all_same same ys ≡ true)
-parts same xs ys h = both_true (all_same same xs) (all_same same ys) (sym (all_both same xs ys) ∙ h)
+parts same xs ys h = and_parts (all_same same xs) (all_same same ys) (sym (all_both same xs ys) ∙ h)
 
 -- ---- where all names are as before
 

@@ -4,9 +4,8 @@ use Rattle.std.proofs.lemmas.Bool.{cases_Bool, false≢true, true≢false, or_ca
 use Rattle.page_model.specs.Forest.{Forest, none, node, after, on, tally, kids, label_in, pruned, tops}
 use Rattle.page_model.specs.Labels.{Root, Look}
 use Rattle.tpl_model.specs.PageUpdates.Differences.{often, Marks, SameChildren, SameLook, Found, Finds, nothing, marked, found_at, Within}
-use Rattle.tpl_model.proofs.PageUpdates.Orders.{often_both}
-use Rattle.page_model.proofs.Shared.{on_tally, or_false, or_left, or_right, tally_off}
-use Rattle.tpl_model.proofs.PageUpdates.Trees.{tally_after}
+use Rattle.page_model.proofs.Shared.{on_tally, or_false, or_left, or_right, tally_off, tally_after}
+use Rattle.tpl_model.proofs.Orders.{often_both}
 
 -- ---- parts of a tree
 

@@ -1,7 +1,6 @@
 -- Addresses as numbers.
-use Rattle.std.proofs.Common.{◌≡◌, ◌==◌, Bool, true, false, refl, sym, ap, ◌∙◌, eqb-true, eq-eqb, inl, inr}
+use Rattle.std.proofs.Common.{◌≡◌, ◌==◌, sym, ap, ◌∙◌, eqb-true, eq-eqb, inl, inr}
 use Rattle.std.proofs.lemmas.Bool.{cases_Bool, true≢false}
-use Rattle.page_model.specs.Addresses.{address}
 use Rattle.page_model.proofs.Shared.{one_address}
 use Rattle.tpl_model.specs.declared.shown.Address.{Address}
 use Rattle.tpl_model.specs.ShownNodes.Addresses.{address_of, one_of, same_address, same_address-Decides}

@@ -1,12 +1,11 @@
 -- The tree of a node that is shown.
-use Rattle.std.proofs.Common.{◌≡◌, map, sym, ap, ◌∙◌}
+use Rattle.std.proofs.Common.{◌≡◌, sym, ap, ◌∙◌}
 use Rattle.page_model.specs.Forest.{Forest, none, node}
 use Rattle.page_model.specs.Labels as label
 use Rattle.tpl_model.specs.declared.shown.Address.{Address}
 use Rattle.tpl_model.specs.declared.shown.Look.{Look}
 use Rattle.tpl_model.specs.declared.shown.Shown.{Shown}
 use Rattle.tpl_model.specs.declared.shown.Shown.TheViews.{out-Shown, roll-Shown, roll-out-Shown}
-use Rattle.tpl_model.specs.declared.shown.Shown.TheOpen.{Shown-F}
 use Rattle.tpl_model.specs.declared.shown.Shown.TheFolds.{fold-roll-Shown}
 use Rattle.tpl_model.specs.ShownNodes.Addresses.{address_of}
 use Rattle.tpl_model.specs.ShownNodes.Shapes.{all_shown, look_of, shown_node, shown_tree}

@@ -5,7 +5,7 @@ use Rattle.sig_base.specs.declared.rows.Row.{Row}
 use Rattle.sig_base.specs.declared.value.Outcome.{Outcome}
 use Rattle.sig_formula.specs.Trees.{Tree}
 use Rattle.sig_formula.specs.declared.formula.RowRef.{RowRef}
-use Rattle.tpl_model.specs.Lines.{Block, empty, text, tag, choice, each, attempt}
+use Rattle.tpl_model.specs.Lines.{Block, text, tag, choice, each, attempt}
 use Rattle.tpl_model.specs.Shapes.{Here}
 use Rattle.tpl_model.specs.Sources.{evaluating, same_here}
 use Rattle.tpl_model.specs.KeptLines.Outcomes.{Outcomes}

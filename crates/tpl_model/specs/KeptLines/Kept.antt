@@ -1,5 +1,5 @@
 -- What a page keeps of its lines, apart from where it lies in memory.
-use Rattle.std.specs.Prelude.{ℕ, zero, suc, List, [], ◌∷◌, map}
+use Rattle.std.specs.Prelude.{ℕ, suc, List, ◌∷◌, map}
 use Rattle.std.specs.Box.{box_value}
 use Rattle.sig_base.specs.Tables.{Table}
 use Rattle.sig_base.specs.declared.rows.Row.{Row}

@@ -33,7 +33,7 @@ unlisted_often j (x ∷ xs) h = elim (cases_Bool (x == j)) [
   | inr e ↦ (let i = unlisted_often j xs (rw e at h) in rw e (omega arith))
 ]
 
-often_taken : (j n : ℕ) (xs : List ℕ) → listed n xs ≡ true → one (n == j) + often j (taken n xs) ≡ often j xs
+pub often_taken : (j n : ℕ) (xs : List ℕ) → listed n xs ≡ true → one (n == j) + often j (taken n xs) ≡ often j xs
 often_taken j n [] h = absurd (false≢true h)
 often_taken j n (x ∷ xs) h = elim (cases_Bool (x == n)) [
   | inl e ↦ (let q : x ≡ n = eqb-true x n e in rw e (ap (λ z. one (z == j) + often j xs) (sym q)))
