@@ -1,12 +1,12 @@
 -- The line of an address, and of a page's node.
-use Rattle.std.proofs.Common.{◌≡◌, ℕ, zero, suc, ◌+◌, ◌*◌, ◌<◌, ◌≤◌, ◌==◌, true, false, ◌||◌, List, Option, refl, sym, ap, ◌∙◌, arith, eqb-true, eq-eqb, inl, inr}
+use Rattle.std.proofs.Common.{◌≡◌, ℕ, zero, suc, ◌+◌, ◌*◌, ◌<◌, ◌==◌, true, false, ◌||◌, List, Option, refl, sym, ap, ◌∙◌, arith, eqb-true, eq-eqb, inl, inr}
 use Rattle.std.proofs.lemmas.Bool.{cases_Bool, false≢true, or_cases}
 use Rattle.std.proofs.Math.Nat.{add-mul-mod_self_left, mul-div_cancel_left, mul-mod_right}
 use Rattle.page_model.specs.Addresses.{address, doubled, row_code}
-use Rattle.page_model.specs.Forest.{Forest, label_in, node, none, on, tally}
+use Rattle.page_model.specs.Forest.{Forest, label_in, node, none, on}
 use Rattle.page_model.specs.Labels.{Look, Root}
-use Rattle.page_model.specs.Pages.{IsPage, NumberedPage, looks, number_of, page_shape}
-use Rattle.page_model.proofs.Shared.{on_tally, or_left, or_right, self_on, tally_off}
+use Rattle.page_model.specs.Pages.{IsPage, NumberedPage, number_of, page_shape}
+use Rattle.page_model.proofs.Shared.{or_left, or_right, self_on, Tells, on_looks, tally_looks, tells}
 use Rattle.event_model.specs.Ways.{addresses, halvings, line_in, line_on}
 
 -- ---- of an address
@@ -28,34 +28,14 @@ line_of_address l row = halved (doubled l (1 + 2 * row_code row)) l (row_code ro
 
 -- ---- of a node
 
-on_looks : (a : ℕ) (t : Forest (ℕ × Look)) → on a (looks t) ≡ on a t
-on_looks a none = refl
-on_looks a (node m x k r) = rw (on_looks a k, on_looks a r) refl
-
-tally_looks : (a : ℕ) (t : Forest (ℕ × Look)) → tally a (looks t) ≡ tally a t
-tally_looks a none = refl
-tally_looks a (node m x k r) = rw (tally_looks a k, tally_looks a r) refl
-
 -- each node has the number that is known of its address
 abbrev AreNumbered : (ℕ → ℕ) → Forest (ℕ × Look) → Type 0
 AreNumbered num none = Unit {0}
 AreNumbered num (node m x k r) = (num m ≡ x.0) × AreNumbered num k × AreNumbered num r
 
-numbered_in : (num : ℕ → ℕ) (t : Forest (ℕ × Look)) → ((j : ℕ) → tally j t ≤ 1) → ((n : ℕ) → on n t ≡ true → num n ≡ (label_in (0, Root) n t).0) →
-    AreNumbered num t
-numbered_in num none l h = tt
-numbered_in num (node m x k r) l h =
-    let here : (m == m) ≡ true = eq-eqb m m refl in (
-      h m (self_on m x k r) ∙ (rw here refl),
-      numbered_in num k (λ j. (let i = l j in omega (arith, i))) (λ n e. h n (or_right (m == n) (on n k || on n r) (or_left (on n k) (on n r) e)) ∙ elim (cases_Bool (m == n)) [
-        | inl f ↦ (let i = rw f at (l n) in let a = on_tally n k e in absurd (omega (arith, i, a)))
-        | inr f ↦ rw (f, e) refl
-      ]),
-      numbered_in num r (λ j. (let i = l j in omega (arith, i))) (λ n e. h n (or_right (m == n) (on n k || on n r) (or_right (on n k) (on n r) e)) ∙ elim (cases_Bool (m == n)) [
-        | inl f ↦ (let i = rw f at (l n) in let a = on_tally n r e in absurd (omega (arith, i, a)))
-        | inr f ↦ (let i = l n in let a = on_tally n r e in let z : on n k ≡ false = tally_off n k (omega (arith, i, a)) in rw (f, z) refl)
-      ]),
-    )
+numbered_told : (label : ℕ → ℕ × Look) (t : Forest (ℕ × Look)) → Tells label t → AreNumbered (λ a. (label a).0) t
+numbered_told label none h = tt
+numbered_told label (node m x k r) h = (ap (λ z. z.0) h.0, numbered_told label k h.1, numbered_told label r h.2)
 
 -- a number among those of nodes is that of an address
 on_addresses : (num : ℕ → ℕ) (n : ℕ) (t : Forest (ℕ × Look)) → AreNumbered num t → on n (addresses t) ≡ true → (a : ℕ) × (on a t ≡ true) × (num a ≡ n)
@@ -107,11 +87,10 @@ address_back num a (node m x k r) h o d =
 
 -- ---- of a page
 
-once_on : (p : NumberedPage) → IsPage p → (j : ℕ) → tally j p.nodes ≤ 1
-once_on p q j = let i = q.once j in let s = tally_looks j p.nodes in omega (arith, i, s)
-
 numbered_on : (p : NumberedPage) → IsPage p → AreNumbered (number_of p) p.nodes
-numbered_on p q = numbered_in (number_of p) p.nodes (once_on p q) (λ n e. refl)
+numbered_on p q =
+    numbered_told (λ a. label_in (0, Root) a p.nodes) p.nodes
+    (tells (0, Root) p.nodes (λ j. let i = q.once j in let s = tally_looks j p.nodes in omega (arith, i, s)))
 
 pub line_of_node : (p : NumberedPage) (a : ℕ) → IsPage p → on a (page_shape p) ≡ true → line_on p (number_of p a) ≡ line_in a
 line_of_node p a q o =
